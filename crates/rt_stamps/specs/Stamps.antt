@@ -1,0 +1,10 @@
+-- Stamps and their order.
+use Rattle.std.specs.Prelude.{◌==◌, ◌&&◌, ◌||◌, nat_lt, Bool}
+use Rattle.rt_stamps.specs.declared.stamp.Stamp.{Stamp}
+
+-- by count, and at one count by site
+abbrev pub is_before : Stamp → Stamp → Bool
+is_before a b = nat_lt a.count b.count || ((a.count == b.count) && nat_lt a.site b.site)
+
+abbrev pub is_same : Stamp → Stamp → Bool
+is_same a b = (a.count == b.count) && (a.site == b.site)

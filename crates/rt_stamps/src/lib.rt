@@ -1,0 +1,18 @@
+//! What every other crate speaks of: stamps of characters, fresh counts, faults, limits, and
+//! readers and writers. The definitions of places, lines and words stand in `specs/`.
+#![tactic(auto)]
+
+pub mod clock;
+pub mod fault;
+pub mod laws;
+pub mod limits;
+pub mod source;
+pub mod stamp;
+pub mod std_ends;
+pub mod write;
+
+pub use clock::Clock;
+pub use fault::Fault;
+pub use source::{Failed, Sink, Source};
+pub use stamp::{FINAL, ROOT, Site, Span, Stamp};
+pub use write::write_all;

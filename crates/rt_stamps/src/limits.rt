@@ -1,0 +1,37 @@
+// Each limit once. Definitions cite them from here too.
+
+/// The greatest count of a stamp, 2^48 - 1.
+pub const GREATEST_COUNT: u64 = 0xffff_ffff_ffff;
+
+/// The greatest number of a site.
+pub const GREATEST_SITE: u16 = 0xffff;
+
+/// The most cells of a site, the final newline and tombstones included, 2^31 - 1.
+pub const MOST_CELLS: usize = 0x7fff_ffff;
+
+/// The most bytes of the name of a tag or a mark.
+pub const MOST_NAME_BYTES: usize = 255;
+
+/// The most characters of an Insert.
+pub const MOST_CHARACTERS: usize = 65_535;
+
+/// The most tags that an Insert lists.
+pub const MOST_TAGS: usize = 64;
+
+/// The most spans of a Delete or a Tag.
+pub const MOST_SPANS: usize = 65_536;
+
+/// The fewest bytes of a record of a file, its length field not counted.
+pub const FEWEST_RECORD_BYTES: usize = 19;
+
+/// The most bytes of a record of a file, its length field not counted.
+pub const MOST_RECORD_BYTES: usize = 2_097_152;
+
+/// The most bytes of a line of a script, its newline and a carriage return before that not counted.
+pub const MOST_LINE_BYTES: usize = 1_048_576;
+
+/// The most bytes of a script or a file, 2^30.
+pub const MOST_BYTES: usize = 0x4000_0000;
+
+/// The most reads of a script or a file, 2^31.
+pub const MOST_READS: usize = 0x8000_0000;

@@ -1,0 +1,55 @@
+// Stamps of characters.
+ghost use Rattle.std.specs.Prelude.{◌≡◌, ℕ, ◌<◌, ◌↔◌, IsSome, IfSome};
+
+/// A site, whose number is 1 or more.
+#[derive(Clone, Copy, Debug, PartialEq, Eq, PartialOrd, Ord)]
+pub struct Site {
+    number: u16,
+    pub ghost positive: { 0 < number },
+}
+
+impl Site {
+    /// The site of a number from 1 to 65,535; none for 0.
+    pub fn new(number: u16) -> Option<Site>
+        ensures some { IsSome result ↔ (0 < number) }
+        ensures value { IfSome result (λ site. site.number ≡ number) }
+    {
+        if number == 0 {
+            None
+        } else {
+            Some(Site { number })
+        }
+    }
+
+    /// The site's number.
+    pub fn number(self) -> u16
+        ensures value { result ≡ self.number }
+        ensures positive { 0 < result }
+    {
+        self.number
+    }
+}
+
+/// The stamp of a character or an operation, for good. Stamps are ordered by count, and those of
+/// one count by site (Replicated Growable Array, JPDC 2011, simplified).
+#[derive(Clone, Copy, Debug, PartialEq, Eq, PartialOrd, Ord)]
+pub struct Stamp {
+    /// From 1 to `GREATEST_COUNT`; 0 at `ROOT` alone.
+    pub count: u64,
+    /// From 1 up; 0 at `ROOT` and `FINAL` alone.
+    pub site: u16,
+}
+
+/// The left element of a character at the very beginning. It is no character.
+pub const ROOT: Stamp = Stamp { count: 0, site: 0 };
+
+/// The stamp of the last newline, with which every text begins.
+pub const FINAL: Stamp = Stamp { count: 1, site: 0 };
+
+/// The stamps of one site from a first count to a last one, both included.
+#[derive(Clone, Copy, Debug, PartialEq, Eq)]
+pub struct Span {
+    pub site: u16,
+    pub first: u64,
+    pub last: u64,
+}
