@@ -1,0 +1,55 @@
+-- Lines of a script, which is a list of bytes.
+use Rattle.std.specs.Prelude.{ℕ, ◌==◌, ◌&&◌, ◌||◌, not, nat_le, List, [], ◌∷◌, ◌++◌, length, map, filter, Bool, true, false, if◌then◌else◌}
+use Rattle.std.specs.List.{list_all}
+use Rattle.std.specs.Str.{is_utf8}
+use Rattle.rt_stamps.specs.declared.limits.TheConstants.{MOST_LINE_BYTES}
+
+-- a byte before the lines that newlines end and before what follows them
+abbrev pub before_all : ℕ → List (List ℕ) → List ℕ → List (List ℕ) × List ℕ
+before_all c [] rest = ([], c ∷ rest)
+before_all c (line ∷ lines) rest = ((c ∷ line) ∷ lines, rest)
+
+-- the lines that newlines end, and what follows the last newline
+abbrev pub cut : List ℕ → List (List ℕ) × List ℕ
+cut [] = ([], [])
+cut (c ∷ bytes) = if c == 10 then ([] ∷ (cut bytes).0, (cut bytes).1) else before_all c (cut bytes).0 (cut bytes).1
+
+-- a line without a carriage return at its end
+abbrev pub without_return : List ℕ → List ℕ
+without_return [] = []
+without_return (c ∷ []) = if c == 13 then [] else c ∷ []
+without_return (c ∷ d ∷ line) = c ∷ without_return (d ∷ line)
+
+-- the lines that newlines end: a carriage return just before the newline isn't the line's
+abbrev pub complete_of : List ℕ → List (List ℕ)
+complete_of bytes = map without_return (cut bytes).0
+
+-- what follows the last newline
+abbrev pub rest_of : List ℕ → List ℕ
+rest_of bytes = (cut bytes).1
+
+-- what follows the last newline is a line too, if there is anything
+abbrev pub last_of : List ℕ → List (List ℕ)
+last_of [] = []
+last_of (c ∷ rest) = (c ∷ rest) ∷ []
+
+-- the lines of a script
+abbrev pub lines_of : List ℕ → List (List ℕ)
+lines_of bytes = complete_of bytes ++ last_of (rest_of bytes)
+
+-- spaces and tabs separate words
+abbrev pub is_blank : ℕ → Bool
+is_blank c = (c == 32) || (c == 9)
+
+-- a line that isn't too long and is a text
+abbrev pub is_readable : List ℕ → Bool
+is_readable line = nat_le (length line) MOST_LINE_BYTES && is_utf8 line
+
+-- a comment, or nothing but spaces and tabs
+abbrev pub is_silent : List ℕ → Bool
+is_silent [] = true
+is_silent (c ∷ line) = (c == 35) || list_all is_blank (c ∷ line)
+
+-- the lines that are answered: those that can't be read too
+abbrev pub answered : List (List ℕ) → List (List ℕ)
+answered lines = filter (λ line. not (is_readable line && is_silent line)) lines
