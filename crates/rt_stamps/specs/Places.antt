@@ -1,6 +1,8 @@
 -- Places, lines and characters of a text, which is a list of characters. A line ends with its newline.
 -- Lines count from 1, the characters of a line from 0, and the place after the last character is the text's end.
-use Rattle.std.specs.Prelude.{ℕ, zero, suc, ◌+◌, ◌-◌, ◌==◌, nat_le, List, [], ◌∷◌, Bool, length, take, min, if◌then◌else◌}
+use Rattle.std.specs.Prelude.{ℕ, zero, suc, ◌+◌, ◌-◌, ◌==◌, nat_le, List, [], ◌∷◌, ◌++◌, Bool, length, take, min, if◌then◌else◌}
+use Rattle.std.specs.Fmt.{decimal}
+use Rattle.rt_stamps.specs.declared.position.Position.{Position}
 
 abbrev pub is_newline : ℕ → Bool
 is_newline c = c == 10
@@ -28,10 +30,9 @@ line_start text line = after_newlines (line - 1) text
 abbrev pub line_end : List ℕ → ℕ → ℕ
 line_end text line = after_newlines line text - 1
 
--- a line, and a character of it
-pub record Position : Type 0 where
-  pub line : ℕ
-  pub character : ℕ
+-- a position as it is written, LINE.CHARACTER
+abbrev pub text_of_position : Position → List ℕ
+text_of_position p = decimal p.line ++ 46 ∷ decimal p.character
 
 -- the line of a place, and how far the place is from the line's start
 abbrev pub position_at : List ℕ → ℕ → Position

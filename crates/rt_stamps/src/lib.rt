@@ -6,6 +6,7 @@ pub mod clock;
 pub mod fault;
 pub mod laws;
 pub mod limits;
+pub mod position;
 pub mod source;
 pub mod stamp;
 pub mod std_ends;
@@ -13,6 +14,7 @@ pub mod write;
 
 pub use clock::Clock;
 pub use fault::Fault;
+pub use position::Position;
 pub use source::{Failed, Sink, Source};
 pub use stamp::{FINAL, ROOT, Site, Span, Stamp};
 pub use write::write_all;

@@ -1,0 +1,10 @@
+//! The cells of a shared text, as a list.
+#![tactic(auto)]
+
+pub mod cell;
+pub mod list;
+pub mod store;
+
+pub use cell::{Cell, FINAL_CELL};
+pub use list::ListStore;
+pub use store::TextStore;

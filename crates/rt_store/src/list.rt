@@ -1,0 +1,189 @@
+// The cells in a vector.
+ghost use Rattle.std.specs.Prelude.{◌≡◌, ◌+◌, ◌-◌, ◌^◌, ◌<◌, ◌≤◌, ◌∷◌, ◌++◌, [], IfOk, IfErr, count_by, take, drop, length, slice_get, take_while, vec_len, vec_capacity};
+ghost use Rattle.rt_store.specs.declared.cell.TheConstants.{FINAL_CELL};
+ghost use Rattle.rt_store.specs.Cells.{EndsFinal, StandsBefore, after_element, visible_of, text_of, position_of};
+ghost use Rattle.rt_stamps.specs.Stamps.{is_before};
+ghost use Rattle.rt_stamps.specs.Places.{is_newline, newlines, after_newlines};
+
+use crate::TextStore;
+use crate::cell::{Cell, FINAL_CELL};
+use rt_stamps::{Fault, ROOT, Stamp};
+use std::alloc::Global;
+
+/// The cells in a plain vector: each call is linear in their number.
+#[derive(Drop)]
+pub struct ListStore {
+    cells: Vec<Cell>,
+    ghost ends: { EndsFinal cells.items },
+}
+
+impl ListStore {
+    ghost use Rattle.rt_store.specs.ListStore.{cells_of};
+
+    /// A store of the final newline alone.
+    pub fn new(alloc: Global) -> Result<ListStore, Fault>
+        ensures ok { IfOk result (λ store. cells_of store ≡ FINAL_CELL ∷ []) }
+        ensures err { IfErr result (λ fault. fault ≡ Fault.NoMemory) }
+    {
+        let mut cells = Vec::with_capacity(alloc, 1)?;
+        cells.push(FINAL_CELL)?;
+        Ok(ListStore { cells })
+    }
+}
+
+// The visible cell at a place.
+fn nth_visible(cells: &[Cell], place: usize) -> Cell
+    requires { place < length (visible_of cells.now) }
+    ensures { slice_get (visible_of cells.now) place ≡ Some result }
+{
+    let mut left = place;
+    for cell in cells {
+        if !cell.gone {
+            if left == 0 {
+                return *cell;
+            }
+            left -= 1;
+        }
+    }
+    unreachable!()
+}
+
+// The place after some newlines.
+fn place_after(cells: &[Cell], newlines: usize) -> usize
+    ensures { result ≡ after_newlines newlines (text_of cells.now) }
+{
+    let mut left = newlines;
+    let mut place = 0;
+    for cell in cells {
+        if left == 0 {
+            break;
+        }
+        if !cell.gone {
+            place += 1;
+            if cell.ch == '\n' {
+                left -= 1;
+            }
+        }
+    }
+    place
+}
+
+// How many newlines the text has.
+fn newline_count(cells: &[Cell]) -> usize
+    ensures { result ≡ count_by is_newline (text_of cells.now) }
+{
+    cells
+        .iter()
+        .filter(|cell| !cell.gone)
+        .map(|cell| cell.ch)
+        .filter(|ch| *ch == '\n')
+        .count()
+}
+
+// How many newlines stand before a place.
+fn newlines_before(cells: &[Cell], place: usize) -> usize
+    ensures value { result ≡ newlines (take place (text_of cells.now)) }
+    ensures few { result ≤ length cells.now }
+{
+    let mut left = place;
+    let mut lines = 0;
+    for cell in cells {
+        if left == 0 {
+            break;
+        }
+        if !cell.gone {
+            left -= 1;
+            if cell.ch == '\n' {
+                lines += 1;
+            }
+        }
+    }
+    lines
+}
+
+fn position_of(cells: &[Cell], stamp: Stamp) -> Option<usize>
+    ensures { result ≡ position_of cells.now stamp }
+{
+    cells.iter().position(|cell| cell.stamp == stamp)
+}
+
+// The position after an element.
+fn after_element(cells: &[Cell], left: Stamp) -> usize
+    requires { StandsBefore cells.now left }
+    ensures { result ≡ after_element cells.now left }
+{
+    if left == ROOT {
+        0
+    } else {
+        position_of(cells, left).unwrap() + 1
+    }
+}
+
+// How many cells at the front have a greater stamp.
+fn above(cells: &[Cell], new: Stamp) -> usize
+    ensures { result ≡ length (take_while (λ cell. is_before new cell.stamp) cells.now) }
+{
+    cells.iter().take_while(|cell| cell.stamp > new).count()
+}
+
+fn insert_all(all: &mut Vec<Cell>, at: usize, cells: &[Cell])
+    requires within { at ≤ vec_len all.old }
+    requires room { vec_len all.old + length cells.now ≤ vec_capacity all.old }
+    ensures items { all.new.items ≡ take at all.old.items ++ cells.now ++ drop at all.old.items }
+    ensures len { vec_len all.new ≡ vec_len all.old + length cells.now }
+    ensures capacity { vec_capacity all.old ≤ vec_capacity all.new }
+{
+    for (i, cell) in cells.iter().enumerate() {
+        all.insert(at + i, *cell).unwrap();
+    }
+}
+
+impl TextStore for ListStore {
+    ghost list = { λ s. s.cells.items };
+
+    // A plain vector has no runs to cut.
+    ghost room = { λ s. record { cells = vec_capacity s.cells - vec_len s.cells; cuts = 2 ^ 64 } };
+
+    ghost ends = { λ s. s.ends };
+
+    fn reserve(&mut self, cells: usize, _cuts: usize) -> Result<(), Fault> {
+        Ok(self.cells.reserve(cells)?)
+    }
+
+    fn cells(&self) -> usize {
+        self.cells.len()
+    }
+
+    fn visible(&self) -> usize {
+        self.cells.iter().filter(|cell| !cell.gone).count()
+    }
+
+    fn lines(&self) -> usize {
+        newline_count(&self.cells)
+    }
+
+    fn char_at(&self, place: usize) -> char {
+        nth_visible(&self.cells, place).ch
+    }
+
+    fn cell_at(&self, place: usize) -> Cell {
+        nth_visible(&self.cells, place)
+    }
+
+    fn line_start(&self, line: usize) -> usize {
+        place_after(&self.cells, line - 1)
+    }
+
+    fn line_of(&self, place: usize) -> usize {
+        newlines_before(&self.cells, place) + 1
+    }
+
+    fn after_skip(&self, left: Stamp, new: Stamp) -> usize {
+        let at = after_element(&self.cells, left);
+        at + above(&self.cells[at..], new)
+    }
+
+    fn splice(&mut self, at: usize, cells: &[Cell]) {
+        insert_all(&mut self.cells, at, cells);
+    }
+}

@@ -1,0 +1,76 @@
+// What keeps the cells of a text.
+ghost use Rattle.std.specs.Prelude.{◌≡◌, ℕ, ◌+◌, ◌<◌, ◌≤◌, List, ◌++◌, true, take, drop, length, OnOk, OnErr, IfErr, slice_get};
+ghost use Rattle.rt_stamps.specs.Places.{newlines, line_of, line_start};
+ghost use Rattle.rt_stamps.specs.Stamps.{is_before};
+ghost use Rattle.rt_stamps.specs.declared.limits.TheConstants.{MOST_CELLS};
+ghost use Rattle.rt_store.specs.declared.cell.Cell.{Cell};
+ghost use Rattle.rt_store.specs.Cells.{visible_of, text_of, EndsFinal, StandsBefore, skip_from, Room, HasRoom, Spends};
+
+use crate::Cell;
+use rt_stamps::{FINAL, Fault, Stamp};
+
+/// Keeps the cells of a text, seen as a list that ends with the final newline. Positions count all
+/// cells from 0, places the visible ones.
+pub trait TextStore: Drop {
+    /// The cells, gone ones too.
+    ghost list: { Self → List Cell };
+
+    /// What there is room for.
+    ghost room: { Self → Room };
+
+    /// Makes room for new cells and for cuts of runs. `NoMemory` changes no cell.
+    fn reserve(&mut self, cells: usize, cuts: usize) -> Result<(), Fault>
+        requires { length (list self.old) + cells ≤ MOST_CELLS }
+        ensures same { list self.new ≡ list self.old }
+        ensures ok { OnOk result (HasRoom (room self.new) cells cuts) }
+        ensures err { IfErr result (λ fault. fault ≡ Fault.NoMemory) };
+
+    /// How many cells there are, gone ones too.
+    fn cells(&self) -> usize
+        ensures { result ≡ length (list self.now) };
+
+    /// How many of them are visible.
+    fn visible(&self) -> usize
+        ensures { result ≡ length (visible_of (list self.now)) };
+
+    /// How many lines the text has.
+    fn lines(&self) -> usize
+        ensures { result ≡ newlines (text_of (list self.now)) };
+
+    /// The character at a place.
+    fn char_at(&self, place: usize) -> char
+        requires { place < length (visible_of (list self.now)) }
+        ensures { slice_get (text_of (list self.now)) place ≡ Some result };
+
+    /// The visible cell at a place.
+    fn cell_at(&self, place: usize) -> Cell
+        requires { place < length (visible_of (list self.now)) }
+        ensures { slice_get (visible_of (list self.now)) place ≡ Some result };
+
+    /// The first place of a line, counted from 1.
+    fn line_start(&self, line: usize) -> usize
+        requires { (1 ≤ line) × (line ≤ newlines (text_of (list self.now))) }
+        ensures { result ≡ line_start (text_of (list self.now)) line };
+
+    /// The line of a place, counted from 1.
+    fn line_of(&self, place: usize) -> usize
+        requires { place ≤ length (visible_of (list self.now)) }
+        ensures { result ≡ line_of (text_of (list self.now)) place };
+
+    /// The position where a new character goes whose left element is `left`: behind it and past all
+    /// cells directly behind it that have greater stamps (JPDC 2011).
+    fn after_skip(&self, left: Stamp, new: Stamp) -> usize
+        requires left { StandsBefore (list self.now) left }
+        requires above { is_before FINAL new ≡ true }
+        ensures { result ≡ skip_from (list self.now) left new };
+
+    /// Puts new cells before the one at a position.
+    fn splice(&mut self, at: usize, cells: &[Cell])
+        requires within { at < length (list self.old) }
+        requires room { HasRoom (room self.old) (length cells.now) 1 }
+        ensures list { list self.new ≡ take at (list self.old) ++ cells.now ++ drop at (list self.old) }
+        ensures room { Spends (room self.old) (room self.new) (length cells.now) 1 };
+
+    /// The last cell is the final newline.
+    ghost ends: { (s : Self) → EndsFinal (list s) };
+}
