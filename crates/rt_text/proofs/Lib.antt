@@ -1,0 +1,5 @@
+pub mod CellLaws
+pub mod IndexLaws
+pub mod Insertions
+pub mod PlaceLaws
+pub mod TextLaws

@@ -1,0 +1,197 @@
+// A document: a store, and what stamps its new characters.
+ghost use Rattle.std.specs.Prelude.{◌≡◌, ◌+◌, ◌≤◌, ◌<◌, ◌∷◌, [], IfOk, IfErr, OnOk, OnErr, length, min, ◌-◌, string_bytes, encode_utf8_all};
+ghost use Rattle.std.specs.Str.{chars};
+ghost use Rattle.rt_stamps.specs.declared.limits.TheConstants.{MOST_CELLS, GREATEST_COUNT};
+ghost use Rattle.rt_stamps.specs.Outcomes.{first_of, Refuses};
+ghost use Rattle.rt_store.specs.declared.cell.TheConstants.{FINAL_CELL};
+ghost use Rattle.rt_store.specs.Cells.{text_of, visible_of};
+ghost use Rattle.rt_text.specs.Flat.{new_flat, with_text};
+ghost use Rattle.rt_text.specs.Commands.{count_check, cell_check, text_between, inserted, got_one, got, position_of_index};
+
+use crate::index::{place_of, position_at};
+use crate::insertion::{cells_of, put};
+use rt_stamps::{Clock, Fault, Position, Site, Stamp};
+use rt_store::TextStore;
+use std::alloc::Global;
+use std::marker::Model;
+
+/// A text of one site, and the counts of its operations.
+#[derive(Drop)]
+pub struct Doc<S: TextStore> {
+    alloc: Global,
+    store: S,
+    site: Site,
+    limit: usize,
+    clock: Clock,
+}
+
+impl<S: TextStore> Model for Doc<S> {
+    ghost use Rattle.std.specs.Prelude.{◌≤◌, length};
+    ghost use Rattle.rt_stamps.specs.declared.limits.TheConstants.{MOST_CELLS, GREATEST_COUNT};
+    ghost use Rattle.rt_text.specs.Flat.{Flat};
+    ghost use Rattle.rt_text.specs.Known.{AreKnown};
+
+    ghost Value = { Flat };
+
+    ghost view = { λ d. record { cells = S.list d.store; site = d.site.number; limit = d.limit; count = d.clock } };
+
+    ghost invariant = { λ d. (d.limit ≤ MOST_CELLS) × (length (S.list d.store) ≤ d.limit) × AreKnown d.clock (S.list d.store) × (d.clock ≤ GREATEST_COUNT) };
+}
+
+// The first of some fresh counts, or why they or so many new cells are refused.
+fn first_count(clock: &Clock, cells: usize, limit: usize, new: usize) -> Result<u64, Fault>
+    requires new { 1 ≤ new }
+    requires cells { cells ≤ limit }
+    requires limit { limit ≤ MOST_CELLS }
+    ensures refused { IfErr result (λ fault. first_of (count_check clock.now new ∷ cell_check limit cells new ∷ []) ≡ Some fault) }
+    ensures checked { IfOk result (λ _. first_of (count_check clock.now new ∷ cell_check limit cells new ∷ []) ≡ None) }
+    ensures first { IfOk result (λ first. (first ≡ clock.now + 1) × (clock.now + new ≤ GREATEST_COUNT) × (cells + new ≤ limit)) }
+{
+    let first = clock.next(new as u64)?;
+    if new > limit - cells {
+        return Err(Fault::TextFull);
+    }
+    Ok(first)
+}
+
+// How many characters a text has.
+fn length_of(text: &str) -> usize
+    ensures { result ≡ length (chars text.now) }
+{
+    text.chars().count()
+}
+
+// The characters of a text.
+fn chars_of(alloc: Global, text: &str) -> Result<Vec<char>, Fault>
+    ensures ok { IfOk result (λ all. all.items ≡ chars text.now) }
+    ensures err { IfErr result (λ fault. fault ≡ Fault.NoMemory) }
+{
+    let all: Vec<char> = text.chars().collect(alloc)?;
+    Ok(all)
+}
+
+// The place of an insertion, which at the text's end stands before the last newline.
+fn before_end<S: TextStore>(store: &S, place: usize) -> usize
+    ensures value { result ≡ min place (length (text_of (S.list store.now)) - 1) }
+    ensures within { result < length (visible_of (S.list store.now)) }
+{
+    place.min(store.visible() - 1)
+}
+
+// The text of a store from a place up to before another.
+fn text_between<S: TextStore>(
+    alloc: Global,
+    store: &S,
+    from: usize,
+    to: usize,
+) -> Result<String, Fault>
+    ensures ok { IfOk result (λ text. string_bytes text ≡ encode_utf8_all (text_between (text_of (S.list store.now)) from to)) }
+    ensures err { IfErr result (λ fault. fault ≡ Fault.NoMemory) }
+{
+    let mut text = String::new(alloc);
+    let end = to.min(store.visible()).max(from);
+    for place in from..end {
+        text.push(store.char_at(place))?;
+    }
+    Ok(text)
+}
+
+impl<S: TextStore> Doc<S> {
+    /// The document of a new store, for a site and a limit of cells, the final newline and
+    /// tombstones included. It is refused for want of memory alone.
+    pub fn new(alloc: Global, store: S, site: Site, limit: usize) -> Result<Doc<S>, Fault>
+        requires store { S.list store ≡ FINAL_CELL ∷ [] }
+        requires limit { (1 ≤ limit) × (limit ≤ MOST_CELLS) }
+        ensures ok { IfOk result (λ doc. doc ≡ new_flat site.number limit) }
+        ensures err { IfErr result (λ fault. fault ≡ Fault.NoMemory) }
+    {
+        Ok(Doc {
+            alloc,
+            store,
+            site,
+            limit,
+            clock: Clock::new(),
+        })
+    }
+
+    /// `insert INDEX CHARS` (Tk text manual): puts the characters before the one at the index, and
+    /// at the text's end before the last newline. `BadIndex`, `ClockSpent`, `TextFull`, or want of
+    /// memory, and then nothing changes. It takes one count for each character.
+    pub fn insert(&mut self, index: &str, new: &str) -> Result<(), Fault>
+        ensures ok { OnOk result (inserted self.old index.now new.now ≡ Ok self.new) }
+        ensures err { IfErr result (Refuses (inserted self.old index.now new.now)) }
+        ensures unchanged { OnErr result (self.new ≡ self.old) }
+    {
+        let Some(place) = place_of(&self.store, index) else {
+            return Err(Fault::BadIndex);
+        };
+        let length = length_of(new);
+        if length == 0 {
+            return Ok(());
+        }
+        let first = first_count(&self.clock, self.store.cells(), self.limit, length)?;
+        let text = chars_of(self.alloc, new)?;
+        let before = before_end(&self.store, place);
+        self.insert_before(before, first, &text)
+    }
+
+    // Puts characters before the one at a place, with counts from `first` on.
+    fn insert_before(&mut self, place: usize, first: u64, text: &[char]) -> Result<(), Fault>
+        requires place { place < length (visible_of self.old.cells) }
+        requires text { 1 ≤ length text.now }
+        requires first { first ≡ self.old.count + 1 }
+        requires counts { self.old.count + length text.now ≤ GREATEST_COUNT }
+        requires cells { length self.old.cells + length text.now ≤ self.old.limit }
+        ensures ok { OnOk result (self.new ≡ with_text self.old place text.now) }
+        ensures err { IfErr result (λ fault. fault ≡ Fault.NoMemory) }
+        ensures unchanged { OnErr result (self.new ≡ self.old) }
+    {
+        let cells = cells_of(self.alloc, first, self.site, text)?;
+        self.store.reserve(text.len(), 1)?;
+        let stamp = Stamp {
+            count: first,
+            site: self.site.number(),
+        };
+        put(&mut self.store, place, &cells, stamp);
+        self.clock.saw(first + (text.len() as u64 - 1));
+        Ok(())
+    }
+
+    /// `get INDEX` (Tk text manual): the character at the index, none at the text's end. `BadIndex`
+    /// or want of memory.
+    pub fn get_one(&self, index: &str) -> Result<String, Fault>
+        ensures ok { IfOk result (λ text. got_one self.now index.now ≡ Ok (string_bytes text)) }
+        ensures err { IfErr result (Refuses (got_one self.now index.now)) }
+    {
+        let Some(place) = place_of(&self.store, index) else {
+            return Err(Fault::BadIndex);
+        };
+        text_between(self.alloc, &self.store, place, place.saturating_add(1))
+    }
+
+    /// `get INDEX INDEX` (Tk text manual): the characters from the first index up to before the
+    /// second, none where that isn't later. `BadIndex` or want of memory.
+    pub fn get(&self, from: &str, to: &str) -> Result<String, Fault>
+        ensures ok { IfOk result (λ text. got self.now from.now to.now ≡ Ok (string_bytes text)) }
+        ensures err { IfErr result (Refuses (got self.now from.now to.now)) }
+    {
+        let Some(start) = place_of(&self.store, from) else {
+            return Err(Fault::BadIndex);
+        };
+        let Some(end) = place_of(&self.store, to) else {
+            return Err(Fault::BadIndex);
+        };
+        text_between(self.alloc, &self.store, start, end)
+    }
+
+    /// `index INDEX` (Tk text manual): the line and the character of the index. `BadIndex`; it takes
+    /// no memory.
+    pub fn index(&self, index: &str) -> Result<Position, Fault>
+        ensures { result ≡ position_of_index self.now index.now }
+    {
+        let Some(place) = place_of(&self.store, index) else {
+            return Err(Fault::BadIndex);
+        };
+        Ok(position_at(&self.store, place))
+    }
+}
