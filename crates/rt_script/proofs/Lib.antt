@@ -1,0 +1,4 @@
+pub mod ReplyWords
+pub mod Spelling
+pub mod TakenWords
+pub mod WordSteps

@@ -1,0 +1,10 @@
+use Rattle.std.proofs.Common.{◌≡◌, take, flat_map}
+use Rattle.std.specs.Io.KnownBytes.{Appends}
+use Rattle.rt_stamps.specs.Words.{escape_of}
+use Rattle.rt_script.proofs.reply.write_all_escaped.Given as goal
+
+abbrev pub invariant-loop-byte : goal.invariant-loop-byte
+invariant-loop-byte g l = record {
+  wrote : Appends (g.W.Sink.contents l.fn.out) (g.W.Sink.contents l.out) (flat_map escape_of (take l.byte-index l.word));
+  failures : g.W.Sink.failures l.out ≡ g.W.Sink.failures l.fn.out;
+}

@@ -1,0 +1,15 @@
+pub mod CommandLine
+pub mod Replies
+pub mod Run
+pub mod Site
+pub mod State
+pub mod Step
+pub use Rattle.rt_stamps.specs.Fault
+pub use Rattle.rt_stamps.specs.Lines
+pub use Rattle.rt_stamps.specs.Outcomes
+pub use Rattle.rt_stamps.specs.Places
+pub use Rattle.rt_stamps.specs.Words
+pub use Rattle.rt_stamps.specs.Written
+pub use Rattle.rt_text.specs.Flat
+pub use Rattle.rt_text.specs.Index
+pub use Rattle.rt_text.specs.Commands

@@ -1,0 +1,17 @@
+-- The state of a site.
+use Rattle.std.specs.Prelude.{ℕ, Bool, codes}
+use Rattle.std.specs.Str.{bytes_eq}
+use Rattle.rt_stamps.specs.Words.{Word}
+use Rattle.rt_text.specs.Flat.{Flat, new_flat}
+
+-- a site: its document
+pub record State : Type 0 where
+  pub doc : Flat
+
+-- a new site has an empty document
+abbrev pub new_state : ℕ → ℕ → State
+new_state site limit = record { doc = new_flat site limit }
+
+-- a site has the one widget `.t`
+abbrev pub is_widget : Word → Bool
+is_widget path = bytes_eq path (codes ".t")

@@ -1,0 +1,23 @@
+// The commands of a widget.
+ghost use Rattle.std.specs.Prelude.{◌≡◌};
+ghost use Rattle.rt_script.specs.Step.{command_of};
+
+/// A command of a widget.
+#[derive(Clone, Copy, Debug, PartialEq, Eq)]
+pub enum Command {
+    Insert,
+    Get,
+    Index,
+}
+
+/// The command that a word names.
+pub fn command_of(word: &str) -> Option<Command>
+    ensures { result ≡ command_of word.now }
+{
+    match word {
+        "insert" => Some(Command::Insert),
+        "get" => Some(Command::Get),
+        "index" => Some(Command::Index),
+        _ => None,
+    }
+}

@@ -1,0 +1,82 @@
+// What a command line asks for, or why it asks for nothing.
+ghost use Rattle.std.specs.Prelude.{◌≡◌};
+ghost use Rattle.rt_script.specs.CommandLine.{is_mistake, status_of};
+
+use clap::Error;
+use clap::error::ErrorKind;
+use rt_stamps::{Fault, Site};
+use std::alloc::AllocError;
+use std::fmt;
+
+/// What a command line asks for.
+#[derive(Drop)]
+pub enum Line {
+    /// A run of a script by a site.
+    Run { site: Site },
+}
+
+/// Why a command line asks for nothing.
+#[derive(Debug, Drop)]
+pub enum LineFault {
+    /// The words are not the program's, or ask for its help or its version: clap's error has the
+    /// text for the user.
+    Usage(Error),
+    /// A growth was refused.
+    NoMemory,
+}
+
+impl LineFault {
+    /// Whether the program was called wrongly, or found no memory, so that the text goes to
+    /// standard error. Its help and its version go to standard output.
+    pub fn is_mistake(&self) -> bool
+        ensures { result ≡ is_mistake self.now }
+    {
+        match self {
+            LineFault::Usage(error) => error.use_stderr(),
+            LineFault::NoMemory => true,
+        }
+    }
+
+    /// The status with which the program ends: 2 for words that it does not take, 1 for want of
+    /// memory, and 0 for its help and its version.
+    pub fn status(&self) -> u8
+        ensures { result ≡ status_of self.now }
+    {
+        match self {
+            LineFault::Usage(_) => { if self.is_mistake() { 2 } else { 0 } }
+            LineFault::NoMemory => 1,
+        }
+    }
+}
+
+impl From<Error> for LineFault {
+    ghost use Rattle.rt_script.specs.CommandLine.{fault_from};
+
+    ghost from_gives = { λ error fault. fault ≡ fault_from error };
+
+    fn from(error: Error) -> LineFault {
+        match error.kind() {
+            ErrorKind::OutOfMemory => LineFault::NoMemory,
+            _ => LineFault::Usage(error),
+        }
+    }
+}
+
+impl From<AllocError> for LineFault {
+    ghost use Rattle.rt_script.specs.declared.command_line.LineFault.TheVariants.{NoMemory};
+
+    ghost from_gives = { λ _ fault. fault ≡ NoMemory };
+
+    fn from(_error: AllocError) -> LineFault {
+        LineFault::NoMemory
+    }
+}
+
+impl fmt::Display for LineFault {
+    fn fmt<W: fmt::Write>(&self, f: &mut fmt::Formatter<W>) -> fmt::Result {
+        match self {
+            LineFault::Usage(error) => write!(f, "{error}"),
+            LineFault::NoMemory => write!(f, "peertext: {}\n", Fault::NoMemory),
+        }
+    }
+}

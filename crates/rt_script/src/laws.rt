@@ -1,0 +1,8 @@
+// Laws of the definitions, each the contract of a function that does nothing.
+ghost use Rattle.std.specs.Prelude.{◌≡◌, ℕ, List};
+ghost use Rattle.rt_stamps.specs.Words.{Word, Spells};
+
+/// A line spells at most one list of words.
+pub fn spelling_is_unique()
+    ensures { (line : List ℕ) (a b : List Word) → Spells line a → Spells line b → a ≡ b }
+{}

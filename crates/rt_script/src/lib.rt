@@ -1,0 +1,21 @@
+//! Scripts: lines of words, the lines of their replies, and runs.
+#![tactic(auto)]
+
+pub mod answer;
+pub mod command;
+pub mod command_line;
+pub mod commands;
+pub mod laws;
+pub mod parse_line;
+pub mod reply;
+pub mod site;
+pub mod site_lines;
+pub mod words;
+
+pub use answer::{Answer, Reply};
+pub use command::Command;
+pub use command_line::{Line, LineFault};
+pub use commands::Commands;
+pub use parse_line::line;
+pub use reply::reply_line;
+pub use site::SiteState;

@@ -1,0 +1,198 @@
+// The lines of answers, written.
+ghost use Rattle.std.specs.Prelude.{◌≡◌, ◌+◌, ◌<◌, ◌∷◌, ◌++◌, [], IfErr, flat_map, string_bytes};
+ghost use Rattle.std.specs.List.{list_any};
+ghost use Rattle.rt_stamps.specs.Fault.{text_of};
+ghost use Rattle.rt_stamps.specs.Source.{failures_of};
+ghost use Rattle.rt_stamps.specs.Words.{escape_of, needs_quotes, text_of_word};
+ghost use Rattle.rt_stamps.specs.Written.{Wrote};
+ghost use Rattle.rt_script.specs.Replies.{text_of_answer, reply_line};
+
+use crate::Answer;
+use rt_stamps::{Fault, Sink, write_all};
+
+/// Writes the line of an answer: `=` and the words of a reply, or `!` and a fault's number and
+/// name. `WriteFault` where a write fails or takes nothing; a front of the line was then written.
+pub fn reply_line<W: Sink>(answer: &Answer, out: &mut W) -> Result<(), Fault>
+    ensures wrote { Wrote (W.contents out.old) (W.contents out.new) result (reply_line answer.now) }
+    ensures fault { IfErr result (λ fault. fault ≡ Fault.WriteFault) }
+    ensures failures { W.failures out.new ≡ W.failures out.old + failures_of result }
+{
+    write_answer(answer, out)?;
+    write_all(out, b"\n")
+}
+
+fn write_answer<W: Sink>(answer: &Answer, out: &mut W) -> Result<(), Fault>
+    ensures wrote { Wrote (W.contents out.old) (W.contents out.new) result (text_of_answer answer.now) }
+    ensures fault { IfErr result (λ fault. fault ≡ Fault.WriteFault) }
+    ensures failures { W.failures out.new ≡ W.failures out.old + failures_of result }
+{
+    match answer {
+        Answer::Replied(reply) => write_reply(&reply.words, out),
+        Answer::Refused(fault) => write_fault(*fault, out),
+    }
+}
+
+fn write_fault<W: Sink>(fault: Fault, out: &mut W) -> Result<(), Fault>
+    ensures wrote { Wrote (W.contents out.old) (W.contents out.new) result (33 ∷ 32 ∷ text_of fault) }
+    ensures fault { IfErr result (λ fault. fault ≡ Fault.WriteFault) }
+    ensures failures { W.failures out.new ≡ W.failures out.old + failures_of result }
+{
+    write_all(out, b"! ")?;
+    write_all(out, fault.text().as_bytes())
+}
+
+fn write_reply<W: Sink>(words: &[String], out: &mut W) -> Result<(), Fault>
+    ensures wrote { Wrote (W.contents out.old) (W.contents out.new) result (61 ∷ flat_map (λ w. 32 ∷ text_of_word (string_bytes w)) words.now) }
+    ensures fault { IfErr result (λ fault. fault ≡ Fault.WriteFault) }
+    ensures failures { W.failures out.new ≡ W.failures out.old + failures_of result }
+{
+    write_all(out, b"=")?;
+    write_words(words, out)
+}
+
+// A space before each word.
+fn write_words<W: Sink>(words: &[String], out: &mut W) -> Result<(), Fault>
+    ensures wrote { Wrote (W.contents out.old) (W.contents out.new) result (flat_map (λ w. 32 ∷ text_of_word (string_bytes w)) words.now) }
+    ensures fault { IfErr result (λ fault. fault ≡ Fault.WriteFault) }
+    ensures failures { W.failures out.new ≡ W.failures out.old + failures_of result }
+{
+    for word in words {
+        write_spaced(word, out)?;
+    }
+    Ok(())
+}
+
+fn write_spaced<W: Sink>(word: &str, out: &mut W) -> Result<(), Fault>
+    ensures wrote { Wrote (W.contents out.old) (W.contents out.new) result (32 ∷ text_of_word word.now) }
+    ensures fault { IfErr result (λ fault. fault ≡ Fault.WriteFault) }
+    ensures failures { W.failures out.new ≡ W.failures out.old + failures_of result }
+{
+    write_all(out, b" ")?;
+    write_word(word, out)
+}
+
+fn write_word<W: Sink>(word: &str, out: &mut W) -> Result<(), Fault>
+    ensures wrote { Wrote (W.contents out.old) (W.contents out.new) result (text_of_word word.now) }
+    ensures fault { IfErr result (λ fault. fault ≡ Fault.WriteFault) }
+    ensures failures { W.failures out.new ≡ W.failures out.old + failures_of result }
+{
+    let bytes = word.as_bytes();
+    if bytes.is_empty() || has_quoted(bytes) {
+        write_quoted(bytes, out)
+    } else {
+        write_all(out, bytes)
+    }
+}
+
+fn has_quoted(word: &[u8]) -> bool
+    ensures { result ≡ list_any needs_quotes word.now }
+{
+    word.iter().any(|byte| needs_quotes(*byte))
+}
+
+fn needs_quotes(byte: u8) -> bool
+    ensures { result ≡ needs_quotes byte }
+{
+    matches!(
+        byte,
+        b' ' | b'\t' | b'\n' | b'\r' | b'"' | b'\\' | b'{' | b'}'
+    )
+}
+
+fn write_quoted<W: Sink>(word: &[u8], out: &mut W) -> Result<(), Fault>
+    ensures wrote { Wrote (W.contents out.old) (W.contents out.new) result (34 ∷ flat_map escape_of word.now ++ (34 ∷ [])) }
+    ensures fault { IfErr result (λ fault. fault ≡ Fault.WriteFault) }
+    ensures failures { W.failures out.new ≡ W.failures out.old + failures_of result }
+{
+    write_all(out, b"\"")?;
+    write_all_escaped(word, out)?;
+    write_all(out, b"\"")
+}
+
+fn write_all_escaped<W: Sink>(word: &[u8], out: &mut W) -> Result<(), Fault>
+    ensures wrote { Wrote (W.contents out.old) (W.contents out.new) result (flat_map escape_of word.now) }
+    ensures fault { IfErr result (λ fault. fault ≡ Fault.WriteFault) }
+    ensures failures { W.failures out.new ≡ W.failures out.old + failures_of result }
+{
+    for byte in word {
+        write_escaped(*byte, out)?;
+    }
+    Ok(())
+}
+
+fn write_escaped<W: Sink>(byte: u8, out: &mut W) -> Result<(), Fault>
+    ensures wrote { Wrote (W.contents out.old) (W.contents out.new) result (escape_of byte) }
+    ensures fault { IfErr result (λ fault. fault ≡ Fault.WriteFault) }
+    ensures failures { W.failures out.new ≡ W.failures out.old + failures_of result }
+{
+    match byte {
+        b'\n' => write_all(out, b"\\n"),
+        b'\t' => write_all(out, b"\\t"),
+        b'\r' => write_all(out, b"\\r"),
+        b'\\' => write_all(out, b"\\\\"),
+        b'"' => write_all(out, b"\\\""),
+        _ => write_all(out, &[byte]),
+    }
+}
+
+#[cfg(test)]
+mod tests {
+    use super::*;
+    use crate::Reply;
+    use rt_stamps::std_ends::{Count, Writer};
+    use std::alloc::{AllocError, Global};
+    use std::marker::Brand;
+    use std::sync::ledger::{Blank, Ledger};
+    use std::test::Fail;
+
+    fn reply_of(alloc: Global, words: &[&str]) -> Result<Answer, AllocError> {
+        let mut copies = Vec::new(alloc);
+        for word in words {
+            copies.push(String::from_str(alloc, word)?)?;
+        }
+        Ok(Answer::Replied(Reply { words: copies }))
+    }
+
+    fn written<A: Ledger, B: Ledger>(
+        alloc: Global,
+        answer: &Answer,
+        writes: Blank,
+        failures: Blank,
+    ) -> Result<Vec<u8>, Fault>
+        requires writes { (writes.name ≡ A.name) × (writes.parts ≡ A.parts) × (0 < A.parts) }
+        requires failures { (failures.name ≡ B.name) × (failures.parts ≡ B.parts) × (0 < B.parts) }
+    {
+        let mut out = Writer::new(
+            Vec::new(alloc),
+            Count::<A>::begin(writes),
+            Count::<B>::begin(failures),
+        );
+        reply_line(answer, &mut out)?;
+        Ok(out.into_inner())
+    }
+
+    fn line_of(alloc: Global, answer: &Answer) -> Result<Vec<u8>, Fault> {
+        written::<Brand, Brand>(alloc, answer, Blank::new(1), Blank::new(1))
+    }
+
+    #[test]
+    fn lines_of_answers(rt: HostRuntime) -> Result<(), Fail> {
+        let table: [(&[&str], &str); 8] = [
+            (&[], "=\n"),
+            (&["hello\n"], "= \"hello\\n\"\n"),
+            (&["2.0"], "= 2.0\n"),
+            (&[""], "= \"\"\n"),
+            (&["}", "{", "a b"], "= \"}\" \"{\" \"a b\"\n"),
+            (&["\t\r", "\"\\"], "= \"\\t\\r\" \"\\\"\\\\\"\n"),
+            (&["a", "", "b"], "= a \"\" b\n"),
+            (&["é#$[", "\u{1f600}"], "= é#$[ \u{1f600}\n"),
+        ];
+        for (words, want) in table {
+            let line = line_of(rt.alloc(), &reply_of(rt.alloc(), words)?)?;
+            assert_eq!(rt; line.as_slice(), want.as_bytes());
+        }
+        let refusal = line_of(rt.alloc(), &Answer::from(Err(Fault::BadQuoting)))?;
+        assert_eq!(rt; refusal.as_slice(), b"! 19 BadQuoting\n".as_slice());
+        Ok(())
+    }
+}

@@ -1,0 +1,122 @@
+// A site, and its commands.
+ghost use Rattle.std.specs.Prelude.{◌≡◌, ◌≤◌, ◌∷◌, [], map, string_bytes, IfOk, IfErr};
+ghost use Rattle.rt_stamps.specs.declared.limits.TheConstants.{MOST_CELLS};
+ghost use Rattle.rt_stamps.specs.Outcomes.{Answers};
+ghost use Rattle.rt_script.specs.State.{new_state, is_widget};
+ghost use Rattle.rt_script.specs.Step.{insert_step, get_step, index_step, command_step, step};
+
+use crate::answer::Reply;
+use crate::command::{Command, command_of};
+use rt_stamps::{Fault, Site};
+use rt_store::ListStore;
+use rt_text::Doc;
+use std::alloc::Global;
+use std::marker::Model;
+
+/// A site with its document, shown by the widget `.t`.
+#[derive(Drop)]
+pub struct SiteState {
+    alloc: Global,
+    doc: Doc<ListStore>,
+}
+
+impl Model for SiteState {
+    ghost use Rattle.rt_script.specs.State.{State};
+
+    ghost Value = { State };
+
+    ghost view = { λ s. record { doc = s.doc } };
+}
+
+// A reply of one word.
+fn one_word(alloc: Global, word: String) -> Result<Reply, Fault>
+    ensures ok { IfOk result (λ reply. reply ≡ string_bytes word ∷ []) }
+    ensures err { IfErr result (λ fault. fault ≡ Fault.NoMemory) }
+{
+    let mut words = Vec::with_capacity(alloc, 1)?;
+    words.push(word)?;
+    Ok(Reply { words })
+}
+
+// Whether a word is the path of the widget.
+fn is_widget(path: &str) -> bool
+    ensures { result ≡ is_widget path.now }
+{
+    path == ".t"
+}
+
+impl SiteState {
+    /// A new site, with at most `limit` cells, the final newline and tombstones included.
+    pub fn new(alloc: Global, site: Site, limit: usize) -> Result<SiteState, Fault>
+        requires { (1 ≤ limit) × (limit ≤ MOST_CELLS) }
+        ensures ok { IfOk result (λ state. state ≡ new_state site.number limit) }
+        ensures err { IfErr result (λ fault. fault ≡ Fault.NoMemory) }
+    {
+        let store = ListStore::new(alloc)?;
+        let doc = Doc::new(alloc, store, site, limit)?;
+        Ok(SiteState { alloc, doc })
+    }
+
+    // `insert INDEX CHARS`.
+    fn insert(&mut self, words: &[String]) -> Result<Reply, Fault>
+        ensures { Answers (insert_step self.old (map (λ w. string_bytes w) words.now)) self.old result self.new }
+    {
+        let [index, new] = words else {
+            return Err(Fault::BadCommand);
+        };
+        self.doc.insert(index, new)?;
+        Ok(Reply {
+            words: Vec::new(self.alloc),
+        })
+    }
+
+    // `get INDEX ?INDEX?`.
+    fn get(&mut self, words: &[String]) -> Result<Reply, Fault>
+        ensures { Answers (get_step self.old (map (λ w. string_bytes w) words.now)) self.old result self.new }
+    {
+        let text = match words {
+            [index] => self.doc.get_one(index)?,
+            [from, to] => self.doc.get(from, to)?,
+            _ => return Err(Fault::BadCommand),
+        };
+        one_word(self.alloc, text)
+    }
+
+    // `index INDEX`.
+    fn index(&mut self, words: &[String]) -> Result<Reply, Fault>
+        ensures { Answers (index_step self.old (map (λ w. string_bytes w) words.now)) self.old result self.new }
+    {
+        let [index] = words else {
+            return Err(Fault::BadCommand);
+        };
+        let position = self.doc.index(index)?;
+        one_word(self.alloc, position.to_string(self.alloc)?)
+    }
+
+    // A command and its words.
+    fn run_command(&mut self, command: Option<Command>, words: &[String]) -> Result<Reply, Fault>
+        ensures { Answers (command_step self.old command (map (λ w. string_bytes w) words.now)) self.old result self.new }
+    {
+        match command {
+            Some(Command::Insert) => self.insert(words),
+            Some(Command::Get) => self.get(words),
+            Some(Command::Index) => self.index(words),
+            None => Err(Fault::BadCommand),
+        }
+    }
+
+    /// `PATH COMMAND WORDS` (Tk text manual): runs a command of the widget of a path. Refused by the
+    /// first of `NoWidget`, `BadCommand`, the command's own faults, and want of memory in place of
+    /// any; then the site is as it was.
+    pub fn command(&mut self, path: &str, words: &[String]) -> Result<Reply, Fault>
+        ensures { Answers (step self.old path.now (map (λ w. string_bytes w) words.now)) self.old result self.new }
+    {
+        if !is_widget(path) {
+            return Err(Fault::NoWidget);
+        }
+        let Some((name, args)) = words.split_first() else {
+            return Err(Fault::BadCommand);
+        };
+        self.run_command(command_of(name), args)
+    }
+}
