@@ -1,0 +1,105 @@
+-- The lines of a script that goes on.
+use Rattle.std.proofs.Common.{◌≡◌, ◌≢◌, ℕ, List, [], ◌∷◌, ◌++◌, Bool, true, false, cond, refl, ◌∙◌, ap, ne_eqb, eqb, map}
+use Rattle.std.proofs.lemmas.List.{map-append}
+use Rattle.rt_stamps.specs.Lines.{cut, before_all, without_return, complete_of, rest_of}
+
+-- a newline ends the last line
+abbrev ended : List (List ℕ) × List ℕ → List (List ℕ) × List ℕ
+ended p = (p.0 ++ p.1 ∷ [], [])
+
+before_ended : (c : ℕ) (ls : List (List ℕ)) (r : List ℕ) → before_all c (ls ++ r ∷ []) [] ≡ ended (before_all c ls r)
+before_ended c [] r = refl
+before_ended c (l ∷ ls) r = refl
+
+pub cut_newline : (xs : List ℕ) → cut (xs ++ 10 ∷ []) ≡ ended (cut xs)
+cut_newline [] = refl
+cut_newline (c ∷ xs) = rw (cut_newline xs) (
+    elim (eqb c 10) as (λ b. cond b ([] ∷ (ended (cut xs)).0, (ended (cut xs)).1) (before_all c (ended (cut xs)).0 (ended (cut xs)).1) ≡ ended (cond b ([] ∷ (cut xs).0, (cut xs).1) (before_all c (cut xs).0 (cut xs).1))) [
+      | true ↦ refl
+      | false ↦ before_ended c (cut xs).0 (cut xs).1
+    ])
+
+-- another byte goes onto the rest
+abbrev longer : ℕ → List (List ℕ) × List ℕ → List (List ℕ) × List ℕ
+longer b p = (p.0, p.1 ++ b ∷ [])
+
+before_longer : (c b : ℕ) (ls : List (List ℕ)) (r : List ℕ) → before_all c ls (r ++ b ∷ []) ≡ longer b (before_all c ls r)
+before_longer c b [] r = refl
+before_longer c b (l ∷ ls) r = refl
+
+pub cut_other : (xs : List ℕ) (b : ℕ) → (b ≡ 10 → ⊥) → cut (xs ++ b ∷ []) ≡ longer b (cut xs)
+cut_other [] b h = rw (ne_eqb b 10 h) refl
+cut_other (c ∷ xs) b h = rw (cut_other xs b h) (
+    elim (eqb c 10) as (λ t. cond t ([] ∷ (longer b (cut xs)).0, (longer b (cut xs)).1) (before_all c (longer b (cut xs)).0 (longer b (cut xs)).1) ≡ longer b (cond t ([] ∷ (cut xs).0, (cut xs).1) (before_all c (cut xs).0 (cut xs).1))) [
+      | true ↦ refl
+      | false ↦ before_longer c b (cut xs).0 (cut xs).1
+    ])
+
+-- a script goes on after its lines
+abbrev joined : List (List ℕ) × List ℕ → List ℕ → List (List ℕ) × List ℕ
+joined p ys = (p.0 ++ (cut (p.1 ++ ys)).0, (cut (p.1 ++ ys)).1)
+
+before_joined : (c : ℕ) (ls : List (List ℕ)) (r ys : List ℕ) → eqb c 10 ≡ false → before_all c (ls ++ (cut (r ++ ys)).0) (cut (r ++ ys)).1 ≡ joined (before_all c ls r) ys
+before_joined c [] r ys e = rw e refl
+before_joined c (l ∷ ls) r ys e = refl
+
+cut_joined_one : (c : ℕ) (p : List (List ℕ) × List ℕ) (ys : List ℕ) (b : Bool) → eqb c 10 ≡ b
+    → cond b ([] ∷ (joined p ys).0, (joined p ys).1) (before_all c (joined p ys).0 (joined p ys).1) ≡ joined (cond b ([] ∷ p.0, p.1) (before_all c p.0 p.1)) ys
+cut_joined_one c p ys true e = refl
+cut_joined_one c p ys false e = before_joined c p.0 p.1 ys e
+
+pub cut_append : (xs ys : List ℕ) → cut (xs ++ ys) ≡ joined (cut xs) ys
+cut_append [] ys = refl
+cut_append (c ∷ xs) ys = rw (cut_append xs ys) (cut_joined_one c (cut xs) ys (eqb c 10) refl)
+
+pub complete_append : (xs ys : List ℕ) → complete_of (xs ++ ys) ≡ complete_of xs ++ complete_of (rest_of xs ++ ys)
+complete_append xs ys = ap (λ p. map without_return p.0) (cut_append xs ys) ∙ map-append without_return (cut xs).0 (cut (rest_of xs ++ ys)).0
+
+cut_rest_one : (c : ℕ) (p : List (List ℕ) × List ℕ) (b : Bool) → eqb c 10 ≡ b → cut p.1 ≡ ([], p.1)
+    → cut (cond b ([] ∷ p.0, p.1) (before_all c p.0 p.1)).1 ≡ ([], (cond b ([] ∷ p.0, p.1) (before_all c p.0 p.1)).1)
+cut_rest_one c p true e h = h
+cut_rest_one c p false e h = go c p.0 p.1 e h
+  where
+    go : (c : ℕ) (ls : List (List ℕ)) (r : List ℕ) → eqb c 10 ≡ false → cut r ≡ ([], r) → cut (before_all c ls r).1 ≡ ([], (before_all c ls r).1)
+    go c [] r e h = rw (e, h) refl
+    go c (l ∷ ls) r e h = h
+
+-- what follows the last newline has none
+pub cut_rest : (xs : List ℕ) → cut (rest_of xs) ≡ ([], rest_of xs)
+cut_rest [] = refl
+cut_rest (c ∷ xs) = cut_rest_one c (cut xs) (eqb c 10) refl (cut_rest xs)
+
+pub rest_append : (xs ys : List ℕ) → rest_of (xs ++ ys) ≡ rest_of (rest_of xs ++ ys)
+rest_append xs ys = ap (λ p. p.1) (cut_append xs ys)
+
+-- a newline completes the line
+pub complete_newline : (xs : List ℕ) → complete_of (xs ++ 10 ∷ []) ≡ complete_of xs ++ without_return (rest_of xs) ∷ []
+complete_newline xs = ap (λ p. map without_return p.0) (cut_newline xs) ∙ map-append without_return (cut xs).0 (rest_of xs ∷ [])
+
+pub rest_newline : (xs : List ℕ) → rest_of (xs ++ 10 ∷ []) ≡ []
+rest_newline xs = ap (λ p. p.1) (cut_newline xs)
+
+-- another byte doesn't
+pub complete_other : (xs : List ℕ) (b : ℕ) → (b ≡ 10 → ⊥) → complete_of (xs ++ b ∷ []) ≡ complete_of xs
+complete_other xs b h = ap (λ p. map without_return p.0) (cut_other xs b h)
+
+pub rest_other : (xs : List ℕ) (b : ℕ) → (b ≡ 10 → ⊥) → rest_of (xs ++ b ∷ []) ≡ rest_of xs ++ b ∷ []
+rest_other xs b h = ap (λ p. p.1) (cut_other xs b h)
+
+-- a script without a newline has no complete line
+pub complete_none : (rest : List ℕ) → cut rest ≡ ([], rest) → complete_of rest ≡ []
+complete_none rest h = ap (λ p. map without_return p.0) h
+
+-- a carriage return at a line's end
+pub without_return_push : (front : List ℕ) → without_return (front ++ 13 ∷ []) ≡ front
+without_return_push [] = refl
+without_return_push (c ∷ []) = refl
+without_return_push (c ∷ d ∷ front) = ap (λ l. c ∷ l) (without_return_push (d ∷ front))
+
+one_other : (c : ℕ) → (c ≡ 13 → ⊥) → c ∷ [] ≡ without_return (c ∷ [])
+one_other c h = rw (ne_eqb c 13 h) refl
+
+pub without_return_other : (line : List ℕ) → ((front : List ℕ) → line ≢ front ++ 13 ∷ []) → line ≡ without_return line
+without_return_other [] h = refl
+without_return_other (c ∷ []) h = one_other c (λ e. h [] (ap (λ b. b ∷ []) e))
+without_return_other (c ∷ d ∷ line) h = ap (λ l. c ∷ l) (without_return_other (d ∷ line) (λ front e. h (c ∷ front) (ap (λ l. c ∷ l) e)))

@@ -1,0 +1,248 @@
+-- Runs of lines, one after the other.
+use Rattle.std.proofs.Common.{IfErr, ◌≢◌, zero, suc, ◌==◌, ◌≡◌, inl, inr, ℕ, ◌+◌, ◌<◌, ◌≤◌, ◌&&◌, not, Bool, true, false, cond, length, take, drop, get_or, take-append-drop, Some, None, List, [], ◌∷◌, ◌++◌, refl, sym, ◌∙◌, ap, subst, Option, Result, Ok, Err, append_assoc, append-nil, arith, nat_le}
+use Rattle.std.proofs.lemmas.List.{take_more, take_all, length-take}
+use Rattle.std.proofs.lemmas.List.Elements.{filter-append}
+use Rattle.std.proofs.lemmas.Grind.{flat_map-append}
+use Rattle.std.proofs.lemmas.Bool.{false≢true, cases_lt}
+use Rattle.std.proofs.lemmas.Bool.Decides.{nat_tests}
+use Rattle.std.specs.Io.KnownBytes.{Appends}
+use Rattle.std.specs.Str.{IsUtf8, is_utf8}
+use Rattle.std.proofs.lemmas.Str.{IsUtf8-from_is_utf8, is_utf8-from_IsUtf8}
+use Rattle.rt_stamps.specs.declared.limits.TheConstants.{MOST_LINE_BYTES}
+use Rattle.rt_stamps.specs.declared.fault.Fault.{Fault}
+use Rattle.rt_stamps.specs.declared.fault.Fault.TheVariants.{WriteFault}
+use Rattle.rt_stamps.specs.Lines.{without_return, is_readable, is_silent, answered, complete_of, rest_of, last_of}
+use Rattle.rt_stamps.specs.Words.{Word}
+use Rattle.rt_stamps.proofs.Writes.{appends_then}
+use Rattle.rt_script.specs.declared.answer.Answer.{Answer}
+use Rattle.rt_script.specs.declared.engine.TheConstants.{MOST_KEPT_BYTES}
+use Rattle.rt_script.specs.Replies.{reply_line}
+use Rattle.rt_script.specs.Run.{LineGives, Runs, Ran, RanFront, RanUnwritten}
+use Rattle.rt_script.specs.Pieces.{kept, RanLine, RanLines}
+use Rattle.rt_stamps.specs.Source.{failures_of}
+use Rattle.rt_script.proofs.LinesLaws.{complete_append, complete_newline, complete_other, rest_newline, rest_other}
+
+-- a run goes on
+pub runs_then : {S : Type 0} (gives : S → List Word → Answer → S → Type 0) (old mid new : S) (ls ms : List (List ℕ)) (bs cs : List Answer) → Runs gives old ls bs mid → Runs gives mid ms cs new → Runs gives old (ls ++ ms) (bs ++ cs) new
+runs_then gives old mid new [] ms [] cs h k = subst (λ s. Runs gives s ms cs new) h k
+runs_then gives old mid new (l ∷ ls) ms (b ∷ bs) cs h k = (h.0, h.1, runs_then gives h.0 mid new ls ms bs cs h.2 k)
+runs_then gives old mid new [] ms (b ∷ bs) cs h k = absurd h
+runs_then gives old mid new (l ∷ ls) ms [] cs h k = absurd h
+
+pub answered_append : (ls ms : List (List ℕ)) → answered (ls ++ ms) ≡ answered ls ++ answered ms
+answered_append ls ms = filter-append (λ line. not (is_readable line && is_silent line)) ls ms
+
+pub ran_then : {S : Type 0} (gives : S → List Word → Answer → S → Type 0) (old mid new : S) (a b c : Option (List ℕ)) (ls ms : List (List ℕ)) → Ran gives old mid a b ls → Ran gives mid new b c ms → Ran gives old new a c (ls ++ ms)
+ran_then gives old mid new a b c ls ms h k = record {
+  answers = h.answers ++ k.answers;
+  runs = rw (answered_append ls ms) (runs_then gives old mid new (answered ls) (answered ms) h.answers k.answers h.runs k.runs);
+  wrote = rw (flat_map-append reply_line h.answers k.answers) (appends_then a b c _ _ h.wrote k.wrote);
+}
+
+pub front_then : {S : Type 0} (gives : S → List Word → Answer → S → Type 0) (old mid new : S) (a b c : Option (List ℕ)) (ls ms : List (List ℕ)) → Ran gives old mid a b ls → RanFront gives mid new b c ms → RanFront gives old new a c (ls ++ ms)
+front_then gives old mid new a b c ls ms h k = record {
+  run = ls ++ k.run;
+  more = k.more;
+  split = rw k.split (sym (append_assoc ls k.run k.more));
+  ran = ran_then gives old mid new a b c ls k.run h k.ran;
+}
+
+pub unwritten_then : {S : Type 0} (gives : S → List Word → Answer → S → Type 0) (old mid new : S) (a b c : Option (List ℕ)) (ls ms : List (List ℕ)) → Ran gives old mid a b ls → RanUnwritten gives mid new b c ms → RanUnwritten gives old new a c (ls ++ ms)
+unwritten_then gives old mid new a b c ls ms h k = record {
+  run = ls ++ k.run;
+  more = k.more;
+  split = rw k.split (sym (append_assoc ls k.run k.more));
+  answers = h.answers ++ k.answers;
+  last = k.last;
+  runs = rw (answered_append ls k.run, append_assoc h.answers k.answers) (runs_then gives old mid new (answered ls) (answered k.run) h.answers (k.answers ++ k.last ∷ []) h.runs k.runs);
+  here = k.here;
+  wrote = rw (flat_map-append reply_line h.answers k.answers) (appends_then a b k.here _ _ h.wrote k.wrote);
+  part = k.part;
+}
+
+-- a run stops before further lines
+pub front_of : {S : Type 0} (gives : S → List Word → Answer → S → Type 0) (old new : S) (a b : Option (List ℕ)) (ls ms : List (List ℕ)) → Ran gives old new a b ls → RanFront gives old new a b (ls ++ ms)
+front_of gives old new a b ls ms h = record { run = ls; more = ms; split = refl; ran = h }
+
+pub unwritten_longer : {S : Type 0} (gives : S → List Word → Answer → S → Type 0) (old new : S) (a b : Option (List ℕ)) (ls ms : List (List ℕ)) → RanUnwritten gives old new a b ls → RanUnwritten gives old new a b (ls ++ ms)
+unwritten_longer gives old new a b ls ms h = record {
+  run = h.run;
+  more = h.more ++ ms;
+  split = rw h.split (append_assoc h.run h.more ms);
+  answers = h.answers;
+  last = h.last;
+  runs = h.runs;
+  here = h.here;
+  wrote = h.wrote;
+  part = h.part;
+}
+
+pub appends_self : (a : Option (List ℕ)) → Appends a a []
+appends_self None = tt
+appends_self (Some xs) = sym (append-nil xs)
+
+pub ran_none : {S : Type 0} (gives : S → List Word → Answer → S → Type 0) (s : S) (a : Option (List ℕ)) → Ran gives s s a a []
+ran_none gives s a = record { answers = []; runs = refl; wrote = appends_self a }
+
+-- a line that is answered, and one that isn't
+answered_one : (line : List ℕ) → is_readable line && is_silent line ≡ false → answered (line ∷ []) ≡ line ∷ []
+answered_one line e = rw e refl
+
+answered_silent : (line : List ℕ) → is_readable line && is_silent line ≡ true → answered (line ∷ []) ≡ []
+answered_silent line e = rw e refl
+
+-- a line was run, and what it was answered was written
+pub ran_line : {S : Type 0} (gives : S → List Word → Answer → S → Type 0) (old new : S) (a b : Option (List ℕ)) (line : List ℕ) → RanLine gives old new a b line (Ok tt) → Ran gives old new a b (line ∷ [])
+ran_line gives old new a b line (inl h) = record { answers = []; runs = rw (answered_silent line h.0) h.2; wrote = h.3 }
+ran_line gives old new a b line (inr h) = record {
+  answers = h.1.0 ∷ [];
+  runs = rw (answered_one line h.0) (new, h.1.1, refl);
+  wrote = rw (append-nil (reply_line h.1.0)) h.1.2;
+}
+
+-- a line was run, and what it was answered could not be written
+pub unwritten_line : {S : Type 0} (gives : S → List Word → Answer → S → Type 0) (old new : S) (a b : Option (List ℕ)) (line : List ℕ) (e : Fault) → RanLine gives old new a b line (Err e) → RanUnwritten gives old new a b (line ∷ [])
+unwritten_line gives old new a b line e (inl h) = let bad : ⊥ = cc in absurd bad
+unwritten_line gives old new a b line e (inr h) = record {
+  run = line ∷ [];
+  more = [];
+  split = refl;
+  answers = [];
+  last = h.1.0;
+  runs = rw (answered_one line h.0) (new, h.1.1, refl);
+  here = a;
+  wrote = appends_self a;
+  part = h.1.2;
+}
+
+-- all lines that can't be read are answered alike
+unreadable_gives : {S : Type 0} (gives : S → List Word → Answer → S → Type 0) (old new : S) (l m : List ℕ) (answer : Answer) → is_readable l ≡ false → is_readable m ≡ false → LineGives gives old l answer new → LineGives gives old m answer new
+unreadable_gives gives old new l m answer e f (inl h) = absurd (false≢true (sym e ∙ h.0))
+unreadable_gives gives old new l m answer e f (inr (inl h)) = inr (inl (inl f, h.1, h.2))
+unreadable_gives gives old new l m answer e f (inr (inr h)) = absurd (false≢true (sym e ∙ h.0))
+
+pub unreadable_line : {S : Type 0} (gives : S → List Word → Answer → S → Type 0) (old new : S) (a b : Option (List ℕ)) (l m : List ℕ) (r : Result (Unit {0}) Fault) → is_readable l ≡ false → is_readable m ≡ false → RanLine gives old new a b l r → RanLine gives old new a b m r
+unreadable_line gives old new a b l m r e f (inl h) = absurd (false≢true (ap (λ t. t && is_silent l) (sym e) ∙ h.0))
+unreadable_line gives old new a b l m r e f (inr h) = inr (ap (λ t. t && is_silent m) f, (h.1.0, unreadable_gives gives old new l m h.1.0 e f h.1.1, h.1.2))
+
+-- a line that is too long can't be read, whether or not it loses its last byte
+too_long : (line : List ℕ) → MOST_LINE_BYTES < length line → is_readable line ≡ false
+too_long line h = let e : nat_le (length line) MOST_LINE_BYTES ≡ false = grind (arith, nat_tests) in ap (λ t. t && is_utf8 line) e
+
+length_without : (line : List ℕ) → length line ≤ length (without_return line) + 1
+length_without [] = omega arith
+length_without (c ∷ []) = elim (c == 13) as (λ t. 1 ≤ length (cond t [] (c ∷ [])) + 1) [ true ↦ omega arith | false ↦ omega arith ]
+length_without (c ∷ d ∷ line) = let h = length_without (d ∷ line) in omega arith
+
+kept_length : (line : List ℕ) → MOST_KEPT_BYTES < length line → length (kept line) ≡ MOST_KEPT_BYTES
+kept_length line h = omega (arith, length-take MOST_KEPT_BYTES line)
+
+-- a line is answered by what is kept of it
+pub last_kept : {S : Type 0} (gives : S → List Word → Answer → S → Type 0) (old new : S) (a b : Option (List ℕ)) (line : List ℕ) (r : Result (Unit {0}) Fault) → RanLine gives old new a b (kept line) r → RanLine gives old new a b line r
+last_kept gives old new a b line r h = elim (cases_lt MOST_KEPT_BYTES (length line)) [
+  | inl long ↦ let e = kept_length line long in unreadable_line gives old new a b (kept line) line r (too_long (kept line) (omega arith)) (too_long line (omega arith)) h
+  | inr short ↦ subst (λ l. RanLine gives old new a b l r) (take_all MOST_KEPT_BYTES line short) h
+]
+
+pub line_kept : {S : Type 0} (gives : S → List Word → Answer → S → Type 0) (old new : S) (a b : Option (List ℕ)) (line : List ℕ) (r : Result (Unit {0}) Fault) → RanLine gives old new a b (without_return (kept line)) r → RanLine gives old new a b (without_return line) r
+line_kept gives old new a b line r h = elim (cases_lt MOST_KEPT_BYTES (length line)) [
+  | inl long ↦
+      let e = kept_length line long in
+      unreadable_line gives old new a b (without_return (kept line)) (without_return line) r
+      (too_long (without_return (kept line)) (omega (arith, length_without (kept line)))) (too_long (without_return line) (omega (arith, length_without line))) h
+  | inr short ↦ subst (λ l. RanLine gives old new a b (without_return l) r) (take_all MOST_KEPT_BYTES line short) h
+]
+
+-- a byte more of a line, of which a front is kept
+take_longer : (n : ℕ) (xs ys : List ℕ) → take n (take n xs ++ ys) ≡ take n (xs ++ ys)
+take_longer zero xs ys = refl
+take_longer (suc n) [] ys = refl
+take_longer (suc n) (x ∷ xs) ys = ap (λ l. x ∷ l) (take_longer n xs ys)
+
+pub kept_longer : (xs ys : List ℕ) → kept (kept xs ++ ys) ≡ kept (xs ++ ys)
+kept_longer xs ys = take_longer MOST_KEPT_BYTES xs ys
+
+pub kept_short : (line : List ℕ) → length (kept line) ≤ MOST_KEPT_BYTES
+kept_short line = omega (arith, length-take MOST_KEPT_BYTES line)
+
+-- the last line of a script, by what is kept of it
+take_none : (n : ℕ) (line : List ℕ) → 0 < n → take n line ≡ [] → line ≡ []
+take_none zero line h e = absurd (omega arith)
+take_none (suc n) [] h e = refl
+take_none (suc n) (c ∷ line) h e = cc
+
+pub last_none : (rest : List ℕ) → kept rest ≡ [] → last_of rest ≡ []
+last_none rest e = ap last_of (take_none MOST_KEPT_BYTES rest (omega arith) e)
+
+pub last_some : (rest : List ℕ) → kept rest ≢ [] → last_of rest ≡ rest ∷ []
+last_some [] n = absurd (n refl)
+last_some (c ∷ rest) n = refl
+
+-- a newline completes the line of which a front was kept
+newline_line : {S : Type 0} (gives : S → List Word → Answer → S → Type 0) (old new : S) (a b : Option (List ℕ)) (xs pending line : List ℕ) (r : Result (Unit {0}) Fault)
+    → RanLine gives old new a b line r → line ≡ without_return pending → pending ≡ kept (rest_of xs) → RanLine gives old new a b (without_return (rest_of xs)) r
+newline_line gives old new a b xs pending line r h e k = line_kept gives old new a b (rest_of xs) r (subst (λ l. RanLine gives old new a b l r) (e ∙ ap without_return k) h)
+
+pub ran_newline : {S : Type 0} (gives : S → List Word → Answer → S → Type 0) (old mid new : S) (a b c : Option (List ℕ)) (xs ys pending line : List ℕ)
+    → Ran gives old mid a b (complete_of xs) → RanLine gives mid new b c line (Ok tt) → line ≡ without_return pending → pending ≡ kept (rest_of xs) → ys ≡ xs ++ 10 ∷ [] → Ran gives old new a c (complete_of ys)
+ran_newline gives old mid new a b c xs ys pending line h k e p f =
+    let one = ran_line gives mid new b c (without_return (rest_of xs)) (newline_line gives mid new b c xs pending line (Ok tt) k e p) in
+    rw (f, complete_newline xs) (ran_then gives old mid new a b c (complete_of xs) (without_return (rest_of xs) ∷ []) h one)
+
+pub unwritten_newline : {S : Type 0} (gives : S → List Word → Answer → S → Type 0) (old mid new : S) (a b c : Option (List ℕ)) (xs ys all more pending line : List ℕ) (fault : Fault)
+    → Ran gives old mid a b (complete_of xs) → RanLine gives mid new b c line (Err fault) → line ≡ without_return pending → pending ≡ kept (rest_of xs) → ys ≡ xs ++ 10 ∷ [] → all ≡ ys ++ more → RanUnwritten gives old new a c (complete_of all)
+unwritten_newline gives old mid new a b c xs ys all more pending line fault h k e p f g =
+    let one = unwritten_line gives mid new b c (without_return (rest_of xs)) fault (newline_line gives mid new b c xs pending line (Err fault) k e p) in
+    let here : RanUnwritten gives old new a c (complete_of ys) = rw (f, complete_newline xs) (unwritten_then gives old mid new a b c (complete_of xs) (without_return (rest_of xs) ∷ []) h one) in
+    rw (g, complete_append ys more) (unwritten_longer gives old new a c (complete_of ys) (complete_of (rest_of ys ++ more)) here)
+
+-- a byte of a line could not be stored
+pub front_unstored : {S : Type 0} (gives : S → List Word → Answer → S → Type 0) (old new : S) (a b : Option (List ℕ)) (xs all more : List ℕ) → Ran gives old new a b (complete_of xs) → all ≡ xs ++ more → RanFront gives old new a b (complete_of all)
+front_unstored gives old new a b xs all more h g = rw (g, complete_append xs more) (front_of gives old new a b (complete_of xs) (complete_of (rest_of xs ++ more)) h)
+
+-- the bytes of a piece up to a place
+pub bytes_more : (p xs : List ℕ) (i : ℕ) → i < length xs → p ++ take (i + 1) xs ≡ (p ++ take i xs) ++ get_or xs i 0 ∷ []
+bytes_more p xs i h = ap (λ v. p ++ v) (take_more xs i 0 h) ∙ sym (append_assoc p (take i xs) (get_or xs i 0 ∷ []))
+
+pub bytes_newline : (p xs : List ℕ) (i : ℕ) → i < length xs → get_or xs i 0 ≡ 10 → p ++ take (i + 1) xs ≡ (p ++ take i xs) ++ 10 ∷ []
+bytes_newline p xs i h e = bytes_more p xs i h ∙ ap (λ b. (p ++ take i xs) ++ b ∷ []) e
+
+pub bytes_all : (p xs : List ℕ) (n : ℕ) → p ++ xs ≡ (p ++ take n xs) ++ drop n xs
+bytes_all p xs n = ap (λ v. p ++ v) (sym (take-append-drop n xs)) ∙ sym (append_assoc p (take n xs) (drop n xs))
+
+-- what is kept of the line of the next byte
+pub rest_kept_newline : (xs ys : List ℕ) → ys ≡ xs ++ 10 ∷ [] → [] ≡ kept (rest_of ys)
+rest_kept_newline xs ys f = ap kept (sym (ap rest_of f ∙ rest_newline xs))
+
+pub rest_kept_other : (old new xs ys : List ℕ) (b : ℕ) → new ≡ kept (old ++ b ∷ []) → old ≡ kept (rest_of xs) → (b ≡ 10 → ⊥) → ys ≡ xs ++ b ∷ [] → new ≡ kept (rest_of ys)
+rest_kept_other old new xs ys b e p h f =
+    e ∙ ap (λ o. kept (o ++ b ∷ [])) p ∙ kept_longer (rest_of xs) (b ∷ []) ∙ ap kept (sym (ap rest_of f ∙ rest_other xs b h))
+
+pub ran_other : {S : Type 0} (gives : S → List Word → Answer → S → Type 0) (old new : S) (a b : Option (List ℕ)) (xs ys : List ℕ) (byte : ℕ) → Ran gives old new a b (complete_of xs) → (byte ≡ 10 → ⊥) → ys ≡ xs ++ byte ∷ [] → Ran gives old new a b (complete_of ys)
+ran_other gives old new a b xs ys byte h n f = rw (f, complete_other xs byte n) h
+
+-- nothing was run of a script without a newline
+pub ran_start : {S : Type 0} (gives : S → List Word → Answer → S → Type 0) (s : S) (a : Option (List ℕ)) (rest : List ℕ) → complete_of rest ≡ [] → Ran gives s s a a (complete_of rest)
+ran_start gives s a rest e = rw e (ran_none gives s a)
+
+-- whether a line can be read
+pub readable_text : (line : List ℕ) → length line ≤ MOST_LINE_BYTES → IsUtf8 line → is_readable line ≡ true
+readable_text line h u = let e : nat_le (length line) MOST_LINE_BYTES ≡ true = grind (arith, nat_tests) in ap (λ t. t && is_utf8 line) e ∙ is_utf8-from_IsUtf8 line u
+
+pub unreadable_text : (line : List ℕ) → (IsUtf8 line → ⊥) → is_readable line ≡ false
+unreadable_text line n = go (nat_le (length line) MOST_LINE_BYTES) (is_utf8 line) (λ e. n (IsUtf8-from_is_utf8 line e))
+  where
+    go : (a b : Bool) → (b ≡ true → ⊥) → a && b ≡ false
+    go true true h = absurd (h refl)
+    go true false h = refl
+    go false b h = refl
+
+-- the last line of a script was run
+pub ran_last : {S : Type 0} (gives : S → List Word → Answer → S → Type 0) (old new : S) (a b : Option (List ℕ)) (f g : ℕ) (rest : List ℕ) (r : Result (Unit {0}) Fault)
+    → RanLine gives old new a b (kept rest) r → kept rest ≢ [] → IfErr r (λ fault. fault ≡ WriteFault) → g ≡ f + failures_of r → RanLines gives old new a b f g (last_of rest) r
+ran_last gives old new a b f g rest (Ok x) h n w e = rw (last_some rest n) (ran_line gives old new a b rest (last_kept gives old new a b rest (Ok x) h), omega arith)
+ran_last gives old new a b f g rest (Err x) h n w e = rw (last_some rest n) (inr (w, unwritten_line gives old new a b rest x (last_kept gives old new a b rest (Err x) h), e))
+
+pub length_none : (bytes : List ℕ) → length bytes ≡ 0 → bytes ≡ []
+length_none [] e = refl
+length_none (c ∷ bytes) e = absurd (omega arith)

@@ -1,0 +1,286 @@
+// Runs of scripts.
+ghost use Rattle.std.specs.Prelude.{◌≡◌, ℕ, ◌+◌, ◌<◌, ◌≤◌, ◌&&◌, ◌∷◌, ◌++◌, [], true, false, List, length, IfOk, IfErr, OnOk, IfSome, MatchOption};
+ghost use Rattle.std.specs.List.{list_all};
+ghost use Rattle.std.specs.Io.KnownBytes.{ReadConsumes};
+ghost use Rattle.rt_stamps.specs.Lines.{cut, without_return, is_blank, is_readable, is_silent, complete_of, rest_of, last_of};
+ghost use Rattle.rt_stamps.specs.Source.{failed_reads, failures_of};
+ghost use Rattle.rt_stamps.specs.Written.{Wrote};
+ghost use Rattle.rt_script.specs.Pieces.{kept, RanLine, RanLines};
+ghost use Rattle.rt_script.specs.Replies.{reply_line};
+ghost use Rattle.rt_script.specs.Run.{LineGives, Ends};
+
+use crate::reply::reply_line;
+use crate::words::words;
+use crate::{Answer, Commands};
+use rt_stamps::limits::{MOST_BYTES, MOST_LINE_BYTES, MOST_READS};
+use rt_stamps::std_ends::{Count, Writer};
+use rt_stamps::{Failed, Fault, Sink, Source, write_all};
+use std::alloc::Global;
+use std::marker::Brand;
+use std::str;
+use std::sync::ledger::{Blank, Ledger};
+
+/// How a run ended.
+#[derive(Drop)]
+pub struct Ended<C: Drop> {
+    /// What ran the lines, as the last line that was run left it.
+    pub site: C,
+    /// Why the run ended early: `NoMemory` where a line couldn't be stored, `ReadFault`, or
+    /// `WriteFault`.
+    pub fault: Option<Fault>,
+}
+
+// The most bytes that are kept of a line. One that has more can't be read, even if its last byte
+// is a carriage return.
+const MOST_KEPT_BYTES: usize = MOST_LINE_BYTES + 2;
+
+// The most bytes of one read.
+const PIECE_BYTES: usize = 1024;
+
+// A line without a carriage return at its end.
+fn without_return(line: &[u8]) -> &[u8]
+    ensures { result.now ≡ without_return line.now }
+{
+    match line.strip_suffix(b"\r") {
+        Some(front) => front,
+        None => line,
+    }
+}
+
+// The text of a line, if it isn't too long and is one.
+fn readable(line: &[u8]) -> Option<&str>
+    ensures { MatchOption result (is_readable line.now ≡ false) (λ text. (is_readable line.now ≡ true) × (text.now ≡ line.now)) }
+{
+    if line.len() > MOST_LINE_BYTES {
+        return None;
+    }
+    match str::from_utf8(line) {
+        Ok(text) => Some(text),
+        Err(_) => None,
+    }
+}
+
+fn is_blank(byte: u8) -> bool
+    ensures { result ≡ is_blank byte }
+{
+    matches!(byte, b' ' | b'\t')
+}
+
+fn are_blank(bytes: &[u8]) -> bool
+    ensures { result ≡ list_all is_blank bytes.now }
+{
+    bytes.iter().all(|byte| is_blank(*byte))
+}
+
+// Whether a line is a comment, or nothing but spaces and tabs.
+fn is_silent(line: &[u8]) -> bool
+    ensures { result ≡ is_silent line.now }
+{
+    matches!(line, [b'#', ..]) || are_blank(line)
+}
+
+// What the words of a line are answered.
+fn answer_text<C: Commands>(alloc: Global, site: &mut C, text: &str) -> Answer
+    ensures { is_readable text.now ≡ true → LineGives C.gives (C.state site.old) text.now result (C.state site.new) }
+{
+    match words(alloc, text) {
+        Ok(words) => site.run_words(&words),
+        Err(fault) => Answer::Refused(fault),
+    }
+}
+
+// What a line is answered, unless it is a silent one.
+fn answer_line<C: Commands>(alloc: Global, site: &mut C, line: &[u8]) -> Option<Answer>
+    ensures answered { IfSome result (λ answer. (is_readable line.now && is_silent line.now ≡ false) × LineGives C.gives (C.state site.old) line.now answer (C.state site.new)) }
+    ensures silent { result ≡ None → (is_readable line.now && is_silent line.now ≡ true) × (C.state site.new ≡ C.state site.old) }
+{
+    let text = match readable(line) {
+        Some(text) => text,
+        None => return Some(Answer::Refused(Fault::BadQuoting)),
+    };
+    if is_silent(line) {
+        None
+    } else {
+        Some(answer_text(alloc, site, text))
+    }
+}
+
+// The line of an answer, in memory.
+fn rendered<A: Ledger, B: Ledger>(
+    alloc: Global,
+    answer: &Answer,
+    writes: Blank,
+    failures: Blank,
+) -> Option<Vec<u8>>
+    requires writes { (writes.name ≡ A.name) × (writes.parts ≡ A.parts) × (0 < A.parts) }
+    requires failures { (failures.name ≡ B.name) × (failures.parts ≡ B.parts) × (0 < B.parts) }
+    ensures { IfSome result (λ line. line.items ≡ reply_line answer.now) }
+{
+    let mut line = Writer::new(
+        Vec::new(alloc),
+        Count::<A>::begin(writes),
+        Count::<B>::begin(failures),
+    );
+    match reply_line(answer, &mut line) {
+        Ok(()) => Some(line.into_inner()),
+        Err(_) => None,
+    }
+}
+
+// Writes the line of an answer, in one write where there is memory for it.
+fn write_answer<W: Sink>(alloc: Global, answer: &Answer, out: &mut W) -> Result<(), Fault>
+    ensures wrote { Wrote (W.contents out.old) (W.contents out.new) result (reply_line answer.now) }
+    ensures fault { IfErr result (λ fault. fault ≡ Fault.WriteFault) }
+    ensures failures { W.failures out.new ≡ W.failures out.old + failures_of result }
+{
+    match rendered::<Brand, Brand>(alloc, answer, Blank::new(1), Blank::new(1)) {
+        Some(line) => write_all(out, &line),
+        None => reply_line(answer, out),
+    }
+}
+
+// Runs a line, and writes the line of its answer.
+fn run_line<C: Commands, W: Sink>(
+    alloc: Global,
+    site: &mut C,
+    line: &[u8],
+    out: &mut W,
+) -> Result<(), Fault>
+    ensures ran { RanLine C.gives (C.state site.old) (C.state site.new) (W.contents out.old) (W.contents out.new) line.now result }
+    ensures fault { IfErr result (λ fault. fault ≡ Fault.WriteFault) }
+    ensures failures { W.failures out.new ≡ W.failures out.old + failures_of result }
+{
+    match answer_line(alloc, site, line) {
+        Some(answer) => write_answer(alloc, &answer, out),
+        None => Ok(()),
+    }
+}
+
+// Keeps a byte of a line that isn't complete, if the line isn't too long already.
+fn keep(pending: &mut Vec<u8>, byte: u8) -> Result<(), Fault>
+    requires { length pending.old.items ≤ MOST_KEPT_BYTES }
+    ensures kept { OnOk result (pending.new.items ≡ kept (pending.old.items ++ byte ∷ [])) }
+    ensures fault { IfErr result (λ fault. fault ≡ Fault.NoMemory) }
+{
+    if pending.len() < MOST_KEPT_BYTES {
+        pending.push(byte)?;
+    }
+    Ok(())
+}
+
+// Runs the lines that a piece of the script completes. What is pending was kept of the line that
+// the piece goes on with.
+fn feed<C: Commands, W: Sink>(
+    alloc: Global,
+    site: &mut C,
+    pending: &mut Vec<u8>,
+    piece: &[u8],
+    out: &mut W,
+) -> Result<(), Fault>
+    requires { length pending.old.items ≤ MOST_KEPT_BYTES }
+    ensures ran { (rest : List ℕ) → cut rest ≡ ([], rest) → pending.old.items ≡ kept rest
+        → RanLines C.gives (C.state site.old) (C.state site.new) (W.contents out.old) (W.contents out.new) (W.failures out.old) (W.failures out.new) (complete_of (rest ++ piece.now)) result }
+    ensures rest { (rest : List ℕ) → cut rest ≡ ([], rest) → pending.old.items ≡ kept rest
+        → OnOk result (pending.new.items ≡ kept (rest_of (rest ++ piece.now))) }
+{
+    for byte in piece {
+        if *byte == b'\n' {
+            run_line(alloc, site, without_return(pending), out)?;
+            pending.clear();
+        } else {
+            keep(pending, *byte)?;
+        }
+    }
+    Ok(())
+}
+
+// Runs what follows the last newline, if there is anything.
+fn finish<C: Commands, W: Sink>(
+    alloc: Global,
+    site: &mut C,
+    pending: &[u8],
+    out: &mut W,
+) -> Result<(), Fault>
+    ensures ran { (rest : List ℕ) → pending.now ≡ kept rest
+        → RanLines C.gives (C.state site.old) (C.state site.new) (W.contents out.old) (W.contents out.new) (W.failures out.old) (W.failures out.new) (last_of rest) result }
+    ensures fault { IfErr result (λ fault. fault ≡ Fault.WriteFault) }
+{
+    if pending.is_empty() {
+        return Ok(());
+    }
+    run_line(alloc, site, pending, out)
+}
+
+// Reads a piece of a script of which so many bytes may still be run. Where that is none, it reads
+// one byte, which tells whether the script ends there.
+fn read_piece<R: Source>(script: &mut R, buf: &mut [u8], room: usize) -> Result<usize, Failed>
+    requires { 0 < length buf.old }
+    ensures calls { R.calls script.new ≡ R.calls script.old + 1 }
+    ensures failures { R.failures script.new ≡ R.failures script.old + failed_reads result }
+    ensures bytes { ReadConsumes (R.remaining script.old) (R.remaining script.new) result buf.new }
+    ensures within { IfOk result (λ n. n ≤ length buf.new) }
+    ensures bounded { IfOk result (λ n. 0 < room → n ≤ room) }
+{
+    let limit = room.max(1).min(buf.len());
+    script.read(&mut buf[..limit])
+}
+
+/// Runs a script, and writes the line of each answer.
+///
+/// A line ends at a newline or at the end of the script, and a carriage return just before its
+/// newline isn't part of it. An empty line, one of spaces and tabs alone and one that begins with
+/// `#` is answered nothing. One of more than `MOST_LINE_BYTES` bytes, one that isn't UTF-8 and one
+/// that spells no words is answered `BadQuoting`, and not run. Where the words of a line find no
+/// memory, it is answered `NoMemory`, and not run.
+///
+/// After each read all lines that are then complete are run, each answer in one write where there
+/// is memory for it. At a failed read, and past `MOST_BYTES` bytes or `MOST_READS` reads, the run
+/// ends with `ReadFault`, and what follows the last newline isn't run. After a failed write nothing
+/// more is run or written, and the run ends with `WriteFault`. Where a line can't be stored, it ends
+/// with `NoMemory`.
+pub fn run_lines<C: Commands + Drop, R: Source, W: Sink>(
+    alloc: Global,
+    mut site: C,
+    script: &mut R,
+    out: &mut W,
+) -> Ended<C>
+    ensures { Ends C.gives (C.state site) (C.state result.site)
+        (record { calls = R.calls script.old; failures = R.failures script.old; bytes = R.remaining script.old })
+        (record { calls = R.calls script.new; failures = R.failures script.new; bytes = R.remaining script.new })
+        (record { calls = W.calls out.old; failures = W.failures out.old; bytes = W.contents out.old })
+        (record { calls = W.calls out.new; failures = W.failures out.new; bytes = W.contents out.new })
+        result.fault }
+{
+    let mut pending = Vec::new(alloc);
+    let mut buf = [0u8; PIECE_BYTES];
+    let mut room = MOST_BYTES;
+    for _ in 0..MOST_READS {
+        let n = match read_piece(script, &mut buf, room) {
+            Ok(n) => n,
+            Err(_) => return stopped(site, Fault::ReadFault),
+        };
+        if n == 0 {
+            let fault = finish(alloc, &mut site, &pending, out).err();
+            return Ended { site, fault };
+        }
+        if room == 0 {
+            return stopped(site, Fault::ReadFault);
+        }
+        match feed(alloc, &mut site, &mut pending, &buf[..n], out) {
+            Ok(()) => {}
+            Err(fault) => return stopped(site, fault),
+        }
+        room -= n;
+    }
+    stopped(site, Fault::ReadFault)
+}
+
+fn stopped<C: Drop>(site: C, fault: Fault) -> Ended<C>
+    ensures site { result.site ≡ site }
+    ensures fault { result.fault ≡ Some fault }
+{
+    Ended {
+        site,
+        fault: Some(fault),
+    }
+}
