@@ -12,6 +12,10 @@ pub mod reply;
 pub mod scripts;
 pub mod site;
 pub mod site_lines;
+#[cfg(test)]
+mod site_tests;
+#[cfg(test)]
+mod tests;
 pub mod words;
 
 pub use answer::{Answer, Reply};

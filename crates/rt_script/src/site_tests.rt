@@ -1,0 +1,280 @@
+ghost use Rattle.std.specs.Prelude.{◌≡◌, ◌<◌, ◌≤◌, false};
+
+use crate::{SiteState, run};
+use rt_stamps::limits::{GREATEST_COUNT, MOST_CELLS};
+use rt_stamps::std_ends::{Count, Reader, Writer};
+use rt_stamps::{Clock, Fault, Site, Stamp};
+use rt_store::{Cell, ListStore, TextStore};
+use std::alloc::Global;
+use std::io::{self, Read, Write};
+use std::marker::Brand;
+use std::sync::ledger::{Blank, Ledger};
+use std::test::Fail;
+
+// A reader that gives at most so many bytes at a time, and whose read of a number fails.
+#[derive(Drop)]
+struct Pieces<'a> {
+    bytes: &'a [u8],
+    size: usize,
+    until_failure: Option<usize>,
+}
+
+impl Read for Pieces<'_> {
+    ghost use Rattle.std.specs.Prelude.{None};
+
+    ghost remaining = { λ _. None };
+
+    fn read(&mut self, buf: &mut [u8]) -> io::Result<usize> {
+        if self.until_failure == Some(0) {
+            return Err(io::Error::from(io::ErrorKind::Other));
+        }
+        self.until_failure = self.until_failure.map(|n| n.saturating_sub(1));
+        let n = self.size.min(buf.len());
+        self.bytes.read(&mut buf[..n])
+    }
+}
+
+// A writer whose write of a number fails.
+#[derive(Drop)]
+struct Text {
+    bytes: Vec<u8>,
+    until_failure: Option<usize>,
+}
+
+impl Write for Text {
+    ghost use Rattle.std.specs.Prelude.{None};
+
+    ghost contents = { λ _. None };
+
+    fn write(&mut self, buf: &[u8]) -> io::Result<usize> {
+        if self.until_failure == Some(0) {
+            return Err(io::Error::from(io::ErrorKind::Other));
+        }
+        self.until_failure = self.until_failure.map(|n| n.saturating_sub(1));
+        self.bytes.write(buf)
+    }
+
+    fn flush(&mut self) -> io::Result<()> {
+        Ok(())
+    }
+}
+
+fn output<A: Ledger, B: Ledger, C: Ledger, D: Ledger>(
+    alloc: Global,
+    limit: usize,
+    script: Pieces,
+    failing_write: Option<usize>,
+    reads: Blank,
+    failed_reads: Blank,
+    writes: Blank,
+    failed_writes: Blank,
+) -> (Vec<u8>, Option<Fault>)
+    requires limit { (1 ≤ limit) × (limit ≤ MOST_CELLS) }
+    requires reads { (reads.name ≡ A.name) × (reads.parts ≡ A.parts) × (0 < A.parts) }
+    requires failed_reads { (failed_reads.name ≡ B.name) × (failed_reads.parts ≡ B.parts) × (0 < B.parts) }
+    requires writes { (writes.name ≡ C.name) × (writes.parts ≡ C.parts) × (0 < C.parts) }
+    requires failed_writes { (failed_writes.name ≡ D.name) × (failed_writes.parts ≡ D.parts) × (0 < D.parts) }
+{
+    let mut script = Reader::new(
+        script,
+        Count::<A>::begin(reads),
+        Count::<B>::begin(failed_reads),
+    );
+    let mut out = Writer::new(
+        Text {
+            bytes: Vec::new(alloc),
+            until_failure: failing_write,
+        },
+        Count::<C>::begin(writes),
+        Count::<D>::begin(failed_writes),
+    );
+    let Some(site) = Site::new(1) else {
+        return (Vec::new(alloc), None);
+    };
+    let fault = match SiteState::new(alloc, site, limit) {
+        Ok(state) => run(alloc, state, &mut script, &[], &mut out).fault,
+        Err(fault) => Some(fault),
+    };
+    let Text { bytes, .. } = out.into_inner();
+    (bytes, fault)
+}
+
+fn output_of(
+    alloc: Global,
+    limit: usize,
+    script: Pieces,
+    failing_write: Option<usize>,
+) -> (Vec<u8>, Option<Fault>)
+    requires { (1 ≤ limit) × (limit ≤ MOST_CELLS) }
+{
+    output::<Brand, Brand, Brand, Brand>(
+        alloc,
+        limit,
+        script,
+        failing_write,
+        Blank::new(1),
+        Blank::new(1),
+        Blank::new(1),
+        Blank::new(1),
+    )
+}
+
+// Scripts, each on a new site, and their reply lines.
+const TABLE: [(&str, &str); 12] = [
+    (".t index end\n.t get 1.0 end", "= 2.0\n= \"\\n\"\n"),
+    (
+        ".t insert end hello\n.t index end\n.t get 1.0 end\n",
+        "=\n= 2.0\n= \"hello\\n\"\n",
+    ),
+    (".t insert 1.0 \"a\n", "! 19 BadQuoting\n"),
+    (
+        ".x index end\n.x\n.x frob\n",
+        "! 5 NoWidget\n! 5 NoWidget\n! 5 NoWidget\n",
+    ),
+    (
+        ".t frob\n.t\ndestroy .t\nreceive a\n",
+        "! 4 BadCommand\n! 4 BadCommand\n! 4 BadCommand\n! 4 BadCommand\n",
+    ),
+    (
+        ".t insert\n.t insert 1.0\n.t insert 1.0 a b\n.t get\n.t get 1.0 1.0 1.0\n.t index\n.t index 1.0 1.0\n",
+        "! 4 BadCommand\n! 4 BadCommand\n! 4 BadCommand\n! 4 BadCommand\n! 4 BadCommand\n! 4 BadCommand\n! 4 BadCommand\n",
+    ),
+    (
+        ".t insert x a\n.t get 1.0 x\n.t get x\n.t index 1\n.t index 1.\n.t index .1\n.t index 1.0.0\n.t index +1.0\n.t index en\n",
+        "! 2 BadIndex\n! 2 BadIndex\n! 2 BadIndex\n! 2 BadIndex\n! 2 BadIndex\n! 2 BadIndex\n! 2 BadIndex\n! 2 BadIndex\n! 2 BadIndex\n",
+    ),
+    (
+        ".t insert 1.0 hi\n.t index 9.9\n.t index 1.99\n.t index 0.7\n.t index 0.end\n.t index 1.end\n.t index 9.end\n.t index 01.001\n",
+        "=\n= 2.0\n= 1.2\n= 1.0\n= 1.0\n= 1.2\n= 2.0\n= 1.1\n",
+    ),
+    (
+        ".t insert 1.0 hi\n.t get 1.0\n.t get 1.2\n.t get end\n.t get 1.1 1.0\n.t get 1.1 end\n",
+        "=\n= h\n= \"\\n\"\n= \"\"\n= \"\"\n= \"i\\n\"\n",
+    ),
+    (
+        ".t insert 1.0 b\n.t insert 1.0 a\n.t insert 1.1 é\n.t insert 1.end z\n.t get 1.0 1.end\n.t index 1.4\n",
+        "=\n=\n=\n=\n= aébz\n= 1.4\n",
+    ),
+    (
+        ".t index 18446744073709551616.0\n.t index 1.18446744073709551616\n.t index 18446744073709551617.end\n",
+        "= 2.0\n= 1.0\n= 2.0\n",
+    ),
+    (".t insert 1.0 }\n.t get 1.0 end\n", "=\n= \"}\\n\"\n"),
+];
+
+#[test]
+fn replies_of_scripts(rt: HostRuntime) {
+    for (script, want) in TABLE {
+        for size in [1, 3, 4096] {
+            let pieces = Pieces {
+                bytes: script.as_bytes(),
+                size,
+                until_failure: None,
+            };
+            let (text, fault) = output_of(rt.alloc(), MOST_CELLS, pieces, None);
+            assert_eq!(rt; text.as_slice(), want.as_bytes(), "{script}");
+            assert_eq!(rt; fault, None);
+        }
+    }
+}
+
+#[test]
+fn a_site_of_three_cells(rt: HostRuntime) {
+    let pieces = Pieces {
+        bytes: b".t insert 1.0 abc\n.t insert 1.0 ab\n.t insert 1.0 c\n.t get 1.0 end\n",
+        size: 7,
+        until_failure: None,
+    };
+    let (text, fault) = output_of(rt.alloc(), 3, pieces, None);
+    assert_eq!(rt;
+        text.as_slice(),
+        b"! 18 TextFull\n=\n! 18 TextFull\n= \"ab\\n\"\n".as_slice()
+    );
+    assert_eq!(rt; fault, None);
+}
+
+// The script of the failing reads and writes, in pieces of 20 bytes, and its reply lines.
+const SCRIPT: &str = ".t insert 1.0 hello\n.t get 1.0 end\n.t index end\n.t index 1.end";
+
+const REPLIES: &str = "=\n= \"hello\\n\"\n= 2.0\n= 1.5\n";
+
+#[test]
+fn a_read_that_fails(rt: HostRuntime) {
+    let wants = [
+        "",
+        "=\n",
+        "=\n= \"hello\\n\"\n",
+        "=\n= \"hello\\n\"\n= 2.0\n",
+        "=\n= \"hello\\n\"\n= 2.0\n",
+    ];
+    for (failing, want) in wants.iter().enumerate() {
+        let pieces = Pieces {
+            bytes: SCRIPT.as_bytes(),
+            size: 20,
+            until_failure: Some(failing),
+        };
+        let (text, fault) = output_of(rt.alloc(), MOST_CELLS, pieces, None);
+        assert_eq!(rt; text.as_slice(), want.as_bytes(), "read {failing}");
+        assert_eq!(rt; fault, Some(Fault::ReadFault));
+    }
+}
+
+#[test]
+fn a_write_that_fails(rt: HostRuntime) {
+    let wants = [
+        "",
+        "=\n",
+        "=\n= \"hello\\n\"\n",
+        "=\n= \"hello\\n\"\n= 2.0\n",
+    ];
+    for (failing, want) in wants.iter().enumerate() {
+        let pieces = Pieces {
+            bytes: SCRIPT.as_bytes(),
+            size: 20,
+            until_failure: None,
+        };
+        let (text, fault) = output_of(rt.alloc(), MOST_CELLS, pieces, Some(failing));
+        assert_eq!(rt; text.as_slice(), want.as_bytes(), "write {failing}");
+        assert_eq!(rt; fault, Some(Fault::WriteFault));
+    }
+    let pieces = Pieces {
+        bytes: SCRIPT.as_bytes(),
+        size: 20,
+        until_failure: None,
+    };
+    let (text, fault) = output_of(rt.alloc(), MOST_CELLS, pieces, Some(4));
+    assert_eq!(rt; text.as_slice(), REPLIES.as_bytes());
+    assert_eq!(rt; fault, None);
+}
+
+#[test]
+fn fresh_counts(rt: HostRuntime) {
+    let mut clock = Clock::new();
+    assert_eq!(rt; clock.next(2), Ok(1));
+    clock.saw(GREATEST_COUNT);
+    assert_eq!(rt; clock.next(1), Err(Fault::ClockSpent));
+}
+
+fn cell(count: u64, site: u16, ch: char) -> Cell
+    ensures { result ≡ record { stamp = record { count = count; site = site }; ch = ch; gone = false } }
+{
+    Cell {
+        stamp: Stamp { count, site },
+        ch,
+        gone: false,
+    }
+}
+
+#[test]
+fn past_greater_stamps(rt: HostRuntime) -> Result<(), Fail> {
+    let mut store = ListStore::new(rt.alloc())?;
+    store.reserve(3, 2)?;
+    store.splice(0, &[cell(1, 1, 'a'), cell(2, 1, 'b')]);
+    let a = Stamp { count: 1, site: 1 };
+    assert_eq!(rt; store.after_skip(a, Stamp { count: 3, site: 2 }), 1);
+    store.splice(1, &[cell(3, 2, 'Y')]);
+    assert_eq!(rt; store.after_skip(a, Stamp { count: 3, site: 1 }), 2);
+    assert_eq!(rt; store.visible(), 4);
+    assert_eq!(rt; store.lines(), 1);
+    Ok(())
+}
