@@ -1,0 +1,40 @@
+-- Decimal digits and their value.
+use Rattle.std.proofs.Common.{◌≡◌, Bool, true, false, ℕ, zero, suc, ◌+◌, ◌*◌, ◌-◌, ◌<◌, ◌≤◌, min, List, [], ◌∷◌, length, take, drop, get_or, arith, add-one, ap, sym, ◌∙◌, refl, subst}
+use Rattle.std.proofs.Math.Numerals.{one-add}
+use Rattle.std.proofs.lemmas.Bool.Decides.{nat_tests}
+use Rattle.std.specs.List.{prefix_len}
+use Rattle.std.specs.Int.{IsInRange}
+use Rattle.std.specs.Char.{is_ascii_digit, digit_value}
+use Rattle.std.specs.Str.{all_ascii_digits}
+use Rattle.std.specs.Str.Parse.{AllDigits, digits_value}
+use Rattle.std.proofs.lemmas.Str.{digit_value_digit}
+use Rattle.std.proofs.lemmas.Str.Parse.{IsNumeralModel, numerals_by_value, tells_all_ascii_digits, digit_at}
+use Rattle.std.proofs.lemmas.Int.Digits.{digits_value_more}
+use Rattle.rt_index.specs.Expression.{kept}
+use Rattle.rt_index.proofs.Places.{split}
+
+pub own : IsNumeralModel (λ ds. all_ascii_digits ds ≡ true) (digits_value 10)
+own = numerals_by_value _ tells_all_ascii_digits
+
+pub is_digit_at : (ds : List ℕ) (i : ℕ) → all_ascii_digits ds ≡ true → i < length ds → IsInRange 48 57 (get_or ds i 0)
+is_digit_at ds i h l = digit_at ds i (own.to ds h) l
+
+pub digits_front : (t : List ℕ) → all_ascii_digits (take (prefix_len is_ascii_digit t) t) ≡ true
+digits_front [] = refl
+digits_front (c ∷ t) = let P : ℕ → Type 0 = λ n. all_ascii_digits (take n (c ∷ t)) ≡ true in split (is_ascii_digit c)
+    (λ e.
+        let q : prefix_len is_ascii_digit (c ∷ t) ≡ suc (prefix_len is_ascii_digit t) = rw e (one-add (prefix_len is_ascii_digit t)) in
+        subst P (sym q) (rw e (digits_front t)))
+    (λ e. let q : prefix_len is_ascii_digit (c ∷ t) ≡ 0 = rw e refl in subst P (sym q) refl)
+
+pub digits_whole : (t : List ℕ) → length t ≤ prefix_len is_ascii_digit t → all_ascii_digits t ≡ true
+digits_whole [] h = refl
+digits_whole (c ∷ t) h = split (is_ascii_digit c)
+    (λ e. let k = rw e at h in rw e (digits_whole t (omega arith)))
+    (λ e. let k = rw e at h in absurd (omega arith))
+
+pub kept_more : (v d : ℕ) → kept (kept (kept v * 10) + d) ≡ kept (v * 10 + d)
+kept_more v d = omega arith
+
+pub number_more : (ds : List ℕ) (i : ℕ) → all_ascii_digits ds ≡ true → i < length ds → digits_value 10 (take (i + 1) ds) ≡ digits_value 10 (take i ds) * 10 + (get_or ds i 0 - 48)
+number_more ds i h l = digits_value_more 10 ds i l ∙ ap (λ d. digits_value 10 (take i ds) * 10 + d) (omega (arith, digit_value_digit (get_or ds i 0) (is_digit_at ds i h l)))

@@ -1,0 +1,10 @@
+pub mod Complete
+pub mod Digits
+pub mod Hope
+pub mod Dots
+pub mod Kept
+pub mod Modifiers
+pub mod Places
+pub mod Spelling
+pub mod Tags
+pub mod Whole

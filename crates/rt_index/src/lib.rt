@@ -1,0 +1,13 @@
+//! Index expressions of the Tk text widget, as `insert wordstart - 2 chars`: which words are
+//! expressions, and which places they name.
+#![tactic(auto)]
+
+pub mod expression;
+pub mod ground;
+pub mod laws;
+pub mod parts;
+pub mod reading;
+pub mod values;
+
+pub use expression::{Expr, parse, resolve};
+pub use ground::Ground;

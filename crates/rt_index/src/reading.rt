@@ -1,0 +1,334 @@
+// The parts of a text, read from the left.
+ghost use Rattle.std.specs.Prelude.{◌≡◌, ℕ, ◌+◌, ◌^◌, ◌==◌, if◌then◌else◌, ◌<◌, ◌≤◌, ◌⊎◌, Some, None, length, map, take, drop, true, eqb, IfSome, IfOk, IfErr, option_map};
+ghost use Rattle.std.specs.List.{prefix_len};
+ghost use Rattle.std.specs.Char.{is_ascii_digit, is_ascii_alphabetic};
+ghost use Rattle.std.specs.Str.{all_ascii_digits};
+ghost use Rattle.std.specs.Str.Parse.{digits_value};
+ghost use Rattle.rt_index.specs.Grammar.{counted, turned};
+ghost use Rattle.rt_index.specs.Index.{may_end, side_text, tag_of};
+ghost use Rattle.rt_index.specs.Expression.{kept, kept_modifier, kept_found, kept_fixed, tag_after, longest_named};
+ghost use Rattle.rt_index.specs.Reading.{is_space, token_length, after_spaces, after_any, column_of, position_of, fixed_of, unit_of, keyword_of, with_unit, with_keyword, with_number, with_second_sign, modifier_at, first_modifier, modifiers_of};
+
+use crate::parts::{Fixed, Keyword, Modifier, Side, Sign, Step, Tag};
+use rt_stamps::Fault;
+use smallvec::SmallVec;
+use std::alloc::Global;
+
+/// The modifiers of an expression. Most have few, which need no memory.
+pub type Modifiers = SmallVec<Modifier, 4>;
+
+/// Whether a token ends at a byte.
+fn is_separator(byte: u8) -> bool
+    ensures { result ≡ Rattle.rt_index.specs.Reading.is_separator byte }
+{
+    byte == b' ' || byte == b'+' || byte == b'-'
+}
+
+/// How many bytes the token at the front has.
+pub(crate) fn token_length(word: &[u8]) -> usize
+    ensures value { result ≡ token_length word.now }
+    ensures within { result ≤ length word.now }
+{
+    word.iter().take_while(|byte| !is_separator(**byte)).count()
+}
+
+fn letters(text: &[u8]) -> usize
+    ensures value { result ≡ prefix_len is_ascii_alphabetic text.now }
+    ensures within { result ≤ length text.now }
+{
+    text.iter().take_while(|byte| byte.is_ascii_alphabetic()).count()
+}
+
+fn digits(text: &[u8]) -> usize
+    ensures value { result ≡ prefix_len is_ascii_digit text.now }
+    ensures within { result ≤ length text.now }
+{
+    text.iter().take_while(|byte| byte.is_ascii_digit()).count()
+}
+
+fn spaces(text: &[u8]) -> usize
+    ensures value { result ≡ prefix_len is_space text.now }
+    ensures within { result ≤ length text.now }
+{
+    text.iter().take_while(|byte| **byte == b' ').count()
+}
+
+fn after_spaces(text: &[u8]) -> &[u8]
+    ensures value { result.now ≡ after_spaces text.now }
+    ensures within { length result.now ≤ length text.now }
+{
+    let (_, rest) = text.split_at(spaces(text));
+    rest
+}
+
+fn after_any(text: &[u8]) -> &[u8]
+    ensures value { result.now ≡ after_any text.now }
+    ensures within { length result.now ≤ length text.now }
+{
+    let (run, rest) = text.split_at(letters(text));
+    if run == b"any".as_slice() { after_spaces(rest) } else { text }
+}
+
+/// The number that digits write, or the greatest one that is kept.
+fn number(digits: &[u8]) -> usize
+    requires { all_ascii_digits digits.now ≡ true }
+    ensures { result ≡ kept (digits_value 10 digits.now) }
+{
+    let mut number: usize = 0;
+    for digit in digits {
+        number = number.saturating_mul(10).saturating_add(usize::from(*digit - b'0'));
+    }
+    number
+}
+
+fn column_of(line: usize, text: &[u8]) -> Option<Fixed>
+    ensures { (whole : ℕ) → line ≡ kept whole → result ≡ option_map kept_fixed (column_of whole text.now) }
+{
+    let run = digits(text);
+    if text == b"end".as_slice() {
+        Some(Fixed::LineEndOf(line))
+    } else if text.is_empty() || run < text.len() {
+        None
+    } else {
+        Some(Fixed::Character(line, number(text)))
+    }
+}
+
+fn position_of(text: &[u8]) -> Option<Fixed>
+    ensures { result ≡ option_map kept_fixed (position_of text.now) }
+{
+    let (line, rest) = text.split_at(digits(text));
+    if line.is_empty() {
+        return None;
+    }
+    match rest.split_first() {
+        Some((b'.', column)) => column_of(number(line), column),
+        _ => None,
+    }
+}
+
+/// A position or `end`.
+pub(crate) fn fixed_of(text: &[u8]) -> Option<Fixed>
+    ensures { result ≡ option_map kept_fixed (fixed_of text.now) }
+{
+    if text == b"end".as_slice() {
+        Some(Fixed::End)
+    } else {
+        position_of(text)
+    }
+}
+
+/// The unit that a run of letters is.
+fn unit_of(run: &[u8]) -> Option<Step>
+    ensures { result ≡ unit_of run.now }
+{
+    if run.is_empty() {
+        None
+    } else if b"chars".starts_with(run) || b"indices".starts_with(run) {
+        Some(Step::Characters)
+    } else if b"lines".starts_with(run) {
+        Some(Step::Lines)
+    } else {
+        None
+    }
+}
+
+/// The keyword that a run of letters is.
+fn keyword_of(run: &[u8]) -> Option<Keyword>
+    ensures { result ≡ keyword_of run.now }
+{
+    if run.len() < 5 {
+        None
+    } else if b"linestart".starts_with(run) {
+        Some(Keyword::LineStart)
+    } else if b"lineend".starts_with(run) {
+        Some(Keyword::LineEnd)
+    } else if b"wordstart".starts_with(run) {
+        Some(Keyword::WordStart)
+    } else if b"wordend".starts_with(run) {
+        Some(Keyword::WordEnd)
+    } else {
+        None
+    }
+}
+
+impl Sign {
+    fn turned(self) -> Self
+        ensures { result ≡ turned self }
+    {
+        match self {
+            Sign::Plus => Sign::Minus,
+            Sign::Minus => Sign::Plus,
+        }
+    }
+
+    fn counted(self, count: usize, step: Step) -> Modifier
+        ensures { result ≡ counted self count step }
+    {
+        match self {
+            Sign::Plus => Modifier::Forward(count, step),
+            Sign::Minus => Modifier::Back(count, step),
+        }
+    }
+}
+
+/// A unit at the front of a text, and what follows it.
+fn with_unit(sign: Sign, count: usize, text: &[u8]) -> Option<(Modifier, &[u8])>
+    ensures value { option_map (λ found. (found.0, found.1.now)) result ≡ with_unit sign count text.now }
+    ensures within { IfSome result (λ found. length found.1.now ≤ length text.now) }
+{
+    let (run, rest) = text.split_at(letters(text));
+    let step = unit_of(run)?;
+    Some((sign.counted(count, step), rest))
+}
+
+/// A keyword at the front of a text, and what follows it.
+fn with_keyword(text: &[u8]) -> Option<(Modifier, &[u8])>
+    ensures value { option_map (λ found. (found.0, found.1.now)) result ≡ with_keyword text.now }
+    ensures within { IfSome result (λ found. length found.1.now ≤ length text.now) }
+{
+    let (run, rest) = text.split_at(letters(text));
+    let keyword = keyword_of(run)?;
+    Some((Modifier::To(keyword), rest))
+}
+
+/// A number, perhaps `any`, and a unit.
+fn with_number(sign: Sign, text: &[u8]) -> Option<(Modifier, &[u8])>
+    ensures value { option_map (λ found. (found.0, found.1.now)) result ≡ option_map kept_found (with_number sign text.now) }
+    ensures within { IfSome result (λ found. length found.1.now ≤ length text.now) }
+{
+    let (run, rest) = text.split_at(digits(text));
+    if run.is_empty() {
+        return None;
+    }
+    with_unit(sign, number(run), after_any(after_spaces(rest)))
+}
+
+/// Perhaps a second sign, and what `with_number` reads.
+fn with_second_sign(sign: Sign, text: &[u8]) -> Option<(Modifier, &[u8])>
+    ensures value { option_map (λ found. (found.0, found.1.now)) result ≡ option_map kept_found (with_second_sign sign text.now) }
+    ensures within { IfSome result (λ found. length found.1.now ≤ length text.now) }
+{
+    match text.split_first() {
+        Some((b'+', rest)) => with_number(sign, rest),
+        Some((b'-', rest)) => with_number(sign.turned(), rest),
+        _ => with_number(sign, text),
+    }
+}
+
+/// The modifier at the front of a text, and what follows it.
+fn first_modifier(text: &[u8]) -> Option<(Modifier, &[u8])>
+    ensures value { option_map (λ found. (found.0, found.1.now)) result ≡ option_map kept_found (first_modifier text.now) }
+    ensures within { IfSome result (λ found. length found.1.now < length text.now) }
+{
+    let found = after_spaces(text);
+    match found.split_first() {
+        None => None,
+        Some((b'+', rest)) => with_second_sign(Sign::Plus, after_spaces(rest)),
+        Some((b'-', rest)) => with_second_sign(Sign::Minus, after_spaces(rest)),
+        Some(_) => {
+            if found.len() < text.len() {
+                with_keyword(after_any(found))
+            } else {
+                None
+            }
+        }
+    }
+}
+
+/// Whether a text is spaces alone.
+fn is_blank(text: &[u8]) -> bool
+    ensures { result ≡ (length (after_spaces text.now) == 0) }
+{
+    after_spaces(text).is_empty()
+}
+
+/// The modifiers that a text is. `BadIndex` where it isn't modifiers, and `NoMemory`.
+pub(crate) fn modifiers_of(alloc: Global, text: &[u8]) -> Result<Modifiers, Fault>
+    ensures ok { IfOk result (λ modifiers. option_map (map kept_modifier) (modifiers_of text.now) ≡ Some modifiers.items) }
+    ensures err { IfErr result (λ fault. (fault ≡ Fault.NoMemory) ⊎ ((fault ≡ Fault.BadIndex) × (modifiers_of text.now ≡ None))) }
+{
+    let mut modifiers = Modifiers::new(alloc);
+    let mut rest = text;
+    while !is_blank(rest) {
+        let (modifier, more) = match first_modifier(rest) {
+            Some(found) => found,
+            None => return Err(Fault::BadIndex),
+        };
+        modifiers.push(modifier)?;
+        rest = more;
+    }
+    Ok(modifiers)
+}
+
+/// `NAME.first` or `NAME.last`.
+fn tag_of(text: &[u8]) -> Option<Tag>
+    ensures value { result ≡ tag_of text.now }
+    ensures after { IfSome result (λ tag. tag_after tag ≡ length text.now) }
+{
+    let side = if text.ends_with(Side::First.text()) {
+        Side::First
+    } else if text.ends_with(Side::Last.text()) {
+        Side::Last
+    } else {
+        return None;
+    };
+    let name = text.len() - side.text().len();
+    Some(Tag { name, side })
+}
+
+impl Side {
+    fn text(self) -> &'static [u8]
+        ensures { result.now ≡ side_text self }
+    {
+        match self {
+            Side::First => b".first",
+            Side::Last => b".last",
+        }
+    }
+}
+
+impl Tag {
+    /// Where the modifiers begin.
+    pub(crate) fn end(self) -> usize
+        requires { tag_after self < 2 ^ 64 }
+        ensures { result ≡ tag_after self }
+    {
+        self.name + self.side.text().len()
+    }
+}
+
+/// Whether a base may end before a text.
+fn may_end(text: &[u8]) -> bool
+    ensures { result ≡ may_end text.now }
+{
+    match text.first() {
+        Some(byte) => is_separator(*byte),
+        None => true,
+    }
+}
+
+/// The end of a tag that a front of a word is, if a base may end there.
+fn tag_at(word: &[u8], end: usize) -> Option<Tag>
+    requires { end ≤ length word.now }
+    ensures value { result ≡ (if may_end (drop end word.now) then tag_of (take end word.now) else None) }
+    ensures after { IfSome result (λ tag. tag_after tag ≡ end) }
+{
+    let (front, rest) = word.split_at(end);
+    if may_end(rest) { tag_of(front) } else { None }
+}
+
+/// The longest front of a word that may be the end of a tag.
+pub(crate) fn longest_tag(word: &[u8]) -> Option<Tag>
+    ensures value { result ≡ longest_named word.now (length word.now) }
+    ensures within { IfSome result (λ tag. tag_after tag ≤ length word.now) }
+{
+    let mut end = word.len();
+    while end > 0 {
+        match tag_at(word, end) {
+            Some(tag) => return Some(tag),
+            None => end -= 1,
+        }
+    }
+    None
+}

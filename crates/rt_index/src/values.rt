@@ -1,0 +1,179 @@
+// The places that bases give and modifiers make.
+ghost use Rattle.std.specs.Prelude.{◌≡◌, ◌+◌, ◌<◌, ◌≤◌, IsTrue, length};
+ghost use Rattle.rt_stamps.specs.Places.{newlines, line_end};
+ghost use Rattle.rt_index.specs.Characters.{is_word_character};
+ghost use Rattle.rt_index.specs.Values.{character_place, line_end_place, lines_forward, lines_back, word_start, word_end, keyword_place, moved, all_moved};
+
+use crate::Ground;
+use crate::parts::{Keyword, Modifier, Step};
+use unicode::properties::{GeneralCategory, is_alphabetic};
+
+/// The category Nd of characters.
+const DECIMAL_DIGIT: GeneralCategory = GeneralCategory::DecimalNumber;
+
+/// Whether words run through a character: a letter, a digit or an underscore.
+fn is_word_character(c: char) -> bool
+    ensures { result ≡ is_word_character c }
+{
+    is_alphabetic(c) || GeneralCategory::for_char(c) == DECIMAL_DIGIT || c == '_'
+}
+
+/// The place of the newline that ends a line.
+fn line_end<G: Ground>(ground: &G, line: usize) -> usize
+    requires first { 1 ≤ line }
+    requires last { line ≤ newlines (G.widget ground.now).text }
+    ensures { result ≡ line_end (G.widget ground.now).text line }
+{
+    if line < ground.lines() {
+        ground.line_start(line + 1) - 1
+    } else {
+        ground.len() - 1
+    }
+}
+
+/// The place of `LINE.CHARACTER`.
+pub(crate) fn character_place<G: Ground>(ground: &G, line: usize, character: usize) -> usize
+    ensures value { result ≡ character_place (G.widget ground.now).text line character }
+    ensures within { result ≤ length (G.widget ground.now).text }
+{
+    if line == 0 {
+        0
+    } else if line <= ground.lines() {
+        let place = ground.line_start(line).saturating_add(character);
+        place.min(line_end(ground, line))
+    } else {
+        ground.len()
+    }
+}
+
+/// The place of `LINE.end`.
+pub(crate) fn line_end_place<G: Ground>(ground: &G, line: usize) -> usize
+    ensures value { result ≡ line_end_place (G.widget ground.now).text line }
+    ensures within { result ≤ length (G.widget ground.now).text }
+{
+    if line == 0 {
+        0
+    } else if line <= ground.lines() {
+        line_end(ground, line)
+    } else {
+        ground.len()
+    }
+}
+
+/// The same character of a line further on, or its newline.
+fn lines_forward<G: Ground>(ground: &G, place: usize, count: usize) -> usize
+    requires { place ≤ length (G.widget ground.now).text }
+    ensures value { result ≡ lines_forward (G.widget ground.now).text place count }
+    ensures within { result ≤ length (G.widget ground.now).text }
+{
+    if place == ground.len() {
+        return place;
+    }
+    let line = ground.line_of(place);
+    let character = place - ground.line_start(line);
+    let line = line.saturating_add(count).min(ground.lines());
+    character_place(ground, line, character)
+}
+
+/// The same character of a line further back, or its newline.
+fn lines_back<G: Ground>(ground: &G, place: usize, count: usize) -> usize
+    requires { place ≤ length (G.widget ground.now).text }
+    ensures value { result ≡ lines_back (G.widget ground.now).text place count }
+    ensures within { result ≤ length (G.widget ground.now).text }
+{
+    if place < ground.len() {
+        let line = ground.line_of(place);
+        let character = place - ground.line_start(line);
+        character_place(ground, line.saturating_sub(count).max(1), character)
+    } else if count == 0 {
+        place
+    } else {
+        ground.line_start((ground.lines() + 1).saturating_sub(count).max(1))
+    }
+}
+
+/// The first character of the word that holds a place.
+fn word_start<G: Ground>(ground: &G, place: usize) -> usize
+    requires { place < length (G.widget ground.now).text }
+    ensures value { result ≡ word_start (G.widget ground.now).text place }
+    ensures within { result ≤ place }
+{
+    if !is_word_character(ground.char_at(place)) {
+        return place;
+    }
+    let mut start = place;
+    while start > 0 && is_word_character(ground.char_at(start - 1)) {
+        start -= 1;
+    }
+    start
+}
+
+/// The place after the last character of the word that holds a place.
+fn word_end<G: Ground>(ground: &G, place: usize) -> usize
+    requires { place < length (G.widget ground.now).text }
+    ensures value { result ≡ word_end (G.widget ground.now).text place }
+    ensures within { result ≤ length (G.widget ground.now).text }
+{
+    if !is_word_character(ground.char_at(place)) {
+        return place + 1;
+    }
+    let mut end = place + 1;
+    while end < ground.len() && is_word_character(ground.char_at(end)) {
+        end += 1;
+    }
+    end
+}
+
+/// A keyword, at the place of a character.
+fn keyword_place<G: Ground>(ground: &G, place: usize, keyword: Keyword) -> usize
+    requires { place < length (G.widget ground.now).text }
+    ensures value { result ≡ keyword_place (G.widget ground.now).text place keyword }
+    ensures within { result ≤ length (G.widget ground.now).text }
+{
+    match keyword {
+        Keyword::LineStart => ground.line_start(ground.line_of(place)),
+        Keyword::LineEnd => line_end(ground, ground.line_of(place)),
+        Keyword::WordStart => word_start(ground, place),
+        Keyword::WordEnd => {
+            if place + 1 < ground.len() {
+                word_end(ground, place)
+            } else {
+                place
+            }
+        }
+    }
+}
+
+/// What a modifier makes of a place.
+fn moved<G: Ground>(ground: &G, place: usize, modifier: Modifier) -> usize
+    requires { place ≤ length (G.widget ground.now).text }
+    ensures value { result ≡ moved (G.widget ground.now).text place modifier }
+    ensures within { result ≤ length (G.widget ground.now).text }
+{
+    match modifier {
+        Modifier::Forward(count, Step::Characters) => place.saturating_add(count).min(ground.len()),
+        Modifier::Back(count, Step::Characters) => place.saturating_sub(count),
+        Modifier::Forward(count, Step::Lines) => lines_forward(ground, place, count),
+        Modifier::Back(count, Step::Lines) => lines_back(ground, place, count),
+        Modifier::To(keyword) => {
+            if place < ground.len() {
+                keyword_place(ground, place, keyword)
+            } else {
+                place
+            }
+        }
+    }
+}
+
+/// What modifiers make of a place, one after another.
+pub(crate) fn all_moved<G: Ground>(ground: &G, place: usize, modifiers: &[Modifier]) -> usize
+    requires { place ≤ length (G.widget ground.now).text }
+    ensures value { result ≡ all_moved (G.widget ground.now).text place modifiers.now }
+    ensures within { result ≤ length (G.widget ground.now).text }
+{
+    let mut reached = place;
+    for modifier in modifiers {
+        reached = moved(ground, reached, *modifier);
+    }
+    reached
+}

@@ -1,0 +1,35 @@
+// Laws of the definitions, each the contract of a function that does nothing.
+ghost use Rattle.std.specs.Prelude.{◌≡◌, ℕ, ◌+◌, ◌-◌, ◌≤◌, List, None, Some, option_map, if◌then◌else◌};
+ghost use Rattle.std.specs.Str.{bytes_eq};
+ghost use Rattle.rt_marks.specs.declared.gravity.Gravity.{Gravity};
+ghost use Rattle.rt_marks.specs.Marks.{AreInOrder, Each, HaveOwnNames, Mark, gravity_or_right, in_order, mark_inserted, mark_removed, marks_inserted, marks_removed, marks_set, marks_with_gravity, named, without};
+
+/// Marks put in order are in order, and are the same marks; marks that are in order stay as they are.
+pub fn order_of_marks()
+    ensures ordered { (marks : List Mark) → HaveOwnNames marks → AreInOrder (in_order marks) }
+    ensures found { (name : List ℕ) (marks : List Mark) → HaveOwnNames marks → named name (in_order marks) ≡ named name marks }
+    ensures unchanged { (marks : List Mark) → AreInOrder marks → in_order marks ≡ marks }
+{}
+
+/// Text that is inserted leaves marks in order. The marks of its gap part by their gravity, the left
+/// ones before the text and the right ones behind it, which is why left gravity comes first.
+pub fn order_after_insertion()
+    ensures { (place n : ℕ) (marks : List Mark) → AreInOrder marks → AreInOrder (marks_inserted place n marks) }
+{}
+
+/// What a name finds after each edit.
+pub fn look_ups()
+    ensures after_set { (q name : List ℕ) (place : ℕ) (marks : List Mark) → named q (marks_set name place marks) ≡ (if bytes_eq name q then Some (record { name = name; place = place; gravity = gravity_or_right name marks }) else named q marks) }
+    ensures after_unset { (q name : List ℕ) (marks : List Mark) → named q (without name marks) ≡ (if bytes_eq name q then None else named q marks) }
+    ensures after_insertion { (q : List ℕ) (place n : ℕ) (marks : List Mark) → named q (marks_inserted place n marks) ≡ option_map (mark_inserted place n) (named q marks) }
+    ensures after_removal { (q : List ℕ) (place n : ℕ) (marks : List Mark) → HaveOwnNames marks → named q (marks_removed place n marks) ≡ option_map (mark_removed place n) (named q marks) }
+{}
+
+/// Marks within a text of some size are within it after each edit.
+pub fn marks_within_the_text()
+    ensures after_set { (name : List ℕ) (place size : ℕ) (marks : List Mark) → place ≤ size → Each (λ m. m.place ≤ size) marks → Each (λ m. m.place ≤ size) (marks_set name place marks) }
+    ensures after_unset { (name : List ℕ) (size : ℕ) (marks : List Mark) → Each (λ m. m.place ≤ size) marks → Each (λ m. m.place ≤ size) (without name marks) }
+    ensures after_gravity { (name : List ℕ) (gravity : Gravity) (size : ℕ) (marks : List Mark) → Each (λ m. m.place ≤ size) marks → Each (λ m. m.place ≤ size) (marks_with_gravity name gravity marks) }
+    ensures after_insertion { (place n size : ℕ) (marks : List Mark) → Each (λ m. m.place ≤ size) marks → Each (λ m. m.place ≤ size + n) (marks_inserted place n marks) }
+    ensures after_removal { (place n size : ℕ) (marks : List Mark) → place + n ≤ size → Each (λ m. m.place ≤ size) marks → Each (λ m. m.place ≤ size - n) (marks_removed place n marks) }
+{}

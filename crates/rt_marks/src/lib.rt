@@ -1,0 +1,13 @@
+//! The marks of a site: names in the gaps of its text, each with a gravity (Tk text manual, "The
+//! marks"). The definitions stand in `specs/Marks.antt`.
+#![tactic(auto)]
+
+pub mod gravity;
+pub mod laws;
+mod mark;
+pub mod marks;
+#[cfg(test)]
+mod tests;
+
+pub use gravity::Gravity;
+pub use marks::Marks;

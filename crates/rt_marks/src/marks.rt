@@ -1,0 +1,198 @@
+// The marks of a site.
+ghost use Rattle.std.specs.Prelude.{◌≡◌, ◌+◌, ◌≤◌, ◌⊎◌, ◌↔◌, [], List, ℕ, IsSome, OnOk, OnErr, IfOk, IfErr, Ok, Err, None, Some, is_some, option_map, option_copied, string_bytes, map, Contains, if◌then◌else◌};
+ghost use Rattle.rt_marks.specs.Marks.{AreAscending, AreInOrder, Each, HaveOwnNames, IsName, first_mark_at, last_mark_before, mark_after, mark_before, marks_inserted, marks_removed, marks_set, marks_with_gravity, named, without};
+
+use crate::Gravity;
+use crate::mark::{self, Mark};
+use rt_stamps::Fault;
+use rt_stamps::limits::MOST_NAME_BYTES;
+use std::alloc::Global;
+use std::marker::Model;
+
+/// The marks of a site, each with a name of its own, a place and a gravity. A place is the number of
+/// characters before the mark. Contracts see the list of the marks in order: by place, then left
+/// gravity first, then by the bytes of the names.
+///
+/// They are kept by their names. A look-up by name is a binary search; `next`, `previous`,
+/// `first_at` and `last_before` read each mark once and take no memory.
+#[derive(Drop)]
+pub struct Marks {
+    alloc: Global,
+    by_name: Vec<Mark>,
+}
+
+impl Model for Marks {
+    ghost use Rattle.std.specs.Prelude.{List};
+    ghost use Rattle.rt_marks.specs.Marks.{Mark, AreAscending, in_order};
+    ghost use Rattle.rt_marks.specs.Seen.{names_of, seen_all};
+
+    ghost Value = { List Mark };
+
+    ghost view = { λ m. in_order (seen_all m.by_name.items) };
+
+    ghost invariant = { λ m. AreAscending (names_of (seen_all m.by_name.items)) };
+}
+
+impl Marks {
+    /// No marks.
+    pub fn new(alloc: Global) -> Marks
+        ensures { result ≡ [] }
+    {
+        Marks {
+            alloc,
+            by_name: Vec::new(alloc),
+        }
+    }
+
+    /// Marks are in order, and each has a name of its own.
+    pub fn order(&self)
+        ensures in_order { AreInOrder self.now }
+        ensures own_names { HaveOwnNames self.now }
+    {
+        let _ = &self.by_name;
+    }
+
+    /// Sets a mark at a place ("mark set"). One that is there keeps its gravity, and takes no memory;
+    /// a new one has right gravity. `BadName` for a name that is empty or longer than
+    /// `MOST_NAME_BYTES` bytes, and else `NoMemory` for a new name alone. After a fault the marks are
+    /// as they were.
+    pub fn set(&mut self, name: &str, place: usize) -> Result<(), Fault>
+        ensures ok { OnOk result (self.new ≡ marks_set name.now place self.old) }
+        ensures err { OnErr result (self.new ≡ self.old) }
+        ensures bad_name { (result ≡ Err Fault.BadName) ↔ (IsName name.now → ⊥) }
+        ensures memory { result ≡ Err Fault.NoMemory → named name.now self.old ≡ None }
+        ensures fault { IfErr result (λ fault. (fault ≡ Fault.BadName) ⊎ (fault ≡ Fault.NoMemory)) }
+    {
+        if name.is_empty() || name.len() > MOST_NAME_BYTES {
+            return Err(Fault::BadName);
+        }
+        match mark::search(self.by_name.as_slice(), name) {
+            Ok(found) => {
+                let mark = &mut self.by_name[found];
+                mark.place = place;
+            }
+            Err(gap) => {
+                let name = String::from_str(self.alloc, name)?;
+                let gravity = Gravity::Right;
+                self.by_name.insert(
+                    gap,
+                    Mark {
+                        place,
+                        gravity,
+                        name,
+                    },
+                )?;
+            }
+        }
+        Ok(())
+    }
+
+    /// Takes a mark away ("mark unset"). Without a mark of the name nothing changes.
+    pub fn unset(&mut self, name: &str)
+        ensures { self.new ≡ without name.now self.old }
+    {
+        match mark::search(self.by_name.as_slice(), name) {
+            Ok(found) => {
+                self.by_name.remove(found);
+            }
+            Err(_) => {}
+        }
+    }
+
+    /// The place of a mark, none without a mark of the name.
+    pub fn place(&self, name: &str) -> Option<usize>
+        ensures { result ≡ option_map (λ m. m.place) (named name.now self.now) }
+    {
+        let mark = mark::find(self.by_name.as_slice(), name)?;
+        Some(mark.place)
+    }
+
+    /// The gravity of a mark, none without a mark of the name.
+    pub fn gravity(&self, name: &str) -> Option<Gravity>
+        ensures { result ≡ option_map (λ m. m.gravity) (named name.now self.now) }
+    {
+        let mark = mark::find(self.by_name.as_slice(), name)?;
+        Some(mark.gravity)
+    }
+
+    /// Gives a mark a gravity ("mark gravity"). `NoMark` just where no mark has the name.
+    pub fn set_gravity(&mut self, name: &str, gravity: Gravity) -> Result<(), Fault>
+        ensures marks { self.new ≡ marks_with_gravity name.now gravity self.old }
+        ensures answer { result ≡ (if is_some (named name.now self.old) then Ok tt else Err Fault.NoMark) }
+    {
+        match mark::search(self.by_name.as_slice(), name) {
+            Ok(found) => {
+                let mark = &mut self.by_name[found];
+                mark.gravity = gravity;
+                Ok(())
+            }
+            Err(_) => Err(Fault::NoMark),
+        }
+    }
+
+    /// The name of the mark after a mark in their order, none after the last one and without a mark
+    /// of the name ("mark next").
+    pub fn next(&self, name: &str) -> Option<&str>
+        ensures { option_copied result ≡ option_map (λ m. m.name) (mark_after name.now self.now) }
+    {
+        let here = mark::find(self.by_name.as_slice(), name)?;
+        mark::first_after(self.by_name.as_slice(), here).map(|mark| mark.name.as_str())
+    }
+
+    /// The name of the mark before a mark in their order, none before the first one and without a
+    /// mark of the name ("mark previous").
+    pub fn previous(&self, name: &str) -> Option<&str>
+        ensures { option_copied result ≡ option_map (λ m. m.name) (mark_before name.now self.now) }
+    {
+        let here = mark::find(self.by_name.as_slice(), name)?;
+        mark::last_until(self.by_name.as_slice(), here).map(|mark| mark.name.as_str())
+    }
+
+    /// The name of the first mark at or after a place, in the order of marks.
+    pub fn first_at(&self, place: usize) -> Option<&str>
+        ensures { option_copied result ≡ option_map (λ m. m.name) (first_mark_at place self.now) }
+    {
+        mark::first_at(self.by_name.as_slice(), place).map(|mark| mark.name.as_str())
+    }
+
+    /// The name of the last mark strictly before a place, in the order of marks.
+    pub fn last_before(&self, place: usize) -> Option<&str>
+        ensures { option_copied result ≡ option_map (λ m. m.name) (last_mark_before place self.now) }
+    {
+        mark::last_before(self.by_name.as_slice(), place).map(|mark| mark.name.as_str())
+    }
+
+    /// All names, by their bytes. `NoMemory` is its only fault.
+    pub fn names(&self) -> Result<Vec<String>, Fault>
+        ensures by_bytes { IfOk result (λ v. AreAscending (map (λ s. string_bytes s) v.items)) }
+        ensures all { IfOk result (λ v. (name : List ℕ) → Contains (map (λ s. string_bytes s) v.items) name ↔ IsSome (named name self.now)) }
+        ensures fault { IfErr result (λ fault. fault ≡ Fault.NoMemory) }
+    {
+        let mut names = Vec::with_capacity(self.alloc, self.by_name.len())?;
+        for mark in &self.by_name {
+            names.push(mark.name.clone()?)?;
+        }
+        Ok(names)
+    }
+
+    /// Moves the marks for `n` characters that were inserted at a place. Marks behind the place move
+    /// on, and of those at the place the ones of right gravity (Tk text manual, "mark gravity").
+    pub fn inserted(&mut self, place: usize, n: usize)
+        requires fits { Each (λ m. m.place + n ≤ usize.MAX) self.old }
+        ensures { self.new ≡ marks_inserted place n self.old }
+    {
+        for mark in self.by_name.iter_mut() {
+            mark.place = mark.place_after_insertion(place, n);
+        }
+    }
+
+    /// Moves the marks for the `n` characters from a place on that were removed: those within or just
+    /// behind them come to stand at the place, and those further behind move back.
+    pub fn removed(&mut self, place: usize, n: usize)
+        ensures { self.new ≡ marks_removed place n self.old }
+    {
+        for mark in self.by_name.iter_mut() {
+            mark.place = mark.place_after_removal(place, n);
+        }
+    }
+}

@@ -1,0 +1,116 @@
+use crate::{Gravity, Marks};
+use rt_stamps::Fault;
+use std::test::Fail;
+
+// Of two marks at a place text goes between them, after the left one and before the right one.
+#[test]
+fn gravity_decides(rt: HostRuntime) -> Result<(), Fail> {
+    let mut marks = Marks::new(rt.alloc());
+    marks.set("l", 1)?;
+    marks.set("r", 1)?;
+    marks.set_gravity("l", Gravity::Left)?;
+    marks.inserted(1, 2);
+    assert_eq!(rt; marks.place("l"), Some(1));
+    assert_eq!(rt; marks.place("r"), Some(3));
+    marks.removed(0, 2);
+    assert_eq!(rt; marks.place("l"), Some(0));
+    assert_eq!(rt; marks.place("r"), Some(1));
+    Ok(())
+}
+
+const IN_ORDER: [&str; 6] = ["m", "a", "z", "aa", "b", "c"];
+
+// By place, then left gravity first, then by name.
+#[test]
+fn order_by_place_gravity_and_name(rt: HostRuntime) -> Result<(), Fail> {
+    let mut marks = Marks::new(rt.alloc());
+    marks.set("c", 7)?;
+    marks.set("b", 3)?;
+    marks.set("aa", 3)?;
+    marks.set("z", 3)?;
+    marks.set("a", 3)?;
+    marks.set("m", 0)?;
+    marks.set_gravity("z", Gravity::Left)?;
+    marks.set_gravity("a", Gravity::Left)?;
+    for i in 1..IN_ORDER.len() {
+        assert_eq!(rt; marks.next(IN_ORDER[i - 1]), Some(IN_ORDER[i]));
+        assert_eq!(rt; marks.previous(IN_ORDER[i]), Some(IN_ORDER[i - 1]));
+    }
+    assert_eq!(rt; marks.previous("m"), None);
+    assert_eq!(rt; marks.next("c"), None);
+    assert_eq!(rt; marks.first_at(0), Some("m"));
+    assert_eq!(rt; marks.last_before(8), Some("c"));
+    assert_eq!(rt; marks.first_at(1), Some("a"));
+    assert_eq!(rt; marks.last_before(3), Some("m"));
+    assert_eq!(rt; marks.next("q"), None);
+    Ok(())
+}
+
+// A removal brings the marks of several gaps into one, where gravity and name decide.
+#[test]
+fn gaps_become_one(rt: HostRuntime) -> Result<(), Fail> {
+    let mut marks = Marks::new(rt.alloc());
+    marks.set("first", 2)?;
+    marks.set("second", 4)?;
+    marks.set("third", 5)?;
+    marks.set("behind", 9)?;
+    marks.set_gravity("third", Gravity::Left)?;
+    marks.removed(2, 3);
+    assert_eq!(rt; marks.first_at(0), Some("third"));
+    assert_eq!(rt; marks.next("third"), Some("first"));
+    assert_eq!(rt; marks.next("first"), Some("second"));
+    assert_eq!(rt; marks.place("second"), Some(2));
+    assert_eq!(rt; marks.place("behind"), Some(6));
+    Ok(())
+}
+
+// A hundred marks in one gap, every other one with left gravity.
+#[test]
+fn a_hundred_marks_in_one_gap(rt: HostRuntime) -> Result<(), Fail> {
+    let mut marks = Marks::new(rt.alloc());
+    for i in 0..100u8 {
+        let name = format!(in rt.alloc(); "m{i:02}")?;
+        let gravity = if i % 2 == 0 {
+            Gravity::Left
+        } else {
+            Gravity::Right
+        };
+        marks.set(name.as_str(), 5)?;
+        marks.set_gravity(name.as_str(), gravity)?;
+    }
+    marks.inserted(5, 3);
+    for i in 0..100u8 {
+        let name = format!(in rt.alloc(); "m{i:02}")?;
+        let place = if i % 2 == 0 { 5 } else { 8 };
+        assert_eq!(rt; marks.place(name.as_str()), Some(place));
+    }
+    assert_eq!(rt; marks.next("m98"), Some("m01"));
+    marks.removed(5, 3);
+    assert_eq!(rt; marks.place("m01"), Some(5));
+    assert_eq!(rt; marks.names()?.len(), 100);
+    Ok(())
+}
+
+#[test]
+fn names_and_faults(rt: HostRuntime) -> Result<(), Fail> {
+    let mut marks = Marks::new(rt.alloc());
+    let long = [b'n'; 256];
+    let too_long = std::str::from_utf8(&long)?;
+    let longest = std::str::from_utf8(&long[..255])?;
+    assert_eq!(rt; marks.set("", 0), Err(Fault::BadName));
+    assert_eq!(rt; marks.set(too_long, 0), Err(Fault::BadName));
+    assert_eq!(rt; marks.set(longest, 0), Ok(()));
+    marks.unset(longest);
+    marks.unset("unknown");
+    assert_eq!(rt; marks.set_gravity("q", Gravity::Left), Err(Fault::NoMark));
+    assert_eq!(rt; marks.set("q", 1), Ok(()));
+    assert_eq!(rt; marks.gravity("q"), Some(Gravity::Right));
+    assert_eq!(rt; marks.set_gravity("q", Gravity::Left), Ok(()));
+    assert_eq!(rt; marks.set("q", 2), Ok(()));
+    assert_eq!(rt; marks.gravity("q"), Some(Gravity::Left));
+    assert_eq!(rt; marks.set("Q", 2), Ok(()));
+    let names = marks.names()?;
+    let listed = names.iter().map(|name| name.as_str());
+    assert!(rt; listed.eq(["Q", "q"].iter().copied()));
+    Ok(())
+}
