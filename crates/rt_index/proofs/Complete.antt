@@ -17,7 +17,8 @@ use Rattle.rt_index.specs.declared.parts.Fixed.TheVariants.{Character, LineEndOf
 use Rattle.rt_index.specs.Grammar.{IsNumber, IsFixed}
 use Rattle.rt_index.specs.Reading.{is_separator, token_length, fixed_of, position_of, after_line, column_of, modifiers_of}
 use Rattle.rt_index.specs.Index.{moved_from, index_of, fixed_place}
-use Rattle.rt_index.specs.Printed.{printed}
+use Rattle.rt_stamps.specs.declared.position.Position.{Position}
+use Rattle.rt_stamps.specs.Places.{text_of_position}
 use Rattle.rt_index.specs.Widget.{Widget, IsProper, EndsWithNewline}
 use Rattle.rt_index.proofs.Digits.{own}
 use Rattle.rt_index.proofs.Places.{split, newlines_few, line_within, start_before, end_after, lines_some}
@@ -53,7 +54,7 @@ not_end t n e h = by (bytes_eq t (codes "end")) refl
 column_number : (line : ℕ) (c : List ℕ) → IsNumber c → column_of line c ≡ Some (Character line (digits_value 10 c))
 column_number line c h =
     let all : prefix_len is_ascii_digit c ≡ length c =
-        ap (prefix_len is_ascii_digit) (sym (append-nil c)) ∙ prefix_of is_ascii_digit c [] (digits_all c h.1) refl in
+    ap (prefix_len is_ascii_digit) (sym (append-nil c)) ∙ prefix_of is_ascii_digit c [] (digits_all c h.1) refl in
     let a = not_end c (length c) all h.0 in
     let b = some_not_zero (length c) h.0 in
     let d : nat_lt (prefix_len is_ascii_digit c) (length c) ≡ false = ap (λ n. nat_lt n (length c)) all ∙ same (length c) in
@@ -61,6 +62,7 @@ column_number line c h =
   where
     same : (n : ℕ) → nat_lt n n ≡ false
     same n = grind (arith, nat_tests)
+
     by : (a b d : Bool) → a ≡ false → b ≡ false → d ≡ false
         → cond a (Some (LineEndOf line)) (cond (b || d) None (Some (Character line (digits_value 10 c)))) ≡ Some (Character line (digits_value 10 c))
     by false false false a b d = refl
@@ -77,8 +79,8 @@ position_complete l rest h =
     let Q : ℕ → Type 0 = λ k. cond (k == 0) None (after_line (digits_value 10 (take k t)) (drop k t)) ≡ column_of (digits_value 10 l) rest in
     let R : Bool → Type 0 = λ b. cond b None (after_line (digits_value 10 (take (length l) t)) (drop (length l) t)) ≡ column_of (digits_value 10 l) rest in
     let last : after_line (digits_value 10 (take (length l) t)) (drop (length l) t) ≡ column_of (digits_value 10 l) rest =
-        ap (λ x. after_line (digits_value 10 x) (drop (length l) t)) (take-append_seam l (46 ∷ rest))
-        ∙ ap (after_line (digits_value 10 l)) (drop-append_seam l (46 ∷ rest)) in
+    ap (λ x. after_line (digits_value 10 x) (drop (length l) t)) (take-append_seam l (46 ∷ rest))
+    ∙ ap (after_line (digits_value 10 l)) (drop-append_seam l (46 ∷ rest)) in
     subst P (sym (not_end t (length l) n h.0)) (subst Q (sym n) (subst R (sym (some_not_zero (length l) h.0)) last))
 
 pub fixed_complete : (text : List ℕ) (fixed : Fixed) → IsFixed text fixed → fixed_of text ≡ Some fixed
@@ -98,12 +100,16 @@ place_back t p ends h = by (nat_lt p (length t)) refl
   where
     lt_true : (a b : ℕ) → nat_lt a b ≡ true → a < b
     lt_true a b h = grind (arith, nat_tests)
+
     lt_false : (a b : ℕ) → nat_lt a b ≡ false → b ≤ a
     lt_false a b h = grind (arith, nat_tests)
+
     le_is : (a b : ℕ) → a ≤ b → nat_le a b ≡ true
     le_is a b h = grind (arith, nat_tests)
+
     le_not : (a b : ℕ) → b < a → nat_le a b ≡ false
     le_not a b h = grind (arith, nat_tests)
+
     by : (b : Bool) → nat_lt p (length t) ≡ b → place_at t (position_at t p) ≡ p
     by true e =
         let l = lt_true p (length t) e in
@@ -142,18 +148,21 @@ is_decimal n h = ((decimal_is_IsNumeral n h).0.0, own.from (decimal n) (decimal_
 pub printed_fixed : (line c : ℕ) → line < 2 ^ 64 → c < 2 ^ 64 → fixed_of (decimal line ++ codes "." ++ decimal c) ≡ Some (Character line c)
 printed_fixed line c h k =
     fixed_complete (decimal line ++ codes "." ++ decimal c) (Character line c)
-      (decimal line, decimal c, is_decimal line h, is_decimal c k, refl, sym (decimal_is_IsNumeral line h).1, sym (decimal_is_IsNumeral c k).1)
+    (decimal line, decimal c, is_decimal line h, is_decimal c k, refl, sym (decimal_is_IsNumeral line h).1, sym (decimal_is_IsNumeral c k).1)
 
 pub printed_token : (line c : ℕ) → line < 2 ^ 64 → c < 2 ^ 64 → token_length (decimal line ++ codes "." ++ decimal c) ≡ length (decimal line ++ codes "." ++ decimal c)
 printed_token line c h k =
     let p : ℕ → Bool = λ c. not (is_separator c) in
     let front : list_all p (decimal line ++ codes ".") ≡ true =
-        list_all-append p (decimal line) (codes ".") ∙ both (list_all p (decimal line)) (list_all p (codes ".")) (digits_in_token (decimal line) (is_decimal line h).1) refl in
+    list_all-append p (decimal line) (codes ".") ∙ both (list_all p (decimal line)) (list_all p (codes ".")) (digits_in_token (decimal line) (is_decimal line h).1) refl in
     no_separator (decimal line ++ codes "." ++ decimal c)
-      (list_all-append p (decimal line ++ codes ".") (decimal c)
-        ∙ both (list_all p (decimal line ++ codes ".")) (list_all p (decimal c)) front (digits_in_token (decimal c) (is_decimal c k).1))
+    (list_all-append p (decimal line ++ codes ".") (decimal c)
+    ∙ both (list_all p (decimal line ++ codes ".")) (list_all p (decimal c)) front (digits_in_token (decimal c) (is_decimal c k).1))
 
-pub printed_index : (w : Widget) (place : ℕ) → IsProper w → place ≤ length w.text → index_of w (printed (position_at w.text place)) ≡ Ok place
+abbrev printed : Position → List ℕ
+printed p = decimal p.line ++ codes "." ++ decimal p.character
+
+printed_index : (w : Widget) (place : ℕ) → IsProper w → place ≤ length w.text → index_of w (printed (position_at w.text place)) ≡ Ok place
 printed_index w place proper h =
     let p = position_at w.text place in
     let word = printed p in
@@ -168,3 +177,10 @@ printed_index w place proper h =
     fixed_same w word (Character p.line p.character) (ap fixed_of whole ∙ printed_fixed p.line p.character line c)
     ∙ ap (λ r. moved_from w.text (Ok (fixed_place w.text (Character p.line p.character))) (modifiers_of r)) rest
     ∙ ap Ok (place_back w.text place proper.newline h)
+
+-- a position as it is written names its place
+pub written_index : (w : Widget) (place : ℕ) → IsProper w → place ≤ length w.text → index_of w (text_of_position (position_at w.text place)) ≡ Ok place
+written_index w place proper h =
+    let p = position_at w.text place in
+    let same : text_of_position p ≡ printed p = sym (append_assoc (decimal p.line) (codes ".") (decimal p.character)) in
+    ap (index_of w) same ∙ printed_index w place proper h

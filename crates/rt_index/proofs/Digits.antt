@@ -23,8 +23,8 @@ pub digits_front : (t : List ℕ) → all_ascii_digits (take (prefix_len is_asci
 digits_front [] = refl
 digits_front (c ∷ t) = let P : ℕ → Type 0 = λ n. all_ascii_digits (take n (c ∷ t)) ≡ true in split (is_ascii_digit c)
     (λ e.
-        let q : prefix_len is_ascii_digit (c ∷ t) ≡ suc (prefix_len is_ascii_digit t) = rw e (one-add (prefix_len is_ascii_digit t)) in
-        subst P (sym q) (rw e (digits_front t)))
+    let q : prefix_len is_ascii_digit (c ∷ t) ≡ suc (prefix_len is_ascii_digit t) = rw e (one-add (prefix_len is_ascii_digit t)) in
+    subst P (sym q) (rw e (digits_front t)))
     (λ e. let q : prefix_len is_ascii_digit (c ∷ t) ≡ 0 = rw e refl in subst P (sym q) refl)
 
 pub digits_whole : (t : List ℕ) → length t ≤ prefix_len is_ascii_digit t → all_ascii_digits t ≡ true

@@ -86,16 +86,16 @@ of_modifier : (t : List ℕ) (m : Modifier) → IsModifier t m → dotless t ≡
 of_modifier t m (inl h) =
     ap dotless h.spelled
     ∙ joined (spaces h.before) _ (of_spaces h.before)
-      (joined (sign_text h.sign) _ (of_sign h.sign)
-        (joined (spaces h.between) _ (of_spaces h.between)
-          (joined (second_text h.second) _ (of_second h.second)
-            (joined h.digits _ (of_digits h.digits h.number.1)
-              (joined (spaces h.after) _ (of_spaces h.after)
-                (joined h.any h.name (of_any h.any h.passed_over) (of_unit h.name h.step h.unit)))))))
+    (joined (sign_text h.sign) _ (of_sign h.sign)
+    (joined (spaces h.between) _ (of_spaces h.between)
+    (joined (second_text h.second) _ (of_second h.second)
+    (joined h.digits _ (of_digits h.digits h.number.1)
+    (joined (spaces h.after) _ (of_spaces h.after)
+    (joined h.any h.name (of_any h.any h.passed_over) (of_unit h.name h.step h.unit)))))))
 of_modifier t m (inr h) =
     ap dotless h.spelled
     ∙ joined (spaces (h.before + 1)) _ (of_spaces (h.before + 1))
-      (joined h.any h.name (of_any h.any h.passed_over) (of_keyword h.name h.keyword h.word))
+    (joined h.any h.name (of_any h.any h.passed_over) (of_keyword h.name h.keyword h.word))
 
 of_modifiers : (t : List ℕ) (ms : List Modifier) → AreModifiers t ms → dotless t ≡ true
 of_modifiers t [] h = ap dotless h.1 ∙ of_spaces h.0
@@ -109,7 +109,7 @@ all_at p (c ∷ t) (suc i) h l = all_at p t i (right (p c) (list_all p t) h) (om
 pub dotted : (t : List ℕ) (i : ℕ) → i < length t → get_or t i 0 ≡ 46 → modifiers_of t ≡ None
 dotted t i l d = option_cases (modifiers_of t) (λ e. e)
     (λ ms e.
-        let k = all_at not_dot t i (of_modifiers t ms (sound t ms e)) l in
-        let P : ℕ → Type 0 = λ c. not_dot c ≡ true in
-        let f = subst P d k in
-        cc)
+    let k = all_at not_dot t i (of_modifiers t ms (sound t ms e)) l in
+    let P : ℕ → Type 0 = λ c. not_dot c ≡ true in
+    let f = subst P d k in
+    cc)

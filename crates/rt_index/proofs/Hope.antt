@@ -48,7 +48,7 @@ same_number n = grind (arith, nat_tests)
 -- a mark or an end of a tag
 pub named_same : (w : Widget) (word : List ℕ) (tag : Option Tag) → fixed_of (token_of word) ≡ None → longest_named word (length word) ≡ tag
     → index_of w word ≡ moved_from w.text (base_index w word (Named (token_length word) (named_after (token_length word) tag == token_length word) tag))
-        (modifiers_of (drop (named_after (token_length word) tag) word))
+    (modifiers_of (drop (named_after (token_length word) tag) word))
 named_same w word None e t = by (w.marks (token_of word)) refl
   where
     by : (o : Option ℕ) → w.marks (token_of word) ≡ o
@@ -63,8 +63,10 @@ named_same w word (Some tag) e t = by (w.marks (token_of word)) refl
   where
     stands : Stands word tag (tag_after tag)
     stands = (found_at word (length word) tag (omega arith) t).0
+
     ends : may_end (drop (tag_after tag) word) ≡ true
     ends = (found_at word (length word) tag (omega arith) t).1
+
     marked : (place : ℕ) (b : Bool) → (tag_after tag == token_length word) ≡ b
         → moved_from w.text (Ok place) (modifiers_of (drop (token_length word) word)) ≡ moved_from w.text (cond b (Ok place) (Err BadIndex)) (modifiers_of (drop (tag_after tag) word))
     marked place true h = ap (λ n. moved_from w.text (Ok place) (modifiers_of (drop n word))) (sym (eq_of (tag_after tag) (token_length word) h))
@@ -76,6 +78,7 @@ named_same w word (Some tag) e t = by (w.marks (token_of word)) refl
       where
         not_equal : (a b : ℕ) → (a == b) ≡ false → a ≢ b
         not_equal a b h = grind (arith, nat_tests)
+
     by : (o : Option ℕ) → w.marks (token_of word) ≡ o
         → index_of w word ≡ moved_from w.text (marked_place (tag_after tag == token_length word) o (listed_place tag.side (w.tags (take tag.name word)))) (modifiers_of (drop (tag_after tag) word))
     by (Some place) m = by_marks w word (Some place) e m ∙ marked place (tag_after tag == token_length word) refl
@@ -88,12 +91,12 @@ separator_ascii c h = grind (arith, nat_tests)
 token_boundary : (word : List ℕ) → IsCharBoundary word (token_length word)
 token_boundary word = split (nat_lt (token_length word) (length word))
     (λ e.
-        let l = lt_true (token_length word) (length word) e in
-        IsCharBoundary-before_ascii word (token_length word) l
-          (separator_ascii (get_or word (token_length word) 0) (sym (may_end_at word (token_length word) l) ∙ token_ends word)))
+    let l = lt_true (token_length word) (length word) e in
+    IsCharBoundary-before_ascii word (token_length word) l
+    (separator_ascii (get_or word (token_length word) 0) (sym (may_end_at word (token_length word) l) ∙ token_ends word)))
     (λ e.
-        let q : length word ≡ token_length word = omega (arith, token_within word, at_least (token_length word) (length word) e) in
-        subst (IsCharBoundary word) q (IsCharBoundary-end word))
+    let q : length word ≡ token_length word = omega (arith, token_within word, at_least (token_length word) (length word) e) in
+    subst (IsCharBoundary word) q (IsCharBoundary-end word))
 
 name_boundary : (word : List ℕ) (tag : Tag) (n : ℕ) → Stands word tag n → IsCharBoundary word tag.name
 name_boundary word tag n s =
@@ -129,7 +132,7 @@ base_within w word (Named token fits None) proper =
     marked_within (length w.text) fits (w.marks (take token word)) (Err BadIndex) (proper.marks_within (take token word)) tt
 base_within w word (Named token fits (Some tag)) proper =
     marked_within (length w.text) fits (w.marks (take token word)) (listed_place tag.side (w.tags (take tag.name word))) (proper.marks_within (take token word))
-      (listed_within w (take tag.name word) tag.side (w.tags (take tag.name word)) proper refl)
+    (listed_within w (take tag.name word) tag.side (w.tags (take tag.name word)) proper refl)
 
 -- what is kept says what the word says
 pub parsed_fixed : (word : List ℕ) (fixed shown : Fixed) (ms items : List Modifier) → fixed_of (token_of word) ≡ Some fixed → kept_fixed fixed ≡ shown
@@ -176,6 +179,7 @@ name_true name h = both (nat_le 1 (length name)) (nat_le (length name) MOST_NAME
     both : (a b : Bool) → a ≡ true → b ≡ true → (a && b) ≡ true
     both true b h k = k
     both false b h k = cc
+
     le_from : (a b : ℕ) → a ≤ b → nat_le a b ≡ true
     le_from a b h = grind (arith, nat_tests)
 
@@ -184,6 +188,7 @@ name_from name h = by (nat_le 1 (length name)) (nat_le (length name) MOST_NAME_B
   where
     le_true : (a b : ℕ) → nat_le a b ≡ true → a ≤ b
     le_true a b h = grind (arith, nat_tests)
+
     by : (a b : Bool) → nat_le 1 (length name) ≡ a → nat_le (length name) MOST_NAME_BYTES ≡ b → (a && b) ≡ true → IsName name
     by true true ea eb h = (le_true 1 (length name) ea, le_true (length name) MOST_NAME_BYTES eb)
     by true false ea eb h = cc
@@ -239,21 +244,22 @@ hopeless_base word tag e t h = λ w proper.
         by None m = refl
         by (Some p) m =
             unfit (token_length word == token_length word) p
-              (no_fit (token_length word == token_length word) (is_name (length (token_of word))) false
-                (or_false (token_length word == token_length word && is_name (length (token_of word))) h)
-                (name_true (token_of word) (proper.mark_names (token_of word) (some_is (w.marks (token_of word)) p m))))
+            (no_fit (token_length word == token_length word) (is_name (length (token_of word))) false
+            (or_false (token_length word == token_length word && is_name (length (token_of word))) h)
+            (name_true (token_of word) (proper.mark_names (token_of word) (some_is (w.marks (token_of word)) p m))))
     nothing w proper (Some tag) t h = by (w.marks (token_of word)) (w.tags (take tag.name word)) refl refl
       where
         always : (a b : Bool) → a ≡ true → (a && not b) ≡ false → b ≡ true
         always true true k h = refl
         always true false k h = sym h
         always false b k h = cc
+
         by : (o : Option ℕ) (l : Option (Option Ends)) → w.marks (token_of word) ≡ o → w.tags (take tag.name word) ≡ l
             → marked_place (tag_after tag == token_length word) o (listed_place tag.side l) ≡ Err BadIndex
         by (Some p) l m k =
             unfit (tag_after tag == token_length word) p
-              (no_fit (tag_after tag == token_length word) (is_name (length (token_of word))) (is_name tag.name && not (is_always_mark (token_of word))) h
-                (name_true (token_of word) (proper.mark_names (token_of word) (some_is (w.marks (token_of word)) p m))))
+            (no_fit (tag_after tag == token_length word) (is_name (length (token_of word))) (is_name tag.name && not (is_always_mark (token_of word))) h
+            (name_true (token_of word) (proper.mark_names (token_of word) (some_is (w.marks (token_of word)) p m))))
         by None None m k = refl
         by None (Some ends) m k =
             let stands = (found_at word (length word) tag (omega arith) t).0 in
@@ -350,9 +356,11 @@ bytes_same name = (bytes_eq-Decides name name).1 refl
 pub hopeful_fixed : (word : List ℕ) (fixed : Fixed) (ms : List Modifier) → fixed_of (token_of word) ≡ Some fixed
     → modifiers_of (drop (token_length word) word) ≡ Some ms → IsHopeful word
 hopeful_fixed word fixed ms e m =
-    let w = sample (codes "insert") (codes "sel") in
-    (w, sample_proper (codes "insert") (codes "sel") insert_name sel_name,
-      ok_not (index_of w word) _ (fixed_same w word fixed e ∙ ap (moved_from w.text (Ok (fixed_place w.text fixed))) m))
+    let w = sample (codes "insert") (codes "sel") in (
+      w,
+      sample_proper (codes "insert") (codes "sel") insert_name sel_name,
+      ok_not (index_of w word) _ (fixed_same w word fixed e ∙ ap (moved_from w.text (Ok (fixed_place w.text fixed))) m),
+    )
 
 base_fits : (w : Widget) (word : List ℕ) (token : ℕ) (fits : Bool) (tag : Option Tag) (p : ℕ) → w.marks (take token word) ≡ Some p → fits ≡ true
     → base_index w word (Named token fits tag) ≡ Ok p
@@ -367,10 +375,12 @@ by_mark word tag ms e t m f n =
     let w = sample (token_of word) (codes "sel") in
     let fits = named_after (token_length word) tag == token_length word in
     let marked : w.marks (token_of word) ≡ Some 0 = ap (λ b. at_start (b || is_always_mark (token_of word))) (bytes_same (token_of word)) in
-    let base = base_index w word (Named (token_length word) fits tag) in
-    (w, sample_proper (token_of word) (codes "sel") (name_from (token_of word) n) sel_name,
+    let base = base_index w word (Named (token_length word) fits tag) in (
+      w,
+      sample_proper (token_of word) (codes "sel") (name_from (token_of word) n) sel_name,
       ok_not (index_of w word) _
-        (named_same w word tag e t ∙ ap (moved_from w.text base) m ∙ ap (λ b. moved_from w.text b (Some ms)) (base_fits w word (token_length word) fits tag 0 marked f)))
+          (named_same w word tag e t ∙ ap (moved_from w.text base) m ∙ ap (λ b. moved_from w.text b (Some ms)) (base_fits w word (token_length word) fits tag 0 marked f)),
+    )
 
 by_tag : (word : List ℕ) (tag : Tag) (ms : List Modifier) → fixed_of (token_of word) ≡ None → longest_named word (length word) ≡ Some tag
     → modifiers_of (drop (tag_after tag) word) ≡ Some ms → is_name tag.name ≡ true → is_always_mark (token_of word) ≡ false → IsHopeful word
@@ -384,10 +394,12 @@ by_tag word tag ms e t m n a =
     let listed : w.tags name ≡ Some None = ap (λ b. untagged (b || bytes_eq name (codes "sel"))) (bytes_same name) in
     let base = base_index w word (Named (token_length word) fits (Some tag)) in
     let none : base ≡ Err NoneTagged =
-        ap (λ o. marked_place fits o (listed_place tag.side (w.tags name))) unmarked ∙ ap (listed_place tag.side) listed in
-    (w, sample_proper (codes "insert") name insert_name (name_from name (ap is_name len ∙ n)),
+    ap (λ o. marked_place fits o (listed_place tag.side (w.tags name))) unmarked ∙ ap (listed_place tag.side) listed in (
+      w,
+      sample_proper (codes "insert") name insert_name (name_from name (ap is_name len ∙ n)),
       untagged_not (index_of w word)
-        (named_same w word (Some tag) e t ∙ ap (moved_from w.text base) m ∙ ap (λ b. moved_from w.text b (Some ms)) none))
+          (named_same w word (Some tag) e t ∙ ap (moved_from w.text base) m ∙ ap (λ b. moved_from w.text b (Some ms)) none),
+    )
   where
     no_mark : (a b : Bool) → (a || b) ≡ false → at_start (a || (a || b)) ≡ None
     no_mark true b h = cc

@@ -29,15 +29,15 @@ pub character_within : (t : List ℕ) (line c : ℕ) → character_place t line 
 character_within t line c = split (line == 0)
     (λ e. rw e (omega arith))
     (λ e. rw e (split (nat_le line (newlines t))
-      (λ f. rw f (omega (arith, end_within line t)))
-      (λ f. rw f (omega arith))))
+    (λ f. rw f (omega (arith, end_within line t)))
+    (λ f. rw f (omega arith))))
 
 line_end_within : (t : List ℕ) (line : ℕ) → line_end_place t line ≤ length t
 line_end_within t line = split (line == 0)
     (λ e. rw e (omega arith))
     (λ e. rw e (split (nat_lt (newlines t) line)
-      (λ f. rw f (omega arith))
-      (λ f. rw f (end_within line t))))
+    (λ f. rw f (omega arith))
+    (λ f. rw f (end_within line t))))
 
 pub fixed_within : (t : List ℕ) (fixed : Fixed) → fixed_place t fixed ≤ length t
 fixed_within t (Character line c) = character_within t line c
@@ -53,8 +53,8 @@ back_within : (t : List ℕ) (p k : ℕ) → lines_back t p k ≤ length t
 back_within t p k = split (nat_lt p (length t))
     (λ e. rw e (character_within t (max (line_of t p - k) 1) (position_at t p).character))
     (λ e. rw e (split (k == 0)
-      (λ f. rw f (omega arith))
-      (λ f. rw f (start_within (max (newlines t + 1 - k) 1) t))))
+    (λ f. rw f (omega arith))
+    (λ f. rw f (start_within (max (newlines t + 1 - k) 1) t))))
 
 word_start_within : (t : List ℕ) (p : ℕ) → word_start t p ≤ p
 word_start_within t p = by (is_word_character (slice_index t p))

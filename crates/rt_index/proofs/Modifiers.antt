@@ -43,52 +43,53 @@ after_any_short : (t : List ℕ) → length (after_any t) ≤ length t
 after_any_short t =
     let n = prefix_len is_ascii_alphabetic t in
     elim (bytes_eq (take n t) (codes "any")) as (λ b. length (cond b (after_spaces (drop n t)) t) ≤ length t)
-      [ true ↦ omega (arith, drop_short (prefix_len is_space (drop n t)) (drop n t), drop_short n t) | false ↦ omega arith ]
+    [ true ↦ omega (arith, drop_short (prefix_len is_space (drop n t)) (drop n t), drop_short n t) | false ↦ omega arith ]
 
 unit_short : (s : Sign) (k : ℕ) (t : List ℕ) → IsShort (length t) (with_unit s k t)
 unit_short s k t =
     let n = prefix_len is_ascii_alphabetic t in
     elim (unit_of (take n t)) as (λ o. IsShort (length t) (option_map (λ step. (counted s k step, drop n t)) o))
-      [ Some step ↦ drop_short n t | None ↦ tt ]
+    [ Some step ↦ drop_short n t | None ↦ tt ]
 
 keyword_short : (t : List ℕ) → IsShort (length t) (with_keyword t)
 keyword_short t =
     let n = prefix_len is_ascii_alphabetic t in
     let f : _ → Modifier × List ℕ = λ keyword. (To keyword, drop n t) in
     elim (keyword_of (take n t)) as (λ o. IsShort (length t) (option_map f o))
-      [ Some keyword ↦ drop_short n t | None ↦ tt ]
+    [ Some keyword ↦ drop_short n t | None ↦ tt ]
 
 number_short : (s : Sign) (t : List ℕ) → IsShort (length t) (with_number s t)
 number_short s t =
     let n = prefix_len is_ascii_digit t in
     let rest = after_any (after_spaces (drop n t)) in
     split (n == 0)
-      (λ e. rw e tt)
-      (λ e. rw e (shorter (length rest) (length t) (with_unit s (digits_value 10 (take n t)) rest)
-        (omega (arith, after_any_short (after_spaces (drop n t)), drop_short (prefix_len is_space (drop n t)) (drop n t), drop_short n t))
-        (unit_short s (digits_value 10 (take n t)) rest)))
+    (λ e. rw e tt)
+    (λ e. rw e (shorter (length rest) (length t) (with_unit s (digits_value 10 (take n t)) rest)
+    (omega (arith, after_any_short (after_spaces (drop n t)), drop_short (prefix_len is_space (drop n t)) (drop n t), drop_short n t))
+    (unit_short s (digits_value 10 (take n t)) rest)))
 
 second_short : (s : Sign) (t : List ℕ) → IsShort (length t) (with_second_sign s t)
 second_short s [] = tt
 second_short s (c ∷ t) = split (c == 43)
     (λ e. rw e (shorter (length t) (length (c ∷ t)) (with_number s t) (omega arith) (number_short s t)))
     (λ e. rw e (split (c == 45)
-      (λ f. rw f (shorter (length t) (length (c ∷ t)) (with_number (turned s) t) (omega arith) (number_short (turned s) t)))
-      (λ f. rw f (number_short s (c ∷ t)))))
+    (λ f. rw f (shorter (length t) (length (c ∷ t)) (with_number (turned s) t) (omega arith) (number_short (turned s) t)))
+    (λ f. rw f (number_short s (c ∷ t)))))
 
 at_short : (spaced : Bool) (t : List ℕ) (n : ℕ) → (spaced ≡ true → length t < n) → length t ≤ n → IfSome (modifier_at spaced t) (λ found. length found.1 < n)
 at_short spaced [] n h l = tt
 at_short spaced (c ∷ t) n h l = split (c == 43)
     (λ e. rw e (below n (with_second_sign Plus (after_spaces t)) (shorter _ (length t) _ (drop_short (prefix_len is_space t) t) (second_short Plus (after_spaces t))) (omega arith)))
     (λ e. rw e (split (c == 45)
-      (λ f. rw f (below n (with_second_sign Minus (after_spaces t)) (shorter _ (length t) _ (drop_short (prefix_len is_space t) t) (second_short Minus (after_spaces t))) (omega arith)))
-      (λ f. rw f (split spaced
-        (λ g. rw g (under n (with_keyword (after_any (c ∷ t))) (shorter _ (length (c ∷ t)) _ (after_any_short (c ∷ t)) (keyword_short (after_any (c ∷ t)))) (h g)))
-        (λ g. rw g tt)))))
+    (λ f. rw f (below n (with_second_sign Minus (after_spaces t)) (shorter _ (length t) _ (drop_short (prefix_len is_space t) t) (second_short Minus (after_spaces t))) (omega arith)))
+    (λ f. rw f (split spaced
+    (λ g. rw g (under n (with_keyword (after_any (c ∷ t))) (shorter _ (length (c ∷ t)) _ (after_any_short (c ∷ t)) (keyword_short (after_any (c ∷ t)))) (h g)))
+    (λ g. rw g tt)))))
   where
     below : (n : ℕ) (o : Option (Modifier × List ℕ)) → IsShort (length t) o → suc (length t) ≤ n → IfSome o (λ found. length found.1 < n)
     below n None s l = tt
     below n (Some found) s l = omega arith
+
     under : (n : ℕ) (o : Option (Modifier × List ℕ)) → IsShort (length (c ∷ t)) o → length (c ∷ t) < n → IfSome o (λ found. length found.1 < n)
     under n None s l = tt
     under n (Some found) s l = omega arith
@@ -118,8 +119,8 @@ enough (suc n) zero (c ∷ t) h k = absurd (omega arith)
 enough (suc n) (suc m) t h k = option_cases (first_modifier t)
     (λ e. rw e refl)
     (λ found e.
-        let s = first_short t found.0 found.1 e in
-        rw (e, enough n m found.1 (omega arith) (omega arith)) refl)
+    let s = first_short t found.0 found.1 e in
+    rw (e, enough n m found.1 (omega arith) (omega arith)) refl)
 
 -- the first modifier, and the others
 pub next : (t : List ℕ) (m : Modifier) (rest : List ℕ) → (length (after_spaces t) == 0) ≡ false → first_modifier t ≡ Some (m, rest)
@@ -145,9 +146,9 @@ read_next done t text m rest b e h =
     let p : kept_modifier x.0 ≡ m = ap (λ f. f.0) got.2 in
     let q : x.1 ≡ rest = ap (λ f. f.1) got.2 in
     let P : Modifier → Type 0 = λ y.
-        option_map (λ ms. (done ++ y ∷ []) ++ map kept_modifier ms) (modifiers_of x.1) ≡ option_map (map kept_modifier) (modifiers_of text) in
+    option_map (λ ms. (done ++ y ∷ []) ++ map kept_modifier ms) (modifiers_of x.1) ≡ option_map (map kept_modifier) (modifiers_of text) in
     let Q : List ℕ → Type 0 = λ r.
-        option_map (λ ms. (done ++ m ∷ []) ++ map kept_modifier ms) (modifiers_of r) ≡ option_map (map kept_modifier) (modifiers_of text) in
+    option_map (λ ms. (done ++ m ∷ []) ++ map kept_modifier ms) (modifiers_of r) ≡ option_map (map kept_modifier) (modifiers_of text) in
     subst Q q (subst P p (shift x.0 (modifiers_of x.1) ∙ ap (option_map (λ ms. done ++ map kept_modifier ms)) (sym (next t x.0 x.1 b got.1)) ∙ h))
   where
     shift : (y : Modifier) (o : Option (List Modifier)) → option_map (λ ms. (done ++ kept_modifier y ∷ []) ++ map kept_modifier ms) o ≡ option_map (λ ms. done ++ map kept_modifier ms) (option_map (λ ms. y ∷ ms) o)

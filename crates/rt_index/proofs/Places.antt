@@ -49,10 +49,10 @@ ends_after (suc p) [] h = absurd (omega arith)
 ends_after (suc p) (c ∷ t) h = split (c == 10)
     (λ e. let k = rw e at h in let m : newlines (take p t) < newlines t = omega arith in rw e (omega (arith, ends_after p t m, ap (λ k. after_newlines k t) (add-one (newlines (take p t))))))
     (λ e.
-        let k = rw e at h in
-        let f : newlines (take (suc p) (c ∷ t)) ≡ newlines (take p t) = rw e refl in
-        let P : ℕ → Type 0 = λ n. suc p < after_newlines (suc n) (c ∷ t) in
-        subst P (sym f) (rw e (omega (arith, ends_after p t k))))
+    let k = rw e at h in
+    let f : newlines (take (suc p) (c ∷ t)) ≡ newlines (take p t) = rw e refl in
+    let P : ℕ → Type 0 = λ n. suc p < after_newlines (suc n) (c ∷ t) in
+    subst P (sym f) (rw e (omega (arith, ends_after p t k))))
 
 -- a last newline
 pub newline_follows : (p : ℕ) (front : List ℕ) → p ≤ length front → newlines (take p (front ++ 10 ∷ [])) < newlines (front ++ 10 ∷ [])
@@ -60,6 +60,7 @@ newline_follows zero [] h = omega arith
 newline_follows zero (c ∷ front) h = grind (arith, nat_tests, newline_follows zero front)
 newline_follows (suc p) [] h = absurd (omega arith)
 newline_follows (suc p) (c ∷ front) h = grind (arith, nat_tests, newline_follows p front)
+
 pub last_line : (front : List ℕ) → after_newlines (newlines (front ++ 10 ∷ [])) (front ++ 10 ∷ []) ≡ length (front ++ 10 ∷ [])
 last_line [] = refl
 last_line (c ∷ front) = split (c == 10)

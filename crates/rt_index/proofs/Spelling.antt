@@ -41,8 +41,8 @@ pub spaces_split : (t : List ℕ) → t ≡ spaces (prefix_len is_space t) ++ af
 spaces_split [] = refl
 spaces_split (c ∷ t) = let P : ℕ → Type 0 = λ n. c ∷ t ≡ spaces n ++ drop n (c ∷ t) in split (c == 32)
     (λ e.
-        let q : prefix_len is_space (c ∷ t) ≡ suc (prefix_len is_space t) = rw e (one-add (prefix_len is_space t)) in
-        subst P (sym q) (ap (λ d. d ∷ t) (eq_of c 32 e) ∙ ap (λ r. 32 ∷ r) (spaces_split t)))
+    let q : prefix_len is_space (c ∷ t) ≡ suc (prefix_len is_space t) = rw e (one-add (prefix_len is_space t)) in
+    subst P (sym q) (ap (λ d. d ∷ t) (eq_of c 32 e) ∙ ap (λ r. 32 ∷ r) (spaces_split t)))
     (λ e. let q : prefix_len is_space (c ∷ t) ≡ 0 = rw e refl in subst P (sym q) refl)
 
 pub front_of : (run whole : List ℕ) → starts_with eqb whole run ≡ true → IsFront run whole
@@ -100,14 +100,16 @@ any_sound t h = by (bytes_eq (take (prefix_len is_ascii_alphabetic t) t) (codes 
         let m = prefix_len is_space r in
         let P : ℕ → Type 0 = λ k. 0 < prefix_len is_ascii_alphabetic (drop k r) in
         split (m == 0)
-          (λ z. let q = subst P (eq_of m 0 z) p in absurd (omega (arith, q, stops is_ascii_alphabetic t)))
-          (λ z.
-            let q : m - 1 + 1 ≡ m = omega (arith, positive m z) in
-            (codes "any" ++ spaces m, inr (m - 1, ap (λ k. codes "any" ++ spaces k) (sym q)),
-              sym (take-append-drop (prefix_len is_ascii_alphabetic t) t)
+        (λ z. let q = subst P (eq_of m 0 z) p in absurd (omega (arith, q, stops is_ascii_alphabetic t)))
+        (λ z.
+        let q : m - 1 + 1 ≡ m = omega (arith, positive m z) in (
+          codes "any" ++ spaces m,
+          inr (m - 1, ap (λ k. codes "any" ++ spaces k) (sym q)),
+          sym (take-append-drop (prefix_len is_ascii_alphabetic t) t)
               ∙ ap (λ a. a ++ r) (bytes_true _ _ e)
               ∙ ap (λ a. codes "any" ++ a) (spaces_split r)
-              ∙ sym (append_assoc (codes "any") (spaces m) (after_spaces r))))
+              ∙ sym (append_assoc (codes "any") (spaces m) (after_spaces r)),
+        ))
 
 record UnitAt (sign : Sign) (k : ℕ) (t : List ℕ) (m : Modifier) (rest : List ℕ) : Type 0 where
   name : List ℕ
@@ -185,8 +187,8 @@ second_at sign [] m rest h = cc
 second_at sign (c ∷ t) m rest h = split (c == 43)
     (λ e. let k = rw e at h in record { second = Some Plus; tail = t; spelled = ap (λ d. d ∷ t) (eq_of c 43 e); counts = number_at sign t m rest k })
     (λ e. let k = rw e at h in split (c == 45)
-      (λ f. let l = rw f at k in record { second = Some Minus; tail = t; spelled = ap (λ d. d ∷ t) (eq_of c 45 f); counts = number_at (turned sign) t m rest l })
-      (λ f. let l = rw f at k in record { second = None; tail = c ∷ t; spelled = refl; counts = number_at sign (c ∷ t) m rest l }))
+    (λ f. let l = rw f at k in record { second = Some Minus; tail = t; spelled = ap (λ d. d ∷ t) (eq_of c 45 f); counts = number_at (turned sign) t m rest l })
+    (λ f. let l = rw f at k in record { second = None; tail = c ∷ t; spelled = refl; counts = number_at sign (c ∷ t) m rest l }))
 
 regroup : (a b c d e f g h r : List ℕ) → (a ++ (b ++ (c ++ (d ++ (e ++ (f ++ (g ++ h))))))) ++ r ≡ a ++ (b ++ (c ++ (d ++ (e ++ (f ++ (g ++ (h ++ r)))))))
 regroup a b c d e f g h r = simp append_assoc
@@ -203,12 +205,26 @@ move_at n sign v m rest h =
     let between = prefix_len is_space v in
     let front = spaces n ++ (sign_text sign ++ (spaces between ++ (second_text s.second ++ (c.digits ++ (spaces c.after ++ (c.any ++ c.name)))))) in
     let move : IsMove front m = record {
-      before = n; sign = sign; between = between; second = s.second; digits = c.digits; after = c.after; any = c.any; name = c.name; step = c.step;
-      number = c.number; passed_over = c.passed_over; unit = c.unit; spelled = refl; means = c.means;
-    } in
-    (front, inl move,
+      before = n;
+      sign = sign;
+      between = between;
+      second = s.second;
+      digits = c.digits;
+      after = c.after;
+      any = c.any;
+      name = c.name;
+      step = c.step;
+      number = c.number;
+      passed_over = c.passed_over;
+      unit = c.unit;
+      spelled = refl;
+      means = c.means;
+    } in (
+      front,
+      inl move,
       ap (λ x. spaces n ++ (sign_text sign ++ x)) (spaces_split v ∙ ap (λ x. spaces between ++ x) (s.spelled ∙ ap (λ x. second_text s.second ++ x) c.spelled))
-      ∙ sym (regroup (spaces n) (sign_text sign) (spaces between) (second_text s.second) c.digits (spaces c.after) c.any c.name rest))
+          ∙ sym (regroup (spaces n) (sign_text sign) (spaces between) (second_text s.second) c.digits (spaces c.after) c.any c.name rest),
+    )
 
 going_at : (n : ℕ) (u : List ℕ) (m : Modifier) (rest : List ℕ) → 0 < n → with_keyword (after_any u) ≡ Some (m, rest) → HasModifier (spaces n ++ u) m rest
 going_at n u m rest pos h =
@@ -221,12 +237,20 @@ going_at n u m rest pos h =
     let q : n - 1 + 1 ≡ n = omega arith in
     let front = spaces n ++ (a.0 ++ take k t) in
     let going : IsGoing front m = record {
-      before = n - 1; any = a.0; name = take k t; keyword = got.0; passed_over = a.1; word = w;
-      spelled = ap (λ x. spaces x ++ (a.0 ++ take k t)) (sym q); means = sym (ap (λ x. x.0) got.2);
-    } in
-    (front, inr going,
+      before = n - 1;
+      any = a.0;
+      name = take k t;
+      keyword = got.0;
+      passed_over = a.1;
+      word = w;
+      spelled = ap (λ x. spaces x ++ (a.0 ++ take k t)) (sym q);
+      means = sym (ap (λ x. x.0) got.2);
+    } in (
+      front,
+      inr going,
       ap (λ x. spaces n ++ x) (a.2 ∙ ap (λ x. a.0 ++ x) (sym (take-append-drop k t) ∙ ap (λ x. take k t ++ x) (ap (λ x. x.1) got.2)))
-      ∙ regroup_going (spaces n) a.0 (take k t) rest)
+          ∙ regroup_going (spaces n) a.0 (take k t) rest,
+    )
   where
     regroup_going : (a b c r : List ℕ) → a ++ (b ++ (c ++ r)) ≡ (a ++ (b ++ c)) ++ r
     regroup_going a b c r = simp append_assoc
@@ -239,8 +263,8 @@ at_sound n [] m rest h = cc
 at_sound n (c ∷ v) m rest h = let P : ℕ → Type 0 = λ d. HasModifier (spaces n ++ (d ∷ v)) m rest in split (c == 43)
     (λ e. let k = rw e at h in subst P (sym (eq_of c 43 e)) (move_at n Plus v m rest k))
     (λ e. let k = rw e at h in split (c == 45)
-      (λ f. let l = rw f at k in subst P (sym (eq_of c 45 f)) (move_at n Minus v m rest l))
-      (λ f. let l = rw f at k in by (nat_lt 0 n) refl l))
+    (λ f. let l = rw f at k in subst P (sym (eq_of c 45 f)) (move_at n Minus v m rest l))
+    (λ f. let l = rw f at k in by (nat_lt 0 n) refl l))
   where
     by : (b : Bool) → nat_lt 0 n ≡ b → cond b (with_keyword (after_any (c ∷ v))) None ≡ Some (m, rest) → HasModifier (spaces n ++ (c ∷ v)) m rest
     by true e l = going_at n (c ∷ v) m rest (lt_true 0 n e) l
@@ -252,9 +276,10 @@ first_sound t m rest h =
     subst P (sym (spaces_split t)) (at_sound (prefix_len is_space t) (after_spaces t) m rest h)
 
 only_spaces : (t : List ℕ) (ms : List Modifier) → (length (after_spaces t) == 0) ≡ true → Some [] ≡ Some ms → AreModifiers t ms
-only_spaces t [] e h =
-    (prefix_len is_space t,
-      spaces_split t ∙ ap (λ x. spaces (prefix_len is_space t) ++ x) (nil_from_length (after_spaces t) (eq_of (length (after_spaces t)) 0 e)) ∙ append-nil (spaces (prefix_len is_space t)))
+only_spaces t [] e h = (
+  prefix_len is_space t,
+  spaces_split t ∙ ap (λ x. spaces (prefix_len is_space t) ++ x) (nil_from_length (after_spaces t) (eq_of (length (after_spaces t)) 0 e)) ∙ append-nil (spaces (prefix_len is_space t)),
+)
 only_spaces t (m ∷ ms) e h = cc
 
 within_sound : (n : ℕ) (t : List ℕ) (ms : List Modifier) → modifiers_within n t ≡ Some ms → AreModifiers t ms
@@ -264,13 +289,13 @@ within_sound zero t ms h = split (length (after_spaces t) == 0)
 within_sound (suc n) t ms h = split (length (after_spaces t) == 0)
     (λ e. only_spaces t ms e (rw e at h))
     (λ e. let k = rw e at h in option_cases (first_modifier t)
-      (λ f. let l = rw f at k in cc)
-      (λ found f.
-        let l = rw f at k in
-        let g : List Modifier → List Modifier = λ others. found.0 ∷ others in
-        let got = map_some g (modifiers_within n found.1) ms l in
-        let here = first_sound t found.0 found.1 f in
-        subst (AreModifiers t) got.2 (here.0, found.1, here.1, within_sound n found.1 got.0 got.1, here.2)))
+    (λ f. let l = rw f at k in cc)
+    (λ found f.
+    let l = rw f at k in
+    let g : List Modifier → List Modifier = λ others. found.0 ∷ others in
+    let got = map_some g (modifiers_within n found.1) ms l in
+    let here = first_sound t found.0 found.1 f in
+    subst (AreModifiers t) got.2 (here.0, found.1, here.1, within_sound n found.1 got.0 got.1, here.2)))
 
 -- the text is those modifiers
 pub sound : (t : List ℕ) (ms : List Modifier) → modifiers_of t ≡ Some ms → AreModifiers t ms

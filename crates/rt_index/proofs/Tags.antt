@@ -60,7 +60,7 @@ stands_at word n tag h e = by (ends_with eqb (take n word) (side_text First)) (e
   where
     by : (a b : Bool) → ends_with eqb (take n word) (side_text First) ≡ a → ends_with eqb (take n word) (side_text Last) ≡ b
         → cond a (Some (record { name = length (take n word) - length (side_text First); side = First }))
-            (cond b (Some (record { name = length (take n word) - length (side_text Last); side = Last })) None) ≡ Some tag
+        (cond b (Some (record { name = length (take n word) - length (side_text Last); side = Last })) None) ≡ Some tag
         → Stands word tag n
     by true b ea eb e =
         let shown : Tag = record { name = length (take n word) - length (side_text First); side = First } in
@@ -111,26 +111,26 @@ end_byte word tag n m s low high =
 pub blocked : (word : List ℕ) (tag : Tag) (n m : ℕ) → Stands word tag n → m < n → may_end (drop m word) ≡ true → modifiers_of (drop m word) ≡ None
 blocked word tag n m s h e = split (nat_lt m tag.name)
     (λ lt.
-        let l = lt_true m tag.name lt in
-        let i = tag.name - m in
-        let p : m + (tag.name - m) ≡ tag.name = omega arith in
-        let some = side_some tag.side in
-        let zero_at : tag.name - tag.name ≡ 0 = omega arith in
-        dotted (drop m word) i
-          (omega (arith, length-drop m word, s.after, s.within))
-          (get_or-drop m word i 0 ∙ ap (λ k. get_or word k 0) p
-            ∙ end_byte word tag n tag.name s (omega arith) (omega (arith, s.after))
-            ∙ ap (λ k. get_or (side_text tag.side) k 0) zero_at ∙ begins_with_dot tag.side))
+    let l = lt_true m tag.name lt in
+    let i = tag.name - m in
+    let p : m + (tag.name - m) ≡ tag.name = omega arith in
+    let some = side_some tag.side in
+    let zero_at : tag.name - tag.name ≡ 0 = omega arith in
+    dotted (drop m word) i
+    (omega (arith, length-drop m word, s.after, s.within))
+    (get_or-drop m word i 0 ∙ ap (λ k. get_or word k 0) p
+    ∙ end_byte word tag n tag.name s (omega arith) (omega (arith, s.after))
+    ∙ ap (λ k. get_or (side_text tag.side) k 0) zero_at ∙ begins_with_dot tag.side))
     (λ ge.
-        let g = at_least m tag.name ge in
-        let w = s.within in
-        let inside : m < length word = omega arith in
-        let short : m - tag.name < length (side_text tag.side) = omega (arith, s.after) in
-        let q = sym (may_end_at word m inside) ∙ e in
-        let P : ℕ → Type 0 = λ c. is_separator c ≡ true in
-        let r = subst P (end_byte word tag n m s g h) q in
-        let t = no_separator tag.side (m - tag.name) short in
-        cc)
+    let g = at_least m tag.name ge in
+    let w = s.within in
+    let inside : m < length word = omega arith in
+    let short : m - tag.name < length (side_text tag.side) = omega (arith, s.after) in
+    let q = sym (may_end_at word m inside) ∙ e in
+    let P : ℕ → Type 0 = λ c. is_separator c ≡ true in
+    let r = subst P (end_byte word tag n m s g h) q in
+    let t = no_separator tag.side (m - tag.name) short in
+    cc)
 
 -- the token ends first
 zero_may_end : (t : List ℕ) → prefix_len (λ c. not (is_separator c)) t ≡ 0 → may_end t ≡ true
@@ -146,11 +146,11 @@ token_within word = prefix_len-le-length (λ c. not (is_separator c)) word
 pub token_before : (word : List ℕ) (n : ℕ) → n ≤ length word → may_end (drop n word) ≡ true → token_length word ≤ n
 token_before word n h e = split (nat_lt n (token_length word))
     (λ lt.
-        let l = lt_true n (token_length word) lt in
-        let p = not_true (is_separator (get_or word n 0)) (prefix_len_passes (λ c. not (is_separator c)) word n 0 l) in
-        let q = sym (may_end_at word n (omega (arith, token_within word))) ∙ e in
-        let f : true ≡ false = sym q ∙ p in
-        cc)
+    let l = lt_true n (token_length word) lt in
+    let p = not_true (is_separator (get_or word n 0)) (prefix_len_passes (λ c. not (is_separator c)) word n 0 l) in
+    let q = sym (may_end_at word n (omega (arith, token_within word))) ∙ e in
+    let f : true ≡ false = sym q ∙ p in
+    cc)
     (λ ge. at_least n (token_length word) ge)
 
 -- what the search finds
@@ -199,19 +199,20 @@ agree w word (suc n) h = by (may_end (drop (suc n) word)) (tag_of (take (suc n) 
   where
     listed : (tag : Tag) (o : Option (Option Ends)) → Stands word tag (suc n) → w.tags (take tag.name word) ≡ o
         → tag_index w word (option_or (option_map (λ place. (place, suc n)) (option_map (tag_place tag.side) o)) (longest_tag w word n))
-            ≡ moved_from w.text (listed_place tag.side o) (modifiers_of (drop (tag_after tag) word))
+        ≡ moved_from w.text (listed_place tag.side o) (modifiers_of (drop (tag_after tag) word))
     listed tag None s e = lower w word tag (suc n) n s (omega arith) ∙ sym (bad w.text (modifiers_of (drop (tag_after tag) word)))
     listed tag (Some ends) s e = ap (λ k. moved_from w.text (tag_place tag.side ends) (modifiers_of (drop k word))) (sym s.after)
+
     by : (b : Bool) (o : Option Tag) → may_end (drop (suc n) word) ≡ b → tag_of (take (suc n) word) ≡ o
         → tag_index w word (longest_tag w word n) ≡ named_index w word (longest_named word n)
         → tag_index w word (option_or (cond b (option_map (λ place. (place, suc n)) (option_and_then (λ tag. option_map (tag_place tag.side) (w.tags (take tag.name (take (suc n) word)))) o)) None) (longest_tag w word n))
-            ≡ named_index w word (option_or (cond b o None) (longest_named word n))
+        ≡ named_index w word (option_or (cond b o None) (longest_named word n))
     by false o eb eo ih = ih
     by true None eb eo ih = ih
     by true (Some tag) eb eo ih =
         let s = stands_at word (suc n) tag h eo in
         let p = take-take tag.name (suc n) word (omega (arith, s.after)) in
         let P : List ℕ → Type 0 = λ name.
-            tag_index w word (option_or (option_map (λ place. (place, suc n)) (option_map (tag_place tag.side) (w.tags name))) (longest_tag w word n))
-              ≡ moved_from w.text (listed_place tag.side (w.tags (take tag.name word))) (modifiers_of (drop (tag_after tag) word)) in
+        tag_index w word (option_or (option_map (λ place. (place, suc n)) (option_map (tag_place tag.side) (w.tags name))) (longest_tag w word n))
+        ≡ moved_from w.text (listed_place tag.side (w.tags (take tag.name word))) (modifiers_of (drop (tag_after tag) word)) in
         subst P (sym p) (listed tag (w.tags (take tag.name word)) s refl)

@@ -74,7 +74,7 @@ unit_complete name Characters h =
     let b = starts_with eqb (codes "chars") name in
     let c = starts_with eqb (codes "indices") name in
     unit_picked (length name == 0) b c (starts_with eqb (codes "lines") name) Characters (some_not_zero (length name) h.0)
-      (ap (λ x. cond x (Some Characters) (cond (starts_with eqb (codes "lines") name) (Some Lines) None)) (chosen h.1))
+    (ap (λ x. cond x (Some Characters) (cond (starts_with eqb (codes "lines") name) (Some Lines) None)) (chosen h.1))
   where
     chosen : IsFront name (codes "chars") ⊎ IsFront name (codes "indices") → (starts_with eqb (codes "chars") name || starts_with eqb (codes "indices") name) ≡ true
     chosen (inl f) = some_left _ _ (front_to name (codes "chars") f)
@@ -85,8 +85,8 @@ unit_complete name Lines h =
     let no_chars : b ≡ false = not_front name (codes "lines") (codes "chars") 0 h.0 h.1 refl in
     let no_indices : c ≡ false = not_front name (codes "lines") (codes "indices") 0 h.0 h.1 refl in
     unit_picked (length name == 0) b c (starts_with eqb (codes "lines") name) Lines (some_not_zero (length name) h.0)
-      (ap (λ x. cond x (Some Characters) (cond (starts_with eqb (codes "lines") name) (Some Lines) None)) (none_either b c no_chars no_indices)
-       ∙ ap (λ x. cond x (Some Lines) None) (front_to name (codes "lines") h.1))
+    (ap (λ x. cond x (Some Characters) (cond (starts_with eqb (codes "lines") name) (Some Lines) None)) (none_either b c no_chars no_indices)
+    ∙ ap (λ x. cond x (Some Lines) None) (front_to name (codes "lines") h.1))
 
 keyword_picked : (run : List ℕ) (a b c d e : Bool) (keyword : Keyword)
     → nat_lt (length run) 5 ≡ a → starts_with eqb (codes "linestart") run ≡ b → starts_with eqb (codes "lineend") run ≡ c
@@ -109,17 +109,17 @@ keyword_complete name LineStart h =
 keyword_complete name LineEnd h =
     let at : 4 < length name = omega arith in
     keyword_picked name false false true _ _ LineEnd (long (length name) h.0) (not_front name (codes "lineend") (codes "linestart") 4 at h.1 refl)
-      (front_to name (codes "lineend") h.1) refl refl refl
+    (front_to name (codes "lineend") h.1) refl refl refl
 keyword_complete name WordStart h =
     let first : 0 < length name = omega arith in
     keyword_picked name false false false true _ WordStart (long (length name) h.0) (not_front name (codes "wordstart") (codes "linestart") 0 first h.1 refl)
-      (not_front name (codes "wordstart") (codes "lineend") 0 first h.1 refl) (front_to name (codes "wordstart") h.1) refl refl
+    (not_front name (codes "wordstart") (codes "lineend") 0 first h.1 refl) (front_to name (codes "wordstart") h.1) refl refl
 keyword_complete name WordEnd h =
     let first : 0 < length name = omega arith in
     let at : 4 < length name = omega arith in
     keyword_picked name false false false false true WordEnd (long (length name) h.0) (not_front name (codes "wordend") (codes "linestart") 0 first h.1 refl)
-      (not_front name (codes "wordend") (codes "lineend") 0 first h.1 refl) (not_front name (codes "wordend") (codes "wordstart") 4 at h.1 refl)
-      (front_to name (codes "wordend") h.1) refl
+    (not_front name (codes "wordend") (codes "lineend") 0 first h.1 refl) (not_front name (codes "wordend") (codes "wordstart") 4 at h.1 refl)
+    (front_to name (codes "wordend") h.1) refl
 
 -- names are letters
 left : (a b : Bool) → (a && b) ≡ true → a ≡ true
@@ -129,7 +129,7 @@ left false b h = h
 fronted : (name whole : List ℕ) → list_all is_ascii_alphabetic whole ≡ true → IsFront name whole → list_all is_ascii_alphabetic name ≡ true
 fronted name whole h f =
     left (list_all is_ascii_alphabetic name) (list_all is_ascii_alphabetic f.0)
-      (sym (list_all-append is_ascii_alphabetic name f.0) ∙ sym (ap (list_all is_ascii_alphabetic) f.1) ∙ h)
+    (sym (list_all-append is_ascii_alphabetic name f.0) ∙ sym (ap (list_all is_ascii_alphabetic) f.1) ∙ h)
 
 unit_letters : (name : List ℕ) (step : Step) → IsUnit name step → list_all is_ascii_alphabetic name ≡ true
 unit_letters name Characters h = chosen h.1
@@ -171,6 +171,7 @@ spaces_then n t h =
     all : (n : ℕ) → list_all is_space (spaces n) ≡ true
     all zero = refl
     all (suc n) = all n
+
     many : (n : ℕ) → length (spaces n) ≡ n
     many zero = refl
     many (suc n) = ap (λ k. suc k) (many n)
@@ -247,7 +248,7 @@ number_then sign digits any name rest after step number passed unit stop =
     let t = digits ++ r in
     let first = any_head any name rest passed some letters in
     let n : prefix_len is_ascii_digit t ≡ length digits =
-        prefix_of is_ascii_digit digits r (digits_all digits number.1) (none_pass is_ascii_digit r (gap after u first)) in
+    prefix_of is_ascii_digit digits r (digits_all digits number.1) (none_pass is_ascii_digit r (gap after u first)) in
     let zero_not : (length digits == 0) ≡ false = some_not_zero (length digits) number.0 in
     let v = digits_value 10 digits in
     ap (λ k. cond (k == 0) None (with_unit sign (digits_value 10 (take k t)) (after_any (after_spaces (drop k t))))) n
@@ -309,7 +310,7 @@ move_then front rest m h stop =
     let u = sign_text h.sign ++ (spaces h.between ++ v) in
     let t = spaces h.before ++ u in
     let whole : front ++ rest ≡ t =
-        ap (λ x. x ++ rest) h.spelled ∙ regroup (spaces h.before) (sign_text h.sign) (spaces h.between) (second_text h.second) h.digits (spaces h.after) h.any h.name rest in
+    ap (λ x. x ++ rest) h.spelled ∙ regroup (spaces h.before) (sign_text h.sign) (spaces h.between) (second_text h.second) h.digits (spaces h.after) h.any h.name rest in
     let skip = (spaces_then h.before u (sign_head h.sign (spaces h.between ++ v))).1 in
     ap first_modifier whole
     ∙ ap (modifier_at (nat_lt 0 (prefix_len is_space t))) skip
@@ -350,6 +351,7 @@ going_then front rest m h stop =
   where
     regroup_going : (a b c r : List ℕ) → (a ++ (b ++ c)) ++ r ≡ a ++ (b ++ (c ++ r))
     regroup_going a b c r = simp append_assoc
+
     more : (n : ℕ) → nat_lt 0 (n + 1) ≡ true
     more n = grind (arith, nat_tests)
 
@@ -370,7 +372,7 @@ modifier_no_letter : (front rest : List ℕ) (m : Modifier) → IsModifier front
 modifier_no_letter front rest m (inl h) =
     let v = spaces h.between ++ (second_text h.second ++ (h.digits ++ (spaces h.after ++ (h.any ++ (h.name ++ rest))))) in
     ap (λ x. is_ascii_alphabetic (head x))
-      (ap (λ x. x ++ rest) h.spelled ∙ regroup (spaces h.before) (sign_text h.sign) (spaces h.between) (second_text h.second) h.digits (spaces h.after) h.any h.name rest)
+    (ap (λ x. x ++ rest) h.spelled ∙ regroup (spaces h.before) (sign_text h.sign) (spaces h.between) (second_text h.second) h.digits (spaces h.after) h.any h.name rest)
     ∙ spaces_head h.before (sign_text h.sign ++ v) (sign_no_letter h.sign v)
 modifier_no_letter front rest m (inr h) =
     ap (λ x. is_ascii_alphabetic (head (x ++ rest))) (h.spelled ∙ ap (λ k. spaces k ++ (h.any ++ h.name)) (add-one h.before))
@@ -415,9 +417,15 @@ column_sound t l r line fixed number value spelled h =
     by false false true ea eb ed e = cc
     by false false false ea eb ed e =
         let q : Character line (digits_value 10 r) ≡ fixed = cc in
-        subst (IsFixed t) q
-          (l, r, number, (positive (length r) eb, digits_whole r (at_least (prefix_len is_ascii_digit r) (length r) ed)),
-            spelled ∙ sym (append_assoc l (codes ".") r), value, refl)
+        subst (IsFixed t) q (
+          l,
+          r,
+          number,
+          (positive (length r) eb, digits_whole r (at_least (prefix_len is_ascii_digit r) (length r) ed)),
+          spelled ∙ sym (append_assoc l (codes ".") r),
+          value,
+          refl,
+        )
 
 position_sound : (t : List ℕ) (fixed : Fixed) → position_of t ≡ Some fixed → IsFixed t fixed
 position_sound t fixed h = by (prefix_len is_ascii_digit t == 0) (drop (prefix_len is_ascii_digit t) t) refl refl h
@@ -428,11 +436,11 @@ position_sound t fixed h = by (prefix_len is_ascii_digit t == 0) (drop (prefix_l
     by false [] eb eu e = cc
     by false (c ∷ r) eb eu e = split (c == 46)
         (λ f.
-          let n = prefix_len is_ascii_digit t in
-          column_sound t (take n t) r (digits_value 10 (take n t)) fixed
-            (omega (arith, positive n eb, length-prefix_len is_ascii_digit t), digits_front t) refl
-            (sym (take-append-drop n t) ∙ ap (λ x. take n t ++ x) eu ∙ ap (λ d. take n t ++ d ∷ r) (eq_of c 46 f))
-            (rw f at e))
+        let n = prefix_len is_ascii_digit t in
+        column_sound t (take n t) r (digits_value 10 (take n t)) fixed
+        (omega (arith, positive n eb, length-prefix_len is_ascii_digit t), digits_front t) refl
+        (sym (take-append-drop n t) ∙ ap (λ x. take n t ++ x) eu ∙ ap (λ d. take n t ++ d ∷ r) (eq_of c 46 f))
+        (rw f at e))
         (λ f. let k = rw f at e in cc)
 
 pub fixed_sound : (t : List ℕ) (fixed : Fixed) → fixed_of t ≡ Some fixed → IsFixed t fixed

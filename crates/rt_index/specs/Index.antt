@@ -58,8 +58,8 @@ abbrev pub longest_tag : Widget → List ℕ → ℕ → Option (Result ℕ Faul
 longest_tag w word zero = None
 longest_tag w word (suc n) =
     option_or
-      (if may_end (drop (suc n) word) then option_map (λ place. (place, suc n)) (tag_end w (take (suc n) word)) else None)
-      (longest_tag w word n)
+    (if may_end (drop (suc n) word) then option_map (λ place. (place, suc n)) (tag_end w (take (suc n) word)) else None)
+    (longest_tag w word n)
 
 -- a base's place moved by the modifiers that follow it, where what follows it is modifiers
 abbrev pub moved_from : List ℕ → Result ℕ Fault → Option (List Modifier) → Result ℕ Fault

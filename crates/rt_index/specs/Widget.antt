@@ -4,8 +4,8 @@ use Rattle.rt_stamps.specs.declared.limits.TheConstants.{MOST_CELLS, MOST_NAME_B
 
 -- where the characters of a tag begin and end
 pub record Ends : Type 0 where
-  pub first : ℕ   -- the first place that has the tag
-  pub last : ℕ    -- the place after the last one that has it
+  pub first : ℕ  -- the first place that has the tag
+  pub last : ℕ  -- the place after the last one that has it
 
 pub record Widget : Type 0 where
   pub text : List ℕ

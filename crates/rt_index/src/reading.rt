@@ -36,7 +36,9 @@ fn letters(text: &[u8]) -> usize
     ensures value { result ≡ prefix_len is_ascii_alphabetic text.now }
     ensures within { result ≤ length text.now }
 {
-    text.iter().take_while(|byte| byte.is_ascii_alphabetic()).count()
+    text.iter()
+        .take_while(|byte| byte.is_ascii_alphabetic())
+        .count()
 }
 
 fn digits(text: &[u8]) -> usize
@@ -66,7 +68,11 @@ fn after_any(text: &[u8]) -> &[u8]
     ensures within { length result.now ≤ length text.now }
 {
     let (run, rest) = text.split_at(letters(text));
-    if run == b"any".as_slice() { after_spaces(rest) } else { text }
+    if run == b"any".as_slice() {
+        after_spaces(rest)
+    } else {
+        text
+    }
 }
 
 /// The number that digits write, or the greatest one that is kept.
@@ -76,7 +82,9 @@ fn number(digits: &[u8]) -> usize
 {
     let mut number: usize = 0;
     for digit in digits {
-        number = number.saturating_mul(10).saturating_add(usize::from(*digit - b'0'));
+        number = number
+            .saturating_mul(10)
+            .saturating_add(usize::from(*digit - b'0'));
     }
     number
 }

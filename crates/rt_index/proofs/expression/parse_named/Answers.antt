@@ -52,7 +52,7 @@ hopeful : (word front rest : List ℕ) (token end : ℕ) (tag : Option Tag) (ite
 hopeful word front rest token end tag items b s e p t =
     let ms = map_some (map kept_modifier) (modifiers_of rest) items e in
     hopeful_named word tag ms.0 (named_of word front rest token end tag s) s.found (rest_of word front rest token end tag s ∙ ms.1)
-      (sym (p ∙ possible_of word front rest token end tag s) ∙ t)
+    (sym (p ∙ possible_of word front rest token end tag s) ∙ t)
 
 hopeless : (word front rest : List ℕ) (token end : ℕ) (tag : Option Tag) (b : Bool) → Steps word front rest token end tag
     → b ≡ is_possible front (end == token) tag → b ≡ false → IsHopeless word
@@ -71,8 +71,11 @@ invariant_of-result c =
     let tag = c.longest_tag-tag.result in
     let b = c.as_bytes-bytes.ensures.value in
     let steps : Steps word c.split_at.result.0.now c.split_at-2.result.1.now c.args.token c.named_after-end.result tag = record {
-      cut = c.requires.token; named = c.requires.named; found = ap (λ x. longest_named x (length x)) (sym b) ∙ sym c.longest_tag-tag.ensures.value;
-      front_is = c.split_at.ensures.front ∙ ap (take c.args.token) b; end_is = c.named_after-end.ensures;
+      cut = c.requires.token;
+      named = c.requires.named;
+      found = ap (λ x. longest_named x (length x)) (sym b) ∙ sym c.longest_tag-tag.ensures.value;
+      front_is = c.split_at.ensures.front ∙ ap (take c.args.token) b;
+      end_is = c.named_after-end.ensures;
       rest_is = c.split_at-2.ensures.back ∙ ap (drop c.named_after-end.result) b;
     } in
     parsed word c.split_at.result.0.now c.split_at-2.result.1.now c.args.token c.named_after-end.result tag c.in-Ok.modifiers.items steps c.in-Ok.ensures.ok
@@ -83,12 +86,15 @@ returns-clause-possible c =
     let tag = c.longest_tag-tag.result in
     let b = c.as_bytes-bytes.ensures.value in
     let steps : Steps word c.split_at.result.0.now c.split_at-2.result.1.now c.args.token c.named_after-end.result tag = record {
-      cut = c.requires.token; named = c.requires.named; found = ap (λ x. longest_named x (length x)) (sym b) ∙ sym c.longest_tag-tag.ensures.value;
-      front_is = c.split_at.ensures.front ∙ ap (take c.args.token) b; end_is = c.named_after-end.ensures;
+      cut = c.requires.token;
+      named = c.requires.named;
+      found = ap (λ x. longest_named x (length x)) (sym b) ∙ sym c.longest_tag-tag.ensures.value;
+      front_is = c.split_at.ensures.front ∙ ap (take c.args.token) b;
+      end_is = c.named_after-end.ensures;
       rest_is = c.split_at-2.ensures.back ∙ ap (drop c.named_after-end.result) b;
     } in
     hopeful word c.split_at.result.0.now c.split_at-2.result.1.now c.args.token c.named_after-end.result tag c.in-Ok.modifiers.items c.is_possible.result steps c.in-Ok.ensures.ok
-      c.is_possible.ensures c.if-not-is_possible.false
+    c.is_possible.ensures c.if-not-is_possible.false
 
 pub returns-then-not-is_possible-clause-fault : goal.returns-then-not-is_possible-clause-fault
 returns-then-not-is_possible-clause-fault c =
@@ -96,8 +102,11 @@ returns-then-not-is_possible-clause-fault c =
     let tag = c.longest_tag-tag.result in
     let b = c.as_bytes-bytes.ensures.value in
     let steps : Steps word c.split_at.result.0.now c.split_at-2.result.1.now c.args.token c.named_after-end.result tag = record {
-      cut = c.requires.token; named = c.requires.named; found = ap (λ x. longest_named x (length x)) (sym b) ∙ sym c.longest_tag-tag.ensures.value;
-      front_is = c.split_at.ensures.front ∙ ap (take c.args.token) b; end_is = c.named_after-end.ensures;
+      cut = c.requires.token;
+      named = c.requires.named;
+      found = ap (λ x. longest_named x (length x)) (sym b) ∙ sym c.longest_tag-tag.ensures.value;
+      front_is = c.split_at.ensures.front ∙ ap (take c.args.token) b;
+      end_is = c.named_after-end.ensures;
       rest_is = c.split_at-2.ensures.back ∙ ap (drop c.named_after-end.result) b;
     } in
     inr (refl, hopeless word c.split_at.result.0.now c.split_at-2.result.1.now c.args.token c.named_after-end.result tag c.is_possible.result steps c.is_possible.ensures c.if-not-is_possible.true)
@@ -108,8 +117,11 @@ returns-in-Err-clause-fault c =
     let tag = c.longest_tag-tag.result in
     let b = c.as_bytes-bytes.ensures.value in
     let steps : Steps word c.split_at.result.0.now c.split_at-2.result.1.now c.args.token c.named_after-end.result tag = record {
-      cut = c.requires.token; named = c.requires.named; found = ap (λ x. longest_named x (length x)) (sym b) ∙ sym c.longest_tag-tag.ensures.value;
-      front_is = c.split_at.ensures.front ∙ ap (take c.args.token) b; end_is = c.named_after-end.ensures;
+      cut = c.requires.token;
+      named = c.requires.named;
+      found = ap (λ x. longest_named x (length x)) (sym b) ∙ sym c.longest_tag-tag.ensures.value;
+      front_is = c.split_at.ensures.front ∙ ap (take c.args.token) b;
+      end_is = c.named_after-end.ensures;
       rest_is = c.split_at-2.ensures.back ∙ ap (drop c.named_after-end.result) b;
     } in
     refused word c.split_at.result.0.now c.split_at-2.result.1.now c.args.token c.named_after-end.result tag c.in-Err.fault steps c.in-Err.ensures.err

@@ -13,9 +13,9 @@ returns-in-None-clause-err c =
 pub loop-rest-preserved : goal.loop-rest-preserved
 loop-rest-preserved c =
     let h = read_next c.loop-rest.modifiers.items c.loop-rest.rest.now c.args.text.now c.in-Some.found.0 c.in-Some.found.1.now
-        (sym c.is_blank.ensures ∙ c.loop-rest-test.true) (sym c.in-Some.ensures.value) c.loop-rest.invariant in
+    (sym c.is_blank.ensures ∙ c.loop-rest-test.true) (sym c.in-Some.ensures.value) c.loop-rest.invariant in
     let P : List Modifier → Type 0 =
-        λ xs. option_map (λ ms. xs ++ map kept_modifier ms) (modifiers_of c.in-Some.found.1.now) ≡ option_map (map kept_modifier) (modifiers_of c.args.text.now) in
+    λ xs. option_map (λ ms. xs ++ map kept_modifier ms) (modifiers_of c.in-Some.found.1.now) ≡ option_map (map kept_modifier) (modifiers_of c.args.text.now) in
     subst P (sym c.in_ok-push.ensures.ok) h
 
 pub returns-clause-ok : goal.returns-clause-ok

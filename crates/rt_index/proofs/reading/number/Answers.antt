@@ -11,5 +11,5 @@ pub loop-digit-preserved : goal.loop-digit-preserved
 loop-digit-preserved c =
     let m = number_more c.args.digits.now c.loop-digit.digit-index c.requires c.loop-digit-test.true in
     let e : c.saturating_add-number.result ≡ kept (digits_value 10 (take (c.loop-digit.digit-index + 1) c.args.digits.now)) =
-        omega (arith, m, c.loop-digit.invariant, c.saturating_add-number.ensures, c.saturating_mul.ensures, c.from.ensures) in
+    omega (arith, m, c.loop-digit.invariant, c.saturating_add-number.ensures, c.saturating_mul.ensures, c.from.ensures) in
     e
