@@ -1,5 +1,6 @@
 -- The cells of a text, as a list.
-use Rattle.std.specs.Prelude.{◌≡◌, ℕ, ◌+◌, ◌-◌, ◌<◌, ◌≤◌, not, List, length, drop, map, filter, take_while, position, Option, Some, IsSome, IsTrue, ◌⊎◌, slice_get, if◌then◌else◌, unwrap_or}
+use Rattle.std.specs.Prelude.{◌≡◌, ℕ, ◌+◌, ◌-◌, ◌<◌, ◌≤◌, ◌==◌, ◌&&◌, nat_le, not, Bool, true, List, length, drop, map, filter, take_while, position, Option, Some, IsSome, IsTrue, ◌⊎◌, slice_get, if◌then◌else◌, unwrap_or}
+use Rattle.rt_stamps.specs.declared.stamp.Span.{Span}
 use Rattle.rt_stamps.specs.declared.stamp.Stamp.{Stamp}
 use Rattle.rt_stamps.specs.declared.stamp.TheConstants.{ROOT}
 use Rattle.rt_stamps.specs.Stamps.{is_before, is_same}
@@ -35,6 +36,14 @@ abbrev pub skip_from : List Cell → Stamp → Stamp → ℕ
 skip_from cells left new =
     let after = after_element cells left in
     after + length (take_while (λ cell. is_before new cell.stamp) (drop after cells))
+
+-- a stamp of a span's site, from its first count to its last
+abbrev pub is_in_span : Span → Stamp → Bool
+is_in_span span stamp = (stamp.site == span.site) && (nat_le span.first stamp.count && nat_le stamp.count span.last)
+
+-- a cell with a stamp of a span is gone, another is as it was
+abbrev pub gone_in : Span → Cell → Cell
+gone_in span cell = if is_in_span span cell.stamp then record cell { gone = true } else cell
 
 -- how many new cells and how many cuts of runs there is room for
 pub record Room : Type 0 where

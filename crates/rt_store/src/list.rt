@@ -1,13 +1,13 @@
 // The cells in a vector.
-ghost use Rattle.std.specs.Prelude.{◌≡◌, ◌+◌, ◌-◌, ◌^◌, ◌<◌, ◌≤◌, ◌∷◌, ◌++◌, [], IfOk, IfErr, count_by, take, drop, length, slice_get, take_while, vec_len, vec_capacity};
+ghost use Rattle.std.specs.Prelude.{◌≡◌, ◌+◌, ◌-◌, ◌^◌, ◌<◌, ◌≤◌, ◌∷◌, ◌++◌, [], IfOk, IfErr, count_by, map, take, drop, length, slice_get, take_while, vec_len, vec_capacity};
 ghost use Rattle.rt_store.specs.declared.cell.TheConstants.{FINAL_CELL};
-ghost use Rattle.rt_store.specs.Cells.{EndsFinal, StandsBefore, after_element, visible_of, text_of, position_of};
+ghost use Rattle.rt_store.specs.Cells.{EndsFinal, StandsBefore, after_element, visible_of, text_of, position_of, is_in_span, gone_in};
 ghost use Rattle.rt_stamps.specs.Stamps.{is_before};
 ghost use Rattle.rt_stamps.specs.Places.{is_newline, newlines, after_newlines};
 
 use crate::TextStore;
 use crate::cell::{Cell, FINAL_CELL};
-use rt_stamps::{Fault, ROOT, Stamp};
+use rt_stamps::{Fault, ROOT, Span, Stamp};
 use std::alloc::Global;
 
 /// The cells in a plain vector: each call is linear in their number.
@@ -138,6 +138,35 @@ fn insert_all(all: &mut Vec<Cell>, at: usize, cells: &[Cell])
     }
 }
 
+// Whether a stamp is one of a span's.
+fn is_in_span(span: Span, stamp: Stamp) -> bool
+    ensures { result ≡ is_in_span span stamp }
+{
+    stamp.site == span.site && span.first <= stamp.count && stamp.count <= span.last
+}
+
+// A cell as it is when a span is gone.
+fn gone_in(span: Span, cell: Cell) -> Cell
+    ensures { result ≡ gone_in span cell }
+{
+    if is_in_span(span, cell.stamp) {
+        Cell { gone: true, ..cell }
+    } else {
+        cell
+    }
+}
+
+// Makes the cells of a span gone.
+fn mark_gone(cells: &mut Vec<Cell>, span: Span)
+    ensures items { cells.new.items ≡ map (gone_in span) cells.old.items }
+    ensures len { vec_len cells.new ≡ vec_len cells.old }
+    ensures capacity { vec_capacity cells.old ≤ vec_capacity cells.new }
+{
+    for i in 0..cells.len() {
+        cells[i] = gone_in(span, cells[i]);
+    }
+}
+
 impl TextStore for ListStore {
     ghost list = { λ s. s.cells.items };
 
@@ -185,5 +214,9 @@ impl TextStore for ListStore {
 
     fn splice(&mut self, at: usize, cells: &[Cell]) {
         insert_all(&mut self.cells, at, cells);
+    }
+
+    fn set_gone(&mut self, span: Span) {
+        mark_gone(&mut self.cells, span);
     }
 }

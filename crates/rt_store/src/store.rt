@@ -1,13 +1,13 @@
 // What keeps the cells of a text.
-ghost use Rattle.std.specs.Prelude.{◌≡◌, ℕ, ◌+◌, ◌<◌, ◌≤◌, List, ◌++◌, true, take, drop, length, OnOk, OnErr, IfErr, slice_get};
+ghost use Rattle.std.specs.Prelude.{◌≡◌, ℕ, ◌+◌, ◌<◌, ◌≤◌, List, ◌++◌, true, false, map, take, drop, length, OnOk, OnErr, IfErr, slice_get};
 ghost use Rattle.rt_stamps.specs.Places.{newlines, line_of, line_start};
 ghost use Rattle.rt_stamps.specs.Stamps.{is_before};
 ghost use Rattle.rt_stamps.specs.declared.limits.TheConstants.{MOST_CELLS};
 ghost use Rattle.rt_store.specs.declared.cell.Cell.{Cell};
-ghost use Rattle.rt_store.specs.Cells.{visible_of, text_of, EndsFinal, StandsBefore, skip_from, Room, HasRoom, Spends};
+ghost use Rattle.rt_store.specs.Cells.{visible_of, text_of, EndsFinal, StandsBefore, skip_from, is_in_span, gone_in, Room, HasRoom, Spends};
 
 use crate::Cell;
-use rt_stamps::{FINAL, Fault, Stamp};
+use rt_stamps::{FINAL, Fault, Span, Stamp};
 
 /// Keeps the cells of a text, seen as a list that ends with the final newline. Positions count all
 /// cells from 0, places the visible ones.
@@ -70,6 +70,13 @@ pub trait TextStore: Drop {
         requires room { HasRoom (room self.old) (length cells.now) 1 }
         ensures list { list self.new ≡ take at (list self.old) ++ cells.now ++ drop at (list self.old) }
         ensures room { Spends (room self.old) (room self.new) (length cells.now) 1 };
+
+    /// Makes the cells of a span of stamps gone; the final newline never is.
+    fn set_gone(&mut self, span: Span)
+        requires stays { is_in_span span FINAL ≡ false }
+        requires room { HasRoom (room self.old) 0 2 }
+        ensures list { list self.new ≡ map (gone_in span) (list self.old) }
+        ensures room { Spends (room self.old) (room self.new) 0 2 };
 
     /// The last cell is the final newline.
     ghost ends: { (s : Self) → EndsFinal (list s) };

@@ -10,7 +10,8 @@ use Rattle.rt_stamps.specs.Words.{Word}
 use Rattle.rt_store.specs.Cells.{text_of, after_element}
 use Rattle.rt_text.specs.Flat.{Flat, with_text, put_after, left_of}
 use Rattle.rt_text.specs.Index.{place_of}
-use Rattle.rt_text.specs.Commands.{inserted, count_check, cell_check, got_one, text_between}
+use Rattle.rt_text.specs.Commands.{inserted, count_check, cell_check, got_one}
+use Rattle.rt_text.specs.Ranges.{text_between}
 
 -- where the index is one, the counts and the cells decide
 pub by_checks : (flat : Flat) (index new : Word) (place : ℕ) → place_of (text_of flat.cells) index ≡ Some place

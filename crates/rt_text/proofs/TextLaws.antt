@@ -5,7 +5,7 @@ use Rattle.std.proofs.lemmas.Bool.{cases_lt}
 use Rattle.std.proofs.lemmas.List.{take_more, take_all, get_or-drop, length-drop}
 use Rattle.std.proofs.lemmas.Option.{get_or_from_slice_get}
 use Rattle.std.proofs.lemmas.Str.{encodes-append}
-use Rattle.rt_text.specs.Commands.{text_between}
+use Rattle.rt_text.specs.Ranges.{text_between}
 
 pub between_more : (t : List ℕ) (from place ch : ℕ) → from ≤ place → place < length t → slice_get t place ≡ Some ch
     → encode_utf8_all (text_between t from (place + 1)) ≡ encode_utf8_all (text_between t from place) ++ encode_utf8_all (ch ∷ [])

@@ -1,22 +1,29 @@
 -- The commands on a text.
-use Rattle.std.specs.Prelude.{ℕ, ◌+◌, ◌-◌, List, [], ◌∷◌, length, take, drop, min, nat_lt, Option, Some, None, is_some, Result, if◌then◌else◌, unwrap_or, encode_utf8_all}
+use Rattle.std.specs.Prelude.{ℕ, ◌+◌, ◌-◌, ℤ, List, [], ◌∷◌, length, map, min, nat_lt, Bool, false, Option, Some, None, is_some, option_map, Result, if◌then◌else◌, unwrap_or, encode_utf8_all}
 use Rattle.std.specs.Str.{chars}
 use Rattle.rt_stamps.specs.declared.limits.TheConstants.{GREATEST_COUNT}
 use Rattle.rt_stamps.specs.declared.fault.Fault.{Fault}
-use Rattle.rt_stamps.specs.declared.fault.Fault.TheVariants.{BadIndex, ClockSpent, TextFull}
+use Rattle.rt_stamps.specs.declared.fault.Fault.TheVariants.{BadOption, ClockSpent, TextFull}
 use Rattle.rt_stamps.specs.declared.position.Position.{Position}
 use Rattle.rt_stamps.specs.Outcomes.{first_of, unless}
 use Rattle.rt_stamps.specs.Places.{position_at}
 use Rattle.rt_stamps.specs.Words.{Word}
 use Rattle.rt_store.specs.Cells.{text_of}
 use Rattle.rt_text.specs.Flat.{Flat, with_text}
-use Rattle.rt_text.specs.Index.{place_of}
+use Rattle.rt_text.specs.Comparisons.{comparison_of, holds_of}
+use Rattle.rt_text.specs.Distances.{measures_of, or_indices, distance_of}
+use Rattle.rt_text.specs.Index.{index_check, place_at_index}
+use Rattle.rt_text.specs.Ranges.{text_between, texts_of, ranges_of}
 
 -- CHECKS
 
--- a word is an index
-abbrev pub index_check : List ℕ → Word → Option Fault
-index_check text word = if is_some (place_of text word) then None else Some BadIndex
+-- a word names a comparison
+abbrev pub operator_check : Word → Option Fault
+operator_check operator = if is_some (comparison_of operator) then None else Some BadOption
+
+-- each switch asks for something to be counted
+abbrev pub switch_check : List Word → Option Fault
+switch_check switches = if is_some (measures_of switches) then None else Some BadOption
 
 -- there are so many fresh counts
 abbrev pub count_check : ℕ → ℕ → Option Fault
@@ -28,17 +35,9 @@ cell_check limit cells new = if nat_lt limit (cells + new) then Some TextFull el
 
 -- PLACES
 
--- the place of an index that was checked
-abbrev pub place_at_index : List ℕ → Word → ℕ
-place_at_index text word = unwrap_or (place_of text word) 0
-
 -- an insertion at the end stands before the last newline
 abbrev pub insertion_place : List ℕ → Word → ℕ
 insertion_place text word = min (place_at_index text word) (length text - 1)
-
--- the characters from a place up to before another, none where that isn't later
-abbrev pub text_between : List ℕ → ℕ → ℕ → List ℕ
-text_between text from to = take (to - from) (drop from text)
 
 -- COMMANDS, each what it gives or why it is refused
 
@@ -68,3 +67,23 @@ abbrev pub position_of_index : Flat → Word → Result Position Fault
 position_of_index flat index =
     let text = text_of flat.cells in
     unless (index_check text index) (position_at text (place_at_index text index))
+
+-- get INDEX INDEX INDEX ...: of the ranges that the indices name in pairs, the texts that aren't empty, in the order given
+abbrev pub got_list : Flat → List Word → Result (List Word) Fault
+got_list flat indices =
+    let text = text_of flat.cells in
+    unless (first_of (map (index_check text) indices)) (texts_of text (ranges_of (map (place_at_index text) indices)))
+
+-- compare INDEX OPERATOR INDEX: whether the comparison holds
+abbrev pub compared : Flat → Word → Word → Word → Result Bool Fault
+compared flat first operator second =
+    let text = text_of flat.cells in
+    unless (first_of (operator_check operator ∷ index_check text first ∷ index_check text second ∷ []))
+    (unwrap_or (option_map (λ comparison. holds_of comparison (place_at_index text first) (place_at_index text second)) (comparison_of operator)) false)
+
+-- count SWITCHES INDEX INDEX: the distances from the first index to the second that the switches ask for, in turn
+abbrev pub counted : Flat → List Word → Word → Word → Result (List ℤ) Fault
+counted flat switches from to =
+    let text = text_of flat.cells in
+    unless (first_of (switch_check switches ∷ index_check text from ∷ index_check text to ∷ []))
+    (map (distance_of text (place_at_index text from) (place_at_index text to)) (or_indices (unwrap_or (measures_of switches) [])))

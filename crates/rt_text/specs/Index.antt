@@ -1,6 +1,8 @@
 -- Indices of a text: `LINE.CHARACTER`, `LINE.end` and `end` (Tk text manual).
-use Rattle.std.specs.Prelude.{ℕ, ◌+◌, ◌-◌, ◌*◌, ◌==◌, ◌&&◌, nat_le, List, [], ◌∷◌, length, Option, Some, None, if◌then◌else◌, codes, position, take, drop, option_map, option_and_then}
+use Rattle.std.specs.Prelude.{ℕ, ◌+◌, ◌-◌, ◌*◌, ◌==◌, ◌&&◌, nat_le, List, [], ◌∷◌, length, Option, Some, None, if◌then◌else◌, codes, position, take, drop, option_map, option_and_then, is_some, unwrap_or}
 use Rattle.std.specs.Str.{bytes_eq}
+use Rattle.rt_stamps.specs.declared.fault.Fault.{Fault}
+use Rattle.rt_stamps.specs.declared.fault.Fault.TheVariants.{BadIndex}
 use Rattle.rt_stamps.specs.Places.{newlines, line_end, place_at}
 use Rattle.rt_stamps.specs.Words.{Word}
 
@@ -33,3 +35,11 @@ abbrev pub place_of : List ℕ → Word → Option ℕ
 place_of text word =
     if bytes_eq word (codes "end") then Some (length text)
     else option_and_then (λ parts. option_and_then (place_in_line text parts.1) (number_of parts.0)) (at_dot word)
+
+-- a word is an index
+abbrev pub index_check : List ℕ → Word → Option Fault
+index_check text word = if is_some (place_of text word) then None else Some BadIndex
+
+-- the place of an index that was checked
+abbrev pub place_at_index : List ℕ → Word → ℕ
+place_at_index text word = unwrap_or (place_of text word) 0

@@ -1,7 +1,10 @@
 pub mod Commands
+pub mod Comparisons
+pub mod Distances
 pub mod Flat
 pub mod Index
 pub mod Known
+pub mod Ranges
 pub use Rattle.rt_stamps.specs.Outcomes
 pub use Rattle.rt_stamps.specs.Places
 pub use Rattle.rt_stamps.specs.Words

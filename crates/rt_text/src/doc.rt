@@ -1,15 +1,18 @@
 // A document: a store, and what stamps its new characters.
-ghost use Rattle.std.specs.Prelude.{◌≡◌, ◌+◌, ◌≤◌, ◌<◌, ◌∷◌, [], IfOk, IfErr, OnOk, OnErr, length, min, ◌-◌, string_bytes, encode_utf8_all};
+ghost use Rattle.std.specs.Prelude.{◌≡◌, ◌+◌, ◌≤◌, ◌<◌, ◌∷◌, [], IfOk, IfErr, OnOk, OnErr, length, min, ◌-◌, map, string_bytes};
 ghost use Rattle.std.specs.Str.{chars};
 ghost use Rattle.rt_stamps.specs.declared.limits.TheConstants.{MOST_CELLS, GREATEST_COUNT};
 ghost use Rattle.rt_stamps.specs.Outcomes.{first_of, Refuses};
 ghost use Rattle.rt_store.specs.declared.cell.TheConstants.{FINAL_CELL};
 ghost use Rattle.rt_store.specs.Cells.{text_of, visible_of};
 ghost use Rattle.rt_text.specs.Flat.{new_flat, with_text};
-ghost use Rattle.rt_text.specs.Commands.{count_check, cell_check, text_between, inserted, got_one, got, position_of_index};
+ghost use Rattle.rt_text.specs.Commands.{count_check, cell_check, inserted, got_one, got, got_list, position_of_index, compared, counted};
 
+use crate::Comparison;
+use crate::distance::{distances_of, measures_of};
 use crate::index::{place_of, position_at};
 use crate::insertion::{cells_of, put};
+use crate::range::{ranges_at, text_between, texts_of};
 use rt_stamps::{Clock, Fault, Position, Site, Stamp};
 use rt_store::TextStore;
 use std::alloc::Global;
@@ -76,24 +79,6 @@ fn before_end<S: TextStore>(store: &S, place: usize) -> usize
     ensures within { result < length (visible_of (S.list store.now)) }
 {
     place.min(store.visible() - 1)
-}
-
-// The text of a store from a place up to before another.
-fn text_between<S: TextStore>(
-    alloc: Global,
-    store: &S,
-    from: usize,
-    to: usize,
-) -> Result<String, Fault>
-    ensures ok { IfOk result (λ text. string_bytes text ≡ encode_utf8_all (text_between (text_of (S.list store.now)) from to)) }
-    ensures err { IfErr result (λ fault. fault ≡ Fault.NoMemory) }
-{
-    let mut text = String::new(alloc);
-    let end = to.min(store.visible()).max(from);
-    for place in from..end {
-        text.push(store.char_at(place))?;
-    }
-    Ok(text)
 }
 
 impl<S: TextStore> Doc<S> {
@@ -193,5 +178,50 @@ impl<S: TextStore> Doc<S> {
             return Err(Fault::BadIndex);
         };
         Ok(position_at(&self.store, place))
+    }
+
+    /// `get INDEX INDEX INDEX ...` (Tk text manual): of the ranges that the indices name in pairs,
+    /// the texts that aren't empty, in the order given. A last index without another is one
+    /// character. `BadIndex` or want of memory.
+    pub fn get_list(&self, indices: &[String]) -> Result<Vec<String>, Fault>
+        ensures ok { IfOk result (λ texts. got_list self.now (map (λ w. string_bytes w) indices.now) ≡ Ok (map (λ w. string_bytes w) texts.items)) }
+        ensures err { IfErr result (Refuses (got_list self.now (map (λ w. string_bytes w) indices.now))) }
+    {
+        let ranges = ranges_at(self.alloc, &self.store, indices)?;
+        texts_of(self.alloc, &self.store, &ranges)
+    }
+
+    /// `compare INDEX OPERATOR INDEX` (Tk text manual): whether the comparison holds of the two
+    /// places. `BadOption` or `BadIndex`; it takes no memory.
+    pub fn compare(&self, first: &str, operator: &str, second: &str) -> Result<bool, Fault>
+        ensures { result ≡ compared self.now first.now operator.now second.now }
+    {
+        let Some(comparison) = Comparison::of(operator) else {
+            return Err(Fault::BadOption);
+        };
+        let Some(left) = place_of(&self.store, first) else {
+            return Err(Fault::BadIndex);
+        };
+        let Some(right) = place_of(&self.store, second) else {
+            return Err(Fault::BadIndex);
+        };
+        Ok(comparison.holds(left, right))
+    }
+
+    /// `count SWITCHES INDEX INDEX` (Tk text manual): the distances from the first index to the
+    /// second that the switches ask for in turn, negative where the first is later; in indices where
+    /// there is no switch. `BadOption`, `BadIndex`, or want of memory.
+    pub fn count(&self, switches: &[String], from: &str, to: &str) -> Result<Vec<i64>, Fault>
+        ensures ok { IfOk result (λ distances. counted self.now (map (λ w. string_bytes w) switches.now) from.now to.now ≡ Ok distances.items) }
+        ensures err { IfErr result (Refuses (counted self.now (map (λ w. string_bytes w) switches.now) from.now to.now)) }
+    {
+        let measures = measures_of(self.alloc, switches)?;
+        let Some(start) = place_of(&self.store, from) else {
+            return Err(Fault::BadIndex);
+        };
+        let Some(end) = place_of(&self.store, to) else {
+            return Err(Fault::BadIndex);
+        };
+        distances_of(self.alloc, &self.store, start, end, &measures)
     }
 }

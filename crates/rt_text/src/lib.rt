@@ -1,8 +1,14 @@
 //! A text and its commands.
 #![tactic(auto)]
 
+pub mod comparison;
+pub mod distance;
 pub mod doc;
 pub mod index;
 pub mod insertion;
+pub mod range;
 
+pub use comparison::Comparison;
+pub use distance::Measure;
 pub use doc::Doc;
+pub use range::Range;

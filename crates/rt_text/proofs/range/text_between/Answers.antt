@@ -1,10 +1,10 @@
 use Rattle.std.proofs.Common.{◌≡◌, ◌<◌, ◌∙◌, ap, sym, arith, length, min, max, append-nil}
 use Rattle.std.specs.Prelude.{encode_utf8, encode_utf8_all, ◌++◌}
 use Rattle.rt_store.specs.Cells.{text_of}
-use Rattle.rt_text.specs.Commands.{text_between}
+use Rattle.rt_text.specs.Ranges.{text_between}
 use Rattle.rt_text.proofs.PlaceLaws.{length_text}
 use Rattle.rt_text.proofs.TextLaws.{between_more, between_all}
-use Rattle.rt_text.proofs.doc.text_between.Goals as goal
+use Rattle.rt_text.proofs.range.text_between.Goals as goal
 
 pub loop-place-preserved : goal.loop-place-preserved
 loop-place-preserved g c =

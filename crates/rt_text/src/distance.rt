@@ -1,0 +1,92 @@
+// Distances between two places.
+ghost use Rattle.std.specs.Prelude.{◌≡◌, ◌+◌, ◌≤◌, pos, ◌-ℤ◌, IfOk, IfErr, map, length, string_bytes, Some, None, ◌⊎◌};
+ghost use Rattle.rt_stamps.specs.declared.limits.TheConstants.{MOST_CELLS};
+ghost use Rattle.rt_store.specs.Cells.{text_of};
+ghost use Rattle.rt_text.specs.Distances.{measure_of, measures_of, or_indices, distance_of};
+
+use rt_stamps::Fault;
+use rt_store::TextStore;
+use std::alloc::Global;
+
+/// What is counted between two places (Tk text manual).
+#[derive(Clone, Copy, Debug, PartialEq, Eq)]
+pub enum Measure {
+    /// `-chars`: characters.
+    Chars,
+    /// `-indices`: indices, one for each character.
+    Indices,
+    /// `-lines`: the line of the second place less that of the first.
+    Lines,
+}
+
+impl Measure {
+    /// What a switch asks to be counted.
+    pub fn of(switch: &str) -> Option<Measure>
+        ensures { result ≡ measure_of switch.now }
+    {
+        match switch {
+            "-chars" => Some(Measure::Chars),
+            "-indices" => Some(Measure::Indices),
+            "-lines" => Some(Measure::Lines),
+            _ => None,
+        }
+    }
+}
+
+/// What switches ask for, in turn. `BadOption` where one is unknown, or want of memory.
+pub(crate) fn measures_of(alloc: Global, switches: &[String]) -> Result<Vec<Measure>, Fault>
+    ensures ok { IfOk result (λ measures. measures_of (map (λ w. string_bytes w) switches.now) ≡ Some measures.items) }
+    ensures err { IfErr result (λ fault. (fault ≡ Fault.NoMemory) ⊎ ((fault ≡ Fault.BadOption) × (measures_of (map (λ w. string_bytes w) switches.now) ≡ None))) }
+{
+    let mut measures = Vec::new(alloc);
+    for switch in switches {
+        let Some(measure) = Measure::of(switch) else {
+            return Err(Fault::BadOption);
+        };
+        measures.push(measure)?;
+    }
+    Ok(measures)
+}
+
+// How far a place is from another.
+fn difference(from: usize, to: usize) -> i64
+    requires { (from ≤ MOST_CELLS + 1) × (to ≤ MOST_CELLS + 1) }
+    ensures { result ≡ pos to -ℤ pos from }
+{
+    to as i64 - from as i64
+}
+
+// The distance from a place to another.
+fn distance_of<S: TextStore>(store: &S, from: usize, to: usize, measure: Measure) -> i64
+    requires cells { length (S.list store.now) ≤ MOST_CELLS }
+    requires places { (from ≤ length (text_of (S.list store.now))) × (to ≤ length (text_of (S.list store.now))) }
+    ensures { result ≡ distance_of (text_of (S.list store.now)) from to measure }
+{
+    match measure {
+        Measure::Chars | Measure::Indices => difference(from, to),
+        Measure::Lines => difference(store.line_of(from), store.line_of(to)),
+    }
+}
+
+/// The distances from a place to another, in indices where no measure is given.
+pub(crate) fn distances_of<S: TextStore>(
+    alloc: Global,
+    store: &S,
+    from: usize,
+    to: usize,
+    measures: &[Measure],
+) -> Result<Vec<i64>, Fault>
+    requires cells { length (S.list store.now) ≤ MOST_CELLS }
+    requires places { (from ≤ length (text_of (S.list store.now))) × (to ≤ length (text_of (S.list store.now))) }
+    ensures ok { IfOk result (λ distances. distances.items ≡ map (distance_of (text_of (S.list store.now)) from to) (or_indices measures.now)) }
+    ensures err { IfErr result (λ fault. fault ≡ Fault.NoMemory) }
+{
+    let mut distances = Vec::new(alloc);
+    if measures.is_empty() {
+        distances.push(distance_of(store, from, to, Measure::Indices))?;
+    }
+    for measure in measures {
+        distances.push(distance_of(store, from, to, *measure))?;
+    }
+    Ok(distances)
+}

@@ -1,0 +1,117 @@
+// Ranges of places.
+ghost use Rattle.std.specs.Prelude.{◌≡◌, ◌≤◌, ◌⊎◌, All, IfOk, IfErr, map, length, string_bytes, encode_utf8_all};
+ghost use Rattle.rt_stamps.specs.declared.limits.TheConstants.{MOST_CELLS};
+ghost use Rattle.rt_stamps.specs.Outcomes.{first_of};
+ghost use Rattle.rt_store.specs.Cells.{text_of};
+ghost use Rattle.rt_text.specs.Index.{index_check, place_at_index};
+ghost use Rattle.rt_text.specs.Ranges.{text_between, ranges_of, texts_of};
+
+use crate::index::place_of;
+use rt_stamps::Fault;
+use rt_store::TextStore;
+use std::alloc::Global;
+
+/// The places from one up to before another; none where that isn't later.
+#[derive(Clone, Copy, Debug, PartialEq, Eq)]
+pub struct Range {
+    pub from: usize,
+    pub to: usize,
+}
+
+// The places of indices.
+fn places_of<S: TextStore>(
+    alloc: Global,
+    store: &S,
+    indices: &[String],
+) -> Result<Vec<usize>, Fault>
+    requires { length (S.list store.now) ≤ MOST_CELLS }
+    ensures ok { IfOk result (λ places. places.items ≡ map (place_at_index (text_of (S.list store.now))) (map (λ w. string_bytes w) indices.now)) }
+    ensures checked { IfOk result (λ places. first_of (map (index_check (text_of (S.list store.now))) (map (λ w. string_bytes w) indices.now)) ≡ None) }
+    ensures within { IfOk result (λ places. All (λ place. place ≤ length (text_of (S.list store.now))) places.items) }
+    ensures err { IfErr result (λ fault. (fault ≡ Fault.NoMemory) ⊎ (first_of (map (index_check (text_of (S.list store.now))) (map (λ w. string_bytes w) indices.now)) ≡ Some fault)) }
+{
+    let mut places = Vec::new(alloc);
+    for index in indices {
+        let Some(place) = place_of(store, index) else {
+            return Err(Fault::BadIndex);
+        };
+        places.push(place)?;
+    }
+    Ok(places)
+}
+
+// The ranges of places in pairs.
+fn ranges_of(alloc: Global, places: &[usize]) -> Result<Vec<Range>, Fault>
+    requires { All (λ place. place ≤ MOST_CELLS) places.now }
+    ensures ok { IfOk result (λ ranges. ranges.items ≡ ranges_of places.now) }
+    ensures err { IfErr result (λ fault. fault ≡ Fault.NoMemory) }
+{
+    let mut ranges = Vec::new(alloc);
+    let mut i = 0;
+    while places.len() - i > 1 {
+        ranges.push(Range {
+            from: places[i],
+            to: places[i + 1],
+        })?;
+        i += 2;
+    }
+    if i < places.len() {
+        ranges.push(Range {
+            from: places[i],
+            to: places[i] + 1,
+        })?;
+    }
+    Ok(ranges)
+}
+
+/// The ranges of indices in pairs.
+pub(crate) fn ranges_at<S: TextStore>(
+    alloc: Global,
+    store: &S,
+    indices: &[String],
+) -> Result<Vec<Range>, Fault>
+    requires { length (S.list store.now) ≤ MOST_CELLS }
+    ensures ok { IfOk result (λ ranges. ranges.items ≡ ranges_of (map (place_at_index (text_of (S.list store.now))) (map (λ w. string_bytes w) indices.now))) }
+    ensures checked { IfOk result (λ ranges. first_of (map (index_check (text_of (S.list store.now))) (map (λ w. string_bytes w) indices.now)) ≡ None) }
+    ensures err { IfErr result (λ fault. (fault ≡ Fault.NoMemory) ⊎ (first_of (map (index_check (text_of (S.list store.now))) (map (λ w. string_bytes w) indices.now)) ≡ Some fault)) }
+{
+    let places = places_of(alloc, store, indices)?;
+    ranges_of(alloc, &places)
+}
+
+/// The text of a store from a place up to before another.
+pub(crate) fn text_between<S: TextStore>(
+    alloc: Global,
+    store: &S,
+    from: usize,
+    to: usize,
+) -> Result<String, Fault>
+    ensures ok { IfOk result (λ text. string_bytes text ≡ encode_utf8_all (text_between (text_of (S.list store.now)) from to)) }
+    ensures err { IfErr result (λ fault. fault ≡ Fault.NoMemory) }
+{
+    let mut text = String::new(alloc);
+    let end = to.min(store.visible()).max(from);
+    for place in from..end {
+        text.push(store.char_at(place))?;
+    }
+    Ok(text)
+}
+
+/// The texts of ranges that aren't empty.
+pub(crate) fn texts_of<S: TextStore>(
+    alloc: Global,
+    store: &S,
+    ranges: &[Range],
+) -> Result<Vec<String>, Fault>
+    ensures ok { IfOk result (λ texts. map (λ w. string_bytes w) texts.items ≡ texts_of (text_of (S.list store.now)) ranges.now) }
+    ensures err { IfErr result (λ fault. fault ≡ Fault.NoMemory) }
+{
+    let mut texts = Vec::new(alloc);
+    let visible = store.visible();
+    for range in ranges {
+        if range.from < range.to.min(visible) {
+            texts.push(text_between(alloc, store, range.from, range.to)?)?;
+        }
+    }
+    Ok(texts)
+}
