@@ -8,6 +8,7 @@ import os
 import random
 import subprocess
 import sys
+import tempfile
 
 ROOT = os.path.dirname(os.path.dirname(os.path.abspath(__file__)))
 PROGRAM = sys.argv[1] if len(sys.argv) > 1 else os.path.join(ROOT, "peertext")
@@ -97,7 +98,39 @@ def statuses():
     check("a reader that fails", (done.stdout, done.stderr, done.returncode), (b"", b"peertext: 40 ReadFault\n", 1))
 
 
-for part in (whole_scripts, hostile_bytes, asks_and_waits, statuses):
+def failing_allocations():
+    """Each allocation fails in turn: a line is answered as the text then is, or `1 NoMemory` and the text is as it was."""
+    with tempfile.TemporaryDirectory() as folder:
+        shim = os.path.join(folder, "fail_alloc.so")
+        made = subprocess.run(["cc", "-shared", "-fPIC", "-o", shim, os.path.join(ROOT, "tests", "fail_alloc.c"), "-ldl"], capture_output=True)
+        if made.returncode:
+            print("no C compiler: the failing allocations were not tried")
+            return
+        asks = [("insert", "hello"), ("get", ""), ("insert", "a" * 3000), ("get", ""), ("index", "")]
+        script = "".join(f".t {name} 1.0 {text or 'end'}\n" if name != "index" else ".t index 1.end\n" for name, text in asks)
+        number, ended, refused = 0, False, 0
+        while not ended:
+            number += 1
+            done = subprocess.run([PROGRAM, "run", "--site", "1"], input=script.encode(), capture_output=True, timeout=120,
+                                  env={**os.environ, "LD_PRELOAD": shim, "FAIL_ALLOC": str(number)})
+            lines = done.stdout.decode().splitlines()
+            text, good = "", True
+            for (name, more), line in zip(asks, lines):
+                if line == "! 1 NoMemory":
+                    refused += 1
+                    continue
+                if name == "insert":
+                    text = more + text
+                good &= line == {"insert": "=", "get": f'= "{text}\\n"', "index": f"= 1.{len(text)}"}[name]
+            whole = len(lines) == len(asks) and done.returncode == 0
+            early = len(lines) < len(asks) and done.returncode in (1, 2) and done.stderr != b""
+            check(f"allocation {number} fails: {lines}", good and (whole or early), True)
+            ended = whole and "! 1 NoMemory" not in lines and number > 40 or number > 400
+        check("some allocations were refused to a line", refused > 0, True)
+        check("the last of them is behind us", number <= 400, True)
+
+
+for part in (whole_scripts, hostile_bytes, asks_and_waits, statuses, failing_allocations):
     part()
 print(f"{passed} passed, {failed} failed")
 sys.exit(1 if failed else 0)
