@@ -1,0 +1,397 @@
+-- Two ordered lists of operations, merged.
+use Rattle.std.proofs.Common.{◌≡◌, ◌↔◌, ℕ, zero, suc, ◌+◌, ◌<◌, ◌≤◌, true, false, ◌==◌, nat_lt, ◌⊎◌, inl, inr, List, [], ◌∷◌, ◌++◌, length, map, get_or, take, drop, cond, max, refl, ap, ◌∙◌, sym, subst, arith, append_assoc, append-nil, length-append, take-append-drop, drop-cons, add-one, reverse}
+use Rattle.std.proofs.lemmas.Bool.Decides.{nat_tests}
+use Rattle.std.specs.List.{AllByRecursion}
+use Rattle.rt_stamps.specs.Stamps.{is_before}
+use Rattle.rt_stamps.proofs.Order.{before_trans, before_irrefl, before_total}
+use Rattle.rt_oplog.specs.declared.ends.SiteEnd.{SiteEnd}
+use Rattle.rt_oplog.specs.Ends.{end_in}
+use Rattle.rt_oplog.specs.Operations.{Operation, stamp_of, has_bad_stamp, last_count}
+use Rattle.rt_oplog.specs.Logs.{Has, same_operation, reaches_into, clash, IsFalling, IsLog, known_end}
+use Rattle.rt_oplog.specs.Kept.{nothing, op_at, newest_first, IsKept}
+use Rattle.rt_oplog.specs.Merged.{IsMerged, HasClashOf}
+use Rattle.rt_oplog.proofs.Sets.{split, operation_true, clash_self, clash_sym, apart, member_before}
+use Rattle.rt_oplog.proofs.Joins.{free_past, IsUnion}
+use Rattle.std.proofs.lemmas.List.{get_or-append-add, take_more, drop_all, reverse-append}
+use Rattle.std.proofs.lemmas.List.Edits.{map_over_more}
+use Rattle.std.proofs.Math.ListN.{set}
+use Rattle.rt_oplog.proofs.Places.{oldest_before, falling_front, at_has}
+
+-- the operations of places, the first one first
+abbrev pub ops_at : List Operation → List ℕ → List Operation
+ops_at ops order = map (op_at ops) order
+
+-- each is before those behind it
+abbrev pub IsRising : List Operation → Type 0
+IsRising [] = Unit {0}
+IsRising (x ∷ xs) = ((y : Operation) → Has xs y → is_before (stamp_of x) (stamp_of y) ≡ true) × IsRising xs
+
+-- What was merged, the newest first, and what is left of the two.
+pub record Merging (one other merged left right : List Operation) : Type 0 where
+  pub falling : IsFalling merged
+  pub ahead : (p x : Operation) → Has merged p → Has left x ⊎ Has right x → is_before (stamp_of p) (stamp_of x) ≡ true
+  pub rising_left : IsRising left
+  pub rising_right : IsRising right
+  pub members : (x : Operation) → (Has merged x ⊎ (Has left x ⊎ Has right x)) ↔ (Has one x ⊎ Has other x)
+
+turned : {A B : Type 0} → A ⊎ B → B ⊎ A
+turned h = elim h [ inl a ↦ inr a | inr b ↦ inl b ]
+
+turned_rest : {A B C : Type 0} → A ⊎ (B ⊎ C) → A ⊎ (C ⊎ B)
+turned_rest h = elim h [ inl a ↦ inl a | inr b ↦ inr (turned b) ]
+
+pub sides : (one other merged left right : List Operation) → Merging one other merged left right → Merging one other merged right left
+sides one other merged left right m = record {
+  falling = m.falling;
+  ahead = λ p x i j. m.ahead p x i (turned j);
+  rising_left = m.rising_right;
+  rising_right = m.rising_left;
+  members = λ x. (λ h. (m.members x).0 (turned_rest h), λ h. turned_rest ((m.members x).1 h));
+}
+
+all_from : (P : Operation → Type 0) (set : List Operation) → ((x : Operation) → Has set x → P x) → AllByRecursion P set
+all_from P [] f = tt
+all_from P (q ∷ set) f = (f q (inl refl), all_from P set (λ x i. f x (inr i)))
+
+pub take_left : (one other merged : List Operation) (x : Operation) (left right : List Operation) → Merging one other merged (x ∷ left) right
+    → ((y : Operation) → Has right y → is_before (stamp_of x) (stamp_of y) ≡ true) → Merging one other (x ∷ merged) left right
+take_left one other merged x left right m f = record {
+  falling = (all_from (λ q. is_before (stamp_of q) (stamp_of x) ≡ true) merged (λ q i. m.ahead q x i (inl (inl refl))), m.falling);
+  ahead = λ p y i j. elim i [
+    | inl e ↦ subst (λ z. is_before (stamp_of z) (stamp_of y) ≡ true) e (elim j [ inl k ↦ m.rising_left.0 y k | inr k ↦ f y k ])
+    | inr k ↦ m.ahead p y k (elim j [ inl l ↦ inl (inr l) | inr l ↦ inr l ])
+  ];
+  rising_left = m.rising_left.1;
+  rising_right = m.rising_right;
+  members = λ y. (λ h. (m.members y).0 (back h), λ h. on ((m.members y).1 h));
+}
+  where
+    back : {A B C D : Type 0} → (A ⊎ B) ⊎ (C ⊎ D) → B ⊎ ((A ⊎ C) ⊎ D)
+    back h = elim h [ inl i ↦ elim i [ inl a ↦ inr (inl (inl a)) | inr b ↦ inl b ] | inr j ↦ elim j [ inl c ↦ inr (inl (inr c)) | inr d ↦ inr (inr d) ] ]
+
+    on : {A B C D : Type 0} → B ⊎ ((A ⊎ C) ⊎ D) → (A ⊎ B) ⊎ (C ⊎ D)
+    on h = elim h [ inl b ↦ inl (inr b) | inr i ↦ elim i [ inl j ↦ elim j [ inl a ↦ inl (inl a) | inr c ↦ inr (inl c) ] | inr d ↦ inr (inr d) ] ]
+
+-- the first of a rising list is before all others of it, and so is what is before the first
+before_all : (x y : Operation) (right : List Operation) → IsRising (y ∷ right) → is_before (stamp_of x) (stamp_of y) ≡ true → (z : Operation) → Has (y ∷ right) z → is_before (stamp_of x) (stamp_of z) ≡ true
+before_all x y right r e z i = elim i [
+  | inl d ↦ subst (λ w. is_before (stamp_of x) (stamp_of w) ≡ true) d e
+  | inr j ↦ before_trans (stamp_of x) (stamp_of y) (stamp_of z) e (r.0 z j)
+]
+
+pub take_lesser : (one other merged : List Operation) (x y : Operation) (left right : List Operation) → Merging one other merged (x ∷ left) (y ∷ right)
+    → is_before (stamp_of x) (stamp_of y) ≡ true → Merging one other (x ∷ merged) left (y ∷ right)
+take_lesser one other merged x y left right m e = take_left one other merged x left (y ∷ right) m (before_all x y right m.rising_right e)
+
+pub take_greater : (one other merged : List Operation) (x y : Operation) (left right : List Operation) → Merging one other merged (x ∷ left) (y ∷ right)
+    → is_before (stamp_of y) (stamp_of x) ≡ true → Merging one other (y ∷ merged) (x ∷ left) right
+take_greater one other merged x y left right m e =
+    sides one other (y ∷ merged) right (x ∷ left) (take_lesser one other merged y x right left (sides one other merged (x ∷ left) (y ∷ right) m) e)
+
+pub take_both : (one other merged : List Operation) (x y : Operation) (left right : List Operation) → Merging one other merged (x ∷ left) (y ∷ right)
+    → x ≡ y → Merging one other (x ∷ merged) left right
+take_both one other merged x y left right m e = take_left one other merged x left right
+    (record {
+      falling = m.falling;
+      ahead = λ p z i j. m.ahead p z i (elim j [ inl k ↦ inl k | inr k ↦ inr (inr k) ]);
+      rising_left = m.rising_left;
+      rising_right = m.rising_right.1;
+      members = λ z. (
+        λ h. (m.members z).0 (elim h [ inl a ↦ inl a | inr i ↦ elim i [ inl b ↦ inr (inl b) | inr c ↦ inr (inr (inr c)) ] ]),
+        λ h. elim ((m.members z).1 h) [ inl a ↦ inl a | inr i ↦ elim i [ inl b ↦ inr (inl b) | inr c ↦ elim c [ inl d ↦ inr (inl (inl (e ∙ d))) | inr d ↦ inr (inr d) ] ] ],
+      );
+    })
+    (λ z i. subst (λ w. is_before (stamp_of w) (stamp_of z) ≡ true) (sym e) (m.rising_right.0 z i))
+
+-- places
+
+pub seen_push : (ops : List Operation) (order : List ℕ) (place : ℕ) → newest_first ops (order ++ place ∷ []) ≡ op_at ops place ∷ newest_first ops order
+seen_push ops [] place = refl
+seen_push ops (first ∷ order) place = ap (λ xs. xs ++ op_at ops first ∷ []) (seen_push ops order place)
+
+has_end : (set : List Operation) (q x : Operation) → Has set x ⊎ (q ≡ x) → Has (set ++ q ∷ []) x
+has_end [] q x h = elim h [ inl i ↦ absurd i | inr e ↦ inl e ]
+has_end (y ∷ set) q x h = elim h [ inl i ↦ elim i [ inl e ↦ inl e | inr j ↦ inr (has_end set q x (inl j)) ] | inr e ↦ inr (has_end set q x (inr e)) ]
+
+end_has : (set : List Operation) (q x : Operation) → Has (set ++ q ∷ []) x → Has set x ⊎ (q ≡ x)
+end_has [] q x h = elim h [ inl e ↦ inr e | inr i ↦ absurd i ]
+end_has (y ∷ set) q x h = elim h [ inl e ↦ inl (inl e) | inr i ↦ elim (end_has set q x i) [ inl j ↦ inl (inr j) | inr e ↦ inr e ] ]
+
+pub seen_has : (ops : List Operation) (order : List ℕ) (x : Operation) → Has (newest_first ops order) x ↔ Has (ops_at ops order) x
+seen_has ops [] x = (λ h. h, λ h. h)
+seen_has ops (place ∷ order) x = (
+  λ h. elim (end_has (newest_first ops order) (op_at ops place) x h) [ inl i ↦ inr ((seen_has ops order x).0 i) | inr e ↦ inl e ],
+  λ h. has_end (newest_first ops order) (op_at ops place) x (elim h [ inl e ↦ inr e | inr i ↦ inl ((seen_has ops order x).1 i) ]),
+)
+
+pub rising_seen : (ops : List Operation) (order : List ℕ) → IsFalling (newest_first ops order) → IsRising (ops_at ops order)
+rising_seen ops [] f = tt
+rising_seen ops (place ∷ order) f = (
+  λ y i. oldest_before (newest_first ops order) (op_at ops place) y f ((seen_has ops order y).1 i),
+  rising_seen ops order (falling_front (newest_first ops order) (op_at ops place) f),
+)
+
+pub merging_start : (ops : List Operation) (mine theirs : List ℕ) → IsFalling (newest_first ops mine) → IsFalling (newest_first ops theirs)
+    → Merging (newest_first ops mine) (newest_first ops theirs) [] (ops_at ops mine) (ops_at ops theirs)
+merging_start ops mine theirs f g = record {
+  falling = tt;
+  ahead = λ p x i j. absurd i;
+  rising_left = rising_seen ops mine f;
+  rising_right = rising_seen ops theirs g;
+  members = λ x. (
+    λ h. elim h [ inl i ↦ absurd i | inr j ↦ elim j [ inl k ↦ inl ((seen_has ops mine x).1 k) | inr k ↦ inr ((seen_has ops theirs x).1 k) ] ],
+    λ h. inr (elim h [ inl k ↦ inl ((seen_has ops mine x).0 k) | inr k ↦ inr ((seen_has ops theirs x).0 k) ]),
+  );
+}
+
+-- the rest of one side goes behind
+pub merging_rest : (one other : List Operation) (ops : List Operation) (order rest : List ℕ) → Merging one other (newest_first ops order) (ops_at ops rest) []
+    → Merging one other (newest_first ops (order ++ rest)) [] []
+merging_rest one other ops order [] m = subst (λ xs. Merging one other (newest_first ops xs) [] []) (sym (append-nil order)) m
+merging_rest one other ops order (place ∷ rest) m =
+    subst (λ xs. Merging one other (newest_first ops xs) [] []) (append_assoc order (place ∷ []) rest)
+    (merging_rest one other ops (order ++ place ∷ []) rest
+    (subst (λ xs. Merging one other xs (ops_at ops rest) []) (sym (seen_push ops order place)) (take_left one other (newest_first ops order) (op_at ops place) (ops_at ops rest) [] m (λ y i. absurd i))))
+
+-- a site's known end is the last count of one of its operations
+pub end_from : (set : List Operation) (site n : ℕ) → n < known_end set site → (p : Operation) × Has set p × (p.site ≡ site) × (n < last_count p)
+end_from [] site n h = absurd (omega arith)
+end_from (q ∷ set) site n h = split (nat_lt n (known_end set site))
+    (λ e. let (p, i, s, l) = end_from set site n (grind (arith, nat_tests)) in (p, inr i, s, l))
+    (λ e. let k = own q (known_end set site) h e in (q, inl refl, k.0, k.1))
+  where
+    own : (q : Operation) (rest : ℕ) → n < cond (q.site == site) (max (last_count q) rest) rest → nat_lt n rest ≡ false → (q.site ≡ site) × (n < last_count q)
+    own q rest h e = (grind (arith, nat_tests), grind (arith, nat_tests))
+
+-- a newer operation that goes on from below the known end clashes
+pub clash_below : (set : List Operation) (op : Operation) → IsFalling (op ∷ set) → op.prev < known_end set op.site → (p : Operation) × Has set p × (clash p op ≡ true)
+clash_below set op f h =
+    let (p, i, s, l) = end_from set op.site op.prev h in
+    let b = member_before op p set f.0 i in
+    (p, i, overlap p s l b)
+  where
+    overlap : (p : Operation) → p.site ≡ op.site → op.prev < last_count p → is_before (stamp_of p) (stamp_of op) ≡ true → clash p op ≡ true
+    overlap p s l b =
+        let r : reaches_into p op ≡ true = grind (arith, nat_tests, s, l, b) in
+        let d : same_operation p op ≡ false = split (same_operation p op)
+        (λ e. let n = before_irrefl (stamp_of op) in let k : is_before (stamp_of op) (stamp_of op) ≡ true = subst (λ y. is_before (stamp_of y) (stamp_of op) ≡ true) (operation_true p op e) b in absurd (cc (k, n)))
+        (λ e. e) in
+        rw (d, r)
+
+-- a newer operation that goes on from the known end is taken
+pub log_newer : (set : List Operation) (op : Operation) → IsLog set → has_bad_stamp op ≡ false → IsFalling (op ∷ set) → known_end set op.site ≤ op.prev → IsLog (op ∷ set)
+log_newer set op l s f h = record {
+  falling = f;
+  sound = λ x i. elim i [ inl e ↦ subst (λ y. has_bad_stamp y ≡ false) e s | inr j ↦ l.sound x j ];
+  free = λ p q i j. elim i [
+    | inl e ↦ elim j [
+      | inl d ↦ subst (λ y. clash y q ≡ false) e (subst (λ y. clash op y ≡ false) d (clash_self op))
+      | inr k ↦ subst (λ y. clash y q ≡ false) e (free_past set op s h q k)
+    ]
+    | inr m ↦ elim j [
+      | inl d ↦ subst (λ y. clash p y ≡ false) d (clash_sym p op ∙ free_past set op s h p m)
+      | inr k ↦ l.free p q m k
+    ]
+  ];
+}
+
+-- places behind those of other operations
+
+pub shifted_seen : (ops more : List Operation) (order : List ℕ) → newest_first (ops ++ more) (map (λ place. length ops + place) order) ≡ newest_first more order
+shifted_seen ops more [] = refl
+shifted_seen ops more (place ∷ order) =
+    let e : op_at (ops ++ more) (length ops + place) ≡ op_at more place = get_or-append-add ops more place nothing in
+    rw (shifted_seen ops more order, e) refl
+
+pub shifted_within : (ops more : List Operation) (order : List ℕ) → AllByRecursion (λ place. place < length more) order → AllByRecursion (λ place. place < length (ops ++ more)) (map (λ place. length ops + place) order)
+shifted_within ops more [] h = tt
+shifted_within ops more (place ∷ order) h = (let l = length-append ops more in let a = h.0 in omega arith, shifted_within ops more order h.1)
+
+pub shift_fits : (n m total : ℕ) (order : List ℕ) → AllByRecursion (λ place. place < m) order → n + m ≡ total → AllByRecursion (λ place. n + place < total) order
+shift_fits n m total [] h e = tt
+shift_fits n m total (place ∷ order) h e = (let a = h.0 in omega arith, shift_fits n m total order h.1 e)
+
+-- the union of two logs, from what was merged
+pub union_merged : (one other : List Operation) (ops : List Operation) (mine theirs order : List ℕ) (ends : List SiteEnd) → one ≡ newest_first ops mine → other ≡ newest_first ops theirs
+    → IsMerged ops mine theirs order → IsKept ops order ends → IsUnion one other (newest_first ops order)
+union_merged one other ops mine theirs order ends e f m k = record {
+  log = k.log;
+  members = λ x. (
+    λ h. elim ((m.members x).0 h) [ inl i ↦ inl (subst (λ s. Has s x) (sym e) i) | inr i ↦ inr (subst (λ s. Has s x) (sym f) i) ],
+    λ h. (m.members x).1 (elim h [ inl i ↦ inl (subst (λ s. Has s x) e i) | inr i ↦ inr (subst (λ s. Has s x) f i) ]),
+  );
+}
+
+-- fronts of the places
+
+pub seen_append : (ops : List Operation) (xs ys : List ℕ) → newest_first ops (xs ++ ys) ≡ newest_first ops ys ++ newest_first ops xs
+seen_append ops [] ys = sym (append-nil (newest_first ops ys))
+seen_append ops (place ∷ xs) ys = ap (λ s. s ++ op_at ops place ∷ []) (seen_append ops xs ys) ∙ append_assoc (newest_first ops ys) (newest_first ops xs) (op_at ops place ∷ [])
+
+falling_after : (xs ys : List Operation) → IsFalling (xs ++ ys) → IsFalling ys
+falling_after [] ys h = h
+falling_after (x ∷ xs) ys h = falling_after xs ys h.1
+
+has_after : (xs ys : List Operation) (x : Operation) → Has ys x → Has (xs ++ ys) x
+has_after [] ys x h = h
+has_after (y ∷ xs) ys x h = inr (has_after xs ys x h)
+
+seen_parts : (ops : List Operation) (order : List ℕ) (i : ℕ) → newest_first ops order ≡ newest_first ops (drop i order) ++ newest_first ops (take i order)
+seen_parts ops order i = ap (newest_first ops) (sym (take-append-drop i order)) ∙ seen_append ops (take i order) (drop i order)
+
+falling_take : (ops : List Operation) (order : List ℕ) (i : ℕ) → IsFalling (newest_first ops order) → IsFalling (newest_first ops (take i order))
+falling_take ops order i f = falling_after (newest_first ops (drop i order)) (newest_first ops (take i order)) (subst IsFalling (seen_parts ops order i) f)
+
+has_take : (ops : List Operation) (order : List ℕ) (i : ℕ) (x : Operation) → Has (newest_first ops (take i order)) x → Has (newest_first ops order) x
+has_take ops order i x h = subst (λ s. Has s x) (sym (seen_parts ops order i)) (has_after (newest_first ops (drop i order)) (newest_first ops (take i order)) x h)
+
+pub within_push : (n place : ℕ) (order : List ℕ) → AllByRecursion (λ k. k < n) order → place < n → AllByRecursion (λ k. k < n) (order ++ place ∷ [])
+within_push n place [] h l = (l, tt)
+within_push n place (first ∷ order) h l = (h.0, within_push n place order h.1 l)
+
+pub within_append : (n : ℕ) (order rest : List ℕ) → AllByRecursion (λ k. k < n) order → AllByRecursion (λ k. k < n) rest → AllByRecursion (λ k. k < n) (order ++ rest)
+within_append n [] rest h l = l
+within_append n (first ∷ order) rest h l = (h.0, within_append n order rest h.1 l)
+
+pub within_drop : (n i : ℕ) (order : List ℕ) → AllByRecursion (λ k. k < n) order → AllByRecursion (λ k. k < n) (drop i order)
+within_drop n zero order h = h
+within_drop n (suc i) [] h = tt
+within_drop n (suc i) (first ∷ order) h = within_drop n i order h.1
+
+pub within_at : (n i : ℕ) (order : List ℕ) → i < length order → AllByRecursion (λ k. k < n) order → get_or order i 0 < n
+within_at n i [] l h = absurd (omega arith)
+within_at n zero (first ∷ order) l h = h.0
+within_at n (suc i) (first ∷ order) l h = within_at n i order (omega arith) h.1
+
+seen_next : (ops : List Operation) (order : List ℕ) (i : ℕ) → i < length order → newest_first ops (take (i + 1) order) ≡ op_at ops (get_or order i 0) ∷ newest_first ops (take i order)
+seen_next ops order i h = ap (newest_first ops) (take_more order i 0 h) ∙ seen_push ops (take i order) (get_or order i 0)
+
+-- one more operation, and its end
+
+pub kept_step : (ops : List Operation) (order : List ℕ) (i : ℕ) (ends more : List SiteEnd) (op : Operation) → i < length order → op ≡ op_at ops (get_or order i 0)
+    → AllByRecursion (λ place. place < length ops) order → IsFalling (newest_first ops order) → ((x : Operation) → Has (newest_first ops order) x → has_bad_stamp x ≡ false)
+    → IsKept ops (take i order) ends → end_in ends op.site ≤ op.prev → ((s : ℕ) → end_in more s ≡ cond (op.site == s) (max (last_count op) (end_in ends s)) (end_in ends s))
+    → IsKept ops (take (i + 1) order) more
+kept_step ops order i ends more op h e w f s k l m =
+    let set = newest_first ops (take i order) in
+    let seen : newest_first ops (take (i + 1) order) ≡ op ∷ set = seen_next ops order i h ∙ ap (λ y. y ∷ set) (sym e) in
+    let sound : has_bad_stamp op ≡ false = rw e (s (op_at ops (get_or order i 0)) (at_has ops order i 0 h)) in
+    let past : known_end set op.site ≤ op.prev = let a = k.known op.site in omega arith in
+    record {
+      within = subst (λ xs. AllByRecursion (λ place. place < length ops) xs) (sym (take_more order i 0 h)) (within_push (length ops) (get_or order i 0) (take i order) k.within (within_at (length ops) i order h w));
+      log = subst IsLog (sym seen) (log_newer set op k.log sound (subst IsFalling seen (falling_take ops order (i + 1) f)) past);
+      known = λ site. m site ∙ ap (λ n. cond (op.site == site) (max (last_count op) n) n) (k.known site) ∙ ap (λ xs. known_end xs site) (sym seen);
+    }
+
+pub clash_step : (ops : List Operation) (order : List ℕ) (i : ℕ) (ends : List SiteEnd) (op : Operation) → i < length order → op ≡ op_at ops (get_or order i 0)
+    → IsFalling (newest_first ops order) → IsKept ops (take i order) ends → op.prev < end_in ends op.site → HasClashOf (newest_first ops order) (newest_first ops order)
+clash_step ops order i ends op h e f k l =
+    let set = newest_first ops (take i order) in
+    let seen : newest_first ops (take (i + 1) order) ≡ op ∷ set = seen_next ops order i h ∙ ap (λ y. y ∷ set) (sym e) in
+    let below : op.prev < known_end set op.site = let a = k.known op.site in omega arith in
+    let (p, j, c) = clash_below set op (subst IsFalling seen (falling_take ops order (i + 1) f)) below in
+    (p, op, inl (has_take ops order i p j), inl (subst (λ y. Has (newest_first ops order) y) (sym e) (at_has ops order i 0 h)), c)
+
+-- one more operation merged
+
+ops_drop : (ops : List Operation) (order : List ℕ) (i : ℕ) → i < length order → ops_at ops (drop i order) ≡ op_at ops (get_or order i 0) ∷ ops_at ops (drop (i + 1) order)
+ops_drop ops order i h = ap (ops_at ops) (drop-cons order i 0 h ∙ ap (λ n. get_or order i 0 ∷ drop n order) (sym (add-one i)))
+
+abbrev MergingAt : List Operation → List Operation → List Operation → List ℕ → List ℕ → List ℕ → Type 0
+MergingAt one other ops order left right = Merging one other (newest_first ops order) (ops_at ops left) (ops_at ops right)
+
+pub merge_left : (one other ops : List Operation) (order mine theirs : List ℕ) (i j : ℕ) → i < length mine → j < length theirs
+    → Merging one other (newest_first ops order) (ops_at ops (drop i mine)) (ops_at ops (drop j theirs))
+    → is_before (stamp_of (op_at ops (get_or mine i 0))) (stamp_of (op_at ops (get_or theirs j 0))) ≡ true
+    → Merging one other (newest_first ops (order ++ get_or mine i 0 ∷ [])) (ops_at ops (drop (i + 1) mine)) (ops_at ops (drop j theirs))
+merge_left one other ops order mine theirs i j h k m e =
+    let a = ops_drop ops mine i h in
+    let b = ops_drop ops theirs j k in
+    let c = seen_push ops order (get_or mine i 0) in
+    rw (c, b) (take_lesser one other (newest_first ops order) (op_at ops (get_or mine i 0)) (op_at ops (get_or theirs j 0)) (ops_at ops (drop (i + 1) mine)) (ops_at ops (drop (j + 1) theirs))
+    (subst (λ l. Merging one other (newest_first ops order) l (op_at ops (get_or theirs j 0) ∷ ops_at ops (drop (j + 1) theirs))) a (subst (λ r. Merging one other (newest_first ops order) (ops_at ops (drop i mine)) r) b m)) e)
+
+pub merge_right : (one other ops : List Operation) (order mine theirs : List ℕ) (i j : ℕ) → i < length mine → j < length theirs
+    → Merging one other (newest_first ops order) (ops_at ops (drop i mine)) (ops_at ops (drop j theirs))
+    → is_before (stamp_of (op_at ops (get_or theirs j 0))) (stamp_of (op_at ops (get_or mine i 0))) ≡ true
+    → Merging one other (newest_first ops (order ++ get_or theirs j 0 ∷ [])) (ops_at ops (drop i mine)) (ops_at ops (drop (j + 1) theirs))
+merge_right one other ops order mine theirs i j h k m e =
+    sides one other _ _ _ (merge_left one other ops order theirs mine j i k h (sides one other _ _ _ m) e)
+
+pub merge_both : (one other ops : List Operation) (order mine theirs : List ℕ) (i j : ℕ) → i < length mine → j < length theirs
+    → Merging one other (newest_first ops order) (ops_at ops (drop i mine)) (ops_at ops (drop j theirs))
+    → op_at ops (get_or mine i 0) ≡ op_at ops (get_or theirs j 0)
+    → Merging one other (newest_first ops (order ++ get_or mine i 0 ∷ [])) (ops_at ops (drop (i + 1) mine)) (ops_at ops (drop (j + 1) theirs))
+merge_both one other ops order mine theirs i j h k m e =
+    let a = ops_drop ops mine i h in
+    let b = ops_drop ops theirs j k in
+    let c = seen_push ops order (get_or mine i 0) in
+    rw c (take_both one other (newest_first ops order) (op_at ops (get_or mine i 0)) (op_at ops (get_or theirs j 0)) (ops_at ops (drop (i + 1) mine)) (ops_at ops (drop (j + 1) theirs))
+    (subst (λ l. Merging one other (newest_first ops order) l (op_at ops (get_or theirs j 0) ∷ ops_at ops (drop (j + 1) theirs))) a (subst (λ r. Merging one other (newest_first ops order) (ops_at ops (drop i mine)) r) b m)) e)
+
+-- two different operations of one stamp clash
+pub clash_at : (ops : List Operation) (mine theirs : List ℕ) (i j : ℕ) → i < length mine → j < length theirs → IsLog (newest_first ops theirs)
+    → is_before (stamp_of (op_at ops (get_or mine i 0))) (stamp_of (op_at ops (get_or theirs j 0))) ≡ false
+    → is_before (stamp_of (op_at ops (get_or theirs j 0))) (stamp_of (op_at ops (get_or mine i 0))) ≡ false
+    → same_operation (op_at ops (get_or mine i 0)) (op_at ops (get_or theirs j 0)) ≡ false
+    → HasClashOf (newest_first ops mine) (newest_first ops theirs)
+clash_at ops mine theirs i j h k l e f n =
+    let x = op_at ops (get_or mine i 0) in
+    let y = op_at ops (get_or theirs j 0) in
+    let s = l.sound y (at_has ops theirs j 0 k) in (
+      x,
+      y,
+      inl (at_has ops mine i 0 h),
+      inr (at_has ops theirs j 0 k),
+      split (clash x y) (λ t. t)
+          (λ t. let d = apart x y s n t in let b = before_total (stamp_of x) (stamp_of y) e d in absurd (cc (b, f))),
+    )
+
+-- both rests, of which one is empty
+pub merged_all : (ops : List Operation) (order mine theirs : List ℕ) (i j : ℕ) → AllByRecursion (λ place. place < length ops) mine → AllByRecursion (λ place. place < length ops) theirs
+    → AllByRecursion (λ place. place < length ops) order → (length mine ≤ i) ⊎ (length theirs ≤ j)
+    → Merging (newest_first ops mine) (newest_first ops theirs) (newest_first ops order) (ops_at ops (drop i mine)) (ops_at ops (drop j theirs))
+    → IsMerged ops mine theirs ((order ++ drop i mine) ++ drop j theirs)
+merged_all ops order mine theirs i j w v u h m =
+    let all = done h in
+    record {
+      within = within_append (length ops) (order ++ drop i mine) (drop j theirs) (within_append (length ops) order (drop i mine) u (within_drop (length ops) i mine w)) (within_drop (length ops) j theirs v);
+      falling = all.falling;
+      members = λ x. (λ k. (all.members x).0 (inl k), λ k. elim ((all.members x).1 k) [ inl a ↦ a | inr b ↦ elim b [ inl a ↦ absurd a | inr a ↦ absurd a ] ]);
+    }
+  where
+    done : (length mine ≤ i) ⊎ (length theirs ≤ j) → Merging (newest_first ops mine) (newest_first ops theirs) (newest_first ops ((order ++ drop i mine) ++ drop j theirs)) [] []
+    done k = elim k [
+      | inl a ↦ (let e : drop i mine ≡ [] = drop_all i mine a in
+          merging_rest (newest_first ops mine) (newest_first ops theirs) ops (order ++ drop i mine) (drop j theirs)
+          (sides _ _ _ _ _ (rw (e, append-nil order) (rw e at m))))
+      | inr b ↦ (let e : drop j theirs ≡ [] = drop_all j theirs b in
+          rw (e, append-nil (order ++ drop i mine)) (merging_rest (newest_first ops mine) (newest_first ops theirs) ops order (drop i mine) (rw e at m)))
+    ]
+
+pub kept_none : (ops : List Operation) (ends : List SiteEnd) → ((s : ℕ) → end_in ends s ≡ 0) → IsKept ops [] ends
+kept_none ops ends e = record {
+  within = tt;
+  log = record { falling = tt; sound = λ op i. absurd i; free = λ p q i j. absurd i };
+  known = e;
+}
+
+-- in the order of the places
+
+pub seen_reversed : (ops : List Operation) (order : List ℕ) → reverse (newest_first ops order) ≡ ops_at ops order
+seen_reversed ops [] = refl
+seen_reversed ops (place ∷ order) = reverse-append (newest_first ops order) (op_at ops place ∷ []) ∙ ap (λ xs. op_at ops place ∷ xs) (seen_reversed ops order)
+
+pub at_map : (ops : List Operation) (order : List ℕ) (i : ℕ) (d : Operation) → i < length order → get_or (ops_at ops order) i d ≡ op_at ops (get_or order i 0)
+at_map ops [] i d h = absurd (omega arith)
+at_map ops (place ∷ order) zero d h = refl
+at_map ops (place ∷ order) (suc i) d h = at_map ops order i d (omega arith)
+
+at_any : (xs : List ℕ) (i d e : ℕ) → i < length xs → get_or xs i d ≡ get_or xs i e
+at_any [] i d e h = absurd (omega arith)
+at_any (x ∷ xs) zero d e h = refl
+at_any (x ∷ xs) (suc i) d e h = at_any xs i d e (omega arith)
+
+pub shift_step : (start : ℕ) (xs ys : List ℕ) (i : ℕ) → i < length xs → i < length ys → ys ≡ map (λ place. start + place) (take i xs) ++ drop i xs
+    → set ys i (start + get_or ys i 0) ≡ map (λ place. start + place) (take (i + 1) xs) ++ drop (i + 1) xs
+shift_step start xs ys i h k e = map_over_more (λ place. start + place) xs ys i (get_or ys i 0) h e (at_any ys i 0 (get_or ys i 0) k)

@@ -1,0 +1,11 @@
+use Rattle.std.proofs.Common.{◌∙◌, sym, ap, map, arith}
+use Rattle.std.proofs.lemmas.List.{take_all}
+use Rattle.rt_oplog.specs.Kept.{op_at}
+use Rattle.rt_oplog.proofs.Merges.{seen_reversed}
+use Rattle.rt_oplog.proofs.log.OpLog.in_order.Goals as goal
+
+pub returns-clause-operations : goal.returns-clause-operations
+returns-clause-operations c =
+    let ops = c.self.inside.ops.items in
+    let order = c.self.inside.order.items in
+    rw (← c.self.view_is) (c.loop-place.invariant ∙ ap (map (op_at ops)) (take_all c.loop-place.place-index order (omega (arith, c.loop-place-test.false, c.deref-place-items.ensures.len, c.self.inside.order.ok.0))) ∙ sym (seen_reversed ops order))

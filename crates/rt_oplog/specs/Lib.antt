@@ -1,0 +1,9 @@
+pub mod Edits
+pub mod Ends
+pub mod Kept
+pub mod Logs
+pub mod Merged
+pub mod Operations
+pub mod Outcomes
+pub mod Rules
+pub mod Texts

@@ -1,0 +1,84 @@
+// The known ends of sites.
+ghost use Rattle.std.specs.Prelude.{◌≡◌, ℕ, ◌+◌, ◌-◌, ◌==◌, ◌<◌, ◌≤◌, max, length, vec_len, vec_capacity, if◌then◌else◌, IsOk, OnOk, OnErr};
+ghost use Rattle.rt_oplog.specs.Ends.{end_in, place_in};
+
+use std::alloc::{AllocError, Global};
+
+/// A site and its known end.
+#[derive(Clone, Copy)]
+pub struct SiteEnd {
+    pub site: u16,
+    pub last: u64,
+}
+
+/// The known end of each site that has operations, in the order in which the sites came.
+#[derive(Drop)]
+pub struct Ends {
+    pub ends: Vec<SiteEnd>,
+}
+
+/// Where a site stands, or how many there are.
+fn place_of(ends: &[SiteEnd], site: u16) -> usize
+    ensures place { result ≡ place_in ends.now site }
+    ensures within { result ≤ length ends.now }
+{
+    for (i, end) in ends.iter().enumerate() {
+        if end.site == site {
+            return i;
+        }
+    }
+    ends.len()
+}
+
+impl Ends {
+    /// No site.
+    pub fn new(alloc: Global) -> Ends
+        ensures { (site : ℕ) → end_in result.ends.items site ≡ 0 }
+    {
+        Ends {
+            ends: Vec::new(alloc),
+        }
+    }
+
+    /// Room for so many more sites.
+    pub fn reserve(&mut self, more: usize) -> Result<(), AllocError>
+        ensures same { self.new.ends.items ≡ self.old.ends.items }
+        ensures ok { OnOk result (vec_len self.new.ends + more ≤ vec_capacity self.new.ends) }
+        ensures len { vec_len self.new.ends ≡ vec_len self.old.ends }
+        ensures capacity { vec_capacity self.old.ends ≤ vec_capacity self.new.ends }
+        ensures succeeds { vec_len self.old.ends + more ≤ vec_capacity self.old.ends → IsOk result }
+    {
+        self.ends.reserve(more)
+    }
+
+    /// The known end of a site, 0 if it has none.
+    pub fn get(&self, site: u16) -> u64
+        ensures { result ≡ end_in self.now.ends.items site }
+    {
+        for end in &self.ends {
+            if end.site == site {
+                return end.last;
+            }
+        }
+        0
+    }
+
+    /// A last count of a site. There is room for one more site.
+    pub fn raise(&mut self, site: u16, last: u64)
+        requires { vec_len self.old.ends < vec_capacity self.old.ends }
+        ensures ends { (s : ℕ) → end_in self.new.ends.items s ≡ (if site == s then max last (end_in self.old.ends.items s) else end_in self.old.ends.items s) }
+        ensures capacity { vec_capacity self.new.ends ≡ vec_capacity self.old.ends }
+        ensures len { vec_len self.new.ends ≤ vec_len self.old.ends + 1 }
+    {
+        let place = place_of(&self.ends, site);
+        if place < self.ends.len() {
+            let known = self.ends[place].last;
+            self.ends[place] = SiteEnd {
+                site,
+                last: last.max(known),
+            };
+        } else {
+            self.ends.push_reserved(SiteEnd { site, last });
+        }
+    }
+}

@@ -1,0 +1,197 @@
+// Logs.
+ghost use Rattle.std.specs.Prelude.{◌≡◌, ℕ, ◌+◌, ◌-◌, ◌<◌, ◌≤◌, List, [], true, false, length, reverse, map, min, vec_len, vec_capacity, IsOk, OnOk, IfOk, IfErr, OnErr, slice_get, Some};
+ghost use Rattle.std.specs.List.{AllByRecursion, list_any};
+ghost use Rattle.rt_stamps.specs.declared.fault.Fault.TheVariants.{NoMemory};
+ghost use Rattle.rt_stamps.specs.Stamps.{is_before};
+ghost use Rattle.rt_oplog.specs.Operations.{stamp_of, has_bad_stamp};
+ghost use Rattle.rt_oplog.specs.Logs.{IsLog, IsFalling, holds, same_operation, clash, known_end};
+ghost use Rattle.rt_oplog.specs.Kept.{op_at, newest_first, leading};
+ghost use Rattle.rt_oplog.specs.Outcomes.{Pushes, Joins};
+
+use crate::Op;
+use crate::ends::Ends;
+use crate::same::{is_clash, is_same};
+use rt_stamps::{Fault, ROOT, Stamp};
+use std::alloc::Global;
+use std::marker::Model;
+
+/// A set of sound operations, no two of which clash.
+#[derive(Drop)]
+pub struct OpLog {
+    alloc: Global,
+    /// As they came.
+    ops: Vec<Op>,
+    /// Their places in `ops`, by rising stamp.
+    order: Vec<usize>,
+    ends: Ends,
+}
+
+impl Model for OpLog {
+    ghost use Rattle.std.specs.Prelude.{◌-◌, min, vec_len, vec_capacity};
+    ghost use Rattle.rt_oplog.specs.Outcomes.{Log};
+
+    ghost Value = { Log };
+
+    ghost use Rattle.rt_oplog.specs.Kept.{newest_first, IsKept};
+
+    ghost view = { λ log. record { operations = newest_first log.ops.items log.order.items; room = min (vec_capacity log.ops - vec_len log.ops) (min (vec_capacity log.order - vec_len log.order) (vec_capacity log.ends.ends - vec_len log.ends.ends)) } };
+
+    ghost invariant = { λ log. IsKept log.ops.items log.order.items log.ends.ends.items };
+}
+
+/// Whether the operation of a place is before a stamp.
+fn is_earlier(ops: &[Op], place: usize, stamp: Stamp) -> bool
+    ensures { result ≡ is_before (stamp_of (op_at ops.now place)) stamp }
+{
+    match ops.get(place) {
+        Some(op) => op.stamp() < stamp,
+        None => ROOT < stamp,
+    }
+}
+
+/// How many operations are before a stamp.
+fn place_of(ops: &[Op], order: &[usize], stamp: Stamp) -> usize
+    requires { IsFalling (newest_first ops.now order.now) }
+    ensures place { result ≡ leading (λ place. is_before (stamp_of (op_at ops.now place)) stamp) order.now }
+    ensures within { result ≤ length order.now }
+{
+    order.partition_point(|place| is_earlier(ops, *place, stamp))
+}
+
+/// Whether the operation of a place is this one.
+fn is_at(ops: &[Op], place: usize, op: &Op) -> bool
+    requires { place < length ops.now }
+    ensures { result ≡ same_operation (op_at ops.now place) op.now }
+{
+    is_same(&ops[place], op)
+}
+
+/// Whether an operation of the places clashes with this one.
+fn any_clash(ops: &[Op], order: &[usize], op: &Op) -> bool
+    requires within { AllByRecursion (λ place. place < length ops.now) order.now }
+    requires log { IsLog (newest_first ops.now order.now) }
+    requires sound { has_bad_stamp op.now ≡ false }
+    ensures { result ≡ list_any (λ place. clash op.now (op_at ops.now place)) order.now }
+{
+    for place in order {
+        if is_clash(op, &ops[*place]) {
+            return true;
+        }
+    }
+    false
+}
+
+impl OpLog {
+    /// A log without operations.
+    pub fn new(alloc: Global) -> OpLog
+        ensures { result.operations ≡ [] }
+    {
+        OpLog {
+            alloc,
+            ops: Vec::new(alloc),
+            order: Vec::new(alloc),
+            ends: Ends::new(alloc),
+        }
+    }
+
+    /// Makes room for `more` calls of `push`, which then take no memory. `NoMemory` where a growth
+    /// was refused; the operations stay.
+    pub fn reserve(&mut self, more: usize) -> Result<(), Fault>
+        ensures same { self.new.operations ≡ self.old.operations }
+        ensures ok { OnOk result (more ≤ self.new.room) }
+        ensures kept { self.old.room ≤ self.new.room }
+        ensures fault { IfErr result (λ fault. fault ≡ NoMemory) }
+        ensures there { more ≤ self.old.room → IsOk result }
+    {
+        self.ops.reserve(more)?;
+        self.order.reserve(more)?;
+        self.ends.reserve(more)?;
+        Ok(())
+    }
+
+    /// How many operations there are.
+    pub fn len(&self) -> usize
+        ensures { result ≡ length self.now.operations }
+    {
+        self.order.len()
+    }
+
+    /// The operation at a place by rising stamp.
+    pub fn get(&self, place: usize) -> &Op
+        requires { place < length self.now.operations }
+        ensures operation { slice_get (reverse self.now.operations) place ≡ Some result.now }
+        ensures log { IsLog self.now.operations }
+    {
+        &self.ops[self.order[place]]
+    }
+
+    /// The operations by rising stamp.
+    pub fn in_order(&self) -> Result<Vec<&Op>, Fault>
+        ensures operations { IfOk result (λ ops. map (λ op. op.now) ops.items ≡ reverse self.now.operations) }
+        ensures fault { IfErr result (λ fault. fault ≡ NoMemory) }
+    {
+        let mut ops = Vec::new(self.alloc);
+        for place in &self.order {
+            ops.push(&self.ops[*place])?;
+        }
+        Ok(ops)
+    }
+
+    /// Whether the log has this very operation.
+    pub fn contains(&self, op: &Op) -> bool
+        ensures { result ≡ holds self.now.operations op.now }
+    {
+        let place = place_of(&self.ops, &self.order, op.stamp());
+        place < self.order.len() && is_at(&self.ops, self.order[place], op)
+    }
+
+    /// The greatest last count of a site's operations, 0 if it has none.
+    pub fn known(&self, site: u16) -> u64
+        ensures { result ≡ known_end self.now.operations site }
+    {
+        self.ends.get(site)
+    }
+
+    /// Whether an operation of the log clashes with this one. What goes on from its site's known
+    /// end clashes with none.
+    fn clashes(&self, op: &Op) -> bool
+        requires { has_bad_stamp op.now ≡ false }
+        ensures { result ≡ list_any (clash op.now) self.now.operations }
+    {
+        if op.prev() >= self.ends.get(op.site()) {
+            return false;
+        }
+        any_clash(&self.ops, &self.order, op)
+    }
+
+    /// Adds an operation; nothing where the log has it. `BadStamp` exactly for an operation that is
+    /// not sound, `Conflict` exactly where one of the log clashes with it, `NoMemory` only where
+    /// there is no room left. After a fault the operations are as before.
+    pub fn push(&mut self, op: Op) -> Result<(), Fault>
+        ensures { Pushes op self.old result self.new }
+    {
+        op.check()?;
+        if self.contains(&op) {
+            return Ok(());
+        }
+        if self.clashes(&op) {
+            return Err(Fault::Conflict);
+        }
+        self.reserve(1)?;
+        let place = place_of(&self.ops, &self.order, op.stamp());
+        self.ends.raise(op.site(), op.last_count());
+        let _added = self.order.insert(place, self.ops.len());
+        self.ops.push_reserved(op);
+        Ok(())
+    }
+}
+
+/// Moves places behind so many others.
+fn shift(places: &mut [usize], start: usize, total: usize)
+    requires { AllByRecursion (λ place. start + place < total) places.old }
+    ensures { places.new ≡ map (λ place. start + place) places.old }
+{
+    for place in places.iter_mut() {
+        *place = start + *place;
+    }
+}
