@@ -11,3 +11,6 @@ pub mod values;
 
 pub use expression::{Expr, parse, resolve};
 pub use ground::Ground;
+
+#[cfg(test)]
+mod tests;
