@@ -12,3 +12,6 @@ pub use comparison::Comparison;
 pub use distance::Measure;
 pub use doc::Doc;
 pub use range::Range;
+
+#[cfg(test)]
+mod tests;
