@@ -3,8 +3,8 @@ pub mod Pieces
 pub mod Replies
 pub mod Run
 pub mod Site
-pub mod State
-pub mod Step
+pub use Rattle.rt_peers.specs.State
+pub use Rattle.rt_peers.specs.Step
 pub use Rattle.rt_stamps.specs.Fault
 pub use Rattle.rt_stamps.specs.Lines
 pub use Rattle.rt_stamps.specs.Outcomes

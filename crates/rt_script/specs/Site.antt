@@ -7,8 +7,8 @@ use Rattle.rt_stamps.specs.Outcomes.{Answers}
 use Rattle.rt_stamps.specs.Words.{Word}
 use Rattle.rt_script.specs.declared.answer.Answer.{Answer}
 use Rattle.rt_script.specs.declared.answer.Answer.TheVariants.{Replied, Refused}
-use Rattle.rt_script.specs.State.{State}
-use Rattle.rt_script.specs.Step.{Outcome, step}
+use Rattle.rt_peers.specs.State.{State}
+use Rattle.rt_peers.specs.Step.{Outcome, step}
 
 -- the lines that name no widget
 abbrev pub is_site_word : Word → Bool

@@ -1,20 +1,6 @@
 // What a line of a script is answered.
+use rt_peers::Reply;
 use rt_stamps::Fault;
-use std::marker::Model;
-
-/// The words of a reply.
-#[derive(Drop)]
-pub struct Reply {
-    pub words: Vec<String>,
-}
-
-impl Model for Reply {
-    ghost use Rattle.std.specs.Prelude.{List, ℕ, map, string_bytes};
-
-    ghost Value = { List (List ℕ) };
-
-    ghost view = { λ r. map (λ w. string_bytes w) r.words.items };
-}
 
 /// What a line is answered: the words of a reply, or why it was refused.
 #[derive(Drop)]

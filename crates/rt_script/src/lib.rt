@@ -2,7 +2,6 @@
 #![tactic(auto)]
 
 pub mod answer;
-pub mod command;
 pub mod command_line;
 pub mod commands;
 pub mod engine;
@@ -10,7 +9,6 @@ pub mod laws;
 pub mod parse_line;
 pub mod reply;
 pub mod scripts;
-pub mod site;
 pub mod site_lines;
 #[cfg(test)]
 mod site_tests;
@@ -18,12 +16,11 @@ mod site_tests;
 mod tests;
 pub mod words;
 
-pub use answer::{Answer, Reply};
-pub use command::Command;
+pub use answer::Answer;
 pub use command_line::{Line, LineFault};
 pub use commands::Commands;
 pub use engine::Ended;
 pub use parse_line::line;
 pub use reply::reply_line;
+pub use rt_peers::{Command, Reply, SiteState};
 pub use scripts::run;
-pub use site::SiteState;

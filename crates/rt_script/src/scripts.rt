@@ -4,7 +4,7 @@ ghost use Rattle.rt_script.specs.Run.{Ends};
 ghost use Rattle.rt_script.specs.Site.{SiteGives};
 
 use crate::engine::{Ended, run_lines};
-use crate::site::SiteState;
+use rt_peers::SiteState;
 use rt_stamps::{Sink, Source};
 use std::alloc::Global;
 

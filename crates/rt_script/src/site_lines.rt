@@ -4,7 +4,7 @@ ghost use Rattle.rt_script.specs.Site.{is_site_word};
 
 use crate::answer::Answer;
 use crate::commands::Commands;
-use crate::site::SiteState;
+use rt_peers::SiteState;
 use rt_stamps::Fault;
 
 // Whether a line's first word names no widget.
@@ -15,7 +15,7 @@ fn is_site_word(word: &str) -> bool
 }
 
 impl Commands for SiteState {
-    ghost use Rattle.rt_script.specs.State.{State};
+    ghost use Rattle.rt_peers.specs.State.{State};
     ghost use Rattle.rt_script.specs.Site.{SiteGives};
 
     ghost State = { State };

@@ -1,12 +1,14 @@
 // A site, and its commands.
 ghost use Rattle.std.specs.Prelude.{◌≡◌, ◌≤◌, ◌∷◌, [], map, string_bytes, IfOk, IfErr};
+ghost use Rattle.std.specs.Fmt.{signed_decimal};
+ghost use Rattle.std.specs.List.{prefix_len};
 ghost use Rattle.rt_stamps.specs.declared.limits.TheConstants.{MOST_CELLS};
 ghost use Rattle.rt_stamps.specs.Outcomes.{Answers};
-ghost use Rattle.rt_script.specs.State.{new_state, is_widget};
-ghost use Rattle.rt_script.specs.Step.{insert_step, get_step, index_step, command_step, step};
+ghost use Rattle.rt_peers.specs.State.{new_state, is_widget};
+ghost use Rattle.rt_peers.specs.Step.{insert_step, get_step, index_step, compare_step, counted_step, count_step, text_of_bool, is_switch, command_step, step};
 
-use crate::answer::Reply;
 use crate::command::{Command, command_of};
+use crate::reply::Reply;
 use rt_stamps::{Fault, Site};
 use rt_store::ListStore;
 use rt_text::Doc;
@@ -21,7 +23,7 @@ pub struct SiteState {
 }
 
 impl Model for SiteState {
-    ghost use Rattle.rt_script.specs.State.{State};
+    ghost use Rattle.rt_peers.specs.State.{State};
 
     ghost Value = { State };
 
@@ -36,6 +38,41 @@ fn one_word(alloc: Global, word: String) -> Result<Reply, Fault>
     let mut words = Vec::with_capacity(alloc, 1)?;
     words.push(word)?;
     Ok(Reply { words })
+}
+
+// A reply of numbers.
+fn numbers(alloc: Global, values: &[i64]) -> Result<Reply, Fault>
+    ensures ok { IfOk result (λ reply. reply ≡ map signed_decimal values.now) }
+    ensures err { IfErr result (λ fault. fault ≡ Fault.NoMemory) }
+{
+    let mut words = Vec::with_capacity(alloc, values.len())?;
+    for value in values {
+        words.push(value.to_string(alloc)?)?;
+    }
+    Ok(Reply { words })
+}
+
+// Truth as it is written.
+fn text_of_bool(alloc: Global, holds: bool) -> Result<String, Fault>
+    ensures ok { IfOk result (λ text. string_bytes text ≡ text_of_bool holds) }
+    ensures err { IfErr result (λ fault. fault ≡ Fault.NoMemory) }
+{
+    let text = if holds { "1" } else { "0" };
+    Ok(String::from_str(alloc, text)?)
+}
+
+// Whether a word is a switch.
+fn is_switch(word: &str) -> bool
+    ensures { result ≡ is_switch word.now }
+{
+    word.as_bytes().first() == Some(&b'-')
+}
+
+// How many switches some words begin with.
+fn switches_len(words: &[String]) -> usize
+    ensures { result ≡ prefix_len is_switch (map (λ w. string_bytes w) words.now) }
+{
+    words.iter().take_while(|word| is_switch(word)).count()
 }
 
 // Whether a word is the path of the widget.
@@ -70,14 +107,18 @@ impl SiteState {
         })
     }
 
-    // `get INDEX ?INDEX?`.
+    // `get INDEX ?INDEX ...?`.
     fn get(&mut self, words: &[String]) -> Result<Reply, Fault>
         ensures { Answers (get_step self.old (map (λ w. string_bytes w) words.now)) self.old result self.new }
     {
         let text = match words {
             [index] => self.doc.get_one(index)?,
             [from, to] => self.doc.get(from, to)?,
-            _ => return Err(Fault::BadCommand),
+            [] => return Err(Fault::BadCommand),
+            _ => {
+                let words = self.doc.get_list(words)?;
+                return Ok(Reply { words });
+            }
         };
         one_word(self.alloc, text)
     }
@@ -93,6 +134,36 @@ impl SiteState {
         one_word(self.alloc, position.to_string(self.alloc)?)
     }
 
+    // `compare INDEX OPERATOR INDEX`.
+    fn compare(&mut self, words: &[String]) -> Result<Reply, Fault>
+        ensures { Answers (compare_step self.old (map (λ w. string_bytes w) words.now)) self.old result self.new }
+    {
+        let [first, operator, second] = words else {
+            return Err(Fault::BadCommand);
+        };
+        let holds = self.doc.compare(first, operator, second)?;
+        one_word(self.alloc, text_of_bool(self.alloc, holds)?)
+    }
+
+    // `count` with its switches and its indices.
+    fn count_between(&mut self, switches: &[String], indices: &[String]) -> Result<Reply, Fault>
+        ensures { Answers (counted_step self.old (map (λ w. string_bytes w) switches.now) (map (λ w. string_bytes w) indices.now)) self.old result self.new }
+    {
+        let [from, to] = indices else {
+            return Err(Fault::BadCommand);
+        };
+        let distances = self.doc.count(switches, from, to)?;
+        numbers(self.alloc, &distances)
+    }
+
+    // `count ?SWITCH ...? INDEX INDEX`.
+    fn count(&mut self, words: &[String]) -> Result<Reply, Fault>
+        ensures { Answers (count_step self.old (map (λ w. string_bytes w) words.now)) self.old result self.new }
+    {
+        let switches = switches_len(words);
+        self.count_between(&words[..switches], &words[switches..])
+    }
+
     // A command and its words.
     fn run_command(&mut self, command: Option<Command>, words: &[String]) -> Result<Reply, Fault>
         ensures { Answers (command_step self.old command (map (λ w. string_bytes w) words.now)) self.old result self.new }
@@ -101,6 +172,8 @@ impl SiteState {
             Some(Command::Insert) => self.insert(words),
             Some(Command::Get) => self.get(words),
             Some(Command::Index) => self.index(words),
+            Some(Command::Compare) => self.compare(words),
+            Some(Command::Count) => self.count(words),
             None => Err(Fault::BadCommand),
         }
     }

@@ -1,6 +1,6 @@
 // The commands of a widget.
 ghost use Rattle.std.specs.Prelude.{◌≡◌};
-ghost use Rattle.rt_script.specs.Step.{command_of};
+ghost use Rattle.rt_peers.specs.Step.{command_of};
 
 /// A command of a widget.
 #[derive(Clone, Copy, Debug, PartialEq, Eq)]
@@ -8,6 +8,8 @@ pub enum Command {
     Insert,
     Get,
     Index,
+    Compare,
+    Count,
 }
 
 /// The command that a word names.
@@ -18,6 +20,8 @@ pub fn command_of(word: &str) -> Option<Command>
         "insert" => Some(Command::Insert),
         "get" => Some(Command::Get),
         "index" => Some(Command::Index),
+        "compare" => Some(Command::Compare),
+        "count" => Some(Command::Count),
         _ => None,
     }
 }

@@ -1,14 +1,16 @@
 -- What a command of a widget does: the reply and the state after it, or why it is refused.
-use Rattle.std.specs.Prelude.{List, [], ◌∷◌, Option, Some, None, Result, Ok, Err, codes, if◌then◌else◌}
+use Rattle.std.specs.Prelude.{◌==◌, List, [], ◌∷◌, map, take, drop, Bool, false, Option, Some, None, Result, Ok, Err, codes, if◌then◌else◌}
+use Rattle.std.specs.Fmt.{signed_decimal}
+use Rattle.std.specs.List.{prefix_len}
 use Rattle.std.specs.Str.{bytes_eq}
 use Rattle.rt_stamps.specs.declared.fault.Fault.{Fault}
 use Rattle.rt_stamps.specs.declared.fault.Fault.TheVariants.{BadCommand, NoWidget}
 use Rattle.rt_stamps.specs.Places.{text_of_position}
 use Rattle.rt_stamps.specs.Words.{Word}
-use Rattle.rt_text.specs.Commands.{inserted, got_one, got, position_of_index}
-use Rattle.rt_script.specs.declared.command.Command.{Command}
-use Rattle.rt_script.specs.declared.command.Command.TheVariants.{Insert, Get, Index}
-use Rattle.rt_script.specs.State.{State, is_widget}
+use Rattle.rt_text.specs.Commands.{inserted, got_one, got, got_list, position_of_index, compared, counted}
+use Rattle.rt_peers.specs.declared.command.Command.{Command}
+use Rattle.rt_peers.specs.declared.command.Command.TheVariants.{Insert, Get, Index, Compare, Count}
+use Rattle.rt_peers.specs.State.{State, is_widget}
 
 -- the words of a reply and the state after it, or a fault
 abbrev pub Outcome : Type 0
@@ -26,12 +28,12 @@ insert_step state [] = Err BadCommand
 insert_step state (index ∷ []) = Err BadCommand
 insert_step state (index ∷ new ∷ more ∷ words) = Err BadCommand
 
--- `get INDEX ?INDEX?` replies with one word, the text
+-- `get INDEX ?INDEX?` replies with one word, the text; with more indices each text that isn't empty is a word
 abbrev pub get_step : State → List Word → Outcome
 get_step state (index ∷ []) = as_outcome (λ text. (text ∷ [], state)) (got_one state.doc index)
 get_step state (from ∷ to ∷ []) = as_outcome (λ text. (text ∷ [], state)) (got state.doc from to)
+get_step state (from ∷ to ∷ more ∷ words) = as_outcome (λ texts. (texts, state)) (got_list state.doc (from ∷ to ∷ more ∷ words))
 get_step state [] = Err BadCommand
-get_step state (from ∷ to ∷ more ∷ words) = Err BadCommand
 
 -- `index INDEX` replies with one word, LINE.CHARACTER
 abbrev pub index_step : State → List Word → Outcome
@@ -39,12 +41,42 @@ index_step state (index ∷ []) = as_outcome (λ position. (text_of_position pos
 index_step state [] = Err BadCommand
 index_step state (index ∷ more ∷ words) = Err BadCommand
 
+-- truth as it is written
+abbrev pub text_of_bool : Bool → Word
+text_of_bool holds = if holds then codes "1" else codes "0"
+
+-- `compare INDEX OPERATOR INDEX` replies with one word, 1 or 0
+abbrev pub compare_step : State → List Word → Outcome
+compare_step state (first ∷ operator ∷ second ∷ []) = as_outcome (λ holds. (text_of_bool holds ∷ [], state)) (compared state.doc first operator second)
+compare_step state [] = Err BadCommand
+compare_step state (first ∷ []) = Err BadCommand
+compare_step state (first ∷ operator ∷ []) = Err BadCommand
+compare_step state (first ∷ operator ∷ second ∷ more ∷ words) = Err BadCommand
+
+-- a word that begins with a minus is a switch
+abbrev pub is_switch : Word → Bool
+is_switch [] = false
+is_switch (c ∷ word) = c == 45
+
+-- `count` with its switches and its indices: a number for each switch in turn, one where there is none
+abbrev pub counted_step : State → List Word → List Word → Outcome
+counted_step state switches (from ∷ to ∷ []) = as_outcome (λ distances. (map signed_decimal distances, state)) (counted state.doc switches from to)
+counted_step state switches [] = Err BadCommand
+counted_step state switches (from ∷ []) = Err BadCommand
+counted_step state switches (from ∷ to ∷ more ∷ words) = Err BadCommand
+
+-- `count ?SWITCH ...? INDEX INDEX`: the words up to the first that is no switch are switches, the others indices
+abbrev pub count_step : State → List Word → Outcome
+count_step state words = let switches = prefix_len is_switch words in counted_step state (take switches words) (drop switches words)
+
 -- the command that a word names
 abbrev pub command_of : Word → Option Command
 command_of word =
     if bytes_eq word (codes "insert") then Some Insert
     else if bytes_eq word (codes "get") then Some Get
     else if bytes_eq word (codes "index") then Some Index
+    else if bytes_eq word (codes "compare") then Some Compare
+    else if bytes_eq word (codes "count") then Some Count
     else None
 
 -- each command has its step
@@ -53,6 +85,8 @@ command_step state None words = Err BadCommand
 command_step state (Some Insert) words = insert_step state words
 command_step state (Some Get) words = get_step state words
 command_step state (Some Index) words = index_step state words
+command_step state (Some Compare) words = compare_step state words
+command_step state (Some Count) words = count_step state words
 
 -- a widget's command is its first word; there is none without a word
 abbrev pub widget_step : State → List Word → Outcome
