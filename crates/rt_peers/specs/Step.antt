@@ -28,11 +28,15 @@ insert_step state [] = Err BadCommand
 insert_step state (index ∷ []) = Err BadCommand
 insert_step state (index ∷ new ∷ more ∷ words) = Err BadCommand
 
--- `get INDEX ?INDEX?` replies with one word, the text; with more indices each text that isn't empty is a word
+-- `get` of more indices replies with the texts that aren't empty, a word each
+abbrev pub list_step : State → List Word → Outcome
+list_step state indices = as_outcome (λ texts. (texts, state)) (got_list state.doc indices)
+
+-- `get INDEX ?INDEX ...?`: of one index or two the reply is one word, the text
 abbrev pub get_step : State → List Word → Outcome
 get_step state (index ∷ []) = as_outcome (λ text. (text ∷ [], state)) (got_one state.doc index)
 get_step state (from ∷ to ∷ []) = as_outcome (λ text. (text ∷ [], state)) (got state.doc from to)
-get_step state (from ∷ to ∷ more ∷ words) = as_outcome (λ texts. (texts, state)) (got_list state.doc (from ∷ to ∷ more ∷ words))
+get_step state (from ∷ to ∷ more ∷ words) = list_step state (from ∷ to ∷ more ∷ words)
 get_step state [] = Err BadCommand
 
 -- `index INDEX` replies with one word, LINE.CHARACTER
@@ -58,9 +62,13 @@ abbrev pub is_switch : Word → Bool
 is_switch [] = false
 is_switch (c ∷ word) = c == 45
 
--- `count` with its switches and its indices: a number for each switch in turn, one where there is none
+-- from an index to another, a number for each switch in turn, and one where there is none
+abbrev pub distances_step : State → List Word → Word → Word → Outcome
+distances_step state switches from to = as_outcome (λ distances. (map signed_decimal distances, state)) (counted state.doc switches from to)
+
+-- `count` with its switches and its indices, which are two
 abbrev pub counted_step : State → List Word → List Word → Outcome
-counted_step state switches (from ∷ to ∷ []) = as_outcome (λ distances. (map signed_decimal distances, state)) (counted state.doc switches from to)
+counted_step state switches (from ∷ to ∷ []) = distances_step state switches from to
 counted_step state switches [] = Err BadCommand
 counted_step state switches (from ∷ []) = Err BadCommand
 counted_step state switches (from ∷ to ∷ more ∷ words) = Err BadCommand

@@ -1,11 +1,11 @@
 // A site, and its commands.
-ghost use Rattle.std.specs.Prelude.{◌≡◌, ◌≤◌, ◌∷◌, [], map, string_bytes, IfOk, IfErr};
+ghost use Rattle.std.specs.Prelude.{◌≡◌, ◌≤◌, ◌∷◌, [], map, length, string_bytes, IfOk, IfErr};
 ghost use Rattle.std.specs.Fmt.{signed_decimal};
 ghost use Rattle.std.specs.List.{prefix_len};
 ghost use Rattle.rt_stamps.specs.declared.limits.TheConstants.{MOST_CELLS};
 ghost use Rattle.rt_stamps.specs.Outcomes.{Answers};
 ghost use Rattle.rt_peers.specs.State.{new_state, is_widget};
-ghost use Rattle.rt_peers.specs.Step.{insert_step, get_step, index_step, compare_step, counted_step, count_step, text_of_bool, is_switch, command_step, step};
+ghost use Rattle.rt_peers.specs.Step.{insert_step, get_step, list_step, index_step, compare_step, distances_step, counted_step, count_step, text_of_bool, is_switch, command_step, step};
 
 use crate::command::{Command, command_of};
 use crate::reply::Reply;
@@ -70,7 +70,8 @@ fn is_switch(word: &str) -> bool
 
 // How many switches some words begin with.
 fn switches_len(words: &[String]) -> usize
-    ensures { result ≡ prefix_len is_switch (map (λ w. string_bytes w) words.now) }
+    ensures value { result ≡ prefix_len (λ w. is_switch (string_bytes w)) words.now }
+    ensures within { result ≤ length words.now }
 {
     words.iter().take_while(|word| is_switch(word)).count()
 }
@@ -115,12 +116,17 @@ impl SiteState {
             [index] => self.doc.get_one(index)?,
             [from, to] => self.doc.get(from, to)?,
             [] => return Err(Fault::BadCommand),
-            _ => {
-                let words = self.doc.get_list(words)?;
-                return Ok(Reply { words });
-            }
+            _ => return self.get_list(words),
         };
         one_word(self.alloc, text)
+    }
+
+    // `get` of more indices.
+    fn get_list(&mut self, words: &[String]) -> Result<Reply, Fault>
+        ensures { Answers (list_step self.old (map (λ w. string_bytes w) words.now)) self.old result self.new }
+    {
+        let words = self.doc.get_list(words)?;
+        Ok(Reply { words })
     }
 
     // `index INDEX`.
@@ -145,6 +151,14 @@ impl SiteState {
         one_word(self.alloc, text_of_bool(self.alloc, holds)?)
     }
 
+    // `count` with its switches, from an index to another.
+    fn count_from(&mut self, switches: &[String], from: &str, to: &str) -> Result<Reply, Fault>
+        ensures { Answers (distances_step self.old (map (λ w. string_bytes w) switches.now) from.now to.now) self.old result self.new }
+    {
+        let distances = self.doc.count(switches, from, to)?;
+        numbers(self.alloc, &distances)
+    }
+
     // `count` with its switches and its indices.
     fn count_between(&mut self, switches: &[String], indices: &[String]) -> Result<Reply, Fault>
         ensures { Answers (counted_step self.old (map (λ w. string_bytes w) switches.now) (map (λ w. string_bytes w) indices.now)) self.old result self.new }
@@ -152,8 +166,7 @@ impl SiteState {
         let [from, to] = indices else {
             return Err(Fault::BadCommand);
         };
-        let distances = self.doc.count(switches, from, to)?;
-        numbers(self.alloc, &distances)
+        self.count_from(switches, from, to)
     }
 
     // `count ?SWITCH ...? INDEX INDEX`.

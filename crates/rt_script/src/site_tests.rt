@@ -136,8 +136,8 @@ const TABLE: [(&str, &str); 12] = [
         "! 4 BadCommand\n! 4 BadCommand\n! 4 BadCommand\n! 4 BadCommand\n",
     ),
     (
-        ".t insert\n.t insert 1.0\n.t insert 1.0 a b\n.t get\n.t get 1.0 1.0 1.0\n.t index\n.t index 1.0 1.0\n",
-        "! 4 BadCommand\n! 4 BadCommand\n! 4 BadCommand\n! 4 BadCommand\n! 4 BadCommand\n! 4 BadCommand\n! 4 BadCommand\n",
+        ".t insert\n.t insert 1.0\n.t insert 1.0 a b\n.t get\n.t index\n.t index 1.0 1.0\n",
+        "! 4 BadCommand\n! 4 BadCommand\n! 4 BadCommand\n! 4 BadCommand\n! 4 BadCommand\n! 4 BadCommand\n",
     ),
     (
         ".t insert x a\n.t get 1.0 x\n.t get x\n.t index 1\n.t index 1.\n.t index .1\n.t index 1.0.0\n.t index +1.0\n.t index en\n",
@@ -162,9 +162,49 @@ const TABLE: [(&str, &str); 12] = [
     (".t insert 1.0 }\n.t get 1.0 end\n", "=\n= \"}\\n\"\n"),
 ];
 
+// Lists of ranges, comparisons and distances.
+const RANGES: [(&str, &str); 9] = [
+    (
+        ".t insert 1.0 de\n.t get 1.0 1.1 1.1 1.0 1.1\n.t get 1.1 1.1\n.t get 1.1 1.1 1.0 1.0\n.t get end\n.t get end end end\n",
+        "=\n= d e\n= \"\"\n=\n= \"\"\n=\n",
+    ),
+    (
+        ".t insert 1.0 abc\n.t get 1.2 end 1.0 1.2 1.1\n.t get 1.0 1.1 x\n.t get x 1.0 y\n",
+        "=\n= \"c\\n\" ab b\n! 2 BadIndex\n! 2 BadIndex\n",
+    ),
+    (
+        ".t insert 1.0 hello\n.t count -lines -chars 1.0 end\n.t count end 1.0\n.t compare 1.0 < end\n.t compare 1.0 =< end\n",
+        "=\n= 1 6\n= -6\n= 1\n! 9 BadOption\n",
+    ),
+    (
+        ".t insert 1.0 ab\n.t count -indices 1.1 1.1\n.t count -lines end 1.0\n.t count -chars -chars 1.0 1.2\n.t count 1.0 9.9\n",
+        "=\n= 0\n= -1\n= 2 2\n= 3\n",
+    ),
+    (
+        ".t count\n.t count 1.0\n.t count -1.0 2.0\n.t count -x 1.0\n.t count 1.0 1.0 1.0\n.t count 1.0 -chars 1.0\n",
+        "! 4 BadCommand\n! 4 BadCommand\n! 4 BadCommand\n! 4 BadCommand\n! 4 BadCommand\n! 4 BadCommand\n",
+    ),
+    (
+        ".t count -x 1.0 1.0\n.t count -chars -x y 1.0\n.t count -- 1.0 1.0\n.t count 1.0 -x\n.t count 1.0 x\n.t count -chars x 1.0\n",
+        "! 9 BadOption\n! 9 BadOption\n! 9 BadOption\n! 2 BadIndex\n! 2 BadIndex\n! 2 BadIndex\n",
+    ),
+    (
+        ".t compare\n.t compare 1.0 <\n.t compare 1.0 < end 1.0\n.t compare x =< y\n.t compare x < 1.0\n.t compare 1.0 < x\n",
+        "! 4 BadCommand\n! 4 BadCommand\n! 4 BadCommand\n! 9 BadOption\n! 2 BadIndex\n! 2 BadIndex\n",
+    ),
+    (
+        ".t insert 1.0 ab\n.t compare 1.0 < 1.1\n.t compare 1.1 < 1.1\n.t compare 1.1 <= 1.1\n.t compare 1.2 <= 1.1\n.t compare 1.1 == 1.1\n.t compare 1.0 == 1.1\n",
+        "=\n= 1\n= 0\n= 1\n= 0\n= 1\n= 0\n",
+    ),
+    (
+        ".t insert 1.0 ab\n.t compare 1.1 >= 1.1\n.t compare 1.0 >= 1.1\n.t compare 1.1 > 1.0\n.t compare 1.1 > 1.1\n.t compare 1.0 != 1.1\n.t compare 1.9 != 1.2\n",
+        "=\n= 1\n= 0\n= 1\n= 0\n= 1\n= 0\n",
+    ),
+];
+
 #[test]
 fn replies_of_scripts(rt: HostRuntime) {
-    for (script, want) in TABLE {
+    for (script, want) in TABLE.iter().chain(RANGES.iter()) {
         for size in [1, 3, 4096] {
             let pieces = Pieces {
                 bytes: script.as_bytes(),

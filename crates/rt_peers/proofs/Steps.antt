@@ -1,0 +1,51 @@
+-- Words and steps.
+use Rattle.std.proofs.Common.{◌≡◌, ◌≤◌, ◌<◌, ◌⊎◌, inl, inr, Ok, Err, Result, get_or, sym, ◌∙◌, ℕ, ◌+◌, ◌-◌, Bool, List, [], ◌∷◌, cond, map, take, drop, length, refl, ap, arith, String, Global, string_bytes}
+use Rattle.std.specs.List.{prefix_len}
+use Rattle.std.proofs.lemmas.List.{take-map, drop-map, length-map, take_all, length-drop}
+use Rattle.std.specs.Prelude.{IfOk, IfErr}
+use Rattle.rt_stamps.specs.declared.fault.Fault.{Fault}
+use Rattle.rt_stamps.specs.declared.fault.Fault.TheVariants.{NoMemory}
+use Rattle.rt_stamps.specs.Outcomes.{Answers, Refuses}
+use Rattle.rt_stamps.specs.Words.{Word}
+use Rattle.rt_peers.specs.State.{State}
+use Rattle.rt_peers.specs.Step.{as_outcome, get_step, list_step, count_step, counted_step, distances_step, is_switch}
+
+-- three indices or more
+many : (state : State) (words : List Word) → 3 ≤ length words → get_step state words ≡ list_step state words
+many state [] h = absurd (omega arith)
+many state (a ∷ []) h = absurd (omega arith)
+many state (a ∷ b ∷ []) h = absurd (omega arith)
+many state (a ∷ b ∷ c ∷ words) h = refl
+
+pub get_of_many : (state : State) (words : List (String Global)) → 3 ≤ length words → get_step state (map (λ w. string_bytes w) words) ≡ list_step state (map (λ w. string_bytes w) words)
+get_of_many state words h = many state (map (λ w. string_bytes w) words) (rw (length-map words (λ w. string_bytes w)) h)
+
+-- the words at the front that pass a test
+prefix_len_map : {X Y : Type 0} (f : X → Y) (p : Y → Bool) (xs : List X) → prefix_len p (map f xs) ≡ prefix_len (λ x. p (f x)) xs
+prefix_len_map f p [] = refl
+prefix_len_map f p (x ∷ xs) = ap (λ n. cond (p (f x)) (1 + n) 0) (prefix_len_map f p xs)
+
+pub count_parts : (state : State) (words : List (String Global)) (n : ℕ) → n ≡ prefix_len (λ w. is_switch (string_bytes w)) words
+    → count_step state (map (λ w. string_bytes w) words) ≡ counted_step state (map (λ w. string_bytes w) (take n words)) (map (λ w. string_bytes w) (take (length words - n) (drop n words)))
+count_parts state words n e =
+    let rest : take (length words - n) (drop n words) ≡ drop n words = take_all (length words - n) (drop n words) (omega (arith, length-drop n words)) in
+    rw (rest, prefix_len_map (λ w. string_bytes w) is_switch words, ← e, take-map (λ w. string_bytes w) n words, drop-map (λ w. string_bytes w) n words) refl
+
+-- a reply that is made of a value, or a want of memory in its making
+pub replied_with : {T : Type 0} (state : State) (f : T → List Word) (outcome : Result T Fault) (value : T) (result : Result (List Word) Fault) → outcome ≡ Ok value
+    → IfOk result (λ reply. reply ≡ f value) → IfErr result (λ fault. fault ≡ NoMemory) → Answers (as_outcome (λ v. (f v, state)) outcome) state result state
+replied_with state f outcome value (Ok reply) e ok err = rw (e, ok) refl
+replied_with state f outcome value (Err fault) e ok err = (refl, inl err)
+
+-- what is refused stays refused
+pub refused_with : {T : Type 0} (state : State) (f : T → List Word) (outcome : Result T Fault) (fault found : Fault) → Refuses outcome found → fault ≡ found
+    → Refuses (as_outcome (λ v. (f v, state)) outcome) fault
+refused_with state f outcome fault found (inl e) h = inl (h ∙ e)
+refused_with state f outcome fault found (inr e) h = inr (rw (e, h) refl)
+
+pub two_indices : (state : State) (switches : List Word) (words : List (String Global)) (from to : String Global) → 2 ≤ length words → length words < 3 → from ≡ get_or words 0 from → to ≡ get_or words 1 to
+    → counted_step state switches (map (λ w. string_bytes w) words) ≡ distances_step state switches (string_bytes from) (string_bytes to)
+two_indices state switches [] from to h k a b = absurd (omega arith)
+two_indices state switches (x ∷ []) from to h k a b = absurd (omega arith)
+two_indices state switches (x ∷ y ∷ []) from to h k a b = rw (a, b) refl
+two_indices state switches (x ∷ y ∷ z ∷ words) from to h k a b = absurd (omega arith)
