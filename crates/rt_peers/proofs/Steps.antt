@@ -1,5 +1,5 @@
 -- Words and steps.
-use Rattle.std.proofs.Common.{◌≡◌, ◌≤◌, ◌<◌, ◌⊎◌, inl, inr, Ok, Err, Result, get_or, sym, ◌∙◌, ℕ, ◌+◌, ◌-◌, Bool, List, [], ◌∷◌, cond, map, take, drop, length, refl, ap, arith, String, Global, string_bytes}
+use Rattle.std.proofs.Common.{◌≡◌, ◌≤◌, ◌<◌, inl, inr, Ok, Err, Result, get_or, ◌∙◌, ℕ, ◌+◌, ◌-◌, Bool, List, [], ◌∷◌, cond, map, take, drop, length, refl, ap, arith, String, Global, string_bytes}
 use Rattle.std.specs.List.{prefix_len}
 use Rattle.std.proofs.lemmas.List.{take-map, drop-map, length-map, take_all, length-drop}
 use Rattle.std.specs.Prelude.{IfOk, IfErr}

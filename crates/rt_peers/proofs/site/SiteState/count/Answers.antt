@@ -1,4 +1,3 @@
-use Rattle.std.proofs.Common.{map, string_bytes, arith, length}
 use Rattle.rt_peers.proofs.Steps.{count_parts}
 use Rattle.rt_peers.proofs.site.SiteState.count.Goals as goal
 

@@ -1,4 +1,4 @@
-use Rattle.std.proofs.Common.{map, string_bytes, ℕ}
+use Rattle.std.proofs.Common.{map, string_bytes}
 use Rattle.rt_peers.proofs.Steps.{two_indices}
 use Rattle.rt_peers.proofs.site.SiteState.count_between.Goals as goal
 

@@ -1,4 +1,3 @@
-use Rattle.std.proofs.Common.{map, string_bytes, arith, length}
 use Rattle.rt_peers.proofs.Steps.{get_of_many}
 use Rattle.rt_peers.proofs.site.SiteState.get.Goals as goal
 
