@@ -203,7 +203,7 @@ not_plain c h = by (c == 34) (c == 92) refl refl h
 pub plain_within : (text : List ℕ) (i : ℕ) → i ≤ length text → i + prefix_len is_plain (drop i text) ≤ length text
 plain_within text i l = omega (arith, prefix_len-le-length is_plain (drop i text), length-drop i text)
 
-plain_boundary : (text : List ℕ) (i : ℕ) → i ≤ length text → IsCharBoundary text (i + prefix_len is_plain (drop i text))
+pub plain_boundary : (text : List ℕ) (i : ℕ) → i ≤ length text → IsCharBoundary text (i + prefix_len is_plain (drop i text))
 plain_boundary text i l = (plain_within text i l, λ s. (IsCharBoundary-before_ascii text _ s (low s)).1 s)
   where
     low : i + prefix_len is_plain (drop i text) < length text → get_or text (i + prefix_len is_plain (drop i text)) 0 < 128
