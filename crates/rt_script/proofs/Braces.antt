@@ -21,7 +21,7 @@ opening_one text = sum_by-append (λ c. cond (c == 123) 1 0) text (125 ∷ [])
 shorter : (v w r s : List ℕ) → IsBalanced v → IsBalanced w → v ++ 125 ∷ r ≡ w ++ 125 ∷ s → length v < length w → ⊥
 shorter v w r s h k e l =
     let front : take (length v + 1) w ≡ v ++ 125 ∷ [] =
-        sym (take-append-le (length v + 1) w (125 ∷ s) (omega arith)) ∙ ap (take (length v + 1)) (sym e) ∙ take-append-add v (125 ∷ r) 1 in
+    sym (take-append-le (length v + 1) w (125 ∷ s) (omega arith)) ∙ ap (take (length v + 1)) (sym e) ∙ take-append-add v (125 ∷ r) 1 in
     let few : closing (v ++ 125 ∷ []) ≤ opening (v ++ 125 ∷ []) = subst (λ (u : List ℕ). closing u ≤ opening u) front (k.1 (length v + 1)) in
     omega (arith, few, closing_one v, opening_one v, h.0)
 
@@ -45,6 +45,7 @@ braced_once p q r s v w h k e = (h.0 ∙ ap (λ (u : List ℕ). 123 ∷ u ++ (12
   where
     tails : v ++ 125 ∷ r ≡ w ++ 125 ∷ s
     tails = sym (append_assoc v (125 ∷ []) r) ∙ heads 123 123 ((v ++ 125 ∷ []) ++ r) ((w ++ 125 ∷ []) ++ s) (sym (ap (λ (u : List ℕ). u ++ r) h.0) ∙ e ∙ ap (λ (u : List ℕ). u ++ s) k.0) ∙ append_assoc w (125 ∷ []) s
+
     same : v ≡ w
     same = balanced_once v w r s h.1 k.1 tails
 
@@ -121,10 +122,12 @@ braced_front text n l e h = subst (λ (v : List ℕ). IsBracedFront v (n + 2) (t
 unfront_by : (rest : List ℕ) (len : ℕ) (word : Word) → IsBracedFront (123 ∷ rest) len word → ClosesAt rest (length word)
 unfront_by rest len word h =
     let whole : rest ≡ word ++ 125 ∷ drop len (123 ∷ rest) =
-        heads 123 123 rest (word ++ 125 ∷ drop len (123 ∷ rest)) (sym (take-append-drop len (123 ∷ rest)) ∙ ap (λ (z : List ℕ). z ++ drop len (123 ∷ rest)) h.1.0 ∙ ap (λ (z : List ℕ). 123 ∷ z) (append_assoc word (125 ∷ []) (drop len (123 ∷ rest)))) in
-    let n : length rest ≡ length word + length (125 ∷ drop len (123 ∷ rest)) = ap length whole ∙ length-append word (125 ∷ drop len (123 ∷ rest)) in
-    (omega (arith, n), ap (λ (z : List ℕ). get_or z (length word) 0) whole ∙ get_or_at word 125 (drop len (123 ∷ rest)) 0 (length word) refl,
-        subst IsBalanced (sym (ap (take (length word)) whole ∙ take_at word (125 ∷ drop len (123 ∷ rest)) (length word) refl)) h.1.1)
+    heads 123 123 rest (word ++ 125 ∷ drop len (123 ∷ rest)) (sym (take-append-drop len (123 ∷ rest)) ∙ ap (λ (z : List ℕ). z ++ drop len (123 ∷ rest)) h.1.0 ∙ ap (λ (z : List ℕ). 123 ∷ z) (append_assoc word (125 ∷ []) (drop len (123 ∷ rest)))) in
+    let n : length rest ≡ length word + length (125 ∷ drop len (123 ∷ rest)) = ap length whole ∙ length-append word (125 ∷ drop len (123 ∷ rest)) in (
+      omega (arith, n),
+      ap (λ (z : List ℕ). get_or z (length word) 0) whole ∙ get_or_at word 125 (drop len (123 ∷ rest)) 0 (length word) refl,
+      subst IsBalanced (sym (ap (take (length word)) whole ∙ take_at word (125 ∷ drop len (123 ∷ rest)) (length word) refl)) h.1.1,
+    )
 
 pub unbraced : (text : List ℕ) → 0 < length text → get_or text 0 0 ≡ 123 → ((n : ℕ) → ClosesAt (drop 1 text) n → ⊥) → HasNoBracedFront text
 unbraced text l e none len word h =

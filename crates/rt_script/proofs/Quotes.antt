@@ -120,10 +120,14 @@ past front (c ∷ v) rest text after [] a b e =
 past front (c ∷ v) rest text after (d ∷ w) a b e =
     let o = part_once a.0 b.0 (a.1 ++ rest) (b.1 ++ 34 ∷ after) c d (stands a.0 c a.3) (stands b.0 d b.3)
     (sym (append_assoc a.0 a.1 rest) ∙ sym (ap (λ (u : List ℕ). u ++ rest) a.2) ∙ e ∙ ap (λ (u : List ℕ). u ++ 34 ∷ after) b.2 ∙ append_assoc b.0 b.1 (34 ∷ after)) in
-    let k = past a.1 v rest b.1 after w a.4 b.4 o.2 in
-    (k.0, k.1, k.2, k.3,
-        b.2 ∙ ap (λ (u : List ℕ). u ++ b.1) (sym o.0) ∙ ap (λ (u : List ℕ). a.0 ++ u) k.4 ∙ sym (append_assoc a.0 a.1 k.0) ∙ sym (ap (λ (u : List ℕ). u ++ k.0) a.2),
-        ap (λ z. z ∷ w) (sym o.1) ∙ ap (λ (u : List ℕ). c ∷ u) k.5)
+    let k = past a.1 v rest b.1 after w a.4 b.4 o.2 in (
+      k.0,
+      k.1,
+      k.2,
+      k.3,
+      b.2 ∙ ap (λ (u : List ℕ). u ++ b.1) (sym o.0) ∙ ap (λ (u : List ℕ). a.0 ++ u) k.4 ∙ sym (append_assoc a.0 a.1 k.0) ∙ sym (ap (λ (u : List ℕ). u ++ k.0) a.2),
+      ap (λ z. z ∷ w) (sym o.1) ∙ ap (λ (u : List ℕ). c ∷ u) k.5,
+    )
 
 -- no word ends with a quote in what follows
 abbrev pub StaysOpen : List ℕ → Type 0
@@ -145,6 +149,7 @@ open_backslash y none more after (c ∷ tail) h e = by h.3
   where
     split : 92 ∷ y ≡ h.0 ++ (h.1 ++ 34 ∷ after)
     split = e ∙ ap (λ (u : List ℕ). u ++ 34 ∷ after) h.2 ∙ append_assoc h.0 h.1 (34 ∷ after)
+
     by : StandsFor h.0 c → ⊥
     by (inl is) = open_by h.0 (h.1 ++ 34 ∷ after) y c (stands h.0 c h.3) (λ l p y' q. none c l y' (sym is ∙ p) q) split
     by (inr k) = k.2 (sym (heads 92 c y (h.1 ++ 34 ∷ after) (split ∙ ap (λ (u : List ℕ). u ++ (h.1 ++ 34 ∷ after)) k.0)).0)
@@ -163,8 +168,10 @@ quoted_once p q r s v w h k e = by k1.1 k1.0 k1.2 k1.3 k1.4 k1.5
   where
     tails : h.0 ++ 34 ∷ r ≡ k.0 ++ 34 ∷ s
     tails = sym (append_assoc h.0 (34 ∷ []) r) ∙ (heads 34 34 ((h.0 ++ 34 ∷ []) ++ r) ((k.0 ++ 34 ∷ []) ++ s) (sym (ap (λ (u : List ℕ). u ++ r) h.1) ∙ e ∙ ap (λ (u : List ℕ). u ++ s) k.1)).1 ∙ append_assoc k.0 (34 ∷ []) s
+
     k1 : Past h.0 (34 ∷ r) k.0 s v w
     k1 = past h.0 v (34 ∷ r) k.0 s w h.2 k.2 tails
+
     by : (tail : Word) (more : List ℕ) → 34 ∷ r ≡ more ++ 34 ∷ s → IsEscaped more tail → k.0 ≡ h.0 ++ more → w ≡ v ++ tail → (p ≡ q) × (v ≡ w)
     by [] more a b t u =
         let same : h.0 ≡ k.0 = sym (append-nil h.0) ∙ ap (λ (z : List ℕ). h.0 ++ z) (sym b) ∙ sym t in
@@ -240,10 +247,13 @@ run_read text i n word run new e r s q = record { read = read; next = λ l d. qu
   where
     same : i + n - i ≡ n
     same = omega arith
+
     all : word ++ take n (drop i text) ≡ new
     all = ap (λ k. word ++ take k (drop i text)) (sym same) ∙ ap (λ (u : List ℕ). word ++ u) (sym r) ∙ sym s
+
     read : QuotedTo text (i + n) new
     read = subst (λ (u : List ℕ). QuotedTo text (i + n) u) all (quote_ran text i n word e q)
+
     stop : i + n < length text → is_plain (get_or text (i + n) 0) ≡ false
     stop l =
         let t : prefix_len is_plain (drop i text) < length (drop i text) = omega (arith, e, length-drop i text) in
@@ -270,8 +280,10 @@ quote_escape text i l c word u s g e d stopped =
   where
     two : i + 1 + 1 ≡ i + 2
     two = omega arith
+
     q : QuotedTo text i word
     q = stopped.read
+
     b : get_or text i 0 ≡ 92
     b = stopped.next (omega arith) d
 
@@ -286,8 +298,10 @@ quote_unclosed text i word q none len w k = none p.0 (drop len text) p.1 p.3 p.2
   where
     body : List ℕ
     body = k.1.0
+
     whole : (34 ∷ q.before) ++ drop i text ≡ (34 ∷ body ++ (34 ∷ [])) ++ drop len text
     whole = sym (ap (λ (z : List ℕ). z ++ drop i text) q.front) ∙ take-append-drop i text ∙ sym (take-append-drop len text) ∙ ap (λ (z : List ℕ). z ++ drop len text) k.1.1
+
     p : Past q.before (drop i text) body (drop len text) word w
     p = past q.before word (drop i text) body (drop len text) w q.escaped k.1.2
         ((heads 34 34 (q.before ++ drop i text) ((body ++ (34 ∷ [])) ++ drop len text) whole).1 ∙ append_assoc body (34 ∷ []) (drop len text))
@@ -312,5 +326,5 @@ pub unclosed_letter : (text : List ℕ) (i l : ℕ) (word : Word) → i + 1 < le
 unclosed_letter text i l word s g none d q =
     let h : i < length text = omega arith in
     let e : drop i text ≡ 92 ∷ l ∷ drop (i + 1 + 1) text =
-        drop_more text i 0 h ∙ ap (λ z. z ∷ drop (i + 1) text) (q.next h d) ∙ ap (λ (z : List ℕ). 92 ∷ z) (drop_more text (i + 1) 0 s ∙ ap (λ z. z ∷ drop (i + 1 + 1) text) g) in
+    drop_more text i 0 h ∙ ap (λ z. z ∷ drop (i + 1) text) (q.next h d) ∙ ap (λ (z : List ℕ). 92 ∷ z) (drop_more text (i + 1) 0 s ∙ ap (λ z. z ∷ drop (i + 1 + 1) text) g) in
     quote_unclosed text i word q.read (subst StaysOpen (sym e) (open_letter l (drop (i + 1 + 1) text) none))

@@ -41,6 +41,7 @@ spells_past_blank c text (word ∷ words) e (g, piece, rest, split, blank, spell
   where
     p : Starts piece
     p = starts piece word spelling
+
     past : (g : List ℕ) → (c ∷ text ≡ g ++ (piece ++ rest)) → AreBlank g → Spells text (word ∷ words)
     past [] s b = absurd (not_both c p.first (heads c p.first text (p.rest ++ rest) (s ∙ ap (λ (v : List ℕ). v ++ rest) p.split)).0 e p.dark)
     past (d ∷ g) s b = (g, piece, rest, (heads c d text (g ++ (piece ++ rest)) s).1, (both_true (is_blank d) (list_all is_blank g) b).1, spelling, ends, others)
@@ -98,6 +99,7 @@ nil_by [] word words b (gap, piece, rest, split, blank, spelling, ends, others) 
   where
     p : Starts piece
     p = starts piece word spelling
+
     none : (gap : List ℕ) → [] ≡ gap ++ (piece ++ rest) → ⊥
     none [] s = let e : [] ≡ p.first ∷ (p.rest ++ rest) = s ∙ ap (λ (v : List ℕ). v ++ rest) p.split in cc
     none (d ∷ gap) s = let e : [] ≡ d ∷ (gap ++ (piece ++ rest)) = s in cc
@@ -149,9 +151,11 @@ parts_of c text word words d (gap, piece, rest, split, blank, spelling, ends, ot
 
 first_of : (text : List ℕ) (word : Word) (words : List Word) → (p : Parts text word words) → IsFirstWord text (length p.piece) word
 first_of text word words p =
-    let n : length text ≡ length p.piece + length p.rest = ap length p.split ∙ length-append p.piece p.rest in
-    (omega (arith, n), subst (λ (u : List ℕ). IsSpelling u word) (sym (ap (take (length p.piece)) p.split ∙ take_at p.piece p.rest (length p.piece) refl)) p.spelling,
-        subst EndsWord (sym (ap (drop (length p.piece)) p.split ∙ drop_at p.piece p.rest (length p.piece) refl)) p.ends)
+    let n : length text ≡ length p.piece + length p.rest = ap length p.split ∙ length-append p.piece p.rest in (
+      omega (arith, n),
+      subst (λ (u : List ℕ). IsSpelling u word) (sym (ap (take (length p.piece)) p.split ∙ take_at p.piece p.rest (length p.piece) refl)) p.spelling,
+      subst EndsWord (sym (ap (drop (length p.piece)) p.split ∙ drop_at p.piece p.rest (length p.piece) refl)) p.ends,
+    )
 
 -- a text that begins with no blank spells words only if it begins with one
 pub no_words : (text : List ℕ) → 0 < length text → is_blank (get_or text 0 0) ≡ false → HasNoFirstWord text → (words : List Word) → Spells text words → ⊥

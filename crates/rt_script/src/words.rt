@@ -248,6 +248,26 @@ mod tests {
         Ok(())
     }
 
+    // The words of replies, and the bytes that the lines of answers have for them.
+    #[test]
+    fn lines_of_replies(rt: HostRuntime) -> Result<(), Fail> {
+        for (line, want) in [
+            ("=", "|="),
+            ("= 2.0", "|=|2.0"),
+            ("= \"hello\\n\"", "|=|hello\n"),
+            ("= \"\"", "|=|"),
+            ("= a \"\" b", "|=|a||b"),
+            ("= \"}\" \"{\" \"a b\"", "|=|}|{|a b"),
+            ("= \"a b\" {c {d} e}", "|=|a b|c {d} e"),
+            ("= \"\\t\\r\" \"\\\"\\\\\"", "|=|\t\r|\"\\"),
+            ("= é#$[ \u{1f600}", "|=|é#$[|\u{1f600}"),
+        ] {
+            let found = words(rt.alloc(), line)?;
+            assert_eq!(rt; barred(rt.alloc(), &found)?.as_str(), want, "in {line:?}");
+        }
+        Ok(())
+    }
+
     #[test]
     fn refused_lines(rt: HostRuntime) -> Result<(), Fail> {
         for line in [

@@ -49,7 +49,7 @@ returns-in_err-escaped-clause-quoting c _ =
     let end : ℕ = c.loop-start.start + c.plain_len.result in
     let more : end + 1 < length c.args.text.now = omega (arith, c.in-Some.ensures.lookup.3.0, c.as_bytes-bytes.ensures.len) in
     let g : get_or c.args.text.now (end + 1) 0 ≡ c.in-Some.letter.now =
-        char_is _ _ (end + 1) c.as_bytes-bytes.ensures.value ∙ sym (get_or_read c.as_bytes-bytes.result.now (end + 1) c.in-Some.letter.now c.in-Some.ensures.lookup.3.0 c.in-Some.ensures.lookup.1 0) in
+    char_is _ _ (end + 1) c.as_bytes-bytes.ensures.value ∙ sym (get_or_read c.as_bytes-bytes.result.now (end + 1) c.in-Some.letter.now c.in-Some.ensures.lookup.3.0 c.in-Some.ensures.lookup.1 0) in
     let d : get_or c.args.text.now end 0 ≢ 34 = λ q. elim c.else-end-bytes.branch [
       | else-end-bytes-via-then-end-bytes+else-bytes-end-eq34 w ↦ w.if-bytes-end-eq34.false (sym (char_is _ _ end c.as_bytes-bytes.ensures.value) ∙ q)
       | else-end-bytes-via-else-end-bytes w ↦ omega (arith, more, w.if-end-bytes.false, c.as_bytes-bytes.ensures.len)
@@ -63,7 +63,7 @@ loop-start-preserved c =
     let end : ℕ = c.loop-start.start + c.plain_len.result in
     let more : end + 1 < length c.args.text.now = omega (arith, c.in-Some.ensures.lookup.3.0, c.as_bytes-bytes.ensures.len) in
     let g : get_or c.args.text.now (end + 1) 0 ≡ c.in-Some.letter.now =
-        char_is _ _ (end + 1) c.as_bytes-bytes.ensures.value ∙ sym (get_or_read c.as_bytes-bytes.result.now (end + 1) c.in-Some.letter.now c.in-Some.ensures.lookup.3.0 c.in-Some.ensures.lookup.1 0) in
+    char_is _ _ (end + 1) c.as_bytes-bytes.ensures.value ∙ sym (get_or_read c.as_bytes-bytes.result.now (end + 1) c.in-Some.letter.now c.in-Some.ensures.lookup.3.0 c.in-Some.ensures.lookup.1 0) in
     let d : get_or c.args.text.now end 0 ≢ 34 = λ q. elim c.else-end-bytes.branch [
       | else-end-bytes-via-then-end-bytes+else-bytes-end-eq34 w ↦ w.if-bytes-end-eq34.false (sym (char_is _ _ end c.as_bytes-bytes.ensures.value) ∙ q)
       | else-end-bytes-via-else-end-bytes w ↦ omega (arith, more, w.if-end-bytes.false, c.as_bytes-bytes.ensures.len)
