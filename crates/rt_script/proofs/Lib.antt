@@ -1,5 +1,9 @@
+pub mod BareWords
+pub mod Braces
 pub mod EndsLaws
 pub mod LinesLaws
+pub mod Quotes
+pub mod ReadReplies
 pub mod ReplyWords
 pub mod RunLaws
 pub mod Spelling

@@ -1,26 +1,17 @@
--- The words that a line spells, from its front: the blanks, the first word, what follows it.
-use Rattle.std.proofs.Common.{◌≡◌, ℕ, ◌+◌, ◌==◌, ◌||◌, ◌&&◌, not, cond, suc, List, [], ◌∷◌, ◌++◌, Bool, true, false, length, take, drop, refl, sym, ◌∙◌, ap, subst, arith, take-append-drop}
+-- The words that a line spells: the blanks, the word after them, what follows it.
+use Rattle.std.proofs.Common.{◌≡◌, ◌⊎◌, inl, inr, ℕ, ◌+◌, ◌<◌, ◌≤◌, ◌≢◌, ◌==◌, ◌||◌, cond, suc, List, [], ◌∷◌, ◌++◌, Bool, true, false, length, take, drop, get_or, refl, sym, ◌∙◌, ap, subst, arith, take-append-drop}
 use Rattle.std.specs.List.{list_any, list_all, prefix_len}
-use Rattle.std.proofs.lemmas.List.{take_at, drop_at}
+use Rattle.std.proofs.lemmas.Bool.{eqb-false}
+use Rattle.std.proofs.lemmas.List.{take_at, drop_at, length-take-le, length-append, append_cancel_left}
+use Rattle.std.proofs.lemmas.List.Sums.{prefix_len-le-length}
 use Rattle.rt_stamps.specs.Lines.{is_blank}
-use Rattle.rt_stamps.specs.Words.{Word, AreBlank, EndsWord, IsBare, IsSpelling, Spells}
+use Rattle.rt_stamps.specs.Words.{Word, AreBlank, EndsWord, IsBare, IsQuoted, IsBraced, IsSpelling, Spells}
+use Rattle.rt_script.specs.FirstWord.{IsFirstWord, HasNoFirstWord, BeginsWith, IsQuotedFront, HasNoQuotedFront, IsBracedFront, HasNoBracedFront}
+use Rattle.rt_script.proofs.BareWords.{is_dark, both_true, both_false, heads, one_more, not_both, bare_dark, dark_once, bare_other, dark_front, dark_ends, bare_front}
+use Rattle.rt_script.proofs.Quotes.{quoted_once}
+use Rattle.rt_script.proofs.Braces.{braced_once}
 
--- no space or tab
-abbrev pub is_dark : ℕ → Bool
-is_dark c = not (is_blank c)
-
-both_true : (a b : Bool) → (a && b) ≡ true → (a ≡ true) × (b ≡ true)
-both_true true true h = (refl, refl)
-both_true true false h = absurd (cc)
-both_true false b h = absurd (cc)
-
-both_false : (a b : Bool) → (a || b) ≡ false → (a ≡ false) × (b ≡ false)
-both_false false false h = (refl, refl)
-both_false false true h = absurd (cc)
-both_false true b h = absurd (cc)
-
-one_more : (n : ℕ) → 1 + n ≡ suc n
-one_more n = omega arith
+-- ---- blanks
 
 -- what follows the blanks at the front
 abbrev pub after_blanks : List ℕ → List ℕ
@@ -31,18 +22,29 @@ pub spells_blank : (c : ℕ) (text : List ℕ) (words : List Word) → is_blank 
 spells_blank c text [] e h = rw e h
 spells_blank c text (word ∷ words) e h = (c ∷ h.0, h.1, h.2, ap (λ v. c ∷ v) h.3, rw e h.4, h.5, h.6, h.7)
 
--- a word begins with no space or tab
-dark_from_piece : (c : ℕ) (piece : List ℕ) (word : Word) → IsSpelling (c ∷ piece) word → is_blank c ≡ false
-dark_from_piece c piece word h = (both_false (is_blank c) (list_any is_blank piece) h.0.1).0
+-- the piece of a word begins with no space or tab
+pub record Starts (piece : List ℕ) : Type 0 where
+  pub first : ℕ
+  pub rest : List ℕ
+  pub split : piece ≡ first ∷ rest
+  pub dark : is_blank first ≡ false
+
+pub starts : (piece : List ℕ) (word : Word) → IsSpelling piece word → Starts piece
+starts [] word (inl h) = absurd h.0
+starts (c ∷ piece) word (inl h) = record { first = c; rest = piece; split = refl; dark = (both_false (is_blank c) (list_any is_blank piece) h.0.1).0 }
+starts piece word (inr (inl h)) = record { first = 34; rest = h.0 ++ (34 ∷ []); split = h.1; dark = refl }
+starts piece word (inr (inr h)) = record { first = 123; rest = word ++ (125 ∷ []); split = h.0; dark = refl }
 
 pub spells_past_blank : (c : ℕ) (text : List ℕ) (words : List Word) → is_blank c ≡ true → Spells (c ∷ text) words → Spells text words
 spells_past_blank c text [] e h = (both_true (is_blank c) (list_all is_blank text) h).1
-spells_past_blank c text (word ∷ words) e (g, piece, rest, split, blank, spelling, ends, others) = past g piece split blank spelling
+spells_past_blank c text (word ∷ words) e (g, piece, rest, split, blank, spelling, ends, others) = past g split blank
   where
-    past : (g piece : List ℕ) → (c ∷ text ≡ g ++ (piece ++ rest)) → AreBlank g → IsSpelling piece word → Spells text (word ∷ words)
-    past [] [] s b p = absurd p.0
-    past [] (d ∷ piece) s b p = absurd (let f = dark_from_piece d piece word p in cc)
-    past (d ∷ g) piece s b p = (g, piece, rest, (cc), (both_true (is_blank d) (list_all is_blank g) b).1, p, ends, others)
+    p : Starts piece
+    p = starts piece word spelling
+
+    past : (g : List ℕ) → (c ∷ text ≡ g ++ (piece ++ rest)) → AreBlank g → Spells text (word ∷ words)
+    past [] s b = absurd (not_both c p.first (heads c p.first text (p.rest ++ rest) (s ∙ ap (λ (v : List ℕ). v ++ rest) p.split)).0 e p.dark)
+    past (d ∷ g) s b = (g, piece, rest, (heads c d text (g ++ (piece ++ rest)) s).1, (both_true (is_blank d) (list_all is_blank g) b).1, spelling, ends, others)
 
 -- what stands after the blanks at the front spells the same words
 blanks_by : (b : Bool) (c : ℕ) (text : List ℕ) (words : List Word) → is_blank c ≡ b → (Spells (after_blanks text) words → Spells text words)
@@ -63,96 +65,167 @@ pub spells_past_blanks : (text : List ℕ) (words : List Word) → Spells text w
 spells_past_blanks [] words h = h
 spells_past_blanks (c ∷ text) words h = past_blanks_by (is_blank c) c text words refl (spells_past_blanks text words) h
 
--- the first word of a text that begins with no blank, and what follows it
-abbrev pub first_word : List ℕ → List ℕ
-first_word text = take (prefix_len is_dark text) text
+-- two gaps at one place, each before a character that is no blank
+gaps_once : (g h x y : List ℕ) (c d : ℕ) → AreBlank g → AreBlank h → is_blank c ≡ false → is_blank d ≡ false → g ++ c ∷ x ≡ h ++ d ∷ y → c ∷ x ≡ d ∷ y
+gaps_once [] [] x y c d a b p q e = e
+gaps_once [] (k ∷ h) x y c d a b p q e = absurd (not_both k c (sym (heads c k x (h ++ d ∷ y) e).0) (both_true (is_blank k) (list_all is_blank h) b).0 p)
+gaps_once (k ∷ g) [] x y c d a b p q e = absurd (not_both k d (heads k d (g ++ c ∷ x) y e).0 (both_true (is_blank k) (list_all is_blank g) a).0 q)
+gaps_once (k ∷ g) (l ∷ h) x y c d a b p q e =
+    gaps_once g h x y c d (both_true (is_blank k) (list_all is_blank g) a).1 (both_true (is_blank l) (list_all is_blank h) b).1 p q (heads k l (g ++ c ∷ x) (h ++ d ∷ y) e).1
 
-abbrev pub after_word : List ℕ → List ℕ
-after_word text = drop (prefix_len is_dark text) text
+-- ---- one word
 
-first_dark_by : (b : Bool) (c : ℕ) (text : List ℕ) → is_blank c ≡ b → list_any is_blank (first_word text) ≡ false
-    → list_any is_blank (take (cond (not b) (1 + prefix_len is_dark text) 0) (c ∷ text)) ≡ false
-first_dark_by true c text e ih = refl
-first_dark_by false c text e ih = rw (one_more (prefix_len is_dark text), e) ih
+quote_brace : (x y : List ℕ) → 34 ∷ x ≡ 123 ∷ y → ⊥
+quote_brace x y e = eqb-false 34 123 refl (heads 34 123 x y e).0
 
-pub first_dark : (text : List ℕ) → list_any is_blank (first_word text) ≡ false
-first_dark [] = refl
-first_dark (c ∷ text) = first_dark_by (is_blank c) c text refl (first_dark text)
+-- two pieces at one place, each before a separator or the end, are one and spell the same word
+pub spelled_once : (p q r s : List ℕ) (v w : Word) → IsSpelling p v → IsSpelling q w → EndsWord r → EndsWord s → p ++ r ≡ q ++ s → (p ≡ q) × (v ≡ w)
+spelled_once p q r s v w (inl h) (inl k) f g e = let same = dark_once p q r s (bare_dark p h.0) (bare_dark q k.0) f g e in (same, h.1 ∙ same ∙ sym k.1)
+spelled_once p q r s v w (inl h) (inr (inl k)) f g e = absurd (bare_other p r ((k.0 ++ (34 ∷ [])) ++ s) 34 h.0 refl (e ∙ ap (λ (u : List ℕ). u ++ s) k.1))
+spelled_once p q r s v w (inl h) (inr (inr k)) f g e = absurd (bare_other p r ((w ++ (125 ∷ [])) ++ s) 123 h.0 refl (e ∙ ap (λ (u : List ℕ). u ++ s) k.0))
+spelled_once p q r s v w (inr (inl h)) (inl k) f g e = absurd (bare_other q s ((h.0 ++ (34 ∷ [])) ++ r) 34 k.0 refl (sym e ∙ ap (λ (u : List ℕ). u ++ r) h.1))
+spelled_once p q r s v w (inr (inl h)) (inr (inl k)) f g e = quoted_once p q r s v w h k e
+spelled_once p q r s v w (inr (inl h)) (inr (inr k)) f g e =
+    absurd (quote_brace ((h.0 ++ (34 ∷ [])) ++ r) ((w ++ (125 ∷ [])) ++ s) (sym (ap (λ (u : List ℕ). u ++ r) h.1) ∙ e ∙ ap (λ (u : List ℕ). u ++ s) k.0))
+spelled_once p q r s v w (inr (inr h)) (inl k) f g e = absurd (bare_other q s ((v ++ (125 ∷ [])) ++ r) 123 k.0 refl (sym e ∙ ap (λ (u : List ℕ). u ++ r) h.0))
+spelled_once p q r s v w (inr (inr h)) (inr (inl k)) f g e =
+    absurd (quote_brace ((k.0 ++ (34 ∷ [])) ++ s) ((v ++ (125 ∷ [])) ++ r) (sym (ap (λ (u : List ℕ). u ++ s) k.1) ∙ sym e ∙ ap (λ (u : List ℕ). u ++ r) h.0))
+spelled_once p q r s v w (inr (inr h)) (inr (inr k)) f g e = braced_once p q r s v w h k e
 
-after_ends_by : (b : Bool) (c : ℕ) (text : List ℕ) → is_blank c ≡ b → EndsWord (after_word text) → EndsWord (drop (cond (not b) (1 + prefix_len is_dark text) 0) (c ∷ text))
-after_ends_by true c text e ih = e
-after_ends_by false c text e ih = subst (λ n. EndsWord (drop n (c ∷ text))) (sym (one_more (prefix_len is_dark text))) ih
+-- ---- words
 
-pub after_ends : (text : List ℕ) → EndsWord (after_word text)
-after_ends [] = tt
-after_ends (c ∷ text) = after_ends_by (is_blank c) c text refl (after_ends text)
-
--- a piece without blanks before a separator or the end is the first word
-dark_len_by : (b : Bool) (piece rest : List ℕ) → b ≡ false → prefix_len is_dark (piece ++ rest) ≡ length piece → cond (not b) (1 + prefix_len is_dark (piece ++ rest)) 0 ≡ suc (length piece)
-dark_len_by true piece rest e ih = absurd (cc)
-dark_len_by false piece rest e ih = one_more (prefix_len is_dark (piece ++ rest)) ∙ ap (λ n. suc n) ih
-
-pub dark_len : (piece rest : List ℕ) → list_any is_blank piece ≡ false → EndsWord rest → prefix_len is_dark (piece ++ rest) ≡ length piece
-dark_len [] [] h e = refl
-dark_len [] (c ∷ rest) h e = rw e refl
-dark_len (c ∷ piece) rest h e =
-    let p = both_false (is_blank c) (list_any is_blank piece) h in dark_len_by (is_blank c) piece rest p.0 (dark_len piece rest p.1 e)
-
--- a bare word and the words after it
-pub spells_bare : (c : ℕ) (text : List ℕ) (words : List Word) → is_blank c ≡ false → ((c == 34) || (c == 123)) ≡ false
-    → Spells (after_word (c ∷ text)) words → Spells (c ∷ text) (first_word (c ∷ text) ∷ words)
-spells_bare c text words e q h =
-    ([], first_word (c ∷ text), after_word (c ∷ text), sym (take-append-drop (prefix_len is_dark (c ∷ text)) (c ∷ text)), refl, (bare, refl), after_ends (c ∷ text), h)
-  where
-    n : prefix_len is_dark (c ∷ text) ≡ suc (prefix_len is_dark text)
-    n = rw e (one_more (prefix_len is_dark text))
-
-    bare : IsBare (first_word (c ∷ text))
-    bare = subst (λ k. IsBare (take k (c ∷ text))) (sym n) (q, subst (λ k. list_any is_blank (take k (c ∷ text)) ≡ false) n (first_dark (c ∷ text)))
-
--- the blanks at the front of a text whose first word begins with no blank
-gap_len : (gap : List ℕ) (c : ℕ) (text : List ℕ) → AreBlank gap → is_blank c ≡ false → after_blanks (gap ++ c ∷ text) ≡ c ∷ text
-gap_len [] c text h e = rw e refl
-gap_len (d ∷ gap) c text h e =
-    let p = both_true (is_blank d) (list_all is_blank gap) h in
-    rw (p.0, one_more (prefix_len is_blank (gap ++ c ∷ text))) (gap_len gap c text p.1 e)
-
--- the first word that a line spells, and that the others follow it
-pub record Parts (line : List ℕ) (word : Word) (words : List Word) : Type 0 where
-  pub first : word ≡ first_word (after_blanks line)
-  pub others : Spells (after_word (after_blanks line)) words
-
-pub parts_of : (line : List ℕ) (word : Word) (words : List Word) → Spells line (word ∷ words) → Parts line word words
-parts_of line word words (gap, piece, rest, split, blank, spelling, ends, others) = parts piece split spelling
-  where
-    parts : (piece : List ℕ) → line ≡ gap ++ (piece ++ rest) → IsSpelling piece word → Parts line word words
-    parts [] s p = absurd p.0
-    parts (c ∷ piece) s p =
-        let n : prefix_len is_dark (c ∷ piece ++ rest) ≡ length (c ∷ piece) = dark_len (c ∷ piece) rest p.0.1 ends in
-        let e : after_blanks line ≡ c ∷ (piece ++ rest) = ap after_blanks s ∙ gap_len gap c (piece ++ rest) blank (dark_from_piece c piece word p) in
-        record {
-          first = p.1 ∙ sym (ap first_word e ∙ ap (λ k. take k (c ∷ (piece ++ rest))) n ∙ take_at (c ∷ piece) rest (length (c ∷ piece)) refl);
-          others = subst (λ v. Spells v words) (sym (ap after_word e ∙ ap (λ k. drop k (c ∷ (piece ++ rest))) n ∙ drop_at (c ∷ piece) rest (length (c ∷ piece)) refl)) others;
-        }
-
--- a line spells at most one list of words
 nil_by : (line : List ℕ) (word : Word) (words : List Word) → AreBlank line → Spells line (word ∷ words) → ⊥
-nil_by [] word words b (gap, piece, rest, split, blank, spelling, ends, others) = none gap piece split spelling
+nil_by [] word words b (gap, piece, rest, split, blank, spelling, ends, others) = none gap split
   where
-    none : (gap piece : List ℕ) → [] ≡ gap ++ (piece ++ rest) → IsSpelling piece word → ⊥
-    none [] [] s p = absurd p.0
-    none [] (d ∷ piece) s p = cc
-    none (d ∷ gap) piece s p = cc
+    p : Starts piece
+    p = starts piece word spelling
+
+    none : (gap : List ℕ) → [] ≡ gap ++ (piece ++ rest) → ⊥
+    none [] s = let e : [] ≡ p.first ∷ (p.rest ++ rest) = s ∙ ap (λ (v : List ℕ). v ++ rest) p.split in cc
+    none (d ∷ gap) s = let e : [] ≡ d ∷ (gap ++ (piece ++ rest)) = s in cc
 nil_by (c ∷ line) word words b h =
     let p = both_true (is_blank c) (list_all is_blank line) b in nil_by line word words p.1 (spells_past_blank c line (word ∷ words) p.0 h)
 
+-- a line spells at most one list of words
 pub spells_one : (line : List ℕ) (a b : List Word) → Spells line a → Spells line b → a ≡ b
 spells_one line [] [] h k = refl
 spells_one line [] (w ∷ b) h k = absurd (nil_by line w b h k)
 spells_one line (v ∷ a) [] h k = absurd (nil_by line v a k h)
 spells_one line (v ∷ a) (w ∷ b) h k =
-    let p = parts_of line v a h in
-    let q = parts_of line w b k in
-    let e : v ≡ w = p.first ∙ sym q.first in
-    let t : a ≡ b = spells_one (after_word (after_blanks line)) a b p.others q.others in
-    cc
+    let p = starts h.1 v h.5 in
+    let q = starts k.1 w k.5 in
+    let x : h.1 ++ h.2 ≡ p.first ∷ (p.rest ++ h.2) = ap (λ (u : List ℕ). u ++ h.2) p.split in
+    let y : k.1 ++ k.2 ≡ q.first ∷ (q.rest ++ k.2) = ap (λ (u : List ℕ). u ++ k.2) q.split in
+    let e = gaps_once h.0 k.0 (p.rest ++ h.2) (q.rest ++ k.2) p.first q.first h.4 k.4 p.dark q.dark
+    (sym (ap (λ (u : List ℕ). h.0 ++ u) x) ∙ sym h.3 ∙ k.3 ∙ ap (λ (u : List ℕ). k.0 ++ u) y) in
+    let whole : h.1 ++ h.2 ≡ k.1 ++ k.2 = x ∙ e ∙ sym y in
+    let s = spelled_once h.1 k.1 h.2 k.2 v w h.5 k.5 h.6 k.6 whole in
+    let rest : h.2 ≡ k.2 = append_cancel_left h.1 h.2 k.2 (whole ∙ ap (λ (u : List ℕ). u ++ k.2) (sym s.0)) in
+    let t : a ≡ b = spells_one h.2 a b h.7 (subst (λ (u : List ℕ). Spells u b) (sym rest) k.7) in
+    ap (λ z. z ∷ a) s.1 ∙ ap (λ z. w ∷ z) t
+
+-- ---- the word at the front of a text
+
+-- it and the words that follow it
+pub spells_first : (text : List ℕ) (len : ℕ) (word : Word) (words : List Word) → IsFirstWord text len word → Spells (drop len text) words → Spells text (word ∷ words)
+spells_first text len word words h k = ([], take len text, drop len text, sym (take-append-drop len text), refl, h.1, h.2, k)
+
+pub not_nil : (c : ℕ) (rest : List ℕ) → is_blank c ≡ false → AreBlank (c ∷ rest) → ⊥
+not_nil c rest d h = not_both c c refl (both_true (is_blank c) (list_all is_blank rest) h).0 d
+
+-- a piece at the front of a text, and what follows it
+pub record Parts (text : List ℕ) (word : Word) (words : List Word) : Type 0 where
+  pub piece : List ℕ
+  pub rest : List ℕ
+  pub split : text ≡ piece ++ rest
+  pub spelling : IsSpelling piece word
+  pub ends : EndsWord rest
+  pub others : Spells rest words
+
+parts_of : (c : ℕ) (text : List ℕ) (word : Word) (words : List Word) → is_blank c ≡ false → Spells (c ∷ text) (word ∷ words) → Parts (c ∷ text) word words
+parts_of c text word words d (gap, piece, rest, split, blank, spelling, ends, others) = by gap split blank
+  where
+    by : (gap : List ℕ) → c ∷ text ≡ gap ++ (piece ++ rest) → AreBlank gap → Parts (c ∷ text) word words
+    by [] s b = record { piece = piece; rest = rest; split = s; spelling = spelling; ends = ends; others = others }
+    by (k ∷ gap) s b = absurd (not_both k c (sym (heads c k text (gap ++ (piece ++ rest)) s).0) (both_true (is_blank k) (list_all is_blank gap) b).0 d)
+
+first_of : (text : List ℕ) (word : Word) (words : List Word) → (p : Parts text word words) → IsFirstWord text (length p.piece) word
+first_of text word words p =
+    let n : length text ≡ length p.piece + length p.rest = ap length p.split ∙ length-append p.piece p.rest in (
+      omega (arith, n),
+      subst (λ (u : List ℕ). IsSpelling u word) (sym (ap (take (length p.piece)) p.split ∙ take_at p.piece p.rest (length p.piece) refl)) p.spelling,
+      subst EndsWord (sym (ap (drop (length p.piece)) p.split ∙ drop_at p.piece p.rest (length p.piece) refl)) p.ends,
+    )
+
+-- a text that begins with no blank spells words only if it begins with one
+pub no_words : (text : List ℕ) → 0 < length text → is_blank (get_or text 0 0) ≡ false → HasNoFirstWord text → (words : List Word) → Spells text words → ⊥
+no_words [] l d none words h = omega arith
+no_words (c ∷ text) l d none [] h = not_nil c text d h
+no_words (c ∷ text) l d none (word ∷ words) h = let p = parts_of c text word words d h in none (length p.piece) word (first_of (c ∷ text) word words p)
+
+-- and then what follows that word spells words
+pub after_first : (text : List ℕ) (len : ℕ) (word : Word) → 0 < length text → is_blank (get_or text 0 0) ≡ false → IsFirstWord text len word → (words : List Word) → Spells text words
+    → (more : List Word) × Spells (drop len text) more
+after_first [] len word l d f words h = absurd (omega arith)
+after_first (c ∷ text) len word l d f [] h = absurd (not_nil c text d h)
+after_first (c ∷ text) len word l d f (w ∷ words) h =
+    let p = parts_of c text w words d h in
+    let whole : take len (c ∷ text) ++ drop len (c ∷ text) ≡ p.piece ++ p.rest = take-append-drop len (c ∷ text) ∙ p.split in
+    let s = spelled_once (take len (c ∷ text)) p.piece (drop len (c ∷ text)) p.rest word w f.1 p.spelling f.2 p.ends whole in
+    let rest : drop len (c ∷ text) ≡ p.rest = append_cancel_left (take len (c ∷ text)) (drop len (c ∷ text)) p.rest (whole ∙ ap (λ (u : List ℕ). u ++ p.rest) (sym s.0)) in
+    (words, subst (λ (u : List ℕ). Spells u words) (sym rest) p.others)
+
+-- ---- the three kinds
+
+begins : (text : List ℕ) (c : ℕ) → BeginsWith text c → text ≡ c ∷ drop 1 text
+begins [] c h = absurd (let l = h.0 in omega arith)
+begins (d ∷ text) c h = ap (λ z. z ∷ text) h.1
+
+front_whole : (text : List ℕ) (len c : ℕ) → BeginsWith text c → take len text ++ drop len text ≡ c ∷ drop 1 text
+front_whole text len c h = take-append-drop len text ∙ begins text c h
+
+quoted_kind : (text : List ℕ) (len : ℕ) (word : Word) → BeginsWith text 34 → IsSpelling (take len text) word → IsQuoted (take len text) word
+quoted_kind text len word b (inl h) = absurd (bare_other (take len text) (drop len text) (drop 1 text) 34 h.0 refl (front_whole text len 34 b))
+quoted_kind text len word b (inr (inl h)) = h
+quoted_kind text len word b (inr (inr h)) =
+    absurd (quote_brace (drop 1 text) ((word ++ (125 ∷ [])) ++ drop len text) (sym (front_whole text len 34 b) ∙ ap (λ (u : List ℕ). u ++ drop len text) h.0))
+
+braced_kind : (text : List ℕ) (len : ℕ) (word : Word) → BeginsWith text 123 → IsSpelling (take len text) word → IsBraced (take len text) word
+braced_kind text len word b (inl h) = absurd (bare_other (take len text) (drop len text) (drop 1 text) 123 h.0 refl (front_whole text len 123 b))
+braced_kind text len word b (inr (inl h)) =
+    absurd (quote_brace ((h.0 ++ (34 ∷ [])) ++ drop len text) (drop 1 text) (sym (ap (λ (u : List ℕ). u ++ drop len text) h.1) ∙ front_whole text len 123 b))
+braced_kind text len word b (inr (inr h)) = h
+
+-- fronts of one text
+same_len : (text : List ℕ) (m n : ℕ) → m ≤ length text → n ≤ length text → take m text ≡ take n text → m ≡ n
+same_len text m n l k e = sym (length-take-le m text l) ∙ ap length e ∙ length-take-le n text k
+
+whole_twice : (text : List ℕ) (m n : ℕ) → take m text ++ drop m text ≡ take n text ++ drop n text
+whole_twice text m n = take-append-drop m text ∙ sym (take-append-drop n text)
+
+pub bare_first : (text : List ℕ) → 0 < length text → is_blank (get_or text 0 0) ≡ false → get_or text 0 0 ≢ 34 → get_or text 0 0 ≢ 123
+    → IsFirstWord text (prefix_len is_dark text) (take (prefix_len is_dark text) text)
+bare_first text l d q b = (prefix_len-le-length is_dark text, inl (bare_front text l d q b, refl), dark_ends text)
+
+pub quoted_first : (text : List ℕ) (len : ℕ) (word : Word) → IsQuotedFront text len word → EndsWord (drop len text) → IsFirstWord text len word
+quoted_first text len word h e = (h.0, inr (inl h.1), e)
+
+pub braced_first : (text : List ℕ) (len : ℕ) (word : Word) → IsBracedFront text len word → EndsWord (drop len text) → IsFirstWord text len word
+braced_first text len word h e = (h.0, inr (inr h.1), e)
+
+pub no_quoted_first : (text : List ℕ) → BeginsWith text 34 → HasNoQuotedFront text → HasNoFirstWord text
+no_quoted_first text b none len word h = none len word (h.0, quoted_kind text len word b h.1)
+
+pub no_braced_first : (text : List ℕ) → BeginsWith text 123 → HasNoBracedFront text → HasNoFirstWord text
+no_braced_first text b none len word h = none len word (h.0, braced_kind text len word b h.1)
+
+-- text after the quote or the brace that closes
+pub quoted_followed : (text : List ℕ) (len : ℕ) (word : Word) → BeginsWith text 34 → IsQuotedFront text len word → (EndsWord (drop len text) → ⊥) → HasNoFirstWord text
+quoted_followed text len word b q not_end n w h =
+    let same = quoted_once (take n text) (take len text) (drop n text) (drop len text) w word (quoted_kind text n w b h.1) q.1 (whole_twice text n len) in
+    not_end (subst (λ k. EndsWord (drop k text)) (same_len text n len h.0 q.0 same.0) h.2)
+
+pub braced_followed : (text : List ℕ) (len : ℕ) (word : Word) → BeginsWith text 123 → IsBracedFront text len word → (EndsWord (drop len text) → ⊥) → HasNoFirstWord text
+braced_followed text len word b q not_end n w h =
+    let same = braced_once (take n text) (take len text) (drop n text) (drop len text) w word (braced_kind text n w b h.1) q.1 (whole_twice text n len) in
+    not_end (subst (λ k. EndsWord (drop k text)) (same_len text n len h.0 q.0 same.0) h.2)

@@ -120,13 +120,21 @@ fn output_of(
 }
 
 // Scripts, each on a new site, and their reply lines.
-const TABLE: [(&str, &str); 12] = [
+const TABLE: [(&str, &str); 14] = [
     (".t index end\n.t get 1.0 end", "= 2.0\n= \"\\n\"\n"),
     (
         ".t insert end hello\n.t index end\n.t get 1.0 end\n",
         "=\n= 2.0\n= \"hello\\n\"\n",
     ),
     (".t insert 1.0 \"a\n", "! 19 BadQuoting\n"),
+    (
+        ".t insert 1.0 {a b}\n.t get 1.0 1.3\n.t insert 1.0 {a}b\n.t get {1.0} \"end\"\n",
+        "=\n= \"a b\"\n! 19 BadQuoting\n= \"a b\\n\"\n",
+    ),
+    (
+        ".t insert 1.0 \"a\\nb\"\n.t index end\n.t insert 1.0 \"a\n.t index end\n",
+        "=\n= 3.0\n! 19 BadQuoting\n= 3.0\n",
+    ),
     (
         ".x index end\n.x\n.x frob\n",
         "! 5 NoWidget\n! 5 NoWidget\n! 5 NoWidget\n",

@@ -1,14 +1,15 @@
 // The words of a line.
-ghost use Rattle.std.specs.Prelude.{◌≡◌, ◌⊎◌, IfOk, IfErr, map, not, string_bytes};
+ghost use Rattle.std.specs.Prelude.{◌≡◌, ◌≢◌, ◌⊎◌, ℕ, ◌<◌, ◌≤◌, ◌∷◌, [], IfOk, IfErr, MatchOption, MatchResult, drop, map, not, false, length, slice_index, string_bytes};
 ghost use Rattle.std.specs.List.{prefix_len};
 ghost use Rattle.rt_stamps.specs.Lines.{is_blank};
-ghost use Rattle.rt_stamps.specs.Words.{Spells, IsBadlyQuoted};
+ghost use Rattle.rt_stamps.specs.Words.{EndsWord, Spells, IsBadlyQuoted, escape_of};
+ghost use Rattle.rt_script.specs.FirstWord.{BeginsWith, ClosesAt, IsFirstWord, HasNoFirstWord, IsQuotedFront, HasNoQuotedFront, IsBracedFront, HasNoBracedFront, is_plain};
 
 use rt_stamps::Fault;
 use std::alloc::Global;
 
-/// The words of a line: spaces and tabs stand between them. `BadQuoting` where the line spells no
-/// words, `NoMemory` where they can't be stored.
+/// The words of a line: bare, quoted or braced, with spaces and tabs between them. `BadQuoting`
+/// where the line spells no words, `NoMemory` where they can't be stored.
 pub fn words(alloc: Global, line: &str) -> Result<Vec<String>, Fault>
     ensures ok { IfOk result (λ words. Spells line.now (map (λ w. string_bytes w) words.items)) }
     ensures quoting { result ≡ Err Fault.BadQuoting → IsBadlyQuoted line.now }
@@ -18,14 +19,129 @@ pub fn words(alloc: Global, line: &str) -> Result<Vec<String>, Fault>
     let mut words = Vec::new(alloc);
     let mut start = blanks_len(bytes);
     while start < bytes.len() {
-        if bytes[start] == b'"' || bytes[start] == b'{' {
-            return Err(Fault::BadQuoting);
-        }
-        let end = start + bare_len(&bytes[start..]);
-        words.push(String::from_str(alloc, &line[start..end])?)?;
+        let first = first_word(alloc, &line[start..])?;
+        words.push(first.word)?;
+        let end = start + first.len;
         start = end + blanks_len(&bytes[end..]);
     }
     Ok(words)
+}
+
+// A word at the front of a text, and the length of what spells it.
+#[derive(Drop)]
+struct Front {
+    word: String,
+    len: usize,
+}
+
+// The word at the front of a text, which begins with no space or tab.
+fn first_word(alloc: Global, text: &str) -> Result<Front, Fault>
+    requires some { 0 < length text.now }
+    requires dark { is_blank (slice_index text.now 0) ≡ false }
+    ensures ok { IfOk result (λ front. IsFirstWord text.now front.len (string_bytes front.word)) }
+    ensures quoting { result ≡ Err Fault.BadQuoting → HasNoFirstWord text.now }
+    ensures fault { IfErr result (λ fault. (fault ≡ Fault.NoMemory) ⊎ (fault ≡ Fault.BadQuoting)) }
+{
+    let bytes = text.as_bytes();
+    match bytes[0] {
+        b'"' => ended(bytes, quoted_word(alloc, text)?),
+        b'{' => ended(bytes, braced_word(alloc, text)?),
+        _ => bare_word(alloc, text),
+    }
+}
+
+// A word that a space, a tab or nothing follows.
+fn ended(text: &[u8], front: Front) -> Result<Front, Fault>
+    requires { front.len ≤ length text.now }
+    ensures { MatchResult result (λ same. (same ≡ front) × EndsWord (drop front.len text.now)) (λ fault. (fault ≡ Fault.BadQuoting) × (EndsWord (drop front.len text.now) → ⊥)) }
+{
+    match text[front.len..].first() {
+        Some(c) if !is_blank(*c) => Err(Fault::BadQuoting),
+        _ => Ok(front),
+    }
+}
+
+// The quoted word at the front of a text, whatever follows it.
+fn quoted_word(alloc: Global, text: &str) -> Result<Front, Fault>
+    requires { BeginsWith text.now 34 }
+    ensures ok { IfOk result (λ front. IsQuotedFront text.now front.len (string_bytes front.word)) }
+    ensures quoting { result ≡ Err Fault.BadQuoting → HasNoQuotedFront text.now }
+    ensures fault { IfErr result (λ fault. (fault ≡ Fault.NoMemory) ⊎ (fault ≡ Fault.BadQuoting)) }
+{
+    let bytes = text.as_bytes();
+    let mut word = String::new(alloc);
+    let mut start = 1;
+    while start < bytes.len() {
+        let end = start + plain_len(&bytes[start..]);
+        word.push_str(&text[start..end])?;
+        if end < bytes.len() && bytes[end] == b'"' {
+            return Ok(Front { word, len: end + 1 });
+        }
+        let Some(letter) = bytes.get(end + 1) else {
+            return Err(Fault::BadQuoting);
+        };
+        word.push(escaped(*letter)?)?;
+        start = end + 2;
+    }
+    Err(Fault::BadQuoting)
+}
+
+// The character that a backslash and a letter stand for.
+fn escaped(letter: u8) -> Result<char, Fault>
+    ensures { MatchResult result (λ c. (c < 128) × (escape_of c ≡ 92 ∷ letter ∷ [])) (λ fault. (fault ≡ Fault.BadQuoting) × ((c : ℕ) → escape_of c ≢ 92 ∷ letter ∷ [])) }
+{
+    match letter {
+        b'n' => Ok('\n'),
+        b't' => Ok('\t'),
+        b'r' => Ok('\r'),
+        b'\\' => Ok('\\'),
+        b'"' => Ok('"'),
+        _ => Err(Fault::BadQuoting),
+    }
+}
+
+// The braced word at the front of a text, whatever follows it.
+fn braced_word(alloc: Global, text: &str) -> Result<Front, Fault>
+    requires { BeginsWith text.now 123 }
+    ensures ok { IfOk result (λ front. IsBracedFront text.now front.len (string_bytes front.word)) }
+    ensures quoting { result ≡ Err Fault.BadQuoting → HasNoBracedFront text.now }
+    ensures fault { IfErr result (λ fault. (fault ≡ Fault.NoMemory) ⊎ (fault ≡ Fault.BadQuoting)) }
+{
+    let Some(len) = closing_brace(&text.as_bytes()[1..]) else {
+        return Err(Fault::BadQuoting);
+    };
+    let word = String::from_str(alloc, &text[1..len + 1])?;
+    Ok(Front { word, len: len + 2 })
+}
+
+// The place of the brace that closes one before the text.
+fn closing_brace(text: &[u8]) -> Option<usize>
+    ensures { MatchOption result ((place : ℕ) → ClosesAt text.now place → ⊥) (ClosesAt text.now) }
+{
+    let mut depth: usize = 0;
+    for (i, c) in text.iter().enumerate() {
+        match *c {
+            b'{' => depth += 1,
+            b'}' if depth == 0 => return Some(i),
+            b'}' => depth -= 1,
+            _ => {}
+        }
+    }
+    None
+}
+
+// The bare word at the front of a text.
+fn bare_word(alloc: Global, text: &str) -> Result<Front, Fault>
+    requires some { 0 < length text.now }
+    requires dark { is_blank (slice_index text.now 0) ≡ false }
+    requires quote { slice_index text.now 0 ≢ 34 }
+    requires brace { slice_index text.now 0 ≢ 123 }
+    ensures ok { IfOk result (λ front. IsFirstWord text.now front.len (string_bytes front.word)) }
+    ensures fault { IfErr result (λ fault. fault ≡ Fault.NoMemory) }
+{
+    let len = bare_len(text.as_bytes());
+    let word = String::from_str(alloc, &text[..len])?;
+    Ok(Front { word, len })
 }
 
 // How many spaces and tabs a text begins with.
@@ -42,10 +158,23 @@ fn bare_len(text: &[u8]) -> usize
     text.iter().take_while(|c| !is_blank(**c)).count()
 }
 
+// How many characters a text has before its first quote or backslash.
+fn plain_len(text: &[u8]) -> usize
+    ensures { result ≡ prefix_len is_plain text.now }
+{
+    text.iter().take_while(|c| is_plain(**c)).count()
+}
+
 fn is_blank(c: u8) -> bool
     ensures { result ≡ is_blank c }
 {
     c == b' ' || c == b'\t'
+}
+
+fn is_plain(c: u8) -> bool
+    ensures { result ≡ is_plain c }
+{
+    c != b'"' && c != b'\\'
 }
 
 #[cfg(test)]
@@ -64,7 +193,7 @@ mod tests {
     }
 
     #[test]
-    fn words_of_lines(rt: HostRuntime) -> Result<(), Fail> {
+    fn bare_words(rt: HostRuntime) -> Result<(), Fail> {
         for (line, want) in [
             ("", ""),
             (" \t ", ""),
@@ -72,14 +201,100 @@ mod tests {
             (".t insert 1.0 hello", "|.t|insert|1.0|hello"),
             (" a\tb  \t c ", "|a|b|c"),
             ("a\"b c{d e} }", "|a\"b|c{d|e}|}"),
-            ("a\\n \\", "|a\\n|\\"),
+            ("a\\n \\ a\"b\" a{b}c", "|a\\n|\\|a\"b\"|a{b}c"),
             ("#a \r", "|#a|\r"),
             ("é\u{a0}ü \u{1f600}", "|é\u{a0}ü|\u{1f600}"),
         ] {
             let found = words(rt.alloc(), line)?;
             assert_eq!(rt; barred(rt.alloc(), &found)?.as_str(), want, "in {line:?}");
         }
-        for line in ["\"", "a \"b\"", "{a}", "a \t{b"] {
+        Ok(())
+    }
+
+    #[test]
+    fn quoted_words(rt: HostRuntime) -> Result<(), Fail> {
+        for (line, want) in [
+            ("\"\"", "|"),
+            ("\"\" a \"\"", "||a|"),
+            ("\"a b\"", "|a b"),
+            ("\ta \"b\tc\"  \"{\" ", "|a|b\tc|{"),
+            ("\"\\n\\t\\r\\\\\\\"\"", "|\n\t\r\\\""),
+            ("\"a\\\"b\" \"\\\\\" c", "|a\"b|\\|c"),
+            ("\"a\\\\n\\n\"", "|a\\n\n"),
+            ("\"é ü\\n\u{1f600}\" é", "|é ü\n\u{1f600}|é"),
+            ("\"a\r} { b\"", "|a\r} { b"),
+        ] {
+            let found = words(rt.alloc(), line)?;
+            assert_eq!(rt; barred(rt.alloc(), &found)?.as_str(), want, "in {line:?}");
+        }
+        Ok(())
+    }
+
+    #[test]
+    fn braced_words(rt: HostRuntime) -> Result<(), Fail> {
+        for (line, want) in [
+            ("{}", "|"),
+            ("{} {} a", "|||a"),
+            ("{a b}", "|a b"),
+            ("{a {b {c} d} e} f", "|a {b {c} d} e|f"),
+            ("{{}{}}\t{{{}}}", "|{}{}|{{}}"),
+            ("{a\\} {\\n\"} b", "|a\\|\\n\"|b"),
+            ("{ \"a } ", "| \"a "),
+            ("{é {\u{1f600}}}", "|é {\u{1f600}}"),
+        ] {
+            let found = words(rt.alloc(), line)?;
+            assert_eq!(rt; barred(rt.alloc(), &found)?.as_str(), want, "in {line:?}");
+        }
+        Ok(())
+    }
+
+    // The words of replies, and the bytes that the lines of answers have for them.
+    #[test]
+    fn lines_of_replies(rt: HostRuntime) -> Result<(), Fail> {
+        for (line, want) in [
+            ("=", "|="),
+            ("= 2.0", "|=|2.0"),
+            ("= \"hello\\n\"", "|=|hello\n"),
+            ("= \"\"", "|=|"),
+            ("= a \"\" b", "|=|a||b"),
+            ("= \"}\" \"{\" \"a b\"", "|=|}|{|a b"),
+            ("= \"a b\" {c {d} e}", "|=|a b|c {d} e"),
+            ("= \"\\t\\r\" \"\\\"\\\\\"", "|=|\t\r|\"\\"),
+            ("= é#$[ \u{1f600}", "|=|é#$[|\u{1f600}"),
+        ] {
+            let found = words(rt.alloc(), line)?;
+            assert_eq!(rt; barred(rt.alloc(), &found)?.as_str(), want, "in {line:?}");
+        }
+        Ok(())
+    }
+
+    #[test]
+    fn refused_lines(rt: HostRuntime) -> Result<(), Fail> {
+        for line in [
+            "\"",
+            "\"a",
+            "a \"b",
+            "\"a\\",
+            "\"a\\\"",
+            "\"a\"b",
+            "\"a\"\"b\"",
+            "\"\"{}",
+            "\"\\x\"",
+            "\"\\",
+            "\"\\ \"",
+            "\"\\é\"",
+            "\"a\"\u{a0}",
+            "{",
+            "{a",
+            "{a{b}",
+            "{a}b",
+            "{a}}",
+            "{}{}",
+            "{}\"\"",
+            "a \t{b",
+            "a {b} \"c\\q\"",
+            "{a\\}}",
+        ] {
             let refused = words(rt.alloc(), line).err();
             assert_eq!(rt; refused, Some(Fault::BadQuoting), "in {line:?}");
         }

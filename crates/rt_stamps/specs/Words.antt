@@ -1,6 +1,6 @@
 -- Words of a line, and how a word is written.
-use Rattle.std.specs.Prelude.{◌≡◌, ℕ, ◌==◌, ◌||◌, List, [], ◌∷◌, ◌++◌, Bool, true, false, flat_map, codes, if◌then◌else◌}
-use Rattle.std.specs.List.{list_any, list_all}
+use Rattle.std.specs.Prelude.{◌≡◌, ◌≢◌, ◌⊎◌, ℕ, ◌==◌, ◌||◌, ◌≤◌, List, [], ◌∷◌, ◌++◌, Bool, true, false, take, flat_map, codes, if◌then◌else◌}
+use Rattle.std.specs.List.{list_any, list_all, count_by}
 use Rattle.rt_stamps.specs.Lines.{is_blank}
 
 abbrev pub Word : Type 0
@@ -19,9 +19,43 @@ abbrev pub IsBare : List ℕ → Type 0
 IsBare [] = ⊥
 IsBare (c ∷ piece) = ((c == 34) || (c == 123) ≡ false) × (list_any is_blank (c ∷ piece) ≡ false)
 
+-- a character within quotes: newline, tab, carriage return, backslash and quote have an escape, any other is as it is
+abbrev pub escape_of : ℕ → List ℕ
+escape_of c =
+    if c == 10 then codes "\\n" else if c == 9 then codes "\\t" else if c == 13 then codes "\\r"
+    else if c == 92 then codes "\\\\" else if c == 34 then codes "\\\"" else c ∷ []
+
+-- what stands for a character within quotes: its escape, or the character itself if it is no quote and no backslash
+abbrev pub StandsFor : List ℕ → ℕ → Type 0
+StandsFor part c = (part ≡ escape_of c) ⊎ ((part ≡ c ∷ []) × (c ≢ 34) × (c ≢ 92))
+
+-- a text within quotes is a word: what stands for each of its characters, one after the other
+abbrev pub IsEscaped : List ℕ → Word → Type 0
+IsEscaped text [] = text ≡ []
+IsEscaped text (c ∷ word) = (part rest : List ℕ) × (text ≡ part ++ rest) × StandsFor part c × IsEscaped rest word
+
+-- a quoted word stands between quotes
+abbrev pub IsQuoted : List ℕ → Word → Type 0
+IsQuoted piece word = (text : List ℕ) × (piece ≡ 34 ∷ text ++ (34 ∷ [])) × IsEscaped text word
+
+-- how many braces of a text open, and how many close
+abbrev pub opening : List ℕ → ℕ
+opening text = count_by (λ c. c == 123) text
+
+abbrev pub closing : List ℕ → ℕ
+closing text = count_by (λ c. c == 125) text
+
+-- as many braces close as open, and no more than that at the front of the text, however much of it is taken
+abbrev pub IsBalanced : List ℕ → Type 0
+IsBalanced text = (closing text ≡ opening text) × ((n : ℕ) → closing (take n text) ≤ opening (take n text))
+
+-- a braced word stands between two braces that match: its own are balanced
+abbrev pub IsBraced : List ℕ → Word → Type 0
+IsBraced piece word = (piece ≡ 123 ∷ word ++ (125 ∷ [])) × IsBalanced word
+
 -- a piece of a line spells a word: a bare word is each of its characters as it is
 abbrev pub IsSpelling : List ℕ → Word → Type 0
-IsSpelling piece word = IsBare piece × (word ≡ piece)
+IsSpelling piece word = (IsBare piece × (word ≡ piece)) ⊎ IsQuoted piece word ⊎ IsBraced piece word
 
 -- A line spells words: each has its piece of the line, and spaces or tabs stand between the pieces, and perhaps before
 -- the first and after the last.
@@ -32,12 +66,6 @@ Spells line (word ∷ words) = (gap piece rest : List ℕ) × (line ≡ gap ++ (
 -- a line that spells no words is badly quoted
 abbrev pub IsBadlyQuoted : List ℕ → Type 0
 IsBadlyQuoted line = (words : List Word) → Spells line words → ⊥
-
--- what a character is within quotes
-abbrev pub escape_of : ℕ → List ℕ
-escape_of c =
-    if c == 10 then codes "\\n" else if c == 9 then codes "\\t" else if c == 13 then codes "\\r"
-    else if c == 92 then codes "\\\\" else if c == 34 then codes "\\\"" else c ∷ []
 
 -- space, tab, newline, carriage return, quote, backslash and braces
 abbrev pub needs_quotes : ℕ → Bool

@@ -1,0 +1,21 @@
+use Rattle.std.proofs.Common.{◌≡◌, ◌∙◌, ◌-◌, ap, List, ℕ, take, arith}
+use Rattle.std.specs.List.{prefix_len}
+use Rattle.std.proofs.lemmas.List.Sums.{prefix_len-le-length}
+use Rattle.rt_script.proofs.BareWords.{is_dark, dark_ends}
+use Rattle.rt_script.proofs.Spelling.{bare_first}
+use Rattle.rt_script.proofs.WordSteps.{end_boundary}
+use Rattle.rt_script.proofs.words.bare_word.Goals as goal
+
+pub range-requires-clause-end_boundary : goal.range-requires-clause-end_boundary
+range-requires-clause-end_boundary c =
+    let text : List ℕ = c.args.text.now in
+    let n : c.bare_len-len.result ≡ prefix_len is_dark text = c.bare_len-len.ensures ∙ ap (prefix_len is_dark) c.as_bytes.ensures.value in
+    rw n (end_boundary text (prefix_len is_dark text) (prefix_len-le-length is_dark text) (dark_ends text))
+
+pub returns-clause-ok : goal.returns-clause-ok
+returns-clause-ok c =
+    let text : List ℕ = c.args.text.now in
+    let n : c.bare_len-len.result ≡ prefix_len is_dark text = c.bare_len-len.ensures ∙ ap (prefix_len is_dark) c.as_bytes.ensures.value in
+    let m : ℕ = c.bare_len-len.result in
+    let whole : m - 0 ≡ m = omega arith in
+    rw (c.in_ok-word.ensures.ok ∙ c.range.ensures.value ∙ ap (λ k. take k text) whole, n) (bare_first text c.requires.some c.requires.dark c.requires.quote c.requires.brace)
