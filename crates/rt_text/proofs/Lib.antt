@@ -5,3 +5,7 @@ pub mod PlaceLaws
 pub mod TextLaws
 pub mod DistanceLaws
 pub mod RangeLaws
+pub mod DistinctLaws
+pub mod GoneLaws
+pub mod StampLaws
+pub mod SpanLaws
