@@ -1,13 +1,17 @@
 -- Stamps that differ.
-use Rattle.std.proofs.Common.{◌≡◌, ℕ, ◌+◌, ◌<◌, ◌≤◌, List, [], ◌∷◌, ◌++◌, Bool, true, false, cond, not, ◌||◌, length, map, take, drop, refl, sym, ◌∙◌, ap, subst, arith}
+use Rattle.std.proofs.Common.{◌≡◌, ℕ, suc, ◌+◌, ◌==◌, ◌<◌, ◌≤◌, List, [], ◌∷◌, ◌++◌, Bool, true, false, cond, not, ◌||◌, length, map, take, drop, refl, sym, ◌∙◌, ap, subst, arith, append_assoc, take-append-drop}
 use Rattle.std.specs.List.{IsDistinct, AllByRecursion}
-use Rattle.std.proofs.lemmas.Bool.{or_from, or_parts, or_left, or_right, both_ways}
-use Rattle.std.proofs.lemmas.Map.Keys.{IsDistinct-cons, IsDistinct-head, IsDistinct-tail}
+use Rattle.std.specs.List.Sorted.{IsPermutation}
+use Rattle.std.proofs.lemmas.Bool.{or_from, or_parts, or_left, or_right, both_ways, and_left, and_right, eqb-true, ne_eqb}
+use Rattle.std.proofs.lemmas.List.Sorted.{IsPermutation-append_left, IsPermutation-append_comm, IsPermutation-map}
+use Rattle.std.proofs.lemmas.Map.Keys.{IsDistinct-cons, IsDistinct-head, IsDistinct-tail, IsDistinct-IsPermutation}
 use Rattle.rt_stamps.specs.declared.stamp.Stamp.{Stamp}
 use Rattle.rt_stamps.specs.Stamps.{is_same}
 use Rattle.rt_stamps.proofs.Order.{same_sym, same_refl, same_from_true}
 use Rattle.rt_store.specs.declared.cell.Cell.{Cell}
-use Rattle.rt_text.specs.Known.{stamps_of}
+use Rattle.rt_store.specs.Cells.{after_element}
+use Rattle.rt_text.specs.Flat.{cells_from, put_after}
+use Rattle.rt_text.specs.Known.{stamps_of, AreDistinct, IsKnown, AreKnown}
 use Rattle.rt_text.specs.Spans.{is_among}
 use Rattle.rt_text.specs.Removals.{stamps_at}
 
@@ -86,3 +90,49 @@ pub stamps_few : (r : ℕ → Bool) (p : ℕ) (cells : List Cell) → length (st
 stamps_few r p [] = omega arith
 stamps_few r p (c ∷ cs) =
     omega (arith, few_step c.stamp c.gone (r p) (stamps_at r p cs) (stamps_at r (p + 1) cs) (length cs) (stamps_few r p cs) (stamps_few r (p + 1) cs))
+
+-- NEW CELLS
+
+-- a stamp of a new count is no known one
+apart_known : (count n site : ℕ) (old : Stamp) → IsKnown count old → count < n → 1 ≤ site → is_same old (record { count = n; site = site }) ≡ false
+apart_known count n site old h k l = split (old.count == n)
+    (λ e. let c : old.count ≡ n = eqb-true old.count n e in and_right _ _ (ne_eqb old.site site (λ q. absurd (omega (arith, h.0, h.1 (omega (arith, h.0)))))))
+    (λ e. and_left _ _ e)
+
+new_apart : (count n site : ℕ) (cells : List Cell) → AreKnown count cells → count < n → 1 ≤ site → is_among (stamps_of cells) (record { count = n; site = site }) ≡ false
+new_apart count n site [] h k l = refl
+new_apart count n site (x ∷ xs) h k l =
+    or_from (is_same x.stamp (record { count = n; site = site })) _ (apart_known count n site x.stamp (h 0 x (omega arith)) k l)
+    (new_apart count n site xs (λ i d lt. h (suc i) d (omega arith)) k l)
+
+later_apart : (n first site : ℕ) (cs : List ℕ) (old : List Cell) → n < first → is_among (stamps_of old) (record { count = n; site = site }) ≡ false
+    → is_among (stamps_of (cells_from first site cs ++ old)) (record { count = n; site = site }) ≡ false
+later_apart n first site [] old h k = k
+later_apart n first site (c ∷ cs) old h k =
+    or_from (is_same (record { count = first; site = site }) (record { count = n; site = site })) _ (and_left _ _ (ne_eqb first n (λ e. absurd (omega arith))))
+    (later_apart n (first + 1) site cs old (omega arith) k)
+
+distinct_new : (count first site : ℕ) (cs : List ℕ) (old : List Cell) → count < first → 1 ≤ site → AreKnown count old → AreDistinct old → AreDistinct (cells_from first site cs ++ old)
+distinct_new count first site [] old h k known d = d
+distinct_new count first site (c ∷ cs) old h k known d =
+    distinct_more (record { count = first; site = site }) (stamps_of (cells_from (first + 1) site cs ++ old))
+    (later_apart first (first + 1) site cs old (omega arith) (new_apart count first site old known h k))
+    (distinct_new count (first + 1) site cs old (omega arith) k known d)
+
+-- new cells with counts above all known ones differ from all
+pub distinct_put : (count first site : ℕ) (cells : List Cell) (left : Stamp) (text : List ℕ) → count < first → 1 ≤ site → AreKnown count cells → AreDistinct cells
+    → AreDistinct (put_after cells left (cells_from first site text))
+distinct_put count first site cells left text h k known d =
+    let at = after_element cells left in
+    let new = cells_from first site text in
+    let before : List Cell = take at cells in
+    let behind : List Cell = drop at cells in
+    let same : (new ++ before) ++ behind ≡ new ++ cells = append_assoc new before behind ∙ ap (λ l. new ++ l) (take-append-drop at cells) in
+    let moved : IsPermutation ((new ++ before) ++ behind) ((before ++ new) ++ behind) = IsPermutation-append_left behind (new ++ before) (before ++ new) (IsPermutation-append_comm new before) in
+    IsDistinct-IsPermutation is_same same_sym (stamps_of ((new ++ before) ++ behind)) (stamps_of ((before ++ new) ++ behind))
+    (IsPermutation-map (λ (cell : Cell). cell.stamp) ((new ++ before) ++ behind) ((before ++ new) ++ behind) moved)
+    (subst AreDistinct (sym same) (distinct_new count first site text cells h k known d))
+
+-- one cell differs from all others
+pub distinct_one : (cell : Cell) → AreDistinct (cell ∷ [])
+distinct_one cell = distinct_more cell.stamp [] refl none_distinct

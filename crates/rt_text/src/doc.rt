@@ -32,13 +32,13 @@ impl<S: TextStore> Model for Doc<S> {
     ghost use Rattle.std.specs.Prelude.{◌≤◌, length};
     ghost use Rattle.rt_stamps.specs.declared.limits.TheConstants.{MOST_CELLS, GREATEST_COUNT};
     ghost use Rattle.rt_text.specs.Flat.{Flat};
-    ghost use Rattle.rt_text.specs.Known.{AreKnown};
+    ghost use Rattle.rt_text.specs.Known.{AreKnown, AreDistinct};
 
     ghost Value = { Flat };
 
     ghost view = { λ d. record { cells = S.list d.store; site = d.site.number; limit = d.limit; count = d.clock } };
 
-    ghost invariant = { λ d. (d.limit ≤ MOST_CELLS) × (length (S.list d.store) ≤ d.limit) × AreKnown d.clock (S.list d.store) × (d.clock ≤ GREATEST_COUNT) };
+    ghost invariant = { λ d. (d.limit ≤ MOST_CELLS) × (length (S.list d.store) ≤ d.limit) × AreKnown d.clock (S.list d.store) × (d.clock ≤ GREATEST_COUNT) × AreDistinct (S.list d.store) };
 }
 
 // The first of some fresh counts, or why they or so many new cells are refused.
