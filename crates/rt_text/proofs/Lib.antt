@@ -5,3 +5,5 @@ pub mod PlaceLaws
 pub mod TextLaws
 pub mod DistanceLaws
 pub mod RangeLaws
+pub mod MergingLaws
+pub mod SparingLaws

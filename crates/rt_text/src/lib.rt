@@ -7,6 +7,7 @@ pub mod doc;
 pub mod index;
 pub mod insertion;
 pub mod range;
+mod removal;
 
 pub use comparison::Comparison;
 pub use distance::Measure;
