@@ -9,3 +9,5 @@ pub mod DistinctLaws
 pub mod GoneLaws
 pub mod StampLaws
 pub mod SpanLaws
+pub mod MergingLaws
+pub mod SparingLaws

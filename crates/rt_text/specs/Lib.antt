@@ -4,6 +4,7 @@ pub mod Distances
 pub mod Flat
 pub mod Index
 pub mod Known
+pub mod Merging
 pub mod Ranges
 pub mod Removals
 pub mod Spans
