@@ -1,9 +1,11 @@
 -- Cells made gone by their stamps are those at the places.
-use Rattle.std.proofs.Common.{◌≡◌, ℕ, zero, suc, ◌+◌, ◌-◌, ◌<◌, ◌≤◌, List, [], ◌∷◌, Bool, true, false, cond, not, ◌||◌, length, map, drop, get_or, refl, sym, ◌∙◌, ap, arith, Some, add-one, All}
+use Rattle.std.proofs.Common.{◌≡◌, ℕ, zero, suc, ◌+◌, ◌-◌, ◌<◌, ◌≤◌, List, [], ◌∷◌, Bool, true, false, cond, not, ◌||◌, length, map, drop, get_or, refl, sym, ◌∙◌, ap, subst, arith, Some, add-one, All}
 use Rattle.std.specs.Prelude.{slice_get}
 use native.Mathlib.Numerals.{unary_clauses}
-use Rattle.std.proofs.lemmas.List.{drop_more}
-use Rattle.std.proofs.lemmas.Bool.{or_from, or_parts, or_left, or_right, both_ways, cond-true, cond-false}
+use Rattle.std.specs.List.{IsDistinct}
+use Rattle.std.proofs.lemmas.List.{drop_more, length-map}
+use Rattle.std.proofs.lemmas.List.Elements.{All-map}
+use Rattle.std.proofs.lemmas.Bool.{or_from, or_parts, or_left, or_right, both_ways, cond-true, cond-false, and_left, le-ltb}
 use Rattle.rt_stamps.specs.declared.stamp.Span.{Span}
 use Rattle.rt_stamps.specs.declared.stamp.Stamp.{Stamp}
 use Rattle.rt_stamps.specs.declared.stamp.TheConstants.{FINAL}
@@ -11,9 +13,11 @@ use Rattle.rt_stamps.specs.Stamps.{is_same}
 use Rattle.rt_stamps.proofs.Order.{same_sym, same_refl, same_from_true}
 use Rattle.rt_store.specs.declared.cell.Cell.{Cell}
 use Rattle.rt_store.specs.declared.cell.TheConstants.{FINAL_CELL}
-use Rattle.rt_store.specs.Cells.{EndsFinal, visible_of, gone_in, is_in_span}
+use Rattle.rt_store.specs.Cells.{EndsFinal, visible_of, text_of, gone_in, is_in_span}
 use Rattle.rt_text.specs.Known.{stamps_of, AreDistinct, IsKnown, AreKnown}
-use Rattle.rt_text.specs.Removals.{stamps_at, gone_at}
+use Rattle.rt_text.specs.Removals.{is_removed, stamps_at, gone_at}
+use Rattle.rt_text.specs.declared.range.Range.{Range}
+use Rattle.rt_text.proofs.PlaceLaws.{length_text}
 use Rattle.rt_text.specs.Spans.{is_among, is_in_spans, gone_in_any}
 use Rattle.rt_text.proofs.DistinctLaws.{split, first_apart, others_distinct, differs, stamps_within}
 
@@ -44,7 +48,7 @@ marked_taken test r p c cs e f new h ih =
     let found : test c.stamp ≡ true = h c.stamp (or_left (is_same c.stamp c.stamp) _ (same_refl c.stamp)) ∙ ap (λ l. is_among l c.stamp) at ∙ or_left (is_same c.stamp c.stamp) _ (same_refl c.stamp) in
     let first : gone_by test c ≡ record c { gone = r p } = cond-true (test c.stamp) _ _ found ∙ (λ i. record c { gone = sym f i }) in
     let rest : map (gone_by test) cs ≡ gone_at r (p + 1) cs =
-        ih (λ s k. h s (or_right (is_same c.stamp s) _ k) ∙ ap (λ l. is_among l s) at ∙ ap (λ b. b || is_among (stamps_at r (p + 1) cs) s) (differs c.stamp s (stamps_of cs) new k)) in
+    ih (λ s k. h s (or_right (is_same c.stamp s) _ k) ∙ ap (λ l. is_among l s) at ∙ ap (λ b. b || is_among (stamps_at r (p + 1) cs) s) (differs c.stamp s (stamps_of cs) new k)) in
     let all : gone_at r p (c ∷ cs) ≡ record c { gone = r p } ∷ gone_at r (p + 1) cs = cond-false c.gone _ _ e in
     (λ i. first i ∷ rest i) ∙ sym all
 
@@ -67,8 +71,8 @@ marked test r p (c ∷ cs) d h =
     split c.gone
     (λ e. marked_gone test r p c cs e h (λ k. marked test r p cs rest k))
     (λ e. split (r p)
-        (λ f. marked_taken test r p c cs e f new h (λ k. marked test r (p + 1) cs rest k))
-        (λ f. marked_left test r p c cs e f new h (λ k. marked test r (p + 1) cs rest k)))
+    (λ f. marked_taken test r p c cs e f new h (λ k. marked test r (p + 1) cs rest k))
+    (λ f. marked_left test r p c cs e f new h (λ k. marked test r (p + 1) cs rest k)))
 
 -- where spans hold the stamps at the places, their cells are gone and no others
 pub gone_from_spans : (r : ℕ → Bool) (cells : List Cell) (spans : List Span) → AreDistinct cells
@@ -154,3 +158,21 @@ final_stays r p (x ∷ y ∷ xs) h d k =
     final_step x.stamp x.gone (r p) p 0 r x (visible_of (y ∷ xs)) (stamps_at r p (y ∷ xs)) (stamps_at r (p + 1) (y ∷ xs))
     (differs x.stamp FINAL (stamps_of (y ∷ xs)) new (final_among (y ∷ xs) tail)) (some_visible (y ∷ xs) tail) k
     (λ q. final_stays r p (y ∷ xs) tail rest q) (λ q. final_stays r (p + 1) (y ∷ xs) tail rest q)
+
+-- made gone by spans, cells are as many, as known and as different
+pub length_stays : (spans : List Span) (cells : List Cell) → length (map (gone_in_any spans) cells) ≡ length cells
+length_stays spans cells = length-map cells (gone_in_any spans)
+
+pub known_stays : (count : ℕ) (spans : List Span) (cells : List Cell) → AreKnown count cells → AreKnown count (map (gone_in_any spans) cells)
+known_stays count spans cells h =
+    All-map (λ cell. IsKnown count cell.stamp) (gone_in_any spans) cells
+    (λ k d lt. subst (IsKnown count) (sym (same_stamp (is_in_spans spans (get_or cells k d).stamp) (get_or cells k d))) (h k d lt))
+
+pub distinct_stays : (spans : List Span) (cells : List Cell) → AreDistinct cells → AreDistinct (map (gone_in_any spans) cells)
+distinct_stays spans cells h = subst (IsDistinct is_same) (sym (stamps_stay spans cells)) h
+
+-- a removal leaves the last newline
+pub last_kept : (cells : List Cell) (ranges : List Range) → EndsFinal cells → is_removed (text_of cells) ranges (0 + (length (visible_of cells) - 1)) ≡ false
+last_kept cells ranges h =
+    let n = length_text cells in
+    and_left _ _ (le-ltb (0 + (length (visible_of cells) - 1) + 1) (length (text_of cells)) (omega (arith, n, some_visible cells h)))

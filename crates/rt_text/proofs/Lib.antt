@@ -11,3 +11,4 @@ pub mod StampLaws
 pub mod SpanLaws
 pub mod MergingLaws
 pub mod SparingLaws
+pub mod Deletions

@@ -219,7 +219,7 @@ counted_more s t ss h =
     let all = s ∷ t ∷ ss in
     let p = and_parts (precedes s t) (each_next precedes (t ∷ ss)) h in
     let next : is_among all (next_stamp s) ≡ is_same t (next_stamp s) =
-        ap (λ b. b || is_among (t ∷ ss) (next_stamp s)) (self_not_next s) ∙ or_false (is_same t (next_stamp s)) _ (none_between s t ss p.0 (all_after t ss p.1)) in
+    ap (λ b. b || is_among (t ∷ ss) (next_stamp s)) (self_not_next s) ∙ or_false (is_same t (next_stamp s)) _ (none_between s t ss p.0 (all_after t ss p.1)) in
     length_lasts (is_among all (next_stamp s)) s (lasts_of all (t ∷ ss))
     ∙ (λ i. cond (next i) 0 1 + length (lasts_same s (t ∷ ss) (t ∷ ss) (all_after s (t ∷ ss) h) i))
 
@@ -275,11 +275,11 @@ in_order : (a b : Stamp) → is_lt (ordering_then (nat_cmp b.site a.site) (nat_c
 in_order a b h k = split (nat_lt b.site a.site)
     (λ e. absurd (both_ways true (sym (ap (λ t. is_lt (ordering_then (cond t Less (cond (b.site == a.site) Equal Greater)) (nat_cmp b.count a.count))) e) ∙ h) refl))
     (λ e. split (b.site == a.site)
-        (λ f. let g : is_lt (nat_cmp b.count a.count) ≡ false = ap (λ t. is_lt (ordering_then t (nat_cmp b.count a.count))) (sym (cond-false _ _ _ e ∙ cond-true _ _ _ f)) ∙ h in
-            split (nat_lt b.count a.count)
-            (λ i. absurd (both_ways true (sym (ap (λ t. is_lt (cond t Less (cond (b.count == a.count) Equal Greater))) i) ∙ g) refl))
-            (λ i. grind (arith, nat_tests)))
-        (λ f. grind (arith, nat_tests)))
+    (λ f. let g : is_lt (nat_cmp b.count a.count) ≡ false = ap (λ t. is_lt (ordering_then t (nat_cmp b.count a.count))) (sym (cond-false _ _ _ e ∙ cond-true _ _ _ f)) ∙ h in
+    split (nat_lt b.count a.count)
+    (λ i. absurd (both_ways true (sym (ap (λ t. is_lt (cond t Less (cond (b.count == a.count) Equal Greater))) i) ∙ g) refl))
+    (λ i. grind (arith, nat_tests)))
+    (λ f. grind (arith, nat_tests)))
 
 -- sorted stamps that differ are in order
 pub sorted_next : (xs : List Stamp) → IsDistinct is_same xs
@@ -297,3 +297,11 @@ counted_alike xs ys h =
     ∙ length-filter (λ x. not (is_among ys (next_stamp x))) xs
     ∙ sym (sum_by-IsPermutation (λ x. cond (not (is_among ys (next_stamp x))) 1 0) xs ys h)
     ∙ sym (length-filter (λ x. not (is_among ys (next_stamp x))) ys)
+
+-- there are no more runs than stamps
+filter_few : (p : Stamp → Bool) (ss : List Stamp) → length (filter p ss) ≤ length ss
+filter_few p [] = omega arith
+filter_few p (s ∷ ss) = elim (p s) as (λ b. length (cond b (s ∷ filter p ss) (filter p ss)) ≤ suc (length ss)) [ true ↦ omega (arith, filter_few p ss) | false ↦ omega (arith, filter_few p ss) ]
+
+pub span_few : (ss : List Stamp) → span_count ss ≤ length ss
+span_few ss = filter_few (λ x. not (is_among ss (next_stamp x))) ss

@@ -78,15 +78,15 @@ range_picked range ranges cs h =
     let at_from : 0 + from ≡ from = omega arith in
     let at_to : 0 + range.to ≡ range.to = omega arith in
     let first : picked r 0 cs ≡ picked r from (drop from cs) =
-        none_picked from r 0 cs (λ q a b. or_from (is_in range q) _ (in_before range q (omega arith)) (before_all range.to ranges q h.2 (omega (arith, h.1)))) ∙ ap (λ n. picked r n (drop from cs)) at_from in
+    none_picked from r 0 cs (λ q a b. or_from (is_in range q) _ (in_before range q (omega arith)) (before_all range.to ranges q h.2 (omega (arith, h.1)))) ∙ ap (λ n. picked r n (drop from cs)) at_from in
     let mid : picked r from (drop from cs) ≡ stamps_of (take k (drop from cs)) ++ picked r (from + k) (drop k (drop from cs)) =
-        all_picked k r from (drop from cs) (λ q a b. or_left (is_in range q) _ (in_within range q a (omega arith))) in
+    all_picked k r from (drop from cs) (λ q a b. or_left (is_in range q) _ (in_within range q a (omega arith))) in
     let there : picked r (from + k) (drop k (drop from cs)) ≡ picked r range.to (drop range.to cs) =
-        ap (λ l. picked r (from + k) l) (drop-drop k from cs) ∙ ap (λ n. picked r n (drop n cs)) up in
+    ap (λ l. picked r (from + k) l) (drop-drop k from cs) ∙ ap (λ n. picked r n (drop n cs)) up in
     let alike : picked r range.to (drop range.to cs) ≡ picked (is_covered ranges) range.to (drop range.to cs) =
-        alike_picked r (is_covered ranges) range.to (drop range.to cs) (λ q a. ap (λ b. b || is_covered ranges q) (in_after range q a)) in
+    alike_picked r (is_covered ranges) range.to (drop range.to cs) (λ q a. ap (λ b. b || is_covered ranges q) (in_after range q a)) in
     let back : picked (is_covered ranges) 0 cs ≡ picked (is_covered ranges) range.to (drop range.to cs) =
-        none_picked range.to (is_covered ranges) 0 cs (λ q a b. before_all range.to ranges q h.2 (omega arith)) ∙ ap (λ n. picked (is_covered ranges) n (drop range.to cs)) at_to in
+    none_picked range.to (is_covered ranges) 0 cs (λ q a b. before_all range.to ranges q h.2 (omega arith)) ∙ ap (λ n. picked (is_covered ranges) n (drop range.to cs)) at_to in
     first ∙ mid ∙ ap (λ l. stamps_of (take k (drop from cs)) ++ l) (there ∙ alike ∙ sym back)
 
 -- one range more

@@ -1,11 +1,13 @@
 -- Spans of stamps: each has the stamps of one site from a first count to a last one.
-use Rattle.std.specs.Prelude.{ℕ, ◌+◌, ◌==◌, ◌&&◌, ◌||◌, nat_lt, nat_le, Bool, true, List, [], ◌∷◌, if◌then◌else◌}
+use Rattle.std.specs.Prelude.{ℕ, ◌+◌, ◌==◌, ◌&&◌, ◌||◌, nat_lt, nat_le, Bool, true, List, [], ◌∷◌, length, map, if◌then◌else◌}
 use Rattle.std.specs.List.{list_any}
 use Rattle.rt_stamps.specs.declared.stamp.Span.{Span}
 use Rattle.rt_stamps.specs.declared.stamp.Stamp.{Stamp}
 use Rattle.rt_stamps.specs.Stamps.{is_same}
 use Rattle.rt_store.specs.declared.cell.Cell.{Cell}
 use Rattle.rt_store.specs.Cells.{is_in_span}
+use Rattle.rt_text.specs.Flat.{Flat}
+use Rattle.rt_text.specs.Removals.{operations_for}
 
 -- a relation holds of each element and the next one
 abbrev pub each_next : {A : Type 0} → (A → A → Bool) → List A → Bool
@@ -44,3 +46,7 @@ is_among stamps stamp = list_any (λ other. is_same other stamp) stamps
 -- a cell with a stamp in one of the spans is gone, another is as it was
 abbrev pub gone_in_any : List Span → Cell → Cell
 gone_in_any spans cell = if is_in_spans spans cell.stamp then record cell { gone = true } else cell
+
+-- a document without the cells in spans, with the counts that this takes
+abbrev pub without_spans : Flat → List Span → Flat
+without_spans flat spans = record flat { cells = map (gone_in_any spans) flat.cells; count = flat.count + operations_for (length spans) }

@@ -3,7 +3,8 @@ ghost use Rattle.std.specs.Prelude.{◌≡◌};
 use crate::insertion::cells_of;
 use crate::removal::removed_ranges;
 use crate::{Doc, Range};
-use rt_stamps::Site;
+use rt_stamps::limits::GREATEST_COUNT;
+use rt_stamps::{Clock, Fault, Site};
 use rt_store::{ListStore, TextStore};
 use std::alloc::Global;
 use std::process::Abort;
@@ -111,4 +112,34 @@ fn leaves_no_empty_line(rt: HostRuntime) -> Result<(), Fail> {
     removes(&rt, alloc, "a\nbc", &middle, &[range(1, 4)])?;
     let first = [range(0, 1), range(2, 5)];
     removes(&rt, alloc, "a\nbc", &first, &[range(0, 1), range(1, 4)])
+}
+
+fn indices_of(alloc: Global, words: &[&str]) -> Result<Vec<String>, Fail> {
+    let mut indices = Vec::new(alloc);
+    for word in words {
+        indices.push(String::from_str(alloc, word)?)?;
+    }
+    Ok(indices)
+}
+
+#[test]
+fn deletes_with_the_last_count(rt: HostRuntime) -> Result<(), Fail> {
+    let alloc = rt.alloc();
+    let site = Site::new(1).ok_or("a site")?;
+    let mut clock = Clock::new();
+    clock.saw(GREATEST_COUNT - 6);
+    let store = ListStore::new(alloc)?;
+    let mut doc = Doc::with_clock(alloc, store, site, 100, clock)?;
+    doc.insert("1.0", "hello")?;
+    let nothing = indices_of(alloc, &["1.2", "1.2"])?;
+    assert_eq!(rt; doc.delete(&nothing), Ok(()));
+    let two = indices_of(alloc, &["1.0", "1.1", "1.3", "1.4"])?;
+    assert_eq!(rt; doc.delete(&two), Ok(()));
+    assert_eq!(rt; doc.get("1.0", "end")?.as_str(), "elo\n");
+    assert_eq!(rt; doc.delete(&two), Err(Fault::ClockSpent));
+    assert_eq!(rt; doc.get("1.0", "end")?.as_str(), "elo\n");
+    assert_eq!(rt; doc.delete(&nothing), Ok(()));
+    let unread = indices_of(alloc, &["1.0", "one"])?;
+    assert_eq!(rt; doc.delete(&unread), Err(Fault::BadIndex));
+    Ok(())
 }

@@ -19,6 +19,6 @@ invariant_of-self-2 g c =
     let before : AreKnown c.saw.new.self (g.S.TextStore.list c.reserve.new.self) = rw same (known_later c.self.inside.clock c.saw.new.self old (omega arith) c.self.invariant.2) in
     let new : AreKnown c.saw.new.self c.deref.result.now = rw (c.deref.ensures.value, c.in_ok-cells.ensures.cells) (known_from c.args.first _ c.args.text.now c.saw.new.self (omega arith)) in
     let apart : AreDistinct (put_after (g.S.TextStore.list c.reserve.new.self) (left_of (g.S.TextStore.list c.reserve.new.self) c.args.place) c.deref.result.now) =
-        rw (c.deref.ensures.value, c.in_ok-cells.ensures.cells) (distinct_put c.self.inside.clock c.args.first c.self.inside.site.number (g.S.TextStore.list c.reserve.new.self) (left_of (g.S.TextStore.list c.reserve.new.self) c.args.place) c.args.text.now
-        (omega (arith, count)) c.self.inside.site.positive (rw same c.self.invariant.2) (rw same c.self.invariant.4)) in
+    rw (c.deref.ensures.value, c.in_ok-cells.ensures.cells) (distinct_put c.self.inside.clock c.args.first c.self.inside.site.number (g.S.TextStore.list c.reserve.new.self) (left_of (g.S.TextStore.list c.reserve.new.self) c.args.place) c.args.text.now
+    (omega (arith, count)) c.self.inside.site.positive (rw same c.self.invariant.2) (rw same c.self.invariant.4)) in
     (c.self.invariant.0, len, rw c.put.ensures.list (known_put c.saw.new.self (g.S.TextStore.list c.reserve.new.self) (left_of (g.S.TextStore.list c.reserve.new.self) c.args.place) c.deref.result.now before new), omega (arith, count, saw), rw c.put.ensures.list apart)
