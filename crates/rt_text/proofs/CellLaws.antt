@@ -1,11 +1,12 @@
 -- Laws of cells.
 use Rattle.std.proofs.Common.{◌≡◌, ℕ, ◌+◌, ◌<◌, ◌≤◌, ◌⊎◌, inl, inr, zero, suc, List, [], ◌∷◌, ◌++◌, Bool, true, false, cond, length, take, drop, refl, sym, ◌∙◌, ap, arith, eqb, Some, None, eq-eqb, not, ◌&&◌}
 use Rattle.std.specs.Prelude.{slice_get, take_while, IsSome, unwrap_or, nat_lt, IsTrue}
-use Rattle.std.proofs.lemmas.List.Elements.{All-drop, All-take, All-append}
+use Rattle.std.proofs.lemmas.List.Elements.{All-drop, All-take, All-append, All-cons, All-nil}
 use Rattle.std.proofs.lemmas.Bool.{le-ltb, lt-ltb, eqb-true}
 use Rattle.std.specs.List.{position_or_len}
 use Rattle.rt_stamps.specs.declared.stamp.Stamp.{Stamp}
 use Rattle.rt_store.specs.declared.cell.Cell.{Cell}
+use Rattle.rt_store.specs.declared.cell.TheConstants.{FINAL_CELL}
 use Rattle.rt_stamps.specs.declared.stamp.TheConstants.{ROOT}
 use Rattle.rt_stamps.specs.Stamps.{is_before, is_same}
 use Rattle.rt_store.specs.Cells.{skip_from, visible_of, after_element, StandsBefore}
@@ -87,3 +88,7 @@ stands_by n m false h = rw (lt-ltb n m (omega arith)) (inl refl, h)
 
 pub left_stands : (cells : List Cell) (p : ℕ) (cell : Cell) → slice_get (visible_of cells) p ≡ Some cell → suc p < length (visible_of cells) → StandsBefore cells cell.stamp
 left_stands cells p cell h k = stands_by _ _ (is_same cell.stamp ROOT) (found_before cells p cell h k)
+
+-- the final newline is known to each document
+pub known_final : (count : ℕ) → AreKnown count (FINAL_CELL ∷ [])
+known_final count = All-cons (λ cell. IsKnown count cell.stamp) FINAL_CELL [] (omega arith, λ e. refl) (All-nil (λ cell. IsKnown count cell.stamp))

@@ -5,3 +5,10 @@ pub mod PlaceLaws
 pub mod TextLaws
 pub mod DistanceLaws
 pub mod RangeLaws
+pub mod DistinctLaws
+pub mod GoneLaws
+pub mod StampLaws
+pub mod SpanLaws
+pub mod MergingLaws
+pub mod SparingLaws
+pub mod Deletions

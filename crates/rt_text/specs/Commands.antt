@@ -1,5 +1,5 @@
 -- The commands on a text.
-use Rattle.std.specs.Prelude.{ℕ, ◌+◌, ◌-◌, ℤ, List, [], ◌∷◌, length, map, min, nat_lt, Bool, false, Option, Some, None, is_some, option_map, Result, if◌then◌else◌, unwrap_or, encode_utf8_all}
+use Rattle.std.specs.Prelude.{ℕ, ◌+◌, ◌-◌, ℤ, List, [], ◌∷◌, ◌++◌, length, map, min, nat_lt, Bool, false, Option, Some, None, is_some, option_map, Result, if◌then◌else◌, unwrap_or, encode_utf8_all}
 use Rattle.std.specs.Str.{chars}
 use Rattle.rt_stamps.specs.declared.limits.TheConstants.{GREATEST_COUNT}
 use Rattle.rt_stamps.specs.declared.fault.Fault.{Fault}
@@ -14,6 +14,7 @@ use Rattle.rt_text.specs.Comparisons.{comparison_of, holds_of}
 use Rattle.rt_text.specs.Distances.{measures_of, or_indices, distance_of}
 use Rattle.rt_text.specs.Index.{index_check, place_at_index}
 use Rattle.rt_text.specs.Ranges.{text_between, texts_of, ranges_of}
+use Rattle.rt_text.specs.Removals.{is_removed, gone_at, stamps_at, span_count, operations_for}
 
 -- CHECKS
 
@@ -47,6 +48,15 @@ inserted flat index new =
     let text = text_of flat.cells in
     unless (first_of (index_check text index ∷ count_check flat.count (length (chars new)) ∷ cell_check flat.limit (length flat.cells) (length (chars new)) ∷ []))
     (with_text flat (insertion_place text index) (chars new))
+
+-- delete INDEX ?INDEX ...?: the document without the characters in the ranges that the indices name in pairs
+abbrev pub deleted : Flat → List Word → Result Flat Fault
+deleted flat indices =
+    let text = text_of flat.cells in
+    let removed = is_removed text (ranges_of (map (place_at_index text) indices)) in
+    let operations = operations_for (span_count (stamps_at removed 0 flat.cells)) in
+    unless (first_of (map (index_check text) indices ++ count_check flat.count operations ∷ []))
+    (record flat { cells = gone_at removed 0 flat.cells; count = flat.count + operations })
 
 -- get INDEX: the character at the index, none at the text's end
 abbrev pub got_one : Flat → Word → Result Word Fault

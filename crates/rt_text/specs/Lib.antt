@@ -4,7 +4,10 @@ pub mod Distances
 pub mod Flat
 pub mod Index
 pub mod Known
+pub mod Merging
 pub mod Ranges
+pub mod Removals
+pub mod Spans
 pub use Rattle.rt_stamps.specs.Outcomes
 pub use Rattle.rt_stamps.specs.Places
 pub use Rattle.rt_stamps.specs.Words

@@ -1,19 +1,23 @@
 // A document: a store, and what stamps its new characters.
-ghost use Rattle.std.specs.Prelude.{◌≡◌, ◌+◌, ◌≤◌, ◌<◌, ◌∷◌, [], IfOk, IfErr, OnOk, OnErr, length, min, ◌-◌, map, string_bytes};
+ghost use Rattle.std.specs.Prelude.{◌≡◌, ◌⊎◌, false, ◌+◌, ◌≤◌, ◌<◌, ◌∷◌, [], IfOk, IfErr, OnOk, OnErr, length, min, ◌-◌, map, string_bytes};
 ghost use Rattle.std.specs.Str.{chars};
 ghost use Rattle.rt_stamps.specs.declared.limits.TheConstants.{MOST_CELLS, GREATEST_COUNT};
+ghost use Rattle.rt_stamps.specs.declared.stamp.TheConstants.{FINAL};
 ghost use Rattle.rt_stamps.specs.Outcomes.{first_of, Refuses};
 ghost use Rattle.rt_store.specs.declared.cell.TheConstants.{FINAL_CELL};
 ghost use Rattle.rt_store.specs.Cells.{text_of, visible_of};
 ghost use Rattle.rt_text.specs.Flat.{new_flat, with_text};
-ghost use Rattle.rt_text.specs.Commands.{count_check, cell_check, inserted, got_one, got, got_list, position_of_index, compared, counted};
+ghost use Rattle.rt_text.specs.Removals.{operations_for};
+ghost use Rattle.rt_text.specs.Spans.{is_in_spans, without_spans};
+ghost use Rattle.rt_text.specs.Commands.{count_check, cell_check, inserted, deleted, got_one, got, got_list, position_of_index, compared, counted};
 
 use crate::Comparison;
 use crate::distance::{distances_of, measures_of};
 use crate::index::{place_of, position_at};
 use crate::insertion::{cells_of, put};
 use crate::range::{ranges_at, text_between, texts_of};
-use rt_stamps::{Clock, Fault, Position, Site, Stamp};
+use crate::span::{operations_for, removed_spans, set_all_gone};
+use rt_stamps::{Clock, Fault, Position, Site, Span, Stamp};
 use rt_store::TextStore;
 use std::alloc::Global;
 use std::marker::Model;
@@ -32,13 +36,13 @@ impl<S: TextStore> Model for Doc<S> {
     ghost use Rattle.std.specs.Prelude.{◌≤◌, length};
     ghost use Rattle.rt_stamps.specs.declared.limits.TheConstants.{MOST_CELLS, GREATEST_COUNT};
     ghost use Rattle.rt_text.specs.Flat.{Flat};
-    ghost use Rattle.rt_text.specs.Known.{AreKnown};
+    ghost use Rattle.rt_text.specs.Known.{AreKnown, AreDistinct};
 
     ghost Value = { Flat };
 
     ghost view = { λ d. record { cells = S.list d.store; site = d.site.number; limit = d.limit; count = d.clock } };
 
-    ghost invariant = { λ d. (d.limit ≤ MOST_CELLS) × (length (S.list d.store) ≤ d.limit) × AreKnown d.clock (S.list d.store) × (d.clock ≤ GREATEST_COUNT) };
+    ghost invariant = { λ d. (d.limit ≤ MOST_CELLS) × (length (S.list d.store) ≤ d.limit) × AreKnown d.clock (S.list d.store) × (d.clock ≤ GREATEST_COUNT) × AreDistinct (S.list d.store) };
 }
 
 // The first of some fresh counts, or why they or so many new cells are refused.
@@ -55,6 +59,16 @@ fn first_count(clock: &Clock, cells: usize, limit: usize, new: usize) -> Result<
         return Err(Fault::TextFull);
     }
     Ok(first)
+}
+
+// The first of some fresh counts, or why they are refused.
+fn next_count(clock: &Clock, new: u64) -> Result<u64, Fault>
+    requires { 1 ≤ new }
+    ensures refused { IfErr result (λ fault. count_check clock.now new ≡ Some fault) }
+    ensures checked { IfOk result (λ _. count_check clock.now new ≡ None) }
+    ensures first { IfOk result (λ first. (first ≡ clock.now + 1) × (clock.now + new ≤ GREATEST_COUNT)) }
+{
+    clock.next(new)
 }
 
 // How many characters a text has.
@@ -90,12 +104,28 @@ impl<S: TextStore> Doc<S> {
         ensures ok { IfOk result (λ doc. doc ≡ new_flat site.number limit) }
         ensures err { IfErr result (λ fault. fault ≡ Fault.NoMemory) }
     {
+        Doc::with_clock(alloc, store, site, limit, Clock::new())
+    }
+
+    // The document of a new store, whose operations follow those that a clock has seen.
+    pub(crate) fn with_clock(
+        alloc: Global,
+        store: S,
+        site: Site,
+        limit: usize,
+        clock: Clock,
+    ) -> Result<Doc<S>, Fault>
+        requires store { S.list store ≡ FINAL_CELL ∷ [] }
+        requires limit { (1 ≤ limit) × (limit ≤ MOST_CELLS) }
+        ensures ok { IfOk result (λ doc. doc ≡ record (new_flat site.number limit) { count = clock }) }
+        ensures err { IfErr result (λ fault. fault ≡ Fault.NoMemory) }
+    {
         Ok(Doc {
             alloc,
             store,
             site,
             limit,
-            clock: Clock::new(),
+            clock,
         })
     }
 
@@ -139,6 +169,42 @@ impl<S: TextStore> Doc<S> {
         };
         put(&mut self.store, place, &cells, stamp);
         self.clock.saw(first + (text.len() as u64 - 1));
+        Ok(())
+    }
+
+    /// `delete INDEX ?INDEX ...?` (Tk text manual): removes the characters in the ranges that the
+    /// indices name in pairs, which are all read first; never the last newline. `BadIndex`,
+    /// `ClockSpent`, or want of memory, and then nothing changes. It takes one count for each
+    /// 65,536 runs of characters that were put in together, or fewer, and none where nothing is
+    /// removed.
+    pub fn delete(&mut self, indices: &[String]) -> Result<(), Fault>
+        ensures ok { OnOk result (deleted self.old (map (λ w. string_bytes w) indices.now) ≡ Ok self.new) }
+        ensures err { IfErr result (Refuses (deleted self.old (map (λ w. string_bytes w) indices.now))) }
+        ensures unchanged { OnErr result (self.new ≡ self.old) }
+    {
+        let ranges = ranges_at(self.alloc, &self.store, indices)?;
+        let spans = removed_spans(self.alloc, &self.store, &ranges)?;
+        if spans.is_empty() {
+            return Ok(());
+        }
+        self.delete_spans(&spans)
+    }
+
+    // Makes the cells of spans gone, with the next counts for it.
+    fn delete_spans(&mut self, spans: &[Span]) -> Result<(), Fault>
+        requires stays { is_in_spans spans.now FINAL ≡ false }
+        requires some { 1 ≤ length spans.now }
+        requires few { length spans.now ≤ MOST_CELLS }
+        ensures ok { OnOk result (self.new ≡ without_spans self.old spans.now) }
+        ensures checked { OnOk result (count_check self.old.count (operations_for (length spans.now)) ≡ None) }
+        ensures err { IfErr result (λ fault. (fault ≡ Fault.NoMemory) ⊎ (count_check self.old.count (operations_for (length spans.now)) ≡ Some fault)) }
+        ensures unchanged { OnErr result (self.new ≡ self.old) }
+    {
+        let operations = operations_for(spans.len());
+        let first = next_count(&self.clock, operations)?;
+        self.store.reserve(0, 2 * spans.len())?;
+        set_all_gone(&mut self.store, spans);
+        self.clock.saw(first + (operations - 1));
         Ok(())
     }
 

@@ -7,6 +7,8 @@ pub mod doc;
 pub mod index;
 pub mod insertion;
 pub mod range;
+pub mod removal;
+pub mod span;
 
 pub use comparison::Comparison;
 pub use distance::Measure;

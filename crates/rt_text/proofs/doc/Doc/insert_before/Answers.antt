@@ -1,7 +1,8 @@
 use Rattle.std.proofs.Common.{◌≤◌, ◌+◌, ◌≡◌, ◌∙◌, arith, length, ap}
-use Rattle.rt_text.specs.Flat.{Flat, left_of}
-use Rattle.rt_text.specs.Known.{AreKnown}
+use Rattle.rt_text.specs.Flat.{Flat, left_of, put_after}
+use Rattle.rt_text.specs.Known.{AreKnown, AreDistinct}
 use Rattle.rt_text.proofs.CellLaws.{known_from, known_later, known_put}
+use Rattle.rt_text.proofs.DistinctLaws.{distinct_put}
 use Rattle.rt_text.proofs.doc.Doc.insert_before.Goals as goal
 
 pub invariant_of-self-2 : goal.invariant_of-self-2
@@ -17,4 +18,7 @@ invariant_of-self-2 g c =
     let saw : c.saw.new.self ≡ c.self.inside.clock + length c.args.text.now = omega (arith, c.saw.ensures) in
     let before : AreKnown c.saw.new.self (g.S.TextStore.list c.reserve.new.self) = rw same (known_later c.self.inside.clock c.saw.new.self old (omega arith) c.self.invariant.2) in
     let new : AreKnown c.saw.new.self c.deref.result.now = rw (c.deref.ensures.value, c.in_ok-cells.ensures.cells) (known_from c.args.first _ c.args.text.now c.saw.new.self (omega arith)) in
-    (c.self.invariant.0, len, rw c.put.ensures.list (known_put c.saw.new.self (g.S.TextStore.list c.reserve.new.self) (left_of (g.S.TextStore.list c.reserve.new.self) c.args.place) c.deref.result.now before new), omega (arith, count, saw))
+    let apart : AreDistinct (put_after (g.S.TextStore.list c.reserve.new.self) (left_of (g.S.TextStore.list c.reserve.new.self) c.args.place) c.deref.result.now) =
+    rw (c.deref.ensures.value, c.in_ok-cells.ensures.cells) (distinct_put c.self.inside.clock c.args.first c.self.inside.site.number (g.S.TextStore.list c.reserve.new.self) (left_of (g.S.TextStore.list c.reserve.new.self) c.args.place) c.args.text.now
+    (omega (arith, count)) c.self.inside.site.positive (rw same c.self.invariant.2) (rw same c.self.invariant.4)) in
+    (c.self.invariant.0, len, rw c.put.ensures.list (known_put c.saw.new.self (g.S.TextStore.list c.reserve.new.self) (left_of (g.S.TextStore.list c.reserve.new.self) c.args.place) c.deref.result.now before new), omega (arith, count, saw), rw c.put.ensures.list apart)

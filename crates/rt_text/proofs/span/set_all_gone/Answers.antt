@@ -1,0 +1,22 @@
+use Rattle.std.proofs.Common.{◌∙◌, ◌+◌, ap, arith, drop, map, sym}
+use Rattle.std.proofs.lemmas.List.{drop_all}
+use Rattle.rt_text.specs.Spans.{gone_in_any}
+use Rattle.rt_text.proofs.GoneLaws.{gone_more_at, gone_none}
+use Rattle.rt_text.proofs.span.set_all_gone.Goals as goal
+
+pub loop-span-preserved : goal.loop-span-preserved
+loop-span-preserved g c =
+    let spans = c.args.spans.now in
+    let i = c.loop-span.span-index in
+    record {
+      list = ap (map (gone_in_any (drop (i + 1) spans))) c.set_gone.ensures.list ∙ gone_more_at (g.S.TextStore.list c.loop-span.store) spans i _ c.loop-span-test.true ∙ c.loop-span.invariant.list;
+      room = (omega arith, omega (arith, c.set_gone.ensures.room.1, c.loop-span.invariant.room.1));
+    }
+
+pub returns : goal.returns
+returns g c =
+    let spans = c.args.spans.now in
+    let cells = g.S.TextStore.list c.loop-span.store in
+    record {
+      list = sym (gone_none cells) ∙ ap (λ l. map (gone_in_any l) cells) (sym (drop_all c.loop-span.span-index spans (omega arith))) ∙ c.loop-span.invariant.list;
+    }

@@ -1,0 +1,52 @@
+-- Spans of stamps: each has the stamps of one site from a first count to a last one.
+use Rattle.std.specs.Prelude.{ℕ, ◌+◌, ◌==◌, ◌&&◌, ◌||◌, nat_lt, nat_le, Bool, true, List, [], ◌∷◌, length, map, if◌then◌else◌}
+use Rattle.std.specs.List.{list_any}
+use Rattle.rt_stamps.specs.declared.stamp.Span.{Span}
+use Rattle.rt_stamps.specs.declared.stamp.Stamp.{Stamp}
+use Rattle.rt_stamps.specs.Stamps.{is_same}
+use Rattle.rt_store.specs.declared.cell.Cell.{Cell}
+use Rattle.rt_store.specs.Cells.{is_in_span}
+use Rattle.rt_text.specs.Flat.{Flat}
+use Rattle.rt_text.specs.Removals.{operations_for}
+
+-- a relation holds of each element and the next one
+abbrev pub each_next : {A : Type 0} → (A → A → Bool) → List A → Bool
+each_next r [] = true
+each_next r (x ∷ []) = true
+each_next r (x ∷ (y ∷ rest)) = r x y && each_next r (y ∷ rest)
+
+-- the first count is at most the last
+abbrev pub is_span : Span → Bool
+is_span span = nat_le span.first span.last
+
+-- of a lesser site, or of the same site with at least one count between the two
+abbrev pub is_clear_of : Span → Span → Bool
+is_clear_of a b = nat_lt a.site b.site || ((a.site == b.site) && nat_lt (a.last + 1) b.first)
+
+-- by site, and at one site by count
+abbrev pub precedes : Stamp → Stamp → Bool
+precedes a b = nat_lt a.site b.site || ((a.site == b.site) && nat_lt a.count b.count)
+
+-- the stamp of the next count
+abbrev pub next_stamp : Stamp → Stamp
+next_stamp stamp = record { count = stamp.count + 1; site = stamp.site }
+
+-- the last stamp of a span
+abbrev pub last_stamp : Span → Stamp
+last_stamp span = record { count = span.last; site = span.site }
+
+-- a stamp is in one of the spans
+abbrev pub is_in_spans : List Span → Stamp → Bool
+is_in_spans spans stamp = list_any (λ span. is_in_span span stamp) spans
+
+-- a stamp is among others
+abbrev pub is_among : List Stamp → Stamp → Bool
+is_among stamps stamp = list_any (λ other. is_same other stamp) stamps
+
+-- a cell with a stamp in one of the spans is gone, another is as it was
+abbrev pub gone_in_any : List Span → Cell → Cell
+gone_in_any spans cell = if is_in_spans spans cell.stamp then record cell { gone = true } else cell
+
+-- a document without the cells in spans, with the counts that this takes
+abbrev pub without_spans : Flat → List Span → Flat
+without_spans flat spans = record flat { cells = map (gone_in_any spans) flat.cells; count = flat.count + operations_for (length spans) }
