@@ -7,3 +7,4 @@ pub mod DistanceLaws
 pub mod RangeLaws
 pub mod MergingLaws
 pub mod SparingLaws
+pub mod InsertedText

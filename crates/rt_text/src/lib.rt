@@ -6,8 +6,9 @@ pub mod distance;
 pub mod doc;
 pub mod index;
 pub mod insertion;
+pub mod laws;
 pub mod range;
-mod removal;
+pub mod removal;
 
 pub use comparison::Comparison;
 pub use distance::Measure;
