@@ -8,3 +8,4 @@ pub mod RangeLaws
 pub mod MergingLaws
 pub mod SparingLaws
 pub mod InsertedText
+pub mod RemovedText
