@@ -181,9 +181,6 @@ spared_starts text last = by_tests (nat_lt last.to (length text)) (begins_line t
 
 -- THE REMOVED PLACES
 
-past_end : (to place n : ℕ) → to < n → n ≤ place + 1 → nat_lt place to ≡ false
-past_end to place n h k = le-ltb place to (omega arith)
-
 spared_past : (text : List ℕ) (last : Range) (place : ℕ) → last.from < last.to → last.to ≤ length text → length text ≤ place + 1 → is_in (spared text last) place ≡ false
 spared_past text last place some within h = ended (spared text last).from (spared text last).to place (omega (arith, spared_ends text last some within))
 
