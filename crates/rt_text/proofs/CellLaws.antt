@@ -77,7 +77,7 @@ found_step x xs zero cell false h k ih =
 found_step x xs (suc q) cell false h k ih = one_further (not (is_same x.stamp cell.stamp)) _ _ (ih q h (omega arith))
 
 -- a visible cell before the last is found before the last cell
-found_before : (cells : List Cell) (p : ℕ) (cell : Cell) → slice_get (visible_of cells) p ≡ Some cell → suc p < length (visible_of cells)
+pub found_before : (cells : List Cell) (p : ℕ) (cell : Cell) → slice_get (visible_of cells) p ≡ Some cell → suc p < length (visible_of cells)
     → position_or_len (λ x. is_same x.stamp cell.stamp) cells + 1 < length cells
 found_before [] p cell h k = absurd (omega arith)
 found_before (x ∷ xs) p cell h k = found_step x xs p cell x.gone h k (λ q a b. found_before xs q cell a b)

@@ -12,3 +12,5 @@ pub mod SpanLaws
 pub mod MergingLaws
 pub mod SparingLaws
 pub mod Deletions
+pub mod InsertedText
+pub mod RemovedText

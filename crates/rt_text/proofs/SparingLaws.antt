@@ -1,7 +1,7 @@
 -- What merged ranges take, where the last one spares the last newline.
 use Rattle.std.proofs.Common.{◌≡◌, ℕ, zero, suc, ◌+◌, ◌-◌, ◌<◌, ◌≤◌, ◌⊎◌, inl, inr, List, [], ◌∷◌, ◌++◌, Bool, true, false, cond, ◌&&◌, ◌==◌, length, refl, sym, ◌∙◌, ap, subst, arith, All}
 use Rattle.std.specs.Prelude.{nat_lt, nat_le, ◌||◌}
-use Rattle.std.proofs.lemmas.Bool.{true≢false, cases_lt, or_from, or_right, le-leb, lt-ltb, le-ltb, ltb-true, ltb-false}
+use Rattle.std.proofs.lemmas.Bool.{cases_lt, or_from, or_right, lt-ltb, le-ltb, ltb-true, ltb-false}
 use Rattle.std.proofs.lemmas.Bool.Decides.{nat_tests}
 use Rattle.std.proofs.lemmas.List.Elements.{All-cons, All-nil, All-append}
 use Rattle.std.proofs.lemmas.List.Folds.{list_any-append}
@@ -84,6 +84,12 @@ pub covered_to_end : (front : List Range) (last : Range) (n place : ℕ) → Are
 covered_to_end front last n place apart h k =
     let more : n - (place + 1) ≡ suc (n - (place + 2)) = omega arith in
     rw more (covered_from front last n apart h (n - (place + 2)) (place + 1) (omega arith))
+
+-- none are left to cover at the end
+pub covered_at_end : (ranges : List Range) (n place : ℕ) → n ≤ place + 1 → are_covered ranges (place + 1) (n - (place + 1)) ≡ true
+covered_at_end ranges n place h =
+    let none : n - (place + 1) ≡ 0 = omega arith in
+    rw none refl
 
 -- THE LAST NEWLINE
 
@@ -174,9 +180,6 @@ spared_starts text last = by_tests (nat_lt last.to (length text)) (begins_line t
     by_tests false false = omega arith
 
 -- THE REMOVED PLACES
-
-past_end : (to place n : ℕ) → to < n → n ≤ place + 1 → nat_lt place to ≡ false
-past_end to place n h k = le-ltb place to (omega arith)
 
 spared_past : (text : List ℕ) (last : Range) (place : ℕ) → last.from < last.to → last.to ≤ length text → length text ≤ place + 1 → is_in (spared text last) place ≡ false
 spared_past text last place some within h = ended (spared text last).from (spared text last).to place (omega (arith, spared_ends text last some within))

@@ -47,6 +47,11 @@ stamps_at removed place (cell ∷ cells) =
     else if removed place then cell.stamp ∷ stamps_at removed (place + 1) cells
     else stamps_at removed (place + 1) cells
 
+-- the characters at places that aren't removed; the first one stands at this place
+abbrev pub left_at : (ℕ → Bool) → ℕ → List ℕ → List ℕ
+left_at removed place [] = []
+left_at removed place (c ∷ text) = if removed place then left_at removed (place + 1) text else c ∷ left_at removed (place + 1) text
+
 -- Spans are the longest runs of consecutive counts of one site. Each has a last stamp: one whose next isn't among them.
 abbrev pub span_count : List Stamp → ℕ
 span_count stamps = length (filter (λ stamp. not (list_any (λ other. is_same other (record { count = stamp.count + 1; site = stamp.site })) stamps)) stamps)

@@ -6,6 +6,7 @@ pub mod distance;
 pub mod doc;
 pub mod index;
 pub mod insertion;
+pub mod laws;
 pub mod range;
 pub mod removal;
 pub mod span;
