@@ -7,6 +7,7 @@ use Rattle.std.specs.Cmp.Lexicographic.{slice_cmp}
 use Rattle.std.specs.declared.cmp.Ordering.{Ordering}
 use Rattle.std.specs.declared.cmp.Ordering.TheVariants.{Less, Equal, Greater}
 use Rattle.rt_stamps.specs.declared.stamp.Span.{Span}
+pub use Rattle.rt_stamps.specs.Spans.{each_next, is_span, is_clear_of}
 use Rattle.rt_stamps.specs.declared.limits.TheConstants.{MOST_NAME_BYTES, MOST_TAGS, MOST_CHARACTERS, MOST_SPANS}
 use Rattle.rt_stamps.specs.declared.fault.Fault.{Fault}
 use Rattle.rt_stamps.specs.declared.fault.Fault.TheVariants.{BadRecord}
@@ -15,12 +16,6 @@ use Rattle.rt_oplog.specs.Operations.{Name, Body, Insert, Delete, Tag, Operation
 -- from the one number up to the other
 abbrev pub is_within : ℕ → ℕ → ℕ → Bool
 is_within least most n = nat_le least n && nat_le n most
-
--- each element stands in the relation to the next one
-abbrev pub each_next : {A : Type 0} → (A → A → Bool) → List A → Bool
-each_next r [] = true
-each_next r (x ∷ []) = true
-each_next r (x ∷ (y ∷ rest)) = r x y && each_next r (y ∷ rest)
 
 -- 1 to 255 bytes of UTF-8, and not `sel`, the tag that is each widget's own
 abbrev pub is_name : Name → Bool
@@ -42,14 +37,6 @@ are_tags tags = is_within 0 MOST_TAGS (length tags) && (list_all is_name tags &&
 -- 1 to 65,535 characters, which are scalar values of Unicode
 abbrev pub is_text : List ℕ → Bool
 is_text text = is_within 1 MOST_CHARACTERS (length text) && all_scalars text
-
--- the first count is at most the last
-abbrev pub is_span : Span → Bool
-is_span span = nat_le span.first span.last
-
--- of a lesser site, or of the same site with at least one count between the two
-abbrev pub is_clear_of : Span → Span → Bool
-is_clear_of a b = nat_lt a.site b.site || ((a.site == b.site) && nat_lt (a.last + 1) b.first)
 
 -- 1 to 65,536 spans, sorted by site and then by first count, no two of which overlap or touch
 abbrev pub are_spans : List Span → Bool

@@ -8,7 +8,7 @@ use Rattle.rt_stamps.specs.declared.fault.Fault.TheVariants.{NoMemory}
 use Rattle.rt_stamps.specs.Outcomes.{Answers, Refuses}
 use Rattle.rt_stamps.specs.Words.{Word}
 use Rattle.rt_peers.specs.State.{State}
-use Rattle.rt_peers.specs.Step.{as_outcome, get_step, list_step, count_step, counted_step, distances_step, is_switch}
+use Rattle.rt_peers.specs.Step.{as_outcome, delete_step, get_step, list_step, count_step, counted_step, distances_step, is_switch}
 
 -- three indices or more
 many : (state : State) (words : List Word) → 3 ≤ length words → get_step state words ≡ list_step state words

@@ -7,9 +7,9 @@ use Rattle.rt_stamps.specs.declared.fault.Fault.{Fault}
 use Rattle.rt_stamps.specs.declared.fault.Fault.TheVariants.{BadCommand, NoWidget}
 use Rattle.rt_stamps.specs.Places.{text_of_position}
 use Rattle.rt_stamps.specs.Words.{Word}
-use Rattle.rt_text.specs.Commands.{inserted, got_one, got, got_list, position_of_index, compared, counted}
+use Rattle.rt_text.specs.Commands.{inserted, deleted, got_one, got, got_list, position_of_index, compared, counted}
 use Rattle.rt_peers.specs.declared.command.Command.{Command}
-use Rattle.rt_peers.specs.declared.command.Command.TheVariants.{Insert, Get, Index, Compare, Count}
+use Rattle.rt_peers.specs.declared.command.Command.TheVariants.{Insert, Delete, Get, Index, Compare, Count}
 use Rattle.rt_peers.specs.State.{State, is_widget}
 
 -- the words of a reply and the state after it, or a fault
@@ -27,6 +27,11 @@ insert_step state (index ∷ new ∷ []) = as_outcome (λ doc. ([], record state
 insert_step state [] = Err BadCommand
 insert_step state (index ∷ []) = Err BadCommand
 insert_step state (index ∷ new ∷ more ∷ words) = Err BadCommand
+
+-- `delete INDEX ?INDEX ...?` has no words in its reply
+abbrev pub delete_step : State → List Word → Outcome
+delete_step state (index ∷ indices) = as_outcome (λ doc. ([], record state { doc = doc })) (deleted state.doc (index ∷ indices))
+delete_step state [] = Err BadCommand
 
 -- `get` of more indices replies with the texts that aren't empty, a word each
 abbrev pub list_step : State → List Word → Outcome
@@ -81,6 +86,7 @@ count_step state words = let switches = prefix_len is_switch words in counted_st
 abbrev pub command_of : Word → Option Command
 command_of word =
     if bytes_eq word (codes "insert") then Some Insert
+    else if bytes_eq word (codes "delete") then Some Delete
     else if bytes_eq word (codes "get") then Some Get
     else if bytes_eq word (codes "index") then Some Index
     else if bytes_eq word (codes "compare") then Some Compare
@@ -91,6 +97,7 @@ command_of word =
 abbrev pub command_step : State → Option Command → List Word → Outcome
 command_step state None words = Err BadCommand
 command_step state (Some Insert) words = insert_step state words
+command_step state (Some Delete) words = delete_step state words
 command_step state (Some Get) words = get_step state words
 command_step state (Some Index) words = index_step state words
 command_step state (Some Compare) words = compare_step state words

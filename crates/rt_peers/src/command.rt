@@ -6,6 +6,7 @@ ghost use Rattle.rt_peers.specs.Step.{command_of};
 #[derive(Clone, Copy, Debug, PartialEq, Eq)]
 pub enum Command {
     Insert,
+    Delete,
     Get,
     Index,
     Compare,
@@ -18,6 +19,7 @@ pub fn command_of(word: &str) -> Option<Command>
 {
     match word {
         "insert" => Some(Command::Insert),
+        "delete" => Some(Command::Delete),
         "get" => Some(Command::Get),
         "index" => Some(Command::Index),
         "compare" => Some(Command::Compare),

@@ -5,7 +5,7 @@ ghost use Rattle.std.specs.List.{prefix_len};
 ghost use Rattle.rt_stamps.specs.declared.limits.TheConstants.{MOST_CELLS};
 ghost use Rattle.rt_stamps.specs.Outcomes.{Answers};
 ghost use Rattle.rt_peers.specs.State.{new_state, is_widget};
-ghost use Rattle.rt_peers.specs.Step.{insert_step, get_step, list_step, index_step, compare_step, distances_step, counted_step, count_step, text_of_bool, is_switch, command_step, step};
+ghost use Rattle.rt_peers.specs.Step.{insert_step, delete_step, get_step, list_step, index_step, compare_step, distances_step, counted_step, count_step, text_of_bool, is_switch, command_step, step};
 
 use crate::command::{Command, command_of};
 use crate::reply::Reply;
@@ -108,6 +108,19 @@ impl SiteState {
         })
     }
 
+    // `delete INDEX ?INDEX ...?`.
+    fn delete(&mut self, words: &[String]) -> Result<Reply, Fault>
+        ensures { Answers (delete_step self.old (map (λ w. string_bytes w) words.now)) self.old result self.new }
+    {
+        if words.is_empty() {
+            return Err(Fault::BadCommand);
+        }
+        self.doc.delete(words)?;
+        Ok(Reply {
+            words: Vec::new(self.alloc),
+        })
+    }
+
     // `get INDEX ?INDEX ...?`.
     fn get(&mut self, words: &[String]) -> Result<Reply, Fault>
         ensures { Answers (get_step self.old (map (λ w. string_bytes w) words.now)) self.old result self.new }
@@ -183,6 +196,7 @@ impl SiteState {
     {
         match command {
             Some(Command::Insert) => self.insert(words),
+            Some(Command::Delete) => self.delete(words),
             Some(Command::Get) => self.get(words),
             Some(Command::Index) => self.index(words),
             Some(Command::Compare) => self.compare(words),

@@ -170,6 +170,46 @@ const TABLE: [(&str, &str); 14] = [
     (".t insert 1.0 }\n.t get 1.0 end\n", "=\n= \"}\\n\"\n"),
 ];
 
+// Deletions, each on a new site.
+const DELETIONS: [(&str, &str); 9] = [
+    (
+        ".t insert 1.0 \"a\\nb\"\n.t delete 1.0 end\n.t get 1.0 end\n",
+        "=\n=\n= \"\\n\"\n",
+    ),
+    (
+        ".t insert 1.0 \"a\\nb\\nc\"\n.t delete 3.0 end\n.t get 1.0 end\n.t index end\n",
+        "=\n=\n= \"a\\nb\\n\"\n= 3.0\n",
+    ),
+    (
+        ".t insert 1.0 abcdef\n.t delete 1.0 1.2 1.1 1.3 1.5\n.t get 1.0 end\n.t get 1.0 1.1 1.1 1.0 1.1\n.t get 1.1 1.1\n",
+        "=\n=\n= \"de\\n\"\n= d e\n= \"\"\n",
+    ),
+    (
+        ".t insert 1.0 \"a\\nbc\"\n.t delete 2.0 2.1 2.1 end\n.t get 1.0 end\n",
+        "=\n=\n= \"a\\n\"\n",
+    ),
+    (
+        ".t delete\n.t delete x\n.t delete 1.0 x\n.t delete 1.0 1.1 x\n.t get 1.0 end\n",
+        "! 4 BadCommand\n! 2 BadIndex\n! 2 BadIndex\n! 2 BadIndex\n= \"\\n\"\n",
+    ),
+    (
+        ".t insert 1.0 abc\n.t delete 1.0 1.2 x\n.t delete end\n.t delete end-1c\n.t delete 1.2 1.1\n.t delete 1.1 1.1\n.t delete 1.3\n.t get 1.0 end\n",
+        "=\n! 2 BadIndex\n=\n! 2 BadIndex\n=\n=\n=\n= \"abc\\n\"\n",
+    ),
+    (
+        ".t insert 1.0 abc\n.t delete 1.1\n.t insert 1.1 xy\n.t get 1.0 end\n.t delete 1.0 1.end\n.t get 1.0 end\n.t insert end z\n.t get 1.0 end\n",
+        "=\n=\n=\n= \"axyc\\n\"\n=\n= \"\\n\"\n=\n= \"z\\n\"\n",
+    ),
+    (
+        ".t insert 1.0 \"a\\n\\nb\"\n.t delete 2.0 3.0\n.t get 1.0 end\n.t delete 2.0 3.0 1.0 1.1 1.1 2.0\n.t get 1.0 end\n",
+        "=\n=\n= \"a\\nb\\n\"\n=\n= \"\\n\"\n",
+    ),
+    (
+        ".t insert 1.0 {a b}\n.t get 1.0 1.3\n.t delete {1.0} \"1.1\"\n.t get 1.0 end\n",
+        "=\n= \"a b\"\n=\n= \" b\\n\"\n",
+    ),
+];
+
 // Lists of ranges, comparisons and distances.
 const RANGES: [(&str, &str); 9] = [
     (
@@ -212,7 +252,7 @@ const RANGES: [(&str, &str); 9] = [
 
 #[test]
 fn replies_of_scripts(rt: HostRuntime) {
-    for (script, want) in TABLE.iter().chain(RANGES.iter()) {
+    for (script, want) in TABLE.iter().chain(RANGES.iter()).chain(DELETIONS.iter()) {
         for size in [1, 3, 4096] {
             let pieces = Pieces {
                 bytes: script.as_bytes(),

@@ -4,6 +4,7 @@ pub mod Lines
 pub mod Outcomes
 pub mod Places
 pub mod Source
+pub mod Spans
 pub mod Stamps
 pub mod Words
 pub mod Written

@@ -1,27 +1,14 @@
--- Spans of stamps: each has the stamps of one site from a first count to a last one.
+-- Stamps in spans, and the cells of spans.
 use Rattle.std.specs.Prelude.{ℕ, ◌+◌, ◌==◌, ◌&&◌, ◌||◌, nat_lt, nat_le, Bool, true, List, [], ◌∷◌, length, map, if◌then◌else◌}
 use Rattle.std.specs.List.{list_any}
 use Rattle.rt_stamps.specs.declared.stamp.Span.{Span}
 use Rattle.rt_stamps.specs.declared.stamp.Stamp.{Stamp}
+pub use Rattle.rt_stamps.specs.Spans.{each_next, is_span, is_clear_of}
 use Rattle.rt_stamps.specs.Stamps.{is_same}
 use Rattle.rt_store.specs.declared.cell.Cell.{Cell}
 use Rattle.rt_store.specs.Cells.{is_in_span}
 use Rattle.rt_text.specs.Flat.{Flat}
 use Rattle.rt_text.specs.Removals.{operations_for}
-
--- a relation holds of each element and the next one
-abbrev pub each_next : {A : Type 0} → (A → A → Bool) → List A → Bool
-each_next r [] = true
-each_next r (x ∷ []) = true
-each_next r (x ∷ (y ∷ rest)) = r x y && each_next r (y ∷ rest)
-
--- the first count is at most the last
-abbrev pub is_span : Span → Bool
-is_span span = nat_le span.first span.last
-
--- of a lesser site, or of the same site with at least one count between the two
-abbrev pub is_clear_of : Span → Span → Bool
-is_clear_of a b = nat_lt a.site b.site || ((a.site == b.site) && nat_lt (a.last + 1) b.first)
 
 -- by site, and at one site by count
 abbrev pub precedes : Stamp → Stamp → Bool
