@@ -1,4 +1,4 @@
-use Rattle.std.proofs.Common.{rules, arith, sym, ◌∙◌, ◌<◌, All}
+use Rattle.std.proofs.Common.{rules, arith, sym, ◌∙◌, ◌<◌}
 use Rattle.std.proofs.lemmas.List.Sorted.{IsNonDecreasingBy-from_sort, answers_always, All-permutation, list_any-IsPermutation}
 use Rattle.rt_text.specs.declared.range.Range.{Range}
 use Rattle.rt_text.specs.Removals.{is_in}
