@@ -1,7 +1,7 @@
 -- Switches and distances, one more.
-use Rattle.std.proofs.Common.{◌≡◌, ℕ, ◌+◌, ◌<◌, ◌≤◌, List, [], ◌∷◌, ◌++◌, suc, zero, length, drop, map, get_or, refl, sym, ◌∙◌, ap, arith, append_assoc, Some, None, Option, String, Global, string_bytes, ℤ}
-use Rattle.std.specs.Prelude.{option_map, option_and_then}
-use Rattle.std.proofs.lemmas.List.{drop_more, drop_all}
+use Rattle.std.proofs.Common.{◌≡◌, ℕ, ◌+◌, ◌<◌, List, [], ◌∷◌, ◌++◌, length, drop, map, get_or, refl, sym, ap, arith, append_assoc, Some, None, Option, String, Global, string_bytes}
+use Rattle.std.specs.Prelude.{option_map}
+use Rattle.std.proofs.lemmas.List.{drop_more}
 use Rattle.rt_text.specs.declared.distance.Measure.{Measure}
 use Rattle.rt_text.specs.declared.distance.Measure.TheVariants.{Indices}
 use Rattle.rt_text.specs.Distances.{measure_of, measures_of, or_indices}

@@ -1,13 +1,13 @@
 -- Stamps that differ.
-use Rattle.std.proofs.Common.{◌≡◌, ℕ, suc, ◌+◌, ◌==◌, ◌<◌, ◌≤◌, List, [], ◌∷◌, ◌++◌, Bool, true, false, cond, not, ◌||◌, length, map, take, drop, refl, sym, ◌∙◌, ap, subst, arith, append_assoc, take-append-drop}
+use Rattle.std.proofs.Common.{◌≡◌, ℕ, suc, ◌+◌, ◌==◌, ◌<◌, ◌≤◌, List, [], ◌∷◌, ◌++◌, Bool, true, false, cond, length, take, drop, refl, sym, ◌∙◌, ap, subst, arith, append_assoc, take-append-drop}
 use Rattle.std.specs.List.{IsDistinct, AllByRecursion}
 use Rattle.std.specs.List.Sorted.{IsPermutation}
-use Rattle.std.proofs.lemmas.Bool.{or_from, or_parts, or_left, or_right, both_ways, and_left, and_right, eqb-true, ne_eqb}
+use Rattle.std.proofs.lemmas.Bool.{or_from, or_parts, both_ways, and_left, and_right, eqb-true, ne_eqb}
 use Rattle.std.proofs.lemmas.List.Sorted.{IsPermutation-append_left, IsPermutation-append_comm, IsPermutation-map}
 use Rattle.std.proofs.lemmas.Map.Keys.{IsDistinct-cons, IsDistinct-head, IsDistinct-tail, IsDistinct-IsPermutation}
 use Rattle.rt_stamps.specs.declared.stamp.Stamp.{Stamp}
 use Rattle.rt_stamps.specs.Stamps.{is_same}
-use Rattle.rt_stamps.proofs.Order.{same_sym, same_refl, same_from_true}
+use Rattle.rt_stamps.proofs.Order.{same_sym, same_from_true}
 use Rattle.rt_store.specs.declared.cell.Cell.{Cell}
 use Rattle.rt_store.specs.Cells.{after_element}
 use Rattle.rt_text.specs.Flat.{cells_from, put_after}

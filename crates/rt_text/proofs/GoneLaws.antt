@@ -1,16 +1,15 @@
 -- Cells made gone by their stamps are those at the places.
-use Rattle.std.proofs.Common.{◌≡◌, ℕ, zero, suc, ◌+◌, ◌-◌, ◌<◌, ◌≤◌, List, [], ◌∷◌, Bool, true, false, cond, not, ◌||◌, length, map, drop, get_or, refl, sym, ◌∙◌, ap, subst, arith, Some, add-one, All}
-use Rattle.std.specs.Prelude.{slice_get}
+use Rattle.std.proofs.Common.{◌≡◌, ℕ, suc, ◌+◌, ◌-◌, ◌<◌, ◌≤◌, List, [], ◌∷◌, Bool, true, false, cond, not, ◌||◌, length, map, drop, get_or, refl, sym, ◌∙◌, ap, subst, arith}
 use native.Mathlib.Numerals.{unary_clauses}
 use Rattle.std.specs.List.{IsDistinct}
 use Rattle.std.proofs.lemmas.List.{drop_more, length-map}
 use Rattle.std.proofs.lemmas.List.Elements.{All-map}
-use Rattle.std.proofs.lemmas.Bool.{or_from, or_parts, or_left, or_right, both_ways, cond-true, cond-false, and_left, le-ltb}
+use Rattle.std.proofs.lemmas.Bool.{or_from, or_left, or_right, cond-true, cond-false, and_left, le-ltb}
 use Rattle.rt_stamps.specs.declared.stamp.Span.{Span}
 use Rattle.rt_stamps.specs.declared.stamp.Stamp.{Stamp}
 use Rattle.rt_stamps.specs.declared.stamp.TheConstants.{FINAL}
 use Rattle.rt_stamps.specs.Stamps.{is_same}
-use Rattle.rt_stamps.proofs.Order.{same_sym, same_refl, same_from_true}
+use Rattle.rt_stamps.proofs.Order.{same_refl}
 use Rattle.rt_store.specs.declared.cell.Cell.{Cell}
 use Rattle.rt_store.specs.declared.cell.TheConstants.{FINAL_CELL}
 use Rattle.rt_store.specs.Cells.{EndsFinal, visible_of, text_of, gone_in, is_in_span}

@@ -1,5 +1,5 @@
 -- Indices, ranges and texts, one more.
-use Rattle.std.proofs.Common.{◌≡◌, ℕ, ◌+◌, ◌-◌, ◌<◌, ◌≤◌, ◌⊎◌, inl, inr, List, [], ◌∷◌, ◌++◌, true, false, suc, zero, length, take, drop, map, min, get_or, refl, sym, ◌∙◌, ap, subst, arith, append_assoc, Some, None, Ok, Option, String, Global, string_bytes, All}
+use Rattle.std.proofs.Common.{◌≡◌, ℕ, ◌+◌, ◌-◌, ◌<◌, ◌≤◌, ◌⊎◌, inl, inr, List, [], ◌∷◌, true, false, length, drop, map, min, get_or, refl, sym, ◌∙◌, ap, subst, arith, Some, Ok, Option, String, Global, string_bytes}
 use Rattle.std.specs.Prelude.{IfSome, encode_utf8_all}
 use Rattle.std.proofs.lemmas.List.{drop_more, length-drop, length-take}
 use Rattle.rt_stamps.specs.declared.fault.Fault.{Fault}

@@ -1,11 +1,11 @@
 -- The longest runs of stamps, as spans.
-use Rattle.std.proofs.Common.{◌≡◌, ℕ, zero, suc, ◌+◌, ◌-◌, ◌<◌, ◌≤◌, List, [], ◌∷◌, ◌++◌, Bool, true, false, cond, not, ◌||◌, ◌&&◌, ◌==◌, length, map, take, drop, get_or, filter, refl, sym, ◌∙◌, ap, subst, arith, append_assoc, add-one, Less, Equal, Greater}
+use Rattle.std.proofs.Common.{◌≡◌, ℕ, suc, ◌+◌, ◌<◌, ◌≤◌, List, [], ◌∷◌, ◌++◌, Bool, true, false, cond, not, ◌||◌, ◌&&◌, ◌==◌, length, drop, get_or, filter, refl, sym, ◌∙◌, ap, arith, append_assoc, add-one, Less, Equal, Greater}
 use Rattle.std.specs.Prelude.{nat_le, nat_lt}
 use Rattle.std.specs.Ordering.{nat_cmp, is_lt, ordering_then}
 use Rattle.std.proofs.lemmas.Map.Keys.{apart_from_distinct}
-use Rattle.std.specs.List.{list_any, list_all, IsDistinct}
+use Rattle.std.specs.List.{list_all, IsDistinct}
 use Rattle.std.specs.List.Sorted.{IsPermutation}
-use Rattle.std.proofs.lemmas.Bool.{or_from, or_parts, or_left, and_left, and_from, and_parts, cond-true, cond-false, both_ways}
+use Rattle.std.proofs.lemmas.Bool.{or_from, and_from, and_parts, cond-true, cond-false, both_ways}
 use Rattle.std.proofs.lemmas.Bool.Decides.{nat_tests}
 use Rattle.std.proofs.lemmas.List.{drop_more, drop_all}
 use Rattle.std.proofs.lemmas.List.Sums.{length-filter}
@@ -13,7 +13,6 @@ use Rattle.std.proofs.lemmas.List.Sorted.{list_any-IsPermutation, sum_by-IsPermu
 use Rattle.rt_stamps.specs.declared.stamp.Span.{Span}
 use Rattle.rt_stamps.specs.declared.stamp.Stamp.{Stamp}
 use Rattle.rt_stamps.specs.Stamps.{is_same}
-use Rattle.rt_stamps.proofs.Order.{same_sym, same_refl, same_from_true}
 use Rattle.rt_store.specs.Cells.{is_in_span}
 use Rattle.rt_text.specs.Removals.{span_count}
 use Rattle.rt_text.specs.Spans.{each_next, is_span, is_clear_of, precedes, next_stamp, last_stamp, is_in_spans, is_among}

@@ -1,5 +1,5 @@
 -- Stamps at the places of ranges, one range more.
-use Rattle.std.proofs.Common.{◌≡◌, ℕ, zero, suc, ◌+◌, ◌-◌, ◌<◌, ◌≤◌, List, [], ◌∷◌, ◌++◌, Bool, true, false, cond, not, ◌||◌, ◌&&◌, length, map, take, drop, get_or, refl, sym, ◌∙◌, ap, subst, arith, add-zero, append_assoc}
+use Rattle.std.proofs.Common.{◌≡◌, ℕ, zero, suc, ◌+◌, ◌-◌, ◌<◌, ◌≤◌, List, [], ◌∷◌, ◌++◌, Bool, true, false, cond, not, ◌||◌, length, take, drop, get_or, refl, sym, ◌∙◌, ap, subst, arith, add-zero}
 use Rattle.std.specs.Prelude.{slice_get, nat_le, nat_lt, Some}
 use Rattle.std.proofs.lemmas.Bool.{or_from, or_left, and_left, and_right, and_from, cond-true, cond-false, lt-leb, le-leb, lt-ltb, le-ltb}
 use Rattle.std.proofs.lemmas.List.{drop_more, take_more, get_or-drop, length-drop, drop-drop}

@@ -173,10 +173,10 @@ impl<S: TextStore> Doc<S> {
     }
 
     /// `delete INDEX ?INDEX ...?` (Tk text manual): removes the characters in the ranges that the
-    /// indices name in pairs, which are all read first; never the last newline. `BadIndex`,
-    /// `ClockSpent`, or want of memory, and then nothing changes. It takes one count for each
-    /// 65,536 runs of characters that were put in together, or fewer, and none where nothing is
-    /// removed.
+    /// indices name in pairs. All indices are read before the first change, a last index without
+    /// another is one character, and the last newline stays. `BadIndex`, `ClockSpent`, or want of
+    /// memory, and then nothing changes. It takes one count for each 65,536 spans of removed stamps
+    /// or a part of them, and none where nothing is removed.
     pub fn delete(&mut self, indices: &[String]) -> Result<(), Fault>
         ensures ok { OnOk result (deleted self.old (map (λ w. string_bytes w) indices.now) ≡ Ok self.new) }
         ensures err { IfErr result (Refuses (deleted self.old (map (λ w. string_bytes w) indices.now))) }

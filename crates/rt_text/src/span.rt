@@ -126,6 +126,8 @@ pub(crate) fn removed_spans<S: TextStore>(
     ensures gone { IfOk result (λ spans. map (gone_in_any spans.items) (S.list store.now) ≡ gone_at (is_removed (text_of (S.list store.now)) ranges.now) 0 (S.list store.now)) }
     ensures count { IfOk result (λ spans. length spans.items ≡ span_count (stamps_at (is_removed (text_of (S.list store.now)) ranges.now) 0 (S.list store.now))) }
     ensures few { IfOk result (λ spans. length spans.items ≤ length (S.list store.now)) }
+    ensures forward { IfOk result (λ spans. list_all is_span spans.items ≡ true) }
+    ensures clear { IfOk result (λ spans. each_next is_clear_of spans.items ≡ true) }
     ensures stays { IfOk result (λ spans. is_in_spans spans.items FINAL ≡ false) }
     ensures err { IfErr result (λ fault. fault ≡ Fault.NoMemory) }
 {

@@ -1,6 +1,5 @@
 use Rattle.std.proofs.Common.{arith}
 use Rattle.std.proofs.lemmas.Grind.{common_steps}
-use Rattle.rt_store.specs.Cells.{text_of}
 use Rattle.rt_text.proofs.PlaceLaws.{length_text}
 use Rattle.rt_text.proofs.RangeLaws.{texts_some, texts_none}
 use Rattle.rt_text.proofs.range.texts_of.Goals as goal

@@ -1,4 +1,4 @@
-use Rattle.std.proofs.Common.{◌≡◌, ◌∙◌, ◌+◌, ◌++◌, ap, arith, drop, length, sym}
+use Rattle.std.proofs.Common.{◌∙◌, ◌+◌, ◌++◌, ap, arith, drop, length, sym}
 use Rattle.std.specs.List.{list_all}
 use Rattle.rt_text.specs.Spans.{each_next, is_span, is_clear_of, is_in_spans}
 use Rattle.rt_text.proofs.SpanLaws.{attached, runs, extended_more, begun_more, runs_end, held_runs, counted_runs, forward_runs, clear_runs}

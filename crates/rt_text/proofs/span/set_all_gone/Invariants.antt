@@ -1,4 +1,4 @@
-use Rattle.std.proofs.Common.{◌≡◌, ◌-◌, ◌*◌, ◌≤◌, length, map, drop}
+use Rattle.std.proofs.Common.{◌≡◌, ◌-◌, ◌*◌, length, map, drop}
 use Rattle.rt_store.specs.Cells.{HasRoom}
 use Rattle.rt_text.specs.Spans.{gone_in_any}
 use Rattle.rt_text.proofs.span.set_all_gone.Given as goal

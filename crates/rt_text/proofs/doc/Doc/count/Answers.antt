@@ -1,7 +1,6 @@
-use Rattle.std.proofs.Common.{◌≡◌, ◌∙◌, sym, ap, Ok, map, string_bytes}
+use Rattle.std.proofs.Common.{◌∙◌, sym, ap, Ok, map, string_bytes}
 use Rattle.std.proofs.lemmas.Result.{IfOk-weaker}
 use Rattle.rt_store.specs.Cells.{text_of}
-use Rattle.rt_text.specs.Flat.{Flat}
 use Rattle.rt_text.proofs.RangeLaws.{found_within, counted_by}
 use Rattle.rt_text.proofs.doc.Doc.count.Goals as goal
 

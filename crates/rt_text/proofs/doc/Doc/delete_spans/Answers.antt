@@ -1,4 +1,4 @@
-use Rattle.std.proofs.Common.{◌≤◌, ◌+◌, ◌≡◌, ◌∙◌, arith, length, ap, map}
+use Rattle.std.proofs.Common.{◌+◌, ◌≡◌, ◌∙◌, arith, length, ap, map}
 use Rattle.rt_text.specs.Flat.{Flat}
 use Rattle.rt_text.specs.Known.{AreKnown, AreDistinct}
 use Rattle.rt_text.specs.Spans.{gone_in_any}

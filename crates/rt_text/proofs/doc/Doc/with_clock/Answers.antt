@@ -1,4 +1,4 @@
-use Rattle.std.proofs.Common.{◌≤◌, [], ◌∷◌, length, arith}
+use Rattle.std.proofs.Common.{◌≤◌, length, arith}
 use Rattle.rt_store.specs.declared.cell.TheConstants.{FINAL_CELL}
 use Rattle.rt_text.specs.Known.{AreKnown, AreDistinct}
 use Rattle.rt_text.proofs.CellLaws.{known_final}
