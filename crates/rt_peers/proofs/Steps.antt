@@ -1,5 +1,5 @@
 -- Words and steps.
-use Rattle.std.proofs.Common.{◌≡◌, ◌≤◌, ◌<◌, inl, inr, Ok, Err, Result, get_or, ◌∙◌, ℕ, ◌+◌, ◌-◌, Bool, List, [], ◌∷◌, cond, map, take, drop, length, refl, ap, arith, String, Global, string_bytes}
+use Rattle.std.proofs.Common.{◌≡◌, ◌==◌, false, ◌≤◌, ◌<◌, inl, inr, Ok, Err, Result, get_or, ◌∙◌, ℕ, ◌+◌, ◌-◌, Bool, List, [], ◌∷◌, cond, map, take, drop, length, refl, ap, arith, String, Global, string_bytes}
 use Rattle.std.specs.List.{prefix_len}
 use Rattle.std.proofs.lemmas.List.{take-map, drop-map, length-map, take_all, length-drop}
 use Rattle.std.specs.Prelude.{IfOk, IfErr}
@@ -7,8 +7,10 @@ use Rattle.rt_stamps.specs.declared.fault.Fault.{Fault}
 use Rattle.rt_stamps.specs.declared.fault.Fault.TheVariants.{NoMemory}
 use Rattle.rt_stamps.specs.Outcomes.{Answers, Refuses}
 use Rattle.rt_stamps.specs.Words.{Word}
+use Rattle.rt_text.specs.Flat.{Flat}
+use Rattle.rt_text.specs.Commands.{deleted}
 use Rattle.rt_peers.specs.State.{State}
-use Rattle.rt_peers.specs.Step.{as_outcome, delete_step, get_step, list_step, count_step, counted_step, distances_step, is_switch}
+use Rattle.rt_peers.specs.Step.{as_outcome, delete_step, removal_step, get_step, list_step, count_step, counted_step, distances_step, is_switch}
 
 -- three indices or more
 many : (state : State) (words : List Word) → 3 ≤ length words → get_step state words ≡ list_step state words
@@ -19,6 +21,20 @@ many state (a ∷ b ∷ c ∷ words) h = refl
 
 pub get_of_many : (state : State) (words : List (String Global)) → 3 ≤ length words → get_step state (map (λ w. string_bytes w) words) ≡ list_step state (map (λ w. string_bytes w) words)
 get_of_many state words h = many state (map (λ w. string_bytes w) words) (rw (length-map words (λ w. string_bytes w)) h)
+
+-- one index or more
+pub delete_of_some : (state : State) (words : List (String Global)) → false ≡ (length words == 0) → delete_step state (map (λ w. string_bytes w) words) ≡ removal_step state (map (λ w. string_bytes w) words)
+delete_of_some state [] h = absurd (cc)
+delete_of_some state (word ∷ words) h = refl
+
+-- a refusal of the removal
+pub removal_refused : (state : State) (indices : List Word) (fault found : Fault) → Refuses (deleted state.doc indices) found → fault ≡ found → Refuses (removal_step state indices) fault
+removal_refused state indices fault found (inl e) h = inl (h ∙ e)
+removal_refused state indices fault found (inr e) h = inr (rw (e, h) refl)
+
+-- a state is its document
+abbrev pub state_of : Flat → State
+state_of doc = record { doc = doc }
 
 -- the words at the front that pass a test
 prefix_len_map : {X Y : Type 0} (f : X → Y) (p : Y → Bool) (xs : List X) → prefix_len p (map f xs) ≡ prefix_len (λ x. p (f x)) xs

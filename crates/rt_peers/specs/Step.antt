@@ -28,9 +28,13 @@ insert_step state [] = Err BadCommand
 insert_step state (index ∷ []) = Err BadCommand
 insert_step state (index ∷ new ∷ more ∷ words) = Err BadCommand
 
--- `delete INDEX ?INDEX ...?` has no words in its reply
+-- without the characters in the ranges of some indices; the reply has no words
+abbrev pub removal_step : State → List Word → Outcome
+removal_step state indices = as_outcome (λ doc. ([], record state { doc = doc })) (deleted state.doc indices)
+
+-- `delete INDEX ?INDEX ...?`
 abbrev pub delete_step : State → List Word → Outcome
-delete_step state (index ∷ indices) = as_outcome (λ doc. ([], record state { doc = doc })) (deleted state.doc (index ∷ indices))
+delete_step state (index ∷ indices) = removal_step state (index ∷ indices)
 delete_step state [] = Err BadCommand
 
 -- `get` of more indices replies with the texts that aren't empty, a word each

@@ -5,7 +5,7 @@ ghost use Rattle.std.specs.List.{prefix_len};
 ghost use Rattle.rt_stamps.specs.declared.limits.TheConstants.{MOST_CELLS};
 ghost use Rattle.rt_stamps.specs.Outcomes.{Answers};
 ghost use Rattle.rt_peers.specs.State.{new_state, is_widget};
-ghost use Rattle.rt_peers.specs.Step.{insert_step, delete_step, get_step, list_step, index_step, compare_step, distances_step, counted_step, count_step, text_of_bool, is_switch, command_step, step};
+ghost use Rattle.rt_peers.specs.Step.{insert_step, removal_step, delete_step, get_step, list_step, index_step, compare_step, distances_step, counted_step, count_step, text_of_bool, is_switch, command_step, step};
 
 use crate::command::{Command, command_of};
 use crate::reply::Reply;
@@ -115,7 +115,14 @@ impl SiteState {
         if words.is_empty() {
             return Err(Fault::BadCommand);
         }
-        self.doc.delete(words)?;
+        self.remove(words)
+    }
+
+    // `delete` of one index or more.
+    fn remove(&mut self, indices: &[String]) -> Result<Reply, Fault>
+        ensures { Answers (removal_step self.old (map (λ w. string_bytes w) indices.now)) self.old result self.new }
+    {
+        self.doc.delete(indices)?;
         Ok(Reply {
             words: Vec::new(self.alloc),
         })
