@@ -1,8 +1,7 @@
 -- Bare words: the characters before a space, a tab or the end.
-use Rattle.std.proofs.Common.{◌≡◌, ℕ, ◌+◌, ◌<◌, ◌≤◌, ◌≢◌, ◌==◌, ◌||◌, ◌&&◌, not, cond, suc, List, [], ◌∷◌, ◌++◌, Bool, true, false, true≢false, length, take, drop, get_or, refl, sym, ◌∙◌, ap, subst, arith}
+use Rattle.std.proofs.Common.{◌≡◌, ℕ, ◌+◌, ◌<◌, ◌≢◌, ◌==◌, ◌||◌, ◌&&◌, not, cond, suc, List, [], ◌∷◌, ◌++◌, Bool, true, false, true≢false, length, take, drop, get_or, refl, sym, ◌∙◌, ap, subst, arith}
 use Rattle.std.specs.List.{list_any, prefix_len}
 use Rattle.std.proofs.lemmas.Bool.Decides.{nat_tests}
-use Rattle.std.proofs.lemmas.List.Sums.{prefix_len-le-length}
 use Rattle.rt_stamps.specs.Lines.{is_blank}
 use Rattle.rt_stamps.specs.Words.{EndsWord, IsBare}
 

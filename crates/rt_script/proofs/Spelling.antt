@@ -1,13 +1,13 @@
 -- The words that a line spells: the blanks, the word after them, what follows it.
-use Rattle.std.proofs.Common.{◌≡◌, ◌⊎◌, inl, inr, ℕ, ◌+◌, ◌<◌, ◌≤◌, ◌≢◌, ◌==◌, ◌||◌, cond, suc, List, [], ◌∷◌, ◌++◌, Bool, true, false, length, take, drop, get_or, refl, sym, ◌∙◌, ap, subst, arith, take-append-drop}
+use Rattle.std.proofs.Common.{◌≡◌, inl, inr, ℕ, ◌+◌, ◌<◌, ◌≤◌, ◌≢◌, cond, List, [], ◌∷◌, ◌++◌, Bool, true, false, length, take, drop, get_or, refl, sym, ◌∙◌, ap, subst, arith, take-append-drop}
 use Rattle.std.specs.List.{list_any, list_all, prefix_len}
 use Rattle.std.proofs.lemmas.Bool.{eqb-false}
 use Rattle.std.proofs.lemmas.List.{take_at, drop_at, length-take-le, length-append, append_cancel_left}
 use Rattle.std.proofs.lemmas.List.Sums.{prefix_len-le-length}
 use Rattle.rt_stamps.specs.Lines.{is_blank}
-use Rattle.rt_stamps.specs.Words.{Word, AreBlank, EndsWord, IsBare, IsQuoted, IsBraced, IsSpelling, Spells}
+use Rattle.rt_stamps.specs.Words.{Word, AreBlank, EndsWord, IsQuoted, IsBraced, IsSpelling, Spells}
 use Rattle.rt_script.specs.FirstWord.{IsFirstWord, HasNoFirstWord, BeginsWith, IsQuotedFront, HasNoQuotedFront, IsBracedFront, HasNoBracedFront}
-use Rattle.rt_script.proofs.BareWords.{is_dark, both_true, both_false, heads, one_more, not_both, bare_dark, dark_once, bare_other, dark_front, dark_ends, bare_front}
+use Rattle.rt_script.proofs.BareWords.{is_dark, both_true, both_false, heads, one_more, not_both, bare_dark, dark_once, bare_other, dark_ends, bare_front}
 use Rattle.rt_script.proofs.Quotes.{quoted_once}
 use Rattle.rt_script.proofs.Braces.{braced_once}
 

@@ -1,5 +1,5 @@
 -- The steps from one word of a line to the next, at a place of the line.
-use Rattle.std.proofs.Common.{◌≡◌, ℕ, ◌+◌, ◌-◌, ◌<◌, ◌≤◌, suc, zero, List, [], ◌∷◌, ◌++◌, Bool, true, false, length, take, drop, get_or, map, refl, sym, ◌∙◌, ap, subst, arith, append_assoc, append-nil, String, Global, string_bytes}
+use Rattle.std.proofs.Common.{◌≡◌, ℕ, ◌+◌, ◌-◌, ◌<◌, ◌≤◌, suc, zero, List, [], ◌∷◌, ◌++◌, Bool, true, false, length, take, drop, get_or, refl, sym, ◌∙◌, ap, subst, arith, append_assoc, append-nil}
 use Rattle.std.specs.List.{prefix_len}
 use Rattle.std.specs.Str.{IsUtf8, IsCharBoundary}
 use Rattle.std.proofs.lemmas.Str.{IsCharBoundary-start, IsCharBoundary-before_ascii, IsCharBoundary-after_ascii}
@@ -9,7 +9,6 @@ use Rattle.std.proofs.lemmas.List.Sums.{prefix_len-le-length, prefix_len_passes,
 use Rattle.rt_stamps.specs.Lines.{is_blank}
 use Rattle.rt_stamps.specs.Words.{Word, AreBlank, EndsWord, Spells}
 use Rattle.rt_script.specs.FirstWord.{IsFirstWord, HasNoFirstWord}
-use Rattle.rt_script.proofs.BareWords.{is_dark}
 use Rattle.rt_script.proofs.Spelling.{spells_after_blanks, spells_past_blanks, spells_first, after_first, no_words}
 
 -- what words were read before a place, of those that the line spells

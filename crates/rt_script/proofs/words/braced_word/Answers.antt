@@ -2,7 +2,7 @@ use Rattle.std.proofs.Common.{◌≡◌, ◌∙◌, ℕ, List, ap, sym, subst, d
 use Rattle.std.proofs.lemmas.List.{take_rest}
 use Rattle.std.proofs.lemmas.Str.{IsCharBoundary-after_ascii}
 use Rattle.rt_script.specs.FirstWord.{ClosesAt}
-use Rattle.rt_script.proofs.Braces.{unbraced, braced_front, closing_boundary}
+use Rattle.rt_script.proofs.Braces.{unbraced}
 use Rattle.rt_script.proofs.words.braced_word.Goals as goal
 
 -- what was searched, in the text itself

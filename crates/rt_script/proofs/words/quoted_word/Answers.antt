@@ -1,5 +1,4 @@
-use Rattle.std.proofs.Common.{◌≡◌, ◌≢◌, ◌∙◌, ◌+◌, ◌<◌, ◌≤◌, ◌∷◌, ◌++◌, [], ℕ, List, ap, sym, subst, length, get_or, string_bytes, arith}
-use Rattle.std.specs.List.{prefix_len}
+use Rattle.std.proofs.Common.{◌≡◌, ◌≢◌, ◌∙◌, ◌+◌, ◌<◌, ◌++◌, ℕ, List, ap, sym, subst, length, get_or, string_bytes, arith}
 use Rattle.std.proofs.lemmas.List.{get_or_read}
 use Rattle.rt_script.specs.FirstWord.{is_plain}
 use Rattle.rt_script.proofs.Quotes.{QuotedTo, quote_opened, plain_within, plain_boundary, run_read, quote_escape, quote_closed, unclosed_end, unclosed_backslash, unclosed_letter}
