@@ -6,3 +6,4 @@ pub mod Moving
 pub mod Names
 pub mod Order
 pub mod Steps
+pub mod Times
