@@ -5,5 +5,6 @@ pub mod Looking
 pub mod Moving
 pub mod Names
 pub mod Order
+pub mod Slots
 pub mod Steps
 pub mod Times

@@ -95,7 +95,7 @@ apart m x n f =
     (λ g. let e = before_neither m x g f in
     let c : is_named m.name x ≡ true = subst (λ (v : Mark). is_named m.name v ≡ true) e (name_itself m.name) in cc)
 
-ordered_with : (m : Mark) (marks : List Mark) → named m.name marks ≡ None → AreInOrder marks → AreInOrder (with_mark m marks)
+pub ordered_with : (m : Mark) (marks : List Mark) → named m.name marks ≡ None → AreInOrder marks → AreInOrder (with_mark m marks)
 ordered_with m [] h k = (tt, tt)
 ordered_with m (x ∷ marks) h k =
     let more = ordered_with m marks (none_tail m.name x marks h) k.1 in
@@ -122,7 +122,7 @@ without_with q m (x ∷ marks) t h =
     (λ s. ap (without q) (with_passing m x marks s) ∙ ap (λ b. cond (not b) (x ∷ without q (with_mark m marks)) (without q (with_mark m marks))) (none_head q x marks h) ∙ ap (λ v. x ∷ v) more)
     (λ s. ap (without q) (with_here m x marks s) ∙ ap (λ b. cond (not b) (m ∷ without q (x ∷ marks)) (without q (x ∷ marks))) t ∙ without_none q (x ∷ marks) h)
 
-none_middle : (q : List ℕ) (front : List Mark) (m : Mark) (back : List Mark) → named q (front ++ m ∷ back) ≡ None → is_named q m ≡ false
+pub none_middle : (q : List ℕ) (front : List Mark) (m : Mark) (back : List Mark) → named q (front ++ m ∷ back) ≡ None → is_named q m ≡ false
 none_middle q [] m back h = none_head q m back h
 none_middle q (x ∷ front) m back h = none_middle q front m back (none_tail q x (front ++ m ∷ back) h)
 
