@@ -1,4 +1,5 @@
 pub mod ByName
+pub mod Changes
 pub mod Edits
 pub mod InOrder
 pub mod Looking

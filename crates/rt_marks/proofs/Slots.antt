@@ -66,8 +66,8 @@ pub each_other : (s : ℕ) (xs : List ℕ) → times s xs ≡ 0 → Each (λ x. 
 each_other s xs h = each_present (λ x. (x == s) ≡ false) xs (λ x k. split (x == s)
     (λ t. absurd (clash_of x k t))
     (λ f. f)) where
-  clash_of : (x : ℕ) → 1 ≤ times x xs → (x == s) ≡ true → ⊥
-  clash_of x k t = let e : times x xs ≡ times s xs = ap (λ v. times v xs) (eqb-true x s t) in omega (arith, h, k, e)
+      clash_of : (x : ℕ) → 1 ≤ times x xs → (x == s) ≡ true → ⊥
+      clash_of x k t = let e : times x xs ≡ times s xs = ap (λ v. times v xs) (eqb-true x s t) in omega (arith, h, k, e)
 
 -- IN ORDER
 
@@ -123,7 +123,7 @@ order_without (x ∷ xs) m ys h =
     let P : Mark → Type 0 = λ y. comes_before x y ≡ true in
     (each_both P xs ys (each_first P xs (m ∷ ys) h.0) (each_second P xs (m ∷ ys) h.0).1, order_without xs m ys h.1)
 
-remove_middle : (front : List ℕ) (x : ℕ) (back : List ℕ) → remove (front ++ x ∷ back) (length front) ≡ front ++ back
+pub remove_middle : (front : List ℕ) (x : ℕ) (back : List ℕ) → remove (front ++ x ∷ back) (length front) ≡ front ++ back
 remove_middle [] x back = refl
 remove_middle (y ∷ front) x back = ap (λ v. y ∷ v) (remove_middle front x back)
 
@@ -175,7 +175,7 @@ stands_taken slot slots i s = (λ j. remove (s.is j) (s.at j)) ∙ remove_middle
 -- A MARK AT ANOTHER PLACE
 
 -- a number is put into a list where its mark belongs
-put_view : (f : ℕ → Mark) (slots : List ℕ) (i slot : ℕ) (m : Mark) → f slot ≡ m → PartsAt (λ x. comes_before x m) (map f slots) i → map f (insert slots i slot) ≡ with_mark m (map f slots)
+pub put_view : (f : ℕ → Mark) (slots : List ℕ) (i slot : ℕ) (m : Mark) → f slot ≡ m → PartsAt (λ x. comes_before x m) (map f slots) i → map f (insert slots i slot) ≡ with_mark m (map f slots)
 put_view f slots i slot m e p =
     map-append f (take i slots) (slot ∷ drop i slots)
     ∙ (λ j. sym (take-map f i slots) j ++ e j ∷ sym (drop-map f i slots) j)

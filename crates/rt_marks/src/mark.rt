@@ -63,7 +63,7 @@ impl Mark {
     }
 
     /// How its name compares with another, by their bytes.
-    fn compare_name(&self, name: &str) -> Ordering
+    pub fn compare_name(&self, name: &str) -> Ordering
         ensures { result ≡ name_order (string_bytes self.now.name) name.now }
     {
         self.name.as_str().cmp(name)
