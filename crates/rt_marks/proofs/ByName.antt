@@ -45,7 +45,7 @@ found_from name marks (Ok i) h = λ d. slice_cmp-IsAntisymmetric nat_cmp-IsAntis
 found_from name marks (Err i) h = tt
 
 -- a name that another is greater than
-greater : (xs ys : List ℕ) → name_order ys xs ≡ Greater → is_lt (name_order xs ys) ≡ true
+pub greater : (xs ys : List ℕ) → name_order ys xs ≡ Greater → is_lt (name_order xs ys) ≡ true
 greater xs ys h = ap is_lt (nat_list_cmp_total.antisymm xs ys ∙ ap ordering_reverse h)
 
 pub gap_from : (name : List ℕ) (marks : List KeptMark) (r : Result ℕ ℕ) → AreAscending (names_of (seen_all marks)) → IsBinarySearchResult (λ m. name_order (string_bytes m.name) name) marks r → IfErr r (IsGap name (names_of (seen_all marks)))

@@ -6,6 +6,8 @@ pub mod Looking
 pub mod Moving
 pub mod Names
 pub mod Order
+pub mod Searching
 pub mod Slots
 pub mod Steps
+pub mod Tables
 pub mod Times

@@ -17,7 +17,7 @@ use Rattle.rt_marks.proofs.InOrder.{split, in_order_map, in_order_same, each_in_
 use Rattle.rt_marks.proofs.Names.{clash, ordered_in_order, own_ascending, named_in_order}
 
 -- which of two marks comes first is decided by their places, and at one place by the rest
-places_decide : (x y : ℕ) (o : Ordering) → is_lt (ordering_then (nat_cmp x y) o) ≡ true → (x < y) ⊎ ((x ≡ y) × (is_lt o ≡ true))
+pub places_decide : (x y : ℕ) (o : Ordering) → is_lt (ordering_then (nat_cmp x y) o) ≡ true → (x < y) ⊎ ((x ≡ y) × (is_lt o ≡ true))
 places_decide x y o h =
     by_ranked _ _ _ (nat_cmp x y) (ranked x y (nat_cmp x y) refl)
     (λ e l. inl l)
