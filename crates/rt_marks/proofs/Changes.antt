@@ -237,3 +237,43 @@ taken_indexed marks by_name in_order slot last rank last_rank i k x v =
       ordered = subst AreInOrder (sym (view_then marks in_order slot last i k x.order_once v.size v.there (stands_within slot in_order i s) (stands_read slot in_order i 0 s) (stands_within last in_order k t) (stands_read last in_order k 0 t) ∙ ap (in_slots marks) h.taken))
           (held_order marks by_name in_order slot i x h);
     }
+
+-- OF TABLES, by the values of their vectors
+
+pub moved_table : (S S' : List Mark) (N N' O O' O'' : List ℕ) (slot i j : ℕ) (m here then : Mark) → IsIndexed S N O → slot < length S → in_slot S slot ≡ here → m.name ≡ (in_slot S slot).name → PartsAt (λ x. comes_before x here) (in_slots S O) i → S' ≡ set S slot m → N' ≡ N → O' ≡ remove O i → in_slot S' slot ≡ then → PartsAt (λ x. comes_before x then) (in_slots S' O') j → O'' ≡ insert O' j slot → IsIndexed S' N' O'' × (in_slots S' O'' ≡ put_mark m (in_slots S O))
+moved_table S S' N N' O O' O'' slot i j m here then x l eh name from es en eo et to ei =
+    let now : then ≡ m = sym et ∙ ap (λ v. in_slot v slot) es ∙ get_or-set_same S slot m no_mark l in
+    let start : PartsAt (λ x. comes_before x (in_slot S slot)) (in_slots S O) i = subst (λ v. PartsAt (λ x. comes_before x v) (in_slots S O) i) (sym eh) from in
+    let one : PartsAt (λ x. comes_before x m) (in_slots S' O') j = subst (λ v. PartsAt (λ x. comes_before x v) (in_slots S' O') j) now to in
+    let two : PartsAt (λ x. comes_before x m) (in_slots (set S slot m) O') j = subst (λ v. PartsAt (λ x. comes_before x m) (in_slots v O') j) es one in
+    let three : PartsAt (λ x. comes_before x m) (in_slots (set S slot m) (remove O i)) j = subst (λ v. PartsAt (λ x. comes_before x m) (in_slots (set S slot m) v) j) eo two in
+    let v : Moves S O slot m i j = record { there = l; name = name; from = start; to = three } in
+    let order : O'' ≡ insert (remove O i) j slot = ei ∙ ap (λ w. insert w j slot) eo in
+    let indexed : IsIndexed S' N' (insert (remove O i) j slot) = subst (λ w. IsIndexed w N' (insert (remove O i) j slot)) (sym es) (subst (λ w. IsIndexed (set S slot m) w (insert (remove O i) j slot)) (sym en) (moved_indexed S N O slot m i j x v)) in
+    (subst (λ w. IsIndexed S' N' w) (sym order) indexed, (λ k. in_slots (es k) (order k)) ∙ moved_view S N O slot m i j x v)
+
+pub moved_out_table : (S S' : List Mark) (N O O' : List ℕ) (slot i : ℕ) (m here : Mark) → IsIndexed S N O → slot < length S → in_slot S slot ≡ here → PartsAt (λ x. comes_before x here) (in_slots S O) i → S' ≡ set S slot m → O' ≡ remove O i → IsOrder S' O'
+moved_out_table S S' N O O' slot i m here x l eh from es eo =
+    let start : PartsAt (λ x. comes_before x (in_slot S slot)) (in_slots S O) i = subst (λ v. PartsAt (λ x. comes_before x v) (in_slots S O) i) (sym eh) from in
+    subst (λ v. IsOrder v O') (sym es) (subst (λ v. IsOrder (set S slot m) v) (sym eo) (moved_out S N O slot m i x l start))
+
+pub stands_before : (S : List Mark) (N O : List ℕ) (slot i : ℕ) (here : Mark) → IsIndexed S N O → slot < length S → in_slot S slot ≡ here → PartsAt (λ x. comes_before x here) (in_slots S O) i → i < length O
+stands_before S N O slot i here x l eh from =
+    stands_within slot O i (stands_at S O slot i x.order_once x.ordered l (subst (λ v. PartsAt (λ x. comes_before x v) (in_slots S O) i) (sym eh) from))
+
+pub taken_table : (S S' : List Mark) (N N' O O' : List ℕ) (slot last rank last_rank i k : ℕ) (here end : Mark) → IsIndexed S N O → length S ≡ last + 1 → slot < length S → rank < length N → get_or N rank 0 ≡ slot → last_rank < length N → get_or N last_rank 0 ≡ last → in_slot S slot ≡ here → PartsAt (λ x. comes_before x here) (in_slots S O) i → in_slot S last ≡ end → PartsAt (λ x. comes_before x end) (in_slots S O) k → S' ≡ brought_down S slot last → N' ≡ remove (set N last_rank slot) rank → O' ≡ remove (set O k slot) i → IsIndexed S' N' O' × (in_slots S' O' ≡ without (in_slot S slot).name (in_slots S O))
+taken_table S S' N N' O O' slot last rank last_rank i k here end x size l lr er ll el eh ph ee pe es en eo =
+    let v : Takes S N O slot last rank last_rank i k = record {
+      size = size;
+      there = l;
+      ranked = lr;
+      rank_read = er;
+      last_ranked = ll;
+      last_read = el;
+      at = subst (λ v. PartsAt (λ x. comes_before x v) (in_slots S O) i) (sym eh) ph;
+      last_at = subst (λ v. PartsAt (λ x. comes_before x v) (in_slots S O) k) (sym ee) pe;
+    } in
+    let indexed = taken_indexed S N O slot last rank last_rank i k x v in (
+      subst (λ w. IsIndexed w N' O') (sym es) (subst (λ w. IsIndexed (brought_down S slot last) w O') (sym en) (subst (λ w. IsIndexed (brought_down S slot last) (remove (set N last_rank slot) rank) w) (sym eo) indexed)),
+      (λ j. in_slots (es j) (eo j)) ∙ taken_view S N O slot last rank last_rank i k x v,
+    )

@@ -136,3 +136,20 @@ none_after q marks asc h = sym (ap (λ o. option_and_then (λ m. find (comes_bef
 
 pub none_before : (q : List ℕ) (marks : List Mark) → AreAscending (names_of marks) → None ≡ named q marks → None ≡ mark_before q (in_order marks)
 none_before q marks asc h = sym (ap (λ o. option_and_then (λ m. find_last (λ x. comes_before x m) (in_order marks)) o) (view_named q marks asc ∙ sym h))
+
+-- OF A LIST IN WHICH THE NAME WAS SOUGHT
+
+pub gravity_of_found : (q : List ℕ) (marks : List Mark) (gravity : Gravity) (m : Mark) → named q marks ≡ Some m → put_mark (record m { gravity = gravity }) marks ≡ marks_with_gravity q gravity marks
+gravity_of_found q marks gravity m h = sym (ap (λ o. option_map_or (λ (m : Mark). put_mark (record m { gravity = gravity }) marks) o marks) h)
+
+pub set_of_found : (q : List ℕ) (marks : List Mark) (place : ℕ) (m : Mark) → m.name ≡ q → named q marks ≡ Some m → put_mark (record m { place = place }) marks ≡ marks_set q place marks
+set_of_found q marks place m e h =
+    let kept : m.gravity ≡ gravity_or_right q marks = sym (ap (λ o. option_map_or (λ (m : Mark). m.gravity) o Right) h) in
+    let same : record m { place = place } ≡ record { name = q; place = place; gravity = gravity_or_right q marks } = λ j. record { name = e j; place = place; gravity = kept j } in
+    ap (λ v. put_mark v marks) same
+
+pub set_of_none : (q : List ℕ) (marks : List Mark) (place : ℕ) (name : List ℕ) → name ≡ q → named q marks ≡ None → with_mark (record { name = name; place = place; gravity = Right }) marks ≡ marks_set q place marks
+set_of_none q marks place name e h =
+    let fresh : Right ≡ gravity_or_right q marks = sym (ap (λ o. option_map_or (λ (m : Mark). m.gravity) o Right) h) in
+    let same : record { name = name; place = place; gravity = Right } ≡ record { name = q; place = place; gravity = gravity_or_right q marks } = λ j. record { name = e j; place = place; gravity = fresh j } in
+    ap (λ v. with_mark v marks) same ∙ ap (with_mark (record { name = q; place = place; gravity = gravity_or_right q marks })) (sym (without_none q marks h))

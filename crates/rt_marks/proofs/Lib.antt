@@ -2,12 +2,12 @@ pub mod ByName
 pub mod Changes
 pub mod Edits
 pub mod InOrder
-pub mod Looking
 pub mod Moving
 pub mod Names
 pub mod Order
+pub mod Removing
 pub mod Searching
 pub mod Slots
-pub mod Steps
 pub mod Tables
 pub mod Times
+pub mod Writing

@@ -24,14 +24,14 @@ places_decide x y o h =
     (λ e same. inr (same, sym (ap (λ v. is_lt (ordering_then v o)) e) ∙ h))
     (λ e l. absurd (clash false (sym (ap (λ v. is_lt (ordering_then v o)) e) ∙ h) refl))
 
-before_less : (x y : ℕ) (o : Ordering) → x < y → is_lt (ordering_then (nat_cmp x y) o) ≡ true
+pub before_less : (x y : ℕ) (o : Ordering) → x < y → is_lt (ordering_then (nat_cmp x y) o) ≡ true
 before_less x y o h =
     by_ranked _ _ _ (nat_cmp x y) (ranked x y (nat_cmp x y) refl)
     (λ e l. ap (λ v. is_lt (ordering_then v o)) e)
     (λ e same. absurd (omega (arith, h, same)))
     (λ e l. absurd (omega (arith, h, l)))
 
-before_rest : (x y : ℕ) (o : Ordering) → x ≤ y → is_lt o ≡ true → is_lt (ordering_then (nat_cmp x y) o) ≡ true
+pub before_rest : (x y : ℕ) (o : Ordering) → x ≤ y → is_lt o ≡ true → is_lt (ordering_then (nat_cmp x y) o) ≡ true
 before_rest x y o h k =
     by_ranked _ _ _ (nat_cmp x y) (ranked x y (nat_cmp x y) refl)
     (λ e l. ap (λ v. is_lt (ordering_then v o)) e)
@@ -161,11 +161,11 @@ within_more size most n (m ∷ marks) l h = (omega (arith, l, h.0), within_more 
 
 -- KEPT MARKS
 
-seen_map : (f : KeptMark → KeptMark) (g : Mark → Mark) → ((m : KeptMark) → seen (f m) ≡ g (seen m)) → (items : List KeptMark) → seen_all (map f items) ≡ map g (seen_all items)
+pub seen_map : (f : KeptMark → KeptMark) (g : Mark → Mark) → ((m : KeptMark) → seen (f m) ≡ g (seen m)) → (items : List KeptMark) → seen_all (map f items) ≡ map g (seen_all items)
 seen_map f g e [] = refl
 seen_map f g e (m ∷ items) = λ j. e m j ∷ seen_map f g e items j
 
-names_moved : (place : Mark → ℕ) (marks : List Mark) → names_of (map (moved place) marks) ≡ names_of marks
+pub names_moved : (place : Mark → ℕ) (marks : List Mark) → names_of (map (moved place) marks) ≡ names_of marks
 names_moved place [] = refl
 names_moved place (m ∷ marks) = ap (λ v. m.name ∷ v) (names_moved place marks)
 
@@ -219,7 +219,7 @@ each_kept : (P : Mark → Type 0) (marks : List Mark) → Each P (in_order marks
 each_kept P [] h = tt
 each_kept P (m ∷ marks) h = let r = each_kept_with P m (in_order marks) h in (r.0, each_kept P marks r.1)
 
-each_at : (P : Mark → Type 0) (items : List KeptMark) → Each P (seen_all items) → (i : ℕ) (d : KeptMark) → i < length items → P (seen (get_or items i d))
+pub each_at : (P : Mark → Type 0) (items : List KeptMark) → Each P (seen_all items) → (i : ℕ) (d : KeptMark) → i < length items → P (seen (get_or items i d))
 each_at P [] h i d l = absurd (omega (arith, l))
 each_at P (m ∷ items) h zero d l = h.0
 each_at P (m ∷ items) h (suc i) d l = each_at P items h.1 i d (omega (arith, l))

@@ -55,7 +55,7 @@ fails : (a b : Bool) → a ≡ true → (a && b) ≡ false → b ≡ false
 fails true b h k = k
 fails false b h k = absurd (clash false h refl)
 
-within : (s n : ℕ) → s < n → nat_lt s n ≡ true
+pub within : (s n : ℕ) → s < n → nat_lt s n ≡ true
 within s n l = grind (arith, nat_tests)
 
 same_or_less : (i j : ℕ) → i ≤ j → (i < j) ⊎ (i ≡ j)
@@ -75,10 +75,10 @@ of_slot test marks slot = nat_lt slot (length marks) && test (in_slot marks slot
 
 pub parts_from : (test : Mark → Bool) (marks : List Mark) (slots : List ℕ) (i : ℕ) → IsOrder marks slots → IsDownward test → i ≤ length slots → (IsPartitionedBy (of_slot test marks) slots → IsPartitionPoint (λ y. of_slot test marks y ≡ true) (λ y. of_slot test marks y ≡ false) slots i) → PartsAt test (in_slots marks slots) i
 parts_from test marks slots i o down l h = record {
-    within = subst (λ v. i ≤ v) (sym (length-map slots f)) l;
-    front = take_each f (λ m. test m ≡ true) slots i (λ k d less m. second _ _ (parted.0 k d (omega arith) less));
-    back = drop_each f (λ m. test m ≡ false) slots i (λ k d more m. fails _ _ (there k d m) (parted.1 k d more m));
-  }
+  within = subst (λ v. i ≤ v) (sym (length-map slots f)) l;
+  front = take_each f (λ m. test m ≡ true) slots i (λ k d less m. second _ _ (parted.0 k d (omega arith) less));
+  back = drop_each f (λ m. test m ≡ false) slots i (λ k d more m. fails _ _ (there k d m) (parted.1 k d more m));
+}
   where
     f : ℕ → Mark
     f = in_slot marks
@@ -199,7 +199,7 @@ pub same_slot : (marks : List Mark) (by_name in_order : List ℕ) (rank d slot :
 same_slot marks by_name in_order rank d slot x l k e =
     let f = in_slot marks in
     let there = times_at by_name rank (get_or by_name rank d) d l refl in
-    let also = omega (arith, once_below (length marks) by_name x.names_once slot k) in
+    let also : 1 ≤ Seen.times slot by_name = omega (arith, once_below (length marks) by_name x.names_once slot k) in
     one_name by_name x.ascending (get_or by_name rank d) slot there also e
   where
     below_names : (x : ℕ) (xs : List ℕ) → Each (λ y. is_lt (name_order (in_slot marks x).name y) ≡ true) (names_of (map (in_slot marks) xs)) → Each (λ y. is_lt (name_order (in_slot marks x).name (in_slot marks y).name) ≡ true) xs

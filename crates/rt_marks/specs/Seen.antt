@@ -1,7 +1,8 @@
 -- What contracts see of the marks that are kept.
-use Rattle.std.specs.Prelude.{◌≡◌, ℕ, ◌+◌, ◌<◌, ◌≤◌, ◌==◌, nat_lt, List, [], ◌∷◌, length, map, slice_index_or, string_bytes, Bool, true, false, Option, Some, None, take, drop, if◌then◌else◌}
+use Rattle.std.specs.Prelude.{◌≡◌, ℕ, ◌+◌, ◌<◌, ◌≤◌, ◌==◌, ◌&&◌, ◌++◌, nat_lt, List, [], ◌∷◌, length, map, slice_index_or, string_bytes, Bool, true, false, Option, Some, None, take, drop, if◌then◌else◌}
 use Rattle.std.specs.Ordering.{is_lt}
-use Rattle.rt_marks.specs.declared.gravity.Gravity.TheVariants.{Left}
+use Rattle.rt_marks.specs.declared.gravity.Gravity.{Gravity}
+use Rattle.rt_marks.specs.declared.gravity.Gravity.TheVariants.{Left, Right}
 use Rattle.rt_marks.specs.declared.mark.Mark.{Mark as KeptMark}
 use Rattle.rt_marks.specs.Marks.{Mark, Each, AreAscending, AreInOrder, name_order, comes_before}
 
@@ -17,16 +18,6 @@ names_of marks = map (λ m. m.name) marks
 -- a name that isn't there would stand at an index of names that ascend
 abbrev pub IsGap : List ℕ → List (List ℕ) → ℕ → Type 0
 IsGap name names i = Each (λ x. is_lt (name_order x name) ≡ true) (take i names) × Each (λ x. is_lt (name_order name x) ≡ true) (drop i names)
-
--- the earlier of a mark that was found, if one was, and another
-abbrev pub earlier : Option Mark → Mark → Option Mark
-earlier None m = Some m
-earlier (Some x) m = Some (if comes_before m x then m else x)
-
--- the later of them
-abbrev pub later : Option Mark → Mark → Option Mark
-later None m = Some m
-later (Some x) m = Some (if comes_before x m then m else x)
 
 -- SLOTS: marks stand in slots, and two lists have the slots' numbers, one by the names, one in the order of marks
 
@@ -67,3 +58,22 @@ pub record PartsAt (test : Mark → Bool) (marks : List Mark) (i : ℕ) : Type 0
   pub within : i ≤ length marks
   pub front : Each (λ m. test m ≡ true) (take i marks)
   pub back : Each (λ m. test m ≡ false) (drop i marks)
+
+-- THE MARKS THAT COME TO STAND AT ONE PLACE
+
+abbrev pub same_gravity : Gravity → Gravity → Bool
+same_gravity Left Left = true
+same_gravity Left Right = false
+same_gravity Right Left = false
+same_gravity Right Right = true
+
+-- a mark stands at a place with a gravity
+abbrev pub stands : ℕ → Gravity → Mark → Bool
+stands place gravity m = (m.place == place) && same_gravity m.gravity gravity
+
+abbrev pub slot_stands : ℕ → Gravity → List Mark → ℕ → Bool
+slot_stands place gravity marks slot = nat_lt slot (length marks) && stands place gravity (in_slot marks slot)
+
+-- numbers written over others from an index on
+abbrev pub overwritten : ℕ → List ℕ → List ℕ → List ℕ
+overwritten at numbers old = take at old ++ numbers ++ drop (at + length numbers) old

@@ -1,9 +1,9 @@
 // The marks of a site in slots, and two lists of the slots' numbers.
-ghost use Rattle.std.specs.Prelude.{◌≡◌, ◌+◌, ◌<◌, ◌≤◌, ◌&&◌, [], List, IfOk, IfErr, OnOk, IsTrue, Option, length, map, nat_lt, slice_index, slice_set, not, option_map, option_copied, slice_get, string_bytes, vec_len, vec_capacity, find as first_passing};
+ghost use Rattle.std.specs.Prelude.{◌≡◌, ◌+◌, ◌<◌, ◌≤◌, ◌&&◌, [], IfOk, IfErr, None, OnOk, Some, filter, length, map, nat_lt, slice_index, slice_set, not, option_map, option_copied, slice_get, string_bytes, vec_len, vec_capacity, find as first_passing};
 ghost use Rattle.std.specs.List.{HoldsAt, insert, remove};
 ghost use Rattle.std.specs.List.Sorted.{IsSearchInRange};
-ghost use Rattle.rt_marks.specs.Marks.{Each, comes_before, find_last, first_mark_at, last_mark_before, name_order, named, put_mark, with_mark, without};
-ghost use Rattle.rt_marks.specs.Seen.{IsGap, IsOrder, PartsAt, in_slot, in_slots, names_of, seen, seen_all};
+ghost use Rattle.rt_marks.specs.Marks.{Each, comes_before, find_last, first_mark_at, last_mark_before, mark_removed, marks_inserted, marks_removed, name_order, named, put_mark, with_mark, without};
+ghost use Rattle.rt_marks.specs.Seen.{IsGap, IsOrder, PartsAt, in_slot, names_of, overwritten, same_gravity, seen, seen_all, slot_stands};
 
 use crate::Gravity;
 use crate::mark::Mark;
@@ -126,14 +126,37 @@ impl Table {
         self.marks.get(slot)
     }
 
+    /// The mark in a slot.
+    fn mark_in(&self, slot: usize) -> Option<&Mark>
+        ensures { option_map seen (option_copied result) ≡ slice_get (slots_of self.now) slot }
+    {
+        self.marks.get(slot)
+    }
+
     /// The mark of a name.
     pub fn find(&self, name: &str) -> Option<&Mark>
         requires { IsTable self.now }
         ensures { option_map seen (option_copied result) ≡ named name.now (marks_of self.now) }
     {
         match self.search(name) {
-            Ok(rank) => self.marks.get(self.by_name[rank]),
+            Ok(rank) => self.mark_in(self.by_name[rank]),
             Err(_) => None,
+        }
+    }
+
+    /// The slot of the mark of a name, or where the name would be among the names.
+    pub fn find_slot(&self, name: &str) -> Result<usize, usize>
+        requires { IsTable self.now }
+        ensures there { IfOk result (λ slot. slot < length (slots_of self.now)) }
+        ensures mark { IfOk result (λ slot. named name.now (marks_of self.now) ≡ Some (in_slot (slots_of self.now) slot)) }
+        ensures name { IfOk result (λ slot. (in_slot (slots_of self.now) slot).name ≡ name.now) }
+        ensures none { IfErr result (λ _. named name.now (marks_of self.now) ≡ None) }
+        ensures bound { IfErr result (λ gap. gap ≤ length self.now.by_name.items) }
+        ensures gap { IfErr result (λ gap. IsGap name.now (names_of (by_names self.now)) gap) }
+    {
+        match self.search(name) {
+            Ok(rank) => Ok(self.by_name[rank]),
+            Err(gap) => Err(gap),
         }
     }
 
@@ -234,6 +257,28 @@ impl Table {
         insert_number(&mut self.in_order, to, slot);
     }
 
+    /// Gives a slot's mark a place.
+    pub fn set_place(&mut self, slot: usize, place: usize)
+        requires table { IsTable self.old }
+        requires there { slot < length (slots_of self.old) }
+        ensures table { IsTable self.new }
+        ensures marks { marks_of self.new ≡ put_mark (record (in_slot (slots_of self.old) slot) { place = place }) (marks_of self.old) }
+    {
+        let gravity = self.marks[slot].gravity;
+        self.move_to(slot, place, gravity);
+    }
+
+    /// Gives a slot's mark a gravity.
+    pub fn set_gravity(&mut self, slot: usize, gravity: Gravity)
+        requires table { IsTable self.old }
+        requires there { slot < length (slots_of self.old) }
+        ensures table { IsTable self.new }
+        ensures marks { marks_of self.new ≡ put_mark (record (in_slot (slots_of self.old) slot) { gravity = gravity }) (marks_of self.old) }
+    {
+        let place = self.marks[slot].place;
+        self.move_to(slot, place, gravity);
+    }
+
     /// Where a slot's number stands among the names.
     fn rank_of(&self, slot: usize) -> usize
         requires table { IsTable self.now }
@@ -263,6 +308,121 @@ impl Table {
         renumber(&mut self.by_name, last_rank, slot, rank);
         renumber(&mut self.in_order, last_at, slot, at);
         self.marks.swap_remove(slot);
+    }
+    /// Takes away the mark of a name, if there is one.
+    pub fn remove(&mut self, name: &str)
+        requires { IsTable self.old }
+        ensures table { IsTable self.new }
+        ensures marks { marks_of self.new ≡ without name.now (marks_of self.old) }
+    {
+        match self.search(name) {
+            Ok(rank) => self.take(rank),
+            Err(_) => {}
+        }
+    }
+
+    /// The name of the mark in a slot.
+    fn name_in(&self, slot: usize) -> &str
+        requires { slot < length (slots_of self.now) }
+        ensures { result.now ≡ (in_slot (slots_of self.now) slot).name }
+    {
+        self.marks[slot].name.as_str()
+    }
+
+    /// The names, by their bytes.
+    pub fn names(&self, alloc: Global) -> Result<Vec<String>, AllocError>
+        requires { IsTable self.now }
+        ensures { IfOk result (λ v. map (λ s. string_bytes s) v.items ≡ names_of (by_names self.now)) }
+    {
+        let mut names = Vec::with_capacity(alloc, self.by_name.len())?;
+        for rank in 0..self.by_name.len() {
+            let name = String::from_str(alloc, self.name_in(self.by_name[rank]))?;
+            names.push(name)?;
+        }
+        Ok(names)
+    }
+
+    /// Moves the marks for characters that were inserted: their order stays.
+    pub fn inserted(&mut self, place: usize, n: usize)
+        requires table { IsTable self.old }
+        requires fits { Each (λ m. m.place + n ≤ usize.MAX) (marks_of self.old) }
+        ensures table { IsTable self.new }
+        ensures marks { marks_of self.new ≡ marks_inserted place n (marks_of self.old) }
+    {
+        insert_places(&mut self.marks, place, n);
+    }
+
+    /// Moves the marks for characters that were removed. The marks that come to stand at the place
+    /// are put in order anew: those of left gravity by their names, and then those of right gravity.
+    pub fn removed(&mut self, place: usize, n: usize)
+        requires { IsTable self.old }
+        ensures table { IsTable self.new }
+        ensures marks { marks_of self.new ≡ marks_removed place n (marks_of self.old) }
+    {
+        let start = self.count_below(place);
+        remove_places(&mut self.marks, place, n);
+        let middle = self.write_those(start, place, Gravity::Left);
+        self.write_those(middle, place, Gravity::Right);
+    }
+
+    /// Whether a slot's mark stands at a place with a gravity.
+    fn stands(&self, slot: usize, place: usize, gravity: Gravity) -> bool
+        ensures { result ≡ slot_stands place gravity (slots_of self.now) slot }
+    {
+        match self.marks.get(slot) {
+            Some(mark) => mark.place == place && is_same(mark.gravity, gravity),
+            None => false,
+        }
+    }
+
+    /// Writes the numbers of the marks at a place with a gravity into the order from an index on, by
+    /// their names, and answers the index behind them.
+    fn write_those(&mut self, at: usize, place: usize, gravity: Gravity) -> usize
+        requires { at + length (filter (slot_stands place gravity (slots_of self.old)) self.old.by_name.items) ≤ length self.old.in_order.items }
+        ensures marks { self.new.marks ≡ self.old.marks }
+        ensures by_name { self.new.by_name ≡ self.old.by_name }
+        ensures end { result ≡ at + length (filter (slot_stands place gravity (slots_of self.old)) self.old.by_name.items) }
+        ensures in_order { self.new.in_order.items ≡ overwritten at (filter (slot_stands place gravity (slots_of self.old)) self.old.by_name.items) self.old.in_order.items }
+    {
+        let mut next = at;
+        for rank in 0..self.by_name.len() {
+            let slot = self.by_name[rank];
+            if self.stands(slot, place, gravity) {
+                self.in_order[next] = slot;
+                next += 1;
+            }
+        }
+        next
+    }
+}
+
+/// Whether two gravities are one.
+fn is_same(a: Gravity, b: Gravity) -> bool
+    ensures { result ≡ same_gravity a b }
+{
+    match (a, b) {
+        (Gravity::Left, Gravity::Left) => true,
+        (Gravity::Right, Gravity::Right) => true,
+        _ => false,
+    }
+}
+
+/// Moves each mark for characters that were inserted.
+fn insert_places(marks: &mut Vec<Mark>, place: usize, n: usize)
+    requires { Each (λ m. m.place + n ≤ usize.MAX) (seen_all marks.old.items) }
+    ensures { seen_all marks.new.items ≡ marks_inserted place n (seen_all marks.old.items) }
+{
+    for mark in marks.iter_mut() {
+        mark.place = mark.place_after_insertion(place, n);
+    }
+}
+
+/// Moves each mark for characters that were removed.
+fn remove_places(marks: &mut Vec<Mark>, place: usize, n: usize)
+    ensures { seen_all marks.new.items ≡ map (mark_removed place n) (seen_all marks.old.items) }
+{
+    for mark in marks.iter_mut() {
+        mark.place = mark.place_after_removal(place, n);
     }
 }
 

@@ -19,7 +19,7 @@ pub returns-clause-table : goal.returns-clause-table
 returns-clause-table c =
     let table = c.args.self.now in
     let now = slots_then c in
-    let slot : c.len-slot.result ≡ length (slots_of table) = ? in
+    let slot : c.len-slot.result ≡ length (slots_of table) = c.len-slot.ensures ∙ table.marks.ok.0 ∙ sym (seen_length table.marks.items) in
     let names = c.insert_number.ensures ∙ ap (insert table.by_name.items c.args.gap) slot in
     let order = c.insert_number-2.ensures ∙ ap (insert table.in_order.items c.count_before-at.result) slot in
     subst (λ v. IsIndexed v c.insert_number.new.numbers.items c.insert_number-2.new.numbers.items) (sym now)
@@ -30,7 +30,7 @@ returns-clause-table c =
 pub returns-clause-marks : goal.returns-clause-marks
 returns-clause-marks c =
     let table = c.args.self.now in
-    let slot : c.len-slot.result ≡ length (slots_of table) = ? in
+    let slot : c.len-slot.result ≡ length (slots_of table) = c.len-slot.ensures ∙ table.marks.ok.0 ∙ sym (seen_length table.marks.items) in
     let order = c.insert_number-2.ensures ∙ ap (insert table.in_order.items c.count_before-at.result) slot in
     ap (λ v. in_slots v c.insert_number-2.new.numbers.items) (slots_then c) ∙ ap (in_slots (slots_of table ++ seen c.args.mark ∷ [])) order
     ∙ added_view (slots_of table) table.by_name.items table.in_order.items (seen c.args.mark) c.count_before-at.result c.requires.table c.count_before-at.ensures
