@@ -12,7 +12,7 @@ use Rattle.rt_marks.specs.Marks
 use Rattle.rt_marks.specs.Seen.{seen, seen_all, names_of, no_mark, in_slot, in_slots, times, IsEachOnce, IsOrder, IsIndexed, PartsAt, IsGap}
 use Rattle.rt_marks.proofs.Order.{before_irrefl, before_asym}
 use Rattle.rt_marks.proofs.InOrder.{split, in_order_same, with_passing, with_here}
-use Rattle.rt_marks.proofs.Names.{clash, own_ascending, own_in_order, named_in_order, named_middle, none_other, none_middle, differ_back, ordered_with, own_without, without_none, without_with, ordered_in_order, name_itself}
+use Rattle.rt_marks.proofs.Names.{clash, own_ascending, own_in_order, named_in_order, named_middle, none_other, none_middle, differ_back, ordered_with, without_none, ordered_in_order, name_itself}
 use Rattle.rt_marks.proofs.Times.{Parted, present, each_below, each_present, each_there, once_below, same_order, same_times, times_append, times_middle, renamed, tally, times_at, times_remove}
 
 -- READING

@@ -16,10 +16,6 @@ slot_read items i m l e = slot_kept items i m l ∙ sym (ap seen e)
 pub seen_length : (items : List KeptMark) → length (seen_all items) ≡ length items
 seen_length items = length-map items seen
 
--- a number in a list is that of a slot
-pub number_there : (items : List KeptMark) (slots : List ℕ) (i d : ℕ) → IsEachOnce (length (seen_all items)) slots → i < length slots → get_or slots i d < length items
-number_there items slots i d once l = subst (λ v. get_or slots i d < v) (seen_length items) (each_index (λ s. s < length (seen_all items)) slots i d l (each_below (length (seen_all items)) slots once))
-
 -- a number that was read
 pub number_read : (slots : List ℕ) (i x d : ℕ) → i < length slots → x ≡ get_or slots i x → get_or slots i d ≡ x
 number_read [] i x d l e = absurd (omega (arith, l))
