@@ -28,6 +28,12 @@ pub enum Modifier {
 
 /// No step: it leaves every place as it is.
 impl Default for Modifier {
+    ghost use Rattle.std.specs.Prelude.{◌≡◌};
+    ghost use Rattle.rt_index.specs.declared.parts.Modifier.TheVariants.{Forward};
+    ghost use Rattle.rt_index.specs.declared.parts.Step.TheVariants.{Characters};
+
+    ghost is_default = { λ modifier. modifier ≡ Forward 0 Characters };
+
     fn default() -> Self {
         Modifier::Forward(0, Step::Characters)
     }

@@ -1,4 +1,4 @@
--- Marks kept by their names.
+-- Lists of marks by their names.
 use Rattle.std.proofs.Common.{◌≡◌, ℕ, zero, suc, ◌+◌, ◌<◌, ◌≤◌, List, [], ◌∷◌, ◌++◌, map, length, get_or, take, drop, set, true, false, refl, sym, ap, ◌∙◌, Bool, subst, Option, Some, None, Result, Ok, Err, IfOk, IfErr, string_bytes, arith, add-one, take-append-drop}
 use Rattle.std.specs.Ordering.{is_lt, ordering_reverse}
 use Rattle.std.specs.declared.cmp.Ordering.TheVariants.{Greater}
@@ -15,46 +15,9 @@ use Rattle.rt_marks.specs.Seen.{seen, seen_all, names_of, IsGap}
 use Rattle.rt_marks.proofs.Order.{lt_asym}
 use Rattle.rt_marks.proofs.Names.{differ_back, names_differ, none_cons}
 
-abbrev name_bytes : KeptMark → List ℕ
-name_bytes m = string_bytes m.name
-
--- WHAT A SEARCH FINDS
-
-rises : (marks : List KeptMark) → AreAscending (names_of (seen_all marks)) → (k : ℕ) (d : KeptMark) → suc k < length marks → is_lt (name_order (name_bytes (get_or marks (suc k) d)) (name_bytes (get_or marks k d))) ≡ false
-rises [] h k d l = absurd (omega (arith, l))
-rises (x ∷ []) h k d l = absurd (omega (arith, l))
-rises (x ∷ y ∷ marks) h zero d l = lt_asym nat_list_cmp_total (name_bytes x) (name_bytes y) h.0.0
-rises (x ∷ y ∷ marks) h (suc k) d l = rises (y ∷ marks) h.1 k d (omega (arith, l))
-
-are_sorted : (marks : List KeptMark) → AreAscending (names_of (seen_all marks)) → IsSortedBy (λ a b. is_lt (name_order (name_bytes a) (name_bytes b))) marks
-are_sorted marks h = λ k d low l. rw add-one (rises marks h k d (omega (arith, l)))
-
-each_front : (P : List ℕ → Type 0) (marks : List KeptMark) (i : ℕ) → ((k : ℕ) (d : KeptMark) → k < i → P (name_bytes (get_or marks k d))) → Each P (take i (names_of (seen_all marks)))
-each_front P marks zero h = tt
-each_front P [] (suc i) h = tt
-each_front P (x ∷ marks) (suc i) h = (h 0 x (omega arith), each_front P marks i (λ k d l. h (suc k) d (omega (arith, l))))
-
-each_back : (P : List ℕ → Type 0) (marks : List KeptMark) (i : ℕ) → ((k : ℕ) (d : KeptMark) → i ≤ k → k < length marks → P (name_bytes (get_or marks k d))) → Each P (drop i (names_of (seen_all marks)))
-each_back P [] zero h = tt
-each_back P (x ∷ marks) zero h = (h 0 x (omega arith) (omega arith), each_back P marks zero (λ k d l m. h (suc k) d (omega (arith, l)) (omega (arith, m))))
-each_back P [] (suc i) h = tt
-each_back P (x ∷ marks) (suc i) h = each_back P marks i (λ k d l m. h (suc k) d (omega (arith, l)) (omega (arith, m)))
-
-pub found_from : (name : List ℕ) (marks : List KeptMark) (r : Result ℕ ℕ) → IsBinarySearchResult (λ m. name_order (string_bytes m.name) name) marks r → IfOk r (HoldsAt (λ m. string_bytes m.name ≡ name) marks)
-found_from name marks (Ok i) h = λ d. slice_cmp-IsAntisymmetric nat_cmp-IsAntisymmetric _ _ (h d)
-found_from name marks (Err i) h = tt
-
 -- a name that another is greater than
-greater : (xs ys : List ℕ) → name_order ys xs ≡ Greater → is_lt (name_order xs ys) ≡ true
+pub greater : (xs ys : List ℕ) → name_order ys xs ≡ Greater → is_lt (name_order xs ys) ≡ true
 greater xs ys h = ap is_lt (nat_list_cmp_total.antisymm xs ys ∙ ap ordering_reverse h)
-
-pub gap_from : (name : List ℕ) (marks : List KeptMark) (r : Result ℕ ℕ) → AreAscending (names_of (seen_all marks)) → IsBinarySearchResult (λ m. name_order (string_bytes m.name) name) marks r → IfErr r (IsGap name (names_of (seen_all marks)))
-gap_from name marks (Ok i) a h = tt
-gap_from name marks (Err i) a h =
-    let parted = h (searchable_from_sorted nat_list_cmp_total name_bytes marks name (are_sorted marks a)) in
-    let front = each_front (λ x. is_lt (name_order x name) ≡ true) marks i (λ k d l. ap is_lt (parted.0 k d (omega arith) l)) in
-    let back = each_back (λ x. is_lt (name_order name x) ≡ true) marks i (λ k d l m. greater name (name_bytes (get_or marks k d)) (parted.1 k d l m)) in
-    (front, back)
 
 -- EDITS OF NAMES THAT ASCEND
 
@@ -85,10 +48,6 @@ ascending_insert (x ∷ xs) n ys f b h = (each_insert (λ y. is_lt (name_order x
 pub names_middle : (front : List Mark) (m : Mark) (back : List Mark) → names_of (front ++ m ∷ back) ≡ names_of front ++ m.name ∷ names_of back
 names_middle front m back = map-append (λ (x : Mark). x.name) front (m ∷ back)
 
-pub ascending_replaced : (front : List Mark) (a b : Mark) (back : List Mark) → b.name ≡ a.name → AreAscending (names_of (front ++ a ∷ back)) → AreAscending (names_of (front ++ b ∷ back))
-ascending_replaced front a b back e h =
-    subst AreAscending (names_middle front a back ∙ ap (λ n. names_of front ++ n ∷ names_of back) (sym e) ∙ sym (names_middle front b back)) h
-
 pub ascending_taken : (front : List Mark) (m : Mark) (back : List Mark) → AreAscending (names_of (front ++ m ∷ back)) → AreAscending (names_of (front ++ back))
 ascending_taken front m back h =
     subst AreAscending (sym (map-append (λ (x : Mark). x.name) front back))
@@ -110,21 +69,3 @@ none_in_gap name marks i g =
     let front = each_weaker _ (λ x. bytes_eq x name ≡ false) (take i (names_of marks)) (λ x h. differ_back name x (names_differ x name h)) g.0 in
     let back = each_weaker _ (λ x. bytes_eq x name ≡ false) (drop i (names_of marks)) (λ x h. names_differ name x h) g.1 in
     none_among name marks (subst (λ v. Each (λ x. bytes_eq x name ≡ false) v) (take-append-drop i (names_of marks)) (each_append _ (take i (names_of marks)) (drop i (names_of marks)) front back))
-
--- KEPT MARKS, AS SEEN
-
-pub kept_middle : (marks : List KeptMark) (i : ℕ) (a : KeptMark) → i < length marks → a ≡ get_or marks i a → seen_all marks ≡ seen_all (take i marks) ++ seen a ∷ seen_all (drop (suc i) marks)
-kept_middle marks i a l e =
-    ap seen_all (sym (set-get_or marks i a) ∙ ap (λ v. set marks i v) (sym e) ∙ set_split marks i a l)
-    ∙ map-append seen (take i marks) (a ∷ drop (suc i) marks)
-
-pub kept_set : (marks : List KeptMark) (i : ℕ) (a : KeptMark) → i < length marks → seen_all (set marks i a) ≡ seen_all (take i marks) ++ seen a ∷ seen_all (drop (suc i) marks)
-kept_set marks i a l = ap seen_all (set_split marks i a l) ∙ map-append seen (take i marks) (a ∷ drop (suc i) marks)
-
-pub kept_removed : (marks : List KeptMark) (i : ℕ) → seen_all (remove marks i) ≡ seen_all (take i marks) ++ seen_all (drop (suc i) marks)
-kept_removed marks i = map-append seen (take i marks) (drop (suc i) marks)
-
-pub kept_inserted : (marks : List KeptMark) (i : ℕ) (a : KeptMark) → seen_all (insert marks i a) ≡ take i (seen_all marks) ++ seen a ∷ drop i (seen_all marks)
-kept_inserted marks i a =
-    map-append seen (take i marks) (a ∷ drop i marks)
-    ∙ ap (λ v. v ++ seen a ∷ seen_all (drop i marks)) (sym (take-map seen i marks)) ∙ ap (λ v. take i (seen_all marks) ++ seen a ∷ v) (sym (drop-map seen i marks))

@@ -48,19 +48,6 @@ pub in_order_middle : (front : List Mark) (m : Mark) (back : List Mark) → in_o
 in_order_middle [] m back = refl
 in_order_middle (x ∷ front) m back = ap (with_mark x) (in_order_middle front m back) ∙ with_comm x m (in_order (front ++ back))
 
-in_order_map_with : (f : Mark → Mark) (m : Mark) (marks : List Mark) → in_order (map f (with_mark m marks)) ≡ with_mark (f m) (in_order (map f marks))
-in_order_map_with f m [] = refl
-in_order_map_with f m (x ∷ marks) =
-    let more = in_order_map_with f m marks in
-    split (comes_before x m)
-    (λ h. ap (λ v. in_order (map f v)) (with_passing m x marks h) ∙ ap (with_mark (f x)) more ∙ with_comm (f x) (f m) (in_order (map f marks)))
-    (λ h. ap (λ v. in_order (map f v)) (with_here m x marks h))
-
--- marks that are changed and then put in order need not have been in order
-pub in_order_map : (f : Mark → Mark) (marks : List Mark) → in_order (map f (in_order marks)) ≡ in_order (map f marks)
-in_order_map f [] = refl
-in_order_map f (m ∷ marks) = in_order_map_with f m (in_order marks) ∙ ap (with_mark (f m)) (in_order_map f marks)
-
 with_front : (m : Mark) (marks : List Mark) → Each (λ x. comes_before m x ≡ true) marks → with_mark m marks ≡ m ∷ marks
 with_front m [] h = refl
 with_front m (x ∷ marks) h = with_here m x marks (before_asym m x h.0)

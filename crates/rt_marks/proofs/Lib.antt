@@ -1,8 +1,13 @@
 pub mod ByName
+pub mod Changes
 pub mod Edits
 pub mod InOrder
-pub mod Looking
 pub mod Moving
 pub mod Names
 pub mod Order
-pub mod Steps
+pub mod Removing
+pub mod Searching
+pub mod Slots
+pub mod Tables
+pub mod Times
+pub mod Writing

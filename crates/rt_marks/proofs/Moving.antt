@@ -13,25 +13,25 @@ use Rattle.rt_marks.specs.declared.gravity.Gravity.TheVariants.{Left, Right}
 use Rattle.rt_marks.specs.declared.mark.Mark.{Mark as KeptMark}
 use Rattle.rt_marks.specs.Marks.{Mark, Each, gravity_order, name_order, comes_before, AreInOrder, with_mark, in_order, is_named, named, is_right, is_moved_on, place_inserted, mark_inserted, marks_inserted, place_removed, mark_removed, marks_removed, HaveOwnNames, AreAscending, without, put_mark, gravity_or_right, marks_set, marks_with_gravity}
 use Rattle.rt_marks.specs.Seen.{seen, seen_all, names_of}
-use Rattle.rt_marks.proofs.InOrder.{split, in_order_map, in_order_same, each_in_order, each_with, with_passing, with_here}
+use Rattle.rt_marks.proofs.InOrder.{split, in_order_same, each_in_order, each_with, with_passing, with_here}
 use Rattle.rt_marks.proofs.Names.{clash, ordered_in_order, own_ascending, named_in_order}
 
 -- which of two marks comes first is decided by their places, and at one place by the rest
-places_decide : (x y : ℕ) (o : Ordering) → is_lt (ordering_then (nat_cmp x y) o) ≡ true → (x < y) ⊎ ((x ≡ y) × (is_lt o ≡ true))
+pub places_decide : (x y : ℕ) (o : Ordering) → is_lt (ordering_then (nat_cmp x y) o) ≡ true → (x < y) ⊎ ((x ≡ y) × (is_lt o ≡ true))
 places_decide x y o h =
     by_ranked _ _ _ (nat_cmp x y) (ranked x y (nat_cmp x y) refl)
     (λ e l. inl l)
     (λ e same. inr (same, sym (ap (λ v. is_lt (ordering_then v o)) e) ∙ h))
     (λ e l. absurd (clash false (sym (ap (λ v. is_lt (ordering_then v o)) e) ∙ h) refl))
 
-before_less : (x y : ℕ) (o : Ordering) → x < y → is_lt (ordering_then (nat_cmp x y) o) ≡ true
+pub before_less : (x y : ℕ) (o : Ordering) → x < y → is_lt (ordering_then (nat_cmp x y) o) ≡ true
 before_less x y o h =
     by_ranked _ _ _ (nat_cmp x y) (ranked x y (nat_cmp x y) refl)
     (λ e l. ap (λ v. is_lt (ordering_then v o)) e)
     (λ e same. absurd (omega (arith, h, same)))
     (λ e l. absurd (omega (arith, h, l)))
 
-before_rest : (x y : ℕ) (o : Ordering) → x ≤ y → is_lt o ≡ true → is_lt (ordering_then (nat_cmp x y) o) ≡ true
+pub before_rest : (x y : ℕ) (o : Ordering) → x ≤ y → is_lt o ≡ true → is_lt (ordering_then (nat_cmp x y) o) ≡ true
 before_rest x y o h k =
     by_ranked _ _ _ (nat_cmp x y) (ranked x y (nat_cmp x y) refl)
     (λ e l. ap (λ v. is_lt (ordering_then v o)) e)
@@ -161,32 +161,16 @@ within_more size most n (m ∷ marks) l h = (omega (arith, l, h.0), within_more 
 
 -- KEPT MARKS
 
-seen_map : (f : KeptMark → KeptMark) (g : Mark → Mark) → ((m : KeptMark) → seen (f m) ≡ g (seen m)) → (items : List KeptMark) → seen_all (map f items) ≡ map g (seen_all items)
+pub seen_map : (f : KeptMark → KeptMark) (g : Mark → Mark) → ((m : KeptMark) → seen (f m) ≡ g (seen m)) → (items : List KeptMark) → seen_all (map f items) ≡ map g (seen_all items)
 seen_map f g e [] = refl
 seen_map f g e (m ∷ items) = λ j. e m j ∷ seen_map f g e items j
 
-names_moved : (place : Mark → ℕ) (marks : List Mark) → names_of (map (moved place) marks) ≡ names_of marks
+pub names_moved : (place : Mark → ℕ) (marks : List Mark) → names_of (map (moved place) marks) ≡ names_of marks
 names_moved place [] = refl
 names_moved place (m ∷ marks) = ap (λ v. m.name ∷ v) (names_moved place marks)
 
 abbrev pub replaced : (Mark → ℕ) → KeptMark → KeptMark
 replaced place m = record m { place = place (seen m) }
-
-pub replaced_ascending : (place : Mark → ℕ) (items : List KeptMark) → AreAscending (names_of (seen_all items)) → AreAscending (names_of (seen_all (map (replaced place) items)))
-replaced_ascending place items asc =
-    subst AreAscending (sym (ap names_of (seen_map (replaced place) (moved place) (λ m. refl) items) ∙ names_moved place (seen_all items))) asc
-
-pub replaced_view : (place : Mark → ℕ) (items : List KeptMark) → in_order (seen_all (map (replaced place) items)) ≡ in_order (map (moved place) (in_order (seen_all items)))
-replaced_view place items =
-    ap in_order (seen_map (replaced place) (moved place) (λ m. refl) items) ∙ sym (in_order_map (moved place) (seen_all items))
-
-pub inserted_view : (place n : ℕ) (items : List KeptMark) → AreAscending (names_of (seen_all items)) → in_order (seen_all (map (replaced (place_inserted place n)) items)) ≡ marks_inserted place n (in_order (seen_all items))
-inserted_view place n items asc =
-    replaced_view (place_inserted place n) items
-    ∙ in_order_same (marks_inserted place n (in_order (seen_all items))) (inserted_in_order place n (in_order (seen_all items)) (ordered_in_order (seen_all items) (own_ascending (seen_all items) asc)))
-
-pub removed_places : (place n : ℕ) (items : List KeptMark) → in_order (seen_all (map (replaced (λ m. place_removed place n m.place)) items)) ≡ marks_removed place n (in_order (seen_all items))
-removed_places place n items = replaced_view (λ m. place_removed place n m.place) items
 
 -- A LOOP THAT WRITES EACH PLACE
 
@@ -207,26 +191,7 @@ pub one_written : (place : Mark → ℕ) (xs ys : List KeptMark) (i : ℕ) (x : 
 one_written place xs ys i x p l h e k =
     ap (λ v. set ys i (record (get_or ys i x) { place = v })) k ∙ map_over_more (replaced place) xs ys i (get_or ys i x) l h (ap (λ v. get_or ys i v) e)
 
-each_kept_with : (P : Mark → Type 0) (m : Mark) (marks : List Mark) → Each P (with_mark m marks) → P m × Each P marks
-each_kept_with P m [] h = h
-each_kept_with P m (x ∷ marks) h =
-    let more = each_kept_with P m marks in
-    split (comes_before x m)
-    (λ t. let k = subst (λ v. Each P v) (with_passing m x marks t) h in let r = more k.1 in (r.0, (k.0, r.1)))
-    (λ f. subst (λ v. Each P v) (with_here m x marks f) h)
-
-each_kept : (P : Mark → Type 0) (marks : List Mark) → Each P (in_order marks) → Each P marks
-each_kept P [] h = tt
-each_kept P (m ∷ marks) h = let r = each_kept_with P m (in_order marks) h in (r.0, each_kept P marks r.1)
-
-each_at : (P : Mark → Type 0) (items : List KeptMark) → Each P (seen_all items) → (i : ℕ) (d : KeptMark) → i < length items → P (seen (get_or items i d))
+pub each_at : (P : Mark → Type 0) (items : List KeptMark) → Each P (seen_all items) → (i : ℕ) (d : KeptMark) → i < length items → P (seen (get_or items i d))
 each_at P [] h i d l = absurd (omega (arith, l))
 each_at P (m ∷ items) h zero d l = h.0
 each_at P (m ∷ items) h (suc i) d l = each_at P items h.1 i d (omega (arith, l))
-
--- what holds of all marks that are seen holds of a kept one
-pub fit_at : (most n : ℕ) (items : List KeptMark) (view : List Mark) → in_order (seen_all items) ≡ view → Each (λ m. m.place + n ≤ most) view → (i : ℕ) (d k : KeptMark) → i < length items → k ≡ get_or items i d → k.place + n ≤ most
-fit_at most n items view e h i d k l same =
-    let P : Mark → Type 0 = λ m. m.place + n ≤ most in
-    let all = each_kept P (seen_all items) (subst (λ v. Each P v) (sym e) h) in
-    subst (λ (v : KeptMark). P (seen v)) (sym same) (each_at P items all i d l)

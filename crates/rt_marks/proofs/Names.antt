@@ -95,7 +95,7 @@ apart m x n f =
     (λ g. let e = before_neither m x g f in
     let c : is_named m.name x ≡ true = subst (λ (v : Mark). is_named m.name v ≡ true) e (name_itself m.name) in cc)
 
-ordered_with : (m : Mark) (marks : List Mark) → named m.name marks ≡ None → AreInOrder marks → AreInOrder (with_mark m marks)
+pub ordered_with : (m : Mark) (marks : List Mark) → named m.name marks ≡ None → AreInOrder marks → AreInOrder (with_mark m marks)
 ordered_with m [] h k = (tt, tt)
 ordered_with m (x ∷ marks) h k =
     let more = ordered_with m marks (none_tail m.name x marks h) k.1 in
@@ -113,16 +113,7 @@ without_none q [] h = refl
 without_none q (m ∷ marks) h =
     ap (λ b. cond (not b) (m ∷ without q marks) (without q marks)) (none_head q m marks h) ∙ ap (λ v. m ∷ v) (without_none q marks (none_tail q m marks h))
 
--- the mark that was put in is taken away again
-pub without_with : (q : List ℕ) (m : Mark) (marks : List Mark) → is_named q m ≡ true → named q marks ≡ None → without q (with_mark m marks) ≡ marks
-without_with q m [] t h = ap (λ b. cond (not b) (m ∷ []) []) t
-without_with q m (x ∷ marks) t h =
-    let more = without_with q m marks t (none_tail q x marks h) in
-    split (comes_before x m)
-    (λ s. ap (without q) (with_passing m x marks s) ∙ ap (λ b. cond (not b) (x ∷ without q (with_mark m marks)) (without q (with_mark m marks))) (none_head q x marks h) ∙ ap (λ v. x ∷ v) more)
-    (λ s. ap (without q) (with_here m x marks s) ∙ ap (λ b. cond (not b) (m ∷ without q (x ∷ marks)) (without q (x ∷ marks))) t ∙ without_none q (x ∷ marks) h)
-
-none_middle : (q : List ℕ) (front : List Mark) (m : Mark) (back : List Mark) → named q (front ++ m ∷ back) ≡ None → is_named q m ≡ false
+pub none_middle : (q : List ℕ) (front : List Mark) (m : Mark) (back : List Mark) → named q (front ++ m ∷ back) ≡ None → is_named q m ≡ false
 none_middle q [] m back h = none_head q m back h
 none_middle q (x ∷ front) m back h = none_middle q front m back (none_tail q x (front ++ m ∷ back) h)
 
@@ -131,13 +122,6 @@ pub none_other : (front : List Mark) (m : Mark) (back : List Mark) → HaveOwnNa
 none_other [] m back h = h.0
 none_other (x ∷ front) m back h =
     none_cons m.name x (front ++ back) (differ_back m.name x.name (none_middle x.name front m back h.0)) (none_other front m back h.1)
-
-pub own_without : (front : List Mark) (m : Mark) (back : List Mark) → HaveOwnNames (front ++ m ∷ back) → HaveOwnNames (front ++ back)
-own_without [] m back h = h.1
-own_without (x ∷ front) m back h = (dropped front h.0, own_without front m back h.1) where
-  dropped : (ys : List Mark) → named x.name (ys ++ m ∷ back) ≡ None → named x.name (ys ++ back) ≡ None
-  dropped [] k = none_tail x.name m back k
-  dropped (y ∷ ys) k = none_cons x.name y (ys ++ back) (none_head x.name y (ys ++ m ∷ back) k) (dropped ys (none_tail x.name y (ys ++ m ∷ back) k))
 
 pub named_middle : (q : List ℕ) (front : List Mark) (m : Mark) (back : List Mark) → HaveOwnNames (front ++ m ∷ back) → q ≡ m.name → named q (front ++ m ∷ back) ≡ Some m
 named_middle q [] m back h e = ap (λ b. cond b (Some m) (named q back)) ((bytes_eq-Decides m.name q).1 (sym e))

@@ -6,6 +6,7 @@ pub mod gravity;
 pub mod laws;
 mod mark;
 pub mod marks;
+mod table;
 #[cfg(test)]
 mod tests;
 

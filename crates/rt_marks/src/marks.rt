@@ -3,7 +3,8 @@ ghost use Rattle.std.specs.Prelude.{◌≡◌, ◌+◌, ◌≤◌, ◌⊎◌, �
 ghost use Rattle.rt_marks.specs.Marks.{AreAscending, AreInOrder, Each, HaveOwnNames, IsName, first_mark_at, last_mark_before, mark_after, mark_before, marks_inserted, marks_removed, marks_set, marks_with_gravity, named, without};
 
 use crate::Gravity;
-use crate::mark::{self, Mark};
+use crate::mark::Mark;
+use crate::table::Table;
 use rt_stamps::Fault;
 use rt_stamps::limits::MOST_NAME_BYTES;
 use std::alloc::Global;
@@ -13,24 +14,24 @@ use std::marker::Model;
 /// characters before the mark. Contracts see the list of the marks in order: by place, then left
 /// gravity first, then by the bytes of the names.
 ///
-/// They are kept by their names. A look-up by name is a binary search; `next`, `previous`,
-/// `first_at` and `last_before` read each mark once and take no memory.
+/// `inserted` and `removed` read each mark a few times. Every other call but `names` is binary
+/// searches and the shift of numbers in two lists.
 #[derive(Drop)]
 pub struct Marks {
     alloc: Global,
-    by_name: Vec<Mark>,
+    table: Table,
 }
 
 impl Model for Marks {
     ghost use Rattle.std.specs.Prelude.{List};
-    ghost use Rattle.rt_marks.specs.Marks.{Mark, AreAscending, in_order};
-    ghost use Rattle.rt_marks.specs.Seen.{names_of, seen_all};
+    ghost use Rattle.rt_marks.specs.Marks.{Mark};
+    ghost use Rattle.rt_marks.specs.Tables.{IsTable, marks_of};
 
     ghost Value = { List Mark };
 
-    ghost view = { λ m. in_order (seen_all m.by_name.items) };
+    ghost view = { λ m. marks_of m.table };
 
-    ghost invariant = { λ m. AreAscending (names_of (seen_all m.by_name.items)) };
+    ghost invariant = { λ m. IsTable m.table };
 }
 
 impl Marks {
@@ -40,7 +41,7 @@ impl Marks {
     {
         Marks {
             alloc,
-            by_name: Vec::new(alloc),
+            table: Table::new(alloc),
         }
     }
 
@@ -49,7 +50,7 @@ impl Marks {
         ensures in_order { AreInOrder self.now }
         ensures own_names { HaveOwnNames self.now }
     {
-        let _ = &self.by_name;
+        let _ = &self.table;
     }
 
     /// Sets a mark at a place ("mark set"). One that is there keeps its gravity, and takes no memory;
@@ -66,22 +67,20 @@ impl Marks {
         if name.is_empty() || name.len() > MOST_NAME_BYTES {
             return Err(Fault::BadName);
         }
-        match mark::search(self.by_name.as_slice(), name) {
-            Ok(found) => {
-                let mark = &mut self.by_name[found];
-                mark.place = place;
-            }
+        match self.table.find_slot(name) {
+            Ok(slot) => self.table.set_place(slot, place),
             Err(gap) => {
                 let name = String::from_str(self.alloc, name)?;
+                self.table.reserve()?;
                 let gravity = Gravity::Right;
-                self.by_name.insert(
+                self.table.add(
                     gap,
                     Mark {
                         place,
                         gravity,
                         name,
                     },
-                )?;
+                );
             }
         }
         Ok(())
@@ -91,19 +90,14 @@ impl Marks {
     pub fn unset(&mut self, name: &str)
         ensures { self.new ≡ without name.now self.old }
     {
-        match mark::search(self.by_name.as_slice(), name) {
-            Ok(found) => {
-                self.by_name.remove(found);
-            }
-            Err(_) => {}
-        }
+        self.table.remove(name);
     }
 
     /// The place of a mark, none without a mark of the name.
     pub fn place(&self, name: &str) -> Option<usize>
         ensures { result ≡ option_map (λ m. m.place) (named name.now self.now) }
     {
-        let mark = mark::find(self.by_name.as_slice(), name)?;
+        let mark = self.table.find(name)?;
         Some(mark.place)
     }
 
@@ -111,7 +105,7 @@ impl Marks {
     pub fn gravity(&self, name: &str) -> Option<Gravity>
         ensures { result ≡ option_map (λ m. m.gravity) (named name.now self.now) }
     {
-        let mark = mark::find(self.by_name.as_slice(), name)?;
+        let mark = self.table.find(name)?;
         Some(mark.gravity)
     }
 
@@ -120,10 +114,9 @@ impl Marks {
         ensures marks { self.new ≡ marks_with_gravity name.now gravity self.old }
         ensures answer { result ≡ (if is_some (named name.now self.old) then Ok tt else Err Fault.NoMark) }
     {
-        match mark::search(self.by_name.as_slice(), name) {
-            Ok(found) => {
-                let mark = &mut self.by_name[found];
-                mark.gravity = gravity;
+        match self.table.find_slot(name) {
+            Ok(slot) => {
+                self.table.set_gravity(slot, gravity);
                 Ok(())
             }
             Err(_) => Err(Fault::NoMark),
@@ -135,8 +128,8 @@ impl Marks {
     pub fn next(&self, name: &str) -> Option<&str>
         ensures { option_copied result ≡ option_map (λ m. m.name) (mark_after name.now self.now) }
     {
-        let here = mark::find(self.by_name.as_slice(), name)?;
-        mark::first_after(self.by_name.as_slice(), here).map(|mark| mark.name.as_str())
+        let here = self.table.find(name)?;
+        self.table.first_after(here).map(|mark| mark.name.as_str())
     }
 
     /// The name of the mark before a mark in their order, none before the first one and without a
@@ -144,22 +137,22 @@ impl Marks {
     pub fn previous(&self, name: &str) -> Option<&str>
         ensures { option_copied result ≡ option_map (λ m. m.name) (mark_before name.now self.now) }
     {
-        let here = mark::find(self.by_name.as_slice(), name)?;
-        mark::last_until(self.by_name.as_slice(), here).map(|mark| mark.name.as_str())
+        let here = self.table.find(name)?;
+        self.table.last_until(here).map(|mark| mark.name.as_str())
     }
 
     /// The name of the first mark at or after a place, in the order of marks.
     pub fn first_at(&self, place: usize) -> Option<&str>
         ensures { option_copied result ≡ option_map (λ m. m.name) (first_mark_at place self.now) }
     {
-        mark::first_at(self.by_name.as_slice(), place).map(|mark| mark.name.as_str())
+        self.table.first_at(place).map(|mark| mark.name.as_str())
     }
 
     /// The name of the last mark strictly before a place, in the order of marks.
     pub fn last_before(&self, place: usize) -> Option<&str>
         ensures { option_copied result ≡ option_map (λ m. m.name) (last_mark_before place self.now) }
     {
-        mark::last_before(self.by_name.as_slice(), place).map(|mark| mark.name.as_str())
+        self.table.last_before(place).map(|mark| mark.name.as_str())
     }
 
     /// All names, by their bytes. `NoMemory` is its only fault.
@@ -168,10 +161,7 @@ impl Marks {
         ensures all { IfOk result (λ v. (name : List ℕ) → Contains (map (λ s. string_bytes s) v.items) name ↔ IsSome (named name self.now)) }
         ensures fault { IfErr result (λ fault. fault ≡ Fault.NoMemory) }
     {
-        let mut names = Vec::with_capacity(self.alloc, self.by_name.len())?;
-        for mark in &self.by_name {
-            names.push(mark.name.clone()?)?;
-        }
+        let names = self.table.names(self.alloc)?;
         Ok(names)
     }
 
@@ -181,9 +171,7 @@ impl Marks {
         requires fits { Each (λ m. m.place + n ≤ usize.MAX) self.old }
         ensures { self.new ≡ marks_inserted place n self.old }
     {
-        for mark in self.by_name.iter_mut() {
-            mark.place = mark.place_after_insertion(place, n);
-        }
+        self.table.inserted(place, n);
     }
 
     /// Moves the marks for the `n` characters from a place on that were removed: those within or just
@@ -191,8 +179,6 @@ impl Marks {
     pub fn removed(&mut self, place: usize, n: usize)
         ensures { self.new ≡ marks_removed place n self.old }
     {
-        for mark in self.by_name.iter_mut() {
-            mark.place = mark.place_after_removal(place, n);
-        }
+        self.table.removed(place, n);
     }
 }

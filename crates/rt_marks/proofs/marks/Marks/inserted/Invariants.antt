@@ -1,7 +1,0 @@
-use Rattle.std.proofs.Common.{◌≡◌, ◌++◌, map, take, drop}
-use Rattle.rt_marks.specs.Marks.{place_inserted}
-use Rattle.rt_marks.proofs.Moving.{replaced}
-use Rattle.rt_marks.proofs.marks.Marks.inserted.Given as goal
-
-abbrev pub invariant-loop-mark : goal.invariant-loop-mark
-invariant-loop-mark l = l.mark-items ≡ map (replaced (place_inserted l.place l.n)) (take l.mark-index l.initial.mark-items) ++ drop l.mark-index l.initial.mark-items

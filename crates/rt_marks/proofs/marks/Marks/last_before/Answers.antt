@@ -1,8 +1,0 @@
-use Rattle.std.proofs.Common.{subst, sym}
-use Rattle.rt_marks.specs.Marks.{HaveOwnNames}
-use Rattle.rt_marks.specs.Seen.{seen_all}
-use Rattle.rt_marks.proofs.Names.{own_ascending}
-use Rattle.rt_marks.proofs.marks.Marks.last_before.Goals as goal
-
-pub last_before-requires : goal.last_before-requires
-last_before-requires c = subst (λ v. HaveOwnNames (seen_all v)) (sym c.as_slice.ensures.value) (own_ascending _ c.self.invariant)
