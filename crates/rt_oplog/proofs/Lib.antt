@@ -1,4 +1,5 @@
 pub mod Adjacent
+pub mod Fields
 pub mod Joins
 pub mod Known
 pub mod Merges
@@ -6,3 +7,4 @@ pub mod Places
 pub mod Pushes
 pub mod Sets
 pub mod Spans
+pub mod Spelled

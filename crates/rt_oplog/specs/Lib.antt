@@ -1,5 +1,6 @@
 pub mod Edits
 pub mod Ends
+pub mod File
 pub mod Kept
 pub mod Logs
 pub mod Merged

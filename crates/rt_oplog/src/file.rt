@@ -1,0 +1,38 @@
+// The operation file.
+ghost use Rattle.std.specs.Prelude.{◌≡◌, ◌+◌, ◌⊎◌, reverse, IfErr, MatchResult};
+ghost use Rattle.rt_stamps.specs.declared.fault.Fault.TheVariants.{NoMemory, WriteFault};
+ghost use Rattle.rt_stamps.specs.Source.{failures_of};
+ghost use Rattle.rt_stamps.specs.Written.{Wrote};
+ghost use Rattle.rt_oplog.specs.File.{spelling, magic};
+
+use crate::OpLog;
+use crate::spell::spell;
+use rt_stamps::{Fault, Sink, write_all};
+use std::alloc::Global;
+
+#[tactic(auto, unfolding(crate::specs::File::magic))]
+fn write_magic<W: Sink>(out: &mut W) -> Result<(), Fault>
+    ensures wrote { Wrote (W.contents out.old) (W.contents out.new) result magic }
+    ensures fault { IfErr result (λ fault. fault ≡ WriteFault) }
+    ensures failures { W.failures out.new ≡ W.failures out.old + failures_of result }
+{
+    write_all(out, b"RGATEXT1")
+}
+
+/// Writes the file of a log's operations by rising stamp, one record after the other, through a
+/// buffer of a record. `NoMemory` where the buffer could not grow, `WriteFault` where a write failed;
+/// a front of the file was then written.
+pub fn write_file<W: Sink>(alloc: Global, log: &OpLog, out: &mut W) -> Result<(), Fault>
+    ensures wrote { Wrote (W.contents out.old) (W.contents out.new) result (spelling (reverse log.now.operations)) }
+    ensures failures { MatchResult result
+        (λ _. W.failures out.new ≡ W.failures out.old)
+        (λ fault. ((fault ≡ NoMemory) × (W.failures out.new ≡ W.failures out.old)) ⊎ ((fault ≡ WriteFault) × (W.failures out.new ≡ W.failures out.old + 1))) }
+{
+    write_magic(out)?;
+    let mut record = Vec::new(alloc);
+    for place in 0..log.len() {
+        spell(&mut record, log.get(place))?;
+        write_all(out, &record)?;
+    }
+    Ok(())
+}
