@@ -63,3 +63,30 @@ record_of op = number w32 (length (content_of op)) ++ content_of op
 -- a file of these operations, a record each
 abbrev pub spelling : List Operation → List ℕ
 spelling ops = magic ++ flat_map record_of ops
+
+-- What has a record: the numbers fit their fields, and the body keeps the rules.
+
+pub record StampFits (stamp : Stamp) : Type 0 where
+  pub count : stamp.count < 2 ^ 64
+  pub site : stamp.site < 2 ^ 16
+
+pub record SpanFits (span : Span) : Type 0 where
+  pub site : span.site < 2 ^ 16
+  pub first : span.first < 2 ^ 64
+  pub last : span.last < 2 ^ 64
+
+abbrev pub BodyFits : Body → Type 0
+BodyFits (Insert after tags text) = StampFits after
+BodyFits (Delete spans) = AllByRecursion SpanFits spans
+BodyFits (Tag on name spans) = AllByRecursion SpanFits spans
+
+pub record HasRecord (op : Operation) : Type 0 where
+  pub stamp : StampFits (stamp_of op)
+  pub prev : op.prev < 2 ^ 64
+  pub body : BodyFits op.body
+  pub rules : keeps_rules op.body ≡ true
+
+-- the operations of a file: each has a record, and their stamps rise strictly
+pub record AreInFile (ops : List Operation) : Type 0 where
+  pub records : AllByRecursion HasRecord ops
+  pub rising : each_next (λ a b. is_before (stamp_of a) (stamp_of b)) ops ≡ true

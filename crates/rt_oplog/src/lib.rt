@@ -1,8 +1,13 @@
 //! Operations of sites, and logs of them.
 #![tactic(auto)]
 
+mod decode;
 mod ends;
+mod fields;
+mod intake;
 pub mod file;
+#[cfg(test)]
+mod file_tests;
 pub mod laws;
 pub mod log;
 mod merge;
@@ -14,7 +19,7 @@ mod spell;
 mod tests;
 pub mod text;
 
-pub use file::write_file;
+pub use file::{Reading, read_file, write_file};
 pub use log::OpLog;
 pub use op::{Edit, Op};
 pub use text::Text;

@@ -156,7 +156,7 @@ fn kind(edit: &Edit) -> u8
 }
 
 /// What stands behind a record's length field.
-#[tactic(auto, using(crate::proofs::Fields::content_short))]
+#[tactic(auto, using(crate::proofs::Lengths::content_short))]
 fn push_content(out: &mut Vec<u8>, op: &Op) -> Result<(), Fault>
     ensures ok { OnOk result (out.new.items ≡ out.old.items ++ content_of op.now) }
     ensures short { length (content_of op.now) ≤ MOST_RECORD_BYTES }

@@ -1,4 +1,4 @@
-use Rattle.rt_oplog.proofs.Fields.{names_fit}
+use Rattle.rt_oplog.proofs.Lengths.{names_fit}
 use Rattle.rt_oplog.proofs.spell.push_body.Goals as goal
 
 pub push_tags-requires-clause-names : goal.push_tags-requires-clause-names

@@ -2,7 +2,7 @@ use Rattle.std.proofs.Common.{◌≡◌, ◌+◌, ◌-◌, ◌++◌, drop, lengt
 use Rattle.std.specs.Int.{w32}
 use Rattle.std.proofs.lemmas.List.{length-append}
 use Rattle.rt_oplog.specs.File.{number, content_of}
-use Rattle.rt_oplog.proofs.Fields.{patched}
+use Rattle.rt_oplog.proofs.Lengths.{patched}
 use Rattle.rt_oplog.proofs.spell.spell.Goals as goal
 
 pub overflow_cast-length : goal.overflow_cast-length
