@@ -1,8 +1,15 @@
 pub mod Adjacent
+pub mod Lengths
 pub mod Joins
 pub mod Known
 pub mod Merges
+pub mod Parts
 pub mod Places
 pub mod Pushes
+pub mod Readings
 pub mod Sets
 pub mod Spans
+pub mod Spelled
+pub mod Spells
+pub mod Taken
+pub mod Unique

@@ -1,9 +1,13 @@
+pub mod Decoding
 pub mod Edits
 pub mod Ends
+pub mod File
+pub mod Intake
 pub mod Kept
 pub mod Logs
 pub mod Merged
 pub mod Operations
 pub mod Outcomes
+pub mod Reading
 pub mod Rules
 pub mod Texts

@@ -1,17 +1,25 @@
 //! Operations of sites, and logs of them.
 #![tactic(auto)]
 
+mod decode;
 mod ends;
+mod fields;
+mod intake;
+pub mod file;
+#[cfg(test)]
+mod file_tests;
 pub mod laws;
 pub mod log;
 mod merge;
 pub mod op;
 mod rules;
 mod same;
+mod spell;
 #[cfg(test)]
 mod tests;
 pub mod text;
 
+pub use file::{Reading, read_file, write_file};
 pub use log::OpLog;
 pub use op::{Edit, Op};
 pub use text::Text;

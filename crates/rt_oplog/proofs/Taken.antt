@@ -1,0 +1,218 @@
+-- Bytes taken one piece after another.
+use Rattle.std.proofs.Common.{◌≡◌, ℕ, ◌+◌, ◌-◌, ◌^◌, ◌<◌, ◌≤◌, Bool, true, false, cond, List, [], ◌∷◌, ◌++◌, length, take, Option, Some, None, Result, Ok, Err, refl, sym, ap, subst, ◌∙◌, append_assoc, append-nil, arith, inl, inr}
+use Rattle.std.specs.Prelude.{◌⊎◌, min, max, not, nat_lt}
+use Rattle.std.specs.Str.{bytes_eq}
+use Rattle.std.proofs.lemmas.Bool.{false≢true}
+use Rattle.std.proofs.lemmas.Bool.Decides.{nat_tests}
+use Rattle.std.proofs.lemmas.Slice.Eq.{bytes_eq-Decides}
+use Rattle.std.specs.Int.{w32}
+use Rattle.std.specs.Io.KnownBytes.{Consumes, Keeps, IsAtEnd}
+use Rattle.std.proofs.lemmas.List.{length-append, length-take, nil_from_length}
+use Rattle.rt_stamps.specs.declared.limits.TheConstants.{FEWEST_RECORD_BYTES, MOST_RECORD_BYTES}
+use Rattle.rt_stamps.specs.declared.fault.Fault.{Fault}
+use Rattle.rt_stamps.specs.declared.fault.Fault.TheVariants.{NoMemory, BadMagic, BadVersion, Truncated, BadRecord, ReadFault}
+use Rattle.rt_oplog.specs.declared.intake.Bounds.{Bounds}
+use Rattle.rt_oplog.specs.Operations.{Operation}
+use Rattle.rt_oplog.specs.Decoding.{Refuses}
+use Rattle.rt_oplog.specs.File.{magic, number, content_of, record_of, HasRecord}
+use Rattle.rt_oplog.specs.Rules.{is_within}
+use Rattle.rt_oplog.specs.Reading.{file_name, head_fault, EndsEarly}
+use Rattle.rt_oplog.specs.Intake.{ReaderState, Takes, IsStopped, Gathers, HasNoRecord, Fails, AtEnd, GetsHead}
+use Rattle.rt_oplog.proofs.Lengths.{length_4, same_front, content_length, content_short}
+use Rattle.rt_oplog.proofs.Spells.{front_same_4}
+
+pub consumes_none : (a : Option (List ℕ)) → Consumes a a []
+consumes_none None = tt
+consumes_none (Some xs) = refl
+
+pub consumes_kept : (a b : Option (List ℕ)) → Keeps a b → Consumes a b []
+consumes_kept None b h = tt
+consumes_kept (Some xs) None h = h
+consumes_kept (Some xs) (Some ys) h = sym h
+
+pub consumes_then : (a b c : Option (List ℕ)) (s t : List ℕ) → Consumes a b s → Consumes b c t → Consumes a c (s ++ t)
+consumes_then None b c s t h k = tt
+consumes_then (Some xs) None c s t h k = absurd h
+consumes_then (Some xs) (Some ys) None s t h k = k
+consumes_then (Some xs) (Some ys) (Some zs) s t h k = h ∙ ap (λ v. s ++ v) k ∙ sym (append_assoc s t zs)
+
+pub takes_none : (a : ReaderState) (x : Bounds) → Takes a a x x []
+takes_none a x = record { consumed = consumes_none a.left; failures = refl; calls = refl; room = omega arith }
+
+pub takes_then : (a b c : ReaderState) (x y z : Bounds) (s t : List ℕ) → Takes a b x y s → Takes b c y z t → Takes a c x z (s ++ t)
+takes_then a b c x y z s t h k = record {
+  consumed = consumes_then a.left b.left c.left s t h.consumed k.consumed;
+  failures = k.failures ∙ h.failures;
+  calls = omega (arith, h.calls, k.calls);
+  room = omega (arith, h.room, k.room, length-append s t);
+}
+
+pub stopped_then : (a b c : ReaderState) (x y : Bounds) (s t : List ℕ) → Takes a b x y s → IsStopped b c y t → IsStopped a c x (s ++ t)
+stopped_then a b c x y s t h k = record {
+  within = omega (arith, h.room, k.within, length-append s t);
+  calls = omega (arith, h.calls, k.calls);
+  cause = elim k.cause [
+    | inl failed ↦ inl (consumes_then a.left b.left c.left s t h.consumed failed.0, failed.1 ∙ ap (λ n. n + 1) h.failures)
+    | inr more ↦ elim more [
+      | inl spent ↦ inr (inl (consumes_then a.left b.left c.left s t h.consumed spent.0, spent.1 ∙ h.failures, omega (arith, spent.2, h.calls)))
+      | inr over ↦ inr (inr (over.0, subst (Consumes a.left c.left) (sym (append_assoc s t (over.0 ∷ []))) (consumes_then a.left b.left c.left s (t ++ over.0 ∷ []) h.consumed over.1), over.2 ∙ h.failures, omega (arith, over.3, h.room, length-append s t)))
+    ]
+  ];
+}
+
+-- one byte
+pub one_byte : (n : ℕ) (buf : List ℕ) → n ≡ 1 → n ≤ length buf → (byte : ℕ) × (take n buf ≡ byte ∷ [])
+one_byte n [] e h = absurd (omega arith)
+one_byte n (byte ∷ buf) e h = (byte, ap (λ k. take k (byte ∷ buf)) e)
+
+-- why a field isn't gathered is why the record isn't read
+pub not_gathered : (a b c : ReaderState) (x y z : Bounds) (front : List ℕ) (wanted : ℕ) (fault : Fault) → Takes a b x y front → ((taken : List ℕ) → length taken < wanted → EndsEarly (front ++ taken))
+    → ((fault ≡ NoMemory) × (taken : List ℕ) × Takes b c y z taken) ⊎ ((fault ≡ ReadFault) × (taken : List ℕ) × (length taken < wanted) × IsStopped b c y taken)
+    → Fails a c x z fault
+not_gathered a b c x y z front wanted fault h early (inl memory) = (front ++ memory.1, inl (memory.0, takes_then a b c x y z front memory.1 h memory.2))
+not_gathered a b c x y z front wanted fault h early (inr stop) =
+    (front ++ stop.1, inr (inr (inr (stop.0, stopped_then a b c x y front stop.1 h stop.3, early stop.1 stop.2))))
+
+pub short_field : (taken : List ℕ) → length taken < 4 → EndsEarly ([] ++ taken)
+short_field taken lt = inl lt
+
+pub short_content : (n : ℕ) → FEWEST_RECORD_BYTES ≤ n → n ≤ MOST_RECORD_BYTES → (taken : List ℕ) → length taken < n → EndsEarly (number w32 n ++ taken)
+short_content n least most taken lt = inr (n, taken, refl, least, most, lt)
+
+-- the length field alone
+pub only_length : (buffer rest : List ℕ) (n : ℕ) → buffer ≡ number w32 n ++ rest → length buffer ≤ 4 → buffer ≡ number w32 n
+only_length buffer rest n parts short =
+    let none : rest ≡ [] = nil_from_length rest (omega (arith, ap length parts, length-append (number w32 n) rest, length_4 n)) in
+    parts ∙ ap (λ v. number w32 n ++ v) none ∙ append-nil (number w32 n)
+
+pub bad_length : (buffer : List ℕ) (n : ℕ) → n < 2 ^ 32 → buffer ≡ number w32 n → ((FEWEST_RECORD_BYTES ≤ n) × (n ≤ MOST_RECORD_BYTES) → ⊥) → HasNoRecord buffer
+bad_length buffer n few is out = record {
+  some = omega (arith, ap length is, length_4 n);
+  whole = λ more early. elim early [
+    | inl lt ↦ omega (arith, length-append buffer more, ap length is, length_4 n)
+    | inr r ↦ (let p = front_same_4 n r.0 more r.1 few (omega (arith, r.4)) (ap (λ v. v ++ more) (sym is) ∙ r.2) in out (omega (arith, p.0, r.3), omega (arith, p.0, r.4)))
+  ];
+  none = λ op more tail has e.
+      let len = length (content_of op) in
+      let short = content_short op has.rules in
+      let p = front_same_4 n len more (content_of op ++ tail) few (omega (arith, short)) (ap (λ v. v ++ more) (sym is) ∙ e ∙ append_assoc (number w32 len) (content_of op) tail) in
+      out (omega (arith, p.0, content_length op), omega (arith, p.0, short));
+}
+
+pub bad_content : (content : List ℕ) (n : ℕ) → FEWEST_RECORD_BYTES ≤ n → n ≤ MOST_RECORD_BYTES → length content ≡ n → ((op : Operation) → HasRecord op → content ≡ content_of op → ⊥) → HasNoRecord (number w32 n ++ content)
+bad_content content n least most size none = record {
+  some = omega (arith, length-append (number w32 n) content, length_4 n);
+  whole = λ more early. elim early [
+    | inl lt ↦ omega (arith, length-append (number w32 n ++ content) more, length-append (number w32 n) content, length_4 n)
+    | inr r ↦ (
+        let p = front_same_4 n r.0 (content ++ more) r.1 (omega (arith, most)) (omega (arith, r.4)) (sym (append_assoc (number w32 n) content more) ∙ r.2) in
+        omega (arith, p.0, ap length p.1, length-append content more, r.5, size))
+  ];
+  none = λ op more tail has e.
+      let len = length (content_of op) in
+      let short = content_short op has.rules in
+      let p = front_same_4 n len (content ++ more) (content_of op ++ tail) (omega (arith, most)) (omega (arith, short))
+          (sym (append_assoc (number w32 n) content more) ∙ e ∙ append_assoc (number w32 len) (content_of op) tail) in
+      let q = same_front content (content_of op) more tail (size ∙ p.0) p.1 in
+      none op has q.0;
+}
+
+-- why a record's bytes are refused
+pub not_decoded : (a b : ReaderState) (x y : Bounds) (content : List ℕ) (n : ℕ) (fault : Fault) → Takes a b x y (number w32 n ++ content) → FEWEST_RECORD_BYTES ≤ n → n ≤ MOST_RECORD_BYTES → length content ≡ n
+    → Refuses fault ((op : Operation) → HasRecord op → content ≡ content_of op → ⊥) → Fails a b x y fault
+not_decoded a b x y content n fault h least most size (inl memory) = (number w32 n ++ content, inl (memory, h))
+not_decoded a b x y content n fault h least most size (inr bad) = (number w32 n ++ content, inr (inr (inl (bad.0, h, bad_content content n least most size bad.1))))
+
+-- ---- one read
+
+pub stopped_spent : (a : ReaderState) (x : Bounds) → x.reads ≡ 0 → IsStopped a a x []
+stopped_spent a x none = record {
+  within = omega arith;
+  calls = omega arith;
+  cause = inr (inl (consumes_none a.left, refl, omega (arith, none)));
+}
+
+pub stopped_failed : (a b : ReaderState) (x : Bounds) → (x.reads ≡ 0 → ⊥) → Keeps a.left b.left → b.calls ≡ a.calls + 1 → b.failures ≡ a.failures + 1 → IsStopped a b x []
+stopped_failed a b x some kept calls failures = record {
+  within = omega arith;
+  calls = omega (arith, some, calls);
+  cause = inl (consumes_kept a.left b.left kept, failures);
+}
+
+pub stopped_over : (a b : ReaderState) (x : Bounds) (n most : ℕ) (buf : List ℕ) → (x.reads ≡ 0 → ⊥) → Consumes a.left b.left (take n buf) → n ≤ length buf → n ≤ max (min x.bytes most) 1 → x.bytes < n → b.calls ≡ a.calls + 1 → b.failures ≡ a.failures → IsStopped a b x []
+stopped_over a b x n most buf some consumed long bounded over calls failures =
+    let byte = one_byte n buf (omega (arith, bounded, over)) long in
+    record {
+      within = omega arith;
+      calls = omega (arith, some, calls);
+      cause = inr (inr (byte.0, subst (Consumes a.left b.left) byte.1 consumed, failures, omega (arith, bounded, over)));
+    }
+
+pub took_some : (a b : ReaderState) (x : Bounds) (n : ℕ) (buf : List ℕ) → (x.reads ≡ 0 → ⊥) → Consumes a.left b.left (take n buf) → n ≤ length buf → n ≤ x.bytes → b.calls ≡ a.calls + 1 → b.failures ≡ a.failures → Takes a b x (record { bytes = x.bytes - n; reads = x.reads - 1 }) (take n buf)
+took_some a b x n buf some consumed long room calls failures = record {
+  consumed = consumed;
+  failures = failures;
+  calls = omega (arith, some, calls);
+  room = omega (arith, room, long, length-take n buf);
+}
+
+-- ---- several reads
+
+pub takes_empty : (a b c : ReaderState) (x y z : Bounds) (s buf : List ℕ) (n : ℕ) → n ≡ 0 → Takes a b x y s → Takes b c y z (take n buf) → Takes a c x z s
+takes_empty a b c x y z s buf n none h k = subst (Takes a c x z) (append-nil s) (takes_then a b c x y z s [] h (subst (λ m. Takes b c y z (take m buf)) none k))
+
+pub stopped_in : (a b c : ReaderState) (x y : Bounds) (s : List ℕ) → Takes a b x y s → IsStopped b c y [] → IsStopped a c x s
+stopped_in a b c x y s h k = subst (IsStopped a c x) (append-nil s) (stopped_then a b c x y s [] h k)
+
+-- ---- a length field
+
+pub nothing_left : (a b : ReaderState) (x y : Bounds) (s : List ℕ) → length s ≡ 0 → Takes a b x y s → (length s < 4 → IsAtEnd b.left) → AtEnd a b x y
+nothing_left a b x y s none h end = (subst (Takes a b x y) (nil_from_length s none) h, end (omega (arith, none)))
+
+pub cut_length : (a b : ReaderState) (x y : Bounds) (s : List ℕ) → (length s ≡ 0 → ⊥) → length s < 4 → Takes a b x y s → (length s < 4 → IsAtEnd b.left) → Fails a b x y Truncated
+cut_length a b x y s some lt h end = (s, inr (inl (refl, h, end lt, omega (arith, some), inl lt)))
+
+pub refused_length : (a b : ReaderState) (x y : Bounds) (s rest : List ℕ) (n : ℕ) → n < 2 ^ 32 → s ≡ number w32 n ++ rest → length s ≤ 4 → Takes a b x y s → is_within FEWEST_RECORD_BYTES MOST_RECORD_BYTES n ≡ false → Fails a b x y BadRecord
+refused_length a b x y s rest n few parts short h out =
+    (s, inr (inr (inl (refl, h, bad_length s n few (only_length s rest n parts short) (λ range.
+        let inside : is_within FEWEST_RECORD_BYTES MOST_RECORD_BYTES n ≡ true = grind (arith, nat_tests, range.0, range.1) in
+        false≢true (sym out ∙ inside))))))
+
+pub got_length : (a b : ReaderState) (x y : Bounds) (s rest : List ℕ) (n : ℕ) → s ≡ number w32 n ++ rest → length s ≤ 4 → Takes a b x y s → is_within FEWEST_RECORD_BYTES MOST_RECORD_BYTES n ≡ true
+    → Takes a b x y (number w32 n) × (FEWEST_RECORD_BYTES ≤ n) × (n ≤ MOST_RECORD_BYTES)
+got_length a b x y s rest n parts short h inside = (subst (Takes a b x y) (only_length s rest n parts short) h, grind (arith, nat_tests), grind (arith, nat_tests))
+
+-- ---- what a record has behind it
+
+pub cut_content : (a b c : ReaderState) (x y z : Bounds) (n : ℕ) (content : List ℕ) → Takes a b x y (number w32 n) → FEWEST_RECORD_BYTES ≤ n → n ≤ MOST_RECORD_BYTES → Takes b c y z content → length content < n → (length content < n → IsAtEnd c.left) → Fails a c x z Truncated
+cut_content a b c x y z n content h least most k lt end =
+    (number w32 n ++ content, inr (inl (refl, takes_then a b c x y z (number w32 n) content h k, end lt, omega (arith, length-append (number w32 n) content, length_4 n), inr (n, content, refl, least, most, lt))))
+
+pub refused_content : (a b c : ReaderState) (x y z : Bounds) (n : ℕ) (content : List ℕ) (fault : Fault) → Takes a b x y (number w32 n) → FEWEST_RECORD_BYTES ≤ n → n ≤ MOST_RECORD_BYTES → Takes b c y z content → length content ≤ n → n ≤ length content
+    → Refuses fault ((op : Operation) → HasRecord op → content ≡ content_of op → ⊥) → Fails a c x z fault
+refused_content a b c x y z n content fault h least most k short long refuses =
+    not_decoded a c x z content n fault (takes_then a b c x y z (number w32 n) content h k) least most (omega arith) refuses
+
+pub got_content : (a b c : ReaderState) (x y z : Bounds) (n : ℕ) (content : List ℕ) (op : Operation) → Takes a b x y (number w32 n) → Takes b c y z content → length content ≤ n → n ≤ length content → content ≡ content_of op → Takes a c x z (record_of op)
+got_content a b c x y z n content op h k short long e =
+    let size : n ≡ length (content_of op) = omega (arith, ap length e) in
+    subst (Takes a c x z) (λ i. number w32 (size i) ++ e i) (takes_then a b c x y z (number w32 n) content h k)
+
+-- ---- the first eight bytes
+
+no_fault : (a b c : Bool) → cond (not a) (Some BadMagic) (cond b (Some Truncated) (cond c None (Some BadVersion))) ≡ None → c ≡ true
+no_fault false b c e = absurd cc
+no_fault true true c e = absurd cc
+no_fault true false true e = refl
+no_fault true false false e = absurd cc
+
+pub head_is_magic : (front : List ℕ) → head_fault front ≡ None → front ≡ magic
+head_is_magic front h = (bytes_eq-Decides front magic).0 (no_fault (bytes_eq (take 7 front) (take (length front) file_name)) (nat_lt (length front) 8) (bytes_eq front magic) h)
+
+pub head_not_gathered : (a b : ReaderState) (x y : Bounds) (fault : Fault) → ((fault ≡ NoMemory) × (taken : List ℕ) × Takes a b x y taken) ⊎ ((fault ≡ ReadFault) × (taken : List ℕ) × (length taken < 8) × IsStopped a b x taken)
+    → GetsHead a b x y (Err fault)
+head_not_gathered a b x y fault (inl memory) = (memory.1, inl (memory.0, memory.2))
+head_not_gathered a b x y fault (inr stop) = (stop.1, inr (inr (stop.0, stop.3, stop.2)))
+
+pub took_magic : (a b : ReaderState) (x y : Bounds) (s front : List ℕ) → front ≡ s → head_fault front ≡ None → Takes a b x y s → Takes a b x y magic
+took_magic a b x y s front same none h = subst (Takes a b x y) (sym same ∙ head_is_magic front none) h

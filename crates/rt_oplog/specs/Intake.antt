@@ -1,0 +1,94 @@
+-- Bytes taken from a reader, within the bounds of a file.
+use Rattle.std.specs.Prelude.{◌≡◌, ◌⊎◌, ℕ, ◌+◌, ◌<◌, ◌≤◌, List, [], ◌∷◌, ◌++◌, length, take, Option, Some, None, Result, MatchResult, MatchOption, IfSome}
+use Rattle.std.specs.Int.{w32}
+use Rattle.std.specs.Io.KnownBytes.{Consumes, IsAtEnd}
+use Rattle.rt_stamps.specs.declared.limits.TheConstants.{FEWEST_RECORD_BYTES, MOST_RECORD_BYTES, MOST_BYTES, MOST_READS}
+use Rattle.rt_stamps.specs.declared.fault.Fault.{Fault}
+use Rattle.rt_stamps.specs.declared.fault.Fault.TheVariants.{NoMemory, Truncated, BadRecord, ReadFault}
+use Rattle.rt_oplog.specs.declared.intake.Bounds.{Bounds}
+use Rattle.rt_oplog.specs.Operations.{Operation}
+use Rattle.rt_oplog.specs.File.{magic, number, record_of, HasRecord}
+use Rattle.rt_oplog.specs.Reading.{head_fault, EndsEarly, Reads, Stops}
+
+-- a reader: its calls, how many of them failed, and the bytes that are left where they are known
+pub record ReaderState : Type 0 where
+  pub calls : ℕ
+  pub failures : ℕ
+  pub left : Option (List ℕ)
+
+-- These bytes were taken, and no read failed. `had` and `has` are what the bounds allowed before and allow now.
+pub record Takes (old new : ReaderState) (had has : Bounds) (bytes : List ℕ) : Type 0 where
+  pub consumed : Consumes old.left new.left bytes
+  pub failures : new.failures ≡ old.failures
+  pub calls : new.calls + has.reads ≡ old.calls + had.reads
+  pub room : length bytes + has.bytes ≡ had.bytes
+
+-- These bytes were taken, and then a read failed, or no further read was allowed, or one more byte came than is allowed.
+pub record IsStopped (old new : ReaderState) (had : Bounds) (bytes : List ℕ) : Type 0 where
+  pub within : length bytes ≤ had.bytes
+  pub calls : new.calls ≤ old.calls + had.reads
+  pub cause : (Consumes old.left new.left bytes × (new.failures ≡ old.failures + 1))
+      ⊎ ((Consumes old.left new.left bytes × (new.failures ≡ old.failures) × (new.calls ≡ old.calls + had.reads))
+      ⊎ ((byte : ℕ) × Consumes old.left new.left (bytes ++ byte ∷ []) × (new.failures ≡ old.failures) × (length bytes ≡ had.bytes)))
+
+-- a read of at most so many bytes, none only at the end
+abbrev pub GetsSome : ReaderState → ReaderState → Bounds → Bounds → ℕ → Result ℕ Fault → List ℕ → Type 0
+GetsSome old new had has most result buf = MatchResult result
+    (λ n. (n ≤ length buf) × (n ≤ most) × Takes old new had has (take n buf) × (n ≡ 0 → IsAtEnd new.left))
+    (λ fault. (fault ≡ ReadFault) × IsStopped old new had [])
+
+-- so many bytes, fewer only at the end
+abbrev pub Gathers : ReaderState → ReaderState → Bounds → Bounds → ℕ → Result (Unit {0}) Fault → List ℕ → Type 0
+Gathers old new had has wanted result bytes = MatchResult result
+    (λ _. Takes old new had has bytes × (length bytes ≤ wanted) × (length bytes < wanted → IsAtEnd new.left))
+    (λ fault. ((fault ≡ NoMemory) × (taken : List ℕ) × Takes old new had has taken)
+        ⊎ ((fault ≡ ReadFault) × (taken : List ℕ) × (length taken < wanted) × IsStopped old new had taken))
+
+-- whatever follows, these bytes are whole and begin with the record of no operation
+pub record HasNoRecord (bytes : List ℕ) : Type 0 where
+  pub some : 0 < length bytes
+  pub whole : (more : List ℕ) → EndsEarly (bytes ++ more) → ⊥
+  pub none : (op : Operation) (more tail : List ℕ) → HasRecord op → bytes ++ more ≡ record_of op ++ tail → ⊥
+
+-- why a record isn't read, with the bytes of it that were taken
+abbrev pub Fails : ReaderState → ReaderState → Bounds → Bounds → Fault → Type 0
+Fails old new had has fault = (bytes : List ℕ) × (
+    ((fault ≡ NoMemory) × Takes old new had has bytes)
+    ⊎ (((fault ≡ Truncated) × Takes old new had has bytes × IsAtEnd new.left × (0 < length bytes) × EndsEarly bytes)
+    ⊎ (((fault ≡ BadRecord) × Takes old new had has bytes × HasNoRecord bytes)
+    ⊎ ((fault ≡ ReadFault) × IsStopped old new had bytes × EndsEarly bytes))))
+
+abbrev pub AtEnd : ReaderState → ReaderState → Bounds → Bounds → Type 0
+AtEnd old new had has = Takes old new had has [] × IsAtEnd new.left
+
+-- a record's length field, or none at the end
+abbrev pub GetsLength : ReaderState → ReaderState → Bounds → Bounds → Result (Option ℕ) Fault → Type 0
+GetsLength old new had has result = MatchResult result
+    (λ found. MatchOption found (AtEnd old new had has) (λ n. Takes old new had has (number w32 n) × (FEWEST_RECORD_BYTES ≤ n) × (n ≤ MOST_RECORD_BYTES)))
+    (Fails old new had has)
+
+-- a record, or none at the end
+abbrev pub GetsRecord : ReaderState → ReaderState → Bounds → Bounds → Result (Option Operation) Fault → Type 0
+GetsRecord old new had has result = MatchResult result
+    (λ found. MatchOption found (AtEnd old new had has) (λ op. Takes old new had has (record_of op) × HasRecord op))
+    (Fails old new had has)
+
+-- the first eight bytes of a file, or why they aren't read
+abbrev pub GetsHead : ReaderState → ReaderState → Bounds → Bounds → Result (Unit {0}) Fault → Type 0
+GetsHead old new had has result = MatchResult result
+    (λ _. Takes old new had has magic)
+    (λ fault. (bytes : List ℕ) × (
+        ((fault ≡ NoMemory) × Takes old new had has bytes)
+        ⊎ (((head_fault bytes ≡ Some fault) × Takes old new had has bytes × (length bytes ≤ 8) × (length bytes < 8 → IsAtEnd new.left))
+        ⊎ ((fault ≡ ReadFault) × IsStopped old new had bytes × (length bytes < 8)))))
+
+-- what a file may take
+abbrev pub FILE_BOUNDS : Bounds
+FILE_BOUNDS = record { bytes = MOST_BYTES; reads = MOST_READS }
+
+-- The bytes that were left are read, where they are known, and no read failed. Or reading was stopped before any fault:
+-- a read failed, or a bound was passed.
+abbrev pub ReadsFile : ReaderState → ReaderState → List Operation → List ℕ → Option (Fault × ℕ) → Type 0
+ReadsFile old new ops offsets fault =
+    ((new.failures ≡ old.failures) × (new.calls ≤ old.calls + MOST_READS) × IfSome old.left (λ bytes. Reads bytes ops offsets fault))
+    ⊎ ((at : ℕ) × (front : List ℕ) × (fault ≡ Some (ReadFault, at)) × Stops front ops offsets at × IsStopped old new FILE_BOUNDS front)

@@ -1,0 +1,436 @@
+// Files of a few operations.
+ghost use Rattle.std.specs.Prelude.{◌≡◌, ◌<◌};
+
+use crate::{Edit, OpLog, Reading, read_file, write_file};
+use rt_stamps::std_ends::{Count, Reader, Writer};
+use rt_stamps::{Fault, ROOT, Span, Stamp};
+use std::alloc::Global;
+use std::io::{self, Read, Write};
+use std::marker::Brand;
+use std::sync::ledger::{Blank, Ledger};
+use std::test::Fail;
+
+// Site 1 typed `ab`.
+const INSERT_AB: [u8; 44] = [
+    0x52, 0x47, 0x41, 0x54, 0x45, 0x58, 0x54, 0x31, 0x00, 0x00, 0x00, 0x20,
+    0x01, 0x00, 0x00, 0x00, 0x00, 0x00, 0x00, 0x00, 0x01, 0x00, 0x01, 0x00,
+    0x00, 0x00, 0x00, 0x00, 0x00, 0x00, 0x00, 0x00, 0x00, 0x00, 0x00, 0x00,
+    0x00, 0x00, 0x00, 0x00, 0x00, 0x00, 0x61, 0x62,
+];
+
+// Site 1 typed `ab` and took the `b` away.
+const DELETE_SECOND: [u8; 89] = [
+    0x52, 0x47, 0x41, 0x54, 0x45, 0x58, 0x54, 0x31, 0x00, 0x00, 0x00, 0x20,
+    0x01, 0x00, 0x00, 0x00, 0x00, 0x00, 0x00, 0x00, 0x01, 0x00, 0x01, 0x00,
+    0x00, 0x00, 0x00, 0x00, 0x00, 0x00, 0x00, 0x00, 0x00, 0x00, 0x00, 0x00,
+    0x00, 0x00, 0x00, 0x00, 0x00, 0x00, 0x61, 0x62, 0x00, 0x00, 0x00, 0x29,
+    0x02, 0x00, 0x00, 0x00, 0x00, 0x00, 0x00, 0x00, 0x03, 0x00, 0x01, 0x00,
+    0x00, 0x00, 0x00, 0x00, 0x00, 0x00, 0x02, 0x00, 0x00, 0x00, 0x01, 0x00,
+    0x01, 0x00, 0x00, 0x00, 0x00, 0x00, 0x00, 0x00, 0x02, 0x00, 0x00, 0x00,
+    0x00, 0x00, 0x00, 0x00, 0x02,
+];
+
+// Site 2 typed `Y` after the `a`.
+const INSERT_Y: [u8; 43] = [
+    0x52, 0x47, 0x41, 0x54, 0x45, 0x58, 0x54, 0x31, 0x00, 0x00, 0x00, 0x1f,
+    0x01, 0x00, 0x00, 0x00, 0x00, 0x00, 0x00, 0x00, 0x03, 0x00, 0x02, 0x00,
+    0x00, 0x00, 0x00, 0x00, 0x00, 0x00, 0x00, 0x00, 0x00, 0x00, 0x00, 0x00,
+    0x00, 0x00, 0x01, 0x00, 0x01, 0x00, 0x59,
+];
+
+// Site 9 typed `z` at the greatest count.
+const INSERT_LAST: [u8; 43] = [
+    0x52, 0x47, 0x41, 0x54, 0x45, 0x58, 0x54, 0x31, 0x00, 0x00, 0x00, 0x1f,
+    0x01, 0x00, 0x00, 0xff, 0xff, 0xff, 0xff, 0xff, 0xff, 0x00, 0x09, 0x00,
+    0x00, 0x00, 0x00, 0x00, 0x00, 0x00, 0x00, 0x00, 0x00, 0x00, 0x00, 0x00,
+    0x00, 0x00, 0x00, 0x00, 0x00, 0x00, 0x7a,
+];
+
+// Site 1 typed `b` with the stamp of the `a`.
+const INSERT_B: [u8; 43] = [
+    0x52, 0x47, 0x41, 0x54, 0x45, 0x58, 0x54, 0x31, 0x00, 0x00, 0x00, 0x1f,
+    0x01, 0x00, 0x00, 0x00, 0x00, 0x00, 0x00, 0x00, 0x01, 0x00, 0x01, 0x00,
+    0x00, 0x00, 0x00, 0x00, 0x00, 0x00, 0x00, 0x00, 0x00, 0x00, 0x00, 0x00,
+    0x00, 0x00, 0x00, 0x00, 0x00, 0x00, 0x62,
+];
+
+// Site 1 typed `a` after its own stamp.
+const AFTER_ITSELF: [u8; 43] = [
+    0x52, 0x47, 0x41, 0x54, 0x45, 0x58, 0x54, 0x31, 0x00, 0x00, 0x00, 0x1f,
+    0x01, 0x00, 0x00, 0x00, 0x00, 0x00, 0x00, 0x00, 0x01, 0x00, 0x01, 0x00,
+    0x00, 0x00, 0x00, 0x00, 0x00, 0x00, 0x00, 0x00, 0x00, 0x00, 0x00, 0x00,
+    0x00, 0x00, 0x01, 0x00, 0x01, 0x00, 0x61,
+];
+
+// Site 1 took the last newline away.
+const DELETE_FINAL: [u8; 53] = [
+    0x52, 0x47, 0x41, 0x54, 0x45, 0x58, 0x54, 0x31, 0x00, 0x00, 0x00, 0x29,
+    0x02, 0x00, 0x00, 0x00, 0x00, 0x00, 0x00, 0x00, 0x01, 0x00, 0x01, 0x00,
+    0x00, 0x00, 0x00, 0x00, 0x00, 0x00, 0x00, 0x00, 0x00, 0x00, 0x01, 0x00,
+    0x00, 0x00, 0x00, 0x00, 0x00, 0x00, 0x00, 0x00, 0x01, 0x00, 0x00, 0x00,
+    0x00, 0x00, 0x00, 0x00, 0x01,
+];
+
+// A length that no record has.
+const SHORT_LENGTH: [u8; 12] = [
+    0x52, 0x47, 0x41, 0x54, 0x45, 0x58, 0x54, 0x31, 0x00, 0x00, 0x00, 0x12,
+];
+
+// Site 1 typed `ab` and tagged the `a`.
+const TAG_FIRST: [u8; 92] = [
+    0x52, 0x47, 0x41, 0x54, 0x45, 0x58, 0x54, 0x31, 0x00, 0x00, 0x00, 0x20,
+    0x01, 0x00, 0x00, 0x00, 0x00, 0x00, 0x00, 0x00, 0x01, 0x00, 0x01, 0x00,
+    0x00, 0x00, 0x00, 0x00, 0x00, 0x00, 0x00, 0x00, 0x00, 0x00, 0x00, 0x00,
+    0x00, 0x00, 0x00, 0x00, 0x00, 0x00, 0x61, 0x62, 0x00, 0x00, 0x00, 0x2c,
+    0x03, 0x00, 0x00, 0x00, 0x00, 0x00, 0x00, 0x00, 0x03, 0x00, 0x01, 0x00,
+    0x00, 0x00, 0x00, 0x00, 0x00, 0x00, 0x02, 0x01, 0x01, 0x74, 0x00, 0x00,
+    0x00, 0x01, 0x00, 0x01, 0x00, 0x00, 0x00, 0x00, 0x00, 0x00, 0x00, 0x01,
+    0x00, 0x00, 0x00, 0x00, 0x00, 0x00, 0x00, 0x01,
+];
+
+// A reader that gives at most so many bytes at a time, and whose read of a number fails.
+#[derive(Drop)]
+struct Pieces<'a> {
+    bytes: &'a [u8],
+    size: usize,
+    until_failure: Option<usize>,
+}
+
+impl Read for Pieces<'_> {
+    ghost use Rattle.std.specs.Prelude.{None};
+
+    ghost remaining = { λ _. None };
+
+    fn read(&mut self, buf: &mut [u8]) -> io::Result<usize> {
+        if self.until_failure == Some(0) {
+            return Err(io::Error::from(io::ErrorKind::Other));
+        }
+        self.until_failure = self.until_failure.map(|n| n.saturating_sub(1));
+        let n = self.size.min(buf.len());
+        self.bytes.read(&mut buf[..n])
+    }
+}
+
+// A writer whose write of a number fails.
+#[derive(Drop)]
+struct Output {
+    bytes: Vec<u8>,
+    until_failure: Option<usize>,
+}
+
+impl Write for Output {
+    ghost use Rattle.std.specs.Prelude.{None};
+
+    ghost contents = { λ _. None };
+
+    fn write(&mut self, buf: &[u8]) -> io::Result<usize> {
+        if self.until_failure == Some(0) {
+            return Err(io::Error::from(io::ErrorKind::Other));
+        }
+        self.until_failure = self.until_failure.map(|n| n.saturating_sub(1));
+        self.bytes.write(buf)
+    }
+
+    fn flush(&mut self) -> io::Result<()> {
+        Ok(())
+    }
+}
+
+fn read_in<A: Ledger, B: Ledger>(
+    alloc: Global,
+    pieces: Pieces,
+    reads: Blank,
+    failures: Blank,
+) -> Result<Reading, Fault>
+    requires reads { (reads.name ≡ A.name) × (reads.parts ≡ A.parts) × (0 < A.parts) }
+    requires failures { (failures.name ≡ B.name) × (failures.parts ≡ B.parts) × (0 < B.parts) }
+{
+    let mut reader = Reader::new(
+        pieces,
+        Count::<A>::begin(reads),
+        Count::<B>::begin(failures),
+    );
+    read_file(alloc, &mut reader)
+}
+
+fn read_pieces(
+    alloc: Global,
+    bytes: &[u8],
+    size: usize,
+    until_failure: Option<usize>,
+) -> Result<Reading, Fault> {
+    let pieces = Pieces {
+        bytes,
+        size,
+        until_failure,
+    };
+    read_in::<Brand, Brand>(alloc, pieces, Blank::new(1), Blank::new(1))
+}
+
+fn read_bytes(alloc: Global, bytes: &[u8]) -> Result<Reading, Fault> {
+    read_pieces(alloc, bytes, 4096, None)
+}
+
+fn write_in<A: Ledger, B: Ledger>(
+    alloc: Global,
+    log: &OpLog,
+    out: Output,
+    writes: Blank,
+    failures: Blank,
+) -> (Vec<u8>, Option<Fault>)
+    requires writes { (writes.name ≡ A.name) × (writes.parts ≡ A.parts) × (0 < A.parts) }
+    requires failures { (failures.name ≡ B.name) × (failures.parts ≡ B.parts) × (0 < B.parts) }
+{
+    let mut out = Writer::new(
+        out,
+        Count::<A>::begin(writes),
+        Count::<B>::begin(failures),
+    );
+    let fault = write_file(alloc, log, &mut out).err();
+    let Output { bytes, .. } = out.into_inner();
+    (bytes, fault)
+}
+
+fn write_bytes(
+    alloc: Global,
+    log: &OpLog,
+    until_failure: Option<usize>,
+) -> (Vec<u8>, Option<Fault>) {
+    let out = Output {
+        bytes: Vec::new(alloc),
+        until_failure,
+    };
+    write_in::<Brand, Brand>(alloc, log, out, Blank::new(1), Blank::new(1))
+}
+
+// Pushes the operations of a file in order.
+fn log_of(alloc: Global, reading: Reading) -> Result<OpLog, Fault> {
+    let mut log = OpLog::new(alloc);
+    let Reading { ops, .. } = reading;
+    for op in ops {
+        log.push(op)?;
+    }
+    Ok(log)
+}
+
+#[test]
+fn files_are_written_back(rt: HostRuntime) -> Result<(), Fail> {
+    let files: [(&[u8], usize); 6] = [
+        (b"RGATEXT1", 0),
+        (&INSERT_AB, 1),
+        (&DELETE_SECOND, 2),
+        (&INSERT_Y, 1),
+        (&INSERT_LAST, 1),
+        (&TAG_FIRST, 2),
+    ];
+    let alloc = rt.alloc();
+    for (bytes, count) in files {
+        for size in [1, 2, 3, 5, 7, 100] {
+            let reading = read_pieces(alloc, bytes, size, None)?;
+            assert_eq!(rt; reading.ops.len(), count);
+            assert_eq!(rt; reading.fault, None);
+            let log = log_of(alloc, reading)?;
+            let (written, fault) = write_bytes(alloc, &log, None);
+            assert_eq!(rt; fault, None);
+            assert_eq!(rt; written.as_slice(), bytes);
+        }
+    }
+    Ok(())
+}
+
+fn is_insert_of_ab(edit: &Edit) -> bool {
+    match edit {
+        Edit::Insert { after, tags, text } => {
+            *after == ROOT && tags.is_empty() && text.characters() == ['a', 'b'].as_slice()
+        }
+        _ => false,
+    }
+}
+
+fn is_delete_of_second(edit: &Edit) -> bool {
+    let second = Span {
+        site: 1,
+        first: 2,
+        last: 2,
+    };
+    match edit {
+        Edit::Delete { spans } => spans.as_slice() == [second].as_slice(),
+        _ => false,
+    }
+}
+
+#[test]
+fn operations_and_offsets(rt: HostRuntime) -> Result<(), Fail> {
+    let reading = read_bytes(rt.alloc(), &DELETE_SECOND)?;
+    assert_eq!(rt; reading.offsets.as_slice(), [8, 44].as_slice());
+    match reading.ops.as_slice() {
+        [insert, delete] => {
+            assert_eq!(rt; insert.stamp(), Stamp { count: 1, site: 1 });
+            assert_eq!(rt; insert.prev(), 0);
+            assert!(rt; is_insert_of_ab(insert.edit()));
+            assert_eq!(rt; delete.stamp(), Stamp { count: 3, site: 1 });
+            assert_eq!(rt; delete.prev(), 2);
+            assert!(rt; is_delete_of_second(delete.edit()));
+        }
+        _ => assert!(rt; false),
+    }
+    Ok(())
+}
+
+#[test]
+fn stamps_are_checked_later(rt: HostRuntime) -> Result<(), Fail> {
+    let alloc = rt.alloc();
+    let itself = read_bytes(alloc, &AFTER_ITSELF)?;
+    assert_eq!(rt; itself.fault, None);
+    for op in &itself.ops {
+        assert!(rt; matches!(op.check(), Err(Fault::BadStamp)));
+    }
+    assert_eq!(rt; itself.ops.len(), 1);
+    let last = read_bytes(alloc, &DELETE_FINAL)?;
+    assert_eq!(rt; last.fault, None);
+    assert_eq!(rt; last.ops.len(), 1);
+    let mut log = log_of(alloc, read_bytes(alloc, &INSERT_AB)?)?;
+    for op in read_bytes(alloc, &INSERT_B)?.ops {
+        assert!(rt; matches!(log.push(op), Err(Fault::Conflict)));
+    }
+    Ok(())
+}
+
+#[test]
+fn faults_of_files(rt: HostRuntime) -> Result<(), Fail> {
+    let files: [(&[u8], Fault, u64); 9] = [
+        (b"", Fault::Truncated, 0),
+        (b"RGATEXT", Fault::Truncated, 0),
+        (b"X", Fault::BadMagic, 0),
+        (b"XGATEXT1", Fault::BadMagic, 0),
+        (b"RGATEXX1", Fault::BadMagic, 0),
+        (b"RGATEXT9", Fault::BadVersion, 0),
+        (b"RGATEXT1\0\0\0\x13\x04", Fault::Truncated, 8),
+        (b"RGATEXT1\x00\x20\x00\x01\x01", Fault::BadRecord, 8),
+        (&SHORT_LENGTH, Fault::BadRecord, 8),
+    ];
+    for (bytes, fault, offset) in files {
+        let reading = read_bytes(rt.alloc(), bytes)?;
+        assert!(rt; reading.ops.is_empty());
+        assert_eq!(rt; reading.fault, Some((fault, offset)));
+    }
+    Ok(())
+}
+
+#[test]
+fn records_rise(rt: HostRuntime) -> Result<(), Fail> {
+    let mut bytes = Vec::from_slice(rt.alloc(), &INSERT_AB)?;
+    bytes.extend_from_slice(&INSERT_AB[8..])?;
+    let reading = read_bytes(rt.alloc(), &bytes)?;
+    assert_eq!(rt; reading.ops.len(), 1);
+    assert_eq!(rt; reading.fault, Some((Fault::BadRecord, 44)));
+    Ok(())
+}
+
+// What is read of the first so many bytes of a file of two records, the first of which ends at 44.
+fn fault_of_front(len: usize, whole: usize) -> Option<(Fault, u64)> {
+    if len < 8 {
+        return Some((Fault::Truncated, 0));
+    }
+    if len == 8 || len == 44 || len == whole {
+        return None;
+    }
+    if len < 44 {
+        return Some((Fault::Truncated, 8));
+    }
+    Some((Fault::Truncated, 44))
+}
+
+#[test]
+fn fronts_in_pieces(rt: HostRuntime) -> Result<(), Fail> {
+    let files: [&[u8]; 2] = [&DELETE_SECOND, &TAG_FIRST];
+    for bytes in files {
+        for len in 0..bytes.len() + 1 {
+            for size in 1..12 {
+                let reading = read_pieces(rt.alloc(), &bytes[..len], size, None)?;
+                let count = usize::from(len >= 44) + usize::from(len == bytes.len());
+                assert_eq!(rt; reading.ops.len(), count);
+                assert_eq!(rt; reading.fault, fault_of_front(len, bytes.len()));
+            }
+        }
+    }
+    Ok(())
+}
+
+#[test]
+fn a_failed_read(rt: HostRuntime) -> Result<(), Fail> {
+    for reads in 0..89 {
+        let reading = read_pieces(rt.alloc(), &DELETE_SECOND, 1, Some(reads))?;
+        assert_eq!(rt; reading.ops.len(), usize::from(reads >= 44));
+        let offset = if reads < 8 {
+            0
+        } else if reads < 44 {
+            8
+        } else {
+            44
+        };
+        assert_eq!(rt; reading.fault, Some((Fault::ReadFault, offset)));
+    }
+    Ok(())
+}
+
+#[test]
+fn a_failed_write(rt: HostRuntime) -> Result<(), Fail> {
+    let alloc = rt.alloc();
+    let log = log_of(alloc, read_bytes(alloc, &DELETE_SECOND)?)?;
+    for (writes, len) in [(0, 0), (1, 8), (2, 44)] {
+        let (written, fault) = write_bytes(alloc, &log, Some(writes));
+        assert_eq!(rt; fault, Some(Fault::WriteFault));
+        assert_eq!(rt; written.len(), len);
+        assert!(rt; DELETE_SECOND.starts_with(&written));
+    }
+    Ok(())
+}
+
+// Where the record that begins at an offset ends, by its length field.
+fn end_of_record(bytes: &[u8], offset: usize) -> u64 {
+    let mut length = 0;
+    for byte in bytes.iter().skip(offset).take(4) {
+        length = length % 65_536 * 256 + u64::from(*byte);
+    }
+    offset as u64 % 65_536 + 4 + length
+}
+
+fn with_change(alloc: Global, bytes: &[u8], place: usize, change: u8) -> Result<Vec<u8>, Fault> {
+    let mut changed = Vec::new(alloc);
+    for (i, byte) in bytes.iter().enumerate() {
+        changed.push(if i == place { *byte ^ change } else { *byte })?;
+    }
+    Ok(changed)
+}
+
+#[test]
+fn single_changed_bytes(rt: HostRuntime) -> Result<(), Fail> {
+    let alloc = rt.alloc();
+    let files: [&[u8]; 2] = [&DELETE_SECOND, &TAG_FIRST];
+    for bytes in files {
+        for place in 0..bytes.len() {
+            for change in 1..=255 {
+                let changed = with_change(alloc, bytes, place, change)?;
+                let reading = read_bytes(alloc, &changed)?;
+                match reading.fault {
+                    Some((_, offset)) => {
+                        let begins = match reading.offsets.last() {
+                            Some(last) => end_of_record(&changed, *last as usize),
+                            None if place < 8 => 0,
+                            None => 8,
+                        };
+                        assert_eq!(rt; offset, begins);
+                    }
+                    None => {
+                        if let Ok(log) = log_of(alloc, reading) {
+                            let (written, _) = write_bytes(alloc, &log, None);
+                            assert_eq!(rt; written.as_slice(), changed.as_slice());
+                        }
+                    }
+                }
+            }
+        }
+    }
+    Ok(())
+}

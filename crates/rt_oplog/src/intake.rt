@@ -1,0 +1,151 @@
+// Records, taken from a reader within the bounds of a file.
+ghost use Rattle.std.specs.Prelude.{◌≡◌, ◌+◌, ◌<◌, ◌≤◌, length, max, IfOk};
+ghost use Rattle.std.specs.Io.KnownBytes.{ReadConsumes};
+ghost use Rattle.rt_stamps.specs.Source.{failed_reads};
+ghost use Rattle.rt_oplog.specs.Rules.{is_within};
+ghost use Rattle.rt_oplog.specs.Intake.{GetsSome, Gathers, GetsLength, GetsRecord};
+
+use crate::Op;
+use crate::decode::decode;
+use crate::fields::u32_at;
+use rt_stamps::limits::{FEWEST_RECORD_BYTES, MOST_RECORD_BYTES};
+use rt_stamps::{Failed, Fault, Source};
+use std::alloc::Global;
+
+/// The bytes of a record's length field.
+const LENGTH_BYTES: usize = 4;
+
+/// The most bytes of one read.
+const PIECE_BYTES: usize = 1024;
+
+/// What a file may still take.
+#[derive(Clone, Copy)]
+pub struct Bounds {
+    pub bytes: usize,
+    pub reads: usize,
+}
+
+/// Reads a piece of at most so many bytes, but always of one at least.
+fn read_piece<R: Source>(reader: &mut R, buf: &mut [u8], most: usize) -> Result<usize, Failed>
+    requires { 0 < length buf.old }
+    ensures calls { R.calls reader.new ≡ R.calls reader.old + 1 }
+    ensures failures { R.failures reader.new ≡ R.failures reader.old + failed_reads result }
+    ensures bytes { ReadConsumes (R.remaining reader.old) (R.remaining reader.new) result buf.new }
+    ensures within { IfOk result (λ n. n ≤ length buf.new) }
+    ensures bounded { IfOk result (λ n. n ≤ max most 1) }
+{
+    let limit = most.max(1).min(buf.len());
+    reader.read(&mut buf[..limit])
+}
+
+/// Reads a piece of at most so many bytes within the bounds. Where these allow no byte it reads
+/// one, which tells whether the file ends there.
+fn read_some<R: Source>(
+    reader: &mut R,
+    bounds: &mut Bounds,
+    buf: &mut [u8],
+    most: usize,
+) -> Result<usize, Fault>
+    requires buffer { 0 < length buf.old }
+    requires most { 0 < most }
+    ensures { GetsSome
+        (record { calls = R.calls reader.old; failures = R.failures reader.old; left = R.remaining reader.old })
+        (record { calls = R.calls reader.new; failures = R.failures reader.new; left = R.remaining reader.new })
+        bounds.old bounds.new most result buf.new }
+{
+    if bounds.reads == 0 {
+        return Err(Fault::ReadFault);
+    }
+    let n = match read_piece(reader, buf, bounds.bytes.min(most)) {
+        Ok(n) => n,
+        Err(_) => return Err(Fault::ReadFault),
+    };
+    if n > bounds.bytes {
+        return Err(Fault::ReadFault);
+    }
+    bounds.reads -= 1;
+    bounds.bytes -= n;
+    Ok(n)
+}
+
+/// Reads so many bytes into a buffer, which grows as they come; fewer at the end.
+pub fn gather<R: Source>(
+    reader: &mut R,
+    bounds: &mut Bounds,
+    buffer: &mut Vec<u8>,
+    wanted: usize,
+) -> Result<(), Fault>
+    ensures { Gathers
+        (record { calls = R.calls reader.old; failures = R.failures reader.old; left = R.remaining reader.old })
+        (record { calls = R.calls reader.new; failures = R.failures reader.new; left = R.remaining reader.new })
+        bounds.old bounds.new wanted result buffer.new.items }
+{
+    buffer.clear();
+    let mut piece = [0; PIECE_BYTES];
+    while buffer.len() < wanted {
+        let n = read_some(reader, bounds, &mut piece, wanted - buffer.len())?;
+        if n == 0 {
+            return Ok(());
+        }
+        buffer.extend_from_slice(&piece[..n])?;
+    }
+    Ok(())
+}
+
+/// Whether a record may have this length.
+fn is_length(length: usize) -> bool
+    ensures { result ≡ is_within FEWEST_RECORD_BYTES MOST_RECORD_BYTES length }
+{
+    FEWEST_RECORD_BYTES <= length && length <= MOST_RECORD_BYTES
+}
+
+/// The length of the next record; none at the end.
+fn next_length<R: Source>(
+    reader: &mut R,
+    bounds: &mut Bounds,
+    buffer: &mut Vec<u8>,
+) -> Result<Option<usize>, Fault>
+    ensures { GetsLength
+        (record { calls = R.calls reader.old; failures = R.failures reader.old; left = R.remaining reader.old })
+        (record { calls = R.calls reader.new; failures = R.failures reader.new; left = R.remaining reader.new })
+        bounds.old bounds.new result }
+{
+    gather(reader, bounds, buffer, LENGTH_BYTES)?;
+    if buffer.is_empty() {
+        return Ok(None);
+    }
+    let (length, _) = match u32_at(buffer) {
+        Some(found) => found,
+        None => return Err(Fault::Truncated),
+    };
+    let length = length as usize;
+    if !is_length(length) {
+        return Err(Fault::BadRecord);
+    }
+    Ok(Some(length))
+}
+
+/// The operation of the next record; none at the end. The buffer has the bytes of a record as they
+/// come, so no more than about its size.
+pub fn next_op<R: Source>(
+    alloc: Global,
+    reader: &mut R,
+    bounds: &mut Bounds,
+    buffer: &mut Vec<u8>,
+) -> Result<Option<Op>, Fault>
+    ensures { GetsRecord
+        (record { calls = R.calls reader.old; failures = R.failures reader.old; left = R.remaining reader.old })
+        (record { calls = R.calls reader.new; failures = R.failures reader.new; left = R.remaining reader.new })
+        bounds.old bounds.new result }
+{
+    let length = match next_length(reader, bounds, buffer)? {
+        Some(length) => length,
+        None => return Ok(None),
+    };
+    gather(reader, bounds, buffer, length)?;
+    if buffer.len() < length {
+        return Err(Fault::Truncated);
+    }
+    let op = decode(alloc, buffer)?;
+    Ok(Some(op))
+}
