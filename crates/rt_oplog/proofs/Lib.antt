@@ -1,5 +1,6 @@
 pub mod Adjacent
 pub mod Joins
+pub mod Kept
 pub mod Known
 pub mod Merges
 pub mod Places

@@ -12,6 +12,6 @@ mod same;
 mod tests;
 pub mod text;
 
-pub use log::OpLog;
+pub use log::{OpLog, join};
 pub use op::{Edit, Op};
 pub use text::Text;
