@@ -1,6 +1,7 @@
 pub mod Adjacent
 pub mod Lengths
 pub mod Joins
+pub mod Kept
 pub mod Known
 pub mod Merges
 pub mod Parts

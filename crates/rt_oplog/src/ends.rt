@@ -6,14 +6,14 @@ use std::alloc::{AllocError, Global};
 
 /// A site and its known end.
 #[derive(Clone, Copy)]
-pub struct SiteEnd {
+pub(crate) struct SiteEnd {
     pub site: u16,
     pub last: u64,
 }
 
 /// The known end of each site that has operations, in the order in which the sites came.
 #[derive(Drop)]
-pub struct Ends {
+pub(crate) struct Ends {
     pub ends: Vec<SiteEnd>,
 }
 
@@ -32,7 +32,7 @@ fn place_of(ends: &[SiteEnd], site: u16) -> usize
 
 impl Ends {
     /// No site.
-    pub fn new(alloc: Global) -> Ends
+    pub(crate) fn new(alloc: Global) -> Ends
         ensures { (site : ℕ) → end_in result.ends.items site ≡ 0 }
     {
         Ends {
@@ -41,7 +41,7 @@ impl Ends {
     }
 
     /// Room for so many more sites.
-    pub fn reserve(&mut self, more: usize) -> Result<(), AllocError>
+    pub(crate) fn reserve(&mut self, more: usize) -> Result<(), AllocError>
         ensures same { self.new.ends.items ≡ self.old.ends.items }
         ensures ok { OnOk result (vec_len self.new.ends + more ≤ vec_capacity self.new.ends) }
         ensures len { vec_len self.new.ends ≡ vec_len self.old.ends }
@@ -52,7 +52,7 @@ impl Ends {
     }
 
     /// The known end of a site, 0 if it has none.
-    pub fn get(&self, site: u16) -> u64
+    pub(crate) fn get(&self, site: u16) -> u64
         ensures { result ≡ end_in self.now.ends.items site }
     {
         for end in &self.ends {
@@ -64,7 +64,7 @@ impl Ends {
     }
 
     /// A last count of a site. There is room for one more site.
-    pub fn raise(&mut self, site: u16, last: u64)
+    pub(crate) fn raise(&mut self, site: u16, last: u64)
         requires { vec_len self.old.ends < vec_capacity self.old.ends }
         ensures ends { (s : ℕ) → end_in self.new.ends.items s ≡ (if site == s then max last (end_in self.old.ends.items s) else end_in self.old.ends.items s) }
         ensures capacity { vec_capacity self.new.ends ≡ vec_capacity self.old.ends }

@@ -1,5 +1,5 @@
 // Operations.
-ghost use Rattle.std.specs.Prelude.{◌≡◌, ℕ, ◌+◌, ◌<◌, ◌≤◌, ◌^◌, map, string_bytes, true};
+ghost use Rattle.std.specs.Prelude.{◌≡◌, ℕ, ◌+◌, ◌<◌, ◌≤◌, ◌^◌, map, string_bytes, true, ◌∷◌, []};
 ghost use Rattle.std.specs.List.{list_any};
 ghost use Rattle.rt_oplog.specs.Operations.{Insert, Delete, Tag, stamp_of, last_count as last_count_of, last_of, soundness, named, reaches, stamps_of_span};
 ghost use Rattle.rt_oplog.specs.Rules.{within_rules, keeps_rules};
@@ -7,7 +7,8 @@ ghost use Rattle.rt_oplog.specs.Rules.{within_rules, keeps_rules};
 use crate::Text;
 use crate::rules::{are_spans, are_tags, is_name, is_text};
 use rt_stamps::limits::GREATEST_COUNT;
-use rt_stamps::{Fault, Span, Stamp};
+use rt_stamps::{Fault, ROOT, Span, Stamp};
+use std::alloc::Global;
 use std::marker::Model;
 
 /// What an operation does.
@@ -119,6 +120,22 @@ impl Op {
             site: stamp.site,
             edit: Edit::Tag { on, name, spans },
         })
+    }
+
+    /// An operation that takes no memory, to stand where another was taken out.
+    pub(crate) fn stand_in(alloc: Global) -> Op
+        ensures { result ≡ record { count = 0; site = 0; prev = 0; body = Insert ROOT [] (120 ∷ []) } }
+    {
+        Op {
+            count: 0,
+            prev: 0,
+            site: 0,
+            edit: Edit::Insert {
+                after: ROOT,
+                tags: Vec::new(alloc),
+                text: Text::of('x'),
+            },
+        }
     }
 
     /// The first count, or the only one.

@@ -9,7 +9,7 @@ use rt_stamps::limits::{MOST_CHARACTERS, MOST_NAME_BYTES, MOST_SPANS, MOST_TAGS}
 use std::cmp::Ordering;
 
 /// Whether a name keeps the rules of a tag's name.
-pub fn is_name(name: &str) -> bool
+pub(crate) fn is_name(name: &str) -> bool
     ensures { result ≡ is_name_of name.now }
 {
     !name.is_empty() && name.len() <= MOST_NAME_BYTES && name != "sel"
@@ -37,7 +37,7 @@ fn are_names(tags: &[String]) -> bool
 }
 
 /// Whether the tags of an Insert keep their rules.
-pub fn are_tags(tags: &[String]) -> bool
+pub(crate) fn are_tags(tags: &[String]) -> bool
     ensures { result ≡ are_tags_of (map string_bytes tags.now) }
 {
     tags.len() <= MOST_TAGS && are_names(tags) && are_rising(tags)
@@ -58,7 +58,7 @@ fn are_scalars(text: &[char]) -> bool
 }
 
 /// Whether a text keeps its rules.
-pub fn is_text(text: &[char]) -> bool
+pub(crate) fn is_text(text: &[char]) -> bool
     ensures { result ≡ is_text_of text.now }
 {
     !text.is_empty() && text.len() <= MOST_CHARACTERS && are_scalars(text)
@@ -87,7 +87,7 @@ fn are_forward(spans: &[Span]) -> bool
 }
 
 /// Whether spans keep their rules.
-pub fn are_spans(spans: &[Span]) -> bool
+pub(crate) fn are_spans(spans: &[Span]) -> bool
     ensures { result ≡ are_spans_of spans.now }
 {
     !spans.is_empty() && spans.len() <= MOST_SPANS && are_forward(spans) && are_clear(spans)

@@ -53,7 +53,7 @@ fn is_same_edit(one: &Edit, other: &Edit) -> bool
 }
 
 /// Whether two operations are the same.
-pub fn is_same(one: &Op, other: &Op) -> bool
+pub(crate) fn is_same(one: &Op, other: &Op) -> bool
     ensures { result ≡ same_operation one.now other.now }
 {
     one.stamp() == other.stamp()
@@ -71,7 +71,7 @@ fn is_reached(one: &Op, other: &Op) -> bool
 }
 
 /// Whether two operations clash.
-pub fn is_clash(one: &Op, other: &Op) -> bool
+pub(crate) fn is_clash(one: &Op, other: &Op) -> bool
     requires one { last_count one.now ≤ GREATEST_COUNT }
     requires other { last_count other.now ≤ GREATEST_COUNT }
     ensures { result ≡ clash one.now other.now }

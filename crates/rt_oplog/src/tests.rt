@@ -1,5 +1,5 @@
 // Logs of a few operations.
-use crate::{Op, OpLog};
+use crate::{Op, OpLog, join};
 use rt_stamps::{Fault, ROOT, Stamp};
 use std::alloc::Global;
 use std::test::Fail;
@@ -32,6 +32,31 @@ fn y(alloc: Global) -> Result<Op, Fault> {
 /// Site 1 typed `b` with the stamp of the `a`.
 fn b(alloc: Global) -> Result<Op, Fault> {
     typed(alloc, FIRST, ROOT, &['b'])
+}
+
+/// Site 1 typed `c` after the `b`, and then saw the `Y`.
+fn c(alloc: Global) -> Result<Op, Fault> {
+    Op::insert(
+        Stamp { count: 4, site: 1 },
+        2,
+        Stamp { count: 2, site: 1 },
+        Vec::new(alloc),
+        Vec::from_slice(alloc, &['c'])?,
+    )
+}
+
+/// A log of one operation.
+fn log_of(alloc: Global, op: Op) -> Result<OpLog, Fault> {
+    let mut log = OpLog::new(alloc);
+    log.push(op)?;
+    Ok(log)
+}
+
+/// Site 1 typed `ab`, site 2 typed `Y` after the `a`.
+fn both(alloc: Global) -> Result<OpLog, Fault> {
+    let mut log = log_of(alloc, y(alloc)?)?;
+    log.push(ab(alloc)?)?;
+    Ok(log)
 }
 
 #[test]
@@ -69,5 +94,59 @@ fn checks_the_left_element(rt: HostRuntime) -> Result<(), Fail> {
     let mut log = OpLog::new(rt.alloc());
     assert!(rt; matches!(log.push(own), Err(Fault::BadStamp)));
     assert_eq!(rt; log.len(), 0);
+    Ok(())
+}
+
+#[test]
+fn refuses_the_newest_that_goes_on_from_below(rt: HostRuntime) -> Result<(), Fail> {
+    let alloc = rt.alloc();
+    let mut log = both(alloc)?;
+    let late = typed(alloc, Stamp { count: 9, site: 1 }, ROOT, &['z'])?;
+    assert!(rt; matches!(log.push(late), Err(Fault::Conflict)));
+    log.push(c(alloc)?)?;
+    assert_eq!(rt; log.len(), 3);
+    assert_eq!(rt; log.known(1), 4);
+    Ok(())
+}
+
+#[test]
+fn joins_in_either_order(rt: HostRuntime) -> Result<(), Fail> {
+    let alloc = rt.alloc();
+    let mut one = join(log_of(alloc, ab(alloc)?)?, log_of(alloc, y(alloc)?)?)?;
+    let other = join(log_of(alloc, y(alloc)?)?, log_of(alloc, ab(alloc)?)?)?;
+    assert_eq!(rt; one.len(), 2);
+    assert_eq!(rt; other.len(), 2);
+    assert!(rt; one.get(0).stamp() == FIRST);
+    assert!(rt; one.get(1).stamp() == THIRD);
+    assert!(rt; other.get(0).stamp() == FIRST);
+    assert!(rt; other.get(1).stamp() == THIRD);
+    one.push(c(alloc)?)?;
+    assert!(rt; one.contains(&ab(alloc)?));
+    assert!(rt; one.contains(&y(alloc)?));
+    assert_eq!(rt; one.known(1), 4);
+    Ok(())
+}
+
+#[test]
+fn joins_no_clash(rt: HostRuntime) -> Result<(), Fail> {
+    let alloc = rt.alloc();
+    let one = both(alloc)?;
+    let other = log_of(alloc, b(alloc)?)?;
+    assert!(rt; matches!(join(one, other), Err(Fault::Conflict)));
+    let one = log_of(alloc, ab(alloc)?)?;
+    let other = log_of(alloc, typed(alloc, Stamp { count: 2, site: 1 }, FIRST, &['z'])?)?;
+    assert!(rt; matches!(join(one, other), Err(Fault::Conflict)));
+    Ok(())
+}
+
+#[test]
+fn joins_a_log_with_itself(rt: HostRuntime) -> Result<(), Fail> {
+    let alloc = rt.alloc();
+    let same = join(both(alloc)?, both(alloc)?)?;
+    assert_eq!(rt; same.len(), 2);
+    assert!(rt; same.contains(&ab(alloc)?));
+    assert!(rt; same.contains(&y(alloc)?));
+    let empty = join(OpLog::new(alloc), OpLog::new(alloc))?;
+    assert_eq!(rt; empty.len(), 0);
     Ok(())
 }

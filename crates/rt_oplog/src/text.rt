@@ -41,6 +41,15 @@ impl Text {
         }
     }
 
+    /// A text of one character.
+    pub fn of(character: char) -> Text
+        ensures { result ≡ character ∷ [] }
+    {
+        Text {
+            kept: Kept::One(character),
+        }
+    }
+
     /// The characters.
     pub fn characters(&self) -> &[char]
         ensures { result.now ≡ self.now }
