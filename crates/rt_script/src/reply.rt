@@ -1,14 +1,13 @@
 // The lines of answers, written.
-ghost use Rattle.std.specs.Prelude.{◌≡◌, ◌+◌, ◌<◌, ◌∷◌, ◌++◌, [], IfErr, flat_map, string_bytes};
-ghost use Rattle.std.specs.List.{list_any};
+ghost use Rattle.std.specs.Prelude.{◌≡◌, ◌+◌, ◌<◌, ◌∷◌, IfErr, flat_map, string_bytes};
 ghost use Rattle.rt_stamps.specs.Fault.{text_of};
 ghost use Rattle.rt_stamps.specs.Source.{failures_of};
-ghost use Rattle.rt_stamps.specs.Words.{escape_of, needs_quotes, text_of_word};
+ghost use Rattle.rt_stamps.specs.Words.{text_of_word};
 ghost use Rattle.rt_stamps.specs.Written.{Wrote};
 ghost use Rattle.rt_script.specs.Replies.{text_of_answer, reply_line};
 
 use crate::Answer;
-use rt_stamps::{Fault, Sink, write_all};
+use rt_stamps::{Fault, Sink, write_all, write_word};
 
 /// Writes the line of an answer: `=` and the words of a reply, or `!` and a fault's number and
 /// name. `WriteFault` where a write fails or takes nothing; a front of the line was then written.
@@ -69,70 +68,6 @@ fn write_spaced<W: Sink>(word: &str, out: &mut W) -> Result<(), Fault>
 {
     write_all(out, b" ")?;
     write_word(word, out)
-}
-
-fn write_word<W: Sink>(word: &str, out: &mut W) -> Result<(), Fault>
-    ensures wrote { Wrote (W.contents out.old) (W.contents out.new) result (text_of_word word.now) }
-    ensures fault { IfErr result (λ fault. fault ≡ Fault.WriteFault) }
-    ensures failures { W.failures out.new ≡ W.failures out.old + failures_of result }
-{
-    let bytes = word.as_bytes();
-    if bytes.is_empty() || has_quoted(bytes) {
-        write_quoted(bytes, out)
-    } else {
-        write_all(out, bytes)
-    }
-}
-
-fn has_quoted(word: &[u8]) -> bool
-    ensures { result ≡ list_any needs_quotes word.now }
-{
-    word.iter().any(|byte| needs_quotes(*byte))
-}
-
-fn needs_quotes(byte: u8) -> bool
-    ensures { result ≡ needs_quotes byte }
-{
-    matches!(
-        byte,
-        b' ' | b'\t' | b'\n' | b'\r' | b'"' | b'\\' | b'{' | b'}'
-    )
-}
-
-fn write_quoted<W: Sink>(word: &[u8], out: &mut W) -> Result<(), Fault>
-    ensures wrote { Wrote (W.contents out.old) (W.contents out.new) result (34 ∷ flat_map escape_of word.now ++ (34 ∷ [])) }
-    ensures fault { IfErr result (λ fault. fault ≡ Fault.WriteFault) }
-    ensures failures { W.failures out.new ≡ W.failures out.old + failures_of result }
-{
-    write_all(out, b"\"")?;
-    write_all_escaped(word, out)?;
-    write_all(out, b"\"")
-}
-
-fn write_all_escaped<W: Sink>(word: &[u8], out: &mut W) -> Result<(), Fault>
-    ensures wrote { Wrote (W.contents out.old) (W.contents out.new) result (flat_map escape_of word.now) }
-    ensures fault { IfErr result (λ fault. fault ≡ Fault.WriteFault) }
-    ensures failures { W.failures out.new ≡ W.failures out.old + failures_of result }
-{
-    for byte in word {
-        write_escaped(*byte, out)?;
-    }
-    Ok(())
-}
-
-fn write_escaped<W: Sink>(byte: u8, out: &mut W) -> Result<(), Fault>
-    ensures wrote { Wrote (W.contents out.old) (W.contents out.new) result (escape_of byte) }
-    ensures fault { IfErr result (λ fault. fault ≡ Fault.WriteFault) }
-    ensures failures { W.failures out.new ≡ W.failures out.old + failures_of result }
-{
-    match byte {
-        b'\n' => write_all(out, b"\\n"),
-        b'\t' => write_all(out, b"\\t"),
-        b'\r' => write_all(out, b"\\r"),
-        b'\\' => write_all(out, b"\\\\"),
-        b'"' => write_all(out, b"\\\""),
-        _ => write_all(out, &[byte]),
-    }
 }
 
 #[cfg(test)]

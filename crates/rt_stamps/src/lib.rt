@@ -10,6 +10,7 @@ pub mod position;
 pub mod source;
 pub mod stamp;
 pub mod std_ends;
+pub mod word;
 pub mod write;
 
 pub use clock::Clock;
@@ -17,4 +18,5 @@ pub use fault::Fault;
 pub use position::Position;
 pub use source::{Failed, Sink, Source};
 pub use stamp::{FINAL, ROOT, Site, Span, Stamp};
+pub use word::{write_text, write_word};
 pub use write::write_all;

@@ -1,0 +1,10 @@
+use Rattle.std.proofs.Common.{◌≡◌, take, flat_map}
+use Rattle.std.specs.Prelude.{encode_utf8}
+use Rattle.std.specs.Io.KnownBytes.{Appends}
+use Rattle.rt_stamps.proofs.word.write_bare_text.Given as goal
+
+abbrev pub invariant-loop-character : goal.invariant-loop-character
+invariant-loop-character g l = record {
+  wrote : Appends (g.W.Sink.contents l.fn.out) (g.W.Sink.contents l.out) (flat_map encode_utf8 (take l.character-index l.text));
+  failures : g.W.Sink.failures l.out ≡ g.W.Sink.failures l.fn.out;
+}
