@@ -1,5 +1,5 @@
 -- Lengths of fields, and what of two equal fields is equal.
-use Rattle.std.proofs.Common.{◌≡◌, ℕ, ◌+◌, ◌-◌, ◌*◌, ◌^◌, ◌<◌, ◌≤◌, Bool, true, false, map, String, Global, string_bytes, List, [], ◌∷◌, ◌++◌, length, take, drop, refl, sym, ap, ◌∙◌, arith, append_assoc}
+use Rattle.std.proofs.Common.{◌≡◌, ℕ, ◌+◌, ◌-◌, ◌*◌, ◌^◌, ◌<◌, ◌≤◌, Bool, true, false, map, String, Global, string_bytes, List, [], ◌∷◌, ◌++◌, length, take, drop, refl, sym, ap, ◌∙◌, arith}
 use Rattle.std.specs.Prelude.{encode_utf8_all}
 use Rattle.std.specs.List.{flat_map, list_all, AllByRecursion}
 use Rattle.std.specs.Int.{w16, w32, w64, from_be_bytes}
@@ -12,7 +12,7 @@ use Rattle.rt_stamps.specs.declared.stamp.Span.{Span}
 use Rattle.rt_stamps.specs.declared.stamp.Stamp.{Stamp}
 use Rattle.rt_stamps.specs.declared.limits.TheConstants.{MOST_NAME_BYTES, MOST_TAGS, MOST_CHARACTERS, MOST_SPANS, MOST_RECORD_BYTES}
 use Rattle.rt_oplog.specs.Operations.{Name, Body, Insert, Delete, Tag, Operation, stamp_of}
-use Rattle.rt_oplog.specs.Rules.{is_name, are_tags, are_spans, is_text, keeps_rules}
+use Rattle.rt_oplog.specs.Rules.{is_name, are_spans, keeps_rules}
 use Rattle.rt_oplog.specs.File.{number, stamp_bytes, span_bytes, spans_bytes, name_bytes, tags_bytes, body_bytes, content_of}
 
 -- ---- numbers
@@ -43,9 +43,10 @@ same_8 m n hm hn e = sym (from_be_bytes-to_be_bytes_8 m hm) ∙ ap (from_be_byte
 
 -- two fronts of one length
 pub same_front : (a b x y : List ℕ) → length a ≡ length b → a ++ x ≡ b ++ y → (a ≡ b) × (x ≡ y)
-same_front a b x y len e =
-    (sym (take_at a x (length b) len) ∙ ap (take (length b)) e ∙ take_at b y (length b) refl,
-     sym (drop_at a x (length b) len) ∙ ap (drop (length b)) e ∙ drop_at b y (length b) refl)
+same_front a b x y len e = (
+  sym (take_at a x (length b) len) ∙ ap (take (length b)) e ∙ take_at b y (length b) refl,
+  sym (drop_at a x (length b) len) ∙ ap (drop (length b)) e ∙ drop_at b y (length b) refl,
+)
 
 -- ---- lengths
 

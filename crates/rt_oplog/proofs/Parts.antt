@@ -1,6 +1,6 @@
 -- What is decoded from the parts of a record.
-use Rattle.std.proofs.Common.{◌≡◌, ℕ, ◌+◌, ◌*◌, ◌^◌, ◌<◌, ◌≤◌, Bool, true, false, List, [], ◌∷◌, ◌++◌, length, take, drop, Result, Ok, Err, IfOk, IfErr, refl, sym, ap, subst, ◌∙◌, append_assoc, append-nil, arith, inl, inr}
-use Rattle.std.specs.Prelude.{encode_utf8_all, ◌⊎◌}
+use Rattle.std.proofs.Common.{◌≡◌, ℕ, ◌*◌, ◌^◌, ◌<◌, ◌≤◌, Bool, true, false, List, [], ◌∷◌, ◌++◌, length, take, drop, Result, Ok, Err, IfOk, IfErr, refl, sym, ap, subst, ◌∙◌, append-nil, arith, inl, inr}
+use Rattle.std.specs.Prelude.{encode_utf8_all}
 use Rattle.std.specs.List.{flat_map, AllByRecursion}
 use Rattle.std.specs.Int.{w32, w64}
 use Rattle.std.specs.Str.{IsUtf8, chars}
@@ -11,13 +11,13 @@ use Rattle.std.proofs.lemmas.Str.{IsUtf8-from_is_utf8, is_utf8-from_IsUtf8, enco
 use Rattle.rt_stamps.specs.declared.stamp.Span.{Span}
 use Rattle.rt_stamps.specs.declared.stamp.Stamp.{Stamp}
 use Rattle.rt_stamps.specs.declared.fault.Fault.{Fault}
-use Rattle.rt_stamps.specs.declared.fault.Fault.TheVariants.{NoMemory, BadRecord}
-use Rattle.rt_oplog.specs.Operations.{Name, Body, Insert, Delete, Tag, Operation, stamp_of}
+use Rattle.rt_stamps.specs.declared.fault.Fault.TheVariants.{NoMemory}
+use Rattle.rt_oplog.specs.Operations.{Name, Body, Insert, Delete, Tag, Operation}
 use Rattle.rt_oplog.specs.Rules.{keeps_rules, within_rules}
 use Rattle.rt_oplog.specs.File.{number, stamp_bytes, span_bytes, spans_bytes, name_bytes, tags_bytes, flag, kind_of, body_bytes, content_of, StampFits, SpanFits, BodyFits, HasRecord}
 use Rattle.rt_oplog.specs.Decoding.{Refuses, Decodes, DecodesFront, DecodesBody, NameFits, IsNameOf, AreNames, TagsFit, SpansFit, AreScalars}
 use Rattle.rt_oplog.proofs.Lengths.{stamp_length, spans_length, spans_flat, content_length}
-use Rattle.rt_oplog.proofs.Spells.{spans_parts, tags_parts, names_go_on, same_stamp, same_tags, same_name, heads, flags, IsSpelled, is_spelled, same_body, same_head}
+use Rattle.rt_oplog.proofs.Spells.{spans_parts, tags_parts, names_go_on, same_stamp, same_tags, same_name, heads, IsSpelled, is_spelled, same_body, same_head}
 
 pub refused_as : (fault : Fault) {P Q : Type 0} → (P → Q) → Refuses fault P → Refuses fault Q
 refused_as fault f (inl memory) = inl memory
@@ -44,9 +44,10 @@ spans_read (Err fault) view bytes rest count few parts fits size is memory = inl
 -- ---- names
 
 pub name_read : (bytes front rest name : List ℕ) (n : ℕ) → n ≤ length bytes → front ≡ take n bytes → rest ≡ drop n bytes → IsUtf8 front → name ≡ front → IsNameOf n name × (bytes ≡ name ++ rest)
-name_read bytes front rest name n within f r utf8 is =
-    (record { utf8 = is_utf8-from_IsUtf8 name (subst IsUtf8 (sym is) utf8); size = ap length (is ∙ f) ∙ (omega (arith, length-take n bytes)) },
-     sym (take-append-drop n bytes) ∙ ap (λ v. v ++ drop n bytes) (sym (is ∙ f)) ∙ ap (λ v. name ++ v) (sym r))
+name_read bytes front rest name n within f r utf8 is = (
+  record { utf8 = is_utf8-from_IsUtf8 name (subst IsUtf8 (sym is) utf8); size = ap length (is ∙ f) ∙ (omega (arith, length-take n bytes)) },
+  sym (take-append-drop n bytes) ∙ ap (λ v. v ++ drop n bytes) (sym (is ∙ f)) ∙ ap (λ v. name ++ v) (sym r),
+)
 
 pub no_name : (bytes front : List ℕ) (n : ℕ) → front ≡ take n bytes → (IsUtf8 front → ⊥) → (name more : List ℕ) → IsNameOf n name → bytes ≡ name ++ more → ⊥
 no_name bytes front n f other name more fits e =
@@ -58,8 +59,8 @@ name_front (Ok x) view rest bytes tail n small parts h =
     (record { utf8 = h.0.utf8; short = omega (arith, h.0.size) }, parts ∙ (λ i. sym h.0.size i ∷ h.1 i))
 name_front (Err fault) view rest bytes tail n small parts h =
     refused_as fault (λ none name more fits e.
-        let p = heads n (length name) tail (name ++ more) (sym parts ∙ e) in
-        none name more (record { utf8 = fits.utf8; size = sym p.0 }) p.1) h
+    let p = heads n (length name) tail (name ++ more) (sym parts ∙ e) in
+    none name more (record { utf8 = fits.utf8; size = sym p.0 }) p.1) h
 
 pub no_name_front : (bytes : List ℕ) (name more : List ℕ) → bytes ≡ [] → bytes ≡ name_bytes name ++ more → ⊥
 no_name_front bytes name more none e = omega (arith, ap length (sym none ∙ e))
@@ -78,8 +79,8 @@ tags_front (Ok x) view rest bytes tail n small parts h =
     (record { each = h.0.each; few = omega (arith, h.0.count) }, parts ∙ (λ i. sym h.0.count i ∷ h.1 i))
 tags_front (Err fault) view rest bytes tail n small parts h =
     refused_as fault (λ none tags more fits e.
-        let p = tags_parts n tail tags more (sym parts ∙ e) in
-        none tags more (record { each = fits.each; count = sym p.0 }) p.1) h
+    let p = tags_parts n tail tags more (sym parts ∙ e) in
+    none tags more (record { each = fits.each; count = sym p.0 }) p.1) h
 
 pub no_tags : (bytes : List ℕ) (tags : List Name) (more : List ℕ) → bytes ≡ [] → bytes ≡ tags_bytes tags ++ more → ⊥
 unfolding tags_bytes
@@ -103,9 +104,12 @@ decided kind stamp prev body bytes k fits spelled e = by (keeps_rules body) refl
   where
     by : (b : Bool) → keeps_rules body ≡ b → DecodesBody kind stamp prev bytes (within_rules (record { count = stamp.count; site = stamp.site; prev = prev; body = body }))
     by true rules = rw rules (fits, rules, k, refl, refl, e)
-    by false rules = rw rules (inr (refl, λ other k' fits' rules' e'.
-        let same : other ≡ body = same_body other body (k' ∙ sym k) (is_spelled other fits' rules') spelled (sym e' ∙ e) in
-        false≢true (sym rules ∙ ap keeps_rules (sym same) ∙ rules')))
+    by false rules = rw rules (inr (
+      refl,
+      λ other k' fits' rules' e'.
+          let same : other ≡ body = same_body other body (k' ∙ sym k) (is_spelled other fits' rules') spelled (sym e' ∙ e) in
+          false≢true (sym rules ∙ ap keeps_rules (sym same) ∙ rules'),
+    ))
 
 pub no_insert : (bytes : List ℕ) → length bytes < 10 → (body : Body) → kind_of body ≡ 1 → BodyFits body → keeps_rules body ≡ true → bytes ≡ body_bytes body → ⊥
 no_insert bytes few (Insert after tags text) k fits rules e = omega (arith, ap length e, length-append (stamp_bytes after) (tags_bytes tags ++ encode_utf8_all text), stamp_length after)
@@ -145,10 +149,11 @@ no_content bytes few op has e = omega (arith, ap length e, content_length op)
 
 pub decoded : (kind : ℕ) (stamp : Stamp) (prev : ℕ) (bytes rest : List ℕ) (result : Result Operation Fault) → StampFits stamp → prev < 2 ^ 64 → bytes ≡ kind ∷ (stamp_bytes stamp ++ (number w64 prev ++ rest))
     → DecodesBody kind stamp prev rest result → Decodes content_of HasRecord (λ op. op) bytes result
-decoded kind stamp prev bytes rest (Ok op) fits small parts h =
-    (record { stamp = subst StampFits (sym h.3) fits; prev = omega (arith, h.4); body = h.0; rules = h.1 },
-     parts ∙ (λ i. sym h.2 i ∷ (stamp_bytes (sym h.3 i) ++ (number w64 (sym h.4 i) ++ h.5 i))))
+decoded kind stamp prev bytes rest (Ok op) fits small parts h = (
+  record { stamp = subst StampFits (sym h.3) fits; prev = omega (arith, h.4); body = h.0; rules = h.1 },
+  parts ∙ (λ i. sym h.2 i ∷ (stamp_bytes (sym h.3 i) ++ (number w64 (sym h.4 i) ++ h.5 i))),
+)
 decoded kind stamp prev bytes rest (Err fault) fits small parts h =
     refused_as fault (λ none op has e.
-        let p = same_head kind stamp prev rest op fits small has (sym parts ∙ e) in
-        none op.body (sym p.0) has.body has.rules p.3) h
+    let p = same_head kind stamp prev rest op fits small has (sym parts ∙ e) in
+    none op.body (sym p.0) has.body has.rules p.3) h

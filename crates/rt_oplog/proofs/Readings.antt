@@ -1,5 +1,5 @@
 -- Operations read from a file, record by record.
-use Rattle.std.proofs.Common.{◌≡◌, ℕ, ◌+◌, ◌-◌, ◌^◌, ◌<◌, ◌≤◌, Bool, true, false, ◌&&◌, suc, List, [], ◌∷◌, ◌++◌, length, take, drop, Option, Some, None, Result, Ok, Err, IfOk, IfErr, cond, refl, sym, ap, subst, ◌∙◌, append_assoc, append-nil, arith, inl, inr}
+use Rattle.std.proofs.Common.{◌≡◌, ℕ, ◌+◌, ◌-◌, ◌<◌, ◌≤◌, Bool, true, false, suc, List, [], ◌∷◌, ◌++◌, length, take, Option, Some, None, Result, Ok, Err, IfOk, IfErr, cond, refl, sym, ap, subst, ◌∙◌, append_assoc, append-nil, arith, inl, inr}
 use Rattle.std.specs.Prelude.{◌⊎◌, IfSome, slice_get, min, not, nat_lt}
 use Rattle.std.specs.Str.{bytes_eq}
 use Rattle.std.specs.List.{flat_map, AllByRecursion}
@@ -7,19 +7,20 @@ use Rattle.std.specs.Int.{w32}
 use Rattle.std.specs.Io.KnownBytes.{Consumes, IsAtEnd}
 use Rattle.std.proofs.lemmas.Bool.{false≢true, cases_lt}
 use Rattle.std.proofs.lemmas.Bool.Decides.{nat_tests}
-use Rattle.std.proofs.lemmas.List.{length-append, length-take, take_at, take_all, drop_at}
+use Rattle.std.proofs.lemmas.List.{length-append, length-take, take_at, take_all}
 use Rattle.std.proofs.lemmas.List.Concat.{flat_map-append}
+use Rattle.std.proofs.lemmas.Option.{some_pair_parts}
 use Rattle.rt_stamps.specs.Stamps.{is_before}
-use Rattle.rt_stamps.specs.declared.limits.TheConstants.{FEWEST_RECORD_BYTES, MOST_RECORD_BYTES, MOST_BYTES, MOST_READS}
+use Rattle.rt_stamps.specs.declared.limits.TheConstants.{MOST_READS}
 use Rattle.rt_stamps.specs.declared.fault.Fault.{Fault}
 use Rattle.rt_stamps.specs.declared.fault.Fault.TheVariants.{NoMemory, BadMagic, BadVersion, Truncated, BadRecord, ReadFault}
 use Rattle.rt_oplog.specs.declared.intake.Bounds.{Bounds}
 use Rattle.rt_oplog.specs.Operations.{Operation, stamp_of}
 use Rattle.rt_oplog.specs.Rules.{each_next}
 use Rattle.rt_oplog.specs.File.{magic, number, content_of, record_of, spelling, HasRecord, AreInFile}
-use Rattle.rt_oplog.specs.Reading.{file_name, head_fault, offsets_from, EndsEarly, IsCutShort, IsBroken, IsEnd, ReadsAs, Reads, Stops, may_follow}
+use Rattle.rt_oplog.specs.Reading.{file_name, head_fault, offsets_from, EndsEarly, IsEnd, ReadsAs, Reads, may_follow}
 use Rattle.rt_oplog.specs.Intake.{ReaderState, Takes, IsStopped, HasNoRecord, Fails, AtEnd, GetsHead, FILE_BOUNDS, ReadsFile}
-use Rattle.rt_oplog.proofs.Lengths.{length_4, same_front, content_length, content_short}
+use Rattle.rt_oplog.proofs.Lengths.{length_4, same_front, content_short}
 use Rattle.rt_oplog.proofs.Spells.{front_same_4, same_content}
 use Rattle.rt_oplog.proofs.Taken.{takes_then, stopped_then}
 
@@ -30,7 +31,7 @@ same_record a b x y has so e =
     let m = length (content_of a) in
     let n = length (content_of b) in
     let p = front_same_4 m n (content_of a ++ x) (content_of b ++ y) (omega (arith, content_short a has.rules)) (omega (arith, content_short b so.rules))
-        (sym (append_assoc (number w32 m) (content_of a) x) ∙ e ∙ append_assoc (number w32 n) (content_of b) y) in
+    (sym (append_assoc (number w32 m) (content_of a) x) ∙ e ∙ append_assoc (number w32 n) (content_of b) y) in
     let q = same_front (content_of a) (content_of b) x y p.0 p.1 in
     (same_content a b has so q.0, q.1)
 
@@ -156,12 +157,33 @@ reads_head bytes front rest fault parts short end found =
 
 -- ---- how reading a file ends
 
+none_is : (x : Fault × ℕ) → None ≡ Some x → ⊥
+none_is x e = cc
+
+other_fault : (fault other : Fault) (at place : ℕ) → (fault ≡ other → ⊥) → ◌≡◌ {A = Option (Fault × ℕ)} (Some (fault, at)) (Some (other, place)) → ⊥
+other_fault fault other at place apart e = apart (some_pair_parts fault other at place e).0
+
+kinds_of_head : (a b c : Bool) (fault : Fault) → cond (not a) (Some BadMagic) (cond b (Some Truncated) (cond c None (Some BadVersion))) ≡ Some fault → (fault ≡ NoMemory → ⊥) × (fault ≡ ReadFault → ⊥)
+kinds_of_head false b c fault e = (λ is. cc, λ is. cc)
+kinds_of_head true true c fault e = (λ is. cc, λ is. cc)
+kinds_of_head true false true fault e = (λ is. cc, λ is. cc)
+kinds_of_head true false false fault e = (λ is. cc, λ is. cc)
+
+-- the fault of the first eight bytes is neither want of memory nor a failed read
+head_kinds : (front : List ℕ) (fault : Fault) → head_fault front ≡ Some fault → (fault ≡ NoMemory → ⊥) × (fault ≡ ReadFault → ⊥)
+head_kinds front fault e = kinds_of_head (bytes_eq (take 7 front) (take (length front) file_name)) (nat_lt (length front) 8) (bytes_eq front magic) fault e
+
 pub ends_whole : (a b c : ReaderState) (y z : Bounds) (ops : List Operation) (offsets : List ℕ) → Takes a b FILE_BOUNDS y (spelling ops) → AreInFile ops → offsets ≡ offsets_from 8 ops → AtEnd b c y z → ReadsFile a c ops offsets None
 ends_whole a b c y z ops offsets h are off e =
     let all = takes_then a b c FILE_BOUNDS y z (spelling ops) [] h e.0 in
-    inl (all.failures, omega (arith, all.calls), known a.left c.left (spelling ops ++ []) (λ bytes. Reads bytes ops offsets None) all.consumed (λ rest is bytes parts.
-        let none = at_end c.left rest is e.1 in
-        reads_records bytes ops offsets None [] (parts ∙ ap (λ v. (spelling ops ++ []) ++ v) none ∙ append-nil (spelling ops ++ [])) are off refl))
+    inl (
+      all.failures,
+      omega (arith, all.calls),
+      λ place found. none_is (ReadFault, place) found,
+      known a.left c.left (spelling ops ++ []) (λ bytes. Reads bytes ops offsets None) all.consumed (λ rest is bytes parts.
+          let none = at_end c.left rest is e.1 in
+          reads_records bytes ops offsets None [] (parts ∙ ap (λ v. (spelling ops ++ []) ++ v) none ∙ append-nil (spelling ops ++ [])) are off refl),
+    )
 
 pub ends_fault : (a b c : ReaderState) (y z : Bounds) (ops : List Operation) (offsets : List ℕ) (fault : Fault) (at : ℕ) → Takes a b FILE_BOUNDS y (spelling ops) → AreInFile ops → offsets ≡ offsets_from 8 ops → Fails b c y z fault
     → (fault ≡ NoMemory → ⊥) → at ≡ length (spelling ops) → ReadsFile a c ops offsets (Some (fault, at))
@@ -169,21 +191,40 @@ ends_fault a b c y z ops offsets fault at h are off fails other place = by fails
   where
     taken : List ℕ
     taken = fails.0
+
     truncated : (fault ≡ Truncated) × Takes b c y z taken × IsAtEnd c.left × (0 < length taken) × EndsEarly taken → ReadsFile a c ops offsets (Some (fault, at))
     truncated t =
         let all = takes_then a b c FILE_BOUNDS y z (spelling ops) taken h t.1 in
-        inl (all.failures, omega (arith, all.calls), known a.left c.left (spelling ops ++ taken) (λ bytes. Reads bytes ops offsets (Some (fault, at))) all.consumed (λ rest is bytes parts.
-            let none = at_end c.left rest is t.2 in
-            reads_records bytes ops offsets (Some (fault, at)) taken (parts ∙ ap (λ v. (spelling ops ++ taken) ++ v) none ∙ append-nil (spelling ops ++ taken)) are off (place, inl (t.0, (t.3, t.4)))))
+        inl (
+          all.failures,
+          omega (arith, all.calls),
+          λ place found. other_fault fault ReadFault at place (λ same. cc (same, t.0)) found,
+          known a.left c.left (spelling ops ++ taken) (λ bytes. Reads bytes ops offsets (Some (fault, at))) all.consumed (λ rest is bytes parts.
+              let none = at_end c.left rest is t.2 in
+              reads_records bytes ops offsets (Some (fault, at)) taken (parts ∙ ap (λ v. (spelling ops ++ taken) ++ v) none ∙ append-nil (spelling ops ++ taken)) are off (place, inl (t.0, (t.3, t.4)))),
+        )
+
     broken : (fault ≡ BadRecord) × Takes b c y z taken × HasNoRecord taken → ReadsFile a c ops offsets (Some (fault, at))
     broken t =
         let all = takes_then a b c FILE_BOUNDS y z (spelling ops) taken h t.1 in
-        inl (all.failures, omega (arith, all.calls), known a.left c.left (spelling ops ++ taken) (λ bytes. Reads bytes ops offsets (Some (fault, at))) all.consumed (λ rest is bytes parts.
-            reads_records bytes ops offsets (Some (fault, at)) (taken ++ rest) (parts ∙ append_assoc (spelling ops) taken rest) are off (place, inr (t.0, record {
-              some = omega (arith, t.2.some, length-append taken rest);
-              whole = t.2.whole rest;
-              none = λ op more next e. t.2.none op rest more (last_has ops op next.records) e;
-            }))))
+        inl (
+          all.failures,
+          omega (arith, all.calls),
+          λ place found. other_fault fault ReadFault at place (λ same. cc (same, t.0)) found,
+          known a.left c.left (spelling ops ++ taken) (λ bytes. Reads bytes ops offsets (Some (fault, at))) all.consumed (λ rest is bytes parts.
+              reads_records bytes ops offsets (Some (fault, at)) (taken ++ rest) (parts ∙ append_assoc (spelling ops) taken rest) are off (
+                place,
+                inr (
+                  t.0,
+                  record {
+                    some = omega (arith, t.2.some, length-append taken rest);
+                    whole = t.2.whole rest;
+                    none = λ op more next e. t.2.none op rest more (last_has ops op next.records) e;
+                  },
+                ),
+              )),
+        )
+
     by : ((fault ≡ NoMemory) × Takes b c y z taken)
         ⊎ (((fault ≡ Truncated) × Takes b c y z taken × IsAtEnd c.left × (0 < length taken) × EndsEarly taken)
         ⊎ (((fault ≡ BadRecord) × Takes b c y z taken × HasNoRecord taken)
@@ -198,28 +239,45 @@ pub ends_unrisen : (a b c : ReaderState) (y z : Bounds) (ops : List Operation) (
     → may_follow (slice_get ops (length ops - 1)) op ≡ false → at ≡ length (spelling ops) → ReadsFile a c ops offsets (Some (BadRecord, at))
 ends_unrisen a b c y z ops offsets op at h are off t has out place =
     let all = takes_then a b c FILE_BOUNDS y z (spelling ops) (record_of op) h t in
-    inl (all.failures, omega (arith, all.calls), known a.left c.left (spelling ops ++ record_of op) (λ bytes. Reads bytes ops offsets (Some (BadRecord, at))) all.consumed (λ rest is bytes parts.
-        reads_records bytes ops offsets (Some (BadRecord, at)) (record_of op ++ rest) (parts ∙ append_assoc (spelling ops) (record_of op) rest) are off (place, inr (refl, record {
-          some = record_some op rest;
-          whole = is_whole op rest has;
-          none = λ other more next e.
-              let same = same_record op other rest more has (last_has ops other next.records) e in
-              false≢true (sym out ∙ ap (λ o. may_follow (slice_get ops (length ops - 1)) o) same.0 ∙ rising_last ops other next.rising);
-        }))))
+    inl (
+      all.failures,
+      omega (arith, all.calls),
+      λ place found. other_fault BadRecord ReadFault at place (λ same. cc) found,
+      known a.left c.left (spelling ops ++ record_of op) (λ bytes. Reads bytes ops offsets (Some (BadRecord, at))) all.consumed (λ rest is bytes parts.
+          reads_records bytes ops offsets (Some (BadRecord, at)) (record_of op ++ rest) (parts ∙ append_assoc (spelling ops) (record_of op) rest) are off (
+            place,
+            inr (
+              refl,
+              record {
+                some = record_some op rest;
+                whole = is_whole op rest has;
+                none = λ other more next e.
+                    let same = same_record op other rest more has (last_has ops other next.records) e in
+                    false≢true (sym out ∙ ap (λ o. may_follow (slice_get ops (length ops - 1)) o) same.0 ∙ rising_last ops other next.rising);
+              },
+            ),
+          )),
+    )
 
 pub ends_head : (a b : ReaderState) (y : Bounds) (fault : Fault) → (bytes : List ℕ) × (((fault ≡ NoMemory) × Takes a b FILE_BOUNDS y bytes)
-        ⊎ (((head_fault bytes ≡ Some fault) × Takes a b FILE_BOUNDS y bytes × (length bytes ≤ 8) × (length bytes < 8 → IsAtEnd b.left))
-        ⊎ ((fault ≡ ReadFault) × IsStopped a b FILE_BOUNDS bytes × (length bytes < 8)))) → (fault ≡ NoMemory → ⊥) → ReadsFile a b [] [] (Some (fault, 0))
+    ⊎ (((head_fault bytes ≡ Some fault) × Takes a b FILE_BOUNDS y bytes × (length bytes ≤ 8) × (length bytes < 8 → IsAtEnd b.left))
+    ⊎ ((fault ≡ ReadFault) × IsStopped a b FILE_BOUNDS bytes × (length bytes < 8)))) → (fault ≡ NoMemory → ⊥) → ReadsFile a b [] [] (Some (fault, 0))
 ends_head a b y fault gets other = by gets.1
   where
     bytes : List ℕ
     bytes = gets.0
+
     by : ((fault ≡ NoMemory) × Takes a b FILE_BOUNDS y bytes)
         ⊎ (((head_fault bytes ≡ Some fault) × Takes a b FILE_BOUNDS y bytes × (length bytes ≤ 8) × (length bytes < 8 → IsAtEnd b.left))
         ⊎ ((fault ≡ ReadFault) × IsStopped a b FILE_BOUNDS bytes × (length bytes < 8))) → ReadsFile a b [] [] (Some (fault, 0))
     by (inl memory) = absurd (other memory.0)
-    by (inr (inl t)) = inl (t.1.failures, omega (arith, t.1.calls), known a.left b.left bytes (λ all. Reads all [] [] (Some (fault, 0))) t.1.consumed (λ rest is all parts.
-        reads_head all bytes rest fault parts t.2 (λ lt. at_end b.left rest is (t.3 lt)) t.0))
+    by (inr (inl t)) = inl (
+      t.1.failures,
+      omega (arith, t.1.calls),
+      λ place found. other_fault fault ReadFault 0 place (head_kinds bytes fault t.0).1 found,
+      known a.left b.left bytes (λ all. Reads all [] [] (Some (fault, 0))) t.1.consumed (λ rest is all parts.
+          reads_head all bytes rest fault parts t.2 (λ lt. at_end b.left rest is (t.3 lt)) t.0),
+    )
     by (inr (inr t)) = inr (0, bytes, ap (λ f. Some (f, 0)) t.0, inl (t.2, refl, refl, refl), t.1)
 
 -- ---- want of memory
@@ -229,6 +287,7 @@ memory_counts a b c y z taken fault h fails is = by fails.1
   where
     more : List ℕ
     more = fails.0
+
     by : ((fault ≡ NoMemory) × Takes b c y z more)
         ⊎ (((fault ≡ Truncated) × Takes b c y z more × IsAtEnd c.left × (0 < length more) × EndsEarly more)
         ⊎ (((fault ≡ BadRecord) × Takes b c y z more × HasNoRecord more)
@@ -238,15 +297,6 @@ memory_counts a b c y z taken fault h fails is = by fails.1
     by (inr (inr (inl t))) = absurd (cc (is, t.0))
     by (inr (inr (inr t))) = absurd (cc (is, t.0))
 
-faults_of_head : (a b c : Bool) → cond (not a) (Some BadMagic) (cond b (Some Truncated) (cond c None (Some BadVersion))) ≡ Some NoMemory → ⊥
-faults_of_head false b c e = cc
-faults_of_head true true c e = cc
-faults_of_head true false true e = cc
-faults_of_head true false false e = cc
-
-no_memory : (front : List ℕ) → head_fault front ≡ Some NoMemory → ⊥
-no_memory front e = faults_of_head (bytes_eq (take 7 front) (take (length front) file_name)) (nat_lt (length front) 8) (bytes_eq front magic) e
-
 pub took_counts : (a c : ReaderState) (z : Bounds) (taken : List ℕ) → Takes a c FILE_BOUNDS z taken → (c.failures ≡ a.failures) × (c.calls ≤ a.calls + MOST_READS)
 took_counts a c z taken h = (h.failures, omega (arith, h.calls))
 
@@ -255,8 +305,10 @@ head_counts a b y fault gets is = by gets.1
   where
     bytes : List ℕ
     bytes = gets.0
+
     other : head_fault bytes ≡ Some fault → ⊥
-    other e = no_memory bytes (e ∙ ap (λ f. Some f) is)
+    other e = (head_kinds bytes fault e).0 is
+
     by : ((fault ≡ NoMemory) × Takes a b FILE_BOUNDS y bytes)
         ⊎ (((head_fault bytes ≡ Some fault) × Takes a b FILE_BOUNDS y bytes × (length bytes ≤ 8) × (length bytes < 8 → IsAtEnd b.left))
         ⊎ ((fault ≡ ReadFault) × IsStopped a b FILE_BOUNDS bytes × (length bytes < 8))) → (b.failures ≡ a.failures) × (b.calls ≤ a.calls + MOST_READS)
@@ -280,10 +332,11 @@ ended_counts (Err refused) a c fault h counts = (h.0, (counts h.1).0, (counts h.
 pub records_more : (a b c : ReaderState) (y z : Bounds) (ops : List Operation) (offsets : List ℕ) (op : Operation) (at : ℕ) → Takes a b FILE_BOUNDS y (spelling ops) → AreInFile ops → offsets ≡ offsets_from 8 ops → Takes b c y z (record_of op) → HasRecord op
     → may_follow (slice_get ops (length ops - 1)) op ≡ true → at ≡ length (spelling ops)
     → Takes a c FILE_BOUNDS z (spelling (ops ++ op ∷ [])) × AreInFile (ops ++ op ∷ []) × (offsets ++ at ∷ [] ≡ offsets_from 8 (ops ++ op ∷ []))
-records_more a b c y z ops offsets op at h are off t has f place =
-    (subst (Takes a c FILE_BOUNDS z) (sym (spelling_push ops op)) (takes_then a b c FILE_BOUNDS y z (spelling ops) (record_of op) h t),
-     in_file_push ops op are has f,
-     ap (λ v. v ++ at ∷ []) off ∙ ap (λ n. offsets_from 8 ops ++ n ∷ []) (place ∙ spelling_length ops) ∙ sym (offsets_push 8 ops op))
+records_more a b c y z ops offsets op at h are off t has f place = (
+  subst (Takes a c FILE_BOUNDS z) (sym (spelling_push ops op)) (takes_then a b c FILE_BOUNDS y z (spelling ops) (record_of op) h t),
+  in_file_push ops op are has f,
+  ap (λ v. v ++ at ∷ []) off ∙ ap (λ n. offsets_from 8 ops ++ n ∷ []) (place ∙ spelling_length ops) ∙ sym (offsets_push 8 ops op),
+)
 
 pub follows_at : (list ops : List Operation) (op : Operation) (b : Bool) → list ≡ ops → b ≡ may_follow (slice_get list (length list - 1)) op → may_follow (slice_get ops (length ops - 1)) op ≡ b
 follows_at list ops op b same h = ap (λ l. may_follow (slice_get l (length l - 1)) op) (sym same) ∙ sym h

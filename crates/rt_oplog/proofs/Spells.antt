@@ -1,20 +1,20 @@
 -- What of two equal spellings is equal.
-use Rattle.std.proofs.Common.{◌≡◌, ℕ, suc, ◌+◌, ◌*◌, ◌^◌, ◌<◌, ◌≤◌, Bool, true, false, List, [], ◌∷◌, ◌++◌, length, take, drop, get_or, refl, sym, ap, ◌∙◌, append_assoc, append-nil, arith, inl, inr}
+use Rattle.std.proofs.Common.{◌≡◌, ℕ, ◌+◌, ◌^◌, ◌<◌, Bool, true, false, List, [], ◌∷◌, ◌++◌, length, take, drop, get_or, refl, sym, ap, ◌∙◌, append_assoc, append-nil, arith, inl, inr}
 use Rattle.std.specs.Prelude.{encode_utf8_all}
 use Rattle.std.specs.List.{flat_map, list_all, AllByRecursion}
 use Rattle.std.specs.Int.{w16, w32, w64, from_be_bytes}
 use Rattle.std.proofs.lemmas.Bool.{cases_lt}
 use Rattle.std.proofs.lemmas.Bool.Decides.{nat_tests}
-use Rattle.std.proofs.lemmas.List.{take-append-drop, length-append, length-take, get_or-take, get_or_past}
+use Rattle.std.proofs.lemmas.List.{take-append-drop, length-take, get_or-take, get_or_past}
 use Rattle.std.proofs.lemmas.Nat.{be_bytes_2, be_bytes_4, be_bytes_8}
 use Rattle.std.proofs.lemmas.Str.{encodes_same}
 use Rattle.rt_stamps.specs.declared.stamp.Span.{Span}
 use Rattle.rt_stamps.specs.declared.stamp.Stamp.{Stamp}
 use Rattle.rt_oplog.specs.Operations.{Name, Body, Insert, Delete, Tag, Operation, stamp_of}
-use Rattle.rt_oplog.specs.Rules.{is_name, are_spans, keeps_rules}
+use Rattle.rt_oplog.specs.Rules.{is_name, keeps_rules}
 use Rattle.rt_oplog.specs.File.{number, stamp_bytes, span_bytes, spans_bytes, name_bytes, tags_bytes, flag, kind_of, body_bytes, content_of, StampFits, SpanFits, BodyFits, HasRecord}
 use Rattle.rt_oplog.specs.Decoding.{NameFits, TagsFit, SpansFit}
-use Rattle.rt_oplog.proofs.Lengths.{length_2, length_4, length_8, same_2, same_4, same_8, same_front, stamp_length, span_length, spans_are, tags_are, tag_is}
+use Rattle.rt_oplog.proofs.Lengths.{length_2, length_4, length_8, same_2, same_4, same_8, same_front, spans_are, tags_are, tag_is}
 
 -- ---- numbers that are read
 
@@ -73,7 +73,7 @@ pub same_stamp : (a b : Stamp) (x y : List ℕ) → StampFits a → StampFits b 
 unfolding stamp_bytes
 same_stamp a b x y fits others e =
     let p = front_same_8 a.count b.count (number w16 a.site ++ x) (number w16 b.site ++ y) fits.count others.count
-        (sym (append_assoc (number w64 a.count) (number w16 a.site) x) ∙ e ∙ append_assoc (number w64 b.count) (number w16 b.site) y) in
+    (sym (append_assoc (number w64 a.count) (number w16 a.site) x) ∙ e ∙ append_assoc (number w64 b.count) (number w16 b.site) y) in
     let q = front_same_2 a.site b.site x y fits.site others.site p.1 in
     ((λ i. record { count = p.0 i; site = q.0 i }), q.1)
 
@@ -92,7 +92,7 @@ same_spans [] (s ∷ b) x y len fits others e = absurd (omega arith)
 same_spans (s ∷ a) [] x y len fits others e = absurd (omega arith)
 same_spans (s ∷ a) (t ∷ b) x y len fits others e =
     let p = same_span s t (flat_map span_bytes a ++ x) (flat_map span_bytes b ++ y) fits.0 others.0
-        (sym (append_assoc (span_bytes s) (flat_map span_bytes a) x) ∙ e ∙ append_assoc (span_bytes t) (flat_map span_bytes b) y) in
+    (sym (append_assoc (span_bytes s) (flat_map span_bytes a) x) ∙ e ∙ append_assoc (span_bytes t) (flat_map span_bytes b) y) in
     let q = same_spans a b x y (omega arith) fits.1 others.1 p.1 in
     ((λ i. p.0 i ∷ q.0 i), q.1)
 
@@ -122,7 +122,7 @@ same_names [] (s ∷ b) x y len e = absurd (omega arith)
 same_names (s ∷ a) [] x y len e = absurd (omega arith)
 same_names (s ∷ a) (t ∷ b) x y len e =
     let p = same_name s t (flat_map name_bytes a ++ x) (flat_map name_bytes b ++ y)
-        (sym (append_assoc (name_bytes s) (flat_map name_bytes a) x) ∙ e ∙ append_assoc (name_bytes t) (flat_map name_bytes b) y) in
+    (sym (append_assoc (name_bytes s) (flat_map name_bytes a) x) ∙ e ∙ append_assoc (name_bytes t) (flat_map name_bytes b) y) in
     let q = same_names a b x y (omega arith) p.1 in
     ((λ i. p.0 i ∷ q.0 i), q.1)
 
@@ -134,7 +134,7 @@ names_go_on [] (name ∷ names) rest more lt fits e = (name, flat_map name_bytes
 names_go_on (d ∷ done) [] rest more lt fits e = absurd (omega arith)
 names_go_on (d ∷ done) (name ∷ names) rest more lt fits e =
     let p = same_name d name (flat_map name_bytes done ++ rest) (flat_map name_bytes names ++ more)
-        (sym (append_assoc (name_bytes d) (flat_map name_bytes done) rest) ∙ e ∙ append_assoc (name_bytes name) (flat_map name_bytes names) more) in
+    (sym (append_assoc (name_bytes d) (flat_map name_bytes done) rest) ∙ e ∙ append_assoc (name_bytes name) (flat_map name_bytes names) more) in
     names_go_on done names rest more (omega arith) fits.1 p.1
 
 pub tags_parts : (count : ℕ) (rest : List ℕ) (tags : List Name) (y : List ℕ) → count ∷ rest ≡ tags_bytes tags ++ y → (count ≡ length tags) × (rest ≡ flat_map name_bytes tags ++ y)

@@ -1,5 +1,5 @@
 -- Bytes taken one piece after another.
-use Rattle.std.proofs.Common.{◌≡◌, ℕ, ◌+◌, ◌-◌, ◌^◌, ◌<◌, ◌≤◌, Bool, true, false, cond, List, [], ◌∷◌, ◌++◌, length, take, Option, Some, None, Result, Ok, Err, refl, sym, ap, subst, ◌∙◌, append_assoc, append-nil, arith, inl, inr}
+use Rattle.std.proofs.Common.{◌≡◌, ℕ, ◌+◌, ◌-◌, ◌^◌, ◌<◌, ◌≤◌, Bool, true, false, cond, List, [], ◌∷◌, ◌++◌, length, take, Option, Some, None, Err, refl, sym, ap, subst, ◌∙◌, append_assoc, append-nil, arith, inl, inr}
 use Rattle.std.specs.Prelude.{◌⊎◌, min, max, not, nat_lt}
 use Rattle.std.specs.Str.{bytes_eq}
 use Rattle.std.proofs.lemmas.Bool.{false≢true}
@@ -17,7 +17,7 @@ use Rattle.rt_oplog.specs.Decoding.{Refuses}
 use Rattle.rt_oplog.specs.File.{magic, number, content_of, record_of, HasRecord}
 use Rattle.rt_oplog.specs.Rules.{is_within}
 use Rattle.rt_oplog.specs.Reading.{file_name, head_fault, EndsEarly}
-use Rattle.rt_oplog.specs.Intake.{ReaderState, Takes, IsStopped, Gathers, HasNoRecord, Fails, AtEnd, GetsHead}
+use Rattle.rt_oplog.specs.Intake.{ReaderState, Takes, IsStopped, HasNoRecord, Fails, AtEnd, GetsHead}
 use Rattle.rt_oplog.proofs.Lengths.{length_4, same_front, content_length, content_short}
 use Rattle.rt_oplog.proofs.Spells.{front_same_4}
 
@@ -112,7 +112,7 @@ bad_content content n least most size none = record {
       let len = length (content_of op) in
       let short = content_short op has.rules in
       let p = front_same_4 n len (content ++ more) (content_of op ++ tail) (omega (arith, most)) (omega (arith, short))
-          (sym (append_assoc (number w32 n) content more) ∙ e ∙ append_assoc (number w32 len) (content_of op) tail) in
+      (sym (append_assoc (number w32 n) content more) ∙ e ∙ append_assoc (number w32 len) (content_of op) tail) in
       let q = same_front content (content_of op) more tail (size ∙ p.0) p.1 in
       none op has q.0;
 }
@@ -173,10 +173,16 @@ pub cut_length : (a b : ReaderState) (x y : Bounds) (s : List ℕ) → (length s
 cut_length a b x y s some lt h end = (s, inr (inl (refl, h, end lt, omega (arith, some), inl lt)))
 
 pub refused_length : (a b : ReaderState) (x y : Bounds) (s rest : List ℕ) (n : ℕ) → n < 2 ^ 32 → s ≡ number w32 n ++ rest → length s ≤ 4 → Takes a b x y s → is_within FEWEST_RECORD_BYTES MOST_RECORD_BYTES n ≡ false → Fails a b x y BadRecord
-refused_length a b x y s rest n few parts short h out =
-    (s, inr (inr (inl (refl, h, bad_length s n few (only_length s rest n parts short) (λ range.
+refused_length a b x y s rest n few parts short h out = (
+  s,
+  inr (inr (inl (
+    refl,
+    h,
+    bad_length s n few (only_length s rest n parts short) (λ range.
         let inside : is_within FEWEST_RECORD_BYTES MOST_RECORD_BYTES n ≡ true = grind (arith, nat_tests, range.0, range.1) in
-        false≢true (sym out ∙ inside))))))
+        false≢true (sym out ∙ inside)),
+  ))),
+)
 
 pub got_length : (a b : ReaderState) (x y : Bounds) (s rest : List ℕ) (n : ℕ) → s ≡ number w32 n ++ rest → length s ≤ 4 → Takes a b x y s → is_within FEWEST_RECORD_BYTES MOST_RECORD_BYTES n ≡ true
     → Takes a b x y (number w32 n) × (FEWEST_RECORD_BYTES ≤ n) × (n ≤ MOST_RECORD_BYTES)

@@ -1,5 +1,5 @@
 -- Bytes spell at most one list of operations, and are read in one way.
-use Rattle.std.proofs.Common.{◌≡◌, ℕ, ◌+◌, ◌<◌, Bool, true, false, suc, List, [], ◌∷◌, ◌++◌, length, take, Option, Some, None, refl, sym, ap, subst, ◌∙◌, append_assoc, append-nil, arith, inl, inr}
+use Rattle.std.proofs.Common.{◌≡◌, ℕ, Bool, true, List, [], ◌∷◌, ◌++◌, length, take, Option, Some, None, refl, sym, ap, subst, ◌∙◌, append_assoc, append-nil, arith, inl, inr}
 use Rattle.std.specs.Prelude.{◌⊎◌}
 use Rattle.std.specs.List.{flat_map, AllByRecursion}
 use Rattle.std.proofs.lemmas.Bool.Decides.{nat_tests}
@@ -85,6 +85,7 @@ same_end ops rest (Some fault) (Some other) h k = by h.1 k.1
   where
     at : fault.1 ≡ other.1
     at = h.0 ∙ sym k.0
+
     by : ((fault.0 ≡ Truncated) × IsCutShort rest) ⊎ ((fault.0 ≡ BadRecord) × IsBroken ops rest) → ((other.0 ≡ Truncated) × IsCutShort rest) ⊎ ((other.0 ≡ BadRecord) × IsBroken ops rest) → Some fault ≡ Some other
     by (inl x) (inl y) = λ i. Some ((x.0 ∙ sym y.0) i, at i)
     by (inl x) (inr y) = absurd (y.1.whole x.1.1)
@@ -102,11 +103,11 @@ same_lists front (op ∷ one) [] rest left a b are so has these e h k =
     absurd (no_further front op left (flat_map record_of one ++ rest) b has.0 next (subst (λ f. IsEnd f left b) (append-nil front) k) (sym e ∙ append_assoc (record_of op) (flat_map record_of one) rest))
 same_lists front (p ∷ one) (q ∷ other) rest left a b are so has these e h k =
     let same = same_record p q (flat_map record_of one ++ rest) (flat_map record_of other ++ left) has.0 these.0
-        (sym (append_assoc (record_of p) (flat_map record_of one) rest) ∙ e ∙ append_assoc (record_of q) (flat_map record_of other) left) in
+    (sym (append_assoc (record_of p) (flat_map record_of one) rest) ∙ e ∙ append_assoc (record_of q) (flat_map record_of other) left) in
     let mine : (front ++ p ∷ []) ++ one ≡ front ++ p ∷ one = append_assoc front (p ∷ []) one in
     let theirs : (front ++ p ∷ []) ++ other ≡ front ++ q ∷ other = append_assoc front (p ∷ []) other ∙ ap (λ x. front ++ x ∷ other) same.0 in
     let rests = same_lists (front ++ p ∷ []) one other rest left a b (subst AreInFile (sym mine) are) (subst AreInFile (sym theirs) so) has.1 these.1 same.1
-        (subst (λ f. IsEnd f rest a) (sym mine) h) (subst (λ f. IsEnd f left b) (sym theirs) k) in
+    (subst (λ f. IsEnd f rest a) (sym mine) h) (subst (λ f. IsEnd f left b) (sym theirs) k) in
     ((λ i. same.0 i ∷ rests.0 i), rests.1)
 
 -- bytes are read in one way
@@ -117,7 +118,9 @@ one_reading bytes one other offsets places a b h k = by (head_fault (take 8 byte
     by (Some fault) x y = (x.0 ∙ sym y.0, x.1 ∙ sym y.1, x.2 ∙ sym y.2)
     by None x y =
         let e = append_cancel_left magic (flat_map record_of one ++ x.0) (flat_map record_of other ++ y.0)
-            (sym (append_assoc magic (flat_map record_of one) x.0) ∙ sym x.1 ∙ y.1 ∙ append_assoc magic (flat_map record_of other) y.0) in
-        let same = same_lists [] one other x.0 y.0 a b x.2 y.2 x.2.records y.2.records e x.4 y.4 in
-        (same.0, x.3 ∙ ap (offsets_from 8) same.0 ∙ sym y.3,
-         same_end other y.0 a b (subst (λ (p : List Operation × List ℕ). IsEnd p.0 p.1 a) (λ i. (same.0 i, same.1 i)) x.4) y.4)
+        (sym (append_assoc magic (flat_map record_of one) x.0) ∙ sym x.1 ∙ y.1 ∙ append_assoc magic (flat_map record_of other) y.0) in
+        let same = same_lists [] one other x.0 y.0 a b x.2 y.2 x.2.records y.2.records e x.4 y.4 in (
+          same.0,
+          x.3 ∙ ap (offsets_from 8) same.0 ∙ sym y.3,
+          same_end other y.0 a b (subst (λ (p : List Operation × List ℕ). IsEnd p.0 p.1 a) (λ i. (same.0 i, same.1 i)) x.4) y.4,
+        )

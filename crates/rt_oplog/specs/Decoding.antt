@@ -1,5 +1,5 @@
 -- What is decoded from bytes.
-use Rattle.std.specs.Prelude.{◌≡◌, ◌⊎◌, ℕ, ◌<◌, ◌^◌, true, List, ◌++◌, length, Result, MatchResult, encode_utf8_all}
+use Rattle.std.specs.Prelude.{◌≡◌, ◌⊎◌, ℕ, ◌<◌, ◌^◌, true, List, ◌++◌, length, Result, MatchResult}
 use Rattle.std.specs.List.{AllByRecursion}
 use Rattle.std.specs.Str.{is_utf8, all_scalars}
 use Rattle.rt_stamps.specs.declared.stamp.Span.{Span}
@@ -8,7 +8,7 @@ use Rattle.rt_stamps.specs.declared.fault.Fault.{Fault}
 use Rattle.rt_stamps.specs.declared.fault.Fault.TheVariants.{NoMemory, BadRecord}
 use Rattle.rt_oplog.specs.Operations.{Name, Body, Operation, stamp_of}
 use Rattle.rt_oplog.specs.Rules.{keeps_rules}
-use Rattle.rt_oplog.specs.File.{SpanFits, BodyFits, HasRecord, kind_of, body_bytes}
+use Rattle.rt_oplog.specs.File.{SpanFits, BodyFits, kind_of, body_bytes}
 
 -- want of memory, or BadRecord where something doesn't hold
 abbrev pub Refuses : Fault → Type 0 → Type 0

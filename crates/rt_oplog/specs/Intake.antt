@@ -1,5 +1,5 @@
 -- Bytes taken from a reader, within the bounds of a file.
-use Rattle.std.specs.Prelude.{◌≡◌, ◌⊎◌, ℕ, ◌+◌, ◌<◌, ◌≤◌, List, [], ◌∷◌, ◌++◌, length, take, Option, Some, None, Result, MatchResult, MatchOption, IfSome}
+use Rattle.std.specs.Prelude.{◌≡◌, ◌⊎◌, ℕ, ◌+◌, ◌<◌, ◌≤◌, List, [], ◌∷◌, ◌++◌, length, take, Option, Some, Result, MatchResult, MatchOption, IfSome}
 use Rattle.std.specs.Int.{w32}
 use Rattle.std.specs.Io.KnownBytes.{Consumes, IsAtEnd}
 use Rattle.rt_stamps.specs.declared.limits.TheConstants.{FEWEST_RECORD_BYTES, MOST_RECORD_BYTES, MOST_BYTES, MOST_READS}
@@ -42,7 +42,7 @@ abbrev pub Gathers : ReaderState → ReaderState → Bounds → Bounds → ℕ �
 Gathers old new had has wanted result bytes = MatchResult result
     (λ _. Takes old new had has bytes × (length bytes ≤ wanted) × (length bytes < wanted → IsAtEnd new.left))
     (λ fault. ((fault ≡ NoMemory) × (taken : List ℕ) × Takes old new had has taken)
-        ⊎ ((fault ≡ ReadFault) × (taken : List ℕ) × (length taken < wanted) × IsStopped old new had taken))
+    ⊎ ((fault ≡ ReadFault) × (taken : List ℕ) × (length taken < wanted) × IsStopped old new had taken))
 
 -- whatever follows, these bytes are whole and begin with the record of no operation
 pub record HasNoRecord (bytes : List ℕ) : Type 0 where
@@ -78,17 +78,17 @@ abbrev pub GetsHead : ReaderState → ReaderState → Bounds → Bounds → Resu
 GetsHead old new had has result = MatchResult result
     (λ _. Takes old new had has magic)
     (λ fault. (bytes : List ℕ) × (
-        ((fault ≡ NoMemory) × Takes old new had has bytes)
-        ⊎ (((head_fault bytes ≡ Some fault) × Takes old new had has bytes × (length bytes ≤ 8) × (length bytes < 8 → IsAtEnd new.left))
-        ⊎ ((fault ≡ ReadFault) × IsStopped old new had bytes × (length bytes < 8)))))
+    ((fault ≡ NoMemory) × Takes old new had has bytes)
+    ⊎ (((head_fault bytes ≡ Some fault) × Takes old new had has bytes × (length bytes ≤ 8) × (length bytes < 8 → IsAtEnd new.left))
+    ⊎ ((fault ≡ ReadFault) × IsStopped old new had bytes × (length bytes < 8)))))
 
 -- what a file may take
 abbrev pub FILE_BOUNDS : Bounds
 FILE_BOUNDS = record { bytes = MOST_BYTES; reads = MOST_READS }
 
--- The bytes that were left are read, where they are known, and no read failed. Or reading was stopped before any fault:
--- a read failed, or a bound was passed.
+-- The bytes that were left are read, where they are known, no read failed, and the fault is of the bytes. Or reading was
+-- stopped before any fault: a read failed, or a bound was passed.
 abbrev pub ReadsFile : ReaderState → ReaderState → List Operation → List ℕ → Option (Fault × ℕ) → Type 0
 ReadsFile old new ops offsets fault =
-    ((new.failures ≡ old.failures) × (new.calls ≤ old.calls + MOST_READS) × IfSome old.left (λ bytes. Reads bytes ops offsets fault))
+    ((new.failures ≡ old.failures) × (new.calls ≤ old.calls + MOST_READS) × ((at : ℕ) → fault ≡ Some (ReadFault, at) → ⊥) × IfSome old.left (λ bytes. Reads bytes ops offsets fault))
     ⊎ ((at : ℕ) × (front : List ℕ) × (fault ≡ Some (ReadFault, at)) × Stops front ops offsets at × IsStopped old new FILE_BOUNDS front)

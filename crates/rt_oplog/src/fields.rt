@@ -11,6 +11,9 @@ use rt_stamps::{Fault, Span, Stamp};
 use std::alloc::Global;
 use std::str;
 
+/// The bytes of a record's length field.
+pub const LENGTH_BYTES: usize = 4;
+
 /// The bytes of a span.
 const SPAN_BYTES: u64 = 18;
 

@@ -125,12 +125,7 @@ fn may_follow(ops: &[Op], op: &Op) -> bool
 }
 
 /// What was read up to a fault, which want of memory isn't.
-fn ended(
-    ops: Vec<Op>,
-    offsets: Vec<u64>,
-    fault: Fault,
-    offset: u64,
-) -> Result<Reading, Fault>
+fn ended(ops: Vec<Op>, offsets: Vec<u64>, fault: Fault, offset: u64) -> Result<Reading, Fault>
     ensures ops { IfOk result (λ reading. reading.ops.items ≡ ops.items) }
     ensures offsets { IfOk result (λ reading. reading.offsets.items ≡ offsets.items) }
     ensures fault { IfOk result (λ reading. (reading.fault ≡ Some (fault, offset)) × (fault ≡ NoMemory → ⊥)) }

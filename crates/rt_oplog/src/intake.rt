@@ -7,13 +7,10 @@ ghost use Rattle.rt_oplog.specs.Intake.{GetsSome, Gathers, GetsLength, GetsRecor
 
 use crate::Op;
 use crate::decode::decode;
-use crate::fields::u32_at;
+use crate::fields::{LENGTH_BYTES, u32_at};
 use rt_stamps::limits::{FEWEST_RECORD_BYTES, MOST_RECORD_BYTES};
 use rt_stamps::{Failed, Fault, Source};
 use std::alloc::Global;
-
-/// The bytes of a record's length field.
-const LENGTH_BYTES: usize = 4;
 
 /// The most bytes of one read.
 const PIECE_BYTES: usize = 1024;

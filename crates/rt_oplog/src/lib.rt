@@ -4,10 +4,10 @@
 mod decode;
 mod ends;
 mod fields;
-mod intake;
 pub mod file;
 #[cfg(test)]
 mod file_tests;
+mod intake;
 pub mod laws;
 pub mod log;
 mod merge;

@@ -8,12 +8,10 @@ ghost use Rattle.rt_oplog.specs.Edits.{body_of};
 ghost use Rattle.rt_oplog.specs.File.{number, stamp_bytes, span_bytes, spans_bytes, name_bytes, tags_bytes, body_bytes, kind_of, content_of, record_of};
 ghost use Rattle.rt_oplog.specs.Rules.{keeps_rules};
 
+use crate::fields::LENGTH_BYTES;
 use crate::{Edit, Op};
 use byteorder::{BigEndian, ByteOrder};
 use rt_stamps::{Fault, Span, Stamp};
-
-/// The bytes of a record's length field.
-const LENGTH_BYTES: usize = 4;
 
 #[tactic(auto, unfolding(crate::specs::File::number))]
 fn push_u16(out: &mut Vec<u8>, n: u16) -> Result<(), Fault>

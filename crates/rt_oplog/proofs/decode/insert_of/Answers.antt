@@ -28,4 +28,4 @@ returns c =
     let text = c.in_ok-text.ensures in
     let names = map (string_bytes {Z = Global}) c.in_ok-tags.tags.items in
     rw c.insert.ensures (decided 1 c.args.stamp c.args.prev (Insert c.in-Some.found.0 names c.in_ok-text.text.items) c.args.bytes.now refl after.fits (after.fits, tags.0)
-        (after.bytes ∙ ap (λ v. stamp_bytes c.in-Some.found.0 ++ v) (tags.1 ∙ ap (λ v. tags_bytes names ++ v) text.1)))
+    (after.bytes ∙ ap (λ v. stamp_bytes c.in-Some.found.0 ++ v) (tags.1 ∙ ap (λ v. tags_bytes names ++ v) text.1)))

@@ -1,5 +1,4 @@
-use Rattle.std.proofs.Common.{inr, refl, ◌∙◌, subst}
-use Rattle.std.specs.Str.{IsUtf8}
+use Rattle.std.proofs.Common.{inr, refl, ◌∙◌}
 use Rattle.rt_oplog.proofs.Parts.{name_read, no_name}
 use Rattle.rt_oplog.proofs.fields.name_in.Goals as goal
 

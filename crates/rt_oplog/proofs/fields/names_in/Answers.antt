@@ -9,4 +9,4 @@ returns-in_err-tag c =
     let p = err_from_is_err_and c.from_residual.result c.from_residual.ensures.1 in
     let done = map (string_bytes {Z = Global}) c.loop.tags.items in
     rw (p.1, p.2) (refused_as c.in_err-tag.field-0.0 (names_end c.args.bytes.now c.loop.left.now done c.loop.counter c.args.count
-        (length-map c.loop.tags.items (string_bytes {Z = Global}) ∙ c.loop.invariant.count) c.loop-test.true c.loop.invariant.bytes) c.in_err-tag.ensures)
+    (length-map c.loop.tags.items (string_bytes {Z = Global}) ∙ c.loop.invariant.count) c.loop-test.true c.loop.invariant.bytes) c.in_err-tag.ensures)

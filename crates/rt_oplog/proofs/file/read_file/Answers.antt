@@ -7,7 +7,7 @@ use Rattle.rt_oplog.proofs.file.read_file.Goals as goal
 pub returns-in-Err-clause-reads : goal.returns-in-Err-clause-reads
 returns-in-Err-clause-reads g c =
     ended_reads c.ended.result _ _ _ _ _ c.new-ops.result.items c.new-offsets.result.items c.in-Err.fault 0 c.ended.ensures.ops c.ended.ensures.offsets c.ended.ensures.fault
-        (λ other. rw (c.new-ops.ensures.items, c.new-offsets.ensures.items) (ends_head _ _ _ c.in-Err.fault c.in-Err.ensures other))
+    (λ other. rw (c.new-ops.ensures.items, c.new-offsets.ensures.items) (ends_head _ _ _ c.in-Err.fault c.in-Err.ensures other))
 
 pub returns-in-Err-next_op-clause-reads : goal.returns-in-Err-next_op-clause-reads
 returns-in-Err-next_op-clause-reads g c =
@@ -16,7 +16,7 @@ returns-in-Err-next_op-clause-reads g c =
     let place : offset ≡ length (spelling ops) = omega (arith, c.records.invariant.takes.room) in
     let end = c.ended-in-Err-next_op in
     ended_reads end.result _ _ _ _ _ ops c.records.offsets.items c.in-Err-next_op.fault offset end.ensures.ops end.ensures.offsets end.ensures.fault
-        (λ other. ends_fault _ _ _ _ _ ops c.records.offsets.items c.in-Err-next_op.fault offset c.records.invariant.takes c.records.invariant.are c.records.invariant.offsets c.in-Err-next_op.ensures other place)
+    (λ other. ends_fault _ _ _ _ _ ops c.records.offsets.items c.in-Err-next_op.fault offset c.records.invariant.takes c.records.invariant.are c.records.invariant.offsets c.in-Err-next_op.ensures other place)
 
 pub returns-then-not-may_follow-clause-reads : goal.returns-then-not-may_follow-clause-reads
 returns-then-not-may_follow-clause-reads g c =
@@ -27,8 +27,8 @@ returns-then-not-may_follow-clause-reads g c =
     let gets = rw c.in-Ok-Some.field-0-is at c.in-Ok-Some.ensures in
     let end = c.ended-then-not-may_follow in
     ended_reads end.result _ _ _ _ _ ops c.records.offsets.items _ offset end.ensures.ops end.ensures.offsets end.ensures.fault
-        (λ other. ends_unrisen _ _ _ _ _ ops c.records.offsets.items op offset c.records.invariant.takes c.records.invariant.are c.records.invariant.offsets gets.0 gets.1
-            (follows_at c.deref.result.now ops op false c.deref.ensures.value c.if-not-may_follow.ensures) place)
+    (λ other. ends_unrisen _ _ _ _ _ ops c.records.offsets.items op offset c.records.invariant.takes c.records.invariant.are c.records.invariant.offsets gets.0 gets.1
+    (follows_at c.deref.result.now ops op false c.deref.ensures.value c.if-not-may_follow.ensures) place)
 
 pub records-preserved : goal.records-preserved
 records-preserved g c =
@@ -38,7 +38,7 @@ records-preserved g c =
     let place : offset ≡ length (spelling ops) = omega (arith, c.records.invariant.takes.room) in
     let gets = rw c.in-Ok-Some.field-0-is at c.in-Ok-Some.ensures in
     let more = records_more _ _ _ _ _ ops c.records.offsets.items op offset c.records.invariant.takes c.records.invariant.are c.records.invariant.offsets gets.0 gets.1
-        (follows_at c.deref.result.now ops op true c.deref.ensures.value c.if-not-may_follow.ensures) place in
+    (follows_at c.deref.result.now ops op true c.deref.ensures.value c.if-not-may_follow.ensures) place in
     rw (c.in_ok-push.ensures.items, c.in_ok-push-2.ensures.items) (record { takes = more.0; are = more.1; offsets = more.2 })
 
 pub returns-clause-reads : goal.returns-clause-reads

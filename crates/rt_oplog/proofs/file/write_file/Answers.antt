@@ -19,7 +19,7 @@ pub returns-in_err-write_all-clause-wrote : goal.returns-in_err-write_all-clause
 returns-in_err-write_all-clause-wrote g c =
     let p = err_from_is_err_and c.from_residual-in_err-write_all.result c.from_residual-in_err-write_all.ensures.1 in
     rw p.1 (wrote_part _ _ _ (reverse c.args.log.now.operations) c.loop-place.place _ c.get.ensures.operation c.loop-place.invariant.wrote
-        (rw (c.deref.ensures.value, c.in_ok-spell.ensures.ok) at c.in_err-write_all.ensures.wrote))
+    (rw (c.deref.ensures.value, c.in_ok-spell.ensures.ok) at c.in_err-write_all.ensures.wrote))
 
 pub loop-place-preserved : goal.loop-place-preserved
 loop-place-preserved g c = record {

@@ -1,6 +1,6 @@
 use Rattle.std.proofs.Common.{◌++◌, take, inl, inr, refl, arith}
 use Rattle.std.proofs.lemmas.Result.{err_from_is_err_and}
-use Rattle.rt_oplog.proofs.Taken.{takes_none, takes_then, takes_empty, stopped_in}
+use Rattle.rt_oplog.proofs.Taken.{takes_then, takes_empty, stopped_in}
 use Rattle.rt_oplog.proofs.intake.gather.Goals as goal
 
 pub returns-in_err-n : goal.returns-in_err-n

@@ -18,4 +18,4 @@ returns-clause-ok c =
     let four : length zeros ≡ 4 = omega (arith, c.in_ok-extend_from_slice.ensures.len, c.clear.ensures.len, c.extend_from_slice.new.self.ok.0) in
     let size : length c.push_content.new.out.items ≡ 4 + length (content_of c.args.op.now) = ap length c.in_ok-push_content.ensures.ok ∙ length-append zeros (content_of c.args.op.now) ∙ ap (λ n. n + length (content_of c.args.op.now)) four in
     patched c.push_content.new.out.items c.write_length.new.buffer zeros (content_of c.args.op.now) c.push_content.new.out.len (c.len-length.result - 4)
-        (omega (arith, c.push_content.new.out.ok.0)) c.in_ok-push_content.ensures.ok four (omega (arith, size, c.len-length.ensures, c.push_content.new.out.ok.0)) (c.write_length.ensures ∙ ap (λ v. number w32 (c.len-length.result - 4) ++ drop 4 v) c.deref_mut.ensures.value)
+    (omega (arith, c.push_content.new.out.ok.0)) c.in_ok-push_content.ensures.ok four (omega (arith, size, c.len-length.ensures, c.push_content.new.out.ok.0)) (c.write_length.ensures ∙ ap (λ v. number w32 (c.len-length.result - 4) ++ drop 4 v) c.deref_mut.ensures.value)
