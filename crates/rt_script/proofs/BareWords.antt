@@ -4,6 +4,7 @@ use Rattle.std.specs.List.{list_any, prefix_len}
 use Rattle.std.proofs.lemmas.Bool.Decides.{nat_tests}
 use Rattle.rt_stamps.specs.Lines.{is_blank}
 use Rattle.rt_stamps.specs.Words.{EndsWord, IsBare}
+use Rattle.rt_script.proofs.Fronts.{heads, one_more}
 
 -- no space or tab
 abbrev pub is_dark : ℕ → Bool
@@ -18,12 +19,6 @@ pub both_false : (a b : Bool) → (a || b) ≡ false → (a ≡ false) × (b ≡
 both_false false false h = (refl, refl)
 both_false false true h = absurd (cc)
 both_false true b h = absurd (cc)
-
-pub heads : (c d : ℕ) (x y : List ℕ) → c ∷ x ≡ d ∷ y → (c ≡ d) × (x ≡ y)
-heads c d x y e = let p : c ≡ d = cc in let q : x ≡ y = cc in (p, q)
-
-pub one_more : (n : ℕ) → 1 + n ≡ suc n
-one_more n = omega arith
 
 -- a character that is both a separator and none
 pub not_both : (c d : ℕ) → c ≡ d → is_blank c ≡ true → is_blank d ≡ false → ⊥

@@ -1,14 +1,15 @@
 -- What stands between quotes.
-use Rattle.std.proofs.Common.{◌≡◌, ◌≢◌, ◌⊎◌, inl, inr, ℕ, suc, ◌+◌, ◌-◌, ◌<◌, ◌≤◌, ◌==◌, ◌||◌, ◌∙◌, Bool, cond, true, false, not, true≢false, refl, sym, ap, subst, arith, List, [], ◌∷◌, ◌++◌, length, take, drop, get_or, append_assoc, append-nil, Option, Some, None, codes}
+use Rattle.std.proofs.Common.{◌≡◌, ◌≢◌, ◌⊎◌, inl, inr, ℕ, ◌+◌, ◌-◌, ◌<◌, ◌≤◌, ◌==◌, ◌||◌, ◌∙◌, Bool, cond, true, false, not, true≢false, refl, sym, ap, subst, arith, List, [], ◌∷◌, ◌++◌, length, take, drop, get_or, append_assoc, append-nil, Option, Some, None, codes}
 use Rattle.std.specs.List.{prefix_len}
 use Rattle.std.specs.Str.{IsUtf8, IsCharBoundary}
 use Rattle.std.proofs.lemmas.Bool.{cases_lt, eqb-true, eqb-false, ne_eqb}
 use Rattle.std.proofs.lemmas.Str.{IsCharBoundary-before_ascii, IsCharBoundary-after_ascii}
-use Rattle.std.proofs.lemmas.List.{take-append-drop, take_more, drop_more, drop_all, length-drop, get_or-drop}
+use Rattle.std.proofs.lemmas.List.{take_more, drop_more, drop_all, length-drop, get_or-drop}
 use Rattle.std.proofs.Math.Seq.{take-add}
 use Rattle.std.proofs.lemmas.List.Sums.{prefix_len-le-length, prefix_len_stops}
 use Rattle.rt_stamps.specs.Words.{Word, escape_of, StandsFor, IsEscaped, IsQuoted}
-use Rattle.rt_script.specs.FirstWord.{IsQuotedFront, HasNoQuotedFront, is_plain}
+use Rattle.rt_script.specs.FirstWord.{BeginsWith, IsQuotedFront, HasNoQuotedFront, is_plain}
+use Rattle.rt_script.proofs.Fronts.{heads, one_more, whole_twice}
 
 -- ---- one character
 
@@ -20,9 +21,6 @@ letter_char l = cond (l == 110) (Some 10) (cond (l == 116) (Some 9) (cond (l == 
 abbrev pub Stands : List ℕ → ℕ → Type 0
 Stands part c = ((part ≡ c ∷ []) × (c ≢ 34) × (c ≢ 92)) ⊎ ((letter : ℕ) × (part ≡ 92 ∷ letter ∷ []) × (letter_char letter ≡ Some c))
 
-differs : (c n : ℕ) → (c == n) ≡ false → c ≢ n
-differs c n e = eqb-false c n e
-
 escape_by : (a b d e f : Bool) (c : ℕ) → (c == 10) ≡ a → (c == 9) ≡ b → (c == 13) ≡ d → (c == 92) ≡ e → (c == 34) ≡ f
     → Stands (cond a (codes "\\n") (cond b (codes "\\t") (cond d (codes "\\r") (cond e (codes "\\\\") (cond f (codes "\\\"") (c ∷ [])))))) c
 escape_by true b d e f c p q r s t = inr (110, refl, ap Some (sym (eqb-true c 10 p)))
@@ -30,7 +28,7 @@ escape_by false true d e f c p q r s t = inr (116, refl, ap Some (sym (eqb-true 
 escape_by false false true e f c p q r s t = inr (114, refl, ap Some (sym (eqb-true c 13 r)))
 escape_by false false false true f c p q r s t = inr (92, refl, ap Some (sym (eqb-true c 92 s)))
 escape_by false false false false true c p q r s t = inr (34, refl, ap Some (sym (eqb-true c 34 t)))
-escape_by false false false false false c p q r s t = inl (refl, differs c 34 t, differs c 92 s)
+escape_by false false false false false c p q r s t = inl (refl, eqb-false c 34 t, eqb-false c 92 s)
 
 pub escape_stands : (c : ℕ) → Stands (escape_of c) c
 escape_stands c = escape_by (c == 10) (c == 9) (c == 13) (c == 92) (c == 34) c refl refl refl refl refl
@@ -38,10 +36,6 @@ escape_stands c = escape_by (c == 10) (c == 9) (c == 13) (c == 92) (c == 34) c r
 pub stands : (part : List ℕ) (c : ℕ) → StandsFor part c → Stands part c
 stands part c (inl e) = subst (λ p. Stands p c) (sym e) (escape_stands c)
 stands part c (inr h) = inl h
-
--- the first of two numbers, and what follows it
-heads : (c d : ℕ) (x y : List ℕ) → c ∷ x ≡ d ∷ y → (c ≡ d) × (x ≡ y)
-heads c d x y e = let p : c ≡ d = cc in let q : x ≡ y = cc in (p, q)
 
 some_same : (c d : ℕ) → Some c ≡ Some d → c ≡ d
 some_same c d e = cc
@@ -89,19 +83,16 @@ escaped_append a b (c ∷ v) w h k = (h.0, h.1 ++ b, ap (λ (u : List ℕ). u ++
 escaped_one : (l c : ℕ) → escape_of c ≡ 92 ∷ l ∷ [] → IsEscaped (92 ∷ l ∷ []) (c ∷ [])
 escaped_one l c e = (92 ∷ l ∷ [], [], refl, inl (sym e), refl)
 
-one_more : (n : ℕ) → suc n ≡ 1 + n
-one_more n = omega arith
-
 plain_char : (c : ℕ) → is_plain c ≡ true → (c ≢ 34) × (c ≢ 92)
 plain_char c h = by (c == 34) (c == 92) refl refl h
   where
     by : (a b : Bool) → (c == 34) ≡ a → (c == 92) ≡ b → not (a || b) ≡ true → (c ≢ 34) × (c ≢ 92)
-    by false false p q h = (differs c 34 p, differs c 92 q)
+    by false false p q h = (eqb-false c 34 p, eqb-false c 92 q)
     by true b p q h = absurd (true≢false (sym h))
     by false true p q h = absurd (true≢false (sym h))
 
 plain_by : (b : Bool) (c : ℕ) (text : List ℕ) (n : ℕ) → is_plain c ≡ b → IsEscaped (take n text) (take n text) → IsEscaped (take (cond b (1 + n) 0) (c ∷ text)) (take (cond b (1 + n) 0) (c ∷ text))
-plain_by true c text n e h = subst (λ k. IsEscaped (take k (c ∷ text)) (take k (c ∷ text))) (one_more n) (c ∷ [], take n text, refl, inr (refl, (plain_char c e).0, (plain_char c e).1), h)
+plain_by true c text n e h = subst (λ k. IsEscaped (take k (c ∷ text)) (take k (c ∷ text))) (sym (one_more n)) (c ∷ [], take n text, refl, inr (refl, (plain_char c e).0, (plain_char c e).1), h)
 plain_by false c text n e h = refl
 
 -- plain characters stand for themselves
@@ -190,8 +181,8 @@ take_one : (text : List ℕ) → 0 < length text → take 1 text ≡ get_or text
 take_one [] l = absurd (omega arith)
 take_one (c ∷ text) l = refl
 
-pub quote_opened : (text : List ℕ) → IsUtf8 text → 0 < length text → get_or text 0 0 ≡ 34 → QuotedTo text 1 []
-quote_opened text u l e =
+pub quote_opened : (text : List ℕ) → IsUtf8 text → BeginsWith text 34 → QuotedTo text 1 []
+quote_opened text u (l, e) =
     record {
       boundary = IsCharBoundary-after_ascii text 0 u l (rw e (omega arith));
       before = [];
@@ -300,7 +291,7 @@ quote_unclosed text i word q none len w k = none p.0 (drop len text) p.1 p.3 p.2
     body = k.1.0
 
     whole : (34 ∷ q.before) ++ drop i text ≡ (34 ∷ body ++ (34 ∷ [])) ++ drop len text
-    whole = sym (ap (λ (z : List ℕ). z ++ drop i text) q.front) ∙ take-append-drop i text ∙ sym (take-append-drop len text) ∙ ap (λ (z : List ℕ). z ++ drop len text) k.1.1
+    whole = sym (ap (λ (z : List ℕ). z ++ drop i text) q.front) ∙ whole_twice text i len ∙ ap (λ (z : List ℕ). z ++ drop len text) k.1.1
 
     p : Past q.before (drop i text) body (drop len text) word w
     p = past q.before word (drop i text) body (drop len text) w q.escaped k.1.2

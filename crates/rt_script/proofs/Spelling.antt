@@ -7,7 +7,8 @@ use Rattle.std.proofs.lemmas.List.Sums.{prefix_len-le-length}
 use Rattle.rt_stamps.specs.Lines.{is_blank}
 use Rattle.rt_stamps.specs.Words.{Word, AreBlank, EndsWord, IsQuoted, IsBraced, IsSpelling, Spells}
 use Rattle.rt_script.specs.FirstWord.{IsFirstWord, HasNoFirstWord, BeginsWith, IsQuotedFront, HasNoQuotedFront, IsBracedFront, HasNoBracedFront}
-use Rattle.rt_script.proofs.BareWords.{is_dark, both_true, both_false, heads, one_more, not_both, bare_dark, dark_once, bare_other, dark_ends, bare_front}
+use Rattle.rt_script.proofs.BareWords.{is_dark, both_true, both_false, not_both, bare_dark, dark_once, bare_other, dark_ends, bare_front}
+use Rattle.rt_script.proofs.Fronts.{heads, one_more, begins, whole_twice}
 use Rattle.rt_script.proofs.Quotes.{quoted_once}
 use Rattle.rt_script.proofs.Braces.{braced_once}
 
@@ -177,10 +178,6 @@ after_first (c ∷ text) len word l d f (w ∷ words) h =
 
 -- ---- the three kinds
 
-begins : (text : List ℕ) (c : ℕ) → BeginsWith text c → text ≡ c ∷ drop 1 text
-begins [] c h = absurd (let l = h.0 in omega arith)
-begins (d ∷ text) c h = ap (λ z. z ∷ text) h.1
-
 front_whole : (text : List ℕ) (len c : ℕ) → BeginsWith text c → take len text ++ drop len text ≡ c ∷ drop 1 text
 front_whole text len c h = take-append-drop len text ∙ begins text c h
 
@@ -200,18 +197,9 @@ braced_kind text len word b (inr (inr h)) = h
 same_len : (text : List ℕ) (m n : ℕ) → m ≤ length text → n ≤ length text → take m text ≡ take n text → m ≡ n
 same_len text m n l k e = sym (length-take-le m text l) ∙ ap length e ∙ length-take-le n text k
 
-whole_twice : (text : List ℕ) (m n : ℕ) → take m text ++ drop m text ≡ take n text ++ drop n text
-whole_twice text m n = take-append-drop m text ∙ sym (take-append-drop n text)
-
 pub bare_first : (text : List ℕ) → 0 < length text → is_blank (get_or text 0 0) ≡ false → get_or text 0 0 ≢ 34 → get_or text 0 0 ≢ 123
     → IsFirstWord text (prefix_len is_dark text) (take (prefix_len is_dark text) text)
 bare_first text l d q b = (prefix_len-le-length is_dark text, inl (bare_front text l d q b, refl), dark_ends text)
-
-pub quoted_first : (text : List ℕ) (len : ℕ) (word : Word) → IsQuotedFront text len word → EndsWord (drop len text) → IsFirstWord text len word
-quoted_first text len word h e = (h.0, inr (inl h.1), e)
-
-pub braced_first : (text : List ℕ) (len : ℕ) (word : Word) → IsBracedFront text len word → EndsWord (drop len text) → IsFirstWord text len word
-braced_first text len word h e = (h.0, inr (inr h.1), e)
 
 pub no_quoted_first : (text : List ℕ) → BeginsWith text 34 → HasNoQuotedFront text → HasNoFirstWord text
 no_quoted_first text b none len word h = none len word (h.0, quoted_kind text len word b h.1)

@@ -2,7 +2,7 @@ use Rattle.std.proofs.Common.{◌≡◌, ◌∙◌, ◌<◌, ℕ, List, ap, sym,
 use Rattle.std.proofs.lemmas.Result.{err_from_is_err_and}
 use Rattle.rt_stamps.specs.Words.{EndsWord}
 use Rattle.rt_script.specs.FirstWord.{BeginsWith}
-use Rattle.rt_script.proofs.Spelling.{no_quoted_first, quoted_followed, braced_followed}
+use Rattle.rt_script.proofs.Spelling.{no_quoted_first, no_braced_first, quoted_followed, braced_followed}
 use Rattle.rt_script.proofs.words.first_word.Goals as goal
 
 begins : (bytes text : List ℕ) (c : ℕ) → 0 < length text → bytes ≡ text → get_or bytes 0 0 ≡ c → BeginsWith text c
@@ -27,3 +27,9 @@ returns-in_ok-braced_word-in-123-clause-quoting c e =
     let m = rw e at c.ended-in-123.ensures in
     braced_followed c.args.text.now c.in_ok-braced_word-in-123.field-0.len _ (begins _ _ 123 c.requires.some c.as_bytes-bytes.ensures.value c.in-123.is) c.in_ok-braced_word-in-123.ensures.ok
     (λ ends. m.1 (subst (λ (v : List ℕ). EndsWord (drop c.in_ok-braced_word-in-123.field-0.len v)) (sym c.as_bytes-bytes.ensures.value) ends))
+
+pub returns-in_err-braced_word-in-123-clause-quoting :
+    goal.returns-in_err-braced_word-in-123-clause-quoting
+returns-in_err-braced_word-in-123-clause-quoting c e =
+    let p = err_from_is_err_and c.from_residual-in_err-braced_word-in-123.result c.from_residual-in_err-braced_word-in-123.ensures.1 in
+    no_braced_first c.args.text.now (begins _ _ 123 c.requires.some c.as_bytes-bytes.ensures.value c.in-123.is) (c.in_err-braced_word-in-123.ensures.quoting (cc))
