@@ -1,4 +1,0 @@
-pub mod Places
-pub mod Ready
-pub mod Sets
-pub mod Tables
