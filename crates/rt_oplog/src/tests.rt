@@ -134,7 +134,10 @@ fn joins_no_clash(rt: HostRuntime) -> Result<(), Fail> {
     let other = log_of(alloc, b(alloc)?)?;
     assert!(rt; matches!(join(one, other), Err(Fault::Conflict)));
     let one = log_of(alloc, ab(alloc)?)?;
-    let other = log_of(alloc, typed(alloc, Stamp { count: 2, site: 1 }, FIRST, &['z'])?)?;
+    let other = log_of(
+        alloc,
+        typed(alloc, Stamp { count: 2, site: 1 }, FIRST, &['z'])?,
+    )?;
     assert!(rt; matches!(join(one, other), Err(Fault::Conflict)));
     Ok(())
 }

@@ -7,4 +7,3 @@ loop-i-preserved c = record {
   places = number_step c.args.places.now.items c.loop-i.places.items c.loop-i.i (omega (arith, c.loop-i-test.true, c.loop-i.auto.i-end, c.len-i-end.ensures, c.args.places.now.ok.0)) c.loop-i.invariant.places;
   len = c.loop-i.invariant.len;
 }
-
