@@ -55,10 +55,14 @@ fn written<A: Ledger, B: Ledger>(
     Ok(out.into_inner())
 }
 
+fn lines_of(alloc: Global, ops: &[Op]) -> Result<Vec<u8>, Fault> {
+    written::<Brand, Brand>(alloc, ops, Blank::new(1), Blank::new(1))
+}
+
 fn line_of(alloc: Global, op: Op) -> Result<Vec<u8>, Fault> {
     let mut ops = Vec::new(alloc);
     ops.push(op)?;
-    written::<Brand, Brand>(alloc, &ops, Blank::new(1), Blank::new(1))
+    lines_of(alloc, &ops)
 }
 
 #[test]
@@ -125,11 +129,11 @@ fn lines_of_deletes_and_tags(rt: HostRuntime) -> Result<(), Fail> {
 fn lines_of_several(rt: HostRuntime) -> Result<(), Fail> {
     let alloc = rt.alloc();
     let mut ops = Vec::new(alloc);
-    let none = written::<Brand, Brand>(alloc, &ops, Blank::new(1), Blank::new(1))?;
+    let none = lines_of(alloc, &ops)?;
     assert_eq!(rt; none.as_slice(), b"".as_slice());
     ops.push(insert(alloc, at(1, 1), ROOT, &[], &['a', 'b'])?)?;
     ops.push(Op::delete(at(3, 1), 2, Vec::from_slice(alloc, &[span(1, 2, 2)])?)?)?;
-    let two = written::<Brand, Brand>(alloc, &ops, Blank::new(1), Blank::new(1))?;
+    let two = lines_of(alloc, &ops)?;
     assert_eq!(rt;
         two.as_slice(),
         b"insert 1.1 prev 0 after 0.0 text ab tags\ndelete 3.1 prev 2 spans 1:2-2\n".as_slice()

@@ -1,4 +1,4 @@
-use Rattle.std.proofs.Common.{◌∷◌, ◌∙◌, ap, ◌+◌}
+use Rattle.std.proofs.Common.{◌∙◌, ap, ◌+◌}
 use Rattle.std.proofs.lemmas.Result.{err_from_is_err_and}
 use Rattle.rt_show.specs.Shown.{line_of}
 use Rattle.rt_stamps.proofs.Writes.{part_longer, part_then, flat_map_parts}

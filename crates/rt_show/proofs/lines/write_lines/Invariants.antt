@@ -1,4 +1,4 @@
-use Rattle.std.proofs.Common.{◌≡◌, take, flat_map, ◌∷◌}
+use Rattle.std.proofs.Common.{◌≡◌, take, flat_map}
 use Rattle.std.specs.Io.KnownBytes.{Appends}
 use Rattle.rt_show.specs.Shown.{line_of}
 use Rattle.rt_show.proofs.lines.write_lines.Given as goal
