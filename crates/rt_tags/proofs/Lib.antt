@@ -1,0 +1,4 @@
+pub mod Places
+pub mod Ready
+pub mod Sets
+pub mod Tables

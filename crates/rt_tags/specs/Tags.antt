@@ -1,0 +1,88 @@
+-- Tags: the names that a site lists, in the order of their priority, lowest first. A name is seen as the list of its bytes.
+use Rattle.std.specs.Prelude.{◌≡◌, ℕ, ◌≤◌, List, [], ◌∷◌, ◌++◌, length, Bool, true, false, not, ◌||◌, filter, Option, Some, None, if◌then◌else◌}
+use Rattle.std.specs.List.{list_any}
+use Rattle.std.specs.Str.{bytes_eq}
+use Rattle.rt_stamps.specs.declared.limits.TheConstants.{MOST_NAME_BYTES}
+
+-- the bytes of a name: one or more, and not too many
+abbrev pub IsName : List ℕ → Type 0
+IsName name = (1 ≤ length name) × (length name ≤ MOST_NAME_BYTES)
+
+-- s, e, l
+abbrev pub sel : List ℕ
+sel = 115 ∷ 101 ∷ 108 ∷ []
+
+-- the names that are listed, lowest priority first, and those that are prepared: to list one of these takes no memory
+pub record Tags : Type 0 where
+  pub names : List (List ℕ)
+  pub prepared : List (List ℕ)
+
+abbrev pub is_listed : List ℕ → List (List ℕ) → Bool
+is_listed name names = list_any (bytes_eq name) names
+
+-- no name is there twice
+abbrev pub HaveNoRepeats : List (List ℕ) → Type 0
+HaveNoRepeats [] = Unit {0}
+HaveNoRepeats (name ∷ names) = (is_listed name names ≡ false) × HaveNoRepeats names
+
+-- the names but one
+abbrev pub without : List ℕ → List (List ℕ) → List (List ℕ)
+without name names = filter (λ x. not (bytes_eq name x)) names
+
+-- a new name has the highest priority, and one that is listed stays where it is
+abbrev pub with_name : List ℕ → List (List ℕ) → List (List ℕ)
+with_name name names = if is_listed name names then names else names ++ name ∷ []
+
+-- the names but one that is forgotten: sel stays listed
+abbrev pub forgotten : List ℕ → List (List ℕ) → List (List ℕ)
+forgotten name names = if bytes_eq name sel then names else without name names
+
+abbrev pub tags_forgotten : List ℕ → Tags → Tags
+tags_forgotten name tags = record tags { names = forgotten name tags.names }
+
+-- LISTING AND PREPARING
+
+-- to list a name takes no memory
+abbrev pub is_ready : List ℕ → Tags → Bool
+is_ready name tags = is_listed name tags.names || is_listed name tags.prepared
+
+-- a prepared name that is listed now is no longer kept beside the names
+abbrev pub tags_listed : List ℕ → Tags → Tags
+tags_listed name tags = record { names = with_name name tags.names; prepared = if is_listed name tags.names then tags.prepared else without name tags.prepared }
+
+-- a name that isn't listed is prepared
+abbrev pub tags_prepared : List ℕ → Tags → Tags
+tags_prepared name tags = record tags { prepared = if is_listed name tags.names then tags.prepared else with_name name tags.prepared }
+
+-- PRIORITIES
+
+-- one more name, put just above another
+abbrev pub just_above : List ℕ → List ℕ → List (List ℕ) → List (List ℕ)
+just_above name other [] = []
+just_above name other (x ∷ names) = if bytes_eq other x then x ∷ name ∷ names else x ∷ just_above name other names
+
+-- one more name, put just below another
+abbrev pub just_below : List ℕ → List ℕ → List (List ℕ) → List (List ℕ)
+just_below name other [] = []
+just_below name other (x ∷ names) = if bytes_eq other x then name ∷ x ∷ names else x ∷ just_below name other names
+
+-- a name raised: above all, or just above another; nothing changes where that is the name itself
+abbrev pub raised : List ℕ → Option (List ℕ) → List (List ℕ) → List (List ℕ)
+raised name None names = without name names ++ name ∷ []
+raised name (Some other) names = if bytes_eq name other then names else just_above name other (without name names)
+
+-- a name lowered: below all, or just below another; nothing changes where that is the name itself
+abbrev pub lowered : List ℕ → Option (List ℕ) → List (List ℕ) → List (List ℕ)
+lowered name None names = name ∷ without name names
+lowered name (Some other) names = if bytes_eq name other then names else just_below name other (without name names)
+
+abbrev pub tags_raised : List ℕ → Option (List ℕ) → Tags → Tags
+tags_raised name above tags = record tags { names = raised name above tags.names }
+
+abbrev pub tags_lowered : List ℕ → Option (List ℕ) → Tags → Tags
+tags_lowered name below tags = record tags { names = lowered name below tags.names }
+
+-- the other name is listed too, if one is given
+abbrev pub is_place : Option (List ℕ) → List (List ℕ) → Bool
+is_place None names = true
+is_place (Some other) names = is_listed other names
