@@ -1,6 +1,7 @@
 -- What an index expression needs to know of a widget: its characters, its marks and the ends of its tags.
 use Rattle.std.specs.Prelude.{◌≡◌, ℕ, ◌≤◌, List, [], ◌∷◌, ◌++◌, length, Option, Some, None, IsSome, codes, option_and_then, option_map}
-use Rattle.rt_stamps.specs.declared.limits.TheConstants.{MOST_CELLS, MOST_NAME_BYTES}
+use Rattle.rt_stamps.specs.declared.limits.TheConstants.{MOST_CELLS}
+pub use Rattle.rt_stamps.specs.Names.{IsName}
 
 -- where the characters of a tag begin and end
 pub record Ends : Type 0 where
@@ -20,10 +21,6 @@ tag_first w name = option_map (λ ends. ends.first) (option_and_then (λ ends. e
 
 abbrev pub tag_last : Widget → List ℕ → Option ℕ
 tag_last w name = option_map (λ ends. ends.last) (option_and_then (λ ends. ends) (w.tags name))
-
--- a name of a mark or a tag
-abbrev pub IsName : List ℕ → Type 0
-IsName name = (1 ≤ length name) × (length name ≤ MOST_NAME_BYTES)
 
 abbrev pub EndsWithNewline : List ℕ → Type 0
 EndsWithNewline text = (front : List ℕ) × (text ≡ front ++ 10 ∷ [])

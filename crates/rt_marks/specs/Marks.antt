@@ -1,13 +1,12 @@
 -- Marks: names in the gaps of a text, each with a gravity. The gap of a place is the one before the character there, and the
 -- gap of the text's end the one after the last character. Contracts see the marks of a site as the list of them in order.
-use Rattle.std.specs.Prelude.{◌≡◌, ℕ, ◌+◌, ◌-◌, ◌≤◌, ◌==◌, ◌&&◌, ◌||◌, nat_le, nat_lt, List, [], ◌∷◌, length, map, find, filter, Bool, true, false, not, if◌then◌else◌, Option, Some, None, option_and_then}
+use Rattle.std.specs.Prelude.{◌≡◌, ℕ, ◌+◌, ◌-◌, ◌==◌, ◌&&◌, ◌||◌, nat_le, nat_lt, List, [], ◌∷◌, map, find, filter, Bool, true, false, not, if◌then◌else◌, Option, Some, None, option_and_then}
 use Rattle.std.specs.Option.{option_map_or, option_or}
 use Rattle.std.specs.Ordering.{nat_cmp, ordering_then, is_lt}
-use Rattle.std.specs.Cmp.Lexicographic.{slice_cmp}
 use Rattle.std.specs.Str.{bytes_eq}
 use Rattle.std.specs.declared.cmp.Ordering.{Ordering}
 use Rattle.std.specs.declared.cmp.Ordering.TheVariants.{Less, Equal, Greater}
-use Rattle.rt_stamps.specs.declared.limits.TheConstants.{MOST_NAME_BYTES}
+pub use Rattle.rt_stamps.specs.Names.{IsName, name_order}
 use Rattle.rt_marks.specs.declared.gravity.Gravity.{Gravity}
 use Rattle.rt_marks.specs.declared.gravity.Gravity.TheVariants.{Left, Right}
 
@@ -22,10 +21,6 @@ pub record Mark : Type 0 where
   pub place : ℕ
   pub gravity : Gravity
 
--- the bytes of a name: one or more, and not too many
-abbrev pub IsName : List ℕ → Type 0
-IsName name = (1 ≤ length name) × (length name ≤ MOST_NAME_BYTES)
-
 -- THE ORDER OF MARKS
 
 abbrev pub gravity_order : Gravity → Gravity → Ordering
@@ -33,10 +28,6 @@ gravity_order Left Left = Equal
 gravity_order Left Right = Less
 gravity_order Right Left = Greater
 gravity_order Right Right = Equal
-
--- by their bytes, and of two that begin alike the shorter first
-abbrev pub name_order : List ℕ → List ℕ → Ordering
-name_order = slice_cmp nat_cmp
 
 -- by place, then left gravity first, then by the bytes of the names
 abbrev pub mark_order : Mark → Mark → Ordering

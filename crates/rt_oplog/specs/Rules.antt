@@ -2,12 +2,11 @@
 use Rattle.std.specs.Prelude.{ℕ, ◌+◌, ◌==◌, ◌&&◌, ◌||◌, not, nat_lt, nat_le, Bool, true, false, List, [], ◌∷◌, length, Result, Ok, Err, if◌then◌else◌, codes}
 use Rattle.std.specs.List.{list_all}
 use Rattle.std.specs.Str.{bytes_eq, is_utf8, all_scalars}
-use Rattle.std.specs.Ordering.{nat_cmp}
-use Rattle.std.specs.Cmp.Lexicographic.{slice_cmp}
 use Rattle.std.specs.declared.cmp.Ordering.{Ordering}
 use Rattle.std.specs.declared.cmp.Ordering.TheVariants.{Less, Equal, Greater}
 use Rattle.rt_stamps.specs.declared.stamp.Span.{Span}
 pub use Rattle.rt_stamps.specs.Spans.{each_next, is_span, is_clear_of}
+use Rattle.rt_stamps.specs.Names.{name_order}
 use Rattle.rt_stamps.specs.declared.limits.TheConstants.{MOST_NAME_BYTES, MOST_TAGS, MOST_CHARACTERS, MOST_SPANS}
 use Rattle.rt_stamps.specs.declared.fault.Fault.{Fault}
 use Rattle.rt_stamps.specs.declared.fault.Fault.TheVariants.{BadRecord}
@@ -28,7 +27,7 @@ is_less Greater = false
 
 -- lesser by bytes
 abbrev pub is_lesser_name : Name → Name → Bool
-is_lesser_name a b = is_less (slice_cmp nat_cmp a b)
+is_lesser_name a b = is_less (name_order a b)
 
 -- at most 64 names, which rise strictly by bytes
 abbrev pub are_tags : List Name → Bool

@@ -1,6 +1,7 @@
 pub mod Clock
 pub mod Fault
 pub mod Lines
+pub mod Names
 pub mod Outcomes
 pub mod Places
 pub mod Source

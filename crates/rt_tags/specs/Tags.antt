@@ -1,12 +1,8 @@
 -- Tags: the names that a site lists, in the order of their priority, lowest first. A name is seen as the list of its bytes.
-use Rattle.std.specs.Prelude.{◌≡◌, ℕ, ◌≤◌, List, [], ◌∷◌, ◌++◌, length, Bool, true, false, not, ◌||◌, filter, Option, Some, None, if◌then◌else◌}
+use Rattle.std.specs.Prelude.{◌≡◌, ℕ, List, [], ◌∷◌, ◌++◌, Bool, true, false, not, ◌||◌, filter, Option, Some, None, if◌then◌else◌}
 use Rattle.std.specs.List.{list_any}
 use Rattle.std.specs.Str.{bytes_eq}
-use Rattle.rt_stamps.specs.declared.limits.TheConstants.{MOST_NAME_BYTES}
-
--- the bytes of a name: one or more, and not too many
-abbrev pub IsName : List ℕ → Type 0
-IsName name = (1 ≤ length name) × (length name ≤ MOST_NAME_BYTES)
+pub use Rattle.rt_stamps.specs.Names.{IsName}
 
 -- s, e, l
 abbrev pub sel : List ℕ
