@@ -313,6 +313,47 @@ fn records_rise(rt: HostRuntime) -> Result<(), Fail> {
     Ok(())
 }
 
+// The front of a record: site 1 took two spans away, after it had typed `ab`.
+const DELETE_OF_TWO: [u8; 27] = [
+    0x00, 0x00, 0x00, 0x3b, 0x02, 0x00, 0x00, 0x00, 0x00, 0x00, 0x00, 0x00, 0x03, 0x00, 0x01, 0x00,
+    0x00, 0x00, 0x00, 0x00, 0x00, 0x00, 0x02, 0x00, 0x00, 0x00, 0x02,
+];
+
+// The spans `1:1-1`, `1:2-2` and `1:3-3`.
+const FIRST_OF_ONE: [u8; 18] = [0, 1, 0, 0, 0, 0, 0, 0, 0, 1, 0, 0, 0, 0, 0, 0, 0, 1];
+
+const SECOND_OF_ONE: [u8; 18] = [0, 1, 0, 0, 0, 0, 0, 0, 0, 2, 0, 0, 0, 0, 0, 0, 0, 2];
+
+const THIRD_OF_ONE: [u8; 18] = [0, 1, 0, 0, 0, 0, 0, 0, 0, 3, 0, 0, 0, 0, 0, 0, 0, 3];
+
+// What is read of a file whose second record takes these two spans away.
+fn read_spans(alloc: Global, one: &[u8], other: &[u8]) -> Result<Reading, Fault> {
+    let mut bytes = Vec::from_slice(alloc, &INSERT_AB)?;
+    bytes.extend_from_slice(&DELETE_OF_TWO)?;
+    bytes.extend_from_slice(one)?;
+    bytes.extend_from_slice(other)?;
+    read_bytes(alloc, &bytes)
+}
+
+#[test]
+fn spans_are_sorted_and_clear(rt: HostRuntime) -> Result<(), Fail> {
+    let refused: [(&[u8], &[u8]); 4] = [
+        (&SECOND_OF_ONE, &FIRST_OF_ONE),
+        (&FIRST_OF_ONE, &SECOND_OF_ONE),
+        (&FIRST_OF_ONE, &FIRST_OF_ONE),
+        (&THIRD_OF_ONE, &FIRST_OF_ONE),
+    ];
+    for (one, other) in refused {
+        let reading = read_spans(rt.alloc(), one, other)?;
+        assert_eq!(rt; reading.ops.len(), 1);
+        assert_eq!(rt; reading.fault, Some((Fault::BadRecord, 44)));
+    }
+    let reading = read_spans(rt.alloc(), &FIRST_OF_ONE, &THIRD_OF_ONE)?;
+    assert_eq!(rt; reading.ops.len(), 2);
+    assert_eq!(rt; reading.fault, None);
+    Ok(())
+}
+
 // What is read of the first so many bytes of a file of two records, the first of which ends at 44.
 fn fault_of_front(len: usize, whole: usize) -> Option<(Fault, u64)> {
     if len < 8 {
@@ -332,7 +373,7 @@ fn fronts_in_pieces(rt: HostRuntime) -> Result<(), Fail> {
     let files: [&[u8]; 2] = [&DELETE_SECOND, &TAG_FIRST];
     for bytes in files {
         for len in 0..bytes.len() + 1 {
-            for size in 1..12 {
+            for size in 1..bytes.len() + 1 {
                 let reading = read_pieces(rt.alloc(), &bytes[..len], size, None)?;
                 let count = usize::from(len >= 44) + usize::from(len == bytes.len());
                 assert_eq!(rt; reading.ops.len(), count);
