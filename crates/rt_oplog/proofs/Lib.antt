@@ -4,6 +4,7 @@ pub mod Joins
 pub mod Kept
 pub mod Known
 pub mod Merges
+pub mod Merging
 pub mod Parts
 pub mod Places
 pub mod Pushes

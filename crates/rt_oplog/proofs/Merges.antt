@@ -1,19 +1,18 @@
 -- Two ordered lists of operations, merged.
-use Rattle.std.proofs.Common.{◌≡◌, ◌↔◌, ℕ, zero, suc, ◌+◌, ◌<◌, ◌≤◌, true, false, ◌==◌, nat_lt, ◌⊎◌, inl, inr, List, [], ◌∷◌, ◌++◌, length, map, get_or, take, drop, cond, max, refl, ap, ◌∙◌, sym, subst, arith, append_assoc, append-nil, length-append, take-append-drop, drop-cons, add-one, reverse}
+use Rattle.std.proofs.Common.{◌≡◌, ◌↔◌, ℕ, zero, suc, ◌+◌, ◌<◌, ◌≤◌, true, false, ◌==◌, nat_lt, ◌⊎◌, inl, inr, List, [], ◌∷◌, ◌++◌, length, map, get_or, take, drop, cond, max, refl, ap, ◌∙◌, sym, subst, arith, append_assoc, append-nil, take-append-drop, drop-cons, add-one, reverse}
 use Rattle.std.proofs.lemmas.Bool.Decides.{nat_tests}
 use Rattle.std.specs.List.{AllByRecursion}
 use Rattle.rt_stamps.specs.Stamps.{is_before}
-use Rattle.rt_stamps.proofs.Order.{before_trans, before_irrefl, before_total}
+use Rattle.rt_stamps.proofs.Order.{before_trans, before_irrefl}
 use Rattle.rt_oplog.specs.declared.ends.SiteEnd.{SiteEnd}
 use Rattle.rt_oplog.specs.Ends.{end_in}
 use Rattle.rt_oplog.specs.Operations.{Operation, stamp_of, has_bad_stamp, last_count}
 use Rattle.rt_oplog.specs.Logs.{Has, same_operation, reaches_into, clash, IsFalling, IsLog, known_end}
-use Rattle.rt_oplog.specs.Kept.{nothing, op_at, newest_first, IsKept}
-use Rattle.rt_oplog.specs.Merged.{IsMerged, HasClashOf}
-use Rattle.rt_oplog.proofs.Sets.{split, operation_true, clash_self, clash_sym, apart, member_before}
-use Rattle.rt_oplog.proofs.Joins.{free_past, IsUnion}
-use Rattle.std.proofs.lemmas.List.{get_or-append-add, take_more, drop_all, reverse-append}
-use Rattle.std.proofs.lemmas.List.Edits.{map_over_more}
+use Rattle.rt_oplog.specs.Kept.{op_at, newest_first, IsKept}
+use Rattle.rt_oplog.specs.Merged.{HasClashOf}
+use Rattle.rt_oplog.proofs.Sets.{split, operation_true, clash_self, clash_sym, member_before}
+use Rattle.rt_oplog.proofs.Joins.{free_past}
+use Rattle.std.proofs.lemmas.List.{take_more, reverse-append}
 use Rattle.std.proofs.Math.ListN.{set}
 use Rattle.rt_oplog.proofs.Places.{oldest_before, falling_front, at_has}
 
@@ -131,16 +130,16 @@ rising_seen ops (place ∷ order) f = (
   rising_seen ops order (falling_front (newest_first ops order) (op_at ops place) f),
 )
 
-pub merging_start : (ops : List Operation) (mine theirs : List ℕ) → IsFalling (newest_first ops mine) → IsFalling (newest_first ops theirs)
-    → Merging (newest_first ops mine) (newest_first ops theirs) [] (ops_at ops mine) (ops_at ops theirs)
-merging_start ops mine theirs f g = record {
+pub merging_start : (ops more : List Operation) (mine theirs : List ℕ) → IsFalling (newest_first ops mine) → IsFalling (newest_first more theirs)
+    → Merging (newest_first ops mine) (newest_first more theirs) [] (ops_at ops mine) (ops_at more theirs)
+merging_start ops more mine theirs f g = record {
   falling = tt;
   ahead = λ p x i j. absurd i;
   rising_left = rising_seen ops mine f;
-  rising_right = rising_seen ops theirs g;
+  rising_right = rising_seen more theirs g;
   members = λ x. (
-    λ h. elim h [ inl i ↦ absurd i | inr j ↦ elim j [ inl k ↦ inl ((seen_has ops mine x).1 k) | inr k ↦ inr ((seen_has ops theirs x).1 k) ] ],
-    λ h. inr (elim h [ inl k ↦ inl ((seen_has ops mine x).0 k) | inr k ↦ inr ((seen_has ops theirs x).0 k) ]),
+    λ h. elim h [ inl i ↦ absurd i | inr j ↦ elim j [ inl k ↦ inl ((seen_has ops mine x).1 k) | inr k ↦ inr ((seen_has more theirs x).1 k) ] ],
+    λ h. inr (elim h [ inl k ↦ inl ((seen_has ops mine x).0 k) | inr k ↦ inr ((seen_has more theirs x).0 k) ]),
   );
 }
 
@@ -195,33 +194,6 @@ log_newer set op l s f h = record {
   ];
 }
 
--- places behind those of other operations
-
-pub shifted_seen : (ops more : List Operation) (order : List ℕ) → newest_first (ops ++ more) (map (λ place. length ops + place) order) ≡ newest_first more order
-shifted_seen ops more [] = refl
-shifted_seen ops more (place ∷ order) =
-    let e : op_at (ops ++ more) (length ops + place) ≡ op_at more place = get_or-append-add ops more place nothing in
-    rw (shifted_seen ops more order, e) refl
-
-pub shifted_within : (ops more : List Operation) (order : List ℕ) → AllByRecursion (λ place. place < length more) order → AllByRecursion (λ place. place < length (ops ++ more)) (map (λ place. length ops + place) order)
-shifted_within ops more [] h = tt
-shifted_within ops more (place ∷ order) h = (let l = length-append ops more in let a = h.0 in omega arith, shifted_within ops more order h.1)
-
-pub shift_fits : (n m total : ℕ) (order : List ℕ) → AllByRecursion (λ place. place < m) order → n + m ≡ total → AllByRecursion (λ place. n + place < total) order
-shift_fits n m total [] h e = tt
-shift_fits n m total (place ∷ order) h e = (let a = h.0 in omega arith, shift_fits n m total order h.1 e)
-
--- the union of two logs, from what was merged
-pub union_merged : (one other : List Operation) (ops : List Operation) (mine theirs order : List ℕ) (ends : List SiteEnd) → one ≡ newest_first ops mine → other ≡ newest_first ops theirs
-    → IsMerged ops mine theirs order → IsKept ops order ends → IsUnion one other (newest_first ops order)
-union_merged one other ops mine theirs order ends e f m k = record {
-  log = k.log;
-  members = λ x. (
-    λ h. elim ((m.members x).0 h) [ inl i ↦ inl (subst (λ s. Has s x) (sym e) i) | inr i ↦ inr (subst (λ s. Has s x) (sym f) i) ],
-    λ h. (m.members x).1 (elim h [ inl i ↦ inl (subst (λ s. Has s x) e i) | inr i ↦ inr (subst (λ s. Has s x) f i) ]),
-  );
-}
-
 -- fronts of the places
 
 pub seen_append : (ops : List Operation) (xs ys : List ℕ) → newest_first ops (xs ++ ys) ≡ newest_first ops ys ++ newest_first ops xs
@@ -236,7 +208,7 @@ has_after : (xs ys : List Operation) (x : Operation) → Has ys x → Has (xs ++
 has_after [] ys x h = h
 has_after (y ∷ xs) ys x h = inr (has_after xs ys x h)
 
-seen_parts : (ops : List Operation) (order : List ℕ) (i : ℕ) → newest_first ops order ≡ newest_first ops (drop i order) ++ newest_first ops (take i order)
+pub seen_parts : (ops : List Operation) (order : List ℕ) (i : ℕ) → newest_first ops order ≡ newest_first ops (drop i order) ++ newest_first ops (take i order)
 seen_parts ops order i = ap (newest_first ops) (sym (take-append-drop i order)) ∙ seen_append ops (take i order) (drop i order)
 
 falling_take : (ops : List Operation) (order : List ℕ) (i : ℕ) → IsFalling (newest_first ops order) → IsFalling (newest_first ops (take i order))
@@ -292,82 +264,8 @@ clash_step ops order i ends op h e f k l =
     let (p, j, c) = clash_below set op (subst IsFalling seen (falling_take ops order (i + 1) f)) below in
     (p, op, inl (has_take ops order i p j), inl (subst (λ y. Has (newest_first ops order) y) (sym e) (at_has ops order i 0 h)), c)
 
--- one more operation merged
-
-ops_drop : (ops : List Operation) (order : List ℕ) (i : ℕ) → i < length order → ops_at ops (drop i order) ≡ op_at ops (get_or order i 0) ∷ ops_at ops (drop (i + 1) order)
+pub ops_drop : (ops : List Operation) (order : List ℕ) (i : ℕ) → i < length order → ops_at ops (drop i order) ≡ op_at ops (get_or order i 0) ∷ ops_at ops (drop (i + 1) order)
 ops_drop ops order i h = ap (ops_at ops) (drop-cons order i 0 h ∙ ap (λ n. get_or order i 0 ∷ drop n order) (sym (add-one i)))
-
-abbrev MergingAt : List Operation → List Operation → List Operation → List ℕ → List ℕ → List ℕ → Type 0
-MergingAt one other ops order left right = Merging one other (newest_first ops order) (ops_at ops left) (ops_at ops right)
-
-pub merge_left : (one other ops : List Operation) (order mine theirs : List ℕ) (i j : ℕ) → i < length mine → j < length theirs
-    → Merging one other (newest_first ops order) (ops_at ops (drop i mine)) (ops_at ops (drop j theirs))
-    → is_before (stamp_of (op_at ops (get_or mine i 0))) (stamp_of (op_at ops (get_or theirs j 0))) ≡ true
-    → Merging one other (newest_first ops (order ++ get_or mine i 0 ∷ [])) (ops_at ops (drop (i + 1) mine)) (ops_at ops (drop j theirs))
-merge_left one other ops order mine theirs i j h k m e =
-    let a = ops_drop ops mine i h in
-    let b = ops_drop ops theirs j k in
-    let c = seen_push ops order (get_or mine i 0) in
-    rw (c, b) (take_lesser one other (newest_first ops order) (op_at ops (get_or mine i 0)) (op_at ops (get_or theirs j 0)) (ops_at ops (drop (i + 1) mine)) (ops_at ops (drop (j + 1) theirs))
-    (subst (λ l. Merging one other (newest_first ops order) l (op_at ops (get_or theirs j 0) ∷ ops_at ops (drop (j + 1) theirs))) a (subst (λ r. Merging one other (newest_first ops order) (ops_at ops (drop i mine)) r) b m)) e)
-
-pub merge_right : (one other ops : List Operation) (order mine theirs : List ℕ) (i j : ℕ) → i < length mine → j < length theirs
-    → Merging one other (newest_first ops order) (ops_at ops (drop i mine)) (ops_at ops (drop j theirs))
-    → is_before (stamp_of (op_at ops (get_or theirs j 0))) (stamp_of (op_at ops (get_or mine i 0))) ≡ true
-    → Merging one other (newest_first ops (order ++ get_or theirs j 0 ∷ [])) (ops_at ops (drop i mine)) (ops_at ops (drop (j + 1) theirs))
-merge_right one other ops order mine theirs i j h k m e =
-    sides one other _ _ _ (merge_left one other ops order theirs mine j i k h (sides one other _ _ _ m) e)
-
-pub merge_both : (one other ops : List Operation) (order mine theirs : List ℕ) (i j : ℕ) → i < length mine → j < length theirs
-    → Merging one other (newest_first ops order) (ops_at ops (drop i mine)) (ops_at ops (drop j theirs))
-    → op_at ops (get_or mine i 0) ≡ op_at ops (get_or theirs j 0)
-    → Merging one other (newest_first ops (order ++ get_or mine i 0 ∷ [])) (ops_at ops (drop (i + 1) mine)) (ops_at ops (drop (j + 1) theirs))
-merge_both one other ops order mine theirs i j h k m e =
-    let a = ops_drop ops mine i h in
-    let b = ops_drop ops theirs j k in
-    let c = seen_push ops order (get_or mine i 0) in
-    rw c (take_both one other (newest_first ops order) (op_at ops (get_or mine i 0)) (op_at ops (get_or theirs j 0)) (ops_at ops (drop (i + 1) mine)) (ops_at ops (drop (j + 1) theirs))
-    (subst (λ l. Merging one other (newest_first ops order) l (op_at ops (get_or theirs j 0) ∷ ops_at ops (drop (j + 1) theirs))) a (subst (λ r. Merging one other (newest_first ops order) (ops_at ops (drop i mine)) r) b m)) e)
-
--- two different operations of one stamp clash
-pub clash_at : (ops : List Operation) (mine theirs : List ℕ) (i j : ℕ) → i < length mine → j < length theirs → IsLog (newest_first ops theirs)
-    → is_before (stamp_of (op_at ops (get_or mine i 0))) (stamp_of (op_at ops (get_or theirs j 0))) ≡ false
-    → is_before (stamp_of (op_at ops (get_or theirs j 0))) (stamp_of (op_at ops (get_or mine i 0))) ≡ false
-    → same_operation (op_at ops (get_or mine i 0)) (op_at ops (get_or theirs j 0)) ≡ false
-    → HasClashOf (newest_first ops mine) (newest_first ops theirs)
-clash_at ops mine theirs i j h k l e f n =
-    let x = op_at ops (get_or mine i 0) in
-    let y = op_at ops (get_or theirs j 0) in
-    let s = l.sound y (at_has ops theirs j 0 k) in (
-      x,
-      y,
-      inl (at_has ops mine i 0 h),
-      inr (at_has ops theirs j 0 k),
-      split (clash x y) (λ t. t)
-          (λ t. let d = apart x y s n t in let b = before_total (stamp_of x) (stamp_of y) e d in absurd (cc (b, f))),
-    )
-
--- both rests, of which one is empty
-pub merged_all : (ops : List Operation) (order mine theirs : List ℕ) (i j : ℕ) → AllByRecursion (λ place. place < length ops) mine → AllByRecursion (λ place. place < length ops) theirs
-    → AllByRecursion (λ place. place < length ops) order → (length mine ≤ i) ⊎ (length theirs ≤ j)
-    → Merging (newest_first ops mine) (newest_first ops theirs) (newest_first ops order) (ops_at ops (drop i mine)) (ops_at ops (drop j theirs))
-    → IsMerged ops mine theirs ((order ++ drop i mine) ++ drop j theirs)
-merged_all ops order mine theirs i j w v u h m =
-    let all = done h in
-    record {
-      within = within_append (length ops) (order ++ drop i mine) (drop j theirs) (within_append (length ops) order (drop i mine) u (within_drop (length ops) i mine w)) (within_drop (length ops) j theirs v);
-      falling = all.falling;
-      members = λ x. (λ k. (all.members x).0 (inl k), λ k. elim ((all.members x).1 k) [ inl a ↦ a | inr b ↦ elim b [ inl a ↦ absurd a | inr a ↦ absurd a ] ]);
-    }
-  where
-    done : (length mine ≤ i) ⊎ (length theirs ≤ j) → Merging (newest_first ops mine) (newest_first ops theirs) (newest_first ops ((order ++ drop i mine) ++ drop j theirs)) [] []
-    done k = elim k [
-      | inl a ↦ (let e : drop i mine ≡ [] = drop_all i mine a in
-          merging_rest (newest_first ops mine) (newest_first ops theirs) ops (order ++ drop i mine) (drop j theirs)
-          (sides _ _ _ _ _ (rw (e, append-nil order) (rw e at m))))
-      | inr b ↦ (let e : drop j theirs ≡ [] = drop_all j theirs b in
-          rw (e, append-nil (order ++ drop i mine)) (merging_rest (newest_first ops mine) (newest_first ops theirs) ops order (drop i mine) (rw e at m)))
-    ]
 
 pub kept_none : (ops : List Operation) (ends : List SiteEnd) → ((s : ℕ) → end_in ends s ≡ 0) → IsKept ops [] ends
 kept_none ops ends e = record {
@@ -386,12 +284,3 @@ pub at_map : (ops : List Operation) (order : List ℕ) (i : ℕ) (d : Operation)
 at_map ops [] i d h = absurd (omega arith)
 at_map ops (place ∷ order) zero d h = refl
 at_map ops (place ∷ order) (suc i) d h = at_map ops order i d (omega arith)
-
-at_any : (xs : List ℕ) (i d e : ℕ) → i < length xs → get_or xs i d ≡ get_or xs i e
-at_any [] i d e h = absurd (omega arith)
-at_any (x ∷ xs) zero d e h = refl
-at_any (x ∷ xs) (suc i) d e h = at_any xs i d e (omega arith)
-
-pub shift_step : (start : ℕ) (xs ys : List ℕ) (i : ℕ) → i < length xs → i < length ys → ys ≡ map (λ place. start + place) (take i xs) ++ drop i xs
-    → set ys i (start + get_or ys i 0) ≡ map (λ place. start + place) (take (i + 1) xs) ++ drop (i + 1) xs
-shift_step start xs ys i h k e = map_over_more (λ place. start + place) xs ys i (get_or ys i 0) h e (at_any ys i 0 (get_or ys i 0) k)

@@ -5,13 +5,12 @@ ghost use Rattle.rt_stamps.specs.declared.fault.Fault.TheVariants.{NoMemory};
 ghost use Rattle.rt_stamps.specs.Stamps.{is_before};
 ghost use Rattle.rt_oplog.specs.Operations.{stamp_of, has_bad_stamp};
 ghost use Rattle.rt_oplog.specs.Logs.{IsLog, IsFalling, holds, same_operation, clash, known_end};
-ghost use Rattle.rt_oplog.specs.Kept.{op_at, newest_first, leading, IsKept};
-ghost use Rattle.rt_oplog.specs.Merged.{AreBoth};
+ghost use Rattle.rt_oplog.specs.Kept.{op_at, newest_first, leading};
 ghost use Rattle.rt_oplog.specs.Outcomes.{Pushes, Joins};
 
 use crate::Op;
 use crate::ends::Ends;
-use crate::merge::{Index, index_of, number, shift, take_out};
+use crate::merge::{ends_of, merge};
 use crate::same::{is_clash, is_same};
 use rt_stamps::{Fault, ROOT, Stamp};
 use std::alloc::Global;
@@ -191,19 +190,10 @@ impl OpLog {
     }
 }
 
-/// The operations of two logs in one list, with the places of each by rising stamp.
-#[derive(Drop)]
-struct Parts {
-    alloc: Global,
-    ops: Vec<Op>,
-    mine: Vec<usize>,
-    theirs: Vec<usize>,
-}
-
-/// Moves the operations of the second log behind those of the first.
-fn both(one: OpLog, other: OpLog) -> Result<Parts, Fault>
-    ensures both { IfOk result (λ both. AreBoth both.ops.items both.mine.items both.theirs.items one.operations other.operations) }
-    ensures fault { IfErr result (λ fault. fault ≡ NoMemory) }
+/// The operations of both logs, each once. `Conflict` exactly where two of them clash, `NoMemory`
+/// only where a growth was refused. Both logs are used up.
+pub fn join(one: OpLog, other: OpLog) -> Result<OpLog, Fault>
+    ensures { Joins one.operations other.operations result }
 {
     let OpLog {
         alloc,
@@ -213,48 +203,15 @@ fn both(one: OpLog, other: OpLog) -> Result<Parts, Fault>
     } = one;
     let OpLog {
         ops: mut more,
-        order: mut theirs,
+        order: theirs,
         ..
     } = other;
-    let start = ops.len();
-    ops.append(&mut more)?;
-    shift(&mut theirs, start, ops.len());
-    Ok(Parts {
-        alloc,
-        ops,
-        mine,
-        theirs,
-    })
-}
-
-/// The log of the operations that an index names. The others are dropped.
-fn log_of(alloc: Global, mut ops: Vec<Op>, index: Index) -> Result<OpLog, Fault>
-    requires { IsKept ops.items index.order.items index.ends.ends.items }
-    ensures log { IfOk result (λ log. log.operations ≡ newest_first ops.items index.order.items) }
-    ensures fault { IfErr result (λ fault. fault ≡ NoMemory) }
-{
-    let Index { mut order, ends } = index;
-    let row = take_out(alloc, &mut ops, &order)?;
-    number(&mut order);
+    let order = merge(alloc, &mut ops, &mut more, &mine, &theirs)?;
+    let ends = ends_of(alloc, &ops, &order)?;
     Ok(OpLog {
         alloc,
-        ops: row,
+        ops,
         order,
         ends,
     })
-}
-
-/// The operations of both logs, each once. `Conflict` exactly where two of them clash, `NoMemory`
-/// only where a growth was refused. Both logs are used up.
-pub fn join(one: OpLog, other: OpLog) -> Result<OpLog, Fault>
-    ensures { Joins one.operations other.operations result }
-{
-    let Parts {
-        alloc,
-        ops,
-        mine,
-        theirs,
-    } = both(one, other)?;
-    let index = index_of(alloc, &ops, &mine, &theirs)?;
-    log_of(alloc, ops, index)
 }

@@ -1,63 +1,123 @@
 // Two logs merged.
-ghost use Rattle.std.specs.Prelude.{◌≡◌, ℕ, ◌+◌, ◌<◌, ◌≤◌, ◌⊎◌, List, [], true, false, length, map, slice_index_or, slice_set, vec_len, MatchResult, IfOk, IfErr, Ok, Err};
+ghost use Rattle.std.specs.Prelude.{◌≡◌, ℕ, ◌<◌, ◌⊎◌, [], ◌∷◌, ◌++◌, false, length, map, slice_index_or, slice_set, MatchResult, OnOk, IfErr};
 ghost use Rattle.std.specs.List.{AllByRecursion, range_with_len};
 ghost use Rattle.rt_stamps.specs.declared.fault.Fault.TheVariants.{NoMemory, Conflict};
 ghost use Rattle.rt_stamps.specs.Stamps.{is_before};
 ghost use Rattle.rt_oplog.specs.Operations.{Operation, stamp_of, has_bad_stamp};
-ghost use Rattle.rt_oplog.specs.Logs.{Has, IsLog, IsFalling, clash, joined};
+ghost use Rattle.rt_oplog.specs.Logs.{Has, IsLog, IsFalling, same_operation};
 ghost use Rattle.rt_oplog.specs.Kept.{op_at, newest_first, IsKept};
 ghost use Rattle.rt_oplog.specs.Merged.{IsMerged, HasClashOf};
 
 use crate::Op;
 use crate::ends::Ends;
 use crate::same::is_same;
-use rt_stamps::Fault;
+use rt_stamps::{Fault, Stamp};
 use std::alloc::Global;
 use std::mem;
 
-/// The places of operations by rising stamp, and the known ends of their sites.
-#[derive(Drop)]
-pub(crate) struct Index {
-    pub order: Vec<usize>,
-    pub ends: Ends,
-}
-
-/// Whether one operation is before another.
-fn is_older(one: &Op, other: &Op) -> bool
-    ensures { result ≡ is_before (stamp_of one.now) (stamp_of other.now) }
+/// The stamp of the operation of a place.
+fn stamp_at(ops: &[Op], place: usize) -> Stamp
+    requires { place < length ops.now }
+    ensures { result ≡ stamp_of (op_at ops.now place) }
 {
-    one.stamp() < other.stamp()
+    ops[place].stamp()
 }
 
-/// The places of both lists by rising stamp, those of one operation once. `Conflict` where two
-/// different operations have one stamp.
-pub(crate) fn merged(
+/// Whether one stamp is before another.
+fn is_before(one: Stamp, other: Stamp) -> bool
+    ensures { result ≡ is_before one other }
+{
+    one < other
+}
+
+/// Whether the operations of two places are the same.
+fn are_same(ops: &[Op], place: usize, more: &[Op], other: usize) -> bool
+    requires one { place < length ops.now }
+    requires other { other < length more.now }
+    ensures { result ≡ same_operation (op_at ops.now place) (op_at more.now other) }
+{
+    is_same(&ops[place], &more[other])
+}
+
+/// Puts an operation in the stead of another.
+fn exchange(ops: &mut [Op], place: usize, op: Op) -> Op
+    requires { place < length ops.old }
+    ensures value { result ≡ slice_index_or ops.old place result }
+    ensures after { ops.new ≡ slice_set ops.old place op }
+    ensures len { length ops.new ≡ length ops.old }
+{
+    mem::replace(&mut ops[place], op)
+}
+
+/// Moves the operation of a place behind others, and names its new place.
+fn take_over(
     alloc: Global,
-    ops: &[Op],
+    ops: &mut Vec<Op>,
+    order: &mut Vec<usize>,
+    more: &mut [Op],
+    place: usize,
+) -> Result<(), Fault>
+    requires { place < length more.old }
+    ensures ops { OnOk result (ops.new.items ≡ ops.old.items ++ op_at more.old place ∷ []) }
+    ensures order { OnOk result (order.new.items ≡ order.old.items ++ length ops.old.items ∷ []) }
+    ensures others { (p : ℕ) → (p ≡ place → ⊥) → op_at more.new p ≡ op_at more.old p }
+    ensures len { length more.new ≡ length more.old }
+    ensures fault { IfErr result (λ fault. fault ≡ NoMemory) }
+{
+    order.push(ops.len())?;
+    let op = exchange(more, place, Op::stand_in(alloc));
+    ops.push(op)?;
+    Ok(())
+}
+
+/// Moves the operations of these places behind others, and names their new places.
+fn take_rest(
+    alloc: Global,
+    ops: &mut Vec<Op>,
+    order: &mut Vec<usize>,
+    more: &mut [Op],
+    places: &[usize],
+) -> Result<(), Fault>
+    requires within { AllByRecursion (λ place. place < length more.old) places.now }
+    requires falling { IsFalling (newest_first more.old places.now) }
+    ensures ops { OnOk result (ops.new.items ≡ ops.old.items ++ map (op_at more.old) places.now) }
+    ensures order { OnOk result (order.new.items ≡ order.old.items ++ range_with_len (length ops.old.items) (length places.now)) }
+    ensures fault { IfErr result (λ fault. fault ≡ NoMemory) }
+{
+    for place in places {
+        take_over(alloc, ops, order, more, *place)?;
+    }
+    Ok(())
+}
+
+/// The places of the operations of both lists by rising stamp, those of one operation once. What is
+/// only in `more` is moved behind `ops`. `Conflict` where two different operations have one stamp.
+pub(crate) fn merge(
+    alloc: Global,
+    ops: &mut Vec<Op>,
+    more: &mut [Op],
     mine: &[usize],
     theirs: &[usize],
 ) -> Result<Vec<usize>, Fault>
-    requires mine { AllByRecursion (λ place. place < length ops.now) mine.now }
-    requires theirs { AllByRecursion (λ place. place < length ops.now) theirs.now }
-    requires one { IsLog (newest_first ops.now mine.now) }
-    requires other { IsLog (newest_first ops.now theirs.now) }
-    ensures { MatchResult result (λ order. IsMerged ops.now mine.now theirs.now order.items) (λ fault. (fault ≡ NoMemory) ⊎ ((fault ≡ Conflict) × HasClashOf (newest_first ops.now mine.now) (newest_first ops.now theirs.now))) }
+    requires mine { AllByRecursion (λ place. place < length ops.old.items) mine.now }
+    requires theirs { AllByRecursion (λ place. place < length more.old) theirs.now }
+    requires one { IsLog (newest_first ops.old.items mine.now) }
+    requires other { IsLog (newest_first more.old theirs.now) }
+    ensures { MatchResult result (λ order. IsMerged ops.new.items (newest_first ops.old.items mine.now) (newest_first more.old theirs.now) order.items) (λ fault. (fault ≡ NoMemory) ⊎ ((fault ≡ Conflict) × HasClashOf (newest_first ops.old.items mine.now) (newest_first more.old theirs.now))) }
 {
     let mut order = Vec::new(alloc);
     let mut left = 0;
     let mut right = 0;
     while left < mine.len() && right < theirs.len() {
-        let one = &ops[mine[left]];
-        let other = &ops[theirs[right]];
-        let before = is_older(one, other);
-        let behind = is_older(other, one);
-        if before {
+        let one = stamp_at(ops, mine[left]);
+        let other = stamp_at(more, theirs[right]);
+        if is_before(one, other) {
             order.push(mine[left])?;
             left += 1;
-        } else if behind {
-            order.push(theirs[right])?;
+        } else if is_before(other, one) {
+            take_over(alloc, ops, &mut order, more, theirs[right])?;
             right += 1;
-        } else if is_same(one, other) {
+        } else if are_same(ops, mine[left], more, theirs[right]) {
             order.push(mine[left])?;
             left += 1;
             right += 1;
@@ -66,7 +126,7 @@ pub(crate) fn merged(
         }
     }
     order.extend_from_slice(&mine[left..])?;
-    order.extend_from_slice(&theirs[right..])?;
+    take_rest(alloc, ops, &mut order, more, &theirs[right..])?;
     Ok(order)
 }
 
@@ -87,66 +147,4 @@ pub(crate) fn ends_of(alloc: Global, ops: &[Op], order: &[usize]) -> Result<Ends
         ends.raise(op.site(), op.last_count());
     }
     Ok(ends)
-}
-
-/// The index of the operations of both lists, each once. `Conflict` exactly where two of them clash.
-pub(crate) fn index_of(
-    alloc: Global,
-    ops: &[Op],
-    mine: &[usize],
-    theirs: &[usize],
-) -> Result<Index, Fault>
-    requires mine { AllByRecursion (λ place. place < length ops.now) mine.now }
-    requires theirs { AllByRecursion (λ place. place < length ops.now) theirs.now }
-    requires one { IsLog (newest_first ops.now mine.now) }
-    requires other { IsLog (newest_first ops.now theirs.now) }
-    ensures { MatchResult result (λ index. IsKept ops.now index.order.items index.ends.ends.items × (joined (newest_first ops.now mine.now) (newest_first ops.now theirs.now) ≡ Ok (newest_first ops.now index.order.items))) (λ fault. (joined (newest_first ops.now mine.now) (newest_first ops.now theirs.now) ≡ Err fault) ⊎ (fault ≡ NoMemory)) }
-{
-    let order = merged(alloc, ops, mine, theirs)?;
-    let ends = ends_of(alloc, ops, &order)?;
-    Ok(Index { order, ends })
-}
-
-/// Moves places behind so many others.
-pub(crate) fn shift(places: &mut [usize], start: usize, total: usize)
-    requires { AllByRecursion (λ place. start + place < total) places.old }
-    ensures { places.new ≡ map (λ place. start + place) places.old }
-{
-    for place in places.iter_mut() {
-        *place = start + *place;
-    }
-}
-
-/// Numbers places from 0 on.
-pub(crate) fn number(places: &mut Vec<usize>)
-    ensures { places.new.items ≡ range_with_len 0 (length places.old.items) }
-{
-    for i in 0..places.len() {
-        places[i] = i;
-    }
-}
-
-/// Puts an operation in the stead of another.
-fn exchange(ops: &mut [Op], place: usize, op: Op) -> Op
-    requires { place < length ops.old }
-    ensures value { result ≡ slice_index_or ops.old place result }
-    ensures after { ops.new ≡ slice_set ops.old place op }
-    ensures len { length ops.new ≡ length ops.old }
-{
-    mem::replace(&mut ops[place], op)
-}
-
-/// Takes the operations of these places out, in their order.
-pub(crate) fn take_out(alloc: Global, ops: &mut [Op], order: &[usize]) -> Result<Vec<Op>, Fault>
-    requires within { AllByRecursion (λ place. place < length ops.old) order.now }
-    requires falling { IsFalling (newest_first ops.old order.now) }
-    ensures ops { IfOk result (λ row. row.items ≡ map (op_at ops.old) order.now) }
-    ensures fault { IfErr result (λ fault. fault ≡ NoMemory) }
-{
-    let mut row = Vec::new(alloc);
-    row.reserve_exact(order.len())?;
-    for place in order {
-        row.push_reserved(exchange(ops, *place, Op::stand_in(alloc)));
-    }
-    Ok(row)
 }
