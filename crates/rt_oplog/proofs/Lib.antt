@@ -3,6 +3,7 @@ pub mod Lengths
 pub mod Joins
 pub mod Kept
 pub mod Known
+pub mod LogsOf
 pub mod Merges
 pub mod Merging
 pub mod Parts

@@ -108,11 +108,11 @@ pub seen_push : (ops : List Operation) (order : List ℕ) (place : ℕ) → newe
 seen_push ops [] place = refl
 seen_push ops (first ∷ order) place = ap (λ xs. xs ++ op_at ops first ∷ []) (seen_push ops order place)
 
-has_end : (set : List Operation) (q x : Operation) → Has set x ⊎ (q ≡ x) → Has (set ++ q ∷ []) x
+pub has_end : (set : List Operation) (q x : Operation) → Has set x ⊎ (q ≡ x) → Has (set ++ q ∷ []) x
 has_end [] q x h = elim h [ inl i ↦ absurd i | inr e ↦ inl e ]
 has_end (y ∷ set) q x h = elim h [ inl i ↦ elim i [ inl e ↦ inl e | inr j ↦ inr (has_end set q x (inl j)) ] | inr e ↦ inr (has_end set q x (inr e)) ]
 
-end_has : (set : List Operation) (q x : Operation) → Has (set ++ q ∷ []) x → Has set x ⊎ (q ≡ x)
+pub end_has : (set : List Operation) (q x : Operation) → Has (set ++ q ∷ []) x → Has set x ⊎ (q ≡ x)
 end_has [] q x h = elim h [ inl e ↦ inr e | inr i ↦ absurd i ]
 end_has (y ∷ set) q x h = elim h [ inl e ↦ inl (inl e) | inr i ↦ elim (end_has set q x i) [ inl j ↦ inl (inr j) | inr e ↦ inr e ] ]
 

@@ -203,6 +203,18 @@ kept_with ops order ends more op k s n f e =
       known = λ site. e site ∙ sym (end_with op (newest_first ops order) site) ∙ ap (λ set. known_end set site) (sym same);
     }
 
+-- an operation that a log can take, and that stands at a place already
+pub kept_at : (ops : List Operation) (order : List ℕ) (ends more : List SiteEnd) (op : Operation) (place : ℕ) → IsKept ops order ends → op_at ops place ≡ op → place < length ops → has_bad_stamp op ≡ false
+    → holds (newest_first ops order) op ≡ false → list_any (clash op) (newest_first ops order) ≡ false → ((s : ℕ) → end_in more s ≡ known_end (op ∷ newest_first ops order) s)
+    → IsKept ops (insert order (leading (is_earlier ops (stamp_of op)) order) place) more
+kept_at ops order ends more op place k is here s n f e =
+    let same = inserted ops op place order is k.log.falling in
+    record {
+      within = within_insert (length ops) place (leading (is_earlier ops (stamp_of op)) order) order (leading_le (is_earlier ops (stamp_of op)) order) here k.within;
+      log = subst IsLog (sym same) (log_with op (newest_first ops order) k.log s n f);
+      known = λ site. e site ∙ sym (end_with op (newest_first ops order) site) ∙ ap (λ set. known_end set site) (sym same);
+    }
+
 pub length_seen : (ops : List Operation) (order : List ℕ) → length (newest_first ops order) ≡ length order
 length_seen ops [] = refl
 length_seen ops (place ∷ order) = omega (arith, length-append (newest_first ops order) (op_at ops place ∷ []), length_seen ops order)

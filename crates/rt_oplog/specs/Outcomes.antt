@@ -1,9 +1,10 @@
 -- What the calls of a log answer and leave.
-use Rattle.std.specs.Prelude.{◌≡◌, ℕ, ◌+◌, ◌≤◌, ◌⊎◌, List, Result, Ok, Err, MatchResult}
+use Rattle.std.specs.Prelude.{◌≡◌, ◌↔◌, ℕ, ◌+◌, ◌≤◌, ◌⊎◌, List, take, slice_get, Some, Result, Ok, Err, MatchResult}
 use Rattle.rt_stamps.specs.declared.fault.Fault.{Fault}
 use Rattle.rt_stamps.specs.declared.fault.Fault.TheVariants.{NoMemory}
 use Rattle.rt_oplog.specs.Operations.{Operation}
-use Rattle.rt_oplog.specs.Logs.{pushed, joined}
+use Rattle.rt_oplog.specs.declared.log.Refused.{Refused}
+use Rattle.rt_oplog.specs.Logs.{Has, IsLog, pushed, joined}
 
 -- a log's operations, the newest first, and how many pushes will take no memory
 pub record Log : Type 0 where
@@ -15,6 +16,18 @@ abbrev pub Pushes : Operation → Log → Result (Unit {0}) Fault → Log → Ty
 Pushes op old result new = MatchResult result
     (λ _. (pushed op old.operations ≡ Ok new.operations) × (old.room ≤ new.room + 1))
     (λ fault. (new.operations ≡ old.operations) × (old.room ≤ new.room) × ((pushed op old.operations ≡ Err fault) ⊎ ((fault ≡ NoMemory) × (old.room ≡ 0))))
+
+-- the log that has just these operations
+pub record IsLogOf (ops log : List Operation) : Type 0 where
+  pub is_log : IsLog log
+  pub members : (op : Operation) → Has log op ↔ Has ops op
+
+-- Operations have a log. Or one of them is the first that is refused: those before it have a log, and a push to that
+-- refuses it. Or memory is wanting.
+abbrev pub MakesLog : List Operation → Result Log Refused → Type 0
+MakesLog ops result = MatchResult result
+    (λ log. IsLogOf ops log.operations)
+    (λ refused. ((log : List Operation) × (op : Operation) × IsLogOf (take refused.place ops) log × (slice_get ops refused.place ≡ Some op) × (pushed op log ≡ Err refused.fault)) ⊎ (refused.fault ≡ NoMemory))
 
 -- A join gives what `joined` says, or want of memory.
 abbrev pub Joins : List Operation → List Operation → Result Log Fault → Type 0

@@ -20,6 +20,6 @@ mod tests;
 pub mod text;
 
 pub use file::{Reading, read_file, write_file};
-pub use log::{OpLog, join};
+pub use log::{OpLog, Refused, join};
 pub use op::{Edit, Op};
 pub use text::Text;

@@ -1,12 +1,12 @@
 // Logs.
-ghost use Rattle.std.specs.Prelude.{◌≡◌, ℕ, ◌+◌, ◌-◌, ◌<◌, ◌≤◌, List, [], true, false, length, reverse, map, min, vec_len, vec_capacity, IsOk, OnOk, IfOk, IfErr, OnErr, slice_get, Some};
+ghost use Rattle.std.specs.Prelude.{◌≡◌, ℕ, ◌+◌, ◌-◌, ◌<◌, ◌≤◌, List, [], true, false, length, reverse, map, min, vec_len, vec_capacity, IsOk, OnOk, IfOk, IfErr, OnErr, MatchResult, ◌⊎◌, Ok, Err, slice_get, Some};
 ghost use Rattle.std.specs.List.{AllByRecursion, list_any};
 ghost use Rattle.rt_stamps.specs.declared.fault.Fault.TheVariants.{NoMemory};
 ghost use Rattle.rt_stamps.specs.Stamps.{is_before};
 ghost use Rattle.rt_oplog.specs.Operations.{stamp_of, has_bad_stamp};
-ghost use Rattle.rt_oplog.specs.Logs.{IsLog, IsFalling, holds, same_operation, clash, known_end};
-ghost use Rattle.rt_oplog.specs.Kept.{op_at, newest_first, leading};
-ghost use Rattle.rt_oplog.specs.Outcomes.{Pushes, Joins};
+ghost use Rattle.rt_oplog.specs.Logs.{IsLog, IsFalling, holds, same_operation, clash, known_end, pushed};
+ghost use Rattle.rt_oplog.specs.Kept.{op_at, newest_first, leading, IsKept};
+ghost use Rattle.rt_oplog.specs.Outcomes.{Pushes, MakesLog, Joins};
 
 use crate::Op;
 use crate::ends::Ends;
@@ -25,6 +25,15 @@ pub struct OpLog {
     /// Their places in `ops`, by rising stamp.
     order: Vec<usize>,
     ends: Ends,
+}
+
+/// Why operations have no log.
+#[derive(Clone, Copy, Debug, PartialEq, Eq)]
+pub struct Refused {
+    /// `BadStamp` or `Conflict`, with which the first refused operation was refused, or `NoMemory`.
+    pub fault: Fault,
+    /// How many operations stand before that one.
+    pub place: usize,
 }
 
 impl Model for OpLog {
@@ -67,6 +76,16 @@ fn is_at(ops: &[Op], place: usize, op: &Op) -> bool
     is_same(&ops[place], op)
 }
 
+/// Whether this very operation is one of the places.
+fn is_held(ops: &[Op], order: &[usize], op: &Op) -> bool
+    requires within { AllByRecursion (λ place. place < length ops.now) order.now }
+    requires falling { IsFalling (newest_first ops.now order.now) }
+    ensures { result ≡ holds (newest_first ops.now order.now) op.now }
+{
+    let place = place_of(ops, order, op.stamp());
+    place < order.len() && is_at(ops, order[place], op)
+}
+
 /// Whether an operation of the places clashes with this one.
 fn any_clash(ops: &[Op], order: &[usize], op: &Op) -> bool
     requires within { AllByRecursion (λ place. place < length ops.now) order.now }
@@ -82,6 +101,50 @@ fn any_clash(ops: &[Op], order: &[usize], op: &Op) -> bool
     false
 }
 
+/// Whether an operation of the places clashes with this one. What goes on from its site's known end
+/// clashes with none; what is the newest and goes on from below it clashes.
+fn has_clash(ops: &[Op], order: &[usize], ends: &Ends, op: &Op) -> bool
+    requires kept { IsKept ops.now order.now ends.now.ends.items }
+    requires sound { has_bad_stamp op.now ≡ false }
+    ensures { result ≡ list_any (clash op.now) (newest_first ops.now order.now) }
+{
+    if op.prev() >= ends.get(op.site()) {
+        return false;
+    }
+    if place_of(ops, order, op.stamp()) == order.len() {
+        return true;
+    }
+    any_clash(ops, order, op)
+}
+
+/// Pushes the operation of a place to the log of those that have been put in order.
+fn push_place(
+    ops: &[Op],
+    order: &mut Vec<usize>,
+    ends: &mut Ends,
+    place: usize,
+) -> Result<(), Fault>
+    requires place { place < length ops.now }
+    requires kept { IsKept ops.now order.old.items ends.old.ends.items }
+    ensures { MatchResult result
+        (λ _. IsKept ops.now order.new.items ends.new.ends.items × (pushed (op_at ops.now place) (newest_first ops.now order.old.items) ≡ Ok (newest_first ops.now order.new.items)))
+        (λ fault. (fault ≡ NoMemory) ⊎ (pushed (op_at ops.now place) (newest_first ops.now order.old.items) ≡ Err fault)) }
+{
+    let op = &ops[place];
+    op.check()?;
+    if is_held(ops, order, op) {
+        return Ok(());
+    }
+    if has_clash(ops, order, ends, op) {
+        return Err(Fault::Conflict);
+    }
+    ends.reserve(1)?;
+    let at = place_of(ops, order, op.stamp());
+    order.insert(at, place)?;
+    ends.raise(op.site(), op.last_count());
+    Ok(())
+}
+
 impl OpLog {
     /// A log without operations.
     pub fn new(alloc: Global) -> OpLog
@@ -93,6 +156,27 @@ impl OpLog {
             order: Vec::new(alloc),
             ends: Ends::new(alloc),
         }
+    }
+
+    /// The log of operations, each pushed in turn; they stay where they are. Else the first that a
+    /// push refuses, or `NoMemory` where a growth was refused.
+    pub fn from_ops(alloc: Global, ops: Vec<Op>) -> Result<OpLog, Refused>
+        ensures { MakesLog ops.items result }
+    {
+        let mut order = Vec::new(alloc);
+        let mut ends = Ends::new(alloc);
+        for place in 0..ops.len() {
+            match push_place(&ops, &mut order, &mut ends, place) {
+                Ok(()) => {}
+                Err(fault) => return Err(Refused { fault, place }),
+            }
+        }
+        Ok(OpLog {
+            alloc,
+            ops,
+            order,
+            ends,
+        })
     }
 
     /// Makes room for `more` calls of `push`, which then take no memory. `NoMemory` where a growth
@@ -142,8 +226,7 @@ impl OpLog {
     pub fn contains(&self, op: &Op) -> bool
         ensures { result ≡ holds self.now.operations op.now }
     {
-        let place = place_of(&self.ops, &self.order, op.stamp());
-        place < self.order.len() && is_at(&self.ops, self.order[place], op)
+        is_held(&self.ops, &self.order, op)
     }
 
     /// The greatest last count of a site's operations, 0 if it has none.
@@ -153,19 +236,12 @@ impl OpLog {
         self.ends.get(site)
     }
 
-    /// Whether an operation of the log clashes with this one. What goes on from its site's known
-    /// end clashes with none; what is the newest and goes on from below it clashes.
+    /// Whether an operation of the log clashes with this one.
     fn clashes(&self, op: &Op) -> bool
         requires { has_bad_stamp op.now ≡ false }
         ensures { result ≡ list_any (clash op.now) self.now.operations }
     {
-        if op.prev() >= self.ends.get(op.site()) {
-            return false;
-        }
-        if place_of(&self.ops, &self.order, op.stamp()) == self.order.len() {
-            return true;
-        }
-        any_clash(&self.ops, &self.order, op)
+        has_clash(&self.ops, &self.order, &self.ends, op)
     }
 
     /// Adds an operation; nothing where the log has it. `BadStamp` exactly for an operation that is

@@ -76,6 +76,47 @@ fn takes_each_operation_once(rt: HostRuntime) -> Result<(), Fail> {
     Ok(())
 }
 
+/// The log of operations.
+fn made(alloc: Global, ops: Vec<Op>) -> Result<OpLog, Fault> {
+    match OpLog::from_ops(alloc, ops) {
+        Ok(log) => Ok(log),
+        Err(refused) => Err(refused.fault),
+    }
+}
+
+/// The fault of the first operation that is refused, and its place.
+fn refused(alloc: Global, ops: Vec<Op>) -> Option<(Fault, usize)> {
+    match OpLog::from_ops(alloc, ops) {
+        Ok(_) => None,
+        Err(refused) => Some((refused.fault, refused.place)),
+    }
+}
+
+#[test]
+fn takes_operations_as_they_stand(rt: HostRuntime) -> Result<(), Fail> {
+    let alloc = rt.alloc();
+    let ops = vec![in alloc; y(alloc)?, ab(alloc)?, ab(alloc)?, c(alloc)?]?;
+    let log = made(alloc, ops)?;
+    assert_eq!(rt; log.len(), 3);
+    assert!(rt; log.get(0).stamp() == FIRST);
+    assert!(rt; log.get(1).stamp() == THIRD);
+    assert!(rt; log.contains(&c(alloc)?));
+    assert_eq!(rt; log.known(1), 4);
+    assert_eq!(rt; made(alloc, Vec::new(alloc))?.len(), 0);
+    Ok(())
+}
+
+#[test]
+fn refuses_operations_that_have_no_log(rt: HostRuntime) -> Result<(), Fail> {
+    let alloc = rt.alloc();
+    let ops = vec![in alloc; y(alloc)?, ab(alloc)?, b(alloc)?, c(alloc)?]?;
+    assert_eq!(rt; refused(alloc, ops), Some((Fault::Conflict, 2)));
+    let own = typed(alloc, FIRST, FIRST, &['a'])?;
+    let ops = vec![in alloc; own, ab(alloc)?, b(alloc)?]?;
+    assert_eq!(rt; refused(alloc, ops), Some((Fault::BadStamp, 0)));
+    Ok(())
+}
+
 #[test]
 fn refuses_a_clash(rt: HostRuntime) -> Result<(), Fail> {
     let alloc = rt.alloc();

@@ -1,0 +1,30 @@
+use Rattle.std.proofs.Common.{◌≡◌, ◌∷◌, ℕ, List, false, refl, sym, ap, ◌∙◌, Result, Ok}
+use Rattle.std.proofs.lemmas.List.{get_or_read}
+use Rattle.std.specs.List.{insert, list_any}
+use Rattle.rt_stamps.specs.declared.fault.Fault.{Fault}
+use Rattle.rt_oplog.specs.Operations.{Operation, stamp_of, has_bad_stamp}
+use Rattle.rt_oplog.specs.Logs.{holds, clash, known_end, pushed}
+use Rattle.rt_oplog.specs.Ends.{end_in}
+use Rattle.rt_oplog.specs.Kept.{nothing, op_at, newest_first, leading}
+use Rattle.rt_oplog.proofs.Pushes.{sound_if_ok, push_new}
+use Rattle.rt_oplog.proofs.Places.{is_earlier, inserted, kept_at}
+use Rattle.rt_oplog.proofs.log.push_place.Goals as goal
+
+pub returns : goal.returns
+returns c =
+    let ops = c.args.ops.now in
+    let order = c.args.order.now.items in
+    let place = c.args.place in
+    let op = c.index-ops-place.result in
+    let set = newest_first ops order in
+    let read : op ≡ op_at ops place = get_or_read ops place op c.requires.place c.index-ops-place.is nothing in
+    let sound : has_bad_stamp op ≡ false = sound_if_ok op c.in_ok-check.field-0 (sym c.in_ok-check.ensures) in
+    let new : holds set op ≡ false = ap (λ o. holds (newest_first ops o) op) (sym c.deref.ensures.value) ∙ sym c.is_held.ensures ∙ c.if-is_held.false in
+    let free : list_any (clash op) set ≡ false = ap (λ o. list_any (clash op) (newest_first ops o)) (sym c.deref-2.ensures.value) ∙ sym c.has_clash.ensures ∙ c.if-has_clash.false in
+    let at : c.place_of-at.result ≡ leading (is_earlier ops (stamp_of op)) order = rw (c.deref-3.ensures.value, c.stamp.ensures) at c.place_of-at.ensures.place in
+    let put : c.insert.new.self.items ≡ insert order (leading (is_earlier ops (stamp_of op)) order) place = c.in_ok-insert.ensures.items ∙ ap (λ k. insert order k place) at in
+    let known : (s : ℕ) → end_in c.raise.new.self.ends.items s ≡ known_end (op ∷ set) s = λ s. c.raise.ensures.ends s ∙ rw (c.site.ensures, c.last_count.ensures, c.in_ok-reserve.ensures.same, c.requires.kept.known s) refl in
+    let wrap : List Operation → Result (List Operation) Fault = λ log. Ok log in (
+      rw put (kept_at ops order c.args.ends.now.ends.items c.raise.new.self.ends.items op place c.requires.kept (sym read) c.requires.place sound new free known),
+      ap (λ y. pushed y set) (sym read) ∙ push_new op set sound new free ∙ ap wrap (sym (inserted ops op place order (sym read) c.requires.kept.log.falling)) ∙ ap (λ o. wrap (newest_first ops o)) (sym put),
+    )
