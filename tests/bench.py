@@ -1,0 +1,83 @@
+#!/usr/bin/env python3
+"""Times the built program on files of many one-character insertions: seconds, and bytes of memory an operation that is read.
+
+Usage: tests/bench.py [PROGRAM [OPERATIONS]]; without a program it takes ./peertext's, which has to be built; a million
+operations if no number is given. It is run by hand. The status is 1 where an answer is wrong.
+"""
+import filecmp
+import os
+import struct
+import subprocess
+import sys
+import tempfile
+import time
+
+ROOT = os.path.dirname(os.path.dirname(os.path.abspath(__file__)))
+PROGRAM = sys.argv[1] if len(sys.argv) > 1 else os.path.join(ROOT, "crates", "peertext", "out", "peertext")
+OPERATIONS = int(sys.argv[2]) if len(sys.argv) > 2 else 1_000_000
+wrong = 0
+
+
+def record(count, site, prev, after):
+    """An Insert of `x` after the element of a stamp, as docs/FILES.md has it."""
+    content = struct.pack(">BQHQQHB", 1, count, site, prev, *after, 0) + b"x"
+    return struct.pack(">I", len(content)) + content
+
+
+def write(path, counts, sites):
+    """Writes a file of one Insert for each count, by these sites in turn, each after the one before it."""
+    ends, after = {}, (0, 0)
+    with open(path, "wb") as file:
+        file.write(b"RGATEXT1")
+        for i, count in enumerate(counts):
+            site = sites[i % len(sites)]
+            file.write(record(count, site, ends.get(site, 0), after))
+            ends[site], after = count, (count, site)
+
+
+def measure(name, operations, *words):
+    """Runs the program once, prints its seconds and its greatest memory, and answers its status and how many lines it wrote.
+
+    The memory of a process counts from before it became the program, so this one keeps nothing large."""
+    with tempfile.TemporaryFile() as out:
+        start = time.monotonic()
+        child = subprocess.Popen([PROGRAM, *words], stdin=subprocess.DEVNULL, stdout=out)
+        _, status, usage = os.wait4(child.pid, 0)
+        seconds = time.monotonic() - start
+        child.returncode = os.waitstatus_to_exitcode(status)
+        out.seek(0)
+        lines = sum(1 for _ in out)
+    each = usage.ru_maxrss * 1024 / operations
+    print(f"{name:54} {seconds:6.2f} s {usage.ru_maxrss / 1024:6.1f} MiB {each:6.1f} bytes an operation read", flush=True)
+    return child.returncode, lines
+
+
+def expect(name, holds):
+    global wrong
+    if not holds:
+        wrong += 1
+        print(f"wrong: {name}")
+
+
+def main():
+    with tempfile.TemporaryDirectory() as folder:
+        file, other, out = (os.path.join(folder, name) for name in ("file", "other", "out"))
+        n = OPERATIONS
+        for name, sites in [("one site", [1]), ("a thousand sites in turn", range(1, 1001))]:
+            write(file, range(1, n + 1), sites)
+            name = "join of a file with itself, " + name
+            status, _ = measure(name, 2 * n, "join", file, file, out)
+            expect(name, status == 0 and filecmp.cmp(file, out, shallow=False))
+        name = "show of that file"
+        status, lines = measure(name, n, "show", file)
+        expect(name, status == 0 and lines == n)
+        name = "join of two sites' files, half in each, in turn"
+        write(file, range(1, n + 1, 2), [1])
+        write(other, range(2, n + 1, 2), [2])
+        status, _ = measure(name, n, "join", file, other, out)
+        expect(name, status == 0 and os.path.getsize(out) == 8 + n * 35)
+    return 1 if wrong else 0
+
+
+if __name__ == "__main__":
+    sys.exit(main())
