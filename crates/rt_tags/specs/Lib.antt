@@ -1,2 +1,4 @@
 pub mod Tags
 pub mod Seen
+pub mod States
+pub mod Kept

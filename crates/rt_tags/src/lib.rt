@@ -4,6 +4,7 @@
 
 pub mod laws;
 mod names;
+pub mod states;
 pub mod table;
 #[cfg(test)]
 mod tests;
