@@ -1,4 +1,8 @@
+pub mod Entries
+pub mod Interning
+pub mod Keeping
 pub mod Places
 pub mod Ready
 pub mod Sets
+pub mod Sorted
 pub mod Tables

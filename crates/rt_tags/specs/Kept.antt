@@ -1,10 +1,12 @@
 -- How a table keeps names and states.
-use Rattle.std.specs.Prelude.{◌≡◌, ◌==◌, ℕ, ◌<◌, List, [], ◌∷◌, ◌++◌, Bool, map, filter, length, Option, Some, None, slice_get, slice_index_or, if◌then◌else◌}
+use Rattle.std.specs.Prelude.{◌≡◌, ◌==◌, ℕ, ◌<◌, List, [], ◌∷◌, ◌++◌, Bool, true, false, not, map, filter, length, Option, Some, None, slice_get, slice_index_or, if◌then◌else◌}
 use Rattle.std.specs.List.{All, AllByRecursion}
 use Rattle.std.specs.Ordering.{ordering_index}
 use Rattle.std.specs.declared.cmp.Ordering.{Ordering}
 use Rattle.std.specs.declared.cmp.Ordering.TheVariants.{Less, Greater}
+use Rattle.rt_stamps.specs.declared.stamp.Stamp.{Stamp}
 use Rattle.rt_stamps.specs.Names.{name_order}
+use Rattle.rt_stamps.specs.Stamps.{is_before}
 use Rattle.rt_tags.specs.declared.states.Entry.{Entry}
 use Rattle.rt_tags.specs.declared.states.State.{State}
 use Rattle.rt_tags.specs.States.{Write, TagStates, IsByName, AreDistinct}
@@ -42,11 +44,15 @@ pub record IsKept (names : List (List ℕ)) (s : State) : Type 0 where
   pub on : s.on.items ≡ tags_on s.entries.items
   pub by_name : IsByName (state_seen names s)
 
--- a table as it is kept
+-- names and states as a table keeps them
 pub record AreKept (names : List (List ℕ)) (states : List State) : Type 0 where
   pub names_differ : HaveNoRepeats names
   pub each : AllByRecursion (IsKept names) states
   pub states_differ : AreDistinct (states_seen names states)
+
+-- a table as it is kept: its first state is the empty one
+pub record IsTable (names : List (List ℕ)) (states : List State) : Type 0 where
+  pub kept : AreKept names states
   pub empty : slice_get (states_seen names states) 0 ≡ Some []
 
 -- an entry's name stands on a side of a name
@@ -58,3 +64,14 @@ abbrev pub entries_written : List (List ℕ) → Entry → List Entry → List E
 entries_written names e entries =
     let name = slice_index_or names e.tag [] in
     filter (is_on_side names name Less) entries ++ e ∷ filter (is_on_side names name Greater) entries
+
+-- an entry's writer isn't less than another
+abbrev pub is_entry_kept : Option Entry → Stamp → Bool
+is_entry_kept None writer = false
+is_entry_kept (Some e) writer = not (is_before e.writer writer)
+
+-- a state after one more entry
+pub record IsNext (names : List (List ℕ)) (e : Entry) (entries : List Entry) (next : State) : Type 0 where
+  pub is_less : is_entry_kept (entry_of e.tag entries) e.writer ≡ false
+  pub entries_of : next.entries.items ≡ entries_written names e entries
+  pub on : next.on.items ≡ tags_on next.entries.items

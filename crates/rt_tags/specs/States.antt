@@ -7,6 +7,7 @@ use Rattle.std.specs.declared.cmp.Ordering.TheVariants.{Less}
 use Rattle.rt_stamps.specs.declared.stamp.Stamp.{Stamp}
 use Rattle.rt_stamps.specs.Names.{name_order}
 use Rattle.rt_stamps.specs.Stamps.{is_before}
+use Rattle.rt_tags.specs.Tags.{with_name}
 
 -- a tag is put on a character or taken off: which one, under which stamp, and whether it is on
 pub record Write : Type 0 where
@@ -78,6 +79,14 @@ name_at table tag = slice_index_or table.names tag []
 -- what a state that was given out stands for
 abbrev pub state_at : TagStates → ℕ → List Write
 state_at table state = slice_index_or table.states state []
+
+-- a write of a tag that was given out
+abbrev pub write_at : TagStates → ℕ → Stamp → Bool → Write
+write_at table tag writer on = record { name = name_at table tag; writer = writer; on = on }
+
+-- a new name has the next number
+abbrev pub numbered : List ℕ → TagStates → TagStates
+numbered name table = record table { names = with_name name table.names }
 
 -- no state of the list is the given one
 abbrev pub IsNew : List Write → List (List Write) → Type 0
