@@ -1,4 +1,6 @@
+pub mod Commuting
 pub mod Entries
+pub mod Greatest
 pub mod Interning
 pub mod Keeping
 pub mod Places

@@ -20,7 +20,7 @@ greater Equal h = absurd (true≢false (sym h))
 greater Greater h = refl
 
 -- a name that another is greater than
-turned : (a b : List ℕ) → name_order a b ≡ Greater → name_order b a ≡ Less
+pub turned : (a b : List ℕ) → name_order a b ≡ Greater → name_order b a ≡ Less
 turned a b h = nat_list_cmp_total.antisymm b a ∙ ap ordering_reverse h
 
 pub every : {X : Type 0} (P Q : X → Type 0) → ((x : X) → P x → Q x) → (xs : List X) → AllByRecursion P xs → AllByRecursion Q xs
