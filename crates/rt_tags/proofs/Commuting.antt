@@ -89,13 +89,13 @@ same_tag q v w state t d =
     let o = write_of v.name state in
     let old : write_of w.name state ≡ o = ap (λ n. write_of n state) (sym names) in
     let first : write_of q (written v (written w state)) ≡ cond (bytes_eq q v.name) (Some (newer (Some (newer o w)) v)) (write_of q state) =
-      twice q v w state
-      ∙ (λ j. cond (bytes_eq q v.name) (Some (newer (cond (t j) (Some (newer (old j) w)) o) v)) (cond (bytes_eq q (sym names j)) (Some (newer (old j) w)) (write_of q state)))
-      ∙ folded (bytes_eq q v.name) (Some (newer (Some (newer o w)) v)) (Some (newer o w)) (write_of q state) in
+    twice q v w state
+    ∙ (λ j. cond (bytes_eq q v.name) (Some (newer (cond (t j) (Some (newer (old j) w)) o) v)) (cond (bytes_eq q (sym names j)) (Some (newer (old j) w)) (write_of q state)))
+    ∙ folded (bytes_eq q v.name) (Some (newer (Some (newer o w)) v)) (Some (newer o w)) (write_of q state) in
     let second : write_of q (written w (written v state)) ≡ cond (bytes_eq q v.name) (Some (newer (Some (newer o v)) w)) (write_of q state) =
-      twice q w v state
-      ∙ (λ j. cond (bytes_eq q (sym names j)) (Some (newer (cond (back_name v.name w.name t j) (Some (newer o v)) (old j)) w)) (cond (bytes_eq q v.name) (Some (newer o v)) (write_of q state)))
-      ∙ folded (bytes_eq q v.name) (Some (newer (Some (newer o v)) w)) (Some (newer o v)) (write_of q state) in
+    twice q w v state
+    ∙ (λ j. cond (bytes_eq q (sym names j)) (Some (newer (cond (back_name v.name w.name t j) (Some (newer o v)) (old j)) w)) (cond (bytes_eq q v.name) (Some (newer o v)) (write_of q state)))
+    ∙ folded (bytes_eq q v.name) (Some (newer (Some (newer o v)) w)) (Some (newer o v)) (write_of q state) in
     first ∙ ap (λ x. cond (bytes_eq q v.name) (Some x) (write_of q state)) (newer_swap o v w d) ∙ sym second
   where
     folded : (b : Bool) (x y z : Option Write) → cond b x (cond b y z) ≡ cond b x z

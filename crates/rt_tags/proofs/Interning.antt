@@ -36,18 +36,20 @@ module _ (E : Entry → Entry → Bool) (decides : (a b : Entry) → Decides (E 
   is_new names state own k [] h f = tt
   is_new names state own k (x ∷ keys) h f =
       let head : same state x ≡ false = split (same state x) (λ t. absurd (clash (list_any (same state) (x ∷ keys)) (ap (λ b. b || list_any (same state) keys) t) f)) (λ g. g) in
-      let tail : list_any (same state) keys ≡ false = sym (ap (λ b. b || list_any (same state) keys) head) ∙ f in
-      ((λ e. clash (same state x) ((entries_same state x).1 (seen_once names state.entries.items x.entries.items own (named (length names) state.entries.items k.named) (named (length names) x.entries.items h.0.named) e)) head)
-      , is_new names state own k keys h.1 tail)
+      let tail : list_any (same state) keys ≡ false = sym (ap (λ b. b || list_any (same state) keys) head) ∙ f in (
+        (λ e. clash (same state x) ((entries_same state x).1 (seen_once names state.entries.items x.entries.items own (named (length names) state.entries.items k.named) (named (length names) x.entries.items h.0.named) e)) head),
+        is_new names state own k keys h.1 tail,
+      )
 
   module _ (names : List (List ℕ)) (state : State) (old new : List State) (e : new ≡ insert_key same old state) (are : AreKept names old) (is : IsKept names state) where
     pub interned : (place : ℕ) (x : State) → slice_get new place ≡ Some x → same state x ≡ true → Interns (state_seen names state) (states_seen names old) place (states_seen names new)
     interned place x at s =
-        let one : state_seen names x ≡ state_seen names state = ap (all_seen names) (sym ((entries_same state x).0 s)) in
-        (slice_get-map (state_seen names) new place ∙ ap (option_map (state_seen names)) at ∙ ap (λ v. Some v) one
-        , split (list_any (same state) old)
-        (λ t. inl (ap (states_seen names) (e ∙ ap (λ b. cond b old (old ++ state ∷ [])) t)))
-        (λ f. inr (ap (states_seen names) (e ∙ ap (λ b. cond b old (old ++ state ∷ [])) f) ∙ map-append (state_seen names) old (state ∷ []), is_new names state are.names_differ is old are.each f)))
+        let one : state_seen names x ≡ state_seen names state = ap (all_seen names) (sym ((entries_same state x).0 s)) in (
+          slice_get-map (state_seen names) new place ∙ ap (option_map (state_seen names)) at ∙ ap (λ v. Some v) one,
+          split (list_any (same state) old)
+              (λ t. inl (ap (states_seen names) (e ∙ ap (λ b. cond b old (old ++ state ∷ [])) t)))
+              (λ f. inr (ap (states_seen names) (e ∙ ap (λ b. cond b old (old ++ state ∷ [])) f) ∙ map-append (state_seen names) old (state ∷ []), is_new names state are.names_differ is old are.each f)),
+        )
 
     pub kept : AreKept names new
     kept =

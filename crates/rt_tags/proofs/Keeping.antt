@@ -67,12 +67,12 @@ table_longer names more keys h own =
       empty = subst (λ v. slice_get v 0 ≡ Some []) (sym stays) h.empty;
     }
 
-pub last_name : (names : List (List ℕ)) (name : List ℕ) → slice_get (names ++ name ∷ []) (length names) ≡ Some name
+last_name : (names : List (List ℕ)) (name : List ℕ) → slice_get (names ++ name ∷ []) (length names) ≡ Some name
 last_name [] name = refl
 last_name (x ∷ names) name = last_name names name
 
-pub numbered_listed : (name : List ℕ) (t : TagStates) → is_listed name t.names ≡ true → t ≡ numbered name t
-numbered_listed name t h = ap (λ b. record t { names = cond b t.names (t.names ++ name ∷ []) }) (sym h)
+pub stands_last : (names new : List (List ℕ)) (name : List ℕ) (n : ℕ) → new ≡ names ++ name ∷ [] → n ≡ length names → slice_get new n ≡ Some name
+stands_last names new name n e k = subst (λ v. slice_get v n ≡ Some name) (sym e) (subst (λ i. slice_get (names ++ name ∷ []) i ≡ Some name) (sym k) (last_name names name))
 
 pub numbered_new : (names : List (List ℕ)) (name : List ℕ) (keys : List State) → IsTable names keys → is_listed name names ≡ false → table_of (names ++ name ∷ []) keys ≡ numbered name (table_of names keys)
 numbered_new names name keys h f =

@@ -57,10 +57,11 @@ sorted_filter test (w ∷ state) h = by (test w) (sorted_filter test state h.1)
 
 sorted_join : (front : List Write) (w : Write) (back : List Write) → IsByName front → AllByRecursion (λ v. name_order v.name w.name ≡ Less) front → AllByRecursion (λ v. name_order w.name v.name ≡ Less) back → IsByName back → IsByName (front ++ w ∷ back)
 sorted_join [] w back f g h k = (h, k)
-sorted_join (v ∷ front) w back f g h k =
-    (every_append (λ x. name_order v.name x.name ≡ Less) front (w ∷ back) f.0
-    (g.0, every (λ x. name_order w.name x.name ≡ Less) (λ x. name_order v.name x.name ≡ Less) (λ x l. nat_list_cmp_total.trans v.name w.name x.name g.0 l) back h)
-    , sorted_join front w back f.1 g.1 h k)
+sorted_join (v ∷ front) w back f g h k = (
+  every_append (λ x. name_order v.name x.name ≡ Less) front (w ∷ back) f.0
+      (g.0, every (λ x. name_order w.name x.name ≡ Less) (λ x. name_order v.name x.name ≡ Less) (λ x l. nat_list_cmp_total.trans v.name w.name x.name g.0 l) back h),
+  sorted_join front w back f.1 g.1 h k,
+)
 
 pub put_sorted : (w : Write) (state : List Write) → IsByName state → IsByName (below w.name state ++ w ∷ above w.name state)
 put_sorted w state h =

@@ -10,8 +10,7 @@ ghost use Rattle.indexmap.specs.IndexSet.{index_set_len};
 
 use crate::names;
 use indexmap::IndexSet;
-use rt_stamps::Fault;
-use rt_stamps::Stamp;
+use rt_stamps::{Fault, Stamp};
 use std::alloc::{AllocError, Global};
 use std::cmp::Ordering;
 use std::marker::Model;
@@ -141,7 +140,6 @@ fn written(
     Ok(out)
 }
 
-
 // The state with an id.
 fn state_of(states: &IndexSet<State>, id: StateId) -> &State
     requires { id < index_set_len states.now }
@@ -236,7 +234,8 @@ impl StateTable {
     /// The number of a name: one for each name for good. `NoMemory` is its only fault, and comes only
     /// for a name that has no number yet; the table is then as it was.
     pub fn number(&mut self, name: &str) -> Result<TagId, Fault>
-        ensures tag { IfOk result (λ tag. slice_get self.new.names tag ≡ Some name.now) }
+        ensures given { IfOk result (IsTag self.new) }
+        ensures tag { IfOk result (λ tag. name_at self.new tag ≡ name.now) }
         ensures ok { OnOk result (self.new ≡ numbered name.now self.old) }
         ensures err { OnErr result (self.new ≡ self.old) }
         ensures memory { is_listed name.now self.old.names ≡ true → IsOk result }
@@ -258,7 +257,8 @@ impl StateTable {
     /// The number of a name, if it has one.
     pub fn known(&self, name: &str) -> Option<TagId>
         ensures none { IfNone result (is_listed name.now self.now.names ≡ false) }
-        ensures some { IfSome result (λ tag. slice_get self.now.names tag ≡ Some name.now) }
+        ensures given { IfSome result (IsTag self.now) }
+        ensures tag { IfSome result (λ tag. name_at self.now tag ≡ name.now) }
     {
         match names::index_of(&self.names, name) {
             Some(place) => Some(TagId { place }),
@@ -286,7 +286,9 @@ impl StateTable {
     ) -> Result<StateId, Fault>
         requires state { IsState self.old state }
         requires tag { IsTag self.old tag }
-        ensures state { IfOk result (λ id. Interns (written (write_at self.old tag writer on) (state_at self.old state)) self.old.states id self.new.states) }
+        ensures given { IfOk result (IsState self.new) }
+        ensures state { IfOk result (λ id. state_at self.new id ≡ written (write_at self.old tag writer on) (state_at self.old state)) }
+        ensures interned { IfOk result (λ id. Interns (written (write_at self.old tag writer on) (state_at self.old state)) self.old.states id self.new.states) }
         ensures same { is_settled (write_at self.old tag writer on) (state_at self.old state) ≡ true → result ≡ Ok state }
         ensures names { self.new.names ≡ self.old.names }
         ensures err { OnErr result (self.new ≡ self.old) }

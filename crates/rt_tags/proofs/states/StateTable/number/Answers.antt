@@ -1,15 +1,21 @@
-use Rattle.std.proofs.Common.{◌≡◌, ◌++◌, ◌∷◌, [], ◌∙◌, subst, sym, ap, slice_get, Some}
+use Rattle.std.proofs.Common.{◌≡◌, ◌++◌, ◌∷◌, [], ◌∙◌, subst, sym, ap}
+use Rattle.std.proofs.lemmas.Option.{get_or_from_slice_get, slice_get_within}
 use Rattle.rt_tags.specs.Kept.{IsTable}
 use Rattle.rt_tags.specs.Seen.{names_of}
-use Rattle.rt_tags.specs.States.{TagStates, KeepsIds, numbered}
+use Rattle.rt_tags.specs.States.{TagStates, IsTag, KeepsIds, name_at, numbered}
 use Rattle.rt_tags.specs.Tags.{HaveNoRepeats}
-use Rattle.rt_tags.proofs.Keeping.{keeps_numbered, last_name, numbered_new, table_longer, table_of}
-use Rattle.rt_tags.proofs.Places.{got}
+use Rattle.rt_tags.proofs.Keeping.{keeps_numbered, numbered_new, stands_last, table_longer, table_of}
+use Rattle.rt_tags.proofs.Places.{at_within, got}
 use Rattle.rt_tags.proofs.Sets.{len_names}
 use Rattle.rt_tags.proofs.states.StateTable.number.Goals as goal
 
 pub returns-in-Some-clause-tag : goal.returns-in-Some-clause-tag
-returns-in-Some-clause-tag c = subst (λ (t : TagStates). slice_get t.names c.in-Some.place ≡ Some c.args.name.now) c.self.view_is (got c.args.name.now (names_of c.self.inside.names) c.in-Some.place c.in-Some.ensures.index)
+returns-in-Some-clause-tag c =
+    subst (λ (t : TagStates). name_at t c.in-Some.place ≡ c.args.name.now) c.self.view_is
+    (get_or_from_slice_get (names_of c.self.inside.names) c.in-Some.place c.args.name.now [] (got c.args.name.now (names_of c.self.inside.names) c.in-Some.place c.in-Some.ensures.index))
+
+pub returns-in-Some-clause-given : goal.returns-in-Some-clause-given
+returns-in-Some-clause-given c = subst (λ (t : TagStates). IsTag t c.in-Some.place) c.self.view_is (at_within c.args.name.now (names_of c.self.inside.names) c.in-Some.place c.in-Some.ensures.index)
 
 pub invariant_of-self-in-None : goal.invariant_of-self-in-None
 invariant_of-self-in-None c =
@@ -20,10 +26,14 @@ invariant_of-self-in-None c =
 pub returns-in_ok-make_room-in-None-clause-tag : goal.returns-in_ok-make_room-in-None-clause-tag
 returns-in_ok-make_room-in-None-clause-tag c =
     let names = names_of c.self.inside.names in
-    let name = c.args.name.now in
-    let added : names_of c.add.new.names ≡ names ++ name ∷ [] = c.add.ensures.names ∙ (λ j. c.make_room.ensures.names j ++ c.in_ok-name-in-None.ensures.ok j ∷ []) in
-    subst (λ v. slice_get v c.len-place.result ≡ Some name) (sym added)
-    (subst (λ n. slice_get (names ++ name ∷ []) n ≡ Some name) (sym (c.len-place.ensures.len ∙ sym (len_names c.self.inside.names.keys))) (last_name names name))
+    let added : names_of c.add.new.names ≡ names ++ c.args.name.now ∷ [] = c.add.ensures.names ∙ (λ j. c.make_room.ensures.names j ++ c.in_ok-name-in-None.ensures.ok j ∷ []) in
+    get_or_from_slice_get (names_of c.add.new.names) c.len-place.result c.args.name.now [] (stands_last names (names_of c.add.new.names) c.args.name.now c.len-place.result added (c.len-place.ensures.len ∙ sym (len_names c.self.inside.names.keys)))
+
+pub returns-in_ok-make_room-in-None-clause-given : goal.returns-in_ok-make_room-in-None-clause-given
+returns-in_ok-make_room-in-None-clause-given c =
+    let names = names_of c.self.inside.names in
+    let added : names_of c.add.new.names ≡ names ++ c.args.name.now ∷ [] = c.add.ensures.names ∙ (λ j. c.make_room.ensures.names j ++ c.in_ok-name-in-None.ensures.ok j ∷ []) in
+    slice_get_within (names_of c.add.new.names) c.len-place.result c.args.name.now (stands_last names (names_of c.add.new.names) c.args.name.now c.len-place.result added (c.len-place.ensures.len ∙ sym (len_names c.self.inside.names.keys)))
 
 pub returns-in_ok-make_room-in-None-clause-ok : goal.returns-in_ok-make_room-in-None-clause-ok
 returns-in_ok-make_room-in-None-clause-ok c =
