@@ -32,7 +32,7 @@ impl Site {
 
 /// The stamp of a character or an operation, for good. Stamps are ordered by count, and those of
 /// one count by site (Replicated Growable Array, JPDC 2011, simplified).
-#[derive(Clone, Copy, Debug, PartialEq, Eq, PartialOrd, Ord)]
+#[derive(Clone, Copy, Debug, PartialEq, Eq, PartialOrd, Ord, Hash)]
 pub struct Stamp {
     /// From 1 to `GREATEST_COUNT`; 0 at `ROOT` alone.
     pub count: u64,

@@ -1,4 +1,10 @@
+pub mod Commuting
+pub mod Entries
+pub mod Greatest
+pub mod Interning
+pub mod Keeping
 pub mod Places
 pub mod Ready
 pub mod Sets
+pub mod Sorted
 pub mod Tables

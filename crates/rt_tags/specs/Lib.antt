@@ -1,2 +1,5 @@
 pub mod Tags
 pub mod Seen
+pub mod States
+pub mod Writers
+pub mod Kept

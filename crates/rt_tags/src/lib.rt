@@ -1,11 +1,16 @@
 //! The tags that a site lists, in the order of their priority (Tk text manual, "tag raise", "tag
-//! lower"). The definitions stand in `specs/Tags.antt`.
+//! lower"), and the tags of characters, interned as states. The definitions stand in `specs/Tags.antt`,
+//! `specs/States.antt` and `specs/Writers.antt`.
 #![tactic(auto)]
 
 pub mod laws;
 mod names;
+#[cfg(test)]
+mod state_tests;
+pub mod states;
 pub mod table;
 #[cfg(test)]
 mod tests;
 
+pub use states::{StateId, StateTable, TagId};
 pub use table::TagTable;

@@ -1,0 +1,47 @@
+use Rattle.std.proofs.Common.{◌≡◌, ◌++◌, ◌∷◌, [], ◌∙◌, subst, sym, ap}
+use Rattle.std.proofs.lemmas.Option.{get_or_from_slice_get, slice_get_within}
+use Rattle.rt_tags.specs.Kept.{IsTable}
+use Rattle.rt_tags.specs.Seen.{names_of}
+use Rattle.rt_tags.specs.States.{TagStates, IsTag, KeepsIds, name_at, numbered}
+use Rattle.rt_tags.specs.Tags.{HaveNoRepeats}
+use Rattle.rt_tags.proofs.Keeping.{keeps_numbered, numbered_new, stands_last, table_longer, table_of}
+use Rattle.rt_tags.proofs.Places.{at_within, got}
+use Rattle.rt_tags.proofs.Sets.{len_names}
+use Rattle.rt_tags.proofs.states.StateTable.number.Goals as goal
+
+pub returns-in-Some-clause-tag : goal.returns-in-Some-clause-tag
+returns-in-Some-clause-tag c =
+    subst (λ (t : TagStates). name_at t c.in-Some.place ≡ c.args.name.now) c.self.view_is
+    (get_or_from_slice_get (names_of c.self.inside.names) c.in-Some.place c.args.name.now [] (got c.args.name.now (names_of c.self.inside.names) c.in-Some.place c.in-Some.ensures.index))
+
+pub returns-in-Some-clause-given : goal.returns-in-Some-clause-given
+returns-in-Some-clause-given c = subst (λ (t : TagStates). IsTag t c.in-Some.place) c.self.view_is (at_within c.args.name.now (names_of c.self.inside.names) c.in-Some.place c.in-Some.ensures.index)
+
+pub invariant_of-self-in-None : goal.invariant_of-self-in-None
+invariant_of-self-in-None c =
+    let names = names_of c.self.inside.names in
+    let added : names_of c.add.new.names ≡ names ++ c.args.name.now ∷ [] = c.add.ensures.names ∙ (λ j. c.make_room.ensures.names j ++ c.in_ok-name-in-None.ensures.ok j ∷ []) in
+    subst (λ v. IsTable v c.self.inside.states.keys) (sym added) (table_longer names (c.args.name.now ∷ []) c.self.inside.states.keys c.self.invariant (subst HaveNoRepeats added c.add.ensures.no_repeats))
+
+pub returns-in_ok-make_room-in-None-clause-tag : goal.returns-in_ok-make_room-in-None-clause-tag
+returns-in_ok-make_room-in-None-clause-tag c =
+    let names = names_of c.self.inside.names in
+    let added : names_of c.add.new.names ≡ names ++ c.args.name.now ∷ [] = c.add.ensures.names ∙ (λ j. c.make_room.ensures.names j ++ c.in_ok-name-in-None.ensures.ok j ∷ []) in
+    get_or_from_slice_get (names_of c.add.new.names) c.len-place.result c.args.name.now [] (stands_last names (names_of c.add.new.names) c.args.name.now c.len-place.result added (c.len-place.ensures.len ∙ sym (len_names c.self.inside.names.keys)))
+
+pub returns-in_ok-make_room-in-None-clause-given : goal.returns-in_ok-make_room-in-None-clause-given
+returns-in_ok-make_room-in-None-clause-given c =
+    let names = names_of c.self.inside.names in
+    let added : names_of c.add.new.names ≡ names ++ c.args.name.now ∷ [] = c.add.ensures.names ∙ (λ j. c.make_room.ensures.names j ++ c.in_ok-name-in-None.ensures.ok j ∷ []) in
+    slice_get_within (names_of c.add.new.names) c.len-place.result c.args.name.now (stands_last names (names_of c.add.new.names) c.args.name.now c.len-place.result added (c.len-place.ensures.len ∙ sym (len_names c.self.inside.names.keys)))
+
+pub returns-in_ok-make_room-in-None-clause-ok : goal.returns-in_ok-make_room-in-None-clause-ok
+returns-in_ok-make_room-in-None-clause-ok c =
+    let names = names_of c.self.inside.names in
+    let added : names_of c.add.new.names ≡ names ++ c.args.name.now ∷ [] = c.add.ensures.names ∙ (λ j. c.make_room.ensures.names j ++ c.in_ok-name-in-None.ensures.ok j ∷ []) in
+    ap (λ v. table_of v c.self.inside.states.keys) added
+    ∙ numbered_new names c.args.name.now c.self.inside.states.keys c.self.invariant (sym c.in-None.ensures.found)
+    ∙ ap (numbered c.args.name.now) c.self.view_is
+
+pub returns-in_ok-make_room-in-None-clause-ids : goal.returns-in_ok-make_room-in-None-clause-ids
+returns-in_ok-make_room-in-None-clause-ids c = subst (KeepsIds c.args.self.now) (sym (returns-in_ok-make_room-in-None-clause-ok c)) (keeps_numbered c.args.name.now c.args.self.now)

@@ -1,0 +1,89 @@
+use Rattle.std.proofs.Common.{◌≡◌, ◌∙◌, ap, sym, subst, ℕ, [], true, Result, Ok, Some, map, string_bytes}
+use Rattle.std.proofs.lemmas.Option.{get_or_from_slice_get, slice_get_within}
+use Rattle.rt_stamps.specs.declared.fault.Fault.{Fault}
+use Rattle.rt_tags.specs.Kept.{IsNext, IsTable, entry_of, is_entry_kept, state_seen, states_seen}
+use Rattle.rt_tags.specs.Seen.{names_of}
+use Rattle.rt_tags.specs.States.{TagStates, Interns, IsTag, KeepsIds, is_settled, state_at, write_at, written}
+use Rattle.rt_tags.specs.declared.states.Entry.{Entry}
+use Rattle.rt_tags.proofs.Keeping.{keeps_interned, next_kept, next_seen, settled_there, stays_interned, table_more, table_of}
+use Rattle.rt_tags.proofs.Places.{clash}
+use Rattle.rt_tags.proofs.states.StateTable.with.Goals as goal
+
+pub returns-in_err-new-clause-same : goal.returns-in_err-new-clause-same
+returns-in_err-new-clause-same c =
+    let e : Entry = record { tag = c.args.tag; writer = c.args.writer; on = c.args.on } in
+    let tag = subst (λ (t : TagStates). IsTag t c.args.tag) (sym c.self.view_is) c.requires.tag in
+    subst (λ (t : TagStates). is_settled (write_at t c.args.tag c.args.writer c.args.on) (state_at t c.args.state) ≡ true → c.from_residual.result ≡ Ok c.args.state) c.self.view_is
+    (λ h. let no = c.in_err-new.ensures.settled (settled_there (names_of c.self.inside.names) c.self.inside.states.keys c.self.invariant c.args.state c.state_of-old.result.now c.state_of-old.ensures e tag ∙ h) in absurd (cc))
+
+pub returns-in_err-place-in-Some-clause-same : goal.returns-in_err-place-in-Some-clause-same
+returns-in_err-place-in-Some-clause-same c =
+    let e : Entry = record { tag = c.args.tag; writer = c.args.writer; on = c.args.on } in
+    let tag = subst (λ (t : TagStates). IsTag t c.args.tag) (sym c.self.view_is) c.requires.tag in
+    let next = rw c.in-Some.is at c.in_ok-new.ensures.next in
+    subst (λ (t : TagStates). is_settled (write_at t c.args.tag c.args.writer c.args.on) (state_at t c.args.state) ≡ true → c.from_residual-in_err-place-in-Some.result ≡ Ok c.args.state) c.self.view_is
+    (λ h. absurd (clash (is_entry_kept (entry_of c.args.tag c.state_of-old.result.now.entries.items) c.args.writer) (settled_there (names_of c.self.inside.names) c.self.inside.states.keys c.self.invariant c.args.state c.state_of-old.result.now c.state_of-old.ensures e tag ∙ h) next.is_less))
+
+pub invariant_of-self-in-Some : goal.invariant_of-self-in-Some
+invariant_of-self-in-Some c =
+    let names = names_of c.self.inside.names in
+    let keys = c.self.inside.states.keys in
+    let e : Entry = record { tag = c.args.tag; writer = c.args.writer; on = c.args.on } in
+    let tag = subst (λ (t : TagStates). IsTag t c.args.tag) (sym c.self.view_is) c.requires.tag in
+    let next = rw c.in-Some.is at c.in_ok-new.ensures.next in
+    let is = subst (λ v. IsNext (map (λ s. string_bytes s) v) e c.state_of-old.result.now.entries.items c.in-Some.new) c.as_slice.ensures.keys next in
+    let kept = next_kept names keys c.self.invariant c.args.state c.state_of-old.result.now c.state_of-old.ensures e tag c.in-Some.new is in
+    table_more names keys c.intern.new.states.keys (state_seen names c.in-Some.new) c.in_ok-place-in-Some.place c.self.invariant (c.in_ok-place-in-Some.ensures.kept names c.self.invariant.kept kept) (c.in_ok-place-in-Some.ensures.interned names c.self.invariant.kept kept)
+
+pub returns-in_ok-place-in-Some-clause-interned : goal.returns-in_ok-place-in-Some-clause-interned
+returns-in_ok-place-in-Some-clause-interned c =
+    let names = names_of c.self.inside.names in
+    let keys = c.self.inside.states.keys in
+    let e : Entry = record { tag = c.args.tag; writer = c.args.writer; on = c.args.on } in
+    let tag = subst (λ (t : TagStates). IsTag t c.args.tag) (sym c.self.view_is) c.requires.tag in
+    let next = rw c.in-Some.is at c.in_ok-new.ensures.next in
+    let is = subst (λ v. IsNext (map (λ s. string_bytes s) v) e c.state_of-old.result.now.entries.items c.in-Some.new) c.as_slice.ensures.keys next in
+    let kept = next_kept names keys c.self.invariant c.args.state c.state_of-old.result.now c.state_of-old.ensures e tag c.in-Some.new is in
+    let seen = next_seen names keys c.self.invariant c.args.state c.state_of-old.result.now c.state_of-old.ensures e tag c.in-Some.new is in
+    let new = states_seen names c.intern.new.states.keys in
+    subst (λ (t : TagStates). Interns (written (write_at t c.args.tag c.args.writer c.args.on) (state_at t c.args.state)) t.states c.in_ok-place-in-Some.place new) c.self.view_is
+    (subst (λ v. Interns v (states_seen names keys) c.in_ok-place-in-Some.place new) seen (c.in_ok-place-in-Some.ensures.interned names c.self.invariant.kept kept))
+
+pub returns-in_ok-place-in-Some-clause-same : goal.returns-in_ok-place-in-Some-clause-same
+returns-in_ok-place-in-Some-clause-same c =
+    let e : Entry = record { tag = c.args.tag; writer = c.args.writer; on = c.args.on } in
+    let tag = subst (λ (t : TagStates). IsTag t c.args.tag) (sym c.self.view_is) c.requires.tag in
+    let next = rw c.in-Some.is at c.in_ok-new.ensures.next in
+    let made : Result ℕ Fault = Ok c.in_ok-place-in-Some.place in
+    subst (λ (t : TagStates). is_settled (write_at t c.args.tag c.args.writer c.args.on) (state_at t c.args.state) ≡ true → made ≡ Ok c.args.state) c.self.view_is
+    (λ h. absurd (clash (is_entry_kept (entry_of c.args.tag c.state_of-old.result.now.entries.items) c.args.writer) (settled_there (names_of c.self.inside.names) c.self.inside.states.keys c.self.invariant c.args.state c.state_of-old.result.now c.state_of-old.ensures e tag ∙ h) next.is_less))
+
+pub returns-in_ok-place-in-Some-clause-ids : goal.returns-in_ok-place-in-Some-clause-ids
+returns-in_ok-place-in-Some-clause-ids c =
+    keeps_interned (written (write_at c.args.self.now c.args.tag c.args.writer c.args.on) (state_at c.args.self.now c.args.state)) c.args.self.now (table_of (names_of c.self.inside.names) c.intern.new.states.keys) c.in_ok-place-in-Some.place (ap (λ (t : TagStates). t.names) c.self.view_is) (returns-in_ok-place-in-Some-clause-interned c)
+
+pub returns-in-None-clause-interned : goal.returns-in-None-clause-interned
+returns-in-None-clause-interned c =
+    let e : Entry = record { tag = c.args.tag; writer = c.args.writer; on = c.args.on } in
+    let tag = subst (λ (t : TagStates). IsTag t c.args.tag) (sym c.self.view_is) c.requires.tag in
+    let none = rw c.in-None.is at c.in_ok-new.ensures.none in
+    let settled = sym (settled_there (names_of c.self.inside.names) c.self.inside.states.keys c.self.invariant c.args.state c.state_of-old.result.now c.state_of-old.ensures e tag) ∙ none in
+    stays_interned (write_at c.args.self.now c.args.tag c.args.writer c.args.on) c.args.self.now c.args.state
+    (subst (λ (t : TagStates). is_settled (write_at t c.args.tag c.args.writer c.args.on) (state_at t c.args.state) ≡ true) c.self.view_is settled) c.requires.state
+
+pub returns-in_ok-place-in-Some-clause-given : goal.returns-in_ok-place-in-Some-clause-given
+returns-in_ok-place-in-Some-clause-given c =
+    let new = states_seen (names_of c.self.inside.names) c.intern.new.states.keys in
+    let w = written (write_at c.args.self.now c.args.tag c.args.writer c.args.on) (state_at c.args.self.now c.args.state) in
+    slice_get_within new c.in_ok-place-in-Some.place w (returns-in_ok-place-in-Some-clause-interned c).0
+
+pub returns-in_ok-place-in-Some-clause-state : goal.returns-in_ok-place-in-Some-clause-state
+returns-in_ok-place-in-Some-clause-state c =
+    let new = states_seen (names_of c.self.inside.names) c.intern.new.states.keys in
+    let w = written (write_at c.args.self.now c.args.tag c.args.writer c.args.on) (state_at c.args.self.now c.args.state) in
+    get_or_from_slice_get new c.in_ok-place-in-Some.place w [] (returns-in_ok-place-in-Some-clause-interned c).0
+
+pub returns-in-None-clause-state : goal.returns-in-None-clause-state
+returns-in-None-clause-state c =
+    let w = written (write_at c.args.self.now c.args.tag c.args.writer c.args.on) (state_at c.args.self.now c.args.state) in
+    get_or_from_slice_get c.args.self.now.states c.args.state w [] (returns-in-None-clause-interned c).0

@@ -1,0 +1,77 @@
+-- How a table keeps names and states.
+use Rattle.std.specs.Prelude.{◌≡◌, ◌==◌, ℕ, ◌<◌, List, [], ◌∷◌, ◌++◌, Bool, true, false, not, map, filter, length, Option, Some, None, slice_get, slice_index_or, if◌then◌else◌}
+use Rattle.std.specs.List.{All, AllByRecursion}
+use Rattle.std.specs.Ordering.{ordering_index}
+use Rattle.std.specs.declared.cmp.Ordering.{Ordering}
+use Rattle.std.specs.declared.cmp.Ordering.TheVariants.{Less, Greater}
+use Rattle.rt_stamps.specs.declared.stamp.Stamp.{Stamp}
+use Rattle.rt_stamps.specs.Names.{name_order}
+use Rattle.rt_stamps.specs.Stamps.{is_before}
+use Rattle.rt_tags.specs.declared.states.Entry.{Entry}
+use Rattle.rt_tags.specs.declared.states.State.{State}
+use Rattle.rt_tags.specs.States.{Write, TagStates, IsByName, AreDistinct}
+use Rattle.rt_tags.specs.Tags.{HaveNoRepeats}
+
+-- an entry with the name of its tag
+abbrev pub seen : List (List ℕ) → Entry → Write
+seen names e = record { name = slice_index_or names e.tag []; writer = e.writer; on = e.on }
+
+abbrev pub all_seen : List (List ℕ) → List Entry → List Write
+all_seen names entries = map (seen names) entries
+
+abbrev pub state_seen : List (List ℕ) → State → List Write
+state_seen names s = all_seen names s.entries.items
+
+abbrev pub states_seen : List (List ℕ) → List State → List (List Write)
+states_seen names states = map (state_seen names) states
+
+-- the first entry of a tag
+abbrev pub entry_of : ℕ → List Entry → Option Entry
+entry_of tag [] = None
+entry_of tag (e ∷ entries) = if e.tag == tag then Some e else entry_of tag entries
+
+-- the tags that are on
+abbrev pub tags_on : List Entry → List ℕ
+tags_on entries = map (λ e. e.tag) (filter (λ e. e.on) entries)
+
+-- each entry's tag has a name
+abbrev pub HaveNames : ℕ → List Entry → Type 0
+HaveNames n entries = All (λ e. e.tag < n) entries
+
+-- a state as it is kept
+pub record IsKept (names : List (List ℕ)) (s : State) : Type 0 where
+  pub named : HaveNames (length names) s.entries.items
+  pub on : s.on.items ≡ tags_on s.entries.items
+  pub by_name : IsByName (state_seen names s)
+
+-- names and states as a table keeps them
+pub record AreKept (names : List (List ℕ)) (states : List State) : Type 0 where
+  pub names_differ : HaveNoRepeats names
+  pub each : AllByRecursion (IsKept names) states
+  pub states_differ : AreDistinct (states_seen names states)
+
+-- a table as it is kept: its first state is the empty one
+pub record IsTable (names : List (List ℕ)) (states : List State) : Type 0 where
+  pub kept : AreKept names states
+  pub empty : slice_get (states_seen names states) 0 ≡ Some []
+
+-- an entry's name stands on a side of a name
+abbrev pub is_on_side : List (List ℕ) → List ℕ → Ordering → Entry → Bool
+is_on_side names name side e = ordering_index (name_order (slice_index_or names e.tag []) name) == ordering_index side
+
+-- the entries after one more
+abbrev pub entries_written : List (List ℕ) → Entry → List Entry → List Entry
+entries_written names e entries =
+    let name = slice_index_or names e.tag [] in
+    filter (is_on_side names name Less) entries ++ e ∷ filter (is_on_side names name Greater) entries
+
+-- an entry's writer isn't less than another
+abbrev pub is_entry_kept : Option Entry → Stamp → Bool
+is_entry_kept None writer = false
+is_entry_kept (Some e) writer = not (is_before e.writer writer)
+
+-- a state after one more entry
+pub record IsNext (names : List (List ℕ)) (e : Entry) (entries : List Entry) (next : State) : Type 0 where
+  pub is_less : is_entry_kept (entry_of e.tag entries) e.writer ≡ false
+  pub entries_of : next.entries.items ≡ entries_written names e entries
+  pub on : next.on.items ≡ tags_on next.entries.items

@@ -1,0 +1,108 @@
+-- States of characters: for each tag that was written on a character, its last write. A name is seen as the list of its bytes.
+use Rattle.std.specs.Prelude.{◌≡◌, ◌⊎◌, ℕ, ◌<◌, List, [], ◌∷◌, ◌++◌, Bool, true, false, not, length, map, filter, Option, Some, None, slice_get, slice_index_or, if◌then◌else◌}
+use Rattle.std.specs.List.{AllByRecursion}
+use Rattle.std.specs.Ordering.{is_lt, is_gt}
+use Rattle.std.specs.Str.{bytes_eq}
+use Rattle.std.specs.declared.cmp.Ordering.TheVariants.{Less}
+use Rattle.rt_stamps.specs.declared.stamp.Stamp.{Stamp}
+use Rattle.rt_stamps.specs.Names.{name_order}
+use Rattle.rt_stamps.specs.Stamps.{is_before}
+use Rattle.rt_tags.specs.Tags.{with_name}
+
+-- a tag is put on a character or taken off: which one, under which stamp, and whether it is on
+pub record Write : Type 0 where
+  pub name : List ℕ
+  pub writer : Stamp
+  pub on : Bool
+
+-- the write of a tag
+abbrev pub write_of : List ℕ → List Write → Option Write
+write_of name [] = None
+write_of name (w ∷ state) = if bytes_eq name w.name then Some w else write_of name state
+
+-- the write says on
+abbrev pub says_on : Option Write → Bool
+says_on None = false
+says_on (Some w) = w.on
+
+-- a tag is on
+abbrev pub is_on : List ℕ → List Write → Bool
+is_on name state = says_on (write_of name state)
+
+-- the tags that are on
+abbrev pub names_on : List Write → List (List ℕ)
+names_on state = map (λ w. w.name) (filter (λ w. w.on) state)
+
+-- a write isn't less than another
+abbrev pub is_kept : Option Write → Write → Bool
+is_kept None w = false
+is_kept (Some v) w = not (is_before v.writer w.writer)
+
+-- the state has a write of the same tag that isn't less
+abbrev pub is_settled : Write → List Write → Bool
+is_settled w state = is_kept (write_of w.name state) w
+
+-- the writes of tags whose names come before a name, and of those whose names come after it
+abbrev pub below : List ℕ → List Write → List Write
+below name state = filter (λ w. is_lt (name_order w.name name)) state
+
+abbrev pub above : List ℕ → List Write → List Write
+above name state = filter (λ w. is_gt (name_order w.name name)) state
+
+-- the state after one more write: for each tag the greatest write stays
+abbrev pub written : Write → List Write → List Write
+written w state = if is_settled w state then state else below w.name state ++ w ∷ above w.name state
+
+-- one write of each tag, by the bytes of their names
+abbrev pub IsByName : List Write → Type 0
+IsByName [] = Unit {0}
+IsByName (w ∷ state) = AllByRecursion (λ v. name_order w.name v.name ≡ Less) state × IsByName state
+
+-- THE TABLE
+
+-- the names that have a number and the states that have an id: the number and the id are their places
+pub record TagStates : Type 0 where
+  pub names : List (List ℕ)
+  pub states : List (List Write)
+
+-- a tag and a state that a table gave out
+abbrev pub IsTag : TagStates → ℕ → Type 0
+IsTag table tag = tag < length table.names
+
+abbrev pub IsState : TagStates → ℕ → Type 0
+IsState table state = state < length table.states
+
+-- the name of a tag that was given out
+abbrev pub name_at : TagStates → ℕ → List ℕ
+name_at table tag = slice_index_or table.names tag []
+
+-- what a state that was given out stands for
+abbrev pub state_at : TagStates → ℕ → List Write
+state_at table state = slice_index_or table.states state []
+
+-- a write of a tag that was given out
+abbrev pub write_at : TagStates → ℕ → Stamp → Bool → Write
+write_at table tag writer on = record { name = name_at table tag; writer = writer; on = on }
+
+-- a new name has the next number
+abbrev pub numbered : List ℕ → TagStates → TagStates
+numbered name table = record table { names = with_name name table.names }
+
+-- no state of the list is the given one
+abbrev pub IsNew : List Write → List (List Write) → Type 0
+IsNew state [] = Unit {0}
+IsNew state (s ∷ states) = (state ≡ s → ⊥) × IsNew state states
+
+-- no state is there twice
+abbrev pub AreDistinct : List (List Write) → Type 0
+AreDistinct [] = Unit {0}
+AreDistinct (s ∷ states) = IsNew s states × AreDistinct states
+
+-- A state has an id. It is that of the same state, if this was given out before; else it is the next one.
+abbrev pub Interns : List Write → List (List Write) → ℕ → List (List Write) → Type 0
+Interns state old id new = (slice_get new id ≡ Some state) × ((new ≡ old) ⊎ ((new ≡ old ++ state ∷ []) × IsNew state old))
+
+-- the tags and states that were given out keep their meaning
+pub record KeepsIds (old new : TagStates) : Type 0 where
+  pub tags : (tag : ℕ) → IsTag old tag → IsTag new tag × (name_at new tag ≡ name_at old tag)
+  pub states : (state : ℕ) → IsState old state → IsState new state × (state_at new state ≡ state_at old state)

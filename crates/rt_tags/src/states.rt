@@ -1,0 +1,340 @@
+// Interned tag states of characters.
+ghost use Rattle.std.specs.Prelude.{List, ℕ, ◌≡◌, IsOk, All, ◌==◌, [], ◌∷◌, ◌++◌, ◌<◌, ◌≤◌, ◌&&◌, OnOk, None, OnErr, IfOk, IfErr, IfSome, IfNone, Ok, Some, true, false, map, filter, length, slice_get, slice_index_or, position, string_bytes, vec_len};
+ghost use Rattle.std.specs.Ordering.{ordering_index};
+ghost use Rattle.std.specs.Str.{bytes_eq};
+ghost use Rattle.rt_stamps.specs.Names.{name_order};
+ghost use Rattle.rt_tags.specs.Tags.{is_listed};
+ghost use Rattle.rt_tags.specs.Kept.{HaveNames, IsKept, IsNext, AreKept, is_entry_kept, entries_written, entry_of, is_on_side, state_seen, states_seen, tags_on};
+ghost use Rattle.rt_tags.specs.States.{Interns, IsByName, IsState, IsTag, KeepsIds, is_on, is_settled, name_at, names_on, numbered, state_at, write_at, written};
+ghost use Rattle.indexmap.specs.IndexSet.{index_set_len};
+
+use crate::names;
+use indexmap::IndexSet;
+use rt_stamps::{Fault, Stamp};
+use std::alloc::{AllocError, Global};
+use std::cmp::Ordering;
+use std::marker::Model;
+
+/// A tag's number in a table, for good.
+#[derive(Clone, Copy, Debug, PartialEq, Eq, Hash)]
+pub struct TagId {
+    place: usize,
+}
+
+impl Model for TagId {
+    ghost use Rattle.std.specs.Prelude.{ℕ};
+
+    ghost Value = { ℕ };
+
+    ghost view = { λ t. t.place };
+
+    ghost inverse = { λ n. record { place = n } };
+}
+
+/// A state's id in a table, for good.
+#[derive(Clone, Copy, Debug, PartialEq, Eq, Hash)]
+pub struct StateId {
+    place: usize,
+}
+
+impl Model for StateId {
+    ghost use Rattle.std.specs.Prelude.{ℕ};
+
+    ghost Value = { ℕ };
+
+    ghost view = { λ s. s.place };
+
+    ghost inverse = { λ n. record { place = n } };
+}
+
+impl StateId {
+    /// The state without tags and writers.
+    pub const EMPTY: StateId = StateId { place: 0 };
+}
+
+// The last write of a tag.
+#[derive(Clone, Copy, Debug, PartialEq, Eq, Hash)]
+struct Entry {
+    tag: TagId,
+    writer: Stamp,
+    on: bool,
+}
+
+// The entries by the bytes of their tags' names, and beside them the tags that are on.
+#[derive(Drop)]
+#[derive_where(PartialEq, Eq, Hash)]
+struct State {
+    entries: Vec<Entry>,
+    #[derive_where(skip(EqHashOrd))]
+    on: Vec<TagId>,
+}
+
+// The entry of a tag.
+fn entry_of(entries: &[Entry], tag: TagId) -> Option<Entry>
+    ensures { result ≡ entry_of tag entries.now }
+{
+    for entry in entries {
+        if entry.tag == tag {
+            return Some(*entry);
+        }
+    }
+    None
+}
+
+// Whether the name of an entry's tag stands on a side of a name.
+fn is_on_side(entry: Entry, names: &[String], name: &str, side: Ordering) -> bool
+    requires { entry.tag < length names.now }
+    ensures { result ≡ is_on_side (map (λ s. string_bytes s) names.now) name.now side entry }
+{
+    names[entry.tag.place].as_str().cmp(name) == side
+}
+
+// Adds the entries whose tags' names stand on a side of a name.
+fn add_side(
+    out: &mut Vec<Entry>,
+    entries: &[Entry],
+    names: &[String],
+    name: &str,
+    side: Ordering,
+) -> Result<(), AllocError>
+    requires { HaveNames (length names.now) entries.now }
+    ensures { OnOk result (out.new.items ≡ out.old.items ++ filter (is_on_side (map (λ s. string_bytes s) names.now) name.now side) entries.now) }
+{
+    for entry in entries {
+        if is_on_side(*entry, names, name, side) {
+            out.push(*entry)?;
+        }
+    }
+    Ok(())
+}
+
+// The tags that are on.
+fn tags_on(alloc: Global, entries: &[Entry]) -> Result<Vec<TagId>, AllocError>
+    ensures { IfOk result (λ v. v.items ≡ tags_on entries.now) }
+{
+    let mut on = Vec::new(alloc);
+    for entry in entries {
+        if entry.on {
+            on.push(entry.tag)?;
+        }
+    }
+    Ok(on)
+}
+
+// The entries after one more, which takes the place of the one of its tag.
+fn written(
+    alloc: Global,
+    entries: &[Entry],
+    names: &[String],
+    entry: Entry,
+) -> Result<Vec<Entry>, AllocError>
+    requires tag { entry.tag < length names.now }
+    requires named { HaveNames (length names.now) entries.now }
+    ensures { IfOk result (λ v. v.items ≡ entries_written (map (λ s. string_bytes s) names.now) entry entries.now) }
+{
+    let name = names[entry.tag.place].as_str();
+    let mut out = Vec::with_capacity(alloc, entries.len() + 1)?;
+    add_side(&mut out, entries, names, name, Ordering::Less)?;
+    out.push(entry)?;
+    add_side(&mut out, entries, names, name, Ordering::Greater)?;
+    Ok(out)
+}
+
+// The state with an id.
+fn state_of(states: &IndexSet<State>, id: StateId) -> &State
+    requires { id < index_set_len states.now }
+    ensures { slice_get states.now.keys id ≡ Some result.now }
+{
+    states.get_index(id.place).unwrap()
+}
+
+// Keeps a state, if the same one isn't kept, and answers its place.
+fn intern(states: &mut IndexSet<State>, state: State) -> Result<usize, Fault>
+    ensures kept { IfOk result (λ place. (names : List (List ℕ)) → AreKept names states.old.keys → IsKept names state → AreKept names states.new.keys) }
+    ensures interned { IfOk result (λ place. (names : List (List ℕ)) → AreKept names states.old.keys → IsKept names state → Interns (state_seen names state) (states_seen names states.old.keys) place (states_seen names states.new.keys)) }
+    ensures err { OnErr result (states.new.keys ≡ states.old.keys) }
+    ensures fault { IfErr result (λ fault. fault ≡ Fault.NoMemory) }
+{
+    let (place, _) = states.insert_full(state)?;
+    Ok(place)
+}
+
+// Whether the entries have one of a tag whose writer isn't less.
+fn is_settled(entries: &[Entry], tag: TagId, writer: Stamp) -> bool
+    ensures { result ≡ is_entry_kept (entry_of tag entries.now) writer }
+{
+    match entry_of(entries, tag) {
+        Some(entry) => entry.writer >= writer,
+        None => false,
+    }
+}
+
+// The state after one more entry, if the state has none of that tag that isn't less.
+fn next_state(
+    alloc: Global,
+    state: &State,
+    names: &[String],
+    entry: Entry,
+) -> Result<Option<State>, AllocError>
+    requires tag { entry.tag < length names.now }
+    requires named { HaveNames (length names.now) state.now.entries.items }
+    ensures settled { is_entry_kept (entry_of entry.tag state.now.entries.items) entry.writer ≡ true → result ≡ Ok None }
+    ensures next { IfOk result (λ next. IfSome next (λ s. IsNext (map (λ s. string_bytes s) names.now) entry state.now.entries.items s)) }
+    ensures none { IfOk result (λ next. IfNone next (is_entry_kept (entry_of entry.tag state.now.entries.items) entry.writer ≡ true)) }
+{
+    if is_settled(&state.entries, entry.tag, entry.writer) {
+        return Ok(None);
+    }
+    let entries = written(alloc, &state.entries, names, entry)?;
+    let on = tags_on(alloc, &entries)?;
+    Ok(Some(State { entries, on }))
+}
+
+/// Tags by number and tag states of characters by id. Contracts see the names in the order of their
+/// numbers and the states in the order of their ids: each name has one number and each state one id.
+#[derive(Drop)]
+pub struct StateTable {
+    alloc: Global,
+    names: IndexSet<String>,
+    states: IndexSet<State>,
+}
+
+impl Model for StateTable {
+    ghost use Rattle.rt_tags.specs.States.{TagStates};
+
+    ghost Value = { TagStates };
+
+    ghost use Rattle.rt_tags.specs.Kept.{IsTable, states_seen};
+    ghost use Rattle.rt_tags.specs.Seen.{names_of};
+
+    ghost view = { λ t. record { names = names_of t.names; states = states_seen (names_of t.names) t.states.keys } };
+
+    ghost invariant = { λ t. IsTable (names_of t.names) t.states.keys };
+}
+
+impl StateTable {
+    /// A table without names, and with the empty state alone. `NoMemory` is its only fault.
+    pub fn new(alloc: Global) -> Result<StateTable, Fault>
+        ensures ok { IfOk result (λ table. table ≡ record { names = []; states = [] ∷ [] }) }
+        ensures fault { IfErr result (λ fault. fault ≡ Fault.NoMemory) }
+    {
+        let mut states = IndexSet::new(alloc);
+        let empty = State {
+            entries: Vec::new(alloc),
+            on: Vec::new(alloc),
+        };
+        let _ = intern(&mut states, empty)?;
+        Ok(StateTable {
+            alloc,
+            names: IndexSet::new(alloc),
+            states,
+        })
+    }
+
+    /// The number of a name: one for each name for good. `NoMemory` is its only fault, and comes only
+    /// for a name that has no number yet; the table is then as it was.
+    pub fn number(&mut self, name: &str) -> Result<TagId, Fault>
+        ensures given { IfOk result (IsTag self.new) }
+        ensures tag { IfOk result (λ tag. name_at self.new tag ≡ name.now) }
+        ensures ok { OnOk result (self.new ≡ numbered name.now self.old) }
+        ensures err { OnErr result (self.new ≡ self.old) }
+        ensures memory { is_listed name.now self.old.names ≡ true → IsOk result }
+        ensures fault { IfErr result (λ fault. fault ≡ Fault.NoMemory) }
+        ensures ids { KeepsIds self.old self.new }
+    {
+        match names::index_of(&self.names, name) {
+            Some(place) => Ok(TagId { place }),
+            None => {
+                let place = self.names.len();
+                let name = String::from_str(self.alloc, name)?;
+                names::make_room(&mut self.names, 1)?;
+                names::add(&mut self.names, name);
+                Ok(TagId { place })
+            }
+        }
+    }
+
+    /// The number of a name, if it has one.
+    pub fn known(&self, name: &str) -> Option<TagId>
+        ensures none { IfNone result (is_listed name.now self.now.names ≡ false) }
+        ensures given { IfSome result (IsTag self.now) }
+        ensures tag { IfSome result (λ tag. name_at self.now tag ≡ name.now) }
+    {
+        match names::index_of(&self.names, name) {
+            Some(place) => Some(TagId { place }),
+            None => None,
+        }
+    }
+
+    /// The name of a number.
+    pub fn name(&self, tag: TagId) -> &str
+        requires { IsTag self.now tag }
+        ensures { result.now ≡ name_at self.now tag }
+    {
+        self.names.get_index(tag.place).unwrap().as_str()
+    }
+
+    /// The state after one more write of a tag: of each tag the greatest writer stays. The state itself
+    /// where it has a writer of that tag that isn't less. `NoMemory` is its only fault, and the table is
+    /// then as it was.
+    pub fn with(
+        &mut self,
+        state: StateId,
+        tag: TagId,
+        writer: Stamp,
+        on: bool,
+    ) -> Result<StateId, Fault>
+        requires state { IsState self.old state }
+        requires tag { IsTag self.old tag }
+        ensures given { IfOk result (IsState self.new) }
+        ensures state { IfOk result (λ id. state_at self.new id ≡ written (write_at self.old tag writer on) (state_at self.old state)) }
+        ensures interned { IfOk result (λ id. Interns (written (write_at self.old tag writer on) (state_at self.old state)) self.old.states id self.new.states) }
+        ensures same { is_settled (write_at self.old tag writer on) (state_at self.old state) ≡ true → result ≡ Ok state }
+        ensures names { self.new.names ≡ self.old.names }
+        ensures err { OnErr result (self.new ≡ self.old) }
+        ensures fault { IfErr result (λ fault. fault ≡ Fault.NoMemory) }
+        ensures ids { KeepsIds self.old self.new }
+    {
+        let entry = Entry { tag, writer, on };
+        let old = state_of(&self.states, state);
+        match next_state(self.alloc, old, self.names.as_slice(), entry)? {
+            Some(new) => {
+                let place = intern(&mut self.states, new)?;
+                Ok(StateId { place })
+            }
+            None => Ok(state),
+        }
+    }
+
+    /// Whether a tag is on.
+    pub fn has(&self, state: StateId, tag: TagId) -> bool
+        requires state { IsState self.now state }
+        requires tag { IsTag self.now tag }
+        ensures { result ≡ is_on (name_at self.now tag) (state_at self.now state) }
+    {
+        match entry_of(&state_of(&self.states, state).entries, tag) {
+            Some(entry) => entry.on,
+            None => false,
+        }
+    }
+
+    /// The tags that are on, by the bytes of their names.
+    pub fn on(&self, state: StateId) -> &[TagId]
+        requires { IsState self.now state }
+        ensures names { map (name_at self.now) result.now ≡ names_on (state_at self.now state) }
+        ensures tags { All (IsTag self.now) result.now }
+    {
+        state_of(&self.states, state).on.as_slice()
+    }
+
+    /// Each name has one number and each state one id; a state has one write of each tag, by the bytes of
+    /// the tags' names; and `StateId::EMPTY` is the state without writes.
+    pub fn order(&self)
+        ensures numbers { (a b : ℕ) → IsTag self.now a → IsTag self.now b → name_at self.now a ≡ name_at self.now b → a ≡ b }
+        ensures ids { (a b : ℕ) → IsState self.now a → IsState self.now b → state_at self.now a ≡ state_at self.now b → a ≡ b }
+        ensures by_name { (state : ℕ) → IsState self.now state → IsByName (state_at self.now state) }
+        ensures empty { slice_get self.now.states 0 ≡ Some [] }
+    {
+        let _ = &self.states;
+    }
+}
