@@ -5,8 +5,8 @@ ghost use Rattle.rt_marks.specs.Marks.{comes_before, name_order, place_inserted,
 use crate::{Gravity, place};
 use std::cmp::Ordering;
 
-/// A mark. Its fields stand in the order that decides which of two marks comes first.
-#[derive(Debug, PartialEq, Eq, PartialOrd, Ord, Drop)]
+/// A mark.
+#[derive(Debug, Drop)]
 pub struct Mark {
     /// The characters before it.
     pub place: usize,
@@ -14,14 +14,38 @@ pub struct Mark {
     pub name: String,
 }
 
-impl Mark {
-    ghost use Rattle.rt_marks.specs.Seen.{seen};
+/// What decides where a mark stands in the order of marks. Its fields stand in the order in which they
+/// decide.
+#[derive(Clone, Copy, Debug, PartialEq, Eq, PartialOrd, Ord)]
+pub struct Spot<'a> {
+    pub place: usize,
+    pub gravity: Gravity,
+    pub name: &'a str,
+}
 
-    /// Whether it stands before another in the order of marks.
-    pub fn comes_before(&self, other: &Mark) -> bool
-        ensures { result ≡ comes_before (seen self.now) (seen other.now) }
+impl Spot<'_> {
+    ghost use Rattle.rt_marks.specs.Seen.{spotted};
+
+    /// Whether a mark there stands before one at another in the order of marks.
+    pub fn comes_before(&self, other: &Spot<'_>) -> bool
+        ensures { result ≡ comes_before (spotted self.now) (spotted other.now) }
     {
         self < other
+    }
+}
+
+impl Mark {
+    ghost use Rattle.rt_marks.specs.Seen.{seen, spotted};
+
+    /// What decides where it stands in the order of marks.
+    pub fn spot(&self) -> Spot<'_>
+        ensures { spotted result ≡ seen self.now }
+    {
+        Spot {
+            place: self.place,
+            gravity: self.gravity,
+            name: self.name.as_str(),
+        }
     }
 
     /// Where it stands after `n` characters were inserted at a place.

@@ -1,9 +1,9 @@
 // The marks of a site.
-ghost use Rattle.std.specs.Prelude.{◌≡◌, ◌+◌, ◌≤◌, ◌⊎◌, ◌↔◌, [], List, ℕ, IsSome, OnOk, OnErr, IfOk, IfErr, Ok, Err, None, Some, is_some, option_map, option_copied, string_bytes, map, Contains, if◌then◌else◌};
-ghost use Rattle.rt_marks.specs.Marks.{AreAscending, AreInOrder, Each, HaveOwnNames, IsName, first_mark_at, last_mark_before, mark_after, mark_before, marks_inserted, marks_removed, marks_set, marks_with_gravity, named, without};
+ghost use Rattle.std.specs.Prelude.{◌≡◌, ◌+◌, ◌≤◌, ◌⊎◌, ◌↔◌, [], List, ℕ, IsSome, OnOk, OnErr, IfOk, IfErr, Ok, Err, None, Some, is_some, option_map, option_copied, string_bytes, map, Contains, if◌then◌else◌, find as first_passing};
+ghost use Rattle.rt_marks.specs.Marks.{AreAscending, AreInOrder, Each, HaveOwnNames, IsName, comes_before, find_last, first_mark_at, last_mark_before, mark_after, mark_before, marks_inserted, marks_removed, marks_set, marks_with_gravity, named, without};
 
 use crate::Gravity;
-use crate::mark::Mark;
+use crate::mark::{Mark, Spot};
 use crate::table::Table;
 use rt_stamps::Fault;
 use rt_stamps::limits::MOST_NAME_BYTES;
@@ -129,7 +129,9 @@ impl Marks {
         ensures { option_copied result ≡ option_map (λ m. m.name) (mark_after name.now self.now) }
     {
         let here = self.table.find(name)?;
-        self.table.first_after(here).map(|mark| mark.name.as_str())
+        self.table
+            .first_after(&here.spot())
+            .map(|mark| mark.name.as_str())
     }
 
     /// The name of the mark before a mark in their order, none before the first one and without a
@@ -138,7 +140,35 @@ impl Marks {
         ensures { option_copied result ≡ option_map (λ m. m.name) (mark_before name.now self.now) }
     {
         let here = self.table.find(name)?;
-        self.table.last_until(here).map(|mark| mark.name.as_str())
+        self.table
+            .last_until(&here.spot())
+            .map(|mark| mark.name.as_str())
+    }
+
+    /// The name of the first mark after a spot in the order of marks: the place, the gravity and the
+    /// name that a mark of them would have. There may be one there, or none.
+    pub fn first_after(&self, place: usize, gravity: Gravity, name: &str) -> Option<&str>
+        ensures { option_copied result ≡ option_map (λ m. m.name) (first_passing (comes_before (record { name = name.now; place = place; gravity = gravity })) self.now) }
+    {
+        let here = Spot {
+            place,
+            gravity,
+            name,
+        };
+        self.table.first_after(&here).map(|mark| mark.name.as_str())
+    }
+
+    /// The name of the last mark before a spot in the order of marks: the place, the gravity and the
+    /// name that a mark of them would have. There may be one there, or none.
+    pub fn last_until(&self, place: usize, gravity: Gravity, name: &str) -> Option<&str>
+        ensures { option_copied result ≡ option_map (λ m. m.name) (find_last (λ m. comes_before m (record { name = name.now; place = place; gravity = gravity })) self.now) }
+    {
+        let here = Spot {
+            place,
+            gravity,
+            name,
+        };
+        self.table.last_until(&here).map(|mark| mark.name.as_str())
     }
 
     /// The name of the first mark at or after a place, in the order of marks.
