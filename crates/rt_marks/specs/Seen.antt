@@ -4,12 +4,13 @@ use Rattle.std.specs.Ordering.{is_lt}
 use Rattle.rt_marks.specs.declared.gravity.Gravity.{Gravity}
 use Rattle.rt_marks.specs.declared.gravity.Gravity.TheVariants.{Left, Right}
 use Rattle.rt_marks.specs.declared.mark.Mark.{Mark as KeptMark}
-use Rattle.rt_marks.specs.declared.mark.Spot.{Spot}
+use Rattle.rt_marks.specs.declared.spot.Spot.{Spot}
 use Rattle.rt_marks.specs.Marks.{Mark, Each, AreAscending, AreInOrder, name_order}
 
 abbrev pub seen : KeptMark → Mark
 seen m = record { name = string_bytes m.name; place = m.place; gravity = m.gravity }
 
+-- the mark that stands at a spot, or would
 abbrev pub spotted : Spot → Mark
 spotted s = record { name = s.name.now; place = s.place; gravity = s.gravity }
 

@@ -2,7 +2,7 @@
 ghost use Rattle.std.specs.Prelude.{◌≡◌, ◌+◌, ◌≤◌, string_bytes};
 ghost use Rattle.rt_marks.specs.Marks.{comes_before, name_order, place_inserted, place_removed};
 
-use crate::{Gravity, place};
+use crate::{Gravity, Spot, place};
 use std::cmp::Ordering;
 
 /// A mark.
@@ -12,26 +12,6 @@ pub struct Mark {
     pub place: usize,
     pub gravity: Gravity,
     pub name: String,
-}
-
-/// What decides where a mark stands in the order of marks. Its fields stand in the order in which they
-/// decide.
-#[derive(Clone, Copy, Debug, PartialEq, Eq, PartialOrd, Ord)]
-pub struct Spot<'a> {
-    pub place: usize,
-    pub gravity: Gravity,
-    pub name: &'a str,
-}
-
-impl Spot<'_> {
-    ghost use Rattle.rt_marks.specs.Seen.{spotted};
-
-    /// Whether a mark there stands before one at another in the order of marks.
-    pub fn comes_before(&self, other: &Spot<'_>) -> bool
-        ensures { result ≡ comes_before (spotted self.now) (spotted other.now) }
-    {
-        self < other
-    }
 }
 
 impl Mark {

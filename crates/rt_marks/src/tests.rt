@@ -1,5 +1,5 @@
 use crate::place::{place_inserted, place_removed};
-use crate::{Gravity, Marks};
+use crate::{Gravity, Marks, Spot};
 use rt_stamps::Fault;
 use std::test::Fail;
 
@@ -47,7 +47,24 @@ fn order_by_place_gravity_and_name(rt: HostRuntime) -> Result<(), Fail> {
     Ok(())
 }
 
-// What comes after and before a spot where no mark stands, among marks of its place.
+// The name of the mark after a spot and of the mark before it.
+fn about<'a>(
+    marks: &'a Marks,
+    place: usize,
+    gravity: Gravity,
+    name: &str,
+) -> (Option<&'a str>, Option<&'a str>) {
+    let here = Spot {
+        place,
+        gravity,
+        name,
+    };
+    let after = marks.first_after(&here).map(|mark| mark.name);
+    let before = marks.last_until(&here).map(|mark| mark.name);
+    (after, before)
+}
+
+// What stands about a spot where no mark stands, among marks of its place.
 #[test]
 fn about_a_spot(rt: HostRuntime) -> Result<(), Fail> {
     let mut marks = Marks::new(rt.alloc());
@@ -55,13 +72,21 @@ fn about_a_spot(rt: HostRuntime) -> Result<(), Fail> {
     marks.set("b", 3)?;
     marks.set("z", 3)?;
     marks.set_gravity("z", Gravity::Left)?;
-    assert_eq!(rt; marks.first_after(3, Gravity::Right, "bb"), Some("c"));
-    assert_eq!(rt; marks.last_until(3, Gravity::Right, "bb"), Some("b"));
-    assert_eq!(rt; marks.last_until(3, Gravity::Right, "a"), Some("z"));
-    assert_eq!(rt; marks.first_after(3, Gravity::Left, "a"), Some("z"));
-    assert_eq!(rt; marks.last_until(3, Gravity::Left, "a"), None);
-    assert_eq!(rt; marks.first_after(3, Gravity::Right, "b"), Some("c"));
-    assert_eq!(rt; marks.first_after(4, Gravity::Left, ""), None);
+    assert_eq!(rt;
+        about(&marks, 3, Gravity::Right, "bb"),
+        (Some("c"), Some("b"))
+    );
+    assert_eq!(rt;
+        about(&marks, 3, Gravity::Right, "a"),
+        (Some("b"), Some("z"))
+    );
+    assert_eq!(rt;
+        about(&marks, 3, Gravity::Right, "b"),
+        (Some("c"), Some("z"))
+    );
+    assert_eq!(rt; about(&marks, 3, Gravity::Left, ""), (Some("z"), None));
+    assert_eq!(rt; about(&marks, 4, Gravity::Left, ""), (None, Some("c")));
+    assert!(rt; marks.find("q").is_none());
     Ok(())
 }
 
