@@ -23,7 +23,7 @@ fronts a b rest =
     (λ k. let e = before_neither a b h k in rw (h, k) (λ i. e i ∷ sym e i ∷ rest)))
 
 -- what a mark is behind and another isn't comes between them
-between : (x a b : Mark) → comes_before x a ≡ false → comes_before x b ≡ true → comes_before a b ≡ true
+pub between : (x a b : Mark) → comes_before x a ≡ false → comes_before x b ≡ true → comes_before a b ≡ true
 between x a b h k =
     split (comes_before a b)
     (λ t. t)
