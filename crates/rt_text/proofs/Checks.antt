@@ -1,11 +1,9 @@
 -- What a command answers for its indices.
-use Rattle.std.proofs.Common.{◌≡◌, ◌⊎◌, inl, inr, ℕ, List, [], ◌∷◌, length, refl, sym, ◌∙◌, ap, Some, None, Ok, Err, Option, Result}
-use Rattle.std.specs.Prelude.{option_map, unwrap_or}
+use Rattle.std.proofs.Common.{◌≡◌, inl, inr, ℕ, List, [], ◌∷◌, sym, ◌∙◌, ap, Ok, Err, Option, Result}
 use Rattle.std.specs.Result.{result_err, result_unwrap_or}
 use Rattle.rt_index.specs.Index.{index_of}
 use Rattle.rt_index.specs.Widget.{Widget}
 use Rattle.rt_stamps.specs.declared.fault.Fault.{Fault}
-use Rattle.rt_stamps.specs.declared.fault.Fault.TheVariants.{NoMemory}
 use Rattle.rt_stamps.specs.Outcomes.{first_of, unless, Refuses}
 use Rattle.rt_stamps.specs.Words.{Word}
 use Rattle.rt_text.specs.Index.{index_check, place_at_index}

@@ -1,5 +1,5 @@
 -- What a deletion gives, by its checks.
-use Rattle.std.proofs.Common.{◌≡◌, ℕ, zero, suc, ◌+◌, ◌-◌, ◌<◌, ◌≤◌, ◌⊎◌, inl, inr, List, [], ◌∷◌, ◌++◌, Bool, true, false, cond, length, map, refl, sym, ◌∙◌, ap, subst, arith, add-zero, Some, None, Ok, Err, Option, Result, OnOk, All}
+use Rattle.std.proofs.Common.{◌≡◌, ℕ, zero, suc, ◌+◌, ◌<◌, ◌≤◌, ◌⊎◌, inl, inr, List, [], ◌∷◌, ◌++◌, Bool, true, false, length, map, refl, sym, ◌∙◌, ap, arith, add-zero, Some, None, Ok, Err, Option, Result, OnOk, All}
 use Rattle.std.proofs.lemmas.Bool.{cond-true, cond-false, le-ltb, cases_lt}
 use Rattle.rt_marks.specs.Marks.{AreInOrder, marks_left}
 use Rattle.rt_marks.proofs.Leaving.{marks_kept}

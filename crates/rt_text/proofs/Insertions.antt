@@ -1,5 +1,5 @@
 -- What an insertion gives, by its checks.
-use Rattle.std.proofs.Common.{◌≡◌, ℕ, ◌+◌, ◌-◌, ◌≤◌, List, [], ◌∷◌, length, min, refl, sym, ◌∙◌, ap, arith, Option, Some, None, Ok, Err, take-append-drop, append-nil, add-zero}
+use Rattle.std.proofs.Common.{◌≡◌, ℕ, ◌-◌, ◌≤◌, List, [], ◌∷◌, length, min, refl, sym, ◌∙◌, ap, arith, Option, Some, None, Ok, Err, take-append-drop, append-nil, add-zero}
 use Rattle.std.specs.Str.{chars}
 use Rattle.std.specs.Result.{result_err, result_unwrap_or}
 use Rattle.std.proofs.lemmas.Bool.Decides.{nat_tests}

@@ -4,7 +4,7 @@ use Rattle.std.specs.Prelude.{◌↔◌, IsSome, OnErr, option_map}
 use Rattle.std.specs.Option.{option_map_or}
 use Rattle.std.proofs.lemmas.Bool.{cases_lt}
 use Rattle.rt_marks.specs.declared.gravity.Gravity.{Gravity}
-use Rattle.rt_marks.specs.Marks.{Mark, Each, IsName, named, is_named, is_moved_on, mark_inserted, marks_inserted, place_left, mark_left, marks_left, without, put_mark, marks_set, marks_with_gravity, gravity_or_right}
+use Rattle.rt_marks.specs.Marks.{Mark, Each, IsName, named, is_named, is_moved_on, marks_inserted, place_left, mark_left, marks_left, without, put_mark, marks_set, marks_with_gravity, gravity_or_right}
 use Rattle.rt_marks.proofs.InOrder.{each_with, each_in_order}
 use Rattle.rt_marks.proofs.Leaving.{place_rising, place_kept}
 use Rattle.rt_marks.proofs.Names.{same_name}

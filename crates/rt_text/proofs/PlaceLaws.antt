@@ -1,7 +1,7 @@
 -- Laws of places in a text that ends with a newline.
-use Rattle.std.proofs.Common.{◌≡◌, ℕ, zero, suc, ◌+◌, ◌-◌, ◌<◌, ◌≤◌, List, [], ◌∷◌, ◌++◌, Bool, true, false, cond, length, refl, sym, ap, arith, add-one, take, subst}
+use Rattle.std.proofs.Common.{◌≡◌, ℕ, zero, suc, ◌+◌, ◌-◌, ◌<◌, ◌≤◌, List, [], ◌∷◌, ◌++◌, Bool, true, false, cond, length, refl, arith, add-one, take}
 use Rattle.std.proofs.lemmas.List.{length-map}
-use Rattle.rt_stamps.specs.Places.{is_newline, newlines, after_newlines, line_start, line_end, line_of, position_at}
+use Rattle.rt_stamps.specs.Places.{is_newline, newlines, after_newlines, line_of, position_at}
 use Rattle.rt_store.specs.declared.cell.Cell.{Cell}
 use Rattle.rt_store.specs.Cells.{text_of, visible_of}
 pub use Rattle.rt_text.specs.Proper.{EndsLine, ends_text, text_within}

@@ -108,6 +108,28 @@ fn at(line: usize, character: usize) -> Result<Position, Fault> {
     Ok(Position { line, character })
 }
 
+// Indices, each with its line and character.
+fn stand(rt: &impl Abort, page: &Page, indices: &[(&str, usize, usize)]) {
+    for (index, line, character) in indices {
+        assert_eq!(rt; page.index(index), at(*line, *character), "at {index}");
+    }
+}
+
+// Marks set at indices.
+fn set_all(page: &mut Page, marks: &[(&str, &str)]) -> Result<(), Fault> {
+    for (name, index) in marks {
+        page.set(name, index)?;
+    }
+    Ok(())
+}
+
+// A deletion of ranges.
+fn delete_at(alloc: Global, page: &mut Page, indices: &[&str]) -> Result<(), Fail> {
+    let indices = words(alloc, indices)?;
+    page.delete(&indices)?;
+    Ok(())
+}
+
 fn words(alloc: Global, words: &[&str]) -> Result<Vec<String>, Fail> {
     let mut all = Vec::new(alloc);
     for word in words {
@@ -117,7 +139,7 @@ fn words(alloc: Global, words: &[&str]) -> Result<Vec<String>, Fail> {
 }
 
 #[test]
-fn lists_and_counts(rt: HostRuntime) -> Result<(), Fail> {
+fn lists_of_texts(rt: HostRuntime) -> Result<(), Fail> {
     let alloc = rt.alloc();
     let mut page = Page::new(alloc, Clock::new())?;
     page.insert("1.0", "hello")?;
@@ -127,6 +149,14 @@ fn lists_and_counts(rt: HostRuntime) -> Result<(), Fail> {
     assert_eq!(rt; texts[0].as_str(), "h");
     assert_eq!(rt; texts[1].as_str(), "o");
     assert_eq!(rt; page.get_one("1.0 + 1 c")?.as_str(), "e");
+    Ok(())
+}
+
+#[test]
+fn distances_and_comparisons(rt: HostRuntime) -> Result<(), Fail> {
+    let alloc = rt.alloc();
+    let mut page = Page::new(alloc, Clock::new())?;
+    page.insert("1.0", "hello")?;
     let none = words(alloc, &[])?;
     assert_eq!(rt;
         page.count(&none, "end", "1.0")?.as_slice(),
@@ -253,98 +283,119 @@ const EXPRESSIONS: [(&str, usize, usize); 11] = [
 #[test]
 fn expressions_in_commands(rt: HostRuntime) -> Result<(), Fail> {
     let mut page = Page::new(rt.alloc(), Clock::new())?;
-    assert_eq!(rt; page.index("end"), at(2, 0));
-    assert_eq!(rt; page.index("end-1c"), at(1, 0));
+    stand(&rt, &page, &[("end", 2, 0), ("end-1c", 1, 0)]);
     page.insert("1.0", "hi")?;
-    for (index, line, character) in EXPRESSIONS {
-        assert_eq!(rt; page.index(index), at(line, character), "at {index}");
-    }
-    assert_eq!(rt; page.index("x.first"), Err(Fault::BadIndex));
-    assert_eq!(rt; page.index("sel.first"), Err(Fault::NoneTagged));
-    assert_eq!(rt; page.compare("sel.first", "<", "x"), Err(Fault::NoneTagged));
-    assert_eq!(rt; page.compare("sel.first", "is", "x"), Err(Fault::BadOption));
+    stand(&rt, &page, &EXPRESSIONS);
     page.insert("insert lineend", "!")?;
-    let last = words(rt.alloc(), &["end - 2 chars"])?;
-    page.delete(&last)?;
+    delete_at(rt.alloc(), &mut page, &["end - 2 chars"])?;
     assert_eq!(rt; page.get("1.0", "1.0 lineend")?.as_str(), "hi");
     Ok(())
 }
 
-// Of two marks where text is inserted the left one stays, and `insert` moves on with it.
+#[test]
+fn refused_expressions(rt: HostRuntime) -> Result<(), Fail> {
+    let page = Page::new(rt.alloc(), Clock::new())?;
+    assert_eq!(rt; page.index("x.first"), Err(Fault::BadIndex));
+    assert_eq!(rt; page.index("sel.first"), Err(Fault::NoneTagged));
+    assert_eq!(rt; page.compare("sel.first", "<", "x"), Err(Fault::NoneTagged));
+    assert_eq!(rt; page.compare("sel.first", "is", "x"), Err(Fault::BadOption));
+    Ok(())
+}
+
+// Of two marks where text is inserted the left one stays.
 #[test]
 fn marks_move_for_text(rt: HostRuntime) -> Result<(), Fail> {
     let mut page = Page::new(rt.alloc(), Clock::new())?;
     page.insert("1.0", "ab")?;
-    page.set("l", "1.1")?;
+    set_all(&mut page, &[("l", "1.1"), ("r", "1.1")])?;
     page.set_gravity("l", Gravity::Left)?;
-    page.set("r", "1.1")?;
     page.insert("1.1", "XY")?;
-    assert_eq!(rt; page.index("l"), at(1, 1));
-    assert_eq!(rt; page.index("r"), at(1, 3));
-    assert_eq!(rt; page.index("insert"), at(1, 4));
+    stand(&rt, &page, &[("l", 1, 1), ("r", 1, 3), ("insert", 1, 4)]);
     assert_eq!(rt; page.next("l"), Some("r"));
+    page.unset("r");
+    assert_eq!(rt; page.index("r"), Err(Fault::BadIndex));
+    Ok(())
+}
+
+// `insert` moves as other marks do.
+#[test]
+fn the_cursor_moves(rt: HostRuntime) -> Result<(), Fail> {
+    let mut page = Page::new(rt.alloc(), Clock::new())?;
+    page.insert("1.0", "aXYb")?;
     assert_eq!(rt; page.gravity(OwnMark::Insert), Gravity::Right);
     page.set_gravity("insert", Gravity::Left)?;
     page.insert("insert", "!")?;
-    assert_eq!(rt; page.index("insert"), at(1, 4));
-    let text = words(rt.alloc(), &["r - 1 c", "insert + 1 c"])?;
-    page.delete(&text)?;
+    stand(&rt, &page, &[("insert", 1, 4), ("current", 1, 5)]);
+    delete_at(rt.alloc(), &mut page, &["insert - 2 c", "current"])?;
+    stand(&rt, &page, &[("insert", 1, 2), ("current", 1, 2)]);
     assert_eq!(rt; page.get("1.0", "end")?.as_str(), "aX\n");
-    assert_eq!(rt; page.index("r"), at(1, 2));
-    assert_eq!(rt; page.index("insert"), at(1, 2));
-    page.unset("r");
-    assert_eq!(rt; page.index("r"), Err(Fault::BadIndex));
-    assert_eq!(rt; page.index("l"), at(1, 1));
     Ok(())
 }
 
-// A mark at the end stays there, since text goes before the last newline; `insert` doesn't stand there.
+// A mark at the end stays there, since text goes before the last newline; `insert` isn't set there.
 #[test]
 fn marks_at_the_end(rt: HostRuntime) -> Result<(), Fail> {
     let mut page = Page::new(rt.alloc(), Clock::new())?;
-    page.set("m", "end")?;
-    page.set("insert", "end")?;
-    page.set("current", "end")?;
-    assert_eq!(rt; page.index("m"), at(2, 0));
-    assert_eq!(rt; page.index("insert"), at(1, 0));
+    let all = [("m", "end"), ("insert", "end"), ("current", "end")];
+    set_all(&mut page, &all)?;
+    stand(&rt, &page, &[("m", 2, 0), ("insert", 1, 0)]);
     page.insert("end", "ab\ncd")?;
-    assert_eq!(rt; page.index("m"), at(3, 0));
-    assert_eq!(rt; page.index("current"), at(3, 0));
-    assert_eq!(rt; page.index("insert"), at(2, 2));
-    let all = words(rt.alloc(), &["1.0", "end"])?;
-    page.delete(&all)?;
-    assert_eq!(rt; page.index("m"), at(2, 0));
-    assert_eq!(rt; page.index("insert"), at(1, 0));
+    stand(
+        &rt,
+        &page,
+        &[("m", 3, 0), ("current", 3, 0), ("insert", 2, 2)],
+    );
+    delete_at(rt.alloc(), &mut page, &["1.0", "end"])?;
+    stand(
+        &rt,
+        &page,
+        &[("m", 2, 0), ("current", 2, 0), ("insert", 1, 0)],
+    );
     Ok(())
 }
 
-// A hundred marks in one gap, every other one with left gravity: the left ones stay before text
-// that is inserted, and come to stand where a removed range was.
+// Where the marks stand whose numbers are even, and the others.
+fn stand_in_turn(
+    rt: &impl Abort,
+    alloc: Global,
+    page: &Page,
+    even: usize,
+    odd: usize,
+) -> Result<(), Fail> {
+    for i in 0..100u8 {
+        let name = format!(in alloc; "m{i:02}")?;
+        let character = if i % 2 == 0 { even } else { odd };
+        assert_eq!(rt; page.index(name.as_str()), at(1, character), "at {name}");
+    }
+    Ok(())
+}
+
+// Sets a hundred marks, every other one with left gravity.
+fn set_a_hundred(alloc: Global, page: &mut Page, index: &str) -> Result<(), Fail> {
+    for i in 0..100u8 {
+        let name = format!(in alloc; "m{i:02}")?;
+        page.set(name.as_str(), index)?;
+        if i % 2 == 0 {
+            page.set_gravity(name.as_str(), Gravity::Left)?;
+        }
+    }
+    Ok(())
+}
+
+// The left ones of a gap's marks stay before text that is inserted there, and all come to stand
+// where a removed range was, in their order.
 #[test]
 fn a_hundred_marks_in_one_gap(rt: HostRuntime) -> Result<(), Fail> {
     let alloc = rt.alloc();
     let mut page = Page::new(alloc, Clock::new())?;
     page.insert("1.0", "0123456789")?;
-    for i in 0..100u8 {
-        let name = format!(in alloc; "m{i:02}")?;
-        page.set(name.as_str(), "1.5")?;
-        if i % 2 == 0 {
-            page.set_gravity(name.as_str(), Gravity::Left)?;
-        }
-    }
+    set_a_hundred(alloc, &mut page, "1.5")?;
     page.insert("1.5", "abc")?;
-    for i in 0..100u8 {
-        let name = format!(in alloc; "m{i:02}")?;
-        let character = if i % 2 == 0 { 5 } else { 8 };
-        assert_eq!(rt; page.index(name.as_str()), at(1, character));
-    }
+    stand_in_turn(&rt, alloc, &page, 5, 8)?;
     assert_eq!(rt; page.next("m98"), Some("m01"));
-    let ranges = words(alloc, &["1.9", "1.11", "1.1", "1.3", "1.4", "1.9"])?;
-    page.delete(&ranges)?;
-    for i in 0..100u8 {
-        let name = format!(in alloc; "m{i:02}")?;
-        assert_eq!(rt; page.index(name.as_str()), at(1, 2));
-    }
+    let ranges = ["1.9", "1.11", "1.1", "1.3", "1.4", "1.9"];
+    delete_at(alloc, &mut page, &ranges)?;
+    stand_in_turn(&rt, alloc, &page, 2, 2)?;
     assert_eq!(rt; page.next("m98"), Some("m01"));
     assert_eq!(rt; page.get("1.0", "end")?.as_str(), "0389\n");
     Ok(())

@@ -1,4 +1,4 @@
-use Rattle.std.proofs.Common.{◌≡◌, ◌<◌, ◌≤◌, ◌+◌, ◌-◌, ◌∙◌, ap, arith, sym, drop, length, [], get_or, refl}
+use Rattle.std.proofs.Common.{◌≡◌, ◌<◌, ◌+◌, ◌-◌, ◌∙◌, ap, arith, sym, drop, length, [], get_or, refl}
 use Rattle.std.proofs.Math.Seq.{drop-length}
 use Rattle.rt_marks.specs.Marks.{marks_left, marks_removed}
 use Rattle.rt_marks.proofs.Leaving.{marks_kept}

@@ -1,9 +1,8 @@
-use Rattle.std.proofs.Common.{◌≡◌, ◌∙◌, ap, arith, subst, sym}
+use Rattle.std.proofs.Common.{◌∙◌, ap, arith, subst, sym}
 use Rattle.std.specs.List.{IsDistinct}
 use Rattle.std.proofs.lemmas.Result.{IfOk-weaker}
 use Rattle.rt_stamps.specs.declared.stamp.TheConstants.{FINAL}
 use Rattle.rt_stamps.specs.Stamps.{is_same}
-use Rattle.rt_store.specs.Cells.{text_of}
 use Rattle.rt_text.specs.Removals.{is_covered, stamps_at, span_count}
 use Rattle.rt_text.specs.Spans.{is_among}
 use Rattle.rt_text.proofs.DistinctLaws.{distinct_at, stamps_few}

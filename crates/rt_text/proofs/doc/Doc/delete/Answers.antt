@@ -1,4 +1,4 @@
-use Rattle.std.proofs.Common.{◌≡◌, ◌<◌, ◌≤◌, ◌∙◌, ℕ, List, All, ap, arith, length, map, string_bytes, subst, sym, None}
+use Rattle.std.proofs.Common.{◌≡◌, ◌<◌, ◌≤◌, ◌∙◌, ℕ, List, All, ap, arith, length, map, string_bytes, subst, sym}
 use Rattle.std.specs.Prelude.{vec_len}
 use Rattle.std.proofs.lemmas.Bool.{eqb-true}
 use Rattle.std.proofs.lemmas.Result.{err_from_is_err_and, IfErr-weaker}
@@ -7,8 +7,7 @@ use Rattle.rt_stamps.specs.declared.limits.TheConstants.{GREATEST_COUNT}
 use Rattle.rt_store.specs.Cells.{text_of}
 use Rattle.rt_text.specs.declared.range.Range.{Range}
 use Rattle.rt_text.specs.Flat.{Flat}
-use Rattle.rt_text.specs.Removals.{is_covered, is_removed, gone_at, stamps_at, span_count}
-use Rattle.rt_text.specs.Spans.{gone_in_any}
+use Rattle.rt_text.specs.Removals.{is_covered, is_removed, stamps_at, span_count}
 use Rattle.rt_text.proofs.Deletions.{all_ok, taken, deleted_index, deleted_count, deleted_by, deleted_nothing}
 use Rattle.rt_text.proofs.doc.Doc.delete.Goals as goal
 

@@ -1,5 +1,4 @@
 use Rattle.std.proofs.Common.{◌≤◌, ◌+◌, ◌-◌, ◌^◌, ◌≡◌, ◌∙◌, arith, length, ap, subst, sym, ℕ}
-use Rattle.rt_marks.specs.Marks.{Mark}
 use Rattle.rt_store.specs.Cells.{text_of}
 use Rattle.rt_text.specs.Flat.{Flat, left_of, put_after}
 use Rattle.rt_text.specs.Known.{AreKnown, AreDistinct}

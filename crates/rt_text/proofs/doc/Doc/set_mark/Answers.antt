@@ -1,4 +1,4 @@
-use Rattle.std.proofs.Common.{◌≡◌, ap, length, subst, sym, ◌≤◌, arith}
+use Rattle.std.proofs.Common.{◌≡◌, ap, length, ◌≤◌, arith}
 use Rattle.rt_store.specs.Cells.{text_of}
 use Rattle.rt_text.specs.Flat.{Flat}
 use Rattle.rt_text.specs.Widgets.{AreSiteMarks}
