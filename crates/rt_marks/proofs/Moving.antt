@@ -1,5 +1,5 @@
 -- Marks after an edit of the text.
-use Rattle.std.proofs.Common.{◌≡◌, ℕ, zero, suc, ◌+◌, ◌-◌, ◌<◌, ◌≤◌, ◌==◌, ◌&&◌, ◌||◌, nat_lt, nat_le, List, [], ◌∷◌, ◌++◌, map, length, get_or, set, take, drop, append-nil, Vec, Global, true, false, refl, sym, ap, ◌∙◌, Bool, cond, subst, not, is_some, ◌⊎◌, inl, inr, Option, Some, None, option_map, arith}
+use Rattle.std.proofs.Common.{◌≡◌, ℕ, zero, suc, ◌+◌, ◌-◌, ◌<◌, ◌≤◌, ◌==◌, ◌&&◌, ◌||◌, nat_lt, List, [], ◌∷◌, ◌++◌, map, length, get_or, set, take, drop, append-nil, Vec, Global, true, false, refl, sym, ap, ◌∙◌, Bool, cond, subst, not, is_some, ◌⊎◌, inl, inr, Option, Some, None, option_map, arith}
 use Rattle.std.specs.Ordering.{nat_cmp, ordering_then, is_lt}
 use Rattle.std.specs.Option.{option_map_or}
 use Rattle.std.specs.declared.cmp.Ordering.{Ordering}
@@ -11,10 +11,10 @@ use Rattle.std.specs.Vec.{with_items}
 use Rattle.rt_marks.specs.declared.gravity.Gravity.{Gravity}
 use Rattle.rt_marks.specs.declared.gravity.Gravity.TheVariants.{Left, Right}
 use Rattle.rt_marks.specs.declared.mark.Mark.{Mark as KeptMark}
-use Rattle.rt_marks.specs.Marks.{Mark, Each, gravity_order, name_order, comes_before, AreInOrder, with_mark, in_order, is_named, named, is_right, is_moved_on, place_inserted, mark_inserted, marks_inserted, place_removed, mark_removed, marks_removed, HaveOwnNames, AreAscending, without, put_mark, gravity_or_right, marks_set, marks_with_gravity}
+use Rattle.rt_marks.specs.Marks.{Mark, Each, gravity_order, name_order, comes_before, AreInOrder, is_named, named, is_right, is_moved_on, place_inserted, mark_inserted, marks_inserted, place_removed, mark_removed, marks_removed, HaveOwnNames, without, put_mark, gravity_or_right, marks_set, marks_with_gravity}
 use Rattle.rt_marks.specs.Seen.{seen, seen_all, names_of}
-use Rattle.rt_marks.proofs.InOrder.{split, in_order_same, each_in_order, each_with, with_passing, with_here}
-use Rattle.rt_marks.proofs.Names.{clash, ordered_in_order, own_ascending, named_in_order}
+use Rattle.rt_marks.proofs.InOrder.{split, each_in_order, each_with}
+use Rattle.rt_marks.proofs.Names.{clash, named_in_order}
 
 -- which of two marks comes first is decided by their places, and at one place by the rest
 pub places_decide : (x y : ℕ) (o : Ordering) → is_lt (ordering_then (nat_cmp x y) o) ≡ true → (x < y) ⊎ ((x ≡ y) × (is_lt o ≡ true))
@@ -92,7 +92,7 @@ named_moved place q (m ∷ marks) =
     (λ t. ap (λ b. cond b (Some (moved place m)) (named q (map (moved place) marks))) t ∙ sym (ap (λ b. option_map (moved place) (cond b (Some m) (named q marks))) t))
     (λ f. ap (λ b. cond b (Some (moved place m)) (named q (map (moved place) marks))) f ∙ more ∙ sym (ap (λ b. option_map (moved place) (cond b (Some m) (named q marks))) f))
 
-own_moved : (place : Mark → ℕ) (marks : List Mark) → HaveOwnNames marks → HaveOwnNames (map (moved place) marks)
+pub own_moved : (place : Mark → ℕ) (marks : List Mark) → HaveOwnNames marks → HaveOwnNames (map (moved place) marks)
 own_moved place [] h = tt
 own_moved place (m ∷ marks) h = (named_moved place m.name marks ∙ ap (option_map (moved place)) h.0, own_moved place marks h.1)
 
@@ -110,7 +110,7 @@ at_most false x n = omega arith
 
 pub within_inserted : (place n size : ℕ) (marks : List Mark) → Each (λ m. m.place ≤ size) marks → Each (λ m. m.place ≤ size + n) (marks_inserted place n marks)
 within_inserted place n size [] h = tt
-within_inserted place n size (m ∷ marks) h = (omega (arith, at_most (is_moved_on place m) m.place n, h.0), within_inserted place n size marks h.1)
+within_inserted place n size (m ∷ marks) h = (omega (arith, at_most (is_moved_on place m.place m.gravity) m.place n, h.0), within_inserted place n size marks h.1)
 
 removed_at_most : (place n size p : ℕ) → place + n ≤ size → p ≤ size → place_removed place n p ≤ size - n
 removed_at_most place n size p h k = grind (arith, nat_tests)

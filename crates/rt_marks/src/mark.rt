@@ -2,11 +2,11 @@
 ghost use Rattle.std.specs.Prelude.{◌≡◌, ◌+◌, ◌≤◌, string_bytes};
 ghost use Rattle.rt_marks.specs.Marks.{comes_before, name_order, place_inserted, place_removed};
 
-use crate::Gravity;
+use crate::{Gravity, Spot, place};
 use std::cmp::Ordering;
 
-/// A mark. Its fields stand in the order that decides which of two marks comes first.
-#[derive(Debug, PartialEq, Eq, PartialOrd, Ord, Drop)]
+/// A mark.
+#[derive(Debug, Drop)]
 pub struct Mark {
     /// The characters before it.
     pub place: usize,
@@ -15,13 +15,17 @@ pub struct Mark {
 }
 
 impl Mark {
-    ghost use Rattle.rt_marks.specs.Seen.{seen};
+    ghost use Rattle.rt_marks.specs.Seen.{seen, spotted};
 
-    /// Whether it stands before another in the order of marks.
-    pub fn comes_before(&self, other: &Mark) -> bool
-        ensures { result ≡ comes_before (seen self.now) (seen other.now) }
+    /// What decides where it stands in the order of marks.
+    pub fn spot(&self) -> Spot<'_>
+        ensures { spotted result ≡ seen self.now }
     {
-        self < other
+        Spot {
+            place: self.place,
+            gravity: self.gravity,
+            name: self.name.as_str(),
+        }
     }
 
     /// Where it stands after `n` characters were inserted at a place.
@@ -29,33 +33,14 @@ impl Mark {
         requires { self.now.place + n ≤ usize.MAX }
         ensures { result ≡ place_inserted place n (seen self.now) }
     {
-        match self.gravity {
-            Gravity::Left => {
-                if place < self.place {
-                    self.place + n
-                } else {
-                    self.place
-                }
-            }
-            Gravity::Right => {
-                if place <= self.place {
-                    self.place + n
-                } else {
-                    self.place
-                }
-            }
-        }
+        place::place_inserted(place, n, self.place, self.gravity)
     }
 
     /// Where it stands after the `n` characters from a place on were removed.
     pub fn place_after_removal(&self, place: usize, n: usize) -> usize
         ensures { result ≡ place_removed place n self.now.place }
     {
-        if self.place <= place {
-            self.place
-        } else {
-            self.place - n.min(self.place - place)
-        }
+        place::place_removed(place, n, self.place)
     }
 
     /// How its name compares with another, by their bytes.
