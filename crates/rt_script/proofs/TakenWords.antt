@@ -117,7 +117,6 @@ site_used (v ∷ w ∷ vs) rows sound e =
 help_used : (values : List Text) (rows : List Row) → use_fault false help values rows ≡ [] → ⊥
 help_used values rows e = some_kind DisplayHelp [] (no_kinds (range_kinds 0 0 (length values)) (DisplayHelp ∷ []) e).1
 
-
 help_keeps : (P : List Row → Type 0) → Keeps P false help
 help_keeps P values rows sound e = absurd (help_used values rows e)
 
@@ -210,7 +209,7 @@ join_given : (words : List Text) → level_fault join [] nothing_held words fals
     → HasFile (codes "A") (rows_after join.rules [] words) × HasFile (codes "B") (rows_after join.rules [] words) × HasFile (codes "OUT") (rows_after join.rules [] words)
 join_given words e =
     let ended = level_sound AreFull join (λ p. found_all (Keeps AreFull false) p join.rules
-        (file_keeps 1 (codes "A"), (file_keeps 2 (codes "B"), (file_keeps 3 (codes "OUT"), (help_keeps AreFull, tt))))) words tt e in
+    (file_keeps 1 (codes "A"), (file_keeps 2 (codes "B"), (file_keeps 3 (codes "OUT"), (help_keeps AreFull, tt))))) words tt e in
     let rows = rows_after join.rules [] words in
     let full : AreFull rows = subst AreFull (sym (no_defaults join.rules (refl, (refl, (refl, (refl, tt)))) (settled join.rules (walk join.rules [] nothing_held words).held).rows)) ended.0 in
     let given = all_given (is_given (codes "A") rows) (is_given (codes "B") rows) (is_given (codes "OUT") rows) ended.1 in

@@ -70,8 +70,8 @@ of_neither fault = record { file = 0; fault = fault; offset = 0 }
 abbrev pub JoinsFiles : ReaderState → ReaderState → ReaderState → ReaderState → Result (Vec ℕ Global) JoinFault → Type 0
 JoinsFiles first read second then result = MatchResult result
     (λ bytes. (one : List Operation) × (other : List Operation) × (log : List Operation)
-        × FileGives first read (Ok one) × FileGives second then (Ok other) × (joined one other ≡ Ok log) × (bytes.items ≡ spelling (reverse log)))
+    × FileGives first read (Ok one) × FileGives second then (Ok other) × (joined one other ≡ Ok log) × (bytes.items ≡ spelling (reverse log)))
     (λ why. ((found : Fault × ℕ) × (why ≡ in_file 1 found) × FileGives first read (Err found) × (then ≡ second))
-        ⊎ (((one : List Operation) × (found : Fault × ℕ) × (why ≡ in_file 2 found) × FileGives first read (Ok one) × FileGives second then (Err found))
-        ⊎ (((one : List Operation) × (other : List Operation) × (fault : Fault) × (why ≡ of_neither fault) × FileGives first read (Ok one) × FileGives second then (Ok other) × (joined one other ≡ Err fault))
-        ⊎ (why ≡ of_neither NoMemory))))
+    ⊎ (((one : List Operation) × (found : Fault × ℕ) × (why ≡ in_file 2 found) × FileGives first read (Ok one) × FileGives second then (Err found))
+    ⊎ (((one : List Operation) × (other : List Operation) × (fault : Fault) × (why ≡ of_neither fault) × FileGives first read (Ok one) × FileGives second then (Ok other) × (joined one other ≡ Err fault))
+    ⊎ (why ≡ of_neither NoMemory))))

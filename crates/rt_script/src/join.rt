@@ -58,13 +58,13 @@ fn log_of(alloc: Global, ops: Vec<Op>, offsets: &[u64]) -> Result<OpLog, (Fault,
 fn log_in<R: Source>(alloc: Global, source: &mut R) -> Result<OpLog, (Fault, u64)>
     ensures { MatchResult result
         (λ log. FileGives
-            (record { calls = R.calls source.old; failures = R.failures source.old; left = R.remaining source.old })
-            (record { calls = R.calls source.new; failures = R.failures source.new; left = R.remaining source.new })
-            (Ok log.operations))
+        (record { calls = R.calls source.old; failures = R.failures source.old; left = R.remaining source.old })
+        (record { calls = R.calls source.new; failures = R.failures source.new; left = R.remaining source.new })
+        (Ok log.operations))
         (λ found. FileGives
-            (record { calls = R.calls source.old; failures = R.failures source.old; left = R.remaining source.old })
-            (record { calls = R.calls source.new; failures = R.failures source.new; left = R.remaining source.new })
-            (Err found) ⊎ (found.0 ≡ NoMemory)) }
+        (record { calls = R.calls source.old; failures = R.failures source.old; left = R.remaining source.old })
+        (record { calls = R.calls source.new; failures = R.failures source.new; left = R.remaining source.new })
+        (Err found) ⊎ (found.0 ≡ NoMemory)) }
 {
     let reading = match read_file(alloc, source) {
         Ok(reading) => reading,

@@ -6,6 +6,8 @@ pub mod command_line;
 pub mod commands;
 pub mod engine;
 pub mod join;
+#[cfg(test)]
+mod join_tests;
 pub mod laws;
 pub mod parse_line;
 pub mod reply;
