@@ -1,34 +1,117 @@
-// How the program ends after a run.
+// How the program ends.
 ghost use Rattle.std.specs.Prelude.{◌≡◌};
-ghost use Rattle.peertext.specs.Endings.{run_status};
+ghost use Rattle.peertext.specs.Endings.{status_of, has_offset, is_of_file, run_failure, join_failure, show_failure};
 
+use rt_script::JoinFault;
 use rt_stamps::Fault;
 use std::fmt;
 
-/// The status of a run: 0, or 1 where it ended with a fault.
-pub fn run_status(fault: Option<Fault>) -> u8
-    ensures { result ≡ run_status fault }
+/// Why the program failed, and the file that is at fault, if one is.
+#[derive(Clone, Copy)]
+pub struct Failure<'a> {
+    /// What is wrong.
+    pub fault: Fault,
+    /// The file's path, and where the record that is at fault begins in it, in bytes.
+    pub file: Option<(&'a str, u64)>,
+}
+
+/// The status of the program: 0, or 1 where it failed. A command line that asks for nothing has the
+/// status of its `LineFault`.
+pub fn status(failure: Option<Failure<'_>>) -> u8
+    ensures { result ≡ status_of failure.entry }
 {
-    match fault {
+    match failure {
         None => 0,
         Some(_) => 1,
     }
 }
 
-/// The line on standard error where a run ended with a fault, as `peertext: 41 WriteFault`.
-#[derive(Clone, Copy)]
-pub struct ErrorLine {
-    pub fault: Fault,
+/// Whether a fault is of the records of a file, so that it has an offset.
+pub fn has_offset(fault: Fault) -> bool
+    ensures { result ≡ has_offset fault }
+{
+    let number = fault.number();
+    30 <= number && number <= 37
 }
 
-impl fmt::Display for ErrorLine {
+/// How a run failed, by the fault with which it ended.
+pub fn run_failure<'a>(fault: Option<Fault>) -> Option<Failure<'a>>
+    ensures { result ≡ run_failure fault }
+{
+    match fault {
+        None => None,
+        Some(fault) => Some(Failure { fault, file: None }),
+    }
+}
+
+/// How the join of two files failed. Neither is named for a clash between them, nor for want of
+/// memory.
+pub fn join_failure<'a>(why: JoinFault, a: &'a str, b: &'a str) -> Failure<'a>
+    ensures { result ≡ join_failure why a.entry b.entry }
+{
+    let file = match why.file {
+        1 => Some((a, why.offset)),
+        2 => Some((b, why.offset)),
+        _ => None,
+    };
+    Failure {
+        fault: why.fault,
+        file,
+    }
+}
+
+/// Whether a fault of `show` is the file's own.
+fn is_of_file(fault: Fault) -> bool
+    ensures { result ≡ is_of_file fault }
+{
+    !matches!(fault, Fault::NoMemory | Fault::WriteFault)
+}
+
+/// How `show` ended, and whether all that it had told was written then.
+pub fn show_failure<'a>(
+    shown: Result<(), (Fault, u64)>,
+    is_written: bool,
+    path: &'a str,
+) -> Option<Failure<'a>>
+    ensures { result ≡ show_failure shown is_written path.entry }
+{
+    if !is_written {
+        return Some(Failure {
+            fault: Fault::WriteFault,
+            file: None,
+        });
+    }
+    match shown {
+        Ok(()) => None,
+        Err((fault, offset)) => Some(Failure {
+            fault,
+            file: if is_of_file(fault) {
+                Some((path, offset))
+            } else {
+                None
+            },
+        }),
+    }
+}
+
+/// The line on standard error where the program failed: `peertext: 41 WriteFault`, or
+/// `peertext: notes.ops: 33 BadRecord at 44` where a file is at fault.
+impl fmt::Display for Failure<'_> {
     ghost use Rattle.std.specs.Prelude.{Some};
     ghost use Rattle.peertext.specs.Endings.{error_line};
 
-    ghost output = { λ line. Some (error_line line.fault) };
+    ghost output = { λ failure. Some (error_line failure) };
 
     fn fmt<W: fmt::Write>(&self, f: &mut fmt::Formatter<W>) -> fmt::Result {
-        f.write_str("peertext: ")?;
-        f.write_str(self.fault.text())
+        match self.file {
+            None => write!(f, "peertext: {}", self.fault),
+            Some((path, offset)) => {
+                if has_offset(self.fault) {
+                    write!(f, "peertext: {path}: {} at {offset}", self.fault)
+                } else {
+                    write!(f, "peertext: {path}: {}", self.fault)
+                }
+            }
+        }
     }
 }

@@ -1,7 +1,8 @@
--- The command line of peertext, as clap reads it: `peertext run --site N`.
-use Rattle.std.specs.Prelude.{◌≡◌, ℕ, List, Bool, true, false, not, Option, Some, option_map, codes, [], if◌then◌else◌, ⊤}
+-- The command line of peertext, as clap reads it: `peertext run --site N`, `peertext join A B OUT` and `peertext show FILE`.
+use Rattle.std.specs.Prelude.{◌≡◌, ◌⊎◌, ℕ, List, Bool, true, false, not, Option, Some, option_map, codes, string_bytes, [], if◌then◌else◌, ⊤}
 use Rattle.std.specs.Str.Parse.{digits_value, without_leading_plus}
-use Rattle.clap.specs.Words.{App, IsAmong, Row, Rule, Text, app_of, fault_of, kind_of, new_app, new_rule, one_of, rule_of, subcommand_of, with_rule, with_subcommand}
+use Rattle.clap.specs.ValueTests.{is_unsigned_in}
+use Rattle.clap.specs.Words.{App, IsAmong, Row, Rule, Text, app_of, fault_of, first_of, kind_of, new_app, new_rule, one_of, rule_of, subcommand_of, with_rule, with_subcommand}
 use Rattle.clap.specs.declared.builder.Arg.{Arg}
 use Rattle.clap.specs.declared.builder.Command.{Command}
 use Rattle.clap.specs.declared.builder.Command.TheViews.{out-Command as fields_of}
@@ -11,7 +12,7 @@ use Rattle.clap.specs.declared.error.ErrorKind.{ErrorKind}
 use Rattle.clap.specs.declared.error.ErrorKind.TheVariants.{DisplayHelp, DisplayVersion, OutOfMemory}
 use Rattle.rt_stamps.specs.declared.limits.TheConstants.{GREATEST_SITE}
 use Rattle.rt_script.specs.declared.command_line.Line.{Line}
-use Rattle.rt_script.specs.declared.command_line.Line.TheVariants.{Run}
+use Rattle.rt_script.specs.declared.command_line.Line.TheVariants.{Run, Join, Show}
 use Rattle.rt_script.specs.declared.command_line.LineFault.{LineFault}
 use Rattle.rt_script.specs.declared.command_line.LineFault.TheVariants.{Usage, NoMemory}
 
@@ -40,17 +41,69 @@ program =
       };
     }
 
--- `peertext run --site N`
+-- a word without an option before it, which is required
+abbrev pub file_word : Text → Rule
+file_word name = record (new_rule name) {
+  value_names = 1;
+  required = true;
+}
+
+-- `join A B OUT`
+abbrev pub join_command : App
+join_command = with_rule (with_rule (with_rule (new_app (codes "join")) (file_word (codes "A"))) (file_word (codes "B"))) (file_word (codes "OUT"))
+
+-- `show FILE`
+abbrev pub show_command : App
+show_command = with_rule (new_app (codes "show")) (file_word (codes "FILE"))
+
+-- `peertext run --site N`, `peertext join A B OUT` and `peertext show FILE`
 abbrev pub peertext : App
-peertext = with_subcommand program run_command.top
+peertext = with_subcommand (with_subcommand (with_subcommand program run_command.top) join_command.top) show_command.top
 
 -- the number that `--site` was given
 abbrev pub site_given : List Row → Option ℕ
 site_given rows = option_map (λ text. digits_value 10 (without_leading_plus text)) (one_of (codes "site") rows)
 
--- A line says what the words do: the subcommand that they name, and its options.
+-- the name that was given for a file
+abbrev pub file_given : Text → List Row → Option Text
+file_given name rows = first_of name rows
+
+-- the subcommand of a line
+abbrev pub subcommand_name : Line → Text
+subcommand_name (Run site) = codes "run"
+subcommand_name (Join a b out) = codes "join"
+subcommand_name (Show file) = codes "show"
+
+-- a line has what the subcommand was given
+abbrev pub HasValues : List Row → Line → Type 0
+HasValues rows (Run site) = site_given rows ≡ Some site.number
+HasValues rows (Join a b out) = (file_given (codes "A") rows ≡ Some (string_bytes a)) × (file_given (codes "B") rows ≡ Some (string_bytes b)) × (file_given (codes "OUT") rows ≡ Some (string_bytes out))
+HasValues rows (Show file) = file_given (codes "FILE") rows ≡ Some (string_bytes file)
+
+-- A line says what a subcommand is, and what it was given.
+abbrev pub LineIn : Option (Text × List Row) → Line → Type 0
+LineIn found line = (rows : List Row) × (found ≡ Some (subcommand_name line, rows)) × HasValues rows line
+
+-- A line says what the words do: the subcommand that they name, and what they give it.
 abbrev pub LineOf : List Text → Line → Type 0
-LineOf words (Run site) = (rows : List Row) × (subcommand_of peertext words ≡ Some (codes "run", rows)) × (site_given rows ≡ Some site.number)
+LineOf words line = LineIn (subcommand_of peertext words) line
+
+-- What a subcommand is given where clap takes the words.
+
+-- a number of a site
+abbrev pub HasSite : List Row → Type 0
+HasSite rows = (text : Text) × (one_of (codes "site") rows ≡ Some text) × (is_unsigned_in 1 GREATEST_SITE text ≡ true)
+
+-- the name of a file
+abbrev pub HasFile : Text → List Row → Type 0
+HasFile name rows = (text : Text) × (file_given name rows ≡ Some text)
+
+-- one of the subcommands, with all that it wants
+abbrev pub IsWhole : Option (Text × List Row) → Type 0
+IsWhole found = (rows : List Row) × (
+    ((found ≡ Some (codes "run", rows)) × HasSite rows)
+    ⊎ (((found ≡ Some (codes "join", rows)) × HasFile (codes "A") rows × HasFile (codes "B") rows × HasFile (codes "OUT") rows)
+    ⊎ ((found ≡ Some (codes "show", rows)) × HasFile (codes "FILE") rows)))
 
 -- clap takes the words: no step of its reading fails
 abbrev pub Takes : List Text → Type 0

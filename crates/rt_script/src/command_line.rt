@@ -13,6 +13,10 @@ use std::fmt;
 pub enum Line {
     /// A run of a script by a site.
     Run { site: Site },
+    /// The join of the files A and B, to be written into OUT.
+    Join { a: String, b: String, out: String },
+    /// The lines of a file of operations.
+    Show { file: String },
 }
 
 /// Why a command line asks for nothing.

@@ -1,12 +1,13 @@
 // The command line, by clap.
-ghost use Rattle.std.specs.Prelude.{◌≡◌, ◌<◌, IfErr, IfOk, false, map};
-ghost use Rattle.clap.specs.Words.{app_of, rule_of, with_rule, with_subcommand};
+ghost use Rattle.std.specs.Prelude.{◌≡◌, ◌<◌, IfErr, IfOk, Some, codes, false, map, string_bytes};
+ghost use Rattle.clap.specs.Words.{app_of, found_of, new_app, rows_of, rule_of, subcommand_rows_of, with_rule, with_subcommand};
 ghost use Rattle.clap.specs.declared.builder.Command.TheViews.{out-Command as fields_of};
-ghost use Rattle.rt_script.specs.CommandLine.{IsCommand, IsOption, LineOf, Refuses, Takes, peertext, program, run_command, site_option};
+ghost use Rattle.rt_script.specs.CommandLine.{HasFile, HasSite, HasValues, IsCommand, IsOption, IsWhole, LineIn, LineOf, Refuses, Takes, file_given, file_word, join_command, peertext, program, run_command, show_command, site_given, site_option, subcommand_name};
+ghost use Rattle.rt_script.specs.declared.command_line.LineFault.TheVariants.{NoMemory};
 
 use crate::{Line, LineFault};
 use clap::builder::ValueParser;
-use clap::{Arg, Command};
+use clap::{Arg, ArgMatches, Command};
 use rt_stamps::Site;
 use rt_stamps::limits::GREATEST_SITE;
 use std::alloc::{AllocError, Global};
@@ -47,6 +48,42 @@ fn run_command<'a>(alloc: Global) -> Result<Command<'a>, AllocError>
     )
 }
 
+fn file_word<'a>(alloc: Global, name: &'a str, help: &'a str) -> Arg<'a>
+    ensures { IsOption (file_word name.now) result }
+{
+    Arg::new(alloc, name)
+        .value_name(name)
+        .required(true)
+        .help(help)
+}
+
+fn join_of_two<'a>(alloc: Global) -> Result<Command<'a>, AllocError>
+    ensures { IfOk result (IsCommand (with_rule (with_rule (new_app (codes "join")) (file_word (codes "A"))) (file_word (codes "B")))) }
+{
+    let first = file_word(alloc, "A", "A file of operations");
+    let second = file_word(alloc, "B", "Another file of operations");
+    let command = Command::new(alloc, "join").about("Joins two files of operations");
+    with_option(with_option(command, first)?, second)
+}
+
+fn join_command<'a>(alloc: Global) -> Result<Command<'a>, AllocError>
+    ensures { IfOk result (IsCommand join_command) }
+{
+    with_option(
+        join_of_two(alloc)?,
+        file_word(alloc, "OUT", "The file that gets the join"),
+    )
+}
+
+fn show_command<'a>(alloc: Global) -> Result<Command<'a>, AllocError>
+    ensures { IfOk result (IsCommand show_command) }
+{
+    with_option(
+        Command::new(alloc, "show").about("Shows the operations of a file, one a line"),
+        file_word(alloc, "FILE", "A file of operations"),
+    )
+}
+
 fn program<'a>(alloc: Global) -> Command<'a>
     ensures { IsCommand program result }
 {
@@ -57,10 +94,19 @@ fn program<'a>(alloc: Global) -> Command<'a>
         .disable_help_subcommand(true)
 }
 
+fn runs_and_joins<'a>(alloc: Global) -> Result<Command<'a>, AllocError>
+    ensures { IfOk result (IsCommand (with_subcommand (with_subcommand program run_command.top) join_command.top)) }
+{
+    with_command(
+        with_command(program(alloc), run_command(alloc)?)?,
+        join_command(alloc)?,
+    )
+}
+
 fn command<'a>(alloc: Global) -> Result<Command<'a>, AllocError>
     ensures { IfOk result (IsCommand peertext) }
 {
-    with_command(program(alloc), run_command(alloc)?)
+    with_command(runs_and_joins(alloc)?, show_command(alloc)?)
 }
 
 fn site_of(number: u16) -> Site
@@ -70,19 +116,65 @@ fn site_of(number: u16) -> Site
     Site::new(number).unwrap()
 }
 
+// The site that `run` was given.
+fn site_in(run: &ArgMatches<'_>) -> Site
+    requires { HasSite (rows_of (found_of run.now)) }
+    ensures { site_given (rows_of (found_of run.now)) ≡ Some result.number }
+{
+    site_of(run.get_one::<u16>("site").unwrap())
+}
+
+// A name of a file that a subcommand was given.
+fn file_in(alloc: Global, matches: &ArgMatches<'_>, name: &str) -> Result<String, LineFault>
+    requires { HasFile name.now (rows_of (found_of matches.now)) }
+    ensures file { IfOk result (λ file. file_given name.now (rows_of (found_of matches.now)) ≡ Some (string_bytes file)) }
+    ensures fault { IfErr result (λ fault. fault ≡ NoMemory) }
+{
+    let file = matches.get_str(name).unwrap();
+    Ok(String::from_str(alloc, file)?)
+}
+
+fn join_in(alloc: Global, join: &ArgMatches<'_>) -> Result<Line, LineFault>
+    requires a { HasFile (codes "A") (rows_of (found_of join.now)) }
+    requires b { HasFile (codes "B") (rows_of (found_of join.now)) }
+    requires out { HasFile (codes "OUT") (rows_of (found_of join.now)) }
+    ensures line { IfOk result (λ line. (subcommand_name line ≡ codes "join") × HasValues (rows_of (found_of join.now)) line) }
+    ensures fault { IfErr result (λ fault. fault ≡ NoMemory) }
+{
+    let a = file_in(alloc, join, "A")?;
+    let b = file_in(alloc, join, "B")?;
+    let out = file_in(alloc, join, "OUT")?;
+    Ok(Line::Join { a, b, out })
+}
+
+// The line of a subcommand that was given all that it wants.
+fn line_in(alloc: Global, matches: &ArgMatches<'_>) -> Result<Line, LineFault>
+    requires { IsWhole (subcommand_rows_of matches.now) }
+    ensures line { IfOk result (LineIn (subcommand_rows_of matches.now)) }
+    ensures fault { IfErr result (λ fault. fault ≡ NoMemory) }
+{
+    match matches.subcommand_matches("run") {
+        Some(run) => Ok(Line::Run { site: site_in(run) }),
+        None => match matches.subcommand_matches("join") {
+            Some(join) => join_in(alloc, join),
+            None => {
+                let show = matches.subcommand_matches("show").unwrap();
+                let file = file_in(alloc, show, "FILE")?;
+                Ok(Line::Show { file })
+            }
+        },
+    }
+}
+
 /// Reads a command line, whose first word is the program's name: `peertext run --site N`, for an N
-/// from 1 to `GREATEST_SITE`.
+/// from 1 to `GREATEST_SITE`, `peertext join A B OUT` or `peertext show FILE`.
 pub fn line(alloc: Global, words: &[&str]) -> Result<Line, LineFault>
     ensures line { IfOk result (LineOf (map (λ w. w.now) words.now)) }
     ensures takes { IfOk result (λ _. Takes (map (λ w. w.now) words.now)) }
     ensures refuses { IfErr result (Refuses (map (λ w. w.now) words.now)) }
 {
     let matches = command(alloc)?.try_get_matches_from(words)?;
-    let run = matches.subcommand_matches("run").unwrap();
-    let number = run.get_one::<u16>("site").unwrap();
-    Ok(Line::Run {
-        site: site_of(number),
-    })
+    line_in(alloc, &matches)
 }
 
 #[cfg(test)]
@@ -91,11 +183,13 @@ mod tests {
     use std::alloc::Global;
     use std::test::Fail;
 
-    // The site that a command line runs, or the status with which it is refused.
-    fn answer(alloc: Global, text: &str) -> Result<Result<u16, u8>, Fail> {
+    // What a command line asks for, or the status with which it is refused.
+    fn answer(alloc: Global, text: &str) -> Result<Result<String, u8>, Fail> {
         let words: Vec<&str> = text.split(' ').collect(alloc)?;
         Ok(match line(alloc, words.as_slice()) {
-            Ok(Line::Run { site }) => Ok(site.number()),
+            Ok(Line::Run { site }) => Ok(format!(in alloc; "run {}", site.number())?),
+            Ok(Line::Join { a, b, out }) => Ok(format!(in alloc; "join {a} {b} {out}")?),
+            Ok(Line::Show { file }) => Ok(format!(in alloc; "show {file}")?),
             Err(fault) => Err(fault.status()),
         })
     }
@@ -103,9 +197,19 @@ mod tests {
     #[test]
     fn reads_command_lines(rt: HostRuntime) -> Result<(), Fail> {
         let table = [
-            ("peertext run --site 7", Ok(7)),
-            ("peertext run --site 1", Ok(1)),
-            ("peertext run --site=65535", Ok(65535)),
+            ("peertext run --site 7", Ok("run 7")),
+            ("peertext run --site 1", Ok("run 1")),
+            ("peertext run --site=65535", Ok("run 65535")),
+            ("peertext join a b c", Ok("join a b c")),
+            ("peertext join -- -a b -c", Ok("join -a b -c")),
+            ("peertext join run join show", Ok("join run join show")),
+            ("peertext show show", Ok("show show")),
+            ("peertext join a b", Err(2)),
+            ("peertext join a b c d", Err(2)),
+            ("peertext join -a b c", Err(2)),
+            ("peertext show", Err(2)),
+            ("peertext show a b", Err(2)),
+            ("peertext show --site 7", Err(2)),
             ("peertext run --site 0", Err(2)),
             ("peertext run --site 65536", Err(2)),
             ("peertext run --site x", Err(2)),
@@ -120,10 +224,18 @@ mod tests {
             ("peertext", Err(2)),
             ("peertext --help", Err(0)),
             ("peertext run --help", Err(0)),
+            ("peertext join --help", Err(0)),
+            ("peertext show -h", Err(0)),
             ("peertext --version", Err(0)),
         ];
         for (text, wanted) in table {
-            assert!(rt; answer(rt.alloc(), text)? == wanted, "{text}");
+            let got = answer(rt.alloc(), text)?;
+            let same = match (&got, wanted) {
+                (Ok(got), Ok(wanted)) => got.as_str() == wanted,
+                (Err(got), Err(wanted)) => *got == wanted,
+                _ => false,
+            };
+            assert!(rt; same, "{text}");
         }
         Ok(())
     }

@@ -1,0 +1,77 @@
+-- What is made of files of operations: their lines, and the join of two.
+use Rattle.std.specs.Prelude.{◌≡◌, ◌≢◌, ◌⊎◌, ◌↔◌, ℕ, ◌+◌, List, ◌∷◌, ◌++◌, length, reverse, slice_index_or, Option, Some, None, Result, Ok, Err, MatchResult, Vec}
+use Rattle.std.specs.declared.alloc.Global.{Global}
+use Rattle.std.specs.Io.KnownBytes.{Appends}
+use Rattle.rt_stamps.specs.declared.fault.Fault.{Fault}
+use Rattle.rt_stamps.specs.declared.fault.Fault.TheVariants.{NoMemory, WriteFault}
+use Rattle.rt_stamps.specs.Written.{AppendsPart}
+use Rattle.rt_oplog.specs.File.{spelling}
+use Rattle.rt_oplog.specs.Intake.{ReaderState, ReadsFile}
+use Rattle.rt_oplog.specs.Logs.{Has, IsLog, pushed, joined}
+use Rattle.rt_oplog.specs.Operations.{Operation}
+use Rattle.rt_show.specs.Shown.{lines_of}
+use Rattle.rt_script.specs.declared.join.JoinFault.{JoinFault}
+use Rattle.rt_script.specs.Run.{Stream}
+
+-- a reading ended with no fault, or with this one at an offset
+abbrev pub ending_of : Option (Fault × ℕ) → Result (Unit {0}) (Fault × ℕ)
+ending_of None = Ok tt
+ending_of (Some fault) = Err fault
+
+-- The lines of the operations were written, and then the ending of their reading is told. Or a write failed, after a front
+-- of the lines.
+abbrev pub TellsLines : List Operation → Option (Fault × ℕ) → Stream → Stream → Result (Unit {0}) (Fault × ℕ) → Type 0
+TellsLines ops fault before after result =
+    (Appends before.bytes after.bytes (lines_of ops) × (after.failures ≡ before.failures) × (result ≡ ending_of fault))
+    ⊎ (AppendsPart before.bytes after.bytes (lines_of ops) × (after.failures ≡ before.failures + 1) × (result ≡ Err (WriteFault, 0)))
+
+-- The file was read to its end or its first fault, and the lines of its operations were told. Or they found no memory,
+-- and nothing was written.
+abbrev pub ShowsFile : ReaderState → ReaderState → Stream → Stream → Result (Unit {0}) (Fault × ℕ) → Type 0
+ShowsFile old new before after result =
+    ((ops : List Operation) × (offsets : List ℕ) × (fault : Option (Fault × ℕ)) × ReadsFile old new ops offsets fault × TellsLines ops fault before after result)
+    ⊎ ((result ≡ Err (NoMemory, 0)) × (new.failures ≡ old.failures) × (after ≡ before))
+
+-- The log of operations: the set that has just these, where that is a log.
+pub record IsLogOf (ops log : List Operation) : Type 0 where
+  pub is_log : IsLog log
+  pub members : (op : Operation) → Has log op ↔ Has ops op
+
+-- The first of a file's operations that is not sound, or clashes with one before it: those before it have a log, and that
+-- refuses it. The fault has the offset of its record.
+pub record IsRefused (ops : List Operation) (offsets : List ℕ) (found : Fault × ℕ) : Type 0 where
+  pub front : List Operation
+  pub op : Operation
+  pub more : List Operation
+  pub split : ops ≡ front ++ op ∷ more
+  pub log : List Operation
+  pub before : IsLogOf front log
+  pub refused : pushed op log ≡ Err found.0
+  pub offset : found.1 ≡ slice_index_or offsets (length front) 0
+
+-- What a file gives: the log of its operations, where its reading has no fault. Or its first fault: of the first operation
+-- that is refused, else that of the reading, which comes after all of them.
+abbrev pub FileGives : ReaderState → ReaderState → Result (List Operation) (Fault × ℕ) → Type 0
+FileGives old new result = (ops : List Operation) × (offsets : List ℕ) × (fault : Option (Fault × ℕ)) × ReadsFile old new ops offsets fault × MatchResult result
+    (λ log. (fault ≡ None) × IsLogOf ops log)
+    (λ found. IsRefused ops offsets found ⊎ ((fault ≡ Some found) × ((log : List Operation) × IsLogOf ops log)))
+
+-- a fault of the first or the second file
+abbrev pub in_file : ℕ → Fault × ℕ → JoinFault
+in_file file found = record { file = file; fault = found.0; offset = found.1 }
+
+-- a fault of neither file
+abbrev pub of_neither : Fault → JoinFault
+of_neither fault = record { file = 0; fault = fault; offset = 0 }
+
+-- Two files are joined: the bytes spell the join of their logs. Or the first file has a fault, and the second is not read;
+-- or the first has none, and the second has one; or neither has one, and their logs have no join. Memory may be wanting
+-- anywhere.
+abbrev pub JoinsFiles : ReaderState → ReaderState → ReaderState → ReaderState → Result (Vec ℕ Global) JoinFault → Type 0
+JoinsFiles first read second then result = MatchResult result
+    (λ bytes. (one : List Operation) × (other : List Operation) × (log : List Operation)
+    × FileGives first read (Ok one) × FileGives second then (Ok other) × (joined one other ≡ Ok log) × (bytes.items ≡ spelling (reverse log)))
+    (λ why. ((found : Fault × ℕ) × (why ≡ in_file 1 found) × FileGives first read (Err found) × (then ≡ second))
+    ⊎ (((one : List Operation) × (found : Fault × ℕ) × (why ≡ in_file 2 found) × FileGives first read (Ok one) × FileGives second then (Err found))
+    ⊎ (((one : List Operation) × (other : List Operation) × (fault : Fault) × (why ≡ of_neither fault) × FileGives first read (Ok one) × FileGives second then (Ok other) × (joined one other ≡ Err fault))
+    ⊎ (why ≡ of_neither NoMemory))))
