@@ -1,7 +1,6 @@
 pub mod BareWords
 pub mod Braces
 pub mod EndsLaws
-pub mod FileLogs
 pub mod Fronts
 pub mod LinesLaws
 pub mod Named

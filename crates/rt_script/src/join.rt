@@ -4,7 +4,8 @@ ghost use Rattle.rt_stamps.specs.declared.fault.Fault.TheVariants.{NoMemory};
 ghost use Rattle.rt_oplog.specs.File.{spelling};
 ghost use Rattle.rt_oplog.specs.Logs.{joined};
 ghost use Rattle.rt_oplog.specs.Operations.{Operation};
-ghost use Rattle.rt_script.specs.Files.{IsLogOf, IsRefused, FileGives, JoinsFiles, in_file, of_neither};
+ghost use Rattle.rt_oplog.specs.Outcomes.{IsLogOf};
+ghost use Rattle.rt_script.specs.Files.{IsRefused, FileGives, JoinsFiles, in_file, of_neither};
 
 use rt_oplog::{Op, OpLog, join, read_file, write_file};
 use rt_stamps::std_ends::{Count, Writer};
@@ -42,16 +43,10 @@ fn log_of(alloc: Global, ops: Vec<Op>, offsets: &[u64]) -> Result<OpLog, (Fault,
         (λ log. IsLogOf ops.items log.operations)
         (λ found. IsRefused ops.items offsets.now found ⊎ (found.0 ≡ NoMemory)) }
 {
-    let mut log = OpLog::new(alloc);
-    let mut place = 0;
-    for op in ops {
-        match log.push(op) {
-            Ok(()) => {}
-            Err(fault) => return Err((fault, offset_at(offsets, place))),
-        }
-        place += 1;
+    match OpLog::from_ops(alloc, ops) {
+        Ok(log) => Ok(log),
+        Err(refused) => Err((refused.fault, offset_at(offsets, refused.place))),
     }
-    Ok(log)
 }
 
 // The log of a file, or its first fault.
