@@ -1,6 +1,7 @@
 // The known ends of sites.
-ghost use Rattle.std.specs.Prelude.{◌≡◌, ℕ, ◌+◌, ◌-◌, ◌==◌, ◌<◌, ◌≤◌, max, length, vec_len, vec_capacity, if◌then◌else◌, IsOk, OnOk, OnErr};
-ghost use Rattle.rt_oplog.specs.Ends.{end_in, place_in};
+ghost use Rattle.std.specs.Prelude.{◌≡◌, ℕ, ◌+◌, ◌==◌, ◌<◌, ◌≤◌, true, max, length, vec_len, vec_capacity, if◌then◌else◌, IsOk, OnOk};
+ghost use Rattle.rt_oplog.specs.Ends.{end_in, are_rising, is_lower};
+ghost use Rattle.rt_oplog.specs.Kept.{leading};
 
 use std::alloc::{AllocError, Global};
 
@@ -11,23 +12,20 @@ pub(crate) struct SiteEnd {
     pub last: u64,
 }
 
-/// The known end of each site that has operations, in the order in which the sites came.
+/// The known end of each site that has operations, by rising site.
 #[derive(Drop)]
 pub(crate) struct Ends {
     pub ends: Vec<SiteEnd>,
+    ghost rising: { are_rising ends.items ≡ true },
 }
 
-/// Where a site stands, or how many there are.
+/// How many sites are lesser.
 fn place_of(ends: &[SiteEnd], site: u16) -> usize
-    ensures place { result ≡ place_in ends.now site }
+    requires { are_rising ends.now ≡ true }
+    ensures place { result ≡ leading (is_lower site) ends.now }
     ensures within { result ≤ length ends.now }
 {
-    for (i, end) in ends.iter().enumerate() {
-        if end.site == site {
-            return i;
-        }
-    }
-    ends.len()
+    ends.partition_point(|end| end.site < site)
 }
 
 impl Ends {
@@ -55,12 +53,12 @@ impl Ends {
     pub(crate) fn get(&self, site: u16) -> u64
         ensures { result ≡ end_in self.now.ends.items site }
     {
-        for end in &self.ends {
-            if end.site == site {
-                return end.last;
-            }
+        let place = place_of(&self.ends, site);
+        if place < self.ends.len() && self.ends[place].site == site {
+            self.ends[place].last
+        } else {
+            0
         }
-        0
     }
 
     /// A last count of a site. There is room for one more site.
@@ -71,14 +69,14 @@ impl Ends {
         ensures len { vec_len self.new.ends ≤ vec_len self.old.ends + 1 }
     {
         let place = place_of(&self.ends, site);
-        if place < self.ends.len() {
+        if place < self.ends.len() && self.ends[place].site == site {
             let known = self.ends[place].last;
             self.ends[place] = SiteEnd {
                 site,
                 last: last.max(known),
             };
         } else {
-            self.ends.push_reserved(SiteEnd { site, last });
+            let _added = self.ends.insert(place, SiteEnd { site, last });
         }
     }
 }

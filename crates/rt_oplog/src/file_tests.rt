@@ -1,7 +1,7 @@
 // Files of a few operations.
 ghost use Rattle.std.specs.Prelude.{◌≡◌, ◌<◌};
 
-use crate::{Edit, OpLog, Reading, read_file, write_file};
+use crate::{Edit, OpLog, Reading, join, read_file, write_file};
 use rt_stamps::std_ends::{Count, Reader, Writer};
 use rt_stamps::{Fault, ROOT, Span, Stamp};
 use std::alloc::Global;
@@ -221,6 +221,35 @@ fn files_are_written_back(rt: HostRuntime) -> Result<(), Fail> {
             assert_eq!(rt; written.as_slice(), bytes);
         }
     }
+    Ok(())
+}
+
+// What is written of the join of the logs of two files.
+fn joined_bytes(alloc: Global, one: &[u8], other: &[u8]) -> Result<Vec<u8>, Fault> {
+    let one = log_of(alloc, read_bytes(alloc, one)?)?;
+    let other = log_of(alloc, read_bytes(alloc, other)?)?;
+    let log = join(one, other)?;
+    let (written, _) = write_bytes(alloc, &log, None);
+    Ok(written)
+}
+
+#[test]
+fn files_are_joined(rt: HostRuntime) -> Result<(), Fail> {
+    let alloc = rt.alloc();
+    let mut both = Vec::from_slice(alloc, &INSERT_AB)?;
+    both.extend_from_slice(&INSERT_Y[8..])?;
+    let written = joined_bytes(alloc, &INSERT_AB, &INSERT_Y)?;
+    assert_eq!(rt; written.as_slice(), both.as_slice());
+    let written = joined_bytes(alloc, &INSERT_Y, &INSERT_AB)?;
+    assert_eq!(rt; written.as_slice(), both.as_slice());
+    let written = joined_bytes(alloc, &INSERT_AB, &INSERT_AB)?;
+    assert_eq!(rt; written.as_slice(), INSERT_AB.as_slice());
+    assert!(rt;
+        matches!(
+            joined_bytes(alloc, &INSERT_AB, &INSERT_B),
+            Err(Fault::Conflict)
+        )
+    );
     Ok(())
 }
 
@@ -449,12 +478,15 @@ fn single_changed_bytes(rt: HostRuntime) -> Result<(), Fail> {
                         };
                         assert_eq!(rt; offset, begins);
                     }
-                    None => {
-                        if let Ok(log) = log_of(alloc, reading) {
+                    None => match log_of(alloc, reading) {
+                        Ok(log) => {
                             let (written, _) = write_bytes(alloc, &log, None);
                             assert_eq!(rt; written.as_slice(), changed.as_slice());
                         }
-                    }
+                        Err(fault) => {
+                            assert!(rt; matches!(fault, Fault::BadStamp | Fault::Conflict));
+                        }
+                    },
                 }
             }
         }

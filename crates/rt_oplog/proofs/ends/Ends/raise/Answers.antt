@@ -1,21 +1,69 @@
-use Rattle.std.proofs.Common.{◌≡◌, ◌<◌, length, arith, ap, ◌∙◌, get_or}
-use Rattle.rt_oplog.specs.Ends.{end_in, place_in}
-use Rattle.rt_oplog.proofs.Known.{end_at, raise_set, raise_push}
+use Rattle.std.proofs.Common.{◌≡◌, ◌<◌, ◌∙◌, ap, sym, length, get_or, arith}
+use Rattle.std.proofs.lemmas.Bool.Decides.{nat_tests}
+use Rattle.std.proofs.lemmas.List.{get_or_read}
+use Rattle.std.specs.List.{insert}
+use Rattle.rt_oplog.specs.Ends.{end_in, are_rising, is_lower}
+use Rattle.rt_oplog.specs.Kept.{leading}
+use Rattle.rt_oplog.proofs.Known.{no_end, IsMissing, end_at, raise_set, raise_insert, rising_set, rising_insert}
 use Rattle.rt_oplog.proofs.ends.Ends.raise.Goals as goal
+use Rattle.rt_oplog.proofs.ends.Ends.raise.Goals.{else-place-len-via-then-place-len+else-index-site, else-place-len-via-else-place-len}
 
-pub returns-then-place-len-clause-ends : goal.returns-then-place-len-clause-ends
-returns-then-place-len-clause-ends c =
+pub invariant_of-self : goal.invariant_of-self
+invariant_of-self c =
     let ends = c.args.self.now.ends.items in
-    let at : c.place_of-place.result ≡ place_in ends c.args.site = cc in
-    let h : place_in ends c.args.site < length ends = omega (arith, c.args.self.now.ends.ok.0) in
-    let stood : c.index.result.now ≡ get_or ends (place_in ends c.args.site) c.index.result.now = cc in
-    let known : c.index.result.now.last ≡ end_in ends c.args.site = ap (λ e. e.last) stood ∙ end_at ends c.args.site c.index.result.now h in
-    λ s. rw (at, c.max.ensures) (raise_set ends c.args.site c.args.last c.index.result.now.last s h known)
+    let site = c.args.site in
+    let at : c.place_of-place.result ≡ leading (is_lower site) ends = rw c.deref.ensures.value at c.place_of-place.ensures.place in
+    let within : c.place_of-place.result < length ends = omega (arith, c.if-place-len.true, c.len.ensures, c.args.self.now.ends.ok.0) in
+    let here : leading (is_lower site) ends < length ends = omega (arith, at, within) in
+    let stood = get_or_read ends c.place_of-place.result c.index.result.now within c.index.ensures no_end in
+    let read = get_or_read ends c.place_of-place.result c.index-then-index-site.result.now within c.index-then-index-site.ensures no_end in
+    let own : c.index.result.now.site ≡ site = grind (arith, nat_tests, c.if-index-site.true) in
+    let there : (get_or ends (leading (is_lower site) ends) no_end).site ≡ site = ap (λ i. (get_or ends i no_end).site) (sym at) ∙ ap (λ e. e.site) (sym stood) ∙ own in
+    let known : c.index-then-index-site.result.now.last ≡ end_in ends site = ap (λ e. e.last) read ∙ ap (λ i. (get_or ends i no_end).last) at ∙ end_at ends site no_end here there in
+    record { rising = rising_set ends c.place_of-place.result (record { site = site; last = c.max.result }) no_end (ap (λ i. (get_or ends i no_end).site) at ∙ there) within ∙ c.args.self.now.rising }
+
+pub invariant_of-self-else-place-len : goal.invariant_of-self-else-place-len
+invariant_of-self-else-place-len c =
+    let ends = c.args.self.now.ends.items in
+    let site = c.args.site in
+    let at : c.place_of-place.result ≡ leading (is_lower site) ends = rw c.deref.ensures.value at c.place_of-place.ensures.place in
+    let missing : IsMissing ends site = λ l g. elim c.else-place-len.branch [
+      | else-place-len-via-then-place-len+else-index-site w ↦ (let within : c.place_of-place.result < length ends = omega (arith, at, l) in
+          let stood = get_or_read ends c.place_of-place.result w.index.result.now within w.index.ensures no_end in
+          let same : w.index.result.now.site ≡ site = ap (λ e. e.site) stood ∙ ap (λ i. (get_or ends i no_end).site) at ∙ g in
+          absurd (omega (arith, same, w.if-index-site.false)))
+      | else-place-len-via-else-place-len w ↦ absurd (omega (arith, at, l, w.if-place-len.false, c.len.ensures, c.args.self.now.ends.ok.0))
+    ] in
+    let items = rw (c.insert-added.ensures.succeeds c.requires) at c.insert-added.ensures.items in
+    let put : c.insert-added.new.self.items ≡ insert ends (leading (is_lower site) ends) (record { site = site; last = c.args.last }) = cc (items, at) in
+    record { rising = ap are_rising put ∙ rising_insert ends (record { site = site; last = c.args.last }) c.args.self.now.rising missing }
+
+pub returns-then-index-site-clause-ends : goal.returns-then-index-site-clause-ends
+returns-then-index-site-clause-ends c =
+    let ends = c.args.self.now.ends.items in
+    let site = c.args.site in
+    let at : c.place_of-place.result ≡ leading (is_lower site) ends = rw c.deref.ensures.value at c.place_of-place.ensures.place in
+    let within : c.place_of-place.result < length ends = omega (arith, c.if-place-len.true, c.len.ensures, c.args.self.now.ends.ok.0) in
+    let here : leading (is_lower site) ends < length ends = omega (arith, at, within) in
+    let stood = get_or_read ends c.place_of-place.result c.index.result.now within c.index.ensures no_end in
+    let read = get_or_read ends c.place_of-place.result c.index-then-index-site.result.now within c.index-then-index-site.ensures no_end in
+    let own : c.index.result.now.site ≡ site = grind (arith, nat_tests, c.if-index-site.true) in
+    let there : (get_or ends (leading (is_lower site) ends) no_end).site ≡ site = ap (λ i. (get_or ends i no_end).site) (sym at) ∙ ap (λ e. e.site) (sym stood) ∙ own in
+    let known : c.index-then-index-site.result.now.last ≡ end_in ends site = ap (λ e. e.last) read ∙ ap (λ i. (get_or ends i no_end).last) at ∙ end_at ends site no_end here there in
+    λ s. rw (at, c.max.ensures) (raise_set ends site c.args.last c.index-then-index-site.result.now.last s no_end here there known)
 
 pub returns-else-place-len-clause-ends : goal.returns-else-place-len-clause-ends
 returns-else-place-len-clause-ends c =
     let ends = c.args.self.now.ends.items in
-    let at : c.place_of-place.result ≡ place_in ends c.args.site = cc in
-    let within = c.place_of-place.ensures.within in
-    let h : length ends ≡ place_in ends c.args.site = omega (arith, c.args.self.now.ends.ok.0, c.deref.ensures.len, within) in
-    λ s. rw c.push_reserved.ensures.items (raise_push ends c.args.site c.args.last s h)
+    let site = c.args.site in
+    let at : c.place_of-place.result ≡ leading (is_lower site) ends = rw c.deref.ensures.value at c.place_of-place.ensures.place in
+    let missing : IsMissing ends site = λ l g. elim c.else-place-len.branch [
+      | else-place-len-via-then-place-len+else-index-site w ↦ (let within : c.place_of-place.result < length ends = omega (arith, at, l) in
+          let stood = get_or_read ends c.place_of-place.result w.index.result.now within w.index.ensures no_end in
+          let same : w.index.result.now.site ≡ site = ap (λ e. e.site) stood ∙ ap (λ i. (get_or ends i no_end).site) at ∙ g in
+          absurd (omega (arith, same, w.if-index-site.false)))
+      | else-place-len-via-else-place-len w ↦ absurd (omega (arith, at, l, w.if-place-len.false, c.len.ensures, c.args.self.now.ends.ok.0))
+    ] in
+    let items = rw (c.insert-added.ensures.succeeds c.requires) at c.insert-added.ensures.items in
+    let put : c.insert-added.new.self.items ≡ insert ends (leading (is_lower site) ends) (record { site = site; last = c.args.last }) = cc (items, at) in
+    λ s. rw put (raise_insert ends site c.args.last s c.args.self.now.rising missing)
