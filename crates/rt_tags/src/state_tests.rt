@@ -45,6 +45,33 @@ impl Typing {
         self.before = self.after;
     }
 
+    // Writes another tag on the last character, and answers its state.
+    fn write_more(&mut self, name: &str, on: bool) -> Result<StateId, Fault> {
+        self.go_on();
+        self.tag = self.table.number(name)?;
+        let _ = self.write(ROOT.count, ROOT.site, on)?;
+        Ok(self.after)
+    }
+
+    fn start_over(&mut self) {
+        self.table.order();
+        self.after = StateId::EMPTY;
+    }
+
+    // Whether the tags of the last character have these names.
+    fn lists(&self, names: &[&str]) -> bool {
+        let tags = self.table.on(self.after);
+        if tags.len() != names.len() {
+            return false;
+        }
+        for i in 0..names.len() {
+            if self.table.name(tags[i]) != names[i] {
+                return false;
+            }
+        }
+        true
+    }
+
     fn has(&self) -> bool {
         self.table.has(self.after, self.tag)
     }
@@ -113,20 +140,20 @@ fn numbers(rt: HostRuntime) -> Result<(), Fail> {
     Ok(())
 }
 
-// The tags that are on come by the bytes of their names.
+// The tags that are on come by the bytes of their names, and whichever was written first, the state
+// is the same.
 #[test]
 fn by_name(rt: HostRuntime) -> Result<(), Fail> {
-    let mut table = StateTable::new(rt.alloc())?;
-    let b = table.number("b")?;
-    let c = table.number("c")?;
-    let a = table.number("a")?;
-    let first = table.with(StateId::EMPTY, b, ROOT, true)?;
-    let second = table.with(first, c, ROOT, false)?;
-    let third = table.with(second, a, ROOT, true)?;
-    assert_eq!(rt; table.on(third), [a, b].as_slice());
-    assert!(rt; !table.has(third, c));
-    let other = table.with(StateId::EMPTY, a, ROOT, true)?;
-    let other = table.with(other, b, ROOT, true)?;
-    assert_eq!(rt; table.with(other, c, ROOT, false)?, third);
+    let mut typing = Typing::new(rt.alloc(), "b")?;
+    let _ = typing.write_more("b", true)?;
+    let _ = typing.write_more("c", false)?;
+    let first = typing.write_more("a", true)?;
+    assert!(rt; typing.lists(&["a", "b"]));
+    typing.start_over();
+    let _ = typing.write_more("a", true)?;
+    let _ = typing.write_more("b", true)?;
+    assert_ne!(rt; first, typing.after);
+    let second = typing.write_more("c", false)?;
+    assert_eq!(rt; first, second);
     Ok(())
 }

@@ -150,7 +150,7 @@ fn state_of(states: &IndexSet<State>, id: StateId) -> &State
 
 // Keeps a state, if the same one isn't kept, and answers its place.
 fn intern(states: &mut IndexSet<State>, state: State) -> Result<usize, Fault>
-    ensures kept { IfOk result (λ place. (names : List (List ℕ)) → AreKept names states.old.keys → IsKept names state → AreKept names states.new.keys) }
+    ensures kept { OnOk result ((names : List (List ℕ)) → AreKept names states.old.keys → IsKept names state → AreKept names states.new.keys) }
     ensures interned { IfOk result (λ place. (names : List (List ℕ)) → AreKept names states.old.keys → IsKept names state → Interns (state_seen names state) (states_seen names states.old.keys) place (states_seen names states.new.keys)) }
     ensures err { OnErr result (states.new.keys ≡ states.old.keys) }
     ensures fault { IfErr result (λ fault. fault ≡ Fault.NoMemory) }
@@ -328,12 +328,13 @@ impl StateTable {
     }
 
     /// Each name has one number and each state one id; a state has one write of each tag, by the bytes of
-    /// the tags' names; and `StateId::EMPTY` is the state without writes.
+    /// the tags' names; and `StateId::EMPTY`, whose place is 0, is the state without writes.
     pub fn order(&self)
         ensures numbers { (a b : ℕ) → IsTag self.now a → IsTag self.now b → name_at self.now a ≡ name_at self.now b → a ≡ b }
         ensures ids { (a b : ℕ) → IsState self.now a → IsState self.now b → state_at self.now a ≡ state_at self.now b → a ≡ b }
         ensures by_name { (state : ℕ) → IsState self.now state → IsByName (state_at self.now state) }
-        ensures empty { slice_get self.now.states 0 ≡ Some [] }
+        ensures given { IsState self.now 0 }
+        ensures empty { state_at self.now 0 ≡ [] }
     {
         let _ = &self.states;
     }

@@ -1,4 +1,5 @@
-use Rattle.std.proofs.Common.{◌≡◌, ℕ, subst}
+use Rattle.std.proofs.Common.{◌≡◌, [], ℕ, subst}
+use Rattle.std.proofs.lemmas.Option.{get_or_from_slice_get, slice_get_within}
 use Rattle.rt_tags.specs.Kept.{states_seen}
 use Rattle.rt_tags.specs.Seen.{names_of}
 use Rattle.rt_tags.specs.States.{TagStates, IsByName, IsState, IsTag, name_at, state_at}
@@ -20,3 +21,13 @@ pub returns-clause-by_name : goal.returns-clause-by_name
 returns-clause-by_name c =
     subst (λ (t : TagStates). (state : ℕ) → IsState t state → IsByName (state_at t state)) c.self.view_is
     (λ state h. by_name_at (names_of c.self.inside.names) c.self.inside.states.keys state c.self.invariant.kept.each)
+
+pub returns-clause-given : goal.returns-clause-given
+returns-clause-given c =
+    subst (λ (t : TagStates). IsState t 0) c.self.view_is
+    (slice_get_within (states_seen (names_of c.self.inside.names) c.self.inside.states.keys) 0 [] c.self.invariant.empty)
+
+pub returns-clause-empty : goal.returns-clause-empty
+returns-clause-empty c =
+    subst (λ (t : TagStates). state_at t 0 ≡ []) c.self.view_is
+    (get_or_from_slice_get (states_seen (names_of c.self.inside.names) c.self.inside.states.keys) 0 [] [] c.self.invariant.empty)
