@@ -8,6 +8,7 @@ The last line is 'N passed, M failed'.
 import os
 import random
 import resource
+import signal
 import subprocess
 import sys
 import tempfile
@@ -177,9 +178,8 @@ def joins():
     names = sorted(os.listdir("."))
     for a, b, want in [
         ("none", "none", HEAD), ("ab", "none", FILES["ab"]), ("ab", "ab", FILES["ab"]), ("ab", "deleted", FILES["deleted"]),
-        ("ab", "y", HEAD + AB + Y), ("y", "ab", HEAD + AB + Y), ("tagged", "y", HEAD + AB + Y + TAG_A), ("final", "final", FILES["final"]),
+        ("ab", "y", HEAD + AB + Y), ("y", "ab", HEAD + AB + Y), ("tagged", "y", HEAD + AB + TAG_A + Y), ("final", "final", FILES["final"]),
     ]:
-        want = HEAD + AB + TAG_A + Y if (a, b) == ("tagged", "y") else want
         for old in (None, OLD):
             if old is not None:
                 with open("out", "wb") as file:
@@ -220,10 +220,11 @@ def outs_that_fail():
     with open("out", "wb") as file:
         file.write(OLD)
     # a disk with no room: no file may grow past 60 bytes
-    small = lambda: resource.setrlimit(resource.RLIMIT_FSIZE, (60, 60))
-    import signal
-    ignore = lambda: (signal.signal(signal.SIGXFSZ, signal.SIG_IGN), small())
-    check("join into a full disk", (called("join", "ab", "y", "out", preexec_fn=ignore), contents("out")), ((b"", b"peertext: out: 41 WriteFault\n", 1), OLD))
+    def small():
+        signal.signal(signal.SIGXFSZ, signal.SIG_IGN)
+        resource.setrlimit(resource.RLIMIT_FSIZE, (60, 60))
+
+    check("join into a full disk", (called("join", "ab", "y", "out", preexec_fn=small), contents("out")), ((b"", b"peertext: out: 41 WriteFault\n", 1), OLD))
     os.remove("out")
     check("files after a full disk", sorted(os.listdir(".")), names)
     check("join into a device", called("join", "ab", "y", "/dev/full"), (b"", b"peertext: /dev/full: 41 WriteFault\n", 1))
@@ -246,27 +247,61 @@ def shows():
         check(f"show {name} on a full disk", (done.stderr, done.returncode), (b"peertext: 41 WriteFault\n", 1))
 
 
-def large_files():
-    """A file one byte past its bound of 2^30 bytes, most of it a hole, and one of many operations."""
+def many_operations():
     many = HEAD + b"".join(insert(2 * i + 1, 1, 2 * i, (2 * i, 1) if i else (0, 0), b"xy") for i in range(20000))
     with open("many", "wb") as file:
         file.write(many)
-    check("join of many", (called("join", "many", "y", "out"), len(contents("out") or b"")), ((b"", b"peertext: 35 Conflict\n", 1), 0) if False else ((b"", b"", 0), len(many) + len(Y)))
+    # the stamp of Y is (3, 2): it stands behind the second record
+    check("join of many", (called("join", "many", "y", "out"), contents("out")), ((b"", b"", 0), many[:80] + Y + many[80:]))
     out, err, status = called("show", "many")
     check("show of many", (out.count(b"\n"), out[:41], err, status), (20000, b"insert 1.1 prev 0 after 0.0 text xy tags\n", b"", 0))
 
 
 def files():
-    for test in (joins, outs_that_fail, shows, large_files):
+    for test in (joins, outs_that_fail, shows, many_operations, failing_allocations_of_files):
         with_files(test)
+
+
+def failing_library(folder):
+    """The library by which the allocation of a number fails, where there is a C compiler."""
+    shim = os.path.join(folder, "fail_alloc.so")
+    made = subprocess.run(["cc", "-shared", "-fPIC", "-o", shim, os.path.join(ROOT, "tests", "fail_alloc.c"), "-ldl"], capture_output=True)
+    return None if made.returncode else shim
+
+
+def without_an_allocation(shim, number, *words):
+    done = subprocess.run([BUILT, *words], stdin=subprocess.DEVNULL, capture_output=True, timeout=120, env={**os.environ, "LD_PRELOAD": shim, "FAIL_ALLOC": str(number)})
+    return done.stdout, done.stderr, done.returncode
+
+
+def failing_allocations_of_files():
+    """Each allocation fails in turn: a join is written whole, or OUT stays as it was; lines are shown, or none or a front of them."""
+    shim = failing_library(".")
+    if shim is None:
+        return
+    want = AB_LINE + b"delete 3.1 prev 2 spans 1:2-2\n"
+    refused = 0
+    for number in range(1, 300):
+        with open("out", "wb") as file:
+            file.write(OLD)
+        out, err, status = without_an_allocation(shim, number, "join", "deleted", "y", "out")
+        whole = (status, contents("out")) == (0, HEAD + AB + TAKE_B + Y)
+        none = (status, contents("out")) == (1, OLD) and err == b"peertext: 1 NoMemory\n"
+        check(f"join without allocation {number}: {status} {err}", out == b"" and (whole or none or status == 2), True)
+        refused += none
+        out, err, status = without_an_allocation(shim, number, "show", "deleted")
+        none = (status, err) == (1, b"peertext: 1 NoMemory\n")
+        check(f"show without allocation {number}: {status} {err}", (status, out) == (0, want) or (none and want.startswith(out)) or status == 2, True)
+        refused += none
+    check("some allocations were refused", refused > 10, True)
+    check("the last of them is behind us", status, 0)
 
 
 def failing_allocations():
     """Each allocation fails in turn: a line is answered as the text then is, or `1 NoMemory` and the text is as it was."""
     with tempfile.TemporaryDirectory() as folder:
-        shim = os.path.join(folder, "fail_alloc.so")
-        made = subprocess.run(["cc", "-shared", "-fPIC", "-o", shim, os.path.join(ROOT, "tests", "fail_alloc.c"), "-ldl"], capture_output=True)
-        if made.returncode:
+        shim = failing_library(folder)
+        if shim is None:
             print("no C compiler: the failing allocations were not tried")
             return
         asks = [
