@@ -1,11 +1,14 @@
 #!/usr/bin/env python3
-"""Drives the built program through pipes: whole scripts, long lines, hostile bytes, a program that asks and waits, statuses.
+"""Drives the built program: whole scripts, long lines, hostile bytes, a program that asks and waits, statuses, and files
+of operations that are joined and shown.
 
 Usage: tests/drive.py [PROGRAM]; without a program it takes ./peertext, which builds it where it is missing.
 The last line is 'N passed, M failed'.
 """
 import os
 import random
+import resource
+import signal
 import subprocess
 import sys
 import tempfile
@@ -89,10 +92,10 @@ def asks_and_waits():
 
 def statuses():
     for words in [(), ("frob",), ("run",), ("run", "--site"), ("run", "--site", "0"), ("run", "--site", "65536"), ("run", "--site", "x"),
-                  ("run", "--site", "1", "--site", "2"), ("run", "--site", "1", "more"), ("run", "--site", "1", "--frob")]:
+                  ("run", "--site", "1", "--site", "2"), ("run", "--site", "1", "more"), ("run", "--site", "1", "--frob"), ("join",), ("join", "a", "b"), ("join", "a", "b", "c", "d"), ("show",), ("show", "a", "b"), ("show", "--frob")]:
         done = subprocess.run([PROGRAM, *words], input=b"", capture_output=True, timeout=120)
         check(f"{words}", (done.stdout, bool(done.stderr), done.returncode), (b"", True, 2))
-    for words in [("--help",), ("--version",), ("run", "--help")]:
+    for words in [("--help",), ("--version",), ("run", "--help"), ("join", "--help"), ("show", "--help")]:
         done = subprocess.run([PROGRAM, *words], input=b"", capture_output=True, timeout=120)
         check(f"{words}", (bool(done.stdout), done.stderr, done.returncode), (True, b"", 0))
     with open("/dev/full", "wb") as full:
@@ -103,12 +106,202 @@ def statuses():
     check("a reader that fails", (done.stdout, done.stderr, done.returncode), (b"", b"peertext: 40 ReadFault\n", 1))
 
 
+def record(content):
+    return len(content).to_bytes(4, "big") + content
+
+
+def operation(kind, count, site, prev, body):
+    return record(bytes([kind]) + count.to_bytes(8, "big") + site.to_bytes(2, "big") + prev.to_bytes(8, "big") + body)
+
+
+def insert(count, site, prev, after, text):
+    return operation(1, count, site, prev, after[0].to_bytes(8, "big") + after[1].to_bytes(2, "big") + b"\0" + text)
+
+
+def spans(*parts):
+    return len(parts).to_bytes(4, "big") + b"".join(site.to_bytes(2, "big") + first.to_bytes(8, "big") + last.to_bytes(8, "big") for site, first, last in parts)
+
+
+HEAD = b"RGATEXT1"
+AB = insert(1, 1, 0, (0, 0), b"ab")
+TAKE_B = operation(2, 3, 1, 2, spans((1, 2, 2)))
+TAG_A = operation(3, 3, 1, 2, b"\1\1t" + spans((1, 1, 1)))
+Y = insert(3, 2, 0, (1, 1), b"Y")
+FILES = {
+    "none": HEAD,
+    "ab": HEAD + AB,
+    "deleted": HEAD + AB + TAKE_B,
+    "tagged": HEAD + AB + TAG_A,
+    "y": HEAD + Y,
+    "b": HEAD + insert(1, 1, 0, (0, 0), b"b"),
+    "unsound": HEAD + insert(1, 1, 0, (1, 1), b"a"),
+    "clash": HEAD + AB + operation(2, 3, 1, 1, spans((1, 2, 2))),
+    "final": HEAD + operation(2, 1, 1, 0, spans((0, 1, 1))),
+    "cut": (HEAD + AB + TAKE_B)[:80],
+    "short": HEAD + b"\0\0\0\x12",
+    "empty": b"",
+    "version": b"RGATEXT9",
+    "magic": b"XGATEXT1",
+}
+AB_LINE = b"insert 1.1 prev 0 after 0.0 text ab tags\n"
+OLD = b"what was there\n"
+
+
+def with_files(test):
+    with tempfile.TemporaryDirectory() as folder:
+        for name, data in FILES.items():
+            with open(os.path.join(folder, name), "wb") as file:
+                file.write(data)
+        os.mkdir(os.path.join(folder, "folder"))
+        here = os.getcwd()
+        os.chdir(folder)
+        try:
+            test()
+        finally:
+            os.chdir(here)
+
+
+def called(*words, **how):
+    done = subprocess.run([PROGRAM, *words], stdin=subprocess.DEVNULL, capture_output=True, timeout=120, **how)
+    return done.stdout, done.stderr, done.returncode
+
+
+def contents(name):
+    try:
+        with open(name, "rb") as file:
+            return file.read()
+    except FileNotFoundError:
+        return None
+
+
+def joins():
+    names = sorted(os.listdir("."))
+    for a, b, want in [
+        ("none", "none", HEAD), ("ab", "none", FILES["ab"]), ("ab", "ab", FILES["ab"]), ("ab", "deleted", FILES["deleted"]),
+        ("ab", "y", HEAD + AB + Y), ("y", "ab", HEAD + AB + Y), ("tagged", "y", HEAD + AB + TAG_A + Y), ("final", "final", FILES["final"]),
+    ]:
+        for old in (None, OLD):
+            if old is not None:
+                with open("out", "wb") as file:
+                    file.write(old)
+            check(f"join {a} {b}", (called("join", a, b, "out"), contents("out")), ((b"", b"", 0), want))
+            os.remove("out")
+            check(f"files after join {a} {b}", sorted(os.listdir(".")), names)
+    # the same file as A, B and OUT
+    with open("same", "wb") as file:
+        file.write(FILES["ab"])
+    check("join of a file with another into itself", (called("join", "same", "y", "same"), contents("same")), ((b"", b"", 0), HEAD + AB + Y))
+    os.remove("same")
+    for a, b, line in [
+        ("b", "ab", b"35 Conflict"), ("deleted", "tagged", b"35 Conflict"),
+        ("clash", "ab", b"clash: 35 Conflict at 44"), ("ab", "clash", b"clash: 35 Conflict at 44"),
+        ("unsound", "ab", b"unsound: 34 BadStamp at 8"), ("ab", "unsound", b"unsound: 34 BadStamp at 8"),
+        ("cut", "ab", b"cut: 32 Truncated at 44"), ("ab", "cut", b"cut: 32 Truncated at 44"), ("short", "ab", b"short: 33 BadRecord at 8"),
+        ("empty", "ab", b"empty: 32 Truncated at 0"), ("version", "ab", b"version: 31 BadVersion at 0"), ("magic", "ab", b"magic: 30 BadMagic at 0"),
+        ("missing", "ab", b"missing: 40 ReadFault"), ("ab", "missing", b"missing: 40 ReadFault"),
+        ("folder", "ab", b"folder: 40 ReadFault"), ("ab", "folder", b"folder: 40 ReadFault"),
+        # the first file's fault, whatever the second is
+        ("unsound", "cut", b"unsound: 34 BadStamp at 8"), ("cut", "missing", b"cut: 32 Truncated at 44"), ("missing", "cut", b"missing: 40 ReadFault"),
+    ]:
+        for old in (None, OLD):
+            if old is not None:
+                with open("out", "wb") as file:
+                    file.write(old)
+            check(f"join {a} {b}", (called("join", a, b, "out"), contents("out")), ((b"", b"peertext: " + line + b"\n", 1), old))
+        os.remove("out")
+        check(f"files after join {a} {b}", sorted(os.listdir(".")), names)
+
+
+def outs_that_fail():
+    names = sorted(os.listdir("."))
+    for out in ["folder", "none/out", "missing/out", "", "a" * 300]:
+        check(f"join into {out!r:.20}", called("join", "ab", "y", out), (b"", b"peertext: " + out.encode() + b": 41 WriteFault\n", 1))
+    check("files after joins that were not written", sorted(os.listdir(".")), names)
+    with open("out", "wb") as file:
+        file.write(OLD)
+    # a disk with no room: no file may grow past 60 bytes
+    def small():
+        signal.signal(signal.SIGXFSZ, signal.SIG_IGN)
+        resource.setrlimit(resource.RLIMIT_FSIZE, (60, 60))
+
+    check("join into a full disk", (called("join", "ab", "y", "out", preexec_fn=small), contents("out")), ((b"", b"peertext: out: 41 WriteFault\n", 1), OLD))
+    os.remove("out")
+    check("files after a full disk", sorted(os.listdir(".")), names)
+    check("join into a device", called("join", "ab", "y", "/dev/full"), (b"", b"peertext: /dev/full: 41 WriteFault\n", 1))
+    check("join into standard output", called("join", "ab", "y", "/dev/stdout"), (HEAD + AB + Y, b"", 0))
+
+
+def shows():
+    for name, want, fault in [
+        ("none", b"", None), ("ab", AB_LINE, None), ("deleted", AB_LINE + b"delete 3.1 prev 2 spans 1:2-2\n", None),
+        ("tagged", AB_LINE + b"tag 3.1 prev 2 on t spans 1:1-1\n", None), ("unsound", b"insert 1.1 prev 0 after 1.1 text a tags\n", None),
+        ("clash", AB_LINE + b"delete 3.1 prev 1 spans 1:2-2\n", None),
+        ("cut", AB_LINE, b"cut: 32 Truncated at 44"), ("short", b"", b"short: 33 BadRecord at 8"), ("empty", b"", b"empty: 32 Truncated at 0"),
+        ("version", b"", b"version: 31 BadVersion at 0"), ("magic", b"", b"magic: 30 BadMagic at 0"),
+        ("missing", b"", b"missing: 40 ReadFault"), ("folder", b"", b"folder: 40 ReadFault"),
+    ]:
+        check(f"show {name}", called("show", name), (want, b"peertext: " + fault + b"\n" if fault else b"", 1 if fault else 0))
+    for name in ("ab", "cut"):
+        with open("/dev/full", "wb") as full:
+            done = subprocess.run([PROGRAM, "show", name], stdin=subprocess.DEVNULL, stdout=full, stderr=subprocess.PIPE, timeout=120)
+        check(f"show {name} on a full disk", (done.stderr, done.returncode), (b"peertext: 41 WriteFault\n", 1))
+
+
+def many_operations():
+    many = HEAD + b"".join(insert(2 * i + 1, 1, 2 * i, (2 * i, 1) if i else (0, 0), b"xy") for i in range(20000))
+    with open("many", "wb") as file:
+        file.write(many)
+    # the stamp of Y is (3, 2): it stands behind the second record
+    check("join of many", (called("join", "many", "y", "out"), contents("out")), ((b"", b"", 0), many[:80] + Y + many[80:]))
+    out, err, status = called("show", "many")
+    check("show of many", (out.count(b"\n"), out[:41], err, status), (20000, b"insert 1.1 prev 0 after 0.0 text xy tags\n", b"", 0))
+
+
+def files():
+    for test in (joins, outs_that_fail, shows, many_operations, failing_allocations_of_files):
+        with_files(test)
+
+
+def failing_library(folder):
+    """The library by which the allocation of a number fails, where there is a C compiler."""
+    shim = os.path.join(folder, "fail_alloc.so")
+    made = subprocess.run(["cc", "-shared", "-fPIC", "-o", shim, os.path.join(ROOT, "tests", "fail_alloc.c"), "-ldl"], capture_output=True)
+    return None if made.returncode else shim
+
+
+def without_an_allocation(shim, number, *words):
+    done = subprocess.run([BUILT, *words], stdin=subprocess.DEVNULL, capture_output=True, timeout=120, env={**os.environ, "LD_PRELOAD": shim, "FAIL_ALLOC": str(number)})
+    return done.stdout, done.stderr, done.returncode
+
+
+def failing_allocations_of_files():
+    """Each allocation fails in turn: a join is written whole, or OUT stays as it was; lines are shown, or none or a front of them."""
+    shim = failing_library(".")
+    if shim is None:
+        return
+    want = AB_LINE + b"delete 3.1 prev 2 spans 1:2-2\n"
+    refused = 0
+    for number in range(1, 300):
+        with open("out", "wb") as file:
+            file.write(OLD)
+        out, err, status = without_an_allocation(shim, number, "join", "deleted", "y", "out")
+        whole = (status, contents("out")) == (0, HEAD + AB + TAKE_B + Y)
+        none = (status, contents("out")) == (1, OLD) and err == b"peertext: 1 NoMemory\n"
+        check(f"join without allocation {number}: {status} {err}", out == b"" and (whole or none or status == 2), True)
+        refused += none
+        out, err, status = without_an_allocation(shim, number, "show", "deleted")
+        none = (status, err) == (1, b"peertext: 1 NoMemory\n")
+        check(f"show without allocation {number}: {status} {err}", (status, out) == (0, want) or (none and want.startswith(out)) or status == 2, True)
+        refused += none
+    check("some allocations were refused", refused > 10, True)
+    check("the last of them is behind us", status, 0)
+
+
 def failing_allocations():
     """Each allocation fails in turn: a line is answered as the text then is, or `1 NoMemory` and the text is as it was."""
     with tempfile.TemporaryDirectory() as folder:
-        shim = os.path.join(folder, "fail_alloc.so")
-        made = subprocess.run(["cc", "-shared", "-fPIC", "-o", shim, os.path.join(ROOT, "tests", "fail_alloc.c"), "-ldl"], capture_output=True)
-        if made.returncode:
+        shim = failing_library(folder)
+        if shim is None:
             print("no C compiler: the failing allocations were not tried")
             return
         asks = [
@@ -145,7 +338,7 @@ def failing_allocations():
         check("the last of them is behind us", number < 400, True)
 
 
-for part in (whole_scripts, hostile_bytes, asks_and_waits, statuses, failing_allocations):
+for part in (whole_scripts, hostile_bytes, asks_and_waits, statuses, files, failing_allocations):
     part()
 print(f"{passed} passed, {failed} failed")
 sys.exit(1 if failed else 0)

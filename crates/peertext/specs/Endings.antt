@@ -2,6 +2,8 @@
 use Rattle.std.specs.Prelude.{◌≡◌, ◌⊎◌, ℕ, ◌&&◌, ◌==◌, Bool, true, false, nat_le, List, [], ◌++◌, Option, Some, None, Result, Ok, Err, codes, if◌then◌else◌}
 use Rattle.std.specs.Borrow.{Bor}
 use Rattle.std.specs.Fmt.{decimal}
+use Rattle.std.specs.declared.io.ErrorKind.{ErrorKind}
+use Rattle.std.specs.declared.io.ErrorKind.TheVariants.{OutOfMemory}
 use Rattle.rt_stamps.specs.Fault.{number_of, text_of}
 use Rattle.rt_stamps.specs.declared.fault.Fault.{Fault}
 use Rattle.rt_stamps.specs.declared.fault.Fault.TheVariants.{NoMemory, ReadFault, WriteFault}
@@ -57,6 +59,11 @@ abbrev pub show_failure : Result (Unit {0}) (Fault × ℕ) → Bool → Bor (Lis
 show_failure shown false path = Some (record { fault = WriteFault; file = None })
 show_failure (Ok x) true path = None
 show_failure (Err found) true path = Some (record { fault = found.0; file = if is_of_file found.0 then Some (path, found.1) else None })
+
+-- a write of a file failed: for want of memory, or for the file's sake
+abbrev pub write_failure : ErrorKind → Bor (List ℕ) → Failure
+write_failure OutOfMemory path = record { fault = NoMemory; file = None }
+write_failure kind path = record { fault = WriteFault; file = Some (path, 0) }
 
 -- A script was run by a new site, which has room for all cells there may be; or the site found no memory, and nothing was
 -- read or written.

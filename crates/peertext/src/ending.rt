@@ -1,10 +1,11 @@
 // How the program ends.
 ghost use Rattle.std.specs.Prelude.{◌≡◌};
-ghost use Rattle.peertext.specs.Endings.{status_of, has_offset, is_of_file, run_failure, join_failure, show_failure};
+ghost use Rattle.peertext.specs.Endings.{status_of, has_offset, is_of_file, run_failure, join_failure, show_failure, write_failure};
 
 use rt_script::JoinFault;
 use rt_stamps::Fault;
 use std::fmt;
+use std::io::ErrorKind;
 
 /// Why the program failed, and the file that is at fault, if one is.
 #[derive(Clone, Copy)]
@@ -91,6 +92,22 @@ pub fn show_failure<'a>(
                 None
             },
         }),
+    }
+}
+
+/// How the program failed where a file was not written.
+pub fn write_failure<'a>(kind: ErrorKind, path: &'a str) -> Failure<'a>
+    ensures { result ≡ write_failure kind path.entry }
+{
+    match kind {
+        ErrorKind::OutOfMemory => Failure {
+            fault: Fault::NoMemory,
+            file: None,
+        },
+        _ => Failure {
+            fault: Fault::WriteFault,
+            file: Some((path, 0)),
+        },
     }
 }
 

@@ -9,7 +9,7 @@ ghost use Rattle.peertext.specs.Endings.{RunsScript};
 mod ending;
 mod files;
 
-use ending::{Failure, join_failure, run_failure, show_failure, status};
+use ending::{Failure, join_failure, run_failure, show_failure, status, write_failure};
 use files::{LazyFile, write_whole};
 use rt_script::{JoinFault, Line, LineFault, SiteState, join_files, line, run, show_file};
 use rt_stamps::limits::MOST_CELLS;
@@ -165,10 +165,7 @@ fn join<'a>(rt: &HostRuntime, a: &'a str, b: &'a str, out: &'a str) -> Option<Fa
     match join_paths(rt, a, b) {
         Ok(bytes) => match write_whole(rt, out, &bytes) {
             Ok(()) => None,
-            Err(_) => Some(Failure {
-                fault: Fault::WriteFault,
-                file: Some((out, 0)),
-            }),
+            Err(error) => Some(write_failure(error.kind(), out)),
         },
         Err(why) => Some(join_failure(why, a, b)),
     }

@@ -1,5 +1,5 @@
 -- The command line of peertext, as clap reads it: `peertext run --site N`, `peertext join A B OUT` and `peertext show FILE`.
-use Rattle.std.specs.Prelude.{◌≡◌, ◌⊎◌, ℕ, List, Bool, true, false, not, Option, Some, option_map, codes, string_bytes, [], if◌then◌else◌, ⊤}
+use Rattle.std.specs.Prelude.{◌≡◌, ◌⊎◌, ℕ, List, ◌∷◌, ◌++◌, Bool, true, false, not, Option, Some, None, option_map, codes, string_bytes, [], if◌then◌else◌, ⊤}
 use Rattle.std.specs.Str.Parse.{digits_value, without_leading_plus}
 use Rattle.clap.specs.ValueTests.{is_unsigned_in}
 use Rattle.clap.specs.Words.{App, IsAmong, Row, Rule, Text, app_of, fault_of, first_of, kind_of, new_app, new_rule, one_of, rule_of, subcommand_of, with_rule, with_subcommand}
@@ -10,6 +10,8 @@ use Rattle.clap.specs.declared.builder.ValueParser.TheVariants.{Unsigned}
 use Rattle.clap.specs.declared.error.Error.{Error}
 use Rattle.clap.specs.declared.error.ErrorKind.{ErrorKind}
 use Rattle.clap.specs.declared.error.ErrorKind.TheVariants.{DisplayHelp, DisplayVersion, OutOfMemory}
+use Rattle.rt_stamps.specs.Fault.{text_of}
+use Rattle.rt_stamps.specs.declared.fault.Fault.TheVariants as fault
 use Rattle.rt_stamps.specs.declared.limits.TheConstants.{GREATEST_SITE}
 use Rattle.rt_script.specs.declared.command_line.Line.{Line}
 use Rattle.rt_script.specs.declared.command_line.Line.TheVariants.{Run, Join, Show}
@@ -145,3 +147,8 @@ is_mistake NoMemory = true
 abbrev pub status_of : LineFault → ℕ
 status_of (Usage error) = if is_shown (kind_of error) then 0 else 2
 status_of NoMemory = 1
+
+-- the text for the user: clap's own, which its contract leaves open, or that of want of memory
+abbrev pub text_of_fault : LineFault → Option Text
+text_of_fault (Usage error) = None
+text_of_fault NoMemory = Some (codes "peertext: " ++ (text_of fault.NoMemory ++ (10 ∷ [])))

@@ -77,6 +77,10 @@ impl From<AllocError> for LineFault {
 }
 
 impl fmt::Display for LineFault {
+    ghost use Rattle.rt_script.specs.CommandLine.{text_of_fault};
+
+    ghost output = { λ fault. text_of_fault fault };
+
     fn fmt<W: fmt::Write>(&self, f: &mut fmt::Formatter<W>) -> fmt::Result {
         match self {
             LineFault::Usage(error) => write!(f, "{error}"),

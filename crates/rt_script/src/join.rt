@@ -104,22 +104,29 @@ fn spelled_join(alloc: Global, one: OpLog, other: OpLog) -> Result<Vec<u8>, Faul
     spelled::<Brand, Brand>(alloc, &log, Blank::new(1), Blank::new(1))
 }
 
+// A fault of neither file.
+fn of_neither(fault: Fault) -> JoinFault
+    ensures { result ≡ of_neither fault }
+{
+    JoinFault {
+        file: 0,
+        fault,
+        offset: 0,
+    }
+}
+
 // The fault of a file, or of neither where memory is wanting.
 fn fault_in(file: u8, found: (Fault, u64)) -> JoinFault
     ensures { ((found.0 ≢ NoMemory) × (result ≡ in_file file found)) ⊎ ((found.0 ≡ NoMemory) × (result ≡ of_neither NoMemory)) }
 {
     let (fault, offset) = found;
-    if matches!(fault, Fault::NoMemory) {
-        return JoinFault {
-            file: 0,
+    match fault {
+        Fault::NoMemory => of_neither(fault),
+        _ => JoinFault {
+            file,
             fault,
-            offset: 0,
-        };
-    }
-    JoinFault {
-        file,
-        fault,
-        offset,
+            offset,
+        },
     }
 }
 
@@ -152,10 +159,6 @@ pub fn join_files<A: Source, B: Source>(
     };
     match spelled_join(alloc, one, other) {
         Ok(bytes) => Ok(bytes),
-        Err(fault) => Err(JoinFault {
-            file: 0,
-            fault,
-            offset: 0,
-        }),
+        Err(fault) => Err(of_neither(fault)),
     }
 }

@@ -358,8 +358,10 @@ fn failed_reads_of_a_join(rt: HostRuntime) -> Result<(), Fail> {
             0
         } else if number < 44 {
             8
-        } else {
+        } else if number < 89 {
             44
+        } else {
+            89
         };
         let is_told = if number < 90 {
             refused(alloc, whole(&INSERT_AB), cut, (2, Fault::ReadFault, offset))
@@ -392,7 +394,10 @@ fn files_are_shown(rt: HostRuntime) -> Result<(), Fail> {
     ];
     for (bytes, text, fault) in table {
         for size in [1, 7, 4096] {
-            assert!(rt; is_shown(alloc, in_pieces(bytes, size), text, fault), "{text}");
+            assert!(rt;
+                is_shown(alloc, in_pieces(bytes, size), text, fault),
+                "{text}"
+            );
         }
     }
     let failed = Some((Fault::ReadFault, 0));
