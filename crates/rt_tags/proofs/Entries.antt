@@ -1,5 +1,5 @@
 -- Entries and what is seen of them.
-use Rattle.std.proofs.Common.{◌≡◌, ℕ, zero, suc, ◌==◌, ◌||◌, ◌&&◌, ◌<◌, List, [], ◌∷◌, ◌++◌, map, filter, length, get_or, Bool, true, false, true≢false, cond, refl, sym, ap, subst, ◌∙◌, arith, Option, Some, None, option_map}
+use Rattle.std.proofs.Common.{◌≡◌, ℕ, zero, suc, ◌==◌, ◌||◌, ◌&&◌, ◌<◌, List, [], ◌∷◌, ◌++◌, map, filter, length, get_or, Bool, true, false, true≢false, cond, refl, sym, ap, subst, ◌∙◌, arith, Some, option_map}
 use Rattle.std.proofs.Math.Bool.{beq}
 use Rattle.std.specs.Bool.{Decides}
 use Rattle.std.specs.Cmp.{booleans_Decides}
@@ -16,7 +16,7 @@ use Rattle.rt_tags.specs.Tags.{HaveNoRepeats, is_listed}
 use Rattle.rt_tags.specs.States.{Write, write_of, below, above, names_on}
 use Rattle.rt_tags.specs.Kept.{HaveNames, seen, all_seen, entry_of, tags_on, is_on_side, entries_written}
 use Rattle.rt_tags.specs.declared.states.Entry.{Entry}
-use Rattle.rt_tags.proofs.Places.{split, clash, name_itself, same_name, listed_head, listed_tail}
+use Rattle.rt_tags.proofs.Places.{split, clash, name_itself, same_name}
 
 abbrev pub Named : ℕ → List Entry → Type 0
 Named n entries = AllByRecursion (λ e. e.tag < n) entries

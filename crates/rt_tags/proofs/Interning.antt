@@ -1,5 +1,5 @@
 -- What keeping a state makes of those that are kept.
-use Rattle.std.proofs.Common.{◌≡◌, ◌⊎◌, inl, inr, ℕ, zero, suc, ◌||◌, ◌<◌, List, [], ◌∷◌, ◌++◌, map, length, get_or, slice_get, Bool, true, false, cond, refl, sym, ap, subst, ◌∙◌, arith, Option, Some, None, option_map}
+use Rattle.std.proofs.Common.{◌≡◌, inl, inr, ℕ, ◌||◌, List, [], ◌∷◌, ◌++◌, length, slice_get, Bool, true, false, cond, refl, sym, ap, subst, ◌∙◌, Some, option_map}
 use Rattle.std.specs.Bool.{Decides}
 use Rattle.std.specs.Cmp.Lexicographic.{pointwise}
 use Rattle.std.specs.List.{AllByRecursion, list_any}

@@ -1,14 +1,13 @@
 -- Names and states as a table keeps them, and what is seen of it.
-use Rattle.std.proofs.Common.{◌≡◌, ◌⊎◌, inl, inr, ℕ, zero, suc, ◌+◌, ◌<◌, List, [], ◌∷◌, ◌++◌, map, filter, length, get_or, slice_get, Bool, true, false, not, cond, refl, sym, ap, subst, ◌∙◌, arith, Option, Some, None, option_map, append-nil}
+use Rattle.std.proofs.Common.{◌≡◌, inl, inr, ℕ, zero, suc, ◌<◌, List, [], ◌∷◌, ◌++◌, map, filter, length, get_or, slice_get, true, false, cond, refl, sym, ap, subst, ◌∙◌, arith, Option, Some, None, option_map, append-nil}
 use Rattle.std.specs.List.{All, AllByRecursion}
 use Rattle.std.specs.declared.cmp.Ordering.TheVariants.{Less, Greater}
-use Rattle.std.proofs.lemmas.List.{length-append, length-map, map-append}
+use Rattle.std.proofs.lemmas.List.{length-append}
 use Rattle.std.proofs.lemmas.List.Elements.{All-append, All-cons, All-filter, All-from_recursion, All-nil, All-weaker}
 use Rattle.std.proofs.lemmas.Option.{slice_get-get_or, slice_get-map, get_or_from_slice_get}
-use Rattle.rt_stamps.specs.declared.stamp.Stamp.{Stamp}
 use Rattle.rt_tags.specs.Tags.{HaveNoRepeats, is_listed}
-use Rattle.rt_tags.specs.States.{Write, TagStates, AreDistinct, Interns, IsByName, IsNew, IsState, IsTag, KeepsIds, above, below, is_kept, is_on, is_settled, name_at, names_on, numbered, says_on, state_at, write_at, write_of, written}
-use Rattle.rt_tags.specs.Kept.{AreKept, HaveNames, IsKept, IsNext, IsTable, is_on_side, all_seen, entries_written, entry_of, is_entry_kept, seen, state_seen, states_seen, tags_on}
+use Rattle.rt_tags.specs.States.{Write, TagStates, AreDistinct, Interns, IsByName, IsNew, IsState, IsTag, KeepsIds, above, below, is_kept, is_on, is_settled, name_at, names_on, numbered, says_on, state_at, write_of, written}
+use Rattle.rt_tags.specs.Kept.{AreKept, HaveNames, IsKept, IsNext, IsTable, is_on_side, all_seen, entry_of, is_entry_kept, seen, state_seen, states_seen, tags_on}
 use Rattle.rt_tags.specs.declared.states.Entry.{Entry}
 use Rattle.rt_tags.specs.declared.states.State.{State}
 use Rattle.rt_tags.proofs.Entries.{found_seen, written_seen, named, on_named, on_seen, seen_stays}

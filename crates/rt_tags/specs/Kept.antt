@@ -1,5 +1,5 @@
 -- How a table keeps names and states.
-use Rattle.std.specs.Prelude.{◌≡◌, ◌==◌, ℕ, ◌<◌, List, [], ◌∷◌, ◌++◌, Bool, true, false, not, map, filter, length, Option, Some, None, slice_get, slice_index_or, if◌then◌else◌}
+use Rattle.std.specs.Prelude.{◌≡◌, ◌==◌, ℕ, ◌<◌, List, [], ◌∷◌, ◌++◌, Bool, false, not, map, filter, length, Option, Some, None, slice_get, slice_index_or, if◌then◌else◌}
 use Rattle.std.specs.List.{All, AllByRecursion}
 use Rattle.std.specs.Ordering.{ordering_index}
 use Rattle.std.specs.declared.cmp.Ordering.{Ordering}
@@ -9,7 +9,7 @@ use Rattle.rt_stamps.specs.Names.{name_order}
 use Rattle.rt_stamps.specs.Stamps.{is_before}
 use Rattle.rt_tags.specs.declared.states.Entry.{Entry}
 use Rattle.rt_tags.specs.declared.states.State.{State}
-use Rattle.rt_tags.specs.States.{Write, TagStates, IsByName, AreDistinct}
+use Rattle.rt_tags.specs.States.{Write, IsByName, AreDistinct}
 use Rattle.rt_tags.specs.Tags.{HaveNoRepeats}
 
 -- an entry with the name of its tag

@@ -1,9 +1,9 @@
-use Rattle.std.proofs.Common.{◌≡◌, ◌∙◌, ap, sym, subst, ℕ, [], true, Result, Ok, Some, map, string_bytes}
+use Rattle.std.proofs.Common.{◌≡◌, ◌∙◌, ap, sym, subst, ℕ, [], true, Result, Ok, map, string_bytes}
 use Rattle.std.proofs.lemmas.Option.{get_or_from_slice_get, slice_get_within}
 use Rattle.rt_stamps.specs.declared.fault.Fault.{Fault}
-use Rattle.rt_tags.specs.Kept.{IsNext, IsTable, entry_of, is_entry_kept, state_seen, states_seen}
+use Rattle.rt_tags.specs.Kept.{IsNext, entry_of, is_entry_kept, state_seen, states_seen}
 use Rattle.rt_tags.specs.Seen.{names_of}
-use Rattle.rt_tags.specs.States.{TagStates, Interns, IsTag, KeepsIds, is_settled, state_at, write_at, written}
+use Rattle.rt_tags.specs.States.{TagStates, Interns, IsTag, is_settled, state_at, write_at, written}
 use Rattle.rt_tags.specs.declared.states.Entry.{Entry}
 use Rattle.rt_tags.proofs.Keeping.{keeps_interned, next_kept, next_seen, settled_there, stays_interned, table_more, table_of}
 use Rattle.rt_tags.proofs.Places.{clash}
