@@ -8,6 +8,7 @@ use Rattle.rt_stamps.specs.declared.fault.Fault.TheVariants.{NoMemory}
 use Rattle.rt_stamps.specs.Outcomes.{Answers, Refuses}
 use Rattle.rt_stamps.specs.Words.{Word}
 use Rattle.rt_text.specs.Flat.{Flat}
+use Rattle.rt_text.specs.Widgets.{Own}
 use Rattle.rt_text.specs.Commands.{deleted}
 use Rattle.rt_peers.specs.State.{State}
 use Rattle.rt_peers.specs.Step.{as_outcome, delete_step, removal_step, get_step, list_step, count_step, counted_step, distances_step, is_switch}
@@ -28,13 +29,13 @@ delete_of_some state [] h = absurd (cc)
 delete_of_some state (word ∷ words) h = refl
 
 -- a refusal of the removal
-pub removal_refused : (state : State) (indices : List Word) (fault found : Fault) → Refuses (deleted state.doc indices) found → fault ≡ found → Refuses (removal_step state indices) fault
+pub removal_refused : (state : State) (indices : List Word) (fault found : Fault) → Refuses (deleted state.doc state.own indices) found → fault ≡ found → Refuses (removal_step state indices) fault
 removal_refused state indices fault found (inl e) h = inl (h ∙ e)
 removal_refused state indices fault found (inr e) h = inr (rw (e, h) refl)
 
--- a state is its document
-abbrev pub state_of : Flat → State
-state_of doc = record { doc = doc }
+-- a state is its document and its widget's marks
+abbrev pub state_of : Flat → Own → State
+state_of doc own = record { doc = doc; own = own }
 
 -- the words at the front that pass a test
 prefix_len_map : {X Y : Type 0} (f : X → Y) (p : Y → Bool) (xs : List X) → prefix_len p (map f xs) ≡ prefix_len (λ x. p (f x)) xs

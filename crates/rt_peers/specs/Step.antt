@@ -7,6 +7,8 @@ use Rattle.rt_stamps.specs.declared.fault.Fault.{Fault}
 use Rattle.rt_stamps.specs.declared.fault.Fault.TheVariants.{BadCommand, NoWidget}
 use Rattle.rt_stamps.specs.Places.{text_of_position}
 use Rattle.rt_stamps.specs.Words.{Word}
+use Rattle.rt_text.specs.Flat.{Flat}
+use Rattle.rt_text.specs.Widgets.{Own}
 use Rattle.rt_text.specs.Commands.{inserted, deleted, got_one, got, got_list, position_of_index, compared, counted}
 use Rattle.rt_peers.specs.declared.command.Command.{Command}
 use Rattle.rt_peers.specs.declared.command.Command.TheVariants.{Insert, Delete, Get, Index, Compare, Count}
@@ -21,16 +23,20 @@ abbrev pub as_outcome : {T : Type 0} → (T → List Word × State) → Result T
 as_outcome f (Ok value) = Ok (f value)
 as_outcome f (Err fault) = Err fault
 
--- `insert INDEX CHARS` has no words in its reply
+-- a command that changes the document and the widget's marks, and has no words in its reply
+abbrev pub changed_step : Result (Flat × Own) Fault → Outcome
+changed_step = as_outcome (λ changed. ([], record { doc = changed.0; own = changed.1 }))
+
+-- `insert INDEX CHARS`
 abbrev pub insert_step : State → List Word → Outcome
-insert_step state (index ∷ new ∷ []) = as_outcome (λ doc. ([], record state { doc = doc })) (inserted state.doc index new)
+insert_step state (index ∷ new ∷ []) = changed_step (inserted state.doc state.own index new)
 insert_step state [] = Err BadCommand
 insert_step state (index ∷ []) = Err BadCommand
 insert_step state (index ∷ new ∷ more ∷ words) = Err BadCommand
 
--- without the characters in the ranges of some indices; the reply has no words
+-- without the characters in the ranges of some indices
 abbrev pub removal_step : State → List Word → Outcome
-removal_step state indices = as_outcome (λ doc. ([], record state { doc = doc })) (deleted state.doc indices)
+removal_step state indices = changed_step (deleted state.doc state.own indices)
 
 -- `delete INDEX ?INDEX ...?`
 abbrev pub delete_step : State → List Word → Outcome
@@ -39,18 +45,18 @@ delete_step state [] = Err BadCommand
 
 -- `get` of more indices replies with the texts that aren't empty, a word each
 abbrev pub list_step : State → List Word → Outcome
-list_step state indices = as_outcome (λ texts. (texts, state)) (got_list state.doc indices)
+list_step state indices = as_outcome (λ texts. (texts, state)) (got_list state.doc state.own indices)
 
 -- `get INDEX ?INDEX ...?`: of one index or two the reply is one word, the text
 abbrev pub get_step : State → List Word → Outcome
-get_step state (index ∷ []) = as_outcome (λ text. (text ∷ [], state)) (got_one state.doc index)
-get_step state (from ∷ to ∷ []) = as_outcome (λ text. (text ∷ [], state)) (got state.doc from to)
+get_step state (index ∷ []) = as_outcome (λ text. (text ∷ [], state)) (got_one state.doc state.own index)
+get_step state (from ∷ to ∷ []) = as_outcome (λ text. (text ∷ [], state)) (got state.doc state.own from to)
 get_step state (from ∷ to ∷ more ∷ words) = list_step state (from ∷ to ∷ more ∷ words)
 get_step state [] = Err BadCommand
 
 -- `index INDEX` replies with one word, LINE.CHARACTER
 abbrev pub index_step : State → List Word → Outcome
-index_step state (index ∷ []) = as_outcome (λ position. (text_of_position position ∷ [], state)) (position_of_index state.doc index)
+index_step state (index ∷ []) = as_outcome (λ position. (text_of_position position ∷ [], state)) (position_of_index state.doc state.own index)
 index_step state [] = Err BadCommand
 index_step state (index ∷ more ∷ words) = Err BadCommand
 
@@ -60,7 +66,7 @@ text_of_bool holds = if holds then codes "1" else codes "0"
 
 -- `compare INDEX OPERATOR INDEX` replies with one word, 1 or 0
 abbrev pub compare_step : State → List Word → Outcome
-compare_step state (first ∷ operator ∷ second ∷ []) = as_outcome (λ holds. (text_of_bool holds ∷ [], state)) (compared state.doc first operator second)
+compare_step state (first ∷ operator ∷ second ∷ []) = as_outcome (λ holds. (text_of_bool holds ∷ [], state)) (compared state.doc state.own first operator second)
 compare_step state [] = Err BadCommand
 compare_step state (first ∷ []) = Err BadCommand
 compare_step state (first ∷ operator ∷ []) = Err BadCommand
@@ -73,7 +79,7 @@ is_switch (c ∷ word) = c == 45
 
 -- from an index to another, a number for each switch in turn, and one where there is none
 abbrev pub distances_step : State → List Word → Word → Word → Outcome
-distances_step state switches from to = as_outcome (λ distances. (map signed_decimal distances, state)) (counted state.doc switches from to)
+distances_step state switches from to = as_outcome (λ distances. (map signed_decimal distances, state)) (counted state.doc state.own switches from to)
 
 -- `count` with its switches and its indices, which are two
 abbrev pub counted_step : State → List Word → List Word → Outcome

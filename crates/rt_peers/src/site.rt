@@ -11,7 +11,7 @@ use crate::command::{Command, command_of};
 use crate::reply::Reply;
 use rt_stamps::{Fault, Site};
 use rt_store::ListStore;
-use rt_text::Doc;
+use rt_text::{Doc, Widget};
 use std::alloc::Global;
 use std::marker::Model;
 
@@ -20,14 +20,20 @@ use std::marker::Model;
 pub struct SiteState {
     alloc: Global,
     doc: Doc<ListStore>,
+    widget: Widget,
 }
 
 impl Model for SiteState {
+    ghost use Rattle.std.specs.Prelude.{length};
+    ghost use Rattle.rt_store.specs.Cells.{text_of};
+    ghost use Rattle.rt_text.specs.Widgets.{IsOwnOf};
     ghost use Rattle.rt_peers.specs.State.{State};
 
     ghost Value = { State };
 
-    ghost view = { λ s. record { doc = s.doc } };
+    ghost view = { λ s. record { doc = s.doc; own = s.widget } };
+
+    ghost invariant = { λ s. IsOwnOf (length (text_of s.doc.cells)) s.widget };
 }
 
 // A reply of one word.
@@ -92,7 +98,8 @@ impl SiteState {
     {
         let store = ListStore::new(alloc)?;
         let doc = Doc::new(alloc, store, site, limit)?;
-        Ok(SiteState { alloc, doc })
+        let widget = Widget::new();
+        Ok(SiteState { alloc, doc, widget })
     }
 
     // `insert INDEX CHARS`.
@@ -102,7 +109,7 @@ impl SiteState {
         let [index, new] = words else {
             return Err(Fault::BadCommand);
         };
-        self.doc.insert(index, new)?;
+        self.doc.insert(&mut self.widget, index, new)?;
         Ok(Reply {
             words: Vec::new(self.alloc),
         })
@@ -122,7 +129,7 @@ impl SiteState {
     fn remove(&mut self, indices: &[String]) -> Result<Reply, Fault>
         ensures { Answers (removal_step self.old (map (λ w. string_bytes w) indices.now)) self.old result self.new }
     {
-        self.doc.delete(indices)?;
+        self.doc.delete(&mut self.widget, indices)?;
         Ok(Reply {
             words: Vec::new(self.alloc),
         })
@@ -133,8 +140,8 @@ impl SiteState {
         ensures { Answers (get_step self.old (map (λ w. string_bytes w) words.now)) self.old result self.new }
     {
         let text = match words {
-            [index] => self.doc.get_one(index)?,
-            [from, to] => self.doc.get(from, to)?,
+            [index] => self.doc.get_one(&self.widget, index)?,
+            [from, to] => self.doc.get(&self.widget, from, to)?,
             [] => return Err(Fault::BadCommand),
             _ => return self.get_list(words),
         };
@@ -145,7 +152,7 @@ impl SiteState {
     fn get_list(&mut self, words: &[String]) -> Result<Reply, Fault>
         ensures { Answers (list_step self.old (map (λ w. string_bytes w) words.now)) self.old result self.new }
     {
-        let words = self.doc.get_list(words)?;
+        let words = self.doc.get_list(&self.widget, words)?;
         Ok(Reply { words })
     }
 
@@ -156,7 +163,7 @@ impl SiteState {
         let [index] = words else {
             return Err(Fault::BadCommand);
         };
-        let position = self.doc.index(index)?;
+        let position = self.doc.index(&self.widget, index)?;
         one_word(self.alloc, position.to_string(self.alloc)?)
     }
 
@@ -167,7 +174,7 @@ impl SiteState {
         let [first, operator, second] = words else {
             return Err(Fault::BadCommand);
         };
-        let holds = self.doc.compare(first, operator, second)?;
+        let holds = self.doc.compare(&self.widget, first, operator, second)?;
         one_word(self.alloc, text_of_bool(self.alloc, holds)?)
     }
 
@@ -175,7 +182,7 @@ impl SiteState {
     fn count_from(&mut self, switches: &[String], from: &str, to: &str) -> Result<Reply, Fault>
         ensures { Answers (distances_step self.old (map (λ w. string_bytes w) switches.now) from.now to.now) self.old result self.new }
     {
-        let distances = self.doc.count(switches, from, to)?;
+        let distances = self.doc.count(&self.widget, switches, from, to)?;
         numbers(self.alloc, &distances)
     }
 
