@@ -2,6 +2,7 @@ pub mod ByName
 pub mod Changes
 pub mod Edits
 pub mod InOrder
+pub mod Leaving
 pub mod Moving
 pub mod Names
 pub mod Order

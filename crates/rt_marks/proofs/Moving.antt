@@ -92,7 +92,7 @@ named_moved place q (m ∷ marks) =
     (λ t. ap (λ b. cond b (Some (moved place m)) (named q (map (moved place) marks))) t ∙ sym (ap (λ b. option_map (moved place) (cond b (Some m) (named q marks))) t))
     (λ f. ap (λ b. cond b (Some (moved place m)) (named q (map (moved place) marks))) f ∙ more ∙ sym (ap (λ b. option_map (moved place) (cond b (Some m) (named q marks))) f))
 
-own_moved : (place : Mark → ℕ) (marks : List Mark) → HaveOwnNames marks → HaveOwnNames (map (moved place) marks)
+pub own_moved : (place : Mark → ℕ) (marks : List Mark) → HaveOwnNames marks → HaveOwnNames (map (moved place) marks)
 own_moved place [] h = tt
 own_moved place (m ∷ marks) h = (named_moved place m.name marks ∙ ap (option_map (moved place)) h.0, own_moved place marks h.1)
 
@@ -110,7 +110,7 @@ at_most false x n = omega arith
 
 pub within_inserted : (place n size : ℕ) (marks : List Mark) → Each (λ m. m.place ≤ size) marks → Each (λ m. m.place ≤ size + n) (marks_inserted place n marks)
 within_inserted place n size [] h = tt
-within_inserted place n size (m ∷ marks) h = (omega (arith, at_most (is_moved_on place m) m.place n, h.0), within_inserted place n size marks h.1)
+within_inserted place n size (m ∷ marks) h = (omega (arith, at_most (is_moved_on place m.place m.gravity) m.place n, h.0), within_inserted place n size marks h.1)
 
 removed_at_most : (place n size p : ℕ) → place + n ≤ size → p ≤ size → place_removed place n p ≤ size - n
 removed_at_most place n size p h k = grind (arith, nat_tests)

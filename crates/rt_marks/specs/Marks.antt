@@ -1,6 +1,6 @@
 -- Marks: names in the gaps of a text, each with a gravity. The gap of a place is the one before the character there, and the
 -- gap of the text's end the one after the last character. Contracts see the marks of a site as the list of them in order.
-use Rattle.std.specs.Prelude.{◌≡◌, ℕ, ◌+◌, ◌-◌, ◌==◌, ◌&&◌, ◌||◌, nat_le, nat_lt, List, [], ◌∷◌, map, find, filter, Bool, true, false, not, if◌then◌else◌, Option, Some, None, option_and_then}
+use Rattle.std.specs.Prelude.{◌≡◌, ℕ, zero, suc, ◌+◌, ◌-◌, ◌==◌, ◌&&◌, ◌||◌, nat_le, nat_lt, List, [], ◌∷◌, map, find, filter, Bool, true, false, not, if◌then◌else◌, Option, Some, None, option_and_then}
 use Rattle.std.specs.Option.{option_map_or, option_or}
 use Rattle.std.specs.Ordering.{nat_cmp, ordering_then, is_lt}
 use Rattle.std.specs.Str.{bytes_eq}
@@ -99,12 +99,16 @@ is_right Right = true
 
 -- A mark behind the place where text is inserted moves on with its character. Of the marks at the place those of left
 -- gravity stay before the text, and those of right gravity stand behind it (Tk text manual, mark gravity).
-abbrev pub is_moved_on : ℕ → Mark → Bool
-is_moved_on place m = nat_lt place m.place || ((m.place == place) && is_right m.gravity)
+abbrev pub is_moved_on : ℕ → ℕ → Gravity → Bool
+is_moved_on place p gravity = nat_lt place p || ((p == place) && is_right gravity)
+
+-- where a mark at a place p with some gravity stands after n characters were inserted at a place
+abbrev pub place_moved : ℕ → ℕ → ℕ → Gravity → ℕ
+place_moved place n p gravity = if is_moved_on place p gravity then p + n else p
 
 -- the place of a mark after n characters were inserted at a place
 abbrev pub place_inserted : ℕ → ℕ → Mark → ℕ
-place_inserted place n m = if is_moved_on place m then m.place + n else m.place
+place_inserted place n m = place_moved place n m.place m.gravity
 
 abbrev pub mark_inserted : ℕ → ℕ → Mark → Mark
 mark_inserted place n m = record m { place = place_inserted place n m }
@@ -123,6 +127,23 @@ mark_removed place n m = record m { place = place_removed place n m.place }
 -- the marks then: those of the gaps that became one are put in order
 abbrev pub marks_removed : ℕ → ℕ → List Mark → List Mark
 marks_removed place n marks = in_order (map (mark_removed place n) marks)
+
+-- Where a place is after characters here and there were removed, those at the places that pass a test: as many characters
+-- stand before it as are left of those that stood before it.
+abbrev pub place_left : (ℕ → Bool) → ℕ → ℕ
+place_left removed zero = 0
+place_left removed (suc p) = place_left removed p + (if removed p then 0 else 1)
+
+abbrev pub mark_left : (ℕ → Bool) → Mark → Mark
+mark_left removed m = record m { place = place_left removed m.place }
+
+-- the marks then: those of gaps that became one are put in order
+abbrev pub marks_left : (ℕ → Bool) → List Mark → List Mark
+marks_left removed marks = in_order (map (mark_left removed) marks)
+
+-- a place is one of those from a first one up to before another, or passes a test
+abbrev pub is_within_or : ℕ → ℕ → (ℕ → Bool) → ℕ → Bool
+is_within_or from to removed p = (nat_le from p && nat_lt p to) || removed p
 
 -- LOOKING ABOUT
 

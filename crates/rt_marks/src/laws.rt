@@ -1,8 +1,8 @@
 // Laws of the definitions, each the contract of a function that does nothing.
-ghost use Rattle.std.specs.Prelude.{◌≡◌, ℕ, ◌+◌, ◌-◌, ◌≤◌, List, None, Some, option_map, if◌then◌else◌};
+ghost use Rattle.std.specs.Prelude.{◌≡◌, ℕ, ◌+◌, ◌-◌, ◌<◌, ◌≤◌, Bool, false, List, None, Some, option_map, if◌then◌else◌};
 ghost use Rattle.std.specs.Str.{bytes_eq};
 ghost use Rattle.rt_marks.specs.declared.gravity.Gravity.{Gravity};
-ghost use Rattle.rt_marks.specs.Marks.{AreInOrder, Each, HaveOwnNames, Mark, gravity_or_right, in_order, mark_inserted, mark_removed, marks_inserted, marks_removed, marks_set, marks_with_gravity, named, without};
+ghost use Rattle.rt_marks.specs.Marks.{AreInOrder, Each, HaveOwnNames, Mark, gravity_or_right, in_order, is_within_or, mark_inserted, mark_left, mark_removed, marks_inserted, marks_left, marks_removed, place_left, place_removed, marks_set, marks_with_gravity, named, without};
 
 /// Marks put in order are in order, and are the same marks; marks that are in order stay as they are.
 pub fn order_of_marks()
@@ -23,6 +23,7 @@ pub fn look_ups()
     ensures after_unset { (q name : List ℕ) (marks : List Mark) → named q (without name marks) ≡ (if bytes_eq name q then None else named q marks) }
     ensures after_insertion { (q : List ℕ) (place n : ℕ) (marks : List Mark) → named q (marks_inserted place n marks) ≡ option_map (mark_inserted place n) (named q marks) }
     ensures after_removal { (q : List ℕ) (place n : ℕ) (marks : List Mark) → HaveOwnNames marks → named q (marks_removed place n marks) ≡ option_map (mark_removed place n) (named q marks) }
+    ensures after_removals { (q : List ℕ) (removed : ℕ → Bool) (marks : List Mark) → HaveOwnNames marks → named q (marks_left removed marks) ≡ option_map (mark_left removed) (named q marks) }
 {}
 
 /// Marks within a text of some size are within it after each edit.
@@ -32,4 +33,13 @@ pub fn marks_within_the_text()
     ensures after_gravity { (name : List ℕ) (gravity : Gravity) (size : ℕ) (marks : List Mark) → Each (λ m. m.place ≤ size) marks → Each (λ m. m.place ≤ size) (marks_with_gravity name gravity marks) }
     ensures after_insertion { (place n size : ℕ) (marks : List Mark) → Each (λ m. m.place ≤ size) marks → Each (λ m. m.place ≤ size + n) (marks_inserted place n marks) }
     ensures after_removal { (place n size : ℕ) (marks : List Mark) → place + n ≤ size → Each (λ m. m.place ≤ size) marks → Each (λ m. m.place ≤ size - n) (marks_removed place n marks) }
+    ensures after_removals { (removed : ℕ → Bool) (size : ℕ) (marks : List Mark) → Each (λ m. m.place ≤ size) marks → Each (λ m. m.place ≤ place_left removed size) (marks_left removed marks) }
+{}
+
+/// Several ranges are removed one after the other from the last to the first, each without moving those
+/// before it: then the marks and each place stand where removing all at once would leave them.
+pub fn removals_from_the_last()
+    ensures place { (later : ℕ → Bool) (from to : ℕ) → ((p : ℕ) → p < to → later p ≡ false) → (p : ℕ) → place_removed from (to - from) (place_left later p) ≡ place_left (is_within_or from to later) p }
+    ensures marks { (later : ℕ → Bool) (from to : ℕ) → ((p : ℕ) → p < to → later p ≡ false) → (marks : List Mark) → marks_removed from (to - from) (marks_left later marks) ≡ marks_left (is_within_or from to later) marks }
+    ensures none { (removed : ℕ → Bool) → ((p : ℕ) → removed p ≡ false) → (marks : List Mark) → AreInOrder marks → marks_left removed marks ≡ marks }
 {}

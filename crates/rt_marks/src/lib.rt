@@ -6,6 +6,7 @@ pub mod gravity;
 pub mod laws;
 mod mark;
 pub mod marks;
+pub mod place;
 mod table;
 #[cfg(test)]
 mod tests;

@@ -2,7 +2,7 @@
 ghost use Rattle.std.specs.Prelude.{◌≡◌, ◌+◌, ◌≤◌, string_bytes};
 ghost use Rattle.rt_marks.specs.Marks.{comes_before, name_order, place_inserted, place_removed};
 
-use crate::Gravity;
+use crate::{Gravity, place};
 use std::cmp::Ordering;
 
 /// A mark. Its fields stand in the order that decides which of two marks comes first.
@@ -29,33 +29,14 @@ impl Mark {
         requires { self.now.place + n ≤ usize.MAX }
         ensures { result ≡ place_inserted place n (seen self.now) }
     {
-        match self.gravity {
-            Gravity::Left => {
-                if place < self.place {
-                    self.place + n
-                } else {
-                    self.place
-                }
-            }
-            Gravity::Right => {
-                if place <= self.place {
-                    self.place + n
-                } else {
-                    self.place
-                }
-            }
-        }
+        place::place_inserted(place, n, self.place, self.gravity)
     }
 
     /// Where it stands after the `n` characters from a place on were removed.
     pub fn place_after_removal(&self, place: usize, n: usize) -> usize
         ensures { result ≡ place_removed place n self.now.place }
     {
-        if self.place <= place {
-            self.place
-        } else {
-            self.place - n.min(self.place - place)
-        }
+        place::place_removed(place, n, self.place)
     }
 
     /// How its name compares with another, by their bytes.

@@ -1,5 +1,5 @@
 -- Cells made gone by their stamps are those at the places.
-use Rattle.std.proofs.Common.{◌≡◌, ℕ, suc, ◌+◌, ◌-◌, ◌<◌, ◌≤◌, List, [], ◌∷◌, Bool, true, false, cond, not, ◌||◌, length, map, drop, get_or, refl, sym, ◌∙◌, ap, subst, arith}
+use Rattle.std.proofs.Common.{◌≡◌, ℕ, suc, All, ◌+◌, ◌-◌, ◌<◌, ◌≤◌, List, [], ◌∷◌, Bool, true, false, cond, not, ◌||◌, length, map, drop, get_or, refl, sym, ◌∙◌, ap, subst, arith}
 use native.Mathlib.Numerals.{unary_clauses}
 use Rattle.std.specs.List.{IsDistinct}
 use Rattle.std.proofs.lemmas.List.{drop_more, length-map}
@@ -14,9 +14,10 @@ use Rattle.rt_store.specs.declared.cell.Cell.{Cell}
 use Rattle.rt_store.specs.declared.cell.TheConstants.{FINAL_CELL}
 use Rattle.rt_store.specs.Cells.{EndsFinal, visible_of, text_of, gone_in, is_in_span}
 use Rattle.rt_text.specs.Known.{stamps_of, AreDistinct, IsKnown, AreKnown}
-use Rattle.rt_text.specs.Removals.{is_removed, stamps_at, gone_at}
+use Rattle.rt_text.specs.Removals.{is_covered, stamps_at, gone_at}
 use Rattle.rt_text.specs.declared.range.Range.{Range}
 use Rattle.rt_text.proofs.PlaceLaws.{length_text}
+use Rattle.rt_text.proofs.StampLaws.{uncovered_from}
 use Rattle.rt_text.specs.Spans.{is_among, is_in_spans, gone_in_any}
 use Rattle.rt_text.proofs.DistinctLaws.{split, first_apart, others_distinct, differs, stamps_within}
 
@@ -170,8 +171,6 @@ known_stays count spans cells h =
 pub distinct_stays : (spans : List Span) (cells : List Cell) → AreDistinct cells → AreDistinct (map (gone_in_any spans) cells)
 distinct_stays spans cells h = subst (IsDistinct is_same) (sym (stamps_stay spans cells)) h
 
--- a removal leaves the last newline
-pub last_kept : (cells : List Cell) (ranges : List Range) → EndsFinal cells → is_removed (text_of cells) ranges (0 + (length (visible_of cells) - 1)) ≡ false
-last_kept cells ranges h =
-    let n = length_text cells in
-    and_left _ _ (le-ltb (0 + (length (visible_of cells) - 1) + 1) (length (text_of cells)) (omega (arith, n, some_visible cells h)))
+-- the last newline isn't in ranges that end before it
+pub last_uncovered : (cells : List Cell) (ranges : List Range) → EndsFinal cells → All (λ range. range.to < length (text_of cells)) ranges → is_covered ranges (0 + (length (visible_of cells) - 1)) ≡ false
+last_uncovered cells ranges ends h = uncovered_from ranges (length (text_of cells)) (0 + (length (visible_of cells) - 1)) h (omega (arith, length_text cells))

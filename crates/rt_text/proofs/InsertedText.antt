@@ -18,7 +18,7 @@ use Rattle.rt_text.proofs.PlaceLaws.{length_text}
 
 -- TEXTS OF CELLS
 
-text_append : (xs ys : List Cell) → text_of (xs ++ ys) ≡ text_of xs ++ text_of ys
+pub text_append : (xs ys : List Cell) → text_of (xs ++ ys) ≡ text_of xs ++ text_of ys
 text_append [] ys = refl
 text_append (x ∷ xs) ys =
     elim x.gone as
@@ -26,14 +26,14 @@ text_append (x ∷ xs) ys =
     ≡ map (λ (cell : Cell). cell.ch) (cond (not b) (x ∷ visible_of xs) (visible_of xs)) ++ text_of ys)
     [ true ↦ text_append xs ys | false ↦ ap (λ t. x.ch ∷ t) (text_append xs ys) ]
 
-text_new : (count site : ℕ) (new : List ℕ) → text_of (cells_from count site new) ≡ new
+pub text_new : (count site : ℕ) (new : List ℕ) → text_of (cells_from count site new) ≡ new
 text_new count site [] = refl
 text_new count site (c ∷ new) = ap (λ t. c ∷ t) (text_new (count + 1) site new)
 
-text_gone : (x : Cell) (xs : List Cell) → x.gone ≡ true → text_of (x ∷ xs) ≡ text_of xs
+pub text_gone : (x : Cell) (xs : List Cell) → x.gone ≡ true → text_of (x ∷ xs) ≡ text_of xs
 text_gone x xs e = rw e refl
 
-text_shown : (x : Cell) (xs : List Cell) → x.gone ≡ false → text_of (x ∷ xs) ≡ x.ch ∷ text_of xs
+pub text_shown : (x : Cell) (xs : List Cell) → x.gone ≡ false → text_of (x ∷ xs) ≡ x.ch ∷ text_of xs
 text_shown x xs e = rw e refl
 
 -- A POSITION AND ITS PLACE

@@ -1,5 +1,4 @@
 pub mod CellLaws
-pub mod IndexLaws
 pub mod Insertions
 pub mod PlaceLaws
 pub mod TextLaws
@@ -14,3 +13,6 @@ pub mod SparingLaws
 pub mod Deletions
 pub mod InsertedText
 pub mod RemovedText
+pub mod Checks
+pub mod MarkLaws
+pub mod MovingLaws

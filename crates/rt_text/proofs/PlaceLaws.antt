@@ -1,36 +1,10 @@
 -- Laws of places in a text that ends with a newline.
-use Rattle.std.proofs.Common.{◌≡◌, ℕ, zero, suc, ◌+◌, ◌-◌, ◌<◌, ◌≤◌, List, [], ◌∷◌, ◌++◌, Bool, true, false, cond, length, refl, sym, ap, arith, add-one, min, take, Some, None, Option, subst}
+use Rattle.std.proofs.Common.{◌≡◌, ℕ, zero, suc, ◌+◌, ◌-◌, ◌<◌, ◌≤◌, List, [], ◌∷◌, ◌++◌, Bool, true, false, cond, length, refl, sym, ap, arith, add-one, take, subst}
 use Rattle.std.proofs.lemmas.List.{length-map}
-use native.Mathlib.Numerals.{unary_clauses}
-use Rattle.std.specs.Prelude.{option_map, option_and_then, nat_le, codes, IfSome, ◌==◌}
-use Rattle.std.specs.Str.{bytes_eq}
-use Rattle.rt_stamps.specs.Places.{is_newline, newlines, after_newlines, line_start, line_end, line_of, place_at, position_at}
-use Rattle.rt_stamps.specs.Words.{Word}
-use Rattle.rt_text.specs.Index.{number_of, newline_of, place_in_line, place_of, at_dot}
+use Rattle.rt_stamps.specs.Places.{is_newline, newlines, after_newlines, line_start, line_end, line_of, position_at}
 use Rattle.rt_store.specs.declared.cell.Cell.{Cell}
-use Rattle.rt_store.specs.declared.cell.TheConstants.{FINAL_CELL}
-use Rattle.rt_store.specs.Cells.{EndsFinal, text_of, visible_of}
-
--- the last character is a newline
-abbrev pub EndsLine : List ℕ → Type 0
-EndsLine t = (front : List ℕ) × (t ≡ front ++ 10 ∷ [])
-
-front_of : (c : ℕ) (t : List ℕ) (gone : Bool) → EndsLine t → EndsLine (cond gone t (c ∷ t))
-front_of c t true h = h
-front_of c t false h = (c ∷ h.0, ap (λ s. c ∷ s) h.1)
-
-shown : (x : Cell) (xs : List Cell) (gone : Bool) → x.gone ≡ gone → text_of (x ∷ xs) ≡ cond gone (text_of xs) (x.ch ∷ text_of xs)
-shown x xs true e = rw e refl
-shown x xs false e = rw e refl
-
-last_tail : (x y : Cell) (xs : List Cell) → EndsFinal (x ∷ y ∷ xs) → EndsFinal (y ∷ xs)
-last_tail x y xs h = simp unary_clauses (simp unary_clauses at h)
-
--- the text of a store ends with a newline
-pub ends_text : (cells : List Cell) → EndsFinal cells → EndsLine (text_of cells)
-ends_text [] h = let bad : ⊥ = cc in absurd bad
-ends_text (x ∷ []) h = let e : x ≡ FINAL_CELL = cc in rw e ([], refl)
-ends_text (x ∷ y ∷ xs) h = subst EndsLine (sym (shown x (y ∷ xs) x.gone refl)) (front_of x.ch (text_of (y ∷ xs)) x.gone (ends_text (y ∷ xs) (last_tail x y xs h)))
+use Rattle.rt_store.specs.Cells.{text_of, visible_of}
+pub use Rattle.rt_text.specs.Proper.{EndsLine, ends_text, text_within}
 
 some_front : (front : List ℕ) → 1 ≤ newlines (front ++ 10 ∷ [])
 some_front [] = omega arith
@@ -85,15 +59,6 @@ newlines_within (c ∷ t) = within (is_newline c) (newlines t) (length t) (newli
     within true n m h = omega arith
     within false n m h = omega arith
 
--- visible cells are cells
-pub text_within : (cells : List Cell) → length (text_of cells) ≤ length cells
-text_within [] = omega arith
-text_within (x ∷ xs) = within x.gone (text_of xs) (text_within xs) (shown x xs x.gone refl)
-  where
-    within : (gone : Bool) (t : List ℕ) → length t ≤ length xs → text_of (x ∷ xs) ≡ cond gone t (x.ch ∷ t) → length (text_of (x ∷ xs)) ≤ suc (length xs)
-    within true t h e = omega (arith, ap length e)
-    within false t h e = omega (arith, ap length e)
-
 -- a front of a text has at most its newlines
 pub newlines_front : (t : List ℕ) (place : ℕ) → newlines (take place t) ≤ newlines t
 newlines_front t zero = omega arith
@@ -123,43 +88,3 @@ last_position t place line ends h e more =
     let less : newlines (take place t) + 1 - 1 ≡ newlines t = omega arith in
     let none : 0 ≡ place - after_newlines (newlines (take place t) + 1 - 1) t = rw (less, after_all t ends) (omega arith) in
     λ i. record { line = e i; character = none i }
-
-newline_within : (t : List ℕ) (line : ℕ) → newline_of t line ≤ length t
-newline_within t line = by_test (line == 0) (nat_le line (newlines t))
-  where
-    by_test : (b d : Bool) → cond b 0 (cond d (line_end t line) (length t)) ≤ length t
-    by_test true d = omega arith
-    by_test false true = omega (arith, after_within line t)
-    by_test false false = omega arith
-
-place_within : (t : List ℕ) (line c : ℕ) → place_at t (record { line = line; character = c }) ≤ length t
-place_within t line c = by_test (line == 0) (nat_le line (newlines t))
-  where
-    by_test : (b d : Bool) → cond b 0 (cond d (min (line_start t line + c) (line_end t line)) (length t)) ≤ length t
-    by_test true d = omega arith
-    by_test false true = omega (arith, after_within line t)
-    by_test false false = omega arith
-
--- an index names a place of the text, or its end
-pub index_within : (t : List ℕ) (word : Word) → IfSome (place_of t word) (λ place. place ≤ length t)
-index_within t word = by_test (bytes_eq word (codes "end"))
-  where
-    in_line : (after : Word) (line : ℕ) → IfSome (place_in_line t after line) (λ place. place ≤ length t)
-    in_line after line = by_end (bytes_eq after (codes "end")) (number_of after)
-      where
-        by_end : (b : Bool) (n : Option ℕ) → IfSome (cond b (Some (newline_of t line)) (option_map (λ c. place_at t (record { line = line; character = c })) n)) (λ place. place ≤ length t)
-        by_end true n = newline_within t line
-        by_end false None = tt
-        by_end false (Some c) = place_within t line c
-
-    at_line : (after : Word) (n : Option ℕ) → IfSome (option_and_then (place_in_line t after) n) (λ place. place ≤ length t)
-    at_line after None = tt
-    at_line after (Some line) = in_line after line
-
-    at_parts : (parts : Option (Word × Word)) → IfSome (option_and_then (λ parts. option_and_then (place_in_line t parts.1) (number_of parts.0)) parts) (λ place. place ≤ length t)
-    at_parts None = tt
-    at_parts (Some parts) = at_line parts.1 (number_of parts.0)
-
-    by_test : (b : Bool) → IfSome (cond b (Some (length t)) (option_and_then (λ parts. option_and_then (place_in_line t parts.1) (number_of parts.0)) (at_dot word))) (λ place. place ≤ length t)
-    by_test true = omega arith
-    by_test false = at_parts (at_dot word)

@@ -1,34 +1,50 @@
 -- Indices, ranges and texts, one more.
-use Rattle.std.proofs.Common.{◌≡◌, ℕ, ◌+◌, ◌-◌, ◌<◌, ◌≤◌, ◌⊎◌, inl, inr, List, [], ◌∷◌, true, false, length, drop, map, min, get_or, refl, sym, ◌∙◌, ap, subst, arith, Some, Ok, Option, String, Global, string_bytes}
-use Rattle.std.specs.Prelude.{IfSome, encode_utf8_all}
+use Rattle.std.proofs.Common.{◌≡◌, ℕ, ◌+◌, ◌-◌, ◌<◌, ◌≤◌, ◌⊎◌, inl, inr, List, [], ◌∷◌, cond, true, false, length, drop, map, min, get_or, refl, sym, ◌∙◌, ap, arith, Some, None, Ok, Option, String, Global, string_bytes}
+use Rattle.std.specs.Prelude.{encode_utf8_all, is_some, option_map, unwrap_or}
+use Rattle.std.specs.Result.{result_err, result_unwrap_or}
 use Rattle.std.proofs.lemmas.List.{drop_more, length-drop, length-take}
+use Rattle.rt_index.specs.Index.{index_of}
+use Rattle.rt_index.specs.Widget.{Widget}
 use Rattle.rt_stamps.specs.declared.fault.Fault.{Fault}
-use Rattle.rt_stamps.specs.declared.fault.Fault.TheVariants.{NoMemory}
+use Rattle.rt_stamps.specs.declared.fault.Fault.TheVariants.{NoMemory, BadOption}
 use Rattle.rt_stamps.specs.Outcomes.{first_of, unless, Refuses}
 use Rattle.rt_stamps.specs.Words.{Word}
 use Rattle.rt_text.specs.declared.range.Range.{Range}
+use Rattle.rt_text.specs.declared.comparison.Comparison.{Comparison}
 use Rattle.rt_text.specs.declared.distance.Measure.{Measure}
 use Rattle.rt_store.specs.Cells.{text_of}
 use Rattle.rt_text.specs.Flat.{Flat}
-use Rattle.rt_text.specs.Index.{place_of, index_check, place_at_index}
+use Rattle.rt_text.specs.Index.{index_check, place_at_index}
 use Rattle.rt_text.specs.Ranges.{ranges_of, text_between, has_characters, texts_of}
+use Rattle.rt_text.specs.Comparisons.{comparison_of, holds_of}
 use Rattle.rt_text.specs.Distances.{measures_of, distance_of, or_indices}
-use Rattle.rt_text.specs.Commands.{counted, got_list}
-use Rattle.rt_text.proofs.PlaceLaws.{index_within}
+use Rattle.rt_text.specs.Widgets.{Own, widget_of}
+use Rattle.rt_text.specs.Commands.{compared, counted, got_list}
 
 -- one index more
-pub places_more : (t : List ℕ) (words : List (String Global)) (i : ℕ) (word : String Global) (place : ℕ) → i < length words → word ≡ get_or words i word → place_of t (string_bytes word) ≡ Some place
-    → map (place_at_index t) (map (λ w. string_bytes w) (drop i words)) ≡ place ∷ map (place_at_index t) (map (λ w. string_bytes w) (drop (i + 1) words))
-places_more t words i word place h s e = rw (drop_more words i word h, ← s, e) refl
+pub places_more : (w : Widget) (words : List (String Global)) (i : ℕ) (word : String Global) (place : ℕ) → i < length words → word ≡ get_or words i word → index_of w (string_bytes word) ≡ Ok place
+    → map (place_at_index w) (map (λ w. string_bytes w) (drop i words)) ≡ place ∷ map (place_at_index w) (map (λ w. string_bytes w) (drop (i + 1) words))
+places_more w words i word place h s e =
+    let rest : List ℕ = map (place_at_index w) (map (λ w. string_bytes w) (drop (i + 1) words)) in
+    ap (λ l. map (place_at_index w) (map (λ w. string_bytes w) l)) (drop_more words i word h)
+    ∙ ap (λ (x : String Global). place_at_index w (string_bytes x) ∷ rest) (sym s) ∙ ap (λ r. result_unwrap_or r 0 ∷ rest) e
 
-pub checks_more : (t : List ℕ) (words : List (String Global)) (i : ℕ) (word : String Global) (place : ℕ) → i < length words → word ≡ get_or words i word → place_of t (string_bytes word) ≡ Some place
-    → first_of (map (index_check t) (map (λ w. string_bytes w) (drop i words))) ≡ first_of (map (index_check t) (map (λ w. string_bytes w) (drop (i + 1) words)))
-checks_more t words i word place h s e = rw (drop_more words i word h, ← s, e) refl
+pub checks_more : (w : Widget) (words : List (String Global)) (i : ℕ) (word : String Global) (place : ℕ) → i < length words → word ≡ get_or words i word → index_of w (string_bytes word) ≡ Ok place
+    → first_of (map (index_check w) (map (λ w. string_bytes w) (drop i words))) ≡ first_of (map (index_check w) (map (λ w. string_bytes w) (drop (i + 1) words)))
+checks_more w words i word place h s e =
+    let rest : List (Option Fault) = map (index_check w) (map (λ w. string_bytes w) (drop (i + 1) words)) in
+    ap (λ l. first_of (map (index_check w) (map (λ w. string_bytes w) l))) (drop_more words i word h)
+    ∙ ap (λ (x : String Global). first_of (index_check w (string_bytes x) ∷ rest)) (sym s) ∙ ap (λ r. first_of (result_err r ∷ rest)) e
 
-pub found_within : (t : List ℕ) (word : Word) (place : ℕ) → place_of t word ≡ Some place → place ≤ length t
-found_within t word place e =
-    let P : Option ℕ → Type 0 = λ r. IfSome r (λ place. place ≤ length t) in
-    subst P e (index_within t word)
+-- an index that is refused after others that were found
+pub checks_stop : (w : Widget) (words : List (String Global)) (i : ℕ) (word : String Global) (fault found : Fault) → i < length words → word ≡ get_or words i word → Refuses (index_of w (string_bytes word)) found → fault ≡ found
+    → first_of (map (index_check w) (map (λ w. string_bytes w) (drop i words))) ≡ first_of (map (index_check w) (map (λ w. string_bytes w) words))
+    → (fault ≡ NoMemory) ⊎ (first_of (map (index_check w) (map (λ w. string_bytes w) words)) ≡ Some fault)
+checks_stop w words i word fault found h s (inl e) f same = inl (f ∙ e)
+checks_stop w words i word fault found h s (inr e) f same =
+    let rest : List (Option Fault) = map (index_check w) (map (λ w. string_bytes w) (drop (i + 1) words)) in
+    inr (sym same ∙ ap (λ l. first_of (map (index_check w) (map (λ w. string_bytes w) l))) (drop_more words i word h)
+    ∙ ap (λ (x : String Global). first_of (index_check w (string_bytes x) ∷ rest)) (sym s) ∙ ap (λ r. first_of (result_err r ∷ rest)) e ∙ ap (λ x. Some x) (sym f))
 
 -- one range more
 pub length_between : (t : List ℕ) (from to : ℕ) → length (text_between t from to) ≡ min (to - from) (length t - from)
@@ -56,16 +72,30 @@ texts_none t ranges i d h k =
     let none : has_characters (text_between t r.from r.to) ≡ false = no_characters (text_between t r.from r.to) (omega (arith, length_between t r.from r.to)) in
     rw (drop_more ranges i d h, none) refl
 
--- what is counted, by the places
-pub counted_by : (flat : Flat) (switches : List Word) (from to : Word) (measures : List Measure) (start end : ℕ)
-    → measures_of switches ≡ Some measures → place_of (text_of flat.cells) from ≡ Some start → place_of (text_of flat.cells) to ≡ Some end
-    → counted flat switches from to ≡ Ok (map (distance_of (text_of flat.cells) start end) (or_indices measures))
-counted_by flat switches from to measures start end e f g = rw (e, f, g) refl
+-- what is counted, once the switches are read
+pub counted_by : (flat : Flat) (own : Own) (switches : List Word) (from to : Word) (measures : List Measure) → measures_of switches ≡ Some measures
+    → counted flat own switches from to
+    ≡ unless (first_of (index_check (widget_of flat own) from ∷ index_check (widget_of flat own) to ∷ []))
+    (map (distance_of (text_of flat.cells) (place_at_index (widget_of flat own) from) (place_at_index (widget_of flat own) to)) (or_indices measures))
+counted_by flat own switches from to measures e =
+    let w = widget_of flat own in
+    ap (λ (o : Option (List Measure)). unless (first_of (cond (is_some o) None (Some BadOption) ∷ index_check w from ∷ index_check w to ∷ []))
+    (map (distance_of (text_of flat.cells) (place_at_index w from) (place_at_index w to)) (or_indices (unwrap_or o [])))) e
+
+-- whether a comparison holds, once the operator is read
+pub compared_by : (flat : Flat) (own : Own) (first operator second : Word) (comparison : Comparison) → comparison_of operator ≡ Some comparison
+    → compared flat own first operator second
+    ≡ unless (first_of (index_check (widget_of flat own) first ∷ index_check (widget_of flat own) second ∷ []))
+    (holds_of comparison (place_at_index (widget_of flat own) first) (place_at_index (widget_of flat own) second))
+compared_by flat own first operator second comparison e =
+    let w = widget_of flat own in
+    ap (λ (o : Option Comparison). unless (first_of (cond (is_some o) None (Some BadOption) ∷ index_check w first ∷ index_check w second ∷ []))
+    (unwrap_or (option_map (λ c. holds_of c (place_at_index w first) (place_at_index w second)) o) false)) e
 
 -- what a fault of the indices makes
-pub list_refused : (flat : Flat) (indices : List Word) (fault found : Fault) → (found ≡ NoMemory) ⊎ (first_of (map (index_check (text_of flat.cells)) indices) ≡ Some found) → fault ≡ found
-    → Refuses (got_list flat indices) fault
-list_refused flat indices fault found (inl e) f = inl (f ∙ e)
-list_refused flat indices fault found (inr e) f =
-    let text = text_of flat.cells in
-    inr (ap (λ r. unless r (texts_of text (ranges_of (map (place_at_index text) indices)))) (e ∙ ap (λ x. Some x) (sym f)))
+pub list_refused : (flat : Flat) (own : Own) (indices : List Word) (fault found : Fault) → (found ≡ NoMemory) ⊎ (first_of (map (index_check (widget_of flat own)) indices) ≡ Some found) → fault ≡ found
+    → Refuses (got_list flat own indices) fault
+list_refused flat own indices fault found (inl e) f = inl (f ∙ e)
+list_refused flat own indices fault found (inr e) f =
+    let w = widget_of flat own in
+    inr (ap (λ r. unless r (texts_of (text_of flat.cells) (ranges_of (map (place_at_index w) indices)))) (e ∙ ap (λ x. Some x) (sym f)))

@@ -1,7 +1,8 @@
 -- Stamps at the places of ranges, one range more.
-use Rattle.std.proofs.Common.{◌≡◌, ℕ, zero, suc, ◌+◌, ◌-◌, ◌<◌, ◌≤◌, List, [], ◌∷◌, ◌++◌, Bool, true, false, cond, not, ◌||◌, length, take, drop, get_or, refl, sym, ◌∙◌, ap, subst, arith, add-zero}
+use Rattle.std.proofs.Common.{◌≡◌, ℕ, zero, suc, ◌+◌, ◌-◌, ◌<◌, ◌≤◌, All, List, [], ◌∷◌, ◌++◌, Bool, true, false, cond, not, ◌||◌, length, take, drop, get_or, refl, sym, ◌∙◌, ap, subst, arith, add-zero}
 use Rattle.std.specs.Prelude.{slice_get, nat_le, nat_lt, Some}
 use Rattle.std.proofs.lemmas.Bool.{or_from, or_left, and_left, and_right, and_from, cond-true, cond-false, lt-leb, le-leb, lt-ltb, le-ltb}
+use Rattle.std.proofs.lemmas.List.Elements.{All-head, All-tail}
 use Rattle.std.proofs.lemmas.List.{drop_more, take_more, get_or-drop, length-drop, drop-drop}
 use Rattle.std.proofs.lemmas.Option.{get_or_from_slice_get}
 use Rattle.rt_stamps.specs.declared.stamp.Stamp.{Stamp}
@@ -57,15 +58,22 @@ order_weaker p q (range ∷ ranges) h k = (omega (arith, k.0), k.1, k.2)
 in_before : (range : Range) (q : ℕ) → q < range.from → is_in range q ≡ false
 in_before range q h = and_left (nat_le range.from q) _ (lt-leb range.from q h)
 
-in_after : (range : Range) (q : ℕ) → range.to ≤ q → is_in range q ≡ false
+pub in_after : (range : Range) (q : ℕ) → range.to ≤ q → is_in range q ≡ false
 in_after range q h = and_right _ (nat_lt q range.to) (le-ltb q range.to h)
 
 in_within : (range : Range) (q : ℕ) → range.from ≤ q → q < range.to → is_in range q ≡ true
 in_within range q h k = and_from (nat_le range.from q) (nat_lt q range.to) (le-leb range.from q h) (lt-ltb q range.to k)
 
-before_all : (p : ℕ) (ranges : List Range) (q : ℕ) → AreInOrder p ranges → q < p → is_covered ranges q ≡ false
+pub before_all : (p : ℕ) (ranges : List Range) (q : ℕ) → AreInOrder p ranges → q < p → is_covered ranges q ≡ false
 before_all p [] q h k = refl
 before_all p (range ∷ ranges) q h k = or_from (is_in range q) _ (in_before range q (omega (arith, h.0))) (before_all range.to ranges q h.2 (omega (arith, h.0, h.1)))
+
+-- ranges that end before a place don't reach one that isn't before it by more than one
+pub uncovered_from : (ranges : List Range) (n q : ℕ) → All (λ range. range.to < n) ranges → n ≤ q + 1 → is_covered ranges q ≡ false
+uncovered_from [] n q h k = refl
+uncovered_from (range ∷ ranges) n q h k =
+    let first : range.to < n = All-head (λ (r : Range). r.to < n) range ranges h in
+    or_from (is_in range q) _ (in_after range q (omega arith)) (uncovered_from ranges n q (All-tail (λ (r : Range). r.to < n) range ranges h) k)
 
 -- the first of the ranges, and the others
 range_picked : (range : Range) (ranges : List Range) (cs : List Cell) → AreInOrder 0 (range ∷ ranges)

@@ -1,6 +1,8 @@
 -- The commands on a text.
 use Rattle.std.specs.Prelude.{ℕ, ◌+◌, ◌-◌, ℤ, List, [], ◌∷◌, ◌++◌, length, map, min, nat_lt, Bool, false, Option, Some, None, is_some, option_map, Result, if◌then◌else◌, unwrap_or, encode_utf8_all}
 use Rattle.std.specs.Str.{chars}
+use Rattle.rt_index.specs.Widget.{Widget}
+use Rattle.rt_marks.specs.Marks.{marks_left}
 use Rattle.rt_stamps.specs.declared.limits.TheConstants.{GREATEST_COUNT}
 use Rattle.rt_stamps.specs.declared.fault.Fault.{Fault}
 use Rattle.rt_stamps.specs.declared.fault.Fault.TheVariants.{BadOption, ClockSpent, TextFull}
@@ -15,6 +17,7 @@ use Rattle.rt_text.specs.Distances.{measures_of, or_indices, distance_of}
 use Rattle.rt_text.specs.Index.{index_check, place_at_index}
 use Rattle.rt_text.specs.Ranges.{text_between, texts_of, ranges_of}
 use Rattle.rt_text.specs.Removals.{is_removed, gone_at, stamps_at, span_count, operations_for}
+use Rattle.rt_text.specs.Widgets.{Own, widget_of, own_inserted, own_left}
 
 -- CHECKS
 
@@ -37,63 +40,73 @@ cell_check limit cells new = if nat_lt limit (cells + new) then Some TextFull el
 -- PLACES
 
 -- an insertion at the end stands before the last newline
-abbrev pub insertion_place : List ℕ → Word → ℕ
-insertion_place text word = min (place_at_index text word) (length text - 1)
+abbrev pub insertion_place : Widget → Word → ℕ
+insertion_place w word = min (place_at_index w word) (length w.text - 1)
 
--- COMMANDS, each what it gives or why it is refused
+-- the document without the characters at some places: their cells are gone, with the counts that this takes, and the marks move
+-- for that
+abbrev pub without_places : Flat → (ℕ → Bool) → Flat
+without_places flat removed = record flat {
+  cells = gone_at removed 0 flat.cells;
+  count = flat.count + operations_for (span_count (stamps_at removed 0 flat.cells));
+  marks = marks_left removed flat.marks;
+}
 
--- insert INDEX CHARS: the document with the characters before the one at the index
-abbrev pub inserted : Flat → Word → Word → Result Flat Fault
-inserted flat index new =
-    let text = text_of flat.cells in
-    unless (first_of (index_check text index ∷ count_check flat.count (length (chars new)) ∷ cell_check flat.limit (length flat.cells) (length (chars new)) ∷ []))
-    (with_text flat (insertion_place text index) (chars new))
+-- COMMANDS on a widget, each what it gives or why it is refused
 
--- delete INDEX ?INDEX ...?: the document without the characters in the ranges that the indices name in pairs
-abbrev pub deleted : Flat → List Word → Result Flat Fault
-deleted flat indices =
-    let text = text_of flat.cells in
-    let removed = is_removed text (ranges_of (map (place_at_index text) indices)) in
+-- insert INDEX CHARS: the document with the characters before the one at the index, and all marks moved for them
+abbrev pub inserted : Flat → Own → Word → Word → Result (Flat × Own) Fault
+inserted flat own index new =
+    let w = widget_of flat own in
+    let place = insertion_place w index in
+    unless (first_of (index_check w index ∷ count_check flat.count (length (chars new)) ∷ cell_check flat.limit (length flat.cells) (length (chars new)) ∷ []))
+    (with_text flat place (chars new), own_inserted place (length (chars new)) own)
+
+-- delete INDEX ?INDEX ...?: the document without the characters in the ranges that the indices name in pairs, and all marks
+-- moved for that
+abbrev pub deleted : Flat → Own → List Word → Result (Flat × Own) Fault
+deleted flat own indices =
+    let w = widget_of flat own in
+    let removed = is_removed (text_of flat.cells) (ranges_of (map (place_at_index w) indices)) in
     let operations = operations_for (span_count (stamps_at removed 0 flat.cells)) in
-    unless (first_of (map (index_check text) indices ++ count_check flat.count operations ∷ []))
-    (record flat { cells = gone_at removed 0 flat.cells; count = flat.count + operations })
+    unless (first_of (map (index_check w) indices ++ count_check flat.count operations ∷ [])) (without_places flat removed, own_left removed own)
 
 -- get INDEX: the character at the index, none at the text's end
-abbrev pub got_one : Flat → Word → Result Word Fault
-got_one flat index =
-    let text = text_of flat.cells in
-    let place = place_at_index text index in
-    unless (index_check text index) (encode_utf8_all (text_between text place (place + 1)))
+abbrev pub got_one : Flat → Own → Word → Result Word Fault
+got_one flat own index =
+    let w = widget_of flat own in
+    let place = place_at_index w index in
+    unless (index_check w index) (encode_utf8_all (text_between (text_of flat.cells) place (place + 1)))
 
 -- get INDEX INDEX: the characters from the first index up to before the second
-abbrev pub got : Flat → Word → Word → Result Word Fault
-got flat from to =
-    let text = text_of flat.cells in
-    unless (first_of (index_check text from ∷ index_check text to ∷ []))
-    (encode_utf8_all (text_between text (place_at_index text from) (place_at_index text to)))
+abbrev pub got : Flat → Own → Word → Word → Result Word Fault
+got flat own from to =
+    let w = widget_of flat own in
+    unless (first_of (index_check w from ∷ index_check w to ∷ []))
+    (encode_utf8_all (text_between (text_of flat.cells) (place_at_index w from) (place_at_index w to)))
 
 -- index INDEX: the position of the index
-abbrev pub position_of_index : Flat → Word → Result Position Fault
-position_of_index flat index =
-    let text = text_of flat.cells in
-    unless (index_check text index) (position_at text (place_at_index text index))
+abbrev pub position_of_index : Flat → Own → Word → Result Position Fault
+position_of_index flat own index =
+    let w = widget_of flat own in
+    unless (index_check w index) (position_at (text_of flat.cells) (place_at_index w index))
 
 -- get INDEX INDEX INDEX ...: of the ranges that the indices name in pairs, the texts that aren't empty, in the order given
-abbrev pub got_list : Flat → List Word → Result (List Word) Fault
-got_list flat indices =
-    let text = text_of flat.cells in
-    unless (first_of (map (index_check text) indices)) (texts_of text (ranges_of (map (place_at_index text) indices)))
+abbrev pub got_list : Flat → Own → List Word → Result (List Word) Fault
+got_list flat own indices =
+    let w = widget_of flat own in
+    unless (first_of (map (index_check w) indices)) (texts_of (text_of flat.cells) (ranges_of (map (place_at_index w) indices)))
 
 -- compare INDEX OPERATOR INDEX: whether the comparison holds
-abbrev pub compared : Flat → Word → Word → Word → Result Bool Fault
-compared flat first operator second =
-    let text = text_of flat.cells in
-    unless (first_of (operator_check operator ∷ index_check text first ∷ index_check text second ∷ []))
-    (unwrap_or (option_map (λ comparison. holds_of comparison (place_at_index text first) (place_at_index text second)) (comparison_of operator)) false)
+abbrev pub compared : Flat → Own → Word → Word → Word → Result Bool Fault
+compared flat own first operator second =
+    let w = widget_of flat own in
+    unless (first_of (operator_check operator ∷ index_check w first ∷ index_check w second ∷ []))
+    (unwrap_or (option_map (λ comparison. holds_of comparison (place_at_index w first) (place_at_index w second)) (comparison_of operator)) false)
 
 -- count SWITCHES INDEX INDEX: the distances from the first index to the second that the switches ask for, in turn
-abbrev pub counted : Flat → List Word → Word → Word → Result (List ℤ) Fault
-counted flat switches from to =
-    let text = text_of flat.cells in
-    unless (first_of (switch_check switches ∷ index_check text from ∷ index_check text to ∷ []))
-    (map (distance_of text (place_at_index text from) (place_at_index text to)) (or_indices (unwrap_or (measures_of switches) [])))
+abbrev pub counted : Flat → Own → List Word → Word → Word → Result (List ℤ) Fault
+counted flat own switches from to =
+    let w = widget_of flat own in
+    unless (first_of (switch_check switches ∷ index_check w from ∷ index_check w to ∷ []))
+    (map (distance_of (text_of flat.cells) (place_at_index w from) (place_at_index w to)) (or_indices (unwrap_or (measures_of switches) [])))

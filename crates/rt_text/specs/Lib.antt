@@ -5,9 +5,11 @@ pub mod Flat
 pub mod Index
 pub mod Known
 pub mod Merging
+pub mod Proper
 pub mod Ranges
 pub mod Removals
 pub mod Spans
+pub mod Widgets
 pub use Rattle.rt_stamps.specs.Outcomes
 pub use Rattle.rt_stamps.specs.Places
 pub use Rattle.rt_stamps.specs.Words

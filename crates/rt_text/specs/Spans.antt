@@ -1,5 +1,5 @@
 -- Stamps in spans, and the cells of spans.
-use Rattle.std.specs.Prelude.{◌+◌, ◌==◌, ◌&&◌, ◌||◌, nat_lt, Bool, true, List, length, map, if◌then◌else◌}
+use Rattle.std.specs.Prelude.{◌+◌, ◌==◌, ◌&&◌, ◌||◌, nat_lt, Bool, true, List, if◌then◌else◌}
 use Rattle.std.specs.List.{list_any}
 use Rattle.rt_stamps.specs.declared.stamp.Span.{Span}
 use Rattle.rt_stamps.specs.declared.stamp.Stamp.{Stamp}
@@ -7,8 +7,6 @@ pub use Rattle.rt_stamps.specs.Spans.{each_next, is_span, is_clear_of}
 use Rattle.rt_stamps.specs.Stamps.{is_same}
 use Rattle.rt_store.specs.declared.cell.Cell.{Cell}
 use Rattle.rt_store.specs.Cells.{is_in_span}
-use Rattle.rt_text.specs.Flat.{Flat}
-use Rattle.rt_text.specs.Removals.{operations_for}
 
 -- by site, and at one site by count
 abbrev pub precedes : Stamp → Stamp → Bool
@@ -33,7 +31,3 @@ is_among stamps stamp = list_any (λ other. is_same other stamp) stamps
 -- a cell with a stamp in one of the spans is gone, another is as it was
 abbrev pub gone_in_any : List Span → Cell → Cell
 gone_in_any spans cell = if is_in_spans spans cell.stamp then record cell { gone = true } else cell
-
--- a document without the cells in spans, with the counts that this takes
-abbrev pub without_spans : Flat → List Span → Flat
-without_spans flat spans = record flat { cells = map (gone_in_any spans) flat.cells; count = flat.count + operations_for (length spans) }

@@ -7,6 +7,7 @@ ghost use Rattle.rt_text.specs.Index.{index_check, place_at_index};
 ghost use Rattle.rt_text.specs.Ranges.{text_between, ranges_of, texts_of};
 
 use crate::index::place_of;
+use rt_index::Ground;
 use rt_stamps::Fault;
 use rt_store::TextStore;
 use std::alloc::Global;
@@ -19,23 +20,15 @@ pub struct Range {
 }
 
 // The places of indices.
-fn places_of<S: TextStore>(
-    alloc: Global,
-    store: &S,
-    indices: &[String],
-) -> Result<Vec<usize>, Fault>
-    requires { length (S.list store.now) ≤ MOST_CELLS }
-    ensures ok { IfOk result (λ places. places.items ≡ map (place_at_index (text_of (S.list store.now))) (map (λ w. string_bytes w) indices.now)) }
-    ensures checked { IfOk result (λ places. first_of (map (index_check (text_of (S.list store.now))) (map (λ w. string_bytes w) indices.now)) ≡ None) }
-    ensures within { IfOk result (λ places. All (λ place. place ≤ length (text_of (S.list store.now))) places.items) }
-    ensures err { IfErr result (λ fault. (fault ≡ Fault.NoMemory) ⊎ (first_of (map (index_check (text_of (S.list store.now))) (map (λ w. string_bytes w) indices.now)) ≡ Some fault)) }
+fn places_of<G: Ground>(alloc: Global, ground: &G, indices: &[String]) -> Result<Vec<usize>, Fault>
+    ensures ok { IfOk result (λ places. places.items ≡ map (place_at_index (G.widget ground.now)) (map (λ w. string_bytes w) indices.now)) }
+    ensures checked { IfOk result (λ places. first_of (map (index_check (G.widget ground.now)) (map (λ w. string_bytes w) indices.now)) ≡ None) }
+    ensures within { IfOk result (λ places. All (λ place. place ≤ length (G.widget ground.now).text) places.items) }
+    ensures err { IfErr result (λ fault. (fault ≡ Fault.NoMemory) ⊎ (first_of (map (index_check (G.widget ground.now)) (map (λ w. string_bytes w) indices.now)) ≡ Some fault)) }
 {
     let mut places = Vec::new(alloc);
     for index in indices {
-        let Some(place) = place_of(store, index) else {
-            return Err(Fault::BadIndex);
-        };
-        places.push(place)?;
+        places.push(place_of(alloc, ground, index)?)?;
     }
     Ok(places)
 }
@@ -65,17 +58,16 @@ fn ranges_of(alloc: Global, places: &[usize]) -> Result<Vec<Range>, Fault>
 }
 
 /// The ranges of indices in pairs.
-pub(crate) fn ranges_at<S: TextStore>(
+pub(crate) fn ranges_at<G: Ground>(
     alloc: Global,
-    store: &S,
+    ground: &G,
     indices: &[String],
 ) -> Result<Vec<Range>, Fault>
-    requires { length (S.list store.now) ≤ MOST_CELLS }
-    ensures ok { IfOk result (λ ranges. ranges.items ≡ ranges_of (map (place_at_index (text_of (S.list store.now))) (map (λ w. string_bytes w) indices.now))) }
-    ensures checked { IfOk result (λ ranges. first_of (map (index_check (text_of (S.list store.now))) (map (λ w. string_bytes w) indices.now)) ≡ None) }
-    ensures err { IfErr result (λ fault. (fault ≡ Fault.NoMemory) ⊎ (first_of (map (index_check (text_of (S.list store.now))) (map (λ w. string_bytes w) indices.now)) ≡ Some fault)) }
+    ensures ok { IfOk result (λ ranges. ranges.items ≡ ranges_of (map (place_at_index (G.widget ground.now)) (map (λ w. string_bytes w) indices.now))) }
+    ensures checked { IfOk result (λ ranges. first_of (map (index_check (G.widget ground.now)) (map (λ w. string_bytes w) indices.now)) ≡ None) }
+    ensures err { IfErr result (λ fault. (fault ≡ Fault.NoMemory) ⊎ (first_of (map (index_check (G.widget ground.now)) (map (λ w. string_bytes w) indices.now)) ≡ Some fault)) }
 {
-    let places = places_of(alloc, store, indices)?;
+    let places = places_of(alloc, ground, indices)?;
     ranges_of(alloc, &places)
 }
 

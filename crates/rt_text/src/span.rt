@@ -1,5 +1,5 @@
 // Spans of removed stamps.
-ghost use Rattle.std.specs.Prelude.{◌≡◌, ◌+◌, ◌*◌, ◌≤◌, ◌++◌, All, IfOk, IfErr, OnOk, true, false, map, take, drop, ◌-◌, length, IsPermutation};
+ghost use Rattle.std.specs.Prelude.{◌≡◌, ◌+◌, ◌*◌, ◌<◌, ◌≤◌, ◌++◌, All, IfOk, IfErr, OnOk, true, false, map, take, drop, ◌-◌, length, IsPermutation};
 ghost use Rattle.std.specs.List.{list_all, IsDistinct};
 ghost use Rattle.rt_stamps.specs.declared.limits.TheConstants.{MOST_CELLS};
 ghost use Rattle.rt_stamps.specs.declared.stamp.Stamp.{Stamp};
@@ -7,11 +7,10 @@ ghost use Rattle.rt_stamps.specs.declared.stamp.TheConstants.{FINAL};
 ghost use Rattle.rt_stamps.specs.Stamps.{is_same};
 ghost use Rattle.rt_store.specs.Cells.{visible_of, text_of, HasRoom};
 ghost use Rattle.rt_text.specs.Known.{AreDistinct};
-ghost use Rattle.rt_text.specs.Removals.{is_covered, is_removed, stamps_at, gone_at, span_count, operations_for, AreInOrder};
+ghost use Rattle.rt_text.specs.Removals.{is_covered, stamps_at, gone_at, span_count, operations_for, AreInOrder};
 ghost use Rattle.rt_text.specs.Spans.{each_next, is_span, is_clear_of, precedes, next_stamp, last_stamp, is_in_spans, is_among, gone_in_any};
 
 use crate::Range;
-use crate::removal::removed_ranges;
 use rt_stamps::limits::MOST_SPANS;
 use rt_stamps::{Fault, Span, Stamp};
 use rt_store::TextStore;
@@ -116,23 +115,24 @@ pub(crate) fn spans_of(alloc: Global, stamps: Vec<Stamp>) -> Result<Vec<Span>, F
     runs_of(alloc, &sorted)
 }
 
-/// The spans of the stamps at the places that a removal of ranges takes. Want of memory.
+/// The spans of the stamps in ranges that end before the last newline. Want of memory.
 pub(crate) fn removed_spans<S: TextStore>(
     alloc: Global,
     store: &S,
-    ranges: &[Range],
+    removed: &[Range],
 ) -> Result<Vec<Span>, Fault>
-    requires { AreDistinct (S.list store.now) }
-    ensures gone { IfOk result (λ spans. map (gone_in_any spans.items) (S.list store.now) ≡ gone_at (is_removed (text_of (S.list store.now)) ranges.now) 0 (S.list store.now)) }
-    ensures count { IfOk result (λ spans. length spans.items ≡ span_count (stamps_at (is_removed (text_of (S.list store.now)) ranges.now) 0 (S.list store.now))) }
+    requires distinct { AreDistinct (S.list store.now) }
+    requires order { AreInOrder 0 removed.now }
+    requires within { All (λ range. range.to < length (text_of (S.list store.now))) removed.now }
+    ensures gone { IfOk result (λ spans. map (gone_in_any spans.items) (S.list store.now) ≡ gone_at (is_covered removed.now) 0 (S.list store.now)) }
+    ensures count { IfOk result (λ spans. length spans.items ≡ span_count (stamps_at (is_covered removed.now) 0 (S.list store.now))) }
     ensures few { IfOk result (λ spans. length spans.items ≤ length (S.list store.now)) }
     ensures forward { IfOk result (λ spans. list_all is_span spans.items ≡ true) }
     ensures clear { IfOk result (λ spans. each_next is_clear_of spans.items ≡ true) }
     ensures stays { IfOk result (λ spans. is_in_spans spans.items FINAL ≡ false) }
     ensures err { IfErr result (λ fault. fault ≡ Fault.NoMemory) }
 {
-    let removed = removed_ranges(alloc, store, ranges)?;
-    let stamps = stamps_in(alloc, store, &removed)?;
+    let stamps = stamps_in(alloc, store, removed)?;
     spans_of(alloc, stamps)
 }
 

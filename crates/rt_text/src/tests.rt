@@ -2,42 +2,143 @@ ghost use Rattle.std.specs.Prelude.{◌≡◌};
 
 use crate::insertion::cells_of;
 use crate::removal::removed_ranges;
-use crate::{Doc, Range};
+use crate::{Doc, OwnMark, Range, Widget};
+use rt_marks::Gravity;
 use rt_stamps::limits::GREATEST_COUNT;
-use rt_stamps::{Clock, Fault, Site};
+use rt_stamps::{Clock, Fault, Position, Site};
 use rt_store::{ListStore, TextStore};
 use std::alloc::Global;
+use std::marker::Model;
 use std::process::Abort;
 use std::test::Fail;
+
+/// A document and the widget that shows it. Its calls have no clauses.
+#[derive(Drop)]
+struct Page {
+    doc: Doc<ListStore>,
+    widget: Widget,
+}
+
+impl Model for Page {
+    ghost use Rattle.std.specs.Prelude.{ℕ, length};
+    ghost use Rattle.rt_store.specs.Cells.{text_of};
+    ghost use Rattle.rt_text.specs.Widgets.{IsOwnOf};
+
+    ghost Value = { ℕ };
+
+    ghost view = { λ _. 0 };
+
+    ghost invariant = { λ p. IsOwnOf (length (text_of p.doc.cells)) p.widget };
+}
+
+impl Page {
+    fn new(alloc: Global, clock: Clock) -> Result<Page, Fail> {
+        let site = Site::new(1).ok_or("a site")?;
+        let store = ListStore::new(alloc)?;
+        let doc = Doc::with_clock(alloc, store, site, 1000, clock)?;
+        let widget = Widget::new();
+        Ok(Page { doc, widget })
+    }
+
+    fn insert(&mut self, index: &str, new: &str) -> Result<(), Fault> {
+        self.doc.insert(&mut self.widget, index, new)
+    }
+
+    fn delete(&mut self, indices: &[String]) -> Result<(), Fault> {
+        self.doc.delete(&mut self.widget, indices)
+    }
+
+    fn get(&self, from: &str, to: &str) -> Result<String, Fault> {
+        self.doc.get(&self.widget, from, to)
+    }
+
+    fn get_one(&self, index: &str) -> Result<String, Fault> {
+        self.doc.get_one(&self.widget, index)
+    }
+
+    fn get_list(&self, indices: &[String]) -> Result<Vec<String>, Fault> {
+        self.doc.get_list(&self.widget, indices)
+    }
+
+    fn count(&self, switches: &[String], from: &str, to: &str) -> Result<Vec<i64>, Fault> {
+        self.doc.count(&self.widget, switches, from, to)
+    }
+
+    fn compare(&self, first: &str, operator: &str, second: &str) -> Result<bool, Fault> {
+        self.doc.compare(&self.widget, first, operator, second)
+    }
+
+    fn index(&self, index: &str) -> Result<Position, Fault> {
+        self.doc.index(&self.widget, index)
+    }
+
+    fn set(&mut self, name: &str, index: &str) -> Result<(), Fault> {
+        let place = self.doc.place(&self.widget, index)?;
+        let last = self.doc.visible() - 1;
+        match OwnMark::of(name) {
+            Some(OwnMark::Insert) => self.widget.set(OwnMark::Insert, place.min(last)),
+            Some(OwnMark::Current) => self.widget.set(OwnMark::Current, place),
+            None => self.doc.set_mark(name, place)?,
+        }
+        Ok(())
+    }
+
+    fn set_gravity(&mut self, name: &str, gravity: Gravity) -> Result<(), Fault> {
+        match OwnMark::of(name) {
+            Some(which) => self.widget.set_gravity(which, gravity),
+            None => self.doc.set_mark_gravity(name, gravity)?,
+        }
+        Ok(())
+    }
+
+    fn unset(&mut self, name: &str) {
+        self.doc.unset_mark(name);
+    }
+
+    fn next(&self, name: &str) -> Option<&str> {
+        self.doc.marks().next(name)
+    }
+
+    fn gravity(&self, which: OwnMark) -> Gravity {
+        self.widget.gravity(which)
+    }
+}
+
+fn at(line: usize, character: usize) -> Result<Position, Fault> {
+    Ok(Position { line, character })
+}
+
+fn words(alloc: Global, words: &[&str]) -> Result<Vec<String>, Fail> {
+    let mut all = Vec::new(alloc);
+    for word in words {
+        all.push(String::from_str(alloc, word)?)?;
+    }
+    Ok(all)
+}
 
 #[test]
 fn lists_and_counts(rt: HostRuntime) -> Result<(), Fail> {
     let alloc = rt.alloc();
-    let site = Site::new(1).ok_or("a site")?;
-    let store = ListStore::new(alloc)?;
-    let mut doc = Doc::new(alloc, store, site, 100)?;
-    doc.insert("1.0", "hello")?;
-    let mut indices = Vec::new(alloc);
-    for index in ["1.0", "1.1", "1.1", "1.0", "1.4"] {
-        indices.push(String::from_str(alloc, index)?)?;
-    }
-    let texts = doc.get_list(&indices)?;
+    let mut page = Page::new(alloc, Clock::new())?;
+    page.insert("1.0", "hello")?;
+    let indices = words(alloc, &["1.0", "1.1", "1.1", "1.0", "1.4"])?;
+    let texts = page.get_list(&indices)?;
     assert_eq!(rt; texts.len(), 2);
     assert_eq!(rt; texts[0].as_str(), "h");
     assert_eq!(rt; texts[1].as_str(), "o");
-    let mut switches = Vec::new(alloc);
+    assert_eq!(rt; page.get_one("1.0 + 1 c")?.as_str(), "e");
+    let none = words(alloc, &[])?;
     assert_eq!(rt;
-        doc.count(&switches, "end", "1.0")?.as_slice(),
+        page.count(&none, "end", "1.0")?.as_slice(),
         [-6].as_slice()
     );
-    for switch in ["-lines", "-chars"] {
-        switches.push(String::from_str(alloc, switch)?)?;
-    }
+    let both = words(alloc, &["-lines", "-chars"])?;
     assert_eq!(rt;
-        doc.count(&switches, "1.0", "end")?.as_slice(),
+        page.count(&both, "1.0", "end")?.as_slice(),
         [1, 6].as_slice()
     );
-    assert_eq!(rt; doc.compare("1.0", "<", "end"), Ok(true));
+    assert_eq!(rt; page.compare("1.0", "<", "end"), Ok(true));
+    assert_eq!(rt; page.compare("insert", "==", "1.end"), Ok(true));
     Ok(())
 }
 
@@ -114,32 +215,137 @@ fn leaves_no_empty_line(rt: HostRuntime) -> Result<(), Fail> {
     removes(&rt, alloc, "a\nbc", &first, &[range(0, 1), range(1, 4)])
 }
 
-fn indices_of(alloc: Global, words: &[&str]) -> Result<Vec<String>, Fail> {
-    let mut indices = Vec::new(alloc);
-    for word in words {
-        indices.push(String::from_str(alloc, word)?)?;
-    }
-    Ok(indices)
-}
-
 #[test]
 fn deletes_with_the_last_count(rt: HostRuntime) -> Result<(), Fail> {
     let alloc = rt.alloc();
-    let site = Site::new(1).ok_or("a site")?;
     let mut clock = Clock::new();
     clock.saw(GREATEST_COUNT - 6);
-    let store = ListStore::new(alloc)?;
-    let mut doc = Doc::with_clock(alloc, store, site, 100, clock)?;
-    doc.insert("1.0", "hello")?;
-    let nothing = indices_of(alloc, &["1.2", "1.2"])?;
-    assert_eq!(rt; doc.delete(&nothing), Ok(()));
-    let two = indices_of(alloc, &["1.0", "1.1", "1.3", "1.4"])?;
-    assert_eq!(rt; doc.delete(&two), Ok(()));
-    assert_eq!(rt; doc.get("1.0", "end")?.as_str(), "elo\n");
-    assert_eq!(rt; doc.delete(&two), Err(Fault::ClockSpent));
-    assert_eq!(rt; doc.get("1.0", "end")?.as_str(), "elo\n");
-    assert_eq!(rt; doc.delete(&nothing), Ok(()));
-    let unread = indices_of(alloc, &["1.0", "one"])?;
-    assert_eq!(rt; doc.delete(&unread), Err(Fault::BadIndex));
+    let mut page = Page::new(alloc, clock)?;
+    page.insert("1.0", "hello")?;
+    let nothing = words(alloc, &["1.2", "1.2"])?;
+    assert_eq!(rt; page.delete(&nothing), Ok(()));
+    let two = words(alloc, &["1.0", "1.1", "1.3", "1.4"])?;
+    assert_eq!(rt; page.delete(&two), Ok(()));
+    assert_eq!(rt; page.get("1.0", "end")?.as_str(), "elo\n");
+    assert_eq!(rt; page.delete(&two), Err(Fault::ClockSpent));
+    assert_eq!(rt; page.get("1.0", "end")?.as_str(), "elo\n");
+    assert_eq!(rt; page.delete(&nothing), Ok(()));
+    let unread = words(alloc, &["1.0", "one"])?;
+    assert_eq!(rt; page.delete(&unread), Err(Fault::BadIndex));
+    Ok(())
+}
+
+/// Index expressions on the text `hi`, and their places.
+const EXPRESSIONS: [(&str, usize, usize); 11] = [
+    ("1.0 -1c +1c", 1, 1),
+    ("9.9", 2, 0),
+    ("1.99", 1, 2),
+    ("1.0 + 5 lines", 1, 0),
+    ("end - 1 lines", 1, 0),
+    ("end linestart", 2, 0),
+    ("1.0 wordend", 1, 2),
+    ("1.2 wordend", 1, 2),
+    ("end-1c", 1, 2),
+    ("insert wordstart - 1 c", 1, 1),
+    ("current lineend", 1, 2),
+];
+
+#[test]
+fn expressions_in_commands(rt: HostRuntime) -> Result<(), Fail> {
+    let mut page = Page::new(rt.alloc(), Clock::new())?;
+    assert_eq!(rt; page.index("end"), at(2, 0));
+    assert_eq!(rt; page.index("end-1c"), at(1, 0));
+    page.insert("1.0", "hi")?;
+    for (index, line, character) in EXPRESSIONS {
+        assert_eq!(rt; page.index(index), at(line, character), "at {index}");
+    }
+    assert_eq!(rt; page.index("x.first"), Err(Fault::BadIndex));
+    assert_eq!(rt; page.index("sel.first"), Err(Fault::NoneTagged));
+    assert_eq!(rt; page.compare("sel.first", "<", "x"), Err(Fault::NoneTagged));
+    assert_eq!(rt; page.compare("sel.first", "is", "x"), Err(Fault::BadOption));
+    page.insert("insert lineend", "!")?;
+    let last = words(rt.alloc(), &["end - 2 chars"])?;
+    page.delete(&last)?;
+    assert_eq!(rt; page.get("1.0", "1.0 lineend")?.as_str(), "hi");
+    Ok(())
+}
+
+// Of two marks where text is inserted the left one stays, and `insert` moves on with it.
+#[test]
+fn marks_move_for_text(rt: HostRuntime) -> Result<(), Fail> {
+    let mut page = Page::new(rt.alloc(), Clock::new())?;
+    page.insert("1.0", "ab")?;
+    page.set("l", "1.1")?;
+    page.set_gravity("l", Gravity::Left)?;
+    page.set("r", "1.1")?;
+    page.insert("1.1", "XY")?;
+    assert_eq!(rt; page.index("l"), at(1, 1));
+    assert_eq!(rt; page.index("r"), at(1, 3));
+    assert_eq!(rt; page.index("insert"), at(1, 4));
+    assert_eq!(rt; page.next("l"), Some("r"));
+    assert_eq!(rt; page.gravity(OwnMark::Insert), Gravity::Right);
+    page.set_gravity("insert", Gravity::Left)?;
+    page.insert("insert", "!")?;
+    assert_eq!(rt; page.index("insert"), at(1, 4));
+    let text = words(rt.alloc(), &["r - 1 c", "insert + 1 c"])?;
+    page.delete(&text)?;
+    assert_eq!(rt; page.get("1.0", "end")?.as_str(), "aX\n");
+    assert_eq!(rt; page.index("r"), at(1, 2));
+    assert_eq!(rt; page.index("insert"), at(1, 2));
+    page.unset("r");
+    assert_eq!(rt; page.index("r"), Err(Fault::BadIndex));
+    assert_eq!(rt; page.index("l"), at(1, 1));
+    Ok(())
+}
+
+// A mark at the end stays there, since text goes before the last newline; `insert` doesn't stand there.
+#[test]
+fn marks_at_the_end(rt: HostRuntime) -> Result<(), Fail> {
+    let mut page = Page::new(rt.alloc(), Clock::new())?;
+    page.set("m", "end")?;
+    page.set("insert", "end")?;
+    page.set("current", "end")?;
+    assert_eq!(rt; page.index("m"), at(2, 0));
+    assert_eq!(rt; page.index("insert"), at(1, 0));
+    page.insert("end", "ab\ncd")?;
+    assert_eq!(rt; page.index("m"), at(3, 0));
+    assert_eq!(rt; page.index("current"), at(3, 0));
+    assert_eq!(rt; page.index("insert"), at(2, 2));
+    let all = words(rt.alloc(), &["1.0", "end"])?;
+    page.delete(&all)?;
+    assert_eq!(rt; page.index("m"), at(2, 0));
+    assert_eq!(rt; page.index("insert"), at(1, 0));
+    Ok(())
+}
+
+// A hundred marks in one gap, every other one with left gravity: the left ones stay before text
+// that is inserted, and come to stand where a removed range was.
+#[test]
+fn a_hundred_marks_in_one_gap(rt: HostRuntime) -> Result<(), Fail> {
+    let alloc = rt.alloc();
+    let mut page = Page::new(alloc, Clock::new())?;
+    page.insert("1.0", "0123456789")?;
+    for i in 0..100u8 {
+        let name = format!(in alloc; "m{i:02}")?;
+        page.set(name.as_str(), "1.5")?;
+        if i % 2 == 0 {
+            page.set_gravity(name.as_str(), Gravity::Left)?;
+        }
+    }
+    page.insert("1.5", "abc")?;
+    for i in 0..100u8 {
+        let name = format!(in alloc; "m{i:02}")?;
+        let character = if i % 2 == 0 { 5 } else { 8 };
+        assert_eq!(rt; page.index(name.as_str()), at(1, character));
+    }
+    assert_eq!(rt; page.next("m98"), Some("m01"));
+    let ranges = words(alloc, &["1.9", "1.11", "1.1", "1.3", "1.4", "1.9"])?;
+    page.delete(&ranges)?;
+    for i in 0..100u8 {
+        let name = format!(in alloc; "m{i:02}")?;
+        assert_eq!(rt; page.index(name.as_str()), at(1, 2));
+    }
+    assert_eq!(rt; page.next("m98"), Some("m01"));
+    assert_eq!(rt; page.get("1.0", "end")?.as_str(), "0389\n");
     Ok(())
 }

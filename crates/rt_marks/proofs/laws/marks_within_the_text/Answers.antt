@@ -1,3 +1,4 @@
+use Rattle.rt_marks.proofs.Leaving.{within_left}
 use Rattle.rt_marks.proofs.Moving.{within_gravity, within_inserted, within_removed, within_set, within_unset}
 use Rattle.rt_marks.proofs.laws.marks_within_the_text.Goals as goal
 
@@ -15,3 +16,6 @@ returns-clause-after_unset c = within_unset
 
 pub returns-clause-after_gravity : goal.returns-clause-after_gravity
 returns-clause-after_gravity c = within_gravity
+
+pub returns-clause-after_removals : goal.returns-clause-after_removals
+returns-clause-after_removals c = within_left

@@ -4,52 +4,35 @@ use Rattle.std.proofs.lemmas.Result.{IfOk-weaker}
 use Rattle.rt_stamps.specs.declared.stamp.TheConstants.{FINAL}
 use Rattle.rt_stamps.specs.Stamps.{is_same}
 use Rattle.rt_store.specs.Cells.{text_of}
-use Rattle.rt_text.specs.Removals.{is_covered, is_removed, stamps_at, span_count}
+use Rattle.rt_text.specs.Removals.{is_covered, stamps_at, span_count}
 use Rattle.rt_text.specs.Spans.{is_among}
 use Rattle.rt_text.proofs.DistinctLaws.{distinct_at, stamps_few}
-use Rattle.rt_text.proofs.GoneLaws.{gone_from_spans, final_stays, last_kept}
+use Rattle.rt_text.proofs.GoneLaws.{gone_from_spans, final_stays, last_uncovered}
 use Rattle.rt_text.proofs.SpanLaws.{span_few}
 use Rattle.rt_text.proofs.span.removed_spans.Goals as goal
 
 pub spans_of-requires : goal.spans_of-requires
 spans_of-requires g c =
     let cells = g.S.TextStore.list c.args.store.now in
-    let removed = is_removed (text_of cells) c.args.ranges.now in
-    let stamps : c.in_ok-stamps.stamps.items ≡ stamps_at removed 0 cells =
-    c.in_ok-stamps.ensures.ok ∙ ap (λ l. stamps_at (is_covered l) 0 cells) c.deref.ensures.value ∙ (λ i. stamps_at (λ place. c.in_ok-removed.ensures.places place i) 0 cells) in
-    subst (IsDistinct is_same) (sym stamps) (distinct_at removed 0 cells c.requires)
+    subst (IsDistinct is_same) (sym c.in_ok-stamps.ensures.ok) (distinct_at (is_covered c.args.removed.now) 0 cells c.requires.distinct)
 
 pub returns-clause-gone : goal.returns-clause-gone
 returns-clause-gone g c =
     let cells = g.S.TextStore.list c.args.store.now in
-    let removed = is_removed (text_of cells) c.args.ranges.now in
-    let stamps : c.in_ok-stamps.stamps.items ≡ stamps_at removed 0 cells =
-    c.in_ok-stamps.ensures.ok ∙ ap (λ l. stamps_at (is_covered l) 0 cells) c.deref.ensures.value ∙ (λ i. stamps_at (λ place. c.in_ok-removed.ensures.places place i) 0 cells) in
-    IfOk-weaker c.spans_of.result _ _ (λ spans h. gone_from_spans removed cells spans.items c.requires (λ s. h s ∙ ap (λ l. is_among l s) stamps)) c.spans_of.ensures.same
-
-pub returns-clause-count : goal.returns-clause-count
-returns-clause-count g c =
-    let cells = g.S.TextStore.list c.args.store.now in
-    let removed = is_removed (text_of cells) c.args.ranges.now in
-    let stamps : c.in_ok-stamps.stamps.items ≡ stamps_at removed 0 cells =
-    c.in_ok-stamps.ensures.ok ∙ ap (λ l. stamps_at (is_covered l) 0 cells) c.deref.ensures.value ∙ (λ i. stamps_at (λ place. c.in_ok-removed.ensures.places place i) 0 cells) in
-    IfOk-weaker c.spans_of.result _ _ (λ spans h. h ∙ ap span_count stamps) c.spans_of.ensures.count
+    IfOk-weaker c.spans_of.result _ _
+    (λ spans h. gone_from_spans (is_covered c.args.removed.now) cells spans.items c.requires.distinct (λ s. h s ∙ ap (λ l. is_among l s) c.in_ok-stamps.ensures.ok)) c.spans_of.ensures.same
 
 pub returns-clause-few : goal.returns-clause-few
 returns-clause-few g c =
     let cells = g.S.TextStore.list c.args.store.now in
-    let removed = is_removed (text_of cells) c.args.ranges.now in
-    let stamps : c.in_ok-stamps.stamps.items ≡ stamps_at removed 0 cells =
-    c.in_ok-stamps.ensures.ok ∙ ap (λ l. stamps_at (is_covered l) 0 cells) c.deref.ensures.value ∙ (λ i. stamps_at (λ place. c.in_ok-removed.ensures.places place i) 0 cells) in
+    let removed = is_covered c.args.removed.now in
     IfOk-weaker c.spans_of.result _ _
-    (λ spans h. omega (arith, h ∙ ap span_count stamps, span_few (stamps_at removed 0 cells), stamps_few removed 0 cells)) c.spans_of.ensures.count
+    (λ spans h. omega (arith, h ∙ ap span_count c.in_ok-stamps.ensures.ok, span_few (stamps_at removed 0 cells), stamps_few removed 0 cells)) c.spans_of.ensures.count
 
 pub returns-clause-stays : goal.returns-clause-stays
 returns-clause-stays g c =
     let cells = g.S.TextStore.list c.args.store.now in
-    let removed = is_removed (text_of cells) c.args.ranges.now in
-    let stamps : c.in_ok-stamps.stamps.items ≡ stamps_at removed 0 cells =
-    c.in_ok-stamps.ensures.ok ∙ ap (λ l. stamps_at (is_covered l) 0 cells) c.deref.ensures.value ∙ (λ i. stamps_at (λ place. c.in_ok-removed.ensures.places place i) 0 cells) in
+    let removed = is_covered c.args.removed.now in
     let ends = g.met.S.TextStore.ends c.args.store.now in
     IfOk-weaker c.spans_of.result _ _
-    (λ spans h. h FINAL ∙ ap (λ l. is_among l FINAL) stamps ∙ final_stays removed 0 cells ends c.requires (last_kept cells c.args.ranges.now ends)) c.spans_of.ensures.same
+    (λ spans h. h FINAL ∙ ap (λ l. is_among l FINAL) c.in_ok-stamps.ensures.ok ∙ final_stays removed 0 cells ends c.requires.distinct (last_uncovered cells c.args.removed.now ends c.requires.within)) c.spans_of.ensures.same

@@ -1,6 +1,8 @@
 use Rattle.std.proofs.Common.{◌≤◌, length, arith}
 use Rattle.rt_store.specs.declared.cell.TheConstants.{FINAL_CELL}
+use Rattle.rt_store.specs.Cells.{text_of}
 use Rattle.rt_text.specs.Known.{AreKnown, AreDistinct}
+use Rattle.rt_text.specs.Widgets.{AreSiteMarks}
 use Rattle.rt_text.proofs.CellLaws.{known_final}
 use Rattle.rt_text.proofs.DistinctLaws.{distinct_one}
 use Rattle.rt_text.proofs.doc.Doc.with_clock.Goals as goal
@@ -11,4 +13,5 @@ invariant_of-result g c =
     let few : length cells ≤ c.args.limit = rw c.requires.store c.requires.limit.0 in
     let known : AreKnown c.args.clock cells = rw c.requires.store (known_final c.args.clock) in
     let apart : AreDistinct cells = rw c.requires.store (distinct_one FINAL_CELL) in
-    (c.requires.limit.1, few, known, omega arith, apart)
+    let marks : AreSiteMarks (length (text_of cells)) c.new.result = rw c.new.ensures tt in
+    (c.requires.limit.1, few, known, omega arith, apart, marks)

@@ -1,0 +1,114 @@
+-- A widget: its own marks, and what index expressions see of it.
+use Rattle.std.specs.Prelude.{◌≡◌, ℕ, ◌<◌, ◌≤◌, Bool, false, List, Option, Some, None, is_some, option_map, if◌then◌else◌, codes}
+use Rattle.std.specs.Str.{bytes_eq}
+use Rattle.rt_index.specs.Widget.{Widget, Ends}
+use Rattle.rt_marks.specs.declared.gravity.Gravity.{Gravity}
+use Rattle.rt_marks.specs.declared.gravity.Gravity.TheVariants.{Right}
+use Rattle.rt_marks.specs.Marks.{Mark, Each, IsName, named, with_mark, mark_inserted, mark_removed, mark_left}
+use Rattle.rt_store.specs.Cells.{text_of}
+use Rattle.rt_text.specs.declared.own_mark.OwnMark.{OwnMark}
+use Rattle.rt_text.specs.declared.own_mark.OwnMark.TheVariants.{Insert, Current}
+use Rattle.rt_text.specs.Flat.{Flat}
+
+-- OWN MARKS
+
+-- a widget's own marks: the insertion cursor, and the mark that follows the mouse (Tk text manual, "The marks")
+pub record Own : Type 0 where
+  pub insert : Mark
+  pub current : Mark
+
+abbrev pub own_name : OwnMark → List ℕ
+own_name Insert = codes "insert"
+own_name Current = codes "current"
+
+-- a new widget's own marks stand at the beginning, with right gravity
+abbrev pub new_own : Own
+new_own = record {
+  insert = record { name = codes "insert"; place = 0; gravity = Right };
+  current = record { name = codes "current"; place = 0; gravity = Right };
+}
+
+-- the own mark that a name names
+abbrev pub own_mark_of : List ℕ → Option OwnMark
+own_mark_of name =
+    if bytes_eq name (codes "insert") then Some Insert
+    else if bytes_eq name (codes "current") then Some Current
+    else None
+
+-- a name is that of an own mark
+abbrev pub is_own : List ℕ → Bool
+is_own name = is_some (own_mark_of name)
+
+abbrev pub own_mark : OwnMark → Own → Mark
+own_mark Insert own = own.insert
+own_mark Current own = own.current
+
+-- the own marks with one of them changed
+abbrev pub own_with : OwnMark → Mark → Own → Own
+own_with Insert m own = record own { insert = m }
+own_with Current m own = record own { current = m }
+
+-- one of them set at a place: it keeps its gravity
+abbrev pub own_set : OwnMark → ℕ → Own → Own
+own_set which place own = own_with which (record (own_mark which own) { place = place }) own
+
+abbrev pub own_with_gravity : OwnMark → Gravity → Own → Own
+own_with_gravity which gravity own = own_with which (record (own_mark which own) { gravity = gravity }) own
+
+-- they move with the text as all marks do: n characters inserted at a place
+abbrev pub own_inserted : ℕ → ℕ → Own → Own
+own_inserted place n own = record { insert = mark_inserted place n own.insert; current = mark_inserted place n own.current }
+
+-- n characters removed from a place on
+abbrev pub own_removed : ℕ → ℕ → Own → Own
+own_removed place n own = record { insert = mark_removed place n own.insert; current = mark_removed place n own.current }
+
+-- the characters at some places removed
+abbrev pub own_left : (ℕ → Bool) → Own → Own
+own_left removed own = record { insert = mark_left removed own.insert; current = mark_left removed own.current }
+
+-- own marks of a text of n characters: they stand in it, and `insert` never behind the last newline
+abbrev pub IsOwnOf : ℕ → Own → Type 0
+IsOwnOf n own =
+    (own.insert.place < n) × (own.current.place ≤ n)
+    × (own.insert.name ≡ codes "insert") × (own.current.name ≡ codes "current")
+
+-- ALL MARKS OF A WIDGET
+
+-- a mark of the site stands in a text of n characters, and has a name that isn't an own mark's
+abbrev pub IsSiteMark : ℕ → Mark → Type 0
+IsSiteMark n m = (m.place ≤ n) × IsName m.name × (is_own m.name ≡ false)
+
+abbrev pub AreSiteMarks : ℕ → List Mark → Type 0
+AreSiteMarks n marks = Each (IsSiteMark n) marks
+
+-- the mark of a name: an own one, or else one of the site
+abbrev pub mark_among : Own → List Mark → List ℕ → Option Mark
+mark_among own marks name =
+    if bytes_eq name (codes "insert") then Some own.insert
+    else if bytes_eq name (codes "current") then Some own.current
+    else named name marks
+
+abbrev pub mark_of : Own → Flat → List ℕ → Option Mark
+mark_of own flat name = mark_among own flat.marks name
+
+-- all marks that a widget has, in order
+abbrev pub marks_of : Own → Flat → List Mark
+marks_of own flat = with_mark own.insert (with_mark own.current flat.marks)
+
+-- WHAT INDEX EXPRESSIONS SEE
+
+-- the one tag that is listed yet, which no character has
+abbrev pub tag_ends : List ℕ → Option (Option Ends)
+tag_ends name = if bytes_eq name (codes "sel") then Some None else None
+
+-- a text, the places of its marks, and the tag `sel`
+abbrev pub widget_over : List ℕ → List Mark → Own → Widget
+widget_over text marks own = record {
+  text = text;
+  marks = λ name. option_map (λ m. m.place) (mark_among own marks name);
+  tags = tag_ends;
+}
+
+abbrev pub widget_of : Flat → Own → Widget
+widget_of flat own = widget_over (text_of flat.cells) flat.marks own

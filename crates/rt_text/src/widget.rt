@@ -1,0 +1,106 @@
+// A widget's own marks.
+ghost use Rattle.std.specs.Prelude.{◌≡◌, ◌+◌, ◌≤◌};
+ghost use Rattle.rt_text.specs.Widgets.{new_own, own_mark, own_set, own_with_gravity, own_inserted, own_removed};
+
+use crate::OwnMark;
+use rt_marks::Gravity;
+use rt_marks::place::{place_inserted, place_removed};
+use std::marker::Model;
+
+// A mark without its name.
+#[derive(Clone, Copy)]
+struct Gap {
+    place: usize,
+    gravity: Gravity,
+}
+
+/// A widget: its marks `insert` and `current`, which no other widget sees. Contracts see the two
+/// marks. The text that they stand in is a document's, and each edit of it moves them.
+#[derive(Drop)]
+pub struct Widget {
+    insert: Gap,
+    current: Gap,
+}
+
+impl Model for Widget {
+    ghost use Rattle.std.specs.Prelude.{codes};
+    ghost use Rattle.rt_text.specs.Widgets.{Own};
+
+    ghost Value = { Own };
+
+    ghost view = { λ w. record { insert = record { name = codes "insert"; place = w.insert.place; gravity = w.insert.gravity }; current = record { name = codes "current"; place = w.current.place; gravity = w.current.gravity } } };
+}
+
+impl Widget {
+    /// A new widget, whose marks stand at the beginning with right gravity. It takes no memory.
+    pub fn new() -> Widget
+        ensures { result ≡ new_own }
+    {
+        let start = Gap {
+            place: 0,
+            gravity: Gravity::Right,
+        };
+        Widget {
+            insert: start,
+            current: start,
+        }
+    }
+
+    /// The place of one of its marks.
+    pub fn place(&self, which: OwnMark) -> usize
+        ensures { result ≡ (own_mark which self.now).place }
+    {
+        match which {
+            OwnMark::Insert => self.insert.place,
+            OwnMark::Current => self.current.place,
+        }
+    }
+
+    /// The gravity of one of its marks.
+    pub fn gravity(&self, which: OwnMark) -> Gravity
+        ensures { result ≡ (own_mark which self.now).gravity }
+    {
+        match which {
+            OwnMark::Insert => self.insert.gravity,
+            OwnMark::Current => self.current.gravity,
+        }
+    }
+
+    /// Sets one of its marks at a place. The mark keeps its gravity.
+    pub fn set(&mut self, which: OwnMark, place: usize)
+        ensures { self.new ≡ own_set which place self.old }
+    {
+        match which {
+            OwnMark::Insert => self.insert.place = place,
+            OwnMark::Current => self.current.place = place,
+        }
+    }
+
+    /// Gives one of its marks a gravity. The mark keeps its place.
+    pub fn set_gravity(&mut self, which: OwnMark, gravity: Gravity)
+        ensures { self.new ≡ own_with_gravity which gravity self.old }
+    {
+        match which {
+            OwnMark::Insert => self.insert.gravity = gravity,
+            OwnMark::Current => self.current.gravity = gravity,
+        }
+    }
+
+    /// Moves its marks for `n` characters that were inserted at a place.
+    pub(crate) fn inserted(&mut self, place: usize, n: usize)
+        requires insert { self.old.insert.place + n ≤ usize.MAX }
+        requires current { self.old.current.place + n ≤ usize.MAX }
+        ensures { self.new ≡ own_inserted place n self.old }
+    {
+        self.insert.place = place_inserted(place, n, self.insert.place, self.insert.gravity);
+        self.current.place = place_inserted(place, n, self.current.place, self.current.gravity);
+    }
+
+    /// Moves its marks for the `n` characters from a place on that were removed.
+    pub(crate) fn removed(&mut self, place: usize, n: usize)
+        ensures { self.new ≡ own_removed place n self.old }
+    {
+        self.insert.place = place_removed(place, n, self.insert.place);
+        self.current.place = place_removed(place, n, self.current.place);
+    }
+}
