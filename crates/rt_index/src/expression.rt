@@ -1,5 +1,5 @@
 // Index expressions, parsed and resolved.
-ghost use Rattle.std.specs.Prelude.{◌≡◌, ◌<◌, ◌≤◌, ◌^◌, ◌⊎◌, length, take, Some, None, option_map, IfOk, IfErr, OnOk};
+ghost use Rattle.std.specs.Prelude.{◌≡◌, ◌<◌, ◌≤◌, ◌^◌, ◌⊎◌, length, take, Some, None, is_some, option_map, IfOk, IfErr, OnOk};
 ghost use Rattle.rt_index.specs.Expression.{AreNames, base_index, is_always_mark, is_name, is_possible, kept_fixed, listed_place, named_after};
 ghost use Rattle.rt_index.specs.Reading.{fixed_of, token_length};
 ghost use Rattle.rt_index.specs.Index.{index_of, fixed_place, IsHopeless, IsHopeful};
@@ -37,6 +37,13 @@ fn is_name(length: usize) -> bool
     ensures { result ≡ is_name length }
 {
     1 <= length && length <= MOST_NAME_BYTES
+}
+
+/// Whether a word is a position or `end`, with nothing after it. It takes no memory.
+pub fn is_fixed(word: &str) -> bool
+    ensures { result ≡ is_some (fixed_of word.now) }
+{
+    fixed_of(word.as_bytes()).is_some()
 }
 
 /// Whether each widget has a mark of a name.

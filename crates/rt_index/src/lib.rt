@@ -9,7 +9,7 @@ pub mod parts;
 pub mod reading;
 pub mod values;
 
-pub use expression::{Expr, parse, resolve};
+pub use expression::{Expr, is_fixed, parse, resolve};
 pub use ground::Ground;
 
 #[cfg(test)]

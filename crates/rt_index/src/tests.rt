@@ -4,7 +4,7 @@ ghost use Rattle.std.specs.Prelude.{◌≡◌, count_by};
 ghost use Rattle.rt_stamps.specs.Places.{is_newline};
 ghost use Rattle.rt_index.specs.Page.{page_text};
 
-use crate::{Ground, parse, resolve};
+use crate::{Ground, is_fixed, parse, resolve};
 use rt_stamps::Fault;
 use std::alloc::{AllocError, Global};
 
@@ -270,5 +270,15 @@ fn words_and_places(rt: HostRuntime) {
     for (word, fault) in NOWHERE {
         let expr = parse(rt.alloc(), word).expect(&rt, "an expression");
         assert_eq!(rt; resolve(&expr, &page), Err(fault));
+    }
+}
+
+#[test]
+fn words_that_are_fixed(rt: HostRuntime) {
+    for word in ["end", "1.0", "0.7", "3.end", "99.999"] {
+        assert!(rt; is_fixed(word));
+    }
+    for word in ["", "end-1c", "1.0 ", "1.", ".0", "insert", "1.en", "m"] {
+        assert!(rt; !is_fixed(word));
     }
 }

@@ -1,18 +1,12 @@
 -- Lists of marks by their names.
-use Rattle.std.proofs.Common.{◌≡◌, ℕ, zero, suc, ◌+◌, ◌<◌, ◌≤◌, List, [], ◌∷◌, ◌++◌, map, length, get_or, take, drop, set, true, false, refl, sym, ap, ◌∙◌, Bool, subst, Option, Some, None, Result, Ok, Err, IfOk, IfErr, string_bytes, arith, add-one, take-append-drop}
+use Rattle.std.proofs.Common.{◌≡◌, ℕ, List, [], ◌∷◌, ◌++◌, take, drop, true, false, refl, sym, ap, ◌∙◌, subst, None, take-append-drop}
 use Rattle.std.specs.Ordering.{is_lt, ordering_reverse}
 use Rattle.std.specs.declared.cmp.Ordering.TheVariants.{Greater}
-use Rattle.std.specs.List.{HoldsAt, insert, remove}
-use Rattle.std.specs.List.Sorted.{IsBinarySearchResult, IsSortedBy}
 use Rattle.std.specs.Str.{bytes_eq}
-use Rattle.std.specs.FinMap.{slice_cmp-IsAntisymmetric, nat_cmp-IsAntisymmetric}
 use Rattle.std.proofs.lemmas.Cmp.{nat_list_cmp_total}
-use Rattle.std.proofs.lemmas.List.{map-append, take-map, drop-map, set_split, set-get_or}
-use Rattle.std.proofs.lemmas.List.Sorted.{searchable_from_sorted}
-use Rattle.rt_marks.specs.declared.mark.Mark.{Mark as KeptMark}
-use Rattle.rt_marks.specs.Marks.{Mark, Each, name_order, named, AreAscending, HaveOwnNames}
-use Rattle.rt_marks.specs.Seen.{seen, seen_all, names_of, IsGap}
-use Rattle.rt_marks.proofs.Order.{lt_asym}
+use Rattle.std.proofs.lemmas.List.{map-append, take-map, drop-map}
+use Rattle.rt_marks.specs.Marks.{Mark, Each, name_order, named, AreAscending}
+use Rattle.rt_marks.specs.Seen.{names_of, IsGap}
 use Rattle.rt_marks.proofs.Names.{differ_back, names_differ, none_cons}
 
 -- a name that another is greater than

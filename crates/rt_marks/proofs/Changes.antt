@@ -1,17 +1,16 @@
 -- One mark is moved, put in or taken away, and the lists of the slots' numbers with it.
-use Rattle.std.proofs.Common.{◌≡◌, ◌≢◌, ℕ, zero, suc, ◌+◌, ◌-◌, ◌<◌, ◌≤◌, ◌==◌, nat_lt, List, [], ◌∷◌, ◌++◌, map, length, get_or, set, take, drop, true, false, refl, sym, ap, ◌∙◌, Bool, cond, subst, arith, Option, Some, None}
+use Rattle.std.proofs.Common.{◌≡◌, ◌≢◌, ℕ, suc, ◌+◌, ◌<◌, ◌≤◌, ◌==◌, List, [], ◌∷◌, ◌++◌, map, length, get_or, set, take, drop, false, refl, sym, ap, ◌∙◌, cond, subst, arith, None}
 use Rattle.std.specs.List.{insert, remove}
 use Rattle.std.proofs.lemmas.Bool.{eqb-true, eq-eqb}
 use Rattle.std.proofs.lemmas.List.{map-append, take-map, drop-map, get_or_at, get_or-set_other, get_or-set_same, get_or-take, get_or_append_left, length-set, length_push, length-take-le, set_split, set-get_or}
-use Rattle.rt_marks.specs.Marks
 use Rattle.rt_marks.specs.Marks.{Mark, Each, comes_before, AreInOrder, with_mark, named, without, HaveOwnNames, AreAscending, put_mark}
 use Rattle.rt_marks.specs.Seen.{names_of, no_mark, in_slot, in_slots, times, IsEachOnce, IsOrder, IsIndexed, PartsAt, IsGap}
 use Rattle.rt_marks.proofs.InOrder.{split}
-use Rattle.rt_marks.proofs.Names.{clash, none_other, ordered_with, none_middle}
+use Rattle.rt_marks.proofs.Names.{clash, none_other, ordered_with}
 use Rattle.rt_marks.proofs.ByName.{ascending_added, ascending_taken, none_in_gap}
 use Rattle.rt_marks.proofs.Times
 use Rattle.rt_marks.proofs.Times.{each_below, each_present, once_below, once_inserted, once_moved, once_removed, renamed, renumbered, tally, times_middle, times_remove}
-use Rattle.rt_marks.proofs.Slots.{StandsAt, each_also, each_other, each_weaker, order_without, put_view, remove_middle, same_marks, same_names, stands_at, stands_read, stands_taken, stands_within, view_named, view_own, without_middle}
+use Rattle.rt_marks.proofs.Slots.{each_other, each_weaker, order_without, put_view, same_marks, same_names, stands_at, stands_read, stands_taken, stands_within, view_named, view_own, without_middle}
 
 -- a slot's number is told from another's
 apart : (x s : ℕ) → (x == s) ≡ false → x ≢ s

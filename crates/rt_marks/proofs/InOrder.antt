@@ -1,7 +1,7 @@
 -- Marks in order.
-use Rattle.std.proofs.Common.{◌≡◌, ℕ, List, [], ◌∷◌, ◌++◌, map, true, false, refl, sym, ap, ◌∙◌, Bool, cond, subst}
+use Rattle.std.proofs.Common.{◌≡◌, List, [], ◌∷◌, ◌++◌, true, false, refl, sym, ap, ◌∙◌, Bool, cond, subst}
 use Rattle.rt_marks.specs.Marks.{Mark, Each, comes_before, AreInOrder, with_mark, in_order}
-use Rattle.rt_marks.proofs.Order.{before_trans, before_irrefl, before_asym, before_neither}
+use Rattle.rt_marks.proofs.Order.{before_trans, before_asym, before_neither}
 
 pub split : {A : Type 0} (b : Bool) → (b ≡ true → A) → (b ≡ false → A) → A
 split true f g = f refl
@@ -23,7 +23,7 @@ fronts a b rest =
     (λ k. let e = before_neither a b h k in rw (h, k) (λ i. e i ∷ sym e i ∷ rest)))
 
 -- what a mark is behind and another isn't comes between them
-between : (x a b : Mark) → comes_before x a ≡ false → comes_before x b ≡ true → comes_before a b ≡ true
+pub between : (x a b : Mark) → comes_before x a ≡ false → comes_before x b ≡ true → comes_before a b ≡ true
 between x a b h k =
     split (comes_before a b)
     (λ t. t)

@@ -1,5 +1,5 @@
 -- Removals of characters here and there, as removals of ranges one after the other.
-use Rattle.std.proofs.Common.{◌≡◌, ℕ, zero, suc, ◌+◌, ◌-◌, ◌<◌, ◌≤◌, ◌&&◌, ◌||◌, nat_lt, nat_le, List, [], ◌∷◌, map, Option, Some, None, option_map, true, false, refl, sym, ap, ◌∙◌, Bool, cond, subst, arith}
+use Rattle.std.proofs.Common.{◌≡◌, ℕ, zero, suc, ◌+◌, ◌-◌, ◌<◌, ◌≤◌, ◌&&◌, ◌||◌, nat_lt, nat_le, List, [], ◌∷◌, map, option_map, true, false, refl, sym, ap, ◌∙◌, Bool, cond, arith}
 use Rattle.std.proofs.lemmas.Bool.Decides.{nat_tests}
 use Rattle.rt_marks.specs.Marks.{Mark, Each, comes_before, AreInOrder, HaveOwnNames, named, with_mark, in_order, place_removed, mark_removed, marks_removed, place_left, mark_left, marks_left, is_within_or}
 use Rattle.rt_marks.proofs.InOrder.{split, with_passing, with_here, with_comm, in_order_same, each_in_order}

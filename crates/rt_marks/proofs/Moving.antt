@@ -1,5 +1,5 @@
 -- Marks after an edit of the text.
-use Rattle.std.proofs.Common.{◌≡◌, ℕ, zero, suc, ◌+◌, ◌-◌, ◌<◌, ◌≤◌, ◌==◌, ◌&&◌, ◌||◌, nat_lt, nat_le, List, [], ◌∷◌, ◌++◌, map, length, get_or, set, take, drop, append-nil, Vec, Global, true, false, refl, sym, ap, ◌∙◌, Bool, cond, subst, not, is_some, ◌⊎◌, inl, inr, Option, Some, None, option_map, arith}
+use Rattle.std.proofs.Common.{◌≡◌, ℕ, zero, suc, ◌+◌, ◌-◌, ◌<◌, ◌≤◌, ◌==◌, ◌&&◌, ◌||◌, nat_lt, List, [], ◌∷◌, ◌++◌, map, length, get_or, set, take, drop, append-nil, Vec, Global, true, false, refl, sym, ap, ◌∙◌, Bool, cond, subst, not, is_some, ◌⊎◌, inl, inr, Option, Some, None, option_map, arith}
 use Rattle.std.specs.Ordering.{nat_cmp, ordering_then, is_lt}
 use Rattle.std.specs.Option.{option_map_or}
 use Rattle.std.specs.declared.cmp.Ordering.{Ordering}
@@ -11,10 +11,10 @@ use Rattle.std.specs.Vec.{with_items}
 use Rattle.rt_marks.specs.declared.gravity.Gravity.{Gravity}
 use Rattle.rt_marks.specs.declared.gravity.Gravity.TheVariants.{Left, Right}
 use Rattle.rt_marks.specs.declared.mark.Mark.{Mark as KeptMark}
-use Rattle.rt_marks.specs.Marks.{Mark, Each, gravity_order, name_order, comes_before, AreInOrder, with_mark, in_order, is_named, named, is_right, is_moved_on, place_inserted, mark_inserted, marks_inserted, place_removed, mark_removed, marks_removed, HaveOwnNames, AreAscending, without, put_mark, gravity_or_right, marks_set, marks_with_gravity}
+use Rattle.rt_marks.specs.Marks.{Mark, Each, gravity_order, name_order, comes_before, AreInOrder, is_named, named, is_right, is_moved_on, place_inserted, mark_inserted, marks_inserted, place_removed, mark_removed, marks_removed, HaveOwnNames, without, put_mark, gravity_or_right, marks_set, marks_with_gravity}
 use Rattle.rt_marks.specs.Seen.{seen, seen_all, names_of}
-use Rattle.rt_marks.proofs.InOrder.{split, in_order_same, each_in_order, each_with, with_passing, with_here}
-use Rattle.rt_marks.proofs.Names.{clash, ordered_in_order, own_ascending, named_in_order}
+use Rattle.rt_marks.proofs.InOrder.{split, each_in_order, each_with}
+use Rattle.rt_marks.proofs.Names.{clash, named_in_order}
 
 -- which of two marks comes first is decided by their places, and at one place by the rest
 pub places_decide : (x y : ℕ) (o : Ordering) → is_lt (ordering_then (nat_cmp x y) o) ≡ true → (x < y) ⊎ ((x ≡ y) × (is_lt o ≡ true))

@@ -1,12 +1,12 @@
 -- Look-ups by name.
-use Rattle.std.proofs.Common.{◌≡◌, ℕ, zero, suc, ◌<◌, length, get_or, IsSome, Contains, arith, List, [], ◌∷◌, ◌++◌, map, true, false, not, refl, sym, ap, ◌∙◌, Bool, cond, subst, Option, Some, None}
+use Rattle.std.proofs.Common.{◌≡◌, ℕ, zero, suc, ◌<◌, length, get_or, IsSome, Contains, arith, List, [], ◌∷◌, ◌++◌, true, false, not, refl, sym, ap, ◌∙◌, Bool, cond, subst, Option, Some, None}
 use Rattle.std.specs.Ordering.{is_lt}
 use Rattle.std.specs.Str.{bytes_eq}
 use Rattle.std.proofs.lemmas.Slice.Eq.{bytes_eq-Decides}
 use Rattle.std.proofs.lemmas.Cmp.{nat_list_cmp_total}
 use Rattle.rt_marks.specs.Marks.{Mark, Each, name_order, comes_before, AreInOrder, with_mark, in_order, is_named, named, without, HaveOwnNames, AreAscending, put_mark, marks_set, gravity_or_right}
 use Rattle.rt_marks.specs.Seen.{names_of}
-use Rattle.rt_marks.proofs.Order.{before_trans, before_asym, before_neither, lt_irrefl}
+use Rattle.rt_marks.proofs.Order.{before_neither, lt_irrefl}
 use Rattle.rt_marks.proofs.InOrder.{split, with_passing, with_here, all_trans, each_with}
 
 abbrev Holds : Bool → Type 0

@@ -1,5 +1,5 @@
 -- The order after a removal: the marks that came to stand at one place are written anew.
-use Rattle.std.proofs.Common.{◌≡◌, ℕ, zero, suc, ◌+◌, ◌-◌, ◌<◌, ◌≤◌, ◌==◌, ◌&&◌, nat_lt, nat_le, List, [], ◌∷◌, ◌++◌, map, filter, length, get_or, set, take, drop, true, false, refl, sym, ap, ◌∙◌, Bool, cond, not, subst, arith, append_assoc, append-nil, take-append-drop, ◌⊎◌, inl, inr}
+use Rattle.std.proofs.Common.{◌≡◌, ℕ, suc, ◌+◌, ◌-◌, ◌<◌, ◌≤◌, ◌==◌, ◌&&◌, nat_lt, nat_le, List, [], ◌∷◌, ◌++◌, map, filter, length, take, drop, true, false, refl, sym, ap, ◌∙◌, Bool, cond, not, subst, arith, append_assoc, append-nil, take-append-drop, ◌⊎◌, inl, inr}
 use Rattle.std.specs.Ordering.{is_lt, ordering_then}
 use Rattle.std.proofs.lemmas.Bool.{eqb-true, eq-eqb}
 use Rattle.std.proofs.lemmas.Bool.Decides.{nat_tests}
@@ -16,7 +16,7 @@ use Rattle.rt_marks.proofs.Names.{clash}
 use Rattle.rt_marks.proofs.Moving.{before_less, before_rest, inserted_in_order, names_moved, places_decide}
 use Rattle.rt_marks.proofs.Times
 use Rattle.rt_marks.proofs.Times.{each_below, each_present, each_there, not_once, once, present, same_order, same_times, tally, times_append, times_middle}
-use Rattle.rt_marks.proofs.Slots.{each_also, each_both, each_first, each_from, each_index, each_of, each_second, each_weaker, order_back, order_both, order_front, same_marks, same_names}
+use Rattle.rt_marks.proofs.Slots.{each_also, each_both, each_first, each_from, each_of, each_second, each_weaker, order_back, order_both, order_front, same_marks}
 use Rattle.rt_marks.proofs.Searching.{within}
 
 -- NUMBERS THAT PASS A TEST

@@ -1,27 +1,26 @@
 -- What binary searches find in a table.
-use Rattle.std.proofs.Common.{◌≡◌, ℕ, zero, suc, ◌+◌, ◌-◌, ◌<◌, ◌≤◌, ◌==◌, ◌&&◌, nat_lt, nat_le, List, [], ◌∷◌, ◌++◌, map, find, length, get_or, slice_get, slice_index, take, drop, true, false, not, refl, sym, ap, ◌∙◌, Bool, cond, subst, arith, add-one, ◌⊎◌, inl, inr, Option, Some, None, Result, Ok, Err, IfOk, IfErr, string_bytes, option_map}
-use Rattle.std.specs.Ordering.{is_lt, ordering_reverse}
+use Rattle.std.proofs.Common.{◌≡◌, ℕ, zero, suc, ◌-◌, ◌<◌, ◌≤◌, ◌==◌, ◌&&◌, nat_lt, nat_le, List, [], ◌∷◌, ◌++◌, map, find, length, get_or, slice_get, take, drop, true, false, not, refl, sym, ap, ◌∙◌, Bool, cond, subst, arith, add-one, ◌⊎◌, inl, inr, Some, None, Result, Ok, Err, IfOk, IfErr}
+use Rattle.std.specs.Ordering.{is_lt}
 use Rattle.std.specs.Option.{option_or}
 use Rattle.std.specs.List.{HoldsAt}
-use Rattle.std.specs.List.Sorted.{IsBinarySearchResult, IsPartitionPoint, IsPartitionedBy, IsSearchInRange, IsSortedBy}
+use Rattle.std.specs.List.Sorted.{IsBinarySearchResult, IsPartitionPoint, IsPartitionedBy, IsSortedBy}
 use Rattle.std.specs.FinMap.{slice_cmp-IsAntisymmetric, nat_cmp-IsAntisymmetric}
 use Rattle.std.proofs.lemmas.Cmp.{nat_list_cmp_total}
-use Rattle.std.proofs.lemmas.Bool.{eqb-true, eq-eqb}
+use Rattle.std.proofs.lemmas.Bool.{eqb-true}
 use Rattle.std.proofs.lemmas.Bool.Decides.{nat_tests}
 use Rattle.std.proofs.lemmas.List.{map-append, length-map, set_split, set-get_or}
 use Rattle.std.proofs.lemmas.List.Sorted.{searchable_from_sorted}
 use Rattle.std.proofs.lemmas.Option.{slice_get-get_or}
-use Rattle.std.specs.declared.cmp.Ordering.TheVariants.{Less, Equal, Greater}
 use Rattle.rt_marks.specs.Marks
 use Rattle.rt_marks.specs.Marks.{Mark, Each, name_order, comes_before, AreInOrder, named, AreAscending, find_last, first_mark_at, last_mark_before}
 use Rattle.rt_marks.specs.Seen
 use Rattle.rt_marks.specs.Seen.{names_of, no_mark, in_slot, in_slots, IsOrder, IsIndexed, PartsAt, IsGap}
-use Rattle.rt_marks.proofs.Order.{lt_asym, lt_irrefl, before_trans, before_asym}
+use Rattle.rt_marks.proofs.Order.{lt_asym, lt_irrefl, before_trans}
 use Rattle.rt_marks.proofs.InOrder.{split}
 use Rattle.rt_marks.proofs.Names.{clash, named_middle}
 use Rattle.rt_marks.proofs.ByName.{greater, none_in_gap}
 use Rattle.rt_marks.proofs.Moving.{places_decide}
-use Rattle.rt_marks.proofs.Times.{each_below, each_present, each_there, not_once, once_below, present, times_at}
+use Rattle.rt_marks.proofs.Times.{each_there, not_once, once_below, present, times_at}
 use Rattle.rt_marks.proofs.Slots.{each_from, each_index, own_by_name, view_named}
 
 -- IN THE ORDER

@@ -1,19 +1,17 @@
 -- Marks in slots, read by lists of the slots' numbers.
-use Rattle.std.proofs.Common.{◌≡◌, ◌≢◌, ℕ, zero, suc, ◌+◌, ◌-◌, ◌<◌, ◌≤◌, ◌==◌, nat_lt, List, [], ◌∷◌, ◌++◌, map, length, get_or, set, take, drop, true, false, refl, sym, ap, ◌∙◌, Bool, cond, not, subst, arith, Option, Some, None, take-append-drop}
+use Rattle.std.proofs.Common.{◌≡◌, ℕ, zero, suc, ◌<◌, ◌≤◌, ◌==◌, List, [], ◌∷◌, ◌++◌, map, length, get_or, take, drop, true, false, refl, sym, ap, ◌∙◌, Bool, cond, not, subst, arith, None}
 use Rattle.std.specs.List.{insert, remove}
-use Rattle.std.specs.Ordering.{is_lt}
 use Rattle.std.specs.Str.{bytes_eq}
-use Rattle.std.proofs.lemmas.Bool.{eqb-true, eq-eqb}
-use Rattle.std.proofs.lemmas.Bool.Decides.{nat_tests}
-use Rattle.std.proofs.lemmas.List.{map-append, take-map, drop-map, set_split, set-get_or, get_or-map, get_or_at, length-append, get_or-set_other, get_or-set_same, get_or-take, length-set, length-map}
+use Rattle.std.proofs.lemmas.Bool.{eqb-true}
+use Rattle.std.proofs.lemmas.List.{map-append, take-map, drop-map, get_or-map, get_or_at, length-append, length-map}
 use Rattle.rt_marks.specs.declared.mark.Mark.{Mark as KeptMark}
 use Rattle.rt_marks.specs.Marks.{Mark, Each, name_order, comes_before, AreInOrder, with_mark, named, without, HaveOwnNames, AreAscending, put_mark}
 use Rattle.rt_marks.specs.Marks
-use Rattle.rt_marks.specs.Seen.{seen, seen_all, names_of, no_mark, in_slot, in_slots, times, IsEachOnce, IsOrder, IsIndexed, PartsAt, IsGap}
-use Rattle.rt_marks.proofs.Order.{before_irrefl, before_asym}
+use Rattle.rt_marks.specs.Seen.{seen, seen_all, names_of, no_mark, in_slot, in_slots, times, IsEachOnce, IsOrder, IsIndexed, PartsAt}
+use Rattle.rt_marks.proofs.Order.{before_irrefl}
 use Rattle.rt_marks.proofs.InOrder.{split, in_order_same, with_passing, with_here}
-use Rattle.rt_marks.proofs.Names.{clash, own_ascending, own_in_order, named_in_order, named_middle, none_other, none_middle, differ_back, ordered_with, without_none, ordered_in_order, name_itself}
-use Rattle.rt_marks.proofs.Times.{Parted, present, each_below, each_present, each_there, once_below, same_order, same_times, times_append, times_middle, renamed, tally, times_at, times_remove}
+use Rattle.rt_marks.proofs.Names.{clash, own_ascending, own_in_order, named_in_order, none_middle, differ_back, without_none, name_itself}
+use Rattle.rt_marks.proofs.Times.{present, each_below, each_present, once_below, same_order, same_times}
 
 -- READING
 

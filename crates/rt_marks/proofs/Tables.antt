@@ -1,10 +1,10 @@
 -- A table's vectors, as its definitions read them.
-use Rattle.std.proofs.Common.{◌≡◌, ℕ, zero, suc, ◌+◌, ◌-◌, ◌<◌, ◌≤◌, List, [], ◌∷◌, ◌++◌, map, length, get_or, slice_get, slice_index, set, take, drop, refl, sym, ap, ◌∙◌, subst, arith, add-one, Option, Some, None, option_map, option_copied, Bor, is_some}
-use Rattle.std.specs.List.{insert, remove, swap_remove}
-use Rattle.std.proofs.lemmas.List.{length-map, length-set, map-append, map_more, map-set, take-map, get_or-map}
+use Rattle.std.proofs.Common.{◌≡◌, ℕ, zero, suc, ◌+◌, ◌-◌, ◌<◌, List, [], ◌∷◌, ◌++◌, map, length, get_or, set, take, sym, ap, ◌∙◌, subst, arith}
+use Rattle.std.specs.List.{swap_remove}
+use Rattle.std.proofs.lemmas.List.{length-map, length-set, map-append, map_more, map-set, take-map}
 use Rattle.rt_marks.specs.declared.mark.Mark.{Mark as KeptMark}
-use Rattle.rt_marks.specs.Marks.{Mark, Each}
-use Rattle.rt_marks.specs.Seen.{seen, seen_all, in_slot, in_slots, names_of, IsIndexed, IsEachOnce, no_mark}
+use Rattle.rt_marks.specs.Marks.{Mark}
+use Rattle.rt_marks.specs.Seen.{seen, seen_all, in_slot, in_slots, names_of, IsEachOnce}
 use Rattle.rt_marks.proofs.Slots.{each_index, slot_kept}
 use Rattle.rt_marks.proofs.Times.{each_below}
 use Rattle.rt_marks.proofs.Changes.{brought_down}

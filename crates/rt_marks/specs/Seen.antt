@@ -1,13 +1,18 @@
 -- What contracts see of the marks that are kept.
-use Rattle.std.specs.Prelude.{◌≡◌, ℕ, ◌+◌, ◌<◌, ◌≤◌, ◌==◌, ◌&&◌, ◌++◌, nat_lt, List, [], ◌∷◌, length, map, slice_index_or, string_bytes, Bool, true, false, Option, Some, None, take, drop, if◌then◌else◌}
+use Rattle.std.specs.Prelude.{◌≡◌, ℕ, ◌+◌, ◌<◌, ◌≤◌, ◌==◌, ◌&&◌, ◌++◌, nat_lt, List, [], ◌∷◌, length, map, slice_index_or, string_bytes, Bool, true, false, take, drop, if◌then◌else◌}
 use Rattle.std.specs.Ordering.{is_lt}
 use Rattle.rt_marks.specs.declared.gravity.Gravity.{Gravity}
 use Rattle.rt_marks.specs.declared.gravity.Gravity.TheVariants.{Left, Right}
 use Rattle.rt_marks.specs.declared.mark.Mark.{Mark as KeptMark}
-use Rattle.rt_marks.specs.Marks.{Mark, Each, AreAscending, AreInOrder, name_order, comes_before}
+use Rattle.rt_marks.specs.declared.spot.Spot.{Spot}
+use Rattle.rt_marks.specs.Marks.{Mark, Each, AreAscending, AreInOrder, name_order}
 
 abbrev pub seen : KeptMark → Mark
 seen m = record { name = string_bytes m.name; place = m.place; gravity = m.gravity }
+
+-- the mark that stands at a spot, or would
+abbrev pub spotted : Spot → Mark
+spotted s = record { name = s.name.now; place = s.place; gravity = s.gravity }
 
 abbrev pub seen_all : List KeptMark → List Mark
 seen_all marks = map seen marks

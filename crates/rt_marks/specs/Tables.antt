@@ -1,8 +1,8 @@
 -- What contracts see of a table of marks.
-use Rattle.std.specs.Prelude.{◌≡◌, ◌<◌, List, length, vec_len, vec_capacity}
+use Rattle.std.specs.Prelude.{◌<◌, List, vec_len, vec_capacity}
 use Rattle.rt_marks.specs.declared.table.Table.{Table}
 use Rattle.rt_marks.specs.Marks.{Mark}
-use Rattle.rt_marks.specs.Seen.{seen_all, in_slots, IsIndexed, IsOrder}
+use Rattle.rt_marks.specs.Seen.{seen_all, in_slots, IsIndexed}
 
 -- the marks of the slots
 abbrev pub slots_of : Table → List Mark

@@ -7,9 +7,11 @@ pub mod laws;
 mod mark;
 pub mod marks;
 pub mod place;
+pub mod spot;
 mod table;
 #[cfg(test)]
 mod tests;
 
 pub use gravity::Gravity;
 pub use marks::Marks;
+pub use spot::Spot;

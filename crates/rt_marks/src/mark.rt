@@ -2,11 +2,11 @@
 ghost use Rattle.std.specs.Prelude.{◌≡◌, ◌+◌, ◌≤◌, string_bytes};
 ghost use Rattle.rt_marks.specs.Marks.{comes_before, name_order, place_inserted, place_removed};
 
-use crate::{Gravity, place};
+use crate::{Gravity, Spot, place};
 use std::cmp::Ordering;
 
-/// A mark. Its fields stand in the order that decides which of two marks comes first.
-#[derive(Debug, PartialEq, Eq, PartialOrd, Ord, Drop)]
+/// A mark.
+#[derive(Debug, Drop)]
 pub struct Mark {
     /// The characters before it.
     pub place: usize,
@@ -15,13 +15,17 @@ pub struct Mark {
 }
 
 impl Mark {
-    ghost use Rattle.rt_marks.specs.Seen.{seen};
+    ghost use Rattle.rt_marks.specs.Seen.{seen, spotted};
 
-    /// Whether it stands before another in the order of marks.
-    pub fn comes_before(&self, other: &Mark) -> bool
-        ensures { result ≡ comes_before (seen self.now) (seen other.now) }
+    /// What decides where it stands in the order of marks.
+    pub fn spot(&self) -> Spot<'_>
+        ensures { spotted result ≡ seen self.now }
     {
-        self < other
+        Spot {
+            place: self.place,
+            gravity: self.gravity,
+            name: self.name.as_str(),
+        }
     }
 
     /// Where it stands after `n` characters were inserted at a place.

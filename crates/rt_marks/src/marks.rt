@@ -1,10 +1,10 @@
 // The marks of a site.
-ghost use Rattle.std.specs.Prelude.{◌≡◌, ◌+◌, ◌≤◌, ◌⊎◌, ◌↔◌, [], List, ℕ, IsSome, OnOk, OnErr, IfOk, IfErr, Ok, Err, None, Some, is_some, option_map, option_copied, string_bytes, map, Contains, if◌then◌else◌};
-ghost use Rattle.rt_marks.specs.Marks.{AreAscending, AreInOrder, Each, HaveOwnNames, IsName, first_mark_at, last_mark_before, mark_after, mark_before, marks_inserted, marks_removed, marks_set, marks_with_gravity, named, without};
+ghost use Rattle.std.specs.Prelude.{◌≡◌, ◌+◌, ◌≤◌, ◌⊎◌, ◌↔◌, [], List, ℕ, IsSome, OnOk, OnErr, IfOk, IfErr, Ok, Err, None, Some, is_some, option_map, option_copied, string_bytes, map, Contains, if◌then◌else◌, find as first_passing};
+ghost use Rattle.rt_marks.specs.Marks.{AreAscending, AreInOrder, Each, HaveOwnNames, IsName, comes_before, find_last, first_mark_at, last_mark_before, mark_after, mark_before, marks_inserted, marks_removed, marks_set, marks_with_gravity, named, without};
 
-use crate::Gravity;
 use crate::mark::Mark;
 use crate::table::Table;
+use crate::{Gravity, Spot};
 use rt_stamps::Fault;
 use rt_stamps::limits::MOST_NAME_BYTES;
 use std::alloc::Global;
@@ -35,6 +35,8 @@ impl Model for Marks {
 }
 
 impl Marks {
+    ghost use Rattle.rt_marks.specs.Seen.{spotted};
+
     /// No marks.
     pub fn new(alloc: Global) -> Marks
         ensures { result ≡ [] }
@@ -129,7 +131,9 @@ impl Marks {
         ensures { option_copied result ≡ option_map (λ m. m.name) (mark_after name.now self.now) }
     {
         let here = self.table.find(name)?;
-        self.table.first_after(here).map(|mark| mark.name.as_str())
+        self.table
+            .first_after(&here.spot())
+            .map(|mark| mark.name.as_str())
     }
 
     /// The name of the mark before a mark in their order, none before the first one and without a
@@ -138,7 +142,30 @@ impl Marks {
         ensures { option_copied result ≡ option_map (λ m. m.name) (mark_before name.now self.now) }
     {
         let here = self.table.find(name)?;
-        self.table.last_until(here).map(|mark| mark.name.as_str())
+        self.table
+            .last_until(&here.spot())
+            .map(|mark| mark.name.as_str())
+    }
+
+    /// The mark of a name, none without a mark of the name.
+    pub fn find(&self, name: &str) -> Option<Spot<'_>>
+        ensures { option_map spotted result ≡ named name.now self.now }
+    {
+        self.table.find(name).map(Mark::spot)
+    }
+
+    /// The first mark after a spot in the order of marks. There may be a mark at the spot, or none.
+    pub fn first_after(&self, here: &Spot<'_>) -> Option<Spot<'_>>
+        ensures { option_map spotted result ≡ first_passing (comes_before (spotted here.now)) self.now }
+    {
+        self.table.first_after(here).map(Mark::spot)
+    }
+
+    /// The last mark before a spot in the order of marks. There may be a mark at the spot, or none.
+    pub fn last_until(&self, here: &Spot<'_>) -> Option<Spot<'_>>
+        ensures { option_map spotted result ≡ find_last (λ m. comes_before m (spotted here.now)) self.now }
+    {
+        self.table.last_until(here).map(Mark::spot)
     }
 
     /// The name of the first mark at or after a place, in the order of marks.

@@ -3,10 +3,10 @@ ghost use Rattle.std.specs.Prelude.{◌≡◌, ◌+◌, ◌<◌, ◌≤◌, ◌&
 ghost use Rattle.std.specs.List.{HoldsAt, insert, remove};
 ghost use Rattle.std.specs.List.Sorted.{IsSearchInRange};
 ghost use Rattle.rt_marks.specs.Marks.{Each, comes_before, find_last, first_mark_at, last_mark_before, mark_removed, marks_inserted, marks_removed, name_order, named, put_mark, with_mark, without};
-ghost use Rattle.rt_marks.specs.Seen.{IsGap, IsOrder, PartsAt, in_slot, names_of, overwritten, same_gravity, seen, seen_all, slot_stands};
+ghost use Rattle.rt_marks.specs.Seen.{IsGap, IsOrder, PartsAt, in_slot, names_of, overwritten, same_gravity, seen, seen_all, slot_stands, spotted};
 
-use crate::Gravity;
 use crate::mark::Mark;
+use crate::{Gravity, Spot};
 use std::alloc::{AllocError, Global};
 use std::cmp::Ordering;
 
@@ -45,22 +45,22 @@ impl Table {
         }
     }
 
-    /// Whether a slot's mark comes before a mark.
-    fn is_before(&self, slot: usize, here: &Mark) -> bool
-        ensures { result ≡ (nat_lt slot (length (slots_of self.now)) && comes_before (in_slot (slots_of self.now) slot) (seen here.now)) }
+    /// Whether a slot's mark comes before a spot.
+    fn is_before(&self, slot: usize, here: &Spot<'_>) -> bool
+        ensures { result ≡ (nat_lt slot (length (slots_of self.now)) && comes_before (in_slot (slots_of self.now) slot) (spotted here.now)) }
     {
         match self.marks.get(slot) {
-            Some(mark) => mark.comes_before(here),
+            Some(mark) => mark.spot().comes_before(here),
             None => false,
         }
     }
 
-    /// Whether a slot's mark doesn't come after a mark.
-    fn is_until(&self, slot: usize, here: &Mark) -> bool
-        ensures { result ≡ (nat_lt slot (length (slots_of self.now)) && not (comes_before (seen here.now) (in_slot (slots_of self.now) slot))) }
+    /// Whether a slot's mark doesn't come after a spot.
+    fn is_until(&self, slot: usize, here: &Spot<'_>) -> bool
+        ensures { result ≡ (nat_lt slot (length (slots_of self.now)) && not (comes_before (spotted here.now) (in_slot (slots_of self.now) slot))) }
     {
         match self.marks.get(slot) {
-            Some(mark) => !here.comes_before(mark),
+            Some(mark) => !here.comes_before(&mark.spot()),
             None => false,
         }
     }
@@ -87,20 +87,28 @@ impl Table {
             .binary_search_by(|slot| self.compare_name(*slot, name))
     }
 
-    /// How many marks come before a mark.
-    fn count_before(&self, here: &Mark) -> usize
+    /// How many marks come before a spot.
+    fn count_before_spot(&self, here: &Spot<'_>) -> usize
         requires { IsOrder (slots_of self.now) self.now.in_order.items }
-        ensures { PartsAt (λ m. comes_before m (seen here.now)) (marks_of self.now) result }
+        ensures { PartsAt (λ m. comes_before m (spotted here.now)) (marks_of self.now) result }
     {
         self.in_order
             .as_slice()
             .partition_point(|slot| self.is_before(*slot, here))
     }
 
-    /// How many marks don't come after a mark.
-    fn count_until(&self, here: &Mark) -> usize
+    /// How many marks come before a mark.
+    fn count_before(&self, here: &Mark) -> usize
         requires { IsOrder (slots_of self.now) self.now.in_order.items }
-        ensures { PartsAt (λ m. not (comes_before (seen here.now) m)) (marks_of self.now) result }
+        ensures { PartsAt (λ m. comes_before m (seen here.now)) (marks_of self.now) result }
+    {
+        self.count_before_spot(&here.spot())
+    }
+
+    /// How many marks don't come after a spot.
+    fn count_until(&self, here: &Spot<'_>) -> usize
+        requires { IsOrder (slots_of self.now) self.now.in_order.items }
+        ensures { PartsAt (λ m. not (comes_before (spotted here.now) m)) (marks_of self.now) result }
     {
         self.in_order
             .as_slice()
@@ -160,20 +168,20 @@ impl Table {
         }
     }
 
-    /// The first mark that comes after a mark.
-    pub fn first_after(&self, here: &Mark) -> Option<&Mark>
+    /// The first mark that comes after a spot.
+    pub fn first_after(&self, here: &Spot<'_>) -> Option<&Mark>
         requires { IsTable self.now }
-        ensures { option_map seen (option_copied result) ≡ first_passing (comes_before (seen here.now)) (marks_of self.now) }
+        ensures { option_map seen (option_copied result) ≡ first_passing (comes_before (spotted here.now)) (marks_of self.now) }
     {
         self.mark_at(self.count_until(here))
     }
 
-    /// The last mark that comes before a mark.
-    pub fn last_until(&self, here: &Mark) -> Option<&Mark>
+    /// The last mark that comes before a spot.
+    pub fn last_until(&self, here: &Spot<'_>) -> Option<&Mark>
         requires { IsTable self.now }
-        ensures { option_map seen (option_copied result) ≡ find_last (λ m. comes_before m (seen here.now)) (marks_of self.now) }
+        ensures { option_map seen (option_copied result) ≡ find_last (λ m. comes_before m (spotted here.now)) (marks_of self.now) }
     {
-        let count = self.count_before(here);
+        let count = self.count_before_spot(here);
         if count == 0 {
             None
         } else {

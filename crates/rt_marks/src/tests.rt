@@ -1,4 +1,5 @@
-use crate::{Gravity, Marks};
+use crate::place::{place_inserted, place_removed};
+use crate::{Gravity, Marks, Spot};
 use rt_stamps::Fault;
 use std::test::Fail;
 
@@ -43,6 +44,61 @@ fn order_by_place_gravity_and_name(rt: HostRuntime) -> Result<(), Fail> {
     assert_eq!(rt; marks.first_at(1), Some("a"));
     assert_eq!(rt; marks.last_before(3), Some("m"));
     assert_eq!(rt; marks.next("q"), None);
+    Ok(())
+}
+
+// The name of the mark after a spot and of the mark before it.
+fn about<'a>(
+    marks: &'a Marks,
+    place: usize,
+    gravity: Gravity,
+    name: &str,
+) -> (Option<&'a str>, Option<&'a str>) {
+    let here = Spot {
+        place,
+        gravity,
+        name,
+    };
+    let after = marks.first_after(&here).map(|mark| mark.name);
+    let before = marks.last_until(&here).map(|mark| mark.name);
+    (after, before)
+}
+
+// What stands about a spot where no mark stands, among marks of its place.
+#[test]
+fn about_a_spot(rt: HostRuntime) -> Result<(), Fail> {
+    let mut marks = Marks::new(rt.alloc());
+    marks.set("c", 3)?;
+    marks.set("b", 3)?;
+    marks.set("z", 3)?;
+    marks.set_gravity("z", Gravity::Left)?;
+    assert_eq!(rt;
+        about(&marks, 3, Gravity::Right, "bb"),
+        (Some("c"), Some("b"))
+    );
+    assert_eq!(rt;
+        about(&marks, 3, Gravity::Right, "a"),
+        (Some("b"), Some("z"))
+    );
+    assert_eq!(rt;
+        about(&marks, 3, Gravity::Right, "b"),
+        (Some("c"), Some("z"))
+    );
+    assert_eq!(rt; about(&marks, 3, Gravity::Left, ""), (Some("z"), None));
+    assert_eq!(rt; about(&marks, 4, Gravity::Left, ""), (None, Some("c")));
+    assert!(rt; marks.find("q").is_none());
+    Ok(())
+}
+
+// A place that isn't a mark's moves by the same rule.
+#[test]
+fn one_place(rt: HostRuntime) -> Result<(), Fail> {
+    assert_eq!(rt; place_inserted(1, 2, 1, Gravity::Left), 1);
+    assert_eq!(rt; place_inserted(1, 2, 1, Gravity::Right), 3);
+    assert_eq!(rt; place_inserted(1, 2, 0, Gravity::Right), 0);
+    assert_eq!(rt; place_removed(2, 3, 9), 6);
+    assert_eq!(rt; place_removed(2, 3, 4), 2);
+    assert_eq!(rt; place_removed(2, 3, 1), 1);
     Ok(())
 }
 

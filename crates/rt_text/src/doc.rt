@@ -13,7 +13,7 @@ ghost use Rattle.rt_text.specs.Index.{index_check, place_at_index};
 ghost use Rattle.rt_text.specs.Ranges.{ranges_of};
 ghost use Rattle.rt_text.specs.Removals.{is_covered, gone_at, stamps_at, span_count, operations_for, AreInOrder};
 ghost use Rattle.rt_text.specs.Spans.{gone_in_any, is_in_spans};
-ghost use Rattle.rt_text.specs.Widgets.{IsOwnOf, is_own, widget_of, own_inserted, own_left};
+ghost use Rattle.rt_text.specs.Widgets.{AreSiteMarks, IsOwnOf, is_own, widget_of, own_inserted, own_left};
 ghost use Rattle.rt_text.specs.Commands.{without_places, count_check, cell_check, inserted, deleted, got_one, got, got_list, position_of_index, compared, counted};
 
 use crate::distance::{distances_of, measures_of};
@@ -176,7 +176,8 @@ impl<S: TextStore> Doc<S> {
 
     /// The site's marks. A widget's own marks aren't among them.
     pub fn marks(&self) -> &Marks
-        ensures { result.now ≡ self.now.marks }
+        ensures value { result.now ≡ self.now.marks }
+        ensures site { AreSiteMarks (length (text_of self.now.cells)) self.now.marks }
     {
         &self.marks
     }

@@ -1,7 +1,7 @@
-use Rattle.std.proofs.Common.{◌≡◌, ◌∙◌, ◌+◌, ◌<◌, ◌≤◌, ap, arith, get_or, length, map, refl, subst, sym}
+use Rattle.std.proofs.Common.{◌∙◌, ◌+◌, ◌<◌, ◌≤◌, ap, arith, get_or, length, refl, subst, sym}
 use Rattle.rt_marks.specs.declared.mark.Mark.{Mark as KeptMark}
-use Rattle.rt_marks.specs.Marks.{Mark, mark_inserted, place_inserted}
-use Rattle.rt_marks.specs.Seen.{seen, seen_all}
+use Rattle.rt_marks.specs.Marks.{mark_inserted, place_inserted}
+use Rattle.rt_marks.specs.Seen.{seen_all}
 use Rattle.rt_marks.proofs.Moving.{each_at, one_written, replaced, seen_map, unwritten, written_back}
 use Rattle.rt_marks.proofs.table.insert_places.Goals as goal
 

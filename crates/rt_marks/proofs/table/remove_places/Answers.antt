@@ -1,5 +1,5 @@
-use Rattle.std.proofs.Common.{◌≡◌, ◌∙◌, ap, arith, map, refl}
-use Rattle.rt_marks.specs.Marks.{Mark, mark_removed, place_removed}
+use Rattle.std.proofs.Common.{◌∙◌, ap, arith, refl}
+use Rattle.rt_marks.specs.Marks.{mark_removed, place_removed}
 use Rattle.rt_marks.specs.Seen.{seen_all}
 use Rattle.rt_marks.proofs.Moving.{one_written, replaced, seen_map, written_back}
 use Rattle.rt_marks.proofs.table.remove_places.Goals as goal

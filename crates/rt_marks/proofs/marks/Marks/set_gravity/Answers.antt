@@ -1,5 +1,5 @@
 use Rattle.std.proofs.Common.{◌≡◌, ◌∙◌, None, Some, ap, refl, sym}
-use Rattle.rt_marks.specs.Marks.{Mark, marks_with_gravity, named}
+use Rattle.rt_marks.specs.Marks.{marks_with_gravity, named}
 use Rattle.rt_marks.specs.Seen.{in_slot}
 use Rattle.rt_marks.specs.Tables.{marks_of, slots_of}
 use Rattle.rt_marks.proofs.Edits.{gravity_of_found, gravity_of_none}

@@ -1,8 +1,7 @@
-use Rattle.std.proofs.Common.{◌≡◌, ◌∙◌, ℕ, ap, subst, sym, length, List, [], ◌∷◌, ◌++◌}
+use Rattle.std.proofs.Common.{◌≡◌, ◌∙◌, ap, subst, sym, length, [], ◌∷◌, ◌++◌}
 use Rattle.std.specs.List.{insert}
-use Rattle.rt_marks.specs.Marks.{Mark, with_mark}
 use Rattle.rt_marks.specs.Seen.{IsIndexed, in_slots, seen, seen_all}
-use Rattle.rt_marks.specs.Tables.{marks_of, slots_of}
+use Rattle.rt_marks.specs.Tables.{slots_of}
 use Rattle.rt_marks.proofs.Changes.{added_indexed, added_view}
 use Rattle.rt_marks.proofs.Slots.{are_ordered}
 use Rattle.rt_marks.proofs.Tables.{seen_length, seen_push}

@@ -1,10 +1,8 @@
-use Rattle.std.proofs.Common.{rules, of_calls, ◌≡◌, ◌≤◌, length, true, false, nat_lt, not, subst}
+use Rattle.std.proofs.Common.{rules, of_calls, ◌≡◌, ◌≤◌, length, true, false, nat_lt, subst}
 use Rattle.std.specs.List.Sorted.{IsPartitionedBy, IsPartitionPoint}
 use Rattle.std.proofs.lemmas.Fn.{always_returns_same}
-use Rattle.rt_marks.specs.Marks.{Mark, comes_before}
-use Rattle.rt_marks.specs.Seen.{seen}
 use Rattle.rt_marks.specs.Tables.{slots_of}
-use Rattle.rt_marks.proofs.Searching.{before_down, below_down, of_slot, parts_from, until_down}
+use Rattle.rt_marks.proofs.Searching.{below_down, of_slot, parts_from}
 use Rattle.rt_marks.proofs.table.Table.count_below.Goals as goal
 
 pub returns : goal.returns

@@ -1,4 +1,4 @@
-use Rattle.std.proofs.Common.{◌≡◌, ◌∙◌, Some, ap, subst, sym, get_or}
+use Rattle.std.proofs.Common.{◌≡◌, ◌∙◌, Some, ap, sym, get_or}
 use Rattle.rt_marks.specs.Seen.{in_slot}
 use Rattle.rt_marks.specs.Tables.{slots_of}
 use Rattle.rt_marks.proofs.Searching.{named_at, none_named}

@@ -1,8 +1,6 @@
-use Rattle.std.proofs.Common.{◌∙◌, nat_le, nat_lt, not}
-use Rattle.rt_marks.specs.Marks.{Mark, comes_before}
-use Rattle.rt_marks.specs.Seen.{seen}
+use Rattle.std.proofs.Common.{◌∙◌, nat_le, nat_lt}
 use Rattle.rt_marks.specs.Tables.{marks_of}
-use Rattle.rt_marks.proofs.Searching.{found_next, turned, twice}
+use Rattle.rt_marks.proofs.Searching.{found_next, turned}
 use Rattle.rt_marks.proofs.Slots.{are_ordered}
 use Rattle.rt_marks.proofs.table.Table.first_at.Goals as goal
 

@@ -1,4 +1,4 @@
-use Rattle.rt_marks.specs.Tables.{marks_of, slots_of}
+use Rattle.rt_marks.specs.Tables.{slots_of}
 use Rattle.rt_marks.proofs.Removing.{each_slot, inserted_table}
 use Rattle.rt_marks.proofs.table.Table.inserted.Goals as goal
 

@@ -1,6 +1,4 @@
 use Rattle.std.proofs.Common.{◌∙◌, nat_lt, arith}
-use Rattle.rt_marks.specs.Marks.{Mark, comes_before}
-use Rattle.rt_marks.specs.Seen.{seen}
 use Rattle.rt_marks.specs.Tables.{marks_of}
 use Rattle.rt_marks.proofs.Searching.{found_last, found_none}
 use Rattle.rt_marks.proofs.Slots.{are_ordered}

@@ -1,6 +1,5 @@
-use Rattle.std.proofs.Common.{◌≡◌, ◌∙◌, ◌+◌, ◌-◌, ◌<◌, ◌≤◌, ap, arith, get_or, length, refl, set, subst, sym}
-use Rattle.std.specs.List.{insert, remove}
-use Rattle.rt_marks.specs.Marks.{Mark, comes_before, put_mark}
+use Rattle.std.proofs.Common.{◌≡◌, ◌∙◌, ◌<◌, ap, refl, subst, sym}
+use Rattle.rt_marks.specs.Marks.{put_mark}
 use Rattle.rt_marks.specs.Seen.{IsIndexed, in_slot, in_slots, seen}
 use Rattle.rt_marks.specs.Tables.{marks_of, slots_of}
 use Rattle.rt_marks.proofs.Changes.{moved_out_table, moved_table, stands_before}

@@ -1,4 +1,4 @@
-use Rattle.std.proofs.Common.{◌≡◌, ◌∙◌, ap, subst, sym, ◌<◌, length, get_or, List, ℕ}
+use Rattle.std.proofs.Common.{◌≡◌, ◌∙◌, ap, subst, sym, ◌<◌}
 use Rattle.rt_marks.specs.Marks.{Mark}
 use Rattle.rt_marks.specs.Seen.{IsGap, in_slot, names_of}
 use Rattle.rt_marks.specs.Tables.{by_names, slots_of}

@@ -1,6 +1,5 @@
-use Rattle.std.proofs.Common.{◌≡◌, ◌∙◌, ap, sym}
+use Rattle.std.proofs.Common.{◌∙◌, ap}
 use Rattle.rt_marks.specs.Marks.{without}
-use Rattle.rt_marks.specs.Seen.{in_slot}
 use Rattle.rt_marks.specs.Tables.{marks_of, slots_of}
 use Rattle.rt_marks.proofs.Edits.{nothing_removed}
 use Rattle.rt_marks.proofs.Searching.{none_named}

@@ -2,7 +2,7 @@ use Rattle.std.proofs.Common.{◌≡◌, ap}
 use Rattle.rt_marks.specs.Marks.{marks_removed}
 use Rattle.rt_marks.specs.Seen.{IsIndexed, in_slots, seen_all}
 use Rattle.rt_marks.specs.Tables.{marks_of, slots_of}
-use Rattle.rt_marks.proofs.Removing.{Rewritten, rewritten, rewritten_table, right_room}
+use Rattle.rt_marks.proofs.Removing.{rewritten, rewritten_table, right_room}
 use Rattle.rt_marks.proofs.Slots.{are_ordered}
 use Rattle.rt_marks.proofs.table.Table.removed.Goals as goal
 

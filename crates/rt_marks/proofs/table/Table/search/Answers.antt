@@ -1,5 +1,4 @@
-use Rattle.std.proofs.Common.{rules, of_calls, ◌≡◌, IfOk, IfErr, subst}
-use Rattle.std.specs.List.{HoldsAt}
+use Rattle.std.proofs.Common.{rules, of_calls, subst}
 use Rattle.std.specs.List.Sorted.{IsBinarySearchResult}
 use Rattle.std.proofs.lemmas.Fn.{always_returns_same}
 use Rattle.rt_marks.specs.Marks.{name_order}

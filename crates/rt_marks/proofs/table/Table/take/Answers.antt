@@ -1,6 +1,5 @@
-use Rattle.std.proofs.Common.{◌≡◌, ◌∙◌, ◌+◌, ◌-◌, ◌<◌, ◌≤◌, ap, arith, get_or, length, refl, set, subst, sym}
-use Rattle.std.specs.List.{remove}
-use Rattle.rt_marks.specs.Marks.{Mark, without}
+use Rattle.std.proofs.Common.{◌≡◌, ◌∙◌, ◌+◌, ◌-◌, ◌<◌, ap, arith, length, subst, sym}
+use Rattle.rt_marks.specs.Marks.{without}
 use Rattle.rt_marks.specs.Seen.{IsIndexed, in_slot, in_slots, seen, seen_all}
 use Rattle.rt_marks.specs.Tables.{marks_of, slots_of}
 use Rattle.rt_marks.proofs.Changes.{stands_before, taken_table}

@@ -1,4 +1,4 @@
-use Rattle.std.proofs.Common.{◌∙◌, ◌<◌, ap, length, set, subst, sym}
+use Rattle.std.proofs.Common.{◌∙◌, ◌<◌, ap, set, subst, sym}
 use Rattle.std.proofs.lemmas.List.{map-set}
 use Rattle.rt_marks.specs.Marks.{Mark}
 use Rattle.rt_marks.specs.Seen.{seen}

@@ -1,4 +1,4 @@
-use Rattle.std.proofs.Common.{◌≡◌, ◌∙◌, ◌+◌, ◌<◌, ◌≤◌, ap, arith, get_or, length, refl, set, subst, sym, true, ℕ}
+use Rattle.std.proofs.Common.{◌≡◌, ◌∙◌, ◌+◌, ◌<◌, ap, arith, get_or, length, refl, set, subst, sym, ℕ}
 use Rattle.rt_marks.specs.Seen.{seen_all, slot_stands}
 use Rattle.rt_marks.specs.Tables.{slots_of}
 use Rattle.rt_marks.proofs.Writing.{IsWritten, all_written, not_written, nothing_written, one_more_written, room_for}

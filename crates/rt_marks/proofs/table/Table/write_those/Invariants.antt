@@ -1,5 +1,5 @@
-use Rattle.std.proofs.Common.{◌≡◌, ◌+◌, ◌++◌, filter, length, take, drop}
-use Rattle.rt_marks.specs.Seen.{overwritten, slot_stands}
+use Rattle.std.proofs.Common.{◌≡◌}
+use Rattle.rt_marks.specs.Seen.{slot_stands}
 use Rattle.rt_marks.specs.Tables.{slots_of}
 use Rattle.rt_marks.proofs.Writing.{IsWritten}
 use Rattle.rt_marks.proofs.table.Table.write_those.Given as goal
