@@ -46,10 +46,6 @@ pub names_of_some : (state : State) (words : List (String Global)) → false ≡
 names_of_some state [] h = absurd (cc)
 names_of_some state (word ∷ words) h = refl
 
-pub no_words_are : (words : List (String Global)) → true ≡ (length words == 0) → map (λ w. string_bytes w) words ≡ []
-no_words_are [] h = refl
-no_words_are (word ∷ words) h = absurd (cc)
-
 -- a state is its document and its widget's marks
 abbrev pub state_of : Flat → Own → State
 state_of doc own = record { doc = doc; own = own }
