@@ -1,16 +1,16 @@
 -- Words and steps.
-use Rattle.std.proofs.Common.{◌≡◌, ◌==◌, false, ◌≤◌, ◌<◌, inl, inr, Ok, Err, Result, get_or, ◌∙◌, ℕ, ◌+◌, ◌-◌, Bool, List, [], ◌∷◌, cond, map, take, drop, length, refl, ap, arith, String, Global, string_bytes}
+use Rattle.std.proofs.Common.{◌≡◌, ◌==◌, true, false, ◌≤◌, ◌<◌, inl, inr, Ok, Err, Result, get_or, ◌∙◌, ℕ, ◌+◌, ◌-◌, Bool, List, [], ◌∷◌, cond, map, take, drop, length, refl, ap, arith, String, Global, string_bytes}
 use Rattle.std.specs.List.{prefix_len}
 use Rattle.std.proofs.lemmas.List.{take-map, drop-map, length-map, take_all, length-drop}
 use Rattle.std.specs.Prelude.{IfOk, IfErr}
 use Rattle.rt_stamps.specs.declared.fault.Fault.{Fault}
-use Rattle.rt_stamps.specs.declared.fault.Fault.TheVariants.{NoMemory}
+use Rattle.rt_stamps.specs.declared.fault.Fault.TheVariants.{NoMemory, BadCommand}
 use Rattle.rt_stamps.specs.Outcomes.{Answers, Refuses}
 use Rattle.rt_stamps.specs.Words.{Word}
 use Rattle.rt_text.specs.Flat.{Flat}
-use Rattle.rt_text.specs.Commands.{deleted}
+use Rattle.rt_text.specs.Widgets.{Own}
 use Rattle.rt_peers.specs.State.{State}
-use Rattle.rt_peers.specs.Step.{as_outcome, delete_step, removal_step, get_step, list_step, count_step, counted_step, distances_step, is_switch}
+use Rattle.rt_peers.specs.Step.{Outcome, as_outcome, changed_step, mark_unset_step, unset_step, mark_gravity_step, mark_names_step, delete_step, removal_step, get_step, list_step, count_step, counted_step, distances_step, is_switch}
 
 -- three indices or more
 many : (state : State) (words : List Word) → 3 ≤ length words → get_step state words ≡ list_step state words
@@ -27,14 +27,32 @@ pub delete_of_some : (state : State) (words : List (String Global)) → false �
 delete_of_some state [] h = absurd (cc)
 delete_of_some state (word ∷ words) h = refl
 
--- a refusal of the removal
-pub removal_refused : (state : State) (indices : List Word) (fault found : Fault) → Refuses (deleted state.doc indices) found → fault ≡ found → Refuses (removal_step state indices) fault
-removal_refused state indices fault found (inl e) h = inl (h ∙ e)
-removal_refused state indices fault found (inr e) h = inr (rw (e, h) refl)
+-- names to unset, one or more
+pub unset_of_some : (state : State) (words : List (String Global)) → false ≡ (length words == 0) → mark_unset_step state (map (λ w. string_bytes w) words) ≡ unset_step state (map (λ w. string_bytes w) words)
+unset_of_some state [] h = absurd (cc)
+unset_of_some state (word ∷ words) h = refl
 
--- a state is its document
-abbrev pub state_of : Flat → State
-state_of doc = record { doc = doc }
+-- `mark gravity` of three words or more, and `mark names` of any
+gravity_many : (state : State) (words : List Word) → 3 ≤ length words → mark_gravity_step state words ≡ Err BadCommand
+gravity_many state [] h = absurd (omega arith)
+gravity_many state (a ∷ []) h = absurd (omega arith)
+gravity_many state (a ∷ b ∷ []) h = absurd (omega arith)
+gravity_many state (a ∷ b ∷ c ∷ words) h = refl
+
+pub gravity_of_many : (state : State) (words : List (String Global)) → 3 ≤ length words → mark_gravity_step state (map (λ w. string_bytes w) words) ≡ Err BadCommand
+gravity_of_many state words h = gravity_many state (map (λ w. string_bytes w) words) (rw (length-map words (λ w. string_bytes w)) h)
+
+pub names_of_some : (state : State) (words : List (String Global)) → false ≡ (length words == 0) → mark_names_step state (map (λ w. string_bytes w) words) ≡ Err BadCommand
+names_of_some state [] h = absurd (cc)
+names_of_some state (word ∷ words) h = refl
+
+-- a state is its document and its widget's marks
+abbrev pub state_of : Flat → Own → State
+state_of doc own = record { doc = doc; own = own }
+
+-- a state whose parts stayed
+pub same_state : (doc doc' : Flat) (own own' : Own) (state : State) → (doc ≡ doc') × (own ≡ own') → state_of doc' own' ≡ state → state_of doc own ≡ state
+same_state doc doc' own own' state h v = rw (h.0, h.1) v
 
 -- the words at the front that pass a test
 prefix_len_map : {X Y : Type 0} (f : X → Y) (p : Y → Bool) (xs : List X) → prefix_len p (map f xs) ≡ prefix_len (λ x. p (f x)) xs
@@ -54,14 +72,38 @@ replied_with state f outcome value (Ok reply) e ok err = rw (e, ok) refl
 replied_with state f outcome value (Err fault) e ok err = (refl, inl err)
 
 -- what is refused stays refused
+pub refused_by : {T : Type 0} (f : T → List Word × State) (outcome : Result T Fault) (fault found : Fault) → Refuses outcome found → fault ≡ found → Refuses (as_outcome f outcome) fault
+refused_by f outcome fault found (inl e) h = inl (h ∙ e)
+refused_by f outcome fault found (inr e) h = inr (rw (e, h) refl)
+
 pub refused_with : {T : Type 0} (state : State) (f : T → List Word) (outcome : Result T Fault) (fault found : Fault) → Refuses outcome found → fault ≡ found
     → Refuses (as_outcome (λ v. (f v, state)) outcome) fault
-refused_with state f outcome fault found (inl e) h = inl (h ∙ e)
-refused_with state f outcome fault found (inr e) h = inr (rw (e, h) refl)
+refused_with state f outcome = refused_by (λ v. (f v, state)) outcome
+
+pub change_refused : (outcome : Result (Flat × Own) Fault) (fault found : Fault) → Refuses outcome found → fault ≡ found → Refuses (changed_step outcome) fault
+change_refused outcome = refused_by (λ changed. ([], record { doc = changed.0; own = changed.1 })) outcome
+
+-- words by their number
+pub single : (words : List (String Global)) (x : String Global) → 1 ≤ length words → length words < 2 → x ≡ get_or words 0 x → map (λ w. string_bytes w) words ≡ string_bytes x ∷ []
+single [] x h k a = absurd (omega arith)
+single (w ∷ []) x h k a = rw a refl
+single (w ∷ v ∷ words) x h k a = absurd (omega arith)
+
+pub pair : (words : List (String Global)) (x y : String Global) → 2 ≤ length words → length words < 3 → x ≡ get_or words 0 x → y ≡ get_or words 1 y
+    → map (λ w. string_bytes w) words ≡ string_bytes x ∷ string_bytes y ∷ []
+pair [] x y h k a b = absurd (omega arith)
+pair (w ∷ []) x y h k a b = absurd (omega arith)
+pair (w ∷ v ∷ []) x y h k a b = rw (a, b) refl
+pair (w ∷ v ∷ u ∷ words) x y h k a b = absurd (omega arith)
+
+pub triple : (words : List (String Global)) (x y z : String Global) → 3 ≤ length words → length words < 4 → x ≡ get_or words 0 x → y ≡ get_or words 1 y → z ≡ get_or words 2 z
+    → map (λ w. string_bytes w) words ≡ string_bytes x ∷ string_bytes y ∷ string_bytes z ∷ []
+triple [] x y z h k a b c = absurd (omega arith)
+triple (w ∷ []) x y z h k a b c = absurd (omega arith)
+triple (w ∷ v ∷ []) x y z h k a b c = absurd (omega arith)
+triple (w ∷ v ∷ u ∷ []) x y z h k a b c = rw (a, b, c) refl
+triple (w ∷ v ∷ u ∷ t ∷ words) x y z h k a b c = absurd (omega arith)
 
 pub two_indices : (state : State) (switches : List Word) (words : List (String Global)) (from to : String Global) → 2 ≤ length words → length words < 3 → from ≡ get_or words 0 from → to ≡ get_or words 1 to
     → counted_step state switches (map (λ w. string_bytes w) words) ≡ distances_step state switches (string_bytes from) (string_bytes to)
-two_indices state switches [] from to h k a b = absurd (omega arith)
-two_indices state switches (x ∷ []) from to h k a b = absurd (omega arith)
-two_indices state switches (x ∷ y ∷ []) from to h k a b = rw (a, b) refl
-two_indices state switches (x ∷ y ∷ z ∷ words) from to h k a b = absurd (omega arith)
+two_indices state switches words from to h k a b = rw (pair words from to h k a b) refl

@@ -5,6 +5,6 @@ pub mod command;
 pub mod reply;
 pub mod site;
 
-pub use command::Command;
+pub use command::{Command, MarkCommand};
 pub use reply::Reply;
 pub use site::SiteState;

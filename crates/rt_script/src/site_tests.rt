@@ -194,7 +194,7 @@ const DELETIONS: [(&str, &str); 9] = [
     ),
     (
         ".t insert 1.0 abc\n.t delete 1.0 1.2 x\n.t delete end\n.t delete end-1c\n.t delete 1.2 1.1\n.t delete 1.1 1.1\n.t delete 1.3\n.t get 1.0 end\n",
-        "=\n! 2 BadIndex\n=\n! 2 BadIndex\n=\n=\n=\n= \"abc\\n\"\n",
+        "=\n! 2 BadIndex\n=\n=\n=\n=\n=\n= \"abc\\n\"\n",
     ),
     (
         ".t insert 1.0 abc\n.t delete 1.1\n.t insert 1.1 xy\n.t get 1.0 end\n.t delete 1.0 1.end\n.t get 1.0 end\n.t insert end z\n.t get 1.0 end\n",
@@ -250,9 +250,71 @@ const RANGES: [(&str, &str); 9] = [
     ),
 ];
 
+// Index expressions, each on a new site.
+const INDICES: [(&str, &str); 5] = [
+    (
+        ".t index end\n.t get 1.0 end\n.t index end-1c\n",
+        "= 2.0\n= \"\\n\"\n= 1.0\n",
+    ),
+    (
+        ".t insert 1.0 hi\n.t index \"1.0 -1c +1c\"\n.t index 9.9\n.t index 1.99\n.t index \"1.0 + 5 lines\"\n.t index \"end - 1 lines\"\n.t index \"end linestart\"\n.t index \"1.0 wordend\"\n.t index \"1.2 wordend\"\n.t index x.first\n.t index sel.first\n",
+        "=\n= 1.1\n= 2.0\n= 1.2\n= 1.0\n= 1.0\n= 2.0\n= 1.2\n= 1.2\n! 2 BadIndex\n! 3 NoneTagged\n",
+    ),
+    (
+        ".t insert 1.0 \"ab cd\"\n.t index \"1.3 wordstart - 2 c\"\n.t index \"1.0 + -1 any chars\"\n.t index \"1.0 lineen\"\n.t index \"1.4 any wordstart\"\n.t index \"1.0 line\"\n.t mark set insert end\n.t index insert\n.t mark unset insert\n.t index insert\n.t mark gravity insert left\n.t mark set insert 1.0\n.t mark gravity insert\n",
+        "=\n= 1.1\n= 1.0\n= 1.5\n= 1.3\n! 2 BadIndex\n=\n= 1.5\n=\n= 1.5\n=\n=\n= left\n",
+    ),
+    (
+        ".t insert 1.0 \"one two\\nthree\"\n.t get \"1.4 wordstart\" \"1.4 wordend\"\n.t delete \"1.3 linestart\" \"1.3 + 1 c\"\n.t get 1.0 end\n.t compare \"1.0 + 1 lines\" == 2.0\n.t count -lines \"1.0 lineend\" end-1c\n.t insert \"end - 1 c linestart\" X\n.t get \"2.0 linestart\" \"2.0 lineend\"\n",
+        "=\n= two\n=\n= \"two\\nthree\\n\"\n= 1\n= 1\n=\n= Xthree\n",
+    ),
+    (
+        ".t index \"sel.first foo\"\n.t compare sel.first < x\n.t compare x < sel.first\n.t get 1.0 sel.last\n.t insert sel.first a\n.t delete 1.0 sel.last x\n.t count sel.first 1.0\n.t index \"1.0 \"\n.t index \" 1.0\"\n.t index @1,2\n",
+        "! 2 BadIndex\n! 3 NoneTagged\n! 2 BadIndex\n! 3 NoneTagged\n! 3 NoneTagged\n! 3 NoneTagged\n! 3 NoneTagged\n= 1.0\n! 2 BadIndex\n! 2 BadIndex\n",
+    ),
+];
+
+// Marks, each on a new site.
+const MARKS: [(&str, &str); 7] = [
+    (
+        ".t insert 1.0 ab\n.t mark set l 1.1\n.t mark gravity l left\n.t mark set r 1.1\n.t insert 1.1 XY\n.t index l\n.t index r\n.t index insert\n.t mark names\n.t mark next 1.0\n.t mark next l\n.t mark previous r\n.t mark gravity r\n",
+        "=\n=\n=\n=\n=\n= 1.1\n= 1.3\n= 1.4\n= current insert l r\n= l\n= r\n= l\n= right\n",
+    ),
+    (
+        ".t insert 1.0 abcdef\n.t mark set 1.0 1.3\n.t index 1.0\n.t mark set end 1.4\n.t index end\n.t mark set \"a b\" 1.5\n.t index \"a b\"\n.t mark set m+1c 1.5\n.t index m+1c\n.t mark set t.first 1.1\n.t index t.first\n.t index \"t.first + 1 c\"\n.t mark names\n.t mark next \"a b\"\n.t mark next m+1c\n.t mark previous m+1c\n.t mark next 1.0\n.t mark previous end\n.t mark gravity 1.0\n.t mark unset 1.0 \"a b\" m+1c end nosuch\n.t mark names\n",
+        "=\n=\n= 1.0\n=\n= 2.0\n=\n! 2 BadIndex\n=\n! 2 BadIndex\n=\n= 1.1\n= 1.2\n= 1.0 \"a b\" current end insert m+1c t.first\n= m+1c\n= current\n= \"a b\"\n= t.first\n= insert\n= right\n=\n= current insert t.first\n",
+    ),
+    (
+        ".t mark\n.t mark frob\n.t mark set a\n.t mark set a 1.0 b\n.t mark unset\n.t mark gravity\n.t mark gravity a left b\n.t mark names x\n.t mark next\n.t mark next 1.0 1.0\n.t mark previous\n",
+        "! 4 BadCommand\n! 4 BadCommand\n! 4 BadCommand\n! 4 BadCommand\n! 4 BadCommand\n! 4 BadCommand\n! 4 BadCommand\n! 4 BadCommand\n! 4 BadCommand\n! 4 BadCommand\n! 4 BadCommand\n",
+    ),
+    (
+        ".t mark gravity \"\" up\n.t mark gravity q up\n.t mark gravity \"\"\n.t mark gravity \"\" left\n.t mark gravity q\n.t mark gravity q left\n.t mark set \"\" x\n.t mark set q x\n.t mark set q sel.first\n.t mark unset insert \"\"\n.t mark next x\n.t mark next sel.last\n.t mark next \"\"\n.t mark previous x\n.t mark previous sel.first\n.t mark names\n",
+        "! 9 BadOption\n! 9 BadOption\n! 14 BadName\n! 14 BadName\n! 8 NoMark\n! 8 NoMark\n! 14 BadName\n! 2 BadIndex\n! 3 NoneTagged\n! 14 BadName\n! 2 BadIndex\n! 3 NoneTagged\n! 2 BadIndex\n! 2 BadIndex\n! 3 NoneTagged\n= current insert\n",
+    ),
+    (
+        ".t insert 1.0 abcdef\n.t mark set m 1.3\n.t delete 1.1 1.5\n.t index m\n.t delete 1.0 end\n.t index m\n.t index insert\n.t mark names\n.t insert end xy\n.t index m\n",
+        "=\n=\n=\n= 1.1\n=\n= 1.0\n= 1.0\n= current insert m\n=\n= 1.2\n",
+    ),
+    (
+        ".t insert 1.0 abc\n.t mark set a 1.1\n.t mark set b 1.2\n.t mark set c end\n.t delete 1.0 1.1 1.2 1.3\n.t index a\n.t index b\n.t index c\n.t index insert\n.t mark next 1.1\n.t mark next b\n.t mark next insert\n.t mark next c\n.t mark previous a\n.t mark previous 1.1\n.t mark previous end\n",
+        "=\n=\n=\n=\n=\n= 1.0\n= 1.1\n= 2.0\n= 1.1\n= b\n= current\n= c\n=\n=\n= a\n= insert\n",
+    ),
+    (
+        ".t mark set zz 1.0\n.t mark set aa 1.0\n.t mark gravity zz left\n.t mark next 1.0\n.t mark next zz\n.t mark next aa\n.t mark set insert end\n.t index insert\n.t mark set current end\n.t index current\n.t insert insert x\n.t index zz\n.t index insert\n",
+        "=\n=\n=\n= zz\n= aa\n= current\n=\n= 1.0\n=\n= 2.0\n=\n= 1.0\n= 1.1\n",
+    ),
+];
+
 #[test]
 fn replies_of_scripts(rt: HostRuntime) {
-    for (script, want) in TABLE.iter().chain(RANGES.iter()).chain(DELETIONS.iter()) {
+    for (script, want) in TABLE
+        .iter()
+        .chain(RANGES.iter())
+        .chain(DELETIONS.iter())
+        .chain(INDICES.iter())
+        .chain(MARKS.iter())
+    {
         for size in [1, 3, 4096] {
             let pieces = Pieces {
                 bytes: script.as_bytes(),

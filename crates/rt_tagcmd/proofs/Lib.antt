@@ -1,0 +1,4 @@
+pub mod About
+pub mod ByBytes
+pub mod LookingLaws
+pub mod NameChecks

@@ -1,0 +1,195 @@
+-- What `mark next` and `mark previous` find from where they look.
+use Rattle.std.proofs.Common.{◌≡◌, ℕ, zero, suc, ◌+◌, ◌<◌, ◌≤◌, ◌&&◌, ◌||◌, nat_le, nat_lt, List, [], ◌∷◌, find, length, true, false, not, refl, sym, ap, ◌∙◌, Bool, cond, subst, arith, Option, Some, None, is_some, option_map, Result, Ok, Err, ◌⊎◌, inl, inr}
+use Rattle.std.specs.Prelude.{codes, option_and_then}
+use Rattle.std.specs.Option.{option_or}
+use Rattle.std.specs.Ordering.{nat_cmp, ordering_then, is_lt}
+use Rattle.std.specs.Result.{result_err, result_unwrap_or}
+use Rattle.std.specs.Str.{bytes_eq}
+use Rattle.std.specs.declared.cmp.Ordering.{Ordering}
+use Rattle.std.specs.declared.cmp.Ordering.TheVariants.{Less}
+use Rattle.std.proofs.lemmas.Bool.Decides.{nat_tests}
+use Rattle.std.proofs.lemmas.Cmp.{ranked, by_ranked}
+use Rattle.std.proofs.lemmas.Slice.Eq.{bytes_eq-Decides}
+use Rattle.rt_index.specs.Index.{index_of}
+use Rattle.rt_marks.specs.declared.gravity.Gravity.{Gravity}
+use Rattle.rt_marks.specs.declared.gravity.Gravity.TheVariants.{Left, Right}
+use Rattle.rt_marks.specs.Marks.{Mark, Each, IsName, gravity_order, name_order, comes_before, with_mark, is_named, named, find_last, mark_after, mark_before, first_mark_at, last_mark_before}
+use Rattle.rt_marks.proofs.InOrder.{split, each_with}
+use Rattle.rt_marks.proofs.Names.{clash, same_name, named_with, none_cons}
+use Rattle.rt_stamps.specs.declared.fault.Fault.{Fault}
+use Rattle.rt_stamps.specs.Outcomes.{unless, Refuses}
+use Rattle.rt_stamps.specs.Words.{Word}
+use Rattle.rt_text.specs.Flat.{Flat}
+use Rattle.rt_text.specs.Widgets.{Own, IsOwnOf, IsSiteMark, AreSiteMarks, is_own, mark_among, mark_of, marks_of, widget_of}
+use Rattle.rt_tagcmd.specs.Looking.{edge, mark_or, looked_from}
+use Rattle.rt_tagcmd.specs.MarkCommands.{name_of, names_mark, mark_next, mark_previous}
+
+-- FROM AN EDGE
+
+least_name : (name : List ℕ) → IsName name → name_order [] name ≡ Less
+least_name [] h = absurd (omega (arith, h.0))
+least_name (c ∷ name) h = refl
+
+first_there : (gravity : Gravity) (o : Ordering) → o ≡ Less → is_lt (ordering_then (gravity_order Left gravity) o) ≡ true
+first_there Left o e = ap is_lt e
+first_there Right o e = refl
+
+at_or_after : (x y : ℕ) (o : Ordering) → is_lt o ≡ true → is_lt (ordering_then (nat_cmp x y) o) ≡ nat_le x y
+at_or_after x y o h =
+    by_ranked _ _ _ (nat_cmp x y) (ranked x y (nat_cmp x y) refl)
+    (λ e l. ap (λ v. is_lt (ordering_then v o)) e ∙ le_true l)
+    (λ e same. ap (λ v. is_lt (ordering_then v o)) e ∙ h ∙ le_same same)
+    (λ e l. ap (λ v. is_lt (ordering_then v o)) e ∙ le_false l)
+  where
+    le_true : x < y → true ≡ nat_le x y
+    le_true l = grind (arith, nat_tests)
+
+    le_same : x ≡ y → true ≡ nat_le x y
+    le_same l = grind (arith, nat_tests)
+
+    le_false : y < x → false ≡ nat_le x y
+    le_false l = grind (arith, nat_tests)
+
+-- an edge comes before just the marks at its place or behind it
+edge_first : (place : ℕ) (m : Mark) → IsName m.name → comes_before (edge place) m ≡ nat_le place m.place
+edge_first place m h = at_or_after place m.place (ordering_then (gravity_order Left m.gravity) (name_order [] m.name)) (first_there m.gravity (name_order [] m.name) (least_name m.name h))
+
+not_least : (name : List ℕ) → is_lt (name_order name []) ≡ false
+not_least [] = refl
+not_least (c ∷ name) = refl
+
+last_there : (gravity : Gravity) (o : Ordering) → is_lt o ≡ false → is_lt (ordering_then (gravity_order gravity Left) o) ≡ false
+last_there Left o e = e
+last_there Right o e = refl
+
+strictly_before : (x y : ℕ) (o : Ordering) → is_lt o ≡ false → is_lt (ordering_then (nat_cmp x y) o) ≡ nat_lt x y
+strictly_before x y o h =
+    by_ranked _ _ _ (nat_cmp x y) (ranked x y (nat_cmp x y) refl)
+    (λ e l. ap (λ v. is_lt (ordering_then v o)) e ∙ lt_true l)
+    (λ e same. ap (λ v. is_lt (ordering_then v o)) e ∙ h ∙ lt_same same)
+    (λ e l. ap (λ v. is_lt (ordering_then v o)) e ∙ lt_false l)
+  where
+    lt_true : x < y → true ≡ nat_lt x y
+    lt_true l = grind (arith, nat_tests)
+
+    lt_same : x ≡ y → false ≡ nat_lt x y
+    lt_same l = grind (arith, nat_tests)
+
+    lt_false : y < x → false ≡ nat_lt x y
+    lt_false l = grind (arith, nat_tests)
+
+-- and just the marks strictly before its place come before it
+edge_last : (place : ℕ) (m : Mark) → comes_before m (edge place) ≡ nat_lt m.place place
+edge_last place m = strictly_before m.place place (ordering_then (gravity_order m.gravity Left) (name_order m.name [])) (last_there m.gravity (name_order m.name []) (not_least m.name))
+
+find_same : (p q : Mark → Bool) (marks : List Mark) → Each (λ m. p m ≡ q m) marks → find p marks ≡ find q marks
+find_same p q [] h = refl
+find_same p q (m ∷ marks) h = λ i. cond (h.0 i) (Some m) (find_same p q marks h.1 i)
+
+last_same : (p q : Mark → Bool) (marks : List Mark) → ((m : Mark) → p m ≡ q m) → find_last p marks ≡ find_last q marks
+last_same p q [] h = refl
+last_same p q (m ∷ marks) h = λ i. option_or (last_same p q marks h i) (cond (h m i) (Some m) None)
+
+each_edge : (place : ℕ) (marks : List Mark) → Each (λ m. IsName m.name) marks → Each (λ m. nat_le place m.place ≡ comes_before (edge place) m) marks
+each_edge place [] h = tt
+each_edge place (m ∷ marks) h = (sym (edge_first place m h.0), each_edge place marks h.1)
+
+first_from_edge : (place : ℕ) (marks : List Mark) → Each (λ m. IsName m.name) marks → first_mark_at place marks ≡ find (comes_before (edge place)) marks
+first_from_edge place marks h = find_same (λ m. nat_le place m.place) (comes_before (edge place)) marks (each_edge place marks h)
+
+last_from_edge : (place : ℕ) (marks : List Mark) → last_mark_before place marks ≡ find_last (λ m. comes_before m (edge place)) marks
+last_from_edge place marks = last_same (λ m. nat_lt m.place place) (λ m. comes_before m (edge place)) marks (λ m. sym (edge_last place m))
+
+-- THE MARKS OF A WIDGET
+
+-- no mark of the site has an own mark's name
+pub none_own : (n : ℕ) (q : List ℕ) (marks : List Mark) → AreSiteMarks n marks → is_own q ≡ true → named q marks ≡ None
+none_own n q [] h t = refl
+none_own n q (m ∷ marks) h t =
+    let more = none_own n q marks h.1 t in
+    split (is_named q m)
+    (λ s. absurd (clash _ (subst (λ v. is_own v ≡ true) (sym (same_name m.name q s)) t) h.0.2))
+    (λ f. none_cons q m marks f more)
+
+site_names : (n : ℕ) (marks : List Mark) → AreSiteMarks n marks → Each (λ m. IsName m.name) marks
+site_names n [] h = tt
+site_names n (m ∷ marks) h = (h.0.1, site_names n marks h.1)
+
+turned : (a b : List ℕ) → bytes_eq a b ≡ bytes_eq b a
+turned a b =
+    split (bytes_eq a b)
+    (λ t. t ∙ sym ((bytes_eq-Decides b a).1 (sym (same_name a b t))))
+    (λ f. f ∙ split (bytes_eq b a) (λ s. absurd (clash _ ((bytes_eq-Decides a b).1 (sym (same_name b a s))) f)) (λ g. sym g))
+
+-- the names of own marks are two
+apart : (own : Own) → own.insert.name ≡ codes "insert" → own.current.name ≡ codes "current" → is_named own.insert.name own.current ≡ false
+apart own a b = (λ i. bytes_eq (b i) (a i))
+
+pub named_all : (own : Own) (marks : List Mark) (q : List ℕ) → own.insert.name ≡ codes "insert" → own.current.name ≡ codes "current" → named (codes "insert") marks ≡ None → named (codes "current") marks ≡ None → named q (with_mark own.insert (with_mark own.current marks)) ≡ mark_among own marks q
+named_all own marks q a b na nb =
+    let none : named own.current.name marks ≡ None = ap (λ v. named v marks) b ∙ nb in
+    let both : named own.insert.name (with_mark own.current marks) ≡ None =
+    named_with own.insert.name own.current marks none ∙ none_cons own.insert.name own.current marks (apart own a b) (ap (λ v. named v marks) a ∙ na) in
+    named_with q own.insert (with_mark own.current marks) both
+    ∙ ap (λ v. cond (is_named q own.insert) (Some own.insert) v) (named_with q own.current marks none)
+    ∙ (λ i. cond ((turned own.insert.name q ∙ ap (bytes_eq q) a) i) (Some own.insert) (cond ((turned own.current.name q ∙ ap (bytes_eq q) b) i) (Some own.current) (named q marks)))
+
+-- WHAT IS FOUND
+
+abbrev pub found_from : (Mark → Option Word) → Result Mark Fault → Result (Option Word) Fault
+found_from find_from (Ok m) = Ok (find_from m)
+found_from find_from (Err fault) = Err fault
+
+either_way : (b : Bool) (m : Option Mark) (r : Result ℕ Fault) (named_one : Option Word) (at_place : ℕ → Option Word) (find_from : Mark → Option Word)
+    → (b ≡ true → is_some m ≡ true) → ((x : Mark) → m ≡ Some x → named_one ≡ find_from x) → ((p : ℕ) → at_place p ≡ find_from (edge p))
+    → cond b (Ok named_one) (unless (result_err r) (at_place (result_unwrap_or r 0))) ≡ found_from find_from (mark_or (cond b m None) (unless (result_err r) (edge (result_unwrap_or r 0))))
+either_way true (Some x) r n f g t s e = ap (λ v. Ok v) (s x refl)
+either_way true None r n f g t s e = absurd (clash false (t refl) refl)
+either_way false m (Ok p) n f g t s e = ap (λ v. Ok v) (e p)
+either_way false m (Err fault) n f g t s e = refl
+
+first_test : (a b : Bool) → (a && b) ≡ true → a ≡ true
+first_test true b h = refl
+first_test false b h = h
+
+-- what is so of a document and a widget on it
+pub record AreMarks (flat : Flat) (own : Own) (n : ℕ) : Type 0 where
+  pub site : AreSiteMarks n flat.marks
+  pub insert : own.insert.name ≡ codes "insert"
+  pub current : own.current.name ≡ codes "current"
+
+named_among : (flat : Flat) (own : Own) (n : ℕ) (word : Word) → AreMarks flat own n → named word (marks_of own flat) ≡ mark_of own flat word
+named_among flat own n word h = named_all own flat.marks word h.insert h.current (none_own n (codes "insert") flat.marks h.site refl) (none_own n (codes "current") flat.marks h.site refl)
+
+own_named : (name : List ℕ) (q : List ℕ) → name ≡ q → IsName q → IsName name
+own_named name q e h = subst IsName (sym e) h
+
+all_named : (flat : Flat) (own : Own) (n : ℕ) → AreMarks flat own n → Each (λ m. IsName m.name) (marks_of own flat)
+all_named flat own n h =
+    each_with (λ m. IsName m.name) own.insert (with_mark own.current flat.marks) (own_named own.insert.name (codes "insert") h.insert (omega arith, omega arith))
+    (each_with (λ m. IsName m.name) own.current flat.marks (own_named own.current.name (codes "current") h.current (omega arith, omega arith)) (site_names n flat.marks h.site))
+
+pub next_found : (flat : Flat) (own : Own) (n : ℕ) (word : Word) → AreMarks flat own n → mark_next flat own word ≡ found_from (λ m. name_of (find (comes_before m) (marks_of own flat))) (looked_from flat own word)
+next_found flat own n word h =
+    let marks = marks_of own flat in
+    either_way (names_mark flat own word) (mark_of own flat word) (index_of (widget_of flat own) word) (name_of (mark_after word marks)) (λ p. name_of (first_mark_at p marks)) (λ m. name_of (find (comes_before m) marks))
+    (λ t. first_test _ _ t)
+    (λ x e. ap (λ o. name_of (option_and_then (λ m. find (comes_before m) marks) o)) (named_among flat own n word h ∙ e))
+    (λ p. ap name_of (first_from_edge p marks (all_named flat own n h)))
+
+pub previous_found : (flat : Flat) (own : Own) (n : ℕ) (word : Word) → AreMarks flat own n → mark_previous flat own word ≡ found_from (λ m. name_of (find_last (λ x. comes_before x m) (marks_of own flat))) (looked_from flat own word)
+previous_found flat own n word h =
+    let marks = marks_of own flat in
+    either_way (names_mark flat own word) (mark_of own flat word) (index_of (widget_of flat own) word) (name_of (mark_before word marks)) (λ p. name_of (last_mark_before p marks)) (λ m. name_of (find_last (λ x. comes_before x m) marks))
+    (λ t. first_test _ _ t)
+    (λ x e. ap (λ o. name_of (option_and_then (λ m. find_last (λ x. comes_before x m) marks) o)) (named_among flat own n word h ∙ e))
+    (λ p. ap name_of (last_from_edge p marks))
+
+-- a refusal of the look is the command's
+pub refused_from : (outcome : Result (Option Word) Fault) (looked : Result Mark Fault) (find_from : Mark → Option Word) (fault found : Fault) → outcome ≡ found_from find_from looked → Refuses looked found → fault ≡ found → Refuses outcome fault
+refused_from outcome looked f fault found e (inl n) s = inl (s ∙ n)
+refused_from outcome looked f fault found e (inr r) s = inr (e ∙ ap (found_from f) r ∙ ap (λ x. Err x) (sym s))
+
+pub named_of_site : (n : ℕ) (own : Own) (marks now : List Mark) (current : Mark) → AreSiteMarks n marks → now ≡ marks → current ≡ own.current → own.current.name ≡ codes "current" → named current.name now ≡ None
+named_of_site n own marks now current h e c k =
+    (λ i. named (c i).name (e i)) ∙ ap (λ v. named v marks) k ∙ none_own n (codes "current") marks h refl

@@ -1,0 +1,6 @@
+pub mod Looking
+pub mod MarkCommands
+pub use Rattle.rt_marks.specs.Marks
+pub use Rattle.rt_stamps.specs.Outcomes
+pub use Rattle.rt_text.specs.Flat
+pub use Rattle.rt_text.specs.Widgets

@@ -1,0 +1,51 @@
+// The names of marks.
+ghost use Rattle.std.specs.Prelude.{◌≡◌, ◌≤◌, IfOk, IfErr, OnOk, OnErr, length, map, string_bytes};
+ghost use Rattle.std.specs.List.{prefix_len};
+ghost use Rattle.std.specs.Ordering.{is_lt};
+ghost use Rattle.rt_marks.specs.Marks.{name_order};
+ghost use Rattle.rt_tagcmd.specs.MarkCommands.{mark_names, with_name};
+
+use rt_stamps::Fault;
+use rt_store::TextStore;
+use rt_text::{Doc, OwnMark};
+use std::alloc::Global;
+
+/// Whether a name comes before another by their bytes.
+fn is_below(x: &String, name: &str) -> bool
+    ensures { result ≡ is_lt (name_order (string_bytes x.now) name.now) }
+{
+    x.as_str().cmp(name).is_lt()
+}
+
+/// How many names at the front come before a name by their bytes.
+fn count_below(names: &[String], name: &str) -> usize
+    ensures value { result ≡ prefix_len (λ x. is_lt (name_order (string_bytes x) name.now)) names.now }
+    ensures within { result ≤ length names.now }
+{
+    names.iter().take_while(|x| is_below(x, name)).count()
+}
+
+/// Puts a name among names that ascend by their bytes.
+fn add_name(alloc: Global, names: &mut Vec<String>, name: &str) -> Result<(), Fault>
+    ensures ok { OnOk result (map (λ s. string_bytes s) names.new.items ≡ with_name name.now (map (λ s. string_bytes s) names.old.items)) }
+    ensures fault { IfErr result (λ fault. fault ≡ Fault.NoMemory) }
+{
+    let added = String::from_str(alloc, name)?;
+    let at = count_below(names, name);
+    names.insert(at, added)?;
+    Ok(())
+}
+
+/// `mark names` (Tk text manual): the names of all marks of a widget by their bytes, `insert` and
+/// `current` among them. `NoMemory` is its only fault.
+pub fn mark_names<S: TextStore>(alloc: Global, doc: &Doc<S>) -> Result<Vec<String>, Fault>
+    ensures ok { IfOk result (λ names. map (λ s. string_bytes s) names.items ≡ mark_names doc.now) }
+    ensures fault { IfErr result (λ fault. fault ≡ Fault.NoMemory) }
+{
+    let marks = doc.marks();
+    marks.order();
+    let mut names = marks.names()?;
+    add_name(alloc, &mut names, OwnMark::Current.name())?;
+    add_name(alloc, &mut names, OwnMark::Insert.name())?;
+    Ok(names)
+}
