@@ -315,6 +315,10 @@ def failing_allocations():
             (".t compare 1.0 < end", lambda text: (text, "= 1")),
             (".t get 1.0 end", lambda text: (text, f'= "{text}\\n"')),
             (".t index 1.end", lambda text: (text, f"= 1.{len(text)}")),
+            (".t index {1.0 + 1 c + 1 c + 1 c + 1 c + 1 c}", lambda text: (text, "= 1.5" if len(text) >= 5 else "= 2.0")),
+            (".t mark set m 1.1", lambda text: (text, "=")),
+            (".t mark gravity insert", lambda text: (text, "= right")),
+            (".t mark next end", lambda text: (text, "=")),
         ]
         script = "".join(line + "\n" for line, _ in asks)
         number, quiet, refused = 0, 0, 0
@@ -338,7 +342,19 @@ def failing_allocations():
         check("the last of them is behind us", number < 400, True)
 
 
-for part in (whole_scripts, hostile_bytes, asks_and_waits, statuses, files, failing_allocations):
+def many_marks():
+    """A thousand marks in ten thousand characters, and a hundred in one gap: one insertion moves those at its place or behind it."""
+    lines = [".t insert 1.0 " + "x" * 10000]
+    lines += [f".t mark set m{i} 1.{10 * i}" for i in range(1000)]
+    lines += [line for i in range(100) for line in (f".t mark set g{i} 1.5000", f".t mark gravity g{i} " + ("left" if i % 2 else "right"))]
+    lines += [".t insert 1.5000 abc"]
+    asks = [f".t index m{i}" for i in range(1000)] + [f".t index g{i}" for i in range(100)]
+    wants = [f"= 1.{10 * i + (3 if i >= 500 else 0)}" for i in range(1000)] + ["= 1.5000" if i % 2 else "= 1.5003" for i in range(100)]
+    out, err, status = run("".join(line + "\n" for line in lines + asks).encode())
+    check("many marks", (out.decode().splitlines(), err, status), (["="] * len(lines) + wants, b"", 0))
+
+
+for part in (whole_scripts, hostile_bytes, asks_and_waits, statuses, files, failing_allocations, many_marks):
     part()
 print(f"{passed} passed, {failed} failed")
 sys.exit(1 if failed else 0)

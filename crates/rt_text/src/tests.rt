@@ -35,7 +35,7 @@ impl Page {
     fn new(alloc: Global, clock: Clock) -> Result<Page, Fail> {
         let site = Site::new(1).ok_or("a site")?;
         let store = ListStore::new(alloc)?;
-        let doc = Doc::with_clock(alloc, store, site, 1000, clock)?;
+        let doc = Doc::with_clock(alloc, store, site, 20_000, clock)?;
         let widget = Widget::new();
         Ok(Page { doc, widget })
     }
@@ -398,5 +398,49 @@ fn a_hundred_marks_in_one_gap(rt: HostRuntime) -> Result<(), Fail> {
     stand_in_turn(&rt, alloc, &page, 2, 2)?;
     assert_eq!(rt; page.next("m98"), Some("m01"));
     assert_eq!(rt; page.get("1.0", "end")?.as_str(), "0389\n");
+    Ok(())
+}
+
+// Ten thousand characters.
+fn ten_thousand(alloc: Global) -> Result<String, Fail> {
+    let mut text = String::new(alloc);
+    for _ in 0..1000usize {
+        text.push_str("0123456789")?;
+    }
+    Ok(text)
+}
+
+// Sets a thousand marks in a line, ten characters apart.
+fn set_a_thousand(alloc: Global, page: &mut Page) -> Result<(), Fail> {
+    for i in 0..1000usize {
+        let name = format!(in alloc; "m{i}")?;
+        let index = format!(in alloc; "1.{i}0")?;
+        page.set(name.as_str(), index.as_str())?;
+    }
+    Ok(())
+}
+
+// Whether a mark stands at a character of the first line.
+fn stands(alloc: Global, page: &Page, i: usize, character: usize) -> Result<bool, Fail> {
+    let name = format!(in alloc; "m{i}")?;
+    Ok(page.index(name.as_str()) == Ok(Position { line: 1, character }))
+}
+
+// One insertion moves those of a thousand marks that stand at its place or behind it.
+#[test]
+fn a_thousand_marks_in_ten_thousand_characters(rt: HostRuntime) -> Result<(), Fail> {
+    let alloc = rt.alloc();
+    let mut page = Page::new(alloc, Clock::new())?;
+    let text = ten_thousand(alloc)?;
+    page.insert("1.0", text.as_str())?;
+    set_a_thousand(alloc, &mut page)?;
+    page.insert("1.5000", "abc")?;
+    let mut character = 0usize;
+    for i in 0..1000usize {
+        let moved = if i < 500 { 0 } else { 3 };
+        let wanted = character.saturating_add(moved);
+        assert!(rt; stands(alloc, &page, i, wanted)?, "mark {i}");
+        character = character.saturating_add(10);
+    }
     Ok(())
 }
