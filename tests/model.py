@@ -319,6 +319,8 @@ class Chance(random.Random):
 
 def main():
     chance, passed, failed = Chance(SEED), 0, 0
+    # the launcher may have to build the program first, and says so on standard error
+    subprocess.run([PROGRAM, "--version"], capture_output=True, check=True)
     for number in range(SCRIPTS):
         widget = Widget()
         commands = [chance.command() for _ in range(chance.randrange(1, 80))]
@@ -337,4 +339,5 @@ def main():
     sys.exit(1 if failed else 0)
 
 
-main()
+if __name__ == "__main__":
+    main()
