@@ -1,4 +1,6 @@
 // Files as the program reads and writes them.
+ghost use Rattle.std.specs.Prelude.{◌≡◌, None};
+
 use std::fs::{self, File, Files, OpenFile, OpenOptions};
 use std::io::{self, Read, Write};
 
@@ -11,7 +13,11 @@ pub struct LazyFile<'a, R: Files> {
 }
 
 impl<'a, R: Files> LazyFile<'a, R> {
-    pub fn new(rt: &'a R, path: &'a str) -> Self {
+    /// The file of a path, which is not opened yet.
+    pub fn new(rt: &'a R, path: &'a str) -> Self
+        ensures path { result.path.now ≡ path.now }
+        ensures unopened { result.file ≡ None }
+    {
         LazyFile {
             rt,
             path,
