@@ -1,14 +1,8 @@
-pub mod BareWords
-pub mod Braces
 pub mod EndsLaws
-pub mod Fronts
 pub mod LinesLaws
 pub mod Named
-pub mod Quotes
 pub mod ReadReplies
 pub mod ReplyWords
 pub mod RunLaws
-pub mod Spelling
 pub mod TakenWords
 pub mod Walks
-pub mod WordSteps

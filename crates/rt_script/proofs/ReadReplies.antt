@@ -6,7 +6,7 @@ use Rattle.rt_stamps.specs.Lines.{is_blank}
 use Rattle.rt_stamps.specs.Words.{Word, EndsWord, IsBare, IsEscaped, IsSpelling, Spells, escape_of, needs_quotes, text_of_word}
 use Rattle.rt_script.specs.declared.answer.Answer.TheVariants.{Replied}
 use Rattle.rt_script.specs.Replies.{text_of_answer}
-use Rattle.rt_script.proofs.BareWords.{both_false}
+use Rattle.rt_words.proofs.BareWords.{both_false}
 
 not_needed : (c n : ℕ) → needs_quotes n ≡ true → needs_quotes c ≡ false → (c == n) ≡ false
 not_needed c n y h = ne_eqb c n (λ e. true≢false (sym y ∙ sym (ap needs_quotes e) ∙ h))
@@ -19,7 +19,7 @@ no_blanks [] h = refl
 no_blanks (c ∷ word) h =
     let p = both_false (needs_quotes c) (list_any needs_quotes word) h in rw (no_blank c p.0) (no_blanks word p.1)
 
-written_bare : (c : ℕ) (word : List ℕ) → list_any needs_quotes (c ∷ word) ≡ false → IsBare (c ∷ word)
+written_bare : (c : ℕ) (word : List ℕ) → list_any needs_quotes (c ∷ word) ≡ false → IsBare is_blank (c ∷ word)
 written_bare c word h =
     let p = (both_false (needs_quotes c) (list_any needs_quotes word) h).0 in
     (rw (not_needed c 34 refl p, not_needed c 123 refl p) refl, no_blanks (c ∷ word) h)
@@ -28,16 +28,16 @@ written_escaped : (word : Word) → IsEscaped (flat_map escape_of word) word
 written_escaped [] = refl
 written_escaped (c ∷ word) = (escape_of c, flat_map escape_of word, refl, inl refl, written_escaped word)
 
-written_by : (b : Bool) (c : ℕ) (word : Word) → list_any needs_quotes (c ∷ word) ≡ b → list_any needs_quotes (c ∷ word) ≡ b → IsSpelling (text_of_word (c ∷ word)) (c ∷ word)
+written_by : (b : Bool) (c : ℕ) (word : Word) → list_any needs_quotes (c ∷ word) ≡ b → list_any needs_quotes (c ∷ word) ≡ b → IsSpelling is_blank (text_of_word (c ∷ word)) (c ∷ word)
 written_by true c word e f = rw e (inr (inl (flat_map escape_of (c ∷ word), refl, written_escaped (c ∷ word))))
 written_by false c word e f = rw e (inl (written_bare c word f, refl))
 
 -- a word is spelled as it is written
-pub written : (word : Word) → IsSpelling (text_of_word word) word
+pub written : (word : Word) → IsSpelling is_blank (text_of_word word) word
 written [] = inr (inl ([], refl, refl))
 written (c ∷ word) = written_by (list_any needs_quotes (c ∷ word)) c word refl refl
 
-spaced_ends : (words : List Word) → EndsWord (flat_map (λ word. 32 ∷ text_of_word word) words)
+spaced_ends : (words : List Word) → EndsWord is_blank (flat_map (λ word. 32 ∷ text_of_word word) words)
 spaced_ends [] = tt
 spaced_ends (word ∷ words) = refl
 

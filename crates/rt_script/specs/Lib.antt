@@ -1,6 +1,5 @@
 pub mod CommandLine
 pub mod Files
-pub mod FirstWord
 pub mod Pieces
 pub mod Replies
 pub mod Run

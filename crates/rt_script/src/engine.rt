@@ -10,11 +10,11 @@ ghost use Rattle.rt_script.specs.Replies.{reply_line};
 ghost use Rattle.rt_script.specs.Run.{LineGives, Ends};
 
 use crate::reply::reply_line;
-use crate::words::words;
 use crate::{Answer, Commands};
 use rt_stamps::limits::{MOST_BYTES, MOST_LINE_BYTES, MOST_READS};
 use rt_stamps::std_ends::{Count, Writer};
 use rt_stamps::{Failed, Fault, Sink, Source, write_all};
+use rt_words::words::words;
 use std::alloc::Global;
 use std::marker::Brand;
 use std::str;

@@ -1,13 +1,8 @@
-// Laws of the definitions, each the contract of a function that does nothing.
+// A law of the definitions, as the contract of a function that does nothing.
 ghost use Rattle.std.specs.Prelude.{◌≡◌, ◌∷◌, ℕ, List, codes};
 ghost use Rattle.rt_stamps.specs.Words.{Word, Spells};
 ghost use Rattle.rt_script.specs.declared.answer.Answer.TheVariants.{Replied};
 ghost use Rattle.rt_script.specs.Replies.{text_of_answer};
-
-/// A line spells at most one list of words.
-pub fn spelling_is_unique()
-    ensures { (line : List ℕ) (a b : List Word) → Spells line a → Spells line b → a ≡ b }
-{}
 
 /// The text of a reply spells `=` and the reply's words, whatever characters they have, and
 /// nothing else.

@@ -18,7 +18,6 @@ pub mod site_lines;
 mod site_tests;
 #[cfg(test)]
 mod tests;
-pub mod words;
 
 pub use answer::Answer;
 pub use command_line::{Line, LineFault};
@@ -28,5 +27,6 @@ pub use join::{JoinFault, join_files};
 pub use parse_line::line;
 pub use reply::reply_line;
 pub use rt_peers::{Command, Reply, SiteState};
+pub use rt_words::words;
 pub use scripts::run;
 pub use show::show_file;

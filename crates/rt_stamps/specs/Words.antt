@@ -1,4 +1,4 @@
--- Words of a line, and how a word is written.
+-- Words of a line and of a list, and how a word is written.
 use Rattle.std.specs.Prelude.{◌≡◌, ◌≢◌, ◌⊎◌, ℕ, ◌==◌, ◌||◌, ◌≤◌, List, [], ◌∷◌, ◌++◌, Bool, true, false, take, flat_map, codes, if◌then◌else◌}
 use Rattle.std.specs.List.{list_any, list_all, count_by}
 use Rattle.rt_stamps.specs.Lines.{is_blank}
@@ -6,18 +6,22 @@ use Rattle.rt_stamps.specs.Lines.{is_blank}
 abbrev pub Word : Type 0
 Word = List ℕ
 
-abbrev pub AreBlank : List ℕ → Type 0
-AreBlank gap = list_all is_blank gap ≡ true
+-- in a list of words a newline separates them too
+abbrev pub is_list_blank : ℕ → Bool
+is_list_blank c = is_blank c || (c == 10)
 
--- nothing follows, or a space or a tab
-abbrev pub EndsWord : List ℕ → Type 0
-EndsWord [] = Unit {0}
-EndsWord (c ∷ rest) = is_blank c ≡ true
+abbrev pub AreSeparators : (ℕ → Bool) → List ℕ → Type 0
+AreSeparators separates gap = list_all separates gap ≡ true
 
--- a bare word is not empty, has no space or tab, and begins with no quote or brace
-abbrev pub IsBare : List ℕ → Type 0
-IsBare [] = ⊥
-IsBare (c ∷ piece) = ((c == 34) || (c == 123) ≡ false) × (list_any is_blank (c ∷ piece) ≡ false)
+-- nothing follows, or a separator
+abbrev pub EndsWord : (ℕ → Bool) → List ℕ → Type 0
+EndsWord separates [] = Unit {0}
+EndsWord separates (c ∷ rest) = separates c ≡ true
+
+-- a bare word is not empty, has no separator, and begins with no quote or brace
+abbrev pub IsBare : (ℕ → Bool) → List ℕ → Type 0
+IsBare separates [] = ⊥
+IsBare separates (c ∷ piece) = ((c == 34) || (c == 123) ≡ false) × (list_any separates (c ∷ piece) ≡ false)
 
 -- a character within quotes: newline, tab, carriage return, backslash and quote have an escape, any other is as it is
 abbrev pub escape_of : ℕ → List ℕ
@@ -53,19 +57,33 @@ IsBalanced text = (closing text ≡ opening text) × ((n : ℕ) → closing (tak
 abbrev pub IsBraced : List ℕ → Word → Type 0
 IsBraced piece word = (piece ≡ 123 ∷ word ++ (125 ∷ [])) × IsBalanced word
 
--- a piece of a line spells a word: a bare word is each of its characters as it is
-abbrev pub IsSpelling : List ℕ → Word → Type 0
-IsSpelling piece word = (IsBare piece × (word ≡ piece)) ⊎ IsQuoted piece word ⊎ IsBraced piece word
+-- a piece of a text spells a word: a bare word is each of its characters as it is
+abbrev pub IsSpelling : (ℕ → Bool) → List ℕ → Word → Type 0
+IsSpelling separates piece word = (IsBare separates piece × (word ≡ piece)) ⊎ IsQuoted piece word ⊎ IsBraced piece word
 
--- A line spells words: each has its piece of the line, and spaces or tabs stand between the pieces, and perhaps before
--- the first and after the last.
+-- A text spells words: each has its piece of the text, and separators stand between the pieces, and perhaps before the
+-- first and after the last.
+abbrev pub SpellsBy : (ℕ → Bool) → List ℕ → List Word → Type 0
+SpellsBy separates text [] = AreSeparators separates text
+SpellsBy separates text (word ∷ words) = (gap piece rest : List ℕ) × (text ≡ gap ++ (piece ++ rest)) × AreSeparators separates gap × IsSpelling separates piece word × EndsWord separates rest × SpellsBy separates rest words
+
+-- a text that spells no words is badly quoted
+abbrev pub IsBadlyQuotedBy : (ℕ → Bool) → List ℕ → Type 0
+IsBadlyQuotedBy separates text = (words : List Word) → SpellsBy separates text words → ⊥
+
+-- in a line of a script spaces and tabs separate words
 abbrev pub Spells : List ℕ → List Word → Type 0
-Spells line [] = AreBlank line
-Spells line (word ∷ words) = (gap piece rest : List ℕ) × (line ≡ gap ++ (piece ++ rest)) × AreBlank gap × IsSpelling piece word × EndsWord rest × Spells rest words
+Spells = SpellsBy is_blank
 
--- a line that spells no words is badly quoted
 abbrev pub IsBadlyQuoted : List ℕ → Type 0
-IsBadlyQuoted line = (words : List Word) → Spells line words → ⊥
+IsBadlyQuoted = IsBadlyQuotedBy is_blank
+
+-- in a list of words, as of tags, newlines separate them too
+abbrev pub SpellsList : List ℕ → List Word → Type 0
+SpellsList = SpellsBy is_list_blank
+
+abbrev pub IsBadlyQuotedList : List ℕ → Type 0
+IsBadlyQuotedList = IsBadlyQuotedBy is_list_blank
 
 -- space, tab, newline, carriage return, quote, backslash and braces
 abbrev pub needs_quotes : ℕ → Bool

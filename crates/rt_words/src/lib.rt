@@ -1,0 +1,5 @@
+//! The words of a line of a script, and those of a list, as of tags.
+#![tactic(auto)]
+
+pub mod laws;
+pub mod words;

@@ -1,0 +1,398 @@
+// The words of a line and of a list.
+ghost use Rattle.std.specs.Prelude.{◌≡◌, ◌≢◌, ◌⊎◌, ℕ, ◌<◌, ◌≤◌, ◌∷◌, [], IfOk, IfErr, MatchOption, MatchResult, drop, map, not, false, length, slice_index, string_bytes};
+ghost use Rattle.std.specs.List.{prefix_len};
+ghost use Rattle.rt_stamps.specs.Lines.{is_blank};
+ghost use Rattle.rt_stamps.specs.Words.{EndsWord, Spells, SpellsBy, SpellsList, IsBadlyQuoted, IsBadlyQuotedBy, IsBadlyQuotedList, escape_of};
+ghost use Rattle.rt_words.specs.FirstWord.{BeginsWith, ClosesAt, IsFirstWord, HasNoFirstWord, IsQuotedFront, HasNoQuotedFront, IsBracedFront, HasNoBracedFront, is_plain};
+ghost use Rattle.rt_words.specs.Separators.{separates};
+
+use rt_stamps::Fault;
+use std::alloc::Global;
+
+/// The words of a line: bare, quoted or braced, with spaces and tabs between them. `BadQuoting`
+/// where the line spells no words, `NoMemory` where they can't be stored.
+pub fn words(alloc: Global, line: &str) -> Result<Vec<String>, Fault>
+    ensures ok { IfOk result (λ words. Spells line.now (map (λ w. string_bytes w) words.items)) }
+    ensures quoting { result ≡ Err Fault.BadQuoting → IsBadlyQuoted line.now }
+    ensures fault { IfErr result (λ fault. (fault ≡ Fault.NoMemory) ⊎ (fault ≡ Fault.BadQuoting)) }
+{
+    words_by(alloc, Separators::OfLine, line)
+}
+
+/// The words of a list, as of tags: those of a line, but that newlines stand between them too.
+/// `BadQuoting` where the list spells no words, `NoMemory` where they can't be stored.
+pub fn list_words(alloc: Global, list: &str) -> Result<Vec<String>, Fault>
+    ensures ok { IfOk result (λ words. SpellsList list.now (map (λ w. string_bytes w) words.items)) }
+    ensures quoting { result ≡ Err Fault.BadQuoting → IsBadlyQuotedList list.now }
+    ensures fault { IfErr result (λ fault. (fault ≡ Fault.NoMemory) ⊎ (fault ≡ Fault.BadQuoting)) }
+{
+    words_by(alloc, Separators::OfList, list)
+}
+
+// What separates words: spaces and tabs in a line, and newlines too in a list.
+#[derive(Clone, Copy)]
+enum Separators {
+    OfLine,
+    OfList,
+}
+
+impl Separators {
+    // Whether a character is one of them.
+    fn separates(self, c: u8) -> bool
+        ensures { result ≡ separates self c }
+    {
+        match self {
+            Separators::OfLine => is_blank(c),
+            Separators::OfList => is_blank(c) || c == b'\n',
+        }
+    }
+}
+
+// The words of a text, with separators between them.
+fn words_by(alloc: Global, separators: Separators, text: &str) -> Result<Vec<String>, Fault>
+    ensures ok { IfOk result (λ words. SpellsBy (separates separators) text.now (map (λ w. string_bytes w) words.items)) }
+    ensures quoting { result ≡ Err Fault.BadQuoting → IsBadlyQuotedBy (separates separators) text.now }
+    ensures fault { IfErr result (λ fault. (fault ≡ Fault.NoMemory) ⊎ (fault ≡ Fault.BadQuoting)) }
+{
+    let bytes = text.as_bytes();
+    let mut words = Vec::new(alloc);
+    let mut start = gap_len(separators, bytes);
+    while start < bytes.len() {
+        let first = first_word(alloc, separators, &text[start..])?;
+        words.push(first.word)?;
+        let end = start + first.len;
+        start = end + gap_len(separators, &bytes[end..]);
+    }
+    Ok(words)
+}
+
+// A word at the front of a text, and the length of what spells it.
+#[derive(Drop)]
+struct Front {
+    word: String,
+    len: usize,
+}
+
+// The word at the front of a text, which begins with no separator.
+fn first_word(alloc: Global, separators: Separators, text: &str) -> Result<Front, Fault>
+    requires some { 0 < length text.now }
+    requires dark { separates separators (slice_index text.now 0) ≡ false }
+    ensures ok { IfOk result (λ front. IsFirstWord (separates separators) text.now front.len (string_bytes front.word)) }
+    ensures quoting { result ≡ Err Fault.BadQuoting → HasNoFirstWord (separates separators) text.now }
+    ensures fault { IfErr result (λ fault. (fault ≡ Fault.NoMemory) ⊎ (fault ≡ Fault.BadQuoting)) }
+{
+    let bytes = text.as_bytes();
+    match bytes[0] {
+        b'"' => ended(separators, bytes, quoted_word(alloc, text)?),
+        b'{' => ended(separators, bytes, braced_word(alloc, text)?),
+        _ => bare_word(alloc, separators, text),
+    }
+}
+
+// A word that a separator or nothing follows.
+fn ended(separators: Separators, text: &[u8], front: Front) -> Result<Front, Fault>
+    requires { front.len ≤ length text.now }
+    ensures { MatchResult result (λ same. (same ≡ front) × EndsWord (separates separators) (drop front.len text.now)) (λ fault. (fault ≡ Fault.BadQuoting) × (EndsWord (separates separators) (drop front.len text.now) → ⊥)) }
+{
+    match text[front.len..].first() {
+        Some(c) if !separators.separates(*c) => Err(Fault::BadQuoting),
+        _ => Ok(front),
+    }
+}
+
+// The quoted word at the front of a text, whatever follows it.
+fn quoted_word(alloc: Global, text: &str) -> Result<Front, Fault>
+    requires { BeginsWith text.now 34 }
+    ensures ok { IfOk result (λ front. IsQuotedFront text.now front.len (string_bytes front.word)) }
+    ensures quoting { result ≡ Err Fault.BadQuoting → HasNoQuotedFront text.now }
+    ensures fault { IfErr result (λ fault. (fault ≡ Fault.NoMemory) ⊎ (fault ≡ Fault.BadQuoting)) }
+{
+    let bytes = text.as_bytes();
+    let mut word = String::new(alloc);
+    let mut start = 1;
+    while start < bytes.len() {
+        let end = start + plain_len(&bytes[start..]);
+        word.push_str(&text[start..end])?;
+        if end < bytes.len() && bytes[end] == b'"' {
+            return Ok(Front { word, len: end + 1 });
+        }
+        let Some(letter) = bytes.get(end + 1) else {
+            return Err(Fault::BadQuoting);
+        };
+        word.push(escaped(*letter)?)?;
+        start = end + 2;
+    }
+    Err(Fault::BadQuoting)
+}
+
+// The character that a backslash and a letter stand for.
+fn escaped(letter: u8) -> Result<char, Fault>
+    ensures { MatchResult result (λ c. (c < 128) × (escape_of c ≡ 92 ∷ letter ∷ [])) (λ fault. (fault ≡ Fault.BadQuoting) × ((c : ℕ) → escape_of c ≢ 92 ∷ letter ∷ [])) }
+{
+    match letter {
+        b'n' => Ok('\n'),
+        b't' => Ok('\t'),
+        b'r' => Ok('\r'),
+        b'\\' => Ok('\\'),
+        b'"' => Ok('"'),
+        _ => Err(Fault::BadQuoting),
+    }
+}
+
+// The braced word at the front of a text, whatever follows it.
+fn braced_word(alloc: Global, text: &str) -> Result<Front, Fault>
+    requires { BeginsWith text.now 123 }
+    ensures ok { IfOk result (λ front. IsBracedFront text.now front.len (string_bytes front.word)) }
+    ensures quoting { result ≡ Err Fault.BadQuoting → HasNoBracedFront text.now }
+    ensures fault { IfErr result (λ fault. (fault ≡ Fault.NoMemory) ⊎ (fault ≡ Fault.BadQuoting)) }
+{
+    let Some(len) = closing_brace(&text.as_bytes()[1..]) else {
+        return Err(Fault::BadQuoting);
+    };
+    let word = String::from_str(alloc, &text[1..len + 1])?;
+    Ok(Front { word, len: len + 2 })
+}
+
+// The place of the brace that closes one before the text.
+fn closing_brace(text: &[u8]) -> Option<usize>
+    ensures { MatchOption result ((place : ℕ) → ClosesAt text.now place → ⊥) (ClosesAt text.now) }
+{
+    let mut depth: usize = 0;
+    for (i, c) in text.iter().enumerate() {
+        match *c {
+            b'{' => depth += 1,
+            b'}' if depth == 0 => return Some(i),
+            b'}' => depth -= 1,
+            _ => {}
+        }
+    }
+    None
+}
+
+// The bare word at the front of a text.
+fn bare_word(alloc: Global, separators: Separators, text: &str) -> Result<Front, Fault>
+    requires some { 0 < length text.now }
+    requires dark { separates separators (slice_index text.now 0) ≡ false }
+    requires quote { slice_index text.now 0 ≢ 34 }
+    requires brace { slice_index text.now 0 ≢ 123 }
+    ensures ok { IfOk result (λ front. IsFirstWord (separates separators) text.now front.len (string_bytes front.word)) }
+    ensures fault { IfErr result (λ fault. fault ≡ Fault.NoMemory) }
+{
+    let len = bare_len(separators, text.as_bytes());
+    let word = String::from_str(alloc, &text[..len])?;
+    Ok(Front { word, len })
+}
+
+// How many separators a text begins with.
+fn gap_len(separators: Separators, text: &[u8]) -> usize
+    ensures { result ≡ prefix_len (separates separators) text.now }
+{
+    text.iter().take_while(|c| separators.separates(**c)).count()
+}
+
+// How many characters a text has before its first separator.
+fn bare_len(separators: Separators, text: &[u8]) -> usize
+    ensures { result ≡ prefix_len (λ c. not (separates separators c)) text.now }
+{
+    text.iter().take_while(|c| !separators.separates(**c)).count()
+}
+
+// How many characters a text has before its first quote or backslash.
+fn plain_len(text: &[u8]) -> usize
+    ensures { result ≡ prefix_len is_plain text.now }
+{
+    text.iter().take_while(|c| is_plain(**c)).count()
+}
+
+fn is_blank(c: u8) -> bool
+    ensures { result ≡ is_blank c }
+{
+    c == b' ' || c == b'\t'
+}
+
+fn is_plain(c: u8) -> bool
+    ensures { result ≡ is_plain c }
+{
+    c != b'"' && c != b'\\'
+}
+
+#[cfg(test)]
+mod tests {
+    use super::*;
+    use std::test::Fail;
+
+    // A bar before each word.
+    fn barred(alloc: Global, words: &[String]) -> Result<String, Fault> {
+        let mut text = String::new(alloc);
+        for word in words {
+            text.push('|')?;
+            text.push_str(word)?;
+        }
+        Ok(text)
+    }
+
+    #[test]
+    fn bare_words(rt: HostRuntime) -> Result<(), Fail> {
+        for (line, want) in [
+            ("", ""),
+            (" \t ", ""),
+            ("a", "|a"),
+            (".t insert 1.0 hello", "|.t|insert|1.0|hello"),
+            (" a\tb  \t c ", "|a|b|c"),
+            ("a\"b c{d e} }", "|a\"b|c{d|e}|}"),
+            ("a\\n \\ a\"b\" a{b}c", "|a\\n|\\|a\"b\"|a{b}c"),
+            ("#a \r", "|#a|\r"),
+            ("é\u{a0}ü \u{1f600}", "|é\u{a0}ü|\u{1f600}"),
+        ] {
+            let found = words(rt.alloc(), line)?;
+            assert_eq!(rt; barred(rt.alloc(), &found)?.as_str(), want, "in {line:?}");
+        }
+        Ok(())
+    }
+
+    #[test]
+    fn quoted_words(rt: HostRuntime) -> Result<(), Fail> {
+        for (line, want) in [
+            ("\"\"", "|"),
+            ("\"\" a \"\"", "||a|"),
+            ("\"a b\"", "|a b"),
+            ("\ta \"b\tc\"  \"{\" ", "|a|b\tc|{"),
+            ("\"\\n\\t\\r\\\\\\\"\"", "|\n\t\r\\\""),
+            ("\"a\\\"b\" \"\\\\\" c", "|a\"b|\\|c"),
+            ("\"a\\\\n\\n\"", "|a\\n\n"),
+            ("\"é ü\\n\u{1f600}\" é", "|é ü\n\u{1f600}|é"),
+            ("\"a\r} { b\"", "|a\r} { b"),
+        ] {
+            let found = words(rt.alloc(), line)?;
+            assert_eq!(rt; barred(rt.alloc(), &found)?.as_str(), want, "in {line:?}");
+        }
+        Ok(())
+    }
+
+    #[test]
+    fn braced_words(rt: HostRuntime) -> Result<(), Fail> {
+        for (line, want) in [
+            ("{}", "|"),
+            ("{} {} a", "|||a"),
+            ("{a b}", "|a b"),
+            ("{a {b {c} d} e} f", "|a {b {c} d} e|f"),
+            ("{{}{}}\t{{{}}}", "|{}{}|{{}}"),
+            ("{a\\} {\\n\"} b", "|a\\|\\n\"|b"),
+            ("{ \"a } ", "| \"a "),
+            ("{é {\u{1f600}}}", "|é {\u{1f600}}"),
+        ] {
+            let found = words(rt.alloc(), line)?;
+            assert_eq!(rt; barred(rt.alloc(), &found)?.as_str(), want, "in {line:?}");
+        }
+        Ok(())
+    }
+
+    // The words of replies, and the bytes that the lines of answers have for them.
+    #[test]
+    fn lines_of_replies(rt: HostRuntime) -> Result<(), Fail> {
+        for (line, want) in [
+            ("=", "|="),
+            ("= 2.0", "|=|2.0"),
+            ("= \"hello\\n\"", "|=|hello\n"),
+            ("= \"\"", "|=|"),
+            ("= a \"\" b", "|=|a||b"),
+            ("= \"}\" \"{\" \"a b\"", "|=|}|{|a b"),
+            ("= \"a b\" {c {d} e}", "|=|a b|c {d} e"),
+            ("= \"\\t\\r\" \"\\\"\\\\\"", "|=|\t\r|\"\\"),
+            ("= é#$[ \u{1f600}", "|=|é#$[|\u{1f600}"),
+        ] {
+            let found = words(rt.alloc(), line)?;
+            assert_eq!(rt; barred(rt.alloc(), &found)?.as_str(), want, "in {line:?}");
+        }
+        Ok(())
+    }
+
+    // Newlines stand between the words of a list; within quotes and braces they are the word's.
+    #[test]
+    fn lists(rt: HostRuntime) -> Result<(), Fail> {
+        for (list, want) in [
+            ("", ""),
+            (" \t\n \n", ""),
+            ("a", "|a"),
+            ("a b\tc\nd", "|a|b|c|d"),
+            ("\na\n\n \tb\n", "|a|b"),
+            ("big {very big} \"x\\ny\"", "|big|very big|x\ny"),
+            ("\"a\nb\"\n{c\n{d}}\ne", "|a\nb|c\n{d}|e"),
+            ("\"\"\n{}\n\"\"", "|||"),
+            ("a\rb\u{a0}c", "|a\rb\u{a0}c"),
+        ] {
+            let found = list_words(rt.alloc(), list)?;
+            assert_eq!(rt; barred(rt.alloc(), &found)?.as_str(), want, "in {list:?}");
+        }
+        Ok(())
+    }
+
+    // A newline that stands bare in a line is a character of its word.
+    #[test]
+    fn newlines(rt: HostRuntime) -> Result<(), Fail> {
+        for (text, of_line, of_list) in [
+            ("a\nb", "|a\nb", "|a|b"),
+            ("\n", "|\n", ""),
+            ("a \n b", "|a|\n|b", "|a|b"),
+            ("a\n{b", "|a\n{b", "refused"),
+            ("{a}\nb", "refused", "|a|b"),
+        ] {
+            let line = words(rt.alloc(), text);
+            assert_eq!(rt; told(rt.alloc(), line)?.as_str(), of_line, "in the line {text:?}");
+            let list = list_words(rt.alloc(), text);
+            assert_eq!(rt; told(rt.alloc(), list)?.as_str(), of_list, "in the list {text:?}");
+        }
+        Ok(())
+    }
+
+    // A bar before each word, or that there are none.
+    fn told(alloc: Global, found: Result<Vec<String>, Fault>) -> Result<String, Fault> {
+        match found {
+            Ok(list) => barred(alloc, &list),
+            Err(Fault::BadQuoting) => String::from_str(alloc, "refused").map_err(Fault::from),
+            Err(fault) => Err(fault),
+        }
+    }
+
+    #[test]
+    fn refused_lists(rt: HostRuntime) -> Result<(), Fail> {
+        for list in ["\"", "{", "a\n\"b", "\"a\"b", "{a}b\n", "a\n{b\n", "\"\\\n\"", "\"a\n", "{}\n}{\n{"] {
+            let refused = list_words(rt.alloc(), list).err();
+            assert_eq!(rt; refused, Some(Fault::BadQuoting), "in {list:?}");
+        }
+        Ok(())
+    }
+
+    #[test]
+    fn refused_lines(rt: HostRuntime) -> Result<(), Fail> {
+        for line in [
+            "\"",
+            "\"a",
+            "a \"b",
+            "\"a\\",
+            "\"a\\\"",
+            "\"a\"b",
+            "\"a\"\"b\"",
+            "\"\"{}",
+            "\"\\x\"",
+            "\"\\",
+            "\"\\ \"",
+            "\"\\é\"",
+            "\"a\"\u{a0}",
+            "{",
+            "{a",
+            "{a{b}",
+            "{a}b",
+            "{a}}",
+            "{}{}",
+            "{}\"\"",
+            "a \t{b",
+            "a {b} \"c\\q\"",
+            "{a\\}}",
+        ] {
+            let refused = words(rt.alloc(), line).err();
+            assert_eq!(rt; refused, Some(Fault::BadQuoting), "in {line:?}");
+        }
+        Ok(())
+    }
+}
