@@ -1,5 +1,5 @@
 // A law of the definitions, as the contract of a function that does nothing.
-ghost use Rattle.std.specs.Prelude.{◌≡◌, ◌∷◌, ℕ, List, codes};
+ghost use Rattle.std.specs.Prelude.{◌≡◌, ◌∷◌, List, codes};
 ghost use Rattle.rt_stamps.specs.Words.{Word, Spells};
 ghost use Rattle.rt_script.specs.declared.answer.Answer.TheVariants.{Replied};
 ghost use Rattle.rt_script.specs.Replies.{text_of_answer};

@@ -187,14 +187,18 @@ fn bare_word(alloc: Global, separators: Separators, text: &str) -> Result<Front,
 fn gap_len(separators: Separators, text: &[u8]) -> usize
     ensures { result ≡ prefix_len (separates separators) text.now }
 {
-    text.iter().take_while(|c| separators.separates(**c)).count()
+    text.iter()
+        .take_while(|c| separators.separates(**c))
+        .count()
 }
 
 // How many characters a text has before its first separator.
 fn bare_len(separators: Separators, text: &[u8]) -> usize
     ensures { result ≡ prefix_len (λ c. not (separates separators c)) text.now }
 {
-    text.iter().take_while(|c| !separators.separates(**c)).count()
+    text.iter()
+        .take_while(|c| !separators.separates(**c))
+        .count()
 }
 
 // How many characters a text has before its first quote or backslash.
@@ -338,9 +342,17 @@ mod tests {
             ("{a}\nb", "refused", "|a|b"),
         ] {
             let line = words(rt.alloc(), text);
-            assert_eq!(rt; told(rt.alloc(), line)?.as_str(), of_line, "in the line {text:?}");
+            assert_eq!(rt;
+                told(rt.alloc(), line)?.as_str(),
+                of_line,
+                "in the line {text:?}"
+            );
             let list = list_words(rt.alloc(), text);
-            assert_eq!(rt; told(rt.alloc(), list)?.as_str(), of_list, "in the list {text:?}");
+            assert_eq!(rt;
+                told(rt.alloc(), list)?.as_str(),
+                of_list,
+                "in the list {text:?}"
+            );
         }
         Ok(())
     }
@@ -356,7 +368,17 @@ mod tests {
 
     #[test]
     fn refused_lists(rt: HostRuntime) -> Result<(), Fail> {
-        for list in ["\"", "{", "a\n\"b", "\"a\"b", "{a}b\n", "a\n{b\n", "\"\\\n\"", "\"a\n", "{}\n}{\n{"] {
+        for list in [
+            "\"",
+            "{",
+            "a\n\"b",
+            "\"a\"b",
+            "{a}b\n",
+            "a\n{b\n",
+            "\"\\\n\"",
+            "\"a\n",
+            "{}\n}{\n{",
+        ] {
             let refused = list_words(rt.alloc(), list).err();
             assert_eq!(rt; refused, Some(Fault::BadQuoting), "in {list:?}");
         }
