@@ -1,5 +1,5 @@
 -- Entries and what is seen of them.
-use Rattle.std.proofs.Common.{◌≡◌, ℕ, zero, suc, ◌==◌, ◌||◌, ◌&&◌, ◌<◌, List, [], ◌∷◌, ◌++◌, map, filter, length, get_or, Bool, true, false, true≢false, cond, refl, sym, ap, subst, ◌∙◌, arith, Some, option_map}
+use Rattle.std.proofs.Common.{◌≡◌, ℕ, zero, suc, ◌==◌, ◌||◌, ◌&&◌, ◌<◌, List, [], ◌∷◌, ◌++◌, map, filter, length, get_or, Bool, true, false, true≢false, cond, refl, sym, ap, subst, ◌∙◌, arith, None, Some, option_map}
 use Rattle.std.proofs.Math.Bool.{beq}
 use Rattle.std.specs.Bool.{Decides}
 use Rattle.std.specs.Cmp.{booleans_Decides}
@@ -7,6 +7,7 @@ use Rattle.std.specs.List.{AllByRecursion}
 use Rattle.std.specs.Ordering.{is_lt, is_gt}
 use Rattle.std.specs.Str.{bytes_eq}
 use Rattle.std.specs.declared.cmp.Ordering.TheVariants.{Less, Greater}
+use Rattle.std.proofs.lemmas.Bool.{or_parts}
 use Rattle.std.proofs.lemmas.Bool.Decides.{Decides-eqb}
 use Rattle.std.proofs.lemmas.Cmp.{is_lt_index, is_gt_index}
 use Rattle.std.proofs.lemmas.List.{map-append}
@@ -64,6 +65,18 @@ found_seen names tag (e ∷ entries) own h k =
     by : (b : Bool) → option_map (seen names) (entry_of tag entries) ≡ write_of (get_or names tag []) (all_seen names entries) → option_map (seen names) (cond b (Some e) (entry_of tag entries)) ≡ cond b (Some (seen names e)) (write_of (get_or names tag []) (all_seen names entries))
     by true r = refl
     by false r = r
+
+-- A NAME WITHOUT A NUMBER
+
+differs_there : (name : List ℕ) (names : List (List ℕ)) (i : ℕ) → is_listed name names ≡ false → i < length names → bytes_eq name (get_or names i []) ≡ false
+differs_there name [] i h k = absurd (omega (arith, k))
+differs_there name (x ∷ names) zero h k = (or_parts (bytes_eq name x) (is_listed name names) h).0
+differs_there name (x ∷ names) (suc i) h k = differs_there name names i (or_parts (bytes_eq name x) (is_listed name names) h).1 (omega (arith, k))
+
+pub not_written : (name : List ℕ) (names : List (List ℕ)) (entries : List Entry) → is_listed name names ≡ false → Named (length names) entries → write_of name (all_seen names entries) ≡ None
+not_written name names [] h k = refl
+not_written name names (e ∷ entries) h k =
+    ap (λ b. cond b (Some (seen names e)) (write_of name (all_seen names entries))) (differs_there name names e.tag h k.0) ∙ not_written name names entries h k.1
 
 -- ONE MORE ENTRY
 

@@ -10,7 +10,7 @@ use Rattle.rt_tags.specs.States.{Write, TagStates, AreDistinct, Interns, IsByNam
 use Rattle.rt_tags.specs.Kept.{AreKept, HaveNames, IsKept, IsNext, IsTable, is_on_side, all_seen, entry_of, is_entry_kept, seen, state_seen, states_seen, tags_on}
 use Rattle.rt_tags.specs.declared.states.Entry.{Entry}
 use Rattle.rt_tags.specs.declared.states.State.{State}
-use Rattle.rt_tags.proofs.Entries.{found_seen, written_seen, named, on_named, on_seen, seen_stays}
+use Rattle.rt_tags.proofs.Entries.{found_seen, not_written, written_seen, named, on_named, on_seen, seen_stays}
 use Rattle.rt_tags.proofs.Places.{split}
 use Rattle.rt_tags.proofs.Sorted.{every, put_sorted}
 
@@ -40,6 +40,11 @@ pub by_name_at : (names : List (List ℕ)) (keys : List State) (i : ℕ) → All
 by_name_at names [] i h = tt
 by_name_at names (s ∷ keys) zero h = h.0.by_name
 by_name_at names (s ∷ keys) (suc i) h = by_name_at names keys i h.1
+
+pub nowhere_on : (name : List ℕ) (names : List (List ℕ)) (keys : List State) (i : ℕ) → is_listed name names ≡ false → AllByRecursion (IsKept names) keys → is_on name (get_or (states_seen names keys) i []) ≡ false
+nowhere_on name names [] i n h = refl
+nowhere_on name names (s ∷ keys) zero n h = ap says_on (not_written name names s.entries.items n (named (length names) s.entries.items h.0.named))
+nowhere_on name names (s ∷ keys) (suc i) n h = nowhere_on name names keys i n h.1
 
 -- MORE NAMES
 

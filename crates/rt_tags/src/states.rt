@@ -254,9 +254,10 @@ impl StateTable {
         }
     }
 
-    /// The number of a name, if it has one.
+    /// The number of a name, if it has one. A name without a number is on in no state.
     pub fn known(&self, name: &str) -> Option<TagId>
         ensures none { IfNone result (is_listed name.now self.now.names ≡ false) }
+        ensures nowhere { IfNone result ((state : ℕ) → is_on name.now (state_at self.now state) ≡ false) }
         ensures given { IfSome result (IsTag self.now) }
         ensures tag { IfSome result (λ tag. name_at self.now tag ≡ name.now) }
     {
