@@ -1,5 +1,5 @@
 -- Where `mark next` and `mark previous` look from: the mark that a word names, or a spot before all marks of its index.
-use Rattle.std.specs.Prelude.{ℕ, List, [], Option, Some, None, Result, Ok, Err, if◌then◌else◌}
+use Rattle.std.specs.Prelude.{ℕ, [], Option, Some, None, Result, Ok, if◌then◌else◌}
 use Rattle.rt_marks.specs.declared.gravity.Gravity.TheVariants.{Left}
 use Rattle.rt_marks.specs.Marks.{Mark}
 use Rattle.rt_stamps.specs.declared.fault.Fault.{Fault}

@@ -60,7 +60,7 @@ within_step x false true xs ys s e f g = or_from (is_same x s) (is_among ys s) e
 within_step x false false xs ys s e f g = g
 
 -- the stamps at places are stamps of the cells
-pub stamps_within : (r : ℕ → Bool) (p : ℕ) (cells : List Cell) (s : Stamp) → is_among (stamps_of cells) s ≡ false → is_among (stamps_at r p cells) s ≡ false
+pub stamps_within : {T : Type 0} (r : ℕ → Bool) (p : ℕ) (cells : List (Cell T)) (s : Stamp) → is_among (stamps_of cells) s ≡ false → is_among (stamps_at r p cells) s ≡ false
 stamps_within r p [] s h = refl
 stamps_within r p (c ∷ cs) s h =
     let q = or_parts (is_same c.stamp s) (is_among (stamps_of cs) s) h in
@@ -73,7 +73,7 @@ distinct_step x false true xs ys e f g = distinct_more x ys e g
 distinct_step x false false xs ys e f g = g
 
 -- and differ where those do
-pub distinct_at : (r : ℕ → Bool) (p : ℕ) (cells : List Cell) → IsDistinct is_same (stamps_of cells) → IsDistinct is_same (stamps_at r p cells)
+pub distinct_at : {T : Type 0} (r : ℕ → Bool) (p : ℕ) (cells : List (Cell T)) → IsDistinct is_same (stamps_of cells) → IsDistinct is_same (stamps_at r p cells)
 distinct_at r p [] h = none_distinct
 distinct_at r p (c ∷ cs) h =
     let rest = others_distinct c.stamp (stamps_of cs) h in
@@ -86,7 +86,7 @@ few_step x false true xs ys n h k = omega arith
 few_step x false false xs ys n h k = omega arith
 
 -- and are no more
-pub stamps_few : (r : ℕ → Bool) (p : ℕ) (cells : List Cell) → length (stamps_at r p cells) ≤ length cells
+pub stamps_few : {T : Type 0} (r : ℕ → Bool) (p : ℕ) (cells : List (Cell T)) → length (stamps_at r p cells) ≤ length cells
 stamps_few r p [] = omega arith
 stamps_few r p (c ∷ cs) =
     omega (arith, few_step c.stamp c.gone (r p) (stamps_at r p cs) (stamps_at r (p + 1) cs) (length cs) (stamps_few r p cs) (stamps_few r (p + 1) cs))
@@ -99,40 +99,40 @@ apart_known count n site old h k l = split (old.count == n)
     (λ e. let c : old.count ≡ n = eqb-true old.count n e in and_right _ _ (ne_eqb old.site site (λ q. absurd (omega (arith, h.0, h.1 (omega (arith, h.0)))))))
     (λ e. and_left _ _ e)
 
-new_apart : (count n site : ℕ) (cells : List Cell) → AreKnown count cells → count < n → 1 ≤ site → is_among (stamps_of cells) (record { count = n; site = site }) ≡ false
+pub new_apart : {T : Type 0} (count n site : ℕ) (cells : List (Cell T)) → AreKnown count cells → count < n → 1 ≤ site → is_among (stamps_of cells) (record { count = n; site = site }) ≡ false
 new_apart count n site [] h k l = refl
 new_apart count n site (x ∷ xs) h k l =
     or_from (is_same x.stamp (record { count = n; site = site })) _ (apart_known count n site x.stamp (h 0 x (omega arith)) k l)
     (new_apart count n site xs (λ i d lt. h (suc i) d (omega arith)) k l)
 
-later_apart : (n first site : ℕ) (cs : List ℕ) (old : List Cell) → n < first → is_among (stamps_of old) (record { count = n; site = site }) ≡ false
-    → is_among (stamps_of (cells_from first site cs ++ old)) (record { count = n; site = site }) ≡ false
-later_apart n first site [] old h k = k
-later_apart n first site (c ∷ cs) old h k =
+later_apart : {T : Type 0} (n first site : ℕ) (state : T) (cs : List ℕ) (old : List (Cell T)) → n < first → is_among (stamps_of old) (record { count = n; site = site }) ≡ false
+    → is_among (stamps_of (cells_from first site state cs ++ old)) (record { count = n; site = site }) ≡ false
+later_apart n first site state [] old h k = k
+later_apart n first site state (c ∷ cs) old h k =
     or_from (is_same (record { count = first; site = site }) (record { count = n; site = site })) _ (and_left _ _ (ne_eqb first n (λ e. absurd (omega arith))))
-    (later_apart n (first + 1) site cs old (omega arith) k)
+    (later_apart n (first + 1) site state cs old (omega arith) k)
 
-distinct_new : (count first site : ℕ) (cs : List ℕ) (old : List Cell) → count < first → 1 ≤ site → AreKnown count old → AreDistinct old → AreDistinct (cells_from first site cs ++ old)
-distinct_new count first site [] old h k known d = d
-distinct_new count first site (c ∷ cs) old h k known d =
-    distinct_more (record { count = first; site = site }) (stamps_of (cells_from (first + 1) site cs ++ old))
-    (later_apart first (first + 1) site cs old (omega arith) (new_apart count first site old known h k))
-    (distinct_new count (first + 1) site cs old (omega arith) k known d)
+distinct_new : {T : Type 0} (count first site : ℕ) (state : T) (cs : List ℕ) (old : List (Cell T)) → count < first → 1 ≤ site → AreKnown count old → AreDistinct old → AreDistinct (cells_from first site state cs ++ old)
+distinct_new count first site state [] old h k known d = d
+distinct_new count first site state (c ∷ cs) old h k known d =
+    distinct_more (record { count = first; site = site }) (stamps_of (cells_from (first + 1) site state cs ++ old))
+    (later_apart first (first + 1) site state cs old (omega arith) (new_apart count first site old known h k))
+    (distinct_new count (first + 1) site state cs old (omega arith) k known d)
 
 -- new cells with counts above all known ones differ from all
-pub distinct_put : (count first site : ℕ) (cells : List Cell) (left : Stamp) (text : List ℕ) → count < first → 1 ≤ site → AreKnown count cells → AreDistinct cells
-    → AreDistinct (put_after cells left (cells_from first site text))
-distinct_put count first site cells left text h k known d =
+pub distinct_put : {T : Type 0} (count first site : ℕ) (cells : List (Cell T)) (left : Stamp) (state : T) (text : List ℕ) → count < first → 1 ≤ site → AreKnown count cells → AreDistinct cells
+    → AreDistinct (put_after cells left (cells_from first site state text))
+distinct_put {T} count first site cells left state text h k known d =
     let at = after_element cells left in
-    let new = cells_from first site text in
-    let before : List Cell = take at cells in
-    let behind : List Cell = drop at cells in
+    let new = cells_from first site state text in
+    let before : List (Cell T) = take at cells in
+    let behind : List (Cell T) = drop at cells in
     let same : (new ++ before) ++ behind ≡ new ++ cells = append_assoc new before behind ∙ ap (λ l. new ++ l) (take-append-drop at cells) in
     let moved : IsPermutation ((new ++ before) ++ behind) ((before ++ new) ++ behind) = IsPermutation-append_left behind (new ++ before) (before ++ new) (IsPermutation-append_comm new before) in
     IsDistinct-IsPermutation is_same same_sym (stamps_of ((new ++ before) ++ behind)) (stamps_of ((before ++ new) ++ behind))
-    (IsPermutation-map (λ (cell : Cell). cell.stamp) ((new ++ before) ++ behind) ((before ++ new) ++ behind) moved)
-    (subst AreDistinct (sym same) (distinct_new count first site text cells h k known d))
+    (IsPermutation-map (λ (cell : Cell T). cell.stamp) ((new ++ before) ++ behind) ((before ++ new) ++ behind) moved)
+    (subst AreDistinct (sym same) (distinct_new count first site state text cells h k known d))
 
 -- one cell differs from all others
-pub distinct_one : (cell : Cell) → AreDistinct (cell ∷ [])
+pub distinct_one : {T : Type 0} (cell : Cell T) → AreDistinct (cell ∷ [])
 distinct_one cell = distinct_more cell.stamp [] refl none_distinct

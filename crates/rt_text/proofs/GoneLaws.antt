@@ -11,29 +11,29 @@ use Rattle.rt_stamps.specs.declared.stamp.TheConstants.{FINAL}
 use Rattle.rt_stamps.specs.Stamps.{is_same}
 use Rattle.rt_stamps.proofs.Order.{same_refl}
 use Rattle.rt_store.specs.declared.cell.Cell.{Cell}
-use Rattle.rt_store.specs.declared.cell.TheConstants.{FINAL_CELL}
 use Rattle.rt_store.specs.Cells.{EndsFinal, visible_of, text_of, gone_in, is_in_span}
 use Rattle.rt_text.specs.Known.{stamps_of, AreDistinct, IsKnown, AreKnown}
 use Rattle.rt_text.specs.Removals.{is_covered, stamps_at, gone_at}
 use Rattle.rt_text.specs.declared.range.Range.{Range}
+use Rattle.rt_text.proofs.CellLaws.{final_parts}
 use Rattle.rt_text.proofs.PlaceLaws.{length_text}
 use Rattle.rt_text.proofs.StampLaws.{uncovered_from}
 use Rattle.rt_text.specs.Spans.{is_among, is_in_spans, gone_in_any}
 use Rattle.rt_text.proofs.DistinctLaws.{split, first_apart, others_distinct, differs, stamps_within}
 
 -- a cell whose stamp passes a test is gone
-abbrev pub gone_by : (Stamp → Bool) → Cell → Cell
+abbrev pub gone_by : {T : Type 0} → (Stamp → Bool) → Cell T → Cell T
 gone_by test cell = cond (test cell.stamp) (record cell { gone = true }) cell
 
 -- of the stamps of cells, a test finds those at the places
-abbrev pub Finds : (Stamp → Bool) → (ℕ → Bool) → ℕ → List Cell → Type 0
+abbrev pub Finds : {T : Type 0} → (Stamp → Bool) → (ℕ → Bool) → ℕ → List (Cell T) → Type 0
 Finds test r p cells = (s : Stamp) → is_among (stamps_of cells) s ≡ true → test s ≡ is_among (stamps_at r p cells) s
 
-stays_gone : (b : Bool) (cell : Cell) → cell.gone ≡ true → cond b (record cell { gone = true }) cell ≡ cell
+stays_gone : {T : Type 0} (b : Bool) (cell : Cell T) → cell.gone ≡ true → cond b (record cell { gone = true }) cell ≡ cell
 stays_gone true cell e = λ i. record cell { gone = sym e i }
 stays_gone false cell e = refl
 
-marked_gone : (test : Stamp → Bool) (r : ℕ → Bool) (p : ℕ) (c : Cell) (cs : List Cell) → c.gone ≡ true → Finds test r p (c ∷ cs)
+marked_gone : {T : Type 0} (test : Stamp → Bool) (r : ℕ → Bool) (p : ℕ) (c : Cell T) (cs : List (Cell T)) → c.gone ≡ true → Finds test r p (c ∷ cs)
     → (Finds test r p cs → map (gone_by test) cs ≡ gone_at r p cs) → map (gone_by test) (c ∷ cs) ≡ gone_at r p (c ∷ cs)
 marked_gone test r p c cs e h ih =
     let at : stamps_at r p (c ∷ cs) ≡ stamps_at r p cs = cond-true c.gone _ _ e in
@@ -41,7 +41,7 @@ marked_gone test r p c cs e h ih =
     let all : gone_at r p (c ∷ cs) ≡ c ∷ gone_at r p cs = cond-true c.gone _ _ e in
     (λ i. stays_gone (test c.stamp) c e i ∷ rest i) ∙ sym all
 
-marked_taken : (test : Stamp → Bool) (r : ℕ → Bool) (p : ℕ) (c : Cell) (cs : List Cell) → c.gone ≡ false → r p ≡ true → is_among (stamps_of cs) c.stamp ≡ false → Finds test r p (c ∷ cs)
+marked_taken : {T : Type 0} (test : Stamp → Bool) (r : ℕ → Bool) (p : ℕ) (c : Cell T) (cs : List (Cell T)) → c.gone ≡ false → r p ≡ true → is_among (stamps_of cs) c.stamp ≡ false → Finds test r p (c ∷ cs)
     → (Finds test r (p + 1) cs → map (gone_by test) cs ≡ gone_at r (p + 1) cs) → map (gone_by test) (c ∷ cs) ≡ gone_at r p (c ∷ cs)
 marked_taken test r p c cs e f new h ih =
     let at : stamps_at r p (c ∷ cs) ≡ c.stamp ∷ stamps_at r (p + 1) cs = cond-false c.gone _ _ e ∙ cond-true (r p) _ _ f in
@@ -52,7 +52,7 @@ marked_taken test r p c cs e f new h ih =
     let all : gone_at r p (c ∷ cs) ≡ record c { gone = r p } ∷ gone_at r (p + 1) cs = cond-false c.gone _ _ e in
     (λ i. first i ∷ rest i) ∙ sym all
 
-marked_left : (test : Stamp → Bool) (r : ℕ → Bool) (p : ℕ) (c : Cell) (cs : List Cell) → c.gone ≡ false → r p ≡ false → is_among (stamps_of cs) c.stamp ≡ false → Finds test r p (c ∷ cs)
+marked_left : {T : Type 0} (test : Stamp → Bool) (r : ℕ → Bool) (p : ℕ) (c : Cell T) (cs : List (Cell T)) → c.gone ≡ false → r p ≡ false → is_among (stamps_of cs) c.stamp ≡ false → Finds test r p (c ∷ cs)
     → (Finds test r (p + 1) cs → map (gone_by test) cs ≡ gone_at r (p + 1) cs) → map (gone_by test) (c ∷ cs) ≡ gone_at r p (c ∷ cs)
 marked_left test r p c cs e f new h ih =
     let at : stamps_at r p (c ∷ cs) ≡ stamps_at r (p + 1) cs = cond-false c.gone _ _ e ∙ cond-false (r p) _ _ f in
@@ -63,7 +63,7 @@ marked_left test r p c cs e f new h ih =
     let all : gone_at r p (c ∷ cs) ≡ record c { gone = r p } ∷ gone_at r (p + 1) cs = cond-false c.gone _ _ e in
     (λ i. first i ∷ rest i) ∙ sym all
 
-marked : (test : Stamp → Bool) (r : ℕ → Bool) (p : ℕ) (cells : List Cell) → AreDistinct cells → Finds test r p cells → map (gone_by test) cells ≡ gone_at r p cells
+marked : {T : Type 0} (test : Stamp → Bool) (r : ℕ → Bool) (p : ℕ) (cells : List (Cell T)) → AreDistinct cells → Finds test r p cells → map (gone_by test) cells ≡ gone_at r p cells
 marked test r p [] d h = refl
 marked test r p (c ∷ cs) d h =
     let new = first_apart c.stamp (stamps_of cs) d in
@@ -75,63 +75,63 @@ marked test r p (c ∷ cs) d h =
     (λ f. marked_left test r p c cs e f new h (λ k. marked test r (p + 1) cs rest k)))
 
 -- where spans hold the stamps at the places, their cells are gone and no others
-pub gone_from_spans : (r : ℕ → Bool) (cells : List Cell) (spans : List Span) → AreDistinct cells
+pub gone_from_spans : {T : Type 0} (r : ℕ → Bool) (cells : List (Cell T)) (spans : List Span) → AreDistinct cells
     → ((s : Stamp) → is_in_spans spans s ≡ is_among (stamps_at r 0 cells) s) → map (gone_in_any spans) cells ≡ gone_at r 0 cells
 gone_from_spans r cells spans d h = marked (is_in_spans spans) r 0 cells d (λ s k. h s)
 
 -- one span after another
-one_more : (b d : Bool) (c : Cell) → cond d (record (cond b (record c { gone = true }) c) { gone = true }) (cond b (record c { gone = true }) c) ≡ cond (b || d) (record c { gone = true }) c
+one_more : {T : Type 0} (b d : Bool) (c : Cell T) → cond d (record (cond b (record c { gone = true }) c) { gone = true }) (cond b (record c { gone = true }) c) ≡ cond (b || d) (record c { gone = true }) c
 one_more true true c = refl
 one_more true false c = refl
 one_more false true c = refl
 one_more false false c = refl
 
-same_stamp : (b : Bool) (c : Cell) → (cond b (record c { gone = true }) c).stamp ≡ c.stamp
+same_stamp : {T : Type 0} (b : Bool) (c : Cell T) → (cond b (record c { gone = true }) c).stamp ≡ c.stamp
 same_stamp true c = refl
 same_stamp false c = refl
 
-gone_more_cell : (span : Span) (spans : List Span) (c : Cell) → gone_in_any spans (gone_in span c) ≡ gone_in_any (span ∷ spans) c
+gone_more_cell : {T : Type 0} (span : Span) (spans : List Span) (c : Cell T) → gone_in_any spans (gone_in span c) ≡ gone_in_any (span ∷ spans) c
 gone_more_cell span spans c =
     let b = is_in_span span c.stamp in
     ap (λ s. cond (is_in_spans spans s) (record (gone_in span c) { gone = true }) (gone_in span c)) (same_stamp b c) ∙ one_more b (is_in_spans spans c.stamp) c
 
-pub gone_more : (span : Span) (spans : List Span) (cells : List Cell) → map (gone_in_any spans) (map (gone_in span) cells) ≡ map (gone_in_any (span ∷ spans)) cells
+pub gone_more : {T : Type 0} (span : Span) (spans : List Span) (cells : List (Cell T)) → map (gone_in_any spans) (map (gone_in span) cells) ≡ map (gone_in_any (span ∷ spans)) cells
 gone_more span spans [] = refl
 gone_more span spans (c ∷ cs) = λ i. gone_more_cell span spans c i ∷ gone_more span spans cs i
 
-pub gone_more_at : (cells : List Cell) (spans : List Span) (i : ℕ) (d : Span) → i < length spans
+pub gone_more_at : {T : Type 0} (cells : List (Cell T)) (spans : List Span) (i : ℕ) (d : Span) → i < length spans
     → map (gone_in_any (drop (i + 1) spans)) (map (gone_in (get_or spans i d)) cells) ≡ map (gone_in_any (drop i spans)) cells
 gone_more_at cells spans i d h = gone_more (get_or spans i d) (drop (i + 1) spans) cells ∙ ap (λ l. map (gone_in_any l) cells) (sym (drop_more spans i d h))
 
-pub gone_none : (cells : List Cell) → map (gone_in_any []) cells ≡ cells
+pub gone_none : {T : Type 0} (cells : List (Cell T)) → map (gone_in_any []) cells ≡ cells
 gone_none [] = refl
 gone_none (c ∷ cs) = ap (λ l. c ∷ l) (gone_none cs)
 
 -- the stamps stay
-pub stamps_stay : (spans : List Span) (cells : List Cell) → stamps_of (map (gone_in_any spans) cells) ≡ stamps_of cells
+pub stamps_stay : {T : Type 0} (spans : List Span) (cells : List (Cell T)) → stamps_of (map (gone_in_any spans) cells) ≡ stamps_of cells
 stamps_stay spans [] = refl
 stamps_stay spans (c ∷ cs) = λ i. same_stamp (is_in_spans spans c.stamp) c i ∷ stamps_stay spans cs i
 
 -- THE LAST NEWLINE
 
-last_tail : (x y : Cell) (xs : List Cell) → EndsFinal (x ∷ y ∷ xs) → EndsFinal (y ∷ xs)
+last_tail : (x y : Cell ℕ) (xs : List (Cell ℕ)) → EndsFinal (x ∷ y ∷ xs) → EndsFinal (y ∷ xs)
 last_tail x y xs h = simp unary_clauses (simp unary_clauses at h)
 
-final_among : (cells : List Cell) → EndsFinal cells → is_among (stamps_of cells) FINAL ≡ true
+final_among : (cells : List (Cell ℕ)) → EndsFinal cells → is_among (stamps_of cells) FINAL ≡ true
 final_among [] h = let bad : ⊥ = cc in absurd bad
-final_among (x ∷ []) h = let e : x ≡ FINAL_CELL = cc in rw e refl
+final_among (x ∷ []) h = let parts = final_parts x h in or_left (is_same x.stamp FINAL) _ (ap (λ s. is_same s FINAL) parts.0 ∙ same_refl FINAL)
 final_among (x ∷ y ∷ xs) h = or_right (is_same x.stamp FINAL) _ (final_among (y ∷ xs) (last_tail x y xs h))
 
-some_step : (b : Bool) (x : Cell) (xs : List Cell) → 1 ≤ length xs → 1 ≤ length (cond (not b) (x ∷ xs) xs)
+some_step : {T : Type 0} (b : Bool) (x : Cell T) (xs : List (Cell T)) → 1 ≤ length xs → 1 ≤ length (cond (not b) (x ∷ xs) xs)
 some_step true x xs h = h
 some_step false x xs h = omega arith
 
-pub some_visible : (cells : List Cell) → EndsFinal cells → 1 ≤ length (visible_of cells)
+pub some_visible : (cells : List (Cell ℕ)) → EndsFinal cells → 1 ≤ length (visible_of cells)
 some_visible [] h = let bad : ⊥ = cc in absurd bad
-some_visible (x ∷ []) h = let e : x ≡ FINAL_CELL = cc in rw e (omega arith)
+some_visible (x ∷ []) h = let parts = final_parts x h in rw parts.2 (omega arith)
 some_visible (x ∷ y ∷ xs) h = some_step x.gone x (visible_of (y ∷ xs)) (some_visible (y ∷ xs) (last_tail x y xs h))
 
-final_step : (x : Stamp) (b d : Bool) (p n : ℕ) (r : ℕ → Bool) (c : Cell) (vs : List Cell) (xs ys : List Stamp) → is_same x FINAL ≡ false → 1 ≤ length vs
+final_step : {T : Type 0} (x : Stamp) (b d : Bool) (p n : ℕ) (r : ℕ → Bool) (c : Cell T) (vs : List (Cell T)) (xs ys : List Stamp) → is_same x FINAL ≡ false → 1 ≤ length vs
     → r (p + (length (cond (not b) (c ∷ vs) vs) - 1)) ≡ false
     → (r (p + (length vs - 1)) ≡ false → is_among xs FINAL ≡ false) → (r (p + 1 + (length vs - 1)) ≡ false → is_among ys FINAL ≡ false)
     → is_among (cond b xs (cond d (x ∷ ys) ys)) FINAL ≡ false
@@ -142,15 +142,13 @@ final_step x false d p n r c vs xs ys e one h f g =
     split d (λ q. rw q (or_from (is_same x FINAL) (is_among ys FINAL) e k)) (λ q. rw q k)
 
 -- its stamp is not one of those at places where its place isn't one
-pub final_stays : (r : ℕ → Bool) (p : ℕ) (cells : List Cell) → EndsFinal cells → AreDistinct cells → r (p + (length (visible_of cells) - 1)) ≡ false → is_among (stamps_at r p cells) FINAL ≡ false
+pub final_stays : (r : ℕ → Bool) (p : ℕ) (cells : List (Cell ℕ)) → EndsFinal cells → AreDistinct cells → r (p + (length (visible_of cells) - 1)) ≡ false → is_among (stamps_at r p cells) FINAL ≡ false
 final_stays r p [] h d k = refl
-final_stays r p (x ∷ []) h d k = let e : x ≡ FINAL_CELL = cc in alone e
-  where
-    alone : x ≡ FINAL_CELL → is_among (stamps_at r p (x ∷ [])) FINAL ≡ false
-    alone e =
-        let n : p + (length (visible_of (x ∷ [])) - 1) ≡ p = rw e (omega arith) in
-        let off : r p ≡ false = ap r (sym n) ∙ k in
-        rw (e, off) refl
+final_stays r p (x ∷ []) h d k =
+    let shown = (final_parts x h).2 in
+    let n : p + (length (visible_of (x ∷ [])) - 1) ≡ p = rw shown (omega arith) in
+    let off : r p ≡ false = ap r (sym n) ∙ k in
+    rw (shown, off) refl
 final_stays r p (x ∷ y ∷ xs) h d k =
     let tail = last_tail x y xs h in
     let new = first_apart x.stamp (stamps_of (y ∷ xs)) d in
@@ -160,17 +158,17 @@ final_stays r p (x ∷ y ∷ xs) h d k =
     (λ q. final_stays r p (y ∷ xs) tail rest q) (λ q. final_stays r (p + 1) (y ∷ xs) tail rest q)
 
 -- made gone by spans, cells are as many, as known and as different
-pub length_stays : (spans : List Span) (cells : List Cell) → length (map (gone_in_any spans) cells) ≡ length cells
+pub length_stays : {T : Type 0} (spans : List Span) (cells : List (Cell T)) → length (map (gone_in_any spans) cells) ≡ length cells
 length_stays spans cells = length-map cells (gone_in_any spans)
 
-pub known_stays : (count : ℕ) (spans : List Span) (cells : List Cell) → AreKnown count cells → AreKnown count (map (gone_in_any spans) cells)
+pub known_stays : {T : Type 0} (count : ℕ) (spans : List Span) (cells : List (Cell T)) → AreKnown count cells → AreKnown count (map (gone_in_any spans) cells)
 known_stays count spans cells h =
     All-map (λ cell. IsKnown count cell.stamp) (gone_in_any spans) cells
     (λ k d lt. subst (IsKnown count) (sym (same_stamp (is_in_spans spans (get_or cells k d).stamp) (get_or cells k d))) (h k d lt))
 
-pub distinct_stays : (spans : List Span) (cells : List Cell) → AreDistinct cells → AreDistinct (map (gone_in_any spans) cells)
+pub distinct_stays : {T : Type 0} (spans : List Span) (cells : List (Cell T)) → AreDistinct cells → AreDistinct (map (gone_in_any spans) cells)
 distinct_stays spans cells h = subst (IsDistinct is_same) (sym (stamps_stay spans cells)) h
 
 -- the last newline isn't in ranges that end before it
-pub last_uncovered : (cells : List Cell) (ranges : List Range) → EndsFinal cells → All (λ range. range.to < length (text_of cells)) ranges → is_covered ranges (0 + (length (visible_of cells) - 1)) ≡ false
+pub last_uncovered : (cells : List (Cell ℕ)) (ranges : List Range) → EndsFinal cells → All (λ range. range.to < length (text_of cells)) ranges → is_covered ranges (0 + (length (visible_of cells) - 1)) ≡ false
 last_uncovered cells ranges ends h = uncovered_from ranges (length (text_of cells)) (0 + (length (visible_of cells) - 1)) h (omega (arith, length_text cells))

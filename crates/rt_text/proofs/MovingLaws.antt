@@ -41,4 +41,4 @@ own_back ranges i d own h k =
     let later = is_covered (drop (i + 1) ranges) in
     let at : (p : ℕ) → place_removed range.from (range.to - range.from) (place_left later p) ≡ place_left (is_covered (drop i ranges)) p =
     λ p. place_then later range.from range.to (not_later ranges i d h k) p ∙ ap (λ r. place_left r p) (covers ranges i d h) in
-    λ j. record { insert = record own.insert { place = at own.insert.place j }; current = record own.current { place = at own.current.place j } }
+    λ j. record own { insert = record own.insert { place = at own.insert.place j }; current = record own.current { place = at own.current.place j } }

@@ -47,7 +47,7 @@ after_within (suc n) (c ∷ t) = within (is_newline c) _ _ _ (after_within n t) 
     within false x y n h k = omega arith
 
 -- a visible cell is a character
-pub length_text : (cells : List Cell) → length (text_of cells) ≡ length (visible_of cells)
+pub length_text : {T : Type 0} (cells : List (Cell T)) → length (text_of cells) ≡ length (visible_of cells)
 length_text cells = length-map (visible_of cells) (λ cell. cell.ch)
 
 -- newlines are characters

@@ -11,23 +11,23 @@ use Rattle.rt_text.proofs.SparingLaws.{covered_spared}
 
 -- TEXTS OF CELLS
 
-cond_text : (x : Cell) (xs : List Cell) (b : Bool) → text_of (record x { gone = b } ∷ xs) ≡ cond b (text_of xs) (x.ch ∷ text_of xs)
+cond_text : {T : Type 0} (x : Cell T) (xs : List (Cell T)) (b : Bool) → text_of (record x { gone = b } ∷ xs) ≡ cond b (text_of xs) (x.ch ∷ text_of xs)
 cond_text x xs true = refl
 cond_text x xs false = refl
 
 -- the text is what is left
-pub text_left : (removed : ℕ → Bool) (place : ℕ) (cells : List Cell) → text_of (gone_at removed place cells) ≡ left_at removed place (text_of cells)
-text_left removed place [] = refl
-text_left removed place (x ∷ xs) =
+pub text_left : {T : Type 0} (removed : ℕ → Bool) (place : ℕ) (cells : List (Cell T)) → text_of (gone_at removed place cells) ≡ left_at removed place (text_of cells)
+text_left {T} removed place [] = refl
+text_left {T} removed place (x ∷ xs) =
     elim x.gone as
     (λ b. x.gone ≡ b → text_of (cond b (x ∷ gone_at removed place xs) (record x { gone = removed place } ∷ gone_at removed (place + 1) xs))
-    ≡ left_at removed place (map (λ (cell : Cell). cell.ch) (cond (not b) (x ∷ visible_of xs) (visible_of xs)))) [
+    ≡ left_at removed place (map (λ (cell : Cell T). cell.ch) (cond (not b) (x ∷ visible_of xs) (visible_of xs)))) [
       | true ↦ λ e. gone x (gone_at removed place xs) e ∙ text_left removed place xs
       | false ↦ λ e. cond_text x (gone_at removed (place + 1) xs) (removed place) ∙ ap (λ t. cond (removed place) t (x.ch ∷ t)) (text_left removed (place + 1) xs)
     ]
     refl
   where
-    gone : (y : Cell) (ys : List Cell) → y.gone ≡ true → text_of (y ∷ ys) ≡ text_of ys
+    gone : (y : Cell T) (ys : List (Cell T)) → y.gone ≡ true → text_of (y ∷ ys) ≡ text_of ys
     gone y ys e = rw e refl
 
 -- ONE RANGE

@@ -172,22 +172,22 @@ after_trans s t (x ∷ ss) h k =
     let far : precedes s x ≡ true = grind (arith, nat_tests) in
     and_from (precedes s x) _ far (after_trans s t ss h p.1)
 
-all_after : (s : Stamp) (ss : List Stamp) → each_next precedes (s ∷ ss) ≡ true → list_all (precedes s) ss ≡ true
+pub all_after : (s : Stamp) (ss : List Stamp) → each_next precedes (s ∷ ss) ≡ true → list_all (precedes s) ss ≡ true
 all_after s [] h = refl
 all_after s (t ∷ ss) h =
     let p = and_parts (precedes s t) (each_next precedes (t ∷ ss)) h in
     and_from (precedes s t) _ p.0 (after_trans s t ss p.0 (all_after t ss p.1))
 
-not_next : (s y : Stamp) → precedes s y ≡ true → is_same s (next_stamp y) ≡ false
+pub not_next : (s y : Stamp) → precedes s y ≡ true → is_same s (next_stamp y) ≡ false
 not_next s y h = grind (arith, nat_tests)
 
-self_not_next : (s : Stamp) → is_same s (next_stamp s) ≡ false
+pub self_not_next : (s : Stamp) → is_same s (next_stamp s) ≡ false
 self_not_next s = grind (arith, nat_tests)
 
 not_between : (s t x : Stamp) → precedes s t ≡ true → precedes t x ≡ true → is_same x (next_stamp s) ≡ false
 not_between s t x h k = grind (arith, nat_tests)
 
-none_between : (s t : Stamp) (ss : List Stamp) → precedes s t ≡ true → list_all (precedes t) ss ≡ true → is_among ss (next_stamp s) ≡ false
+pub none_between : (s t : Stamp) (ss : List Stamp) → precedes s t ≡ true → list_all (precedes t) ss ≡ true → is_among ss (next_stamp s) ≡ false
 none_between s t [] h k = refl
 none_between s t (x ∷ ss) h k =
     let p = and_parts (precedes t x) (list_all (precedes t) ss) k in
@@ -197,7 +197,7 @@ none_between s t (x ∷ ss) h k =
 abbrev pub lasts_of : List Stamp → List Stamp → List Stamp
 lasts_of all ss = filter (λ x. not (is_among all (next_stamp x))) ss
 
-lasts_same : (s : Stamp) (all ys : List Stamp) → list_all (precedes s) ys ≡ true → lasts_of (s ∷ all) ys ≡ lasts_of all ys
+pub lasts_same : (s : Stamp) (all ys : List Stamp) → list_all (precedes s) ys ≡ true → lasts_of (s ∷ all) ys ≡ lasts_of all ys
 lasts_same s all [] h = refl
 lasts_same s all (y ∷ ys) h =
     let p = and_parts (precedes s y) (list_all (precedes s) ys) h in
@@ -205,7 +205,7 @@ lasts_same s all (y ∷ ys) h =
     let rest = lasts_same s all ys p.1 in
     λ i. cond (not (e i || is_among all (next_stamp y))) (y ∷ rest i) (rest i)
 
-length_lasts : (b : Bool) (x : Stamp) (l : List Stamp) → length (cond (not b) (x ∷ l) l) ≡ cond b 0 1 + length l
+pub length_lasts : (b : Bool) (x : Stamp) (l : List Stamp) → length (cond (not b) (x ∷ l) l) ≡ cond b 0 1 + length l
 length_lasts true x l = omega arith
 length_lasts false x l = omega arith
 

@@ -13,11 +13,11 @@ use Rattle.rt_text.specs.Known.{stamps_of}
 use Rattle.rt_text.specs.Removals.{is_in, is_covered, stamps_at, AreInOrder}
 
 -- the stamps of visible cells at some places
-abbrev pub picked : (ℕ → Bool) → ℕ → List Cell → List Stamp
+abbrev pub picked : {T : Type 0} → (ℕ → Bool) → ℕ → List (Cell T) → List Stamp
 picked r p [] = []
 picked r p (c ∷ cs) = cond (r p) (c.stamp ∷ picked r (p + 1) cs) (picked r (p + 1) cs)
 
-pub picked_visible : (r : ℕ → Bool) (p : ℕ) (cells : List Cell) → stamps_at r p cells ≡ picked r p (visible_of cells)
+pub picked_visible : {T : Type 0} (r : ℕ → Bool) (p : ℕ) (cells : List (Cell T)) → stamps_at r p cells ≡ picked r p (visible_of cells)
 picked_visible r p [] = refl
 picked_visible r p (c ∷ cs) = step c.gone (picked_visible r p cs) (picked_visible r (p + 1) cs)
   where
@@ -27,7 +27,7 @@ picked_visible r p (c ∷ cs) = step c.gone (picked_visible r p cs) (picked_visi
     step false h k = λ i. cond (r p) (c.stamp ∷ k i) (k i)
 
 -- none of some places
-none_picked : (k : ℕ) (r : ℕ → Bool) (p : ℕ) (cs : List Cell) → ((q : ℕ) → p ≤ q → q < p + k → r q ≡ false) → picked r p cs ≡ picked r (p + k) (drop k cs)
+none_picked : {T : Type 0} (k : ℕ) (r : ℕ → Bool) (p : ℕ) (cs : List (Cell T)) → ((q : ℕ) → p ≤ q → q < p + k → r q ≡ false) → picked r p cs ≡ picked r (p + k) (drop k cs)
 none_picked zero r p cs h = ap (λ n. picked r n cs) (sym (add-zero p))
 none_picked (suc k) r p [] h = refl
 none_picked (suc k) r p (c ∷ cs) h =
@@ -35,7 +35,7 @@ none_picked (suc k) r p (c ∷ cs) h =
     cond-false (r p) _ _ (h p (omega arith) (omega arith)) ∙ none_picked k r (p + 1) cs (λ q a b. h q (omega arith) (omega arith)) ∙ ap (λ n. picked r n (drop k cs)) at
 
 -- all of some places
-all_picked : (k : ℕ) (r : ℕ → Bool) (p : ℕ) (cs : List Cell) → ((q : ℕ) → p ≤ q → q < p + k → r q ≡ true) → picked r p cs ≡ stamps_of (take k cs) ++ picked r (p + k) (drop k cs)
+all_picked : {T : Type 0} (k : ℕ) (r : ℕ → Bool) (p : ℕ) (cs : List (Cell T)) → ((q : ℕ) → p ≤ q → q < p + k → r q ≡ true) → picked r p cs ≡ stamps_of (take k cs) ++ picked r (p + k) (drop k cs)
 all_picked zero r p cs h = ap (λ n. picked r n cs) (sym (add-zero p))
 all_picked (suc k) r p [] h = refl
 all_picked (suc k) r p (c ∷ cs) h =
@@ -44,7 +44,7 @@ all_picked (suc k) r p (c ∷ cs) h =
     ∙ ap (λ l. c.stamp ∷ l) (all_picked k r (p + 1) cs (λ q a b. h q (omega arith) (omega arith)) ∙ ap (λ n. stamps_of (take k cs) ++ picked r n (drop k cs)) at)
 
 -- places that are alike from one on
-alike_picked : (r s : ℕ → Bool) (p : ℕ) (cs : List Cell) → ((q : ℕ) → p ≤ q → r q ≡ s q) → picked r p cs ≡ picked s p cs
+alike_picked : {T : Type 0} (r s : ℕ → Bool) (p : ℕ) (cs : List (Cell T)) → ((q : ℕ) → p ≤ q → r q ≡ s q) → picked r p cs ≡ picked s p cs
 alike_picked r s p [] h = refl
 alike_picked r s p (c ∷ cs) h =
     let rest = alike_picked r s (p + 1) cs (λ q a. h q (omega arith)) in
@@ -76,7 +76,7 @@ uncovered_from (range ∷ ranges) n q h k =
     or_from (is_in range q) _ (in_after range q (omega arith)) (uncovered_from ranges n q (All-tail (λ (r : Range). r.to < n) range ranges h) k)
 
 -- the first of the ranges, and the others
-range_picked : (range : Range) (ranges : List Range) (cs : List Cell) → AreInOrder 0 (range ∷ ranges)
+range_picked : {T : Type 0} (range : Range) (ranges : List Range) (cs : List (Cell T)) → AreInOrder 0 (range ∷ ranges)
     → picked (is_covered (range ∷ ranges)) 0 cs ≡ stamps_of (take (range.to - range.from) (drop range.from cs)) ++ picked (is_covered ranges) 0 cs
 range_picked range ranges cs h =
     let r : ℕ → Bool = is_covered (range ∷ ranges) in
@@ -98,7 +98,7 @@ range_picked range ranges cs h =
     first ∙ mid ∙ ap (λ l. stamps_of (take k (drop from cs)) ++ l) (there ∙ alike ∙ sym back)
 
 -- one range more
-pub ranges_more : (cells : List Cell) (ranges : List Range) (i : ℕ) (d : Range) → i < length ranges → AreInOrder 0 (drop i ranges)
+pub ranges_more : {T : Type 0} (cells : List (Cell T)) (ranges : List Range) (i : ℕ) (d : Range) → i < length ranges → AreInOrder 0 (drop i ranges)
     → stamps_at (is_covered (drop i ranges)) 0 cells
     ≡ stamps_of (take ((get_or ranges i d).to - (get_or ranges i d).from) (drop (get_or ranges i d).from (visible_of cells))) ++ stamps_at (is_covered (drop (i + 1) ranges)) 0 cells
 ranges_more cells ranges i d h k =
@@ -121,7 +121,7 @@ order_at ranges i d h k =
     let k2 : AreInOrder 0 (get_or ranges i d ∷ drop (i + 1) ranges) = subst (AreInOrder 0) (drop_more ranges i d h) k in
     omega (arith, k2.1)
 
-pub none_at : (p : ℕ) (cells : List Cell) → stamps_at (is_covered []) p cells ≡ []
+pub none_at : {T : Type 0} (p : ℕ) (cells : List (Cell T)) → stamps_at (is_covered []) p cells ≡ []
 none_at p [] = refl
 none_at p (c ∷ cs) = step c.gone (none_at p cs) (none_at (p + 1) cs)
   where
@@ -130,9 +130,9 @@ none_at p (c ∷ cs) = step c.gone (none_at p cs) (none_at (p + 1) cs)
     step false h k = k
 
 -- one place more
-pub places_more : (cs : List Cell) (from place : ℕ) (cell : Cell) → from ≤ place → place < length cs → slice_get cs place ≡ Some cell
+pub places_more : {T : Type 0} (cs : List (Cell T)) (from place : ℕ) (cell : Cell T) → from ≤ place → place < length cs → slice_get cs place ≡ Some cell
     → stamps_of (take (place + 1 - from) (drop from cs)) ≡ stamps_of (take (place - from) (drop from cs)) ++ cell.stamp ∷ []
-places_more cs from place cell h k e =
+places_more {T} cs from place cell h k e =
     let next : place + 1 - from ≡ place - from + 1 = omega arith in
     let place_is : from + (place - from) ≡ place = omega arith in
     let within : place - from < length (drop from cs) = omega (arith, length-drop from cs) in
@@ -140,6 +140,6 @@ places_more cs from place cell h k e =
     ap (λ n. stamps_of (take n (drop from cs))) next ∙ ap stamps_of (take_more (drop from cs) (place - from) cell within ∙ ap (λ x. take (place - from) (drop from cs) ++ x ∷ []) item)
     ∙ stamps_append (take (place - from) (drop from cs)) (cell ∷ [])
   where
-    stamps_append : (xs ys : List Cell) → stamps_of (xs ++ ys) ≡ stamps_of xs ++ stamps_of ys
+    stamps_append : (xs ys : List (Cell T)) → stamps_of (xs ++ ys) ≡ stamps_of xs ++ stamps_of ys
     stamps_append [] ys = refl
     stamps_append (x ∷ xs) ys = ap (λ l. x.stamp ∷ l) (stamps_append xs ys)

@@ -33,14 +33,22 @@ is_removed text ranges place =
     && (is_covered ranges place || (is_newline_at text place && are_covered ranges (place + 1) (length text - (place + 1))))
 
 -- the cells, with the visible ones at some places gone; the first visible one stands at this place
-abbrev pub gone_at : (ℕ → Bool) → ℕ → List Cell → List Cell
+abbrev pub gone_at : {T : Type 0} → (ℕ → Bool) → ℕ → List (Cell T) → List (Cell T)
 gone_at removed place [] = []
 gone_at removed place (cell ∷ cells) =
     if cell.gone then cell ∷ gone_at removed place cells
     else record cell { gone = removed place } ∷ gone_at removed (place + 1) cells
 
+-- the visible cells at some places, in the text's order
+abbrev pub cells_at : {T : Type 0} → (ℕ → Bool) → ℕ → List (Cell T) → List (Cell T)
+cells_at chosen place [] = []
+cells_at chosen place (cell ∷ cells) =
+    if cell.gone then cells_at chosen place cells
+    else if chosen place then cell ∷ cells_at chosen (place + 1) cells
+    else cells_at chosen (place + 1) cells
+
 -- the stamps of the visible cells at some places, in the text's order
-abbrev pub stamps_at : (ℕ → Bool) → ℕ → List Cell → List Stamp
+abbrev pub stamps_at : {T : Type 0} → (ℕ → Bool) → ℕ → List (Cell T) → List Stamp
 stamps_at removed place [] = []
 stamps_at removed place (cell ∷ cells) =
     if cell.gone then stamps_at removed place cells

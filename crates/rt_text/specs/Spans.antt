@@ -29,5 +29,5 @@ abbrev pub is_among : List Stamp → Stamp → Bool
 is_among stamps stamp = list_any (λ other. is_same other stamp) stamps
 
 -- a cell with a stamp in one of the spans is gone, another is as it was
-abbrev pub gone_in_any : List Span → Cell → Cell
+abbrev pub gone_in_any : {T : Type 0} → List Span → Cell T → Cell T
 gone_in_any spans cell = if is_in_spans spans cell.stamp then record cell { gone = true } else cell

@@ -1,27 +1,27 @@
 // Insertion of characters after a visible left neighbour.
-ghost use Rattle.std.specs.Prelude.{◌≡◌, ◌+◌, ◌-◌, ◌<◌, ◌≤◌, length, IfOk, IfErr};
+ghost use Rattle.std.specs.Prelude.{◌≡◌, ◌+◌, ◌-◌, ◌<◌, ◌≤◌, ◌++◌, length, OnOk, IfErr};
 ghost use Rattle.rt_stamps.specs.declared.limits.TheConstants.{GREATEST_COUNT};
 ghost use Rattle.rt_store.specs.Cells.{visible_of, StandsBefore, after_element, HasRoom};
+ghost use Rattle.rt_store.specs.Tagged.{AreStates};
 ghost use Rattle.rt_text.specs.Flat.{cells_from, left_of, put_after};
 ghost use Rattle.rt_text.specs.Known.{AreKnown};
 
 use rt_stamps::{Fault, ROOT, Site, Stamp};
 use rt_store::{Cell, TextStore};
-use std::alloc::Global;
+use rt_tags::{StateId, StateTable};
 
-/// The new cells of a text, with counts from `first` on.
-pub(crate) fn cells_of(
-    alloc: Global,
+/// Adds the cells of new characters in one state, with counts from `first` on. Want of memory.
+pub(crate) fn push_cells(
+    cells: &mut Vec<Cell<StateId>>,
     first: u64,
     site: Site,
+    state: StateId,
     text: &[char],
-) -> Result<Vec<Cell>, Fault>
+) -> Result<(), Fault>
     requires { first + length text.now ≤ GREATEST_COUNT + 1 }
-    ensures cells { IfOk result (λ cells. cells.items ≡ cells_from first site.number text.now) }
-    ensures len { IfOk result (λ cells. length cells.items ≡ length text.now) }
+    ensures cells { OnOk result (cells.new.items ≡ cells.old.items ++ cells_from first site.number state text.now) }
     ensures fault { IfErr result (λ fault. fault ≡ Fault.NoMemory) }
 {
-    let mut cells = Vec::with_capacity(alloc, text.len())?;
     let mut count = first;
     for ch in text {
         let stamp = Stamp {
@@ -32,10 +32,11 @@ pub(crate) fn cells_of(
             stamp,
             ch: *ch,
             gone: false,
+            state,
         })?;
         count += 1;
     }
-    Ok(cells)
+    Ok(())
 }
 
 // The stamp of the visible cell before a place.
@@ -62,7 +63,15 @@ fn gap<S: TextStore>(store: &S, left: Stamp, new: Stamp) -> usize
 }
 
 /// Puts new cells directly after the visible cell before a place.
-pub(crate) fn put<S: TextStore>(store: &mut S, place: usize, cells: &[Cell], first: Stamp)
+pub(crate) fn put<S: TextStore>(
+    store: &mut S,
+    states: &StateTable,
+    place: usize,
+    cells: &[Cell<StateId>],
+    first: Stamp,
+)
+    requires states { AreStates states.now (S.list store.old) }
+    requires given { AreStates states.now cells.now }
     requires place { place < length (visible_of (S.list store.old)) }
     requires room { HasRoom (S.room store.old) (length cells.now) 1 }
     requires newer { (1 ≤ first.count) × (1 ≤ first.site) × AreKnown (first.count - 1) (S.list store.old) }
@@ -71,5 +80,5 @@ pub(crate) fn put<S: TextStore>(store: &mut S, place: usize, cells: &[Cell], fir
 {
     let left = left_of(store, place);
     let at = gap(store, left, first);
-    store.splice(at, cells);
+    store.splice(states, at, cells);
 }

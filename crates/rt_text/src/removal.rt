@@ -1,6 +1,6 @@
 // The places that a removal takes, as ranges in the text's order.
 ghost use Rattle.std.specs.Prelude.{◌≡◌, ℕ, ◌<◌, ◌≤◌, ◌&&◌, nat_lt, true, ◌∷◌, All, IfOk, IfErr, length};
-ghost use Rattle.rt_store.specs.Cells.{text_of};
+ghost use Rattle.rt_store.specs.Cells.{text_of, visible_of};
 ghost use Rattle.rt_text.specs.Merging.{AreRising, AreApart, begins_line, spared};
 ghost use Rattle.rt_text.specs.Removals.{is_covered, is_removed, AreInOrder};
 
@@ -134,4 +134,20 @@ pub(crate) fn removed_ranges<S: TextStore>(
     let sorted = sorted_before(alloc, ranges, store.visible())?;
     let merged = merged(alloc, &sorted)?;
     Ok(sparing(store, merged))
+}
+
+/// The places of a text in ranges, as ranges in the text's order: the ranges may come in any order,
+/// overlap, be empty, and pass the text's end. Want of memory.
+pub(crate) fn ranges_within<S: TextStore>(
+    alloc: Global,
+    store: &S,
+    ranges: &[Range],
+) -> Result<Vec<Range>, Fault>
+    ensures order { IfOk result (λ within. AreInOrder 0 within.items) }
+    ensures within { IfOk result (λ within. All (λ range. range.to ≤ length (visible_of (S.list store.now))) within.items) }
+    ensures places { IfOk result (λ within. (place : ℕ) → is_covered within.items place ≡ (nat_lt place (length (visible_of (S.list store.now))) && is_covered ranges.now place)) }
+    ensures err { IfErr result (λ fault. fault ≡ Fault.NoMemory) }
+{
+    let sorted = sorted_before(alloc, ranges, store.visible())?;
+    merged(alloc, &sorted)
 }

@@ -5,7 +5,8 @@ ghost use Rattle.rt_stamps.specs.declared.limits.TheConstants.{MOST_CELLS};
 ghost use Rattle.rt_stamps.specs.declared.stamp.Stamp.{Stamp};
 ghost use Rattle.rt_stamps.specs.declared.stamp.TheConstants.{FINAL};
 ghost use Rattle.rt_stamps.specs.Stamps.{is_same};
-ghost use Rattle.rt_store.specs.Cells.{visible_of, text_of, HasRoom};
+ghost use Rattle.rt_store.specs.Cells.{visible_of, text_of, HasRoom, Spends};
+ghost use Rattle.rt_store.specs.Tagged.{AreStates};
 ghost use Rattle.rt_text.specs.Known.{AreDistinct};
 ghost use Rattle.rt_text.specs.Removals.{is_covered, stamps_at, gone_at, span_count, operations_for, AreInOrder};
 ghost use Rattle.rt_text.specs.Spans.{each_next, is_span, is_clear_of, precedes, next_stamp, last_stamp, is_in_spans, is_among, gone_in_any};
@@ -14,6 +15,7 @@ use crate::Range;
 use rt_stamps::limits::MOST_SPANS;
 use rt_stamps::{Fault, Span, Stamp};
 use rt_store::TextStore;
+use rt_tags::StateTable;
 use std::alloc::Global;
 
 // Adds the stamps of the visible cells in a range.
@@ -56,8 +58,8 @@ fn sort(stamps: &mut Vec<Stamp>)
     stamps.sort_unstable_by_key(|stamp| (stamp.site, stamp.count));
 }
 
-// The span of one stamp.
-fn span_of(stamp: Stamp) -> Span
+/// The span of one stamp.
+pub(crate) fn span_of(stamp: Stamp) -> Span
     ensures { result ≡ record { site = stamp.site; first = stamp.count; last = stamp.count } }
 {
     Span {
@@ -67,8 +69,8 @@ fn span_of(stamp: Stamp) -> Span
     }
 }
 
-// Whether a stamp is the next one after a span.
-fn is_next(span: Span, stamp: Stamp) -> bool
+/// Whether a stamp is the next one after a span.
+pub(crate) fn is_next(span: Span, stamp: Stamp) -> bool
     ensures { result ≡ is_same stamp (next_stamp (last_stamp span)) }
 {
     stamp.site == span.site && stamp.count > span.last && stamp.count - span.last == 1
@@ -147,12 +149,14 @@ pub(crate) fn operations_for(spans: usize) -> u64
 }
 
 /// Makes the cells of spans of stamps gone.
-pub(crate) fn set_all_gone<S: TextStore>(store: &mut S, spans: &[Span])
+pub(crate) fn set_all_gone<S: TextStore>(store: &mut S, states: &StateTable, spans: &[Span])
+    requires states { AreStates states.now (S.list store.old) }
     requires stays { is_in_spans spans.now FINAL ≡ false }
     requires room { HasRoom (S.room store.old) 0 (2 * length spans.now) }
     ensures list { S.list store.new ≡ map (gone_in_any spans.now) (S.list store.old) }
+    ensures room { Spends (S.room store.old) (S.room store.new) 0 (2 * length spans.now) }
 {
     for span in spans {
-        store.set_gone(*span);
+        store.set_gone(states, *span);
     }
 }

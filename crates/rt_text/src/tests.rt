@@ -1,12 +1,14 @@
 ghost use Rattle.std.specs.Prelude.{◌≡◌};
+ghost use Rattle.rt_tags.specs.Tags.{IsName};
 
-use crate::insertion::cells_of;
+use crate::insertion::push_cells;
 use crate::removal::removed_ranges;
-use crate::{Doc, OwnMark, Range, Widget};
+use crate::{Doc, OwnMark, Piece, Range, Selection, Widget};
 use rt_marks::Gravity;
 use rt_stamps::limits::GREATEST_COUNT;
-use rt_stamps::{Clock, Fault, Position, Site};
+use rt_stamps::{Clock, Fault, Position, Site, Stamp};
 use rt_store::{ListStore, TextStore};
+use rt_tags::{StateId, StateTable};
 use std::alloc::Global;
 use std::marker::Model;
 use std::process::Abort;
@@ -36,16 +38,41 @@ impl Page {
         let site = Site::new(1).ok_or("a site")?;
         let store = ListStore::new(alloc)?;
         let doc = Doc::with_clock(alloc, store, site, 20_000, clock)?;
-        let widget = Widget::new();
+        let widget = Widget::new(alloc);
         Ok(Page { doc, widget })
     }
 
     fn insert(&mut self, index: &str, new: &str) -> Result<(), Fault> {
-        self.doc.insert(&mut self.widget, index, new)
+        self.doc.insert(&mut self.widget, &mut [], index, &[], new)
+    }
+
+    fn insert_pieces(
+        &mut self,
+        others: &mut [Selection],
+        index: &str,
+        pieces: &[Piece],
+        rest: &str,
+    ) -> Result<(), Fault> {
+        self.doc
+            .insert(&mut self.widget, others, index, pieces, rest)
+    }
+
+    fn next_tagged(&self, name: &str, place: usize) -> Option<usize> {
+        self.doc.next_tagged(&self.widget, name, place)
+    }
+
+    fn next_untagged(&self, name: &str, place: usize) -> Option<usize> {
+        self.doc.next_untagged(&self.widget, name, place)
+    }
+
+    fn write_tag(&mut self, on: bool, name: &str, ranges: &[Range]) -> Result<(), Fault>
+        requires { IsName name.now }
+    {
+        self.doc.write_tag(&mut self.widget, on, name, ranges)
     }
 
     fn delete(&mut self, indices: &[String]) -> Result<(), Fault> {
-        self.doc.delete(&mut self.widget, indices)
+        self.doc.delete(&mut self.widget, &mut [], indices)
     }
 
     fn get(&self, from: &str, to: &str) -> Result<String, Fault> {
@@ -184,10 +211,12 @@ fn store_of(rt: &impl Abort, alloc: Global, text: &str) -> Result<ListStore, Fai
     }
     assert!(rt; chars.len() < 100);
     let site = Site::new(1).ok_or("a site")?;
-    let cells = cells_of(alloc, 1, site, &chars)?;
+    let states = StateTable::new(alloc)?;
+    let mut cells = Vec::new(alloc);
+    push_cells(&mut cells, 1, site, StateId::EMPTY, &chars)?;
     let mut store = ListStore::new(alloc)?;
     store.reserve(cells.len(), 1)?;
-    store.splice(0, &cells);
+    store.splice(&states, 0, &cells);
     Ok(store)
 }
 
@@ -442,5 +471,116 @@ fn a_thousand_marks_in_ten_thousand_characters(rt: HostRuntime) -> Result<(), Fa
         assert!(rt; stands(alloc, &page, i, wanted)?, "mark {i}");
         character = character.saturating_add(10);
     }
+    Ok(())
+}
+
+// A piece of text with a list of tags.
+fn piece(alloc: Global, text: &str, tags: &[&str]) -> Result<Piece, Fail> {
+    Ok(Piece::new(String::from_str(alloc, text)?, words(alloc, tags)?))
+}
+
+// Tags, each with a place and the first range behind that in which all characters have it.
+fn tagged(rt: &impl Abort, page: &Page, rows: &[(&str, usize, usize, usize)]) {
+    for (name, place, from, to) in rows {
+        assert_eq!(rt;
+            page.next_tagged(name, *place),
+            Some(*from),
+            "{name} from {place}"
+        );
+        assert_eq!(rt;
+            page.next_untagged(name, *from),
+            Some(*to),
+            "{name} up from {from}"
+        );
+    }
+}
+
+// Text with lists gets these tags, and other text those that both neighbours have.
+#[test]
+fn tags_of_new_text(rt: HostRuntime) -> Result<(), Fail> {
+    let alloc = rt.alloc();
+    let mut page = Page::new(alloc, Clock::new())?;
+    let pieces = [
+        piece(alloc, "ab", &["u", "sel", "t", "u"])?,
+        piece(alloc, "c", &["t"])?,
+    ];
+    page.insert_pieces(&mut [], "1.0", &pieces, "de")?;
+    assert_eq!(rt; page.get("1.0", "end")?.as_str(), "abcde\n");
+    tagged(
+        &rt,
+        &page,
+        &[("t", 0, 0, 3), ("u", 0, 0, 2), ("sel", 0, 0, 2)],
+    );
+    page.insert("1.1", "X")?;
+    page.insert("1.0", "Y")?;
+    tagged(
+        &rt,
+        &page,
+        &[("t", 0, 1, 5), ("u", 0, 1, 4), ("sel", 0, 1, 4)],
+    );
+    let plain = [piece(alloc, "Z", &[])?];
+    page.insert_pieces(&mut [], "1.3", &plain, "W")?;
+    assert_eq!(rt; page.get("1.0", "end")?.as_str(), "YaXZWbcde\n");
+    let rows = [
+        ("t", 0, 1, 3),
+        ("t", 3, 5, 7),
+        ("sel", 0, 1, 3),
+        ("sel", 3, 5, 6),
+    ];
+    tagged(&rt, &page, &rows);
+    Ok(())
+}
+
+// New text without a list is selected in each widget that has both neighbours; `sel` in a list
+// selects in the widget that commands alone.
+#[test]
+fn selected_in_other_widgets(rt: HostRuntime) -> Result<(), Fail> {
+    let alloc = rt.alloc();
+    let mut page = Page::new(alloc, Clock::new())?;
+    page.insert("1.0", "ab")?;
+    let stamp = |count| Stamp { count, site: 1 };
+    let both = Selection::of(alloc, &[stamp(1), stamp(2)])?;
+    let one = Selection::of(alloc, &[stamp(1)])?;
+    let mut others = [both, one];
+    page.insert_pieces(&mut others, "1.1", &[], "X")?;
+    assert!(rt; others[0].has(stamp(3)) && !others[1].has(stamp(3)));
+    assert_eq!(rt; page.next_tagged("sel", 0), None);
+    let pieces = [piece(alloc, "Z", &["sel"])?];
+    page.insert_pieces(&mut others, "1.1", &pieces, "")?;
+    assert!(rt; !others[0].has(stamp(4)) && !others[1].has(stamp(4)));
+    tagged(&rt, &page, &[("sel", 0, 1, 2)]);
+    Ok(())
+}
+
+// Ranges may come in any order, overlap, be empty and pass the text's end. A tag that is put on is
+// listed, and one that is deleted is nowhere; `sel` isn't deleted.
+#[test]
+fn tags_put_on_taken_off_and_deleted(rt: HostRuntime) -> Result<(), Fail> {
+    let alloc = rt.alloc();
+    let mut page = Page::new(alloc, Clock::new())?;
+    page.insert("1.0", "abcde")?;
+    page.write_tag(
+        true,
+        "t",
+        &[Range { from: 2, to: 4 }, Range { from: 1, to: 3 }],
+    )?;
+    page.write_tag(false, "t", &[Range { from: 2, to: 3 }])?;
+    page.write_tag(true, "sel", &[Range { from: 0, to: 2 }])?;
+    page.write_tag(true, "u", &[Range { from: 4, to: 100 }])?;
+    page.write_tag(true, "v", &[Range { from: 1, to: 1 }])?;
+    tagged(
+        &rt,
+        &page,
+        &[("t", 0, 1, 2), ("t", 2, 3, 4), ("sel", 0, 0, 2)],
+    );
+    assert_eq!(rt; page.next_tagged("u", 0), Some(4));
+    assert_eq!(rt; page.next_untagged("u", 4), None);
+    assert!(rt; page.doc.tags().has("v") && page.next_tagged("v", 0).is_none());
+    page.doc.delete_tags(&words(alloc, &["t", "sel", "x", "t"])?)?;
+    assert!(rt; !page.doc.tags().has("t") && page.next_tagged("t", 0).is_none());
+    tagged(&rt, &page, &[("sel", 0, 0, 2)]);
+    assert_eq!(rt; page.next_tagged("u", 0), Some(4));
+    page.write_tag(false, "sel", &[Range { from: 1, to: 9 }])?;
+    tagged(&rt, &page, &[("sel", 0, 0, 1)]);
     Ok(())
 }
