@@ -1,5 +1,6 @@
 #!/usr/bin/env python3
-"""Random scripts, answered by the built program and by a plain model of the widget: a list of characters and a table of marks.
+"""Random scripts, answered by the built program and by a plain model of the widget: a list of characters
+with their tags, a table of marks, and the list of tags.
 
 Usage: tests/model.py [PROGRAM [SCRIPTS [SEED]]]; without a program it takes ./peertext, which builds it where it is missing.
 The last line is 'N passed, M failed'.
@@ -20,8 +21,8 @@ class Refused(Exception):
     pass
 
 
-BAD_INDEX, NONE_TAGGED, BAD_COMMAND, NO_MARK, BAD_OPTION, BAD_NAME = (
-    "! 2 BadIndex", "! 3 NoneTagged", "! 4 BadCommand", "! 8 NoMark", "! 9 BadOption", "! 14 BadName")
+BAD_INDEX, NONE_TAGGED, BAD_COMMAND, NO_TAG, NO_MARK, BAD_OPTION, BAD_NAME, BAD_QUOTING = (
+    "! 2 BadIndex", "! 3 NoneTagged", "! 4 BadCommand", "! 7 NoTag", "! 8 NoMark", "! 9 BadOption", "! 14 BadName", "! 19 BadQuoting")
 
 POSITION = re.compile(r"([0-9]+)\.([0-9]+|end)\Z")
 # a modifier: a count, or a keyword
@@ -35,9 +36,60 @@ def is_word(c):
     return c == "_" or c.isalpha() or c.isdecimal()
 
 
+def names_checked(names):
+    if not all(1 <= len(name.encode()) <= 255 for name in names):
+        raise Refused(BAD_NAME)
+
+
+def words_of(text):
+    """The words of a tag list."""
+    words, i = [], 0
+    while True:
+        while i < len(text) and text[i] in " \t\n":
+            i += 1
+        if i == len(text):
+            return words
+        word = ""
+        if text[i] == '"':
+            i += 1
+            while i < len(text) and text[i] != '"':
+                if text[i] == "\\":
+                    i += 1
+                    if i == len(text) or text[i] not in "ntr\\\"":
+                        raise Refused(BAD_QUOTING)
+                    word += {"n": "\n", "t": "\t", "r": "\r"}.get(text[i], text[i])
+                else:
+                    word += text[i]
+                i += 1
+            if i == len(text):
+                raise Refused(BAD_QUOTING)
+            i += 1
+        elif text[i] == "{":
+            depth, start = 0, i + 1
+            while i < len(text):
+                depth += {"{": 1, "}": -1}.get(text[i], 0)
+                i += 1
+                if depth == 0:
+                    break
+            if depth:
+                raise Refused(BAD_QUOTING)
+            word = text[start:i - 1]
+        else:
+            while i < len(text) and text[i] not in " \t\n":
+                word, i = word + text[i], i + 1
+            words.append(word)
+            continue
+        if i < len(text) and text[i] not in " \t\n":
+            raise Refused(BAD_QUOTING)
+        words.append(word)
+
+
 class Widget:
     def __init__(self):
         self.text = "\n"
+        # the tags of each character, `sel` among them, and the listed tags
+        self.tags = [frozenset()]
+        self.names = ["sel"]
         self.marks = {"insert": [0, "right"], "current": [0, "right"]}
 
     # places
@@ -78,8 +130,10 @@ class Widget:
         if token in self.marks:
             return self.marks[token][0], word[len(token):]
         for size in range(len(word), 0, -1):
-            if word[:size] in ("sel.first", "sel.last") and word[size:size + 1] in ("", " ", "+", "-"):
-                return None, word[size:]
+            name, _, end = word[:size].rpartition(".")
+            if name in self.names and end in ("first", "last") and word[size:size + 1] in ("", " ", "+", "-"):
+                tagged = [p for p in range(n) if name in self.tags[p]]
+                return (None if not tagged else tagged[0] if end == "first" else tagged[-1] + 1), word[size:]
         raise Refused(BAD_INDEX)
 
     def modifiers(self, rest):
@@ -137,12 +191,33 @@ class Widget:
 
     # edits
 
-    def insert(self, p, new):
-        p = min(p, len(self.text) - 1)
+    def listed(self, names):
+        self.names += [name for name in names if name not in self.names]
+
+    def insert(self, p, new, names):
+        """Text with a list of tags, or without one."""
+        if not new:
+            return p
+        if names is None:
+            tags = self.tags[p - 1] & self.tags[p] if p else frozenset()
+        else:
+            tags = frozenset(names)
         self.text = self.text[:p] + new + self.text[p:]
+        self.tags[p:p] = [tags] * len(new)
+        self.listed(sorted(tags, key=str.encode))
         for mark in self.marks.values():
             if mark[0] > p or mark[0] == p and mark[1] == "right":
                 mark[0] += len(new)
+        return p + len(new)
+
+    def inserted(self, words):
+        if len(words) < 2:
+            raise Refused(BAD_COMMAND)
+        lists = [words_of(w) for w in words[2::2]]
+        names_checked([name for names in lists for name in names])
+        p = min(self.index(words[0]), len(self.text) - 1)
+        for i, new in enumerate(words[1::2]):
+            p = self.insert(p, new, lists[i] if i < len(lists) else None)
 
     def pairs(self, words):
         places = [self.index(w) for w in words]
@@ -162,11 +237,71 @@ class Widget:
             gone |= set(range(a, b))
             if b == n:
                 gone.discard(n - 1)
+                self.tags[n - 1] = frozenset()
                 if a > 0 and self.text[a - 1] == "\n":
                     gone.add(a - 1)
         for mark in self.marks.values():
             mark[0] = sum(p not in gone for p in range(mark[0]))
         self.text = "".join(c for p, c in enumerate(self.text) if p not in gone)
+        self.tags = [tags for p, tags in enumerate(self.tags) if p not in gone]
+
+    # tags
+
+    def ranges(self, name):
+        """The longest runs of characters that have a tag."""
+        places = [p for p in range(len(self.text)) if name in self.tags[p]]
+        firsts = [p for p in places if p - 1 not in places]
+        lasts = [p for p in places if p + 1 not in places]
+        return list(zip(firsts, [p + 1 for p in lasts]))
+
+    def positions(self, ranges):
+        return [self.position(p) for r in ranges for p in r]
+
+    def tag(self, words):
+        if not words:
+            raise Refused(BAD_COMMAND)
+        action, words = words[0], words[1:]
+        least, most = {"add": (2, 99), "remove": (2, 99), "delete": (1, 99), "raise": (1, 2), "lower": (1, 2), "names": (0, 1), "ranges": (1, 1),
+                       "nextrange": (2, 3), "prevrange": (2, 3)}.get(action, (1, 0))
+        if not least <= len(words) <= most:
+            raise Refused(BAD_COMMAND)
+        n = len(self.text)
+        if action == "names":
+            if not words:
+                return list(self.names)
+            p = self.index(words[0])
+            return [name for name in self.names if p < n and name in self.tags[p]]
+        names_checked(words if action in ("delete", "raise", "lower") else words[:1])
+        if action == "delete":
+            for name in words:
+                if name != "sel":
+                    self.tags = [tags - {name} for tags in self.tags]
+                    self.names = [x for x in self.names if x != name]
+            return []
+        if action in ("raise", "lower"):
+            if not set(words) <= set(self.names):
+                raise Refused(NO_TAG)
+            if words[0] != words[-1] or len(words) == 1:
+                self.names.remove(words[0])
+                at = (len(self.names) if action == "raise" else 0) if len(words) == 1 else self.names.index(words[1]) + (action == "raise")
+                self.names.insert(at, words[0])
+            return []
+        if action in ("add", "remove"):
+            for a, b in self.pairs(words[1:]):
+                for p in range(a, min(b, n)):
+                    self.tags[p] = self.tags[p] | {words[0]} if action == "add" else self.tags[p] - {words[0]}
+            if action == "add":
+                self.listed(words[:1])
+            return []
+        ranges = self.ranges(words[0])
+        if action == "ranges":
+            return self.positions(ranges)
+        places = [self.index(w) for w in words[1:]]
+        if action == "nextrange":
+            a, b = (places + [n])[:2]
+            return self.positions([r for r in ranges if a <= r[0] < b][:1])
+        a, b = (places + [0])[:2]
+        return self.positions([r for r in ranges if b <= r[0] < a][-1:])
 
     # marks
 
@@ -227,9 +362,7 @@ class Widget:
 
     def command(self, name, words):
         if name == "insert":
-            if len(words) != 2:
-                raise Refused(BAD_COMMAND)
-            self.insert(self.index(words[0]), words[1])
+            self.inserted(words)
             return []
         if name == "delete":
             if not words:
@@ -264,6 +397,8 @@ class Widget:
             return [str(self.line(b) - self.line(a) if s == "-lines" else b - a) for s in switches or ["-indices"]]
         if name == "mark":
             return self.mark(words)
+        if name == "tag":
+            return self.tag(words)
         raise Refused(BAD_COMMAND)
 
 
@@ -282,8 +417,16 @@ class Chance(random.Random):
     def name(self):
         return self.choice(["insert", "current", "m", "n", "l", "1.0", "2.1", "end", "a b", "m+1c", "sel.first", "q.last", "é", "" if self.random() < .2 else "k"])
 
+    def tag(self):
+        return self.choice(["sel", "t", "t", "t", "u", "u", "v", "a b", "t.first", "é", "" if self.random() < .1 else "t"])
+
+    def list(self):
+        if self.random() < .03:
+            return self.choice(['"t', "{t", '"t"u', "{t}u", '"\\q"', "{t}}"])
+        return self.choice(["", " ", "\n"]) + self.choice([" ", "\n", "\t", "  "]).join(spelled(self.tag()) for _ in range(self.randrange(4)))
+
     def word(self):
-        base = self.choice([f"{self.randrange(5)}.{self.randrange(9)}", f"{self.randrange(1, 5)}.end", "end", self.name(), "sel.last" if self.random() < .2 else "1.0", "x" if self.random() < .2 else "insert"])
+        base = self.choice([f"{self.randrange(5)}.{self.randrange(9)}", f"{self.randrange(1, 5)}.end", "end", self.name(), self.tag() + self.choice([".first", ".last"]) if self.random() < .4 else "1.0", "x" if self.random() < .2 else "insert"])
         for _ in range(self.choice([0, 0, 0, 1, 1, 2])):
             space = " " * self.choice([0, 1, 1, 2])
             if self.random() < .6:
@@ -294,9 +437,21 @@ class Chance(random.Random):
         return base + self.choice(["", "", "", " "])
 
     def command(self):
-        kind = self.choice(["insert", "insert", "delete", "get", "index", "index", "compare", "count", "mark", "mark", "mark"])
+        kind = self.choice(["insert", "insert", "insert", "delete", "get", "index", "index", "compare", "count", "mark", "mark", "tag", "tag", "tag", "tag", "tag"])
         if kind == "insert":
-            return [kind, self.word(), self.text()]
+            words = [w for _ in range(self.choice([1, 1, 1, 2, 3])) for w in (self.text(), self.list())]
+            return [kind, self.word(), *(words if self.random() < .5 else words[:-1])]
+        if kind == "tag":
+            action = self.choice(["add", "add", "add", "remove", "delete", "raise", "lower", "names", "ranges", "ranges", "nextrange", "nextrange", "prevrange", "prevrange", "frob" if self.random() < .1 else "names"])
+            if action in ("add", "remove"):
+                return [kind, action, self.tag(), *(self.word() for _ in range(self.randrange(5)))]
+            if action in ("delete", "raise", "lower"):
+                return [kind, action, *(self.tag() for _ in range(self.randrange(4) if action == "delete" else self.randrange(1, 3)))]
+            if action == "names":
+                return [kind, action, *(self.word() for _ in range(self.randrange(2)))]
+            if action == "ranges":
+                return [kind, action, self.tag()]
+            return [kind, action, self.tag(), *(self.word() for _ in range(self.randrange(1, 3)))]
         if kind in ("delete", "get"):
             return [kind, *(self.word() for _ in range(self.randrange(1, 6)))]
         if kind == "index":

@@ -1,5 +1,5 @@
 -- Words and steps.
-use Rattle.std.proofs.Common.{◌≡◌, ◌==◌, true, false, ◌≤◌, ◌<◌, inl, inr, Ok, Err, Result, get_or, ◌∙◌, ℕ, ◌+◌, ◌-◌, Bool, List, [], ◌∷◌, cond, map, take, drop, length, refl, ap, arith, String, Global, string_bytes}
+use Rattle.std.proofs.Common.{◌≡◌, ◌==◌, false, ◌≤◌, ◌<◌, inl, inr, Ok, Err, Result, get_or, ◌∙◌, ℕ, ◌+◌, ◌-◌, Bool, List, [], ◌∷◌, cond, map, take, drop, length, refl, ap, subst, arith, String, Global, string_bytes}
 use Rattle.std.specs.List.{prefix_len}
 use Rattle.std.proofs.lemmas.List.{take-map, drop-map, length-map, take_all, length-drop}
 use Rattle.std.specs.Prelude.{IfOk, IfErr}
@@ -7,10 +7,12 @@ use Rattle.rt_stamps.specs.declared.fault.Fault.{Fault}
 use Rattle.rt_stamps.specs.declared.fault.Fault.TheVariants.{NoMemory, BadCommand}
 use Rattle.rt_stamps.specs.Outcomes.{Answers, Refuses}
 use Rattle.rt_stamps.specs.Words.{Word}
-use Rattle.rt_text.specs.Flat.{Flat}
+use Rattle.rt_tagcmd.specs.TagCommands.{tag_added, tag_removed, tags_deleted}
+use Rattle.rt_text.specs.Commands.{Edited}
+use Rattle.rt_edits.specs.Flat.{Flat}
 use Rattle.rt_text.specs.Widgets.{Own}
 use Rattle.rt_peers.specs.State.{State}
-use Rattle.rt_peers.specs.Step.{Outcome, as_outcome, changed_step, mark_unset_step, unset_step, mark_gravity_step, mark_names_step, delete_step, removal_step, get_step, list_step, count_step, counted_step, distances_step, is_switch}
+use Rattle.rt_peers.specs.Step.{as_outcome, changed_step, document_step, edited_step, TextsGive, InsertGives, tag_add_step, tag_remove_step, tag_delete_step, mark_unset_step, unset_step, mark_gravity_step, mark_names_step, delete_step, removal_step, get_step, list_step, count_step, counted_step, distances_step, is_switch}
 
 -- three indices or more
 many : (state : State) (words : List Word) → 3 ≤ length words → get_step state words ≡ list_step state words
@@ -82,6 +84,75 @@ refused_with state f outcome = refused_by (λ v. (f v, state)) outcome
 
 pub change_refused : (outcome : Result (Flat × Own) Fault) (fault found : Fault) → Refuses outcome found → fault ≡ found → Refuses (changed_step outcome) fault
 change_refused outcome = refused_by (λ changed. ([], record { doc = changed.0; own = changed.1 })) outcome
+
+pub edit_refused : (outcome : Result Edited Fault) (fault found : Fault) → Refuses outcome found → fault ≡ found → Refuses (edited_step outcome) fault
+edit_refused outcome = refused_by (λ edited. ([], record { doc = edited.doc; own = edited.own })) outcome
+
+pub document_refused : (state : State) (outcome : Result Flat Fault) (fault found : Fault) → Refuses outcome found → fault ≡ found → Refuses (document_step state outcome) fault
+document_refused state outcome = refused_by (λ doc. ([], record state { doc = doc })) outcome
+
+-- a change that is refused, and one that is made, by what the call says of the document and the widget
+pub changed_refused : (f : Flat → Own → Result (Flat × Own) Fault) (state : State) (doc : Flat) (own : Own) (fault found : Fault) → state_of doc own ≡ state → Refuses (f doc own) found → fault ≡ found
+    → Refuses (changed_step (f state.doc state.own)) fault
+changed_refused f state doc own fault found v r e = change_refused (f state.doc state.own) fault found (subst (λ (s : State). Refuses (f s.doc s.own) found) v r) e
+
+pub changed_to : (f : Flat → Own → Result (Flat × Own) Fault) (state : State) (doc doc' : Flat) (own own' : Own) → state_of doc own ≡ state → f doc own ≡ Ok (doc', own')
+    → changed_step (f state.doc state.own) ≡ Ok ([], state_of doc' own')
+changed_to f state doc doc' own own' v e = ap changed_step (subst (λ (s : State). f s.doc s.own ≡ Ok (doc', own')) v e)
+
+-- a reply that is refused, and one that is made, by what the call says of the document and the widget
+pub refused_at : {T : Type 0} (g : T → List Word) (f : Flat → Own → Result T Fault) (state : State) (doc : Flat) (own : Own) (fault found : Fault) → state_of doc own ≡ state → Refuses (f doc own) found → fault ≡ found
+    → Refuses (as_outcome (λ v. (g v, state)) (f state.doc state.own)) fault
+refused_at g f state doc own fault found v r e = refused_with state g (f state.doc state.own) fault found (subst (λ (s : State). Refuses (f s.doc s.own) found) v r) e
+
+pub replied_at : {T : Type 0} (g : T → List Word) (f : Flat → Own → Result T Fault) (state : State) (doc : Flat) (own : Own) (value : T) (result : Result (List Word) Fault) → state_of doc own ≡ state → f doc own ≡ Ok value
+    → IfOk result (λ reply. reply ≡ g value) → IfErr result (λ fault. fault ≡ NoMemory) → Answers (as_outcome (λ v. (g v, state)) (f state.doc state.own)) state result state
+replied_at g f state doc own value result v e ok err = replied_with state g (f state.doc state.own) value result (subst (λ (s : State). f s.doc s.own ≡ Ok value) v e) ok err
+
+-- a word and one more or several: those behind the first, as a slice has them
+behind_is : (w : String Global) (words : List (String Global)) → take (length (w ∷ words) - 1) (drop 1 (w ∷ words)) ≡ words
+behind_is w words = take_all (length (w ∷ words) - 1) words (omega arith)
+
+pub insert_of_some : (old : State) (result : Result (List Word) Fault) (new : State) (words : List (String Global)) (x : String Global) → 2 ≤ length words → x ≡ get_or words 0 x
+    → TextsGive (string_bytes x) (map (λ w. string_bytes w) (take (length words - 1) (drop 1 words))) old result new → InsertGives (map (λ w. string_bytes w) words) old result new
+insert_of_some old result new [] x h a t = absurd (omega arith)
+insert_of_some old result new (w ∷ []) x h a t = absurd (omega arith)
+insert_of_some old result new (w ∷ v ∷ words) x h a t =
+    let front : TextsGive (string_bytes x) (map (λ w. string_bytes w) (v ∷ words)) old result new = subst (λ (l : List (String Global)). TextsGive (string_bytes x) (map (λ w. string_bytes w) l) old result new) (behind_is w (v ∷ words)) t in
+    subst (λ (y : String Global). TextsGive (string_bytes y) (map (λ w. string_bytes w) (v ∷ words)) old result new) a front
+
+pub add_of_some : (state : State) (words : List (String Global)) (x : String Global) → 2 ≤ length words → x ≡ get_or words 0 x
+    → tag_add_step state (map (λ w. string_bytes w) words) ≡ changed_step (tag_added state.doc state.own (string_bytes x) (map (λ w. string_bytes w) (take (length words - 1) (drop 1 words))))
+add_of_some state [] x h a = absurd (omega arith)
+add_of_some state (w ∷ []) x h a = absurd (omega arith)
+add_of_some state (w ∷ v ∷ words) x h a = rw (a, behind_is w (v ∷ words)) refl
+
+pub remove_of_some : (state : State) (words : List (String Global)) (x : String Global) → 2 ≤ length words → x ≡ get_or words 0 x
+    → tag_remove_step state (map (λ w. string_bytes w) words) ≡ changed_step (tag_removed state.doc state.own (string_bytes x) (map (λ w. string_bytes w) (take (length words - 1) (drop 1 words))))
+remove_of_some state [] x h a = absurd (omega arith)
+remove_of_some state (w ∷ []) x h a = absurd (omega arith)
+remove_of_some state (w ∷ v ∷ words) x h a = rw (a, behind_is w (v ∷ words)) refl
+
+-- too few words
+pub insert_of_few : (old : State) (words : List (String Global)) → length words < 2 → InsertGives (map (λ w. string_bytes w) words) old (Err BadCommand) old
+insert_of_few old [] h = (refl, inr refl)
+insert_of_few old (w ∷ []) h = (refl, inr refl)
+insert_of_few old (w ∷ v ∷ words) h = absurd (omega arith)
+
+pub add_of_few : (state : State) (words : List (String Global)) → length words < 2 → tag_add_step state (map (λ w. string_bytes w) words) ≡ Err BadCommand
+add_of_few state [] h = refl
+add_of_few state (w ∷ []) h = refl
+add_of_few state (w ∷ v ∷ words) h = absurd (omega arith)
+
+pub remove_of_few : (state : State) (words : List (String Global)) → length words < 2 → tag_remove_step state (map (λ w. string_bytes w) words) ≡ Err BadCommand
+remove_of_few state [] h = refl
+remove_of_few state (w ∷ []) h = refl
+remove_of_few state (w ∷ v ∷ words) h = absurd (omega arith)
+
+-- tags to delete, one or more
+pub delete_tags_of_some : (state : State) (words : List (String Global)) → false ≡ (length words == 0) → tag_delete_step state (map (λ w. string_bytes w) words) ≡ document_step state (tags_deleted state.doc (map (λ w. string_bytes w) words))
+delete_tags_of_some state [] h = absurd (cc)
+delete_tags_of_some state (word ∷ words) h = refl
 
 -- words by their number
 pub single : (words : List (String Global)) (x : String Global) → 1 ≤ length words → length words < 2 → x ≡ get_or words 0 x → map (λ w. string_bytes w) words ≡ string_bytes x ∷ []

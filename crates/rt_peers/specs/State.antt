@@ -2,7 +2,7 @@
 use Rattle.std.specs.Prelude.{ℕ, Bool, codes}
 use Rattle.std.specs.Str.{bytes_eq}
 use Rattle.rt_stamps.specs.Words.{Word}
-use Rattle.rt_text.specs.Flat.{Flat, new_flat}
+use Rattle.rt_edits.specs.Flat.{Flat, new_flat}
 use Rattle.rt_text.specs.Widgets.{Own, new_own}
 
 -- a site: its document, and the own marks of its widget

@@ -1,22 +1,28 @@
 -- What a command of a widget does: the reply and the state after it, or why it is refused.
-use Rattle.std.specs.Prelude.{◌==◌, List, [], ◌∷◌, map, take, drop, Bool, false, Option, Some, None, Result, Ok, Err, codes, if◌then◌else◌}
+use Rattle.std.specs.Prelude.{◌≡◌, ◌⊎◌, ◌==◌, List, [], ◌∷◌, map, take, drop, Bool, true, false, Option, Some, None, Result, Ok, Err, codes, if◌then◌else◌}
 use Rattle.std.specs.Fmt.{signed_decimal}
 use Rattle.std.specs.List.{prefix_len}
 use Rattle.std.specs.Str.{bytes_eq}
 use Rattle.rt_stamps.specs.declared.fault.Fault.{Fault}
-use Rattle.rt_stamps.specs.declared.fault.Fault.TheVariants.{BadCommand, NoWidget}
+use Rattle.rt_stamps.specs.declared.fault.Fault.TheVariants.{BadCommand, BadQuoting, NoMemory, NoWidget}
+use Rattle.rt_stamps.specs.declared.position.Position.{Position}
+use Rattle.rt_stamps.specs.Outcomes.{Answers}
 use Rattle.rt_stamps.specs.Places.{text_of_position}
-use Rattle.rt_stamps.specs.Words.{Word}
+use Rattle.rt_stamps.specs.Words.{Word, SpellsList}
 use Rattle.rt_marks.specs.declared.gravity.Gravity.{Gravity}
 use Rattle.rt_marks.specs.declared.gravity.Gravity.TheVariants.{Left, Right}
 use Rattle.rt_tagcmd.specs.MarkCommands.{mark_set, mark_unset, mark_gravity, mark_gravity_set, mark_names, mark_next, mark_previous}
-use Rattle.rt_text.specs.Flat.{Flat}
+use Rattle.rt_tagcmd.specs.TagCommands.{tag_added, tag_removed, tags_deleted, tag_raised, tag_lowered, tag_names, tag_names_at, tag_ranges, tag_nextrange, tag_prevrange}
+use Rattle.rt_edits.specs.Flat.{Flat}
+use Rattle.rt_edits.specs.Insertions.{Piece}
 use Rattle.rt_text.specs.Widgets.{Own}
-use Rattle.rt_text.specs.Commands.{inserted, deleted, got_one, got, got_list, position_of_index, compared, counted}
+use Rattle.rt_text.specs.Commands.{Edited, inserted, deleted, got_one, got, got_list, position_of_index, compared, counted}
 use Rattle.rt_peers.specs.declared.command.Command.{Command}
-use Rattle.rt_peers.specs.declared.command.Command.TheVariants.{Insert, Delete, Get, Index, Compare, Count, Mark}
+use Rattle.rt_peers.specs.declared.command.Command.TheVariants.{Insert, Delete, Get, Index, Compare, Count, Mark, Tag}
 use Rattle.rt_peers.specs.declared.command.MarkCommand.{MarkCommand}
 use Rattle.rt_peers.specs.declared.command.MarkCommand.TheVariants.{Set, Unset, Gravity as GravityOf, Names, Next, Previous}
+use Rattle.rt_peers.specs.declared.command.TagCommand.{TagCommand}
+use Rattle.rt_peers.specs.declared.command.TagCommand.TheVariants.{Add, Remove, Delete as DeleteTags, Raise, Lower, Names as NamesOf, Ranges, NextRange, PreviousRange}
 use Rattle.rt_peers.specs.State.{State, is_widget}
 
 -- the words of a reply and the state after it, or a fault
@@ -32,20 +38,57 @@ as_outcome f (Err fault) = Err fault
 abbrev pub changed_step : Result (Flat × Own) Fault → Outcome
 changed_step = as_outcome (λ changed. ([], record { doc = changed.0; own = changed.1 }))
 
+-- a command that changes the document alone, and has no words in its reply
+abbrev pub document_step : State → Result Flat Fault → Outcome
+document_step state = as_outcome (λ doc. ([], record state { doc = doc }))
+
+-- a command that edits the text, and has no words in its reply
+abbrev pub edited_step : Result Edited Fault → Outcome
+edited_step = as_outcome (λ edited. ([], record { doc = edited.doc; own = edited.own }))
+
 -- a command that changes nothing, and replies with one word
 abbrev pub word_step : State → Result Word Fault → Outcome
 word_step state = as_outcome (λ word. (word ∷ [], state))
 
--- `insert INDEX CHARS`
-abbrev pub insert_step : State → List Word → Outcome
-insert_step state (index ∷ new ∷ []) = changed_step (inserted state.doc state.own index new)
-insert_step state [] = Err BadCommand
-insert_step state (index ∷ []) = Err BadCommand
-insert_step state (index ∷ new ∷ more ∷ words) = Err BadCommand
+-- a command that changes nothing, and replies with some words
+abbrev pub words_step : State → Result (List Word) Fault → Outcome
+words_step state = as_outcome (λ words. (words, state))
+
+-- INSERTION
+
+-- words are texts with their lists of tags, in pairs, and then a text without a list, which is empty where there is no such word
+abbrev pub AreTexts : List Word → List Piece → Word → Type 0
+AreTexts [] pieces rest = (pieces ≡ []) × (rest ≡ [])
+AreTexts (text ∷ []) pieces rest = (pieces ≡ []) × (rest ≡ text)
+AreTexts (text ∷ list ∷ words) [] rest = ⊥
+AreTexts (text ∷ list ∷ words) (piece ∷ pieces) rest = (piece.text ≡ text) × SpellsList list piece.tags × AreTexts words pieces rest
+
+-- one of their lists spells no words
+abbrev pub AreNoTexts : List Word → Type 0
+AreNoTexts words = (pieces : List Piece) (rest : Word) → AreTexts words pieces rest → ⊥
+
+-- `insert` of texts whose lists are read
+abbrev pub texts_step : State → Word → List Piece → Word → Outcome
+texts_step state index pieces rest = edited_step (inserted state.doc state.own [] index pieces rest)
+
+-- `insert` of words that are texts, or else are badly quoted; memory may be wanting before that is known
+abbrev pub TextsGive : Word → List Word → State → Result (List Word) Fault → State → Type 0
+TextsGive index words old result new =
+    ((pieces : List Piece) × (rest : Word) × AreTexts words pieces rest × Answers (texts_step old index pieces rest) old result new)
+    ⊎ (AreNoTexts words × Answers (Err BadQuoting) old result new)
+    ⊎ Answers (Err NoMemory) old result new
+
+-- `insert INDEX CHARS ?TAGLIST CHARS TAGLIST ...?`
+abbrev pub InsertGives : List Word → State → Result (List Word) Fault → State → Type 0
+InsertGives (index ∷ text ∷ words) old result new = TextsGive index (text ∷ words) old result new
+InsertGives [] old result new = Answers (Err BadCommand) old result new
+InsertGives (index ∷ []) old result new = Answers (Err BadCommand) old result new
+
+-- TEXT
 
 -- without the characters in the ranges of some indices
 abbrev pub removal_step : State → List Word → Outcome
-removal_step state indices = changed_step (deleted state.doc state.own indices)
+removal_step state indices = edited_step (deleted state.doc state.own [] indices)
 
 -- `delete INDEX ?INDEX ...?`
 abbrev pub delete_step : State → List Word → Outcome
@@ -54,7 +97,7 @@ delete_step state [] = Err BadCommand
 
 -- `get` of more indices replies with the texts that aren't empty, a word each
 abbrev pub list_step : State → List Word → Outcome
-list_step state indices = as_outcome (λ texts. (texts, state)) (got_list state.doc state.own indices)
+list_step state indices = words_step state (got_list state.doc state.own indices)
 
 -- `get INDEX ?INDEX ...?`: of one index or two the reply is one word, the text
 abbrev pub get_step : State → List Word → Outcome
@@ -126,7 +169,7 @@ mark_set_step state (name ∷ index ∷ more ∷ words) = Err BadCommand
 
 -- without the marks of some names
 abbrev pub unset_step : State → List Word → Outcome
-unset_step state names = as_outcome (λ doc. ([], record state { doc = doc })) (mark_unset state.doc names)
+unset_step state names = document_step state (mark_unset state.doc names)
 
 -- `mark unset NAME ?NAME ...?`
 abbrev pub mark_unset_step : State → List Word → Outcome
@@ -191,6 +234,103 @@ abbrev pub mark_step : State → List Word → Outcome
 mark_step state [] = Err BadCommand
 mark_step state (what ∷ words) = mark_command_step state (mark_command_of what) words
 
+-- TAGS
+
+-- `tag add NAME INDEX ?INDEX ...?`
+abbrev pub tag_add_step : State → List Word → Outcome
+tag_add_step state (name ∷ index ∷ indices) = changed_step (tag_added state.doc state.own name (index ∷ indices))
+tag_add_step state [] = Err BadCommand
+tag_add_step state (name ∷ []) = Err BadCommand
+
+-- `tag remove NAME INDEX ?INDEX ...?`
+abbrev pub tag_remove_step : State → List Word → Outcome
+tag_remove_step state (name ∷ index ∷ indices) = changed_step (tag_removed state.doc state.own name (index ∷ indices))
+tag_remove_step state [] = Err BadCommand
+tag_remove_step state (name ∷ []) = Err BadCommand
+
+-- `tag delete NAME ?NAME ...?`
+abbrev pub tag_delete_step : State → List Word → Outcome
+tag_delete_step state (name ∷ names) = document_step state (tags_deleted state.doc (name ∷ names))
+tag_delete_step state [] = Err BadCommand
+
+-- `tag raise NAME ?ABOVE?`
+abbrev pub tag_raise_step : State → List Word → Outcome
+tag_raise_step state (name ∷ []) = document_step state (tag_raised state.doc name None)
+tag_raise_step state (name ∷ above ∷ []) = document_step state (tag_raised state.doc name (Some above))
+tag_raise_step state [] = Err BadCommand
+tag_raise_step state (name ∷ above ∷ more ∷ words) = Err BadCommand
+
+-- `tag lower NAME ?BELOW?`
+abbrev pub tag_lower_step : State → List Word → Outcome
+tag_lower_step state (name ∷ []) = document_step state (tag_lowered state.doc name None)
+tag_lower_step state (name ∷ below ∷ []) = document_step state (tag_lowered state.doc name (Some below))
+tag_lower_step state [] = Err BadCommand
+tag_lower_step state (name ∷ below ∷ more ∷ words) = Err BadCommand
+
+-- `tag names ?INDEX?`: a word for each tag, lowest priority first
+abbrev pub tag_names_step : State → List Word → Outcome
+tag_names_step state [] = Ok (tag_names state.doc, state)
+tag_names_step state (index ∷ []) = words_step state (tag_names_at state.doc state.own index)
+tag_names_step state (index ∷ more ∷ words) = Err BadCommand
+
+-- a command that changes nothing, and replies with positions, a word LINE.CHARACTER each
+abbrev pub positions_step : State → Result (List Position) Fault → Outcome
+positions_step state = as_outcome (λ positions. (map text_of_position positions, state))
+
+-- `tag ranges NAME`
+abbrev pub tag_ranges_step : State → List Word → Outcome
+tag_ranges_step state (name ∷ []) = positions_step state (tag_ranges state.doc state.own name)
+tag_ranges_step state [] = Err BadCommand
+tag_ranges_step state (name ∷ more ∷ words) = Err BadCommand
+
+-- `tag nextrange NAME INDEX ?INDEX?`
+abbrev pub tag_nextrange_step : State → List Word → Outcome
+tag_nextrange_step state (name ∷ from ∷ []) = positions_step state (tag_nextrange state.doc state.own name from None)
+tag_nextrange_step state (name ∷ from ∷ to ∷ []) = positions_step state (tag_nextrange state.doc state.own name from (Some to))
+tag_nextrange_step state [] = Err BadCommand
+tag_nextrange_step state (name ∷ []) = Err BadCommand
+tag_nextrange_step state (name ∷ from ∷ to ∷ more ∷ words) = Err BadCommand
+
+-- `tag prevrange NAME INDEX ?INDEX?`
+abbrev pub tag_prevrange_step : State → List Word → Outcome
+tag_prevrange_step state (name ∷ to ∷ []) = positions_step state (tag_prevrange state.doc state.own name to None)
+tag_prevrange_step state (name ∷ to ∷ from ∷ []) = positions_step state (tag_prevrange state.doc state.own name to (Some from))
+tag_prevrange_step state [] = Err BadCommand
+tag_prevrange_step state (name ∷ []) = Err BadCommand
+tag_prevrange_step state (name ∷ to ∷ from ∷ more ∷ words) = Err BadCommand
+
+-- what a word asks to do with tags
+abbrev pub tag_command_of : Word → Option TagCommand
+tag_command_of word =
+    if bytes_eq word (codes "add") then Some Add
+    else if bytes_eq word (codes "remove") then Some Remove
+    else if bytes_eq word (codes "delete") then Some DeleteTags
+    else if bytes_eq word (codes "raise") then Some Raise
+    else if bytes_eq word (codes "lower") then Some Lower
+    else if bytes_eq word (codes "names") then Some NamesOf
+    else if bytes_eq word (codes "ranges") then Some Ranges
+    else if bytes_eq word (codes "nextrange") then Some NextRange
+    else if bytes_eq word (codes "prevrange") then Some PreviousRange
+    else None
+
+-- each of these has its step
+abbrev pub tag_command_step : State → Option TagCommand → List Word → Outcome
+tag_command_step state None words = Err BadCommand
+tag_command_step state (Some Add) words = tag_add_step state words
+tag_command_step state (Some Remove) words = tag_remove_step state words
+tag_command_step state (Some DeleteTags) words = tag_delete_step state words
+tag_command_step state (Some Raise) words = tag_raise_step state words
+tag_command_step state (Some Lower) words = tag_lower_step state words
+tag_command_step state (Some NamesOf) words = tag_names_step state words
+tag_command_step state (Some Ranges) words = tag_ranges_step state words
+tag_command_step state (Some NextRange) words = tag_nextrange_step state words
+tag_command_step state (Some PreviousRange) words = tag_prevrange_step state words
+
+-- `tag WHAT ?WORD ...?`
+abbrev pub tag_step : State → List Word → Outcome
+tag_step state [] = Err BadCommand
+tag_step state (what ∷ words) = tag_command_step state (tag_command_of what) words
+
 -- COMMANDS
 
 -- the command that a word names
@@ -203,24 +343,28 @@ command_of word =
     else if bytes_eq word (codes "compare") then Some Compare
     else if bytes_eq word (codes "count") then Some Count
     else if bytes_eq word (codes "mark") then Some Mark
+    else if bytes_eq word (codes "tag") then Some Tag
     else None
 
--- each command has its step
-abbrev pub command_step : State → Option Command → List Word → Outcome
-command_step state None words = Err BadCommand
-command_step state (Some Insert) words = insert_step state words
-command_step state (Some Delete) words = delete_step state words
-command_step state (Some Get) words = get_step state words
-command_step state (Some Index) words = index_step state words
-command_step state (Some Compare) words = compare_step state words
-command_step state (Some Count) words = count_step state words
-command_step state (Some Mark) words = mark_step state words
+-- each command answers by its step, and `insert` once its lists are read
+abbrev pub CommandGives : Option Command → List Word → State → Result (List Word) Fault → State → Type 0
+CommandGives None words old result new = Answers (Err BadCommand) old result new
+CommandGives (Some Insert) words old result new = InsertGives words old result new
+CommandGives (Some Delete) words old result new = Answers (delete_step old words) old result new
+CommandGives (Some Get) words old result new = Answers (get_step old words) old result new
+CommandGives (Some Index) words old result new = Answers (index_step old words) old result new
+CommandGives (Some Compare) words old result new = Answers (compare_step old words) old result new
+CommandGives (Some Count) words old result new = Answers (count_step old words) old result new
+CommandGives (Some Mark) words old result new = Answers (mark_step old words) old result new
+CommandGives (Some Tag) words old result new = Answers (tag_step old words) old result new
 
 -- a widget's command is its first word; there is none without a word
-abbrev pub widget_step : State → List Word → Outcome
-widget_step state [] = Err BadCommand
-widget_step state (name ∷ words) = command_step state (command_of name) words
+abbrev pub WidgetGives : List Word → State → Result (List Word) Fault → State → Type 0
+WidgetGives [] old result new = Answers (Err BadCommand) old result new
+WidgetGives (name ∷ words) old result new = CommandGives (command_of name) words old result new
 
--- PATH COMMAND WORDS
-abbrev pub step : State → Word → List Word → Outcome
-step state path words = if is_widget path then widget_step state words else Err NoWidget
+-- What PATH COMMAND WORDS gives in a state: a reply or a fault, and the state after it.
+abbrev pub Gives : Word → List Word → State → Result (List Word) Fault → State → Type 0
+Gives path words old result new =
+    (is_widget path ≡ true → WidgetGives words old result new)
+    × (is_widget path ≡ false → Answers (Err NoWidget) old result new)

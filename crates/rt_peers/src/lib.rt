@@ -2,9 +2,11 @@
 #![tactic(auto)]
 
 pub mod command;
+pub mod laws;
 pub mod reply;
 pub mod site;
+mod texts;
 
-pub use command::{Command, MarkCommand};
+pub use command::{Command, MarkCommand, TagCommand};
 pub use reply::Reply;
 pub use site::SiteState;

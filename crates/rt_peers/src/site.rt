@@ -4,20 +4,27 @@ ghost use Rattle.std.specs.Fmt.{signed_decimal};
 ghost use Rattle.std.specs.List.{prefix_len};
 ghost use Rattle.rt_stamps.specs.declared.limits.TheConstants.{MOST_CELLS};
 ghost use Rattle.rt_stamps.specs.Outcomes.{Answers};
-ghost use Rattle.rt_text.specs.Commands.{inserted, got_one, got};
+ghost use Rattle.rt_stamps.specs.Places.{text_of_position};
+ghost use Rattle.rt_text.specs.Commands.{got_one, got};
 ghost use Rattle.rt_tagcmd.specs.MarkCommands.{mark_set, mark_gravity_set, mark_names, mark_next, mark_previous};
+ghost use Rattle.rt_tagcmd.specs.TagCommands.{tag_added, tag_removed, tags_deleted, tag_raised, tag_lowered, tag_names, tag_names_at, tag_ranges, tag_nextrange, tag_prevrange};
 ghost use Rattle.rt_peers.specs.State.{new_state, is_widget};
-ghost use Rattle.rt_peers.specs.Step.{changed_step, word_step, insert_step, removal_step, delete_step, get_step, list_step, index_step, comparison_step, compare_step, distances_step, counted_step, count_step, text_of_bool, is_switch, text_of_gravity, words_of, mark_set_step, unset_step, mark_unset_step, gravity_step, mark_gravity_step, mark_names_step, found_step, mark_next_step, mark_previous_step, mark_command_step, mark_step, command_step, step};
+ghost use Rattle.rt_peers.specs.Step.{changed_step, document_step, word_step, words_step, texts_step, TextsGive, InsertGives, removal_step, delete_step, get_step, list_step, index_step, comparison_step, compare_step, distances_step, counted_step, count_step, text_of_bool, is_switch, text_of_gravity, words_of, mark_set_step, unset_step, mark_unset_step, gravity_step, mark_gravity_step, mark_names_step, found_step, mark_next_step, mark_previous_step, mark_command_step, mark_step, positions_step, tag_add_step, tag_remove_step, tag_delete_step, tag_raise_step, tag_lower_step, tag_names_step, tag_ranges_step, tag_nextrange_step, tag_prevrange_step, tag_command_step, tag_step, CommandGives, Gives};
 
-use crate::command::{Command, MarkCommand, command_of, mark_command_of};
+use crate::command::{
+    Command, MarkCommand, TagCommand, command_of, mark_command_of, tag_command_of,
+};
 use crate::reply::Reply;
+use crate::texts::read_texts;
 use rt_marks::Gravity;
-use rt_stamps::{Fault, Site};
+use rt_stamps::{Fault, Position, Site};
 use rt_store::ListStore;
 use rt_tagcmd::{
     mark_gravity, mark_names, mark_next, mark_previous, mark_set, mark_unset, set_mark_gravity,
+    tag_add, tag_delete, tag_lower, tag_names, tag_names_at, tag_nextrange, tag_prevrange,
+    tag_raise, tag_ranges, tag_remove,
 };
-use rt_text::{Doc, Widget};
+use rt_text::{Doc, Piece, Widget};
 use std::alloc::Global;
 use std::marker::Model;
 
@@ -69,6 +76,18 @@ fn numbers(alloc: Global, values: &[i64]) -> Result<Reply, Fault>
     let mut words = Vec::with_capacity(alloc, values.len())?;
     for value in values {
         words.push(value.to_string(alloc)?)?;
+    }
+    Ok(Reply { words })
+}
+
+// A reply of positions.
+fn positions_reply(alloc: Global, positions: &[Position]) -> Result<Reply, Fault>
+    ensures ok { IfOk result (λ reply. reply ≡ map text_of_position positions.now) }
+    ensures err { IfErr result (λ fault. fault ≡ Fault.NoMemory) }
+{
+    let mut words = Vec::with_capacity(alloc, positions.len())?;
+    for position in positions {
+        words.push(position.to_string(alloc)?)?;
     }
     Ok(Reply { words })
 }
@@ -136,25 +155,34 @@ impl SiteState {
     {
         let store = ListStore::new(alloc)?;
         let doc = Doc::new(alloc, store, site, limit)?;
-        let widget = Widget::new();
+        let widget = Widget::new(alloc);
         Ok(SiteState { alloc, doc, widget })
     }
 
-    // `insert INDEX CHARS`.
+    // `insert INDEX CHARS ?TAGLIST CHARS TAGLIST ...?`.
     fn insert(&mut self, words: &[String]) -> Result<Reply, Fault>
-        ensures { Answers (insert_step self.old (map (λ w. string_bytes w) words.now)) self.old result self.new }
+        ensures { InsertGives (map (λ w. string_bytes w) words.now) self.old result self.new }
     {
-        let [index, new] = words else {
+        let [index, _, ..] = words else {
             return Err(Fault::BadCommand);
         };
-        self.insert_at(index, new)
+        self.insert_words(index, &words[1..])
     }
 
-    // `insert` of characters at an index.
-    fn insert_at(&mut self, index: &str, new: &str) -> Result<Reply, Fault>
-        ensures { Answers (changed_step (inserted self.old.doc self.old.own index.now new.now)) self.old result self.new }
+    // `insert` of texts with their lists, as words.
+    fn insert_words(&mut self, index: &str, words: &[String]) -> Result<Reply, Fault>
+        ensures { TextsGive index.now (map (λ w. string_bytes w) words.now) self.old result self.new }
     {
-        self.doc.insert(&mut self.widget, index, new)?;
+        let texts = read_texts(self.alloc, words)?;
+        self.insert_texts(index, &texts.pieces, texts.rest)
+    }
+
+    // `insert` of texts with the words of their lists, and a text without a list.
+    fn insert_texts(&mut self, index: &str, pieces: &[Piece], rest: &str) -> Result<Reply, Fault>
+        ensures { Answers (texts_step self.old index.now pieces.now rest.now) self.old result self.new }
+    {
+        self.doc
+            .insert(&mut self.widget, &mut [], index, pieces, rest)?;
         Ok(no_words(self.alloc))
     }
 
@@ -172,7 +200,7 @@ impl SiteState {
     fn remove(&mut self, indices: &[String]) -> Result<Reply, Fault>
         ensures { Answers (removal_step self.old (map (λ w. string_bytes w) indices.now)) self.old result self.new }
     {
-        self.doc.delete(&mut self.widget, indices)?;
+        self.doc.delete(&mut self.widget, &mut [], indices)?;
         Ok(no_words(self.alloc))
     }
 
@@ -407,9 +435,218 @@ impl SiteState {
         self.run_mark_command(mark_command_of(what), words)
     }
 
+    // `tag add NAME INDEX ?INDEX ...?`.
+    fn tag_add(&mut self, words: &[String]) -> Result<Reply, Fault>
+        ensures { Answers (tag_add_step self.old (map (λ w. string_bytes w) words.now)) self.old result self.new }
+    {
+        let [name, _, ..] = words else {
+            return Err(Fault::BadCommand);
+        };
+        self.add_tag(name, &words[1..])
+    }
+
+    // `tag add` of a name and one index or more.
+    fn add_tag(&mut self, name: &str, indices: &[String]) -> Result<Reply, Fault>
+        ensures { Answers (changed_step (tag_added self.old.doc self.old.own name.now (map (λ w. string_bytes w) indices.now))) self.old result self.new }
+    {
+        tag_add(&mut self.doc, &mut self.widget, name, indices)?;
+        Ok(no_words(self.alloc))
+    }
+
+    // `tag remove NAME INDEX ?INDEX ...?`.
+    fn tag_remove(&mut self, words: &[String]) -> Result<Reply, Fault>
+        ensures { Answers (tag_remove_step self.old (map (λ w. string_bytes w) words.now)) self.old result self.new }
+    {
+        let [name, _, ..] = words else {
+            return Err(Fault::BadCommand);
+        };
+        self.remove_tag(name, &words[1..])
+    }
+
+    // `tag remove` of a name and one index or more.
+    fn remove_tag(&mut self, name: &str, indices: &[String]) -> Result<Reply, Fault>
+        ensures { Answers (changed_step (tag_removed self.old.doc self.old.own name.now (map (λ w. string_bytes w) indices.now))) self.old result self.new }
+    {
+        tag_remove(&mut self.doc, &mut self.widget, name, indices)?;
+        Ok(no_words(self.alloc))
+    }
+
+    // `tag delete NAME ?NAME ...?`.
+    fn tag_delete(&mut self, words: &[String]) -> Result<Reply, Fault>
+        ensures { Answers (tag_delete_step self.old (map (λ w. string_bytes w) words.now)) self.old result self.new }
+    {
+        if words.is_empty() {
+            return Err(Fault::BadCommand);
+        }
+        self.delete_tags(words)
+    }
+
+    // `tag delete` of one name or more.
+    fn delete_tags(&mut self, names: &[String]) -> Result<Reply, Fault>
+        ensures { Answers (document_step self.old (tags_deleted self.old.doc (map (λ w. string_bytes w) names.now))) self.old result self.new }
+    {
+        tag_delete(&mut self.doc, names)?;
+        Ok(no_words(self.alloc))
+    }
+
+    // `tag raise NAME ?ABOVE?`.
+    fn tag_raise(&mut self, words: &[String]) -> Result<Reply, Fault>
+        ensures { Answers (tag_raise_step self.old (map (λ w. string_bytes w) words.now)) self.old result self.new }
+    {
+        match words {
+            [name] => self.raise(name, None),
+            [name, above] => self.raise(name, Some(above)),
+            [] => Err(Fault::BadCommand),
+            _ => Err(Fault::BadCommand),
+        }
+    }
+
+    // `tag raise` of a name.
+    fn raise(&mut self, name: &str, above: Option<&str>) -> Result<Reply, Fault>
+        ensures { Answers (document_step self.old (tag_raised self.old.doc name.now (option_copied above.entry))) self.old result self.new }
+    {
+        tag_raise(&mut self.doc, name, above)?;
+        Ok(no_words(self.alloc))
+    }
+
+    // `tag lower NAME ?BELOW?`.
+    fn tag_lower(&mut self, words: &[String]) -> Result<Reply, Fault>
+        ensures { Answers (tag_lower_step self.old (map (λ w. string_bytes w) words.now)) self.old result self.new }
+    {
+        match words {
+            [name] => self.lower(name, None),
+            [name, below] => self.lower(name, Some(below)),
+            [] => Err(Fault::BadCommand),
+            _ => Err(Fault::BadCommand),
+        }
+    }
+
+    // `tag lower` of a name.
+    fn lower(&mut self, name: &str, below: Option<&str>) -> Result<Reply, Fault>
+        ensures { Answers (document_step self.old (tag_lowered self.old.doc name.now (option_copied below.entry))) self.old result self.new }
+    {
+        tag_lower(&mut self.doc, name, below)?;
+        Ok(no_words(self.alloc))
+    }
+
+    // `tag names ?INDEX?`.
+    fn tag_names(&mut self, words: &[String]) -> Result<Reply, Fault>
+        ensures { Answers (tag_names_step self.old (map (λ w. string_bytes w) words.now)) self.old result self.new }
+    {
+        match words {
+            [] => self.all_tags(),
+            [index] => self.tags_at(index),
+            _ => Err(Fault::BadCommand),
+        }
+    }
+
+    // `tag names` of all tags.
+    fn all_tags(&mut self) -> Result<Reply, Fault>
+        ensures { Answers (Ok (tag_names self.old.doc, self.old)) self.old result self.new }
+    {
+        let words = tag_names(&self.doc)?;
+        Ok(Reply { words })
+    }
+
+    // `tag names` of an index.
+    fn tags_at(&mut self, index: &str) -> Result<Reply, Fault>
+        ensures { Answers (words_step self.old (tag_names_at self.old.doc self.old.own index.now)) self.old result self.new }
+    {
+        let words = tag_names_at(self.alloc, &self.doc, &self.widget, index)?;
+        Ok(Reply { words })
+    }
+
+    // `tag ranges NAME`.
+    fn tag_ranges(&mut self, words: &[String]) -> Result<Reply, Fault>
+        ensures { Answers (tag_ranges_step self.old (map (λ w. string_bytes w) words.now)) self.old result self.new }
+    {
+        let [name] = words else {
+            return Err(Fault::BadCommand);
+        };
+        self.ranges(name)
+    }
+
+    // `tag ranges` of a name.
+    fn ranges(&mut self, name: &str) -> Result<Reply, Fault>
+        ensures { Answers (positions_step self.old (tag_ranges self.old.doc self.old.own name.now)) self.old result self.new }
+    {
+        let positions = tag_ranges(self.alloc, &self.doc, &self.widget, name)?;
+        positions_reply(self.alloc, &positions)
+    }
+
+    // `tag nextrange NAME INDEX ?INDEX?`.
+    fn tag_nextrange(&mut self, words: &[String]) -> Result<Reply, Fault>
+        ensures { Answers (tag_nextrange_step self.old (map (λ w. string_bytes w) words.now)) self.old result self.new }
+    {
+        match words {
+            [name, from] => self.next_range(name, from, None),
+            [name, from, to] => self.next_range(name, from, Some(to)),
+            _ => Err(Fault::BadCommand),
+        }
+    }
+
+    // `tag nextrange` of a name, an index and perhaps another.
+    fn next_range(&mut self, name: &str, from: &str, to: Option<&str>) -> Result<Reply, Fault>
+        ensures { Answers (positions_step self.old (tag_nextrange self.old.doc self.old.own name.now from.now (option_copied to.entry))) self.old result self.new }
+    {
+        let positions = tag_nextrange(self.alloc, &self.doc, &self.widget, name, from, to)?;
+        positions_reply(self.alloc, &positions)
+    }
+
+    // `tag prevrange NAME INDEX ?INDEX?`.
+    fn tag_prevrange(&mut self, words: &[String]) -> Result<Reply, Fault>
+        ensures { Answers (tag_prevrange_step self.old (map (λ w. string_bytes w) words.now)) self.old result self.new }
+    {
+        match words {
+            [name, to] => self.previous_range(name, to, None),
+            [name, to, from] => self.previous_range(name, to, Some(from)),
+            _ => Err(Fault::BadCommand),
+        }
+    }
+
+    // `tag prevrange` of a name, an index and perhaps another.
+    fn previous_range(&mut self, name: &str, to: &str, from: Option<&str>) -> Result<Reply, Fault>
+        ensures { Answers (positions_step self.old (tag_prevrange self.old.doc self.old.own name.now to.now (option_copied from.entry))) self.old result self.new }
+    {
+        let positions = tag_prevrange(self.alloc, &self.doc, &self.widget, name, to, from)?;
+        positions_reply(self.alloc, &positions)
+    }
+
+    // What is done with tags, and its words.
+    fn run_tag_command(
+        &mut self,
+        command: Option<TagCommand>,
+        words: &[String],
+    ) -> Result<Reply, Fault>
+        ensures { Answers (tag_command_step self.old command (map (λ w. string_bytes w) words.now)) self.old result self.new }
+    {
+        match command {
+            Some(TagCommand::Add) => self.tag_add(words),
+            Some(TagCommand::Remove) => self.tag_remove(words),
+            Some(TagCommand::Delete) => self.tag_delete(words),
+            Some(TagCommand::Raise) => self.tag_raise(words),
+            Some(TagCommand::Lower) => self.tag_lower(words),
+            Some(TagCommand::Names) => self.tag_names(words),
+            Some(TagCommand::Ranges) => self.tag_ranges(words),
+            Some(TagCommand::NextRange) => self.tag_nextrange(words),
+            Some(TagCommand::PreviousRange) => self.tag_prevrange(words),
+            None => Err(Fault::BadCommand),
+        }
+    }
+
+    // `tag WHAT ?WORD ...?`.
+    fn tag(&mut self, words: &[String]) -> Result<Reply, Fault>
+        ensures { Answers (tag_step self.old (map (λ w. string_bytes w) words.now)) self.old result self.new }
+    {
+        let Some((what, words)) = words.split_first() else {
+            return Err(Fault::BadCommand);
+        };
+        self.run_tag_command(tag_command_of(what), words)
+    }
+
     // A command and its words.
     fn run_command(&mut self, command: Option<Command>, words: &[String]) -> Result<Reply, Fault>
-        ensures { Answers (command_step self.old command (map (λ w. string_bytes w) words.now)) self.old result self.new }
+        ensures { CommandGives command (map (λ w. string_bytes w) words.now) self.old result self.new }
     {
         match command {
             Some(Command::Insert) => self.insert(words),
@@ -419,6 +656,7 @@ impl SiteState {
             Some(Command::Compare) => self.compare(words),
             Some(Command::Count) => self.count(words),
             Some(Command::Mark) => self.mark(words),
+            Some(Command::Tag) => self.tag(words),
             None => Err(Fault::BadCommand),
         }
     }
@@ -427,7 +665,7 @@ impl SiteState {
     /// first of `NoWidget`, `BadCommand`, the command's own faults, and want of memory in place of
     /// any; then the site is as it was.
     pub fn command(&mut self, path: &str, words: &[String]) -> Result<Reply, Fault>
-        ensures { Answers (step self.old path.now (map (λ w. string_bytes w) words.now)) self.old result self.new }
+        ensures { Gives path.now (map (λ w. string_bytes w) words.now) self.old result self.new }
     {
         if !is_widget(path) {
             return Err(Fault::NoWidget);

@@ -1,12 +1,11 @@
 -- The subcommand that was named, and what it was given.
-use Rattle.std.proofs.Common.{◌≡◌, ◌∙◌, ◌⊎◌, ◌<◌, inl, inr, ℕ, true, refl, sym, ap, subst, List, [], Option, Some, None, is_some, Result, Ok, Err, false, true≢false, codes}
+use Rattle.std.proofs.Common.{◌≡◌, ◌∙◌, ◌<◌, inl, inr, ℕ, true, refl, sym, ap, subst, List, Option, Some, None, is_some, Result, Ok, Err, false, true≢false, codes}
 use Rattle.std.specs.Option.{IsSome, option_map, unwrap_or}
 use Rattle.std.specs.Prelude.{IfOk}
 use Rattle.std.specs.Str.{bytes_eq}
 use Rattle.std.specs.Str.Parse.{ParsesUnsigned, digits_value, without_leading_plus}
-use Rattle.clap.specs.Matches.{subcommand_name_of}
 use Rattle.clap.specs.Walk.{Row, Text}
-use Rattle.clap.specs.Words.{ReadsOne, found_of, one_text, rows_of, subcommand_rows_of}
+use Rattle.clap.specs.Words.{ReadsOne, found_of, one_text, rows_of}
 use Rattle.clap.specs.declared.parser.ArgMatches.{ArgMatches}
 use Rattle.clap.proofs.WalkLemmas.{one_text-rows}
 use Rattle.rt_script.specs.CommandLine.{HasFile, HasSite, IsWhole, site_given}

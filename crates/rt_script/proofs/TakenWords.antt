@@ -1,7 +1,7 @@
 -- Words that clap takes name a subcommand, and give it all that it wants.
-use Rattle.std.proofs.Common.{◌≡◌, ◌∙◌, ◌⊎◌, ◌<◌, ◌≤◌, ◌^◌, ◌==◌, ◌||◌, ◌&&◌, ◌++◌, inl, inr, ℕ, Bool, cond, true, false, not, refl, sym, ap, subst, arith, List, [], ◌∷◌, length, length-append, drop, map, Option, Some, None, is_some, Result, Ok, Err, true≢false, codes}
+use Rattle.std.proofs.Common.{◌≡◌, ◌∙◌, ◌⊎◌, ◌<◌, ◌≤◌, ◌^◌, ◌==◌, ◌||◌, ◌++◌, inl, inr, ℕ, Bool, cond, true, false, not, refl, sym, ap, subst, arith, List, [], ◌∷◌, length, length-append, drop, Option, Some, None, is_some, Result, Ok, Err, true≢false, codes}
 use Rattle.std.specs.List.{fold, AllByRecursion}
-use Rattle.std.specs.Option.{IsSome, option_and_then, option_map, option_map_or, unwrap_or}
+use Rattle.std.specs.Option.{option_and_then, option_map, option_map_or}
 use Rattle.std.specs.Prelude.{IfErr, IsErrAnd, find, slice_get}
 use Rattle.std.specs.Str.{bytes_eq}
 use Rattle.std.specs.Str.Parse.{ParsesUnsigned, digits_value, without_leading_plus}
@@ -12,9 +12,8 @@ use Rattle.clap.specs.Kinds.{HasKind, or_else, range_kinds}
 use Rattle.clap.specs.Simple.{Shape, built, entered, filled, help_rule, names_of, rows_at, subcommand_of, with_index}
 use Rattle.clap.specs.Takes.{is_given}
 use Rattle.clap.specs.ValueTests.{is_unsigned_in}
-use Rattle.clap.specs.Walk.{Row, Rule, Text, at_row, default_rows, finished, first_of, has_row, more_values, nothing_held, reading_by, rows_after, settled, used, walk, walk_from, with_default, with_values, without}
+use Rattle.clap.specs.Walk.{Row, Rule, Text, default_rows, finished, has_row, more_values, nothing_held, reading_by, rows_after, settled, used, walk, walk_from, with_default, with_values, without}
 use Rattle.clap.specs.declared.builder.value_parser.Reading.{Reading}
-use Rattle.clap.specs.declared.error.ErrorKind.{ErrorKind}
 use Rattle.clap.specs.declared.error.ErrorKind.TheVariants.{DisplayHelp, InvalidValue, MissingRequiredArgument, ValueValidation, WrongNumberOfValues}
 use Rattle.clap.specs.declared.parser.ValueSource.{ValueSource}
 use Rattle.clap.specs.declared.parser.ValueSource.TheVariants.{CommandLine}
@@ -25,7 +24,7 @@ use Rattle.clap.specs.declared.builder.ValueParser.TheVariants.{Unsigned}
 use Rattle.clap.proofs.ValueTestLemmas.{accepts-Accepts}
 use Rattle.rt_script.specs.declared.command_line.LineFault.{LineFault}
 use Rattle.rt_script.specs.declared.command_line.LineFault.TheVariants.{NoMemory, Usage}
-use Rattle.rt_script.specs.CommandLine.{HasFile, HasSite, IsWhole, Refuses, fault_from, file_given, file_word, is_out_of_memory, peertext, run_command, site_given, site_option}
+use Rattle.rt_script.specs.CommandLine.{HasFile, HasSite, IsWhole, Refuses, fault_from, file_word, is_out_of_memory, peertext, run_command, site_option}
 use Rattle.rt_script.proofs.Walks.{Keeps, found_all, is_full, level_sound, no_kinds, some_kind}
 
 -- ---- the subcommands, as clap builds them

@@ -1,10 +1,9 @@
-ghost use Rattle.std.specs.Prelude.{◌≡◌, ◌<◌, ◌≤◌, false};
+ghost use Rattle.std.specs.Prelude.{◌≡◌, ◌<◌, ◌≤◌};
 
 use crate::{SiteState, run};
 use rt_stamps::limits::{GREATEST_COUNT, MOST_CELLS};
 use rt_stamps::std_ends::{Count, Reader, Writer};
-use rt_stamps::{Clock, Fault, Site, Stamp};
-use rt_store::{Cell, ListStore, TextStore};
+use rt_stamps::{Clock, Fault, Site};
 use std::alloc::Global;
 use std::io::{self, Read, Write};
 use std::marker::Brand;
@@ -144,8 +143,8 @@ const TABLE: [(&str, &str); 14] = [
         "! 4 BadCommand\n! 4 BadCommand\n! 4 BadCommand\n! 4 BadCommand\n",
     ),
     (
-        ".t insert\n.t insert 1.0\n.t insert 1.0 a b\n.t get\n.t index\n.t index 1.0 1.0\n",
-        "! 4 BadCommand\n! 4 BadCommand\n! 4 BadCommand\n! 4 BadCommand\n! 4 BadCommand\n! 4 BadCommand\n",
+        ".t insert\n.t insert 1.0\n.t insert 1.0 a \"{b\"\n.t get\n.t index\n.t index 1.0 1.0\n",
+        "! 4 BadCommand\n! 4 BadCommand\n! 19 BadQuoting\n! 4 BadCommand\n! 4 BadCommand\n! 4 BadCommand\n",
     ),
     (
         ".t insert x a\n.t get 1.0 x\n.t get x\n.t index 1\n.t index 1.\n.t index .1\n.t index 1.0.0\n.t index +1.0\n.t index en\n",
@@ -306,6 +305,54 @@ const MARKS: [(&str, &str); 7] = [
     ),
 ];
 
+// Tags: each command, each refusal in its order, and the text that gets tags.
+const TAGS: [(&str, &str); 11] = [
+    (
+        ".t insert 1.0 ab t\n.t insert 1.1 X\n.t insert 1.0 Y\n.t tag ranges t\n.t tag names\n.t tag nextrange t 1.2\n.t tag prevrange t 1.2\n.t tag lower t\n.t tag names\n",
+        "=\n=\n=\n= 1.1 1.4\n= sel t\n=\n= 1.1 1.4\n=\n= t sel\n",
+    ),
+    (
+        ".t insert 1.0 abc\n.t tag add sel 1.1 1.2\n.t tag add t 1.0 end\n.t tag names 1.1\n.t index sel.last\n.t tag delete sel\n.t tag ranges sel\n.t delete 1.0 end\n.t tag ranges t\n.t tag names\n.t insert 1.0 a t b u c\n.t tag ranges t\n.t tag ranges u\n",
+        "=\n=\n=\n= sel t\n= 1.2\n=\n= 1.1 1.2\n=\n=\n= sel t\n=\n= 1.0 1.1\n= 1.1 1.2\n",
+    ),
+    (
+        ".t tag\n.t tag frob\n.t tag add t\n.t tag remove t\n.t tag delete\n.t tag raise\n.t tag raise a b c\n.t tag lower\n.t tag lower a b c\n.t tag names 1.0 1.0\n.t tag ranges\n.t tag ranges a b\n.t tag nextrange t\n.t tag nextrange t 1.0 1.0 1.0\n.t tag prevrange t\n.t tag prevrange t 1.0 1.0 1.0\n",
+        "! 4 BadCommand\n! 4 BadCommand\n! 4 BadCommand\n! 4 BadCommand\n! 4 BadCommand\n! 4 BadCommand\n! 4 BadCommand\n! 4 BadCommand\n! 4 BadCommand\n! 4 BadCommand\n! 4 BadCommand\n! 4 BadCommand\n! 4 BadCommand\n! 4 BadCommand\n! 4 BadCommand\n! 4 BadCommand\n",
+    ),
+    (
+        ".t tag add \"\" x\n.t tag add t x\n.t tag add t sel.first x\n.t tag remove \"\" x\n.t tag remove t 1.0 x\n.t tag remove t sel.last\n.t tag delete t \"\"\n.t tag raise q\n.t tag raise q \"\"\n.t tag raise sel q\n.t tag lower q\n.t tag lower \"\" q\n.t tag lower sel q\n.t tag names x\n.t tag names sel.first\n.t tag ranges \"\"\n.t tag nextrange \"\" x\n.t tag nextrange q x\n.t tag nextrange q 1.0 x\n.t tag nextrange q 1.0 sel.last\n.t tag nextrange q 1.0\n.t tag prevrange \"\" x\n.t tag prevrange q x\n.t tag prevrange q sel.first x\n.t tag prevrange q end\n.t tag names\n",
+        "! 14 BadName\n! 2 BadIndex\n! 3 NoneTagged\n! 14 BadName\n! 2 BadIndex\n! 3 NoneTagged\n! 14 BadName\n! 7 NoTag\n! 14 BadName\n! 7 NoTag\n! 7 NoTag\n! 14 BadName\n! 7 NoTag\n! 2 BadIndex\n! 3 NoneTagged\n! 14 BadName\n! 14 BadName\n! 2 BadIndex\n! 2 BadIndex\n! 3 NoneTagged\n=\n! 14 BadName\n! 2 BadIndex\n! 3 NoneTagged\n=\n= sel\n",
+    ),
+    (
+        ".t insert 1.0 abcdef\n.t tag add t 1.1 1.1 1.2 1.4\n.t tag ranges t\n.t tag add u 1.0 1.1 1.3 1.2 1.4 1.5\n.t tag ranges u\n.t tag add u 1.1 1.0 x\n.t tag remove u 1.1 1.0 1.0 1.1\n.t tag ranges u\n.t tag remove v 1.0\n.t tag add w 1.3 1.3\n.t tag names\n.t tag raise t t\n.t tag lower t t\n.t tag names\n.t tag raise sel t\n.t tag names\n.t tag raise t w\n.t tag names\n.t tag lower t u\n.t tag names\n.t tag lower w\n.t tag names\n.t tag raise w\n.t tag names\n.t tag add t 1.3 1.5\n.t tag ranges t\n.t index t.first\n.t index \"t.last + 1 c\"\n.t index v.first\n.t index w.last\n.t tag names 1.4\n.t tag names end\n.t tag delete t nosuch t u\n.t tag names\n.t tag names 1.4\n.t tag ranges t\n",
+        "=\n=\n= 1.2 1.4\n=\n= 1.0 1.1 1.4 1.5\n! 2 BadIndex\n=\n= 1.4 1.5\n=\n=\n= sel t u w\n=\n=\n= sel t u w\n=\n= t sel u w\n=\n= sel u w t\n=\n= sel t u w\n=\n= w sel t u\n=\n= sel t u w\n=\n= 1.2 1.5\n= 1.2\n= 1.6\n! 2 BadIndex\n! 3 NoneTagged\n= t u\n=\n=\n= sel w\n=\n=\n",
+    ),
+    (
+        ".t insert 1.0 \"abcdef\\nghij\"\n.t tag add t 1.2 2.2\n.t tag prevrange t end 1.4\n.t tag prevrange t end 2.2\n.t tag prevrange t end 1.1\n.t tag prevrange t 1.2\n.t tag prevrange t 1.3\n.t tag nextrange t 1.2\n.t tag nextrange t 1.3\n.t tag nextrange t 1.0 1.2\n.t tag nextrange t 1.0 1.3\n.t tag add t 2.3\n.t tag nextrange t 1.3\n.t tag prevrange t end\n.t tag prevrange t 2.3\n.t tag ranges t\n",
+        "=\n=\n=\n=\n= 1.2 2.2\n=\n= 1.2 2.2\n= 1.2 2.2\n=\n=\n= 1.2 2.2\n=\n= 2.3 2.4\n= 2.3 2.4\n= 1.2 2.2\n= 1.2 2.2 2.3 2.4\n",
+    ),
+    (
+        ".t insert 1.0 abc \"z a m\"\n.t tag names\n.t insert 1.0 \"\" q\n.t insert 1.0 x {}\n.t tag names 1.0\n.t insert 1.3 y \"b\\n a\\nb {c d}\"\n.t tag names 1.3\n.t insert 1.4 Z\n.t tag names 1.4\n.t insert 1.0 x \"\\\"a\"\n.t insert x x \"{a\"\n.t insert x x \"a {}\" y\n.t insert x x a y\n.t insert nosuch.first \"\" a\n.t insert sel.first \"\" a\n.t get 1.0 end\n",
+        "=\n= sel a m z\n=\n=\n=\n=\n= a b \"c d\"\n=\n= a\n! 19 BadQuoting\n! 19 BadQuoting\n! 14 BadName\n! 2 BadIndex\n! 2 BadIndex\n! 3 NoneTagged\n= \"xabyZc\\n\"\n",
+    ),
+    (
+        ".t insert 1.0 abcd\n.t tag add sel 1.1 1.3\n.t insert 1.2 X\n.t tag ranges sel\n.t insert 1.1 Y\n.t tag ranges sel\n.t insert 1.0 p sel q t r \"t sel\" s\n.t tag ranges sel\n.t tag ranges t\n.t tag remove sel 1.0 end\n.t tag ranges sel\n.t tag add sel end-1c\n.t tag add t end-1c end\n.t delete 1.0 end\n.t tag ranges sel\n.t tag ranges t\n.t tag names\n",
+        "=\n=\n=\n= 1.1 1.4\n=\n= 1.2 1.5\n=\n= 1.0 1.1 1.2 1.3 1.6 1.9\n= 1.1 1.3\n=\n=\n=\n=\n=\n=\n=\n= sel t\n",
+    ),
+    (
+        ".t insert 1.0 ab \"u sel t u\" c t de\n.t get 1.0 end\n.t tag ranges t\n.t tag ranges u\n.t tag ranges sel\n.t insert 1.1 X\n.t insert 1.0 Y\n.t tag ranges t\n.t tag ranges u\n.t tag ranges sel\n.t insert 1.3 Z {} W\n.t get 1.0 end\n.t tag ranges t\n.t tag ranges sel\n",
+        "=\n= \"abcde\\n\"\n= 1.0 1.3\n= 1.0 1.2\n= 1.0 1.2\n=\n=\n= 1.1 1.5\n= 1.1 1.4\n= 1.1 1.4\n=\n= \"YaXZWbcde\\n\"\n= 1.1 1.3 1.5 1.7\n= 1.1 1.3 1.5 1.6\n",
+    ),
+    (
+        ".t insert 1.0 abcde\n.t tag add t 1.2 1.4 1.1 1.3\n.t tag remove t 1.2 1.3\n.t tag add sel 1.0 1.2\n.t tag add u 1.4 end\n.t tag add v 1.1 1.1\n.t tag ranges t\n.t tag ranges sel\n.t tag ranges u\n.t tag ranges v\n.t tag names\n.t tag delete t sel x t\n.t tag names\n.t tag ranges t\n.t tag ranges sel\n.t tag ranges u\n.t tag remove sel 1.1 1.9\n.t tag ranges sel\n",
+        "=\n=\n=\n=\n=\n=\n= 1.1 1.2 1.3 1.4\n= 1.0 1.2\n= 1.4 2.0\n=\n= sel t u v\n=\n= sel u v\n=\n= 1.0 1.2\n= 1.4 2.0\n=\n= 1.0 1.1\n",
+    ),
+    (
+        ".t insert 1.0 ab\n.t tag add t 1.0 end\n.t delete 1.1 1.2\n.t tag ranges t\n.t delete 1.1 end\n.t tag ranges t\n.t insert 1.1 c\n.t tag ranges t\n.t insert 1.0 d\n.t tag ranges t\n",
+        "=\n=\n=\n= 1.0 2.0\n=\n= 1.0 1.1\n=\n= 1.0 1.1\n=\n= 1.1 1.2\n",
+    ),
+];
+
 #[test]
 fn replies_of_scripts(rt: HostRuntime) {
     for (script, want) in TABLE
@@ -314,6 +361,7 @@ fn replies_of_scripts(rt: HostRuntime) {
         .chain(DELETIONS.iter())
         .chain(INDICES.iter())
         .chain(MARKS.iter())
+        .chain(TAGS.iter())
     {
         for size in [1, 3, 4096] {
             let pieces = Pieces {
@@ -403,28 +451,4 @@ fn fresh_counts(rt: HostRuntime) {
     assert_eq!(rt; clock.next(2), Ok(1));
     clock.saw(GREATEST_COUNT);
     assert_eq!(rt; clock.next(1), Err(Fault::ClockSpent));
-}
-
-fn cell(count: u64, site: u16, ch: char) -> Cell
-    ensures { result ≡ record { stamp = record { count = count; site = site }; ch = ch; gone = false } }
-{
-    Cell {
-        stamp: Stamp { count, site },
-        ch,
-        gone: false,
-    }
-}
-
-#[test]
-fn past_greater_stamps(rt: HostRuntime) -> Result<(), Fail> {
-    let mut store = ListStore::new(rt.alloc())?;
-    store.reserve(3, 2)?;
-    store.splice(0, &[cell(1, 1, 'a'), cell(2, 1, 'b')]);
-    let a = Stamp { count: 1, site: 1 };
-    assert_eq!(rt; store.after_skip(a, Stamp { count: 3, site: 2 }), 1);
-    store.splice(1, &[cell(3, 2, 'Y')]);
-    assert_eq!(rt; store.after_skip(a, Stamp { count: 3, site: 1 }), 2);
-    assert_eq!(rt; store.visible(), 4);
-    assert_eq!(rt; store.lines(), 1);
-    Ok(())
 }

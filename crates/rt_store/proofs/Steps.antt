@@ -6,10 +6,10 @@ use Rattle.rt_store.specs.declared.cell.Cell.{Cell}
 use Rattle.rt_store.specs.Cells.{text_of}
 use Rattle.rt_stamps.specs.Places.{is_newline, newlines, after_newlines}
 
-pub text_gone : (cells : List Cell) (i : ℕ) (d : Cell) → i < length cells → (get_or cells i d).gone ≡ true → text_of (drop i cells) ≡ text_of (drop (i + 1) cells)
+pub text_gone : (cells : List (Cell ℕ)) (i : ℕ) (d : Cell ℕ) → i < length cells → (get_or cells i d).gone ≡ true → text_of (drop i cells) ≡ text_of (drop (i + 1) cells)
 text_gone cells i d h e = rw (drop-cons cells i d, add-one, e) refl
 
-pub text_shown : (cells : List Cell) (i : ℕ) (d : Cell) → i < length cells → (get_or cells i d).gone ≡ false → text_of (drop i cells) ≡ (get_or cells i d).ch ∷ text_of (drop (i + 1) cells)
+pub text_shown : (cells : List (Cell ℕ)) (i : ℕ) (d : Cell ℕ) → i < length cells → (get_or cells i d).gone ≡ false → text_of (drop i cells) ≡ (get_or cells i d).ch ∷ text_of (drop (i + 1) cells)
 text_shown cells i d h e = rw (drop-cons cells i d, add-one, e) refl
 
 pub newlines_first : (left c : ℕ) (t : List ℕ) → 0 < left → c ≡ 10 → newlines (take left (c ∷ t)) ≡ newlines (take (left - 1) t) + 1
@@ -37,6 +37,6 @@ pub after_other : (left c : ℕ) (t : List ℕ) → 0 < left → (c ≡ 10 → �
 after_other zero c t h e = absurd (omega arith)
 after_other (suc k) c t h e = rw (ne_eqb c 10 e) refl
 
-pub after_none : (left : ℕ) (cells : List Cell) (i : ℕ) → length cells ≤ i → after_newlines left (text_of (drop i cells)) ≡ 0
+pub after_none : (left : ℕ) (cells : List (Cell ℕ)) (i : ℕ) → length cells ≤ i → after_newlines left (text_of (drop i cells)) ≡ 0
 after_none zero cells i h = refl
 after_none (suc k) cells i h = rw (drop_all i cells h) refl

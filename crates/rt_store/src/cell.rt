@@ -1,18 +1,22 @@
 // A cell of the text.
 use rt_stamps::{FINAL, Stamp};
+use rt_tags::StateId;
 
-/// A character with its stamp. A character that was removed is gone, and its cell stays, as a
-/// tombstone.
+/// A character with its stamp and the state of its tags. A character that was removed is gone, and
+/// its cell stays, as a tombstone. A store keeps a state's id; what contracts show of a document has
+/// in its place what that id stands for.
 #[derive(Clone, Copy, Debug, PartialEq, Eq)]
-pub struct Cell {
+pub struct Cell<T> {
     pub stamp: Stamp,
     pub ch: char,
     pub gone: bool,
+    pub state: T,
 }
 
-/// The cell of the last newline, which is never gone.
-pub const FINAL_CELL: Cell = Cell {
+/// The cell of the last newline, as it is at first. It is never gone; its state may change.
+pub const FINAL_CELL: Cell<StateId> = Cell {
     stamp: FINAL,
     ch: '\n',
     gone: false,
+    state: StateId::EMPTY,
 };

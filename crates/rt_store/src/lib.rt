@@ -2,8 +2,11 @@
 #![tactic(auto)]
 
 pub mod cell;
+pub mod laws;
 pub mod list;
 pub mod store;
+#[cfg(test)]
+mod tests;
 
 pub use cell::{Cell, FINAL_CELL};
 pub use list::ListStore;

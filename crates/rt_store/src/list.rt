@@ -1,19 +1,21 @@
 // The cells in a vector.
 ghost use Rattle.std.specs.Prelude.{◌≡◌, ◌+◌, ◌-◌, ◌^◌, ◌<◌, ◌≤◌, ◌∷◌, ◌++◌, [], IfOk, IfErr, count_by, map, take, drop, length, slice_get, take_while, vec_len, vec_capacity};
-ghost use Rattle.rt_store.specs.declared.cell.TheConstants.{FINAL_CELL};
-ghost use Rattle.rt_store.specs.Cells.{EndsFinal, StandsBefore, after_element, visible_of, text_of, position_of, is_in_span, gone_in};
+ghost use Rattle.rt_store.specs.Cells.{final_cell, EndsFinal, StandsBefore, after_element, visible_of, text_of, position_of, is_in_span, gone_in, state_in};
+ghost use Rattle.rt_store.specs.Tagged.{AreStates, has_tag, next_place, previous_place, tag_is};
+ghost use Rattle.rt_tags.specs.States.{IsState, IsTag};
 ghost use Rattle.rt_stamps.specs.Stamps.{is_before};
 ghost use Rattle.rt_stamps.specs.Places.{is_newline, newlines, after_newlines};
 
 use crate::TextStore;
 use crate::cell::{Cell, FINAL_CELL};
 use rt_stamps::{Fault, ROOT, Span, Stamp};
+use rt_tags::{StateId, StateTable, TagId};
 use std::alloc::Global;
 
 /// The cells in a plain vector: each call is linear in their number.
 #[derive(Drop)]
 pub struct ListStore {
-    cells: Vec<Cell>,
+    cells: Vec<Cell<StateId>>,
     ghost ends: { EndsFinal cells.items },
 }
 
@@ -22,7 +24,7 @@ impl ListStore {
 
     /// A store of the final newline alone.
     pub fn new(alloc: Global) -> Result<ListStore, Fault>
-        ensures ok { IfOk result (λ store. cells_of store ≡ FINAL_CELL ∷ []) }
+        ensures ok { IfOk result (λ store. cells_of store ≡ final_cell ∷ []) }
         ensures err { IfErr result (λ fault. fault ≡ Fault.NoMemory) }
     {
         let mut cells = Vec::with_capacity(alloc, 1)?;
@@ -32,7 +34,7 @@ impl ListStore {
 }
 
 // The visible cell at a place.
-fn nth_visible(cells: &[Cell], place: usize) -> Cell
+fn nth_visible(cells: &[Cell<StateId>], place: usize) -> Cell<StateId>
     requires { place < length (visible_of cells.now) }
     ensures { slice_get (visible_of cells.now) place ≡ Some result }
 {
@@ -49,7 +51,7 @@ fn nth_visible(cells: &[Cell], place: usize) -> Cell
 }
 
 // The place after some newlines.
-fn place_after(cells: &[Cell], newlines: usize) -> usize
+fn place_after(cells: &[Cell<StateId>], newlines: usize) -> usize
     ensures { result ≡ after_newlines newlines (text_of cells.now) }
 {
     let mut left = newlines;
@@ -69,7 +71,7 @@ fn place_after(cells: &[Cell], newlines: usize) -> usize
 }
 
 // How many newlines the text has.
-fn newline_count(cells: &[Cell]) -> usize
+fn newline_count(cells: &[Cell<StateId>]) -> usize
     ensures { result ≡ count_by is_newline (text_of cells.now) }
 {
     cells
@@ -81,7 +83,7 @@ fn newline_count(cells: &[Cell]) -> usize
 }
 
 // How many newlines stand before a place.
-fn newlines_before(cells: &[Cell], place: usize) -> usize
+fn newlines_before(cells: &[Cell<StateId>], place: usize) -> usize
     ensures value { result ≡ newlines (take place (text_of cells.now)) }
     ensures few { result ≤ length cells.now }
 {
@@ -101,14 +103,14 @@ fn newlines_before(cells: &[Cell], place: usize) -> usize
     lines
 }
 
-fn position_of(cells: &[Cell], stamp: Stamp) -> Option<usize>
+fn position_of(cells: &[Cell<StateId>], stamp: Stamp) -> Option<usize>
     ensures { result ≡ position_of cells.now stamp }
 {
     cells.iter().position(|cell| cell.stamp == stamp)
 }
 
 // The position after an element.
-fn after_element(cells: &[Cell], left: Stamp) -> usize
+fn after_element(cells: &[Cell<StateId>], left: Stamp) -> usize
     requires { StandsBefore cells.now left }
     ensures { result ≡ after_element cells.now left }
 {
@@ -120,13 +122,13 @@ fn after_element(cells: &[Cell], left: Stamp) -> usize
 }
 
 // How many cells at the front have a greater stamp.
-fn above(cells: &[Cell], new: Stamp) -> usize
+fn above(cells: &[Cell<StateId>], new: Stamp) -> usize
     ensures { result ≡ length (take_while (λ cell. is_before new cell.stamp) cells.now) }
 {
     cells.iter().take_while(|cell| cell.stamp > new).count()
 }
 
-fn insert_all(all: &mut Vec<Cell>, at: usize, cells: &[Cell])
+fn insert_all(all: &mut Vec<Cell<StateId>>, at: usize, cells: &[Cell<StateId>])
     requires within { at ≤ vec_len all.old }
     requires room { vec_len all.old + length cells.now ≤ vec_capacity all.old }
     ensures items { all.new.items ≡ take at all.old.items ++ cells.now ++ drop at all.old.items }
@@ -146,7 +148,7 @@ fn is_in_span(span: Span, stamp: Stamp) -> bool
 }
 
 // A cell as it is when a span is gone.
-fn gone_in(span: Span, cell: Cell) -> Cell
+fn gone_in(span: Span, cell: Cell<StateId>) -> Cell<StateId>
     ensures { result ≡ gone_in span cell }
 {
     if is_in_span(span, cell.stamp) {
@@ -157,7 +159,7 @@ fn gone_in(span: Span, cell: Cell) -> Cell
 }
 
 // Makes the cells of a span gone.
-fn mark_gone(cells: &mut Vec<Cell>, span: Span)
+fn mark_gone(cells: &mut Vec<Cell<StateId>>, span: Span)
     ensures items { cells.new.items ≡ map (gone_in span) cells.old.items }
     ensures len { vec_len cells.new ≡ vec_len cells.old }
     ensures capacity { vec_capacity cells.old ≤ vec_capacity cells.new }
@@ -165,6 +167,92 @@ fn mark_gone(cells: &mut Vec<Cell>, span: Span)
     for i in 0..cells.len() {
         cells[i] = gone_in(span, cells[i]);
     }
+}
+
+// A cell as it is when a span is in a state.
+fn state_in(span: Span, state: StateId, cell: Cell<StateId>) -> Cell<StateId>
+    ensures { result ≡ state_in span state cell }
+{
+    if is_in_span(span, cell.stamp) {
+        Cell { state, ..cell }
+    } else {
+        cell
+    }
+}
+
+// Puts the cells of a span in a state.
+fn mark_state(cells: &mut Vec<Cell<StateId>>, span: Span, state: StateId)
+    ensures items { cells.new.items ≡ map (state_in span state) cells.old.items }
+    ensures len { vec_len cells.new ≡ vec_len cells.old }
+    ensures capacity { vec_capacity cells.old ≤ vec_capacity cells.new }
+{
+    for i in 0..cells.len() {
+        cells[i] = state_in(span, state, cells[i]);
+    }
+}
+
+// Whether a character has a tag, or hasn't it.
+fn tag_is(states: &StateTable, tag: TagId, on: bool, cell: Cell<StateId>) -> bool
+    requires tag { IsTag states.now tag }
+    requires state { IsState states.now cell.state }
+    ensures { result ≡ tag_is states.now tag on cell }
+{
+    if on {
+        states.has(cell.state, tag)
+    } else {
+        !states.has(cell.state, tag)
+    }
+}
+
+// The least place from one up whose character has a tag, or hasn't it.
+fn next_place(
+    cells: &[Cell<StateId>],
+    states: &StateTable,
+    tag: TagId,
+    on: bool,
+    place: usize,
+) -> Option<usize>
+    requires tag { IsTag states.now tag }
+    requires states { AreStates states.now cells.now }
+    ensures { result ≡ next_place (tag_is states.now tag on) (visible_of cells.now) place }
+{
+    let mut at = 0;
+    for cell in cells {
+        if !cell.gone {
+            if at >= place && tag_is(states, tag, on, *cell) {
+                return Some(at);
+            }
+            at += 1;
+        }
+    }
+    None
+}
+
+// The greatest place below one whose character has a tag.
+fn previous_place(
+    cells: &[Cell<StateId>],
+    states: &StateTable,
+    tag: TagId,
+    place: usize,
+) -> Option<usize>
+    requires tag { IsTag states.now tag }
+    requires states { AreStates states.now cells.now }
+    ensures { result ≡ previous_place (has_tag states.now tag) (visible_of cells.now) place }
+{
+    let mut last = None;
+    let mut at = 0;
+    for cell in cells {
+        if at == place {
+            break;
+        }
+        if !cell.gone {
+            if states.has(cell.state, tag) {
+                last = Some(at);
+            }
+            at += 1;
+        }
+    }
+    last
 }
 
 impl TextStore for ListStore {
@@ -195,7 +283,7 @@ impl TextStore for ListStore {
         nth_visible(&self.cells, place).ch
     }
 
-    fn cell_at(&self, place: usize) -> Cell {
+    fn cell_at(&self, place: usize) -> Cell<StateId> {
         nth_visible(&self.cells, place)
     }
 
@@ -212,11 +300,27 @@ impl TextStore for ListStore {
         at + above(&self.cells[at..], new)
     }
 
-    fn splice(&mut self, at: usize, cells: &[Cell]) {
+    fn next_tagged(&self, states: &StateTable, tag: TagId, place: usize) -> Option<usize> {
+        next_place(&self.cells, states, tag, true, place)
+    }
+
+    fn next_untagged(&self, states: &StateTable, tag: TagId, place: usize) -> Option<usize> {
+        next_place(&self.cells, states, tag, false, place)
+    }
+
+    fn previous_tagged(&self, states: &StateTable, tag: TagId, place: usize) -> Option<usize> {
+        previous_place(&self.cells, states, tag, place)
+    }
+
+    fn splice(&mut self, _states: &StateTable, at: usize, cells: &[Cell<StateId>]) {
         insert_all(&mut self.cells, at, cells);
     }
 
-    fn set_gone(&mut self, span: Span) {
+    fn set_gone(&mut self, _states: &StateTable, span: Span) {
         mark_gone(&mut self.cells, span);
+    }
+
+    fn set_state(&mut self, _states: &StateTable, span: Span, state: StateId) {
+        mark_state(&mut self.cells, span, state);
     }
 }

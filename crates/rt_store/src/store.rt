@@ -4,16 +4,19 @@ ghost use Rattle.rt_stamps.specs.Places.{newlines, line_of, line_start};
 ghost use Rattle.rt_stamps.specs.Stamps.{is_before};
 ghost use Rattle.rt_stamps.specs.declared.limits.TheConstants.{MOST_CELLS};
 ghost use Rattle.rt_store.specs.declared.cell.Cell.{Cell};
-ghost use Rattle.rt_store.specs.Cells.{visible_of, text_of, EndsFinal, StandsBefore, skip_from, is_in_span, gone_in, Room, HasRoom, Spends};
+ghost use Rattle.rt_store.specs.Cells.{visible_of, text_of, EndsFinal, StandsBefore, skip_from, is_in_span, gone_in, state_in, Room, HasRoom, Spends};
+ghost use Rattle.rt_store.specs.Tagged.{AreStates, next_tagged, next_untagged, previous_tagged};
+ghost use Rattle.rt_tags.specs.States.{IsState, IsTag};
 
 use crate::Cell;
 use rt_stamps::{FINAL, Fault, Span, Stamp};
+use rt_tags::{StateId, StateTable, TagId};
 
 /// Keeps the cells of a text, seen as a list that ends with the final newline. Positions count all
-/// cells from 0, places the visible ones.
+/// cells from 0, places the visible ones. The states of cells are those of the table that is lent.
 pub trait TextStore: Drop {
     /// The cells, gone ones too.
-    ghost list: { Self → List Cell };
+    ghost list: { Self → List (Cell ℕ) };
 
     /// What there is room for.
     ghost room: { Self → Room };
@@ -43,7 +46,7 @@ pub trait TextStore: Drop {
         ensures { slice_get (text_of (list self.now)) place ≡ Some result };
 
     /// The visible cell at a place.
-    fn cell_at(&self, place: usize) -> Cell
+    fn cell_at(&self, place: usize) -> Cell<StateId>
         requires { place < length (visible_of (list self.now)) }
         ensures { slice_get (visible_of (list self.now)) place ≡ Some result };
 
@@ -64,20 +67,51 @@ pub trait TextStore: Drop {
         requires above { is_before FINAL new ≡ true }
         ensures { result ≡ skip_from (list self.now) left new };
 
-    /// Puts new cells before the one at a position.
-    fn splice(&mut self, at: usize, cells: &[Cell])
+    /// The least place from one up whose character has a tag; none if there is none. The table says
+    /// what the states of cells mean. Takes no memory.
+    fn next_tagged(&self, states: &StateTable, tag: TagId, place: usize) -> Option<usize>
+        requires tag { IsTag states.now tag }
+        requires states { AreStates states.now (list self.now) }
+        ensures { result ≡ next_tagged states.now tag (list self.now) place };
+
+    /// The least place from one up whose character hasn't a tag; none if there is none. Takes no memory.
+    fn next_untagged(&self, states: &StateTable, tag: TagId, place: usize) -> Option<usize>
+        requires tag { IsTag states.now tag }
+        requires states { AreStates states.now (list self.now) }
+        ensures { result ≡ next_untagged states.now tag (list self.now) place };
+
+    /// The greatest place below one whose character has a tag; none if there is none. Takes no memory.
+    fn previous_tagged(&self, states: &StateTable, tag: TagId, place: usize) -> Option<usize>
+        requires tag { IsTag states.now tag }
+        requires states { AreStates states.now (list self.now) }
+        ensures { result ≡ previous_tagged states.now tag (list self.now) place };
+
+    /// Puts new cells before the one at a position. Takes no memory.
+    fn splice(&mut self, states: &StateTable, at: usize, cells: &[Cell<StateId>])
         requires within { at < length (list self.old) }
+        requires states { AreStates states.now (list self.old) }
+        requires new { AreStates states.now cells.now }
         requires room { HasRoom (room self.old) (length cells.now) 1 }
         ensures list { list self.new ≡ take at (list self.old) ++ cells.now ++ drop at (list self.old) }
         ensures room { Spends (room self.old) (room self.new) (length cells.now) 1 };
 
-    /// Makes the cells of a span of stamps gone; the final newline never is.
-    fn set_gone(&mut self, span: Span)
+    /// Makes the cells of a span of stamps gone; the final newline never is. Takes no memory.
+    fn set_gone(&mut self, states: &StateTable, span: Span)
         requires stays { is_in_span span FINAL ≡ false }
+        requires states { AreStates states.now (list self.old) }
         requires room { HasRoom (room self.old) 0 2 }
         ensures list { list self.new ≡ map (gone_in span) (list self.old) }
         ensures room { Spends (room self.old) (room self.new) 0 2 };
 
-    /// The last cell is the final newline.
+    /// Puts the cells of a span of stamps in a state: gone ones too, and the final newline too. Takes
+    /// no memory.
+    fn set_state(&mut self, states: &StateTable, span: Span, state: StateId)
+        requires state { IsState states.now state }
+        requires states { AreStates states.now (list self.old) }
+        requires room { HasRoom (room self.old) 0 2 }
+        ensures list { list self.new ≡ map (state_in span state) (list self.old) }
+        ensures room { Spends (room self.old) (room self.new) 0 2 };
+
+    /// The last cell is the final newline, in any state.
     ghost ends: { (s : Self) → EndsFinal (list s) };
 }

@@ -1,5 +1,5 @@
 -- The marks about a spot, where one more is put among marks in order.
-use Rattle.std.proofs.Common.{◌≡◌, ℕ, List, [], ◌∷◌, find, true, false, not, refl, sym, ap, ◌∙◌, Bool, cond, subst, Option, Some, None, is_some}
+use Rattle.std.proofs.Common.{◌≡◌, List, [], ◌∷◌, find, true, false, refl, sym, ap, ◌∙◌, Bool, cond, subst, Option, Some, None, is_some}
 use Rattle.std.specs.Option.{option_or}
 use Rattle.rt_marks.specs.Marks.{Mark, Each, comes_before, AreInOrder, with_mark, find_last}
 use Rattle.rt_marks.proofs.Order.{before_trans, before_irrefl, before_asym, before_neither}

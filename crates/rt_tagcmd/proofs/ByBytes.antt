@@ -1,5 +1,5 @@
 -- Names by their bytes.
-use Rattle.std.proofs.Common.{◌≡◌, ℕ, zero, suc, ◌+◌, ◌<◌, ◌≤◌, ◌||◌, List, [], ◌∷◌, ◌++◌, String, Global, map, length, get_or, take, drop, true, false, not, refl, sym, ap, ◌∙◌, Bool, cond, subst, arith, add-one, Option, Some, None, is_some, IsSome, Contains, string_bytes}
+use Rattle.std.proofs.Common.{◌≡◌, ℕ, zero, suc, ◌+◌, ◌<◌, ◌||◌, List, [], ◌∷◌, String, Global, map, length, get_or, true, false, refl, sym, ap, ◌∙◌, Bool, cond, subst, arith, Option, Some, is_some, IsSome, Contains, string_bytes}
 use Rattle.std.specs.List.{insert, list_any, prefix_len}
 use Rattle.std.specs.Ordering.{is_lt}
 use Rattle.std.specs.Str.{bytes_eq}
@@ -8,7 +8,7 @@ use Rattle.std.proofs.lemmas.Cmp.{nat_list_cmp_total}
 use Rattle.std.proofs.lemmas.Slice.Eq.{bytes_eq-Decides}
 use Rattle.rt_marks.specs.Marks.{Mark, Each, name_order, named, HaveOwnNames, AreAscending}
 use Rattle.rt_marks.proofs.InOrder.{split}
-use Rattle.rt_marks.proofs.Names.{clash, same_name, name_itself, differ_back, names_differ, none_head, none_tail}
+use Rattle.rt_marks.proofs.Names.{clash, same_name, name_itself, differ_back, names_differ}
 use Rattle.rt_marks.proofs.Order.{lt_trans, lt_asym, lt_neither}
 use Rattle.rt_stamps.specs.Words.{Word}
 use Rattle.rt_tagcmd.specs.MarkCommands.{with_name, by_bytes}

@@ -1,5 +1,5 @@
 -- What `mark next` and `mark previous` find from where they look.
-use Rattle.std.proofs.Common.{◌≡◌, ℕ, zero, suc, ◌+◌, ◌<◌, ◌≤◌, ◌&&◌, ◌||◌, nat_le, nat_lt, List, [], ◌∷◌, find, length, true, false, not, refl, sym, ap, ◌∙◌, Bool, cond, subst, arith, Option, Some, None, is_some, option_map, Result, Ok, Err, ◌⊎◌, inl, inr}
+use Rattle.std.proofs.Common.{◌≡◌, ℕ, ◌<◌, ◌&&◌, nat_le, nat_lt, List, [], ◌∷◌, find, true, false, refl, sym, ap, ◌∙◌, Bool, cond, subst, arith, Option, Some, None, is_some, Result, Ok, Err, inl, inr}
 use Rattle.std.specs.Prelude.{codes, option_and_then}
 use Rattle.std.specs.Option.{option_or}
 use Rattle.std.specs.Ordering.{nat_cmp, ordering_then, is_lt}
@@ -19,8 +19,8 @@ use Rattle.rt_marks.proofs.Names.{clash, same_name, named_with, none_cons}
 use Rattle.rt_stamps.specs.declared.fault.Fault.{Fault}
 use Rattle.rt_stamps.specs.Outcomes.{unless, Refuses}
 use Rattle.rt_stamps.specs.Words.{Word}
-use Rattle.rt_text.specs.Flat.{Flat}
-use Rattle.rt_text.specs.Widgets.{Own, IsOwnOf, IsSiteMark, AreSiteMarks, is_own, mark_among, mark_of, marks_of, widget_of}
+use Rattle.rt_edits.specs.Flat.{Flat}
+use Rattle.rt_text.specs.Widgets.{Own, AreSiteMarks, is_own, mark_among, mark_of, marks_of, widget_of}
 use Rattle.rt_tagcmd.specs.Looking.{edge, mark_or, looked_from}
 use Rattle.rt_tagcmd.specs.MarkCommands.{name_of, names_mark, mark_next, mark_previous}
 

@@ -1,13 +1,13 @@
 -- Names that are checked one after the other, and marks that are unset one after the other.
-use Rattle.std.proofs.Common.{◌≡◌, ℕ, ◌+◌, ◌<◌, ◌≤◌, ◌||◌, List, [], ◌∷◌, ◌++◌, String, Global, map, filter, length, get_or, take, drop, true, false, not, refl, sym, ap, ◌∙◌, Bool, cond, Option, Some, None, Result, Ok, Err, string_bytes}
-use Rattle.std.specs.List.{list_any}
+use Rattle.std.proofs.Common.{◌≡◌, ℕ, ◌+◌, ◌<◌, ◌≤◌, ◌||◌, List, [], ◌∷◌, ◌++◌, String, Global, map, filter, length, get_or, take, drop, true, false, not, refl, sym, ap, ◌∙◌, Bool, cond, Option, Some, None, Ok, Err, string_bytes}
 use Rattle.std.proofs.lemmas.List.{drop_more, drop_all, map_more}
 use Rattle.std.proofs.lemmas.List.Folds.{list_any-append}
 use Rattle.rt_marks.specs.Marks.{Mark, is_named, without}
 use Rattle.rt_stamps.specs.declared.fault.Fault.{Fault}
 use Rattle.rt_stamps.specs.Outcomes.{first_of, unless}
 use Rattle.rt_stamps.specs.Words.{Word}
-use Rattle.rt_tagcmd.specs.MarkCommands.{name_check, is_one_of}
+use Rattle.rt_text.specs.Commands.{name_check}
+use Rattle.rt_tagcmd.specs.MarkCommands.{is_one_of}
 
 abbrev pub words_of : List (String Global) → List Word
 words_of names = map (λ w. string_bytes w) names

@@ -1,11 +1,11 @@
 -- Where `mark next` and `mark previous` look from: the mark that a word names, or a spot before all marks of its index.
-use Rattle.std.specs.Prelude.{ℕ, List, [], Option, Some, None, Result, Ok, Err, if◌then◌else◌}
+use Rattle.std.specs.Prelude.{ℕ, [], Option, Some, None, Result, Ok, if◌then◌else◌}
 use Rattle.rt_marks.specs.declared.gravity.Gravity.TheVariants.{Left}
 use Rattle.rt_marks.specs.Marks.{Mark}
 use Rattle.rt_stamps.specs.declared.fault.Fault.{Fault}
 use Rattle.rt_stamps.specs.Outcomes.{unless}
 use Rattle.rt_stamps.specs.Words.{Word}
-use Rattle.rt_text.specs.Flat.{Flat}
+use Rattle.rt_edits.specs.Flat.{Flat}
 use Rattle.rt_text.specs.Index.{index_check, place_at_index}
 use Rattle.rt_text.specs.Widgets.{Own, mark_of, widget_of}
 use Rattle.rt_tagcmd.specs.MarkCommands.{names_mark}

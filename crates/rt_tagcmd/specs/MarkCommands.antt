@@ -1,31 +1,27 @@
 -- The mark commands of a widget (Tk text manual, "mark"), each what it gives or why it is refused. The marks of a widget are
 -- those of its site and two of its own, `insert` and `current`.
-use Rattle.std.specs.Prelude.{◌≡◌, ℕ, ◌-◌, ◌&&◌, Bool, not, List, [], ◌∷◌, ◌++◌, length, map, filter, min, Option, Some, None, is_some, option_map, unwrap_or, Result, Ok, Err, codes, if◌then◌else◌}
+use Rattle.std.specs.Prelude.{ℕ, ◌-◌, ◌&&◌, Bool, not, List, [], ◌∷◌, length, map, filter, min, Option, Some, None, is_some, option_map, unwrap_or, Result, Ok, codes, if◌then◌else◌}
 use Rattle.std.specs.List.{list_any}
 use Rattle.std.specs.Option.{option_map_or}
 use Rattle.std.specs.Ordering.{is_lt}
 use Rattle.std.specs.Str.{bytes_eq}
-use Rattle.rt_index.specs.Expression.{is_name}
 use Rattle.rt_index.specs.Reading.{fixed_of}
 use Rattle.rt_marks.specs.declared.gravity.Gravity.{Gravity}
 use Rattle.rt_marks.specs.declared.gravity.Gravity.TheVariants.{Left, Right}
-use Rattle.rt_marks.specs.Marks.{Mark, is_named, named, mark_after, mark_before, first_mark_at, last_mark_before, marks_set, marks_with_gravity, name_order}
+use Rattle.rt_marks.specs.Marks.{Mark, is_named, mark_after, mark_before, first_mark_at, last_mark_before, marks_set, marks_with_gravity, name_order}
 use Rattle.rt_stamps.specs.declared.fault.Fault.{Fault}
-use Rattle.rt_stamps.specs.declared.fault.Fault.TheVariants.{BadName, BadOption, NoMark}
+use Rattle.rt_stamps.specs.declared.fault.Fault.TheVariants.{BadOption, NoMark}
 use Rattle.rt_stamps.specs.Outcomes.{first_of, unless}
 use Rattle.rt_stamps.specs.Words.{Word}
 use Rattle.rt_store.specs.Cells.{text_of}
+use Rattle.rt_text.specs.Commands.{name_check}
 use Rattle.rt_text.specs.declared.own_mark.OwnMark.{OwnMark}
 use Rattle.rt_text.specs.declared.own_mark.OwnMark.TheVariants.{Insert, Current}
-use Rattle.rt_text.specs.Flat.{Flat}
+use Rattle.rt_edits.specs.Flat.{Flat}
 use Rattle.rt_text.specs.Index.{index_check, place_at_index}
 use Rattle.rt_text.specs.Widgets.{Own, own_mark_of, own_set, own_with_gravity, mark_of, marks_of, widget_of}
 
 -- CHECKS
-
--- a word may be a mark's name
-abbrev pub name_check : Word → Option Fault
-name_check name = if is_name (length name) then None else Some BadName
 
 -- the widget has a mark of a name
 abbrev pub mark_check : Flat → Own → Word → Option Fault

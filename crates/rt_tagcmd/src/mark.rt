@@ -1,36 +1,15 @@
 // Marks are set and unset, and their gravity.
 ghost use Rattle.std.specs.Prelude.{◌≡◌, ◌≤◌, Ok, Err, None, IfErr, OnOk, OnErr, length, map, min, string_bytes, unwrap_or};
-ghost use Rattle.rt_index.specs.Expression.{is_name};
 ghost use Rattle.rt_stamps.specs.Outcomes.{Refuses, first_of, unless};
 ghost use Rattle.rt_store.specs.Cells.{text_of};
-ghost use Rattle.rt_tagcmd.specs.MarkCommands.{gravity_of, name_check, own_place, mark_set, mark_unset, mark_gravity, mark_gravity_set};
+ghost use Rattle.rt_tagcmd.specs.MarkCommands.{gravity_of, own_place, mark_set, mark_unset, mark_gravity, mark_gravity_set};
 ghost use Rattle.rt_text.specs.Widgets.{IsOwnOf, own_set};
 
+use crate::name::{check_name, check_names};
 use rt_marks::Gravity;
 use rt_stamps::Fault;
-use rt_stamps::limits::MOST_NAME_BYTES;
 use rt_store::TextStore;
 use rt_text::{Doc, OwnMark, Widget};
-
-/// Refuses a word that can't be a mark's name.
-fn check_name(name: &str) -> Result<(), Fault>
-    ensures { result ≡ unless (name_check name.now) tt }
-{
-    if name.is_empty() || name.len() > MOST_NAME_BYTES {
-        return Err(Fault::BadName);
-    }
-    Ok(())
-}
-
-/// Refuses words of which one can't be a mark's name.
-fn check_names(names: &[String]) -> Result<(), Fault>
-    ensures { result ≡ unless (first_of (map name_check (map (λ w. string_bytes w) names.now))) tt }
-{
-    for name in names {
-        check_name(name)?;
-    }
-    Ok(())
-}
 
 /// Sets a widget's own mark at a place of a text of some length.
 fn set_own(widget: &mut Widget, which: OwnMark, length: usize, place: usize)

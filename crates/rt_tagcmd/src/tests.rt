@@ -7,11 +7,21 @@ use std::marker::Model;
 use std::test::Fail;
 
 /// A document and the widget that shows it. Its calls have no clauses.
-#[derive(Drop)]
 struct Page {
     alloc: Global,
     doc: Doc<ListStore>,
     widget: Widget,
+}
+
+// Written out, so that each way out of a test lets a page go in one step of its proof.
+impl Drop for Page {
+    fn drop(self) {
+        let Page {
+            alloc: _,
+            doc: _,
+            widget: _,
+        } = self;
+    }
 }
 
 impl Model for Page {
@@ -31,14 +41,14 @@ impl Page {
         let site = Site::new(1).ok_or("a site")?;
         let store = ListStore::new(alloc)?;
         let doc = Doc::new(alloc, store, site, 1000)?;
-        let widget = Widget::new();
+        let widget = Widget::new(alloc);
         let mut page = Page { alloc, doc, widget };
         page.insert("1.0", text)?;
         Ok(page)
     }
 
     fn insert(&mut self, index: &str, new: &str) -> Result<(), Fault> {
-        self.doc.insert(&mut self.widget, index, new)
+        self.doc.insert(&mut self.widget, &mut [], index, &[], new)
     }
 
     fn index(&self, index: &str) -> Result<Position, Fault> {
@@ -72,6 +82,52 @@ impl Page {
     fn previous(&self, word: &str) -> Result<Option<&str>, Fault> {
         crate::mark_previous(&self.doc, &self.widget, word)
     }
+
+    // What a tag command changes.
+    fn change(&mut self, what: &str, name: &str, words: &[String]) -> Result<(), Fault> {
+        match what {
+            "add" => crate::tag_add(&mut self.doc, &mut self.widget, name, words),
+            "remove" => crate::tag_remove(&mut self.doc, &mut self.widget, name, words),
+            "delete" => crate::tag_delete(&mut self.doc, words),
+            "raise" => crate::tag_raise(&mut self.doc, name, None),
+            "lower" => crate::tag_lower(&mut self.doc, name, Some("sel")),
+            _ => Ok(()),
+        }
+    }
+
+    // The names that a tag command replies.
+    fn tag_names(&self, what: &str, index: &str) -> Result<Vec<String>, Fault> {
+        match what {
+            "names" => crate::tag_names(&self.doc),
+            "at" => crate::tag_names_at(self.alloc, &self.doc, &self.widget, index),
+            _ => Ok(Vec::new(self.alloc)),
+        }
+    }
+
+    // The positions that a tag command replies.
+    fn ends(&self, what: &str, name: &str, index: &str) -> Result<Vec<Position>, Fault> {
+        let alloc = self.alloc;
+        match what {
+            "ranges" => crate::tag_ranges(alloc, &self.doc, &self.widget, name),
+            "next" => crate::tag_nextrange(alloc, &self.doc, &self.widget, name, index, None),
+            "previous" => crate::tag_prevrange(alloc, &self.doc, &self.widget, name, index, None),
+            _ => Ok(Vec::new(alloc)),
+        }
+    }
+
+    // What a tag command replies, a blank before each word.
+    fn tag(
+        &mut self,
+        what: &str,
+        name: &str,
+        words: &[String],
+        index: &str,
+    ) -> Result<String, Fail> {
+        self.change(what, name, words)?;
+        let names = self.tag_names(what, index)?;
+        let ends = self.ends(what, name, index)?;
+        joined(self.alloc, &names, &ends)
+    }
 }
 
 fn at(line: usize, character: usize) -> Result<Position, Fault> {
@@ -84,6 +140,19 @@ fn words(alloc: Global, words: &[&str]) -> Result<Vec<String>, Fail> {
         all.push(String::from_str(alloc, word)?)?;
     }
     Ok(all)
+}
+
+fn joined(alloc: Global, names: &[String], positions: &[Position]) -> Result<String, Fail> {
+    let mut joined = String::new(alloc);
+    for name in names {
+        joined.push_str(" ")?;
+        joined.push_str(name)?;
+    }
+    for position in positions {
+        joined.push_str(" ")?;
+        joined.push_str(&position.to_string(alloc)?)?;
+    }
+    Ok(joined)
 }
 
 // Text goes between two marks of one place by their gravities, and the marks are told by name and in order.
@@ -182,5 +251,42 @@ fn refusals(rt: HostRuntime) -> Result<(), Fail> {
     page.set_gravity("m", "left")?;
     page.set("m", "1.1")?;
     assert_eq!(rt; page.gravity("m"), Ok(Gravity::Left));
+    Ok(())
+}
+
+// Tag commands on `abcdef` in turn: what, the name, the words behind it, and the reply.
+const TAGS: [(&str, &str, &str, &str); 20] = [
+    ("add", "t", "1.1 1.3", ""),
+    ("add", "t", "1.4", ""),
+    ("add", "u", "1.2 1.2", ""),
+    ("add", "sel", "1.2", ""),
+    ("names", "", "", " sel t u"),
+    ("ranges", "t", "", " 1.1 1.3 1.4 1.5"),
+    ("ranges", "u", "", ""),
+    ("next", "t", "1.1", " 1.1 1.3"),
+    ("next", "t", "1.2", " 1.4 1.5"),
+    ("previous", "t", "1.4", " 1.1 1.3"),
+    ("previous", "t", "1.1", ""),
+    ("at", "", "1.2", " sel t"),
+    ("at", "", "end", ""),
+    ("raise", "sel", "", ""),
+    ("lower", "t", "", ""),
+    ("names", "", "", " u t sel"),
+    ("remove", "t", "1.1", ""),
+    ("ranges", "t", "", " 1.2 1.3 1.4 1.5"),
+    ("delete", "", "u t sel", ""),
+    ("names", "", "", " sel"),
+];
+
+#[test]
+fn tags(rt: HostRuntime) -> Result<(), Fail> {
+    let mut page = Page::new(rt.alloc(), "abcdef")?;
+    for (what, name, text, reply) in TAGS {
+        let mut words = Vec::new(rt.alloc());
+        for word in text.split(' ') {
+            words.push(String::from_str(rt.alloc(), word)?)?;
+        }
+        assert_eq!(rt; page.tag(what, name, &words, text)?.as_str(), reply);
+    }
     Ok(())
 }

@@ -14,11 +14,11 @@ use Rattle.rt_stamps.specs.declared.limits.TheConstants.{MOST_NAME_BYTES}
 use Rattle.rt_stamps.specs.declared.stamp.Stamp.{Stamp}
 use Rattle.rt_store.specs.declared.cell.Cell.{Cell}
 use Rattle.rt_store.specs.Cells.{text_of, after_element}
-use Rattle.rt_text.specs.Flat.{Flat, cells_from, put_after, left_of, with_text}
-use Rattle.rt_text.specs.Removals.{gone_at, left_at}
+use Rattle.rt_edits.specs.Flat.{put_after}
+use Rattle.rt_edits.specs.Removals.{gone_at, left_at}
 use Rattle.rt_text.specs.Widgets.{Own, IsOwnOf, IsSiteMark, AreSiteMarks, is_own, own_inserted, own_left}
-use Rattle.rt_text.proofs.InsertedText.{text_append, text_new}
-use Rattle.rt_text.proofs.RemovedText.{text_left}
+use Rattle.rt_edits.proofs.InsertedText.{text_append}
+use Rattle.rt_edits.proofs.RemovedText.{text_left}
 
 -- A MARK THAT IS FOUND
 
@@ -64,21 +64,17 @@ pub own_of_inserted : (n place k : ℕ) (own : Own) → IsOwnOf n own → IsOwnO
 own_of_inserted n place k own h =
     (moved_before n k own.insert.place (is_moved_on place own.insert.place own.insert.gravity) h.0, moved_within n k own.current.place (is_moved_on place own.current.place own.current.gravity) h.1, h.2, h.3)
 
--- the text grows by the characters
-pub length_put : (cells : List Cell) (left : Stamp) (count site : ℕ) (new : List ℕ) → length (text_of (put_after cells left (cells_from count site new))) ≡ length (text_of cells) + length new
-length_put cells left count site new =
+-- the text grows by the new characters
+pub length_put : {T : Type 0} (cells : List (Cell T)) (left : Stamp) (new : List (Cell T)) → length (text_of (put_after cells left new)) ≡ length (text_of cells) + length (text_of new)
+length_put cells left new =
     let at = after_element cells left in
-    let added = cells_from count site new in
-    let whole : text_of (take at cells ++ added ++ drop at cells) ≡ text_of (take at cells) ++ new ++ text_of (drop at cells) =
-    text_append (take at cells ++ added) (drop at cells) ∙ ap (λ t. t ++ text_of (drop at cells)) (text_append (take at cells) added ∙ ap (λ t. text_of (take at cells) ++ t) (text_new count site new)) in
+    let whole : text_of (take at cells ++ new ++ drop at cells) ≡ text_of (take at cells) ++ text_of new ++ text_of (drop at cells) =
+    text_append (take at cells ++ new) (drop at cells) ∙ ap (λ t. t ++ text_of (drop at cells)) (text_append (take at cells) new) in
     let old : text_of cells ≡ text_of (take at cells) ++ text_of (drop at cells) = ap text_of (sym (take-append-drop at cells)) ∙ text_append (take at cells) (drop at cells) in
-    let a = ap length whole ∙ length-append (text_of (take at cells) ++ new) (text_of (drop at cells)) in
-    let b = length-append (text_of (take at cells)) new in
+    let a = ap length whole ∙ length-append (text_of (take at cells) ++ text_of new) (text_of (drop at cells)) in
+    let b = length-append (text_of (take at cells)) (text_of new) in
     let d = ap length old ∙ length-append (text_of (take at cells)) (text_of (drop at cells)) in
     omega (arith, a, b, d)
-
-pub length_with : (flat : Flat) (place : ℕ) (new : List ℕ) → length (text_of (with_text flat place new).cells) ≡ length (text_of flat.cells) + length new
-length_with flat place new = length_put flat.cells (left_of flat.cells place) (flat.count + 1) flat.site new
 
 -- A REMOVAL
 
@@ -99,7 +95,7 @@ length_left removed k (c ∷ text) =
     ∙ ap (λ n. length (left_at removed (k + 1) text) + place_left removed n) (sym next)
     ∙ length_left removed (k + 1) text ∙ ap (place_left removed) far
 
-pub length_gone : (removed : ℕ → Bool) (cells : List Cell) → length (text_of (gone_at removed 0 cells)) ≡ place_left removed (length (text_of cells))
+pub length_gone : {T : Type 0} (removed : ℕ → Bool) (cells : List (Cell T)) → length (text_of (gone_at removed 0 cells)) ≡ place_left removed (length (text_of cells))
 length_gone removed cells =
     let n = length (text_of cells) in
     let start : 0 + n ≡ n = omega arith in
@@ -126,7 +122,7 @@ own_of_left (suc n) removed own f h =
 -- NOTHING IS REMOVED
 
 pub own_kept : (removed : ℕ → Bool) (own : Own) → ((p : ℕ) → removed p ≡ false) → own_left removed own ≡ own
-own_kept removed own h = λ i. record { insert = record own.insert { place = place_kept removed h own.insert.place i }; current = record own.current { place = place_kept removed h own.current.place i } }
+own_kept removed own h = λ i. record own { insert = record own.insert { place = place_kept removed h own.insert.place i }; current = record own.current { place = place_kept removed h own.current.place i } }
 
 -- MARK COMMANDS
 

@@ -3,10 +3,10 @@ use Rattle.std.proofs.Common.{◌≡◌, ℕ, zero, suc, ◌+◌, ◌-◌, ◌<�
 use Rattle.std.proofs.lemmas.List.{drop_more}
 use Rattle.rt_marks.specs.Marks.{Mark, marks_removed, marks_left, place_removed, place_left, is_within_or}
 use Rattle.rt_marks.proofs.Leaving.{marks_then, place_then}
-use Rattle.rt_text.specs.declared.range.Range.{Range}
-use Rattle.rt_text.specs.Removals.{is_covered, AreInOrder}
+use Rattle.rt_edits.specs.declared.range.Range.{Range}
+use Rattle.rt_edits.specs.Removals.{is_covered, AreInOrder}
 use Rattle.rt_text.specs.Widgets.{Own, own_removed, own_left}
-use Rattle.rt_text.proofs.StampLaws.{before_all, order_weaker}
+use Rattle.rt_edits.proofs.StampLaws.{before_all, order_weaker}
 
 order_drop : (place : ℕ) (ranges : List Range) (i : ℕ) → AreInOrder place ranges → AreInOrder 0 (drop i ranges)
 order_drop place ranges zero h = order_weaker place 0 ranges (omega arith) h
@@ -41,4 +41,4 @@ own_back ranges i d own h k =
     let later = is_covered (drop (i + 1) ranges) in
     let at : (p : ℕ) → place_removed range.from (range.to - range.from) (place_left later p) ≡ place_left (is_covered (drop i ranges)) p =
     λ p. place_then later range.from range.to (not_later ranges i d h k) p ∙ ap (λ r. place_left r p) (covers ranges i d h) in
-    λ j. record { insert = record own.insert { place = at own.insert.place j }; current = record own.current { place = at own.current.place j } }
+    λ j. record own { insert = record own.insert { place = at own.insert.place j }; current = record own.current { place = at own.current.place j } }

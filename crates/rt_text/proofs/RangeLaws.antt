@@ -9,11 +9,11 @@ use Rattle.rt_stamps.specs.declared.fault.Fault.{Fault}
 use Rattle.rt_stamps.specs.declared.fault.Fault.TheVariants.{NoMemory, BadOption}
 use Rattle.rt_stamps.specs.Outcomes.{first_of, unless, Refuses}
 use Rattle.rt_stamps.specs.Words.{Word}
-use Rattle.rt_text.specs.declared.range.Range.{Range}
+use Rattle.rt_edits.specs.declared.range.Range.{Range}
 use Rattle.rt_text.specs.declared.comparison.Comparison.{Comparison}
 use Rattle.rt_text.specs.declared.distance.Measure.{Measure}
 use Rattle.rt_store.specs.Cells.{text_of}
-use Rattle.rt_text.specs.Flat.{Flat}
+use Rattle.rt_edits.specs.Flat.{Flat}
 use Rattle.rt_text.specs.Index.{index_check, place_at_index}
 use Rattle.rt_text.specs.Ranges.{ranges_of, text_between, has_characters, texts_of}
 use Rattle.rt_text.specs.Comparisons.{comparison_of, holds_of}

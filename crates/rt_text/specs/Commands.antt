@@ -1,22 +1,31 @@
 -- The commands on a text.
-use Rattle.std.specs.Prelude.{ℕ, ◌+◌, ◌-◌, ℤ, List, [], ◌∷◌, ◌++◌, length, map, min, nat_lt, Bool, false, Option, Some, None, is_some, option_map, Result, if◌then◌else◌, unwrap_or, encode_utf8_all}
-use Rattle.std.specs.Str.{chars}
+use Rattle.std.specs.Prelude.{ℕ, ◌+◌, ◌-◌, ◌==◌, ℤ, List, [], ◌∷◌, ◌++◌, length, map, flat_map, min, nat_lt, Bool, false, Option, Some, None, is_some, option_map, Result, if◌then◌else◌, slice_get, unwrap_or, encode_utf8_all}
+use Rattle.std.specs.Str.{bytes_eq}
+use Rattle.rt_index.specs.Expression.{is_name}
 use Rattle.rt_index.specs.Widget.{Widget}
-use Rattle.rt_marks.specs.Marks.{marks_left}
+use Rattle.rt_marks.specs.Marks.{marks_inserted, marks_left}
 use Rattle.rt_stamps.specs.declared.limits.TheConstants.{GREATEST_COUNT}
 use Rattle.rt_stamps.specs.declared.fault.Fault.{Fault}
-use Rattle.rt_stamps.specs.declared.fault.Fault.TheVariants.{BadOption, ClockSpent, TextFull}
+use Rattle.rt_stamps.specs.declared.fault.Fault.TheVariants.{BadName, BadOption, ClockSpent, TextFull}
 use Rattle.rt_stamps.specs.declared.position.Position.{Position}
+use Rattle.rt_stamps.specs.declared.stamp.Stamp.{Stamp}
+use Rattle.rt_stamps.specs.declared.stamp.TheConstants.{FINAL}
 use Rattle.rt_stamps.specs.Outcomes.{first_of, unless}
 use Rattle.rt_stamps.specs.Places.{position_at}
 use Rattle.rt_stamps.specs.Words.{Word}
-use Rattle.rt_store.specs.Cells.{text_of}
-use Rattle.rt_text.specs.Flat.{Flat, with_text}
+use Rattle.rt_store.specs.Cells.{text_of, visible_of}
+use Rattle.rt_tags.specs.States.{names_on}
+use Rattle.rt_tags.specs.Tags.{sel}
+use Rattle.rt_edits.specs.declared.range.Range.{Range}
+use Rattle.rt_edits.specs.Flat.{Flat, left_of, put_after}
+use Rattle.rt_edits.specs.Insertions.{Insertion, Piece, insertion_of, left_neighbour, right_neighbour}
 use Rattle.rt_text.specs.Comparisons.{comparison_of, holds_of}
 use Rattle.rt_text.specs.Distances.{measures_of, or_indices, distance_of}
 use Rattle.rt_text.specs.Index.{index_check, place_at_index}
 use Rattle.rt_text.specs.Ranges.{text_between, texts_of, ranges_of}
-use Rattle.rt_text.specs.Removals.{is_removed, gone_at, stamps_at, span_count, operations_for}
+use Rattle.rt_edits.specs.Removals.{is_covered, is_removed, gone_at, stamps_at, span_count, operations_for}
+use Rattle.rt_edits.specs.Selections.{unselected, selection_with}
+use Rattle.rt_edits.specs.TagWrites.{listed_if, with_tag_at, with_tags_at}
 use Rattle.rt_text.specs.Widgets.{Own, widget_of, own_inserted, own_left}
 
 -- CHECKS
@@ -29,19 +38,49 @@ operator_check operator = if is_some (comparison_of operator) then None else Som
 abbrev pub switch_check : List Word → Option Fault
 switch_check switches = if is_some (measures_of switches) then None else Some BadOption
 
--- there are so many fresh counts
-abbrev pub count_check : ℕ → ℕ → Option Fault
-count_check count new = if nat_lt GREATEST_COUNT (count + new) then Some ClockSpent else None
+-- a word may be the name of a tag or a mark
+abbrev pub name_check : Word → Option Fault
+name_check name = if is_name (length name) then None else Some BadName
 
--- there may be so many more cells
-abbrev pub cell_check : ℕ → ℕ → ℕ → Option Fault
-cell_check limit cells new = if nat_lt limit (cells + new) then Some TextFull else None
+-- a clock may go as far as a count
+abbrev pub clock_check : ℕ → Option Fault
+clock_check count = if nat_lt GREATEST_COUNT count then Some ClockSpent else None
+
+-- there may be so many cells
+abbrev pub cell_check : ℕ → ℕ → Option Fault
+cell_check limit cells = if nat_lt limit cells then Some TextFull else None
 
 -- PLACES
 
 -- an insertion at the end stands before the last newline
 abbrev pub insertion_place : Widget → Word → ℕ
 insertion_place w word = min (place_at_index w word) (length w.text - 1)
+
+-- EDITS
+
+-- a document, the widget that commands, and the selections of the site's other widgets, after an edit
+pub record Edited : Type 0 where
+  pub doc : Flat
+  pub own : Own
+  pub others : List (List Stamp)
+
+-- the document with pieces of text, and then characters without a list, before the character at a place: their cells stand
+-- directly after that of the visible left neighbour, and all marks move for them
+abbrev pub with_pieces_at : Flat → Own → List (List Stamp) → ℕ → List Piece → Word → Edited
+with_pieces_at flat own others place pieces rest =
+    let characters = visible_of flat.cells in
+    let start : Insertion = record { cells = []; count = flat.count; sel = own.sel; others = others; tags = flat.tags } in
+    let new = insertion_of flat.site (left_neighbour characters place) (right_neighbour characters place) pieces rest start in
+    record {
+      doc = record flat {
+        cells = put_after flat.cells (left_of flat.cells place) new.cells;
+        count = new.count;
+        marks = marks_inserted place (length new.cells) flat.marks;
+        tags = new.tags;
+      };
+      own = record (own_inserted place (length new.cells) own) { sel = new.sel };
+      others = new.others;
+    }
 
 -- the document without the characters at some places: their cells are gone, with the counts that this takes, and the marks move
 -- for that
@@ -52,24 +91,56 @@ without_places flat removed = record flat {
   marks = marks_left removed flat.marks;
 }
 
+-- a place is that of the last newline
+abbrev pub is_last : Flat → ℕ → Bool
+is_last flat place = place + 1 == length (text_of flat.cells)
+
+-- the shared tags of the last newline, whose cell is the last one, by their bytes
+abbrev pub last_tags : Flat → List Word
+last_tags flat = unwrap_or (option_map (λ cell. names_on cell.state) (slice_get flat.cells (length flat.cells - 1))) []
+
+-- the last newline without tags, and nowhere selected
+abbrev pub without_last_tags : Edited → Edited
+without_last_tags edited = record {
+  doc = with_tags_at edited.doc (is_last edited.doc) false (last_tags edited.doc);
+  own = record edited.own { sel = unselected (FINAL ∷ []) edited.own.sel };
+  others = map (unselected (FINAL ∷ [])) edited.others;
+}
+
+-- the document without the characters in ranges, where the last newline stays; it loses its tags where a range holds it
+abbrev pub without_ranges : Flat → Own → List (List Stamp) → List Range → Edited
+without_ranges flat own others ranges =
+    let removed = is_removed (text_of flat.cells) ranges in
+    let edited : Edited = record { doc = without_places flat removed; own = own_left removed own; others = others } in
+    if is_covered ranges (length (text_of flat.cells) - 1) then without_last_tags edited else edited
+
+-- a tag put on the characters in ranges, or taken off: `sel` is the widget's own
+abbrev pub with_tag_in : Flat → Own → Bool → Word → List Range → Flat × Own
+with_tag_in flat own on name ranges =
+    if bytes_eq name sel then (flat, record own { sel = selection_with on (stamps_at (is_covered ranges) 0 flat.cells) own.sel })
+    else (listed_if on name (with_tag_at flat (is_covered ranges) on name), own)
+
 -- COMMANDS on a widget, each what it gives or why it is refused
 
--- insert INDEX CHARS: the document with the characters before the one at the index, and all marks moved for them
-abbrev pub inserted : Flat → Own → Word → Word → Result (Flat × Own) Fault
-inserted flat own index new =
-    let w = widget_of flat own in
-    let place = insertion_place w index in
-    unless (first_of (index_check w index ∷ count_check flat.count (length (chars new)) ∷ cell_check flat.limit (length flat.cells) (length (chars new)) ∷ []))
-    (with_text flat place (chars new), own_inserted place (length (chars new)) own)
+-- the names in the lists of pieces
+abbrev pub names_in : List Piece → List Word
+names_in pieces = flat_map (λ piece. piece.tags) pieces
 
--- delete INDEX ?INDEX ...?: the document without the characters in the ranges that the indices name in pairs, and all marks
--- moved for that
-abbrev pub deleted : Flat → Own → List Word → Result (Flat × Own) Fault
-deleted flat own indices =
+-- insert INDEX ?CHARS TAGLIST ...? ?CHARS?: pieces with lists, and then characters without one, perhaps none
+abbrev pub inserted : Flat → Own → List (List Stamp) → Word → List Piece → Word → Result Edited Fault
+inserted flat own others index pieces rest =
     let w = widget_of flat own in
-    let removed = is_removed (text_of flat.cells) (ranges_of (map (place_at_index w) indices)) in
-    let operations = operations_for (span_count (stamps_at removed 0 flat.cells)) in
-    unless (first_of (map (index_check w) indices ++ count_check flat.count operations ∷ [])) (without_places flat removed, own_left removed own)
+    let edited = with_pieces_at flat own others (insertion_place w index) pieces rest in
+    unless
+    (first_of (map name_check (names_in pieces) ++ index_check w index ∷ clock_check edited.doc.count ∷ cell_check flat.limit (length edited.doc.cells) ∷ []))
+    edited
+
+-- delete INDEX ?INDEX ...?: the document without the characters in the ranges that the indices name in pairs
+abbrev pub deleted : Flat → Own → List (List Stamp) → List Word → Result Edited Fault
+deleted flat own others indices =
+    let w = widget_of flat own in
+    let edited = without_ranges flat own others (ranges_of (map (place_at_index w) indices)) in
+    unless (first_of (map (index_check w) indices ++ clock_check edited.doc.count ∷ [])) edited
 
 -- get INDEX: the character at the index, none at the text's end
 abbrev pub got_one : Flat → Own → Word → Result Word Fault

@@ -1,31 +1,40 @@
 -- A widget: its own marks, and what index expressions see of it.
-use Rattle.std.specs.Prelude.{◌≡◌, ℕ, ◌<◌, ◌≤◌, Bool, false, List, Option, Some, None, is_some, option_map, if◌then◌else◌, codes}
+use Rattle.std.specs.Prelude.{◌≡◌, ℕ, ◌+◌, ◌<◌, ◌≤◌, Bool, false, List, [], filter, Option, Some, None, is_some, option_map, option_and_then, if◌then◌else◌, codes}
 use Rattle.std.specs.Str.{bytes_eq}
 use Rattle.rt_index.specs.Widget.{Widget, Ends}
 use Rattle.rt_marks.specs.declared.gravity.Gravity.{Gravity}
 use Rattle.rt_marks.specs.declared.gravity.Gravity.TheVariants.{Right}
 use Rattle.rt_marks.specs.Marks.{Mark, Each, IsName, named, with_mark, mark_inserted, mark_removed, mark_left}
-use Rattle.rt_store.specs.Cells.{text_of}
+use Rattle.rt_stamps.specs.declared.stamp.Stamp.{Stamp}
+use Rattle.rt_stamps.specs.Words.{Word}
+use Rattle.rt_store.specs.Cells.{text_of, visible_of}
+use Rattle.rt_store.specs.Tagged.{next_place, last_place}
+use Rattle.rt_tags.specs.States.{is_on}
+use Rattle.rt_tags.specs.Tags.{sel, is_listed}
 use Rattle.rt_text.specs.declared.own_mark.OwnMark.{OwnMark}
 use Rattle.rt_text.specs.declared.own_mark.OwnMark.TheVariants.{Insert, Current}
-use Rattle.rt_text.specs.Flat.{Flat}
+use Rattle.rt_edits.specs.Flat.{Flat, TaggedCell}
+use Rattle.rt_edits.specs.Spans.{is_among}
 
 -- OWN MARKS
 
--- a widget's own marks: the insertion cursor, and the mark that follows the mouse (Tk text manual, "The marks")
+-- what is a widget's own: the insertion cursor, the mark that follows the mouse (Tk text manual, "Marks"), and the stamps of
+-- the characters that are selected (the tag `sel`); those of removed characters may stay among them
 pub record Own : Type 0 where
   pub insert : Mark
   pub current : Mark
+  pub sel : List Stamp
 
 abbrev pub own_name : OwnMark → List ℕ
 own_name Insert = codes "insert"
 own_name Current = codes "current"
 
--- a new widget's own marks stand at the beginning, with right gravity
+-- a new widget's own marks stand at the beginning, with right gravity, and nothing is selected
 abbrev pub new_own : Own
 new_own = record {
   insert = record { name = codes "insert"; place = 0; gravity = Right };
   current = record { name = codes "current"; place = 0; gravity = Right };
+  sel = [];
 }
 
 -- the own mark that a name names
@@ -57,15 +66,15 @@ own_with_gravity which gravity own = own_with which (record (own_mark which own)
 
 -- they move with the text as all marks do: n characters inserted at a place
 abbrev pub own_inserted : ℕ → ℕ → Own → Own
-own_inserted place n own = record { insert = mark_inserted place n own.insert; current = mark_inserted place n own.current }
+own_inserted place n own = record own { insert = mark_inserted place n own.insert; current = mark_inserted place n own.current }
 
 -- n characters removed from a place on
 abbrev pub own_removed : ℕ → ℕ → Own → Own
-own_removed place n own = record { insert = mark_removed place n own.insert; current = mark_removed place n own.current }
+own_removed place n own = record own { insert = mark_removed place n own.insert; current = mark_removed place n own.current }
 
 -- the characters at some places removed
 abbrev pub own_left : (ℕ → Bool) → Own → Own
-own_left removed own = record { insert = mark_left removed own.insert; current = mark_left removed own.current }
+own_left removed own = record own { insert = mark_left removed own.insert; current = mark_left removed own.current }
 
 -- own marks of a text of n characters: they stand in it, and `insert` never behind the last newline
 abbrev pub IsOwnOf : ℕ → Own → Type 0
@@ -96,19 +105,37 @@ mark_of own flat name = mark_among own flat.marks name
 abbrev pub marks_of : Own → Flat → List Mark
 marks_of own flat = with_mark own.insert (with_mark own.current flat.marks)
 
+-- TAGS
+
+-- a tag is on a character: `sel` where it is selected, any other one where it is on for the text
+abbrev pub is_tagged_in : List Stamp → Word → TaggedCell → Bool
+is_tagged_in selection name cell = if bytes_eq name sel then is_among selection cell.stamp else is_on name cell.state
+
+abbrev pub is_tagged : Own → Word → TaggedCell → Bool
+is_tagged own name cell = is_tagged_in own.sel name cell
+
+-- the listed tags on a character, lowest priority first
+abbrev pub tags_on : Own → List Word → TaggedCell → List Word
+tags_on own tags cell = filter (λ name. is_tagged own name cell) tags
+
+-- where characters that pass a test begin and end, if there are any
+abbrev pub ends_of : (TaggedCell → Bool) → List TaggedCell → Option Ends
+ends_of test characters =
+    option_and_then (λ first. option_map (λ last. record { first = first; last = last + 1 }) (last_place test characters)) (next_place test characters 0)
+
+-- a listed tag, and its ends where some character has it
+abbrev pub tag_ends : Own → List TaggedCell → List Word → Word → Option (Option Ends)
+tag_ends own cells tags name = if is_listed name tags then Some (ends_of (is_tagged own name) (visible_of cells)) else None
+
 -- WHAT INDEX EXPRESSIONS SEE
 
--- the one tag that is listed yet, which no character has
-abbrev pub tag_ends : List ℕ → Option (Option Ends)
-tag_ends name = if bytes_eq name (codes "sel") then Some None else None
-
--- a text, the places of its marks, and the tag `sel`
-abbrev pub widget_over : List ℕ → List Mark → Own → Widget
-widget_over text marks own = record {
-  text = text;
+-- a text, the places of its marks, and its tags
+abbrev pub widget_over : List TaggedCell → List Mark → List Word → Own → Widget
+widget_over cells marks tags own = record {
+  text = text_of cells;
   marks = λ name. option_map (λ m. m.place) (mark_among own marks name);
-  tags = tag_ends;
+  tags = tag_ends own cells tags;
 }
 
 abbrev pub widget_of : Flat → Own → Widget
-widget_of flat own = widget_over (text_of flat.cells) flat.marks own
+widget_of flat own = widget_over flat.cells flat.marks flat.tags own

@@ -1,33 +1,44 @@
 // What index expressions see of a widget.
-ghost use Rattle.std.specs.Prelude.{◌≡◌, ℕ, ◌≤◌, List, Some, IsSome, option_map, length};
+ghost use Rattle.std.specs.Prelude.{◌≡◌, ℕ, ◌≤◌, List, Some, IsSome, map, option_map, length};
 ghost use Rattle.rt_marks.specs.Marks.{IsName, named};
 ghost use Rattle.rt_stamps.specs.declared.limits.TheConstants.{MOST_CELLS};
 ghost use Rattle.rt_store.specs.Cells.{text_of};
+ghost use Rattle.rt_store.specs.Tagged.{AreStates};
+ghost use Rattle.rt_edits.specs.Listed.{AreListed};
+ghost use Rattle.rt_edits.specs.Working.{shown};
 
+use crate::characters::{last_with, next_with};
 use crate::{OwnMark, Widget};
 use rt_index::Ground;
 use rt_marks::Marks;
 use rt_store::TextStore;
+use rt_tags::{StateTable, TagTable};
 
-/// A widget with the text and the marks of its site. The tag `sel` is listed, and no character has
-/// it.
+/// A widget with the text, the marks and the tags of its site.
 #[derive(Drop)]
 pub(crate) struct WidgetGround<'a, S: TextStore> {
     pub store: &'a S,
     pub marks: &'a Marks,
+    pub states: &'a StateTable,
+    pub tags: &'a TagTable,
     pub widget: &'a Widget,
-    ghost few: { length (S.list store.now) ≤ MOST_CELLS },
-    ghost insert: { widget.now.insert.place ≤ length (text_of (S.list store.now)) },
-    ghost current: { widget.now.current.place ≤ length (text_of (S.list store.now)) },
-    ghost within: { (name : List ℕ) (place : ℕ) → option_map (λ m. m.place) (named name marks.now) ≡ Some place → place ≤ length (text_of (S.list store.now)) },
+    ghost given: { AreStates states.now (S.list store.now) },
+    ghost listed: { AreListed tags.now.names (map (shown states.now) (S.list store.now)) },
+    ghost text: { text_of (map (shown states.now) (S.list store.now)) ≡ text_of (S.list store.now) },
+    ghost few: { length (text_of (map (shown states.now) (S.list store.now))) ≤ MOST_CELLS },
+    ghost insert: { widget.now.insert.place ≤ length (text_of (map (shown states.now) (S.list store.now))) },
+    ghost current: { widget.now.current.place ≤ length (text_of (map (shown states.now) (S.list store.now))) },
+    ghost within: { (name : List ℕ) (place : ℕ) → option_map (λ m. m.place) (named name marks.now) ≡ Some place → place ≤ length (text_of (map (shown states.now) (S.list store.now))) },
     ghost names: { (name : List ℕ) → IsSome (named name marks.now) → IsName name },
 }
 
 impl<'a, S: TextStore> Ground for WidgetGround<'a, S> {
     ghost use Rattle.rt_text.specs.Widgets.{widget_over};
     ghost use Rattle.rt_text.specs.Proper.{proper_over};
+    ghost use Rattle.std.specs.Prelude.{map};
+    ghost use Rattle.rt_edits.specs.Working.{shown};
 
-    ghost widget = { λ g. widget_over (text_of (S.list g.store.now)) g.marks.now g.widget.now };
+    ghost widget = { λ g. widget_over (map (shown g.states.now) (S.list g.store.now)) g.marks.now g.tags.now.names g.widget.now };
 
     fn len(&self) -> usize {
         self.store.visible()
@@ -57,16 +68,25 @@ impl<'a, S: TextStore> Ground for WidgetGround<'a, S> {
     }
 
     fn has_tag(&self, name: &str) -> bool {
-        name == "sel"
+        self.tags.has(name)
     }
 
-    fn tag_first(&self, _name: &str) -> Option<usize> {
-        None
+    fn tag_first(&self, name: &str) -> Option<usize> {
+        if !self.tags.has(name) {
+            return None;
+        }
+        let widget = self.widget;
+        next_with(self.store, self.states, &widget.selection, name, true, 0)
     }
 
-    fn tag_last(&self, _name: &str) -> Option<usize> {
-        None
+    fn tag_last(&self, name: &str) -> Option<usize> {
+        if !self.tags.has(name) {
+            return None;
+        }
+        let widget = self.widget;
+        let last = last_with(self.store, self.states, &widget.selection, name)?;
+        Some(last + 1)
     }
 
-    ghost proper = { λ g. proper_over (S.list g.store.now) g.marks.now g.widget.now (S.ends g.store.now) g.few g.insert g.current g.within g.names };
+    ghost proper = { λ g. proper_over (S.list g.store.now) (map (shown g.states.now) (S.list g.store.now)) g.marks.now g.tags.now.names g.widget.now (S.ends g.store.now) g.text g.few g.insert g.current g.within g.names g.listed };
 }

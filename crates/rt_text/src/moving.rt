@@ -1,10 +1,11 @@
 // Moving marks for text that is removed.
 ghost use Rattle.std.specs.Prelude.{◌≡◌};
 ghost use Rattle.rt_marks.specs.Marks.{marks_left};
-ghost use Rattle.rt_text.specs.Removals.{is_covered, AreInOrder};
+ghost use Rattle.rt_edits.specs.Removals.{is_covered, AreInOrder};
 ghost use Rattle.rt_text.specs.Widgets.{own_left};
 
-use crate::{Range, Widget};
+use crate::Widget;
+use rt_edits::Range;
 use rt_marks::Marks;
 
 /// Moves the marks of a site and those of a widget for ranges that are removed. The last range goes

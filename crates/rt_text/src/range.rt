@@ -7,17 +7,11 @@ ghost use Rattle.rt_text.specs.Index.{index_check, place_at_index};
 ghost use Rattle.rt_text.specs.Ranges.{text_between, ranges_of, texts_of};
 
 use crate::index::place_of;
+use rt_edits::Range;
 use rt_index::Ground;
 use rt_stamps::Fault;
 use rt_store::TextStore;
 use std::alloc::Global;
-
-/// The places from one up to before another; none where that isn't later.
-#[derive(Clone, Copy, Debug, PartialEq, Eq)]
-pub struct Range {
-    pub from: usize,
-    pub to: usize,
-}
 
 // The places of indices.
 fn places_of<G: Ground>(alloc: Global, ground: &G, indices: &[String]) -> Result<Vec<usize>, Fault>

@@ -1,22 +1,28 @@
 ghost use Rattle.std.specs.Prelude.{◌≡◌};
+ghost use Rattle.rt_tags.specs.Tags.{IsName};
 
-use crate::insertion::cells_of;
-use crate::removal::removed_ranges;
-use crate::{Doc, OwnMark, Range, Widget};
+use crate::{Doc, OwnMark, Widget};
+use rt_edits::{Piece, Range, Selection};
 use rt_marks::Gravity;
 use rt_stamps::limits::GREATEST_COUNT;
-use rt_stamps::{Clock, Fault, Position, Site};
-use rt_store::{ListStore, TextStore};
+use rt_stamps::{Clock, FINAL, Fault, Position, Site, Stamp};
+use rt_store::ListStore;
 use std::alloc::Global;
 use std::marker::Model;
 use std::process::Abort;
 use std::test::Fail;
 
 /// A document and the widget that shows it. Its calls have no clauses.
-#[derive(Drop)]
 struct Page {
     doc: Doc<ListStore>,
     widget: Widget,
+}
+
+// Written out, so that each way out of a test lets a page go in one step of its proof.
+impl Drop for Page {
+    fn drop(self) {
+        let Page { doc: _, widget: _ } = self;
+    }
 }
 
 impl Model for Page {
@@ -36,16 +42,41 @@ impl Page {
         let site = Site::new(1).ok_or("a site")?;
         let store = ListStore::new(alloc)?;
         let doc = Doc::with_clock(alloc, store, site, 20_000, clock)?;
-        let widget = Widget::new();
+        let widget = Widget::new(alloc);
         Ok(Page { doc, widget })
     }
 
     fn insert(&mut self, index: &str, new: &str) -> Result<(), Fault> {
-        self.doc.insert(&mut self.widget, index, new)
+        self.doc.insert(&mut self.widget, &mut [], index, &[], new)
+    }
+
+    fn insert_pieces(
+        &mut self,
+        others: &mut [Selection],
+        index: &str,
+        pieces: &[Piece],
+        rest: &str,
+    ) -> Result<(), Fault> {
+        self.doc
+            .insert(&mut self.widget, others, index, pieces, rest)
+    }
+
+    fn next_tagged(&self, name: &str, place: usize) -> Option<usize> {
+        self.doc.next_tagged(&self.widget, name, place)
+    }
+
+    fn next_untagged(&self, name: &str, place: usize) -> Option<usize> {
+        self.doc.next_untagged(&self.widget, name, place)
+    }
+
+    fn write_tag(&mut self, on: bool, name: &str, ranges: &[Range]) -> Result<(), Fault>
+        requires { IsName name.now }
+    {
+        self.doc.write_tag(&mut self.widget, on, name, ranges)
     }
 
     fn delete(&mut self, indices: &[String]) -> Result<(), Fault> {
-        self.doc.delete(&mut self.widget, indices)
+        self.doc.delete(&mut self.widget, &mut [], indices)
     }
 
     fn get(&self, from: &str, to: &str) -> Result<String, Fault> {
@@ -170,79 +201,6 @@ fn distances_and_comparisons(rt: HostRuntime) -> Result<(), Fail> {
     assert_eq!(rt; page.compare("1.0", "<", "end"), Ok(true));
     assert_eq!(rt; page.compare("insert", "==", "1.end"), Ok(true));
     Ok(())
-}
-
-fn range(from: usize, to: usize) -> Range {
-    Range { from, to }
-}
-
-// A store of some characters before the last newline.
-fn store_of(rt: &impl Abort, alloc: Global, text: &str) -> Result<ListStore, Fail> {
-    let mut chars = Vec::new(alloc);
-    for ch in text.chars() {
-        chars.push(ch)?;
-    }
-    assert!(rt; chars.len() < 100);
-    let site = Site::new(1).ok_or("a site")?;
-    let cells = cells_of(alloc, 1, site, &chars)?;
-    let mut store = ListStore::new(alloc)?;
-    store.reserve(cells.len(), 1)?;
-    store.splice(0, &cells);
-    Ok(store)
-}
-
-// Ranges of some characters and the last newline, and what a removal takes.
-fn removes(
-    rt: &impl Abort,
-    alloc: Global,
-    text: &str,
-    ranges: &[Range],
-    removed: &[Range],
-) -> Result<(), Fail> {
-    let store = store_of(rt, alloc, text)?;
-    let found = removed_ranges(alloc, &store, ranges)?;
-    assert_eq!(rt; found.as_slice(), removed, "in {text}");
-    Ok(())
-}
-
-#[test]
-fn merges_ranges(rt: HostRuntime) -> Result<(), Fail> {
-    let alloc = rt.alloc();
-    let nested = [range(1, 2), range(0, 4), range(2, 3), range(3, 5)];
-    removes(&rt, alloc, "hello", &nested, &[range(0, 5)])?;
-    let overlapping = [range(0, 2), range(1, 3)];
-    removes(&rt, alloc, "hello", &overlapping, &[range(0, 3)])?;
-    let touching = [range(2, 3), range(0, 2)];
-    removes(&rt, alloc, "hello", &touching, &[range(0, 3)])?;
-    let apart = [range(3, 4), range(0, 1)];
-    removes(&rt, alloc, "hello", &apart, &[range(0, 1), range(3, 4)])?;
-    let none = [range(4, 1), range(2, 2), range(6, 7)];
-    removes(&rt, alloc, "hello", &none, &[])?;
-    removes(&rt, alloc, "hello", &[], &[])
-}
-
-#[test]
-fn spares_the_last_newline(rt: HostRuntime) -> Result<(), Fail> {
-    let alloc = rt.alloc();
-    removes(&rt, alloc, "", &[range(0, 1)], &[])?;
-    removes(&rt, alloc, "hello", &[range(5, 6)], &[])?;
-    removes(&rt, alloc, "hello", &[range(3, 7)], &[range(3, 5)])?;
-    removes(&rt, alloc, "a\nbc", &[range(0, 5)], &[range(0, 4)])
-}
-
-#[test]
-fn leaves_no_empty_line(rt: HostRuntime) -> Result<(), Fail> {
-    let alloc = rt.alloc();
-    removes(&rt, alloc, "a\n", &[range(2, 3)], &[range(1, 2)])?;
-    removes(&rt, alloc, "a\nbc", &[range(3, 5)], &[range(3, 4)])?;
-    removes(&rt, alloc, "a\nbc", &[range(2, 4)], &[range(2, 4)])?;
-    removes(&rt, alloc, "a\nbc", &[range(2, 5)], &[range(1, 4)])?;
-    let touching = [range(2, 3), range(3, 5)];
-    removes(&rt, alloc, "a\nbc", &touching, &[range(1, 4)])?;
-    let middle = [range(1, 2), range(2, 5)];
-    removes(&rt, alloc, "a\nbc", &middle, &[range(1, 4)])?;
-    let first = [range(0, 1), range(2, 5)];
-    removes(&rt, alloc, "a\nbc", &first, &[range(0, 1), range(1, 4)])
 }
 
 #[test]
@@ -442,5 +400,140 @@ fn a_thousand_marks_in_ten_thousand_characters(rt: HostRuntime) -> Result<(), Fa
         assert!(rt; stands(alloc, &page, i, wanted)?, "mark {i}");
         character = character.saturating_add(10);
     }
+    Ok(())
+}
+
+// A piece of text with a list of tags.
+fn piece(alloc: Global, text: &str, tags: &[&str]) -> Result<Piece, Fail> {
+    Ok(Piece::new(String::from_str(alloc, text)?, words(alloc, tags)?))
+}
+
+// Tags, each with a place and the first range behind that in which all characters have it.
+fn tagged(rt: &impl Abort, page: &Page, rows: &[(&str, usize, usize, usize)]) {
+    for (name, place, from, to) in rows {
+        assert_eq!(rt;
+            page.next_tagged(name, *place),
+            Some(*from),
+            "{name} from {place}"
+        );
+        assert_eq!(rt;
+            page.next_untagged(name, *from),
+            Some(*to),
+            "{name} up from {from}"
+        );
+    }
+}
+
+/// A page, and what two other widgets of its site have selected. Its calls take it and give it back.
+struct Shared {
+    page: Page,
+    others: [Selection; 2],
+}
+
+impl Drop for Shared {
+    fn drop(self) {
+        let Shared { page: _, others: _ } = self;
+    }
+}
+
+impl Shared {
+    fn new(alloc: Global, clock: Clock, first: &[Stamp], second: &[Stamp]) -> Result<Shared, Fail> {
+        let first = Selection::of(alloc, first)?;
+        let second = Selection::of(alloc, second)?;
+        let page = Page::new(alloc, clock)?;
+        Ok(Shared {
+            page,
+            others: [first, second],
+        })
+    }
+
+    fn insert(mut self, index: &str, pieces: &[Piece], rest: &str) -> Result<Shared, Fault> {
+        self.page
+            .insert_pieces(&mut self.others, index, pieces, rest)?;
+        Ok(self)
+    }
+
+    fn tag(mut self, name: &str, ranges: &[Range]) -> Result<Shared, Fault>
+        requires { IsName name.now }
+    {
+        self.page.write_tag(true, name, ranges)?;
+        Ok(self)
+    }
+
+    fn delete(&mut self, indices: &[String]) -> Result<(), Fault> {
+        self.page
+            .doc
+            .delete(&mut self.page.widget, &mut self.others, indices)
+    }
+
+    // Whether the two other widgets have the character of a stamp selected.
+    fn selected(&self, stamp: Stamp) -> (bool, bool) {
+        (self.others[0].has(stamp), self.others[1].has(stamp))
+    }
+}
+
+fn stamp(count: u64) -> Stamp {
+    Stamp { count, site: 1 }
+}
+
+// New text without a list is selected in each widget that has both neighbours; `sel` in a list
+// selects in the widget that commands alone.
+#[test]
+fn selected_in_other_widgets(rt: HostRuntime) -> Result<(), Fail> {
+    let alloc = rt.alloc();
+    let listed = [piece(alloc, "Z", &["sel"])?];
+    let shared = Shared::new(alloc, Clock::new(), &[stamp(1), stamp(2)], &[stamp(1)])?;
+    let shared = shared.insert("1.0", &[], "ab")?;
+    let shared = shared.insert("1.1", &[], "X")?;
+    let shared = shared.insert("1.1", &listed, "")?;
+    assert_eq!(rt; shared.selected(stamp(3)), (true, false));
+    assert_eq!(rt; shared.selected(stamp(4)), (false, false));
+    tagged(&rt, &shared.page, &[("sel", 0, 1, 2)]);
+    Ok(())
+}
+
+// A page with the text `ab`, two tags on all of it and the last newline selected, here and in one of
+// the other widgets. Its clock goes so many counts further.
+fn page_of_counts(alloc: Global, counts: u64) -> Result<Shared, Fail> {
+    let mut clock = Clock::new();
+    clock.saw(GREATEST_COUNT.saturating_sub(counts).saturating_sub(4));
+    let shared = Shared::new(alloc, clock, &[FINAL, stamp(1)], &[])?;
+    let shared = shared.insert("1.0", &[], "ab")?;
+    let shared = shared.tag("t", &[Range { from: 0, to: 3 }])?;
+    let shared = shared.tag("u", &[Range { from: 0, to: 3 }])?;
+    Ok(shared.tag("sel", &[Range { from: 2, to: 3 }])?)
+}
+
+// Where a deletion holds the last newline, it stays, and loses its tags: each takes a count behind
+// that of the deletion. It is nowhere selected then.
+#[test]
+fn the_last_newline_loses_its_tags(rt: HostRuntime) -> Result<(), Fail> {
+    let alloc = rt.alloc();
+    let down_to_the_end = words(alloc, &["1.1", "end"])?;
+    let mut shared = page_of_counts(alloc, 3)?;
+    assert_eq!(rt; shared.delete(&down_to_the_end), Ok(()));
+    assert_eq!(rt; shared.page.doc.visible(), 2);
+    tagged(&rt, &shared.page, &[("t", 0, 0, 1), ("u", 0, 0, 1)]);
+    assert_eq!(rt; shared.page.next_tagged("sel", 0), None);
+    assert_eq!(rt; shared.selected(FINAL), (false, false));
+    assert_eq!(rt; shared.selected(stamp(1)), (true, false));
+    assert!(rt; shared.page.doc.tags().has("t") && shared.page.doc.tags().has("u"));
+    assert_eq!(rt; shared.page.insert("1.0", "c"), Err(Fault::ClockSpent));
+    Ok(())
+}
+
+// Where the clock can't go as far as the last of those counts, all is as it was.
+#[test]
+fn a_deletion_with_too_few_counts(rt: HostRuntime) -> Result<(), Fail> {
+    let alloc = rt.alloc();
+    let down_to_the_end = words(alloc, &["1.1", "end"])?;
+    let mut shared = page_of_counts(alloc, 2)?;
+    assert_eq!(rt; shared.delete(&down_to_the_end), Err(Fault::ClockSpent));
+    assert_eq!(rt; shared.page.doc.visible(), 3);
+    assert_eq!(rt; shared.page.next_untagged("t", 0), None);
+    assert_eq!(rt; shared.page.next_untagged("u", 0), None);
+    assert_eq!(rt; shared.page.next_tagged("sel", 0), Some(2));
+    assert_eq!(rt; shared.selected(FINAL), (true, false));
+    assert_eq!(rt; shared.page.insert("1.0", "cd"), Ok(()));
     Ok(())
 }

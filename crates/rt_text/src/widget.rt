@@ -1,10 +1,13 @@
 // A widget's own marks.
 ghost use Rattle.std.specs.Prelude.{◌≡◌, ◌+◌, ◌≤◌};
+ghost use Rattle.rt_edits.specs.Selected.{stamps_in};
 ghost use Rattle.rt_text.specs.Widgets.{new_own, own_mark, own_set, own_with_gravity, own_inserted, own_removed};
 
 use crate::OwnMark;
+use rt_edits::Selection;
 use rt_marks::Gravity;
 use rt_marks::place::{place_inserted, place_removed};
+use std::alloc::Global;
 use std::marker::Model;
 
 // A mark without its name.
@@ -14,26 +17,30 @@ struct Gap {
     gravity: Gravity,
 }
 
-/// A widget: its marks `insert` and `current`, which no other widget sees. Contracts see the two
-/// marks. The text that they stand in is a document's, and each edit of it moves them.
+/// A widget: its marks `insert` and `current`, and the characters that it has selected, which no
+/// other widget sees. Contracts see the two marks and the stamps of those characters. The text that
+/// they stand in is a document's, and each edit of it moves the marks.
 #[derive(Drop)]
 pub struct Widget {
     insert: Gap,
     current: Gap,
+    pub(crate) selection: Selection,
 }
 
 impl Model for Widget {
     ghost use Rattle.std.specs.Prelude.{codes};
+    ghost use Rattle.rt_edits.specs.Selected.{stamps_in};
     ghost use Rattle.rt_text.specs.Widgets.{Own};
 
     ghost Value = { Own };
 
-    ghost view = { λ w. record { insert = record { name = codes "insert"; place = w.insert.place; gravity = w.insert.gravity }; current = record { name = codes "current"; place = w.current.place; gravity = w.current.gravity } } };
+    ghost view = { λ w. record { insert = record { name = codes "insert"; place = w.insert.place; gravity = w.insert.gravity }; current = record { name = codes "current"; place = w.current.place; gravity = w.current.gravity }; sel = stamps_in w.selection } };
 }
 
 impl Widget {
-    /// A new widget, whose marks stand at the beginning with right gravity. It takes no memory.
-    pub fn new() -> Widget
+    /// A new widget, whose marks stand at the beginning with right gravity and which has selected
+    /// nothing. It takes no memory.
+    pub fn new(alloc: Global) -> Widget
         ensures { result ≡ new_own }
     {
         let start = Gap {
@@ -43,6 +50,7 @@ impl Widget {
         Widget {
             insert: start,
             current: start,
+            selection: Selection::new(alloc),
         }
     }
 
@@ -84,6 +92,13 @@ impl Widget {
             OwnMark::Insert => self.insert.gravity = gravity,
             OwnMark::Current => self.current.gravity = gravity,
         }
+    }
+
+    /// The characters that it has selected.
+    pub fn selection(&self) -> &Selection
+        ensures { stamps_in result.now ≡ self.now.sel }
+    {
+        &self.selection
     }
 
     /// Moves its marks for `n` characters that were inserted at a place.

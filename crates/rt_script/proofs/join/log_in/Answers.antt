@@ -1,4 +1,4 @@
-use Rattle.std.proofs.Common.{rules, inl, inr, refl}
+use Rattle.std.proofs.Common.{inl, inr}
 use Rattle.rt_script.proofs.join.log_in.Goals as goal
 
 pub returns-in-Some : goal.returns-in-Some

@@ -1,11 +1,10 @@
-use Rattle.std.proofs.Common.{◌≡◌, ◌∙◌, take, Option, Some, Err, Ok, ap, sym, string_bytes}
+use Rattle.std.proofs.Common.{◌∙◌, take, Option, Ok, ap, sym}
 use Rattle.std.proofs.lemmas.List.{take_all}
-use Rattle.std.proofs.lemmas.Result.{err_from_is_err_and}
-use Rattle.rt_marks.specs.Marks.{Mark, without}
+use Rattle.rt_marks.specs.Marks.{without}
 use Rattle.rt_stamps.specs.declared.fault.Fault.{Fault}
 use Rattle.rt_stamps.specs.Outcomes.{unless}
-use Rattle.rt_text.specs.Flat.{Flat}
-use Rattle.rt_tagcmd.proofs.NameChecks.{none_found, others, others_none, some_found, unset_more, words_of}
+use Rattle.rt_edits.specs.Flat.{Flat}
+use Rattle.rt_tagcmd.proofs.NameChecks.{none_found, others, others_none, unset_more, words_of}
 use Rattle.rt_tagcmd.proofs.mark.mark_unset.Goals as goal
 
 pub loop-name-init : goal.loop-name-init

@@ -1,7 +1,6 @@
-use Rattle.std.proofs.Common.{◌≡◌, ◌∙◌, find, ap, length, Ok, None, refl, subst, sym}
-use Rattle.std.specs.Prelude.{codes}
+use Rattle.std.proofs.Common.{◌∙◌, find, ap, length, Ok, sym}
 use Rattle.std.proofs.lemmas.Result.{err_from_is_err_and}
-use Rattle.rt_marks.specs.Marks.{comes_before, find_last, named, with_mark}
+use Rattle.rt_marks.specs.Marks.{comes_before, with_mark}
 use Rattle.rt_marks.specs.Seen.{spotted}
 use Rattle.rt_store.specs.Cells.{text_of}
 use Rattle.rt_text.specs.Widgets.{marks_of}

@@ -1,4 +1,3 @@
-use Rattle.std.proofs.Common.{◌≡◌}
 use Rattle.rt_marks.specs.Marks.{with_mark}
 use Rattle.rt_marks.specs.Seen.{spotted}
 use Rattle.rt_marks.proofs.Names.{ordered_with}

@@ -1,6 +1,6 @@
 use Rattle.std.proofs.Common.{arith}
 use Rattle.std.proofs.lemmas.Grind.{common_steps}
-use Rattle.rt_text.proofs.PlaceLaws.{length_text}
+use Rattle.rt_edits.proofs.PlaceLaws.{length_text}
 use Rattle.rt_text.proofs.RangeLaws.{texts_some, texts_none}
 use Rattle.rt_text.proofs.range.texts_of.Goals as goal
 use Rattle.rt_text.proofs.range.texts_of.Goals.{then-range-min+in_ok-text_between+in_ok-push, else-range-min}

@@ -1,5 +1,8 @@
-use Rattle.rt_peers.proofs.Steps.{pair}
+use Rattle.rt_peers.proofs.Steps.{insert_of_few, insert_of_some}
 use Rattle.rt_peers.proofs.site.SiteState.insert.Goals as goal
 
+pub returns-in_default : goal.returns-in_default
+returns-in_default c = insert_of_few c.args.self.now c.args.words.now c.in_default.len_below
+
 pub returns : goal.returns
-returns c = rw (pair c.args.words.now c.index-item.result c.new-item.result c.in-len2.len_at_least c.in-len2.len_below c.index-item.is c.new-item.is, ← c.deref.ensures, ← c.deref-2.ensures) c.insert_at.ensures
+returns c = insert_of_some c.args.self.now _ _ c.args.words.now c.index-item.result c.in-len2-up.len_at_least c.index-item.is (rw (← c.deref.ensures) c.insert_words.ensures)

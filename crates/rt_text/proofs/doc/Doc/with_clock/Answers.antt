@@ -1,10 +1,16 @@
-use Rattle.std.proofs.Common.{◌≤◌, length, arith}
-use Rattle.rt_store.specs.declared.cell.TheConstants.{FINAL_CELL}
-use Rattle.rt_store.specs.Cells.{text_of}
-use Rattle.rt_text.specs.Known.{AreKnown, AreDistinct}
+use Rattle.std.proofs.Common.{◌≤◌, ℕ, List, length, arith, map, subst, sym}
+use Rattle.rt_store.specs.declared.cell.Cell.{Cell}
+use Rattle.rt_store.specs.Cells.{final_cell, text_of}
+use Rattle.rt_store.specs.Tagged.{AreStates}
+use Rattle.rt_tags.specs.States.{TagStates}
+use Rattle.rt_edits.specs.Known.{AreKnown, AreDistinct, AreWritten}
+use Rattle.rt_edits.specs.Listed.{AreListed}
 use Rattle.rt_text.specs.Widgets.{AreSiteMarks}
-use Rattle.rt_text.proofs.CellLaws.{known_final}
-use Rattle.rt_text.proofs.DistinctLaws.{distinct_one}
+use Rattle.rt_edits.specs.Working.{shown}
+use Rattle.rt_edits.proofs.CellLaws.{known_final}
+use Rattle.rt_edits.proofs.DistinctLaws.{distinct_one}
+use Rattle.rt_edits.proofs.ListedLaws.{listed_new, given_new, new_table}
+use Rattle.rt_edits.proofs.WriterLaws.{written_new}
 use Rattle.rt_text.proofs.doc.Doc.with_clock.Goals as goal
 
 pub invariant_of-result : goal.invariant_of-result
@@ -12,6 +18,11 @@ invariant_of-result g c =
     let cells = g.S.TextStore.list c.args.store in
     let few : length cells ≤ c.args.limit = rw c.requires.store c.requires.limit.0 in
     let known : AreKnown c.args.clock cells = rw c.requires.store (known_final c.args.clock) in
-    let apart : AreDistinct cells = rw c.requires.store (distinct_one FINAL_CELL) in
-    let marks : AreSiteMarks (length (text_of cells)) c.new.result = rw c.new.ensures tt in
-    (c.requires.limit.1, few, known, omega arith, apart, marks)
+    let apart : AreDistinct cells = rw c.requires.store (distinct_one final_cell) in
+    let marks : AreSiteMarks (length (text_of cells)) c.new-3.result = rw c.new-3.ensures tt in
+    let given : AreStates c.in_ok-states.states cells = rw (c.requires.store, c.in_ok-states.ensures.ok) given_new in
+    let listed : AreListed c.in_ok-tags.tags.names (map (shown c.in_ok-states.states) cells) = rw (c.requires.store, c.in_ok-states.ensures.ok, c.in_ok-tags.ensures.ok) listed_new in
+    let written : AreWritten c.args.clock (map (shown c.in_ok-states.states) cells) =
+    subst (λ (t : TagStates). AreWritten c.args.clock (map (shown t) cells)) (sym c.in_ok-states.ensures.ok)
+    (subst (λ (l : List (Cell ℕ)). AreWritten c.args.clock (map (shown new_table) l)) (sym c.requires.store) (written_new c.args.clock)) in
+    (c.requires.limit.1, few, known, omega arith, apart, marks, given, listed, written)

@@ -1,0 +1,174 @@
+-- Cells made gone by their stamps are those at the places.
+use Rattle.std.proofs.Common.{◌≡◌, ℕ, suc, All, ◌+◌, ◌-◌, ◌<◌, ◌≤◌, List, [], ◌∷◌, Bool, true, false, cond, not, ◌||◌, length, map, drop, get_or, refl, sym, ◌∙◌, ap, subst, arith}
+use native.Mathlib.Numerals.{unary_clauses}
+use Rattle.std.specs.List.{IsDistinct}
+use Rattle.std.proofs.lemmas.List.{drop_more, length-map}
+use Rattle.std.proofs.lemmas.List.Elements.{All-map}
+use Rattle.std.proofs.lemmas.Bool.{or_from, or_left, or_right, cond-true, cond-false}
+use Rattle.rt_stamps.specs.declared.stamp.Span.{Span}
+use Rattle.rt_stamps.specs.declared.stamp.Stamp.{Stamp}
+use Rattle.rt_stamps.specs.declared.stamp.TheConstants.{FINAL}
+use Rattle.rt_stamps.specs.Stamps.{is_same}
+use Rattle.rt_stamps.proofs.Order.{same_refl}
+use Rattle.rt_store.specs.declared.cell.Cell.{Cell}
+use Rattle.rt_store.specs.Cells.{EndsFinal, visible_of, text_of, gone_in, is_in_span}
+use Rattle.rt_edits.specs.Known.{stamps_of, AreDistinct, IsKnown, AreKnown}
+use Rattle.rt_edits.specs.Removals.{is_covered, stamps_at, gone_at}
+use Rattle.rt_edits.specs.declared.range.Range.{Range}
+use Rattle.rt_edits.proofs.CellLaws.{final_parts}
+use Rattle.rt_edits.proofs.PlaceLaws.{length_text}
+use Rattle.rt_edits.proofs.StampLaws.{uncovered_from}
+use Rattle.rt_edits.specs.Spans.{is_among, is_in_spans, gone_in_any}
+use Rattle.rt_edits.proofs.DistinctLaws.{split, first_apart, others_distinct, differs, stamps_within}
+
+-- a cell whose stamp passes a test is gone
+abbrev pub gone_by : {T : Type 0} → (Stamp → Bool) → Cell T → Cell T
+gone_by test cell = cond (test cell.stamp) (record cell { gone = true }) cell
+
+-- of the stamps of cells, a test finds those at the places
+abbrev pub Finds : {T : Type 0} → (Stamp → Bool) → (ℕ → Bool) → ℕ → List (Cell T) → Type 0
+Finds test r p cells = (s : Stamp) → is_among (stamps_of cells) s ≡ true → test s ≡ is_among (stamps_at r p cells) s
+
+stays_gone : {T : Type 0} (b : Bool) (cell : Cell T) → cell.gone ≡ true → cond b (record cell { gone = true }) cell ≡ cell
+stays_gone true cell e = λ i. record cell { gone = sym e i }
+stays_gone false cell e = refl
+
+marked_gone : {T : Type 0} (test : Stamp → Bool) (r : ℕ → Bool) (p : ℕ) (c : Cell T) (cs : List (Cell T)) → c.gone ≡ true → Finds test r p (c ∷ cs)
+    → (Finds test r p cs → map (gone_by test) cs ≡ gone_at r p cs) → map (gone_by test) (c ∷ cs) ≡ gone_at r p (c ∷ cs)
+marked_gone test r p c cs e h ih =
+    let at : stamps_at r p (c ∷ cs) ≡ stamps_at r p cs = cond-true c.gone _ _ e in
+    let rest : map (gone_by test) cs ≡ gone_at r p cs = ih (λ s k. h s (or_right (is_same c.stamp s) _ k) ∙ ap (λ l. is_among l s) at) in
+    let all : gone_at r p (c ∷ cs) ≡ c ∷ gone_at r p cs = cond-true c.gone _ _ e in
+    (λ i. stays_gone (test c.stamp) c e i ∷ rest i) ∙ sym all
+
+marked_taken : {T : Type 0} (test : Stamp → Bool) (r : ℕ → Bool) (p : ℕ) (c : Cell T) (cs : List (Cell T)) → c.gone ≡ false → r p ≡ true → is_among (stamps_of cs) c.stamp ≡ false → Finds test r p (c ∷ cs)
+    → (Finds test r (p + 1) cs → map (gone_by test) cs ≡ gone_at r (p + 1) cs) → map (gone_by test) (c ∷ cs) ≡ gone_at r p (c ∷ cs)
+marked_taken test r p c cs e f new h ih =
+    let at : stamps_at r p (c ∷ cs) ≡ c.stamp ∷ stamps_at r (p + 1) cs = cond-false c.gone _ _ e ∙ cond-true (r p) _ _ f in
+    let found : test c.stamp ≡ true = h c.stamp (or_left (is_same c.stamp c.stamp) _ (same_refl c.stamp)) ∙ ap (λ l. is_among l c.stamp) at ∙ or_left (is_same c.stamp c.stamp) _ (same_refl c.stamp) in
+    let first : gone_by test c ≡ record c { gone = r p } = cond-true (test c.stamp) _ _ found ∙ (λ i. record c { gone = sym f i }) in
+    let rest : map (gone_by test) cs ≡ gone_at r (p + 1) cs =
+    ih (λ s k. h s (or_right (is_same c.stamp s) _ k) ∙ ap (λ l. is_among l s) at ∙ ap (λ b. b || is_among (stamps_at r (p + 1) cs) s) (differs c.stamp s (stamps_of cs) new k)) in
+    let all : gone_at r p (c ∷ cs) ≡ record c { gone = r p } ∷ gone_at r (p + 1) cs = cond-false c.gone _ _ e in
+    (λ i. first i ∷ rest i) ∙ sym all
+
+marked_left : {T : Type 0} (test : Stamp → Bool) (r : ℕ → Bool) (p : ℕ) (c : Cell T) (cs : List (Cell T)) → c.gone ≡ false → r p ≡ false → is_among (stamps_of cs) c.stamp ≡ false → Finds test r p (c ∷ cs)
+    → (Finds test r (p + 1) cs → map (gone_by test) cs ≡ gone_at r (p + 1) cs) → map (gone_by test) (c ∷ cs) ≡ gone_at r p (c ∷ cs)
+marked_left test r p c cs e f new h ih =
+    let at : stamps_at r p (c ∷ cs) ≡ stamps_at r (p + 1) cs = cond-false c.gone _ _ e ∙ cond-false (r p) _ _ f in
+    let found : test c.stamp ≡ false = h c.stamp (or_left (is_same c.stamp c.stamp) _ (same_refl c.stamp)) ∙ ap (λ l. is_among l c.stamp) at ∙ stamps_within r (p + 1) cs c.stamp new in
+    let same : c.gone ≡ r p = e ∙ sym f in
+    let first : gone_by test c ≡ record c { gone = r p } = cond-false (test c.stamp) _ _ found ∙ (λ i. record c { gone = same i }) in
+    let rest : map (gone_by test) cs ≡ gone_at r (p + 1) cs = ih (λ s k. h s (or_right (is_same c.stamp s) _ k) ∙ ap (λ l. is_among l s) at) in
+    let all : gone_at r p (c ∷ cs) ≡ record c { gone = r p } ∷ gone_at r (p + 1) cs = cond-false c.gone _ _ e in
+    (λ i. first i ∷ rest i) ∙ sym all
+
+marked : {T : Type 0} (test : Stamp → Bool) (r : ℕ → Bool) (p : ℕ) (cells : List (Cell T)) → AreDistinct cells → Finds test r p cells → map (gone_by test) cells ≡ gone_at r p cells
+marked test r p [] d h = refl
+marked test r p (c ∷ cs) d h =
+    let new = first_apart c.stamp (stamps_of cs) d in
+    let rest = others_distinct c.stamp (stamps_of cs) d in
+    split c.gone
+    (λ e. marked_gone test r p c cs e h (λ k. marked test r p cs rest k))
+    (λ e. split (r p)
+    (λ f. marked_taken test r p c cs e f new h (λ k. marked test r (p + 1) cs rest k))
+    (λ f. marked_left test r p c cs e f new h (λ k. marked test r (p + 1) cs rest k)))
+
+-- where spans hold the stamps at the places, their cells are gone and no others
+pub gone_from_spans : {T : Type 0} (r : ℕ → Bool) (cells : List (Cell T)) (spans : List Span) → AreDistinct cells
+    → ((s : Stamp) → is_in_spans spans s ≡ is_among (stamps_at r 0 cells) s) → map (gone_in_any spans) cells ≡ gone_at r 0 cells
+gone_from_spans r cells spans d h = marked (is_in_spans spans) r 0 cells d (λ s k. h s)
+
+-- one span after another
+one_more : {T : Type 0} (b d : Bool) (c : Cell T) → cond d (record (cond b (record c { gone = true }) c) { gone = true }) (cond b (record c { gone = true }) c) ≡ cond (b || d) (record c { gone = true }) c
+one_more true true c = refl
+one_more true false c = refl
+one_more false true c = refl
+one_more false false c = refl
+
+same_stamp : {T : Type 0} (b : Bool) (c : Cell T) → (cond b (record c { gone = true }) c).stamp ≡ c.stamp
+same_stamp true c = refl
+same_stamp false c = refl
+
+gone_more_cell : {T : Type 0} (span : Span) (spans : List Span) (c : Cell T) → gone_in_any spans (gone_in span c) ≡ gone_in_any (span ∷ spans) c
+gone_more_cell span spans c =
+    let b = is_in_span span c.stamp in
+    ap (λ s. cond (is_in_spans spans s) (record (gone_in span c) { gone = true }) (gone_in span c)) (same_stamp b c) ∙ one_more b (is_in_spans spans c.stamp) c
+
+pub gone_more : {T : Type 0} (span : Span) (spans : List Span) (cells : List (Cell T)) → map (gone_in_any spans) (map (gone_in span) cells) ≡ map (gone_in_any (span ∷ spans)) cells
+gone_more span spans [] = refl
+gone_more span spans (c ∷ cs) = λ i. gone_more_cell span spans c i ∷ gone_more span spans cs i
+
+pub gone_more_at : {T : Type 0} (cells : List (Cell T)) (spans : List Span) (i : ℕ) (d : Span) → i < length spans
+    → map (gone_in_any (drop (i + 1) spans)) (map (gone_in (get_or spans i d)) cells) ≡ map (gone_in_any (drop i spans)) cells
+gone_more_at cells spans i d h = gone_more (get_or spans i d) (drop (i + 1) spans) cells ∙ ap (λ l. map (gone_in_any l) cells) (sym (drop_more spans i d h))
+
+pub gone_none : {T : Type 0} (cells : List (Cell T)) → map (gone_in_any []) cells ≡ cells
+gone_none [] = refl
+gone_none (c ∷ cs) = ap (λ l. c ∷ l) (gone_none cs)
+
+-- the stamps stay
+pub stamps_stay : {T : Type 0} (spans : List Span) (cells : List (Cell T)) → stamps_of (map (gone_in_any spans) cells) ≡ stamps_of cells
+stamps_stay spans [] = refl
+stamps_stay spans (c ∷ cs) = λ i. same_stamp (is_in_spans spans c.stamp) c i ∷ stamps_stay spans cs i
+
+-- THE LAST NEWLINE
+
+last_tail : (x y : Cell ℕ) (xs : List (Cell ℕ)) → EndsFinal (x ∷ y ∷ xs) → EndsFinal (y ∷ xs)
+last_tail x y xs h = simp unary_clauses (simp unary_clauses at h)
+
+final_among : (cells : List (Cell ℕ)) → EndsFinal cells → is_among (stamps_of cells) FINAL ≡ true
+final_among [] h = let bad : ⊥ = cc in absurd bad
+final_among (x ∷ []) h = let parts = final_parts x h in or_left (is_same x.stamp FINAL) _ (ap (λ s. is_same s FINAL) parts.0 ∙ same_refl FINAL)
+final_among (x ∷ y ∷ xs) h = or_right (is_same x.stamp FINAL) _ (final_among (y ∷ xs) (last_tail x y xs h))
+
+some_step : {T : Type 0} (b : Bool) (x : Cell T) (xs : List (Cell T)) → 1 ≤ length xs → 1 ≤ length (cond (not b) (x ∷ xs) xs)
+some_step true x xs h = h
+some_step false x xs h = omega arith
+
+pub some_visible : (cells : List (Cell ℕ)) → EndsFinal cells → 1 ≤ length (visible_of cells)
+some_visible [] h = let bad : ⊥ = cc in absurd bad
+some_visible (x ∷ []) h = let parts = final_parts x h in rw parts.2 (omega arith)
+some_visible (x ∷ y ∷ xs) h = some_step x.gone x (visible_of (y ∷ xs)) (some_visible (y ∷ xs) (last_tail x y xs h))
+
+final_step : {T : Type 0} (x : Stamp) (b d : Bool) (p n : ℕ) (r : ℕ → Bool) (c : Cell T) (vs : List (Cell T)) (xs ys : List Stamp) → is_same x FINAL ≡ false → 1 ≤ length vs
+    → r (p + (length (cond (not b) (c ∷ vs) vs) - 1)) ≡ false
+    → (r (p + (length vs - 1)) ≡ false → is_among xs FINAL ≡ false) → (r (p + 1 + (length vs - 1)) ≡ false → is_among ys FINAL ≡ false)
+    → is_among (cond b xs (cond d (x ∷ ys) ys)) FINAL ≡ false
+final_step x true d p n r c vs xs ys e one h f g = f h
+final_step x false d p n r c vs xs ys e one h f g =
+    let at : p + (suc (length vs) - 1) ≡ p + 1 + (length vs - 1) = omega arith in
+    let k : is_among ys FINAL ≡ false = g (ap r (sym at) ∙ h) in
+    split d (λ q. rw q (or_from (is_same x FINAL) (is_among ys FINAL) e k)) (λ q. rw q k)
+
+-- its stamp is not one of those at places where its place isn't one
+pub final_stays : (r : ℕ → Bool) (p : ℕ) (cells : List (Cell ℕ)) → EndsFinal cells → AreDistinct cells → r (p + (length (visible_of cells) - 1)) ≡ false → is_among (stamps_at r p cells) FINAL ≡ false
+final_stays r p [] h d k = refl
+final_stays r p (x ∷ []) h d k =
+    let shown = (final_parts x h).2 in
+    let n : p + (length (visible_of (x ∷ [])) - 1) ≡ p = rw shown (omega arith) in
+    let off : r p ≡ false = ap r (sym n) ∙ k in
+    rw (shown, off) refl
+final_stays r p (x ∷ y ∷ xs) h d k =
+    let tail = last_tail x y xs h in
+    let new = first_apart x.stamp (stamps_of (y ∷ xs)) d in
+    let rest = others_distinct x.stamp (stamps_of (y ∷ xs)) d in
+    final_step x.stamp x.gone (r p) p 0 r x (visible_of (y ∷ xs)) (stamps_at r p (y ∷ xs)) (stamps_at r (p + 1) (y ∷ xs))
+    (differs x.stamp FINAL (stamps_of (y ∷ xs)) new (final_among (y ∷ xs) tail)) (some_visible (y ∷ xs) tail) k
+    (λ q. final_stays r p (y ∷ xs) tail rest q) (λ q. final_stays r (p + 1) (y ∷ xs) tail rest q)
+
+-- made gone by spans, cells are as many, as known and as different
+pub length_stays : {T : Type 0} (spans : List Span) (cells : List (Cell T)) → length (map (gone_in_any spans) cells) ≡ length cells
+length_stays spans cells = length-map cells (gone_in_any spans)
+
+pub known_stays : {T : Type 0} (count : ℕ) (spans : List Span) (cells : List (Cell T)) → AreKnown count cells → AreKnown count (map (gone_in_any spans) cells)
+known_stays count spans cells h =
+    All-map (λ cell. IsKnown count cell.stamp) (gone_in_any spans) cells
+    (λ k d lt. subst (IsKnown count) (sym (same_stamp (is_in_spans spans (get_or cells k d).stamp) (get_or cells k d))) (h k d lt))
+
+pub distinct_stays : {T : Type 0} (spans : List Span) (cells : List (Cell T)) → AreDistinct cells → AreDistinct (map (gone_in_any spans) cells)
+distinct_stays spans cells h = subst (IsDistinct is_same) (sym (stamps_stay spans cells)) h
+
+-- the last newline isn't in ranges that end before it
+pub last_uncovered : (cells : List (Cell ℕ)) (ranges : List Range) → EndsFinal cells → All (λ range. range.to < length (text_of cells)) ranges → is_covered ranges (0 + (length (visible_of cells) - 1)) ≡ false
+last_uncovered cells ranges ends h = uncovered_from ranges (length (text_of cells)) (0 + (length (visible_of cells) - 1)) h (omega (arith, length_text cells))

@@ -1,0 +1,130 @@
+-- Tags written at places: as far as the text goes, and everywhere.
+use Rattle.std.proofs.Common.{◌≡◌, ℕ, inl, inr, List, [], ◌∷◌, Bool, true, false, cond, not, ◌&&◌, All, length, map, filter, get_or, refl, sym, ◌∙◌, ap, subst, arith, add-zero}
+use Rattle.std.specs.Str.{bytes_eq}
+use Rattle.std.specs.Prelude.{nat_le, nat_lt}
+use Rattle.std.proofs.lemmas.Bool.{both_ways, cond-true, cond-false, and_from, or_left, le-leb, lt-ltb}
+use Rattle.std.proofs.lemmas.List.{length-map}
+use Rattle.std.proofs.lemmas.List.Elements.{All-head, All-tail}
+use Rattle.rt_stamps.specs.Words.{Word}
+use Rattle.rt_store.specs.Cells.{visible_of, text_of}
+use Rattle.rt_tags.specs.States.{is_on}
+use Rattle.rt_tags.specs.Tags.{sel, is_listed, without}
+use Rattle.rt_tags.proofs.Places.{split}
+use Rattle.rt_edits.specs.TagWrites.{listed_if, without_tags}
+use Rattle.rt_edits.specs.Flat.{Flat, TaggedCell}
+use Rattle.rt_edits.specs.Listed.{AreListed}
+use Rattle.rt_edits.specs.declared.range.Range.{Range}
+use Rattle.rt_edits.specs.Removals.{is_in, is_covered, cells_at}
+use Rattle.rt_edits.specs.TagWrites.{is_changed, changed_stamps, tagged, with_tag, with_tag_at, with_tags_at}
+use Rattle.rt_edits.specs.Working.{is_shared_of, all_forgotten}
+use Rattle.rt_edits.proofs.ListedWrites.{everywhere, every_cell, visible_after}
+use Rattle.rt_edits.proofs.Putting.{tagged_state}
+use Rattle.rt_edits.proofs.StateChanges.{AreAlike, cells_alike, text_changed, visible_changed}
+use Rattle.rt_edits.proofs.WriterLaws.{tagged_on}
+
+-- AS FAR AS THE TEXT GOES
+
+pub tag_alike : (flat : Flat) (r s : ℕ → Bool) (on : Bool) (name : Word) → AreAlike r s 0 (length (visible_of flat.cells)) → with_tag_at flat r on name ≡ with_tag_at flat s on name
+tag_alike flat r s on name h = ap (λ l. with_tag flat name on (changed_stamps name on l)) (cells_alike r s 0 flat.cells h)
+
+-- as many characters are visible
+as_many : (flat : Flat) (s : ℕ → Bool) (on : Bool) (name : Word) → length (visible_of (with_tag_at flat s on name).cells) ≡ length (visible_of flat.cells)
+as_many flat s on name =
+    let stamps = changed_stamps name on (cells_at s 0 flat.cells) in
+    let g : TaggedCell → TaggedCell = tagged flat.site flat.count name on stamps in
+    ap length (visible_changed g (tagged_state flat.site flat.count name on stamps) flat.cells) ∙ length-map (visible_of flat.cells) g
+
+pub tags_alike_at : (names : List Word) (flat : Flat) (r s : ℕ → Bool) (on : Bool) → AreAlike r s 0 (length (visible_of flat.cells)) → with_tags_at flat r on names ≡ with_tags_at flat s on names
+tags_alike_at [] flat r s on h = refl
+tags_alike_at (name ∷ names) flat r s on h =
+    ap (λ (f : Flat). with_tags_at f r on names) (tag_alike flat r s on name h) ∙ tags_alike_at names (with_tag_at flat s on name) r s on (subst (AreAlike r s 0) (sym (as_many flat s on name)) h)
+
+-- the text stays
+pub tag_text : (flat : Flat) (s : ℕ → Bool) (on : Bool) (name : Word) → text_of (with_tag_at flat s on name).cells ≡ text_of flat.cells
+tag_text flat s on name =
+    let stamps = changed_stamps name on (cells_at s 0 flat.cells) in
+    text_changed (tagged flat.site flat.count name on stamps) (tagged_state flat.site flat.count name on stamps) flat.cells
+
+pub listed_text : (on : Bool) (name : Word) (flat : Flat) → text_of (listed_if on name flat).cells ≡ text_of flat.cells
+listed_text true name flat = refl
+listed_text false name flat = refl
+
+pub listed_count : (on : Bool) (name : Word) (flat : Flat) → (listed_if on name flat).count ≡ flat.count
+listed_count true name flat = refl
+listed_count false name flat = refl
+
+-- TAGS THAT ARE DELETED
+
+with_other_tags : (names : List Word) (flat : Flat) (tags : List Word) (s : ℕ → Bool) (on : Bool) → with_tags_at (record flat { tags = tags }) s on names ≡ record (with_tags_at flat s on names) { tags = tags }
+with_other_tags [] flat tags s on = refl
+with_other_tags (name ∷ names) flat tags s on = with_other_tags names (with_tag_at flat s on name) tags s on
+
+none_changed : (name : Word) (cells : List TaggedCell) → All (λ c. is_on name c.state ≡ false) cells → filter (is_changed name false) cells ≡ []
+none_changed name [] h = refl
+none_changed name (c ∷ cs) h =
+    let P : TaggedCell → Type 0 = λ c. is_on name c.state ≡ false in
+    cond-false (is_on name c.state) (c ∷ filter (is_changed name false) cs) (filter (is_changed name false) cs) (All-head P c cs h) ∙ none_changed name cs (All-tail P c cs h)
+
+map_same : (cells : List TaggedCell) → map (λ (c : TaggedCell). c) cells ≡ cells
+map_same [] = refl
+map_same (c ∷ cs) = ap (λ l. c ∷ l) (map_same cs)
+
+-- a tag that no character has
+absent_tag : (flat : Flat) (name : Word) → All (λ c. is_on name c.state ≡ false) (visible_of flat.cells) → with_tag_at flat everywhere false name ≡ flat
+absent_tag flat name h =
+    let none : changed_stamps name false (cells_at everywhere 0 flat.cells) ≡ [] = ap (changed_stamps name false) (every_cell 0 flat.cells) ∙ ap (map (λ (c : TaggedCell). c.stamp)) (none_changed name (visible_of flat.cells) h) in
+    ap (with_tag flat name false) none ∙ (λ i. record flat { cells = map_same flat.cells i; count = add-zero flat.count i })
+
+-- where no character has a tag, none has it after another was taken off
+still_absent : (flat : Flat) (name q : Word) → All (λ c. is_on q c.state ≡ false) (visible_of flat.cells) → All (λ c. is_on q c.state ≡ false) (visible_of (with_tag_at flat everywhere false name).cells)
+still_absent flat name q h =
+    let stamps = changed_stamps name false (cells_at everywhere 0 flat.cells) in
+    visible_after (λ c. is_on q c.state ≡ false) (λ c. is_on q c.state ≡ false) flat everywhere false name
+    (λ cell k. split (is_on q (tagged flat.site flat.count name false stamps cell).state)
+    (λ t. elim (tagged_on flat.site flat.count name false stamps q cell t) [
+      | inl before ↦ absurd (both_ways (is_on q cell.state) k before)
+      | inr put ↦ absurd (both_ways false refl put.1)
+    ])
+    (λ f. f)) h
+
+-- no visible character has a tag that isn't among some
+abbrev pub AreAmong : List Word → List TaggedCell → Type 0
+AreAmong tags cells = (name : Word) → is_listed name tags ≡ false → All (λ c. is_on name c.state ≡ false) (visible_of cells)
+
+pub among_listed : (tags : List Word) (cells : List TaggedCell) → AreListed tags cells → AreAmong tags cells
+among_listed tags cells listed name h =
+    λ k d lt. split (is_on name (get_or (visible_of cells) k d).state)
+    (λ t. absurd (both_ways (is_listed name tags) h (listed.each k d lt name t)))
+    (λ f. f)
+
+-- deleting tags takes those off that are listed, but for `sel`
+pub deleted_tags : (names tags : List Word) (flat : Flat) → AreAmong tags flat.cells
+    → without_tags flat names ≡ record (with_tags_at flat everywhere false (filter (is_shared_of tags) names)) { tags = all_forgotten names flat.tags }
+deleted_tags [] tags flat h = refl
+deleted_tags (name ∷ names) tags flat h =
+    let off : Flat = with_tag_at flat everywhere false name in
+    let next : Flat = record off { tags = without name flat.tags } in
+    let rest = filter (is_shared_of tags) names in
+    split (bytes_eq name sel)
+    (λ t. ap (λ f. without_tags f names) (cond-true (bytes_eq name sel) flat next t) ∙ deleted_tags names tags flat h
+    ∙ (λ i. record (with_tags_at flat everywhere false (cond (not (sym t i) && is_listed name tags) (name ∷ rest) rest)) { tags = all_forgotten names (cond (sym t i) flat.tags (without name flat.tags)) }))
+    (λ f. ap (λ f. without_tags f names) (cond-false (bytes_eq name sel) flat next f)
+    ∙ split (is_listed name tags)
+    (λ t. deleted_tags names tags next (λ q k. still_absent flat name q (h q k))
+    ∙ ap (λ (g : Flat). record g { tags = all_forgotten names (without name flat.tags) }) (with_other_tags rest off (without name flat.tags) everywhere false)
+    ∙ (λ i. record (with_tags_at flat everywhere false (cond (not (sym f i) && sym t i) (name ∷ rest) rest)) { tags = all_forgotten names (cond (sym f i) flat.tags (without name flat.tags)) }))
+    (λ e. let same : next ≡ record flat { tags = without name flat.tags } = ap (λ (g : Flat). record g { tags = without name flat.tags }) (absent_tag flat name (h name e)) in
+    ap (λ g. without_tags g names) same ∙ deleted_tags names tags (record flat { tags = without name flat.tags }) h
+    ∙ ap (λ (g : Flat). record g { tags = all_forgotten names (without name flat.tags) }) (with_other_tags rest flat (without name flat.tags) everywhere false)
+    ∙ (λ i. record (with_tags_at flat everywhere false (cond (not (sym f i) && sym e i) (name ∷ rest) rest)) { tags = all_forgotten names (cond (sym f i) flat.tags (without name flat.tags)) })))
+
+-- the same, by the numbers of those tags, at all places of the text
+pub deleted_numbers : (flat : Flat) (names tags numbers : List Word) (n : ℕ) → n ≡ length (visible_of flat.cells) → numbers ≡ filter (is_shared_of tags) names → AreAmong tags flat.cells
+    → without_tags flat names ≡ record (with_tags_at flat (is_covered (record { from = 0; to = n } ∷ [])) false numbers) { tags = all_forgotten names flat.tags }
+deleted_numbers flat names tags numbers n e f h =
+    let range : Range = record { from = 0; to = n } in
+    let alike : AreAlike (is_covered (range ∷ [])) everywhere 0 (length (visible_of flat.cells)) =
+    λ q l m. or_left (is_in range q) false (and_from (nat_le 0 q) (nat_lt q n) (le-leb 0 q (omega arith)) (lt-ltb q n (omega (arith, m, e)))) in
+    deleted_tags names tags flat h
+    ∙ ap (λ (g : Flat). record g { tags = all_forgotten names flat.tags })
+    (ap (with_tags_at flat everywhere false) (sym f) ∙ sym (tags_alike_at numbers flat (is_covered (range ∷ [])) everywhere false alike))

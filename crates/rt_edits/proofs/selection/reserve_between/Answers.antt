@@ -1,0 +1,34 @@
+use Rattle.std.proofs.Common.{◌≡◌, ◌<◌, ◌≤◌, ◌&&◌, ◌∙◌, All, arith, length, subst, true}
+use Rattle.std.proofs.lemmas.List.{length-set, take_all}
+use Rattle.rt_edits.specs.declared.selection.Selection.{Selection}
+use Rattle.rt_edits.specs.Selected.{stamps_in, room_in}
+use Rattle.rt_edits.specs.Spans.{is_among}
+use Rattle.rt_edits.proofs.SelectionLaws.{all_more, same_set}
+use Rattle.rt_edits.proofs.selection.reserve_between.Goals as goal
+
+pub returns-in_err-reserve_if-clause-same : goal.returns-in_err-reserve_if-clause-same
+returns-in_err-reserve_if-clause-same c =
+    let ys = c.loop-i.selections in
+    let i = c.loop-i.i in
+    let lt : i < length ys = omega (arith, c.loop-i-test.true, c.loop-i.invariant.len) in
+    same_set stamps_in ys i c.reserve_if.new.self c.index-selections-i.result c.reserve_if.ensures.same lt ∙ c.loop-i.invariant.same
+
+pub loop-i-preserved : goal.loop-i-preserved
+loop-i-preserved c =
+    let ys = c.loop-i.selections in
+    let i = c.loop-i.i in
+    let x = c.reserve_if.new.self in
+    let lt : i < length ys = omega (arith, c.loop-i-test.true, c.loop-i.invariant.len) in
+    let P : Selection → Type 0 = λ s. (is_among (stamps_in s) c.args.left && is_among (stamps_in s) c.args.right) ≡ true → c.args.more ≤ room_in s in
+    record {
+      same = same_set stamps_in ys i x c.index-selections-i.result c.reserve_if.ensures.same lt ∙ c.loop-i.invariant.same;
+      room = all_more P ys i x lt c.loop-i.invariant.room c.in_ok-reserve_if.ensures.room;
+      len = length-set ys i x ∙ c.loop-i.invariant.len;
+    }
+
+pub returns-clause-room : goal.returns-clause-room
+returns-clause-room c =
+    let ys = c.loop-i.selections in
+    let P : Selection → Type 0 = λ s. (is_among (stamps_in s) c.args.left && is_among (stamps_in s) c.args.right) ≡ true → c.args.more ≤ room_in s in
+    let end : length ys ≤ c.loop-i.i = omega (arith, c.loop-i-test.false, c.loop-i.invariant.len) in
+    subst (All P) (take_all c.loop-i.i ys end) c.loop-i.invariant.room

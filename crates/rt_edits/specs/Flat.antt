@@ -1,0 +1,41 @@
+-- A document as a flat list of cells.
+use Rattle.std.specs.Prelude.{ℕ, zero, suc, ◌+◌, List, [], ◌∷◌, ◌++◌, take, drop, false, slice_get, unwrap_or, option_map}
+use Rattle.rt_marks.specs.Marks.{Mark}
+use Rattle.rt_stamps.specs.declared.stamp.Stamp.{Stamp}
+use Rattle.rt_stamps.specs.declared.stamp.TheConstants.{ROOT}
+use Rattle.rt_store.specs.declared.cell.Cell.{Cell}
+use Rattle.rt_store.specs.Cells.{visible_of, after_element, final_cell, map_state}
+use Rattle.rt_tags.specs.States.{Write}
+use Rattle.rt_tags.specs.Tags.{sel}
+
+-- a cell with the last write of each tag on its character
+abbrev pub TaggedCell : Type 0
+TaggedCell = Cell (List Write)
+
+-- a document: its cells, its site, the most cells that it may have, the greatest count of its operations, the site's marks
+-- in their order, and the tags that the site lists, lowest priority first
+pub record Flat : Type 0 where
+  pub cells : List TaggedCell
+  pub site : ℕ
+  pub limit : ℕ
+  pub count : ℕ
+  pub marks : List Mark
+  pub tags : List (List ℕ)
+
+-- a new document is the final newline alone, without tags; it has no marks, and lists the tag `sel`
+abbrev pub new_flat : ℕ → ℕ → Flat
+new_flat site limit = record { cells = map_state (λ _. []) final_cell ∷ []; site = site; limit = limit; count = 0; marks = []; tags = sel ∷ [] }
+
+-- new cells for characters, from a count on, in one state
+abbrev pub cells_from : {T : Type 0} → ℕ → ℕ → T → List ℕ → List (Cell T)
+cells_from count site state [] = []
+cells_from count site state (c ∷ cs) = record { stamp = record { count = count; site = site }; ch = c; gone = false; state = state } ∷ cells_from (count + 1) site state cs
+
+-- the stamp of the visible cell before a place, which is the root's at the beginning
+abbrev pub left_of : {T : Type 0} → List (Cell T) → ℕ → Stamp
+left_of cells zero = ROOT
+left_of cells (suc place) = unwrap_or (option_map (λ cell. cell.stamp) (slice_get (visible_of cells) place)) ROOT
+
+-- new cells, put in directly after an element
+abbrev pub put_after : {T : Type 0} → List (Cell T) → Stamp → List (Cell T) → List (Cell T)
+put_after cells left new = let at = after_element cells left in take at cells ++ new ++ drop at cells

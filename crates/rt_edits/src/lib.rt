@@ -1,0 +1,23 @@
+//! What edits do to the cells of a text: the plan of an insertion, the places and spans of a removal,
+//! tag operations, and the selected characters of a widget.
+#![tactic(auto)]
+
+pub mod insertion;
+pub mod laws;
+pub mod piece;
+pub mod plan;
+pub mod range;
+pub mod removal;
+pub mod retagging;
+pub mod selection;
+pub mod span;
+pub mod tagging;
+
+pub use piece::Piece;
+pub use range::Range;
+pub use selection::Selection;
+
+#[cfg(test)]
+mod removal_tests;
+#[cfg(test)]
+mod selection_tests;

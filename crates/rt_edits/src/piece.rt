@@ -1,0 +1,43 @@
+// Pieces of text to insert.
+ghost use Rattle.std.specs.Prelude.{◌≡◌, map, string_bytes};
+
+use std::marker::Model;
+
+/// Characters to insert, with the list of their tags.
+#[derive(Drop)]
+pub struct Piece {
+    text: String,
+    tags: Vec<String>,
+}
+
+impl Model for Piece {
+    ghost use Rattle.std.specs.Prelude.{map, string_bytes};
+    ghost use Rattle.rt_edits.specs.Insertions.{Piece};
+
+    ghost Value = { Piece };
+
+    ghost view = { λ p. record { text = string_bytes p.text; tags = map (λ w. string_bytes w) p.tags.items } };
+}
+
+impl Piece {
+    /// A text with the names of its tags, in any order, repeated or not.
+    pub fn new(text: String, tags: Vec<String>) -> Piece
+        ensures { result ≡ record { text = string_bytes text; tags = map (λ w. string_bytes w) tags.items } }
+    {
+        Piece { text, tags }
+    }
+
+    /// The characters.
+    pub fn text(&self) -> &str
+        ensures { result.now ≡ self.now.text }
+    {
+        &self.text
+    }
+
+    /// The names of the tags.
+    pub fn tags(&self) -> &[String]
+        ensures { map (λ w. string_bytes w) result.now ≡ self.now.tags }
+    {
+        &self.tags
+    }
+}

@@ -1,0 +1,58 @@
+use crate::Selection;
+use crate::selection::{add_between, remove_from_each, reserve_between};
+use rt_stamps::Stamp;
+use std::process::Abort;
+use std::test::Fail;
+
+fn stamp(count: u64) -> Stamp {
+    Stamp { count, site: 1 }
+}
+
+// Stops a test where other stamps of the counts from 1 to 5 are selected than those that are told.
+fn has_exactly(rt: &impl Abort, selection: &Selection, wanted: [bool; 5]) {
+    let mut count = 1u64;
+    for is_wanted in &wanted {
+        assert!(rt; selection.has(stamp(count)) == *is_wanted, "count {count}");
+        count = count.saturating_add(1);
+    }
+}
+
+// A stamp is selected once, however often it is added, and one removal takes it out.
+#[test]
+fn stamps_of_a_selection(rt: HostRuntime) -> Result<(), Fail> {
+    let alloc = rt.alloc();
+    let mut selection = Selection::of(alloc, &[stamp(1), stamp(2), stamp(1)])?;
+    has_exactly(&rt, &selection, [true, true, false, false, false]);
+    assert!(rt;
+        !selection.has(Stamp { count: 1, site: 2 }),
+        "another site's stamp"
+    );
+    selection.reserve(3)?;
+    selection.add(&[stamp(4), stamp(2), stamp(5)]);
+    has_exactly(&rt, &selection, [true, true, false, true, true]);
+    let other = Selection::of(alloc, &[stamp(1), stamp(3), stamp(4)])?;
+    selection.remove(&other);
+    has_exactly(&rt, &selection, [false, true, false, false, true]);
+    selection.remove_one(stamp(2));
+    has_exactly(&rt, &selection, [false, false, false, false, true]);
+    has_exactly(&rt, &other, [true, false, true, true, false]);
+    Ok(())
+}
+
+// New characters are selected where both neighbours are.
+#[test]
+fn between_selected_neighbours(rt: HostRuntime) -> Result<(), Fail> {
+    let alloc = rt.alloc();
+    let (left, right) = (stamp(1), stamp(4));
+    let both = Selection::of(alloc, &[left, right])?;
+    let one = Selection::of(alloc, &[left])?;
+    let mut selections = [both, one];
+    reserve_between(&mut selections, left, right, 2)?;
+    add_between(&mut selections, left, right, &[stamp(2), stamp(3)]);
+    has_exactly(&rt, &selections[0], [true, true, true, true, false]);
+    has_exactly(&rt, &selections[1], [true, false, false, false, false]);
+    remove_from_each(&mut selections, left);
+    has_exactly(&rt, &selections[0], [false, true, true, true, false]);
+    has_exactly(&rt, &selections[1], [false, false, false, false, false]);
+    Ok(())
+}

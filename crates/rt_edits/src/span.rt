@@ -1,0 +1,162 @@
+// Spans of removed stamps.
+ghost use Rattle.std.specs.Prelude.{◌≡◌, ◌+◌, ◌*◌, ◌<◌, ◌≤◌, ◌++◌, All, IfOk, IfErr, OnOk, true, false, map, take, drop, ◌-◌, length, IsPermutation};
+ghost use Rattle.std.specs.List.{list_all, IsDistinct};
+ghost use Rattle.rt_stamps.specs.declared.limits.TheConstants.{MOST_CELLS};
+ghost use Rattle.rt_stamps.specs.declared.stamp.Stamp.{Stamp};
+ghost use Rattle.rt_stamps.specs.declared.stamp.TheConstants.{FINAL};
+ghost use Rattle.rt_stamps.specs.Stamps.{is_same};
+ghost use Rattle.rt_store.specs.Cells.{visible_of, text_of, HasRoom, Spends};
+ghost use Rattle.rt_store.specs.Tagged.{AreStates};
+ghost use Rattle.rt_edits.specs.Known.{AreDistinct};
+ghost use Rattle.rt_edits.specs.Removals.{is_covered, stamps_at, gone_at, span_count, operations_for, AreInOrder};
+ghost use Rattle.rt_edits.specs.Spans.{each_next, is_span, is_clear_of, precedes, next_stamp, last_stamp, is_in_spans, is_among, gone_in_any};
+
+use crate::Range;
+use rt_stamps::limits::MOST_SPANS;
+use rt_stamps::{Fault, Span, Stamp};
+use rt_store::TextStore;
+use rt_tags::StateTable;
+use std::alloc::Global;
+
+// Adds the stamps of the visible cells in a range.
+fn push_stamps<S: TextStore>(store: &S, range: Range, stamps: &mut Vec<Stamp>) -> Result<(), Fault>
+    requires order { range.from ≤ range.to }
+    requires within { range.to ≤ length (visible_of (S.list store.now)) }
+    ensures ok { OnOk result (stamps.new.items ≡ stamps.old.items ++ map (λ cell. cell.stamp) (take (range.to - range.from) (drop range.from (visible_of (S.list store.now))))) }
+    ensures err { IfErr result (λ fault. fault ≡ Fault.NoMemory) }
+{
+    for place in range.from..range.to {
+        stamps.push(store.cell_at(place).stamp)?;
+    }
+    Ok(())
+}
+
+/// The stamps of the visible cells in ranges, in the text's order.
+pub(crate) fn stamps_in<S: TextStore>(
+    alloc: Global,
+    store: &S,
+    removed: &[Range],
+) -> Result<Vec<Stamp>, Fault>
+    requires order { AreInOrder 0 removed.now }
+    requires within { All (λ range. range.to ≤ length (visible_of (S.list store.now))) removed.now }
+    ensures ok { IfOk result (λ stamps. stamps.items ≡ stamps_at (is_covered removed.now) 0 (S.list store.now)) }
+    ensures err { IfErr result (λ fault. fault ≡ Fault.NoMemory) }
+{
+    let mut stamps = Vec::new(alloc);
+    for range in removed {
+        push_stamps(store, *range, &mut stamps)?;
+    }
+    Ok(stamps)
+}
+
+// Stamps in the order of their sites and counts.
+fn sort(stamps: &mut Vec<Stamp>)
+    requires { IsDistinct is_same stamps.old.items }
+    ensures same { IsPermutation stamps.old.items stamps.new.items }
+    ensures sorted { each_next precedes stamps.new.items ≡ true }
+{
+    stamps.sort_unstable_by_key(|stamp| (stamp.site, stamp.count));
+}
+
+/// The span of one stamp.
+pub(crate) fn span_of(stamp: Stamp) -> Span
+    ensures { result ≡ record { site = stamp.site; first = stamp.count; last = stamp.count } }
+{
+    Span {
+        site: stamp.site,
+        first: stamp.count,
+        last: stamp.count,
+    }
+}
+
+/// Whether a stamp is the next one after a span.
+pub(crate) fn is_next(span: Span, stamp: Stamp) -> bool
+    ensures { result ≡ is_same stamp (next_stamp (last_stamp span)) }
+{
+    stamp.site == span.site && stamp.count > span.last && stamp.count - span.last == 1
+}
+
+// The longest runs of stamps that are in order.
+fn runs_of(alloc: Global, stamps: &[Stamp]) -> Result<Vec<Span>, Fault>
+    requires { each_next precedes stamps.now ≡ true }
+    ensures same { IfOk result (λ spans. (stamp : Stamp) → is_in_spans spans.items stamp ≡ is_among stamps.now stamp) }
+    ensures count { IfOk result (λ spans. length spans.items ≡ span_count stamps.now) }
+    ensures forward { IfOk result (λ spans. list_all is_span spans.items ≡ true) }
+    ensures clear { IfOk result (λ spans. each_next is_clear_of spans.items ≡ true) }
+    ensures err { IfErr result (λ fault. fault ≡ Fault.NoMemory) }
+{
+    let mut spans = Vec::new(alloc);
+    let Some((first, others)) = stamps.split_first() else {
+        return Ok(spans);
+    };
+    let mut span = span_of(*first);
+    for stamp in others {
+        if is_next(span, *stamp) {
+            span.last = stamp.count;
+        } else {
+            spans.push(span)?;
+            span = span_of(*stamp);
+        }
+    }
+    spans.push(span)?;
+    Ok(spans)
+}
+
+/// The spans of distinct stamps: the longest runs of consecutive counts of one site, by site and
+/// first count.
+pub(crate) fn spans_of(alloc: Global, stamps: Vec<Stamp>) -> Result<Vec<Span>, Fault>
+    requires { IsDistinct is_same stamps.items }
+    ensures same { IfOk result (λ spans. (stamp : Stamp) → is_in_spans spans.items stamp ≡ is_among stamps.items stamp) }
+    ensures count { IfOk result (λ spans. length spans.items ≡ span_count stamps.items) }
+    ensures forward { IfOk result (λ spans. list_all is_span spans.items ≡ true) }
+    ensures clear { IfOk result (λ spans. each_next is_clear_of spans.items ≡ true) }
+    ensures err { IfErr result (λ fault. fault ≡ Fault.NoMemory) }
+{
+    let mut sorted = stamps;
+    sort(&mut sorted);
+    runs_of(alloc, &sorted)
+}
+
+/// The spans of the stamps in ranges that end before the last newline. Want of memory.
+pub fn removed_spans<S: TextStore>(
+    alloc: Global,
+    store: &S,
+    removed: &[Range],
+) -> Result<Vec<Span>, Fault>
+    requires distinct { AreDistinct (S.list store.now) }
+    requires order { AreInOrder 0 removed.now }
+    requires within { All (λ range. range.to < length (text_of (S.list store.now))) removed.now }
+    ensures gone { IfOk result (λ spans. map (gone_in_any spans.items) (S.list store.now) ≡ gone_at (is_covered removed.now) 0 (S.list store.now)) }
+    ensures count { IfOk result (λ spans. length spans.items ≡ span_count (stamps_at (is_covered removed.now) 0 (S.list store.now))) }
+    ensures few { IfOk result (λ spans. length spans.items ≤ length (S.list store.now)) }
+    ensures forward { IfOk result (λ spans. list_all is_span spans.items ≡ true) }
+    ensures clear { IfOk result (λ spans. each_next is_clear_of spans.items ≡ true) }
+    ensures stays { IfOk result (λ spans. is_in_spans spans.items FINAL ≡ false) }
+    ensures err { IfErr result (λ fault. fault ≡ Fault.NoMemory) }
+{
+    let stamps = stamps_in(alloc, store, removed)?;
+    spans_of(alloc, stamps)
+}
+
+/// How many operations so many spans are.
+pub fn operations_for(spans: usize) -> u64
+    requires { spans ≤ MOST_CELLS }
+    ensures value { result ≡ operations_for spans }
+    ensures few { result ≤ spans }
+    ensures some { 1 ≤ spans → 1 ≤ result }
+{
+    spans.div_ceil(MOST_SPANS) as u64
+}
+
+/// Makes the cells of spans of stamps gone.
+pub fn set_all_gone<S: TextStore>(store: &mut S, states: &StateTable, spans: &[Span])
+    requires states { AreStates states.now (S.list store.old) }
+    requires stays { is_in_spans spans.now FINAL ≡ false }
+    requires room { HasRoom (S.room store.old) 0 (2 * length spans.now) }
+    ensures list { S.list store.new ≡ map (gone_in_any spans.now) (S.list store.old) }
+    ensures room { Spends (S.room store.old) (S.room store.new) 0 (2 * length spans.now) }
+{
+    for span in spans {
+        store.set_gone(states, *span);
+    }
+}

@@ -1,0 +1,104 @@
+-- The ranges of a tag stand in the text, and a tag that isn't listed has none.
+use Rattle.std.proofs.Common.{◌≡◌, ℕ, ◌+◌, ◌<◌, ◌≤◌, List, [], ◌∷◌, ◌++◌, append_assoc, length, get_or, take, reverse, All, true, false, refl, sym, ap, ◌∙◌, Bool, subst, arith, Some}
+use Rattle.std.specs.Prelude.{find, option_to_list}
+use Rattle.std.specs.Str.{bytes_eq}
+use Rattle.std.proofs.lemmas.Bool.{cond-true, cond-false}
+use Rattle.std.proofs.lemmas.Grind.{flat_map-append}
+use Rattle.std.proofs.lemmas.List.{length-map, reverse-append, take_more}
+use Rattle.std.proofs.lemmas.List.Elements.{All-append, All-cons, All-nil, All-head, All-tail}
+use Rattle.rt_marks.proofs.InOrder.{split}
+use Rattle.rt_marks.proofs.Names.{clash, same_name}
+use Rattle.rt_stamps.specs.declared.position.Position.{Position}
+use Rattle.rt_stamps.specs.Places.{position_at}
+use Rattle.rt_stamps.specs.Words.{Word}
+use Rattle.rt_store.specs.declared.cell.Cell.{Cell}
+use Rattle.rt_store.specs.Cells.{text_of, visible_of}
+use Rattle.rt_tags.specs.States.{is_on}
+use Rattle.rt_tags.specs.Tags.{is_listed, sel}
+use Rattle.rt_edits.specs.declared.range.Range.{Range}
+use Rattle.rt_edits.specs.Flat.{Flat, TaggedCell}
+use Rattle.rt_edits.specs.Listed.{AreListed}
+use Rattle.rt_edits.specs.Spans.{is_among}
+use Rattle.rt_text.specs.Widgets.{Own, is_tagged}
+use Rattle.rt_tagcmd.specs.TagCommands.{range_ends, tagged_ranges}
+use Rattle.rt_tagcmd.specs.TagRanges.{IsMaximal, begins_between, ranges_from, passing_ranges, next_range, previous_range}
+use Rattle.rt_tagcmd.proofs.TagRangeLaws.{each_maximal}
+
+-- WITHIN THE TEXT
+
+pub text_length : {T : Type 0} (cells : List (Cell T)) → length (text_of cells) ≡ length (visible_of cells)
+text_length cells = length-map (visible_of cells) (λ cell. cell.ch)
+
+abbrev pub IsWithin : ℕ → Range → Type 0
+IsWithin n range = (range.from ≤ n) × (range.to ≤ n)
+
+maximal_within : {A : Type 0} (test : A → Bool) (cs : List A) (r : Range) → IsMaximal test cs r → IsWithin (length cs) r
+maximal_within test cs r h =
+    let full : r.from < r.to = h.not_empty in
+    let within : r.to ≤ length cs = h.within in
+    (omega (arith, full, within), within)
+
+all_within : {A : Type 0} (test : A → Bool) (cs : List A) → All (IsWithin (length cs)) (passing_ranges test cs)
+all_within test cs = λ k d l. maximal_within test cs _ (each_maximal test cs k d l)
+
+pub tagged_within : (flat : Flat) (own : Own) (name : Word) → All (IsWithin (length (text_of flat.cells))) (tagged_ranges flat own name)
+tagged_within flat own name = subst (λ n. All (IsWithin n) (tagged_ranges flat own name)) (sym (text_length flat.cells)) (all_within (is_tagged own name) (visible_of flat.cells))
+
+all_found : {X : Type 0} (P : X → Type 0) (test : X → Bool) (xs : List X) → All P xs → All P (option_to_list (find test xs))
+all_found P test [] h = All-nil P
+all_found P test (x ∷ xs) h =
+    let more = all_found P test xs (All-tail P x xs h) in
+    split (test x)
+    (λ t. subst (λ o. All P (option_to_list o)) (sym (cond-true (test x) (Some x) (find test xs) t)) (All-cons P x [] (All-head P x xs h) (All-nil P)))
+    (λ f. subst (λ o. All P (option_to_list o)) (sym (cond-false (test x) (Some x) (find test xs) f)) more)
+
+all_reversed : {X : Type 0} (P : X → Type 0) (xs : List X) → All P xs → All P (reverse xs)
+all_reversed P [] h = h
+all_reversed P (x ∷ xs) h =
+    subst (All P) (sym (reverse-append (x ∷ []) xs)) (All-append P (reverse xs) (x ∷ []) (all_reversed P xs (All-tail P x xs h)) (All-cons P x [] (All-head P x xs h) (All-nil P)))
+
+pub next_within : (flat : Flat) (own : Own) (name : Word) (from to : ℕ) → All (IsWithin (length (text_of flat.cells))) (option_to_list (next_range from to (tagged_ranges flat own name)))
+next_within flat own name from to = all_found (IsWithin (length (text_of flat.cells))) (begins_between from to) (tagged_ranges flat own name) (tagged_within flat own name)
+
+pub previous_within : (flat : Flat) (own : Own) (name : Word) (to from : ℕ) → All (IsWithin (length (text_of flat.cells))) (option_to_list (previous_range to from (tagged_ranges flat own name)))
+previous_within flat own name to from =
+    let within = IsWithin (length (text_of flat.cells)) in
+    all_found within (begins_between from to) (reverse (tagged_ranges flat own name)) (all_reversed within (tagged_ranges flat own name) (tagged_within flat own name))
+
+-- POSITIONS
+
+pub ends_more : (flat : Flat) (ranges : List Range) (i : ℕ) (range : Range) → i < length ranges → range ≡ get_or ranges i range
+    → (range_ends flat (take i ranges) ++ position_at (text_of flat.cells) range.from ∷ []) ++ position_at (text_of flat.cells) range.to ∷ [] ≡ range_ends flat (take (i + 1) ranges)
+ends_more flat ranges i range l e =
+    let text = text_of flat.cells in
+    let ends : Range → List Position = λ r. position_at text r.from ∷ position_at text r.to ∷ [] in
+    append_assoc (range_ends flat (take i ranges)) (position_at text range.from ∷ []) (position_at text range.to ∷ [])
+    ∙ ap (λ r. range_ends flat (take i ranges) ++ ends r) e
+    ∙ sym (flat_map-append ends (take i ranges) (get_or ranges i range ∷ []))
+    ∙ ap (range_ends flat) (sym (take_more ranges i range l))
+
+-- A TAG THAT ISN'T LISTED
+
+none_passes : {A : Type 0} (test : A → Bool) (place : ℕ) (cs : List A) → All (λ c. test c ≡ false) cs → ranges_from test place cs ≡ []
+none_passes test place [] h = refl
+none_passes test place (c ∷ cs) h =
+    cond-false (test c) _ (ranges_from test (place + 1) cs) (All-head (λ x. test x ≡ false) c cs h)
+    ∙ none_passes test (place + 1) cs (All-tail (λ x. test x ≡ false) c cs h)
+
+not_sel : (name : Word) (tags : List Word) → is_listed sel tags ≡ true → is_listed name tags ≡ false → bytes_eq name sel ≡ false
+not_sel name tags s u =
+    split (bytes_eq name sel)
+    (λ t. absurd (clash _ (subst (λ v. is_listed v tags ≡ true) (sym (same_name name sel t)) s) u))
+    (λ f. f)
+
+not_on : (name : Word) (tags : List Word) (cell : TaggedCell) → is_listed name tags ≡ false → (is_on name cell.state ≡ true → is_listed name tags ≡ true) → is_on name cell.state ≡ false
+not_on name tags cell u h =
+    split (is_on name cell.state)
+    (λ t. absurd (clash _ (h t) u))
+    (λ f. f)
+
+pub unlisted : (flat : Flat) (own : Own) (name : Word) → AreListed flat.tags flat.cells → is_listed name flat.tags ≡ false → tagged_ranges flat own name ≡ []
+unlisted flat own name h u =
+    none_passes (is_tagged own name) 0 (visible_of flat.cells)
+    (λ k d l. let cell = get_or (visible_of flat.cells) k d in
+    cond-false (bytes_eq name sel) (is_among own.sel cell.stamp) (is_on name cell.state) (not_sel name flat.tags h.sel u) ∙ not_on name flat.tags cell u (h.each k d l name))

@@ -1,6 +1,0 @@
-use Rattle.std.proofs.Common.{◌≡◌, drop}
-use Rattle.rt_tagcmd.proofs.NameChecks.{checks}
-use Rattle.rt_tagcmd.proofs.mark.check_names.Given as goal
-
-abbrev pub invariant-loop-name : goal.invariant-loop-name
-invariant-loop-name l = checks (drop l.name-index l.names) ≡ checks l.names

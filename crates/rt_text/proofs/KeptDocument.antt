@@ -1,0 +1,115 @@
+-- Documents whose cells come into other states.
+use Rattle.std.proofs.Common.{◌≡◌, ℕ, ◌<◌, ◌≤◌, List, Bool, true, false, cond, ◌&&◌, Some, None, Result, Ok, Err, OnOk, All, length, map, refl, sym, ◌∙◌, ap, subst, arith}
+use Rattle.std.specs.Prelude.{OnErr, nat_lt}
+use Rattle.std.proofs.lemmas.Bool.{cond-true, cond-false, le-ltb, lt-ltb}
+use Rattle.std.proofs.lemmas.List.{length-map}
+use Rattle.rt_marks.specs.Marks.{Mark}
+use Rattle.rt_stamps.specs.declared.limits.TheConstants.{MOST_CELLS, GREATEST_COUNT}
+use Rattle.rt_stamps.specs.declared.fault.Fault.TheVariants.{ClockSpent}
+use Rattle.rt_stamps.specs.Words.{Word}
+use Rattle.rt_store.specs.declared.cell.Cell.{Cell}
+use Rattle.rt_store.specs.Cells.{text_of, visible_of}
+use Rattle.rt_store.specs.Tagged.{AreStates}
+use Rattle.rt_store.proofs.GivenStates.{kept_states}
+use Rattle.rt_tags.specs.States.{TagStates, IsState, KeepsIds, state_at}
+use Rattle.rt_tags.specs.Tags.{IsName, with_name}
+use Rattle.rt_edits.specs.declared.tagging.StateRun.{StateRun}
+use Rattle.rt_edits.specs.TagWrites.{listed_if}
+use Rattle.rt_text.specs.Commands.{clock_check}
+use Rattle.rt_edits.specs.Flat.{Flat, TaggedCell}
+use Rattle.rt_edits.specs.Known.{AreKnown, AreDistinct, AreWritten, stamps_of}
+use Rattle.rt_edits.specs.Listed.{AreListed}
+use Rattle.rt_edits.specs.Removals.{stamps_at}
+use Rattle.rt_edits.specs.TagWrites.{with_tag_at}
+use Rattle.rt_text.specs.Widgets.{AreSiteMarks}
+use Rattle.rt_edits.specs.Working.{shown, put_back_in_any}
+use Rattle.rt_edits.proofs.ListedWrites.{written_listed}
+use Rattle.rt_edits.proofs.Putting.{stamps_at_cells}
+use Rattle.rt_edits.proofs.Shown.{visible_shown, length_shown, stamps_at_shown, text_shown}
+use Rattle.rt_edits.proofs.StateChanges.{AreAlike, cells_alike, distinct_changed, given_changed, known_changed, known_from, runs_change, text_changed}
+use Rattle.rt_edits.proofs.Shown.{shown_later}
+use Rattle.rt_edits.proofs.WriterLaws.{tag_written}
+
+-- what is so of a document
+abbrev pub IsKept : ℕ → ℕ → List (Cell ℕ) → List Mark → TagStates → List Word → Type 0
+IsKept limit clock cells marks table tags =
+    (limit ≤ MOST_CELLS) × (length cells ≤ limit) × AreKnown clock cells × (clock ≤ GREATEST_COUNT) × AreDistinct cells × AreSiteMarks (length (text_of cells)) marks × AreStates table cells
+    × AreListed tags (map (shown table) cells) × AreWritten clock (map (shown table) cells)
+
+module _ (limit clock : ℕ) (cells : List (Cell ℕ)) (marks : List Mark) (old new : TagStates) (tags : List Word) (h : IsKept limit clock cells marks old tags) (keeps : KeepsIds old new) where
+  -- other states in the table
+  pub kept_table : IsKept limit clock cells marks new tags
+  kept_table =
+      let same : map (shown new) cells ≡ map (shown old) cells = shown_later old new cells keeps h.6 in
+      (h.0, h.1, h.2, h.3, h.4, h.5, kept_states old new cells keeps h.6, subst (AreListed tags) (sym same) h.7, subst (AreWritten clock) (sym same) h.8)
+
+  -- cells in other states
+  pub kept_runs : (runs : List StateRun) (later : ℕ) (names : List Word) → All (λ run. IsState new run.state) runs → clock ≤ later → later ≤ GREATEST_COUNT
+      → AreListed names (map (shown new) (map (put_back_in_any runs) cells)) → AreWritten later (map (shown new) (map (put_back_in_any runs) cells))
+      → IsKept limit later (map (put_back_in_any runs) cells) marks new names
+  kept_runs runs later names given le few listed written =
+      let g = put_back_in_any runs in
+      let len : length (map g cells) ≡ length cells = length-map cells g in (
+        h.0,
+        omega (arith, len, h.1),
+        known_from clock later (map g cells) le (known_changed g (runs_change runs) clock cells h.2),
+        few,
+        distinct_changed g (runs_change runs) cells h.4,
+        subst (λ n. AreSiteMarks n marks) (sym (ap length (text_changed g (runs_change runs) cells))) h.5,
+        given_changed new runs cells given (kept_states old new cells keeps h.6),
+        listed,
+        written,
+      )
+
+-- WRITTEN TAGS
+
+pub listed_as : (on : Bool) (name : Word) (flat : Flat) (cells : List TaggedCell) (count : ℕ)
+    → listed_if on name (record flat { cells = cells; count = count }) ≡ record flat { cells = cells; count = count; tags = cond on (with_name name flat.tags) flat.tags }
+listed_as true name flat cells count = refl
+listed_as false name flat cells count = refl
+
+-- what a written tag leaves
+pub written_stays : (on : Bool) (name : Word) (flat new : Flat) (places : ℕ → Bool) → IsName name → AreListed flat.tags flat.cells → AreWritten flat.count flat.cells → listed_if on name (with_tag_at flat places on name) ≡ new
+    → AreListed new.tags new.cells × AreWritten new.count new.cells
+written_stays on name flat new places h listed written e =
+    (subst (λ (f : Flat). AreListed f.tags f.cells) e (written_listed on flat places name h listed), subst (λ (f : Flat). AreWritten f.count f.cells) e (by on))
+  where
+    by : (b : Bool) → AreWritten (listed_if b name (with_tag_at flat places on name)).count (listed_if b name (with_tag_at flat places on name)).cells
+    by true = tag_written flat places on name written
+    by false = tag_written flat places on name written
+
+-- as many characters are visible
+pub as_visible : (table : TagStates) (cells : List (Cell ℕ)) (flat : Flat) → map (shown table) cells ≡ flat.cells → length (visible_of flat.cells) ≡ length (visible_of cells)
+as_visible table cells flat e = ap (λ l. length (visible_of l)) (sym e) ∙ ap length (visible_shown (state_at table) cells) ∙ length_shown (state_at table) (visible_of cells)
+
+-- TEXTS
+
+-- the text is that of the cells, whatever their states stand for
+pub text_of_shown : (table : TagStates) (cells : List (Cell ℕ)) → text_of (map (shown table) cells) ≡ text_of cells
+text_of_shown table cells = text_shown (state_at table) cells
+
+pub text_put : (old new : TagStates) (runs : List StateRun) (cells : List (Cell ℕ)) → text_of (map (shown new) (map (put_back_in_any runs) cells)) ≡ text_of (map (shown old) cells)
+text_put old new runs cells = text_of_shown new (map (put_back_in_any runs) cells) ∙ text_changed (put_back_in_any runs) (runs_change runs) cells ∙ sym (text_of_shown old cells)
+
+-- CLOCKS
+
+pub clock_fine : (n : ℕ) → n ≤ GREATEST_COUNT → clock_check n ≡ None
+clock_fine n h = cond-false (nat_lt GREATEST_COUNT n) (Some ClockSpent) None (le-ltb GREATEST_COUNT n h)
+
+pub clock_spent : (n : ℕ) → GREATEST_COUNT < n → clock_check n ≡ Some ClockSpent
+clock_spent n h = cond-true (nat_lt GREATEST_COUNT n) (Some ClockSpent) None (lt-ltb GREATEST_COUNT n h)
+
+-- what follows where a call is done, and where it is refused
+pub either_way : {T E A B C : Type 0} (r : Result T E) → (A → C) → (B → C) → OnOk r A → OnErr r B → C
+either_way (Ok x) f g a b = f a
+either_way (Err e) f g a b = g b
+
+-- PLACES
+
+pub alike_within : (n : ℕ) (within ranges : ℕ → Bool) → ((q : ℕ) → within q ≡ (nat_lt q n && ranges q)) → AreAlike within ranges 0 n
+alike_within n within ranges h = λ q l m. h q ∙ ap (λ b. b && ranges q) (lt-ltb q n (omega (arith, m)))
+
+pub stamps_alike : (table : TagStates) (cells : List (Cell ℕ)) (flat : Flat) (within ranges : ℕ → Bool) → map (shown table) cells ≡ flat.cells → AreAlike within ranges 0 (length (visible_of cells))
+    → stamps_at within 0 cells ≡ stamps_at ranges 0 flat.cells
+stamps_alike table cells flat within ranges e h =
+    sym (stamps_at_cells within 0 cells) ∙ ap stamps_of (cells_alike within ranges 0 cells h) ∙ stamps_at_cells ranges 0 cells ∙ sym (stamps_at_shown (state_at table) ranges 0 cells) ∙ ap (stamps_at ranges 0) e

@@ -1,0 +1,278 @@
+-- An insertion at a place, and what it leaves.
+use Rattle.std.proofs.Common.{◌≡◌, ℕ, ◌+◌, ◌-◌, ◌<◌, ◌≤◌, List, [], ◌∷◌, ◌++◌, Bool, true, false, cond, ◌&&◌, All, Option, None, Some, Result, Ok, Err, ◌⊎◌, inl, inr, OnErr, OnOk, length, take, drop, map, max, min, refl, sym, ◌∙◌, ap, subst, arith}
+use Rattle.std.specs.Prelude.{IfErr, nat_le}
+use Rattle.std.specs.Result.{result_err, result_unwrap_or}
+use Rattle.std.proofs.lemmas.Bool.{and_parts, le-ltb, leb-true, lt-ltb}
+use Rattle.std.proofs.lemmas.List.{length-append, length-map, take-append-drop}
+use Rattle.std.proofs.lemmas.List.Elements.{All-cons, All-nil}
+use Rattle.rt_index.specs.Index.{index_of}
+use Rattle.rt_marks.specs.Marks.{marks_inserted}
+use Rattle.rt_stamps.specs.declared.fault.Fault.{Fault}
+use Rattle.rt_stamps.specs.declared.fault.Fault.TheVariants.{BadName, ClockSpent, NoMemory, TextFull}
+use Rattle.rt_stamps.specs.declared.limits.TheConstants.{GREATEST_COUNT, MOST_NAME_BYTES}
+use Rattle.rt_stamps.specs.declared.stamp.Stamp.{Stamp}
+use Rattle.rt_stamps.specs.Outcomes.{Refuses, first_of, unless}
+use Rattle.rt_stamps.specs.Words.{Word}
+use Rattle.rt_store.specs.declared.cell.Cell.{Cell}
+use Rattle.rt_store.specs.Cells.{after_element, map_state, text_of, visible_of}
+use Rattle.rt_store.specs.Tagged.{AreStates}
+use Rattle.rt_tags.specs.States.{IsByName, IsState, KeepsIds, TagStates, name_at, state_at}
+use Rattle.rt_tags.specs.Tags.{IsName}
+use Rattle.rt_text.specs.Commands.{Edited, cell_check, clock_check, inserted, name_check, names_in, with_pieces_at}
+use Rattle.rt_edits.specs.declared.plan.Plan.{Plan}
+use Rattle.rt_edits.specs.Flat.{Flat, TaggedCell, left_of, put_after}
+use Rattle.rt_edits.specs.Insertions.{Insertion, Piece, all_listed, insertion_of, left_neighbour, right_neighbour}
+use Rattle.rt_edits.specs.Known.{AreKnown, AreWritten, IsWritten}
+use Rattle.rt_edits.specs.Listed.{AreListed}
+use Rattle.rt_edits.specs.Planned.{planned}
+use Rattle.rt_text.specs.Widgets.{Own, own_inserted, widget_of}
+use Rattle.rt_edits.specs.Working.{shown}
+use Rattle.rt_edits.proofs.CellLaws.{known_put}
+use Rattle.rt_edits.proofs.ListedLaws.{listed_more}
+use Rattle.rt_text.proofs.ListedText.{IsAmong, ListsAll, all_still, insertion_lists, left_among, listed_put, names_of_all, text_among}
+use Rattle.rt_text.proofs.MarkLaws.{length_put}
+use Rattle.rt_text.proofs.ReadyLaws.{first_none, first_some}
+use Rattle.rt_text.proofs.RisingLaws.{AreNew, insertion_new, new_known}
+use Rattle.rt_edits.proofs.Shown.{left_shown, put_shown, shown_later, text_shown, visible_shown}
+use Rattle.rt_text.proofs.WrittenText.{insertion_written, written_put}
+
+-- THE COMMAND, BY ITS CHECKS
+
+abbrev late_checks : Flat → Edited → List (Option Fault)
+late_checks flat edited = clock_check edited.doc.count ∷ cell_check flat.limit (length edited.doc.cells) ∷ []
+
+-- an edit by an outcome of its index
+abbrev at_index : Flat → Own → List (List Stamp) → List Piece → Word → Result ℕ Fault → Edited
+at_index flat own others pieces rest r = with_pieces_at flat own others (min (result_unwrap_or r 0) (length (text_of flat.cells) - 1)) pieces rest
+
+abbrev by_index : Flat → Own → List (List Stamp) → List Piece → Word → Result ℕ Fault → Result Edited Fault
+by_index flat own others pieces rest r =
+    unless (first_of (map name_check (names_in pieces) ++ result_err r ∷ late_checks flat (at_index flat own others pieces rest r))) (at_index flat own others pieces rest r)
+
+pub refused_name : (flat : Flat) (own : Own) (others : List (List Stamp)) (index : Word) (pieces : List Piece) (rest : Word) (fault : Fault) → first_of (map name_check (names_in pieces)) ≡ Some fault
+    → inserted flat own others index pieces rest ≡ Err fault
+refused_name flat own others index pieces rest fault h =
+    let r = index_of (widget_of flat own) index in
+    ap (λ o. unless o (at_index flat own others pieces rest r)) (first_some (map name_check (names_in pieces)) (result_err r ∷ late_checks flat (at_index flat own others pieces rest r)) fault h)
+
+pub refused_index : (flat : Flat) (own : Own) (others : List (List Stamp)) (index : Word) (pieces : List Piece) (rest : Word) (fault : Fault) → first_of (map name_check (names_in pieces)) ≡ None
+    → index_of (widget_of flat own) index ≡ Err fault → inserted flat own others index pieces rest ≡ Err fault
+refused_index flat own others index pieces rest fault h e =
+    ap (by_index flat own others pieces rest) e
+    ∙ ap (λ o. unless o (at_index flat own others pieces rest (Err fault))) (first_none (map name_check (names_in pieces)) (Some fault ∷ late_checks flat (at_index flat own others pieces rest (Err fault))) h)
+
+-- where the names and the index are fine, the counts and the cells decide
+pub by_late_checks : (flat : Flat) (own : Own) (others : List (List Stamp)) (index : Word) (pieces : List Piece) (rest : Word) (found place : ℕ) → first_of (map name_check (names_in pieces)) ≡ None
+    → index_of (widget_of flat own) index ≡ Ok found → place ≡ min found (length (text_of flat.cells) - 1)
+    → inserted flat own others index pieces rest
+    ≡ unless (first_of (late_checks flat (with_pieces_at flat own others place pieces rest))) (with_pieces_at flat own others place pieces rest)
+by_late_checks flat own others index pieces rest found place h e p =
+    ap (by_index flat own others pieces rest) e
+    ∙ ap (λ o. unless o (at_index flat own others pieces rest (Ok found))) (first_none (map name_check (names_in pieces)) (None ∷ late_checks flat (at_index flat own others pieces rest (Ok found))) h)
+    ∙ ap (λ n. unless (first_of (late_checks flat (with_pieces_at flat own others n pieces rest))) (with_pieces_at flat own others n pieces rest)) (sym p)
+
+-- NAMES
+
+name_fine : (name : Word) (b : Bool) → (nat_le 1 (length name) && nat_le (length name) MOST_NAME_BYTES) ≡ b → cond b None (Some BadName) ≡ None → IsName name
+name_fine name true e h =
+    let p = and_parts (nat_le 1 (length name)) (nat_le (length name) MOST_NAME_BYTES) e in
+    (leb-true 1 (length name) p.0, leb-true (length name) MOST_NAME_BYTES p.1)
+name_fine name false e h = let bad : ⊥ = cc in absurd bad
+
+-- names that are not refused are names
+pub all_fine : (names : List Word) → first_of (map name_check names) ≡ None → All IsName names
+all_fine [] h = All-nil IsName
+all_fine (name ∷ names) h = step (name_check name) refl h (λ k. all_fine names k)
+  where
+    step : (o : Option Fault) → name_check name ≡ o → first_of (o ∷ map name_check names) ≡ None → (first_of (map name_check names) ≡ None → All IsName names) → All IsName (name ∷ names)
+    step None e k rest = All-cons IsName name names (name_fine name (nat_le 1 (length name) && nat_le (length name) MOST_NAME_BYTES) refl e) (rest k)
+    step (Some fault) e k rest = let bad : ⊥ = cc in absurd bad
+
+-- CHECKS
+
+pub clock_fine : (count : ℕ) → count ≤ GREATEST_COUNT → clock_check count ≡ None
+clock_fine count h = ap (λ b. cond b (Some ClockSpent) None) (le-ltb GREATEST_COUNT count h)
+
+pub clock_spent : (count : ℕ) (more : List (Option Fault)) → GREATEST_COUNT < count → first_of (clock_check count ∷ more) ≡ Some ClockSpent
+clock_spent count more h = ap (λ b. first_of (cond b (Some ClockSpent) None ∷ more)) (lt-ltb GREATEST_COUNT count h)
+
+pub text_full : (count limit cells : ℕ) → count ≤ GREATEST_COUNT → limit < cells → first_of (clock_check count ∷ cell_check limit cells ∷ []) ≡ Some TextFull
+text_full count limit cells h k =
+    ap (λ o. first_of (o ∷ cell_check limit cells ∷ [])) (clock_fine count h) ∙ ap (λ b. first_of (cond b (Some TextFull) None ∷ [])) (lt-ltb limit cells k)
+
+pub all_checked : (count limit cells : ℕ) → count ≤ GREATEST_COUNT → cells ≤ limit → first_of (clock_check count ∷ cell_check limit cells ∷ []) ≡ None
+all_checked count limit cells h k =
+    ap (λ o. first_of (o ∷ cell_check limit cells ∷ [])) (clock_fine count h) ∙ ap (λ b. first_of (cond b (Some TextFull) None ∷ [])) (le-ltb limit cells k)
+
+-- WHAT A PLAN MAKES OF A DOCUMENT
+
+abbrev pub edited_by : Flat → Own → ℕ → Insertion → Edited
+edited_by flat own place new = record {
+  doc = record flat {
+    cells = put_after flat.cells (left_of flat.cells place) new.cells;
+    count = new.count;
+    marks = marks_inserted place (length new.cells) flat.marks;
+    tags = new.tags;
+  };
+  own = record (own_inserted place (length new.cells) own) { sel = new.sel };
+  others = new.others;
+}
+
+abbrev pub start_of : Flat → Own → List (List Stamp) → Insertion
+start_of flat own others = record { cells = []; count = flat.count; sel = own.sel; others = others; tags = flat.tags }
+
+abbrev pub insertion_in : Flat → Own → List (List Stamp) → ℕ → List Piece → Word → Insertion
+insertion_in flat own others place pieces rest =
+    insertion_of flat.site (left_neighbour (visible_of flat.cells) place) (right_neighbour (visible_of flat.cells) place) pieces rest (start_of flat own others)
+
+-- the put cells are shown as the definition has them
+pub put_seen : (table mid : TagStates) (kept cells : List (Cell ℕ)) (place : ℕ) → KeepsIds table mid → AreStates table kept
+    → map (shown mid) (put_after kept (left_of kept place) cells) ≡ put_after (map (shown table) kept) (left_of (map (shown table) kept) place) (map (shown mid) cells)
+put_seen table mid kept cells place keeps given =
+    let left = left_of kept place in
+    sym (put_shown (state_at mid) kept left cells)
+    ∙ ap (λ l. put_after l left (map (shown mid) cells)) (shown_later table mid kept keeps given)
+    ∙ ap (λ l. put_after (map (shown table) kept) l (map (shown mid) cells)) (sym (left_shown (state_at table) kept place))
+
+-- STORED CELLS
+
+pub new_from_shown : (table : TagStates) (site count last : ℕ) (cells : List (Cell ℕ)) → AreNew site count last (map (shown table) cells) → AreNew site count last cells
+new_from_shown table site count last [] h = h
+new_from_shown table site count last (cell ∷ cells) h = (h.0, h.1, new_from_shown table site cell.stamp.count last cells h.2)
+
+known_up_to : {T : Type 0} (count later : ℕ) (cells : List (Cell T)) → count ≤ later → AreKnown count cells → AreKnown later cells
+known_up_to count later cells le h = λ k d lt. let p = h k d lt in (omega (arith, p.0), λ e. p.1 (omega (arith, p.0)))
+
+pub known_after : (site count last : ℕ) (cells : List (Cell ℕ)) (left : Stamp) (new : List (Cell ℕ)) → AreNew site count last new → AreKnown count cells → AreKnown last (put_after cells left new)
+known_after site count last cells left new n known =
+    let p = new_known site count last new n in
+    known_put last cells left new (known_up_to count last cells p.0 known) p.1
+
+-- the text grows by all new characters
+pub grown : (mid : TagStates) (tags : List Word) (kept : List (Cell ℕ)) (left : Stamp) (cells : List (Cell ℕ)) → All (IsAmong tags) (map (shown mid) cells) → length (text_of (put_after kept left cells)) ≡ length (text_of kept) + length cells
+grown mid tags kept left cells h =
+    length_put kept left cells
+    ∙ ap (λ n. length (text_of kept) + n) (ap length (sym (text_shown (state_at mid) cells)) ∙ text_among tags (map (shown mid) cells) h ∙ length-map cells (shown mid))
+
+pub on_err : {P : Type 0} {A : Type 0} (r : Result A Fault) → P → OnErr r P
+on_err (Ok x) p = tt
+on_err (Err fault) p = p
+
+-- PLANS
+
+-- what holds of the plan of an insertion
+pub record IsPlanned (table : TagStates) (site count : ℕ) (tags : List Word) (plan : Plan) : Type 0 where
+  pub new : AreNew site count plan.count plan.cells.items
+  pub among : All (IsAmong (all_listed (map (name_at table) plan.tags.items) tags)) (map (shown table) plan.cells.items)
+  pub names : All IsName (map (name_at table) plan.tags.items)
+  pub listed : All IsName (all_listed (map (name_at table) plan.tags.items) tags)
+  pub written : AreWritten plan.count (map (shown table) plan.cells.items)
+
+pub plan_fine : (table mid : TagStates) (kept : List (Cell ℕ)) (site count place : ℕ) (selection : List Stamp) (others : List (List Stamp)) (tags : List Word) (pieces : List Piece) (rest : Word) (plan : Plan)
+    → All IsName (names_in pieces) → AreListed tags (map (shown table) kept) → AreStates table kept → ((state : ℕ) → IsState table state → IsByName (state_at table state))
+    → planned mid plan selection others tags
+    ≡ insertion_of site (left_neighbour (visible_of (map (shown table) kept)) place) (right_neighbour (visible_of (map (shown table) kept)) place) pieces rest
+    (record { cells = []; count = count; sel = selection; others = others; tags = tags })
+    → IsPlanned mid site count tags plan
+plan_fine table mid kept site count place selection others tags pieces rest plan names listed given sorted e =
+    let left = left_neighbour (visible_of (map (shown table) kept)) place in
+    let right = right_neighbour (visible_of (map (shown table) kept)) place in
+    let start : Insertion = record { cells = []; count = count; sel = selection; others = others; tags = tags } in
+    let none : AreNew site count count start.cells = omega arith in
+    let new : AreNew site count plan.count (map (shown mid) plan.cells.items) =
+    subst (λ (x : Insertion). AreNew site count x.count x.cells) (sym e) (insertion_new site count left right pieces rest start none) in
+    let lists : ListsAll (planned mid plan selection others tags) =
+    subst ListsAll (sym e) (insertion_lists site left right pieces rest start names (left_among table kept tags place listed given sorted) (record { cells = All-nil (IsAmong tags); names = listed.names })) in
+    record {
+      new = new_from_shown mid site count plan.count plan.cells.items new;
+      among = lists.cells;
+      names = names_of_all (map (name_at mid) plan.tags.items) tags lists.names;
+      listed = lists.names;
+      written = subst (λ (x : Insertion). AreWritten x.count x.cells) (sym e) (insertion_written site left right pieces rest start (All-nil (λ (c : TaggedCell). IsWritten count c.state)));
+    }
+
+-- the tags are listed afterwards
+pub listed_after : (table mid : TagStates) (kept cells : List (Cell ℕ)) (place : ℕ) (names tags : List Word) → KeepsIds table mid → AreStates table kept → AreListed tags (map (shown table) kept)
+    → All (IsAmong (all_listed names tags)) (map (shown mid) cells) → All IsName (all_listed names tags) → AreListed (all_listed names tags) (map (shown mid) (put_after kept (left_of kept place) cells))
+listed_after table mid kept cells place names tags keeps given listed among named =
+    let seen = map (shown table) kept in
+    subst (AreListed (all_listed names tags)) (sym (put_seen table mid kept cells place keeps given))
+    (listed_put (all_listed names tags) seen (left_of seen place) (map (shown mid) cells) (listed_more tags (all_listed names tags) seen (λ n e. all_still n names tags e) named listed) among)
+
+-- and no writer has a greater count
+pub written_after : (table mid : TagStates) (kept cells : List (Cell ℕ)) (place clock last : ℕ) → KeepsIds table mid → AreStates table kept → clock ≤ last → AreWritten clock (map (shown table) kept) → AreWritten last (map (shown mid) cells)
+    → AreWritten last (map (shown mid) (put_after kept (left_of kept place) cells))
+written_after table mid kept cells place clock last keeps given le h k =
+    let seen = map (shown table) kept in
+    subst (AreWritten last) (sym (put_seen table mid kept cells place keeps given)) (written_put clock last seen (left_of seen place) (map (shown mid) cells) le h k)
+
+-- WHAT STAYS
+
+pub visible_same : (table : TagStates) (kept : List (Cell ℕ)) (cells : List TaggedCell) → map (shown table) kept ≡ cells → length (visible_of kept) ≡ length (visible_of cells)
+visible_same table kept cells e = sym (length-map (visible_of kept) (map_state (state_at table))) ∙ ap length (sym (visible_shown (state_at table) kept)) ∙ ap (λ l. length (visible_of l)) e
+
+pub text_same : (table : TagStates) (kept : List (Cell ℕ)) (cells : List TaggedCell) → map (shown table) kept ≡ cells → length (text_of kept) ≡ length (text_of cells)
+text_same table kept cells e = ap length (sym (text_shown (state_at table) kept)) ∙ ap (λ l. length (text_of l)) e
+
+pub put_length : {T : Type 0} (cells : List (Cell T)) (left : Stamp) (new : List (Cell T)) → length (put_after cells left new) ≡ length cells + length new
+put_length cells left new =
+    let at = after_element cells left in
+    omega (arith, length-append (take at cells ++ new) (drop at cells), length-append (take at cells) new, ap length (take-append-drop at cells), length-append (take at cells) (drop at cells))
+
+-- THE COMMAND'S END
+
+pub done_by : (flat : Flat) (own : Own) (others : List (List Stamp)) (index : Word) (pieces : List Piece) (rest : Word) (found place : ℕ) (edited : Edited) → first_of (map name_check (names_in pieces)) ≡ None
+    → index_of (widget_of flat own) index ≡ Ok found → place ≡ min found (length (text_of flat.cells) - 1)
+    → edited ≡ with_pieces_at flat own others place pieces rest → first_of (late_checks flat edited) ≡ None → inserted flat own others index pieces rest ≡ Ok edited
+done_by flat own others index pieces rest found place edited h e p made checked =
+    by_late_checks flat own others index pieces rest found place h e p
+    ∙ ap (λ x. unless (first_of (late_checks flat x)) x) (sym made)
+    ∙ ap (λ o. unless o edited) checked
+
+pub late_refused : (flat : Flat) (own : Own) (others : List (List Stamp)) (index : Word) (pieces : List Piece) (rest : Word) (found place : ℕ) (fault : Fault) → first_of (map name_check (names_in pieces)) ≡ None
+    → index_of (widget_of flat own) index ≡ Ok found → place ≡ min found (length (text_of flat.cells) - 1)
+    → first_of (late_checks flat (with_pieces_at flat own others place pieces rest)) ≡ Some fault → inserted flat own others index pieces rest ≡ Err fault
+late_refused flat own others index pieces rest found place fault h e p k =
+    by_late_checks flat own others index pieces rest found place h e p ∙ ap (λ o. unless o (with_pieces_at flat own others place pieces rest)) k
+
+pub either : {A B C : Type 0} → (B → C) → A ⊎ B → A ⊎ C
+either f (inl a) = inl a
+either f (inr b) = inr (f b)
+
+pub both_done : {A B C X : Type 0} (r : Result X Fault) → (A → B → C) → OnOk r A → OnOk r B → OnOk r C
+both_done (Ok x) f a b = f a b
+both_done (Err fault) f a b = tt
+
+pub all_refused : (flat : Flat) (own : Own) (others : List (List Stamp)) (index : Word) (pieces : List Piece) (rest : Word) (found place : ℕ) (r : Result (Unit {0}) Fault) → first_of (map name_check (names_in pieces)) ≡ None
+    → index_of (widget_of flat own) index ≡ Ok found → place ≡ min found (length (text_of flat.cells) - 1)
+    → IfErr r (λ fault. (fault ≡ NoMemory) ⊎ (first_of (late_checks flat (with_pieces_at flat own others place pieces rest)) ≡ Some fault)) → IfErr r (Refuses (inserted flat own others index pieces rest))
+all_refused flat own others index pieces rest found place (Ok x) h e p k = tt
+all_refused flat own others index pieces rest found place (Err fault) h e p k = either (late_refused flat own others index pieces rest found place fault h e p) k
+
+-- THE EDIT OF A PLAN
+
+pub edit_is : (flat_in flat : Flat) (own_in own : Own) (others : List (List Stamp)) (place : ℕ) (pieces : List Piece) (rest : Word) (x : Insertion) (count : ℕ) → flat_in ≡ flat → own_in ≡ own → count ≡ flat_in.count
+    → x ≡ insertion_of flat_in.site (left_neighbour (visible_of flat_in.cells) place) (right_neighbour (visible_of flat_in.cells) place) pieces rest
+    (record { cells = []; count = count; sel = own_in.sel; others = others; tags = flat_in.tags })
+    → edited_by flat_in own_in place x ≡ with_pieces_at flat own others place pieces rest
+edit_is flat_in flat own_in own others place pieces rest x count f o n e =
+    let left = left_neighbour (visible_of flat_in.cells) place in
+    let right = right_neighbour (visible_of flat_in.cells) place in
+    let counted : x ≡ insertion_of flat_in.site left right pieces rest (start_of flat_in own_in others) =
+    e ∙ (λ i. insertion_of flat_in.site left right pieces rest (record { cells = []; count = n i; sel = own_in.sel; others = others; tags = flat_in.tags })) in
+    ap (edited_by flat_in own_in place) counted ∙ (λ i. with_pieces_at (f i) (o i) others place pieces rest)
+
+-- too many cells
+pub full_by : (flat_in flat : Flat) (own_in own : Own) (others : List (List Stamp)) (place : ℕ) (pieces : List Piece) (rest : Word) (x : Insertion) (count : ℕ) → flat_in ≡ flat → own_in ≡ own → count ≡ flat_in.count
+    → x ≡ insertion_of flat_in.site (left_neighbour (visible_of flat_in.cells) place) (right_neighbour (visible_of flat_in.cells) place) pieces rest
+    (record { cells = []; count = count; sel = own_in.sel; others = others; tags = flat_in.tags })
+    → x.count ≤ GREATEST_COUNT → flat_in.limit < length flat_in.cells + length x.cells → first_of (late_checks flat (with_pieces_at flat own others place pieces rest)) ≡ Some TextFull
+full_by flat_in flat own_in own others place pieces rest x count f o n e few many =
+    let edited = edited_by flat_in own_in place x in
+    let grown : length edited.doc.cells ≡ length flat_in.cells + length x.cells = put_length flat_in.cells (left_of flat_in.cells place) x.cells in
+    let limit : flat.limit ≡ flat_in.limit = ap (λ (v : Flat). v.limit) (sym f) in
+    ap (λ v. first_of (late_checks flat v)) (sym (edit_is flat_in flat own_in own others place pieces rest x count f o n e))
+    ∙ text_full x.count flat.limit (length edited.doc.cells) few (subst (λ k. k < length edited.doc.cells) (sym limit) (subst (λ k. flat_in.limit < k) (sym grown) many))
+
+pub count_after : (clock count saw last : ℕ) → count ≡ clock → count ≤ last → saw ≡ max clock last → saw ≡ last
+count_after clock count saw last c h s = omega arith

@@ -1,0 +1,137 @@
+-- What is prepared for an insertion.
+use Rattle.std.proofs.Common.{◌≡◌, ℕ, zero, suc, ◌+◌, ◌<◌, List, [], ◌∷◌, ◌++◌, true, false, All, Option, None, Some, Result, Ok, Err, ◌⊎◌, inl, inr, OnOk, length, take, drop, map, get_or, refl, sym, ◌∙◌, ap, subst, arith}
+use Rattle.std.specs.Prelude.{IfErr, IfSome, IsOk, ◌↔◌, option_map, slice_get}
+use Rattle.std.specs.Str.{chars}
+use Rattle.std.proofs.lemmas.List.{drop_more, get_or-map, length-map, map-append}
+use Rattle.std.proofs.lemmas.List.Elements.{All-more, All-weaker}
+use Rattle.rt_stamps.specs.declared.fault.Fault.{Fault}
+use Rattle.rt_stamps.specs.declared.fault.Fault.TheVariants.{BadName, NoMemory}
+use Rattle.rt_stamps.specs.Outcomes.{first_of}
+use Rattle.rt_stamps.specs.Words.{Word}
+use Rattle.rt_store.specs.declared.cell.Cell.{Cell}
+use Rattle.rt_store.specs.Cells.{map_state, visible_of}
+use Rattle.rt_store.specs.Tagged.{AreStates}
+use Rattle.rt_tags.specs.States.{TagStates, IsState, KeepsIds, state_at}
+use Rattle.rt_tags.specs.Tags.{IsName, Tags, is_ready, tags_listed, tags_prepared, with_name}
+use Rattle.rt_tags.proofs.Places.{clash}
+use Rattle.rt_tags.proofs.Ready.{prepared_ready, still_prepared, still_ready}
+use Rattle.rt_text.specs.Commands.{name_check, names_in}
+use Rattle.rt_edits.specs.Flat.{TaggedCell}
+use Rattle.rt_edits.specs.Insertions.{Insertion, Piece, all_listed, counts_for, insertion_of, last_of, left_neighbour, right_neighbour, tags_between, with_pieces, with_unlisted}
+use Rattle.rt_edits.specs.Working.{shown}
+use Rattle.rt_edits.proofs.PlanLaws.{pieces_from, unlisted_count}
+use Rattle.rt_text.proofs.SeenLaws.{visible_given}
+use Rattle.rt_edits.proofs.Shown.{visible_at_shown}
+
+-- CHECKS
+
+pub first_none : (checks more : List (Option Fault)) → first_of checks ≡ None → first_of (checks ++ more) ≡ first_of more
+first_none [] more h = refl
+first_none (None ∷ checks) more h = first_none checks more h
+first_none (Some fault ∷ checks) more h = let bad : ⊥ = cc in absurd bad
+
+pub first_some : (checks more : List (Option Fault)) (fault : Fault) → first_of checks ≡ Some fault → first_of (checks ++ more) ≡ Some fault
+first_some [] more fault h = let bad : ⊥ = cc in absurd bad
+first_some (None ∷ checks) more fault h = first_some checks more fault h
+first_some (Some f ∷ checks) more fault h = h
+
+-- the names of the pieces from an index on
+names_from : (pieces : List Piece) (i : ℕ) (piece : Piece) → i < length pieces → piece ≡ get_or pieces i piece
+    → map name_check piece.tags ++ map name_check (names_in (drop (i + 1) pieces)) ≡ map name_check (names_in (drop i pieces))
+names_from pieces i piece h e = sym (map-append name_check piece.tags (names_in (drop (i + 1) pieces))) ∙ ap (λ l. map name_check (names_in l)) (pieces_from pieces i piece h e)
+
+pub names_fine : (pieces : List Piece) (i : ℕ) (piece : Piece) → i < length pieces → piece ≡ get_or pieces i piece → first_of (map name_check piece.tags) ≡ None
+    → first_of (map name_check (names_in (drop (i + 1) pieces))) ≡ first_of (map name_check (names_in (drop i pieces)))
+names_fine pieces i piece h e f = sym (first_none (map name_check piece.tags) (map name_check (names_in (drop (i + 1) pieces))) f) ∙ ap first_of (names_from pieces i piece h e)
+
+pub names_bad : (pieces : List Piece) (i : ℕ) (piece : Piece) (fault : Fault) → i < length pieces → piece ≡ get_or pieces i piece → first_of (map name_check piece.tags) ≡ Some fault
+    → first_of (map name_check (names_in (drop i pieces))) ≡ Some fault
+names_bad pieces i piece fault h e f = sym (ap first_of (names_from pieces i piece h e)) ∙ first_some (map name_check piece.tags) (map name_check (names_in (drop (i + 1) pieces))) fault f
+
+-- TAGS
+
+pub named_here : (P : Word → Type 0) (f : ℕ → Word) (tags : List ℕ) (i tag : ℕ) (name : Word) → i < length tags → tag ≡ get_or tags i tag → name ≡ f tag → All P (map f tags) → P name
+named_here P f tags i tag name h e n all =
+    let within : i < length (map f tags) = omega (arith, length-map tags f) in
+    subst P (get_or-map f tags i tag (f tag) h ∙ ap f (sym e) ∙ sym n) (all i (f tag) within)
+
+pub ready_more : (f : ℕ → Word) (tags : List ℕ) (i tag : ℕ) (name : Word) (old new : Tags) → i < length tags → tag ≡ get_or tags i tag → name ≡ f tag → new ≡ tags_prepared name old
+    → All (λ t. is_ready (f t) old ≡ true) (take i tags) → All (λ t. is_ready (f t) new ≡ true) (take (i + 1) tags)
+ready_more f tags i tag name old new h e n made all =
+    let P : ℕ → Type 0 = λ t. is_ready (f t) new ≡ true in
+    let ready : (q : Word) → is_ready q (tags_prepared name old) ≡ true → is_ready q new ≡ true = λ q k. ap (is_ready q) made ∙ k in
+    let here : is_ready (f tag) new ≡ true = ap (λ q. is_ready q new) (sym n) ∙ ready name (prepared_ready name old) in
+    All-more P tags i tag h (All-weaker (λ t. is_ready (f t) old ≡ true) P (λ t k. ready (f t) (still_prepared (f t) name old k)) (take i tags) all) (subst P e here)
+
+pub ready_still : (f : ℕ → Word) (tags : List ℕ) (name : Word) (old new : Tags) → new ≡ tags_listed name old → All (λ t. is_ready (f t) old ≡ true) tags → All (λ t. is_ready (f t) new ≡ true) tags
+ready_still f tags name old new made all = All-weaker (λ t. is_ready (f t) old ≡ true) (λ t. is_ready (f t) new ≡ true) (λ t k. ap (is_ready (f t)) made ∙ still_ready (f t) name old k) tags all
+
+pub listed_from : (f : ℕ → Word) (tags : List ℕ) (i tag : ℕ) (name : Word) (old new : Tags) → i < length tags → tag ≡ get_or tags i tag → name ≡ f tag → new ≡ tags_listed name old
+    → all_listed (map f (drop (i + 1) tags)) new.names ≡ all_listed (map f (drop i tags)) old.names
+listed_from f tags i tag name old new h e n made =
+    ap (λ (t : Tags). all_listed (map f (drop (i + 1) tags)) t.names) made
+    ∙ ap (λ q. all_listed (map f (drop (i + 1) tags)) (with_name q old.names)) n
+    ∙ sym (ap (λ l. all_listed (map f l) old.names) (drop_more tags i tag h ∙ ap (λ t. t ∷ drop (i + 1) tags) (sym e)))
+
+-- a name isn't refused for itself
+pub for_memory : (name : Word) (r : Result (Unit {0}) Fault) (fault : Fault) → r ≡ Err fault → (fault ≡ BadName) ⊎ (fault ≡ NoMemory) → ((r ≡ Err BadName) ↔ (IsName name → ⊥)) → IsName name → fault ≡ NoMemory
+for_memory name r fault e (inl b) bad h = absurd (bad.0 (e ∙ ap (λ f. Err f) b) h)
+for_memory name r fault e (inr m) bad h = m
+
+-- and to list it takes no memory where it is ready
+pub sure : (name : Word) (old : Tags) (r : Result (Unit {0}) Fault) → IfErr r (λ fault. (fault ≡ BadName) ⊎ (fault ≡ NoMemory)) → ((r ≡ Err BadName) ↔ (IsName name → ⊥)) → (r ≡ Err NoMemory → is_ready name old ≡ false)
+    → IsName name → is_ready name old ≡ true → IsOk r
+sure name old (Ok x) f bad memory h k = refl
+sure name old (Err fault) f bad memory h k = absurd (clash (is_ready name old) k (memory (ap (λ x. Err x) (for_memory name (Err fault) fault refl f bad h))))
+
+pub at_ok : {P : Type 0} (r : Result (Unit {0}) Fault) → IsOk r → OnOk r P → P
+at_ok (Ok x) h p = p
+at_ok (Err fault) h p = let bad : ⊥ = cc in absurd bad
+
+-- NEIGHBOURS
+
+given_by : (table : TagStates) (cells : List (Cell ℕ)) (place : ℕ) (o : Option (Cell ℕ)) → AreStates table cells → slice_get (visible_of cells) place ≡ o → IfSome o (λ cell. IsState table cell.state)
+given_by table cells place None h e = tt
+given_by table cells place (Some cell) h e = visible_given table cells place cell h e
+
+-- the state of a left neighbour was given out
+pub left_given : (table : TagStates) (cells : List (Cell ℕ)) (place : ℕ) → AreStates table cells → IfSome (left_neighbour (visible_of cells) place) (λ cell. IsState table cell.state)
+left_given table cells zero h = tt
+left_given table cells (suc place) h = given_by table cells place (slice_get (visible_of cells) place) h refl
+
+pub given_later : (old new : TagStates) (o : Option (Cell ℕ)) → KeepsIds old new → IfSome o (λ cell. IsState old cell.state) → IfSome o (λ cell. IsState new cell.state)
+given_later old new None keeps h = tt
+given_later old new (Some cell) keeps h = (keeps.states cell.state h).0
+
+seen_later : (old new : TagStates) (o : Option (Cell ℕ)) → KeepsIds old new → IfSome o (λ cell. IsState old cell.state) → option_map (shown new) o ≡ option_map (shown old) o
+seen_later old new None keeps h = refl
+seen_later old new (Some cell) keeps h = λ i. Some (map_state (λ _. (keeps.states cell.state h).1 i) cell)
+
+-- and it is shown as before
+pub left_seen : (old new : TagStates) (cells : List (Cell ℕ)) (place : ℕ) → KeepsIds old new → AreStates old cells → option_map (shown new) (left_neighbour (visible_of cells) place) ≡ left_neighbour (visible_of (map (shown old) cells)) place
+left_seen old new cells zero keeps h = refl
+left_seen old new cells (suc place) keeps h = seen_later old new (slice_get (visible_of cells) place) keeps (left_given old cells (suc place) h) ∙ sym (visible_at_shown (state_at old) cells place)
+
+pub right_seen : (old new : TagStates) (cells : List (Cell ℕ)) (place : ℕ) (right : Cell ℕ) → KeepsIds old new → AreStates old cells → slice_get (visible_of cells) place ≡ Some right
+    → Some (shown new right) ≡ right_neighbour (visible_of (map (shown old) cells)) place
+right_seen old new cells place right keeps h e =
+    seen_later old new (Some right) keeps (visible_given old cells place right h e) ∙ ap (option_map (shown old)) (sym e) ∙ sym (visible_at_shown (state_at old) cells place)
+
+-- THE WHOLE INSERTION
+
+pub insertion_is : (site : ℕ) (left right left_now right_now : Option TaggedCell) (pieces : List Piece) (rest : Word) (start listed : Insertion) → left_now ≡ left → right_now ≡ right → listed ≡ with_pieces site pieces start
+    → with_unlisted site (last_of left_now listed.cells) right_now (chars rest) listed ≡ insertion_of site left right pieces rest start
+insertion_is site left right left_now right_now pieces rest start listed l r e = λ i. with_unlisted site (last_of (l i) (e i).cells) (r i) (chars rest) (e i)
+
+pub insertion_spent : (site : ℕ) (left right left_now right_now : Option TaggedCell) (pieces : List Piece) (rest : Word) (start listed : Insertion) (greatest : ℕ) → left_now ≡ left → right_now ≡ right → listed ≡ with_pieces site pieces start
+    → greatest < listed.count + counts_for (tags_between (last_of left_now listed.cells) right_now) (chars rest) → greatest < (insertion_of site left right pieces rest start).count
+insertion_spent site left right left_now right_now pieces rest start listed greatest l r e h =
+    subst (λ (n : ℕ). greatest < n) (sym (unlisted_count site (last_of left_now listed.cells) right_now (chars rest) listed) ∙ ap (λ (x : Insertion). x.count) (insertion_is site left right left_now right_now pieces rest start listed l r e)) h
+
+pub pieces_within : (site : ℕ) (left right : Option TaggedCell) (pieces : List Piece) (rest : Word) (start : Insertion) (greatest : ℕ) → greatest < (with_pieces site pieces start).count → greatest < (insertion_of site left right pieces rest start).count
+pieces_within site left right pieces rest start greatest h =
+    let listed = with_pieces site pieces start in
+    subst (λ (n : ℕ). greatest < n) (sym (unlisted_count site (last_of left listed.cells) right (chars rest) listed)) (more listed.count (counts_for (tags_between (last_of left listed.cells) right) (chars rest)) h)
+  where
+    more : (a b : ℕ) → greatest < a → greatest < a + b
+    more a b h = omega arith

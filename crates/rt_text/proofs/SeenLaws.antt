@@ -1,0 +1,126 @@
+-- The tags that a widget sees on the characters of a document.
+use Rattle.std.proofs.Common.{◌≡◌, ℕ, suc, ◌+◌, ◌<◌, ◌≤◌, ◌⊎◌, inl, inr, List, [], ◌∷◌, Bool, true, false, cond, not, All, length, map, refl, subst, sym, ◌∙◌, ap, arith, Option, Some, None}
+use Rattle.std.specs.Prelude.{filter, slice_get, option_map, nat_lt}
+use Rattle.std.specs.List.{position_or_len}
+use Rattle.std.proofs.lemmas.Bool.{le-ltb, lt-ltb, cases_lt}
+use Rattle.std.proofs.lemmas.List.Elements.{All-filter}
+use Rattle.std.proofs.lemmas.Option.{get_or_from_slice_get, slice_get_within}
+use Rattle.rt_index.specs.Widget.{Ends, tag_first, tag_last}
+use Rattle.rt_marks.specs.Marks.{Mark}
+use Rattle.rt_stamps.specs.declared.stamp.Stamp.{Stamp}
+use Rattle.rt_stamps.specs.Words.{Word}
+use Rattle.rt_store.specs.declared.cell.Cell.{Cell}
+use Rattle.rt_store.specs.Cells.{visible_of, map_state}
+use Rattle.rt_store.specs.Tagged.{AreStates, next_place, last_with, last_place}
+use Rattle.rt_tags.specs.States.{TagStates, IsState, state_at}
+use Rattle.rt_tags.specs.Tags.{is_listed}
+use Rattle.rt_edits.specs.Flat.{TaggedCell}
+use Rattle.rt_text.specs.Proper.{ends_by, tag_by, ends_in}
+use Rattle.rt_text.specs.Widgets.{Own, is_tagged, is_tagged_in, tags_on, widget_over}
+use Rattle.rt_edits.specs.Working.{shown}
+use Rattle.rt_edits.proofs.Shown.{visible_shown, visible_at_shown, next_map, last_map}
+
+-- LOOK-UPS
+
+-- the next place whose character has a tag
+pub next_found : (table : TagStates) (kept : List (Cell ℕ)) (cells : List TaggedCell) (stamps : List Stamp) (own : Own) (test : List Stamp → TaggedCell → Bool) (place : ℕ)
+    → map (shown table) kept ≡ cells → stamps ≡ own.sel → next_place (λ cell. test stamps (shown table cell)) (visible_of kept) place ≡ next_place (test own.sel) (visible_of cells) place
+next_found table kept cells stamps own test place e s =
+    sym (next_map (test stamps) (map_state (state_at table)) (visible_of kept) place)
+    ∙ ap (λ l. next_place (test stamps) l place) (sym (visible_shown (state_at table) kept))
+    ∙ (λ i. next_place (test (s i)) (visible_of (e i)) place)
+
+-- the state of a visible cell was given out
+pub visible_given : (table : TagStates) (kept : List (Cell ℕ)) (place : ℕ) (cell : Cell ℕ) → AreStates table kept → slice_get (visible_of kept) place ≡ Some cell → IsState table cell.state
+visible_given table kept place cell h e =
+    let p : Cell ℕ → Type 0 = λ c. IsState table c.state in
+    let all : All p (visible_of kept) = All-filter (λ c. not c.gone) p kept h in
+    subst p (get_or_from_slice_get (visible_of kept) place cell cell e) (all place cell (slice_get_within (visible_of kept) place cell e))
+
+-- the tags of a character
+pub tags_found : (table : TagStates) (kept : List (Cell ℕ)) (cells : List TaggedCell) (stamps : List Stamp) (own : Own) (tags names found : List Word) (place : ℕ) (cell : Cell ℕ)
+    → map (shown table) kept ≡ cells → stamps ≡ own.sel → slice_get (visible_of kept) place ≡ Some cell → names ≡ tags
+    → found ≡ filter (λ name. is_tagged_in stamps name (shown table cell)) names
+    → option_map (tags_on own tags) (slice_get (visible_of cells) place) ≡ Some found
+tags_found table kept cells stamps own tags names found place cell e s h n k =
+    ap (λ l. option_map (tags_on own tags) (slice_get (visible_of l) place)) (sym e)
+    ∙ ap (option_map (tags_on own tags)) (visible_at_shown (state_at table) kept place ∙ ap (option_map (map_state (state_at table))) h)
+    ∙ (λ i. Some (filter (λ name. is_tagged_in (sym s i) name (shown table cell)) (sym n i)))
+    ∙ ap (λ l. Some l) (sym k)
+
+-- ENDS
+
+none_last : {A : Type 0} (test : A → Bool) (xs : List A) → last_place test xs ≡ None → position_or_len test xs ≡ length xs
+none_last test [] h = refl
+none_last test (x ∷ xs) h = step (test x) (last_place test xs) (position_or_len test xs) (length xs) h (λ e. none_last test xs e)
+  where
+    step : (b : Bool) (o : Option ℕ) (n m : ℕ) → last_with b o ≡ None → (o ≡ None → n ≡ m) → cond (not b) (1 + n) 0 ≡ suc m
+    step b (Some p) n m h k = let bad : ⊥ = cc in absurd bad
+    step true None n m h k = let bad : ⊥ = cc in absurd bad
+    step false None n m h k = omega (arith, k refl)
+
+last_none : {A : Type 0} (test : A → Bool) (xs : List A) → position_or_len test xs ≡ length xs → last_place test xs ≡ None
+last_none test [] h = refl
+last_none test (x ∷ xs) h = step (test x) (last_place test xs) (position_or_len test xs) (length xs) h (λ e. last_none test xs e)
+  where
+    step : (b : Bool) (o : Option ℕ) (n m : ℕ) → cond (not b) (1 + n) 0 ≡ suc m → (n ≡ m → o ≡ None) → last_with b o ≡ None
+    step true o n m h k = absurd (omega (arith, h))
+    step false o n m h k = ap (last_with false) (k (omega (arith, h)))
+
+few : {A : Type 0} (test : A → Bool) (xs : List A) → position_or_len test xs ≤ length xs
+few test [] = omega arith
+few test (x ∷ xs) = by (not (test x)) (position_or_len test xs) (length xs) (few test xs)
+  where
+    by : (b : Bool) (n m : ℕ) → n ≤ m → cond b (1 + n) 0 ≤ suc m
+    by true n m h = omega arith
+    by false n m h = omega arith
+
+-- no first place where there is no last one
+pub no_next : {A : Type 0} (test : A → Bool) (xs : List A) → last_place test xs ≡ None → next_place test xs 0 ≡ None
+no_next test xs h =
+    let n = position_or_len test xs in
+    let none : nat_lt n (length xs) ≡ false = le-ltb n (length xs) (omega (arith, none_last test xs h)) in
+    ap (λ b. option_map (λ k. 0 + k) (cond b (Some n) None)) none
+
+-- no last place where there is no first one
+pub no_last : {A : Type 0} (test : A → Bool) (xs : List A) → next_place test xs 0 ≡ None → last_place test xs ≡ None
+no_last test xs h =
+    by (cases_lt (position_or_len test xs) (length xs))
+  where
+    by : (position_or_len test xs < length xs) ⊎ (length xs ≤ position_or_len test xs) → last_place test xs ≡ None
+    by (inl lt) =
+        let n = position_or_len test xs in
+        let found : option_map (λ k. 0 + k) (cond true (Some n) None) ≡ None = ap (λ b. option_map (λ k. 0 + k) (cond b (Some n) None)) (sym (lt-ltb n (length xs) lt)) ∙ h in
+        let bad : ⊥ = cc in
+        absurd bad
+    by (inr le) = last_none test xs (omega (arith, few test xs))
+
+first_is : (b : Bool) (next last : Option ℕ) → b ≡ true → (last ≡ None → next ≡ None) → option_map (λ (ends : Ends). ends.first) (ends_in (tag_by b (ends_by next last))) ≡ next
+first_is true (Some p) (Some q) e h = refl
+first_is true (Some p) None e h = let none : Some p ≡ None = h refl in let bad : ⊥ = cc in absurd bad
+first_is true None last e h = refl
+first_is false next last e h = let bad : ⊥ = cc in absurd bad
+
+last_is : (b : Bool) (next last : Option ℕ) → b ≡ true → (next ≡ None → last ≡ None) → option_map (λ (ends : Ends). ends.last) (ends_in (tag_by b (ends_by next last))) ≡ option_map (λ q. q + 1) last
+last_is true (Some p) (Some q) e h = refl
+last_is true (Some p) None e h = refl
+last_is true None last e h = ap (option_map (λ q. q + 1)) (sym (h refl))
+last_is false next last e h = let bad : ⊥ = cc in absurd bad
+
+-- where a listed tag begins on a document's characters
+pub begins_by : (table : TagStates) (kept : List (Cell ℕ)) (marks : List Mark) (tags : List Word) (stamps : List Stamp) (own : Own) (name : Word) → stamps ≡ own.sel → is_listed name tags ≡ true
+    → next_place (λ cell. is_tagged_in stamps name (shown table cell)) (visible_of kept) 0 ≡ tag_first (widget_over (map (shown table) kept) marks tags own) name
+begins_by table kept marks tags stamps own name s h =
+    let chars : List TaggedCell = visible_of (map (shown table) kept) in
+    next_found table kept (map (shown table) kept) stamps own (λ selection. is_tagged_in selection name) 0 refl s
+    ∙ sym (first_is (is_listed name tags) (next_place (is_tagged own name) chars 0) (last_place (is_tagged own name) chars) h (no_next (is_tagged own name) chars))
+
+-- and where it ends
+pub stops_by : (table : TagStates) (kept : List (Cell ℕ)) (marks : List Mark) (tags : List Word) (stamps : List Stamp) (own : Own) (name : Word) → stamps ≡ own.sel → is_listed name tags ≡ true
+    → option_map (λ q. q + 1) (last_place (λ cell. is_tagged_in stamps name (shown table cell)) (visible_of kept)) ≡ tag_last (widget_over (map (shown table) kept) marks tags own) name
+stops_by table kept marks tags stamps own name s h =
+    let chars : List TaggedCell = visible_of (map (shown table) kept) in
+    ap (option_map (λ q. q + 1))
+    (sym (ap (last_place (is_tagged_in stamps name)) (visible_shown (state_at table) kept) ∙ last_map (is_tagged_in stamps name) (map_state (state_at table)) (visible_of kept))
+    ∙ (λ i. last_place (is_tagged_in (s i) name) chars))
+    ∙ sym (last_is (is_listed name tags) (next_place (is_tagged own name) chars 0) (last_place (is_tagged own name) chars) h (no_last (is_tagged own name) chars))

@@ -1,0 +1,14 @@
+use Rattle.std.proofs.Common.{List, map}
+use Rattle.std.specs.Prelude.{option_copied}
+use Rattle.rt_edits.specs.Flat.{TaggedCell}
+use Rattle.rt_edits.specs.Listed.{AreListed}
+use Rattle.rt_edits.specs.Working.{shown}
+use Rattle.rt_edits.proofs.ListedLaws.{raise_keeps}
+use Rattle.rt_text.proofs.doc.Doc.raise_tag.Goals as goal
+
+pub invariant_of-self : goal.invariant_of-self
+invariant_of-self g c =
+    let seen : List TaggedCell = map (shown c.self.inside.states) (g.S.TextStore.list c.self.inside.store) in
+    let listed : AreListed c.raise.new.self.names seen =
+    raise_keeps c.args.name.now (option_copied c.args.above) c.self.inside.tags c.raise.new.self seen c.raise.result c.raise.ensures.ok c.raise.ensures.err c.raise.ensures.answer c.self.invariant.7 in
+    (c.self.invariant.0, c.self.invariant.1, c.self.invariant.2, c.self.invariant.3, c.self.invariant.4, c.self.invariant.5, c.self.invariant.6, listed, c.self.invariant.8)

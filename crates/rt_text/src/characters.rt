@@ -1,0 +1,130 @@
+// The tags of characters on a widget.
+ghost use Rattle.std.specs.Prelude.{◌≡◌, true, false, not, if◌then◌else◌};
+ghost use Rattle.rt_store.specs.Cells.{visible_of};
+ghost use Rattle.rt_store.specs.Tagged.{AreStates, last_place, next_place};
+ghost use Rattle.rt_tags.specs.States.{IsState};
+ghost use Rattle.rt_edits.specs.Selected.{stamps_in};
+ghost use Rattle.rt_edits.specs.Spans.{is_among};
+ghost use Rattle.rt_text.specs.Widgets.{is_tagged_in};
+ghost use Rattle.rt_edits.specs.Working.{shown};
+
+use rt_edits::Selection;
+use rt_stamps::Stamp;
+use rt_store::{Cell, TextStore};
+use rt_tags::{StateId, StateTable};
+
+/// Whether a tag is on the character of a cell: `sel` where the character is selected.
+pub(crate) fn cell_has(
+    states: &StateTable,
+    selection: &Selection,
+    cell: Cell<StateId>,
+    name: &str,
+) -> bool
+    requires { IsState states.now cell.state }
+    ensures { result ≡ is_tagged_in (stamps_in selection.now) name.now (shown states.now cell) }
+{
+    if name == "sel" {
+        return selection.has(cell.stamp);
+    }
+    match states.known(name) {
+        Some(tag) => states.has(cell.state, tag),
+        None => false,
+    }
+}
+
+// Whether a character is selected, or isn't, as is asked.
+fn is_selected(selection: &Selection, selected: bool, stamp: Stamp) -> bool
+    ensures { result ≡ (if selected then is_among (stamps_in selection.now) stamp else not (is_among (stamps_in selection.now) stamp)) }
+{
+    if selected {
+        selection.has(stamp)
+    } else {
+        !selection.has(stamp)
+    }
+}
+
+// The least place from one up whose character is selected, or isn't.
+fn next_selected<S: TextStore>(
+    store: &S,
+    selection: &Selection,
+    selected: bool,
+    place: usize,
+) -> Option<usize>
+    ensures { result ≡ next_place (λ cell. if selected then is_among (stamps_in selection.now) cell.stamp else not (is_among (stamps_in selection.now) cell.stamp)) (visible_of (S.list store.now)) place }
+{
+    for at in place..store.visible() {
+        if is_selected(selection, selected, store.cell_at(at).stamp) {
+            return Some(at);
+        }
+    }
+    None
+}
+
+// The least place from one up whose character has a tag that no character has, or hasn't it.
+fn next_without<S: TextStore>(store: &S, on: bool, place: usize) -> Option<usize>
+    ensures { result ≡ next_place (λ _. if on then false else true) (visible_of (S.list store.now)) place }
+{
+    if on {
+        return None;
+    }
+    if place < store.visible() {
+        Some(place)
+    } else {
+        None
+    }
+}
+
+/// The least place from one up whose character has a tag, or hasn't it, as is asked.
+pub(crate) fn next_with<S: TextStore>(
+    store: &S,
+    states: &StateTable,
+    selection: &Selection,
+    name: &str,
+    on: bool,
+    place: usize,
+) -> Option<usize>
+    requires { AreStates states.now (S.list store.now) }
+    ensures { result ≡ next_place (λ cell. if on then is_tagged_in (stamps_in selection.now) name.now (shown states.now cell) else not (is_tagged_in (stamps_in selection.now) name.now (shown states.now cell))) (visible_of (S.list store.now)) place }
+{
+    if name == "sel" {
+        return next_selected(store, selection, on, place);
+    }
+    match states.known(name) {
+        Some(tag) if on => store.next_tagged(states, tag, place),
+        Some(tag) => store.next_untagged(states, tag, place),
+        None => next_without(store, on, place),
+    }
+}
+
+// The greatest place whose character is selected.
+fn last_selected<S: TextStore>(store: &S, selection: &Selection) -> Option<usize>
+    ensures { result ≡ last_place (λ cell. is_among (stamps_in selection.now) cell.stamp) (visible_of (S.list store.now)) }
+{
+    let mut at = store.visible();
+    while at > 0 {
+        at -= 1;
+        if selection.has(store.cell_at(at).stamp) {
+            return Some(at);
+        }
+    }
+    None
+}
+
+/// The greatest place whose character has a tag.
+pub(crate) fn last_with<S: TextStore>(
+    store: &S,
+    states: &StateTable,
+    selection: &Selection,
+    name: &str,
+) -> Option<usize>
+    requires { AreStates states.now (S.list store.now) }
+    ensures { result ≡ last_place (λ cell. is_tagged_in (stamps_in selection.now) name.now (shown states.now cell)) (visible_of (S.list store.now)) }
+{
+    if name == "sel" {
+        return last_selected(store, selection);
+    }
+    match states.known(name) {
+        Some(tag) => store.previous_tagged(states, tag, store.visible()),
+        None => None,
+    }
+}
