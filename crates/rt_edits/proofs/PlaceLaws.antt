@@ -4,7 +4,8 @@ use Rattle.std.proofs.lemmas.List.{length-map}
 use Rattle.rt_stamps.specs.Places.{is_newline, newlines, after_newlines, line_of, position_at}
 use Rattle.rt_store.specs.declared.cell.Cell.{Cell}
 use Rattle.rt_store.specs.Cells.{text_of, visible_of}
-pub use Rattle.rt_edits.specs.Texts.{EndsLine, ends_text, text_within}
+use Rattle.rt_stamps.specs.Places.{EndsWithNewline}
+pub use Rattle.rt_edits.specs.Texts.{ends_text, text_within}
 
 some_front : (front : List ℕ) → 1 ≤ newlines (front ++ 10 ∷ [])
 some_front [] = omega arith
@@ -14,7 +15,7 @@ some_front (c ∷ t) = at_newline (is_newline c) (newlines (t ++ 10 ∷ [])) (so
     at_newline true n h = omega arith
     at_newline false n h = h
 
-pub some_newline : (t : List ℕ) → EndsLine t → 1 ≤ newlines t
+pub some_newline : (t : List ℕ) → EndsWithNewline t → 1 ≤ newlines t
 some_newline t h = rw (h.1) (some_front h.0)
 
 all_step : (c : ℕ) (t : List ℕ) (n : ℕ) (b : Bool) → is_newline c ≡ b → 1 ≤ n → after_newlines n t ≡ length t → after_newlines (cond b (n + 1) n) (c ∷ t) ≡ suc (length t)
@@ -27,7 +28,7 @@ all_front [] = refl
 all_front (c ∷ t) = all_step c (t ++ 10 ∷ []) (newlines (t ++ 10 ∷ [])) (is_newline c) refl (some_front t) (all_front t)
 
 -- after all newlines is the text's end
-pub after_all : (t : List ℕ) → EndsLine t → after_newlines (newlines t) t ≡ length t
+pub after_all : (t : List ℕ) → EndsWithNewline t → after_newlines (newlines t) t ≡ length t
 after_all t h = rw (h.1) (all_front h.0)
 
 -- a newline stands before the place after it
@@ -81,7 +82,7 @@ line_starts [] (suc p) = omega arith
 line_starts (c ∷ t) (suc p) = taken_step c t (newlines (take p t)) p (is_newline c) refl (line_starts t p)
 
 -- behind the last newline is the text's end, the first character of a line that isn't there
-pub last_position : (t : List ℕ) (place line : ℕ) → EndsLine t → place ≤ length t → line ≡ line_of t place → newlines t < line
+pub last_position : (t : List ℕ) (place line : ℕ) → EndsWithNewline t → place ≤ length t → line ≡ line_of t place → newlines t < line
     → record { line = line; character = 0 } ≡ position_at t place
 last_position t place line ends h e more =
     let all : newlines (take place t) ≡ newlines t = omega (arith, newlines_front t place) in

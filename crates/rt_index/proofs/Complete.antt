@@ -1,17 +1,16 @@
 -- What the grammar spells is read so; a place that is written.
-use Rattle.std.proofs.Common.{◌≡◌, Bool, true, false, not, cond, ◌&&◌, ◌||◌, ◌==◌, nat_lt, nat_le, ℕ, zero, suc, ◌+◌, ◌-◌, ◌<◌, ◌≤◌, ◌^◌, min, List, [], ◌∷◌, ◌++◌, length, take, drop, get_or, Option, Some, None, Result, Ok, Err, arith, ap, sym, ◌∙◌, refl, subst, append_assoc, append-nil, length-append}
-use Rattle.std.specs.Prelude.{option_map, codes, bytes_eq, decimal}
+use Rattle.std.proofs.Common.{◌≡◌, Bool, true, false, not, cond, ◌&&◌, ◌||◌, ◌==◌, nat_lt, nat_le, ℕ, ◌<◌, ◌≤◌, ◌^◌, List, [], ◌∷◌, ◌++◌, length, take, drop, Some, None, Ok, arith, ap, sym, ◌∙◌, refl, subst, append_assoc, append-nil}
+use Rattle.std.specs.Prelude.{codes, bytes_eq, decimal}
 use Rattle.std.proofs.lemmas.Bool.Decides.{nat_tests}
 use Rattle.std.proofs.Math.Seq.{take-append_seam, drop-append_seam, take-length, drop-length}
 use Rattle.std.proofs.lemmas.List.Folds.{list_all-append}
 use Rattle.std.proofs.lemmas.List.{length-take}
-use Rattle.std.proofs.lemmas.Fmt.{digits_decimal, digits_value-decimal, decimal_is_IsNumeral}
+use Rattle.std.proofs.lemmas.Fmt.{decimal_is_IsNumeral}
 use Rattle.std.specs.List.{prefix_len, list_all}
 use Rattle.std.specs.Char.{is_ascii_digit}
 use Rattle.std.specs.Str.{all_ascii_digits}
 use Rattle.std.specs.Str.Parse.{digits_value}
-use Rattle.rt_stamps.specs.declared.limits.TheConstants.{MOST_CELLS}
-use Rattle.rt_stamps.specs.Places.{newlines, line_of, line_start, line_end, position_at, place_at}
+use Rattle.rt_stamps.specs.Places.{newlines, line_of, position_at, place_at}
 use Rattle.rt_index.specs.declared.parts.Fixed.{Fixed}
 use Rattle.rt_index.specs.declared.parts.Fixed.TheVariants.{Character, LineEndOf, End}
 use Rattle.rt_index.specs.Grammar.{IsNumber, IsFixed}
@@ -19,9 +18,10 @@ use Rattle.rt_index.specs.Reading.{is_separator, token_length, fixed_of, positio
 use Rattle.rt_index.specs.Index.{moved_from, index_of, fixed_place}
 use Rattle.rt_stamps.specs.declared.position.Position.{Position}
 use Rattle.rt_stamps.specs.Places.{text_of_position}
-use Rattle.rt_index.specs.Widget.{Widget, IsProper, EndsWithNewline}
+use Rattle.rt_index.specs.Widget.{Widget, IsProper}
+use Rattle.rt_stamps.specs.Places.{EndsWithNewline}
 use Rattle.rt_index.proofs.Digits.{own}
-use Rattle.rt_index.proofs.Places.{split, newlines_few, line_within, start_before, end_after, lines_some}
+use Rattle.rt_index.proofs.Places.{split, newlines_few, line_within, start_before, end_after}
 use Rattle.rt_index.proofs.Spelling.{bytes_true}
 use Rattle.rt_index.proofs.Hope.{fixed_same}
 

@@ -1,5 +1,5 @@
 -- No modifier has a dot.
-use Rattle.std.proofs.Common.{◌≡◌, Bool, true, false, not, ◌&&◌, ℕ, zero, suc, ◌+◌, ◌-◌, ◌<◌, ◌≤◌, ◌==◌, List, [], ◌∷◌, ◌++◌, length, get_or, Option, Some, None, ◌⊎◌, inl, inr, arith, ap, sym, ◌∙◌, refl, subst}
+use Rattle.std.proofs.Common.{◌≡◌, Bool, true, false, not, ◌&&◌, ℕ, zero, suc, ◌+◌, ◌<◌, ◌==◌, List, [], ◌∷◌, ◌++◌, length, get_or, Option, Some, None, ◌⊎◌, inl, inr, arith, ap, sym, ◌∙◌, refl, subst}
 use Rattle.std.specs.Prelude.{codes}
 use Rattle.std.proofs.lemmas.Bool.Decides.{nat_tests}
 use Rattle.std.proofs.lemmas.List.Folds.{list_all-append}
@@ -13,7 +13,7 @@ use Rattle.rt_index.specs.declared.parts.Step.TheVariants.{Characters, Lines}
 use Rattle.rt_index.specs.declared.parts.Keyword.{Keyword}
 use Rattle.rt_index.specs.declared.parts.Keyword.TheVariants.{LineStart, LineEnd, WordStart, WordEnd}
 use Rattle.rt_index.specs.declared.parts.Modifier.{Modifier}
-use Rattle.rt_index.specs.Grammar.{spaces, sign_text, second_text, IsAny, IsFront, IsUnit, IsKeyword, keyword_text, IsMove, IsGoing, IsModifier, AreModifiers}
+use Rattle.rt_index.specs.Grammar.{spaces, sign_text, second_text, IsAny, IsFront, IsUnit, IsKeyword, IsModifier, AreModifiers}
 use Rattle.rt_index.specs.Reading.{modifiers_of}
 use Rattle.rt_index.proofs.Places.{split}
 use Rattle.rt_index.proofs.Modifiers.{option_cases}

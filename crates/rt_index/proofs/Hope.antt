@@ -1,5 +1,5 @@
 -- The parts of a word say what the word says, and which words are refused.
-use Rattle.std.proofs.Common.{◌≡◌, ◌≢◌, Bool, true, false, not, cond, ◌&&◌, ◌||◌, ◌==◌, nat_lt, nat_le, ℕ, zero, suc, ◌+◌, ◌-◌, ◌<◌, ◌≤◌, List, [], ◌∷◌, ◌++◌, length, take, drop, get_or, map, Option, Some, None, IfOk, Result, Ok, Err, arith, ap, sym, ◌∙◌, refl, subst, length-drop}
+use Rattle.std.proofs.Common.{◌≡◌, ◌≢◌, Bool, true, false, not, cond, ◌&&◌, ◌||◌, ◌==◌, nat_lt, nat_le, ℕ, ◌-◌, ◌<◌, ◌≤◌, List, [], ◌∷◌, length, take, drop, get_or, map, Option, Some, None, IfOk, Result, Ok, Err, arith, ap, sym, ◌∙◌, refl, subst}
 use Rattle.std.specs.Prelude.{option_map, option_and_then, codes, bytes_eq, IsSome, is_some, IsCharBoundary}
 use Rattle.std.specs.Option.{option_or}
 use Rattle.std.proofs.lemmas.Bool.Decides.{nat_tests}
@@ -9,6 +9,7 @@ use Rattle.std.proofs.lemmas.Slice.Eq.{bytes_eq-Decides}
 use Rattle.rt_stamps.specs.declared.fault.Fault.{Fault}
 use Rattle.rt_stamps.specs.declared.fault.Fault.TheVariants.{BadIndex, NoneTagged}
 use Rattle.rt_stamps.specs.declared.limits.TheConstants.{MOST_NAME_BYTES}
+use Rattle.rt_stamps.specs.Names.{is_name_length}
 use Rattle.rt_index.specs.declared.parts.Modifier.{Modifier}
 use Rattle.rt_index.specs.declared.parts.Fixed.{Fixed}
 use Rattle.rt_index.specs.declared.parts.Side.{Side}
@@ -16,12 +17,11 @@ use Rattle.rt_index.specs.declared.parts.Side.TheVariants.{First, Last}
 use Rattle.rt_index.specs.declared.parts.Tag.{Tag}
 use Rattle.rt_index.specs.declared.parts.Base.{Base}
 use Rattle.rt_index.specs.declared.parts.Base.TheVariants.{AtPlace, Named}
-use Rattle.rt_index.specs.Index.{fixed_place, may_end, side_text, moved_from, index_of, word_index, tag_place, IsHopeless, IsHopeful}
-use Rattle.rt_index.specs.Expression.{kept_modifier, kept_fixed, tag_after, longest_named, named_after, listed_place, marked_place, base_index, is_name, is_always_mark, is_possible, AreNames, IsParsed}
+use Rattle.rt_index.specs.Index.{fixed_place, may_end, side_text, moved_from, index_of, word_index, IsHopeless, IsHopeful}
+use Rattle.rt_index.specs.Expression.{kept_modifier, kept_fixed, tag_after, longest_named, named_after, listed_place, marked_place, base_index, is_always_mark, is_possible, AreNames, IsParsed}
 use Rattle.rt_index.specs.Reading.{is_separator, token_length, fixed_of, modifiers_of}
 use Rattle.rt_index.specs.Widget.{Widget, Ends, IsProper, IsName}
 use Rattle.rt_index.proofs.Places.{split}
-use Rattle.rt_index.proofs.Modifiers.{option_cases}
 use Rattle.rt_index.proofs.Spelling.{eq_of, lt_true, at_least, bytes_true}
 use Rattle.rt_index.proofs.Kept.{fixed_kept, fixed_within, moved_from_kept}
 use Rattle.rt_index.proofs.Tags.{Stands, found_at, blocked, bad, agree, named_index, token_ends, token_within, token_before, may_end_at, end_byte, begins_with_dot, side_some}
@@ -173,7 +173,7 @@ hopeless_rest word tag e t m = λ w proper.
     named_same w word tag e t ∙ ap (moved_from w.text base) m ∙ none_bad w.text base
 
 -- names
-name_true : (name : List ℕ) → IsName name → is_name (length name) ≡ true
+name_true : (name : List ℕ) → IsName name → is_name_length (length name) ≡ true
 name_true name h = both (nat_le 1 (length name)) (nat_le (length name) MOST_NAME_BYTES) (le_from 1 (length name) h.0) (le_from (length name) MOST_NAME_BYTES h.1)
   where
     both : (a b : Bool) → a ≡ true → b ≡ true → (a && b) ≡ true
@@ -183,7 +183,7 @@ name_true name h = both (nat_le 1 (length name)) (nat_le (length name) MOST_NAME
     le_from : (a b : ℕ) → a ≤ b → nat_le a b ≡ true
     le_from a b h = grind (arith, nat_tests)
 
-name_from : (name : List ℕ) → is_name (length name) ≡ true → IsName name
+name_from : (name : List ℕ) → is_name_length (length name) ≡ true → IsName name
 name_from name h = by (nat_le 1 (length name)) (nat_le (length name) MOST_NAME_BYTES) refl refl h
   where
     le_true : (a b : ℕ) → nat_le a b ≡ true → a ≤ b
@@ -244,8 +244,8 @@ hopeless_base word tag e t h = λ w proper.
         by None m = refl
         by (Some p) m =
             unfit (token_length word == token_length word) p
-            (no_fit (token_length word == token_length word) (is_name (length (token_of word))) false
-            (or_false (token_length word == token_length word && is_name (length (token_of word))) h)
+            (no_fit (token_length word == token_length word) (is_name_length (length (token_of word))) false
+            (or_false (token_length word == token_length word && is_name_length (length (token_of word))) h)
             (name_true (token_of word) (proper.mark_names (token_of word) (some_is (w.marks (token_of word)) p m))))
     nothing w proper (Some tag) t h = by (w.marks (token_of word)) (w.tags (take tag.name word)) refl refl
       where
@@ -258,15 +258,15 @@ hopeless_base word tag e t h = λ w proper.
             → marked_place (tag_after tag == token_length word) o (listed_place tag.side l) ≡ Err BadIndex
         by (Some p) l m k =
             unfit (tag_after tag == token_length word) p
-            (no_fit (tag_after tag == token_length word) (is_name (length (token_of word))) (is_name tag.name && not (is_always_mark (token_of word))) h
+            (no_fit (tag_after tag == token_length word) (is_name_length (length (token_of word))) (is_name_length tag.name && not (is_always_mark (token_of word))) h
             (name_true (token_of word) (proper.mark_names (token_of word) (some_is (w.marks (token_of word)) p m))))
         by None None m k = refl
         by None (Some ends) m k =
             let stands = (found_at word (length word) tag (omega arith) t).0 in
             let len : length (take tag.name word) ≡ tag.name = length-take-le tag.name word (omega (arith, stands.within)) in
             let named = name_true (take tag.name word) (proper.tag_names (take tag.name word) (some_is (w.tags (take tag.name word)) ends k)) in
-            let q = no_other ((tag_after tag == token_length word) && is_name (length (token_of word))) (is_name tag.name && not (is_always_mark (token_of word))) h in
-            let r = always (is_name tag.name) (is_always_mark (token_of word)) (sym (ap is_name len) ∙ named) q in
+            let q = no_other ((tag_after tag == token_length word) && is_name_length (length (token_of word))) (is_name_length tag.name && not (is_always_mark (token_of word))) h in
+            let r = always (is_name_length tag.name) (is_always_mark (token_of word)) (sym (ap is_name_length len) ∙ named) q in
             absurd (not_none (w.marks (token_of word)) m (always_marked w (token_of word) proper r))
 
 -- a widget of one newline that has a mark and lists a tag
@@ -370,7 +370,7 @@ base_fits w word token fits (Some tag) p m f =
 
 by_mark : (word : List ℕ) (tag : Option Tag) (ms : List Modifier) → fixed_of (token_of word) ≡ None → longest_named word (length word) ≡ tag
     → modifiers_of (drop (named_after (token_length word) tag) word) ≡ Some ms
-    → (named_after (token_length word) tag == token_length word) ≡ true → is_name (length (token_of word)) ≡ true → IsHopeful word
+    → (named_after (token_length word) tag == token_length word) ≡ true → is_name_length (length (token_of word)) ≡ true → IsHopeful word
 by_mark word tag ms e t m f n =
     let w = sample (token_of word) (codes "sel") in
     let fits = named_after (token_length word) tag == token_length word in
@@ -383,7 +383,7 @@ by_mark word tag ms e t m f n =
     )
 
 by_tag : (word : List ℕ) (tag : Tag) (ms : List Modifier) → fixed_of (token_of word) ≡ None → longest_named word (length word) ≡ Some tag
-    → modifiers_of (drop (tag_after tag) word) ≡ Some ms → is_name tag.name ≡ true → is_always_mark (token_of word) ≡ false → IsHopeful word
+    → modifiers_of (drop (tag_after tag) word) ≡ Some ms → is_name_length tag.name ≡ true → is_always_mark (token_of word) ≡ false → IsHopeful word
 by_tag word tag ms e t m n a =
     let name = take tag.name word in
     let w = sample (codes "insert") name in
@@ -396,7 +396,7 @@ by_tag word tag ms e t m n a =
     let none : base ≡ Err NoneTagged =
     ap (λ o. marked_place fits o (listed_place tag.side (w.tags name))) unmarked ∙ ap (listed_place tag.side) listed in (
       w,
-      sample_proper (codes "insert") name insert_name (name_from name (ap is_name len ∙ n)),
+      sample_proper (codes "insert") name insert_name (name_from name (ap is_name_length len ∙ n)),
       untagged_not (index_of w word)
           (named_same w word (Some tag) e t ∙ ap (moved_from w.text base) m ∙ ap (λ b. moved_from w.text b (Some ms)) none),
     )
@@ -410,16 +410,16 @@ by_tag word tag ms e t m n a =
 pub hopeful_named : (word : List ℕ) (tag : Option Tag) (ms : List Modifier) → fixed_of (token_of word) ≡ None → longest_named word (length word) ≡ tag
     → modifiers_of (drop (named_after (token_length word) tag) word) ≡ Some ms
     → is_possible (token_of word) (named_after (token_length word) tag == token_length word) tag ≡ true → IsHopeful word
-hopeful_named word None ms e t m h = by (token_length word == token_length word) (is_name (length (token_of word))) refl refl h
+hopeful_named word None ms e t m h = by (token_length word == token_length word) (is_name_length (length (token_of word))) refl refl h
   where
-    by : (f n : Bool) → (token_length word == token_length word) ≡ f → is_name (length (token_of word)) ≡ n → (f && n) ≡ true → IsHopeful word
+    by : (f n : Bool) → (token_length word == token_length word) ≡ f → is_name_length (length (token_of word)) ≡ n → (f && n) ≡ true → IsHopeful word
     by true true ef en h = by_mark word None ms e t m ef en
     by true false ef en h = cc
     by false n ef en h = cc
 hopeful_named word (Some tag) ms e t m h =
-    by (tag_after tag == token_length word) (is_name (length (token_of word))) (is_name tag.name) (is_always_mark (token_of word)) refl refl refl refl h
+    by (tag_after tag == token_length word) (is_name_length (length (token_of word))) (is_name_length tag.name) (is_always_mark (token_of word)) refl refl refl refl h
   where
-    by : (f n k a : Bool) → (tag_after tag == token_length word) ≡ f → is_name (length (token_of word)) ≡ n → is_name tag.name ≡ k → is_always_mark (token_of word) ≡ a
+    by : (f n k a : Bool) → (tag_after tag == token_length word) ≡ f → is_name_length (length (token_of word)) ≡ n → is_name_length tag.name ≡ k → is_always_mark (token_of word) ≡ a
         → ((f && n) || (k && not a)) ≡ true → IsHopeful word
     by true true k a ef en ek ea h = by_mark word (Some tag) ms e t m ef en
     by true false true false ef en ek ea h = by_tag word tag ms e t m ek ea

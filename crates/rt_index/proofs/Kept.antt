@@ -1,14 +1,13 @@
 -- Numbers as they are kept say what the numbers say, since texts are shorter.
-use Rattle.std.proofs.Common.{◌≡◌, Bool, true, false, cond, ◌==◌, nat_lt, nat_le, ℕ, zero, suc, ◌+◌, ◌-◌, ◌<◌, ◌≤◌, min, max, List, [], ◌∷◌, length, take, drop, map, Option, Some, None, IfOk, Result, Ok, Err, arith, ap, sym, ◌∙◌, refl, subst, length-drop, reverse}
+use Rattle.std.proofs.Common.{◌≡◌, Bool, true, false, cond, ◌==◌, nat_lt, nat_le, ℕ, ◌+◌, ◌-◌, ◌<◌, ◌≤◌, min, max, List, [], ◌∷◌, length, take, drop, map, Some, IfOk, Result, Ok, Err, arith, ap, sym, ◌∙◌, refl, length-drop, reverse}
 use Rattle.std.proofs.lemmas.Bool.Decides.{nat_tests}
 use Rattle.std.proofs.lemmas.List.Sums.{prefix_len-le-length}
 use Rattle.std.proofs.lemmas.List.{length-take}
 use Rattle.std.specs.Prelude.{slice_index}
 use Rattle.std.specs.List.{prefix_len}
 use Rattle.rt_stamps.specs.declared.fault.Fault.{Fault}
-use Rattle.rt_stamps.specs.declared.fault.Fault.TheVariants.{NoneTagged, BadIndex}
 use Rattle.rt_stamps.specs.declared.limits.TheConstants.{MOST_CELLS}
-use Rattle.rt_stamps.specs.Places.{newlines, line_of, line_start, line_end, place_at, position_at}
+use Rattle.rt_stamps.specs.Places.{newlines, line_of, line_start, position_at}
 use Rattle.rt_index.specs.declared.parts.Fixed.{Fixed}
 use Rattle.rt_index.specs.declared.parts.Fixed.TheVariants.{Character, LineEndOf, End}
 use Rattle.rt_index.specs.declared.parts.Step.TheVariants.{Characters, Lines}
@@ -20,9 +19,8 @@ use Rattle.rt_index.specs.Values.{character_place, line_end_place, lines_forward
 use Rattle.rt_index.specs.Index.{fixed_place, moved_from}
 use Rattle.rt_index.specs.Expression.{kept, kept_modifier, kept_fixed}
 use Rattle.rt_index.specs.Characters.{is_word_character}
-use Rattle.rt_index.specs.Widget.{EndsWithNewline}
-use Rattle.rt_index.proofs.Places.{split, newlines_few, start_within, end_within, lines_some, line_within}
-use Rattle.rt_index.proofs.Spelling.{eq_of, positive, lt_true, at_least}
+use Rattle.rt_index.proofs.Places.{split, newlines_few, start_within, end_within}
+use Rattle.rt_index.proofs.Spelling.{lt_true, at_least}
 
 -- places stay within the text
 pub character_within : (t : List ℕ) (line c : ℕ) → character_place t line c ≤ length t

@@ -1,6 +1,6 @@
 -- What is left after a modifier, and a text's modifiers one by one.
-use Rattle.std.proofs.Common.{◌≡◌, Bool, true, false, cond, ℕ, zero, suc, ◌+◌, ◌-◌, ◌<◌, ◌≤◌, ◌==◌, nat_lt, List, [], ◌∷◌, ◌++◌, length, take, drop, map, Option, Some, None, IfSome, arith, add-one, ap, sym, ◌∙◌, refl, subst, length-drop, append_assoc, append-nil}
-use Rattle.std.specs.Prelude.{option_map, option_and_then, codes, bytes_eq, IsSome}
+use Rattle.std.proofs.Common.{◌≡◌, Bool, true, false, cond, ℕ, zero, suc, ◌<◌, ◌≤◌, ◌==◌, nat_lt, List, [], ◌∷◌, ◌++◌, length, take, drop, map, Option, Some, None, IfSome, arith, ap, sym, ◌∙◌, refl, subst, length-drop, append_assoc, append-nil}
+use Rattle.std.specs.Prelude.{option_map, codes, bytes_eq}
 use Rattle.std.proofs.lemmas.Bool.Decides.{nat_tests}
 use Rattle.std.specs.List.{prefix_len}
 use Rattle.std.specs.Char.{is_ascii_digit, is_ascii_alphabetic}

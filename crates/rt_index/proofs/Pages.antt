@@ -1,5 +1,5 @@
 -- The lines of the page of the tests.
-use Rattle.std.proofs.Common.{◌≡◌, ◌≢◌, cond, ◌==◌, ℕ, ◌+◌, ◌≤◌, List, [], ◌∷◌, arith, ap, sym, refl, subst}
+use Rattle.std.proofs.Common.{◌≡◌, ◌≢◌, cond, ℕ, ◌+◌, ◌≤◌, List, ◌∷◌, arith, ap, sym, refl, subst}
 use Rattle.std.specs.Prelude.{count_by}
 use Rattle.std.proofs.lemmas.List.Recursion.{is_count_by}
 use Rattle.rt_index.specs.Page.{page_text}

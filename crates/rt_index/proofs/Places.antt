@@ -1,8 +1,8 @@
 -- Lines and places of a text.
-use Rattle.std.proofs.Common.{◌≡◌, Bool, true, false, ◌==◌, ℕ, zero, suc, ◌+◌, ◌-◌, ◌<◌, ◌≤◌, List, [], ◌∷◌, ◌++◌, length, take, drop, arith, add-one, ap, sym, ◌∙◌, refl, subst, length-append}
+use Rattle.std.proofs.Common.{◌≡◌, Bool, true, false, ◌==◌, ℕ, zero, suc, ◌+◌, ◌-◌, ◌<◌, ◌≤◌, List, [], ◌∷◌, ◌++◌, length, take, arith, add-one, ap, sym, refl, subst, length-append}
 use Rattle.std.proofs.lemmas.Bool.Decides.{nat_tests}
-use Rattle.rt_stamps.specs.Places.{is_newline, newlines, after_newlines, line_of, line_start, line_end}
-use Rattle.rt_index.specs.Widget.{EndsWithNewline}
+use Rattle.rt_stamps.specs.Places.{newlines, after_newlines, line_of, line_start, line_end}
+use Rattle.rt_stamps.specs.Places.{EndsWithNewline}
 
 pub split : {A : Type 0} (b : Bool) → (b ≡ true → A) → (b ≡ false → A) → A
 split true h k = h refl

@@ -1,6 +1,6 @@
 -- What is read is spelled by the grammar.
-use Rattle.std.proofs.Common.{◌≡◌, ◌≢◌, ◌⊎◌, inl, inr, Bool, true, false, not, cond, ◌&&◌, ◌||◌, ℕ, zero, suc, ◌+◌, ◌-◌, ◌<◌, ◌≤◌, ◌==◌, nat_lt, List, [], ◌∷◌, ◌++◌, length, take, drop, get_or, replicate, Option, Some, None, arith, add-one, ap, sym, ◌∙◌, refl, subst, length-drop, append_assoc, append-nil, take-append-drop}
-use Rattle.std.specs.Prelude.{option_map, option_and_then, codes, bytes_eq, eqb, Decides}
+use Rattle.std.proofs.Common.{◌≡◌, inl, inr, Bool, true, false, cond, ◌||◌, ℕ, zero, suc, ◌+◌, ◌-◌, ◌<◌, ◌≤◌, ◌==◌, nat_lt, List, [], ◌∷◌, ◌++◌, length, take, drop, Option, Some, None, arith, ap, sym, ◌∙◌, refl, subst, append_assoc, append-nil, take-append-drop}
+use Rattle.std.specs.Prelude.{codes, bytes_eq, eqb}
 use Rattle.std.proofs.Math.Numerals.{one-add}
 use Rattle.std.proofs.lemmas.Bool.Decides.{nat_tests, Decides-eqb}
 use Rattle.std.proofs.lemmas.List.{nil_from_length}
@@ -8,7 +8,6 @@ use Rattle.std.proofs.lemmas.List.Folds.{length-prefix_len}
 use Rattle.std.proofs.lemmas.Slice.Eq.{starts_is, bytes_eq-Decides}
 use Rattle.std.specs.List.{prefix_len, starts_with}
 use Rattle.std.specs.Char.{is_ascii_digit, is_ascii_alphabetic}
-use Rattle.std.specs.Str.{all_ascii_digits}
 use Rattle.std.specs.Str.Parse.{digits_value}
 use Rattle.rt_index.specs.declared.parts.Sign.{Sign}
 use Rattle.rt_index.specs.declared.parts.Sign.TheVariants.{Plus, Minus}
@@ -18,7 +17,7 @@ use Rattle.rt_index.specs.declared.parts.Keyword.{Keyword}
 use Rattle.rt_index.specs.declared.parts.Keyword.TheVariants.{LineStart, LineEnd, WordStart, WordEnd}
 use Rattle.rt_index.specs.declared.parts.Modifier.{Modifier}
 use Rattle.rt_index.specs.declared.parts.Modifier.TheVariants.{To}
-use Rattle.rt_index.specs.Grammar.{spaces, IsNumber, sign_text, second_text, turned, direction, counted, IsAny, IsFront, IsUnit, IsKeyword, keyword_text, IsMove, IsGoing, IsModifier, AreModifiers}
+use Rattle.rt_index.specs.Grammar.{spaces, IsNumber, sign_text, second_text, turned, direction, counted, IsAny, IsFront, IsUnit, IsKeyword, IsMove, IsGoing, IsModifier, AreModifiers}
 use Rattle.rt_index.specs.Reading.{is_space, after_spaces, after_any, unit_of, keyword_of, with_unit, with_keyword, with_number, with_second_sign, modifier_at, first_modifier, modifiers_within, modifiers_of}
 use Rattle.rt_index.proofs.Places.{split}
 use Rattle.rt_index.proofs.Digits.{digits_front}

@@ -1,9 +1,9 @@
 -- The longest front of a word that is the end of a tag, and the one that is the end of a listed tag.
-use Rattle.std.proofs.Common.{◌≡◌, ◌⊎◌, inl, inr, Bool, true, false, not, cond, ◌&&◌, ◌==◌, nat_lt, ℕ, zero, suc, ◌+◌, ◌-◌, ◌<◌, ◌≤◌, List, [], ◌∷◌, ◌++◌, length, take, drop, get_or, Option, Some, None, IfSome, Result, Ok, Err, arith, add-one, ap, sym, ◌∙◌, refl, subst, length-drop, length-append, drop-cons, if◌then◌else◌}
+use Rattle.std.proofs.Common.{◌≡◌, Bool, true, false, not, cond, nat_lt, ℕ, zero, suc, ◌+◌, ◌-◌, ◌<◌, ◌≤◌, List, [], ◌∷◌, ◌++◌, length, take, drop, get_or, Option, Some, None, Result, Err, arith, ap, sym, ◌∙◌, refl, subst, length-drop, length-append, drop-cons, if◌then◌else◌}
 use Rattle.std.specs.Prelude.{option_map, option_and_then, codes, eqb}
 use Rattle.std.specs.Option.{option_or}
-use Rattle.std.specs.List.{ends_with, prefix_len, list_all}
-use Rattle.std.proofs.lemmas.Bool.Decides.{nat_tests, Decides-eqb}
+use Rattle.std.specs.List.{ends_with, prefix_len}
+use Rattle.std.proofs.lemmas.Bool.Decides.{Decides-eqb}
 use Rattle.std.proofs.lemmas.Slice.Eq.{ends_is}
 use Rattle.std.proofs.lemmas.List.{length-take, length-take-le, take-take, get_or-take, get_or-drop}
 use Rattle.std.proofs.Math.Seq.{get_or-append_right}
@@ -19,7 +19,6 @@ use Rattle.rt_index.specs.Expression.{tag_after, longest_named, listed_place}
 use Rattle.rt_index.specs.Reading.{is_separator, token_length, modifiers_of}
 use Rattle.rt_index.specs.Widget.{Widget, Ends}
 use Rattle.rt_index.proofs.Places.{split}
-use Rattle.rt_index.proofs.Modifiers.{option_cases}
 use Rattle.rt_index.proofs.Spelling.{stops, at_least, lt_true}
 use Rattle.rt_index.proofs.Dots.{dotted, all_at}
 

@@ -1,5 +1,5 @@
 -- What the grammar spells as modifiers is read so.
-use Rattle.std.proofs.Common.{◌≡◌, ◌≢◌, ◌⊎◌, inl, inr, Bool, true, false, not, cond, ◌&&◌, ◌||◌, ℕ, zero, suc, ◌+◌, ◌-◌, ◌<◌, ◌≤◌, ◌==◌, nat_lt, List, [], ◌∷◌, ◌++◌, length, take, drop, get_or, replicate, Option, Some, None, arith, add-one, ap, sym, ◌∙◌, refl, subst, append_assoc, append-nil, length-append, take-append-drop}
+use Rattle.std.proofs.Common.{◌≡◌, ◌≢◌, ◌⊎◌, inl, inr, Bool, true, false, cond, ◌&&◌, ◌||◌, ℕ, zero, suc, ◌+◌, ◌<◌, ◌≤◌, ◌==◌, nat_lt, List, [], ◌∷◌, ◌++◌, length, take, drop, get_or, Option, Some, None, arith, add-one, ap, sym, ◌∙◌, refl, subst, append_assoc, append-nil, length-append, take-append-drop}
 use Rattle.std.specs.Prelude.{option_map, codes, bytes_eq, eqb}
 use Rattle.std.proofs.lemmas.Bool.Decides.{nat_tests, Decides-eqb}
 use Rattle.std.proofs.Math.Seq.{take-append_seam, drop-append_seam}
@@ -19,7 +19,7 @@ use Rattle.rt_index.specs.declared.parts.Modifier.{Modifier}
 use Rattle.rt_index.specs.declared.parts.Modifier.TheVariants.{To}
 use Rattle.rt_index.specs.declared.parts.Fixed.{Fixed}
 use Rattle.rt_index.specs.declared.parts.Fixed.TheVariants.{Character, LineEndOf, End}
-use Rattle.rt_index.specs.Grammar.{spaces, IsNumber, IsFixed, sign_text, second_text, turned, direction, counted, IsAny, IsFront, IsUnit, IsKeyword, keyword_text, IsMove, IsGoing, IsModifier, AreModifiers}
+use Rattle.rt_index.specs.Grammar.{spaces, IsNumber, IsFixed, sign_text, second_text, turned, direction, counted, IsAny, IsFront, IsUnit, IsKeyword, IsMove, IsGoing, IsModifier, AreModifiers}
 use Rattle.rt_index.specs.Reading.{is_space, after_spaces, after_any, unit_of, keyword_of, with_unit, with_keyword, with_number, with_second_sign, modifier_at, first_modifier, modifiers_of, fixed_of, position_of, after_line, column_of}
 use Rattle.rt_index.proofs.Places.{split}
 use Rattle.rt_index.proofs.Modifiers.{next, no_more}

@@ -1,9 +1,9 @@
 -- What the parts of a parsed expression say, which is what its word says.
-use Rattle.std.specs.Prelude.{◌≡◌, ℕ, zero, suc, ◌+◌, ◌-◌, ◌≤◌, min, nat_le, ◌&&◌, ◌||◌, not, codes, bytes_eq, Bool, List, length, take, drop, map, Option, Some, None, Result, Ok, Err, IsCharBoundary, if◌then◌else◌}
+use Rattle.std.specs.Prelude.{◌≡◌, ℕ, zero, suc, ◌+◌, min, ◌&&◌, ◌||◌, not, codes, bytes_eq, Bool, List, length, take, drop, Option, Some, None, Result, Ok, Err, IsCharBoundary, if◌then◌else◌}
 use Rattle.std.specs.Option.{option_or}
-use Rattle.rt_stamps.specs.declared.limits.TheConstants.{MOST_NAME_BYTES}
 use Rattle.rt_stamps.specs.declared.fault.Fault.{Fault}
 use Rattle.rt_stamps.specs.declared.fault.Fault.TheVariants.{BadIndex}
+use Rattle.rt_stamps.specs.Names.{is_name_length}
 use Rattle.rt_index.specs.declared.parts.Modifier.{Modifier}
 use Rattle.rt_index.specs.declared.parts.Modifier.TheVariants.{Forward, Back, To}
 use Rattle.rt_index.specs.declared.parts.Fixed.{Fixed}
@@ -64,18 +64,14 @@ base_index w word (AtPlace fixed) = Ok (fixed_place w.text fixed)
 base_index w word (Named token fits None) = marked_place fits (w.marks (take token word)) (Err BadIndex)
 base_index w word (Named token fits (Some tag)) = marked_place fits (w.marks (take token word)) (listed_place tag.side (w.tags (take tag.name word)))
 
--- a length of names of marks and tags
-abbrev pub is_name : ℕ → Bool
-is_name n = nat_le 1 n && nat_le n MOST_NAME_BYTES
-
 -- a mark that each widget has
 abbrev pub is_always_mark : List ℕ → Bool
 is_always_mark name = bytes_eq name (codes "insert") || bytes_eq name (codes "current")
 
 -- whether some widget has a place for a base: a mark that modifiers follow, or a listed tag where the token is no mark
 abbrev pub is_possible : List ℕ → Bool → Option Tag → Bool
-is_possible token fits None = fits && is_name (length token)
-is_possible token fits (Some tag) = (fits && is_name (length token)) || (is_name tag.name && not (is_always_mark token))
+is_possible token fits None = fits && is_name_length (length token)
+is_possible token fits (Some tag) = (fits && is_name_length (length token)) || (is_name_length tag.name && not (is_always_mark token))
 
 -- names are whole characters of the word
 abbrev pub AreNames : List ℕ → Base → Type 0

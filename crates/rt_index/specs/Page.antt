@@ -1,5 +1,5 @@
 -- The page of the tests: its characters, the widget that has its marks and tags, and that it is a widget.
-use Rattle.std.proofs.Common.{◌≡◌, Bool, true, false, cond, ◌==◌, ℕ, ◌+◌, ◌≤◌, List, [], ◌∷◌, length, Option, Some, None, arith, sym, refl, subst}
+use Rattle.std.proofs.Common.{◌≡◌, Bool, true, false, cond, ℕ, ◌≤◌, List, [], ◌∷◌, Option, Some, None, arith, sym, refl, subst}
 use Rattle.std.specs.Prelude.{option_map, option_and_then, codes, bytes_eq, IsSome, if◌then◌else◌}
 use Rattle.std.proofs.lemmas.Slice.Eq.{bytes_eq-Decides}
 use Rattle.rt_index.specs.Widget.{Widget, Ends, IsProper, IsName}

@@ -1,5 +1,5 @@
 -- The grammar read from the left: what the parts of a text are, if it has them. That this is the grammar is a law.
-use Rattle.std.specs.Prelude.{ℕ, zero, suc, ◌+◌, ◌==◌, ◌||◌, nat_lt, Bool, not, List, [], ◌∷◌, length, take, drop, Option, Some, None, codes, bytes_eq, option_map, option_and_then, if◌then◌else◌}
+use Rattle.std.specs.Prelude.{ℕ, zero, suc, ◌==◌, ◌||◌, nat_lt, Bool, not, List, [], ◌∷◌, length, take, drop, Option, Some, None, codes, bytes_eq, option_map, option_and_then, if◌then◌else◌}
 use Rattle.std.specs.List.{prefix_len, starts_with}
 use Rattle.std.specs.Char.{is_ascii_digit, is_ascii_alphabetic}
 use Rattle.std.specs.Str.Parse.{digits_value}

@@ -1,10 +1,9 @@
 -- The places that bases give and modifiers make, by the characters of a text (Tk text manual, "Indices").
 -- n is the number of characters; a text ends with a newline.
-use Rattle.std.specs.Prelude.{ℕ, ◌+◌, ◌-◌, ◌==◌, nat_lt, min, max, List, [], ◌∷◌, length, take, drop, reverse, slice_index, Option, Some, None, if◌then◌else◌}
+use Rattle.std.specs.Prelude.{ℕ, ◌+◌, ◌-◌, ◌==◌, nat_lt, min, max, List, [], ◌∷◌, length, take, drop, reverse, slice_index, if◌then◌else◌}
 use Rattle.std.specs.List.{prefix_len}
 use Rattle.rt_stamps.specs.Places.{newlines, line_of, line_start, line_end, position_at, place_at}
 use Rattle.rt_index.specs.Characters.{is_word_character}
-use Rattle.rt_index.specs.declared.parts.Step.{Step}
 use Rattle.rt_index.specs.declared.parts.Step.TheVariants.{Characters, Lines}
 use Rattle.rt_index.specs.declared.parts.Keyword.{Keyword}
 use Rattle.rt_index.specs.declared.parts.Keyword.TheVariants.{LineStart, LineEnd, WordStart, WordEnd}

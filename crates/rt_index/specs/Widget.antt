@@ -1,7 +1,8 @@
 -- What an index expression needs to know of a widget: its characters, its marks and the ends of its tags.
-use Rattle.std.specs.Prelude.{◌≡◌, ℕ, ◌≤◌, List, [], ◌∷◌, ◌++◌, length, Option, Some, None, IsSome, codes, option_and_then, option_map}
+use Rattle.std.specs.Prelude.{◌≡◌, ℕ, ◌≤◌, List, length, Option, Some, IsSome, codes, option_and_then, option_map}
 use Rattle.rt_stamps.specs.declared.limits.TheConstants.{MOST_CELLS}
 pub use Rattle.rt_stamps.specs.Names.{IsName}
+use Rattle.rt_stamps.specs.Places.{EndsWithNewline}
 
 -- where the characters of a tag begin and end
 pub record Ends : Type 0 where
@@ -21,9 +22,6 @@ tag_first w name = option_map (λ ends. ends.first) (option_and_then (λ ends. e
 
 abbrev pub tag_last : Widget → List ℕ → Option ℕ
 tag_last w name = option_map (λ ends. ends.last) (option_and_then (λ ends. ends) (w.tags name))
-
-abbrev pub EndsWithNewline : List ℕ → Type 0
-EndsWithNewline text = (front : List ℕ) × (text ≡ front ++ 10 ∷ [])
 
 -- What is so of every widget: a last newline, a bounded text, marks and ends of tags within it, names of marks and tags
 -- that are names, the marks `insert` and `current`, and the tag `sel`.

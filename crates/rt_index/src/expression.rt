@@ -1,6 +1,6 @@
 // Index expressions, parsed and resolved.
 ghost use Rattle.std.specs.Prelude.{◌≡◌, ◌<◌, ◌≤◌, ◌^◌, ◌⊎◌, length, take, Some, None, is_some, option_map, IfOk, IfErr, OnOk};
-ghost use Rattle.rt_index.specs.Expression.{AreNames, base_index, is_always_mark, is_name, is_possible, kept_fixed, listed_place, named_after};
+ghost use Rattle.rt_index.specs.Expression.{AreNames, base_index, is_always_mark, is_possible, kept_fixed, listed_place, named_after};
 ghost use Rattle.rt_index.specs.Reading.{fixed_of, token_length};
 ghost use Rattle.rt_index.specs.Index.{index_of, fixed_place, IsHopeless, IsHopeful};
 
@@ -8,8 +8,7 @@ use crate::Ground;
 use crate::parts::{Base, Fixed, Side, Tag};
 use crate::reading::{Modifiers, fixed_of, longest_tag, modifiers_of, token_length};
 use crate::values::{all_moved, character_place, line_end_place};
-use rt_stamps::Fault;
-use rt_stamps::limits::MOST_NAME_BYTES;
+use rt_stamps::{Fault, is_name_length};
 use std::alloc::Global;
 use std::marker::Model;
 
@@ -32,13 +31,6 @@ impl<'a> Model for Expr<'a> {
     ghost invariant = { λ e. IsParsed e.word.now e.base e.modifiers.items };
 }
 
-/// Whether a name of so many bytes is one that a mark or a tag may have.
-fn is_name(length: usize) -> bool
-    ensures { result ≡ is_name length }
-{
-    1 <= length && length <= MOST_NAME_BYTES
-}
-
 /// Whether a word is a position or `end`, with nothing after it. It takes no memory.
 pub fn is_fixed(word: &str) -> bool
     ensures { result ≡ is_some (fixed_of word.now) }
@@ -58,11 +50,11 @@ fn is_always_mark(name: &[u8]) -> bool
 fn is_possible(token: &[u8], fits: bool, tag: Option<Tag>) -> bool
     ensures { result ≡ is_possible token.now fits tag }
 {
-    if fits && is_name(token.len()) {
+    if fits && is_name_length(token.len()) {
         return true;
     }
     match tag {
-        Some(tag) => is_name(tag.name) && !is_always_mark(token),
+        Some(tag) => is_name_length(tag.name) && !is_always_mark(token),
         None => false,
     }
 }

@@ -1,6 +1,6 @@
 -- Marks: names in the gaps of a text, each with a gravity. The gap of a place is the one before the character there, and the
 -- gap of the text's end the one after the last character. Contracts see the marks of a site as the list of them in order.
-use Rattle.std.specs.Prelude.{◌≡◌, ℕ, zero, suc, ◌+◌, ◌-◌, ◌==◌, ◌&&◌, ◌||◌, nat_le, nat_lt, List, [], ◌∷◌, map, find, filter, Bool, true, false, not, if◌then◌else◌, Option, Some, None, option_and_then}
+use Rattle.std.specs.Prelude.{◌≡◌, ℕ, zero, suc, ◌+◌, ◌-◌, ◌==◌, ◌&&◌, ◌||◌, nat_le, nat_lt, List, [], ◌∷◌, codes, map, find, filter, Bool, true, false, not, if◌then◌else◌, Option, Some, None, option_and_then}
 use Rattle.std.specs.Option.{option_map_or, option_or}
 use Rattle.std.specs.Ordering.{nat_cmp, ordering_then, is_lt}
 use Rattle.std.specs.Str.{bytes_eq}
@@ -20,6 +20,20 @@ pub record Mark : Type 0 where
   pub name : List ℕ
   pub place : ℕ
   pub gravity : Gravity
+
+-- GRAVITIES
+
+-- a gravity as it is written
+abbrev pub gravity_word : Gravity → List ℕ
+gravity_word Left = codes "left"
+gravity_word Right = codes "right"
+
+-- the gravity that a word names
+abbrev pub gravity_of : List ℕ → Option Gravity
+gravity_of word =
+    if bytes_eq word (gravity_word Left) then Some Left
+    else if bytes_eq word (gravity_word Right) then Some Right
+    else None
 
 -- THE ORDER OF MARKS
 

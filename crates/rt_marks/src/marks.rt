@@ -5,8 +5,7 @@ ghost use Rattle.rt_marks.specs.Marks.{AreAscending, AreInOrder, Each, HaveOwnNa
 use crate::mark::Mark;
 use crate::table::Table;
 use crate::{Gravity, Spot};
-use rt_stamps::Fault;
-use rt_stamps::limits::MOST_NAME_BYTES;
+use rt_stamps::{Fault, check_name};
 use std::alloc::Global;
 use std::marker::Model;
 
@@ -66,9 +65,7 @@ impl Marks {
         ensures memory { result ≡ Err Fault.NoMemory → named name.now self.old ≡ None }
         ensures fault { IfErr result (λ fault. (fault ≡ Fault.BadName) ⊎ (fault ≡ Fault.NoMemory)) }
     {
-        if name.is_empty() || name.len() > MOST_NAME_BYTES {
-            return Err(Fault::BadName);
-        }
+        check_name(name)?;
         match self.table.find_slot(name) {
             Ok(slot) => self.table.set_place(slot, place),
             Err(gap) => {

@@ -22,12 +22,20 @@ pub record IsLogOf (ops log : List Operation) : Type 0 where
   pub is_log : IsLog log
   pub members : (op : Operation) → Has log op ↔ Has ops op
 
--- Operations have a log. Or one of them is the first that is refused: those before it have a log, and a push to that
--- refuses it. Or memory is wanting.
+-- The operation at a place is the first that is not sound, or clashes with one before it: those before it have a log, and a
+-- push to that refuses it.
+pub record IsFirstRefused (ops : List Operation) (place : ℕ) (fault : Fault) : Type 0 where
+  pub op : Operation
+  pub log : List Operation
+  pub there : slice_get ops place ≡ Some op
+  pub before : IsLogOf (take place ops) log
+  pub refused : pushed op log ≡ Err fault
+
+-- Operations have a log. Or one of them is the first that is refused. Or memory is wanting.
 abbrev pub MakesLog : List Operation → Result Log Refused → Type 0
 MakesLog ops result = MatchResult result
     (λ log. IsLogOf ops log.operations)
-    (λ refused. ((log : List Operation) × (op : Operation) × IsLogOf (take refused.place ops) log × (slice_get ops refused.place ≡ Some op) × (pushed op log ≡ Err refused.fault)) ⊎ (refused.fault ≡ NoMemory))
+    (λ refused. IsFirstRefused ops refused.place refused.fault ⊎ (refused.fault ≡ NoMemory))
 
 -- A join gives what `joined` says, or want of memory.
 abbrev pub Joins : List Operation → List Operation → Result Log Fault → Type 0

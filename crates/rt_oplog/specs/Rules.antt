@@ -6,8 +6,8 @@ use Rattle.std.specs.declared.cmp.Ordering.{Ordering}
 use Rattle.std.specs.declared.cmp.Ordering.TheVariants.{Less, Equal, Greater}
 use Rattle.rt_stamps.specs.declared.stamp.Span.{Span}
 pub use Rattle.rt_stamps.specs.Spans.{each_next, is_span, is_clear_of}
-use Rattle.rt_stamps.specs.Names.{name_order}
-use Rattle.rt_stamps.specs.declared.limits.TheConstants.{MOST_NAME_BYTES, MOST_TAGS, MOST_CHARACTERS, MOST_SPANS}
+use Rattle.rt_stamps.specs.Names.{is_name_length, name_order}
+use Rattle.rt_stamps.specs.declared.limits.TheConstants.{MOST_TAGS, MOST_CHARACTERS, MOST_SPANS}
 use Rattle.rt_stamps.specs.declared.fault.Fault.{Fault}
 use Rattle.rt_stamps.specs.declared.fault.Fault.TheVariants.{BadRecord}
 use Rattle.rt_oplog.specs.Operations.{Name, Body, Insert, Delete, Tag, Operation}
@@ -16,9 +16,9 @@ use Rattle.rt_oplog.specs.Operations.{Name, Body, Insert, Delete, Tag, Operation
 abbrev pub is_within : ℕ → ℕ → ℕ → Bool
 is_within least most n = nat_le least n && nat_le n most
 
--- 1 to 255 bytes of UTF-8, and not `sel`, the tag that is each widget's own
+-- as long as a name may be, UTF-8, and not `sel`, the tag that is each widget's own
 abbrev pub is_name : Name → Bool
-is_name name = is_utf8 name && (is_within 1 MOST_NAME_BYTES (length name) && not (bytes_eq name (codes "sel")))
+is_name name = is_utf8 name && (is_name_length (length name) && not (bytes_eq name (codes "sel")))
 
 abbrev pub is_less : Ordering → Bool
 is_less Less = true

@@ -4,15 +4,15 @@ ghost use Rattle.rt_oplog.specs.Rules.{is_name as is_name_of, are_tags as are_ta
 ghost use Rattle.std.specs.List.{list_all};
 ghost use Rattle.std.proofs.Math.Utf8.{scalar};
 
-use rt_stamps::Span;
-use rt_stamps::limits::{MOST_CHARACTERS, MOST_NAME_BYTES, MOST_SPANS, MOST_TAGS};
+use rt_stamps::limits::{MOST_CHARACTERS, MOST_SPANS, MOST_TAGS};
+use rt_stamps::{Span, is_name_length};
 use std::cmp::Ordering;
 
 /// Whether a name keeps the rules of a tag's name.
 pub(crate) fn is_name(name: &str) -> bool
     ensures { result ≡ is_name_of name.now }
 {
-    !name.is_empty() && name.len() <= MOST_NAME_BYTES && name != "sel"
+    is_name_length(name.len()) && name != "sel"
 }
 
 /// Whether one name is lesser by bytes than another.

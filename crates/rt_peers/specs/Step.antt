@@ -9,8 +9,7 @@ use Rattle.rt_stamps.specs.declared.position.Position.{Position}
 use Rattle.rt_stamps.specs.Outcomes.{Answers}
 use Rattle.rt_stamps.specs.Places.{text_of_position}
 use Rattle.rt_stamps.specs.Words.{Word, SpellsList}
-use Rattle.rt_marks.specs.declared.gravity.Gravity.{Gravity}
-use Rattle.rt_marks.specs.declared.gravity.Gravity.TheVariants.{Left, Right}
+use Rattle.rt_marks.specs.Marks.{gravity_word}
 use Rattle.rt_tagcmd.specs.MarkCommands.{mark_set, mark_unset, mark_gravity, mark_gravity_set, mark_names, mark_next, mark_previous}
 use Rattle.rt_tagcmd.specs.TagCommands.{tag_added, tag_removed, tags_deleted, tag_raised, tag_lowered, tag_names, tag_names_at, tag_ranges, tag_nextrange, tag_prevrange}
 use Rattle.rt_edits.specs.Flat.{Flat}
@@ -150,11 +149,6 @@ count_step state words = let switches = prefix_len is_switch words in counted_st
 
 -- MARKS
 
--- a gravity as it is written
-abbrev pub text_of_gravity : Gravity → Word
-text_of_gravity Left = codes "left"
-text_of_gravity Right = codes "right"
-
 -- a name, where there is one, as the words of a reply
 abbrev pub words_of : Option Word → List Word
 words_of None = []
@@ -178,7 +172,7 @@ mark_unset_step state [] = Err BadCommand
 
 -- the gravity of a mark
 abbrev pub gravity_step : State → Word → Outcome
-gravity_step state name = as_outcome (λ gravity. (text_of_gravity gravity ∷ [], state)) (mark_gravity state.doc state.own name)
+gravity_step state name = as_outcome (λ gravity. (gravity_word gravity ∷ [], state)) (mark_gravity state.doc state.own name)
 
 -- `mark gravity NAME ?GRAVITY?`
 abbrev pub mark_gravity_step : State → List Word → Outcome

@@ -9,14 +9,13 @@ ghost use Rattle.rt_text.specs.Commands.{got_one, got};
 ghost use Rattle.rt_tagcmd.specs.MarkCommands.{mark_set, mark_gravity_set, mark_names, mark_next, mark_previous};
 ghost use Rattle.rt_tagcmd.specs.TagCommands.{tag_added, tag_removed, tags_deleted, tag_raised, tag_lowered, tag_names, tag_names_at, tag_ranges, tag_nextrange, tag_prevrange};
 ghost use Rattle.rt_peers.specs.State.{new_state, is_widget};
-ghost use Rattle.rt_peers.specs.Step.{changed_step, document_step, word_step, words_step, texts_step, TextsGive, InsertGives, removal_step, delete_step, get_step, list_step, index_step, comparison_step, compare_step, distances_step, counted_step, count_step, text_of_bool, is_switch, text_of_gravity, words_of, mark_set_step, unset_step, mark_unset_step, gravity_step, mark_gravity_step, mark_names_step, found_step, mark_next_step, mark_previous_step, mark_command_step, mark_step, positions_step, tag_add_step, tag_remove_step, tag_delete_step, tag_raise_step, tag_lower_step, tag_names_step, tag_ranges_step, tag_nextrange_step, tag_prevrange_step, tag_command_step, tag_step, CommandGives, Gives};
+ghost use Rattle.rt_peers.specs.Step.{changed_step, document_step, word_step, words_step, texts_step, TextsGive, InsertGives, removal_step, delete_step, get_step, list_step, index_step, comparison_step, compare_step, distances_step, counted_step, count_step, text_of_bool, is_switch, words_of, mark_set_step, unset_step, mark_unset_step, gravity_step, mark_gravity_step, mark_names_step, found_step, mark_next_step, mark_previous_step, mark_command_step, mark_step, positions_step, tag_add_step, tag_remove_step, tag_delete_step, tag_raise_step, tag_lower_step, tag_names_step, tag_ranges_step, tag_nextrange_step, tag_prevrange_step, tag_command_step, tag_step, CommandGives, Gives};
 
 use crate::command::{
     Command, MarkCommand, TagCommand, command_of, mark_command_of, tag_command_of,
 };
 use crate::reply::Reply;
 use crate::texts::read_texts;
-use rt_marks::Gravity;
 use rt_stamps::{Fault, Position, Site};
 use rt_store::ListStore;
 use rt_tagcmd::{
@@ -98,18 +97,6 @@ fn text_of_bool(alloc: Global, holds: bool) -> Result<String, Fault>
     ensures err { IfErr result (λ fault. fault ≡ Fault.NoMemory) }
 {
     let text = if holds { "1" } else { "0" };
-    Ok(String::from_str(alloc, text)?)
-}
-
-// A gravity as it is written.
-fn text_of_gravity(alloc: Global, gravity: Gravity) -> Result<String, Fault>
-    ensures ok { IfOk result (λ text. string_bytes text ≡ text_of_gravity gravity) }
-    ensures err { IfErr result (λ fault. fault ≡ Fault.NoMemory) }
-{
-    let text = match gravity {
-        Gravity::Left => "left",
-        Gravity::Right => "right",
-    };
     Ok(String::from_str(alloc, text)?)
 }
 
@@ -348,7 +335,7 @@ impl SiteState {
         ensures { Answers (gravity_step self.old name.now) self.old result self.new }
     {
         let gravity = mark_gravity(&self.doc, &self.widget, name)?;
-        one_word(self.alloc, text_of_gravity(self.alloc, gravity)?)
+        one_word(self.alloc, String::from_str(self.alloc, gravity.word())?)
     }
 
     // `mark gravity` of a name and a gravity.

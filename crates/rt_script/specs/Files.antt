@@ -1,5 +1,5 @@
 -- What is made of files of operations: their lines, and the join of two.
-use Rattle.std.specs.Prelude.{◌≡◌, ◌⊎◌, ℕ, ◌+◌, List, take, reverse, slice_get, slice_index_or, Option, Some, None, Result, Ok, Err, MatchResult, Vec}
+use Rattle.std.specs.Prelude.{◌≡◌, ◌⊎◌, ℕ, ◌+◌, List, reverse, slice_index_or, Option, Some, None, Result, Ok, Err, MatchResult, Vec}
 use Rattle.std.specs.declared.alloc.Global.{Global}
 use Rattle.std.specs.Io.KnownBytes.{Appends}
 use Rattle.rt_stamps.specs.declared.fault.Fault.{Fault}
@@ -7,9 +7,9 @@ use Rattle.rt_stamps.specs.declared.fault.Fault.TheVariants.{NoMemory, WriteFaul
 use Rattle.rt_stamps.specs.Written.{AppendsPart}
 use Rattle.rt_oplog.specs.File.{spelling}
 use Rattle.rt_oplog.specs.Intake.{ReaderState, ReadsFile}
-use Rattle.rt_oplog.specs.Logs.{pushed, joined}
+use Rattle.rt_oplog.specs.Logs.{joined}
 use Rattle.rt_oplog.specs.Operations.{Operation}
-use Rattle.rt_oplog.specs.Outcomes.{IsLogOf}
+use Rattle.rt_oplog.specs.Outcomes.{IsFirstRefused, IsLogOf}
 use Rattle.rt_show.specs.Shown.{lines_of}
 use Rattle.rt_script.specs.declared.join.JoinFault.{JoinFault}
 use Rattle.rt_script.specs.Run.{Stream}
@@ -33,16 +33,9 @@ ShowsFile old new before after result =
     ((ops : List Operation) × (offsets : List ℕ) × (fault : Option (Fault × ℕ)) × ReadsFile old new ops offsets fault × TellsLines ops fault before after result)
     ⊎ ((result ≡ Err (NoMemory, 0)) × (new.failures ≡ old.failures) × (after ≡ before))
 
--- One of a file's operations is the first that is not sound, or clashes with one before it: those before it have a log, and
--- that refuses it. The fault has the offset of its record.
-pub record IsRefused (ops : List Operation) (offsets : List ℕ) (found : Fault × ℕ) : Type 0 where
-  pub place : ℕ
-  pub op : Operation
-  pub log : List Operation
-  pub there : slice_get ops place ≡ Some op
-  pub before : IsLogOf (take place ops) log
-  pub refused : pushed op log ≡ Err found.0
-  pub offset : found.1 ≡ slice_index_or offsets place 0
+-- one of a file's operations is the first that is refused, and the fault has the offset of its record
+abbrev pub IsRefused : List Operation → List ℕ → Fault × ℕ → Type 0
+IsRefused ops offsets found = (place : ℕ) × IsFirstRefused ops place found.0 × (found.1 ≡ slice_index_or offsets place 0)
 
 -- What a file gives: the log of its operations, where its reading has no fault. Or its first fault: of the first operation
 -- that is refused, else that of the reading, which comes after all of them.

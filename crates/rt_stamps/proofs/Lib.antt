@@ -1,3 +1,4 @@
+pub mod Names
 pub mod Order
 pub mod TextLaws
 pub mod Writes

@@ -1,11 +1,15 @@
 -- Places, lines and characters of a text, which is a list of characters. A line ends with its newline.
 -- Lines count from 1, the characters of a line from 0, and the place after the last character is the text's end.
-use Rattle.std.specs.Prelude.{ℕ, zero, suc, ◌+◌, ◌-◌, ◌==◌, nat_le, List, [], ◌∷◌, ◌++◌, Bool, length, take, min, if◌then◌else◌}
+use Rattle.std.specs.Prelude.{◌≡◌, ℕ, zero, suc, ◌+◌, ◌-◌, ◌==◌, nat_le, List, [], ◌∷◌, ◌++◌, Bool, length, take, min, if◌then◌else◌}
 use Rattle.std.specs.Fmt.{decimal}
 use Rattle.rt_stamps.specs.declared.position.Position.{Position}
 
 abbrev pub is_newline : ℕ → Bool
 is_newline c = c == 10
+
+-- the last character is a newline
+abbrev pub EndsWithNewline : List ℕ → Type 0
+EndsWithNewline text = (front : List ℕ) × (text ≡ front ++ 10 ∷ [])
 
 -- how many newlines there are
 abbrev pub newlines : List ℕ → ℕ

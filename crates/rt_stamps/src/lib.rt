@@ -6,6 +6,7 @@ pub mod clock;
 pub mod fault;
 pub mod laws;
 pub mod limits;
+pub mod name;
 pub mod position;
 pub mod source;
 pub mod stamp;
@@ -15,6 +16,7 @@ pub mod write;
 
 pub use clock::Clock;
 pub use fault::Fault;
+pub use name::{check_name, check_names, is_name_length};
 pub use position::Position;
 pub use source::{Failed, Sink, Source};
 pub use stamp::{FINAL, ROOT, Site, Span, Stamp};

@@ -1,7 +1,6 @@
 -- The nearest places are the least and the greatest that pass.
 use Rattle.std.proofs.Common.{[], ◌≡◌, ◌+◌, ◌<◌, ◌≤◌, ◌∷◌, drop, ℕ, List, zero, suc, Bool, true, false, cond, arith, refl, sym, ◌∙◌, ap, Some, None, Option}
 use Rattle.std.specs.Prelude.{position, option_map}
-use Rattle.rt_store.specs.declared.cell.Cell.{Cell}
 use Rattle.rt_store.specs.Tagged.{next_place, previous_place, last_with, Passes, IsLeastFrom, IsGreatestBelow}
 use Rattle.rt_store.proofs.Nearest.{position_cons}
 

@@ -2,9 +2,9 @@ pub mod About
 pub mod ByBytes
 pub mod FirstRange
 pub mod LookingLaws
-pub mod NameChecks
 pub mod RangeWalks
 pub mod Runs
 pub mod TagChecks
 pub mod TagFinds
 pub mod TagRangeLaws
+pub mod Unsetting

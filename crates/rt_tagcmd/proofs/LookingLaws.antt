@@ -20,7 +20,8 @@ use Rattle.rt_stamps.specs.declared.fault.Fault.{Fault}
 use Rattle.rt_stamps.specs.Outcomes.{unless, Refuses}
 use Rattle.rt_stamps.specs.Words.{Word}
 use Rattle.rt_edits.specs.Flat.{Flat}
-use Rattle.rt_text.specs.Widgets.{Own, AreSiteMarks, is_own, mark_among, mark_of, marks_of, widget_of}
+use Rattle.rt_text.specs.Widgets.{Own, AreSiteMarks, is_own, mark_among, mark_of, marks_of, own_or, widget_of}
+use Rattle.rt_text.specs.declared.own_mark.OwnMark.TheVariants.{Insert, Current}
 use Rattle.rt_tagcmd.specs.Looking.{edge, mark_or, looked_from}
 use Rattle.rt_tagcmd.specs.MarkCommands.{name_of, names_mark, mark_next, mark_previous}
 
@@ -133,6 +134,12 @@ named_all own marks q a b na nb =
     named_with q own.insert (with_mark own.current marks) both
     ∙ ap (λ v. cond (is_named q own.insert) (Some own.insert) v) (named_with q own.current marks none)
     ∙ (λ i. cond ((turned own.insert.name q ∙ ap (bytes_eq q) a) i) (Some own.insert) (cond ((turned own.current.name q ∙ ap (bytes_eq q) b) i) (Some own.current) (named q marks)))
+    ∙ by (bytes_eq q (codes "insert")) (bytes_eq q (codes "current")) (named q marks)
+  where
+    by : (insert current : Bool) (other : Option Mark) → cond insert (Some own.insert) (cond current (Some own.current) other) ≡ own_or (cond insert (Some Insert) (cond current (Some Current) None)) own other
+    by true current other = refl
+    by false true other = refl
+    by false false other = refl
 
 -- WHAT IS FOUND
 

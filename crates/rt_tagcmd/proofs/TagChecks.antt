@@ -1,19 +1,10 @@
 -- Checks that come one after the other.
-use Rattle.std.proofs.Common.{◌≡◌, ◌⊎◌, inl, inr, ◌&&◌, nat_le, List, [], ◌∷◌, ◌++◌, length, true, false, refl, ap, ◌∙◌, Bool, cond, Option, Some, None, Ok}
-use Rattle.std.proofs.lemmas.Bool.{leb-true}
+use Rattle.std.proofs.Common.{◌≡◌, ◌⊎◌, inl, inr, List, [], ◌∷◌, ◌++◌, ap, ◌∙◌, Option, Some, None, Ok}
 use Rattle.rt_stamps.specs.declared.fault.Fault.{Fault}
-use Rattle.rt_stamps.specs.declared.fault.Fault.TheVariants.{BadName, NoMemory}
-use Rattle.rt_stamps.specs.declared.limits.TheConstants.{MOST_NAME_BYTES}
-use Rattle.rt_stamps.specs.Names.{IsName}
+use Rattle.rt_stamps.specs.declared.fault.Fault.TheVariants.{NoMemory}
 use Rattle.rt_stamps.specs.Outcomes.{Refuses, first_of, unless}
-use Rattle.rt_stamps.specs.Words.{Word}
-use Rattle.rt_text.specs.Commands.{name_check}
 
 -- CHECKS IN TURN
-
-pub none_found : (o : Option Fault) → unless o (tt {0}) ≡ Ok (tt {0}) → o ≡ None
-none_found None e = refl
-none_found (Some f) e = let bad : ⊥ = cc in absurd bad
 
 both_none : (xs ys : List (Option Fault)) → first_of xs ≡ None → first_of ys ≡ None → first_of (xs ++ ys) ≡ None
 both_none [] ys h k = k
@@ -54,15 +45,3 @@ passed o xs r h k = ap (λ v. first_of (v ∷ xs)) h ∙ k
 pub passed_fault : (o : Option Fault) (xs : List (Option Fault)) (fault : Fault) → o ≡ None → (fault ≡ NoMemory) ⊎ (first_of xs ≡ Some fault) → (fault ≡ NoMemory) ⊎ (first_of (o ∷ xs) ≡ Some fault)
 passed_fault o xs fault h (inl e) = inl e
 passed_fault o xs fault h (inr e) = inr (passed o xs (Some fault) h e)
-
--- NAMES
-
-both_true : (a b : Bool) → cond (a && b) None (Some BadName) ≡ None → (a ≡ true) × (b ≡ true)
-both_true true true h = (refl, refl)
-both_true true false h = let bad : ⊥ = cc in absurd bad
-both_true false b h = let bad : ⊥ = cc in absurd bad
-
-pub named : (name : Word) → name_check name ≡ None → IsName name
-named name h =
-    let p = both_true (nat_le 1 (length name)) (nat_le (length name) MOST_NAME_BYTES) h in
-    (leb-true 1 (length name) p.0, leb-true (length name) MOST_NAME_BYTES p.1)

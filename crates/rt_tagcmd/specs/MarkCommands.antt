@@ -4,17 +4,16 @@ use Rattle.std.specs.Prelude.{ℕ, ◌-◌, ◌&&◌, Bool, not, List, [], ◌�
 use Rattle.std.specs.List.{list_any}
 use Rattle.std.specs.Option.{option_map_or}
 use Rattle.std.specs.Ordering.{is_lt}
-use Rattle.std.specs.Str.{bytes_eq}
 use Rattle.rt_index.specs.Reading.{fixed_of}
 use Rattle.rt_marks.specs.declared.gravity.Gravity.{Gravity}
-use Rattle.rt_marks.specs.declared.gravity.Gravity.TheVariants.{Left, Right}
-use Rattle.rt_marks.specs.Marks.{Mark, is_named, mark_after, mark_before, first_mark_at, last_mark_before, marks_set, marks_with_gravity, name_order}
+use Rattle.rt_marks.specs.declared.gravity.Gravity.TheVariants.{Right}
+use Rattle.rt_marks.specs.Marks.{Mark, gravity_of, is_named, mark_after, mark_before, first_mark_at, last_mark_before, marks_set, marks_with_gravity, name_order}
 use Rattle.rt_stamps.specs.declared.fault.Fault.{Fault}
 use Rattle.rt_stamps.specs.declared.fault.Fault.TheVariants.{BadOption, NoMark}
 use Rattle.rt_stamps.specs.Outcomes.{first_of, unless}
 use Rattle.rt_stamps.specs.Words.{Word}
 use Rattle.rt_store.specs.Cells.{text_of}
-use Rattle.rt_text.specs.Commands.{name_check}
+use Rattle.rt_stamps.specs.Names.{name_check}
 use Rattle.rt_text.specs.declared.own_mark.OwnMark.{OwnMark}
 use Rattle.rt_text.specs.declared.own_mark.OwnMark.TheVariants.{Insert, Current}
 use Rattle.rt_edits.specs.Flat.{Flat}
@@ -26,13 +25,6 @@ use Rattle.rt_text.specs.Widgets.{Own, own_mark_of, own_set, own_with_gravity, m
 -- the widget has a mark of a name
 abbrev pub mark_check : Flat → Own → Word → Option Fault
 mark_check flat own name = if is_some (mark_of own flat name) then None else Some NoMark
-
--- the gravity that a word names
-abbrev pub gravity_of : Word → Option Gravity
-gravity_of word =
-    if bytes_eq word (codes "left") then Some Left
-    else if bytes_eq word (codes "right") then Some Right
-    else None
 
 -- a word names a gravity
 abbrev pub gravity_check : Word → Option Fault

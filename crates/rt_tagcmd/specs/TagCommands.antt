@@ -12,7 +12,8 @@ use Rattle.rt_store.specs.Cells.{text_of, visible_of}
 use Rattle.rt_tags.specs.Tags.{is_listed, raised, lowered}
 use Rattle.rt_edits.specs.declared.range.Range.{Range}
 use Rattle.rt_edits.specs.TagWrites.{without_tags}
-use Rattle.rt_text.specs.Commands.{name_check, clock_check, with_tag_in}
+use Rattle.rt_stamps.specs.Names.{name_check}
+use Rattle.rt_text.specs.Commands.{clock_check, with_tag_in}
 use Rattle.rt_edits.specs.Flat.{Flat}
 use Rattle.rt_text.specs.Index.{index_check, place_at_index}
 use Rattle.rt_text.specs.Ranges.{ranges_of}

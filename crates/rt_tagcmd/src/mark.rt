@@ -2,12 +2,11 @@
 ghost use Rattle.std.specs.Prelude.{◌≡◌, ◌≤◌, Ok, Err, None, IfErr, OnOk, OnErr, length, map, min, string_bytes, unwrap_or};
 ghost use Rattle.rt_stamps.specs.Outcomes.{Refuses, first_of, unless};
 ghost use Rattle.rt_store.specs.Cells.{text_of};
-ghost use Rattle.rt_tagcmd.specs.MarkCommands.{gravity_of, own_place, mark_set, mark_unset, mark_gravity, mark_gravity_set};
+ghost use Rattle.rt_tagcmd.specs.MarkCommands.{own_place, mark_set, mark_unset, mark_gravity, mark_gravity_set};
 ghost use Rattle.rt_text.specs.Widgets.{IsOwnOf, own_set};
 
-use crate::name::{check_name, check_names};
 use rt_marks::Gravity;
-use rt_stamps::Fault;
+use rt_stamps::{Fault, check_name, check_names};
 use rt_store::TextStore;
 use rt_text::{Doc, OwnMark, Widget};
 
@@ -81,17 +80,6 @@ pub fn mark_gravity<S: TextStore>(
     }
 }
 
-/// The gravity that a word names.
-fn gravity_of(word: &str) -> Option<Gravity>
-    ensures { result ≡ gravity_of word.now }
-{
-    match word {
-        "left" => Some(Gravity::Left),
-        "right" => Some(Gravity::Right),
-        _ => None,
-    }
-}
-
 /// `mark gravity NAME GRAVITY` (Tk text manual): gives a mark the gravity `left` or `right`.
 /// `BadOption`, `BadName` or `NoMark`, and then nothing changes. It takes no memory.
 pub fn set_mark_gravity<S: TextStore>(
@@ -106,7 +94,7 @@ pub fn set_mark_gravity<S: TextStore>(
     ensures unchanged { OnErr result ((doc.new ≡ doc.old) × (widget.new ≡ widget.old)) }
     ensures own { IsOwnOf (length (text_of doc.new.cells)) widget.new }
 {
-    let Some(gravity) = gravity_of(word) else {
+    let Some(gravity) = Gravity::of(word) else {
         return Err(Fault::BadOption);
     };
     check_name(name)?;

@@ -5,8 +5,8 @@ ghost use Rattle.rt_store.specs.Cells.{text_of};
 ghost use Rattle.rt_tagcmd.specs.TagCommands.{tag_added, tag_lowered, tag_names, tag_names_at, tag_raised, tag_removed, tag_written, tags_deleted};
 ghost use Rattle.rt_text.specs.Widgets.{IsOwnOf};
 
-use crate::name::{check_both, check_name, check_names};
-use rt_stamps::Fault;
+use crate::name::check_both;
+use rt_stamps::{Fault, check_name, check_names};
 use rt_store::TextStore;
 use rt_text::{Doc, Widget};
 use std::alloc::Global;

@@ -8,9 +8,8 @@ ghost use Rattle.rt_tags.specs.Tags.{is_listed};
 ghost use Rattle.rt_text.specs.Index.{index_check, place_at_index};
 ghost use Rattle.rt_text.specs.Widgets.{IsOwnOf, widget_of};
 
-use crate::name::check_name;
 use crate::tag_range::{next_range, previous_range, ranges};
-use rt_stamps::{Fault, Position};
+use rt_stamps::{Fault, Position, check_name};
 use rt_store::TextStore;
 use rt_text::{Doc, Range, Widget};
 use std::alloc::Global;

@@ -4,8 +4,7 @@ ghost use Rattle.rt_tags.specs.Tags.{HaveNoRepeats, IsName, is_listed, is_place,
 
 use crate::names;
 use indexmap::IndexSet;
-use rt_stamps::Fault;
-use rt_stamps::limits::MOST_NAME_BYTES;
+use rt_stamps::{Fault, check_name};
 use std::alloc::Global;
 use std::marker::Model;
 
@@ -84,9 +83,7 @@ impl TagTable {
         ensures memory { result ≡ Err Fault.NoMemory → is_ready name.now self.old ≡ false }
         ensures fault { IfErr result (λ fault. (fault ≡ Fault.BadName) ⊎ (fault ≡ Fault.NoMemory)) }
     {
-        if name.is_empty() || name.len() > MOST_NAME_BYTES {
-            return Err(Fault::BadName);
-        }
+        check_name(name)?;
         if self.has(name) || self.is_prepared(name) {
             return Ok(());
         }
@@ -107,9 +104,7 @@ impl TagTable {
         ensures memory { result ≡ Err Fault.NoMemory → is_ready name.now self.old ≡ false }
         ensures fault { IfErr result (λ fault. (fault ≡ Fault.BadName) ⊎ (fault ≡ Fault.NoMemory)) }
     {
-        if name.is_empty() || name.len() > MOST_NAME_BYTES {
-            return Err(Fault::BadName);
-        }
+        check_name(name)?;
         if self.has(name) {
             return Ok(());
         }

@@ -1,15 +1,15 @@
 -- An insertion at a place, and what it leaves.
-use Rattle.std.proofs.Common.{◌≡◌, ℕ, ◌+◌, ◌-◌, ◌<◌, ◌≤◌, List, [], ◌∷◌, ◌++◌, Bool, true, false, cond, ◌&&◌, All, Option, None, Some, Result, Ok, Err, ◌⊎◌, inl, inr, OnErr, OnOk, length, take, drop, map, max, min, refl, sym, ◌∙◌, ap, subst, arith}
-use Rattle.std.specs.Prelude.{IfErr, nat_le}
+use Rattle.std.proofs.Common.{◌≡◌, ℕ, ◌+◌, ◌-◌, ◌<◌, ◌≤◌, List, [], ◌∷◌, ◌++◌, cond, All, Option, None, Some, Result, Ok, Err, ◌⊎◌, inl, inr, OnErr, OnOk, length, take, drop, map, max, min, sym, ◌∙◌, ap, subst, arith}
+use Rattle.std.specs.Prelude.{IfErr}
 use Rattle.std.specs.Result.{result_err, result_unwrap_or}
-use Rattle.std.proofs.lemmas.Bool.{and_parts, le-ltb, leb-true, lt-ltb}
+use Rattle.std.proofs.lemmas.Bool.{le-ltb, lt-ltb}
 use Rattle.std.proofs.lemmas.List.{length-append, length-map, take-append-drop}
-use Rattle.std.proofs.lemmas.List.Elements.{All-cons, All-nil}
+use Rattle.std.proofs.lemmas.List.Elements.{All-nil}
 use Rattle.rt_index.specs.Index.{index_of}
 use Rattle.rt_marks.specs.Marks.{marks_inserted}
 use Rattle.rt_stamps.specs.declared.fault.Fault.{Fault}
-use Rattle.rt_stamps.specs.declared.fault.Fault.TheVariants.{BadName, ClockSpent, NoMemory, TextFull}
-use Rattle.rt_stamps.specs.declared.limits.TheConstants.{GREATEST_COUNT, MOST_NAME_BYTES}
+use Rattle.rt_stamps.specs.declared.fault.Fault.TheVariants.{ClockSpent, NoMemory, TextFull}
+use Rattle.rt_stamps.specs.declared.limits.TheConstants.{GREATEST_COUNT}
 use Rattle.rt_stamps.specs.declared.stamp.Stamp.{Stamp}
 use Rattle.rt_stamps.specs.Outcomes.{Refuses, first_of, unless}
 use Rattle.rt_stamps.specs.Words.{Word}
@@ -18,7 +18,8 @@ use Rattle.rt_store.specs.Cells.{after_element, map_state, text_of, visible_of}
 use Rattle.rt_store.specs.Tagged.{AreStates}
 use Rattle.rt_tags.specs.States.{IsByName, IsState, KeepsIds, TagStates, name_at, state_at}
 use Rattle.rt_tags.specs.Tags.{IsName}
-use Rattle.rt_text.specs.Commands.{Edited, cell_check, clock_check, inserted, name_check, names_in, with_pieces_at}
+use Rattle.rt_stamps.specs.Names.{name_check}
+use Rattle.rt_text.specs.Commands.{Edited, cell_check, clock_check, inserted, names_in, with_pieces_at}
 use Rattle.rt_edits.specs.declared.plan.Plan.{Plan}
 use Rattle.rt_edits.specs.Flat.{Flat, TaggedCell, left_of, put_after}
 use Rattle.rt_edits.specs.Insertions.{Insertion, Piece, all_listed, insertion_of, left_neighbour, right_neighbour}
@@ -70,23 +71,6 @@ by_late_checks flat own others index pieces rest found place h e p =
     ap (by_index flat own others pieces rest) e
     ∙ ap (λ o. unless o (at_index flat own others pieces rest (Ok found))) (first_none (map name_check (names_in pieces)) (None ∷ late_checks flat (at_index flat own others pieces rest (Ok found))) h)
     ∙ ap (λ n. unless (first_of (late_checks flat (with_pieces_at flat own others n pieces rest))) (with_pieces_at flat own others n pieces rest)) (sym p)
-
--- NAMES
-
-name_fine : (name : Word) (b : Bool) → (nat_le 1 (length name) && nat_le (length name) MOST_NAME_BYTES) ≡ b → cond b None (Some BadName) ≡ None → IsName name
-name_fine name true e h =
-    let p = and_parts (nat_le 1 (length name)) (nat_le (length name) MOST_NAME_BYTES) e in
-    (leb-true 1 (length name) p.0, leb-true (length name) MOST_NAME_BYTES p.1)
-name_fine name false e h = let bad : ⊥ = cc in absurd bad
-
--- names that are not refused are names
-pub all_fine : (names : List Word) → first_of (map name_check names) ≡ None → All IsName names
-all_fine [] h = All-nil IsName
-all_fine (name ∷ names) h = step (name_check name) refl h (λ k. all_fine names k)
-  where
-    step : (o : Option Fault) → name_check name ≡ o → first_of (o ∷ map name_check names) ≡ None → (first_of (map name_check names) ≡ None → All IsName names) → All IsName (name ∷ names)
-    step None e k rest = All-cons IsName name names (name_fine name (nat_le 1 (length name) && nat_le (length name) MOST_NAME_BYTES) refl e) (rest k)
-    step (Some fault) e k rest = let bad : ⊥ = cc in absurd bad
 
 -- CHECKS
 

@@ -15,7 +15,8 @@ use Rattle.rt_tags.specs.States.{TagStates, IsState, KeepsIds, state_at}
 use Rattle.rt_tags.specs.Tags.{IsName, Tags, is_ready, tags_listed, tags_prepared, with_name}
 use Rattle.rt_tags.proofs.Places.{clash}
 use Rattle.rt_tags.proofs.Ready.{prepared_ready, still_prepared, still_ready}
-use Rattle.rt_text.specs.Commands.{name_check, names_in}
+use Rattle.rt_stamps.specs.Names.{name_check}
+use Rattle.rt_text.specs.Commands.{names_in}
 use Rattle.rt_edits.specs.Flat.{TaggedCell}
 use Rattle.rt_edits.specs.Insertions.{Insertion, Piece, all_listed, counts_for, insertion_of, last_of, left_neighbour, right_neighbour, tags_between, with_pieces, with_unlisted}
 use Rattle.rt_edits.specs.Working.{shown}

@@ -1,15 +1,15 @@
 -- The commands on a text.
 use Rattle.std.specs.Prelude.{ℕ, ◌+◌, ◌-◌, ◌==◌, ℤ, List, [], ◌∷◌, ◌++◌, length, map, flat_map, min, nat_lt, Bool, false, Option, Some, None, is_some, option_map, Result, if◌then◌else◌, slice_get, unwrap_or, encode_utf8_all}
 use Rattle.std.specs.Str.{bytes_eq}
-use Rattle.rt_index.specs.Expression.{is_name}
 use Rattle.rt_index.specs.Widget.{Widget}
 use Rattle.rt_marks.specs.Marks.{marks_inserted, marks_left}
 use Rattle.rt_stamps.specs.declared.limits.TheConstants.{GREATEST_COUNT}
 use Rattle.rt_stamps.specs.declared.fault.Fault.{Fault}
-use Rattle.rt_stamps.specs.declared.fault.Fault.TheVariants.{BadName, BadOption, ClockSpent, TextFull}
+use Rattle.rt_stamps.specs.declared.fault.Fault.TheVariants.{BadOption, ClockSpent, TextFull}
 use Rattle.rt_stamps.specs.declared.position.Position.{Position}
 use Rattle.rt_stamps.specs.declared.stamp.Stamp.{Stamp}
 use Rattle.rt_stamps.specs.declared.stamp.TheConstants.{FINAL}
+use Rattle.rt_stamps.specs.Names.{name_check}
 use Rattle.rt_stamps.specs.Outcomes.{first_of, unless}
 use Rattle.rt_stamps.specs.Places.{position_at}
 use Rattle.rt_stamps.specs.Words.{Word}
@@ -37,10 +37,6 @@ operator_check operator = if is_some (comparison_of operator) then None else Som
 -- each switch asks for something to be counted
 abbrev pub switch_check : List Word → Option Fault
 switch_check switches = if is_some (measures_of switches) then None else Some BadOption
-
--- a word may be the name of a tag or a mark
-abbrev pub name_check : Word → Option Fault
-name_check name = if is_name (length name) then None else Some BadName
 
 -- a clock may go as far as a count
 abbrev pub clock_check : ℕ → Option Fault

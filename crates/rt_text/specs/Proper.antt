@@ -14,8 +14,10 @@ use Rattle.rt_store.specs.Tagged.{last_with, last_place, next_place}
 use Rattle.rt_tags.specs.Tags.{sel, is_listed}
 use Rattle.rt_edits.specs.Flat.{TaggedCell}
 use Rattle.rt_edits.specs.Listed.{AreListed, listed_name, named_as}
-use Rattle.rt_edits.specs.Texts.{EndsLine, ends_text}
-use Rattle.rt_text.specs.Widgets.{Own, ends_of, is_tagged, widget_over}
+use Rattle.rt_edits.specs.Texts.{ends_text}
+use Rattle.rt_stamps.specs.Places.{EndsWithNewline}
+use Rattle.rt_text.specs.declared.own_mark.OwnMark.TheVariants.{Insert, Current}
+use Rattle.rt_text.specs.Widgets.{Own, own_or, ends_of, is_tagged, widget_over}
 
 -- MARKS
 
@@ -23,7 +25,7 @@ abbrev place_in : Option Mark → Option ℕ
 place_in o = option_map (λ (m : Mark). m.place) o
 
 abbrev mark_by : Bool → Bool → Own → Option Mark → Option Mark
-mark_by insert current own site = cond insert (Some own.insert) (cond current (Some own.current) site)
+mark_by insert current own site = own_or (cond insert (Some Insert) (cond current (Some Current) None)) own site
 
 place_within : (n : ℕ) (a b : Bool) (own : Own) (site : Option Mark) → own.insert.place ≤ n → own.current.place ≤ n → ((place : ℕ) → place_in site ≡ Some place → place ≤ n)
     → (place : ℕ) → place_in (mark_by a b own site) ≡ Some place → place ≤ n
@@ -110,7 +112,7 @@ proper_over kept cells marks tags own ends text few insert current within names 
     let chars : List TaggedCell = visible_of cells in
     let same : n ≡ length chars = length-map chars (λ (cell : TaggedCell). cell.ch) in
     record {
-      newline = subst EndsLine (sym text) (ends_text kept ends);
+      newline = subst EndsWithNewline (sym text) (ends_text kept ends);
       bounded = few;
       marks_within = λ name place e. place_within n (bytes_eq name (codes "insert")) (bytes_eq name (codes "current")) own (named name marks) insert current (λ p q. within name p q) place e;
       first_within = λ name place e. first_by n (is_listed name tags) (next_place (is_tagged own name) chars 0) (last_place (is_tagged own name) chars)

@@ -40,8 +40,8 @@ new_own = record {
 -- the own mark that a name names
 abbrev pub own_mark_of : List ℕ → Option OwnMark
 own_mark_of name =
-    if bytes_eq name (codes "insert") then Some Insert
-    else if bytes_eq name (codes "current") then Some Current
+    if bytes_eq name (own_name Insert) then Some Insert
+    else if bytes_eq name (own_name Current) then Some Current
     else None
 
 -- a name is that of an own mark
@@ -92,11 +92,12 @@ abbrev pub AreSiteMarks : ℕ → List Mark → Type 0
 AreSiteMarks n marks = Each (IsSiteMark n) marks
 
 -- the mark of a name: an own one, or else one of the site
+abbrev pub own_or : Option OwnMark → Own → Option Mark → Option Mark
+own_or (Some which) own other = Some (own_mark which own)
+own_or None own other = other
+
 abbrev pub mark_among : Own → List Mark → List ℕ → Option Mark
-mark_among own marks name =
-    if bytes_eq name (codes "insert") then Some own.insert
-    else if bytes_eq name (codes "current") then Some own.current
-    else named name marks
+mark_among own marks name = own_or (own_mark_of name) own (named name marks)
 
 abbrev pub mark_of : Own → Flat → List ℕ → Option Mark
 mark_of own flat name = mark_among own flat.marks name

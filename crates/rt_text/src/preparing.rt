@@ -8,7 +8,8 @@ ghost use Rattle.rt_store.specs.Cells.{HasRoom, visible_of};
 ghost use Rattle.rt_store.specs.Tagged.{AreStates};
 ghost use Rattle.rt_tags.specs.States.{IsTag, KeepsIds, name_at};
 ghost use Rattle.rt_tags.specs.Tags.{IsName, is_ready};
-ghost use Rattle.rt_text.specs.Commands.{name_check, names_in};
+ghost use Rattle.rt_stamps.specs.Names.{name_check};
+ghost use Rattle.rt_text.specs.Commands.{names_in};
 ghost use Rattle.rt_edits.specs.Insertions.{all_listed, insertion_of, left_neighbour, right_neighbour};
 ghost use Rattle.rt_edits.specs.Planned.{HaveRoom, IsPlan, planned, selected_between};
 ghost use Rattle.rt_edits.specs.Selected.{room_in, stamps_in};
@@ -17,33 +18,10 @@ ghost use Rattle.rt_edits.specs.Working.{shown};
 use rt_edits::plan::{Between, Plan};
 use rt_edits::selection::{add_between, reserve_between};
 use rt_edits::{Piece, Selection};
-use rt_stamps::limits::MOST_NAME_BYTES;
 use rt_stamps::{Fault, Site};
 use rt_store::{Cell, TextStore};
 use rt_tags::{StateId, StateTable, TagId, TagTable};
 use std::alloc::Global;
-
-// Whether a word may be the name of a tag, or why not.
-fn check_name(name: &str) -> Result<(), Fault>
-    ensures ok { OnOk result (name_check name.now ≡ None) }
-    ensures err { IfErr result (λ fault. name_check name.now ≡ Some fault) }
-{
-    if name.is_empty() || name.len() > MOST_NAME_BYTES {
-        return Err(Fault::BadName);
-    }
-    Ok(())
-}
-
-// Whether all names of a list may be names of tags, or why not.
-fn check_list(names: &[String]) -> Result<(), Fault>
-    ensures ok { OnOk result (first_of (map name_check (map (λ w. string_bytes w) names.now)) ≡ None) }
-    ensures err { IfErr result (λ fault. first_of (map name_check (map (λ w. string_bytes w) names.now)) ≡ Some fault) }
-{
-    for name in names {
-        check_name(name)?;
-    }
-    Ok(())
-}
 
 /// Whether all names in the lists of pieces may be names of tags, or why not.
 pub(crate) fn check_names(pieces: &[Piece]) -> Result<(), Fault>
@@ -51,7 +29,7 @@ pub(crate) fn check_names(pieces: &[Piece]) -> Result<(), Fault>
     ensures err { IfErr result (λ fault. first_of (map name_check (names_in pieces.now)) ≡ Some fault) }
 {
     for piece in pieces {
-        check_list(piece.tags())?;
+        rt_stamps::check_names(piece.tags())?;
     }
     Ok(())
 }

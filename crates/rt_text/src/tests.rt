@@ -424,6 +424,27 @@ fn tagged(rt: &impl Abort, page: &Page, rows: &[(&str, usize, usize, usize)]) {
     }
 }
 
+// Ranges may pass the text's end, overlap, come in any order and be empty.
+#[test]
+fn ranges_of_a_tag(rt: HostRuntime) -> Result<(), Fail> {
+    let mut page = Page::new(rt.alloc(), Clock::new())?;
+    page.insert("1.0", "abcdef")?;
+    let ranges = [
+        Range { from: 5, to: 100 },
+        Range { from: 3, to: 2 },
+        Range { from: 1, to: 3 },
+        Range { from: 4, to: 4 },
+        Range { from: 0, to: 2 },
+    ];
+    page.write_tag(true, "t", &ranges)?;
+    tagged(&rt, &page, &[("t", 0, 0, 3)]);
+    assert_eq!(rt; page.next_tagged("t", 3), Some(5));
+    assert_eq!(rt; page.next_untagged("t", 5), None);
+    page.write_tag(false, "t", &[Range { from: 6, to: 100 }])?;
+    tagged(&rt, &page, &[("t", 3, 5, 6)]);
+    Ok(())
+}
+
 /// A page, and what two other widgets of its site have selected. Its calls take it and give it back.
 struct Shared {
     page: Page,
@@ -485,6 +506,8 @@ fn selected_in_other_widgets(rt: HostRuntime) -> Result<(), Fail> {
     let shared = Shared::new(alloc, Clock::new(), &[stamp(1), stamp(2)], &[stamp(1)])?;
     let shared = shared.insert("1.0", &[], "ab")?;
     let shared = shared.insert("1.1", &[], "X")?;
+    assert_eq!(rt; shared.selected(stamp(3)), (true, false));
+    assert_eq!(rt; shared.page.next_tagged("sel", 0), None);
     let shared = shared.insert("1.1", &listed, "")?;
     assert_eq!(rt; shared.selected(stamp(3)), (true, false));
     assert_eq!(rt; shared.selected(stamp(4)), (false, false));
@@ -512,7 +535,7 @@ fn the_last_newline_loses_its_tags(rt: HostRuntime) -> Result<(), Fail> {
     let down_to_the_end = words(alloc, &["1.1", "end"])?;
     let mut shared = page_of_counts(alloc, 3)?;
     assert_eq!(rt; shared.delete(&down_to_the_end), Ok(()));
-    assert_eq!(rt; shared.page.doc.visible(), 2);
+    assert_eq!(rt; shared.page.get("1.0", "end")?.as_str(), "a\n");
     tagged(&rt, &shared.page, &[("t", 0, 0, 1), ("u", 0, 0, 1)]);
     assert_eq!(rt; shared.page.next_tagged("sel", 0), None);
     assert_eq!(rt; shared.selected(FINAL), (false, false));
@@ -529,7 +552,7 @@ fn a_deletion_with_too_few_counts(rt: HostRuntime) -> Result<(), Fail> {
     let down_to_the_end = words(alloc, &["1.1", "end"])?;
     let mut shared = page_of_counts(alloc, 2)?;
     assert_eq!(rt; shared.delete(&down_to_the_end), Err(Fault::ClockSpent));
-    assert_eq!(rt; shared.page.doc.visible(), 3);
+    assert_eq!(rt; shared.page.get("1.0", "end")?.as_str(), "ab\n");
     assert_eq!(rt; shared.page.next_untagged("t", 0), None);
     assert_eq!(rt; shared.page.next_untagged("u", 0), None);
     assert_eq!(rt; shared.page.next_tagged("sel", 0), Some(2));

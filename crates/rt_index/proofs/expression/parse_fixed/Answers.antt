@@ -1,9 +1,8 @@
-use Rattle.std.proofs.Common.{◌≡◌, Option, Some, None, drop, take, map, inl, inr, refl, sym, ◌∙◌, ap, subst}
-use Rattle.std.specs.Prelude.{option_map}
+use Rattle.std.proofs.Common.{◌≡◌, Some, drop, take, map, sym, ◌∙◌, ap}
 use Rattle.rt_index.specs.Expression.{kept_fixed, kept_modifier}
 use Rattle.rt_index.specs.Reading.{token_length, fixed_of, modifiers_of}
 use Rattle.rt_index.proofs.Modifiers.{map_some}
-use Rattle.rt_index.proofs.Hope.{parsed_fixed, hopeful_fixed, hopeless_fixed}
+use Rattle.rt_index.proofs.Hope.{parsed_fixed, hopeful_fixed}
 use Rattle.rt_index.proofs.expression.parse_fixed.Goals as goal
 
 pub invariant_of-result : goal.invariant_of-result

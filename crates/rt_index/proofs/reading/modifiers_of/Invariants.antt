@@ -1,4 +1,4 @@
-use Rattle.std.proofs.Common.{◌≡◌, ◌≤◌, ◌++◌, length, map}
+use Rattle.std.proofs.Common.{◌≡◌, ◌++◌, length, map}
 use Rattle.std.specs.Prelude.{option_map}
 use Rattle.rt_index.specs.Expression.{kept_modifier}
 use Rattle.rt_index.specs.Reading.{modifiers_of}

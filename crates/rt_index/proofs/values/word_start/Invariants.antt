@@ -1,4 +1,4 @@
-use Rattle.std.proofs.Common.{◌≡◌, ◌+◌, ◌-◌, ◌<◌, ◌≤◌, length, take, reverse}
+use Rattle.std.proofs.Common.{◌≡◌, ◌+◌, ◌≤◌, take, reverse}
 use Rattle.std.specs.List.{prefix_len}
 use Rattle.rt_index.specs.Characters.{is_word_character}
 use Rattle.rt_index.proofs.values.word_start.Given as goal

@@ -4,7 +4,7 @@ use Rattle.std.proofs.lemmas.Str.{is_utf8-from_IsUtf8}
 use Rattle.std.proofs.lemmas.Bool.Decides.{nat_tests}
 use Rattle.rt_oplog.proofs.rules.is_name.Goals as goal
 
-pub returns-then-name-le-MOST_NAME_BYTES : goal.returns-then-name-le-MOST_NAME_BYTES
-returns-then-name-le-MOST_NAME_BYTES c =
+pub returns-then-is_name_length : goal.returns-then-is_name_length
+returns-then-is_name_length c =
     let u : is_utf8 c.args.name.now ≡ true = is_utf8-from_IsUtf8 c.args.name.now c.utf8.name in
     grind (arith, nat_tests)

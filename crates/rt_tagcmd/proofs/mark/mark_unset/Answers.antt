@@ -4,7 +4,8 @@ use Rattle.rt_marks.specs.Marks.{without}
 use Rattle.rt_stamps.specs.declared.fault.Fault.{Fault}
 use Rattle.rt_stamps.specs.Outcomes.{unless}
 use Rattle.rt_edits.specs.Flat.{Flat}
-use Rattle.rt_tagcmd.proofs.NameChecks.{none_found, others, others_none, unset_more, words_of}
+use Rattle.rt_stamps.proofs.Names.{none_found, words_of}
+use Rattle.rt_tagcmd.proofs.Unsetting.{others, others_none, unset_more}
 use Rattle.rt_tagcmd.proofs.mark.mark_unset.Goals as goal
 
 pub loop-name-init : goal.loop-name-init

@@ -1,5 +1,6 @@
 use Rattle.std.proofs.Common.{◌≡◌, take}
-use Rattle.rt_tagcmd.proofs.NameChecks.{others, words_of}
+use Rattle.rt_stamps.proofs.Names.{words_of}
+use Rattle.rt_tagcmd.proofs.Unsetting.{others}
 use Rattle.rt_tagcmd.proofs.mark.mark_unset.Given as goal
 
 abbrev pub invariant-loop-name : goal.invariant-loop-name

@@ -1,10 +1,11 @@
 use Rattle.std.proofs.Common.{◌∙◌, ◌∷◌, [], inr, Some, ap, map, sym}
 use Rattle.std.proofs.lemmas.Result.{IfErr-weaker, err_from_is_err_and, on_ok_weaker}
 use Rattle.rt_edits.specs.TagWrites.{without_tags}
-use Rattle.rt_text.specs.Commands.{clock_check, name_check}
+use Rattle.rt_stamps.specs.Names.{name_check}
+use Rattle.rt_text.specs.Commands.{clock_check}
 use Rattle.rt_edits.specs.Flat.{Flat}
-use Rattle.rt_tagcmd.proofs.NameChecks.{some_found, words_of}
-use Rattle.rt_tagcmd.proofs.TagChecks.{given, none_found, refused_first, refused_last}
+use Rattle.rt_stamps.proofs.Names.{none_found, some_found, words_of}
+use Rattle.rt_tagcmd.proofs.TagChecks.{given, refused_first, refused_last}
 use Rattle.rt_tagcmd.proofs.tag.tag_delete.Goals as goal
 
 pub returns-in_err-check_names-clause-err : goal.returns-in_err-check_names-clause-err
@@ -19,7 +20,7 @@ pub returns-clause-ok : goal.returns-clause-ok
 returns-clause-ok g c =
     let names = words_of c.args.names.now in
     let after = without_tags c.args.doc.now names in
-    let none = none_found _ (sym c.check_names.ensures ∙ c.in_ok-check_names.was) in
+    let none = none_found _ _ (sym c.check_names.ensures ∙ c.in_ok-check_names.was) in
     on_ok_weaker c.delete_tags.result
     (λ h. given (map name_check names) (clock_check after.count) after c.delete_tags.new.self none (ap (λ (f : Flat). clock_check f.count) (sym h.0) ∙ h.1) (sym h.0))
     c.delete_tags.ensures.ok
@@ -28,7 +29,7 @@ pub returns-clause-err : goal.returns-clause-err
 returns-clause-err g c =
     let names = words_of c.args.names.now in
     let after = without_tags c.args.doc.now names in
-    let none = none_found _ (sym c.check_names.ensures ∙ c.in_ok-check_names.was) in
+    let none = none_found _ _ (sym c.check_names.ensures ∙ c.in_ok-check_names.was) in
     IfErr-weaker c.delete_tags.result _ _
     (λ fault h. refused_last (map name_check names) (clock_check after.count) after fault none h)
     c.delete_tags.ensures.err

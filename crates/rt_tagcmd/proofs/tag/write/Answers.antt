@@ -1,13 +1,14 @@
 use Rattle.std.proofs.Common.{◌≡◌, ◌∙◌, ◌∷◌, [], None, List, ap, map, sym}
 use Rattle.std.proofs.lemmas.Result.{IfErr-weaker, err_from_is_err_and, on_ok_weaker}
 use Rattle.rt_edits.specs.declared.range.Range.{Range}
-use Rattle.rt_text.specs.Commands.{clock_check, name_check, with_tag_in}
+use Rattle.rt_stamps.specs.Names.{name_check}
+use Rattle.rt_text.specs.Commands.{clock_check, with_tag_in}
 use Rattle.rt_edits.specs.Flat.{Flat}
 use Rattle.rt_text.specs.Index.{index_check, place_at_index}
 use Rattle.rt_text.specs.Ranges.{ranges_of}
 use Rattle.rt_text.specs.Widgets.{Own, widget_of}
-use Rattle.rt_tagcmd.proofs.NameChecks.{words_of}
-use Rattle.rt_tagcmd.proofs.TagChecks.{given, none_found, passed, passed_fault, refused_first, refused_last}
+use Rattle.rt_stamps.proofs.Names.{none_found, words_of}
+use Rattle.rt_tagcmd.proofs.TagChecks.{given, passed, passed_fault, refused_first, refused_last}
 use Rattle.rt_tagcmd.proofs.tag.write.Goals as goal
 
 pub returns-in_err-ranges-clause-err : goal.returns-in_err-ranges-clause-err
@@ -18,7 +19,7 @@ returns-in_err-ranges-clause-err g c =
     let w = widget_of flat own in
     let indices = words_of c.args.indices.now in
     let after = with_tag_in flat own c.args.on name (ranges_of (map (place_at_index w) indices)) in
-    let none = none_found _ (sym c.check_name.ensures ∙ c.in_ok-check_name.was) in
+    let none = none_found _ _ (sym c.check_name.ensures.value ∙ c.in_ok-check_name.was) in
     let p = err_from_is_err_and c.from_residual-in_err-ranges.result c.from_residual-in_err-ranges.ensures.1 in
     let found = passed_fault (name_check name) (map (index_check w) indices) c.in_err-ranges.field-0.0 none c.in_err-ranges.ensures.err in
     rw p.1 (rw p.2 (refused_first (name_check name ∷ map (index_check w) indices) (clock_check after.0.count ∷ []) after c.in_err-ranges.field-0.0 found))
@@ -31,7 +32,7 @@ returns-clause-ok g c =
     let w = widget_of flat own in
     let indices = words_of c.args.indices.now in
     let written : List Range → Flat × Own = with_tag_in flat own c.args.on name in
-    let none = none_found _ (sym c.check_name.ensures ∙ c.in_ok-check_name.was) in
+    let none = none_found _ _ (sym c.check_name.ensures.value ∙ c.in_ok-check_name.was) in
     let same : c.deref.result.now ≡ ranges_of (map (place_at_index w) indices) = c.deref.ensures.value ∙ c.in_ok-ranges.ensures.ok in
     let after = written (ranges_of (map (place_at_index w) indices)) in
     on_ok_weaker c.write_tag.result
@@ -50,7 +51,7 @@ returns-clause-err g c =
     let w = widget_of flat own in
     let indices = words_of c.args.indices.now in
     let written : List Range → Flat × Own = with_tag_in flat own c.args.on name in
-    let none = none_found _ (sym c.check_name.ensures ∙ c.in_ok-check_name.was) in
+    let none = none_found _ _ (sym c.check_name.ensures.value ∙ c.in_ok-check_name.was) in
     let same : c.deref.result.now ≡ ranges_of (map (place_at_index w) indices) = c.deref.ensures.value ∙ c.in_ok-ranges.ensures.ok in
     let after = written (ranges_of (map (place_at_index w) indices)) in
     IfErr-weaker c.write_tag.result _ _

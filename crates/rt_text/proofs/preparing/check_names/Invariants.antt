@@ -1,6 +1,7 @@
 use Rattle.std.proofs.Common.{◌≡◌, drop, map}
 use Rattle.rt_stamps.specs.Outcomes.{first_of}
-use Rattle.rt_text.specs.Commands.{name_check, names_in}
+use Rattle.rt_stamps.specs.Names.{name_check}
+use Rattle.rt_text.specs.Commands.{names_in}
 use Rattle.rt_text.proofs.preparing.check_names.Given as goal
 
 abbrev pub invariant-loop-piece : goal.invariant-loop-piece

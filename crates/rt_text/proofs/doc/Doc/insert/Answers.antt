@@ -4,7 +4,8 @@ use Rattle.rt_store.specs.Cells.{text_of}
 use Rattle.rt_text.specs.Commands.{names_in}
 use Rattle.rt_edits.specs.Flat.{Flat}
 use Rattle.rt_edits.specs.Selected.{stamps_in}
-use Rattle.rt_text.proofs.PutLaws.{all_fine, all_refused, both_done, done_by, either, refused_index, refused_name, text_same, visible_same}
+use Rattle.rt_stamps.proofs.Names.{all_named}
+use Rattle.rt_text.proofs.PutLaws.{all_refused, both_done, done_by, either, refused_index, refused_name, text_same, visible_same}
 use Rattle.rt_text.proofs.doc.Doc.insert.Goals as goal
 
 pub returns-in_err-check_names-clause-err : goal.returns-in_err-check_names-clause-err
@@ -24,7 +25,7 @@ insert_at-requires-clause-place g c =
     omega (arith, same, c.before_end-place.ensures.within)
 
 pub insert_at-requires-clause-names : goal.insert_at-requires-clause-names
-insert_at-requires-clause-names g c = all_fine (names_in c.args.pieces.now) c.in_ok-check_names.ensures.ok
+insert_at-requires-clause-names g c = all_named (names_in c.args.pieces.now) c.in_ok-check_names.ensures.ok
 
 pub returns-clause-ok : goal.returns-clause-ok
 returns-clause-ok g c =
