@@ -11,7 +11,8 @@ mod files;
 
 use ending::{Failure, join_failure, run_failure, show_failure, status, write_failure};
 use files::{LazyFile, write_whole};
-use rt_script::{JoinFault, Line, LineFault, SiteState, join_files, line, run, show_file};
+use rt_args::{Line, LineFault, line};
+use rt_script::{JoinFault, SiteState, join_files, run, show_file};
 use rt_stamps::limits::MOST_CELLS;
 use rt_stamps::std_ends::{Count, Reader, Writer};
 use rt_stamps::{Fault, Sink, Site, Source};

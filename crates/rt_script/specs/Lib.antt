@@ -1,4 +1,3 @@
-pub mod CommandLine
 pub mod Files
 pub mod Pieces
 pub mod Replies

@@ -1,11 +1,11 @@
 // Files of operations, joined and shown. The bytes of the files are written by hand.
 ghost use Rattle.std.specs.Prelude.{◌≡◌, ◌<◌};
 
+use crate::test_ends::{Output, Pieces};
 use crate::{JoinFault, join_files, show_file};
 use rt_stamps::Fault;
 use rt_stamps::std_ends::{Count, Reader, Writer};
 use std::alloc::Global;
-use std::io::{self, Read, Write};
 use std::marker::Brand;
 use std::sync::ledger::{Blank, Ledger};
 use std::test::Fail;
@@ -78,29 +78,6 @@ const TAG_FIRST: [u8; 92] = [
     0x00, 0x00, 0x00, 0x01, 0x00, 0x00, 0x00, 0x00, 0x00, 0x00, 0x00, 0x01,
 ];
 
-// A reader that gives at most so many bytes at a time, and whose read of a number fails.
-#[derive(Drop)]
-struct Pieces<'a> {
-    bytes: &'a [u8],
-    size: usize,
-    until_failure: Option<usize>,
-}
-
-impl Read for Pieces<'_> {
-    ghost use Rattle.std.specs.Prelude.{None};
-
-    ghost remaining = { λ _. None };
-
-    fn read(&mut self, buf: &mut [u8]) -> io::Result<usize> {
-        if self.until_failure == Some(0) {
-            return Err(io::Error::from(io::ErrorKind::Other));
-        }
-        self.until_failure = self.until_failure.map(|n| n.saturating_sub(1));
-        let n = self.size.min(buf.len());
-        self.bytes.read(&mut buf[..n])
-    }
-}
-
 fn whole(bytes: &[u8]) -> Pieces<'_> {
     Pieces {
         bytes,
@@ -123,31 +100,6 @@ fn unreadable<'a>() -> Pieces<'a> {
         bytes: b"",
         size: 4096,
         until_failure: Some(0),
-    }
-}
-
-// A writer whose write of a number fails.
-#[derive(Drop)]
-struct Output {
-    bytes: Vec<u8>,
-    until_failure: Option<usize>,
-}
-
-impl Write for Output {
-    ghost use Rattle.std.specs.Prelude.{None};
-
-    ghost contents = { λ _. None };
-
-    fn write(&mut self, buf: &[u8]) -> io::Result<usize> {
-        if self.until_failure == Some(0) {
-            return Err(io::Error::from(io::ErrorKind::Other));
-        }
-        self.until_failure = self.until_failure.map(|n| n.saturating_sub(1));
-        self.bytes.write(buf)
-    }
-
-    fn flush(&mut self) -> io::Result<()> {
-        Ok(())
     }
 }
 

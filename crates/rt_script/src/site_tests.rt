@@ -1,62 +1,14 @@
 ghost use Rattle.std.specs.Prelude.{◌≡◌, ◌<◌, ◌≤◌};
 
+use crate::test_ends::{Output, Pieces};
 use crate::{SiteState, run};
 use rt_stamps::limits::{GREATEST_COUNT, MOST_CELLS};
 use rt_stamps::std_ends::{Count, Reader, Writer};
 use rt_stamps::{Clock, Fault, Site};
 use std::alloc::Global;
-use std::io::{self, Read, Write};
 use std::marker::Brand;
 use std::sync::ledger::{Blank, Ledger};
 use std::test::Fail;
-
-// A reader that gives at most so many bytes at a time, and whose read of a number fails.
-#[derive(Drop)]
-struct Pieces<'a> {
-    bytes: &'a [u8],
-    size: usize,
-    until_failure: Option<usize>,
-}
-
-impl Read for Pieces<'_> {
-    ghost use Rattle.std.specs.Prelude.{None};
-
-    ghost remaining = { λ _. None };
-
-    fn read(&mut self, buf: &mut [u8]) -> io::Result<usize> {
-        if self.until_failure == Some(0) {
-            return Err(io::Error::from(io::ErrorKind::Other));
-        }
-        self.until_failure = self.until_failure.map(|n| n.saturating_sub(1));
-        let n = self.size.min(buf.len());
-        self.bytes.read(&mut buf[..n])
-    }
-}
-
-// A writer whose write of a number fails.
-#[derive(Drop)]
-struct Text {
-    bytes: Vec<u8>,
-    until_failure: Option<usize>,
-}
-
-impl Write for Text {
-    ghost use Rattle.std.specs.Prelude.{None};
-
-    ghost contents = { λ _. None };
-
-    fn write(&mut self, buf: &[u8]) -> io::Result<usize> {
-        if self.until_failure == Some(0) {
-            return Err(io::Error::from(io::ErrorKind::Other));
-        }
-        self.until_failure = self.until_failure.map(|n| n.saturating_sub(1));
-        self.bytes.write(buf)
-    }
-
-    fn flush(&mut self) -> io::Result<()> {
-        Ok(())
-    }
-}
 
 fn output<A: Ledger, B: Ledger, C: Ledger, D: Ledger>(
     alloc: Global,
@@ -80,7 +32,7 @@ fn output<A: Ledger, B: Ledger, C: Ledger, D: Ledger>(
         Count::<B>::begin(failed_reads),
     );
     let mut out = Writer::new(
-        Text {
+        Output {
             bytes: Vec::new(alloc),
             until_failure: failing_write,
         },
@@ -94,7 +46,7 @@ fn output<A: Ledger, B: Ledger, C: Ledger, D: Ledger>(
         Ok(state) => run(alloc, state, &mut script, &[], &mut out).fault,
         Err(fault) => Some(fault),
     };
-    let Text { bytes, .. } = out.into_inner();
+    let Output { bytes, .. } = out.into_inner();
     (bytes, fault)
 }
 

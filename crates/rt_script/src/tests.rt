@@ -1,12 +1,12 @@
 ghost use Rattle.std.specs.Prelude.{◌≡◌, ◌<◌};
 
 use crate::engine::run_lines;
+use crate::test_ends::Pieces;
 use crate::{Answer, Commands, Reply};
 use rt_stamps::Fault;
 use rt_stamps::limits::MOST_LINE_BYTES;
 use rt_stamps::std_ends::{Count, Reader, Writer};
 use std::alloc::Global;
-use std::io::{self, Read};
 use std::marker::Brand;
 use std::sync::ledger::{Blank, Ledger};
 use std::test::Fail;
@@ -41,24 +41,6 @@ impl Commands for Echo {
     }
 }
 
-// A reader that gives at most so many bytes at a time.
-#[derive(Drop)]
-struct Pieces<'a> {
-    bytes: &'a [u8],
-    size: usize,
-}
-
-impl Read for Pieces<'_> {
-    ghost use Rattle.std.specs.Prelude.{None};
-
-    ghost remaining = { λ _. None };
-
-    fn read(&mut self, buf: &mut [u8]) -> io::Result<usize> {
-        let n = self.size.min(buf.len());
-        self.bytes.read(&mut buf[..n])
-    }
-}
-
 fn output<A: Ledger, B: Ledger, C: Ledger, D: Ledger>(
     alloc: Global,
     pieces: Pieces,
@@ -89,7 +71,11 @@ fn output<A: Ledger, B: Ledger, C: Ledger, D: Ledger>(
 fn output_of(alloc: Global, bytes: &[u8], size: usize) -> (Vec<u8>, Option<Fault>) {
     output::<Brand, Brand, Brand, Brand>(
         alloc,
-        Pieces { bytes, size },
+        Pieces {
+            bytes,
+            size,
+            until_failure: None,
+        },
         Blank::new(1),
         Blank::new(1),
         Blank::new(1),

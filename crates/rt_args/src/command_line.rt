@@ -1,6 +1,6 @@
 // What a command line asks for, or why it asks for nothing.
 ghost use Rattle.std.specs.Prelude.{◌≡◌};
-ghost use Rattle.rt_script.specs.CommandLine.{is_mistake, status_of};
+ghost use Rattle.rt_args.specs.CommandLine.{is_mistake, status_of};
 
 use clap::Error;
 use clap::error::ErrorKind;
@@ -54,7 +54,7 @@ impl LineFault {
 }
 
 impl From<Error> for LineFault {
-    ghost use Rattle.rt_script.specs.CommandLine.{fault_from};
+    ghost use Rattle.rt_args.specs.CommandLine.{fault_from};
 
     ghost from_gives = { λ error fault. fault ≡ fault_from error };
 
@@ -67,7 +67,7 @@ impl From<Error> for LineFault {
 }
 
 impl From<AllocError> for LineFault {
-    ghost use Rattle.rt_script.specs.declared.command_line.LineFault.TheVariants.{NoMemory};
+    ghost use Rattle.rt_args.specs.declared.command_line.LineFault.TheVariants.{NoMemory};
 
     ghost from_gives = { λ _ fault. fault ≡ NoMemory };
 
@@ -77,7 +77,7 @@ impl From<AllocError> for LineFault {
 }
 
 impl fmt::Display for LineFault {
-    ghost use Rattle.rt_script.specs.CommandLine.{text_of_fault};
+    ghost use Rattle.rt_args.specs.CommandLine.{text_of_fault};
 
     ghost output = { λ fault. text_of_fault fault };
 

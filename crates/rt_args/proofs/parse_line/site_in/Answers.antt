@@ -1,7 +1,7 @@
 use Rattle.std.specs.Str.Parse.{ExplainsUnsignedError, HasUnsignedDigitsIfOk, ParsesUnsigned}
 use Rattle.std.proofs.Common.{◌∙◌, ap, sym, Some}
-use Rattle.rt_script.proofs.Named.{has_number, number_is}
-use Rattle.rt_script.proofs.parse_line.site_in.Goals as goal
+use Rattle.rt_args.proofs.Named.{has_number, number_is}
+use Rattle.rt_args.proofs.parse_line.site_in.Goals as goal
 
 pub unwrap-requires : goal.unwrap-requires
 unwrap-requires c =

@@ -22,10 +22,10 @@ use Rattle.clap.specs.Words.{ReadsOne, kind_of, one_of}
 use Rattle.clap.specs.declared.error.Error.{Error}
 use Rattle.clap.specs.declared.builder.ValueParser.TheVariants.{Unsigned}
 use Rattle.clap.proofs.ValueTestLemmas.{accepts-Accepts}
-use Rattle.rt_script.specs.declared.command_line.LineFault.{LineFault}
-use Rattle.rt_script.specs.declared.command_line.LineFault.TheVariants.{NoMemory, Usage}
-use Rattle.rt_script.specs.CommandLine.{HasFile, HasSite, IsWhole, Refuses, fault_from, file_word, is_out_of_memory, peertext, run_command, site_option}
-use Rattle.rt_script.proofs.Walks.{Keeps, found_all, is_full, level_sound, no_kinds, some_kind}
+use Rattle.rt_args.specs.declared.command_line.LineFault.{LineFault}
+use Rattle.rt_args.specs.declared.command_line.LineFault.TheVariants.{NoMemory, Usage}
+use Rattle.rt_args.specs.CommandLine.{HasFile, HasSite, IsWhole, Refuses, fault_from, file_word, is_out_of_memory, peertext, run_command, site_option}
+use Rattle.rt_args.proofs.Walks.{Keeps, found_all, is_full, level_sound, no_kinds, some_kind}
 
 -- ---- the subcommands, as clap builds them
 

@@ -13,10 +13,10 @@ use Rattle.clap.specs.declared.error.ErrorKind.TheVariants.{DisplayHelp, Display
 use Rattle.rt_stamps.specs.Fault.{text_of}
 use Rattle.rt_stamps.specs.declared.fault.Fault.TheVariants as fault
 use Rattle.rt_stamps.specs.declared.limits.TheConstants.{GREATEST_SITE}
-use Rattle.rt_script.specs.declared.command_line.Line.{Line}
-use Rattle.rt_script.specs.declared.command_line.Line.TheVariants.{Run, Join, Show}
-use Rattle.rt_script.specs.declared.command_line.LineFault.{LineFault}
-use Rattle.rt_script.specs.declared.command_line.LineFault.TheVariants.{Usage, NoMemory}
+use Rattle.rt_args.specs.declared.command_line.Line.{Line}
+use Rattle.rt_args.specs.declared.command_line.Line.TheVariants.{Run, Join, Show}
+use Rattle.rt_args.specs.declared.command_line.LineFault.{LineFault}
+use Rattle.rt_args.specs.declared.command_line.LineFault.TheVariants.{Usage, NoMemory}
 
 -- `--site N`, which is required: a number from 1 to the greatest one of a site
 abbrev pub site_option : Rule

@@ -8,8 +8,8 @@ use Rattle.clap.specs.Walk.{Row, Text}
 use Rattle.clap.specs.Words.{ReadsOne, found_of, one_text, rows_of}
 use Rattle.clap.specs.declared.parser.ArgMatches.{ArgMatches}
 use Rattle.clap.proofs.WalkLemmas.{one_text-rows}
-use Rattle.rt_script.specs.CommandLine.{HasFile, HasSite, IsWhole, site_given}
-use Rattle.rt_script.proofs.TakenWords.{number_read}
+use Rattle.rt_args.specs.CommandLine.{HasFile, HasSite, IsWhole, site_given}
+use Rattle.rt_args.proofs.TakenWords.{number_read}
 
 -- ---- names
 

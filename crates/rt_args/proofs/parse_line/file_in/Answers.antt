@@ -2,8 +2,8 @@ use Rattle.std.proofs.Common.{◌∙◌, ap, sym, Some}
 use Rattle.std.specs.Option.{option_map}
 use Rattle.clap.specs.Words.{found_of}
 use Rattle.clap.proofs.WalkLemmas.{first_value-rows}
-use Rattle.rt_script.proofs.Named.{some_mapped}
-use Rattle.rt_script.proofs.parse_line.file_in.Goals as goal
+use Rattle.rt_args.proofs.Named.{some_mapped}
+use Rattle.rt_args.proofs.parse_line.file_in.Goals as goal
 
 pub unwrap-file-requires : goal.unwrap-file-requires
 unwrap-file-requires c =

@@ -2,10 +2,10 @@ use Rattle.std.proofs.Common.{◌≡◌, ◌∙◌, ap, subst, sym, refl, map, t
 use Rattle.clap.specs.Kinds.{HasKind}
 use Rattle.clap.specs.Words.{fault_of, is_simple, is_simple_and_free, subcommand_of}
 use Rattle.clap.proofs.OnLiterals.{clap_on_literals}
-use Rattle.rt_script.specs.CommandLine.{IsWhole, peertext}
-use Rattle.rt_script.proofs.TakenWords.{taken_words, refused_by}
-use Rattle.rt_script.proofs.Named.{if_ok}
-use Rattle.rt_script.proofs.parse_line.line.Goals as goal
+use Rattle.rt_args.specs.CommandLine.{IsWhole, peertext}
+use Rattle.rt_args.proofs.TakenWords.{taken_words, refused_by}
+use Rattle.rt_args.proofs.Named.{if_ok}
+use Rattle.rt_args.proofs.parse_line.line.Goals as goal
 
 is_free : is_simple_and_free peertext ≡ true
 unfolding clap_on_literals

@@ -2,8 +2,8 @@
 ghost use Rattle.std.specs.Prelude.{◌≡◌, ◌<◌, IfErr, IfOk, Some, codes, false, map, string_bytes};
 ghost use Rattle.clap.specs.Words.{app_of, found_of, new_app, rows_of, rule_of, subcommand_rows_of, with_rule, with_subcommand};
 ghost use Rattle.clap.specs.declared.builder.Command.TheViews.{out-Command as fields_of};
-ghost use Rattle.rt_script.specs.CommandLine.{HasFile, HasSite, HasValues, IsCommand, IsOption, IsWhole, LineIn, LineOf, Refuses, Takes, file_given, file_word, join_command, peertext, program, run_command, show_command, site_given, site_option, subcommand_name};
-ghost use Rattle.rt_script.specs.declared.command_line.LineFault.TheVariants.{NoMemory};
+ghost use Rattle.rt_args.specs.CommandLine.{HasFile, HasSite, HasValues, IsCommand, IsOption, IsWhole, LineIn, LineOf, Refuses, Takes, file_given, file_word, join_command, peertext, program, run_command, show_command, site_given, site_option, subcommand_name};
+ghost use Rattle.rt_args.specs.declared.command_line.LineFault.TheVariants.{NoMemory};
 
 use crate::{Line, LineFault};
 use clap::builder::ValueParser;
