@@ -1,5 +1,6 @@
 #!/usr/bin/env python3
-"""Times the built program on files of many one-character insertions: seconds, and bytes of memory an operation that is read.
+"""Times the built program on files of many one-character insertions, and on many writes of a tag, each of which makes a new
+state of tags: seconds, and bytes of memory an operation that is read, or a write.
 
 Usage: tests/bench.py [PROGRAM [OPERATIONS]]; without a program it takes ./peertext's, which has to be built; a million
 operations if no number is given. It is run by hand. The status is 1 where an answer is wrong.
@@ -35,20 +36,20 @@ def write(path, counts, sites):
             ends[site], after = count, (count, site)
 
 
-def measure(name, operations, *words):
+def measure(name, operations, *words, script=subprocess.DEVNULL, each="an operation read"):
     """Runs the program once, prints its seconds and its greatest memory, and answers its status and how many lines it wrote.
 
     The memory of a process counts from before it became the program, so this one keeps nothing large."""
     with tempfile.TemporaryFile() as out:
         start = time.monotonic()
-        child = subprocess.Popen([PROGRAM, *words], stdin=subprocess.DEVNULL, stdout=out)
+        child = subprocess.Popen([PROGRAM, *words], stdin=script, stdout=out)
         _, status, usage = os.wait4(child.pid, 0)
         seconds = time.monotonic() - start
         child.returncode = os.waitstatus_to_exitcode(status)
         out.seek(0)
         lines = sum(1 for _ in out)
-    each = usage.ru_maxrss * 1024 / operations
-    print(f"{name:54} {seconds:6.2f} s {usage.ru_maxrss / 1024:6.1f} MiB {each:6.1f} bytes an operation read", flush=True)
+    size = usage.ru_maxrss * 1024 / operations
+    print(f"{name:54} {seconds:6.2f} s {usage.ru_maxrss / 1024:6.1f} MiB {size:6.1f} bytes {each}", flush=True)
     return child.returncode, lines
 
 
@@ -76,6 +77,13 @@ def main():
         write(other, range(2, n + 1, 2), [2])
         status, _ = measure(name, n, "join", file, other, out)
         expect(name, status == 0 and os.path.getsize(out) == 8 + n * 35)
+        for writes in (n // 100, n // 10):
+            name = f"{writes:,} writes of a tag to one character"
+            with open(file, "w", encoding="ascii") as script:
+                script.write(".t insert 1.0 a\n" + ".t tag add t 1.0\n.t tag remove t 1.0\n" * (writes // 2))
+            with open(file, "rb") as script:
+                status, lines = measure(name, writes, "run", "--site", "1", script=script, each="a write")
+            expect(name, status == 0 and lines == writes + 1)
     return 1 if wrong else 0
 
 
