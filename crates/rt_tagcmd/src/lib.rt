@@ -10,8 +10,6 @@ mod nearest;
 pub mod tag;
 pub mod tag_find;
 mod tag_range;
-#[cfg(test)]
-mod tests;
 
 pub use mark::{mark_gravity, mark_set, mark_unset, set_mark_gravity};
 pub use mark_name::mark_names;

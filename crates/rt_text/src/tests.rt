@@ -83,22 +83,6 @@ impl Page {
         self.doc.get(&self.widget, from, to)
     }
 
-    fn get_one(&self, index: &str) -> Result<String, Fault> {
-        self.doc.get_one(&self.widget, index)
-    }
-
-    fn get_list(&self, indices: &[String]) -> Result<Vec<String>, Fault> {
-        self.doc.get_list(&self.widget, indices)
-    }
-
-    fn count(&self, switches: &[String], from: &str, to: &str) -> Result<Vec<i64>, Fault> {
-        self.doc.count(&self.widget, switches, from, to)
-    }
-
-    fn compare(&self, first: &str, operator: &str, second: &str) -> Result<bool, Fault> {
-        self.doc.compare(&self.widget, first, operator, second)
-    }
-
     fn index(&self, index: &str) -> Result<Position, Fault> {
         self.doc.index(&self.widget, index)
     }
@@ -122,36 +106,13 @@ impl Page {
         Ok(())
     }
 
-    fn unset(&mut self, name: &str) {
-        self.doc.unset_mark(name);
-    }
-
     fn next(&self, name: &str) -> Option<&str> {
         self.doc.marks().next(name)
-    }
-
-    fn gravity(&self, which: OwnMark) -> Gravity {
-        self.widget.gravity(which)
     }
 }
 
 fn at(line: usize, character: usize) -> Result<Position, Fault> {
     Ok(Position { line, character })
-}
-
-// Indices, each with its line and character.
-fn stand(rt: &impl Abort, page: &Page, indices: &[(&str, usize, usize)]) {
-    for (index, line, character) in indices {
-        assert_eq!(rt; page.index(index), at(*line, *character), "at {index}");
-    }
-}
-
-// Marks set at indices.
-fn set_all(page: &mut Page, marks: &[(&str, &str)]) -> Result<(), Fault> {
-    for (name, index) in marks {
-        page.set(name, index)?;
-    }
-    Ok(())
 }
 
 // A deletion of ranges.
@@ -167,40 +128,6 @@ fn words(alloc: Global, words: &[&str]) -> Result<Vec<String>, Fail> {
         all.push(String::from_str(alloc, word)?)?;
     }
     Ok(all)
-}
-
-#[test]
-fn lists_of_texts(rt: HostRuntime) -> Result<(), Fail> {
-    let alloc = rt.alloc();
-    let mut page = Page::new(alloc, Clock::new())?;
-    page.insert("1.0", "hello")?;
-    let indices = words(alloc, &["1.0", "1.1", "1.1", "1.0", "1.4"])?;
-    let texts = page.get_list(&indices)?;
-    assert_eq!(rt; texts.len(), 2);
-    assert_eq!(rt; texts[0].as_str(), "h");
-    assert_eq!(rt; texts[1].as_str(), "o");
-    assert_eq!(rt; page.get_one("1.0 + 1 c")?.as_str(), "e");
-    Ok(())
-}
-
-#[test]
-fn distances_and_comparisons(rt: HostRuntime) -> Result<(), Fail> {
-    let alloc = rt.alloc();
-    let mut page = Page::new(alloc, Clock::new())?;
-    page.insert("1.0", "hello")?;
-    let none = words(alloc, &[])?;
-    assert_eq!(rt;
-        page.count(&none, "end", "1.0")?.as_slice(),
-        [-6].as_slice()
-    );
-    let both = words(alloc, &["-lines", "-chars"])?;
-    assert_eq!(rt;
-        page.count(&both, "1.0", "end")?.as_slice(),
-        [1, 6].as_slice()
-    );
-    assert_eq!(rt; page.compare("1.0", "<", "end"), Ok(true));
-    assert_eq!(rt; page.compare("insert", "==", "1.end"), Ok(true));
-    Ok(())
 }
 
 #[test]
@@ -220,95 +147,6 @@ fn deletes_with_the_last_count(rt: HostRuntime) -> Result<(), Fail> {
     assert_eq!(rt; page.delete(&nothing), Ok(()));
     let unread = words(alloc, &["1.0", "one"])?;
     assert_eq!(rt; page.delete(&unread), Err(Fault::BadIndex));
-    Ok(())
-}
-
-/// Index expressions on the text `hi`, and their places.
-const EXPRESSIONS: [(&str, usize, usize); 11] = [
-    ("1.0 -1c +1c", 1, 1),
-    ("9.9", 2, 0),
-    ("1.99", 1, 2),
-    ("1.0 + 5 lines", 1, 0),
-    ("end - 1 lines", 1, 0),
-    ("end linestart", 2, 0),
-    ("1.0 wordend", 1, 2),
-    ("1.2 wordend", 1, 2),
-    ("end-1c", 1, 2),
-    ("insert wordstart - 1 c", 1, 1),
-    ("current lineend", 1, 2),
-];
-
-#[test]
-fn expressions_in_commands(rt: HostRuntime) -> Result<(), Fail> {
-    let mut page = Page::new(rt.alloc(), Clock::new())?;
-    stand(&rt, &page, &[("end", 2, 0), ("end-1c", 1, 0)]);
-    page.insert("1.0", "hi")?;
-    stand(&rt, &page, &EXPRESSIONS);
-    page.insert("insert lineend", "!")?;
-    delete_at(rt.alloc(), &mut page, &["end - 2 chars"])?;
-    assert_eq!(rt; page.get("1.0", "1.0 lineend")?.as_str(), "hi");
-    Ok(())
-}
-
-#[test]
-fn refused_expressions(rt: HostRuntime) -> Result<(), Fail> {
-    let page = Page::new(rt.alloc(), Clock::new())?;
-    assert_eq!(rt; page.index("x.first"), Err(Fault::BadIndex));
-    assert_eq!(rt; page.index("sel.first"), Err(Fault::NoneTagged));
-    assert_eq!(rt; page.compare("sel.first", "<", "x"), Err(Fault::NoneTagged));
-    assert_eq!(rt; page.compare("sel.first", "is", "x"), Err(Fault::BadOption));
-    Ok(())
-}
-
-// Of two marks where text is inserted the left one stays.
-#[test]
-fn marks_move_for_text(rt: HostRuntime) -> Result<(), Fail> {
-    let mut page = Page::new(rt.alloc(), Clock::new())?;
-    page.insert("1.0", "ab")?;
-    set_all(&mut page, &[("l", "1.1"), ("r", "1.1")])?;
-    page.set_gravity("l", Gravity::Left)?;
-    page.insert("1.1", "XY")?;
-    stand(&rt, &page, &[("l", 1, 1), ("r", 1, 3), ("insert", 1, 4)]);
-    assert_eq!(rt; page.next("l"), Some("r"));
-    page.unset("r");
-    assert_eq!(rt; page.index("r"), Err(Fault::BadIndex));
-    Ok(())
-}
-
-// `insert` moves as other marks do.
-#[test]
-fn the_cursor_moves(rt: HostRuntime) -> Result<(), Fail> {
-    let mut page = Page::new(rt.alloc(), Clock::new())?;
-    page.insert("1.0", "aXYb")?;
-    assert_eq!(rt; page.gravity(OwnMark::Insert), Gravity::Right);
-    page.set_gravity("insert", Gravity::Left)?;
-    page.insert("insert", "!")?;
-    stand(&rt, &page, &[("insert", 1, 4), ("current", 1, 5)]);
-    delete_at(rt.alloc(), &mut page, &["insert - 2 c", "current"])?;
-    stand(&rt, &page, &[("insert", 1, 2), ("current", 1, 2)]);
-    assert_eq!(rt; page.get("1.0", "end")?.as_str(), "aX\n");
-    Ok(())
-}
-
-// A mark at the end stays there, since text goes before the last newline; `insert` isn't set there.
-#[test]
-fn marks_at_the_end(rt: HostRuntime) -> Result<(), Fail> {
-    let mut page = Page::new(rt.alloc(), Clock::new())?;
-    let all = [("m", "end"), ("insert", "end"), ("current", "end")];
-    set_all(&mut page, &all)?;
-    stand(&rt, &page, &[("m", 2, 0), ("insert", 1, 0)]);
-    page.insert("end", "ab\ncd")?;
-    stand(
-        &rt,
-        &page,
-        &[("m", 3, 0), ("current", 3, 0), ("insert", 2, 2)],
-    );
-    delete_at(rt.alloc(), &mut page, &["1.0", "end"])?;
-    stand(
-        &rt,
-        &page,
-        &[("m", 2, 0), ("current", 2, 0), ("insert", 1, 0)],
-    );
     Ok(())
 }
 
