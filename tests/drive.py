@@ -5,18 +5,21 @@ of operations that are joined and shown.
 Usage: tests/drive.py [PROGRAM]; without a program it takes ./peertext, which builds it where it is missing.
 The last line is 'N passed, M failed'.
 """
+import contextlib
 import os
 import random
 import resource
+import shutil
 import signal
+import stat
 import subprocess
 import sys
 import tempfile
 
 ROOT = os.path.dirname(os.path.dirname(os.path.abspath(__file__)))
-PROGRAM = sys.argv[1] if len(sys.argv) > 1 else os.path.join(ROOT, "peertext")
+PROGRAM = os.path.abspath(sys.argv[1]) if len(sys.argv) > 1 else os.path.join(ROOT, "peertext")
 # the launcher's own process is not to lose an allocation
-BUILT = sys.argv[1] if len(sys.argv) > 1 else os.path.join(ROOT, "crates", "peertext", "out", "peertext")
+BUILT = PROGRAM if len(sys.argv) > 1 else os.path.join(ROOT, "crates", "peertext", "out", "peertext")
 passed = failed = 0
 
 
@@ -98,6 +101,7 @@ def statuses():
     for words in [("--help",), ("--version",), ("run", "--help"), ("join", "--help"), ("show", "--help")]:
         done = subprocess.run([PROGRAM, *words], input=b"", capture_output=True, timeout=120)
         check(f"{words}", (bool(done.stdout), done.stderr, done.returncode), (True, b"", 0))
+    check("a word that is no text", called("show", b"\xff"), (b"", b"peertext: a word of the command line is no text\n", 2))
     with open("/dev/full", "wb") as full:
         done = subprocess.run([PROGRAM, "run", "--site", "1"], input=b".t index end\n", stdout=full, stderr=subprocess.PIPE, timeout=120)
     check("a full disk", (done.stderr, done.returncode), (b"peertext: 41 WriteFault\n", 1))
@@ -231,6 +235,139 @@ def outs_that_fail():
     check("join into standard output", called("join", "ab", "y", "/dev/stdout"), (HEAD + AB + Y, b"", 0))
 
 
+NOBODY = 65534
+
+
+def as_user():
+    """How a program is run by a user from whom files can be kept: root may write them all."""
+    return {"user": NOBODY, "group": NOBODY, "extra_groups": []} if os.geteuid() == 0 else {}
+
+
+def give(how, name, mode, data=OLD):
+    """Makes a file, or a folder where there is no data, that is the user's by whom a program is run."""
+    if data is None:
+        os.mkdir(name)
+    else:
+        with open(name, "wb") as file:
+            file.write(data)
+    if "user" in how:
+        os.chown(name, how["user"], how["group"])
+    os.chmod(name, mode)
+
+
+def mode_of(name):
+    return stat.S_IMODE(os.stat(name).st_mode)
+
+
+@contextlib.contextmanager
+def home(how):
+    """A folder of that user's, within which a test runs."""
+    give(how, "home", 0o755, None)
+    os.chdir("home")
+    try:
+        yield
+    finally:
+        os.chdir("..")
+        os.chmod("home", 0o755)
+        shutil.rmtree("home")
+
+
+def join_at_home(out, how, **more):
+    words = ["../program", "join", "../ab", "../y", out]
+    done = subprocess.run(words, stdin=subprocess.DEVNULL, timeout=120, **{"capture_output": True, **how, **more})
+    return done.stdout, done.stderr, done.returncode
+
+
+WRITTEN = (b"", b"", 0)
+JOINED = HEAD + AB + Y
+
+
+def not_written(out):
+    return b"", b"peertext: " + out.encode() + b": 41 WriteFault\n", 1
+
+
+def modes(how):
+    for mode in (0o600, 0o640, 0o644, 0o755, 0o666, 0o444, 0o400, 0o555, 0o000):
+        answer, data = (WRITTEN, JOINED) if mode & 0o222 else (not_written("out"), OLD)
+        with home(how):
+            give(how, "out", mode)
+            check(f"join into a file of mode {mode:o}", (join_at_home("out", how), mode_of("out"), os.listdir(".")), (answer, mode, ["out"]))
+            os.chmod("out", 0o600)
+            check(f"a file of mode {mode:o}", contents("out"), data)
+
+
+def links(how):
+    for mode, data, answer in [(0o640, JOINED, WRITTEN), (0o444, OLD, not_written("out")), (None, JOINED, WRITTEN)]:
+        with home(how):
+            if mode:
+                give(how, "file", mode)
+            os.symlink("file", "out")
+            got = join_at_home("out", how), contents("file"), os.path.islink("out"), sorted(os.listdir("."))
+            check(f"join into a link to a file of mode {mode and oct(mode)}", got, (answer, data, True, ["file", "out"]))
+
+
+def long_names(how):
+    for length in (249, 250, 255):
+        with home(how):
+            out = "n" * length
+            got = join_at_home(out, how), contents(out), os.listdir(".")
+            check(f"join into a name of {length} bytes", got, (WRITTEN, JOINED, [out]))
+        with home(how):
+            give(how, out, 0o640, OLD * 100)
+            number = os.stat(out).st_ino
+            got = join_at_home(out, how), contents(out), mode_of(out), os.listdir(".")
+            check(f"join into a file with a name of {length} bytes", got, (WRITTEN, JOINED, 0o640, [out]))
+            # `.0.tmp` is six bytes
+            check(f"in place, with a name of {length} bytes", os.stat(out).st_ino == number, length + 6 > 255)
+
+
+def closed_folder(how):
+    with home(how):
+        give(how, "out", 0o640, OLD * 100)
+        give(how, "stays", 0o444)
+        os.chmod(".", 0o555)
+        got = join_at_home("out", how), contents("out"), mode_of("out")
+        check("join into a file of a folder that can't be written", got, (WRITTEN, JOINED, 0o640))
+        for out in ("new", "stays"):
+            check(f"join into {out} of such a folder", join_at_home(out, how), not_written(out))
+        check("such a folder", (sorted(os.listdir(".")), contents("stays")), (["out", "stays"], OLD))
+
+
+def output_to_a_file(how):
+    with home(how):
+        give(how, "out", 0o640, b"")
+        with open("out", "wb") as out:
+            got = join_at_home("/dev/stdout", how, capture_output=False, stdout=out, stderr=subprocess.PIPE)
+        check("join into standard output that is a file", (got, contents("out"), os.listdir(".")), ((None, b"", 0), JOINED, ["out"]))
+
+
+def files_of_others(how):
+    for folder_mode in (0o1777, 0o755):
+        with home(how):
+            give(how, "out", 0o666, OLD * 100)
+            for name in ("out", "."):
+                os.chown(name, 1, 1)
+            os.chmod(".", folder_mode)
+            got = join_at_home("out", how), contents("out"), mode_of("out"), os.stat("out").st_uid, os.listdir(".")
+            check("join into another user's file", got, (WRITTEN, JOINED, 0o666, 1, ["out"]))
+
+
+def outs_with_modes():
+    """A file that can't be written stays, and a replaced one keeps its mode; one beside which no other can stand is written in place."""
+    shutil.copy(BUILT, "program")
+    for name, mode in [("program", 0o755), (".", 0o755)]:
+        os.chmod(name, mode)
+    is_root = os.geteuid() == 0
+    user = as_user()
+    for how in ({}, user) if is_root else (user,):
+        for test in (modes, links, long_names):
+            test(how)
+    closed_folder(user)
+    output_to_a_file(user)
+    if is_root:
+        files_of_others(user)
+
+
 def shows():
     for name, want, fault in [
         ("none", b"", None), ("ab", AB_LINE, None), ("deleted", AB_LINE + b"delete 3.1 prev 2 spans 1:2-2\n", None),
@@ -258,7 +395,7 @@ def many_operations():
 
 
 def files():
-    for test in (joins, outs_that_fail, shows, many_operations, failing_allocations_of_files):
+    for test in (joins, outs_that_fail, outs_with_modes, shows, many_operations, failing_allocations_of_files):
         with_files(test)
 
 
@@ -275,7 +412,8 @@ def without_an_allocation(shim, number, *words):
 
 
 def failing_allocations_of_files():
-    """Each allocation fails in turn: a join is written whole, or OUT stays as it was; lines are shown, or none or a front of them."""
+    """Each allocation fails in turn, those of the words of the command line too: a join is written whole, or OUT stays as it
+    was; lines are shown, or none or a front of them; and the program says that memory was wanting."""
     shim = failing_library(".")
     if shim is None:
         return
@@ -287,11 +425,11 @@ def failing_allocations_of_files():
         out, err, status = without_an_allocation(shim, number, "join", "deleted", "y", "out")
         whole = (status, contents("out")) == (0, HEAD + AB + TAKE_B + Y)
         none = (status, contents("out")) == (1, OLD) and err == b"peertext: 1 NoMemory\n"
-        check(f"join without allocation {number}: {status} {err}", out == b"" and (whole or none or status == 2), True)
+        check(f"join without allocation {number}: {status} {err}", out == b"" and (whole or none), True)
         refused += none
         out, err, status = without_an_allocation(shim, number, "show", "deleted")
         none = (status, err) == (1, b"peertext: 1 NoMemory\n")
-        check(f"show without allocation {number}: {status} {err}", (status, out) == (0, want) or (none and want.startswith(out)) or status == 2, True)
+        check(f"show without allocation {number}: {status} {err}", (status, out) == (0, want) or (none and want.startswith(out)), True)
         refused += none
     check("some allocations were refused", refused > 10, True)
     check("the last of them is behind us", status, 0)
@@ -335,7 +473,7 @@ def failing_allocations():
                 text, want = answer(text)
                 good &= line == want
             whole = len(lines) == len(asks) and done.returncode == 0
-            early = len(lines) < len(asks) and done.returncode in (1, 2) and done.stderr != b""
+            early = len(lines) < len(asks) and (done.returncode, done.stderr) == (1, b"peertext: 1 NoMemory\n")
             check(f"allocation {number} fails: {lines}", good and (whole or early), True)
             quiet = quiet + 1 if whole and "! 1 NoMemory" not in lines else 0
         check("some allocations were refused to a line", refused > 0, True)

@@ -195,7 +195,12 @@ fn show<'a>(rt: &HostRuntime, path: &'a str) -> Option<Failure<'a>> {
 }
 
 // What the words of the command line ask for.
-fn asked(alloc: Global, words: env::Args) -> Result<Line, LineFault> {
+fn asked(rt: &(impl Env + AllocGlobal)) -> Result<Line, LineFault> {
+    let alloc = rt.alloc();
+    let words = match env::args(rt) {
+        Ok(words) => words,
+        Err(error) => return Err(LineFault::unread(error.kind())),
+    };
     let words: Vec<String> = words.collect(alloc)?;
     let texts: Vec<&str> = words.iter().map(|word| word.as_str()).collect(alloc)?;
     line(alloc, texts.as_slice())
@@ -220,14 +225,7 @@ fn refuse(rt: &(impl Print + Eprint), fault: &LineFault) -> ExitCode {
 }
 
 fn main(rt: HostRuntime) -> ExitCode {
-    let words = match env::args(&rt) {
-        Ok(words) => words,
-        Err(_) => {
-            let _ = rt.eprintln("peertext: the words of the command line are no text");
-            return ExitCode::from(2);
-        }
-    };
-    match asked(rt.alloc(), words) {
+    match asked(&rt) {
         Ok(Line::Run { site }) => {
             let fault = run_streams::<Brand, Brand, Brand, Brand, HostRuntime>(
                 &rt,

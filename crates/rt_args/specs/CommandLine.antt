@@ -1,5 +1,7 @@
 -- The command line of peertext, as clap reads it: `peertext run --site N`, `peertext join A B OUT` and `peertext show FILE`.
 use Rattle.std.specs.Prelude.{◌≡◌, ◌⊎◌, ℕ, List, ◌∷◌, ◌++◌, Bool, true, false, not, Option, Some, None, option_map, codes, string_bytes, [], if◌then◌else◌, ⊤}
+use Rattle.std.specs.declared.io.ErrorKind.{ErrorKind as ReadKind}
+use Rattle.std.specs.declared.io.ErrorKind.TheVariants as read
 use Rattle.std.specs.Str.Parse.{digits_value, without_leading_plus}
 use Rattle.clap.specs.ValueTests.{is_unsigned_in}
 use Rattle.clap.specs.Words.{App, IsAmong, Row, Rule, Text, app_of, fault_of, first_of, kind_of, new_app, new_rule, one_of, rule_of, subcommand_of, with_rule, with_subcommand}
@@ -16,7 +18,7 @@ use Rattle.rt_stamps.specs.declared.limits.TheConstants.{GREATEST_SITE}
 use Rattle.rt_args.specs.declared.command_line.Line.{Line}
 use Rattle.rt_args.specs.declared.command_line.Line.TheVariants.{Run, Join, Show}
 use Rattle.rt_args.specs.declared.command_line.LineFault.{LineFault}
-use Rattle.rt_args.specs.declared.command_line.LineFault.TheVariants.{Usage, NoMemory}
+use Rattle.rt_args.specs.declared.command_line.LineFault.TheVariants.{Usage, NoText, NoMemory}
 
 -- `--site N`, which is required: a number from 1 to the greatest one of a site
 abbrev pub site_option : Rule
@@ -111,9 +113,11 @@ IsWhole found = (rows : List Row) × (
 abbrev pub Takes : List Text → Type 0
 Takes words = fault_of peertext words ≡ []
 
--- Clap's error is of a kind with which its reading of the words fails. Memory may be wanting whatever the words are.
+-- Clap's error is of a kind with which its reading of the words fails. Memory may be wanting whatever the words are. Words
+-- that were read are text.
 abbrev pub Refuses : List Text → LineFault → Type 0
 Refuses words (Usage error) = IsAmong (kind_of error) (fault_of peertext words)
+Refuses words NoText = ⊥
 Refuses words NoMemory = ⊤
 
 -- an argument has this rule, and is not global
@@ -132,6 +136,11 @@ is_out_of_memory _ = false
 abbrev pub fault_from : Error → LineFault
 fault_from error = if is_out_of_memory (kind_of error) then NoMemory else Usage error
 
+-- the system's words were not read: for want of memory, or since one of them is no text
+abbrev pub unread : ReadKind → LineFault
+unread read.OutOfMemory = NoMemory
+unread kind = NoText
+
 -- help and the version are shown: all other errors are mistakes
 abbrev pub is_shown : ErrorKind → Bool
 is_shown DisplayHelp = true
@@ -141,14 +150,17 @@ is_shown _ = false
 -- the text of a mistake, or of want of memory, goes to standard error, and what was asked for to standard output
 abbrev pub is_mistake : LineFault → Bool
 is_mistake (Usage error) = not (is_shown (kind_of error))
+is_mistake NoText = true
 is_mistake NoMemory = true
 
--- the status with which the program ends
+-- the status with which the program ends: 1 for want of memory, wherever it comes
 abbrev pub status_of : LineFault → ℕ
 status_of (Usage error) = if is_shown (kind_of error) then 0 else 2
+status_of NoText = 2
 status_of NoMemory = 1
 
--- the text for the user: clap's own, which its contract leaves open, or that of want of memory
+-- the text for the user: clap's own, which its contract leaves open, that of words that are no text, or that of want of memory
 abbrev pub text_of_fault : LineFault → Option Text
 text_of_fault (Usage error) = None
+text_of_fault NoText = Some (codes "peertext: a word of the command line is no text" ++ (10 ∷ []))
 text_of_fault NoMemory = Some (codes "peertext: " ++ (text_of fault.NoMemory ++ (10 ∷ [])))

@@ -1,12 +1,12 @@
 // What a command line asks for, or why it asks for nothing.
 ghost use Rattle.std.specs.Prelude.{◌≡◌};
-ghost use Rattle.rt_args.specs.CommandLine.{is_mistake, status_of};
+ghost use Rattle.rt_args.specs.CommandLine.{is_mistake, status_of, unread};
 
 use clap::Error;
 use clap::error::ErrorKind;
 use rt_stamps::{Fault, Site};
 use std::alloc::AllocError;
-use std::fmt;
+use std::{fmt, io};
 
 /// What a command line asks for.
 #[derive(Drop)]
@@ -25,11 +25,24 @@ pub enum LineFault {
     /// The words are not the program's, or ask for its help or its version: clap's error has the
     /// text for the user.
     Usage(Error),
+    /// A word is not UTF-8.
+    NoText,
     /// A growth was refused.
     NoMemory,
 }
 
 impl LineFault {
+    /// Why the system's words were not read, by the kind of the reading's error: for want of memory,
+    /// or else since one of them is no text.
+    pub fn unread(kind: io::ErrorKind) -> LineFault
+        ensures { result ≡ unread kind }
+    {
+        match kind {
+            io::ErrorKind::OutOfMemory => LineFault::NoMemory,
+            _ => LineFault::NoText,
+        }
+    }
+
     /// Whether the program was called wrongly, or found no memory, so that the text goes to
     /// standard error. Its help and its version go to standard output.
     pub fn is_mistake(&self) -> bool
@@ -37,7 +50,7 @@ impl LineFault {
     {
         match self {
             LineFault::Usage(error) => error.use_stderr(),
-            LineFault::NoMemory => true,
+            LineFault::NoText | LineFault::NoMemory => true,
         }
     }
 
@@ -48,6 +61,7 @@ impl LineFault {
     {
         match self {
             LineFault::Usage(_) => { if self.is_mistake() { 2 } else { 0 } }
+            LineFault::NoText => 2,
             LineFault::NoMemory => 1,
         }
     }
@@ -84,6 +98,7 @@ impl fmt::Display for LineFault {
     fn fmt<W: fmt::Write>(&self, f: &mut fmt::Formatter<W>) -> fmt::Result {
         match self {
             LineFault::Usage(error) => write!(f, "{error}"),
+            LineFault::NoText => write!(f, "peertext: a word of the command line is no text\n"),
             LineFault::NoMemory => write!(f, "peertext: {}\n", Fault::NoMemory),
         }
     }

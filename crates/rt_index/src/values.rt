@@ -8,14 +8,11 @@ use crate::Ground;
 use crate::parts::{Keyword, Modifier, Step};
 use unicode::properties::{GeneralCategory, is_alphabetic};
 
-/// The category Nd of characters.
-const DECIMAL_DIGIT: GeneralCategory = GeneralCategory::DecimalNumber;
-
 /// Whether words run through a character: a letter, a digit or an underscore.
 fn is_word_character(c: char) -> bool
     ensures { result ≡ is_word_character c }
 {
-    is_alphabetic(c) || GeneralCategory::for_char(c) == DECIMAL_DIGIT || c == '_'
+    is_alphabetic(c) || GeneralCategory::for_char(c) == GeneralCategory::DecimalNumber || c == '_'
 }
 
 /// The place of the newline that ends a line.
