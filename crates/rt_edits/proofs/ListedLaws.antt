@@ -14,9 +14,8 @@ use Rattle.rt_store.proofs.GivenStates.{one_state}
 use Rattle.rt_tags.specs.States.{TagStates, is_on}
 use Rattle.rt_tags.specs.Tags.{IsName, sel, Tags, is_listed, is_place, without, just_above, just_below, raised, lowered, tags_raised, tags_lowered}
 use Rattle.rt_tags.proofs.Places.{split, same_name, name_itself}
-use Rattle.rt_edits.specs.Flat.{TaggedCell}
+use Rattle.rt_store.specs.Shown.{TaggedCell, shown}
 use Rattle.rt_edits.specs.Listed.{AreListed, listed_name}
-use Rattle.rt_edits.specs.Working.{shown}
 
 -- what is listed before is listed after
 pub listed_more : (old new : List Word) (cells : List TaggedCell) → ((name : Word) → is_listed name old ≡ true → is_listed name new ≡ true) → All IsName new → AreListed old cells → AreListed new cells

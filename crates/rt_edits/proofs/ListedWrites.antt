@@ -9,21 +9,21 @@ use Rattle.rt_stamps.specs.Stamps.{is_same}
 use Rattle.rt_stamps.specs.Words.{Word}
 use Rattle.rt_stamps.proofs.Order.{same_refl}
 use Rattle.rt_store.specs.declared.cell.Cell.{Cell}
-use Rattle.rt_store.specs.Cells.{visible_of, with_state}
+use Rattle.rt_store.specs.Cells.{visible_of, with_state, stamps_of}
 use Rattle.rt_tags.specs.States.{is_on, written}
 use Rattle.rt_tags.specs.Tags.{IsName, sel, is_listed, with_name, without}
 use Rattle.rt_tags.proofs.Places.{split, same_name, name_itself}
-use Rattle.rt_edits.specs.TagWrites.{listed_if, without_tag, without_tags}
-use Rattle.rt_edits.specs.Flat.{Flat, TaggedCell}
-use Rattle.rt_edits.specs.Known.{stamps_of, IsWritten, AreWritten}
+use Rattle.rt_edits.specs.TagWrites.{listed_if, without_tag, without_tags, is_changed, changed_stamps, tag_write, tagged, with_tag_at, with_tags_at}
+use Rattle.rt_edits.specs.Flat.{Flat}
+use Rattle.rt_store.specs.Shown.{TaggedCell}
+use Rattle.rt_store.specs.Written.{IsWritten, AreWritten}
 use Rattle.rt_edits.specs.Listed.{AreListed}
 use Rattle.rt_edits.specs.Removals.{cells_at}
-use Rattle.rt_edits.specs.Spans.{is_among}
-use Rattle.rt_edits.specs.TagWrites.{is_changed, changed_stamps, tag_write, tagged, with_tag_at, with_tags_at}
+use Rattle.rt_store.specs.Spans.{is_among}
 use Rattle.rt_edits.proofs.ListedLaws.{without_names, without_other}
 use Rattle.rt_edits.proofs.Putting.{tagged_state}
 use Rattle.rt_edits.proofs.StateChanges.{visible_changed}
-use Rattle.rt_edits.proofs.WriterLaws.{tag_written, tagged_on, written_off}
+use Rattle.rt_edits.proofs.WriterLaws.{tag_written, tagged_on, written_as}
 
 -- the tags on a character are listed
 abbrev pub HasListed : List Word → TaggedCell → Type 0
@@ -114,7 +114,7 @@ among_more : (b : Bool) (x : TaggedCell) (xs : List TaggedCell) (s : Stamp) → 
 among_more true x xs s h = or_right (is_same x.stamp s) _ h
 among_more false x xs s h = h
 
-changed_among : (name : Word) (on : Bool) (xs : List TaggedCell) → All (λ c. is_changed name on c ≡ true → is_among (changed_stamps name on xs) c.stamp ≡ true) xs
+pub changed_among : (name : Word) (on : Bool) (xs : List TaggedCell) → All (λ c. is_changed name on c ≡ true → is_among (changed_stamps name on xs) c.stamp ≡ true) xs
 changed_among name on [] = All-nil (λ c. is_changed name on c ≡ true → is_among (changed_stamps name on []) c.stamp ≡ true)
 changed_among name on (x ∷ xs) =
     All-cons (λ c. is_changed name on c ≡ true → is_among (changed_stamps name on (x ∷ xs)) c.stamp ≡ true) x xs
@@ -132,7 +132,7 @@ nowhere_on flat name known =
     visible_after P (λ c. is_on name c.state ≡ false) flat everywhere false name
     (λ cell p. split (is_among stamps cell.stamp)
     (λ t. ap (λ (c : TaggedCell). is_on name c.state) (cond-true (is_among stamps cell.stamp) (with_state (written (tag_write flat.site flat.count name false stamps cell.stamp) cell.state) cell) cell t)
-    ∙ written_off flat.count (tag_write flat.site flat.count name false stamps cell.stamp) cell.state p.0 (omega arith) refl)
+    ∙ written_as flat.count (tag_write flat.site flat.count name false stamps cell.stamp) cell.state p.0 (omega arith))
     (λ f. ap (λ (c : TaggedCell). is_on name c.state) (cond-false (is_among stamps cell.stamp) (with_state (written (tag_write flat.site flat.count name false stamps cell.stamp) cell.state) cell) cell f)
     ∙ split (is_on name cell.state) (λ e. absurd (both_ways (is_among stamps cell.stamp) f (p.1 e))) (λ e. e)))
     (λ k d lt. (written_each k d lt, among k d lt))

@@ -103,7 +103,7 @@ found_short left (y ∷ ys) x n m = split (is_same y.stamp left)
     (λ e. rw e (omega (arith, length-append ys (x ∷ []))))
     (λ e. rw e (let i = found_short left ys x n (grind (arith, m, e)) in omega arith))
 
-stands_by : (n m : ℕ) (b : Bool) → n + 1 < m → (IsSome (cond (nat_lt n m) (Some n) None) ⊎ IsTrue b) × (cond b 0 (unwrap_or (cond (nat_lt n m) (Some n) None) 0 + 1) < m)
+pub stands_by : (n m : ℕ) (b : Bool) → n + 1 < m → (IsSome (cond (nat_lt n m) (Some n) None) ⊎ IsTrue b) × (cond b 0 (unwrap_or (cond (nat_lt n m) (Some n) None) 0 + 1) < m)
 stands_by n m true h = (inr refl, omega arith)
 stands_by n m false h = rw (lt-ltb n m (omega arith)) (inl refl, h)
 

@@ -15,30 +15,32 @@ use Rattle.rt_stamps.specs.declared.stamp.TheConstants.{FINAL}
 use Rattle.rt_stamps.specs.Stamps.{is_same, is_before}
 use Rattle.rt_stamps.specs.Words.{Word}
 use Rattle.rt_store.specs.declared.cell.Cell.{Cell}
-use Rattle.rt_store.specs.Cells.{EndsFinal, visible_of, text_of, is_in_span, with_state}
+use Rattle.rt_store.specs.Cells.{EndsFinal, visible_of, text_of, is_in_span, with_state, stamps_of, AreDistinct}
 use Rattle.rt_store.specs.Tagged.{AreStates}
 use Rattle.rt_tags.specs.States.{TagStates, Write, IsState, is_on, state_at, name_at, names_on, write_of, written, says_on}
 use Rattle.rt_tags.specs.Tags.{is_listed}
 use Rattle.rt_tags.proofs.Greatest.{newer, write_of_written}
 use Rattle.rt_tags.proofs.Places.{same_name}
 use Rattle.rt_edits.specs.declared.tagging.StateRun.{StateRun}
-use Rattle.rt_edits.specs.Flat.{Flat, TaggedCell}
-use Rattle.rt_edits.specs.Known.{stamps_of, IsKnown, AreKnown, AreDistinct, IsWritten, AreWritten}
+use Rattle.rt_edits.specs.Flat.{Flat}
+use Rattle.rt_store.specs.Shown.{TaggedCell, shown}
+use Rattle.rt_store.specs.Written.{IsBelowNext, AreBelowNext, IsWritten, AreWritten}
 use Rattle.rt_edits.proofs.WriterLaws.{tags_written}
 use Rattle.rt_edits.specs.Listed.{AreListed}
 use Rattle.rt_edits.specs.Removals.{is_in, is_covered, is_removed, cells_at, stamps_at, gone_at, span_count, operations_for}
-use Rattle.rt_edits.specs.Spans.{is_in_spans, is_among, gone_in_any}
+use Rattle.rt_store.specs.Spans.{is_in_spans, is_among, gone_in_any}
 use Rattle.rt_edits.specs.TagWrites.{changed_stamps, tagged, tag_write, with_tag_at, with_tags_at}
-use Rattle.rt_edits.specs.Working.{put_back_in_any, shown}
+use Rattle.rt_edits.specs.Working.{put_back_in_any}
 use Rattle.rt_text.specs.Commands.{Edited, is_last, last_tags, without_places, without_ranges, without_last_tags}
 use Rattle.rt_text.specs.Deleting.{last_cleared, last_unselected}
 use Rattle.rt_text.specs.Widgets.{Own, own_left}
 use Rattle.rt_edits.specs.declared.range.Range.{Range}
 use Rattle.rt_marks.specs.Marks.{marks_left}
 use Rattle.rt_edits.proofs.PlaceLaws.{length_text}
-use Rattle.rt_edits.proofs.Shown.{map_append, gone_in_shown, gone_shown, stamps_at_shown, text_shown as shown_text}
+use Rattle.rt_edits.proofs.Shown.{gone_shown, stamps_at_shown}
+use Rattle.rt_store.proofs.Shown.{map_append, gone_shown as gone_in_shown, text_shown as shown_text}
 use Rattle.rt_edits.proofs.CellLaws.{final_parts}
-use Rattle.rt_edits.proofs.DistinctLaws.{split}
+use Rattle.rt_store.proofs.Distinct.{split}
 use Rattle.rt_edits.proofs.InsertedText.{text_gone, text_shown}
 use Rattle.rt_edits.proofs.Putting.{tagged_state, cells_at_changed}
 
@@ -208,7 +210,7 @@ cleared_alike table kept spans a b e h site count cb ca =
     ∙ with_tags_alike spans a b (is_last a) (is_last b) false (last_tags b) (record {
       site = site;
       count = count;
-      cells = ca ∙ sym (gone_in_shown (state_at table) spans kept) ∙ ap (map (gone_in_any spans)) (sym cb);
+      cells = ca ∙ gone_in_shown (state_at table) spans kept ∙ ap (map (gone_in_any spans)) (sym cb);
       at = cells_at_last table (map (gone_in_any spans) kept) a ca after ∙ sym (cells_at_last table kept b cb e);
     })
 
@@ -247,7 +249,7 @@ all_put_gone runs spans (cell ∷ cells) = λ i. put_gone runs spans cell i ∷ 
 -- in the states of a later table
 pub shown_put_gone : (table : TagStates) (runs : List StateRun) (spans : List Span) (cells : List (Cell ℕ))
     → map (shown table) (map (put_back_in_any runs) (map (gone_in_any spans) cells)) ≡ map (gone_in_any spans) (map (shown table) (map (put_back_in_any runs) cells))
-shown_put_gone table runs spans cells = ap (map (shown table)) (all_put_gone runs spans cells) ∙ sym (gone_in_shown (state_at table) spans (map (put_back_in_any runs) cells))
+shown_put_gone table runs spans cells = ap (map (shown table)) (all_put_gone runs spans cells) ∙ gone_in_shown (state_at table) spans (map (put_back_in_any runs) cells)
 
 pub put_stamps : (runs : List StateRun) (cells : List (Cell ℕ)) → stamps_of (map (put_back_in_any runs) cells) ≡ stamps_of cells
 put_stamps runs [] = refl
@@ -264,10 +266,10 @@ put_visible runs (cell ∷ cells) =
 pub put_text : (runs : List StateRun) (cells : List (Cell ℕ)) → text_of (map (put_back_in_any runs) cells) ≡ text_of cells
 put_text runs cells = put_visible runs cells
 
-pub put_known : (count : ℕ) (runs : List StateRun) (cells : List (Cell ℕ)) → AreKnown count cells → AreKnown count (map (put_back_in_any runs) cells)
+pub put_known : (count : ℕ) (runs : List StateRun) (cells : List (Cell ℕ)) → AreBelowNext count cells → AreBelowNext count (map (put_back_in_any runs) cells)
 put_known count runs cells h =
-    All-map (λ cell. IsKnown count cell.stamp) (put_back_in_any runs) cells
-    (λ k d j. subst (IsKnown count) (sym (ap (λ (c : Cell ℕ). c.stamp) (put_state runs (get_or cells k d)))) (h k d j))
+    All-map (λ cell. IsBelowNext count cell.stamp) (put_back_in_any runs) cells
+    (λ k d j. subst (IsBelowNext count) (sym (ap (λ (c : Cell ℕ). c.stamp) (put_state runs (get_or cells k d)))) (h k d j))
 
 pub put_distinct : (runs : List StateRun) (cells : List (Cell ℕ)) → AreDistinct cells → AreDistinct (map (put_back_in_any runs) cells)
 put_distinct runs cells h = subst (IsDistinct is_same) (sym (put_stamps runs cells)) h
@@ -463,7 +465,7 @@ cleared_if table kept spans flat removed held last e stays h gone count = by hel
     by : (b : Bool) → last_cleared b a ≡ record a { cells = map (gone_in_any spans) (last_cleared b (counted_on flat last)).cells; count = (last_cleared b (counted_on flat last)).count }
     by true = cleared_alike table kept spans a (counted_on flat last) e stays refl count h ca
     by false =
-        let cells : a.cells ≡ map (gone_in_any spans) flat.cells = ca ∙ sym (gone_in_shown (state_at table) spans kept) ∙ ap (map (gone_in_any spans)) (sym h) in
+        let cells : a.cells ≡ map (gone_in_any spans) flat.cells = ca ∙ gone_in_shown (state_at table) spans kept ∙ ap (map (gone_in_any spans)) (sym h) in
         λ i. record a { cells = cells i; count = count i }
 
 pub cleared_count : (held : Bool) (flat : Flat) → flat.count ≤ (last_cleared held flat).count
@@ -590,12 +592,12 @@ pub put_length : (runs : List StateRun) (cells : List (Cell ℕ)) → length (ma
 put_length runs cells = length-map cells (put_back_in_any runs)
 
 -- cells that were known are known later
-pub known_from_then : (count later : ℕ) (cells : List (Cell ℕ)) → count ≤ later → AreKnown count cells → AreKnown later cells
+pub known_from_then : (count later : ℕ) (cells : List (Cell ℕ)) → count ≤ later → AreBelowNext count cells → AreBelowNext later cells
 known_from_then count later cells h known = λ k d j.
-    let p : IsKnown count (get_or cells k d).stamp = known k d j in
+    let p : IsBelowNext count (get_or cells k d).stamp = known k d j in
     by (get_or cells k d).stamp p
   where
-    by : (s : Stamp) → IsKnown count s → IsKnown later s
+    by : (s : Stamp) → IsBelowNext count s → IsBelowNext later s
     by s p = (omega (arith, h, p.0), λ e. p.1 (omega (arith, h, p.0, e)))
 
 -- WRITERS

@@ -8,32 +8,32 @@ use Rattle.rt_stamps.specs.declared.limits.TheConstants.{MOST_CELLS, GREATEST_CO
 use Rattle.rt_stamps.specs.declared.fault.Fault.TheVariants.{ClockSpent}
 use Rattle.rt_stamps.specs.Words.{Word}
 use Rattle.rt_store.specs.declared.cell.Cell.{Cell}
-use Rattle.rt_store.specs.Cells.{text_of, visible_of}
+use Rattle.rt_store.specs.Cells.{text_of, visible_of, AreDistinct, stamps_of}
 use Rattle.rt_store.specs.Tagged.{AreStates}
 use Rattle.rt_store.proofs.GivenStates.{kept_states}
 use Rattle.rt_tags.specs.States.{TagStates, IsState, KeepsIds, state_at}
 use Rattle.rt_tags.specs.Tags.{IsName, with_name}
 use Rattle.rt_edits.specs.declared.tagging.StateRun.{StateRun}
-use Rattle.rt_edits.specs.TagWrites.{listed_if}
+use Rattle.rt_edits.specs.TagWrites.{listed_if, with_tag_at}
 use Rattle.rt_text.specs.Commands.{clock_check}
-use Rattle.rt_edits.specs.Flat.{Flat, TaggedCell}
-use Rattle.rt_edits.specs.Known.{AreKnown, AreDistinct, AreWritten, stamps_of}
+use Rattle.rt_edits.specs.Flat.{Flat}
+use Rattle.rt_store.specs.Shown.{TaggedCell, shown}
+use Rattle.rt_store.specs.Written.{AreBelowNext, AreWritten}
 use Rattle.rt_edits.specs.Listed.{AreListed}
 use Rattle.rt_edits.specs.Removals.{stamps_at}
-use Rattle.rt_edits.specs.TagWrites.{with_tag_at}
 use Rattle.rt_text.specs.Widgets.{AreSiteMarks}
-use Rattle.rt_edits.specs.Working.{shown, put_back_in_any}
+use Rattle.rt_edits.specs.Working.{put_back_in_any}
 use Rattle.rt_edits.proofs.ListedWrites.{written_listed}
 use Rattle.rt_edits.proofs.Putting.{stamps_at_cells}
-use Rattle.rt_edits.proofs.Shown.{visible_shown, length_shown, stamps_at_shown, text_shown}
+use Rattle.rt_edits.proofs.Shown.{stamps_at_shown}
+use Rattle.rt_store.proofs.Shown.{visible_shown, length_shown, text_shown, shown_later}
 use Rattle.rt_edits.proofs.StateChanges.{AreAlike, cells_alike, distinct_changed, given_changed, known_changed, known_from, runs_change, text_changed}
-use Rattle.rt_edits.proofs.Shown.{shown_later}
 use Rattle.rt_edits.proofs.WriterLaws.{tag_written}
 
 -- what is so of a document
 abbrev pub IsKept : ℕ → ℕ → List (Cell ℕ) → List Mark → TagStates → List Word → Type 0
 IsKept limit clock cells marks table tags =
-    (limit ≤ MOST_CELLS) × (length cells ≤ limit) × AreKnown clock cells × (clock ≤ GREATEST_COUNT) × AreDistinct cells × AreSiteMarks (length (text_of cells)) marks × AreStates table cells
+    (limit ≤ MOST_CELLS) × (length cells ≤ limit) × AreBelowNext clock cells × (clock ≤ GREATEST_COUNT) × AreDistinct cells × AreSiteMarks (length (text_of cells)) marks × AreStates table cells
     × AreListed tags (map (shown table) cells) × AreWritten clock (map (shown table) cells)
 
 module _ (limit clock : ℕ) (cells : List (Cell ℕ)) (marks : List Mark) (old new : TagStates) (tags : List Word) (h : IsKept limit clock cells marks old tags) (keeps : KeepsIds old new) where

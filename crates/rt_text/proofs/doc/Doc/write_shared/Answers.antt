@@ -3,16 +3,16 @@ use Rattle.std.proofs.lemmas.Result.{err_from_is_err_and}
 use Rattle.rt_stamps.specs.Words.{Word}
 use Rattle.rt_store.specs.declared.cell.Cell.{Cell}
 use Rattle.rt_tags.specs.Tags.{with_name}
-use Rattle.rt_edits.specs.TagWrites.{listed_if}
-use Rattle.rt_edits.specs.Flat.{Flat, TaggedCell}
-use Rattle.rt_edits.specs.Known.{AreWritten}
+use Rattle.rt_edits.specs.TagWrites.{listed_if, with_tag_at}
+use Rattle.rt_edits.specs.Flat.{Flat}
+use Rattle.rt_store.specs.Shown.{TaggedCell, shown}
+use Rattle.rt_store.specs.Written.{AreWritten}
 use Rattle.rt_edits.specs.Listed.{AreListed}
 use Rattle.rt_edits.specs.Removals.{is_covered}
-use Rattle.rt_edits.specs.TagWrites.{with_tag_at}
-use Rattle.rt_edits.specs.Working.{put_back_in_any, shown}
+use Rattle.rt_edits.specs.Working.{put_back_in_any}
 use Rattle.rt_edits.specs.declared.range.Range.{Range}
 use Rattle.rt_text.proofs.KeptDocument.{IsKept, as_visible, kept_runs, kept_table, listed_as, written_stays}
-use Rattle.rt_edits.proofs.Shown.{shown_later}
+use Rattle.rt_store.proofs.Shown.{shown_later}
 use Rattle.rt_edits.proofs.WriterLaws.{tag_grows}
 use Rattle.rt_text.proofs.doc.Doc.write_shared.Goals as goal
 
