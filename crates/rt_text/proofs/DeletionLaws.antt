@@ -18,15 +18,17 @@ use Rattle.rt_store.specs.declared.cell.Cell.{Cell}
 use Rattle.rt_store.specs.Cells.{EndsFinal, visible_of, text_of, is_in_span, with_state, stamps_of, AreDistinct}
 use Rattle.rt_store.specs.Tagged.{AreStates}
 use Rattle.rt_tags.specs.States.{TagStates, Write, IsState, is_on, state_at, name_at, names_on, write_of, written, says_on}
-use Rattle.rt_tags.specs.Tags.{is_listed}
+use Rattle.rt_tags.specs.Tags.{is_listed, sel}
 use Rattle.rt_tags.proofs.Greatest.{newer, write_of_written}
 use Rattle.rt_tags.proofs.Places.{same_name}
 use Rattle.rt_edits.specs.declared.tagging.StateRun.{StateRun}
 use Rattle.rt_edits.specs.Flat.{Flat}
 use Rattle.rt_store.specs.Shown.{TaggedCell, shown}
 use Rattle.rt_store.specs.Written.{IsBelowNext, AreBelowNext, IsWritten, AreWritten}
+use Rattle.rt_edits.proofs.ListedWrites.{shared_names_on, shared_tagged}
 use Rattle.rt_edits.proofs.WriterLaws.{tags_written}
-use Rattle.rt_edits.specs.Listed.{AreListed}
+use Rattle.std.proofs.lemmas.Option.{get_or_from_slice_get, slice_get_within}
+use Rattle.rt_edits.specs.Listed.{AreListed, IsShared}
 use Rattle.rt_edits.specs.Removals.{is_in, is_covered, is_removed, cells_at, stamps_at, gone_at, span_count, operations_for}
 use Rattle.rt_store.specs.Spans.{is_in_spans, is_among, gone_in_any}
 use Rattle.rt_edits.specs.TagWrites.{changed_stamps, tagged, tag_write, with_tag_at, with_tags_at}
@@ -342,11 +344,13 @@ to_visible names (cell ∷ cells) h =
 
 -- where no more cells are visible, and no more tags on, they stay listed
 pub listed_less : (names : List Word) (f : TaggedCell → TaggedCell) (cells : List TaggedCell) → ((cell : TaggedCell) → (f cell).gone ≡ false → cell.gone ≡ false)
-    → ((cell : TaggedCell) (name : Word) → is_on name (f cell).state ≡ true → is_on name cell.state ≡ true) → AreListed names cells → AreListed names (map f cells)
-listed_less names f cells seen less listed = record {
+    → ((cell : TaggedCell) (name : Word) → is_on name (f cell).state ≡ true → is_on name cell.state ≡ true) → ((cell : TaggedCell) → IsShared cell.state → IsShared (f cell).state)
+    → AreListed names cells → AreListed names (map f cells)
+listed_less names f cells seen less keeps listed = record {
   each = to_visible names (map f cells) (All-map (Listed names) f cells (λ k d j. λ g name on. from_visible names cells listed.each k d j (seen (get_or cells k d) g) name (less (get_or cells k d) name on)));
   sel = listed.sel;
   names = listed.names;
+  shared = All-map (λ (cell : TaggedCell). IsShared cell.state) f cells (λ k d j. keeps (get_or cells k d) (listed.shared k d j));
 }
 
 gone_seen : (spans : List Span) (cell : TaggedCell) → (gone_in_any spans cell).gone ≡ false → cell.gone ≡ false
@@ -363,8 +367,15 @@ gone_on spans cell name h = by (is_in_spans spans cell.stamp) h
     by true k = k
     by false k = k
 
+gone_shared : (spans : List Span) (cell : TaggedCell) → IsShared cell.state → IsShared (gone_in_any spans cell).state
+gone_shared spans cell h = by (is_in_spans spans cell.stamp)
+  where
+    by : (b : Bool) → IsShared (cond b (record cell { gone = true }) cell).state
+    by true = h
+    by false = h
+
 pub listed_gone : (names : List Word) (spans : List Span) (cells : List TaggedCell) → AreListed names cells → AreListed names (map (gone_in_any spans) cells)
-listed_gone names spans cells h = listed_less names (gone_in_any spans) cells (gone_seen spans) (gone_on spans) h
+listed_gone names spans cells h = listed_less names (gone_in_any spans) cells (gone_seen spans) (gone_on spans) (gone_shared spans) h
 
 off_seen : (site count : ℕ) (name : Word) (stamps : List Stamp) (cell : TaggedCell) → (tagged site count name false stamps cell).gone ≡ false → cell.gone ≡ false
 off_seen site count name stamps cell h = by (is_among stamps cell.stamp) h
@@ -381,12 +392,14 @@ off_on site count name stamps cell other h = by (is_among stamps cell.stamp) h
     by false k = k
 
 -- tags that are taken off leave those that are on listed
-pub listed_off : (listed : List Word) (flat : Flat) (places : ℕ → Bool) (names : List Word) → AreListed listed flat.cells → AreListed listed (with_tags_at flat places false names).cells
-listed_off listed flat places [] h = h
-listed_off listed flat places (name ∷ names) h =
+pub listed_off : (listed : List Word) (flat : Flat) (places : ℕ → Bool) (names : List Word) → All (λ name. bytes_eq name sel ≡ false) names → AreListed listed flat.cells
+    → AreListed listed (with_tags_at flat places false names).cells
+listed_off listed flat places [] others h = h
+listed_off listed flat places (name ∷ names) others h =
     let stamps = changed_stamps name false (cells_at places 0 flat.cells) in
-    listed_off listed (with_tag_at flat places false name) places names
-    (listed_less listed (tagged flat.site flat.count name false stamps) flat.cells (off_seen flat.site flat.count name stamps) (off_on flat.site flat.count name stamps) h)
+    listed_off listed (with_tag_at flat places false name) places names (All-tail (λ (n : Word). bytes_eq n sel ≡ false) name names others)
+    (listed_less listed (tagged flat.site flat.count name false stamps) flat.cells (off_seen flat.site flat.count name stamps) (off_on flat.site flat.count name stamps)
+    (shared_tagged flat.site flat.count name false stamps (All-head (λ (n : Word). bytes_eq n sel ≡ false) name names others)) h)
 
 -- THE PARTS OF A DELETION
 
@@ -472,8 +485,16 @@ pub cleared_count : (held : Bool) (flat : Flat) → flat.count ≤ (last_cleared
 cleared_count true flat = tags_count flat (is_last flat) false (last_tags flat)
 cleared_count false flat = omega arith
 
+last_shared : (cells : List TaggedCell) (place : ℕ) → All (λ cell. IsShared cell.state) cells → All (λ name. bytes_eq name sel ≡ false) (unwrap_or (option_map (λ cell. names_on cell.state) (slice_get cells place)) [])
+last_shared cells place h = by (slice_get cells place) refl
+  where
+    by : (o : Option TaggedCell) → slice_get cells place ≡ o → All (λ name. bytes_eq name sel ≡ false) (unwrap_or (option_map (λ cell. names_on cell.state) o) [])
+    by None e = All-nil (λ name. bytes_eq name sel ≡ false)
+    by (Some cell) e =
+        shared_names_on cell.state (subst (λ (c : TaggedCell). IsShared c.state) (get_or_from_slice_get cells place cell cell e) (h place cell (slice_get_within cells place cell e)))
+
 pub cleared_listed : (held : Bool) (flat : Flat) (names : List Word) → AreListed names flat.cells → AreListed names (last_cleared held flat).cells
-cleared_listed true flat names h = listed_off names flat (is_last flat) (last_tags flat) h
+cleared_listed true flat names h = listed_off names flat (is_last flat) (last_tags flat) (last_shared flat.cells (length flat.cells - 1) h.shared) h
 cleared_listed false flat names h = h
 
 -- what a plan of the last newline's tags promises

@@ -1,5 +1,6 @@
 -- Documents whose cells come into other states.
 use Rattle.std.proofs.Common.{◌≡◌, ℕ, ◌<◌, ◌≤◌, List, Bool, true, false, cond, ◌&&◌, Some, None, Result, Ok, Err, OnOk, All, length, map, refl, sym, ◌∙◌, ap, subst, arith}
+use Rattle.std.specs.Str.{bytes_eq}
 use Rattle.std.specs.Prelude.{OnErr, nat_lt}
 use Rattle.std.proofs.lemmas.Bool.{cond-true, cond-false, le-ltb, lt-ltb}
 use Rattle.std.proofs.lemmas.List.{length-map}
@@ -12,7 +13,7 @@ use Rattle.rt_store.specs.Cells.{text_of, visible_of, AreDistinct, stamps_of}
 use Rattle.rt_store.specs.Tagged.{AreStates}
 use Rattle.rt_store.proofs.GivenStates.{kept_states}
 use Rattle.rt_tags.specs.States.{TagStates, IsState, KeepsIds, state_at}
-use Rattle.rt_tags.specs.Tags.{IsName, with_name}
+use Rattle.rt_tags.specs.Tags.{IsName, with_name, sel}
 use Rattle.rt_edits.specs.declared.tagging.StateRun.{StateRun}
 use Rattle.rt_edits.specs.TagWrites.{listed_if, with_tag_at}
 use Rattle.rt_text.specs.Commands.{clock_check}
@@ -69,10 +70,10 @@ listed_as true name flat cells count = refl
 listed_as false name flat cells count = refl
 
 -- what a written tag leaves
-pub written_stays : (on : Bool) (name : Word) (flat new : Flat) (places : ℕ → Bool) → IsName name → AreListed flat.tags flat.cells → AreWritten flat.count flat.cells → listed_if on name (with_tag_at flat places on name) ≡ new
+pub written_stays : (on : Bool) (name : Word) (flat new : Flat) (places : ℕ → Bool) → IsName name → bytes_eq name sel ≡ false → AreListed flat.tags flat.cells → AreWritten flat.count flat.cells → listed_if on name (with_tag_at flat places on name) ≡ new
     → AreListed new.tags new.cells × AreWritten new.count new.cells
-written_stays on name flat new places h listed written e =
-    (subst (λ (f : Flat). AreListed f.tags f.cells) e (written_listed on flat places name h listed), subst (λ (f : Flat). AreWritten f.count f.cells) e (by on))
+written_stays on name flat new places h other listed written e =
+    (subst (λ (f : Flat). AreListed f.tags f.cells) e (written_listed on flat places name h listed other), subst (λ (f : Flat). AreWritten f.count f.cells) e (by on))
   where
     by : (b : Bool) → AreWritten (listed_if b name (with_tag_at flat places on name)).count (listed_if b name (with_tag_at flat places on name)).cells
     by true = tag_written flat places on name written
