@@ -1,62 +1,57 @@
 -- Laws of cells.
-use Rattle.std.proofs.Common.{◌≡◌, ℕ, ◌+◌, ◌<◌, ◌≤◌, ◌⊎◌, inl, inr, zero, suc, List, [], ◌∷◌, ◌++◌, Bool, true, false, cond, length, take, drop, refl, sym, ◌∙◌, ap, arith, eqb, Some, None, eq-eqb, not, ◌&&◌}
-use Rattle.std.specs.Prelude.{slice_get, take_while, IsSome, unwrap_or, nat_lt, IsTrue}
+use Rattle.std.proofs.Common.{◌≡◌, ℕ, ◌+◌, ◌<◌, ◌≤◌, zero, suc, List, [], ◌∷◌, ◌++◌, Bool, true, false, cond, length, take, drop, refl, sym, ◌∙◌, ap, arith, eqb, Some, not, ◌&&◌}
+use Rattle.std.specs.Prelude.{slice_get, take_while, nat_lt}
 use Rattle.std.proofs.lemmas.List.Elements.{All-drop, All-take, All-append, All-cons, All-nil}
-use Rattle.std.proofs.lemmas.Bool.{le-ltb, lt-ltb, eqb-true}
+use Rattle.std.proofs.lemmas.Bool.{le-ltb, eqb-true}
 use Rattle.std.specs.List.{position_or_len}
 use Rattle.rt_stamps.specs.declared.stamp.Stamp.{Stamp}
 use Rattle.rt_store.specs.declared.cell.Cell.{Cell}
 use Rattle.rt_stamps.specs.declared.stamp.TheConstants.{FINAL, ROOT}
 use Rattle.rt_stamps.specs.Stamps.{is_before, is_same}
-use Rattle.rt_store.specs.Cells.{EndsFinal, final_cell, skip_from, visible_of, after_element, StandsBefore, with_state}
-use Rattle.rt_edits.specs.Flat.{cells_from, put_after}
-use Rattle.rt_edits.specs.Known.{IsKnown, AreKnown}
-
-pub length_cells_from : {T : Type 0} (count site : ℕ) (state : T) (cs : List ℕ) → length (cells_from count site state cs) ≡ length cs
-length_cells_from count site state [] = refl
-length_cells_from count site state (c ∷ cs) = ap suc (length_cells_from (count + 1) site state cs)
+use Rattle.rt_store.specs.Cells.{EndsFinal, final_cell, skip_from, visible_of, after_element, StandsBefore, with_state, cells_from}
+use Rattle.rt_edits.specs.Flat.{put_after}
+use Rattle.rt_store.specs.Written.{IsBelowNext, AreBelowNext}
+use Rattle.rt_stamps.proofs.Order.{same_refl}
+use Rattle.rt_store.proofs.Places.{stands_by}
 
 -- a known stamp is no greater than one of the next count
 lesser_site : (new old : Stamp) (b : Bool) → eqb new.count old.count ≡ b → (new.count ≡ old.count → old.site ≡ 0) → b && nat_lt new.site old.site ≡ false
 lesser_site new old true e h = le-ltb new.site old.site (omega (arith, h (eqb-true new.count old.count e)))
 lesser_site new old false e h = refl
 
-lesser : (count : ℕ) (new old : Stamp) → new.count ≡ count + 1 → IsKnown count old → is_before new old ≡ false
+lesser : (count : ℕ) (new old : Stamp) → new.count ≡ count + 1 → IsBelowNext count old → is_before new old ≡ false
 lesser count new old n h = rw (le-ltb new.count old.count (omega arith)) (lesser_site new old (eqb new.count old.count) refl (λ e. h.1 (sym e ∙ n)))
 
 -- no cell is skipped by a stamp that is newer than all
-skip_none : {T : Type 0} (count : ℕ) (new : Stamp) (xs : List (Cell T)) → new.count ≡ count + 1 → AreKnown count xs → length (take_while (λ cell. is_before new cell.stamp) xs) ≡ 0
+skip_none : {T : Type 0} (count : ℕ) (new : Stamp) (xs : List (Cell T)) → new.count ≡ count + 1 → AreBelowNext count xs → length (take_while (λ cell. is_before new cell.stamp) xs) ≡ 0
 skip_none count new [] n h = refl
 skip_none count new (x ∷ xs) n h = rw (lesser count new x.stamp n (h 0 x (omega arith))) refl
 
 -- so a newest cell goes directly after its left element
-pub skip_from_newest : {T : Type 0} (count : ℕ) (cells : List (Cell T)) (left new : Stamp) → new.count ≡ count + 1 → AreKnown count cells → skip_from cells left new ≡ after_element cells left
+pub skip_from_newest : {T : Type 0} (count : ℕ) (cells : List (Cell T)) (left new : Stamp) → new.count ≡ count + 1 → AreBelowNext count cells → skip_from cells left new ≡ after_element cells left
 skip_from_newest count cells left new n h =
-    let known : AreKnown count (drop (after_element cells left) cells) = All-drop (λ cell. IsKnown count cell.stamp) (after_element cells left) cells h in
+    let known : AreBelowNext count (drop (after_element cells left) cells) = All-drop (λ cell. IsBelowNext count cell.stamp) (after_element cells left) cells h in
     let none : length (take_while (λ cell. is_before new cell.stamp) (drop (after_element cells left) cells)) ≡ 0 = skip_none count new (drop (after_element cells left) cells) n known in
     omega arith
 
 -- new cells are known from their last count on
-pub known_from : {T : Type 0} (first site : ℕ) (state : T) (cs : List ℕ) (count : ℕ) → first + length cs ≤ count + 1 → AreKnown count (cells_from first site state cs)
+pub known_from : {T : Type 0} (first site : ℕ) (state : T) (cs : List ℕ) (count : ℕ) → first + length cs ≤ count + 1 → AreBelowNext count (cells_from first site state cs)
 known_from first site state [] count h = λ k d lt. absurd (omega arith)
 known_from {T} first site state (c ∷ cs) count h = λ k d lt. known_at first site c cs count h (known_from (first + 1) site state cs count (omega arith)) k d lt
   where
-    known_at : (first site c : ℕ) (cs : List ℕ) (count : ℕ) → first + suc (length cs) ≤ count + 1 → AreKnown count (cells_from (first + 1) site state cs) → AreKnown count (cells_from first site state (c ∷ cs))
+    known_at : (first site c : ℕ) (cs : List ℕ) (count : ℕ) → first + suc (length cs) ≤ count + 1 → AreBelowNext count (cells_from (first + 1) site state cs) → AreBelowNext count (cells_from first site state (c ∷ cs))
     known_at first site c cs count h rest zero d lt = (omega arith, λ e. absurd (omega arith))
     known_at first site c cs count h rest (suc k) d lt = rest k d (omega arith)
 
 -- what is known stays known
-pub known_later : {T : Type 0} (count later : ℕ) (cells : List (Cell T)) → count < later → AreKnown count cells → AreKnown later cells
+pub known_later : {T : Type 0} (count later : ℕ) (cells : List (Cell T)) → count < later → AreBelowNext count cells → AreBelowNext later cells
 known_later count later cells le h = λ k d lt. let p = h k d lt in (omega arith, λ e. absurd (omega arith))
 
-pub known_put : {T : Type 0} (count : ℕ) (cells : List (Cell T)) (left : Stamp) (new : List (Cell T)) → AreKnown count cells → AreKnown count new → AreKnown count (put_after cells left new)
+pub known_put : {T : Type 0} (count : ℕ) (cells : List (Cell T)) (left : Stamp) (new : List (Cell T)) → AreBelowNext count cells → AreBelowNext count new → AreBelowNext count (put_after cells left new)
 known_put {T} count cells left new h k =
     let at = after_element cells left in
-    let P : Cell T → Type 0 = λ cell. IsKnown count cell.stamp in
+    let P : Cell T → Type 0 = λ cell. IsBelowNext count cell.stamp in
     All-append P (take at cells ++ new) (drop at cells) (All-append P (take at cells) new (All-take P at cells h) k) (All-drop P at cells h)
-
-eq_self : (s : Stamp) → is_same s s ≡ true
-eq_self s = rw (eq-eqb s.count s.count refl, eq-eqb s.site s.site refl) refl
 
 one_further : (b : Bool) (n m : ℕ) → n + 1 < m → cond b (1 + n) 0 + 1 < suc m
 one_further true n m h = omega arith
@@ -72,7 +67,7 @@ found_step : {T : Type 0} (x : Cell T) (xs : List (Cell T)) (p : ℕ) (cell : Ce
 found_step x xs p cell true h k ih = one_further (not (is_same x.stamp cell.stamp)) _ _ (ih p h k)
 found_step x xs zero cell false h k ih =
     let same : x ≡ cell = cc in
-    rw (← same, eq_self x.stamp) (omega (arith, fewer xs))
+    rw (← same, same_refl x.stamp) (omega (arith, fewer xs))
 found_step x xs (suc q) cell false h k ih = one_further (not (is_same x.stamp cell.stamp)) _ _ (ih q h (omega arith))
 
 -- a visible cell before the last is found before the last cell
@@ -81,16 +76,12 @@ pub found_before : {T : Type 0} (cells : List (Cell T)) (p : ℕ) (cell : Cell T
 found_before [] p cell h k = absurd (omega arith)
 found_before (x ∷ xs) p cell h k = found_step x xs p cell x.gone h k (λ q a b. found_before xs q cell a b)
 
-stands_by : (n m : ℕ) (b : Bool) → n + 1 < m → (IsSome (cond (nat_lt n m) (Some n) None) ⊎ IsTrue b) × (cond b 0 (unwrap_or (cond (nat_lt n m) (Some n) None) 0 + 1) < m)
-stands_by n m true h = (inr refl, omega arith)
-stands_by n m false h = rw (lt-ltb n m (omega arith)) (inl refl, h)
-
 pub left_stands : {T : Type 0} (cells : List (Cell T)) (p : ℕ) (cell : Cell T) → slice_get (visible_of cells) p ≡ Some cell → suc p < length (visible_of cells) → StandsBefore cells cell.stamp
 left_stands cells p cell h k = stands_by _ _ (is_same cell.stamp ROOT) (found_before cells p cell h k)
 
 -- the final newline is known to each document
-pub known_final : (count : ℕ) → AreKnown count (final_cell ∷ [])
-known_final count = All-cons (λ cell. IsKnown count cell.stamp) final_cell [] (omega arith, λ e. refl) (All-nil (λ cell. IsKnown count cell.stamp))
+pub known_final : (count : ℕ) → AreBelowNext count (final_cell ∷ [])
+known_final count = All-cons (λ cell. IsBelowNext count cell.stamp) final_cell [] (omega arith, λ e. refl) (All-nil (λ cell. IsBelowNext count cell.stamp))
 
 -- a last cell that stands alone is the final newline, in some state
 pub final_parts : (x : Cell ℕ) → EndsFinal (x ∷ []) → (x.stamp ≡ FINAL) × (x.ch ≡ 10) × (x.gone ≡ false)

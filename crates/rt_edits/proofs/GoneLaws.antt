@@ -1,9 +1,6 @@
 -- Cells made gone by their stamps are those at the places.
-use Rattle.std.proofs.Common.{◌≡◌, ℕ, suc, All, ◌+◌, ◌-◌, ◌<◌, ◌≤◌, List, [], ◌∷◌, Bool, true, false, cond, not, ◌||◌, length, map, drop, get_or, refl, sym, ◌∙◌, ap, subst, arith}
+use Rattle.std.proofs.Common.{◌≡◌, ℕ, suc, All, ◌+◌, ◌-◌, ◌<◌, ◌≤◌, List, [], ◌∷◌, Bool, true, false, cond, not, ◌||◌, length, map, refl, sym, ◌∙◌, ap, arith}
 use native.Mathlib.Numerals.{unary_clauses}
-use Rattle.std.specs.List.{IsDistinct}
-use Rattle.std.proofs.lemmas.List.{drop_more, length-map}
-use Rattle.std.proofs.lemmas.List.Elements.{All-map}
 use Rattle.std.proofs.lemmas.Bool.{or_from, or_left, or_right, cond-true, cond-false}
 use Rattle.rt_stamps.specs.declared.stamp.Span.{Span}
 use Rattle.rt_stamps.specs.declared.stamp.Stamp.{Stamp}
@@ -11,15 +8,15 @@ use Rattle.rt_stamps.specs.declared.stamp.TheConstants.{FINAL}
 use Rattle.rt_stamps.specs.Stamps.{is_same}
 use Rattle.rt_stamps.proofs.Order.{same_refl}
 use Rattle.rt_store.specs.declared.cell.Cell.{Cell}
-use Rattle.rt_store.specs.Cells.{EndsFinal, visible_of, text_of, gone_in, is_in_span}
-use Rattle.rt_edits.specs.Known.{stamps_of, AreDistinct, IsKnown, AreKnown}
+use Rattle.rt_store.specs.Cells.{EndsFinal, visible_of, text_of, stamps_of, AreDistinct}
 use Rattle.rt_edits.specs.Removals.{is_covered, stamps_at, gone_at}
 use Rattle.rt_edits.specs.declared.range.Range.{Range}
 use Rattle.rt_edits.proofs.CellLaws.{final_parts}
 use Rattle.rt_edits.proofs.PlaceLaws.{length_text}
 use Rattle.rt_edits.proofs.StampLaws.{uncovered_from}
-use Rattle.rt_edits.specs.Spans.{is_among, is_in_spans, gone_in_any}
-use Rattle.rt_edits.proofs.DistinctLaws.{split, first_apart, others_distinct, differs, stamps_within}
+use Rattle.rt_store.specs.Spans.{is_among, is_in_spans, gone_in_any}
+use Rattle.rt_edits.proofs.DistinctLaws.{stamps_within}
+use Rattle.rt_store.proofs.Distinct.{split, first_apart, others_distinct, differs}
 
 -- a cell whose stamp passes a test is gone
 abbrev pub gone_by : {T : Type 0} → (Stamp → Bool) → Cell T → Cell T
@@ -79,39 +76,6 @@ pub gone_from_spans : {T : Type 0} (r : ℕ → Bool) (cells : List (Cell T)) (s
     → ((s : Stamp) → is_in_spans spans s ≡ is_among (stamps_at r 0 cells) s) → map (gone_in_any spans) cells ≡ gone_at r 0 cells
 gone_from_spans r cells spans d h = marked (is_in_spans spans) r 0 cells d (λ s k. h s)
 
--- one span after another
-one_more : {T : Type 0} (b d : Bool) (c : Cell T) → cond d (record (cond b (record c { gone = true }) c) { gone = true }) (cond b (record c { gone = true }) c) ≡ cond (b || d) (record c { gone = true }) c
-one_more true true c = refl
-one_more true false c = refl
-one_more false true c = refl
-one_more false false c = refl
-
-same_stamp : {T : Type 0} (b : Bool) (c : Cell T) → (cond b (record c { gone = true }) c).stamp ≡ c.stamp
-same_stamp true c = refl
-same_stamp false c = refl
-
-gone_more_cell : {T : Type 0} (span : Span) (spans : List Span) (c : Cell T) → gone_in_any spans (gone_in span c) ≡ gone_in_any (span ∷ spans) c
-gone_more_cell span spans c =
-    let b = is_in_span span c.stamp in
-    ap (λ s. cond (is_in_spans spans s) (record (gone_in span c) { gone = true }) (gone_in span c)) (same_stamp b c) ∙ one_more b (is_in_spans spans c.stamp) c
-
-pub gone_more : {T : Type 0} (span : Span) (spans : List Span) (cells : List (Cell T)) → map (gone_in_any spans) (map (gone_in span) cells) ≡ map (gone_in_any (span ∷ spans)) cells
-gone_more span spans [] = refl
-gone_more span spans (c ∷ cs) = λ i. gone_more_cell span spans c i ∷ gone_more span spans cs i
-
-pub gone_more_at : {T : Type 0} (cells : List (Cell T)) (spans : List Span) (i : ℕ) (d : Span) → i < length spans
-    → map (gone_in_any (drop (i + 1) spans)) (map (gone_in (get_or spans i d)) cells) ≡ map (gone_in_any (drop i spans)) cells
-gone_more_at cells spans i d h = gone_more (get_or spans i d) (drop (i + 1) spans) cells ∙ ap (λ l. map (gone_in_any l) cells) (sym (drop_more spans i d h))
-
-pub gone_none : {T : Type 0} (cells : List (Cell T)) → map (gone_in_any []) cells ≡ cells
-gone_none [] = refl
-gone_none (c ∷ cs) = ap (λ l. c ∷ l) (gone_none cs)
-
--- the stamps stay
-pub stamps_stay : {T : Type 0} (spans : List Span) (cells : List (Cell T)) → stamps_of (map (gone_in_any spans) cells) ≡ stamps_of cells
-stamps_stay spans [] = refl
-stamps_stay spans (c ∷ cs) = λ i. same_stamp (is_in_spans spans c.stamp) c i ∷ stamps_stay spans cs i
-
 -- THE LAST NEWLINE
 
 last_tail : (x y : Cell ℕ) (xs : List (Cell ℕ)) → EndsFinal (x ∷ y ∷ xs) → EndsFinal (y ∷ xs)
@@ -156,18 +120,6 @@ final_stays r p (x ∷ y ∷ xs) h d k =
     final_step x.stamp x.gone (r p) p 0 r x (visible_of (y ∷ xs)) (stamps_at r p (y ∷ xs)) (stamps_at r (p + 1) (y ∷ xs))
     (differs x.stamp FINAL (stamps_of (y ∷ xs)) new (final_among (y ∷ xs) tail)) (some_visible (y ∷ xs) tail) k
     (λ q. final_stays r p (y ∷ xs) tail rest q) (λ q. final_stays r (p + 1) (y ∷ xs) tail rest q)
-
--- made gone by spans, cells are as many, as known and as different
-pub length_stays : {T : Type 0} (spans : List Span) (cells : List (Cell T)) → length (map (gone_in_any spans) cells) ≡ length cells
-length_stays spans cells = length-map cells (gone_in_any spans)
-
-pub known_stays : {T : Type 0} (count : ℕ) (spans : List Span) (cells : List (Cell T)) → AreKnown count cells → AreKnown count (map (gone_in_any spans) cells)
-known_stays count spans cells h =
-    All-map (λ cell. IsKnown count cell.stamp) (gone_in_any spans) cells
-    (λ k d lt. subst (IsKnown count) (sym (same_stamp (is_in_spans spans (get_or cells k d).stamp) (get_or cells k d))) (h k d lt))
-
-pub distinct_stays : {T : Type 0} (spans : List Span) (cells : List (Cell T)) → AreDistinct cells → AreDistinct (map (gone_in_any spans) cells)
-distinct_stays spans cells h = subst (IsDistinct is_same) (sym (stamps_stay spans cells)) h
 
 -- the last newline isn't in ranges that end before it
 pub last_uncovered : (cells : List (Cell ℕ)) (ranges : List Range) → EndsFinal cells → All (λ range. range.to < length (text_of cells)) ranges → is_covered ranges (0 + (length (visible_of cells) - 1)) ≡ false

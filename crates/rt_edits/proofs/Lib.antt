@@ -20,6 +20,7 @@ pub mod SparingLaws
 pub mod StampLaws
 pub mod StateChanges
 pub mod StateRuns
+pub mod TagEffects
 pub mod TagPlaces
 pub mod TagsInTurn
 pub mod WithinLaws

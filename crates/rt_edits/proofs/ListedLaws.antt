@@ -11,12 +11,11 @@ use Rattle.rt_stamps.specs.Words.{Word}
 use Rattle.rt_store.specs.Cells.{final_cell}
 use Rattle.rt_store.specs.Tagged.{AreStates}
 use Rattle.rt_store.proofs.GivenStates.{one_state}
-use Rattle.rt_tags.specs.States.{TagStates, is_on}
+use Rattle.rt_tags.specs.States.{TagStates, is_on, Write}
 use Rattle.rt_tags.specs.Tags.{IsName, sel, Tags, is_listed, is_place, without, just_above, just_below, raised, lowered, tags_raised, tags_lowered}
 use Rattle.rt_tags.proofs.Places.{split, same_name, name_itself}
-use Rattle.rt_edits.specs.Flat.{TaggedCell}
-use Rattle.rt_edits.specs.Listed.{AreListed, listed_name}
-use Rattle.rt_edits.specs.Working.{shown}
+use Rattle.rt_store.specs.Shown.{TaggedCell, shown}
+use Rattle.rt_edits.specs.Listed.{AreListed, IsShared, listed_name}
 
 -- what is listed before is listed after
 pub listed_more : (old new : List Word) (cells : List TaggedCell) → ((name : Word) → is_listed name old ≡ true → is_listed name new ≡ true) → All IsName new → AreListed old cells → AreListed new cells
@@ -24,6 +23,7 @@ listed_more old new cells h names listed = record {
   each = λ k d lt name on. h name (listed.each k d lt name on);
   sel = h sel listed.sel;
   names = names;
+  shared = listed.shared;
 }
 
 -- NAMES THAT ARE PUT ELSEWHERE
@@ -180,4 +180,5 @@ listed_new = record {
       (All-nil (λ cell. (name : Word) → is_on name cell.state ≡ true → is_listed name (sel ∷ []) ≡ true));
   sel = refl;
   names = one_name sel (omega arith, omega arith);
+  shared = All-cons (λ (cell : TaggedCell). IsShared cell.state) (shown new_table final_cell) [] (All-nil (λ (w : Write). bytes_eq w.name sel ≡ false)) (All-nil (λ (cell : TaggedCell). IsShared cell.state));
 }

@@ -9,21 +9,21 @@ use Rattle.rt_stamps.specs.Stamps.{is_same}
 use Rattle.rt_stamps.specs.Words.{Word}
 use Rattle.rt_stamps.proofs.Order.{same_refl}
 use Rattle.rt_store.specs.declared.cell.Cell.{Cell}
-use Rattle.rt_store.specs.Cells.{visible_of, with_state}
-use Rattle.rt_tags.specs.States.{is_on, written}
+use Rattle.rt_store.specs.Cells.{visible_of, with_state, stamps_of}
+use Rattle.rt_tags.specs.States.{Write, above, below, is_on, is_settled, names_on, written}
 use Rattle.rt_tags.specs.Tags.{IsName, sel, is_listed, with_name, without}
 use Rattle.rt_tags.proofs.Places.{split, same_name, name_itself}
-use Rattle.rt_edits.specs.TagWrites.{listed_if, without_tag, without_tags}
-use Rattle.rt_edits.specs.Flat.{Flat, TaggedCell}
-use Rattle.rt_edits.specs.Known.{stamps_of, IsWritten, AreWritten}
-use Rattle.rt_edits.specs.Listed.{AreListed}
+use Rattle.rt_edits.specs.TagWrites.{listed_if, without_tag, without_tags, is_changed, changed_stamps, tag_write, tagged, with_tag_at}
+use Rattle.rt_edits.specs.Flat.{Flat}
+use Rattle.rt_store.specs.Shown.{TaggedCell}
+use Rattle.rt_store.specs.Written.{IsWritten, AreWritten}
+use Rattle.rt_edits.specs.Listed.{AreListed, IsShared}
 use Rattle.rt_edits.specs.Removals.{cells_at}
-use Rattle.rt_edits.specs.Spans.{is_among}
-use Rattle.rt_edits.specs.TagWrites.{is_changed, changed_stamps, tag_write, tagged, with_tag_at, with_tags_at}
+use Rattle.rt_store.specs.Spans.{is_among}
 use Rattle.rt_edits.proofs.ListedLaws.{without_names, without_other}
 use Rattle.rt_edits.proofs.Putting.{tagged_state}
 use Rattle.rt_edits.proofs.StateChanges.{visible_changed}
-use Rattle.rt_edits.proofs.WriterLaws.{tag_written, tagged_on, written_off}
+use Rattle.rt_edits.proofs.WriterLaws.{all_map, tag_written, tagged_on, written_as}
 
 -- the tags on a character are listed
 abbrev pub HasListed : List Word → TaggedCell → Type 0
@@ -51,6 +51,34 @@ more_names name tags h k = by (is_listed name tags)
     by true = k
     by false = All-append IsName tags (name ∷ []) k (All-cons IsName name [] h (All-nil IsName))
 
+-- SEL
+
+-- one more write, of another tag than `sel`
+pub shared_written : (w : Write) (state : List Write) → bytes_eq w.name sel ≡ false → IsShared state → IsShared (written w state)
+shared_written w state e h = by (is_settled w state)
+  where
+    by : (b : Bool) → IsShared (cond b state (below w.name state ++ w ∷ above w.name state))
+    by true = h
+    by false =
+        let Q : Write → Type 0 = λ v. bytes_eq v.name sel ≡ false in
+        All-append Q (below w.name state) (w ∷ above w.name state) (All-filter _ Q state h) (All-cons Q w (above w.name state) e (All-filter _ Q state h))
+
+pub shared_tagged : (site count : ℕ) (name : Word) (on : Bool) (stamps : List Stamp) → bytes_eq name sel ≡ false → (cell : TaggedCell) → IsShared cell.state → IsShared (tagged site count name on stamps cell).state
+shared_tagged site count name on stamps e cell h = by (is_among stamps cell.stamp)
+  where
+    by : (b : Bool) → IsShared (cond b (record cell { state = written (tag_write site count name on stamps cell.stamp) cell.state }) cell).state
+    by true = shared_written (tag_write site count name on stamps cell.stamp) cell.state e h
+    by false = h
+
+tag_shared : (flat : Flat) (places : ℕ → Bool) (on : Bool) (name : Word) → bytes_eq name sel ≡ false → All (λ c. IsShared c.state) flat.cells → All (λ c. IsShared c.state) (with_tag_at flat places on name).cells
+tag_shared flat places on name e h =
+    let stamps = changed_stamps name on (cells_at places 0 flat.cells) in
+    all_map (λ c. IsShared c.state) (λ c. IsShared c.state) (tagged flat.site flat.count name on stamps) (shared_tagged flat.site flat.count name on stamps e) flat.cells h
+
+-- so the tags that are on are others
+pub shared_names_on : (state : List Write) → IsShared state → All (λ name. bytes_eq name sel ≡ false) (names_on state)
+shared_names_on state h = All-map (λ name. bytes_eq name sel ≡ false) (λ w. w.name) (filter (λ w. w.on) state) (All-filter (λ w. w.on) (λ (w : Write). bytes_eq w.name sel ≡ false) state h)
+
 -- what is so of the visible cells, after a tag was written
 pub visible_after : (P Q : TaggedCell → Type 0) (flat : Flat) (places : ℕ → Bool) (on : Bool) (name : Word)
     → ((cell : TaggedCell) → P cell → Q (tagged flat.site flat.count name on (changed_stamps name on (cells_at places 0 flat.cells)) cell))
@@ -61,8 +89,8 @@ visible_after P Q flat places on name f h =
     subst (All Q) (sym (visible_changed g (tagged_state flat.site flat.count name on stamps) flat.cells)) (All-map Q g (visible_of flat.cells) (λ k d lt. f (get_or (visible_of flat.cells) k d) (h k d lt)))
 
 -- a tag that is put on is listed
-pub on_listed : (flat : Flat) (places : ℕ → Bool) (name : Word) → IsName name → AreListed flat.tags flat.cells → AreListed (with_name name flat.tags) (with_tag_at flat places true name).cells
-on_listed flat places name h listed =
+pub on_listed : (flat : Flat) (places : ℕ → Bool) (name : Word) → IsName name → bytes_eq name sel ≡ false → AreListed flat.tags flat.cells → AreListed (with_name name flat.tags) (with_tag_at flat places true name).cells
+on_listed flat places name h e listed =
     let stamps = changed_stamps name true (cells_at places 0 flat.cells) in
     record {
       each = visible_after (HasListed flat.tags) (HasListed (with_name name flat.tags)) flat places true name
@@ -72,11 +100,12 @@ on_listed flat places name h listed =
           ]) listed.each;
       sel = more_listed sel name flat.tags listed.sel;
       names = more_names name flat.tags h listed.names;
+      shared = tag_shared flat places true name e listed.shared;
     }
 
 -- where a tag is taken off, what is listed stays enough
-pub off_listed : (flat : Flat) (places : ℕ → Bool) (name : Word) (tags : List Word) → AreListed tags flat.cells → AreListed tags (with_tag_at flat places false name).cells
-off_listed flat places name tags listed =
+pub off_listed : (flat : Flat) (places : ℕ → Bool) (name : Word) (tags : List Word) → bytes_eq name sel ≡ false → AreListed tags flat.cells → AreListed tags (with_tag_at flat places false name).cells
+off_listed flat places name tags e listed =
     let stamps = changed_stamps name false (cells_at places 0 flat.cells) in
     record {
       each = visible_after (HasListed tags) (HasListed tags) flat places false name
@@ -86,16 +115,13 @@ off_listed flat places name tags listed =
           ]) listed.each;
       sel = listed.sel;
       names = listed.names;
+      shared = tag_shared flat places false name e listed.shared;
     }
 
-pub all_off_listed : (names : List Word) (flat : Flat) (places : ℕ → Bool) (tags : List Word) → AreListed tags flat.cells → AreListed tags (with_tags_at flat places false names).cells
-all_off_listed [] flat places tags h = h
-all_off_listed (name ∷ names) flat places tags h = all_off_listed names (with_tag_at flat places false name) places tags (off_listed flat places name tags h)
-
 pub written_listed : (on : Bool) (flat : Flat) (places : ℕ → Bool) (name : Word) → IsName name → AreListed flat.tags flat.cells
-    → AreListed (listed_if on name (with_tag_at flat places on name)).tags (listed_if on name (with_tag_at flat places on name)).cells
-written_listed true flat places name h listed = on_listed flat places name h listed
-written_listed false flat places name h listed = off_listed flat places name flat.tags listed
+    → bytes_eq name sel ≡ false → AreListed (listed_if on name (with_tag_at flat places on name)).tags (listed_if on name (with_tag_at flat places on name)).cells
+written_listed true flat places name h listed e = on_listed flat places name h e listed
+written_listed false flat places name h listed e = off_listed flat places name flat.tags e listed
 
 -- A TAG TAKEN OFF EVERYWHERE
 
@@ -114,7 +140,7 @@ among_more : (b : Bool) (x : TaggedCell) (xs : List TaggedCell) (s : Stamp) → 
 among_more true x xs s h = or_right (is_same x.stamp s) _ h
 among_more false x xs s h = h
 
-changed_among : (name : Word) (on : Bool) (xs : List TaggedCell) → All (λ c. is_changed name on c ≡ true → is_among (changed_stamps name on xs) c.stamp ≡ true) xs
+pub changed_among : (name : Word) (on : Bool) (xs : List TaggedCell) → All (λ c. is_changed name on c ≡ true → is_among (changed_stamps name on xs) c.stamp ≡ true) xs
 changed_among name on [] = All-nil (λ c. is_changed name on c ≡ true → is_among (changed_stamps name on []) c.stamp ≡ true)
 changed_among name on (x ∷ xs) =
     All-cons (λ c. is_changed name on c ≡ true → is_among (changed_stamps name on (x ∷ xs)) c.stamp ≡ true) x xs
@@ -132,7 +158,7 @@ nowhere_on flat name known =
     visible_after P (λ c. is_on name c.state ≡ false) flat everywhere false name
     (λ cell p. split (is_among stamps cell.stamp)
     (λ t. ap (λ (c : TaggedCell). is_on name c.state) (cond-true (is_among stamps cell.stamp) (with_state (written (tag_write flat.site flat.count name false stamps cell.stamp) cell.state) cell) cell t)
-    ∙ written_off flat.count (tag_write flat.site flat.count name false stamps cell.stamp) cell.state p.0 (omega arith) refl)
+    ∙ written_as flat.count (tag_write flat.site flat.count name false stamps cell.stamp) cell.state p.0 (omega arith))
     (λ f. ap (λ (c : TaggedCell). is_on name c.state) (cond-false (is_among stamps cell.stamp) (with_state (written (tag_write flat.site flat.count name false stamps cell.stamp) cell.state) cell) cell f)
     ∙ split (is_on name cell.state) (λ e. absurd (both_ways (is_among stamps cell.stamp) f (p.1 e))) (λ e. e)))
     (λ k d lt. (written_each k d lt, among k d lt))
@@ -145,6 +171,7 @@ gone_listed name tags cells other none listed = record {
       (λ f. without_other q name tags f ∙ listed.each k d lt q on);
   sel = without_other sel name tags (split (bytes_eq sel name) (λ t. absurd (both_ways (bytes_eq name sel) other (ap (λ n. bytes_eq n sel) (sym (same_name sel name t)) ∙ name_itself sel))) (λ f. f)) ∙ listed.sel;
   names = without_names name tags listed.names;
+  shared = listed.shared;
 }
 
 -- what is so of a document stays so where a tag is deleted
@@ -157,7 +184,7 @@ without_stays flat name h =
     split (bytes_eq name sel)
     (λ t. subst StaysTagged (sym (cond-true (bytes_eq name sel) flat _ t)) h)
     (λ f. subst StaysTagged (sym (cond-false (bytes_eq name sel) flat _ f)) (record {
-      listed = gone_listed name flat.tags (with_tag_at flat everywhere false name).cells f (nowhere_on flat name h.known) (off_listed flat everywhere name flat.tags h.listed);
+      listed = gone_listed name flat.tags (with_tag_at flat everywhere false name).cells f (nowhere_on flat name h.known) (off_listed flat everywhere name flat.tags f h.listed);
       known = tag_written flat everywhere false name h.known;
     }))
 

@@ -17,15 +17,14 @@ use Rattle.rt_store.specs.Tagged.{AreStates}
 use Rattle.rt_tags.specs.States.{TagStates, IsState, IsTag, name_at, state_at}
 use Rattle.rt_tags.specs.Tags.{is_listed, sel, with_name}
 use Rattle.rt_edits.specs.declared.plan.Plan.{Plan}
-use Rattle.rt_edits.specs.Flat.{TaggedCell}
+use Rattle.rt_store.specs.Shown.{TaggedCell, shown}
 use Rattle.rt_edits.specs.Insertions.{Insertion, Piece, all_listed, are_among, counts_for, last_of, selected_if, shared_names, tagged_cells, tags_between, with_listed, with_pieces, with_unlisted}
-use Rattle.rt_edits.specs.Known.{stamps_of}
+use Rattle.rt_store.specs.Cells.{stamps_of}
 use Rattle.rt_edits.specs.Planned.{IsPlan, planned, selected_between}
 use Rattle.rt_edits.specs.Selections.{with_stamp, with_stamps}
-use Rattle.rt_edits.specs.Spans.{is_among}
-use Rattle.rt_edits.specs.Working.{shown}
+use Rattle.rt_store.specs.Spans.{is_among}
 use Rattle.rt_edits.proofs.Planning.{some_left}
-use Rattle.rt_edits.proofs.Shown.{stamps_shown}
+use Rattle.rt_store.proofs.Shown.{stamps_shown}
 
 -- LISTS
 

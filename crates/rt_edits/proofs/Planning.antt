@@ -14,11 +14,11 @@ use Rattle.rt_store.specs.Tagged.{AreStates}
 use Rattle.rt_store.proofs.GivenStates.{kept_states}
 use Rattle.rt_tags.specs.States.{TagStates, Write, IsState, IsTag, KeepsIds, name_at, state_at, written}
 use Rattle.rt_tags.specs.Writers.{listed_by, state_after}
-use Rattle.rt_edits.specs.Flat.{TaggedCell, cells_from}
+use Rattle.rt_store.specs.Shown.{TaggedCell, shown}
+use Rattle.rt_store.specs.Cells.{cells_from}
 use Rattle.rt_edits.specs.Insertions.{cells_of_inserts, counts_for, further_tags, inserts_for, new_state, put_on, tagged_cells}
 use Rattle.rt_edits.specs.Planned.{writer_at}
-use Rattle.rt_edits.specs.Working.{shown}
-use Rattle.rt_edits.proofs.Shown.{from_shown, shown_later}
+use Rattle.rt_store.proofs.Shown.{from_shown, shown_later}
 
 -- A TABLE THAT KEEPS ITS IDS
 

@@ -14,18 +14,20 @@ use Rattle.rt_stamps.specs.Stamps.{is_same}
 use Rattle.rt_stamps.specs.Words.{Word}
 use Rattle.rt_stamps.proofs.Order.{same_sym}
 use Rattle.rt_store.specs.declared.cell.Cell.{Cell}
-use Rattle.rt_store.specs.Cells.{map_state, with_state}
+use Rattle.rt_store.specs.Cells.{map_state, with_state, stamps_of, AreDistinct}
 use Rattle.rt_store.specs.Tagged.{AreStates}
 use Rattle.rt_tags.specs.States.{TagStates, Write, KeepsIds, state_at, written}
 use Rattle.rt_edits.specs.declared.tagging.StateRun.{StateRun}
-use Rattle.rt_edits.specs.Flat.{Flat, TaggedCell}
-use Rattle.rt_edits.specs.Known.{stamps_of, AreDistinct}
+use Rattle.rt_edits.specs.Flat.{Flat}
+use Rattle.rt_store.specs.Shown.{TaggedCell, shown}
 use Rattle.rt_edits.specs.Removals.{cells_at, stamps_at, span_count, operations_for}
-use Rattle.rt_edits.specs.Spans.{precedes, next_stamp, is_among}
+use Rattle.rt_store.specs.Spans.{precedes, next_stamp, is_among}
 use Rattle.rt_edits.specs.TagWrites.{is_changed, changed_stamps, spans_before, tag_write, tagged, with_tag_at, with_tags_at}
-use Rattle.rt_edits.specs.Working.{shown, put_back, put_back_in_any, Copies, copies_with, copies_after}
-use Rattle.rt_edits.proofs.DistinctLaws.{split, distinct_at}
-use Rattle.rt_edits.proofs.Shown.{cells_at_shown, stamps_shown}
+use Rattle.rt_edits.specs.Working.{put_back, put_back_in_any, Copies, copies_with, copies_after}
+use Rattle.rt_edits.proofs.DistinctLaws.{distinct_at}
+use Rattle.rt_store.proofs.Distinct.{split}
+use Rattle.rt_edits.proofs.Shown.{cells_at_shown}
+use Rattle.rt_store.proofs.Shown.{stamps_shown}
 use Rattle.rt_edits.proofs.StateChanges.{ChangesState, stamps_changed}
 
 -- CHANGES OF STATES

@@ -5,8 +5,8 @@ use Rattle.rt_stamps.specs.declared.stamp.Stamp.{Stamp}
 use Rattle.rt_stamps.specs.Stamps.{is_same}
 use Rattle.rt_stamps.proofs.Order.{same_from_true}
 use Rattle.rt_edits.specs.Selections.{with_stamp, with_stamps, unselected}
-use Rattle.rt_edits.specs.Spans.{is_among}
-use Rattle.rt_edits.proofs.DistinctLaws.{split}
+use Rattle.rt_store.specs.Spans.{is_among}
+use Rattle.rt_store.proofs.Distinct.{split}
 
 or_none : (a : Bool) → (a || false) ≡ a
 or_none true = refl

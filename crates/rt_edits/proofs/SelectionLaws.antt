@@ -8,7 +8,7 @@ use Rattle.rt_stamps.specs.declared.stamp.Stamp.{Stamp}
 use Rattle.rt_stamps.specs.Stamps.{is_same}
 use Rattle.rt_stamps.proofs.Order.{same_sym}
 use Rattle.rt_edits.specs.Selections.{with_stamp, with_stamps}
-use Rattle.rt_edits.specs.Spans.{is_among}
+use Rattle.rt_store.specs.Spans.{is_among}
 
 -- ONE STAMP MORE
 

@@ -4,8 +4,8 @@ use Rattle.std.specs.Ordering.{nat_cmp, is_lt, ordering_then}
 use Rattle.std.proofs.lemmas.List.{length-map}
 use Rattle.std.proofs.Math.ListN.{get_or-map}
 use Rattle.rt_store.specs.declared.cell.Cell.{Cell}
-use Rattle.rt_edits.specs.Known.{stamps_of, AreDistinct}
-use Rattle.rt_edits.specs.Spans.{each_next, precedes}
+use Rattle.rt_store.specs.Cells.{stamps_of, AreDistinct}
+use Rattle.rt_store.specs.Spans.{each_next, precedes}
 use Rattle.rt_edits.proofs.SpanLaws.{sorted_next}
 
 -- sorted cells with stamps that differ are in order

@@ -15,8 +15,8 @@ use Rattle.rt_stamps.specs.declared.stamp.Stamp.{Stamp}
 use Rattle.rt_stamps.specs.Stamps.{is_same}
 use Rattle.rt_store.specs.Cells.{is_in_span}
 use Rattle.rt_edits.specs.Removals.{span_count}
-use Rattle.rt_edits.specs.Spans.{each_next, is_span, is_clear_of, precedes, next_stamp, last_stamp, is_in_spans, is_among}
-use Rattle.rt_edits.proofs.DistinctLaws.{split}
+use Rattle.rt_store.specs.Spans.{each_next, is_span, is_clear_of, precedes, next_stamp, last_stamp, is_in_spans, is_among}
+use Rattle.rt_store.proofs.Distinct.{split}
 
 -- the span of one stamp
 abbrev pub span_of : Stamp → Span

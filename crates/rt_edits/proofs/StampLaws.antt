@@ -7,9 +7,8 @@ use Rattle.std.proofs.lemmas.List.{drop_more, take_more, get_or-drop, length-dro
 use Rattle.std.proofs.lemmas.Option.{get_or_from_slice_get}
 use Rattle.rt_stamps.specs.declared.stamp.Stamp.{Stamp}
 use Rattle.rt_store.specs.declared.cell.Cell.{Cell}
-use Rattle.rt_store.specs.Cells.{visible_of}
+use Rattle.rt_store.specs.Cells.{visible_of, stamps_of}
 use Rattle.rt_edits.specs.declared.range.Range.{Range}
-use Rattle.rt_edits.specs.Known.{stamps_of}
 use Rattle.rt_edits.specs.Removals.{is_in, is_covered, stamps_at, AreInOrder}
 
 -- the stamps of visible cells at some places

@@ -4,11 +4,11 @@ use Rattle.std.specs.List.{IsDistinct}
 use Rattle.std.proofs.lemmas.List.Elements.{All-head, All-tail, All-map}
 use Rattle.rt_stamps.specs.Stamps.{is_same}
 use Rattle.rt_store.specs.declared.cell.Cell.{Cell}
-use Rattle.rt_store.specs.Cells.{is_in_span, text_of, visible_of, with_state}
+use Rattle.rt_store.specs.Cells.{is_in_span, text_of, visible_of, with_state, stamps_of, AreDistinct}
 use Rattle.rt_store.specs.Tagged.{AreStates}
 use Rattle.rt_tags.specs.States.{TagStates, IsState}
 use Rattle.rt_edits.specs.declared.tagging.StateRun.{StateRun}
-use Rattle.rt_edits.specs.Known.{stamps_of, IsKnown, AreKnown, AreDistinct}
+use Rattle.rt_store.specs.Written.{IsBelowNext, AreBelowNext}
 use Rattle.rt_edits.specs.Removals.{cells_at}
 use Rattle.rt_edits.specs.Working.{put_back_in_any}
 
@@ -37,14 +37,14 @@ module _ {T : Type 0} (g : Cell T → Cell T) (h : ChangesState g) where
   pub text_changed : (cells : List (Cell T)) → text_of (map g cells) ≡ text_of cells
   text_changed cells = ap (map (λ (c : Cell T). c.ch)) (visible_changed cells) ∙ chars_changed (visible_of cells)
 
-  pub known_changed : (count : ℕ) (cells : List (Cell T)) → AreKnown count cells → AreKnown count (map g cells)
-  known_changed count cells k = All-map (λ (c : Cell T). IsKnown count c.stamp) g cells (λ j d lt. subst (IsKnown count) (sym (ap (λ (c : Cell T). c.stamp) (h (get_or cells j d)))) (k j d lt))
+  pub known_changed : (count : ℕ) (cells : List (Cell T)) → AreBelowNext count cells → AreBelowNext count (map g cells)
+  known_changed count cells k = All-map (λ (c : Cell T). IsBelowNext count c.stamp) g cells (λ j d lt. subst (IsBelowNext count) (sym (ap (λ (c : Cell T). c.stamp) (h (get_or cells j d)))) (k j d lt))
 
   pub distinct_changed : (cells : List (Cell T)) → AreDistinct cells → AreDistinct (map g cells)
   distinct_changed cells k = subst (IsDistinct is_same) (sym (stamps_changed cells)) k
 
 -- what is known stays known, also under the same count
-pub known_from : {T : Type 0} (count later : ℕ) (cells : List (Cell T)) → count ≤ later → AreKnown count cells → AreKnown later cells
+pub known_from : {T : Type 0} (count later : ℕ) (cells : List (Cell T)) → count ≤ later → AreBelowNext count cells → AreBelowNext later cells
 known_from count later cells le h = λ k d lt. let p = h k d lt in (omega (arith, p.0), λ e. p.1 (omega (arith, p.0)))
 
 -- RUNS

@@ -14,7 +14,7 @@ use Rattle.rt_store.specs.Cells.{is_in_span, state_in, with_state}
 use Rattle.rt_store.specs.Tagged.{AreStates}
 use Rattle.rt_tags.specs.States.{TagStates, IsState}
 use Rattle.rt_edits.specs.declared.tagging.StateRun.{StateRun}
-use Rattle.rt_edits.specs.Spans.{is_span, next_stamp, last_stamp}
+use Rattle.rt_store.specs.Spans.{is_span, next_stamp, last_stamp}
 use Rattle.rt_edits.specs.Working.{put_back, put_back_in_any}
 use Rattle.rt_edits.proofs.SpanLaws.{span_of, first_stamp}
 

@@ -10,12 +10,12 @@ use Rattle.rt_store.specs.Cells.{visible_of, text_of}
 use Rattle.rt_tags.specs.States.{is_on}
 use Rattle.rt_tags.specs.Tags.{sel, is_listed, without}
 use Rattle.rt_tags.proofs.Places.{split}
-use Rattle.rt_edits.specs.TagWrites.{listed_if, without_tags}
-use Rattle.rt_edits.specs.Flat.{Flat, TaggedCell}
+use Rattle.rt_edits.specs.TagWrites.{listed_if, without_tags, is_changed, changed_stamps, tagged, with_tag, with_tag_at, with_tags_at}
+use Rattle.rt_edits.specs.Flat.{Flat}
+use Rattle.rt_store.specs.Shown.{TaggedCell}
 use Rattle.rt_edits.specs.Listed.{AreListed}
 use Rattle.rt_edits.specs.declared.range.Range.{Range}
 use Rattle.rt_edits.specs.Removals.{is_in, is_covered, cells_at}
-use Rattle.rt_edits.specs.TagWrites.{is_changed, changed_stamps, tagged, with_tag, with_tag_at, with_tags_at}
 use Rattle.rt_edits.specs.Working.{is_shared_of, all_forgotten}
 use Rattle.rt_edits.proofs.ListedWrites.{everywhere, every_cell, visible_after}
 use Rattle.rt_edits.proofs.Putting.{tagged_state}

@@ -7,7 +7,8 @@ use Rattle.rt_store.specs.declared.cell.Cell.{Cell}
 use Rattle.rt_tags.specs.States.{TagStates, IsTag, KeepsIds, name_at}
 use Rattle.rt_edits.specs.Removals.{span_count, operations_for}
 use Rattle.rt_edits.specs.TagWrites.{changed_stamps, tagged}
-use Rattle.rt_edits.specs.Working.{shown, Copies, copies_with, copies_after}
+use Rattle.rt_edits.specs.Working.{Copies, copies_with, copies_after}
+use Rattle.rt_store.specs.Shown.{shown}
 
 pub count_grows : (site : ℕ) (on : Bool) (names : List Word) (copies : Copies) → copies.count ≤ (copies_after site on names copies).count
 count_grows site on [] copies = omega arith

@@ -10,17 +10,16 @@ use Rattle.std.proofs.Math.Nat.{add-div_right, div-mul-le_self}
 use Rattle.rt_stamps.specs.declared.limits.TheConstants.{MOST_SPANS, GREATEST_COUNT}
 use Rattle.rt_stamps.specs.declared.stamp.Stamp.{Stamp}
 use Rattle.rt_store.specs.declared.cell.Cell.{Cell}
-use Rattle.rt_store.specs.Cells.{with_state}
+use Rattle.rt_store.specs.Cells.{with_state, stamps_of}
 use Rattle.rt_store.specs.Tagged.{AreStates}
 use Rattle.rt_store.proofs.GivenStates.{kept_states}
 use Rattle.rt_tags.specs.States.{TagStates, IsState, IsTag, KeepsIds, name_at, state_at, write_at, written}
 use Rattle.rt_tags.proofs.Keeping.{keeps_itself}
-use Rattle.rt_edits.specs.Flat.{TaggedCell}
-use Rattle.rt_edits.specs.Known.{stamps_of}
+use Rattle.rt_store.specs.Shown.{TaggedCell, shown}
 use Rattle.rt_edits.specs.Removals.{operations_for}
 use Rattle.rt_edits.specs.TagWrites.{is_changed}
-use Rattle.rt_edits.specs.Working.{shown, begun, follows}
-use Rattle.rt_edits.proofs.Shown.{shown_later}
+use Rattle.rt_edits.specs.Working.{begun, follows}
+use Rattle.rt_store.proofs.Shown.{shown_later}
 use Rattle.rt_edits.proofs.Writing.{marked, total, total_more, written_by}
 
 -- IDS THAT ARE KEPT

@@ -14,18 +14,17 @@ use Rattle.rt_stamps.specs.Words.{Word}
 use Rattle.rt_stamps.proofs.Order.{same_from_true}
 use Rattle.rt_store.specs.Cells.{final_cell, with_state}
 use Rattle.rt_tags.specs.Tags.{sel}
-use Rattle.rt_edits.specs.TagWrites.{without_tag, without_tags}
-use Rattle.rt_edits.specs.Working.{shown}
+use Rattle.rt_edits.specs.TagWrites.{without_tag, without_tags, changed_stamps, spans_before, operation_of, tag_write, tagged, with_tag_at, with_tags_at}
+use Rattle.rt_store.specs.Shown.{shown, TaggedCell}
 use Rattle.rt_edits.proofs.ListedLaws.{new_table}
 use Rattle.rt_tags.specs.States.{Write, is_on, says_on, write_of, written}
 use Rattle.rt_tags.proofs.Greatest.{newer, write_of_written}
 use Rattle.rt_tags.proofs.Places.{same_name, name_itself}
-use Rattle.rt_edits.specs.Flat.{Flat, TaggedCell}
-use Rattle.rt_edits.specs.Known.{IsWritten, AreWritten}
+use Rattle.rt_edits.specs.Flat.{Flat}
+use Rattle.rt_store.specs.Written.{IsWritten, AreWritten}
 use Rattle.rt_edits.specs.Removals.{cells_at, span_count, operations_for}
-use Rattle.rt_edits.specs.Spans.{precedes, next_stamp, is_among}
-use Rattle.rt_edits.specs.TagWrites.{changed_stamps, spans_before, operation_of, tag_write, tagged, with_tag_at, with_tags_at}
-use Rattle.rt_edits.proofs.DistinctLaws.{split}
+use Rattle.rt_store.specs.Spans.{precedes, next_stamp, is_among}
+use Rattle.rt_store.proofs.Distinct.{split}
 
 -- THE LAST OPERATION
 
@@ -176,11 +175,11 @@ newest : (count : ℕ) (o : Option Write) (w : Write) → ((v : Write) → o ≡
 newest count None w h k = refl
 newest count (Some v) w h k = let l = h v refl in cond-true (is_before v.writer w.writer) w v (or_left _ _ (lt-ltb v.writer.count w.writer.count (omega (arith, l))))
 
--- a tag that is taken off under a new count is off
-pub written_off : (count : ℕ) (w : Write) (state : List Write) → IsWritten count state → count < w.writer.count → w.on ≡ false → is_on w.name (written w state) ≡ false
-written_off count w state known k off =
+-- a tag that is written under a new count is on or off as the write says
+pub written_as : (count : ℕ) (w : Write) (state : List Write) → IsWritten count state → count < w.writer.count → is_on w.name (written w state) ≡ w.on
+written_as count w state known k =
     ap says_on (write_of_written w.name w state) ∙ ap (λ b. says_on (cond b (Some (newer (write_of w.name state) w)) (write_of w.name state))) (name_itself w.name)
-    ∙ ap (λ (x : Write). x.on) (newest count (write_of w.name state) w (λ v e. known w.name v e) k) ∙ off
+    ∙ ap (λ (x : Write). x.on) (newest count (write_of w.name state) w (λ v e. known w.name v e) k)
 
 -- CELLS
 
@@ -203,7 +202,7 @@ module _ (site count : ℕ) (name : Word) (on : Bool) (stamps : List Stamp) wher
       (ap (λ (c : TaggedCell). is_on q c.state) (sym (cond-true (is_among stamps cell.stamp) (with_state (written (tag_write site count name on stamps cell.stamp) cell.state) cell) cell t)) ∙ h))
       (λ f. inl (ap (λ (c : TaggedCell). is_on q c.state) (sym (cond-false (is_among stamps cell.stamp) (with_state (written (tag_write site count name on stamps cell.stamp) cell.state) cell) cell f)) ∙ h))
 
-all_map : (P Q : TaggedCell → Type 0) (g : TaggedCell → TaggedCell) → ((c : TaggedCell) → P c → Q (g c)) → (cells : List TaggedCell) → All P cells → All Q (map g cells)
+pub all_map : (P Q : TaggedCell → Type 0) (g : TaggedCell → TaggedCell) → ((c : TaggedCell) → P c → Q (g c)) → (cells : List TaggedCell) → All P cells → All Q (map g cells)
 all_map P Q g h [] k = All-nil Q
 all_map P Q g h (c ∷ cs) k = All-cons Q (g c) (map g cs) (h c (All-head P c cs k)) (all_map P Q g h cs (All-tail P c cs k))
 

@@ -9,15 +9,14 @@ use Rattle.rt_stamps.specs.declared.stamp.Stamp.{Stamp}
 use Rattle.rt_stamps.specs.Stamps.{is_same}
 use Rattle.rt_stamps.specs.Words.{Word}
 use Rattle.rt_stamps.proofs.Order.{same_refl, same_from_true}
-use Rattle.rt_store.specs.Cells.{with_state}
+use Rattle.rt_store.specs.Cells.{with_state, stamps_of}
 use Rattle.rt_tags.specs.States.{written}
-use Rattle.rt_edits.specs.Flat.{TaggedCell}
-use Rattle.rt_edits.specs.Known.{stamps_of}
+use Rattle.rt_store.specs.Shown.{TaggedCell}
 use Rattle.rt_edits.specs.Removals.{span_count}
-use Rattle.rt_edits.specs.Spans.{each_next, precedes, next_stamp, is_among}
+use Rattle.rt_store.specs.Spans.{each_next, precedes, next_stamp, is_among}
 use Rattle.rt_edits.specs.TagWrites.{is_changed, changed_stamps, spans_before, tagged}
 use Rattle.rt_edits.specs.Working.{follows, begun}
-use Rattle.rt_edits.proofs.DistinctLaws.{split}
+use Rattle.rt_store.proofs.Distinct.{split}
 use Rattle.rt_edits.proofs.SpanLaws.{all_after, not_next, self_not_next, none_between, lasts_same, length_lasts}
 
 -- a cell after a write of the operation that comes so many operations after the first

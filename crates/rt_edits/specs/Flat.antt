@@ -1,16 +1,12 @@
 -- A document as a flat list of cells.
-use Rattle.std.specs.Prelude.{ℕ, zero, suc, ◌+◌, List, [], ◌∷◌, ◌++◌, take, drop, false, slice_get, unwrap_or, option_map}
+use Rattle.std.specs.Prelude.{ℕ, zero, suc, List, [], ◌∷◌, ◌++◌, take, drop, slice_get, unwrap_or, option_map}
 use Rattle.rt_marks.specs.Marks.{Mark}
 use Rattle.rt_stamps.specs.declared.stamp.Stamp.{Stamp}
 use Rattle.rt_stamps.specs.declared.stamp.TheConstants.{ROOT}
 use Rattle.rt_store.specs.declared.cell.Cell.{Cell}
 use Rattle.rt_store.specs.Cells.{visible_of, after_element, final_cell, map_state}
-use Rattle.rt_tags.specs.States.{Write}
+use Rattle.rt_store.specs.Shown.{TaggedCell}
 use Rattle.rt_tags.specs.Tags.{sel}
-
--- a cell with the last write of each tag on its character
-abbrev pub TaggedCell : Type 0
-TaggedCell = Cell (List Write)
 
 -- a document: its cells, its site, the most cells that it may have, the greatest count of its operations, the site's marks
 -- in their order, and the tags that the site lists, lowest priority first
@@ -25,11 +21,6 @@ pub record Flat : Type 0 where
 -- a new document is the final newline alone, without tags; it has no marks, and lists the tag `sel`
 abbrev pub new_flat : ℕ → ℕ → Flat
 new_flat site limit = record { cells = map_state (λ _. []) final_cell ∷ []; site = site; limit = limit; count = 0; marks = []; tags = sel ∷ [] }
-
--- new cells for characters, from a count on, in one state
-abbrev pub cells_from : {T : Type 0} → ℕ → ℕ → T → List ℕ → List (Cell T)
-cells_from count site state [] = []
-cells_from count site state (c ∷ cs) = record { stamp = record { count = count; site = site }; ch = c; gone = false; state = state } ∷ cells_from (count + 1) site state cs
 
 -- the stamp of the visible cell before a place, which is the root's at the beginning
 abbrev pub left_of : {T : Type 0} → List (Cell T) → ℕ → Stamp

@@ -9,10 +9,10 @@ use Rattle.rt_store.specs.declared.cell.Cell.{Cell}
 use Rattle.rt_tags.specs.States.{Write, is_on, names_on}
 use Rattle.rt_tags.specs.Tags.{sel, is_listed, with_name}
 use Rattle.rt_tags.specs.Writers.{listed_by, state_after}
-use Rattle.rt_edits.specs.Flat.{TaggedCell, cells_from}
-use Rattle.rt_edits.specs.Known.{stamps_of}
+use Rattle.rt_store.specs.Shown.{TaggedCell}
+use Rattle.rt_store.specs.Cells.{cells_from, stamps_of}
 use Rattle.rt_edits.specs.Selections.{with_stamps}
-use Rattle.rt_edits.specs.Spans.{is_among}
+use Rattle.rt_store.specs.Spans.{is_among}
 
 -- characters to insert, with the list of their tags
 pub record Piece : Type 0 where

@@ -1,13 +1,11 @@
 pub mod Flat
 pub mod Insertions
-pub mod Known
 pub mod Listed
 pub mod Merging
 pub mod Planned
 pub mod Removals
 pub mod Selected
 pub mod Selections
-pub mod Spans
 pub mod TagWrites
 pub mod Texts
 pub mod Working
@@ -15,7 +13,10 @@ pub use Rattle.rt_stamps.specs.Outcomes
 pub use Rattle.rt_stamps.specs.Places
 pub use Rattle.rt_stamps.specs.Words
 pub use Rattle.rt_store.specs.Cells
+pub use Rattle.rt_store.specs.Shown
+pub use Rattle.rt_store.specs.Spans
 pub use Rattle.rt_store.specs.Tagged
+pub use Rattle.rt_store.specs.Written
 pub use Rattle.rt_tags.specs.States
 pub use Rattle.rt_tags.specs.Tags
 pub use Rattle.rt_tags.specs.Writers

@@ -12,8 +12,8 @@ use Rattle.rt_edits.specs.declared.selection.Selection.{Selection}
 use Rattle.rt_edits.specs.Selected.{room_in, stamps_in}
 use Rattle.rt_edits.specs.Insertions.{Insertion, all_listed, selected_if}
 use Rattle.rt_edits.specs.Selections.{with_stamps}
-use Rattle.rt_edits.specs.Spans.{is_among}
-use Rattle.rt_edits.specs.Working.{shown}
+use Rattle.rt_store.specs.Spans.{is_among}
+use Rattle.rt_store.specs.Shown.{shown}
 
 -- Who writes the tag at an index of those of new text: the Insert, under the root's stamp, or an operation of its own behind
 -- the Insert, whose last count is given.

@@ -1,7 +1,7 @@
 -- Selected characters, by their stamps.
 use Rattle.std.specs.Prelude.{Bool, true, false, not, List, [], ◌∷◌, ◌++◌, filter, if◌then◌else◌}
 use Rattle.rt_stamps.specs.declared.stamp.Stamp.{Stamp}
-use Rattle.rt_edits.specs.Spans.{is_among}
+use Rattle.rt_store.specs.Spans.{is_among}
 
 -- one stamp more, which isn't there twice
 abbrev pub with_stamp : Stamp → List Stamp → List Stamp

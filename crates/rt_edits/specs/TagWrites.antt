@@ -1,17 +1,18 @@
 -- Tag operations: which characters they name, under which stamps, and what they leave on them.
-use Rattle.std.specs.Prelude.{ℕ, ◌+◌, ◌/◌, ◌&&◌, not, Bool, true, false, List, [], ◌∷◌, length, map, filter, if◌then◌else◌}
+use Rattle.std.specs.Prelude.{◌≡◌, ℕ, ◌+◌, ◌/◌, ◌&&◌, not, Bool, true, false, List, [], ◌∷◌, length, map, filter, All, Option, if◌then◌else◌}
 use Rattle.std.specs.List.{list_any}
 use Rattle.std.specs.Str.{bytes_eq}
 use Rattle.rt_stamps.specs.declared.limits.TheConstants.{MOST_SPANS}
 use Rattle.rt_stamps.specs.declared.stamp.Stamp.{Stamp}
 use Rattle.rt_stamps.specs.Stamps.{is_same}
 use Rattle.rt_stamps.specs.Words.{Word}
-use Rattle.rt_tags.specs.States.{Write, is_on, written}
+use Rattle.rt_tags.specs.States.{Write, is_on, write_of, written}
 use Rattle.rt_tags.specs.Tags.{sel, with_name, without}
-use Rattle.rt_edits.specs.Flat.{Flat, TaggedCell}
-use Rattle.rt_edits.specs.Known.{stamps_of}
+use Rattle.rt_edits.specs.Flat.{Flat}
+use Rattle.rt_store.specs.Shown.{TaggedCell}
+use Rattle.rt_store.specs.Cells.{stamps_of}
 use Rattle.rt_edits.specs.Removals.{cells_at, span_count, operations_for}
-use Rattle.rt_edits.specs.Spans.{precedes, next_stamp, is_among}
+use Rattle.rt_store.specs.Spans.{precedes, next_stamp, is_among}
 
 -- a character to put a tag on hasn't it, and one to take it off has it
 abbrev pub is_changed : Word → Bool → TaggedCell → Bool
@@ -70,3 +71,25 @@ without_tag flat name =
 abbrev pub without_tags : Flat → List Word → Flat
 without_tags flat [] = flat
 without_tags flat (name ∷ names) = without_tags (without_tag flat name) names
+
+-- WHAT IS ON AFTERWARDS
+
+-- a tag is on the characters of some stamps, or off them, as is asked
+abbrev pub AreTagged : Word → Bool → List Stamp → List TaggedCell → Type 0
+AreTagged name on stamps cells = All (λ cell. is_among stamps cell.stamp ≡ true → is_on name cell.state ≡ on) cells
+
+-- the cells that have none of some stamps
+abbrev pub cells_but : List Stamp → List TaggedCell → List TaggedCell
+cells_but stamps cells = filter (λ cell. not (is_among stamps cell.stamp)) cells
+
+-- the cells, gone ones too, but the visible ones at some places; the first visible one stands at this place
+abbrev pub cells_beside : (ℕ → Bool) → ℕ → List TaggedCell → List TaggedCell
+cells_beside places place [] = []
+cells_beside places place (cell ∷ cells) =
+    if cell.gone then cell ∷ cells_beside places place cells
+    else if places place then cells_beside places (place + 1) cells
+    else cell ∷ cells_beside places (place + 1) cells
+
+-- the last write of a tag on each character, if there is one
+abbrev pub writes_of : Word → List TaggedCell → List (Option Write)
+writes_of name cells = map (λ cell. write_of name cell.state) cells

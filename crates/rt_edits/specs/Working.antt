@@ -4,19 +4,14 @@ use Rattle.rt_stamps.specs.declared.stamp.Stamp.{Stamp}
 use Rattle.rt_stamps.specs.Stamps.{is_same}
 use Rattle.rt_stamps.specs.Words.{Word}
 use Rattle.rt_store.specs.declared.cell.Cell.{Cell}
-use Rattle.rt_store.specs.Cells.{is_in_span, map_state, with_state}
+use Rattle.rt_store.specs.Cells.{is_in_span, with_state}
 use Rattle.std.specs.Str.{bytes_eq}
-use Rattle.rt_tags.specs.States.{TagStates, state_at}
 use Rattle.rt_tags.specs.Tags.{sel, forgotten, is_listed}
 use Rattle.rt_edits.specs.declared.tagging.StateRun.{StateRun}
-use Rattle.rt_edits.specs.Flat.{TaggedCell}
+use Rattle.rt_store.specs.Shown.{TaggedCell}
 use Rattle.rt_edits.specs.Removals.{span_count, operations_for}
-use Rattle.rt_edits.specs.Spans.{next_stamp}
+use Rattle.rt_store.specs.Spans.{next_stamp}
 use Rattle.rt_edits.specs.TagWrites.{changed_stamps, tagged}
-
--- a cell of a store with what its state stands for
-abbrev pub shown : TagStates → Cell ℕ → TaggedCell
-shown table cell = map_state (state_at table) cell
 
 -- a cell with the state that its copy has, or as it is where it has none
 abbrev pub put_back : List (Cell ℕ) → Cell ℕ → Cell ℕ

@@ -1,10 +1,10 @@
 // Insertion of characters after a visible left neighbour.
 ghost use Rattle.std.specs.Prelude.{◌≡◌, ◌+◌, ◌-◌, ◌<◌, ◌≤◌, ◌++◌, length, OnOk, IfErr};
 ghost use Rattle.rt_stamps.specs.declared.limits.TheConstants.{GREATEST_COUNT};
-ghost use Rattle.rt_store.specs.Cells.{visible_of, StandsBefore, after_element, HasRoom};
+ghost use Rattle.rt_store.specs.Cells.{visible_of, StandsBefore, after_element, HasRoom, cells_from};
 ghost use Rattle.rt_store.specs.Tagged.{AreStates};
-ghost use Rattle.rt_edits.specs.Flat.{cells_from, left_of, put_after};
-ghost use Rattle.rt_edits.specs.Known.{AreKnown};
+ghost use Rattle.rt_edits.specs.Flat.{left_of, put_after};
+ghost use Rattle.rt_store.specs.Written.{AreBelowNext};
 
 use rt_stamps::{Fault, ROOT, Site, Stamp};
 use rt_store::{Cell, TextStore};
@@ -55,7 +55,7 @@ fn left_of<S: TextStore>(store: &S, place: usize) -> Stamp
 // Where a cell that is newer than all goes, directly after its left element.
 fn gap<S: TextStore>(store: &S, left: Stamp, new: Stamp) -> usize
     requires left { StandsBefore (S.list store.now) left }
-    requires newer { (1 ≤ new.count) × (1 ≤ new.site) × AreKnown (new.count - 1) (S.list store.now) }
+    requires newer { (1 ≤ new.count) × (1 ≤ new.site) × AreBelowNext (new.count - 1) (S.list store.now) }
     ensures value { result ≡ after_element (S.list store.now) left }
     ensures within { result < length (S.list store.now) }
 {
@@ -74,7 +74,7 @@ pub fn put<S: TextStore>(
     requires given { AreStates states.now cells.now }
     requires place { place < length (visible_of (S.list store.old)) }
     requires room { HasRoom (S.room store.old) (length cells.now) 1 }
-    requires newer { (1 ≤ first.count) × (1 ≤ first.site) × AreKnown (first.count - 1) (S.list store.old) }
+    requires newer { (1 ≤ first.count) × (1 ≤ first.site) × AreBelowNext (first.count - 1) (S.list store.old) }
     ensures list { S.list store.new ≡ put_after (S.list store.old) (left_of (S.list store.old) place) cells.now }
     ensures len { length (S.list store.new) ≡ length (S.list store.old) + length cells.now }
 {

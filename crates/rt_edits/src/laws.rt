@@ -1,16 +1,21 @@
 // Laws of the definitions, each the contract of a function that does nothing.
-ghost use Rattle.std.specs.Prelude.{◌≡◌, ℕ, ◌-◌, ◌<◌, Bool, List, [], ◌∷◌, ◌++◌, take, drop, length, if◌then◌else◌};
+ghost use Rattle.std.specs.Prelude.{◌≡◌, ℕ, ◌-◌, ◌<◌, All, Bool, false, map, List, [], ◌∷◌, ◌++◌, take, drop, length, if◌then◌else◌};
 ghost use Rattle.std.specs.List.{IsDistinct};
+ghost use Rattle.std.specs.Str.{bytes_eq};
+ghost use Rattle.rt_stamps.specs.declared.stamp.Stamp.{Stamp};
 ghost use Rattle.rt_stamps.specs.declared.stamp.TheConstants.{ROOT};
 ghost use Rattle.rt_stamps.specs.Stamps.{is_same};
-ghost use Rattle.rt_store.specs.Cells.{text_of};
+ghost use Rattle.rt_store.specs.Cells.{AreDistinct, text_of, stamps_of, with_state};
 ghost use Rattle.rt_edits.specs.declared.range.Range.{Range};
 ghost use Rattle.rt_stamps.specs.Words.{Word};
-ghost use Rattle.rt_edits.specs.Flat.{TaggedCell, left_of, put_after};
+ghost use Rattle.rt_edits.specs.Flat.{Flat, left_of, put_after};
+ghost use Rattle.rt_store.specs.Shown.{TaggedCell};
 ghost use Rattle.rt_edits.specs.Insertions.{tagged_cells};
-ghost use Rattle.rt_edits.specs.Known.{stamps_of};
 ghost use Rattle.rt_edits.specs.Merging.{begins_line};
-ghost use Rattle.rt_edits.specs.Removals.{gone_at, is_removed, left_at};
+ghost use Rattle.rt_edits.specs.Removals.{cells_at, gone_at, is_removed, left_at};
+ghost use Rattle.rt_edits.specs.TagWrites.{AreTagged, cells_beside, cells_but, with_tag, with_tag_at, writes_of};
+ghost use Rattle.rt_store.specs.Written.{AreWritten};
+ghost use Rattle.rt_tags.specs.States.{is_on};
 
 /// Characters that are inserted stand before the one at the place: so it is where the root and all
 /// cells, gone ones too, have stamps of their own.
@@ -26,4 +31,21 @@ pub fn text_of_removal()
     ensures left { (removed : ℕ → Bool) (cells : List TaggedCell) → text_of (gone_at removed 0 cells) ≡ left_at removed 0 (text_of cells) }
     ensures inner { (text : List ℕ) (range : Range) → range.from < range.to → range.to < length text → left_at (is_removed text (range ∷ [])) 0 text ≡ take range.from text ++ drop range.to text }
     ensures end { (text : List ℕ) (from : ℕ) → from < length text → left_at (is_removed text (record { from = from; to = length text } ∷ [])) 0 text ≡ take (if begins_line text from then from - 1 else from) text ++ drop (length text - 1) text }
+{}
+
+/// Where no write is newer than the document, a tag that is put on the characters of some stamps is on
+/// afterwards, and one that is taken off is off. Other cells, other tags, and what else a cell has
+/// stay as they were.
+pub fn tags_of_stamps()
+    ensures named { (flat : Flat) (name : Word) (on : Bool) (stamps : List Stamp) → AreWritten flat.count flat.cells → AreTagged name on stamps (with_tag flat name on stamps).cells }
+    ensures others { (flat : Flat) (name : Word) (on : Bool) (stamps : List Stamp) → cells_but stamps (with_tag flat name on stamps).cells ≡ cells_but stamps flat.cells }
+    ensures tags { (flat : Flat) (name other : Word) (on : Bool) (stamps : List Stamp) → bytes_eq other name ≡ false → writes_of other (with_tag flat name on stamps).cells ≡ writes_of other flat.cells }
+    ensures rest { (flat : Flat) (name : Word) (on : Bool) (stamps : List Stamp) → map (with_state []) (with_tag flat name on stamps).cells ≡ map (with_state []) flat.cells }
+{}
+
+/// The same of the characters at some places; and no write is newer than the document then.
+pub fn tags_at_places()
+    ensures named { (flat : Flat) (places : ℕ → Bool) (on : Bool) (name : Word) → AreWritten flat.count flat.cells → All (λ cell. is_on name cell.state ≡ on) (cells_at places 0 (with_tag_at flat places on name).cells) }
+    ensures others { (flat : Flat) (places : ℕ → Bool) (on : Bool) (name : Word) → AreDistinct flat.cells → cells_beside places 0 (with_tag_at flat places on name).cells ≡ cells_beside places 0 flat.cells }
+    ensures written { (flat : Flat) (places : ℕ → Bool) (on : Bool) (name : Word) → AreWritten flat.count flat.cells → AreWritten (with_tag_at flat places on name).count (with_tag_at flat places on name).cells }
 {}

@@ -9,14 +9,13 @@ ghost use Rattle.rt_store.specs.Tagged.{AreStates};
 ghost use Rattle.rt_tags.specs.States.{IsState, IsTag, KeepsIds, is_on, name_at, names_on, state_at};
 ghost use Rattle.rt_tags.specs.Tags.{is_listed, sel};
 ghost use Rattle.rt_tags.specs.Writers.{listed_by, state_after};
-ghost use Rattle.rt_edits.specs.Flat.{cells_from};
+ghost use Rattle.rt_store.specs.Cells.{cells_from, stamps_of};
 ghost use Rattle.rt_edits.specs.Insertions.{shared_names, new_state, inserts_for, selected_if, tagged_cells, counts_for, last_of, tags_between, with_listed, with_pieces, with_unlisted};
-ghost use Rattle.rt_edits.specs.Known.{stamps_of};
 ghost use Rattle.rt_edits.specs.Planned.{IsPlan, planned, writer_at};
 ghost use Rattle.rt_edits.specs.Selected.{stamps_in};
 ghost use Rattle.rt_edits.specs.Selections.{with_stamps};
-ghost use Rattle.rt_edits.specs.Spans.{is_among};
-ghost use Rattle.rt_edits.specs.Working.{shown};
+ghost use Rattle.rt_store.specs.Spans.{is_among};
+ghost use Rattle.rt_store.specs.Shown.{shown};
 
 use crate::insertion::push_cells;
 use crate::{Piece, Selection};

@@ -1,19 +1,19 @@
 // Tag operations, planned on working copies of cells.
 ghost use Rattle.std.specs.Prelude.{◌≡◌, ◌⊎◌, ◌<◌, ◌≤◌, ◌*◌, All, IfOk, IfErr, OnOk, OnErr, true, filter, length, map, string_bytes, if◌then◌else◌};
 ghost use Rattle.rt_stamps.specs.declared.limits.TheConstants.{MOST_CELLS, GREATEST_COUNT};
-ghost use Rattle.rt_store.specs.Cells.{HasRoom, visible_of};
+ghost use Rattle.rt_store.specs.Cells.{HasRoom, visible_of, AreDistinct, stamps_of};
 ghost use Rattle.rt_store.specs.Tagged.{AreStates};
 ghost use Rattle.rt_tags.specs.States.{IsState, IsTag, KeepsIds, name_at};
 ghost use Rattle.rt_tags.specs.Tags.{IsName, with_name};
 ghost use Rattle.rt_edits.specs.Flat.{Flat};
-ghost use Rattle.rt_edits.specs.Known.{AreDistinct, stamps_of};
 ghost use Rattle.rt_edits.specs.Listed.{AreListed};
 ghost use Rattle.rt_edits.specs.Removals.{AreInOrder, is_covered, stamps_at};
 ghost use Rattle.rt_edits.specs.Selected.{stamps_in as selected_in};
 ghost use Rattle.rt_edits.specs.Selections.{selection_with};
-ghost use Rattle.rt_edits.specs.Spans.{each_next, precedes};
+ghost use Rattle.rt_store.specs.Spans.{each_next, precedes};
 ghost use Rattle.rt_edits.specs.TagWrites.{with_tag_at, with_tags_at, without_tags};
-ghost use Rattle.rt_edits.specs.Working.{all_forgotten, copies_after, is_shared_of, put_back_in_any, shown};
+ghost use Rattle.rt_edits.specs.Working.{all_forgotten, copies_after, is_shared_of, put_back_in_any};
+ghost use Rattle.rt_store.specs.Shown.{shown};
 
 use crate::Range;
 use crate::selection::Selection;

@@ -3,7 +3,7 @@ ghost use Rattle.std.specs.Prelude.{◌≡◌, ◌+◌, ◌<◌, ◌≤◌, ◌&
 ghost use Rattle.rt_edits.specs.Insertions.{selected_if};
 ghost use Rattle.rt_edits.specs.Selected.{stamps_in, room_in};
 ghost use Rattle.rt_edits.specs.Selections.{with_stamp, with_stamps, unselected};
-ghost use Rattle.rt_edits.specs.Spans.{is_among};
+ghost use Rattle.rt_store.specs.Spans.{is_among};
 
 use indexmap::IndexSet;
 use rt_stamps::{Fault, Stamp};

@@ -5,11 +5,10 @@ ghost use Rattle.rt_stamps.specs.declared.limits.TheConstants.{MOST_CELLS};
 ghost use Rattle.rt_stamps.specs.declared.stamp.Stamp.{Stamp};
 ghost use Rattle.rt_stamps.specs.declared.stamp.TheConstants.{FINAL};
 ghost use Rattle.rt_stamps.specs.Stamps.{is_same};
-ghost use Rattle.rt_store.specs.Cells.{visible_of, text_of, HasRoom, Spends};
+ghost use Rattle.rt_store.specs.Cells.{visible_of, text_of, HasRoom, Spends, AreDistinct};
 ghost use Rattle.rt_store.specs.Tagged.{AreStates};
-ghost use Rattle.rt_edits.specs.Known.{AreDistinct};
 ghost use Rattle.rt_edits.specs.Removals.{is_covered, stamps_at, gone_at, span_count, operations_for, AreInOrder};
-ghost use Rattle.rt_edits.specs.Spans.{each_next, is_span, is_clear_of, precedes, next_stamp, last_stamp, is_in_spans, is_among, gone_in_any};
+ghost use Rattle.rt_store.specs.Spans.{each_next, is_span, is_clear_of, precedes, next_stamp, last_stamp, is_in_spans, is_among, gone_in_any};
 
 use crate::Range;
 use rt_stamps::limits::MOST_SPANS;

@@ -3,14 +3,14 @@ ghost use Rattle.std.specs.Prelude.{◌≡◌, ◌⊎◌, ◌+◌, ◌-◌, ◌*
 ghost use Rattle.rt_stamps.specs.declared.limits.TheConstants.{MOST_CELLS, MOST_SPANS, GREATEST_COUNT};
 ghost use Rattle.rt_store.specs.declared.cell.Cell.{Cell as StoreCell};
 ghost use Rattle.rt_stamps.specs.Stamps.{is_same};
-ghost use Rattle.rt_store.specs.Cells.{map_state, visible_of, HasRoom};
+ghost use Rattle.rt_store.specs.Cells.{map_state, visible_of, HasRoom, AreDistinct, stamps_of};
 ghost use Rattle.rt_store.specs.Tagged.{AreStates};
 ghost use Rattle.rt_tags.specs.States.{IsState, IsTag, KeepsIds, TagStates, name_at, state_at};
-ghost use Rattle.rt_edits.specs.Known.{AreDistinct, stamps_of};
 ghost use Rattle.rt_edits.specs.Removals.{is_covered, cells_at, span_count, operations_for, AreInOrder};
-ghost use Rattle.rt_edits.specs.Spans.{each_next, precedes, next_stamp, last_stamp};
+ghost use Rattle.rt_store.specs.Spans.{each_next, precedes, next_stamp, last_stamp};
 ghost use Rattle.rt_edits.specs.TagWrites.{is_changed, changed_stamps, tagged};
-ghost use Rattle.rt_edits.specs.Working.{shown, put_back, put_back_in_any, follows, begun};
+ghost use Rattle.rt_edits.specs.Working.{put_back, put_back_in_any, follows, begun};
+ghost use Rattle.rt_store.specs.Shown.{shown};
 
 use crate::Range;
 use crate::span::{is_next, operations_for, span_of};

@@ -1,5 +1,6 @@
 -- The cells of a text, as a list.
-use Rattle.std.specs.Prelude.{◌≡◌, ℕ, ◌+◌, ◌-◌, ◌<◌, ◌≤◌, ◌==◌, ◌&&◌, nat_le, not, Bool, true, false, List, length, drop, map, filter, take_while, position, Option, Some, IsSome, option_map, IsTrue, ◌⊎◌, slice_get, if◌then◌else◌, unwrap_or}
+use Rattle.std.specs.Prelude.{◌≡◌, ℕ, ◌+◌, ◌-◌, ◌<◌, ◌≤◌, ◌==◌, ◌&&◌, nat_le, not, Bool, true, false, List, [], ◌∷◌, ◌++◌, length, take, drop, map, filter, take_while, position, Option, Some, IsSome, option_map, IsTrue, ◌⊎◌, slice_get, if◌then◌else◌, unwrap_or}
+use Rattle.std.specs.List.{IsDistinct, find}
 use Rattle.rt_stamps.specs.declared.stamp.Span.{Span}
 use Rattle.rt_stamps.specs.declared.stamp.Stamp.{Stamp}
 use Rattle.rt_stamps.specs.declared.stamp.TheConstants.{FINAL, ROOT}
@@ -27,12 +28,34 @@ abbrev pub with_state : {T : Type 0} → T → Cell T → Cell T
 with_state state cell = record cell { state = state }
 
 -- the last cell is the final newline, in any state
-abbrev pub EndsFinal : List (Cell ℕ) → Type 0
-EndsFinal cells = option_map (with_state final_cell.state) (slice_get cells (length cells - 1)) ≡ Some final_cell
+abbrev pub EndsFinal : {T : Type 0} → List (Cell T) → Type 0
+EndsFinal cells = option_map (map_state (λ _. final_cell.state)) (slice_get cells (length cells - 1)) ≡ Some final_cell
+
+-- new cells for characters, from a count on, in one state
+abbrev pub cells_from : {T : Type 0} → ℕ → ℕ → T → List ℕ → List (Cell T)
+cells_from count site state [] = []
+cells_from count site state (c ∷ cs) = record { stamp = record { count = count; site = site }; ch = c; gone = false; state = state } ∷ cells_from (count + 1) site state cs
+
+-- STAMPS AND POSITIONS
+
+abbrev pub stamps_of : {T : Type 0} → List (Cell T) → List Stamp
+stamps_of cells = map (λ cell. cell.stamp) cells
+
+-- no two cells have one stamp
+abbrev pub AreDistinct : {T : Type 0} → List (Cell T) → Type 0
+AreDistinct cells = IsDistinct is_same (stamps_of cells)
+
+-- the cell of a stamp
+abbrev pub cell_of : {T : Type 0} → List (Cell T) → Stamp → Option (Cell T)
+cell_of cells stamp = find (λ cell. is_same cell.stamp stamp) cells
 
 -- the position of a stamp's cell
 abbrev pub position_of : {T : Type 0} → List (Cell T) → Stamp → Option ℕ
 position_of cells stamp = position (λ cell. is_same cell.stamp stamp) cells
+
+-- how many visible cells stand before a position
+abbrev pub visible_before : {T : Type 0} → List (Cell T) → ℕ → ℕ
+visible_before cells position = length (visible_of (take position cells))
 
 -- the position after an element, which is the first of all for the root
 abbrev pub after_element : {T : Type 0} → List (Cell T) → Stamp → ℕ
@@ -48,6 +71,18 @@ skip_from cells left new =
     let after = after_element cells left in
     after + length (take_while (λ cell. is_before new cell.stamp) (drop after cells))
 
+-- what is asked of the place of new cells: the element that they go behind stands there, the last newline stays the last cell
+pub record IsPlaced {T : Type 0} (cells : List (Cell T)) (after new : Stamp) : Type 0 where
+  pub stands : StandsBefore cells after
+  pub above : is_before FINAL new ≡ true
+  pub within : skip_from cells after new < length cells
+
+-- more elements in a list, at a position
+abbrev pub put_at : {X : Type 0} → ℕ → List X → List X → List X
+put_at position new list = take position list ++ (new ++ drop position list)
+
+-- SPANS
+
 -- a stamp of a span's site, from its first count to its last
 abbrev pub is_in_span : Span → Stamp → Bool
 is_in_span span stamp = (stamp.site == span.site) && (nat_le span.first stamp.count && nat_le stamp.count span.last)
@@ -59,6 +94,8 @@ gone_in span cell = if is_in_span span cell.stamp then record cell { gone = true
 -- a cell with a stamp of a span has a state, another is as it was
 abbrev pub state_in : {T : Type 0} → Span → T → Cell T → Cell T
 state_in span state cell = if is_in_span span cell.stamp then with_state state cell else cell
+
+-- ROOM
 
 -- how many new cells and how many cuts of runs there is room for
 pub record Room : Type 0 where

@@ -1,6 +1,9 @@
 pub mod Cells
 pub mod ListStore
+pub mod Shown
+pub mod Spans
 pub mod Tagged
+pub mod Written
 pub use Rattle.rt_stamps.specs.Places
 pub use Rattle.rt_stamps.specs.Stamps
 pub use Rattle.rt_tags.specs.States

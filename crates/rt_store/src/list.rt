@@ -1,6 +1,6 @@
 // The cells in a vector.
 ghost use Rattle.std.specs.Prelude.{◌≡◌, ◌+◌, ◌-◌, ◌^◌, ◌<◌, ◌≤◌, ◌∷◌, ◌++◌, [], IfOk, IfErr, count_by, map, take, drop, length, slice_get, take_while, vec_len, vec_capacity};
-ghost use Rattle.rt_store.specs.Cells.{final_cell, EndsFinal, StandsBefore, after_element, visible_of, text_of, position_of, is_in_span, gone_in, state_in};
+ghost use Rattle.rt_store.specs.Cells.{final_cell, EndsFinal, StandsBefore, after_element, visible_of, text_of, cell_of, position_of, is_in_span, gone_in, state_in};
 ghost use Rattle.rt_store.specs.Tagged.{AreStates, has_tag, next_place, previous_place, tag_is};
 ghost use Rattle.rt_tags.specs.States.{IsState, IsTag};
 ghost use Rattle.rt_stamps.specs.Stamps.{is_before};
@@ -103,10 +103,24 @@ fn newlines_before(cells: &[Cell<StateId>], place: usize) -> usize
     lines
 }
 
+// How many visible cells there are.
+fn visible_count(cells: &[Cell<StateId>]) -> usize
+    ensures { result ≡ length (visible_of cells.now) }
+{
+    cells.iter().filter(|cell| !cell.gone).count()
+}
+
 fn position_of(cells: &[Cell<StateId>], stamp: Stamp) -> Option<usize>
     ensures { result ≡ position_of cells.now stamp }
 {
     cells.iter().position(|cell| cell.stamp == stamp)
+}
+
+fn cell_of(cells: &[Cell<StateId>], stamp: Stamp) -> Option<Cell<StateId>>
+    ensures { result ≡ cell_of cells.now stamp }
+{
+    let position = position_of(cells, stamp)?;
+    Some(cells[position])
 }
 
 // The position after an element.
@@ -272,7 +286,20 @@ impl TextStore for ListStore {
     }
 
     fn visible(&self) -> usize {
-        self.cells.iter().filter(|cell| !cell.gone).count()
+        visible_count(&self.cells)
+    }
+
+    fn nth(&self, position: usize) -> Cell<StateId> {
+        self.cells[position]
+    }
+
+    fn cell_of(&self, stamp: Stamp) -> Option<Cell<StateId>> {
+        cell_of(&self.cells, stamp)
+    }
+
+    fn place_of(&self, stamp: Stamp) -> Option<usize> {
+        let position = position_of(&self.cells, stamp)?;
+        Some(visible_count(&self.cells[..position]))
     }
 
     fn lines(&self) -> usize {

@@ -1,10 +1,10 @@
 // What keeps the cells of a text.
-ghost use Rattle.std.specs.Prelude.{◌≡◌, ℕ, ◌+◌, ◌<◌, ◌≤◌, List, ◌++◌, true, false, map, take, drop, length, OnOk, OnErr, IfErr, slice_get};
+ghost use Rattle.std.specs.Prelude.{◌≡◌, ℕ, ◌+◌, ◌<◌, ◌≤◌, List, ◌++◌, true, false, map, take, drop, length, OnOk, OnErr, IfErr, slice_get, option_map};
 ghost use Rattle.rt_stamps.specs.Places.{newlines, line_of, line_start};
 ghost use Rattle.rt_stamps.specs.Stamps.{is_before};
 ghost use Rattle.rt_stamps.specs.declared.limits.TheConstants.{MOST_CELLS};
 ghost use Rattle.rt_store.specs.declared.cell.Cell.{Cell};
-ghost use Rattle.rt_store.specs.Cells.{visible_of, text_of, EndsFinal, StandsBefore, skip_from, is_in_span, gone_in, state_in, Room, HasRoom, Spends};
+ghost use Rattle.rt_store.specs.Cells.{visible_of, text_of, EndsFinal, cell_of, position_of, visible_before, StandsBefore, skip_from, is_in_span, gone_in, state_in, Room, HasRoom, Spends};
 ghost use Rattle.rt_store.specs.Tagged.{AreStates, next_tagged, next_untagged, previous_tagged};
 ghost use Rattle.rt_tags.specs.States.{IsState, IsTag};
 
@@ -21,11 +21,13 @@ pub trait TextStore: Drop {
     /// What there is room for.
     ghost room: { Self → Room };
 
-    /// Makes room for new cells and for cuts of runs. `NoMemory` changes no cell.
+    /// Makes room for new cells and for cuts of runs, and keeps what was there. `NoMemory` changes nothing.
     fn reserve(&mut self, cells: usize, cuts: usize) -> Result<(), Fault>
         requires { length (list self.old) + cells ≤ MOST_CELLS }
         ensures same { list self.new ≡ list self.old }
         ensures ok { OnOk result (HasRoom (room self.new) cells cuts) }
+        ensures kept { HasRoom (room self.new) (room self.old).cells (room self.old).cuts }
+        ensures unchanged { OnErr result (room self.new ≡ room self.old) }
         ensures err { IfErr result (λ fault. fault ≡ Fault.NoMemory) };
 
     /// How many cells there are, gone ones too.
@@ -35,6 +37,20 @@ pub trait TextStore: Drop {
     /// How many of them are visible.
     fn visible(&self) -> usize
         ensures { result ≡ length (visible_of (list self.now)) };
+
+    /// The cell at a position, gone or not.
+    fn nth(&self, position: usize) -> Cell<StateId>
+        requires { position < length (list self.now) }
+        ensures { slice_get (list self.now) position ≡ Some result };
+
+    /// The cell of a stamp, gone or not; none if no cell has the stamp.
+    fn cell_of(&self, stamp: Stamp) -> Option<Cell<StateId>>
+        ensures { result ≡ cell_of (list self.now) stamp };
+
+    /// How many visible cells stand before a stamp's cell, which is its place if it is visible; none if
+    /// no cell has the stamp.
+    fn place_of(&self, stamp: Stamp) -> Option<usize>
+        ensures { result ≡ option_map (visible_before (list self.now)) (position_of (list self.now) stamp) };
 
     /// How many lines the text has.
     fn lines(&self) -> usize

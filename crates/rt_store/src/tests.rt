@@ -3,8 +3,8 @@ ghost use Rattle.rt_store.specs.ListStore.{cells_of};
 ghost use Rattle.rt_store.specs.Tagged.{AreStates};
 ghost use Rattle.rt_tags.specs.States.{IsState, IsTag};
 
-use crate::{Cell, ListStore, TextStore};
-use rt_stamps::{Fault, ROOT, Span, Stamp};
+use crate::{Cell, FINAL_CELL, ListStore, TextStore};
+use rt_stamps::{FINAL, Fault, ROOT, Span, Stamp};
 use rt_tags::{StateId, StateTable, TagId};
 use std::alloc::Global;
 use std::test::Fail;
@@ -154,5 +154,34 @@ fn past_greater_stamps(rt: HostRuntime) -> Result<(), Fail> {
     assert_eq!(rt; store.after_skip(a, Stamp { count: 3, site: 1 }), 2);
     assert_eq!(rt; store.visible(), 4);
     assert_eq!(rt; store.lines(), 1);
+    Ok(())
+}
+
+// A stamp finds its cell, gone or not, and its place; room that was there stays.
+#[test]
+fn cells_of_stamps(rt: HostRuntime) -> Result<(), Fail> {
+    let mut text = Text::new(rt.alloc())?;
+    text.put(3, 'c', false)?;
+    text.put(2, 'b', true)?;
+    text.put(1, 'a', false)?;
+    text.remove(2)?;
+    let store = &text.store;
+    let b = Stamp { count: 2, site: 1 };
+    let c = Stamp { count: 3, site: 1 };
+    let other = Stamp { count: 3, site: 2 };
+    assert_eq!(rt;
+        store.cell_of(b).map(|cell| (cell.ch, cell.gone)),
+        Some(('b', true))
+    );
+    assert_eq!(rt; store.cell_of(c), Some(cell(3, 1, 'c')));
+    assert_eq!(rt; store.cell_of(FINAL), Some(FINAL_CELL));
+    assert_eq!(rt; store.cell_of(other), None);
+    assert_eq!(rt; store.place_of(b), Some(1));
+    assert_eq!(rt; store.place_of(c), Some(1));
+    assert_eq!(rt; store.place_of(FINAL), Some(2));
+    assert_eq!(rt; store.place_of(other), None);
+    assert_eq!(rt; store.cells(), 4);
+    assert_eq!(rt; store.nth(2), cell(3, 1, 'c'));
+    assert_eq!(rt; store.nth(3), FINAL_CELL);
     Ok(())
 }

@@ -16,9 +16,10 @@ use Rattle.rt_store.specs.Cells.{text_of, visible_of}
 use Rattle.rt_tags.specs.States.{is_on}
 use Rattle.rt_tags.specs.Tags.{is_listed, sel}
 use Rattle.rt_edits.specs.declared.range.Range.{Range}
-use Rattle.rt_edits.specs.Flat.{Flat, TaggedCell}
+use Rattle.rt_edits.specs.Flat.{Flat}
+use Rattle.rt_store.specs.Shown.{TaggedCell}
 use Rattle.rt_edits.specs.Listed.{AreListed}
-use Rattle.rt_edits.specs.Spans.{is_among}
+use Rattle.rt_store.specs.Spans.{is_among}
 use Rattle.rt_text.specs.Widgets.{Own, is_tagged}
 use Rattle.rt_tagcmd.specs.TagCommands.{range_ends, tagged_ranges}
 use Rattle.rt_tagcmd.specs.TagRanges.{IsMaximal, begins_between, ranges_from, passing_ranges, next_range, previous_range}

@@ -15,30 +15,34 @@ use Rattle.rt_stamps.specs.declared.stamp.TheConstants.{FINAL}
 use Rattle.rt_stamps.specs.Stamps.{is_same, is_before}
 use Rattle.rt_stamps.specs.Words.{Word}
 use Rattle.rt_store.specs.declared.cell.Cell.{Cell}
-use Rattle.rt_store.specs.Cells.{EndsFinal, visible_of, text_of, is_in_span, with_state}
+use Rattle.rt_store.specs.Cells.{EndsFinal, visible_of, text_of, is_in_span, with_state, stamps_of, AreDistinct}
 use Rattle.rt_store.specs.Tagged.{AreStates}
 use Rattle.rt_tags.specs.States.{TagStates, Write, IsState, is_on, state_at, name_at, names_on, write_of, written, says_on}
-use Rattle.rt_tags.specs.Tags.{is_listed}
+use Rattle.rt_tags.specs.Tags.{is_listed, sel}
 use Rattle.rt_tags.proofs.Greatest.{newer, write_of_written}
 use Rattle.rt_tags.proofs.Places.{same_name}
 use Rattle.rt_edits.specs.declared.tagging.StateRun.{StateRun}
-use Rattle.rt_edits.specs.Flat.{Flat, TaggedCell}
-use Rattle.rt_edits.specs.Known.{stamps_of, IsKnown, AreKnown, AreDistinct, IsWritten, AreWritten}
+use Rattle.rt_edits.specs.Flat.{Flat}
+use Rattle.rt_store.specs.Shown.{TaggedCell, shown}
+use Rattle.rt_store.specs.Written.{IsBelowNext, AreBelowNext, IsWritten, AreWritten}
+use Rattle.rt_edits.proofs.ListedWrites.{shared_names_on, shared_tagged}
 use Rattle.rt_edits.proofs.WriterLaws.{tags_written}
-use Rattle.rt_edits.specs.Listed.{AreListed}
+use Rattle.std.proofs.lemmas.Option.{get_or_from_slice_get, slice_get_within}
+use Rattle.rt_edits.specs.Listed.{AreListed, IsShared}
 use Rattle.rt_edits.specs.Removals.{is_in, is_covered, is_removed, cells_at, stamps_at, gone_at, span_count, operations_for}
-use Rattle.rt_edits.specs.Spans.{is_in_spans, is_among, gone_in_any}
+use Rattle.rt_store.specs.Spans.{is_in_spans, is_among, gone_in_any}
 use Rattle.rt_edits.specs.TagWrites.{changed_stamps, tagged, tag_write, with_tag_at, with_tags_at}
-use Rattle.rt_edits.specs.Working.{put_back_in_any, shown}
+use Rattle.rt_edits.specs.Working.{put_back_in_any}
 use Rattle.rt_text.specs.Commands.{Edited, is_last, last_tags, without_places, without_ranges, without_last_tags}
 use Rattle.rt_text.specs.Deleting.{last_cleared, last_unselected}
 use Rattle.rt_text.specs.Widgets.{Own, own_left}
 use Rattle.rt_edits.specs.declared.range.Range.{Range}
 use Rattle.rt_marks.specs.Marks.{marks_left}
 use Rattle.rt_edits.proofs.PlaceLaws.{length_text}
-use Rattle.rt_edits.proofs.Shown.{map_append, gone_in_shown, gone_shown, stamps_at_shown, text_shown as shown_text}
+use Rattle.rt_edits.proofs.Shown.{gone_shown, stamps_at_shown}
+use Rattle.rt_store.proofs.Shown.{map_append, gone_shown as gone_in_shown, text_shown as shown_text}
 use Rattle.rt_edits.proofs.CellLaws.{final_parts}
-use Rattle.rt_edits.proofs.DistinctLaws.{split}
+use Rattle.rt_store.proofs.Distinct.{split}
 use Rattle.rt_edits.proofs.InsertedText.{text_gone, text_shown}
 use Rattle.rt_edits.proofs.Putting.{tagged_state, cells_at_changed}
 
@@ -208,7 +212,7 @@ cleared_alike table kept spans a b e h site count cb ca =
     ∙ with_tags_alike spans a b (is_last a) (is_last b) false (last_tags b) (record {
       site = site;
       count = count;
-      cells = ca ∙ sym (gone_in_shown (state_at table) spans kept) ∙ ap (map (gone_in_any spans)) (sym cb);
+      cells = ca ∙ gone_in_shown (state_at table) spans kept ∙ ap (map (gone_in_any spans)) (sym cb);
       at = cells_at_last table (map (gone_in_any spans) kept) a ca after ∙ sym (cells_at_last table kept b cb e);
     })
 
@@ -247,7 +251,7 @@ all_put_gone runs spans (cell ∷ cells) = λ i. put_gone runs spans cell i ∷ 
 -- in the states of a later table
 pub shown_put_gone : (table : TagStates) (runs : List StateRun) (spans : List Span) (cells : List (Cell ℕ))
     → map (shown table) (map (put_back_in_any runs) (map (gone_in_any spans) cells)) ≡ map (gone_in_any spans) (map (shown table) (map (put_back_in_any runs) cells))
-shown_put_gone table runs spans cells = ap (map (shown table)) (all_put_gone runs spans cells) ∙ sym (gone_in_shown (state_at table) spans (map (put_back_in_any runs) cells))
+shown_put_gone table runs spans cells = ap (map (shown table)) (all_put_gone runs spans cells) ∙ gone_in_shown (state_at table) spans (map (put_back_in_any runs) cells)
 
 pub put_stamps : (runs : List StateRun) (cells : List (Cell ℕ)) → stamps_of (map (put_back_in_any runs) cells) ≡ stamps_of cells
 put_stamps runs [] = refl
@@ -264,10 +268,10 @@ put_visible runs (cell ∷ cells) =
 pub put_text : (runs : List StateRun) (cells : List (Cell ℕ)) → text_of (map (put_back_in_any runs) cells) ≡ text_of cells
 put_text runs cells = put_visible runs cells
 
-pub put_known : (count : ℕ) (runs : List StateRun) (cells : List (Cell ℕ)) → AreKnown count cells → AreKnown count (map (put_back_in_any runs) cells)
+pub put_known : (count : ℕ) (runs : List StateRun) (cells : List (Cell ℕ)) → AreBelowNext count cells → AreBelowNext count (map (put_back_in_any runs) cells)
 put_known count runs cells h =
-    All-map (λ cell. IsKnown count cell.stamp) (put_back_in_any runs) cells
-    (λ k d j. subst (IsKnown count) (sym (ap (λ (c : Cell ℕ). c.stamp) (put_state runs (get_or cells k d)))) (h k d j))
+    All-map (λ cell. IsBelowNext count cell.stamp) (put_back_in_any runs) cells
+    (λ k d j. subst (IsBelowNext count) (sym (ap (λ (c : Cell ℕ). c.stamp) (put_state runs (get_or cells k d)))) (h k d j))
 
 pub put_distinct : (runs : List StateRun) (cells : List (Cell ℕ)) → AreDistinct cells → AreDistinct (map (put_back_in_any runs) cells)
 put_distinct runs cells h = subst (IsDistinct is_same) (sym (put_stamps runs cells)) h
@@ -340,11 +344,13 @@ to_visible names (cell ∷ cells) h =
 
 -- where no more cells are visible, and no more tags on, they stay listed
 pub listed_less : (names : List Word) (f : TaggedCell → TaggedCell) (cells : List TaggedCell) → ((cell : TaggedCell) → (f cell).gone ≡ false → cell.gone ≡ false)
-    → ((cell : TaggedCell) (name : Word) → is_on name (f cell).state ≡ true → is_on name cell.state ≡ true) → AreListed names cells → AreListed names (map f cells)
-listed_less names f cells seen less listed = record {
+    → ((cell : TaggedCell) (name : Word) → is_on name (f cell).state ≡ true → is_on name cell.state ≡ true) → ((cell : TaggedCell) → IsShared cell.state → IsShared (f cell).state)
+    → AreListed names cells → AreListed names (map f cells)
+listed_less names f cells seen less keeps listed = record {
   each = to_visible names (map f cells) (All-map (Listed names) f cells (λ k d j. λ g name on. from_visible names cells listed.each k d j (seen (get_or cells k d) g) name (less (get_or cells k d) name on)));
   sel = listed.sel;
   names = listed.names;
+  shared = All-map (λ (cell : TaggedCell). IsShared cell.state) f cells (λ k d j. keeps (get_or cells k d) (listed.shared k d j));
 }
 
 gone_seen : (spans : List Span) (cell : TaggedCell) → (gone_in_any spans cell).gone ≡ false → cell.gone ≡ false
@@ -361,8 +367,15 @@ gone_on spans cell name h = by (is_in_spans spans cell.stamp) h
     by true k = k
     by false k = k
 
+gone_shared : (spans : List Span) (cell : TaggedCell) → IsShared cell.state → IsShared (gone_in_any spans cell).state
+gone_shared spans cell h = by (is_in_spans spans cell.stamp)
+  where
+    by : (b : Bool) → IsShared (cond b (record cell { gone = true }) cell).state
+    by true = h
+    by false = h
+
 pub listed_gone : (names : List Word) (spans : List Span) (cells : List TaggedCell) → AreListed names cells → AreListed names (map (gone_in_any spans) cells)
-listed_gone names spans cells h = listed_less names (gone_in_any spans) cells (gone_seen spans) (gone_on spans) h
+listed_gone names spans cells h = listed_less names (gone_in_any spans) cells (gone_seen spans) (gone_on spans) (gone_shared spans) h
 
 off_seen : (site count : ℕ) (name : Word) (stamps : List Stamp) (cell : TaggedCell) → (tagged site count name false stamps cell).gone ≡ false → cell.gone ≡ false
 off_seen site count name stamps cell h = by (is_among stamps cell.stamp) h
@@ -379,12 +392,14 @@ off_on site count name stamps cell other h = by (is_among stamps cell.stamp) h
     by false k = k
 
 -- tags that are taken off leave those that are on listed
-pub listed_off : (listed : List Word) (flat : Flat) (places : ℕ → Bool) (names : List Word) → AreListed listed flat.cells → AreListed listed (with_tags_at flat places false names).cells
-listed_off listed flat places [] h = h
-listed_off listed flat places (name ∷ names) h =
+pub listed_off : (listed : List Word) (flat : Flat) (places : ℕ → Bool) (names : List Word) → All (λ name. bytes_eq name sel ≡ false) names → AreListed listed flat.cells
+    → AreListed listed (with_tags_at flat places false names).cells
+listed_off listed flat places [] others h = h
+listed_off listed flat places (name ∷ names) others h =
     let stamps = changed_stamps name false (cells_at places 0 flat.cells) in
-    listed_off listed (with_tag_at flat places false name) places names
-    (listed_less listed (tagged flat.site flat.count name false stamps) flat.cells (off_seen flat.site flat.count name stamps) (off_on flat.site flat.count name stamps) h)
+    listed_off listed (with_tag_at flat places false name) places names (All-tail (λ (n : Word). bytes_eq n sel ≡ false) name names others)
+    (listed_less listed (tagged flat.site flat.count name false stamps) flat.cells (off_seen flat.site flat.count name stamps) (off_on flat.site flat.count name stamps)
+    (shared_tagged flat.site flat.count name false stamps (All-head (λ (n : Word). bytes_eq n sel ≡ false) name names others)) h)
 
 -- THE PARTS OF A DELETION
 
@@ -463,15 +478,23 @@ cleared_if table kept spans flat removed held last e stays h gone count = by hel
     by : (b : Bool) → last_cleared b a ≡ record a { cells = map (gone_in_any spans) (last_cleared b (counted_on flat last)).cells; count = (last_cleared b (counted_on flat last)).count }
     by true = cleared_alike table kept spans a (counted_on flat last) e stays refl count h ca
     by false =
-        let cells : a.cells ≡ map (gone_in_any spans) flat.cells = ca ∙ sym (gone_in_shown (state_at table) spans kept) ∙ ap (map (gone_in_any spans)) (sym h) in
+        let cells : a.cells ≡ map (gone_in_any spans) flat.cells = ca ∙ gone_in_shown (state_at table) spans kept ∙ ap (map (gone_in_any spans)) (sym h) in
         λ i. record a { cells = cells i; count = count i }
 
 pub cleared_count : (held : Bool) (flat : Flat) → flat.count ≤ (last_cleared held flat).count
 cleared_count true flat = tags_count flat (is_last flat) false (last_tags flat)
 cleared_count false flat = omega arith
 
+last_shared : (cells : List TaggedCell) (place : ℕ) → All (λ cell. IsShared cell.state) cells → All (λ name. bytes_eq name sel ≡ false) (unwrap_or (option_map (λ cell. names_on cell.state) (slice_get cells place)) [])
+last_shared cells place h = by (slice_get cells place) refl
+  where
+    by : (o : Option TaggedCell) → slice_get cells place ≡ o → All (λ name. bytes_eq name sel ≡ false) (unwrap_or (option_map (λ cell. names_on cell.state) o) [])
+    by None e = All-nil (λ name. bytes_eq name sel ≡ false)
+    by (Some cell) e =
+        shared_names_on cell.state (subst (λ (c : TaggedCell). IsShared c.state) (get_or_from_slice_get cells place cell cell e) (h place cell (slice_get_within cells place cell e)))
+
 pub cleared_listed : (held : Bool) (flat : Flat) (names : List Word) → AreListed names flat.cells → AreListed names (last_cleared held flat).cells
-cleared_listed true flat names h = listed_off names flat (is_last flat) (last_tags flat) h
+cleared_listed true flat names h = listed_off names flat (is_last flat) (last_tags flat) (last_shared flat.cells (length flat.cells - 1) h.shared) h
 cleared_listed false flat names h = h
 
 -- what a plan of the last newline's tags promises
@@ -590,12 +613,12 @@ pub put_length : (runs : List StateRun) (cells : List (Cell ℕ)) → length (ma
 put_length runs cells = length-map cells (put_back_in_any runs)
 
 -- cells that were known are known later
-pub known_from_then : (count later : ℕ) (cells : List (Cell ℕ)) → count ≤ later → AreKnown count cells → AreKnown later cells
+pub known_from_then : (count later : ℕ) (cells : List (Cell ℕ)) → count ≤ later → AreBelowNext count cells → AreBelowNext later cells
 known_from_then count later cells h known = λ k d j.
-    let p : IsKnown count (get_or cells k d).stamp = known k d j in
+    let p : IsBelowNext count (get_or cells k d).stamp = known k d j in
     by (get_or cells k d).stamp p
   where
-    by : (s : Stamp) → IsKnown count s → IsKnown later s
+    by : (s : Stamp) → IsBelowNext count s → IsBelowNext later s
     by s p = (omega (arith, h, p.0), λ e. p.1 (omega (arith, h, p.0, e)))
 
 -- WRITERS

@@ -16,11 +16,11 @@ use Rattle.rt_edits.specs.Flat.{Flat}
 use Rattle.rt_text.specs.Index.{index_check, place_at_index}
 use Rattle.rt_text.specs.Ranges.{ranges_of}
 use Rattle.rt_edits.specs.Removals.{is_covered, gone_at, stamps_at, span_count, operations_for}
-use Rattle.rt_edits.specs.Spans.{gone_in_any}
+use Rattle.rt_store.specs.Spans.{gone_in_any}
 use Rattle.rt_text.specs.Widgets.{Own, widget_of, own_left}
 use Rattle.rt_text.specs.Commands.{Edited, deleted, without_places, without_ranges, clock_check}
-use Rattle.rt_edits.proofs.DistinctLaws.{split}
-use Rattle.rt_edits.proofs.GoneLaws.{gone_none}
+use Rattle.rt_store.proofs.Distinct.{split}
+use Rattle.rt_store.proofs.Gone.{gone_none}
 use Rattle.rt_edits.proofs.InsertedText.{text_gone, text_shown}
 use Rattle.rt_edits.proofs.StampLaws.{uncovered_from}
 

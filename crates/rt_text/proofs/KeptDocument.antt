@@ -1,5 +1,6 @@
 -- Documents whose cells come into other states.
 use Rattle.std.proofs.Common.{◌≡◌, ℕ, ◌<◌, ◌≤◌, List, Bool, true, false, cond, ◌&&◌, Some, None, Result, Ok, Err, OnOk, All, length, map, refl, sym, ◌∙◌, ap, subst, arith}
+use Rattle.std.specs.Str.{bytes_eq}
 use Rattle.std.specs.Prelude.{OnErr, nat_lt}
 use Rattle.std.proofs.lemmas.Bool.{cond-true, cond-false, le-ltb, lt-ltb}
 use Rattle.std.proofs.lemmas.List.{length-map}
@@ -8,32 +9,32 @@ use Rattle.rt_stamps.specs.declared.limits.TheConstants.{MOST_CELLS, GREATEST_CO
 use Rattle.rt_stamps.specs.declared.fault.Fault.TheVariants.{ClockSpent}
 use Rattle.rt_stamps.specs.Words.{Word}
 use Rattle.rt_store.specs.declared.cell.Cell.{Cell}
-use Rattle.rt_store.specs.Cells.{text_of, visible_of}
+use Rattle.rt_store.specs.Cells.{text_of, visible_of, AreDistinct, stamps_of}
 use Rattle.rt_store.specs.Tagged.{AreStates}
 use Rattle.rt_store.proofs.GivenStates.{kept_states}
 use Rattle.rt_tags.specs.States.{TagStates, IsState, KeepsIds, state_at}
-use Rattle.rt_tags.specs.Tags.{IsName, with_name}
+use Rattle.rt_tags.specs.Tags.{IsName, with_name, sel}
 use Rattle.rt_edits.specs.declared.tagging.StateRun.{StateRun}
-use Rattle.rt_edits.specs.TagWrites.{listed_if}
+use Rattle.rt_edits.specs.TagWrites.{listed_if, with_tag_at}
 use Rattle.rt_text.specs.Commands.{clock_check}
-use Rattle.rt_edits.specs.Flat.{Flat, TaggedCell}
-use Rattle.rt_edits.specs.Known.{AreKnown, AreDistinct, AreWritten, stamps_of}
+use Rattle.rt_edits.specs.Flat.{Flat}
+use Rattle.rt_store.specs.Shown.{TaggedCell, shown}
+use Rattle.rt_store.specs.Written.{AreBelowNext, AreWritten}
 use Rattle.rt_edits.specs.Listed.{AreListed}
 use Rattle.rt_edits.specs.Removals.{stamps_at}
-use Rattle.rt_edits.specs.TagWrites.{with_tag_at}
 use Rattle.rt_text.specs.Widgets.{AreSiteMarks}
-use Rattle.rt_edits.specs.Working.{shown, put_back_in_any}
+use Rattle.rt_edits.specs.Working.{put_back_in_any}
 use Rattle.rt_edits.proofs.ListedWrites.{written_listed}
 use Rattle.rt_edits.proofs.Putting.{stamps_at_cells}
-use Rattle.rt_edits.proofs.Shown.{visible_shown, length_shown, stamps_at_shown, text_shown}
+use Rattle.rt_edits.proofs.Shown.{stamps_at_shown}
+use Rattle.rt_store.proofs.Shown.{visible_shown, length_shown, text_shown, shown_later}
 use Rattle.rt_edits.proofs.StateChanges.{AreAlike, cells_alike, distinct_changed, given_changed, known_changed, known_from, runs_change, text_changed}
-use Rattle.rt_edits.proofs.Shown.{shown_later}
 use Rattle.rt_edits.proofs.WriterLaws.{tag_written}
 
 -- what is so of a document
 abbrev pub IsKept : ℕ → ℕ → List (Cell ℕ) → List Mark → TagStates → List Word → Type 0
 IsKept limit clock cells marks table tags =
-    (limit ≤ MOST_CELLS) × (length cells ≤ limit) × AreKnown clock cells × (clock ≤ GREATEST_COUNT) × AreDistinct cells × AreSiteMarks (length (text_of cells)) marks × AreStates table cells
+    (limit ≤ MOST_CELLS) × (length cells ≤ limit) × AreBelowNext clock cells × (clock ≤ GREATEST_COUNT) × AreDistinct cells × AreSiteMarks (length (text_of cells)) marks × AreStates table cells
     × AreListed tags (map (shown table) cells) × AreWritten clock (map (shown table) cells)
 
 module _ (limit clock : ℕ) (cells : List (Cell ℕ)) (marks : List Mark) (old new : TagStates) (tags : List Word) (h : IsKept limit clock cells marks old tags) (keeps : KeepsIds old new) where
@@ -69,10 +70,10 @@ listed_as true name flat cells count = refl
 listed_as false name flat cells count = refl
 
 -- what a written tag leaves
-pub written_stays : (on : Bool) (name : Word) (flat new : Flat) (places : ℕ → Bool) → IsName name → AreListed flat.tags flat.cells → AreWritten flat.count flat.cells → listed_if on name (with_tag_at flat places on name) ≡ new
+pub written_stays : (on : Bool) (name : Word) (flat new : Flat) (places : ℕ → Bool) → IsName name → bytes_eq name sel ≡ false → AreListed flat.tags flat.cells → AreWritten flat.count flat.cells → listed_if on name (with_tag_at flat places on name) ≡ new
     → AreListed new.tags new.cells × AreWritten new.count new.cells
-written_stays on name flat new places h listed written e =
-    (subst (λ (f : Flat). AreListed f.tags f.cells) e (written_listed on flat places name h listed), subst (λ (f : Flat). AreWritten f.count f.cells) e (by on))
+written_stays on name flat new places h other listed written e =
+    (subst (λ (f : Flat). AreListed f.tags f.cells) e (written_listed on flat places name h listed other), subst (λ (f : Flat). AreWritten f.count f.cells) e (by on))
   where
     by : (b : Bool) → AreWritten (listed_if b name (with_tag_at flat places on name)).count (listed_if b name (with_tag_at flat places on name)).cells
     by true = tag_written flat places on name written

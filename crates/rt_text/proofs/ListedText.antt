@@ -12,7 +12,7 @@ use Rattle.rt_stamps.specs.declared.stamp.Stamp.{Stamp}
 use Rattle.rt_stamps.specs.declared.stamp.TheConstants.{ROOT}
 use Rattle.rt_stamps.specs.Words.{Word}
 use Rattle.rt_store.specs.declared.cell.Cell.{Cell}
-use Rattle.rt_store.specs.Cells.{after_element, text_of, visible_of}
+use Rattle.rt_store.specs.Cells.{after_element, text_of, visible_of, cells_from}
 use Rattle.rt_store.specs.Tagged.{AreStates}
 use Rattle.rt_tags.specs.States.{IsByName, IsState, TagStates, Write, state_at, above, below, is_on, is_settled, names_on, says_on, write_of, written}
 use Rattle.rt_tags.specs.Tags.{IsName, is_listed, sel, with_name}
@@ -20,14 +20,13 @@ use Rattle.rt_tags.specs.Writers.{listed_by, state_after}
 use Rattle.rt_tags.proofs.Commuting.{on_is_listed}
 use Rattle.rt_tags.proofs.Places.{name_itself, same_name, split}
 use Rattle.rt_tags.proofs.Sorted.{written_sorted}
-use Rattle.rt_edits.specs.Flat.{TaggedCell, cells_from, put_after}
+use Rattle.rt_edits.specs.Flat.{put_after}
+use Rattle.rt_store.specs.Shown.{TaggedCell, shown}
 use Rattle.rt_edits.specs.Insertions.{Insertion, Piece, all_listed, cells_of_inserts, further_tags, inserts_for, insertion_of, last_of, left_neighbour, new_state, put_on, shared_names, tagged_cells, tags_between, with_listed, with_pieces, with_unlisted}
 use Rattle.rt_text.specs.Commands.{names_in}
-use Rattle.rt_edits.specs.Listed.{AreListed}
-use Rattle.rt_edits.specs.Listed.{listed_name}
-use Rattle.rt_edits.specs.Working.{shown}
+use Rattle.rt_edits.specs.Listed.{AreListed, IsShared, listed_name}
 use Rattle.rt_text.proofs.SeenLaws.{visible_given}
-use Rattle.rt_edits.proofs.Shown.{visible_at_shown}
+use Rattle.rt_store.proofs.Shown.{visible_at_shown}
 
 -- NAMES IN STATES
 
@@ -81,37 +80,57 @@ shared_named P names h =
     let own = filter (λ name. not (bytes_eq name sel)) names in
     named_names P (state_after [] (listed_by ROOT own)) (named_after P (listed_by ROOT own) [] (All-nil (λ w. P w.name)) (listed_by_named P ROOT own (All-filter _ P names h)))
 
+-- and are others than `sel`
+shared_other : (names : List Word) → All (λ name. bytes_eq name sel ≡ false) (shared_names names)
+shared_other names =
+    let P : Word → Type 0 = λ name. bytes_eq name sel ≡ false in
+    let own = filter (λ name. not (bytes_eq name sel)) names in
+    named_names P (state_after [] (listed_by ROOT own))
+    (named_after P (listed_by ROOT own) [] (All-nil (λ w. P w.name)) (listed_by_named P ROOT own (λ k d lt. not-true (bytes_eq (get_or own k d) sel) (filter_passes (λ name. not (bytes_eq name sel)) names k d lt))))
+
 -- NEW CELLS
 
 -- a character is there, its tags are among some names, and its state has one write of each
 pub record IsAmong (tags : List Word) (cell : TaggedCell) : Type 0 where
   pub each : (name : Word) → is_on name cell.state ≡ true → is_listed name tags ≡ true
   pub by_name : IsByName cell.state
+  pub shared : IsShared cell.state
   pub there : cell.gone ≡ false
 
-state_among : (tags : List Word) (site last : ℕ) (names : List Word) → All (λ name. is_listed name tags ≡ true) names
-    → ((name : Word) → is_on name (new_state site last names) ≡ true → is_listed name tags ≡ true) × IsByName (new_state site last names)
-state_among tags site last names h =
-    let P : Word → Type 0 = λ name. is_listed name tags ≡ true in
+state_named : (P : Word → Type 0) (site last : ℕ) (names : List Word) → All P names → HaveNamed P (new_state site last names)
+state_named P site last names h =
     let writes = listed_by ROOT (take MOST_TAGS names) ++ put_on site last (further_tags names) in
     let all : HaveNamed P writes =
     All-append (λ w. P w.name) (listed_by ROOT (take MOST_TAGS names)) (put_on site last (further_tags names)) (listed_by_named P ROOT (take MOST_TAGS names) (All-take P MOST_TAGS names h))
     (put_on_named P site last (further_tags names) (All-drop P MOST_TAGS names h)) in
-    (λ name on. named_on P name (new_state site last names) (named_after P writes [] (All-nil (λ w. P w.name)) all) on, by_name_after writes [] tt)
+    named_after P writes [] (All-nil (λ w. P w.name)) all
 
-from_among : (tags : List Word) (count site : ℕ) (state : List Write) (text : List ℕ) → ((name : Word) → is_on name state ≡ true → is_listed name tags ≡ true) → IsByName state → All (IsAmong tags) (cells_from count site state text)
-from_among tags count site state [] h k = All-nil (IsAmong tags)
-from_among tags count site state (c ∷ text) h k =
-    All-cons (IsAmong tags) (record { stamp = record { count = count; site = site }; ch = c; gone = false; state = state }) (cells_from (count + 1) site state text) (record { each = h; by_name = k; there = refl }) (from_among tags (count + 1) site state text h k)
+-- another name than `sel`
+abbrev IsOther : Word → Type 0
+IsOther name = bytes_eq name sel ≡ false
 
-inserts_among : (tags : List Word) (inserts site count : ℕ) (names : List Word) (text : List ℕ) → All (λ name. is_listed name tags ≡ true) names → All (IsAmong tags) (cells_of_inserts inserts site count names text)
-inserts_among tags zero site count names text h = All-nil (IsAmong tags)
-inserts_among tags (suc inserts) site count names text h =
+state_among : (tags : List Word) (site last : ℕ) (names : List Word) → All (λ name. is_listed name tags ≡ true) names → All IsOther names
+    → ((name : Word) → is_on name (new_state site last names) ≡ true → is_listed name tags ≡ true) × IsByName (new_state site last names) × IsShared (new_state site last names)
+state_among tags site last names h k =
+    let P : Word → Type 0 = λ name. is_listed name tags ≡ true in
+    let writes = listed_by ROOT (take MOST_TAGS names) ++ put_on site last (further_tags names) in
+    (λ name on. named_on P name (new_state site last names) (state_named P site last names h) on, by_name_after writes [] tt, state_named IsOther site last names k)
+
+from_among : (tags : List Word) (count site : ℕ) (state : List Write) (text : List ℕ) → ((name : Word) → is_on name state ≡ true → is_listed name tags ≡ true) → IsByName state → IsShared state
+    → All (IsAmong tags) (cells_from count site state text)
+from_among tags count site state [] h k q = All-nil (IsAmong tags)
+from_among tags count site state (c ∷ text) h k q =
+    All-cons (IsAmong tags) (record { stamp = record { count = count; site = site }; ch = c; gone = false; state = state }) (cells_from (count + 1) site state text) (record { each = h; by_name = k; shared = q; there = refl }) (from_among tags (count + 1) site state text h k q)
+
+inserts_among : (tags : List Word) (inserts site count : ℕ) (names : List Word) (text : List ℕ) → All (λ name. is_listed name tags ≡ true) names → All IsOther names
+    → All (IsAmong tags) (cells_of_inserts inserts site count names text)
+inserts_among tags zero site count names text h q = All-nil (IsAmong tags)
+inserts_among tags (suc inserts) site count names text h q =
     let part = take MOST_CHARACTERS text in
     let last = count + length part in
-    let s = state_among tags site last names h in
+    let s = state_among tags site last names h q in
     All-append (IsAmong tags) (cells_from (count + 1) site (new_state site last names) part) (cells_of_inserts inserts site (last + length (further_tags names)) names (drop MOST_CHARACTERS text))
-    (from_among tags (count + 1) site (new_state site last names) part s.0 s.1) (inserts_among tags inserts site (last + length (further_tags names)) names (drop MOST_CHARACTERS text) h)
+    (from_among tags (count + 1) site (new_state site last names) part s.0 s.1 s.2) (inserts_among tags inserts site (last + length (further_tags names)) names (drop MOST_CHARACTERS text) h q)
 
 -- LISTS THAT GROW
 
@@ -159,7 +178,7 @@ pub record ListsAll (x : Insertion) : Type 0 where
   pub names : All IsName x.tags
 
 among_still : (names tags : List Word) (cells : List TaggedCell) → All (IsAmong tags) cells → All (IsAmong (all_listed names tags)) cells
-among_still names tags cells h = All-weaker (IsAmong tags) (IsAmong (all_listed names tags)) (λ cell a. record { each = λ name on. all_still name names tags (a.each name on); by_name = a.by_name; there = a.there }) cells h
+among_still names tags cells h = All-weaker (IsAmong tags) (IsAmong (all_listed names tags)) (λ cell a. record { each = λ name on. all_still name names tags (a.each name on); by_name = a.by_name; shared = a.shared; there = a.there }) cells h
 
 listed_lists : (site : ℕ) (names : List Word) (text : List ℕ) (so_far : Insertion) → All IsName names → ListsAll so_far → ListsAll (with_listed site names text so_far)
 listed_lists site names [] so_far h k = k
@@ -169,7 +188,7 @@ listed_lists site names (c ∷ text) so_far h k =
     let new = tagged_cells site so_far.count shared (c ∷ text) in
     record {
       cells = All-append (IsAmong tags) so_far.cells new (among_still shared so_far.tags so_far.cells k.cells)
-          (inserts_among tags (inserts_for (length (c ∷ text))) site so_far.count shared (c ∷ text) (all_there shared so_far.tags));
+          (inserts_among tags (inserts_for (length (c ∷ text))) site so_far.count shared (c ∷ text) (all_there shared so_far.tags) (shared_other names));
       names = all_named shared so_far.tags (shared_named IsName names h) k.names;
     }
 
@@ -202,6 +221,11 @@ between_among tags None right h = All-nil (λ name. is_listed name tags ≡ true
 between_among tags (Some left) None h = All-nil (λ name. is_listed name tags ≡ true)
 between_among tags (Some left) (Some right) h = All-filter (λ name. is_on name right.state) (λ name. is_listed name tags ≡ true) (names_on left.state) (names_among tags left h)
 
+between_other : (tags : List Word) (left right : Option TaggedCell) → IfSome left (IsAmong tags) → All IsOther (tags_between left right)
+between_other tags None right h = All-nil IsOther
+between_other tags (Some left) None h = All-nil IsOther
+between_other tags (Some left) (Some right) h = All-filter (λ name. is_on name right.state) IsOther (names_on left.state) (named_names IsOther left.state h.shared)
+
 unlisted_lists : (site : ℕ) (left right : Option TaggedCell) (text : List ℕ) (so_far : Insertion) → IfSome left (IsAmong so_far.tags) → ListsAll so_far → ListsAll (with_unlisted site left right text so_far)
 unlisted_lists site left right [] so_far h k = k
 unlisted_lists site left right (c ∷ text) so_far h k =
@@ -211,7 +235,7 @@ unlisted_lists site left right (c ∷ text) so_far h k =
     let listed : All (λ name. is_listed name so_far.tags ≡ true) names = between_among so_far.tags left right h in
     record {
       cells = All-append (IsAmong tags) so_far.cells new (among_still names so_far.tags so_far.cells k.cells)
-          (inserts_among tags (inserts_for (length (c ∷ text))) site so_far.count names (c ∷ text) (all_there names so_far.tags));
+          (inserts_among tags (inserts_for (length (c ∷ text))) site so_far.count names (c ∷ text) (all_there names so_far.tags) (between_other so_far.tags left right h));
       names = all_named names so_far.tags (All-weaker (λ name. is_listed name so_far.tags ≡ true) IsName (λ name e. listed_name name so_far.tags k.names e) names listed) k.names;
     }
 
@@ -233,7 +257,7 @@ unlisted_tags site left right (c ∷ text) so_far n h = all_still n (tags_betwee
 
 left_still : (tags more : List Word) (left : Option TaggedCell) → ((n : Word) → is_listed n tags ≡ true → is_listed n more ≡ true) → IfSome left (IsAmong tags) → IfSome left (IsAmong more)
 left_still tags more None h k = k
-left_still tags more (Some cell) h k = record { each = λ name on. h name (k.each name on); by_name = k.by_name; there = k.there }
+left_still tags more (Some cell) h k = record { each = λ name on. h name (k.each name on); by_name = k.by_name; shared = k.shared; there = k.there }
 
 -- an insertion lists the tags of its characters
 pub insertion_lists : (site : ℕ) (left right : Option TaggedCell) (pieces : List Piece) (rest : Word) (start : Insertion) → All IsName (names_in pieces) → IfSome left (IsAmong start.tags) → ListsAll start
@@ -265,6 +289,7 @@ pub listed_put : (tags : List Word) (cells : List TaggedCell) (left : Stamp) (ne
 listed_put tags cells left new h k =
     let at = after_element cells left in
     let P : TaggedCell → Type 0 = λ cell. (name : Word) → is_on name cell.state ≡ true → is_listed name tags ≡ true in
+    let Q : TaggedCell → Type 0 = λ cell. IsShared cell.state in
     let parts : visible_of (take at cells) ++ visible_of (drop at cells) ≡ visible_of cells = sym (filter-append (λ cell. not cell.gone) (take at cells) (drop at cells)) ∙ ap visible_of (take-append-drop at cells) in
     let all : All P (visible_of (take at cells) ++ visible_of (drop at cells)) = subst (All P) (sym parts) h.each in
     let added : All P (visible_of new) = All-filter (λ cell. not cell.gone) P new (All-weaker (IsAmong tags) P (λ cell a. a.each) new k) in
@@ -272,6 +297,7 @@ listed_put tags cells left new h k =
       each = visible_all P (take at cells ++ new) (drop at cells) (visible_all P (take at cells) new (all_front P (visible_of (take at cells)) (visible_of (drop at cells)) all) added) (all_rest P (visible_of (take at cells)) (visible_of (drop at cells)) all);
       sel = h.sel;
       names = h.names;
+      shared = All-append Q (take at cells ++ new) (drop at cells) (All-append Q (take at cells) new (All-take Q at cells h.shared) (All-weaker (IsAmong tags) Q (λ cell a. a.shared) new k)) (All-drop Q at cells h.shared);
     }
 
 -- the names that are listed are names
@@ -292,6 +318,8 @@ cell_among table kept tags place (Some cell) listed given sorted e =
     record {
       each = subst (λ (c : TaggedCell). (name : Word) → is_on name c.state ≡ true → is_listed name tags ≡ true) is (listed.each place (shown table cell) within);
       by_name = sorted cell.state (visible_given table kept place cell given e);
+      shared = subst (λ (c : TaggedCell). IsShared c.state) is
+          (All-filter (λ (c : TaggedCell). not c.gone) (λ (c : TaggedCell). IsShared c.state) (map (shown table) kept) listed.shared place (shown table cell) within);
       there = not-true (shown table cell).gone passes;
     }
 

@@ -21,20 +21,21 @@ use Rattle.rt_tags.specs.Tags.{IsName}
 use Rattle.rt_stamps.specs.Names.{name_check}
 use Rattle.rt_text.specs.Commands.{Edited, cell_check, clock_check, inserted, names_in, with_pieces_at}
 use Rattle.rt_edits.specs.declared.plan.Plan.{Plan}
-use Rattle.rt_edits.specs.Flat.{Flat, TaggedCell, left_of, put_after}
+use Rattle.rt_edits.specs.Flat.{Flat, left_of, put_after}
+use Rattle.rt_store.specs.Shown.{TaggedCell, shown}
 use Rattle.rt_edits.specs.Insertions.{Insertion, Piece, all_listed, insertion_of, left_neighbour, right_neighbour}
-use Rattle.rt_edits.specs.Known.{AreKnown, AreWritten, IsWritten}
+use Rattle.rt_store.specs.Written.{AreBelowNext, AreWritten, IsWritten}
 use Rattle.rt_edits.specs.Listed.{AreListed}
 use Rattle.rt_edits.specs.Planned.{planned}
 use Rattle.rt_text.specs.Widgets.{Own, own_inserted, widget_of}
-use Rattle.rt_edits.specs.Working.{shown}
 use Rattle.rt_edits.proofs.CellLaws.{known_put}
 use Rattle.rt_edits.proofs.ListedLaws.{listed_more}
 use Rattle.rt_text.proofs.ListedText.{IsAmong, ListsAll, all_still, insertion_lists, left_among, listed_put, names_of_all, text_among}
 use Rattle.rt_text.proofs.MarkLaws.{length_put}
 use Rattle.rt_text.proofs.ReadyLaws.{first_none, first_some}
 use Rattle.rt_text.proofs.RisingLaws.{AreNew, insertion_new, new_known}
-use Rattle.rt_edits.proofs.Shown.{left_shown, put_shown, shown_later, text_shown, visible_shown}
+use Rattle.rt_edits.proofs.Shown.{left_shown, put_shown}
+use Rattle.rt_store.proofs.Shown.{shown_later, text_shown, visible_shown}
 use Rattle.rt_text.proofs.WrittenText.{insertion_written, written_put}
 
 -- THE COMMAND, BY ITS CHECKS
@@ -124,10 +125,10 @@ pub new_from_shown : (table : TagStates) (site count last : ℕ) (cells : List (
 new_from_shown table site count last [] h = h
 new_from_shown table site count last (cell ∷ cells) h = (h.0, h.1, new_from_shown table site cell.stamp.count last cells h.2)
 
-known_up_to : {T : Type 0} (count later : ℕ) (cells : List (Cell T)) → count ≤ later → AreKnown count cells → AreKnown later cells
+known_up_to : {T : Type 0} (count later : ℕ) (cells : List (Cell T)) → count ≤ later → AreBelowNext count cells → AreBelowNext later cells
 known_up_to count later cells le h = λ k d lt. let p = h k d lt in (omega (arith, p.0), λ e. p.1 (omega (arith, p.0)))
 
-pub known_after : (site count last : ℕ) (cells : List (Cell ℕ)) (left : Stamp) (new : List (Cell ℕ)) → AreNew site count last new → AreKnown count cells → AreKnown last (put_after cells left new)
+pub known_after : (site count last : ℕ) (cells : List (Cell ℕ)) (left : Stamp) (new : List (Cell ℕ)) → AreNew site count last new → AreBelowNext count cells → AreBelowNext last (put_after cells left new)
 known_after site count last cells left new n known =
     let p = new_known site count last new n in
     known_put last cells left new (known_up_to count last cells p.0 known) p.1

@@ -17,12 +17,11 @@ use Rattle.rt_tags.proofs.Places.{clash}
 use Rattle.rt_tags.proofs.Ready.{prepared_ready, still_prepared, still_ready}
 use Rattle.rt_stamps.specs.Names.{name_check}
 use Rattle.rt_text.specs.Commands.{names_in}
-use Rattle.rt_edits.specs.Flat.{TaggedCell}
+use Rattle.rt_store.specs.Shown.{TaggedCell, shown}
 use Rattle.rt_edits.specs.Insertions.{Insertion, Piece, all_listed, counts_for, insertion_of, last_of, left_neighbour, right_neighbour, tags_between, with_pieces, with_unlisted}
-use Rattle.rt_edits.specs.Working.{shown}
 use Rattle.rt_edits.proofs.PlanLaws.{pieces_from, unlisted_count}
 use Rattle.rt_text.proofs.SeenLaws.{visible_given}
-use Rattle.rt_edits.proofs.Shown.{visible_at_shown}
+use Rattle.rt_store.proofs.Shown.{visible_at_shown}
 
 -- CHECKS
 

@@ -13,12 +13,13 @@ use Rattle.rt_stamps.specs.Stamps.{is_same}
 use Rattle.rt_stamps.specs.Words.{Word}
 use Rattle.rt_stamps.proofs.Order.{same_sym}
 use Rattle.rt_store.specs.declared.cell.Cell.{Cell}
-use Rattle.rt_store.specs.Cells.{after_element}
-use Rattle.rt_edits.specs.Flat.{TaggedCell, cells_from, put_after}
+use Rattle.rt_store.specs.Cells.{after_element, cells_from, stamps_of, AreDistinct}
+use Rattle.rt_edits.specs.Flat.{put_after}
+use Rattle.rt_store.specs.Shown.{TaggedCell}
 use Rattle.rt_edits.specs.Insertions.{Piece, Insertion, inserts_for, counts_for, cells_of_inserts, tagged_cells, new_state, further_tags, tags_between, shared_names, last_of, with_listed, with_pieces, with_unlisted, insertion_of}
-use Rattle.rt_edits.specs.Known.{stamps_of, AreDistinct, AreKnown}
-use Rattle.rt_edits.specs.Spans.{is_among}
-use Rattle.rt_edits.proofs.DistinctLaws.{distinct_more, new_apart}
+use Rattle.rt_store.specs.Written.{AreBelowNext}
+use Rattle.rt_store.specs.Spans.{is_among}
+use Rattle.rt_store.proofs.Distinct.{distinct_more, new_apart}
 use Rattle.rt_edits.proofs.InsertedText.{inserts_enough}
 
 -- cells of a site with rising counts, above one and up to another
@@ -39,11 +40,11 @@ new_from site count state [] last h = omega arith
 new_from site count state (c ∷ text) last h = (omega arith, refl, new_from site (count + 1) state text last (omega arith))
 
 -- they are known from their last count on
-pub new_known : {T : Type 0} (site count last : ℕ) (cells : List (Cell T)) → AreNew site count last cells → (count ≤ last) × AreKnown last cells
+pub new_known : {T : Type 0} (site count last : ℕ) (cells : List (Cell T)) → AreNew site count last cells → (count ≤ last) × AreBelowNext last cells
 new_known site count last [] h = (h, λ k d lt. absurd (omega arith))
 new_known {T} site count last (cell ∷ cells) h = let rest = new_known site cell.stamp.count last cells h.2 in (omega (arith, h.0, rest.0), λ k d lt. known_at rest k d lt)
   where
-    known_at : (cell.stamp.count ≤ last) × AreKnown last cells → AreKnown last (cell ∷ cells)
+    known_at : (cell.stamp.count ≤ last) × AreBelowNext last cells → AreBelowNext last (cell ∷ cells)
     known_at rest zero d lt = (omega (arith, rest.0), λ e. absurd (omega (arith, rest.0)))
     known_at rest (suc k) d lt = rest.1 k d (omega arith)
 
@@ -113,7 +114,7 @@ lesser_apart site n count last (cell ∷ cells) old h k e =
     or_from (is_same cell.stamp (record { count = n; site = site })) _ (and_left _ _ (ne_eqb cell.stamp.count n (λ q. absurd (omega (arith, k.0)))))
     (lesser_apart site n cell.stamp.count last cells old (omega (arith, k.0)) k.2 e)
 
-distinct_before : {T : Type 0} (known site count last : ℕ) (cells old : List (Cell T)) → known ≤ count → 1 ≤ site → AreNew site count last cells → AreKnown known old → AreDistinct old → AreDistinct (cells ++ old)
+distinct_before : {T : Type 0} (known site count last : ℕ) (cells old : List (Cell T)) → known ≤ count → 1 ≤ site → AreNew site count last cells → AreBelowNext known old → AreDistinct old → AreDistinct (cells ++ old)
 distinct_before known site count last [] old h one k knows d = d
 distinct_before known site count last (cell ∷ cells) old h one k knows d =
     let n = cell.stamp.count in
@@ -124,7 +125,7 @@ distinct_before known site count last (cell ∷ cells) old h one k knows d =
     (distinct_before known site n last cells old (omega (arith, k.0)) one k.2 knows d)
 
 -- new cells differ from all known ones and from one another
-pub distinct_new_put : {T : Type 0} (site count last : ℕ) (cells : List (Cell T)) (left : Stamp) (new : List (Cell T)) → 1 ≤ site → AreNew site count last new → AreKnown count cells → AreDistinct cells
+pub distinct_new_put : {T : Type 0} (site count last : ℕ) (cells : List (Cell T)) (left : Stamp) (new : List (Cell T)) → 1 ≤ site → AreNew site count last new → AreBelowNext count cells → AreDistinct cells
     → AreDistinct (put_after cells left new)
 distinct_new_put {T} site count last cells left new one n known d =
     let at = after_element cells left in

@@ -14,11 +14,10 @@ use Rattle.rt_store.specs.Cells.{visible_of, map_state}
 use Rattle.rt_store.specs.Tagged.{AreStates, next_place, last_with, last_place}
 use Rattle.rt_tags.specs.States.{TagStates, IsState, state_at}
 use Rattle.rt_tags.specs.Tags.{is_listed}
-use Rattle.rt_edits.specs.Flat.{TaggedCell}
+use Rattle.rt_store.specs.Shown.{TaggedCell, shown}
 use Rattle.rt_text.specs.Proper.{ends_by, tag_by, ends_in}
 use Rattle.rt_text.specs.Widgets.{Own, is_tagged, is_tagged_in, tags_on, widget_over}
-use Rattle.rt_edits.specs.Working.{shown}
-use Rattle.rt_edits.proofs.Shown.{visible_shown, visible_at_shown, next_map, last_map}
+use Rattle.rt_store.proofs.Shown.{visible_shown, visible_at_shown, next_map, last_map}
 
 -- LOOK-UPS
 

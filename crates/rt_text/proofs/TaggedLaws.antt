@@ -8,9 +8,9 @@ use Rattle.rt_store.specs.Tagged.{last_place, next_place, previous_place, tag_is
 use Rattle.rt_store.proofs.Nearest.{next_here, next_none, next_on, position_cons, previous_here, previous_on}
 use Rattle.rt_tags.specs.States.{TagStates, is_on, name_at, state_at}
 use Rattle.rt_tags.specs.Tags.{sel}
-use Rattle.rt_edits.specs.Spans.{is_among}
+use Rattle.rt_store.specs.Spans.{is_among}
 use Rattle.rt_text.specs.Widgets.{is_tagged_in}
-use Rattle.rt_edits.specs.Working.{shown}
+use Rattle.rt_store.specs.Shown.{shown}
 
 -- TESTS OF CHARACTERS
 

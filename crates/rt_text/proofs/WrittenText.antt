@@ -7,12 +7,13 @@ use Rattle.rt_stamps.specs.declared.limits.TheConstants.{MOST_CHARACTERS, MOST_T
 use Rattle.rt_stamps.specs.declared.stamp.Stamp.{Stamp}
 use Rattle.rt_stamps.specs.declared.stamp.TheConstants.{ROOT}
 use Rattle.rt_stamps.specs.Words.{Word}
-use Rattle.rt_store.specs.Cells.{after_element}
+use Rattle.rt_store.specs.Cells.{after_element, cells_from}
 use Rattle.rt_tags.specs.States.{Write, written}
 use Rattle.rt_tags.specs.Writers.{listed_by, state_after}
-use Rattle.rt_edits.specs.Flat.{TaggedCell, cells_from, put_after}
+use Rattle.rt_edits.specs.Flat.{put_after}
+use Rattle.rt_store.specs.Shown.{TaggedCell}
 use Rattle.rt_edits.specs.Insertions.{Insertion, Piece, cells_of_inserts, counts_for, further_tags, inserts_for, insertion_of, last_of, new_state, put_on, shared_names, tagged_cells, tags_between, with_listed, with_pieces, with_unlisted}
-use Rattle.rt_edits.specs.Known.{AreWritten, IsWritten}
+use Rattle.rt_store.specs.Written.{AreWritten, IsWritten}
 use Rattle.rt_text.proofs.DeletionLaws.{written_later}
 use Rattle.rt_edits.proofs.InsertedText.{inserts_enough}
 use Rattle.rt_edits.proofs.WriterLaws.{written_known}

@@ -12,7 +12,7 @@ use Rattle.rt_store.specs.declared.cell.Cell.{Cell}
 use Rattle.rt_store.specs.Cells.{EndsFinal, text_of, visible_of}
 use Rattle.rt_store.specs.Tagged.{last_with, last_place, next_place}
 use Rattle.rt_tags.specs.Tags.{sel, is_listed}
-use Rattle.rt_edits.specs.Flat.{TaggedCell}
+use Rattle.rt_store.specs.Shown.{TaggedCell}
 use Rattle.rt_edits.specs.Listed.{AreListed, listed_name, named_as}
 use Rattle.rt_edits.specs.Texts.{ends_text}
 use Rattle.rt_stamps.specs.Places.{EndsWithNewline}

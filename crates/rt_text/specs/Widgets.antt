@@ -13,8 +13,9 @@ use Rattle.rt_tags.specs.States.{is_on}
 use Rattle.rt_tags.specs.Tags.{sel, is_listed}
 use Rattle.rt_text.specs.declared.own_mark.OwnMark.{OwnMark}
 use Rattle.rt_text.specs.declared.own_mark.OwnMark.TheVariants.{Insert, Current}
-use Rattle.rt_edits.specs.Flat.{Flat, TaggedCell}
-use Rattle.rt_edits.specs.Spans.{is_among}
+use Rattle.rt_edits.specs.Flat.{Flat}
+use Rattle.rt_store.specs.Shown.{TaggedCell}
+use Rattle.rt_store.specs.Spans.{is_among}
 
 -- OWN MARKS
 

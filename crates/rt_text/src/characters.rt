@@ -4,9 +4,9 @@ ghost use Rattle.rt_store.specs.Cells.{visible_of};
 ghost use Rattle.rt_store.specs.Tagged.{AreStates, last_place, next_place};
 ghost use Rattle.rt_tags.specs.States.{IsState};
 ghost use Rattle.rt_edits.specs.Selected.{stamps_in};
-ghost use Rattle.rt_edits.specs.Spans.{is_among};
+ghost use Rattle.rt_store.specs.Spans.{is_among};
 ghost use Rattle.rt_text.specs.Widgets.{is_tagged_in};
-ghost use Rattle.rt_edits.specs.Working.{shown};
+ghost use Rattle.rt_store.specs.Shown.{shown};
 
 use rt_edits::Selection;
 use rt_stamps::Stamp;

@@ -5,20 +5,21 @@ ghost use Rattle.rt_stamps.specs.declared.limits.TheConstants.{MOST_CELLS, GREAT
 ghost use Rattle.rt_stamps.specs.declared.stamp.Stamp.{Stamp};
 ghost use Rattle.rt_stamps.specs.declared.stamp.TheConstants.{FINAL};
 ghost use Rattle.rt_stamps.specs.Words.{Word};
-ghost use Rattle.rt_store.specs.Cells.{text_of, HasRoom};
+ghost use Rattle.rt_store.specs.Cells.{text_of, HasRoom, AreDistinct};
 ghost use Rattle.rt_store.specs.Tagged.{AreStates};
 ghost use Rattle.rt_tags.specs.States.{IsState, KeepsIds};
 ghost use Rattle.rt_text.specs.Commands.{is_last, last_tags, without_ranges};
 ghost use Rattle.rt_text.specs.Deleting.{last_cleared, last_unselected};
 ghost use Rattle.rt_edits.specs.Flat.{Flat};
-ghost use Rattle.rt_edits.specs.Known.{AreDistinct, AreWritten};
+ghost use Rattle.rt_store.specs.Written.{AreWritten};
 ghost use Rattle.rt_edits.specs.Listed.{AreListed};
 ghost use Rattle.rt_edits.specs.Removals.{is_covered, gone_at, operations_for, AreInOrder};
 ghost use Rattle.rt_edits.specs.Selected.{stamps_in};
-ghost use Rattle.rt_edits.specs.Spans.{gone_in_any, is_in_spans};
+ghost use Rattle.rt_store.specs.Spans.{gone_in_any, is_in_spans};
 ghost use Rattle.rt_edits.specs.TagWrites.{with_tags_at};
 ghost use Rattle.rt_text.specs.Widgets.{Own, own_left};
-ghost use Rattle.rt_edits.specs.Working.{put_back_in_any, shown};
+ghost use Rattle.rt_edits.specs.Working.{put_back_in_any};
+ghost use Rattle.rt_store.specs.Shown.{shown};
 
 use crate::Widget;
 use rt_edits::removal::removed_ranges;

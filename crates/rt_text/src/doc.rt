@@ -1,28 +1,28 @@
 // A document: a store, and what stamps its new characters.
 ghost use Rattle.std.specs.Prelude.{◌≡◌, ◌⊎◌, ◌↔◌, All, false, is_some, if◌then◌else◌, ◌+◌, ◌≤◌, ◌<◌, ◌&&◌, ◌∷◌, [], Ok, Err, None, Some, IfOk, IfErr, OnOk, OnErr, length, min, ◌-◌, filter, map, not, option_copied, option_map, slice_get, string_bytes};
-ghost use Rattle.std.specs.Str.{chars};
+ghost use Rattle.std.specs.Str.{bytes_eq, chars};
 ghost use Rattle.rt_index.specs.Index.{index_of};
 ghost use Rattle.rt_marks.specs.Marks.{IsName, named, marks_set, marks_with_gravity, without};
 ghost use Rattle.rt_stamps.specs.declared.limits.TheConstants.{MOST_CELLS, GREATEST_COUNT};
 ghost use Rattle.rt_stamps.specs.declared.stamp.TheConstants.{FINAL};
 ghost use Rattle.rt_stamps.specs.Outcomes.{first_of, Refuses};
 ghost use Rattle.rt_stamps.specs.Places.{position_at};
-ghost use Rattle.rt_store.specs.Cells.{final_cell, text_of, visible_of};
+ghost use Rattle.rt_store.specs.Cells.{AreDistinct, final_cell, text_of, visible_of};
 ghost use Rattle.rt_edits.specs.Flat.{new_flat};
 ghost use Rattle.rt_text.specs.Index.{index_check, place_at_index};
 ghost use Rattle.rt_text.specs.Ranges.{ranges_of};
 ghost use Rattle.rt_edits.specs.Removals.{is_covered, gone_at, stamps_at, span_count, operations_for, AreInOrder};
-ghost use Rattle.rt_edits.specs.Spans.{gone_in_any, is_in_spans};
+ghost use Rattle.rt_store.specs.Spans.{gone_in_any, is_in_spans};
 ghost use Rattle.rt_text.specs.Widgets.{AreSiteMarks, IsOwnOf, is_own, is_tagged, is_tagged_in, tags_on, widget_of};
 ghost use Rattle.rt_store.specs.Tagged.{next_place, previous_place};
 ghost use Rattle.rt_tags.specs.States.{IsState};
-ghost use Rattle.rt_tags.specs.Tags.{is_listed, is_place, lowered, raised};
-ghost use Rattle.rt_edits.specs.TagWrites.{listed_if, without_tags};
+ghost use Rattle.rt_tags.specs.Tags.{is_listed, is_place, lowered, raised, sel};
+ghost use Rattle.rt_edits.specs.TagWrites.{listed_if, without_tags, with_tag_at};
 ghost use Rattle.rt_text.specs.Commands.{cell_check, clock_check, inserted, names_in, with_pieces_at, deleted, with_tag_in, got_one, got, got_list, position_of_index, compared, counted};
 ghost use Rattle.rt_edits.specs.Listed.{AreListed};
 ghost use Rattle.rt_edits.specs.Selected.{stamps_in};
-ghost use Rattle.rt_edits.specs.TagWrites.{with_tag_at};
-ghost use Rattle.rt_edits.specs.Working.{shown};
+ghost use Rattle.rt_store.specs.Shown.{shown};
+ghost use Rattle.rt_store.specs.Written.{AreWritten};
 
 use crate::characters::{cell_has, next_with};
 use crate::deleting::{delete_cells, planned_removal, unselect_last};
@@ -62,7 +62,8 @@ impl<S: TextStore> Model for Doc<S> {
     ghost use Rattle.std.specs.Prelude.{◌≤◌, length};
     ghost use Rattle.rt_stamps.specs.declared.limits.TheConstants.{MOST_CELLS, GREATEST_COUNT};
     ghost use Rattle.rt_edits.specs.Flat.{Flat};
-    ghost use Rattle.rt_edits.specs.Known.{AreKnown, AreDistinct, AreWritten};
+    ghost use Rattle.rt_store.specs.Written.{AreBelowNext, AreWritten};
+    ghost use Rattle.rt_store.specs.Cells.{AreDistinct};
     ghost use Rattle.rt_text.specs.Widgets.{AreSiteMarks};
     ghost use Rattle.rt_store.specs.Cells.{text_of};
 
@@ -71,11 +72,11 @@ impl<S: TextStore> Model for Doc<S> {
     ghost use Rattle.std.specs.Prelude.{map};
     ghost use Rattle.rt_store.specs.Tagged.{AreStates};
     ghost use Rattle.rt_edits.specs.Listed.{AreListed};
-    ghost use Rattle.rt_edits.specs.Working.{shown};
+    ghost use Rattle.rt_store.specs.Shown.{shown};
 
     ghost view = { λ d. record { cells = map (shown d.states) (S.list d.store); site = d.site.number; limit = d.limit; count = d.clock; marks = d.marks; tags = d.tags.names } };
 
-    ghost invariant = { λ d. (d.limit ≤ MOST_CELLS) × (length (S.list d.store) ≤ d.limit) × AreKnown d.clock (S.list d.store) × (d.clock ≤ GREATEST_COUNT) × AreDistinct (S.list d.store) × AreSiteMarks (length (text_of (S.list d.store))) d.marks × AreStates d.states (S.list d.store) × AreListed d.tags.names (map (shown d.states) (S.list d.store)) × AreWritten d.clock (map (shown d.states) (S.list d.store)) };
+    ghost invariant = { λ d. (d.limit ≤ MOST_CELLS) × (length (S.list d.store) ≤ d.limit) × AreBelowNext d.clock (S.list d.store) × (d.clock ≤ GREATEST_COUNT) × AreDistinct (S.list d.store) × AreSiteMarks (length (text_of (S.list d.store))) d.marks × AreStates d.states (S.list d.store) × AreListed d.tags.names (map (shown d.states) (S.list d.store)) × AreWritten d.clock (map (shown d.states) (S.list d.store)) };
 }
 
 // The place of an insertion, which at the text's end stands before the last newline.
@@ -365,6 +366,14 @@ impl<S: TextStore> Doc<S> {
         &self.tags
     }
 
+    /// No two cells have one stamp, and no write on a character is newer than the document's count.
+    pub fn order(&self)
+        ensures stamps { AreDistinct self.now.cells }
+        ensures writes { AreWritten self.now.count self.now.cells }
+    {
+        let _ = &self.store;
+    }
+
     /// The least place from one up whose character has a tag on the widget; none if there is none. It
     /// takes no memory.
     pub fn next_tagged(&self, widget: &Widget, name: &str, place: usize) -> Option<usize>
@@ -437,6 +446,7 @@ impl<S: TextStore> Doc<S> {
     // Puts a tag that isn't `sel` on the characters in ranges, or takes it off.
     fn write_shared(&mut self, on: bool, name: &str, ranges: &[Range]) -> Result<(), Fault>
         requires name { IsName name.now }
+        requires shared { bytes_eq name.now sel ≡ false }
         requires order { AreInOrder 0 ranges.now }
         requires within { All (λ range. range.to ≤ length (visible_of self.old.cells)) ranges.now }
         ensures ok { OnOk result (self.new ≡ listed_if on name.now (with_tag_at self.old (is_covered ranges.now) on name.now)) }

@@ -5,7 +5,7 @@ ghost use Rattle.rt_stamps.specs.declared.limits.TheConstants.{MOST_CELLS};
 ghost use Rattle.rt_store.specs.Cells.{text_of};
 ghost use Rattle.rt_store.specs.Tagged.{AreStates};
 ghost use Rattle.rt_edits.specs.Listed.{AreListed};
-ghost use Rattle.rt_edits.specs.Working.{shown};
+ghost use Rattle.rt_store.specs.Shown.{shown};
 
 use crate::characters::{last_with, next_with};
 use crate::{OwnMark, Widget};
@@ -36,7 +36,7 @@ impl<'a, S: TextStore> Ground for WidgetGround<'a, S> {
     ghost use Rattle.rt_text.specs.Widgets.{widget_over};
     ghost use Rattle.rt_text.specs.Proper.{proper_over};
     ghost use Rattle.std.specs.Prelude.{map};
-    ghost use Rattle.rt_edits.specs.Working.{shown};
+    ghost use Rattle.rt_store.specs.Shown.{shown};
 
     ghost widget = { λ g. widget_over (map (shown g.states.now) (S.list g.store.now)) g.marks.now g.tags.now.names g.widget.now };
 

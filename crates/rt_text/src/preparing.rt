@@ -13,7 +13,7 @@ ghost use Rattle.rt_text.specs.Commands.{names_in};
 ghost use Rattle.rt_edits.specs.Insertions.{all_listed, insertion_of, left_neighbour, right_neighbour};
 ghost use Rattle.rt_edits.specs.Planned.{HaveRoom, IsPlan, planned, selected_between};
 ghost use Rattle.rt_edits.specs.Selected.{room_in, stamps_in};
-ghost use Rattle.rt_edits.specs.Working.{shown};
+ghost use Rattle.rt_store.specs.Shown.{shown};
 
 use rt_edits::plan::{Between, Plan};
 use rt_edits::selection::{add_between, reserve_between};

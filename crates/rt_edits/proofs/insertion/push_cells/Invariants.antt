@@ -1,5 +1,5 @@
 use Rattle.std.proofs.Common.{◌≡◌, ◌+◌, ◌++◌, drop}
-use Rattle.rt_edits.specs.Flat.{cells_from}
+use Rattle.rt_store.specs.Cells.{cells_from}
 use Rattle.rt_edits.proofs.insertion.push_cells.Given as goal
 
 abbrev pub invariant-loop-ch : goal.invariant-loop-ch

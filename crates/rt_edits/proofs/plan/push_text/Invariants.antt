@@ -2,7 +2,7 @@ use Rattle.std.proofs.Common.{◌≡◌, ◌+◌, ◌++◌, length, map}
 use Rattle.rt_store.specs.Tagged.{AreStates}
 use Rattle.rt_tags.specs.States.{KeepsIds, name_at}
 use Rattle.rt_edits.specs.Insertions.{counts_for, tagged_cells}
-use Rattle.rt_edits.specs.Working.{shown}
+use Rattle.rt_store.specs.Shown.{shown}
 use Rattle.rt_edits.proofs.plan.push_text.Given as goal
 
 abbrev pub invariant-loop-rest : goal.invariant-loop-rest

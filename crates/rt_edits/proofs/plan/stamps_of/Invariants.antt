@@ -1,5 +1,5 @@
 use Rattle.std.proofs.Common.{◌≡◌, take}
-use Rattle.rt_edits.specs.Known.{stamps_of}
+use Rattle.rt_store.specs.Cells.{stamps_of}
 use Rattle.rt_edits.proofs.plan.stamps_of.Given as goal
 
 abbrev pub invariant-loop-cell : goal.invariant-loop-cell

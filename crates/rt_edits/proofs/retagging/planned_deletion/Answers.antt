@@ -6,12 +6,12 @@ use Rattle.rt_store.specs.Cells.{visible_of}
 use Rattle.rt_tags.specs.States.{name_at, state_at}
 use Rattle.rt_edits.specs.Flat.{Flat}
 use Rattle.rt_edits.specs.Listed.{AreListed}
-use Rattle.rt_edits.specs.Working.{all_forgotten, is_shared_of, shown}
+use Rattle.rt_edits.specs.Working.{all_forgotten, is_shared_of}
+use Rattle.rt_store.specs.Shown.{shown}
 use Rattle.rt_edits.proofs.GoneLaws.{some_visible}
-use Rattle.rt_edits.proofs.Shown.{visible_shown, length_shown}
+use Rattle.rt_store.proofs.Shown.{visible_shown, length_shown, shown_later}
 use Rattle.rt_edits.proofs.TagPlaces.{AreAmong, among_listed, deleted_numbers}
 use Rattle.rt_edits.proofs.WriteSteps.{keeps_further}
-use Rattle.rt_edits.proofs.Shown.{shown_later}
 use Rattle.rt_edits.proofs.retagging.planned_deletion.Goals as goal
 
 pub planned_tags-requires-clause-order : goal.planned_tags-requires-clause-order

@@ -1,9 +1,9 @@
 use Rattle.std.proofs.Common.{◌≡◌, ◌∙◌, ◌∷◌, [], ap, map, sym}
 use Rattle.rt_edits.specs.Removals.{is_covered}
 use Rattle.rt_edits.specs.TagWrites.{with_tags_at}
-use Rattle.rt_edits.specs.Working.{shown}
+use Rattle.rt_store.specs.Shown.{shown}
 use Rattle.rt_edits.proofs.WriteSteps.{keeps_further}
-use Rattle.rt_edits.proofs.Shown.{shown_later}
+use Rattle.rt_store.proofs.Shown.{shown_later}
 use Rattle.rt_edits.proofs.retagging.planned_tag.Goals as goal
 
 pub returns-in_err-reserve-clause-ids : goal.returns-in_err-reserve-clause-ids

@@ -6,9 +6,10 @@ use Rattle.std.proofs.lemmas.Result.{err_from_is_err_and}
 use Rattle.rt_stamps.specs.declared.limits.TheConstants.{GREATEST_COUNT}
 use Rattle.rt_store.specs.declared.cell.Cell.{Cell}
 use Rattle.rt_tags.specs.States.{IsState, name_at}
-use Rattle.rt_edits.specs.Known.{AreDistinct}
+use Rattle.rt_store.specs.Cells.{AreDistinct}
 use Rattle.rt_edits.specs.Removals.{is_covered, cells_at}
-use Rattle.rt_edits.specs.Working.{shown, copies_after, put_back, put_back_in_any}
+use Rattle.rt_edits.specs.Working.{copies_after, put_back, put_back_in_any}
+use Rattle.rt_store.specs.Shown.{shown}
 use Rattle.rt_edits.proofs.Putting.{all_at, few_at, distinct_cells_at, planned, planned_count}
 use Rattle.rt_edits.proofs.retagging.planned_tags.Goals as goal
 

@@ -2,7 +2,7 @@ use Rattle.std.proofs.Common.{◌≡◌, ◌≤◌, All, drop}
 use Rattle.rt_stamps.specs.declared.limits.TheConstants.{GREATEST_COUNT}
 use Rattle.rt_store.specs.Tagged.{AreStates}
 use Rattle.rt_tags.specs.States.{IsTag, KeepsIds}
-use Rattle.rt_edits.specs.Known.{stamps_of}
+use Rattle.rt_store.specs.Cells.{stamps_of}
 use Rattle.rt_edits.proofs.TagsInTurn.{turned}
 use Rattle.rt_edits.proofs.retagging.write_tags.Given as goal
 

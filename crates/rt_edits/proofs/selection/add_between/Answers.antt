@@ -3,7 +3,7 @@ use Rattle.std.proofs.lemmas.List.{length-set}
 use Rattle.rt_edits.specs.declared.selection.Selection.{Selection}
 use Rattle.rt_edits.specs.Insertions.{selected_if}
 use Rattle.rt_edits.specs.Selected.{stamps_in, room_in}
-use Rattle.rt_edits.specs.Spans.{is_among}
+use Rattle.rt_store.specs.Spans.{is_among}
 use Rattle.rt_edits.proofs.SelectionLaws.{done_more, rest_more, same_here}
 use Rattle.rt_edits.proofs.selection.add_between.Goals as goal
 

@@ -1,7 +1,7 @@
 use Rattle.std.proofs.Common.{◌≡◌, ◌&&◌, drop, length, map, take}
 use Rattle.rt_edits.specs.Insertions.{selected_if}
 use Rattle.rt_edits.specs.Selected.{stamps_in}
-use Rattle.rt_edits.specs.Spans.{is_among}
+use Rattle.rt_store.specs.Spans.{is_among}
 use Rattle.rt_edits.proofs.selection.add_between.Given as goal
 
 abbrev pub invariant-loop-i : goal.invariant-loop-i

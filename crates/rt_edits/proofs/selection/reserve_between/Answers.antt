@@ -2,7 +2,7 @@ use Rattle.std.proofs.Common.{◌≡◌, ◌<◌, ◌≤◌, ◌&&◌, ◌∙◌
 use Rattle.std.proofs.lemmas.List.{length-set, take_all}
 use Rattle.rt_edits.specs.declared.selection.Selection.{Selection}
 use Rattle.rt_edits.specs.Selected.{stamps_in, room_in}
-use Rattle.rt_edits.specs.Spans.{is_among}
+use Rattle.rt_store.specs.Spans.{is_among}
 use Rattle.rt_edits.proofs.SelectionLaws.{all_more, same_set}
 use Rattle.rt_edits.proofs.selection.reserve_between.Goals as goal
 

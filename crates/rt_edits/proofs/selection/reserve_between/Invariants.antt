@@ -1,6 +1,6 @@
 use Rattle.std.proofs.Common.{◌≡◌, ◌≤◌, ◌&&◌, All, true, length, map, take}
 use Rattle.rt_edits.specs.Selected.{stamps_in, room_in}
-use Rattle.rt_edits.specs.Spans.{is_among}
+use Rattle.rt_store.specs.Spans.{is_among}
 use Rattle.rt_edits.proofs.selection.reserve_between.Given as goal
 
 abbrev pub invariant-loop-i : goal.invariant-loop-i

@@ -1,6 +1,5 @@
 use Rattle.std.proofs.Common.{◌≡◌, ◌∙◌, ◌-◌, ◌++◌, ◌∷◌, [], ap, arith, append_assoc, drop, take, sym}
-use Rattle.rt_store.specs.Cells.{visible_of}
-use Rattle.rt_edits.specs.Known.{stamps_of}
+use Rattle.rt_store.specs.Cells.{visible_of, stamps_of}
 use Rattle.rt_edits.proofs.StampLaws.{places_more}
 use Rattle.rt_edits.proofs.span.push_stamps.Goals as goal
 

@@ -1,6 +1,5 @@
 use Rattle.std.proofs.Common.{◌≡◌, ◌-◌, ◌++◌, take, drop}
-use Rattle.rt_store.specs.Cells.{visible_of}
-use Rattle.rt_edits.specs.Known.{stamps_of}
+use Rattle.rt_store.specs.Cells.{visible_of, stamps_of}
 use Rattle.rt_edits.proofs.span.push_stamps.Given as goal
 
 abbrev pub invariant-loop-place : goal.invariant-loop-place

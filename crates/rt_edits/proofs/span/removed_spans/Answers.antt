@@ -4,7 +4,7 @@ use Rattle.std.proofs.lemmas.Result.{IfOk-weaker}
 use Rattle.rt_stamps.specs.declared.stamp.TheConstants.{FINAL}
 use Rattle.rt_stamps.specs.Stamps.{is_same}
 use Rattle.rt_edits.specs.Removals.{is_covered, stamps_at, span_count}
-use Rattle.rt_edits.specs.Spans.{is_among}
+use Rattle.rt_store.specs.Spans.{is_among}
 use Rattle.rt_edits.proofs.DistinctLaws.{distinct_at, stamps_few}
 use Rattle.rt_edits.proofs.GoneLaws.{gone_from_spans, final_stays, last_uncovered}
 use Rattle.rt_edits.proofs.SpanLaws.{span_few}

@@ -2,8 +2,8 @@ use Rattle.std.proofs.Common.{◌∙◌, ◌+◌, ap, arith, drop, map, subst, s
 use Rattle.std.proofs.lemmas.List.{drop_all}
 use Rattle.rt_store.specs.Tagged.{AreStates}
 use Rattle.rt_store.proofs.GivenStates.{gone_states}
-use Rattle.rt_edits.specs.Spans.{gone_in_any}
-use Rattle.rt_edits.proofs.GoneLaws.{gone_more_at, gone_none}
+use Rattle.rt_store.specs.Spans.{gone_in_any}
+use Rattle.rt_store.proofs.Gone.{gone_more_at, gone_none}
 use Rattle.rt_edits.proofs.span.set_all_gone.Goals as goal
 
 pub loop-span-preserved : goal.loop-span-preserved

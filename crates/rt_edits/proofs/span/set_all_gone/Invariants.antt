@@ -1,7 +1,7 @@
 use Rattle.std.proofs.Common.{◌≡◌, ◌-◌, ◌*◌, length, map, drop}
 use Rattle.rt_store.specs.Cells.{HasRoom, Spends}
 use Rattle.rt_store.specs.Tagged.{AreStates}
-use Rattle.rt_edits.specs.Spans.{gone_in_any}
+use Rattle.rt_store.specs.Spans.{gone_in_any}
 use Rattle.rt_edits.proofs.span.set_all_gone.Given as goal
 
 abbrev pub invariant-loop-span : goal.invariant-loop-span

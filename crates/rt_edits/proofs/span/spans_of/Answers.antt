@@ -3,7 +3,7 @@ use Rattle.std.proofs.lemmas.List.Sorted.{list_any-IsPermutation}
 use Rattle.std.proofs.lemmas.Result.{IfOk-weaker}
 use Rattle.rt_stamps.specs.Stamps.{is_same}
 use Rattle.rt_edits.specs.Removals.{span_count}
-use Rattle.rt_edits.specs.Spans.{is_among}
+use Rattle.rt_store.specs.Spans.{is_among}
 use Rattle.rt_edits.proofs.SpanLaws.{counted_alike}
 use Rattle.rt_edits.proofs.span.spans_of.Goals as goal
 

@@ -5,7 +5,7 @@ use Rattle.std.proofs.lemmas.Map.Keys.{IsDistinct-IsPermutation}
 use Rattle.rt_stamps.specs.Stamps.{is_same}
 use Rattle.rt_stamps.proofs.Order.{same_sym}
 use Rattle.rt_store.specs.declared.cell.Cell.{Cell}
-use Rattle.rt_edits.specs.Known.{stamps_of}
+use Rattle.rt_store.specs.Cells.{stamps_of}
 use Rattle.rt_edits.proofs.SortedCells.{sorted_cells}
 use Rattle.rt_edits.proofs.tagging.sort_cells.Goals as goal
 

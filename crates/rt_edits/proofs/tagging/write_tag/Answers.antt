@@ -5,10 +5,11 @@ use Rattle.rt_stamps.specs.declared.limits.TheConstants.{MOST_SPANS, GREATEST_CO
 use Rattle.rt_store.specs.Cells.{with_state}
 use Rattle.rt_tags.specs.States.{name_at, state_at}
 use Rattle.rt_edits.specs.Removals.{operations_for, span_count}
-use Rattle.rt_edits.specs.Spans.{each_next, precedes}
+use Rattle.rt_store.specs.Spans.{each_next, precedes}
 use Rattle.rt_edits.specs.TagWrites.{is_changed, changed_stamps}
-use Rattle.rt_edits.specs.Working.{shown, begun}
-use Rattle.rt_edits.proofs.Shown.{stamps_shown}
+use Rattle.rt_edits.specs.Working.{begun}
+use Rattle.rt_store.specs.Shown.{shown}
+use Rattle.rt_store.proofs.Shown.{stamps_shown}
 use Rattle.rt_edits.proofs.Writing.{marked_tagged, total_spans}
 use Rattle.rt_edits.proofs.WriteSteps.{Wrote, NextIs, wrote_none, next_is, changed_alike, wrote_past, wrote_more, same_length, wrote_all, wrote_spans, spent}
 use Rattle.rt_edits.proofs.tagging.write_tag.Goals as goal

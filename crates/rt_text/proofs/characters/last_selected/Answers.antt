@@ -3,7 +3,7 @@ use Rattle.rt_store.specs.declared.cell.Cell.{Cell}
 use Rattle.rt_store.specs.Cells.{visible_of}
 use Rattle.rt_store.specs.Tagged.{previous_place}
 use Rattle.rt_edits.specs.Selected.{stamps_in}
-use Rattle.rt_edits.specs.Spans.{is_among}
+use Rattle.rt_store.specs.Spans.{is_among}
 use Rattle.rt_text.proofs.TaggedLaws.{previous_found, previous_passed}
 use Rattle.rt_text.proofs.characters.last_selected.Goals as goal
 

@@ -2,7 +2,7 @@ use Rattle.std.proofs.Common.{◌≡◌, ◌≤◌, length}
 use Rattle.rt_store.specs.Cells.{visible_of}
 use Rattle.rt_store.specs.Tagged.{last_place, previous_place}
 use Rattle.rt_edits.specs.Selected.{stamps_in}
-use Rattle.rt_edits.specs.Spans.{is_among}
+use Rattle.rt_store.specs.Spans.{is_among}
 use Rattle.rt_text.proofs.characters.last_selected.Given as goal
 
 abbrev pub invariant-loop-at : goal.invariant-loop-at

@@ -1,6 +1,7 @@
 use Rattle.std.proofs.Common.{◌≡◌, ◌∙◌, ap, map, sym}
 use Rattle.rt_text.specs.Deleting.{last_cleared}
-use Rattle.rt_edits.specs.Working.{put_back_in_any, shown}
+use Rattle.rt_edits.specs.Working.{put_back_in_any}
+use Rattle.rt_store.specs.Shown.{shown}
 use Rattle.rt_text.proofs.DeletionLaws.{put_nothing}
 use Rattle.rt_text.proofs.deleting.held_plan.Goals as goal
 

@@ -4,7 +4,7 @@ use Rattle.rt_stamps.specs.declared.limits.TheConstants.{GREATEST_COUNT}
 use Rattle.rt_store.specs.Cells.{visible_of}
 use Rattle.rt_edits.specs.declared.range.Range.{Range}
 use Rattle.rt_edits.specs.Removals.{is_covered, gone_at, stamps_at, span_count, operations_for}
-use Rattle.rt_edits.specs.Spans.{gone_in_any}
+use Rattle.rt_store.specs.Spans.{gone_in_any}
 use Rattle.rt_text.proofs.DeletionLaws.{at_least, counted_on, deletion_count, deletion_done, deletion_listed, deletion_spent, deletion_within, deletion_written, faulted, further, no_less}
 use Rattle.rt_edits.proofs.GoneLaws.{some_visible}
 use Rattle.rt_text.proofs.deleting.planned_removal.Goals as goal

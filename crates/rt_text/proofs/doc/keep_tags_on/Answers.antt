@@ -3,8 +3,8 @@ use Rattle.std.specs.Prelude.{string_bytes}
 use Rattle.std.proofs.lemmas.Fn.{filter_same}
 use Rattle.rt_edits.specs.Selected.{stamps_in}
 use Rattle.rt_text.specs.Widgets.{is_tagged_in}
-use Rattle.rt_edits.specs.Working.{shown}
-use Rattle.rt_edits.proofs.Shown.{filter_map}
+use Rattle.rt_store.specs.Shown.{shown}
+use Rattle.rt_store.proofs.Shown.{filter_map}
 use Rattle.rt_text.proofs.doc.keep_tags_on.Goals as goal
 
 pub returns : goal.returns

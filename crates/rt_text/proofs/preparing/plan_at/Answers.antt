@@ -8,7 +8,7 @@ use Rattle.rt_tags.specs.States.{IsState}
 use Rattle.rt_edits.specs.Insertions.{left_neighbour, right_neighbour}
 use Rattle.rt_edits.specs.Planned.{planned}
 use Rattle.rt_edits.specs.Selected.{stamps_in}
-use Rattle.rt_edits.specs.Working.{shown}
+use Rattle.rt_store.specs.Shown.{shown}
 use Rattle.rt_edits.proofs.Planning.{keeps_further}
 use Rattle.rt_edits.proofs.PlanLaws.{spent}
 use Rattle.rt_text.proofs.ReadyLaws.{given_later, insertion_is, insertion_spent, left_given, left_seen, right_seen}

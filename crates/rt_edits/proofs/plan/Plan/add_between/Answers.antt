@@ -3,11 +3,11 @@ use Rattle.std.proofs.lemmas.List.{length-map}
 use Rattle.rt_tags.specs.States.{name_at}
 use Rattle.rt_edits.specs.declared.plan.Plan.{Plan}
 use Rattle.rt_edits.specs.Insertions.{counts_for, selected_if, tagged_cells, tags_between}
-use Rattle.rt_edits.specs.Known.{stamps_of}
+use Rattle.rt_store.specs.Cells.{stamps_of}
 use Rattle.rt_edits.specs.Selected.{stamps_in}
 use Rattle.rt_edits.specs.Selections.{with_stamps}
-use Rattle.rt_edits.specs.Spans.{is_among}
-use Rattle.rt_edits.specs.Working.{shown}
+use Rattle.rt_store.specs.Spans.{is_among}
+use Rattle.rt_store.specs.Shown.{shown}
 use Rattle.rt_edits.proofs.PlanLaws.{planned_unlisted, stamps_behind}
 use Rattle.rt_edits.proofs.plan.Plan.add_between.Goals as goal
 

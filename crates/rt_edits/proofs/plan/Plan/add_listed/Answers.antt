@@ -6,12 +6,12 @@ use Rattle.rt_tags.specs.States.{name_at}
 use Rattle.rt_tags.specs.Tags.{is_listed, sel}
 use Rattle.rt_edits.specs.declared.plan.Plan.{Plan}
 use Rattle.rt_edits.specs.Insertions.{counts_for, selected_if, shared_names, tagged_cells}
-use Rattle.rt_edits.specs.Known.{stamps_of}
+use Rattle.rt_store.specs.Cells.{stamps_of}
 use Rattle.rt_edits.specs.Selections.{with_stamps}
-use Rattle.rt_edits.specs.Working.{shown}
+use Rattle.rt_store.specs.Shown.{shown}
 use Rattle.rt_edits.proofs.Planning.{keeps_further, names_kept}
 use Rattle.rt_edits.proofs.PlanLaws.{planned_listed, some_in, stamps_behind}
-use Rattle.rt_edits.proofs.Shown.{shown_later}
+use Rattle.rt_store.proofs.Shown.{shown_later}
 use Rattle.rt_edits.proofs.plan.Plan.add_listed.Goals as goal
 
 pub returns-in_err-add_text-clause-ids : goal.returns-in_err-add_text-clause-ids

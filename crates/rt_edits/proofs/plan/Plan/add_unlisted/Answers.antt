@@ -9,7 +9,7 @@ use Rattle.rt_edits.specs.Insertions.{counts_for, last_of, tagged_cells, tags_be
 use Rattle.rt_edits.specs.Planned.{planned, selected_between}
 use Rattle.rt_edits.specs.Selected.{stamps_in}
 use Rattle.rt_edits.specs.Selections.{with_stamps}
-use Rattle.rt_edits.specs.Working.{shown}
+use Rattle.rt_store.specs.Shown.{shown}
 use Rattle.rt_edits.proofs.PlanLaws.{last_given, last_shown, planned_unlisted, some_in, spent}
 use Rattle.rt_edits.proofs.plan.Plan.add_unlisted.Goals as goal
 

@@ -3,7 +3,7 @@ use Rattle.std.specs.List.{list_any}
 use Rattle.std.proofs.lemmas.Bool.{or_left}
 use Rattle.rt_stamps.specs.Stamps.{is_same}
 use Rattle.rt_edits.specs.Selected.{stamps_in}
-use Rattle.rt_edits.specs.Spans.{is_among}
+use Rattle.rt_store.specs.Spans.{is_among}
 use Rattle.rt_edits.proofs.PlanLaws.{among_with}
 use Rattle.rt_edits.proofs.plan.Plan.selects.Goals as goal
 

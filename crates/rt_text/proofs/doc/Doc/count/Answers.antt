@@ -7,7 +7,7 @@ use Rattle.rt_edits.specs.Flat.{Flat}
 use Rattle.rt_text.specs.Widgets.{widget_of}
 use Rattle.rt_text.proofs.Checks.{two_given}
 use Rattle.rt_text.proofs.RangeLaws.{counted_by}
-use Rattle.rt_edits.proofs.Shown.{text_shown}
+use Rattle.rt_store.proofs.Shown.{text_shown}
 use Rattle.rt_text.proofs.doc.Doc.count.Goals as goal
 
 pub distances_of-requires-clause-places : goal.distances_of-requires-clause-places

@@ -2,25 +2,26 @@ use Rattle.std.proofs.Common.{Ok, ◌≡◌, ◌≤◌, ◌-◌, ◌∙◌, ℕ,
 use Rattle.std.proofs.lemmas.Result.{err_from_is_err_and}
 use Rattle.rt_marks.specs.Marks.{marks_left, place_left}
 use Rattle.rt_store.specs.declared.cell.Cell.{Cell}
-use Rattle.rt_store.specs.Cells.{text_of}
+use Rattle.rt_store.specs.Cells.{text_of, AreDistinct}
 use Rattle.rt_store.specs.Tagged.{AreStates}
 use Rattle.rt_store.proofs.GivenStates.{kept_states}
 use Rattle.rt_tags.specs.States.{state_at}
-use Rattle.rt_edits.specs.Flat.{Flat, TaggedCell}
-use Rattle.rt_edits.specs.Known.{AreKnown, AreDistinct, AreWritten}
+use Rattle.rt_edits.specs.Flat.{Flat}
+use Rattle.rt_store.specs.Shown.{TaggedCell, shown}
+use Rattle.rt_store.specs.Written.{AreBelowNext, AreWritten}
 use Rattle.rt_edits.specs.Listed.{AreListed}
 use Rattle.rt_edits.specs.Removals.{is_covered}
 use Rattle.rt_edits.specs.Selected.{stamps_in}
-use Rattle.rt_edits.specs.Spans.{gone_in_any}
+use Rattle.rt_store.specs.Spans.{gone_in_any}
 use Rattle.rt_text.specs.Widgets.{Own, IsOwnOf, AreSiteMarks, own_left}
 use Rattle.rt_text.specs.Deleting.{last_unselected}
-use Rattle.rt_edits.specs.Working.{put_back_in_any, shown}
+use Rattle.rt_edits.specs.Working.{put_back_in_any}
 use Rattle.rt_text.proofs.Deletions.{deleted_index}
 use Rattle.rt_text.proofs.DeletionLaws.{gone_given, known_from_then, on_right, put_distinct, put_given, put_known, put_length, put_text, written_later}
-use Rattle.rt_edits.proofs.GoneLaws.{length_stays, known_stays, distinct_stays}
+use Rattle.rt_store.proofs.Gone.{length_stays, known_stays, distinct_stays}
 use Rattle.rt_text.proofs.MarkLaws.{length_gone, site_left, own_of_left}
 use Rattle.rt_text.proofs.Refusals.{deleted_ok, deleted_err}
-use Rattle.rt_edits.proofs.Shown.{shown_later, text_shown}
+use Rattle.rt_store.proofs.Shown.{shown_later, text_shown}
 use Rattle.rt_edits.proofs.StampLaws.{uncovered_from}
 use Rattle.rt_text.proofs.doc.Doc.delete.Goals as goal
 
@@ -80,7 +81,7 @@ invariant_of-self-in_err-reserve g c =
     ap (map (shown c.planned_removal.new.states)) is ∙ shown_later c.self.inside.states c.planned_removal.new.states kept c.planned_removal.ensures.ids c.self.invariant.6 in (
       c.self.invariant.0,
       omega (arith, ap length is, c.self.invariant.1),
-      subst (AreKnown c.self.inside.clock) (sym is) c.self.invariant.2,
+      subst (AreBelowNext c.self.inside.clock) (sym is) c.self.invariant.2,
       c.self.invariant.3,
       subst AreDistinct (sym is) c.self.invariant.4,
       subst (λ (l : List (Cell ℕ)). AreSiteMarks (length (text_of l)) c.self.inside.marks) (sym is) c.self.invariant.5,
@@ -130,7 +131,7 @@ invariant_of-self-2 g c =
     (subst (AreSiteMarks (place_left removed (length (text_of kept)))) (sym moved) (site_left (length (text_of kept)) removed c.self.inside.marks c.self.invariant.5)) in (
       c.self.invariant.0,
       omega (arith, ap length cells, put_length runs gone, length_stays spans kept, c.self.invariant.1),
-      subst (AreKnown c.saw.new.self) (sym cells) (put_known c.saw.new.self runs gone (known_stays c.saw.new.self spans kept (known_from_then c.self.inside.clock c.saw.new.self kept later c.self.invariant.2))),
+      subst (AreBelowNext c.saw.new.self) (sym cells) (put_known c.saw.new.self runs gone (known_stays c.saw.new.self spans kept (known_from_then c.self.inside.clock c.saw.new.self kept later c.self.invariant.2))),
       omega (arith, c.saw.ensures, c.self.invariant.3, c.in_ok-deletion.ensures.within.1),
       subst AreDistinct (sym cells) (put_distinct runs gone (distinct_stays spans kept c.self.invariant.4)),
       marks,

@@ -4,13 +4,14 @@ use Rattle.rt_stamps.specs.Words.{Word}
 use Rattle.rt_store.specs.declared.cell.Cell.{Cell}
 use Rattle.rt_store.specs.Cells.{text_of}
 use Rattle.rt_edits.specs.TagWrites.{without_tags}
-use Rattle.rt_edits.specs.Flat.{Flat, TaggedCell}
-use Rattle.rt_edits.specs.Known.{AreWritten}
+use Rattle.rt_edits.specs.Flat.{Flat}
+use Rattle.rt_store.specs.Shown.{TaggedCell, shown}
+use Rattle.rt_store.specs.Written.{AreWritten}
 use Rattle.rt_edits.specs.Listed.{AreListed}
-use Rattle.rt_edits.specs.Working.{all_forgotten, put_back_in_any, shown}
+use Rattle.rt_edits.specs.Working.{all_forgotten, put_back_in_any}
 use Rattle.rt_text.proofs.KeptDocument.{IsKept, clock_fine, kept_runs, kept_table, text_put}
 use Rattle.rt_edits.proofs.ListedWrites.{StaysTagged, all_without_stays}
-use Rattle.rt_edits.proofs.Shown.{shown_later}
+use Rattle.rt_store.proofs.Shown.{shown_later}
 use Rattle.rt_edits.proofs.WriterLaws.{all_without_grows}
 use Rattle.rt_text.proofs.doc.Doc.delete_tags.Goals as goal
 

@@ -8,7 +8,7 @@ use Rattle.rt_edits.specs.Flat.{Flat}
 use Rattle.rt_text.specs.Index.{place_at_index}
 use Rattle.rt_text.specs.Ranges.{ranges_of, texts_of}
 use Rattle.rt_text.specs.Widgets.{widget_of}
-use Rattle.rt_edits.proofs.Shown.{text_shown}
+use Rattle.rt_store.proofs.Shown.{text_shown}
 use Rattle.rt_text.proofs.doc.Doc.get_list.Goals as goal
 
 pub returns-clause-ok : goal.returns-clause-ok

@@ -8,7 +8,7 @@ use Rattle.rt_text.specs.Ranges.{text_between}
 use Rattle.rt_text.specs.Widgets.{widget_of}
 use Rattle.rt_text.proofs.Checks.{one_given}
 use Rattle.rt_edits.proofs.PlaceLaws.{text_within}
-use Rattle.rt_edits.proofs.Shown.{text_shown}
+use Rattle.rt_store.proofs.Shown.{text_shown}
 use Rattle.rt_text.proofs.doc.Doc.get_one.Goals as goal
 
 pub returns-clause-ok : goal.returns-clause-ok

@@ -1,11 +1,11 @@
 use Rattle.std.proofs.Common.{◌≡◌, List, ap, arith, length, map}
 use Rattle.rt_store.specs.Cells.{text_of}
 use Rattle.rt_tags.specs.States.{state_at}
-use Rattle.rt_edits.specs.Flat.{Flat, TaggedCell}
-use Rattle.rt_edits.specs.Working.{shown}
+use Rattle.rt_edits.specs.Flat.{Flat}
+use Rattle.rt_store.specs.Shown.{TaggedCell, shown}
 use Rattle.rt_text.proofs.MarkLaws.{site_within, site_named}
 use Rattle.rt_edits.proofs.PlaceLaws.{text_within}
-use Rattle.rt_edits.proofs.Shown.{text_shown}
+use Rattle.rt_store.proofs.Shown.{text_shown}
 use Rattle.rt_text.proofs.doc.Doc.ground.Goals as goal
 
 pub invariant_of-result : goal.invariant_of-result

@@ -5,7 +5,7 @@ use Rattle.rt_tags.specs.States.{state_at}
 use Rattle.rt_edits.specs.Flat.{Flat}
 use Rattle.rt_text.specs.Widgets.{widget_of}
 use Rattle.rt_text.proofs.Checks.{one_given}
-use Rattle.rt_edits.proofs.Shown.{text_shown}
+use Rattle.rt_store.proofs.Shown.{text_shown}
 use Rattle.rt_text.proofs.doc.Doc.index.Goals as goal
 
 pub position_at-requires : goal.position_at-requires

@@ -5,25 +5,25 @@ use Rattle.rt_marks.specs.Marks.{mark_inserted, marks_inserted}
 use Rattle.rt_stamps.specs.declared.limits.TheConstants.{GREATEST_COUNT}
 use Rattle.rt_stamps.specs.declared.stamp.Stamp.{Stamp}
 use Rattle.rt_stamps.specs.Words.{Word}
-use Rattle.rt_store.specs.Cells.{after_element, text_of, visible_of}
+use Rattle.rt_store.specs.Cells.{after_element, text_of, visible_of, AreDistinct}
 use Rattle.rt_store.specs.Tagged.{AreStates}
 use Rattle.rt_store.proofs.GivenStates.{kept_states, spliced_states}
 use Rattle.rt_tags.specs.States.{name_at, state_at}
 use Rattle.rt_tags.specs.Tags.{IsName}
-use Rattle.rt_edits.specs.Flat.{Flat, TaggedCell, left_of, put_after}
+use Rattle.rt_edits.specs.Flat.{Flat, left_of, put_after}
+use Rattle.rt_store.specs.Shown.{TaggedCell, shown}
 use Rattle.rt_edits.specs.Insertions.{all_listed}
-use Rattle.rt_edits.specs.Known.{AreDistinct, AreKnown, AreWritten}
+use Rattle.rt_store.specs.Written.{AreBelowNext, AreWritten}
 use Rattle.rt_edits.specs.Listed.{AreListed}
 use Rattle.rt_edits.specs.Planned.{planned, selected_between}
 use Rattle.rt_edits.specs.Selected.{room_in, stamps_in}
 use Rattle.rt_edits.specs.Selections.{with_stamps}
 use Rattle.rt_text.specs.Widgets.{AreSiteMarks, IsOwnOf, Own, own_inserted}
-use Rattle.rt_edits.specs.Working.{shown}
 use Rattle.rt_text.proofs.MarkLaws.{own_of_inserted, site_fits, site_inserted}
 use Rattle.rt_edits.proofs.PlaceLaws.{text_within}
 use Rattle.rt_text.proofs.PutLaws.{IsPlanned, count_after, edit_is, full_by, grown, known_after, listed_after, on_err, plan_fine, put_length, put_seen, text_same, visible_same, written_after}
 use Rattle.rt_text.proofs.RisingLaws.{distinct_new_put, new_known}
-use Rattle.rt_edits.proofs.Shown.{shown_later, text_shown}
+use Rattle.rt_store.proofs.Shown.{shown_later, text_shown}
 use Rattle.rt_text.proofs.doc.Doc.insert_at.Goals as goal
 
 pub plan_at-requires-clause-place : goal.plan_at-requires-clause-place
@@ -119,7 +119,7 @@ invariant_of-self-in_err-make_room g c =
     (subst (AreListed s.tags.names) (sym (ap (map (shown mid)) same ∙ seen)) i.7) in (
       i.0,
       subst (λ l. length l ≤ s.limit) (sym same) i.1,
-      subst (AreKnown s.clock) (sym same) i.2,
+      subst (AreBelowNext s.clock) (sym same) i.2,
       i.3,
       subst AreDistinct (sym same) i.4,
       subst (λ l. AreSiteMarks (length (text_of l)) s.marks) (sym same) i.5,
@@ -234,7 +234,7 @@ invariant_of-self-2 g c =
     let within : c.len.result ≤ s.limit - c.cells.result = c.if-len-self.false in
     let list_is : g.S.TextStore.list c.put.new.store ≡ put_after kept left items =
     c.put.ensures.list ∙ (λ j. put_after (c.make_room.ensures.list j) (left_of (c.make_room.ensures.list j) c.args.place) (c.deref.ensures.value j)) in
-    let known : AreKnown c.seen-count.result kept = subst (λ (n : ℕ). AreKnown n kept) (sym c.seen-count.ensures.value) i.2 in
+    let known : AreBelowNext c.seen-count.result kept = subst (λ (n : ℕ). AreBelowNext n kept) (sym c.seen-count.ensures.value) i.2 in
     let saw : c.saw.new.self ≡ plan.count = count_after s.clock c.seen-count.result c.saw.new.self plan.count c.seen-count.ensures.value (new_known s.site.number c.seen-count.result plan.count items fine.new).0 c.saw.ensures in
     let text : length (text_of (put_after kept left items)) ≡ length (text_of kept) + length items = grown mid (all_listed (map (name_at mid) plan.tags.items) s.tags.names) kept left items fine.among in
     let few : length (put_after kept left items) ≤ s.limit = omega (arith, put_length kept left items, cells, len, within, i.1) in
@@ -251,7 +251,7 @@ invariant_of-self-2 g c =
     (listed_after s.states mid kept items c.args.place (map (name_at mid) plan.tags.items) s.tags.names c.plan_at.ensures.ids i.6 i.7 fine.among fine.listed) in (
       i.0,
       subst (λ l. length l ≤ s.limit) (sym list_is) few,
-      subst (AreKnown c.saw.new.self) (sym list_is) (subst (λ (n : ℕ). AreKnown n (put_after kept left items)) (sym saw) (known_after s.site.number c.seen-count.result plan.count kept left items fine.new known)),
+      subst (AreBelowNext c.saw.new.self) (sym list_is) (subst (λ (n : ℕ). AreBelowNext n (put_after kept left items)) (sym saw) (known_after s.site.number c.seen-count.result plan.count kept left items fine.new known)),
       subst (λ (n : ℕ). n ≤ GREATEST_COUNT) (sym saw) c.in_ok-plan.ensures.plan.count,
       subst AreDistinct (sym list_is) (distinct_new_put s.site.number c.seen-count.result plan.count kept left items s.site.positive fine.new known i.4),
       subst (λ l. AreSiteMarks (length (text_of l)) c.inserted.new.self) (sym list_is) marks,

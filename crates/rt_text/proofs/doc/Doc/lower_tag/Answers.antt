@@ -1,8 +1,7 @@
 use Rattle.std.proofs.Common.{List, map}
 use Rattle.std.specs.Prelude.{option_copied}
-use Rattle.rt_edits.specs.Flat.{TaggedCell}
+use Rattle.rt_store.specs.Shown.{TaggedCell, shown}
 use Rattle.rt_edits.specs.Listed.{AreListed}
-use Rattle.rt_edits.specs.Working.{shown}
 use Rattle.rt_edits.proofs.ListedLaws.{lower_keeps}
 use Rattle.rt_text.proofs.doc.Doc.lower_tag.Goals as goal
 

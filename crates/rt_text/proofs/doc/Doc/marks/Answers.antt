@@ -3,7 +3,7 @@ use Rattle.rt_store.specs.Cells.{text_of}
 use Rattle.rt_tags.specs.States.{state_at}
 use Rattle.rt_edits.specs.Flat.{Flat}
 use Rattle.rt_text.specs.Widgets.{AreSiteMarks}
-use Rattle.rt_edits.proofs.Shown.{text_shown}
+use Rattle.rt_store.proofs.Shown.{text_shown}
 use Rattle.rt_text.proofs.doc.Doc.marks.Goals as goal
 
 pub returns-clause-site : goal.returns-clause-site

@@ -4,7 +4,7 @@ use Rattle.rt_tags.specs.States.{state_at}
 use Rattle.rt_edits.specs.Flat.{Flat}
 use Rattle.rt_text.specs.Widgets.{AreSiteMarks}
 use Rattle.rt_text.proofs.MarkLaws.{site_set}
-use Rattle.rt_edits.proofs.Shown.{text_shown}
+use Rattle.rt_store.proofs.Shown.{text_shown}
 use Rattle.rt_text.proofs.doc.Doc.set_mark.Goals as goal
 
 pub invariant_of-self : goal.invariant_of-self

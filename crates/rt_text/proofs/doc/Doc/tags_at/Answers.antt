@@ -6,7 +6,7 @@ use Rattle.rt_tags.specs.States.{state_at}
 use Rattle.rt_edits.specs.Flat.{Flat}
 use Rattle.rt_edits.specs.Selected.{stamps_in}
 use Rattle.rt_text.specs.Widgets.{Own}
-use Rattle.rt_edits.proofs.Shown.{visible_shown}
+use Rattle.rt_store.proofs.Shown.{visible_shown}
 use Rattle.rt_text.proofs.SeenLaws.{tags_found, visible_given}
 use Rattle.rt_text.proofs.doc.Doc.tags_at.Goals as goal
 

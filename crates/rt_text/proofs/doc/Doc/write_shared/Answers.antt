@@ -3,16 +3,16 @@ use Rattle.std.proofs.lemmas.Result.{err_from_is_err_and}
 use Rattle.rt_stamps.specs.Words.{Word}
 use Rattle.rt_store.specs.declared.cell.Cell.{Cell}
 use Rattle.rt_tags.specs.Tags.{with_name}
-use Rattle.rt_edits.specs.TagWrites.{listed_if}
-use Rattle.rt_edits.specs.Flat.{Flat, TaggedCell}
-use Rattle.rt_edits.specs.Known.{AreWritten}
+use Rattle.rt_edits.specs.TagWrites.{listed_if, with_tag_at}
+use Rattle.rt_edits.specs.Flat.{Flat}
+use Rattle.rt_store.specs.Shown.{TaggedCell, shown}
+use Rattle.rt_store.specs.Written.{AreWritten}
 use Rattle.rt_edits.specs.Listed.{AreListed}
 use Rattle.rt_edits.specs.Removals.{is_covered}
-use Rattle.rt_edits.specs.TagWrites.{with_tag_at}
-use Rattle.rt_edits.specs.Working.{put_back_in_any, shown}
+use Rattle.rt_edits.specs.Working.{put_back_in_any}
 use Rattle.rt_edits.specs.declared.range.Range.{Range}
 use Rattle.rt_text.proofs.KeptDocument.{IsKept, as_visible, kept_runs, kept_table, listed_as, written_stays}
-use Rattle.rt_edits.proofs.Shown.{shown_later}
+use Rattle.rt_store.proofs.Shown.{shown_later}
 use Rattle.rt_edits.proofs.WriterLaws.{tag_grows}
 use Rattle.rt_text.proofs.doc.Doc.write_shared.Goals as goal
 
@@ -73,7 +73,7 @@ invariant_of-self-2 g c =
     let final : listed_if on name (with_tag_at old places on name) ≡ after = ap (listed_if on name) made ∙ listed_as on name old seen plan.count in
     let listed : AreListed old.tags old.cells = subst (λ (f : Flat). AreListed f.tags f.cells) c.self.view_is c.self.invariant.7 in
     let written : AreWritten old.count old.cells = subst (λ (f : Flat). AreWritten f.count f.cells) c.self.view_is c.self.invariant.8 in
-    let stays = written_stays on name old after places c.requires.name listed written final in
+    let stays = written_stays on name old after places c.requires.name c.requires.shared listed written final in
     subst (λ (l : List (Cell ℕ)). IsKept inside.limit c.saw.new.self l inside.marks c.planned_tag.new.states c.list_if.new.tags.names) (sym put)
     (kept_runs inside.limit inside.clock cells inside.marks inside.states c.planned_tag.new.states inside.tags.names c.self.invariant c.planned_tag.ensures.ids plan.runs.items c.saw.new.self c.list_if.new.tags.names c.in_ok-plan.ensures.runs
     (omega (arith, last, grown, ap (λ (f : Flat). f.count) c.self.view_is)) (omega (arith, last, c.in_ok-plan.ensures.within)) (subst (λ (l : List Word). AreListed l seen) (sym names) stays.0) (subst (λ n. AreWritten n seen) (sym last) stays.1))

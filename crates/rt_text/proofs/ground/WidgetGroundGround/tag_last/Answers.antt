@@ -4,7 +4,7 @@ use Rattle.rt_store.specs.Cells.{text_of, visible_of}
 use Rattle.rt_text.specs.Proper.{last_within}
 use Rattle.rt_edits.specs.Selected.{stamps_in}
 use Rattle.rt_text.specs.Widgets.{Own, is_tagged_in}
-use Rattle.rt_edits.specs.Working.{shown}
+use Rattle.rt_store.specs.Shown.{shown}
 use Rattle.rt_edits.proofs.PlaceLaws.{length_text}
 use Rattle.rt_text.proofs.SeenLaws.{stops_by}
 use Rattle.rt_text.proofs.ground.WidgetGroundGround.tag_last.Goals as goal
