@@ -4,9 +4,12 @@ state of tags: seconds, and bytes of memory an operation that is read, or a writ
 
 Usage: tests/bench.py [PROGRAM [OPERATIONS]]; without a program it takes ./peertext's, which has to be built; a million
 operations if no number is given. It is run by hand. The status is 1 where an answer is wrong.
+
+tests/bench.py spans: times the map over spans beside Rust's BTreeMap, which is left out where there is no rustc.
 """
 import filecmp
 import os
+import shutil
 import struct
 import subprocess
 import sys
@@ -60,7 +63,31 @@ def expect(name, holds):
         print(f"wrong: {name}")
 
 
+def spans():
+    """Proves and runs tests/bench/spans, a program over rt_spans, and tests/bench/spans.rs, which does the same on a BTreeMap."""
+    crates, beside = os.path.join(ROOT, "crates"), os.path.join(ROOT, "tests", "bench")
+    with tempfile.TemporaryDirectory() as folder:
+        for source in (os.path.join(crates, "rt_stamps"), os.path.join(crates, "rt_spans"), os.path.join(beside, "spans")):
+            shutil.copytree(source, os.path.join(folder, "crates", os.path.basename(source)))
+        with open(os.path.join(folder, "crates.txt"), "w", encoding="ascii") as file:
+            file.write("rt_stamps: thiserror\nrt_spans: rt_stamps\nspans: rt_spans rt_stamps\n")
+        runs = [subprocess.run(["rt", "run"], cwd=os.path.join(folder, "crates", "spans"), stdout=subprocess.PIPE, check=True)]
+        if shutil.which("rustc"):
+            tree = os.path.join(folder, "tree")
+            subprocess.run(["rustc", "-O", os.path.join(beside, "spans.rs"), "-o", tree], check=True)
+            runs.append(subprocess.run([tree], stdout=subprocess.PIPE, check=True))
+        for lines in zip(*(run.stdout.decode().splitlines() for run in runs)):
+            name, times, _, total = lines[0].split()
+            each = [int(line.split()[2]) / int(times) for line in lines]
+            beside_it = f", BTreeMap {each[1]:6.0f} ns, {each[0] / each[1]:4.2f} times that" if len(each) > 1 else ""
+            print(f"{int(times):9,} {name:9} {each[0]:6.0f} ns each{beside_it}", flush=True)
+            expect(f"{times} {name}", all(line.split()[3] == total for line in lines))
+    return 1 if wrong else 0
+
+
 def main():
+    if sys.argv[1:] == ["spans"]:
+        return spans()
     with tempfile.TemporaryDirectory() as folder:
         file, other, out = (os.path.join(folder, name) for name in ("file", "other", "out"))
         n = OPERATIONS
