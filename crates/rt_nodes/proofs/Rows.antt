@@ -83,7 +83,7 @@ module _ {E : Type 0} where
   -- the tail goes from the first part to the head of the second
   pub moved_up : (front back : List (Row E)) (a k : ℕ) → a < length front
       → set front a (row (take k (row_at front a).items) (row_at front a).capacity) ++ set back 0 (row ((row_at back 0).items ++ drop k (row_at front a).items) (row_at back 0).capacity)
-          ≡ with_tail_moved (front ++ back) a k (length front)
+      ≡ with_tail_moved (front ++ back) a k (length front)
   moved_up [] back a k lt = absurd (omega arith)
   moved_up (x ∷ front) back zero k lt = rw (at_join front back, set_join front back (row ((row_at back 0).items ++ drop k x.items) (row_at back 0).capacity)) refl
   moved_up (x ∷ front) back (suc a) k lt = ap (λ l. x ∷ l) (moved_up front back a k (omega arith))
@@ -91,7 +91,7 @@ module _ {E : Type 0} where
   -- and back
   pub moved_down : (front back : List (Row E)) (b k : ℕ) → b < length front
       → set front b (row ((row_at front b).items ++ drop k (row_at back 0).items) (row_at front b).capacity) ++ set back 0 (row (take k (row_at back 0).items) (row_at back 0).capacity)
-          ≡ with_tail_moved (front ++ back) (length front) k b
+      ≡ with_tail_moved (front ++ back) (length front) k b
   moved_down [] back b k lt = absurd (omega arith)
   moved_down (x ∷ front) back zero k lt = rw (at_join front back, set_join front back (row (take k (row_at back 0).items) (row_at back 0).capacity)) refl
   moved_down (x ∷ front) back (suc b) k lt = ap (λ l. x ∷ l) (moved_down front back b k (omega arith))

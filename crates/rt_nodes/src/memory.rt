@@ -159,7 +159,12 @@ impl<H, E, const CAP: usize> NodeMem<H, E, CAP> {
         requires room { length (entries self.old b.index) + (length (entries self.old a.index) - k) ≤ CAP }
         ensures { self.new ≡ with_entries (with_entries self.old a.index (take k (entries self.old a.index))) b.index (entries self.old b.index ++ drop k (entries self.old a.index)) }
     {
-        move_between(self.rows.as_mut_slice(), a.index as usize, k, b.index as usize);
+        move_between(
+            self.rows.as_mut_slice(),
+            a.index as usize,
+            k,
+            b.index as usize,
+        );
     }
 }
 

@@ -12,9 +12,14 @@ invariant_of-self-lent g c w =
     let had = AreRows-at g.row.CAP rs id h.rows_fit lt in
     let is = is_at rs id c.index_mut-row.result.now lt c.index_mut-row.ensures.value in
     let long = length-set c.index_mut-row.result.now.items c.args.i w in
-    record { same = h.same; heads_room = h.heads_room; rows_room = h.rows_room; named = h.named;
+    record {
+      same = h.same;
+      heads_room = h.heads_room;
+      rows_room = h.rows_room;
+      named = h.named;
       rows_fit = AreRows-set g.row.CAP rs id _ h.rows_fit (record { room = rw is had.room; fits = rw (long, is) had.fits });
-      spare_empty = h.spare_empty }
+      spare_empty = h.spare_empty;
+    }
 
 pub returns : goal.returns
 returns g c =

@@ -25,9 +25,14 @@ invariant_of-self g c =
     let is = is_at rs id c.index_mut.result.now lt c.index_mut.ensures.value in
     let room = rw (← c.self.view_is, items_at rs id) at c.requires.room in
     let long = length-insert (row_at rs id).items c.args.i c.args.e within in
-    record { same = h.same; heads_room = h.heads_room; rows_room = h.rows_room; named = h.named;
+    record {
+      same = h.same;
+      heads_room = h.heads_room;
+      rows_room = h.rows_room;
+      named = h.named;
       rows_fit = AreRows-set g.row.CAP rs id c.insert_at.new.self h.rows_fit (rw (c.insert_at.ensures, is) (record { room = had.room; fits = omega (arith, long, room) }));
-      spare_empty = h.spare_empty }
+      spare_empty = h.spare_empty;
+    }
 
 pub returns : goal.returns
 returns g c =

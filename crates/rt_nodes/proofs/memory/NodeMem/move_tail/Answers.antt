@@ -21,9 +21,14 @@ invariant_of-self g c =
     let lt_b : b < length rs = omega (arith, asked.1.1, length-map rs row_items) in
     let room = rw (← c.self.view_is, items_at rs a, items_at rs b) at c.requires.room in
     let long : c.self.inside.rows.len ≡ length rs = search rules in
-    record { same = h.same; heads_room = h.heads_room; rows_room = h.rows_room; named = h.named;
+    record {
+      same = h.same;
+      heads_room = h.heads_room;
+      rows_room = h.rows_room;
+      named = h.named;
       rows_fit = rw (c.move_between.ensures, c.as_mut_slice.ensures.value, refilled c.self.inside.rows.len rs (with_tail_moved rs a c.args.k b) long (length_moved rs a c.args.k b)) (AreRows-moved g.row.CAP rs a c.args.k b h.rows_fit lt_a lt_b room);
-      spare_empty = h.spare_empty }
+      spare_empty = h.spare_empty;
+    }
 
 pub returns : goal.returns
 returns g c =
