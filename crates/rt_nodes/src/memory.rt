@@ -20,7 +20,6 @@ pub struct NodeId {
 }
 
 /// Nodes by id, and room for more. None is taken away.
-#[derive(Drop)]
 pub struct NodeMem<H, E, const CAP: usize> {
     heads: Vec<H>,
     rows: Vec<Block<E>>,
@@ -165,6 +164,22 @@ impl<H, E, const CAP: usize> NodeMem<H, E, CAP> {
             k,
             b.index as usize,
         );
+    }
+}
+
+// An empty vector alone gives its memory back, so no header is passed over.
+impl<H: Drop, E: Drop, const CAP: usize> Drop for NodeMem<H, E, CAP> {
+    fn drop(self) {
+        let NodeMem {
+            mut heads,
+            rows,
+            spare,
+            alloc: _,
+        } = self;
+        heads.clear();
+        heads.destroy_empty();
+        drop(rows);
+        drop(spare);
     }
 }
 
