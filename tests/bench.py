@@ -4,9 +4,12 @@ state of tags: seconds, and bytes of memory an operation that is read, or a writ
 
 Usage: tests/bench.py [PROGRAM [OPERATIONS]]; without a program it takes ./peertext's, which has to be built; a million
 operations if no number is given. It is run by hand. The status is 1 where an answer is wrong.
+
+tests/bench.py nodes: times calls of node memory, in a program of its own, tests/bench/nodes, which rt proves and builds.
 """
 import filecmp
 import os
+import shutil
 import struct
 import subprocess
 import sys
@@ -87,5 +90,21 @@ def main():
     return 1 if wrong else 0
 
 
+def nodes():
+    """Runs tests/bench/nodes in a workspace of its own, over copies of the crates that it needs."""
+    with tempfile.TemporaryDirectory() as folder:
+        with open(os.path.join(ROOT, "crates.txt"), encoding="utf-8") as file:
+            needed = [line for line in file if line.startswith(("rt_stamps:", "rt_nodes:"))]
+        with open(os.path.join(folder, "crates.txt"), "w", encoding="utf-8") as file:
+            file.writelines([*needed, "bench_nodes: rt_nodes anyhow\n"])
+        shutil.copy(os.path.join(ROOT, "HANDLES"), folder)
+        for line in needed:
+            name = line.split(":")[0]
+            shutil.copytree(os.path.join(ROOT, "crates", name), os.path.join(folder, "crates", name), symlinks=True)
+        program = os.path.join(folder, "crates", "bench_nodes")
+        shutil.copytree(os.path.join(ROOT, "tests", "bench", "nodes"), program)
+        return subprocess.call(["rt", "run"], cwd=program)
+
+
 if __name__ == "__main__":
-    sys.exit(main())
+    sys.exit(nodes() if sys.argv[1:] == ["nodes"] else main())
