@@ -6,6 +6,7 @@ Usage: tests/bench.py [PROGRAM [OPERATIONS]]; without a program it takes ./peert
 operations if no number is given. It is run by hand. The status is 1 where an answer is wrong.
 
 tests/bench.py spans: times the map over spans beside Rust's BTreeMap, which is left out where there is no rustc.
+tests/bench.py nodes: times calls of node memory, in a program of its own, tests/bench/nodes, which rt proves and builds.
 """
 import filecmp
 import os
@@ -63,18 +64,26 @@ def expect(name, holds):
         print(f"wrong: {name}")
 
 
+def laid(folder, program, name, *crates):
+    """Lays a workspace of a program of tests/bench, under a name, and the crates that it stands on; answers the program's folder."""
+    with open(os.path.join(ROOT, "crates.txt"), encoding="utf-8") as file:
+        needed = [line for line in file if line.split(":")[0] in crates]
+    with open(os.path.join(folder, "crates.txt"), "w", encoding="utf-8") as file:
+        file.writelines([*needed, f"{name}: {' '.join(crates)} anyhow\n"])
+    shutil.copy(os.path.join(ROOT, "HANDLES"), folder)
+    for crate in crates:
+        shutil.copytree(os.path.join(ROOT, "crates", crate), os.path.join(folder, "crates", crate), symlinks=True)
+    return shutil.copytree(os.path.join(ROOT, "tests", "bench", program), os.path.join(folder, "crates", name))
+
+
 def spans():
     """Proves and runs tests/bench/spans, a program over rt_spans, and tests/bench/spans.rs, which does the same on a BTreeMap."""
-    crates, beside = os.path.join(ROOT, "crates"), os.path.join(ROOT, "tests", "bench")
     with tempfile.TemporaryDirectory() as folder:
-        for source in (os.path.join(crates, "rt_stamps"), os.path.join(crates, "rt_spans"), os.path.join(beside, "spans")):
-            shutil.copytree(source, os.path.join(folder, "crates", os.path.basename(source)))
-        with open(os.path.join(folder, "crates.txt"), "w", encoding="ascii") as file:
-            file.write("rt_stamps: thiserror\nrt_spans: rt_stamps\nspans: rt_spans rt_stamps\n")
-        runs = [subprocess.run(["rt", "run"], cwd=os.path.join(folder, "crates", "spans"), stdout=subprocess.PIPE, check=True)]
+        program = laid(folder, "spans", "spans", "rt_stamps", "rt_spans")
+        runs = [subprocess.run(["rt", "run"], cwd=program, stdout=subprocess.PIPE, check=True)]
         if shutil.which("rustc"):
             tree = os.path.join(folder, "tree")
-            subprocess.run(["rustc", "-O", os.path.join(beside, "spans.rs"), "-o", tree], check=True)
+            subprocess.run(["rustc", "-O", os.path.join(ROOT, "tests", "bench", "spans.rs"), "-o", tree], check=True)
             runs.append(subprocess.run([tree], stdout=subprocess.PIPE, check=True))
         for lines in zip(*(run.stdout.decode().splitlines() for run in runs)):
             name, times, _, total = lines[0].split()
@@ -86,8 +95,6 @@ def spans():
 
 
 def main():
-    if sys.argv[1:] == ["spans"]:
-        return spans()
     with tempfile.TemporaryDirectory() as folder:
         file, other, out = (os.path.join(folder, name) for name in ("file", "other", "out"))
         n = OPERATIONS
@@ -114,5 +121,12 @@ def main():
     return 1 if wrong else 0
 
 
+def nodes():
+    """Proves and runs tests/bench/nodes, a program over rt_nodes."""
+    with tempfile.TemporaryDirectory() as folder:
+        return subprocess.call(["rt", "run"], cwd=laid(folder, "nodes", "bench_nodes", "rt_stamps", "rt_nodes"))
+
+
 if __name__ == "__main__":
-    sys.exit(main())
+    call = {"spans": spans, "nodes": nodes}.get(" ".join(sys.argv[1:]), main)
+    sys.exit(call())

@@ -1,0 +1,5 @@
+pub mod Nodes
+pub mod Lends
+pub mod Rows
+pub mod RowLends
+pub mod Inside
