@@ -1,5 +1,5 @@
 -- What is written of a log is read back as the log's operations, and they have that log.
-use Rattle.std.proofs.Common.{◌≡◌, ◌↔◌, ℕ, zero, suc, ◌+◌, ◌<◌, Bool, true, false, ◌⊎◌, inl, inr, refl, sym, ap, subst, ◌∙◌, arith, List, [], ◌∷◌, ◌++◌, length, take, reverse, Some, None}
+use Rattle.std.proofs.Common.{◌≡◌, ◌↔◌, ℕ, zero, suc, ◌+◌, ◌<◌, Bool, true, inl, inr, refl, sym, ap, subst, ◌∙◌, arith, List, [], ◌∷◌, ◌++◌, length, take, reverse, Some, None}
 use Rattle.std.specs.Prelude.{slice_get}
 use Rattle.std.specs.List.{AllByRecursion}
 use Rattle.std.proofs.lemmas.Bool.Decides.{nat_tests}
@@ -9,7 +9,7 @@ use Rattle.rt_stamps.specs.declared.fault.Fault.{Fault}
 use Rattle.rt_stamps.specs.Stamps.{is_before}
 use Rattle.rt_oplog.specs.Operations.{Operation, stamp_of}
 use Rattle.rt_oplog.specs.Rules.{each_next}
-use Rattle.rt_oplog.specs.File.{spelling, HasRecord, AreInFile}
+use Rattle.rt_oplog.specs.File.{spelling, HasRecord}
 use Rattle.rt_oplog.specs.Reading.{offsets_from, Reads}
 use Rattle.rt_oplog.specs.Logs.{Has, holds, clash, IsFalling, IsLog}
 use Rattle.rt_oplog.specs.Outcomes.{IsLogOf, IsFirstRefused}

@@ -1,6 +1,6 @@
 -- Operations read from a file, record by record.
 use Rattle.std.proofs.Common.{◌≡◌, ℕ, ◌+◌, ◌-◌, ◌<◌, ◌≤◌, Bool, true, false, suc, List, [], ◌∷◌, ◌++◌, length, take, Option, Some, None, Result, Ok, Err, IfOk, IfErr, cond, refl, sym, ap, subst, ◌∙◌, append_assoc, append-nil, arith, inl, inr}
-use Rattle.std.specs.Prelude.{◌⊎◌, IfSome, slice_get, min, not, nat_lt}
+use Rattle.std.specs.Prelude.{◌⊎◌, slice_get, min, not, nat_lt}
 use Rattle.std.specs.Str.{bytes_eq}
 use Rattle.std.specs.List.{flat_map, AllByRecursion}
 use Rattle.std.specs.Int.{w32}
@@ -10,7 +10,6 @@ use Rattle.std.proofs.lemmas.Bool.Decides.{nat_tests}
 use Rattle.std.proofs.lemmas.List.{length-append, length-take, take_at, take_all}
 use Rattle.std.proofs.lemmas.List.Concat.{flat_map-append}
 use Rattle.rt_stamps.specs.Stamps.{is_before}
-use Rattle.rt_stamps.specs.declared.limits.TheConstants.{MOST_READS}
 use Rattle.rt_stamps.specs.declared.fault.Fault.{Fault}
 use Rattle.rt_stamps.specs.declared.fault.Fault.TheVariants.{NoMemory, BadMagic, BadVersion, Truncated, BadRecord, ReadFault}
 use Rattle.rt_oplog.specs.declared.intake.Bounds.{Bounds}
