@@ -6,7 +6,7 @@ use Rattle.rt_stamps.specs.declared.fault.Fault.{Fault}
 use Rattle.rt_stamps.specs.declared.fault.Fault.TheVariants.{Conflict}
 use Rattle.rt_stamps.specs.Stamps.{is_before, is_same}
 use Rattle.rt_oplog.specs.Operations.{Operation, stamp_of, last_count, has_bad_stamp}
-use Rattle.rt_oplog.specs.Logs.{Has, same_operation, holds, reaches_into, clash, IsFalling, IsLog, with_operation, known_end, added, union, has_clash, joined, joins}
+use Rattle.rt_oplog.specs.Logs.{Has, same_operation, holds, reaches_into, clash, IsFalling, IsLog, with_operation, known_end, added, union, has_clash, IsUnion, HasClashOf, joined, joins}
 use Rattle.rt_oplog.proofs.Sets.{split, operation_true, clash_self, clash_sym, last_ge, apart, has_with, has_held, held_from, added_has, has_union, union_has, none_at, clash_in, clash_from, free_from, falling_with, same_set}
 
 -- a set that has another operation, with its stamp apart from theirs, is a log
@@ -49,11 +49,6 @@ falling_union (op ∷ set) other h s f =
         (λ e. let k = held_from (union set other) x i in let j : holds (union set other) op ≡ true = subst (λ y. holds (union set other) y ≡ true) (operation_true x op e) k in absurd (cc (j, n)))
         (λ e. e)
 
--- the union of two logs, if no two of its operations clash
-pub record IsUnion (one other set : List Operation) : Type 0 where
-  pub log : IsLog set
-  pub members : (x : Operation) → Has set x ↔ (Has one x ⊎ Has other x)
-
 pub union_log : (one other : List Operation) → IsLog one → IsLog other → has_clash (union one other) ≡ false → IsUnion one other (union one other)
 union_log one other l k h = record {
   log = record {
@@ -90,6 +85,23 @@ joined_cases P one other l k f g = split (has_clash (union one other))
     subst P (sym r) (g p q (has_union one other p i) (has_union one other q j) c r))
     (λ e. let r : joined one other ≡ Ok (union one other) = rw e in
     subst P (sym r) (f (union one other) (union_log one other l k e) r))
+
+-- the join is the log that has just the operations of both, and there is none exactly where two of them clash
+pub joined_union : (one other log : List Operation) → IsLog one → IsLog other → (joined one other ≡ Ok log) ↔ IsUnion one other log
+joined_union one other log l k = (
+  joined_cases (λ r. r ≡ Ok log → IsUnion one other log) one other l k
+      (λ set u e d. let same : set ≡ log = cc d in subst (IsUnion one other) same u)
+      (λ p q i j c e d. absurd (cc d)),
+  joined_ok one other log l k,
+)
+
+pub joined_conflict : (one other : List Operation) → IsLog one → IsLog other → (joined one other ≡ Err Conflict) ↔ HasClashOf one other
+joined_conflict one other l k = (
+  joined_cases (λ r. r ≡ Err Conflict → HasClashOf one other) one other l k
+      (λ set u e d. absurd (cc d))
+      (λ p q i j c e d. (p, q, i, j, c)),
+  λ h. joined_err one other h.0 h.1 h.2 h.3 h.4,
+)
 
 either : {A B : Type 0} → A ⊎ B → B ⊎ A
 either h = elim h [ inl a ↦ inr a | inr b ↦ inl b ]

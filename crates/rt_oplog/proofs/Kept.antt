@@ -10,9 +10,9 @@ use Rattle.rt_stamps.proofs.Order.{before_irrefl}
 use Rattle.rt_oplog.specs.declared.ends.SiteEnd.{SiteEnd}
 use Rattle.rt_oplog.specs.Ends.{end_in}
 use Rattle.rt_oplog.specs.Operations.{Operation, stamp_of}
-use Rattle.rt_oplog.specs.Logs.{Has, clash, IsFalling, IsLog, known_end, joined}
+use Rattle.rt_oplog.specs.Logs.{HasClashOf, Has, clash, IsFalling, IsLog, known_end, joined}
 use Rattle.rt_oplog.specs.Kept.{op_at, newest_first, leading, IsKept}
-use Rattle.rt_oplog.specs.Merged.{IsMerged, HasClashOf}
+use Rattle.rt_oplog.specs.Merged.{IsMerged}
 use Rattle.rt_oplog.proofs.Sets.{split, clash_sym, any_at}
 use Rattle.rt_oplog.proofs.Joins.{joined_err, joined_ok}
 use Rattle.rt_oplog.proofs.Places.{is_earlier}

@@ -9,10 +9,12 @@ pub mod Merging
 pub mod Parts
 pub mod Places
 pub mod Pushes
+pub mod ReadBack
 pub mod Readings
 pub mod Sets
 pub mod Spans
 pub mod Spelled
 pub mod Spells
 pub mod Taken
+pub mod Told
 pub mod Unique

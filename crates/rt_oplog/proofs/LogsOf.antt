@@ -44,4 +44,4 @@ log_of_more ops i log new h l n e = record {
 -- the first that is refused
 pub refused_at : (ops : List Operation) (i : ℕ) (log : List Operation) (fault : Fault) → i < length ops → IsLogOf (take i ops) log → (fault ≡ NoMemory) ⊎ (pushed (op_at ops i) log ≡ Err fault)
     → MakesLog ops (Err (record { fault = fault; place = i }))
-refused_at ops i log fault h l k = elim k [ inl e ↦ inr e | inr e ↦ inl (record { op = op_at ops i; log = log; there = slice_get-get_or ops i nothing h; before = l; refused = e }) ]
+refused_at ops i log fault h l k = elim k [ inl e ↦ inr (e, h, (log, l)) | inr e ↦ inl (record { op = op_at ops i; log = log; there = slice_get-get_or ops i nothing h; before = l; refused = e }) ]

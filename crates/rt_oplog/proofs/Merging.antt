@@ -6,9 +6,9 @@ use Rattle.std.specs.List.{AllByRecursion, range_with_len}
 use Rattle.rt_stamps.specs.Stamps.{is_before}
 use Rattle.rt_stamps.proofs.Order.{before_total}
 use Rattle.rt_oplog.specs.Operations.{Operation, stamp_of}
-use Rattle.rt_oplog.specs.Logs.{same_operation, clash, IsFalling, IsLog}
+use Rattle.rt_oplog.specs.Logs.{HasClashOf, same_operation, clash, IsFalling, IsLog}
 use Rattle.rt_oplog.specs.Kept.{nothing, op_at, newest_first}
-use Rattle.rt_oplog.specs.Merged.{IsMerged, HasClashOf}
+use Rattle.rt_oplog.specs.Merged.{IsMerged}
 use Rattle.rt_oplog.proofs.Sets.{split, apart}
 use Rattle.rt_oplog.proofs.Places.{at_front, at_has, seen_more, within_more}
 use Rattle.rt_oplog.proofs.Merges.{ops_at, ops_drop, Merging, sides, take_left, take_lesser, take_greater, take_both, merging_start, merging_rest, seen_push, seen_parts, within_push, within_append, within_drop, within_at}

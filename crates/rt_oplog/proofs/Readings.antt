@@ -1,17 +1,15 @@
 -- Operations read from a file, record by record.
 use Rattle.std.proofs.Common.{◌≡◌, ℕ, ◌+◌, ◌-◌, ◌<◌, ◌≤◌, Bool, true, false, suc, List, [], ◌∷◌, ◌++◌, length, take, Option, Some, None, Result, Ok, Err, IfOk, IfErr, cond, refl, sym, ap, subst, ◌∙◌, append_assoc, append-nil, arith, inl, inr}
-use Rattle.std.specs.Prelude.{◌⊎◌, IfSome, slice_get, min, not, nat_lt}
+use Rattle.std.specs.Prelude.{◌⊎◌, slice_get, min, not, nat_lt}
 use Rattle.std.specs.Str.{bytes_eq}
 use Rattle.std.specs.List.{flat_map, AllByRecursion}
 use Rattle.std.specs.Int.{w32}
-use Rattle.std.specs.Io.KnownBytes.{Consumes, IsAtEnd}
+use Rattle.std.specs.Io.KnownBytes.{IsAtEnd}
 use Rattle.std.proofs.lemmas.Bool.{false≢true, cases_lt}
 use Rattle.std.proofs.lemmas.Bool.Decides.{nat_tests}
 use Rattle.std.proofs.lemmas.List.{length-append, length-take, take_at, take_all}
 use Rattle.std.proofs.lemmas.List.Concat.{flat_map-append}
-use Rattle.std.proofs.lemmas.Option.{some_pair_parts}
 use Rattle.rt_stamps.specs.Stamps.{is_before}
-use Rattle.rt_stamps.specs.declared.limits.TheConstants.{MOST_READS}
 use Rattle.rt_stamps.specs.declared.fault.Fault.{Fault}
 use Rattle.rt_stamps.specs.declared.fault.Fault.TheVariants.{NoMemory, BadMagic, BadVersion, Truncated, BadRecord, ReadFault}
 use Rattle.rt_oplog.specs.declared.intake.Bounds.{Bounds}
@@ -19,7 +17,7 @@ use Rattle.rt_oplog.specs.Operations.{Operation, stamp_of}
 use Rattle.rt_oplog.specs.Rules.{each_next}
 use Rattle.rt_oplog.specs.File.{magic, number, content_of, record_of, spelling, HasRecord, AreInFile}
 use Rattle.rt_oplog.specs.Reading.{file_name, head_fault, offsets_from, EndsEarly, IsEnd, ReadsAs, Reads, may_follow}
-use Rattle.rt_oplog.specs.Intake.{ReaderState, Takes, IsStopped, HasNoRecord, Fails, AtEnd, GetsHead, FILE_BOUNDS, ReadsFile}
+use Rattle.rt_oplog.specs.Intake.{ReaderState, Takes, IsStopped, HasNoRecord, Fails, AtEnd, GetsHead, FILE_BOUNDS, HasRead, IsTold, ReadsFile, LacksMemory}
 use Rattle.rt_oplog.proofs.Lengths.{length_4, same_front, content_short}
 use Rattle.rt_oplog.proofs.Spells.{front_same_4, same_content}
 use Rattle.rt_oplog.proofs.Taken.{takes_then, stopped_then}
@@ -71,7 +69,7 @@ magic_length = refl
 pub spelling_length : (ops : List Operation) → length (spelling ops) ≡ 8 + length (flat_map record_of ops)
 spelling_length ops = omega (arith, length-append magic (flat_map record_of ops), magic_length)
 
-all_push : (ops : List Operation) (op : Operation) → AllByRecursion HasRecord ops → HasRecord op → AllByRecursion HasRecord (ops ++ op ∷ [])
+pub all_push : (ops : List Operation) (op : Operation) → AllByRecursion HasRecord ops → HasRecord op → AllByRecursion HasRecord (ops ++ op ∷ [])
 all_push [] op h has = (has, tt)
 all_push (q ∷ ops) op h has = (h.0, all_push ops op h.1 has)
 
@@ -109,15 +107,7 @@ last_has : (ops : List Operation) (op : Operation) → AllByRecursion HasRecord 
 last_has [] op h = h.0
 last_has (q ∷ ops) op h = last_has ops op h.1
 
--- ---- what is read of known bytes
-
-known : (a b : Option (List ℕ)) (s : List ℕ) (P : List ℕ → Type 0) → Consumes a b s → ((rest : List ℕ) → b ≡ Some rest → (bytes : List ℕ) → bytes ≡ s ++ rest → P bytes) → IfSome a P
-known None b s P h f = tt
-known (Some xs) None s P h f = absurd h
-known (Some xs) (Some ys) s P h f = f ys refl xs h
-
-at_end : (b : Option (List ℕ)) (rest : List ℕ) → b ≡ Some rest → IsAtEnd b → rest ≡ []
-at_end b rest e h = subst IsAtEnd e h
+-- ---- what is read of bytes
 
 magic_ok : head_fault magic ≡ None
 unfolding magic file_name
@@ -157,33 +147,23 @@ reads_head bytes front rest fault parts short end found =
 
 -- ---- how reading a file ends
 
-none_is : (x : Fault × ℕ) → None ≡ Some x → ⊥
-none_is x e = cc
+pub has_read : (a b : ReaderState) (y : Bounds) (bytes : List ℕ) → Takes a b FILE_BOUNDS y bytes → HasRead a b bytes
+has_read a b y bytes h = record { consumed = h.consumed; within = omega (arith, h.room); failures = h.failures; calls = omega (arith, h.calls) }
 
-other_fault : (fault other : Fault) (at place : ℕ) → (fault ≡ other → ⊥) → ◌≡◌ {A = Option (Fault × ℕ)} (Some (fault, at)) (Some (other, place)) → ⊥
-other_fault fault other at place apart e = apart (some_pair_parts fault other at place e).0
+kinds_of_head : (a b c : Bool) (fault : Fault) → cond (not a) (Some BadMagic) (cond b (Some Truncated) (cond c None (Some BadVersion))) ≡ Some fault → fault ≡ NoMemory → ⊥
+kinds_of_head false b c fault e is = cc
+kinds_of_head true true c fault e is = cc
+kinds_of_head true false true fault e is = cc
+kinds_of_head true false false fault e is = cc
 
-kinds_of_head : (a b c : Bool) (fault : Fault) → cond (not a) (Some BadMagic) (cond b (Some Truncated) (cond c None (Some BadVersion))) ≡ Some fault → (fault ≡ NoMemory → ⊥) × (fault ≡ ReadFault → ⊥)
-kinds_of_head false b c fault e = (λ is. cc, λ is. cc)
-kinds_of_head true true c fault e = (λ is. cc, λ is. cc)
-kinds_of_head true false true fault e = (λ is. cc, λ is. cc)
-kinds_of_head true false false fault e = (λ is. cc, λ is. cc)
-
--- the fault of the first eight bytes is neither want of memory nor a failed read
-head_kinds : (front : List ℕ) (fault : Fault) → head_fault front ≡ Some fault → (fault ≡ NoMemory → ⊥) × (fault ≡ ReadFault → ⊥)
-head_kinds front fault e = kinds_of_head (bytes_eq (take 7 front) (take (length front) file_name)) (nat_lt (length front) 8) (bytes_eq front magic) fault e
+-- the fault of the first eight bytes isn't want of memory
+not_memory : (front : List ℕ) (fault : Fault) → head_fault front ≡ Some fault → fault ≡ NoMemory → ⊥
+not_memory front fault e = kinds_of_head (bytes_eq (take 7 front) (take (length front) file_name)) (nat_lt (length front) 8) (bytes_eq front magic) fault e
 
 pub ends_whole : (a b c : ReaderState) (y z : Bounds) (ops : List Operation) (offsets : List ℕ) → Takes a b FILE_BOUNDS y (spelling ops) → AreInFile ops → offsets ≡ offsets_from 8 ops → AtEnd b c y z → ReadsFile a c ops offsets None
 ends_whole a b c y z ops offsets h are off e =
-    let all = takes_then a b c FILE_BOUNDS y z (spelling ops) [] h e.0 in
-    inl (
-      all.failures,
-      omega (arith, all.calls),
-      λ place found. none_is (ReadFault, place) found,
-      known a.left c.left (spelling ops ++ []) (λ bytes. Reads bytes ops offsets None) all.consumed (λ rest is bytes parts.
-          let none = at_end c.left rest is e.1 in
-          reads_records bytes ops offsets None [] (parts ∙ ap (λ v. (spelling ops ++ []) ++ v) none ∙ append-nil (spelling ops ++ [])) are off refl),
-    )
+    let bytes = spelling ops ++ [] in
+    inl (bytes, has_read a c z bytes (takes_then a b c FILE_BOUNDS y z (spelling ops) [] h e.0), inl (e.1, reads_records bytes ops offsets None [] refl are off refl))
 
 pub ends_fault : (a b c : ReaderState) (y z : Bounds) (ops : List Operation) (offsets : List ℕ) (fault : Fault) (at : ℕ) → Takes a b FILE_BOUNDS y (spelling ops) → AreInFile ops → offsets ≡ offsets_from 8 ops → Fails b c y z fault
     → (fault ≡ NoMemory → ⊥) → at ≡ length (spelling ops) → ReadsFile a c ops offsets (Some (fault, at))
@@ -192,38 +172,32 @@ ends_fault a b c y z ops offsets fault at h are off fails other place = by fails
     taken : List ℕ
     taken = fails.0
 
+    bytes : List ℕ
+    bytes = spelling ops ++ taken
+
     truncated : (fault ≡ Truncated) × Takes b c y z taken × IsAtEnd c.left × (0 < length taken) × EndsEarly taken → ReadsFile a c ops offsets (Some (fault, at))
-    truncated t =
-        let all = takes_then a b c FILE_BOUNDS y z (spelling ops) taken h t.1 in
-        inl (
-          all.failures,
-          omega (arith, all.calls),
-          λ place found. other_fault fault ReadFault at place (λ same. cc (same, t.0)) found,
-          known a.left c.left (spelling ops ++ taken) (λ bytes. Reads bytes ops offsets (Some (fault, at))) all.consumed (λ rest is bytes parts.
-              let none = at_end c.left rest is t.2 in
-              reads_records bytes ops offsets (Some (fault, at)) taken (parts ∙ ap (λ v. (spelling ops ++ taken) ++ v) none ∙ append-nil (spelling ops ++ taken)) are off (place, inl (t.0, (t.3, t.4)))),
-        )
+    truncated t = inl (
+      bytes,
+      has_read a c z bytes (takes_then a b c FILE_BOUNDS y z (spelling ops) taken h t.1),
+      inl (t.2, reads_records bytes ops offsets (Some (fault, at)) taken refl are off (place, inl (t.0, (t.3, t.4)))),
+    )
 
     broken : (fault ≡ BadRecord) × Takes b c y z taken × HasNoRecord taken → ReadsFile a c ops offsets (Some (fault, at))
-    broken t =
-        let all = takes_then a b c FILE_BOUNDS y z (spelling ops) taken h t.1 in
-        inl (
-          all.failures,
-          omega (arith, all.calls),
-          λ place found. other_fault fault ReadFault at place (λ same. cc (same, t.0)) found,
-          known a.left c.left (spelling ops ++ taken) (λ bytes. Reads bytes ops offsets (Some (fault, at))) all.consumed (λ rest is bytes parts.
-              reads_records bytes ops offsets (Some (fault, at)) (taken ++ rest) (parts ∙ append_assoc (spelling ops) taken rest) are off (
-                place,
-                inr (
-                  t.0,
-                  record {
-                    some = omega (arith, t.2.some, length-append taken rest);
-                    whole = t.2.whole rest;
-                    none = λ op more next e. t.2.none op rest more (last_has ops op next.records) e;
-                  },
-                ),
-              )),
-        )
+    broken t = inl (
+      bytes,
+      has_read a c z bytes (takes_then a b c FILE_BOUNDS y z (spelling ops) taken h t.1),
+      inr (λ rest. reads_records (bytes ++ rest) ops offsets (Some (fault, at)) (taken ++ rest) (append_assoc (spelling ops) taken rest) are off (
+        place,
+        inr (
+          t.0,
+          record {
+            some = omega (arith, t.2.some, length-append taken rest);
+            whole = t.2.whole rest;
+            none = λ op more next e. t.2.none op rest more (last_has ops op next.records) e;
+          },
+        ),
+      )),
+    )
 
     by : ((fault ≡ NoMemory) × Takes b c y z taken)
         ⊎ (((fault ≡ Truncated) × Takes b c y z taken × IsAtEnd c.left × (0 < length taken) × EndsEarly taken)
@@ -238,25 +212,23 @@ ends_fault a b c y z ops offsets fault at h are off fails other place = by fails
 pub ends_unrisen : (a b c : ReaderState) (y z : Bounds) (ops : List Operation) (offsets : List ℕ) (op : Operation) (at : ℕ) → Takes a b FILE_BOUNDS y (spelling ops) → AreInFile ops → offsets ≡ offsets_from 8 ops → Takes b c y z (record_of op) → HasRecord op
     → may_follow (slice_get ops (length ops - 1)) op ≡ false → at ≡ length (spelling ops) → ReadsFile a c ops offsets (Some (BadRecord, at))
 ends_unrisen a b c y z ops offsets op at h are off t has out place =
-    let all = takes_then a b c FILE_BOUNDS y z (spelling ops) (record_of op) h t in
+    let bytes = spelling ops ++ record_of op in
     inl (
-      all.failures,
-      omega (arith, all.calls),
-      λ place found. other_fault BadRecord ReadFault at place (λ same. cc) found,
-      known a.left c.left (spelling ops ++ record_of op) (λ bytes. Reads bytes ops offsets (Some (BadRecord, at))) all.consumed (λ rest is bytes parts.
-          reads_records bytes ops offsets (Some (BadRecord, at)) (record_of op ++ rest) (parts ∙ append_assoc (spelling ops) (record_of op) rest) are off (
-            place,
-            inr (
-              refl,
-              record {
-                some = record_some op rest;
-                whole = is_whole op rest has;
-                none = λ other more next e.
-                    let same = same_record op other rest more has (last_has ops other next.records) e in
-                    false≢true (sym out ∙ ap (λ o. may_follow (slice_get ops (length ops - 1)) o) same.0 ∙ rising_last ops other next.rising);
-              },
-            ),
-          )),
+      bytes,
+      has_read a c z bytes (takes_then a b c FILE_BOUNDS y z (spelling ops) (record_of op) h t),
+      inr (λ rest. reads_records (bytes ++ rest) ops offsets (Some (BadRecord, at)) (record_of op ++ rest) (append_assoc (spelling ops) (record_of op) rest) are off (
+        place,
+        inr (
+          refl,
+          record {
+            some = record_some op rest;
+            whole = is_whole op rest has;
+            none = λ other more next e.
+                let same = same_record op other rest more has (last_has ops other next.records) e in
+                false≢true (sym out ∙ ap (λ o. may_follow (slice_get ops (length ops - 1)) o) same.0 ∙ rising_last ops other next.rising);
+          },
+        ),
+      )),
     )
 
 pub ends_head : (a b : ReaderState) (y : Bounds) (fault : Fault) → (bytes : List ℕ) × (((fault ≡ NoMemory) × Takes a b FILE_BOUNDS y bytes)
@@ -267,23 +239,40 @@ ends_head a b y fault gets other = by gets.1
     bytes : List ℕ
     bytes = gets.0
 
+    told : head_fault bytes ≡ Some fault → length bytes ≤ 8 → (length bytes < 8 → IsAtEnd b.left) → IsTold b.left bytes [] [] (Some (fault, 0))
+    told found short end = elim (cases_lt (length bytes) 8) [
+      | inl lt ↦ inl (end lt, reads_head bytes bytes [] fault (sym (append-nil bytes)) short (λ less. refl) found)
+      | inr le ↦ inr (λ rest. reads_head (bytes ++ rest) bytes rest fault refl short (λ lt. absurd (omega (arith, le, lt))) found)
+    ]
+
     by : ((fault ≡ NoMemory) × Takes a b FILE_BOUNDS y bytes)
         ⊎ (((head_fault bytes ≡ Some fault) × Takes a b FILE_BOUNDS y bytes × (length bytes ≤ 8) × (length bytes < 8 → IsAtEnd b.left))
         ⊎ ((fault ≡ ReadFault) × IsStopped a b FILE_BOUNDS bytes × (length bytes < 8))) → ReadsFile a b [] [] (Some (fault, 0))
     by (inl memory) = absurd (other memory.0)
-    by (inr (inl t)) = inl (
-      t.1.failures,
-      omega (arith, t.1.calls),
-      λ place found. other_fault fault ReadFault 0 place (head_kinds bytes fault t.0).1 found,
-      known a.left b.left bytes (λ all. Reads all [] [] (Some (fault, 0))) t.1.consumed (λ rest is all parts.
-          reads_head all bytes rest fault parts t.2 (λ lt. at_end b.left rest is (t.3 lt)) t.0),
-    )
+    by (inr (inl t)) = inl (bytes, has_read a b y bytes t.1, told t.0 t.2 t.3)
     by (inr (inr t)) = inr (0, bytes, ap (λ f. Some (f, 0)) t.0, inl (t.2, refl, refl, refl), t.1)
+
+-- ---- an offset for each operation
+
+offsets_length : (at : ℕ) (ops : List Operation) → length (offsets_from at ops) ≡ length ops
+offsets_length at [] = refl
+offsets_length at (op ∷ ops) = ap suc (offsets_length (at + length (record_of op)) ops)
+
+reads_length : (bytes : List ℕ) (ops : List Operation) (offsets : List ℕ) (fault : Option (Fault × ℕ)) → Reads bytes ops offsets fault → length offsets ≡ length ops
+reads_length bytes ops offsets fault h = by (head_fault (take 8 bytes)) h
+  where
+    by : (found : Option Fault) → ReadsAs found bytes ops offsets fault → length offsets ≡ length ops
+    by (Some found) r = ap length r.1 ∙ sym (ap length r.0)
+    by None r = ap length r.3 ∙ offsets_length 8 ops
+
+pub offset_each : (a b : ReaderState) (ops : List Operation) (offsets : List ℕ) (fault : Option (Fault × ℕ)) → ReadsFile a b ops offsets fault → length offsets ≡ length ops
+offset_each a b ops offsets fault (inl h) = elim h.2 [ inl t ↦ reads_length h.0 ops offsets fault t.1 | inr f ↦ reads_length (h.0 ++ []) ops offsets fault (f []) ]
+offset_each a b ops offsets fault (inr h) = elim h.3 [ inl s ↦ ap length s.2 ∙ sym (ap length s.1) | inr s ↦ ap length s.3 ∙ offsets_length 8 ops ]
 
 -- ---- want of memory
 
-pub memory_counts : (a b c : ReaderState) (y z : Bounds) (taken : List ℕ) (fault : Fault) → Takes a b FILE_BOUNDS y taken → Fails b c y z fault → fault ≡ NoMemory → (c.failures ≡ a.failures) × (c.calls ≤ a.calls + MOST_READS)
-memory_counts a b c y z taken fault h fails is = by fails.1
+pub memory_in : (a b c : ReaderState) (y z : Bounds) (taken : List ℕ) (fault : Fault) → Takes a b FILE_BOUNDS y taken → Fails b c y z fault → fault ≡ NoMemory → LacksMemory a c
+memory_in a b c y z taken fault h fails is = by fails.1
   where
     more : List ℕ
     more = fails.0
@@ -291,28 +280,28 @@ memory_counts a b c y z taken fault h fails is = by fails.1
     by : ((fault ≡ NoMemory) × Takes b c y z more)
         ⊎ (((fault ≡ Truncated) × Takes b c y z more × IsAtEnd c.left × (0 < length more) × EndsEarly more)
         ⊎ (((fault ≡ BadRecord) × Takes b c y z more × HasNoRecord more)
-        ⊎ ((fault ≡ ReadFault) × IsStopped b c y more × EndsEarly more))) → (c.failures ≡ a.failures) × (c.calls ≤ a.calls + MOST_READS)
-    by (inl t) = (t.1.failures ∙ h.failures, omega (arith, t.1.calls, h.calls))
+        ⊎ ((fault ≡ ReadFault) × IsStopped b c y more × EndsEarly more))) → LacksMemory a c
+    by (inl t) = (taken ++ more, has_read a c z (taken ++ more) (takes_then a b c FILE_BOUNDS y z taken more h t.1))
     by (inr (inl t)) = absurd (cc (is, t.0))
     by (inr (inr (inl t))) = absurd (cc (is, t.0))
     by (inr (inr (inr t))) = absurd (cc (is, t.0))
 
-pub took_counts : (a c : ReaderState) (z : Bounds) (taken : List ℕ) → Takes a c FILE_BOUNDS z taken → (c.failures ≡ a.failures) × (c.calls ≤ a.calls + MOST_READS)
-took_counts a c z taken h = (h.failures, omega (arith, h.calls))
+pub memory_after : (a b c : ReaderState) (y z : Bounds) (taken more : List ℕ) → Takes a b FILE_BOUNDS y taken → Takes b c y z more → LacksMemory a c
+memory_after a b c y z taken more h k = (taken ++ more, has_read a c z (taken ++ more) (takes_then a b c FILE_BOUNDS y z taken more h k))
 
-pub head_counts : (a b : ReaderState) (y : Bounds) (fault : Fault) → GetsHead a b FILE_BOUNDS y (Err fault) → fault ≡ NoMemory → (b.failures ≡ a.failures) × (b.calls ≤ a.calls + MOST_READS)
-head_counts a b y fault gets is = by gets.1
+pub memory_first : (a b : ReaderState) (y : Bounds) (fault : Fault) → GetsHead a b FILE_BOUNDS y (Err fault) → fault ≡ NoMemory → LacksMemory a b
+memory_first a b y fault gets is = by gets.1
   where
     bytes : List ℕ
     bytes = gets.0
 
     other : head_fault bytes ≡ Some fault → ⊥
-    other e = (head_kinds bytes fault e).0 is
+    other e = not_memory bytes fault e is
 
     by : ((fault ≡ NoMemory) × Takes a b FILE_BOUNDS y bytes)
         ⊎ (((head_fault bytes ≡ Some fault) × Takes a b FILE_BOUNDS y bytes × (length bytes ≤ 8) × (length bytes < 8 → IsAtEnd b.left))
-        ⊎ ((fault ≡ ReadFault) × IsStopped a b FILE_BOUNDS bytes × (length bytes < 8))) → (b.failures ≡ a.failures) × (b.calls ≤ a.calls + MOST_READS)
-    by (inl t) = took_counts a b y bytes t.1
+        ⊎ ((fault ≡ ReadFault) × IsStopped a b FILE_BOUNDS bytes × (length bytes < 8))) → LacksMemory a b
+    by (inl t) = (bytes, has_read a b y bytes t.1)
     by (inr (inl t)) = absurd (other t.0)
     by (inr (inr t)) = absurd (cc (is, t.0))
 
@@ -323,10 +312,10 @@ pub ended_reads : {R : Type 0} (result : Result R Fault) (view : R → List Oper
 ended_reads (Ok r) view places found a c ops offsets fault at v p f reads = rw (v, p, f.0) (reads f.1)
 ended_reads (Err refused) view places found a c ops offsets fault at v p f reads = tt
 
-pub ended_counts : {R : Type 0} (result : Result R Fault) (a c : ReaderState) (fault : Fault) → IfErr result (λ refused. (refused ≡ NoMemory) × (fault ≡ NoMemory)) → (fault ≡ NoMemory → (c.failures ≡ a.failures) × (c.calls ≤ a.calls + MOST_READS))
-    → IfErr result (λ refused. (refused ≡ NoMemory) × (c.failures ≡ a.failures) × (c.calls ≤ a.calls + MOST_READS))
-ended_counts (Ok r) a c fault h counts = tt
-ended_counts (Err refused) a c fault h counts = (h.0, (counts h.1).0, (counts h.1).1)
+pub ended_memory : {R : Type 0} (result : Result R Fault) (a c : ReaderState) (fault : Fault) → IfErr result (λ refused. (refused ≡ NoMemory) × (fault ≡ NoMemory)) → (fault ≡ NoMemory → LacksMemory a c)
+    → IfErr result (λ refused. (refused ≡ NoMemory) × LacksMemory a c)
+ended_memory (Ok r) a c fault h lacks = tt
+ended_memory (Err refused) a c fault h lacks = (h.0, lacks h.1)
 
 -- one more record is read
 pub records_more : (a b c : ReaderState) (y z : Bounds) (ops : List Operation) (offsets : List ℕ) (op : Operation) (at : ℕ) → Takes a b FILE_BOUNDS y (spelling ops) → AreInFile ops → offsets ≡ offsets_from 8 ops → Takes b c y z (record_of op) → HasRecord op

@@ -1,5 +1,5 @@
 -- Bytes taken from a reader, within the bounds of a file.
-use Rattle.std.specs.Prelude.{◌≡◌, ◌⊎◌, ℕ, ◌+◌, ◌<◌, ◌≤◌, List, [], ◌∷◌, ◌++◌, length, take, Option, Some, Result, MatchResult, MatchOption, IfSome}
+use Rattle.std.specs.Prelude.{◌≡◌, ◌⊎◌, ℕ, ◌+◌, ◌<◌, ◌≤◌, List, [], ◌∷◌, ◌++◌, length, take, Option, Some, Result, MatchResult, MatchOption}
 use Rattle.std.specs.Int.{w32}
 use Rattle.std.specs.Io.KnownBytes.{Consumes, IsAtEnd}
 use Rattle.rt_stamps.specs.declared.limits.TheConstants.{FEWEST_RECORD_BYTES, MOST_RECORD_BYTES, MOST_BYTES, MOST_READS}
@@ -86,9 +86,24 @@ GetsHead old new had has result = MatchResult result
 abbrev pub FILE_BOUNDS : Bounds
 FILE_BOUNDS = record { bytes = MOST_BYTES; reads = MOST_READS }
 
--- The bytes that were left are read, where they are known, no read failed, and the fault is of the bytes. Or reading was
--- stopped before any fault: a read failed, or a bound was passed.
+-- These bytes of a file were read, within its bounds, and no read failed.
+pub record HasRead (old new : ReaderState) (bytes : List ℕ) : Type 0 where
+  pub consumed : Consumes old.left new.left bytes
+  pub within : length bytes ≤ MOST_BYTES
+  pub failures : new.failures ≡ old.failures
+  pub calls : new.calls ≤ old.calls + MOST_READS
+
+-- A file that begins with these bytes is read so: it has no others, or whatever others follow.
+abbrev pub IsTold : Option (List ℕ) → List ℕ → List Operation → List ℕ → Option (Fault × ℕ) → Type 0
+IsTold left bytes ops offsets fault = (IsAtEnd left × Reads bytes ops offsets fault) ⊎ ((more : List ℕ) → Reads (bytes ++ more) ops offsets fault)
+
+-- Some bytes were read, and what is told is what they are read as. They are those that were left, where these are known.
+-- Or reading was stopped before any fault: a read failed, or a bound was passed.
 abbrev pub ReadsFile : ReaderState → ReaderState → List Operation → List ℕ → Option (Fault × ℕ) → Type 0
 ReadsFile old new ops offsets fault =
-    ((new.failures ≡ old.failures) × (new.calls ≤ old.calls + MOST_READS) × ((at : ℕ) → fault ≡ Some (ReadFault, at) → ⊥) × IfSome old.left (λ bytes. Reads bytes ops offsets fault))
+    ((bytes : List ℕ) × HasRead old new bytes × IsTold new.left bytes ops offsets fault)
     ⊎ ((at : ℕ) × (front : List ℕ) × (fault ≡ Some (ReadFault, at)) × Stops front ops offsets at × IsStopped old new FILE_BOUNDS front)
+
+-- Memory was wanting after some bytes, and before their end or a fault.
+abbrev pub LacksMemory : ReaderState → ReaderState → Type 0
+LacksMemory old new = (bytes : List ℕ) × HasRead old new bytes

@@ -1,6 +1,6 @@
 -- Sets of operations, logs, and the join of two logs.
 -- A set of operations is the list of them by falling stamp, the newest first.
-use Rattle.std.specs.Prelude.{◌≡◌, ℕ, Bool, true, false, not, ◌&&◌, ◌||◌, ◌==◌, nat_lt, nat_le, max, ◌⊎◌, List, [], ◌∷◌, Result, Ok, Err, if◌then◌else◌}
+use Rattle.std.specs.Prelude.{◌≡◌, ◌↔◌, ℕ, Bool, true, false, not, ◌&&◌, ◌||◌, ◌==◌, nat_lt, nat_le, max, ◌⊎◌, List, [], ◌∷◌, Result, Ok, Err, if◌then◌else◌}
 use Rattle.std.specs.List.{AllByRecursion, list_any}
 use Rattle.std.specs.Str.{bytes_eq}
 use Rattle.std.specs.Cmp.Lexicographic.{pointwise}
@@ -86,6 +86,15 @@ union (op ∷ set) other = added op (union set other)
 abbrev pub has_clash : List Operation → Bool
 has_clash [] = false
 has_clash (op ∷ older) = list_any (clash op) older || has_clash older
+
+-- a log that has just the operations of both sets
+pub record IsUnion (one other set : List Operation) : Type 0 where
+  pub log : IsLog set
+  pub members : (x : Operation) → Has set x ↔ (Has one x ⊎ Has other x)
+
+-- two operations of the two sets clash
+abbrev pub HasClashOf : List Operation → List Operation → Type 0
+HasClashOf one other = (p : Operation) × (q : Operation) × (Has one p ⊎ Has other p) × (Has one q ⊎ Has other q) × (clash p q ≡ true)
 
 -- the join of two logs: their union, if that is a log
 abbrev pub joined : List Operation → List Operation → Result (List Operation) Fault

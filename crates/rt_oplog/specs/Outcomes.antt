@@ -1,5 +1,5 @@
 -- What the calls of a log answer and leave.
-use Rattle.std.specs.Prelude.{◌≡◌, ◌↔◌, ℕ, ◌+◌, ◌≤◌, ◌⊎◌, List, take, slice_get, Some, Result, Ok, Err, MatchResult}
+use Rattle.std.specs.Prelude.{◌≡◌, ◌↔◌, ℕ, ◌+◌, ◌<◌, ◌≤◌, ◌⊎◌, List, length, take, slice_get, Some, Result, Ok, Err, MatchResult}
 use Rattle.rt_stamps.specs.declared.fault.Fault.{Fault}
 use Rattle.rt_stamps.specs.declared.fault.Fault.TheVariants.{NoMemory}
 use Rattle.rt_oplog.specs.Operations.{Operation}
@@ -31,11 +31,13 @@ pub record IsFirstRefused (ops : List Operation) (place : ℕ) (fault : Fault) :
   pub before : IsLogOf (take place ops) log
   pub refused : pushed op log ≡ Err fault
 
--- Operations have a log. Or one of them is the first that is refused. Or memory is wanting.
+-- Operations have a log. Or one of them is the first that is refused. Or memory is wanting for one of them, and those
+-- before it have a log.
 abbrev pub MakesLog : List Operation → Result Log Refused → Type 0
 MakesLog ops result = MatchResult result
     (λ log. IsLogOf ops log.operations)
-    (λ refused. IsFirstRefused ops refused.place refused.fault ⊎ (refused.fault ≡ NoMemory))
+    (λ refused. IsFirstRefused ops refused.place refused.fault
+    ⊎ ((refused.fault ≡ NoMemory) × (refused.place < length ops) × ((log : List Operation) × IsLogOf (take refused.place ops) log)))
 
 -- A join gives what `joined` says, or want of memory.
 abbrev pub Joins : List Operation → List Operation → Result Log Fault → Type 0

@@ -1,12 +1,12 @@
 // The operation file.
-ghost use Rattle.std.specs.Prelude.{◌≡◌, ◌+◌, ◌-◌, ◌≤◌, ◌⊎◌, length, take, reverse, slice_get, Some, IfOk, IfErr, MatchResult};
+ghost use Rattle.std.specs.Prelude.{◌≡◌, ◌+◌, ◌-◌, ◌≤◌, ◌⊎◌, length, take, reverse, slice_get, Some, None, IfOk, IfErr, OnOk, MatchResult};
 ghost use Rattle.std.specs.Str.{bytes_eq};
 ghost use Rattle.rt_stamps.specs.declared.fault.Fault.TheVariants.{NoMemory, WriteFault};
 ghost use Rattle.rt_stamps.specs.Source.{failures_of};
 ghost use Rattle.rt_stamps.specs.Written.{Wrote};
 ghost use Rattle.rt_oplog.specs.File.{spelling, magic};
-ghost use Rattle.rt_oplog.specs.Intake.{GetsHead, ReadsFile};
-ghost use Rattle.rt_oplog.specs.Reading.{file_name, head_fault, may_follow};
+ghost use Rattle.rt_oplog.specs.Intake.{GetsHead, ReadsFile, LacksMemory};
+ghost use Rattle.rt_oplog.specs.Reading.{file_name, head_fault, may_follow, offsets_from, Reads};
 
 use crate::intake::{Bounds, gather, next_op};
 use crate::spell::spell;
@@ -40,10 +40,11 @@ fn write_magic<W: Sink>(out: &mut W) -> Result<(), Fault>
 }
 
 /// Writes the file of a log's operations by rising stamp, one record after the other, through a
-/// buffer of a record. `NoMemory` where the buffer could not grow, `WriteFault` where a write failed;
-/// a front of the file was then written.
+/// buffer of a record. What was written is read back as these operations. `NoMemory` where the buffer
+/// could not grow, `WriteFault` where a write failed; a front of the file was then written.
 pub fn write_file<W: Sink>(alloc: Global, log: &OpLog, out: &mut W) -> Result<(), Fault>
     ensures wrote { Wrote (W.contents out.old) (W.contents out.new) result (spelling (reverse log.now.operations)) }
+    ensures read_back { OnOk result (Reads (spelling (reverse log.now.operations)) (reverse log.now.operations) (offsets_from 8 (reverse log.now.operations)) None) }
     ensures failures { MatchResult result
         (λ _. W.failures out.new ≡ W.failures out.old)
         (λ fault. ((fault ≡ NoMemory) × (W.failures out.new ≡ W.failures out.old)) ⊎ ((fault ≡ WriteFault) × (W.failures out.new ≡ W.failures out.old + 1))) }
@@ -151,7 +152,9 @@ pub fn read_file<R: Source>(alloc: Global, reader: &mut R) -> Result<Reading, Fa
         (record { calls = R.calls reader.old; failures = R.failures reader.old; left = R.remaining reader.old })
         (record { calls = R.calls reader.new; failures = R.failures reader.new; left = R.remaining reader.new })
         reading.ops.items reading.offsets.items reading.fault) }
-    ensures memory { IfErr result (λ fault. (fault ≡ NoMemory) × (R.failures reader.new ≡ R.failures reader.old) × (R.calls reader.new ≤ R.calls reader.old + MOST_READS)) }
+    ensures memory { IfErr result (λ fault. (fault ≡ NoMemory) × LacksMemory
+        (record { calls = R.calls reader.old; failures = R.failures reader.old; left = R.remaining reader.old })
+        (record { calls = R.calls reader.new; failures = R.failures reader.new; left = R.remaining reader.new })) }
 {
     let mut ops = Vec::new(alloc);
     let mut offsets = Vec::new(alloc);

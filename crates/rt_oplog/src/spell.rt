@@ -5,7 +5,7 @@ ghost use Rattle.std.specs.Int.{w16, w32, w64};
 ghost use Rattle.rt_stamps.specs.declared.fault.Fault.TheVariants.{NoMemory};
 ghost use Rattle.rt_stamps.specs.declared.limits.TheConstants.{MOST_RECORD_BYTES};
 ghost use Rattle.rt_oplog.specs.Edits.{body_of};
-ghost use Rattle.rt_oplog.specs.File.{number, stamp_bytes, span_bytes, spans_bytes, name_bytes, tags_bytes, body_bytes, kind_of, content_of, record_of};
+ghost use Rattle.rt_oplog.specs.File.{number, stamp_bytes, span_bytes, spans_bytes, name_bytes, tags_bytes, body_bytes, kind_of, content_of, record_of, StampFits, SpanFits, BodyFits, HasRecord};
 ghost use Rattle.rt_oplog.specs.Rules.{keeps_rules};
 
 use crate::fields::LENGTH_BYTES;
@@ -49,6 +49,7 @@ fn push_u64(out: &mut Vec<u8>, n: u64) -> Result<(), Fault>
 #[tactic(auto, unfolding(crate::specs::File::stamp_bytes))]
 fn push_stamp(out: &mut Vec<u8>, stamp: Stamp) -> Result<(), Fault>
     ensures ok { OnOk result (out.new.items ≡ out.old.items ++ stamp_bytes stamp) }
+    ensures fits { StampFits stamp }
     ensures fault { IfErr result (λ fault. fault ≡ NoMemory) }
 {
     push_u64(out, stamp.count)?;
@@ -59,6 +60,7 @@ fn push_stamp(out: &mut Vec<u8>, stamp: Stamp) -> Result<(), Fault>
 #[tactic(auto, unfolding(crate::specs::File::span_bytes))]
 fn push_span(out: &mut Vec<u8>, span: Span) -> Result<(), Fault>
     ensures ok { OnOk result (out.new.items ≡ out.old.items ++ span_bytes span) }
+    ensures fits { SpanFits span }
     ensures fault { IfErr result (λ fault. fault ≡ NoMemory) }
 {
     push_u16(out, span.site)?;
@@ -71,6 +73,7 @@ fn push_span(out: &mut Vec<u8>, span: Span) -> Result<(), Fault>
 fn push_spans(out: &mut Vec<u8>, spans: &[Span]) -> Result<(), Fault>
     requires { length spans.now < 2 ^ 32 }
     ensures ok { OnOk result (out.new.items ≡ out.old.items ++ spans_bytes spans.now) }
+    ensures fits { OnOk result (AllByRecursion SpanFits spans.now) }
     ensures fault { IfErr result (λ fault. fault ≡ NoMemory) }
 {
     push_u32(out, spans.len() as u32)?;
@@ -118,6 +121,7 @@ fn push_text(out: &mut Vec<u8>, text: &[char]) -> Result<(), Fault>
 fn push_body(out: &mut Vec<u8>, edit: &Edit) -> Result<(), Fault>
     requires { keeps_rules (body_of edit.now) ≡ true }
     ensures ok { OnOk result (out.new.items ≡ out.old.items ++ body_bytes (body_of edit.now)) }
+    ensures fits { OnOk result (BodyFits (body_of edit.now)) }
     ensures fault { IfErr result (λ fault. fault ≡ NoMemory) }
 {
     match edit {
@@ -157,6 +161,7 @@ fn kind(edit: &Edit) -> u8
 #[tactic(auto, using(crate::proofs::Lengths::content_short))]
 fn push_content(out: &mut Vec<u8>, op: &Op) -> Result<(), Fault>
     ensures ok { OnOk result (out.new.items ≡ out.old.items ++ content_of op.now) }
+    ensures record { OnOk result (HasRecord op.now) }
     ensures short { length (content_of op.now) ≤ MOST_RECORD_BYTES }
     ensures fault { IfErr result (λ fault. fault ≡ NoMemory) }
 {
@@ -178,6 +183,7 @@ fn write_length(buffer: &mut [u8], n: u32)
 /// Makes a buffer the record of an operation. After want of memory it has some bytes.
 pub fn spell(buffer: &mut Vec<u8>, op: &Op) -> Result<(), Fault>
     ensures ok { OnOk result (buffer.new.items ≡ record_of op.now) }
+    ensures record { OnOk result (HasRecord op.now) }
     ensures fault { IfErr result (λ fault. fault ≡ NoMemory) }
 {
     buffer.clear();

@@ -12,7 +12,7 @@ use Rattle.rt_script.specs.declared.answer.Answer.{Answer}
 use Rattle.rt_script.specs.Run.{Ran, RanFront, RanUnwritten, Stream, Ends}
 use Rattle.rt_script.specs.Pieces.{kept, RanLines}
 use Rattle.rt_script.proofs.LinesLaws.{complete_append, rest_append, cut_rest}
-use Rattle.rt_script.proofs.RunLaws.{ran_none, ran_then, front_then, unwritten_then, unwritten_longer}
+use Rattle.rt_script.proofs.RunLaws.{ran_none, ran_then, front_then, unwritten_then, lines_append}
 
 -- a run goes on: what was read of the script, and that its complete lines were run
 pub record Goes {S : Type 0} (gives : S → List Word → Answer → S → Type 0) (old new : S) (script left before after : Stream) (pending : List ℕ) (room turns : ℕ) : Type 0 where
@@ -22,6 +22,8 @@ pub record Goes {S : Type 0} (gives : S → List Word → Answer → S → Type 
   pub rest : pending ≡ kept (rest_of read)
   pub bounded : length read + room ≡ MOST_BYTES
   pub calls : left.calls ≡ script.calls + turns
+  -- each read gave a byte
+  pub some : turns ≤ length read
   pub reads : left.failures ≡ script.failures
   pub writes : after.failures ≡ before.failures
 
@@ -50,6 +52,7 @@ goes_first gives s script out pending e = record {
   rest = e;
   bounded = omega arith;
   calls = omega arith;
+  some = omega arith;
   reads = refl;
   writes = refl;
 }
@@ -61,11 +64,11 @@ length_front n buf h = omega (arith, length-take n buf)
 -- a piece was read, and the lines that it completes were run
 pub goes_more : {S : Type 0} (gives : S → List Word → Answer → S → Type 0) (old mid new : S) (script middle left before between after : Stream) (kept_old kept_new : List ℕ) (n : ℕ) (buf : List ℕ) (room turns : ℕ)
     → Goes gives old mid script middle before between kept_old room turns
-    → Consumes middle.bytes left.bytes (take n buf) → n ≤ length buf → n ≤ room → left.calls ≡ middle.calls + 1 → left.failures ≡ middle.failures + 0
+    → Consumes middle.bytes left.bytes (take n buf) → n ≤ length buf → n ≤ room → n ≢ 0 → left.calls ≡ middle.calls + 1 → left.failures ≡ middle.failures + 0
     → ((rest : List ℕ) → cut rest ≡ ([], rest) → kept_old ≡ kept rest → Ran gives mid new between.bytes after.bytes (complete_of (rest ++ take n buf)) × (after.failures ≡ between.failures))
     → ((rest : List ℕ) → cut rest ≡ ([], rest) → kept_old ≡ kept rest → kept_new ≡ kept (rest_of (rest ++ take n buf)))
     → Goes gives old new script left before after kept_new (room - n) (turns + 1)
-goes_more gives old mid new script middle left before between after kept_old kept_new n buf room turns g eaten within fits calls failures ran rest =
+goes_more gives old mid new script middle left before between after kept_old kept_new n buf room turns g eaten within fits given calls failures ran rest =
     let piece = take n buf in
     let more = ran (rest_of g.read) (cut_rest g.read) g.rest in
     record {
@@ -75,6 +78,7 @@ goes_more gives old mid new script middle left before between after kept_old kep
       rest = rest (rest_of g.read) (cut_rest g.read) g.rest ∙ ap kept (sym (rest_append g.read piece));
       bounded = let b = g.bounded in omega (arith, length-append g.read piece, length_front n buf within);
       calls = let b = g.calls in omega arith;
+      some = let b = g.some in omega (arith, given, length-append g.read piece, length_front n buf within);
       reads = failures ∙ add-zero _ ∙ g.reads;
       writes = more.1 ∙ g.writes;
     }
@@ -107,14 +111,14 @@ write_not_memory e = cc
 -- the run ends with what was read before, since a read failed or a bound was passed
 ends_unread : {S : Type 0} (gives : S → List Word → Answer → S → Type 0) (old new : S) (script left before after : Stream) (read over : List ℕ)
     → Consumes script.bytes left.bytes (read ++ over) → length read ≤ MOST_BYTES → (over ≢ [] → length read ≡ MOST_BYTES) → left.calls ≤ script.calls + MOST_READS → Ran gives old new before.bytes after.bytes (complete_of read)
-    → ((left.failures ≡ script.failures + 1) ⊎ (over ≢ []) ⊎ (left.calls ≡ script.calls + MOST_READS))
+    → ((left.failures ≡ script.failures + 1) ⊎ (over ≢ []))
     → after.failures ≡ before.failures → Ends gives old new script left before after (Some ReadFault)
 ends_unread gives old new script left before after read over eaten few past reads ran why same = record {
   read = read;
   over = over;
   consumes = eaten;
   bounded = few;
-  past = past;
+  past = λ n. (refl, past n);
   reads_bounded = reads;
   whole = λ f. absurd (none_not ReadFault f);
   unread = λ f. ran;
@@ -146,20 +150,17 @@ ends_over gives old new script middle left before after pending n buf room turns
     let called = g.calls in
     let all : length g.read ≡ MOST_BYTES = omega arith in
     let over : take n buf ≢ [] = λ e. some (sym (length_front n buf within) ∙ ap length e) in
-    ends_unread gives old new script left before after g.read (take n buf) (consumes_then _ _ _ g.read (take n buf) g.consumes eaten) (omega arith) (λ n. all) (omega arith) g.ran (inr (inl over)) g.writes
+    ends_unread gives old new script left before after g.read (take n buf) (consumes_then _ _ _ g.read (take n buf) g.consumes eaten) (omega arith) (λ n. all) (omega arith) g.ran (inr over) g.writes
 
--- the bound of reads was reached
+-- the bound of reads isn't reached
 pub ends_turns : {S : Type 0} (gives : S → List Word → Answer → S → Type 0) (old new : S) (script left before after : Stream) (pending : List ℕ) (room turns : ℕ)
     → Goes gives old new script left before after pending room turns → turns ≡ MOST_READS → Ends gives old new script left before after (Some ReadFault)
-ends_turns gives old new script left before after pending room turns g all =
-    let bounded = g.bounded in
-    let called = g.calls in
-    let reads : left.calls ≡ script.calls + MOST_READS = omega arith in
-    ends_unread gives old new script left before after g.read [] (rw (append-nil g.read) g.consumes) (omega arith) (λ n. absurd (n refl)) (omega arith) g.ran (inr (inr reads)) g.writes
+ends_turns gives old new script left before after pending room turns g all = absurd (omega (arith, all, g.some, g.bounded))
 
 -- a write failed
 ends_unwritten : {S : Type 0} (gives : S → List Word → Answer → S → Type 0) (old new : S) (script left before after : Stream) (read : List ℕ)
-    → Consumes script.bytes left.bytes read → length read ≤ MOST_BYTES → left.calls ≤ script.calls + MOST_READS → RanUnwritten gives old new before.bytes after.bytes (lines_of read)
+    → Consumes script.bytes left.bytes read → length read ≤ MOST_BYTES → left.calls ≤ script.calls + MOST_READS
+    → RanUnwritten gives old new before.bytes after.bytes (complete_of read) ⊎ (IsAtEnd left.bytes × RanUnwritten gives old new before.bytes after.bytes (lines_of read))
     → after.failures ≡ before.failures + 1 → left.failures ≡ script.failures → Ends gives old new script left before after (Some WriteFault)
 ends_unwritten gives old new script left before after read eaten few reads ran why same = record {
   read = read;
@@ -181,7 +182,7 @@ ends_unwritten gives old new script left before after read eaten few reads ran w
 
 -- a line could not be stored
 ends_unstored : {S : Type 0} (gives : S → List Word → Answer → S → Type 0) (old new : S) (script left before after : Stream) (read : List ℕ)
-    → Consumes script.bytes left.bytes read → length read ≤ MOST_BYTES → left.calls ≤ script.calls + MOST_READS → RanFront gives old new before.bytes after.bytes (complete_of read)
+    → Consumes script.bytes left.bytes read → length read ≤ MOST_BYTES → left.calls ≤ script.calls + MOST_READS → RanFront gives old new before.bytes after.bytes (lines_of read)
     → after.failures ≡ before.failures → left.failures ≡ script.failures → Ends gives old new script left before after (Some NoMemory)
 ends_unstored gives old new script left before after read eaten few reads ran same same_read = record {
   read = read;
@@ -227,7 +228,7 @@ ends_complete gives old new script left before after read eaten few reads end ra
 pub ends_whole : {S : Type 0} (gives : S → List Word → Answer → S → Type 0) (old mid new : S) (script middle left before between after : Stream) (pending : List ℕ) (n : ℕ) (buf : List ℕ) (room turns : ℕ) (r : Result (Unit {0}) Fault)
     → Goes gives old mid script middle before between pending room turns → turns < MOST_READS
     → Consumes middle.bytes left.bytes (take n buf) → n ≡ 0 → IsAtEnd left.bytes → left.calls ≡ middle.calls + 1 → left.failures ≡ middle.failures + 0
-    → ((rest : List ℕ) → pending ≡ kept rest → RanLines gives mid new between.bytes after.bytes between.failures after.failures (last_of rest) r)
+    → ((rest : List ℕ) → pending ≡ kept rest → RanLines gives mid new between.bytes after.bytes between.failures after.failures (last_of rest) (last_of rest) r)
     → IfErr r (λ fault. fault ≡ WriteFault) → Ends gives old new script left before after (result_err r)
 ends_whole gives old mid new script middle left before between after pending n buf room turns (Ok x) g few eaten none end calls failures ran fault =
     let bounded = g.bounded in
@@ -241,14 +242,14 @@ ends_whole gives old mid new script middle left before between after pending n b
     elim (ran (rest_of g.read) g.rest) [
       | inl h ↦ absurd (memory_not_write (ap Is (sym h.0 ∙ fault)))
       | inr h ↦ rw fault (ends_unwritten gives old new script left before after g.read (rw (none, append-nil g.read) at (consumes_then _ _ _ g.read (take n buf) g.consumes eaten)) (omega arith) (omega arith)
-          (unwritten_then gives old mid new _ _ _ _ _ g.ran h.1) (h.2 ∙ ap (λ k. k + 1) g.writes) (failures ∙ add-zero _ ∙ g.reads))
+          (inr (end, unwritten_then gives old mid new _ _ _ _ _ g.ran h.1)) (h.2 ∙ ap (λ k. k + 1) g.writes) (failures ∙ add-zero _ ∙ g.reads))
     ]
 
 -- the run ends in a piece
 pub ends_stopped : {S : Type 0} (gives : S → List Word → Answer → S → Type 0) (old mid new : S) (script middle left before between after : Stream) (pending : List ℕ) (n : ℕ) (buf : List ℕ) (room turns : ℕ) (fault : Fault)
     → Goes gives old mid script middle before between pending room turns → turns < MOST_READS
     → Consumes middle.bytes left.bytes (take n buf) → n ≤ length buf → n ≤ room → left.calls ≡ middle.calls + 1 → left.failures ≡ middle.failures + 0
-    → ((rest : List ℕ) → cut rest ≡ ([], rest) → pending ≡ kept rest → RanLines gives mid new between.bytes after.bytes between.failures after.failures (complete_of (rest ++ take n buf)) (Err fault))
+    → ((rest : List ℕ) → cut rest ≡ ([], rest) → pending ≡ kept rest → RanLines gives mid new between.bytes after.bytes between.failures after.failures (complete_of (rest ++ take n buf)) (lines_of (rest ++ take n buf)) (Err fault))
     → Ends gives old new script left before after (Some fault)
 ends_stopped gives old mid new script middle left before between after pending n buf room turns fault g few eaten within fits calls failures ran =
     let piece = take n buf in
@@ -260,8 +261,8 @@ ends_stopped gives old mid new script middle left before between after pending n
     let same = failures ∙ add-zero _ ∙ g.reads in
     elim (ran (rest_of g.read) (cut_rest g.read) g.rest) [
       | inl h ↦ rw h.0 (ends_unstored gives old new script left before after (g.read ++ piece) read short reads
-          (rw (complete_append g.read piece) (front_then gives old mid new _ _ _ _ _ g.ran h.1)) (h.2 ∙ g.writes) same)
+          (rw (lines_append g.read piece) (front_then gives old mid new _ _ _ _ _ g.ran h.1)) (h.2 ∙ g.writes) same)
       | inr h ↦ rw h.0 (ends_unwritten gives old new script left before after (g.read ++ piece) read short reads
-          (unwritten_longer gives old new _ _ (complete_of (g.read ++ piece)) (last_of (rest_of (g.read ++ piece))) (rw (complete_append g.read piece) (unwritten_then gives old mid new _ _ _ _ _ g.ran h.1)))
+          (inl (rw (complete_append g.read piece) (unwritten_then gives old mid new _ _ _ _ _ g.ran h.1)))
           (h.2 ∙ ap (λ k. k + 1) g.writes) same)
     ]

@@ -72,6 +72,16 @@ cut_rest (c ∷ xs) = cut_rest_one c (cut xs) (eqb c 10) refl (cut_rest xs)
 pub rest_append : (xs ys : List ℕ) → rest_of (xs ++ ys) ≡ rest_of (rest_of xs ++ ys)
 rest_append xs ys = ap (λ p. p.1) (cut_append xs ys)
 
+-- only nothing has neither a line nor a rest
+pub cut_empty : (xs : List ℕ) → cut xs ≡ ([], []) → xs ≡ []
+cut_empty [] e = refl
+cut_empty (c ∷ xs) e = absurd (go (eqb c 10) (cut xs) e)
+  where
+    go : (b : Bool) (p : List (List ℕ) × List ℕ) → cond b ([] ∷ p.0, p.1) (before_all c p.0 p.1) ≡ ([], []) → ⊥
+    go true p e = cc (ap (λ q. q.0) e)
+    go false ([], rest) e = cc (ap (λ q. q.1) e)
+    go false (line ∷ lines, rest) e = cc (ap (λ q. q.0) e)
+
 -- a newline completes the line
 pub complete_newline : (xs : List ℕ) → complete_of (xs ++ 10 ∷ []) ≡ complete_of xs ++ without_return (rest_of xs) ∷ []
 complete_newline xs = ap (λ p. map without_return p.0) (cut_newline xs) ∙ map-append without_return (cut xs).0 (rest_of xs ∷ [])

@@ -1,6 +1,6 @@
 -- Runs of lines, one after the other.
-use Rattle.std.proofs.Common.{IfErr, ◌≢◌, zero, suc, ◌==◌, ◌≡◌, inl, inr, ℕ, ◌+◌, ◌<◌, ◌≤◌, ◌&&◌, not, Bool, true, false, cond, length, take, drop, get_or, take-append-drop, Some, None, List, [], ◌∷◌, ◌++◌, refl, sym, ◌∙◌, ap, subst, Option, Result, Ok, Err, append_assoc, append-nil, arith, nat_le}
-use Rattle.std.proofs.lemmas.List.{take_more, take_all, length-take}
+use Rattle.std.proofs.Common.{IfErr, ◌≢◌, zero, suc, ◌==◌, ◌≡◌, inl, inr, ℕ, ◌+◌, ◌<◌, ◌≤◌, ◌&&◌, not, Bool, true, false, cond, length, take, drop, get_or, take-append-drop, map, Some, None, List, [], ◌∷◌, ◌++◌, refl, sym, ◌∙◌, ap, subst, Option, Result, Ok, Err, append_assoc, append-nil, arith, nat_le}
+use Rattle.std.proofs.lemmas.List.{take_more, take_all, length-take, length-drop}
 use Rattle.std.proofs.lemmas.List.Elements.{filter-append}
 use Rattle.std.proofs.lemmas.Grind.{flat_map-append}
 use Rattle.std.proofs.lemmas.Bool.{false≢true, cases_lt}
@@ -11,7 +11,7 @@ use Rattle.std.proofs.lemmas.Str.{IsUtf8-from_is_utf8, is_utf8-from_IsUtf8}
 use Rattle.rt_stamps.specs.declared.limits.TheConstants.{MOST_LINE_BYTES}
 use Rattle.rt_stamps.specs.declared.fault.Fault.{Fault}
 use Rattle.rt_stamps.specs.declared.fault.Fault.TheVariants.{WriteFault}
-use Rattle.rt_stamps.specs.Lines.{without_return, is_readable, is_silent, answered, complete_of, rest_of, last_of}
+use Rattle.rt_stamps.specs.Lines.{cut, lines_of, without_return, is_readable, is_silent, answered, complete_of, rest_of, last_of}
 use Rattle.rt_stamps.specs.Words.{Word}
 use Rattle.rt_stamps.proofs.Writes.{appends_then}
 use Rattle.rt_script.specs.declared.answer.Answer.{Answer}
@@ -20,7 +20,7 @@ use Rattle.rt_script.specs.Replies.{reply_line}
 use Rattle.rt_script.specs.Run.{LineGives, Runs, Ran, RanFront, RanUnwritten}
 use Rattle.rt_script.specs.Pieces.{kept, RanLine, RanLines}
 use Rattle.rt_stamps.specs.Source.{failures_of}
-use Rattle.rt_script.proofs.LinesLaws.{complete_append, complete_newline, complete_other, rest_newline, rest_other}
+use Rattle.rt_script.proofs.LinesLaws.{complete_append, complete_newline, complete_other, rest_append, rest_newline, rest_other, cut_empty}
 
 -- a run goes on
 pub runs_then : {S : Type 0} (gives : S → List Word → Answer → S → Type 0) (old mid new : S) (ls ms : List (List ℕ)) (bs cs : List Answer) → Runs gives old ls bs mid → Runs gives mid ms cs new → Runs gives old (ls ++ ms) (bs ++ cs) new
@@ -42,8 +42,9 @@ ran_then gives old mid new a b c ls ms h k = record {
 pub front_then : {S : Type 0} (gives : S → List Word → Answer → S → Type 0) (old mid new : S) (a b c : Option (List ℕ)) (ls ms : List (List ℕ)) → Ran gives old mid a b ls → RanFront gives mid new b c ms → RanFront gives old new a c (ls ++ ms)
 front_then gives old mid new a b c ls ms h k = record {
   run = ls ++ k.run;
+  line = k.line;
   more = k.more;
-  split = rw k.split (sym (append_assoc ls k.run k.more));
+  split = rw k.split (sym (append_assoc ls k.run (k.line ∷ k.more)));
   ran = ran_then gives old mid new a b c ls k.run h k.ran;
 }
 
@@ -61,9 +62,6 @@ unwritten_then gives old mid new a b c ls ms h k = record {
 }
 
 -- a run stops before further lines
-pub front_of : {S : Type 0} (gives : S → List Word → Answer → S → Type 0) (old new : S) (a b : Option (List ℕ)) (ls ms : List (List ℕ)) → Ran gives old new a b ls → RanFront gives old new a b (ls ++ ms)
-front_of gives old new a b ls ms h = record { run = ls; more = ms; split = refl; ran = h }
-
 pub unwritten_longer : {S : Type 0} (gives : S → List Word → Answer → S → Type 0) (old new : S) (a b : Option (List ℕ)) (ls ms : List (List ℕ)) → RanUnwritten gives old new a b ls → RanUnwritten gives old new a b (ls ++ ms)
 unwritten_longer gives old new a b ls ms h = record {
   run = h.run;
@@ -196,9 +194,40 @@ unwritten_newline gives old mid new a b c xs ys all more pending line fault h k 
     let here : RanUnwritten gives old new a c (complete_of ys) = rw (f, complete_newline xs) (unwritten_then gives old mid new a b c (complete_of xs) (without_return (rest_of xs) ∷ []) h one) in
     rw (g, complete_append ys more) (unwritten_longer gives old new a c (complete_of ys) (complete_of (rest_of ys ++ more)) here)
 
--- a byte of a line could not be stored
-pub front_unstored : {S : Type 0} (gives : S → List Word → Answer → S → Type 0) (old new : S) (a b : Option (List ℕ)) (xs all more : List ℕ) → Ran gives old new a b (complete_of xs) → all ≡ xs ++ more → RanFront gives old new a b (complete_of all)
-front_unstored gives old new a b xs all more h g = rw (g, complete_append xs more) (front_of gives old new a b (complete_of xs) (complete_of (rest_of xs ++ more)) h)
+-- a byte of a line could not be stored: a line begins after those that were run
+lines_some : (rest : List ℕ) → rest ≢ [] → (line : List ℕ) × (more : List (List ℕ)) × (lines_of rest ≡ line ∷ more)
+lines_some rest some = go (cut rest) refl
+  where
+    seen : List (List ℕ) × List ℕ → List (List ℕ)
+    seen p = map without_return p.0 ++ last_of p.1
+
+    go : (p : List (List ℕ) × List ℕ) → cut rest ≡ p → (line : List ℕ) × (more : List (List ℕ)) × (lines_of rest ≡ line ∷ more)
+    go ([], []) e = absurd (some (cut_empty rest e))
+    go ([], c ∷ left) e = (c ∷ left, [], ap seen e)
+    go (l ∷ lines, left) e = (without_return l, map without_return lines ++ last_of left, ap seen e)
+
+pub lines_append : (xs ys : List ℕ) → lines_of (xs ++ ys) ≡ complete_of xs ++ lines_of (rest_of xs ++ ys)
+lines_append xs ys =
+    ap (λ v. v ++ last_of (rest_of (xs ++ ys))) (complete_append xs ys) ∙ append_assoc (complete_of xs) (complete_of (rest_of xs ++ ys)) (last_of (rest_of (xs ++ ys)))
+    ∙ ap (λ v. complete_of xs ++ (complete_of (rest_of xs ++ ys) ++ last_of v)) (rest_append xs ys)
+
+nothing_before : (xs ys : List ℕ) → ys ≢ [] → xs ++ ys ≢ []
+nothing_before [] ys some e = some e
+nothing_before (x ∷ xs) ys some e = cc
+
+pub front_unstored : {S : Type 0} (gives : S → List Word → Answer → S → Type 0) (old new : S) (a b : Option (List ℕ)) (xs all more : List ℕ) → Ran gives old new a b (complete_of xs) → all ≡ xs ++ more → more ≢ [] → RanFront gives old new a b (lines_of all)
+front_unstored gives old new a b xs all more h g some =
+    let left = lines_some (rest_of xs ++ more) (nothing_before (rest_of xs) more some) in
+    record {
+      run = complete_of xs;
+      line = left.0;
+      more = left.1;
+      split = ap lines_of g ∙ lines_append xs more ∙ ap (λ v. complete_of xs ++ v) left.2;
+      ran = h;
+    }
+
+pub drop_some : (xs : List ℕ) (i : ℕ) → i < length xs → drop i xs ≢ []
+drop_some xs i h e = omega (arith, length-drop i xs, ap length e)
 
 -- the bytes of a piece up to a place
 pub bytes_more : (p xs : List ℕ) (i : ℕ) → i < length xs → p ++ take (i + 1) xs ≡ (p ++ take i xs) ++ get_or xs i 0 ∷ []
@@ -239,7 +268,7 @@ unreadable_text line n = go (nat_le (length line) MOST_LINE_BYTES) (is_utf8 line
 
 -- the last line of a script was run
 pub ran_last : {S : Type 0} (gives : S → List Word → Answer → S → Type 0) (old new : S) (a b : Option (List ℕ)) (f g : ℕ) (rest : List ℕ) (r : Result (Unit {0}) Fault)
-    → RanLine gives old new a b (kept rest) r → kept rest ≢ [] → IfErr r (λ fault. fault ≡ WriteFault) → g ≡ f + failures_of r → RanLines gives old new a b f g (last_of rest) r
+    → RanLine gives old new a b (kept rest) r → kept rest ≢ [] → IfErr r (λ fault. fault ≡ WriteFault) → g ≡ f + failures_of r → RanLines gives old new a b f g (last_of rest) (last_of rest) r
 ran_last gives old new a b f g rest (Ok x) h n w e = rw (last_some rest n) (ran_line gives old new a b rest (last_kept gives old new a b rest (Ok x) h), omega arith)
 ran_last gives old new a b f g rest (Err x) h n w e = rw (last_some rest n) (inr (w, unwritten_line gives old new a b rest x (last_kept gives old new a b rest (Err x) h), e))
 

@@ -1,12 +1,12 @@
 -- What is made of files of operations: their lines, and the join of two.
-use Rattle.std.specs.Prelude.{◌≡◌, ◌⊎◌, ℕ, ◌+◌, List, reverse, slice_index_or, Option, Some, None, Result, Ok, Err, MatchResult, Vec}
+use Rattle.std.specs.Prelude.{◌≡◌, ◌⊎◌, ℕ, ◌+◌, ◌<◌, List, length, reverse, slice_get, Option, Some, None, Result, Ok, Err, MatchResult, Vec}
 use Rattle.std.specs.declared.alloc.Global.{Global}
 use Rattle.std.specs.Io.KnownBytes.{Appends}
 use Rattle.rt_stamps.specs.declared.fault.Fault.{Fault}
 use Rattle.rt_stamps.specs.declared.fault.Fault.TheVariants.{NoMemory, WriteFault}
 use Rattle.rt_stamps.specs.Written.{AppendsPart}
 use Rattle.rt_oplog.specs.File.{spelling}
-use Rattle.rt_oplog.specs.Intake.{ReaderState, ReadsFile}
+use Rattle.rt_oplog.specs.Intake.{ReaderState, ReadsFile, LacksMemory}
 use Rattle.rt_oplog.specs.Logs.{joined}
 use Rattle.rt_oplog.specs.Operations.{Operation}
 use Rattle.rt_oplog.specs.Outcomes.{IsFirstRefused, IsLogOf}
@@ -26,16 +26,16 @@ TellsLines ops fault before after result =
     (Appends before.bytes after.bytes (lines_of ops) × (after.failures ≡ before.failures) × (result ≡ ending_of fault))
     ⊎ (AppendsPart before.bytes after.bytes (lines_of ops) × (after.failures ≡ before.failures + 1) × (result ≡ Err (WriteFault, 0)))
 
--- The file was read to its end or its first fault, and the lines of its operations were told. Or they found no memory,
--- and nothing was written.
+-- The file was read to its end or its first fault, and the lines of its operations were told. Or they found no memory
+-- before that, and nothing was written.
 abbrev pub ShowsFile : ReaderState → ReaderState → Stream → Stream → Result (Unit {0}) (Fault × ℕ) → Type 0
 ShowsFile old new before after result =
     ((ops : List Operation) × (offsets : List ℕ) × (fault : Option (Fault × ℕ)) × ReadsFile old new ops offsets fault × TellsLines ops fault before after result)
-    ⊎ ((result ≡ Err (NoMemory, 0)) × (new.failures ≡ old.failures) × (after ≡ before))
+    ⊎ ((result ≡ Err (NoMemory, 0)) × LacksMemory old new × (after ≡ before))
 
 -- one of a file's operations is the first that is refused, and the fault has the offset of its record
 abbrev pub IsRefused : List Operation → List ℕ → Fault × ℕ → Type 0
-IsRefused ops offsets found = (place : ℕ) × IsFirstRefused ops place found.0 × (found.1 ≡ slice_index_or offsets place 0)
+IsRefused ops offsets found = (place : ℕ) × IsFirstRefused ops place found.0 × (slice_get offsets place ≡ Some found.1)
 
 -- What a file gives: the log of its operations, where its reading has no fault. Or its first fault: of the first operation
 -- that is refused, else that of the reading, which comes after all of them.
@@ -52,14 +52,26 @@ in_file file found = record { file = file; fault = found.0; offset = found.1 }
 abbrev pub of_neither : Fault → JoinFault
 of_neither fault = record { file = 0; fault = fault; offset = 0 }
 
--- Two files are joined: the bytes spell the join of their logs. Or the first file has a fault, and the second is not read;
--- or the first has none, and the second has one; or neither has one, and their logs have no join. Memory may be wanting
--- anywhere.
+-- A file's operations found no memory: before all were read, and no read had failed. Or some were read, and then no log
+-- of them was made.
+abbrev pub FindsNoMemory : ReaderState → ReaderState → Type 0
+FindsNoMemory old new =
+    LacksMemory old new
+    ⊎ ((ops : List Operation) × (offsets : List ℕ) × (fault : Option (Fault × ℕ)) × ReadsFile old new ops offsets fault × (0 < length ops))
+
+-- why there is no log of a file: its first fault, or want of memory
+abbrev pub GivesNoLog : ℕ → ReaderState → ReaderState → JoinFault → Type 0
+GivesNoLog file old new why =
+    ((found : Fault × ℕ) × (why ≡ in_file file found) × FileGives old new (Err found))
+    ⊎ ((why ≡ of_neither NoMemory) × FindsNoMemory old new)
+
+-- Two files are joined: the bytes spell the join of their logs. Or the first file has no log, and the second is not read;
+-- or the first has one, and the second has none; or both have, and these have no join, or it found no memory.
 abbrev pub JoinsFiles : ReaderState → ReaderState → ReaderState → ReaderState → Result (Vec ℕ Global) JoinFault → Type 0
 JoinsFiles first read second then result = MatchResult result
     (λ bytes. (one : List Operation) × (other : List Operation) × (log : List Operation)
     × FileGives first read (Ok one) × FileGives second then (Ok other) × (joined one other ≡ Ok log) × (bytes.items ≡ spelling (reverse log)))
-    (λ why. ((found : Fault × ℕ) × (why ≡ in_file 1 found) × FileGives first read (Err found) × (then ≡ second))
-    ⊎ (((one : List Operation) × (found : Fault × ℕ) × (why ≡ in_file 2 found) × FileGives first read (Ok one) × FileGives second then (Err found))
-    ⊎ (((one : List Operation) × (other : List Operation) × (fault : Fault) × (why ≡ of_neither fault) × FileGives first read (Ok one) × FileGives second then (Ok other) × (joined one other ≡ Err fault))
-    ⊎ (why ≡ of_neither NoMemory))))
+    (λ why. (GivesNoLog 1 first read why × (then ≡ second))
+    ⊎ (((one : List Operation) × FileGives first read (Ok one) × GivesNoLog 2 second then why)
+    ⊎ ((one : List Operation) × (other : List Operation) × (fault : Fault) × (why ≡ of_neither fault)
+    × FileGives first read (Ok one) × FileGives second then (Ok other) × ((joined one other ≡ Err fault) ⊎ (fault ≡ NoMemory)))))

@@ -21,10 +21,10 @@ RanLine gives old new before after line result =
     ((is_readable line && is_silent line ≡ true) × (result ≡ Ok tt) × (new ≡ old) × Appends before after [])
     ⊎ ((is_readable line && is_silent line ≡ false) × ((answer : Answer) × LineGives gives old line answer new × Wrote before after result (reply_line answer)))
 
--- Lines were run, or a front of them: to one that could not be stored, or whose answer could not be written. Beside them
--- the failed writes before and after.
-abbrev pub RanLines : {S : Type 0} → (S → List Word → Answer → S → Type 0) → S → S → Option (List ℕ) → Option (List ℕ) → ℕ → ℕ → List (List ℕ) → Result (Unit {0}) Fault → Type 0
-RanLines gives old new before after failed failures lines result = MatchResult result
+-- Lines were run, or a front of them: to one whose answer could not be written, or to one of all lines that could not be
+-- stored. Beside them the failed writes before and after.
+abbrev pub RanLines : {S : Type 0} → (S → List Word → Answer → S → Type 0) → S → S → Option (List ℕ) → Option (List ℕ) → ℕ → ℕ → List (List ℕ) → List (List ℕ) → Result (Unit {0}) Fault → Type 0
+RanLines gives old new before after failed failures lines all result = MatchResult result
     (λ _. Ran gives old new before after lines × (failures ≡ failed))
-    (λ fault. ((fault ≡ NoMemory) × RanFront gives old new before after lines × (failures ≡ failed))
+    (λ fault. ((fault ≡ NoMemory) × RanFront gives old new before after all × (failures ≡ failed))
     ⊎ ((fault ≡ WriteFault) × RanUnwritten gives old new before after lines × (failures ≡ failed + 1)))

@@ -32,11 +32,12 @@ pub record Ran {S : Type 0} (gives : S → List Word → Answer → S → Type 0
   pub runs : Runs gives old (answered lines) answers new
   pub wrote : Appends before after (flat_map reply_line answers)
 
--- a front of these lines was run, and the line of each answer was written
+-- The lines before one of these were run, and the line of each answer was written.
 pub record RanFront {S : Type 0} (gives : S → List Word → Answer → S → Type 0) (old new : S) (before after : Option (List ℕ)) (lines : List (List ℕ)) : Type 0 where
   pub run : List (List ℕ)
+  pub line : List ℕ
   pub more : List (List ℕ)
-  pub split : lines ≡ run ++ more
+  pub split : lines ≡ run ++ line ∷ more
   pub ran : Ran gives old new before after run
 
 -- A front of these lines was run, up to one whose answer could not be written: the lines of the answers before it were
@@ -65,17 +66,19 @@ pub record Ends {S : Type 0} (gives : S → List Word → Answer → S → Type 
   pub over : List ℕ
   pub consumes : Consumes script.bytes left.bytes (read ++ over)
   pub bounded : length read ≤ MOST_BYTES
-  pub past : over ≢ [] → length read ≡ MOST_BYTES
+  pub past : over ≢ [] → (fault ≡ Some ReadFault) × (length read ≡ MOST_BYTES)
   pub reads_bounded : left.calls ≤ script.calls + MOST_READS
   -- with no fault all lines were run, the last one with or without its newline
   pub whole : fault ≡ None → IsAtEnd left.bytes × (over ≡ []) × Ran gives old new before.bytes after.bytes (lines_of read)
-  -- after a failed read, or past a bound, the complete lines that were read before
+  -- after a failed read, or past the bound of bytes, the complete lines that were read before; the bound of reads is never
+  -- passed first, since each read but the last gives a byte
   pub unread : fault ≡ Some ReadFault → Ran gives old new before.bytes after.bytes (complete_of read)
-  pub why_unread : fault ≡ Some ReadFault → (left.failures ≡ script.failures + 1) ⊎ (over ≢ []) ⊎ (left.calls ≡ script.calls + MOST_READS)
+  pub why_unread : fault ≡ Some ReadFault → (left.failures ≡ script.failures + 1) ⊎ (over ≢ [])
   -- where a line couldn't be stored, those before it
-  pub unstored : fault ≡ Some NoMemory → RanFront gives old new before.bytes after.bytes (complete_of read)
-  -- after a failed write, a front of what the lines are answered
-  pub unwritten : fault ≡ Some WriteFault → RanUnwritten gives old new before.bytes after.bytes (lines_of read)
+  pub unstored : fault ≡ Some NoMemory → RanFront gives old new before.bytes after.bytes (lines_of read)
+  -- after a failed write, a front of what the complete lines are answered, or of all at the script's end
+  pub unwritten : fault ≡ Some WriteFault → RanUnwritten gives old new before.bytes after.bytes (complete_of read)
+      ⊎ (IsAtEnd left.bytes × RanUnwritten gives old new before.bytes after.bytes (lines_of read))
   pub why_unwritten : fault ≡ Some WriteFault → after.failures ≡ before.failures + 1
   -- and a fault comes for no other reason
   pub reads_failed : left.failures ≢ script.failures → fault ≡ Some ReadFault

@@ -2,7 +2,7 @@
 ghost use Rattle.std.specs.Prelude.{◌≡◌, ℕ, ◌+◌, ◌<◌, ◌≤◌, ◌&&◌, ◌∷◌, ◌++◌, [], true, false, List, length, IfOk, IfErr, OnOk, IfSome, MatchOption};
 ghost use Rattle.std.specs.List.{list_all};
 ghost use Rattle.std.specs.Io.KnownBytes.{ReadConsumes};
-ghost use Rattle.rt_stamps.specs.Lines.{cut, without_return, is_blank, is_readable, is_silent, complete_of, rest_of, last_of};
+ghost use Rattle.rt_stamps.specs.Lines.{cut, without_return, is_blank, is_readable, is_silent, complete_of, rest_of, last_of, lines_of};
 ghost use Rattle.rt_stamps.specs.Source.{failed_reads, failures_of};
 ghost use Rattle.rt_stamps.specs.Written.{Wrote};
 ghost use Rattle.rt_script.specs.Pieces.{kept, RanLine, RanLines};
@@ -179,7 +179,7 @@ fn feed<C: Commands, W: Sink>(
 ) -> Result<(), Fault>
     requires { length pending.old.items ≤ MOST_KEPT_BYTES }
     ensures ran { (rest : List ℕ) → cut rest ≡ ([], rest) → pending.old.items ≡ kept rest
-        → RanLines C.gives (C.state site.old) (C.state site.new) (W.contents out.old) (W.contents out.new) (W.failures out.old) (W.failures out.new) (complete_of (rest ++ piece.now)) result }
+        → RanLines C.gives (C.state site.old) (C.state site.new) (W.contents out.old) (W.contents out.new) (W.failures out.old) (W.failures out.new) (complete_of (rest ++ piece.now)) (lines_of (rest ++ piece.now)) result }
     ensures rest { (rest : List ℕ) → cut rest ≡ ([], rest) → pending.old.items ≡ kept rest
         → OnOk result (pending.new.items ≡ kept (rest_of (rest ++ piece.now))) }
 {
@@ -202,7 +202,7 @@ fn finish<C: Commands, W: Sink>(
     out: &mut W,
 ) -> Result<(), Fault>
     ensures ran { (rest : List ℕ) → pending.now ≡ kept rest
-        → RanLines C.gives (C.state site.old) (C.state site.new) (W.contents out.old) (W.contents out.new) (W.failures out.old) (W.failures out.new) (last_of rest) result }
+        → RanLines C.gives (C.state site.old) (C.state site.new) (W.contents out.old) (W.contents out.new) (W.failures out.old) (W.failures out.new) (last_of rest) (last_of rest) result }
     ensures fault { IfErr result (λ fault. fault ≡ Fault.WriteFault) }
 {
     if pending.is_empty() {

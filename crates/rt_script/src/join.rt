@@ -1,11 +1,11 @@
 // The join of two files of operations.
-ghost use Rattle.std.specs.Prelude.{◌≡◌, ◌≢◌, ◌⊎◌, ℕ, ◌<◌, List, Ok, Err, reverse, slice_index_or, MatchResult};
+ghost use Rattle.std.specs.Prelude.{◌≡◌, ◌⊎◌, ℕ, ◌<◌, List, length, Ok, reverse, MatchResult};
 ghost use Rattle.rt_stamps.specs.declared.fault.Fault.TheVariants.{NoMemory};
 ghost use Rattle.rt_oplog.specs.File.{spelling};
 ghost use Rattle.rt_oplog.specs.Logs.{joined};
 ghost use Rattle.rt_oplog.specs.Operations.{Operation};
 ghost use Rattle.rt_oplog.specs.Outcomes.{IsLogOf};
-ghost use Rattle.rt_script.specs.Files.{IsRefused, FileGives, JoinsFiles, in_file, of_neither};
+ghost use Rattle.rt_script.specs.Files.{IsRefused, FileGives, GivesNoLog, JoinsFiles, in_file, of_neither};
 
 use rt_oplog::{Op, OpLog, join, read_file, write_file};
 use rt_stamps::std_ends::{Count, Writer};
@@ -27,47 +27,64 @@ pub struct JoinFault {
     pub offset: u64,
 }
 
-// The offset of the operation at a place.
-fn offset_at(offsets: &[u64], place: usize) -> u64
-    ensures { result ≡ slice_index_or offsets.now place 0 }
+// A fault of the first or the second file.
+fn in_file(file: u8, fault: Fault, offset: u64) -> JoinFault
+    ensures { result ≡ in_file file (fault, offset) }
 {
-    match offsets.get(place) {
-        Some(offset) => *offset,
-        None => 0,
+    JoinFault {
+        file,
+        fault,
+        offset,
     }
 }
 
-// The log of operations, or the fault of the first that it doesn't take.
-fn log_of(alloc: Global, ops: Vec<Op>, offsets: &[u64]) -> Result<OpLog, (Fault, u64)>
+// A fault of neither file.
+fn of_neither(fault: Fault) -> JoinFault
+    ensures { result ≡ of_neither fault }
+{
+    JoinFault {
+        file: 0,
+        fault,
+        offset: 0,
+    }
+}
+
+// The log of a file's operations, or the fault of the first that it doesn't take.
+fn log_of(alloc: Global, file: u8, ops: Vec<Op>, offsets: &[u64]) -> Result<OpLog, JoinFault>
+    requires { length offsets.now ≡ length ops.items }
     ensures { MatchResult result
         (λ log. IsLogOf ops.items log.operations)
-        (λ found. IsRefused ops.items offsets.now found ⊎ (found.0 ≡ NoMemory)) }
+        (λ why. ((found : Fault × ℕ) × (why ≡ in_file file found) × IsRefused ops.items offsets.now found)
+        ⊎ ((why ≡ of_neither NoMemory) × (0 < length ops.items))) }
 {
     match OpLog::from_ops(alloc, ops) {
         Ok(log) => Ok(log),
-        Err(refused) => Err((refused.fault, offset_at(offsets, refused.place))),
+        Err(refused) => match refused.fault {
+            Fault::NoMemory => Err(of_neither(Fault::NoMemory)),
+            fault => Err(in_file(file, fault, offsets[refused.place])),
+        },
     }
 }
 
 // The log of a file, or its first fault.
-fn log_in<R: Source>(alloc: Global, source: &mut R) -> Result<OpLog, (Fault, u64)>
+fn log_in<R: Source>(alloc: Global, file: u8, source: &mut R) -> Result<OpLog, JoinFault>
     ensures { MatchResult result
         (λ log. FileGives
         (record { calls = R.calls source.old; failures = R.failures source.old; left = R.remaining source.old })
         (record { calls = R.calls source.new; failures = R.failures source.new; left = R.remaining source.new })
         (Ok log.operations))
-        (λ found. FileGives
+        (λ why. GivesNoLog file
         (record { calls = R.calls source.old; failures = R.failures source.old; left = R.remaining source.old })
         (record { calls = R.calls source.new; failures = R.failures source.new; left = R.remaining source.new })
-        (Err found) ⊎ (found.0 ≡ NoMemory)) }
+        why) }
 {
     let reading = match read_file(alloc, source) {
         Ok(reading) => reading,
-        Err(fault) => return Err((fault, 0)),
+        Err(fault) => return Err(of_neither(fault)),
     };
-    let log = log_of(alloc, reading.ops, &reading.offsets)?;
+    let log = log_of(alloc, file, reading.ops, &reading.offsets)?;
     match reading.fault {
-        Some(fault) => Err(fault),
+        Some((fault, offset)) => Err(in_file(file, fault, offset)),
         None => Ok(log),
     }
 }
@@ -104,39 +121,14 @@ fn spelled_join(alloc: Global, one: OpLog, other: OpLog) -> Result<Vec<u8>, Faul
     spelled::<Brand, Brand>(alloc, &log, Blank::new(1), Blank::new(1))
 }
 
-// A fault of neither file.
-fn of_neither(fault: Fault) -> JoinFault
-    ensures { result ≡ of_neither fault }
-{
-    JoinFault {
-        file: 0,
-        fault,
-        offset: 0,
-    }
-}
-
-// The fault of a file, or of neither where memory is wanting.
-fn fault_in(file: u8, found: (Fault, u64)) -> JoinFault
-    ensures { ((found.0 ≢ NoMemory) × (result ≡ in_file file found)) ⊎ ((found.0 ≡ NoMemory) × (result ≡ of_neither NoMemory)) }
-{
-    let (fault, offset) = found;
-    match fault {
-        Fault::NoMemory => of_neither(fault),
-        _ => JoinFault {
-            file,
-            fault,
-            offset,
-        },
-    }
-}
-
 /// Reads two files of operations, the first one first, and answers the file of the join of their logs.
 ///
 /// A file is at fault where its reading has a fault (`BadMagic`, `BadVersion`, `Truncated`, `BadRecord`,
 /// `ReadFault`), or an operation is not sound (`BadStamp`) or clashes with an earlier one of the file
 /// (`Conflict`), told at the offset of its record. The first fault of the first file that has one is
 /// told; after a fault of the first file the second is not read. `Conflict` of neither file where the
-/// operations of the one clash with those of the other, and `NoMemory` where a growth was refused.
+/// operations of the one clash with those of the other, and `NoMemory` where a growth was refused: in
+/// the place of a failed read only where operations before it find no memory as a log.
 pub fn join_files<A: Source, B: Source>(
     alloc: Global,
     a: &mut A,
@@ -149,14 +141,8 @@ pub fn join_files<A: Source, B: Source>(
         (record { calls = B.calls b.new; failures = B.failures b.new; left = B.remaining b.new })
         result }
 {
-    let one = match log_in(alloc, a) {
-        Ok(log) => log,
-        Err(found) => return Err(fault_in(1, found)),
-    };
-    let other = match log_in(alloc, b) {
-        Ok(log) => log,
-        Err(found) => return Err(fault_in(2, found)),
-    };
+    let one = log_in(alloc, 1, a)?;
+    let other = log_in(alloc, 2, b)?;
     match spelled_join(alloc, one, other) {
         Ok(bytes) => Ok(bytes),
         Err(fault) => Err(of_neither(fault)),

@@ -1,7 +1,8 @@
-use Rattle.std.proofs.Common.{◌≡◌, ◌-◌, true, false, length, arith}
+use Rattle.std.proofs.Common.{◌≡◌, ◌-◌, true, false, length, refl, arith}
+use Rattle.std.proofs.lemmas.Result.{err_from_is_err_and}
 use Rattle.rt_stamps.specs.declared.limits.TheConstants.{MOST_BYTES}
 use Rattle.rt_oplog.specs.File.{spelling}
-use Rattle.rt_oplog.proofs.Readings.{ended_reads, ends_head, ends_fault, ends_unrisen, ends_whole, records_more, follows_at}
+use Rattle.rt_oplog.proofs.Readings.{ended_reads, ends_head, ends_fault, ends_unrisen, ends_whole, records_more, follows_at, ended_memory, memory_first, memory_in, memory_after}
 use Rattle.rt_oplog.proofs.file.read_file.Goals as goal
 
 pub returns-in-Err-clause-reads : goal.returns-in-Err-clause-reads
@@ -44,3 +45,22 @@ records-preserved g c =
 pub returns-clause-reads : goal.returns-clause-reads
 returns-clause-reads g c =
     ends_whole _ _ _ _ _ c.records.ops.items c.records.offsets.items c.records.invariant.takes c.records.invariant.are c.records.invariant.offsets (rw c.in-Ok-None.field-0-is at c.in-Ok-None.ensures)
+
+pub returns-in-Err-clause-memory : goal.returns-in-Err-clause-memory
+returns-in-Err-clause-memory g c = ended_memory c.ended.result _ _ c.in-Err.fault c.ended.ensures.memory (memory_first _ _ _ c.in-Err.fault c.in-Err.ensures)
+
+pub returns-in-Err-next_op-clause-memory : goal.returns-in-Err-next_op-clause-memory
+returns-in-Err-next_op-clause-memory g c =
+    ended_memory c.ended-in-Err-next_op.result _ _ c.in-Err-next_op.fault c.ended-in-Err-next_op.ensures.memory (memory_in _ _ _ _ _ _ c.in-Err-next_op.fault c.records.invariant.takes c.in-Err-next_op.ensures)
+
+pub returns-in_err-push-clause-memory : goal.returns-in_err-push-clause-memory
+returns-in_err-push-clause-memory g c =
+    let p = err_from_is_err_and c.from_residual.result c.from_residual.ensures.1 in
+    let gets = rw c.in-Ok-Some.field-0-is at c.in-Ok-Some.ensures in
+    rw (p.1, p.2) (refl, memory_after _ _ _ _ _ _ _ c.records.invariant.takes gets.0)
+
+pub returns-in_err-push-2-clause-memory : goal.returns-in_err-push-2-clause-memory
+returns-in_err-push-2-clause-memory g c =
+    let p = err_from_is_err_and c.from_residual-in_err-push-2.result c.from_residual-in_err-push-2.ensures.1 in
+    let gets = rw c.in-Ok-Some.field-0-is at c.in-Ok-Some.ensures in
+    rw (p.1, p.2) (refl, memory_after _ _ _ _ _ _ _ c.records.invariant.takes gets.0)

@@ -2,6 +2,7 @@ use Rattle.std.proofs.Common.{reverse, arith}
 use Rattle.std.proofs.lemmas.Result.{err_from_is_err_and}
 use Rattle.rt_stamps.proofs.Writes.{part_longer}
 use Rattle.rt_oplog.specs.File.{magic}
+use Rattle.rt_oplog.proofs.ReadBack.{records_take, written_is_read}
 use Rattle.rt_oplog.proofs.Spelled.{wrote_more, wrote_before, wrote_part}
 use Rattle.rt_oplog.proofs.file.write_file.Goals as goal
 
@@ -25,5 +26,11 @@ pub loop-place-preserved : goal.loop-place-preserved
 loop-place-preserved g c = record {
   wrote = wrote_more _ _ _ (reverse c.args.log.now.operations) c.loop-place.place _ c.get.ensures.operation c.loop-place.invariant.wrote
       (rw (c.deref.ensures.value, c.in_ok-spell.ensures.ok) at c.in_ok-write_all.ensures.wrote);
+  records = records_take (reverse c.args.log.now.operations) c.loop-place.place _ c.get.ensures.operation c.loop-place.invariant.records c.in_ok-spell.ensures.record;
+  log = λ some. c.get.ensures.log;
   failures = omega (arith, c.in_ok-write_all.ensures.failures, c.loop-place.invariant.failures);
 }
+
+pub returns-clause-read_back : goal.returns-clause-read_back
+returns-clause-read_back g c =
+    written_is_read c.args.log.now.operations c.loop-place.place (omega (arith, c.loop-place-test.false, c.loop-place.auto.place-end, c.len-place-end.ensures)) c.loop-place.invariant.log c.loop-place.invariant.records

@@ -3,7 +3,7 @@ use Rattle.std.proofs.lemmas.Result.{err_from_is_err_and}
 use Rattle.rt_stamps.specs.Lines.{rest_of, without_return}
 use Rattle.rt_script.specs.Pieces.{kept}
 use Rattle.rt_script.proofs.LinesLaws.{complete_none}
-use Rattle.rt_script.proofs.RunLaws.{ran_start, ran_newline, ran_other, unwritten_newline, front_unstored, bytes_more, bytes_newline, bytes_all, rest_kept_newline, rest_kept_other, kept_short}
+use Rattle.rt_script.proofs.RunLaws.{ran_start, ran_newline, ran_other, unwritten_newline, front_unstored, bytes_more, bytes_newline, bytes_all, rest_kept_newline, rest_kept_other, kept_short, drop_some}
 use Rattle.rt_script.proofs.engine.feed.Goals as goal
 use Rattle.rt_script.proofs.engine.feed.Goals.{then-byte-eq10+in_ok-run_line, else-byte-eq10+in_ok-keep}
 
@@ -35,7 +35,7 @@ returns-in_err-keep-clause-ran g c = λ rest none is.
     let xs = rest ++ take c.loop-byte.byte-index c.args.piece.now in
     rw (p.1, p.2) (inl (
       c.in_err-keep.ensures.fault,
-      front_unstored _ _ _ _ _ xs _ _ (c.loop-byte.invariant.ran rest none is) (bytes_all rest c.args.piece.now c.loop-byte.byte-index),
+      front_unstored _ _ _ _ _ xs _ _ (c.loop-byte.invariant.ran rest none is) (bytes_all rest c.args.piece.now c.loop-byte.byte-index) (drop_some c.args.piece.now c.loop-byte.byte-index c.loop-byte-test.true),
       c.loop-byte.invariant.failures,
     ))
 

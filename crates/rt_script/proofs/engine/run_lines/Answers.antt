@@ -36,7 +36,7 @@ pub loop-preserved : goal.loop-preserved
 loop-preserved g c =
     let e = c.in-Ok.ensures in
     record {
-      goes = goes_more _ _ _ _ _ _ _ _ _ _ _ _ c.in-Ok.n c.read_piece.new.buf _ _ c.loop.invariant.goes e.bytes.0 e.within (e.bounded (omega arith)) e.calls e.failures c.in-Ok-feed.ensures.ran c.in-Ok-feed.ensures.rest;
+      goes = goes_more _ _ _ _ _ _ _ _ _ _ _ _ c.in-Ok.n c.read_piece.new.buf _ _ c.loop.invariant.goes e.bytes.0 e.within (e.bounded (omega arith)) c.if-n-eq0.false e.calls e.failures c.in-Ok-feed.ensures.ran c.in-Ok-feed.ensures.rest;
       buffer = c.read_piece.auto.buf ∙ c.loop.invariant.buffer;
     }
 

@@ -1,9 +1,16 @@
-use Rattle.std.proofs.Common.{◌∙◌, ap, inl, inr}
-use Rattle.rt_script.specs.Files.{of_neither}
+use Rattle.std.proofs.Common.{inl, inr, refl}
+use Rattle.std.proofs.lemmas.Result.{err_from_is_err_and}
 use Rattle.rt_script.proofs.join.join_files.Goals as goal
 
-pub returns-in-Err-spelled_join : goal.returns-in-Err-spelled_join
-returns-in-Err-spelled_join g c = elim c.in-Err-spelled_join.ensures [
-  | inl none ↦ inr (inr (inl (c.in-Ok.log.operations, c.in-Ok-log_in.log.operations, c.in-Err-spelled_join.fault, c.of_neither.ensures, c.in-Ok.ensures, c.in-Ok-log_in.ensures, none)))
-  | inr memory ↦ inr (inr (inr (c.of_neither.ensures ∙ ap of_neither memory)))
-]
+pub returns-in_err-one : goal.returns-in_err-one
+returns-in_err-one g c =
+    let p = err_from_is_err_and c.from_residual.result c.from_residual.ensures.1 in
+    rw (p.1, p.2) (inl (c.in_err-one.ensures, refl))
+
+pub returns-in_err-other : goal.returns-in_err-other
+returns-in_err-other g c =
+    let p = err_from_is_err_and c.from_residual-in_err-other.result c.from_residual-in_err-other.ensures.1 in
+    rw (p.1, p.2) (inr (inl (c.in_ok-one.one.operations, c.in_ok-one.ensures, c.in_err-other.ensures)))
+
+pub returns-in-Err : goal.returns-in-Err
+returns-in-Err g c = inr (inr (c.in_ok-one.one.operations, c.in_ok-other.other.operations, c.in-Err.fault, c.of_neither.ensures, c.in_ok-one.ensures, c.in_ok-other.ensures, c.in-Err.ensures))

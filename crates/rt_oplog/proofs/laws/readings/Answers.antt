@@ -1,0 +1,8 @@
+use Rattle.rt_oplog.proofs.Told.{told_in_file, known_told}
+use Rattle.rt_oplog.proofs.laws.readings.Goals as goal
+
+pub returns-clause-told : goal.returns-clause-told
+returns-clause-told c = told_in_file
+
+pub returns-clause-known : goal.returns-clause-known
+returns-clause-known c = known_told
