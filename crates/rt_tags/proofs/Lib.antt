@@ -3,6 +3,8 @@ pub mod Entries
 pub mod Greatest
 pub mod Interning
 pub mod Keeping
+pub mod Listing
+pub mod Merging
 pub mod Places
 pub mod Ready
 pub mod Sets
