@@ -5,8 +5,8 @@ pub mod Interning
 pub mod Keeping
 pub mod Listing
 pub mod Merging
+pub mod Parts
 pub mod Places
-pub mod Ready
 pub mod Sets
 pub mod Sorted
 pub mod Tables

@@ -1,5 +1,5 @@
 -- How a table keeps names and states.
-use Rattle.std.specs.Prelude.{◌≡◌, ◌==◌, ℕ, ◌<◌, List, [], ◌∷◌, ◌++◌, ◌+◌, Bool, true, false, not, map, filter, length, Option, Some, None, slice_get, slice_index_or, if◌then◌else◌}
+use Rattle.std.specs.Prelude.{◌≡◌, ◌==◌, ℕ, ◌<◌, ◌≤◌, List, [], ◌∷◌, ◌++◌, ◌+◌, Bool, true, false, not, map, filter, length, Option, Some, None, slice_get, slice_index_or, if◌then◌else◌}
 use Rattle.std.specs.List.{All, AllByRecursion}
 use Rattle.std.specs.Ordering.{ordering_index}
 use Rattle.std.specs.declared.cmp.Ordering.{Ordering}
@@ -94,3 +94,8 @@ pub record IsFirst (names : List (List ℕ)) (old new : List Entry) (e : Entry) 
   pub old_sorted : IsSorted names more_old
   pub new_sorted : IsSorted names more_new
   pub less : length more_old + length more_new < length old + length new
+
+-- The names of a tag table as it is kept: each once, and the first so many are listed.
+pub record IsListing (names : List (List ℕ)) (listed : ℕ) : Type 0 where
+  pub differ : HaveNoRepeats names
+  pub within : listed ≤ length names
