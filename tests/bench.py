@@ -3,10 +3,13 @@
 state of tags: seconds, and bytes of memory an operation that is read, or a write.
 
 Usage: tests/bench.py [PROGRAM [OPERATIONS]]; without a program it takes ./peertext's, which has to be built; a million
-operations if no number is given. It is run by hand. The status is 1 where an answer is wrong.
+operations if no number is given. `tests/bench.py lists [PROGRAM [BYTES]]` times the commands that take lists of names or of
+ranges instead, each on lines of so many bytes; a million if no number is given. It is run by hand. The status is 1 where an
+answer is wrong.
 """
 import filecmp
 import os
+import random
 import struct
 import subprocess
 import sys
@@ -14,8 +17,10 @@ import tempfile
 import time
 
 ROOT = os.path.dirname(os.path.dirname(os.path.abspath(__file__)))
-PROGRAM = sys.argv[1] if len(sys.argv) > 1 else os.path.join(ROOT, "crates", "peertext", "out", "peertext")
-OPERATIONS = int(sys.argv[2]) if len(sys.argv) > 2 else 1_000_000
+LISTS = sys.argv[1:2] == ["lists"]
+WORDS = sys.argv[2:] if LISTS else sys.argv[1:]
+PROGRAM = WORDS[0] if WORDS else os.path.join(ROOT, "crates", "peertext", "out", "peertext")
+OPERATIONS = int(WORDS[1]) if len(WORDS) > 1 else 1_000_000
 wrong = 0
 
 
@@ -60,7 +65,33 @@ def expect(name, holds):
         print(f"wrong: {name}")
 
 
+def lists(folder):
+    """The commands that take a list, on a line of OPERATIONS bytes: seconds, and bytes of memory a name or a range."""
+    names = [f"n{i:07}" for i in range(max(OPERATIONS // 9, 1))]
+    random.Random(1).shuffle(names)
+    line = " ".join(names)
+    pairs = max(OPERATIONS // 18, 1)
+    ranges = " ".join(f"{i}.0 {i}.1" for i in range(1, pairs + 1))
+    for name, count, script in [
+        ("insert of text with a list of tags", len(names), [f".t insert 1.0 a {{{line}}}"]),
+        ("mark unset of names, and mark set of each", len(names), [*(f".t mark set {n} 1.0" for n in names), f".t mark unset {line}"]),
+        ("tag delete of names of an insert's list", len(names), [f".t insert 1.0 a {{{line}}}", f".t tag delete {line}"]),
+        ("tag add of ranges, each of a line of its own", pairs, [f'.t insert 1.0 "{"a" + chr(92) + "n"}"'] * pairs + [f".t tag add t {ranges}"]),
+    ]:
+        path = os.path.join(folder, "script")
+        with open(path, "w", encoding="ascii") as file:
+            file.write("\n".join(script) + "\n")
+        with open(path, "rb") as file:
+            name = f"{name}, {count:,}"
+            status, lines = measure(name, count, "run", "--site", "1", script=file, each="a name or a range")
+        expect(name, status == 0 and lines == len(script))
+
+
 def main():
+    if LISTS:
+        with tempfile.TemporaryDirectory() as folder:
+            lists(folder)
+        return 1 if wrong else 0
     with tempfile.TemporaryDirectory() as folder:
         file, other, out = (os.path.join(folder, name) for name in ("file", "other", "out"))
         n = OPERATIONS
