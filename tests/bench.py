@@ -5,11 +5,14 @@ state of tags: seconds, and bytes of memory an operation that is read, or a writ
 Usage: tests/bench.py [PROGRAM [OPERATIONS]]; without a program it takes ./peertext's, which has to be built; a million
 operations if no number is given. It is run by hand. The status is 1 where an answer is wrong.
 
+tests/bench.py lists [PROGRAM [BYTES]]: times the commands that take lists of names or of ranges, each on lines of so many bytes; a
+million if no number is given.
 tests/bench.py spans: times the map over spans beside Rust's BTreeMap, which is left out where there is no rustc.
 tests/bench.py nodes: times calls of node memory, in a program of its own, tests/bench/nodes, which rt proves and builds.
 """
 import filecmp
 import os
+import random
 import shutil
 import struct
 import subprocess
@@ -18,8 +21,10 @@ import tempfile
 import time
 
 ROOT = os.path.dirname(os.path.dirname(os.path.abspath(__file__)))
-PROGRAM = sys.argv[1] if len(sys.argv) > 1 else os.path.join(ROOT, "crates", "peertext", "out", "peertext")
-OPERATIONS = int(sys.argv[2]) if len(sys.argv) > 2 else 1_000_000
+MODE = sys.argv[1] if sys.argv[1:2] and sys.argv[1] in ("lists", "spans", "nodes") else ""
+WORDS = sys.argv[2:] if MODE else sys.argv[1:]
+PROGRAM = WORDS[0] if WORDS else os.path.join(ROOT, "crates", "peertext", "out", "peertext")
+OPERATIONS = int(WORDS[1]) if len(WORDS) > 1 else 1_000_000
 wrong = 0
 
 
@@ -94,6 +99,30 @@ def spans():
     return 1 if wrong else 0
 
 
+def lists():
+    """The commands that take a list, on a line of OPERATIONS bytes: seconds, and bytes of memory a name or a range."""
+    names = [f"n{i:07}" for i in range(max(OPERATIONS // 9, 1))]
+    random.Random(1).shuffle(names)
+    line = " ".join(names)
+    pairs = max(OPERATIONS // 18, 1)
+    ranges = " ".join(f"{i}.0 {i}.1" for i in range(1, pairs + 1))
+    for name, count, script in [
+        ("insert of text with a list of tags", len(names), [f".t insert 1.0 a {{{line}}}"]),
+        ("mark unset of names, and mark set of each", len(names), [*(f".t mark set {n} 1.0" for n in names), f".t mark unset {line}"]),
+        ("tag delete of names of an insert's list", len(names), [f".t insert 1.0 a {{{line}}}", f".t tag delete {line}"]),
+        ("tag add of ranges, each of a line of its own", pairs, [f'.t insert 1.0 "{"a" + chr(92) + "n"}"'] * pairs + [f".t tag add t {ranges}"]),
+    ]:
+        with tempfile.TemporaryDirectory() as folder:
+            path = os.path.join(folder, "script")
+            with open(path, "w", encoding="ascii") as file:
+                file.write("\n".join(script) + "\n")
+            with open(path, "rb") as file:
+                name = f"{name}, {count:,}"
+                status, lines = measure(name, count, "run", "--site", "1", script=file, each="a name or a range")
+        expect(name, status == 0 and lines == len(script))
+    return 1 if wrong else 0
+
+
 def main():
     with tempfile.TemporaryDirectory() as folder:
         file, other, out = (os.path.join(folder, name) for name in ("file", "other", "out"))
@@ -128,5 +157,4 @@ def nodes():
 
 
 if __name__ == "__main__":
-    call = {"spans": spans, "nodes": nodes}.get(" ".join(sys.argv[1:]), main)
-    sys.exit(call())
+    sys.exit({"lists": lists, "spans": spans, "nodes": nodes, "": main}[MODE]())

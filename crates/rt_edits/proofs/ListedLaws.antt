@@ -12,7 +12,7 @@ use Rattle.rt_store.specs.Cells.{final_cell}
 use Rattle.rt_store.specs.Tagged.{AreStates}
 use Rattle.rt_store.proofs.GivenStates.{one_state}
 use Rattle.rt_tags.specs.States.{TagStates, is_on, Write}
-use Rattle.rt_tags.specs.Tags.{IsName, sel, Tags, is_listed, is_place, without, just_above, just_below, raised, lowered, tags_raised, tags_lowered}
+use Rattle.rt_tags.specs.Tags.{IsName, sel, Tags, is_listed, is_place, without, just_above, just_below, raised, lowered}
 use Rattle.rt_tags.proofs.Places.{split, same_name, name_itself}
 use Rattle.rt_store.specs.Shown.{TaggedCell, shown}
 use Rattle.rt_edits.specs.Listed.{AreListed, IsShared, listed_name}
@@ -149,19 +149,19 @@ both_of true true x e = (refl, refl)
 both_of true false x e = let bad : ⊥ = cc in absurd bad
 both_of false b x e = let bad : ⊥ = cc in absurd bad
 
-pub raise_keeps : (name : Word) (above : Option Word) (old new : Tags) (cells : List TaggedCell) (r : Result (Unit {0}) Fault) → OnOk r (new ≡ tags_raised name above old) → OnErr r (new ≡ old)
+pub raise_keeps : (name : Word) (above : Option Word) (old new : Tags) (cells : List TaggedCell) (r : Result (Unit {0}) Fault) → OnOk r (new.names ≡ raised name above old.names) → OnErr r (new ≡ old)
     → r ≡ (if is_listed name old.names && is_place above old.names then Ok tt else Err NoTag) → AreListed old.names cells → AreListed new.names cells
 raise_keeps name above old new cells (Ok x) done same answer listed =
     let p = both_of (is_listed name old.names) (is_place above old.names) x answer in
-    subst (λ (t : Tags). AreListed t.names cells) (sym done)
+    subst (λ names. AreListed names cells) (sym done)
     (listed_more old.names (raised name above old.names) cells (raised_listed name above old.names p.1) (raised_names name above old.names (listed_name name old.names listed.names p.0) listed.names) listed)
 raise_keeps name above old new cells (Err fault) done same answer listed = subst (λ (t : Tags). AreListed t.names cells) (sym same) listed
 
-pub lower_keeps : (name : Word) (below : Option Word) (old new : Tags) (cells : List TaggedCell) (r : Result (Unit {0}) Fault) → OnOk r (new ≡ tags_lowered name below old) → OnErr r (new ≡ old)
+pub lower_keeps : (name : Word) (below : Option Word) (old new : Tags) (cells : List TaggedCell) (r : Result (Unit {0}) Fault) → OnOk r (new.names ≡ lowered name below old.names) → OnErr r (new ≡ old)
     → r ≡ (if is_listed name old.names && is_place below old.names then Ok tt else Err NoTag) → AreListed old.names cells → AreListed new.names cells
 lower_keeps name below old new cells (Ok x) done same answer listed =
     let p = both_of (is_listed name old.names) (is_place below old.names) x answer in
-    subst (λ (t : Tags). AreListed t.names cells) (sym done)
+    subst (λ names. AreListed names cells) (sym done)
     (listed_more old.names (lowered name below old.names) cells (lowered_listed name below old.names p.1) (lowered_names name below old.names (listed_name name old.names listed.names p.0) listed.names) listed)
 lower_keeps name below old new cells (Err fault) done same answer listed = subst (λ (t : Tags). AreListed t.names cells) (sym same) listed
 

@@ -1,5 +1,5 @@
 -- Laws of the plan of an insertion.
-use Rattle.std.proofs.Common.{◌≡◌, ℕ, zero, suc, ◌+◌, ◌-◌, ◌*◌, ◌/◌, ◌%◌, ◌<◌, ◌≤◌, List, [], ◌∷◌, ◌++◌, Bool, true, false, cond, length, take, drop, map, filter, get_or, refl, sym, ◌∙◌, ap, subst, arith, ◌⊎◌, inl, inr, min, ltb}
+use Rattle.std.proofs.Common.{◌≡◌, ℕ, zero, suc, ◌+◌, ◌-◌, ◌*◌, ◌/◌, ◌%◌, ◌<◌, ◌≤◌, List, [], ◌∷◌, ◌++◌, Bool, true, false, cond, not, length, take, drop, map, filter, get_or, refl, sym, ◌∙◌, ap, subst, arith, ◌⊎◌, inl, inr, min, ltb}
 use Rattle.std.specs.Prelude.{All, nat_eq}
 use Rattle.std.proofs.lemmas.Bool.{eqb-true, lt-ltb, le-ltb, cases_lt}
 use Rattle.std.proofs.lemmas.List.{take_all, drop_all, take-append-le, drop-append-le, length-drop, length-take, length-append, length-map, length-take-le, map_more, append-nil, append_assoc, map-append}
@@ -12,7 +12,10 @@ use Rattle.rt_stamps.specs.Words.{Word}
 use Rattle.rt_store.specs.declared.cell.Cell.{Cell}
 use Rattle.rt_store.specs.Tagged.{AreStates}
 use Rattle.rt_store.proofs.GivenStates.{kept_states}
-use Rattle.rt_tags.specs.States.{TagStates, Write, IsState, IsTag, KeepsIds, name_at, state_at, written}
+use Rattle.std.specs.Str.{bytes_eq}
+use Rattle.rt_tags.specs.States.{TagStates, Write, IsState, IsTag, KeepsIds, name_at, state_at, write_at, writes_at, written}
+use Rattle.rt_tags.specs.Tags.{sel}
+use Rattle.rt_tags.specs.declared.states.Entry.{Entry}
 use Rattle.rt_tags.specs.Writers.{listed_by, state_after}
 use Rattle.rt_store.specs.Shown.{TaggedCell, shown}
 use Rattle.rt_store.specs.Cells.{cells_from}
@@ -226,16 +229,33 @@ state_more site last f tags i tag name writer h at n w =
     ∙ ap (new_state site last) (sym (map_more f tags i tag h))
 
 -- one name more of a list
-pub names_more : {X : Type 0} (test : Word → Bool) (f : X → Word) (xs : List X) (i : ℕ) (x : X) → i < length xs → x ≡ get_or xs i x
-    → state_after [] (listed_by ROOT (filter test (map f (take (i + 1) xs)))) ≡ state_after (state_after [] (listed_by ROOT (filter test (map f (take i xs))))) (listed_by ROOT (filter test (f x ∷ [])))
-names_more test f xs i x h at =
+pub filtered_more : {X : Type 0} (test : Word → Bool) (f : X → Word) (xs : List X) (i : ℕ) (x : X) → i < length xs → x ≡ get_or xs i x
+    → filter test (map f (take (i + 1) xs)) ≡ filter test (map f (take i xs)) ++ filter test (f x ∷ [])
+filtered_more test f xs i x h at =
     let before = map f (take i xs) in
-    let by_root : Word → Write = λ name. record { name = name; writer = ROOT; on = true } in
-    let all : map f (take (i + 1) xs) ≡ before ++ f x ∷ [] = map_more f xs i x h ∙ ap (λ y. before ++ f y ∷ []) (sym at) in
-    ap (λ l. state_after [] (listed_by ROOT (filter test l))) all
-    ∙ ap (λ l. state_after [] (listed_by ROOT l)) (filter-append test before (f x ∷ []))
-    ∙ ap (state_after []) (map-append by_root (filter test before) (filter test (f x ∷ [])))
-    ∙ after_more [] (listed_by ROOT (filter test before)) (listed_by ROOT (filter test (f x ∷ [])))
+    ap (filter test) (map_more f xs i x h ∙ ap (λ y. before ++ f y ∷ []) (sym at)) ∙ filter-append test before (f x ∷ [])
+
+pub passed_over : (names : List Word) (name : Word) → bytes_eq name sel ≡ true → names ≡ names ++ filter (λ n. not (bytes_eq n sel)) (name ∷ [])
+passed_over names name e = sym (append-nil names) ∙ ap (λ b. names ++ cond (not b) (name ∷ []) []) (sym e)
+
+pub kept_one : (names : List Word) (name : Word) → bytes_eq name sel ≡ false → names ++ name ∷ [] ≡ names ++ filter (λ n. not (bytes_eq n sel)) (name ∷ [])
+kept_one names name e = ap (λ b. names ++ cond (not b) (name ∷ []) []) (sym e)
+
+pub one_given : (old new : TagStates) (tags : List ℕ) (tag : ℕ) → KeepsIds old new → All (IsTag old) tags → IsTag new tag → All (IsTag new) (tags ++ tag ∷ [])
+one_given old new tags tag keeps h n = All-append (IsTag new) tags (tag ∷ []) (tags_kept old new tags keeps h) (All-cons (IsTag new) tag [] n (All-nil (IsTag new)))
+
+-- one more write
+pub one_written : (table : TagStates) (writes : List Entry) (w : Entry) → state_after [] (writes_at table (writes ++ w ∷ [])) ≡ written (write_at table w.tag w.writer w.on) (state_after [] (writes_at table writes))
+one_written table writes w =
+    let seen : Entry → Write = λ e. write_at table e.tag e.writer e.on in
+    ap (state_after []) (map-append seen writes (w ∷ [])) ∙ after_more [] (writes_at table writes) (seen w ∷ [])
+
+-- writes of tags that were given out
+pub writes_given : (table : TagStates) (writes : List Entry) → All (IsTag table) (map (λ w. w.tag) writes) → All (λ w. IsTag table w.tag) writes
+writes_given table [] h = All-nil (λ (w : Entry). IsTag table w.tag)
+writes_given table (w ∷ writes) h =
+    let tags = map (λ (e : Entry). e.tag) writes in
+    All-cons (λ (e : Entry). IsTag table e.tag) w writes (All-head (IsTag table) w.tag tags h) (writes_given table writes (All-tail (IsTag table) w.tag tags h))
 
 -- a text that isn't empty has a character
 pub some_left : (empty : Bool) (n : ℕ) → empty ≡ nat_eq n 0 → empty ≡ false → 1 ≤ n

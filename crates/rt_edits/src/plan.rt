@@ -6,9 +6,9 @@ ghost use Rattle.rt_stamps.specs.declared.stamp.Stamp.{Stamp};
 ghost use Rattle.rt_stamps.specs.declared.stamp.TheConstants.{ROOT};
 ghost use Rattle.rt_stamps.specs.Words.{Word};
 ghost use Rattle.rt_store.specs.Tagged.{AreStates};
-ghost use Rattle.rt_tags.specs.States.{IsState, IsTag, KeepsIds, is_on, name_at, names_on, state_at};
+ghost use Rattle.rt_tags.specs.States.{Interns, IsState, IsTag, KeepsIds, TagStates, is_on, name_at, names_on, state_at, writes_at};
 ghost use Rattle.rt_tags.specs.Tags.{is_listed, sel};
-ghost use Rattle.rt_tags.specs.Writers.{listed_by, state_after};
+ghost use Rattle.rt_tags.specs.Writers.{state_after};
 ghost use Rattle.rt_store.specs.Cells.{cells_from, stamps_of};
 ghost use Rattle.rt_edits.specs.Insertions.{shared_names, new_state, inserts_for, selected_if, tagged_cells, counts_for, last_of, tags_between, with_listed, with_pieces, with_unlisted};
 ghost use Rattle.rt_edits.specs.Planned.{IsPlan, planned, writer_at};
@@ -22,49 +22,41 @@ use crate::{Piece, Selection};
 use rt_stamps::limits::{GREATEST_COUNT, MOST_CHARACTERS, MOST_TAGS};
 use rt_stamps::{Fault, ROOT, Site, Stamp};
 use rt_store::Cell;
-use rt_tags::{StateId, StateTable, TagId};
+use rt_tags::{Entry, StateId, StateTable, TagId};
 use std::alloc::Global;
 
-// A state with one more tag of a list, but for `sel`, under the root's stamp.
-fn with_listed_name(states: &mut StateTable, state: StateId, name: &str) -> Result<StateId, Fault>
-    requires { IsState states.old state }
-    ensures given { IfOk result (IsState states.new) }
-    ensures state { IfOk result (λ new. state_at states.new new ≡ state_after (state_at states.old state) (listed_by ROOT (filter (λ name. not (bytes_eq name sel)) (name.now ∷ [])))) }
+// Adds the tag of a name, but for `sel`.
+fn push_tag(states: &mut StateTable, tags: &mut Vec<TagId>, name: &str) -> Result<(), Fault>
+    requires { All (IsTag states.old) tags.old.items }
+    ensures ok { OnOk result (map (name_at states.new) tags.new.items ≡ map (name_at states.old) tags.old.items ++ filter (λ name. not (bytes_eq name sel)) (name.now ∷ [])) }
+    ensures given { OnOk result (All (IsTag states.new) tags.new.items) }
     ensures ids { KeepsIds states.old states.new }
     ensures err { IfErr result (λ fault. fault ≡ Fault.NoMemory) }
 {
     if name == "sel" {
-        return Ok(state);
+        return Ok(());
     }
     let tag = states.number(name)?;
-    states.with(state, tag, ROOT, true)
+    tags.push(tag)?;
+    Ok(())
 }
 
-// The state of a character with the tags of a list, but for `sel`, under the root's stamp.
-fn state_of_list(states: &mut StateTable, names: &[String]) -> Result<StateId, Fault>
-    ensures given { IfOk result (IsState states.new) }
-    ensures state { IfOk result (λ state. state_at states.new state ≡ state_after [] (listed_by ROOT (filter (λ name. not (bytes_eq name sel)) (map (λ w. string_bytes w) names.now)))) }
+// The tags of a list in turn, but for `sel`.
+fn tags_of_list(
+    alloc: Global,
+    states: &mut StateTable,
+    names: &[String],
+) -> Result<Vec<TagId>, Fault>
+    ensures ok { IfOk result (λ tags. map (name_at states.new) tags.items ≡ filter (λ name. not (bytes_eq name sel)) (map (λ w. string_bytes w) names.now)) }
+    ensures given { IfOk result (λ tags. All (IsTag states.new) tags.items) }
     ensures ids { KeepsIds states.old states.new }
     ensures err { IfErr result (λ fault. fault ≡ Fault.NoMemory) }
 {
-    states.order();
-    let mut state = StateId::EMPTY;
+    let mut tags = Vec::new(alloc);
     for name in names {
-        state = with_listed_name(states, state, name)?;
+        push_tag(states, &mut tags, name)?;
     }
-    Ok(state)
-}
-
-// A copy of some tags.
-fn copied(alloc: Global, tags: &[TagId]) -> Result<Vec<TagId>, Fault>
-    ensures ok { IfOk result (λ copy. copy.items ≡ tags.now) }
-    ensures err { IfErr result (λ fault. fault ≡ Fault.NoMemory) }
-{
-    let mut copy = Vec::with_capacity(alloc, tags.len())?;
-    for tag in tags {
-        copy.push(*tag)?;
-    }
-    Ok(copy)
+    Ok(tags)
 }
 
 /// The tags of a list by their names' bytes, each once, but for `sel`. Want of memory; then the table
@@ -79,8 +71,8 @@ pub(crate) fn shared_tags(
     ensures ids { KeepsIds states.old states.new }
     ensures err { IfErr result (λ fault. fault ≡ Fault.NoMemory) }
 {
-    let state = state_of_list(states, names)?;
-    copied(alloc, states.on(state))
+    let tags = tags_of_list(alloc, states, names)?;
+    states.in_order(&tags)
 }
 
 /// The tags that two states share, by their names' bytes. Want of memory.
@@ -121,8 +113,27 @@ fn writer_of(site: Site, last: u64, index: usize) -> Stamp
     }
 }
 
+// What is written on new characters with some tags, where the Insert's last count is given.
+fn writes_of(alloc: Global, site: Site, last: u64, tags: &[TagId]) -> Result<Vec<Entry>, Fault>
+    requires { last + length tags.now ≤ GREATEST_COUNT * 2 }
+    ensures tags { IfOk result (λ writes. map (λ w. w.tag) writes.items ≡ tags.now) }
+    ensures state { IfOk result (λ writes. (table : TagStates) → state_after [] (writes_at table writes.items) ≡ new_state site.number last (map (name_at table) tags.now)) }
+    ensures err { IfErr result (λ fault. fault ≡ Fault.NoMemory) }
+{
+    let mut writes = Vec::with_capacity(alloc, tags.len())?;
+    for (i, tag) in tags.iter().enumerate() {
+        writes.push(Entry {
+            tag: *tag,
+            writer: writer_of(site, last, i),
+            on: true,
+        })?;
+    }
+    Ok(writes)
+}
+
 // The state of new characters with some tags, where the Insert's last count is given.
 fn new_state(
+    alloc: Global,
     states: &mut StateTable,
     site: Site,
     last: u64,
@@ -132,15 +143,13 @@ fn new_state(
     requires counts { last + length tags.now ≤ GREATEST_COUNT * 2 }
     ensures given { IfOk result (IsState states.new) }
     ensures state { IfOk result (λ state. state_at states.new state ≡ new_state site.number last (map (name_at states.old) tags.now)) }
+    ensures interned { IfOk result (λ state. Interns (new_state site.number last (map (name_at states.old) tags.now)) states.old.states state states.new.states) }
     ensures ids { KeepsIds states.old states.new }
     ensures err { IfErr result (λ fault. fault ≡ Fault.NoMemory) }
 {
+    let writes = writes_of(alloc, site, last, tags)?;
     states.order();
-    let mut state = StateId::EMPTY;
-    for (i, tag) in tags.iter().enumerate() {
-        state = states.with(state, *tag, writer_of(site, last, i), true)?;
-    }
-    Ok(state)
+    states.with_all(StateId::EMPTY, &writes)
 }
 
 // How many tags are more than an Insert may list.
@@ -190,6 +199,7 @@ fn last_count(count: u64, tags: usize, characters: usize) -> Result<u64, Fault>
 /// Adds the cells of a text with some tags, with the counts after a given one; the answer is the
 /// greatest of these. `ClockSpent`, or want of memory.
 pub(crate) fn push_text(
+    alloc: Global,
     states: &mut StateTable,
     cells: &mut Vec<Cell<StateId>>,
     site: Site,
@@ -213,7 +223,7 @@ pub(crate) fn push_text(
     while !rest.is_empty() {
         let (part, behind) = next_part(rest);
         let last_of_part = now + part.len() as u64;
-        let state = new_state(states, site, last_of_part, tags)?;
+        let state = new_state(alloc, states, site, last_of_part, tags)?;
         push_cells(cells, now + 1, site, state, part)?;
         now = last_of_part + further(tags.len()) as u64;
         rest = behind;
@@ -305,6 +315,7 @@ impl Plan {
     // Adds the cells of a text with some tags, and lists these.
     fn add_text(
         &mut self,
+        alloc: Global,
         states: &mut StateTable,
         site: Site,
         tags: &[TagId],
@@ -321,7 +332,7 @@ impl Plan {
         ensures ids { KeepsIds states.old states.new }
         ensures err { IfErr result (λ fault. (fault ≡ Fault.NoMemory) ⊎ ((fault ≡ Fault.ClockSpent) × (GREATEST_COUNT < self.old.count + counts_for (map (name_at states.old) tags.now) text.now))) }
     {
-        self.count = push_text(states, &mut self.cells, site, self.count, tags, text)?;
+        self.count = push_text(alloc, states, &mut self.cells, site, self.count, tags, text)?;
         self.tags.extend_from_slice(tags)?;
         Ok(())
     }
@@ -359,7 +370,7 @@ impl Plan {
         }
         let tags = shared_tags(alloc, states, piece.tags())?;
         let before = self.cells.len();
-        self.add_text(states, site, &tags, &text)?;
+        self.add_text(alloc, states, site, &tags, &text)?;
         let stamps = stamps_of(alloc, &self.cells[before..])?;
         let selected = names_sel(piece.tags());
         self.select(selected, &stamps)
@@ -424,7 +435,7 @@ impl Plan {
     {
         let tags = tags_of_both(alloc, states, left.state, right.state)?;
         let before = self.cells.len();
-        self.add_text(states, site, &tags, text)?;
+        self.add_text(alloc, states, site, &tags, text)?;
         let stamps = stamps_of(alloc, &self.cells[before..])?;
         let selected = self.selects_both(selection, left.stamp, right.stamp);
         self.select(selected, &stamps)?;
@@ -464,7 +475,7 @@ impl Plan {
         match last_of(left, &self.cells) {
             Some(left) => self.add_between(alloc, states, site, selection, left, right, &text),
             None => {
-                self.add_text(states, site, &[], &text)?;
+                self.add_text(alloc, states, site, &[], &text)?;
                 Ok(())
             }
         }

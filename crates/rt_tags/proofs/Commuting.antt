@@ -18,7 +18,7 @@ use Rattle.rt_tags.proofs.Greatest.{greater_twice, newer, write_of_written}
 use Rattle.rt_tags.proofs.Places.{split, clash, name_itself, same_name}
 use Rattle.rt_tags.proofs.Sorted.{every, turned, written_sorted}
 
-none_above : (q : List ℕ) (xs : List Write) → AllByRecursion (λ x. name_order q x.name ≡ Less) xs → write_of q xs ≡ None
+pub none_above : (q : List ℕ) (xs : List Write) → AllByRecursion (λ x. name_order q x.name ≡ Less) xs → write_of q xs ≡ None
 none_above q [] h = refl
 none_above q (x ∷ xs) h =
     let other : bytes_eq q x.name ≡ false = sym (is_eq-slice_cmp q x.name) ∙ ap is_eq h.0 in
@@ -28,7 +28,7 @@ found_first : (w : Write) (xs : List Write) → write_of w.name (w ∷ xs) ≡ S
 found_first w xs = ap (λ b. cond b (Some w) (write_of w.name xs)) (name_itself w.name)
 
 -- all names of a state come after one that comes before its first
-all_above : (q : List ℕ) (v : Write) (t : List Write) → IsByName (v ∷ t) → name_order q v.name ≡ Less → AllByRecursion (λ x. name_order q x.name ≡ Less) (v ∷ t)
+pub all_above : (q : List ℕ) (v : Write) (t : List Write) → IsByName (v ∷ t) → name_order q v.name ≡ Less → AllByRecursion (λ x. name_order q x.name ≡ Less) (v ∷ t)
 all_above q v t h l = (l, every (λ x. name_order v.name x.name ≡ Less) (λ x. name_order q x.name ≡ Less) (λ x k. nat_list_cmp_total.trans q v.name x.name l k) t h.0)
 
 -- states with the same write of each tag are one
@@ -80,7 +80,7 @@ twice q v w state =
 back_name : (a b : List ℕ) → bytes_eq a b ≡ true → bytes_eq b a ≡ true
 back_name a b h = subst (λ n. bytes_eq n a ≡ true) (same_name a b h) (name_itself a)
 
-back_other : (a b : List ℕ) → bytes_eq a b ≡ false → bytes_eq b a ≡ false
+pub back_other : (a b : List ℕ) → bytes_eq a b ≡ false → bytes_eq b a ≡ false
 back_other a b h = split (bytes_eq b a) (λ t. absurd (clash (bytes_eq a b) (back_name b a t) h)) (λ f. f)
 
 same_tag : (q : List ℕ) (v w : Write) (state : List Write) → bytes_eq v.name w.name ≡ true → is_same v.writer w.writer ≡ false → write_of q (written v (written w state)) ≡ write_of q (written w (written v state))

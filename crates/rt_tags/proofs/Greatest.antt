@@ -118,7 +118,7 @@ write_of_written q w state =
 -- WHOLE LISTS OF WRITES
 
 -- the greatest of a write that the state has and of more
-abbrev top : Option Write → List Write → Option Write
+abbrev pub top : Option Write → List Write → Option Write
 top None writes = greatest writes
 top (Some v) writes = Some (greater v (greatest writes))
 

@@ -3,8 +3,10 @@ pub mod Entries
 pub mod Greatest
 pub mod Interning
 pub mod Keeping
+pub mod Listing
+pub mod Merging
+pub mod Parts
 pub mod Places
-pub mod Ready
 pub mod Sets
 pub mod Sorted
 pub mod Tables

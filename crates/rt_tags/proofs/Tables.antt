@@ -1,53 +1,64 @@
--- What the calls of a table make of its two lists.
-use Rattle.std.proofs.Common.{◌≡◌, ℕ, List, [], ◌∷◌, ◌++◌, false, sym, ap, ◌∙◌, cond, remove, slice_get, Some, Option}
+-- What the calls of a table make of its names.
+use Rattle.std.proofs.Common.{◌≡◌, ℕ, ◌-◌, List, [], ◌∷◌, ◌++◌, ◌||◌, Bool, true, false, refl, sym, ap, subst, ◌∙◌, cond, take}
 use Rattle.std.specs.Str.{bytes_eq}
-use Rattle.rt_tags.specs.Tags.{Tags, HaveNoRepeats, is_listed, without, with_name, sel, tags_forgotten, tags_listed, tags_raised, tags_lowered, raised, lowered}
+use Rattle.std.proofs.lemmas.List.{take-append-le}
+use Rattle.std.proofs.lemmas.List.Folds.{list_any-append}
+use Rattle.indexmap.specs.IndexSet.{move_index}
+use Rattle.rt_tags.specs.Tags.{Tags, AlsoReady, SameReady, forgotten, is_listed, sel, with_name, without}
+use Rattle.rt_tags.specs.Kept.{IsListing}
 use Rattle.rt_tags.specs.Seen.{IsAt}
-use Rattle.rt_tags.proofs.Places.{got, removed, without_absent}
+use Rattle.rt_tags.proofs.Parts.{part_highest}
+use Rattle.rt_tags.proofs.Places.{same_name, split, without_absent}
 
-abbrev pub tags_of : List (List ℕ) → List (List ℕ) → Tags
-tags_of names prepared = record { names = names; prepared = prepared }
+abbrev pub tags_of : List (List ℕ) → ℕ → Tags
+tags_of names listed = record { names = take listed names; ready = names }
 
-one_name : (name s : List ℕ) (names : List (List ℕ)) (i : ℕ) → IsAt name names i → slice_get names i ≡ Some s → s ≡ name
-one_name name s names i at h =
-    let e : Some s ≡ Some name = sym h ∙ got name names i at in
-    let same : s ≡ name = cc in
-    same
+-- one more name behind the others
+also_behind : (name : List ℕ) (names : List (List ℕ)) (q : List ℕ) → is_listed q (names ++ name ∷ []) ≡ (bytes_eq q name || is_listed q names)
+also_behind name names q = list_any-append (bytes_eq q) names (name ∷ []) ∙ swapped (is_listed q names) (bytes_eq q name)
+  where
+    swapped : (a b : Bool) → (a || (b || false)) ≡ (b || a)
+    swapped true true = refl
+    swapped true false = refl
+    swapped false true = refl
+    swapped false false = refl
 
-module _ (name : List ℕ) (listed prepared : List (List ℕ)) (tags : Tags) (is : tags_of listed prepared ≡ tags) where
-  unlisted : is_listed name tags.names ≡ false → is_listed name listed ≡ false
-  unlisted n = ap (λ (t : Tags). is_listed name t.names) is ∙ n
+-- a name that is there already
+also_there : (name : List ℕ) (names : List (List ℕ)) → is_listed name names ≡ true → (q : List ℕ) → is_listed q names ≡ (bytes_eq q name || is_listed q names)
+also_there name names h q =
+    split (bytes_eq q name)
+    (λ t. subst (λ r. is_listed r names ≡ true) (sym (same_name q name t)) h ∙ sym (ap (λ b. b || is_listed q names) t))
+    (λ f. sym (ap (λ b. b || is_listed q names) f))
 
-  pub forgotten_listed : (after : List (List ℕ)) (i : ℕ) → HaveNoRepeats listed → IsAt name listed i → after ≡ remove listed i → bytes_eq name sel ≡ false → tags_of after prepared ≡ tags_forgotten name tags
-  forgotten_listed after i own at e f =
-      let gone : after ≡ without name listed = e ∙ removed name listed i own at in
-      let kept : without name listed ≡ cond (bytes_eq name sel) listed (without name listed) = sym (ap (λ b. cond b listed (without name listed)) f) in
-      ap (λ v. tags_of v prepared) (gone ∙ kept) ∙ ap (tags_forgotten name) is
+module _ (name : List ℕ) (names : List (List ℕ)) (listed : ℕ) (tags : Tags) (is : tags_of names listed ≡ tags) where
+  pub ready_there : (after : List (List ℕ)) (n : ℕ) → is_listed name names ≡ true → ((q : List ℕ) → is_listed q after ≡ is_listed q names) → AlsoReady name tags (tags_of after n)
+  ready_there after n h f = subst (λ (t : Tags). AlsoReady name t (tags_of after n)) is (λ q. f q ∙ also_there name names h q)
 
-  pub forgotten_unlisted : is_listed name listed ≡ false → bytes_eq name sel ≡ false → tags ≡ tags_forgotten name tags
-  forgotten_unlisted n f =
-      let kept : listed ≡ cond (bytes_eq name sel) listed (without name listed) = sym (ap (λ b. cond b listed (without name listed)) f ∙ without_absent name listed n) in
-      sym is ∙ ap (λ v. tags_of v prepared) kept ∙ ap (tags_forgotten name) is
+  pub ready_itself : is_listed name names ≡ true → AlsoReady name tags tags
+  ready_itself h = subst (λ (t : Tags). AlsoReady name t t) is (also_there name names h)
 
-  pub prepared_unlisted : (s : List ℕ) (i : ℕ) → is_listed name tags.names ≡ false → IsAt name prepared i → slice_get prepared i ≡ Some s → is_listed s listed ≡ false
-  prepared_unlisted s i n at h = ap (λ v. is_listed v listed) (one_name name s prepared i at h) ∙ unlisted n
+  pub ready_new : (longer after : List (List ℕ)) (n : ℕ) → longer ≡ names ++ name ∷ [] → ((q : List ℕ) → is_listed q after ≡ is_listed q longer) → AlsoReady name tags (tags_of after n)
+  ready_new longer after n l f = subst (λ (t : Tags). AlsoReady name t (tags_of after n)) is (λ q. f q ∙ ap (is_listed q) l ∙ also_behind name names q)
 
-  pub listed_prepared : (s : List ℕ) (i : ℕ) (longer shorter : List (List ℕ)) → is_listed name tags.names ≡ false → HaveNoRepeats prepared → IsAt name prepared i → slice_get prepared i ≡ Some s
-      → longer ≡ listed ++ s ∷ [] → shorter ≡ remove prepared i → tags_of longer shorter ≡ tags_listed name tags
-  listed_prepared s i longer shorter n own at h a b =
-      let put : longer ≡ with_name name listed = a ∙ ap (λ v. listed ++ v ∷ []) (one_name name s prepared i at h) ∙ sym (ap (λ b. cond b listed (listed ++ name ∷ [])) (unlisted n)) in
-      let gone : shorter ≡ cond (is_listed name listed) prepared (without name prepared) = b ∙ removed name prepared i own at ∙ sym (ap (λ b. cond b prepared (without name prepared)) (unlisted n)) in
-      (λ j. tags_of (put j) (gone j)) ∙ ap (tags_listed name) is
+  pub ready_same : (after : List (List ℕ)) (n : ℕ) → ((q : List ℕ) → is_listed q after ≡ is_listed q names) → SameReady tags (tags_of after n)
+  ready_same after n f = subst (λ (t : Tags). SameReady t (tags_of after n)) is f
 
-  pub listed_new : (s : List ℕ) (roomy longer : List (List ℕ)) → is_listed name tags.names ≡ false → is_listed name prepared ≡ false → s ≡ name
-      → roomy ≡ listed → longer ≡ roomy ++ s ∷ [] → tags_of longer prepared ≡ tags_listed name tags
-  listed_new s roomy longer n m one room a =
-      let put : longer ≡ with_name name listed = a ∙ (λ j. room j ++ one j ∷ []) ∙ sym (ap (λ b. cond b listed (listed ++ name ∷ [])) (unlisted n)) in
-      let kept : prepared ≡ cond (is_listed name listed) prepared (without name prepared) = sym (ap (λ b. cond b prepared (without name prepared)) (unlisted n) ∙ without_absent name prepared m) in
-      (λ j. tags_of (put j) (kept j)) ∙ ap (tags_listed name) is
+  pub front_stays : (longer : List (List ℕ)) → IsListing names listed → longer ≡ names ++ name ∷ [] → take listed longer ≡ tags.names
+  front_stays longer k l = ap (take listed) l ∙ take-append-le listed names (name ∷ []) k.within ∙ ap (λ (t : Tags). t.names) is
 
-  pub raised_tags : (above : Option (List ℕ)) (after : List (List ℕ)) → after ≡ raised name above listed → tags_of after prepared ≡ tags_raised name above tags
-  raised_tags above after e = ap (λ v. tags_of v prepared) e ∙ ap (tags_raised name above) is
+  pub listing_longer : (longer : List (List ℕ)) (n : ℕ) (after : List (List ℕ)) → IsListing names listed → longer ≡ names ++ name ∷ [] → take n after ≡ with_name name (take listed longer) → take n after ≡ with_name name tags.names
+  listing_longer longer n after k l e = e ∙ ap (with_name name) (front_stays longer k l)
 
-  pub lowered_tags : (below : Option (List ℕ)) (after : List (List ℕ)) → after ≡ lowered name below listed → tags_of after prepared ≡ tags_lowered name below tags
-  lowered_tags below after e = ap (λ v. tags_of v prepared) e ∙ ap (tags_lowered name below) is
+  pub at_front : (i : ℕ) → IsAt name tags.names i → IsAt name (take listed names) i
+  at_front i h = subst (λ (t : Tags). IsAt name t.names i) (sym is) h
+
+  pub names_forgotten : (after : List (List ℕ)) (i : ℕ) → IsListing names listed → IsAt name tags.names i → take listed after ≡ move_index (take listed names) i (listed - 1) → bytes_eq name sel ≡ false → take (listed - 1) after ≡ forgotten name tags.names
+  names_forgotten after i k at e g =
+      let front = take listed names in
+      part_highest name names after listed i k (at_front i at) e
+      ∙ sym (ap (λ b. cond b front (without name front)) g)
+      ∙ ap (λ (t : Tags). forgotten name t.names) is
+
+-- a name that isn't listed
+pub none_forgotten : (name : List ℕ) (names : List (List ℕ)) → is_listed name names ≡ false → bytes_eq name sel ≡ false → names ≡ forgotten name names
+none_forgotten name names n g = sym (ap (λ b. cond b names (without name names)) g ∙ without_absent name names n)

@@ -1,5 +1,5 @@
 -- How a table keeps names and states.
-use Rattle.std.specs.Prelude.{◌≡◌, ◌==◌, ℕ, ◌<◌, List, [], ◌∷◌, ◌++◌, Bool, false, not, map, filter, length, Option, Some, None, slice_get, slice_index_or, if◌then◌else◌}
+use Rattle.std.specs.Prelude.{◌≡◌, ◌==◌, ℕ, ◌<◌, ◌≤◌, List, [], ◌∷◌, ◌++◌, ◌+◌, Bool, true, false, not, map, filter, length, Option, Some, None, slice_get, slice_index_or, if◌then◌else◌}
 use Rattle.std.specs.List.{All, AllByRecursion}
 use Rattle.std.specs.Ordering.{ordering_index}
 use Rattle.std.specs.declared.cmp.Ordering.{Ordering}
@@ -10,6 +10,7 @@ use Rattle.rt_stamps.specs.Stamps.{is_before}
 use Rattle.rt_tags.specs.declared.states.Entry.{Entry}
 use Rattle.rt_tags.specs.declared.states.State.{State}
 use Rattle.rt_tags.specs.States.{Write, IsByName, AreDistinct}
+use Rattle.rt_tags.specs.Writers.{state_after}
 use Rattle.rt_tags.specs.Tags.{HaveNoRepeats}
 
 -- an entry with the name of its tag
@@ -33,6 +34,10 @@ entry_of tag (e ∷ entries) = if e.tag == tag then Some e else entry_of tag ent
 -- the tags that are on
 abbrev pub tags_on : List Entry → List ℕ
 tags_on entries = map (λ e. e.tag) (filter (λ e. e.on) entries)
+
+-- tags that are put on under one writer
+abbrev pub all_on : Stamp → List ℕ → List Entry
+all_on writer tags = map (λ tag. record { tag = tag; writer = writer; on = true }) tags
 
 -- each entry's tag has a name
 abbrev pub HaveNames : ℕ → List Entry → Type 0
@@ -75,3 +80,22 @@ pub record IsNext (names : List (List ℕ)) (e : Entry) (entries : List Entry) (
   pub is_less : is_entry_kept (entry_of e.tag entries) e.writer ≡ false
   pub entries_of : next.entries.items ≡ entries_written names e entries
   pub on : next.on.items ≡ tags_on next.entries.items
+
+-- entries by the bytes of their tags' names, one of each tag
+pub record IsSorted (names : List (List ℕ)) (entries : List Entry) : Type 0 where
+  pub named : HaveNames (length names) entries
+  pub by_name : IsByName (all_seen names entries)
+
+-- The state that entries leave on others begins with an entry, and goes on as the state that the rest of them leaves on the
+-- rest of those.
+pub record IsFirst (names : List (List ℕ)) (old new : List Entry) (e : Entry) (more_old more_new : List Entry) : Type 0 where
+  pub named : e.tag < length names
+  pub first : state_after (all_seen names old) (all_seen names new) ≡ seen names e ∷ state_after (all_seen names more_old) (all_seen names more_new)
+  pub old_sorted : IsSorted names more_old
+  pub new_sorted : IsSorted names more_new
+  pub less : length more_old + length more_new < length old + length new
+
+-- The names of a tag table as it is kept: each once, and the first so many are listed.
+pub record IsListing (names : List (List ℕ)) (listed : ℕ) : Type 0 where
+  pub differ : HaveNoRepeats names
+  pub within : listed ≤ length names

@@ -7,6 +7,7 @@ use Rattle.std.specs.declared.cmp.Ordering.TheVariants.{Less}
 use Rattle.rt_stamps.specs.declared.stamp.Stamp.{Stamp}
 use Rattle.rt_stamps.specs.Names.{name_order}
 use Rattle.rt_stamps.specs.Stamps.{is_before}
+use Rattle.rt_tags.specs.declared.states.Entry.{Entry}
 use Rattle.rt_tags.specs.Tags.{with_name}
 
 -- a tag is put on a character or taken off: which one, under which stamp, and whether it is on
@@ -84,9 +85,18 @@ state_at table state = slice_index_or table.states state []
 abbrev pub write_at : TagStates → ℕ → Stamp → Bool → Write
 write_at table tag writer on = record { name = name_at table tag; writer = writer; on = on }
 
+-- writes of tags that were given out
+abbrev pub writes_at : TagStates → List Entry → List Write
+writes_at table entries = map (λ e. write_at table e.tag e.writer e.on) entries
+
 -- a new name has the next number
 abbrev pub numbered : List ℕ → TagStates → TagStates
 numbered name table = record table { names = with_name name table.names }
+
+-- new names have the next numbers, one after the other
+abbrev pub all_numbered : List (List ℕ) → TagStates → TagStates
+all_numbered [] table = table
+all_numbered (name ∷ names) table = all_numbered names (numbered name table)
 
 -- no state of the list is the given one
 abbrev pub IsNew : List Write → List (List Write) → Type 0

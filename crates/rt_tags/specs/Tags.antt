@@ -8,10 +8,10 @@ pub use Rattle.rt_stamps.specs.Names.{IsName}
 abbrev pub sel : List ℕ
 sel = 115 ∷ 101 ∷ 108 ∷ []
 
--- the names that are listed, lowest priority first, and those that are prepared: to list one of these takes no memory
+-- the names that are listed, lowest priority first, and in some order those that are ready: to list one of these takes no memory
 pub record Tags : Type 0 where
   pub names : List (List ℕ)
-  pub prepared : List (List ℕ)
+  pub ready : List (List ℕ)
 
 abbrev pub is_listed : List ℕ → List (List ℕ) → Bool
 is_listed name names = list_any (bytes_eq name) names
@@ -33,22 +33,19 @@ with_name name names = if is_listed name names then names else names ++ name ∷
 abbrev pub forgotten : List ℕ → List (List ℕ) → List (List ℕ)
 forgotten name names = if bytes_eq name sel then names else without name names
 
-abbrev pub tags_forgotten : List ℕ → Tags → Tags
-tags_forgotten name tags = record tags { names = forgotten name tags.names }
-
--- LISTING AND PREPARING
+-- READY NAMES
 
 -- to list a name takes no memory
 abbrev pub is_ready : List ℕ → Tags → Bool
-is_ready name tags = is_listed name tags.names || is_listed name tags.prepared
+is_ready name tags = is_listed name tags.ready
 
--- a prepared name that is listed now is no longer kept beside the names
-abbrev pub tags_listed : List ℕ → Tags → Tags
-tags_listed name tags = record { names = with_name name tags.names; prepared = if is_listed name tags.names then tags.prepared else without name tags.prepared }
+-- one more name is ready, and those that were stay so
+abbrev pub AlsoReady : List ℕ → Tags → Tags → Type 0
+AlsoReady name old new = (other : List ℕ) → is_ready other new ≡ (bytes_eq other name || is_ready other old)
 
--- a name that isn't listed is prepared
-abbrev pub tags_prepared : List ℕ → Tags → Tags
-tags_prepared name tags = record tags { prepared = if is_listed name tags.names then tags.prepared else with_name name tags.prepared }
+-- the same names are ready
+abbrev pub SameReady : Tags → Tags → Type 0
+SameReady old new = (other : List ℕ) → is_ready other new ≡ is_ready other old
 
 -- PRIORITIES
 
@@ -71,12 +68,6 @@ raised name (Some other) names = if bytes_eq name other then names else just_abo
 abbrev pub lowered : List ℕ → Option (List ℕ) → List (List ℕ) → List (List ℕ)
 lowered name None names = name ∷ without name names
 lowered name (Some other) names = if bytes_eq name other then names else just_below name other (without name names)
-
-abbrev pub tags_raised : List ℕ → Option (List ℕ) → Tags → Tags
-tags_raised name above tags = record tags { names = raised name above tags.names }
-
-abbrev pub tags_lowered : List ℕ → Option (List ℕ) → Tags → Tags
-tags_lowered name below tags = record tags { names = lowered name below tags.names }
 
 -- the other name is listed too, if one is given
 abbrev pub is_place : Option (List ℕ) → List (List ℕ) → Bool

@@ -6,16 +6,8 @@ ghost use Rattle.rt_stamps.specs.declared.stamp.Stamp.{Stamp};
 ghost use Rattle.rt_stamps.specs.declared.stamp.TheConstants.{ROOT};
 ghost use Rattle.rt_stamps.specs.Stamps.{is_before, is_same};
 ghost use Rattle.rt_tags.specs.States.{IsByName, Write, is_on, names_on, write_of, written};
-ghost use Rattle.rt_tags.specs.Tags.{HaveNoRepeats, Tags, is_listed, is_ready, tags_listed, tags_prepared};
+ghost use Rattle.rt_tags.specs.Tags.{HaveNoRepeats, is_listed};
 ghost use Rattle.rt_tags.specs.Writers.{is_shared, listed_by, state_after};
-
-/// A name that was prepared takes no memory when it is listed, also where others are prepared or
-/// listed before it. So where all names were prepared first, each can be listed.
-pub fn prepared_names()
-    ensures prepared { (name : List ℕ) (tags : Tags) → is_ready name (tags_prepared name tags) ≡ true }
-    ensures after_another { (q name : List ℕ) (tags : Tags) → is_ready q tags ≡ true → is_ready q (tags_prepared name tags) ≡ true }
-    ensures after_listing { (q name : List ℕ) (tags : Tags) → is_ready q tags ≡ true → is_ready q (tags_listed name tags) ≡ true }
-{}
 
 /// A state has one write of each tag and is known by them, and writes may come in any order, unless
 /// two of one tag have one stamp.

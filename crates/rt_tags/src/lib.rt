@@ -5,6 +5,7 @@
 
 pub mod laws;
 mod names;
+mod sorting;
 #[cfg(test)]
 mod state_tests;
 pub mod states;
@@ -12,5 +13,5 @@ pub mod table;
 #[cfg(test)]
 mod tests;
 
-pub use states::{StateId, StateTable, TagId};
+pub use states::{Entry, StateId, StateTable, TagId};
 pub use table::TagTable;

@@ -1,6 +1,6 @@
 ghost use Rattle.rt_tags.specs.States.{IsState, IsTag};
 
-use crate::{StateId, StateTable, TagId};
+use crate::{Entry, StateId, StateTable, TagId};
 use rt_stamps::{Fault, ROOT, Stamp};
 use std::alloc::Global;
 use std::test::Fail;
@@ -51,6 +51,26 @@ impl Typing {
         self.tag = self.table.number(name)?;
         let _ = self.write(ROOT.count, ROOT.site, on)?;
         Ok(self.after)
+    }
+
+    // The last character gets a list of names at once. Answers its state.
+    fn list(&mut self, names: &[String]) -> Result<StateId, Fault> {
+        let state = self.table.state_of_list(ROOT, names)?;
+        self.after = state;
+        Ok(state)
+    }
+
+    // Writes the tag on the last character three times at once, with counts from 2 on.
+    fn write_thrice(&mut self, first: bool, second: bool, third: bool) -> Result<(), Fault> {
+        let tag = self.tag;
+        let write = |count: u64, on: bool| Entry {
+            tag,
+            writer: Stamp { count, site: 1 },
+            on,
+        };
+        let writes = [write(2, first), write(4, third), write(3, second)];
+        self.after = self.table.with_all(self.after, &writes)?;
+        Ok(())
     }
 
     fn start_over(&mut self) {
@@ -155,5 +175,47 @@ fn by_name(rt: HostRuntime) -> Result<(), Fail> {
     assert_ne!(rt; first, typing.after);
     let second = typing.write_more("c", false)?;
     assert_eq!(rt; first, second);
+    Ok(())
+}
+
+// A list is the state of its names written one by one, and a name that it has twice is there once.
+#[test]
+fn at_once(rt: HostRuntime) -> Result<(), Fail> {
+    let alloc = rt.alloc();
+    let mut typing = Typing::new(alloc, "b")?;
+    let _ = typing.write_more("b", true)?;
+    let singly = typing.write_more("a", true)?;
+    let mut names = Vec::new(alloc);
+    for name in ["b", "a", "b"] {
+        names.push(String::from_str(alloc, name)?)?;
+    }
+    let listed = typing.list(&names)?;
+    assert_eq!(rt; listed, singly);
+    assert!(rt; typing.lists(&["a", "b"]));
+    Ok(())
+}
+
+// Of writes that are made at once the greatest stamp decides, wherever it stands among them.
+#[test]
+fn greatest_of_all(rt: HostRuntime) -> Result<(), Fail> {
+    let mut typing = Typing::new(rt.alloc(), "t")?;
+    typing.write_thrice(false, false, true)?;
+    assert!(rt; typing.has());
+    typing.start_over();
+    typing.write_thrice(true, true, false)?;
+    assert!(rt; !typing.has());
+    Ok(())
+}
+
+// Tags by the bytes of their names, each once.
+#[test]
+fn in_order(rt: HostRuntime) -> Result<(), Fail> {
+    let mut table = StateTable::new(rt.alloc())?;
+    let b = table.number("b")?;
+    let a = table.number("a")?;
+    let sorted = table.in_order(&[b, a, b])?;
+    assert_eq!(rt; sorted.len(), 2);
+    assert_eq!(rt; sorted[0], a);
+    assert_eq!(rt; sorted[1], b);
     Ok(())
 }

@@ -4,13 +4,15 @@ ghost use Rattle.std.specs.Ordering.{ordering_index};
 ghost use Rattle.std.specs.Str.{bytes_eq};
 ghost use Rattle.rt_stamps.specs.Names.{name_order};
 ghost use Rattle.rt_tags.specs.Tags.{is_listed};
-ghost use Rattle.rt_tags.specs.Kept.{HaveNames, IsKept, IsNext, AreKept, is_entry_kept, entries_written, entry_of, is_on_side, state_seen, states_seen, tags_on};
-ghost use Rattle.rt_tags.specs.States.{Interns, IsByName, IsState, IsTag, KeepsIds, is_on, is_settled, name_at, names_on, numbered, state_at, write_at, written};
+ghost use Rattle.rt_tags.specs.Kept.{HaveNames, IsKept, IsNext, AreKept, IsSorted, all_on, all_seen, is_entry_kept, entries_written, entry_of, is_on_side, state_seen, states_seen, tags_on};
+ghost use Rattle.rt_tags.specs.States.{Interns, IsByName, IsState, IsTag, KeepsIds, all_numbered, is_on, is_settled, name_at, names_on, numbered, state_at, write_at, writes_at, written};
+ghost use Rattle.rt_tags.specs.Writers.{listed_by, state_after};
+ghost use Rattle.rt_stamps.specs.declared.stamp.TheConstants.{ROOT};
 ghost use Rattle.indexmap.specs.IndexSet.{index_set_len};
 
-use crate::names;
+use crate::{names, sorting};
 use indexmap::IndexSet;
-use rt_stamps::{Fault, Stamp};
+use rt_stamps::{Fault, ROOT, Stamp};
 use std::alloc::{AllocError, Global};
 use std::cmp::Ordering;
 use std::marker::Model;
@@ -29,6 +31,15 @@ impl Model for TagId {
     ghost view = { λ t. t.place };
 
     ghost inverse = { λ n. record { place = n } };
+}
+
+impl TagId {
+    // Where its name stands in the table.
+    pub(crate) fn place(self) -> usize
+        ensures { result ≡ self }
+    {
+        self.place
+    }
 }
 
 /// A state's id in a table, for good.
@@ -52,15 +63,15 @@ impl StateId {
     pub const EMPTY: StateId = StateId { place: 0 };
 }
 
-// The last write of a tag.
+/// A write of a tag: which tag, under which stamp, and whether it is on.
 #[derive(Clone, Copy, Debug, PartialEq, Eq, Hash)]
-struct Entry {
-    tag: TagId,
-    writer: Stamp,
-    on: bool,
+pub struct Entry {
+    pub tag: TagId,
+    pub writer: Stamp,
+    pub on: bool,
 }
 
-// The entries by the bytes of their tags' names, and beside them the tags that are on.
+// The last write of each tag by the bytes of their names, and beside them the tags that are on.
 #[derive(Drop)]
 #[derive_where(PartialEq, Eq, Hash)]
 struct State {
@@ -190,6 +201,39 @@ fn next_state(
     Ok(Some(State { entries, on }))
 }
 
+// The state after writes.
+fn state_after(
+    alloc: Global,
+    state: &State,
+    names: &[String],
+    writes: &[Entry],
+) -> Result<State, AllocError>
+    requires named { HaveNames (length names.now) writes.now }
+    requires sorted { IsSorted (map (λ s. string_bytes s) names.now) state.now.entries.items }
+    ensures entries { IfOk result (λ s. state_seen (map (λ s. string_bytes s) names.now) s ≡ state_after (state_seen (map (λ s. string_bytes s) names.now) state.now) (all_seen (map (λ s. string_bytes s) names.now) writes.now)) }
+    ensures kept { IfOk result (λ s. IsKept (map (λ s. string_bytes s) names.now) s) }
+{
+    let new = sorting::sorted(alloc, names, writes)?;
+    let entries = sorting::merged(alloc, names, &state.entries, &new)?;
+    let on = tags_on(alloc, &entries)?;
+    Ok(State { entries, on })
+}
+
+// Writes that put tags on, under one writer.
+fn listed(alloc: Global, writer: Stamp, tags: &[TagId]) -> Result<Vec<Entry>, AllocError>
+    ensures { IfOk result (λ v. v.items ≡ all_on writer tags.now) }
+{
+    let mut writes = Vec::with_capacity(alloc, tags.len())?;
+    for tag in tags {
+        writes.push(Entry {
+            tag: *tag,
+            writer,
+            on: true,
+        })?;
+    }
+    Ok(writes)
+}
+
 /// Tags by number and tag states of characters by id. Contracts see the names in the order of their
 /// numbers and the states in the order of their ids: each name has one number and each state one id.
 #[derive(Drop)]
@@ -305,6 +349,72 @@ impl StateTable {
             }
             None => Ok(state),
         }
+    }
+
+    /// The state after writes, one after the other, made at once: no state on the way is kept.
+    /// `NoMemory` is its only fault, and the table is then as it was.
+    pub fn with_all(&mut self, state: StateId, writes: &[Entry]) -> Result<StateId, Fault>
+        requires state { IsState self.old state }
+        requires tags { All (λ w. IsTag self.old w.tag) writes.now }
+        ensures given { IfOk result (IsState self.new) }
+        ensures state { IfOk result (λ id. state_at self.new id ≡ state_after (state_at self.old state) (writes_at self.old writes.now)) }
+        ensures interned { IfOk result (λ id. Interns (state_after (state_at self.old state) (writes_at self.old writes.now)) self.old.states id self.new.states) }
+        ensures names { self.new.names ≡ self.old.names }
+        ensures err { OnErr result (self.new ≡ self.old) }
+        ensures fault { IfErr result (λ fault. fault ≡ Fault.NoMemory) }
+        ensures ids { KeepsIds self.old self.new }
+    {
+        let old = state_of(&self.states, state);
+        let new = state_after(self.alloc, old, self.names.as_slice(), writes)?;
+        let place = intern(&mut self.states, new)?;
+        Ok(StateId { place })
+    }
+
+    /// The state in which a list of names is on under one writer, made at once: no state on the way is
+    /// kept. New names get numbers. `NoMemory` is its only fault; the states are then as they were, and
+    /// names that got a number keep it.
+    pub fn state_of_list(&mut self, writer: Stamp, names: &[String]) -> Result<StateId, Fault>
+        ensures given { IfOk result (IsState self.new) }
+        ensures state { IfOk result (λ id. state_at self.new id ≡ state_after [] (listed_by writer (map (λ s. string_bytes s) names.now))) }
+        ensures interned { IfOk result (λ id. Interns (state_after [] (listed_by writer (map (λ s. string_bytes s) names.now))) self.old.states id self.new.states) }
+        ensures names { OnOk result (self.new.names ≡ (all_numbered (map (λ s. string_bytes s) names.now) self.old).names) }
+        ensures err { OnErr result (self.new.states ≡ self.old.states) }
+        ensures fault { IfErr result (λ fault. fault ≡ Fault.NoMemory) }
+        ensures ids { KeepsIds self.old self.new }
+    {
+        let tags = self.number_all(names)?;
+        let writes = listed(self.alloc, writer, &tags)?;
+        self.order();
+        self.with_all(StateId::EMPTY, &writes)
+    }
+
+    // The numbers of names.
+    fn number_all(&mut self, names: &[String]) -> Result<Vec<TagId>, Fault>
+        ensures given { IfOk result (λ tags. All (IsTag self.new) tags.items) }
+        ensures tags { IfOk result (λ tags. map (name_at self.new) tags.items ≡ map (λ s. string_bytes s) names.now) }
+        ensures names { OnOk result (self.new.names ≡ (all_numbered (map (λ s. string_bytes s) names.now) self.old).names) }
+        ensures states { self.new.states ≡ self.old.states }
+        ensures fault { IfErr result (λ fault. fault ≡ Fault.NoMemory) }
+        ensures ids { KeepsIds self.old self.new }
+    {
+        let mut tags = Vec::new(self.alloc);
+        for name in names {
+            let tag = self.number(name)?;
+            tags.push(tag)?;
+        }
+        Ok(tags)
+    }
+
+    /// Tags by the bytes of their names, each once. `NoMemory` is its only fault.
+    pub fn in_order(&self, tags: &[TagId]) -> Result<Vec<TagId>, Fault>
+        requires { All (IsTag self.now) tags.now }
+        ensures names { IfOk result (λ v. map (name_at self.now) v.items ≡ names_on (state_after [] (listed_by ROOT (map (name_at self.now) tags.now)))) }
+        ensures tags { IfOk result (λ v. All (IsTag self.now) v.items) }
+        ensures fault { IfErr result (λ fault. fault ≡ Fault.NoMemory) }
+    {
+        let writes = listed(self.alloc, ROOT, tags)?;
+        let sorted = sorting::sorted(self.alloc, self.names.as_slice(), &writes)?;
+        Ok(tags_on(self.alloc, &sorted)?)
     }
 
     /// Whether a tag is on.

@@ -40,7 +40,7 @@ fn make(table: &mut TagTable, call: Call) -> Result<(), Fault> {
 }
 
 // Calls on a new table, each with the names that are listed after it, lowest priority first.
-const CALLS: [(Call, &[&str]); 12] = [
+const CALLS: [(Call, &[&str]); 15] = [
     (Call::Ensure("t"), &["sel", "t"]),
     (Call::Ensure("u"), &["sel", "t", "u"]),
     (Call::Lower("u", None), &["u", "sel", "t"]),
@@ -53,6 +53,9 @@ const CALLS: [(Call, &[&str]); 12] = [
     (Call::Raise("sel", None), &["v", "u", "t", "sel"]),
     (Call::Forget("u"), &["v", "t", "sel"]),
     (Call::Forget("sel"), &["v", "t", "sel"]),
+    (Call::Ensure("w"), &["v", "t", "sel", "w"]),
+    (Call::Ensure("u"), &["v", "t", "sel", "w", "u"]),
+    (Call::Forget("u"), &["v", "t", "sel", "w"]),
 ];
 
 #[test]

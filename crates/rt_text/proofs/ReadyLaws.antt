@@ -1,7 +1,8 @@
 -- What is prepared for an insertion.
 use Rattle.std.proofs.Common.{◌≡◌, ℕ, zero, suc, ◌+◌, ◌<◌, List, [], ◌∷◌, ◌++◌, true, false, All, Option, None, Some, Result, Ok, Err, ◌⊎◌, inl, inr, OnOk, length, take, drop, map, get_or, refl, sym, ◌∙◌, ap, subst, arith}
 use Rattle.std.specs.Prelude.{IfErr, IfSome, IsOk, ◌↔◌, option_map, slice_get}
-use Rattle.std.specs.Str.{chars}
+use Rattle.std.specs.Str.{bytes_eq, chars}
+use Rattle.std.proofs.lemmas.Bool.{or_left, or_right}
 use Rattle.std.proofs.lemmas.List.{drop_more, get_or-map, length-map, map-append}
 use Rattle.std.proofs.lemmas.List.Elements.{All-more, All-weaker}
 use Rattle.rt_stamps.specs.declared.fault.Fault.{Fault}
@@ -12,9 +13,8 @@ use Rattle.rt_store.specs.declared.cell.Cell.{Cell}
 use Rattle.rt_store.specs.Cells.{map_state, visible_of}
 use Rattle.rt_store.specs.Tagged.{AreStates}
 use Rattle.rt_tags.specs.States.{TagStates, IsState, KeepsIds, state_at}
-use Rattle.rt_tags.specs.Tags.{IsName, Tags, is_ready, tags_listed, tags_prepared, with_name}
-use Rattle.rt_tags.proofs.Places.{clash}
-use Rattle.rt_tags.proofs.Ready.{prepared_ready, still_prepared, still_ready}
+use Rattle.rt_tags.specs.Tags.{AlsoReady, IsName, Tags, is_ready, with_name}
+use Rattle.rt_tags.proofs.Places.{clash, name_itself}
 use Rattle.rt_stamps.specs.Names.{name_check}
 use Rattle.rt_text.specs.Commands.{names_in}
 use Rattle.rt_store.specs.Shown.{TaggedCell, shown}
@@ -55,21 +55,23 @@ named_here P f tags i tag name h e n all =
     let within : i < length (map f tags) = omega (arith, length-map tags f) in
     subst P (get_or-map f tags i tag (f tag) h ∙ ap f (sym e) ∙ sym n) (all i (f tag) within)
 
-pub ready_more : (f : ℕ → Word) (tags : List ℕ) (i tag : ℕ) (name : Word) (old new : Tags) → i < length tags → tag ≡ get_or tags i tag → name ≡ f tag → new ≡ tags_prepared name old
+still_ready : (q name : Word) (old new : Tags) → AlsoReady name old new → is_ready q old ≡ true → is_ready q new ≡ true
+still_ready q name old new made h = made q ∙ or_right (bytes_eq q name) (is_ready q old) h
+
+pub ready_more : (f : ℕ → Word) (tags : List ℕ) (i tag : ℕ) (name : Word) (old new : Tags) → i < length tags → tag ≡ get_or tags i tag → name ≡ f tag → AlsoReady name old new
     → All (λ t. is_ready (f t) old ≡ true) (take i tags) → All (λ t. is_ready (f t) new ≡ true) (take (i + 1) tags)
 ready_more f tags i tag name old new h e n made all =
     let P : ℕ → Type 0 = λ t. is_ready (f t) new ≡ true in
-    let ready : (q : Word) → is_ready q (tags_prepared name old) ≡ true → is_ready q new ≡ true = λ q k. ap (is_ready q) made ∙ k in
-    let here : is_ready (f tag) new ≡ true = ap (λ q. is_ready q new) (sym n) ∙ ready name (prepared_ready name old) in
-    All-more P tags i tag h (All-weaker (λ t. is_ready (f t) old ≡ true) P (λ t k. ready (f t) (still_prepared (f t) name old k)) (take i tags) all) (subst P e here)
+    let here : is_ready (f tag) new ≡ true = ap (λ q. is_ready q new) (sym n) ∙ made name ∙ or_left (bytes_eq name name) (is_ready name old) (name_itself name) in
+    All-more P tags i tag h (All-weaker (λ t. is_ready (f t) old ≡ true) P (λ t k. still_ready (f t) name old new made k) (take i tags) all) (subst P e here)
 
-pub ready_still : (f : ℕ → Word) (tags : List ℕ) (name : Word) (old new : Tags) → new ≡ tags_listed name old → All (λ t. is_ready (f t) old ≡ true) tags → All (λ t. is_ready (f t) new ≡ true) tags
-ready_still f tags name old new made all = All-weaker (λ t. is_ready (f t) old ≡ true) (λ t. is_ready (f t) new ≡ true) (λ t k. ap (is_ready (f t)) made ∙ still_ready (f t) name old k) tags all
+pub ready_still : (f : ℕ → Word) (tags : List ℕ) (name : Word) (old new : Tags) → AlsoReady name old new → All (λ t. is_ready (f t) old ≡ true) tags → All (λ t. is_ready (f t) new ≡ true) tags
+ready_still f tags name old new made all = All-weaker (λ t. is_ready (f t) old ≡ true) (λ t. is_ready (f t) new ≡ true) (λ t k. still_ready (f t) name old new made k) tags all
 
-pub listed_from : (f : ℕ → Word) (tags : List ℕ) (i tag : ℕ) (name : Word) (old new : Tags) → i < length tags → tag ≡ get_or tags i tag → name ≡ f tag → new ≡ tags_listed name old
+pub listed_from : (f : ℕ → Word) (tags : List ℕ) (i tag : ℕ) (name : Word) (old new : Tags) → i < length tags → tag ≡ get_or tags i tag → name ≡ f tag → new.names ≡ with_name name old.names
     → all_listed (map f (drop (i + 1) tags)) new.names ≡ all_listed (map f (drop i tags)) old.names
 listed_from f tags i tag name old new h e n made =
-    ap (λ (t : Tags). all_listed (map f (drop (i + 1) tags)) t.names) made
+    ap (all_listed (map f (drop (i + 1) tags))) made
     ∙ ap (λ q. all_listed (map f (drop (i + 1) tags)) (with_name q old.names)) n
     ∙ sym (ap (λ l. all_listed (map f l) old.names) (drop_more tags i tag h ∙ ap (λ t. t ∷ drop (i + 1) tags) (sym e)))
 

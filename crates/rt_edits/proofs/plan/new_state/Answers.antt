@@ -1,18 +1,29 @@
-use Rattle.std.proofs.Common.{◌∙◌, ◌<◌, ap, subst, sym, length, arith, true}
-use Rattle.rt_tags.specs.States.{IsTag, name_at, written}
-use Rattle.rt_edits.proofs.Planning.{keeps_further, state_more}
+use Rattle.std.proofs.Common.{◌≡◌, ◌∙◌, [], All, ap, map, subst, sym}
+use Rattle.std.proofs.lemmas.Result.{IfOk-weaker}
+use Rattle.rt_tags.specs.States.{Interns, IsTag, name_at, state_at, writes_at}
+use Rattle.rt_tags.specs.Writers.{state_after}
+use Rattle.rt_tags.specs.declared.states.Entry.{Entry}
+use Rattle.rt_edits.specs.Insertions.{new_state}
+use Rattle.rt_edits.proofs.Planning.{writes_given}
 use Rattle.rt_edits.proofs.plan.new_state.Goals as goal
 
-pub loop-i-preserved : goal.loop-i-preserved
-loop-i-preserved c =
-    let old = c.args.states.now in
-    let tag = c.index-tags-i.result in
-    let within : c.loop-i.i < length c.args.tags.now = omega arith in
-    let kept = c.loop-i.invariant.ids.tags tag (subst (IsTag old) (sym c.index-tags-i.is) (c.requires.tags c.loop-i.i tag within)) in
-    record {
-      given = c.in_ok-state.ensures.given;
-      state = c.in_ok-state.ensures.state
-          ∙ ap (written (record { name = name_at c.loop-i.states tag; writer = c.writer_of.result; on = true })) c.loop-i.invariant.state
-          ∙ state_more c.args.site.number c.args.last (name_at old) c.args.tags.now c.loop-i.i tag (name_at c.loop-i.states tag) c.writer_of.result within c.index-tags-i.is kept.1 c.writer_of.ensures;
-      ids = keeps_further old c.loop-i.states c.with.new.self c.loop-i.invariant.ids c.with.ensures.ids;
-    }
+pub with_all-requires-clause-tags : goal.with_all-requires-clause-tags
+with_all-requires-clause-tags c =
+    let table = c.args.states.now in
+    let tags = ap (map (λ (w : Entry). w.tag)) c.deref.ensures.value ∙ c.in_ok-writes.ensures.tags in
+    writes_given table c.deref.result.now (subst (All (IsTag table)) (sym tags) c.requires.tags)
+
+pub returns-clause-state : goal.returns-clause-state
+returns-clause-state c =
+    let table = c.args.states.now in
+    let new = c.with_all.new.self in
+    let made = (λ j. state_after (c.order.ensures.empty j) (writes_at table (c.deref.ensures.value j))) ∙ c.in_ok-writes.ensures.state table in
+    IfOk-weaker c.with_all.result (λ id. state_at new id ≡ state_after (state_at table 0) (writes_at table c.deref.result.now)) (λ id. state_at new id ≡ new_state c.args.site.number c.args.last (map (name_at table) c.args.tags.now)) (λ id h. h ∙ made) c.with_all.ensures.state
+
+pub returns-clause-interned : goal.returns-clause-interned
+returns-clause-interned c =
+    let table = c.args.states.now in
+    let new = c.with_all.new.self in
+    let made = (λ j. state_after (c.order.ensures.empty j) (writes_at table (c.deref.ensures.value j))) ∙ c.in_ok-writes.ensures.state table in
+    IfOk-weaker c.with_all.result (λ id. Interns (state_after (state_at table 0) (writes_at table c.deref.result.now)) table.states id new.states) (λ id. Interns (new_state c.args.site.number c.args.last (map (name_at table) c.args.tags.now)) table.states id new.states)
+    (λ id h. subst (λ v. Interns v table.states id new.states) made h) c.with_all.ensures.interned

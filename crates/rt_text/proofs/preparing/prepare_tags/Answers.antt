@@ -2,7 +2,7 @@ use Rattle.std.proofs.Common.{◌≡◌, ◌∙◌, ◌<◌, ◌≤◌, ℕ, tru
 use Rattle.std.proofs.lemmas.List.{take_all}
 use Rattle.std.proofs.lemmas.Result.{err_from_is_err_and}
 use Rattle.rt_tags.specs.States.{name_at}
-use Rattle.rt_tags.specs.Tags.{IsName, Tags, is_ready}
+use Rattle.rt_tags.specs.Tags.{IsName, is_ready}
 use Rattle.rt_text.proofs.ReadyLaws.{for_memory, named_here, ready_more}
 use Rattle.rt_text.proofs.preparing.prepare_tags.Goals as goal
 
@@ -17,8 +17,8 @@ pub loop-tag-preserved : goal.loop-tag-preserved
 loop-tag-preserved c =
     let within : c.loop-tag.tag-index < length c.args.tags.now = omega arith in
     record {
-      names = ap (λ (t : Tags). t.names) c.in_ok-prepare.ensures.ok ∙ c.loop-tag.invariant.names;
-      ready = ready_more (name_at c.args.states.now) c.args.tags.now c.loop-tag.tag-index c.tag-item.result c.name.result.now c.loop-tag.table c.prepare.new.self within c.tag-item.is c.name.ensures c.in_ok-prepare.ensures.ok c.loop-tag.invariant.ready;
+      names = c.prepare.ensures.names ∙ c.loop-tag.invariant.names;
+      ready = ready_more (name_at c.args.states.now) c.args.tags.now c.loop-tag.tag-index c.tag-item.result c.name.result.now c.loop-tag.table c.prepare.new.self within c.tag-item.is c.name.ensures c.in_ok-prepare.ensures.ready c.loop-tag.invariant.ready;
     }
 
 pub returns-clause-ready : goal.returns-clause-ready

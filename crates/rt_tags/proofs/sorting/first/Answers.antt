@@ -1,0 +1,23 @@
+use Rattle.std.proofs.Common.{◌∙◌, ap, map, string_bytes, sym}
+use Rattle.rt_tags.proofs.Merging.{first_in_new, first_in_old, first_is_equal, first_is_greater, first_is_less}
+use Rattle.rt_tags.proofs.sorting.first.Goals as goal
+
+pub returns-in-Some-split_first-clause-some : goal.returns-in-Some-split_first-clause-some
+returns-in-Some-split_first-clause-some c =
+    first_in_new (map (λ s. string_bytes s) c.args.names.now) c.args.old.now c.args.new.now c.in-Some-split_first.more_new.now c.in-Some-split_first.y.now c.in-None.ensures.cases c.in-Some-split_first.ensures.cases c.requires.old c.requires.new
+
+pub returns-in-None-split_first-2-clause-some : goal.returns-in-None-split_first-2-clause-some
+returns-in-None-split_first-2-clause-some c =
+    first_in_old (map (λ s. string_bytes s) c.args.names.now) c.args.old.now c.args.new.now c.in-Some.more_old.now c.in-Some.x.now c.in-Some.ensures.cases c.in-None-split_first-2.ensures.cases c.requires.old c.requires.new
+
+pub returns-in-Less-clause-some : goal.returns-in-Less-clause-some
+returns-in-Less-clause-some c =
+    first_is_less (map (λ s. string_bytes s) c.args.names.now) c.args.old.now c.args.new.now c.in-Some.more_old.now c.in-Some-split_first-2.more_new.now c.in-Some.x.now c.in-Some-split_first-2.y.now c.in-Some.ensures.cases c.in-Some-split_first-2.ensures.cases c.requires.old c.requires.new (sym c.order.ensures ∙ c.in-Less.is)
+
+pub returns-in-Greater-clause-some : goal.returns-in-Greater-clause-some
+returns-in-Greater-clause-some c =
+    first_is_greater (map (λ s. string_bytes s) c.args.names.now) c.args.old.now c.args.new.now c.in-Some.more_old.now c.in-Some-split_first-2.more_new.now c.in-Some.x.now c.in-Some-split_first-2.y.now c.in-Some.ensures.cases c.in-Some-split_first-2.ensures.cases c.requires.old c.requires.new (sym c.order.ensures ∙ c.in-Greater.is)
+
+pub returns-in-Equal-clause-some : goal.returns-in-Equal-clause-some
+returns-in-Equal-clause-some c =
+    first_is_equal (map (λ s. string_bytes s) c.args.names.now) c.args.old.now c.args.new.now c.in-Some.more_old.now c.in-Some-split_first-2.more_new.now c.in-Some.x.now c.in-Some-split_first-2.y.now c.in-Some.ensures.cases c.in-Some-split_first-2.ensures.cases c.requires.old c.requires.new c.newer.result (sym c.order.ensures ∙ c.in-Equal.is) c.newer.ensures

@@ -1,0 +1,33 @@
+use Rattle.std.proofs.Common.{◌≡◌, ◌<◌, ◌∙◌, ◌++◌, ◌∷◌, [], All, ap, arith, length, map, string_bytes, subst, sym, take}
+use Rattle.std.proofs.lemmas.List.{map-append, map_more}
+use Rattle.rt_tags.specs.States.{TagStates, IsTag, all_numbered, name_at}
+use Rattle.rt_tags.specs.Tags.{with_name}
+use Rattle.rt_tags.proofs.Listing.{given_more, keeps_both, names_stay, numbered_more}
+use Rattle.rt_tags.proofs.states.StateTable.number_all.Goals as goal
+
+pub returns-in_err-push-clause-ids : goal.returns-in_err-push-clause-ids
+returns-in_err-push-clause-ids c = keeps_both c.args.self.now c.loop-name.self c.number.new.self c.loop-name.invariant.ids c.number.ensures.ids
+
+pub loop-name-preserved : goal.loop-name-preserved
+loop-name-preserved c =
+    let old = c.loop-name.self in
+    let new = c.number.new.self in
+    let ids = c.number.ensures.ids in
+    let before = c.loop-name.tags.items in
+    let within : c.loop-name.name-index < length c.args.names.now = omega arith in
+    let front = map (λ s. string_bytes s) (take c.loop-name.name-index c.args.names.now) in
+    let more =
+    map_more (λ s. string_bytes s) c.args.names.now c.loop-name.name-index c.name-item.result within
+    ∙ ap (λ v. front ++ v ∷ []) (ap (λ s. string_bytes s) (sym c.name-item.is) ∙ sym c.deref.ensures) in
+    record {
+      given = subst (All (IsTag new)) (sym c.in_ok-push.ensures.items) (given_more old new ids before c.in_ok-tag.tag c.loop-name.invariant.given c.in_ok-tag.ensures.given);
+      tags = ap (map (name_at new)) c.in_ok-push.ensures.items
+          ∙ map-append (name_at new) before (c.in_ok-tag.tag ∷ [])
+          ∙ (λ j. (names_stay old new ids before c.loop-name.invariant.given ∙ c.loop-name.invariant.tags) j ++ c.in_ok-tag.ensures.tag j ∷ [])
+          ∙ sym more;
+      names = ap (λ (t : TagStates). t.names) c.in_ok-tag.ensures.ok
+          ∙ ap (with_name c.deref.result.now) c.loop-name.invariant.names
+          ∙ sym (ap (λ v. (all_numbered v c.args.self.now).names) more ∙ ap (λ (t : TagStates). t.names) (numbered_more front c.deref.result.now c.args.self.now));
+      states = ap (λ (t : TagStates). t.states) c.in_ok-tag.ensures.ok ∙ c.loop-name.invariant.states;
+      ids = keeps_both c.args.self.now old new c.loop-name.invariant.ids ids;
+    }

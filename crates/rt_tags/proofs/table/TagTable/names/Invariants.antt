@@ -1,5 +1,0 @@
-use Rattle.std.proofs.Common.{◌≡◌, map, take, string_bytes}
-use Rattle.rt_tags.proofs.table.TagTable.names.Given as goal
-
-abbrev pub invariant-loop-name : goal.invariant-loop-name
-invariant-loop-name l = map (λ s. string_bytes s) l.names.items ≡ map (λ s. string_bytes s) (take l.name-index l.name-items)

@@ -1,0 +1,109 @@
+// Writes of tags by the bytes of the tags' names, the greatest of each tag.
+ghost use Rattle.std.specs.Prelude.{◌≡◌, ◌+◌, ◌<◌, ◌∷◌, [], if◌then◌else◌, IfNone, IfOk, IfSome, length, map, string_bytes};
+ghost use Rattle.rt_stamps.specs.Names.{name_order};
+ghost use Rattle.rt_stamps.specs.Stamps.{is_before};
+ghost use Rattle.rt_tags.specs.Kept.{HaveNames, IsFirst, IsSorted, all_seen, seen};
+ghost use Rattle.rt_tags.specs.Writers.{state_after};
+
+use crate::states::Entry;
+use std::alloc::{AllocError, Global};
+use std::cmp::Ordering;
+
+// How the names of two entries' tags stand to each other.
+fn order(names: &[String], x: Entry, y: Entry) -> Ordering
+    requires x { x.tag < length names.now }
+    requires y { y.tag < length names.now }
+    ensures { result ≡ name_order (seen (map (λ s. string_bytes s) names.now) x).name (seen (map (λ s. string_bytes s) names.now) y).name }
+{
+    let name = names[y.tag.place()].as_str();
+    names[x.tag.place()].as_str().cmp(name)
+}
+
+// Of two entries of one tag the one that stays, where the second is the later write.
+fn newer(x: Entry, y: Entry) -> Entry
+    ensures { result ≡ (if is_before x.writer y.writer then y else x) }
+{
+    if x.writer < y.writer { y } else { x }
+}
+
+// The first entry of two lists together, of which the second has the later writes, and what is left of
+// either list.
+fn first<'a>(
+    names: &[String],
+    old: &'a [Entry],
+    new: &'a [Entry],
+) -> Option<(Entry, &'a [Entry], &'a [Entry])>
+    requires old { IsSorted (map (λ s. string_bytes s) names.now) old.now }
+    requires new { IsSorted (map (λ s. string_bytes s) names.now) new.now }
+    ensures none { IfNone result ((old.now ≡ []) × (new.now ≡ [])) }
+    ensures some { IfSome result (λ r. IsFirst (map (λ s. string_bytes s) names.now) old.now new.now r.0 r.1.now r.2.now) }
+{
+    match old.split_first() {
+        None => match new.split_first() {
+            None => None,
+            Some((y, more_new)) => Some((*y, old, more_new)),
+        },
+        Some((x, more_old)) => match new.split_first() {
+            None => Some((*x, more_old, new)),
+            Some((y, more_new)) => match order(names, *x, *y) {
+                Ordering::Less => Some((*x, more_old, new)),
+                Ordering::Greater => Some((*y, old, more_new)),
+                Ordering::Equal => Some((newer(*x, *y), more_old, more_new)),
+            },
+        },
+    }
+}
+
+/// The entries after others that were written later.
+pub(crate) fn merged(
+    alloc: Global,
+    names: &[String],
+    old: &[Entry],
+    new: &[Entry],
+) -> Result<Vec<Entry>, AllocError>
+    requires old { IsSorted (map (λ s. string_bytes s) names.now) old.now }
+    requires new { IsSorted (map (λ s. string_bytes s) names.now) new.now }
+    ensures sorted { IfOk result (λ v. IsSorted (map (λ s. string_bytes s) names.now) v.items) }
+    ensures entries { IfOk result (λ v. all_seen (map (λ s. string_bytes s) names.now) v.items ≡ state_after (all_seen (map (λ s. string_bytes s) names.now) old.now) (all_seen (map (λ s. string_bytes s) names.now) new.now)) }
+{
+    let mut out = Vec::new(alloc);
+    let mut rest_of_old = old;
+    let mut rest_of_new = new;
+    while let Some((entry, more_old, more_new)) = first(names, rest_of_old, rest_of_new) {
+        out.push(entry)?;
+        rest_of_old = more_old;
+        rest_of_new = more_new;
+    }
+    Ok(out)
+}
+
+// The entries of a list of at most one.
+fn copied(alloc: Global, entries: &[Entry]) -> Result<Vec<Entry>, AllocError>
+    ensures { IfOk result (λ v. v.items ≡ entries.now) }
+{
+    let mut out = Vec::new(alloc);
+    for entry in entries {
+        out.push(*entry)?;
+    }
+    Ok(out)
+}
+
+/// The entries that writes leave, one after the other: each half of them is sorted, and then both
+/// are merged.
+pub(crate) fn sorted(
+    alloc: Global,
+    names: &[String],
+    writes: &[Entry],
+) -> Result<Vec<Entry>, AllocError>
+    requires { HaveNames (length names.now) writes.now }
+    ensures sorted { IfOk result (λ v. IsSorted (map (λ s. string_bytes s) names.now) v.items) }
+    ensures entries { IfOk result (λ v. all_seen (map (λ s. string_bytes s) names.now) v.items ≡ state_after [] (all_seen (map (λ s. string_bytes s) names.now) writes.now)) }
+{
+    if writes.len() < 2 {
+        return copied(alloc, writes);
+    }
+    let (front, back) = writes.split_at(writes.len() / 2);
+    let front = sorted(alloc, names, front)?;
+    let back = sorted(alloc, names, back)?;
+    merged(alloc, names, &front, &back)
+}
