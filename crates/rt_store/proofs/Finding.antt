@@ -1,7 +1,7 @@
 -- The cell of a stamp stands at its position.
 use Rattle.std.proofs.Common.{zero, suc, [], ◌∷◌, ◌||◌, not, take, ◌≡◌, ℕ, ◌<◌, ◌≤◌, get_or, Bool, true, false, ◌∙◌, refl, sym, ap, List, length, cond, Option, Some, None, arith}
 use Rattle.std.specs.Prelude.{is_some, nat_lt, option_and_then, option_map, slice_get}
-use Rattle.std.specs.List.{find, position_or_len}
+use Rattle.std.specs.List.{position_or_len}
 use Rattle.std.proofs.lemmas.List.Folds.{find_at}
 use Rattle.std.proofs.lemmas.Option.{slice_get_past, slice_get-get_or}
 use Rattle.rt_stamps.specs.declared.stamp.Stamp.{Stamp}

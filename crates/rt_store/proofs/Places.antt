@@ -1,5 +1,5 @@
 -- The place of new cells, by recursion over the stamps; it is before the final newline.
-use Rattle.std.proofs.Common.{◌≡◌, ℕ, suc, ◌+◌, ◌-◌, ◌<◌, Bool, true, false, ◌⊎◌, inl, inr, refl, sym, subst, ap, ◌∙◌, arith, Some, None, List, [], ◌∷◌, ◌++◌, cond, length, drop, take}
+use Rattle.std.proofs.Common.{◌≡◌, ℕ, suc, ◌+◌, ◌<◌, Bool, true, false, ◌⊎◌, inl, inr, refl, sym, subst, ap, ◌∙◌, arith, Some, None, List, [], ◌∷◌, ◌++◌, cond, length, drop, take}
 use native.Mathlib.Numerals.{unary_clauses}
 use Rattle.std.specs.Prelude.{IsSome, IsTrue, take_while, unwrap_or, nat_lt}
 use Rattle.std.specs.List.{position_or_len, prefix_len}

@@ -1,5 +1,5 @@
 -- Cells with what their states stand for: what doesn't look at the states is the same of them.
-use Rattle.std.proofs.Common.{◌≡◌, ℕ, ◌+◌, List, [], ◌∷◌, ◌++◌, Bool, true, false, cond, not, length, map, take, drop, refl, sym, ◌∙◌, ap, subst, Option, Some, None}
+use Rattle.std.proofs.Common.{◌≡◌, ℕ, ◌+◌, List, [], ◌∷◌, ◌++◌, Bool, true, false, cond, not, length, map, take, drop, refl, sym, ◌∙◌, ap, subst, Some, None}
 use Rattle.std.specs.Prelude.{filter, position, slice_get, option_map, take_while, unwrap_or, nat_lt}
 use Rattle.std.specs.List.{IsDistinct, position_or_len}
 use Rattle.std.proofs.lemmas.List.{length-map, take-map, drop-map}
