@@ -1,0 +1,100 @@
+-- A replica after a call.
+use Rattle.std.proofs.Common.{◌≡◌, ℕ, ◌+◌, ◌≤◌, ◌<◌, Bool, true, false, refl, sym, ap, subst, ◌∙◌, arith, List, length, map, max, Ok, Err, Result}
+use Rattle.std.specs.Prelude.{OnOk, OnErr, nat_lt}
+use Rattle.std.proofs.lemmas.Bool.Decides.{nat_tests}
+use Rattle.rt_stamps.specs.declared.stamp.Stamp.{Stamp}
+use Rattle.rt_oplog.specs.Operations.{Operation, Body, Insert, Name, last_count, stamp_of}
+use Rattle.rt_oplog.specs.Logs.{with_operation}
+use Rattle.rt_oplog.specs.Rules.{keeps_rules}
+use Rattle.rt_store.specs.declared.cell.Cell.{Cell}
+use Rattle.rt_store.specs.Tagged.{AreStates}
+use Rattle.rt_tags.specs.States.{KeepsIds, TagStates, state_at}
+use Rattle.rt_rga.specs.Answers.{Answer, New, Repeat, Refused, answer_to, answer_within, refused_if_full}
+use Rattle.rt_rga.specs.Cells.{cells_of}
+use Rattle.rt_rga.specs.Histories.{Continues, IsHistory, greatest_last_count, inserted}
+use Rattle.rt_rga.specs.Kept.{AreCellsOf, IsWithin, ReplicaValue}
+use Rattle.rt_rga.specs.Replicas.{IsReplica}
+use Rattle.rt_rga.specs.Taken.{IsChange, place_in}
+use Rattle.rt_rga.specs.declared.taken.Change.{Change}
+use Rattle.rt_rga.proofs.Accepting.{history_if_new}
+use Rattle.rt_rga.proofs.Counts.{count_with}
+use Rattle.rt_rga.proofs.Histories.{continues_from}
+use Rattle.rt_rga.proofs.PlacesAt.{names_kept, place_shown, tags_kept}
+use Rattle.rt_store.proofs.Shown.{shown_later, stamps_shown}
+use Rattle.rt_store.specs.Shown.{shown, TaggedCell}
+use Rattle.rt_store.specs.Cells.{IsPlaced, stamps_of}
+use Rattle.rt_rga.proofs.Replicas.{replica_later, replica_length, replica_placed}
+
+pub on_ok : {T E : Type 0} {P : Type 0} (r : Result T E) → P → OnOk r P
+on_ok (Ok x) p = p
+on_ok (Err e) p = tt
+
+pub on_err : {T E : Type 0} {P : Type 0} (r : Result T E) → P → OnErr r P
+on_err (Ok x) p = tt
+on_err (Err e) p = p
+
+-- what the answer asks of the cells
+pub cells_by : (log : List Operation) (table : TagStates) (kept : List (Cell ℕ)) → IsReplica log table kept → AreCellsOf log kept
+cells_by log table kept r = record {
+  history = r.history;
+  stamps = sym (stamps_shown (state_at table) kept) ∙ ap stamps_of r.cells;
+}
+
+-- a replica whose table knows more
+pub within_later : (log more : List Operation) (table new : TagStates) (kept cells : List (Cell ℕ)) (clock limit : ℕ) → more ≡ log → cells ≡ kept → KeepsIds table new → IsWithin log table kept clock limit → IsWithin more new cells clock limit
+within_later log more table new kept cells clock limit e f k w =
+    let r : IsReplica log new kept = replica_later log table new kept w.replica k in
+    record {
+      replica = subst (λ (l : List Operation). IsReplica l new cells) (sym e) (subst (λ (cs : List (Cell ℕ)). IsReplica log new cs) (sym f) r);
+      seen = w.seen ∙ ap greatest_last_count (sym e);
+      cells = (let i = ap (λ (cs : List (Cell ℕ)). length cs) f in let j = w.cells in omega arith);
+      most = w.most;
+    }
+
+-- and with one more operation
+pub within_more : (log more : List Operation) (table new : TagStates) (kept cells : List (Cell ℕ)) (clock seen limit : ℕ) (op : Operation) → more ≡ with_operation op log → IsReplica (with_operation op log) new cells
+    → length cells ≡ length kept + length (inserted op) → length kept + length (inserted op) ≤ limit → seen ≡ max clock (last_count op) → IsWithin log table kept clock limit → IsWithin more new cells seen limit
+within_more log more table new kept cells clock seen limit op e r f l s w = record {
+  replica = subst (λ (l : List Operation). IsReplica l new cells) (sym e) r;
+  seen = (let i = count_with op log in let j = ap greatest_last_count e in let k = w.seen in omega arith);
+  cells = omega arith;
+  most = w.most;
+}
+
+abbrev pub value_of : List Operation → List TaggedCell → TagStates → ℕ → ℕ → ReplicaValue
+value_of log cells table site limit = record { log = log; cells = cells; table = table; site = site; limit = limit }
+
+-- a value in which the table alone is another
+pub same_value : (log more : List Operation) (table new : TagStates) (kept cells : List (Cell ℕ)) (site limit : ℕ) → more ≡ log → cells ≡ kept → KeepsIds table new → AreStates table kept
+    → value_of more (map (shown new) cells) new site limit ≡ value_of log (map (shown table) kept) new site limit
+same_value log more table new kept cells site limit e f k h =
+    let same : map (shown new) cells ≡ map (shown table) kept = ap (map (shown new)) f ∙ shown_later table new kept k h in
+    λ i. value_of (e i) (same i) new site limit
+
+-- where a store finds the place of an Insert
+pub placed_by : (log : List Operation) (table : TagStates) (kept : List (Cell ℕ)) (op : Operation) → IsReplica log table kept → Continues log op
+    → (after : Stamp) (tags : List Name) (text : List ℕ) → op.body ≡ Insert after tags text → IsPlaced kept after (stamp_of op)
+placed_by log table kept op r k after tags text e = replica_placed log table kept op after tags text r e k
+
+-- a change of kept cells is one of what they show
+pub change_shown : (op : Operation) (table now new : TagStates) (kept : List (Cell ℕ)) (change : Change) → KeepsIds now new → IsChange op kept now change → IsChange op (map (shown table) kept) new change
+change_shown op table now new kept change k c = record {
+  first = c.first ∙ sym (place_shown (state_at table) (stamp_of op) op.body kept);
+  more = c.more;
+  names = names_kept now new change.lists.items k c.given ∙ c.names;
+  given = tags_kept now new change.lists.items k c.given;
+}
+
+-- WHAT IS NEW CONTINUES THE LOG
+
+new_within : (full : Bool) (a : Answer) → refused_if_full full a ≡ New → (full ≡ false) × (a ≡ New)
+new_within true New h = absurd (cc h)
+new_within false New h = (refl, refl)
+new_within full Repeat h = absurd (cc h)
+new_within full (Refused fault) h = absurd (cc h)
+
+pub continues_new : (limit : ℕ) (op : Operation) (log : List Operation) → IsHistory log → keeps_rules op.body ≡ true → answer_within limit op log ≡ New
+    → Continues log op × (length (cells_of log) + length (inserted op) ≤ limit)
+continues_new limit op log h r e =
+    let (full, new) = new_within (nat_lt limit (length (cells_of log) + length (inserted op))) (answer_to op log) e in
+    (continues_from op log h (history_if_new log op h r new), grind (arith, nat_tests, full))

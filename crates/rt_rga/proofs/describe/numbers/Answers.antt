@@ -1,0 +1,19 @@
+use Rattle.std.proofs.Common.{◌≡◌, ◌∙◌, ap, map, subst, sym, All}
+use Rattle.std.specs.Prelude.{string_bytes}
+use Rattle.rt_tags.specs.States.{IsTag, name_at}
+use Rattle.rt_rga.proofs.Listing.{keeps_both}
+use Rattle.rt_rga.proofs.PlacesAt.{names_more, tags_more}
+use Rattle.rt_rga.proofs.describe.numbers.Goals as goal
+
+pub loop-name-preserved : goal.loop-name-preserved
+loop-name-preserved c =
+    let now = c.loop-name.states in
+    let new = c.number.new.self in
+    let tags = c.loop-name.tags.items in
+    record {
+      names = ap (map (name_at new)) c.in_ok-push.ensures.items
+          ∙ names_more (λ name. string_bytes name) now new tags c.in_ok-tag.tag c.args.names.now c.loop-name.name-index c.name-item.result c.loop-name-test.true c.name-item.is
+          c.number.ensures.ids c.loop-name.invariant.given (c.in_ok-tag.ensures.tag ∙ c.deref.ensures) c.loop-name.invariant.names;
+      given = subst (All (IsTag new)) (sym c.in_ok-push.ensures.items) (tags_more now new tags c.in_ok-tag.tag c.number.ensures.ids c.loop-name.invariant.given c.in_ok-tag.ensures.given);
+      ids = keeps_both c.args.states.now now new c.loop-name.invariant.ids c.number.ensures.ids;
+    }

@@ -1,0 +1,131 @@
+use Rattle.std.proofs.Common.{◌≡◌, ◌∙◌, ◌+◌, ◌≤◌, ℕ, List, ap, arith, length, max, refl, subst, sym}
+use Rattle.std.proofs.lemmas.List.{length-map}
+use Rattle.rt_oplog.specs.Logs.{with_operation}
+use Rattle.rt_oplog.specs.Operations.{Operation}
+use Rattle.rt_store.specs.declared.cell.Cell.{Cell}
+use Rattle.rt_tags.specs.States.{KeepsIds, TagStates}
+use Rattle.rt_rga.specs.Histories.{Continues, IsHistory, inserted}
+use Rattle.rt_rga.specs.Kept.{ReplicaValue}
+use Rattle.rt_rga.specs.Replicas.{IsReplica}
+use Rattle.rt_rga.specs.Taken.{IsChange}
+use Rattle.rt_rga.proofs.Listing.{keeps_both}
+use Rattle.rt_rga.proofs.Pushing.{taken_in}
+use Rattle.rt_rga.proofs.Replicas.{replica_distinct}
+use Rattle.rt_rga.proofs.Within.{change_shown, on_err, placed_by, same_value, within_later, within_more}
+use Rattle.rt_store.specs.Shown.{shown, TaggedCell}
+use Rattle.rt_rga.proofs.replica.Replica.take.Goals as goal
+
+pub describe-requires-clause-placed : goal.describe-requires-clause-placed
+describe-requires-clause-placed g c =
+    let v = c.self.inside in
+    let log = v.log.operations in
+    let kept : List (Cell ℕ) = g.S.TextStore.list v.store in
+    let seen : log ≡ c.args.self.now.log = ap (λ (a : ReplicaValue). a.log) c.self.view_is in
+    let continues : Continues log c.args.op = subst (λ (l : List Operation). Continues l c.args.op) (sym seen) c.requires.continues in
+    placed_by log v.states kept c.args.op c.self.invariant.replica continues
+
+pub describe-requires-clause-distinct : goal.describe-requires-clause-distinct
+describe-requires-clause-distinct g c =
+    let v = c.self.inside in
+    let log = v.log.operations in
+    let kept : List (Cell ℕ) = g.S.TextStore.list v.store in
+    replica_distinct log v.states kept c.self.invariant.replica
+
+pub invariant_of-self-in_err-told : goal.invariant_of-self-in_err-told
+invariant_of-self-in_err-told g c =
+    let v = c.self.inside in
+    let log = v.log.operations in
+    let kept : List (Cell ℕ) = g.S.TextStore.list v.store in
+    within_later log c.reserve.new.self.operations v.states c.describe.new.states kept kept v.clock v.limit c.reserve.ensures.same refl c.describe.ensures.ids c.self.invariant
+
+pub returns-in_err-told-clause-same : goal.returns-in_err-told-clause-same
+returns-in_err-told-clause-same g c =
+    let v = c.self.inside in
+    let log = v.log.operations in
+    let kept : List (Cell ℕ) = g.S.TextStore.list v.store in
+    on_err c.from_residual-in_err-told.result
+    (same_value log c.reserve.new.self.operations v.states c.describe.new.states kept kept v.site.number v.limit c.reserve.ensures.same refl c.describe.ensures.ids c.self.invariant.replica.states
+    ∙ ap (λ (a : ReplicaValue). record a { table = c.describe.new.states }) c.self.view_is)
+
+pub change-requires-clause-replica : goal.change-requires-clause-replica
+change-requires-clause-replica g c =
+    let v = c.self.inside in
+    let log = v.log.operations in
+    let kept : List (Cell ℕ) = g.S.TextStore.list v.store in
+    (within_later log c.reserve.new.self.operations v.states c.describe.new.states kept kept v.clock v.limit c.reserve.ensures.same refl c.describe.ensures.ids c.self.invariant).replica
+
+pub invariant_of-self-in_err-change : goal.invariant_of-self-in_err-change
+invariant_of-self-in_err-change g c =
+    let v = c.self.inside in
+    let log = v.log.operations in
+    let kept : List (Cell ℕ) = g.S.TextStore.list v.store in
+    let ids : KeepsIds v.states c.change.new.states = keeps_both v.states c.describe.new.states c.change.new.states c.describe.ensures.ids c.change.ensures.ids in
+    within_later log c.reserve.new.self.operations v.states c.change.new.states kept (g.S.TextStore.list c.change.new.store) v.clock v.limit c.reserve.ensures.same c.in_err-change.ensures.same ids c.self.invariant
+
+pub returns-in_err-change-clause-same : goal.returns-in_err-change-clause-same
+returns-in_err-change-clause-same g c =
+    let v = c.self.inside in
+    let log = v.log.operations in
+    let kept : List (Cell ℕ) = g.S.TextStore.list v.store in
+    let ids : KeepsIds v.states c.change.new.states = keeps_both v.states c.describe.new.states c.change.new.states c.describe.ensures.ids c.change.ensures.ids in
+    on_err c.from_residual-in_err-change.result
+    (same_value log c.reserve.new.self.operations v.states c.change.new.states kept (g.S.TextStore.list c.change.new.store) v.site.number v.limit c.reserve.ensures.same c.in_err-change.ensures.same ids c.self.invariant.replica.states
+    ∙ ap (λ (a : ReplicaValue). record a { table = c.change.new.states }) c.self.view_is)
+
+pub returns-in_err-change-clause-ids : goal.returns-in_err-change-clause-ids
+returns-in_err-change-clause-ids g c =
+    let v = c.self.inside in
+    let log = v.log.operations in
+    let kept : List (Cell ℕ) = g.S.TextStore.list v.store in
+    let ids : KeepsIds v.states c.change.new.states = keeps_both v.states c.describe.new.states c.change.new.states c.describe.ensures.ids c.change.ensures.ids in
+    subst (λ (t : TagStates). KeepsIds t c.change.new.states) (ap (λ (a : ReplicaValue). a.table) c.self.view_is) ids
+
+pub invariant_of-self-2 : goal.invariant_of-self-2
+invariant_of-self-2 g c =
+    let v = c.self.inside in
+    let log = v.log.operations in
+    let kept : List (Cell ℕ) = g.S.TextStore.list v.store in
+    let seen : log ≡ c.args.self.now.log = ap (λ (a : ReplicaValue). a.log) c.self.view_is in
+    let continues : Continues log c.args.op = subst (λ (l : List Operation). Continues l c.args.op) (sym seen) c.requires.continues in
+    let history : IsHistory c.reserve.new.self.operations = subst IsHistory (sym c.reserve.ensures.same) c.self.invariant.replica.history in
+    let goes_on : Continues c.reserve.new.self.operations c.args.op = subst (λ (l : List Operation). Continues l c.args.op) (sym c.reserve.ensures.same) continues in
+    let pushed : c.push-added.new.self.operations ≡ with_operation c.args.op log = (taken_in c.args.op c.reserve.new.self c.push-added.new.self c.push-added.result c.push-added.ensures history goes_on c.in_ok-reserve.ensures.ok).0 ∙ ap (with_operation c.args.op) c.reserve.ensures.same in
+    let replica : IsReplica (with_operation c.args.op log) c.change.new.states (g.S.TextStore.list c.change.new.store) =
+    subst (λ (l : List Operation). IsReplica (with_operation c.args.op l) c.change.new.states (g.S.TextStore.list c.change.new.store)) c.reserve.ensures.same c.in_ok-change.ensures.replica in
+    let room : length kept + length (inserted c.args.op) ≤ v.limit = omega (
+      arith,
+      c.requires.room,
+      ap (λ (a : ReplicaValue). length a.cells) c.self.view_is,
+      ap (λ (a : ReplicaValue). a.limit) c.self.view_is,
+      length-map kept (shown v.states),
+    ) in
+    within_more log c.push-added.new.self.operations v.states c.change.new.states kept (g.S.TextStore.list c.change.new.store) v.clock c.saw.new.self v.limit c.args.op pushed replica c.in_ok-change.ensures.cells room
+    (c.saw.ensures ∙ ap (max v.clock) c.last_count.ensures) c.self.invariant
+
+pub returns-clause-log : goal.returns-clause-log
+returns-clause-log g c =
+    let v = c.self.inside in
+    let log = v.log.operations in
+    let kept : List (Cell ℕ) = g.S.TextStore.list v.store in
+    let seen : log ≡ c.args.self.now.log = ap (λ (a : ReplicaValue). a.log) c.self.view_is in
+    let continues : Continues log c.args.op = subst (λ (l : List Operation). Continues l c.args.op) (sym seen) c.requires.continues in
+    let history : IsHistory c.reserve.new.self.operations = subst IsHistory (sym c.reserve.ensures.same) c.self.invariant.replica.history in
+    let goes_on : Continues c.reserve.new.self.operations c.args.op = subst (λ (l : List Operation). Continues l c.args.op) (sym c.reserve.ensures.same) continues in
+    let pushed : c.push-added.new.self.operations ≡ with_operation c.args.op log = (taken_in c.args.op c.reserve.new.self c.push-added.new.self c.push-added.result c.push-added.ensures history goes_on c.in_ok-reserve.ensures.ok).0 ∙ ap (with_operation c.args.op) c.reserve.ensures.same in
+    pushed ∙ ap (with_operation c.args.op) seen
+
+pub returns-clause-change : goal.returns-clause-change
+returns-clause-change g c =
+    let v = c.self.inside in
+    let log = v.log.operations in
+    let kept : List (Cell ℕ) = g.S.TextStore.list v.store in
+    subst (λ (cells : List TaggedCell). IsChange c.args.op cells c.change.new.states c.in_ok-told.told) (ap (λ (a : ReplicaValue). a.cells) c.self.view_is)
+    (change_shown c.args.op v.states c.describe.new.states c.change.new.states kept c.in_ok-told.told c.change.ensures.ids c.in_ok-told.ensures.change)
+
+pub returns-clause-ids : goal.returns-clause-ids
+returns-clause-ids g c =
+    let v = c.self.inside in
+    let log = v.log.operations in
+    let kept : List (Cell ℕ) = g.S.TextStore.list v.store in
+    let ids : KeepsIds v.states c.change.new.states = keeps_both v.states c.describe.new.states c.change.new.states c.describe.ensures.ids c.change.ensures.ids in
+    subst (λ (t : TagStates). KeepsIds t c.change.new.states) (ap (λ (a : ReplicaValue). a.table) c.self.view_is) ids

@@ -1,0 +1,14 @@
+use Rattle.std.proofs.Common.{◌≡◌, ◌∙◌, ◌+◌, ◌-◌, ◌++◌, ap, arith, sym}
+use Rattle.rt_oplog.specs.Operations.{stamps_from}
+use Rattle.rt_rga.specs.Runs.{cells_found, listed}
+use Rattle.rt_rga.proofs.TagWrites.{found_from}
+use Rattle.rt_rga.proofs.tagging.push_cells.Goals as goal
+
+pub loop-count-preserved : goal.loop-count-preserved
+loop-count-preserved g c =
+    let list = g.S.TextStore.list c.args.store.now in
+    let count = c.loop-count.count in
+    let span = c.args.span in
+    ap (λ items. items ++ cells_found list (stamps_from span.site (count + 1) (span.last + 1 - (count + 1))))
+    (c.in_ok-push_found.ensures.ok ∙ ap (λ o. c.loop-count.cells.items ++ listed o) c.cell_of.ensures)
+    ∙ sym (found_from list c.loop-count.cells.items span.site count span.last (omega arith)) ∙ c.loop-count.invariant

@@ -1,0 +1,64 @@
+use Rattle.std.proofs.Common.{◌≡◌, ◌∙◌, ℕ, List, sym, subst, map, ap}
+use Rattle.rt_oplog.specs.Operations.{stamps_in}
+use Rattle.rt_store.specs.declared.cell.Cell.{Cell}
+use Rattle.rt_store.specs.Shown.{shown}
+use Rattle.rt_store.specs.Tagged.{AreStates}
+use Rattle.rt_store.proofs.GivenStates.{kept_states}
+use Rattle.rt_tags.specs.States.{KeepsIds, Write}
+use Rattle.rt_rga.specs.declared.tagging.StateRun.{StateRun}
+use Rattle.rt_rga.specs.Runs.{cells_found, put_back, put_back_in_any, with_write}
+use Rattle.rt_rga.proofs.Listing.{keeps_both}
+use Rattle.rt_rga.proofs.TagWrites.{found_states, put_states_given, tagged_cells}
+use Rattle.rt_store.proofs.Shown.{shown_later}
+use Rattle.rt_rga.proofs.tagging.tag_cells.Goals as goal
+
+pub written_cells-requires-clause-states : goal.written_cells-requires-clause-states
+written_cells-requires-clause-states g c =
+    let list = g.S.TextStore.list c.args.store.now in
+    subst (AreStates c.number.new.self) (sym (c.deref.ensures.value ∙ c.in_ok-named.ensures.ok))
+    (kept_states c.args.states.now c.number.new.self (cells_found list (stamps_in c.args.spans.now)) c.number.ensures.ids (found_states c.args.states.now list (stamps_in c.args.spans.now) c.requires.states))
+
+pub put_states-requires-clause-states : goal.put_states-requires-clause-states
+put_states-requires-clause-states g c =
+    let new = c.written_cells.new.states in
+    let ids : KeepsIds c.args.states.now new = keeps_both c.args.states.now c.number.new.self new c.number.ensures.ids c.written_cells.ensures.ids in
+    subst (AreStates new) (sym c.in_ok-reserve.ensures.same) (kept_states c.args.states.now new (g.S.TextStore.list c.args.store.now) ids c.requires.states)
+
+-- the cells are put back
+pub returns-clause-cells : goal.returns-clause-cells
+returns-clause-cells g c =
+    let old = c.args.states.now in
+    let mid = c.number.new.self in
+    let new = c.written_cells.new.states in
+    let list = g.S.TextStore.list c.args.store.now in
+    let spans = c.args.spans.now in
+    let ids : KeepsIds old new = keeps_both old mid new c.number.ensures.ids c.written_cells.ensures.ids in
+    let w : Write = record { name = c.args.name.now; writer = c.args.writer; on = c.args.on } in
+    let runs = c.in_ok-runs.runs.items in
+    let copies = c.in_ok-cells.cells.items in
+    let back : g.S.TextStore.list c.put_states.new.store ≡ map (put_back copies) list =
+    c.put_states.ensures.list
+    ∙ (λ i. map (put_back_in_any (c.deref-3.ensures.value i)) (c.in_ok-reserve.ensures.same i))
+    ∙ (λ i. map (λ cell. c.in_ok-runs.ensures.ok cell i) list)
+    ∙ (λ i. map (put_back (c.deref-2.ensures.value i)) list) in
+    let named : List (Cell ℕ) = cells_found list (stamps_in spans) in
+    let same : map (shown mid) named ≡ map (shown old) named = shown_later old mid named c.number.ensures.ids (found_states old list (stamps_in spans) c.requires.states) in
+    let e : map (shown new) copies ≡ map (with_write w) (map (shown old) named) =
+    c.in_ok-cells.ensures.cells
+    ∙ (λ i. map (with_write (record { name = c.in_ok-tag.ensures.tag i; writer = c.args.writer; on = c.args.on })) (map (shown mid) ((c.deref.ensures.value ∙ c.in_ok-named.ensures.ok) i)))
+    ∙ ap (map (with_write w)) same in
+    ap (map (shown new)) back ∙ tagged_cells old new list copies spans w c.requires.distinct ids c.requires.states e
+
+pub returns-clause-given : goal.returns-clause-given
+returns-clause-given g c =
+    let old = c.args.states.now in
+    let new = c.written_cells.new.states in
+    let list = g.S.TextStore.list c.args.store.now in
+    let ids : KeepsIds old new = keeps_both old c.number.new.self new c.number.ensures.ids c.written_cells.ensures.ids in
+    let copies = c.in_ok-cells.cells.items in
+    let back : g.S.TextStore.list c.put_states.new.store ≡ map (put_back copies) list =
+    c.put_states.ensures.list
+    ∙ (λ i. map (put_back_in_any (c.deref-3.ensures.value i)) (c.in_ok-reserve.ensures.same i))
+    ∙ (λ i. map (λ cell. c.in_ok-runs.ensures.ok cell i) list)
+    ∙ (λ i. map (put_back (c.deref-2.ensures.value i)) list) in
+    subst (AreStates new) (sym back) (put_states_given new copies list c.in_ok-cells.ensures.given (kept_states old new list ids c.requires.states))

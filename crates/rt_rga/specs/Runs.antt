@@ -1,0 +1,33 @@
+-- Cells on the way to other states.
+use Rattle.std.specs.Prelude.{ℕ, List, [], ◌∷◌, Option, Some, None, if◌then◌else◌}
+use Rattle.std.specs.List.{flat_map}
+use Rattle.rt_stamps.specs.declared.stamp.Stamp.{Stamp}
+use Rattle.rt_stamps.specs.Stamps.{is_same}
+use Rattle.rt_store.specs.declared.cell.Cell.{Cell}
+use Rattle.rt_store.specs.Cells.{cell_of, is_in_span, with_state}
+use Rattle.rt_tags.specs.States.{Write, written}
+use Rattle.rt_store.specs.Shown.{TaggedCell}
+use Rattle.rt_rga.specs.declared.tagging.StateRun.{StateRun}
+
+-- one element or none
+abbrev pub listed : {X : Type 0} → Option X → List X
+listed None = []
+listed (Some x) = x ∷ []
+
+-- the cells of stamps, in the order of the stamps
+abbrev pub cells_found : {T : Type 0} → List (Cell T) → List Stamp → List (Cell T)
+cells_found cells stamps = flat_map (λ stamp. listed (cell_of cells stamp)) stamps
+
+-- a cell after one more write
+abbrev pub with_write : Write → TaggedCell → TaggedCell
+with_write w cell = with_state (written w cell.state) cell
+
+-- a cell with the state that its copy has, or as it is where it has none
+abbrev pub put_back : {T : Type 0} → List (Cell T) → Cell T → Cell T
+put_back [] cell = cell
+put_back (copy ∷ copies) cell = if is_same copy.stamp cell.stamp then with_state copy.state cell else put_back copies cell
+
+-- a cell with the state of the run that has it, or as it is where none has
+abbrev pub put_back_in_any : List StateRun → Cell ℕ → Cell ℕ
+put_back_in_any [] cell = cell
+put_back_in_any (run ∷ runs) cell = if is_in_span run.span cell.stamp then with_state run.state cell else put_back_in_any runs cell

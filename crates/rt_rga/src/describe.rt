@@ -1,0 +1,107 @@
+// What an operation will change in the visible text.
+ghost use Rattle.std.specs.Prelude.{◌≡◌, ◌<◌, All, IfOk, IfErr, List, ℕ, length, map, string_bytes};
+ghost use Rattle.rt_stamps.specs.declared.stamp.Stamp.{Stamp as StampOf};
+ghost use Rattle.rt_oplog.specs.Operations.{Insert, Name, stamp_of};
+ghost use Rattle.rt_store.specs.Cells.{AreDistinct, IsPlaced, visible_before};
+ghost use Rattle.rt_tags.specs.States.{IsTag, KeepsIds, name_at};
+ghost use Rattle.rt_rga.specs.Taken.{IsChange, lists_of, place_in};
+
+use crate::answer::cells_more;
+use crate::taken::Change;
+use rt_oplog::{Edit, Op};
+use rt_stamps::Fault;
+use rt_store::TextStore;
+use rt_tags::{StateTable, TagId};
+use std::alloc::Global;
+use std::slice;
+
+/// How many visible cells stand before a position.
+fn place_at<S: TextStore>(store: &S, position: usize) -> usize
+    requires within { position < length (S.list store.now) }
+    requires distinct { AreDistinct (S.list store.now) }
+    ensures { result ≡ visible_before (S.list store.now) position }
+{
+    let next = store.nth(position);
+    store.place_of(next.stamp).unwrap()
+}
+
+/// The place of the first character that an operation will insert, 0 if it inserts none.
+fn place_in<S: TextStore>(store: &S, op: &Op) -> usize
+    requires placed { (after : StampOf) (tags : List Name) (text : List ℕ) → op.now.body ≡ Insert after tags text → IsPlaced (S.list store.now) after (stamp_of op.now) }
+    requires distinct { AreDistinct (S.list store.now) }
+    ensures { result ≡ place_in op.now (S.list store.now) }
+{
+    match op.edit() {
+        Edit::Insert {
+            after,
+            tags: _,
+            text: _,
+        } => place_at(store, store.after_skip(*after, op.stamp())),
+        Edit::Delete { spans: _ } => 0,
+        Edit::Tag {
+            on: _,
+            name: _,
+            spans: _,
+        } => 0,
+    }
+}
+
+/// The numbers of names. Want of memory.
+#[tactic(auto, using(crate::proofs::Listing::keeps_both))]
+fn numbers(alloc: Global, states: &mut StateTable, names: &[String]) -> Result<Vec<TagId>, Fault>
+    ensures names { IfOk result (λ tags. map (name_at states.new) tags.items ≡ map (λ name. string_bytes name) names.now) }
+    ensures given { IfOk result (λ tags. All (IsTag states.new) tags.items) }
+    ensures ids { KeepsIds states.old states.new }
+    ensures fault { IfErr result (λ fault. fault ≡ Fault.NoMemory) }
+{
+    let mut tags = Vec::new(alloc);
+    for name in names {
+        let tag = states.number(name)?;
+        tags.push(tag)?;
+    }
+    Ok(tags)
+}
+
+/// The tags that an operation lists. Want of memory.
+fn lists(alloc: Global, states: &mut StateTable, op: &Op) -> Result<Vec<TagId>, Fault>
+    ensures names { IfOk result (λ tags. map (name_at states.new) tags.items ≡ lists_of op.now.body) }
+    ensures given { IfOk result (λ tags. All (IsTag states.new) tags.items) }
+    ensures ids { KeepsIds states.old states.new }
+    ensures fault { IfErr result (λ fault. fault ≡ Fault.NoMemory) }
+{
+    match op.edit() {
+        Edit::Insert {
+            after: _,
+            tags,
+            text: _,
+        } => numbers(alloc, states, tags),
+        Edit::Tag {
+            on: true,
+            name,
+            spans: _,
+        } => numbers(alloc, states, slice::from_ref(name)),
+        _ => Ok(Vec::new(alloc)),
+    }
+}
+
+/// What an operation will change. Want of memory.
+pub(crate) fn describe<S: TextStore>(
+    alloc: Global,
+    store: &S,
+    states: &mut StateTable,
+    op: &Op,
+) -> Result<Change, Fault>
+    requires placed { (after : StampOf) (tags : List Name) (text : List ℕ) → op.now.body ≡ Insert after tags text → IsPlaced (S.list store.now) after (stamp_of op.now) }
+    requires distinct { AreDistinct (S.list store.now) }
+    ensures change { IfOk result (IsChange op.now (S.list store.now) states.new) }
+    ensures ids { KeepsIds states.old states.new }
+    ensures fault { IfErr result (λ fault. fault ≡ Fault.NoMemory) }
+{
+    let lists = lists(alloc, states, op)?;
+    let place = place_in(store, op);
+    Ok(Change {
+        place,
+        inserted: cells_more(op),
+        lists,
+    })
+}

@@ -1,0 +1,14 @@
+//! Replicated text: the cells are the reading of the operations that were accepted.
+#![tactic(auto)]
+
+mod answer;
+mod describe;
+mod edits;
+pub mod examples;
+pub mod laws;
+pub mod replica;
+mod tagging;
+pub mod taken;
+
+pub use replica::Replica;
+pub use taken::{Change, Taken};

@@ -1,0 +1,149 @@
+// A replica: accepted operations, and the cells that are kept of them.
+ghost use Rattle.std.specs.Prelude.{◌≡◌, ◌⊎◌, ◌+◌, ◌≤◌, ◌∷◌, [], IfOk, IfErr, OnErr, OnOk, length, map};
+ghost use Rattle.rt_stamps.specs.declared.limits.TheConstants.{MOST_CELLS};
+ghost use Rattle.rt_store.specs.Cells.{final_cell};
+ghost use Rattle.rt_store.specs.Tagged.{AreStates};
+ghost use Rattle.rt_tags.specs.States.{KeepsIds};
+ghost use Rattle.rt_oplog.specs.Logs.{with_operation};
+ghost use Rattle.rt_rga.specs.Answers.{New, Refused, answer_within, set_after};
+ghost use Rattle.rt_rga.specs.Cells.{cells_of};
+ghost use Rattle.rt_rga.specs.Histories.{Continues, IsHistory, greatest_last_count, inserted};
+ghost use Rattle.rt_store.specs.Shown.{shown};
+ghost use Rattle.rt_rga.specs.Taken.{IsChange, TellsChange, told};
+
+use crate::answer::{Offer, answer_within};
+use crate::describe::describe;
+use crate::edits::change;
+use crate::taken::{Change, Taken};
+use rt_oplog::{Op, OpLog};
+use rt_stamps::{Clock, Fault, Site};
+use rt_store::TextStore;
+use rt_tags::StateTable;
+use std::alloc::Global;
+use std::marker::Model;
+
+/// The accepted operations of a text, and its cells. The cells are those of the operations.
+#[derive(Drop)]
+pub struct Replica<S: TextStore> {
+    alloc: Global,
+    log: OpLog,
+    clock: Clock,
+    store: S,
+    states: StateTable,
+    site: Site,
+    limit: usize,
+}
+
+impl<S: TextStore> Model for Replica<S> {
+    ghost use Rattle.std.specs.Prelude.{map};
+    ghost use Rattle.rt_rga.specs.Kept.{ReplicaValue, IsWithin};
+    ghost use Rattle.rt_store.specs.Shown.{shown};
+
+    ghost Value = { ReplicaValue };
+
+    ghost view = { λ r. record { log = r.log.operations; cells = map (shown r.states) (S.list r.store); table = r.states; site = r.site.number; limit = r.limit } };
+
+    ghost invariant = { λ r. IsWithin r.log.operations r.states (S.list r.store) r.clock r.limit };
+}
+
+impl<S: TextStore> Replica<S> {
+    /// A replica without operations, of a new store: that of a site, for at most `limit` cells, the
+    /// final newline and those that are gone among them. `NoMemory` is its only fault.
+    pub fn new(alloc: Global, store: S, site: Site, limit: usize) -> Result<Replica<S>, Fault>
+        requires store { S.list store ≡ final_cell ∷ [] }
+        requires limit { (1 ≤ limit) × (limit ≤ MOST_CELLS) }
+        ensures log { IfOk result (λ replica. replica.log ≡ []) }
+        ensures site { IfOk result (λ replica. replica.site ≡ site.number) }
+        ensures limit { IfOk result (λ replica. replica.limit ≡ limit) }
+        ensures fault { IfErr result (λ fault. fault ≡ Fault.NoMemory) }
+    {
+        let states = StateTable::new(alloc)?;
+        Ok(Replica {
+            alloc,
+            log: OpLog::new(alloc),
+            clock: Clock::new(),
+            store,
+            states,
+            site,
+            limit,
+        })
+    }
+
+    /// The log, which is a history.
+    pub fn log(&self) -> &OpLog
+        ensures operations { result.now.operations ≡ self.now.log }
+        ensures history { IsHistory self.now.log }
+    {
+        &self.log
+    }
+
+    /// What the states of the cells mean.
+    pub fn states(&self) -> &StateTable
+        ensures { result.now ≡ self.now.table }
+    {
+        &self.states
+    }
+
+    /// The store, whose cells are those of the log.
+    pub fn store(&self) -> &S
+        ensures kept { map (shown self.now.table) (S.list result.now) ≡ self.now.cells }
+        ensures cells { self.now.cells ≡ cells_of self.now.log }
+        ensures states { AreStates self.now.table (S.list result.now) }
+    {
+        &self.store
+    }
+
+    /// The clock, which has seen the greatest count of the log.
+    pub fn clock(&self) -> &Clock
+        ensures { result.now ≡ greatest_last_count self.now.log }
+    {
+        &self.clock
+    }
+
+    /// Takes an operation that continues the log, within the limit of cells. Want of memory.
+    fn take(&mut self, op: Op) -> Result<Change, Fault>
+        requires continues { Continues self.old.log op }
+        requires room { length self.old.cells + length (inserted op) ≤ self.old.limit }
+        ensures log { OnOk result (self.new.log ≡ with_operation op self.old.log) }
+        ensures change { IfOk result (IsChange op self.old.cells self.new.table) }
+        ensures same { OnErr result (self.new ≡ record self.old { table = self.new.table }) }
+        ensures site { self.new.site ≡ self.old.site }
+        ensures limit { self.new.limit ≡ self.old.limit }
+        ensures ids { KeepsIds self.old.table self.new.table }
+        ensures fault { IfErr result (λ fault. fault ≡ Fault.NoMemory) }
+    {
+        self.log.reserve(1)?;
+        let told = describe(self.alloc, &self.store, &mut self.states, &op)?;
+        change(
+            self.alloc,
+            &mut self.store,
+            &mut self.states,
+            &self.log,
+            &op,
+        )?;
+        self.clock.saw(op.last_count());
+        let _added = self.log.push(op);
+        Ok(told)
+    }
+
+    /// Accepts an operation of any site, in the order of the causes: `BadStamp` for one that isn't
+    /// sound; a repeat, which changes nothing; `Conflict` and `NotYet` where its `prev` is below or
+    /// above the known end of its site; `BadTarget` where it names what can never be known, `NotYet`
+    /// what isn't known; `TextFull` where the cells would pass the limit. `NoMemory` only where none
+    /// of these applies. After a fault all is as before, but for names and states that got numbers.
+    pub fn accept(&mut self, op: Op) -> Result<Taken, Fault>
+        ensures answer { IfOk result (λ taken. answer_within self.old.limit op self.old.log ≡ told taken) }
+        ensures refused { IfErr result (λ fault. (answer_within self.old.limit op self.old.log ≡ Refused fault) ⊎ ((fault ≡ Fault.NoMemory) × (answer_within self.old.limit op self.old.log ≡ New))) }
+        ensures log { OnOk result (self.new.log ≡ set_after (answer_within self.old.limit op self.old.log) op self.old.log) }
+        ensures change { IfOk result (TellsChange op self.old.cells self.new.table) }
+        ensures same { OnErr result (self.new ≡ record self.old { table = self.new.table }) }
+        ensures site { self.new.site ≡ self.old.site }
+        ensures limit { self.new.limit ≡ self.old.limit }
+        ensures ids { KeepsIds self.old.table self.new.table }
+    {
+        match answer_within(&self.log, &self.store, self.limit, &op)? {
+            Offer::Repeat => Ok(Taken::Repeat),
+            Offer::New => Ok(Taken::New(self.take(op)?)),
+        }
+    }
+}

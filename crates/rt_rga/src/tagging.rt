@@ -1,0 +1,183 @@
+// A Tag on the cells of a store.
+ghost use Rattle.std.specs.Prelude.{◌≡◌, ◌*◌, ◌≤◌, ◌++◌, ◌==◌, ◌&&◌, ℕ, All, IfOk, IfErr, OnOk, OnErr, length, map};
+ghost use Rattle.rt_stamps.specs.declared.limits.TheConstants.{MOST_CELLS};
+ghost use Rattle.rt_stamps.specs.Stamps.{is_same};
+ghost use Rattle.rt_store.specs.declared.cell.Cell.{Cell as StoreCell};
+ghost use Rattle.rt_store.specs.Cells.{AreDistinct, HasRoom};
+ghost use Rattle.rt_store.specs.Shown.{shown};
+ghost use Rattle.rt_store.specs.Spans.{last_stamp, next_stamp};
+ghost use Rattle.rt_store.specs.Tagged.{AreStates};
+ghost use Rattle.rt_tags.specs.States.{IsState, IsTag, KeepsIds, TagStates, name_at, write_at};
+ghost use Rattle.rt_oplog.specs.Operations.{stamps_in, stamps_of_span};
+ghost use Rattle.rt_rga.specs.Changes.{written_in_any};
+ghost use Rattle.rt_rga.specs.Runs.{cells_found, listed, put_back, put_back_in_any, with_write};
+
+use crate::answer::span_of;
+use rt_stamps::{Fault, Span, Stamp};
+use rt_store::{Cell, TextStore};
+use rt_tags::{StateId, StateTable, TagId};
+use std::alloc::Global;
+
+/// Adds a cell, if there is one. Want of memory.
+fn push_found(cell: Option<Cell<StateId>>, cells: &mut Vec<Cell<StateId>>) -> Result<(), Fault>
+    ensures ok { OnOk result (cells.new.items ≡ cells.old.items ++ listed cell) }
+    ensures fault { IfErr result (λ fault. fault ≡ Fault.NoMemory) }
+{
+    if let Some(cell) = cell {
+        cells.push(cell)?;
+    }
+    Ok(())
+}
+
+/// Adds the cells of a span's stamps. Want of memory.
+fn push_cells<S: TextStore>(
+    store: &S,
+    span: Span,
+    cells: &mut Vec<Cell<StateId>>,
+) -> Result<(), Fault>
+    ensures ok { OnOk result (cells.new.items ≡ cells.old.items ++ cells_found (S.list store.now) (stamps_of_span span)) }
+    ensures fault { IfErr result (λ fault. fault ≡ Fault.NoMemory) }
+{
+    for count in span.first..=span.last {
+        let stamp = Stamp {
+            count,
+            site: span.site,
+        };
+        push_found(store.cell_of(stamp), cells)?;
+    }
+    Ok(())
+}
+
+/// The cells of the stamps of spans. Want of memory.
+pub(crate) fn named_cells<S: TextStore>(
+    alloc: Global,
+    store: &S,
+    spans: &[Span],
+) -> Result<Vec<Cell<StateId>>, Fault>
+    ensures ok { IfOk result (λ cells. cells.items ≡ cells_found (S.list store.now) (stamps_in spans.now)) }
+    ensures fault { IfErr result (λ fault. fault ≡ Fault.NoMemory) }
+{
+    let mut cells = Vec::new(alloc);
+    for span in spans {
+        push_cells(store, *span, &mut cells)?;
+    }
+    Ok(cells)
+}
+
+/// Cells with one more write of a tag. Want of memory.
+#[tactic(auto, using(crate::proofs::Listing::keeps_both))]
+fn written_cells(
+    alloc: Global,
+    states: &mut StateTable,
+    cells: &[Cell<StateId>],
+    tag: TagId,
+    writer: Stamp,
+    on: bool,
+) -> Result<Vec<Cell<StateId>>, Fault>
+    requires states { AreStates states.old cells.now }
+    requires tag { IsTag states.old tag }
+    ensures cells { IfOk result (λ more. map (shown states.new) more.items ≡ map (with_write (write_at states.old tag writer on)) (map (shown states.old) cells.now)) }
+    ensures given { IfOk result (λ more. AreStates states.new more.items) }
+    ensures ids { KeepsIds states.old states.new }
+    ensures fault { IfErr result (λ fault. fault ≡ Fault.NoMemory) }
+{
+    let mut more = Vec::new(alloc);
+    for cell in cells {
+        let state = states.with(cell.state, tag, writer, on)?;
+        more.push(Cell {
+            stamp: cell.stamp,
+            ch: cell.ch,
+            gone: cell.gone,
+            state,
+        })?;
+    }
+    Ok(more)
+}
+
+/// A span whose cells come into one state.
+#[derive(Clone, Copy, Debug, PartialEq, Eq)]
+pub(crate) struct StateRun {
+    pub span: Span,
+    pub state: StateId,
+}
+
+/// Whether a cell goes on with a run.
+fn goes_on(span: Span, state: StateId, cell: Cell<StateId>) -> bool
+    ensures { result ≡ ((cell.state == state) && is_same cell.stamp (next_stamp (last_stamp span))) }
+{
+    cell.state == state
+        && cell.stamp.site == span.site
+        && cell.stamp.count > span.last
+        && cell.stamp.count - span.last == 1
+}
+
+/// Runs of cells: of those in the order of their sites and counts the longest ones. Want of memory.
+fn state_runs(alloc: Global, cells: &[Cell<StateId>]) -> Result<Vec<StateRun>, Fault>
+    ensures ok { IfOk result (λ runs. (cell : StoreCell ℕ) → put_back_in_any runs.items cell ≡ put_back cells.now cell) }
+    ensures few { IfOk result (λ runs. length runs.items ≤ length cells.now) }
+    ensures given { IfOk result (λ runs. (table : TagStates) → AreStates table cells.now → All (λ run. IsState table run.state) runs.items) }
+    ensures err { IfErr result (λ fault. fault ≡ Fault.NoMemory) }
+{
+    let mut runs = Vec::new(alloc);
+    let Some((first, others)) = cells.split_first() else {
+        return Ok(runs);
+    };
+    let mut span = span_of(first.stamp);
+    let mut state = first.state;
+    for cell in others {
+        if goes_on(span, state, *cell) {
+            span.last = cell.stamp.count;
+        } else {
+            runs.push(StateRun { span, state })?;
+            span = span_of(cell.stamp);
+            state = cell.state;
+        }
+    }
+    runs.push(StateRun { span, state })?;
+    Ok(runs)
+}
+
+/// Puts the cells of runs in their states. From the last run to the first: so a cell that two runs
+/// have gets the state of the first one. Takes no memory.
+fn put_states<S: TextStore>(store: &mut S, states: &StateTable, runs: &[StateRun])
+    requires states { AreStates states.now (S.list store.old) }
+    requires runs { All (λ run. IsState states.now run.state) runs.now }
+    requires room { HasRoom (S.room store.old) 0 (2 * length runs.now) }
+    ensures list { S.list store.new ≡ map (put_back_in_any runs.now) (S.list store.old) }
+{
+    for behind in 0..runs.len() {
+        let run = runs[runs.len() - 1 - behind];
+        store.set_state(states, run.span, run.state);
+    }
+}
+
+/// Writes a tag on the cells of spans, and tells its number. Want of memory, and then the cells stay.
+#[tactic(auto, using(crate::proofs::Listing::keeps_both))]
+pub(crate) fn tag_cells<S: TextStore>(
+    alloc: Global,
+    store: &mut S,
+    states: &mut StateTable,
+    spans: &[Span],
+    name: &str,
+    writer: Stamp,
+    on: bool,
+) -> Result<TagId, Fault>
+    requires states { AreStates states.old (S.list store.old) }
+    requires distinct { AreDistinct (S.list store.old) }
+    requires few { length (S.list store.old) ≤ MOST_CELLS }
+    ensures cells { OnOk result (map (shown states.new) (S.list store.new) ≡ map (written_in_any spans.now (record { name = name.now; writer = writer; on = on })) (map (shown states.old) (S.list store.old))) }
+    ensures given { OnOk result (AreStates states.new (S.list store.new)) }
+    ensures tag { IfOk result (IsTag states.new) }
+    ensures name { IfOk result (λ tag. name_at states.new tag ≡ name.now) }
+    ensures ids { KeepsIds states.old states.new }
+    ensures err { OnErr result (S.list store.new ≡ S.list store.old) }
+    ensures fault { IfErr result (λ fault. fault ≡ Fault.NoMemory) }
+{
+    let named = named_cells(alloc, store, spans)?;
+    let tag = states.number(name)?;
+    let cells = written_cells(alloc, states, &named, tag, writer, on)?;
+    let runs = state_runs(alloc, &cells)?;
+    store.reserve(0, 2 * runs.len())?;
+    put_states(store, states, &runs);
+    Ok(tag)
+}
