@@ -70,7 +70,9 @@ def expect(name, holds):
 
 
 def laid(folder, program, name, *crates):
-    """Lays a workspace of a program of tests/bench, under a name, and the crates that it stands on; answers the program's folder."""
+    """Lays a workspace of a program of tests/bench, under a name, and the crates that it stands on; answers the program's folder.
+
+    Its files end in .in here, since a file of Rattle stands in a crate that crates.txt names."""
     with open(os.path.join(ROOT, "crates.txt"), encoding="utf-8") as file:
         needed = [line for line in file if line.split(":")[0] in crates]
     with open(os.path.join(folder, "crates.txt"), "w", encoding="utf-8") as file:
@@ -78,7 +80,11 @@ def laid(folder, program, name, *crates):
     shutil.copy(os.path.join(ROOT, "HANDLES"), folder)
     for crate in crates:
         shutil.copytree(os.path.join(ROOT, "crates", crate), os.path.join(folder, "crates", crate), symlinks=True)
-    return shutil.copytree(os.path.join(ROOT, "tests", "bench", program), os.path.join(folder, "crates", name))
+    made = shutil.copytree(os.path.join(ROOT, "tests", "bench", program), os.path.join(folder, "crates", name))
+    for place, _, files in os.walk(made):
+        for file in files:
+            os.rename(os.path.join(place, file), os.path.join(place, file.removesuffix(".in")))
+    return made
 
 
 def spans():
