@@ -90,18 +90,24 @@ def laid(folder, program, name, *crates):
 def spans():
     """Proves and runs tests/bench/spans, a program over rt_spans, and tests/bench/spans.rs, which does the same on a BTreeMap."""
     with tempfile.TemporaryDirectory() as folder:
-        program = laid(folder, "spans", "spans", "rt_stamps", "rt_spans")
-        runs = [subprocess.run(["rt", "run"], cwd=program, stdout=subprocess.PIPE, check=True)]
+        ours = laid(folder, "spans", "spans", "rt_stamps", "rt_spans")
+        subprocess.run(["rt", "run"], cwd=ours, stdout=subprocess.DEVNULL, check=True)
+        programs = [os.path.join(ours, "out", "spans")]
         if shutil.which("rustc"):
-            tree = os.path.join(folder, "tree")
-            subprocess.run(["rustc", "-O", os.path.join(ROOT, "tests", "bench", "spans.rs"), "-o", tree], check=True)
-            runs.append(subprocess.run([tree], stdout=subprocess.PIPE, check=True))
-        for lines in zip(*(run.stdout.decode().splitlines() for run in runs)):
-            name, times, _, total = lines[0].split()
-            each = [int(line.split()[2]) / int(times) for line in lines]
-            beside_it = f", BTreeMap {each[1]:6.0f} ns, {each[0] / each[1]:4.2f} times that" if len(each) > 1 else ""
-            print(f"{int(times):9,} {name:9} {each[0]:6.0f} ns each{beside_it}", flush=True)
-            expect(f"{times} {name}", all(line.split()[3] == total for line in lines))
+            programs.append(os.path.join(folder, "tree"))
+            subprocess.run(["rustc", "-O", os.path.join(ROOT, "tests", "bench", "spans.rs"), "-o", programs[1]], check=True)
+        # Three times in turn, and of each the least: what else the machine does makes a time longer, and never shorter.
+        best = {}
+        for program in programs * 3:
+            out = subprocess.run([program], stdout=subprocess.PIPE, check=True).stdout.decode()
+            for name, times, took, total in map(str.split, out.splitlines()):
+                each, seen = best.setdefault((int(times), name), ({}, total))
+                each[program] = min(each.get(program, 1 << 62), int(took))
+                expect(f"{times} {name}", seen == total)
+        for (times, name), (each, _) in best.items():
+            took = [each[program] / times for program in programs]
+            tree = f", BTreeMap {took[1]:6.0f} ns, {took[0] / took[1]:4.2f} times that" if len(took) > 1 else ""
+            print(f"{times:9,} {name:9} {took[0]:6.0f} ns each{tree}", flush=True)
     return 1 if wrong else 0
 
 

@@ -31,6 +31,14 @@ splits_at place blocks middle h = by (place + 1 == blocks) refl h where
   by true e k = record { low = omega (arith, k); high = omega (arith, k); where_it_is = inl (grind (arith, nat_tests)) }
   by false e k = record { low = omega (arith, k); high = omega (arith, k); where_it_is = inr k }
 
+-- the same, seen from behind the first block
+behind_first : (i n m : ℕ) → SplitsAt (suc i) (suc (suc n)) m → SplitsAt i (suc n) m
+behind_first i n m s = record {
+  low = s.low;
+  high = s.high;
+  where_it_is = elim s.where_it_is as (λ _. (suc i ≡ suc n) ⊎ (m ≡ 64)) [ inl last ↦ inl (omega (arith, last)) | inr half ↦ inr half ];
+}
+
 -- a full block that becomes two
 pub debt_split : {V : Type 0} (bs : List (Block V)) (i : ℕ) (b left right : Block V) (middle : ℕ) → i < length bs → b ≡ get_or bs i b → vec_len b.rest ≡ 128 → vec_len left.rest ≡ middle → vec_len right.rest + middle + 1 ≡ 128 → SplitsAt i (length bs) middle → debt (insert (set bs i left) (suc i) right) + 64 ≤ debt bs
 debt_split [] i b left right middle l e f p q s = absurd (omega (arith, l))
@@ -45,23 +53,9 @@ debt_split {V} (x ∷ y ∷ xs) zero b left right middle l e f p q s =
       | inr half ↦ omega (arith, f, p, q, half, w)
     ]
 debt_split (x ∷ y ∷ xs) (suc zero) b left right middle l e f p q s =
-    omega (arith, debt_split (y ∷ xs) zero b left right middle (omega arith) e f p q (within zero (length xs) middle s))
-  where
-    within : (i n m : ℕ) → SplitsAt (suc i) (suc (suc n)) m → SplitsAt i (suc n) m
-    within i n m s = record {
-      low = s.low;
-      high = s.high;
-      where_it_is = elim s.where_it_is as (λ _. (suc i ≡ suc n) ⊎ (m ≡ 64)) [ inl last ↦ inl (omega (arith, last)) | inr half ↦ inr half ];
-    }
+    omega (arith, debt_split (y ∷ xs) zero b left right middle (omega arith) e f p q (behind_first zero (length xs) middle s))
 debt_split (x ∷ y ∷ xs) (suc (suc i)) b left right middle l e f p q s =
-    omega (arith, debt_split (y ∷ xs) (suc i) b left right middle (omega (arith, l)) e f p q (within (suc i) (length xs) middle s))
-  where
-    within : (i n m : ℕ) → SplitsAt (suc i) (suc (suc n)) m → SplitsAt i (suc n) m
-    within i n m s = record {
-      low = s.low;
-      high = s.high;
-      where_it_is = elim s.where_it_is as (λ _. (suc i ≡ suc n) ⊎ (m ≡ 64)) [ inl last ↦ inl (omega (arith, last)) | inr half ↦ inr half ];
-    }
+    omega (arith, debt_split (y ∷ xs) (suc i) b left right middle (omega (arith, l)) e f p q (behind_first (suc i) (length xs) middle s))
 
 -- blocks that have room
 pub debt_bound : {V : Type 0} (bs : List (Block V)) → Each HasRoom bs → debt bs ≤ 64 * length bs + 64
@@ -88,7 +82,3 @@ affords_rest spare debt spare_new debt_new entries m a l d = elim a as (λ _. Af
   | inl s ↦ inl (omega (arith, s, l))
   | inr s ↦ inr (omega (arith, s, d, m))
 ]
-
--- nor do more spare blocks harm
-pub affords_more : (spare more debt entries : ℕ) → spare ≤ more → Affords spare debt entries → Affords more debt entries
-affords_more spare more debt entries l a = elim a as (λ _. Affords more debt entries) [ inl s ↦ inl (omega (arith, s, l)) | inr s ↦ inr (omega (arith, s, l)) ]

@@ -1,19 +1,19 @@
 -- Whole blocks between two stamps, taken away.
-use Rattle.std.proofs.Common.{◌≡◌, ℕ, zero, suc, ◌+◌, ◌-◌, ◌<◌, ◌≤◌, ◌⊎◌, inl, inr, nat_le, nat_lt, ◌&&◌, List, [], ◌∷◌, ◌++◌, length, get_or, take, drop, true, cond, refl, sym, ap, subst, ◌∙◌, arith, Option, Some, None, append_assoc, vec_len}
+use Rattle.std.proofs.Common.{◌≡◌, ℕ, zero, suc, ◌+◌, ◌-◌, ◌<◌, ◌≤◌, ◌⊎◌, inl, inr, nat_le, nat_lt, ◌&&◌, List, [], ◌∷◌, ◌++◌, length, get_or, take, drop, cond, refl, sym, ap, subst, ◌∙◌, arith, Option, Some, None, append_assoc, vec_len}
 use Rattle.std.proofs.lemmas.Bool.{cases_lt}
 use Rattle.std.proofs.lemmas.List.{take-append-drop}
 use Rattle.std.proofs.lemmas.List.Concat.{flat_map-append}
 use Rattle.rt_spans.specs.declared.entry.Entry.{Entry}
 use Rattle.rt_spans.specs.declared.block.Block.{Block}
-use Rattle.rt_spans.specs.Spans.{AreRisingBy, AreRisingFrom, Has, PaintsOver, Thinned, ThinsOut, key, value_at, value_from}
-use Rattle.rt_spans.specs.Blocks.{Each, HasRoom, PartsAt, PartsBelow, head_key, in_block, in_blocks}
+use Rattle.rt_spans.specs.Spans.{AreRisingFrom, Has, PaintsOver, Thinned, ThinsOut, key, value_at, value_from}
+use Rattle.rt_spans.specs.Blocks.{Each, PartsAt, PartsBelow, head_key, in_block, in_blocks}
 use Rattle.rt_spans.specs.Room.{debt}
-use Rattle.rt_spans.proofs.Ranks.{is_le, is_lt, not_le, not_lt}
+use Rattle.rt_spans.proofs.Ranks.{is_le, is_lt}
 use Rattle.rt_spans.proofs.Rising.{front, lower, skip}
-use Rattle.rt_spans.proofs.Values.{cut_out, value_front}
+use Rattle.rt_spans.proofs.Values.{value_front}
 use Rattle.rt_spans.proofs.Parts.{each_append, each_drop, each_take, heads_above}
 use Rattle.rt_spans.proofs.Cutting.{has_back, has_front, none_below}
-use Rattle.rt_spans.proofs.Painting.{ahead, both, first_fails, has_split, neither}
+use Rattle.rt_spans.proofs.Painting.{ahead, both, has_split}
 
 -- WHAT HOLDS THEN
 

@@ -1,7 +1,6 @@
 use Rattle.std.proofs.Common.{arith, inr}
-use Rattle.rt_spans.specs.Blocks.{HasRoom}
 use Rattle.rt_spans.proofs.Parts.{heads_rising}
-use Rattle.rt_spans.proofs.Thinning.{debt_less, each_left, thins_blocks}
+use Rattle.rt_spans.proofs.Thinning.{debt_less, thins_blocks}
 use Rattle.rt_spans.proofs.blocks.thin_out.Goals as goal
 
 pub blocks_until-from-requires : goal.blocks_until-from-requires
