@@ -44,7 +44,8 @@ fn write_magic<W: Sink>(out: &mut W) -> Result<(), Fault>
 /// could not grow, `WriteFault` where a write failed; a front of the file was then written.
 pub fn write_file<W: Sink>(alloc: Global, log: &OpLog, out: &mut W) -> Result<(), Fault>
     ensures wrote { Wrote (W.contents out.old) (W.contents out.new) result (spelling (reverse log.now.operations)) }
-    ensures read_back { OnOk result (Reads (spelling (reverse log.now.operations)) (reverse log.now.operations) (offsets_from 8 (reverse log.now.operations)) None) }
+    ensures read_back { OnOk result
+        (Reads (spelling (reverse log.now.operations)) (reverse log.now.operations) (offsets_from 8 (reverse log.now.operations)) None) }
     ensures failures { MatchResult result
         (λ _. W.failures out.new ≡ W.failures out.old)
         (λ fault. ((fault ≡ NoMemory) × (W.failures out.new ≡ W.failures out.old)) ⊎ ((fault ≡ WriteFault) × (W.failures out.new ≡ W.failures out.old + 1))) }

@@ -39,7 +39,8 @@ pub fn logs()
 /// What is told of a reader, whose bytes may be known or not, are operations that a file can have, each
 /// with the offset of its record. Known bytes are told as what they are read as.
 pub fn readings()
-    ensures told { (old new : ReaderState) (ops : List Operation) (offsets : List ℕ) (fault : Option (Fault × ℕ)) → ReadsFile old new ops offsets fault → AreInFile ops × (offsets ≡ offsets_from 8 ops) }
+    ensures told { (old new : ReaderState) (ops : List Operation) (offsets : List ℕ) (fault : Option (Fault × ℕ))
+        → ReadsFile old new ops offsets fault → AreInFile ops × (offsets ≡ offsets_from 8 ops) }
     ensures known { (old new : ReaderState) (bytes : List ℕ) (ops : List Operation) (offsets : List ℕ) (fault : Option (Fault × ℕ)) → old.left ≡ Some bytes
         → ((at : ℕ) → fault ≡ Some (ReadFault, at) → ⊥) → ReadsFile old new ops offsets fault → Reads bytes ops offsets fault }
 {}
