@@ -9,8 +9,8 @@ use Rattle.rt_edits.proofs.plan.push_tag.Goals as goal
 pub returns-then-eq-clause-ok : goal.returns-then-eq-clause-ok
 returns-then-eq-clause-ok c = passed_over (map (name_at c.args.states.now) c.args.tags.now.items) c.args.name.now (sym c.eq.ensures ∙ c.if-eq.true)
 
-pub returns-in_ok-push-clause-ok : goal.returns-in_ok-push-clause-ok
-returns-in_ok-push-clause-ok c =
+pub returns-clause-ok : goal.returns-clause-ok
+returns-clause-ok c =
     let old = c.args.states.now in
     let new = c.number.new.self in
     let tags = c.args.tags.now.items in
@@ -19,7 +19,7 @@ returns-in_ok-push-clause-ok c =
     ∙ (λ j. names_kept old new tags c.number.ensures.ids c.requires j ++ c.in_ok-tag.ensures.tag j ∷ [])
     ∙ kept_one (map (name_at old) tags) c.args.name.now (sym c.eq.ensures ∙ c.if-eq.false)
 
-pub returns-in_ok-push-clause-given : goal.returns-in_ok-push-clause-given
-returns-in_ok-push-clause-given c =
+pub returns-clause-given : goal.returns-clause-given
+returns-clause-given c =
     let new = c.number.new.self in
     subst (All (IsTag new)) (sym c.in_ok-push.ensures.items) (one_given c.args.states.now new c.args.tags.now.items c.in_ok-tag.tag c.number.ensures.ids c.requires c.in_ok-tag.ensures.given)
