@@ -156,7 +156,8 @@ impl<H, E, const CAP: usize> NodeMem<H, E, CAP> {
         requires nodes { IsNode self.old a.index × IsNode self.old b.index × (a.index ≢ b.index) }
         requires tail { k ≤ length (entries self.old a.index) }
         requires room { length (entries self.old b.index) + (length (entries self.old a.index) - k) ≤ CAP }
-        ensures { self.new ≡ with_entries (with_entries self.old a.index (take k (entries self.old a.index))) b.index (entries self.old b.index ++ drop k (entries self.old a.index)) }
+        ensures { self.new ≡ with_entries (with_entries self.old a.index (take k (entries self.old a.index))) b.index
+            (entries self.old b.index ++ drop k (entries self.old a.index)) }
     {
         move_between(
             self.rows.as_mut_slice(),

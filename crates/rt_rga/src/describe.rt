@@ -27,7 +27,8 @@ fn place_at<S: TextStore>(store: &S, position: usize) -> usize
 
 /// The place of the first character that an operation will insert, 0 if it inserts none.
 fn place_in<S: TextStore>(store: &S, op: &Op) -> usize
-    requires placed { (after : StampOf) (tags : List Name) (text : List ℕ) → op.now.body ≡ Insert after tags text → IsPlaced (S.list store.now) after (stamp_of op.now) }
+    requires placed { (after : StampOf) (tags : List Name) (text : List ℕ) → op.now.body ≡ Insert after tags text
+        → IsPlaced (S.list store.now) after (stamp_of op.now) }
     requires distinct { AreDistinct (S.list store.now) }
     ensures { result ≡ place_in op.now (S.list store.now) }
 {
@@ -91,7 +92,8 @@ pub(crate) fn describe<S: TextStore>(
     states: &mut StateTable,
     op: &Op,
 ) -> Result<Change, Fault>
-    requires placed { (after : StampOf) (tags : List Name) (text : List ℕ) → op.now.body ≡ Insert after tags text → IsPlaced (S.list store.now) after (stamp_of op.now) }
+    requires placed { (after : StampOf) (tags : List Name) (text : List ℕ) → op.now.body ≡ Insert after tags text
+        → IsPlaced (S.list store.now) after (stamp_of op.now) }
     requires distinct { AreDistinct (S.list store.now) }
     ensures change { IfOk result (IsChange op.now (S.list store.now) states.new) }
     ensures ids { KeepsIds states.old states.new }

@@ -79,7 +79,8 @@ pub(crate) fn insert_cells<S: TextStore>(
     requires room { length (S.list store.old) + length text.now ≤ MOST_CELLS }
     ensures given { IfOk result (IsState states.new) }
     ensures state { IfOk result (λ id. state_at states.new id ≡ state_after [] (listed_by ROOT_STAMP (map (λ tag. string_bytes tag) tags.now))) }
-    ensures list { IfOk result (λ id. S.list store.new ≡ put_at (skip_from (S.list store.old) after stamp) (cells_from stamp.count stamp.site id text.now) (S.list store.old)) }
+    ensures list { IfOk result (λ id. S.list store.new
+        ≡ put_at (skip_from (S.list store.old) after stamp) (cells_from stamp.count stamp.site id text.now) (S.list store.old)) }
     ensures ids { KeepsIds states.old states.new }
     ensures err { OnErr result (S.list store.new ≡ S.list store.old) }
     ensures fault { IfErr result (λ fault. fault ≡ Fault.NoMemory) }

@@ -27,9 +27,12 @@ pub fn insertions()
 pub fn tags()
     ensures on_last { tagged_after (insert_tagged_ab ∷ tag_off_by_1 ∷ tag_on_by_1 ∷ tag_off_by_2 ∷ []) ≡ true ∷ true ∷ false ∷ [] }
     ensures on_first { tagged_after (insert_tagged_ab ∷ tag_off_by_2 ∷ tag_off_by_1 ∷ tag_on_by_1 ∷ []) ≡ true ∷ true ∷ false ∷ [] }
-    ensures off_last { tagged_after (insert_tagged_ab ∷ tag_off_by_1 ∷ tag_on_by_1 ∷ insert_q ∷ tag_off_by_2_later ∷ []) ≡ false ∷ true ∷ false ∷ false ∷ [] }
-    ensures off_first { tagged_after (insert_tagged_ab ∷ insert_q ∷ tag_off_by_2_later ∷ tag_off_by_1 ∷ tag_on_by_1 ∷ []) ≡ false ∷ true ∷ false ∷ false ∷ [] }
-    ensures text { text_with_tags (insert_tagged_ab ∷ tag_off_by_1 ∷ []) ≡ tagged (codes "a") [] ∷ tagged (codes "b") only_t ∷ tagged (codes "\n") [] ∷ [] }
+    ensures off_last { tagged_after (insert_tagged_ab ∷ tag_off_by_1 ∷ tag_on_by_1 ∷ insert_q ∷ tag_off_by_2_later ∷ [])
+        ≡ false ∷ true ∷ false ∷ false ∷ [] }
+    ensures off_first { tagged_after (insert_tagged_ab ∷ insert_q ∷ tag_off_by_2_later ∷ tag_off_by_1 ∷ tag_on_by_1 ∷ [])
+        ≡ false ∷ true ∷ false ∷ false ∷ [] }
+    ensures text { text_with_tags (insert_tagged_ab ∷ tag_off_by_1 ∷ [])
+        ≡ tagged (codes "a") [] ∷ tagged (codes "b") only_t ∷ tagged (codes "\n") [] ∷ [] }
     ensures visible { text_with_tags (insert_tagged_ab ∷ delete_b ∷ []) ≡ tagged (codes "a") only_t ∷ tagged (codes "\n") [] ∷ [] }
     ensures on_final { answer_to tag_final [] ≡ New }
 {}

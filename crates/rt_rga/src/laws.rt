@@ -89,7 +89,8 @@ pub fn refusals()
 pub fn room()
     ensures new { NewHasRoom }
     ensures full { FullHasNone }
-    ensures others { (set : List Operation) (op : Operation) (limit : ℕ) → (answer_to op set ≡ New → ⊥) → answer_within limit op set ≡ answer_to op set }
+    ensures others { (set : List Operation) (op : Operation) (limit : ℕ) → (answer_to op set ≡ New → ⊥)
+        → answer_within limit op set ≡ answer_to op set }
 {}
 
 /// A history is a set of sound operations, each site's a chain, that name what is known in the whole
@@ -159,7 +160,8 @@ pub fn agreement()
     ensures text { EqualLogsShowEqualText }
     ensures characters { (cells : List TaggedCell) → map (λ c. c.ch) (tagged_text cells) ≡ text_of cells }
     ensures kept { (log : List Operation) (table : TagStates) (kept : List (Cell ℕ)) → IsReplica log table kept → text_of kept ≡ text_of (cells_of log) }
-    ensures stamps { (log : List Operation) (table : TagStates) (kept : List (Cell ℕ)) → IsReplica log table kept → stamps_of kept ≡ stamps_of (cells_of log) }
+    ensures stamps { (log : List Operation) (table : TagStates) (kept : List (Cell ℕ)) → IsReplica log table kept
+        → stamps_of kept ≡ stamps_of (cells_of log) }
 {}
 
 /// What is kept of a history stays that when an operation that continues it changes what is kept: an

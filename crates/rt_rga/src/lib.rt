@@ -9,6 +9,8 @@ pub mod laws;
 pub mod replica;
 mod tagging;
 pub mod taken;
+#[cfg(test)]
+mod tests;
 
 pub use replica::Replica;
 pub use taken::{Change, Taken};

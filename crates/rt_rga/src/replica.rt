@@ -133,7 +133,8 @@ impl<S: TextStore> Replica<S> {
     /// of these applies. After a fault all is as before, but for names and states that got numbers.
     pub fn accept(&mut self, op: Op) -> Result<Taken, Fault>
         ensures answer { IfOk result (λ taken. answer_within self.old.limit op self.old.log ≡ told taken) }
-        ensures refused { IfErr result (λ fault. (answer_within self.old.limit op self.old.log ≡ Refused fault) ⊎ ((fault ≡ Fault.NoMemory) × (answer_within self.old.limit op self.old.log ≡ New))) }
+        ensures refused { IfErr result (λ fault. (answer_within self.old.limit op self.old.log
+            ≡ Refused fault) ⊎ ((fault ≡ Fault.NoMemory) × (answer_within self.old.limit op self.old.log ≡ New))) }
         ensures log { OnOk result (self.new.log ≡ set_after (answer_within self.old.limit op self.old.log) op self.old.log) }
         ensures change { IfOk result (TellsChange op self.old.cells self.new.table) }
         ensures same { OnErr result (self.new ≡ record self.old { table = self.new.table }) }

@@ -76,7 +76,8 @@ fn written_cells(
 ) -> Result<Vec<Cell<StateId>>, Fault>
     requires states { AreStates states.old cells.now }
     requires tag { IsTag states.old tag }
-    ensures cells { IfOk result (λ more. map (shown states.new) more.items ≡ map (with_write (write_at states.old tag writer on)) (map (shown states.old) cells.now)) }
+    ensures cells { IfOk result (λ more. map (shown states.new) more.items
+        ≡ map (with_write (write_at states.old tag writer on)) (map (shown states.old) cells.now)) }
     ensures given { IfOk result (λ more. AreStates states.new more.items) }
     ensures ids { KeepsIds states.old states.new }
     ensures fault { IfErr result (λ fault. fault ≡ Fault.NoMemory) }
@@ -165,7 +166,8 @@ pub(crate) fn tag_cells<S: TextStore>(
     requires states { AreStates states.old (S.list store.old) }
     requires distinct { AreDistinct (S.list store.old) }
     requires few { length (S.list store.old) ≤ MOST_CELLS }
-    ensures cells { OnOk result (map (shown states.new) (S.list store.new) ≡ map (written_in_any spans.now (record { name = name.now; writer = writer; on = on })) (map (shown states.old) (S.list store.old))) }
+    ensures cells { OnOk result (map (shown states.new) (S.list store.new)
+        ≡ map (written_in_any spans.now (record { name = name.now; writer = writer; on = on })) (map (shown states.old) (S.list store.old))) }
     ensures given { OnOk result (AreStates states.new (S.list store.new)) }
     ensures tag { IfOk result (IsTag states.new) }
     ensures name { IfOk result (λ tag. name_at states.new tag ≡ name.now) }

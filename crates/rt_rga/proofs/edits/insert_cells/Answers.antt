@@ -10,10 +10,10 @@ reserve-requires g c = omega (arith, c.requires.room, c.len.ensures, ap length c
 
 pub splice-requires-clause-states : goal.splice-requires-clause-states
 splice-requires-clause-states g c =
-    subst (AreStates c.state_of_list.new.states) (sym c.in_ok-reserve.ensures.same)
-    (kept_states c.args.states.now c.state_of_list.new.states (g.S.TextStore.list c.args.store.now) c.state_of_list.ensures.ids c.requires.states)
+    subst (AreStates c.state_of_list.new.self) (sym c.in_ok-reserve.ensures.same)
+    (kept_states c.args.states.now c.state_of_list.new.self (g.S.TextStore.list c.args.store.now) c.state_of_list.ensures.ids c.requires.states)
 
 pub splice-requires-clause-new : goal.splice-requires-clause-new
 splice-requires-clause-new g c =
-    subst (AreStates c.state_of_list.new.states) (sym (c.deref.ensures.value ∙ c.in_ok-cells.ensures.cells))
-    (all_from_states c.state_of_list.new.states c.args.stamp.count c.args.stamp.site c.in_ok-state.state c.args.text.now c.in_ok-state.ensures.given)
+    subst (AreStates c.state_of_list.new.self) (sym (c.deref.ensures.value ∙ c.in_ok-cells.ensures.cells))
+    (all_from_states c.state_of_list.new.self c.args.stamp.count c.args.stamp.site c.in_ok-state.state c.args.text.now c.in_ok-state.ensures.given)

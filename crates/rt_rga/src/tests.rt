@@ -1,0 +1,362 @@
+// Operations of a few sites, offered in each order that is allowed, each twice.
+use crate::{Replica, Taken};
+use rt_oplog::Op;
+use rt_stamps::{Fault, Site, Span, Stamp};
+use rt_store::{ListStore, TextStore};
+use std::alloc::Global;
+use std::process::Abort;
+use std::test::Fail;
+
+/// What an operation of the examples does. A stamp is its count and site, a span its site, first and
+/// last count.
+#[derive(Clone, Copy)]
+enum Does {
+    Inserts((u64, u16), &'static [char]),
+    InsertsTagged((u64, u16), &'static [char]),
+    Deletes((u16, u64, u64)),
+    Tags(bool, (u16, u64, u64)),
+}
+
+/// An operation of the examples: its count, site and `prev`, and what it does. Its tag is `t`.
+type Made = (u64, u16, u64, Does);
+
+fn one<T>(alloc: Global, item: T) -> Result<Vec<T>, Fault>
+where
+    T: Drop,
+{
+    let mut items = Vec::new(alloc);
+    items.push(item)?;
+    Ok(items)
+}
+
+fn stamp(named: (u64, u16)) -> Stamp {
+    let (count, site) = named;
+    Stamp { count, site }
+}
+
+fn span(named: (u16, u64, u64)) -> Span {
+    let (site, first, last) = named;
+    Span { site, first, last }
+}
+
+fn op(alloc: Global, made: Made) -> Result<Op, Fault> {
+    let (count, site, prev, does) = made;
+    let at = Stamp { count, site };
+    let tag = String::from_str(alloc, "t")?;
+    match does {
+        Does::Inserts(after, text) => {
+            let text = Vec::from_slice(alloc, text)?;
+            Op::insert(at, prev, stamp(after), Vec::new(alloc), text)
+        }
+        Does::InsertsTagged(after, text) => {
+            let text = Vec::from_slice(alloc, text)?;
+            Op::insert(at, prev, stamp(after), one(alloc, tag)?, text)
+        }
+        Does::Deletes(named) => Op::delete(at, prev, one(alloc, span(named))?),
+        Does::Tags(on, named) => Op::tag(at, prev, on, tag, one(alloc, span(named))?),
+    }
+}
+
+/// What is answered to an operation: of a new one the place, how many characters it inserted and how
+/// many tags it lists.
+#[derive(Clone, Copy, Debug, PartialEq, Eq)]
+enum Said {
+    New(usize, usize, usize),
+    Repeat,
+    Refused(Fault),
+}
+
+fn told(taken: Taken) -> Said {
+    match taken {
+        Taken::New(change) => Said::New(change.place, change.inserted, change.lists.len()),
+        Taken::Repeat => Said::Repeat,
+    }
+}
+
+/// A replica of site 9.
+struct Peer {
+    alloc: Global,
+    replica: Replica<ListStore>,
+}
+
+// Written out, so that each way out of a test lets a peer go in one step of its proof.
+impl Drop for Peer {
+    fn drop(self) {
+        let Peer {
+            alloc: _,
+            replica: _,
+        } = self;
+    }
+}
+
+impl Peer {
+    fn new(alloc: Global, limit: usize) -> Result<Peer, Fail> {
+        let site = Site::new(9).ok_or("a site")?;
+        let store = ListStore::new(alloc)?;
+        let replica = Replica::new(alloc, store, site, limit.max(1).min(1_000))?;
+        Ok(Peer { alloc, replica })
+    }
+
+    fn offer(&mut self, made: Made) -> Said {
+        match op(self.alloc, made) {
+            Ok(op) => match self.replica.accept(op) {
+                Ok(taken) => told(taken),
+                Err(fault) => Said::Refused(fault),
+            },
+            Err(fault) => Said::Refused(fault),
+        }
+    }
+
+    // The text.
+    fn text(&self) -> Result<String, Fail> {
+        let store = self.replica.store();
+        let mut text = String::new(self.alloc);
+        for place in 0..store.visible() {
+            text.push(store.char_at(place))?;
+        }
+        Ok(text)
+    }
+
+    // The first place with the tag `t`.
+    fn tagged(&self) -> Option<usize> {
+        let states = self.replica.states();
+        match states.known("t") {
+            Some(tag) => self.replica.store().next_tagged(states, tag, 0),
+            None => None,
+        }
+    }
+
+    // The first place without the tag `t`.
+    fn untagged(&self) -> Option<usize> {
+        let states = self.replica.states();
+        match states.known("t") {
+            Some(tag) => self.replica.store().next_untagged(states, tag, 0),
+            None => None,
+        }
+    }
+}
+
+const AB: Made = (1, 1, 0, Does::Inserts((0, 0), &['a', 'b']));
+
+const XX: Made = (3, 1, 2, Does::Inserts((1, 1), &['X', 'X']));
+
+const Y: Made = (3, 2, 0, Does::Inserts((1, 1), &['Y']));
+
+const B_GOES: Made = (3, 1, 2, Does::Deletes((1, 2, 2)));
+
+const Z: Made = (3, 2, 0, Does::Inserts((2, 1), &['Z']));
+
+const TAGGED: Made = (1, 1, 0, Does::InsertsTagged((0, 0), &['a', 'b']));
+
+const OFF: Made = (3, 1, 2, Does::Tags(false, (1, 1, 1)));
+
+const ON: Made = (4, 1, 3, Does::Tags(true, (1, 1, 1)));
+
+const OFF_TOO: Made = (3, 2, 0, Does::Tags(false, (1, 1, 1)));
+
+const Q: Made = (3, 2, 0, Does::Inserts((2, 1), &['q']));
+
+const OFF_LAST: Made = (4, 2, 3, Does::Tags(false, (1, 1, 1)));
+
+/// Operations in an order; then the text, how many cells there are, and the first places with the tag
+/// and without it.
+type Row = (
+    &'static [Made],
+    &'static str,
+    usize,
+    Option<usize>,
+    Option<usize>,
+);
+
+const AT_ONE_PLACE: &[Row] = &[
+    (&[AB, XX, Y], "aYXXb\n", 6, None, None),
+    (&[AB, Y, XX], "aYXXb\n", 6, None, None),
+];
+
+const BESIDE_A_TOMBSTONE: &[Row] = &[
+    (&[AB, B_GOES, Z], "aZ\n", 4, None, None),
+    (&[AB, Z, B_GOES], "aZ\n", 4, None, None),
+];
+
+const TAGS: &[Row] = &[
+    (&[TAGGED, OFF, ON, OFF_TOO], "ab\n", 3, Some(0), Some(2)),
+    (&[TAGGED, OFF, OFF_TOO, ON], "ab\n", 3, Some(0), Some(2)),
+    (&[TAGGED, OFF_TOO, OFF, ON], "ab\n", 3, Some(0), Some(2)),
+];
+
+const LATER_TAGS: &[Row] = &[
+    (
+        &[TAGGED, OFF, ON, Q, OFF_LAST],
+        "abq\n",
+        4,
+        Some(1),
+        Some(0),
+    ),
+    (
+        &[TAGGED, OFF, Q, ON, OFF_LAST],
+        "abq\n",
+        4,
+        Some(1),
+        Some(0),
+    ),
+    (
+        &[TAGGED, OFF, Q, OFF_LAST, ON],
+        "abq\n",
+        4,
+        Some(1),
+        Some(0),
+    ),
+    (
+        &[TAGGED, Q, OFF, ON, OFF_LAST],
+        "abq\n",
+        4,
+        Some(1),
+        Some(0),
+    ),
+    (
+        &[TAGGED, Q, OFF, OFF_LAST, ON],
+        "abq\n",
+        4,
+        Some(1),
+        Some(0),
+    ),
+    (
+        &[TAGGED, Q, OFF_LAST, OFF, ON],
+        "abq\n",
+        4,
+        Some(1),
+        Some(0),
+    ),
+];
+
+// Offers operations, each twice: it is new, and then a repeat.
+fn offer_twice(rt: &impl Abort, peer: &mut Peer, all: &[Made]) {
+    for made in all {
+        let first = peer.offer(*made);
+        assert!(rt; matches!(first, Said::New(_, _, _)), "{first:?}");
+        assert_eq!(rt; peer.offer(*made), Said::Repeat);
+    }
+}
+
+fn come_out(rt: &impl Abort, alloc: Global, rows: &[Row]) -> Result<(), Fail> {
+    for (all, text, cells, tagged, untagged) in rows {
+        let mut peer = Peer::new(alloc, 100)?;
+        offer_twice(rt, &mut peer, all);
+        assert_eq!(rt; peer.text()?.as_str(), *text);
+        assert_eq!(rt; peer.replica.store().cells(), *cells);
+        assert_eq!(rt; peer.tagged(), *tagged);
+        assert_eq!(rt; peer.untagged(), *untagged);
+    }
+    Ok(())
+}
+
+#[test]
+fn insertions_at_one_place(rt: HostRuntime) -> Result<(), Fail> {
+    come_out(&rt, rt.alloc(), AT_ONE_PLACE)
+}
+
+#[test]
+fn an_insertion_beside_a_removed_character(rt: HostRuntime) -> Result<(), Fail> {
+    come_out(&rt, rt.alloc(), BESIDE_A_TOMBSTONE)
+}
+
+#[test]
+fn tags_by_two_sites(rt: HostRuntime) -> Result<(), Fail> {
+    come_out(&rt, rt.alloc(), TAGS)?;
+    come_out(&rt, rt.alloc(), LATER_TAGS)
+}
+
+// Operations that are offered in turn, and what is answered.
+fn answers(
+    rt: &impl Abort,
+    alloc: Global,
+    limit: usize,
+    rows: &[(Made, Said)],
+) -> Result<(), Fail> {
+    let mut peer = Peer::new(alloc, limit)?;
+    for (made, wanted) in rows {
+        assert_eq!(rt; peer.offer(*made), *wanted);
+    }
+    Ok(())
+}
+
+const CHANGES: &[(Made, Said)] = &[
+    (AB, Said::New(0, 2, 0)),
+    (
+        (3, 2, 0, Does::InsertsTagged((2, 1), &['Y', 'Z'])),
+        Said::New(2, 2, 1),
+    ),
+    ((3, 1, 2, Does::Deletes((1, 1, 2))), Said::New(0, 0, 0)),
+    ((4, 3, 0, Does::Inserts((3, 2), &['c'])), Said::New(1, 1, 0)),
+    ((5, 3, 4, Does::Tags(true, (0, 1, 1))), Said::New(0, 0, 1)),
+    ((6, 3, 5, Does::Tags(false, (0, 1, 1))), Said::New(0, 0, 0)),
+];
+
+const REFUSALS: &[(Made, Said)] = &[
+    (Y, Said::Refused(Fault::NotYet)),
+    (AB, Said::New(0, 2, 0)),
+    (AB, Said::Repeat),
+    (Y, Said::Refused(Fault::TextFull)),
+    (
+        (1, 1, 0, Does::Inserts((0, 0), &['b'])),
+        Said::Refused(Fault::Conflict),
+    ),
+    (
+        (3, 1, 2, Does::Inserts((3, 2), &['c'])),
+        Said::Refused(Fault::BadStamp),
+    ),
+    (
+        (9, 1, 5, Does::Inserts((0, 0), &['b'])),
+        Said::Refused(Fault::NotYet),
+    ),
+    (
+        (9, 1, 2, Does::Inserts((4, 1), &['b'])),
+        Said::Refused(Fault::BadTarget),
+    ),
+    (
+        (9, 2, 0, Does::Inserts((0, 1), &['b'])),
+        Said::Refused(Fault::BadTarget),
+    ),
+    (
+        (9, 2, 0, Does::Deletes((0, 1, 1))),
+        Said::Refused(Fault::BadTarget),
+    ),
+    (
+        (9, 2, 0, Does::Inserts((1, 0), &['b'])),
+        Said::Refused(Fault::BadTarget),
+    ),
+];
+
+const MOST: u64 = (1 << 48) - 1;
+
+// The stamps of a span are looked up as far as its site's known end.
+const LONG_SPANS: &[(Made, Said)] = &[
+    (AB, Said::New(0, 2, 0)),
+    (
+        (MOST, 2, 0, Does::Deletes((1, 1, MOST - 1))),
+        Said::Refused(Fault::NotYet),
+    ),
+    (
+        (MOST, 2, 0, Does::Deletes((7, 1, MOST - 1))),
+        Said::Refused(Fault::NotYet),
+    ),
+    (
+        (MOST, 1, 2, Does::Deletes((1, 1, MOST - 1))),
+        Said::Refused(Fault::BadTarget),
+    ),
+];
+
+#[test]
+fn changes(rt: HostRuntime) -> Result<(), Fail> {
+    answers(&rt, rt.alloc(), 100, CHANGES)
+}
+
+#[test]
+fn refusals(rt: HostRuntime) -> Result<(), Fail> {
+    answers(&rt, rt.alloc(), 3, REFUSALS)
+}
+
+#[test]
+fn spans_of_very_many_stamps(rt: HostRuntime) -> Result<(), Fail> {
+    answers(&rt, rt.alloc(), 100, LONG_SPANS)
+}
