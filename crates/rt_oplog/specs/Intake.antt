@@ -104,6 +104,6 @@ ReadsFile old new ops offsets fault =
     ((bytes : List ℕ) × HasRead old new bytes × IsTold new.left bytes ops offsets fault)
     ⊎ ((at : ℕ) × (front : List ℕ) × (fault ≡ Some (ReadFault, at)) × Stops front ops offsets at × IsStopped old new FILE_BOUNDS front)
 
--- Memory was wanting after some bytes, and before their end or a fault.
+-- Memory was wanting after some bytes, within the bounds, and no read had failed.
 abbrev pub LacksMemory : ReaderState → ReaderState → Type 0
 LacksMemory old new = (bytes : List ℕ) × HasRead old new bytes

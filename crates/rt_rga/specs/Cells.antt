@@ -21,8 +21,8 @@ deletes (Tag on name spans) character = false
 abbrev pub is_gone : List Operation → Stamp → Bool
 is_gone set character = list_any (λ op. deletes op.body character) set
 
--- What an operation of a stamp writes on a character: an Insert its tags on each that it inserts, under the root's stamp, and
--- a Tag its tag.
+-- What an operation of a stamp writes on a character: an Insert its tags on each that it inserts, under the root's stamp,
+-- which is less than each Tag's, so that characters with equal lists have equal states; and a Tag its tag.
 abbrev pub writes_by : Stamp → Body → Stamp → List Write
 writes_by stamp (Insert after tags text) character = if has_stamp (characters_from after stamp text) character then listed_by ROOT tags else []
 writes_by stamp (Delete spans) character = []

@@ -1,5 +1,5 @@
--- Histories: sets of operations in which each was made upon others of the set. A set is the list of its operations by
--- falling stamp, the newest first.
+-- Histories: sets of operations that have, with each, all those that it was made upon. A set is the list of its operations
+-- by falling stamp, the newest first.
 use Rattle.std.specs.Prelude.{◌≡◌, ℕ, Bool, true, false, ◌||◌, max, List, [], ◌∷◌}
 use Rattle.std.specs.List.{AllByRecursion, list_any, list_all}
 use Rattle.rt_stamps.specs.declared.stamp.Stamp.{Stamp}

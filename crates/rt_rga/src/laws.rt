@@ -40,8 +40,8 @@ pub fn skipping()
     ensures { InsertsSkipGreater }
 {}
 
-/// An operation continues a history just where it makes a larger one, and is then answered New, as no
-/// other is. The larger one's cells are those of the smaller one, changed by the operation. Two
+/// An operation continues a history just where it makes a larger one, and of those that keep the rules
+/// of their fields, as each `Op` does, just these are answered New. The larger one's cells are those of the smaller one, changed by the operation. Two
 /// operations of different sites that continue a history change its cells alike in either order.
 pub fn merging()
     ensures continues { (set : List Operation) (op : Operation) → IsHistory set → (Continues set op ↔ IsHistory (with_operation op set)) }
@@ -50,7 +50,7 @@ pub fn merging()
     ensures either_order { EitherOrderWillDo }
 {}
 
-/// Whatever operations are offered to a history, in whatever order, the set stays a history. An
+/// Whatever operations that keep the rules are offered to a history, in whatever order, the set stays a history. An
 /// operation of a history is new to a smaller one just where this has those that it was made upon. So
 /// the operations of a history, in any order that puts each after those, and with any repeats, are all
 /// taken; by rising stamp they come so. A history is known by its operations.
@@ -84,7 +84,7 @@ pub fn refusals()
     ensures target_stays { BadTargetsStay }
 {}
 
-/// A site that keeps at most so many cells answers New where the larger history has no more of them,
+/// A site that keeps at most so many cells answers New, to operations that keep the rules, where the larger history has no more of them,
 /// and TextFull where it would. All other answers are as without a limit.
 pub fn room()
     ensures new { NewHasRoom }
@@ -139,7 +139,8 @@ pub fn places()
 {}
 
 /// A site's own operation is the newest of what it knows, so its cells go directly behind the element
-/// that they are inserted after. It is answered New. Drafts whose counts fit make a larger history; the
+/// that they are inserted after. A draft that names what is known and has counts left makes one that is
+/// answered New. Drafts whose counts fit make a larger history; the
 /// cells are changed one after the other, and as many more as there are new characters.
 pub fn drafts()
     ensures newest { NewestIsFirst }

@@ -93,7 +93,7 @@ impl<S: TextStore> Replica<S> {
         &self.store
     }
 
-    /// The clock, which has seen the greatest count of the log.
+    /// The clock, which has seen the greatest last count of the log.
     pub fn clock(&self) -> &Clock
         ensures { result.now ≡ greatest_last_count self.now.log }
     {
@@ -127,7 +127,7 @@ impl<S: TextStore> Replica<S> {
     }
 
     /// Accepts an operation of any site, in the order of the causes: `BadStamp` for one that isn't
-    /// sound; a repeat, which changes nothing; `Conflict` and `NotYet` where its `prev` is below or
+    /// sound; a repeat, after which log and cells are as before; `Conflict` and `NotYet` where its `prev` is below or
     /// above the known end of its site; `BadTarget` where it names what can never be known, `NotYet`
     /// what isn't known; `TextFull` where the cells would pass the limit. `NoMemory` only where none
     /// of these applies. After a fault all is as before, but for names and states that got numbers.

@@ -52,8 +52,8 @@ in_file file found = record { file = file; fault = found.0; offset = found.1 }
 abbrev pub of_neither : Fault → JoinFault
 of_neither fault = record { file = 0; fault = fault; offset = 0 }
 
--- A file's operations found no memory: before all were read, and no read had failed. Or some were read, and then no log
--- of them was made.
+-- A file's operations found no memory: before all were read, and no read had failed. Or some were read, however the
+-- reading ended, and then memory was wanting for the log of them.
 abbrev pub FindsNoMemory : ReaderState → ReaderState → Type 0
 FindsNoMemory old new =
     LacksMemory old new
