@@ -41,8 +41,9 @@ pub fn skipping()
 {}
 
 /// An operation continues a history just where it makes a larger one, and of those that keep the rules
-/// of their fields, as each `Op` does, just these are answered New. The larger one's cells are those of the smaller one, changed by the operation. Two
-/// operations of different sites that continue a history change its cells alike in either order.
+/// of their fields, as each `Op` does, just these are answered New. The larger one's cells are those of
+/// the smaller one, changed by the operation. Two operations of different sites that continue a history
+/// change its cells alike in either order.
 pub fn merging()
     ensures continues { (set : List Operation) (op : Operation) → IsHistory set → (Continues set op ↔ IsHistory (with_operation op set)) }
     ensures new { NewMakesLarger }
@@ -50,10 +51,10 @@ pub fn merging()
     ensures either_order { EitherOrderWillDo }
 {}
 
-/// Whatever operations that keep the rules are offered to a history, in whatever order, the set stays a history. An
-/// operation of a history is new to a smaller one just where this has those that it was made upon. So
-/// the operations of a history, in any order that puts each after those, and with any repeats, are all
-/// taken; by rising stamp they come so. A history is known by its operations.
+/// Whatever operations that keep the rules are offered to a history, in whatever order, the set stays a
+/// history. An operation of a history is new to a smaller one just where this has those that it was
+/// made upon. So the operations of a history, in any order that puts each after those, and with any
+/// repeats, are all taken; by rising stamp they come so. A history is known by its operations.
 pub fn orders()
     ensures history { (ops set : List Operation) → IsHistory set → AllByRecursion (λ op. keeps_rules op.body ≡ true) ops → IsHistory (all_taken ops set) }
     ensures members { OffersAddNew }
@@ -84,8 +85,9 @@ pub fn refusals()
     ensures target_stays { BadTargetsStay }
 {}
 
-/// A site that keeps at most so many cells answers New, to operations that keep the rules, where the larger history has no more of them,
-/// and TextFull where it would. All other answers are as without a limit.
+/// A site that keeps at most so many cells answers New, to operations that keep the rules, where the
+/// larger history has no more of them, and TextFull where it would. All other answers are as without a
+/// limit.
 pub fn room()
     ensures new { NewHasRoom }
     ensures full { FullHasNone }
