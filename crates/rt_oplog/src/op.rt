@@ -1,6 +1,7 @@
 // Operations.
-ghost use Rattle.std.specs.Prelude.{◌≡◌, ℕ, ◌+◌, ◌<◌, ◌≤◌, ◌^◌, map, string_bytes, true, ◌∷◌, []};
+ghost use Rattle.std.specs.Prelude.{◌≡◌, ℕ, ◌+◌, ◌<◌, ◌≤◌, ◌^◌, map, string_bytes, true, ◌∷◌, [], IfOk, IfErr};
 ghost use Rattle.std.specs.List.{list_any};
+ghost use Rattle.rt_stamps.specs.declared.fault.Fault.TheVariants.{NoMemory};
 ghost use Rattle.rt_oplog.specs.Operations.{Insert, Delete, Tag, stamp_of, last_count as last_count_of, last_of, soundness, named, reaches, stamps_of_span};
 ghost use Rattle.rt_oplog.specs.Rules.{within_rules, keeps_rules};
 
@@ -122,6 +123,28 @@ impl Op {
         })
     }
 
+    /// An operation that does what an edit says, which keeps the rules. Stamps may be any.
+    pub fn of(stamp: Stamp, prev: u64, edit: Edit) -> Op
+        requires { keeps_rules (body_of edit) ≡ true }
+        ensures { result ≡ record { count = stamp.count; site = stamp.site; prev = prev; body = body_of edit } }
+    {
+        Op {
+            count: stamp.count,
+            prev,
+            site: stamp.site,
+            edit,
+        }
+    }
+
+    /// The operation once more. `NoMemory` is its only fault.
+    pub fn copied(&self, alloc: Global) -> Result<Op, Fault>
+        ensures copy { IfOk result (λ op. op ≡ self.now) }
+        ensures fault { IfErr result (λ fault. fault ≡ NoMemory) }
+    {
+        let edit = copy_of(alloc, &self.edit)?;
+        Ok(Op::of(self.stamp(), self.prev, edit))
+    }
+
     /// An operation that takes no memory, to stand where another was taken out.
     pub(crate) fn stand_in(alloc: Global) -> Op
         ensures { result ≡ record { count = 0; site = 0; prev = 0; body = Insert ROOT [] (120 ∷ []) } }
@@ -204,6 +227,40 @@ impl Op {
 }
 
 ghost use Rattle.rt_oplog.specs.Edits.{body_of as body_seen};
+
+/// Names once more. Want of memory.
+fn copies_of(alloc: Global, names: &[String]) -> Result<Vec<String>, Fault>
+    ensures copy { IfOk result (λ copies. map string_bytes copies.items ≡ map string_bytes names.now) }
+    ensures fault { IfErr result (λ fault. fault ≡ NoMemory) }
+{
+    let mut copies = Vec::new(alloc);
+    for name in names {
+        copies.push(String::from_str(alloc, name)?)?;
+    }
+    Ok(copies)
+}
+
+/// An edit once more. Want of memory.
+fn copy_of(alloc: Global, edit: &Edit) -> Result<Edit, Fault>
+    ensures copy { IfOk result (λ copy. body_seen copy ≡ body_seen edit.now) }
+    ensures fault { IfErr result (λ fault. fault ≡ NoMemory) }
+{
+    match edit {
+        Edit::Insert { after, tags, text } => Ok(Edit::Insert {
+            after: *after,
+            tags: copies_of(alloc, tags)?,
+            text: text.copied(alloc)?,
+        }),
+        Edit::Delete { spans } => Ok(Edit::Delete {
+            spans: Vec::from_slice(alloc, spans)?,
+        }),
+        Edit::Tag { on, name, spans } => Ok(Edit::Tag {
+            on: *on,
+            name: String::from_str(alloc, name)?,
+            spans: Vec::from_slice(alloc, spans)?,
+        }),
+    }
+}
 
 /// How many counts an operation has after its first.
 fn more_counts(edit: &Edit) -> u64

@@ -1,6 +1,9 @@
 // The text of an Insert.
-ghost use Rattle.std.specs.Prelude.{◌≡◌, ℕ, ◌∷◌, [], length};
+ghost use Rattle.std.specs.Prelude.{◌≡◌, ℕ, ◌∷◌, [], length, IfOk, IfErr};
+ghost use Rattle.rt_stamps.specs.declared.fault.Fault.TheVariants.{NoMemory};
 
+use rt_stamps::Fault;
+use std::alloc::Global;
 use std::marker::Model;
 use std::slice;
 
@@ -47,6 +50,19 @@ impl Text {
     {
         Text {
             kept: Kept::One(character),
+        }
+    }
+
+    /// The text once more: a single character takes no memory. `NoMemory` is its only fault.
+    pub fn copied(&self, alloc: Global) -> Result<Text, Fault>
+        ensures copy { IfOk result (λ text. text ≡ self.now) }
+        ensures fault { IfErr result (λ fault. fault ≡ NoMemory) }
+    {
+        match &self.kept {
+            Kept::One(character) => Ok(Text::of(*character)),
+            Kept::Many(characters) => Ok(Text {
+                kept: Kept::Many(Vec::from_slice(alloc, characters)?),
+            }),
         }
     }
 
