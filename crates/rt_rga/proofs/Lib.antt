@@ -15,6 +15,7 @@ pub mod Joining
 pub mod Later
 pub mod Limits
 pub mod Listing
+pub mod Making
 pub mod Merging
 pub mod Orders
 pub mod PlacesAt

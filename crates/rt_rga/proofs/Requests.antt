@@ -22,7 +22,7 @@ use Rattle.rt_rga.proofs.Room.{new_within, taken_within}
 
 -- DRAFTS WHOSE COUNTS FIT
 
-not_less : (count : ℕ) (drafts : List Body) → count ≤ last_count_after count drafts
+pub not_less : (count : ℕ) (drafts : List Body) → count ≤ last_count_after count drafts
 not_less count [] = omega arith
 not_less count (draft ∷ drafts) = let a = last_ge (count + 1) draft in let b = not_less (last_of (count + 1) draft) drafts in omega (arith, a, b)
 

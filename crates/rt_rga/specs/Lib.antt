@@ -6,6 +6,8 @@ pub mod Examples
 pub mod Histories
 pub mod Kept
 pub mod Laws
+pub mod Made
+pub mod Making
 pub mod Names
 pub mod Orders
 pub mod Reading

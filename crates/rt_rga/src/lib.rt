@@ -6,6 +6,7 @@ mod describe;
 mod edits;
 pub mod examples;
 pub mod laws;
+mod make;
 pub mod replica;
 mod tagging;
 pub mod taken;
@@ -13,4 +14,5 @@ pub mod taken;
 mod tests;
 
 pub use replica::Replica;
+pub use rt_oplog::Edit as Draft;
 pub use taken::{Change, Taken};

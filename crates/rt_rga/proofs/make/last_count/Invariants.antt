@@ -1,0 +1,11 @@
+use Rattle.std.proofs.Common.{◌≡◌, ◌≤◌, map, drop}
+use Rattle.rt_stamps.specs.declared.limits.TheConstants.{GREATEST_COUNT}
+use Rattle.rt_oplog.specs.Edits.{body_of}
+use Rattle.rt_rga.specs.Requests.{last_count_after}
+use Rattle.rt_rga.proofs.make.last_count.Given as goal
+
+abbrev pub invariant-loop-draft : goal.invariant-loop-draft
+invariant-loop-draft l = record {
+  rest : last_count_after l.last (map body_of (drop l.draft-index l.drafts)) ≡ last_count_after l.count (map body_of l.drafts);
+  last : l.last ≤ GREATEST_COUNT;
+}

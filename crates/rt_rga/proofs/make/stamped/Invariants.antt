@@ -1,0 +1,16 @@
+use Rattle.std.proofs.Common.{◌≡◌, ◌≤◌, ◌++◌, true, map}
+use Rattle.std.specs.Prelude.{All}
+use Rattle.std.specs.Vec.Iter.{into_iter_items}
+use Rattle.rt_stamps.specs.declared.limits.TheConstants.{GREATEST_COUNT}
+use Rattle.rt_oplog.specs.Edits.{body_of}
+use Rattle.rt_oplog.specs.Rules.{keeps_rules}
+use Rattle.rt_rga.specs.Making.{operations_from}
+use Rattle.rt_rga.specs.Requests.{last_count_after}
+use Rattle.rt_rga.proofs.make.stamped.Given as goal
+
+abbrev pub invariant-loop-draft : goal.invariant-loop-draft
+invariant-loop-draft l = record {
+  ops : l.ops.items ++ operations_from l.site l.last l.prev (map body_of (into_iter_items l.draft-iterator)) ≡ operations_from l.site l.fn.last l.fn.prev (map body_of l.fn.drafts.items);
+  rules : All (λ draft. keeps_rules (body_of draft) ≡ true) (into_iter_items l.draft-iterator);
+  fits : last_count_after l.last (map body_of (into_iter_items l.draft-iterator)) ≤ GREATEST_COUNT;
+}

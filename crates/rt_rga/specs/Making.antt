@@ -1,0 +1,56 @@
+-- The way from drafts to operations and to what is kept, as the code goes it. No public clause cites this.
+use Rattle.std.specs.Prelude.{ℕ, ◌+◌, ◌*◌, List, [], ◌∷◌, ◌++◌, length, map, take, drop}
+use Rattle.rt_stamps.specs.declared.stamp.Stamp.{Stamp}
+use Rattle.rt_stamps.specs.declared.stamp.TheConstants.{ROOT}
+use Rattle.rt_oplog.specs.Operations.{Operation, Body, Insert, Delete, Tag, last_of, stamp_of}
+use Rattle.rt_oplog.specs.Logs.{with_operation}
+use Rattle.rt_store.specs.declared.cell.Cell.{Cell}
+use Rattle.rt_store.specs.Cells.{cells_from, put_at, skip_from}
+use Rattle.rt_store.specs.Shown.{TaggedCell}
+use Rattle.rt_store.specs.Spans.{gone_in_any}
+use Rattle.rt_tags.specs.Writers.{listed_by, state_after}
+use Rattle.rt_rga.specs.Histories.{Continues}
+use Rattle.rt_rga.specs.Requests.{characters_in}
+
+-- Operations are listed here as they are made, the oldest first.
+
+-- each continues a set with those before it
+abbrev pub ContinueInTurn : List Operation → List Operation → Type 0
+ContinueInTurn set [] = Unit {0}
+ContinueInTurn set (op ∷ ops) = Continues set op × ContinueInTurn (with_operation op set) ops
+
+-- the operations of drafts, from a last count and the site's known end on
+abbrev pub operations_from : ℕ → ℕ → ℕ → List Body → List Operation
+operations_from site last prev [] = []
+operations_from site last prev (draft ∷ drafts) =
+    record { count = last + 1; site = site; prev = prev; body = draft } ∷ operations_from site (last_of (last + 1) draft) (last_of (last + 1) draft) drafts
+
+-- the cells of the characters that operations insert
+abbrev pub fresh_by : Stamp → Body → List TaggedCell
+fresh_by stamp (Insert after tags text) = cells_from stamp.count stamp.site (state_after [] (listed_by ROOT tags)) text
+fresh_by stamp (Delete spans) = []
+fresh_by stamp (Tag on name spans) = []
+
+abbrev pub fresh_cells : List Operation → List TaggedCell
+fresh_cells [] = []
+fresh_cells (op ∷ ops) = fresh_by (stamp_of op) op.body ++ fresh_cells ops
+
+-- Kept cells after Inserts and Deletes, one after the other: an Insert puts in the first of the new cells that are left.
+abbrev pub put_by_kept : Stamp → Body → List (Cell ℕ) → List (Cell ℕ) → List (Cell ℕ)
+put_by_kept stamp (Insert after tags text) new kept = put_at (skip_from kept after stamp) (take (length text) new) kept
+put_by_kept stamp (Delete spans) new kept = map (gone_in_any spans) kept
+put_by_kept stamp (Tag on name spans) new kept = kept
+
+abbrev pub kept_after : List Operation → List (Cell ℕ) → List (Cell ℕ) → List (Cell ℕ)
+kept_after [] new kept = kept
+kept_after (op ∷ ops) new kept = kept_after ops (drop (characters_in op.body) new) (put_by_kept (stamp_of op) op.body new kept)
+
+-- how many cuts of runs they take: one where an Insert stands, two for each span of a Delete
+abbrev pub cuts_by : Body → ℕ
+cuts_by (Insert after tags text) = 1
+cuts_by (Delete spans) = 2 * length spans
+cuts_by (Tag on name spans) = 0
+
+abbrev pub cuts_of : List Operation → ℕ
+cuts_of [] = 0
+cuts_of (op ∷ ops) = cuts_by op.body + cuts_of ops
