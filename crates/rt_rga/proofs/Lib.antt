@@ -18,6 +18,7 @@ pub mod Listing
 pub mod Merging
 pub mod Orders
 pub mod PlacesAt
+pub mod Planned
 pub mod Pushing
 pub mod Relation
 pub mod Replicas
