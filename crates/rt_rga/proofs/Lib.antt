@@ -19,6 +19,7 @@ pub mod Making
 pub mod Merging
 pub mod Orders
 pub mod PlacesAt
+pub mod Planned
 pub mod Pushing
 pub mod Relation
 pub mod Replicas

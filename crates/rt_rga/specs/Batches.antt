@@ -1,0 +1,54 @@
+-- What operations do to cells when they come at once: first the Inserts and Deletes, one after the other, then the Tags, so
+-- that each cell comes into one new state. Operations are listed by rising stamp, the oldest first.
+use Rattle.std.specs.Prelude.{◌≡◌, true, false, List, [], ◌∷◌, ◌++◌}
+use Rattle.std.specs.List.{AllByRecursion}
+use Rattle.rt_stamps.specs.declared.stamp.Stamp.{Stamp}
+use Rattle.rt_stamps.specs.Stamps.{is_before}
+use Rattle.rt_oplog.specs.Operations.{Operation, Body, Insert, Delete, Tag, has_bad_stamp, stamp_of}
+use Rattle.rt_store.specs.Cells.{with_state}
+use Rattle.rt_store.specs.Shown.{TaggedCell}
+use Rattle.rt_tags.specs.States.{Write}
+use Rattle.rt_tags.specs.Writers.{state_after}
+use Rattle.rt_rga.specs.Cells.{writes_by}
+use Rattle.rt_rga.specs.Changes.{changed_by}
+
+-- THE TAGS
+
+-- what a Tag writes on a character; other operations have no such write
+abbrev pub tag_writes_by : Stamp → Body → Stamp → List Write
+tag_writes_by stamp (Insert after tags text) character = []
+tag_writes_by stamp (Delete spans) character = []
+tag_writes_by stamp (Tag on name spans) character = writes_by stamp (Tag on name spans) character
+
+-- what the Tags among operations write on a character, the oldest first
+abbrev pub tag_writes : List Operation → Stamp → List Write
+tag_writes [] character = []
+tag_writes (op ∷ ops) character = tag_writes_by (stamp_of op) op.body character ++ tag_writes ops character
+
+-- a cell after the Tags
+abbrev pub after_tags : List Operation → TaggedCell → TaggedCell
+after_tags ops cell = with_state (state_after cell.state (tag_writes ops cell.stamp)) cell
+
+-- THE INSERTS AND DELETES
+
+-- what an Insert or a Delete does to cells; a Tag leaves them
+abbrev pub put_by : Stamp → Body → List TaggedCell → List TaggedCell
+put_by stamp (Insert after tags text) cells = changed_by stamp (Insert after tags text) cells
+put_by stamp (Delete spans) cells = changed_by stamp (Delete spans) cells
+put_by stamp (Tag on name spans) cells = cells
+
+-- what the Inserts and Deletes among operations do, one after the other
+abbrev pub all_put : List Operation → List TaggedCell → List TaggedCell
+all_put [] cells = cells
+all_put (op ∷ ops) cells = all_put ops (put_by (stamp_of op) op.body cells)
+
+-- WHICH OPERATIONS
+
+-- each operation is before those that follow it
+abbrev pub AreRising : List Operation → Type 0
+AreRising [] = Unit {0}
+AreRising (op ∷ ops) = AllByRecursion (λ later. is_before (stamp_of op) (stamp_of later) ≡ true) ops × AreRising ops
+
+-- each operation is sound
+abbrev pub AreSound : List Operation → Type 0
+AreSound ops = AllByRecursion (λ op. has_bad_stamp op ≡ false) ops
