@@ -21,6 +21,7 @@ pub mod Orders
 pub mod PlacesAt
 pub mod Planned
 pub mod Pushing
+pub mod Putting
 pub mod Relation
 pub mod Replicas
 pub mod Requests

@@ -1,15 +1,15 @@
 -- The way from drafts to operations and to what is kept, as the code goes it. No public clause cites this.
-use Rattle.std.specs.Prelude.{ℕ, ◌+◌, ◌*◌, List, [], ◌∷◌, ◌++◌, length, map, take, drop}
+use Rattle.std.specs.Prelude.{◌≡◌, ◌<◌, ◌≤◌, ℕ, ◌+◌, ◌*◌, false, List, [], ◌∷◌, ◌++◌, length, map, take, drop}
 use Rattle.rt_stamps.specs.declared.stamp.Stamp.{Stamp}
-use Rattle.rt_stamps.specs.declared.stamp.TheConstants.{ROOT}
+use Rattle.rt_stamps.specs.declared.stamp.TheConstants.{FINAL, ROOT}
 use Rattle.rt_oplog.specs.Operations.{Operation, Body, Insert, Delete, Tag, last_of, stamp_of}
 use Rattle.rt_oplog.specs.Logs.{with_operation}
 use Rattle.rt_store.specs.declared.cell.Cell.{Cell}
-use Rattle.rt_store.specs.Cells.{cells_from, put_at, skip_from}
+use Rattle.rt_store.specs.Cells.{cells_from, IsPlaced, put_at, skip_from}
 use Rattle.rt_store.specs.Shown.{TaggedCell}
-use Rattle.rt_store.specs.Spans.{gone_in_any}
+use Rattle.rt_store.specs.Spans.{gone_in_any, is_in_spans}
 use Rattle.rt_tags.specs.Writers.{listed_by, state_after}
-use Rattle.rt_rga.specs.Histories.{Continues}
+use Rattle.rt_rga.specs.Histories.{Continues, greatest_last_count}
 use Rattle.rt_rga.specs.Requests.{characters_in}
 
 -- Operations are listed here as they are made, the oldest first.
@@ -18,6 +18,11 @@ use Rattle.rt_rga.specs.Requests.{characters_in}
 abbrev pub ContinueInTurn : List Operation → List Operation → Type 0
 ContinueInTurn set [] = Unit {0}
 ContinueInTurn set (op ∷ ops) = Continues set op × ContinueInTurn (with_operation op set) ops
+
+-- each has greater counts than all before it
+abbrev pub AreNewest : List Operation → List Operation → Type 0
+AreNewest set [] = Unit {0}
+AreNewest set (op ∷ ops) = (greatest_last_count set < op.count) × AreNewest (with_operation op set) ops
 
 -- the operations of drafts, from a last count and the site's known end on
 abbrev pub operations_from : ℕ → ℕ → ℕ → List Body → List Operation
@@ -54,3 +59,15 @@ cuts_by (Tag on name spans) = 0
 abbrev pub cuts_of : List Operation → ℕ
 cuts_of [] = 0
 cuts_of (op ∷ ops) = cuts_by op.body + cuts_of ops
+
+-- what a store asks of an Insert or a Delete, and that there are new cells for it
+abbrev pub CanBePut : Stamp → Body → List (Cell ℕ) → List (Cell ℕ) → Type 0
+CanBePut stamp (Insert after tags text) new kept = IsPlaced kept after stamp × (length text ≤ length new)
+CanBePut stamp (Delete spans) new kept = is_in_spans spans FINAL ≡ false
+CanBePut stamp (Tag on name spans) new kept = Unit {0}
+
+-- the same of several, each after those before it
+abbrev pub CanAllBePut : List Operation → List (Cell ℕ) → List (Cell ℕ) → Type 0
+CanAllBePut [] new kept = Unit {0}
+CanAllBePut (op ∷ ops) new kept =
+    CanBePut (stamp_of op) op.body new kept × CanAllBePut ops (drop (characters_in op.body) new) (put_by_kept (stamp_of op) op.body new kept)

@@ -1,18 +1,18 @@
 // A site's own operations, made of drafts.
-ghost use Rattle.std.specs.Prelude.{◌≡◌, ◌*◌, ◌+◌, ◌++◌, ◌-◌, ◌<◌, ◌≤◌, ℕ, All, IfOk, IfErr, OnOk, OnErr, true, length, map};
+ghost use Rattle.std.specs.Prelude.{◌≡◌, ◌*◌, ◌+◌, ◌++◌, ◌-◌, ◌<◌, ◌≤◌, ◌^◌, ℕ, All, IfNone, IfOk, IfErr, IfSome, OnOk, OnErr, true, drop, length, map};
 ghost use Rattle.std.specs.List.{AllByRecursion};
 ghost use Rattle.rt_stamps.specs.declared.limits.TheConstants.{GREATEST_COUNT, MOST_CELLS, MOST_CHARACTERS};
 ghost use Rattle.rt_stamps.specs.declared.stamp.Stamp.{Stamp as StampOf};
 ghost use Rattle.rt_oplog.specs.Edits.{body_of};
 ghost use Rattle.rt_oplog.specs.Operations.{last_count as last_count_of, last_of, stamp_of};
 ghost use Rattle.rt_oplog.specs.Rules.{keeps_rules};
-ghost use Rattle.rt_store.specs.Cells.{HasRoom};
+ghost use Rattle.rt_store.specs.Cells.{HasRoom, Spends};
 ghost use Rattle.rt_store.specs.Shown.{shown};
 ghost use Rattle.rt_store.specs.Tagged.{AreStates};
 ghost use Rattle.rt_tags.specs.States.{KeepsIds};
 ghost use Rattle.rt_rga.specs.Drafts.{with_operations};
 ghost use Rattle.rt_rga.specs.Histories.{IsHistory, greatest_last_count};
-ghost use Rattle.rt_rga.specs.Making.{ContinueInTurn, cuts_of, fresh_by, fresh_cells, kept_after, operations_from};
+ghost use Rattle.rt_rga.specs.Making.{CanAllBePut, CanBePut, ContinueInTurn, cuts_by, cuts_of, fresh_by, fresh_cells, kept_after, operations_from, put_by_kept};
 ghost use Rattle.rt_rga.specs.Requests.{characters_in, characters_in_all, last_count_after};
 ghost use Rattle.rt_rga.specs.Replicas.{IsReplica};
 
@@ -179,4 +179,130 @@ fn push_fresh(
         cells.extend_from_slice(&new)?;
     }
     Ok(())
+}
+
+/// Puts new characters in, or makes characters gone, as an operation does that is an Insert or a
+/// Delete, and tells the new cells that are left. Takes no memory.
+fn put<'a, S: TextStore>(
+    store: &mut S,
+    states: &StateTable,
+    new: &'a [Cell<StateId>],
+    op: &Op,
+) -> &'a [Cell<StateId>]
+    requires put { CanBePut (stamp_of op.now) op.now.body new.now (S.list store.old) }
+    requires states { AreStates states.now (S.list store.old) }
+    requires given { AreStates states.now new.now }
+    requires room { HasRoom (S.room store.old) (characters_in op.now.body) (cuts_by op.now.body) }
+    ensures list { S.list store.new ≡ put_by_kept (stamp_of op.now) op.now.body new.now (S.list store.old) }
+    ensures left { result.now ≡ drop (characters_in op.now.body) new.now }
+    ensures room { Spends (S.room store.old) (S.room store.new) (characters_in op.now.body) (cuts_by op.now.body) }
+{
+    match op.edit() {
+        Edit::Insert {
+            after,
+            tags: _,
+            text,
+        } => {
+            let (cells, left) = new.split_at(text.characters().len());
+            let at = store.after_skip(*after, op.stamp());
+            store.splice(states, at, cells);
+            left
+        }
+        Edit::Delete { spans } => {
+            set_all_gone(store, states, spans);
+            new
+        }
+        Edit::Tag {
+            on: _,
+            name: _,
+            spans: _,
+        } => new,
+    }
+}
+
+/// The same of several operations, one after the other. Takes no memory.
+pub(crate) fn put_all<S: TextStore>(
+    store: &mut S,
+    states: &StateTable,
+    new: &[Cell<StateId>],
+    ops: &[Op],
+)
+    requires put { CanAllBePut ops.now new.now (S.list store.old) }
+    requires states { AreStates states.now (S.list store.old) }
+    requires given { AreStates states.now new.now }
+    requires room { HasRoom (S.room store.old) (length new.now) (cuts_of ops.now) }
+    ensures list { S.list store.new ≡ kept_after ops.now new.now (S.list store.old) }
+    ensures room { (S.room store.old).cuts ≤ (S.room store.new).cuts + cuts_of ops.now }
+{
+    let mut left = new;
+    for op in ops {
+        left = put(store, states, left, op);
+    }
+}
+
+/// How many cuts of runs operations take, and so many new states of runs; none if that is no number of
+/// this machine.
+fn cuts(ops: &[Op], runs: usize) -> Option<usize>
+    ensures cuts { IfSome result (λ n. n ≡ cuts_of ops.now + 2 * runs) }
+    ensures many { IfNone result (2 ^ 64 ≤ cuts_of ops.now + 2 * runs) }
+{
+    let mut cuts = runs.checked_mul(2)?;
+    for op in ops {
+        cuts = cuts.checked_add(cuts_in(op.edit())?)?;
+    }
+    Some(cuts)
+}
+
+/// How many cuts of runs an edit takes; none if that is no number of this machine.
+fn cuts_in(edit: &Edit) -> Option<usize>
+    ensures cuts { IfSome result (λ n. n ≡ cuts_by (body_of edit.now)) }
+    ensures many { IfNone result (2 ^ 64 ≤ cuts_by (body_of edit.now)) }
+{
+    match edit {
+        Edit::Insert {
+            after: _,
+            tags: _,
+            text: _,
+        } => Some(1),
+        Edit::Delete { spans } => spans.len().checked_mul(2),
+        Edit::Tag {
+            on: _,
+            name: _,
+            spans: _,
+        } => Some(0),
+    }
+}
+
+/// Makes room in a store for operations with so many new cells and so many runs of states. Want of
+/// memory.
+fn make_room<S: TextStore>(
+    store: &mut S,
+    cells: usize,
+    ops: &[Op],
+    runs: usize,
+) -> Result<(), Fault>
+    requires { length (S.list store.old) + cells ≤ MOST_CELLS }
+    ensures room { OnOk result (HasRoom (S.room store.new) cells (cuts_of ops.now + 2 * runs)) }
+    ensures same { S.list store.new ≡ S.list store.old }
+    ensures fault { IfErr result (λ fault. fault ≡ Fault.NoMemory) }
+{
+    match cuts(ops, runs) {
+        Some(cuts) => store.reserve(cells, cuts),
+        None => Err(Fault::NoMemory),
+    }
+}
+
+/// Logs operations, each of which continues the log with those before it, where there is room.
+pub(crate) fn push_all(log: &mut OpLog, clock: &mut Clock, ops: Vec<Op>)
+    requires history { IsHistory log.old.operations }
+    requires continues { ContinueInTurn log.old.operations ops.items }
+    requires room { length ops.items ≤ log.old.room }
+    requires seen { clock.old ≡ greatest_last_count log.old.operations }
+    ensures operations { log.new.operations ≡ with_operations ops.items log.old.operations }
+    ensures seen { clock.new ≡ greatest_last_count log.new.operations }
+{
+    for op in ops {
+        clock.saw(op.last_count());
+        let _added = log.push(op);
+    }
 }
