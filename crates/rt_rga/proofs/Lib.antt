@@ -1,6 +1,7 @@
 pub mod Accepting
 pub mod Answering
 pub mod Bases
+pub mod Batching
 pub mod Chains
 pub mod Changing
 pub mod Commuting
