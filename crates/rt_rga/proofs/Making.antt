@@ -1,15 +1,27 @@
 -- From drafts to operations.
-use Rattle.std.proofs.Common.{◌≡◌, ℕ, suc, ◌+◌, ◌<◌, ◌≤◌, refl, sym, ap, subst, ◌∙◌, arith, List, [], ◌∷◌, ◌++◌, All, true, map, length, drop, get_or}
-use Rattle.std.proofs.lemmas.List.{append_assoc, drop_more, map-append}
+use Rattle.std.proofs.Common.{◌≡◌, ℕ, suc, ◌+◌, ◌<◌, ◌≤◌, refl, sym, ap, subst, ◌∙◌, arith, List, [], ◌∷◌, ◌++◌, ◌==◌, Bool, All, true, false, cond, map, max, length, drop, get_or, nat_lt, Some, None, Option}
+use Rattle.std.proofs.lemmas.List.{append_assoc, drop_more, length-append, map-append}
 use Rattle.rt_oplog.specs.Edits.{body_of}
-use Rattle.rt_oplog.specs.Operations.{Operation, Body, Insert, Name, last_of, stamp_of}
+use Rattle.rt_oplog.specs.Operations.{Operation, Body, Insert, Name, last_count, last_of, stamp_of}
 use Rattle.rt_oplog.specs.Rules.{keeps_rules}
 use Rattle.rt_oplog.specs.declared.op.Edit.{Edit}
-use Rattle.rt_rga.specs.Making.{operations_from}
-use Rattle.rt_rga.specs.Requests.{last_count_after}
+use Rattle.rt_rga.specs.Making.{AreNewest, ContinueInTurn, operations_from, refusal_from}
+use Rattle.rt_rga.specs.Made.{refusal_of}
+use Rattle.rt_rga.specs.Cells.{cells_of}
+use Rattle.rt_rga.specs.Drafts.{AreDraftsFor, next_operation, operations_of}
+use Rattle.rt_rga.specs.Histories.{greatest_last_count}
+use Rattle.rt_oplog.specs.Logs.{known_end, with_operation}
+use Rattle.rt_stamps.specs.declared.limits.TheConstants.{GREATEST_COUNT}
+use Rattle.rt_stamps.specs.declared.fault.Fault.TheVariants.{ClockSpent, TextFull}
+use Rattle.std.proofs.lemmas.Bool.Decides.{nat_tests}
+use Rattle.std.specs.List.{AllByRecursion}
+use Rattle.rt_rga.proofs.Drafting.{count_after, draft_continues, end_within, newest}
+use Rattle.rt_rga.proofs.Histories.{last_ge}
+use Rattle.rt_rga.proofs.Putting.{length_fresh}
+use Rattle.rt_rga.specs.Requests.{MayBeMade, characters_in_all, last_count_after}
 use Rattle.rt_rga.specs.Making.{fresh_by, fresh_cells}
 use Rattle.rt_rga.proofs.Replicas.{all_from_states}
-use Rattle.rt_rga.proofs.Requests.{not_less}
+use Rattle.rt_rga.proofs.Requests.{drafts_for, not_less}
 use Rattle.rt_stamps.specs.declared.stamp.Stamp.{Stamp}
 use Rattle.rt_stamps.specs.declared.stamp.TheConstants.{ROOT}
 use Rattle.rt_store.specs.declared.cell.Cell.{Cell}
@@ -20,7 +32,7 @@ use Rattle.rt_store.proofs.GivenStates.{kept_states}
 use Rattle.rt_store.proofs.Shown.{from_shown, shown_later}
 use Rattle.rt_tags.specs.States.{IsState, KeepsIds, TagStates, state_at}
 use Rattle.rt_tags.specs.Writers.{listed_by, state_after}
-use Rattle.std.proofs.lemmas.List.Elements.{All-append}
+use Rattle.std.proofs.lemmas.List.Elements.{All-append, All-from_recursion}
 
 -- what is left of drafts, one step on
 pub drafts_left : (drafts : List Edit) (i : ℕ) (draft : Edit) → i < length drafts → draft ≡ get_or drafts i draft
@@ -85,3 +97,71 @@ fresh_left ops i op cells now d n h =
     ∙ append_assoc cells (fresh_by (stamp_of op) op.body) (fresh_cells (drop (i + 1) ops))
     ∙ ap (λ (xs : List Operation). cells ++ fresh_cells xs) (sym d)
     ∙ h
+
+-- A SITE'S NEXT OPERATIONS
+
+-- the known end of a site after its newest operation
+end_after : (op : Operation) (set : List Operation) → greatest_last_count set < op.count → known_end (with_operation op set) op.site ≡ last_count op
+end_after op set h =
+    let g = last_ge op.count op.body in
+    let w = end_within set op.site in
+    ap (λ (ops : List Operation). known_end ops op.site) (newest op set h) ∙ ap (λ b. cond b (max (last_count op) (known_end set op.site)) (known_end set op.site)) (same op.site) ∙ omega (arith, g, w, h)
+  where
+    same : (n : ℕ) → (n == n) ≡ true
+    same n = grind (arith, nat_tests)
+
+pub operations_are : (site : ℕ) (drafts : List Body) (set : List Operation) → operations_from site (greatest_last_count set) (known_end set site) drafts ≡ operations_of site drafts set
+operations_are site [] set = refl
+operations_are site (draft ∷ drafts) set =
+    let op = next_operation site draft set in
+    let above : greatest_last_count set < op.count = omega arith in
+    let count : greatest_last_count (with_operation op set) ≡ last_of (greatest_last_count set + 1) draft = count_after op set above in
+    let end : known_end (with_operation op set) site ≡ last_of (greatest_last_count set + 1) draft = end_after op set above in
+    (λ i. op ∷ operations_from site (sym count i) (sym end i) drafts) ∙ ap (λ (ops : List Operation). op ∷ ops) (operations_are site drafts (with_operation op set))
+
+pub in_turn : (site : ℕ) (drafts : List Body) (set : List Operation) → 0 < site → AreDraftsFor site set drafts → ContinueInTurn set (operations_of site drafts set)
+in_turn site [] set p d = tt
+in_turn site (draft ∷ drafts) set p d = (draft_continues site set draft p d.0, in_turn site drafts (with_operation (next_operation site draft set) set) p d.1)
+
+pub are_newest : (site : ℕ) (drafts : List Body) (set : List Operation) → AreNewest set (operations_of site drafts set)
+are_newest site [] set = tt
+are_newest site (draft ∷ drafts) set = (omega arith, are_newest site drafts (with_operation (next_operation site draft set) set))
+
+pub fresh_counted : (site : ℕ) (drafts : List Body) (set : List Operation) → length (fresh_cells (operations_of site drafts set)) ≡ characters_in_all drafts
+fresh_counted site [] set = refl
+fresh_counted site (draft ∷ drafts) set =
+    let op = next_operation site draft set in
+    let n = length_fresh (stamp_of op) draft in
+    let m = length-append (fresh_by (stamp_of op) draft) (fresh_cells (operations_of site drafts (with_operation op set))) in
+    let i = fresh_counted site drafts (with_operation op set) in
+    omega (arith, n, m, i)
+
+pub rules_of : (site : ℕ) (drafts : List Edit) (set : List Operation) → MayBeMade site set (map body_of drafts) → All (λ draft. keeps_rules (body_of draft) ≡ true) drafts
+rules_of site drafts set m = All-from_recursion (λ draft. keeps_rules (body_of draft) ≡ true) drafts (each drafts set m)
+  where
+    each : (drafts : List Edit) (set : List Operation) → MayBeMade site set (map body_of drafts) → AllByRecursion (λ draft. keeps_rules (body_of draft) ≡ true) drafts
+    each [] set m = tt
+    each (draft ∷ drafts) set m = (m.0, each drafts (with_operation (next_operation site (body_of draft) set) set) m.2)
+
+-- the same refusal
+pub refusal_is : (last left limit cells : ℕ) (drafts : List Body) (log : List Operation) → last ≡ greatest_last_count log → cells ≡ length (cells_of log) → left + cells ≡ limit
+    → refusal_from last left drafts ≡ refusal_of limit drafts log
+refusal_is last left limit cells drafts log a b c =
+    let full : nat_lt left (characters_in_all drafts) ≡ nat_lt limit (length (cells_of log) + characters_in_all drafts) =
+    subst (λ n. nat_lt left (characters_in_all drafts) ≡ nat_lt limit (n + characters_in_all drafts)) b (subst (λ n. nat_lt left (characters_in_all drafts) ≡ nat_lt n (cells + characters_in_all drafts)) c (shifted left cells (characters_in_all drafts))) in
+    λ i. cond (nat_lt GREATEST_COUNT (last_count_after (a i) drafts)) (Some ClockSpent) (cond (full i) (Some TextFull) None)
+  where
+    shifted : (left cells more : ℕ) → nat_lt left more ≡ nat_lt (left + cells) (cells + more)
+    shifted left cells more = grind (arith, nat_tests)
+
+-- drafts that are not refused are those of operations that can be made
+spent_not : (spent full : Bool) → cond spent (Some ClockSpent) (cond full (Some TextFull) None) ≡ None → (spent ≡ false) × (full ≡ false)
+spent_not true full e = absurd (cc e)
+spent_not false true e = absurd (cc e)
+spent_not false false e = (refl, refl)
+
+pub unrefused : (site limit : ℕ) (drafts : List Body) (log : List Operation) → MayBeMade site log drafts → refusal_of limit drafts log ≡ None
+    → AreDraftsFor site log drafts × (length (cells_of log) + characters_in_all drafts ≤ limit)
+unrefused site limit drafts log m e =
+    let (spent, full) = spent_not (nat_lt GREATEST_COUNT (last_count_after (greatest_last_count log) drafts)) (nat_lt limit (length (cells_of log) + characters_in_all drafts)) e in
+    (drafts_for site log drafts m (grind (arith, nat_tests, spent)), grind (arith, nat_tests, full))

@@ -1,5 +1,5 @@
 // A site's own operations, made of drafts.
-ghost use Rattle.std.specs.Prelude.{◌≡◌, ◌*◌, ◌+◌, ◌++◌, ◌-◌, ◌<◌, ◌≤◌, ◌^◌, ℕ, All, IfNone, IfOk, IfErr, IfSome, OnOk, OnErr, true, drop, length, map};
+ghost use Rattle.std.specs.Prelude.{◌≡◌, ◌⊎◌, ◌*◌, ◌+◌, ◌++◌, ◌-◌, ◌<◌, ◌≤◌, ◌^◌, ℕ, All, IfNone, IfOk, IfErr, IfSome, OnOk, OnErr, None, Some, true, drop, length, map};
 ghost use Rattle.std.specs.List.{AllByRecursion};
 ghost use Rattle.rt_stamps.specs.declared.limits.TheConstants.{GREATEST_COUNT, MOST_CELLS, MOST_CHARACTERS};
 ghost use Rattle.rt_stamps.specs.declared.stamp.Stamp.{Stamp as StampOf};
@@ -12,7 +12,7 @@ ghost use Rattle.rt_store.specs.Tagged.{AreStates};
 ghost use Rattle.rt_tags.specs.States.{KeepsIds};
 ghost use Rattle.rt_rga.specs.Drafts.{with_operations};
 ghost use Rattle.rt_rga.specs.Histories.{IsHistory, greatest_last_count};
-ghost use Rattle.rt_rga.specs.Making.{CanAllBePut, CanBePut, ContinueInTurn, cuts_by, cuts_of, fresh_by, fresh_cells, kept_after, operations_from, put_by_kept};
+ghost use Rattle.rt_rga.specs.Making.{CanAllBePut, CanBePut, ContinueInTurn, cuts_by, cuts_of, fresh_by, fresh_cells, kept_after, operations_from, put_by_kept, refusal_from};
 ghost use Rattle.rt_rga.specs.Requests.{characters_in, characters_in_all, last_count_after};
 ghost use Rattle.rt_rga.specs.Replicas.{IsReplica};
 
@@ -305,4 +305,30 @@ pub(crate) fn push_all(log: &mut OpLog, clock: &mut Clock, ops: Vec<Op>)
         clock.saw(op.last_count());
         let _added = log.push(op);
     }
+}
+
+/// The operations of drafts twice: for the log, and for the caller. The counts follow a last one, and at
+/// most so many characters are inserted. `ClockSpent` where the counts don't fit, else `TextFull` where
+/// the characters don't, else want of memory.
+pub(crate) fn prepared(
+    alloc: Global,
+    site: u16,
+    last: u64,
+    prev: u64,
+    left: usize,
+    drafts: Vec<Draft>,
+) -> Result<(Vec<Op>, Vec<Op>), Fault>
+    requires last { last ≤ GREATEST_COUNT }
+    requires rules { All (λ draft. keeps_rules (body_of draft) ≡ true) drafts.items }
+    ensures ops { IfOk result (λ both. both.0.items ≡ operations_from site last prev (map body_of drafts.items)) }
+    ensures copies { IfOk result (λ both. both.1.items ≡ operations_from site last prev (map body_of drafts.items)) }
+    ensures fits { OnOk result (refusal_from last left (map body_of drafts.items) ≡ None) }
+    ensures refused { IfErr result (λ fault. (refusal_from last left (map body_of drafts.items) ≡ Some fault)
+        ⊎ ((fault ≡ Fault.NoMemory) × (refusal_from last left (map body_of drafts.items) ≡ None))) }
+{
+    let _last = last_count(last, &drafts)?;
+    check_room(left, &drafts)?;
+    let ops = stamped(alloc, site, last, prev, drafts)?;
+    let copies = copied(alloc, &ops)?;
+    Ok((ops, copies))
 }
