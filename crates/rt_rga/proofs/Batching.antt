@@ -2,24 +2,29 @@
 use Rattle.std.proofs.Common.{◌≡◌, ℕ, suc, ◌+◌, ◌≤◌, ◌<◌, Bool, true, false, refl, sym, ap, subst, ◌∙◌, arith, List, [], ◌∷◌, ◌++◌, All, cond, length, map}
 use Rattle.std.proofs.lemmas.List.{length-append, length-map}
 use Rattle.std.proofs.lemmas.List.Elements.{All-append, All-map, recursion_from_All}
-use Rattle.rt_oplog.specs.Operations.{Operation}
+use Rattle.std.specs.List.{AllByRecursion}
+use Rattle.rt_stamps.specs.declared.limits.TheConstants.{GREATEST_COUNT}
+use Rattle.rt_oplog.specs.Logs.{with_operation}
+use Rattle.rt_oplog.specs.Operations.{Operation, last_count}
 use Rattle.rt_store.specs.declared.cell.Cell.{Cell}
-use Rattle.rt_store.specs.Cells.{is_in_span, with_state}
+use Rattle.rt_store.specs.Cells.{is_in_span, stamps_of, with_state}
 use Rattle.rt_store.specs.Shown.{shown, TaggedCell}
 use Rattle.rt_store.specs.Tagged.{AreStates}
 use Rattle.rt_store.proofs.GivenStates.{kept_states}
-use Rattle.rt_store.proofs.Shown.{shown_later}
-use Rattle.rt_tags.specs.States.{IsState, KeepsIds, TagStates}
+use Rattle.rt_store.proofs.Shown.{shown_later, stamps_shown}
+use Rattle.rt_tags.specs.States.{IsState, KeepsIds, TagStates, state_at}
 use Rattle.rt_rga.specs.Batches.{after_tags, all_put}
 use Rattle.rt_rga.specs.Cells.{cells_of}
 use Rattle.rt_rga.specs.Drafts.{with_operations}
-use Rattle.rt_rga.specs.Making.{AreNewest, ContinueInTurn, fresh_cells, kept_after}
+use Rattle.rt_rga.specs.Making.{AreNewest, CanAllBePut, ContinueInTurn, fresh_cells, kept_after}
 use Rattle.rt_rga.specs.Replicas.{IsReplica}
 use Rattle.rt_rga.specs.Runs.{put_back_in_any}
 use Rattle.rt_rga.specs.declared.tagging.StateRun.{StateRun}
 use Rattle.rt_rga.proofs.Merging.{map_same}
 use Rattle.rt_rga.proofs.Planned.{batch}
-use Rattle.rt_rga.proofs.Putting.{cells_after, every_after, history_after, in_turn_sound, kept_shown, newest_rise}
+use Rattle.rt_rga.proofs.Putting.{can_all_put, cells_after, every_after, history_after, in_turn_sound, kept_shown, length_kept_after, newest_rise}
+use Rattle.rt_rga.proofs.Continuing.{sound_of}
+use Rattle.rt_rga.proofs.Within.{cells_by}
 
 -- runs give states alike to a cell that is gone and to one that isn't
 gone_back : (runs : List StateRun) (cell : Cell ℕ) → put_back_in_any runs (record cell { gone = true }) ≡ record (put_back_in_any runs cell) { gone = true }
@@ -68,3 +73,23 @@ batch_kept log ops table mid new kept fresh more runs r k n early late f s g cf 
           ∙ sym (batch ops (cells_of log) (in_turn_sound log ops k) (newest_rise log ops n))
           ∙ sym (cells_after ops log r.history k);
     })
+
+-- as many cells more as there are new characters
+pub batch_length : (ops : List Operation) (runs : List StateRun) (kept fresh more : List (Cell ℕ)) → CanAllBePut ops fresh kept
+    → more ≡ map (put_back_in_any runs) (kept_after ops fresh kept) → length more ≡ length kept + length (fresh_cells ops)
+batch_length ops runs kept fresh more h e = ap length e ∙ length-map (kept_after ops fresh kept) (put_back_in_any runs) ∙ length_kept_after ops fresh kept h
+
+-- what a store asks, where cells are kept of a log
+pub batch_placed : (log ops : List Operation) (table mid : TagStates) (kept fresh : List (Cell ℕ)) → IsReplica log table kept → ContinueInTurn log ops
+    → map (shown mid) fresh ≡ fresh_cells ops → CanAllBePut ops fresh kept
+batch_placed log ops table mid kept fresh r k f =
+    can_all_put log ops fresh kept r.history k (cells_by log table kept r).stamps (sym (stamps_shown (state_at mid) fresh) ∙ ap (λ (cells : List TaggedCell). stamps_of cells) f)
+
+pub batch_states : (ops : List Operation) (table mid new : TagStates) (kept fresh : List (Cell ℕ)) → KeepsIds table mid → KeepsIds mid new → AreStates table kept → AreStates mid fresh
+    → AreStates new (kept_after ops fresh kept)
+batch_states ops table mid new kept fresh early late k f =
+    kept_states mid new (kept_after ops fresh kept) late (every_after (λ (cell : Cell ℕ). IsState mid cell.state) (λ cell p. p) ops fresh kept f (kept_states table mid kept early k))
+
+pub batch_counts : (log ops : List Operation) → ContinueInTurn log ops → AllByRecursion (λ op. last_count op ≤ GREATEST_COUNT) ops
+batch_counts log [] k = tt
+batch_counts log (op ∷ ops) k = ((sound_of k.0).last, batch_counts (with_operation op log) ops k.1)

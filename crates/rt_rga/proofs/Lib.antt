@@ -11,6 +11,7 @@ pub mod Counts
 pub mod Drafting
 pub mod Files
 pub mod Final
+pub mod Fresh
 pub mod Histories
 pub mod Joining
 pub mod Later

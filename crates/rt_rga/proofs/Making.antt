@@ -165,3 +165,23 @@ pub unrefused : (site limit : ℕ) (drafts : List Body) (log : List Operation) �
 unrefused site limit drafts log m e =
     let (spent, full) = spent_not (nat_lt GREATEST_COUNT (last_count_after (greatest_last_count log) drafts)) (nat_lt limit (length (cells_of log) + characters_in_all drafts)) e in
     (drafts_for site log drafts m (grind (arith, nat_tests, spent)), grind (arith, nat_tests, full))
+
+-- what is asked of operations that are logged at once
+pub record AreReady (limit : ℕ) (log ops : List Operation) : Type 0 where
+  pub continues : ContinueInTurn log ops
+  pub newest : AreNewest log ops
+  pub room : length (cells_of log) + length (fresh_cells ops) ≤ limit
+
+pub ready : (site limit : ℕ) (drafts : List Body) (log ops : List Operation) → 0 < site → MayBeMade site log drafts → refusal_of limit drafts log ≡ None → ops ≡ operations_of site drafts log → AreReady limit log ops
+ready site limit drafts log ops p m r e =
+    let (d, full) = unrefused site limit drafts log m r in
+    let n = fresh_counted site drafts log in
+    subst (AreReady limit log) (sym e) (record {
+      continues = in_turn site drafts log p d;
+      newest = are_newest site drafts log;
+      room = omega (arith, full, n);
+    })
+
+pub made_of : (one site last prev : ℕ) (drafts : List Body) (log : List Operation) → one ≡ site → last ≡ greatest_last_count log → prev ≡ known_end log site
+    → operations_from one last prev drafts ≡ operations_of site drafts log
+made_of one site last prev drafts log s l p = (λ i. operations_from (s i) (l i) (p i) drafts) ∙ operations_are site drafts log

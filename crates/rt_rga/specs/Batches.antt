@@ -1,11 +1,12 @@
 -- What operations do to cells when they come at once: first the Inserts and Deletes, one after the other, then the Tags, so
 -- that each cell comes into one new state. Operations are listed by rising stamp, the oldest first.
-use Rattle.std.specs.Prelude.{◌≡◌, true, false, List, [], ◌∷◌, ◌++◌}
+use Rattle.std.specs.Prelude.{ℕ, ◌<◌, ◌≡◌, true, false, List, [], ◌∷◌, ◌++◌}
 use Rattle.std.specs.List.{AllByRecursion}
 use Rattle.rt_stamps.specs.declared.stamp.Stamp.{Stamp}
 use Rattle.rt_stamps.specs.Stamps.{is_before}
 use Rattle.rt_oplog.specs.Operations.{Operation, Body, Insert, Delete, Tag, has_bad_stamp, stamp_of}
 use Rattle.rt_store.specs.Cells.{with_state}
+use Rattle.rt_store.specs.declared.cell.Cell.{Cell}
 use Rattle.rt_store.specs.Shown.{TaggedCell}
 use Rattle.rt_tags.specs.States.{Write}
 use Rattle.rt_tags.specs.Writers.{state_after}
@@ -52,3 +53,8 @@ AreRising (op ∷ ops) = AllByRecursion (λ later. is_before (stamp_of op) (stam
 -- each operation is sound
 abbrev pub AreSound : List Operation → Type 0
 AreSound ops = AllByRecursion (λ op. has_bad_stamp op ≡ false) ops
+
+-- new cells stand by rising counts
+abbrev pub CountsRise : List (Cell ℕ) → Type 0
+CountsRise [] = Unit {0}
+CountsRise (cell ∷ cells) = AllByRecursion (λ later. cell.stamp.count < later.stamp.count) cells × CountsRise cells

@@ -7,6 +7,7 @@ mod edits;
 pub mod examples;
 pub mod laws;
 mod make;
+mod plan;
 pub mod replica;
 mod tagging;
 pub mod taken;

@@ -12,12 +12,14 @@ ghost use Rattle.rt_store.specs.Tagged.{AreStates};
 ghost use Rattle.rt_tags.specs.States.{KeepsIds};
 ghost use Rattle.rt_rga.specs.Drafts.{with_operations};
 ghost use Rattle.rt_rga.specs.Histories.{IsHistory, greatest_last_count};
-ghost use Rattle.rt_rga.specs.Making.{CanAllBePut, CanBePut, ContinueInTurn, cuts_by, cuts_of, fresh_by, fresh_cells, kept_after, operations_from, put_by_kept, refusal_from};
+ghost use Rattle.rt_rga.specs.Making.{AreNewest, CanAllBePut, CanBePut, ContinueInTurn, cuts_by, cuts_of, fresh_by, fresh_cells, kept_after, operations_from, put_by_kept, refusal_from};
 ghost use Rattle.rt_rga.specs.Requests.{characters_in, characters_in_all, last_count_after};
 ghost use Rattle.rt_rga.specs.Replicas.{IsReplica};
 
 use crate::Draft;
 use crate::edits::{new_cells, set_all_gone};
+use crate::plan::planned_states;
+use crate::tagging::put_states;
 use rt_oplog::{Edit, Op, OpLog};
 use rt_stamps::limits::GREATEST_COUNT;
 use rt_stamps::{Clock, Fault, ROOT, Stamp};
@@ -331,4 +333,32 @@ pub(crate) fn prepared(
     let ops = stamped(alloc, site, last, prev, drafts)?;
     let copies = copied(alloc, &ops)?;
     Ok((ops, copies))
+}
+
+/// Changes what is kept of a log as operations do that are newer than it, each of which continues it
+/// with those before. Want of memory, and then the cells stay.
+#[tactic(auto, using(crate::proofs::Listing::keeps_both))]
+pub(crate) fn change_all<S: TextStore>(
+    alloc: Global,
+    store: &mut S,
+    states: &mut StateTable,
+    log: &OpLog,
+    ops: &[Op],
+) -> Result<(), Fault>
+    requires replica { IsReplica log.now.operations states.old (S.list store.old) }
+    requires continues { ContinueInTurn log.now.operations ops.now }
+    requires newest { AreNewest log.now.operations ops.now }
+    requires room { length (S.list store.old) + length (fresh_cells ops.now) ≤ MOST_CELLS }
+    ensures replica { OnOk result (IsReplica (with_operations ops.now log.now.operations) states.new (S.list store.new)) }
+    ensures cells { OnOk result (length (S.list store.new) ≡ length (S.list store.old) + length (fresh_cells ops.now)) }
+    ensures ids { KeepsIds states.old states.new }
+    ensures same { OnErr result (S.list store.new ≡ S.list store.old) }
+    ensures fault { IfErr result (λ fault. fault ≡ Fault.NoMemory) }
+{
+    let new = fresh(alloc, states, ops)?;
+    let runs = planned_states(alloc, store, states, &new, ops)?;
+    make_room(store, new.len(), ops, runs.len())?;
+    put_all(store, states, &new, ops);
+    put_states(store, states, &runs);
+    Ok(())
 }

@@ -1,19 +1,26 @@
 // A replica: accepted operations, and the cells that are kept of them.
-ghost use Rattle.std.specs.Prelude.{◌≡◌, ◌⊎◌, ◌+◌, ◌≤◌, ◌∷◌, [], IfOk, IfErr, OnErr, OnOk, length, map};
+ghost use Rattle.std.specs.Prelude.{◌≡◌, ◌⊎◌, ◌+◌, ◌≤◌, ◌∷◌, [], IfOk, IfErr, None, OnErr, OnOk, Some, length, map};
 ghost use Rattle.rt_stamps.specs.declared.limits.TheConstants.{MOST_CELLS};
 ghost use Rattle.rt_store.specs.Cells.{final_cell};
 ghost use Rattle.rt_store.specs.Tagged.{AreStates};
 ghost use Rattle.rt_tags.specs.States.{KeepsIds};
+ghost use Rattle.rt_oplog.specs.Edits.{body_of};
 ghost use Rattle.rt_oplog.specs.Logs.{with_operation};
 ghost use Rattle.rt_rga.specs.Answers.{New, Refused, answer_within, set_after};
 ghost use Rattle.rt_rga.specs.Cells.{cells_of};
+ghost use Rattle.rt_rga.specs.Drafts.{operations_of, with_drafts, with_operations};
+ghost use Rattle.rt_rga.specs.Made.{refusal_of};
+ghost use Rattle.rt_rga.specs.Making.{AreNewest, ContinueInTurn, fresh_cells};
+ghost use Rattle.rt_rga.specs.Requests.{MayBeMade};
 ghost use Rattle.rt_rga.specs.Histories.{Continues, IsHistory, greatest_last_count, inserted};
 ghost use Rattle.rt_store.specs.Shown.{shown};
 ghost use Rattle.rt_rga.specs.Taken.{IsChange, TellsChange, told};
 
 use crate::answer::{Offer, answer_within};
 use crate::describe::describe;
+use crate::Draft;
 use crate::edits::change;
+use crate::make::{change_all, prepared, push_all};
 use crate::taken::{Change, Taken};
 use rt_oplog::{Op, OpLog};
 use rt_stamps::{Clock, Fault, Site};
@@ -146,5 +153,62 @@ impl<S: TextStore> Replica<S> {
             Offer::Repeat => Ok(Taken::Repeat),
             Offer::New => Ok(Taken::New(self.take(op)?)),
         }
+    }
+
+    /// Logs operations that are newer than all before them, each of which continues the log with those
+    /// before it, within the limit of cells. Want of memory.
+    fn make_all(&mut self, ops: Vec<Op>) -> Result<(), Fault>
+        requires continues { ContinueInTurn self.old.log ops.items }
+        requires newest { AreNewest self.old.log ops.items }
+        requires room { length self.old.cells + length (fresh_cells ops.items) ≤ self.old.limit }
+        ensures log { OnOk result (self.new.log ≡ with_operations ops.items self.old.log) }
+        ensures same { OnErr result (self.new ≡ record self.old { table = self.new.table }) }
+        ensures site { self.new.site ≡ self.old.site }
+        ensures limit { self.new.limit ≡ self.old.limit }
+        ensures ids { KeepsIds self.old.table self.new.table }
+        ensures fault { IfErr result (λ fault. fault ≡ Fault.NoMemory) }
+    {
+        self.log.reserve(ops.len())?;
+        change_all(
+            self.alloc,
+            &mut self.store,
+            &mut self.states,
+            &self.log,
+            &ops,
+        )?;
+        push_all(&mut self.log, &mut self.clock, ops);
+        Ok(())
+    }
+
+    /// Makes operations of the site's own, one of each draft, in order; all of them or none. Each draft
+    /// keeps the rules of `Op` and names what is known, or what a draft before it inserts. The counts
+    /// follow the greatest one that is known, and `prev` is the known end of the site. `ClockSpent`
+    /// where the counts would pass `GREATEST_COUNT`, `TextFull` where the cells would pass the limit;
+    /// `NoMemory` only where neither applies. After a fault all is as before, but for names and states
+    /// that got numbers.
+    pub fn make(&mut self, drafts: Vec<Draft>) -> Result<Vec<Op>, Fault>
+        requires { MayBeMade self.old.site self.old.log (map body_of drafts.items) }
+        ensures made { IfOk result (λ ops. ops.items ≡ operations_of self.old.site (map body_of drafts.items) self.old.log) }
+        ensures fits { OnOk result (refusal_of self.old.limit (map body_of drafts.items) self.old.log ≡ None) }
+        ensures refused { IfErr result (λ fault. (refusal_of self.old.limit (map body_of drafts.items) self.old.log
+            ≡ Some fault) ⊎ ((fault ≡ Fault.NoMemory) × (refusal_of self.old.limit (map body_of drafts.items) self.old.log ≡ None))) }
+        ensures log { OnOk result (self.new.log ≡ with_drafts self.old.site (map body_of drafts.items) self.old.log) }
+        ensures same { OnErr result (self.new ≡ record self.old { table = self.new.table }) }
+        ensures kept { (refusal_of self.old.limit (map body_of drafts.items) self.old.log ≡ None → ⊥) → self.new ≡ self.old }
+        ensures site { self.new.site ≡ self.old.site }
+        ensures limit { self.new.limit ≡ self.old.limit }
+        ensures ids { KeepsIds self.old.table self.new.table }
+    {
+        let site = self.site.number();
+        let (ops, copies) = prepared(
+            self.alloc,
+            site,
+            self.clock.seen(),
+            self.log.known(site),
+            self.limit - self.store.cells(),
+            drafts,
+        )?;
+        self.make_all(ops)?;
+        Ok(copies)
     }
 }

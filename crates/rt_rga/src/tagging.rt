@@ -140,7 +140,7 @@ fn state_runs(alloc: Global, cells: &[Cell<StateId>]) -> Result<Vec<StateRun>, F
 
 /// Puts the cells of runs in their states. From the last run to the first: so a cell that two runs
 /// have gets the state of the first one. Takes no memory.
-fn put_states<S: TextStore>(store: &mut S, states: &StateTable, runs: &[StateRun])
+pub(crate) fn put_states<S: TextStore>(store: &mut S, states: &StateTable, runs: &[StateRun])
     requires states { AreStates states.now (S.list store.old) }
     requires runs { All (λ run. IsState states.now run.state) runs.now }
     requires room { HasRoom (S.room store.old) 0 (2 * length runs.now) }

@@ -1,0 +1,64 @@
+use Rattle.std.proofs.Common.{◌≡◌, ◌∙◌, ◌++◌, ℕ, All, List, ap, map, subst, sym}
+use Rattle.rt_oplog.specs.Operations.{Operation}
+use Rattle.rt_store.specs.declared.cell.Cell.{Cell}
+use Rattle.rt_store.specs.Cells.{AreDistinct}
+use Rattle.rt_store.specs.Tagged.{AreStates}
+use Rattle.rt_rga.specs.Batches.{CountsRise}
+use Rattle.rt_rga.specs.Making.{CanAllBePut, fresh_cells, kept_after}
+use Rattle.rt_rga.specs.Runs.{put_back_in_any}
+use Rattle.rt_rga.proofs.Batching.{ComesOut, batch_counts, batch_kept, batch_length, batch_placed, batch_states}
+use Rattle.rt_rga.proofs.Fresh.{all_back, all_front, fresh_counts, fresh_distinct, fresh_states}
+use Rattle.rt_rga.proofs.make.change_all.Goals as goal
+
+pub fresh-requires : goal.fresh-requires
+fresh-requires g c = record { counts = batch_counts c.args.log.now.operations c.args.ops.now c.requires.continues }
+
+pub planned_states-requires-clause-counts : goal.planned_states-requires-clause-counts
+planned_states-requires-clause-counts g c =
+    subst CountsRise (sym c.deref.ensures.value) (fresh_counts c.args.log.now.operations c.args.ops.now c.fresh.new.states c.in_ok-new.new.items c.requires.newest c.in_ok-new.ensures.cells)
+
+pub planned_states-requires-clause-distinct : goal.planned_states-requires-clause-distinct
+planned_states-requires-clause-distinct g c =
+    let kept : List (Cell ℕ) = g.S.TextStore.list c.args.store.now in
+    subst (λ (cells : List (Cell ℕ)). AreDistinct (cells ++ kept)) (sym c.deref.ensures.value)
+    (fresh_distinct c.args.log.now.operations c.args.ops.now c.args.states.now c.fresh.new.states kept c.in_ok-new.new.items c.requires.replica c.requires.continues c.requires.newest c.in_ok-new.ensures.cells)
+
+pub planned_states-requires-clause-states : goal.planned_states-requires-clause-states
+planned_states-requires-clause-states g c =
+    let kept : List (Cell ℕ) = g.S.TextStore.list c.args.store.now in
+    subst (λ (cells : List (Cell ℕ)). AreStates c.fresh.new.states (cells ++ kept)) (sym c.deref.ensures.value)
+    (fresh_states c.args.states.now c.fresh.new.states kept c.in_ok-new.new.items c.fresh.ensures.ids c.requires.replica.states c.in_ok-new.ensures.given)
+
+pub put_all-requires-clause-put : goal.put_all-requires-clause-put
+put_all-requires-clause-put g c =
+    let kept : List (Cell ℕ) = g.S.TextStore.list c.args.store.now in
+    let ops : List Operation = c.args.ops.now in
+    let can = batch_placed c.args.log.now.operations ops c.args.states.now c.fresh.new.states kept c.in_ok-new.new.items c.requires.replica c.requires.continues c.in_ok-new.ensures.cells in
+    subst (λ (p : _). p) (λ j. CanAllBePut ops (sym c.deref-2.ensures.value j) (sym c.in_ok-make_room.ensures.same j)) can
+
+pub put_states-requires-clause-states : goal.put_states-requires-clause-states
+put_states-requires-clause-states g c =
+    let kept : List (Cell ℕ) = g.S.TextStore.list c.args.store.now in
+    let ops : List Operation = c.args.ops.now in
+    let put = batch_states ops c.args.states.now c.fresh.new.states c.planned_states.new.states kept c.in_ok-new.new.items c.fresh.ensures.ids c.planned_states.ensures.ids c.requires.replica.states c.in_ok-new.ensures.given in
+    subst (AreStates c.planned_states.new.states) (sym (c.put_all.ensures.list ∙ (λ j. kept_after ops (c.deref-2.ensures.value j) (c.in_ok-make_room.ensures.same j)))) put
+
+pub returns-clause-replica : goal.returns-clause-replica
+returns-clause-replica g c =
+    let kept : List (Cell ℕ) = g.S.TextStore.list c.args.store.now in
+    let ops : List Operation = c.args.ops.now in
+    let fresh : List (Cell ℕ) = c.in_ok-new.new.items in
+    let come = subst (λ (cells : List (Cell ℕ)). All (ComesOut ops c.fresh.new.states c.planned_states.new.states c.in_ok-runs.runs.items) (cells ++ kept)) c.deref.ensures.value c.in_ok-runs.ensures.runs in
+    batch_kept c.args.log.now.operations ops c.args.states.now c.fresh.new.states c.planned_states.new.states kept fresh (g.S.TextStore.list c.put_states.new.store) c.in_ok-runs.runs.items
+    c.requires.replica c.requires.continues c.requires.newest c.fresh.ensures.ids c.planned_states.ensures.ids c.in_ok-new.ensures.cells c.in_ok-new.ensures.given c.in_ok-runs.ensures.given
+    (all_front (ComesOut ops c.fresh.new.states c.planned_states.new.states c.in_ok-runs.runs.items) fresh kept come) (all_back (ComesOut ops c.fresh.new.states c.planned_states.new.states c.in_ok-runs.runs.items) fresh kept come)
+    (c.put_states.ensures.list ∙ (λ j. map (put_back_in_any (c.deref-3.ensures.value j)) ((c.put_all.ensures.list ∙ (λ k. kept_after ops (c.deref-2.ensures.value k) (c.in_ok-make_room.ensures.same k))) j)))
+
+pub returns-clause-cells : goal.returns-clause-cells
+returns-clause-cells g c =
+    let kept : List (Cell ℕ) = g.S.TextStore.list c.args.store.now in
+    let ops : List Operation = c.args.ops.now in
+    let fresh : List (Cell ℕ) = c.in_ok-new.new.items in
+    let can = batch_placed c.args.log.now.operations ops c.args.states.now c.fresh.new.states kept fresh c.requires.replica c.requires.continues c.in_ok-new.ensures.cells in
+    batch_length ops c.in_ok-runs.runs.items kept fresh (g.S.TextStore.list c.put_states.new.store) can
+    (c.put_states.ensures.list ∙ (λ j. map (put_back_in_any (c.deref-3.ensures.value j)) ((c.put_all.ensures.list ∙ (λ k. kept_after ops (c.deref-2.ensures.value k) (c.in_ok-make_room.ensures.same k))) j)))

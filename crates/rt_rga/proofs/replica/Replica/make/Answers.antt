@@ -1,0 +1,94 @@
+use Rattle.std.proofs.Common.{◌≡◌, ◌∙◌, ◌+◌, ◌≤◌, ◌<◌, ℕ, List, None, Some, ap, arith, length, map, subst, sym}
+use Rattle.std.proofs.lemmas.List.{length-map}
+use Rattle.rt_oplog.specs.Edits.{body_of}
+use Rattle.rt_oplog.specs.Logs.{known_end}
+use Rattle.rt_oplog.specs.Operations.{Body, Operation}
+use Rattle.rt_store.specs.declared.cell.Cell.{Cell}
+use Rattle.rt_store.specs.Shown.{shown, TaggedCell}
+use Rattle.rt_rga.specs.Cells.{cells_of}
+use Rattle.rt_rga.specs.Drafts.{operations_of, with_operations}
+use Rattle.rt_rga.specs.Histories.{greatest_last_count}
+use Rattle.rt_rga.specs.Kept.{ReplicaValue}
+use Rattle.rt_rga.specs.Made.{refusal_of}
+use Rattle.rt_rga.specs.Requests.{MayBeMade}
+use Rattle.rt_rga.proofs.Making.{AreReady, made_of, ready, refusal_is, rules_of}
+use Rattle.rt_rga.proofs.replica.Replica.make.Goals as goal
+
+pub prepared-requires-clause-rules : goal.prepared-requires-clause-rules
+prepared-requires-clause-rules g c = rules_of c.args.self.now.site c.args.drafts.items c.args.self.now.log c.requires
+
+pub make_all-requires-clause-continues : goal.make_all-requires-clause-continues
+make_all-requires-clause-continues g c =
+    let v = c.self.inside in
+    let now = c.args.self.now in
+    let kept : List (Cell ℕ) = g.S.TextStore.list v.store in
+    let bodies : List Body = map body_of c.args.drafts.items in
+    let seen : v.log.operations ≡ now.log = ap (λ (a : ReplicaValue). a.log) c.self.view_is in
+    let site : c.number-site.result ≡ now.site = c.number-site.ensures.value ∙ ap (λ (a : ReplicaValue). a.site) c.self.view_is in
+    let last : c.seen.result ≡ greatest_last_count now.log = c.seen.ensures.value ∙ c.self.invariant.seen ∙ ap greatest_last_count seen in
+    let prev : c.known.result ≡ known_end now.log now.site = c.known.ensures ∙ (λ i. known_end (seen i) (site i)) in
+    let cells : c.cells.result ≡ length (cells_of now.log) = c.cells.ensures ∙ sym (length-map kept (shown v.states)) ∙ ap length c.self.invariant.replica.cells ∙ ap (λ (ops : List Operation). length (cells_of ops)) seen in
+    let limit : v.limit ≡ now.limit = ap (λ (a : ReplicaValue). a.limit) c.self.view_is in
+    let fits : refusal_of now.limit bodies now.log ≡ None =
+    sym (refusal_is c.seen.result _ now.limit c.cells.result bodies now.log last cells (omega (arith, limit, c.self.invariant.cells, c.cells.ensures))) ∙ c.in_ok-ops.ensures.fits in
+    (ready now.site now.limit bodies now.log c.in_ok-ops.ops.items (omega (arith, site, c.number-site.ensures.positive)) c.requires fits
+    (c.in_ok-ops.ensures.ops ∙ made_of c.number-site.result now.site c.seen.result c.known.result bodies now.log site last prev)).continues
+
+pub make_all-requires-clause-newest : goal.make_all-requires-clause-newest
+make_all-requires-clause-newest g c =
+    let v = c.self.inside in
+    let now = c.args.self.now in
+    let kept : List (Cell ℕ) = g.S.TextStore.list v.store in
+    let bodies : List Body = map body_of c.args.drafts.items in
+    let seen : v.log.operations ≡ now.log = ap (λ (a : ReplicaValue). a.log) c.self.view_is in
+    let site : c.number-site.result ≡ now.site = c.number-site.ensures.value ∙ ap (λ (a : ReplicaValue). a.site) c.self.view_is in
+    let last : c.seen.result ≡ greatest_last_count now.log = c.seen.ensures.value ∙ c.self.invariant.seen ∙ ap greatest_last_count seen in
+    let prev : c.known.result ≡ known_end now.log now.site = c.known.ensures ∙ (λ i. known_end (seen i) (site i)) in
+    let cells : c.cells.result ≡ length (cells_of now.log) = c.cells.ensures ∙ sym (length-map kept (shown v.states)) ∙ ap length c.self.invariant.replica.cells ∙ ap (λ (ops : List Operation). length (cells_of ops)) seen in
+    let limit : v.limit ≡ now.limit = ap (λ (a : ReplicaValue). a.limit) c.self.view_is in
+    let fits : refusal_of now.limit bodies now.log ≡ None =
+    sym (refusal_is c.seen.result _ now.limit c.cells.result bodies now.log last cells (omega (arith, limit, c.self.invariant.cells, c.cells.ensures))) ∙ c.in_ok-ops.ensures.fits in
+    (ready now.site now.limit bodies now.log c.in_ok-ops.ops.items (omega (arith, site, c.number-site.ensures.positive)) c.requires fits
+    (c.in_ok-ops.ensures.ops ∙ made_of c.number-site.result now.site c.seen.result c.known.result bodies now.log site last prev)).newest
+
+pub make_all-requires-clause-room : goal.make_all-requires-clause-room
+make_all-requires-clause-room g c =
+    let v = c.self.inside in
+    let now = c.args.self.now in
+    let kept : List (Cell ℕ) = g.S.TextStore.list v.store in
+    let bodies : List Body = map body_of c.args.drafts.items in
+    let seen : v.log.operations ≡ now.log = ap (λ (a : ReplicaValue). a.log) c.self.view_is in
+    let site : c.number-site.result ≡ now.site = c.number-site.ensures.value ∙ ap (λ (a : ReplicaValue). a.site) c.self.view_is in
+    let last : c.seen.result ≡ greatest_last_count now.log = c.seen.ensures.value ∙ c.self.invariant.seen ∙ ap greatest_last_count seen in
+    let prev : c.known.result ≡ known_end now.log now.site = c.known.ensures ∙ (λ i. known_end (seen i) (site i)) in
+    let cells : c.cells.result ≡ length (cells_of now.log) = c.cells.ensures ∙ sym (length-map kept (shown v.states)) ∙ ap length c.self.invariant.replica.cells ∙ ap (λ (ops : List Operation). length (cells_of ops)) seen in
+    let limit : v.limit ≡ now.limit = ap (λ (a : ReplicaValue). a.limit) c.self.view_is in
+    let fits : refusal_of now.limit bodies now.log ≡ None =
+    sym (refusal_is c.seen.result _ now.limit c.cells.result bodies now.log last cells (omega (arith, limit, c.self.invariant.cells, c.cells.ensures))) ∙ c.in_ok-ops.ensures.fits in
+    let room = (ready now.site now.limit bodies now.log c.in_ok-ops.ops.items (omega (arith, site, c.number-site.ensures.positive)) c.requires fits
+    (c.in_ok-ops.ensures.ops ∙ made_of c.number-site.result now.site c.seen.result c.known.result bodies now.log site last prev)).room in
+    let many : length now.cells ≡ length (cells_of now.log) = sym (ap (λ (a : ReplicaValue). length a.cells) c.self.view_is) ∙ ap (λ (xs : List TaggedCell). length xs) c.self.invariant.replica.cells ∙ ap (λ (ops : List Operation). length (cells_of ops)) seen in
+    omega (arith, room, many)
+
+pub returns-clause-made : goal.returns-clause-made
+returns-clause-made g c =
+    let v = c.self.inside in
+    let now = c.args.self.now in
+    let bodies : List Body = map body_of c.args.drafts.items in
+    let seen : v.log.operations ≡ now.log = ap (λ (a : ReplicaValue). a.log) c.self.view_is in
+    let site : c.number-site.result ≡ now.site = c.number-site.ensures.value ∙ ap (λ (a : ReplicaValue). a.site) c.self.view_is in
+    let last : c.seen.result ≡ greatest_last_count now.log = c.seen.ensures.value ∙ c.self.invariant.seen ∙ ap greatest_last_count seen in
+    let prev : c.known.result ≡ known_end now.log now.site = c.known.ensures ∙ (λ i. known_end (seen i) (site i)) in
+    c.in_ok-ops.ensures.copies ∙ made_of c.number-site.result now.site c.seen.result c.known.result bodies now.log site last prev
+
+pub returns-clause-log : goal.returns-clause-log
+returns-clause-log g c =
+    let v = c.self.inside in
+    let now = c.args.self.now in
+    let bodies : List Body = map body_of c.args.drafts.items in
+    let seen : v.log.operations ≡ now.log = ap (λ (a : ReplicaValue). a.log) c.self.view_is in
+    let site : c.number-site.result ≡ now.site = c.number-site.ensures.value ∙ ap (λ (a : ReplicaValue). a.site) c.self.view_is in
+    let last : c.seen.result ≡ greatest_last_count now.log = c.seen.ensures.value ∙ c.self.invariant.seen ∙ ap greatest_last_count seen in
+    let prev : c.known.result ≡ known_end now.log now.site = c.known.ensures ∙ (λ i. known_end (seen i) (site i)) in
+    c.in_ok-make_all.ensures.log
+    ∙ ap (λ (ops : List Operation). with_operations ops now.log) (c.in_ok-ops.ensures.ops ∙ made_of c.number-site.result now.site c.seen.result c.known.result bodies now.log site last prev)
