@@ -19,6 +19,8 @@ pub mod Merging
 pub mod Orders
 pub mod PlacesAt
 pub mod Planned
+pub mod PlannedEntries
+pub mod PlannedStates
 pub mod Pushing
 pub mod Relation
 pub mod Replicas

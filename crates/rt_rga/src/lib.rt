@@ -6,6 +6,7 @@ mod describe;
 mod edits;
 pub mod examples;
 pub mod laws;
+mod plan;
 pub mod replica;
 mod tagging;
 pub mod taken;
