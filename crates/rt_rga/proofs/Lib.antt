@@ -22,6 +22,8 @@ pub mod Merging
 pub mod Orders
 pub mod PlacesAt
 pub mod Planned
+pub mod PlannedEntries
+pub mod PlannedStates
 pub mod Pushing
 pub mod Putting
 pub mod Relation

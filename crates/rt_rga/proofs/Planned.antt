@@ -1,5 +1,5 @@
 -- Operations at once: Tags wait until all Inserts and Deletes are done.
-use Rattle.std.proofs.Common.{◌≡◌, ℕ, ◌+◌, ◌≤◌, ◌<◌, Bool, true, false, true≢false, refl, sym, ap, ◌∙◌, arith, Some, None, Option, List, [], ◌∷◌, ◌++◌, cond, length, map, take, drop}
+use Rattle.std.proofs.Common.{◌≡◌, ℕ, ◌+◌, ◌≤◌, ◌<◌, Bool, true, false, true≢false, refl, sym, ap, ◌∙◌, arith, List, [], ◌∷◌, ◌++◌, cond, length, map, take, drop}
 use Rattle.std.proofs.lemmas.Bool.Decides.{nat_tests}
 use Rattle.std.proofs.lemmas.List.{drop-map, take-map}
 use Rattle.std.specs.Prelude.{position, take_while, unwrap_or}

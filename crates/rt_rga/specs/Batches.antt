@@ -1,17 +1,20 @@
 -- What operations do to cells when they come at once: first the Inserts and Deletes, one after the other, then the Tags, so
 -- that each cell comes into one new state. Operations are listed by rising stamp, the oldest first.
-use Rattle.std.specs.Prelude.{ℕ, ◌<◌, ◌≡◌, true, false, List, [], ◌∷◌, ◌++◌}
+use Rattle.std.specs.Prelude.{◌≡◌, ℕ, ◌<◌, true, false, List, [], ◌∷◌, ◌++◌, map, filter, Some}
 use Rattle.std.specs.List.{AllByRecursion}
 use Rattle.rt_stamps.specs.declared.stamp.Stamp.{Stamp}
-use Rattle.rt_stamps.specs.Stamps.{is_before}
+use Rattle.rt_stamps.specs.Stamps.{is_before, is_same}
 use Rattle.rt_oplog.specs.Operations.{Operation, Body, Insert, Delete, Tag, has_bad_stamp, stamp_of}
-use Rattle.rt_store.specs.Cells.{with_state}
+use Rattle.rt_store.specs.Cells.{cell_of, stamps_of, with_state}
 use Rattle.rt_store.specs.declared.cell.Cell.{Cell}
 use Rattle.rt_store.specs.Shown.{TaggedCell}
-use Rattle.rt_tags.specs.States.{Write}
+use Rattle.rt_store.specs.Spans.{is_among, precedes}
+use Rattle.rt_tags.specs.declared.states.Entry.{Entry}
+use Rattle.rt_tags.specs.States.{IsState, TagStates, Write, state_at, writes_at}
 use Rattle.rt_tags.specs.Writers.{state_after}
 use Rattle.rt_rga.specs.Cells.{writes_by}
 use Rattle.rt_rga.specs.Changes.{changed_by}
+use Rattle.rt_rga.specs.declared.plan.Named.{Named}
 
 -- THE TAGS
 
@@ -54,7 +57,32 @@ AreRising (op ∷ ops) = AllByRecursion (λ later. is_before (stamp_of op) (stam
 abbrev pub AreSound : List Operation → Type 0
 AreSound ops = AllByRecursion (λ op. has_bad_stamp op ≡ false) ops
 
+-- ON THE WAY
+
+-- an entry of a table on the character of a stamp
+abbrev pub named_with : Entry → Stamp → Named
+named_with entry stamp = record { stamp = stamp; entry = entry }
+
+-- the entries on a character, the oldest first
+abbrev pub entries_on : List Named → Stamp → List Entry
+entries_on named stamp = map (λ n. n.entry) (filter (λ n. is_same n.stamp stamp) named)
+
+-- by the sites and counts of the stamps, so that entries on one character stand together
+abbrev pub AreInOrder : List Named → Type 0
+AreInOrder [] = Unit {0}
+AreInOrder (n ∷ named) = AllByRecursion (λ later. precedes later.stamp n.stamp ≡ false) named × AreInOrder named
+
 -- new cells stand by rising counts
 abbrev pub CountsRise : List (Cell ℕ) → Type 0
 CountsRise [] = Unit {0}
 CountsRise (cell ∷ cells) = AllByRecursion (λ later. cell.stamp.count < later.stamp.count) cells × CountsRise cells
+
+-- a copy of one of some cells is in the state of that cell after the entries on its character
+pub record IsWritten (old : TagStates) (named : List Named) (cells : List (Cell ℕ)) (new : TagStates) (copy : Cell ℕ) : Type 0 where
+  pub given : IsState new copy.state
+  pub written : (cell : Cell ℕ) → cell_of cells copy.stamp ≡ Some cell
+      → state_at new copy.state ≡ state_after (state_at old cell.state) (writes_at old (entries_on named copy.stamp))
+
+-- one of the copies is that of a stamp, if one of the cells is
+abbrev pub IsCopied : List (Cell ℕ) → List (Cell ℕ) → Stamp → Type 0
+IsCopied cells copies stamp = is_among (stamps_of cells) stamp ≡ true → is_among (stamps_of copies) stamp ≡ true

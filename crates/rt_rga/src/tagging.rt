@@ -19,7 +19,10 @@ use rt_tags::{StateId, StateTable, TagId};
 use std::alloc::Global;
 
 /// Adds a cell, if there is one. Want of memory.
-fn push_found(cell: Option<Cell<StateId>>, cells: &mut Vec<Cell<StateId>>) -> Result<(), Fault>
+pub(crate) fn push_found(
+    cell: Option<Cell<StateId>>,
+    cells: &mut Vec<Cell<StateId>>,
+) -> Result<(), Fault>
     ensures ok { OnOk result (cells.new.items ≡ cells.old.items ++ listed cell) }
     ensures fault { IfErr result (λ fault. fault ≡ Fault.NoMemory) }
 {
@@ -113,7 +116,7 @@ fn goes_on(span: Span, state: StateId, cell: Cell<StateId>) -> bool
 }
 
 /// Runs of cells: of those in the order of their sites and counts the longest ones. Want of memory.
-fn state_runs(alloc: Global, cells: &[Cell<StateId>]) -> Result<Vec<StateRun>, Fault>
+pub(crate) fn state_runs(alloc: Global, cells: &[Cell<StateId>]) -> Result<Vec<StateRun>, Fault>
     ensures ok { IfOk result (λ runs. (cell : StoreCell ℕ) → put_back_in_any runs.items cell ≡ put_back cells.now cell) }
     ensures few { IfOk result (λ runs. length runs.items ≤ length cells.now) }
     ensures given { IfOk result (λ runs. (table : TagStates) → AreStates table cells.now → All (λ run. IsState table run.state) runs.items) }

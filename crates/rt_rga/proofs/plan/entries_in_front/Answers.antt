@@ -1,0 +1,18 @@
+use Rattle.std.proofs.Common.{◌≡◌, ◌∙◌, ◌+◌, ◌++◌, ◌∷◌, [], ap, append_assoc, drop, map, rules, sym, true}
+use Rattle.std.specs.List.{take_while}
+use Rattle.rt_stamps.specs.Stamps.{is_same}
+use Rattle.rt_rga.proofs.PlannedEntries.{front_from}
+use Rattle.rt_rga.proofs.plan.entries_in_front.Goals as goal
+
+pub loop-n-preserved : goal.loop-n-preserved
+loop-n-preserved c =
+    let named = c.args.named.now in
+    let stamp = c.args.stamp in
+    let i = c.loop-n.n-index in
+    let n = c.n-item.result in
+    let rest = map (λ n. n.entry) (take_while (λ n. is_same n.stamp stamp) (drop (i + 1) named)) in
+    let t : is_same n.stamp stamp ≡ true = search rules in
+    ap (λ items. items ++ rest) c.in_ok-push.ensures.items
+    ∙ append_assoc c.loop-n.entries.items (n.entry ∷ []) rest
+    ∙ ap (λ es. c.loop-n.entries.items ++ es) (sym (front_from named stamp i n c.loop-n-test.true c.n-item.is t))
+    ∙ c.loop-n.invariant
