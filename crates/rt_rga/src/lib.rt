@@ -7,6 +7,8 @@ mod edits;
 pub mod examples;
 pub mod laws;
 mod make;
+#[cfg(test)]
+mod make_tests;
 mod plan;
 pub mod replica;
 mod tagging;
