@@ -21,6 +21,7 @@ pub mod PlacesAt
 pub mod Planned
 pub mod PlannedEntries
 pub mod PlannedStates
+pub mod PlannedSteps
 pub mod Pushing
 pub mod Relation
 pub mod Replicas
