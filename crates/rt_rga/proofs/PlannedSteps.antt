@@ -1,5 +1,5 @@
 -- From planned states to the cells after operations: Inserts and Deletes in turn, and then the states of all cells.
-use Rattle.std.proofs.Common.{◌≡◌, ℕ, suc, ◌+◌, ◌<◌, ◌≤◌, Bool, true, false, ◌||◌, All, refl, sym, ap, subst, ◌∙◌, arith, List, [], ◌∷◌, ◌++◌, cond, length, map, take, drop, get_or}
+use Rattle.std.proofs.Common.{◌≡◌, ℕ, ◌+◌, ◌<◌, ◌≤◌, Bool, true, false, ◌||◌, All, refl, sym, ap, ◌∙◌, arith, List, [], ◌∷◌, ◌++◌, cond, length, map, take, drop, get_or}
 use Rattle.std.specs.List.{AllByRecursion}
 use Rattle.std.proofs.lemmas.Bool.Decides.{nat_tests}
 use Rattle.std.proofs.lemmas.List.{take_more}
