@@ -24,6 +24,7 @@ pub mod PlacesAt
 pub mod Planned
 pub mod PlannedEntries
 pub mod PlannedStates
+pub mod PlannedSteps
 pub mod Pushing
 pub mod Putting
 pub mod Relation

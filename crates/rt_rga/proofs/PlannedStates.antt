@@ -21,7 +21,7 @@ use Rattle.rt_tags.specs.Writers.{state_after}
 use Rattle.rt_oplog.specs.Operations.{Operation}
 use Rattle.rt_rga.specs.declared.plan.Named.{Named}
 use Rattle.rt_rga.specs.declared.tagging.StateRun.{StateRun}
-use Rattle.rt_rga.specs.Batches.{AreInOrder, CountsRise, IsCopied, IsWritten, after_tags, entries_on, tag_writes}
+use Rattle.rt_rga.specs.Batches.{AreInOrder, CountsRise, IsCopied, HasEntries, after_tags, entries_on, tag_writes}
 use Rattle.rt_rga.specs.Runs.{listed, put_back, put_back_in_any}
 use Rattle.rt_rga.proofs.PlannedEntries.{writes_kept}
 use Rattle.rt_rga.proofs.Skipping.{split}
@@ -141,25 +141,25 @@ found_given table cells s c h e = by cells (recursion_from_All (λ (cell : Cell 
 
 -- a copy that was written in a later table, and then a still later one
 pub written_since : (old now new : TagStates) (named : List Named) (cells : List (Cell ℕ)) (copy : Cell ℕ) → KeepsIds old now → AreStates old cells → All (λ n. IsTag old n.entry.tag) named
-    → IsWritten now named cells new copy → IsWritten old named cells new copy
+    → HasEntries now named cells new copy → HasEntries old named cells new copy
 written_since old now new named cells copy k h t w = record {
   given = w.given;
   written = λ cell e. w.written cell e ∙ (λ i. state_after ((k.states cell.state (found_given old cells copy.stamp cell h e)).1 i) (writes_kept old now named copy.stamp k t i));
 }
 
-written_later : (old now new : TagStates) (named : List Named) (cells : List (Cell ℕ)) (copy : Cell ℕ) → KeepsIds now new → IsWritten old named cells now copy → IsWritten old named cells new copy
+written_later : (old now new : TagStates) (named : List Named) (cells : List (Cell ℕ)) (copy : Cell ℕ) → KeepsIds now new → HasEntries old named cells now copy → HasEntries old named cells new copy
 written_later old now new named cells copy k w = record {
   given = (k.states copy.state w.given).0;
   written = λ cell e. (k.states copy.state w.given).1 ∙ w.written cell e;
 }
 
-pub all_later : (old now new : TagStates) (named : List Named) (cells copies : List (Cell ℕ)) → KeepsIds now new → All (IsWritten old named cells now) copies → All (IsWritten old named cells new) copies
-all_later old now new named cells copies k h = All-weaker (IsWritten old named cells now) (IsWritten old named cells new) (λ copy w. written_later old now new named cells copy k w) copies h
+pub all_later : (old now new : TagStates) (named : List Named) (cells copies : List (Cell ℕ)) → KeepsIds now new → All (HasEntries old named cells now) copies → All (HasEntries old named cells new) copies
+all_later old now new named cells copies k h = All-weaker (HasEntries old named cells now) (HasEntries old named cells new) (λ copy w. written_later old now new named cells copy k w) copies h
 
 -- PUT BACK
 
 put_written : (mid new : TagStates) (named : List Named) (cells copies : List (Cell ℕ)) (cell : Cell ℕ) → KeepsIds mid new → IsState mid cell.state → cell_of cells cell.stamp ≡ Some cell
-    → AllByRecursion (IsWritten mid named cells new) copies → (is_among (stamps_of copies) cell.stamp ≡ false → entries_on named cell.stamp ≡ [])
+    → AllByRecursion (HasEntries mid named cells new) copies → (is_among (stamps_of copies) cell.stamp ≡ false → entries_on named cell.stamp ≡ [])
     → state_at new (put_back copies cell).state ≡ state_after (state_at mid cell.state) (writes_at mid (entries_on named cell.stamp))
 put_written mid new named cells [] cell k g e h n = (k.states cell.state g).1 ∙ sym (ap (λ es. state_after (state_at mid cell.state) (writes_at mid es)) (n refl))
 put_written mid new named cells (copy ∷ copies) cell k g e h n = split (is_same copy.stamp cell.stamp)
@@ -227,11 +227,11 @@ copied_more cells named copies at found l f h k d m n e = split (nat_lt k at)
     ]
 
 pub written_more : (old now new : TagStates) (named : List Named) (cells copies : List (Cell ℕ)) (found : Option (Cell ℕ)) → KeepsIds old now → KeepsIds now new → AreStates old cells
-    → All (λ n. IsTag old n.entry.tag) named → All (IsWritten old named cells now) copies → IfSome found (IsWritten now named cells new) → All (IsWritten old named cells new) (copies ++ listed found)
-written_more old now new named cells copies None k m h t w f = All-append (IsWritten old named cells new) copies [] (all_later old now new named cells copies m w) (All-nil (IsWritten old named cells new))
+    → All (λ n. IsTag old n.entry.tag) named → All (HasEntries old named cells now) copies → IfSome found (HasEntries now named cells new) → All (HasEntries old named cells new) (copies ++ listed found)
+written_more old now new named cells copies None k m h t w f = All-append (HasEntries old named cells new) copies [] (all_later old now new named cells copies m w) (All-nil (HasEntries old named cells new))
 written_more old now new named cells copies (Some copy) k m h t w f =
-    All-append (IsWritten old named cells new) copies (copy ∷ []) (all_later old now new named cells copies m w)
-    (All-cons (IsWritten old named cells new) copy [] (written_since old now new named cells copy k h t f) (All-nil (IsWritten old named cells new)))
+    All-append (HasEntries old named cells new) copies (copy ∷ []) (all_later old now new named cells copies m w)
+    (All-cons (HasEntries old named cells new) copy [] (written_since old now new named cells copy k h t f) (All-nil (HasEntries old named cells new)))
 
 pub found_by : (cells : List (Cell ℕ)) (named : List Named) (at : ℕ) (found : Option (Cell ℕ)) → IfSome found (λ copy. (n : Named) → copy.stamp ≡ (get_or named at n).stamp)
     → IfNone found ((n : Named) → ((0 < at) × ((get_or named (at - 1) n).stamp ≡ (get_or named at n).stamp)) ⊎ (cell_of cells (get_or named at n).stamp ≡ None)) → IsFound cells named at found
@@ -270,14 +270,14 @@ module _ (old mid new : TagStates) (named sorted : List Named) (ops : List Opera
     (distinct : AreDistinct cells) (given : AreStates old cells) (first : KeepsIds old mid) (second : KeepsIds mid new)
     (writes : (state : List Write) (s : Stamp) → state_after state (writes_at mid (entries_on named s)) ≡ state_after state (tag_writes ops s))
     (entries : (s : Stamp) → entries_on sorted s ≡ entries_on named s)
-    (written : All (IsWritten mid sorted cells new) copies)
+    (written : All (HasEntries mid sorted cells new) copies)
     (copied : All (λ n. IsCopied cells copies n.stamp) sorted)
     (back : (cell : Cell ℕ) → put_back_in_any runs cell ≡ put_back copies cell) where
   one_planned : (cell : Cell ℕ) → IsState old cell.state → cell_of cells cell.stamp ≡ Some cell → shown new (put_back_in_any runs cell) ≡ after_tags ops (shown old cell)
   one_planned cell g e =
       let there : is_among (stamps_of cells) cell.stamp ≡ true = sym (stamp_held cells cell.stamp) ∙ ap is_some e in
       let state : state_at new (put_back copies cell).state ≡ state_after (state_at old cell.state) (tag_writes ops cell.stamp) =
-      put_written mid new sorted cells copies cell second (first.states cell.state g).0 e (recursion_from_All (IsWritten mid sorted cells new) copies written)
+      put_written mid new sorted cells copies cell second (first.states cell.state g).0 e (recursion_from_All (HasEntries mid sorted cells new) copies written)
       (λ m. silent cells copies sorted cell.stamp there m (recursion_from_All (λ (n : Named). IsCopied cells copies n.stamp) sorted copied))
       ∙ ap (λ es. state_after (state_at mid cell.state) (writes_at mid es)) (entries cell.stamp)
       ∙ writes (state_at mid cell.state) cell.stamp

@@ -78,7 +78,7 @@ CountsRise [] = Unit {0}
 CountsRise (cell ∷ cells) = AllByRecursion (λ later. cell.stamp.count < later.stamp.count) cells × CountsRise cells
 
 -- a copy of one of some cells is in the state of that cell after the entries on its character
-pub record IsWritten (old : TagStates) (named : List Named) (cells : List (Cell ℕ)) (new : TagStates) (copy : Cell ℕ) : Type 0 where
+pub record HasEntries (old : TagStates) (named : List Named) (cells : List (Cell ℕ)) (new : TagStates) (copy : Cell ℕ) : Type 0 where
   pub given : IsState new copy.state
   pub written : (cell : Cell ℕ) → cell_of cells copy.stamp ≡ Some cell
       → state_at new copy.state ≡ state_after (state_at old cell.state) (writes_at old (entries_on named copy.stamp))

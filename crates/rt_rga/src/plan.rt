@@ -12,7 +12,7 @@ ghost use Rattle.rt_store.specs.Spans.{is_among};
 ghost use Rattle.rt_store.specs.Tagged.{AreStates};
 ghost use Rattle.rt_tags.specs.States.{IsState, IsTag, KeepsIds, Write, state_at, writes_at};
 ghost use Rattle.rt_tags.specs.Writers.{state_after};
-ghost use Rattle.rt_rga.specs.Batches.{AreInOrder, CountsRise, IsCopied, IsWritten, after_tags, entries_on, named_with, tag_writes, tag_writes_by};
+ghost use Rattle.rt_rga.specs.Batches.{AreInOrder, CountsRise, IsCopied, HasEntries, after_tags, entries_on, named_with, tag_writes, tag_writes_by};
 ghost use Rattle.rt_rga.specs.Runs.{put_back, put_back_in_any};
 
 use crate::tagging::{StateRun, push_found, state_runs};
@@ -160,7 +160,7 @@ fn written_cell<S: TextStore>(
     requires counts { CountsRise new.now }
     requires states { AreStates states.old (new.now ++ S.list store.now) }
     ensures stamp { IfOk result (λ found. IfSome found (λ copy. (n : Named) → copy.stamp ≡ (slice_index_or named.now at n).stamp)) }
-    ensures written { IfOk result (λ found. IfSome found (IsWritten states.old named.now (new.now ++ S.list store.now) states.new)) }
+    ensures written { IfOk result (λ found. IfSome found (HasEntries states.old named.now (new.now ++ S.list store.now) states.new)) }
     ensures none { IfOk result (λ found. IfNone found ((n : Named)
         → ((0 < at) × ((slice_index_or named.now (at - 1) n).stamp ≡ (slice_index_or named.now at n).stamp))
         ⊎ (cell_of (new.now ++ S.list store.now) (slice_index_or named.now at n).stamp ≡ None))) }
@@ -200,7 +200,7 @@ fn written_cells<S: TextStore>(
     requires tags { All (λ n. IsTag states.old n.entry.tag) named.now }
     requires counts { CountsRise new.now }
     requires states { AreStates states.old (new.now ++ S.list store.now) }
-    ensures written { IfOk result (λ copies. All (IsWritten states.old named.now (new.now ++ S.list store.now) states.new) copies.items) }
+    ensures written { IfOk result (λ copies. All (HasEntries states.old named.now (new.now ++ S.list store.now) states.new) copies.items) }
     ensures all { IfOk result (λ copies. All (λ n. IsCopied (new.now ++ S.list store.now) copies.items n.stamp) named.now) }
     ensures ids { KeepsIds states.old states.new }
     ensures fault { IfErr result (λ fault. fault ≡ Fault.NoMemory) }

@@ -1,7 +1,7 @@
 use Rattle.std.proofs.Common.{◌++◌, ◌+◌, ℕ, All, List, subst, sym}
 use Rattle.rt_store.specs.declared.cell.Cell.{Cell}
 use Rattle.rt_store.proofs.GivenStates.{kept_states}
-use Rattle.rt_rga.specs.Batches.{IsWritten}
+use Rattle.rt_rga.specs.Batches.{HasEntries}
 use Rattle.rt_rga.proofs.Listing.{keeps_both}
 use Rattle.rt_rga.proofs.PlannedEntries.{tags_kept}
 use Rattle.rt_rga.proofs.PlannedStates.{AreCopied, copied_more, found_by, written_more}
@@ -23,7 +23,7 @@ loop-at-preserved g c =
     let copies = c.loop-at.copies.items in
     let found = c.in_ok-copy.copy in
     record {
-      written = subst (All (IsWritten old named cells new)) (sym c.in_ok-push_found.ensures.ok)
+      written = subst (All (HasEntries old named cells new)) (sym c.in_ok-push_found.ensures.ok)
           (written_more old now new named cells copies found c.loop-at.invariant.ids c.written_cell.ensures.ids c.requires.states c.requires.tags c.loop-at.invariant.written c.in_ok-copy.ensures.written);
       copied = subst (λ (copies : List (Cell ℕ)). AreCopied cells named copies (c.loop-at.at + 1)) (sym c.in_ok-push_found.ensures.ok)
           (copied_more cells named copies c.loop-at.at found c.loop-at-test.true (found_by cells named c.loop-at.at found c.in_ok-copy.ensures.stamp c.in_ok-copy.ensures.none) c.loop-at.invariant.copied);

@@ -1,6 +1,6 @@
 use Rattle.std.proofs.Common.{◌++◌, All}
 use Rattle.rt_tags.specs.States.{KeepsIds}
-use Rattle.rt_rga.specs.Batches.{IsWritten}
+use Rattle.rt_rga.specs.Batches.{HasEntries}
 use Rattle.rt_rga.proofs.PlannedStates.{AreCopied}
 use Rattle.rt_rga.proofs.plan.written_cells.Given as goal
 
@@ -8,7 +8,7 @@ abbrev pub invariant-loop-at : goal.invariant-loop-at
 invariant-loop-at g l =
     let cells = l.new ++ g.S.TextStore.list l.store in
     record {
-      written : All (IsWritten l.initial.states l.named cells l.states) l.copies.items;
+      written : All (HasEntries l.initial.states l.named cells l.states) l.copies.items;
       copied : AreCopied cells l.named l.copies.items l.at;
       ids : KeepsIds l.initial.states l.states;
     }
