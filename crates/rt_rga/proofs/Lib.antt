@@ -24,7 +24,6 @@ pub mod PlacesAt
 pub mod Planned
 pub mod PlannedEntries
 pub mod PlannedStates
-pub mod PlannedSteps
 pub mod Pushing
 pub mod Putting
 pub mod Relation
