@@ -17,9 +17,11 @@ pub mod Limits
 pub mod Listing
 pub mod Merging
 pub mod Orders
+pub mod PlaceRuns
 pub mod PlacesAt
 pub mod Pushing
 pub mod Relation
+pub mod RemovedPlaces
 pub mod Replicas
 pub mod Requests
 pub mod Rising

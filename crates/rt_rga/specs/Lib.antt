@@ -9,6 +9,7 @@ pub mod Laws
 pub mod Names
 pub mod Orders
 pub mod Reading
+pub mod Removed
 pub mod Replicas
 pub mod Requests
 pub mod Runs

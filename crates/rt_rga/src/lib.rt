@@ -6,6 +6,7 @@ mod describe;
 mod edits;
 pub mod examples;
 pub mod laws;
+mod removed;
 pub mod replica;
 mod tagging;
 pub mod taken;
@@ -13,4 +14,4 @@ pub mod taken;
 mod tests;
 
 pub use replica::Replica;
-pub use taken::{Change, Taken};
+pub use taken::{Change, PlaceRun, Taken};

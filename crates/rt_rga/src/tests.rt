@@ -1,5 +1,5 @@
 // Operations of a few sites, offered in each order that is allowed, each twice.
-use crate::{Replica, Taken};
+use crate::{Change, PlaceRun, Replica, Taken};
 use rt_oplog::Op;
 use rt_stamps::{Fault, Site, Span, Stamp};
 use rt_store::{ListStore, TextStore};
@@ -14,6 +14,7 @@ enum Does {
     Inserts((u64, u16), &'static [char]),
     InsertsTagged((u64, u16), &'static [char]),
     Deletes((u16, u64, u64)),
+    DeletesBoth((u16, u64, u64), (u16, u64, u64)),
     Tags(bool, (u16, u64, u64)),
 }
 
@@ -53,6 +54,10 @@ fn op(alloc: Global, made: Made) -> Result<Op, Fault> {
             Op::insert(at, prev, stamp(after), one(alloc, tag)?, text)
         }
         Does::Deletes(named) => Op::delete(at, prev, one(alloc, span(named))?),
+        Does::DeletesBoth(named, other) => {
+            let spans = Vec::from_slice(alloc, &[span(named), span(other)])?;
+            Op::delete(at, prev, spans)
+        }
         Does::Tags(on, named) => Op::tag(at, prev, on, tag, one(alloc, span(named))?),
     }
 }
@@ -104,6 +109,21 @@ impl Peer {
                 Err(fault) => Said::Refused(fault),
             },
             Err(fault) => Said::Refused(fault),
+        }
+    }
+
+    // Offers an operation that is new, and tells what it takes away.
+    fn takes_away(&mut self, made: Made) -> Result<Vec<PlaceRun>, Fail> {
+        match self.replica.accept(op(self.alloc, made)?)? {
+            Taken::New(
+                Change {
+                    place: _,
+                    inserted: _,
+                    removed,
+                    lists: _,
+                },
+            ) => Ok(removed),
+            Taken::Repeat => Err(Fail::from("it is new")),
         }
     }
 
@@ -345,6 +365,48 @@ const LONG_SPANS: &[(Made, Said)] = &[
         Said::Refused(Fault::BadTarget),
     ),
 ];
+
+/// Operations that are offered in turn, and the runs of places that each takes away.
+type Removal = (Made, &'static [PlaceRun]);
+
+// After `abcXYdef`: `b` alone; then `a` and `c` beside it with `Y` and `d`, while `b` is gone already;
+// then `e`, by a site that doesn't know that `c` and `d` are gone.
+const REMOVALS: &[Removal] = &[
+    (
+        (
+            1,
+            1,
+            0,
+            Does::Inserts((0, 0), &['a', 'b', 'c', 'd', 'e', 'f']),
+        ),
+        &[],
+    ),
+    ((7, 2, 0, Does::Inserts((3, 1), &['X', 'Y'])), &[]),
+    (
+        (9, 3, 0, Does::Deletes((1, 2, 2))),
+        &[PlaceRun { from: 1, to: 2 }],
+    ),
+    (
+        (10, 3, 9, Does::DeletesBoth((1, 1, 4), (2, 8, 8))),
+        &[PlaceRun { from: 3, to: 5 }, PlaceRun { from: 0, to: 2 }],
+    ),
+    ((9, 2, 8, Does::Tags(true, (1, 3, 5))), &[]),
+    (
+        (10, 2, 9, Does::Deletes((1, 3, 5))),
+        &[PlaceRun { from: 1, to: 2 }],
+    ),
+    ((11, 2, 10, Does::Deletes((1, 3, 5))), &[]),
+];
+
+#[test]
+fn removals(rt: HostRuntime) -> Result<(), Fail> {
+    let mut peer = Peer::new(rt.alloc(), 100)?;
+    for (made, runs) in REMOVALS {
+        assert_eq!(rt; peer.takes_away(*made)?.as_slice(), *runs);
+    }
+    assert_eq!(rt; peer.text()?.as_str(), "Xf\n");
+    Ok(())
+}
 
 #[test]
 fn changes(rt: HostRuntime) -> Result<(), Fail> {
