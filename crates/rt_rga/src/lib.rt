@@ -6,6 +6,8 @@ mod describe;
 mod edits;
 pub mod examples;
 pub mod laws;
+#[cfg(test)]
+mod random_tests;
 mod removed;
 pub mod replica;
 mod tagging;

@@ -10,7 +10,7 @@ use std::test::Fail;
 /// What an operation of the examples does. A stamp is its count and site, a span its site, first and
 /// last count.
 #[derive(Clone, Copy)]
-enum Does {
+pub(crate) enum Does {
     Inserts((u64, u16), &'static [char]),
     InsertsTagged((u64, u16), &'static [char]),
     Deletes((u16, u64, u64)),
@@ -19,7 +19,7 @@ enum Does {
 }
 
 /// An operation of the examples: its count, site and `prev`, and what it does. Its tag is `t`.
-type Made = (u64, u16, u64, Does);
+pub(crate) type Made = (u64, u16, u64, Does);
 
 fn one<T>(alloc: Global, item: T) -> Result<Vec<T>, Fault>
 where
@@ -65,7 +65,7 @@ fn op(alloc: Global, made: Made) -> Result<Op, Fault> {
 /// What is answered to an operation: of a new one the place, how many characters it inserted and how
 /// many tags it lists.
 #[derive(Clone, Copy, Debug, PartialEq, Eq)]
-enum Said {
+pub(crate) enum Said {
     New(usize, usize, usize),
     Repeat,
     Refused(Fault),
@@ -79,9 +79,9 @@ fn told(taken: Taken) -> Said {
 }
 
 /// A replica of site 9.
-struct Peer {
+pub(crate) struct Peer {
     alloc: Global,
-    replica: Replica<ListStore>,
+    pub(crate) replica: Replica<ListStore>,
 }
 
 // Written out, so that each way out of a test lets a peer go in one step of its proof.
@@ -95,14 +95,14 @@ impl Drop for Peer {
 }
 
 impl Peer {
-    fn new(alloc: Global, limit: usize) -> Result<Peer, Fail> {
+    pub(crate) fn new(alloc: Global, limit: usize) -> Result<Peer, Fail> {
         let site = Site::new(9).ok_or("a site")?;
         let store = ListStore::new(alloc)?;
         let replica = Replica::new(alloc, store, site, limit.max(1).min(1_000))?;
         Ok(Peer { alloc, replica })
     }
 
-    fn offer(&mut self, made: Made) -> Said {
+    pub(crate) fn offer(&mut self, made: Made) -> Said {
         match op(self.alloc, made) {
             Ok(op) => match self.replica.accept(op) {
                 Ok(taken) => told(taken),
@@ -137,11 +137,11 @@ impl Peer {
         Ok(text)
     }
 
-    // The first place with the tag `t`.
-    fn tagged(&self) -> Option<usize> {
+    // The first place from one up with the tag `t`.
+    pub(crate) fn tagged_from(&self, place: usize) -> Option<usize> {
         let states = self.replica.states();
         match states.known("t") {
-            Some(tag) => self.replica.store().next_tagged(states, tag, 0),
+            Some(tag) => self.replica.store().next_tagged(states, tag, place),
             None => None,
         }
     }
@@ -264,7 +264,7 @@ fn come_out(rt: &impl Abort, alloc: Global, rows: &[Row]) -> Result<(), Fail> {
         offer_twice(rt, &mut peer, all);
         assert_eq!(rt; peer.text()?.as_str(), *text);
         assert_eq!(rt; peer.replica.store().cells(), *cells);
-        assert_eq!(rt; peer.tagged(), *tagged);
+        assert_eq!(rt; peer.tagged_from(0), *tagged);
         assert_eq!(rt; peer.untagged(), *untagged);
     }
     Ok(())
