@@ -9,6 +9,7 @@ tests/bench.py lists [PROGRAM [BYTES]]: times the commands that take lists of na
 million if no number is given.
 tests/bench.py spans: times the map over spans beside Rust's BTreeMap, which is left out where there is no rustc.
 tests/bench.py nodes: times calls of node memory, in a program of its own, tests/bench/nodes, which rt proves and builds.
+tests/bench.py replica: times a replica over the plain list that accepts typed text, in a program of its own, tests/bench/replica.
 """
 import filecmp
 import os
@@ -21,7 +22,7 @@ import tempfile
 import time
 
 ROOT = os.path.dirname(os.path.dirname(os.path.abspath(__file__)))
-MODE = sys.argv[1] if sys.argv[1:2] and sys.argv[1] in ("lists", "spans", "nodes") else ""
+MODE = sys.argv[1] if sys.argv[1:2] and sys.argv[1] in ("lists", "spans", "nodes", "replica") else ""
 WORDS = sys.argv[2:] if MODE else sys.argv[1:]
 PROGRAM = WORDS[0] if WORDS else os.path.join(ROOT, "crates", "peertext", "out", "peertext")
 OPERATIONS = int(WORDS[1]) if len(WORDS) > 1 else 1_000_000
@@ -168,5 +169,14 @@ def nodes():
         return subprocess.call(["rt", "run"], cwd=laid(folder, "nodes", "bench_nodes", "rt_stamps", "rt_nodes"))
 
 
+def replica():
+    """Proves and builds tests/bench/replica, a program over rt_rga, and runs it for two numbers of operations."""
+    with tempfile.TemporaryDirectory() as folder:
+        ours = laid(folder, "replica", "bench_replica", "rt_stamps", "rt_tags", "rt_store", "rt_oplog", "rt_rga")
+        subprocess.run(["rt", "run"], cwd=ours, stdout=subprocess.DEVNULL, check=True)
+        program = os.path.join(ours, "out", "bench_replica")
+        return max(subprocess.call([program, str(operations)]) for operations in (20_000, 40_000))
+
+
 if __name__ == "__main__":
-    sys.exit({"lists": lists, "spans": spans, "nodes": nodes, "": main}[MODE]())
+    sys.exit({"lists": lists, "spans": spans, "nodes": nodes, "replica": replica, "": main}[MODE]())

@@ -1,12 +1,12 @@
 -- What the code asks about named stamps.
-use Rattle.std.proofs.Common.{◌≡◌, ℕ, zero, suc, ◌+◌, ◌-◌, ◌<◌, ◌≤◌, Bool, true, false, not, refl, sym, ap, ◌∙◌, arith, List, [], ◌∷◌, ◌++◌, cond, ◌||◌, ◌&&◌, ◌==◌, nat_lt, nat_le, min, length, Some, Ok, Err, Result}
+use Rattle.std.proofs.Common.{◌≡◌, ℕ, zero, suc, ◌+◌, ◌-◌, ◌<◌, ◌≤◌, Bool, true, false, not, refl, sym, ap, ◌∙◌, arith, List, [], ◌∷◌, ◌++◌, cond, ◌||◌, ◌&&◌, ◌==◌, nat_lt, nat_le, Some, Ok, Err, Result}
 use Rattle.std.proofs.lemmas.Bool.Decides.{nat_tests}
 use Rattle.std.proofs.lemmas.List.Folds.{list_any-append}
 use Rattle.std.specs.List.{find, list_any, list_all}
 use Rattle.std.specs.Option.{is_some}
 use Rattle.rt_stamps.specs.declared.stamp.Span.{Span}
 use Rattle.rt_stamps.specs.declared.stamp.Stamp.{Stamp}
-use Rattle.rt_stamps.specs.declared.stamp.TheConstants.{FINAL, ROOT}
+use Rattle.rt_stamps.specs.declared.stamp.TheConstants.{FINAL}
 use Rattle.rt_stamps.specs.Stamps.{is_same}
 use Rattle.rt_stamps.proofs.Order.{same_sym, same_from_true}
 use Rattle.rt_stamps.specs.declared.fault.Fault.{Fault}
@@ -14,7 +14,7 @@ use Rattle.rt_stamps.specs.declared.fault.Fault.TheVariants.{BadStamp}
 use Rattle.rt_oplog.specs.Operations.{Operation, Body, Insert, Delete, Tag, has_bad_stamp, soundness, stamps_from, stamps_of_span, stamps_in}
 use Rattle.rt_oplog.specs.Logs.{known_end}
 use Rattle.rt_store.specs.declared.cell.Cell.{Cell}
-use Rattle.rt_rga.specs.Histories.{IsHistory, has_character, is_known, may_name}
+use Rattle.rt_rga.specs.Histories.{has_character, is_known, may_name}
 use Rattle.rt_rga.specs.Answers.{Answer, Refused, answer_to, can_never_be_known, has_gap, up_to}
 use Rattle.rt_rga.specs.Kept.{AreCellsOf, goes_past, is_kept_character}
 use Rattle.rt_rga.proofs.Corollaries.{cells_have, no_final}

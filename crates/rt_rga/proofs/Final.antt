@@ -1,17 +1,15 @@
 -- The final newline is the last cell of a history, and where an operation finds its places.
-use Rattle.std.proofs.Common.{◌≡◌, ℕ, ◌+◌, ◌-◌, ◌<◌, Bool, true, false, ◌⊎◌, inl, inr, refl, sym, ap, subst, ◌∙◌, arith, Some, None, List, [], ◌∷◌, ◌++◌, cond, map, length, nat_lt}
-use Rattle.std.specs.Prelude.{slice_get, option_map, IsSome, IsTrue, unwrap_or}
+use Rattle.std.proofs.Common.{◌≡◌, ℕ, ◌-◌, ◌<◌, true, false, ◌⊎◌, inl, inr, refl, sym, ap, subst, ◌∙◌, arith, Some, List, [], ◌∷◌, ◌++◌, map, length}
+use Rattle.std.specs.Prelude.{slice_get, option_map}
 use Rattle.std.proofs.lemmas.Bool.Decides.{nat_tests}
-use Rattle.std.proofs.lemmas.Bool.{lt-ltb}
 use Rattle.std.proofs.lemmas.List.{length-append, map-append}
-use Rattle.std.specs.List.{AllByRecursion, position_or_len}
+use Rattle.std.specs.List.{AllByRecursion}
 use Rattle.rt_stamps.specs.declared.stamp.Span.{Span}
 use Rattle.rt_stamps.specs.declared.stamp.Stamp.{Stamp}
 use Rattle.rt_stamps.specs.declared.stamp.TheConstants.{FINAL, ROOT}
 use Rattle.rt_stamps.specs.Stamps.{is_before, is_same}
 use Rattle.rt_stamps.proofs.Order.{before_asym, same_refl, same_sym}
-use Rattle.rt_store.specs.declared.cell.Cell.{Cell}
-use Rattle.rt_store.specs.Cells.{EndsFinal, final_cell, IsPlaced, map_state, skip_from, stamps_of, StandsBefore}
+use Rattle.rt_store.specs.Cells.{EndsFinal, final_cell, IsPlaced, map_state, stamps_of}
 use Rattle.rt_oplog.specs.Operations.{Operation, Body, Insert, Delete, Tag, Name, stamp_of}
 use Rattle.rt_rga.specs.Reading.{Character, descendants, reading_by_stamp, with_character, with_characters}
 use Rattle.rt_rga.specs.Histories.{Continues, IsHistory, characters, characters_from, final_character, has_character, inserted, inserted_by}
@@ -24,7 +22,7 @@ use Rattle.rt_rga.proofs.Writes.{not_gone, spans_name}
 use Rattle.rt_rga.proofs.Merging.{cells_are, known_after}
 use Rattle.rt_store.specs.Spans.{is_among, is_in_spans, next_stamp}
 use Rattle.rt_store.specs.Shown.{TaggedCell}
-use Rattle.rt_store.proofs.Places.{past, past_after, skip_is, skip_short, stands}
+use Rattle.rt_store.proofs.Places.{skip_short, stands}
 use Rattle.rt_rga.proofs.Corollaries.{cells_have, no_final}
 
 -- THE LEAST CHARACTER, WHICH HAS NO CHILDREN

@@ -20,6 +20,7 @@ pub mod Listing
 pub mod Making
 pub mod Merging
 pub mod Orders
+pub mod PlaceRuns
 pub mod PlacesAt
 pub mod Planned
 pub mod PlannedEntries
@@ -27,6 +28,7 @@ pub mod PlannedStates
 pub mod Pushing
 pub mod Putting
 pub mod Relation
+pub mod RemovedPlaces
 pub mod Replicas
 pub mod Requests
 pub mod Rising

@@ -1,7 +1,6 @@
 -- The place of a position, and the numbers of names.
-use Rattle.std.proofs.Common.{◌≡◌, ℕ, zero, suc, ◌+◌, ◌<◌, Bool, true, false, not, refl, sym, ap, ◌∙◌, arith, get_or, Some, None, List, [], ◌∷◌, ◌++◌, cond, length, map, take, All}
+use Rattle.std.proofs.Common.{◌≡◌, ℕ, zero, suc, ◌+◌, ◌<◌, true, false, not, refl, sym, ap, ◌∙◌, arith, get_or, Some, None, List, [], ◌∷◌, ◌++◌, cond, length, map, take, All}
 use Rattle.std.specs.Prelude.{nat_lt, slice_get, option_map}
-use Rattle.std.proofs.lemmas.Bool.{cases_lt}
 use Rattle.std.proofs.lemmas.Bool.Decides.{nat_tests}
 use Rattle.std.proofs.lemmas.List.{take_more}
 use Rattle.std.proofs.lemmas.List.Elements.{All-append, All-cons, All-from_recursion, All-nil, recursion_from_All}

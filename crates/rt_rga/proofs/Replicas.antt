@@ -1,18 +1,17 @@
 -- What is kept of a history, after one more operation.
-use Rattle.std.proofs.Common.{suc, ◌≡◌, ℕ, ◌+◌, Bool, true, false, not, get_or, refl, sym, ap, subst, ◌∙◌, arith, Some, None, List, [], ◌∷◌, ◌++◌, cond, map, length, take, drop}
-use Rattle.std.specs.Prelude.{take_while, position, unwrap_or, nat_lt}
-use Rattle.std.proofs.lemmas.List.{length-append, length-map, drop-map, take-append-drop}
-use Rattle.std.proofs.lemmas.List.Elements.{All-append, All-drop, All-from_recursion, All-map, All-take, recursion_from_All}
-use Rattle.std.specs.List.{AllByRecursion, position_or_len}
+use Rattle.std.proofs.Common.{◌≡◌, ℕ, ◌+◌, Bool, sym, ap, subst, ◌∙◌, arith, List, [], ◌∷◌, ◌++◌, map, length, take, drop}
+use Rattle.std.proofs.lemmas.List.{length-map}
+use Rattle.std.proofs.lemmas.List.Elements.{All-append, All-drop, All-from_recursion, All-take}
+use Rattle.std.specs.List.{AllByRecursion}
 use Rattle.rt_stamps.specs.declared.stamp.Span.{Span}
 use Rattle.rt_stamps.specs.declared.stamp.Stamp.{Stamp}
 use Rattle.rt_stamps.specs.declared.stamp.TheConstants.{ROOT}
-use Rattle.rt_stamps.specs.Stamps.{is_before, is_same}
+use Rattle.rt_stamps.specs.Stamps.{is_same}
 use Rattle.rt_store.specs.declared.cell.Cell.{Cell}
-use Rattle.rt_store.specs.Cells.{after_element, AreDistinct, cells_from, IsPlaced, map_state, put_at, skip_from, stamps_of, StandsBefore}
+use Rattle.rt_store.specs.Cells.{AreDistinct, cells_from, IsPlaced, map_state, put_at, skip_from, StandsBefore}
 use Rattle.rt_store.specs.Tagged.{AreStates}
 use Rattle.rt_store.proofs.GivenStates.{kept_states}
-use Rattle.rt_store.proofs.Shown.{after_shown, distinct_from_shown, from_shown, gone_shown, position_map, shown_later, skip_shown, stamps_shown}
+use Rattle.rt_store.proofs.Shown.{after_shown, distinct_from_shown, from_shown, gone_shown, position_map, shown_later, skip_shown}
 use Rattle.rt_tags.specs.States.{IsState, KeepsIds, TagStates, state_at}
 use Rattle.rt_tags.specs.Writers.{listed_by, state_after}
 use Rattle.rt_oplog.specs.Operations.{Operation, Body, Insert, Delete, Tag, Name, stamp_of}
@@ -24,9 +23,8 @@ use Rattle.rt_rga.specs.Replicas.{IsReplica}
 use Rattle.rt_rga.proofs.Corollaries.{cells_distinct}
 use Rattle.rt_rga.proofs.Histories.{history_with}
 use Rattle.rt_rga.proofs.Merging.{cells_with, map_put}
-use Rattle.rt_store.specs.Spans.{gone_in_any, is_in_spans}
+use Rattle.rt_store.specs.Spans.{gone_in_any}
 use Rattle.rt_store.specs.Shown.{shown, TaggedCell}
-use Rattle.rt_store.proofs.Places.{length_from, length_put, past, past_is}
 use Rattle.rt_store.proofs.Gone.{all_gone_states as gone_states}
 use Rattle.rt_rga.proofs.Final.{placed_insert}
 

@@ -1,5 +1,5 @@
 -- Several characters, characters_from one after another.
-use Rattle.std.proofs.Common.{◌≡◌, ℕ, suc, true, false, inl, inr, refl, sym, ap, ◌∙◌, arith, List, [], ◌∷◌, ◌++◌, cond, append_assoc, ◌||◌, take, drop, map}
+use Rattle.std.proofs.Common.{◌≡◌, ℕ, suc, true, false, inl, inr, refl, sym, ap, ◌∙◌, arith, List, [], ◌∷◌, ◌++◌, append_assoc, ◌||◌, take, drop, map}
 use Rattle.std.proofs.lemmas.Bool.Decides.{nat_tests}
 use Rattle.std.proofs.lemmas.List.Folds.{list_any-append}
 use Rattle.std.proofs.lemmas.List.{take-append-drop}

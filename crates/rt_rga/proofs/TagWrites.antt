@@ -1,13 +1,13 @@
 -- A Tag on cells: the named cells are found, written on, and put back.
-use Rattle.std.proofs.Common.{◌≡◌, ℕ, suc, ◌+◌, ◌-◌, ◌<◌, Bool, true, false, refl, sym, ap, subst, ◌∙◌, arith, get_or, Some, None, Option, List, [], ◌∷◌, ◌++◌, cond, ◌||◌, length, map, take, append_assoc, All}
+use Rattle.std.proofs.Common.{◌≡◌, ℕ, suc, ◌+◌, ◌-◌, ◌<◌, Bool, true, false, refl, sym, ap, subst, ◌∙◌, arith, get_or, Some, None, Option, List, [], ◌∷◌, ◌++◌, cond, ◌||◌, length, map, take, append_assoc}
 use Rattle.std.proofs.lemmas.List.{take_more}
 use Rattle.std.proofs.lemmas.List.Elements.{All-append, All-cons, All-from_recursion, All-map, All-nil, recursion_from_All}
 use Rattle.std.proofs.lemmas.Map.Keys.{IsDistinct-head, IsDistinct-tail}
-use Rattle.std.specs.List.{AllByRecursion, IsDistinct, flat_map, list_any}
+use Rattle.std.specs.List.{AllByRecursion, IsDistinct, list_any}
 use Rattle.rt_stamps.specs.declared.stamp.Span.{Span}
 use Rattle.rt_stamps.specs.declared.stamp.Stamp.{Stamp}
 use Rattle.rt_stamps.specs.Stamps.{is_same}
-use Rattle.rt_stamps.proofs.Order.{same_refl, same_sym, same_from_true}
+use Rattle.rt_stamps.proofs.Order.{same_refl, same_from_true}
 use Rattle.rt_oplog.specs.Operations.{stamps_from, stamps_in}
 use Rattle.rt_store.specs.declared.cell.Cell.{Cell}
 use Rattle.rt_store.specs.Cells.{AreDistinct, cell_of, map_state, stamps_of, with_state}
@@ -19,7 +19,6 @@ use Rattle.rt_rga.specs.Changes.{written_in_any}
 use Rattle.rt_rga.specs.Runs.{cells_found, listed, put_back, with_write}
 use Rattle.rt_rga.proofs.Skipping.{split}
 use Rattle.rt_store.proofs.Shown.{shown_later}
-use Rattle.rt_store.specs.Spans.{is_in_spans}
 use Rattle.rt_rga.proofs.Writes.{spans_name}
 
 -- WITH OTHER STATES

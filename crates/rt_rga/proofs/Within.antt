@@ -1,9 +1,9 @@
 -- A replica after a call.
-use Rattle.std.proofs.Common.{◌≡◌, ℕ, ◌+◌, ◌≤◌, ◌<◌, Bool, true, false, refl, sym, ap, subst, ◌∙◌, arith, List, length, map, max, Ok, Err, Result}
-use Rattle.std.specs.Prelude.{OnOk, OnErr, nat_lt}
+use Rattle.std.proofs.Common.{◌≡◌, ℕ, ◌+◌, ◌≤◌, Bool, true, false, refl, sym, ap, subst, ◌∙◌, arith, List, length, map, max, Ok, Err, Result}
+use Rattle.std.specs.Prelude.{OnOk, OnErr, nat_lt, Option, Some, None, option_map, slice_get, unwrap_or}
 use Rattle.std.proofs.lemmas.Bool.Decides.{nat_tests}
 use Rattle.rt_stamps.specs.declared.stamp.Stamp.{Stamp}
-use Rattle.rt_oplog.specs.Operations.{Operation, Body, Insert, Name, last_count, stamp_of}
+use Rattle.rt_oplog.specs.Operations.{Operation, Body, Insert, Delete, Tag, Name, last_count, stamp_of}
 use Rattle.rt_oplog.specs.Logs.{with_operation}
 use Rattle.rt_oplog.specs.Rules.{keeps_rules}
 use Rattle.rt_store.specs.declared.cell.Cell.{Cell}
@@ -14,16 +14,19 @@ use Rattle.rt_rga.specs.Cells.{cells_of}
 use Rattle.rt_rga.specs.Histories.{Continues, IsHistory, greatest_last_count, inserted}
 use Rattle.rt_rga.specs.Kept.{AreCellsOf, IsWithin, ReplicaValue}
 use Rattle.rt_rga.specs.Replicas.{IsReplica}
-use Rattle.rt_rga.specs.Taken.{IsChange, place_in}
+use Rattle.rt_rga.specs.Cells.{deletes}
+use Rattle.rt_rga.specs.Taken.{AreFallingRuns, IsChange, takes_away}
 use Rattle.rt_rga.specs.declared.taken.Change.{Change}
 use Rattle.rt_rga.proofs.Accepting.{history_if_new}
 use Rattle.rt_rga.proofs.Counts.{count_with}
 use Rattle.rt_rga.proofs.Histories.{continues_from}
 use Rattle.rt_rga.proofs.PlacesAt.{names_kept, place_shown, tags_kept}
-use Rattle.rt_store.proofs.Shown.{shown_later, stamps_shown}
+use Rattle.rt_store.proofs.Shown.{length_shown, shown_later, stamps_shown, visible_at_shown, visible_shown}
+use Rattle.rt_stamps.specs.declared.stamp.TheConstants.{FINAL}
+use Rattle.rt_rga.proofs.Final.{final_stays}
 use Rattle.rt_store.specs.Shown.{shown, TaggedCell}
-use Rattle.rt_store.specs.Cells.{IsPlaced, stamps_of}
-use Rattle.rt_rga.proofs.Replicas.{replica_later, replica_length, replica_placed}
+use Rattle.rt_store.specs.Cells.{IsPlaced, map_state, stamps_of, visible_of}
+use Rattle.rt_rga.proofs.Replicas.{replica_later, replica_placed}
 
 pub on_ok : {T E : Type 0} {P : Type 0} (r : Result T E) → P → OnOk r P
 on_ok (Ok x) p = p
@@ -76,11 +79,34 @@ pub placed_by : (log : List Operation) (table : TagStates) (kept : List (Cell �
     → (after : Stamp) (tags : List Name) (text : List ℕ) → op.body ≡ Insert after tags text → IsPlaced kept after (stamp_of op)
 placed_by log table kept op r k after tags text e = replica_placed log table kept op after tags text r e k
 
+-- no operation that continues a log takes the final newline away
+pub final_spared : (log : List Operation) (table : TagStates) (kept : List (Cell ℕ)) (op : Operation) → IsReplica log table kept → Continues log op → deletes op.body FINAL ≡ false
+final_spared log table kept op r k = by op.body refl
+  where
+    by : (body : Body) → op.body ≡ body → deletes body FINAL ≡ false
+    by (Insert after tags text) e = refl
+    by (Delete spans) e = final_stays log op spans e r.history k
+    by (Tag on name spans) e = refl
+
+visible_count : {S T : Type 0} (f : S → T) (cells : List (Cell S)) → length (visible_of (map (map_state f) cells)) ≡ length (visible_of cells)
+visible_count {S} {T} f cells = ap (λ (cs : List (Cell T)). length cs) (visible_shown f cells) ∙ length_shown f (visible_of cells)
+
+-- the same characters are taken away, whatever the states stand for
+taken_shown : {S T : Type 0} (f : S → T) (body : Body) (cells : List (Cell S)) (place : ℕ) → takes_away body (map (map_state f) cells) place ≡ takes_away body cells place
+taken_shown {S} {T} f body cells place =
+    ap (λ (o : Option (Cell T)). unwrap_or (option_map (λ cell. deletes body cell.stamp) o) false) (visible_at_shown f cells place) ∙ by (slice_get (visible_of cells) place)
+  where
+    by : (o : Option (Cell S)) → unwrap_or (option_map (λ cell. deletes body cell.stamp) (option_map (map_state f) o)) false ≡ unwrap_or (option_map (λ cell. deletes body cell.stamp) o) false
+    by None = refl
+    by (Some c) = refl
+
 -- a change of kept cells is one of what they show
 pub change_shown : (op : Operation) (table now new : TagStates) (kept : List (Cell ℕ)) (change : Change) → KeepsIds now new → IsChange op kept now change → IsChange op (map (shown table) kept) new change
 change_shown op table now new kept change k c = record {
   first = c.first ∙ sym (place_shown (state_at table) (stamp_of op) op.body kept);
   more = c.more;
+  removed = λ place. c.removed place ∙ sym (taken_shown (state_at table) op.body kept place);
+  runs = subst (λ n. AreFallingRuns n change.removed.items) (sym (visible_count (state_at table) kept)) c.runs;
   names = names_kept now new change.lists.items k c.given ∙ c.names;
   given = tags_kept now new change.lists.items k c.given;
 }

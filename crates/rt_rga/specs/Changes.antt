@@ -1,12 +1,10 @@
 -- What an operation does to cells.
-use Rattle.std.specs.Prelude.{◌≡◌, ◌<◌, true, List, [], map, length, if◌then◌else◌}
+use Rattle.std.specs.Prelude.{List, [], map, if◌then◌else◌}
 use Rattle.rt_stamps.specs.declared.stamp.Span.{Span}
 use Rattle.rt_stamps.specs.declared.stamp.Stamp.{Stamp}
-use Rattle.rt_stamps.specs.declared.stamp.TheConstants.{FINAL, ROOT}
-use Rattle.rt_stamps.specs.Stamps.{is_before}
+use Rattle.rt_stamps.specs.declared.stamp.TheConstants.{ROOT}
 use Rattle.rt_oplog.specs.Operations.{Operation, Body, Insert, Delete, Tag, stamp_of}
-use Rattle.rt_store.specs.declared.cell.Cell.{Cell}
-use Rattle.rt_store.specs.Cells.{cells_from, put_at, skip_from, StandsBefore}
+use Rattle.rt_store.specs.Cells.{cells_from, put_at, skip_from}
 use Rattle.rt_tags.specs.States.{Write, written}
 use Rattle.rt_store.specs.Spans.{gone_in_any, is_in_spans}
 use Rattle.rt_store.specs.Shown.{TaggedCell}

@@ -12,6 +12,7 @@ pub mod Making
 pub mod Names
 pub mod Orders
 pub mod Reading
+pub mod Removed
 pub mod Replicas
 pub mod Requests
 pub mod Runs

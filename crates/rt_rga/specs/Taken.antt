@@ -1,17 +1,17 @@
 -- What taking an operation tells.
-use Rattle.std.specs.Prelude.{◌≡◌, ◌⊎◌, ℕ, List, [], ◌∷◌, length, map, Bool, if◌then◌else◌, Result, Ok, Err}
-use Rattle.std.specs.List.{All}
-use Rattle.rt_stamps.specs.declared.fault.Fault.{Fault}
-use Rattle.rt_stamps.specs.declared.fault.Fault.TheVariants.{NoMemory}
+use Rattle.std.specs.Prelude.{◌≡◌, ℕ, ◌<◌, ◌&&◌, nat_le, nat_lt, List, [], ◌∷◌, length, map, Bool, false, ⊤, if◌then◌else◌, slice_get, option_map, unwrap_or}
+use Rattle.std.specs.List.{All, list_any}
 use Rattle.rt_stamps.specs.declared.stamp.Stamp.{Stamp}
 use Rattle.rt_oplog.specs.Operations.{Operation, Body, Insert, Delete, Tag, Name, stamp_of}
 use Rattle.rt_store.specs.declared.cell.Cell.{Cell}
-use Rattle.rt_store.specs.Cells.{skip_from, visible_before}
+use Rattle.rt_store.specs.Cells.{skip_from, visible_before, visible_of}
 use Rattle.rt_tags.specs.States.{IsTag, TagStates, name_at}
 use Rattle.rt_rga.specs.declared.taken.Change.{Change}
+use Rattle.rt_rga.specs.declared.taken.PlaceRun.{PlaceRun}
 use Rattle.rt_rga.specs.declared.taken.Taken.{Taken}
 use Rattle.rt_rga.specs.declared.taken.Taken.TheVariants as takings
-use Rattle.rt_rga.specs.Answers.{Answer, New, Repeat, Refused}
+use Rattle.rt_rga.specs.Answers.{Answer, New, Repeat}
+use Rattle.rt_rga.specs.Cells.{deletes}
 use Rattle.rt_store.specs.Shown.{TaggedCell}
 use Rattle.rt_rga.specs.Histories.{inserted}
 
@@ -30,10 +30,30 @@ place_by stamp (Tag on name spans) cells = 0
 abbrev pub place_in : {T : Type 0} → Operation → List (Cell T) → ℕ
 place_in op cells = place_by (stamp_of op) op.body cells
 
--- what an operation does to the visible text of cells, and the tags that it lists
+-- an operation takes the character at a place away: it deletes the visible cell there
+abbrev pub takes_away : {T : Type 0} → Body → List (Cell T) → ℕ → Bool
+takes_away body cells place = unwrap_or (option_map (λ cell. deletes body cell.stamp) (slice_get (visible_of cells) place)) false
+
+-- a place is in a run: from its beginning on, and below its end
+abbrev pub is_in_run : PlaceRun → ℕ → Bool
+is_in_run run place = nat_le run.from place && nat_lt place run.to
+
+abbrev pub is_in_runs : List PlaceRun → ℕ → Bool
+is_in_runs runs place = list_any (λ run. is_in_run run place) runs
+
+-- Runs below a place, the last in the text first: none is empty, and a place lies between one and the next, as between the
+-- first and the given place.
+abbrev pub AreFallingRuns : ℕ → List PlaceRun → Type 0
+AreFallingRuns end [] = ⊤
+AreFallingRuns end (run ∷ runs) = (run.from < run.to) × (run.to < end) × AreFallingRuns run.from runs
+
+-- What an operation does to the visible text of cells, and the tags that it lists. Places of what it takes away are those
+-- before the operation; the last place, which is the final newline's, is none of them.
 pub record IsChange {T : Type 0} (op : Operation) (cells : List (Cell T)) (table : TagStates) (change : Change) : Type 0 where
   pub first : change.place ≡ place_in op cells
   pub more : change.inserted ≡ length (inserted op)
+  pub removed : (place : ℕ) → is_in_runs change.removed.items place ≡ takes_away op.body cells place
+  pub runs : AreFallingRuns (length (visible_of cells)) change.removed.items
   pub names : map (name_at table) change.lists.items ≡ lists_of op.body
   pub given : All (IsTag table) change.lists.items
 

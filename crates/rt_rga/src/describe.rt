@@ -1,13 +1,17 @@
 // What an operation will change in the visible text.
-ghost use Rattle.std.specs.Prelude.{◌≡◌, ◌<◌, All, IfOk, IfErr, List, ℕ, length, map, string_bytes};
+ghost use Rattle.std.specs.Prelude.{◌≡◌, ◌<◌, ◌≤◌, All, IfOk, IfErr, List, ℕ, false, length, map, string_bytes};
+ghost use Rattle.rt_stamps.specs.declared.limits.TheConstants.{MOST_CELLS};
 ghost use Rattle.rt_stamps.specs.declared.stamp.Stamp.{Stamp as StampOf};
+ghost use Rattle.rt_stamps.specs.declared.stamp.TheConstants.{FINAL};
 ghost use Rattle.rt_oplog.specs.Operations.{Insert, Name, stamp_of};
-ghost use Rattle.rt_store.specs.Cells.{AreDistinct, IsPlaced, visible_before};
+ghost use Rattle.rt_store.specs.Cells.{AreDistinct, IsPlaced, visible_before, visible_of};
 ghost use Rattle.rt_tags.specs.States.{IsTag, KeepsIds, name_at};
-ghost use Rattle.rt_rga.specs.Taken.{IsChange, lists_of, place_in};
+ghost use Rattle.rt_rga.specs.Cells.{deletes};
+ghost use Rattle.rt_rga.specs.Taken.{AreFallingRuns, IsChange, is_in_runs, lists_of, place_in, takes_away};
 
 use crate::answer::cells_more;
-use crate::taken::Change;
+use crate::removed::runs_in;
+use crate::taken::{Change, PlaceRun};
 use rt_oplog::{Edit, Op};
 use rt_stamps::Fault;
 use rt_store::TextStore;
@@ -44,6 +48,31 @@ fn place_in<S: TextStore>(store: &S, op: &Op) -> usize
             name: _,
             spans: _,
         } => 0,
+    }
+}
+
+/// The places that an operation will take away, as runs, the last one in the text first. Want of
+/// memory.
+fn removed<S: TextStore>(alloc: Global, store: &S, op: &Op) -> Result<Vec<PlaceRun>, Fault>
+    requires distinct { AreDistinct (S.list store.now) }
+    requires few { length (S.list store.now) ≤ MOST_CELLS }
+    requires stays { deletes op.now.body FINAL ≡ false }
+    ensures removed { IfOk result (λ runs. (place : ℕ) → is_in_runs runs.items place ≡ takes_away op.now.body (S.list store.now) place) }
+    ensures runs { IfOk result (λ runs. AreFallingRuns (length (visible_of (S.list store.now))) runs.items) }
+    ensures fault { IfErr result (λ fault. fault ≡ Fault.NoMemory) }
+{
+    match op.edit() {
+        Edit::Insert {
+            after: _,
+            tags: _,
+            text: _,
+        } => Ok(Vec::new(alloc)),
+        Edit::Delete { spans } => runs_in(alloc, store, spans),
+        Edit::Tag {
+            on: _,
+            name: _,
+            spans: _,
+        } => Ok(Vec::new(alloc)),
     }
 }
 
@@ -95,15 +124,19 @@ pub(crate) fn describe<S: TextStore>(
     requires placed { (after : StampOf) (tags : List Name) (text : List ℕ) → op.now.body ≡ Insert after tags text
         → IsPlaced (S.list store.now) after (stamp_of op.now) }
     requires distinct { AreDistinct (S.list store.now) }
+    requires few { length (S.list store.now) ≤ MOST_CELLS }
+    requires stays { deletes op.now.body FINAL ≡ false }
     ensures change { IfOk result (IsChange op.now (S.list store.now) states.new) }
     ensures ids { KeepsIds states.old states.new }
     ensures fault { IfErr result (λ fault. fault ≡ Fault.NoMemory) }
 {
+    let removed = removed(alloc, store, op)?;
     let lists = lists(alloc, states, op)?;
     let place = place_in(store, op);
     Ok(Change {
         place,
         inserted: cells_more(op),
+        removed,
         lists,
     })
 }

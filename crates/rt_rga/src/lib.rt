@@ -10,6 +10,9 @@ mod make;
 #[cfg(test)]
 mod make_tests;
 mod plan;
+#[cfg(test)]
+mod random_tests;
+mod removed;
 pub mod replica;
 mod tagging;
 pub mod taken;
@@ -18,4 +21,4 @@ mod tests;
 
 pub use replica::Replica;
 pub use rt_oplog::Edit as Draft;
-pub use taken::{Change, Taken};
+pub use taken::{Change, PlaceRun, Taken};

@@ -134,10 +134,11 @@ impl<S: TextStore> Replica<S> {
     }
 
     /// Accepts an operation of any site, in the order of the causes: `BadStamp` for one that isn't
-    /// sound; a repeat, after which log and cells are as before; `Conflict` and `NotYet` where its `prev` is below or
-    /// above the known end of its site; `BadTarget` where it names what can never be known, `NotYet`
-    /// what isn't known; `TextFull` where the cells would pass the limit. `NoMemory` only where none
-    /// of these applies. After a fault all is as before, but for names and states that got numbers.
+    /// sound; a repeat; `Conflict` and `NotYet` where its `prev` is below or above the known end of its
+    /// site; `BadTarget` where it names what can never be known, `NotYet` what isn't known; `TextFull`
+    /// where the cells would pass the limit. `NoMemory` only where none of these applies, and then all
+    /// is as before but for names and states that got numbers. After a repeat or another fault all is
+    /// as before.
     pub fn accept(&mut self, op: Op) -> Result<Taken, Fault>
         ensures answer { IfOk result (λ taken. answer_within self.old.limit op self.old.log ≡ told taken) }
         ensures refused { IfErr result (λ fault. (answer_within self.old.limit op self.old.log
@@ -145,6 +146,7 @@ impl<S: TextStore> Replica<S> {
         ensures log { OnOk result (self.new.log ≡ set_after (answer_within self.old.limit op self.old.log) op self.old.log) }
         ensures change { IfOk result (TellsChange op self.old.cells self.new.table) }
         ensures same { OnErr result (self.new ≡ record self.old { table = self.new.table }) }
+        ensures kept { (answer_within self.old.limit op self.old.log ≡ New → ⊥) → self.new ≡ self.old }
         ensures site { self.new.site ≡ self.old.site }
         ensures limit { self.new.limit ≡ self.old.limit }
         ensures ids { KeepsIds self.old.table self.new.table }

@@ -1,6 +1,13 @@
 // What taking an operation tells.
 use rt_tags::TagId;
 
+/// Places of the visible text, from one up to another, without that one. There is at least one.
+#[derive(Clone, Copy, Debug, PartialEq, Eq)]
+pub struct PlaceRun {
+    pub from: usize,
+    pub to: usize,
+}
+
 /// What changed in the visible text, and the tags to list.
 #[derive(Drop)]
 pub struct Change {
@@ -8,6 +15,10 @@ pub struct Change {
     pub place: usize,
     /// How many characters were inserted, each behind the one before it.
     pub inserted: usize,
+    /// The places, as they were before the operation, of the characters that it took away: the last
+    /// run in the text first, so what is done to the places of one leaves those of the next ones. At
+    /// least one place lies between two runs.
+    pub removed: Vec<PlaceRun>,
     /// The tags that the operation lists: an Insert its own, by the bytes of their names, a Tag that
     /// puts one on that one.
     pub lists: Vec<TagId>,

@@ -1,5 +1,5 @@
 // Operations of a few sites, offered in each order that is allowed, each twice.
-use crate::{Replica, Taken};
+use crate::{Change, PlaceRun, Replica, Taken};
 use rt_oplog::Op;
 use rt_stamps::{Fault, Site, Span, Stamp};
 use rt_store::{ListStore, TextStore};
@@ -10,15 +10,16 @@ use std::test::Fail;
 /// What an operation of the examples does. A stamp is its count and site, a span its site, first and
 /// last count.
 #[derive(Clone, Copy)]
-enum Does {
+pub(crate) enum Does {
     Inserts((u64, u16), &'static [char]),
     InsertsTagged((u64, u16), &'static [char]),
     Deletes((u16, u64, u64)),
+    DeletesBoth((u16, u64, u64), (u16, u64, u64)),
     Tags(bool, (u16, u64, u64)),
 }
 
 /// An operation of the examples: its count, site and `prev`, and what it does. Its tag is `t`.
-type Made = (u64, u16, u64, Does);
+pub(crate) type Made = (u64, u16, u64, Does);
 
 fn one<T>(alloc: Global, item: T) -> Result<Vec<T>, Fault>
 where
@@ -53,6 +54,10 @@ fn op(alloc: Global, made: Made) -> Result<Op, Fault> {
             Op::insert(at, prev, stamp(after), one(alloc, tag)?, text)
         }
         Does::Deletes(named) => Op::delete(at, prev, one(alloc, span(named))?),
+        Does::DeletesBoth(named, other) => {
+            let spans = Vec::from_slice(alloc, &[span(named), span(other)])?;
+            Op::delete(at, prev, spans)
+        }
         Does::Tags(on, named) => Op::tag(at, prev, on, tag, one(alloc, span(named))?),
     }
 }
@@ -60,7 +65,7 @@ fn op(alloc: Global, made: Made) -> Result<Op, Fault> {
 /// What is answered to an operation: of a new one the place, how many characters it inserted and how
 /// many tags it lists.
 #[derive(Clone, Copy, Debug, PartialEq, Eq)]
-enum Said {
+pub(crate) enum Said {
     New(usize, usize, usize),
     Repeat,
     Refused(Fault),
@@ -74,9 +79,9 @@ fn told(taken: Taken) -> Said {
 }
 
 /// A replica of site 9.
-struct Peer {
+pub(crate) struct Peer {
     alloc: Global,
-    replica: Replica<ListStore>,
+    pub(crate) replica: Replica<ListStore>,
 }
 
 // Written out, so that each way out of a test lets a peer go in one step of its proof.
@@ -90,20 +95,35 @@ impl Drop for Peer {
 }
 
 impl Peer {
-    fn new(alloc: Global, limit: usize) -> Result<Peer, Fail> {
+    pub(crate) fn new(alloc: Global, limit: usize) -> Result<Peer, Fail> {
         let site = Site::new(9).ok_or("a site")?;
         let store = ListStore::new(alloc)?;
         let replica = Replica::new(alloc, store, site, limit.max(1).min(1_000))?;
         Ok(Peer { alloc, replica })
     }
 
-    fn offer(&mut self, made: Made) -> Said {
+    pub(crate) fn offer(&mut self, made: Made) -> Said {
         match op(self.alloc, made) {
             Ok(op) => match self.replica.accept(op) {
                 Ok(taken) => told(taken),
                 Err(fault) => Said::Refused(fault),
             },
             Err(fault) => Said::Refused(fault),
+        }
+    }
+
+    // Offers an operation that is new, and tells what it takes away.
+    fn takes_away(&mut self, made: Made) -> Result<Vec<PlaceRun>, Fail> {
+        match self.replica.accept(op(self.alloc, made)?)? {
+            Taken::New(
+                Change {
+                    place: _,
+                    inserted: _,
+                    removed,
+                    lists: _,
+                },
+            ) => Ok(removed),
+            Taken::Repeat => Err(Fail::from("it is new")),
         }
     }
 
@@ -117,11 +137,11 @@ impl Peer {
         Ok(text)
     }
 
-    // The first place with the tag `t`.
-    fn tagged(&self) -> Option<usize> {
+    // The first place from one up with the tag `t`.
+    pub(crate) fn tagged_from(&self, place: usize) -> Option<usize> {
         let states = self.replica.states();
         match states.known("t") {
-            Some(tag) => self.replica.store().next_tagged(states, tag, 0),
+            Some(tag) => self.replica.store().next_tagged(states, tag, place),
             None => None,
         }
     }
@@ -244,7 +264,7 @@ fn come_out(rt: &impl Abort, alloc: Global, rows: &[Row]) -> Result<(), Fail> {
         offer_twice(rt, &mut peer, all);
         assert_eq!(rt; peer.text()?.as_str(), *text);
         assert_eq!(rt; peer.replica.store().cells(), *cells);
-        assert_eq!(rt; peer.tagged(), *tagged);
+        assert_eq!(rt; peer.tagged_from(0), *tagged);
         assert_eq!(rt; peer.untagged(), *untagged);
     }
     Ok(())
@@ -345,6 +365,48 @@ const LONG_SPANS: &[(Made, Said)] = &[
         Said::Refused(Fault::BadTarget),
     ),
 ];
+
+/// Operations that are offered in turn, and the runs of places that each takes away.
+type Removal = (Made, &'static [PlaceRun]);
+
+// After `abcXYdef`: `b` alone; then `a` and `c` beside it with `Y` and `d`, while `b` is gone already;
+// then `e`, by a site that doesn't know that `c` and `d` are gone.
+const REMOVALS: &[Removal] = &[
+    (
+        (
+            1,
+            1,
+            0,
+            Does::Inserts((0, 0), &['a', 'b', 'c', 'd', 'e', 'f']),
+        ),
+        &[],
+    ),
+    ((7, 2, 0, Does::Inserts((3, 1), &['X', 'Y'])), &[]),
+    (
+        (9, 3, 0, Does::Deletes((1, 2, 2))),
+        &[PlaceRun { from: 1, to: 2 }],
+    ),
+    (
+        (10, 3, 9, Does::DeletesBoth((1, 1, 4), (2, 8, 8))),
+        &[PlaceRun { from: 3, to: 5 }, PlaceRun { from: 0, to: 2 }],
+    ),
+    ((9, 2, 8, Does::Tags(true, (1, 3, 5))), &[]),
+    (
+        (10, 2, 9, Does::Deletes((1, 3, 5))),
+        &[PlaceRun { from: 1, to: 2 }],
+    ),
+    ((11, 2, 10, Does::Deletes((1, 3, 5))), &[]),
+];
+
+#[test]
+fn removals(rt: HostRuntime) -> Result<(), Fail> {
+    let mut peer = Peer::new(rt.alloc(), 100)?;
+    for (made, runs) in REMOVALS {
+        assert_eq!(rt; peer.takes_away(*made)?.as_slice(), *runs);
+    }
+    assert_eq!(rt; peer.text()?.as_str(), "Xf\n");
+    Ok(())
+}
 
 #[test]
 fn changes(rt: HostRuntime) -> Result<(), Fail> {

@@ -2,7 +2,7 @@ use Rattle.std.proofs.Common.{◌≡◌, ◌∙◌, ◌==◌, ◌||◌, ◌&&◌
 use Rattle.std.proofs.lemmas.Bool.Decides.{nat_tests}
 use Rattle.std.specs.List.{list_any}
 use Rattle.rt_stamps.specs.declared.stamp.Span.{Span}
-use Rattle.rt_rga.specs.Answers.{has_gap, up_to, can_never_be_known}
+use Rattle.rt_rga.specs.Answers.{has_gap, up_to}
 use Rattle.rt_rga.specs.Histories.{may_name}
 use Rattle.rt_oplog.specs.Operations.{Body, stamps_of_span}
 use Rattle.rt_oplog.specs.Logs.{known_end}

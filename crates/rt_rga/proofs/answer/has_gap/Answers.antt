@@ -1,4 +1,4 @@
-use Rattle.std.proofs.Common.{◌≡◌, ◌∙◌, arith, not, true, false, Bool, sym}
+use Rattle.std.proofs.Common.{◌≡◌, ◌∙◌, arith, not, true, false, Bool}
 use Rattle.rt_rga.specs.Kept.{is_kept_character}
 use Rattle.rt_rga.proofs.Answering.{gap_on}
 use Rattle.rt_rga.proofs.answer.has_gap.Goals as goal

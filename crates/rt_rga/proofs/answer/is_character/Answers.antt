@@ -1,4 +1,4 @@
-use Rattle.std.proofs.Common.{◌≡◌, ◌∙◌, ◌&&◌, Bool, true, refl, ap}
+use Rattle.std.proofs.Common.{◌≡◌, ◌∙◌, ◌&&◌, Bool, true, ap}
 use Rattle.std.specs.Option.{is_some}
 use Rattle.rt_rga.proofs.Answering.{found_is}
 use Rattle.rt_rga.proofs.answer.is_character.Goals as goal

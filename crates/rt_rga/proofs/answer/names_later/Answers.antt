@@ -1,10 +1,9 @@
-use Rattle.std.proofs.Common.{◌≡◌, ◌∙◌, List, ap, map, not, false, sym}
-use Rattle.std.specs.Prelude.{string_bytes}
+use Rattle.std.proofs.Common.{◌≡◌, ◌∙◌, List, ap, not, false, sym}
 use Rattle.std.specs.List.{list_all, list_any}
 use Rattle.rt_stamps.specs.declared.stamp.Span.{Span}
 use Rattle.rt_stamps.specs.declared.stamp.Stamp.{Stamp}
 use Rattle.rt_oplog.specs.Edits.{body_of}
-use Rattle.rt_oplog.specs.Operations.{Delete, Insert, Tag, named, stamps_in, stamps_of_span}
+use Rattle.rt_oplog.specs.Operations.{named, stamps_in, stamps_of_span}
 use Rattle.rt_rga.specs.Answers.{can_never_be_known}
 use Rattle.rt_rga.specs.Histories.{is_known}
 use Rattle.rt_rga.specs.Kept.{goes_past}

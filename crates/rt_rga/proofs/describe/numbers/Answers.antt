@@ -1,4 +1,4 @@
-use Rattle.std.proofs.Common.{◌≡◌, ◌∙◌, ap, map, subst, sym, All}
+use Rattle.std.proofs.Common.{◌∙◌, ap, map, subst, sym, All}
 use Rattle.std.specs.Prelude.{string_bytes}
 use Rattle.rt_tags.specs.States.{IsTag, name_at}
 use Rattle.rt_rga.proofs.Listing.{keeps_both}

@@ -1,6 +1,5 @@
-use Rattle.std.proofs.Common.{◌≡◌, ◌∙◌, ◌<◌, ap, length, map, subst, sym}
+use Rattle.std.proofs.Common.{◌∙◌, ◌<◌, ap, length, map, subst, sym}
 use Rattle.std.specs.Prelude.{string_bytes}
-use Rattle.rt_stamps.specs.declared.stamp.Stamp.{Stamp}
 use Rattle.rt_stamps.specs.declared.stamp.TheConstants.{FINAL}
 use Rattle.rt_stamps.specs.Stamps.{is_before}
 use Rattle.rt_oplog.specs.Edits.{body_of}

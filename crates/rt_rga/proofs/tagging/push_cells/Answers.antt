@@ -1,4 +1,4 @@
-use Rattle.std.proofs.Common.{◌≡◌, ◌∙◌, ◌+◌, ◌-◌, ◌++◌, ap, arith, sym}
+use Rattle.std.proofs.Common.{◌∙◌, ◌+◌, ◌-◌, ◌++◌, ap, arith, sym}
 use Rattle.rt_oplog.specs.Operations.{stamps_from}
 use Rattle.rt_rga.specs.Runs.{cells_found, listed}
 use Rattle.rt_rga.proofs.TagWrites.{found_from}

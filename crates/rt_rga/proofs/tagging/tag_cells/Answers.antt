@@ -5,7 +5,6 @@ use Rattle.rt_store.specs.Shown.{shown}
 use Rattle.rt_store.specs.Tagged.{AreStates}
 use Rattle.rt_store.proofs.GivenStates.{kept_states}
 use Rattle.rt_tags.specs.States.{KeepsIds, Write}
-use Rattle.rt_rga.specs.declared.tagging.StateRun.{StateRun}
 use Rattle.rt_rga.specs.Runs.{cells_found, put_back, put_back_in_any, with_write}
 use Rattle.rt_rga.proofs.Listing.{keeps_both}
 use Rattle.rt_rga.proofs.TagWrites.{found_states, put_states_given, tagged_cells}

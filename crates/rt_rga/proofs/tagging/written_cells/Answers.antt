@@ -1,4 +1,4 @@
-use Rattle.std.proofs.Common.{◌≡◌, ◌∙◌, ℕ, sym, subst, map, ap, arith}
+use Rattle.std.proofs.Common.{◌∙◌, ℕ, sym, subst, map, ap}
 use Rattle.rt_store.specs.declared.cell.Cell.{Cell}
 use Rattle.rt_store.specs.Shown.{shown}
 use Rattle.rt_store.specs.Tagged.{AreStates}

@@ -11,7 +11,7 @@ use Rattle.rt_rga.specs.Taken.{IsChange}
 use Rattle.rt_rga.proofs.Listing.{keeps_both}
 use Rattle.rt_rga.proofs.Pushing.{taken_in}
 use Rattle.rt_rga.proofs.Replicas.{replica_distinct}
-use Rattle.rt_rga.proofs.Within.{change_shown, on_err, placed_by, same_value, within_later, within_more}
+use Rattle.rt_rga.proofs.Within.{change_shown, final_spared, on_err, placed_by, same_value, within_later, within_more}
 use Rattle.rt_store.specs.Shown.{shown, TaggedCell}
 use Rattle.rt_rga.proofs.replica.Replica.take.Goals as goal
 
@@ -30,6 +30,18 @@ describe-requires-clause-distinct g c =
     let log = v.log.operations in
     let kept : List (Cell ℕ) = g.S.TextStore.list v.store in
     replica_distinct log v.states kept c.self.invariant.replica
+
+pub describe-requires-clause-few : goal.describe-requires-clause-few
+describe-requires-clause-few g c = omega (arith, c.self.invariant.cells, c.self.invariant.most)
+
+pub describe-requires-clause-stays : goal.describe-requires-clause-stays
+describe-requires-clause-stays g c =
+    let v = c.self.inside in
+    let log = v.log.operations in
+    let kept : List (Cell ℕ) = g.S.TextStore.list v.store in
+    let seen : log ≡ c.args.self.now.log = ap (λ (a : ReplicaValue). a.log) c.self.view_is in
+    let continues : Continues log c.args.op = subst (λ (l : List Operation). Continues l c.args.op) (sym seen) c.requires.continues in
+    final_spared log v.states kept c.args.op c.self.invariant.replica continues
 
 pub invariant_of-self-in_err-told : goal.invariant_of-self-in_err-told
 invariant_of-self-in_err-told g c =

@@ -1,0 +1,13 @@
+use Rattle.std.proofs.Common.{◌≡◌, rules}
+use Rattle.std.specs.Ordering.{is_lt, nat_cmp}
+use Rattle.std.proofs.lemmas.Fn.{always_returns_same}
+use Rattle.std.proofs.lemmas.List.Sorted.{IsStrictWeakOrder-flip, ranks_by}
+use Rattle.std.proofs.lemmas.Cmp.{nat_cmp_total}
+use Rattle.rt_rga.proofs.PlaceRuns.{sorted_fall}
+use Rattle.rt_rga.proofs.removed.sort.Goals as goal
+
+pub returns-clause-falling : goal.returns-clause-falling
+returns-clause-falling c =
+    sorted_fall c.sort_unstable_by.new.self.items
+    (c.sort_unstable_by.ensures.sorted (λ a b. is_lt (nat_cmp b a)) (IsStrictWeakOrder-flip (λ a b. is_lt (nat_cmp a b)) (ranks_by nat_cmp_total (λ x. x)))
+    (always_returns_same _ (λ a r. is_lt r ≡ is_lt (nat_cmp a.1.0.now a.0.now)) _ (λ a r q k. search rules)))
