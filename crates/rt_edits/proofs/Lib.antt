@@ -6,10 +6,13 @@ pub mod InsertedText
 pub mod ListedLaws
 pub mod ListedWrites
 pub mod MergingLaws
+pub mod NamedSpanLaws
+pub mod PartLaws
 pub mod PlaceLaws
 pub mod PlanLaws
 pub mod Planning
 pub mod Putting
+pub mod RemovalDraftLaws
 pub mod RemovedText
 pub mod Selecting
 pub mod SelectionLaws
