@@ -1,12 +1,14 @@
 pub mod CellLaws
 pub mod ChosenLaws
 pub mod DistinctLaws
+pub mod DraftSteps
 pub mod GoneLaws
 pub mod InsertedText
 pub mod ListedLaws
 pub mod ListedWrites
 pub mod MergingLaws
 pub mod NamedSpanLaws
+pub mod NewlineDrafts
 pub mod PartLaws
 pub mod PlaceLaws
 pub mod PlanLaws
@@ -23,6 +25,8 @@ pub mod SparingLaws
 pub mod StampLaws
 pub mod StateChanges
 pub mod StateRuns
+pub mod TagDocuments
+pub mod TagDraftLaws
 pub mod TagEffects
 pub mod TagPlaces
 pub mod TagsInTurn

@@ -121,7 +121,7 @@ last_off {T} r p (c ∷ cs) last d g h =
     ∙ last_step c.stamp last.stamp (r p) next (differs c.stamp last.stamp behind apart (last_among cs last))
     (last_off r (p + 1) cs last rest g (ap r at ∙ ap (λ (l : List (Cell T)). r (p + length l)) (sym seen) ∙ h)))
 
-visible_append : {T : Type 0} (xs : List (Cell T)) (last : Cell T) → last.gone ≡ false → length (visible_of (xs ++ last ∷ [])) ≡ length (visible_of xs) + 1
+pub visible_append : {T : Type 0} (xs : List (Cell T)) (last : Cell T) → last.gone ≡ false → length (visible_of (xs ++ last ∷ [])) ≡ length (visible_of xs) + 1
 visible_append [] last e = rw e refl
 visible_append (x ∷ xs) last e = by x.gone (visible_append xs last e)
   where

@@ -1,14 +1,32 @@
 -- What the operations of edits do to the cells of a history, and what they count.
-use Rattle.std.specs.Prelude.{◌≡◌, ℕ, ◌+◌, ◌-◌, ◌<◌, ◌≤◌, Bool, false, List, length}
+use Rattle.std.specs.Prelude.{◌≡◌, ℕ, ◌+◌, ◌-◌, ◌<◌, ◌≤◌, ◌==◌, Bool, true, false, List, length, map, Some, slice_get}
+use Rattle.std.specs.List.{AllByRecursion, IsDistinct}
+use Rattle.std.specs.Str.{bytes_eq}
 use Rattle.rt_stamps.specs.declared.limits.TheConstants.{GREATEST_COUNT, MOST_SPANS}
-use Rattle.rt_oplog.specs.Operations.{Body, Operation}
+use Rattle.rt_stamps.specs.declared.stamp.Stamp.{Stamp}
+use Rattle.rt_stamps.specs.Stamps.{is_same}
+use Rattle.rt_stamps.specs.Words.{Word}
+use Rattle.rt_oplog.specs.Operations.{Operation}
+use Rattle.rt_oplog.specs.Rules.{is_name}
 use Rattle.rt_store.specs.Cells.{text_of}
+use Rattle.rt_store.specs.Shown.{TaggedCell}
+use Rattle.rt_tags.specs.States.{names_on}
+use Rattle.rt_tags.specs.Tags.{sel}
 use Rattle.rt_rga.specs.Cells.{cells_of}
 use Rattle.rt_rga.specs.Drafts.{all_changed, operations_of, with_drafts}
 use Rattle.rt_rga.specs.Histories.{IsHistory, greatest_last_count}
 use Rattle.rt_rga.specs.Requests.{MayBeMade}
+use Rattle.rt_edits.specs.Flat.{Flat}
 use Rattle.rt_edits.specs.RemovalDrafts.{removal_drafts}
 use Rattle.rt_edits.specs.Removals.{gone_at, operations_for, span_count, stamps_at}
+use Rattle.rt_edits.specs.TagDrafts.{deletion_drafts, newline_drafts, tag_drafts, tags_drafts_at}
+use Rattle.rt_edits.specs.TagWrites.{tagged, with_tags_at, without_tags}
+
+-- a document has the cells of its site's history, and its greatest count
+pub record IsDocument (number : ℕ) (log : List Operation) (flat : Flat) : Type 0 where
+  pub cells : flat.cells ≡ cells_of log
+  pub site : flat.site ≡ number
+  pub count : flat.count ≡ greatest_last_count log
 
 -- places among which the last newline's isn't
 abbrev pub SparesLast : (ℕ → Bool) → List ℕ → Type 0
@@ -37,3 +55,51 @@ RemovalIsMade =
     (site : ℕ) (log : List Operation) (removed : ℕ → Bool) → 0 < site → IsHistory log → SparesLast removed (text_of (cells_of log))
     → greatest_last_count log + operations_for (span_count (stamps_at removed 0 (cells_of log))) ≤ GREATEST_COUNT
     → cells_of (with_drafts site (removal_drafts MOST_SPANS removed (cells_of log)) log) ≡ gone_at removed 0 (cells_of log)
+
+-- TAGS
+
+-- The Tags on some characters write on them what the document's definition says, under the same counts, and on no others.
+abbrev pub TagsWriteAsFlat : Type 0
+TagsWriteAsFlat =
+    (site : ℕ) (log : List Operation) (cells : List TaggedCell) (on : Bool) (name : Word) (stamps : List Stamp) → IsDistinct is_same stamps
+    → all_changed (operations_of site (tag_drafts MOST_SPANS on name stamps) log) cells ≡ map (tagged site (greatest_last_count log) name on stamps) cells
+
+abbrev pub TagsAreCounted : Type 0
+TagsAreCounted =
+    (site : ℕ) (log : List Operation) (on : Bool) (name : Word) (stamps : List Stamp) → IsDistinct is_same stamps
+    → greatest_last_count (with_drafts site (tag_drafts MOST_SPANS on name stamps) log) ≡ greatest_last_count log + operations_for (span_count stamps)
+
+-- Tags on the characters at some places, one tag after the other.
+abbrev pub TagsMayBeMade : Type 0
+TagsMayBeMade =
+    (site : ℕ) (log : List Operation) (flat : Flat) (places : ℕ → Bool) (on : Bool) (names : List Word)
+    → IsHistory log → IsDocument site log flat → AllByRecursion (λ name. is_name name ≡ true) names
+    → MayBeMade site log (tags_drafts_at MOST_SPANS flat places on names)
+
+abbrev pub TagsAreMade : Type 0
+TagsAreMade =
+    (site : ℕ) (log : List Operation) (flat : Flat) (places : ℕ → Bool) (on : Bool) (names : List Word)
+    → 0 < site → IsHistory log → IsDocument site log flat → AllByRecursion (λ name. is_name name ≡ true) names
+    → (with_tags_at flat places on names).count ≤ GREATEST_COUNT
+    → IsDocument site (with_drafts site (tags_drafts_at MOST_SPANS flat places on names) log) (with_tags_at flat places on names)
+
+-- Tags that are deleted, `sel` perhaps among them.
+abbrev pub DeletionsMayBeMade : Type 0
+DeletionsMayBeMade =
+    (site : ℕ) (log : List Operation) (flat : Flat) (names : List Word)
+    → IsHistory log → IsDocument site log flat → AllByRecursion (λ name. bytes_eq name sel ≡ false → is_name name ≡ true) names
+    → MayBeMade site log (deletion_drafts MOST_SPANS flat names)
+
+abbrev pub DeletionsAreMade : Type 0
+DeletionsAreMade =
+    (site : ℕ) (log : List Operation) (flat : Flat) (names : List Word)
+    → 0 < site → IsHistory log → IsDocument site log flat → AllByRecursion (λ name. bytes_eq name sel ≡ false → is_name name ≡ true) names
+    → (without_tags flat names).count ≤ GREATEST_COUNT
+    → IsDocument site (with_drafts site (deletion_drafts MOST_SPANS flat names) log) (without_tags flat names)
+
+-- The last newline, whose cell is the last one, loses all its tags by one Tag for each.
+abbrev pub NewlineHasOneTagEach : Type 0
+NewlineHasOneTagEach =
+    (site : ℕ) (log : List Operation) (flat : Flat) (last : TaggedCell) → IsHistory log → IsDocument site log flat
+    → slice_get flat.cells (length flat.cells - 1) ≡ Some last
+    → tags_drafts_at MOST_SPANS flat (λ place. place + 1 == length (text_of flat.cells)) false (names_on last.state) ≡ newline_drafts (names_on last.state)

@@ -1,10 +1,12 @@
 // Worked examples of the definitions, each a clause that computes.
-ghost use Rattle.std.specs.Prelude.{◌≡◌, ◌==◌, false, true, [], ◌∷◌};
+ghost use Rattle.std.specs.Prelude.{◌≡◌, ◌==◌, false, true, [], ◌∷◌, codes};
 ghost use Rattle.rt_stamps.specs.declared.limits.TheConstants.{MOST_SPANS};
-ghost use Rattle.rt_oplog.specs.Operations.{Delete};
+ghost use Rattle.rt_oplog.specs.Operations.{Delete, Tag};
 ghost use Rattle.rt_rga.specs.Examples.{span};
-ghost use Rattle.rt_edits.specs.Examples.{cells_of_yab};
+ghost use Rattle.rt_edits.specs.Examples.{cells_of_yab, cells_with_t, flat_with_t};
 ghost use Rattle.rt_edits.specs.RemovalDrafts.{removal_drafts};
+ghost use Rattle.rt_edits.specs.TagDrafts.{deletion_drafts, newline_drafts, tag_drafts_at, tags_drafts_at};
+ghost use Rattle.rt_tags.specs.Tags.{sel};
 
 /// `Yab` is removed by one Delete: the spans stand by site, not in the text's order, and the
 /// consecutive counts of `ab` are one span. Where a Delete may have one span alone there are two. What
@@ -14,4 +16,18 @@ pub fn removals()
     ensures parts { removal_drafts 1 (λ _. true) cells_of_yab ≡ Delete (span 1 1 2 ∷ []) ∷ Delete (span 2 3 3 ∷ []) ∷ [] }
     ensures first { removal_drafts MOST_SPANS (λ place. place == 0) cells_of_yab ≡ Delete (span 2 3 3 ∷ []) ∷ [] }
     ensures nothing { removal_drafts MOST_SPANS (λ _. false) cells_of_yab ≡ [] }
+{}
+
+/// Of `Yab` with the tag t on `a`: t is put on the two others by one Tag, or by two where one may have
+/// one span alone, and is taken off `a`; where no character has a tag there is nothing to take off. A
+/// tag that comes twice makes operations once, and `sel` makes none. The last newline loses its tags by
+/// one Tag each.
+pub fn tags()
+    ensures on { tag_drafts_at MOST_SPANS (λ _. true) true (codes "t") cells_with_t ≡ Tag true (codes "t") (span 1 2 2 ∷ span 2 3 3 ∷ []) ∷ [] }
+    ensures parts { tag_drafts_at 1 (λ _. true) true (codes "t") cells_with_t ≡ Tag true (codes "t") (span 1 2 2 ∷ []) ∷ Tag true (codes "t") (span 2 3 3 ∷ []) ∷ [] }
+    ensures off { tag_drafts_at MOST_SPANS (λ _. true) false (codes "t") cells_with_t ≡ Tag false (codes "t") (span 1 1 1 ∷ []) ∷ [] }
+    ensures nothing { tag_drafts_at MOST_SPANS (λ _. true) false (codes "u") cells_with_t ≡ [] }
+    ensures twice { tags_drafts_at MOST_SPANS flat_with_t (λ _. true) true (codes "u" ∷ codes "u" ∷ []) ≡ Tag true (codes "u") (span 1 1 2 ∷ span 2 3 3 ∷ []) ∷ [] }
+    ensures deleted { deletion_drafts MOST_SPANS flat_with_t (sel ∷ codes "t" ∷ codes "t" ∷ []) ≡ Tag false (codes "t") (span 1 1 1 ∷ []) ∷ [] }
+    ensures newline { newline_drafts (codes "t" ∷ codes "u" ∷ []) ≡ Tag false (codes "t") (span 0 1 1 ∷ []) ∷ Tag false (codes "u") (span 0 1 1 ∷ []) ∷ [] }
 {}

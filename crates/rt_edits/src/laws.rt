@@ -13,7 +13,7 @@ ghost use Rattle.rt_store.specs.Shown.{TaggedCell};
 ghost use Rattle.rt_edits.specs.Insertions.{tagged_cells};
 ghost use Rattle.rt_edits.specs.Merging.{begins_line};
 ghost use Rattle.rt_edits.specs.Removals.{cells_at, gone_at, is_removed, left_at, span_count};
-ghost use Rattle.rt_edits.specs.DraftLaws.{DeletesAreCounted, DeletesMakeGone, DeletesMayBeMade, RemovalIsMade};
+ghost use Rattle.rt_edits.specs.DraftLaws.{DeletesAreCounted, DeletesMakeGone, DeletesMayBeMade, DeletionsAreMade, DeletionsMayBeMade, NewlineHasOneTagEach, RemovalIsMade, TagsAreCounted, TagsAreMade, TagsMayBeMade, TagsWriteAsFlat};
 ghost use Rattle.rt_edits.specs.NamedSpans.{spans_in};
 ghost use Rattle.rt_store.specs.Spans.{each_next, is_among, is_clear_of, is_in_spans, is_span};
 ghost use Rattle.rt_edits.specs.TagWrites.{AreTagged, cells_beside, cells_but, with_tag, with_tag_at, writes_of};
@@ -71,4 +71,18 @@ pub fn removal_drafts()
     ensures count { DeletesAreCounted }
     ensures may_be_made { DeletesMayBeMade }
     ensures made { RemovalIsMade }
+{}
+
+/// The Tag operations of a tag edit write on just the characters that they name, under the counts of
+/// the document's definition. They keep the rules, and name what is known. So a document that has the
+/// cells of a history has, after tags were put on characters, taken off or deleted, those of the
+/// history with their operations.
+pub fn tag_drafts()
+    ensures cells { TagsWriteAsFlat }
+    ensures count { TagsAreCounted }
+    ensures may_be_made { TagsMayBeMade }
+    ensures made { TagsAreMade }
+    ensures deleted_may_be_made { DeletionsMayBeMade }
+    ensures deleted { DeletionsAreMade }
+    ensures newline { NewlineHasOneTagEach }
 {}
