@@ -3,6 +3,8 @@ pub mod ChosenLaws
 pub mod DistinctLaws
 pub mod DraftSteps
 pub mod GoneLaws
+pub mod InsertDraftLaws
+pub mod InsertRules
 pub mod InsertedText
 pub mod ListedLaws
 pub mod ListedWrites

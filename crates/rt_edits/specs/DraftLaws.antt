@@ -1,22 +1,25 @@
 -- What the operations of edits do to the cells of a history, and what they count.
-use Rattle.std.specs.Prelude.{◌≡◌, ℕ, ◌+◌, ◌-◌, ◌<◌, ◌≤◌, ◌==◌, Bool, true, false, List, length, map, Some, slice_get}
-use Rattle.std.specs.List.{AllByRecursion, IsDistinct}
-use Rattle.std.specs.Str.{bytes_eq}
-use Rattle.rt_stamps.specs.declared.limits.TheConstants.{GREATEST_COUNT, MOST_SPANS}
+use Rattle.std.specs.Prelude.{◌≡◌, ℕ, ◌+◌, ◌-◌, ◌<◌, ◌≤◌, ◌==◌, ◌||◌, Bool, true, false, List, length, map, Some, slice_get}
+use Rattle.std.specs.List.{AllByRecursion, IsDistinct, list_all}
+use Rattle.std.specs.Str.{all_scalars, bytes_eq}
+use Rattle.rt_stamps.specs.declared.limits.TheConstants.{GREATEST_COUNT, MOST_CHARACTERS, MOST_SPANS}
 use Rattle.rt_stamps.specs.declared.stamp.Stamp.{Stamp}
+use Rattle.rt_stamps.specs.declared.stamp.TheConstants.{ROOT}
 use Rattle.rt_stamps.specs.Stamps.{is_same}
 use Rattle.rt_stamps.specs.Words.{Word}
 use Rattle.rt_oplog.specs.Operations.{Operation}
-use Rattle.rt_oplog.specs.Rules.{is_name}
+use Rattle.rt_oplog.specs.Rules.{each_next, is_lesser_name, is_name}
 use Rattle.rt_store.specs.Cells.{text_of}
 use Rattle.rt_store.specs.Shown.{TaggedCell}
 use Rattle.rt_tags.specs.States.{names_on}
 use Rattle.rt_tags.specs.Tags.{sel}
 use Rattle.rt_rga.specs.Cells.{cells_of}
 use Rattle.rt_rga.specs.Drafts.{all_changed, operations_of, with_drafts}
-use Rattle.rt_rga.specs.Histories.{IsHistory, greatest_last_count}
+use Rattle.rt_rga.specs.Histories.{IsHistory, greatest_last_count, has_character}
 use Rattle.rt_rga.specs.Requests.{MayBeMade}
-use Rattle.rt_edits.specs.Flat.{Flat}
+use Rattle.rt_edits.specs.Flat.{Flat, put_after}
+use Rattle.rt_edits.specs.InsertionDrafts.{text_drafts}
+use Rattle.rt_edits.specs.Insertions.{counts_for, tagged_cells}
 use Rattle.rt_edits.specs.RemovalDrafts.{removal_drafts}
 use Rattle.rt_edits.specs.Removals.{gone_at, operations_for, span_count, stamps_at}
 use Rattle.rt_edits.specs.TagDrafts.{deletion_drafts, newline_drafts, tag_drafts, tags_drafts_at}
@@ -103,3 +106,42 @@ NewlineHasOneTagEach =
     (site : ℕ) (log : List Operation) (flat : Flat) (last : TaggedCell) → IsHistory log → IsDocument site log flat
     → slice_get flat.cells (length flat.cells - 1) ≡ Some last
     → tags_drafts_at MOST_SPANS flat (λ place. place + 1 == length (text_of flat.cells)) false (names_on last.state) ≡ newline_drafts (names_on last.state)
+
+-- INSERTIONS
+
+-- names that rise strictly by their bytes, as those of an operation do
+pub record AreTagNames (names : List Word) : Type 0 where
+  pub each : list_all is_name names ≡ true
+  pub rising : each_next is_lesser_name names ≡ true
+
+-- the element is the root, or a character of the history, gone or not
+abbrev pub IsElement : List Operation → Stamp → Type 0
+IsElement log stamp = (has_character log stamp || is_same stamp ROOT) ≡ true
+
+-- A text with tags, behind an element.
+abbrev pub TextIsPutAsFlat : Type 0
+TextIsPutAsFlat =
+    (site : ℕ) (log : List Operation) (after : Stamp) (names : List Word) (text : List ℕ) → 0 < site → IsHistory log
+    → let count = greatest_last_count log in
+      all_changed (operations_of site (text_drafts MOST_CHARACTERS site count after names text) log) (cells_of log)
+      ≡ put_after (cells_of log) after (tagged_cells site count names text)
+
+abbrev pub TextIsCounted : Type 0
+TextIsCounted =
+    (site : ℕ) (log : List Operation) (after : Stamp) (names : List Word) (text : List ℕ)
+    → greatest_last_count (with_drafts site (text_drafts MOST_CHARACTERS site (greatest_last_count log) after names text) log)
+    ≡ greatest_last_count log + counts_for names text
+
+abbrev pub TextMayBeMade : Type 0
+TextMayBeMade =
+    (site : ℕ) (log : List Operation) (after : Stamp) (names : List Word) (text : List ℕ)
+    → AreTagNames names → all_scalars text ≡ true → IsElement log after
+    → MayBeMade site log (text_drafts MOST_CHARACTERS site (greatest_last_count log) after names text)
+
+abbrev pub TextIsMade : Type 0
+TextIsMade =
+    (site : ℕ) (log : List Operation) (after : Stamp) (names : List Word) (text : List ℕ)
+    → 0 < site → IsHistory log → AreTagNames names → all_scalars text ≡ true → IsElement log after
+    → let count = greatest_last_count log in count + counts_for names text ≤ GREATEST_COUNT
+    → cells_of (with_drafts site (text_drafts MOST_CHARACTERS site count after names text) log)
+    ≡ put_after (cells_of log) after (tagged_cells site count names text)

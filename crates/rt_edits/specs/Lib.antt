@@ -1,6 +1,7 @@
 pub mod DraftLaws
 pub mod Examples
 pub mod Flat
+pub mod InsertionDrafts
 pub mod Insertions
 pub mod Listed
 pub mod Merging

@@ -1,9 +1,11 @@
 // Worked examples of the definitions, each a clause that computes.
 ghost use Rattle.std.specs.Prelude.{◌≡◌, ◌==◌, false, true, [], ◌∷◌, codes};
-ghost use Rattle.rt_stamps.specs.declared.limits.TheConstants.{MOST_SPANS};
-ghost use Rattle.rt_oplog.specs.Operations.{Delete, Tag};
-ghost use Rattle.rt_rga.specs.Examples.{span};
-ghost use Rattle.rt_edits.specs.Examples.{cells_of_yab, cells_with_t, flat_with_t};
+ghost use Rattle.rt_stamps.specs.declared.stamp.TheConstants.{ROOT};
+ghost use Rattle.rt_stamps.specs.declared.limits.TheConstants.{MOST_CHARACTERS, MOST_SPANS};
+ghost use Rattle.rt_oplog.specs.Operations.{Delete, Insert, Tag};
+ghost use Rattle.rt_rga.specs.Examples.{at, only_t, span};
+ghost use Rattle.rt_edits.specs.Examples.{all_tags, cells_of_yab, cells_with_t, flat_with_t, listed_tags, nothing_yet, two_pieces, with_u};
+ghost use Rattle.rt_edits.specs.InsertionDrafts.{insertion_drafts, text_drafts};
 ghost use Rattle.rt_edits.specs.RemovalDrafts.{removal_drafts};
 ghost use Rattle.rt_edits.specs.TagDrafts.{deletion_drafts, newline_drafts, tag_drafts_at, tags_drafts_at};
 ghost use Rattle.rt_tags.specs.Tags.{sel};
@@ -30,4 +32,22 @@ pub fn tags()
     ensures twice { tags_drafts_at MOST_SPANS flat_with_t (λ _. true) true (codes "u" ∷ codes "u" ∷ []) ≡ Tag true (codes "u") (span 1 1 2 ∷ span 2 3 3 ∷ []) ∷ [] }
     ensures deleted { deletion_drafts MOST_SPANS flat_with_t (sel ∷ codes "t" ∷ codes "t" ∷ []) ≡ Tag false (codes "t") (span 1 1 1 ∷ []) ∷ [] }
     ensures newline { newline_drafts (codes "t" ∷ codes "u" ∷ []) ≡ Tag false (codes "t") (span 0 1 1 ∷ []) ∷ Tag false (codes "u") (span 0 1 1 ∷ []) ∷ [] }
+{}
+
+/// `abc` behind `(5,2)` is one Insert, or two where an Insert may have two characters: the second goes
+/// after the `b`, whose count is the one before its own. A tag that the Insert can't list is put on its
+/// characters behind it, before the next Insert. No text makes no operation.
+pub fn insertions()
+    ensures text { text_drafts MOST_CHARACTERS 1 6 (at 5 2) only_t (codes "abc") ≡ Insert (at 5 2) only_t (codes "abc") ∷ [] }
+    ensures parts { text_drafts 2 1 6 (at 5 2) only_t (codes "abc") ≡ Insert (at 5 2) only_t (codes "ab") ∷ Insert (at 8 1) only_t (codes "c") ∷ [] }
+    ensures further { text_drafts 2 1 0 ROOT all_tags (codes "abc") ≡ Insert ROOT listed_tags (codes "ab") ∷ Tag true (codes "u") (span 1 1 2 ∷ []) ∷ Insert (at 2 1) listed_tags (codes "c") ∷ Tag true (codes "u") (span 1 4 4 ∷ []) ∷ [] }
+    ensures nothing { text_drafts MOST_CHARACTERS 1 6 (at 5 2) only_t [] ≡ [] }
+{}
+
+/// Two pieces with lists and then characters without one: each goes behind the text of the one before it.
+/// Those without a list get the tags that both neighbours have, of which the left one is the last of the
+/// pieces, or without pieces the place's.
+pub fn pieces()
+    ensures lists { insertion_drafts MOST_CHARACTERS 1 (at 1 2) with_u with_u two_pieces (codes "d") (nothing_yet 6) ≡ Insert (at 1 2) only_t (codes "ab") ∷ Insert (at 8 1) [] (codes "c") ∷ Insert (at 9 1) [] (codes "d") ∷ [] }
+    ensures between { insertion_drafts MOST_CHARACTERS 1 (at 1 2) with_u with_u [] (codes "d") (nothing_yet 6) ≡ Insert (at 1 2) (codes "u" ∷ []) (codes "d") ∷ [] }
 {}

@@ -13,7 +13,7 @@ ghost use Rattle.rt_store.specs.Shown.{TaggedCell};
 ghost use Rattle.rt_edits.specs.Insertions.{tagged_cells};
 ghost use Rattle.rt_edits.specs.Merging.{begins_line};
 ghost use Rattle.rt_edits.specs.Removals.{cells_at, gone_at, is_removed, left_at, span_count};
-ghost use Rattle.rt_edits.specs.DraftLaws.{DeletesAreCounted, DeletesMakeGone, DeletesMayBeMade, DeletionsAreMade, DeletionsMayBeMade, NewlineHasOneTagEach, RemovalIsMade, TagsAreCounted, TagsAreMade, TagsMayBeMade, TagsWriteAsFlat};
+ghost use Rattle.rt_edits.specs.DraftLaws.{DeletesAreCounted, DeletesMakeGone, DeletesMayBeMade, DeletionsAreMade, DeletionsMayBeMade, NewlineHasOneTagEach, RemovalIsMade, TagsAreCounted, TagsAreMade, TagsMayBeMade, TagsWriteAsFlat, TextIsCounted, TextIsMade, TextIsPutAsFlat, TextMayBeMade};
 ghost use Rattle.rt_edits.specs.NamedSpans.{spans_in};
 ghost use Rattle.rt_store.specs.Spans.{each_next, is_among, is_clear_of, is_in_spans, is_span};
 ghost use Rattle.rt_edits.specs.TagWrites.{AreTagged, cells_beside, cells_but, with_tag, with_tag_at, writes_of};
@@ -85,4 +85,14 @@ pub fn tag_drafts()
     ensures deleted_may_be_made { DeletionsMayBeMade }
     ensures deleted { DeletionsAreMade }
     ensures newline { NewlineHasOneTagEach }
+{}
+
+/// The Inserts of a text, with the Tags behind them, put the cells of the document's definition in
+/// behind the element, with their tags, and take as many counts. They keep the rules, and name what is
+/// known, where the names, the characters and the element are such.
+pub fn text_drafts()
+    ensures cells { TextIsPutAsFlat }
+    ensures count { TextIsCounted }
+    ensures may_be_made { TextMayBeMade }
+    ensures made { TextIsMade }
 {}
