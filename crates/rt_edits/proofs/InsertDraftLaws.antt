@@ -70,7 +70,7 @@ after_found front x rest root h =
     cond-false (is_same x.stamp ROOT) 0 (unwrap_or (cond (nat_lt n m) (Some n) None) 0 + 1) root ∙ omega (arith, found, at, length-append front (x ∷ []))
 
 -- cells put behind the last of others that were put in before
-put_behind : {T : Type 0} (front : List (Cell T)) (x : Cell T) (rest new : List (Cell T)) → is_same x.stamp ROOT ≡ false → is_among (stamps_of front) x.stamp ≡ false
+pub put_behind : {T : Type 0} (front : List (Cell T)) (x : Cell T) (rest new : List (Cell T)) → is_same x.stamp ROOT ≡ false → is_among (stamps_of front) x.stamp ≡ false
     → put_after (front ++ x ∷ rest) x.stamp new ≡ (front ++ x ∷ []) ++ new ++ rest
 put_behind {T} front x rest new root h =
     let at = after_found front x rest root h in

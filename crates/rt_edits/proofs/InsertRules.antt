@@ -88,7 +88,7 @@ in_counts : (span : Span) (s : Stamp) → is_in_span span s ≡ true → (s.site
 in_counts span s h = (grind (arith, nat_tests), grind (arith, nat_tests), grind (arith, nat_tests))
 
 -- the characters of an Insert's span are in the set with it
-new_characters : (site count : ℕ) (log : List Operation) (after : Stamp) (tags : List Word) (text : List ℕ) (s : Stamp) → greatest_last_count log ≡ count
+pub new_characters : (site count : ℕ) (log : List Operation) (after : Stamp) (tags : List Word) (text : List ℕ) (s : Stamp) → greatest_last_count log ≡ count
     → is_in_span (record { site = site; first = count + 1; last = count + length text }) s ≡ true
     → has_character (with_operation (next_operation site (Insert after tags text) log) log) s ≡ true
 new_characters site count log after tags text s g h =

@@ -12,6 +12,7 @@ pub mod MergingLaws
 pub mod NamedSpanLaws
 pub mod NewlineDrafts
 pub mod PartLaws
+pub mod PieceDraftLaws
 pub mod PlaceLaws
 pub mod PlanLaws
 pub mod Planning

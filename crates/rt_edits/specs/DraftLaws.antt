@@ -1,7 +1,7 @@
 -- What the operations of edits do to the cells of a history, and what they count.
-use Rattle.std.specs.Prelude.{◌≡◌, ℕ, ◌+◌, ◌-◌, ◌<◌, ◌≤◌, ◌==◌, ◌||◌, Bool, true, false, List, length, map, Some, slice_get}
+use Rattle.std.specs.Prelude.{◌≡◌, ℕ, ◌+◌, ◌-◌, ◌<◌, ◌≤◌, ◌==◌, ◌||◌, Bool, true, false, List, [], length, map, Option, Some, slice_get}
 use Rattle.std.specs.List.{AllByRecursion, IsDistinct, list_all}
-use Rattle.std.specs.Str.{all_scalars, bytes_eq}
+use Rattle.std.specs.Str.{all_scalars, bytes_eq, chars}
 use Rattle.rt_stamps.specs.declared.limits.TheConstants.{GREATEST_COUNT, MOST_CHARACTERS, MOST_SPANS}
 use Rattle.rt_stamps.specs.declared.stamp.Stamp.{Stamp}
 use Rattle.rt_stamps.specs.declared.stamp.TheConstants.{ROOT}
@@ -18,8 +18,8 @@ use Rattle.rt_rga.specs.Drafts.{all_changed, operations_of, with_drafts}
 use Rattle.rt_rga.specs.Histories.{IsHistory, greatest_last_count, has_character}
 use Rattle.rt_rga.specs.Requests.{MayBeMade}
 use Rattle.rt_edits.specs.Flat.{Flat, put_after}
-use Rattle.rt_edits.specs.InsertionDrafts.{text_drafts}
-use Rattle.rt_edits.specs.Insertions.{counts_for, tagged_cells}
+use Rattle.rt_edits.specs.InsertionDrafts.{insertion_drafts, text_drafts}
+use Rattle.rt_edits.specs.Insertions.{Insertion, Piece, counts_for, insertion_of, last_of, shared_names, tagged_cells, tags_between, with_pieces}
 use Rattle.rt_edits.specs.RemovalDrafts.{removal_drafts}
 use Rattle.rt_edits.specs.Removals.{gone_at, operations_for, span_count, stamps_at}
 use Rattle.rt_edits.specs.TagDrafts.{deletion_drafts, newline_drafts, tag_drafts, tags_drafts_at}
@@ -145,3 +145,40 @@ TextIsMade =
     → let count = greatest_last_count log in count + counts_for names text ≤ GREATEST_COUNT
     → cells_of (with_drafts site (text_drafts MOST_CHARACTERS site count after names text) log)
     ≡ put_after (cells_of log) after (tagged_cells site count names text)
+
+-- Several pieces with lists, and then characters without one.
+
+-- the tags and the characters of a text are as operations have them
+pub record IsText (names : List Word) (text : List ℕ) : Type 0 where
+  pub tags : AreTagNames names
+  pub characters : all_scalars text ≡ true
+
+abbrev pub AreTexts : List Piece → Type 0
+AreTexts pieces = AllByRecursion (λ piece. IsText (shared_names piece.tags) (chars piece.text)) pieces
+
+-- the tags and the characters of an insertion, and the element that it goes behind
+pub record IsInsertion (site : ℕ) (log : List Operation) (after : Stamp) (left right : Option TaggedCell) (pieces : List Piece) (rest : Word) (start : Insertion)
+    : Type 0 where
+  pub element : IsElement log after
+  pub listed : AreTexts pieces
+  pub unlisted : IsText (tags_between (last_of left (with_pieces site pieces start).cells) right) (chars rest)
+  pub none : start.cells ≡ []
+  pub count : start.count ≡ greatest_last_count log
+
+-- a larger history has the new cells behind the element, and their last count
+pub record IsInserted (log : List Operation) (after : Stamp) (new : Insertion) (larger : List Operation) : Type 0 where
+  pub cells : cells_of larger ≡ put_after (cells_of log) after new.cells
+  pub count : greatest_last_count larger ≡ new.count
+
+abbrev pub InsertionMayBeMade : Type 0
+InsertionMayBeMade =
+    (site : ℕ) (log : List Operation) (after : Stamp) (left right : Option TaggedCell) (pieces : List Piece) (rest : Word) (start : Insertion)
+    → IsInsertion site log after left right pieces rest start → MayBeMade site log (insertion_drafts MOST_CHARACTERS site after left right pieces rest start)
+
+abbrev pub InsertionIsMade : Type 0
+InsertionIsMade =
+    (site : ℕ) (log : List Operation) (after : Stamp) (left right : Option TaggedCell) (pieces : List Piece) (rest : Word) (start : Insertion)
+    → 0 < site → IsHistory log → IsInsertion site log after left right pieces rest start
+    → (insertion_of site left right pieces rest start).count ≤ GREATEST_COUNT
+    → IsInserted log after (insertion_of site left right pieces rest start)
+    (with_drafts site (insertion_drafts MOST_CHARACTERS site after left right pieces rest start) log)
