@@ -14,26 +14,10 @@ use Rattle.rt_stamps.specs.declared.stamp.Span.{Span}
 use Rattle.rt_stamps.specs.declared.stamp.Stamp.{Stamp}
 use Rattle.rt_stamps.specs.Stamps.{is_same}
 use Rattle.rt_store.specs.Cells.{is_in_span}
+use Rattle.rt_edits.specs.NamedSpans.{span_of, first_stamp, attached, runs}
 use Rattle.rt_edits.specs.Removals.{span_count}
 use Rattle.rt_store.specs.Spans.{each_next, is_span, is_clear_of, precedes, next_stamp, last_stamp, is_in_spans, is_among}
 use Rattle.rt_store.proofs.Distinct.{split}
-
--- the span of one stamp
-abbrev pub span_of : Stamp → Span
-span_of s = record { site = s.site; first = s.count; last = s.count }
-
-abbrev pub first_stamp : Span → Stamp
-first_stamp span = record { count = span.first; site = span.site }
-
--- a span before others, as one with the first of them where that is next
-abbrev pub attached : Span → List Span → List Span
-attached span [] = span ∷ []
-attached span (next ∷ spans) = cond (is_same (first_stamp next) (next_stamp (last_stamp span))) (record next { first = span.first } ∷ spans) (span ∷ next ∷ spans)
-
--- the longest runs of stamps in order
-abbrev pub runs : List Stamp → List Span
-runs [] = []
-runs (s ∷ ss) = attached (span_of s) (runs ss)
 
 -- THE LOOP
 
@@ -101,7 +85,7 @@ forward_attached : (span : Span) (spans : List Span) → is_span span ≡ true �
 forward_attached span [] h k = and_from (is_span span) _ h refl
 forward_attached span (next ∷ spans) h k = forward_step (is_same (first_stamp next) (next_stamp (last_stamp span))) span next spans refl h k
 
-one_span : (s : Stamp) → is_span (span_of s) ≡ true
+pub one_span : (s : Stamp) → is_span (span_of s) ≡ true
 one_span s = grind (arith, nat_tests)
 
 -- each run goes forward
@@ -114,7 +98,7 @@ or_assoc true b c = refl
 or_assoc false b c = refl
 
 -- two spans as one
-joined : (span next : Span) (s : Stamp) → is_same (first_stamp next) (next_stamp (last_stamp span)) ≡ true → is_span span ≡ true → is_span next ≡ true
+pub joined : (span next : Span) (s : Stamp) → is_same (first_stamp next) (next_stamp (last_stamp span)) ≡ true → is_span span ≡ true → is_span next ≡ true
     → is_in_span (record next { first = span.first }) s ≡ is_in_span span s || is_in_span next s
 joined span next s e h k = grind (arith, nat_tests)
 
@@ -128,7 +112,7 @@ held_attached span [] s h k = refl
 held_attached span (next ∷ spans) s h k =
     held_step (is_same (first_stamp next) (next_stamp (last_stamp span))) span next spans s refl h (and_parts (is_span next) (list_all is_span spans) k).0
 
-one_held : (s t : Stamp) → is_in_span (span_of s) t ≡ is_same s t
+pub one_held : (s t : Stamp) → is_in_span (span_of s) t ≡ is_same s t
 one_held s t = grind (arith, nat_tests)
 
 -- the runs hold the stamps and no others
@@ -142,7 +126,7 @@ held_runs (t ∷ ss) s = held_attached (span_of t) (runs ss) s (one_span t) (for
 abbrev pub Begins : Stamp → List Span → Type 0
 Begins t spans = (y : Span) × (ys : List Span) × (spans ≡ y ∷ ys) × (y.site ≡ t.site) × (y.first ≡ t.count)
 
-begins_attached : (t : Stamp) (spans : List Span) → Begins t (attached (span_of t) spans)
+pub begins_attached : (t : Stamp) (spans : List Span) → Begins t (attached (span_of t) spans)
 begins_attached t [] = (span_of t, [], refl, refl, refl)
 begins_attached t (next ∷ spans) = split (is_same (first_stamp next) (next_stamp t))
     (λ e. let site : next.site ≡ t.site = grind (arith, nat_tests) in (record next { first = t.count }, spans, cond-true _ _ _ e, site, refl))

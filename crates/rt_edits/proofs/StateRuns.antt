@@ -16,7 +16,7 @@ use Rattle.rt_tags.specs.States.{TagStates, IsState}
 use Rattle.rt_edits.specs.declared.tagging.StateRun.{StateRun}
 use Rattle.rt_store.specs.Spans.{is_span, next_stamp, last_stamp}
 use Rattle.rt_edits.specs.Working.{put_back, put_back_in_any}
-use Rattle.rt_edits.proofs.SpanLaws.{span_of, first_stamp}
+use Rattle.rt_edits.specs.NamedSpans.{span_of, first_stamp}
 
 -- the run of one cell
 abbrev pub run_of : Cell ℕ → StateRun

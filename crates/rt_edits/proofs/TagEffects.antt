@@ -139,7 +139,7 @@ some_step true c cs some s ih e = split (is_same c.stamp s) (λ t. or_left (is_s
 some_step false c cs some s ih e = or_right (is_same c.stamp s) _ (ih e)
 
 -- stamps of some cells are stamps of all
-some_among : (test : TaggedCell → Bool) (cells : List TaggedCell) (s : Stamp) → is_among (stamps_of (filter test cells)) s ≡ true → is_among (stamps_of cells) s ≡ true
+pub some_among : (test : TaggedCell → Bool) (cells : List TaggedCell) (s : Stamp) → is_among (stamps_of (filter test cells)) s ≡ true → is_among (stamps_of cells) s ≡ true
 some_among test [] s h = h
 some_among test (c ∷ cs) s h = some_step (test c) c cs (filter test cs) s (some_among test cs s) h
 

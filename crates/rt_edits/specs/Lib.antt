@@ -1,11 +1,17 @@
+pub mod DraftLaws
+pub mod Examples
 pub mod Flat
+pub mod InsertionDrafts
 pub mod Insertions
 pub mod Listed
 pub mod Merging
+pub mod NamedSpans
 pub mod Planned
+pub mod RemovalDrafts
 pub mod Removals
 pub mod Selected
 pub mod Selections
+pub mod TagDrafts
 pub mod TagWrites
 pub mod Texts
 pub mod Working

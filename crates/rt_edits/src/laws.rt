@@ -1,6 +1,6 @@
 // Laws of the definitions, each the contract of a function that does nothing.
-ghost use Rattle.std.specs.Prelude.{◌≡◌, ℕ, ◌-◌, ◌<◌, All, Bool, false, map, List, [], ◌∷◌, ◌++◌, take, drop, length, if◌then◌else◌};
-ghost use Rattle.std.specs.List.{IsDistinct};
+ghost use Rattle.std.specs.Prelude.{◌≡◌, ℕ, ◌-◌, ◌<◌, All, Bool, false, true, map, List, [], ◌∷◌, ◌++◌, take, drop, length, if◌then◌else◌};
+ghost use Rattle.std.specs.List.{IsDistinct, list_all};
 ghost use Rattle.std.specs.Str.{bytes_eq};
 ghost use Rattle.rt_stamps.specs.declared.stamp.Stamp.{Stamp};
 ghost use Rattle.rt_stamps.specs.declared.stamp.TheConstants.{ROOT};
@@ -12,7 +12,10 @@ ghost use Rattle.rt_edits.specs.Flat.{Flat, left_of, put_after};
 ghost use Rattle.rt_store.specs.Shown.{TaggedCell};
 ghost use Rattle.rt_edits.specs.Insertions.{tagged_cells};
 ghost use Rattle.rt_edits.specs.Merging.{begins_line};
-ghost use Rattle.rt_edits.specs.Removals.{cells_at, gone_at, is_removed, left_at};
+ghost use Rattle.rt_edits.specs.Removals.{cells_at, gone_at, is_removed, left_at, span_count};
+ghost use Rattle.rt_edits.specs.DraftLaws.{DeletesAreCounted, DeletesMakeGone, DeletesMayBeMade, DeletionsAreMade, DeletionsMayBeMade, InsertionIsMade, InsertionMayBeMade, NewlineHasOneTagEach, RemovalIsMade, TagsAreCounted, TagsAreMade, TagsMayBeMade, TagsWriteAsFlat, TextIsCounted, TextIsMade, TextIsPutAsFlat, TextMayBeMade};
+ghost use Rattle.rt_edits.specs.NamedSpans.{spans_in};
+ghost use Rattle.rt_store.specs.Spans.{each_next, is_among, is_clear_of, is_in_spans, is_span};
 ghost use Rattle.rt_edits.specs.TagWrites.{AreTagged, cells_beside, cells_but, with_tag, with_tag_at, writes_of};
 ghost use Rattle.rt_store.specs.Written.{AreWritten};
 ghost use Rattle.rt_tags.specs.States.{is_on};
@@ -48,4 +51,56 @@ pub fn tags_at_places()
     ensures named { (flat : Flat) (places : ℕ → Bool) (on : Bool) (name : Word) → AreWritten flat.count flat.cells → All (λ cell. is_on name cell.state ≡ on) (cells_at places 0 (with_tag_at flat places on name).cells) }
     ensures others { (flat : Flat) (places : ℕ → Bool) (on : Bool) (name : Word) → AreDistinct flat.cells → cells_beside places 0 (with_tag_at flat places on name).cells ≡ cells_beside places 0 flat.cells }
     ensures written { (flat : Flat) (places : ℕ → Bool) (on : Bool) (name : Word) → AreWritten flat.count flat.cells → AreWritten (with_tag_at flat places on name).count (with_tag_at flat places on name).cells }
+{}
+
+/// The spans of stamps have these stamps and no others. Of stamps that differ they are as many as the
+/// longest runs of consecutive counts, and stand as an operation has them: by site and first count,
+/// and no two of them touch.
+pub fn named_spans()
+    ensures same { (stamps : List Stamp) (stamp : Stamp) → is_in_spans (spans_in stamps) stamp ≡ is_among stamps stamp }
+    ensures count { (stamps : List Stamp) → IsDistinct is_same stamps → length (spans_in stamps) ≡ span_count stamps }
+    ensures forward { (stamps : List Stamp) → list_all is_span (spans_in stamps) ≡ true }
+    ensures clear { (stamps : List Stamp) → IsDistinct is_same stamps → each_next is_clear_of (spans_in stamps) ≡ true }
+{}
+
+/// The Deletes of a removal make the characters at the places gone, and no others. They take as many
+/// counts as the removal does, keep the rules, and name what is known, where the last newline stays. So
+/// the cells of the history with them are those that the removal leaves.
+pub fn removal_drafts()
+    ensures cells { DeletesMakeGone }
+    ensures count { DeletesAreCounted }
+    ensures may_be_made { DeletesMayBeMade }
+    ensures made { RemovalIsMade }
+{}
+
+/// The Tag operations of a tag edit write on just the characters that they name, under the counts of
+/// the document's definition. They keep the rules, and name what is known. So a document that has the
+/// cells of a history has, after tags were put on characters, taken off or deleted, those of the
+/// history with their operations.
+pub fn tag_drafts()
+    ensures cells { TagsWriteAsFlat }
+    ensures count { TagsAreCounted }
+    ensures may_be_made { TagsMayBeMade }
+    ensures made { TagsAreMade }
+    ensures deleted_may_be_made { DeletionsMayBeMade }
+    ensures deleted { DeletionsAreMade }
+    ensures newline { NewlineHasOneTagEach }
+{}
+
+/// The Inserts of a text, with the Tags behind them, put the cells of the document's definition in
+/// behind the element, with their tags, and take as many counts. They keep the rules, and name what is
+/// known, where the names, the characters and the element are such.
+pub fn text_drafts()
+    ensures cells { TextIsPutAsFlat }
+    ensures count { TextIsCounted }
+    ensures may_be_made { TextMayBeMade }
+    ensures made { TextIsMade }
+{}
+
+/// The operations of pieces with lists, and of characters without one behind them, put the new cells of
+/// the document's definition in behind the element, and take as many counts; each keeps the rules, and
+/// names what is known.
+pub fn insertion_drafts()
+    ensures may_be_made { InsertionMayBeMade }
+    ensures made { InsertionIsMade }
 {}

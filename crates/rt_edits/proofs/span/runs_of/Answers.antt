@@ -1,7 +1,8 @@
 use Rattle.std.proofs.Common.{◌∙◌, ◌+◌, ◌++◌, ap, arith, drop, length, sym}
 use Rattle.std.specs.List.{list_all}
 use Rattle.rt_store.specs.Spans.{each_next, is_span, is_clear_of, is_in_spans}
-use Rattle.rt_edits.proofs.SpanLaws.{attached, runs, extended_more, begun_more, runs_end, held_runs, counted_runs, forward_runs, clear_runs}
+use Rattle.rt_edits.specs.NamedSpans.{attached, runs}
+use Rattle.rt_edits.proofs.SpanLaws.{extended_more, begun_more, runs_end, held_runs, counted_runs, forward_runs, clear_runs}
 use Rattle.rt_edits.proofs.span.runs_of.Goals as goal
 use Rattle.rt_edits.proofs.span.runs_of.Goals.{then-is_next, else-is_next+in_ok-push}
 

@@ -1,5 +1,5 @@
 use Rattle.std.proofs.Common.{◌≡◌, ◌++◌, drop}
-use Rattle.rt_edits.proofs.SpanLaws.{attached, runs}
+use Rattle.rt_edits.specs.NamedSpans.{attached, runs}
 use Rattle.rt_edits.proofs.span.runs_of.Given as goal
 
 abbrev pub invariant-loop-stamp : goal.invariant-loop-stamp

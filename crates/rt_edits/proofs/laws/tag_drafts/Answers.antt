@@ -1,0 +1,25 @@
+use Rattle.rt_edits.proofs.NewlineDrafts.{newline_one_each}
+use Rattle.rt_edits.proofs.TagDocuments.{deletions_made, deletions_may, tags_are_counted, tags_made, tags_may}
+use Rattle.rt_edits.proofs.TagDraftLaws.{tags_as_flat}
+use Rattle.rt_edits.proofs.laws.tag_drafts.Goals as goal
+
+pub returns-clause-cells : goal.returns-clause-cells
+returns-clause-cells c = λ site log cells on name stamps d. tags_as_flat site name on stamps d log cells
+
+pub returns-clause-count : goal.returns-clause-count
+returns-clause-count c = tags_are_counted
+
+pub returns-clause-may_be_made : goal.returns-clause-may_be_made
+returns-clause-may_be_made c = tags_may
+
+pub returns-clause-made : goal.returns-clause-made
+returns-clause-made c = tags_made
+
+pub returns-clause-deleted_may_be_made : goal.returns-clause-deleted_may_be_made
+returns-clause-deleted_may_be_made c = deletions_may
+
+pub returns-clause-deleted : goal.returns-clause-deleted
+returns-clause-deleted c = deletions_made
+
+pub returns-clause-newline : goal.returns-clause-newline
+returns-clause-newline c = newline_one_each

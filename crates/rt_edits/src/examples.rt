@@ -1,0 +1,53 @@
+// Worked examples of the definitions, each a clause that computes.
+ghost use Rattle.std.specs.Prelude.{◌≡◌, ◌==◌, false, true, [], ◌∷◌, codes};
+ghost use Rattle.rt_stamps.specs.declared.stamp.TheConstants.{ROOT};
+ghost use Rattle.rt_stamps.specs.declared.limits.TheConstants.{MOST_CHARACTERS, MOST_SPANS};
+ghost use Rattle.rt_oplog.specs.Operations.{Delete, Insert, Tag};
+ghost use Rattle.rt_rga.specs.Examples.{at, only_t, span};
+ghost use Rattle.rt_edits.specs.Examples.{all_tags, cells_of_yab, cells_with_t, flat_with_t, listed_tags, nothing_yet, two_pieces, with_u};
+ghost use Rattle.rt_edits.specs.InsertionDrafts.{insertion_drafts, text_drafts};
+ghost use Rattle.rt_edits.specs.RemovalDrafts.{removal_drafts};
+ghost use Rattle.rt_edits.specs.TagDrafts.{deletion_drafts, newline_drafts, tag_drafts_at, tags_drafts_at};
+ghost use Rattle.rt_tags.specs.Tags.{sel};
+
+/// `Yab` is removed by one Delete: the spans stand by site, not in the text's order, and the
+/// consecutive counts of `ab` are one span. Where a Delete may have one span alone there are two. What
+/// removes nothing makes none.
+pub fn removals()
+    ensures all { removal_drafts MOST_SPANS (λ _. true) cells_of_yab ≡ Delete (span 1 1 2 ∷ span 2 3 3 ∷ []) ∷ [] }
+    ensures parts { removal_drafts 1 (λ _. true) cells_of_yab ≡ Delete (span 1 1 2 ∷ []) ∷ Delete (span 2 3 3 ∷ []) ∷ [] }
+    ensures first { removal_drafts MOST_SPANS (λ place. place == 0) cells_of_yab ≡ Delete (span 2 3 3 ∷ []) ∷ [] }
+    ensures nothing { removal_drafts MOST_SPANS (λ _. false) cells_of_yab ≡ [] }
+{}
+
+/// Of `Yab` with the tag t on `a`: t is put on the two others by one Tag, or by two where one may have
+/// one span alone, and is taken off `a`; where no character has a tag there is nothing to take off. A
+/// tag that comes twice makes operations once, and `sel` makes none. The last newline loses its tags by
+/// one Tag each.
+pub fn tags()
+    ensures on { tag_drafts_at MOST_SPANS (λ _. true) true (codes "t") cells_with_t ≡ Tag true (codes "t") (span 1 2 2 ∷ span 2 3 3 ∷ []) ∷ [] }
+    ensures parts { tag_drafts_at 1 (λ _. true) true (codes "t") cells_with_t ≡ Tag true (codes "t") (span 1 2 2 ∷ []) ∷ Tag true (codes "t") (span 2 3 3 ∷ []) ∷ [] }
+    ensures off { tag_drafts_at MOST_SPANS (λ _. true) false (codes "t") cells_with_t ≡ Tag false (codes "t") (span 1 1 1 ∷ []) ∷ [] }
+    ensures nothing { tag_drafts_at MOST_SPANS (λ _. true) false (codes "u") cells_with_t ≡ [] }
+    ensures twice { tags_drafts_at MOST_SPANS flat_with_t (λ _. true) true (codes "u" ∷ codes "u" ∷ []) ≡ Tag true (codes "u") (span 1 1 2 ∷ span 2 3 3 ∷ []) ∷ [] }
+    ensures deleted { deletion_drafts MOST_SPANS flat_with_t (sel ∷ codes "t" ∷ codes "t" ∷ []) ≡ Tag false (codes "t") (span 1 1 1 ∷ []) ∷ [] }
+    ensures newline { newline_drafts (codes "t" ∷ codes "u" ∷ []) ≡ Tag false (codes "t") (span 0 1 1 ∷ []) ∷ Tag false (codes "u") (span 0 1 1 ∷ []) ∷ [] }
+{}
+
+/// `abc` behind `(5,2)` is one Insert, or two where an Insert may have two characters: the second goes
+/// after the `b`, whose count is the one before its own. A tag that the Insert can't list is put on its
+/// characters behind it, before the next Insert. No text makes no operation.
+pub fn insertions()
+    ensures text { text_drafts MOST_CHARACTERS 1 6 (at 5 2) only_t (codes "abc") ≡ Insert (at 5 2) only_t (codes "abc") ∷ [] }
+    ensures parts { text_drafts 2 1 6 (at 5 2) only_t (codes "abc") ≡ Insert (at 5 2) only_t (codes "ab") ∷ Insert (at 8 1) only_t (codes "c") ∷ [] }
+    ensures further { text_drafts 2 1 0 ROOT all_tags (codes "abc") ≡ Insert ROOT listed_tags (codes "ab") ∷ Tag true (codes "u") (span 1 1 2 ∷ []) ∷ Insert (at 2 1) listed_tags (codes "c") ∷ Tag true (codes "u") (span 1 4 4 ∷ []) ∷ [] }
+    ensures nothing { text_drafts MOST_CHARACTERS 1 6 (at 5 2) only_t [] ≡ [] }
+{}
+
+/// Two pieces with lists and then characters without one: each goes behind the text of the one before it.
+/// Those without a list get the tags that both neighbours have, of which the left one is the last of the
+/// pieces, or without pieces the place's.
+pub fn pieces()
+    ensures lists { insertion_drafts MOST_CHARACTERS 1 (at 1 2) with_u with_u two_pieces (codes "d") (nothing_yet 6) ≡ Insert (at 1 2) only_t (codes "ab") ∷ Insert (at 8 1) [] (codes "c") ∷ Insert (at 9 1) [] (codes "d") ∷ [] }
+    ensures between { insertion_drafts MOST_CHARACTERS 1 (at 1 2) with_u with_u [] (codes "d") (nothing_yet 6) ≡ Insert (at 1 2) (codes "u" ∷ []) (codes "d") ∷ [] }
+{}
