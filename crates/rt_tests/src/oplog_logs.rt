@@ -1,5 +1,5 @@
 // Logs of a few operations.
-use crate::{Op, OpLog, join};
+use rt_oplog::{Op, OpLog, join};
 use rt_stamps::{Fault, ROOT, Stamp};
 use std::alloc::Global;
 use std::test::Fail;
