@@ -2,6 +2,10 @@
 #![tactic(auto)]
 
 #[cfg(test)]
+mod edits_removals;
+#[cfg(test)]
+mod edits_selections;
+#[cfg(test)]
 mod marks;
 #[cfg(test)]
 mod oplog_files;
@@ -9,3 +13,9 @@ mod oplog_files;
 mod oplog_logs;
 #[cfg(test)]
 mod samples;
+#[cfg(test)]
+mod store;
+#[cfg(test)]
+mod tags_states;
+#[cfg(test)]
+mod tags_table;

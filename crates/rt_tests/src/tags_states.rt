@@ -1,7 +1,8 @@
+// States of tags.
 ghost use Rattle.rt_tags.specs.States.{IsState, IsTag};
 
-use crate::{Entry, StateId, StateTable, TagId};
 use rt_stamps::{Fault, ROOT, Stamp};
+use rt_tags::{Entry, StateId, StateTable, TagId};
 use std::alloc::Global;
 use std::test::Fail;
 
