@@ -19,3 +19,7 @@ mod store;
 mod tags_states;
 #[cfg(test)]
 mod tags_table;
+#[cfg(test)]
+mod text;
+#[cfg(test)]
+mod words;
