@@ -6,6 +6,8 @@ mod edits_removals;
 #[cfg(test)]
 mod edits_selections;
 #[cfg(test)]
+mod index;
+#[cfg(test)]
 mod marks;
 #[cfg(test)]
 mod oplog_files;
@@ -13,6 +15,8 @@ mod oplog_files;
 mod oplog_logs;
 #[cfg(test)]
 mod samples;
+#[cfg(test)]
+mod show;
 #[cfg(test)]
 mod store;
 #[cfg(test)]
