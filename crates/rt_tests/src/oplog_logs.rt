@@ -2,195 +2,227 @@
 use rt_oplog::{Op, OpLog, join};
 use rt_stamps::{Fault, ROOT, Stamp};
 use std::alloc::Global;
+use std::process::Abort;
 use std::test::Fail;
 
 const FIRST: Stamp = Stamp { count: 1, site: 1 };
 
-const THIRD: Stamp = Stamp { count: 3, site: 2 };
+/// An operation.
+#[derive(Clone, Copy)]
+enum One {
+    /// Site 1 typed `ab`.
+    Ab,
+    /// Site 2 typed `Y` after the `a`.
+    Y,
+    /// Site 1 typed `b` with the stamp of the `a`.
+    B,
+    /// Site 1 typed `c` after the `b`, and then saw the `Y`.
+    C,
+    /// Site 1 typed `a` after its own stamp.
+    Own,
+    /// Site 1 typed `z` much later, and tells of nothing before it.
+    Late,
+    /// Site 1 typed `z` after the `a`, with the stamp of the `b`.
+    Z,
+}
 
 /// An Insert without tags.
-fn typed(alloc: Global, stamp: Stamp, after: Stamp, text: &[char]) -> Result<Op, Fault> {
-    Op::insert(
-        stamp,
-        0,
-        after,
-        Vec::new(alloc),
-        Vec::from_slice(alloc, text)?,
-    )
+fn typed(alloc: Global, stamp: Stamp, prev: u64, after: Stamp, text: &[char]) -> Result<Op, Fault> {
+    let text = Vec::from_slice(alloc, text)?;
+    Op::insert(stamp, prev, after, Vec::new(alloc), text)
 }
 
-/// Site 1 typed `ab`.
-fn ab(alloc: Global) -> Result<Op, Fault> {
-    typed(alloc, FIRST, ROOT, &['a', 'b'])
+fn op(alloc: Global, one: One) -> Result<Op, Fault> {
+    let at = |count: u64, site: u16| Stamp { count, site };
+    match one {
+        One::Ab => typed(alloc, FIRST, 0, ROOT, &['a', 'b']),
+        One::Y => typed(alloc, at(3, 2), 0, FIRST, &['Y']),
+        One::B => typed(alloc, FIRST, 0, ROOT, &['b']),
+        One::C => typed(alloc, at(4, 1), 2, at(2, 1), &['c']),
+        One::Own => typed(alloc, FIRST, 0, FIRST, &['a']),
+        One::Late => typed(alloc, at(9, 1), 0, ROOT, &['z']),
+        One::Z => typed(alloc, at(2, 1), 0, FIRST, &['z']),
+    }
 }
 
-/// Site 2 typed `Y` after the `a`.
-fn y(alloc: Global) -> Result<Op, Fault> {
-    typed(alloc, THIRD, FIRST, &['Y'])
+/// A log, whose calls name operations.
+struct Log {
+    log: OpLog,
 }
 
-/// Site 1 typed `b` with the stamp of the `a`.
-fn b(alloc: Global) -> Result<Op, Fault> {
-    typed(alloc, FIRST, ROOT, &['b'])
+// Written out, so that each way out of a test lets a log go in one step of its proof.
+impl Drop for Log {
+    fn drop(self) {
+        let Log { log: _ } = self;
+    }
 }
 
-/// Site 1 typed `c` after the `b`, and then saw the `Y`.
-fn c(alloc: Global) -> Result<Op, Fault> {
-    Op::insert(
-        Stamp { count: 4, site: 1 },
-        2,
-        Stamp { count: 2, site: 1 },
-        Vec::new(alloc),
-        Vec::from_slice(alloc, &['c'])?,
-    )
+impl Log {
+    fn push(&mut self, alloc: Global, one: One) -> Result<(), Fault> {
+        self.log.push(op(alloc, one)?)
+    }
+
+    // The log of operations that none refuses.
+    fn of(alloc: Global, ops: &[One]) -> Result<Log, Fault> {
+        let log = OpLog::new(alloc);
+        let mut log = Log { log };
+        for one in ops {
+            log.push(alloc, *one)?;
+        }
+        Ok(log)
+    }
+
+    fn joined(self, other: Log) -> Result<Log, Fault> {
+        let Log { log: one } = self;
+        let Log { log: other } = other;
+        let log = join(one, other)?;
+        Ok(Log { log })
+    }
+
+    // Whether an operation is in the log, and at this place.
+    fn has(&self, alloc: Global, place: usize, one: One) -> Result<bool, Fault> {
+        if place >= self.log.len() {
+            return Ok(false);
+        }
+        let op = op(alloc, one)?;
+        Ok(self.log.contains(&op) && self.log.get(place).stamp() == op.stamp())
+    }
+
+    // Stops a test where the log has other operations, or knows other counts of the sites 1 and 2.
+    fn is(
+        &self,
+        rt: &impl Abort,
+        alloc: Global,
+        ops: &[One],
+        known: (u64, u64),
+    ) -> Result<(), Fail> {
+        assert_eq!(rt; self.log.len(), ops.len());
+        assert_eq!(rt; self.log.in_order()?.len(), ops.len());
+        assert_eq!(rt; (self.log.known(1), self.log.known(2)), known);
+        for (place, one) in ops.iter().enumerate() {
+            assert!(rt; self.has(alloc, place, *one)?, "at {place}");
+        }
+        Ok(())
+    }
 }
 
-/// A log of one operation.
-fn log_of(alloc: Global, op: Op) -> Result<OpLog, Fault> {
-    let mut log = OpLog::new(alloc);
-    log.push(op)?;
-    Ok(log)
-}
+const AB: &[One] = &[One::Ab];
 
-/// Site 1 typed `ab`, site 2 typed `Y` after the `a`.
-fn both(alloc: Global) -> Result<OpLog, Fault> {
-    let mut log = log_of(alloc, y(alloc)?)?;
-    log.push(ab(alloc)?)?;
-    Ok(log)
-}
+const Y: &[One] = &[One::Y];
+
+const BOTH: &[One] = &[One::Ab, One::Y];
+
+const ALL: &[One] = &[One::Ab, One::Y, One::C];
+
+// Operations that are pushed in turn, each with its fault, the log then, and the counts that it knows
+// of the sites 1 and 2.
+const PUSHED: [(&[(One, Option<Fault>)], &[One], (u64, u64)); 4] = [
+    (
+        &[(One::Y, None), (One::Ab, None), (One::Ab, None)],
+        BOTH,
+        (2, 3),
+    ),
+    (
+        &[(One::Ab, None), (One::B, Some(Fault::Conflict))],
+        AB,
+        (2, 0),
+    ),
+    (&[(One::Own, Some(Fault::BadStamp))], &[], (0, 0)),
+    (
+        &[
+            (One::Y, None),
+            (One::Ab, None),
+            (One::Late, Some(Fault::Conflict)),
+            (One::C, None),
+        ],
+        ALL,
+        (4, 3),
+    ),
+];
 
 #[test]
-fn takes_each_operation_once(rt: HostRuntime) -> Result<(), Fail> {
+fn takes_operations_in_turn(rt: HostRuntime) -> Result<(), Fail> {
     let alloc = rt.alloc();
-    let mut log = OpLog::new(alloc);
-    log.reserve(2)?;
-    log.push(y(alloc)?)?;
-    log.push(ab(alloc)?)?;
-    log.push(ab(alloc)?)?;
-    assert_eq!(rt; log.len(), 2);
-    assert!(rt; log.contains(&ab(alloc)?));
-    assert!(rt; log.contains(&y(alloc)?));
-    assert_eq!(rt; log.in_order()?.len(), 2);
-    assert_eq!(rt; log.known(1), 2);
-    assert_eq!(rt; log.known(2), 3);
+    assert_eq!(rt; op(alloc, One::Own)?.check(), Err(Fault::BadStamp));
+    for (pushes, ops, known) in PUSHED {
+        let mut log = Log::of(alloc, &[])?;
+        log.log.reserve(2)?;
+        for (one, fault) in pushes {
+            assert_eq!(rt; log.push(alloc, *one).err(), *fault);
+        }
+        log.is(&rt, alloc, ops, known)?;
+    }
     Ok(())
 }
 
-/// The log of operations.
-fn made(alloc: Global, ops: Vec<Op>) -> Result<OpLog, Fault> {
-    match OpLog::from_ops(alloc, ops) {
-        Ok(log) => Ok(log),
-        Err(refused) => Err(refused.fault),
+/// The log of operations at once, or the fault of the first that is refused, and its place.
+fn made(alloc: Global, ops: &[One]) -> Result<Result<Log, (Fault, usize)>, Fault> {
+    let mut all = Vec::new(alloc);
+    for one in ops {
+        all.push(op(alloc, *one)?)?;
     }
-}
-
-/// The fault of the first operation that is refused, and its place.
-fn refused(alloc: Global, ops: Vec<Op>) -> Option<(Fault, usize)> {
-    match OpLog::from_ops(alloc, ops) {
-        Ok(_) => None,
-        Err(refused) => Some((refused.fault, refused.place)),
-    }
+    Ok(match OpLog::from_ops(alloc, all) {
+        Ok(log) => Ok(Log { log }),
+        Err(refused) => Err((refused.fault, refused.place)),
+    })
 }
 
 #[test]
 fn takes_operations_as_they_stand(rt: HostRuntime) -> Result<(), Fail> {
     let alloc = rt.alloc();
-    let ops = vec![in alloc; y(alloc)?, ab(alloc)?, ab(alloc)?, c(alloc)?]?;
-    let log = made(alloc, ops)?;
-    assert_eq!(rt; log.len(), 3);
-    assert!(rt; log.get(0).stamp() == FIRST);
-    assert!(rt; log.get(1).stamp() == THIRD);
-    assert!(rt; log.contains(&c(alloc)?));
-    assert_eq!(rt; log.known(1), 4);
-    assert_eq!(rt; made(alloc, Vec::new(alloc))?.len(), 0);
+    let taken: [(&[One], &[One], (u64, u64)); 2] = [
+        (&[One::Y, One::Ab, One::Ab, One::C], ALL, (4, 3)),
+        (&[], &[], (0, 0)),
+    ];
+    for (given, ops, known) in taken {
+        match made(alloc, given)? {
+            Ok(log) => log.is(&rt, alloc, ops, known)?,
+            Err(_) => assert!(rt; false, "refused"),
+        }
+    }
     Ok(())
 }
 
 #[test]
 fn refuses_operations_that_have_no_log(rt: HostRuntime) -> Result<(), Fail> {
     let alloc = rt.alloc();
-    let ops = vec![in alloc; y(alloc)?, ab(alloc)?, b(alloc)?, c(alloc)?]?;
-    assert_eq!(rt; refused(alloc, ops), Some((Fault::Conflict, 2)));
-    let own = typed(alloc, FIRST, FIRST, &['a'])?;
-    let ops = vec![in alloc; own, ab(alloc)?, b(alloc)?]?;
-    assert_eq!(rt; refused(alloc, ops), Some((Fault::BadStamp, 0)));
+    let refused: [(&[One], (Fault, usize)); 2] = [
+        (&[One::Y, One::Ab, One::B, One::C], (Fault::Conflict, 2)),
+        (&[One::Own, One::Ab, One::B], (Fault::BadStamp, 0)),
+    ];
+    for (given, why) in refused {
+        assert_eq!(rt; made(alloc, given)?.err(), Some(why));
+    }
     Ok(())
 }
 
+// Two logs, their join, and the counts that it knows of the sites 1 and 2.
+const JOINED: [(&[One], &[One], &[One], (u64, u64)); 4] = [
+    (AB, Y, BOTH, (2, 3)),
+    (Y, AB, BOTH, (2, 3)),
+    (BOTH, BOTH, BOTH, (2, 3)),
+    (&[], &[], &[], (0, 0)),
+];
+
 #[test]
-fn refuses_a_clash(rt: HostRuntime) -> Result<(), Fail> {
+fn joins(rt: HostRuntime) -> Result<(), Fail> {
     let alloc = rt.alloc();
-    let mut log = OpLog::new(alloc);
-    log.push(ab(alloc)?)?;
-    assert!(rt; matches!(log.push(b(alloc)?), Err(Fault::Conflict)));
-    assert_eq!(rt; log.len(), 1);
-    assert!(rt; log.contains(&ab(alloc)?));
-    Ok(())
-}
-
-#[test]
-fn checks_the_left_element(rt: HostRuntime) -> Result<(), Fail> {
-    let own = typed(rt.alloc(), FIRST, FIRST, &['a'])?;
-    assert!(rt; matches!(own.check(), Err(Fault::BadStamp)));
-    let mut log = OpLog::new(rt.alloc());
-    assert!(rt; matches!(log.push(own), Err(Fault::BadStamp)));
-    assert_eq!(rt; log.len(), 0);
-    Ok(())
-}
-
-#[test]
-fn refuses_the_newest_that_goes_on_from_below(rt: HostRuntime) -> Result<(), Fail> {
-    let alloc = rt.alloc();
-    let mut log = both(alloc)?;
-    let late = typed(alloc, Stamp { count: 9, site: 1 }, ROOT, &['z'])?;
-    assert!(rt; matches!(log.push(late), Err(Fault::Conflict)));
-    log.push(c(alloc)?)?;
-    assert_eq!(rt; log.len(), 3);
-    assert_eq!(rt; log.known(1), 4);
-    Ok(())
-}
-
-#[test]
-fn joins_in_either_order(rt: HostRuntime) -> Result<(), Fail> {
-    let alloc = rt.alloc();
-    let mut one = join(log_of(alloc, ab(alloc)?)?, log_of(alloc, y(alloc)?)?)?;
-    let other = join(log_of(alloc, y(alloc)?)?, log_of(alloc, ab(alloc)?)?)?;
-    assert_eq!(rt; one.len(), 2);
-    assert_eq!(rt; other.len(), 2);
-    assert!(rt; one.get(0).stamp() == FIRST);
-    assert!(rt; one.get(1).stamp() == THIRD);
-    assert!(rt; other.get(0).stamp() == FIRST);
-    assert!(rt; other.get(1).stamp() == THIRD);
-    one.push(c(alloc)?)?;
-    assert!(rt; one.contains(&ab(alloc)?));
-    assert!(rt; one.contains(&y(alloc)?));
-    assert_eq!(rt; one.known(1), 4);
-    Ok(())
+    for (one, other, ops, known) in JOINED {
+        let log = Log::of(alloc, one)?.joined(Log::of(alloc, other)?)?;
+        log.is(&rt, alloc, ops, known)?;
+    }
+    let mut log = Log::of(alloc, AB)?.joined(Log::of(alloc, Y)?)?;
+    log.push(alloc, One::C)?;
+    log.is(&rt, alloc, ALL, (4, 3))
 }
 
 #[test]
 fn joins_no_clash(rt: HostRuntime) -> Result<(), Fail> {
     let alloc = rt.alloc();
-    let one = both(alloc)?;
-    let other = log_of(alloc, b(alloc)?)?;
-    assert!(rt; matches!(join(one, other), Err(Fault::Conflict)));
-    let one = log_of(alloc, ab(alloc)?)?;
-    let other = log_of(
-        alloc,
-        typed(alloc, Stamp { count: 2, site: 1 }, FIRST, &['z'])?,
-    )?;
-    assert!(rt; matches!(join(one, other), Err(Fault::Conflict)));
-    Ok(())
-}
-
-#[test]
-fn joins_a_log_with_itself(rt: HostRuntime) -> Result<(), Fail> {
-    let alloc = rt.alloc();
-    let same = join(both(alloc)?, both(alloc)?)?;
-    assert_eq!(rt; same.len(), 2);
-    assert!(rt; same.contains(&ab(alloc)?));
-    assert!(rt; same.contains(&y(alloc)?));
-    let empty = join(OpLog::new(alloc), OpLog::new(alloc))?;
-    assert_eq!(rt; empty.len(), 0);
+    let clashes: [(&[One], &[One]); 2] = [(&[One::Y, One::Ab], &[One::B]), (AB, &[One::Z])];
+    for (one, other) in clashes {
+        let joined = Log::of(alloc, one)?.joined(Log::of(alloc, other)?);
+        assert_eq!(rt; joined.err(), Some(Fault::Conflict));
+    }
     Ok(())
 }
