@@ -17,8 +17,3 @@ pub mod tagging;
 pub use piece::Piece;
 pub use range::Range;
 pub use selection::Selection;
-
-#[cfg(test)]
-mod removal_tests;
-#[cfg(test)]
-mod selection_tests;

@@ -4,7 +4,6 @@ pub mod Hope
 pub mod Dots
 pub mod Kept
 pub mod Modifiers
-pub mod Pages
 pub mod Places
 pub mod Spelling
 pub mod Tags

@@ -2,7 +2,6 @@ pub mod Characters
 pub mod Expression
 pub mod Grammar
 pub mod Index
-pub mod Page
 pub mod Reading
 pub mod Values
 pub mod Widget

@@ -12,5 +12,3 @@ pub mod values;
 pub use expression::{Expr, is_fixed, parse, resolve};
 pub use ground::Ground;
 
-#[cfg(test)]
-mod tests;

@@ -9,8 +9,6 @@ pub mod marks;
 pub mod place;
 pub mod spot;
 mod table;
-#[cfg(test)]
-mod tests;
 
 pub use gravity::Gravity;
 pub use marks::Marks;

@@ -5,8 +5,6 @@ mod decode;
 mod ends;
 mod fields;
 pub mod file;
-#[cfg(test)]
-mod file_tests;
 mod intake;
 pub mod laws;
 pub mod log;
@@ -15,8 +13,6 @@ pub mod op;
 mod rules;
 mod same;
 mod spell;
-#[cfg(test)]
-mod tests;
 pub mod text;
 
 pub use file::{Reading, read_file, write_file};

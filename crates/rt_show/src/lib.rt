@@ -3,7 +3,5 @@
 
 pub mod lines;
 mod parts;
-#[cfg(test)]
-mod tests;
 
 pub use lines::write_lines;

@@ -5,8 +5,6 @@ pub mod cell;
 pub mod laws;
 pub mod list;
 pub mod store;
-#[cfg(test)]
-mod tests;
 
 pub use cell::{Cell, FINAL_CELL};
 pub use list::ListStore;

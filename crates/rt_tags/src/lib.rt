@@ -6,12 +6,8 @@
 pub mod laws;
 mod names;
 mod sorting;
-#[cfg(test)]
-mod state_tests;
 pub mod states;
 pub mod table;
-#[cfg(test)]
-mod tests;
 
 pub use states::{Entry, StateId, StateTable, TagId};
 pub use table::TagTable;

@@ -1,27 +1,32 @@
+// What few counts are left for.
 ghost use Rattle.std.specs.Prelude.{◌≡◌};
 ghost use Rattle.rt_tags.specs.Tags.{IsName};
 
-use crate::{Doc, OwnMark, Widget};
-use rt_edits::{Piece, Range, Selection};
-use rt_marks::Gravity;
+use crate::{Doc, Widget};
+use rt_edits::{Range, Selection};
 use rt_stamps::limits::GREATEST_COUNT;
-use rt_stamps::{Clock, FINAL, Fault, Position, Site, Stamp};
+use rt_stamps::{Clock, FINAL, Fault, Site, Stamp};
 use rt_store::ListStore;
 use std::alloc::Global;
 use std::marker::Model;
-use std::process::Abort;
 use std::test::Fail;
 
-/// A document and the widget that shows it. Its calls have no clauses.
+/// A document, the widget that shows it, and what two other widgets of its site have selected. Its
+/// calls have no clauses.
 struct Page {
     doc: Doc<ListStore>,
     widget: Widget,
+    others: [Selection; 2],
 }
 
 // Written out, so that each way out of a test lets a page go in one step of its proof.
 impl Drop for Page {
     fn drop(self) {
-        let Page { doc: _, widget: _ } = self;
+        let Page {
+            doc: _,
+            widget: _,
+            others: _,
+        } = self;
     }
 }
 
@@ -38,88 +43,51 @@ impl Model for Page {
 }
 
 impl Page {
-    fn new(alloc: Global, clock: Clock) -> Result<Page, Fail> {
+    // An empty page of whose counts so many are left. One other widget has these selected, the other
+    // nothing.
+    fn new(alloc: Global, counts: u64, selected: &[Stamp]) -> Result<Page, Fail> {
+        let mut clock = Clock::new();
+        clock.saw(GREATEST_COUNT.saturating_sub(counts));
         let site = Site::new(1).ok_or("a site")?;
         let store = ListStore::new(alloc)?;
-        let doc = Doc::with_clock(alloc, store, site, 20_000, clock)?;
-        let widget = Widget::new(alloc);
-        Ok(Page { doc, widget })
+        Ok(Page {
+            doc: Doc::with_clock(alloc, store, site, 20_000, clock)?,
+            widget: Widget::new(alloc),
+            others: [Selection::of(alloc, selected)?, Selection::new(alloc)],
+        })
     }
 
-    fn insert(&mut self, index: &str, new: &str) -> Result<(), Fault> {
-        self.doc.insert(&mut self.widget, &mut [], index, &[], new)
-    }
-
-    fn insert_pieces(
-        &mut self,
-        others: &mut [Selection],
-        index: &str,
-        pieces: &[Piece],
-        rest: &str,
-    ) -> Result<(), Fault> {
+    fn insert(&mut self, new: &str) -> Result<(), Fault> {
         self.doc
-            .insert(&mut self.widget, others, index, pieces, rest)
+            .insert(&mut self.widget, &mut self.others, "1.0", &[], new)
     }
 
-    fn next_tagged(&self, name: &str, place: usize) -> Option<usize> {
-        self.doc.next_tagged(&self.widget, name, place)
-    }
-
-    fn next_untagged(&self, name: &str, place: usize) -> Option<usize> {
-        self.doc.next_untagged(&self.widget, name, place)
-    }
-
-    fn write_tag(&mut self, on: bool, name: &str, ranges: &[Range]) -> Result<(), Fault>
+    fn tag(&mut self, name: &str, from: usize) -> Result<(), Fault>
         requires { IsName name.now }
     {
-        self.doc.write_tag(&mut self.widget, on, name, ranges)
+        let range = Range { from, to: 3 };
+        self.doc.write_tag(&mut self.widget, true, name, &[range])
     }
 
     fn delete(&mut self, indices: &[String]) -> Result<(), Fault> {
-        self.doc.delete(&mut self.widget, &mut [], indices)
+        self.doc.delete(&mut self.widget, &mut self.others, indices)
     }
 
-    fn get(&self, from: &str, to: &str) -> Result<String, Fault> {
-        self.doc.get(&self.widget, from, to)
+    fn text(&self) -> Result<String, Fault> {
+        self.doc.get(&self.widget, "1.0", "end")
     }
 
-    fn index(&self, index: &str) -> Result<Position, Fault> {
-        self.doc.index(&self.widget, index)
+    fn next_tagged(&self, name: &str) -> Option<usize> {
+        self.doc.next_tagged(&self.widget, name, 0)
     }
 
-    fn set(&mut self, name: &str, index: &str) -> Result<(), Fault> {
-        let place = self.doc.place(&self.widget, index)?;
-        let last = self.doc.visible() - 1;
-        match OwnMark::of(name) {
-            Some(OwnMark::Insert) => self.widget.set(OwnMark::Insert, place.min(last)),
-            Some(OwnMark::Current) => self.widget.set(OwnMark::Current, place),
-            None => self.doc.set_mark(name, place)?,
-        }
-        Ok(())
-    }
-
-    fn set_gravity(&mut self, name: &str, gravity: Gravity) -> Result<(), Fault> {
-        match OwnMark::of(name) {
-            Some(which) => self.widget.set_gravity(which, gravity),
-            None => self.doc.set_mark_gravity(name, gravity)?,
-        }
-        Ok(())
-    }
-
-    fn next(&self, name: &str) -> Option<&str> {
-        self.doc.marks().next(name)
+    fn next_untagged(&self, name: &str) -> Option<usize> {
+        self.doc.next_untagged(&self.widget, name, 0)
     }
 }
 
-fn at(line: usize, character: usize) -> Result<Position, Fault> {
-    Ok(Position { line, character })
-}
-
-// A deletion of ranges.
-fn delete_at(alloc: Global, page: &mut Page, indices: &[&str]) -> Result<(), Fail> {
-    let indices = words(alloc, indices)?;
-    page.delete(&indices)?;
-    Ok(())
+fn stamp(count: u64) -> Stamp {
+    Stamp { count, site: 1 }
 }
 
 fn words(alloc: Global, words: &[&str]) -> Result<Vec<String>, Fail> {
@@ -133,268 +101,48 @@ fn words(alloc: Global, words: &[&str]) -> Result<Vec<String>, Fail> {
 #[test]
 fn deletes_with_the_last_count(rt: HostRuntime) -> Result<(), Fail> {
     let alloc = rt.alloc();
-    let mut clock = Clock::new();
-    clock.saw(GREATEST_COUNT - 6);
-    let mut page = Page::new(alloc, clock)?;
-    page.insert("1.0", "hello")?;
+    let mut page = Page::new(alloc, 6, &[])?;
+    page.insert("hello")?;
     let nothing = words(alloc, &["1.2", "1.2"])?;
-    assert_eq!(rt; page.delete(&nothing), Ok(()));
     let two = words(alloc, &["1.0", "1.1", "1.3", "1.4"])?;
-    assert_eq!(rt; page.delete(&two), Ok(()));
-    assert_eq!(rt; page.get("1.0", "end")?.as_str(), "elo\n");
-    assert_eq!(rt; page.delete(&two), Err(Fault::ClockSpent));
-    assert_eq!(rt; page.get("1.0", "end")?.as_str(), "elo\n");
-    assert_eq!(rt; page.delete(&nothing), Ok(()));
     let unread = words(alloc, &["1.0", "one"])?;
+    assert_eq!(rt; page.delete(&nothing), Ok(()));
+    assert_eq!(rt; page.delete(&two), Ok(()));
+    assert_eq!(rt; page.text()?.as_str(), "elo\n");
+    assert_eq!(rt; page.delete(&two), Err(Fault::ClockSpent));
+    assert_eq!(rt; page.text()?.as_str(), "elo\n");
+    assert_eq!(rt; page.delete(&nothing), Ok(()));
     assert_eq!(rt; page.delete(&unread), Err(Fault::BadIndex));
     Ok(())
 }
 
-// Where the marks stand whose numbers are even, and the others.
-fn stand_in_turn(
-    rt: &impl Abort,
-    alloc: Global,
-    page: &Page,
-    even: usize,
-    odd: usize,
-) -> Result<(), Fail> {
-    for i in 0..100u8 {
-        let name = format!(in alloc; "m{i:02}")?;
-        let character = if i % 2 == 0 { even } else { odd };
-        assert_eq!(rt; page.index(name.as_str()), at(1, character), "at {name}");
-    }
-    Ok(())
-}
-
-// Sets a hundred marks, every other one with left gravity.
-fn set_a_hundred(alloc: Global, page: &mut Page, index: &str) -> Result<(), Fail> {
-    for i in 0..100u8 {
-        let name = format!(in alloc; "m{i:02}")?;
-        page.set(name.as_str(), index)?;
-        if i % 2 == 0 {
-            page.set_gravity(name.as_str(), Gravity::Left)?;
-        }
-    }
-    Ok(())
-}
-
-// The left ones of a gap's marks stay before text that is inserted there, and all come to stand
-// where a removed range was, in their order.
-#[test]
-fn a_hundred_marks_in_one_gap(rt: HostRuntime) -> Result<(), Fail> {
-    let alloc = rt.alloc();
-    let mut page = Page::new(alloc, Clock::new())?;
-    page.insert("1.0", "0123456789")?;
-    set_a_hundred(alloc, &mut page, "1.5")?;
-    page.insert("1.5", "abc")?;
-    stand_in_turn(&rt, alloc, &page, 5, 8)?;
-    assert_eq!(rt; page.next("m98"), Some("m01"));
-    let ranges = ["1.9", "1.11", "1.1", "1.3", "1.4", "1.9"];
-    delete_at(alloc, &mut page, &ranges)?;
-    stand_in_turn(&rt, alloc, &page, 2, 2)?;
-    assert_eq!(rt; page.next("m98"), Some("m01"));
-    assert_eq!(rt; page.get("1.0", "end")?.as_str(), "0389\n");
-    Ok(())
-}
-
-// Ten thousand characters.
-fn ten_thousand(alloc: Global) -> Result<String, Fail> {
-    let mut text = String::new(alloc);
-    for _ in 0..1000usize {
-        text.push_str("0123456789")?;
-    }
-    Ok(text)
-}
-
-// Sets a thousand marks in a line, ten characters apart.
-fn set_a_thousand(alloc: Global, page: &mut Page) -> Result<(), Fail> {
-    for i in 0..1000usize {
-        let name = format!(in alloc; "m{i}")?;
-        let index = format!(in alloc; "1.{i}0")?;
-        page.set(name.as_str(), index.as_str())?;
-    }
-    Ok(())
-}
-
-// Whether a mark stands at a character of the first line.
-fn stands(alloc: Global, page: &Page, i: usize, character: usize) -> Result<bool, Fail> {
-    let name = format!(in alloc; "m{i}")?;
-    Ok(page.index(name.as_str()) == Ok(Position { line: 1, character }))
-}
-
-// One insertion moves those of a thousand marks that stand at its place or behind it.
-#[test]
-fn a_thousand_marks_in_ten_thousand_characters(rt: HostRuntime) -> Result<(), Fail> {
-    let alloc = rt.alloc();
-    let mut page = Page::new(alloc, Clock::new())?;
-    let text = ten_thousand(alloc)?;
-    page.insert("1.0", text.as_str())?;
-    set_a_thousand(alloc, &mut page)?;
-    page.insert("1.5000", "abc")?;
-    let mut character = 0usize;
-    for i in 0..1000usize {
-        let moved = if i < 500 { 0 } else { 3 };
-        let wanted = character.saturating_add(moved);
-        assert!(rt; stands(alloc, &page, i, wanted)?, "mark {i}");
-        character = character.saturating_add(10);
-    }
-    Ok(())
-}
-
-// A piece of text with a list of tags.
-fn piece(alloc: Global, text: &str, tags: &[&str]) -> Result<Piece, Fail> {
-    Ok(Piece::new(String::from_str(alloc, text)?, words(alloc, tags)?))
-}
-
-// Tags, each with a place and the first range behind that in which all characters have it.
-fn tagged(rt: &impl Abort, page: &Page, rows: &[(&str, usize, usize, usize)]) {
-    for (name, place, from, to) in rows {
-        assert_eq!(rt;
-            page.next_tagged(name, *place),
-            Some(*from),
-            "{name} from {place}"
-        );
-        assert_eq!(rt;
-            page.next_untagged(name, *from),
-            Some(*to),
-            "{name} up from {from}"
-        );
-    }
-}
-
-// Ranges may pass the text's end, overlap, come in any order and be empty.
-#[test]
-fn ranges_of_a_tag(rt: HostRuntime) -> Result<(), Fail> {
-    let mut page = Page::new(rt.alloc(), Clock::new())?;
-    page.insert("1.0", "abcdef")?;
-    let ranges = [
-        Range { from: 5, to: 100 },
-        Range { from: 3, to: 2 },
-        Range { from: 1, to: 3 },
-        Range { from: 4, to: 4 },
-        Range { from: 0, to: 2 },
-    ];
-    page.write_tag(true, "t", &ranges)?;
-    tagged(&rt, &page, &[("t", 0, 0, 3)]);
-    assert_eq!(rt; page.next_tagged("t", 3), Some(5));
-    assert_eq!(rt; page.next_untagged("t", 5), None);
-    page.write_tag(false, "t", &[Range { from: 6, to: 100 }])?;
-    tagged(&rt, &page, &[("t", 3, 5, 6)]);
-    Ok(())
-}
-
-/// A page, and what two other widgets of its site have selected. Its calls take it and give it back.
-struct Shared {
-    page: Page,
-    others: [Selection; 2],
-}
-
-impl Drop for Shared {
-    fn drop(self) {
-        let Shared { page: _, others: _ } = self;
-    }
-}
-
-impl Shared {
-    fn new(alloc: Global, clock: Clock, first: &[Stamp], second: &[Stamp]) -> Result<Shared, Fail> {
-        let first = Selection::of(alloc, first)?;
-        let second = Selection::of(alloc, second)?;
-        let page = Page::new(alloc, clock)?;
-        Ok(Shared {
-            page,
-            others: [first, second],
-        })
-    }
-
-    fn insert(mut self, index: &str, pieces: &[Piece], rest: &str) -> Result<Shared, Fault> {
-        self.page
-            .insert_pieces(&mut self.others, index, pieces, rest)?;
-        Ok(self)
-    }
-
-    fn tag(mut self, name: &str, ranges: &[Range]) -> Result<Shared, Fault>
-        requires { IsName name.now }
-    {
-        self.page.write_tag(true, name, ranges)?;
-        Ok(self)
-    }
-
-    fn delete(&mut self, indices: &[String]) -> Result<(), Fault> {
-        self.page
-            .doc
-            .delete(&mut self.page.widget, &mut self.others, indices)
-    }
-
-    // Whether the two other widgets have the character of a stamp selected.
-    fn selected(&self, stamp: Stamp) -> (bool, bool) {
-        (self.others[0].has(stamp), self.others[1].has(stamp))
-    }
-}
-
-fn stamp(count: u64) -> Stamp {
-    Stamp { count, site: 1 }
-}
-
-// New text without a list is selected in each widget that has both neighbours; `sel` in a list
-// selects in the widget that commands alone.
-#[test]
-fn selected_in_other_widgets(rt: HostRuntime) -> Result<(), Fail> {
-    let alloc = rt.alloc();
-    let listed = [piece(alloc, "Z", &["sel"])?];
-    let shared = Shared::new(alloc, Clock::new(), &[stamp(1), stamp(2)], &[stamp(1)])?;
-    let shared = shared.insert("1.0", &[], "ab")?;
-    let shared = shared.insert("1.1", &[], "X")?;
-    assert_eq!(rt; shared.selected(stamp(3)), (true, false));
-    assert_eq!(rt; shared.page.next_tagged("sel", 0), None);
-    let shared = shared.insert("1.1", &listed, "")?;
-    assert_eq!(rt; shared.selected(stamp(3)), (true, false));
-    assert_eq!(rt; shared.selected(stamp(4)), (false, false));
-    tagged(&rt, &shared.page, &[("sel", 0, 1, 2)]);
-    Ok(())
-}
-
 // A page with the text `ab`, two tags on all of it and the last newline selected, here and in one of
-// the other widgets. Its clock goes so many counts further.
-fn page_of_counts(alloc: Global, counts: u64) -> Result<Shared, Fail> {
-    let mut clock = Clock::new();
-    clock.saw(GREATEST_COUNT.saturating_sub(counts).saturating_sub(4));
-    let shared = Shared::new(alloc, clock, &[FINAL, stamp(1)], &[])?;
-    let shared = shared.insert("1.0", &[], "ab")?;
-    let shared = shared.tag("t", &[Range { from: 0, to: 3 }])?;
-    let shared = shared.tag("u", &[Range { from: 0, to: 3 }])?;
-    Ok(shared.tag("sel", &[Range { from: 2, to: 3 }])?)
+// the other widgets. So many of its counts are left.
+fn page_of_counts(alloc: Global, counts: u64) -> Result<Page, Fail> {
+    let mut page = Page::new(alloc, counts.saturating_add(4), &[FINAL, stamp(1)])?;
+    page.insert("ab")?;
+    page.tag("t", 0)?;
+    page.tag("u", 0)?;
+    page.tag("sel", 2)?;
+    Ok(page)
 }
 
-// Where a deletion holds the last newline, it stays, and loses its tags: each takes a count behind
-// that of the deletion. It is nowhere selected then.
-#[test]
-fn the_last_newline_loses_its_tags(rt: HostRuntime) -> Result<(), Fail> {
-    let alloc = rt.alloc();
-    let down_to_the_end = words(alloc, &["1.1", "end"])?;
-    let mut shared = page_of_counts(alloc, 3)?;
-    assert_eq!(rt; shared.delete(&down_to_the_end), Ok(()));
-    assert_eq!(rt; shared.page.get("1.0", "end")?.as_str(), "a\n");
-    tagged(&rt, &shared.page, &[("t", 0, 0, 1), ("u", 0, 0, 1)]);
-    assert_eq!(rt; shared.page.next_tagged("sel", 0), None);
-    assert_eq!(rt; shared.selected(FINAL), (false, false));
-    assert_eq!(rt; shared.selected(stamp(1)), (true, false));
-    assert!(rt; shared.page.doc.tags().has("t") && shared.page.doc.tags().has("u"));
-    assert_eq!(rt; shared.page.insert("1.0", "c"), Err(Fault::ClockSpent));
-    Ok(())
-}
-
+// The last newline, which stays, loses its tags: each takes a count behind that of the deletion.
 // Where the clock can't go as far as the last of those counts, all is as it was.
 #[test]
-fn a_deletion_with_too_few_counts(rt: HostRuntime) -> Result<(), Fail> {
+fn counts_of_the_last_newline(rt: HostRuntime) -> Result<(), Fail> {
     let alloc = rt.alloc();
     let down_to_the_end = words(alloc, &["1.1", "end"])?;
-    let mut shared = page_of_counts(alloc, 2)?;
-    assert_eq!(rt; shared.delete(&down_to_the_end), Err(Fault::ClockSpent));
-    assert_eq!(rt; shared.page.get("1.0", "end")?.as_str(), "ab\n");
-    assert_eq!(rt; shared.page.next_untagged("t", 0), None);
-    assert_eq!(rt; shared.page.next_untagged("u", 0), None);
-    assert_eq!(rt; shared.page.next_tagged("sel", 0), Some(2));
-    assert_eq!(rt; shared.selected(FINAL), (true, false));
-    assert_eq!(rt; shared.page.insert("1.0", "cd"), Ok(()));
+    let mut page = page_of_counts(alloc, 3)?;
+    assert_eq!(rt; page.delete(&down_to_the_end), Ok(()));
+    assert_eq!(rt; page.insert("c"), Err(Fault::ClockSpent));
+    let mut page = page_of_counts(alloc, 2)?;
+    assert_eq!(rt; page.delete(&down_to_the_end), Err(Fault::ClockSpent));
+    assert_eq!(rt; page.text()?.as_str(), "ab\n");
+    assert_eq!(rt; page.next_untagged("t"), None);
+    assert_eq!(rt; page.next_untagged("u"), None);
+    assert_eq!(rt; page.next_tagged("sel"), Some(2));
+    assert!(rt; page.others[0].has(FINAL) && !page.others[1].has(FINAL));
+    assert_eq!(rt; page.insert("cd"), Ok(()));
     Ok(())
 }

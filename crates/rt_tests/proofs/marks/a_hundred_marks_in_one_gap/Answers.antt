@@ -1,7 +1,7 @@
 use Rattle.std.proofs.Common.{arith, subst, sym, ◌≤◌}
 use Rattle.rt_marks.specs.Marks.{Each, Mark}
 use Rattle.rt_marks.proofs.Moving.{within_gravity, within_more, within_set}
-use Rattle.rt_marks.proofs.tests.a_hundred_marks_in_one_gap.Goals as goal
+use Rattle.rt_tests.proofs.marks.a_hundred_marks_in_one_gap.Goals as goal
 
 pub loop-i-preserved : goal.loop-i-preserved
 loop-i-preserved g c =

@@ -1,5 +1,6 @@
-use crate::Selection;
-use crate::selection::{add_between, remove_from_each, reserve_between};
+// Selected characters.
+use rt_edits::Selection;
+use rt_edits::selection::{add_between, remove_from_each, reserve_between};
 use rt_stamps::Stamp;
 use std::process::Abort;
 use std::test::Fail;

@@ -1,4 +1,4 @@
-use Rattle.rt_oplog.proofs.file_tests.read_pieces.Given as goal
+use Rattle.rt_tests.proofs.oplog_files.read_pieces.Given as goal
 
 abbrev pub ghosts-read_in-A-Ledger : goal.ghosts-read_in-A-Ledger
 ghosts-read_in-A-Ledger a = record { name = a.reads.name; parts = a.reads.parts }

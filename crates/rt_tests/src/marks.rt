@@ -1,5 +1,6 @@
-use crate::place::{place_inserted, place_removed};
-use crate::{Gravity, Marks, Spot};
+// Marks of a few names.
+use rt_marks::place::{place_inserted, place_removed};
+use rt_marks::{Gravity, Marks, Spot};
 use rt_stamps::Fault;
 use std::test::Fail;
 

@@ -2,9 +2,9 @@
 // hand from the table of values.
 ghost use Rattle.std.specs.Prelude.{◌≡◌, count_by};
 ghost use Rattle.rt_stamps.specs.Places.{is_newline};
-ghost use Rattle.rt_index.specs.Page.{page_text};
+ghost use Rattle.rt_tests.specs.Page.{page_text};
 
-use crate::{Ground, is_fixed, parse, resolve};
+use rt_index::{Ground, is_fixed, parse, resolve};
 use rt_stamps::Fault;
 use std::alloc::{AllocError, Global};
 
@@ -30,7 +30,7 @@ impl Page {
 }
 
 impl Ground for Page {
-    ghost use Rattle.rt_index.specs.Page.{page, page_proper};
+    ghost use Rattle.rt_tests.specs.Page.{page, page_proper};
 
     ghost widget = { λ s. page s.characters.items };
 
@@ -38,7 +38,7 @@ impl Ground for Page {
         self.characters.len()
     }
 
-    #[tactic(auto, using(crate::proofs::Pages::newlines_counted, crate::proofs::Places::newlines_few))]
+    #[tactic(auto, using(crate::proofs::Pages::newlines_counted, rt_index::proofs::Places::newlines_few))]
     fn lines(&self) -> usize {
         newlines(&self.characters)
     }
@@ -56,7 +56,7 @@ impl Ground for Page {
         }
     }
 
-    #[tactic(auto, using(crate::proofs::Pages::newlines_counted, crate::proofs::Places::newlines_few))]
+    #[tactic(auto, using(crate::proofs::Pages::newlines_counted, rt_index::proofs::Places::newlines_few))]
     fn line_of(&self, place: usize) -> usize {
         newlines(&self.characters[..place]) + 1
     }

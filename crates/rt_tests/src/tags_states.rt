@@ -1,12 +1,12 @@
+// States of tags.
 ghost use Rattle.rt_tags.specs.States.{IsState, IsTag};
 
-use crate::{Entry, StateId, StateTable, TagId};
 use rt_stamps::{Fault, ROOT, Stamp};
+use rt_tags::{Entry, StateId, StateTable, TagId};
 use std::alloc::Global;
 use std::test::Fail;
 
 // A tag that is written on characters of one state.
-#[derive(Drop)]
 struct Typing {
     table: StateTable,
     tag: TagId,
@@ -15,6 +15,18 @@ struct Typing {
     ghost tag_given: { IsTag table tag },
     ghost before_given: { IsState table before },
     ghost after_given: { IsState table after },
+}
+
+// Written out, so that each way out of a test lets a typing go in one step of its proof.
+impl Drop for Typing {
+    fn drop(self) {
+        let Typing {
+            table: _,
+            tag: _,
+            before: _,
+            after: _,
+        } = self;
+    }
 }
 
 impl Typing {

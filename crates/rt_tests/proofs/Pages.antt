@@ -2,7 +2,7 @@
 use Rattle.std.proofs.Common.{◌≡◌, ◌≢◌, cond, ℕ, ◌+◌, ◌≤◌, List, ◌∷◌, arith, ap, sym, refl, subst}
 use Rattle.std.specs.Prelude.{count_by}
 use Rattle.std.proofs.lemmas.List.Recursion.{is_count_by}
-use Rattle.rt_index.specs.Page.{page_text}
+use Rattle.rt_tests.specs.Page.{page_text}
 use Rattle.rt_stamps.specs.Places.{is_newline, newlines, line_start}
 
 newlines_step : (c : ℕ) (t : List ℕ) → newlines (c ∷ t) ≡ cond (is_newline c) (1 + newlines t) (newlines t)

@@ -1,19 +1,19 @@
+// Texts of a few cells.
 ghost use Rattle.std.specs.Prelude.{◌≡◌, false};
 ghost use Rattle.rt_store.specs.ListStore.{cells_of};
 ghost use Rattle.rt_store.specs.Tagged.{AreStates};
 ghost use Rattle.rt_tags.specs.States.{IsState, IsTag};
 
-use crate::{Cell, FINAL_CELL, ListStore, TextStore};
 use rt_stamps::{FINAL, Fault, ROOT, Span, Stamp};
+use rt_store::{Cell, FINAL_CELL, ListStore, TextStore};
 use rt_tags::{StateId, StateTable, TagId};
 use std::alloc::Global;
 use std::test::Fail;
 
-// A short text, and a tag that some of its characters have.
-#[derive(Drop)]
-struct Text {
+/// A short text, and a tag that some of its characters have.
+pub struct Text {
     states: StateTable,
-    store: ListStore,
+    pub store: ListStore,
     tag: TagId,
     tagged: StateId,
     ghost tag_given: { IsTag states tag },
@@ -21,9 +21,21 @@ struct Text {
     ghost cells_given: { AreStates states (cells_of store) },
 }
 
+// Written out, so that each way out of a test lets a text go in one step of its proof.
+impl Drop for Text {
+    fn drop(self) {
+        let Text {
+            states: _,
+            store: _,
+            tag: _,
+            tagged: _,
+        } = self;
+    }
+}
+
 impl Text {
-    #[tactic(auto, using(crate::proofs::GivenStates::one_state))]
-    fn new(alloc: Global) -> Result<Text, Fault> {
+    #[tactic(auto, using(rt_store::proofs::GivenStates::one_state))]
+    pub fn new(alloc: Global) -> Result<Text, Fault> {
         let mut states = StateTable::new(alloc)?;
         let tag = states.number("t")?;
         let tagged = states.with(StateId::EMPTY, tag, ROOT, true)?;
@@ -36,9 +48,9 @@ impl Text {
         })
     }
 
-    // Puts a character in front of the others.
-    #[tactic(auto, using(crate::proofs::GivenStates::spliced_states, crate::proofs::GivenStates::one_state))]
-    fn put(&mut self, count: u64, ch: char, is_tagged: bool) -> Result<(), Fault> {
+    /// Puts a character in front of the others.
+    #[tactic(auto, using(rt_store::proofs::GivenStates::spliced_states, rt_store::proofs::GivenStates::one_state))]
+    pub fn put(&mut self, count: u64, ch: char, is_tagged: bool) -> Result<(), Fault> {
         if self.store.cells() > 100 {
             return Err(Fault::NoMemory);
         }
@@ -58,7 +70,7 @@ impl Text {
     }
 
     // Puts the tag on the characters of a span.
-    #[tactic(auto, using(crate::proofs::GivenStates::put_states))]
+    #[tactic(auto, using(rt_store::proofs::GivenStates::put_states))]
     fn tag(&mut self, span: Span) -> Result<(), Fault> {
         if self.store.cells() > 100 {
             return Err(Fault::NoMemory);
@@ -69,7 +81,7 @@ impl Text {
     }
 
     // Removes a character.
-    #[tactic(auto, using(crate::proofs::GivenStates::gone_states))]
+    #[tactic(auto, using(rt_store::proofs::GivenStates::gone_states))]
     fn remove(&mut self, count: u64) -> Result<(), Fault> {
         if self.store.cells() > 100 {
             return Err(Fault::NoMemory);
@@ -140,7 +152,7 @@ fn cell(count: u64, site: u16, ch: char) -> Cell<StateId>
 
 // A new character goes past those that are newer, and no further.
 #[test]
-#[tactic(auto, using(crate::proofs::GivenStates::spliced_states, crate::proofs::GivenStates::one_state))]
+#[tactic(auto, using(rt_store::proofs::GivenStates::spliced_states, rt_store::proofs::GivenStates::one_state))]
 fn past_greater_stamps(rt: HostRuntime) -> Result<(), Fail> {
     let states = StateTable::new(rt.alloc())?;
     states.order();

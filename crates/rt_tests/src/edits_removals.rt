@@ -1,9 +1,8 @@
-use crate::Range;
-use crate::insertion::push_cells;
-use crate::removal::removed_ranges;
-use rt_stamps::Site;
-use rt_store::{ListStore, TextStore};
-use rt_tags::{StateId, StateTable};
+// The places that removals take.
+use crate::store::Text;
+use rt_edits::Range;
+use rt_edits::removal::removed_ranges;
+use rt_stamps::Fault;
 use std::alloc::Global;
 use std::process::Abort;
 use std::test::Fail;
@@ -12,23 +11,15 @@ fn range(from: usize, to: usize) -> Range {
     Range { from, to }
 }
 
-// A store of some characters before the last newline.
-#[tactic(auto, using(crate::proofs::Planning::states_from))]
-fn store_of(rt: &impl Abort, alloc: Global, text: &str) -> Result<ListStore, Fail> {
-    let mut chars = Vec::new(alloc);
-    for ch in text.chars() {
-        chars.push(ch)?;
+// Some characters before the last newline.
+fn text_of(alloc: Global, characters: &str) -> Result<Text, Fault> {
+    let mut text = Text::new(alloc)?;
+    let mut count = 100u64;
+    for ch in characters.chars().rev() {
+        text.put(count, ch, false)?;
+        count = count.saturating_sub(1);
     }
-    assert!(rt; chars.len() < 100);
-    let site = Site::new(1).ok_or("a site")?;
-    let states = StateTable::new(alloc)?;
-    let mut cells = Vec::new(alloc);
-    push_cells(&mut cells, 1, site, StateId::EMPTY, &chars)?;
-    assert!(rt; cells.len() < 100);
-    let mut store = ListStore::new(alloc)?;
-    store.reserve(cells.len(), 1)?;
-    store.splice(&states, 0, &cells);
-    Ok(store)
+    Ok(text)
 }
 
 // Ranges of some characters and the last newline, and what a removal takes.
@@ -39,8 +30,7 @@ fn removes(
     ranges: &[Range],
     removed: &[Range],
 ) -> Result<(), Fail> {
-    let store = store_of(rt, alloc, text)?;
-    let found = removed_ranges(alloc, &store, ranges)?;
+    let found = removed_ranges(alloc, &text_of(alloc, text)?.store, ranges)?;
     assert_eq!(rt; found.as_slice(), removed, "in {text}");
     Ok(())
 }

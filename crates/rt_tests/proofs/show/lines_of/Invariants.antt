@@ -1,4 +1,4 @@
-use Rattle.rt_show.proofs.tests.lines_of.Given as goal
+use Rattle.rt_tests.proofs.show.lines_of.Given as goal
 
 abbrev pub ghosts-written-A-Ledger : goal.ghosts-written-A-Ledger
 ghosts-written-A-Ledger a = record { name = a.writes.name; parts = a.writes.parts }

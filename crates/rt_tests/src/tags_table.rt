@@ -1,5 +1,6 @@
-use crate::TagTable;
+// Tags by their priority.
 use rt_stamps::Fault;
+use rt_tags::TagTable;
 use std::test::Fail;
 
 // Whether a table lists these names, lowest priority first.

@@ -1,0 +1,198 @@
+// The words of lines and of lists.
+use rt_stamps::Fault;
+use rt_words::words::{list_words, words};
+use std::alloc::Global;
+use std::test::Fail;
+
+// A bar before each word.
+fn barred(alloc: Global, words: &[String]) -> Result<String, Fault> {
+    let mut text = String::new(alloc);
+    for word in words {
+        text.push('|')?;
+        text.push_str(word)?;
+    }
+    Ok(text)
+}
+
+#[test]
+fn bare_words(rt: HostRuntime) -> Result<(), Fail> {
+    for (line, want) in [
+        ("", ""),
+        (" \t ", ""),
+        ("a", "|a"),
+        (".t insert 1.0 hello", "|.t|insert|1.0|hello"),
+        (" a\tb  \t c ", "|a|b|c"),
+        ("a\"b c{d e} }", "|a\"b|c{d|e}|}"),
+        ("a\\n \\ a\"b\" a{b}c", "|a\\n|\\|a\"b\"|a{b}c"),
+        ("#a \r", "|#a|\r"),
+        ("é\u{a0}ü \u{1f600}", "|é\u{a0}ü|\u{1f600}"),
+    ] {
+        let found = words(rt.alloc(), line)?;
+        assert_eq!(rt; barred(rt.alloc(), &found)?.as_str(), want, "in {line:?}");
+    }
+    Ok(())
+}
+
+#[test]
+fn quoted_words(rt: HostRuntime) -> Result<(), Fail> {
+    for (line, want) in [
+        ("\"\"", "|"),
+        ("\"\" a \"\"", "||a|"),
+        ("\"a b\"", "|a b"),
+        ("\ta \"b\tc\"  \"{\" ", "|a|b\tc|{"),
+        ("\"\\n\\t\\r\\\\\\\"\"", "|\n\t\r\\\""),
+        ("\"a\\\"b\" \"\\\\\" c", "|a\"b|\\|c"),
+        ("\"a\\\\n\\n\"", "|a\\n\n"),
+        ("\"é ü\\n\u{1f600}\" é", "|é ü\n\u{1f600}|é"),
+        ("\"a\r} { b\"", "|a\r} { b"),
+    ] {
+        let found = words(rt.alloc(), line)?;
+        assert_eq!(rt; barred(rt.alloc(), &found)?.as_str(), want, "in {line:?}");
+    }
+    Ok(())
+}
+
+#[test]
+fn braced_words(rt: HostRuntime) -> Result<(), Fail> {
+    for (line, want) in [
+        ("{}", "|"),
+        ("{} {} a", "|||a"),
+        ("{a b}", "|a b"),
+        ("{a {b {c} d} e} f", "|a {b {c} d} e|f"),
+        ("{{}{}}\t{{{}}}", "|{}{}|{{}}"),
+        ("{a\\} {\\n\"} b", "|a\\|\\n\"|b"),
+        ("{ \"a } ", "| \"a "),
+        ("{é {\u{1f600}}}", "|é {\u{1f600}}"),
+    ] {
+        let found = words(rt.alloc(), line)?;
+        assert_eq!(rt; barred(rt.alloc(), &found)?.as_str(), want, "in {line:?}");
+    }
+    Ok(())
+}
+
+// The words of replies, and the bytes that the lines of answers have for them.
+#[test]
+fn lines_of_replies(rt: HostRuntime) -> Result<(), Fail> {
+    for (line, want) in [
+        ("=", "|="),
+        ("= 2.0", "|=|2.0"),
+        ("= \"hello\\n\"", "|=|hello\n"),
+        ("= \"\"", "|=|"),
+        ("= a \"\" b", "|=|a||b"),
+        ("= \"}\" \"{\" \"a b\"", "|=|}|{|a b"),
+        ("= \"a b\" {c {d} e}", "|=|a b|c {d} e"),
+        ("= \"\\t\\r\" \"\\\"\\\\\"", "|=|\t\r|\"\\"),
+        ("= é#$[ \u{1f600}", "|=|é#$[|\u{1f600}"),
+    ] {
+        let found = words(rt.alloc(), line)?;
+        assert_eq!(rt; barred(rt.alloc(), &found)?.as_str(), want, "in {line:?}");
+    }
+    Ok(())
+}
+
+// Newlines stand between the words of a list; within quotes and braces they are the word's.
+#[test]
+fn lists(rt: HostRuntime) -> Result<(), Fail> {
+    for (list, want) in [
+        ("", ""),
+        (" \t\n \n", ""),
+        ("a", "|a"),
+        ("a b\tc\nd", "|a|b|c|d"),
+        ("\na\n\n \tb\n", "|a|b"),
+        ("big {very big} \"x\\ny\"", "|big|very big|x\ny"),
+        ("\"a\nb\"\n{c\n{d}}\ne", "|a\nb|c\n{d}|e"),
+        ("\"\"\n{}\n\"\"", "|||"),
+        ("a\rb\u{a0}c", "|a\rb\u{a0}c"),
+    ] {
+        let found = list_words(rt.alloc(), list)?;
+        assert_eq!(rt; barred(rt.alloc(), &found)?.as_str(), want, "in {list:?}");
+    }
+    Ok(())
+}
+
+// A newline that stands bare in a line is a character of its word.
+#[test]
+fn newlines(rt: HostRuntime) -> Result<(), Fail> {
+    for (text, of_line, of_list) in [
+        ("a\nb", "|a\nb", "|a|b"),
+        ("\n", "|\n", ""),
+        ("a \n b", "|a|\n|b", "|a|b"),
+        ("a\n{b", "|a\n{b", "refused"),
+        ("{a}\nb", "refused", "|a|b"),
+    ] {
+        let line = words(rt.alloc(), text);
+        assert_eq!(rt;
+            told(rt.alloc(), line)?.as_str(),
+            of_line,
+            "in the line {text:?}"
+        );
+        let list = list_words(rt.alloc(), text);
+        assert_eq!(rt;
+            told(rt.alloc(), list)?.as_str(),
+            of_list,
+            "in the list {text:?}"
+        );
+    }
+    Ok(())
+}
+
+// A bar before each word, or that there are none.
+fn told(alloc: Global, found: Result<Vec<String>, Fault>) -> Result<String, Fault> {
+    match found {
+        Ok(list) => barred(alloc, &list),
+        Err(Fault::BadQuoting) => String::from_str(alloc, "refused").map_err(Fault::from),
+        Err(fault) => Err(fault),
+    }
+}
+
+#[test]
+fn refused_lists(rt: HostRuntime) -> Result<(), Fail> {
+    for list in [
+        "\"",
+        "{",
+        "a\n\"b",
+        "\"a\"b",
+        "{a}b\n",
+        "a\n{b\n",
+        "\"\\\n\"",
+        "\"a\n",
+        "{}\n}{\n{",
+    ] {
+        let refused = list_words(rt.alloc(), list).err();
+        assert_eq!(rt; refused, Some(Fault::BadQuoting), "in {list:?}");
+    }
+    Ok(())
+}
+
+#[test]
+fn refused_lines(rt: HostRuntime) -> Result<(), Fail> {
+    for line in [
+        "\"",
+        "\"a",
+        "a \"b",
+        "\"a\\",
+        "\"a\\\"",
+        "\"a\"b",
+        "\"a\"\"b\"",
+        "\"\"{}",
+        "\"\\x\"",
+        "\"\\",
+        "\"\\ \"",
+        "\"\\é\"",
+        "\"a\"\u{a0}",
+        "{",
+        "{a",
+        "{a{b}",
+        "{a}b",
+        "{a}}",
+        "{}{}",
+        "{}\"\"",
+        "a \t{b",
+        "a {b} \"c\\q\"",
+        "{a\\}}",
+    ] {
+        let refused = words(rt.alloc(), line).err();
+        assert_eq!(rt; refused, Some(Fault::BadQuoting), "in {line:?}");
+    }
+    Ok(())
+}
