@@ -1,4 +1,4 @@
-//! The memory of a block: room for so many entries, allocated at once. No other module reads, writes or makes a raw pointer.
+//! The memory of a block: room for so many entries, allocated at once. All `unsafe` code of the crate is here.
 ghost use Rattle.std.specs.Prelude.{◌≡◌, ℕ, [], IfOk};
 ghost use Rattle.std_alloc.specs.Vec.Ownership.{FitsInBlock};
 ghost use Rattle.std_alloc.specs.Vec.{vec_capacity, vec_ptr};
