@@ -1,0 +1,9 @@
+mod Measures
+mod Around
+mod Down
+mod Going
+mod Texts
+mod CellLaws
+mod Stands
+mod Kept
+mod Lines

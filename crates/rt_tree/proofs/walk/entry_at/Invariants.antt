@@ -1,0 +1,17 @@
+use Rattle.std.proofs.Common.{◌≡◌, ◌+◌, take}
+use Rattle.rt_nodes.specs.Nodes.{entries}
+use Rattle.rt_tree.specs.Shape.{sum_of}
+use Rattle.rt_tree.specs.Sums.{amount, plus}
+use Rattle.rt_tree.proofs.walk.entry_at.Given as goal
+
+abbrev pub invariant-loop-index : goal.invariant-loop-index
+invariant-loop-index g l =
+    let nodes = g.L.Looks.nodes in
+    let front = sum_of (take l.index (entries (nodes l.initial.looks) l.node.index)) in
+    record {
+      at : amount l.by front + l.rest ≡ l.place;
+      before : l.before ≡ plus l.fn.ahead front;
+      cost : g.L.Looks.looked l.looks ≡ g.L.Looks.looked l.initial.looks + l.index;
+      same : nodes l.looks ≡ nodes l.initial.looks;
+      lent : g.L.Looks.counter l.looks ≡ g.L.Looks.counter l.initial.looks;
+    }

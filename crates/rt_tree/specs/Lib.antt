@@ -1,0 +1,9 @@
+pub mod Runs
+pub mod Sums
+pub mod Shape
+pub mod Walks
+pub mod Trees
+pub use Rattle.rt_nodes.specs.Nodes
+pub use Rattle.rt_stamps.specs.Places
+pub use Rattle.rt_stamps.specs.Stamps
+pub use Rattle.rt_store.specs.Cells

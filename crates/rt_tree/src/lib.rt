@@ -1,0 +1,16 @@
+//! The cells of a text in a counted B-tree of runs.
+#![tactic(auto)]
+
+mod find;
+pub mod looks;
+pub mod node;
+mod sums;
+#[cfg(test)]
+mod tests;
+pub mod tree;
+pub mod walk;
+
+pub use looks::{Counted, Looks};
+pub use node::{Counts, Entry, Head, Measure, Run, Totals};
+pub use tree::Tree;
+pub use walk::{Spot, descend};

@@ -1,0 +1,62 @@
+// Sums of counts.
+ghost use Rattle.std.specs.Prelude.{◌≡◌, ◌+◌, ◌<◌, ◌^◌};
+ghost use Rattle.rt_tree.specs.Shape.{entry_counts};
+ghost use Rattle.rt_tree.specs.Sums.{AreFew, amount, counts_of_run, no_counts, plus};
+
+use crate::node::{Counts, Entry, Measure, Run};
+
+// What no run counts.
+pub(crate) fn no_counts() -> Counts
+    ensures { result ≡ no_counts }
+{
+    Counts {
+        cells: 0,
+        visible: 0,
+        newlines: 0,
+    }
+}
+
+// The sum of counts.
+pub(crate) fn plus(a: Counts, b: Counts) -> Counts
+    requires { AreFew (plus a b) }
+    ensures { result ≡ plus a b }
+{
+    Counts {
+        cells: a.cells + b.cells,
+        visible: a.visible + b.visible,
+        newlines: a.newlines + b.newlines,
+    }
+}
+
+// One of the counts.
+pub(crate) fn amount(by: Measure, counts: Counts) -> usize
+    ensures { result ≡ amount by counts }
+{
+    let amount = match by {
+        Measure::Cells => counts.cells,
+        Measure::Visible => counts.visible,
+        Measure::Newlines => counts.newlines,
+    };
+    amount as usize
+}
+
+// What a run counts.
+fn counts_of_run(run: Run) -> Counts
+    ensures { result ≡ counts_of_run run }
+{
+    Counts {
+        cells: run.len,
+        visible: if run.gone { 0 } else { run.len },
+        newlines: if run.gone || !run.newline { 0 } else { 1 },
+    }
+}
+
+// What the runs of an entry count.
+pub(crate) fn entry_counts(entry: &Entry) -> Counts
+    ensures { result ≡ entry_counts entry.now }
+{
+    match entry {
+        Entry::Down(_, totals) => totals.counts,
+        Entry::Here(run) => counts_of_run(*run),
+    }
+}

@@ -1,0 +1,175 @@
+// The cells of a text in a tree.
+ghost use Rattle.std.specs.Prelude.{◌≡◌, ◌+◌, ◌-◌, ◌*◌, ◌<◌, ◌≤◌, ◌^◌, [], ◌∷◌, length, slice_get, Some, IfOk, IfErr};
+ghost use Rattle.rt_stamps.specs.Places.{line_of, line_start, newlines};
+ghost use Rattle.rt_store.specs.Cells.{final_cell, text_of, visible_of};
+ghost use Rattle.rt_tree.specs.Trees.{final_run};
+
+use crate::find::{cell_in, find, height, seek, sum_of};
+use crate::node::{Entry, Head, Measure, Mem, Run};
+use rt_nodes::{NodeId, NodeMem};
+use rt_stamps::{FINAL, Fault};
+use rt_store::Cell;
+use rt_tags::StateId;
+use std::alloc::Global;
+use std::marker::Model;
+
+/// The cells of a text in the runs of a counted B-tree: each call that reads costs a logarithm of the
+/// number of runs.
+#[derive(Drop)]
+pub struct Tree {
+    mem: Mem,
+    root: NodeId,
+    // The characters of all runs, in the order in which they came.
+    text: Vec<char>,
+    runs: usize,
+}
+
+impl Model for Tree {
+    ghost use Rattle.rt_tree.specs.Trees.{IsKept, Shown, shown};
+
+    ghost Value = { Shown };
+
+    ghost view = { λ t. shown t.mem t.root.index t.text.items };
+
+    ghost invariant = { λ t. IsKept t.mem t.root.index t.text.items t.runs };
+}
+
+// The run of the final newline, as it is at first.
+fn final_run() -> Run
+    ensures { result ≡ final_run }
+{
+    Run {
+        first: FINAL.count,
+        state: StateId::EMPTY,
+        at: 0,
+        len: 1,
+        site: FINAL.site,
+        gone: false,
+        newline: true,
+    }
+}
+
+impl Tree {
+    /// A tree of the final newline alone.
+    pub fn new(alloc: Global) -> Result<Tree, Fault>
+        ensures cells { IfOk result (λ tree. tree.cells ≡ final_cell ∷ []) }
+        ensures runs { IfOk result (λ tree. tree.runs ≡ 1) }
+        ensures height { IfOk result (λ tree. tree.height ≡ 1) }
+        ensures err { IfErr result (λ fault. fault ≡ Fault.NoMemory) }
+    {
+        let mut text = Vec::with_capacity(alloc, 1)?;
+        text.push('\n')?;
+        let mut mem = NodeMem::new(alloc);
+        mem.reserve(1)?;
+        let root = mem.make(Head {
+            parent: NodeId { index: 0 },
+            level: 0,
+        });
+        mem.insert_at(root, 0, Entry::Here(final_run()));
+        Ok(Tree {
+            mem,
+            root,
+            text,
+            runs: 1,
+        })
+    }
+
+    /// How many levels of nodes there are: 1 where the root is a leaf.
+    pub fn height(&self) -> usize
+        ensures value { result ≡ self.now.height }
+        ensures bound { result ≤ 2 ^ 32 }
+    {
+        height(&self.mem, self.root)
+    }
+
+    /// How many runs the cells are kept in.
+    pub fn runs(&self) -> usize
+        ensures { result ≡ self.now.runs }
+    {
+        self.runs
+    }
+
+    /// How many cells there are, gone ones too.
+    pub fn cells(&self) -> usize
+        ensures { result ≡ length self.now.cells }
+    {
+        sum_of(&self.mem, self.root).cells as usize
+    }
+
+    /// How many of them are visible.
+    pub fn visible(&self) -> usize
+        ensures { result ≡ length (visible_of self.now.cells) }
+    {
+        sum_of(&self.mem, self.root).visible as usize
+    }
+
+    /// How many lines the text has.
+    pub fn lines(&self) -> usize
+        ensures { result ≡ newlines (text_of self.now.cells) }
+    {
+        sum_of(&self.mem, self.root).newlines as usize
+    }
+
+    /// The cell at a position, gone or not.
+    pub fn nth(&self, position: usize) -> Cell<StateId>
+        requires { position < length self.now.cells }
+        ensures { slice_get self.now.cells position ≡ Some result }
+    {
+        let found = seek(&self.mem, self.root, Measure::Cells, position);
+        cell_in(&self.text, &found.run, found.spot.offset)
+    }
+
+    /// The visible cell at a place. It adds at most sixteen looks a level to the counter.
+    pub fn find(&self, place: usize, looks: &mut u64) -> Cell<StateId>
+        requires within { place < length (visible_of self.now.cells) }
+        requires room { looks.old + 16 * self.now.height < 2 ^ 64 }
+        ensures cell { slice_get (visible_of self.now.cells) place ≡ Some result }
+        ensures cost { looks.new ≤ looks.old + 16 * self.now.height }
+    {
+        let found = find(&self.mem, self.root, Measure::Visible, place, looks);
+        cell_in(&self.text, &found.run, found.spot.offset)
+    }
+
+    /// The visible cell at a place.
+    pub fn cell_at(&self, place: usize) -> Cell<StateId>
+        requires { place < length (visible_of self.now.cells) }
+        ensures { slice_get (visible_of self.now.cells) place ≡ Some result }
+    {
+        self.height();
+        let mut looks = 0;
+        self.find(place, &mut looks)
+    }
+
+    /// The character at a place.
+    pub fn char_at(&self, place: usize) -> char
+        requires { place < length (visible_of self.now.cells) }
+        ensures { slice_get (text_of self.now.cells) place ≡ Some result }
+    {
+        self.cell_at(place).ch
+    }
+
+    /// The first place of a line, counted from 1.
+    pub fn line_start(&self, line: usize) -> usize
+        requires { (1 ≤ line) × (line ≤ newlines (text_of self.now.cells)) }
+        ensures { result ≡ line_start (text_of self.now.cells) line }
+    {
+        if line == 1 {
+            return 0;
+        }
+        let found = seek(&self.mem, self.root, Measure::Newlines, line - 2);
+        found.before.visible as usize + found.run.len as usize
+    }
+
+    /// The line of a place, counted from 1.
+    pub fn line_of(&self, place: usize) -> usize
+        requires { place ≤ length (visible_of self.now.cells) }
+        ensures { result ≡ line_of (text_of self.now.cells) place }
+    {
+        let all = sum_of(&self.mem, self.root);
+        if place == all.visible as usize {
+            return all.newlines as usize + 1;
+        }
+        let found = seek(&self.mem, self.root, Measure::Visible, place);
+        found.before.newlines as usize + 1
+    }
+}
