@@ -2,7 +2,39 @@
 use rt_marks::place::{place_inserted, place_removed};
 use rt_marks::{Gravity, Marks, Spot};
 use rt_stamps::Fault;
+use std::alloc::Global;
 use std::test::Fail;
+
+/// Marks.
+struct Names {
+    marks: Marks,
+}
+
+// Written out, so that each way out of a test lets the marks go in one step of its proof.
+impl Drop for Names {
+    fn drop(self) {
+        let Names { marks: _ } = self;
+    }
+}
+
+impl Names {
+    fn new(alloc: Global) -> Names {
+        let marks = Marks::new(alloc);
+        Names { marks }
+    }
+
+    // Marks at places, of which some get left gravity then.
+    fn of(alloc: Global, marks: &[(&str, usize)], left: &[&str]) -> Result<Names, Fault> {
+        let mut names = Names::new(alloc);
+        for (name, place) in marks {
+            names.marks.set(name, *place)?;
+        }
+        for name in left {
+            names.marks.set_gravity(name, Gravity::Left)?;
+        }
+        Ok(names)
+    }
+}
 
 // Of two marks at a place text goes between them, after the left one and before the right one.
 #[test]
@@ -20,20 +52,15 @@ fn gravity_decides(rt: HostRuntime) -> Result<(), Fail> {
     Ok(())
 }
 
+const AS_SET: [(&str, usize); 6] = [("c", 7), ("b", 3), ("aa", 3), ("z", 3), ("a", 3), ("m", 0)];
+
 const IN_ORDER: [&str; 6] = ["m", "a", "z", "aa", "b", "c"];
 
 // By place, then left gravity first, then by name.
 #[test]
 fn order_by_place_gravity_and_name(rt: HostRuntime) -> Result<(), Fail> {
-    let mut marks = Marks::new(rt.alloc());
-    marks.set("c", 7)?;
-    marks.set("b", 3)?;
-    marks.set("aa", 3)?;
-    marks.set("z", 3)?;
-    marks.set("a", 3)?;
-    marks.set("m", 0)?;
-    marks.set_gravity("z", Gravity::Left)?;
-    marks.set_gravity("a", Gravity::Left)?;
+    let names = Names::of(rt.alloc(), &AS_SET, &["z", "a"])?;
+    let marks = &names.marks;
     for i in 1..IN_ORDER.len() {
         assert_eq!(rt; marks.next(IN_ORDER[i - 1]), Some(IN_ORDER[i]));
         assert_eq!(rt; marks.previous(IN_ORDER[i]), Some(IN_ORDER[i - 1]));
@@ -68,25 +95,22 @@ fn about<'a>(
 // What stands about a spot where no mark stands, among marks of its place.
 #[test]
 fn about_a_spot(rt: HostRuntime) -> Result<(), Fail> {
-    let mut marks = Marks::new(rt.alloc());
-    marks.set("c", 3)?;
-    marks.set("b", 3)?;
-    marks.set("z", 3)?;
-    marks.set_gravity("z", Gravity::Left)?;
+    let names = Names::of(rt.alloc(), &[("c", 3), ("b", 3), ("z", 3)], &["z"])?;
+    let marks = &names.marks;
     assert_eq!(rt;
-        about(&marks, 3, Gravity::Right, "bb"),
+        about(marks, 3, Gravity::Right, "bb"),
         (Some("c"), Some("b"))
     );
     assert_eq!(rt;
-        about(&marks, 3, Gravity::Right, "a"),
+        about(marks, 3, Gravity::Right, "a"),
         (Some("b"), Some("z"))
     );
     assert_eq!(rt;
-        about(&marks, 3, Gravity::Right, "b"),
+        about(marks, 3, Gravity::Right, "b"),
         (Some("c"), Some("z"))
     );
-    assert_eq!(rt; about(&marks, 3, Gravity::Left, ""), (Some("z"), None));
-    assert_eq!(rt; about(&marks, 4, Gravity::Left, ""), (None, Some("c")));
+    assert_eq!(rt; about(marks, 3, Gravity::Left, ""), (Some("z"), None));
+    assert_eq!(rt; about(marks, 4, Gravity::Left, ""), (None, Some("c")));
     assert!(rt; marks.find("q").is_none());
     Ok(())
 }
@@ -150,10 +174,11 @@ fn a_hundred_marks_in_one_gap(rt: HostRuntime) -> Result<(), Fail> {
 
 #[test]
 fn names_and_faults(rt: HostRuntime) -> Result<(), Fail> {
-    let mut marks = Marks::new(rt.alloc());
     let long = [b'n'; 256];
     let too_long = std::str::from_utf8(&long)?;
     let longest = std::str::from_utf8(&long[..255])?;
+    let mut held = Names::new(rt.alloc());
+    let marks = &mut held.marks;
     assert_eq!(rt; marks.set("", 0), Err(Fault::BadName));
     assert_eq!(rt; marks.set(too_long, 0), Err(Fault::BadName));
     assert_eq!(rt; marks.set(longest, 0), Ok(()));
