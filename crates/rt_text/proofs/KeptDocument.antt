@@ -17,6 +17,7 @@ use Rattle.rt_tags.specs.Tags.{IsName, with_name, sel}
 use Rattle.rt_edits.specs.declared.tagging.StateRun.{StateRun}
 use Rattle.rt_edits.specs.TagWrites.{listed_if, with_tag_at}
 use Rattle.rt_text.specs.Commands.{clock_check}
+use Rattle.rt_text.specs.Kept.{IsDoc}
 use Rattle.rt_edits.specs.Flat.{Flat}
 use Rattle.rt_store.specs.Shown.{TaggedCell, shown}
 use Rattle.rt_store.specs.Written.{AreBelowNext, AreWritten}
@@ -31,36 +32,40 @@ use Rattle.rt_store.proofs.Shown.{visible_shown, length_shown, text_shown, shown
 use Rattle.rt_edits.proofs.StateChanges.{AreAlike, cells_alike, distinct_changed, given_changed, known_changed, known_from, runs_change, text_changed}
 use Rattle.rt_edits.proofs.WriterLaws.{tag_written}
 
--- what is so of a document
-abbrev pub IsKept : ℕ → ℕ → List (Cell ℕ) → List Mark → TagStates → List Word → Type 0
-IsKept limit clock cells marks table tags =
-    (limit ≤ MOST_CELLS) × (length cells ≤ limit) × AreBelowNext clock cells × (clock ≤ GREATEST_COUNT) × AreDistinct cells × AreSiteMarks (length (text_of cells)) marks × AreStates table cells
-    × AreListed tags (map (shown table) cells) × AreWritten clock (map (shown table) cells)
-
-module _ (limit clock : ℕ) (cells : List (Cell ℕ)) (marks : List Mark) (old new : TagStates) (tags : List Word) (h : IsKept limit clock cells marks old tags) (keeps : KeepsIds old new) where
+module _ (limit clock : ℕ) (cells : List (Cell ℕ)) (marks : List Mark) (old new : TagStates) (tags : List Word) (h : IsDoc limit clock cells marks old tags) (keeps : KeepsIds old new) where
   -- other states in the table
-  pub kept_table : IsKept limit clock cells marks new tags
+  pub kept_table : IsDoc limit clock cells marks new tags
   kept_table =
-      let same : map (shown new) cells ≡ map (shown old) cells = shown_later old new cells keeps h.6 in
-      (h.0, h.1, h.2, h.3, h.4, h.5, kept_states old new cells keeps h.6, subst (AreListed tags) (sym same) h.7, subst (AreWritten clock) (sym same) h.8)
+      let same : map (shown new) cells ≡ map (shown old) cells = shown_later old new cells keeps h.given in
+      record {
+        fits = h.fits;
+        few = h.few;
+        known = h.known;
+        clocked = h.clocked;
+        distinct = h.distinct;
+        placed = h.placed;
+        given = kept_states old new cells keeps h.given;
+        listed = subst (AreListed tags) (sym same) h.listed;
+        written = subst (AreWritten clock) (sym same) h.written;
+      }
 
   -- cells in other states
   pub kept_runs : (runs : List StateRun) (later : ℕ) (names : List Word) → All (λ run. IsState new run.state) runs → clock ≤ later → later ≤ GREATEST_COUNT
       → AreListed names (map (shown new) (map (put_back_in_any runs) cells)) → AreWritten later (map (shown new) (map (put_back_in_any runs) cells))
-      → IsKept limit later (map (put_back_in_any runs) cells) marks new names
+      → IsDoc limit later (map (put_back_in_any runs) cells) marks new names
   kept_runs runs later names given le few listed written =
       let g = put_back_in_any runs in
-      let len : length (map g cells) ≡ length cells = length-map cells g in (
-        h.0,
-        omega (arith, len, h.1),
-        known_from clock later (map g cells) le (known_changed g (runs_change runs) clock cells h.2),
-        few,
-        distinct_changed g (runs_change runs) cells h.4,
-        subst (λ n. AreSiteMarks n marks) (sym (ap length (text_changed g (runs_change runs) cells))) h.5,
-        given_changed new runs cells given (kept_states old new cells keeps h.6),
-        listed,
-        written,
-      )
+      let len : length (map g cells) ≡ length cells = length-map cells g in record {
+        fits = h.fits;
+        few = omega (arith, len, h.few);
+        known = known_from clock later (map g cells) le (known_changed g (runs_change runs) clock cells h.known);
+        clocked = few;
+        distinct = distinct_changed g (runs_change runs) cells h.distinct;
+        placed = subst (λ n. AreSiteMarks n marks) (sym (ap length (text_changed g (runs_change runs) cells))) h.placed;
+        given = given_changed new runs cells given (kept_states old new cells keeps h.given);
+        listed = listed;
+        written = written;
+      }
 
 -- WRITTEN TAGS
 

@@ -4,6 +4,7 @@ pub mod Deletions
 pub mod DistanceLaws
 pub mod Insertions
 pub mod KeptDocument
+pub mod LastNewline
 pub mod ListedText
 pub mod MarkLaws
 pub mod MovingLaws

@@ -3,6 +3,7 @@ pub mod Comparisons
 pub mod Deleting
 pub mod Distances
 pub mod Index
+pub mod Kept
 pub mod Proper
 pub mod Ranges
 pub mod Widgets

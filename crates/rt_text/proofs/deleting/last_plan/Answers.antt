@@ -4,7 +4,8 @@ use Rattle.std.proofs.lemmas.Result.{IfOk-weaker, IfErr-weaker}
 use Rattle.rt_store.specs.declared.cell.Cell.{Cell}
 use Rattle.rt_store.specs.Cells.{visible_of}
 use Rattle.rt_tags.specs.States.{IsState, name_at, names_on, state_at}
-use Rattle.rt_text.proofs.DeletionLaws.{Ending, ending, last_named, same_last, end_given, on_right}
+use Rattle.rt_text.proofs.DeletionLaws.{last_named, on_right}
+use Rattle.rt_text.proofs.LastNewline.{Ending, ending, same_last, end_given}
 use Rattle.rt_edits.specs.Flat.{Flat}
 use Rattle.rt_stamps.specs.declared.limits.TheConstants.{GREATEST_COUNT}
 use Rattle.rt_edits.proofs.GoneLaws.{some_visible}

@@ -17,6 +17,7 @@ use Rattle.rt_text.specs.Widgets.{Own, IsOwnOf, AreSiteMarks, own_left}
 use Rattle.rt_text.specs.Deleting.{last_unselected}
 use Rattle.rt_edits.specs.Working.{put_back_in_any}
 use Rattle.rt_text.proofs.Deletions.{deleted_index}
+use Rattle.rt_text.proofs.KeptDocument.{kept_table}
 use Rattle.rt_text.proofs.DeletionLaws.{gone_given, known_from_then, on_right, put_distinct, put_given, put_known, put_length, put_text, written_later}
 use Rattle.rt_store.proofs.Gone.{length_stays, known_stays, distinct_stays}
 use Rattle.rt_text.proofs.MarkLaws.{length_gone, site_left, own_of_left}
@@ -32,18 +33,8 @@ returns-in_err-ranges-clause-err g c =
 
 pub invariant_of-self : goal.invariant_of-self
 invariant_of-self g c =
-    let kept = g.S.TextStore.list c.self.inside.store in
-    let same : map (shown c.planned_removal.new.states) kept ≡ map (shown c.self.inside.states) kept = shown_later c.self.inside.states c.planned_removal.new.states kept c.planned_removal.ensures.ids c.self.invariant.6 in (
-      c.self.invariant.0,
-      c.self.invariant.1,
-      c.self.invariant.2,
-      c.self.invariant.3,
-      c.self.invariant.4,
-      c.self.invariant.5,
-      kept_states c.self.inside.states c.planned_removal.new.states kept c.planned_removal.ensures.ids c.self.invariant.6,
-      subst (AreListed c.self.inside.tags.names) (sym same) c.self.invariant.7,
-      subst (AreWritten c.self.inside.clock) (sym same) c.self.invariant.8,
-    )
+    let s = c.self.inside in
+    kept_table s.limit s.clock (g.S.TextStore.list s.store) s.marks s.states c.planned_removal.new.states s.tags.names c.self.invariant c.planned_removal.ensures.ids
 
 pub returns-in_err-deletion-clause-err : goal.returns-in_err-deletion-clause-err
 returns-in_err-deletion-clause-err g c =
@@ -61,14 +52,14 @@ returns-in_err-deletion-clause-err g c =
 pub returns-in_err-deletion-clause-unchanged : goal.returns-in_err-deletion-clause-unchanged
 returns-in_err-deletion-clause-unchanged g c =
     let kept = g.S.TextStore.list c.self.inside.store in
-    let same : map (shown c.planned_removal.new.states) kept ≡ map (shown c.self.inside.states) kept = shown_later c.self.inside.states c.planned_removal.new.states kept c.planned_removal.ensures.ids c.self.invariant.6 in
+    let same : map (shown c.planned_removal.new.states) kept ≡ map (shown c.self.inside.states) kept = shown_later c.self.inside.states c.planned_removal.new.states kept c.planned_removal.ensures.ids c.self.invariant.given in
     let p = err_from_is_err_and c.from_residual-in_err-deletion.result c.from_residual-in_err-deletion.ensures.1 in
     rw p.1 ((λ i. record { cells = same i; site = c.self.inside.site.number; limit = c.self.inside.limit; count = c.self.inside.clock; marks = c.self.inside.marks; tags = c.self.inside.tags.names }) ∙ c.self.view_is, refl, refl)
 
 pub returns-in_err-deletion-clause-own : goal.returns-in_err-deletion-clause-own
 returns-in_err-deletion-clause-own g c =
     let kept = g.S.TextStore.list c.self.inside.store in
-    let same : map (shown c.planned_removal.new.states) kept ≡ map (shown c.self.inside.states) kept = shown_later c.self.inside.states c.planned_removal.new.states kept c.planned_removal.ensures.ids c.self.invariant.6 in
+    let same : map (shown c.planned_removal.new.states) kept ≡ map (shown c.self.inside.states) kept = shown_later c.self.inside.states c.planned_removal.new.states kept c.planned_removal.ensures.ids c.self.invariant.given in
     let text : map (shown c.planned_removal.new.states) kept ≡ c.args.self.now.cells = same ∙ ap (λ (f : Flat). f.cells) c.self.view_is in
     subst (λ (l : List TaggedCell). IsOwnOf (length (text_of l)) c.args.widget.now) (sym text) c.requires
 
@@ -78,23 +69,23 @@ invariant_of-self-in_err-reserve g c =
     let new = g.S.TextStore.list c.reserve.new.self in
     let is : new ≡ kept = c.reserve.ensures.same in
     let same : map (shown c.planned_removal.new.states) new ≡ map (shown c.self.inside.states) kept =
-    ap (map (shown c.planned_removal.new.states)) is ∙ shown_later c.self.inside.states c.planned_removal.new.states kept c.planned_removal.ensures.ids c.self.invariant.6 in (
-      c.self.invariant.0,
-      omega (arith, ap length is, c.self.invariant.1),
-      subst (AreBelowNext c.self.inside.clock) (sym is) c.self.invariant.2,
-      c.self.invariant.3,
-      subst AreDistinct (sym is) c.self.invariant.4,
-      subst (λ (l : List (Cell ℕ)). AreSiteMarks (length (text_of l)) c.self.inside.marks) (sym is) c.self.invariant.5,
-      subst (AreStates c.planned_removal.new.states) (sym is) (kept_states c.self.inside.states c.planned_removal.new.states kept c.planned_removal.ensures.ids c.self.invariant.6),
-      subst (AreListed c.self.inside.tags.names) (sym same) c.self.invariant.7,
-      subst (AreWritten c.self.inside.clock) (sym same) c.self.invariant.8,
-    )
+    ap (map (shown c.planned_removal.new.states)) is ∙ shown_later c.self.inside.states c.planned_removal.new.states kept c.planned_removal.ensures.ids c.self.invariant.given in record {
+      fits = c.self.invariant.fits;
+      few = omega (arith, ap length is, c.self.invariant.few);
+      known = subst (AreBelowNext c.self.inside.clock) (sym is) c.self.invariant.known;
+      clocked = c.self.invariant.clocked;
+      distinct = subst AreDistinct (sym is) c.self.invariant.distinct;
+      placed = subst (λ (l : List (Cell ℕ)). AreSiteMarks (length (text_of l)) c.self.inside.marks) (sym is) c.self.invariant.placed;
+      given = subst (AreStates c.planned_removal.new.states) (sym is) (kept_states c.self.inside.states c.planned_removal.new.states kept c.planned_removal.ensures.ids c.self.invariant.given);
+      listed = subst (AreListed c.self.inside.tags.names) (sym same) c.self.invariant.listed;
+      written = subst (AreWritten c.self.inside.clock) (sym same) c.self.invariant.written;
+    }
 
 pub returns-in_err-reserve-clause-unchanged : goal.returns-in_err-reserve-clause-unchanged
 returns-in_err-reserve-clause-unchanged g c =
     let kept = g.S.TextStore.list c.self.inside.store in
     let same : map (shown c.planned_removal.new.states) (g.S.TextStore.list c.reserve.new.self) ≡ map (shown c.self.inside.states) kept =
-    ap (map (shown c.planned_removal.new.states)) c.reserve.ensures.same ∙ shown_later c.self.inside.states c.planned_removal.new.states kept c.planned_removal.ensures.ids c.self.invariant.6 in
+    ap (map (shown c.planned_removal.new.states)) c.reserve.ensures.same ∙ shown_later c.self.inside.states c.planned_removal.new.states kept c.planned_removal.ensures.ids c.self.invariant.given in
     let p = err_from_is_err_and c.from_residual-in_err-reserve.result c.from_residual-in_err-reserve.ensures.1 in
     rw p.1 ((λ i. record { cells = same i; site = c.self.inside.site.number; limit = c.self.inside.limit; count = c.self.inside.clock; marks = c.self.inside.marks; tags = c.self.inside.tags.names }) ∙ c.self.view_is, refl, refl)
 
@@ -102,14 +93,14 @@ pub returns-in_err-reserve-clause-own : goal.returns-in_err-reserve-clause-own
 returns-in_err-reserve-clause-own g c =
     let kept = g.S.TextStore.list c.self.inside.store in
     let text : map (shown c.planned_removal.new.states) (g.S.TextStore.list c.reserve.new.self) ≡ c.args.self.now.cells =
-    ap (map (shown c.planned_removal.new.states)) c.reserve.ensures.same ∙ shown_later c.self.inside.states c.planned_removal.new.states kept c.planned_removal.ensures.ids c.self.invariant.6
+    ap (map (shown c.planned_removal.new.states)) c.reserve.ensures.same ∙ shown_later c.self.inside.states c.planned_removal.new.states kept c.planned_removal.ensures.ids c.self.invariant.given
     ∙ ap (λ (f : Flat). f.cells) c.self.view_is in
     subst (λ (l : List TaggedCell). IsOwnOf (length (text_of l)) c.args.widget.now) (sym text) c.requires
 
 pub delete_cells-requires-clause-states : goal.delete_cells-requires-clause-states
 delete_cells-requires-clause-states g c =
     let kept = g.S.TextStore.list c.self.inside.store in
-    subst (AreStates c.planned_removal.new.states) (sym c.reserve.ensures.same) (kept_states c.self.inside.states c.planned_removal.new.states kept c.planned_removal.ensures.ids c.self.invariant.6)
+    subst (AreStates c.planned_removal.new.states) (sym c.reserve.ensures.same) (kept_states c.self.inside.states c.planned_removal.new.states kept c.planned_removal.ensures.ids c.self.invariant.given)
 
 pub invariant_of-self-2 : goal.invariant_of-self-2
 invariant_of-self-2 g c =
@@ -128,19 +119,19 @@ invariant_of-self-2 g c =
     let moved : c.move_back.new.marks ≡ marks_left removed c.self.inside.marks = c.move_back.ensures.marks ∙ ap (λ l. marks_left (is_covered l) c.self.inside.marks) c.deref-2.ensures.value in
     let marks : AreSiteMarks (length (text_of new)) c.move_back.new.marks =
     subst (λ (n : ℕ). AreSiteMarks n c.move_back.new.marks) (sym shrunk)
-    (subst (AreSiteMarks (place_left removed (length (text_of kept)))) (sym moved) (site_left (length (text_of kept)) removed c.self.inside.marks c.self.invariant.5)) in (
-      c.self.invariant.0,
-      omega (arith, ap length cells, put_length runs gone, length_stays spans kept, c.self.invariant.1),
-      subst (AreBelowNext c.saw.new.self) (sym cells) (put_known c.saw.new.self runs gone (known_stays c.saw.new.self spans kept (known_from_then c.self.inside.clock c.saw.new.self kept later c.self.invariant.2))),
-      omega (arith, c.saw.ensures, c.self.invariant.3, c.in_ok-deletion.ensures.within.1),
-      subst AreDistinct (sym cells) (put_distinct runs gone (distinct_stays spans kept c.self.invariant.4)),
-      marks,
-      subst (AreStates table) (sym cells) (put_given table runs gone c.in_ok-deletion.ensures.runs (gone_given table spans kept (kept_states c.self.inside.states table kept c.planned_removal.ensures.ids c.self.invariant.6))),
-      subst (λ (l : List (Cell ℕ)). AreListed c.self.inside.tags.names (map (shown table) l)) (sym cells) (c.in_ok-deletion.ensures.listed c.self.inside.tags.names c.self.invariant.7),
-      subst (λ (l : List (Cell ℕ)). AreWritten c.saw.new.self (map (shown table) l)) (sym cells)
+    (subst (AreSiteMarks (place_left removed (length (text_of kept)))) (sym moved) (site_left (length (text_of kept)) removed c.self.inside.marks c.self.invariant.placed)) in record {
+      fits = c.self.invariant.fits;
+      few = omega (arith, ap length cells, put_length runs gone, length_stays spans kept, c.self.invariant.few);
+      known = subst (AreBelowNext c.saw.new.self) (sym cells) (put_known c.saw.new.self runs gone (known_stays c.saw.new.self spans kept (known_from_then c.self.inside.clock c.saw.new.self kept later c.self.invariant.known)));
+      clocked = omega (arith, c.saw.ensures, c.self.invariant.clocked, c.in_ok-deletion.ensures.within.1);
+      distinct = subst AreDistinct (sym cells) (put_distinct runs gone (distinct_stays spans kept c.self.invariant.distinct));
+      placed = marks;
+      given = subst (AreStates table) (sym cells) (put_given table runs gone c.in_ok-deletion.ensures.runs (gone_given table spans kept (kept_states c.self.inside.states table kept c.planned_removal.ensures.ids c.self.invariant.given)));
+      listed = subst (λ (l : List (Cell ℕ)). AreListed c.self.inside.tags.names (map (shown table) l)) (sym cells) (c.in_ok-deletion.ensures.listed c.self.inside.tags.names c.self.invariant.listed);
+      written = subst (λ (l : List (Cell ℕ)). AreWritten c.saw.new.self (map (shown table) l)) (sym cells)
           (written_later d.tags.count c.saw.new.self _ (omega (arith, c.saw.ensures))
-          (c.in_ok-deletion.ensures.written (subst (λ (n : ℕ). AreWritten n (map (shown c.self.inside.states) kept)) (sym c.seen.ensures.value) c.self.invariant.8))),
-    )
+          (c.in_ok-deletion.ensures.written (subst (λ (n : ℕ). AreWritten n (map (shown c.self.inside.states) kept)) (sym c.seen.ensures.value) c.self.invariant.written)));
+    }
 
 pub returns-clause-ok : goal.returns-clause-ok
 returns-clause-ok g c =

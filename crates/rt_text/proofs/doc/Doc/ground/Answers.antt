@@ -17,12 +17,12 @@ invariant_of-result g c =
     let many : length (text_of seen) ≡ n = ap length text in
     let same : length (text_of seen) ≡ length (text_of c.args.self.now.cells) = ap (λ (f : Flat). length (text_of f.cells)) c.self.view_is in
     record {
-      given = c.self.invariant.6;
-      listed = c.self.invariant.7;
+      given = c.self.invariant.given;
+      listed = c.self.invariant.listed;
       text = text;
-      few = omega (arith, many, text_within kept, c.self.invariant.0, c.self.invariant.1);
+      few = omega (arith, many, text_within kept, c.self.invariant.fits, c.self.invariant.few);
       insert = omega (arith, same, c.requires.0);
       current = omega (arith, same, c.requires.1);
-      within = λ name place e. omega (arith, many, site_within n c.self.inside.marks c.self.invariant.5 name place e);
-      names = λ name h. site_named n c.self.inside.marks c.self.invariant.5 name h;
+      within = λ name place e. omega (arith, many, site_within n c.self.inside.marks c.self.invariant.placed name place e);
+      names = λ name h. site_named n c.self.inside.marks c.self.invariant.placed name h;
     }

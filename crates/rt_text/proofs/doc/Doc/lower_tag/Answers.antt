@@ -9,5 +9,15 @@ pub invariant_of-self : goal.invariant_of-self
 invariant_of-self g c =
     let seen : List TaggedCell = map (shown c.self.inside.states) (g.S.TextStore.list c.self.inside.store) in
     let listed : AreListed c.lower.new.self.names seen =
-    lower_keeps c.args.name.now (option_copied c.args.below) c.self.inside.tags c.lower.new.self seen c.lower.result c.lower.ensures.names c.lower.ensures.err c.lower.ensures.answer c.self.invariant.7 in
-    (c.self.invariant.0, c.self.invariant.1, c.self.invariant.2, c.self.invariant.3, c.self.invariant.4, c.self.invariant.5, c.self.invariant.6, listed, c.self.invariant.8)
+    lower_keeps c.args.name.now (option_copied c.args.below) c.self.inside.tags c.lower.new.self seen c.lower.result c.lower.ensures.names c.lower.ensures.err c.lower.ensures.answer c.self.invariant.listed in
+    record {
+      fits = c.self.invariant.fits;
+      few = c.self.invariant.few;
+      known = c.self.invariant.known;
+      clocked = c.self.invariant.clocked;
+      distinct = c.self.invariant.distinct;
+      placed = c.self.invariant.placed;
+      given = c.self.invariant.given;
+      listed = listed;
+      written = c.self.invariant.written;
+    }

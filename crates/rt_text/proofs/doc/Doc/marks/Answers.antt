@@ -13,4 +13,4 @@ returns-clause-site g c =
     let same : length (text_of kept) ≡ length (text_of flat.cells) =
     ap length (sym (text_shown (state_at c.self.inside.states) kept)) ∙ ap (λ (f : Flat). length (text_of f.cells)) c.self.view_is in
     let marks = ap (λ (f : Flat). f.marks) c.self.view_is in
-    subst (λ (n : ℕ). AreSiteMarks n flat.marks) same (subst (AreSiteMarks (length (text_of kept))) marks c.self.invariant.5)
+    subst (λ (n : ℕ). AreSiteMarks n flat.marks) same (subst (AreSiteMarks (length (text_of kept))) marks c.self.invariant.placed)

@@ -8,7 +8,7 @@ use Rattle.rt_text.proofs.doc.Doc.order.Goals as goal
 
 pub returns-clause-stamps : goal.returns-clause-stamps
 returns-clause-stamps g c =
-    subst (λ (f : Flat). AreDistinct f.cells) c.self.view_is (distinct_shown (state_at c.self.inside.states) (g.S.TextStore.list c.self.inside.store) c.self.invariant.4)
+    subst (λ (f : Flat). AreDistinct f.cells) c.self.view_is (distinct_shown (state_at c.self.inside.states) (g.S.TextStore.list c.self.inside.store) c.self.invariant.distinct)
 
 pub returns-clause-writes : goal.returns-clause-writes
-returns-clause-writes g c = subst (λ (f : Flat). AreWritten f.count f.cells) c.self.view_is c.self.invariant.8
+returns-clause-writes g c = subst (λ (f : Flat). AreWritten f.count f.cells) c.self.view_is c.self.invariant.written

@@ -15,5 +15,15 @@ invariant_of-self g c =
     let n = length (text_of kept) in
     let within : c.args.place ≤ n = omega (arith, ap length text, c.requires.place) in
     let marks : AreSiteMarks n c.set.new.self =
-    site_set n c.args.name.now c.args.place c.self.inside.marks c.set.new.self c.set.result c.set.ensures.ok c.set.ensures.err c.set.ensures.bad_name within c.requires.other c.self.invariant.5 in
-    (c.self.invariant.0, c.self.invariant.1, c.self.invariant.2, c.self.invariant.3, c.self.invariant.4, marks, c.self.invariant.6, c.self.invariant.7, c.self.invariant.8)
+    site_set n c.args.name.now c.args.place c.self.inside.marks c.set.new.self c.set.result c.set.ensures.ok c.set.ensures.err c.set.ensures.bad_name within c.requires.other c.self.invariant.placed in
+    record {
+      fits = c.self.invariant.fits;
+      few = c.self.invariant.few;
+      known = c.self.invariant.known;
+      clocked = c.self.invariant.clocked;
+      distinct = c.self.invariant.distinct;
+      placed = marks;
+      given = c.self.invariant.given;
+      listed = c.self.invariant.listed;
+      written = c.self.invariant.written;
+    }

@@ -26,4 +26,4 @@ returns-clause-ok g c =
 
 pub keep_tags_on-requires : goal.keep_tags_on-requires
 keep_tags_on-requires g c =
-    visible_given c.self.inside.states (g.S.TextStore.list c.self.inside.store) c.args.place c.cell_at-cell.result c.self.invariant.6 c.cell_at-cell.ensures
+    visible_given c.self.inside.states (g.S.TextStore.list c.self.inside.store) c.args.place c.cell_at-cell.result c.self.invariant.given c.cell_at-cell.ensures

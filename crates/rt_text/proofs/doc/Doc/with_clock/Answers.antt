@@ -25,4 +25,14 @@ invariant_of-result g c =
     let written : AreWritten c.args.clock (map (shown c.in_ok-states.states) cells) =
     subst (λ (t : TagStates). AreWritten c.args.clock (map (shown t) cells)) (sym c.in_ok-states.ensures.ok)
     (subst (λ (l : List (Cell ℕ)). AreWritten c.args.clock (map (shown new_table) l)) (sym c.requires.store) (written_new c.args.clock)) in
-    (c.requires.limit.1, few, known, omega arith, apart, marks, given, listed, written)
+    record {
+      fits = c.requires.limit.1;
+      few = few;
+      known = known;
+      clocked = omega arith;
+      distinct = apart;
+      placed = marks;
+      given = given;
+      listed = listed;
+      written = written;
+    }

@@ -36,7 +36,7 @@ returns-then-eq-clause-ok g c =
     alike_within (length (visible_of cells)) within ranges (λ q. ap (λ l. is_covered l q) c.deref.ensures.value ∙ c.in_ok-ranges.ensures.places q) in
     let found : stamps_at within 0 cells ≡ stamps = stamps_alike c.self.inside.states cells old within ranges (ap (λ (f : Flat). f.cells) c.self.view_is) alike in
     let shared : Flat = listed_if on c.args.name.now (with_tag_at old ranges on c.args.name.now) in
-    let few : old.count ≤ GREATEST_COUNT = omega (arith, c.self.invariant.3, ap (λ (f : Flat). f.count) c.self.view_is) in
+    let few : old.count ≤ GREATEST_COUNT = omega (arith, c.self.invariant.clocked, ap (λ (f : Flat). f.count) c.self.view_is) in
     let chosen : ((stamps_in c.select.new.selection) ≡ selection_with on (stamps_at within 0 cells) (stamps_in c.widget.inside.selection)) → (old, other) ≡ (old, record other { sel = stamps_in c.select.new.selection }) =
     λ e. (λ i. (old, record other { sel = (ap (λ (w : Own). selection_with on stamps w.sel) (sym c.widget.view_is) ∙ ap (λ l. selection_with on l (stamps_in c.widget.inside.selection)) (sym found) ∙ sym e) i })) in
     on_ok_weaker c.select.result

@@ -1,7 +1,7 @@
 use Rattle.std.proofs.Common.{arith}
 use Rattle.rt_store.specs.Cells.{text_of}
 use Rattle.rt_edits.proofs.PlaceLaws.{ends_text, length_text, some_newline, newlines_within}
-use Rattle.rt_text.proofs.doc.before_end.Goals as goal
+use Rattle.rt_text.proofs.doc.editing.before_end.Goals as goal
 
 pub overflow_sub-visible : goal.overflow_sub-visible
 overflow_sub-visible g c =

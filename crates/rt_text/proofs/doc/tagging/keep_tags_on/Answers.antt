@@ -5,7 +5,7 @@ use Rattle.rt_edits.specs.Selected.{stamps_in}
 use Rattle.rt_text.specs.Widgets.{is_tagged_in}
 use Rattle.rt_store.specs.Shown.{shown}
 use Rattle.rt_store.proofs.Shown.{filter_map}
-use Rattle.rt_text.proofs.doc.keep_tags_on.Goals as goal
+use Rattle.rt_text.proofs.doc.tagging.keep_tags_on.Goals as goal
 
 pub returns : goal.returns
 returns c =

@@ -1,0 +1,51 @@
+// Replies of no word, one word, numbers and positions.
+ghost use Rattle.std.specs.Prelude.{◌≡◌, ◌∷◌, [], map, string_bytes, IfOk, IfErr};
+ghost use Rattle.std.specs.Fmt.{signed_decimal};
+ghost use Rattle.rt_stamps.specs.Places.{text_of_position};
+
+use crate::reply::Reply;
+use rt_stamps::{Fault, Position};
+use std::alloc::Global;
+
+// A reply without words.
+pub(super) fn no_words(alloc: Global) -> Reply
+    ensures { result ≡ [] }
+{
+    Reply {
+        words: Vec::new(alloc),
+    }
+}
+
+// A reply of one word.
+pub(super) fn one_word(alloc: Global, word: String) -> Result<Reply, Fault>
+    ensures ok { IfOk result (λ reply. reply ≡ string_bytes word ∷ []) }
+    ensures err { IfErr result (λ fault. fault ≡ Fault.NoMemory) }
+{
+    let mut words = Vec::with_capacity(alloc, 1)?;
+    words.push(word)?;
+    Ok(Reply { words })
+}
+
+// A reply of numbers.
+pub(super) fn numbers(alloc: Global, values: &[i64]) -> Result<Reply, Fault>
+    ensures ok { IfOk result (λ reply. reply ≡ map signed_decimal values.now) }
+    ensures err { IfErr result (λ fault. fault ≡ Fault.NoMemory) }
+{
+    let mut words = Vec::with_capacity(alloc, values.len())?;
+    for value in values {
+        words.push(value.to_string(alloc)?)?;
+    }
+    Ok(Reply { words })
+}
+
+// A reply of positions.
+pub(super) fn positions_reply(alloc: Global, positions: &[Position]) -> Result<Reply, Fault>
+    ensures ok { IfOk result (λ reply. reply ≡ map text_of_position positions.now) }
+    ensures err { IfErr result (λ fault. fault ≡ Fault.NoMemory) }
+{
+    let mut words = Vec::with_capacity(alloc, positions.len())?;
+    for position in positions {
+        words.push(position.to_string(alloc)?)?;
+    }
+    Ok(Reply { words })
+}

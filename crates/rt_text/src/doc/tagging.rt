@@ -1,0 +1,203 @@
+// The tags of a document: which are listed, which characters have them, and how they are put on and taken off.
+ghost use Rattle.std.specs.Prelude.{◌≡◌, ◌⊎◌, All, false, if◌then◌else◌, ◌≤◌, ◌<◌, ◌&&◌, Ok, Err, None, Some, IfOk, IfErr, OnOk, OnErr, length, filter, map, not, option_copied, option_map, slice_get, string_bytes};
+ghost use Rattle.std.specs.Str.{bytes_eq};
+ghost use Rattle.rt_marks.specs.Marks.{IsName};
+ghost use Rattle.rt_stamps.specs.declared.limits.TheConstants.{GREATEST_COUNT};
+ghost use Rattle.rt_store.specs.Cells.{AreDistinct, text_of, visible_of};
+ghost use Rattle.rt_edits.specs.Removals.{is_covered, AreInOrder};
+ghost use Rattle.rt_text.specs.Widgets.{is_tagged, is_tagged_in, tags_on};
+ghost use Rattle.rt_store.specs.Tagged.{next_place};
+ghost use Rattle.rt_tags.specs.States.{IsState};
+ghost use Rattle.rt_tags.specs.Tags.{is_listed, is_place, lowered, raised, sel};
+ghost use Rattle.rt_edits.specs.TagWrites.{listed_if, without_tags, with_tag_at};
+ghost use Rattle.rt_text.specs.Commands.{clock_check, with_tag_in};
+ghost use Rattle.rt_edits.specs.Listed.{AreListed};
+ghost use Rattle.rt_edits.specs.Selected.{stamps_in};
+ghost use Rattle.rt_store.specs.Shown.{shown};
+ghost use Rattle.rt_store.specs.Written.{AreWritten};
+
+use super::Doc;
+use crate::Widget;
+use crate::characters::{cell_has, next_with};
+use rt_edits::removal::ranges_within;
+use rt_edits::retagging::{forget_all, list_if, planned_deletion, planned_tag, select};
+use rt_edits::tagging::put_states;
+use rt_edits::{Range, Selection};
+use rt_stamps::Fault;
+use rt_store::{Cell, TextStore};
+use rt_tags::{StateId, StateTable, TagTable};
+
+// Keeps of some names those of the tags on the character of a cell.
+fn keep_tags_on(
+    states: &StateTable,
+    selection: &Selection,
+    cell: Cell<StateId>,
+    names: &mut Vec<String>,
+)
+    requires { IsState states.now cell.state }
+    ensures { map (λ w. string_bytes w) names.new.items ≡ filter (λ name. is_tagged_in (stamps_in selection.now) name (shown states.now cell)) (map (λ w. string_bytes w) names.old.items) }
+{
+    names.retain(
+        |name|
+            requires { IsState states.now cell.state }
+        { cell_has(states, selection, cell, name) },
+    );
+}
+
+impl<S: TextStore> Doc<S> {
+    /// The tags that the site lists.
+    pub fn tags(&self) -> &TagTable
+        ensures names { result.now.names ≡ self.now.tags }
+        ensures listed { AreListed self.now.tags self.now.cells }
+    {
+        &self.tags
+    }
+
+    /// No two cells have one stamp, and no write on a character is newer than the document's count.
+    pub fn order(&self)
+        ensures stamps { AreDistinct self.now.cells }
+        ensures writes { AreWritten self.now.count self.now.cells }
+    {
+        let _ = &self.store;
+    }
+
+    /// The least place from one up whose character has a tag on the widget; none if there is none. It
+    /// takes no memory.
+    pub fn next_tagged(&self, widget: &Widget, name: &str, place: usize) -> Option<usize>
+        ensures { result ≡ next_place (is_tagged widget.now name.now) (visible_of self.now.cells) place }
+    {
+        next_with(
+            &self.store,
+            &self.states,
+            &widget.selection,
+            name,
+            true,
+            place,
+        )
+    }
+
+    /// The least place from one up whose character hasn't a tag on the widget; none if there is none.
+    /// It takes no memory.
+    pub fn next_untagged(&self, widget: &Widget, name: &str, place: usize) -> Option<usize>
+        ensures { result ≡ next_place (λ cell. not (is_tagged widget.now name.now cell)) (visible_of self.now.cells) place }
+    {
+        next_with(
+            &self.store,
+            &self.states,
+            &widget.selection,
+            name,
+            false,
+            place,
+        )
+    }
+
+    /// The listed tags of the character at a place on a widget, lowest priority first (Tk text manual,
+    /// "tag names"). Want of memory.
+    pub fn tags_at(&self, widget: &Widget, place: usize) -> Result<Vec<String>, Fault>
+        requires { place < length (visible_of self.now.cells) }
+        ensures ok { IfOk result (λ names. option_map (tags_on widget.now self.now.tags) (slice_get (visible_of self.now.cells) place) ≡ Some (map (λ w. string_bytes w) names.items)) }
+        ensures err { IfErr result (λ fault. fault ≡ Fault.NoMemory) }
+    {
+        let cell = self.store.cell_at(place);
+        let mut names = self.tags.names()?;
+        keep_tags_on(&self.states, &widget.selection, cell, &mut names);
+        Ok(names)
+    }
+
+    /// Puts a tag on the characters in ranges of places, or takes it off ("tag add", "tag remove"):
+    /// `sel` is the widget's own, any other one is the text's. One that is put on is listed, also
+    /// where no character gets it. `ClockSpent`, or want of memory, and then nothing changes. It takes
+    /// one count for each 65,536 spans of stamps that it changes or a part of them; `sel` takes none.
+    pub fn write_tag(
+        &mut self,
+        widget: &mut Widget,
+        on: bool,
+        name: &str,
+        ranges: &[Range],
+    ) -> Result<(), Fault>
+        requires name { IsName name.now }
+        ensures ok { OnOk result ((with_tag_in self.old widget.old on name.now ranges.now ≡ (self.new, widget.new)) × (clock_check self.new.count ≡ None)) }
+        ensures err { IfErr result (λ fault. (fault ≡ Fault.NoMemory) ⊎ (clock_check (with_tag_in self.old widget.old on name.now ranges.now).0.count ≡ Some fault)) }
+        ensures unchanged { OnErr result ((self.new ≡ self.old) × (widget.new ≡ widget.old)) }
+        ensures text { text_of self.new.cells ≡ text_of self.old.cells }
+        ensures insert { widget.new.insert ≡ widget.old.insert }
+        ensures current { widget.new.current ≡ widget.old.current }
+    {
+        let ranges = ranges_within(self.alloc, &self.store, ranges)?;
+        if name == "sel" {
+            return select(self.alloc, &self.store, &mut widget.selection, &ranges, on);
+        }
+        self.write_shared(on, name, &ranges)
+    }
+
+    // Puts a tag that isn't `sel` on the characters in ranges, or takes it off.
+    fn write_shared(&mut self, on: bool, name: &str, ranges: &[Range]) -> Result<(), Fault>
+        requires name { IsName name.now }
+        requires shared { bytes_eq name.now sel ≡ false }
+        requires order { AreInOrder 0 ranges.now }
+        requires within { All (λ range. range.to ≤ length (visible_of self.old.cells)) ranges.now }
+        ensures ok { OnOk result (self.new ≡ listed_if on name.now (with_tag_at self.old (is_covered ranges.now) on name.now)) }
+        ensures within { OnOk result (self.new.count ≤ GREATEST_COUNT) }
+        ensures err { IfErr result (λ fault. (fault ≡ Fault.NoMemory) ⊎ ((fault ≡ Fault.ClockSpent) × (GREATEST_COUNT < (with_tag_at self.old (is_covered ranges.now) on name.now).count))) }
+        ensures unchanged { OnErr result (self.new ≡ self.old) }
+    {
+        let plan = planned_tag(
+            self.alloc,
+            &mut self.store,
+            &mut self.states,
+            self.site,
+            self.clock.seen(),
+            ranges,
+            name,
+            on,
+        )?;
+        list_if(&mut self.tags, on, name)?;
+        put_states(&mut self.store, &self.states, &plan.runs);
+        self.clock.saw(plan.count);
+        Ok(())
+    }
+
+    /// Takes tags off all characters, and lists them no longer ("tag delete"); `sel` is passed over.
+    /// `ClockSpent`, or want of memory, and then nothing changes. It takes one count for each 65,536
+    /// spans of stamps of each tag or a part of them.
+    pub fn delete_tags(&mut self, names: &[String]) -> Result<(), Fault>
+        ensures ok { OnOk result ((self.new ≡ without_tags self.old (map (λ w. string_bytes w) names.now)) × (clock_check self.new.count ≡ None)) }
+        ensures err { IfErr result (λ fault. (fault ≡ Fault.NoMemory) ⊎ (clock_check (without_tags self.old (map (λ w. string_bytes w) names.now)).count ≡ Some fault)) }
+        ensures unchanged { OnErr result (self.new ≡ self.old) }
+        ensures text { text_of self.new.cells ≡ text_of self.old.cells }
+    {
+        let plan = planned_deletion(
+            self.alloc,
+            &mut self.store,
+            &mut self.states,
+            &self.tags,
+            self.site,
+            self.clock.seen(),
+            names,
+        )?;
+        put_states(&mut self.store, &self.states, &plan.runs);
+        forget_all(&mut self.tags, names);
+        self.clock.saw(plan.count);
+        Ok(())
+    }
+
+    /// Raises a tag just above another, or above all ("tag raise"). `NoTag` just where one of them
+    /// isn't listed, and then nothing changes. It takes no memory.
+    pub fn raise_tag(&mut self, name: &str, above: Option<&str>) -> Result<(), Fault>
+        ensures ok { OnOk result (self.new ≡ record self.old { tags = raised name.now (option_copied above.entry) self.old.tags }) }
+        ensures unchanged { OnErr result (self.new ≡ self.old) }
+        ensures answer { result ≡ (if is_listed name.now self.old.tags && is_place (option_copied above.entry) self.old.tags then Ok tt else Err Fault.NoTag) }
+    {
+        self.tags.raise(name, above)
+    }
+
+    /// Lowers a tag just below another, or below all ("tag lower"). `NoTag` just where one of them
+    /// isn't listed, and then nothing changes. It takes no memory.
+    pub fn lower_tag(&mut self, name: &str, below: Option<&str>) -> Result<(), Fault>
+        ensures ok { OnOk result (self.new ≡ record self.old { tags = lowered name.now (option_copied below.entry) self.old.tags }) }
+        ensures unchanged { OnErr result (self.new ≡ self.old) }
+        ensures answer { result ≡ (if is_listed name.now self.old.tags && is_place (option_copied below.entry) self.old.tags then Ok tt else Err Fault.NoTag) }
+    {
+        self.tags.lower(name, below)
+    }
+}
