@@ -98,12 +98,15 @@ ends_from first site last state c [] h =
     ([], x, record { is = refl; last_stamp = λ i. record { count = same i; site = site }; apart = refl })
 ends_from first site last state c (d ∷ ds) h =
     let w = ends_from (first + 1) site last state d ds (omega arith) in
-    let here : TaggedCell = record { stamp = record { count = first; site = site }; ch = c; gone = false; state = state } in
-    (here ∷ w.0, w.1, record {
-      is = ap (λ l. here ∷ l) w.2.is;
-      last_stamp = w.2.last_stamp;
-      apart = or_from (is_same here.stamp (record { count = last; site = site })) _ (not_last first last site (omega arith)) w.2.apart;
-    })
+    let here : TaggedCell = record { stamp = record { count = first; site = site }; ch = c; gone = false; state = state } in (
+      here ∷ w.0,
+      w.1,
+      record {
+        is = ap (λ l. here ∷ l) w.2.is;
+        last_stamp = w.2.last_stamp;
+        apart = or_from (is_same here.stamp (record { count = last; site = site })) _ (not_last first last site (omega arith)) w.2.apart;
+      },
+    )
 
 among_append : (xs ys : List TaggedCell) (s : Stamp) → is_among (stamps_of xs) s ≡ false → is_among (stamps_of ys) s ≡ false → is_among (stamps_of (xs ++ ys)) s ≡ false
 among_append [] ys s h k = k

@@ -153,8 +153,8 @@ inserts_may (suc inserts) site count log after names text g n t e c =
       and_from (are_tags (take MOST_TAGS names)) _ (listed_rules names n) (part_rules text some t),
       and_from (has_character log after || is_same after ROOT) true e refl,
       may_append site tags (inserts_of site (last + length further) next names (first_parts inserts MOST_CHARACTERS others)) with_insert
-      (tags_may site span further with_insert (is_forward span (omega (arith, l, some))) (rest_all is_name MOST_TAGS names n.each) f)
-      (inserts_may inserts site (last + length further) after_tags next names others two n (scalars_cut MOST_CHARACTERS text t).1 (or_left (has_character after_tags next) _ there) more),
+          (tags_may site span further with_insert (is_forward span (omega (arith, l, some))) (rest_all is_name MOST_TAGS names n.each) f)
+          (inserts_may inserts site (last + length further) after_tags next names others two n (scalars_cut MOST_CHARACTERS text t).1 (or_left (has_character after_tags next) _ there) more),
     )
 
 pub text_may : (site : ℕ) (log : List Operation) (after : Stamp) (names : List Word) (text : List ℕ) → AreTagNames names → all_scalars text ≡ true → IsElement log after

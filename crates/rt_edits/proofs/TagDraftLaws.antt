@@ -225,7 +225,7 @@ module _ (site : ℕ) (name : Word) (on : Bool) (stamps : List Stamp) (distinct 
         and_from (is_name name) _ n (part_rules parts most spans p q c a),
         known_all log (Tag on name front) (λ s k. f s (in_first most spans s (sym (spans_name front s) ∙ k))),
         may_tag parts most (with_operation op log) (drop most spans) n p q more (more_spans most spans a)
-        (λ s k. elim (f s (in_more most spans s k)) [ inl h ↦ inl (still_character op log s h) | inr h ↦ inr h ]),
+            (λ s k. elim (f s (in_more most spans s k)) [ inl h ↦ inl (still_character op log s h) | inr h ↦ inr h ]),
       )
 
   pub tags_may_be_made : (most : ℕ) (log : List Operation) → is_name name ≡ true → 0 < most → most ≤ MOST_SPANS → AreKnownIn log → MayBeMade site log (tag_drafts most on name stamps)

@@ -123,8 +123,8 @@ abbrev pub TextIsPutAsFlat : Type 0
 TextIsPutAsFlat =
     (site : ℕ) (log : List Operation) (after : Stamp) (names : List Word) (text : List ℕ) → 0 < site → IsHistory log
     → let count = greatest_last_count log in
-      all_changed (operations_of site (text_drafts MOST_CHARACTERS site count after names text) log) (cells_of log)
-      ≡ put_after (cells_of log) after (tagged_cells site count names text)
+    all_changed (operations_of site (text_drafts MOST_CHARACTERS site count after names text) log) (cells_of log)
+    ≡ put_after (cells_of log) after (tagged_cells site count names text)
 
 abbrev pub TextIsCounted : Type 0
 TextIsCounted =

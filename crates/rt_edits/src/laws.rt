@@ -23,7 +23,9 @@ ghost use Rattle.rt_tags.specs.States.{is_on};
 /// Characters that are inserted stand before the one at the place: so it is where the root and all
 /// cells, gone ones too, have stamps of their own.
 pub fn text_of_insertion()
-    ensures put { (cells new : List TaggedCell) (place : ℕ) → IsDistinct is_same (ROOT ∷ stamps_of cells) → place < length (text_of cells) → text_of (put_after cells (left_of cells place) new) ≡ take place (text_of cells) ++ text_of new ++ drop place (text_of cells) }
+    ensures put { (cells new : List TaggedCell) (place : ℕ) → IsDistinct is_same (ROOT ∷ stamps_of cells)
+        → place < length (text_of cells) → text_of (put_after cells (left_of cells place) new) ≡ take place (text_of cells)
+        ++ text_of new ++ drop place (text_of cells) }
     ensures new { (site count : ℕ) (names : List Word) (text : List ℕ) → text_of (tagged_cells site count names text) ≡ text }
 {}
 
@@ -32,25 +34,35 @@ pub fn text_of_insertion()
 /// than the first, it takes the newline before it instead (Tk text manual).
 pub fn text_of_removal()
     ensures left { (removed : ℕ → Bool) (cells : List TaggedCell) → text_of (gone_at removed 0 cells) ≡ left_at removed 0 (text_of cells) }
-    ensures inner { (text : List ℕ) (range : Range) → range.from < range.to → range.to < length text → left_at (is_removed text (range ∷ [])) 0 text ≡ take range.from text ++ drop range.to text }
-    ensures end { (text : List ℕ) (from : ℕ) → from < length text → left_at (is_removed text (record { from = from; to = length text } ∷ [])) 0 text ≡ take (if begins_line text from then from - 1 else from) text ++ drop (length text - 1) text }
+    ensures inner { (text : List ℕ) (range : Range) → range.from < range.to → range.to < length text
+        → left_at (is_removed text (range ∷ [])) 0 text ≡ take range.from text ++ drop range.to text }
+    ensures end { (text : List ℕ) (from : ℕ) → from < length text
+        → left_at (is_removed text (record { from = from; to = length text } ∷ [])) 0 text
+        ≡ take (if begins_line text from then from - 1 else from) text ++ drop (length text - 1) text }
 {}
 
 /// Where no write is newer than the document, a tag that is put on the characters of some stamps is on
 /// afterwards, and one that is taken off is off. Other cells, other tags, and what else a cell has
 /// stay as they were.
 pub fn tags_of_stamps()
-    ensures named { (flat : Flat) (name : Word) (on : Bool) (stamps : List Stamp) → AreWritten flat.count flat.cells → AreTagged name on stamps (with_tag flat name on stamps).cells }
-    ensures others { (flat : Flat) (name : Word) (on : Bool) (stamps : List Stamp) → cells_but stamps (with_tag flat name on stamps).cells ≡ cells_but stamps flat.cells }
-    ensures tags { (flat : Flat) (name other : Word) (on : Bool) (stamps : List Stamp) → bytes_eq other name ≡ false → writes_of other (with_tag flat name on stamps).cells ≡ writes_of other flat.cells }
-    ensures rest { (flat : Flat) (name : Word) (on : Bool) (stamps : List Stamp) → map (with_state []) (with_tag flat name on stamps).cells ≡ map (with_state []) flat.cells }
+    ensures named { (flat : Flat) (name : Word) (on : Bool) (stamps : List Stamp) → AreWritten flat.count flat.cells
+        → AreTagged name on stamps (with_tag flat name on stamps).cells }
+    ensures others { (flat : Flat) (name : Word) (on : Bool) (stamps : List Stamp)
+        → cells_but stamps (with_tag flat name on stamps).cells ≡ cells_but stamps flat.cells }
+    ensures tags { (flat : Flat) (name other : Word) (on : Bool) (stamps : List Stamp) → bytes_eq other name ≡ false
+        → writes_of other (with_tag flat name on stamps).cells ≡ writes_of other flat.cells }
+    ensures rest { (flat : Flat) (name : Word) (on : Bool) (stamps : List Stamp)
+        → map (with_state []) (with_tag flat name on stamps).cells ≡ map (with_state []) flat.cells }
 {}
 
 /// The same of the characters at some places; and no write is newer than the document then.
 pub fn tags_at_places()
-    ensures named { (flat : Flat) (places : ℕ → Bool) (on : Bool) (name : Word) → AreWritten flat.count flat.cells → All (λ cell. is_on name cell.state ≡ on) (cells_at places 0 (with_tag_at flat places on name).cells) }
-    ensures others { (flat : Flat) (places : ℕ → Bool) (on : Bool) (name : Word) → AreDistinct flat.cells → cells_beside places 0 (with_tag_at flat places on name).cells ≡ cells_beside places 0 flat.cells }
-    ensures written { (flat : Flat) (places : ℕ → Bool) (on : Bool) (name : Word) → AreWritten flat.count flat.cells → AreWritten (with_tag_at flat places on name).count (with_tag_at flat places on name).cells }
+    ensures named { (flat : Flat) (places : ℕ → Bool) (on : Bool) (name : Word) → AreWritten flat.count flat.cells
+        → All (λ cell. is_on name cell.state ≡ on) (cells_at places 0 (with_tag_at flat places on name).cells) }
+    ensures others { (flat : Flat) (places : ℕ → Bool) (on : Bool) (name : Word) → AreDistinct flat.cells
+        → cells_beside places 0 (with_tag_at flat places on name).cells ≡ cells_beside places 0 flat.cells }
+    ensures written { (flat : Flat) (places : ℕ → Bool) (on : Bool) (name : Word) → AreWritten flat.count flat.cells
+        → AreWritten (with_tag_at flat places on name).count (with_tag_at flat places on name).cells }
 {}
 
 /// The spans of stamps have these stamps and no others. Of stamps that differ they are as many as the

@@ -28,7 +28,8 @@ use std::alloc::Global;
 // Adds the tag of a name, but for `sel`.
 fn push_tag(states: &mut StateTable, tags: &mut Vec<TagId>, name: &str) -> Result<(), Fault>
     requires { All (IsTag states.old) tags.old.items }
-    ensures ok { OnOk result (map (name_at states.new) tags.new.items ≡ map (name_at states.old) tags.old.items ++ filter (λ name. not (bytes_eq name sel)) (name.now ∷ [])) }
+    ensures ok { OnOk result (map (name_at states.new) tags.new.items ≡ map (name_at states.old) tags.old.items
+        ++ filter (λ name. not (bytes_eq name sel)) (name.now ∷ [])) }
     ensures given { OnOk result (All (IsTag states.new) tags.new.items) }
     ensures ids { KeepsIds states.old states.new }
     ensures err { IfErr result (λ fault. fault ≡ Fault.NoMemory) }
@@ -84,7 +85,8 @@ pub(crate) fn tags_of_both(
 ) -> Result<Vec<TagId>, Fault>
     requires left { IsState states.now left }
     requires right { IsState states.now right }
-    ensures ok { IfOk result (λ tags. map (name_at states.now) tags.items ≡ filter (λ name. is_on name (state_at states.now right)) (names_on (state_at states.now left))) }
+    ensures ok { IfOk result (λ tags. map (name_at states.now) tags.items
+        ≡ filter (λ name. is_on name (state_at states.now right)) (names_on (state_at states.now left))) }
     ensures given { IfOk result (λ tags. All (IsTag states.now) tags.items) }
     ensures err { IfErr result (λ fault. fault ≡ Fault.NoMemory) }
 {
@@ -117,7 +119,8 @@ fn writer_of(site: Site, last: u64, index: usize) -> Stamp
 fn writes_of(alloc: Global, site: Site, last: u64, tags: &[TagId]) -> Result<Vec<Entry>, Fault>
     requires { last + length tags.now ≤ GREATEST_COUNT * 2 }
     ensures tags { IfOk result (λ writes. map (λ w. w.tag) writes.items ≡ tags.now) }
-    ensures state { IfOk result (λ writes. (table : TagStates) → state_after [] (writes_at table writes.items) ≡ new_state site.number last (map (name_at table) tags.now)) }
+    ensures state { IfOk result (λ writes. (table : TagStates)
+        → state_after [] (writes_at table writes.items) ≡ new_state site.number last (map (name_at table) tags.now)) }
     ensures err { IfErr result (λ fault. fault ≡ Fault.NoMemory) }
 {
     let mut writes = Vec::with_capacity(alloc, tags.len())?;
@@ -210,12 +213,14 @@ pub(crate) fn push_text(
     requires count { count ≤ GREATEST_COUNT }
     requires tags { All (IsTag states.old) tags.now }
     requires states { AreStates states.old cells.old.items }
-    ensures cells { OnOk result (map (shown states.new) cells.new.items ≡ map (shown states.old) cells.old.items ++ tagged_cells site.number count (map (name_at states.old) tags.now) text.now) }
+    ensures cells { OnOk result (map (shown states.new) cells.new.items ≡ map (shown states.old) cells.old.items
+        ++ tagged_cells site.number count (map (name_at states.old) tags.now) text.now) }
     ensures count { IfOk result (λ last. last ≡ count + counts_for (map (name_at states.old) tags.now) text.now) }
     ensures within { IfOk result (λ last. last ≤ GREATEST_COUNT) }
     ensures given { OnOk result (AreStates states.new cells.new.items) }
     ensures ids { KeepsIds states.old states.new }
-    ensures err { IfErr result (λ fault. (fault ≡ Fault.NoMemory) ⊎ ((fault ≡ Fault.ClockSpent) × (GREATEST_COUNT < count + counts_for (map (name_at states.old) tags.now) text.now))) }
+    ensures err { IfErr result (λ fault. (fault ≡ Fault.NoMemory)
+        ⊎ ((fault ≡ Fault.ClockSpent) × (GREATEST_COUNT < count + counts_for (map (name_at states.old) tags.now) text.now))) }
 {
     let last = last_count(count, tags.len(), text.len())?;
     let mut now = count;
@@ -324,13 +329,16 @@ impl Plan {
         requires plan { IsPlan states.old self.old }
         requires tags { All (IsTag states.old) tags.now }
         ensures plan { OnOk result (IsPlan states.new self.new) }
-        ensures cells { OnOk result (map (shown states.new) self.new.cells.items ≡ map (shown states.old) self.old.cells.items ++ tagged_cells site.number self.old.count (map (name_at states.old) tags.now) text.now) }
+        ensures cells { OnOk result (map (shown states.new) self.new.cells.items ≡ map (shown states.old) self.old.cells.items
+            ++ tagged_cells site.number self.old.count (map (name_at states.old) tags.now) text.now) }
         ensures count { OnOk result (self.new.count ≡ self.old.count + counts_for (map (name_at states.old) tags.now) text.now) }
-        ensures tags { OnOk result (map (name_at states.new) self.new.tags.items ≡ map (name_at states.old) self.old.tags.items ++ map (name_at states.old) tags.now) }
+        ensures tags { OnOk result (map (name_at states.new) self.new.tags.items ≡ map (name_at states.old) self.old.tags.items
+            ++ map (name_at states.old) tags.now) }
         ensures selected { self.new.selected ≡ self.old.selected }
         ensures between { self.new.between ≡ self.old.between }
         ensures ids { KeepsIds states.old states.new }
-        ensures err { IfErr result (λ fault. (fault ≡ Fault.NoMemory) ⊎ ((fault ≡ Fault.ClockSpent) × (GREATEST_COUNT < self.old.count + counts_for (map (name_at states.old) tags.now) text.now))) }
+        ensures err { IfErr result (λ fault. (fault ≡ Fault.NoMemory)
+            ⊎ ((fault ≡ Fault.ClockSpent) × (GREATEST_COUNT < self.old.count + counts_for (map (name_at states.old) tags.now) text.now))) }
     {
         self.count = push_text(alloc, states, &mut self.cells, site, self.count, tags, text)?;
         self.tags.extend_from_slice(tags)?;
@@ -339,7 +347,8 @@ impl Plan {
 
     // Selects characters, where that is asked.
     fn select(&mut self, selected: bool, stamps: &[Stamp]) -> Result<(), Fault>
-        ensures selected { OnOk result ((selection : List Stamp) → with_stamps self.new.selected.items selection ≡ selected_if selected stamps.now (with_stamps self.old.selected.items selection)) }
+        ensures selected { OnOk result ((selection : List Stamp)
+            → with_stamps self.new.selected.items selection ≡ selected_if selected stamps.now (with_stamps self.old.selected.items selection)) }
         ensures same { self.new ≡ record self.old { selected = self.new.selected } }
         ensures err { IfErr result (λ fault. fault ≡ Fault.NoMemory) }
     {
@@ -359,10 +368,13 @@ impl Plan {
     ) -> Result<(), Fault>
         requires plan { IsPlan states.old self.old }
         ensures plan { OnOk result (IsPlan states.new self.new) }
-        ensures ok { OnOk result ((sel : List Stamp) (others : List (List Stamp)) (tags : List Word) → planned states.new self.new sel others tags ≡ with_listed site.number piece.now.tags (chars piece.now.text) (planned states.old self.old sel others tags)) }
+        ensures ok { OnOk result ((sel : List Stamp) (others : List (List Stamp)) (tags : List Word)
+            → planned states.new self.new sel others tags
+            ≡ with_listed site.number piece.now.tags (chars piece.now.text) (planned states.old self.old sel others tags)) }
         ensures between { OnOk result (self.new.between ≡ self.old.between) }
         ensures ids { KeepsIds states.old states.new }
-        ensures err { IfErr result (λ fault. (fault ≡ Fault.NoMemory) ⊎ ((fault ≡ Fault.ClockSpent) × (GREATEST_COUNT < self.old.count + counts_for (shared_names piece.now.tags) (chars piece.now.text)))) }
+        ensures err { IfErr result (λ fault. (fault ≡ Fault.NoMemory)
+            ⊎ ((fault ≡ Fault.ClockSpent) × (GREATEST_COUNT < self.old.count + counts_for (shared_names piece.now.tags) (chars piece.now.text)))) }
     {
         let text = chars_of(alloc, piece.text())?;
         if text.is_empty() {
@@ -386,10 +398,14 @@ impl Plan {
     ) -> Result<Plan, Fault>
         requires { count ≤ GREATEST_COUNT }
         ensures plan { IfOk result (IsPlan states.new) }
-        ensures ok { IfOk result (λ plan. (sel : List Stamp) (others : List (List Stamp)) (tags : List Word) → planned states.new plan sel others tags ≡ with_pieces site.number pieces.now (record { cells = []; count = count; sel = sel; others = others; tags = tags })) }
+        ensures ok { IfOk result (λ plan. (sel : List Stamp) (others : List (List Stamp)) (tags : List Word)
+            → planned states.new plan sel others tags
+            ≡ with_pieces site.number pieces.now (record { cells = []; count = count; sel = sel; others = others; tags = tags })) }
         ensures between { IfOk result (λ plan. plan.between ≡ None) }
         ensures ids { KeepsIds states.old states.new }
-        ensures err { IfErr result (λ fault. (fault ≡ Fault.NoMemory) ⊎ ((fault ≡ Fault.ClockSpent) × ((sel : List Stamp) (others : List (List Stamp)) (tags : List Word) → GREATEST_COUNT < (with_pieces site.number pieces.now (record { cells = []; count = count; sel = sel; others = others; tags = tags })).count))) }
+        ensures err { IfErr result (λ fault. (fault ≡ Fault.NoMemory)
+            ⊎ ((fault ≡ Fault.ClockSpent) × ((sel : List Stamp) (others : List (List Stamp)) (tags : List Word)
+            → GREATEST_COUNT < (with_pieces site.number pieces.now (record { cells = []; count = count; sel = sel; others = others; tags = tags })).count))) }
     {
         let mut plan = Plan::new(alloc, count);
         for piece in pieces {
@@ -407,7 +423,8 @@ impl Plan {
 
     // Whether two characters are both selected already, or after the insertion.
     fn selects_both(&self, selection: &Selection, left: Stamp, right: Stamp) -> bool
-        ensures { result ≡ (is_among (with_stamps self.now.selected.items (stamps_in selection.now)) left && is_among (with_stamps self.now.selected.items (stamps_in selection.now)) right) }
+        ensures { result ≡ (is_among (with_stamps self.now.selected.items (stamps_in selection.now)) left
+            && is_among (with_stamps self.now.selected.items (stamps_in selection.now)) right) }
     {
         self.selects(selection, left) && self.selects(selection, right)
     }
@@ -429,9 +446,13 @@ impl Plan {
         requires text { 1 ≤ length text.now }
         requires between { self.old.between ≡ None }
         ensures plan { OnOk result (IsPlan states.new self.new) }
-        ensures ok { OnOk result ((others : List (List Stamp)) (tags : List Word) → planned states.new self.new (stamps_in selection.now) others tags ≡ with_unlisted site.number (Some (shown states.old left)) (Some (shown states.old right)) text.now (planned states.old self.old (stamps_in selection.now) others tags)) }
+        ensures ok { OnOk result ((others : List (List Stamp)) (tags : List Word)
+            → planned states.new self.new (stamps_in selection.now) others tags
+            ≡ with_unlisted site.number (Some (shown states.old left)) (Some (shown states.old right)) text.now (planned states.old self.old (stamps_in selection.now) others tags)) }
         ensures ids { KeepsIds states.old states.new }
-        ensures err { IfErr result (λ fault. (fault ≡ Fault.NoMemory) ⊎ ((fault ≡ Fault.ClockSpent) × (GREATEST_COUNT < self.old.count + counts_for (tags_between (Some (shown states.old left)) (Some (shown states.old right))) text.now))) }
+        ensures err { IfErr result (λ fault. (fault ≡ Fault.NoMemory)
+            ⊎ ((fault ≡ Fault.ClockSpent) × (GREATEST_COUNT < self.old.count
+            + counts_for (tags_between (Some (shown states.old left)) (Some (shown states.old right))) text.now))) }
     {
         let tags = tags_of_both(alloc, states, left.state, right.state)?;
         let before = self.cells.len();
@@ -464,9 +485,13 @@ impl Plan {
         requires right { IsState states.old right.state }
         requires between { self.old.between ≡ None }
         ensures plan { OnOk result (IsPlan states.new self.new) }
-        ensures ok { OnOk result ((others : List (List Stamp)) (tags : List Word) → planned states.new self.new (stamps_in selection.now) others tags ≡ with_unlisted site.number (last_of (option_map (shown states.old) left) (map (shown states.old) self.old.cells.items)) (Some (shown states.old right)) (chars text.now) (planned states.old self.old (stamps_in selection.now) others tags)) }
+        ensures ok { OnOk result ((others : List (List Stamp)) (tags : List Word)
+            → planned states.new self.new (stamps_in selection.now) others tags
+            ≡ with_unlisted site.number (last_of (option_map (shown states.old) left) (map (shown states.old) self.old.cells.items)) (Some (shown states.old right)) (chars text.now) (planned states.old self.old (stamps_in selection.now) others tags)) }
         ensures ids { KeepsIds states.old states.new }
-        ensures err { IfErr result (λ fault. (fault ≡ Fault.NoMemory) ⊎ ((fault ≡ Fault.ClockSpent) × (GREATEST_COUNT < self.old.count + counts_for (tags_between (last_of (option_map (shown states.old) left) (map (shown states.old) self.old.cells.items)) (Some (shown states.old right))) (chars text.now)))) }
+        ensures err { IfErr result (λ fault. (fault ≡ Fault.NoMemory)
+            ⊎ ((fault ≡ Fault.ClockSpent) × (GREATEST_COUNT < self.old.count
+            + counts_for (tags_between (last_of (option_map (shown states.old) left) (map (shown states.old) self.old.cells.items)) (Some (shown states.old right))) (chars text.now)))) }
     {
         let text = chars_of(alloc, text)?;
         if text.is_empty() {

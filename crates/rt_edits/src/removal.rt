@@ -145,7 +145,8 @@ pub fn ranges_within<S: TextStore>(
 ) -> Result<Vec<Range>, Fault>
     ensures order { IfOk result (λ within. AreInOrder 0 within.items) }
     ensures within { IfOk result (λ within. All (λ range. range.to ≤ length (visible_of (S.list store.now))) within.items) }
-    ensures places { IfOk result (λ within. (place : ℕ) → is_covered within.items place ≡ (nat_lt place (length (visible_of (S.list store.now))) && is_covered ranges.now place)) }
+    ensures places { IfOk result (λ within. (place : ℕ)
+        → is_covered within.items place ≡ (nat_lt place (length (visible_of (S.list store.now))) && is_covered ranges.now place)) }
     ensures err { IfErr result (λ fault. fault ≡ Fault.NoMemory) }
 {
     let sorted = sorted_before(alloc, ranges, store.visible())?;

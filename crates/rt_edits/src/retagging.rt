@@ -44,7 +44,8 @@ fn write_tags(
     ensures stamps { OnOk result (stamps_of cells.new.items ≡ stamps_of cells.old.items) }
     ensures given { OnOk result (AreStates states.new cells.new.items) }
     ensures ids { KeepsIds states.old states.new }
-    ensures err { IfErr result (λ fault. (fault ≡ Fault.NoMemory) ⊎ ((fault ≡ Fault.ClockSpent) × (GREATEST_COUNT < (copies_after site.number on (map (name_at states.old) tags.now) (record { cells = map (shown states.old) cells.old.items; count = count })).count))) }
+    ensures err { IfErr result (λ fault. (fault ≡ Fault.NoMemory)
+        ⊎ ((fault ≡ Fault.ClockSpent) × (GREATEST_COUNT < (copies_after site.number on (map (name_at states.old) tags.now) (record { cells = map (shown states.old) cells.old.items; count = count })).count))) }
 {
     let mut last = count;
     for tag in tags {
@@ -79,12 +80,18 @@ pub fn planned_tags<S: TextStore>(
     requires within { All (λ range. range.to ≤ length (visible_of (S.list store.now))) ranges.now }
     requires tags { All (IsTag states.old) tags.now }
     requires count { count ≤ GREATEST_COUNT }
-    ensures ok { IfOk result (λ plan. (flat : Flat) → flat.site ≡ site.number → flat.count ≡ count → flat.cells ≡ map (shown states.old) (S.list store.now) → with_tags_at flat (is_covered ranges.now) on (map (name_at states.old) tags.now) ≡ record flat { cells = map (shown states.new) (map (put_back_in_any plan.runs.items) (S.list store.now)); count = plan.count }) }
+    ensures ok { IfOk result (λ plan. (flat : Flat) → flat.site ≡ site.number → flat.count ≡ count
+        → flat.cells ≡ map (shown states.old) (S.list store.now)
+        → with_tags_at flat (is_covered ranges.now) on (map (name_at states.old) tags.now)
+        ≡ record flat { cells = map (shown states.new) (map (put_back_in_any plan.runs.items) (S.list store.now)); count = plan.count }) }
     ensures within { IfOk result (λ plan. plan.count ≤ GREATEST_COUNT) }
     ensures runs { IfOk result (λ plan. All (λ run. IsState states.new run.state) plan.runs.items) }
     ensures few { IfOk result (λ plan. length plan.runs.items ≤ length (S.list store.now)) }
     ensures ids { KeepsIds states.old states.new }
-    ensures err { IfErr result (λ fault. (fault ≡ Fault.NoMemory) ⊎ ((fault ≡ Fault.ClockSpent) × ((flat : Flat) → flat.site ≡ site.number → flat.count ≡ count → flat.cells ≡ map (shown states.old) (S.list store.now) → GREATEST_COUNT < (with_tags_at flat (is_covered ranges.now) on (map (name_at states.old) tags.now)).count))) }
+    ensures err { IfErr result (λ fault. (fault ≡ Fault.NoMemory)
+        ⊎ ((fault ≡ Fault.ClockSpent) × ((flat : Flat) → flat.site ≡ site.number → flat.count ≡ count
+        → flat.cells ≡ map (shown states.old) (S.list store.now)
+        → GREATEST_COUNT < (with_tags_at flat (is_covered ranges.now) on (map (name_at states.old) tags.now)).count))) }
 {
     let mut cells = cells_in(alloc, store, ranges)?;
     sort_cells(&mut cells);
@@ -111,13 +118,18 @@ pub fn planned_tag<S: TextStore>(
     requires order { AreInOrder 0 ranges.now }
     requires within { All (λ range. range.to ≤ length (visible_of (S.list store.old))) ranges.now }
     requires count { count ≤ GREATEST_COUNT }
-    ensures ok { IfOk result (λ plan. (flat : Flat) → flat.site ≡ site.number → flat.count ≡ count → flat.cells ≡ map (shown states.old) (S.list store.old) → with_tag_at flat (is_covered ranges.now) on name.now ≡ record flat { cells = map (shown states.new) (map (put_back_in_any plan.runs.items) (S.list store.old)); count = plan.count }) }
+    ensures ok { IfOk result (λ plan. (flat : Flat) → flat.site ≡ site.number → flat.count ≡ count
+        → flat.cells ≡ map (shown states.old) (S.list store.old)
+        → with_tag_at flat (is_covered ranges.now) on name.now
+        ≡ record flat { cells = map (shown states.new) (map (put_back_in_any plan.runs.items) (S.list store.old)); count = plan.count }) }
     ensures room { IfOk result (λ plan. HasRoom (S.room store.new) 0 (2 * length plan.runs.items)) }
     ensures same { S.list store.new ≡ S.list store.old }
     ensures within { IfOk result (λ plan. plan.count ≤ GREATEST_COUNT) }
     ensures runs { IfOk result (λ plan. All (λ run. IsState states.new run.state) plan.runs.items) }
     ensures ids { KeepsIds states.old states.new }
-    ensures err { IfErr result (λ fault. (fault ≡ Fault.NoMemory) ⊎ ((fault ≡ Fault.ClockSpent) × ((flat : Flat) → flat.site ≡ site.number → flat.count ≡ count → flat.cells ≡ map (shown states.old) (S.list store.old) → GREATEST_COUNT < (with_tag_at flat (is_covered ranges.now) on name.now).count))) }
+    ensures err { IfErr result (λ fault. (fault ≡ Fault.NoMemory)
+        ⊎ ((fault ≡ Fault.ClockSpent) × ((flat : Flat) → flat.site ≡ site.number → flat.count ≡ count
+        → flat.cells ≡ map (shown states.old) (S.list store.old) → GREATEST_COUNT < (with_tag_at flat (is_covered ranges.now) on name.now).count))) }
 {
     let tag = states.number(name)?;
     let plan = planned_tags(alloc, store, states, site, count, ranges, &[tag], on)?;
@@ -136,7 +148,8 @@ pub fn select<S: TextStore>(
 ) -> Result<(), Fault>
     requires order { AreInOrder 0 ranges.now }
     requires within { All (λ range. range.to ≤ length (visible_of (S.list store.now))) ranges.now }
-    ensures ok { OnOk result (selected_in selection.new ≡ selection_with on (stamps_at (is_covered ranges.now) 0 (S.list store.now)) (selected_in selection.old)) }
+    ensures ok { OnOk result (selected_in selection.new
+        ≡ selection_with on (stamps_at (is_covered ranges.now) 0 (S.list store.now)) (selected_in selection.old)) }
     ensures unchanged { OnErr result (selected_in selection.new ≡ selected_in selection.old) }
     ensures err { IfErr result (λ fault. fault ≡ Fault.NoMemory) }
 {
@@ -178,7 +191,8 @@ fn numbered(
     names: &[String],
 ) -> Result<Vec<TagId>, Fault>
     ensures given { IfOk result (λ numbers. All (IsTag states.new) numbers.items) }
-    ensures names { IfOk result (λ numbers. map (name_at states.new) numbers.items ≡ filter (is_shared_of tags.now.names) (map (λ w. string_bytes w) names.now)) }
+    ensures names { IfOk result (λ numbers. map (name_at states.new) numbers.items
+        ≡ filter (is_shared_of tags.now.names) (map (λ w. string_bytes w) names.now)) }
     ensures ids { KeepsIds states.old states.new }
     ensures err { IfErr result (λ fault. fault ≡ Fault.NoMemory) }
 {
@@ -207,13 +221,19 @@ pub fn planned_deletion<S: TextStore>(
     requires few { length (S.list store.old) ≤ MOST_CELLS }
     requires listed { AreListed tags.now.names (map (shown states.old) (S.list store.old)) }
     requires count { count ≤ GREATEST_COUNT }
-    ensures ok { IfOk result (λ plan. (flat : Flat) → flat.site ≡ site.number → flat.count ≡ count → flat.tags ≡ tags.now.names → flat.cells ≡ map (shown states.old) (S.list store.old) → without_tags flat (map (λ w. string_bytes w) names.now) ≡ record flat { cells = map (shown states.new) (map (put_back_in_any plan.runs.items) (S.list store.old)); count = plan.count; tags = all_forgotten (map (λ w. string_bytes w) names.now) flat.tags }) }
+    ensures ok { IfOk result (λ plan. (flat : Flat) → flat.site ≡ site.number → flat.count ≡ count
+        → flat.tags ≡ tags.now.names → flat.cells ≡ map (shown states.old) (S.list store.old)
+        → without_tags flat (map (λ w. string_bytes w) names.now)
+        ≡ record flat { cells = map (shown states.new) (map (put_back_in_any plan.runs.items) (S.list store.old)); count = plan.count; tags = all_forgotten (map (λ w. string_bytes w) names.now) flat.tags }) }
     ensures room { IfOk result (λ plan. HasRoom (S.room store.new) 0 (2 * length plan.runs.items)) }
     ensures same { S.list store.new ≡ S.list store.old }
     ensures within { IfOk result (λ plan. plan.count ≤ GREATEST_COUNT) }
     ensures runs { IfOk result (λ plan. All (λ run. IsState states.new run.state) plan.runs.items) }
     ensures ids { KeepsIds states.old states.new }
-    ensures err { IfErr result (λ fault. (fault ≡ Fault.NoMemory) ⊎ ((fault ≡ Fault.ClockSpent) × ((flat : Flat) → flat.site ≡ site.number → flat.count ≡ count → flat.tags ≡ tags.now.names → flat.cells ≡ map (shown states.old) (S.list store.old) → GREATEST_COUNT < (without_tags flat (map (λ w. string_bytes w) names.now)).count))) }
+    ensures err { IfErr result (λ fault. (fault ≡ Fault.NoMemory)
+        ⊎ ((fault ≡ Fault.ClockSpent) × ((flat : Flat) → flat.site ≡ site.number → flat.count ≡ count
+        → flat.tags ≡ tags.now.names → flat.cells ≡ map (shown states.old) (S.list store.old)
+        → GREATEST_COUNT < (without_tags flat (map (λ w. string_bytes w) names.now)).count))) }
 {
     let numbers = numbered(alloc, states, tags, names)?;
     let all = [Range {

@@ -131,7 +131,8 @@ pub fn reserve_between(
     more: usize,
 ) -> Result<(), Fault>
     ensures same { map stamps_in selections.new ≡ map stamps_in selections.old }
-    ensures room { OnOk result (All (λ selection. (is_among (stamps_in selection) left && is_among (stamps_in selection) right) ≡ true → more ≤ room_in selection) selections.new) }
+    ensures room { OnOk result (All (λ selection. (is_among (stamps_in selection) left && is_among (stamps_in selection) right) ≡ true
+        → more ≤ room_in selection) selections.new) }
     ensures err { IfErr result (λ fault. fault ≡ Fault.NoMemory) }
 {
     for i in 0..selections.len() {
@@ -142,8 +143,10 @@ pub fn reserve_between(
 
 /// Selects characters in each selection that has two others, within the room that there is.
 pub fn add_between(selections: &mut [Selection], left: Stamp, right: Stamp, stamps: &[Stamp])
-    requires { All (λ selection. (is_among (stamps_in selection) left && is_among (stamps_in selection) right) ≡ true → length stamps.now ≤ room_in selection) selections.old }
-    ensures { map stamps_in selections.new ≡ map (λ selection. selected_if (is_among selection left && is_among selection right) stamps.now selection) (map stamps_in selections.old) }
+    requires { All (λ selection. (is_among (stamps_in selection) left && is_among (stamps_in selection) right) ≡ true
+        → length stamps.now ≤ room_in selection) selections.old }
+    ensures { map stamps_in selections.new ≡ map (λ selection. selected_if (is_among selection left
+        && is_among selection right) stamps.now selection) (map stamps_in selections.old) }
 {
     for i in 0..selections.len() {
         selections[i].add_if(left, right, stamps);

@@ -21,7 +21,8 @@ use std::alloc::Global;
 fn push_stamps<S: TextStore>(store: &S, range: Range, stamps: &mut Vec<Stamp>) -> Result<(), Fault>
     requires order { range.from ≤ range.to }
     requires within { range.to ≤ length (visible_of (S.list store.now)) }
-    ensures ok { OnOk result (stamps.new.items ≡ stamps.old.items ++ map (λ cell. cell.stamp) (take (range.to - range.from) (drop range.from (visible_of (S.list store.now))))) }
+    ensures ok { OnOk result (stamps.new.items ≡ stamps.old.items
+        ++ map (λ cell. cell.stamp) (take (range.to - range.from) (drop range.from (visible_of (S.list store.now))))) }
     ensures err { IfErr result (λ fault. fault ≡ Fault.NoMemory) }
 {
     for place in range.from..range.to {

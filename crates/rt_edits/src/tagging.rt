@@ -130,13 +130,17 @@ pub(crate) fn write_tag(
     requires sorted { each_next precedes (stamps_of cells.old.items) ≡ true }
     requires count { count ≤ GREATEST_COUNT }
     requires few { length cells.old.items ≤ MOST_CELLS }
-    ensures cells { OnOk result (map (shown states.new) cells.new.items ≡ map (tagged site.number count (name_at states.old tag) on (changed_stamps (name_at states.old tag) on (map (shown states.old) cells.old.items))) (map (shown states.old) cells.old.items)) }
-    ensures count { IfOk result (λ last. last ≡ count + operations_for (span_count (changed_stamps (name_at states.old tag) on (map (shown states.old) cells.old.items)))) }
+    ensures cells { OnOk result (map (shown states.new) cells.new.items
+        ≡ map (tagged site.number count (name_at states.old tag) on (changed_stamps (name_at states.old tag) on (map (shown states.old) cells.old.items))) (map (shown states.old) cells.old.items)) }
+    ensures count { IfOk result (λ last. last ≡ count
+        + operations_for (span_count (changed_stamps (name_at states.old tag) on (map (shown states.old) cells.old.items)))) }
     ensures within { IfOk result (λ last. last ≤ GREATEST_COUNT) }
     ensures stamps { OnOk result (stamps_of cells.new.items ≡ stamps_of cells.old.items) }
     ensures given { OnOk result (AreStates states.new cells.new.items) }
     ensures ids { KeepsIds states.old states.new }
-    ensures err { IfErr result (λ fault. (fault ≡ Fault.NoMemory) ⊎ ((fault ≡ Fault.ClockSpent) × (GREATEST_COUNT < count + operations_for (span_count (changed_stamps (name_at states.old tag) on (map (shown states.old) cells.old.items)))))) }
+    ensures err { IfErr result (λ fault. (fault ≡ Fault.NoMemory)
+        ⊎ ((fault ≡ Fault.ClockSpent) × (GREATEST_COUNT < count
+        + operations_for (span_count (changed_stamps (name_at states.old tag) on (map (shown states.old) cells.old.items)))))) }
 {
     let mut spans = 0;
     let mut last = None;

@@ -11,4 +11,3 @@ pub mod values;
 
 pub use expression::{Expr, is_fixed, parse, resolve};
 pub use ground::Ground;
-

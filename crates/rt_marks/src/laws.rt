@@ -19,27 +19,38 @@ pub fn order_after_insertion()
 
 /// What a name finds after each edit.
 pub fn look_ups()
-    ensures after_set { (q name : List ℕ) (place : ℕ) (marks : List Mark) → named q (marks_set name place marks) ≡ (if bytes_eq name q then Some (record { name = name; place = place; gravity = gravity_or_right name marks }) else named q marks) }
+    ensures after_set { (q name : List ℕ) (place : ℕ) (marks : List Mark)
+        → named q (marks_set name place marks) ≡ (if bytes_eq name q then Some (record { name = name; place = place; gravity = gravity_or_right name marks }) else named q marks) }
     ensures after_unset { (q name : List ℕ) (marks : List Mark) → named q (without name marks) ≡ (if bytes_eq name q then None else named q marks) }
-    ensures after_insertion { (q : List ℕ) (place n : ℕ) (marks : List Mark) → named q (marks_inserted place n marks) ≡ option_map (mark_inserted place n) (named q marks) }
-    ensures after_removal { (q : List ℕ) (place n : ℕ) (marks : List Mark) → HaveOwnNames marks → named q (marks_removed place n marks) ≡ option_map (mark_removed place n) (named q marks) }
-    ensures after_removals { (q : List ℕ) (removed : ℕ → Bool) (marks : List Mark) → HaveOwnNames marks → named q (marks_left removed marks) ≡ option_map (mark_left removed) (named q marks) }
+    ensures after_insertion { (q : List ℕ) (place n : ℕ) (marks : List Mark)
+        → named q (marks_inserted place n marks) ≡ option_map (mark_inserted place n) (named q marks) }
+    ensures after_removal { (q : List ℕ) (place n : ℕ) (marks : List Mark) → HaveOwnNames marks
+        → named q (marks_removed place n marks) ≡ option_map (mark_removed place n) (named q marks) }
+    ensures after_removals { (q : List ℕ) (removed : ℕ → Bool) (marks : List Mark) → HaveOwnNames marks
+        → named q (marks_left removed marks) ≡ option_map (mark_left removed) (named q marks) }
 {}
 
 /// Marks within a text of some size are within it after each edit.
 pub fn marks_within_the_text()
-    ensures after_set { (name : List ℕ) (place size : ℕ) (marks : List Mark) → place ≤ size → Each (λ m. m.place ≤ size) marks → Each (λ m. m.place ≤ size) (marks_set name place marks) }
+    ensures after_set { (name : List ℕ) (place size : ℕ) (marks : List Mark) → place ≤ size → Each (λ m. m.place ≤ size) marks
+        → Each (λ m. m.place ≤ size) (marks_set name place marks) }
     ensures after_unset { (name : List ℕ) (size : ℕ) (marks : List Mark) → Each (λ m. m.place ≤ size) marks → Each (λ m. m.place ≤ size) (without name marks) }
-    ensures after_gravity { (name : List ℕ) (gravity : Gravity) (size : ℕ) (marks : List Mark) → Each (λ m. m.place ≤ size) marks → Each (λ m. m.place ≤ size) (marks_with_gravity name gravity marks) }
-    ensures after_insertion { (place n size : ℕ) (marks : List Mark) → Each (λ m. m.place ≤ size) marks → Each (λ m. m.place ≤ size + n) (marks_inserted place n marks) }
-    ensures after_removal { (place n size : ℕ) (marks : List Mark) → place + n ≤ size → Each (λ m. m.place ≤ size) marks → Each (λ m. m.place ≤ size - n) (marks_removed place n marks) }
-    ensures after_removals { (removed : ℕ → Bool) (size : ℕ) (marks : List Mark) → Each (λ m. m.place ≤ size) marks → Each (λ m. m.place ≤ place_left removed size) (marks_left removed marks) }
+    ensures after_gravity { (name : List ℕ) (gravity : Gravity) (size : ℕ) (marks : List Mark)
+        → Each (λ m. m.place ≤ size) marks → Each (λ m. m.place ≤ size) (marks_with_gravity name gravity marks) }
+    ensures after_insertion { (place n size : ℕ) (marks : List Mark) → Each (λ m. m.place ≤ size) marks
+        → Each (λ m. m.place ≤ size + n) (marks_inserted place n marks) }
+    ensures after_removal { (place n size : ℕ) (marks : List Mark) → place + n ≤ size → Each (λ m. m.place ≤ size) marks
+        → Each (λ m. m.place ≤ size - n) (marks_removed place n marks) }
+    ensures after_removals { (removed : ℕ → Bool) (size : ℕ) (marks : List Mark) → Each (λ m. m.place ≤ size) marks
+        → Each (λ m. m.place ≤ place_left removed size) (marks_left removed marks) }
 {}
 
 /// Several ranges are removed one after the other from the last to the first, each without moving those
 /// before it: then the marks and each place stand where removing all at once would leave them.
 pub fn removals_from_the_last()
-    ensures place { (later : ℕ → Bool) (from to : ℕ) → ((p : ℕ) → p < to → later p ≡ false) → (p : ℕ) → place_removed from (to - from) (place_left later p) ≡ place_left (is_within_or from to later) p }
-    ensures marks { (later : ℕ → Bool) (from to : ℕ) → ((p : ℕ) → p < to → later p ≡ false) → (marks : List Mark) → marks_removed from (to - from) (marks_left later marks) ≡ marks_left (is_within_or from to later) marks }
+    ensures place { (later : ℕ → Bool) (from to : ℕ) → ((p : ℕ) → p < to → later p ≡ false) → (p : ℕ)
+        → place_removed from (to - from) (place_left later p) ≡ place_left (is_within_or from to later) p }
+    ensures marks { (later : ℕ → Bool) (from to : ℕ) → ((p : ℕ) → p < to → later p ≡ false) → (marks : List Mark)
+        → marks_removed from (to - from) (marks_left later marks) ≡ marks_left (is_within_or from to later) marks }
     ensures none { (removed : ℕ → Bool) → ((p : ℕ) → removed p ≡ false) → (marks : List Mark) → AreInOrder marks → marks_left removed marks ≡ marks }
 {}

@@ -151,7 +151,8 @@ pub fn name_at(alloc: Global, bytes: &[u8]) -> Result<(String, &[u8]), Fault>
 
 /// So many names at the front, and what follows them.
 fn names_in(alloc: Global, count: u8, bytes: &[u8]) -> Result<(Vec<String>, &[u8]), Fault>
-    ensures { DecodesFront (λ tags. flat_map name_bytes tags) (AreNames count) (λ found. map string_bytes found.0.items) (λ found. found.1.now) bytes.now result }
+    ensures { DecodesFront (λ tags. flat_map name_bytes tags) (AreNames count) (λ found. map string_bytes found.0.items)
+        (λ found. found.1.now) bytes.now result }
 {
     let mut tags = Vec::new(alloc);
     let mut left = bytes;

@@ -26,7 +26,8 @@ pub fn files()
     ensures one { (one other : List Operation) → AllByRecursion HasRecord one → AllByRecursion HasRecord other → spelling one ≡ spelling other → one ≡ other }
     ensures spelled { (ops : List Operation) → AreInFile ops → Reads (spelling ops) ops (offsets_from 8 ops) None }
     ensures read { (bytes : List ℕ) (ops : List Operation) (offsets : List ℕ) → Reads bytes ops offsets None → AreInFile ops × (bytes ≡ spelling ops) }
-    ensures once { (bytes : List ℕ) (one other : List Operation) (offsets places : List ℕ) (a b : Option (Fault × ℕ)) → Reads bytes one offsets a → Reads bytes other places b → (one ≡ other) × (offsets ≡ places) × (a ≡ b) }
+    ensures once { (bytes : List ℕ) (one other : List Operation) (offsets places : List ℕ) (a b : Option (Fault × ℕ))
+        → Reads bytes one offsets a → Reads bytes other places b → (one ≡ other) × (offsets ≡ places) × (a ≡ b) }
 {}
 
 /// Where the operations of a log are pushed from the oldest on, as its file has them, none is refused,

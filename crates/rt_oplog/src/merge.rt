@@ -103,7 +103,8 @@ pub(crate) fn merge(
     requires theirs { AllByRecursion (λ place. place < length more.old) theirs.now }
     requires one { IsLog (newest_first ops.old.items mine.now) }
     requires other { IsLog (newest_first more.old theirs.now) }
-    ensures { MatchResult result (λ order. IsMerged ops.new.items (newest_first ops.old.items mine.now) (newest_first more.old theirs.now) order.items) (λ fault. (fault ≡ NoMemory) ⊎ ((fault ≡ Conflict) × HasClashOf (newest_first ops.old.items mine.now) (newest_first more.old theirs.now))) }
+    ensures { MatchResult result (λ order. IsMerged ops.new.items (newest_first ops.old.items mine.now) (newest_first more.old theirs.now) order.items)
+        (λ fault. (fault ≡ NoMemory) ⊎ ((fault ≡ Conflict) × HasClashOf (newest_first ops.old.items mine.now) (newest_first more.old theirs.now))) }
 {
     let mut order = Vec::new(alloc);
     let mut left = 0;
@@ -135,7 +136,8 @@ pub(crate) fn ends_of(alloc: Global, ops: &[Op], order: &[usize]) -> Result<Ends
     requires within { AllByRecursion (λ place. place < length ops.now) order.now }
     requires falling { IsFalling (newest_first ops.now order.now) }
     requires sound { (op : Operation) → Has (newest_first ops.now order.now) op → has_bad_stamp op ≡ false }
-    ensures { MatchResult result (λ ends. IsKept ops.now order.now ends.ends.items) (λ fault. (fault ≡ NoMemory) ⊎ ((fault ≡ Conflict) × HasClashOf (newest_first ops.now order.now) (newest_first ops.now order.now))) }
+    ensures { MatchResult result (λ ends. IsKept ops.now order.now ends.ends.items)
+        (λ fault. (fault ≡ NoMemory) ⊎ ((fault ≡ Conflict) × HasClashOf (newest_first ops.now order.now) (newest_first ops.now order.now))) }
 {
     let mut ends = Ends::new(alloc);
     for place in order {

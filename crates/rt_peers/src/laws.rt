@@ -8,7 +8,8 @@ use rt_words::laws::spelling_is_unique;
 
 /// Words are read as texts with lists in at most one way.
 pub fn reading_is_unique()
-    ensures { (words : List Word) (pieces others : List Piece) (rest other : Word) → AreTexts words pieces rest → AreTexts words others other → (pieces ≡ others) × (rest ≡ other) }
+    ensures { (words : List Word) (pieces others : List Piece) (rest other : Word) → AreTexts words pieces rest
+        → AreTexts words others other → (pieces ≡ others) × (rest ≡ other) }
 {
     spelling_is_unique();
 }

@@ -32,9 +32,9 @@ gone_back [] cell = refl
 gone_back (run ∷ runs) cell = elim (is_in_span run.span cell.stamp) as (λ b.
     cond b (with_state run.state (record cell { gone = true })) (put_back_in_any runs (record cell { gone = true }))
     ≡ record (cond b (with_state run.state cell) (put_back_in_any runs cell)) { gone = true }) [
-  | true ↦ refl
-  | false ↦ gone_back runs cell
-]
+      | true ↦ refl
+      | false ↦ gone_back runs cell
+    ]
 
 -- a cell comes into the state that the Tags leave
 abbrev pub ComesOut : List Operation → TagStates → TagStates → List StateRun → Cell ℕ → Type 0

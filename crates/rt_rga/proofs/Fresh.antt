@@ -136,8 +136,8 @@ apart bound [] old r a p b d = d
 apart bound (s ∷ ss) old r a p b d =
     distinct_more s (ss ++ old)
     (among_none s (ss ++ old) (every_append (λ t. is_same t s ≡ false) ss old
-        (every_weaker (λ (t : Stamp). s.count < t.count) (λ (t : Stamp). is_same t s ≡ false) (lesser_differs s) ss r.0)
-        (every_weaker (IsBelowNext bound) (λ (t : Stamp). is_same t s ≡ false) (λ t k. known_differs bound s t a.0 p.0 k) old b)))
+    (every_weaker (λ (t : Stamp). s.count < t.count) (λ (t : Stamp). is_same t s ≡ false) (lesser_differs s) ss r.0)
+    (every_weaker (IsBelowNext bound) (λ (t : Stamp). is_same t s ≡ false) (λ t k. known_differs bound s t a.0 p.0 k) old b)))
     (apart bound ss old r.1 a.1 p.1 b d)
 
 below : (count : ℕ) (cells : List TaggedCell) → All (λ cell. IsBelowNext count cell.stamp) cells → AllByRecursion (IsBelowNext count) (stamps_of cells)

@@ -149,8 +149,8 @@ can_all_put set [] new kept h k e f = tt
 can_all_put set (op ∷ ops) new kept h k e f = (
   can_put set op op.body new kept (fresh_cells ops) refl h k.0 e f,
   can_all_put (with_operation op set) ops (drop (characters_in op.body) new) (put_by_kept (stamp_of op) op.body new kept) (history_with op set h k.0) k.1
-  (stamps_after (stamp_of op) op.body new kept (cells_of set) (fresh_cells ops) e f ∙ ap (λ (xs : List TaggedCell). stamps_of xs) (sym (cells_with op set h k.0)))
-  (stamps_left (stamp_of op) op.body new (fresh_cells ops) f),
+      (stamps_after (stamp_of op) op.body new kept (cells_of set) (fresh_cells ops) e f ∙ ap (λ (xs : List TaggedCell). stamps_of xs) (sym (cells_with op set h k.0)))
+      (stamps_left (stamp_of op) op.body new (fresh_cells ops) f),
 )
 
 pub length_kept_after : (ops : List Operation) (new kept : List (Cell ℕ)) → CanAllBePut ops new kept → length (kept_after ops new kept) ≡ length kept + length (fresh_cells ops)

@@ -16,9 +16,9 @@ ghost use Rattle.rt_rga.specs.Histories.{Continues, IsHistory, greatest_last_cou
 ghost use Rattle.rt_store.specs.Shown.{shown};
 ghost use Rattle.rt_rga.specs.Taken.{IsChange, TellsChange, told};
 
+use crate::Draft;
 use crate::answer::{Offer, answer_within};
 use crate::describe::describe;
-use crate::Draft;
 use crate::edits::change;
 use crate::make::{change_all, prepared, push_all};
 use crate::taken::{Change, Taken};

@@ -91,7 +91,8 @@ fn answer_text<C: Commands>(alloc: Global, site: &mut C, text: &str) -> Answer
 
 // What a line is answered, unless it is a silent one.
 fn answer_line<C: Commands>(alloc: Global, site: &mut C, line: &[u8]) -> Option<Answer>
-    ensures answered { IfSome result (λ answer. (is_readable line.now && is_silent line.now ≡ false) × LineGives C.gives (C.state site.old) line.now answer (C.state site.new)) }
+    ensures answered { IfSome result (λ answer. (is_readable line.now && is_silent line.now ≡ false)
+        × LineGives C.gives (C.state site.old) line.now answer (C.state site.new)) }
     ensures silent { result ≡ None → (is_readable line.now && is_silent line.now ≡ true) × (C.state site.new ≡ C.state site.old) }
 {
     let text = match readable(line) {

@@ -34,7 +34,8 @@ fn write_line<W: Sink>(op: &Op, out: &mut W) -> Result<(), Fault>
 }
 
 fn write_op<W: Sink>(op: &Op, out: &mut W) -> Result<(), Fault>
-    ensures wrote { Wrote (W.contents out.old) (W.contents out.new) result ((kind_of op.now.body ++ spaced (text_of_stamp (stamp_of op.now) ∷ codes "prev" ∷ decimal op.now.prev ∷ [])) ++ spaced (words_of op.now.body)) }
+    ensures wrote { Wrote (W.contents out.old) (W.contents out.new) result ((kind_of op.now.body
+        ++ spaced (text_of_stamp (stamp_of op.now) ∷ codes "prev" ∷ decimal op.now.prev ∷ [])) ++ spaced (words_of op.now.body)) }
     ensures fault { IfErr result (λ fault. fault ≡ Fault.WriteFault) }
     ensures failures { W.failures out.new ≡ W.failures out.old + failures_of result }
 {
@@ -44,7 +45,8 @@ fn write_op<W: Sink>(op: &Op, out: &mut W) -> Result<(), Fault>
 
 // Kind, stamp, and the count before it.
 fn write_head<W: Sink>(op: &Op, out: &mut W) -> Result<(), Fault>
-    ensures wrote { Wrote (W.contents out.old) (W.contents out.new) result (kind_of op.now.body ++ spaced (text_of_stamp (stamp_of op.now) ∷ codes "prev" ∷ decimal op.now.prev ∷ [])) }
+    ensures wrote { Wrote (W.contents out.old) (W.contents out.new) result (kind_of op.now.body
+        ++ spaced (text_of_stamp (stamp_of op.now) ∷ codes "prev" ∷ decimal op.now.prev ∷ [])) }
     ensures fault { IfErr result (λ fault. fault ≡ Fault.WriteFault) }
     ensures failures { W.failures out.new ≡ W.failures out.old + failures_of result }
 {

@@ -7,7 +7,8 @@ use rt_marks::{Marks, Spot};
 
 /// The first mark after a spot, of the one that was found and one more.
 fn nearer_after<'a>(here: &Spot<'_>, found: Option<Spot<'a>>, own: Spot<'a>) -> Option<Spot<'a>>
-    ensures { (marks : List Mark) → AreInOrder marks → option_map spotted found.entry ≡ find (comes_before (spotted here.now)) marks → option_map spotted result ≡ find (comes_before (spotted here.now)) (with_mark (spotted own.entry) marks) }
+    ensures { (marks : List Mark) → AreInOrder marks → option_map spotted found.entry ≡ find (comes_before (spotted here.now)) marks
+        → option_map spotted result ≡ find (comes_before (spotted here.now)) (with_mark (spotted own.entry) marks) }
 {
     if !here.comes_before(&own) {
         return found;
@@ -20,7 +21,8 @@ fn nearer_after<'a>(here: &Spot<'_>, found: Option<Spot<'a>>, own: Spot<'a>) -> 
 
 /// The last mark before a spot, of the one that was found and one more.
 fn nearer_before<'a>(here: &Spot<'_>, found: Option<Spot<'a>>, own: Spot<'a>) -> Option<Spot<'a>>
-    ensures { (marks : List Mark) → AreInOrder marks → option_map spotted found.entry ≡ find_last (λ m. comes_before m (spotted here.now)) marks → option_map spotted result ≡ find_last (λ m. comes_before m (spotted here.now)) (with_mark (spotted own.entry) marks) }
+    ensures { (marks : List Mark) → AreInOrder marks → option_map spotted found.entry ≡ find_last (λ m. comes_before m (spotted here.now)) marks
+        → option_map spotted result ≡ find_last (λ m. comes_before m (spotted here.now)) (with_mark (spotted own.entry) marks) }
 {
     if !own.comes_before(here) {
         return found;
@@ -54,7 +56,8 @@ pub(crate) fn last_before<'a>(
     here: &Spot<'_>,
 ) -> Option<Spot<'a>>
     requires { named (spotted current).name marks.now ≡ None }
-    ensures { option_map spotted result ≡ find_last (λ m. comes_before m (spotted here.now)) (with_mark (spotted insert.entry) (with_mark (spotted current.entry) marks.now)) }
+    ensures { option_map spotted result ≡ find_last
+        (λ m. comes_before m (spotted here.now)) (with_mark (spotted insert.entry) (with_mark (spotted current.entry) marks.now)) }
 {
     marks.order();
     let found = nearer_before(here, marks.last_until(here), current);

@@ -61,8 +61,10 @@ fn search_places<S: TextStore>(
 ) -> Result<(usize, usize), Fault>
     requires { IsOwnOf (length (text_of doc.now.cells)) widget.now }
     ensures ok { IfOk result (λ places. places ≡ (place_at_index (widget_of doc.now widget.now) index.now, option_map_or (place_at_index (widget_of doc.now widget.now)) (option_copied other.entry) without)) }
-    ensures checked { OnOk result (first_of (map (index_check (widget_of doc.now widget.now)) (index.now ∷ option_to_list (option_copied other.entry))) ≡ None) }
-    ensures err { IfErr result (λ fault. (fault ≡ Fault.NoMemory) ⊎ (first_of (map (index_check (widget_of doc.now widget.now)) (index.now ∷ option_to_list (option_copied other.entry))) ≡ Some fault)) }
+    ensures checked { OnOk result (first_of (map (index_check (widget_of doc.now widget.now)) (index.now ∷ option_to_list (option_copied other.entry)))
+        ≡ None) }
+    ensures err { IfErr result (λ fault. (fault ≡ Fault.NoMemory)
+        ⊎ (first_of (map (index_check (widget_of doc.now widget.now)) (index.now ∷ option_to_list (option_copied other.entry))) ≡ Some fault)) }
 {
     let place = doc.place(widget, index)?;
     match other {

@@ -14,7 +14,8 @@ ghost use Rattle.rt_tags.specs.Writers.{is_shared, listed_by, state_after};
 pub fn states()
     ensures by_name { (w : Write) (state : List Write) → IsByName state → IsByName (written w state) }
     ensures known { (s t : List Write) → IsByName s → IsByName t → ((name : List ℕ) → write_of name s ≡ write_of name t) → s ≡ t }
-    ensures any_order { (v w : Write) (state : List Write) → IsByName state → (bytes_eq v.name w.name ≡ true → is_same v.writer w.writer ≡ false) → written v (written w state) ≡ written w (written v state) }
+    ensures any_order { (v w : Write) (state : List Write) → IsByName state
+        → (bytes_eq v.name w.name ≡ true → is_same v.writer w.writer ≡ false) → written v (written w state) ≡ written w (written v state) }
     ensures on { (name : List ℕ) (state : List Write) → IsByName state → is_on name state ≡ is_listed name (names_on state) }
     ensures once { (state : List Write) → IsByName state → HaveNoRepeats (names_on state) }
 {}
@@ -24,5 +25,7 @@ pub fn states()
 /// Tag operation that names a character is greater than the Insert that made it.
 pub fn deciding_writes()
     ensures greatest { (name : List ℕ) (writes : List Write) → is_on name (state_after [] writes) ≡ is_shared name writes }
-    ensures root { (name : List ℕ) (insert : Stamp) (names : List (List ℕ)) (tags : List Write) → AllByRecursion (λ w. is_before insert w.writer ≡ true) tags → is_on name (state_after [] (listed_by ROOT names ++ tags)) ≡ is_shared name (listed_by insert names ++ tags) }
+    ensures root { (name : List ℕ) (insert : Stamp) (names : List (List ℕ)) (tags : List Write)
+        → AllByRecursion (λ w. is_before insert w.writer ≡ true) tags
+        → is_on name (state_after [] (listed_by ROOT names ++ tags)) ≡ is_shared name (listed_by insert names ++ tags) }
 {}

@@ -84,7 +84,8 @@ pub fn list(names: &mut IndexSet<String>, listed: usize, index: usize) -> usize
     requires listed { IsListing (names_of names.old) listed }
     requires index { index < index_set_len names.old }
     ensures listed { IsListing (names_of names.new) result }
-    ensures names { (name : List ℕ) → IsAt name (names_of names.old) index → take result (names_of names.new) ≡ with_name name (take listed (names_of names.old)) }
+    ensures names { (name : List ℕ) → IsAt name (names_of names.old) index
+        → take result (names_of names.new) ≡ with_name name (take listed (names_of names.old)) }
     ensures same { (name : List ℕ) → is_listed name (names_of names.new) ≡ is_listed name (names_of names.old) }
 {
     if index < listed {
@@ -125,7 +126,8 @@ pub fn shift_above(names: &mut IndexSet<String>, listed: usize, from: usize, to:
     requires from { from < listed }
     requires to { to < listed }
     ensures listed { IsListing (names_of names.new) listed }
-    ensures names { (name other : List ℕ) → IsAt name (take listed (names_of names.old)) from → IsAt other (take listed (names_of names.old)) to → take listed (names_of names.new) ≡ raised name (Some other) (take listed (names_of names.old)) }
+    ensures names { (name other : List ℕ) → IsAt name (take listed (names_of names.old)) from
+        → IsAt other (take listed (names_of names.old)) to → take listed (names_of names.new) ≡ raised name (Some other) (take listed (names_of names.old)) }
     ensures same { (name : List ℕ) → is_listed name (names_of names.new) ≡ is_listed name (names_of names.old) }
 {
     if from < to {
@@ -141,7 +143,8 @@ pub fn shift_below(names: &mut IndexSet<String>, listed: usize, from: usize, to:
     requires from { from < listed }
     requires to { to < listed }
     ensures listed { IsListing (names_of names.new) listed }
-    ensures names { (name other : List ℕ) → IsAt name (take listed (names_of names.old)) from → IsAt other (take listed (names_of names.old)) to → take listed (names_of names.new) ≡ lowered name (Some other) (take listed (names_of names.old)) }
+    ensures names { (name other : List ℕ) → IsAt name (take listed (names_of names.old)) from
+        → IsAt other (take listed (names_of names.old)) to → take listed (names_of names.new) ≡ lowered name (Some other) (take listed (names_of names.old)) }
     ensures same { (name : List ℕ) → is_listed name (names_of names.new) ≡ is_listed name (names_of names.old) }
 {
     if from < to {

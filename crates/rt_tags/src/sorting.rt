@@ -64,7 +64,8 @@ pub(crate) fn merged(
     requires old { IsSorted (map (λ s. string_bytes s) names.now) old.now }
     requires new { IsSorted (map (λ s. string_bytes s) names.now) new.now }
     ensures sorted { IfOk result (λ v. IsSorted (map (λ s. string_bytes s) names.now) v.items) }
-    ensures entries { IfOk result (λ v. all_seen (map (λ s. string_bytes s) names.now) v.items ≡ state_after (all_seen (map (λ s. string_bytes s) names.now) old.now) (all_seen (map (λ s. string_bytes s) names.now) new.now)) }
+    ensures entries { IfOk result (λ v. all_seen (map (λ s. string_bytes s) names.now) v.items
+        ≡ state_after (all_seen (map (λ s. string_bytes s) names.now) old.now) (all_seen (map (λ s. string_bytes s) names.now) new.now)) }
 {
     let mut out = Vec::new(alloc);
     let mut rest_of_old = old;
@@ -97,7 +98,8 @@ pub(crate) fn sorted(
 ) -> Result<Vec<Entry>, AllocError>
     requires { HaveNames (length names.now) writes.now }
     ensures sorted { IfOk result (λ v. IsSorted (map (λ s. string_bytes s) names.now) v.items) }
-    ensures entries { IfOk result (λ v. all_seen (map (λ s. string_bytes s) names.now) v.items ≡ state_after [] (all_seen (map (λ s. string_bytes s) names.now) writes.now)) }
+    ensures entries { IfOk result (λ v. all_seen (map (λ s. string_bytes s) names.now) v.items
+        ≡ state_after [] (all_seen (map (λ s. string_bytes s) names.now) writes.now)) }
 {
     if writes.len() < 2 {
         return copied(alloc, writes);

@@ -162,7 +162,8 @@ fn state_of(states: &IndexSet<State>, id: StateId) -> &State
 // Keeps a state, if the same one isn't kept, and answers its place.
 fn intern(states: &mut IndexSet<State>, state: State) -> Result<usize, Fault>
     ensures kept { OnOk result ((names : List (List ℕ)) → AreKept names states.old.keys → IsKept names state → AreKept names states.new.keys) }
-    ensures interned { IfOk result (λ place. (names : List (List ℕ)) → AreKept names states.old.keys → IsKept names state → Interns (state_seen names state) (states_seen names states.old.keys) place (states_seen names states.new.keys)) }
+    ensures interned { IfOk result (λ place. (names : List (List ℕ)) → AreKept names states.old.keys
+        → IsKept names state → Interns (state_seen names state) (states_seen names states.old.keys) place (states_seen names states.new.keys)) }
     ensures err { OnErr result (states.new.keys ≡ states.old.keys) }
     ensures fault { IfErr result (λ fault. fault ≡ Fault.NoMemory) }
 {
@@ -210,7 +211,8 @@ fn state_after(
 ) -> Result<State, AllocError>
     requires named { HaveNames (length names.now) writes.now }
     requires sorted { IsSorted (map (λ s. string_bytes s) names.now) state.now.entries.items }
-    ensures entries { IfOk result (λ s. state_seen (map (λ s. string_bytes s) names.now) s ≡ state_after (state_seen (map (λ s. string_bytes s) names.now) state.now) (all_seen (map (λ s. string_bytes s) names.now) writes.now)) }
+    ensures entries { IfOk result (λ s. state_seen (map (λ s. string_bytes s) names.now) s
+        ≡ state_after (state_seen (map (λ s. string_bytes s) names.now) state.now) (all_seen (map (λ s. string_bytes s) names.now) writes.now)) }
     ensures kept { IfOk result (λ s. IsKept (map (λ s. string_bytes s) names.now) s) }
 {
     let new = sorting::sorted(alloc, names, writes)?;
@@ -376,7 +378,8 @@ impl StateTable {
     pub fn state_of_list(&mut self, writer: Stamp, names: &[String]) -> Result<StateId, Fault>
         ensures given { IfOk result (IsState self.new) }
         ensures state { IfOk result (λ id. state_at self.new id ≡ state_after [] (listed_by writer (map (λ s. string_bytes s) names.now))) }
-        ensures interned { IfOk result (λ id. Interns (state_after [] (listed_by writer (map (λ s. string_bytes s) names.now))) self.old.states id self.new.states) }
+        ensures interned { IfOk result (λ id. Interns (state_after [] (listed_by writer (map
+            (λ s. string_bytes s) names.now))) self.old.states id self.new.states) }
         ensures names { OnOk result (self.new.names ≡ (all_numbered (map (λ s. string_bytes s) names.now) self.old).names) }
         ensures err { OnErr result (self.new.states ≡ self.old.states) }
         ensures fault { IfErr result (λ fault. fault ≡ Fault.NoMemory) }

@@ -143,7 +143,8 @@ impl TagTable {
         ensures names { OnOk result (self.new.names ≡ raised name.now (option_copied above.entry) self.old.names) }
         ensures ready { SameReady self.old self.new }
         ensures err { OnErr result (self.new ≡ self.old) }
-        ensures answer { result ≡ (if is_listed name.now self.old.names && is_place (option_copied above.entry) self.old.names then Ok tt else Err Fault.NoTag) }
+        ensures answer { result ≡ (if is_listed name.now self.old.names
+            && is_place (option_copied above.entry) self.old.names then Ok tt else Err Fault.NoTag) }
     {
         let from = match self.place_of(name) {
             Some(from) => from,
@@ -165,7 +166,8 @@ impl TagTable {
         ensures names { OnOk result (self.new.names ≡ lowered name.now (option_copied below.entry) self.old.names) }
         ensures ready { SameReady self.old self.new }
         ensures err { OnErr result (self.new ≡ self.old) }
-        ensures answer { result ≡ (if is_listed name.now self.old.names && is_place (option_copied below.entry) self.old.names then Ok tt else Err Fault.NoTag) }
+        ensures answer { result ≡ (if is_listed name.now self.old.names
+            && is_place (option_copied below.entry) self.old.names then Ok tt else Err Fault.NoTag) }
     {
         let from = match self.place_of(name) {
             Some(from) => from,

@@ -80,12 +80,17 @@ fn last_plan<S: TextStore>(
     requires states { AreStates states.old (S.list store.now) }
     requires few { length (S.list store.now) ≤ MOST_CELLS }
     requires count { count ≤ GREATEST_COUNT }
-    ensures ok { IfOk result (λ plan. (flat : Flat) → flat.site ≡ site.number → flat.count ≡ count → flat.cells ≡ map (shown states.old) (S.list store.now) → with_tags_at flat (is_last flat) false (last_tags flat) ≡ record flat { cells = map (shown states.new) (map (put_back_in_any plan.runs.items) (S.list store.now)); count = plan.count }) }
+    ensures ok { IfOk result (λ plan. (flat : Flat) → flat.site ≡ site.number → flat.count ≡ count
+        → flat.cells ≡ map (shown states.old) (S.list store.now)
+        → with_tags_at flat (is_last flat) false (last_tags flat)
+        ≡ record flat { cells = map (shown states.new) (map (put_back_in_any plan.runs.items) (S.list store.now)); count = plan.count }) }
     ensures within { IfOk result (λ plan. plan.count ≤ GREATEST_COUNT) }
     ensures runs { IfOk result (λ plan. All (λ run. IsState states.new run.state) plan.runs.items) }
     ensures few { IfOk result (λ plan. length plan.runs.items ≤ length (S.list store.now)) }
     ensures ids { KeepsIds states.old states.new }
-    ensures err { IfErr result (λ fault. (fault ≡ Fault.NoMemory) ⊎ ((fault ≡ Fault.ClockSpent) × ((flat : Flat) → flat.site ≡ site.number → flat.count ≡ count → flat.cells ≡ map (shown states.old) (S.list store.now) → GREATEST_COUNT < (with_tags_at flat (is_last flat) false (last_tags flat)).count))) }
+    ensures err { IfErr result (λ fault. (fault ≡ Fault.NoMemory)
+        ⊎ ((fault ≡ Fault.ClockSpent) × ((flat : Flat) → flat.site ≡ site.number → flat.count ≡ count
+        → flat.cells ≡ map (shown states.old) (S.list store.now) → GREATEST_COUNT < (with_tags_at flat (is_last flat) false (last_tags flat)).count))) }
 {
     let place = store.visible() - 1;
     let mut tags = Vec::new(alloc);
@@ -110,12 +115,16 @@ fn held_plan<S: TextStore>(
     requires states { AreStates states.old (S.list store.now) }
     requires few { length (S.list store.now) ≤ MOST_CELLS }
     requires count { count ≤ GREATEST_COUNT }
-    ensures ok { IfOk result (λ plan. (flat : Flat) → flat.site ≡ site.number → flat.count ≡ count → flat.cells ≡ map (shown states.old) (S.list store.now) → last_cleared held flat ≡ record flat { cells = map (shown states.new) (map (put_back_in_any plan.runs.items) (S.list store.now)); count = plan.count }) }
+    ensures ok { IfOk result (λ plan. (flat : Flat) → flat.site ≡ site.number → flat.count ≡ count
+        → flat.cells ≡ map (shown states.old) (S.list store.now)
+        → last_cleared held flat ≡ record flat { cells = map (shown states.new) (map (put_back_in_any plan.runs.items) (S.list store.now)); count = plan.count }) }
     ensures within { IfOk result (λ plan. plan.count ≤ GREATEST_COUNT) }
     ensures runs { IfOk result (λ plan. All (λ run. IsState states.new run.state) plan.runs.items) }
     ensures few { IfOk result (λ plan. length plan.runs.items ≤ length (S.list store.now)) }
     ensures ids { KeepsIds states.old states.new }
-    ensures err { IfErr result (λ fault. (fault ≡ Fault.NoMemory) ⊎ ((fault ≡ Fault.ClockSpent) × ((flat : Flat) → flat.site ≡ site.number → flat.count ≡ count → flat.cells ≡ map (shown states.old) (S.list store.now) → GREATEST_COUNT < (last_cleared held flat).count))) }
+    ensures err { IfErr result (λ fault. (fault ≡ Fault.NoMemory)
+        ⊎ ((fault ≡ Fault.ClockSpent) × ((flat : Flat) → flat.site ≡ site.number → flat.count ≡ count
+        → flat.cells ≡ map (shown states.old) (S.list store.now) → GREATEST_COUNT < (last_cleared held flat).count))) }
 {
     if held {
         last_plan(alloc, store, states, site, count)
@@ -141,7 +150,10 @@ pub(crate) fn planned_removal<S: TextStore>(
     requires states { AreStates states.old (S.list store.now) }
     requires few { length (S.list store.now) ≤ MOST_CELLS }
     requires count { count ≤ GREATEST_COUNT }
-    ensures ok { IfOk result (λ d. (flat : Flat) → (own : Own) → (others : List (List Stamp)) → flat.site ≡ site.number → flat.count ≡ count → flat.cells ≡ map (shown states.old) (S.list store.now) → without_ranges flat own others ranges.now ≡ record { doc = record flat { cells = map (shown states.new) (map (put_back_in_any d.tags.runs.items) (map (gone_in_any d.spans.items) (S.list store.now))); count = d.tags.count; marks = marks_left (is_covered d.removed.items) flat.marks }; own = record (own_left (is_covered d.removed.items) own) { sel = last_unselected d.held own.sel }; others = map (last_unselected d.held) others }) }
+    ensures ok { IfOk result (λ d. (flat : Flat) → (own : Own) → (others : List (List Stamp)) → flat.site ≡ site.number
+        → flat.count ≡ count → flat.cells ≡ map (shown states.old) (S.list store.now)
+        → without_ranges flat own others ranges.now
+        ≡ record { doc = record flat { cells = map (shown states.new) (map (put_back_in_any d.tags.runs.items) (map (gone_in_any d.spans.items) (S.list store.now))); count = d.tags.count; marks = marks_left (is_covered d.removed.items) flat.marks }; own = record (own_left (is_covered d.removed.items) own) { sel = last_unselected d.held own.sel }; others = map (last_unselected d.held) others }) }
     ensures order { IfOk result (λ d. AreInOrder 0 d.removed.items) }
     ensures before { IfOk result (λ d. All (λ range. range.to < length (text_of (S.list store.now))) d.removed.items) }
     ensures gone { IfOk result (λ d. map (gone_in_any d.spans.items) (S.list store.now) ≡ gone_at (is_covered d.removed.items) 0 (S.list store.now)) }
@@ -149,10 +161,15 @@ pub(crate) fn planned_removal<S: TextStore>(
     ensures few { IfOk result (λ d. (length d.spans.items ≤ length (S.list store.now)) × (length d.tags.runs.items ≤ length (S.list store.now))) }
     ensures runs { IfOk result (λ d. All (λ run. IsState states.new run.state) d.tags.runs.items) }
     ensures within { IfOk result (λ d. (count ≤ d.tags.count) × (d.tags.count ≤ GREATEST_COUNT)) }
-    ensures listed { IfOk result (λ d. (names : List Word) → AreListed names (map (shown states.old) (S.list store.now)) → AreListed names (map (shown states.new) (map (put_back_in_any d.tags.runs.items) (map (gone_in_any d.spans.items) (S.list store.now))))) }
-    ensures written { IfOk result (λ d. AreWritten count (map (shown states.old) (S.list store.now)) → AreWritten d.tags.count (map (shown states.new) (map (put_back_in_any d.tags.runs.items) (map (gone_in_any d.spans.items) (S.list store.now))))) }
+    ensures listed { IfOk result (λ d. (names : List Word) → AreListed names (map (shown states.old) (S.list store.now))
+        → AreListed names (map (shown states.new) (map (put_back_in_any d.tags.runs.items) (map (gone_in_any d.spans.items) (S.list store.now))))) }
+    ensures written { IfOk result (λ d. AreWritten count (map (shown states.old) (S.list store.now))
+        → AreWritten d.tags.count (map (shown states.new) (map (put_back_in_any d.tags.runs.items) (map (gone_in_any d.spans.items) (S.list store.now))))) }
     ensures ids { KeepsIds states.old states.new }
-    ensures err { IfErr result (λ fault. (fault ≡ Fault.NoMemory) ⊎ ((fault ≡ Fault.ClockSpent) × ((flat : Flat) → (own : Own) → (others : List (List Stamp)) → flat.site ≡ site.number → flat.count ≡ count → flat.cells ≡ map (shown states.old) (S.list store.now) → GREATEST_COUNT < (without_ranges flat own others ranges.now).doc.count))) }
+    ensures err { IfErr result (λ fault. (fault ≡ Fault.NoMemory)
+        ⊎ ((fault ≡ Fault.ClockSpent) × ((flat : Flat) → (own : Own) → (others : List (List Stamp))
+        → flat.site ≡ site.number → flat.count ≡ count → flat.cells ≡ map (shown states.old) (S.list store.now)
+        → GREATEST_COUNT < (without_ranges flat own others ranges.now).doc.count))) }
 {
     let removed = removed_ranges(alloc, store, ranges)?;
     let spans = removed_spans(alloc, store, &removed)?;

@@ -36,7 +36,8 @@ impl Measure {
 /// What switches ask for, in turn. `BadOption` where one is unknown, or want of memory.
 pub(crate) fn measures_of(alloc: Global, switches: &[String]) -> Result<Vec<Measure>, Fault>
     ensures ok { IfOk result (λ measures. measures_of (map (λ w. string_bytes w) switches.now) ≡ Some measures.items) }
-    ensures err { IfErr result (λ fault. (fault ≡ Fault.NoMemory) ⊎ ((fault ≡ Fault.BadOption) × (measures_of (map (λ w. string_bytes w) switches.now) ≡ None))) }
+    ensures err { IfErr result (λ fault. (fault ≡ Fault.NoMemory)
+        ⊎ ((fault ≡ Fault.BadOption) × (measures_of (map (λ w. string_bytes w) switches.now) ≡ None))) }
 {
     let mut measures = Vec::new(alloc);
     for switch in switches {

@@ -18,7 +18,8 @@ fn places_of<G: Ground>(alloc: Global, ground: &G, indices: &[String]) -> Result
     ensures ok { IfOk result (λ places. places.items ≡ map (place_at_index (G.widget ground.now)) (map (λ w. string_bytes w) indices.now)) }
     ensures checked { IfOk result (λ places. first_of (map (index_check (G.widget ground.now)) (map (λ w. string_bytes w) indices.now)) ≡ None) }
     ensures within { IfOk result (λ places. All (λ place. place ≤ length (G.widget ground.now).text) places.items) }
-    ensures err { IfErr result (λ fault. (fault ≡ Fault.NoMemory) ⊎ (first_of (map (index_check (G.widget ground.now)) (map (λ w. string_bytes w) indices.now)) ≡ Some fault)) }
+    ensures err { IfErr result (λ fault. (fault ≡ Fault.NoMemory)
+        ⊎ (first_of (map (index_check (G.widget ground.now)) (map (λ w. string_bytes w) indices.now)) ≡ Some fault)) }
 {
     let mut places = Vec::new(alloc);
     for index in indices {
@@ -59,7 +60,8 @@ pub(crate) fn ranges_at<G: Ground>(
 ) -> Result<Vec<Range>, Fault>
     ensures ok { IfOk result (λ ranges. ranges.items ≡ ranges_of (map (place_at_index (G.widget ground.now)) (map (λ w. string_bytes w) indices.now))) }
     ensures checked { IfOk result (λ ranges. first_of (map (index_check (G.widget ground.now)) (map (λ w. string_bytes w) indices.now)) ≡ None) }
-    ensures err { IfErr result (λ fault. (fault ≡ Fault.NoMemory) ⊎ (first_of (map (index_check (G.widget ground.now)) (map (λ w. string_bytes w) indices.now)) ≡ Some fault)) }
+    ensures err { IfErr result (λ fault. (fault ≡ Fault.NoMemory)
+        ⊎ (first_of (map (index_check (G.widget ground.now)) (map (λ w. string_bytes w) indices.now)) ≡ Some fault)) }
 {
     let places = places_of(alloc, ground, indices)?;
     ranges_of(alloc, &places)

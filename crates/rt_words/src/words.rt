@@ -92,7 +92,8 @@ fn first_word(alloc: Global, separators: Separators, text: &str) -> Result<Front
 // A word that a separator or nothing follows.
 fn ended(separators: Separators, text: &[u8], front: Front) -> Result<Front, Fault>
     requires { front.len ≤ length text.now }
-    ensures { MatchResult result (λ same. (same ≡ front) × EndsWord (separates separators) (drop front.len text.now)) (λ fault. (fault ≡ Fault.BadQuoting) × (EndsWord (separates separators) (drop front.len text.now) → ⊥)) }
+    ensures { MatchResult result (λ same. (same ≡ front) × EndsWord (separates separators) (drop front.len text.now))
+        (λ fault. (fault ≡ Fault.BadQuoting) × (EndsWord (separates separators) (drop front.len text.now) → ⊥)) }
 {
     match text[front.len..].first() {
         Some(c) if !separators.separates(*c) => Err(Fault::BadQuoting),
@@ -127,7 +128,8 @@ fn quoted_word(alloc: Global, text: &str) -> Result<Front, Fault>
 
 // The character that a backslash and a letter stand for.
 fn escaped(letter: u8) -> Result<char, Fault>
-    ensures { MatchResult result (λ c. (c < 128) × (escape_of c ≡ 92 ∷ letter ∷ [])) (λ fault. (fault ≡ Fault.BadQuoting) × ((c : ℕ) → escape_of c ≢ 92 ∷ letter ∷ [])) }
+    ensures { MatchResult result (λ c. (c < 128) × (escape_of c ≡ 92 ∷ letter ∷ []))
+        (λ fault. (fault ≡ Fault.BadQuoting) × ((c : ℕ) → escape_of c ≢ 92 ∷ letter ∷ [])) }
 {
     match letter {
         b'n' => Ok('\n'),

@@ -43,7 +43,8 @@ impl<S: TextStore> Doc<S> {
         rest: &str,
     ) -> Result<(), Fault>
         requires { IsOwnOf (length (text_of self.old.cells)) widget.old }
-        ensures ok { OnOk result (inserted self.old widget.old (map stamps_in others.old) index.now pieces.now rest.now ≡ Ok (record { doc = self.new; own = widget.new; others = map stamps_in others.new })) }
+        ensures ok { OnOk result (inserted self.old widget.old (map stamps_in others.old) index.now pieces.now rest.now
+            ≡ Ok (record { doc = self.new; own = widget.new; others = map stamps_in others.new })) }
         ensures err { IfErr result (Refuses (inserted self.old widget.old (map stamps_in others.old) index.now pieces.now rest.now)) }
         ensures unchanged { OnErr result ((self.new ≡ self.old) × (widget.new ≡ widget.old) × (map stamps_in others.new ≡ map stamps_in others.old)) }
         ensures own { IsOwnOf (length (text_of self.new.cells)) widget.new }
@@ -66,9 +67,11 @@ impl<S: TextStore> Doc<S> {
         requires place { place < length (visible_of self.old.cells) }
         requires names { All IsName (names_in pieces.now) }
         requires own { IsOwnOf (length (text_of self.old.cells)) widget.old }
-        ensures ok { OnOk result (record { doc = self.new; own = widget.new; others = map stamps_in others.new } ≡ with_pieces_at self.old widget.old (map stamps_in others.old) place pieces.now rest.now) }
+        ensures ok { OnOk result (record { doc = self.new; own = widget.new; others = map stamps_in others.new }
+            ≡ with_pieces_at self.old widget.old (map stamps_in others.old) place pieces.now rest.now) }
         ensures checked { OnOk result (first_of (clock_check self.new.count ∷ cell_check self.old.limit (length self.new.cells) ∷ []) ≡ None) }
-        ensures err { IfErr result (λ fault. (fault ≡ Fault.NoMemory) ⊎ (first_of (clock_check (with_pieces_at self.old widget.old (map stamps_in others.old) place pieces.now rest.now).doc.count ∷ cell_check self.old.limit (length (with_pieces_at self.old widget.old (map stamps_in others.old) place pieces.now rest.now).doc.cells) ∷ []) ≡ Some fault)) }
+        ensures err { IfErr result (λ fault. (fault ≡ Fault.NoMemory)
+            ⊎ (first_of (clock_check (with_pieces_at self.old widget.old (map stamps_in others.old) place pieces.now rest.now).doc.count ∷ cell_check self.old.limit (length (with_pieces_at self.old widget.old (map stamps_in others.old) place pieces.now rest.now).doc.cells) ∷ []) ≡ Some fault)) }
         ensures unchanged { OnErr result ((self.new ≡ self.old) × (widget.new ≡ widget.old) × (map stamps_in others.new ≡ map stamps_in others.old)) }
         ensures own { IsOwnOf (length (text_of self.new.cells)) widget.new }
     {
@@ -125,7 +128,8 @@ impl<S: TextStore> Doc<S> {
         indices: &[String],
     ) -> Result<(), Fault>
         requires { IsOwnOf (length (text_of self.old.cells)) widget.old }
-        ensures ok { OnOk result (deleted self.old widget.old (map stamps_in others.old) (map (λ w. string_bytes w) indices.now) ≡ Ok (record { doc = self.new; own = widget.new; others = map stamps_in others.new })) }
+        ensures ok { OnOk result (deleted self.old widget.old (map stamps_in others.old) (map (λ w. string_bytes w) indices.now)
+            ≡ Ok (record { doc = self.new; own = widget.new; others = map stamps_in others.new })) }
         ensures err { IfErr result (Refuses (deleted self.old widget.old (map stamps_in others.old) (map (λ w. string_bytes w) indices.now))) }
         ensures unchanged { OnErr result ((self.new ≡ self.old) × (widget.new ≡ widget.old) × (map stamps_in others.new ≡ map stamps_in others.old)) }
         ensures own { IsOwnOf (length (text_of self.new.cells)) widget.new }

@@ -52,9 +52,11 @@ impl<S: TextStore> Doc<S> {
     // The ranges that indices name in pairs.
     pub(super) fn ranges(&self, widget: &Widget, indices: &[String]) -> Result<Vec<Range>, Fault>
         requires { IsOwnOf (length (text_of self.now.cells)) widget.now }
-        ensures ok { IfOk result (λ ranges. ranges.items ≡ ranges_of (map (place_at_index (widget_of self.now widget.now)) (map (λ w. string_bytes w) indices.now))) }
+        ensures ok { IfOk result (λ ranges. ranges.items
+            ≡ ranges_of (map (place_at_index (widget_of self.now widget.now)) (map (λ w. string_bytes w) indices.now))) }
         ensures checked { IfOk result (λ ranges. first_of (map (index_check (widget_of self.now widget.now)) (map (λ w. string_bytes w) indices.now)) ≡ None) }
-        ensures err { IfErr result (λ fault. (fault ≡ Fault.NoMemory) ⊎ (first_of (map (index_check (widget_of self.now widget.now)) (map (λ w. string_bytes w) indices.now)) ≡ Some fault)) }
+        ensures err { IfErr result (λ fault. (fault ≡ Fault.NoMemory)
+            ⊎ (first_of (map (index_check (widget_of self.now widget.now)) (map (λ w. string_bytes w) indices.now)) ≡ Some fault)) }
     {
         ranges_at(self.alloc, &self.ground(widget), indices)
     }
@@ -78,9 +80,11 @@ impl<S: TextStore> Doc<S> {
     /// is one character. `BadIndex`, `NoneTagged`, or want of memory.
     pub fn ranges_of(&self, widget: &Widget, indices: &[String]) -> Result<Vec<Range>, Fault>
         requires { IsOwnOf (length (text_of self.now.cells)) widget.now }
-        ensures ok { IfOk result (λ ranges. ranges.items ≡ ranges_of (map (place_at_index (widget_of self.now widget.now)) (map (λ w. string_bytes w) indices.now))) }
+        ensures ok { IfOk result (λ ranges. ranges.items
+            ≡ ranges_of (map (place_at_index (widget_of self.now widget.now)) (map (λ w. string_bytes w) indices.now))) }
         ensures checked { IfOk result (λ ranges. first_of (map (index_check (widget_of self.now widget.now)) (map (λ w. string_bytes w) indices.now)) ≡ None) }
-        ensures err { IfErr result (λ fault. (fault ≡ Fault.NoMemory) ⊎ (first_of (map (index_check (widget_of self.now widget.now)) (map (λ w. string_bytes w) indices.now)) ≡ Some fault)) }
+        ensures err { IfErr result (λ fault. (fault ≡ Fault.NoMemory)
+            ⊎ (first_of (map (index_check (widget_of self.now widget.now)) (map (λ w. string_bytes w) indices.now)) ≡ Some fault)) }
     {
         self.ranges(widget, indices)
     }

@@ -35,7 +35,8 @@ fn keep_tags_on(
     names: &mut Vec<String>,
 )
     requires { IsState states.now cell.state }
-    ensures { map (λ w. string_bytes w) names.new.items ≡ filter (λ name. is_tagged_in (stamps_in selection.now) name (shown states.now cell)) (map (λ w. string_bytes w) names.old.items) }
+    ensures { map (λ w. string_bytes w) names.new.items
+        ≡ filter (λ name. is_tagged_in (stamps_in selection.now) name (shown states.now cell)) (map (λ w. string_bytes w) names.old.items) }
 {
     names.retain(
         |name|
@@ -95,7 +96,8 @@ impl<S: TextStore> Doc<S> {
     /// "tag names"). Want of memory.
     pub fn tags_at(&self, widget: &Widget, place: usize) -> Result<Vec<String>, Fault>
         requires { place < length (visible_of self.now.cells) }
-        ensures ok { IfOk result (λ names. option_map (tags_on widget.now self.now.tags) (slice_get (visible_of self.now.cells) place) ≡ Some (map (λ w. string_bytes w) names.items)) }
+        ensures ok { IfOk result (λ names. option_map (tags_on widget.now self.now.tags) (slice_get (visible_of self.now.cells) place)
+            ≡ Some (map (λ w. string_bytes w) names.items)) }
         ensures err { IfErr result (λ fault. fault ≡ Fault.NoMemory) }
     {
         let cell = self.store.cell_at(place);
@@ -117,7 +119,8 @@ impl<S: TextStore> Doc<S> {
     ) -> Result<(), Fault>
         requires name { IsName name.now }
         ensures ok { OnOk result ((with_tag_in self.old widget.old on name.now ranges.now ≡ (self.new, widget.new)) × (clock_check self.new.count ≡ None)) }
-        ensures err { IfErr result (λ fault. (fault ≡ Fault.NoMemory) ⊎ (clock_check (with_tag_in self.old widget.old on name.now ranges.now).0.count ≡ Some fault)) }
+        ensures err { IfErr result (λ fault. (fault ≡ Fault.NoMemory)
+            ⊎ (clock_check (with_tag_in self.old widget.old on name.now ranges.now).0.count ≡ Some fault)) }
         ensures unchanged { OnErr result ((self.new ≡ self.old) × (widget.new ≡ widget.old)) }
         ensures text { text_of self.new.cells ≡ text_of self.old.cells }
         ensures insert { widget.new.insert ≡ widget.old.insert }
@@ -138,7 +141,8 @@ impl<S: TextStore> Doc<S> {
         requires within { All (λ range. range.to ≤ length (visible_of self.old.cells)) ranges.now }
         ensures ok { OnOk result (self.new ≡ listed_if on name.now (with_tag_at self.old (is_covered ranges.now) on name.now)) }
         ensures within { OnOk result (self.new.count ≤ GREATEST_COUNT) }
-        ensures err { IfErr result (λ fault. (fault ≡ Fault.NoMemory) ⊎ ((fault ≡ Fault.ClockSpent) × (GREATEST_COUNT < (with_tag_at self.old (is_covered ranges.now) on name.now).count))) }
+        ensures err { IfErr result (λ fault. (fault ≡ Fault.NoMemory)
+            ⊎ ((fault ≡ Fault.ClockSpent) × (GREATEST_COUNT < (with_tag_at self.old (is_covered ranges.now) on name.now).count))) }
         ensures unchanged { OnErr result (self.new ≡ self.old) }
     {
         let plan = planned_tag(
@@ -162,7 +166,8 @@ impl<S: TextStore> Doc<S> {
     /// spans of stamps of each tag or a part of them.
     pub fn delete_tags(&mut self, names: &[String]) -> Result<(), Fault>
         ensures ok { OnOk result ((self.new ≡ without_tags self.old (map (λ w. string_bytes w) names.now)) × (clock_check self.new.count ≡ None)) }
-        ensures err { IfErr result (λ fault. (fault ≡ Fault.NoMemory) ⊎ (clock_check (without_tags self.old (map (λ w. string_bytes w) names.now)).count ≡ Some fault)) }
+        ensures err { IfErr result (λ fault. (fault ≡ Fault.NoMemory)
+            ⊎ (clock_check (without_tags self.old (map (λ w. string_bytes w) names.now)).count ≡ Some fault)) }
         ensures unchanged { OnErr result (self.new ≡ self.old) }
         ensures text { text_of self.new.cells ≡ text_of self.old.cells }
     {
