@@ -31,6 +31,10 @@ up_to count span = record span { last = min span.last count }
 abbrev pub has_gap : List Operation → Span → Bool
 has_gap set span = list_any (λ stamp. not (has_character set stamp)) (stamps_of_span span)
 
+-- a span has a last stamp, which is past its site's known end
+abbrev pub passes_end : List Operation → Span → Bool
+passes_end set span = nat_le span.first span.last && nat_lt (known_end set span.site) span.last
+
 abbrev pub answer_to : Operation → List Operation → Answer
 answer_to op set =
     if has_bad_stamp op then Refused BadStamp

@@ -21,12 +21,17 @@ deletes (Tag on name spans) character = false
 abbrev pub is_gone : List Operation → Stamp → Bool
 is_gone set character = list_any (λ op. deletes op.body character) set
 
--- What an operation of a stamp writes on a character: an Insert its tags on each that it inserts, under the root's stamp,
--- which is less than each Tag's, so that characters with equal lists have equal states; and a Tag its tag.
+-- What an operation of a stamp writes on a character: an Insert its tags on each that it inserts, under the stamp of a
+-- given writer; and a Tag its tag, under its own.
+abbrev pub writes_under : Stamp → Stamp → Body → Stamp → List Write
+writes_under writer stamp (Insert after tags text) character = if has_stamp (characters_from after stamp text) character then listed_by writer tags else []
+writes_under writer stamp (Delete spans) character = []
+writes_under writer stamp (Tag on name spans) character = if is_in_spans spans character then record { name = name; writer = stamp; on = on } ∷ [] else []
+
+-- An Insert's tags are under the root's stamp, which is less than each Tag's, so that characters with equal lists have equal
+-- states.
 abbrev pub writes_by : Stamp → Body → Stamp → List Write
-writes_by stamp (Insert after tags text) character = if has_stamp (characters_from after stamp text) character then listed_by ROOT tags else []
-writes_by stamp (Delete spans) character = []
-writes_by stamp (Tag on name spans) character = if is_in_spans spans character then record { name = name; writer = stamp; on = on } ∷ [] else []
+writes_by stamp body character = writes_under ROOT stamp body character
 
 -- what the operations of a set write on a character, the oldest first
 abbrev pub writes_on : List Operation → Stamp → List Write
@@ -35,9 +40,7 @@ writes_on (op ∷ older) character = writes_on older character ++ writes_by (sta
 
 -- the same with an Insert's tags under its own stamp
 abbrev pub stamped_writes_by : Stamp → Body → Stamp → List Write
-stamped_writes_by stamp (Insert after tags text) character = if has_stamp (characters_from after stamp text) character then listed_by stamp tags else []
-stamped_writes_by stamp (Delete spans) character = []
-stamped_writes_by stamp (Tag on name spans) character = writes_by stamp (Tag on name spans) character
+stamped_writes_by stamp body character = writes_under stamp stamp body character
 
 abbrev pub stamped_writes_on : List Operation → Stamp → List Write
 stamped_writes_on [] character = []

@@ -12,7 +12,7 @@ use Rattle.rt_store.specs.declared.cell.Cell.{Cell}
 use Rattle.rt_tags.specs.States.{TagStates}
 use Rattle.rt_rga.specs.declared.answer.Offer.{Offer}
 use Rattle.rt_rga.specs.declared.answer.Offer.TheVariants as offers
-use Rattle.rt_rga.specs.Answers.{Answer, New, Repeat, Refused}
+use Rattle.rt_rga.specs.Answers.{Answer, New, Repeat, Refused, passes_end}
 use Rattle.rt_rga.specs.Cells.{cells_of}
 use Rattle.rt_rga.specs.Histories.{IsHistory, greatest_last_count}
 use Rattle.rt_store.specs.Cells.{stamps_of}
@@ -53,4 +53,4 @@ said (Err fault) = Refused fault
 
 -- a span of a real site goes past the site's known end
 abbrev pub goes_past : List Operation → Span → Bool
-goes_past log span = not (span.site == 0) && (nat_le span.first span.last && nat_lt (known_end log span.site) span.last)
+goes_past log span = not (span.site == 0) && passes_end log span

@@ -21,7 +21,7 @@ use Rattle.rt_rga.specs.Reading.{reading}
 use Rattle.rt_rga.specs.Histories.{Continues, IsHistory, characters, greatest_last_count, has_character, inserted, is_known}
 use Rattle.rt_rga.specs.Cells.{cells_of, stamped_writes_on}
 use Rattle.rt_rga.specs.Changes.{changed, written_in_any}
-use Rattle.rt_rga.specs.Answers.{New, Refused, all_taken, answer_to, answer_within, can_never_be_known, has_gap, taken, up_to}
+use Rattle.rt_rga.specs.Answers.{New, Refused, all_taken, answer_to, answer_within, can_never_be_known, has_gap, passes_end, taken, up_to}
 use Rattle.rt_rga.specs.Drafts.{AreDraftsFor, IsDraftFor, all_changed, next_operation, operations_of, with_drafts}
 use Rattle.rt_rga.specs.Orders.{AreIn, ComeInTime, HasBasesIn}
 use Rattle.rt_rga.specs.Replicas.{IsReplica}
@@ -275,7 +275,7 @@ abbrev pub GapsAreWithinEnd : Type 0
 GapsAreWithinEnd =
     (set : List Operation) (span : Span)
     → has_gap set span
-    ≡ (has_gap set (up_to (known_end set span.site) span) || (nat_le span.first span.last && nat_lt (known_end set span.site) span.last))
+    ≡ (has_gap set (up_to (known_end set span.site) span) || passes_end set span)
 
 abbrev pub BadSpansAreWithinEnd : Type 0
 BadSpansAreWithinEnd =

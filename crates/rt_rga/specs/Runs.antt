@@ -5,8 +5,7 @@ use Rattle.rt_stamps.specs.declared.stamp.Stamp.{Stamp}
 use Rattle.rt_stamps.specs.Stamps.{is_same}
 use Rattle.rt_store.specs.declared.cell.Cell.{Cell}
 use Rattle.rt_store.specs.Cells.{cell_of, is_in_span, with_state}
-use Rattle.rt_tags.specs.States.{Write, written}
-use Rattle.rt_store.specs.Shown.{TaggedCell}
+pub use Rattle.rt_rga.specs.Changes.{with_write}
 use Rattle.rt_rga.specs.declared.tagging.StateRun.{StateRun}
 
 -- one element or none
@@ -17,10 +16,6 @@ listed (Some x) = x ∷ []
 -- the cells of stamps, in the order of the stamps
 abbrev pub cells_found : {T : Type 0} → List (Cell T) → List Stamp → List (Cell T)
 cells_found cells stamps = flat_map (λ stamp. listed (cell_of cells stamp)) stamps
-
--- a cell after one more write
-abbrev pub with_write : Write → TaggedCell → TaggedCell
-with_write w cell = with_state (written w cell.state) cell
 
 -- a cell with the state that its copy has, or as it is where it has none
 abbrev pub put_back : {T : Type 0} → List (Cell T) → Cell T → Cell T

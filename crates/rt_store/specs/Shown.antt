@@ -4,7 +4,7 @@ use Rattle.rt_store.specs.declared.cell.Cell.{Cell}
 use Rattle.rt_store.specs.Cells.{map_state}
 use Rattle.rt_tags.specs.States.{TagStates, Write, state_at}
 
--- a cell with the last write of each tag on its character
+-- a cell with the writes on its character, of each tag the one with the greatest stamp
 abbrev pub TaggedCell : Type 0
 TaggedCell = Cell (List Write)
 

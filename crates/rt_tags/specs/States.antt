@@ -1,4 +1,5 @@
--- States of characters: for each tag that was written on a character, its last write. A name is seen as the list of its bytes.
+-- States of characters: for each tag that was written on a character, the write with the greatest stamp. A name is seen as the
+-- list of its bytes.
 use Rattle.std.specs.Prelude.{◌≡◌, ◌⊎◌, ℕ, ◌<◌, List, [], ◌∷◌, ◌++◌, Bool, false, not, length, map, filter, Option, Some, None, slice_get, slice_index_or, if◌then◌else◌}
 use Rattle.std.specs.List.{AllByRecursion}
 use Rattle.std.specs.Ordering.{is_lt, is_gt}

@@ -71,7 +71,8 @@ pub struct Entry {
     pub on: bool,
 }
 
-// The last write of each tag by the bytes of their names, and beside them the tags that are on.
+// Of each tag the write with the greatest stamp, by the bytes of their names, and beside them the tags
+// that are on.
 #[derive(Drop)]
 #[derive_where(PartialEq, Eq, Hash)]
 struct State {
