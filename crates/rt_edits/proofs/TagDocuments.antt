@@ -1,13 +1,12 @@
 -- Documents after tag operations.
-use Rattle.std.proofs.Common.{◌≡◌, ℕ, ◌+◌, ◌<◌, ◌≤◌, ◌⊎◌, List, [], ◌∷◌, ◌++◌, Bool, true, false, cond, map, filter, refl, sym, ◌∙◌, ap, subst, arith}
+use Rattle.std.proofs.Common.{◌≡◌, ℕ, ◌+◌, ◌<◌, ◌≤◌, List, [], ◌∷◌, ◌++◌, Bool, true, false, cond, map, filter, sym, ◌∙◌, ap, subst, arith}
 use Rattle.std.specs.List.{AllByRecursion, IsDistinct}
 use Rattle.std.specs.Str.{bytes_eq}
-use Rattle.std.proofs.lemmas.Bool.{cond-false, cond-true}
 use Rattle.rt_stamps.specs.declared.limits.TheConstants.{GREATEST_COUNT, MOST_SPANS}
 use Rattle.rt_stamps.specs.declared.stamp.Stamp.{Stamp}
 use Rattle.rt_stamps.specs.Stamps.{is_same}
 use Rattle.rt_stamps.specs.Words.{Word}
-use Rattle.rt_oplog.specs.Operations.{Operation, Body}
+use Rattle.rt_oplog.specs.Operations.{Operation}
 use Rattle.rt_oplog.specs.Rules.{is_name}
 use Rattle.rt_tags.specs.Tags.{sel, without}
 use Rattle.rt_store.specs.Cells.{AreDistinct, stamps_of}
@@ -25,7 +24,7 @@ use Rattle.rt_edits.specs.DraftLaws.{IsDocument}
 use Rattle.rt_edits.specs.Flat.{Flat}
 use Rattle.rt_edits.specs.Removals.{cells_at, operations_for, span_count}
 use Rattle.rt_edits.specs.TagDrafts.{deletion_drafts, tag_drafts, tag_drafts_at, tags_drafts_at}
-use Rattle.rt_edits.specs.TagWrites.{changed_stamps, is_changed, tagged, with_tag_at, with_tags_at, without_tag, without_tags}
+use Rattle.rt_edits.specs.TagWrites.{changed_stamps, is_changed, tagged, with_tag_at, with_tags_at, without_tags}
 use Rattle.rt_edits.proofs.DistinctLaws.{stamps_within}
 use Rattle.rt_edits.proofs.DraftSteps.{AreKnownCells, drafts_append, known_cells, known_later, may_append}
 use Rattle.rt_edits.proofs.Putting.{distinct_cells_at, stamps_at_cells, tagged_state}

@@ -26,12 +26,15 @@ pub fn removals()
 /// one Tag each.
 pub fn tags()
     ensures on { tag_drafts_at MOST_SPANS (λ _. true) true (codes "t") cells_with_t ≡ Tag true (codes "t") (span 1 2 2 ∷ span 2 3 3 ∷ []) ∷ [] }
-    ensures parts { tag_drafts_at 1 (λ _. true) true (codes "t") cells_with_t ≡ Tag true (codes "t") (span 1 2 2 ∷ []) ∷ Tag true (codes "t") (span 2 3 3 ∷ []) ∷ [] }
+    ensures parts { tag_drafts_at 1 (λ _. true) true (codes "t") cells_with_t
+        ≡ Tag true (codes "t") (span 1 2 2 ∷ []) ∷ Tag true (codes "t") (span 2 3 3 ∷ []) ∷ [] }
     ensures off { tag_drafts_at MOST_SPANS (λ _. true) false (codes "t") cells_with_t ≡ Tag false (codes "t") (span 1 1 1 ∷ []) ∷ [] }
     ensures nothing { tag_drafts_at MOST_SPANS (λ _. true) false (codes "u") cells_with_t ≡ [] }
-    ensures twice { tags_drafts_at MOST_SPANS flat_with_t (λ _. true) true (codes "u" ∷ codes "u" ∷ []) ≡ Tag true (codes "u") (span 1 1 2 ∷ span 2 3 3 ∷ []) ∷ [] }
+    ensures twice { tags_drafts_at MOST_SPANS flat_with_t (λ _. true) true (codes "u" ∷ codes "u" ∷ [])
+        ≡ Tag true (codes "u") (span 1 1 2 ∷ span 2 3 3 ∷ []) ∷ [] }
     ensures deleted { deletion_drafts MOST_SPANS flat_with_t (sel ∷ codes "t" ∷ codes "t" ∷ []) ≡ Tag false (codes "t") (span 1 1 1 ∷ []) ∷ [] }
-    ensures newline { newline_drafts (codes "t" ∷ codes "u" ∷ []) ≡ Tag false (codes "t") (span 0 1 1 ∷ []) ∷ Tag false (codes "u") (span 0 1 1 ∷ []) ∷ [] }
+    ensures newline { newline_drafts (codes "t" ∷ codes "u" ∷ [])
+        ≡ Tag false (codes "t") (span 0 1 1 ∷ []) ∷ Tag false (codes "u") (span 0 1 1 ∷ []) ∷ [] }
 {}
 
 /// `abc` behind `(5,2)` is one Insert, or two where an Insert may have two characters: the second goes
@@ -40,7 +43,9 @@ pub fn tags()
 pub fn insertions()
     ensures text { text_drafts MOST_CHARACTERS 1 6 (at 5 2) only_t (codes "abc") ≡ Insert (at 5 2) only_t (codes "abc") ∷ [] }
     ensures parts { text_drafts 2 1 6 (at 5 2) only_t (codes "abc") ≡ Insert (at 5 2) only_t (codes "ab") ∷ Insert (at 8 1) only_t (codes "c") ∷ [] }
-    ensures further { text_drafts 2 1 0 ROOT all_tags (codes "abc") ≡ Insert ROOT listed_tags (codes "ab") ∷ Tag true (codes "u") (span 1 1 2 ∷ []) ∷ Insert (at 2 1) listed_tags (codes "c") ∷ Tag true (codes "u") (span 1 4 4 ∷ []) ∷ [] }
+    ensures further { text_drafts 2 1 0 ROOT all_tags (codes "abc")
+        ≡ Insert ROOT listed_tags (codes "ab") ∷ Tag true (codes "u") (span 1 1 2 ∷ []) ∷ Insert (at 2 1) listed_tags (codes "c")
+        ∷ Tag true (codes "u") (span 1 4 4 ∷ []) ∷ [] }
     ensures nothing { text_drafts MOST_CHARACTERS 1 6 (at 5 2) only_t [] ≡ [] }
 {}
 
@@ -48,6 +53,8 @@ pub fn insertions()
 /// Those without a list get the tags that both neighbours have, of which the left one is the last of the
 /// pieces, or without pieces the place's.
 pub fn pieces()
-    ensures lists { insertion_drafts MOST_CHARACTERS 1 (at 1 2) with_u with_u two_pieces (codes "d") (nothing_yet 6) ≡ Insert (at 1 2) only_t (codes "ab") ∷ Insert (at 8 1) [] (codes "c") ∷ Insert (at 9 1) [] (codes "d") ∷ [] }
-    ensures between { insertion_drafts MOST_CHARACTERS 1 (at 1 2) with_u with_u [] (codes "d") (nothing_yet 6) ≡ Insert (at 1 2) (codes "u" ∷ []) (codes "d") ∷ [] }
+    ensures lists { insertion_drafts MOST_CHARACTERS 1 (at 1 2) with_u with_u two_pieces (codes "d") (nothing_yet 6)
+        ≡ Insert (at 1 2) only_t (codes "ab") ∷ Insert (at 8 1) [] (codes "c") ∷ Insert (at 9 1) [] (codes "d") ∷ [] }
+    ensures between { insertion_drafts MOST_CHARACTERS 1 (at 1 2) with_u with_u [] (codes "d") (nothing_yet 6)
+        ≡ Insert (at 1 2) (codes "u" ∷ []) (codes "d") ∷ [] }
 {}
