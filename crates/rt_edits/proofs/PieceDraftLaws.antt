@@ -301,3 +301,17 @@ insertion_made site log after left right pieces rest start p history h l =
     let first = pieces_made pieces site log after start log p begin h.listed few in
     let done = next_made site log after listed whole (with_drafts site drafts log) names text p first h.unlisted m l in
     subst (IsInserted log after whole) (sym (drafts_append site drafts (next_drafts site after listed names text) log)) (record { cells = done.cells; count = done.has.count })
+
+-- it takes as many counts as its definition says
+pub insertion_counted : (site : ℕ) (log : List Operation) (after : Stamp) (left right : Option TaggedCell) (pieces : List Piece) (rest : Word) (start : Insertion)
+    → IsInsertion site log after left right pieces rest start
+    → greatest_last_count (with_drafts site (insertion_drafts MOST_CHARACTERS site after left right pieces rest start) log) ≡ (insertion_of site left right pieces rest start).count
+insertion_counted site log after left right pieces rest start h =
+    let listed = with_pieces site pieces start in
+    let drafts = pieces_drafts MOST_CHARACTERS site after pieces start in
+    let neighbour = last_of left listed.cells in
+    let names = tags_between neighbour right in
+    let text = chars rest in
+    let all = pieces_may pieces site after start log (has_start site log after left right pieces rest start h) h.listed in
+    ap greatest_last_count (drafts_append site drafts (next_drafts site after listed names text) log)
+    ∙ (has_more site after listed (insertion_of site left right pieces rest start) (with_drafts site drafts log) names text all.1 (unlisted_more site neighbour right listed text)).count

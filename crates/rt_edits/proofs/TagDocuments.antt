@@ -195,3 +195,42 @@ deletions_made_all (name ∷ names) site log flat p h doc n l =
 pub deletions_made : (site : ℕ) (log : List Operation) (flat : Flat) (names : List Word) → 0 < site → IsHistory log → IsDocument site log flat → AreNamesBut names
     → (without_tags flat names).count ≤ GREATEST_COUNT → IsDocument site (with_drafts site (deletion_drafts MOST_SPANS flat names) log) (without_tags flat names)
 deletions_made site log flat names p h doc n l = deletions_made_all names site log flat p h doc n l
+
+-- COUNTS
+
+one_counted : (site : ℕ) (log : List Operation) (flat : Flat) (places : ℕ → Bool) (on : Bool) (name : Word) → AreDistinct flat.cells → flat.count ≡ greatest_last_count log
+    → (with_tag_at flat places on name).count ≡ greatest_last_count (with_drafts site (tag_drafts_at MOST_SPANS places on name flat.cells) log)
+one_counted site log flat places on name d e =
+    let stamps = changed_at places on name flat.cells in
+    ap (λ k. k + operations_for (span_count stamps)) e ∙ sym (tags_are_counted site log on name stamps (distinct_changed places on name flat.cells d))
+
+tags_count : (names : List Word) (site : ℕ) (log : List Operation) (flat : Flat) (places : ℕ → Bool) (on : Bool) → AreDistinct flat.cells → flat.count ≡ greatest_last_count log
+    → greatest_last_count (with_drafts site (tags_drafts_at MOST_SPANS flat places on names) log) ≡ (with_tags_at flat places on names).count
+tags_count [] site log flat places on d e = sym e
+tags_count (name ∷ names) site log flat places on d e =
+    let drafts = tag_drafts_at MOST_SPANS places on name flat.cells in
+    let next = with_tag_at flat places on name in
+    ap greatest_last_count (drafts_append site drafts (tags_drafts_at MOST_SPANS next places on names) log)
+    ∙ tags_count names site (with_drafts site drafts log) next places on (subst (IsDistinct is_same) (sym (tag_stamps flat places on name)) d) (one_counted site log flat places on name d e)
+
+pub all_tags_counted : (site : ℕ) (log : List Operation) (flat : Flat) (places : ℕ → Bool) (on : Bool) (names : List Word) → IsHistory log → IsDocument site log flat
+    → greatest_last_count (with_drafts site (tags_drafts_at MOST_SPANS flat places on names) log) ≡ (with_tags_at flat places on names).count
+all_tags_counted site log flat places on names h doc = tags_count names site log flat places on (subst AreDistinct (sym doc.cells) (cells_distinct log h)) doc.count
+
+deletions_count : (names : List Word) (site : ℕ) (log : List Operation) (flat : Flat) → AreDistinct flat.cells → flat.count ≡ greatest_last_count log
+    → greatest_last_count (with_drafts site (deletion_drafts MOST_SPANS flat names) log) ≡ (without_tags flat names).count
+deletions_count [] site log flat d e = sym e
+deletions_count (name ∷ names) site log flat d e =
+    let drafts = tag_drafts_at MOST_SPANS (λ _. true) false name flat.cells in
+    let off = with_tag_at flat (λ _. true) false name in
+    let next : Flat = record off { tags = without name off.tags } in
+    let at : Bool → Type 0 = λ b. greatest_last_count (with_drafts site (cond b [] drafts ++ deletion_drafts MOST_SPANS (cond b flat next) names) log) ≡ (without_tags (cond b flat next) names).count in
+    split (bytes_eq name sel)
+    (λ f. subst at (sym f) (deletions_count names site log flat d e))
+    (λ f. subst at (sym f)
+    (ap greatest_last_count (drafts_append site drafts (deletion_drafts MOST_SPANS next names) log)
+    ∙ deletions_count names site (with_drafts site drafts log) next (subst (IsDistinct is_same) (sym (tag_stamps flat (λ _. true) false name)) d) (one_counted site log flat (λ _. true) false name d e)))
+
+pub all_deletions_counted : (site : ℕ) (log : List Operation) (flat : Flat) (names : List Word) → IsHistory log → IsDocument site log flat
+    → greatest_last_count (with_drafts site (deletion_drafts MOST_SPANS flat names) log) ≡ (without_tags flat names).count
+all_deletions_counted site log flat names h doc = deletions_count names site log flat (subst AreDistinct (sym doc.cells) (cells_distinct log h)) doc.count

@@ -193,3 +193,21 @@ TagsBetweenAreTags =
     (site : ℕ) (log : List Operation) (place : ℕ) (right : Option TaggedCell) (pieces : List Piece) (start : Insertion)
     → IsHistory log → AreTexts pieces → start.cells ≡ []
     → AreTagNames (tags_between (last_of (left_neighbour (visible_of (cells_of log)) place) (with_pieces site pieces start).cells) right)
+
+-- Whether the counts fit is told by the count of the flat edit.
+abbrev pub AllTagsAreCounted : Type 0
+AllTagsAreCounted =
+    (site : ℕ) (log : List Operation) (flat : Flat) (places : ℕ → Bool) (on : Bool) (names : List Word) → IsHistory log → IsDocument site log flat
+    → greatest_last_count (with_drafts site (tags_drafts_at MOST_SPANS flat places on names) log) ≡ (with_tags_at flat places on names).count
+
+abbrev pub DeletionsAreCounted : Type 0
+DeletionsAreCounted =
+    (site : ℕ) (log : List Operation) (flat : Flat) (names : List Word) → IsHistory log → IsDocument site log flat
+    → greatest_last_count (with_drafts site (deletion_drafts MOST_SPANS flat names) log) ≡ (without_tags flat names).count
+
+abbrev pub InsertionIsCounted : Type 0
+InsertionIsCounted =
+    (site : ℕ) (log : List Operation) (after : Stamp) (left right : Option TaggedCell) (pieces : List Piece) (rest : Word) (start : Insertion)
+    → IsInsertion site log after left right pieces rest start
+    → greatest_last_count (with_drafts site (insertion_drafts MOST_CHARACTERS site after left right pieces rest start) log)
+    ≡ (insertion_of site left right pieces rest start).count

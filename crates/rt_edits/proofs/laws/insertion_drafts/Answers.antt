@@ -1,4 +1,4 @@
-use Rattle.rt_edits.proofs.PieceDraftLaws.{insertion_made, insertion_may}
+use Rattle.rt_edits.proofs.PieceDraftLaws.{insertion_counted, insertion_made, insertion_may}
 use Rattle.rt_edits.proofs.TagNames.{shared_are, tags_between_are}
 use Rattle.rt_edits.proofs.laws.insertion_drafts.Goals as goal
 
@@ -13,3 +13,6 @@ returns-clause-shared c = shared_are
 
 pub returns-clause-between : goal.returns-clause-between
 returns-clause-between c = tags_between_are
+
+pub returns-clause-count : goal.returns-clause-count
+returns-clause-count c = insertion_counted
