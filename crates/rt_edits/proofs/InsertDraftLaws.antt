@@ -1,11 +1,11 @@
 -- What the Inserts of a text do, and the Tags behind them.
-use Rattle.std.proofs.Common.{◌≡◌, ℕ, zero, suc, ◌+◌, ◌-◌, ◌*◌, ◌<◌, ◌≤◌, All, List, [], ◌∷◌, ◌++◌, Bool, true, false, cond, not, ◌||◌, ◌&&◌, ◌==◌, length, take, drop, map, refl, sym, ◌∙◌, ap, subst, arith, append_assoc, take-append-drop, length-drop, length-append, Some, None, nat_lt}
+use Rattle.std.proofs.Common.{◌≡◌, ℕ, zero, suc, ◌+◌, ◌-◌, ◌*◌, ◌<◌, ◌≤◌, List, [], ◌∷◌, ◌++◌, Bool, true, false, cond, ◌||◌, ◌==◌, length, take, drop, map, refl, sym, ◌∙◌, ap, subst, arith, append_assoc, take-append-drop, length-drop, length-append, Some, None, nat_lt}
 use Rattle.std.specs.Prelude.{unwrap_or}
-use Rattle.std.specs.List.{list_all, position_or_len}
+use Rattle.std.specs.List.{position_or_len}
 use Rattle.std.proofs.lemmas.Bool.{or_from, cond-false, cond-true, lt-ltb}
 use Rattle.std.proofs.lemmas.Bool.Decides.{nat_tests}
 use Rattle.std.proofs.lemmas.List.{append-nil, length-take}
-use Rattle.std.proofs.lemmas.List.Elements.{All-drop, All-take, All-append, All-head, All-tail}
+use Rattle.std.proofs.lemmas.List.Elements.{All-drop, All-take, All-head, All-tail}
 use Rattle.std.proofs.Math.Nat.{suc-mul}
 use Rattle.std.proofs.Math.Seq.{drop-append_seam, take-append_seam}
 use Rattle.rt_stamps.specs.declared.limits.TheConstants.{MOST_CHARACTERS, MOST_TAGS}
@@ -36,7 +36,7 @@ use Rattle.rt_rga.proofs.Writes.{state_append}
 use Rattle.rt_edits.specs.Flat.{put_after}
 use Rattle.rt_edits.specs.InsertionDrafts.{inserts_of, tags_on, text_drafts}
 use Rattle.rt_edits.specs.Insertions.{cells_of_inserts, counts_for, further_tags, inserts_for, new_state, put_on, tagged_cells}
-use Rattle.rt_edits.specs.NamedSpans.{first_parts, parts_for}
+use Rattle.rt_edits.specs.NamedSpans.{first_parts}
 use Rattle.rt_edits.proofs.CellLaws.{known_from, known_later, known_put, skip_from_newest}
 use Rattle.rt_edits.proofs.NamedSpanLaws.{IsCut, cut, cut_more, cut_some}
 

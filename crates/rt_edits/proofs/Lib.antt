@@ -31,6 +31,7 @@ pub mod StateRuns
 pub mod TagDocuments
 pub mod TagDraftLaws
 pub mod TagEffects
+pub mod TagNames
 pub mod TagPlaces
 pub mod TagsInTurn
 pub mod WithinLaws

@@ -1,13 +1,11 @@
 -- The spans of stamps, and lists in parts.
-use Rattle.std.proofs.Common.{◌≡◌, ℕ, zero, suc, ◌+◌, ◌-◌, ◌*◌, ◌/◌, ◌%◌, ◌<◌, ◌≤◌, List, [], ◌∷◌, ◌++◌, Bool, true, false, cond, not, ◌||◌, ◌&&◌, length, take, drop, filter, refl, sym, ◌∙◌, ap, subst, arith, take-append-drop}
+use Rattle.std.proofs.Common.{◌≡◌, ℕ, zero, suc, ◌+◌, ◌-◌, ◌*◌, ◌<◌, ◌≤◌, List, [], ◌∷◌, ◌++◌, Bool, true, false, cond, not, ◌||◌, ◌&&◌, length, drop, filter, refl, sym, ◌∙◌, ap, arith}
 use Rattle.std.specs.List.{list_all, IsDistinct}
 use Rattle.std.specs.List.Sorted.{IsPermutation}
-use Rattle.std.proofs.lemmas.Bool.{or_from, or_parts, or_left, and_from, and_left, and_parts, cond-true, cond-false}
+use Rattle.std.proofs.lemmas.Bool.{or_parts, and_from, and_left, and_parts, cond-true, cond-false}
 use Rattle.std.proofs.lemmas.Bool.Decides.{nat_tests}
-use Rattle.std.proofs.lemmas.List.Folds.{list_all-append}
 use Rattle.std.proofs.lemmas.List.Sums.{length-filter}
 use Rattle.std.proofs.lemmas.List.Sorted.{IsPermutation-refl, IsPermutation-trans, IsPermutation-cons, IsPermutation-middle, list_any-IsPermutation, sum_by-IsPermutation}
-use Rattle.std.proofs.lemmas.List.{length-drop, length-take}
 use Rattle.std.proofs.Math.Nat.{suc-mul, div-mul-le_self, mod-lt}
 use Rattle.std.proofs.lemmas.Nat.{div-add-mod'}
 use Rattle.rt_stamps.specs.declared.stamp.Span.{Span}
@@ -20,7 +18,7 @@ use Rattle.rt_store.proofs.Distinct.{split, first_apart, others_distinct}
 use Rattle.rt_edits.specs.NamedSpans.{put_by_site, by_site, span_of, first_stamp, attached, runs, spans_in, parts_for, first_parts}
 use Rattle.rt_edits.specs.Removals.{span_count}
 use Rattle.rt_edits.specs.TagWrites.{spans_before}
-use Rattle.rt_edits.proofs.SpanLaws.{Begins, all_after, begins_attached, counted_alike, counted_runs, clear_runs, forward_runs, held_runs, joined, lasts_same, none_between, not_next, one_held, one_span, self_not_next}
+use Rattle.rt_edits.proofs.SpanLaws.{Begins, all_after, begins_attached, counted_alike, counted_runs, forward_runs, held_runs, joined, none_between, not_next, one_held, one_span, self_not_next}
 
 -- STAMPS BY SITE
 

@@ -1,5 +1,5 @@
 -- The Tags that take the last newline's tags off.
-use Rattle.std.proofs.Common.{◌≡◌, ℕ, ◌+◌, ◌-◌, ◌==◌, ◌<◌, ◌≤◌, List, [], ◌∷◌, ◌++◌, Bool, true, false, cond, not, ◌||◌, length, map, filter, refl, sym, ◌∙◌, ap, subst, arith, Some, length-append}
+use Rattle.std.proofs.Common.{◌≡◌, ℕ, ◌+◌, ◌-◌, ◌==◌, List, [], ◌∷◌, ◌++◌, Bool, true, false, cond, not, ◌||◌, length, map, refl, sym, ◌∙◌, ap, subst, arith, Some, length-append}
 use Rattle.std.specs.Prelude.{slice_get}
 use Rattle.std.specs.List.{AllByRecursion}
 use Rattle.std.specs.Str.{bytes_eq}
@@ -9,19 +9,18 @@ use Rattle.rt_stamps.specs.declared.limits.TheConstants.{MOST_SPANS}
 use Rattle.rt_stamps.specs.declared.stamp.Stamp.{Stamp}
 use Rattle.rt_stamps.specs.declared.stamp.TheConstants.{FINAL}
 use Rattle.rt_stamps.specs.Words.{Word}
-use Rattle.rt_oplog.specs.Operations.{Operation, Body, Tag}
+use Rattle.rt_oplog.specs.Operations.{Operation, Tag}
 use Rattle.rt_tags.specs.States.{Write, is_on, names_on, says_on, write_of, written}
 use Rattle.rt_tags.specs.Tags.{HaveNoRepeats, is_listed}
 use Rattle.rt_tags.proofs.Places.{name_itself, same_name}
 use Rattle.rt_tags.proofs.Commuting.{on_is_listed, on_once}
 use Rattle.rt_tags.proofs.Greatest.{newer, write_of_written}
-use Rattle.rt_store.specs.declared.cell.Cell.{Cell}
 use Rattle.rt_store.specs.Cells.{stamps_of, text_of, visible_of}
 use Rattle.rt_store.specs.Shown.{TaggedCell}
 use Rattle.rt_store.specs.Spans.{is_among}
 use Rattle.rt_store.proofs.Distinct.{split}
 use Rattle.rt_store.proofs.Shown.{map_append}
-use Rattle.rt_rga.specs.Cells.{cell_in, cells_of, writes_on}
+use Rattle.rt_rga.specs.Cells.{cell_in, writes_on}
 use Rattle.rt_rga.specs.Histories.{IsHistory, final_character}
 use Rattle.rt_rga.proofs.Final.{cells_last}
 use Rattle.rt_rga.proofs.Writes.{state_sorted}
@@ -29,8 +28,8 @@ use Rattle.rt_edits.specs.DraftLaws.{IsDocument}
 use Rattle.rt_edits.specs.Flat.{Flat}
 use Rattle.rt_edits.specs.NamedSpans.{span_of}
 use Rattle.rt_edits.specs.Removals.{cells_at}
-use Rattle.rt_edits.specs.TagDrafts.{newline_drafts, tag_drafts, tag_drafts_at, tags_drafts_at}
-use Rattle.rt_edits.specs.TagWrites.{changed_stamps, is_changed, tag_write, tagged, with_tag_at}
+use Rattle.rt_edits.specs.TagDrafts.{newline_drafts, tag_drafts, tags_drafts_at}
+use Rattle.rt_edits.specs.TagWrites.{changed_stamps, tag_write, tagged, with_tag_at}
 use Rattle.rt_edits.proofs.PlaceLaws.{length_text}
 use Rattle.rt_edits.proofs.Putting.{tagged_state}
 use Rattle.rt_edits.proofs.RemovalDraftLaws.{visible_append}

@@ -1,8 +1,7 @@
 -- What the operations of several pieces do.
-use Rattle.std.proofs.Common.{◌≡◌, ℕ, zero, suc, ◌+◌, ◌-◌, ◌*◌, ◌<◌, ◌≤◌, List, [], ◌∷◌, ◌++◌, Bool, true, false, cond, ◌||◌, length, take, drop, map, refl, sym, ◌∙◌, ap, subst, arith, append_assoc, take-append-drop, length-drop, Some, None}
+use Rattle.std.proofs.Common.{◌≡◌, ℕ, zero, suc, ◌+◌, ◌<◌, ◌≤◌, List, [], ◌∷◌, ◌++◌, Bool, true, false, ◌||◌, length, take, drop, refl, sym, ◌∙◌, ap, subst, arith, append_assoc, take-append-drop, length-drop, Some, None}
 use Rattle.std.specs.Prelude.{Option, option_map, unwrap_or}
-use Rattle.std.specs.List.{AllByRecursion}
-use Rattle.std.specs.Str.{all_scalars, chars}
+use Rattle.std.specs.Str.{chars}
 use Rattle.std.proofs.lemmas.Bool.{or_from, or_left, or_right}
 use Rattle.std.proofs.lemmas.Bool.Decides.{nat_tests}
 use Rattle.std.proofs.lemmas.List.{append-nil, length-take}
@@ -12,7 +11,7 @@ use Rattle.rt_stamps.specs.declared.stamp.Stamp.{Stamp}
 use Rattle.rt_stamps.specs.declared.stamp.TheConstants.{ROOT}
 use Rattle.rt_stamps.specs.Stamps.{is_same}
 use Rattle.rt_stamps.specs.Words.{Word}
-use Rattle.rt_stamps.proofs.Order.{same_from_true, same_refl, same_sym}
+use Rattle.rt_stamps.proofs.Order.{same_refl, same_sym}
 use Rattle.rt_oplog.specs.Operations.{Operation, Body, Insert}
 use Rattle.rt_oplog.specs.Logs.{with_operation}
 use Rattle.rt_tags.specs.States.{Write}
@@ -160,7 +159,7 @@ behind_known after so_far log h = by so_far.cells h.known
         subst (IsElement log) (sym (behind_last after (c ∷ cs) w.0 w.1 w.2)) (or_left (has_character log w.1.stamp) _ (f w.1.stamp there))
 
 -- a text more
-record IsMore (site : ℕ) (so_far next : Insertion) (names : List Word) (text : List ℕ) : Type 0 where
+pub record IsMore (site : ℕ) (so_far next : Insertion) (names : List Word) (text : List ℕ) : Type 0 where
   pub cells : next.cells ≡ so_far.cells ++ tagged_cells site so_far.count names text
   pub count : next.count ≡ so_far.count + counts_for names text
 
@@ -218,7 +217,7 @@ next_made site first after so_far next log names text p h t m l =
 
 -- PIECES
 
-listed_more : (site : ℕ) (so_far : Insertion) (tags : List Word) (text : List ℕ) → IsMore site so_far (with_listed site tags text so_far) (shared_names tags) text
+pub listed_more : (site : ℕ) (so_far : Insertion) (tags : List Word) (text : List ℕ) → IsMore site so_far (with_listed site tags text so_far) (shared_names tags) text
 listed_more site so_far tags [] = record { cells = sym (append-nil so_far.cells); count = omega arith }
 listed_more site so_far tags (c ∷ text) = record { cells = refl; count = refl }
 
@@ -302,3 +301,17 @@ insertion_made site log after left right pieces rest start p history h l =
     let first = pieces_made pieces site log after start log p begin h.listed few in
     let done = next_made site log after listed whole (with_drafts site drafts log) names text p first h.unlisted m l in
     subst (IsInserted log after whole) (sym (drafts_append site drafts (next_drafts site after listed names text) log)) (record { cells = done.cells; count = done.has.count })
+
+-- it takes as many counts as its definition says
+pub insertion_counted : (site : ℕ) (log : List Operation) (after : Stamp) (left right : Option TaggedCell) (pieces : List Piece) (rest : Word) (start : Insertion)
+    → IsInsertion site log after left right pieces rest start
+    → greatest_last_count (with_drafts site (insertion_drafts MOST_CHARACTERS site after left right pieces rest start) log) ≡ (insertion_of site left right pieces rest start).count
+insertion_counted site log after left right pieces rest start h =
+    let listed = with_pieces site pieces start in
+    let drafts = pieces_drafts MOST_CHARACTERS site after pieces start in
+    let neighbour = last_of left listed.cells in
+    let names = tags_between neighbour right in
+    let text = chars rest in
+    let all = pieces_may pieces site after start log (has_start site log after left right pieces rest start h) h.listed in
+    ap greatest_last_count (drafts_append site drafts (next_drafts site after listed names text) log)
+    ∙ (has_more site after listed (insertion_of site left right pieces rest start) (with_drafts site drafts log) names text all.1 (unlisted_more site neighbour right listed text)).count

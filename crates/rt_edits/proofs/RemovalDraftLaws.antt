@@ -1,5 +1,5 @@
 -- What the Deletes of a removal do.
-use Rattle.std.proofs.Common.{◌≡◌, ℕ, zero, suc, ◌+◌, ◌-◌, ◌*◌, ◌<◌, ◌≤◌, List, [], ◌∷◌, ◌++◌, Bool, true, false, cond, not, ◌||◌, length, take, drop, map, refl, sym, ◌∙◌, ap, subst, arith, add-zero, take-append-drop, length-drop, length-append}
+use Rattle.std.proofs.Common.{◌≡◌, ℕ, zero, suc, ◌+◌, ◌-◌, ◌*◌, ◌<◌, ◌≤◌, List, [], ◌∷◌, ◌++◌, Bool, true, false, cond, not, ◌||◌, length, take, drop, map, refl, sym, ◌∙◌, ap, subst, arith, add-zero, take-append-drop, length-drop}
 use Rattle.std.proofs.lemmas.Bool.{or_from, or_left, or_right, cond-false, cond-true}
 use Rattle.std.proofs.Math.Nat.{suc-mul}
 use Rattle.rt_stamps.specs.declared.limits.TheConstants.{GREATEST_COUNT, MOST_SPANS}
@@ -7,7 +7,7 @@ use Rattle.rt_stamps.specs.declared.stamp.Span.{Span}
 use Rattle.rt_stamps.specs.declared.stamp.Stamp.{Stamp}
 use Rattle.rt_stamps.specs.declared.stamp.TheConstants.{FINAL}
 use Rattle.rt_stamps.specs.Stamps.{is_same}
-use Rattle.rt_stamps.proofs.Order.{same_refl, same_sym}
+use Rattle.rt_stamps.proofs.Order.{same_refl}
 use Rattle.rt_oplog.specs.Operations.{Operation, Body, Delete}
 use Rattle.rt_oplog.specs.Logs.{with_operation}
 use Rattle.rt_store.specs.declared.cell.Cell.{Cell}

@@ -1,13 +1,12 @@
 -- Documents after tag operations.
-use Rattle.std.proofs.Common.{◌≡◌, ℕ, ◌+◌, ◌<◌, ◌≤◌, ◌⊎◌, List, [], ◌∷◌, ◌++◌, Bool, true, false, cond, map, filter, refl, sym, ◌∙◌, ap, subst, arith}
+use Rattle.std.proofs.Common.{◌≡◌, ℕ, ◌+◌, ◌<◌, ◌≤◌, List, [], ◌∷◌, ◌++◌, Bool, true, false, cond, map, filter, sym, ◌∙◌, ap, subst, arith}
 use Rattle.std.specs.List.{AllByRecursion, IsDistinct}
 use Rattle.std.specs.Str.{bytes_eq}
-use Rattle.std.proofs.lemmas.Bool.{cond-false, cond-true}
 use Rattle.rt_stamps.specs.declared.limits.TheConstants.{GREATEST_COUNT, MOST_SPANS}
 use Rattle.rt_stamps.specs.declared.stamp.Stamp.{Stamp}
 use Rattle.rt_stamps.specs.Stamps.{is_same}
 use Rattle.rt_stamps.specs.Words.{Word}
-use Rattle.rt_oplog.specs.Operations.{Operation, Body}
+use Rattle.rt_oplog.specs.Operations.{Operation}
 use Rattle.rt_oplog.specs.Rules.{is_name}
 use Rattle.rt_tags.specs.Tags.{sel, without}
 use Rattle.rt_store.specs.Cells.{AreDistinct, stamps_of}
@@ -25,7 +24,7 @@ use Rattle.rt_edits.specs.DraftLaws.{IsDocument}
 use Rattle.rt_edits.specs.Flat.{Flat}
 use Rattle.rt_edits.specs.Removals.{cells_at, operations_for, span_count}
 use Rattle.rt_edits.specs.TagDrafts.{deletion_drafts, tag_drafts, tag_drafts_at, tags_drafts_at}
-use Rattle.rt_edits.specs.TagWrites.{changed_stamps, is_changed, tagged, with_tag_at, with_tags_at, without_tag, without_tags}
+use Rattle.rt_edits.specs.TagWrites.{changed_stamps, is_changed, tagged, with_tag_at, with_tags_at, without_tags}
 use Rattle.rt_edits.proofs.DistinctLaws.{stamps_within}
 use Rattle.rt_edits.proofs.DraftSteps.{AreKnownCells, drafts_append, known_cells, known_later, may_append}
 use Rattle.rt_edits.proofs.Putting.{distinct_cells_at, stamps_at_cells, tagged_state}
@@ -196,3 +195,42 @@ deletions_made_all (name ∷ names) site log flat p h doc n l =
 pub deletions_made : (site : ℕ) (log : List Operation) (flat : Flat) (names : List Word) → 0 < site → IsHistory log → IsDocument site log flat → AreNamesBut names
     → (without_tags flat names).count ≤ GREATEST_COUNT → IsDocument site (with_drafts site (deletion_drafts MOST_SPANS flat names) log) (without_tags flat names)
 deletions_made site log flat names p h doc n l = deletions_made_all names site log flat p h doc n l
+
+-- COUNTS
+
+one_counted : (site : ℕ) (log : List Operation) (flat : Flat) (places : ℕ → Bool) (on : Bool) (name : Word) → AreDistinct flat.cells → flat.count ≡ greatest_last_count log
+    → (with_tag_at flat places on name).count ≡ greatest_last_count (with_drafts site (tag_drafts_at MOST_SPANS places on name flat.cells) log)
+one_counted site log flat places on name d e =
+    let stamps = changed_at places on name flat.cells in
+    ap (λ k. k + operations_for (span_count stamps)) e ∙ sym (tags_are_counted site log on name stamps (distinct_changed places on name flat.cells d))
+
+tags_count : (names : List Word) (site : ℕ) (log : List Operation) (flat : Flat) (places : ℕ → Bool) (on : Bool) → AreDistinct flat.cells → flat.count ≡ greatest_last_count log
+    → greatest_last_count (with_drafts site (tags_drafts_at MOST_SPANS flat places on names) log) ≡ (with_tags_at flat places on names).count
+tags_count [] site log flat places on d e = sym e
+tags_count (name ∷ names) site log flat places on d e =
+    let drafts = tag_drafts_at MOST_SPANS places on name flat.cells in
+    let next = with_tag_at flat places on name in
+    ap greatest_last_count (drafts_append site drafts (tags_drafts_at MOST_SPANS next places on names) log)
+    ∙ tags_count names site (with_drafts site drafts log) next places on (subst (IsDistinct is_same) (sym (tag_stamps flat places on name)) d) (one_counted site log flat places on name d e)
+
+pub all_tags_counted : (site : ℕ) (log : List Operation) (flat : Flat) (places : ℕ → Bool) (on : Bool) (names : List Word) → IsHistory log → IsDocument site log flat
+    → greatest_last_count (with_drafts site (tags_drafts_at MOST_SPANS flat places on names) log) ≡ (with_tags_at flat places on names).count
+all_tags_counted site log flat places on names h doc = tags_count names site log flat places on (subst AreDistinct (sym doc.cells) (cells_distinct log h)) doc.count
+
+deletions_count : (names : List Word) (site : ℕ) (log : List Operation) (flat : Flat) → AreDistinct flat.cells → flat.count ≡ greatest_last_count log
+    → greatest_last_count (with_drafts site (deletion_drafts MOST_SPANS flat names) log) ≡ (without_tags flat names).count
+deletions_count [] site log flat d e = sym e
+deletions_count (name ∷ names) site log flat d e =
+    let drafts = tag_drafts_at MOST_SPANS (λ _. true) false name flat.cells in
+    let off = with_tag_at flat (λ _. true) false name in
+    let next : Flat = record off { tags = without name off.tags } in
+    let at : Bool → Type 0 = λ b. greatest_last_count (with_drafts site (cond b [] drafts ++ deletion_drafts MOST_SPANS (cond b flat next) names) log) ≡ (without_tags (cond b flat next) names).count in
+    split (bytes_eq name sel)
+    (λ f. subst at (sym f) (deletions_count names site log flat d e))
+    (λ f. subst at (sym f)
+    (ap greatest_last_count (drafts_append site drafts (deletion_drafts MOST_SPANS next names) log)
+    ∙ deletions_count names site (with_drafts site drafts log) next (subst (IsDistinct is_same) (sym (tag_stamps flat (λ _. true) false name)) d) (one_counted site log flat (λ _. true) false name d e)))
+
+pub all_deletions_counted : (site : ℕ) (log : List Operation) (flat : Flat) (names : List Word) → IsHistory log → IsDocument site log flat
+    → greatest_last_count (with_drafts site (deletion_drafts MOST_SPANS flat names) log) ≡ (without_tags flat names).count
+all_deletions_counted site log flat names h doc = deletions_count names site log flat (subst AreDistinct (sym doc.cells) (cells_distinct log h)) doc.count

@@ -1,26 +1,25 @@
 -- What the Tag operations of a tag edit do.
-use Rattle.std.proofs.Common.{◌≡◌, ℕ, zero, suc, ◌+◌, ◌-◌, ◌*◌, ◌/◌, ◌<◌, ◌≤◌, ◌⊎◌, inl, inr, List, [], ◌∷◌, ◌++◌, Bool, true, false, cond, not, ◌||◌, ◌&&◌, length, take, drop, map, filter, refl, sym, ◌∙◌, ap, subst, arith, take-append-drop, length-drop}
+use Rattle.std.proofs.Common.{◌≡◌, ℕ, zero, suc, ◌+◌, ◌*◌, ◌/◌, ◌<◌, ◌≤◌, ◌⊎◌, inl, inr, List, [], ◌∷◌, ◌++◌, Bool, true, false, cond, ◌||◌, length, take, drop, map, refl, sym, ◌∙◌, ap, subst, arith, take-append-drop, length-drop}
 use Rattle.std.specs.List.{IsDistinct, list_all}
 use Rattle.std.proofs.lemmas.Bool.{and_from, and_parts, or_from, or_left, or_parts, cond-false, cond-true}
 use Rattle.std.proofs.lemmas.Bool.Decides.{nat_tests}
 use Rattle.std.proofs.lemmas.List.{length-take}
 use Rattle.std.proofs.lemmas.List.Folds.{list_any-append}
 use Rattle.std.proofs.Math.Nat.{add-div_right, div-eq_of_lt, suc-mul}
-use Rattle.rt_stamps.specs.declared.limits.TheConstants.{GREATEST_COUNT, MOST_SPANS}
+use Rattle.rt_stamps.specs.declared.limits.TheConstants.{MOST_SPANS}
 use Rattle.rt_stamps.specs.declared.stamp.Span.{Span}
 use Rattle.rt_stamps.specs.declared.stamp.Stamp.{Stamp}
 use Rattle.rt_stamps.specs.declared.stamp.TheConstants.{FINAL}
 use Rattle.rt_stamps.specs.Stamps.{is_same}
 use Rattle.rt_stamps.specs.Words.{Word}
-use Rattle.rt_stamps.proofs.Order.{same_from_true, same_sym}
 use Rattle.rt_oplog.specs.Operations.{Operation, Body, Tag}
 use Rattle.rt_oplog.specs.Logs.{with_operation}
 use Rattle.rt_oplog.specs.Rules.{is_name}
 use Rattle.rt_tags.specs.States.{Write, written}
-use Rattle.rt_store.specs.Cells.{AreDistinct, is_in_span, stamps_of}
+use Rattle.rt_store.specs.Cells.{is_in_span}
 use Rattle.rt_store.specs.Shown.{TaggedCell}
 use Rattle.rt_store.specs.Spans.{each_next, is_among, is_clear_of, is_in_spans, is_span}
-use Rattle.rt_store.proofs.Distinct.{distinct_more, first_apart, others_distinct, split}
+use Rattle.rt_store.proofs.Distinct.{split}
 use Rattle.rt_rga.specs.Changes.{written_in_any}
 use Rattle.rt_rga.specs.Drafts.{all_changed, next_operation, operations_of}
 use Rattle.rt_rga.specs.Histories.{greatest_last_count, has_character}
@@ -31,9 +30,9 @@ use Rattle.rt_rga.proofs.Writes.{spans_name}
 use Rattle.rt_edits.specs.NamedSpans.{by_site, first_parts, parts_for, parts_of, spans_in}
 use Rattle.rt_edits.specs.Removals.{operations_for, span_count}
 use Rattle.rt_edits.specs.TagDrafts.{tag_drafts}
-use Rattle.rt_edits.specs.TagWrites.{operation_of, spans_before, tag_write, tagged}
+use Rattle.rt_edits.specs.TagWrites.{spans_before, tagged}
 use Rattle.rt_edits.proofs.NamedSpanLaws.{IsCut, by_site_sorted, cut, cut_more, length_parts, span_at, spans_counted, spans_ended, spans_forward, spans_hold}
-use Rattle.rt_edits.proofs.PartLaws.{AreSpans, first_spans, in_first, in_more, more_spans, part_rules, rest_spans, still_character}
+use Rattle.rt_edits.proofs.PartLaws.{AreSpans, in_first, in_more, more_spans, part_rules, rest_spans, still_character}
 use Rattle.rt_edits.proofs.SpanLaws.{clear_runs}
 
 -- NO STAMP IN TWO SPANS

@@ -9,7 +9,7 @@ use Rattle.rt_stamps.specs.Stamps.{is_same}
 use Rattle.rt_stamps.specs.Words.{Word}
 use Rattle.rt_oplog.specs.Operations.{Operation}
 use Rattle.rt_oplog.specs.Rules.{each_next, is_lesser_name, is_name}
-use Rattle.rt_store.specs.Cells.{text_of}
+use Rattle.rt_store.specs.Cells.{text_of, visible_of}
 use Rattle.rt_store.specs.Shown.{TaggedCell}
 use Rattle.rt_tags.specs.States.{names_on}
 use Rattle.rt_tags.specs.Tags.{sel}
@@ -19,7 +19,7 @@ use Rattle.rt_rga.specs.Histories.{IsHistory, greatest_last_count, has_character
 use Rattle.rt_rga.specs.Requests.{MayBeMade}
 use Rattle.rt_edits.specs.Flat.{Flat, put_after}
 use Rattle.rt_edits.specs.InsertionDrafts.{insertion_drafts, text_drafts}
-use Rattle.rt_edits.specs.Insertions.{Insertion, Piece, counts_for, insertion_of, last_of, shared_names, tagged_cells, tags_between, with_pieces}
+use Rattle.rt_edits.specs.Insertions.{Insertion, Piece, counts_for, insertion_of, last_of, left_neighbour, shared_names, tagged_cells, tags_between, with_pieces}
 use Rattle.rt_edits.specs.RemovalDrafts.{removal_drafts}
 use Rattle.rt_edits.specs.Removals.{gone_at, operations_for, span_count, stamps_at}
 use Rattle.rt_edits.specs.TagDrafts.{deletion_drafts, newline_drafts, tag_drafts, tags_drafts_at}
@@ -157,8 +157,8 @@ abbrev pub AreTexts : List Piece → Type 0
 AreTexts pieces = AllByRecursion (λ piece. IsText (shared_names piece.tags) (chars piece.text)) pieces
 
 -- the tags and the characters of an insertion, and the element that it goes behind
-pub record IsInsertion (site : ℕ) (log : List Operation) (after : Stamp) (left right : Option TaggedCell) (pieces : List Piece) (rest : Word) (start : Insertion)
-    : Type 0 where
+pub record IsInsertion (site : ℕ) (log : List Operation) (after : Stamp) (left right : Option TaggedCell) (pieces : List Piece) (rest : Word)
+    (start : Insertion) : Type 0 where
   pub element : IsElement log after
   pub listed : AreTexts pieces
   pub unlisted : IsText (tags_between (last_of left (with_pieces site pieces start).cells) right) (chars rest)
@@ -182,3 +182,32 @@ InsertionIsMade =
     → (insertion_of site left right pieces rest start).count ≤ GREATEST_COUNT
     → IsInserted log after (insertion_of site left right pieces rest start)
     (with_drafts site (insertion_drafts MOST_CHARACTERS site after left right pieces rest start) log)
+
+-- The tags of new text are such.
+abbrev pub SharedNamesAreTags : Type 0
+SharedNamesAreTags =
+    (names : List Word) → AllByRecursion (λ name. bytes_eq name sel ≡ false → is_name name ≡ true) names → AreTagNames (shared_names names)
+
+abbrev pub TagsBetweenAreTags : Type 0
+TagsBetweenAreTags =
+    (site : ℕ) (log : List Operation) (place : ℕ) (right : Option TaggedCell) (pieces : List Piece) (start : Insertion)
+    → IsHistory log → AreTexts pieces → start.cells ≡ []
+    → AreTagNames (tags_between (last_of (left_neighbour (visible_of (cells_of log)) place) (with_pieces site pieces start).cells) right)
+
+-- Whether the counts fit is told by the count of the flat edit.
+abbrev pub AllTagsAreCounted : Type 0
+AllTagsAreCounted =
+    (site : ℕ) (log : List Operation) (flat : Flat) (places : ℕ → Bool) (on : Bool) (names : List Word) → IsHistory log → IsDocument site log flat
+    → greatest_last_count (with_drafts site (tags_drafts_at MOST_SPANS flat places on names) log) ≡ (with_tags_at flat places on names).count
+
+abbrev pub DeletionsAreCounted : Type 0
+DeletionsAreCounted =
+    (site : ℕ) (log : List Operation) (flat : Flat) (names : List Word) → IsHistory log → IsDocument site log flat
+    → greatest_last_count (with_drafts site (deletion_drafts MOST_SPANS flat names) log) ≡ (without_tags flat names).count
+
+abbrev pub InsertionIsCounted : Type 0
+InsertionIsCounted =
+    (site : ℕ) (log : List Operation) (after : Stamp) (left right : Option TaggedCell) (pieces : List Piece) (rest : Word) (start : Insertion)
+    → IsInsertion site log after left right pieces rest start
+    → greatest_last_count (with_drafts site (insertion_drafts MOST_CHARACTERS site after left right pieces rest start) log)
+    ≡ (insertion_of site left right pieces rest start).count

@@ -33,7 +33,8 @@ pub fn tags()
     ensures twice { tags_drafts_at MOST_SPANS flat_with_t (λ _. true) true (codes "u" ∷ codes "u" ∷ [])
         ≡ Tag true (codes "u") (span 1 1 2 ∷ span 2 3 3 ∷ []) ∷ [] }
     ensures deleted { deletion_drafts MOST_SPANS flat_with_t (sel ∷ codes "t" ∷ codes "t" ∷ []) ≡ Tag false (codes "t") (span 1 1 1 ∷ []) ∷ [] }
-    ensures newline { newline_drafts (codes "t" ∷ codes "u" ∷ []) ≡ Tag false (codes "t") (span 0 1 1 ∷ []) ∷ Tag false (codes "u") (span 0 1 1 ∷ []) ∷ [] }
+    ensures newline { newline_drafts (codes "t" ∷ codes "u" ∷ [])
+        ≡ Tag false (codes "t") (span 0 1 1 ∷ []) ∷ Tag false (codes "u") (span 0 1 1 ∷ []) ∷ [] }
 {}
 
 /// `abc` behind `(5,2)` is one Insert, or two where an Insert may have two characters: the second goes
@@ -43,7 +44,8 @@ pub fn insertions()
     ensures text { text_drafts MOST_CHARACTERS 1 6 (at 5 2) only_t (codes "abc") ≡ Insert (at 5 2) only_t (codes "abc") ∷ [] }
     ensures parts { text_drafts 2 1 6 (at 5 2) only_t (codes "abc") ≡ Insert (at 5 2) only_t (codes "ab") ∷ Insert (at 8 1) only_t (codes "c") ∷ [] }
     ensures further { text_drafts 2 1 0 ROOT all_tags (codes "abc")
-        ≡ Insert ROOT listed_tags (codes "ab") ∷ Tag true (codes "u") (span 1 1 2 ∷ []) ∷ Insert (at 2 1) listed_tags (codes "c") ∷ Tag true (codes "u") (span 1 4 4 ∷ []) ∷ [] }
+        ≡ Insert ROOT listed_tags (codes "ab") ∷ Tag true (codes "u") (span 1 1 2 ∷ []) ∷ Insert (at 2 1) listed_tags (codes "c")
+        ∷ Tag true (codes "u") (span 1 4 4 ∷ []) ∷ [] }
     ensures nothing { text_drafts MOST_CHARACTERS 1 6 (at 5 2) only_t [] ≡ [] }
 {}
 

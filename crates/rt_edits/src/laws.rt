@@ -13,7 +13,7 @@ ghost use Rattle.rt_store.specs.Shown.{TaggedCell};
 ghost use Rattle.rt_edits.specs.Insertions.{tagged_cells};
 ghost use Rattle.rt_edits.specs.Merging.{begins_line};
 ghost use Rattle.rt_edits.specs.Removals.{cells_at, gone_at, is_removed, left_at, span_count};
-ghost use Rattle.rt_edits.specs.DraftLaws.{DeletesAreCounted, DeletesMakeGone, DeletesMayBeMade, DeletionsAreMade, DeletionsMayBeMade, InsertionIsMade, InsertionMayBeMade, NewlineHasOneTagEach, RemovalIsMade, TagsAreCounted, TagsAreMade, TagsMayBeMade, TagsWriteAsFlat, TextIsCounted, TextIsMade, TextIsPutAsFlat, TextMayBeMade};
+ghost use Rattle.rt_edits.specs.DraftLaws.{AllTagsAreCounted, DeletesAreCounted, DeletesMakeGone, DeletesMayBeMade, DeletionsAreCounted, DeletionsAreMade, DeletionsMayBeMade, InsertionIsCounted, InsertionIsMade, InsertionMayBeMade, NewlineHasOneTagEach, RemovalIsMade, SharedNamesAreTags, TagsAreCounted, TagsAreMade, TagsBetweenAreTags, TagsMayBeMade, TagsWriteAsFlat, TextIsCounted, TextIsMade, TextIsPutAsFlat, TextMayBeMade};
 ghost use Rattle.rt_edits.specs.NamedSpans.{spans_in};
 ghost use Rattle.rt_store.specs.Spans.{each_next, is_among, is_clear_of, is_in_spans, is_span};
 ghost use Rattle.rt_edits.specs.TagWrites.{AreTagged, cells_beside, cells_but, with_tag, with_tag_at, writes_of};
@@ -97,6 +97,8 @@ pub fn tag_drafts()
     ensures deleted_may_be_made { DeletionsMayBeMade }
     ensures deleted { DeletionsAreMade }
     ensures newline { NewlineHasOneTagEach }
+    ensures all_counted { AllTagsAreCounted }
+    ensures deleted_counted { DeletionsAreCounted }
 {}
 
 /// The Inserts of a text, with the Tags behind them, put the cells of the document's definition in
@@ -111,8 +113,12 @@ pub fn text_drafts()
 
 /// The operations of pieces with lists, and of characters without one behind them, put the new cells of
 /// the document's definition in behind the element, and take as many counts; each keeps the rules, and
-/// names what is known.
+/// names what is known. The tags of new text are as operations have them, where those of the lists are
+/// names.
 pub fn insertion_drafts()
     ensures may_be_made { InsertionMayBeMade }
     ensures made { InsertionIsMade }
+    ensures count { InsertionIsCounted }
+    ensures shared { SharedNamesAreTags }
+    ensures between { TagsBetweenAreTags }
 {}

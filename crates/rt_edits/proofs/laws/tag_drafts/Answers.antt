@@ -1,5 +1,5 @@
 use Rattle.rt_edits.proofs.NewlineDrafts.{newline_one_each}
-use Rattle.rt_edits.proofs.TagDocuments.{deletions_made, deletions_may, tags_are_counted, tags_made, tags_may}
+use Rattle.rt_edits.proofs.TagDocuments.{all_deletions_counted, all_tags_counted, deletions_made, deletions_may, tags_are_counted, tags_made, tags_may}
 use Rattle.rt_edits.proofs.TagDraftLaws.{tags_as_flat}
 use Rattle.rt_edits.proofs.laws.tag_drafts.Goals as goal
 
@@ -23,3 +23,9 @@ returns-clause-deleted c = deletions_made
 
 pub returns-clause-newline : goal.returns-clause-newline
 returns-clause-newline c = newline_one_each
+
+pub returns-clause-all_counted : goal.returns-clause-all_counted
+returns-clause-all_counted c = all_tags_counted
+
+pub returns-clause-deleted_counted : goal.returns-clause-deleted_counted
+returns-clause-deleted_counted c = all_deletions_counted

@@ -1,4 +1,4 @@
-use Rattle.std.proofs.Common.{◌≡◌, ◌∙◌, [], All, ap, map, subst, sym}
+use Rattle.std.proofs.Common.{◌≡◌, ◌∙◌, All, ap, map, subst, sym}
 use Rattle.std.proofs.lemmas.Result.{IfOk-weaker}
 use Rattle.rt_tags.specs.States.{Interns, IsTag, name_at, state_at, writes_at}
 use Rattle.rt_tags.specs.Writers.{state_after}

@@ -1,8 +1,6 @@
-use Rattle.std.proofs.Common.{◌≡◌, ◌∙◌, ◌++◌, ◌∷◌, [], All, ap, filter, map, not, subst, sym}
-use Rattle.std.specs.Str.{bytes_eq}
-use Rattle.std.proofs.lemmas.List.{map-append, append-nil}
+use Rattle.std.proofs.Common.{◌∙◌, ◌++◌, ◌∷◌, [], All, ap, map, subst, sym}
+use Rattle.std.proofs.lemmas.List.{map-append}
 use Rattle.rt_tags.specs.States.{IsTag, name_at}
-use Rattle.rt_tags.specs.Tags.{sel}
 use Rattle.rt_edits.proofs.Planning.{kept_one, names_kept, one_given, passed_over}
 use Rattle.rt_edits.proofs.plan.push_tag.Goals as goal
 

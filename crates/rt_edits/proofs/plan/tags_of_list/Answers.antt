@@ -1,4 +1,4 @@
-use Rattle.std.proofs.Common.{◌∙◌, ◌++◌, ◌<◌, ap, length, arith, sym, not, Bool, [], ◌∷◌, filter, map, take}
+use Rattle.std.proofs.Common.{◌∙◌, ◌++◌, ◌<◌, length, arith, sym, not, Bool, [], ◌∷◌, filter}
 use Rattle.std.specs.Prelude.{string_bytes}
 use Rattle.std.specs.Str.{bytes_eq}
 use Rattle.rt_stamps.specs.Words.{Word}

@@ -1,4 +1,4 @@
-use Rattle.std.proofs.Common.{◌∙◌, ◌++◌, ◌∷◌, ◌<◌, [], ap, length, arith, map, sym, take, true, refl}
+use Rattle.std.proofs.Common.{◌∙◌, ◌++◌, ◌∷◌, ◌<◌, [], ap, length, arith, map, sym, true, refl}
 use Rattle.std.proofs.lemmas.List.{map-append, take_more}
 use Rattle.rt_tags.specs.States.{name_at, write_at, writes_at, written}
 use Rattle.rt_tags.specs.Writers.{state_after}
