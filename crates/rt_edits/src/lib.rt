@@ -2,6 +2,7 @@
 //! tag operations, and the selected characters of a widget.
 #![tactic(auto)]
 
+mod counts;
 pub mod examples;
 pub mod insertion;
 pub mod laws;

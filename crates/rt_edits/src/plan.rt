@@ -17,6 +17,7 @@ ghost use Rattle.rt_edits.specs.Selections.{with_stamps};
 ghost use Rattle.rt_store.specs.Spans.{is_among};
 ghost use Rattle.rt_store.specs.Shown.{shown};
 
+use crate::counts::{further, last_count};
 use crate::insertion::push_cells;
 use crate::{Piece, Selection};
 use rt_stamps::limits::{GREATEST_COUNT, MOST_CHARACTERS, MOST_TAGS};
@@ -146,7 +147,8 @@ fn new_state(
     requires counts { last + length tags.now ≤ GREATEST_COUNT * 2 }
     ensures given { IfOk result (IsState states.new) }
     ensures state { IfOk result (λ state. state_at states.new state ≡ new_state site.number last (map (name_at states.old) tags.now)) }
-    ensures interned { IfOk result (λ state. Interns (new_state site.number last (map (name_at states.old) tags.now)) states.old.states state states.new.states) }
+    ensures interned { IfOk result (λ state. Interns
+        (new_state site.number last (map (name_at states.old) tags.now)) states.old.states state states.new.states) }
     ensures ids { KeepsIds states.old states.new }
     ensures err { IfErr result (λ fault. fault ≡ Fault.NoMemory) }
 {
@@ -155,48 +157,12 @@ fn new_state(
     states.with_all(StateId::EMPTY, &writes)
 }
 
-// How many tags are more than an Insert may list.
-fn further(tags: usize) -> usize
-    ensures { result ≡ tags - MOST_TAGS }
-{
-    tags.saturating_sub(MOST_TAGS)
-}
-
-// How many Inserts a text takes.
-fn inserts_for(characters: usize) -> usize
-    ensures { result ≡ inserts_for characters }
-{
-    characters.div_ceil(MOST_CHARACTERS)
-}
-
-// How many counts a text with some tags takes, and no fewer than all 64 bits where these are too few.
-fn counts_for(tags: usize, characters: usize) -> u64
-    ensures { result ≡ min (characters + inserts_for characters * (tags - MOST_TAGS)) (2 ^ 64 - 1) }
-{
-    inserts_for(characters)
-        .saturating_mul(further(tags))
-        .saturating_add(characters) as u64
-}
-
 // The characters of the next Insert of a text, and those behind them.
 fn next_part(text: &[char]) -> (&[char], &[char])
     ensures part { result.0.now ≡ take MOST_CHARACTERS text.now }
     ensures rest { result.1.now ≡ drop MOST_CHARACTERS text.now }
 {
     text.split_at(text.len().min(MOST_CHARACTERS))
-}
-
-// The greatest count after a text with some tags, or why there are too few counts.
-fn last_count(count: u64, tags: usize, characters: usize) -> Result<u64, Fault>
-    requires { count ≤ GREATEST_COUNT }
-    ensures ok { IfOk result (λ last. (last ≡ count + (characters + inserts_for characters * (tags - MOST_TAGS))) × (last ≤ GREATEST_COUNT)) }
-    ensures err { IfErr result (λ fault. (fault ≡ Fault.ClockSpent) × (GREATEST_COUNT < count + (characters + inserts_for characters * (tags - MOST_TAGS)))) }
-{
-    let counts = counts_for(tags, characters);
-    if counts > GREATEST_COUNT - count {
-        return Err(Fault::ClockSpent);
-    }
-    Ok(count + counts)
 }
 
 /// Adds the cells of a text with some tags, with the counts after a given one; the answer is the
@@ -448,7 +414,8 @@ impl Plan {
         ensures plan { OnOk result (IsPlan states.new self.new) }
         ensures ok { OnOk result ((others : List (List Stamp)) (tags : List Word)
             → planned states.new self.new (stamps_in selection.now) others tags
-            ≡ with_unlisted site.number (Some (shown states.old left)) (Some (shown states.old right)) text.now (planned states.old self.old (stamps_in selection.now) others tags)) }
+            ≡ with_unlisted site.number (Some (shown states.old left)) (Some (shown states.old right)) text.now
+            (planned states.old self.old (stamps_in selection.now) others tags)) }
         ensures ids { KeepsIds states.old states.new }
         ensures err { IfErr result (λ fault. (fault ≡ Fault.NoMemory)
             ⊎ ((fault ≡ Fault.ClockSpent) × (GREATEST_COUNT < self.old.count
@@ -487,11 +454,13 @@ impl Plan {
         ensures plan { OnOk result (IsPlan states.new self.new) }
         ensures ok { OnOk result ((others : List (List Stamp)) (tags : List Word)
             → planned states.new self.new (stamps_in selection.now) others tags
-            ≡ with_unlisted site.number (last_of (option_map (shown states.old) left) (map (shown states.old) self.old.cells.items)) (Some (shown states.old right)) (chars text.now) (planned states.old self.old (stamps_in selection.now) others tags)) }
+            ≡ with_unlisted site.number (last_of (option_map (shown states.old) left) (map (shown states.old) self.old.cells.items))
+            (Some (shown states.old right)) (chars text.now) (planned states.old self.old (stamps_in selection.now) others tags)) }
         ensures ids { KeepsIds states.old states.new }
         ensures err { IfErr result (λ fault. (fault ≡ Fault.NoMemory)
             ⊎ ((fault ≡ Fault.ClockSpent) × (GREATEST_COUNT < self.old.count
-            + counts_for (tags_between (last_of (option_map (shown states.old) left) (map (shown states.old) self.old.cells.items)) (Some (shown states.old right))) (chars text.now)))) }
+            + counts_for (tags_between (last_of (option_map (shown states.old) left) (map (shown states.old) self.old.cells.items))
+            (Some (shown states.old right))) (chars text.now)))) }
     {
         let text = chars_of(alloc, text)?;
         if text.is_empty() {

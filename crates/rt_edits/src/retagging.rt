@@ -39,13 +39,15 @@ fn write_tags(
     requires sorted { each_next precedes (stamps_of cells.old.items) ≡ true }
     requires count { count ≤ GREATEST_COUNT }
     requires few { length cells.old.items ≤ MOST_CELLS }
-    ensures copies { IfOk result (λ last. copies_after site.number on (map (name_at states.old) tags.now) (record { cells = map (shown states.old) cells.old.items; count = count }) ≡ record { cells = map (shown states.new) cells.new.items; count = last }) }
+    ensures copies { IfOk result (λ last. copies_after site.number on (map (name_at states.old) tags.now)
+        (record { cells = map (shown states.old) cells.old.items; count = count }) ≡ record { cells = map (shown states.new) cells.new.items; count = last }) }
     ensures within { IfOk result (λ last. last ≤ GREATEST_COUNT) }
     ensures stamps { OnOk result (stamps_of cells.new.items ≡ stamps_of cells.old.items) }
     ensures given { OnOk result (AreStates states.new cells.new.items) }
     ensures ids { KeepsIds states.old states.new }
     ensures err { IfErr result (λ fault. (fault ≡ Fault.NoMemory)
-        ⊎ ((fault ≡ Fault.ClockSpent) × (GREATEST_COUNT < (copies_after site.number on (map (name_at states.old) tags.now) (record { cells = map (shown states.old) cells.old.items; count = count })).count))) }
+        ⊎ ((fault ≡ Fault.ClockSpent) × (GREATEST_COUNT <
+        (copies_after site.number on (map (name_at states.old) tags.now) (record { cells = map (shown states.old) cells.old.items; count = count })).count))) }
 {
     let mut last = count;
     for tag in tags {
@@ -224,7 +226,11 @@ pub fn planned_deletion<S: TextStore>(
     ensures ok { IfOk result (λ plan. (flat : Flat) → flat.site ≡ site.number → flat.count ≡ count
         → flat.tags ≡ tags.now.names → flat.cells ≡ map (shown states.old) (S.list store.old)
         → without_tags flat (map (λ w. string_bytes w) names.now)
-        ≡ record flat { cells = map (shown states.new) (map (put_back_in_any plan.runs.items) (S.list store.old)); count = plan.count; tags = all_forgotten (map (λ w. string_bytes w) names.now) flat.tags }) }
+        ≡ record flat {
+          cells = map (shown states.new) (map (put_back_in_any plan.runs.items) (S.list store.old));
+          count = plan.count;
+          tags = all_forgotten (map (λ w. string_bytes w) names.now) flat.tags;
+        }) }
     ensures room { IfOk result (λ plan. HasRoom (S.room store.new) 0 (2 * length plan.runs.items)) }
     ensures same { S.list store.new ≡ S.list store.old }
     ensures within { IfOk result (λ plan. plan.count ≤ GREATEST_COUNT) }

@@ -131,7 +131,8 @@ pub(crate) fn write_tag(
     requires count { count ≤ GREATEST_COUNT }
     requires few { length cells.old.items ≤ MOST_CELLS }
     ensures cells { OnOk result (map (shown states.new) cells.new.items
-        ≡ map (tagged site.number count (name_at states.old tag) on (changed_stamps (name_at states.old tag) on (map (shown states.old) cells.old.items))) (map (shown states.old) cells.old.items)) }
+        ≡ map (tagged site.number count (name_at states.old tag) on (changed_stamps (name_at states.old tag) on (map (shown states.old) cells.old.items)))
+        (map (shown states.old) cells.old.items)) }
     ensures count { IfOk result (λ last. last ≡ count
         + operations_for (span_count (changed_stamps (name_at states.old tag) on (map (shown states.old) cells.old.items)))) }
     ensures within { IfOk result (λ last. last ≤ GREATEST_COUNT) }

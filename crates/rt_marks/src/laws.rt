@@ -20,7 +20,8 @@ pub fn order_after_insertion()
 /// What a name finds after each edit.
 pub fn look_ups()
     ensures after_set { (q name : List ℕ) (place : ℕ) (marks : List Mark)
-        → named q (marks_set name place marks) ≡ (if bytes_eq name q then Some (record { name = name; place = place; gravity = gravity_or_right name marks }) else named q marks) }
+        → named q (marks_set name place marks) ≡ (if bytes_eq name q then Some
+        (record { name = name; place = place; gravity = gravity_or_right name marks }) else named q marks) }
     ensures after_unset { (q name : List ℕ) (marks : List Mark) → named q (without name marks) ≡ (if bytes_eq name q then None else named q marks) }
     ensures after_insertion { (q : List ℕ) (place n : ℕ) (marks : List Mark)
         → named q (marks_inserted place n marks) ≡ option_map (mark_inserted place n) (named q marks) }

@@ -242,7 +242,8 @@ impl Table {
     /// Writes the place and the gravity of a slot's mark.
     fn write(&mut self, slot: usize, place: usize, gravity: Gravity)
         requires { slot < length (slots_of self.old) }
-        ensures marks { slots_of self.new ≡ slice_set (slots_of self.old) slot (record (in_slot (slots_of self.old) slot) { place = place; gravity = gravity }) }
+        ensures marks { slots_of self.new ≡ slice_set (slots_of self.old) slot
+            (record (in_slot (slots_of self.old) slot) { place = place; gravity = gravity }) }
         ensures by_name { self.new.by_name ≡ self.old.by_name }
         ensures in_order { self.new.in_order ≡ self.old.in_order }
     {
@@ -390,7 +391,8 @@ impl Table {
         ensures marks { self.new.marks ≡ self.old.marks }
         ensures by_name { self.new.by_name ≡ self.old.by_name }
         ensures end { result ≡ at + length (filter (slot_stands place gravity (slots_of self.old)) self.old.by_name.items) }
-        ensures in_order { self.new.in_order.items ≡ overwritten at (filter (slot_stands place gravity (slots_of self.old)) self.old.by_name.items) self.old.in_order.items }
+        ensures in_order { self.new.in_order.items ≡ overwritten at
+            (filter (slot_stands place gravity (slots_of self.old)) self.old.by_name.items) self.old.in_order.items }
     {
         let mut next = at;
         for rank in 0..self.by_name.len() {

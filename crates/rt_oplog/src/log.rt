@@ -44,7 +44,11 @@ impl Model for OpLog {
 
     ghost use Rattle.rt_oplog.specs.Kept.{newest_first, IsKept};
 
-    ghost view = { λ log. record { operations = newest_first log.ops.items log.order.items; room = min (vec_capacity log.ops - vec_len log.ops) (min (vec_capacity log.order - vec_len log.order) (vec_capacity log.ends.ends - vec_len log.ends.ends)) } };
+    ghost view = { λ log. record {
+      operations = newest_first log.ops.items log.order.items;
+      room = min (vec_capacity log.ops - vec_len log.ops)
+          (min (vec_capacity log.order - vec_len log.order) (vec_capacity log.ends.ends - vec_len log.ends.ends));
+    } };
 
     ghost invariant = { λ log. IsKept log.ops.items log.order.items log.ends.ends.items };
 }

@@ -69,7 +69,12 @@ impl Op {
         tags: Vec<String>,
         text: Vec<char>,
     ) -> Result<Op, Fault>
-        ensures { result ≡ within_rules (record { count = stamp.count; site = stamp.site; prev = prev; body = Insert after (map string_bytes tags.items) text.items }) }
+        ensures { result ≡ within_rules (record {
+          count = stamp.count;
+          site = stamp.site;
+          prev = prev;
+          body = Insert after (map string_bytes tags.items) text.items;
+        }) }
     {
         if !are_tags(&tags) || !is_text(&text) {
             return Err(Fault::BadRecord);

@@ -48,7 +48,13 @@ impl<S: TextStore> Model for Replica<S> {
 
     ghost Value = { ReplicaValue };
 
-    ghost view = { λ r. record { log = r.log.operations; cells = map (shown r.states) (S.list r.store); table = r.states; site = r.site.number; limit = r.limit } };
+    ghost view = { λ r. record {
+      log = r.log.operations;
+      cells = map (shown r.states) (S.list r.store);
+      table = r.states;
+      site = r.site.number;
+      limit = r.limit;
+    } };
 
     ghost invariant = { λ r. IsWithin r.log.operations r.states (S.list r.store) r.clock r.limit };
 }

@@ -180,7 +180,8 @@ fn feed<C: Commands, W: Sink>(
 ) -> Result<(), Fault>
     requires { length pending.old.items ≤ MOST_KEPT_BYTES }
     ensures ran { (rest : List ℕ) → cut rest ≡ ([], rest) → pending.old.items ≡ kept rest
-        → RanLines C.gives (C.state site.old) (C.state site.new) (W.contents out.old) (W.contents out.new) (W.failures out.old) (W.failures out.new) (complete_of (rest ++ piece.now)) (lines_of (rest ++ piece.now)) result }
+        → RanLines C.gives (C.state site.old) (C.state site.new) (W.contents out.old) (W.contents out.new) (W.failures out.old)
+        (W.failures out.new) (complete_of (rest ++ piece.now)) (lines_of (rest ++ piece.now)) result }
     ensures rest { (rest : List ℕ) → cut rest ≡ ([], rest) → pending.old.items ≡ kept rest
         → OnOk result (pending.new.items ≡ kept (rest_of (rest ++ piece.now))) }
 {
@@ -203,7 +204,8 @@ fn finish<C: Commands, W: Sink>(
     out: &mut W,
 ) -> Result<(), Fault>
     ensures ran { (rest : List ℕ) → pending.now ≡ kept rest
-        → RanLines C.gives (C.state site.old) (C.state site.new) (W.contents out.old) (W.contents out.new) (W.failures out.old) (W.failures out.new) (last_of rest) (last_of rest) result }
+        → RanLines C.gives (C.state site.old) (C.state site.new) (W.contents out.old) (W.contents out.new) (W.failures out.old)
+        (W.failures out.new) (last_of rest) (last_of rest) result }
     ensures fault { IfErr result (λ fault. fault ≡ Fault.WriteFault) }
 {
     if pending.is_empty() {

@@ -41,7 +41,8 @@ pub(crate) fn first_after<'a>(
     here: &Spot<'_>,
 ) -> Option<Spot<'a>>
     requires { named (spotted current).name marks.now ≡ None }
-    ensures { option_map spotted result ≡ find (comes_before (spotted here.now)) (with_mark (spotted insert.entry) (with_mark (spotted current.entry) marks.now)) }
+    ensures { option_map spotted result ≡ find (comes_before (spotted here.now))
+        (with_mark (spotted insert.entry) (with_mark (spotted current.entry) marks.now)) }
 {
     marks.order();
     let found = nearer_after(here, marks.first_after(here), current);

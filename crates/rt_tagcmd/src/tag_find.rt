@@ -60,7 +60,11 @@ fn search_places<S: TextStore>(
     without: usize,
 ) -> Result<(usize, usize), Fault>
     requires { IsOwnOf (length (text_of doc.now.cells)) widget.now }
-    ensures ok { IfOk result (λ places. places ≡ (place_at_index (widget_of doc.now widget.now) index.now, option_map_or (place_at_index (widget_of doc.now widget.now)) (option_copied other.entry) without)) }
+    ensures ok { IfOk result (λ places. places ≡ (
+      place_at_index (widget_of doc.now widget.now) index.now,
+      option_map_or
+          (place_at_index (widget_of doc.now widget.now)) (option_copied other.entry) without,
+    )) }
     ensures checked { OnOk result (first_of (map (index_check (widget_of doc.now widget.now)) (index.now ∷ option_to_list (option_copied other.entry)))
         ≡ None) }
     ensures err { IfErr result (λ fault. (fault ≡ Fault.NoMemory)

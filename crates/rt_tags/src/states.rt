@@ -336,7 +336,8 @@ impl StateTable {
         requires tag { IsTag self.old tag }
         ensures given { IfOk result (IsState self.new) }
         ensures state { IfOk result (λ id. state_at self.new id ≡ written (write_at self.old tag writer on) (state_at self.old state)) }
-        ensures interned { IfOk result (λ id. Interns (written (write_at self.old tag writer on) (state_at self.old state)) self.old.states id self.new.states) }
+        ensures interned { IfOk result (λ id. Interns
+            (written (write_at self.old tag writer on) (state_at self.old state)) self.old.states id self.new.states) }
         ensures same { is_settled (write_at self.old tag writer on) (state_at self.old state) ≡ true → result ≡ Ok state }
         ensures names { self.new.names ≡ self.old.names }
         ensures err { OnErr result (self.new ≡ self.old) }
@@ -361,7 +362,8 @@ impl StateTable {
         requires tags { All (λ w. IsTag self.old w.tag) writes.now }
         ensures given { IfOk result (IsState self.new) }
         ensures state { IfOk result (λ id. state_at self.new id ≡ state_after (state_at self.old state) (writes_at self.old writes.now)) }
-        ensures interned { IfOk result (λ id. Interns (state_after (state_at self.old state) (writes_at self.old writes.now)) self.old.states id self.new.states) }
+        ensures interned { IfOk result (λ id. Interns
+            (state_after (state_at self.old state) (writes_at self.old writes.now)) self.old.states id self.new.states) }
         ensures names { self.new.names ≡ self.old.names }
         ensures err { OnErr result (self.new ≡ self.old) }
         ensures fault { IfErr result (λ fault. fault ≡ Fault.NoMemory) }

@@ -50,7 +50,8 @@ fn next_selected<S: TextStore>(
     selected: bool,
     place: usize,
 ) -> Option<usize>
-    ensures { result ≡ next_place (λ cell. if selected then is_among (stamps_in selection.now) cell.stamp else not (is_among (stamps_in selection.now) cell.stamp)) (visible_of (S.list store.now)) place }
+    ensures { result ≡ next_place (λ cell. if selected then is_among (stamps_in selection.now) cell.stamp else not
+        (is_among (stamps_in selection.now) cell.stamp)) (visible_of (S.list store.now)) place }
 {
     for at in place..store.visible() {
         if is_selected(selection, selected, store.cell_at(at).stamp) {
@@ -84,7 +85,8 @@ pub(crate) fn next_with<S: TextStore>(
     place: usize,
 ) -> Option<usize>
     requires { AreStates states.now (S.list store.now) }
-    ensures { result ≡ next_place (λ cell. if on then is_tagged_in (stamps_in selection.now) name.now (shown states.now cell) else not (is_tagged_in (stamps_in selection.now) name.now (shown states.now cell))) (visible_of (S.list store.now)) place }
+    ensures { result ≡ next_place (λ cell. if on then is_tagged_in (stamps_in selection.now) name.now (shown states.now cell) else not
+        (is_tagged_in (stamps_in selection.now) name.now (shown states.now cell))) (visible_of (S.list store.now)) place }
 {
     if name == "sel" {
         return next_selected(store, selection, on, place);

@@ -117,7 +117,10 @@ fn held_plan<S: TextStore>(
     requires count { count ≤ GREATEST_COUNT }
     ensures ok { IfOk result (λ plan. (flat : Flat) → flat.site ≡ site.number → flat.count ≡ count
         → flat.cells ≡ map (shown states.old) (S.list store.now)
-        → last_cleared held flat ≡ record flat { cells = map (shown states.new) (map (put_back_in_any plan.runs.items) (S.list store.now)); count = plan.count }) }
+        → last_cleared held flat ≡ record flat {
+          cells = map (shown states.new) (map (put_back_in_any plan.runs.items) (S.list store.now));
+          count = plan.count;
+        }) }
     ensures within { IfOk result (λ plan. plan.count ≤ GREATEST_COUNT) }
     ensures runs { IfOk result (λ plan. All (λ run. IsState states.new run.state) plan.runs.items) }
     ensures few { IfOk result (λ plan. length plan.runs.items ≤ length (S.list store.now)) }
@@ -153,7 +156,16 @@ pub(crate) fn planned_removal<S: TextStore>(
     ensures ok { IfOk result (λ d. (flat : Flat) → (own : Own) → (others : List (List Stamp)) → flat.site ≡ site.number
         → flat.count ≡ count → flat.cells ≡ map (shown states.old) (S.list store.now)
         → without_ranges flat own others ranges.now
-        ≡ record { doc = record flat { cells = map (shown states.new) (map (put_back_in_any d.tags.runs.items) (map (gone_in_any d.spans.items) (S.list store.now))); count = d.tags.count; marks = marks_left (is_covered d.removed.items) flat.marks }; own = record (own_left (is_covered d.removed.items) own) { sel = last_unselected d.held own.sel }; others = map (last_unselected d.held) others }) }
+        ≡ record {
+          doc = record flat {
+            cells = map (shown states.new)
+                (map (put_back_in_any d.tags.runs.items) (map (gone_in_any d.spans.items) (S.list store.now)));
+            count = d.tags.count;
+            marks = marks_left (is_covered d.removed.items) flat.marks;
+          };
+          own = record (own_left (is_covered d.removed.items) own) { sel = last_unselected d.held own.sel };
+          others = map (last_unselected d.held) others;
+        }) }
     ensures order { IfOk result (λ d. AreInOrder 0 d.removed.items) }
     ensures before { IfOk result (λ d. All (λ range. range.to < length (text_of (S.list store.now))) d.removed.items) }
     ensures gone { IfOk result (λ d. map (gone_in_any d.spans.items) (S.list store.now) ≡ gone_at (is_covered d.removed.items) 0 (S.list store.now)) }

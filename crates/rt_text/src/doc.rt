@@ -37,7 +37,14 @@ impl<S: TextStore> Model for Doc<S> {
 
     ghost Value = { Flat };
 
-    ghost view = { λ d. record { cells = map (shown d.states) (S.list d.store); site = d.site.number; limit = d.limit; count = d.clock; marks = d.marks; tags = d.tags.names } };
+    ghost view = { λ d. record {
+      cells = map (shown d.states) (S.list d.store);
+      site = d.site.number;
+      limit = d.limit;
+      count = d.clock;
+      marks = d.marks;
+      tags = d.tags.names;
+    } };
 
     ghost invariant = { λ d. IsDoc d.limit d.clock (S.list d.store) d.marks d.states d.tags.names };
 }

@@ -28,7 +28,8 @@ pub(crate) struct WidgetGround<'a, S: TextStore> {
     ghost few: { length (text_of (map (shown states.now) (S.list store.now))) ≤ MOST_CELLS },
     ghost insert: { widget.now.insert.place ≤ length (text_of (map (shown states.now) (S.list store.now))) },
     ghost current: { widget.now.current.place ≤ length (text_of (map (shown states.now) (S.list store.now))) },
-    ghost within: { (name : List ℕ) (place : ℕ) → option_map (λ m. m.place) (named name marks.now) ≡ Some place → place ≤ length (text_of (map (shown states.now) (S.list store.now))) },
+    ghost within: { (name : List ℕ) (place : ℕ) → option_map (λ m. m.place) (named name marks.now) ≡ Some place → place
+        ≤ length (text_of (map (shown states.now) (S.list store.now))) },
     ghost names: { (name : List ℕ) → IsSome (named name marks.now) → IsName name },
 }
 
@@ -88,5 +89,6 @@ impl<'a, S: TextStore> Ground for WidgetGround<'a, S> {
         Some(last + 1)
     }
 
-    ghost proper = { λ g. proper_over (S.list g.store.now) (map (shown g.states.now) (S.list g.store.now)) g.marks.now g.tags.now.names g.widget.now (S.ends g.store.now) g.text g.few g.insert g.current g.within g.names g.listed };
+    ghost proper = { λ g. proper_over (S.list g.store.now) (map (shown g.states.now) (S.list g.store.now)) g.marks.now g.tags.now.names g.widget.now
+        (S.ends g.store.now) g.text g.few g.insert g.current g.within g.names g.listed };
 }

@@ -65,11 +65,15 @@ pub(crate) fn plan_at<S: TextStore>(
     ensures plan { IfOk result (IsPlan states.new) }
     ensures ok { IfOk result (λ plan. (others : List (List Stamp)) (tags : List Word)
         → planned states.new plan (stamps_in selection.now) others tags
-        ≡ insertion_of site.number (left_neighbour (visible_of (map (shown states.old) (S.list store.now))) place) (right_neighbour (visible_of (map (shown states.old) (S.list store.now))) place) pieces.now rest.now (record { cells = []; count = count; sel = stamps_in selection.now; others = others; tags = tags })) }
+        ≡ insertion_of site.number (left_neighbour (visible_of (map (shown states.old) (S.list store.now))) place)
+        (right_neighbour (visible_of (map (shown states.old) (S.list store.now))) place) pieces.now rest.now
+        (record { cells = []; count = count; sel = stamps_in selection.now; others = others; tags = tags })) }
     ensures ids { KeepsIds states.old states.new }
     ensures err { IfErr result (λ fault. (fault ≡ Fault.NoMemory)
         ⊎ ((fault ≡ Fault.ClockSpent) × ((others : List (List Stamp)) (tags : List Word)
-        → GREATEST_COUNT < (insertion_of site.number (left_neighbour (visible_of (map (shown states.old) (S.list store.now))) place) (right_neighbour (visible_of (map (shown states.old) (S.list store.now))) place) pieces.now rest.now (record { cells = []; count = count; sel = stamps_in selection.now; others = others; tags = tags })).count))) }
+        → GREATEST_COUNT < (insertion_of site.number (left_neighbour (visible_of (map (shown states.old) (S.list store.now))) place)
+        (right_neighbour (visible_of (map (shown states.old) (S.list store.now))) place) pieces.now rest.now
+        (record { cells = []; count = count; sel = stamps_in selection.now; others = others; tags = tags })).count))) }
 {
     let left = left_neighbour(store, place);
     let right = store.cell_at(place);

@@ -34,7 +34,11 @@ impl Model for Widget {
 
     ghost Value = { Own };
 
-    ghost view = { λ w. record { insert = record { name = codes "insert"; place = w.insert.place; gravity = w.insert.gravity }; current = record { name = codes "current"; place = w.current.place; gravity = w.current.gravity }; sel = stamps_in w.selection } };
+    ghost view = { λ w. record {
+      insert = record { name = codes "insert"; place = w.insert.place; gravity = w.insert.gravity };
+      current = record { name = codes "current"; place = w.current.place; gravity = w.current.gravity };
+      sel = stamps_in w.selection;
+    } };
 }
 
 impl Widget {

@@ -167,7 +167,8 @@ impl SiteState {
 
     // `tag nextrange` of a name, an index and perhaps another.
     fn next_range(&mut self, name: &str, from: &str, to: Option<&str>) -> Result<Reply, Fault>
-        ensures { Answers (positions_step self.old (tag_nextrange self.old.doc self.old.own name.now from.now (option_copied to.entry))) self.old result self.new }
+        ensures { Answers (positions_step self.old (tag_nextrange self.old.doc self.old.own name.now from.now
+            (option_copied to.entry))) self.old result self.new }
     {
         let positions = tag_nextrange(self.alloc, &self.doc, &self.widget, name, from, to)?;
         positions_reply(self.alloc, &positions)
@@ -186,7 +187,8 @@ impl SiteState {
 
     // `tag prevrange` of a name, an index and perhaps another.
     fn previous_range(&mut self, name: &str, to: &str, from: Option<&str>) -> Result<Reply, Fault>
-        ensures { Answers (positions_step self.old (tag_prevrange self.old.doc self.old.own name.now to.now (option_copied from.entry))) self.old result self.new }
+        ensures { Answers (positions_step self.old (tag_prevrange self.old.doc self.old.own name.now to.now
+            (option_copied from.entry))) self.old result self.new }
     {
         let positions = tag_prevrange(self.alloc, &self.doc, &self.widget, name, to, from)?;
         positions_reply(self.alloc, &positions)

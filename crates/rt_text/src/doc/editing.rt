@@ -71,7 +71,9 @@ impl<S: TextStore> Doc<S> {
             ≡ with_pieces_at self.old widget.old (map stamps_in others.old) place pieces.now rest.now) }
         ensures checked { OnOk result (first_of (clock_check self.new.count ∷ cell_check self.old.limit (length self.new.cells) ∷ []) ≡ None) }
         ensures err { IfErr result (λ fault. (fault ≡ Fault.NoMemory)
-            ⊎ (first_of (clock_check (with_pieces_at self.old widget.old (map stamps_in others.old) place pieces.now rest.now).doc.count ∷ cell_check self.old.limit (length (with_pieces_at self.old widget.old (map stamps_in others.old) place pieces.now rest.now).doc.cells) ∷ []) ≡ Some fault)) }
+            ⊎ (first_of (clock_check (with_pieces_at self.old widget.old
+            (map stamps_in others.old) place pieces.now rest.now).doc.count ∷ cell_check self.old.limit (length
+            (with_pieces_at self.old widget.old (map stamps_in others.old) place pieces.now rest.now).doc.cells) ∷ []) ≡ Some fault)) }
         ensures unchanged { OnErr result ((self.new ≡ self.old) × (widget.new ≡ widget.old) × (map stamps_in others.new ≡ map stamps_in others.old)) }
         ensures own { IsOwnOf (length (text_of self.new.cells)) widget.new }
     {
