@@ -3,4 +3,3 @@ pub mod Lends
 pub mod Rows
 pub mod RowLends
 pub mod Inside
-pub mod Memory

@@ -1,59 +1,44 @@
-//! A block: entries in memory of its own, with room for so many.
+//! A row of entries with room for so many.
 ghost use Rattle.std.specs.Prelude.{◌≡◌, ◌+◌, ◌-◌, ◌<◌, ◌≤◌, List, [], ◌∷◌, ◌++◌, length, take, drop, insert, slice_index_or, vec_capacity, IfOk};
 ghost use Rattle.std.specs.Borrow.{sem};
 ghost use Rattle.rt_nodes.specs.Rows.{row};
 
-use crate::allocation::Allocation;
-use crate::raw::{allocate, deallocate};
 use std::alloc::{AllocError, Global};
 use std::marker::Model;
-use std_alloc::room::may_hold;
-use std_alloc::vec::Lodged;
 
-/// Entries, in room for so many. `cells` is the row of them in memory that `allocation` gives the right to free.
+/// Entries, in room for so many.
+#[derive(Drop)]
 pub struct Block<E> {
-    cells: Vec<E, Lodged>,
-    allocation: Allocation<E, Global>,
-    heap: Global,
+    items: Vec<E>,
 }
 
 impl<E> Model for Block<E> {
     ghost use Rattle.std.specs.Prelude.{vec_capacity};
     ghost use Rattle.rt_nodes.specs.Rows.{Row, row_code, row};
-    ghost use Rattle.rt_nodes.specs.Memory.{IsAllocationOf};
 
     ghost Value = { Row E };
 
     ghost coded = { row_code E.code };
 
-    ghost view = { λ b. row b.cells.items (vec_capacity b.cells) };
-
-    ghost invariant = { λ b. IsAllocationOf b.allocation b.cells b.heap };
+    ghost view = { λ b. row b.items.items (vec_capacity b.items) };
 }
 
 impl<E> Block<E> {
     ghost use Rattle.rt_nodes.specs.RowLends.{lends_item};
 
     /// No entry, in room for so many.
-    pub(crate) fn new(heap: Global, capacity: usize) -> Result<Self, AllocError>
+    pub(crate) fn new(alloc: Global, capacity: usize) -> Result<Self, AllocError>
         ensures { IfOk result (λ b. b ≡ row [] capacity) }
     {
-        if !may_hold::<E>(capacity) {
-            return Err(AllocError);
-        }
-        let (cells, allocation) = allocate(&heap, capacity)?;
-        Ok(Block {
-            cells,
-            allocation,
-            heap,
-        })
+        let items = Vec::with_capacity(alloc, capacity)?;
+        Ok(Block { items })
     }
 
     /// How many entries there are.
     pub(crate) fn len(&self) -> usize
         ensures { result ≡ length self.now.items }
     {
-        self.cells.len()
+        self.items.len()
     }
 
     /// An entry.
@@ -61,7 +46,7 @@ impl<E> Block<E> {
         requires { i < length self.now.items }
         ensures { result.now ≡ slice_index_or self.now.items i result.now }
     {
-        &self.cells[i]
+        &self.items[i]
     }
 
     /// An entry, for writing.
@@ -70,7 +55,7 @@ impl<E> Block<E> {
         ensures* writes_back { sem 𝓛 (lends_item E.row self.entry i result) }
         ensures value { result.now ≡ slice_index_or self.old.items i result.now }
     {
-        &mut self.cells[i]
+        &mut self.items[i]
     }
 
     /// Puts an entry in at `i`. There must be room.
@@ -79,7 +64,7 @@ impl<E> Block<E> {
         requires room { length self.old.items < self.old.capacity }
         ensures { self.new ≡ row (insert self.old.items i e) self.old.capacity }
     {
-        self.cells.insert_reserved(i, e);
+        insert_reserved(&mut self.items, i, e);
     }
 
     /// Moves the entries after the first `k` to the end of `to`, which must have room.
@@ -89,25 +74,41 @@ impl<E> Block<E> {
         ensures front { self.new ≡ row (take k self.old.items) self.old.capacity }
         ensures back { to.new ≡ row (to.old.items ++ drop k self.old.items) to.old.capacity }
     {
-        if k < self.cells.len() {
-            to.cells.append_tail(&mut self.cells, k);
-        }
+        pour(&mut self.items, k, &mut to.items);
     }
 }
 
-impl<E: Drop> Drop for Block<E> {
-    fn drop(self) {
-        let Block {
-            mut cells,
-            allocation,
-            heap,
-        } = self;
-        while cells.len() > 0 {
-            let last = cells.len() - 1;
-            drop(cells.remove(last));
-        }
-        let at = cells.as_mut_ptr();
-        let room = cells.capacity();
-        deallocate(&heap, at, room, cells, allocation);
+// Moves the elements of `from` after the first `k` to the end of `to`, which must have room.
+fn pour<T>(from: &mut Vec<T>, k: usize, to: &mut Vec<T>)
+    requires tail { k ≤ length from.old.items }
+    requires room { length to.old.items + (length from.old.items - k) ≤ vec_capacity to.old }
+    ensures from { from.new.items ≡ take k from.old.items }
+    ensures to { to.new.items ≡ to.old.items ++ drop k from.old.items }
+    ensures capacity { (vec_capacity from.new ≡ vec_capacity from.old) × (vec_capacity to.new ≡ vec_capacity to.old) }
+{
+    let end = to.len();
+    while from.len() > k {
+        let e = from.take_last();
+        insert_reserved(to, end, e);
     }
+}
+
+// Inserts `x` at `i`. There must be room.
+fn insert_reserved<T>(row: &mut Vec<T>, i: usize, x: T)
+    requires in_bounds { i ≤ length row.old.items }
+    requires room { length row.old.items < vec_capacity row.old }
+    ensures items { row.new.items ≡ insert row.old.items i x }
+    ensures len { length row.new.items ≡ length row.old.items + 1 }
+    ensures capacity { vec_capacity row.new ≡ vec_capacity row.old }
+{
+    row.push_reserved(x);
+    last_to(row.as_mut_slice(), i);
+}
+
+// Moves the last element to `index`, and the elements from there on up.
+fn last_to<T>(items: &mut [T], index: usize)
+    requires { index < length items.old }
+    ensures { (front : List T) (last : T) → items.old ≡ front ++ last ∷ [] → items.new ≡ insert front index last }
+{
+    items[index..].rotate_right(1);
 }

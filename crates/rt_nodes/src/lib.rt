@@ -2,16 +2,12 @@
 //! `specs/Nodes.antt` and `specs/Lends.antt`.
 #![tactic(auto)]
 
-mod allocation;
 mod block;
 mod memory;
-mod raw;
 #[cfg(test)]
 mod tests;
 
 // A crate can name a memory in a contract only if the types of its fields are exported.
-#[doc(hidden)]
-pub use allocation::Allocation;
 #[doc(hidden)]
 pub use block::Block;
 pub use memory::{NodeId, NodeMem};

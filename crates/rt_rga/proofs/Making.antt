@@ -1,15 +1,16 @@
 -- From drafts to operations.
-use Rattle.std.proofs.Common.{◌≡◌, ℕ, suc, ◌+◌, ◌<◌, ◌≤◌, refl, sym, ap, subst, ◌∙◌, arith, List, [], ◌∷◌, ◌++◌, ◌==◌, Bool, All, true, false, cond, map, max, length, drop, get_or, nat_lt, Some, None, Option}
+use Rattle.std.proofs.Common.{◌≡◌, ℕ, suc, ◌+◌, ◌<◌, ◌≤◌, refl, sym, ap, subst, ◌∙◌, arith, List, [], ◌∷◌, ◌++◌, ◌==◌, Bool, All, true, false, cond, map, max, length, drop, get_or, nat_le, nat_lt, not, ◌&&◌, Some, None, Option}
 use Rattle.std.proofs.lemmas.List.{append_assoc, drop_more, length-append, map-append}
 use Rattle.rt_oplog.specs.Edits.{body_of}
 use Rattle.rt_oplog.specs.Operations.{Operation, Body, Insert, Name, last_count, last_of, stamp_of}
 use Rattle.rt_oplog.specs.Rules.{keeps_rules}
 use Rattle.rt_oplog.specs.declared.op.Edit.{Edit}
 use Rattle.rt_rga.specs.Making.{AreNewest, ContinueInTurn, operations_from, refusal_from}
-use Rattle.rt_rga.specs.Made.{refusal_of}
+use Rattle.rt_rga.specs.Made.{refusal_of, unless_refused}
+use Rattle.rt_rga.proofs.Skipping.{split}
 use Rattle.rt_rga.specs.Cells.{cells_of}
-use Rattle.rt_rga.specs.Drafts.{AreDraftsFor, next_operation, operations_of}
-use Rattle.rt_rga.specs.Histories.{greatest_last_count}
+use Rattle.rt_rga.specs.Drafts.{AreDraftsFor, next_operation, operations_of, with_drafts}
+use Rattle.rt_rga.specs.Histories.{IsHistory, greatest_last_count}
 use Rattle.rt_oplog.specs.Logs.{known_end, with_operation}
 use Rattle.rt_stamps.specs.declared.limits.TheConstants.{GREATEST_COUNT}
 use Rattle.rt_stamps.specs.declared.fault.Fault.TheVariants.{ClockSpent, TextFull}
@@ -18,10 +19,10 @@ use Rattle.std.specs.List.{AllByRecursion}
 use Rattle.rt_rga.proofs.Drafting.{count_after, draft_continues, end_within, newest}
 use Rattle.rt_rga.proofs.Histories.{last_ge}
 use Rattle.rt_rga.proofs.Putting.{length_fresh}
-use Rattle.rt_rga.specs.Requests.{MayBeMade, characters_in_all, last_count_after}
+use Rattle.rt_rga.specs.Requests.{MayBeMade, characters_in_all, last_count_after, made_within}
 use Rattle.rt_rga.specs.Making.{fresh_by, fresh_cells}
 use Rattle.rt_rga.proofs.Replicas.{all_from_states}
-use Rattle.rt_rga.proofs.Requests.{drafts_for, not_less}
+use Rattle.rt_rga.proofs.Requests.{all_counted, drafts_for, not_less}
 use Rattle.rt_stamps.specs.declared.stamp.Stamp.{Stamp}
 use Rattle.rt_stamps.specs.declared.stamp.TheConstants.{ROOT}
 use Rattle.rt_store.specs.declared.cell.Cell.{Cell}
@@ -185,3 +186,26 @@ ready site limit drafts log ops p m r e =
 pub made_of : (one site last prev : ℕ) (drafts : List Body) (log : List Operation) → one ≡ site → last ≡ greatest_last_count log → prev ≡ known_end log site
     → operations_from one last prev drafts ≡ operations_of site drafts log
 made_of one site last prev drafts log s l p = (λ i. operations_from (s i) (l i) (p i) drafts) ∙ operations_are site drafts log
+
+-- a request makes what a replica does
+by_full : (full : Bool) (more set : List Operation) → cond (not full) more set ≡ unless_refused (cond full (Some TextFull) None) more set
+by_full true more set = refl
+by_full false more set = refl
+
+pub as_requested : (site limit : ℕ) (drafts : List Body) (set : List Operation) → 0 < site → IsHistory set → MayBeMade site set drafts
+    → made_within site limit drafts set ≡ unless_refused (refusal_of limit drafts set) (with_drafts site drafts set) set
+as_requested site limit drafts set p h m =
+    let more = with_drafts site drafts set in
+    let last = last_count_after (greatest_last_count set) drafts in
+    let full : Bool = nat_lt limit (length (cells_of set) + characters_in_all drafts) in
+    split (nat_lt GREATEST_COUNT last)
+    (λ spent. (
+        let e : nat_le last GREATEST_COUNT ≡ false = grind (arith, nat_tests, spent) in
+        ap (λ b. cond (b && nat_le (length (cells_of more)) limit) more set) e
+        ∙ sym (ap (λ b. unless_refused (cond b (Some ClockSpent) (cond full (Some TextFull) None)) more set) spent)))
+    (λ fits. (
+        let e : nat_le last GREATEST_COUNT ≡ true = grind (arith, nat_tests, fits) in
+        let l = all_counted site drafts set p h (drafts_for site set drafts m (grind (arith, nat_tests, fits))) in
+        let f : nat_le (length (cells_of more)) limit ≡ not full = grind (arith, nat_tests, l) in
+        (λ i. cond (e i && f i) more set) ∙ by_full full more set
+        ∙ sym (ap (λ b. unless_refused (cond b (Some ClockSpent) (cond full (Some TextFull) None)) more set) fits)))

@@ -23,9 +23,10 @@ use Rattle.rt_rga.specs.Cells.{cells_of, stamped_writes_on}
 use Rattle.rt_rga.specs.Changes.{changed, written_in_any}
 use Rattle.rt_rga.specs.Answers.{New, Refused, all_taken, answer_to, answer_within, can_never_be_known, has_gap, passes_end, taken, up_to}
 use Rattle.rt_rga.specs.Drafts.{AreDraftsFor, IsDraftFor, all_changed, next_operation, operations_of, with_drafts}
+use Rattle.rt_rga.specs.Made.{refusal_of, unless_refused}
 use Rattle.rt_rga.specs.Orders.{AreIn, ComeInTime, HasBasesIn}
 use Rattle.rt_rga.specs.Replicas.{IsReplica}
-use Rattle.rt_rga.specs.Requests.{AllMayBeAsked, MayBeMade, Offer, Request, after_requests, characters_in_all, last_count_after}
+use Rattle.rt_rga.specs.Requests.{AllMayBeAsked, Make, MayBeMade, Offer, Request, after_request, after_requests, characters_in_all, last_count_after}
 use Rattle.rt_store.specs.Shown.{shown}
 use Rattle.rt_store.specs.Spans.{gone_in_any, is_among, is_in_spans}
 use Rattle.rt_rga.specs.Texts.{tagged_text}
@@ -299,3 +300,11 @@ abbrev pub FinalIsKnown : Type 0
 FinalIsKnown =
     (set : List Operation) (on : Bool) (name : Name) (spans : List Span) (span : Span) → IsHistory set → (span.site == 0) ≡ true → is_span span ≡ true
     → list_all (is_known set (Tag on name spans)) (stamps_of_span span) ≡ ((span.first == 1) && (span.last == 1))
+
+-- WHAT IS MADE
+
+-- A request to make drafts does what a replica's `make` does: it makes the operations unless the drafts are refused.
+abbrev pub RequestsMakeUnlessRefused : Type 0
+RequestsMakeUnlessRefused =
+    (site limit : ℕ) (drafts : List Body) (set : List Operation) → 0 < site → IsHistory set → MayBeMade site set drafts
+    → after_request site limit (Make drafts) set ≡ unless_refused (refusal_of limit drafts set) (with_drafts site drafts set) set

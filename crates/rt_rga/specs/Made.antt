@@ -15,3 +15,8 @@ refusal_of limit drafts log =
     if nat_lt GREATEST_COUNT (last_count_after (greatest_last_count log) drafts) then Some ClockSpent
     else if nat_lt limit (length (cells_of log) + characters_in_all drafts) then Some TextFull
     else None
+
+-- what becomes of a set: the larger one where nothing is refused
+abbrev pub unless_refused : Option Fault → List Operation → List Operation → List Operation
+unless_refused None more set = more
+unless_refused (Some fault) more set = set

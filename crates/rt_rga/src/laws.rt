@@ -24,7 +24,7 @@ ghost use Rattle.rt_store.specs.Spans.{is_among};
 ghost use Rattle.rt_store.specs.Shown.{TaggedCell};
 ghost use Rattle.rt_store.specs.Written.{IsBelowNext, IsWritten};
 ghost use Rattle.rt_rga.specs.Names.{HasNames};
-ghost use Rattle.rt_rga.specs.Laws.{AllDraftsCountOn, BadSpansAreWithinEnd, BadTargetsStay, CellsAreChanged, CellsAreCharacters, CellsAreCounted, ClashFreeAreJoined, ClashFreeAreTaken, ConflictsAreClashes, ConflictsStay, DeleteIsKept, DeletesOfZeroAreBad, DraftsAreCounted, DraftsChangeInTurn, DraftsCountOn, DraftsFit, DraftsLeaveHistory, EitherOrderWillDo, EqualLogsShowEqualCells, EqualLogsShowEqualText, FinalIsKnown, FinalIsSpared, FullHasNone, GapsAreWithinEnd, GreatestDecide, InTimeIsTaken, InTimeIsTakenWithin, InsertFindsPlace, InsertIsKept, InsertsArePlaced, InsertsSkipGreater, MadeIsNew, NewHasItsBases, NewHasRoom, NewMakesLarger, NewestIsFirst, NewestSkipsNothing, OffersAddNew, RequestsKeepLimit, RequestsLeaveHistory, SelIsInNoState, SharedAreListed, SitesAgree, SpansAreKnown, SpansNameTheirStamps, TagIsKept, TagsOfZeroAreFinal};
+ghost use Rattle.rt_rga.specs.Laws.{AllDraftsCountOn, BadSpansAreWithinEnd, BadTargetsStay, CellsAreChanged, CellsAreCharacters, CellsAreCounted, ClashFreeAreJoined, ClashFreeAreTaken, ConflictsAreClashes, ConflictsStay, DeleteIsKept, DeletesOfZeroAreBad, DraftsAreCounted, DraftsChangeInTurn, DraftsCountOn, DraftsFit, DraftsLeaveHistory, EitherOrderWillDo, EqualLogsShowEqualCells, EqualLogsShowEqualText, FinalIsKnown, FinalIsSpared, FullHasNone, GapsAreWithinEnd, GreatestDecide, InTimeIsTaken, InTimeIsTakenWithin, InsertFindsPlace, InsertIsKept, InsertsArePlaced, InsertsSkipGreater, MadeIsNew, NewHasItsBases, NewHasRoom, NewMakesLarger, NewestIsFirst, NewestSkipsNothing, OffersAddNew, RequestsKeepLimit, RequestsLeaveHistory, RequestsMakeUnlessRefused, SelIsInNoState, SharedAreListed, SitesAgree, SpansAreKnown, SpansNameTheirStamps, TagIsKept, TagsOfZeroAreFinal};
 
 /// The reading of a history goes over its tree depth first, and no other list does. It can be had in
 /// one pass over the characters by rising stamp.
@@ -67,12 +67,14 @@ pub fn orders()
 
 /// Whatever is asked of a site's replica, offers and operations of its own, with refusals and repeats
 /// between: the set stays a history within the limit of cells, and loses nothing. Sites that come to
-/// have the same operations have equal cells.
+/// have the same operations have equal cells. A request to make operations does what `Replica::make`
+/// does.
 pub fn requests()
     ensures history { RequestsLeaveHistory }
     ensures limit { RequestsKeepLimit }
     ensures agree { SitesAgree }
     ensures kept { (site limit : ℕ) (requests : List Request) (set : List Operation) → AreIn set (after_requests site limit requests set) }
+    ensures makes { RequestsMakeUnlessRefused }
 {}
 
 /// Repeat is answered to what the history has. To another sound operation Conflict is answered just

@@ -99,6 +99,25 @@ fn type_ab(own: &mut Own) -> Result<Vec<Op>, Fault> {
     own.replica.make(drafts)
 }
 
+/// Types `x`.
+fn typed_one(alloc: Global) -> Result<Vec<Draft>, Fault>
+    ensures { IfOk result (λ drafts. map body_of drafts.items ≡ Insert (record { count = 0; site = 0 }) [] (120 ∷ []) ∷ []) }
+{
+    let mut drafts = Vec::new(alloc);
+    drafts.push(Draft::Insert {
+        after: ROOT,
+        tags: Vec::new(alloc),
+        text: Text::of('x'),
+    })?;
+    Ok(drafts)
+}
+
+// Types `x` at the beginning, whatever the log has.
+fn type_one(own: &mut Own) -> Result<Vec<Op>, Fault> {
+    let drafts = typed_one(own.alloc)?;
+    own.replica.make(drafts)
+}
+
 fn name(alloc: Global, of: &str) -> Result<String, Fault>
     ensures { IfOk result (λ name. string_bytes name ≡ of.now) }
 {
@@ -169,6 +188,7 @@ fn one_draft(rt: HostRuntime) -> Result<(), Fail> {
     assert_eq!(rt; ops.len(), 1);
     assert_eq!(rt; own.shown()?.as_str(), "ab\n");
     assert_eq!(rt; type_ab(&mut own).err(), Some(Fault::TextFull));
+    assert_eq!(rt; type_one(&mut own).err(), Some(Fault::TextFull));
     assert_eq!(rt; own.replica.log().len(), 1);
     assert_eq!(rt; own.shown()?.as_str(), "ab\n");
     Ok(())
@@ -191,6 +211,9 @@ fn several_drafts(rt: HostRuntime) -> Result<(), Fail> {
     let mut own = Own::new(rt.alloc(), 4)?;
     let ops = make_several(&mut own)?;
     assert_several(&rt, &own)?;
+    assert_eq!(rt; ops.len(), 5);
+    assert_eq!(rt; (ops[1].stamp(), ops[1].prev()), (Stamp { count: 3, site: 1 }, 2));
+    assert_eq!(rt; (ops[4].stamp(), ops[4].prev()), (Stamp { count: 6, site: 1 }, 5));
     let mut other = Own::new(rt.alloc(), 4)?;
     for op in ops {
         assert!(rt; matches!(other.replica.accept(op)?, Taken::New(_)));

@@ -189,10 +189,11 @@ impl<S: TextStore> Replica<S> {
     }
 
     /// Makes operations of the site's own, one of each draft, in order; all of them or none. Each draft
-    /// keeps the rules of `Op` and names what is known, or what a draft before it inserts. The counts
-    /// follow the greatest one that is known, and `prev` is the known end of the site. `ClockSpent`
-    /// where the counts would pass `GREATEST_COUNT`, `TextFull` where the cells would pass the limit;
-    /// `NoMemory` only where neither applies. After a fault all is as before, but for names and states
+    /// keeps the rules of `Op` and names what is known, or what a draft before it inserts. The first
+    /// count is one more than the greatest last count of the log, and the first `prev` the known end of
+    /// the site; each further operation goes on from the one before it. `ClockSpent` where the counts
+    /// would pass `GREATEST_COUNT`, else `TextFull` where the cells would pass the limit; then all is as
+    /// before. `NoMemory` only where neither applies, and then all is as before but for names and states
     /// that got numbers.
     pub fn make(&mut self, drafts: Vec<Draft>) -> Result<Vec<Op>, Fault>
         requires { MayBeMade self.old.site self.old.log (map body_of drafts.items) }

@@ -13,8 +13,7 @@ use rt_tags::StateId;
 use std::alloc::Global;
 use std::marker::Model;
 
-/// The cells of a text in the runs of a counted B-tree: each call that reads costs a logarithm of the
-/// number of runs.
+/// The cells of a text in the runs of a counted B-tree.
 #[derive(Drop)]
 pub struct Tree {
     mem: Mem,

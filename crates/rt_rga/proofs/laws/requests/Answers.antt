@@ -1,4 +1,5 @@
 use Rattle.rt_rga.proofs.Requests.{all_agree, all_history, all_in, all_room}
+use Rattle.rt_rga.proofs.Making.{as_requested}
 use Rattle.rt_rga.proofs.laws.requests.Goals as goal
 
 pub returns-clause-history : goal.returns-clause-history
@@ -12,3 +13,6 @@ returns-clause-kept c = all_in
 
 pub returns-clause-agree : goal.returns-clause-agree
 returns-clause-agree c = all_agree
+
+pub returns-clause-makes : goal.returns-clause-makes
+returns-clause-makes c = as_requested
