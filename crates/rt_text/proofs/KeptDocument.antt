@@ -5,12 +5,11 @@ use Rattle.std.specs.Prelude.{OnErr, nat_lt}
 use Rattle.std.proofs.lemmas.Bool.{cond-true, cond-false, le-ltb, lt-ltb}
 use Rattle.std.proofs.lemmas.List.{length-map}
 use Rattle.rt_marks.specs.Marks.{Mark}
-use Rattle.rt_stamps.specs.declared.limits.TheConstants.{MOST_CELLS, GREATEST_COUNT}
+use Rattle.rt_stamps.specs.declared.limits.TheConstants.{GREATEST_COUNT}
 use Rattle.rt_stamps.specs.declared.fault.Fault.TheVariants.{ClockSpent}
 use Rattle.rt_stamps.specs.Words.{Word}
 use Rattle.rt_store.specs.declared.cell.Cell.{Cell}
-use Rattle.rt_store.specs.Cells.{text_of, visible_of, AreDistinct, stamps_of}
-use Rattle.rt_store.specs.Tagged.{AreStates}
+use Rattle.rt_store.specs.Cells.{text_of, visible_of, stamps_of}
 use Rattle.rt_store.proofs.GivenStates.{kept_states}
 use Rattle.rt_tags.specs.States.{TagStates, IsState, KeepsIds, state_at}
 use Rattle.rt_tags.specs.Tags.{IsName, with_name, sel}
@@ -20,7 +19,7 @@ use Rattle.rt_text.specs.Commands.{clock_check}
 use Rattle.rt_text.specs.Kept.{IsDoc}
 use Rattle.rt_edits.specs.Flat.{Flat}
 use Rattle.rt_store.specs.Shown.{TaggedCell, shown}
-use Rattle.rt_store.specs.Written.{AreBelowNext, AreWritten}
+use Rattle.rt_store.specs.Written.{AreWritten}
 use Rattle.rt_edits.specs.Listed.{AreListed}
 use Rattle.rt_edits.specs.Removals.{stamps_at}
 use Rattle.rt_text.specs.Widgets.{AreSiteMarks}
