@@ -200,12 +200,12 @@ as_requested site limit drafts set p h m =
     let full : Bool = nat_lt limit (length (cells_of set) + characters_in_all drafts) in
     split (nat_lt GREATEST_COUNT last)
     (λ spent. (
-        let e : nat_le last GREATEST_COUNT ≡ false = grind (arith, nat_tests, spent) in
-        ap (λ b. cond (b && nat_le (length (cells_of more)) limit) more set) e
-        ∙ sym (ap (λ b. unless_refused (cond b (Some ClockSpent) (cond full (Some TextFull) None)) more set) spent)))
+    let e : nat_le last GREATEST_COUNT ≡ false = grind (arith, nat_tests, spent) in
+    ap (λ b. cond (b && nat_le (length (cells_of more)) limit) more set) e
+    ∙ sym (ap (λ b. unless_refused (cond b (Some ClockSpent) (cond full (Some TextFull) None)) more set) spent)))
     (λ fits. (
-        let e : nat_le last GREATEST_COUNT ≡ true = grind (arith, nat_tests, fits) in
-        let l = all_counted site drafts set p h (drafts_for site set drafts m (grind (arith, nat_tests, fits))) in
-        let f : nat_le (length (cells_of more)) limit ≡ not full = grind (arith, nat_tests, l) in
-        (λ i. cond (e i && f i) more set) ∙ by_full full more set
-        ∙ sym (ap (λ b. unless_refused (cond b (Some ClockSpent) (cond full (Some TextFull) None)) more set) fits)))
+    let e : nat_le last GREATEST_COUNT ≡ true = grind (arith, nat_tests, fits) in
+    let l = all_counted site drafts set p h (drafts_for site set drafts m (grind (arith, nat_tests, fits))) in
+    let f : nat_le (length (cells_of more)) limit ≡ not full = grind (arith, nat_tests, l) in
+    (λ i. cond (e i && f i) more set) ∙ by_full full more set
+    ∙ sym (ap (λ b. unless_refused (cond b (Some ClockSpent) (cond full (Some TextFull) None)) more set) fits)))

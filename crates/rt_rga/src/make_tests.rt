@@ -212,8 +212,14 @@ fn several_drafts(rt: HostRuntime) -> Result<(), Fail> {
     let ops = make_several(&mut own)?;
     assert_several(&rt, &own)?;
     assert_eq!(rt; ops.len(), 5);
-    assert_eq!(rt; (ops[1].stamp(), ops[1].prev()), (Stamp { count: 3, site: 1 }, 2));
-    assert_eq!(rt; (ops[4].stamp(), ops[4].prev()), (Stamp { count: 6, site: 1 }, 5));
+    assert_eq!(rt;
+        (ops[1].stamp(), ops[1].prev()),
+        (Stamp { count: 3, site: 1 }, 2)
+    );
+    assert_eq!(rt;
+        (ops[4].stamp(), ops[4].prev()),
+        (Stamp { count: 6, site: 1 }, 5)
+    );
     let mut other = Own::new(rt.alloc(), 4)?;
     for op in ops {
         assert!(rt; matches!(other.replica.accept(op)?, Taken::New(_)));
