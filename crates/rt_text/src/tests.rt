@@ -135,6 +135,17 @@ fn counts_of_the_last_newline(rt: HostRuntime) -> Result<(), Fail> {
     let down_to_the_end = words(alloc, &["1.1", "end"])?;
     let mut page = page_of_counts(alloc, 3)?;
     assert_eq!(rt; page.delete(&down_to_the_end), Ok(()));
+    assert_eq!(rt; page.text()?.as_str(), "a\n");
+    assert_eq!(rt;
+        (page.next_tagged("t"), page.next_untagged("t")),
+        (Some(0), Some(1))
+    );
+    assert_eq!(rt;
+        (page.next_tagged("u"), page.next_untagged("u")),
+        (Some(0), Some(1))
+    );
+    assert_eq!(rt; page.next_tagged("sel"), None);
+    assert!(rt; !page.others[0].has(FINAL) && page.others[0].has(stamp(1)));
     assert_eq!(rt; page.insert("c"), Err(Fault::ClockSpent));
     let mut page = page_of_counts(alloc, 2)?;
     assert_eq!(rt; page.delete(&down_to_the_end), Err(Fault::ClockSpent));
