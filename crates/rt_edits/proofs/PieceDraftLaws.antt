@@ -23,6 +23,7 @@ use Rattle.rt_rga.specs.Cells.{cells_of}
 use Rattle.rt_rga.specs.Drafts.{next_operation, with_drafts}
 use Rattle.rt_rga.specs.Histories.{IsHistory, greatest_last_count, has_character}
 use Rattle.rt_rga.specs.Requests.{MayBeMade, last_count_after}
+use Rattle.rt_rga.proofs.Appending.{drafts_append, may_append}
 use Rattle.rt_rga.proofs.Corollaries.{cells_distinct, root_absent}
 use Rattle.rt_rga.proofs.Drafting.{count_after}
 use Rattle.rt_rga.proofs.Requests.{all_count_on}
@@ -31,7 +32,7 @@ use Rattle.rt_edits.specs.Flat.{put_after}
 use Rattle.rt_edits.specs.InsertionDrafts.{behind, insertion_drafts, inserts_of, pieces_drafts, tags_on, text_drafts}
 use Rattle.rt_edits.specs.Insertions.{Insertion, Piece, cells_of_inserts, counts_for, further_tags, insertion_of, inserts_for, last_of, new_state, shared_names, tagged_cells, tags_between, with_listed, with_pieces, with_unlisted}
 use Rattle.rt_edits.specs.NamedSpans.{first_parts}
-use Rattle.rt_edits.proofs.DraftSteps.{drafts_append, may_append, stays_character}
+use Rattle.rt_edits.proofs.DraftSteps.{stays_character}
 use Rattle.rt_edits.proofs.InsertDraftLaws.{put_behind, tags_counted}
 use Rattle.rt_edits.proofs.InsertRules.{new_characters, text_is_counted, text_is_made, text_may}
 use Rattle.rt_edits.proofs.NamedSpanLaws.{IsCut, cut, cut_more, cut_some}

@@ -17,6 +17,7 @@ use Rattle.rt_rga.specs.Cells.{cells_of}
 use Rattle.rt_rga.specs.Drafts.{with_drafts}
 use Rattle.rt_rga.specs.Histories.{IsHistory, greatest_last_count}
 use Rattle.rt_rga.specs.Requests.{MayBeMade, last_count_after}
+use Rattle.rt_rga.proofs.Appending.{drafts_append, may_append}
 use Rattle.rt_rga.proofs.Corollaries.{cells_distinct}
 use Rattle.rt_rga.proofs.Drafting.{made}
 use Rattle.rt_rga.proofs.Requests.{all_count_on, drafts_for}
@@ -26,7 +27,7 @@ use Rattle.rt_edits.specs.Removals.{cells_at, operations_for, span_count}
 use Rattle.rt_edits.specs.TagDrafts.{deletion_drafts, tag_drafts, tag_drafts_at, tags_drafts_at}
 use Rattle.rt_edits.specs.TagWrites.{changed_stamps, is_changed, tagged, with_tag_at, with_tags_at, without_tags}
 use Rattle.rt_edits.proofs.DistinctLaws.{stamps_within}
-use Rattle.rt_edits.proofs.DraftSteps.{AreKnownCells, drafts_append, known_cells, known_later, may_append}
+use Rattle.rt_edits.proofs.DraftSteps.{AreKnownCells, known_cells, known_later}
 use Rattle.rt_edits.proofs.Putting.{distinct_cells_at, stamps_at_cells, tagged_state}
 use Rattle.rt_edits.proofs.StateChanges.{stamps_changed}
 use Rattle.rt_edits.proofs.TagDraftLaws.{tags_as_flat, tags_counted, tags_may_be_made}
