@@ -1,5 +1,6 @@
 pub mod CellLaws
 pub mod ChosenLaws
+pub mod DeletionDraftLaws
 pub mod DistinctLaws
 pub mod DraftSteps
 pub mod GoneLaws

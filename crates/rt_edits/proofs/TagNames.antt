@@ -11,12 +11,12 @@ use Rattle.std.proofs.lemmas.List.Elements.{All-filter}
 use Rattle.std.proofs.lemmas.Option.{slice_get_cases}
 use Rattle.rt_stamps.specs.declared.limits.TheConstants.{MOST_CHARACTERS, MOST_TAGS}
 use Rattle.rt_stamps.specs.declared.stamp.Stamp.{Stamp}
-use Rattle.rt_stamps.specs.declared.stamp.TheConstants.{ROOT}
+use Rattle.rt_stamps.specs.declared.stamp.TheConstants.{FINAL, ROOT}
 use Rattle.rt_stamps.specs.Names.{name_order}
 use Rattle.rt_stamps.specs.Words.{Word}
 use Rattle.rt_oplog.specs.Operations.{Operation, Body, Insert, Delete, Tag, stamp_of}
 use Rattle.rt_oplog.specs.Rules.{are_tags, is_less, is_lesser_name, is_name, is_text, is_within, keeps_rules}
-use Rattle.rt_tags.specs.States.{IsByName, Write, above, below, is_on, is_settled, written}
+use Rattle.rt_tags.specs.States.{IsByName, Write, above, below, is_on, is_settled, names_on, written}
 use Rattle.rt_tags.specs.Tags.{sel}
 use Rattle.rt_tags.specs.Writers.{listed_by, state_after}
 use Rattle.rt_tags.proofs.Sorted.{every_append}
@@ -24,8 +24,8 @@ use Rattle.rt_store.specs.Cells.{cells_from, visible_of}
 use Rattle.rt_store.specs.Shown.{TaggedCell}
 use Rattle.rt_store.specs.Spans.{each_next, is_in_spans}
 use Rattle.rt_store.proofs.Shown.{filter_map}
-use Rattle.rt_rga.specs.Cells.{cells_of, writes_by, writes_on}
-use Rattle.rt_rga.specs.Histories.{IsHistory, characters_from}
+use Rattle.rt_rga.specs.Cells.{cell_in, cells_of, writes_by, writes_on}
+use Rattle.rt_rga.specs.Histories.{IsHistory, characters_from, final_character}
 use Rattle.rt_rga.specs.Reading.{has_stamp}
 use Rattle.rt_rga.proofs.Corollaries.{all_states}
 use Rattle.rt_rga.proofs.Writes.{state_sorted}
@@ -35,10 +35,10 @@ use Rattle.rt_edits.proofs.PieceDraftLaws.{listed_more}
 
 -- NAMES IN STATES
 
-abbrev IsNamed : Write → Type 0
+abbrev pub IsNamed : Write → Type 0
 IsNamed w = is_name w.name ≡ true
 
-record AreNamed (state : List Write) : Type 0 where
+pub record AreNamed (state : List Write) : Type 0 where
   pub by_name : IsByName state
   pub named : AllByRecursion IsNamed state
 
@@ -169,6 +169,17 @@ neighbour_named log (suc p) h =
         → HasNamed (slice_get (visible_of (cells_of log)) p)
     by all (inl w) = subst HasNamed (sym w.2) (subst (λ (cell : TaggedCell). AreNamed cell.state) w.3 (all p w.0 w.1))
     by all (inr w) = subst HasNamed (sym w.1) tt
+
+-- THE TAGS ON CELLS
+
+pub on_names : (state : List Write) → AreNamed state → AreTagNames (names_on state)
+on_names state h = names_are (filter (λ (w : Write). w.on) state) (some_named (λ (w : Write). w.on) state h)
+
+pub cells_have_names : (log : List Operation) → IsHistory log → All (λ (cell : TaggedCell). AreTagNames (names_on cell.state)) (cells_of log)
+cells_have_names log h = λ i d l. on_names (get_or (cells_of log) i d).state (cells_are_named log h i d l)
+
+pub final_names : (log : List Operation) → IsHistory log → AreTagNames (names_on (cell_in log final_character).state)
+final_names log h = on_names (cell_in log final_character).state (after_writes (writes_on log FINAL) (writes_named log h FINAL))
 
 -- NEW CELLS
 

@@ -13,6 +13,7 @@ ghost use Rattle.rt_store.specs.Shown.{TaggedCell};
 ghost use Rattle.rt_edits.specs.Insertions.{tagged_cells};
 ghost use Rattle.rt_edits.specs.Merging.{begins_line};
 ghost use Rattle.rt_edits.specs.Removals.{cells_at, gone_at, is_removed, left_at, span_count};
+ghost use Rattle.rt_edits.specs.DeletionLaws.{RangesAreCounted, RangesAreDeleted, RangesMayBeDeleted, RangesSpareLast};
 ghost use Rattle.rt_edits.specs.DraftLaws.{AllTagsAreCounted, DeletesAreCounted, DeletesMakeGone, DeletesMayBeMade, DeletionsAreCounted, DeletionsAreMade, DeletionsMayBeMade, InsertionIsCounted, InsertionIsMade, InsertionMayBeMade, NewlineHasOneTagEach, RemovalIsMade, SharedNamesAreTags, TagsAreCounted, TagsAreMade, TagsBetweenAreTags, TagsMayBeMade, TagsWriteAsFlat, TextIsCounted, TextIsMade, TextIsPutAsFlat, TextMayBeMade};
 ghost use Rattle.rt_edits.specs.NamedSpans.{spans_in};
 ghost use Rattle.rt_store.specs.Spans.{each_next, is_among, is_clear_of, is_in_spans, is_span};
@@ -83,6 +84,17 @@ pub fn removal_drafts()
     ensures count { DeletesAreCounted }
     ensures may_be_made { DeletesMayBeMade }
     ensures made { RemovalIsMade }
+{}
+
+/// The operations of a deletion of ranges may be made, also where their counts don't fit: the Tags behind
+/// the Deletes name the last newline, which each set knows, and which no removal takes. They take as
+/// many counts as the deletion does. So where these fit, a document that has the cells of a history has,
+/// without the characters in the ranges, those of the history with the operations.
+pub fn delete_drafts()
+    ensures spared { RangesSpareLast }
+    ensures may_be_made { RangesMayBeDeleted }
+    ensures count { RangesAreCounted }
+    ensures made { RangesAreDeleted }
 {}
 
 /// The Tag operations of a tag edit write on just the characters that they name, under the counts of
