@@ -1,5 +1,5 @@
 -- What the operations of a deletion do.
-use Rattle.std.proofs.Common.{◌≡◌, ℕ, zero, suc, ◌+◌, ◌-◌, ◌<◌, ◌≤◌, List, [], ◌∷◌, ◌++◌, Bool, true, false, cond, not, ◌&&◌, ◌||◌, length, refl, sym, ◌∙◌, ap, subst, arith, add-zero, nat_lt}
+use Rattle.std.proofs.Common.{◌≡◌, ℕ, ◌+◌, ◌-◌, ◌<◌, ◌≤◌, List, [], ◌∷◌, ◌++◌, Bool, true, false, cond, not, ◌&&◌, ◌||◌, length, refl, sym, ◌∙◌, ap, subst, arith, add-zero, nat_lt}
 use Rattle.std.specs.List.{AllByRecursion, IsDistinct, list_all}
 use Rattle.std.proofs.lemmas.Bool.{and_from, and_parts, or_right, cond-false, cond-true}
 use Rattle.std.proofs.lemmas.Bool.Decides.{nat_tests}
@@ -13,7 +13,7 @@ use Rattle.rt_oplog.specs.Rules.{are_spans, is_name}
 use Rattle.rt_store.specs.Cells.{AreDistinct, stamps_of, text_of, visible_of}
 use Rattle.rt_store.specs.Shown.{TaggedCell}
 use Rattle.rt_store.proofs.Distinct.{split}
-use Rattle.rt_rga.specs.Cells.{cell_in, cells_of}
+use Rattle.rt_rga.specs.Cells.{cell_in}
 use Rattle.rt_rga.specs.Drafts.{next_operation, with_drafts}
 use Rattle.rt_rga.specs.Histories.{IsHistory, final_character, greatest_last_count, has_character}
 use Rattle.rt_rga.specs.Requests.{MayBeMade, last_count_after}
@@ -32,7 +32,7 @@ use Rattle.rt_edits.specs.Removals.{gone_at, is_covered, is_removed}
 use Rattle.rt_edits.specs.TagDrafts.{newline_drafts, tags_drafts_at}
 use Rattle.rt_edits.specs.TagWrites.{with_tags_at}
 use Rattle.rt_edits.proofs.NewlineDrafts.{EndsAs, document_ends, last_tags_are, length_ends, newline_each}
-use Rattle.rt_edits.proofs.RemovalDraftLaws.{IsLarger, removal_counted, removal_made, removal_may}
+use Rattle.rt_edits.proofs.RemovalDraftLaws.{removal_counted, removal_made, removal_may}
 use Rattle.rt_edits.proofs.TagDocuments.{tags_count, tags_grow, tags_made}
 use Rattle.rt_edits.proofs.TagNames.{final_names}
 
@@ -104,12 +104,12 @@ each_of : (names : List Word) → list_all is_name names ≡ true → AllByRecur
 each_of [] h = tt
 each_of (name ∷ names) h = let p = and_parts (is_name name) (list_all is_name names) h in (p.0, each_of names p.1)
 
-last_names : (site : ℕ) (log : List Operation) (flat : Flat) → IsHistory log → IsDocument site log flat → list_all is_name (last_tags flat) ≡ true
+pub last_names : (site : ℕ) (log : List Operation) (flat : Flat) → IsHistory log → IsDocument site log flat → list_all is_name (last_tags flat) ≡ true
 last_names site log flat h doc =
     ap (list_all is_name) (last_tags_are flat (cells_last log h).0 (cell_in log final_character) (document_ends site log flat h doc)) ∙ (final_names log h).each
 
 -- the removal leaves them
-same_tags : (site : ℕ) (log : List Operation) (flat : Flat) (removed : ℕ → Bool) → IsHistory log → IsDocument site log flat → SparesLast removed (text_of flat.cells)
+pub same_tags : (site : ℕ) (log : List Operation) (flat : Flat) (removed : ℕ → Bool) → IsHistory log → IsDocument site log flat → SparesLast removed (text_of flat.cells)
     → last_tags (without_places flat removed) ≡ last_tags flat
 same_tags site log flat removed h doc s =
     let front = (cells_last log h).0 in

@@ -3,6 +3,7 @@ pub mod ChosenLaws
 pub mod DeletionDraftLaws
 pub mod DistinctLaws
 pub mod DraftSteps
+pub mod FoundLaws
 pub mod GoneLaws
 pub mod InsertDraftLaws
 pub mod InsertRules
@@ -20,6 +21,7 @@ pub mod Planning
 pub mod Putting
 pub mod RemovalDraftLaws
 pub mod RemovedText
+pub mod ReplacementLaws
 pub mod Selecting
 pub mod SelectionLaws
 pub mod Shown

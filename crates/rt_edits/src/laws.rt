@@ -13,7 +13,7 @@ ghost use Rattle.rt_store.specs.Shown.{TaggedCell};
 ghost use Rattle.rt_edits.specs.Insertions.{tagged_cells};
 ghost use Rattle.rt_edits.specs.Merging.{begins_line};
 ghost use Rattle.rt_edits.specs.Removals.{cells_at, gone_at, is_removed, left_at, span_count};
-ghost use Rattle.rt_edits.specs.DeletionLaws.{RangesAreCounted, RangesAreDeleted, RangesMayBeDeleted, RangesSpareLast};
+ghost use Rattle.rt_edits.specs.DeletionLaws.{CellsHaveTagNames, CharactersAreScalars, LeftIsElement, LeftStaysElement, RangesAreCounted, RangesAreDeleted, RangesMayBeDeleted, RangesSpareLast, ReplacementIsCounted, ReplacementIsMade, ReplacementMayBeMade, TagsLeftAreTags};
 ghost use Rattle.rt_edits.specs.DraftLaws.{AllTagsAreCounted, DeletesAreCounted, DeletesMakeGone, DeletesMayBeMade, DeletionsAreCounted, DeletionsAreMade, DeletionsMayBeMade, InsertionIsCounted, InsertionIsMade, InsertionMayBeMade, NewlineHasOneTagEach, RemovalIsMade, SharedNamesAreTags, TagsAreCounted, TagsAreMade, TagsBetweenAreTags, TagsMayBeMade, TagsWriteAsFlat, TextIsCounted, TextIsMade, TextIsPutAsFlat, TextMayBeMade};
 ghost use Rattle.rt_edits.specs.NamedSpans.{spans_in};
 ghost use Rattle.rt_store.specs.Spans.{each_next, is_among, is_clear_of, is_in_spans, is_span};
@@ -95,6 +95,27 @@ pub fn delete_drafts()
     ensures may_be_made { RangesMayBeDeleted }
     ensures count { RangesAreCounted }
     ensures made { RangesAreDeleted }
+{}
+
+/// The operations of a replacement are those of a deletion, and then those of an insertion into what it
+/// leaves. They may be made where the insertion may, and take as many counts. So where these fit, the
+/// cells of the history with them are those of the one flat edit after the other.
+pub fn replacement_drafts()
+    ensures may_be_made { ReplacementMayBeMade }
+    ensures count { ReplacementIsCounted }
+    ensures made { ReplacementIsMade }
+{}
+
+/// What an insertion asks holds in the cells of a history, and in what a deletion leaves of them, also
+/// where its counts don't fit: the visible left neighbour of a place below the text's end is an element,
+/// and the tags on characters, and those that both neighbours have, are names that rise by their bytes.
+/// The characters of a `str` are scalar values.
+pub fn insertion_premises()
+    ensures element { LeftIsElement }
+    ensures element_left { LeftStaysElement }
+    ensures names { CellsHaveTagNames }
+    ensures names_left { TagsLeftAreTags }
+    ensures characters { CharactersAreScalars }
 {}
 
 /// The Tag operations of a tag edit write on just the characters that they name, under the counts of
