@@ -1,4 +1,5 @@
 pub mod CellLaws
+pub mod CharacterCounts
 pub mod ChosenLaws
 pub mod DeletionDraftLaws
 pub mod DistinctLaws

@@ -229,7 +229,7 @@ pub listed_more : (site : ℕ) (so_far : Insertion) (tags : List Word) (text : L
 listed_more site so_far tags [] = record { cells = sym (append-nil so_far.cells); count = omega arith }
 listed_more site so_far tags (c ∷ text) = record { cells = refl; count = refl }
 
-unlisted_more : (site : ℕ) (left right : Option TaggedCell) (so_far : Insertion) (text : List ℕ) → IsMore site so_far (with_unlisted site left right text so_far) (tags_between left right) text
+pub unlisted_more : (site : ℕ) (left right : Option TaggedCell) (so_far : Insertion) (text : List ℕ) → IsMore site so_far (with_unlisted site left right text so_far) (tags_between left right) text
 unlisted_more site left right so_far [] = record { cells = sym (append-nil so_far.cells); count = omega arith }
 unlisted_more site left right so_far (c ∷ text) = record { cells = refl; count = refl }
 

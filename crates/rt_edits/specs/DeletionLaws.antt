@@ -11,7 +11,7 @@ use Rattle.rt_tags.specs.States.{names_on}
 use Rattle.rt_rga.specs.Cells.{cells_of}
 use Rattle.rt_rga.specs.Drafts.{with_drafts}
 use Rattle.rt_rga.specs.Histories.{IsHistory, greatest_last_count}
-use Rattle.rt_rga.specs.Requests.{MayBeMade}
+use Rattle.rt_rga.specs.Requests.{MayBeMade, characters_in_all}
 use Rattle.rt_edits.specs.declared.range.Range.{Range}
 use Rattle.rt_edits.specs.Deletions.{delete_drafts, without_text_in}
 use Rattle.rt_edits.specs.DraftLaws.{AreTagNames, AreTexts, IsDocument, IsElement, IsInsertion, SparesLast}
@@ -42,6 +42,9 @@ RangesAreDeleted =
     (site : ℕ) (log : List Operation) (flat : Flat) (ranges : List Range) → 0 < site → IsHistory log → IsDocument site log flat
     → (without_text_in flat ranges).count ≤ GREATEST_COUNT
     → IsDocument site (with_drafts site (delete_drafts MOST_SPANS flat ranges) log) (without_text_in flat ranges)
+
+abbrev pub RangesInsertNone : Type 0
+RangesInsertNone = (flat : Flat) (ranges : List Range) → characters_in_all (delete_drafts MOST_SPANS flat ranges) ≡ 0
 
 -- REPLACEMENTS: a deletion, and then an insertion into what it leaves
 

@@ -16,7 +16,7 @@ use Rattle.rt_tags.specs.Tags.{sel}
 use Rattle.rt_rga.specs.Cells.{cells_of}
 use Rattle.rt_rga.specs.Drafts.{all_changed, operations_of, with_drafts}
 use Rattle.rt_rga.specs.Histories.{IsHistory, greatest_last_count, has_character}
-use Rattle.rt_rga.specs.Requests.{MayBeMade}
+use Rattle.rt_rga.specs.Requests.{MayBeMade, characters_in_all}
 use Rattle.rt_edits.specs.Deletions.{without_places}
 use Rattle.rt_edits.specs.Flat.{Flat, put_after}
 use Rattle.rt_edits.specs.InsertionDrafts.{insertion_drafts, text_drafts}
@@ -212,3 +212,17 @@ InsertionIsCounted =
     → start.count ≡ greatest_last_count log
     → greatest_last_count (with_drafts site (insertion_drafts MOST_CHARACTERS site after left right pieces rest start) log)
     ≡ (insertion_of site left right pieces rest start).count
+
+-- Whether the cells fit is told by the new cells of the flat edit: tags and removals insert no characters.
+abbrev pub TagsInsertNone : Type 0
+TagsInsertNone =
+    (flat : Flat) (places : ℕ → Bool) (on : Bool) (names : List Word) → characters_in_all (tags_drafts_at MOST_SPANS flat places on names) ≡ 0
+
+abbrev pub DeletionsInsertNone : Type 0
+DeletionsInsertNone = (flat : Flat) (names : List Word) → characters_in_all (deletion_drafts MOST_SPANS flat names) ≡ 0
+
+abbrev pub InsertionHasNewCells : Type 0
+InsertionHasNewCells =
+    (site : ℕ) (after : Stamp) (left right : Option TaggedCell) (pieces : List Piece) (rest : Word) (start : Insertion)
+    → length start.cells + characters_in_all (insertion_drafts MOST_CHARACTERS site after left right pieces rest start)
+    ≡ length (insertion_of site left right pieces rest start).cells

@@ -1,3 +1,4 @@
+use Rattle.rt_edits.proofs.CharacterCounts.{ranges_insert_none}
 use Rattle.rt_edits.proofs.DeletionDraftLaws.{ranges_counted, ranges_deleted, ranges_may, spares_last}
 use Rattle.rt_edits.proofs.laws.delete_drafts.Goals as goal
 
@@ -12,3 +13,6 @@ returns-clause-count c = ranges_counted
 
 pub returns-clause-made : goal.returns-clause-made
 returns-clause-made c = ranges_deleted
+
+pub returns-clause-characters : goal.returns-clause-characters
+returns-clause-characters c = ranges_insert_none
