@@ -19,6 +19,7 @@ pub mod PieceDraftLaws
 pub mod PlaceLaws
 pub mod PlanLaws
 pub mod Planning
+pub mod PremiseLaws
 pub mod Putting
 pub mod RemovalDraftLaws
 pub mod RemovedText

@@ -3,6 +3,7 @@ use Rattle.std.specs.Prelude.{◌≡◌, ℕ, ◌<◌, ◌≤◌, All, List, [],
 use Rattle.std.specs.Str.{IsUtf8, all_scalars, chars}
 use Rattle.rt_stamps.specs.declared.limits.TheConstants.{GREATEST_COUNT, MOST_CHARACTERS, MOST_SPANS}
 use Rattle.rt_stamps.specs.declared.stamp.Stamp.{Stamp}
+use Rattle.rt_stamps.specs.Names.{IsName}
 use Rattle.rt_stamps.specs.Words.{Word}
 use Rattle.rt_oplog.specs.Operations.{Operation}
 use Rattle.rt_store.specs.Cells.{text_of, visible_of}
@@ -101,3 +102,31 @@ TagsLeftAreTags =
 -- The characters of a text's bytes are scalar values.
 abbrev pub CharactersAreScalars : Type 0
 CharactersAreScalars = (bytes : List ℕ) → IsUtf8 bytes → all_scalars (chars bytes) ≡ true
+
+-- WHERE THE LAWS OF INSERTIONS HOLD
+
+-- a piece's words are UTF-8, and its names as long as names may be
+pub record IsPiece (piece : Piece) : Type 0 where
+  pub text : IsUtf8 piece.text
+  pub names : All (λ name. IsUtf8 name × IsName name) piece.tags
+
+abbrev pub PiecesAreTexts : Type 0
+PiecesAreTexts = (pieces : List Piece) → All IsPiece pieces → AreTexts pieces
+
+-- Before each place below the text's end.
+abbrev pub InsertionsMayBegin : Type 0
+InsertionsMayBegin =
+    (site : ℕ) (log : List Operation) (flat : Flat) (place : ℕ) (right : Option TaggedCell) (pieces : List Piece) (rest : Word) (start : Insertion)
+    → IsHistory log → IsDocument site log flat → place < length (text_of flat.cells) → AreTexts pieces → IsUtf8 rest
+    → start.cells ≡ [] → start.count ≡ flat.count
+    → IsInsertion site log (left_of flat.cells place) (left_neighbour (visible_of flat.cells) place) right pieces rest start
+
+-- The same in what a deletion leaves, also where its counts don't fit.
+abbrev pub ReplacementsMayBegin : Type 0
+ReplacementsMayBegin =
+    (site : ℕ) (log : List Operation) (flat : Flat) (ranges : List Range) (place : ℕ) (right : Option TaggedCell) (pieces : List Piece)
+    (rest : Word) (start : Insertion) → IsHistory log → IsDocument site log flat
+    → let left = without_text_in flat ranges in
+    place < length (text_of left.cells) → AreTexts pieces → IsUtf8 rest → start.cells ≡ [] → start.count ≡ left.count
+    → IsInsertion site (with_drafts site (delete_drafts MOST_SPANS flat ranges) log) (left_of left.cells place)
+    (left_neighbour (visible_of left.cells) place) right pieces rest start

@@ -13,7 +13,7 @@ ghost use Rattle.rt_store.specs.Shown.{TaggedCell};
 ghost use Rattle.rt_edits.specs.Insertions.{tagged_cells};
 ghost use Rattle.rt_edits.specs.Merging.{begins_line};
 ghost use Rattle.rt_edits.specs.Removals.{cells_at, gone_at, is_removed, left_at, span_count};
-ghost use Rattle.rt_edits.specs.DeletionLaws.{CellsHaveTagNames, CharactersAreScalars, LeftIsElement, LeftStaysElement, RangesAreCounted, RangesAreDeleted, RangesInsertNone, RangesMayBeDeleted, RangesSpareLast, ReplacementIsCounted, ReplacementIsMade, ReplacementMayBeMade, TagsLeftAreTags};
+ghost use Rattle.rt_edits.specs.DeletionLaws.{CellsHaveTagNames, CharactersAreScalars, InsertionsMayBegin, LeftIsElement, LeftStaysElement, PiecesAreTexts, RangesAreCounted, RangesAreDeleted, RangesInsertNone, RangesMayBeDeleted, RangesSpareLast, ReplacementIsCounted, ReplacementIsMade, ReplacementMayBeMade, ReplacementsMayBegin, TagsLeftAreTags};
 ghost use Rattle.rt_edits.specs.DraftLaws.{AllTagsAreCounted, DeletesAreCounted, DeletesMakeGone, DeletesMayBeMade, DeletionsAreCounted, DeletionsAreMade, DeletionsInsertNone, DeletionsMayBeMade, InsertionHasNewCells, InsertionIsCounted, InsertionIsMade, InsertionMayBeMade, NewlineHasOneTagEach, RemovalIsMade, SharedNamesAreTags, TagsAreCounted, TagsAreMade, TagsBetweenAreTags, TagsInsertNone, TagsMayBeMade, TagsWriteAsFlat, TextIsCounted, TextIsMade, TextIsPutAsFlat, TextMayBeMade};
 ghost use Rattle.rt_edits.specs.NamedSpans.{spans_in};
 ghost use Rattle.rt_store.specs.Spans.{each_next, is_among, is_clear_of, is_in_spans, is_span};
@@ -111,13 +111,17 @@ pub fn replacement_drafts()
 /// What an insertion asks holds in the cells of a history, and in what a deletion leaves of them, also
 /// where its counts don't fit: the visible left neighbour of a place below the text's end is an element,
 /// and the tags on characters, and those that both neighbours have, are names that rise by their bytes.
-/// The characters of a `str` are scalar values.
+/// The characters of a `str` are scalar values. So pieces whose names are as long as names may be, and
+/// characters without a list, may be inserted before each place below the end.
 pub fn insertion_premises()
     ensures element { LeftIsElement }
     ensures element_left { LeftStaysElement }
     ensures names { CellsHaveTagNames }
     ensures names_left { TagsLeftAreTags }
     ensures characters { CharactersAreScalars }
+    ensures pieces { PiecesAreTexts }
+    ensures insertion { InsertionsMayBegin }
+    ensures replacement { ReplacementsMayBegin }
 {}
 
 /// The Tag operations of a tag edit write on just the characters that they name, under the counts of

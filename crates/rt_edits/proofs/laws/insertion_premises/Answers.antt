@@ -1,4 +1,5 @@
 use Rattle.rt_edits.proofs.FoundLaws.{characters_are_scalars, left_is_element, left_stays, tags_left_are}
+use Rattle.rt_edits.proofs.PremiseLaws.{may_begin, may_begin_in_rest, pieces_are}
 use Rattle.rt_edits.proofs.TagNames.{cells_have_names}
 use Rattle.rt_edits.proofs.laws.insertion_premises.Goals as goal
 
@@ -16,3 +17,12 @@ returns-clause-names_left c = tags_left_are
 
 pub returns-clause-characters : goal.returns-clause-characters
 returns-clause-characters c = characters_are_scalars
+
+pub returns-clause-pieces : goal.returns-clause-pieces
+returns-clause-pieces c = pieces_are
+
+pub returns-clause-insertion : goal.returns-clause-insertion
+returns-clause-insertion c = may_begin
+
+pub returns-clause-replacement : goal.returns-clause-replacement
+returns-clause-replacement c = may_begin_in_rest
