@@ -1,5 +1,5 @@
--- Drafts after drafts.
-use Rattle.std.proofs.Common.{◌≡◌, ℕ, ◌⊎◌, inl, inr, List, [], ◌∷◌, ◌++◌, true, ◌||◌, refl, sym, ◌∙◌, ap}
+-- Which characters stay known while drafts are made.
+use Rattle.std.proofs.Common.{◌≡◌, ℕ, ◌⊎◌, inl, inr, List, [], ◌∷◌, true, ◌||◌, sym, ◌∙◌, ap}
 use Rattle.rt_stamps.specs.declared.stamp.Stamp.{Stamp}
 use Rattle.rt_stamps.specs.declared.stamp.TheConstants.{FINAL}
 use Rattle.rt_stamps.specs.Stamps.{is_same}
@@ -13,17 +13,8 @@ use Rattle.rt_store.proofs.Distinct.{split}
 use Rattle.rt_rga.specs.Cells.{cells_of}
 use Rattle.rt_rga.specs.Drafts.{next_operation, with_drafts}
 use Rattle.rt_rga.specs.Histories.{IsHistory, has_character}
-use Rattle.rt_rga.specs.Requests.{MayBeMade}
 use Rattle.rt_rga.proofs.Corollaries.{cells_have}
 use Rattle.rt_edits.proofs.PartLaws.{still_character}
-
-pub drafts_append : (site : ℕ) (xs ys : List Body) (log : List Operation) → with_drafts site (xs ++ ys) log ≡ with_drafts site ys (with_drafts site xs log)
-drafts_append site [] ys log = refl
-drafts_append site (x ∷ xs) ys log = drafts_append site xs ys (with_operation (next_operation site x log) log)
-
-pub may_append : (site : ℕ) (xs ys : List Body) (log : List Operation) → MayBeMade site log xs → MayBeMade site (with_drafts site xs log) ys → MayBeMade site log (xs ++ ys)
-may_append site [] ys log h k = k
-may_append site (x ∷ xs) ys log h k = (h.0, h.1, may_append site xs ys (with_operation (next_operation site x log) log) h.2 k)
 
 -- a character stays one
 pub stays_character : (site : ℕ) (drafts : List Body) (log : List Operation) (s : Stamp) → has_character log s ≡ true → has_character (with_drafts site drafts log) s ≡ true

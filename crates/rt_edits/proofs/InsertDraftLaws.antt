@@ -15,7 +15,7 @@ use Rattle.rt_stamps.specs.declared.stamp.TheConstants.{ROOT}
 use Rattle.rt_stamps.specs.Stamps.{is_same}
 use Rattle.rt_stamps.specs.Words.{Word}
 use Rattle.rt_stamps.proofs.Order.{same_refl}
-use Rattle.rt_oplog.specs.Operations.{Operation, Body, Insert, Tag}
+use Rattle.rt_oplog.specs.Operations.{Operation, Insert, Tag}
 use Rattle.rt_oplog.specs.Logs.{with_operation}
 use Rattle.rt_tags.specs.States.{Write, written}
 use Rattle.rt_tags.specs.Writers.{listed_by, state_after}
@@ -30,6 +30,7 @@ use Rattle.rt_rga.specs.Changes.{written_in_any}
 use Rattle.rt_rga.specs.Drafts.{all_changed, next_operation, operations_of, with_drafts}
 use Rattle.rt_rga.specs.Histories.{greatest_last_count}
 use Rattle.rt_rga.specs.Requests.{last_count_after}
+use Rattle.rt_rga.proofs.Appending.{changed_append, count_append}
 use Rattle.rt_rga.proofs.Drafting.{count_after}
 use Rattle.rt_rga.proofs.Requests.{all_count_on}
 use Rattle.rt_rga.proofs.Writes.{state_append}
@@ -199,16 +200,7 @@ tags_written site count last (name ∷ names) log xs ys state text p h k l =
     ∙ tags_written site count last names (with_operation op log) xs ys (written w state) text p h k l
     ∙ ap (λ m. xs ++ cells_from (count + 1) site (state_after (written w state) (put_on site m names)) text ++ ys) later
 
--- DRAFTS AFTER DRAFTS
-
-pub changed_append : (site : ℕ) (ds es : List Body) (log : List Operation) (cells : List TaggedCell)
-    → all_changed (operations_of site (ds ++ es) log) cells ≡ all_changed (operations_of site es (with_drafts site ds log)) (all_changed (operations_of site ds log) cells)
-changed_append site [] es log cells = refl
-changed_append site (d ∷ ds) es log cells = changed_append site ds es (with_operation (next_operation site d log) log) _
-
-pub count_append : (ds es : List Body) (count : ℕ) → last_count_after count (ds ++ es) ≡ last_count_after (last_count_after count ds) es
-count_append [] es count = refl
-count_append (d ∷ ds) es count = count_append ds es _
+-- HOW MANY TAGS
 
 pub tags_counted : (span : Span) (names : List Word) (count : ℕ) → last_count_after count (tags_on span names) ≡ count + length names
 tags_counted span [] count = omega arith

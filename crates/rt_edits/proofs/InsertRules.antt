@@ -23,6 +23,7 @@ use Rattle.rt_rga.specs.Drafts.{all_changed, next_operation, operations_of, with
 use Rattle.rt_rga.specs.Histories.{IsHistory, characters_from, greatest_last_count, has_character, inserted}
 use Rattle.rt_rga.specs.Reading.{has_stamp}
 use Rattle.rt_rga.specs.Requests.{MayBeMade, last_count_after}
+use Rattle.rt_rga.proofs.Appending.{may_append}
 use Rattle.rt_rga.proofs.Continuing.{known_all}
 use Rattle.rt_rga.proofs.Corollaries.{cells_older}
 use Rattle.rt_rga.proofs.Drafting.{count_after, made}
@@ -34,7 +35,7 @@ use Rattle.rt_edits.specs.Flat.{put_after}
 use Rattle.rt_edits.specs.InsertionDrafts.{inserts_of, tags_on, text_drafts}
 use Rattle.rt_edits.specs.Insertions.{counts_for, further_tags, inserts_for, tagged_cells}
 use Rattle.rt_edits.specs.NamedSpans.{first_parts}
-use Rattle.rt_edits.proofs.DraftSteps.{may_append, stays_character}
+use Rattle.rt_edits.proofs.DraftSteps.{stays_character}
 use Rattle.rt_edits.proofs.InsertDraftLaws.{tags_counted, text_counted, text_put}
 use Rattle.rt_edits.proofs.NamedSpanLaws.{IsCut, cut, cut_more, cut_some, each_left}
 use Rattle.rt_edits.proofs.PartLaws.{still_character}

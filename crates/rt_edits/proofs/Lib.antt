@@ -1,7 +1,10 @@
 pub mod CellLaws
+pub mod CharacterCounts
 pub mod ChosenLaws
+pub mod DeletionDraftLaws
 pub mod DistinctLaws
 pub mod DraftSteps
+pub mod FoundLaws
 pub mod GoneLaws
 pub mod InsertDraftLaws
 pub mod InsertRules
@@ -16,9 +19,11 @@ pub mod PieceDraftLaws
 pub mod PlaceLaws
 pub mod PlanLaws
 pub mod Planning
+pub mod PremiseLaws
 pub mod Putting
 pub mod RemovalDraftLaws
 pub mod RemovedText
+pub mod ReplacementLaws
 pub mod Selecting
 pub mod SelectionLaws
 pub mod Shown

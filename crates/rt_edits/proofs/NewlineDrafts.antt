@@ -1,6 +1,6 @@
 -- The Tags that take the last newline's tags off.
 use Rattle.std.proofs.Common.{◌≡◌, ℕ, ◌+◌, ◌-◌, ◌==◌, List, [], ◌∷◌, ◌++◌, Bool, true, false, cond, not, ◌||◌, length, map, refl, sym, ◌∙◌, ap, subst, arith, Some, length-append}
-use Rattle.std.specs.Prelude.{slice_get}
+use Rattle.std.specs.Prelude.{option_map, slice_get, unwrap_or}
 use Rattle.std.specs.List.{AllByRecursion}
 use Rattle.std.specs.Str.{bytes_eq}
 use Rattle.std.proofs.lemmas.Bool.{cond-false, cond-true, or_parts}
@@ -10,7 +10,7 @@ use Rattle.rt_stamps.specs.declared.stamp.Stamp.{Stamp}
 use Rattle.rt_stamps.specs.declared.stamp.TheConstants.{FINAL}
 use Rattle.rt_stamps.specs.Words.{Word}
 use Rattle.rt_oplog.specs.Operations.{Operation, Tag}
-use Rattle.rt_tags.specs.States.{Write, is_on, names_on, says_on, write_of, written}
+use Rattle.rt_tags.specs.States.{IsByName, Write, is_on, names_on, says_on, write_of, written}
 use Rattle.rt_tags.specs.Tags.{HaveNoRepeats, is_listed}
 use Rattle.rt_tags.proofs.Places.{name_itself, same_name}
 use Rattle.rt_tags.proofs.Commuting.{on_is_listed, on_once}
@@ -24,6 +24,7 @@ use Rattle.rt_rga.specs.Cells.{cell_in, writes_on}
 use Rattle.rt_rga.specs.Histories.{IsHistory, final_character}
 use Rattle.rt_rga.proofs.Final.{cells_last}
 use Rattle.rt_rga.proofs.Writes.{state_sorted}
+use Rattle.rt_edits.specs.Deletions.{is_last, last_tags}
 use Rattle.rt_edits.specs.DraftLaws.{IsDocument}
 use Rattle.rt_edits.specs.Flat.{Flat}
 use Rattle.rt_edits.specs.NamedSpans.{span_of}
@@ -163,3 +164,32 @@ newline_one_each site log flat last h doc e =
     (one_each turned (length (text_of flat.cells)) (names_on final.state) flat front final (record { is = is; stamp = l.stamp; gone = l.gone; places = places })
     (listed_on turned name_itself final.state (names_on final.state) (λ q k. on_is_listed q final.state by_name ∙ k))
     (on_once final.state by_name))
+
+-- THE LAST NEWLINE OF A DOCUMENT
+
+pub record EndsAs (flat : Flat) (front : List TaggedCell) (last : TaggedCell) : Type 0 where
+  pub is : flat.cells ≡ front ++ last ∷ []
+  pub stamp : last.stamp ≡ FINAL
+  pub gone : last.gone ≡ false
+  pub by_name : IsByName last.state
+
+pub document_ends : (site : ℕ) (log : List Operation) (flat : Flat) (h : IsHistory log) → IsDocument site log flat → EndsAs flat (cells_last log h).0 (cell_in log final_character)
+document_ends site log flat h doc =
+    let l = (cells_last log h).1 in
+    record { is = doc.cells ∙ l.is; stamp = l.stamp; gone = l.gone; by_name = state_sorted [] (writes_on log FINAL) tt }
+
+pub last_tags_are : (flat : Flat) (front : List TaggedCell) (last : TaggedCell) → EndsAs flat front last → last_tags flat ≡ names_on last.state
+last_tags_are flat front last e =
+    ap (λ (cells : List TaggedCell). unwrap_or (option_map (λ (cell : TaggedCell). names_on cell.state) (slice_get cells (length cells - 1))) []) e.is
+    ∙ ap (λ o. unwrap_or (option_map (λ (cell : TaggedCell). names_on cell.state) o) []) (get_last front last)
+
+pub length_ends : (flat : Flat) (front : List TaggedCell) (last : TaggedCell) → EndsAs flat front last → length (visible_of front) + 1 ≡ length (text_of flat.cells)
+length_ends flat front last e =
+    omega (arith, length_text flat.cells, ap (λ (cells : List TaggedCell). length (visible_of cells)) e.is, visible_append front last e.gone)
+
+pub newline_each : (flat : Flat) (front : List TaggedCell) (last : TaggedCell) → EndsAs flat front last → tags_drafts_at MOST_SPANS flat (is_last flat) false (last_tags flat) ≡ newline_drafts (last_tags flat)
+newline_each flat front last e =
+    subst (λ names. tags_drafts_at MOST_SPANS flat (is_last flat) false names ≡ newline_drafts names) (sym (last_tags_are flat front last e))
+    (one_each turned (length (text_of flat.cells)) (names_on last.state) flat front last (record { is = e.is; stamp = e.stamp; gone = e.gone; places = length_ends flat front last e })
+    (listed_on turned name_itself last.state (names_on last.state) (λ q k. on_is_listed q last.state e.by_name ∙ k))
+    (on_once last.state e.by_name))

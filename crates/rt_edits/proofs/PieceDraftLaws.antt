@@ -23,6 +23,7 @@ use Rattle.rt_rga.specs.Cells.{cells_of}
 use Rattle.rt_rga.specs.Drafts.{next_operation, with_drafts}
 use Rattle.rt_rga.specs.Histories.{IsHistory, greatest_last_count, has_character}
 use Rattle.rt_rga.specs.Requests.{MayBeMade, last_count_after}
+use Rattle.rt_rga.proofs.Appending.{drafts_append, may_append}
 use Rattle.rt_rga.proofs.Corollaries.{cells_distinct, root_absent}
 use Rattle.rt_rga.proofs.Drafting.{count_after}
 use Rattle.rt_rga.proofs.Requests.{all_count_on}
@@ -31,7 +32,7 @@ use Rattle.rt_edits.specs.Flat.{put_after}
 use Rattle.rt_edits.specs.InsertionDrafts.{behind, insertion_drafts, inserts_of, pieces_drafts, tags_on, text_drafts}
 use Rattle.rt_edits.specs.Insertions.{Insertion, Piece, cells_of_inserts, counts_for, further_tags, insertion_of, inserts_for, last_of, new_state, shared_names, tagged_cells, tags_between, with_listed, with_pieces, with_unlisted}
 use Rattle.rt_edits.specs.NamedSpans.{first_parts}
-use Rattle.rt_edits.proofs.DraftSteps.{drafts_append, may_append, stays_character}
+use Rattle.rt_edits.proofs.DraftSteps.{stays_character}
 use Rattle.rt_edits.proofs.InsertDraftLaws.{put_behind, tags_counted}
 use Rattle.rt_edits.proofs.InsertRules.{new_characters, text_is_counted, text_is_made, text_may}
 use Rattle.rt_edits.proofs.NamedSpanLaws.{IsCut, cut, cut_more, cut_some}
@@ -55,7 +56,7 @@ in_middle : (front : List TaggedCell) (x : TaggedCell) (rest : List TaggedCell) 
 in_middle [] x rest = or_left (is_same x.stamp x.stamp) _ (same_refl x.stamp)
 in_middle (y ∷ ys) x rest = or_right (is_same y.stamp x.stamp) _ (in_middle ys x rest)
 
-apart_front : (front : List TaggedCell) (x : TaggedCell) (rest : List TaggedCell) → AreDistinct (front ++ x ∷ rest) → is_among (stamps_of front) x.stamp ≡ false
+pub apart_front : (front : List TaggedCell) (x : TaggedCell) (rest : List TaggedCell) → AreDistinct (front ++ x ∷ rest) → is_among (stamps_of front) x.stamp ≡ false
 apart_front [] x rest d = refl
 apart_front (y ∷ ys) x rest d =
     let others = stamps_of (ys ++ x ∷ rest) in
@@ -166,14 +167,21 @@ pub record IsMore (site : ℕ) (so_far next : Insertion) (names : List Word) (te
 abbrev next_drafts : ℕ → Stamp → Insertion → List Word → List ℕ → List Body
 next_drafts site after so_far names text = text_drafts MOST_CHARACTERS site so_far.count (behind after so_far.cells) names text
 
+-- a text takes as many counts as it has
+next_counted : (site : ℕ) (after : Stamp) (so_far next : Insertion) (log : List Operation) (names : List Word) (text : List ℕ) → greatest_last_count log ≡ so_far.count → IsMore site so_far next names text
+    → greatest_last_count (with_drafts site (next_drafts site after so_far names text) log) ≡ next.count
+next_counted site after so_far next log names text g m =
+    subst (λ n. greatest_last_count (with_drafts site (text_drafts MOST_CHARACTERS site n (behind after so_far.cells) names text) log) ≡ n + counts_for names text) g
+    (text_is_counted site log (behind after so_far.cells) names text)
+    ∙ sym m.count
+
 has_more : (site : ℕ) (after : Stamp) (so_far next : Insertion) (log : List Operation) (names : List Word) (text : List ℕ) → HasSoFar after so_far log → IsMore site so_far next names text
     → HasSoFar after next (with_drafts site (next_drafts site after so_far names text) log)
 has_more site after so_far next log names text h m =
     let drafts = next_drafts site after so_far names text in
     let new = tagged_cells site so_far.count names text in
     record {
-      count = subst (λ n. greatest_last_count (with_drafts site (text_drafts MOST_CHARACTERS site n (behind after so_far.cells) names text) log) ≡ n + counts_for names text) h.count
-          (text_is_counted site log (behind after so_far.cells) names text) ∙ sym m.count;
+      count = next_counted site after so_far next log names text h.count m;
       known = λ s e. split (is_among (stamps_of so_far.cells) s)
           (λ f. stays_character site drafts log s (h.known s f))
           (λ f. cells_known (inserts_for (length text)) site so_far.count log (behind after so_far.cells) names text s h.count (cut MOST_CHARACTERS (length text) (omega arith))
@@ -221,7 +229,7 @@ pub listed_more : (site : ℕ) (so_far : Insertion) (tags : List Word) (text : L
 listed_more site so_far tags [] = record { cells = sym (append-nil so_far.cells); count = omega arith }
 listed_more site so_far tags (c ∷ text) = record { cells = refl; count = refl }
 
-unlisted_more : (site : ℕ) (left right : Option TaggedCell) (so_far : Insertion) (text : List ℕ) → IsMore site so_far (with_unlisted site left right text so_far) (tags_between left right) text
+pub unlisted_more : (site : ℕ) (left right : Option TaggedCell) (so_far : Insertion) (text : List ℕ) → IsMore site so_far (with_unlisted site left right text so_far) (tags_between left right) text
 unlisted_more site left right so_far [] = record { cells = sym (append-nil so_far.cells); count = omega arith }
 unlisted_more site left right so_far (c ∷ text) = record { cells = refl; count = refl }
 
@@ -239,6 +247,17 @@ pieces_may (piece ∷ pieces) site after so_far log h t =
       may_append site drafts more log (next_may site after so_far log names text h t.0) rest.0,
       subst (HasSoFar after (with_pieces site pieces next)) (sym (drafts_append site drafts more log)) rest.1,
     )
+
+pieces_counted : (pieces : List Piece) (site : ℕ) (after : Stamp) (so_far : Insertion) (log : List Operation) → greatest_last_count log ≡ so_far.count
+    → greatest_last_count (with_drafts site (pieces_drafts MOST_CHARACTERS site after pieces so_far) log) ≡ (with_pieces site pieces so_far).count
+pieces_counted [] site after so_far log g = g
+pieces_counted (piece ∷ pieces) site after so_far log g =
+    let names = shared_names piece.tags in
+    let text = chars piece.text in
+    let next = with_listed site piece.tags text so_far in
+    let drafts = next_drafts site after so_far names text in
+    ap greatest_last_count (drafts_append site drafts (pieces_drafts MOST_CHARACTERS site after pieces next) log)
+    ∙ pieces_counted pieces site after next (with_drafts site drafts log) (next_counted site after so_far next log names text g (listed_more site so_far piece.tags text))
 
 pieces_grow : (pieces : List Piece) (site : ℕ) (so_far : Insertion) → so_far.count ≤ (with_pieces site pieces so_far).count
 pieces_grow [] site so_far = omega arith
@@ -303,15 +322,20 @@ insertion_made site log after left right pieces rest start p history h l =
     subst (IsInserted log after whole) (sym (drafts_append site drafts (next_drafts site after listed names text) log)) (record { cells = done.cells; count = done.has.count })
 
 -- it takes as many counts as its definition says
-pub insertion_counted : (site : ℕ) (log : List Operation) (after : Stamp) (left right : Option TaggedCell) (pieces : List Piece) (rest : Word) (start : Insertion)
-    → IsInsertion site log after left right pieces rest start
+pub insertion_counted : (site : ℕ) (log : List Operation) (after : Stamp) (left right : Option TaggedCell) (pieces : List Piece) (rest : Word) (start : Insertion) → start.count ≡ greatest_last_count log
     → greatest_last_count (with_drafts site (insertion_drafts MOST_CHARACTERS site after left right pieces rest start) log) ≡ (insertion_of site left right pieces rest start).count
-insertion_counted site log after left right pieces rest start h =
+insertion_counted site log after left right pieces rest start e =
     let listed = with_pieces site pieces start in
     let drafts = pieces_drafts MOST_CHARACTERS site after pieces start in
     let neighbour = last_of left listed.cells in
     let names = tags_between neighbour right in
     let text = chars rest in
-    let all = pieces_may pieces site after start log (has_start site log after left right pieces rest start h) h.listed in
     ap greatest_last_count (drafts_append site drafts (next_drafts site after listed names text) log)
-    ∙ (has_more site after listed (insertion_of site left right pieces rest start) (with_drafts site drafts log) names text all.1 (unlisted_more site neighbour right listed text)).count
+    ∙ next_counted site after listed (insertion_of site left right pieces rest start) (with_drafts site drafts log) names text (pieces_counted pieces site after start log (sym e))
+    (unlisted_more site neighbour right listed text)
+
+pub insertion_grows : (site : ℕ) (left right : Option TaggedCell) (pieces : List Piece) (rest : Word) (start : Insertion) → start.count ≤ (insertion_of site left right pieces rest start).count
+insertion_grows site left right pieces rest start =
+    let listed = with_pieces site pieces start in
+    let m = (unlisted_more site (last_of left listed.cells) right listed (chars rest)).count in
+    omega (arith, m, pieces_grow pieces site start)

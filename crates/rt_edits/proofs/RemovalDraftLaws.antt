@@ -26,7 +26,9 @@ use Rattle.rt_rga.proofs.Drafting.{made}
 use Rattle.rt_rga.proofs.Final.{cells_last}
 use Rattle.rt_rga.proofs.Requests.{all_count_on, drafts_for}
 use Rattle.rt_rga.proofs.Writes.{spans_name}
-use Rattle.rt_edits.specs.DraftLaws.{SparesLast}
+use Rattle.rt_edits.specs.Deletions.{without_places}
+use Rattle.rt_edits.specs.DraftLaws.{IsDocument, SparesLast}
+use Rattle.rt_edits.specs.Flat.{Flat}
 use Rattle.rt_edits.specs.NamedSpans.{first_parts, parts_for, parts_of, spans_in}
 use Rattle.rt_edits.specs.RemovalDrafts.{removal_drafts}
 use Rattle.rt_edits.specs.Removals.{gone_at, operations_for, span_count, stamps_at}
@@ -180,12 +182,36 @@ deletes_may_be_made most site log removed p q h spared =
     may_delete (parts_for most (length spans)) most site log spans p q (cut most (length spans) p) (spans_of_cells removed (cells_of log) (cells_distinct log h))
     (λ s n. removed_character log removed h spared s (sym (spans_hold stamps s) ∙ n))
 
--- so the larger history has the cells that the removal leaves
-pub removal_is_made : (site : ℕ) (log : List Operation) (removed : ℕ → Bool) → 0 < site → IsHistory log → SparesLast removed (text_of (cells_of log))
-    → greatest_last_count log + operations_for (span_count (stamps_at removed 0 (cells_of log))) ≤ GREATEST_COUNT
-    → cells_of (with_drafts site (removal_drafts MOST_SPANS removed (cells_of log)) log) ≡ gone_at removed 0 (cells_of log)
-removal_is_made site log removed p h spared l =
-    let drafts = removal_drafts MOST_SPANS removed (cells_of log) in
-    let may = deletes_may_be_made MOST_SPANS site log removed (omega arith) (omega arith) h spared in
-    let fits : last_count_after (greatest_last_count log) drafts ≤ GREATEST_COUNT = omega (arith, deletes_counted log removed h, l) in
-    (made site drafts log p h (drafts_for site log drafts may fits)).cells ∙ deletes_make_gone MOST_SPANS site log removed (omega arith) h
+-- IN A DOCUMENT
+
+pub removal_may : (site : ℕ) (log : List Operation) (flat : Flat) (removed : ℕ → Bool) → IsHistory log → IsDocument site log flat → SparesLast removed (text_of flat.cells)
+    → MayBeMade site log (removal_drafts MOST_SPANS removed flat.cells)
+removal_may site log flat removed h doc spared =
+    subst (λ (cells : List TaggedCell). MayBeMade site log (removal_drafts MOST_SPANS removed cells)) (sym doc.cells)
+    (deletes_may_be_made MOST_SPANS site log removed (omega arith) (omega arith) h (subst (λ (cells : List TaggedCell). SparesLast removed (text_of cells)) doc.cells spared))
+
+pub removal_counted : (site : ℕ) (log : List Operation) (flat : Flat) (removed : ℕ → Bool) → IsHistory log → IsDocument site log flat
+    → greatest_last_count (with_drafts site (removal_drafts MOST_SPANS removed flat.cells) log) ≡ (without_places flat removed).count
+removal_counted site log flat removed h doc =
+    ap (λ (cells : List TaggedCell). greatest_last_count (with_drafts site (removal_drafts MOST_SPANS removed cells) log)) doc.cells
+    ∙ deletes_are_counted site log removed h
+    ∙ sym (λ i. doc.count i + operations_for (span_count (stamps_at removed 0 (doc.cells i))))
+
+-- a larger history, and the document with its cells
+pub record IsLarger (site : ℕ) (log : List Operation) (flat : Flat) : Type 0 where
+  pub history : IsHistory log
+  pub document : IsDocument site log flat
+
+pub removal_made : (site : ℕ) (log : List Operation) (flat : Flat) (removed : ℕ → Bool) → 0 < site → IsHistory log → IsDocument site log flat → SparesLast removed (text_of flat.cells)
+    → (without_places flat removed).count ≤ GREATEST_COUNT → IsLarger site (with_drafts site (removal_drafts MOST_SPANS removed flat.cells) log) (without_places flat removed)
+removal_made site log flat removed p h doc spared l =
+    let drafts = removal_drafts MOST_SPANS removed flat.cells in
+    let counts = removal_counted site log flat removed h doc in
+    let fits : last_count_after (greatest_last_count log) drafts ≤ GREATEST_COUNT = omega (arith, all_count_on site drafts log, counts, l) in
+    let all = made site drafts log p h (drafts_for site log drafts (removal_may site log flat removed h doc spared) fits) in
+    let gone : all_changed (operations_of site drafts log) (cells_of log) ≡ gone_at removed 0 (cells_of log) =
+    ap (λ (cells : List TaggedCell). all_changed (operations_of site (removal_drafts MOST_SPANS removed cells) log) (cells_of log)) doc.cells ∙ deletes_make_gone MOST_SPANS site log removed (omega arith) h in
+    record {
+      history = all.history;
+      document = record { cells = ap (gone_at removed 0) doc.cells ∙ sym (all.cells ∙ gone); site = doc.site; count = sym counts };
+    }

@@ -17,6 +17,7 @@ use Rattle.rt_rga.specs.Cells.{cells_of}
 use Rattle.rt_rga.specs.Drafts.{with_drafts}
 use Rattle.rt_rga.specs.Histories.{IsHistory, greatest_last_count}
 use Rattle.rt_rga.specs.Requests.{MayBeMade, last_count_after}
+use Rattle.rt_rga.proofs.Appending.{drafts_append, may_append}
 use Rattle.rt_rga.proofs.Corollaries.{cells_distinct}
 use Rattle.rt_rga.proofs.Drafting.{made}
 use Rattle.rt_rga.proofs.Requests.{all_count_on, drafts_for}
@@ -26,7 +27,7 @@ use Rattle.rt_edits.specs.Removals.{cells_at, operations_for, span_count}
 use Rattle.rt_edits.specs.TagDrafts.{deletion_drafts, tag_drafts, tag_drafts_at, tags_drafts_at}
 use Rattle.rt_edits.specs.TagWrites.{changed_stamps, is_changed, tagged, with_tag_at, with_tags_at, without_tags}
 use Rattle.rt_edits.proofs.DistinctLaws.{stamps_within}
-use Rattle.rt_edits.proofs.DraftSteps.{AreKnownCells, drafts_append, known_cells, known_later, may_append}
+use Rattle.rt_edits.proofs.DraftSteps.{AreKnownCells, known_cells, known_later}
 use Rattle.rt_edits.proofs.Putting.{distinct_cells_at, stamps_at_cells, tagged_state}
 use Rattle.rt_edits.proofs.StateChanges.{stamps_changed}
 use Rattle.rt_edits.proofs.TagDraftLaws.{tags_as_flat, tags_counted, tags_may_be_made}
@@ -75,7 +76,7 @@ one_may_be_made site log places on name cells d f n =
     tags_may_be_made site name on (changed_at places on name cells) (distinct_changed places on name cells d) MOST_SPANS log n (omega arith) (omega arith) (known_changed log places on name cells f)
 
 -- the stamps stay
-tag_stamps : (flat : Flat) (places : ℕ → Bool) (on : Bool) (name : Word) → stamps_of (with_tag_at flat places on name).cells ≡ stamps_of flat.cells
+pub tag_stamps : (flat : Flat) (places : ℕ → Bool) (on : Bool) (name : Word) → stamps_of (with_tag_at flat places on name).cells ≡ stamps_of flat.cells
 tag_stamps flat places on name =
     let stamps = changed_at places on name flat.cells in
     stamps_changed (tagged flat.site flat.count name on stamps) (tagged_state flat.site flat.count name on stamps) flat.cells
@@ -112,7 +113,7 @@ tags_are_counted site log on name stamps d = all_count_on site (tag_drafts MOST_
 
 -- SEVERAL TAGS
 
-tags_grow : (names : List Word) (flat : Flat) (places : ℕ → Bool) (on : Bool) → flat.count ≤ (with_tags_at flat places on names).count
+pub tags_grow : (names : List Word) (flat : Flat) (places : ℕ → Bool) (on : Bool) → flat.count ≤ (with_tags_at flat places on names).count
 tags_grow [] flat places on = omega arith
 tags_grow (name ∷ names) flat places on = omega (arith, tag_grows flat places on name, tags_grow names (with_tag_at flat places on name) places on)
 
@@ -204,7 +205,7 @@ one_counted site log flat places on name d e =
     let stamps = changed_at places on name flat.cells in
     ap (λ k. k + operations_for (span_count stamps)) e ∙ sym (tags_are_counted site log on name stamps (distinct_changed places on name flat.cells d))
 
-tags_count : (names : List Word) (site : ℕ) (log : List Operation) (flat : Flat) (places : ℕ → Bool) (on : Bool) → AreDistinct flat.cells → flat.count ≡ greatest_last_count log
+pub tags_count : (names : List Word) (site : ℕ) (log : List Operation) (flat : Flat) (places : ℕ → Bool) (on : Bool) → AreDistinct flat.cells → flat.count ≡ greatest_last_count log
     → greatest_last_count (with_drafts site (tags_drafts_at MOST_SPANS flat places on names) log) ≡ (with_tags_at flat places on names).count
 tags_count [] site log flat places on d e = sym e
 tags_count (name ∷ names) site log flat places on d e =

@@ -7,38 +7,41 @@ use Rattle.std.specs.Str.{bytes_eq, chars}
 use Rattle.std.specs.declared.cmp.Ordering.TheVariants.{Less}
 use Rattle.std.proofs.lemmas.Bool.{and_from, and_parts}
 use Rattle.std.proofs.lemmas.List.Folds.{list_all-append}
-use Rattle.std.proofs.lemmas.List.Elements.{All-filter}
+use Rattle.std.proofs.lemmas.List.Elements.{All-from_recursion, recursion_from_All}
 use Rattle.std.proofs.lemmas.Option.{slice_get_cases}
 use Rattle.rt_stamps.specs.declared.limits.TheConstants.{MOST_CHARACTERS, MOST_TAGS}
 use Rattle.rt_stamps.specs.declared.stamp.Stamp.{Stamp}
-use Rattle.rt_stamps.specs.declared.stamp.TheConstants.{ROOT}
+use Rattle.rt_stamps.specs.declared.stamp.TheConstants.{FINAL, ROOT}
 use Rattle.rt_stamps.specs.Names.{name_order}
 use Rattle.rt_stamps.specs.Words.{Word}
 use Rattle.rt_oplog.specs.Operations.{Operation, Body, Insert, Delete, Tag, stamp_of}
 use Rattle.rt_oplog.specs.Rules.{are_tags, is_less, is_lesser_name, is_name, is_text, is_within, keeps_rules}
-use Rattle.rt_tags.specs.States.{IsByName, Write, above, below, is_on, is_settled, written}
+use Rattle.rt_tags.specs.States.{IsByName, Write, above, below, is_on, is_settled, names_on, written}
 use Rattle.rt_tags.specs.Tags.{sel}
 use Rattle.rt_tags.specs.Writers.{listed_by, state_after}
 use Rattle.rt_tags.proofs.Sorted.{every_append}
 use Rattle.rt_store.specs.Cells.{cells_from, visible_of}
 use Rattle.rt_store.specs.Shown.{TaggedCell}
-use Rattle.rt_store.specs.Spans.{each_next, is_in_spans}
+use Rattle.rt_store.specs.Spans.{each_next, is_among, is_in_spans}
 use Rattle.rt_store.proofs.Shown.{filter_map}
-use Rattle.rt_rga.specs.Cells.{cells_of, writes_by, writes_on}
-use Rattle.rt_rga.specs.Histories.{IsHistory, characters_from}
+use Rattle.rt_rga.specs.Cells.{cell_in, cells_of, writes_by, writes_on}
+use Rattle.rt_rga.specs.Histories.{IsHistory, characters_from, final_character}
 use Rattle.rt_rga.specs.Reading.{has_stamp}
 use Rattle.rt_rga.proofs.Corollaries.{all_states}
 use Rattle.rt_rga.proofs.Writes.{state_sorted}
 use Rattle.rt_edits.specs.DraftLaws.{AreTagNames, AreTexts}
 use Rattle.rt_edits.specs.Insertions.{Insertion, Piece, cells_of_inserts, further_tags, inserts_for, last_of, left_neighbour, new_state, put_on, shared_names, tagged_cells, tags_between, with_listed, with_pieces}
+use Rattle.rt_edits.specs.Flat.{Flat}
+use Rattle.rt_edits.specs.Removals.{cells_at, gone_at}
+use Rattle.rt_edits.specs.TagWrites.{changed_stamps, tag_write, tagged, with_tag_at, with_tags_at}
 use Rattle.rt_edits.proofs.PieceDraftLaws.{listed_more}
 
 -- NAMES IN STATES
 
-abbrev IsNamed : Write → Type 0
+abbrev pub IsNamed : Write → Type 0
 IsNamed w = is_name w.name ≡ true
 
-record AreNamed (state : List Write) : Type 0 where
+pub record AreNamed (state : List Write) : Type 0 where
   pub by_name : IsByName state
   pub named : AllByRecursion IsNamed state
 
@@ -157,18 +160,31 @@ writes_named (op ∷ older) h s = every_append IsNamed (writes_on older s) (writ
 cells_are_named : (log : List Operation) → IsHistory log → All (λ (cell : TaggedCell). AreNamed cell.state) (cells_of log)
 cells_are_named log h = all_states log h AreNamed (λ s. after_writes (writes_on log s) (writes_named log h s))
 
-neighbour_named : (log : List Operation) (place : ℕ) → IsHistory log → HasNamed (left_neighbour (visible_of (cells_of log)) place)
-neighbour_named log zero h = tt
-neighbour_named log (suc p) h =
-    let visible : All (λ (cell : TaggedCell). AreNamed cell.state) (visible_of (cells_of log)) = All-filter (λ (cell : TaggedCell). not cell.gone) (λ (cell : TaggedCell). AreNamed cell.state) (cells_of log) (cells_are_named log h) in
-    by visible (slice_get_cases (visible_of (cells_of log)) p).1
+abbrev pub CellsNamed : List TaggedCell → Type 0
+CellsNamed cells = AllByRecursion (λ (cell : TaggedCell). AreNamed cell.state) cells
+
+neighbour_named : (cells : List TaggedCell) (place : ℕ) → CellsNamed cells → HasNamed (left_neighbour (visible_of cells) place)
+neighbour_named cells zero h = tt
+neighbour_named cells (suc p) h = by (All-from_recursion (λ (cell : TaggedCell). AreNamed cell.state) (visible_of cells) (every_filter (λ (cell : TaggedCell). AreNamed cell.state) (λ (cell : TaggedCell). not cell.gone) cells h))
+    (slice_get_cases (visible_of cells) p).1
   where
-    by : All (λ (cell : TaggedCell). AreNamed cell.state) (visible_of (cells_of log))
-        → ((x : TaggedCell) × (p < length (visible_of (cells_of log))) × (slice_get (visible_of (cells_of log)) p ≡ Some x) × (get_or (visible_of (cells_of log)) p x ≡ x))
-        ⊎ ((length (visible_of (cells_of log)) ≤ p) × (slice_get (visible_of (cells_of log)) p ≡ None))
-        → HasNamed (slice_get (visible_of (cells_of log)) p)
+    by : All (λ (cell : TaggedCell). AreNamed cell.state) (visible_of cells)
+        → ((x : TaggedCell) × (p < length (visible_of cells)) × (slice_get (visible_of cells) p ≡ Some x) × (get_or (visible_of cells) p x ≡ x))
+        ⊎ ((length (visible_of cells) ≤ p) × (slice_get (visible_of cells) p ≡ None))
+        → HasNamed (slice_get (visible_of cells) p)
     by all (inl w) = subst HasNamed (sym w.2) (subst (λ (cell : TaggedCell). AreNamed cell.state) w.3 (all p w.0 w.1))
     by all (inr w) = subst HasNamed (sym w.1) tt
+
+-- THE TAGS ON CELLS
+
+pub on_names : (state : List Write) → AreNamed state → AreTagNames (names_on state)
+on_names state h = names_are (filter (λ (w : Write). w.on) state) (some_named (λ (w : Write). w.on) state h)
+
+pub cells_have_names : (log : List Operation) → IsHistory log → All (λ (cell : TaggedCell). AreTagNames (names_on cell.state)) (cells_of log)
+cells_have_names log h = λ i d l. on_names (get_or (cells_of log) i d).state (cells_are_named log h i d l)
+
+pub final_names : (log : List Operation) → IsHistory log → AreTagNames (names_on (cell_in log final_character).state)
+final_names log h = on_names (cell_in log final_character).state (after_writes (writes_on log FINAL) (writes_named log h FINAL))
 
 -- NEW CELLS
 
@@ -178,9 +194,6 @@ new_named site last names h =
     (sym (list_all-append is_name (take MOST_TAGS names) (drop MOST_TAGS names)) ∙ ap (list_all is_name) (take-append-drop MOST_TAGS names) ∙ h) in
     after_writes (listed_by ROOT (take MOST_TAGS names) ++ put_on site last (further_tags names))
     (every_append IsNamed (listed_by ROOT (take MOST_TAGS names)) (put_on site last (further_tags names)) (listed_named ROOT (take MOST_TAGS names) p.0) (put_named site last (further_tags names) p.1))
-
-abbrev CellsNamed : List TaggedCell → Type 0
-CellsNamed cells = AllByRecursion (λ (cell : TaggedCell). AreNamed cell.state) cells
 
 from_named : (count site : ℕ) (state : List Write) (text : List ℕ) → AreNamed state → CellsNamed (cells_from count site state text)
 from_named count site state [] h = tt
@@ -212,9 +225,45 @@ last_named o [] h k = h
 last_named o (c ∷ cs) h k = last_named (Some c) cs k.0 k.1
 
 -- the tags that both neighbours of a place have, where pieces stand before it perhaps
+pub tags_between_in : (site : ℕ) (cells : List TaggedCell) (place : ℕ) (right : Option TaggedCell) (pieces : List Piece) (start : Insertion) → CellsNamed cells → AreTexts pieces → start.cells ≡ []
+    → AreTagNames (tags_between (last_of (left_neighbour (visible_of cells) place) (with_pieces site pieces start).cells) right)
+tags_between_in site cells place right pieces start h t none =
+    let left = left_neighbour (visible_of cells) place in
+    let new = (with_pieces site pieces start).cells in
+    between_are (last_of left new) right (last_named left new (neighbour_named cells place h) (pieces_named pieces site start t (subst CellsNamed (sym none) tt)))
+
+pub every_named : (log : List Operation) → IsHistory log → CellsNamed (cells_of log)
+every_named log h = recursion_from_All (λ (cell : TaggedCell). AreNamed cell.state) (cells_of log) (cells_are_named log h)
+
 pub tags_between_are : (site : ℕ) (log : List Operation) (place : ℕ) (right : Option TaggedCell) (pieces : List Piece) (start : Insertion) → IsHistory log → AreTexts pieces → start.cells ≡ []
     → AreTagNames (tags_between (last_of (left_neighbour (visible_of (cells_of log)) place) (with_pieces site pieces start).cells) right)
-tags_between_are site log place right pieces start h t none =
-    let left = left_neighbour (visible_of (cells_of log)) place in
-    let cells = (with_pieces site pieces start).cells in
-    between_are (last_of left cells) right (last_named left cells (neighbour_named log place h) (pieces_named pieces site start t (subst CellsNamed (sym none) tt)))
+tags_between_are site log place right pieces start h t none = tags_between_in site (cells_of log) place right pieces start (every_named log h) t none
+
+-- AFTER OTHER WRITES
+
+tagged_named : (site count : ℕ) (name : Word) (on : Bool) (stamps : List Stamp) (cell : TaggedCell) → is_name name ≡ true → AreNamed cell.state → AreNamed (tagged site count name on stamps cell).state
+tagged_named site count name on stamps cell n h = by (is_among stamps cell.stamp)
+  where
+    by : (b : Bool) → AreNamed (cond b (record cell { state = written (tag_write site count name on stamps cell.stamp) cell.state }) cell).state
+    by true = record {
+      by_name = state_sorted cell.state (tag_write site count name on stamps cell.stamp ∷ []) h.by_name;
+      named = written_every (tag_write site count name on stamps cell.stamp) cell.state n h.named;
+    }
+    by false = h
+
+all_tagged_named : (site count : ℕ) (name : Word) (on : Bool) (stamps : List Stamp) (cells : List TaggedCell) → is_name name ≡ true → CellsNamed cells → CellsNamed (map (tagged site count name on stamps) cells)
+all_tagged_named site count name on stamps [] n h = tt
+all_tagged_named site count name on stamps (c ∷ cs) n h = (tagged_named site count name on stamps c n h.0, all_tagged_named site count name on stamps cs n h.1)
+
+pub tags_named : (names : List Word) (flat : Flat) (places : ℕ → Bool) (on : Bool) → list_all is_name names ≡ true → CellsNamed flat.cells → CellsNamed (with_tags_at flat places on names).cells
+tags_named [] flat places on n h = h
+tags_named (name ∷ names) flat places on n h =
+    let p = and_parts (is_name name) (list_all is_name names) n in
+    tags_named names (with_tag_at flat places on name) places on p.1 (all_tagged_named flat.site flat.count name on (changed_stamps name on (cells_at places 0 flat.cells)) flat.cells p.0 h)
+
+pub gone_named : (r : ℕ → Bool) (p : ℕ) (cells : List TaggedCell) → CellsNamed cells → CellsNamed (gone_at r p cells)
+gone_named r p [] h = tt
+gone_named r p (c ∷ cs) h =
+    let here : CellsNamed (c ∷ gone_at r p cs) = (h.0, gone_named r p cs h.1) in
+    let next : CellsNamed (record c { gone = r p } ∷ gone_at r (p + 1) cs) = (h.0, gone_named r (p + 1) cs h.1) in
+    elim c.gone as (λ b. CellsNamed (cond b (c ∷ gone_at r p cs) (record c { gone = r p } ∷ gone_at r (p + 1) cs))) [ true ↦ here | false ↦ next ]

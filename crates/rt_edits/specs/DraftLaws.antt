@@ -16,7 +16,8 @@ use Rattle.rt_tags.specs.Tags.{sel}
 use Rattle.rt_rga.specs.Cells.{cells_of}
 use Rattle.rt_rga.specs.Drafts.{all_changed, operations_of, with_drafts}
 use Rattle.rt_rga.specs.Histories.{IsHistory, greatest_last_count, has_character}
-use Rattle.rt_rga.specs.Requests.{MayBeMade}
+use Rattle.rt_rga.specs.Requests.{MayBeMade, characters_in_all}
+use Rattle.rt_edits.specs.Deletions.{without_places}
 use Rattle.rt_edits.specs.Flat.{Flat, put_after}
 use Rattle.rt_edits.specs.InsertionDrafts.{insertion_drafts, text_drafts}
 use Rattle.rt_edits.specs.Insertions.{Insertion, Piece, counts_for, insertion_of, last_of, left_neighbour, shared_names, tagged_cells, tags_between, with_pieces}
@@ -55,9 +56,9 @@ DeletesMayBeMade =
 
 abbrev pub RemovalIsMade : Type 0
 RemovalIsMade =
-    (site : ℕ) (log : List Operation) (removed : ℕ → Bool) → 0 < site → IsHistory log → SparesLast removed (text_of (cells_of log))
-    → greatest_last_count log + operations_for (span_count (stamps_at removed 0 (cells_of log))) ≤ GREATEST_COUNT
-    → cells_of (with_drafts site (removal_drafts MOST_SPANS removed (cells_of log)) log) ≡ gone_at removed 0 (cells_of log)
+    (site : ℕ) (log : List Operation) (flat : Flat) (removed : ℕ → Bool) → 0 < site → IsHistory log → IsDocument site log flat
+    → SparesLast removed (text_of flat.cells) → (without_places flat removed).count ≤ GREATEST_COUNT
+    → IsDocument site (with_drafts site (removal_drafts MOST_SPANS removed flat.cells) log) (without_places flat removed)
 
 -- TAGS
 
@@ -208,6 +209,20 @@ DeletionsAreCounted =
 abbrev pub InsertionIsCounted : Type 0
 InsertionIsCounted =
     (site : ℕ) (log : List Operation) (after : Stamp) (left right : Option TaggedCell) (pieces : List Piece) (rest : Word) (start : Insertion)
-    → IsInsertion site log after left right pieces rest start
+    → start.count ≡ greatest_last_count log
     → greatest_last_count (with_drafts site (insertion_drafts MOST_CHARACTERS site after left right pieces rest start) log)
     ≡ (insertion_of site left right pieces rest start).count
+
+-- Whether the cells fit is told by the new cells of the flat edit: tags and removals insert no characters.
+abbrev pub TagsInsertNone : Type 0
+TagsInsertNone =
+    (flat : Flat) (places : ℕ → Bool) (on : Bool) (names : List Word) → characters_in_all (tags_drafts_at MOST_SPANS flat places on names) ≡ 0
+
+abbrev pub DeletionsInsertNone : Type 0
+DeletionsInsertNone = (flat : Flat) (names : List Word) → characters_in_all (deletion_drafts MOST_SPANS flat names) ≡ 0
+
+abbrev pub InsertionHasNewCells : Type 0
+InsertionHasNewCells =
+    (site : ℕ) (after : Stamp) (left right : Option TaggedCell) (pieces : List Piece) (rest : Word) (start : Insertion)
+    → length start.cells + characters_in_all (insertion_drafts MOST_CHARACTERS site after left right pieces rest start)
+    ≡ length (insertion_of site left right pieces rest start).cells

@@ -1,10 +1,12 @@
 -- The cells of the worked examples.
-use Rattle.std.specs.Prelude.{ℕ, false, List, [], ◌∷◌, ◌++◌, replicate, codes, Option, Some}
+use Rattle.std.specs.Prelude.{ℕ, zero, suc, ◌+◌, false, List, [], ◌∷◌, ◌++◌, codes, Option, Some}
 use Rattle.rt_store.specs.Cells.{cells_from}
 use Rattle.rt_store.specs.Shown.{TaggedCell}
-use Rattle.rt_stamps.specs.declared.limits.TheConstants.{MOST_TAGS}
-use Rattle.rt_stamps.specs.declared.stamp.TheConstants.{ROOT}
+use Rattle.rt_stamps.specs.declared.limits.TheConstants.{GREATEST_COUNT, MOST_TAGS}
+use Rattle.rt_stamps.specs.declared.stamp.TheConstants.{FINAL, ROOT}
 use Rattle.rt_stamps.specs.Words.{Word}
+use Rattle.rt_oplog.specs.Operations.{Operation, Insert}
+use Rattle.rt_tags.specs.Tags.{sel}
 use Rattle.rt_tags.specs.Writers.{listed_by, state_after}
 use Rattle.rt_rga.specs.Examples.{at, only_t}
 use Rattle.rt_edits.specs.Flat.{Flat, new_flat}
@@ -21,19 +23,44 @@ cells_with_t = cells_from 3 2 [] (codes "Y") ++ cells_from 1 1 (state_after [] (
 abbrev pub flat_with_t : Flat
 flat_with_t = record (new_flat 3 9) { cells = cells_with_t; count = 3 }
 
--- as many tags as an Insert lists, and one more
+-- the same with the last newline, which has the tag t too
+abbrev pub flat_with_newline : Flat
+flat_with_newline = record flat_with_t {
+  cells = cells_with_t ++ record { stamp = FINAL; ch = 10; gone = false; state = state_after [] (listed_by ROOT only_t) } ∷ [];
+}
+
+-- so many names of one byte each, from one on
+abbrev pub names_from : ℕ → ℕ → List Word
+names_from zero byte = []
+names_from (suc n) byte = (byte ∷ []) ∷ names_from n (byte + 1)
+
+-- as many tags as an Insert lists, from `0` to `o`, and one more
 abbrev pub listed_tags : List Word
-listed_tags = replicate MOST_TAGS (codes "t")
+listed_tags = names_from MOST_TAGS 48
 
 abbrev pub all_tags : List Word
 all_tags = listed_tags ++ codes "u" ∷ []
 
--- pieces `ab` with the tag t and `c` without a tag, and a place between characters that both have the tag u
+-- pieces `ab` with the tag t and `c` without a tag
 abbrev pub two_pieces : List Piece
 two_pieces = record { text = codes "ab"; tags = only_t } ∷ record { text = codes "c"; tags = [] } ∷ []
 
+-- the same with an empty piece between them
+abbrev pub three_pieces : List Piece
+three_pieces =
+    record { text = codes "ab"; tags = only_t } ∷ record { text = []; tags = codes "u" ∷ [] } ∷ record { text = codes "c"; tags = [] } ∷ []
+
+-- a piece whose list has `sel`, and a name twice
+abbrev pub piece_with_sel : List Piece
+piece_with_sel = record { text = codes "ab"; tags = codes "t" ∷ sel ∷ codes "t" ∷ [] } ∷ []
+
+-- a neighbour of the place, with the tag u
 abbrev pub with_u : Option TaggedCell
 with_u = Some (record { stamp = at 1 2; ch = 120; gone = false; state = state_after [] (listed_by ROOT (codes "u" ∷ [])) })
 
 abbrev pub nothing_yet : ℕ → Insertion
 nothing_yet count = record { cells = []; count = count; sel = []; others = []; tags = [] }
+
+-- a log with the greatest count
+abbrev pub log_at_end : List Operation
+log_at_end = record { count = GREATEST_COUNT; site = 2; prev = 0; body = Insert ROOT [] (codes "z") } ∷ []

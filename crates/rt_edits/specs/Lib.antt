@@ -1,3 +1,5 @@
+pub mod DeletionLaws
+pub mod Deletions
 pub mod DraftLaws
 pub mod Examples
 pub mod Flat

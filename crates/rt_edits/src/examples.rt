@@ -1,10 +1,13 @@
 // Worked examples of the definitions, each a clause that computes.
-ghost use Rattle.std.specs.Prelude.{◌≡◌, ◌==◌, false, true, [], ◌∷◌, codes};
+ghost use Rattle.std.specs.Prelude.{◌≡◌, ◌==◌, false, true, [], ◌∷◌, codes, Some, None};
+ghost use Rattle.rt_stamps.specs.declared.fault.Fault.TheVariants.{ClockSpent, TextFull};
 ghost use Rattle.rt_stamps.specs.declared.stamp.TheConstants.{ROOT};
 ghost use Rattle.rt_stamps.specs.declared.limits.TheConstants.{MOST_CHARACTERS, MOST_SPANS};
 ghost use Rattle.rt_oplog.specs.Operations.{Delete, Insert, Tag};
-ghost use Rattle.rt_rga.specs.Examples.{at, only_t, span};
-ghost use Rattle.rt_edits.specs.Examples.{all_tags, cells_of_yab, cells_with_t, flat_with_t, listed_tags, nothing_yet, two_pieces, with_u};
+ghost use Rattle.rt_rga.specs.Examples.{at, insert_ab, only_t, span};
+ghost use Rattle.rt_rga.specs.Made.{refusal_of};
+ghost use Rattle.rt_edits.specs.Deletions.{delete_drafts};
+ghost use Rattle.rt_edits.specs.Examples.{all_tags, cells_of_yab, cells_with_t, flat_with_newline, flat_with_t, listed_tags, log_at_end, nothing_yet, piece_with_sel, three_pieces, two_pieces, with_u};
 ghost use Rattle.rt_edits.specs.InsertionDrafts.{insertion_drafts, text_drafts};
 ghost use Rattle.rt_edits.specs.RemovalDrafts.{removal_drafts};
 ghost use Rattle.rt_edits.specs.TagDrafts.{deletion_drafts, newline_drafts, tag_drafts_at, tags_drafts_at};
@@ -21,18 +24,22 @@ pub fn removals()
 {}
 
 /// Of `Yab` with the tag t on `a`: t is put on the two others by one Tag, or by two where one may have
-/// one span alone, and is taken off `a`; where no character has a tag there is nothing to take off. A
-/// tag that comes twice makes operations once, and `sel` makes none. The last newline loses its tags by
-/// one Tag each.
+/// one span alone, and is taken off `a`; where no character has a tag there is nothing to take off.
+/// Two tags make operations one after the other. A tag that comes twice makes operations once, and `sel`
+/// makes none. A deleted tag is taken off the last newline too, whose span is the first. The last
+/// newline loses its tags by one Tag each.
 pub fn tags()
     ensures on { tag_drafts_at MOST_SPANS (λ _. true) true (codes "t") cells_with_t ≡ Tag true (codes "t") (span 1 2 2 ∷ span 2 3 3 ∷ []) ∷ [] }
     ensures parts { tag_drafts_at 1 (λ _. true) true (codes "t") cells_with_t
         ≡ Tag true (codes "t") (span 1 2 2 ∷ []) ∷ Tag true (codes "t") (span 2 3 3 ∷ []) ∷ [] }
     ensures off { tag_drafts_at MOST_SPANS (λ _. true) false (codes "t") cells_with_t ≡ Tag false (codes "t") (span 1 1 1 ∷ []) ∷ [] }
     ensures nothing { tag_drafts_at MOST_SPANS (λ _. true) false (codes "u") cells_with_t ≡ [] }
+    ensures both { tags_drafts_at MOST_SPANS flat_with_t (λ _. true) true (codes "t" ∷ codes "u" ∷ [])
+        ≡ Tag true (codes "t") (span 1 2 2 ∷ span 2 3 3 ∷ []) ∷ Tag true (codes "u") (span 1 1 2 ∷ span 2 3 3 ∷ []) ∷ [] }
     ensures twice { tags_drafts_at MOST_SPANS flat_with_t (λ _. true) true (codes "u" ∷ codes "u" ∷ [])
         ≡ Tag true (codes "u") (span 1 1 2 ∷ span 2 3 3 ∷ []) ∷ [] }
     ensures deleted { deletion_drafts MOST_SPANS flat_with_t (sel ∷ codes "t" ∷ codes "t" ∷ []) ≡ Tag false (codes "t") (span 1 1 1 ∷ []) ∷ [] }
+    ensures deleted_at_end { deletion_drafts MOST_SPANS flat_with_newline (codes "t" ∷ []) ≡ Tag false (codes "t") (span 0 1 1 ∷ span 1 1 1 ∷ []) ∷ [] }
     ensures newline { newline_drafts (codes "t" ∷ codes "u" ∷ [])
         ≡ Tag false (codes "t") (span 0 1 1 ∷ []) ∷ Tag false (codes "u") (span 0 1 1 ∷ []) ∷ [] }
 {}
@@ -51,10 +58,33 @@ pub fn insertions()
 
 /// Two pieces with lists and then characters without one: each goes behind the text of the one before it.
 /// Those without a list get the tags that both neighbours have, of which the left one is the last of the
-/// pieces, or without pieces the place's.
+/// pieces, or without pieces the place's. A piece without text makes no operation. `sel` is no shared tag,
+/// and a name that comes twice is listed once.
 pub fn pieces()
     ensures lists { insertion_drafts MOST_CHARACTERS 1 (at 1 2) with_u with_u two_pieces (codes "d") (nothing_yet 6)
         ≡ Insert (at 1 2) only_t (codes "ab") ∷ Insert (at 8 1) [] (codes "c") ∷ Insert (at 9 1) [] (codes "d") ∷ [] }
     ensures between { insertion_drafts MOST_CHARACTERS 1 (at 1 2) with_u with_u [] (codes "d") (nothing_yet 6)
         ≡ Insert (at 1 2) (codes "u" ∷ []) (codes "d") ∷ [] }
+    ensures empty { insertion_drafts MOST_CHARACTERS 1 (at 1 2) with_u with_u three_pieces [] (nothing_yet 6)
+        ≡ Insert (at 1 2) only_t (codes "ab") ∷ Insert (at 8 1) [] (codes "c") ∷ [] }
+    ensures sel { insertion_drafts MOST_CHARACTERS 1 (at 1 2) with_u with_u piece_with_sel [] (nothing_yet 6) ≡ Insert (at 1 2) only_t (codes "ab") ∷ [] }
+{}
+
+/// Of `Yab` with the tag t on `a` and on the last newline: a range within it is one Delete. Where a range
+/// holds the last newline, this stays, and loses its tag after the Delete of the others.
+pub fn deletions()
+    ensures inner { delete_drafts MOST_SPANS flat_with_newline (record { from = 1; to = 2 } ∷ []) ≡ Delete (span 1 1 1 ∷ []) ∷ [] }
+    ensures whole { delete_drafts MOST_SPANS flat_with_newline (record { from = 0; to = 4 } ∷ [])
+        ≡ Delete (span 1 1 2 ∷ span 2 3 3 ∷ []) ∷ Tag false (codes "t") (span 0 1 1 ∷ []) ∷ [] }
+    ensures newline { delete_drafts MOST_SPANS flat_with_newline (record { from = 3; to = 4 } ∷ []) ≡ Tag false (codes "t") (span 0 1 1 ∷ []) ∷ [] }
+    ensures nothing { delete_drafts MOST_SPANS flat_with_newline [] ≡ [] }
+{}
+
+/// Where neither the counts of drafts fit nor their cells, the counts are told. The limit is of all cells,
+/// the last newline's too.
+pub fn refusals()
+    ensures counts { refusal_of 0 (Insert ROOT [] (codes "a") ∷ []) log_at_end ≡ Some ClockSpent }
+    ensures counts_alone { refusal_of 9 (Insert ROOT [] (codes "a") ∷ []) log_at_end ≡ Some ClockSpent }
+    ensures cells { refusal_of 3 (Insert ROOT [] (codes "c") ∷ []) (insert_ab ∷ []) ≡ Some TextFull }
+    ensures none { refusal_of 4 (Insert ROOT [] (codes "c") ∷ []) (insert_ab ∷ []) ≡ None }
 {}

@@ -13,7 +13,8 @@ ghost use Rattle.rt_store.specs.Shown.{TaggedCell};
 ghost use Rattle.rt_edits.specs.Insertions.{tagged_cells};
 ghost use Rattle.rt_edits.specs.Merging.{begins_line};
 ghost use Rattle.rt_edits.specs.Removals.{cells_at, gone_at, is_removed, left_at, span_count};
-ghost use Rattle.rt_edits.specs.DraftLaws.{AllTagsAreCounted, DeletesAreCounted, DeletesMakeGone, DeletesMayBeMade, DeletionsAreCounted, DeletionsAreMade, DeletionsMayBeMade, InsertionIsCounted, InsertionIsMade, InsertionMayBeMade, NewlineHasOneTagEach, RemovalIsMade, SharedNamesAreTags, TagsAreCounted, TagsAreMade, TagsBetweenAreTags, TagsMayBeMade, TagsWriteAsFlat, TextIsCounted, TextIsMade, TextIsPutAsFlat, TextMayBeMade};
+ghost use Rattle.rt_edits.specs.DeletionLaws.{CellsHaveTagNames, CharactersAreScalars, InsertionsMayBegin, LeftIsElement, LeftStaysElement, PiecesAreTexts, RangesAreCounted, RangesAreDeleted, RangesInsertNone, RangesMayBeDeleted, RangesSpareLast, ReplacementIsCounted, ReplacementIsMade, ReplacementMayBeMade, ReplacementsMayBegin, TagsLeftAreTags};
+ghost use Rattle.rt_edits.specs.DraftLaws.{AllTagsAreCounted, DeletesAreCounted, DeletesMakeGone, DeletesMayBeMade, DeletionsAreCounted, DeletionsAreMade, DeletionsInsertNone, DeletionsMayBeMade, InsertionHasNewCells, InsertionIsCounted, InsertionIsMade, InsertionMayBeMade, NewlineHasOneTagEach, RemovalIsMade, SharedNamesAreTags, TagsAreCounted, TagsAreMade, TagsBetweenAreTags, TagsInsertNone, TagsMayBeMade, TagsWriteAsFlat, TextIsCounted, TextIsMade, TextIsPutAsFlat, TextMayBeMade};
 ghost use Rattle.rt_edits.specs.NamedSpans.{spans_in};
 ghost use Rattle.rt_store.specs.Spans.{each_next, is_among, is_clear_of, is_in_spans, is_span};
 ghost use Rattle.rt_edits.specs.TagWrites.{AreTagged, cells_beside, cells_but, with_tag, with_tag_at, writes_of};
@@ -85,10 +86,48 @@ pub fn removal_drafts()
     ensures made { RemovalIsMade }
 {}
 
+/// The operations of a deletion of ranges may be made, also where their counts don't fit: the Tags behind
+/// the Deletes name the last newline, which each set knows, and which no removal takes. They take as
+/// many counts as the deletion does, and insert no characters. So where the counts fit, a document that
+/// has the cells of a history has, without the characters in the ranges, those of the history with the
+/// operations.
+pub fn delete_drafts()
+    ensures spared { RangesSpareLast }
+    ensures may_be_made { RangesMayBeDeleted }
+    ensures count { RangesAreCounted }
+    ensures made { RangesAreDeleted }
+    ensures characters { RangesInsertNone }
+{}
+
+/// The operations of a replacement are those of a deletion, and then those of an insertion into what it
+/// leaves. They may be made where the insertion may, and take as many counts. So where these fit, the
+/// cells of the history with them are those of the one flat edit after the other.
+pub fn replacement_drafts()
+    ensures may_be_made { ReplacementMayBeMade }
+    ensures count { ReplacementIsCounted }
+    ensures made { ReplacementIsMade }
+{}
+
+/// What an insertion asks holds in the cells of a history, and in what a deletion leaves of them, also
+/// where its counts don't fit: the visible left neighbour of a place below the text's end is an element,
+/// and the tags on characters, and those that both neighbours have, are names that rise by their bytes.
+/// The characters of a `str` are scalar values. So pieces whose names are as long as names may be, and
+/// characters without a list, may be inserted before each place below the end.
+pub fn insertion_premises()
+    ensures element { LeftIsElement }
+    ensures element_left { LeftStaysElement }
+    ensures names { CellsHaveTagNames }
+    ensures names_left { TagsLeftAreTags }
+    ensures characters { CharactersAreScalars }
+    ensures pieces { PiecesAreTexts }
+    ensures insertion { InsertionsMayBegin }
+    ensures replacement { ReplacementsMayBegin }
+{}
+
 /// The Tag operations of a tag edit write on just the characters that they name, under the counts of
-/// the document's definition. They keep the rules, and name what is known. So a document that has the
-/// cells of a history has, after tags were put on characters, taken off or deleted, those of the
-/// history with their operations.
+/// the document's definition, and insert none. They keep the rules, and name what is known. So a
+/// document that has the cells of a history has, after tags were put on characters, taken off or
+/// deleted, those of the history with their operations.
 pub fn tag_drafts()
     ensures cells { TagsWriteAsFlat }
     ensures count { TagsAreCounted }
@@ -99,6 +138,8 @@ pub fn tag_drafts()
     ensures newline { NewlineHasOneTagEach }
     ensures all_counted { AllTagsAreCounted }
     ensures deleted_counted { DeletionsAreCounted }
+    ensures characters { TagsInsertNone }
+    ensures deleted_characters { DeletionsInsertNone }
 {}
 
 /// The Inserts of a text, with the Tags behind them, put the cells of the document's definition in
@@ -112,13 +153,14 @@ pub fn text_drafts()
 {}
 
 /// The operations of pieces with lists, and of characters without one behind them, put the new cells of
-/// the document's definition in behind the element, and take as many counts; each keeps the rules, and
-/// names what is known. The tags of new text are as operations have them, where those of the lists are
-/// names.
+/// the document's definition in behind the element, take as many counts, and insert as many characters;
+/// each keeps the rules, and names what is known. The tags of new text are as operations have them,
+/// where those of the lists are names.
 pub fn insertion_drafts()
     ensures may_be_made { InsertionMayBeMade }
     ensures made { InsertionIsMade }
     ensures count { InsertionIsCounted }
+    ensures characters { InsertionHasNewCells }
     ensures shared { SharedNamesAreTags }
     ensures between { TagsBetweenAreTags }
 {}

@@ -1,5 +1,6 @@
 pub mod Accepting
 pub mod Answering
+pub mod Appending
 pub mod Bases
 pub mod Batching
 pub mod Chains

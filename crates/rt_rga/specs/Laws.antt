@@ -1,5 +1,5 @@
 -- The statements of those laws that are too long for a clause.
-use Rattle.std.specs.Prelude.{◌≡◌, ◌↔◌, ◌⊎◌, ℕ, ◌+◌, ◌<◌, ◌≤◌, ◌==◌, Bool, true, false, not, ◌&&◌, ◌||◌, nat_le, nat_lt, List, [], ◌∷◌, length, map, reverse, codes, None, Ok}
+use Rattle.std.specs.Prelude.{◌≡◌, ◌↔◌, ◌⊎◌, ℕ, ◌+◌, ◌<◌, ◌≤◌, ◌==◌, Bool, true, false, not, ◌&&◌, ◌||◌, List, [], ◌∷◌, ◌++◌, length, map, reverse, codes, None, Ok}
 use Rattle.std.specs.List.{All, list_all, list_any}
 use Rattle.rt_stamps.specs.Spans.{is_span}
 use Rattle.rt_stamps.specs.Stamps.{is_same}
@@ -27,7 +27,7 @@ use Rattle.rt_rga.specs.Made.{refusal_of, unless_refused}
 use Rattle.rt_rga.specs.Orders.{AreIn, ComeInTime, HasBasesIn}
 use Rattle.rt_rga.specs.Replicas.{IsReplica}
 use Rattle.rt_rga.specs.Requests.{AllMayBeAsked, Make, MayBeMade, Offer, Request, after_request, after_requests, characters_in_all, last_count_after}
-use Rattle.rt_store.specs.Shown.{shown}
+use Rattle.rt_store.specs.Shown.{TaggedCell, shown}
 use Rattle.rt_store.specs.Spans.{gone_in_any, is_among, is_in_spans}
 use Rattle.rt_rga.specs.Texts.{tagged_text}
 
@@ -221,6 +221,37 @@ abbrev pub DraftsAreCounted : Type 0
 DraftsAreCounted =
     (site : ℕ) (drafts : List Body) (set : List Operation) → 0 < site → IsHistory set → AreDraftsFor site set drafts
     → length (cells_of (with_drafts site drafts set)) ≡ length (cells_of set) + characters_in_all drafts
+
+-- DRAFTS AFTER DRAFTS
+
+-- The operations of drafts and more are those of the drafts, and then those of the others on the set with them.
+abbrev pub OperationsAppend : Type 0
+OperationsAppend =
+    (site : ℕ) (drafts more : List Body) (set : List Operation)
+    → operations_of site (drafts ++ more) set ≡ operations_of site drafts set ++ operations_of site more (with_drafts site drafts set)
+
+abbrev pub SetsAppend : Type 0
+SetsAppend =
+    (site : ℕ) (drafts more : List Body) (set : List Operation)
+    → with_drafts site (drafts ++ more) set ≡ with_drafts site more (with_drafts site drafts set)
+
+abbrev pub ChangesAppend : Type 0
+ChangesAppend =
+    (site : ℕ) (drafts more : List Body) (set : List Operation) (cells : List TaggedCell)
+    → all_changed (operations_of site (drafts ++ more) set) cells
+    ≡ all_changed (operations_of site more (with_drafts site drafts set)) (all_changed (operations_of site drafts set) cells)
+
+abbrev pub BothMayBeMade : Type 0
+BothMayBeMade =
+    (site : ℕ) (drafts more : List Body) (set : List Operation)
+    → MayBeMade site set (drafts ++ more) ↔ (MayBeMade site set drafts × MayBeMade site (with_drafts site drafts set) more)
+
+abbrev pub CountsAppend : Type 0
+CountsAppend =
+    (drafts more : List Body) (count : ℕ) → last_count_after count (drafts ++ more) ≡ last_count_after (last_count_after count drafts) more
+
+abbrev pub CharactersAppend : Type 0
+CharactersAppend = (drafts more : List Body) → characters_in_all (drafts ++ more) ≡ characters_in_all drafts + characters_in_all more
 
 -- WHAT IS KEPT
 

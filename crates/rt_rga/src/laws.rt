@@ -24,7 +24,7 @@ ghost use Rattle.rt_store.specs.Spans.{is_among};
 ghost use Rattle.rt_store.specs.Shown.{TaggedCell};
 ghost use Rattle.rt_store.specs.Written.{IsBelowNext, IsWritten};
 ghost use Rattle.rt_rga.specs.Names.{HasNames};
-ghost use Rattle.rt_rga.specs.Laws.{AllDraftsCountOn, BadSpansAreWithinEnd, BadTargetsStay, CellsAreChanged, CellsAreCharacters, CellsAreCounted, ClashFreeAreJoined, ClashFreeAreTaken, ConflictsAreClashes, ConflictsStay, DeleteIsKept, DeletesOfZeroAreBad, DraftsAreCounted, DraftsChangeInTurn, DraftsCountOn, DraftsFit, DraftsLeaveHistory, EitherOrderWillDo, EqualLogsShowEqualCells, EqualLogsShowEqualText, FinalIsKnown, FinalIsSpared, FullHasNone, GapsAreWithinEnd, GreatestDecide, InTimeIsTaken, InTimeIsTakenWithin, InsertFindsPlace, InsertIsKept, InsertsArePlaced, InsertsSkipGreater, MadeIsNew, NewHasItsBases, NewHasRoom, NewMakesLarger, NewestIsFirst, NewestSkipsNothing, OffersAddNew, RequestsKeepLimit, RequestsLeaveHistory, RequestsMakeUnlessRefused, SelIsInNoState, SharedAreListed, SitesAgree, SpansAreKnown, SpansNameTheirStamps, TagIsKept, TagsOfZeroAreFinal};
+ghost use Rattle.rt_rga.specs.Laws.{AllDraftsCountOn, BadSpansAreWithinEnd, BadTargetsStay, BothMayBeMade, CellsAreChanged, CellsAreCharacters, CellsAreCounted, ChangesAppend, CharactersAppend, ClashFreeAreJoined, ClashFreeAreTaken, ConflictsAreClashes, ConflictsStay, CountsAppend, DeleteIsKept, DeletesOfZeroAreBad, DraftsAreCounted, DraftsChangeInTurn, DraftsCountOn, DraftsFit, DraftsLeaveHistory, EitherOrderWillDo, EqualLogsShowEqualCells, EqualLogsShowEqualText, FinalIsKnown, FinalIsSpared, FullHasNone, GapsAreWithinEnd, GreatestDecide, InTimeIsTaken, InTimeIsTakenWithin, InsertFindsPlace, InsertIsKept, InsertsArePlaced, InsertsSkipGreater, MadeIsNew, NewHasItsBases, NewHasRoom, NewMakesLarger, NewestIsFirst, NewestSkipsNothing, OffersAddNew, OperationsAppend, RequestsKeepLimit, RequestsLeaveHistory, RequestsMakeUnlessRefused, SelIsInNoState, SetsAppend, SharedAreListed, SitesAgree, SpansAreKnown, SpansNameTheirStamps, TagIsKept, TagsOfZeroAreFinal};
 
 /// The reading of a history goes over its tree depth first, and no other list does. It can be had in
 /// one pass over the characters by rising stamp.
@@ -156,6 +156,18 @@ pub fn drafts()
     ensures fit { DraftsFit }
     ensures counts { AllDraftsCountOn }
     ensures length { DraftsAreCounted }
+{}
+
+/// Drafts and then more make the operations of the first ones, and then those of the others on the set
+/// that has them. They may be made where both may, each for its set. Their counts go on, and their
+/// characters add up.
+pub fn appended_drafts()
+    ensures operations { OperationsAppend }
+    ensures set { SetsAppend }
+    ensures cells { ChangesAppend }
+    ensures may_be_made { BothMayBeMade }
+    ensures count { CountsAppend }
+    ensures characters { CharactersAppend }
 {}
 
 /// What two replicas keep whose logs have the same operations shows equal cells, and so equal text

@@ -1,8 +1,8 @@
 -- The commands on a text.
-use Rattle.std.specs.Prelude.{ℕ, ◌+◌, ◌-◌, ◌==◌, ℤ, List, [], ◌∷◌, ◌++◌, length, map, flat_map, min, nat_lt, Bool, false, Option, Some, None, is_some, option_map, Result, if◌then◌else◌, slice_get, unwrap_or, encode_utf8_all}
+use Rattle.std.specs.Prelude.{ℕ, ◌+◌, ◌-◌, ℤ, List, [], ◌∷◌, ◌++◌, length, map, flat_map, min, nat_lt, Bool, false, Option, Some, None, is_some, option_map, Result, if◌then◌else◌, unwrap_or, encode_utf8_all}
 use Rattle.std.specs.Str.{bytes_eq}
 use Rattle.rt_index.specs.Widget.{Widget}
-use Rattle.rt_marks.specs.Marks.{marks_inserted, marks_left}
+use Rattle.rt_marks.specs.Marks.{marks_inserted}
 use Rattle.rt_stamps.specs.declared.limits.TheConstants.{GREATEST_COUNT}
 use Rattle.rt_stamps.specs.declared.fault.Fault.{Fault}
 use Rattle.rt_stamps.specs.declared.fault.Fault.TheVariants.{BadOption, ClockSpent, TextFull}
@@ -14,16 +14,16 @@ use Rattle.rt_stamps.specs.Outcomes.{first_of, unless}
 use Rattle.rt_stamps.specs.Places.{position_at}
 use Rattle.rt_stamps.specs.Words.{Word}
 use Rattle.rt_store.specs.Cells.{text_of, visible_of}
-use Rattle.rt_tags.specs.States.{names_on}
 use Rattle.rt_tags.specs.Tags.{sel}
 use Rattle.rt_edits.specs.declared.range.Range.{Range}
+pub use Rattle.rt_edits.specs.Deletions.{is_last, last_tags, without_places}
 use Rattle.rt_edits.specs.Flat.{Flat, left_of, put_after}
 use Rattle.rt_edits.specs.Insertions.{Insertion, Piece, insertion_of, left_neighbour, right_neighbour}
 use Rattle.rt_text.specs.Comparisons.{comparison_of, holds_of}
 use Rattle.rt_text.specs.Distances.{measures_of, or_indices, distance_of}
 use Rattle.rt_text.specs.Index.{index_check, place_at_index}
 use Rattle.rt_text.specs.Ranges.{text_between, texts_of, ranges_of}
-use Rattle.rt_edits.specs.Removals.{is_covered, is_removed, gone_at, stamps_at, span_count, operations_for}
+use Rattle.rt_edits.specs.Removals.{is_covered, is_removed, stamps_at}
 use Rattle.rt_edits.specs.Selections.{unselected, selection_with}
 use Rattle.rt_edits.specs.TagWrites.{listed_if, with_tag_at, with_tags_at}
 use Rattle.rt_text.specs.Widgets.{Own, widget_of, own_inserted, own_left}
@@ -77,23 +77,6 @@ with_pieces_at flat own others place pieces rest =
       own = record (own_inserted place (length new.cells) own) { sel = new.sel };
       others = new.others;
     }
-
--- the document without the characters at some places: their cells are gone, with the counts that this takes, and the marks move
--- for that
-abbrev pub without_places : Flat → (ℕ → Bool) → Flat
-without_places flat removed = record flat {
-  cells = gone_at removed 0 flat.cells;
-  count = flat.count + operations_for (span_count (stamps_at removed 0 flat.cells));
-  marks = marks_left removed flat.marks;
-}
-
--- a place is that of the last newline
-abbrev pub is_last : Flat → ℕ → Bool
-is_last flat place = place + 1 == length (text_of flat.cells)
-
--- the shared tags of the last newline, whose cell is the last one, by their bytes
-abbrev pub last_tags : Flat → List Word
-last_tags flat = unwrap_or (option_map (λ cell. names_on cell.state) (slice_get flat.cells (length flat.cells - 1))) []
 
 -- the last newline without tags, and nowhere selected
 abbrev pub without_last_tags : Edited → Edited

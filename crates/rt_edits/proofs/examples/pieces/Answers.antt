@@ -9,3 +9,11 @@ returns-clause-lists c = refl
 pub returns-clause-between : goal.returns-clause-between
 unfolding chars
 returns-clause-between c = refl
+
+pub returns-clause-empty : goal.returns-clause-empty
+unfolding chars
+returns-clause-empty c = refl
+
+pub returns-clause-sel : goal.returns-clause-sel
+unfolding chars
+returns-clause-sel c = refl

@@ -1,3 +1,4 @@
+use Rattle.rt_edits.proofs.CharacterCounts.{insertion_length}
 use Rattle.rt_edits.proofs.PieceDraftLaws.{insertion_counted, insertion_made, insertion_may}
 use Rattle.rt_edits.proofs.TagNames.{shared_are, tags_between_are}
 use Rattle.rt_edits.proofs.laws.insertion_drafts.Goals as goal
@@ -16,3 +17,6 @@ returns-clause-between c = tags_between_are
 
 pub returns-clause-count : goal.returns-clause-count
 returns-clause-count c = insertion_counted
+
+pub returns-clause-characters : goal.returns-clause-characters
+returns-clause-characters c = insertion_length

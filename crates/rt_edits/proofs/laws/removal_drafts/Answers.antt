@@ -1,4 +1,4 @@
-use Rattle.rt_edits.proofs.RemovalDraftLaws.{deletes_are_counted, deletes_make_gone, deletes_may_be_made, removal_is_made}
+use Rattle.rt_edits.proofs.RemovalDraftLaws.{deletes_are_counted, deletes_make_gone, deletes_may_be_made, removal_made}
 use Rattle.rt_edits.proofs.laws.removal_drafts.Goals as goal
 
 pub returns-clause-cells : goal.returns-clause-cells
@@ -11,4 +11,4 @@ pub returns-clause-may_be_made : goal.returns-clause-may_be_made
 returns-clause-may_be_made c = deletes_may_be_made
 
 pub returns-clause-made : goal.returns-clause-made
-returns-clause-made c = removal_is_made
+returns-clause-made c = λ site log flat removed p h doc spared l. (removal_made site log flat removed p h doc spared l).document

@@ -1,3 +1,4 @@
+use Rattle.rt_edits.proofs.CharacterCounts.{deletions_insert_none, tags_insert_none}
 use Rattle.rt_edits.proofs.NewlineDrafts.{newline_one_each}
 use Rattle.rt_edits.proofs.TagDocuments.{all_deletions_counted, all_tags_counted, deletions_made, deletions_may, tags_are_counted, tags_made, tags_may}
 use Rattle.rt_edits.proofs.TagDraftLaws.{tags_as_flat}
@@ -29,3 +30,9 @@ returns-clause-all_counted c = all_tags_counted
 
 pub returns-clause-deleted_counted : goal.returns-clause-deleted_counted
 returns-clause-deleted_counted c = all_deletions_counted
+
+pub returns-clause-characters : goal.returns-clause-characters
+returns-clause-characters c = λ flat places on names. tags_insert_none names flat places on
+
+pub returns-clause-deleted_characters : goal.returns-clause-deleted_characters
+returns-clause-deleted_characters c = λ flat names. deletions_insert_none names flat

@@ -1,0 +1,174 @@
+-- What edits find in the cells of a history, and in what a deletion leaves of them.
+use Rattle.std.proofs.Common.{◌≡◌, ℕ, zero, suc, ◌-◌, ◌<◌, inl, inr, List, [], ◌∷◌, ◌++◌, Bool, true, false, cond, not, ◌||◌, length, map, refl, sym, ◌∙◌, ap, subst, arith, Some, Option}
+use Rattle.std.specs.Prelude.{option_map, slice_get, unwrap_or}
+use Rattle.std.specs.List.{IsDistinct, list_all}
+use Rattle.std.specs.Str.{IsUtf8, all_scalars, chars}
+use Rattle.std.proofs.lemmas.Bool.{or_left, or_right}
+use Rattle.std.proofs.lemmas.Str.{scalars-chars}
+use Rattle.rt_stamps.specs.declared.limits.TheConstants.{MOST_SPANS}
+use Rattle.rt_stamps.specs.declared.stamp.Stamp.{Stamp}
+use Rattle.rt_stamps.specs.declared.stamp.TheConstants.{FINAL, ROOT}
+use Rattle.rt_stamps.specs.Stamps.{is_same}
+use Rattle.rt_stamps.specs.Words.{Word}
+use Rattle.rt_stamps.proofs.Order.{same_refl}
+use Rattle.rt_oplog.specs.Operations.{Operation}
+use Rattle.rt_oplog.specs.Rules.{is_name}
+use Rattle.rt_store.specs.Cells.{AreDistinct, stamps_of, text_of, visible_of}
+use Rattle.rt_store.specs.Shown.{TaggedCell}
+use Rattle.rt_store.specs.Spans.{is_among}
+use Rattle.rt_store.proofs.Distinct.{split}
+use Rattle.rt_store.proofs.Shown.{map_append}
+use Rattle.rt_rga.specs.Cells.{cell_in, cells_of}
+use Rattle.rt_rga.specs.Drafts.{with_drafts}
+use Rattle.rt_rga.specs.Histories.{IsHistory, final_character, has_character}
+use Rattle.rt_rga.proofs.Corollaries.{cells_distinct}
+use Rattle.rt_rga.proofs.Final.{cells_last}
+use Rattle.rt_edits.specs.declared.range.Range.{Range}
+use Rattle.rt_edits.specs.Deletions.{delete_drafts, is_last, last_tags, without_places, without_text_in}
+use Rattle.rt_edits.specs.DraftLaws.{AreTagNames, AreTexts, IsDocument, IsElement}
+use Rattle.rt_edits.specs.Flat.{Flat, left_of}
+use Rattle.rt_edits.specs.Insertions.{Insertion, Piece, last_of, left_neighbour, tags_between, with_pieces}
+use Rattle.rt_edits.specs.Removals.{cells_at, gone_at, is_covered, is_removed}
+use Rattle.rt_edits.specs.TagWrites.{changed_stamps, tagged, with_tag_at, with_tags_at}
+use Rattle.rt_edits.proofs.DeletionDraftLaws.{last_names, same_tags, spares_last, stamps_gone, still_ends}
+use Rattle.rt_edits.proofs.DraftSteps.{AreKnownCells, known_cells, known_later}
+use Rattle.rt_edits.proofs.NewlineDrafts.{EndsAs, document_ends}
+use Rattle.rt_edits.proofs.PieceDraftLaws.{apart_front}
+use Rattle.rt_edits.proofs.PlaceLaws.{length_text}
+use Rattle.rt_edits.proofs.Putting.{tagged_state}
+use Rattle.rt_edits.proofs.TagDocuments.{tag_stamps}
+use Rattle.rt_edits.proofs.TagNames.{CellsNamed, every_named, gone_named, tags_between_in, tags_named}
+
+-- THE LEFT NEIGHBOUR
+
+-- cells, the last one apart, which is the visible last newline's
+record HasLast (cells front : List TaggedCell) (last : TaggedCell) : Type 0 where
+  pub is : cells ≡ front ++ last ∷ []
+  pub stamp : last.stamp ≡ FINAL
+  pub gone : last.gone ≡ false
+
+-- a visible cell at a place is one of the first ones
+abbrev IsLeftIn : List TaggedCell → List TaggedCell → ℕ → Type 0
+IsLeftIn visible front p = (x : TaggedCell) × (slice_get visible p ≡ Some x) × (is_among (stamps_of front) x.stamp ≡ true)
+
+left_step : (c : TaggedCell) (rest cs : List TaggedCell) (p : ℕ) → ((q : ℕ) → suc q < length rest → IsLeftIn rest cs q) → suc p < length (c ∷ rest) → IsLeftIn (c ∷ rest) (c ∷ cs) p
+left_step c rest cs zero f h = (c, refl, or_left (is_same c.stamp c.stamp) _ (same_refl c.stamp))
+left_step c rest cs (suc q) f h = let w = f q (omega (arith, h)) in (w.0, w.1, or_right (is_same c.stamp w.0.stamp) _ w.2)
+
+left_in : (front : List TaggedCell) (last : TaggedCell) (p : ℕ) → last.gone ≡ false → suc p < length (visible_of (front ++ last ∷ [])) → IsLeftIn (visible_of (front ++ last ∷ [])) front p
+left_in [] last p g h = absurd (let n : length (visible_of (last ∷ [])) ≡ 1 = ap (λ b. length (cond (not b) (last ∷ []) [])) g in omega (arith, n, h))
+left_in (c ∷ cs) last p g h =
+    let rest = visible_of (cs ++ last ∷ []) in
+    let whole = visible_of (c ∷ (cs ++ last ∷ [])) in
+    split c.gone
+    (λ e.
+    let seen : whole ≡ rest = ap (λ b. cond (not b) (c ∷ rest) rest) e in
+    let w = left_in cs last p g (subst (λ (l : List TaggedCell). suc p < length l) seen h) in
+    subst (λ (l : List TaggedCell). IsLeftIn l (c ∷ cs) p) (sym seen) (w.0, w.1, or_right (is_same c.stamp w.0.stamp) _ w.2))
+    (λ e.
+    let seen : whole ≡ c ∷ rest = ap (λ b. cond (not b) (c ∷ rest) rest) e in
+    subst (λ (l : List TaggedCell). IsLeftIn l (c ∷ cs) p) (sym seen) (left_step c rest cs p (λ q n. left_in cs last q g n) (subst (λ (l : List TaggedCell). suc p < length l) seen h)))
+
+among_front : (front rest : List TaggedCell) (s : Stamp) → is_among (stamps_of front) s ≡ true → is_among (stamps_of (front ++ rest)) s ≡ true
+among_front [] rest s h = absurd (cc h)
+among_front (c ∷ cs) rest s h = split (is_same c.stamp s)
+    (λ e. or_left (is_same c.stamp s) _ e)
+    (λ e. or_right (is_same c.stamp s) _ (among_front cs rest s (ap (λ b. b || is_among (stamps_of cs) s) (sym e) ∙ h)))
+
+left_known : (log : List Operation) (cells front : List TaggedCell) (last : TaggedCell) (place : ℕ) → HasLast cells front last → AreDistinct cells → AreKnownCells log cells → place < length (text_of cells)
+    → IsElement log (left_of cells place)
+left_known log cells front last zero e d k l = or_right (has_character log ROOT) (is_same ROOT ROOT) refl
+left_known log cells front last (suc p) e d k l =
+    let n : suc p < length (visible_of (front ++ last ∷ [])) = subst (λ (cells : List TaggedCell). suc p < length (visible_of cells)) e.is (omega (arith, l, length_text cells)) in
+    let w = left_in front last p e.gone n in
+    let s = w.0.stamp in
+    let at : left_of cells (suc p) ≡ s =
+    ap (λ (cells : List TaggedCell). unwrap_or (option_map (λ (cell : TaggedCell). cell.stamp) (slice_get (visible_of cells) p)) ROOT) e.is
+    ∙ ap (λ o. unwrap_or (option_map (λ (cell : TaggedCell). cell.stamp) o) ROOT) w.1 in
+    let there : is_among (stamps_of cells) s ≡ true = ap (λ (cells : List TaggedCell). is_among (stamps_of cells) s) e.is ∙ among_front front (last ∷ []) s w.2 in
+    let element : IsElement log s = elim (k s there) [
+      | inl f ↦ or_left (has_character log s) (is_same s ROOT) f
+      | inr f ↦ absurd (let apart = apart_front front last [] (subst AreDistinct e.is d) in
+          let same : is_among (stamps_of front) last.stamp ≡ true = ap (is_among (stamps_of front)) (e.stamp ∙ sym f) ∙ w.2 in
+          cc (apart, same))
+    ] in
+    subst (IsElement log) (sym at) element
+
+pub left_is_element : (log : List Operation) (place : ℕ) → IsHistory log → place < length (text_of (cells_of log)) → IsElement log (left_of (cells_of log) place)
+left_is_element log place h l =
+    let w = cells_last log h in
+    left_known log (cells_of log) w.0 (cell_in log final_character) place (record { is = w.1.is; stamp = w.1.stamp; gone = w.1.gone }) (cells_distinct log h) (known_cells log (cells_of log) h refl) l
+
+-- WHAT A DELETION LEAVES
+
+abbrev SomeLast : List TaggedCell → Type 0
+SomeLast cells = (front : List TaggedCell) × (last : TaggedCell) × HasLast cells front last
+
+tag_end : (flat : Flat) (places : ℕ → Bool) (on : Bool) (name : Word) → SomeLast flat.cells → SomeLast (with_tag_at flat places on name).cells
+tag_end flat places on name w =
+    let stamps = changed_stamps name on (cells_at places 0 flat.cells) in
+    let g = tagged flat.site flat.count name on stamps in
+    let change = tagged_state flat.site flat.count name on stamps w.1 in (
+      map g w.0,
+      g w.1,
+      record {
+        is = ap (map g) w.2.is ∙ map_append g w.0 (w.1 ∷ []);
+        stamp = ap (λ (c : TaggedCell). c.stamp) change ∙ w.2.stamp;
+        gone = ap (λ (c : TaggedCell). c.gone) change ∙ w.2.gone;
+      },
+    )
+
+tags_end : (names : List Word) (flat : Flat) (places : ℕ → Bool) (on : Bool) → SomeLast flat.cells → SomeLast (with_tags_at flat places on names).cells
+tags_end [] flat places on w = w
+tags_end (name ∷ names) flat places on w = tags_end names (with_tag_at flat places on name) places on (tag_end flat places on name w)
+
+tags_stamps : (names : List Word) (flat : Flat) (places : ℕ → Bool) (on : Bool) → stamps_of (with_tags_at flat places on names).cells ≡ stamps_of flat.cells
+tags_stamps [] flat places on = refl
+tags_stamps (name ∷ names) flat places on = tags_stamps names (with_tag_at flat places on name) places on ∙ tag_stamps flat places on name
+
+-- what holds of the removal and stays when tags are taken off holds of the deletion
+left_has : (P : List TaggedCell → Type 0) (flat : Flat) (ranges : List Range) → let left = without_places flat (is_removed (text_of flat.cells) ranges) in
+    P left.cells → (P left.cells → P (with_tags_at left (is_last left) false (last_tags left)).cells) → P (without_text_in flat ranges).cells
+left_has P flat ranges h f =
+    let left = without_places flat (is_removed (text_of flat.cells) ranges) in
+    elim (is_covered ranges (length (text_of flat.cells) - 1)) as (λ b. P (cond b (with_tags_at left (is_last left) false (last_tags left)) left).cells) [ true ↦ f h | false ↦ h ]
+
+left_stamps : (flat : Flat) (ranges : List Range) → stamps_of (without_text_in flat ranges).cells ≡ stamps_of flat.cells
+left_stamps flat ranges =
+    let removed = is_removed (text_of flat.cells) ranges in
+    let left = without_places flat removed in
+    left_has (λ cells. stamps_of cells ≡ stamps_of flat.cells) flat ranges (stamps_gone removed 0 flat.cells) (λ h. tags_stamps (last_tags left) left (is_last left) false ∙ h)
+
+left_end : (flat : Flat) (ranges : List Range) (front : List TaggedCell) (last : TaggedCell) → EndsAs flat front last → SomeLast (without_text_in flat ranges).cells
+left_end flat ranges front last e =
+    let removed = is_removed (text_of flat.cells) ranges in
+    let left = without_places flat removed in
+    let still = still_ends flat removed front last e (spares_last (text_of flat.cells) ranges) in
+    left_has SomeLast flat ranges (gone_at removed 0 front, last, record { is = still.is; stamp = still.stamp; gone = still.gone }) (λ w. tags_end (last_tags left) left (is_last left) false w)
+
+pub left_stays : (site : ℕ) (log : List Operation) (flat : Flat) (ranges : List Range) (place : ℕ) → IsHistory log → IsDocument site log flat → place < length (text_of (without_text_in flat ranges).cells)
+    → IsElement (with_drafts site (delete_drafts MOST_SPANS flat ranges) log) (left_of (without_text_in flat ranges).cells place)
+left_stays site log flat ranges place h doc l =
+    let cells = (without_text_in flat ranges).cells in
+    let drafts = delete_drafts MOST_SPANS flat ranges in
+    let stamps = left_stamps flat ranges in
+    let w = left_end flat ranges (cells_last log h).0 (cell_in log final_character) (document_ends site log flat h doc) in
+    let distinct : AreDistinct cells = subst (IsDistinct is_same) (sym stamps) (subst AreDistinct (sym doc.cells) (cells_distinct log h)) in
+    left_known (with_drafts site drafts log) cells w.0 w.1 place w.2 distinct
+    (λ s k. known_later site drafts log flat.cells (known_cells log flat.cells h doc.cells) s (ap (λ l. is_among l s) (sym stamps) ∙ k)) l
+
+pub tags_left_are : (site : ℕ) (log : List Operation) (flat : Flat) (ranges : List Range) (place : ℕ) (right : Option TaggedCell) (pieces : List Piece) (start : Insertion)
+    → IsHistory log → IsDocument site log flat → AreTexts pieces → start.cells ≡ []
+    → AreTagNames (tags_between (last_of (left_neighbour (visible_of (without_text_in flat ranges).cells) place) (with_pieces site pieces start).cells) right)
+tags_left_are site log flat ranges place right pieces start h doc t none =
+    let removed = is_removed (text_of flat.cells) ranges in
+    let left = without_places flat removed in
+    let spared = spares_last (text_of flat.cells) ranges in
+    let names : list_all is_name (last_tags left) ≡ true = ap (list_all is_name) (same_tags site log flat removed h doc spared) ∙ last_names site log flat h doc in
+    let named = left_has CellsNamed flat ranges (gone_named removed 0 flat.cells (subst CellsNamed (sym doc.cells) (every_named log h))) (λ k. tags_named (last_tags left) left (is_last left) false names k) in
+    tags_between_in site (without_text_in flat ranges).cells place right pieces start named t none
+
+-- CHARACTERS
+
+pub characters_are_scalars : (bytes : List ℕ) → IsUtf8 bytes → all_scalars (chars bytes) ≡ true
+characters_are_scalars bytes h = scalars-chars bytes h
