@@ -7,17 +7,11 @@ mod edits;
 pub mod examples;
 pub mod laws;
 mod make;
-#[cfg(test)]
-mod make_tests;
 mod plan;
-#[cfg(test)]
-mod random_tests;
 mod removed;
 pub mod replica;
 mod tagging;
 pub mod taken;
-#[cfg(test)]
-mod tests;
 
 pub use replica::Replica;
 pub use rt_oplog::Edit as Draft;

@@ -14,6 +14,12 @@ mod oplog_files;
 #[cfg(test)]
 mod oplog_logs;
 #[cfg(test)]
+mod rga_make;
+#[cfg(test)]
+mod rga_orders;
+#[cfg(test)]
+mod rga_sites;
+#[cfg(test)]
 mod samples;
 #[cfg(test)]
 mod show;

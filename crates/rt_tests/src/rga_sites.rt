@@ -1,5 +1,5 @@
 // Random histories of three sites, delivered in random orders, against a plain reading of them.
-use crate::tests::{Does, Made, Peer, Said};
+use crate::rga_orders::{Does, Made, Peer, Said};
 use rt_stamps::{FINAL, Fault, Stamp};
 use rt_store::TextStore;
 use std::alloc::Global;

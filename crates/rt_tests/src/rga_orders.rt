@@ -1,5 +1,5 @@
 // Operations of a few sites, offered in each order that is allowed, each twice.
-use crate::{Change, PlaceRun, Replica, Taken};
+use rt_rga::{Change, PlaceRun, Replica, Taken};
 use rt_oplog::Op;
 use rt_stamps::{Fault, Site, Span, Stamp};
 use rt_store::{ListStore, TextStore};

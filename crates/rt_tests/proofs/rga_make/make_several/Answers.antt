@@ -2,7 +2,7 @@ use Rattle.std.proofs.Common.{◌≡◌, ◌<◌, ℕ, zero, suc, [], ◌∷◌,
 use Rattle.std.specs.Str.{IsAscii, is_utf8}
 use Rattle.std.proofs.lemmas.Str.{is_utf8-from_IsUtf8, IsUtf8-from_ascii}
 use Rattle.rt_rga.specs.Requests.{MayBeMade}
-use Rattle.rt_rga.proofs.make_tests.make_several.Goals as goal
+use Rattle.rt_tests.proofs.rga_make.make_several.Goals as goal
 
 -- a name of one letter
 ascii : (letter : ℕ) → letter < 128 → IsAscii (letter ∷ [])
