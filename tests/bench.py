@@ -170,13 +170,12 @@ def nodes():
 
 
 def replica():
-    """Proves and builds tests/bench/replica, a program over rt_rga; runs it for two numbers of operations, and with names."""
+    """Proves and builds tests/bench/replica, a program over rt_rga, and runs it for two numbers of operations."""
     with tempfile.TemporaryDirectory() as folder:
         ours = laid(folder, "replica", "bench_replica", "rt_stamps", "rt_tags", "rt_store", "rt_oplog", "rt_rga")
         subprocess.run(["rt", "run"], cwd=ours, stdout=subprocess.DEVNULL, check=True)
         program = os.path.join(ours, "out", "bench_replica")
-        runs = (("20000",), ("40000",), ("1000", "64"))
-        return max(subprocess.call([program, *words]) for words in runs)
+        return max(subprocess.call([program, str(operations)]) for operations in (20_000, 40_000))
 
 
 if __name__ == "__main__":
