@@ -6,8 +6,8 @@ ghost use Rattle.rt_oplog.specs.Edits.{body_of};
 ghost use Rattle.rt_oplog.specs.Operations.{Delete, Insert, Tag};
 ghost use Rattle.rt_rga.specs.Requests.{MayBeMade};
 
-use rt_rga::{Draft, Replica, Taken};
 use rt_oplog::{Op, Text};
+use rt_rga::{Draft, Replica, Taken};
 use rt_stamps::{Fault, ROOT, Site, Span, Stamp};
 use rt_store::{ListStore, TextStore};
 use std::alloc::Global;

@@ -1,6 +1,6 @@
 // Operations of a few sites, offered in each order that is allowed, each twice.
-use rt_rga::{Change, PlaceRun, Replica, Taken};
 use rt_oplog::Op;
+use rt_rga::{Change, PlaceRun, Replica, Taken};
 use rt_stamps::{Fault, Site, Span, Stamp};
 use rt_store::{ListStore, TextStore};
 use std::alloc::Global;
