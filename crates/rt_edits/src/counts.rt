@@ -33,7 +33,8 @@ fn counts_for(tags: usize, characters: usize) -> u64
 pub(crate) fn last_count(count: u64, tags: usize, characters: usize) -> Result<u64, Fault>
     requires { count ≤ GREATEST_COUNT }
     ensures ok { IfOk result (λ last. (last ≡ count + (characters + inserts_for characters * (tags - MOST_TAGS))) × (last ≤ GREATEST_COUNT)) }
-    ensures err { IfErr result (λ fault. (fault ≡ Fault.ClockSpent) × (GREATEST_COUNT < count + (characters + inserts_for characters * (tags - MOST_TAGS)))) }
+    ensures err { IfErr result (λ fault. (fault ≡ Fault.ClockSpent)
+        × (GREATEST_COUNT < count + (characters + inserts_for characters * (tags - MOST_TAGS)))) }
 {
     let counts = counts_for(tags, characters);
     if counts > GREATEST_COUNT - count {

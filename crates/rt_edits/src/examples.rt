@@ -39,7 +39,8 @@ pub fn tags()
     ensures twice { tags_drafts_at MOST_SPANS flat_with_t (λ _. true) true (codes "u" ∷ codes "u" ∷ [])
         ≡ Tag true (codes "u") (span 1 1 2 ∷ span 2 3 3 ∷ []) ∷ [] }
     ensures deleted { deletion_drafts MOST_SPANS flat_with_t (sel ∷ codes "t" ∷ codes "t" ∷ []) ≡ Tag false (codes "t") (span 1 1 1 ∷ []) ∷ [] }
-    ensures deleted_at_end { deletion_drafts MOST_SPANS flat_with_newline (codes "t" ∷ []) ≡ Tag false (codes "t") (span 0 1 1 ∷ span 1 1 1 ∷ []) ∷ [] }
+    ensures deleted_at_end { deletion_drafts MOST_SPANS flat_with_newline (codes "t" ∷ [])
+        ≡ Tag false (codes "t") (span 0 1 1 ∷ span 1 1 1 ∷ []) ∷ [] }
     ensures newline { newline_drafts (codes "t" ∷ codes "u" ∷ [])
         ≡ Tag false (codes "t") (span 0 1 1 ∷ []) ∷ Tag false (codes "u") (span 0 1 1 ∷ []) ∷ [] }
 {}

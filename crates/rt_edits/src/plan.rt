@@ -49,7 +49,8 @@ fn tags_of_list(
     states: &mut StateTable,
     names: &[String],
 ) -> Result<Vec<TagId>, Fault>
-    ensures ok { IfOk result (λ tags. map (name_at states.new) tags.items ≡ filter (λ name. not (bytes_eq name sel)) (map (λ w. string_bytes w) names.now)) }
+    ensures ok { IfOk result (λ tags. map (name_at states.new) tags.items ≡ filter
+        (λ name. not (bytes_eq name sel)) (map (λ w. string_bytes w) names.now)) }
     ensures given { IfOk result (λ tags. All (IsTag states.new) tags.items) }
     ensures ids { KeepsIds states.old states.new }
     ensures err { IfErr result (λ fault. fault ≡ Fault.NoMemory) }

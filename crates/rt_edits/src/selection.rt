@@ -115,7 +115,8 @@ impl Selection {
     // Selects characters where both others are selected, within the room that there is.
     fn add_if(&mut self, left: Stamp, right: Stamp, stamps: &[Stamp])
         requires { (is_among (stamps_in self.old) left && is_among (stamps_in self.old) right) ≡ true → length stamps.now ≤ room_in self.old }
-        ensures { stamps_in self.new ≡ selected_if (is_among (stamps_in self.old) left && is_among (stamps_in self.old) right) stamps.now (stamps_in self.old) }
+        ensures { stamps_in self.new ≡ selected_if (is_among (stamps_in self.old) left
+            && is_among (stamps_in self.old) right) stamps.now (stamps_in self.old) }
     {
         if self.has_both(left, right) {
             self.add(stamps);

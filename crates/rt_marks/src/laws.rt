@@ -35,7 +35,8 @@ pub fn look_ups()
 pub fn marks_within_the_text()
     ensures after_set { (name : List ℕ) (place size : ℕ) (marks : List Mark) → place ≤ size → Each (λ m. m.place ≤ size) marks
         → Each (λ m. m.place ≤ size) (marks_set name place marks) }
-    ensures after_unset { (name : List ℕ) (size : ℕ) (marks : List Mark) → Each (λ m. m.place ≤ size) marks → Each (λ m. m.place ≤ size) (without name marks) }
+    ensures after_unset { (name : List ℕ) (size : ℕ) (marks : List Mark) → Each (λ m. m.place ≤ size) marks → Each
+        (λ m. m.place ≤ size) (without name marks) }
     ensures after_gravity { (name : List ℕ) (gravity : Gravity) (size : ℕ) (marks : List Mark)
         → Each (λ m. m.place ≤ size) marks → Each (λ m. m.place ≤ size) (marks_with_gravity name gravity marks) }
     ensures after_insertion { (place n size : ℕ) (marks : List Mark) → Each (λ m. m.place ≤ size) marks
@@ -53,5 +54,6 @@ pub fn removals_from_the_last()
         → place_removed from (to - from) (place_left later p) ≡ place_left (is_within_or from to later) p }
     ensures marks { (later : ℕ → Bool) (from to : ℕ) → ((p : ℕ) → p < to → later p ≡ false) → (marks : List Mark)
         → marks_removed from (to - from) (marks_left later marks) ≡ marks_left (is_within_or from to later) marks }
-    ensures none { (removed : ℕ → Bool) → ((p : ℕ) → removed p ≡ false) → (marks : List Mark) → AreInOrder marks → marks_left removed marks ≡ marks }
+    ensures none { (removed : ℕ → Bool) → ((p : ℕ) → removed p ≡ false) → (marks : List Mark) → AreInOrder marks
+        → marks_left removed marks ≡ marks }
 {}

@@ -64,7 +64,8 @@ impl Ends {
     /// A last count of a site. There is room for one more site.
     pub(crate) fn raise(&mut self, site: u16, last: u64)
         requires { vec_len self.old.ends < vec_capacity self.old.ends }
-        ensures ends { (s : ℕ) → end_in self.new.ends.items s ≡ (if site == s then max last (end_in self.old.ends.items s) else end_in self.old.ends.items s) }
+        ensures ends { (s : ℕ) → end_in self.new.ends.items s
+            ≡ (if site == s then max last (end_in self.old.ends.items s) else end_in self.old.ends.items s) }
         ensures capacity { vec_capacity self.new.ends ≡ vec_capacity self.old.ends }
         ensures len { vec_len self.new.ends ≤ vec_len self.old.ends + 1 }
     {

@@ -23,9 +23,11 @@ pub fn joining()
 /// A list of operations has one spelling, and bytes spell at most one list. What is spelled is read,
 /// and what is read without a fault is spelled. Bytes are read in one way.
 pub fn files()
-    ensures one { (one other : List Operation) → AllByRecursion HasRecord one → AllByRecursion HasRecord other → spelling one ≡ spelling other → one ≡ other }
+    ensures one { (one other : List Operation) → AllByRecursion HasRecord one → AllByRecursion HasRecord other → spelling one ≡ spelling other
+        → one ≡ other }
     ensures spelled { (ops : List Operation) → AreInFile ops → Reads (spelling ops) ops (offsets_from 8 ops) None }
-    ensures read { (bytes : List ℕ) (ops : List Operation) (offsets : List ℕ) → Reads bytes ops offsets None → AreInFile ops × (bytes ≡ spelling ops) }
+    ensures read { (bytes : List ℕ) (ops : List Operation) (offsets : List ℕ) → Reads bytes ops offsets None → AreInFile ops
+        × (bytes ≡ spelling ops) }
     ensures once { (bytes : List ℕ) (one other : List Operation) (offsets places : List ℕ) (a b : Option (Fault × ℕ))
         → Reads bytes one offsets a → Reads bytes other places b → (one ≡ other) × (offsets ≡ places) × (a ≡ b) }
 {}
@@ -42,6 +44,7 @@ pub fn logs()
 pub fn readings()
     ensures told { (old new : ReaderState) (ops : List Operation) (offsets : List ℕ) (fault : Option (Fault × ℕ))
         → ReadsFile old new ops offsets fault → AreInFile ops × (offsets ≡ offsets_from 8 ops) }
-    ensures known { (old new : ReaderState) (bytes : List ℕ) (ops : List Operation) (offsets : List ℕ) (fault : Option (Fault × ℕ)) → old.left ≡ Some bytes
+    ensures known { (old new : ReaderState) (bytes : List ℕ) (ops : List Operation) (offsets : List ℕ) (fault : Option (Fault × ℕ)) → old.left
+        ≡ Some bytes
         → ((at : ℕ) → fault ≡ Some (ReadFault, at) → ⊥) → ReadsFile old new ops offsets fault → Reads bytes ops offsets fault }
 {}

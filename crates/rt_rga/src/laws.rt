@@ -30,7 +30,8 @@ ghost use Rattle.rt_rga.specs.Laws.{AllDraftsCountOn, BadSpansAreWithinEnd, BadT
 /// one pass over the characters by rising stamp.
 pub fn depth_first()
     ensures is_reading { (set : List Operation) → IsHistory set → IsReading (characters set) (reading (characters set)) }
-    ensures no_other { (set : List Operation) (list : List Character) → IsHistory set → IsReading (characters set) list → list ≡ reading (characters set) }
+    ensures no_other { (set : List Operation) (list : List Character) → IsHistory set → IsReading (characters set) list → list
+        ≡ reading (characters set) }
     ensures by_stamp { (set : List Operation) → IsHistory set → reading (characters set) ≡ reading_by_stamp (characters set) }
 {}
 
@@ -56,13 +57,15 @@ pub fn merging()
 /// made upon. So the operations of a history, in any order that puts each after those, and with any
 /// repeats, are all taken; by rising stamp they come so. A history is known by its operations.
 pub fn orders()
-    ensures history { (ops set : List Operation) → IsHistory set → AllByRecursion (λ op. keeps_rules op.body ≡ true) ops → IsHistory (all_taken ops set) }
+    ensures history { (ops set : List Operation) → IsHistory set → AllByRecursion (λ op. keeps_rules op.body ≡ true) ops
+        → IsHistory (all_taken ops set) }
     ensures members { OffersAddNew }
     ensures bases { NewHasItsBases }
     ensures in_time { InTimeIsTaken }
     ensures within { InTimeIsTakenWithin }
     ensures by_stamp { (set : List Operation) → IsHistory set → ComeInTime set [] (reverse set) }
-    ensures one_list { (one other : List Operation) → IsHistory one → IsHistory other → ((op : Operation) → Has one op ↔ Has other op) → one ≡ other }
+    ensures one_list { (one other : List Operation) → IsHistory one → IsHistory other → ((op : Operation) → Has one op ↔ Has other op) → one
+        ≡ other }
 {}
 
 /// Whatever is asked of a site's replica, offers and operations of its own, with refusals and repeats
@@ -176,7 +179,8 @@ pub fn agreement()
     ensures cells { EqualLogsShowEqualCells }
     ensures text { EqualLogsShowEqualText }
     ensures characters { (cells : List TaggedCell) → map (λ c. c.ch) (tagged_text cells) ≡ text_of cells }
-    ensures kept { (log : List Operation) (table : TagStates) (kept : List (Cell ℕ)) → IsReplica log table kept → text_of kept ≡ text_of (cells_of log) }
+    ensures kept { (log : List Operation) (table : TagStates) (kept : List (Cell ℕ)) → IsReplica log table kept → text_of kept
+        ≡ text_of (cells_of log) }
     ensures stamps { (log : List Operation) (table : TagStates) (kept : List (Cell ℕ)) → IsReplica log table kept
         → stamps_of kept ≡ stamps_of (cells_of log) }
 {}
@@ -208,5 +212,6 @@ pub fn spans()
 pub fn counts()
     ensures cells { CellsAreCounted }
     ensures most { (set : List Operation) → IsHistory set → greatest_last_count set ≤ GREATEST_COUNT }
-    ensures greatest { (set : List Operation) (op : Operation) → greatest_last_count (with_operation op set) ≡ max (last_count op) (greatest_last_count set) }
+    ensures greatest { (set : List Operation) (op : Operation) → greatest_last_count (with_operation op set)
+        ≡ max (last_count op) (greatest_last_count set) }
 {}

@@ -124,7 +124,8 @@ fn write_character<W: Sink>(character: char, out: &mut W) -> Result<(), Fault>
 }
 
 fn write_quoted_text<W: Sink>(text: &[char], out: &mut W) -> Result<(), Fault>
-    ensures wrote { Wrote (W.contents out.old) (W.contents out.new) result (34 ∷ flat_map (λ c. flat_map escape_of (encode_utf8 c)) text.now ++ (34 ∷ [])) }
+    ensures wrote { Wrote (W.contents out.old) (W.contents out.new) result (34 ∷ flat_map (λ c. flat_map escape_of (encode_utf8 c)) text.now
+        ++ (34 ∷ [])) }
     ensures fault { IfErr result (λ fault. fault ≡ Fault.WriteFault) }
     ensures failures { W.failures out.new ≡ W.failures out.old + failures_of result }
 {

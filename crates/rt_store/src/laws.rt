@@ -44,14 +44,16 @@ pub fn found_cells<T>()
     ensures position { (cells : List (Cell T)) (stamp : Stamp) (position : ℕ) → position_of cells stamp ≡ Some position
         → slice_get cells position ≡ cell_of cells stamp }
     ensures place { (cells : List (Cell T)) (stamp : Stamp) (cell : Cell T) (place : ℕ) → cell_of cells stamp ≡ Some cell
-        → cell.gone ≡ false → option_map (visible_before cells) (position_of cells stamp) ≡ Some place → slice_get (visible_of cells) place ≡ Some cell }
+        → cell.gone ≡ false → option_map (visible_before cells) (position_of cells stamp) ≡ Some place → slice_get (visible_of cells) place
+        ≡ Some cell }
 {}
 
 /// New cells have a place behind each element that is the root or a cell before the last one, and it
 /// is before the final newline.
 pub fn places_of_new_cells<T>()
     ensures placed { (cells : List (Cell T)) (left new : Stamp) → EndsFinal cells
-        → (is_among (stamps_of cells) left ≡ true) ⊎ (left ≡ ROOT) → is_same left FINAL ≡ false → is_before FINAL new ≡ true → IsPlaced cells left new }
+        → (is_among (stamps_of cells) left ≡ true) ⊎ (left ≡ ROOT) → is_same left FINAL ≡ false → is_before FINAL new ≡ true
+        → IsPlaced cells left new }
     ensures more { (cells new : List (Cell T)) (position : ℕ) → length (put_at position new cells) ≡ length cells + length new }
 {}
 
@@ -67,8 +69,10 @@ pub fn gone_cells<T>()
 pub fn shown_cells()
     ensures text { (table : TagStates) (cells : List (Cell ℕ)) → text_of (map (shown table) cells) ≡ text_of cells }
     ensures stamps { (table : TagStates) (cells : List (Cell ℕ)) → stamps_of (map (shown table) cells) ≡ stamps_of cells }
-    ensures place { (table : TagStates) (cells : List (Cell ℕ)) (left new : Stamp) → skip_from (map (shown table) cells) left new ≡ skip_from cells left new }
+    ensures place { (table : TagStates) (cells : List (Cell ℕ)) (left new : Stamp) → skip_from (map (shown table) cells) left new
+        ≡ skip_from cells left new }
     ensures gone { (table : TagStates) (spans : List Span) (cells : List (Cell ℕ))
         → map (shown table) (map (gone_in_any spans) cells) ≡ map (gone_in_any spans) (map (shown table) cells) }
-    ensures later { (old new : TagStates) (cells : List (Cell ℕ)) → KeepsIds old new → AreStates old cells → map (shown new) cells ≡ map (shown old) cells }
+    ensures later { (old new : TagStates) (cells : List (Cell ℕ)) → KeepsIds old new → AreStates old cells → map (shown new) cells
+        ≡ map (shown old) cells }
 {}

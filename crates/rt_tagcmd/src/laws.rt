@@ -9,7 +9,9 @@ ghost use Rattle.rt_edits.specs.declared.range.Range.{Range};
 /// one of them.
 pub fn tag_ranges<A>()
     ensures maximal { (test : A → Bool) (characters : List A) → All (IsMaximal test characters) (passing_ranges test characters) }
-    ensures covering { (test : A → Bool) (characters : List A) (place : ℕ) → Passes test characters place → Any (IsIn place) (passing_ranges test characters) }
+    ensures covering { (test : A → Bool) (characters : List A) (place : ℕ) → Passes test characters place
+        → Any (IsIn place) (passing_ranges test characters) }
     ensures apart { (test : A → Bool) (characters : List A) → AllPairs (λ range later. range.to < later.from) (passing_ranges test characters) }
-    ensures each { (test : A → Bool) (characters : List A) (range : Range) → IsMaximal test characters range → Contains (passing_ranges test characters) range }
+    ensures each { (test : A → Bool) (characters : List A) (range : Range) → IsMaximal test characters range
+        → Contains (passing_ranges test characters) range }
 {}

@@ -71,7 +71,8 @@ pub fn add_new(alloc: Global, names: &mut IndexSet<String>, name: &str) -> Resul
 fn bring(names: &mut IndexSet<String>, from: usize, to: usize)
     requires from { from < index_set_len names.old }
     requires to { to ≤ from }
-    ensures front { (name : List ℕ) → IsAt name (names_of names.old) from → take (to + 1) (names_of names.new) ≡ take to (names_of names.old) ++ name ∷ [] }
+    ensures front { (name : List ℕ) → IsAt name (names_of names.old) from → take (to + 1) (names_of names.new) ≡ take to (names_of names.old)
+        ++ name ∷ [] }
     ensures same { (name : List ℕ) → is_listed name (names_of names.new) ≡ is_listed name (names_of names.old) }
     ensures len { index_set_len names.new ≡ index_set_len names.old }
     ensures no_repeats { HaveNoRepeats (names_of names.new) }
@@ -127,7 +128,8 @@ pub fn shift_above(names: &mut IndexSet<String>, listed: usize, from: usize, to:
     requires to { to < listed }
     ensures listed { IsListing (names_of names.new) listed }
     ensures names { (name other : List ℕ) → IsAt name (take listed (names_of names.old)) from
-        → IsAt other (take listed (names_of names.old)) to → take listed (names_of names.new) ≡ raised name (Some other) (take listed (names_of names.old)) }
+        → IsAt other (take listed (names_of names.old)) to → take listed (names_of names.new)
+        ≡ raised name (Some other) (take listed (names_of names.old)) }
     ensures same { (name : List ℕ) → is_listed name (names_of names.new) ≡ is_listed name (names_of names.old) }
 {
     if from < to {
@@ -144,7 +146,8 @@ pub fn shift_below(names: &mut IndexSet<String>, listed: usize, from: usize, to:
     requires to { to < listed }
     ensures listed { IsListing (names_of names.new) listed }
     ensures names { (name other : List ℕ) → IsAt name (take listed (names_of names.old)) from
-        → IsAt other (take listed (names_of names.old)) to → take listed (names_of names.new) ≡ lowered name (Some other) (take listed (names_of names.old)) }
+        → IsAt other (take listed (names_of names.old)) to → take listed (names_of names.new)
+        ≡ lowered name (Some other) (take listed (names_of names.old)) }
     ensures same { (name : List ℕ) → is_listed name (names_of names.new) ≡ is_listed name (names_of names.old) }
 {
     if from < to {

@@ -93,7 +93,7 @@ fn read_pieces(
     read_in::<Brand, Brand>(alloc, pieces, Blank::new(1), Blank::new(1))
 }
 
-pub fn read_bytes(alloc: Global, bytes: &[u8]) -> Result<Reading, Fault> {
+pub(crate) fn read_bytes(alloc: Global, bytes: &[u8]) -> Result<Reading, Fault> {
     read_pieces(alloc, bytes, 4096, None)
 }
 

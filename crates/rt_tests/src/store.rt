@@ -35,7 +35,7 @@ impl Drop for Text {
 
 impl Text {
     #[tactic(auto, using(rt_store::proofs::GivenStates::one_state))]
-    pub fn new(alloc: Global) -> Result<Text, Fault> {
+    pub(crate) fn new(alloc: Global) -> Result<Text, Fault> {
         let mut states = StateTable::new(alloc)?;
         let tag = states.number("t")?;
         let tagged = states.with(StateId::EMPTY, tag, ROOT, true)?;
@@ -50,7 +50,7 @@ impl Text {
 
     /// Puts a character in front of the others.
     #[tactic(auto, using(rt_store::proofs::GivenStates::spliced_states, rt_store::proofs::GivenStates::one_state))]
-    pub fn put(&mut self, count: u64, ch: char, is_tagged: bool) -> Result<(), Fault> {
+    pub(crate) fn put(&mut self, count: u64, ch: char, is_tagged: bool) -> Result<(), Fault> {
         if self.store.cells() > 100 {
             return Err(Fault::NoMemory);
         }

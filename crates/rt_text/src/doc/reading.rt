@@ -54,7 +54,8 @@ impl<S: TextStore> Doc<S> {
         requires { IsOwnOf (length (text_of self.now.cells)) widget.now }
         ensures ok { IfOk result (λ ranges. ranges.items
             ≡ ranges_of (map (place_at_index (widget_of self.now widget.now)) (map (λ w. string_bytes w) indices.now))) }
-        ensures checked { IfOk result (λ ranges. first_of (map (index_check (widget_of self.now widget.now)) (map (λ w. string_bytes w) indices.now)) ≡ None) }
+        ensures checked { IfOk result (λ ranges. first_of (map (index_check (widget_of self.now widget.now)) (map (λ w. string_bytes w) indices.now))
+            ≡ None) }
         ensures err { IfErr result (λ fault. (fault ≡ Fault.NoMemory)
             ⊎ (first_of (map (index_check (widget_of self.now widget.now)) (map (λ w. string_bytes w) indices.now)) ≡ Some fault)) }
     {
@@ -82,7 +83,8 @@ impl<S: TextStore> Doc<S> {
         requires { IsOwnOf (length (text_of self.now.cells)) widget.now }
         ensures ok { IfOk result (λ ranges. ranges.items
             ≡ ranges_of (map (place_at_index (widget_of self.now widget.now)) (map (λ w. string_bytes w) indices.now))) }
-        ensures checked { IfOk result (λ ranges. first_of (map (index_check (widget_of self.now widget.now)) (map (λ w. string_bytes w) indices.now)) ≡ None) }
+        ensures checked { IfOk result (λ ranges. first_of (map (index_check (widget_of self.now widget.now)) (map (λ w. string_bytes w) indices.now))
+            ≡ None) }
         ensures err { IfErr result (λ fault. (fault ≡ Fault.NoMemory)
             ⊎ (first_of (map (index_check (widget_of self.now widget.now)) (map (λ w. string_bytes w) indices.now)) ≡ Some fault)) }
     {
@@ -117,7 +119,8 @@ impl<S: TextStore> Doc<S> {
     /// character. `BadIndex`, `NoneTagged`, or want of memory.
     pub fn get_list(&self, widget: &Widget, indices: &[String]) -> Result<Vec<String>, Fault>
         requires { IsOwnOf (length (text_of self.now.cells)) widget.now }
-        ensures ok { IfOk result (λ texts. got_list self.now widget.now (map (λ w. string_bytes w) indices.now) ≡ Ok (map (λ w. string_bytes w) texts.items)) }
+        ensures ok { IfOk result (λ texts. got_list self.now widget.now (map (λ w. string_bytes w) indices.now)
+            ≡ Ok (map (λ w. string_bytes w) texts.items)) }
         ensures err { IfErr result (Refuses (got_list self.now widget.now (map (λ w. string_bytes w) indices.now))) }
     {
         let ranges = self.ranges(widget, indices)?;

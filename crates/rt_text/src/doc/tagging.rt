@@ -118,7 +118,8 @@ impl<S: TextStore> Doc<S> {
         ranges: &[Range],
     ) -> Result<(), Fault>
         requires name { IsName name.now }
-        ensures ok { OnOk result ((with_tag_in self.old widget.old on name.now ranges.now ≡ (self.new, widget.new)) × (clock_check self.new.count ≡ None)) }
+        ensures ok { OnOk result ((with_tag_in self.old widget.old on name.now ranges.now ≡ (self.new, widget.new))
+            × (clock_check self.new.count ≡ None)) }
         ensures err { IfErr result (λ fault. (fault ≡ Fault.NoMemory)
             ⊎ (clock_check (with_tag_in self.old widget.old on name.now ranges.now).0.count ≡ Some fault)) }
         ensures unchanged { OnErr result ((self.new ≡ self.old) × (widget.new ≡ widget.old)) }
@@ -191,7 +192,8 @@ impl<S: TextStore> Doc<S> {
     pub fn raise_tag(&mut self, name: &str, above: Option<&str>) -> Result<(), Fault>
         ensures ok { OnOk result (self.new ≡ record self.old { tags = raised name.now (option_copied above.entry) self.old.tags }) }
         ensures unchanged { OnErr result (self.new ≡ self.old) }
-        ensures answer { result ≡ (if is_listed name.now self.old.tags && is_place (option_copied above.entry) self.old.tags then Ok tt else Err Fault.NoTag) }
+        ensures answer { result ≡ (if is_listed name.now self.old.tags
+            && is_place (option_copied above.entry) self.old.tags then Ok tt else Err Fault.NoTag) }
     {
         self.tags.raise(name, above)
     }
@@ -201,7 +203,8 @@ impl<S: TextStore> Doc<S> {
     pub fn lower_tag(&mut self, name: &str, below: Option<&str>) -> Result<(), Fault>
         ensures ok { OnOk result (self.new ≡ record self.old { tags = lowered name.now (option_copied below.entry) self.old.tags }) }
         ensures unchanged { OnErr result (self.new ≡ self.old) }
-        ensures answer { result ≡ (if is_listed name.now self.old.tags && is_place (option_copied below.entry) self.old.tags then Ok tt else Err Fault.NoTag) }
+        ensures answer { result ≡ (if is_listed name.now self.old.tags
+            && is_place (option_copied below.entry) self.old.tags then Ok tt else Err Fault.NoTag) }
     {
         self.tags.lower(name, below)
     }
