@@ -4,6 +4,7 @@ pub mod DraftLaws
 pub mod Examples
 pub mod Flat
 pub mod InsertionDrafts
+pub mod InsertionPlans
 pub mod Insertions
 pub mod Listed
 pub mod Merging

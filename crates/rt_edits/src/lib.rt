@@ -3,7 +3,9 @@
 #![tactic(auto)]
 
 mod counts;
+pub mod drafting;
 pub mod examples;
+pub mod inserting;
 pub mod insertion;
 pub mod laws;
 pub mod piece;

@@ -4,7 +4,7 @@ ghost use Rattle.rt_stamps.specs.declared.limits.TheConstants.{MOST_CELLS, GREAT
 ghost use Rattle.rt_store.specs.Cells.{HasRoom, visible_of, AreDistinct, stamps_of};
 ghost use Rattle.rt_store.specs.Tagged.{AreStates};
 ghost use Rattle.rt_tags.specs.States.{IsState, IsTag, KeepsIds, name_at};
-ghost use Rattle.rt_tags.specs.Tags.{IsName, with_name};
+ghost use Rattle.rt_tags.specs.Tags.{IsName, is_ready, with_name};
 ghost use Rattle.rt_edits.specs.Flat.{Flat};
 ghost use Rattle.rt_edits.specs.Listed.{AreListed};
 ghost use Rattle.rt_edits.specs.Removals.{AreInOrder, is_covered, stamps_at};
@@ -165,17 +165,28 @@ pub fn select<S: TextStore>(
     Ok(())
 }
 
-/// Lists a tag that is put on. Want of memory, and then nothing changes.
-pub fn list_if(tags: &mut TagTable, on: bool, name: &str) -> Result<(), Fault>
+/// Prepares a tag that is put on: to list it takes no memory. Want of memory.
+pub fn prepare_if(tags: &mut TagTable, on: bool, name: &str) -> Result<(), Fault>
     requires { IsName name.now }
-    ensures ok { OnOk result (tags.new.names ≡ (if on then with_name name.now tags.old.names else tags.old.names)) }
-    ensures unchanged { OnErr result (tags.new.names ≡ tags.old.names) }
+    ensures names { tags.new.names ≡ tags.old.names }
+    ensures ready { OnOk result (on ≡ true → is_ready name.now tags.new ≡ true) }
     ensures err { IfErr result (λ fault. fault ≡ Fault.NoMemory) }
 {
     if on {
-        tags.ensure(name)?;
+        tags.prepare(name)?;
     }
     Ok(())
+}
+
+/// Lists a tag that is put on, which was prepared. It takes no memory.
+pub fn list_if(tags: &mut TagTable, on: bool, name: &str)
+    requires name { IsName name.now }
+    requires ready { on ≡ true → is_ready name.now tags.old ≡ true }
+    ensures { tags.new.names ≡ (if on then with_name name.now tags.old.names else tags.old.names) }
+{
+    if on {
+        tags.ensure(name).unwrap();
+    }
 }
 
 // Whether a name is that of a listed tag other than `sel`.

@@ -66,6 +66,7 @@ impl<S: TextStore> Replica<S> {
         requires store { S.list store ≡ final_cell ∷ [] }
         requires limit { (1 ≤ limit) × (limit ≤ MOST_CELLS) }
         ensures log { IfOk result (λ replica. replica.log ≡ []) }
+        ensures cells { IfOk result (λ replica. replica.cells ≡ cells_of []) }
         ensures site { IfOk result (λ replica. replica.site ≡ site.number) }
         ensures limit { IfOk result (λ replica. replica.limit ≡ limit) }
         ensures fault { IfErr result (λ fault. fault ≡ Fault.NoMemory) }
@@ -97,11 +98,28 @@ impl<S: TextStore> Replica<S> {
         &self.states
     }
 
-    /// The store, whose cells are those of the log.
+    /// The site whose operations `make` makes.
+    pub fn site(&self) -> Site
+        ensures { result.number ≡ self.now.site }
+    {
+        self.site
+    }
+
+    /// The most cells that there may be, the final newline and those that are gone among them.
+    pub fn limit(&self) -> usize
+        ensures value { result ≡ self.now.limit }
+        ensures most { result ≤ MOST_CELLS }
+    {
+        self.limit
+    }
+
+    /// The store, whose cells are those of the log, and no more than the limit.
     pub fn store(&self) -> &S
         ensures kept { map (shown self.now.table) (S.list result.now) ≡ self.now.cells }
         ensures cells { self.now.cells ≡ cells_of self.now.log }
         ensures states { AreStates self.now.table (S.list result.now) }
+        ensures few { length (S.list result.now) ≤ self.now.limit }
+        ensures most { self.now.limit ≤ MOST_CELLS }
     {
         &self.store
     }
@@ -170,6 +188,7 @@ impl<S: TextStore> Replica<S> {
         requires newest { AreNewest self.old.log ops.items }
         requires room { length self.old.cells + length (fresh_cells ops.items) ≤ self.old.limit }
         ensures log { OnOk result (self.new.log ≡ with_operations ops.items self.old.log) }
+        ensures cells { OnOk result (self.new.cells ≡ cells_of self.new.log) }
         ensures same { OnErr result (self.new ≡ record self.old { table = self.new.table }) }
         ensures site { self.new.site ≡ self.old.site }
         ensures limit { self.new.limit ≡ self.old.limit }
@@ -202,6 +221,7 @@ impl<S: TextStore> Replica<S> {
         ensures refused { IfErr result (λ fault. (refusal_of self.old.limit (map body_of drafts.items) self.old.log
             ≡ Some fault) ⊎ ((fault ≡ Fault.NoMemory) × (refusal_of self.old.limit (map body_of drafts.items) self.old.log ≡ None))) }
         ensures log { OnOk result (self.new.log ≡ with_drafts self.old.site (map body_of drafts.items) self.old.log) }
+        ensures cells { OnOk result (self.new.cells ≡ cells_of self.new.log) }
         ensures same { OnErr result (self.new ≡ record self.old { table = self.new.table }) }
         ensures kept { (refusal_of self.old.limit (map body_of drafts.items) self.old.log ≡ None → ⊥) → self.new ≡ self.old }
         ensures site { self.new.site ≡ self.old.site }

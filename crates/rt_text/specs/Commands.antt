@@ -3,7 +3,7 @@ use Rattle.std.specs.Prelude.{ℕ, ◌+◌, ◌-◌, ℤ, List, [], ◌∷◌, �
 use Rattle.std.specs.Str.{bytes_eq}
 use Rattle.rt_index.specs.Widget.{Widget}
 use Rattle.rt_marks.specs.Marks.{marks_inserted}
-use Rattle.rt_stamps.specs.declared.limits.TheConstants.{GREATEST_COUNT}
+use Rattle.rt_stamps.specs.declared.limits.TheConstants.{GREATEST_COUNT, MOST_CHARACTERS, MOST_SPANS}
 use Rattle.rt_stamps.specs.declared.fault.Fault.{Fault}
 use Rattle.rt_stamps.specs.declared.fault.Fault.TheVariants.{BadOption, ClockSpent, TextFull}
 use Rattle.rt_stamps.specs.declared.position.Position.{Position}
@@ -16,8 +16,9 @@ use Rattle.rt_stamps.specs.Words.{Word}
 use Rattle.rt_store.specs.Cells.{text_of, visible_of}
 use Rattle.rt_tags.specs.Tags.{sel}
 use Rattle.rt_edits.specs.declared.range.Range.{Range}
-pub use Rattle.rt_edits.specs.Deletions.{is_last, last_tags, without_places}
-use Rattle.rt_edits.specs.Flat.{Flat, left_of, put_after}
+use Rattle.rt_edits.specs.Deletions.{delete_drafts, without_text_in}
+use Rattle.rt_edits.specs.Flat.{Flat, left_of, logged, put_after}
+use Rattle.rt_edits.specs.InsertionDrafts.{insertion_drafts}
 use Rattle.rt_edits.specs.Insertions.{Insertion, Piece, insertion_of, left_neighbour, right_neighbour}
 use Rattle.rt_text.specs.Comparisons.{comparison_of, holds_of}
 use Rattle.rt_text.specs.Distances.{measures_of, or_indices, distance_of}
@@ -25,7 +26,8 @@ use Rattle.rt_text.specs.Index.{index_check, place_at_index}
 use Rattle.rt_text.specs.Ranges.{text_between, texts_of, ranges_of}
 use Rattle.rt_edits.specs.Removals.{is_covered, is_removed, stamps_at}
 use Rattle.rt_edits.specs.Selections.{unselected, selection_with}
-use Rattle.rt_edits.specs.TagWrites.{listed_if, with_tag_at, with_tags_at}
+use Rattle.rt_edits.specs.TagDrafts.{deletion_drafts, tag_drafts_at}
+use Rattle.rt_edits.specs.TagWrites.{listed_if, with_tag_at, without_tags}
 use Rattle.rt_text.specs.Widgets.{Own, widget_of, own_inserted, own_left}
 
 -- CHECKS
@@ -64,40 +66,46 @@ pub record Edited : Type 0 where
 -- directly after that of the visible left neighbour, and all marks move for them
 abbrev pub with_pieces_at : Flat → Own → List (List Stamp) → ℕ → List Piece → Word → Edited
 with_pieces_at flat own others place pieces rest =
-    let characters = visible_of flat.cells in
+    let left = left_neighbour (visible_of flat.cells) place in
+    let right = right_neighbour (visible_of flat.cells) place in
+    let after = left_of flat.cells place in
     let start : Insertion = record { cells = []; count = flat.count; sel = own.sel; others = others; tags = flat.tags } in
-    let new = insertion_of flat.site (left_neighbour characters place) (right_neighbour characters place) pieces rest start in
+    let new = insertion_of flat.site left right pieces rest start in
     record {
-      doc = record flat {
-        cells = put_after flat.cells (left_of flat.cells place) new.cells;
+      doc = logged flat (insertion_drafts MOST_CHARACTERS flat.site after left right pieces rest start) (record flat {
+        cells = put_after flat.cells after new.cells;
         count = new.count;
         marks = marks_inserted place (length new.cells) flat.marks;
         tags = new.tags;
-      };
+      });
       own = record (own_inserted place (length new.cells) own) { sel = new.sel };
       others = new.others;
     }
 
--- the last newline without tags, and nowhere selected
-abbrev pub without_last_tags : Edited → Edited
-without_last_tags edited = record {
-  doc = with_tags_at edited.doc (is_last edited.doc) false (last_tags edited.doc);
-  own = record edited.own { sel = unselected (FINAL ∷ []) edited.own.sel };
-  others = map (unselected (FINAL ∷ [])) edited.others;
-}
+-- a selection without the last newline, where a deletion holds it
+abbrev pub last_unselected : Bool → List Stamp → List Stamp
+last_unselected held selection = if held then unselected (FINAL ∷ []) selection else selection
 
--- the document without the characters in ranges, where the last newline stays; it loses its tags where a range holds it
+-- the document without the characters in ranges, where the last newline stays: where a range holds it, it loses its tags, and
+-- is nowhere selected
 abbrev pub without_ranges : Flat → Own → List (List Stamp) → List Range → Edited
 without_ranges flat own others ranges =
-    let removed = is_removed (text_of flat.cells) ranges in
-    let edited : Edited = record { doc = without_places flat removed; own = own_left removed own; others = others } in
-    if is_covered ranges (length (text_of flat.cells) - 1) then without_last_tags edited else edited
+    let held = is_covered ranges (length (text_of flat.cells) - 1) in
+    record {
+      doc = logged flat (delete_drafts MOST_SPANS flat ranges) (without_text_in flat ranges);
+      own = record (own_left (is_removed (text_of flat.cells) ranges) own) { sel = last_unselected held own.sel };
+      others = map (last_unselected held) others;
+    }
 
 -- a tag put on the characters in ranges, or taken off: `sel` is the widget's own
 abbrev pub with_tag_in : Flat → Own → Bool → Word → List Range → Flat × Own
 with_tag_in flat own on name ranges =
     if bytes_eq name sel then (flat, record own { sel = selection_with on (stamps_at (is_covered ranges) 0 flat.cells) own.sel })
-    else (listed_if on name (with_tag_at flat (is_covered ranges) on name), own)
+    else (logged flat (tag_drafts_at MOST_SPANS (is_covered ranges) on name flat.cells) (listed_if on name (with_tag_at flat (is_covered ranges) on name)), own)
+
+-- tags taken off all characters, and no longer listed; `sel` is passed over
+abbrev pub with_tags_deleted : Flat → List Word → Flat
+with_tags_deleted flat names = logged flat (deletion_drafts MOST_SPANS flat names) (without_tags flat names)
 
 -- COMMANDS on a widget, each what it gives or why it is refused
 

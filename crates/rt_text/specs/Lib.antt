@@ -1,6 +1,5 @@
 pub mod Commands
 pub mod Comparisons
-pub mod Deleting
 pub mod Distances
 pub mod Index
 pub mod Kept

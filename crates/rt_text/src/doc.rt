@@ -1,8 +1,14 @@
-// A document: a store, and what stamps its new characters.
-ghost use Rattle.std.specs.Prelude.{◌≡◌, ◌≤◌, ◌∷◌, [], IfOk, IfErr};
+// A document: a replica of the text, with the site's marks and tags.
+ghost use Rattle.std.specs.Prelude.{◌≡◌, ◌≤◌, ◌∷◌, [], IfOk, IfErr, length, map};
 ghost use Rattle.rt_stamps.specs.declared.limits.TheConstants.{MOST_CELLS};
-ghost use Rattle.rt_store.specs.Cells.{final_cell};
+ghost use Rattle.rt_store.specs.Cells.{AreDistinct, final_cell};
+ghost use Rattle.rt_store.specs.Shown.{shown};
+ghost use Rattle.rt_store.specs.Tagged.{AreStates};
+ghost use Rattle.rt_tags.specs.Tags.{sel};
 ghost use Rattle.rt_edits.specs.Flat.{new_flat};
+ghost use Rattle.rt_edits.specs.Listed.{AreListed};
+ghost use Rattle.rt_rga.specs.Cells.{cells_of};
+ghost use Rattle.rt_rga.specs.Histories.{IsHistory, greatest_last_count};
 
 mod editing;
 mod marking;
@@ -10,43 +16,41 @@ mod reading;
 mod tagging;
 
 use rt_marks::Marks;
-use rt_stamps::{Clock, Fault, Site};
+use rt_oplog::OpLog;
+use rt_rga::Replica;
+use rt_stamps::{Fault, Site};
 use rt_store::TextStore;
 use rt_tags::{StateTable, TagTable};
 use std::alloc::Global;
 use std::marker::Model;
 
-/// A text of one site with its marks, and the counts of its operations.
+/// A text of one site with its marks and tags, and its log of operations.
 #[derive(Drop)]
 pub struct Doc<S: TextStore> {
     alloc: Global,
-    store: S,
-    site: Site,
-    limit: usize,
-    clock: Clock,
+    replica: Replica<S>,
     marks: Marks,
-    states: StateTable,
     tags: TagTable,
 }
 
 impl<S: TextStore> Model for Doc<S> {
-    ghost use Rattle.std.specs.Prelude.{map};
     ghost use Rattle.rt_edits.specs.Flat.{Flat};
-    ghost use Rattle.rt_store.specs.Shown.{shown};
+    ghost use Rattle.rt_rga.specs.Histories.{greatest_last_count};
     ghost use Rattle.rt_text.specs.Kept.{IsDoc};
 
     ghost Value = { Flat };
 
     ghost view = { λ d. record {
-      cells = map (shown d.states) (S.list d.store);
-      site = d.site.number;
-      limit = d.limit;
-      count = d.clock;
+      cells = d.replica.cells;
+      site = d.replica.site;
+      limit = d.replica.limit;
+      log = d.replica.log;
+      count = greatest_last_count d.replica.log;
       marks = d.marks;
       tags = d.tags.names;
     } };
 
-    ghost invariant = { λ d. IsDoc d.limit d.clock (S.list d.store) d.marks d.states d.tags.names };
+    ghost invariant = { λ d. IsDoc d.replica.cells d.marks d.tags.names };
 }
 
 impl<S: TextStore> Doc<S> {
@@ -58,33 +62,54 @@ impl<S: TextStore> Doc<S> {
         ensures ok { IfOk result (λ doc. doc ≡ new_flat site.number limit) }
         ensures err { IfErr result (λ fault. fault ≡ Fault.NoMemory) }
     {
-        Doc::with_clock(alloc, store, site, limit, Clock::new())
+        let replica = Replica::new(alloc, store, site, limit)?;
+        Doc::over(alloc, replica)
     }
 
-    // The document of a new store, whose operations follow those that a clock has seen.
-    pub(crate) fn with_clock(
-        alloc: Global,
-        store: S,
-        site: Site,
-        limit: usize,
-        clock: Clock,
-    ) -> Result<Doc<S>, Fault>
-        requires store { S.list store ≡ final_cell ∷ [] }
-        requires limit { (1 ≤ limit) × (limit ≤ MOST_CELLS) }
-        ensures ok { IfOk result (λ doc. doc ≡ record (new_flat site.number limit) { count = clock }) }
+    // The document of a replica whose characters have no tags. Want of memory.
+    pub(crate) fn over(alloc: Global, replica: Replica<S>) -> Result<Doc<S>, Fault>
+        requires { AreListed (sel ∷ []) replica.cells }
+        ensures ok { IfOk result (λ doc. doc ≡ record {
+          cells = replica.cells;
+          site = replica.site;
+          limit = replica.limit;
+          log = replica.log;
+          count = greatest_last_count replica.log;
+          marks = [];
+          tags = sel ∷ [];
+        }) }
         ensures err { IfErr result (λ fault. fault ≡ Fault.NoMemory) }
     {
-        let states = StateTable::new(alloc)?;
         let tags = TagTable::new(alloc)?;
         Ok(Doc {
             alloc,
-            store,
-            site,
-            limit,
-            clock,
+            replica,
             marks: Marks::new(alloc),
-            states,
             tags,
         })
+    }
+
+    /// The log of the operations, which is a history: the document's cells are its cells, and its
+    /// count is its greatest.
+    pub fn log(&self) -> &OpLog
+        ensures operations { result.now.operations ≡ self.now.log }
+        ensures history { IsHistory self.now.log }
+        ensures cells { self.now.cells ≡ cells_of self.now.log }
+        ensures count { self.now.count ≡ greatest_last_count self.now.log }
+    {
+        let _ = self.replica.store();
+        self.replica.log()
+    }
+
+    // The store, and what the states of its cells mean.
+    fn kept(&self) -> (&S, &StateTable)
+        ensures cells { map (shown result.1.now) (S.list result.0.now) ≡ self.now.cells }
+        ensures states { AreStates result.1.now (S.list result.0.now) }
+        ensures distinct { AreDistinct (S.list result.0.now) }
+        ensures few { length (S.list result.0.now) ≤ self.now.limit }
+        ensures most { self.now.limit ≤ MOST_CELLS }
+    {
+        let _ = self.replica.log();
+        (self.replica.store(), self.replica.states())
     }
 }

@@ -9,12 +9,13 @@ ghost use Rattle.rt_edits.specs.Selected.{stamps_in};
 
 use super::Doc;
 use crate::Widget;
-use crate::deleting::{delete_cells, planned_removal, unselect_last};
+use crate::deleting::unselect_last;
 use crate::moving::move_back;
-use crate::preparing::{check_names, list_tags, make_room, plan_at, select_between};
-use rt_edits::insertion::put;
+use crate::preparing::{check_names, list_tags, make_room, select_between};
+use rt_edits::drafting::planned_deletion;
+use rt_edits::inserting::planned_insertion;
 use rt_edits::{Piece, Selection};
-use rt_stamps::{Fault, Stamp};
+use rt_stamps::Fault;
 use rt_store::TextStore;
 
 // The place of an insertion, which at the text's end stands before the last newline.
@@ -51,7 +52,8 @@ impl<S: TextStore> Doc<S> {
     {
         check_names(pieces)?;
         let place = self.place(widget, index)?;
-        let place = before_end(&self.store, place);
+        let (store, _) = self.kept();
+        let place = before_end(store, place);
         self.insert_at(widget, others, place, pieces, rest)
     }
 
@@ -77,41 +79,20 @@ impl<S: TextStore> Doc<S> {
         ensures unchanged { OnErr result ((self.new ≡ self.old) × (widget.new ≡ widget.old) × (map stamps_in others.new ≡ map stamps_in others.old)) }
         ensures own { IsOwnOf (length (text_of self.new.cells)) widget.new }
     {
-        self.states.order();
-        let count = self.clock.seen();
-        let plan = plan_at(
-            self.alloc,
-            &self.store,
-            &mut self.states,
-            self.site,
-            count,
-            &widget.selection,
-            place,
-            pieces,
-            rest,
+        let site = self.replica.site();
+        let count = self.replica.clock().seen();
+        let (store, states) = self.kept();
+        let selection = &widget.selection;
+        let plan = planned_insertion(
+            self.alloc, store, states, site, count, selection, place, pieces, rest,
         )?;
-        if plan.cells.len() > self.limit - self.store.cells() {
-            return Err(Fault::TextFull);
-        }
-        make_room(
-            &mut self.store,
-            &self.states,
-            &mut self.tags,
-            &mut widget.selection,
-            others,
-            &plan,
-        )?;
-        let first = Stamp {
-            count: count + 1,
-            site: self.site.number(),
-        };
-        put(&mut self.store, &self.states, place, &plan.cells, first);
-        self.marks.inserted(place, plan.cells.len());
+        make_room(&mut self.tags, &mut widget.selection, others, &plan)?;
+        let _made = self.replica.make(plan.drafts)?;
+        self.marks.inserted(place, plan.characters);
         widget.selection.add(&plan.selected);
-        widget.inserted(place, plan.cells.len());
+        widget.inserted(place, plan.characters);
         select_between(others, &plan.between);
-        list_tags(&mut self.tags, &self.states, &plan.tags);
-        self.clock.saw(plan.count);
+        list_tags(&mut self.tags, &plan.names);
         Ok(())
     }
 
@@ -137,20 +118,11 @@ impl<S: TextStore> Doc<S> {
         ensures own { IsOwnOf (length (text_of self.new.cells)) widget.new }
     {
         let ranges = self.ranges(widget, indices)?;
-        let deletion = planned_removal(
-            self.alloc,
-            &self.store,
-            &mut self.states,
-            self.site,
-            self.clock.seen(),
-            &ranges,
-        )?;
-        self.store
-            .reserve(0, 2 * (deletion.spans.len() + deletion.tags.runs.len()))?;
-        delete_cells(&mut self.store, &self.states, &deletion);
+        let (store, states) = self.kept();
+        let deletion = planned_deletion(self.alloc, store, states, &ranges)?;
+        let _made = self.replica.make(deletion.drafts)?;
         move_back(&mut self.marks, widget, &deletion.removed);
         unselect_last(deletion.held, widget, others);
-        self.clock.saw(deletion.tags.count);
         Ok(())
     }
 }

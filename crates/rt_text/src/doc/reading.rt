@@ -29,10 +29,11 @@ impl<S: TextStore> Doc<S> {
         ensures tags { result.tags.now.names ≡ self.now.tags }
         ensures own { result.widget.now ≡ widget.now }
     {
+        let (store, states) = self.kept();
         WidgetGround {
-            store: &self.store,
+            store,
             marks: &self.marks,
-            states: &self.states,
+            states,
             tags: &self.tags,
             widget,
         }
@@ -66,7 +67,8 @@ impl<S: TextStore> Doc<S> {
     pub fn visible(&self) -> usize
         ensures { result ≡ length (text_of self.now.cells) }
     {
-        self.store.visible()
+        let (store, _) = self.kept();
+        store.visible()
     }
 
     /// The line and the character of a place, which is at most the text's end.
@@ -74,7 +76,8 @@ impl<S: TextStore> Doc<S> {
         requires { place ≤ length (text_of self.now.cells) }
         ensures { result ≡ position_at (text_of self.now.cells) place }
     {
-        position_at(&self.store, place)
+        let (store, _) = self.kept();
+        position_at(store, place)
     }
 
     /// The ranges that indices name in pairs on a widget (Tk text manual): a last index without another
@@ -99,7 +102,8 @@ impl<S: TextStore> Doc<S> {
         ensures err { IfErr result (Refuses (got_one self.now widget.now index.now)) }
     {
         let place = self.place(widget, index)?;
-        text_between(self.alloc, &self.store, place, place.saturating_add(1))
+        let (store, _) = self.kept();
+        text_between(self.alloc, store, place, place.saturating_add(1))
     }
 
     /// `get INDEX INDEX` (Tk text manual): the characters from the first index up to before the
@@ -111,7 +115,8 @@ impl<S: TextStore> Doc<S> {
     {
         let start = self.place(widget, from)?;
         let end = self.place(widget, to)?;
-        text_between(self.alloc, &self.store, start, end)
+        let (store, _) = self.kept();
+        text_between(self.alloc, store, start, end)
     }
 
     /// `get INDEX INDEX INDEX ...` (Tk text manual): of the ranges that the indices name in pairs,
@@ -124,7 +129,8 @@ impl<S: TextStore> Doc<S> {
         ensures err { IfErr result (Refuses (got_list self.now widget.now (map (λ w. string_bytes w) indices.now))) }
     {
         let ranges = self.ranges(widget, indices)?;
-        texts_of(self.alloc, &self.store, &ranges)
+        let (store, _) = self.kept();
+        texts_of(self.alloc, store, &ranges)
     }
 
     /// `index INDEX` (Tk text manual): the line and the character of the index. `BadIndex`,
@@ -135,7 +141,8 @@ impl<S: TextStore> Doc<S> {
         ensures err { IfErr result (Refuses (position_of_index self.now widget.now index.now)) }
     {
         let place = self.place(widget, index)?;
-        Ok(position_at(&self.store, place))
+        let (store, _) = self.kept();
+        Ok(position_at(store, place))
     }
 
     /// `compare INDEX OPERATOR INDEX` (Tk text manual): whether the comparison holds of the two
@@ -176,6 +183,7 @@ impl<S: TextStore> Doc<S> {
         let measures = measures_of(self.alloc, switches)?;
         let start = self.place(widget, from)?;
         let end = self.place(widget, to)?;
-        distances_of(self.alloc, &self.store, start, end, &measures)
+        let (store, _) = self.kept();
+        distances_of(self.alloc, store, start, end, &measures)
     }
 }

@@ -2,15 +2,17 @@
 ghost use Rattle.std.specs.Prelude.{◌≡◌, ◌⊎◌, All, false, if◌then◌else◌, ◌≤◌, ◌<◌, ◌&&◌, Ok, Err, None, Some, IfOk, IfErr, OnOk, OnErr, length, filter, map, not, option_copied, option_map, slice_get, string_bytes};
 ghost use Rattle.std.specs.Str.{bytes_eq};
 ghost use Rattle.rt_marks.specs.Marks.{IsName};
-ghost use Rattle.rt_stamps.specs.declared.limits.TheConstants.{GREATEST_COUNT};
+ghost use Rattle.rt_stamps.specs.declared.limits.TheConstants.{GREATEST_COUNT, MOST_SPANS};
 ghost use Rattle.rt_store.specs.Cells.{AreDistinct, text_of, visible_of};
 ghost use Rattle.rt_edits.specs.Removals.{is_covered, AreInOrder};
 ghost use Rattle.rt_text.specs.Widgets.{is_tagged, is_tagged_in, tags_on};
 ghost use Rattle.rt_store.specs.Tagged.{next_place};
 ghost use Rattle.rt_tags.specs.States.{IsState};
 ghost use Rattle.rt_tags.specs.Tags.{is_listed, is_place, lowered, raised, sel};
-ghost use Rattle.rt_edits.specs.TagWrites.{listed_if, without_tags, with_tag_at};
-ghost use Rattle.rt_text.specs.Commands.{clock_check, with_tag_in};
+ghost use Rattle.rt_edits.specs.Flat.{logged};
+ghost use Rattle.rt_edits.specs.TagDrafts.{tag_drafts_at};
+ghost use Rattle.rt_edits.specs.TagWrites.{listed_if, with_tag_at};
+ghost use Rattle.rt_text.specs.Commands.{clock_check, with_tag_in, with_tags_deleted};
 ghost use Rattle.rt_edits.specs.Listed.{AreListed};
 ghost use Rattle.rt_edits.specs.Selected.{stamps_in};
 ghost use Rattle.rt_store.specs.Shown.{shown};
@@ -20,8 +22,8 @@ use super::Doc;
 use crate::Widget;
 use crate::characters::{cell_has, next_with};
 use rt_edits::removal::ranges_within;
-use rt_edits::retagging::{forget_all, list_if, planned_deletion, planned_tag, select};
-use rt_edits::tagging::put_states;
+use rt_edits::drafting::{planned_tag, planned_tag_deletion};
+use rt_edits::retagging::{forget_all, list_if, prepare_if, select};
 use rt_edits::{Range, Selection};
 use rt_stamps::Fault;
 use rt_store::{Cell, TextStore};
@@ -59,7 +61,7 @@ impl<S: TextStore> Doc<S> {
         ensures stamps { AreDistinct self.now.cells }
         ensures writes { AreWritten self.now.count self.now.cells }
     {
-        let _ = &self.store;
+        let _ = self.replica.log();
     }
 
     /// The least place from one up whose character has a tag on the widget; none if there is none. It
@@ -67,9 +69,10 @@ impl<S: TextStore> Doc<S> {
     pub fn next_tagged(&self, widget: &Widget, name: &str, place: usize) -> Option<usize>
         ensures { result ≡ next_place (is_tagged widget.now name.now) (visible_of self.now.cells) place }
     {
+        let (store, states) = self.kept();
         next_with(
-            &self.store,
-            &self.states,
+            store,
+            states,
             &widget.selection,
             name,
             true,
@@ -82,9 +85,10 @@ impl<S: TextStore> Doc<S> {
     pub fn next_untagged(&self, widget: &Widget, name: &str, place: usize) -> Option<usize>
         ensures { result ≡ next_place (λ cell. not (is_tagged widget.now name.now cell)) (visible_of self.now.cells) place }
     {
+        let (store, states) = self.kept();
         next_with(
-            &self.store,
-            &self.states,
+            store,
+            states,
             &widget.selection,
             name,
             false,
@@ -100,9 +104,10 @@ impl<S: TextStore> Doc<S> {
             ≡ Some (map (λ w. string_bytes w) names.items)) }
         ensures err { IfErr result (λ fault. fault ≡ Fault.NoMemory) }
     {
-        let cell = self.store.cell_at(place);
+        let (store, states) = self.kept();
+        let cell = store.cell_at(place);
         let mut names = self.tags.names()?;
-        keep_tags_on(&self.states, &widget.selection, cell, &mut names);
+        keep_tags_on(states, &widget.selection, cell, &mut names);
         Ok(names)
     }
 
@@ -127,9 +132,10 @@ impl<S: TextStore> Doc<S> {
         ensures insert { widget.new.insert ≡ widget.old.insert }
         ensures current { widget.new.current ≡ widget.old.current }
     {
-        let ranges = ranges_within(self.alloc, &self.store, ranges)?;
+        let (store, _) = self.kept();
+        let ranges = ranges_within(self.alloc, store, ranges)?;
         if name == "sel" {
-            return select(self.alloc, &self.store, &mut widget.selection, &ranges, on);
+            return select(self.alloc, store, &mut widget.selection, &ranges, on);
         }
         self.write_shared(on, name, &ranges)
     }
@@ -140,25 +146,18 @@ impl<S: TextStore> Doc<S> {
         requires shared { bytes_eq name.now sel ≡ false }
         requires order { AreInOrder 0 ranges.now }
         requires within { All (λ range. range.to ≤ length (visible_of self.old.cells)) ranges.now }
-        ensures ok { OnOk result (self.new ≡ listed_if on name.now (with_tag_at self.old (is_covered ranges.now) on name.now)) }
+        ensures ok { OnOk result (self.new ≡ logged self.old (tag_drafts_at MOST_SPANS (is_covered ranges.now) on name.now self.old.cells)
+            (listed_if on name.now (with_tag_at self.old (is_covered ranges.now) on name.now))) }
         ensures within { OnOk result (self.new.count ≤ GREATEST_COUNT) }
         ensures err { IfErr result (λ fault. (fault ≡ Fault.NoMemory)
             ⊎ ((fault ≡ Fault.ClockSpent) × (GREATEST_COUNT < (with_tag_at self.old (is_covered ranges.now) on name.now).count))) }
         ensures unchanged { OnErr result (self.new ≡ self.old) }
     {
-        let plan = planned_tag(
-            self.alloc,
-            &mut self.store,
-            &mut self.states,
-            self.site,
-            self.clock.seen(),
-            ranges,
-            name,
-            on,
-        )?;
-        list_if(&mut self.tags, on, name)?;
-        put_states(&mut self.store, &self.states, &plan.runs);
-        self.clock.saw(plan.count);
+        let (store, states) = self.kept();
+        let drafts = planned_tag(self.alloc, store, states, ranges, name, on)?;
+        prepare_if(&mut self.tags, on, name)?;
+        let _made = self.replica.make(drafts)?;
+        list_if(&mut self.tags, on, name);
         Ok(())
     }
 
@@ -166,24 +165,16 @@ impl<S: TextStore> Doc<S> {
     /// `ClockSpent`, or want of memory, and then nothing changes. It takes one count for each 65,536
     /// spans of stamps of each tag or a part of them.
     pub fn delete_tags(&mut self, names: &[String]) -> Result<(), Fault>
-        ensures ok { OnOk result ((self.new ≡ without_tags self.old (map (λ w. string_bytes w) names.now)) × (clock_check self.new.count ≡ None)) }
+        ensures ok { OnOk result ((self.new ≡ with_tags_deleted self.old (map (λ w. string_bytes w) names.now)) × (clock_check self.new.count ≡ None)) }
         ensures err { IfErr result (λ fault. (fault ≡ Fault.NoMemory)
-            ⊎ (clock_check (without_tags self.old (map (λ w. string_bytes w) names.now)).count ≡ Some fault)) }
+            ⊎ (clock_check (with_tags_deleted self.old (map (λ w. string_bytes w) names.now)).count ≡ Some fault)) }
         ensures unchanged { OnErr result (self.new ≡ self.old) }
         ensures text { text_of self.new.cells ≡ text_of self.old.cells }
     {
-        let plan = planned_deletion(
-            self.alloc,
-            &mut self.store,
-            &mut self.states,
-            &self.tags,
-            self.site,
-            self.clock.seen(),
-            names,
-        )?;
-        put_states(&mut self.store, &self.states, &plan.runs);
+        let (store, states) = self.kept();
+        let drafts = planned_tag_deletion(self.alloc, store, states, &self.tags, names)?;
+        let _made = self.replica.make(drafts)?;
         forget_all(&mut self.tags, names);
-        self.clock.saw(plan.count);
         Ok(())
     }
 

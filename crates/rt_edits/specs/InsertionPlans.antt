@@ -1,0 +1,31 @@
+-- What the plan of an insertion stands for.
+use Rattle.std.specs.Prelude.{◌≡◌, true, length, ◌≤◌, ◌&&◌, List, map, string_bytes, All, Option, None, Some}
+use Rattle.rt_stamps.specs.declared.stamp.Stamp.{Stamp}
+use Rattle.rt_stamps.specs.Words.{Word}
+use Rattle.rt_store.specs.Spans.{is_among}
+use Rattle.rt_edits.specs.declared.inserting.Between.{Between}
+use Rattle.rt_edits.specs.declared.inserting.Plan.{Plan}
+use Rattle.rt_edits.specs.declared.selection.Selection.{Selection}
+use Rattle.rt_edits.specs.Insertions.{Insertion, all_listed, selected_if}
+use Rattle.rt_edits.specs.Selected.{room_in, stamps_in}
+use Rattle.rt_edits.specs.Selections.{with_stamps}
+
+-- a selection that has both neighbours gets the characters between them
+abbrev pub selected_between : Option Between → List Stamp → List Stamp
+selected_between None selection = selection
+selected_between (Some between) selection = selected_if (is_among selection between.left && is_among selection between.right) between.stamps.items selection
+
+-- a plan for a widget with a selection, beside others with theirs, where some tags are listed: it has as many characters as the
+-- insertion, and comes to its selections and listed tags
+pub record Plans (plan : Plan) (selection : List Stamp) (selections : List (List Stamp)) (listed : List Word) (new : Insertion) : Type 0 where
+  pub characters : plan.characters ≡ length new.cells
+  pub sel : with_stamps plan.selected.items selection ≡ new.sel
+  pub others : map (selected_between plan.between) selections ≡ new.others
+  pub tags : all_listed (map (λ w. string_bytes w) plan.names.items) listed ≡ new.tags
+
+-- each selection that has both neighbours has room for the characters between them
+abbrev pub HaveRoom : Option Between → List Selection → Type 0
+HaveRoom None others = Unit {0}
+HaveRoom (Some between) others =
+    All (λ selection. (is_among (stamps_in selection) between.left && is_among (stamps_in selection) between.right) ≡ true
+    → length between.stamps.items ≤ room_in selection) others

@@ -1,0 +1,89 @@
+// Deletions and tag writes, as the operations that they make.
+ghost use Rattle.std.specs.Prelude.{◌≡◌, ℕ, ◌-◌, ◌<◌, ◌≤◌, All, IfOk, IfErr, length, map, string_bytes};
+ghost use Rattle.rt_stamps.specs.declared.limits.TheConstants.{MOST_SPANS};
+ghost use Rattle.rt_oplog.specs.Edits.{body_of};
+ghost use Rattle.rt_store.specs.Cells.{AreDistinct, text_of, visible_of};
+ghost use Rattle.rt_store.specs.Shown.{shown};
+ghost use Rattle.rt_store.specs.Tagged.{AreStates};
+ghost use Rattle.rt_edits.specs.Deletions.{delete_drafts};
+ghost use Rattle.rt_edits.specs.Flat.{Flat};
+ghost use Rattle.rt_edits.specs.Listed.{AreListed};
+ghost use Rattle.rt_edits.specs.Removals.{AreInOrder, is_covered, is_removed};
+ghost use Rattle.rt_edits.specs.TagDrafts.{deletion_drafts, tag_drafts_at};
+
+use crate::Range;
+use rt_rga::Draft;
+use rt_stamps::Fault;
+use rt_store::TextStore;
+use rt_tags::{StateTable, TagTable};
+use std::alloc::Global;
+
+/// What a deletion comes to: the ranges of places that go, whether it holds the last newline, and its
+/// operations.
+#[derive(Drop)]
+pub struct Deletion {
+    pub removed: Vec<Range>,
+    pub held: bool,
+    pub drafts: Vec<Draft>,
+}
+
+/// Plans the deletion of ranges, in any order and of any length: the Deletes of their characters, and
+/// where they hold the last newline, a Tag for each of its shared tags. Want of memory.
+pub fn planned_deletion<S: TextStore>(
+    alloc: Global,
+    store: &S,
+    states: &StateTable,
+    ranges: &[Range],
+) -> Result<Deletion, Fault>
+    requires distinct { AreDistinct (S.list store.now) }
+    requires states { AreStates states.now (S.list store.now) }
+    ensures drafts { IfOk result (λ d. (flat : Flat) → flat.cells ≡ map (shown states.now) (S.list store.now)
+        → map body_of d.drafts.items ≡ delete_drafts MOST_SPANS flat ranges.now) }
+    ensures places { IfOk result (λ d. (place : ℕ) → is_covered d.removed.items place ≡ is_removed (text_of (S.list store.now)) ranges.now place) }
+    ensures order { IfOk result (λ d. AreInOrder 0 d.removed.items) }
+    ensures before { IfOk result (λ d. All (λ range. range.to < length (text_of (S.list store.now))) d.removed.items) }
+    ensures held { IfOk result (λ d. d.held ≡ is_covered ranges.now (length (text_of (S.list store.now)) - 1)) }
+    ensures err { IfErr result (λ fault. fault ≡ Fault.NoMemory) }
+{
+    Err(Fault::NoMemory)
+}
+
+/// The operations that put a tag on those characters in ranges that haven't it, or take it off those
+/// that have it. Want of memory.
+pub fn planned_tag<S: TextStore>(
+    alloc: Global,
+    store: &S,
+    states: &StateTable,
+    ranges: &[Range],
+    name: &str,
+    on: bool,
+) -> Result<Vec<Draft>, Fault>
+    requires distinct { AreDistinct (S.list store.now) }
+    requires states { AreStates states.now (S.list store.now) }
+    requires order { AreInOrder 0 ranges.now }
+    requires within { All (λ range. range.to ≤ length (visible_of (S.list store.now))) ranges.now }
+    ensures ok { IfOk result (λ drafts. map body_of drafts.items
+        ≡ tag_drafts_at MOST_SPANS (is_covered ranges.now) on name.now (map (shown states.now) (S.list store.now))) }
+    ensures err { IfErr result (λ fault. fault ≡ Fault.NoMemory) }
+{
+    Err(Fault::NoMemory)
+}
+
+/// The operations that take tags off all characters, `sel` passed over: those of a name that comes
+/// again, or isn't listed, are none. Want of memory.
+pub fn planned_tag_deletion<S: TextStore>(
+    alloc: Global,
+    store: &S,
+    states: &StateTable,
+    tags: &TagTable,
+    names: &[String],
+) -> Result<Vec<Draft>, Fault>
+    requires distinct { AreDistinct (S.list store.now) }
+    requires states { AreStates states.now (S.list store.now) }
+    requires listed { AreListed tags.now.names (map (shown states.now) (S.list store.now)) }
+    ensures ok { IfOk result (λ drafts. (flat : Flat) → flat.cells ≡ map (shown states.now) (S.list store.now)
+        → map body_of drafts.items ≡ deletion_drafts MOST_SPANS flat (map (λ w. string_bytes w) names.now)) }
+    ensures err { IfErr result (λ fault. fault ≡ Fault.NoMemory) }
+{
+    Err(Fault::NoMemory)
+}

@@ -1,0 +1,75 @@
+// What an insertion comes to, as the operations that it makes.
+ghost use Rattle.std.specs.Prelude.{◌≡◌, ◌⊎◌, ◌<◌, ◌≤◌, [], List, IfOk, IfErr, length, map};
+ghost use Rattle.rt_stamps.specs.declared.limits.TheConstants.{GREATEST_COUNT, MOST_CHARACTERS};
+ghost use Rattle.rt_stamps.specs.declared.stamp.Stamp.{Stamp};
+ghost use Rattle.rt_stamps.specs.Words.{Word};
+ghost use Rattle.rt_oplog.specs.Edits.{body_of};
+ghost use Rattle.rt_store.specs.Cells.{visible_of};
+ghost use Rattle.rt_store.specs.Shown.{shown, TaggedCell};
+ghost use Rattle.rt_store.specs.Tagged.{AreStates};
+ghost use Rattle.rt_edits.specs.Flat.{left_of};
+ghost use Rattle.rt_edits.specs.InsertionDrafts.{insertion_drafts};
+ghost use Rattle.rt_edits.specs.InsertionPlans.{Plans};
+ghost use Rattle.rt_edits.specs.Insertions.{insertion_of, left_neighbour, right_neighbour};
+ghost use Rattle.rt_edits.specs.Selected.{stamps_in};
+
+use crate::{Piece, Selection};
+use rt_rga::Draft;
+use rt_stamps::{Fault, Site, Stamp};
+use rt_store::TextStore;
+use rt_tags::StateTable;
+use std::alloc::Global;
+
+/// Characters between two others that are there.
+#[derive(Drop)]
+pub struct Between {
+    pub left: Stamp,
+    pub right: Stamp,
+    pub stamps: Vec<Stamp>,
+}
+
+/// What pieces of text come to: their operations in turn, how many new characters there are, those that
+/// the commanding widget selects, the tags to list in turn, and the characters that other widgets
+/// select where they have both neighbours.
+#[derive(Drop)]
+pub struct Plan {
+    pub drafts: Vec<Draft>,
+    pub characters: usize,
+    pub selected: Vec<Stamp>,
+    pub names: Vec<String>,
+    pub between: Option<Between>,
+}
+
+/// The plan of pieces, and then characters without a list, before the character at a place, with the
+/// counts after one. `ClockSpent` where these would pass `GREATEST_COUNT`, or want of memory.
+pub fn planned_insertion<S: TextStore>(
+    alloc: Global,
+    store: &S,
+    states: &StateTable,
+    site: Site,
+    count: u64,
+    selection: &Selection,
+    place: usize,
+    pieces: &[Piece],
+    rest: &str,
+) -> Result<Plan, Fault>
+    requires place { place < length (visible_of (S.list store.now)) }
+    requires states { AreStates states.now (S.list store.now) }
+    requires count { count ≤ GREATEST_COUNT }
+    ensures drafts { IfOk result (λ plan. (cells : List TaggedCell) (others : List (List Stamp)) (tags : List Word)
+        → cells ≡ map (shown states.now) (S.list store.now) → map body_of plan.drafts.items
+        ≡ insertion_drafts MOST_CHARACTERS site.number (left_of cells place) (left_neighbour (visible_of cells) place)
+        (right_neighbour (visible_of cells) place) pieces.now rest.now
+        (record { cells = []; count = count; sel = stamps_in selection.now; others = others; tags = tags })) }
+    ensures plans { IfOk result (λ plan. (cells : List TaggedCell) (others : List (List Stamp)) (tags : List Word)
+        → cells ≡ map (shown states.now) (S.list store.now) → Plans plan (stamps_in selection.now) others tags
+        (insertion_of site.number (left_neighbour (visible_of cells) place) (right_neighbour (visible_of cells) place) pieces.now rest.now
+        (record { cells = []; count = count; sel = stamps_in selection.now; others = others; tags = tags }))) }
+    ensures err { IfErr result (λ fault. (fault ≡ Fault.NoMemory)
+        ⊎ ((fault ≡ Fault.ClockSpent) × ((cells : List TaggedCell) (others : List (List Stamp)) (tags : List Word)
+        → cells ≡ map (shown states.now) (S.list store.now) → GREATEST_COUNT
+        < (insertion_of site.number (left_neighbour (visible_of cells) place) (right_neighbour (visible_of cells) place) pieces.now rest.now
+        (record { cells = []; count = count; sel = stamps_in selection.now; others = others; tags = tags })).count))) }
+{
+    Err(Fault::NoMemory)
+}
