@@ -5,6 +5,7 @@ pub mod DistanceLaws
 pub mod Insertions
 pub mod KeptDocument
 pub mod LastNewline
+pub mod MadeDocument
 pub mod ListedText
 pub mod MarkLaws
 pub mod MovingLaws

@@ -5,6 +5,7 @@ ghost use Rattle.rt_store.specs.Cells.{AreDistinct, final_cell};
 ghost use Rattle.rt_store.specs.Shown.{shown};
 ghost use Rattle.rt_store.specs.Tagged.{AreStates};
 ghost use Rattle.rt_tags.specs.Tags.{sel};
+ghost use Rattle.rt_edits.specs.DraftLaws.{IsDocument};
 ghost use Rattle.rt_edits.specs.Flat.{new_flat};
 ghost use Rattle.rt_edits.specs.Listed.{AreListed};
 ghost use Rattle.rt_rga.specs.Cells.{cells_of};
@@ -101,13 +102,15 @@ impl<S: TextStore> Doc<S> {
         self.replica.log()
     }
 
-    // The store, and what the states of its cells mean.
+    // The store, and what the states of its cells mean: the cells of the log, which is a history.
     fn kept(&self) -> (&S, &StateTable)
         ensures cells { map (shown result.1.now) (S.list result.0.now) ≡ self.now.cells }
         ensures states { AreStates result.1.now (S.list result.0.now) }
         ensures distinct { AreDistinct (S.list result.0.now) }
         ensures few { length (S.list result.0.now) ≤ self.now.limit }
         ensures most { self.now.limit ≤ MOST_CELLS }
+        ensures history { IsHistory self.now.log }
+        ensures document { IsDocument self.now.site self.now.log self.now }
     {
         let _ = self.replica.log();
         (self.replica.store(), self.replica.states())

@@ -1,0 +1,91 @@
+-- A document after its replica has made operations, or has refused to.
+use Rattle.std.proofs.Common.{◌≡◌, ◌∙◌, ℕ, ◌+◌, ◌<◌, ◌≤◌, Bool, true, false, cond, List, [], ◌∷◌, Option, None, Some, length, refl, sym, ap, arith, subst}
+use Rattle.std.specs.Prelude.{nat_lt}
+use Rattle.std.proofs.lemmas.Bool.{cond-true, cond-false, le-ltb, lt-ltb, ltb-true, ltb-false}
+use Rattle.rt_marks.specs.Marks.{Mark}
+use Rattle.rt_oplog.specs.Operations.{Body, Operation}
+use Rattle.rt_stamps.specs.declared.fault.Fault.{Fault}
+use Rattle.rt_stamps.specs.declared.fault.Fault.TheVariants.{ClockSpent, TextFull}
+use Rattle.rt_stamps.specs.declared.limits.TheConstants.{GREATEST_COUNT}
+use Rattle.rt_stamps.specs.Outcomes.{first_of}
+use Rattle.rt_stamps.specs.Words.{Word}
+use Rattle.rt_rga.specs.Cells.{cells_of}
+use Rattle.rt_rga.specs.Drafts.{with_drafts}
+use Rattle.rt_rga.specs.Histories.{greatest_last_count}
+use Rattle.rt_rga.specs.Kept.{ReplicaValue}
+use Rattle.rt_rga.specs.Made.{refusal_of}
+use Rattle.rt_rga.specs.Requests.{characters_in_all, last_count_after}
+use Rattle.rt_edits.specs.DraftLaws.{IsDocument}
+use Rattle.rt_edits.specs.Flat.{Flat, logged}
+use Rattle.rt_text.specs.Commands.{clock_check, cell_check}
+
+-- what is seen of a replica, with marks and tags
+abbrev pub seen : ReplicaValue → List Mark → List Word → Flat
+seen replica marks tags = record {
+  cells = replica.cells;
+  site = replica.site;
+  limit = replica.limit;
+  log = replica.log;
+  count = greatest_last_count replica.log;
+  marks = marks;
+  tags = tags;
+}
+
+-- a replica that differs in its table alone is seen as before
+pub seen_same : (old new : ReplicaValue) (marks : List Mark) (tags : List Word) → new ≡ record old { table = new.table } → seen new marks tags ≡ seen old marks tags
+seen_same old new marks tags e = ap (λ (r : ReplicaValue). seen r marks tags) e
+
+-- what a replica has made is seen as the edited document, which is one of the larger log
+pub seen_made : (flat edited : Flat) (drafts : List Body) (new : ReplicaValue) → new.log ≡ with_drafts flat.site drafts flat.log → new.cells ≡ cells_of new.log → new.site ≡ flat.site → new.limit ≡ flat.limit
+    → edited.limit ≡ flat.limit → IsDocument flat.site (with_drafts flat.site drafts flat.log) edited → seen new edited.marks edited.tags ≡ logged flat drafts edited
+seen_made flat edited drafts new log cells site limit same doc =
+    λ i. record {
+      cells = (cells ∙ ap cells_of log ∙ sym doc.cells) i;
+      site = (site ∙ sym doc.site) i;
+      limit = (limit ∙ sym same) i;
+      log = log i;
+      count = (ap greatest_last_count log ∙ sym doc.count) i;
+      marks = edited.marks;
+      tags = edited.tags;
+    }
+
+-- REFUSALS
+
+-- the replica refuses what the counts and the cells of the edited document refuse
+pub refusal_is : (limit : ℕ) (drafts : List Body) (log : List Operation) (count cells : ℕ) → last_count_after (greatest_last_count log) drafts ≡ count → length (cells_of log) + characters_in_all drafts ≡ cells
+    → refusal_of limit drafts log ≡ first_of (clock_check count ∷ cell_check limit cells ∷ [])
+refusal_is limit drafts log count cells e f =
+    by (nat_lt GREATEST_COUNT (last_count_after (greatest_last_count log) drafts)) (nat_lt limit (length (cells_of log) + characters_in_all drafts))
+    ∙ (λ i. first_of (clock_check (e i) ∷ cell_check limit (f i) ∷ []))
+  where
+    by : (b c : Bool) → cond b (Some ClockSpent) (cond c (Some TextFull) None) ≡ first_of (cond b (Some ClockSpent) None ∷ cond c (Some TextFull) None ∷ [])
+    by true c = refl
+    by false true = refl
+    by false false = refl
+
+-- Where operations insert nothing, they are refused for their counts alone.
+pub counts_alone : (limit : ℕ) (drafts : List Body) (log : List Operation) (count : ℕ) → length (cells_of log) ≤ limit → characters_in_all drafts ≡ 0 → last_count_after (greatest_last_count log) drafts ≡ count
+    → refusal_of limit drafts log ≡ clock_check count
+counts_alone limit drafts log count few none e =
+    refusal_is limit drafts log count (length (cells_of log)) e (omega (arith, none))
+    ∙ ap (λ c. first_of (clock_check count ∷ c ∷ [])) (cond-false (nat_lt limit (length (cells_of log))) (Some TextFull) None (le-ltb limit (length (cells_of log)) few))
+    ∙ by (clock_check count)
+  where
+    by : (check : Option Fault) → first_of (check ∷ None ∷ []) ≡ check
+    by None = refl
+    by (Some fault) = refl
+
+-- what a check of the clock says
+pub clock_fits : (count : ℕ) → clock_check count ≡ None → count ≤ GREATEST_COUNT
+clock_fits count e = by (nat_lt GREATEST_COUNT count) refl e
+  where
+    by : (b : Bool) → nat_lt GREATEST_COUNT count ≡ b → cond b (Some ClockSpent) None ≡ None → count ≤ GREATEST_COUNT
+    by false f k = ltb-false GREATEST_COUNT count f
+    by true f k = let bad : ⊥ = cc in absurd bad
+
+pub clock_passed : (count : ℕ) (fault : Fault) → clock_check count ≡ Some fault → (fault ≡ ClockSpent) × (GREATEST_COUNT < count)
+clock_passed count fault e = by (nat_lt GREATEST_COUNT count) refl e
+  where
+    by : (b : Bool) → nat_lt GREATEST_COUNT count ≡ b → cond b (Some ClockSpent) None ≡ Some fault → (fault ≡ ClockSpent) × (GREATEST_COUNT < count)
+    by true f k = (cc, ltb-true GREATEST_COUNT count f)
+    by false f k = let bad : ⊥ = cc in absurd bad
