@@ -1,5 +1,5 @@
 // Pieces of text to insert.
-ghost use Rattle.std.specs.Prelude.{◌≡◌, map, string_bytes};
+ghost use Rattle.std.specs.Prelude.{◌≡◌, All, IsUtf8, map, string_bytes};
 
 use std::marker::Model;
 
@@ -39,5 +39,13 @@ impl Piece {
         ensures { map (λ w. string_bytes w) result.now ≡ self.now.tags }
     {
         &self.tags
+    }
+
+    /// Its words are UTF-8.
+    pub fn is_text(&self)
+        ensures text { IsUtf8 self.now.text }
+        ensures tags { All IsUtf8 self.now.tags }
+    {
+        let _ = &self.text;
     }
 }

@@ -2,6 +2,7 @@ pub mod Checks
 pub mod DeletionLaws
 pub mod Deletions
 pub mod DistanceLaws
+pub mod InsertedDocument
 pub mod Insertions
 pub mod KeptDocument
 pub mod LastNewline
@@ -13,8 +14,6 @@ pub mod PutLaws
 pub mod RangeLaws
 pub mod ReadyLaws
 pub mod Refusals
-pub mod RisingLaws
 pub mod SeenLaws
 pub mod TaggedLaws
 pub mod TextLaws
-pub mod WrittenText

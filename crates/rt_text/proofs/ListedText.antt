@@ -306,25 +306,20 @@ names_of_all names tags h = All-weaker (λ n. is_listed n (all_listed names tags
 
 -- A LEFT NEIGHBOUR
 
-cell_among : (table : TagStates) (kept : List (Cell ℕ)) (tags : List Word) (place : ℕ) (o : Option (Cell ℕ)) → AreListed tags (map (shown table) kept) → AreStates table kept
-    → ((state : ℕ) → IsState table state → IsByName (state_at table state)) → slice_get (visible_of kept) place ≡ o → IfSome (option_map (shown table) o) (IsAmong tags)
-cell_among table kept tags place None listed given sorted e = tt
-cell_among table kept tags place (Some cell) listed given sorted e =
-    let seen = visible_of (map (shown table) kept) in
-    let at : slice_get seen place ≡ Some (shown table cell) = visible_at_shown (state_at table) kept place ∙ ap (option_map (shown table)) e in
-    let is : get_or seen place (shown table cell) ≡ shown table cell = get_or_from_slice_get seen place (shown table cell) (shown table cell) at in
-    let within : place < length seen = slice_get_within seen place (shown table cell) at in
-    let passes : not (shown table cell).gone ≡ true = subst (λ (c : TaggedCell). not c.gone ≡ true) is (filter_passes (λ (c : TaggedCell). not c.gone) (map (shown table) kept) place (shown table cell) within) in
+cell_among : (cells : List TaggedCell) (tags : List Word) (place : ℕ) (o : Option TaggedCell) → AreListed tags cells → All (λ (c : TaggedCell). IsByName c.state) cells → slice_get (visible_of cells) place ≡ o → IfSome o (IsAmong tags)
+cell_among cells tags place None listed sorted e = tt
+cell_among cells tags place (Some cell) listed sorted e =
+    let seen = visible_of cells in
+    let is : get_or seen place cell ≡ cell = get_or_from_slice_get seen place cell cell e in
+    let within : place < length seen = slice_get_within seen place cell e in
+    let passes : not cell.gone ≡ true = subst (λ (c : TaggedCell). not c.gone ≡ true) is (filter_passes (λ (c : TaggedCell). not c.gone) cells place cell within) in
     record {
-      each = subst (λ (c : TaggedCell). (name : Word) → is_on name c.state ≡ true → is_listed name tags ≡ true) is (listed.each place (shown table cell) within);
-      by_name = sorted cell.state (visible_given table kept place cell given e);
-      shared = subst (λ (c : TaggedCell). IsShared c.state) is
-          (All-filter (λ (c : TaggedCell). not c.gone) (λ (c : TaggedCell). IsShared c.state) (map (shown table) kept) listed.shared place (shown table cell) within);
-      there = not-true (shown table cell).gone passes;
+      each = subst (λ (c : TaggedCell). (name : Word) → is_on name c.state ≡ true → is_listed name tags ≡ true) is (listed.each place cell within);
+      by_name = subst (λ (c : TaggedCell). IsByName c.state) is (All-filter (λ (c : TaggedCell). not c.gone) (λ (c : TaggedCell). IsByName c.state) cells sorted place cell within);
+      shared = subst (λ (c : TaggedCell). IsShared c.state) is (All-filter (λ (c : TaggedCell). not c.gone) (λ (c : TaggedCell). IsShared c.state) cells listed.shared place cell within);
+      there = not-true cell.gone passes;
     }
 
-pub left_among : (table : TagStates) (kept : List (Cell ℕ)) (tags : List Word) (place : ℕ) → AreListed tags (map (shown table) kept) → AreStates table kept
-    → ((state : ℕ) → IsState table state → IsByName (state_at table state)) → IfSome (left_neighbour (visible_of (map (shown table) kept)) place) (IsAmong tags)
-left_among table kept tags zero listed given sorted = tt
-left_among table kept tags (suc place) listed given sorted =
-    subst (λ o. IfSome o (IsAmong tags)) (sym (visible_at_shown (state_at table) kept place)) (cell_among table kept tags place (slice_get (visible_of kept) place) listed given sorted refl)
+pub left_among : (cells : List TaggedCell) (tags : List Word) (place : ℕ) → AreListed tags cells → All (λ (c : TaggedCell). IsByName c.state) cells → IfSome (left_neighbour (visible_of cells) place) (IsAmong tags)
+left_among cells tags zero listed sorted = tt
+left_among cells tags (suc place) listed sorted = cell_among cells tags place (slice_get (visible_of cells) place) listed sorted refl

@@ -33,14 +33,12 @@ use Rattle.rt_edits.proofs.ListedLaws.{listed_more}
 use Rattle.rt_text.proofs.ListedText.{IsAmong, ListsAll, all_still, insertion_lists, left_among, listed_put, names_of_all, text_among}
 use Rattle.rt_text.proofs.MarkLaws.{length_put}
 use Rattle.rt_text.proofs.ReadyLaws.{first_none, first_some}
-use Rattle.rt_text.proofs.RisingLaws.{AreNew, insertion_new, new_known}
 use Rattle.rt_edits.proofs.Shown.{left_shown, put_shown}
 use Rattle.rt_store.proofs.Shown.{shown_later, text_shown, visible_shown}
-use Rattle.rt_text.proofs.WrittenText.{insertion_written, written_put}
 
 -- THE COMMAND, BY ITS CHECKS
 
-abbrev late_checks : Flat → Edited → List (Option Fault)
+abbrev pub late_checks : Flat → Edited → List (Option Fault)
 late_checks flat edited = clock_check edited.doc.count ∷ cell_check flat.limit (length edited.doc.cells) ∷ []
 
 -- an edit by an outcome of its index
@@ -91,18 +89,6 @@ all_checked count limit cells h k =
 
 -- WHAT A PLAN MAKES OF A DOCUMENT
 
-abbrev pub edited_by : Flat → Own → ℕ → Insertion → Edited
-edited_by flat own place new = record {
-  doc = record flat {
-    cells = put_after flat.cells (left_of flat.cells place) new.cells;
-    count = new.count;
-    marks = marks_inserted place (length new.cells) flat.marks;
-    tags = new.tags;
-  };
-  own = record (own_inserted place (length new.cells) own) { sel = new.sel };
-  others = new.others;
-}
-
 abbrev pub start_of : Flat → Own → List (List Stamp) → Insertion
 start_of flat own others = record { cells = []; count = flat.count; sel = own.sel; others = others; tags = flat.tags }
 
@@ -110,86 +96,9 @@ abbrev pub insertion_in : Flat → Own → List (List Stamp) → ℕ → List Pi
 insertion_in flat own others place pieces rest =
     insertion_of flat.site (left_neighbour (visible_of flat.cells) place) (right_neighbour (visible_of flat.cells) place) pieces rest (start_of flat own others)
 
--- the put cells are shown as the definition has them
-pub put_seen : (table mid : TagStates) (kept cells : List (Cell ℕ)) (place : ℕ) → KeepsIds table mid → AreStates table kept
-    → map (shown mid) (put_after kept (left_of kept place) cells) ≡ put_after (map (shown table) kept) (left_of (map (shown table) kept) place) (map (shown mid) cells)
-put_seen table mid kept cells place keeps given =
-    let left = left_of kept place in
-    sym (put_shown (state_at mid) kept left cells)
-    ∙ ap (λ l. put_after l left (map (shown mid) cells)) (shown_later table mid kept keeps given)
-    ∙ ap (λ l. put_after (map (shown table) kept) l (map (shown mid) cells)) (sym (left_shown (state_at table) kept place))
-
--- STORED CELLS
-
-pub new_from_shown : (table : TagStates) (site count last : ℕ) (cells : List (Cell ℕ)) → AreNew site count last (map (shown table) cells) → AreNew site count last cells
-new_from_shown table site count last [] h = h
-new_from_shown table site count last (cell ∷ cells) h = (h.0, h.1, new_from_shown table site cell.stamp.count last cells h.2)
-
-known_up_to : {T : Type 0} (count later : ℕ) (cells : List (Cell T)) → count ≤ later → AreBelowNext count cells → AreBelowNext later cells
-known_up_to count later cells le h = λ k d lt. let p = h k d lt in (omega (arith, p.0), λ e. p.1 (omega (arith, p.0)))
-
-pub known_after : (site count last : ℕ) (cells : List (Cell ℕ)) (left : Stamp) (new : List (Cell ℕ)) → AreNew site count last new → AreBelowNext count cells → AreBelowNext last (put_after cells left new)
-known_after site count last cells left new n known =
-    let p = new_known site count last new n in
-    known_put last cells left new (known_up_to count last cells p.0 known) p.1
-
--- the text grows by all new characters
-pub grown : (mid : TagStates) (tags : List Word) (kept : List (Cell ℕ)) (left : Stamp) (cells : List (Cell ℕ)) → All (IsAmong tags) (map (shown mid) cells) → length (text_of (put_after kept left cells)) ≡ length (text_of kept) + length cells
-grown mid tags kept left cells h =
-    length_put kept left cells
-    ∙ ap (λ n. length (text_of kept) + n) (ap length (sym (text_shown (state_at mid) cells)) ∙ text_among tags (map (shown mid) cells) h ∙ length-map cells (shown mid))
-
 pub on_err : {P : Type 0} {A : Type 0} (r : Result A Fault) → P → OnErr r P
 on_err (Ok x) p = tt
 on_err (Err fault) p = p
-
--- PLANS
-
--- what holds of the plan of an insertion
-pub record IsPlanned (table : TagStates) (site count : ℕ) (tags : List Word) (plan : Plan) : Type 0 where
-  pub new : AreNew site count plan.count plan.cells.items
-  pub among : All (IsAmong (all_listed (map (name_at table) plan.tags.items) tags)) (map (shown table) plan.cells.items)
-  pub names : All IsName (map (name_at table) plan.tags.items)
-  pub listed : All IsName (all_listed (map (name_at table) plan.tags.items) tags)
-  pub written : AreWritten plan.count (map (shown table) plan.cells.items)
-
-pub plan_fine : (table mid : TagStates) (kept : List (Cell ℕ)) (site count place : ℕ) (selection : List Stamp) (others : List (List Stamp)) (tags : List Word) (pieces : List Piece) (rest : Word) (plan : Plan)
-    → All IsName (names_in pieces) → AreListed tags (map (shown table) kept) → AreStates table kept → ((state : ℕ) → IsState table state → IsByName (state_at table state))
-    → planned mid plan selection others tags
-    ≡ insertion_of site (left_neighbour (visible_of (map (shown table) kept)) place) (right_neighbour (visible_of (map (shown table) kept)) place) pieces rest
-    (record { cells = []; count = count; sel = selection; others = others; tags = tags })
-    → IsPlanned mid site count tags plan
-plan_fine table mid kept site count place selection others tags pieces rest plan names listed given sorted e =
-    let left = left_neighbour (visible_of (map (shown table) kept)) place in
-    let right = right_neighbour (visible_of (map (shown table) kept)) place in
-    let start : Insertion = record { cells = []; count = count; sel = selection; others = others; tags = tags } in
-    let none : AreNew site count count start.cells = omega arith in
-    let new : AreNew site count plan.count (map (shown mid) plan.cells.items) =
-    subst (λ (x : Insertion). AreNew site count x.count x.cells) (sym e) (insertion_new site count left right pieces rest start none) in
-    let lists : ListsAll (planned mid plan selection others tags) =
-    subst ListsAll (sym e) (insertion_lists site left right pieces rest start names (left_among table kept tags place listed given sorted) (record { cells = All-nil (IsAmong tags); names = listed.names })) in
-    record {
-      new = new_from_shown mid site count plan.count plan.cells.items new;
-      among = lists.cells;
-      names = names_of_all (map (name_at mid) plan.tags.items) tags lists.names;
-      listed = lists.names;
-      written = subst (λ (x : Insertion). AreWritten x.count x.cells) (sym e) (insertion_written site left right pieces rest start (All-nil (λ (c : TaggedCell). IsWritten count c.state)));
-    }
-
--- the tags are listed afterwards
-pub listed_after : (table mid : TagStates) (kept cells : List (Cell ℕ)) (place : ℕ) (names tags : List Word) → KeepsIds table mid → AreStates table kept → AreListed tags (map (shown table) kept)
-    → All (IsAmong (all_listed names tags)) (map (shown mid) cells) → All IsName (all_listed names tags) → AreListed (all_listed names tags) (map (shown mid) (put_after kept (left_of kept place) cells))
-listed_after table mid kept cells place names tags keeps given listed among named =
-    let seen = map (shown table) kept in
-    subst (AreListed (all_listed names tags)) (sym (put_seen table mid kept cells place keeps given))
-    (listed_put (all_listed names tags) seen (left_of seen place) (map (shown mid) cells) (listed_more tags (all_listed names tags) seen (λ n e. all_still n names tags e) named listed) among)
-
--- and no writer has a greater count
-pub written_after : (table mid : TagStates) (kept cells : List (Cell ℕ)) (place clock last : ℕ) → KeepsIds table mid → AreStates table kept → clock ≤ last → AreWritten clock (map (shown table) kept) → AreWritten last (map (shown mid) cells)
-    → AreWritten last (map (shown mid) (put_after kept (left_of kept place) cells))
-written_after table mid kept cells place clock last keeps given le h k =
-    let seen = map (shown table) kept in
-    subst (AreWritten last) (sym (put_seen table mid kept cells place keeps given)) (written_put clock last seen (left_of seen place) (map (shown mid) cells) le h k)
 
 -- WHAT STAYS
 
@@ -233,31 +142,3 @@ pub all_refused : (flat : Flat) (own : Own) (others : List (List Stamp)) (index 
     → IfErr r (λ fault. (fault ≡ NoMemory) ⊎ (first_of (late_checks flat (with_pieces_at flat own others place pieces rest)) ≡ Some fault)) → IfErr r (Refuses (inserted flat own others index pieces rest))
 all_refused flat own others index pieces rest found place (Ok x) h e p k = tt
 all_refused flat own others index pieces rest found place (Err fault) h e p k = either (late_refused flat own others index pieces rest found place fault h e p) k
-
--- THE EDIT OF A PLAN
-
-pub edit_is : (flat_in flat : Flat) (own_in own : Own) (others : List (List Stamp)) (place : ℕ) (pieces : List Piece) (rest : Word) (x : Insertion) (count : ℕ) → flat_in ≡ flat → own_in ≡ own → count ≡ flat_in.count
-    → x ≡ insertion_of flat_in.site (left_neighbour (visible_of flat_in.cells) place) (right_neighbour (visible_of flat_in.cells) place) pieces rest
-    (record { cells = []; count = count; sel = own_in.sel; others = others; tags = flat_in.tags })
-    → edited_by flat_in own_in place x ≡ with_pieces_at flat own others place pieces rest
-edit_is flat_in flat own_in own others place pieces rest x count f o n e =
-    let left = left_neighbour (visible_of flat_in.cells) place in
-    let right = right_neighbour (visible_of flat_in.cells) place in
-    let counted : x ≡ insertion_of flat_in.site left right pieces rest (start_of flat_in own_in others) =
-    e ∙ (λ i. insertion_of flat_in.site left right pieces rest (record { cells = []; count = n i; sel = own_in.sel; others = others; tags = flat_in.tags })) in
-    ap (edited_by flat_in own_in place) counted ∙ (λ i. with_pieces_at (f i) (o i) others place pieces rest)
-
--- too many cells
-pub full_by : (flat_in flat : Flat) (own_in own : Own) (others : List (List Stamp)) (place : ℕ) (pieces : List Piece) (rest : Word) (x : Insertion) (count : ℕ) → flat_in ≡ flat → own_in ≡ own → count ≡ flat_in.count
-    → x ≡ insertion_of flat_in.site (left_neighbour (visible_of flat_in.cells) place) (right_neighbour (visible_of flat_in.cells) place) pieces rest
-    (record { cells = []; count = count; sel = own_in.sel; others = others; tags = flat_in.tags })
-    → x.count ≤ GREATEST_COUNT → flat_in.limit < length flat_in.cells + length x.cells → first_of (late_checks flat (with_pieces_at flat own others place pieces rest)) ≡ Some TextFull
-full_by flat_in flat own_in own others place pieces rest x count f o n e few many =
-    let edited = edited_by flat_in own_in place x in
-    let grown : length edited.doc.cells ≡ length flat_in.cells + length x.cells = put_length flat_in.cells (left_of flat_in.cells place) x.cells in
-    let limit : flat.limit ≡ flat_in.limit = ap (λ (v : Flat). v.limit) (sym f) in
-    ap (λ v. first_of (late_checks flat v)) (sym (edit_is flat_in flat own_in own others place pieces rest x count f o n e))
-    ∙ text_full x.count flat.limit (length edited.doc.cells) few (subst (λ k. k < length edited.doc.cells) (sym limit) (subst (λ k. flat_in.limit < k) (sym grown) many))
-
-pub count_after : (clock count saw last : ℕ) → count ≡ clock → count ≤ last → saw ≡ max clock last → saw ≡ last
-count_after clock count saw last c h s = omega arith

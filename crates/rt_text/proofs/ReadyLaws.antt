@@ -4,9 +4,10 @@ use Rattle.std.specs.Prelude.{IfErr, IfSome, IsOk, ◌↔◌, option_map, slice_
 use Rattle.std.specs.Str.{bytes_eq, chars}
 use Rattle.std.proofs.lemmas.Bool.{or_left, or_right}
 use Rattle.std.proofs.lemmas.List.{drop_more, get_or-map, length-map, map-append}
-use Rattle.std.proofs.lemmas.List.Elements.{All-more, All-weaker}
+use Rattle.std.proofs.lemmas.List.Elements.{All-get_or, All-more, All-weaker}
 use Rattle.rt_stamps.specs.declared.fault.Fault.{Fault}
 use Rattle.rt_stamps.specs.declared.fault.Fault.TheVariants.{BadName, NoMemory}
+use Rattle.rt_stamps.specs.declared.stamp.Stamp.{Stamp}
 use Rattle.rt_stamps.specs.Outcomes.{first_of}
 use Rattle.rt_stamps.specs.Words.{Word}
 use Rattle.rt_store.specs.declared.cell.Cell.{Cell}
@@ -18,6 +19,7 @@ use Rattle.rt_tags.proofs.Places.{clash, name_itself}
 use Rattle.rt_stamps.specs.Names.{name_check}
 use Rattle.rt_text.specs.Commands.{names_in}
 use Rattle.rt_store.specs.Shown.{TaggedCell, shown}
+use Rattle.rt_edits.specs.InsertionPlans.{selected_between}
 use Rattle.rt_edits.specs.Insertions.{Insertion, Piece, all_listed, counts_for, insertion_of, last_of, left_neighbour, right_neighbour, tags_between, with_pieces, with_unlisted}
 use Rattle.rt_edits.proofs.PlanLaws.{pieces_from, unlisted_count}
 use Rattle.rt_text.proofs.SeenLaws.{visible_given}
@@ -50,25 +52,24 @@ names_bad pieces i piece fault h e f = sym (ap first_of (names_from pieces i pie
 
 -- TAGS
 
-pub named_here : (P : Word → Type 0) (f : ℕ → Word) (tags : List ℕ) (i tag : ℕ) (name : Word) → i < length tags → tag ≡ get_or tags i tag → name ≡ f tag → All P (map f tags) → P name
+pub named_here : {X : Type 0} (P : Word → Type 0) (f : X → Word) (tags : List X) (i : ℕ) (tag : X) (name : Word) → i < length tags → tag ≡ get_or tags i tag → name ≡ f tag → All (λ t. P (f t)) tags → P name
 named_here P f tags i tag name h e n all =
-    let within : i < length (map f tags) = omega (arith, length-map tags f) in
-    subst P (get_or-map f tags i tag (f tag) h ∙ ap f (sym e) ∙ sym n) (all i (f tag) within)
+    subst P (ap f (sym e) ∙ sym n) (All-get_or (λ t. P (f t)) tags i tag h all)
 
 still_ready : (q name : Word) (old new : Tags) → AlsoReady name old new → is_ready q old ≡ true → is_ready q new ≡ true
 still_ready q name old new made h = made q ∙ or_right (bytes_eq q name) (is_ready q old) h
 
-pub ready_more : (f : ℕ → Word) (tags : List ℕ) (i tag : ℕ) (name : Word) (old new : Tags) → i < length tags → tag ≡ get_or tags i tag → name ≡ f tag → AlsoReady name old new
+pub ready_more : {X : Type 0} (f : X → Word) (tags : List X) (i : ℕ) (tag : X) (name : Word) (old new : Tags) → i < length tags → tag ≡ get_or tags i tag → name ≡ f tag → AlsoReady name old new
     → All (λ t. is_ready (f t) old ≡ true) (take i tags) → All (λ t. is_ready (f t) new ≡ true) (take (i + 1) tags)
-ready_more f tags i tag name old new h e n made all =
-    let P : ℕ → Type 0 = λ t. is_ready (f t) new ≡ true in
+ready_more {X} f tags i tag name old new h e n made all =
+    let P : X → Type 0 = λ t. is_ready (f t) new ≡ true in
     let here : is_ready (f tag) new ≡ true = ap (λ q. is_ready q new) (sym n) ∙ made name ∙ or_left (bytes_eq name name) (is_ready name old) (name_itself name) in
     All-more P tags i tag h (All-weaker (λ t. is_ready (f t) old ≡ true) P (λ t k. still_ready (f t) name old new made k) (take i tags) all) (subst P e here)
 
-pub ready_still : (f : ℕ → Word) (tags : List ℕ) (name : Word) (old new : Tags) → AlsoReady name old new → All (λ t. is_ready (f t) old ≡ true) tags → All (λ t. is_ready (f t) new ≡ true) tags
+pub ready_still : {X : Type 0} (f : X → Word) (tags : List X) (name : Word) (old new : Tags) → AlsoReady name old new → All (λ t. is_ready (f t) old ≡ true) tags → All (λ t. is_ready (f t) new ≡ true) tags
 ready_still f tags name old new made all = All-weaker (λ t. is_ready (f t) old ≡ true) (λ t. is_ready (f t) new ≡ true) (λ t k. still_ready (f t) name old new made k) tags all
 
-pub listed_from : (f : ℕ → Word) (tags : List ℕ) (i tag : ℕ) (name : Word) (old new : Tags) → i < length tags → tag ≡ get_or tags i tag → name ≡ f tag → new.names ≡ with_name name old.names
+pub listed_from : {X : Type 0} (f : X → Word) (tags : List X) (i : ℕ) (tag : X) (name : Word) (old new : Tags) → i < length tags → tag ≡ get_or tags i tag → name ≡ f tag → new.names ≡ with_name name old.names
     → all_listed (map f (drop (i + 1) tags)) new.names ≡ all_listed (map f (drop i tags)) old.names
 listed_from f tags i tag name old new h e n made =
     ap (all_listed (map f (drop (i + 1) tags))) made
@@ -90,50 +91,13 @@ pub at_ok : {P : Type 0} (r : Result (Unit {0}) Fault) → IsOk r → OnOk r P �
 at_ok (Ok x) h p = p
 at_ok (Err fault) h p = let bad : ⊥ = cc in absurd bad
 
--- NEIGHBOURS
+-- SELECTIONS
 
-given_by : (table : TagStates) (cells : List (Cell ℕ)) (place : ℕ) (o : Option (Cell ℕ)) → AreStates table cells → slice_get (visible_of cells) place ≡ o → IfSome o (λ cell. IsState table cell.state)
-given_by table cells place None h e = tt
-given_by table cells place (Some cell) h e = visible_given table cells place cell h e
+pub none_between : (others : List (List Stamp)) → map (selected_between None) others ≡ others
+none_between [] = refl
+none_between (s ∷ others) = ap (λ l. s ∷ l) (none_between others)
 
--- the state of a left neighbour was given out
-pub left_given : (table : TagStates) (cells : List (Cell ℕ)) (place : ℕ) → AreStates table cells → IfSome (left_neighbour (visible_of cells) place) (λ cell. IsState table cell.state)
-left_given table cells zero h = tt
-left_given table cells (suc place) h = given_by table cells place (slice_get (visible_of cells) place) h refl
-
-pub given_later : (old new : TagStates) (o : Option (Cell ℕ)) → KeepsIds old new → IfSome o (λ cell. IsState old cell.state) → IfSome o (λ cell. IsState new cell.state)
-given_later old new None keeps h = tt
-given_later old new (Some cell) keeps h = (keeps.states cell.state h).0
-
-seen_later : (old new : TagStates) (o : Option (Cell ℕ)) → KeepsIds old new → IfSome o (λ cell. IsState old cell.state) → option_map (shown new) o ≡ option_map (shown old) o
-seen_later old new None keeps h = refl
-seen_later old new (Some cell) keeps h = λ i. Some (map_state (λ _. (keeps.states cell.state h).1 i) cell)
-
--- and it is shown as before
-pub left_seen : (old new : TagStates) (cells : List (Cell ℕ)) (place : ℕ) → KeepsIds old new → AreStates old cells → option_map (shown new) (left_neighbour (visible_of cells) place) ≡ left_neighbour (visible_of (map (shown old) cells)) place
-left_seen old new cells zero keeps h = refl
-left_seen old new cells (suc place) keeps h = seen_later old new (slice_get (visible_of cells) place) keeps (left_given old cells (suc place) h) ∙ sym (visible_at_shown (state_at old) cells place)
-
-pub right_seen : (old new : TagStates) (cells : List (Cell ℕ)) (place : ℕ) (right : Cell ℕ) → KeepsIds old new → AreStates old cells → slice_get (visible_of cells) place ≡ Some right
-    → Some (shown new right) ≡ right_neighbour (visible_of (map (shown old) cells)) place
-right_seen old new cells place right keeps h e =
-    seen_later old new (Some right) keeps (visible_given old cells place right h e) ∙ ap (option_map (shown old)) (sym e) ∙ sym (visible_at_shown (state_at old) cells place)
-
--- THE WHOLE INSERTION
-
-pub insertion_is : (site : ℕ) (left right left_now right_now : Option TaggedCell) (pieces : List Piece) (rest : Word) (start listed : Insertion) → left_now ≡ left → right_now ≡ right → listed ≡ with_pieces site pieces start
-    → with_unlisted site (last_of left_now listed.cells) right_now (chars rest) listed ≡ insertion_of site left right pieces rest start
-insertion_is site left right left_now right_now pieces rest start listed l r e = λ i. with_unlisted site (last_of (l i) (e i).cells) (r i) (chars rest) (e i)
-
-pub insertion_spent : (site : ℕ) (left right left_now right_now : Option TaggedCell) (pieces : List Piece) (rest : Word) (start listed : Insertion) (greatest : ℕ) → left_now ≡ left → right_now ≡ right → listed ≡ with_pieces site pieces start
-    → greatest < listed.count + counts_for (tags_between (last_of left_now listed.cells) right_now) (chars rest) → greatest < (insertion_of site left right pieces rest start).count
-insertion_spent site left right left_now right_now pieces rest start listed greatest l r e h =
-    subst (λ (n : ℕ). greatest < n) (sym (unlisted_count site (last_of left_now listed.cells) right_now (chars rest) listed) ∙ ap (λ (x : Insertion). x.count) (insertion_is site left right left_now right_now pieces rest start listed l r e)) h
-
-pub pieces_within : (site : ℕ) (left right : Option TaggedCell) (pieces : List Piece) (rest : Word) (start : Insertion) (greatest : ℕ) → greatest < (with_pieces site pieces start).count → greatest < (insertion_of site left right pieces rest start).count
-pieces_within site left right pieces rest start greatest h =
-    let listed = with_pieces site pieces start in
-    subst (λ (n : ℕ). greatest < n) (sym (unlisted_count site (last_of left listed.cells) right (chars rest) listed)) (more listed.count (counts_for (tags_between (last_of left listed.cells) right) (chars rest)) h)
-  where
-    more : (a b : ℕ) → greatest < a → greatest < a + b
-    more a b h = omega arith
+-- what holds anyway holds where a call is done
+pub anyway : {P X : Type 0} (r : Result X Fault) → P → OnOk r P
+anyway (Ok x) p = p
+anyway (Err fault) p = tt

@@ -4,6 +4,7 @@ ghost use Rattle.rt_stamps.specs.Outcomes.{first_of};
 ghost use Rattle.rt_tags.specs.Tags.{IsName, is_ready};
 ghost use Rattle.rt_stamps.specs.Names.{name_check};
 ghost use Rattle.rt_text.specs.Commands.{names_in};
+ghost use Rattle.rt_edits.specs.DeletionLaws.{IsPiece};
 ghost use Rattle.rt_edits.specs.Insertions.{all_listed};
 ghost use Rattle.rt_edits.specs.InsertionPlans.{HaveRoom, selected_between};
 ghost use Rattle.rt_edits.specs.Selected.{room_in, stamps_in};
@@ -14,12 +15,15 @@ use rt_edits::{Piece, Selection};
 use rt_stamps::Fault;
 use rt_tags::TagTable;
 
-/// Whether all names in the lists of pieces may be names of tags, or why not.
+/// Whether all names in the lists of pieces may be names of tags, or why not: then the pieces may be
+/// inserted.
 pub(crate) fn check_names(pieces: &[Piece]) -> Result<(), Fault>
     ensures ok { OnOk result (first_of (map name_check (names_in pieces.now)) ≡ None) }
+    ensures pieces { OnOk result (All IsPiece pieces.now) }
     ensures err { IfErr result (λ fault. first_of (map name_check (names_in pieces.now)) ≡ Some fault) }
 {
     for piece in pieces {
+        piece.is_text();
         rt_stamps::check_names(piece.tags())?;
     }
     Ok(())

@@ -5,6 +5,7 @@ ghost use Rattle.rt_stamps.specs.Outcomes.{first_of, Refuses};
 ghost use Rattle.rt_store.specs.Cells.{text_of, visible_of};
 ghost use Rattle.rt_text.specs.Widgets.{IsOwnOf};
 ghost use Rattle.rt_text.specs.Commands.{cell_check, clock_check, inserted, names_in, with_pieces_at, deleted};
+ghost use Rattle.rt_edits.specs.DeletionLaws.{IsPiece};
 ghost use Rattle.rt_edits.specs.Selected.{stamps_in};
 
 use super::Doc;
@@ -67,7 +68,7 @@ impl<S: TextStore> Doc<S> {
         rest: &str,
     ) -> Result<(), Fault>
         requires place { place < length (visible_of self.old.cells) }
-        requires names { All IsName (names_in pieces.now) }
+        requires pieces { All IsPiece pieces.now }
         requires own { IsOwnOf (length (text_of self.old.cells)) widget.old }
         ensures ok { OnOk result (record { doc = self.new; own = widget.new; others = map stamps_in others.new }
             ≡ with_pieces_at self.old widget.old (map stamps_in others.old) place pieces.now rest.now) }

@@ -1,7 +1,7 @@
 use Rattle.std.proofs.Common.{◌∙◌, ap, map, sym}
-use Rattle.rt_edits.specs.Planned.{selected_between}
+use Rattle.rt_edits.specs.InsertionPlans.{selected_between}
 use Rattle.rt_edits.specs.Selected.{stamps_in}
-use Rattle.rt_edits.proofs.PlanLaws.{none_between}
+use Rattle.rt_text.proofs.ReadyLaws.{none_between}
 use Rattle.rt_text.proofs.preparing.select_between.Goals as goal
 
 pub returns-in-None : goal.returns-in-None
