@@ -89,3 +89,11 @@ clock_passed count fault e = by (nat_lt GREATEST_COUNT count) refl e
     by : (b : Bool) → nat_lt GREATEST_COUNT count ≡ b → cond b (Some ClockSpent) None ≡ Some fault → (fault ≡ ClockSpent) × (GREATEST_COUNT < count)
     by true f k = (cc, ltb-true GREATEST_COUNT count f)
     by false f k = let bad : ⊥ = cc in absurd bad
+
+pub both_fit : (count limit cells : ℕ) → first_of (clock_check count ∷ cell_check limit cells ∷ []) ≡ None → (count ≤ GREATEST_COUNT) × (cells ≤ limit)
+both_fit count limit cells e = by (nat_lt GREATEST_COUNT count) (nat_lt limit cells) refl refl e
+  where
+    by : (b d : Bool) → nat_lt GREATEST_COUNT count ≡ b → nat_lt limit cells ≡ d → first_of (cond b (Some ClockSpent) None ∷ cond d (Some TextFull) None ∷ []) ≡ None → (count ≤ GREATEST_COUNT) × (cells ≤ limit)
+    by false false f h k = (ltb-false GREATEST_COUNT count f, ltb-false limit cells h)
+    by false true f h k = let bad : ⊥ = cc in absurd bad
+    by true d f h k = let bad : ⊥ = cc in absurd bad

@@ -1,2 +1,332 @@
-use Rattle.rt_text.proofs.InsertedDocument.{may_make, refused_as, made_is, text_more, kept_made, own_made, listed_names}
+use Rattle.std.proofs.Common.{◌≡◌, ◌∙◌, ◌<◌, ◌≤◌, ◌+◌, ◌^◌, ◌-◌, ◌∷◌, [], All, List, None, Some, ◌⊎◌, ap, arith, inl, inr, length, map, refl, string_bytes, subst, sym, ℕ}
+use Rattle.std.specs.Prelude.{codes}
+use Rattle.std.proofs.lemmas.Result.{err_from_is_err_and}
+use Rattle.rt_marks.specs.Marks.{mark_inserted, marks_inserted}
+use Rattle.rt_oplog.specs.Edits.{body_of}
+use Rattle.rt_oplog.specs.Operations.{Body}
+use Rattle.rt_stamps.specs.declared.stamp.Stamp.{Stamp}
+use Rattle.rt_stamps.specs.Outcomes.{first_of}
+use Rattle.rt_stamps.specs.Words.{Word}
+use Rattle.rt_store.specs.Cells.{text_of}
+use Rattle.rt_tags.specs.Tags.{IsName}
+use Rattle.rt_rga.specs.Drafts.{with_drafts}
+use Rattle.rt_rga.specs.Made.{refusal_of}
+use Rattle.rt_rga.specs.Requests.{MayBeMade}
+use Rattle.rt_edits.specs.Flat.{Flat, logged}
+use Rattle.rt_edits.specs.InsertionPlans.{Plans, selected_between}
+use Rattle.rt_edits.specs.Insertions.{all_listed}
+use Rattle.rt_edits.specs.Listed.{AreListed}
+use Rattle.rt_edits.specs.Selected.{room_in, stamps_in}
+use Rattle.rt_edits.specs.Selections.{with_stamps}
+use Rattle.rt_edits.proofs.PlaceLaws.{length_text, text_within}
+use Rattle.rt_text.specs.Commands.{Edited, with_pieces_at}
+use Rattle.rt_text.specs.Kept.{IsDoc}
+use Rattle.rt_text.specs.Widgets.{IsOwnOf, Own, own_inserted}
+use Rattle.rt_text.proofs.InsertedDocument.{all_fit, drafts_are, kept_made, made_drafts, made_flat, made_is, made_new, may_make, names_given, own_made, plans_are, refused_as}
+use Rattle.rt_text.proofs.MadeDocument.{seen, seen_made}
+use Rattle.rt_text.proofs.MarkLaws.{site_fits}
+use Rattle.rt_text.proofs.PutLaws.{late_checks, visible_same}
 use Rattle.rt_text.proofs.doc.Doc.insert_at.Goals as goal
+
+which : {F X : Type 0} {r checked : X} {fault memory : F} {some none : X} → (r ≡ some) ⊎ ((fault ≡ memory) × (r ≡ none)) → r ≡ checked → (fault ≡ memory) ⊎ (checked ≡ some)
+which (inl e) s = inr (sym s ∙ e)
+which (inr p) s = inl p.0
+
+pub planned_insertion-requires-clause-place : goal.planned_insertion-requires-clause-place
+planned_insertion-requires-clause-place g c =
+    subst (λ n. c.args.place < n) (sym (visible_same c.kept.result.1.now (g.S.TextStore.list c.kept.result.0.now) c.args.self.now.cells c.kept.ensures.cells)) c.requires.place
+
+pub make_room-requires : goal.make_room-requires
+make_room-requires g c =
+    let flat = c.args.self.now in
+    let own = c.args.widget.now in
+    let others = map stamps_in c.args.others.now in
+    let pieces = c.args.pieces.now in
+    let rest = c.args.rest.now in
+    let site : c.site-site.result.number ≡ flat.site = c.site-site.ensures ∙ ap (λ (f : Flat). f.site) c.self.view_is in
+    let count : c.seen-count.result ≡ flat.count = c.seen-count.ensures.value ∙ c.clock.ensures ∙ ap (λ (f : Flat). f.count) c.self.view_is in
+    let sel : stamps_in c.widget.inside.selection ≡ own.sel = ap (λ (o : Own). o.sel) c.widget.view_is in
+    let plans : Plans c.in_ok-plan.plan own.sel others flat.tags (made_new flat own others c.args.place pieces rest) =
+    plans_are flat own others c.args.place pieces rest c.in_ok-plan.plan c.site-site.result.number c.seen-count.result (stamps_in c.widget.inside.selection) site count sel
+    (c.in_ok-plan.ensures.plans flat.cells others flat.tags (sym c.kept.ensures.cells)) in
+    let listed : AreListed flat.tags flat.cells = subst (λ (f : Flat). AreListed f.tags f.cells) c.self.view_is c.self.invariant.listed in
+    names_given flat own others c.args.place pieces rest c.kept.ensures.history c.kept.ensures.document c.in_ok-plan.plan plans c.requires.pieces listed
+
+pub make-requires : goal.make-requires
+make-requires g c =
+    let flat = c.args.self.now in
+    let own = c.args.widget.now in
+    let others = map stamps_in c.args.others.now in
+    let pieces = c.args.pieces.now in
+    let rest = c.args.rest.now in
+    let site : c.site-site.result.number ≡ flat.site = c.site-site.ensures ∙ ap (λ (f : Flat). f.site) c.self.view_is in
+    let count : c.seen-count.result ≡ flat.count = c.seen-count.ensures.value ∙ c.clock.ensures ∙ ap (λ (f : Flat). f.count) c.self.view_is in
+    let sel : stamps_in c.widget.inside.selection ≡ own.sel = ap (λ (o : Own). o.sel) c.widget.view_is in
+    let drafts : map body_of c.in_ok-plan.plan.drafts.items ≡ made_drafts flat own others c.args.place pieces rest =
+    drafts_are flat own others c.args.place pieces rest c.site-site.result.number c.seen-count.result (stamps_in c.widget.inside.selection) (map body_of c.in_ok-plan.plan.drafts.items) site count sel
+    (c.in_ok-plan.ensures.drafts flat.cells others flat.tags (sym c.kept.ensures.cells)) in
+    let within : c.args.place < length (text_of flat.cells) = omega (arith, length_text flat.cells, c.requires.place) in
+    let may : MayBeMade flat.site flat.log (made_drafts flat own others c.args.place pieces rest) =
+    may_make flat own others c.args.place pieces rest c.kept.ensures.history c.kept.ensures.document within c.requires.pieces c.utf8.rest in
+    subst (λ (p : _). p) (λ i. MayBeMade (sym c.self.view_is i).site (sym c.self.view_is i).log (sym drafts i)) may
+
+pub returns-in_err-_made-clause-err : goal.returns-in_err-_made-clause-err
+returns-in_err-_made-clause-err g c =
+    let flat = c.args.self.now in
+    let own = c.args.widget.now in
+    let others = map stamps_in c.args.others.now in
+    let pieces = c.args.pieces.now in
+    let rest = c.args.rest.now in
+    let site : c.site-site.result.number ≡ flat.site = c.site-site.ensures ∙ ap (λ (f : Flat). f.site) c.self.view_is in
+    let count : c.seen-count.result ≡ flat.count = c.seen-count.ensures.value ∙ c.clock.ensures ∙ ap (λ (f : Flat). f.count) c.self.view_is in
+    let sel : stamps_in c.widget.inside.selection ≡ own.sel = ap (λ (o : Own). o.sel) c.widget.view_is in
+    let drafts : map body_of c.in_ok-plan.plan.drafts.items ≡ made_drafts flat own others c.args.place pieces rest =
+    drafts_are flat own others c.args.place pieces rest c.site-site.result.number c.seen-count.result (stamps_in c.widget.inside.selection) (map body_of c.in_ok-plan.plan.drafts.items) site count sel
+    (c.in_ok-plan.ensures.drafts flat.cells others flat.tags (sym c.kept.ensures.cells)) in
+    let p = err_from_is_err_and c.from_residual-in_err-_made.result c.from_residual-in_err-_made.ensures.1 in
+    let same : refusal_of c.self.inside.replica.limit (map body_of c.in_ok-plan.plan.drafts.items) c.self.inside.replica.log ≡ first_of (late_checks flat (with_pieces_at flat own others c.args.place pieces rest)) =
+    (λ i. refusal_of (c.self.view_is i).limit (drafts i) (c.self.view_is i).log) ∙ refused_as flat own others c.args.place pieces rest c.kept.ensures.history c.kept.ensures.document in
+    rw (p.1, p.2) (which c.in_err-_made.ensures.refused same)
+
+pub inserted-requires : goal.inserted-requires
+inserted-requires g c =
+    let flat = c.args.self.now in
+    let own = c.args.widget.now in
+    let others = map stamps_in c.args.others.now in
+    let pieces = c.args.pieces.now in
+    let rest = c.args.rest.now in
+    let site : c.site-site.result.number ≡ flat.site = c.site-site.ensures ∙ ap (λ (f : Flat). f.site) c.self.view_is in
+    let count : c.seen-count.result ≡ flat.count = c.seen-count.ensures.value ∙ c.clock.ensures ∙ ap (λ (f : Flat). f.count) c.self.view_is in
+    let sel : stamps_in c.widget.inside.selection ≡ own.sel = ap (λ (o : Own). o.sel) c.widget.view_is in
+    let drafts : map body_of c.in_ok-plan.plan.drafts.items ≡ made_drafts flat own others c.args.place pieces rest =
+    drafts_are flat own others c.args.place pieces rest c.site-site.result.number c.seen-count.result (stamps_in c.widget.inside.selection) (map body_of c.in_ok-plan.plan.drafts.items) site count sel
+    (c.in_ok-plan.ensures.drafts flat.cells others flat.tags (sym c.kept.ensures.cells)) in
+    let plans : Plans c.in_ok-plan.plan own.sel others flat.tags (made_new flat own others c.args.place pieces rest) =
+    plans_are flat own others c.args.place pieces rest c.in_ok-plan.plan c.site-site.result.number c.seen-count.result (stamps_in c.widget.inside.selection) site count sel
+    (c.in_ok-plan.ensures.plans flat.cells others flat.tags (sym c.kept.ensures.cells)) in
+    let fit = all_fit flat own others c.args.place pieces rest c.kept.ensures.history c.kept.ensures.document
+    (sym (λ i. refusal_of (c.self.view_is i).limit (drafts i) (c.self.view_is i).log) ∙ c.in_ok-_made.ensures.fits) in
+    let characters : c.in_ok-plan.plan.characters ≡ length (made_new flat own others c.args.place pieces rest).cells = plans.characters in
+    let many : length (text_of c.self.inside.replica.cells) ≡ length (text_of flat.cells) = ap (λ (f : Flat). length (text_of f.cells)) c.self.view_is in
+    let few : length (text_of flat.cells) + c.in_ok-plan.plan.characters ≤ 2 ^ 64 - 1 = omega (arith, fit.1, characters, text_within flat.cells, c.kept.ensures.most) in
+    record { fits = site_fits (length (text_of c.self.inside.replica.cells)) c.in_ok-plan.plan.characters (2 ^ 64 - 1) c.self.inside.marks (omega (arith, many, few)) c.self.invariant.placed }
+
+pub inserted-requires-2-clause-insert : goal.inserted-requires-2-clause-insert
+inserted-requires-2-clause-insert g c =
+    let flat = c.args.self.now in
+    let own = c.args.widget.now in
+    let others = map stamps_in c.args.others.now in
+    let pieces = c.args.pieces.now in
+    let rest = c.args.rest.now in
+    let site : c.site-site.result.number ≡ flat.site = c.site-site.ensures ∙ ap (λ (f : Flat). f.site) c.self.view_is in
+    let count : c.seen-count.result ≡ flat.count = c.seen-count.ensures.value ∙ c.clock.ensures ∙ ap (λ (f : Flat). f.count) c.self.view_is in
+    let sel : stamps_in c.widget.inside.selection ≡ own.sel = ap (λ (o : Own). o.sel) c.widget.view_is in
+    let drafts : map body_of c.in_ok-plan.plan.drafts.items ≡ made_drafts flat own others c.args.place pieces rest =
+    drafts_are flat own others c.args.place pieces rest c.site-site.result.number c.seen-count.result (stamps_in c.widget.inside.selection) (map body_of c.in_ok-plan.plan.drafts.items) site count sel
+    (c.in_ok-plan.ensures.drafts flat.cells others flat.tags (sym c.kept.ensures.cells)) in
+    let plans : Plans c.in_ok-plan.plan own.sel others flat.tags (made_new flat own others c.args.place pieces rest) =
+    plans_are flat own others c.args.place pieces rest c.in_ok-plan.plan c.site-site.result.number c.seen-count.result (stamps_in c.widget.inside.selection) site count sel
+    (c.in_ok-plan.ensures.plans flat.cells others flat.tags (sym c.kept.ensures.cells)) in
+    let fit = all_fit flat own others c.args.place pieces rest c.kept.ensures.history c.kept.ensures.document
+    (sym (λ i. refusal_of (c.self.view_is i).limit (drafts i) (c.self.view_is i).log) ∙ c.in_ok-_made.ensures.fits) in
+    let characters : c.in_ok-plan.plan.characters ≡ length (made_new flat own others c.args.place pieces rest).cells = plans.characters in
+    let many : length (text_of c.self.inside.replica.cells) ≡ length (text_of flat.cells) = ap (λ (f : Flat). length (text_of f.cells)) c.self.view_is in
+    let few : length (text_of flat.cells) + c.in_ok-plan.plan.characters ≤ 2 ^ 64 - 1 = omega (arith, fit.1, characters, text_within flat.cells, c.kept.ensures.most) in
+    let place : c.widget.inside.insert.place ≡ own.insert.place = ap (λ (o : Own). o.insert.place) c.widget.view_is in
+    omega (arith, place, few, c.requires.own.0)
+
+pub inserted-requires-2-clause-current : goal.inserted-requires-2-clause-current
+inserted-requires-2-clause-current g c =
+    let flat = c.args.self.now in
+    let own = c.args.widget.now in
+    let others = map stamps_in c.args.others.now in
+    let pieces = c.args.pieces.now in
+    let rest = c.args.rest.now in
+    let site : c.site-site.result.number ≡ flat.site = c.site-site.ensures ∙ ap (λ (f : Flat). f.site) c.self.view_is in
+    let count : c.seen-count.result ≡ flat.count = c.seen-count.ensures.value ∙ c.clock.ensures ∙ ap (λ (f : Flat). f.count) c.self.view_is in
+    let sel : stamps_in c.widget.inside.selection ≡ own.sel = ap (λ (o : Own). o.sel) c.widget.view_is in
+    let drafts : map body_of c.in_ok-plan.plan.drafts.items ≡ made_drafts flat own others c.args.place pieces rest =
+    drafts_are flat own others c.args.place pieces rest c.site-site.result.number c.seen-count.result (stamps_in c.widget.inside.selection) (map body_of c.in_ok-plan.plan.drafts.items) site count sel
+    (c.in_ok-plan.ensures.drafts flat.cells others flat.tags (sym c.kept.ensures.cells)) in
+    let plans : Plans c.in_ok-plan.plan own.sel others flat.tags (made_new flat own others c.args.place pieces rest) =
+    plans_are flat own others c.args.place pieces rest c.in_ok-plan.plan c.site-site.result.number c.seen-count.result (stamps_in c.widget.inside.selection) site count sel
+    (c.in_ok-plan.ensures.plans flat.cells others flat.tags (sym c.kept.ensures.cells)) in
+    let fit = all_fit flat own others c.args.place pieces rest c.kept.ensures.history c.kept.ensures.document
+    (sym (λ i. refusal_of (c.self.view_is i).limit (drafts i) (c.self.view_is i).log) ∙ c.in_ok-_made.ensures.fits) in
+    let characters : c.in_ok-plan.plan.characters ≡ length (made_new flat own others c.args.place pieces rest).cells = plans.characters in
+    let many : length (text_of c.self.inside.replica.cells) ≡ length (text_of flat.cells) = ap (λ (f : Flat). length (text_of f.cells)) c.self.view_is in
+    let few : length (text_of flat.cells) + c.in_ok-plan.plan.characters ≤ 2 ^ 64 - 1 = omega (arith, fit.1, characters, text_within flat.cells, c.kept.ensures.most) in
+    let place : c.widget.inside.current.place ≡ own.current.place = ap (λ (o : Own). o.current.place) c.widget.view_is in
+    omega (arith, place, few, c.requires.own.1)
+
+pub list_tags-requires-clause-names : goal.list_tags-requires-clause-names
+list_tags-requires-clause-names g c =
+    let flat = c.args.self.now in
+    let own = c.args.widget.now in
+    let others = map stamps_in c.args.others.now in
+    let pieces = c.args.pieces.now in
+    let rest = c.args.rest.now in
+    let site : c.site-site.result.number ≡ flat.site = c.site-site.ensures ∙ ap (λ (f : Flat). f.site) c.self.view_is in
+    let count : c.seen-count.result ≡ flat.count = c.seen-count.ensures.value ∙ c.clock.ensures ∙ ap (λ (f : Flat). f.count) c.self.view_is in
+    let sel : stamps_in c.widget.inside.selection ≡ own.sel = ap (λ (o : Own). o.sel) c.widget.view_is in
+    let plans : Plans c.in_ok-plan.plan own.sel others flat.tags (made_new flat own others c.args.place pieces rest) =
+    plans_are flat own others c.args.place pieces rest c.in_ok-plan.plan c.site-site.result.number c.seen-count.result (stamps_in c.widget.inside.selection) site count sel
+    (c.in_ok-plan.ensures.plans flat.cells others flat.tags (sym c.kept.ensures.cells)) in
+    let listed : AreListed flat.tags flat.cells = subst (λ (f : Flat). AreListed f.tags f.cells) c.self.view_is c.self.invariant.listed in
+    subst (All (λ w. IsName (string_bytes w))) (sym c.deref-2.ensures.value)
+    (names_given flat own others c.args.place pieces rest c.kept.ensures.history c.kept.ensures.document c.in_ok-plan.plan plans c.requires.pieces listed)
+
+pub invariant_of-self-2 : goal.invariant_of-self-2
+invariant_of-self-2 g c =
+    let flat = c.args.self.now in
+    let own = c.args.widget.now in
+    let others = map stamps_in c.args.others.now in
+    let pieces = c.args.pieces.now in
+    let rest = c.args.rest.now in
+    let site : c.site-site.result.number ≡ flat.site = c.site-site.ensures ∙ ap (λ (f : Flat). f.site) c.self.view_is in
+    let count : c.seen-count.result ≡ flat.count = c.seen-count.ensures.value ∙ c.clock.ensures ∙ ap (λ (f : Flat). f.count) c.self.view_is in
+    let sel : stamps_in c.widget.inside.selection ≡ own.sel = ap (λ (o : Own). o.sel) c.widget.view_is in
+    let drafts : map body_of c.in_ok-plan.plan.drafts.items ≡ made_drafts flat own others c.args.place pieces rest =
+    drafts_are flat own others c.args.place pieces rest c.site-site.result.number c.seen-count.result (stamps_in c.widget.inside.selection) (map body_of c.in_ok-plan.plan.drafts.items) site count sel
+    (c.in_ok-plan.ensures.drafts flat.cells others flat.tags (sym c.kept.ensures.cells)) in
+    let plans : Plans c.in_ok-plan.plan own.sel others flat.tags (made_new flat own others c.args.place pieces rest) =
+    plans_are flat own others c.args.place pieces rest c.in_ok-plan.plan c.site-site.result.number c.seen-count.result (stamps_in c.widget.inside.selection) site count sel
+    (c.in_ok-plan.ensures.plans flat.cells others flat.tags (sym c.kept.ensures.cells)) in
+    let fit = all_fit flat own others c.args.place pieces rest c.kept.ensures.history c.kept.ensures.document
+    (sym (λ i. refusal_of (c.self.view_is i).limit (drafts i) (c.self.view_is i).log) ∙ c.in_ok-_made.ensures.fits) in
+    let within : c.args.place < length (text_of flat.cells) = omega (arith, length_text flat.cells, c.requires.place) in
+    let new = made_new flat own others c.args.place pieces rest in
+    let edited = made_flat flat own others c.args.place pieces rest in
+    let bodies = made_drafts flat own others c.args.place pieces rest in
+    let log : c.make.new.self.log ≡ with_drafts flat.site bodies flat.log = c.in_ok-_made.ensures.log ∙ (λ i. with_drafts (c.self.view_is i).site (drafts i) (c.self.view_is i).log) in
+    let made = made_is flat own others c.args.place pieces rest c.kept.ensures.history c.kept.ensures.document (omega (arith, site, c.site-site.result.positive)) within c.requires.pieces c.utf8.rest fit.0 in
+    let doc : seen c.make.new.self edited.marks edited.tags ≡ logged flat bodies edited =
+    seen_made flat edited bodies c.make.new.self log c.in_ok-_made.ensures.cells (c.make.ensures.site ∙ ap (λ (f : Flat). f.site) c.self.view_is) (c.make.ensures.limit ∙ ap (λ (f : Flat). f.limit) c.self.view_is) refl made in
+    let marks : c.inserted.new.self ≡ edited.marks = c.inserted.ensures ∙ (λ i. marks_inserted c.args.place (plans.characters i) (c.self.view_is i).marks) in
+    let tags : c.list_tags.new.table.names ≡ edited.tags =
+    c.list_tags.ensures ∙ (λ i. all_listed (map (λ w. string_bytes w) (c.deref-2.ensures.value i)) (c.make_room.ensures.tags i)) ∙ ap (λ (f : Flat). all_listed (map (λ w. string_bytes w) c.in_ok-plan.plan.names.items) f.tags) c.self.view_is ∙ plans.tags in
+    let kept = kept_made flat own others c.args.place pieces rest c.kept.ensures.history c.kept.ensures.document c.requires.pieces (subst (λ (f : Flat). IsDoc f.cells f.marks f.tags) c.self.view_is c.self.invariant) in
+    subst (λ (p : _). p) (λ i. IsDoc (sym doc i).cells (sym marks i) (sym tags i)) kept
+
+pub returns-clause-ok : goal.returns-clause-ok
+returns-clause-ok g c =
+    let flat = c.args.self.now in
+    let own = c.args.widget.now in
+    let others = map stamps_in c.args.others.now in
+    let pieces = c.args.pieces.now in
+    let rest = c.args.rest.now in
+    let site : c.site-site.result.number ≡ flat.site = c.site-site.ensures ∙ ap (λ (f : Flat). f.site) c.self.view_is in
+    let count : c.seen-count.result ≡ flat.count = c.seen-count.ensures.value ∙ c.clock.ensures ∙ ap (λ (f : Flat). f.count) c.self.view_is in
+    let sel : stamps_in c.widget.inside.selection ≡ own.sel = ap (λ (o : Own). o.sel) c.widget.view_is in
+    let drafts : map body_of c.in_ok-plan.plan.drafts.items ≡ made_drafts flat own others c.args.place pieces rest =
+    drafts_are flat own others c.args.place pieces rest c.site-site.result.number c.seen-count.result (stamps_in c.widget.inside.selection) (map body_of c.in_ok-plan.plan.drafts.items) site count sel
+    (c.in_ok-plan.ensures.drafts flat.cells others flat.tags (sym c.kept.ensures.cells)) in
+    let plans : Plans c.in_ok-plan.plan own.sel others flat.tags (made_new flat own others c.args.place pieces rest) =
+    plans_are flat own others c.args.place pieces rest c.in_ok-plan.plan c.site-site.result.number c.seen-count.result (stamps_in c.widget.inside.selection) site count sel
+    (c.in_ok-plan.ensures.plans flat.cells others flat.tags (sym c.kept.ensures.cells)) in
+    let fit = all_fit flat own others c.args.place pieces rest c.kept.ensures.history c.kept.ensures.document
+    (sym (λ i. refusal_of (c.self.view_is i).limit (drafts i) (c.self.view_is i).log) ∙ c.in_ok-_made.ensures.fits) in
+    let within : c.args.place < length (text_of flat.cells) = omega (arith, length_text flat.cells, c.requires.place) in
+    let new = made_new flat own others c.args.place pieces rest in
+    let edited = made_flat flat own others c.args.place pieces rest in
+    let bodies = made_drafts flat own others c.args.place pieces rest in
+    let log : c.make.new.self.log ≡ with_drafts flat.site bodies flat.log = c.in_ok-_made.ensures.log ∙ (λ i. with_drafts (c.self.view_is i).site (drafts i) (c.self.view_is i).log) in
+    let made = made_is flat own others c.args.place pieces rest c.kept.ensures.history c.kept.ensures.document (omega (arith, site, c.site-site.result.positive)) within c.requires.pieces c.utf8.rest fit.0 in
+    let doc : seen c.make.new.self edited.marks edited.tags ≡ logged flat bodies edited =
+    seen_made flat edited bodies c.make.new.self log c.in_ok-_made.ensures.cells (c.make.ensures.site ∙ ap (λ (f : Flat). f.site) c.self.view_is) (c.make.ensures.limit ∙ ap (λ (f : Flat). f.limit) c.self.view_is) refl made in
+    let marks : c.inserted.new.self ≡ edited.marks = c.inserted.ensures ∙ (λ i. marks_inserted c.args.place (plans.characters i) (c.self.view_is i).marks) in
+    let tags : c.list_tags.new.table.names ≡ edited.tags =
+    c.list_tags.ensures ∙ (λ i. all_listed (map (λ w. string_bytes w) (c.deref-2.ensures.value i)) (c.make_room.ensures.tags i)) ∙ ap (λ (f : Flat). all_listed (map (λ w. string_bytes w) c.in_ok-plan.plan.names.items) f.tags) c.self.view_is ∙ plans.tags in
+    let w = c.widget.inside in
+    let own_in : Own = record {
+      insert = record { name = codes "insert"; place = w.insert.place; gravity = w.insert.gravity };
+      current = record { name = codes "current"; place = w.current.place; gravity = w.current.gravity };
+      sel = stamps_in w.selection;
+    } in
+    let stamps : stamps_in c.add.new.self ≡ new.sel =
+    c.add.ensures ∙ (λ i. with_stamps (c.deref.ensures.value i) (c.make_room.ensures.selection i)) ∙ ap (with_stamps c.in_ok-plan.plan.selected.items) sel ∙ plans.sel in
+    let own_after : c.inserted-2.new.self ≡ record (own_inserted c.args.place (length new.cells) own) { sel = new.sel } =
+    c.inserted-2.ensures
+    ∙ (λ i. record { insert = mark_inserted c.args.place (plans.characters i) own_in.insert; current = mark_inserted c.args.place (plans.characters i) own_in.current; sel = stamps i })
+    ∙ ap (λ (o : Own). record (own_inserted c.args.place (length new.cells) o) { sel = new.sel }) c.widget.view_is in
+    let others_after : map stamps_in c.select_between.new.others ≡ new.others =
+    c.select_between.ensures ∙ ap (map (selected_between c.in_ok-plan.plan.between)) c.make_room.ensures.others ∙ plans.others in
+    (λ i. record { doc = seen c.make.new.self (marks i) (tags i); own = own_after i; others = others_after i }) ∙ ap (λ (f : Flat). record { doc = f; own = record (own_inserted c.args.place (length new.cells) own) { sel = new.sel }; others = new.others }) doc
+
+pub returns-clause-checked : goal.returns-clause-checked
+returns-clause-checked g c =
+    let flat = c.args.self.now in
+    let own = c.args.widget.now in
+    let others = map stamps_in c.args.others.now in
+    let pieces = c.args.pieces.now in
+    let rest = c.args.rest.now in
+    let site : c.site-site.result.number ≡ flat.site = c.site-site.ensures ∙ ap (λ (f : Flat). f.site) c.self.view_is in
+    let count : c.seen-count.result ≡ flat.count = c.seen-count.ensures.value ∙ c.clock.ensures ∙ ap (λ (f : Flat). f.count) c.self.view_is in
+    let sel : stamps_in c.widget.inside.selection ≡ own.sel = ap (λ (o : Own). o.sel) c.widget.view_is in
+    let drafts : map body_of c.in_ok-plan.plan.drafts.items ≡ made_drafts flat own others c.args.place pieces rest =
+    drafts_are flat own others c.args.place pieces rest c.site-site.result.number c.seen-count.result (stamps_in c.widget.inside.selection) (map body_of c.in_ok-plan.plan.drafts.items) site count sel
+    (c.in_ok-plan.ensures.drafts flat.cells others flat.tags (sym c.kept.ensures.cells)) in
+    let plans : Plans c.in_ok-plan.plan own.sel others flat.tags (made_new flat own others c.args.place pieces rest) =
+    plans_are flat own others c.args.place pieces rest c.in_ok-plan.plan c.site-site.result.number c.seen-count.result (stamps_in c.widget.inside.selection) site count sel
+    (c.in_ok-plan.ensures.plans flat.cells others flat.tags (sym c.kept.ensures.cells)) in
+    let fit = all_fit flat own others c.args.place pieces rest c.kept.ensures.history c.kept.ensures.document
+    (sym (λ i. refusal_of (c.self.view_is i).limit (drafts i) (c.self.view_is i).log) ∙ c.in_ok-_made.ensures.fits) in
+    let within : c.args.place < length (text_of flat.cells) = omega (arith, length_text flat.cells, c.requires.place) in
+    let new = made_new flat own others c.args.place pieces rest in
+    let edited = made_flat flat own others c.args.place pieces rest in
+    let bodies = made_drafts flat own others c.args.place pieces rest in
+    let log : c.make.new.self.log ≡ with_drafts flat.site bodies flat.log = c.in_ok-_made.ensures.log ∙ (λ i. with_drafts (c.self.view_is i).site (drafts i) (c.self.view_is i).log) in
+    let made = made_is flat own others c.args.place pieces rest c.kept.ensures.history c.kept.ensures.document (omega (arith, site, c.site-site.result.positive)) within c.requires.pieces c.utf8.rest fit.0 in
+    let doc : seen c.make.new.self edited.marks edited.tags ≡ logged flat bodies edited =
+    seen_made flat edited bodies c.make.new.self log c.in_ok-_made.ensures.cells (c.make.ensures.site ∙ ap (λ (f : Flat). f.site) c.self.view_is) (c.make.ensures.limit ∙ ap (λ (f : Flat). f.limit) c.self.view_is) refl made in
+    let marks : c.inserted.new.self ≡ edited.marks = c.inserted.ensures ∙ (λ i. marks_inserted c.args.place (plans.characters i) (c.self.view_is i).marks) in
+    let tags : c.list_tags.new.table.names ≡ edited.tags =
+    c.list_tags.ensures ∙ (λ i. all_listed (map (λ w. string_bytes w) (c.deref-2.ensures.value i)) (c.make_room.ensures.tags i)) ∙ ap (λ (f : Flat). all_listed (map (λ w. string_bytes w) c.in_ok-plan.plan.names.items) f.tags) c.self.view_is ∙ plans.tags in
+    (λ i. first_of (late_checks flat (record { doc = doc i; own = own; others = others })))
+    ∙ sym (refused_as flat own others c.args.place pieces rest c.kept.ensures.history c.kept.ensures.document)
+    ∙ sym (λ i. refusal_of (c.self.view_is i).limit (drafts i) (c.self.view_is i).log) ∙ c.in_ok-_made.ensures.fits
+
+pub returns-clause-own : goal.returns-clause-own
+returns-clause-own g c =
+    let flat = c.args.self.now in
+    let own = c.args.widget.now in
+    let others = map stamps_in c.args.others.now in
+    let pieces = c.args.pieces.now in
+    let rest = c.args.rest.now in
+    let site : c.site-site.result.number ≡ flat.site = c.site-site.ensures ∙ ap (λ (f : Flat). f.site) c.self.view_is in
+    let count : c.seen-count.result ≡ flat.count = c.seen-count.ensures.value ∙ c.clock.ensures ∙ ap (λ (f : Flat). f.count) c.self.view_is in
+    let sel : stamps_in c.widget.inside.selection ≡ own.sel = ap (λ (o : Own). o.sel) c.widget.view_is in
+    let drafts : map body_of c.in_ok-plan.plan.drafts.items ≡ made_drafts flat own others c.args.place pieces rest =
+    drafts_are flat own others c.args.place pieces rest c.site-site.result.number c.seen-count.result (stamps_in c.widget.inside.selection) (map body_of c.in_ok-plan.plan.drafts.items) site count sel
+    (c.in_ok-plan.ensures.drafts flat.cells others flat.tags (sym c.kept.ensures.cells)) in
+    let plans : Plans c.in_ok-plan.plan own.sel others flat.tags (made_new flat own others c.args.place pieces rest) =
+    plans_are flat own others c.args.place pieces rest c.in_ok-plan.plan c.site-site.result.number c.seen-count.result (stamps_in c.widget.inside.selection) site count sel
+    (c.in_ok-plan.ensures.plans flat.cells others flat.tags (sym c.kept.ensures.cells)) in
+    let fit = all_fit flat own others c.args.place pieces rest c.kept.ensures.history c.kept.ensures.document
+    (sym (λ i. refusal_of (c.self.view_is i).limit (drafts i) (c.self.view_is i).log) ∙ c.in_ok-_made.ensures.fits) in
+    let within : c.args.place < length (text_of flat.cells) = omega (arith, length_text flat.cells, c.requires.place) in
+    let listed : AreListed flat.tags flat.cells = subst (λ (f : Flat). AreListed f.tags f.cells) c.self.view_is c.self.invariant.listed in
+    let new = made_new flat own others c.args.place pieces rest in
+    let edited = made_flat flat own others c.args.place pieces rest in
+    let bodies = made_drafts flat own others c.args.place pieces rest in
+    let log : c.make.new.self.log ≡ with_drafts flat.site bodies flat.log = c.in_ok-_made.ensures.log ∙ (λ i. with_drafts (c.self.view_is i).site (drafts i) (c.self.view_is i).log) in
+    let made = made_is flat own others c.args.place pieces rest c.kept.ensures.history c.kept.ensures.document (omega (arith, site, c.site-site.result.positive)) within c.requires.pieces c.utf8.rest fit.0 in
+    let doc : seen c.make.new.self edited.marks edited.tags ≡ logged flat bodies edited =
+    seen_made flat edited bodies c.make.new.self log c.in_ok-_made.ensures.cells (c.make.ensures.site ∙ ap (λ (f : Flat). f.site) c.self.view_is) (c.make.ensures.limit ∙ ap (λ (f : Flat). f.limit) c.self.view_is) refl made in
+    let marks : c.inserted.new.self ≡ edited.marks = c.inserted.ensures ∙ (λ i. marks_inserted c.args.place (plans.characters i) (c.self.view_is i).marks) in
+    let tags : c.list_tags.new.table.names ≡ edited.tags =
+    c.list_tags.ensures ∙ (λ i. all_listed (map (λ w. string_bytes w) (c.deref-2.ensures.value i)) (c.make_room.ensures.tags i)) ∙ ap (λ (f : Flat). all_listed (map (λ w. string_bytes w) c.in_ok-plan.plan.names.items) f.tags) c.self.view_is ∙ plans.tags in
+    let w = c.widget.inside in
+    let own_in : Own = record {
+      insert = record { name = codes "insert"; place = w.insert.place; gravity = w.insert.gravity };
+      current = record { name = codes "current"; place = w.current.place; gravity = w.current.gravity };
+      sel = stamps_in w.selection;
+    } in
+    let stamps : stamps_in c.add.new.self ≡ new.sel =
+    c.add.ensures ∙ (λ i. with_stamps (c.deref.ensures.value i) (c.make_room.ensures.selection i)) ∙ ap (with_stamps c.in_ok-plan.plan.selected.items) sel ∙ plans.sel in
+    let own_after : c.inserted-2.new.self ≡ record (own_inserted c.args.place (length new.cells) own) { sel = new.sel } =
+    c.inserted-2.ensures
+    ∙ (λ i. record { insert = mark_inserted c.args.place (plans.characters i) own_in.insert; current = mark_inserted c.args.place (plans.characters i) own_in.current; sel = stamps i })
+    ∙ ap (λ (o : Own). record (own_inserted c.args.place (length new.cells) o) { sel = new.sel }) c.widget.view_is in
+    let is = own_made flat own others c.args.place pieces rest c.kept.ensures.history c.kept.ensures.document c.requires.pieces listed c.requires.own in
+    subst (λ (p : _). p) (λ i. IsOwnOf (length (text_of (sym doc i).cells)) (sym own_after i)) is
