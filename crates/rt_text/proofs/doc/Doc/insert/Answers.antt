@@ -21,15 +21,12 @@ returns-in_err-place-clause-err g c =
 
 pub insert_at-requires-clause-place : goal.insert_at-requires-clause-place
 insert_at-requires-clause-place g c =
-    let same = visible_same c.self.inside.states (g.S.TextStore.list c.self.inside.store) c.args.self.now.cells (ap (λ (f : Flat). f.cells) c.self.view_is) in
+    let same = visible_same c.kept.result.1.now (g.S.TextStore.list c.kept.result.0.now) c.args.self.now.cells c.kept.ensures.cells in
     omega (arith, same, c.before_end-place.ensures.within)
-
-pub insert_at-requires-clause-names : goal.insert_at-requires-clause-names
-insert_at-requires-clause-names g c = all_named (names_in c.args.pieces.now) c.in_ok-check_names.ensures.ok
 
 pub returns-clause-ok : goal.returns-clause-ok
 returns-clause-ok g c =
-    let same = text_same c.self.inside.states (g.S.TextStore.list c.self.inside.store) c.args.self.now.cells (ap (λ (f : Flat). f.cells) c.self.view_is) in
+    let same = text_same c.kept.result.1.now (g.S.TextStore.list c.kept.result.0.now) c.args.self.now.cells c.kept.ensures.cells in
     let place : c.before_end-place.result ≡ min c.in_ok-place.place (length (text_of c.args.self.now.cells) - 1) = c.before_end-place.ensures.value ∙ ap (λ n. min c.in_ok-place.place (n - 1)) same in
     both_done c.insert_at.result
     (done_by c.args.self.now c.args.widget.now (map stamps_in c.args.others.now) c.args.index.now c.args.pieces.now c.args.rest.now c.in_ok-place.place c.before_end-place.result
@@ -38,7 +35,7 @@ returns-clause-ok g c =
 
 pub returns-clause-err : goal.returns-clause-err
 returns-clause-err g c =
-    let same = text_same c.self.inside.states (g.S.TextStore.list c.self.inside.store) c.args.self.now.cells (ap (λ (f : Flat). f.cells) c.self.view_is) in
+    let same = text_same c.kept.result.1.now (g.S.TextStore.list c.kept.result.0.now) c.args.self.now.cells c.kept.ensures.cells in
     let place : c.before_end-place.result ≡ min c.in_ok-place.place (length (text_of c.args.self.now.cells) - 1) = c.before_end-place.ensures.value ∙ ap (λ n. min c.in_ok-place.place (n - 1)) same in
     all_refused c.args.self.now c.args.widget.now (map stamps_in c.args.others.now) c.args.index.now c.args.pieces.now c.args.rest.now c.in_ok-place.place c.before_end-place.result c.insert_at.result
     c.in_ok-check_names.ensures.ok c.in_ok-place.ensures.ok place c.insert_at.ensures.err
