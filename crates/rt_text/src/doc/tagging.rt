@@ -61,7 +61,7 @@ impl<S: TextStore> Doc<S> {
         ensures stamps { AreDistinct self.now.cells }
         ensures writes { AreWritten self.now.count self.now.cells }
     {
-        let _ = self.replica.log();
+        let _ = self.log();
     }
 
     /// The least place from one up whose character has a tag on the widget; none if there is none. It

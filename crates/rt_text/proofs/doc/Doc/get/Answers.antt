@@ -3,7 +3,6 @@ use Rattle.std.specs.Prelude.{encode_utf8_all}
 use Rattle.std.proofs.lemmas.Result.{IfOk-weaker}
 use Rattle.rt_store.specs.Cells.{text_of}
 use Rattle.rt_tags.specs.States.{state_at}
-use Rattle.rt_edits.specs.Flat.{Flat}
 use Rattle.rt_text.specs.Ranges.{text_between}
 use Rattle.rt_text.specs.Widgets.{widget_of}
 use Rattle.rt_text.proofs.Checks.{two_given}
@@ -15,8 +14,8 @@ returns-clause-ok g c =
     let flat = c.args.self.now in
     let start = c.in_ok-start.start in
     let end = c.in_ok-end.end in
-    let kept = g.S.TextStore.list c.self.inside.store in
-    let text : text_of kept ≡ text_of flat.cells = sym (text_shown (state_at c.self.inside.states) kept) ∙ ap (λ (f : Flat). text_of f.cells) c.self.view_is in
+    let kept = g.S.TextStore.list c.kept.result.0.now in
+    let text : text_of kept ≡ text_of flat.cells = sym (text_shown (state_at c.kept.result.1.now) kept) ∙ ap text_of c.kept.ensures.cells in
     IfOk-weaker c.text_between.result _ _
     (λ found h. two_given (widget_of flat c.args.widget.now) c.args.from.now c.args.to.now (λ a b. encode_utf8_all (text_between (text_of flat.cells) a b)) start end c.in_ok-start.ensures.ok c.in_ok-end.ensures.ok
     ∙ ap (λ t. Ok (encode_utf8_all (text_between t start end))) (sym text) ∙ ap (λ w. Ok w) (sym h)) c.text_between.ensures.ok

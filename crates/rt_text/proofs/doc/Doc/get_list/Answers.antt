@@ -4,7 +4,6 @@ use Rattle.std.proofs.lemmas.Result.{IfOk-weaker}
 use Rattle.rt_stamps.specs.Outcomes.{unless}
 use Rattle.rt_store.specs.Cells.{text_of}
 use Rattle.rt_tags.specs.States.{state_at}
-use Rattle.rt_edits.specs.Flat.{Flat}
 use Rattle.rt_text.specs.Index.{place_at_index}
 use Rattle.rt_text.specs.Ranges.{ranges_of, texts_of}
 use Rattle.rt_text.specs.Widgets.{widget_of}
@@ -16,8 +15,8 @@ returns-clause-ok g c =
     let flat = c.args.self.now in
     let w = widget_of flat c.args.widget.now in
     let ranges = c.in_ok-ranges.ranges.items in
-    let kept = g.S.TextStore.list c.self.inside.store in
-    let text : text_of kept ≡ text_of flat.cells = sym (text_shown (state_at c.self.inside.states) kept) ∙ ap (λ (f : Flat). text_of f.cells) c.self.view_is in
+    let kept = g.S.TextStore.list c.kept.result.0.now in
+    let text : text_of kept ≡ text_of flat.cells = sym (text_shown (state_at c.kept.result.1.now) kept) ∙ ap text_of c.kept.ensures.cells in
     IfOk-weaker c.texts_of.result _ _
     (λ found h. ap (λ f. unless f (texts_of (text_of flat.cells) (ranges_of (map (place_at_index w) (map (λ s. string_bytes s) c.args.indices.now))))) c.in_ok-ranges.ensures.checked
     ∙ ap (λ r. Ok (texts_of (text_of flat.cells) r)) (sym (c.deref.ensures.value ∙ c.in_ok-ranges.ensures.ok))

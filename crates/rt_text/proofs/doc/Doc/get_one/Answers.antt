@@ -3,7 +3,6 @@ use Rattle.std.specs.Prelude.{encode_utf8_all}
 use Rattle.std.proofs.lemmas.Result.{IfOk-weaker}
 use Rattle.rt_store.specs.Cells.{text_of}
 use Rattle.rt_tags.specs.States.{state_at}
-use Rattle.rt_edits.specs.Flat.{Flat}
 use Rattle.rt_text.specs.Ranges.{text_between}
 use Rattle.rt_text.specs.Widgets.{widget_of}
 use Rattle.rt_text.proofs.Checks.{one_given}
@@ -15,10 +14,10 @@ pub returns-clause-ok : goal.returns-clause-ok
 returns-clause-ok g c =
     let flat = c.args.self.now in
     let place = c.in_ok-place.place in
-    let kept = g.S.TextStore.list c.self.inside.store in
-    let text : text_of kept ≡ text_of flat.cells = sym (text_shown (state_at c.self.inside.states) kept) ∙ ap (λ (f : Flat). text_of f.cells) c.self.view_is in
+    let kept = g.S.TextStore.list c.kept.result.0.now in
+    let text : text_of kept ≡ text_of flat.cells = sym (text_shown (state_at c.kept.result.1.now) kept) ∙ ap text_of c.kept.ensures.cells in
     let same : length (text_of kept) ≡ length (text_of flat.cells) = ap length text in
-    let next : c.saturating_add.result ≡ place + 1 = omega (arith, same, c.in_ok-place.ensures.within, text_within kept, c.self.invariant.fits, c.self.invariant.few, c.saturating_add.ensures) in
+    let next : c.saturating_add.result ≡ place + 1 = omega (arith, same, c.in_ok-place.ensures.within, text_within kept, c.kept.ensures.most, c.kept.ensures.few, c.saturating_add.ensures) in
     IfOk-weaker c.text_between.result _ _
     (λ found h. one_given (widget_of flat c.args.widget.now) c.args.index.now (λ p. encode_utf8_all (text_between (text_of flat.cells) p (p + 1))) place c.in_ok-place.ensures.ok
     ∙ (λ i. Ok (encode_utf8_all (text_between (sym text i) place (sym next i)))) ∙ ap (λ w. Ok w) (sym h)) c.text_between.ensures.ok

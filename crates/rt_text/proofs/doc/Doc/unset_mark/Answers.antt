@@ -6,16 +6,8 @@ use Rattle.rt_text.proofs.doc.Doc.unset_mark.Goals as goal
 
 pub invariant_of-self : goal.invariant_of-self
 invariant_of-self g c =
-    let n = length (text_of (g.S.TextStore.list c.self.inside.store)) in
-    let marks : AreSiteMarks n c.unset.new.self = subst (AreSiteMarks n) (sym c.unset.ensures) (site_without n c.args.name.now c.self.inside.marks c.self.invariant.placed) in
+    let n = length (text_of c.self.inside.replica.cells) in
     record {
-      fits = c.self.invariant.fits;
-      few = c.self.invariant.few;
-      known = c.self.invariant.known;
-      clocked = c.self.invariant.clocked;
-      distinct = c.self.invariant.distinct;
-      placed = marks;
-      given = c.self.invariant.given;
+      placed = subst (AreSiteMarks n) (sym c.unset.ensures) (site_without n c.args.name.now c.self.inside.marks c.self.invariant.placed);
       listed = c.self.invariant.listed;
-      written = c.self.invariant.written;
     }
