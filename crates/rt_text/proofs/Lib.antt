@@ -15,6 +15,7 @@ pub mod ReadyLaws
 pub mod Refusals
 pub mod RisingLaws
 pub mod SeenLaws
+pub mod TaggedDocument
 pub mod TaggedLaws
 pub mod TextLaws
 pub mod WrittenText
