@@ -1,5 +1,6 @@
 -- Documents whose replicas make the operations of tags.
-use Rattle.std.proofs.Common.{◌≡◌, ◌∙◌, ◌⊎◌, ℕ, ◌<◌, ◌≤◌, Bool, true, cond, List, [], ◌∷◌, ◌++◌, Option, None, Some, inl, inr, length, map, refl, sym, ap, subst}
+use Rattle.std.proofs.Common.{◌≡◌, ◌∙◌, ◌⊎◌, ℕ, ◌<◌, ◌≤◌, Bool, true, false, cond, List, [], ◌∷◌, ◌++◌, Option, None, Some, inl, inr, length, map, refl, sym, ap, subst}
+use Rattle.std.specs.Str.{bytes_eq}
 use Rattle.std.proofs.lemmas.List.{append-nil}
 use Rattle.rt_marks.specs.Marks.{Mark}
 use Rattle.rt_oplog.specs.Operations.{Body, Operation}
@@ -13,7 +14,7 @@ use Rattle.rt_store.specs.Cells.{text_of}
 use Rattle.rt_store.specs.Shown.{shown}
 use Rattle.rt_store.proofs.Shown.{length_shown}
 use Rattle.rt_tags.specs.States.{TagStates, state_at}
-use Rattle.rt_tags.specs.Tags.{with_name}
+use Rattle.rt_tags.specs.Tags.{sel, with_name, without}
 use Rattle.rt_rga.specs.Cells.{cells_of}
 use Rattle.rt_rga.specs.Drafts.{with_drafts}
 use Rattle.rt_rga.specs.Histories.{IsHistory, greatest_last_count}
@@ -24,10 +25,13 @@ use Rattle.rt_rga.proofs.Requests.{all_count_on}
 use Rattle.rt_edits.specs.DraftLaws.{IsDocument}
 use Rattle.rt_edits.specs.Flat.{Flat, logged}
 use Rattle.rt_edits.specs.Listed.{AreListed}
-use Rattle.rt_edits.specs.TagDrafts.{tag_drafts_at, tags_drafts_at}
-use Rattle.rt_edits.specs.TagWrites.{listed_if, with_tag_at}
-use Rattle.rt_edits.proofs.CharacterCounts.{tags_insert_none}
-use Rattle.rt_edits.proofs.TagDocuments.{all_tags_counted, tags_made, tags_may}
+use Rattle.rt_edits.specs.TagDrafts.{deletion_drafts, tag_drafts_at, tags_drafts_at}
+use Rattle.rt_edits.specs.TagWrites.{with_tag_at, without_tags}
+use Rattle.rt_edits.specs.Working.{all_forgotten}
+use Rattle.rt_edits.proofs.CharacterCounts.{deletions_insert_none, tags_insert_none}
+use Rattle.rt_edits.proofs.DeletedNames.{deletions_made, deletions_may}
+use Rattle.rt_edits.proofs.TagDocuments.{all_deletions_counted, all_tags_counted, tags_made, tags_may}
+use Rattle.rt_edits.proofs.TagPlaces.{tag_text}
 use Rattle.rt_text.specs.Commands.{clock_check}
 use Rattle.rt_text.specs.Kept.{IsDoc}
 use Rattle.rt_text.specs.Widgets.{AreSiteMarks}
@@ -73,6 +77,31 @@ tagged_makes flat places on name d n =
     let doc = subst (λ drafts. IsDocument flat.site (with_drafts flat.site drafts flat.log) (with_tag_at flat places on name)) same
     (tags_made flat.site flat.log flat places on (name ∷ []) d.site d.history d.document (n, tt) l) in
     record { cells = doc.cells; site = doc.site; count = doc.count })
+
+-- DELETED TAGS
+
+pub deleted_makes : (flat : Flat) (names : List Word) → IsOfSite flat → Makes flat (deletion_drafts MOST_SPANS flat names) (without_tags flat names)
+deleted_makes flat names d =
+    makes_by flat (without_tags flat names) (deletion_drafts MOST_SPANS flat names) d (deletions_may flat.site flat.log flat names d.history d.document) (deletions_insert_none names flat)
+    (all_deletions_counted flat.site flat.log flat names d.history d.document) (deletions_made flat.site flat.log flat names d.site d.history d.document)
+
+-- a document that has a limit, marks and a text as before, and other tags
+pub record IsLeftOf (flat new : Flat) (tags : List Word) : Type 0 where
+  pub limit : new.limit ≡ flat.limit
+  pub marks : new.marks ≡ flat.marks
+  pub tags : new.tags ≡ tags
+  pub text : text_of new.cells ≡ text_of flat.cells
+
+pub left_of_deletion : (names : List Word) (flat : Flat) → IsLeftOf flat (without_tags flat names) (all_forgotten names flat.tags)
+left_of_deletion [] flat = record { limit = refl; marks = refl; tags = refl; text = refl }
+left_of_deletion (name ∷ names) flat =
+    let off = with_tag_at flat (λ _. true) false name in
+    let next : Flat = record off { tags = without name off.tags } in
+    let here = left_of_deletion names flat in
+    let there = left_of_deletion names next in
+    let less : IsLeftOf flat (without_tags next names) (all_forgotten names (without name flat.tags)) =
+    record { limit = there.limit; marks = there.marks; tags = there.tags; text = there.text ∙ tag_text flat (λ _. true) false name } in
+    elim (bytes_eq name sel) as (λ b. IsLeftOf flat (without_tags (cond b flat next) names) (all_forgotten names (cond b flat.tags (without name flat.tags)))) [ true ↦ here | false ↦ less ]
 
 -- A REPLICA'S ANSWER
 
