@@ -70,7 +70,7 @@ known_changed : (log : List Operation) (places : ℕ → Bool) (on : Bool) (name
     → AreKnownCells log (filter (is_changed name on) (cells_at places 0 cells))
 known_changed log places on name cells f s k = f s (at_among places cells s (some_among (is_changed name on) (cells_at places 0 cells) s k))
 
-one_may_be_made : (site : ℕ) (log : List Operation) (places : ℕ → Bool) (on : Bool) (name : Word) (cells : List TaggedCell) → AreDistinct cells → AreKnownCells log cells → is_name name ≡ true
+pub one_may_be_made : (site : ℕ) (log : List Operation) (places : ℕ → Bool) (on : Bool) (name : Word) (cells : List TaggedCell) → AreDistinct cells → AreKnownCells log cells → is_name name ≡ true
     → MayBeMade site log (tag_drafts_at MOST_SPANS places on name cells)
 one_may_be_made site log places on name cells d f n =
     tags_may_be_made site name on (changed_at places on name cells) (distinct_changed places on name cells d) MOST_SPANS log n (omega arith) (omega arith) (known_changed log places on name cells f)
@@ -81,12 +81,12 @@ tag_stamps flat places on name =
     let stamps = changed_at places on name flat.cells in
     stamps_changed (tagged flat.site flat.count name on stamps) (tagged_state flat.site flat.count name on stamps) flat.cells
 
-known_tagged : (log : List Operation) (flat : Flat) (places : ℕ → Bool) (on : Bool) (name : Word) → AreKnownCells log flat.cells → AreKnownCells log (with_tag_at flat places on name).cells
+pub known_tagged : (log : List Operation) (flat : Flat) (places : ℕ → Bool) (on : Bool) (name : Word) → AreKnownCells log flat.cells → AreKnownCells log (with_tag_at flat places on name).cells
 known_tagged log flat places on name f s k = f s (ap (λ l. is_among l s) (sym (tag_stamps flat places on name)) ∙ k)
 
 -- ONE TAG
 
-one_made : (site : ℕ) (log : List Operation) (flat : Flat) (places : ℕ → Bool) (on : Bool) (name : Word) → 0 < site → IsHistory log → IsDocument site log flat → is_name name ≡ true
+pub one_made : (site : ℕ) (log : List Operation) (flat : Flat) (places : ℕ → Bool) (on : Bool) (name : Word) → 0 < site → IsHistory log → IsDocument site log flat → is_name name ≡ true
     → (with_tag_at flat places on name).count ≤ GREATEST_COUNT
     → IsHistory (with_drafts site (tag_drafts_at MOST_SPANS places on name flat.cells) log)
     × IsDocument site (with_drafts site (tag_drafts_at MOST_SPANS places on name flat.cells) log) (with_tag_at flat places on name)
@@ -148,54 +148,6 @@ pub tags_made : (site : ℕ) (log : List Operation) (flat : Flat) (places : ℕ 
     → AllByRecursion (λ name. is_name name ≡ true) names → (with_tags_at flat places on names).count ≤ GREATEST_COUNT
     → IsDocument site (with_drafts site (tags_drafts_at MOST_SPANS flat places on names) log) (with_tags_at flat places on names)
 tags_made site log flat places on names p h doc n l = all_made names site log flat places on p h doc n l
-
--- DELETED TAGS
-
-abbrev AreNamesBut : List Word → Type 0
-AreNamesBut names = AllByRecursion (λ name. bytes_eq name sel ≡ false → is_name name ≡ true) names
-
-deletions_may_be_made : (names : List Word) (site : ℕ) (log : List Operation) (flat : Flat) → AreDistinct flat.cells → AreKnownCells log flat.cells → AreNamesBut names
-    → MayBeMade site log (deletion_drafts MOST_SPANS flat names)
-deletions_may_be_made [] site log flat d f n = tt
-deletions_may_be_made (name ∷ names) site log flat d f n =
-    let one = tag_drafts_at MOST_SPANS (λ _. true) false name flat.cells in
-    let off = with_tag_at flat (λ _. true) false name in
-    let next : Flat = record off { tags = without name off.tags } in
-    split (bytes_eq name sel)
-    (λ e. subst (λ b. MayBeMade site log (cond b [] one ++ deletion_drafts MOST_SPANS (cond b flat next) names)) (sym e) (deletions_may_be_made names site log flat d f n.1))
-    (λ e. subst (λ b. MayBeMade site log (cond b [] one ++ deletion_drafts MOST_SPANS (cond b flat next) names)) (sym e)
-    (may_append site one (deletion_drafts MOST_SPANS next names) log (one_may_be_made site log (λ _. true) false name flat.cells d f (n.0 e))
-    (deletions_may_be_made names site (with_drafts site one log) next (subst (IsDistinct is_same) (sym (tag_stamps flat (λ _. true) false name)) d)
-    (known_later site one log next.cells (known_tagged log flat (λ _. true) false name f)) n.1)))
-
-pub deletions_may : (site : ℕ) (log : List Operation) (flat : Flat) (names : List Word) → IsHistory log → IsDocument site log flat → AreNamesBut names
-    → MayBeMade site log (deletion_drafts MOST_SPANS flat names)
-deletions_may site log flat names h doc n =
-    deletions_may_be_made names site log flat (subst AreDistinct (sym doc.cells) (cells_distinct log h)) (known_cells log flat.cells h doc.cells) n
-
-deletions_made_all : (names : List Word) (site : ℕ) (log : List Operation) (flat : Flat) → 0 < site → IsHistory log → IsDocument site log flat → AreNamesBut names
-    → (without_tags flat names).count ≤ GREATEST_COUNT → IsDocument site (with_drafts site (deletion_drafts MOST_SPANS flat names) log) (without_tags flat names)
-deletions_made_all [] site log flat p h doc n l = doc
-deletions_made_all (name ∷ names) site log flat p h doc n l =
-    let drafts = tag_drafts_at MOST_SPANS (λ _. true) false name flat.cells in
-    let off = with_tag_at flat (λ _. true) false name in
-    let next : Flat = record off { tags = without name off.tags } in
-    let at : Bool → Type 0 = λ b. (without_tags (cond b flat next) names).count ≤ GREATEST_COUNT
-    → IsDocument site (with_drafts site (cond b [] drafts ++ deletion_drafts MOST_SPANS (cond b flat next) names) log) (without_tags (cond b flat next) names) in
-    split (bytes_eq name sel)
-    (λ e. subst at (sym e) (λ k. deletions_made_all names site log flat p h doc n.1 k) l)
-    (λ e. subst at (sym e)
-    (λ k.
-    let first : off.count ≤ GREATEST_COUNT = omega (arith, k, all_without_grows names next) in
-    let one = one_made site log flat (λ _. true) false name p h doc (n.0 e) first in
-    let after : IsDocument site (with_drafts site drafts log) next = record { cells = one.1.cells; site = one.1.site; count = one.1.count } in
-    subst (λ log. IsDocument site log (without_tags next names)) (sym (drafts_append site drafts (deletion_drafts MOST_SPANS next names) log))
-    (deletions_made_all names site (with_drafts site drafts log) next p one.0 after n.1 k))
-    l)
-
-pub deletions_made : (site : ℕ) (log : List Operation) (flat : Flat) (names : List Word) → 0 < site → IsHistory log → IsDocument site log flat → AreNamesBut names
-    → (without_tags flat names).count ≤ GREATEST_COUNT → IsDocument site (with_drafts site (deletion_drafts MOST_SPANS flat names) log) (without_tags flat names)
-deletions_made site log flat names p h doc n l = deletions_made_all names site log flat p h doc n l
 
 -- COUNTS
 

@@ -251,7 +251,7 @@ tagged_named site count name on stamps cell n h = by (is_among stamps cell.stamp
     }
     by false = h
 
-all_tagged_named : (site count : ℕ) (name : Word) (on : Bool) (stamps : List Stamp) (cells : List TaggedCell) → is_name name ≡ true → CellsNamed cells → CellsNamed (map (tagged site count name on stamps) cells)
+pub all_tagged_named : (site count : ℕ) (name : Word) (on : Bool) (stamps : List Stamp) (cells : List TaggedCell) → is_name name ≡ true → CellsNamed cells → CellsNamed (map (tagged site count name on stamps) cells)
 all_tagged_named site count name on stamps [] n h = tt
 all_tagged_named site count name on stamps (c ∷ cs) n h = (tagged_named site count name on stamps c n h.0, all_tagged_named site count name on stamps cs n h.1)
 

@@ -87,18 +87,16 @@ TagsAreMade =
     → (with_tags_at flat places on names).count ≤ GREATEST_COUNT
     → IsDocument site (with_drafts site (tags_drafts_at MOST_SPANS flat places on names) log) (with_tags_at flat places on names)
 
--- Tags that are deleted, `sel` perhaps among them.
+-- Tags that are deleted, by any words: `sel` perhaps among them, and words that no character has as a tag.
 abbrev pub DeletionsMayBeMade : Type 0
 DeletionsMayBeMade =
     (site : ℕ) (log : List Operation) (flat : Flat) (names : List Word)
-    → IsHistory log → IsDocument site log flat → AllByRecursion (λ name. bytes_eq name sel ≡ false → is_name name ≡ true) names
-    → MayBeMade site log (deletion_drafts MOST_SPANS flat names)
+    → IsHistory log → IsDocument site log flat → MayBeMade site log (deletion_drafts MOST_SPANS flat names)
 
 abbrev pub DeletionsAreMade : Type 0
 DeletionsAreMade =
     (site : ℕ) (log : List Operation) (flat : Flat) (names : List Word)
-    → 0 < site → IsHistory log → IsDocument site log flat → AllByRecursion (λ name. bytes_eq name sel ≡ false → is_name name ≡ true) names
-    → (without_tags flat names).count ≤ GREATEST_COUNT
+    → 0 < site → IsHistory log → IsDocument site log flat → (without_tags flat names).count ≤ GREATEST_COUNT
     → IsDocument site (with_drafts site (deletion_drafts MOST_SPANS flat names) log) (without_tags flat names)
 
 -- The last newline, whose cell is the last one, loses all its tags by one Tag for each.

@@ -31,41 +31,6 @@ use Rattle.rt_store.proofs.Shown.{visible_shown, length_shown, text_shown, shown
 use Rattle.rt_edits.proofs.StateChanges.{AreAlike, cells_alike, distinct_changed, given_changed, known_changed, known_from, runs_change, text_changed}
 use Rattle.rt_edits.proofs.WriterLaws.{tag_written}
 
-module _ (limit clock : ℕ) (cells : List (Cell ℕ)) (marks : List Mark) (old new : TagStates) (tags : List Word) (h : IsDoc limit clock cells marks old tags) (keeps : KeepsIds old new) where
-  -- other states in the table
-  pub kept_table : IsDoc limit clock cells marks new tags
-  kept_table =
-      let same : map (shown new) cells ≡ map (shown old) cells = shown_later old new cells keeps h.given in
-      record {
-        fits = h.fits;
-        few = h.few;
-        known = h.known;
-        clocked = h.clocked;
-        distinct = h.distinct;
-        placed = h.placed;
-        given = kept_states old new cells keeps h.given;
-        listed = subst (AreListed tags) (sym same) h.listed;
-        written = subst (AreWritten clock) (sym same) h.written;
-      }
-
-  -- cells in other states
-  pub kept_runs : (runs : List StateRun) (later : ℕ) (names : List Word) → All (λ run. IsState new run.state) runs → clock ≤ later → later ≤ GREATEST_COUNT
-      → AreListed names (map (shown new) (map (put_back_in_any runs) cells)) → AreWritten later (map (shown new) (map (put_back_in_any runs) cells))
-      → IsDoc limit later (map (put_back_in_any runs) cells) marks new names
-  kept_runs runs later names given le few listed written =
-      let g = put_back_in_any runs in
-      let len : length (map g cells) ≡ length cells = length-map cells g in record {
-        fits = h.fits;
-        few = omega (arith, len, h.few);
-        known = known_from clock later (map g cells) le (known_changed g (runs_change runs) clock cells h.known);
-        clocked = few;
-        distinct = distinct_changed g (runs_change runs) cells h.distinct;
-        placed = subst (λ n. AreSiteMarks n marks) (sym (ap length (text_changed g (runs_change runs) cells))) h.placed;
-        given = given_changed new runs cells given (kept_states old new cells keeps h.given);
-        listed = listed;
-        written = written;
-      }
-
 -- WRITTEN TAGS
 
 pub listed_as : (on : Bool) (name : Word) (flat : Flat) (cells : List TaggedCell) (count : ℕ)
@@ -74,27 +39,12 @@ listed_as true name flat cells count = refl
 listed_as false name flat cells count = refl
 
 -- what a written tag leaves
-pub written_stays : (on : Bool) (name : Word) (flat new : Flat) (places : ℕ → Bool) → IsName name → bytes_eq name sel ≡ false → AreListed flat.tags flat.cells → AreWritten flat.count flat.cells → listed_if on name (with_tag_at flat places on name) ≡ new
-    → AreListed new.tags new.cells × AreWritten new.count new.cells
-written_stays on name flat new places h other listed written e =
-    (subst (λ (f : Flat). AreListed f.tags f.cells) e (written_listed on flat places name h listed other), subst (λ (f : Flat). AreWritten f.count f.cells) e (by on))
-  where
-    by : (b : Bool) → AreWritten (listed_if b name (with_tag_at flat places on name)).count (listed_if b name (with_tag_at flat places on name)).cells
-    by true = tag_written flat places on name written
-    by false = tag_written flat places on name written
+pub written_stays : (on : Bool) (name : Word) (flat new : Flat) (places : ℕ → Bool) → IsName name → bytes_eq name sel ≡ false → AreListed flat.tags flat.cells → listed_if on name (with_tag_at flat places on name) ≡ new → AreListed new.tags new.cells
+written_stays on name flat new places h other listed e = subst (λ (f : Flat). AreListed f.tags f.cells) e (written_listed on flat places name h listed other)
 
 -- as many characters are visible
 pub as_visible : (table : TagStates) (cells : List (Cell ℕ)) (flat : Flat) → map (shown table) cells ≡ flat.cells → length (visible_of flat.cells) ≡ length (visible_of cells)
 as_visible table cells flat e = ap (λ l. length (visible_of l)) (sym e) ∙ ap length (visible_shown (state_at table) cells) ∙ length_shown (state_at table) (visible_of cells)
-
--- TEXTS
-
--- the text is that of the cells, whatever their states stand for
-pub text_of_shown : (table : TagStates) (cells : List (Cell ℕ)) → text_of (map (shown table) cells) ≡ text_of cells
-text_of_shown table cells = text_shown (state_at table) cells
-
-pub text_put : (old new : TagStates) (runs : List StateRun) (cells : List (Cell ℕ)) → text_of (map (shown new) (map (put_back_in_any runs) cells)) ≡ text_of (map (shown old) cells)
-text_put old new runs cells = text_of_shown new (map (put_back_in_any runs) cells) ∙ text_changed (put_back_in_any runs) (runs_change runs) cells ∙ sym (text_of_shown old cells)
 
 -- CLOCKS
 

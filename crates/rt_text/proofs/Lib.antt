@@ -15,5 +15,6 @@ pub mod RangeLaws
 pub mod ReadyLaws
 pub mod Refusals
 pub mod SeenLaws
+pub mod TaggedDocument
 pub mod TaggedLaws
 pub mod TextLaws

@@ -1,6 +1,7 @@
 use Rattle.rt_edits.proofs.CharacterCounts.{deletions_insert_none, tags_insert_none}
+use Rattle.rt_edits.proofs.DeletedNames.{deletions_made, deletions_may}
 use Rattle.rt_edits.proofs.NewlineDrafts.{newline_one_each}
-use Rattle.rt_edits.proofs.TagDocuments.{all_deletions_counted, all_tags_counted, deletions_made, deletions_may, tags_are_counted, tags_made, tags_may}
+use Rattle.rt_edits.proofs.TagDocuments.{all_deletions_counted, all_tags_counted, tags_are_counted, tags_made, tags_may}
 use Rattle.rt_edits.proofs.TagDraftLaws.{tags_as_flat}
 use Rattle.rt_edits.proofs.laws.tag_drafts.Goals as goal
 
