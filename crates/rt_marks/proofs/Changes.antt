@@ -13,7 +13,7 @@ use Rattle.rt_marks.proofs.Times.{each_below, each_present, once_below, once_ins
 use Rattle.rt_marks.proofs.Slots.{each_other, each_weaker, order_without, put_view, same_marks, same_names, stands_at, stands_read, stands_taken, stands_within, view_named, view_own, without_middle}
 
 -- a slot's number is told from another's
-apart : (x s : ℕ) → (x == s) ≡ false → x ≢ s
+pub apart : (x s : ℕ) → (x == s) ≡ false → x ≢ s
 apart x s f = λ e. clash (x == s) (eq-eqb x s e) f
 
 -- MOVED: the mark of a slot has its name still

@@ -1,6 +1,8 @@
 pub mod ByName
 pub mod Changes
+pub mod Cutting
 pub mod Edits
+pub mod Exchanging
 pub mod InOrder
 pub mod Leaving
 pub mod Moving

@@ -21,14 +21,14 @@ use Rattle.rt_marks.proofs.Searching.{within}
 
 -- NUMBERS THAT PASS A TEST
 
-abbrev kept : Bool → ℕ → ℕ
+abbrev pub kept : Bool → ℕ → ℕ
 kept b n = cond b n 0
 
 kept_none : (b : Bool) → kept b 0 ≡ 0
 kept_none true = refl
 kept_none false = refl
 
-times_filter : (t : ℕ → Bool) (s : ℕ) (xs : List ℕ) → times s (filter t xs) ≡ kept (t s) (times s xs)
+pub times_filter : (t : ℕ → Bool) (s : ℕ) (xs : List ℕ) → times s (filter t xs) ≡ kept (t s) (times s xs)
 times_filter t s [] = sym (kept_none (t s))
 times_filter t s (x ∷ xs) =
     let more = times_filter t s xs in
@@ -74,7 +74,7 @@ none_pass : (t : ℕ → Bool) (xs : List ℕ) → Each (λ s. t s ≡ false) xs
 none_pass t [] h = refl
 none_pass t (x ∷ xs) h = ap (λ b. cond b (x ∷ filter t xs) (filter t xs)) h.0 ∙ none_pass t xs h.1
 
-each_passes : (t : ℕ → Bool) (P : ℕ → Type 0) (xs : List ℕ) → ((s : ℕ) → t s ≡ true → P s) → Each P (filter t xs)
+pub each_passes : (t : ℕ → Bool) (P : ℕ → Type 0) (xs : List ℕ) → ((s : ℕ) → t s ≡ true → P s) → Each P (filter t xs)
 each_passes t P [] h = tt
 each_passes t P (x ∷ xs) h =
     let more = each_passes t P xs h in
@@ -82,7 +82,7 @@ each_passes t P (x ∷ xs) h =
     (λ k. subst (λ b. Each P (cond b (x ∷ filter t xs) (filter t xs))) (sym k) (h x k, more))
     (λ k. subst (λ b. Each P (cond b (x ∷ filter t xs) (filter t xs))) (sym k) more)
 
-each_filter : (t : ℕ → Bool) (P : ℕ → Type 0) (xs : List ℕ) → Each P xs → Each P (filter t xs)
+pub each_filter : (t : ℕ → Bool) (P : ℕ → Type 0) (xs : List ℕ) → Each P xs → Each P (filter t xs)
 each_filter t P [] h = tt
 each_filter t P (x ∷ xs) h =
     let more = each_filter t P xs h.1 in

@@ -55,3 +55,7 @@ names_pushed bytes items now x marks slots i slot e h k r l =
     ap (map bytes) e ∙ map-append bytes items (x ∷ [])
     ∙ (λ j. h j ++ (k ∙ ap (λ v. (f v).name) r) j ∷ [])
     ∙ sym (ap names_of (map_more f slots i slot l) ∙ map-append name (map f (take i slots)) (f (get_or slots i slot) ∷ []))
+
+-- the marks of the first slots
+pub seen_cut : (n : ℕ) (items now : List KeptMark) → now ≡ take n items → seen_all now ≡ take n (seen_all items)
+seen_cut n items now e = ap seen_all e ∙ sym (take-map seen n items)

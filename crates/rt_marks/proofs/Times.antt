@@ -114,7 +114,7 @@ renamed_itself a (x ∷ xs) =
     (λ t. ap (λ v. cond v a x ∷ map (renamed a a) xs) t ∙ ap (λ v. v ∷ map (renamed a a) xs) (sym (eqb-true x a t)) ∙ ap (λ v. x ∷ v) more)
     (λ f. λ i. cond (f i) a x ∷ more i)
 
-not_here : (a x : ℕ) (xs : List ℕ) (i d : ℕ) → i < length xs → get_or xs i d ≡ a → times a (x ∷ xs) ≡ 1 → (x == a) ≡ false
+pub not_here : (a x : ℕ) (xs : List ℕ) (i d : ℕ) → i < length xs → get_or xs i d ≡ a → times a (x ∷ xs) ≡ 1 → (x == a) ≡ false
 not_here a x xs i d l e h =
     split (x == a)
     (λ t. absurd (omega (arith, h, times_at xs i a d l e, ap tally t)))

@@ -1,6 +1,7 @@
 -- Marks: names in the gaps of a text, each with a gravity. The gap of a place is the one before the character there, and the
 -- gap of the text's end the one after the last character. Contracts see the marks of a site as the list of them in order.
 use Rattle.std.specs.Prelude.{◌≡◌, ℕ, zero, suc, ◌+◌, ◌-◌, ◌==◌, ◌&&◌, ◌||◌, nat_le, nat_lt, List, [], ◌∷◌, codes, map, find, filter, Bool, true, false, not, if◌then◌else◌, Option, Some, None, option_and_then}
+use Rattle.std.specs.List.{list_any}
 use Rattle.std.specs.Option.{option_map_or, option_or}
 use Rattle.std.specs.Ordering.{nat_cmp, ordering_then, is_lt}
 use Rattle.std.specs.Str.{bytes_eq}
@@ -77,6 +78,14 @@ named name marks = find (is_named name) marks
 -- the marks without that of a name
 abbrev pub without : List ℕ → List Mark → List Mark
 without name marks = filter (λ m. not (is_named name m)) marks
+
+-- a mark has one of some names
+abbrev pub is_one_of : List (List ℕ) → Mark → Bool
+is_one_of names m = list_any (λ name. is_named name m) names
+
+-- the marks without those of some names
+abbrev pub without_all : List (List ℕ) → List Mark → List Mark
+without_all names marks = filter (λ m. not (is_one_of names m)) marks
 
 -- no two marks have one name
 abbrev pub HaveOwnNames : List Mark → Type 0

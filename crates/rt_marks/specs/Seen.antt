@@ -64,6 +64,10 @@ pub record PartsAt (test : Mark → Bool) (marks : List Mark) (i : ℕ) : Type 0
   pub front : Each (λ m. test m ≡ true) (take i marks)
   pub back : Each (λ m. test m ≡ false) (drop i marks)
 
+-- the marks of the first so many slots pass a test, and those behind them don't
+abbrev pub SlotsPart : (Mark → Bool) → List Mark → ℕ → Type 0
+SlotsPart test marks n = (slot : ℕ) → slot < length marks → test (in_slot marks slot) ≡ nat_lt slot n
+
 -- THE MARKS THAT COME TO STAND AT ONE PLACE
 
 abbrev pub same_gravity : Gravity → Gravity → Bool

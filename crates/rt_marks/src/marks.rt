@@ -1,6 +1,6 @@
 // The marks of a site.
 ghost use Rattle.std.specs.Prelude.{◌≡◌, ◌+◌, ◌≤◌, ◌⊎◌, ◌↔◌, [], List, ℕ, IsSome, OnOk, OnErr, IfOk, IfErr, Ok, Err, None, Some, is_some, option_map, option_copied, string_bytes, map, Contains, if◌then◌else◌, find as first_passing};
-ghost use Rattle.rt_marks.specs.Marks.{AreAscending, AreInOrder, Each, HaveOwnNames, IsName, comes_before, find_last, first_mark_at, last_mark_before, mark_after, mark_before, marks_inserted, marks_removed, marks_set, marks_with_gravity, named, without};
+ghost use Rattle.rt_marks.specs.Marks.{AreAscending, AreInOrder, Each, HaveOwnNames, IsName, comes_before, find_last, first_mark_at, last_mark_before, mark_after, mark_before, marks_inserted, marks_removed, marks_set, marks_with_gravity, named, without, without_all};
 
 use crate::mark::Mark;
 use crate::table::Table;
@@ -13,8 +13,9 @@ use std::marker::Model;
 /// characters before the mark. Contracts see the list of the marks in order: by place, then left
 /// gravity first, then by the bytes of the names.
 ///
-/// `inserted` and `removed` read each mark a few times. Every other call but `names` is binary
-/// searches and the shift of numbers in two lists.
+/// `inserted` and `removed` read each mark a few times. `unset_all` is binary searches for each name
+/// and goes through two lists of numbers once. Every other call but `names` is binary searches and
+/// the shift of numbers in these lists.
 #[derive(Drop)]
 pub struct Marks {
     alloc: Global,
@@ -90,6 +91,13 @@ impl Marks {
         ensures { self.new ≡ without name.now self.old }
     {
         self.table.remove(name);
+    }
+
+    /// Takes marks away ("mark unset"). Names without a mark are passed over. It takes no memory.
+    pub fn unset_all(&mut self, names: &[String])
+        ensures { self.new ≡ without_all (map (λ w. string_bytes w) names.now) self.old }
+    {
+        self.table.remove_all(names);
     }
 
     /// The place of a mark, none without a mark of the name.

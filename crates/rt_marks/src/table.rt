@@ -5,6 +5,8 @@ ghost use Rattle.std.specs.List.Sorted.{IsSearchInRange};
 ghost use Rattle.rt_marks.specs.Marks.{Each, comes_before, find_last, first_mark_at, last_mark_before, mark_removed, marks_inserted, marks_removed, name_order, named, put_mark, with_mark, without};
 ghost use Rattle.rt_marks.specs.Seen.{IsGap, IsOrder, PartsAt, in_slot, names_of, overwritten, same_gravity, seen, seen_all, slot_stands, spotted};
 
+mod unsetting;
+
 use crate::mark::Mark;
 use crate::{Gravity, Spot};
 use std::alloc::{AllocError, Global};

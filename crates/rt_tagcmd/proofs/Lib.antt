@@ -7,4 +7,3 @@ pub mod Runs
 pub mod TagChecks
 pub mod TagFinds
 pub mod TagRangeLaws
-pub mod Unsetting

@@ -1,13 +1,12 @@
 -- The mark commands of a widget (Tk text manual, "mark"), each what it gives or why it is refused. The marks of a widget are
 -- those of its site and two of its own, `insert` and `current`.
-use Rattle.std.specs.Prelude.{ℕ, ◌-◌, ◌&&◌, Bool, not, List, [], ◌∷◌, length, map, filter, min, Option, Some, None, is_some, option_map, unwrap_or, Result, Ok, codes, if◌then◌else◌}
-use Rattle.std.specs.List.{list_any}
+use Rattle.std.specs.Prelude.{ℕ, ◌-◌, ◌&&◌, Bool, not, List, [], ◌∷◌, length, map, min, Option, Some, None, is_some, option_map, unwrap_or, Result, Ok, codes, if◌then◌else◌}
 use Rattle.std.specs.Option.{option_map_or}
 use Rattle.std.specs.Ordering.{is_lt}
 use Rattle.rt_index.specs.Reading.{fixed_of}
 use Rattle.rt_marks.specs.declared.gravity.Gravity.{Gravity}
 use Rattle.rt_marks.specs.declared.gravity.Gravity.TheVariants.{Right}
-use Rattle.rt_marks.specs.Marks.{Mark, gravity_of, is_named, mark_after, mark_before, first_mark_at, last_mark_before, marks_set, marks_with_gravity, name_order}
+use Rattle.rt_marks.specs.Marks.{Mark, gravity_of, mark_after, mark_before, first_mark_at, last_mark_before, marks_set, marks_with_gravity, name_order, without_all}
 use Rattle.rt_stamps.specs.declared.fault.Fault.{Fault}
 use Rattle.rt_stamps.specs.declared.fault.Fault.TheVariants.{BadOption, NoMark}
 use Rattle.rt_stamps.specs.Outcomes.{first_of, unless}
@@ -48,12 +47,8 @@ mark_set flat own name index =
     unless (first_of (name_check name ∷ index_check w index ∷ [])) (set_at (own_mark_of name) flat own name (place_at_index w index))
 
 -- mark unset NAME ?NAME ...?: the own marks stay, and so does everything where there is no mark of a name
-
-abbrev pub is_one_of : List Word → Mark → Bool
-is_one_of names m = list_any (λ name. is_named name m) names
-
 abbrev pub mark_unset : Flat → List Word → Result Flat Fault
-mark_unset flat names = unless (first_of (map name_check names)) (record flat { marks = filter (λ m. not (is_one_of names m)) flat.marks })
+mark_unset flat names = unless (first_of (map name_check names)) (record flat { marks = without_all names flat.marks })
 
 -- mark gravity NAME
 

@@ -58,9 +58,7 @@ pub fn mark_unset<S: TextStore>(doc: &mut Doc<S>, names: &[String]) -> Result<()
     ensures text { doc.new.cells ≡ doc.old.cells }
 {
     check_names(names)?;
-    for name in names {
-        doc.unset_mark(name);
-    }
+    doc.unset_marks(names);
     Ok(())
 }
 

@@ -4,7 +4,7 @@ use Rattle.std.specs.Prelude.{◌↔◌, IsSome, OnErr, option_map}
 use Rattle.std.specs.Option.{option_map_or}
 use Rattle.std.proofs.lemmas.Bool.{cases_lt}
 use Rattle.rt_marks.specs.declared.gravity.Gravity.{Gravity}
-use Rattle.rt_marks.specs.Marks.{Mark, Each, IsName, named, is_named, is_moved_on, marks_inserted, place_left, mark_left, marks_left, without, put_mark, marks_set, marks_with_gravity, gravity_or_right}
+use Rattle.rt_marks.specs.Marks.{Mark, Each, IsName, named, is_named, is_one_of, is_moved_on, marks_inserted, place_left, mark_left, marks_left, without, without_all, put_mark, marks_set, marks_with_gravity, gravity_or_right}
 use Rattle.rt_marks.proofs.InOrder.{each_with, each_in_order}
 use Rattle.rt_marks.proofs.Leaving.{place_rising, place_kept}
 use Rattle.rt_marks.proofs.Names.{same_name}
@@ -133,6 +133,10 @@ kept_by n m rest false h s = s
 pub site_without : (n : ℕ) (name : List ℕ) (marks : List Mark) → AreSiteMarks n marks → AreSiteMarks n (without name marks)
 site_without n name [] s = tt
 site_without n name (m ∷ marks) s = kept_by n m (without name marks) (not (is_named name m)) s.0 (site_without n name marks s.1)
+
+pub site_without_all : (n : ℕ) (names : List (List ℕ)) (marks : List Mark) → AreSiteMarks n marks → AreSiteMarks n (without_all names marks)
+site_without_all n names [] s = tt
+site_without_all n names (m ∷ marks) s = kept_by n m (without_all names marks) (not (is_one_of names m)) s.0 (site_without_all n names marks s.1)
 
 site_put : (n : ℕ) (m : Mark) (marks : List Mark) → IsSiteMark n m → AreSiteMarks n marks → AreSiteMarks n (put_mark m marks)
 site_put n m marks h s = each_with (IsSiteMark n) m (without m.name marks) h (site_without n m.name marks s)
