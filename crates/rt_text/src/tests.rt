@@ -1,11 +1,14 @@
 // What few counts are left for.
-ghost use Rattle.std.specs.Prelude.{◌≡◌};
-ghost use Rattle.rt_tags.specs.Tags.{IsName};
+ghost use Rattle.std.specs.Prelude.{◌≡◌, ◌∷◌, [], IfOk};
+ghost use Rattle.rt_edits.specs.Listed.{AreListed};
+ghost use Rattle.rt_tags.specs.Tags.{IsName, sel};
 
 use crate::{Doc, Widget};
 use rt_edits::{Range, Selection};
+use rt_oplog::Op;
+use rt_rga::Replica;
 use rt_stamps::limits::GREATEST_COUNT;
-use rt_stamps::{Clock, FINAL, Fault, Site, Stamp};
+use rt_stamps::{FINAL, Fault, Site, Span, Stamp};
 use rt_store::ListStore;
 use std::alloc::Global;
 use std::marker::Model;
@@ -42,16 +45,36 @@ impl Model for Page {
     ghost invariant = { λ p. IsOwnOf (length (text_of p.doc.cells)) p.widget };
 }
 
+// A replica of an empty text, of whose counts so many are left: another site took a tag off the last
+// newline, which never had it.
+fn replica_of_counts(alloc: Global, counts: u64) -> Result<Replica<ListStore>, Fail>
+    ensures { IfOk result (λ replica. AreListed (sel ∷ []) replica.cells) }
+{
+    let site = Site::new(1).ok_or("a site")?;
+    let mut replica = Replica::new(alloc, ListStore::new(alloc)?, site, 20_000)?;
+    let last = Stamp {
+        count: GREATEST_COUNT.saturating_sub(counts),
+        site: 2,
+    };
+    let newline = Span {
+        site: FINAL.site,
+        first: FINAL.count,
+        last: FINAL.count,
+    };
+    let name = String::from_str(alloc, "other")?;
+    let spans = Vec::from_slice(alloc, &[newline])?;
+    let op = Op::tag(last, 0, false, name, spans)?;
+    let _taken = replica.accept(op)?;
+    let _ = replica.store();
+    Ok(replica)
+}
+
 impl Page {
     // An empty page of whose counts so many are left. One other widget has these selected, the other
     // nothing.
     fn new(alloc: Global, counts: u64, selected: &[Stamp]) -> Result<Page, Fail> {
-        let mut clock = Clock::new();
-        clock.saw(GREATEST_COUNT.saturating_sub(counts));
-        let site = Site::new(1).ok_or("a site")?;
-        let store = ListStore::new(alloc)?;
         Ok(Page {
-            doc: Doc::with_clock(alloc, store, site, 20_000, clock)?,
+            doc: Doc::over(alloc, replica_of_counts(alloc, counts)?)?,
             widget: Widget::new(alloc),
             others: [Selection::of(alloc, selected)?, Selection::new(alloc)],
         })
