@@ -10,7 +10,7 @@ use Rattle.rt_stamps.specs.declared.fault.Fault.TheVariants.{NoMemory}
 use Rattle.rt_stamps.specs.declared.limits.TheConstants.{GREATEST_COUNT, MOST_SPANS}
 use Rattle.rt_stamps.specs.Words.{Word}
 use Rattle.rt_store.specs.declared.cell.Cell.{Cell}
-use Rattle.rt_store.specs.Cells.{text_of}
+use Rattle.rt_store.specs.Cells.{text_of, visible_of}
 use Rattle.rt_store.specs.Shown.{shown}
 use Rattle.rt_store.proofs.Shown.{length_shown}
 use Rattle.rt_tags.specs.States.{TagStates, state_at}
@@ -25,13 +25,14 @@ use Rattle.rt_rga.proofs.Requests.{all_count_on}
 use Rattle.rt_edits.specs.DraftLaws.{IsDocument}
 use Rattle.rt_edits.specs.Flat.{Flat, logged}
 use Rattle.rt_edits.specs.Listed.{AreListed}
-use Rattle.rt_edits.specs.TagDrafts.{deletion_drafts, tag_drafts_at, tags_drafts_at}
-use Rattle.rt_edits.specs.TagWrites.{with_tag_at, without_tags}
+use Rattle.rt_edits.specs.TagDrafts.{deletion_drafts, tag_drafts, tag_drafts_at, tags_drafts_at}
+use Rattle.rt_edits.specs.TagWrites.{changed_stamps, listed_if, with_tag_at, without_tags}
 use Rattle.rt_edits.specs.Working.{all_forgotten}
 use Rattle.rt_edits.proofs.CharacterCounts.{deletions_insert_none, tags_insert_none}
 use Rattle.rt_edits.proofs.DeletedNames.{deletions_made, deletions_may}
 use Rattle.rt_edits.proofs.TagDocuments.{all_deletions_counted, all_tags_counted, tags_made, tags_may}
-use Rattle.rt_edits.proofs.TagPlaces.{tag_text}
+use Rattle.rt_edits.proofs.TagPlaces.{tag_alike, tag_text}
+use Rattle.rt_edits.proofs.StateChanges.{AreAlike, cells_alike}
 use Rattle.rt_text.specs.Commands.{clock_check}
 use Rattle.rt_text.specs.Kept.{IsDoc}
 use Rattle.rt_text.specs.Widgets.{AreSiteMarks}
@@ -78,6 +79,12 @@ tagged_makes flat places on name d n =
     (tags_made flat.site flat.log flat places on (name ∷ []) d.site d.history d.document (n, tt) l) in
     record { cells = doc.cells; site = doc.site; count = doc.count })
 
+-- places count as far as the text goes
+pub written_alike : (flat : Flat) (r s : ℕ → Bool) (on : Bool) (name : Word) → AreAlike r s 0 (length (visible_of flat.cells))
+    → logged flat (tag_drafts_at MOST_SPANS r on name flat.cells) (listed_if on name (with_tag_at flat r on name)) ≡ logged flat (tag_drafts_at MOST_SPANS s on name flat.cells) (listed_if on name (with_tag_at flat s on name))
+written_alike flat r s on name h =
+    λ i. logged flat (tag_drafts MOST_SPANS on name (changed_stamps name on (cells_alike r s 0 flat.cells h i))) (listed_if on name (tag_alike flat r s on name h i))
+
 -- DELETED TAGS
 
 pub deleted_makes : (flat : Flat) (names : List Word) → IsOfSite flat → Makes flat (deletion_drafts MOST_SPANS flat names) (without_tags flat names)
@@ -86,10 +93,10 @@ deleted_makes flat names d =
     (all_deletions_counted flat.site flat.log flat names d.history d.document) (deletions_made flat.site flat.log flat names d.site d.history d.document)
 
 -- a document that has a limit, marks and a text as before, and other tags
-pub record IsLeftOf (flat new : Flat) (tags : List Word) : Type 0 where
+pub record IsLeftOf (flat new : Flat) (names : List Word) : Type 0 where
   pub limit : new.limit ≡ flat.limit
   pub marks : new.marks ≡ flat.marks
-  pub tags : new.tags ≡ tags
+  pub tags : new.tags ≡ names
   pub text : text_of new.cells ≡ text_of flat.cells
 
 pub left_of_deletion : (names : List Word) (flat : Flat) → IsLeftOf flat (without_tags flat names) (all_forgotten names flat.tags)
