@@ -4,7 +4,6 @@ pub mod Deletions
 pub mod DistanceLaws
 pub mod Insertions
 pub mod KeptDocument
-pub mod LastNewline
 pub mod MadeDocument
 pub mod ListedText
 pub mod MarkLaws

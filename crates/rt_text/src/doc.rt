@@ -1,5 +1,5 @@
 // A document: a replica of the text, with the site's marks and tags.
-ghost use Rattle.std.specs.Prelude.{◌≡◌, ◌≤◌, ◌∷◌, [], IfOk, IfErr, length, map};
+ghost use Rattle.std.specs.Prelude.{◌≡◌, ◌≤◌, ◌<◌, ◌∷◌, [], IfOk, IfErr, length, map};
 ghost use Rattle.rt_stamps.specs.declared.limits.TheConstants.{MOST_CELLS};
 ghost use Rattle.rt_store.specs.Cells.{AreDistinct, final_cell};
 ghost use Rattle.rt_store.specs.Shown.{shown};
@@ -111,8 +111,10 @@ impl<S: TextStore> Doc<S> {
         ensures most { self.now.limit ≤ MOST_CELLS }
         ensures history { IsHistory self.now.log }
         ensures document { IsDocument self.now.site self.now.log self.now }
+        ensures site { 0 < self.now.site }
     {
         let _ = self.replica.log();
+        let _ = self.replica.site();
         (self.replica.store(), self.replica.states())
     }
 }
