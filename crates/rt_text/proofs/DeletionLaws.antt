@@ -22,7 +22,6 @@ use Rattle.rt_edits.specs.Listed.{AreListed, IsShared}
 use Rattle.rt_edits.specs.Removals.{cells_at, gone_at, is_covered, is_removed}
 use Rattle.rt_edits.specs.TagWrites.{changed_stamps, tagged, tag_write, with_tag_at, with_tags_at}
 use Rattle.rt_edits.proofs.ListedWrites.{shared_names_on, shared_tagged}
-use Rattle.rt_edits.proofs.StateChanges.{text_changed}
 
 -- TAGS THAT ARE ON
 
@@ -150,4 +149,3 @@ deletion_listed flat ranges names h = by (is_covered ranges (length (text_of fla
     by : (b : Bool) → AreListed names (cond b (with_tags_at left (is_last left) false (last_tags left)) left).cells
     by true = listed_off names left (is_last left) (last_tags left) (last_shared left.cells (length left.cells - 1) gone.shared) gone
     by false = gone
-

@@ -1,5 +1,5 @@
 -- What a deletion gives, by its checks, and what it leaves of a document.
-use Rattle.std.proofs.Common.{◌≡◌, ℕ, ◌+◌, ◌-◌, ◌<◌, ◌≤◌, ◌⊎◌, inl, inr, List, [], ◌∷◌, ◌++◌, Bool, true, false, cond, length, map, refl, sym, ◌∙◌, ap, subst, Some, None, Ok, Err, Option, Result, OnOk}
+use Rattle.std.proofs.Common.{◌≡◌, ℕ, ◌-◌, ◌<◌, ◌≤◌, ◌⊎◌, inl, inr, List, [], ◌∷◌, ◌++◌, Bool, true, false, cond, length, map, refl, sym, ◌∙◌, ap, subst, Some, None, Ok, Err, Option, Result, OnOk}
 use Rattle.rt_marks.specs.Marks.{Mark, marks_left, place_left}
 use Rattle.rt_oplog.specs.Operations.{Body}
 use Rattle.rt_stamps.specs.declared.fault.Fault.{Fault}
@@ -9,10 +9,9 @@ use Rattle.rt_stamps.specs.declared.stamp.Stamp.{Stamp}
 use Rattle.rt_stamps.specs.Outcomes.{first_of, unless, Refuses}
 use Rattle.rt_stamps.specs.Words.{Word}
 use Rattle.rt_store.specs.Cells.{text_of}
-use Rattle.rt_store.specs.Shown.{TaggedCell}
 use Rattle.rt_rga.specs.Cells.{cells_of}
 use Rattle.rt_rga.specs.Drafts.{with_drafts}
-use Rattle.rt_rga.specs.Histories.{IsHistory, greatest_last_count}
+use Rattle.rt_rga.specs.Histories.{IsHistory}
 use Rattle.rt_rga.specs.Kept.{ReplicaValue}
 use Rattle.rt_rga.specs.Made.{refusal_of}
 use Rattle.rt_rga.specs.Requests.{MayBeMade}
@@ -37,11 +36,6 @@ use Rattle.rt_text.proofs.MarkLaws.{length_gone, own_of_left, site_left}
 pub both_ok : {T E A B C : Type 0} (r : Result T E) → (A → B → C) → OnOk r A → OnOk r B → OnOk r C
 both_ok (Ok x) f a b = f a b
 both_ok (Err e) f a b = tt
-
--- three
-pub all_ok : {T E A B C D : Type 0} (r : Result T E) → (A → B → C → D) → OnOk r A → OnOk r B → OnOk r C → OnOk r D
-all_ok (Ok x) f a b c = f a b c
-all_ok (Err e) f a b c = tt
 
 -- the first fault of checks, or that of one more
 pub first_none : (checks : List (Option Fault)) (last : Option Fault) → first_of checks ≡ None → first_of (checks ++ last ∷ []) ≡ last

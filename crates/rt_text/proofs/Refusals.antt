@@ -12,7 +12,7 @@ use Rattle.rt_text.specs.Commands.{Edited, clock_check, deleted, without_ranges}
 use Rattle.rt_text.specs.Index.{index_check, place_at_index}
 use Rattle.rt_text.specs.Ranges.{ranges_of}
 use Rattle.rt_text.specs.Widgets.{Own, widget_of}
-use Rattle.rt_text.proofs.Deletions.{deletion, deleted_by}
+use Rattle.rt_text.proofs.Deletions.{deleted_by}
 
 module _ (flat : Flat) (own : Own) (others : List (List Stamp)) (indices : List Word) (ranges : List Range) (checked : first_of (map (index_check (widget_of flat own)) indices) ≡ None)
     (read : ranges ≡ ranges_of (map (place_at_index (widget_of flat own)) indices)) where
