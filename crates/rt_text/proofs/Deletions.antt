@@ -1,38 +1,41 @@
--- What a deletion gives, by its checks.
-use Rattle.std.proofs.Common.{◌≡◌, ℕ, zero, suc, ◌+◌, ◌<◌, ◌≤◌, ◌⊎◌, inl, inr, List, [], ◌∷◌, ◌++◌, Bool, true, false, length, map, refl, sym, ◌∙◌, ap, arith, add-zero, Some, None, Ok, Err, Option, Result, OnOk, All}
-use Rattle.std.proofs.lemmas.Bool.{cond-true, cond-false, cases_lt}
-use Rattle.rt_marks.specs.Marks.{AreInOrder, marks_left}
-use Rattle.rt_marks.proofs.Leaving.{marks_kept}
+-- What a deletion gives, by its checks, and what it leaves of a document.
+use Rattle.std.proofs.Common.{◌≡◌, ℕ, ◌-◌, ◌<◌, ◌≤◌, ◌⊎◌, inl, inr, List, [], ◌∷◌, ◌++◌, Bool, true, false, cond, length, map, refl, sym, ◌∙◌, ap, subst, Some, None, Ok, Err, Option, Result, OnOk}
+use Rattle.rt_marks.specs.Marks.{Mark, marks_left, place_left}
+use Rattle.rt_oplog.specs.Operations.{Body}
 use Rattle.rt_stamps.specs.declared.fault.Fault.{Fault}
 use Rattle.rt_stamps.specs.declared.fault.Fault.TheVariants.{NoMemory}
-use Rattle.rt_stamps.specs.declared.stamp.Span.{Span}
+use Rattle.rt_stamps.specs.declared.limits.TheConstants.{GREATEST_COUNT, MOST_SPANS}
 use Rattle.rt_stamps.specs.declared.stamp.Stamp.{Stamp}
 use Rattle.rt_stamps.specs.Outcomes.{first_of, unless, Refuses}
 use Rattle.rt_stamps.specs.Words.{Word}
-use Rattle.rt_store.specs.declared.cell.Cell.{Cell}
 use Rattle.rt_store.specs.Cells.{text_of}
+use Rattle.rt_rga.specs.Cells.{cells_of}
+use Rattle.rt_rga.specs.Drafts.{with_drafts}
+use Rattle.rt_rga.specs.Histories.{IsHistory}
+use Rattle.rt_rga.specs.Kept.{ReplicaValue}
+use Rattle.rt_rga.specs.Made.{refusal_of}
+use Rattle.rt_rga.specs.Requests.{MayBeMade}
+use Rattle.rt_rga.proofs.Requests.{all_count_on}
 use Rattle.rt_edits.specs.declared.range.Range.{Range}
-use Rattle.rt_edits.specs.Flat.{Flat}
+use Rattle.rt_edits.specs.Deletions.{delete_drafts, is_last, last_tags, without_places, without_text_in}
+use Rattle.rt_edits.specs.DraftLaws.{IsDocument}
+use Rattle.rt_edits.specs.Flat.{Flat, logged}
+use Rattle.rt_edits.specs.Removals.{is_covered, is_removed}
+use Rattle.rt_edits.specs.TagWrites.{with_tag_at, with_tags_at}
+use Rattle.rt_edits.proofs.CharacterCounts.{ranges_insert_none}
+use Rattle.rt_edits.proofs.DeletionDraftLaws.{ranges_may, ranges_counted, ranges_deleted, spares_last}
+use Rattle.rt_edits.proofs.TagPlaces.{tag_text}
 use Rattle.rt_text.specs.Index.{index_check, place_at_index}
 use Rattle.rt_text.specs.Ranges.{ranges_of}
-use Rattle.rt_edits.specs.Removals.{is_covered, gone_at, stamps_at, span_count, operations_for}
-use Rattle.rt_store.specs.Spans.{gone_in_any}
-use Rattle.rt_text.specs.Widgets.{Own, widget_of, own_left}
-use Rattle.rt_text.specs.Commands.{Edited, deleted, without_places, without_ranges, clock_check}
-use Rattle.rt_store.proofs.Distinct.{split}
-use Rattle.rt_store.proofs.Gone.{gone_none}
-use Rattle.rt_edits.proofs.InsertedText.{text_gone, text_shown}
-use Rattle.rt_edits.proofs.StampLaws.{uncovered_from}
+use Rattle.rt_text.specs.Widgets.{Own, AreSiteMarks, IsOwnOf, widget_of, own_left}
+use Rattle.rt_text.specs.Commands.{Edited, clock_check, deleted, last_unselected, without_ranges}
+use Rattle.rt_text.proofs.MadeDocument.{seen, seen_made, counts_alone, clock_fits}
+use Rattle.rt_text.proofs.MarkLaws.{length_gone, own_of_left, site_left}
 
 -- two facts of a result that is Ok
 pub both_ok : {T E A B C : Type 0} (r : Result T E) → (A → B → C) → OnOk r A → OnOk r B → OnOk r C
 both_ok (Ok x) f a b = f a b
 both_ok (Err e) f a b = tt
-
--- three
-pub all_ok : {T E A B C D : Type 0} (r : Result T E) → (A → B → C → D) → OnOk r A → OnOk r B → OnOk r C → OnOk r D
-all_ok (Ok x) f a b c = f a b c
-all_ok (Err e) f a b c = tt
 
 -- the first fault of checks, or that of one more
 pub first_none : (checks : List (Option Fault)) (last : Option Fault) → first_of checks ≡ None → first_of (checks ++ last ∷ []) ≡ last
@@ -65,67 +68,96 @@ deleted_index flat own others indices fault found (inr e) f =
     let edited = deletion flat own others indices in
     inr (ap (λ c. unless c edited) (first_some (map (index_check (widget_of flat own)) indices) (clock_check edited.doc.count) found e ∙ ap (λ x. Some x) (sym f)))
 
--- places that are the same are removed alike
-pub without_same : (flat : Flat) (some other : ℕ → Bool) → ((place : ℕ) → some place ≡ other place) → without_places flat some ≡ without_places flat other
-without_same flat some other e = λ i. without_places flat (λ place. e place i)
+-- SELECTIONS
 
-pub own_same : (own : Own) (some other : ℕ → Bool) → ((place : ℕ) → some place ≡ other place) → own_left some own ≡ own_left other own
-own_same own some other e = λ i. own_left (λ place. e place i) own
+pub map_same : (others : List (List Stamp)) → map (last_unselected false) others ≡ others
+map_same [] = refl
+map_same (s ∷ others) = ap (λ l. s ∷ l) (map_same others)
 
--- NOTHING IS REMOVED
+-- WHAT A DELETION LEAVES
 
-nothing_gone : {T : Type 0} (removed : ℕ → Bool) (k : ℕ) (c : Cell T) (cs : List (Cell T)) → c.gone ≡ true → gone_at removed k (c ∷ cs) ≡ c ∷ cs
-    → (gone_at removed k cs ≡ cs → (p : ℕ) → p < length (text_of cs) → removed (k + p) ≡ false) → (p : ℕ) → p < length (text_of (c ∷ cs)) → removed (k + p) ≡ false
-nothing_gone removed k c cs g e rest p h =
-    let all : c ∷ gone_at removed k cs ≡ c ∷ cs = sym (cond-true c.gone (c ∷ gone_at removed k cs) (record c { gone = removed k } ∷ gone_at removed (k + 1) cs) g) ∙ e in
-    let tail : gone_at removed k cs ≡ cs = cc in
-    rest tail p (omega (arith, ap length (text_gone c cs g)))
+-- tags that are written leave all but cells and count
+tags_rest : (names : List Word) (flat : Flat) (places : ℕ → Bool) (on : Bool)
+    → with_tags_at flat places on names ≡ record flat { cells = (with_tags_at flat places on names).cells; count = (with_tags_at flat places on names).count }
+tags_rest [] flat places on = refl
+tags_rest (name ∷ names) flat places on = tags_rest names (with_tag_at flat places on name) places on
 
-shown_at : (removed : ℕ → Bool) (k : ℕ) (p n : ℕ) → removed k ≡ false → ((q : ℕ) → q < n → removed (k + 1 + q) ≡ false) → p < suc n → removed (k + p) ≡ false
-shown_at removed k zero n first rest h = let same : k + 0 ≡ k = omega arith in ap removed same ∙ first
-shown_at removed k (suc q) n first rest h = let same : k + suc q ≡ k + 1 + q = omega arith in ap removed same ∙ rest q (omega arith)
+tags_text : (names : List Word) (flat : Flat) (places : ℕ → Bool) (on : Bool) → text_of (with_tags_at flat places on names).cells ≡ text_of flat.cells
+tags_text [] flat places on = refl
+tags_text (name ∷ names) flat places on = tags_text names (with_tag_at flat places on name) places on ∙ tag_text flat places on name
 
-nothing_shown : {T : Type 0} (removed : ℕ → Bool) (k : ℕ) (c : Cell T) (cs : List (Cell T)) → c.gone ≡ false → gone_at removed k (c ∷ cs) ≡ c ∷ cs
-    → (gone_at removed (k + 1) cs ≡ cs → (p : ℕ) → p < length (text_of cs) → removed (k + 1 + p) ≡ false) → (p : ℕ) → p < length (text_of (c ∷ cs)) → removed (k + p) ≡ false
-nothing_shown {T} removed k c cs g e rest p h =
-    let all : record c { gone = removed k } ∷ gone_at removed (k + 1) cs ≡ c ∷ cs = sym (cond-false c.gone (c ∷ gone_at removed k cs) (record c { gone = removed k } ∷ gone_at removed (k + 1) cs) g) ∙ e in
-    let tail : gone_at removed (k + 1) cs ≡ cs = cc in
-    let head : record c { gone = removed k } ≡ c = cc in
-    let first : removed k ≡ false = ap (λ (x : Cell T). x.gone) head ∙ g in
-    shown_at removed k p (length (text_of cs)) first (rest tail) (omega (arith, ap length (text_shown c cs g)))
+-- a document without the characters at some places, and perhaps without tags of the last newline
+abbrev pub cleared : Bool → Flat → Flat
+cleared held left = cond held (with_tags_at left (is_last left) false (last_tags left)) left
 
--- cells that stay as they are stand at no removed place
-nothing_at : {T : Type 0} (removed : ℕ → Bool) (k : ℕ) (cells : List (Cell T)) → gone_at removed k cells ≡ cells → (p : ℕ) → p < length (text_of cells) → removed (k + p) ≡ false
-nothing_at removed k [] e p h = absurd (omega arith)
-nothing_at removed k (c ∷ cs) e p h =
-    split c.gone
-    (λ g. nothing_gone removed k c cs g e (λ t. nothing_at removed k cs t) p h)
-    (λ g. nothing_shown removed k c cs g e (λ t. nothing_at removed (k + 1) cs t) p h)
+cleared_rest : (held : Bool) (left : Flat) → cleared held left ≡ record left { cells = (cleared held left).cells; count = (cleared held left).count }
+cleared_rest true left = tags_rest (last_tags left) left (is_last left) false
+cleared_rest false left = refl
 
-gone_as : {T : Type 0} (spans : List Span) (cells : List (Cell T)) → length spans ≡ 0 → map (gone_in_any spans) cells ≡ cells
-gone_as [] cells h = gone_none cells
-gone_as (span ∷ spans) cells h = absurd (omega arith)
+cleared_text : (held : Bool) (left : Flat) → text_of (cleared held left).cells ≡ text_of left.cells
+cleared_text true left = tags_text (last_tags left) left (is_last left) false
+cleared_text false left = refl
 
-no_place : {T : Type 0} (ranges : List Range) (cells : List (Cell T)) → gone_at (is_covered ranges) 0 cells ≡ cells → All (λ range. range.to < length (text_of cells)) ranges → (p : ℕ) → is_covered ranges p ≡ false
-no_place ranges cells e within p = by_place (cases_lt p (length (text_of cells)))
-  where
-    by_place : (p < length (text_of cells)) ⊎ (length (text_of cells) ≤ p) → is_covered ranges p ≡ false
-    by_place (inl lt) = let same : p ≡ 0 + p = omega arith in ap (is_covered ranges) same ∙ nothing_at (is_covered ranges) 0 cells e p lt
-    by_place (inr le) = uncovered_from ranges (length (text_of cells)) p within (omega arith)
+module _ (flat : Flat) (ranges : List Range) where
+  abbrev pub drafts_of : List Body
+  drafts_of = delete_drafts MOST_SPANS flat ranges
 
-no_operations : (count n : ℕ) → n ≡ 0 → count + operations_for n ≡ count
-no_operations count n e = ap (λ n. count + operations_for n) e ∙ add-zero count
+  abbrev removed_of : ℕ → Bool
+  removed_of = is_removed (text_of flat.cells) ranges
 
--- no spans of ranges before the last newline: the ranges take no place
-pub no_spans : {T : Type 0} (cells : List (Cell T)) (ranges : List Range) (spans : List Span) → All (λ range. range.to < length (text_of cells)) ranges
-    → map (gone_in_any spans) cells ≡ gone_at (is_covered ranges) 0 cells → length spans ≡ 0 → (p : ℕ) → is_covered ranges p ≡ false
-no_spans cells ranges spans within g n p = no_place ranges cells (sym g ∙ gone_as spans cells n) within p
+  -- all but cells, count and marks
+  deletion_rest : without_text_in flat ranges ≡ record flat { cells = (without_text_in flat ranges).cells; count = (without_text_in flat ranges).count; marks = marks_left removed_of flat.marks }
+  deletion_rest = cleared_rest (is_covered ranges (length (text_of flat.cells) - 1)) (without_places flat removed_of)
 
--- where they take none, nothing changes
-pub without_nothing : (flat : Flat) (removed : ℕ → Bool) (spans : List Span) → ((p : ℕ) → removed p ≡ false) → length spans ≡ span_count (stamps_at removed 0 flat.cells)
-    → map (gone_in_any spans) flat.cells ≡ gone_at removed 0 flat.cells → length spans ≡ 0 → AreInOrder flat.marks → without_places flat removed ≡ flat
-without_nothing flat removed spans none k g n order =
-    let cells : gone_at removed 0 flat.cells ≡ flat.cells = sym g ∙ gone_as spans flat.cells n in
-    let count : flat.count + operations_for (span_count (stamps_at removed 0 flat.cells)) ≡ flat.count = no_operations flat.count (span_count (stamps_at removed 0 flat.cells)) (sym k ∙ n) in
-    let marks : marks_left removed flat.marks ≡ flat.marks = marks_kept removed none flat.marks order in
-    λ i. record flat { cells = cells i; count = count i; marks = marks i }
+  -- how many characters are left
+  pub deletion_length : length (text_of (without_text_in flat ranges).cells) ≡ place_left removed_of (length (text_of flat.cells))
+  deletion_length = ap length (cleared_text (is_covered ranges (length (text_of flat.cells) - 1)) (without_places flat removed_of)) ∙ length_gone removed_of flat.cells
+
+  module _ (h : IsHistory flat.log) (doc : IsDocument flat.site flat.log flat) where
+    pub deletion_may : MayBeMade flat.site flat.log drafts_of
+    deletion_may = ranges_may flat.site flat.log flat ranges h doc
+
+    -- it is refused for its counts alone
+    pub deletion_refusal : length flat.cells ≤ flat.limit → refusal_of flat.limit drafts_of flat.log ≡ clock_check (without_text_in flat ranges).count
+    deletion_refusal few =
+        counts_alone flat.limit drafts_of flat.log (without_text_in flat ranges).count (subst (λ l. length l ≤ flat.limit) doc.cells few) (ranges_insert_none flat ranges)
+        (sym (all_count_on flat.site drafts_of flat.log) ∙ ranges_counted flat.site flat.log flat ranges h doc)
+
+    -- what the replica has then made, with the marks moved for some places, is seen as the document that the deletion leaves
+    pub deletion_seen : 0 < flat.site → (new : ReplicaValue) (marks : List Mark) (removed : ℕ → Bool) → new.log ≡ with_drafts flat.site drafts_of flat.log → new.cells ≡ cells_of new.log → new.site ≡ flat.site
+        → new.limit ≡ flat.limit → refusal_of flat.limit drafts_of flat.log ≡ None → length flat.cells ≤ flat.limit → ((p : ℕ) → removed p ≡ is_removed (text_of flat.cells) ranges p) → marks ≡ marks_left removed flat.marks
+        → seen new marks flat.tags ≡ logged flat drafts_of (without_text_in flat ranges)
+    deletion_seen positive new marks removed log cells site limit fits few places moved =
+        let edited : Flat = without_text_in flat ranges in
+        let count : edited.count ≤ GREATEST_COUNT = clock_fits edited.count (sym (deletion_refusal few) ∙ fits) in
+        let all : marks ≡ edited.marks = moved ∙ (λ i. marks_left (λ p. places p i) flat.marks) ∙ sym (ap (λ (f : Flat). f.marks) deletion_rest) in
+        let names : flat.tags ≡ edited.tags = sym (ap (λ (f : Flat). f.tags) deletion_rest) in
+        (λ i. seen new (all i) (names i))
+        ∙ seen_made flat edited drafts_of new log cells site limit (ap (λ (f : Flat). f.limit) deletion_rest) (ranges_deleted flat.site flat.log flat ranges positive h doc count)
+
+  -- the edit, by the places that go and whether the last newline is held
+  pub deletion_edited : (doc : Flat) (own : Own) (others : List (List Stamp)) (removed : ℕ → Bool) (held : Bool) → doc ≡ logged flat drafts_of (without_text_in flat ranges)
+      → ((p : ℕ) → removed p ≡ is_removed (text_of flat.cells) ranges p) → held ≡ is_covered ranges (length (text_of flat.cells) - 1)
+      → without_ranges flat own others ranges ≡ record { doc = doc; own = record (own_left removed own) { sel = last_unselected held own.sel }; others = map (last_unselected held) others }
+  deletion_edited doc own others removed held made places e =
+      λ i. record {
+        doc = sym made i;
+        own = record (own_left (λ p. sym (places p) i) own) { sel = last_unselected (sym e i) own.sel };
+        others = map (last_unselected (sym e i)) others;
+      }
+
+  -- marks stay in the text that is left
+  pub deletion_placed : (marks : List Mark) (removed : ℕ → Bool) → ((p : ℕ) → removed p ≡ is_removed (text_of flat.cells) ranges p) → marks ≡ marks_left removed flat.marks
+      → AreSiteMarks (length (text_of flat.cells)) flat.marks → AreSiteMarks (length (text_of (without_text_in flat ranges).cells)) marks
+  deletion_placed marks removed places moved h =
+      let n = length (text_of flat.cells) in
+      let all : marks ≡ marks_left removed_of flat.marks = moved ∙ (λ i. marks_left (λ p. places p i) flat.marks) in
+      subst (λ m. AreSiteMarks m marks) (sym deletion_length) (subst (AreSiteMarks (place_left removed_of n)) (sym all) (site_left n removed_of flat.marks h))
+
+  -- the same of a widget's own, since the last newline stays
+  pub deletion_own : (own : Own) (removed : ℕ → Bool) → ((p : ℕ) → removed p ≡ is_removed (text_of flat.cells) ranges p) → IsOwnOf (length (text_of flat.cells)) own
+      → IsOwnOf (length (text_of (without_text_in flat ranges).cells)) (own_left removed own)
+  deletion_own own removed places h =
+      let n = length (text_of flat.cells) in
+      subst (λ m. IsOwnOf m (own_left removed own)) (sym deletion_length)
+      (subst (IsOwnOf (place_left removed_of n)) (λ i. own_left (λ p. sym (places p) i) own) (own_of_left n removed_of own (spares_last (text_of flat.cells) ranges) h))

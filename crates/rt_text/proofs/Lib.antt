@@ -5,7 +5,6 @@ pub mod DistanceLaws
 pub mod InsertedDocument
 pub mod Insertions
 pub mod KeptDocument
-pub mod LastNewline
 pub mod MadeDocument
 pub mod ListedText
 pub mod MarkLaws

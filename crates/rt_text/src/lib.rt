@@ -3,7 +3,6 @@
 
 mod characters;
 pub mod comparison;
-mod deleting;
 pub mod distance;
 pub mod doc;
 mod ground;

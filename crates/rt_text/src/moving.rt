@@ -1,12 +1,16 @@
-// Moving marks for text that is removed.
-ghost use Rattle.std.specs.Prelude.{◌≡◌};
+// What a removal of text leaves of marks and selections.
+ghost use Rattle.std.specs.Prelude.{◌≡◌, map};
 ghost use Rattle.rt_marks.specs.Marks.{marks_left};
 ghost use Rattle.rt_edits.specs.Removals.{is_covered, AreInOrder};
+ghost use Rattle.rt_edits.specs.Selected.{stamps_in};
+ghost use Rattle.rt_text.specs.Commands.{last_unselected};
 ghost use Rattle.rt_text.specs.Widgets.{own_left};
 
 use crate::Widget;
-use rt_edits::Range;
+use rt_edits::selection::remove_from_each;
+use rt_edits::{Range, Selection};
 use rt_marks::Marks;
+use rt_stamps::FINAL;
 
 /// Moves the marks of a site and those of a widget for ranges that are removed. The last range goes
 /// first, so that the places of the others still count. It takes no memory.
@@ -22,5 +26,16 @@ pub(crate) fn move_back(marks: &mut Marks, widget: &mut Widget, removed: &[Range
         let range = removed[i];
         marks.removed(range.from, range.to - range.from);
         widget.removed(range.from, range.to - range.from);
+    }
+}
+
+/// Takes the last newline out of a widget's selection and out of others, where a deletion holds it.
+pub(crate) fn unselect_last(held: bool, widget: &mut Widget, others: &mut [Selection])
+    ensures own { widget.new ≡ record widget.old { sel = last_unselected held widget.old.sel } }
+    ensures others { map stamps_in others.new ≡ map (last_unselected held) (map stamps_in others.old) }
+{
+    if held {
+        widget.selection.remove_one(FINAL);
+        remove_from_each(others, FINAL);
     }
 }

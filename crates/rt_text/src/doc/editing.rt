@@ -10,8 +10,7 @@ ghost use Rattle.rt_edits.specs.Selected.{stamps_in};
 
 use super::Doc;
 use crate::Widget;
-use crate::deleting::unselect_last;
-use crate::moving::move_back;
+use crate::moving::{move_back, unselect_last};
 use crate::preparing::{check_names, list_tags, make_room, select_between};
 use rt_edits::drafting::planned_deletion;
 use rt_edits::inserting::planned_insertion;

@@ -1,8 +1,8 @@
 use Rattle.std.proofs.Common.{◌∙◌, ap, map, sym}
-use Rattle.rt_text.specs.Deleting.{last_unselected}
+use Rattle.rt_text.specs.Commands.{last_unselected}
 use Rattle.rt_edits.specs.Selected.{stamps_in}
-use Rattle.rt_text.proofs.DeletionLaws.{map_same}
-use Rattle.rt_text.proofs.deleting.unselect_last.Goals as goal
+use Rattle.rt_text.proofs.Deletions.{map_same}
+use Rattle.rt_text.proofs.moving.unselect_last.Goals as goal
 
 pub returns-else-held-clause-others : goal.returns-else-held-clause-others
 returns-else-held-clause-others c =
