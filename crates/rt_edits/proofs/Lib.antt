@@ -28,6 +28,7 @@ pub mod Selecting
 pub mod SelectionLaws
 pub mod Shown
 pub mod SortedCells
+pub mod SortedStamps
 pub mod SpanLaws
 pub mod SparingLaws
 pub mod StampLaws
