@@ -1,6 +1,7 @@
 pub mod CellLaws
 pub mod CharacterCounts
 pub mod ChosenLaws
+pub mod Cutting
 pub mod DeletionDraftLaws
 pub mod DistinctLaws
 pub mod DraftSteps

@@ -8,6 +8,7 @@ pub mod examples;
 pub mod inserting;
 pub mod insertion;
 pub mod laws;
+mod parts;
 pub mod piece;
 pub mod plan;
 pub mod range;
