@@ -10,6 +10,7 @@ pub mod GoneLaws
 pub mod InsertDraftLaws
 pub mod InsertRules
 pub mod InsertedText
+pub mod LastNewline
 pub mod ListedLaws
 pub mod ListedWrites
 pub mod MergingLaws
