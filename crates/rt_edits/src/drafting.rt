@@ -13,9 +13,11 @@ ghost use Rattle.rt_edits.specs.RemovalDrafts.{removal_drafts};
 ghost use Rattle.rt_edits.specs.TagDrafts.{deletion_drafts, newline_drafts, tag_drafts_at};
 
 use crate::Range;
+use crate::changes::push_changes;
 use crate::parts::{push_deletes, push_tags};
 use crate::removal::removed_ranges;
 use crate::span::{span_of, spans_of, stamps_in};
+use crate::tagging::cells_in;
 use rt_rga::Draft;
 use rt_stamps::{FINAL, Fault};
 use rt_store::TextStore;
@@ -127,7 +129,10 @@ pub fn planned_tag<S: TextStore>(
         ≡ tag_drafts_at MOST_SPANS (is_covered ranges.now) on name.now (map (shown states.now) (S.list store.now))) }
     ensures err { IfErr result (λ fault. fault ≡ Fault.NoMemory) }
 {
-    Err(Fault::NoMemory)
+    let cells = cells_in(alloc, store, ranges)?;
+    let mut drafts = Vec::new(alloc);
+    push_changes(alloc, &mut drafts, states, &cells, name, on)?;
+    Ok(drafts)
 }
 
 /// The operations that take tags off all characters, `sel` passed over: those of a name that comes

@@ -2,6 +2,7 @@
 //! tag operations, and the selected characters of a widget.
 #![tactic(auto)]
 
+mod changes;
 mod counts;
 pub mod drafting;
 pub mod examples;
