@@ -1,6 +1,7 @@
 pub mod CellLaws
 pub mod CharacterCounts
 pub mod ChosenLaws
+pub mod Cutting
 pub mod DeletedNames
 pub mod DeletionDraftLaws
 pub mod DistinctLaws
@@ -10,6 +11,7 @@ pub mod GoneLaws
 pub mod InsertDraftLaws
 pub mod InsertRules
 pub mod InsertedText
+pub mod LastNewline
 pub mod ListedLaws
 pub mod ListedWrites
 pub mod MergingLaws
@@ -29,6 +31,7 @@ pub mod Selecting
 pub mod SelectionLaws
 pub mod Shown
 pub mod SortedCells
+pub mod SortedStamps
 pub mod SpanLaws
 pub mod SparingLaws
 pub mod StampLaws

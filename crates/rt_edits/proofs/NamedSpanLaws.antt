@@ -49,7 +49,7 @@ headed y s (z ∷ zs) h k l = by (precedes s z) l
     by true l = and_from (precedes y s) _ h l
     by false l = and_from (precedes y z) _ (and_parts (precedes y z) (each_next precedes (z ∷ zs)) k).0 l
 
-tail_next : {X : Type 0} (r : X → X → Bool) (x : X) (xs : List X) → each_next r (x ∷ xs) ≡ true → each_next r xs ≡ true
+pub tail_next : {X : Type 0} (r : X → X → Bool) (x : X) (xs : List X) → each_next r (x ∷ xs) ≡ true → each_next r xs ≡ true
 tail_next r x [] h = refl
 tail_next r x (y ∷ ys) h = (and_parts (r x y) (each_next r (y ∷ ys)) h).1
 
@@ -134,7 +134,7 @@ none_before all (x ∷ ss) t s e h =
 not_itself : (t s : Stamp) → is_same t s ≡ true → precedes t s ≡ false
 not_itself t s e = grind (arith, nat_tests)
 
-before_among : (t s : Stamp) (ss : List Stamp) → list_all (precedes t) ss ≡ true → is_among ss s ≡ true → precedes t s ≡ true
+pub before_among : (t s : Stamp) (ss : List Stamp) → list_all (precedes t) ss ≡ true → is_among ss s ≡ true → precedes t s ≡ true
 before_among t s [] h k = absurd (cc k)
 before_among t s (x ∷ ss) h k =
     let p = and_parts (precedes t x) (list_all (precedes t) ss) h in

@@ -1,11 +1,12 @@
 -- Working copies of cells, on the way to other states.
-use Rattle.std.specs.Prelude.{ℕ, ◌+◌, List, [], ◌∷◌, map, Bool, not, ◌&&◌, false, Option, Some, None, if◌then◌else◌}
+use Rattle.std.specs.Prelude.{◌≡◌, ℕ, ◌+◌, List, [], ◌∷◌, map, Bool, not, ◌&&◌, false, Option, Some, None, if◌then◌else◌}
 use Rattle.rt_stamps.specs.declared.stamp.Stamp.{Stamp}
 use Rattle.rt_stamps.specs.Stamps.{is_same}
 use Rattle.rt_stamps.specs.Words.{Word}
 use Rattle.rt_store.specs.declared.cell.Cell.{Cell}
 use Rattle.rt_store.specs.Cells.{is_in_span, with_state}
 use Rattle.std.specs.Str.{bytes_eq}
+use Rattle.rt_tags.specs.States.{TagStates, IsTag, is_on, name_at, state_at}
 use Rattle.rt_tags.specs.Tags.{sel, forgotten, is_listed}
 use Rattle.rt_edits.specs.declared.tagging.StateRun.{StateRun}
 use Rattle.rt_store.specs.Shown.{TaggedCell}
@@ -59,3 +60,8 @@ is_shared_of tags name = not (bytes_eq name sel) && is_listed name tags
 abbrev pub all_forgotten : List Word → List Word → List Word
 all_forgotten [] tags = tags
 all_forgotten (name ∷ names) tags = all_forgotten names (forgotten name tags)
+
+-- the number of a tag, or none for a name that is on in no state
+abbrev pub Numbers : TagStates → Word → Option ℕ → Type 0
+Numbers table name None = (state : ℕ) → is_on name (state_at table state) ≡ false
+Numbers table name (Some tag) = name_at table tag ≡ name

@@ -1,19 +1,25 @@
 // Deletions and tag writes, as the operations that they make.
-ghost use Rattle.std.specs.Prelude.{◌≡◌, ℕ, ◌-◌, ◌<◌, ◌≤◌, All, IfOk, IfErr, length, map, string_bytes};
+ghost use Rattle.std.specs.Prelude.{◌≡◌, ℕ, ◌-◌, ◌<◌, ◌≤◌, ◌++◌, All, IfOk, IfErr, OnOk, length, map, string_bytes};
 ghost use Rattle.rt_stamps.specs.declared.limits.TheConstants.{MOST_SPANS};
 ghost use Rattle.rt_oplog.specs.Edits.{body_of};
 ghost use Rattle.rt_store.specs.Cells.{AreDistinct, text_of, visible_of};
 ghost use Rattle.rt_store.specs.Shown.{shown};
 ghost use Rattle.rt_store.specs.Tagged.{AreStates};
-ghost use Rattle.rt_edits.specs.Deletions.{delete_drafts};
+ghost use Rattle.rt_edits.specs.Deletions.{delete_drafts, last_tags};
 ghost use Rattle.rt_edits.specs.Flat.{Flat};
 ghost use Rattle.rt_edits.specs.Listed.{AreListed};
 ghost use Rattle.rt_edits.specs.Removals.{AreInOrder, is_covered, is_removed};
-ghost use Rattle.rt_edits.specs.TagDrafts.{deletion_drafts, tag_drafts_at};
+ghost use Rattle.rt_edits.specs.RemovalDrafts.{removal_drafts};
+ghost use Rattle.rt_edits.specs.TagDrafts.{deletion_drafts, newline_drafts, tag_drafts_at};
 
 use crate::Range;
+use crate::changes::push_changes;
+use crate::parts::{push_deletes, push_tags};
+use crate::removal::removed_ranges;
+use crate::span::{span_of, spans_of, stamps_in};
+use crate::tagging::cells_in;
 use rt_rga::Draft;
-use rt_stamps::Fault;
+use rt_stamps::{FINAL, Fault};
 use rt_store::TextStore;
 use rt_tags::{StateTable, TagTable};
 use std::alloc::Global;
@@ -25,6 +31,53 @@ pub struct Deletion {
     pub removed: Vec<Range>,
     pub held: bool,
     pub drafts: Vec<Draft>,
+}
+
+// Whether a place is in a range.
+fn holds(ranges: &[Range], place: usize) -> bool
+    ensures { result ≡ is_covered ranges.now place }
+{
+    ranges
+        .iter()
+        .any(|range| range.from <= place && place < range.to)
+}
+
+// The Deletes of the characters in ranges.
+fn removals<S: TextStore>(
+    alloc: Global,
+    store: &S,
+    removed: &[Range],
+) -> Result<Vec<Draft>, Fault>
+    requires distinct { AreDistinct (S.list store.now) }
+    requires order { AreInOrder 0 removed.now }
+    requires within { All (λ range. range.to ≤ length (visible_of (S.list store.now))) removed.now }
+    ensures ok { IfOk result (λ drafts. map body_of drafts.items ≡ removal_drafts MOST_SPANS (is_covered removed.now) (S.list store.now)) }
+    ensures err { IfErr result (λ fault. fault ≡ Fault.NoMemory) }
+{
+    let stamps = stamps_in(alloc, store, removed)?;
+    let spans = spans_of(alloc, stamps)?;
+    let mut drafts = Vec::new(alloc);
+    push_deletes(alloc, &mut drafts, &spans)?;
+    Ok(drafts)
+}
+
+// Adds the Tags that take its tags off the last newline.
+fn push_newline<S: TextStore>(
+    alloc: Global,
+    store: &S,
+    states: &StateTable,
+    drafts: &mut Vec<Draft>,
+) -> Result<(), Fault>
+    requires states { AreStates states.now (S.list store.now) }
+    ensures ok { OnOk result ((flat : Flat) → flat.cells ≡ map (shown states.now) (S.list store.now)
+        → map body_of drafts.new.items ≡ map body_of drafts.old.items ++ newline_drafts (last_tags flat)) }
+    ensures err { IfErr result (λ fault. fault ≡ Fault.NoMemory) }
+{
+    let last = store.cell_at(store.visible() - 1);
+    for tag in states.on(last.state) {
+        push_tags(alloc, drafts, false, states.name(*tag), &[span_of(FINAL)])?;
+    }
+    Ok(())
 }
 
 /// Plans the deletion of ranges, in any order and of any length: the Deletes of their characters, and
@@ -45,7 +98,17 @@ pub fn planned_deletion<S: TextStore>(
     ensures held { IfOk result (λ d. d.held ≡ is_covered ranges.now (length (text_of (S.list store.now)) - 1)) }
     ensures err { IfErr result (λ fault. fault ≡ Fault.NoMemory) }
 {
-    Err(Fault::NoMemory)
+    let removed = removed_ranges(alloc, store, ranges)?;
+    let mut drafts = removals(alloc, store, &removed)?;
+    let held = holds(ranges, store.visible() - 1);
+    if held {
+        push_newline(alloc, store, states, &mut drafts)?;
+    }
+    Ok(Deletion {
+        removed,
+        held,
+        drafts,
+    })
 }
 
 /// The operations that put a tag on those characters in ranges that haven't it, or take it off those
@@ -66,7 +129,10 @@ pub fn planned_tag<S: TextStore>(
         ≡ tag_drafts_at MOST_SPANS (is_covered ranges.now) on name.now (map (shown states.now) (S.list store.now))) }
     ensures err { IfErr result (λ fault. fault ≡ Fault.NoMemory) }
 {
-    Err(Fault::NoMemory)
+    let cells = cells_in(alloc, store, ranges)?;
+    let mut drafts = Vec::new(alloc);
+    push_changes(alloc, &mut drafts, states, &cells, name, on)?;
+    Ok(drafts)
 }
 
 /// The operations that take tags off all characters, `sel` passed over: those of a name that comes

@@ -2,12 +2,14 @@
 //! tag operations, and the selected characters of a widget.
 #![tactic(auto)]
 
+mod changes;
 mod counts;
 pub mod drafting;
 pub mod examples;
 pub mod inserting;
 pub mod insertion;
 pub mod laws;
+mod parts;
 pub mod piece;
 pub mod plan;
 pub mod range;

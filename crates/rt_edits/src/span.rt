@@ -7,6 +7,7 @@ ghost use Rattle.rt_stamps.specs.declared.stamp.TheConstants.{FINAL};
 ghost use Rattle.rt_stamps.specs.Stamps.{is_same};
 ghost use Rattle.rt_store.specs.Cells.{visible_of, text_of, HasRoom, Spends, AreDistinct};
 ghost use Rattle.rt_store.specs.Tagged.{AreStates};
+ghost use Rattle.rt_edits.specs.NamedSpans.{runs, spans_in};
 ghost use Rattle.rt_edits.specs.Removals.{is_covered, stamps_at, gone_at, span_count, operations_for, AreInOrder};
 ghost use Rattle.rt_store.specs.Spans.{each_next, is_span, is_clear_of, precedes, next_stamp, last_stamp, is_in_spans, is_among, gone_in_any};
 
@@ -79,6 +80,7 @@ pub(crate) fn is_next(span: Span, stamp: Stamp) -> bool
 // The longest runs of stamps that are in order.
 fn runs_of(alloc: Global, stamps: &[Stamp]) -> Result<Vec<Span>, Fault>
     requires { each_next precedes stamps.now ≡ true }
+    ensures ok { IfOk result (λ spans. spans.items ≡ runs stamps.now) }
     ensures same { IfOk result (λ spans. (stamp : Stamp) → is_in_spans spans.items stamp ≡ is_among stamps.now stamp) }
     ensures count { IfOk result (λ spans. length spans.items ≡ span_count stamps.now) }
     ensures forward { IfOk result (λ spans. list_all is_span spans.items ≡ true) }
@@ -106,6 +108,7 @@ fn runs_of(alloc: Global, stamps: &[Stamp]) -> Result<Vec<Span>, Fault>
 /// first count.
 pub(crate) fn spans_of(alloc: Global, stamps: Vec<Stamp>) -> Result<Vec<Span>, Fault>
     requires { IsDistinct is_same stamps.items }
+    ensures ok { IfOk result (λ spans. spans.items ≡ spans_in stamps.items) }
     ensures same { IfOk result (λ spans. (stamp : Stamp) → is_in_spans spans.items stamp ≡ is_among stamps.items stamp) }
     ensures count { IfOk result (λ spans. length spans.items ≡ span_count stamps.items) }
     ensures forward { IfOk result (λ spans. list_all is_span spans.items ≡ true) }

@@ -20,6 +20,10 @@ loop-stamp-preserved c =
           ∙ sym (begun_more done c.loop-stamp.span others i _ c.loop-stamp-test.true (sym c.is_next.ensures ∙ w.if-is_next.false)) ∙ c.loop-stamp.invariant
     ]
 
+pub returns-clause-ok : goal.returns-clause-ok
+returns-clause-ok c =
+    runs_end c.push-2.new.self.items c.loop-stamp.spans.items c.loop-stamp.span c.in-Some.others.now c.args.stamps.now c.loop-stamp.stamp-index c.in_ok-push-2.ensures.items (omega arith) c.loop-stamp.invariant
+
 pub returns-clause-same : goal.returns-clause-same
 returns-clause-same c = λ stamp.
     let all = runs_end c.push-2.new.self.items c.loop-stamp.spans.items c.loop-stamp.span c.in-Some.others.now c.args.stamps.now c.loop-stamp.stamp-index c.in_ok-push-2.ensures.items (omega arith) c.loop-stamp.invariant in
