@@ -1,6 +1,7 @@
 // What few counts are left for.
 ghost use Rattle.std.specs.Prelude.{◌≡◌, ◌∷◌, [], IfOk};
 ghost use Rattle.rt_edits.specs.Listed.{AreListed};
+ghost use Rattle.rt_store.specs.Cells.{text_of};
 ghost use Rattle.rt_tags.specs.Tags.{IsName, sel};
 
 use crate::{Doc, Widget};
@@ -48,7 +49,8 @@ impl Model for Page {
 // A replica of an empty text, of whose counts so many are left: another site took a tag off the last
 // newline, which never had it.
 fn replica_of_counts(alloc: Global, counts: u64) -> Result<Replica<ListStore>, Fail>
-    ensures { IfOk result (λ replica. AreListed (sel ∷ []) replica.cells) }
+    ensures listed { IfOk result (λ replica. AreListed (sel ∷ []) replica.cells) }
+    ensures text { IfOk result (λ replica. text_of replica.cells ≡ 10 ∷ []) }
 {
     let site = Site::new(1).ok_or("a site")?;
     let mut replica = Replica::new(alloc, ListStore::new(alloc)?, site, 20_000)?;

@@ -21,8 +21,8 @@ ghost use Rattle.rt_store.specs.Written.{AreWritten};
 use super::Doc;
 use crate::Widget;
 use crate::characters::{cell_has, next_with};
-use rt_edits::removal::ranges_within;
 use rt_edits::drafting::{planned_tag, planned_tag_deletion};
+use rt_edits::removal::ranges_within;
 use rt_edits::retagging::{forget_all, list_if, prepare_if, select};
 use rt_edits::{Range, Selection};
 use rt_stamps::Fault;
@@ -70,14 +70,7 @@ impl<S: TextStore> Doc<S> {
         ensures { result ≡ next_place (is_tagged widget.now name.now) (visible_of self.now.cells) place }
     {
         let (store, states) = self.kept();
-        next_with(
-            store,
-            states,
-            &widget.selection,
-            name,
-            true,
-            place,
-        )
+        next_with(store, states, &widget.selection, name, true, place)
     }
 
     /// The least place from one up whose character hasn't a tag on the widget; none if there is none.
@@ -86,14 +79,7 @@ impl<S: TextStore> Doc<S> {
         ensures { result ≡ next_place (λ cell. not (is_tagged widget.now name.now cell)) (visible_of self.now.cells) place }
     {
         let (store, states) = self.kept();
-        next_with(
-            store,
-            states,
-            &widget.selection,
-            name,
-            false,
-            place,
-        )
+        next_with(store, states, &widget.selection, name, false, place)
     }
 
     /// The listed tags of the character at a place on a widget, lowest priority first (Tk text manual,

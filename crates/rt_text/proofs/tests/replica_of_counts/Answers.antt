@@ -6,6 +6,7 @@ use Rattle.rt_stamps.specs.Words.{Word}
 use Rattle.rt_stamps.specs.declared.fault.Fault.TheVariants.{BadRecord}
 use Rattle.rt_stamps.specs.declared.stamp.Span.{Span}
 use Rattle.rt_stamps.specs.declared.stamp.TheConstants.{FINAL}
+use Rattle.rt_store.specs.Cells.{text_of}
 use Rattle.rt_store.specs.Shown.{TaggedCell}
 use Rattle.rt_store.specs.Spans.{is_in_spans}
 use Rattle.rt_tags.specs.States.{Write, is_on, says_on}
@@ -58,8 +59,13 @@ ruled made op e = by (keeps_rules made.body) refl e
     by true k e = (cc, k)
     by false k e = let bad : ⊥ = cc in absurd bad
 
-pub returns : goal.returns
-returns c =
+text_after : (answer : Answer) (count site prev : ℕ) (name : Word) (spans : List Span) → text_of (cells_of (set_after answer (record { count = count; site = site; prev = prev; body = Tag false name spans }) [])) ≡ 10 ∷ []
+text_after New count site prev name spans = refl
+text_after Repeat count site prev name spans = refl
+text_after (Refused fault) count site prev name spans = refl
+
+pub returns-clause-listed : goal.returns-clause-listed
+returns-clause-listed c =
     let op = c.in_ok-op.op in
     let old = c.in_ok-replica.replica in
     let name = string_bytes c.in_ok-name.name in
@@ -70,3 +76,15 @@ returns c =
     let listed = subst (λ (o : Operation). AreListed (sel ∷ []) (cells_of (set_after answer o []))) is.0 (listed_after answer c.saturating_sub.result 2 0 name spans (not_sel _ _ (bytes_eq name sel) _ is.1)) in
     subst (λ (cells : List TaggedCell). AreListed (sel ∷ []) cells)
     (sym (c.store.ensures.cells ∙ ap cells_of (c.in_ok-_taken.ensures.log ∙ ap (λ log. set_after answer op log) c.in_ok-replica.ensures.log))) listed
+
+pub returns-clause-text : goal.returns-clause-text
+returns-clause-text c =
+    let op = c.in_ok-op.op in
+    let old = c.in_ok-replica.replica in
+    let name = string_bytes c.in_ok-name.name in
+    let spans = c.in_ok-spans.spans.items in
+    let made : Operation = record { count = c.saturating_sub.result; site = 2; prev = 0; body = Tag false name spans } in
+    let answer = answer_within old.limit op old.log in
+    let is = ruled made op (sym c.in_ok-op.was ∙ c.tag.ensures) in
+    ap text_of (c.store.ensures.cells ∙ ap cells_of (c.in_ok-_taken.ensures.log ∙ ap (λ log. set_after answer op log) c.in_ok-replica.ensures.log))
+    ∙ ap (λ (o : Operation). text_of (cells_of (set_after answer o []))) (sym is.0) ∙ text_after answer c.saturating_sub.result 2 0 name spans
