@@ -3,10 +3,9 @@ use Rattle.std.proofs.Common.{◌≡◌, ◌∙◌, ℕ, ◌+◌, ◌<◌, ◌�
 use Rattle.std.specs.List.{AllByRecursion, IsDistinct}
 use Rattle.std.specs.Str.{bytes_eq}
 use Rattle.rt_stamps.specs.declared.limits.TheConstants.{GREATEST_COUNT, MOST_SPANS}
-use Rattle.rt_stamps.specs.declared.stamp.Stamp.{Stamp}
 use Rattle.rt_stamps.specs.Stamps.{is_same}
 use Rattle.rt_stamps.specs.Words.{Word}
-use Rattle.rt_oplog.specs.Operations.{Body, Operation}
+use Rattle.rt_oplog.specs.Operations.{Operation}
 use Rattle.rt_oplog.specs.Rules.{is_name}
 use Rattle.rt_tags.specs.States.{Write, is_on, says_on, write_of}
 use Rattle.rt_tags.specs.Tags.{sel, without}
@@ -14,7 +13,6 @@ use Rattle.rt_tags.proofs.Places.{same_name}
 use Rattle.rt_store.specs.Cells.{AreDistinct}
 use Rattle.rt_store.specs.Shown.{TaggedCell}
 use Rattle.rt_store.proofs.Distinct.{split}
-use Rattle.rt_rga.specs.Cells.{cells_of}
 use Rattle.rt_rga.specs.Drafts.{with_drafts}
 use Rattle.rt_rga.specs.Histories.{IsHistory}
 use Rattle.rt_rga.specs.Requests.{MayBeMade}
@@ -27,7 +25,7 @@ use Rattle.rt_edits.specs.TagDrafts.{deletion_drafts, tag_drafts, tag_drafts_at}
 use Rattle.rt_edits.specs.TagWrites.{changed_stamps, is_changed, tagged, with_tag, with_tag_at, without_tags}
 use Rattle.rt_edits.proofs.DraftSteps.{AreKnownCells, known_cells, known_later}
 use Rattle.rt_edits.proofs.TagDocuments.{known_tagged, one_made, one_may_be_made, tag_stamps}
-use Rattle.rt_edits.proofs.TagNames.{AreNamed, CellsNamed, IsNamed, all_tagged_named, every_named}
+use Rattle.rt_edits.proofs.TagNames.{CellsNamed, IsNamed, all_tagged_named, every_named}
 use Rattle.rt_edits.proofs.WriterLaws.{all_without_grows}
 
 -- ON NO CHARACTER
@@ -90,8 +88,11 @@ one_off site log flat name p h doc l =
     let named : CellsNamed flat.cells = subst CellsNamed (sym doc.cells) (every_named log h) in
     split (is_name name)
     (λ e. one_made site log flat everywhere false name p h doc e l)
-    (λ e. (subst (λ drafts. IsHistory (with_drafts site drafts log)) (sym (none_drafted name flat.cells e named)) h, subst (λ (f : Flat). IsDocument site (with_drafts site (tag_drafts_at MOST_SPANS everywhere false name flat.cells) log) f)
-    (sym (none_tagged flat name e named)) (subst (λ drafts. IsDocument site (with_drafts site drafts log) flat) (sym (none_drafted name flat.cells e named)) doc)))
+    (λ e. (
+      subst (λ drafts. IsHistory (with_drafts site drafts log)) (sym (none_drafted name flat.cells e named)) h,
+      subst (λ (f : Flat). IsDocument site (with_drafts site (tag_drafts_at MOST_SPANS everywhere false name flat.cells) log) f)
+          (sym (none_tagged flat name e named)) (subst (λ drafts. IsDocument site (with_drafts site drafts log) flat) (sym (none_drafted name flat.cells e named)) doc),
+    ))
 
 -- SEVERAL
 

@@ -32,7 +32,7 @@ use Rattle.rt_edits.proofs.Putting.{distinct_cells_at, stamps_at_cells, tagged_s
 use Rattle.rt_edits.proofs.StateChanges.{stamps_changed}
 use Rattle.rt_edits.proofs.TagDraftLaws.{tags_as_flat, tags_counted, tags_may_be_made}
 use Rattle.rt_edits.proofs.TagEffects.{some_among}
-use Rattle.rt_edits.proofs.WriterLaws.{all_without_grows, tag_grows}
+use Rattle.rt_edits.proofs.WriterLaws.{tag_grows}
 
 -- WHAT IS NAMED
 

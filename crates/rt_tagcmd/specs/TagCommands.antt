@@ -11,9 +11,8 @@ use Rattle.rt_stamps.specs.Words.{Word}
 use Rattle.rt_store.specs.Cells.{text_of, visible_of}
 use Rattle.rt_tags.specs.Tags.{is_listed, raised, lowered}
 use Rattle.rt_edits.specs.declared.range.Range.{Range}
-use Rattle.rt_edits.specs.TagWrites.{without_tags}
 use Rattle.rt_stamps.specs.Names.{name_check}
-use Rattle.rt_text.specs.Commands.{clock_check, with_tag_in}
+use Rattle.rt_text.specs.Commands.{clock_check, with_tag_in, with_tags_deleted}
 use Rattle.rt_edits.specs.Flat.{Flat}
 use Rattle.rt_text.specs.Index.{index_check, place_at_index}
 use Rattle.rt_text.specs.Ranges.{ranges_of}
@@ -46,7 +45,7 @@ tag_removed = tag_written false
 -- tag delete NAME ?NAME ...?: names that aren't listed are passed over, and so is `sel`
 abbrev pub tags_deleted : Flat → List Word → Result Flat Fault
 tags_deleted flat names =
-    let after = without_tags flat names in
+    let after = with_tags_deleted flat names in
     unless (first_of (map name_check names ++ clock_check after.count ∷ [])) after
 
 -- PRIORITIES

@@ -1,35 +1,26 @@
--- Documents whose cells come into other states.
-use Rattle.std.proofs.Common.{◌≡◌, ℕ, ◌<◌, ◌≤◌, List, Bool, true, false, cond, ◌&&◌, Some, None, Result, Ok, Err, OnOk, All, length, map, refl, sym, ◌∙◌, ap, subst, arith}
+-- What a tag that is written leaves listed, the characters that it names as far as the text goes, and checks of the clock.
+use Rattle.std.proofs.Common.{◌≡◌, ℕ, ◌<◌, ◌≤◌, List, Bool, true, false, cond, ◌&&◌, Some, None, Result, Ok, Err, OnOk, length, map, refl, sym, ◌∙◌, ap, subst, arith}
 use Rattle.std.specs.Str.{bytes_eq}
 use Rattle.std.specs.Prelude.{OnErr, nat_lt}
 use Rattle.std.proofs.lemmas.Bool.{cond-true, cond-false, le-ltb, lt-ltb}
-use Rattle.std.proofs.lemmas.List.{length-map}
-use Rattle.rt_marks.specs.Marks.{Mark}
 use Rattle.rt_stamps.specs.declared.limits.TheConstants.{GREATEST_COUNT}
 use Rattle.rt_stamps.specs.declared.fault.Fault.TheVariants.{ClockSpent}
 use Rattle.rt_stamps.specs.Words.{Word}
 use Rattle.rt_store.specs.declared.cell.Cell.{Cell}
-use Rattle.rt_store.specs.Cells.{text_of, visible_of, stamps_of}
-use Rattle.rt_store.proofs.GivenStates.{kept_states}
-use Rattle.rt_tags.specs.States.{TagStates, IsState, KeepsIds, state_at}
+use Rattle.rt_store.specs.Cells.{visible_of, stamps_of}
+use Rattle.rt_tags.specs.States.{TagStates, state_at}
 use Rattle.rt_tags.specs.Tags.{IsName, with_name, sel}
-use Rattle.rt_edits.specs.declared.tagging.StateRun.{StateRun}
 use Rattle.rt_edits.specs.TagWrites.{listed_if, with_tag_at}
 use Rattle.rt_text.specs.Commands.{clock_check}
-use Rattle.rt_text.specs.Kept.{IsDoc}
 use Rattle.rt_edits.specs.Flat.{Flat}
 use Rattle.rt_store.specs.Shown.{TaggedCell, shown}
-use Rattle.rt_store.specs.Written.{AreWritten}
 use Rattle.rt_edits.specs.Listed.{AreListed}
 use Rattle.rt_edits.specs.Removals.{stamps_at}
-use Rattle.rt_text.specs.Widgets.{AreSiteMarks}
-use Rattle.rt_edits.specs.Working.{put_back_in_any}
 use Rattle.rt_edits.proofs.ListedWrites.{written_listed}
 use Rattle.rt_edits.proofs.Putting.{stamps_at_cells}
 use Rattle.rt_edits.proofs.Shown.{stamps_at_shown}
-use Rattle.rt_store.proofs.Shown.{visible_shown, length_shown, text_shown, shown_later}
-use Rattle.rt_edits.proofs.StateChanges.{AreAlike, cells_alike, distinct_changed, given_changed, known_changed, known_from, runs_change, text_changed}
-use Rattle.rt_edits.proofs.WriterLaws.{tag_written}
+use Rattle.rt_store.proofs.Shown.{visible_shown, length_shown}
+use Rattle.rt_edits.proofs.StateChanges.{AreAlike, cells_alike}
 
 -- WRITTEN TAGS
 
