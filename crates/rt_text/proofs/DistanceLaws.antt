@@ -19,14 +19,6 @@ measures_more switches i switch read measure h s e = rw (drop_more switches i sw
     pushed None = refl
     pushed (Some others) = ap (λ v. Some v) (sym (simp append_assoc))
 
-pub measures_none : (switches : List (String Global)) (i : ℕ) (switch : String Global) (read : List Measure) → i < length switches → switch ≡ get_or switches i switch
-    → measure_of (string_bytes switch) ≡ None → before read (measures_of (map (λ w. string_bytes w) (drop i switches))) ≡ None
-measures_none switches i switch read h s e = rw (drop_more switches i switch h, ← s, e) refl
-
-pub or_some : (measures : List Measure) → (length measures ≡ 0 → ⊥) → measures ≡ or_indices measures
-or_some [] h = absurd (h refl)
-or_some (m ∷ ms) h = refl
-
 pub or_none : (measures : List Measure) → length measures ≡ 0 → or_indices measures ≡ Indices ∷ []
 or_none [] h = refl
 or_none (m ∷ ms) h = absurd (omega arith)

@@ -12,7 +12,7 @@ use Rattle.rt_store.specs.Cells.{text_of, visible_of}
 use Rattle.rt_store.specs.Shown.{TaggedCell}
 use Rattle.rt_tags.specs.States.{IsByName}
 use Rattle.rt_tags.specs.Tags.{IsName}
-use Rattle.rt_rga.specs.Cells.{cells_of, writes_on}
+use Rattle.rt_rga.specs.Cells.{writes_on}
 use Rattle.rt_rga.specs.Drafts.{with_drafts}
 use Rattle.rt_rga.specs.Histories.{IsHistory}
 use Rattle.rt_rga.specs.Made.{refusal_of}
@@ -23,7 +23,7 @@ use Rattle.rt_rga.proofs.Writes.{state_sorted}
 use Rattle.rt_edits.specs.DeletionLaws.{IsPiece}
 use Rattle.rt_edits.specs.declared.inserting.Plan.{Plan}
 use Rattle.rt_edits.specs.DraftLaws.{IsDocument, IsInsertion}
-use Rattle.rt_edits.specs.Flat.{Flat, left_of, logged, put_after}
+use Rattle.rt_edits.specs.Flat.{Flat, left_of, put_after}
 use Rattle.rt_edits.specs.InsertionDrafts.{insertion_drafts}
 use Rattle.rt_edits.specs.InsertionPlans.{Plans}
 use Rattle.rt_edits.specs.Insertions.{Insertion, Piece, insertion_of, left_neighbour, right_neighbour}
@@ -32,7 +32,7 @@ use Rattle.rt_edits.proofs.CharacterCounts.{insertion_length}
 use Rattle.rt_edits.proofs.ListedLaws.{listed_more}
 use Rattle.rt_edits.proofs.PieceDraftLaws.{insertion_counted, insertion_made, insertion_may}
 use Rattle.rt_edits.proofs.PremiseLaws.{may_begin, pieces_are}
-use Rattle.rt_text.specs.Commands.{Edited, names_in, with_pieces_at}
+use Rattle.rt_text.specs.Commands.{names_in, with_pieces_at}
 use Rattle.rt_text.specs.Kept.{IsDoc}
 use Rattle.rt_text.specs.Widgets.{AreSiteMarks, IsOwnOf, Own, own_inserted}
 use Rattle.rt_text.proofs.ListedText.{IsAmong, ListsAll, insertion_lists, insertion_tags, left_among, listed_put, names_of_all, text_among}

@@ -3,7 +3,6 @@ pub mod DeletionLaws
 pub mod Deletions
 pub mod DistanceLaws
 pub mod InsertedDocument
-pub mod Insertions
 pub mod KeptDocument
 pub mod MadeDocument
 pub mod ListedText

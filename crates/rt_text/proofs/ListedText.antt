@@ -1,6 +1,6 @@
 -- The tags of new text are listed.
 use Rattle.std.proofs.Common.{◌≡◌, ℕ, zero, suc, ◌+◌, ◌<◌, List, [], ◌∷◌, ◌++◌, Bool, true, false, cond, not, All, Option, None, Some, length, take, drop, map, filter, get_or, refl, sym, ◌∙◌, ap, subst, arith}
-use Rattle.std.specs.Prelude.{IfSome, option_map, slice_get}
+use Rattle.std.specs.Prelude.{IfSome, slice_get}
 use Rattle.std.specs.Str.{bytes_eq, chars}
 use Rattle.std.proofs.lemmas.Bool.{not-true, or_left, or_right}
 use Rattle.std.proofs.lemmas.List.{take-append-drop}
@@ -13,20 +13,17 @@ use Rattle.rt_stamps.specs.declared.stamp.TheConstants.{ROOT}
 use Rattle.rt_stamps.specs.Words.{Word}
 use Rattle.rt_store.specs.declared.cell.Cell.{Cell}
 use Rattle.rt_store.specs.Cells.{after_element, text_of, visible_of, cells_from}
-use Rattle.rt_store.specs.Tagged.{AreStates}
-use Rattle.rt_tags.specs.States.{IsByName, IsState, TagStates, Write, state_at, above, below, is_on, is_settled, names_on, says_on, write_of, written}
+use Rattle.rt_tags.specs.States.{IsByName, Write, above, below, is_on, is_settled, names_on, says_on, write_of, written}
 use Rattle.rt_tags.specs.Tags.{IsName, is_listed, sel, with_name}
 use Rattle.rt_tags.specs.Writers.{listed_by, state_after}
 use Rattle.rt_tags.proofs.Commuting.{on_is_listed}
 use Rattle.rt_tags.proofs.Places.{name_itself, same_name, split}
 use Rattle.rt_tags.proofs.Sorted.{written_sorted}
 use Rattle.rt_edits.specs.Flat.{put_after}
-use Rattle.rt_store.specs.Shown.{TaggedCell, shown}
+use Rattle.rt_store.specs.Shown.{TaggedCell}
 use Rattle.rt_edits.specs.Insertions.{Insertion, Piece, all_listed, cells_of_inserts, further_tags, inserts_for, insertion_of, last_of, left_neighbour, new_state, put_on, shared_names, tagged_cells, tags_between, with_listed, with_pieces, with_unlisted}
 use Rattle.rt_text.specs.Commands.{names_in}
 use Rattle.rt_edits.specs.Listed.{AreListed, IsShared, listed_name}
-use Rattle.rt_text.proofs.SeenLaws.{visible_given}
-use Rattle.rt_store.proofs.Shown.{visible_at_shown}
 
 -- NAMES IN STATES
 

@@ -1,7 +1,7 @@
 -- A document after its replica has made operations, or has refused to.
-use Rattle.std.proofs.Common.{◌≡◌, ◌∙◌, ℕ, ◌+◌, ◌<◌, ◌≤◌, Bool, true, false, cond, List, [], ◌∷◌, Option, None, Some, length, refl, sym, ap, arith, subst}
+use Rattle.std.proofs.Common.{◌≡◌, ◌∙◌, ℕ, ◌+◌, ◌<◌, ◌≤◌, Bool, true, false, cond, List, [], ◌∷◌, Option, None, Some, length, refl, sym, ap, arith}
 use Rattle.std.specs.Prelude.{nat_lt}
-use Rattle.std.proofs.lemmas.Bool.{cond-true, cond-false, le-ltb, lt-ltb, ltb-true, ltb-false}
+use Rattle.std.proofs.lemmas.Bool.{cond-false, le-ltb, ltb-true, ltb-false}
 use Rattle.rt_marks.specs.Marks.{Mark}
 use Rattle.rt_oplog.specs.Operations.{Body, Operation}
 use Rattle.rt_stamps.specs.declared.fault.Fault.{Fault}
@@ -30,10 +30,6 @@ seen replica marks tags = record {
   marks = marks;
   tags = tags;
 }
-
--- a replica that differs in its table alone is seen as before
-pub seen_same : (old new : ReplicaValue) (marks : List Mark) (tags : List Word) → new ≡ record old { table = new.table } → seen new marks tags ≡ seen old marks tags
-seen_same old new marks tags e = ap (λ (r : ReplicaValue). seen r marks tags) e
 
 -- what a replica has made is seen as the edited document, which is one of the larger log
 pub seen_made : (flat edited : Flat) (drafts : List Body) (new : ReplicaValue) → new.log ≡ with_drafts flat.site drafts flat.log → new.cells ≡ cells_of new.log → new.site ≡ flat.site → new.limit ≡ flat.limit

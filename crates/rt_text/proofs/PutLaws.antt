@@ -1,40 +1,27 @@
 -- An insertion at a place, and what it leaves.
-use Rattle.std.proofs.Common.{◌≡◌, ℕ, ◌+◌, ◌-◌, ◌<◌, ◌≤◌, List, [], ◌∷◌, ◌++◌, cond, All, Option, None, Some, Result, Ok, Err, ◌⊎◌, inl, inr, OnErr, OnOk, length, take, drop, map, max, min, sym, ◌∙◌, ap, subst, arith}
+use Rattle.std.proofs.Common.{◌≡◌, ℕ, ◌+◌, ◌-◌, ◌<◌, ◌≤◌, List, [], ◌∷◌, ◌++◌, cond, Option, None, Some, Result, Ok, Err, ◌⊎◌, inl, inr, OnErr, OnOk, length, take, drop, map, min, sym, ◌∙◌, ap, arith}
 use Rattle.std.specs.Prelude.{IfErr}
 use Rattle.std.specs.Result.{result_err, result_unwrap_or}
 use Rattle.std.proofs.lemmas.Bool.{le-ltb, lt-ltb}
 use Rattle.std.proofs.lemmas.List.{length-append, length-map, take-append-drop}
-use Rattle.std.proofs.lemmas.List.Elements.{All-nil}
 use Rattle.rt_index.specs.Index.{index_of}
-use Rattle.rt_marks.specs.Marks.{marks_inserted}
 use Rattle.rt_stamps.specs.declared.fault.Fault.{Fault}
-use Rattle.rt_stamps.specs.declared.fault.Fault.TheVariants.{ClockSpent, NoMemory, TextFull}
+use Rattle.rt_stamps.specs.declared.fault.Fault.TheVariants.{ClockSpent, NoMemory}
 use Rattle.rt_stamps.specs.declared.limits.TheConstants.{GREATEST_COUNT}
 use Rattle.rt_stamps.specs.declared.stamp.Stamp.{Stamp}
 use Rattle.rt_stamps.specs.Outcomes.{Refuses, first_of, unless}
 use Rattle.rt_stamps.specs.Words.{Word}
 use Rattle.rt_store.specs.declared.cell.Cell.{Cell}
 use Rattle.rt_store.specs.Cells.{after_element, map_state, text_of, visible_of}
-use Rattle.rt_store.specs.Tagged.{AreStates}
-use Rattle.rt_tags.specs.States.{IsByName, IsState, KeepsIds, TagStates, name_at, state_at}
-use Rattle.rt_tags.specs.Tags.{IsName}
+use Rattle.rt_tags.specs.States.{TagStates, state_at}
 use Rattle.rt_stamps.specs.Names.{name_check}
 use Rattle.rt_text.specs.Commands.{Edited, cell_check, clock_check, inserted, names_in, with_pieces_at}
-use Rattle.rt_edits.specs.declared.plan.Plan.{Plan}
-use Rattle.rt_edits.specs.Flat.{Flat, left_of, put_after}
+use Rattle.rt_edits.specs.Flat.{Flat, put_after}
 use Rattle.rt_store.specs.Shown.{TaggedCell, shown}
-use Rattle.rt_edits.specs.Insertions.{Insertion, Piece, all_listed, insertion_of, left_neighbour, right_neighbour}
-use Rattle.rt_store.specs.Written.{AreBelowNext, AreWritten, IsWritten}
-use Rattle.rt_edits.specs.Listed.{AreListed}
-use Rattle.rt_edits.specs.Planned.{planned}
-use Rattle.rt_text.specs.Widgets.{Own, own_inserted, widget_of}
-use Rattle.rt_edits.proofs.CellLaws.{known_put}
-use Rattle.rt_edits.proofs.ListedLaws.{listed_more}
-use Rattle.rt_text.proofs.ListedText.{IsAmong, ListsAll, all_still, insertion_lists, left_among, listed_put, names_of_all, text_among}
-use Rattle.rt_text.proofs.MarkLaws.{length_put}
+use Rattle.rt_edits.specs.Insertions.{Insertion, Piece, insertion_of, left_neighbour, right_neighbour}
+use Rattle.rt_text.specs.Widgets.{Own, widget_of}
 use Rattle.rt_text.proofs.ReadyLaws.{first_none, first_some}
-use Rattle.rt_edits.proofs.Shown.{left_shown, put_shown}
-use Rattle.rt_store.proofs.Shown.{shown_later, text_shown, visible_shown}
+use Rattle.rt_store.proofs.Shown.{text_shown, visible_shown}
 
 -- THE COMMAND, BY ITS CHECKS
 
@@ -78,14 +65,6 @@ clock_fine count h = ap (λ b. cond b (Some ClockSpent) None) (le-ltb GREATEST_C
 
 pub clock_spent : (count : ℕ) (more : List (Option Fault)) → GREATEST_COUNT < count → first_of (clock_check count ∷ more) ≡ Some ClockSpent
 clock_spent count more h = ap (λ b. first_of (cond b (Some ClockSpent) None ∷ more)) (lt-ltb GREATEST_COUNT count h)
-
-pub text_full : (count limit cells : ℕ) → count ≤ GREATEST_COUNT → limit < cells → first_of (clock_check count ∷ cell_check limit cells ∷ []) ≡ Some TextFull
-text_full count limit cells h k =
-    ap (λ o. first_of (o ∷ cell_check limit cells ∷ [])) (clock_fine count h) ∙ ap (λ b. first_of (cond b (Some TextFull) None ∷ [])) (lt-ltb limit cells k)
-
-pub all_checked : (count limit cells : ℕ) → count ≤ GREATEST_COUNT → cells ≤ limit → first_of (clock_check count ∷ cell_check limit cells ∷ []) ≡ None
-all_checked count limit cells h k =
-    ap (λ o. first_of (o ∷ cell_check limit cells ∷ [])) (clock_fine count h) ∙ ap (λ b. first_of (cond b (Some TextFull) None ∷ [])) (le-ltb limit cells k)
 
 -- WHAT A PLAN MAKES OF A DOCUMENT
 

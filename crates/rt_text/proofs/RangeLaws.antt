@@ -15,11 +15,11 @@ use Rattle.rt_text.specs.declared.distance.Measure.{Measure}
 use Rattle.rt_store.specs.Cells.{text_of}
 use Rattle.rt_edits.specs.Flat.{Flat}
 use Rattle.rt_text.specs.Index.{index_check, place_at_index}
-use Rattle.rt_text.specs.Ranges.{ranges_of, text_between, has_characters, texts_of}
+use Rattle.rt_text.specs.Ranges.{text_between, has_characters, texts_of}
 use Rattle.rt_text.specs.Comparisons.{comparison_of, holds_of}
 use Rattle.rt_text.specs.Distances.{measures_of, distance_of, or_indices}
 use Rattle.rt_text.specs.Widgets.{Own, widget_of}
-use Rattle.rt_text.specs.Commands.{compared, counted, got_list}
+use Rattle.rt_text.specs.Commands.{compared, counted}
 
 -- one index more
 pub places_more : (w : Widget) (words : List (String Global)) (i : ℕ) (word : String Global) (place : ℕ) → i < length words → word ≡ get_or words i word → index_of w (string_bytes word) ≡ Ok place
@@ -91,11 +91,3 @@ compared_by flat own first operator second comparison e =
     let w = widget_of flat own in
     ap (λ (o : Option Comparison). unless (first_of (cond (is_some o) None (Some BadOption) ∷ index_check w first ∷ index_check w second ∷ []))
     (unwrap_or (option_map (λ c. holds_of c (place_at_index w first) (place_at_index w second)) o) false)) e
-
--- what a fault of the indices makes
-pub list_refused : (flat : Flat) (own : Own) (indices : List Word) (fault found : Fault) → (found ≡ NoMemory) ⊎ (first_of (map (index_check (widget_of flat own)) indices) ≡ Some found) → fault ≡ found
-    → Refuses (got_list flat own indices) fault
-list_refused flat own indices fault found (inl e) f = inl (f ∙ e)
-list_refused flat own indices fault found (inr e) f =
-    let w = widget_of flat own in
-    inr (ap (λ r. unless r (texts_of (text_of flat.cells) (ranges_of (map (place_at_index w) indices)))) (e ∙ ap (λ x. Some x) (sym f)))

@@ -1,29 +1,22 @@
 -- What is prepared for an insertion.
-use Rattle.std.proofs.Common.{◌≡◌, ℕ, zero, suc, ◌+◌, ◌<◌, List, [], ◌∷◌, ◌++◌, true, false, All, Option, None, Some, Result, Ok, Err, ◌⊎◌, inl, inr, OnOk, length, take, drop, map, get_or, refl, sym, ◌∙◌, ap, subst, arith}
-use Rattle.std.specs.Prelude.{IfErr, IfSome, IsOk, ◌↔◌, option_map, slice_get}
-use Rattle.std.specs.Str.{bytes_eq, chars}
+use Rattle.std.proofs.Common.{◌≡◌, ℕ, ◌+◌, ◌<◌, List, [], ◌∷◌, ◌++◌, true, false, All, Option, None, Some, Result, Ok, Err, ◌⊎◌, inl, inr, OnOk, length, take, drop, map, get_or, refl, sym, ◌∙◌, ap, subst}
+use Rattle.std.specs.Prelude.{IfErr, IsOk, ◌↔◌}
+use Rattle.std.specs.Str.{bytes_eq}
 use Rattle.std.proofs.lemmas.Bool.{or_left, or_right}
-use Rattle.std.proofs.lemmas.List.{drop_more, get_or-map, length-map, map-append}
+use Rattle.std.proofs.lemmas.List.{drop_more, map-append}
 use Rattle.std.proofs.lemmas.List.Elements.{All-get_or, All-more, All-weaker}
 use Rattle.rt_stamps.specs.declared.fault.Fault.{Fault}
 use Rattle.rt_stamps.specs.declared.fault.Fault.TheVariants.{BadName, NoMemory}
 use Rattle.rt_stamps.specs.declared.stamp.Stamp.{Stamp}
 use Rattle.rt_stamps.specs.Outcomes.{first_of}
 use Rattle.rt_stamps.specs.Words.{Word}
-use Rattle.rt_store.specs.declared.cell.Cell.{Cell}
-use Rattle.rt_store.specs.Cells.{map_state, visible_of}
-use Rattle.rt_store.specs.Tagged.{AreStates}
-use Rattle.rt_tags.specs.States.{TagStates, IsState, KeepsIds, state_at}
 use Rattle.rt_tags.specs.Tags.{AlsoReady, IsName, Tags, is_ready, with_name}
 use Rattle.rt_tags.proofs.Places.{clash, name_itself}
 use Rattle.rt_stamps.specs.Names.{name_check}
 use Rattle.rt_text.specs.Commands.{names_in}
-use Rattle.rt_store.specs.Shown.{TaggedCell, shown}
 use Rattle.rt_edits.specs.InsertionPlans.{selected_between}
-use Rattle.rt_edits.specs.Insertions.{Insertion, Piece, all_listed, counts_for, insertion_of, last_of, left_neighbour, right_neighbour, tags_between, with_pieces, with_unlisted}
-use Rattle.rt_edits.proofs.PlanLaws.{pieces_from, unlisted_count}
-use Rattle.rt_text.proofs.SeenLaws.{visible_given}
-use Rattle.rt_store.proofs.Shown.{visible_at_shown}
+use Rattle.rt_edits.specs.Insertions.{Piece, all_listed}
+use Rattle.rt_edits.proofs.PlanLaws.{pieces_from}
 
 -- CHECKS
 

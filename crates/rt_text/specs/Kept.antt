@@ -1,5 +1,5 @@
 -- What is so of a document between commands, beside what is so of its replica.
-use Rattle.std.specs.Prelude.{ℕ, List, length}
+use Rattle.std.specs.Prelude.{List, length}
 use Rattle.rt_edits.specs.Listed.{AreListed}
 use Rattle.rt_marks.specs.Marks.{Mark}
 use Rattle.rt_stamps.specs.Words.{Word}

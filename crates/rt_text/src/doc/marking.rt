@@ -1,6 +1,6 @@
 // The site's marks.
 ghost use Rattle.std.specs.Prelude.{◌≡◌, ◌⊎◌, ◌↔◌, false, is_some, if◌then◌else◌, ◌≤◌, Ok, Err, None, IfErr, OnOk, OnErr, length, map, string_bytes};
-ghost use Rattle.rt_marks.specs.Marks.{IsName, named, marks_set, marks_with_gravity, without, without_all};
+ghost use Rattle.rt_marks.specs.Marks.{IsName, named, marks_set, marks_with_gravity, without_all};
 ghost use Rattle.rt_store.specs.Cells.{text_of};
 ghost use Rattle.rt_text.specs.Widgets.{AreSiteMarks, is_own};
 
@@ -31,14 +31,6 @@ impl<S: TextStore> Doc<S> {
         ensures fault { IfErr result (λ fault. (fault ≡ Fault.BadName) ⊎ (fault ≡ Fault.NoMemory)) }
     {
         self.marks.set(name, place)
-    }
-
-    /// Takes a mark of the site away ("mark unset"). Without a mark of the name nothing changes. It
-    /// takes no memory.
-    pub fn unset_mark(&mut self, name: &str)
-        ensures { self.new ≡ record self.old { marks = without name.now self.old.marks } }
-    {
-        self.marks.unset(name);
     }
 
     /// Takes marks of the site away ("mark unset"). Names without a mark are passed over. It takes no

@@ -1,4 +1,4 @@
-use Rattle.std.proofs.Common.{◌∙◌, ◌≡◌, ◌<◌, ap, arith, length, string_bytes, sym, true}
+use Rattle.std.proofs.Common.{◌∙◌, ◌≡◌, ◌<◌, arith, length, string_bytes, true}
 use Rattle.std.specs.Prelude.{IsOk}
 use Rattle.rt_tags.specs.Tags.{AlsoReady, IsName, is_ready, with_name}
 use Rattle.rt_text.proofs.ReadyLaws.{at_ok, listed_from, named_here, ready_still, sure}

@@ -1,4 +1,4 @@
-use Rattle.std.proofs.Common.{◌≡◌, All, String, List, string_bytes, subst, true}
+use Rattle.std.proofs.Common.{◌≡◌, All, string_bytes, subst, true}
 use Rattle.rt_tags.specs.Tags.{is_ready}
 use Rattle.rt_text.proofs.ReadyLaws.{anyway}
 use Rattle.rt_text.proofs.preparing.make_room.Goals as goal

@@ -1,10 +1,7 @@
 use Rattle.std.proofs.Common.{◌≡◌, ◌∙◌, ◌-◌, ap, arith, inr, length, map, min}
 use Rattle.std.proofs.lemmas.Result.{err_from_is_err_and}
 use Rattle.rt_store.specs.Cells.{text_of}
-use Rattle.rt_text.specs.Commands.{names_in}
-use Rattle.rt_edits.specs.Flat.{Flat}
 use Rattle.rt_edits.specs.Selected.{stamps_in}
-use Rattle.rt_stamps.proofs.Names.{all_named}
 use Rattle.rt_text.proofs.PutLaws.{all_refused, both_done, done_by, either, refused_index, refused_name, text_same, visible_same}
 use Rattle.rt_text.proofs.doc.Doc.insert.Goals as goal
 
