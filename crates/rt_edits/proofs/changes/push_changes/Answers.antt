@@ -7,12 +7,12 @@ use Rattle.rt_stamps.specs.Words.{Word}
 use Rattle.rt_stamps.specs.declared.limits.TheConstants.{MOST_SPANS}
 use Rattle.rt_stamps.specs.declared.stamp.Span.{Span}
 use Rattle.rt_oplog.specs.Edits.{body_of}
-use Rattle.rt_oplog.specs.Operations.{Body, Tag}
+use Rattle.rt_oplog.specs.Operations.{Tag}
 use Rattle.rt_store.specs.Shown.{shown}
 use Rattle.rt_store.proofs.Shown.{distinct_shown}
 use Rattle.rt_tags.specs.States.{TagStates, is_on, name_at, state_at}
 use Rattle.rt_edits.specs.NamedSpans.{parts_of, spans_in}
-use Rattle.rt_edits.specs.TagWrites.{changed_stamps, is_changed}
+use Rattle.rt_edits.specs.TagWrites.{is_changed}
 use Rattle.rt_edits.specs.Working.{Numbers}
 use Rattle.rt_edits.proofs.TagDocuments.{distinct_some}
 use Rattle.rt_edits.proofs.changes.push_changes.Goals as goal
