@@ -3,6 +3,7 @@ pub mod CharacterCounts
 pub mod ChosenLaws
 pub mod Cutting
 pub mod DeletionDraftLaws
+pub mod DeletionsInTurn
 pub mod DistinctLaws
 pub mod DraftSteps
 pub mod FoundLaws
