@@ -70,7 +70,7 @@ map_same [] = refl
 map_same (c ∷ cs) = ap (λ l. c ∷ l) (map_same cs)
 
 -- a tag that no character has
-absent_tag : (flat : Flat) (name : Word) → All (λ c. is_on name c.state ≡ false) (visible_of flat.cells) → with_tag_at flat everywhere false name ≡ flat
+pub absent_tag : (flat : Flat) (name : Word) → All (λ c. is_on name c.state ≡ false) (visible_of flat.cells) → with_tag_at flat everywhere false name ≡ flat
 absent_tag flat name h =
     let none : changed_stamps name false (cells_at everywhere 0 flat.cells) ≡ [] = ap (changed_stamps name false) (every_cell 0 flat.cells) ∙ ap (map (λ (c : TaggedCell). c.stamp)) (none_changed name (visible_of flat.cells) h) in
     ap (with_tag flat name false) none ∙ (λ i. record flat { cells = map_same flat.cells i; count = add-zero flat.count i })
