@@ -1,7 +1,7 @@
 -- Tags that are deleted in turn: which characters each of them still names.
-use Rattle.std.proofs.Common.{◌≡◌, ℕ, List, [], ◌∷◌, Bool, true, false, ◌||◌, cond, All, filter, map, refl, sym, ◌∙◌, ap, subst}
+use Rattle.std.proofs.Common.{◌≡◌, ℕ, List, [], ◌∷◌, ◌++◌, Bool, true, false, ◌||◌, cond, All, filter, map, refl, sym, ◌∙◌, ap, subst}
 use Rattle.std.specs.Str.{bytes_eq}
-use Rattle.std.proofs.lemmas.Bool.{cond-false, or_parts}
+use Rattle.std.proofs.lemmas.Bool.{cond-false, cond-true, or_parts}
 use Rattle.std.proofs.lemmas.Slice.Eq.{bytes_eq-Decides}
 use Rattle.rt_stamps.specs.declared.stamp.Stamp.{Stamp}
 use Rattle.rt_stamps.specs.Words.{Word}
@@ -13,11 +13,12 @@ use Rattle.rt_tags.proofs.Places.{split}
 use Rattle.rt_store.specs.Written.{AreWritten}
 use Rattle.rt_edits.specs.Flat.{Flat}
 use Rattle.rt_edits.specs.Removals.{cells_at}
+use Rattle.rt_edits.specs.TagDrafts.{deletion_drafts, tag_drafts}
 use Rattle.rt_edits.specs.TagWrites.{changed_stamps, is_changed, tagged, with_tag_at, without_tag}
 use Rattle.rt_edits.proofs.ListedWrites.{every_cell, everywhere, nowhere_on}
 use Rattle.rt_edits.proofs.Putting.{cells_at_changed, tagged_state}
 use Rattle.rt_edits.proofs.TagEffects.{other_tag, stamp_kept}
-use Rattle.rt_edits.proofs.TagPlaces.{none_changed, still_absent}
+use Rattle.rt_edits.proofs.TagPlaces.{absent_tag, none_changed, still_absent}
 use Rattle.rt_edits.proofs.WriterLaws.{tag_written}
 
 stamps_step : (b d : Bool) (x y : TaggedCell) (xs ys : List TaggedCell) → b ≡ d → x.stamp ≡ y.stamp → stamps_of xs ≡ stamps_of ys → stamps_of (cond b (x ∷ xs) xs) ≡ stamps_of (cond d (y ∷ ys) ys)
@@ -68,9 +69,39 @@ turn_more flat doc seen name f h =
     let turned : Turn flat next (name ∷ seen) = record {
       written = tag_written doc everywhere false name h.written;
       off = λ q e. split (bytes_eq q name)
-      (λ t. subst (λ w. IsOff w next.cells) (sym ((bytes_eq-Decides q name).0 t)) (nowhere_on doc name h.written))
-      (λ n. still_absent doc name q (h.off q (ap (λ b. b || is_listed q seen) (sym n) ∙ e)));
+          (λ t. subst (λ w. IsOff w next.cells) (sym ((bytes_eq-Decides q name).0 t)) (nowhere_on doc name h.written))
+          (λ n. still_absent doc name q (h.off q (ap (λ b. b || is_listed q seen) (sym n) ∙ e)));
       absent = λ q k. still_absent doc name q (h.absent q k);
       same = λ q e. let p = or_parts (bytes_eq q name) (is_listed q seen) e in other_still doc name q p.0 ∙ h.same q p.1;
     } in
     subst (λ (d : Flat). Turn flat d (name ∷ seen)) (sym (cond-false (bytes_eq name sel) doc next f)) turned
+
+-- a tag that is on no visible character, or `sel`
+pub turn_off : (flat doc : Flat) (seen : List Word) (name : Word) → IsOff name doc.cells → Turn flat doc seen → Turn flat (without_tag doc name) seen
+turn_off flat doc seen name k h =
+    let off : Flat = with_tag_at doc everywhere false name in
+    let next : Flat = record off { tags = without name off.tags } in
+    let same : record doc { tags = without name doc.tags } ≡ next = sym (ap (λ (d : Flat). record d { tags = without name doc.tags }) (absent_tag doc name k)) in
+    let kept : Turn flat (record doc { tags = without name doc.tags }) seen = record { written = h.written; off = h.off; absent = h.absent; same = h.same } in
+    split (bytes_eq name sel)
+    (λ t. subst (λ (d : Flat). Turn flat d seen) (sym (cond-true (bytes_eq name sel) doc next t)) h)
+    (λ f. subst (λ (d : Flat). Turn flat d seen) (same ∙ sym (cond-false (bytes_eq name sel) doc next f)) kept)
+
+-- its operations
+pub drafts_off : (most : ℕ) (doc : Flat) (name : Word) (names : List Word) → tag_drafts most false name [] ≡ [] → IsOff name doc.cells
+    → deletion_drafts most doc (name ∷ names) ≡ deletion_drafts most (without_tag doc name) names
+drafts_off most doc name names n k =
+    let drafts = tag_drafts most false name (changed_stamps name false (cells_at everywhere 0 doc.cells)) in
+    let none : drafts ≡ [] = ap (tag_drafts most false name) (none_named doc.cells name k) ∙ n in
+    let rest = deletion_drafts most (without_tag doc name) names in
+    split (bytes_eq name sel)
+    (λ t. ap (λ l. l ++ rest) (cond-true (bytes_eq name sel) [] drafts t))
+    (λ f. ap (λ l. l ++ rest) (cond-false (bytes_eq name sel) [] drafts f ∙ none))
+
+-- the operations of one that isn't off yet
+pub drafts_more : (most : ℕ) (flat doc : Flat) (seen : List Word) (name : Word) (names : List Word) → bytes_eq name sel ≡ false → is_listed name seen ≡ false → Turn flat doc seen
+    → deletion_drafts most doc (name ∷ names) ≡ tag_drafts most false name (changed_stamps name false (cells_at everywhere 0 flat.cells)) ++ deletion_drafts most (without_tag doc name) names
+drafts_more most flat doc seen name names f new h =
+    let drafts = tag_drafts most false name (changed_stamps name false (cells_at everywhere 0 doc.cells)) in
+    let rest = deletion_drafts most (without_tag doc name) names in
+    ap (λ l. l ++ rest) (cond-false (bytes_eq name sel) [] drafts f ∙ ap (tag_drafts most false name) (h.same name new))
