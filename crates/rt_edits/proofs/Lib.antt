@@ -4,6 +4,7 @@ pub mod ChosenLaws
 pub mod Cutting
 pub mod DeletedNames
 pub mod DeletionDraftLaws
+pub mod DeletionsInTurn
 pub mod DistinctLaws
 pub mod DraftSteps
 pub mod FoundLaws

@@ -148,7 +148,7 @@ changed_among name on (x ∷ xs) =
     (λ k d lt e. among_more (is_changed name on x) x (filter (is_changed name on) xs) (get_or xs k d).stamp (changed_among name on xs k d lt e))
 
 -- no character has it then
-nowhere_on : (flat : Flat) (name : Word) → AreWritten flat.count flat.cells → All (λ c. is_on name c.state ≡ false) (visible_of (with_tag_at flat everywhere false name).cells)
+pub nowhere_on : (flat : Flat) (name : Word) → AreWritten flat.count flat.cells → All (λ c. is_on name c.state ≡ false) (visible_of (with_tag_at flat everywhere false name).cells)
 nowhere_on flat name known =
     let stamps = changed_stamps name false (cells_at everywhere 0 flat.cells) in
     let P : TaggedCell → Type 0 = λ c. IsWritten flat.count c.state × (is_on name c.state ≡ true → is_among stamps c.stamp ≡ true) in

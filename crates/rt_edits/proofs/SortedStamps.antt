@@ -49,9 +49,9 @@ same_order (s ∷ ss) (t ∷ ts) h k e =
     let same : is_same s t ≡ true = same_first s t ss ts behind_s behind_t (e t ∙ first_among t ts) (sym (e s) ∙ first_among s ss) in
     let one : s ≡ t = same_from_true s t same in
     let rest : (x : Stamp) → is_among ss x ≡ is_among ts x = λ x. split (is_same s x)
-        (λ f. let g : s ≡ x = same_from_true s x f in
-        ap (is_among ss) (sym g) ∙ not_behind s ss behind_s ∙ sym (not_behind t ts behind_t) ∙ ap (is_among ts) (sym one ∙ g))
-        (λ f. ap (λ b. b || is_among ss x) (sym f) ∙ e x ∙ ap (λ b. b || is_among ts x) (ap (λ u. is_same u x) (sym one) ∙ f)) in
+    (λ f. let g : s ≡ x = same_from_true s x f in
+    ap (is_among ss) (sym g) ∙ not_behind s ss behind_s ∙ sym (not_behind t ts behind_t) ∙ ap (is_among ts) (sym one ∙ g))
+    (λ f. ap (λ b. b || is_among ss x) (sym f) ∙ e x ∙ ap (λ b. b || is_among ts x) (ap (λ u. is_same u x) (sym one) ∙ f)) in
     λ i. one i ∷ same_order ss ts (tail_next precedes s ss h) (tail_next precedes t ts k) rest i
 
 -- stamps that differ, moved into that order, are the stamps by site

@@ -40,7 +40,7 @@ distinct_step : (b : Bool) (x : Stamp) (ys : List Stamp) → is_among ys x ≡ f
 distinct_step true x ys e h = distinct_more x ys e h
 distinct_step false x ys e h = h
 
-distinct_some : (test : TaggedCell → Bool) (cells : List TaggedCell) → AreDistinct cells → IsDistinct is_same (stamps_of (filter test cells))
+pub distinct_some : (test : TaggedCell → Bool) (cells : List TaggedCell) → AreDistinct cells → IsDistinct is_same (stamps_of (filter test cells))
 distinct_some test [] h = none_distinct
 distinct_some test (c ∷ cs) h =
     let rest = distinct_some test cs (others_distinct c.stamp (stamps_of cs) h) in

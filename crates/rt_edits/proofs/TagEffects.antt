@@ -26,7 +26,7 @@ use Rattle.rt_edits.proofs.WriterLaws.{all_map, written_as}
 -- STAMPS
 
 module _ (site count : ℕ) (name : Word) (on : Bool) (stamps : List Stamp) where
-  stamp_kept : (cell : TaggedCell) → (tagged site count name on stamps cell).stamp ≡ cell.stamp
+  pub stamp_kept : (cell : TaggedCell) → (tagged site count name on stamps cell).stamp ≡ cell.stamp
   stamp_kept cell = ap (λ (c : TaggedCell). c.stamp) (tagged_state site count name on stamps cell)
 
   here : (cell : TaggedCell) → is_among stamps cell.stamp ≡ true → tagged site count name on stamps cell ≡ with_state (written (tag_write site count name on stamps cell.stamp) cell.state) cell
@@ -54,7 +54,7 @@ module _ (site count : ℕ) (name : Word) (on : Bool) (stamps : List Stamp) wher
       (λ f. λ i. cond (not (is_among stamps (elsewhere c f i).stamp)) (elsewhere c f i ∷ others_stay cs i) (others_stay cs i))
 
   -- other tags
-  other_tag : (other : Word) → bytes_eq other name ≡ false → (cell : TaggedCell) → write_of other (tagged site count name on stamps cell).state ≡ write_of other cell.state
+  pub other_tag : (other : Word) → bytes_eq other name ≡ false → (cell : TaggedCell) → write_of other (tagged site count name on stamps cell).state ≡ write_of other cell.state
   other_tag other e cell =
       split (is_among stamps cell.stamp)
       (λ t. ap (λ (c : TaggedCell). write_of other c.state) (here cell t) ∙ write_of_written other (tag_write site count name on stamps cell.stamp) cell.state ∙ cond-false (bytes_eq other name) _ _ e)

@@ -59,7 +59,7 @@ with_other_tags : (names : List Word) (flat : Flat) (tags : List Word) (s : ℕ 
 with_other_tags [] flat tags s on = refl
 with_other_tags (name ∷ names) flat tags s on = with_other_tags names (with_tag_at flat s on name) tags s on
 
-none_changed : (name : Word) (cells : List TaggedCell) → All (λ c. is_on name c.state ≡ false) cells → filter (is_changed name false) cells ≡ []
+pub none_changed : (name : Word) (cells : List TaggedCell) → All (λ c. is_on name c.state ≡ false) cells → filter (is_changed name false) cells ≡ []
 none_changed name [] h = refl
 none_changed name (c ∷ cs) h =
     let P : TaggedCell → Type 0 = λ c. is_on name c.state ≡ false in
@@ -70,13 +70,13 @@ map_same [] = refl
 map_same (c ∷ cs) = ap (λ l. c ∷ l) (map_same cs)
 
 -- a tag that no character has
-absent_tag : (flat : Flat) (name : Word) → All (λ c. is_on name c.state ≡ false) (visible_of flat.cells) → with_tag_at flat everywhere false name ≡ flat
+pub absent_tag : (flat : Flat) (name : Word) → All (λ c. is_on name c.state ≡ false) (visible_of flat.cells) → with_tag_at flat everywhere false name ≡ flat
 absent_tag flat name h =
     let none : changed_stamps name false (cells_at everywhere 0 flat.cells) ≡ [] = ap (changed_stamps name false) (every_cell 0 flat.cells) ∙ ap (map (λ (c : TaggedCell). c.stamp)) (none_changed name (visible_of flat.cells) h) in
     ap (with_tag flat name false) none ∙ (λ i. record flat { cells = map_same flat.cells i; count = add-zero flat.count i })
 
 -- where no character has a tag, none has it after another was taken off
-still_absent : (flat : Flat) (name q : Word) → All (λ c. is_on q c.state ≡ false) (visible_of flat.cells) → All (λ c. is_on q c.state ≡ false) (visible_of (with_tag_at flat everywhere false name).cells)
+pub still_absent : (flat : Flat) (name q : Word) → All (λ c. is_on q c.state ≡ false) (visible_of flat.cells) → All (λ c. is_on q c.state ≡ false) (visible_of (with_tag_at flat everywhere false name).cells)
 still_absent flat name q h =
     let stamps = changed_stamps name false (cells_at everywhere 0 flat.cells) in
     visible_after (λ c. is_on q c.state ≡ false) (λ c. is_on q c.state ≡ false) flat everywhere false name

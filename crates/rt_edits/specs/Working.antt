@@ -6,7 +6,7 @@ use Rattle.rt_stamps.specs.Words.{Word}
 use Rattle.rt_store.specs.declared.cell.Cell.{Cell}
 use Rattle.rt_store.specs.Cells.{is_in_span, with_state}
 use Rattle.std.specs.Str.{bytes_eq}
-use Rattle.rt_tags.specs.States.{TagStates, IsTag, is_on, name_at, state_at}
+use Rattle.rt_tags.specs.States.{TagStates, is_on, name_at, state_at}
 use Rattle.rt_tags.specs.Tags.{sel, forgotten, is_listed}
 use Rattle.rt_edits.specs.declared.tagging.StateRun.{StateRun}
 use Rattle.rt_store.specs.Shown.{TaggedCell}

@@ -50,7 +50,8 @@ fn changed_stamps(
 ) -> Result<Vec<Stamp>, Fault>
     requires tag { IfSome tag.now (IsTag states.now) }
     requires states { AreStates states.now cells.now }
-    ensures ok { IfOk result (λ stamps. (name : Word) → Numbers states.now name tag.now → stamps.items ≡ changed_stamps name on (map (shown states.now) cells.now)) }
+    ensures ok { IfOk result (λ stamps. (name : Word) → Numbers states.now name tag.now
+        → stamps.items ≡ changed_stamps name on (map (shown states.now) cells.now)) }
     ensures err { IfErr result (λ fault. fault ≡ Fault.NoMemory) }
 {
     let mut stamps = Vec::new(alloc);

@@ -16,7 +16,8 @@ pub(crate) fn push_deletes(
     drafts: &mut Vec<Draft>,
     spans: &[Span],
 ) -> Result<(), Fault>
-    ensures ok { OnOk result (map body_of drafts.new.items ≡ map body_of drafts.old.items ++ map (λ part. Delete part) (parts_of MOST_SPANS spans.now)) }
+    ensures ok { OnOk result (map body_of drafts.new.items
+        ≡ map body_of drafts.old.items ++ map (λ part. Delete part) (parts_of MOST_SPANS spans.now)) }
     ensures err { IfErr result (λ fault. fault ≡ Fault.NoMemory) }
 {
     for part in spans.chunks(MOST_SPANS) {
@@ -35,7 +36,8 @@ pub(crate) fn push_tags(
     name: &str,
     spans: &[Span],
 ) -> Result<(), Fault>
-    ensures ok { OnOk result (map body_of drafts.new.items ≡ map body_of drafts.old.items ++ map (λ part. Tag on name.now part) (parts_of MOST_SPANS spans.now)) }
+    ensures ok { OnOk result (map body_of drafts.new.items
+        ≡ map body_of drafts.old.items ++ map (λ part. Tag on name.now part) (parts_of MOST_SPANS spans.now)) }
     ensures err { IfErr result (λ fault. fault ≡ Fault.NoMemory) }
 {
     for part in spans.chunks(MOST_SPANS) {

@@ -11,7 +11,7 @@ use Rattle.rt_store.specs.Shown.{shown}
 use Rattle.rt_store.proofs.Shown.{text_shown}
 use Rattle.rt_tags.specs.States.{TagStates, state_at}
 use Rattle.rt_edits.specs.declared.range.Range.{Range}
-use Rattle.rt_edits.specs.Deletions.{delete_drafts, last_tags}
+use Rattle.rt_edits.specs.Deletions.{last_tags}
 use Rattle.rt_edits.specs.Flat.{Flat}
 use Rattle.rt_edits.specs.NamedSpans.{parts_of, spans_in}
 use Rattle.rt_edits.specs.RemovalDrafts.{removal_drafts}

@@ -1,4 +1,4 @@
-use Rattle.std.proofs.Common.{◌∙◌, ap, arith, map, rules}
+use Rattle.std.proofs.Common.{◌∙◌, map, rules}
 use Rattle.std.specs.Slice.Iter.{chunks_rest}
 use Rattle.rt_oplog.specs.declared.op.Edit.TheVariants as edits
 use Rattle.rt_oplog.specs.Edits.{body_of}
