@@ -1,5 +1,6 @@
 mod Measures
 mod Around
+mod Filled
 mod Down
 mod Going
 mod Texts
