@@ -3,6 +3,7 @@ mod Around
 mod Filled
 mod Down
 mod Going
+mod Rising
 mod Texts
 mod CellLaws
 mod Stands
