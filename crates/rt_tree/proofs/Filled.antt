@@ -1,12 +1,11 @@
 -- A tree has many runs for its height.
-use Rattle.std.proofs.Common.{◌≡◌, ℕ, zero, suc, ◌+◌, ◌*◌, ◌^◌, ◌<◌, ◌≤◌, List, [], ◌∷◌, ◌++◌, length, refl, sym, ap, ◌∙◌, arith, subst, length-append}
+use Rattle.std.proofs.Common.{◌≡◌, ℕ, zero, suc, ◌*◌, ◌^◌, ◌<◌, ◌≤◌, List, [], ◌∷◌, length, refl, sym, ap, ◌∙◌, arith, subst, length-append}
 use Rattle.std.proofs.Math.Nat.{pow-succ', mul-le-mul_right, suc-mul}
-use Rattle.std.proofs.lemmas.Bool.{cases_eq}
 use Rattle.std.specs.List.{AllByRecursion}
 use Rattle.rt_nodes.specs.Nodes.{entries}
 use Rattle.rt_tree.specs.declared.node.Entry.{Entry}
 use Rattle.rt_tree.specs.declared.node.Entry.TheVariants.{Down, Here}
-use Rattle.rt_tree.specs.Shape.{Memory, Fits, IsFilled, IsTree, all_below, below, runs, level_of, tree_runs}
+use Rattle.rt_tree.specs.Shape.{Memory, Fits, IsTree, all_below, below, runs, level_of, tree_runs}
 use Rattle.rt_tree.proofs.Around.{test_other, test_same}
 
 -- each entry of a node at a level has so many runs or more below it

@@ -1,5 +1,5 @@
 -- A walk from a leaf up to the root.
-use Rattle.std.proofs.Common.{◌≡◌, ℕ, zero, suc, ◌+◌, ◌-◌, ◌<◌, ◌≤◌, ◌==◌, Bool, true, false, if◌then◌else◌, inl, inr, List, [], ◌∷◌, ◌++◌, length, take, drop, get_or, refl, sym, ap, ◌∙◌, arith, subst}
+use Rattle.std.proofs.Common.{◌≡◌, ℕ, zero, suc, ◌-◌, ◌<◌, ◌≤◌, Bool, true, false, inl, inr, List, [], ◌∷◌, ◌++◌, length, take, drop, get_or, sym, ap, ◌∙◌, arith, subst}
 use Rattle.std.proofs.lemmas.Bool.{cases_eq, eq-eqb, ne_eqb, true≢false}
 use Rattle.std.proofs.lemmas.List.{take-append-drop}
 use Rattle.std.proofs.lemmas.List.Concat.{flat_map-append}
@@ -8,14 +8,13 @@ use Rattle.rt_nodes.specs.Nodes.{entries}
 use Rattle.rt_nodes.specs.declared.memory.NodeId.{NodeId}
 use Rattle.rt_tree.specs.declared.node.Totals.{Totals}
 use Rattle.rt_tree.specs.declared.node.Counts.{Counts}
-use Rattle.rt_tree.specs.declared.node.Run.{Run}
 use Rattle.rt_tree.specs.declared.node.Entry.{Entry}
 use Rattle.rt_tree.specs.declared.node.Entry.TheVariants.{Down, Here}
-use Rattle.rt_tree.specs.Shape.{Memory, IsExact, IsTree, ahead, all_below, around, behind, below, count_of, entry_counts, is_of, left_of, level_of, parent_of, runs, runs_before, sum_of, tree_runs}
-use Rattle.rt_tree.specs.Sums.{AreFew, counts_of, no_counts, plus}
-use Rattle.rt_tree.proofs.Around.{below_top, cut_at, cut_around, test_other, test_same}
-use Rattle.rt_tree.proofs.Down.{each-take, sum-front}
-use Rattle.rt_tree.proofs.Measures.{Le, counts-append, few-more, none-plus, plus_assoc, plus_comm, sum-exact}
+use Rattle.rt_tree.specs.Shape.{Memory, IsExact, IsTree, ahead, all_below, around, behind, below, count_of, entry_counts, is_of, left_of, level_of, parent_of, runs_before, sum_of, tree_runs}
+use Rattle.rt_tree.specs.Sums.{AreFew, counts_of, plus}
+use Rattle.rt_tree.proofs.Around.{cut_at, cut_around, test_other, test_same}
+use Rattle.rt_tree.proofs.Down.{sum-front}
+use Rattle.rt_tree.proofs.Measures.{Le, counts-append, none-plus, plus_assoc, plus_comm, sum-exact}
 
 -- what the runs before an entry of a leaf count is what stands before a node above it, and so much more
 pub record Rising (m : Memory) (root leaf entry id : ℕ) (before : Counts) : Type 0 where
@@ -61,9 +60,9 @@ miss id (Down c t ∷ es) zero e low lt is to = elim (cases_eq c.index id) [
 miss id (Down c t ∷ es) (suc i) e low lt is to = elim (cases_eq c.index id) [
   | inl same ↦ let z = subst (λ l. suc i ≤ length l) (left_here id c t es same) low in absurd (omega (arith, z))
   | inr ne ↦
-    let z = subst (λ l. suc i ≤ length l) (left_later id c t es ne) low in
-    let more = miss id es i e (omega (arith, z)) (omega (arith, lt)) is to in
-    subst (λ ls. Within ls (suc i) e) (sym (left_later id c t es ne)) (omega (arith, more.0), more.1)
+      let z = subst (λ l. suc i ≤ length l) (left_later id c t es ne) low in
+      let more = miss id es i e (omega (arith, z)) (omega (arith, lt)) is to in
+      subst (λ ls. Within ls (suc i) e) (sym (left_later id c t es ne)) (omega (arith, more.0), more.1)
 ]
 
 pub shorter : (id : ℕ) (es : List Entry) → 0 < count_of id es → length (left_of id es) < length es
@@ -72,9 +71,9 @@ shorter id (Here r ∷ es) some = let less = shorter id es some in omega (arith,
 shorter id (Down c t ∷ es) some = elim (cases_eq c.index id) [
   | inl same ↦ subst (λ l. length l < suc (length es)) (sym (left_here id c t es same)) (omega arith)
   | inr ne ↦
-    let other = test_other {X = ℕ} c.index id 1 0 ne in
-    let less = shorter id es (omega (arith, some, other)) in
-    subst (λ l. length l < suc (length es)) (sym (left_later id c t es ne)) (omega (arith, less))
+      let other = test_other {X = ℕ} c.index id 1 0 ne in
+      let less = shorter id es (omega (arith, some, other)) in
+      subst (λ l. length l < suc (length es)) (sym (left_later id c t es ne)) (omega (arith, less))
 ]
 
 le-first : (es : List Entry) (i n : ℕ) (e : Entry) → i < n → i < length es → e ≡ get_or es i e → Le (plus (sum_of (take i es)) (entry_counts e)) (sum_of (take n es))

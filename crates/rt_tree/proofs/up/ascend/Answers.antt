@@ -1,7 +1,6 @@
-use Rattle.std.proofs.Common.{◌≡◌, ℕ, take, refl, arith, sym, ap, ◌∙◌, subst}
+use Rattle.std.proofs.Common.{◌≡◌, ℕ, refl, arith, sym, ap, ◌∙◌, subst}
 use Rattle.rt_nodes.specs.Nodes.{entries}
-use Rattle.rt_tree.specs.declared.node.Counts.{Counts}
-use Rattle.rt_tree.specs.Shape.{IsTree, Memory, left_of, level_of, parent_of, runs_before, sum_of, tree_runs}
+use Rattle.rt_tree.specs.Shape.{IsTree, Memory, left_of, level_of, parent_of, runs_before, sum_of}
 use Rattle.rt_tree.specs.Sums.{AreFew, counts_of, plus}
 use Rattle.rt_tree.proofs.Rising.{Rising, arrives, few-above, few-before, few-own, goes_up, sets_out}
 use Rattle.rt_tree.proofs.Stands.{parted}
@@ -65,7 +64,7 @@ loop-node-preserved g c =
     let next = c.counts_with_left-before in
     let parent : c.parent-parent.result.index ≡ parent_of m id = c.parent-parent.ensures ∙ ap (λ n. parent_of n id) old.same in
     let left : next.result ≡ plus c.loop-node.before (sum_of (left_of id (entries m (parent_of m id)))) =
-        next.ensures.value ∙ ap (λ n. plus c.loop-node.before (sum_of (left_of id (entries n c.parent-parent.result.index)))) old.same ∙ ap (λ p. plus c.loop-node.before (sum_of (left_of id (entries m p)))) parent in
+    next.ensures.value ∙ ap (λ n. plus c.loop-node.before (sum_of (left_of id (entries n c.parent-parent.result.index)))) old.same ∙ ap (λ p. plus c.loop-node.before (sum_of (left_of id (entries m p)))) parent in
     let up = ap (level_of m) parent in
     record {
       rising = subst (λ p. Rising m root leaf c.args.entry p next.result) (sym parent) (goes_up m root tree leaf c.args.entry id c.loop-node.before next.result old.rising c.loop-node-test.true left);

@@ -1,4 +1,4 @@
-use Rattle.std.proofs.Common.{◌≡◌, ◌+◌, ◌-◌, ◌*◌, ◌≤◌, ◌<◌, length}
+use Rattle.std.proofs.Common.{◌≡◌, ◌+◌, ◌-◌, ◌*◌, ◌≤◌}
 use Rattle.rt_tree.specs.Shape.{level_of}
 use Rattle.rt_tree.proofs.Rising.{Rising}
 use Rattle.rt_tree.proofs.up.ascend.Given as goal

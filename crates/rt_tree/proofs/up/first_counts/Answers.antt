@@ -1,7 +1,7 @@
-use Rattle.std.proofs.Common.{◌≡◌, ◌<◌, get_or, take, arith, sym, ap, ◌∙◌, subst}
+use Rattle.std.proofs.Common.{◌≡◌, get_or, take, arith, sym, ap, ◌∙◌, subst}
 use Rattle.rt_nodes.specs.Nodes.{entries}
 use Rattle.rt_tree.specs.declared.node.Counts.{Counts}
-use Rattle.rt_tree.specs.Shape.{entry_counts, sum_of}
+use Rattle.rt_tree.specs.Shape.{sum_of}
 use Rattle.rt_tree.specs.Sums.{AreFew, plus}
 use Rattle.rt_tree.proofs.Measures.{sum-more}
 use Rattle.rt_tree.proofs.Rising.{few-first}

@@ -1,4 +1,4 @@
-use Rattle.std.proofs.Common.{◌≡◌, ℕ, suc, ◌-◌, ◌*◌, ◌^◌, ◌≤◌, length, ap, arith, subst, ◌∙◌}
+use Rattle.std.proofs.Common.{◌≡◌, suc, ◌-◌, ◌*◌, ◌^◌, ◌≤◌, length, ap, arith, subst}
 use Rattle.rt_tree.specs.Shape.{level_of, tree_runs}
 use Rattle.rt_tree.proofs.Filled.{full_tree}
 use Rattle.rt_tree.proofs.tree.Tree.height.Goals as goal
