@@ -55,7 +55,8 @@ fn counts_with_left<L: Looks>(looks: &mut L, parent: NodeId, node: NodeId, more:
     unreachable!()
 }
 
-/// What the runs before an entry of a leaf count. It takes at most sixteen looks a level.
+/// What the runs before an entry of a leaf count, or before its end, where `entry` is how many it has. It takes at most
+/// sixteen looks a level, and no memory.
 pub fn ascend<L: Looks>(looks: &mut L, root: NodeId, leaf: NodeId, entry: usize) -> Counts
     requires tree { IsTree (L.nodes looks.old) root.index }
     requires few { AreFew (counts_of (tree_runs (L.nodes looks.old) root.index)) }
