@@ -1,5 +1,5 @@
 -- Facts on the rows of a memory.
-use Rattle.std.proofs.Common.{◌≡◌, ℕ, zero, suc, ◌<◌, ◌≤◌, List, [], ◌∷◌, ◌++◌, length, get_or, set, map, take, drop, refl, sym, ap, arith, ◌+◌, ◌-◌, length-append, length-drop, length-take, length-set, ◌∙◌}
+use Rattle.std.proofs.Common.{◌≡◌, ℕ, zero, suc, ◌<◌, ◌≤◌, List, [], ◌∷◌, ◌++◌, length, get_or, set, map, take, drop, refl, ap, arith, ◌+◌, ◌-◌, length-append, length-drop, length-take, length-set, ◌∙◌}
 use Rattle.std.proofs.lemmas.List.{map-set}
 use Rattle.std.specs.List.{refill}
 use Rattle.rt_nodes.specs.Rows.{Row, row, row_items, row_at, with_items, with_tail_moved, AreEmpty}

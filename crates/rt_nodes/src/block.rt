@@ -101,14 +101,8 @@ fn insert_reserved<T>(row: &mut Vec<T>, i: usize, x: T)
     ensures len { length row.new.items ≡ length row.old.items + 1 }
     ensures capacity { vec_capacity row.new ≡ vec_capacity row.old }
 {
-    row.push_reserved(x);
-    last_to(row.as_mut_slice(), i);
-}
-
-// Moves the last element to `index`, and the elements from there on up.
-fn last_to<T>(items: &mut [T], index: usize)
-    requires { index < length items.old }
-    ensures { (front : List T) (last : T) → items.old ≡ front ++ last ∷ [] → items.new ≡ insert front index last }
-{
-    items[index..].rotate_right(1);
+    match row.insert(i, x) {
+        Ok(()) => {}
+        Err(_) => unreachable!(),
+    }
 }

@@ -1,7 +1,9 @@
 mod Measures
 mod Around
+mod Filled
 mod Down
 mod Going
+mod Rising
 mod Texts
 mod CellLaws
 mod Stands

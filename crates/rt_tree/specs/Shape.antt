@@ -1,5 +1,5 @@
 -- The runs that a memory of nodes holds, below a root.
-use Rattle.std.specs.Prelude.{◌≡◌, ◌≢◌, ℕ, zero, suc, ◌+◌, ◌<◌, ◌≤◌, ◌==◌, if◌then◌else◌, List, [], ◌∷◌, ◌++◌, length, flat_map, slice_index_or, take}
+use Rattle.std.specs.Prelude.{◌≡◌, ◌≢◌, ℕ, zero, suc, ◌+◌, ◌<◌, ◌≤◌, ◌==◌, Bool, false, if◌then◌else◌, List, [], ◌∷◌, ◌++◌, length, flat_map, slice_index_or, take}
 use Rattle.std.specs.List.{AllByRecursion}
 use Rattle.rt_nodes.specs.Nodes.{Nodes, entries}
 use Rattle.rt_tree.specs.declared.node.Counts.{Counts}
@@ -58,6 +58,11 @@ Fits m id (suc k) (Down c t) = IsChild m id k c.index
 abbrev pub IsExact : Memory → ℕ → Entry → Type 0
 IsExact m k (Here r) = Unit {0}
 IsExact m k (Down c t) = t ≡ totals_of (below m k (Down c t))
+
+-- whether an entry is that of a node
+abbrev pub is_of : ℕ → Entry → Bool
+is_of id (Here r) = false
+is_of id (Down c t) = c.index == id
 
 -- how often a node stands among entries
 abbrev pub count_of : ℕ → List Entry → ℕ

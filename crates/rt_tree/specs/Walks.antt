@@ -24,3 +24,10 @@ pub record StandsAt (by : Measure) (all : List Run) (run : Run) (front : Counts)
   pub before : front ≡ counts_of left
   pub at : amount by front + offset ≡ place
   pub inside : offset < amount by (counts_of_run run)
+
+-- A run stands among others, and those before it count so many.
+pub record IsBehind (all : List Run) (run : Run) (front : Counts) : Type 0 where
+  pub left : List Run
+  pub right : List Run
+  pub here : all ≡ left ++ run ∷ right
+  pub before : front ≡ counts_of left

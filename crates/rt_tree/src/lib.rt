@@ -8,9 +8,11 @@ mod sums;
 #[cfg(test)]
 mod tests;
 pub mod tree;
+pub mod up;
 pub mod walk;
 
 pub use looks::{Counted, Looks};
 pub use node::{Counts, Entry, Head, Measure, Run, Totals};
 pub use tree::Tree;
+pub use up::ascend;
 pub use walk::{Spot, descend};

@@ -73,10 +73,11 @@ impl Tree {
         })
     }
 
-    /// How many levels of nodes there are: 1 where the root is a leaf.
+    /// How many levels of nodes there are: 1 where the root is a leaf. A tree of many levels has many runs.
     pub fn height(&self) -> usize
         ensures value { result ≡ self.now.height }
         ensures bound { result ≤ 2 ^ 32 }
+        ensures full { 2 ≤ result → 2 * 8 ^ (result - 1) ≤ self.now.runs }
     {
         height(&self.mem, self.root)
     }

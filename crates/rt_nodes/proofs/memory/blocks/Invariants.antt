@@ -1,4 +1,4 @@
-use Rattle.std.proofs.Common.{◌≡◌, ◌-◌, ◌≤◌, length, vec_capacity}
+use Rattle.std.proofs.Common.{◌-◌, ◌≤◌, length, vec_capacity}
 use Rattle.rt_nodes.specs.Rows.{AreEmpty}
 use Rattle.rt_nodes.proofs.memory.blocks.Given as goal
 

@@ -1,4 +1,4 @@
-use Rattle.std.proofs.Common.{◌<◌, ◌≤◌, ◌≡◌, length, arith, nat_lt}
+use Rattle.std.proofs.Common.{◌<◌, length, arith}
 use Rattle.rt_nodes.proofs.Rows.{same_at, moved_up, moved_down}
 use Rattle.rt_nodes.proofs.memory.move_between.Goals as goal
 

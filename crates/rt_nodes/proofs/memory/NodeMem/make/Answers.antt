@@ -1,6 +1,4 @@
-use Rattle.std.proofs.Common.{◌≡◌, ◌-◌, length, arith, rules, refl, vec_len}
-use Rattle.rt_nodes.specs.Rows.{row}
-use Rattle.rt_nodes.specs.Inside.{IsRow, IsMemory}
+use Rattle.std.proofs.Common.{◌≡◌, ◌-◌, arith, rules, refl, vec_len}
 use Rattle.rt_nodes.proofs.Rows.{AreRows-push, AreEmpty-pop, map-push}
 use Rattle.rt_nodes.proofs.memory.NodeMem.make.Goals as goal
 

@@ -1,6 +1,6 @@
 use Rattle.std.proofs.Common.{◌≡◌, ◌<◌, length, arith, rules}
 use Rattle.std.proofs.lemmas.List.{length-map}
-use Rattle.rt_nodes.specs.Rows.{row_items, row_at, with_tail_moved}
+use Rattle.rt_nodes.specs.Rows.{row_items, with_tail_moved}
 use Rattle.rt_nodes.proofs.Rows.{AreRows-at, AreRows-moved, items_at, items_moved, length_moved, refilled}
 use Rattle.rt_nodes.proofs.memory.NodeMem.move_tail.Goals as goal
 

@@ -1,4 +1,4 @@
-use Rattle.std.proofs.Common.{rules, arith}
+use Rattle.std.proofs.Common.{rules}
 use Rattle.rt_nodes.proofs.Rows.{AreEmpty-append}
 use Rattle.rt_nodes.proofs.memory.NodeMem.reserve.Goals as goal
 

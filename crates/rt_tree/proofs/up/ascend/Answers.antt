@@ -1,0 +1,90 @@
+use Rattle.std.proofs.Common.{◌≡◌, ℕ, refl, arith, sym, ap, ◌∙◌, subst}
+use Rattle.rt_nodes.specs.Nodes.{entries}
+use Rattle.rt_tree.specs.Shape.{IsTree, Memory, left_of, level_of, parent_of, runs_before, sum_of}
+use Rattle.rt_tree.specs.Sums.{AreFew, counts_of, plus}
+use Rattle.rt_tree.proofs.Rising.{Rising, arrives, few-above, few-before, few-own, goes_up, sets_out}
+use Rattle.rt_tree.proofs.Stands.{parted}
+use Rattle.rt_tree.proofs.up.ascend.Goals as goal
+
+pub first_counts-before-requires-clause-few : goal.first_counts-before-requires-clause-few
+first_counts-before-requires-clause-few g c =
+    let m = g.L.Looks.nodes c.args.looks.now in
+    few-own m c.args.root.index c.requires.tree c.args.leaf.index c.args.entry c.requires.leaf.0.0 c.requires.leaf.1 c.requires.few
+
+pub loop-node-init : goal.loop-node-init
+loop-node-init g c =
+    let leaf = c.args.leaf.index in
+    let first = c.first_counts-before in
+    let same = first.ensures.same in
+    let R : Memory → Type 0 = λ m. Rising m c.args.root.index leaf c.args.entry leaf first.result in
+    record {
+      rising = subst R (sym same) (sets_out (g.L.Looks.nodes c.args.looks.now) c.args.root.index c.requires.tree leaf c.args.entry c.requires.leaf.0.0 c.requires.leaf.1 first.result first.ensures.value);
+      cost = omega arith;
+      same = refl;
+      lent = refl;
+    }
+
+pub counts_with_left-before-requires-clause-few : goal.counts_with_left-before-requires-clause-few
+counts_with_left-before-requires-clause-few g c =
+    let root = c.args.root.index in
+    let leaf = c.args.leaf.index in
+    let old = c.loop-node.invariant in
+    let same = c.first_counts-before.ensures.same in
+    let m = g.L.Looks.nodes c.first_counts-before.new.looks in
+    let id = c.loop-node.node.index in
+    let tree = subst (λ n. IsTree n root) (sym same) c.requires.tree in
+    let few = subst (λ n. AreFew (counts_of (runs_before n root leaf c.args.entry))) (sym same) (few-before (g.L.Looks.nodes c.args.looks.now) root c.requires.tree leaf c.args.entry c.requires.leaf.0.0 c.requires.leaf.1 c.requires.few) in
+    let above = few-above m root tree leaf c.args.entry id c.loop-node.before old.rising c.loop-node-test.true few in
+    let P : Memory → Type 0 = λ n. AreFew (plus c.loop-node.before (sum_of (left_of id (entries n (parent_of n id))))) in
+    let Q : ℕ → Type 0 = λ p. AreFew (plus c.loop-node.before (sum_of (left_of id (entries (g.L.Looks.nodes c.loop-node.looks) p)))) in
+    subst Q (sym c.parent-parent.ensures) (subst P (sym old.same) above)
+
+pub counts_with_left-before-requires-clause-room : goal.counts_with_left-before-requires-clause-room
+counts_with_left-before-requires-clause-room g c =
+    let root = c.args.root.index in
+    let old = c.loop-node.invariant in
+    let same = c.first_counts-before.ensures.same in
+    let m = g.L.Looks.nodes c.first_counts-before.new.looks in
+    let tree = subst (λ n. IsTree n root) (sym same) c.requires.tree in
+    let top = ap (λ n. level_of n root) same in
+    let known = tree.known c.loop-node.node.index old.rising.is c.loop-node-test.true in
+    let most = tree.levels (parent_of m c.loop-node.node.index) known.is in
+    omega (arith, top, known.up, most, old.cost, c.first_counts-before.ensures.cost, c.requires.room)
+
+pub loop-node-preserved : goal.loop-node-preserved
+loop-node-preserved g c =
+    let root = c.args.root.index in
+    let leaf = c.args.leaf.index in
+    let old = c.loop-node.invariant in
+    let same = c.first_counts-before.ensures.same in
+    let m = g.L.Looks.nodes c.first_counts-before.new.looks in
+    let id = c.loop-node.node.index in
+    let tree = subst (λ n. IsTree n root) (sym same) c.requires.tree in
+    let known = tree.known id old.rising.is c.loop-node-test.true in
+    let next = c.counts_with_left-before in
+    let parent : c.parent-parent.result.index ≡ parent_of m id = c.parent-parent.ensures ∙ ap (λ n. parent_of n id) old.same in
+    let left : next.result ≡ plus c.loop-node.before (sum_of (left_of id (entries m (parent_of m id)))) =
+    next.ensures.value ∙ ap (λ n. plus c.loop-node.before (sum_of (left_of id (entries n c.parent-parent.result.index)))) old.same ∙ ap (λ p. plus c.loop-node.before (sum_of (left_of id (entries m p)))) parent in
+    let up = ap (level_of m) parent in
+    record {
+      rising = subst (λ p. Rising m root leaf c.args.entry p next.result) (sym parent) (goes_up m root tree leaf c.args.entry id c.loop-node.before next.result old.rising c.loop-node-test.true left);
+      cost = omega (arith, next.ensures.cost, old.cost, up, known.up);
+      same = next.ensures.same ∙ old.same;
+      lent = next.ensures.lent ∙ old.lent;
+    }
+
+pub returns-clause-cost : goal.returns-clause-cost
+returns-clause-cost g c =
+    let same = c.first_counts-before.ensures.same in
+    let top = ap (λ n. level_of n c.args.root.index) same in
+    let old = c.loop-node.invariant in
+    omega (arith, top, old.rising.low, old.cost, c.first_counts-before.ensures.cost)
+
+pub returns-clause-stands : goal.returns-clause-stands
+returns-clause-stands g c run here =
+    let m = g.L.Looks.nodes c.args.looks.now in
+    let root = c.args.root.index in
+    let leaf = c.args.leaf.index in
+    let same = c.first_counts-before.ensures.same in
+    let end = arrives (g.L.Looks.nodes c.first_counts-before.new.looks) root (subst (λ n. IsTree n root) (sym same) c.requires.tree) leaf c.args.entry c.loop-node.node.index c.loop-node.before c.loop-node.invariant.rising c.loop-node-test.false in
+    parted m root c.requires.tree leaf c.args.entry run c.loop-node.before c.requires.leaf.0.0 c.requires.leaf.1 here (end ∙ ap (λ n. counts_of (runs_before n root leaf c.args.entry)) same)
