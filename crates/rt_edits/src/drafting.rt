@@ -5,6 +5,7 @@ ghost use Rattle.rt_oplog.specs.Edits.{body_of};
 ghost use Rattle.rt_store.specs.Cells.{AreDistinct, text_of, visible_of};
 ghost use Rattle.rt_store.specs.Shown.{shown};
 ghost use Rattle.rt_store.specs.Tagged.{AreStates};
+ghost use Rattle.rt_store.specs.Written.{AreWritten};
 ghost use Rattle.rt_edits.specs.Deletions.{delete_drafts, last_tags};
 ghost use Rattle.rt_edits.specs.Flat.{Flat};
 ghost use Rattle.rt_edits.specs.Listed.{AreListed};
@@ -132,7 +133,8 @@ pub fn planned_tag<S: TextStore>(
 }
 
 /// The operations that take tags off all characters, `sel` passed over: those of a name that comes
-/// again, or isn't listed, are none. Want of memory.
+/// again, or isn't listed, are none. No write on the characters is newer than the document's count.
+/// Want of memory.
 pub fn planned_tag_deletion<S: TextStore>(
     alloc: Global,
     store: &S,
@@ -143,7 +145,8 @@ pub fn planned_tag_deletion<S: TextStore>(
     requires distinct { AreDistinct (S.list store.now) }
     requires states { AreStates states.now (S.list store.now) }
     requires listed { AreListed tags.now.names (map (shown states.now) (S.list store.now)) }
-    ensures ok { IfOk result (λ drafts. (flat : Flat) → flat.cells ≡ map (shown states.now) (S.list store.now)
+    ensures ok { IfOk result (λ drafts. (flat : Flat) → AreWritten flat.count flat.cells
+        → flat.cells ≡ map (shown states.now) (S.list store.now)
         → map body_of drafts.items ≡ deletion_drafts MOST_SPANS flat (map (λ w. string_bytes w) names.now)) }
     ensures err { IfErr result (λ fault. fault ≡ Fault.NoMemory) }
 {
