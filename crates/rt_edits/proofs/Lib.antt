@@ -8,6 +8,7 @@ pub mod FoundLaws
 pub mod GoneLaws
 pub mod InsertDraftLaws
 pub mod InsertRules
+pub mod InsertTexts
 pub mod InsertedText
 pub mod ListedLaws
 pub mod ListedWrites

@@ -7,6 +7,7 @@ pub mod drafting;
 pub mod examples;
 pub mod inserting;
 pub mod insertion;
+mod inserts;
 pub mod laws;
 pub mod piece;
 pub mod plan;
