@@ -10,6 +10,7 @@ pub mod InsertDraftLaws
 pub mod InsertRules
 pub mod InsertTexts
 pub mod InsertedText
+pub mod LastNames
 pub mod ListedLaws
 pub mod ListedWrites
 pub mod MergingLaws
@@ -17,6 +18,7 @@ pub mod NamedSpanLaws
 pub mod NewlineDrafts
 pub mod PartLaws
 pub mod PieceDraftLaws
+pub mod PieceLaws
 pub mod PlaceLaws
 pub mod PlanLaws
 pub mod Planning
