@@ -27,6 +27,7 @@ pub mod Putting
 pub mod RemovalDraftLaws
 pub mod RemovedText
 pub mod ReplacementLaws
+pub mod RestLaws
 pub mod Selecting
 pub mod SelectionLaws
 pub mod Shown

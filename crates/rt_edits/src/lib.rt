@@ -19,6 +19,7 @@ pub mod retagging;
 pub mod selection;
 pub mod span;
 pub mod tagging;
+mod unlisted;
 
 pub use piece::Piece;
 pub use range::Range;

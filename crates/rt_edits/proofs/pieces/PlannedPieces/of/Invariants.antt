@@ -11,8 +11,8 @@ use Rattle.rt_edits.proofs.pieces.PlannedPieces.of.Given as goal
 abbrev pub invariant-loop-piece : goal.invariant-loop-piece
 invariant-loop-piece l = record {
   drafts : (sel : List Stamp) (others : List (List Stamp)) (tags : List Word)
-      → map body_of l.all.texts.drafts.items ≡ pieces_drafts MOST_CHARACTERS l.site.number l.after (take l.piece-index l.pieces) (record { cells = []; count = l.count; sel = sel; others = others; tags = tags });
+      → map body_of l.all.texts.drafts.items ≡ pieces_drafts MOST_CHARACTERS l.site.number l.fn.after (take l.piece-index l.pieces) (record { cells = []; count = l.count; sel = sel; others = others; tags = tags });
   so_far : (sel : List Stamp) (others : List (List Stamp)) (tags : List Word)
-      → AreSoFar l.after sel tags l.all (with_pieces l.site.number (take l.piece-index l.pieces) (record { cells = []; count = l.count; sel = sel; others = others; tags = tags }));
+      → AreSoFar l.fn.after sel tags l.all (with_pieces l.site.number (take l.piece-index l.pieces) (record { cells = []; count = l.count; sel = sel; others = others; tags = tags }));
   within : l.all.texts.count ≤ GREATEST_COUNT;
 }
