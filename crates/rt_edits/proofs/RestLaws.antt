@@ -20,7 +20,7 @@ use Rattle.rt_edits.specs.Flat.{left_of}
 use Rattle.rt_edits.specs.InsertionDrafts.{behind}
 use Rattle.rt_edits.specs.InsertionPlans.{Plans, selected_between}
 use Rattle.rt_edits.specs.Insertions.{Insertion, Piece, all_listed, are_among, last_of, left_neighbour, right_neighbour, selected_if, tagged_cells, tags_between, with_listed, with_pieces, with_unlisted}
-use Rattle.rt_edits.specs.PlannedPieces.{AreSoFar}
+use Rattle.rt_edits.specs.PlannedPieces.{ArePlanned, AreSoFar}
 use Rattle.rt_edits.specs.Selections.{with_stamps}
 use Rattle.rt_edits.proofs.LastNames.{tags_of}
 use Rattle.rt_edits.proofs.PieceLaws.{IsMoreText}
@@ -97,14 +97,14 @@ none_between [] = refl
 none_between (s ∷ others) = ap (λ l. s ∷ l) (none_between others)
 
 pub plans_nothing : (plan : Plan) (after : Stamp) (selection : List Stamp) (listed : List Word) (pieces : PlannedPieces) (site : ℕ) (left right : Option TaggedCell) (text : List ℕ) (so_far : Insertion) → text ≡ []
-    → AreSoFar after selection listed pieces so_far → plan.characters ≡ length pieces.texts.stamps.items → plan.selected ≡ pieces.selected → plan.names ≡ pieces.names → plan.between ≡ None
+    → AreSoFar after selection listed pieces so_far → ArePlanned plan pieces None
     → Plans plan selection so_far.others listed (with_unlisted site left right text so_far)
-plans_nothing plan after selection listed pieces site left right text so_far e h c s n b =
+plans_nothing plan after selection listed pieces site left right text so_far e h p =
     subst (λ t. Plans plan selection so_far.others listed (with_unlisted site left right t so_far)) (sym e) (record {
-      characters = c ∙ ap length h.stamps ∙ length-map so_far.cells (λ (cell : TaggedCell). cell.stamp);
-      sel = (λ i. with_stamps (s i).items selection) ∙ h.sel;
-      others = ap (λ o. map (selected_between o) so_far.others) b ∙ none_between so_far.others;
-      tags = (λ i. all_listed (map (λ w. string_bytes w) (n i).items) listed) ∙ h.tags;
+      characters = p.characters ∙ ap length h.stamps ∙ length-map so_far.cells (λ (cell : TaggedCell). cell.stamp);
+      sel = (λ i. with_stamps (p.selected i).items selection) ∙ h.sel;
+      others = ap (λ o. map (selected_between o) so_far.others) p.others ∙ none_between so_far.others;
+      tags = (λ i. all_listed (map (λ w. string_bytes w) (p.names i).items) listed) ∙ h.tags;
     })
 
 pub plans_rest : (plan : Plan) (after : Stamp) (selection : List Stamp) (listed : List Word) (old new : PlannedPieces) (site : ℕ) (left right : Option TaggedCell) (text : List ℕ) (so_far : Insertion) → 1 ≤ length text

@@ -14,6 +14,7 @@ ghost use Rattle.rt_edits.specs.InsertionPlans.{Plans};
 ghost use Rattle.rt_edits.specs.Insertions.{insertion_of, left_neighbour, right_neighbour};
 ghost use Rattle.rt_edits.specs.Selected.{stamps_in};
 
+use crate::inserts::Inserts;
 use crate::pieces::PlannedPieces;
 use crate::{Piece, Selection};
 use rt_rga::Draft;
@@ -55,8 +56,8 @@ fn left_neighbour<S: TextStore>(store: &S, place: usize) -> Option<Cell<StateId>
 }
 
 // The element behind which text goes that has a left neighbour, or none.
-fn element_of(left: Option<Cell<StateId>>) -> Stamp
-    ensures { result ≡ unwrap_or (option_map (λ cell. cell.stamp) left) ROOT }
+fn element_of(left: &Option<Cell<StateId>>) -> Stamp
+    ensures { result ≡ unwrap_or (option_map (λ cell. cell.stamp) left.now) ROOT }
 {
     match left {
         Some(cell) => cell.stamp,
@@ -97,6 +98,21 @@ pub fn planned_insertion<S: TextStore>(
 {
     let left = left_neighbour(store, place);
     let right = store.cell_at(place);
-    let pieces = PlannedPieces::of(alloc, site, count, element_of(left), pieces)?;
-    pieces.with_rest(alloc, states, site, selection, left, right, rest)
+    let mut all = PlannedPieces::of(alloc, site, count, element_of(&left), pieces)?;
+    let between = all.add_rest(alloc, states, site, selection, left, right, rest)?;
+    let PlannedPieces {
+        texts,
+        selected,
+        names,
+        last: _,
+    } = all;
+    let Inserts { drafts, stamps, .. } = texts;
+    let characters = stamps.len();
+    Ok(Plan {
+        drafts,
+        characters,
+        selected,
+        names,
+        between,
+    })
 }

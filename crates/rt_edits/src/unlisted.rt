@@ -1,5 +1,5 @@
 // Text without a list, behind the pieces that are planned.
-ghost use Rattle.std.specs.Prelude.{◌≡◌, ◌⊎◌, ◌+◌, ◌<◌, ◌≤◌, ◌++◌, ◌&&◌, ◌||◌, [], IfOk, IfErr, IfSome, List, None, Some, filter, is_some, length, map, option_map, string_bytes, unwrap_or};
+ghost use Rattle.std.specs.Prelude.{◌≡◌, ◌⊎◌, ◌+◌, ◌<◌, ◌≤◌, ◌++◌, ◌&&◌, ◌||◌, [], IfOk, IfErr, IfSome, OnOk, List, None, Some, filter, is_some, length, map, option_map, string_bytes, unwrap_or};
 ghost use Rattle.std.specs.Str.{chars};
 ghost use Rattle.rt_stamps.specs.declared.limits.TheConstants.{GREATEST_COUNT, MOST_CHARACTERS};
 ghost use Rattle.rt_stamps.specs.declared.stamp.Stamp.{Stamp};
@@ -9,15 +9,16 @@ ghost use Rattle.rt_oplog.specs.Edits.{body_of};
 ghost use Rattle.rt_store.specs.Shown.{TaggedCell, shown};
 ghost use Rattle.rt_store.specs.Spans.{is_among};
 ghost use Rattle.rt_tags.specs.States.{IsState, is_on, names_on, state_at};
+ghost use Rattle.rt_edits.specs.declared.inserting.Plan.{Plan};
 ghost use Rattle.rt_edits.specs.InsertionDrafts.{behind, text_drafts};
 ghost use Rattle.rt_edits.specs.InsertionPlans.{Plans};
 ghost use Rattle.rt_edits.specs.Insertions.{Insertion, counts_for, last_of, tags_between, with_unlisted};
-ghost use Rattle.rt_edits.specs.PlannedPieces.{AreSoFar};
+ghost use Rattle.rt_edits.specs.PlannedPieces.{ArePlanned, AreSoFar};
 ghost use Rattle.rt_edits.specs.Selected.{stamps_in};
 ghost use Rattle.rt_edits.specs.Selections.{with_stamps};
 
 use crate::Selection;
-use crate::inserting::{Between, Plan};
+use crate::inserting::Between;
 use crate::lists::{chars_of, tags_of_both};
 use crate::pieces::{PlannedPieces, names_of};
 use rt_stamps::{Fault, Site, Stamp};
@@ -102,8 +103,8 @@ impl PlannedPieces {
     }
 
     // Whether there is a character before further text, in the pieces or before them.
-    fn has_left(&self, left: Option<Cell<StateId>>) -> bool
-        ensures { result ≡ (is_some self.now.last || is_some left) }
+    fn has_left(&self, left: &Option<Cell<StateId>>) -> bool
+        ensures { result ≡ (is_some self.now.last || is_some left.now) }
     {
         self.last.is_some() || left.is_some()
     }
@@ -123,28 +124,10 @@ impl PlannedPieces {
         selection.has(stamp) || self.selected.contains(&stamp)
     }
 
-    // The plan of the pieces.
-    fn plan(self, between: Option<Between>) -> Plan
-        ensures drafts { result.drafts ≡ self.texts.drafts }
-        ensures characters { result.characters ≡ length self.texts.stamps.items }
-        ensures selected { result.selected ≡ self.selected }
-        ensures names { result.names ≡ self.names }
-        ensures between { result.between ≡ between }
-    {
-        let characters = self.texts.stamps.len();
-        Plan {
-            drafts: self.texts.drafts,
-            characters,
-            selected: self.selected,
-            names: self.names,
-            between,
-        }
-    }
-
-    /// The plan of the pieces and of text without a list behind them, or where they have no text,
-    /// behind a left neighbour. `ClockSpent`, or want of memory.
-    pub(crate) fn with_rest(
-        mut self,
+    /// Adds text without a list behind the pieces, or where they have no text, behind a left neighbour,
+    /// and answers the characters that stand between two others. `ClockSpent`, or want of memory.
+    pub(crate) fn add_rest(
+        &mut self,
         alloc: Global,
         states: &StateTable,
         site: Site,
@@ -152,41 +135,42 @@ impl PlannedPieces {
         left: Option<Cell<StateId>>,
         right: Cell<StateId>,
         rest: &str,
-    ) -> Result<Plan, Fault>
-        requires count { self.texts.count ≤ GREATEST_COUNT }
+    ) -> Result<Option<Between>, Fault>
+        requires count { self.old.texts.count ≤ GREATEST_COUNT }
         requires left { IfSome left (λ cell. IsState states.now cell.state) }
         requires right { IsState states.now right.state }
-        ensures drafts { IfOk result (λ plan. (after : Stamp) (listed : List Word) (so_far : Insertion)
-            → AreSoFar after (stamps_in selection.now) listed self so_far → map body_of plan.drafts.items ≡ map body_of self.texts.drafts.items
-            ++ text_drafts MOST_CHARACTERS site.number so_far.count (behind after so_far.cells)
+        ensures drafts { OnOk result ((after : Stamp) (listed : List Word) (so_far : Insertion)
+            → AreSoFar after (stamps_in selection.now) listed self.old so_far → map body_of self.new.texts.drafts.items
+            ≡ map body_of self.old.texts.drafts.items ++ text_drafts MOST_CHARACTERS site.number so_far.count (behind after so_far.cells)
             (tags_between (last_of (option_map (shown states.now) left) so_far.cells) (Some (shown states.now right))) (chars rest.now)) }
-        ensures plans { IfOk result (λ plan. (after : Stamp) (listed : List Word) (so_far : Insertion)
-            → AreSoFar after (stamps_in selection.now) listed self so_far
-            → after ≡ unwrap_or (option_map (λ cell. cell.stamp) left) ROOT → Plans plan (stamps_in selection.now) so_far.others listed
-            (with_unlisted site.number (last_of (option_map (shown states.now) left) so_far.cells)
-            (Some (shown states.now right)) (chars rest.now) so_far)) }
+        ensures plans { IfOk result (λ between. (plan : Plan) (after : Stamp) (listed : List Word) (so_far : Insertion)
+            → AreSoFar after (stamps_in selection.now) listed self.old so_far
+            → after ≡ unwrap_or (option_map (λ cell. cell.stamp) left) ROOT → ArePlanned plan self.new between
+            → Plans plan (stamps_in selection.now) so_far.others listed (with_unlisted site.number
+            (last_of (option_map (shown states.now) left) so_far.cells) (Some (shown states.now right)) (chars rest.now) so_far)) }
         ensures err { IfErr result (λ fault. (fault ≡ Fault.NoMemory) ⊎ ((fault ≡ Fault.ClockSpent)
-            × ((after : Stamp) (listed : List Word) (so_far : Insertion) → AreSoFar after (stamps_in selection.now) listed self so_far
+            × ((after : Stamp) (listed : List Word) (so_far : Insertion) → AreSoFar after (stamps_in selection.now) listed self.old so_far
             → GREATEST_COUNT < so_far.count + counts_for
             (tags_between (last_of (option_map (shown states.now) left) so_far.cells) (Some (shown states.now right))) (chars rest.now)))) }
     {
         let text = chars_of(alloc, rest)?;
         if text.is_empty() {
-            return Ok(self.plan(None));
+            return Ok(None);
         }
+        let has_left = self.has_left(&left);
+        let before = self.texts.behind;
+        let after = right.stamp;
         let names = self.names_between(alloc, states, left, right)?;
-        let has_left = self.has_left(left);
-        let behind = self.texts.behind;
         let stamps = self.add_text(alloc, site, &names, &text)?;
         if !has_left {
-            return Ok(self.plan(None));
+            return Ok(None);
         }
-        let selected = self.selects_both(selection, behind, right.stamp);
+        let selected = self.selects_both(selection, before, after);
         self.select(selected, &stamps)?;
-        Ok(self.plan(Some(Between {
-            left: behind,
-            right: right.stamp,
+        Ok(Some(Between {
+            left: before,
+            right: after,
             stamps,
-        })))
+        }))
     }
 }

@@ -5,7 +5,7 @@ use Rattle.rt_stamps.specs.Stamps.{is_same}
 use Rattle.rt_edits.specs.Selected.{stamps_in}
 use Rattle.rt_store.specs.Spans.{is_among}
 use Rattle.rt_edits.proofs.PlanLaws.{among_with}
-use Rattle.rt_edits.proofs.unlisted.PlannedPieces.selects.Goals as goal
+use Rattle.rt_edits.proofs.pieces.PlannedPieces.selects.Goals as goal
 
 pub returns-then-has : goal.returns-then-has
 returns-then-has c =
