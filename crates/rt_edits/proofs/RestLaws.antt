@@ -1,17 +1,20 @@
 -- Text without a list behind pieces.
-use Rattle.std.proofs.Common.{◌≡◌, ℕ, zero, suc, ◌+◌, ◌<◌, ◌≤◌, ◌&&◌, ◌||◌, Bool, true, false, List, [], ◌∷◌, ◌++◌, length, filter, map, refl, sym, ◌∙◌, ap, subst, arith, Option, Some, None}
-use Rattle.std.specs.Prelude.{is_some, option_map, slice_get, string_bytes, unwrap_or}
+use Rattle.std.proofs.Common.{◌≡◌, ℕ, zero, suc, ◌+◌, ◌<◌, ◌≤◌, ◌&&◌, ◌||◌, Bool, true, false, List, [], ◌∷◌, ◌++◌, length, filter, map, not, refl, sym, ◌∙◌, ap, subst, arith, Option, Some, None}
+use Rattle.std.specs.Prelude.{All, IfSome, is_some, option_map, slice_get, string_bytes, unwrap_or}
 use Rattle.std.specs.Str.{chars}
 use Rattle.std.proofs.lemmas.List.{append-nil, length-map}
+use Rattle.std.proofs.lemmas.List.Elements.{All-filter}
+use Rattle.std.proofs.lemmas.Option.{get_or_from_slice_get, slice_get_within}
 use Rattle.rt_stamps.specs.declared.limits.TheConstants.{MOST_CHARACTERS}
 use Rattle.rt_stamps.specs.declared.stamp.Stamp.{Stamp}
 use Rattle.rt_stamps.specs.declared.stamp.TheConstants.{ROOT}
 use Rattle.rt_stamps.specs.Words.{Word}
-use Rattle.rt_tags.specs.States.{TagStates, is_on, names_on, state_at}
+use Rattle.rt_tags.specs.States.{IsState, TagStates, is_on, names_on, state_at}
 use Rattle.rt_store.specs.declared.cell.Cell.{Cell}
 use Rattle.rt_store.specs.Cells.{map_state, stamps_of, visible_of}
 use Rattle.rt_store.specs.Shown.{TaggedCell, shown}
 use Rattle.rt_store.specs.Spans.{is_among}
+use Rattle.rt_store.specs.Tagged.{AreStates}
 use Rattle.rt_store.proofs.Shown.{map_append, visible_at_shown}
 use Rattle.rt_edits.specs.declared.inserting.Between.{Between}
 use Rattle.rt_edits.specs.declared.inserting.Plan.{Plan}
@@ -128,6 +131,21 @@ plans_rest plan after selection listed old new site left right (x ∷ text) so_f
     }
 
 -- NEIGHBOURS IN A STORE
+
+-- the state of a character was given out
+pub visible_given : (table : TagStates) (cells : List (Cell ℕ)) (place : ℕ) (cell : Cell ℕ) → AreStates table cells → slice_get (visible_of cells) place ≡ Some cell → IsState table cell.state
+visible_given table cells place cell h e =
+    let p : Cell ℕ → Type 0 = λ c. IsState table c.state in
+    let all : All p (visible_of cells) = All-filter (λ c. not c.gone) p cells h in
+    subst p (get_or_from_slice_get (visible_of cells) place cell cell e) (all place cell (slice_get_within (visible_of cells) place cell e))
+
+given_by : (table : TagStates) (cells : List (Cell ℕ)) (place : ℕ) (o : Option (Cell ℕ)) → AreStates table cells → slice_get (visible_of cells) place ≡ o → IfSome o (λ cell. IsState table cell.state)
+given_by table cells place None h e = tt
+given_by table cells place (Some cell) h e = visible_given table cells place cell h e
+
+pub left_given : (table : TagStates) (cells : List (Cell ℕ)) (place : ℕ) → AreStates table cells → IfSome (left_neighbour (visible_of cells) place) (λ cell. IsState table cell.state)
+left_given table cells zero h = tt
+left_given table cells (suc place) h = given_by table cells place (slice_get (visible_of cells) place) h refl
 
 pub left_shown : (table : TagStates) (cells : List (Cell ℕ)) (place : ℕ) → option_map (shown table) (left_neighbour (visible_of cells) place) ≡ left_neighbour (visible_of (map (shown table) cells)) place
 left_shown table cells zero = refl
