@@ -1,12 +1,11 @@
 -- One part more of a text: its drafts, its stamps, and the element behind it.
-use Rattle.std.proofs.Common.{◌≡◌, ℕ, zero, suc, ◌+◌, ◌-◌, ◌*◌, ◌<◌, ◌≤◌, List, [], ◌∷◌, ◌++◌, length, take, drop, map, refl, sym, ◌∙◌, ap, arith, append_assoc, length-drop, length-take, Option, Some, None, false}
+use Rattle.std.proofs.Common.{◌≡◌, ℕ, suc, ◌+◌, ◌-◌, ◌*◌, ◌≤◌, List, [], ◌∷◌, ◌++◌, length, take, drop, map, refl, sym, ◌∙◌, ap, arith, append_assoc, length-drop, length-take, Option, Some, None, false}
 use Rattle.std.specs.Prelude.{option_map, unwrap_or}
 use Rattle.std.proofs.lemmas.List.{length-map}
 use Rattle.rt_stamps.specs.declared.limits.TheConstants.{MOST_CHARACTERS, MOST_TAGS}
-use Rattle.rt_stamps.specs.declared.stamp.Span.{Span}
 use Rattle.rt_stamps.specs.declared.stamp.Stamp.{Stamp}
 use Rattle.rt_stamps.specs.Words.{Word}
-use Rattle.rt_oplog.specs.Operations.{Body, Insert, Tag}
+use Rattle.rt_oplog.specs.Operations.{Body, Insert}
 use Rattle.rt_tags.specs.States.{Write}
 use Rattle.rt_store.specs.declared.cell.Cell.{Cell}
 use Rattle.rt_store.specs.Cells.{cells_from, stamps_of}
@@ -14,7 +13,7 @@ use Rattle.rt_store.specs.Shown.{TaggedCell}
 use Rattle.rt_store.proofs.Shown.{map_append}
 use Rattle.rt_edits.specs.InsertionDrafts.{behind, inserts_of, tags_on, text_drafts}
 use Rattle.rt_edits.specs.Insertions.{counts_for, further_tags, inserts_for, last_of, new_state, tagged_cells}
-use Rattle.rt_edits.specs.NamedSpans.{first_parts, parts_for}
+use Rattle.rt_edits.specs.NamedSpans.{first_parts}
 use Rattle.rt_edits.proofs.Planning.{cells_more, counts_more, inserts_more}
 
 -- DRAFTS

@@ -1,5 +1,5 @@
 -- What pieces of text have come to, one piece more.
-use Rattle.std.proofs.Common.{◌≡◌, ℕ, zero, suc, ◌+◌, ◌<◌, ◌≤◌, List, [], ◌∷◌, ◌++◌, Bool, true, length, take, drop, map, get_or, refl, sym, ◌∙◌, ap, subst, arith, append_assoc, take-append-drop, Option, Some, None}
+use Rattle.std.proofs.Common.{◌≡◌, ℕ, ◌+◌, ◌<◌, ◌≤◌, List, [], ◌∷◌, ◌++◌, Bool, true, length, take, drop, map, get_or, refl, sym, ◌∙◌, ap, subst, arith, append_assoc, take-append-drop, Option, Some, None}
 use Rattle.std.specs.Prelude.{nat_eq, option_map, string_bytes}
 use Rattle.std.specs.Str.{chars}
 use Rattle.std.proofs.lemmas.List.{append-nil, take_more}

@@ -1,13 +1,13 @@
-use Rattle.std.proofs.Common.{◌≡◌, ℕ, ◌∙◌, ◌≤◌, ◌+◌, ◌-◌, ◌++◌, ap, arith, inr, length, map, sym, refl, List}
+use Rattle.std.proofs.Common.{◌≡◌, ℕ, ◌∙◌, ◌≤◌, ◌+◌, ◌-◌, ◌++◌, ap, arith, inr, length, map, sym, refl}
 use Rattle.std.specs.Prelude.{string_bytes}
 use Rattle.std.proofs.lemmas.Result.{err_from_is_err_and}
 use Rattle.rt_stamps.specs.declared.limits.TheConstants.{GREATEST_COUNT, MOST_CHARACTERS, MOST_TAGS}
 use Rattle.rt_oplog.specs.Edits.{body_of}
-use Rattle.rt_store.specs.Cells.{cells_from, stamps_of}
+use Rattle.rt_store.specs.Cells.{stamps_of}
 use Rattle.rt_edits.specs.InsertionDrafts.{behind, text_drafts}
 use Rattle.rt_edits.specs.Insertions.{counts_for, further_tags, tagged_cells}
 use Rattle.rt_edits.proofs.InsertTexts.{behind_more, counts_named, counts_part, drafts_joined, drafts_more, further_named, lists_joined, stamps_more}
-use Rattle.rt_edits.proofs.Planning.{fewer_behind, none_left, some_left}
+use Rattle.rt_edits.proofs.Planning.{fewer_behind, some_left}
 use Rattle.rt_edits.proofs.inserts.Inserts.push_text.Goals as goal
 
 pub returns-in_err-last_count-clause-err : goal.returns-in_err-last_count-clause-err

@@ -2,11 +2,10 @@ use Rattle.std.proofs.Common.{◌≡◌, ◌∙◌, ◌+◌, ◌≤◌, ◌++◌
 use Rattle.std.specs.Prelude.{string_bytes}
 use Rattle.std.specs.Str.{chars}
 use Rattle.rt_tags.specs.Tags.{is_listed, sel}
-use Rattle.rt_stamps.specs.declared.limits.TheConstants.{MOST_CHARACTERS}
 use Rattle.rt_oplog.specs.Edits.{body_of}
 use Rattle.rt_store.specs.Cells.{stamps_of}
 use Rattle.rt_edits.specs.declared.pieces.PlannedPieces.{PlannedPieces}
-use Rattle.rt_edits.specs.InsertionDrafts.{behind, text_drafts}
+use Rattle.rt_edits.specs.InsertionDrafts.{behind}
 use Rattle.rt_edits.specs.Insertions.{counts_for, selected_if, shared_names, tagged_cells}
 use Rattle.rt_edits.specs.Selections.{with_stamps}
 use Rattle.rt_edits.proofs.PieceLaws.{added_listed, no_drafts, none_in, none_listed}

@@ -1,4 +1,4 @@
-use Rattle.std.proofs.Common.{◌≡◌, ◌∙◌, List, Some, ap, filter, map, sym}
+use Rattle.std.proofs.Common.{◌∙◌, Some, ap, filter, map, sym}
 use Rattle.std.specs.Prelude.{option_map, string_bytes}
 use Rattle.std.proofs.lemmas.Result.{IfOk-weaker}
 use Rattle.rt_tags.specs.States.{is_on, state_at}

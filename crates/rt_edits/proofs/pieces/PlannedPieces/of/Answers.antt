@@ -1,13 +1,11 @@
-use Rattle.std.proofs.Common.{◌≡◌, ℕ, ◌∙◌, ◌+◌, ◌++◌, ◌<◌, ◌≤◌, [], ap, arith, length, map, subst, sym, take}
-use Rattle.std.specs.Prelude.{option_map, string_bytes}
+use Rattle.std.proofs.Common.{ℕ, ◌∙◌, ◌++◌, ◌<◌, ◌≤◌, [], ap, arith, length, map, subst, sym, take}
 use Rattle.std.specs.Str.{chars}
 use Rattle.std.proofs.lemmas.Result.{err_from_is_err_and}
 use Rattle.rt_stamps.specs.declared.limits.TheConstants.{GREATEST_COUNT, MOST_CHARACTERS}
 use Rattle.rt_oplog.specs.Edits.{body_of}
 use Rattle.rt_edits.specs.InsertionDrafts.{text_drafts}
-use Rattle.rt_edits.specs.Insertions.{Insertion, all_listed, shared_names, with_pieces}
+use Rattle.rt_edits.specs.Insertions.{Insertion, shared_names, with_pieces}
 use Rattle.rt_edits.specs.PlannedPieces.{AreSoFar}
-use Rattle.rt_edits.specs.Selections.{with_stamps}
 use Rattle.rt_edits.proofs.PieceLaws.{drafts_further, none_so_far, pieces_more, spent_early}
 use Rattle.rt_edits.proofs.PlanLaws.{spent}
 use Rattle.rt_edits.proofs.pieces.PlannedPieces.of.Goals as goal
