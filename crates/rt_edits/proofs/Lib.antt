@@ -11,7 +11,9 @@ pub mod FoundLaws
 pub mod GoneLaws
 pub mod InsertDraftLaws
 pub mod InsertRules
+pub mod InsertTexts
 pub mod InsertedText
+pub mod LastNames
 pub mod LastNewline
 pub mod ListedLaws
 pub mod ListedWrites
@@ -20,6 +22,7 @@ pub mod NamedSpanLaws
 pub mod NewlineDrafts
 pub mod PartLaws
 pub mod PieceDraftLaws
+pub mod PieceLaws
 pub mod PlaceLaws
 pub mod PlanLaws
 pub mod Planning
@@ -28,6 +31,7 @@ pub mod Putting
 pub mod RemovalDraftLaws
 pub mod RemovedText
 pub mod ReplacementLaws
+pub mod RestLaws
 pub mod Selecting
 pub mod SelectionLaws
 pub mod Shown

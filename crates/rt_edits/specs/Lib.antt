@@ -10,6 +10,7 @@ pub mod Listed
 pub mod Merging
 pub mod NamedSpans
 pub mod Planned
+pub mod PlannedPieces
 pub mod RemovalDrafts
 pub mod Removals
 pub mod Selected

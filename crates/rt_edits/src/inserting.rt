@@ -1,7 +1,8 @@
 // What an insertion comes to, as the operations that it makes.
-ghost use Rattle.std.specs.Prelude.{◌≡◌, ◌⊎◌, ◌<◌, ◌≤◌, [], List, IfOk, IfErr, length, map};
+ghost use Rattle.std.specs.Prelude.{◌≡◌, ◌⊎◌, ◌<◌, ◌≤◌, [], List, IfOk, IfErr, length, map, option_map, unwrap_or};
 ghost use Rattle.rt_stamps.specs.declared.limits.TheConstants.{GREATEST_COUNT, MOST_CHARACTERS};
 ghost use Rattle.rt_stamps.specs.declared.stamp.Stamp.{Stamp};
+ghost use Rattle.rt_stamps.specs.declared.stamp.TheConstants.{ROOT};
 ghost use Rattle.rt_stamps.specs.Words.{Word};
 ghost use Rattle.rt_oplog.specs.Edits.{body_of};
 ghost use Rattle.rt_store.specs.Cells.{visible_of};
@@ -13,11 +14,13 @@ ghost use Rattle.rt_edits.specs.InsertionPlans.{Plans};
 ghost use Rattle.rt_edits.specs.Insertions.{insertion_of, left_neighbour, right_neighbour};
 ghost use Rattle.rt_edits.specs.Selected.{stamps_in};
 
+use crate::inserts::Inserts;
+use crate::pieces::PlannedPieces;
 use crate::{Piece, Selection};
 use rt_rga::Draft;
-use rt_stamps::{Fault, Site, Stamp};
-use rt_store::TextStore;
-use rt_tags::StateTable;
+use rt_stamps::{Fault, ROOT, Site, Stamp};
+use rt_store::{Cell, TextStore};
+use rt_tags::{StateId, StateTable};
 use std::alloc::Global;
 
 /// Characters between two others that are there.
@@ -38,6 +41,28 @@ pub struct Plan {
     pub selected: Vec<Stamp>,
     pub names: Vec<String>,
     pub between: Option<Between>,
+}
+
+// The visible cell before a place, if there is one.
+fn left_neighbour<S: TextStore>(store: &S, place: usize) -> Option<Cell<StateId>>
+    requires { place ≤ length (visible_of (S.list store.now)) }
+    ensures { result ≡ left_neighbour (visible_of (S.list store.now)) place }
+{
+    if place == 0 {
+        None
+    } else {
+        Some(store.cell_at(place - 1))
+    }
+}
+
+// The element behind which text goes that has a left neighbour, or none.
+fn element_of(left: &Option<Cell<StateId>>) -> Stamp
+    ensures { result ≡ unwrap_or (option_map (λ cell. cell.stamp) left.now) ROOT }
+{
+    match left {
+        Some(cell) => cell.stamp,
+        None => ROOT,
+    }
 }
 
 /// The plan of pieces, and then characters without a list, before the character at a place, with the
@@ -71,5 +96,23 @@ pub fn planned_insertion<S: TextStore>(
         < (insertion_of site.number (left_neighbour (visible_of cells) place) (right_neighbour (visible_of cells) place) pieces.now rest.now
         (record { cells = []; count = count; sel = stamps_in selection.now; others = others; tags = tags })).count))) }
 {
-    Err(Fault::NoMemory)
+    let left = left_neighbour(store, place);
+    let right = store.cell_at(place);
+    let mut all = PlannedPieces::of(alloc, site, count, element_of(&left), pieces)?;
+    let between = all.add_rest(alloc, states, site, selection, left, right, rest)?;
+    let PlannedPieces {
+        texts,
+        selected,
+        names,
+        last: _,
+    } = all;
+    let Inserts { drafts, stamps, .. } = texts;
+    let characters = stamps.len();
+    Ok(Plan {
+        drafts,
+        characters,
+        selected,
+        names,
+        between,
+    })
 }

@@ -19,87 +19,13 @@ ghost use Rattle.rt_store.specs.Shown.{shown};
 
 use crate::counts::{further, last_count};
 use crate::insertion::push_cells;
+use crate::lists::{chars_of, names_sel, shared_tags, tags_of_both};
 use crate::{Piece, Selection};
 use rt_stamps::limits::{GREATEST_COUNT, MOST_CHARACTERS, MOST_TAGS};
 use rt_stamps::{Fault, ROOT, Site, Stamp};
 use rt_store::Cell;
 use rt_tags::{Entry, StateId, StateTable, TagId};
 use std::alloc::Global;
-
-// Adds the tag of a name, but for `sel`.
-fn push_tag(states: &mut StateTable, tags: &mut Vec<TagId>, name: &str) -> Result<(), Fault>
-    requires { All (IsTag states.old) tags.old.items }
-    ensures ok { OnOk result (map (name_at states.new) tags.new.items ≡ map (name_at states.old) tags.old.items
-        ++ filter (λ name. not (bytes_eq name sel)) (name.now ∷ [])) }
-    ensures given { OnOk result (All (IsTag states.new) tags.new.items) }
-    ensures ids { KeepsIds states.old states.new }
-    ensures err { IfErr result (λ fault. fault ≡ Fault.NoMemory) }
-{
-    if name == "sel" {
-        return Ok(());
-    }
-    let tag = states.number(name)?;
-    tags.push(tag)?;
-    Ok(())
-}
-
-// The tags of a list in turn, but for `sel`.
-fn tags_of_list(
-    alloc: Global,
-    states: &mut StateTable,
-    names: &[String],
-) -> Result<Vec<TagId>, Fault>
-    ensures ok { IfOk result (λ tags. map (name_at states.new) tags.items ≡ filter
-        (λ name. not (bytes_eq name sel)) (map (λ w. string_bytes w) names.now)) }
-    ensures given { IfOk result (λ tags. All (IsTag states.new) tags.items) }
-    ensures ids { KeepsIds states.old states.new }
-    ensures err { IfErr result (λ fault. fault ≡ Fault.NoMemory) }
-{
-    let mut tags = Vec::new(alloc);
-    for name in names {
-        push_tag(states, &mut tags, name)?;
-    }
-    Ok(tags)
-}
-
-/// The tags of a list by their names' bytes, each once, but for `sel`. Want of memory; then the table
-/// keeps what it gave out.
-pub(crate) fn shared_tags(
-    alloc: Global,
-    states: &mut StateTable,
-    names: &[String],
-) -> Result<Vec<TagId>, Fault>
-    ensures ok { IfOk result (λ tags. map (name_at states.new) tags.items ≡ shared_names (map (λ w. string_bytes w) names.now)) }
-    ensures given { IfOk result (λ tags. All (IsTag states.new) tags.items) }
-    ensures ids { KeepsIds states.old states.new }
-    ensures err { IfErr result (λ fault. fault ≡ Fault.NoMemory) }
-{
-    let tags = tags_of_list(alloc, states, names)?;
-    states.in_order(&tags)
-}
-
-/// The tags that two states share, by their names' bytes. Want of memory.
-pub(crate) fn tags_of_both(
-    alloc: Global,
-    states: &StateTable,
-    left: StateId,
-    right: StateId,
-) -> Result<Vec<TagId>, Fault>
-    requires left { IsState states.now left }
-    requires right { IsState states.now right }
-    ensures ok { IfOk result (λ tags. map (name_at states.now) tags.items
-        ≡ filter (λ name. is_on name (state_at states.now right)) (names_on (state_at states.now left))) }
-    ensures given { IfOk result (λ tags. All (IsTag states.now) tags.items) }
-    ensures err { IfErr result (λ fault. fault ≡ Fault.NoMemory) }
-{
-    let mut both = Vec::new(alloc);
-    for tag in states.on(left) {
-        if states.has(right, *tag) {
-            both.push(*tag)?;
-        }
-    }
-    Ok(both)
-}
 
 // Who writes the tag at an index of those of new text: the Insert under the root's stamp, or an
 // operation of its own behind the Insert, whose last count is given.
@@ -201,27 +127,6 @@ pub(crate) fn push_text(
         rest = behind;
     }
     Ok(last)
-}
-
-// The characters of a text.
-fn chars_of(alloc: Global, text: &str) -> Result<Vec<char>, Fault>
-    ensures ok { IfOk result (λ all. all.items ≡ chars text.now) }
-    ensures err { IfErr result (λ fault. fault ≡ Fault.NoMemory) }
-{
-    let all: Vec<char> = text.chars().collect(alloc)?;
-    Ok(all)
-}
-
-// Whether a list names `sel`.
-fn names_sel(names: &[String]) -> bool
-    ensures { result ≡ is_listed sel (map (λ w. string_bytes w) names.now) }
-{
-    for name in names {
-        if name.as_str() == "sel" {
-            return true;
-        }
-    }
-    false
 }
 
 // The stamps of cells.

@@ -1,7 +1,7 @@
 use Rattle.std.proofs.Common.{◌≡◌, filter, map, take}
 use Rattle.std.specs.Prelude.{All}
 use Rattle.rt_tags.specs.States.{IsTag, is_on, name_at, state_at}
-use Rattle.rt_edits.proofs.plan.tags_of_both.Given as goal
+use Rattle.rt_edits.proofs.lists.tags_of_both.Given as goal
 
 abbrev pub invariant-loop-tag : goal.invariant-loop-tag
 invariant-loop-tag l = record {

@@ -3,7 +3,7 @@ use Rattle.std.specs.Prelude.{string_bytes}
 use Rattle.std.specs.Str.{bytes_eq}
 use Rattle.rt_tags.specs.States.{IsTag, KeepsIds, name_at}
 use Rattle.rt_tags.specs.Tags.{sel}
-use Rattle.rt_edits.proofs.plan.tags_of_list.Given as goal
+use Rattle.rt_edits.proofs.lists.tags_of_list.Given as goal
 
 abbrev pub invariant-loop-name : goal.invariant-loop-name
 invariant-loop-name l = record {

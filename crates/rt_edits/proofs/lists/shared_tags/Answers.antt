@@ -5,7 +5,7 @@ use Rattle.rt_stamps.specs.declared.stamp.TheConstants.{ROOT}
 use Rattle.rt_tags.specs.States.{name_at, names_on}
 use Rattle.rt_tags.specs.Writers.{listed_by, state_after}
 use Rattle.rt_edits.specs.Insertions.{shared_names}
-use Rattle.rt_edits.proofs.plan.shared_tags.Goals as goal
+use Rattle.rt_edits.proofs.lists.shared_tags.Goals as goal
 
 pub returns-clause-ok : goal.returns-clause-ok
 returns-clause-ok c =

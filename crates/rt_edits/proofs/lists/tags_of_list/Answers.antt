@@ -4,7 +4,7 @@ use Rattle.std.specs.Str.{bytes_eq}
 use Rattle.rt_stamps.specs.Words.{Word}
 use Rattle.rt_tags.specs.Tags.{sel}
 use Rattle.rt_edits.proofs.Planning.{keeps_further, filtered_more}
-use Rattle.rt_edits.proofs.plan.tags_of_list.Goals as goal
+use Rattle.rt_edits.proofs.lists.tags_of_list.Goals as goal
 
 pub returns-in_err-push_tag-clause-ids : goal.returns-in_err-push_tag-clause-ids
 returns-in_err-push_tag-clause-ids c = keeps_further c.args.states.now c.loop-name.states c.push_tag.new.states c.loop-name.invariant.ids c.push_tag.ensures.ids

@@ -3,7 +3,7 @@ use Rattle.std.specs.Prelude.{string_bytes}
 use Rattle.std.proofs.lemmas.Slice.Eq.{bytes_eq-Decides}
 use Rattle.rt_tags.specs.Tags.{sel}
 use Rattle.rt_edits.proofs.PlanLaws.{named_at}
-use Rattle.rt_edits.proofs.plan.names_sel.Goals as goal
+use Rattle.rt_edits.proofs.lists.names_sel.Goals as goal
 
 pub returns-then-eq : goal.returns-then-eq
 returns-then-eq c =

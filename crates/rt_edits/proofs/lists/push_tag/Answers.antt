@@ -2,7 +2,7 @@ use Rattle.std.proofs.Common.{◌∙◌, ◌++◌, ◌∷◌, [], All, ap, map, 
 use Rattle.std.proofs.lemmas.List.{map-append}
 use Rattle.rt_tags.specs.States.{IsTag, name_at}
 use Rattle.rt_edits.proofs.Planning.{kept_one, names_kept, one_given, passed_over}
-use Rattle.rt_edits.proofs.plan.push_tag.Goals as goal
+use Rattle.rt_edits.proofs.lists.push_tag.Goals as goal
 
 pub returns-then-eq-clause-ok : goal.returns-then-eq-clause-ok
 returns-then-eq-clause-ok c = passed_over (map (name_at c.args.states.now) c.args.tags.now.items) c.args.name.now (sym c.eq.ensures ∙ c.if-eq.true)

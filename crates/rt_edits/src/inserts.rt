@@ -1,0 +1,203 @@
+// The operations of one text with its tags.
+ghost use Rattle.std.specs.Prelude.{◌≡◌, ℕ, ◌⊎◌, ◌+◌, ◌-◌, ◌<◌, ◌≤◌, ◌++◌, ◌∷◌, [], IfOk, IfErr, OnOk, true, length, map, string_bytes, take, drop};
+ghost use Rattle.rt_stamps.specs.declared.limits.TheConstants.{GREATEST_COUNT, MOST_CHARACTERS, MOST_TAGS};
+ghost use Rattle.rt_oplog.specs.Edits.{body_of};
+ghost use Rattle.rt_oplog.specs.Operations.{Insert, Tag};
+ghost use Rattle.rt_store.specs.Cells.{cells_from, stamps_of};
+ghost use Rattle.rt_edits.specs.InsertionDrafts.{behind, tags_on, text_drafts};
+ghost use Rattle.rt_edits.specs.Insertions.{counts_for, further_tags, tagged_cells};
+
+use crate::counts::{further, last_count};
+use rt_oplog::Text;
+use rt_rga::Draft;
+use rt_stamps::limits::{MOST_CHARACTERS, MOST_TAGS};
+use rt_stamps::{Fault, Site, Span, Stamp};
+use std::alloc::Global;
+
+/// Copies of names. Want of memory.
+pub(crate) fn copied(alloc: Global, names: &[String]) -> Result<Vec<String>, Fault>
+    ensures ok { IfOk result (λ v. map (λ w. string_bytes w) v.items ≡ map (λ w. string_bytes w) names.now) }
+    ensures err { IfErr result (λ fault. fault ≡ Fault.NoMemory) }
+{
+    let mut copies = Vec::with_capacity(alloc, names.len())?;
+    for name in names {
+        copies.push(name.clone()?)?;
+    }
+    Ok(copies)
+}
+
+// The characters of an Insert.
+fn text_of(alloc: Global, characters: &[char]) -> Result<Text, Fault>
+    ensures ok { IfOk result (λ text. text ≡ characters.now) }
+    ensures err { IfErr result (λ fault. fault ≡ Fault.NoMemory) }
+{
+    match characters {
+        [character] => Ok(Text::of(*character)),
+        _ => Ok(Text::new(Vec::from_slice(alloc, characters)?)),
+    }
+}
+
+// The characters of the next Insert of a text, and those behind them.
+fn next_part(text: &[char]) -> (&[char], &[char])
+    ensures part { result.0.now ≡ take MOST_CHARACTERS text.now }
+    ensures rest { result.1.now ≡ drop MOST_CHARACTERS text.now }
+{
+    text.split_at(text.len().min(MOST_CHARACTERS))
+}
+
+// The names that an Insert lists, and the further ones.
+fn listed_first(names: &[String]) -> (&[String], &[String])
+    ensures listed { map (λ w. string_bytes w) result.0.now ≡ take MOST_TAGS (map (λ w. string_bytes w) names.now) }
+    ensures further { map (λ w. string_bytes w) result.1.now ≡ further_tags (map (λ w. string_bytes w) names.now) }
+{
+    names.split_at(names.len().min(MOST_TAGS))
+}
+
+// An Insert after an element, with the names that it lists.
+fn insert_draft(
+    alloc: Global,
+    after: Stamp,
+    names: &[String],
+    characters: &[char],
+) -> Result<Draft, Fault>
+    ensures ok { IfOk result (λ draft. body_of draft ≡ Insert after (map (λ w. string_bytes w) names.now) characters.now) }
+    ensures err { IfErr result (λ fault. fault ≡ Fault.NoMemory) }
+{
+    let tags = copied(alloc, names)?;
+    let text = text_of(alloc, characters)?;
+    Ok(Draft::Insert { after, tags, text })
+}
+
+// A Tag that is put on the characters of a span.
+fn tag_draft(alloc: Global, span: Span, name: &str) -> Result<Draft, Fault>
+    ensures ok { IfOk result (λ draft. body_of draft ≡ Tag true name.now (span ∷ [])) }
+    ensures err { IfErr result (λ fault. fault ≡ Fault.NoMemory) }
+{
+    let name = String::from_str(alloc, name)?;
+    let spans = Vec::from_slice(alloc, &[span])?;
+    Ok(Draft::Tag {
+        on: true,
+        name,
+        spans,
+    })
+}
+
+// Adds a Tag for each of some names, put on the characters of a span.
+fn push_tags(
+    alloc: Global,
+    drafts: &mut Vec<Draft>,
+    span: Span,
+    names: &[String],
+) -> Result<(), Fault>
+    ensures ok { OnOk result (map body_of drafts.new.items ≡ map body_of drafts.old.items ++ tags_on span (map (λ w. string_bytes w) names.now)) }
+    ensures err { IfErr result (λ fault. fault ≡ Fault.NoMemory) }
+{
+    for name in names {
+        drafts.push(tag_draft(alloc, span, name)?)?;
+    }
+    Ok(())
+}
+
+// Adds the stamps of new characters, with counts from `first` on.
+fn push_stamps(
+    stamps: &mut Vec<Stamp>,
+    site: Site,
+    first: u64,
+    characters: &[char],
+) -> Result<(), Fault>
+    requires { first + length characters.now ≤ GREATEST_COUNT + 1 }
+    ensures ok { OnOk result (stamps.new.items ≡ stamps.old.items ++ stamps_of {T = ℕ} (cells_from first site.number 0 characters.now)) }
+    ensures err { IfErr result (λ fault. fault ≡ Fault.NoMemory) }
+{
+    let mut count = first;
+    for _ch in characters {
+        stamps.push(Stamp {
+            count,
+            site: site.number(),
+        })?;
+        count += 1;
+    }
+    Ok(())
+}
+
+/// Texts, each behind the one before it, as their operations: these and the stamps of the characters,
+/// both in turn, the greatest count, and the element behind which further text goes.
+#[derive(Drop)]
+pub(crate) struct Inserts {
+    pub drafts: Vec<Draft>,
+    pub stamps: Vec<Stamp>,
+    pub count: u64,
+    pub behind: Stamp,
+}
+
+impl Inserts {
+    // Adds an Insert of some characters, with the Tags behind it.
+    fn push_part(
+        &mut self,
+        alloc: Global,
+        site: Site,
+        names: &[String],
+        part: &[char],
+    ) -> Result<(), Fault>
+        requires { self.old.count + length part.now + (length names.now - MOST_TAGS) ≤ GREATEST_COUNT }
+        ensures drafts { OnOk result (map body_of self.new.drafts.items ≡ map body_of self.old.drafts.items
+            ++ Insert self.old.behind (take MOST_TAGS (map (λ w. string_bytes w) names.now)) part.now
+            ∷ tags_on (record { site = site.number; first = self.old.count + 1; last = self.old.count + length part.now })
+            (further_tags (map (λ w. string_bytes w) names.now))) }
+        ensures stamps { OnOk result (self.new.stamps.items ≡ self.old.stamps.items
+            ++ stamps_of {T = ℕ} (cells_from (self.old.count + 1) site.number 0 part.now)) }
+        ensures count { OnOk result (self.new.count ≡ self.old.count + length part.now + (length names.now - MOST_TAGS)) }
+        ensures behind { OnOk result (self.new.behind ≡ record { count = self.old.count + length part.now; site = site.number }) }
+        ensures err { IfErr result (λ fault. fault ≡ Fault.NoMemory) }
+    {
+        let first = self.count + 1;
+        let last = self.count + part.len() as u64;
+        let site_number = site.number();
+        let (listed, more) = listed_first(names);
+        self.drafts
+            .push(insert_draft(alloc, self.behind, listed, part)?)?;
+        push_stamps(&mut self.stamps, site, first, part)?;
+        let span = Span {
+            site: site_number,
+            first,
+            last,
+        };
+        push_tags(alloc, &mut self.drafts, span, more)?;
+        self.count = last + further(names.len()) as u64;
+        self.behind = Stamp {
+            count: last,
+            site: site_number,
+        };
+        Ok(())
+    }
+
+    /// Adds a text with some tags. `ClockSpent`, or want of memory.
+    pub(crate) fn push_text(
+        &mut self,
+        alloc: Global,
+        site: Site,
+        names: &[String],
+        text: &[char],
+    ) -> Result<(), Fault>
+        requires { self.old.count ≤ GREATEST_COUNT }
+        ensures drafts { OnOk result (map body_of self.new.drafts.items ≡ map body_of self.old.drafts.items
+            ++ text_drafts MOST_CHARACTERS site.number self.old.count self.old.behind (map (λ w. string_bytes w) names.now) text.now) }
+        ensures stamps { OnOk result (self.new.stamps.items ≡ self.old.stamps.items
+            ++ stamps_of (tagged_cells site.number self.old.count (map (λ w. string_bytes w) names.now) text.now)) }
+        ensures count { OnOk result (self.new.count ≡ self.old.count + counts_for (map (λ w. string_bytes w) names.now) text.now) }
+        ensures within { OnOk result (self.new.count ≤ GREATEST_COUNT) }
+        ensures behind { OnOk result (self.new.behind
+            ≡ behind self.old.behind (tagged_cells site.number self.old.count (map (λ w. string_bytes w) names.now) text.now)) }
+        ensures err { IfErr result (λ fault. (fault ≡ Fault.NoMemory)
+            ⊎ ((fault ≡ Fault.ClockSpent) × (GREATEST_COUNT < self.old.count + counts_for (map (λ w. string_bytes w) names.now) text.now))) }
+    {
+        last_count(self.count, names.len(), text.len())?;
+        let mut rest = text;
+        while !rest.is_empty() {
+            let (part, more) = next_part(rest);
+            self.push_part(alloc, site, names, part)?;
+            rest = more;
+        }
+        Ok(())
+    }
+}

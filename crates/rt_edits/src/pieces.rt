@@ -1,0 +1,179 @@
+// Pieces of text with lists, as they are planned.
+ghost use Rattle.std.specs.Prelude.{◌≡◌, ◌⊎◌, ◌+◌, ◌<◌, ◌≤◌, ◌++◌, [], All, IfOk, IfErr, OnOk, List, None, Some, length, map, option_map, string_bytes};
+ghost use Rattle.std.specs.Str.{chars};
+ghost use Rattle.rt_stamps.specs.declared.limits.TheConstants.{GREATEST_COUNT, MOST_CHARACTERS};
+ghost use Rattle.rt_stamps.specs.declared.stamp.Stamp.{Stamp};
+ghost use Rattle.rt_stamps.specs.Words.{Word};
+ghost use Rattle.rt_oplog.specs.Edits.{body_of};
+ghost use Rattle.rt_store.specs.Cells.{stamps_of};
+ghost use Rattle.rt_tags.specs.States.{IsTag, name_at};
+ghost use Rattle.rt_edits.specs.InsertionDrafts.{behind, pieces_drafts, text_drafts};
+ghost use Rattle.rt_edits.specs.Insertions.{Insertion, counts_for, selected_if, shared_names, tagged_cells, with_listed, with_pieces};
+ghost use Rattle.rt_edits.specs.PlannedPieces.{AreSoFar};
+ghost use Rattle.rt_edits.specs.Selections.{with_stamps};
+
+use crate::Piece;
+use crate::inserts::{Inserts, copied};
+use crate::lists::{chars_of, names_sel, shared_tags};
+use rt_stamps::{Fault, Site, Stamp};
+use rt_tags::{StateTable, TagId};
+use std::alloc::Global;
+
+/// The names of tags. Want of memory.
+pub(crate) fn names_of(
+    alloc: Global,
+    states: &StateTable,
+    tags: &[TagId],
+) -> Result<Vec<String>, Fault>
+    requires { All (IsTag states.now) tags.now }
+    ensures ok { IfOk result (λ v. map (λ w. string_bytes w) v.items ≡ map (name_at states.now) tags.now) }
+    ensures err { IfErr result (λ fault. fault ≡ Fault.NoMemory) }
+{
+    let mut names = Vec::with_capacity(alloc, tags.len())?;
+    for tag in tags {
+        names.push(String::from_str(alloc, states.name(*tag))?)?;
+    }
+    Ok(names)
+}
+
+// The names of a list by their bytes, each once, but for `sel`.
+fn shared_names(alloc: Global, names: &[String]) -> Result<Vec<String>, Fault>
+    ensures ok { IfOk result (λ v. map (λ w. string_bytes w) v.items ≡ shared_names (map (λ w. string_bytes w) names.now)) }
+    ensures err { IfErr result (λ fault. fault ≡ Fault.NoMemory) }
+{
+    let mut states = StateTable::new(alloc)?;
+    let tags = shared_tags(alloc, &mut states, names)?;
+    names_of(alloc, &states, &tags)
+}
+
+/// Pieces of text as they are planned: their operations and characters, those that the commanding
+/// widget selects, the tags to list in turn, and those of the last text that has characters.
+#[derive(Drop)]
+pub(crate) struct PlannedPieces {
+    pub texts: Inserts,
+    pub selected: Vec<Stamp>,
+    pub names: Vec<String>,
+    pub last: Option<Vec<String>>,
+}
+
+impl PlannedPieces {
+    // No text, behind an element and after a count.
+    fn new(alloc: Global, count: u64, after: Stamp) -> PlannedPieces
+        ensures drafts { result.texts.drafts.items ≡ [] }
+        ensures stamps { result.texts.stamps.items ≡ [] }
+        ensures count { result.texts.count ≡ count }
+        ensures behind { result.texts.behind ≡ after }
+        ensures selected { result.selected.items ≡ [] }
+        ensures names { result.names.items ≡ [] }
+        ensures last { result.last ≡ None }
+    {
+        PlannedPieces {
+            texts: Inserts {
+                drafts: Vec::new(alloc),
+                stamps: Vec::new(alloc),
+                count,
+                behind: after,
+            },
+            selected: Vec::new(alloc),
+            names: Vec::new(alloc),
+            last: None,
+        }
+    }
+
+    /// Adds a text with some tags, which are to be listed, and answers the stamps of its characters.
+    /// `ClockSpent`, or want of memory.
+    pub(crate) fn add_text(
+        &mut self,
+        alloc: Global,
+        site: Site,
+        names: &[String],
+        text: &[char],
+    ) -> Result<Vec<Stamp>, Fault>
+        requires { self.old.texts.count ≤ GREATEST_COUNT }
+        ensures drafts { OnOk result (map body_of self.new.texts.drafts.items ≡ map body_of self.old.texts.drafts.items
+            ++ text_drafts MOST_CHARACTERS site.number self.old.texts.count self.old.texts.behind (map (λ w. string_bytes w) names.now) text.now) }
+        ensures stamps { OnOk result (self.new.texts.stamps.items ≡ self.old.texts.stamps.items
+            ++ stamps_of (tagged_cells site.number self.old.texts.count (map (λ w. string_bytes w) names.now) text.now)) }
+        ensures new { IfOk result (λ stamps. stamps.items
+            ≡ stamps_of (tagged_cells site.number self.old.texts.count (map (λ w. string_bytes w) names.now) text.now)) }
+        ensures count { OnOk result (self.new.texts.count ≡ self.old.texts.count + counts_for (map (λ w. string_bytes w) names.now) text.now) }
+        ensures within { OnOk result (self.new.texts.count ≤ GREATEST_COUNT) }
+        ensures behind { OnOk result (self.new.texts.behind ≡ behind self.old.texts.behind
+            (tagged_cells site.number self.old.texts.count (map (λ w. string_bytes w) names.now) text.now)) }
+        ensures names { OnOk result (map (λ w. string_bytes w) self.new.names.items
+            ≡ map (λ w. string_bytes w) self.old.names.items ++ map (λ w. string_bytes w) names.now) }
+        ensures selected { self.new.selected ≡ self.old.selected }
+        ensures last { self.new.last ≡ self.old.last }
+        ensures err { IfErr result (λ fault. (fault ≡ Fault.NoMemory) ⊎ ((fault ≡ Fault.ClockSpent)
+            × (GREATEST_COUNT < self.old.texts.count + counts_for (map (λ w. string_bytes w) names.now) text.now))) }
+    {
+        let before = self.texts.stamps.len();
+        self.texts.push_text(alloc, site, names, text)?;
+        let mut more = copied(alloc, names)?;
+        self.names.append(&mut more)?;
+        Ok(Vec::from_slice(alloc, &self.texts.stamps[before..])?)
+    }
+
+    /// Selects characters, where that is asked. Want of memory.
+    pub(crate) fn select(&mut self, selected: bool, stamps: &[Stamp]) -> Result<(), Fault>
+        ensures selected { OnOk result ((selection : List Stamp)
+            → with_stamps self.new.selected.items selection ≡ selected_if selected stamps.now (with_stamps self.old.selected.items selection)) }
+        ensures same { self.new ≡ record self.old { selected = self.new.selected } }
+        ensures err { IfErr result (λ fault. fault ≡ Fault.NoMemory) }
+    {
+        if selected {
+            self.selected.extend_from_slice(stamps)?;
+        }
+        Ok(())
+    }
+
+    // Adds a piece with a list. `ClockSpent`, or want of memory.
+    fn add_listed(&mut self, alloc: Global, site: Site, piece: &Piece) -> Result<(), Fault>
+        requires { self.old.texts.count ≤ GREATEST_COUNT }
+        ensures drafts { OnOk result (map body_of self.new.texts.drafts.items ≡ map body_of self.old.texts.drafts.items
+            ++ text_drafts MOST_CHARACTERS site.number self.old.texts.count self.old.texts.behind (shared_names piece.now.tags) (chars piece.now.text)) }
+        ensures so_far { OnOk result ((after : Stamp) (selection : List Stamp) (listed : List Word) (so_far : Insertion)
+            → AreSoFar after selection listed self.old so_far
+            → AreSoFar after selection listed self.new (with_listed site.number piece.now.tags (chars piece.now.text) so_far)) }
+        ensures within { OnOk result (self.new.texts.count ≤ GREATEST_COUNT) }
+        ensures err { IfErr result (λ fault. (fault ≡ Fault.NoMemory) ⊎ ((fault ≡ Fault.ClockSpent)
+            × (GREATEST_COUNT < self.old.texts.count + counts_for (shared_names piece.now.tags) (chars piece.now.text)))) }
+    {
+        let text = chars_of(alloc, piece.text())?;
+        if text.is_empty() {
+            return Ok(());
+        }
+        let names = shared_names(alloc, piece.tags())?;
+        let stamps = self.add_text(alloc, site, &names, &text)?;
+        self.select(names_sel(piece.tags()), &stamps)?;
+        self.last = Some(names);
+        Ok(())
+    }
+
+    /// Pieces with lists, behind an element, with the counts after one. `ClockSpent`, or want of memory.
+    pub(crate) fn of(
+        alloc: Global,
+        site: Site,
+        count: u64,
+        after: Stamp,
+        pieces: &[Piece],
+    ) -> Result<PlannedPieces, Fault>
+        requires { count ≤ GREATEST_COUNT }
+        ensures drafts { IfOk result (λ all. (sel : List Stamp) (others : List (List Stamp)) (tags : List Word)
+            → map body_of all.texts.drafts.items ≡ pieces_drafts MOST_CHARACTERS site.number after pieces.now
+            (record { cells = []; count = count; sel = sel; others = others; tags = tags })) }
+        ensures so_far { IfOk result (λ all. (sel : List Stamp) (others : List (List Stamp)) (tags : List Word)
+            → AreSoFar after sel tags all
+            (with_pieces site.number pieces.now (record { cells = []; count = count; sel = sel; others = others; tags = tags }))) }
+        ensures within { IfOk result (λ all. all.texts.count ≤ GREATEST_COUNT) }
+        ensures err { IfErr result (λ fault. (fault ≡ Fault.NoMemory)
+            ⊎ ((fault ≡ Fault.ClockSpent) × ((sel : List Stamp) (others : List (List Stamp)) (tags : List Word)
+            → GREATEST_COUNT < (with_pieces site.number pieces.now (record { cells = []; count = count; sel = sel; others = others; tags = tags })).count))) }
+    {
+        let mut all = PlannedPieces::new(alloc, count, after);
+        for piece in pieces {
+            all.add_listed(alloc, site, piece)?;
+        }
+        Ok(all)
+    }
+}

@@ -1,0 +1,176 @@
+// Text without a list, behind the pieces that are planned.
+ghost use Rattle.std.specs.Prelude.{◌≡◌, ◌⊎◌, ◌+◌, ◌<◌, ◌≤◌, ◌++◌, ◌&&◌, ◌||◌, [], IfOk, IfErr, IfSome, OnOk, List, None, Some, filter, is_some, length, map, option_map, string_bytes, unwrap_or};
+ghost use Rattle.std.specs.Str.{chars};
+ghost use Rattle.rt_stamps.specs.declared.limits.TheConstants.{GREATEST_COUNT, MOST_CHARACTERS};
+ghost use Rattle.rt_stamps.specs.declared.stamp.Stamp.{Stamp};
+ghost use Rattle.rt_stamps.specs.declared.stamp.TheConstants.{ROOT};
+ghost use Rattle.rt_stamps.specs.Words.{Word};
+ghost use Rattle.rt_oplog.specs.Edits.{body_of};
+ghost use Rattle.rt_store.specs.Shown.{TaggedCell, shown};
+ghost use Rattle.rt_store.specs.Spans.{is_among};
+ghost use Rattle.rt_tags.specs.States.{IsState, is_on, names_on, state_at};
+ghost use Rattle.rt_edits.specs.declared.inserting.Plan.{Plan};
+ghost use Rattle.rt_edits.specs.InsertionDrafts.{behind, text_drafts};
+ghost use Rattle.rt_edits.specs.InsertionPlans.{Plans};
+ghost use Rattle.rt_edits.specs.Insertions.{Insertion, counts_for, last_of, tags_between, with_unlisted};
+ghost use Rattle.rt_edits.specs.PlannedPieces.{ArePlanned, AreSoFar};
+ghost use Rattle.rt_edits.specs.Selected.{stamps_in};
+ghost use Rattle.rt_edits.specs.Selections.{with_stamps};
+
+use crate::Selection;
+use crate::inserting::Between;
+use crate::lists::{chars_of, tags_of_both};
+use crate::pieces::{PlannedPieces, names_of};
+use rt_stamps::{Fault, Site, Stamp};
+use rt_store::Cell;
+use rt_tags::{StateId, StateTable};
+use std::alloc::Global;
+
+// Whether the tag of a name is on in a state.
+fn is_on(states: &StateTable, name: &str, state: StateId) -> bool
+    requires { IsState states.now state }
+    ensures { result ≡ is_on name.now (state_at states.now state) }
+{
+    match states.known(name) {
+        Some(tag) => states.has(state, tag),
+        None => false,
+    }
+}
+
+// Those of some names that are on in a state.
+fn names_also(
+    alloc: Global,
+    states: &StateTable,
+    names: &[String],
+    state: StateId,
+) -> Result<Vec<String>, Fault>
+    requires { IsState states.now state }
+    ensures ok { IfOk result (λ v. map (λ w. string_bytes w) v.items
+        ≡ filter (λ name. is_on name (state_at states.now state)) (map (λ w. string_bytes w) names.now)) }
+    ensures err { IfErr result (λ fault. fault ≡ Fault.NoMemory) }
+{
+    let mut both = Vec::new(alloc);
+    for name in names {
+        if is_on(states, name, state) {
+            both.push(name.clone()?)?;
+        }
+    }
+    Ok(both)
+}
+
+// The names of the tags between two cells that are there.
+fn names_of_both(
+    alloc: Global,
+    states: &StateTable,
+    left: Option<Cell<StateId>>,
+    right: Cell<StateId>,
+) -> Result<Vec<String>, Fault>
+    requires left { IfSome left (λ cell. IsState states.now cell.state) }
+    requires right { IsState states.now right.state }
+    ensures ok { IfOk result (λ v. map (λ w. string_bytes w) v.items
+        ≡ tags_between (option_map (shown states.now) left) (Some (shown states.now right))) }
+    ensures err { IfErr result (λ fault. fault ≡ Fault.NoMemory) }
+{
+    match left {
+        Some(left) => {
+            let tags = tags_of_both(alloc, states, left.state, right.state)?;
+            names_of(alloc, states, &tags)
+        }
+        None => Ok(Vec::new(alloc)),
+    }
+}
+
+impl PlannedPieces {
+    // The tags of text without a list, behind the pieces, or where these have no text a left neighbour.
+    fn names_between(
+        &self,
+        alloc: Global,
+        states: &StateTable,
+        left: Option<Cell<StateId>>,
+        right: Cell<StateId>,
+    ) -> Result<Vec<String>, Fault>
+        requires left { IfSome left (λ cell. IsState states.now cell.state) }
+        requires right { IsState states.now right.state }
+        ensures ok { IfOk result (λ v. (cells : List TaggedCell)
+            → option_map (λ names. map (λ w. string_bytes w) names.items) self.now.last ≡ option_map (λ cell. names_on cell.state) (last_of None cells)
+            → map (λ w. string_bytes w) v.items ≡ tags_between (last_of (option_map (shown states.now) left) cells) (Some (shown states.now right))) }
+        ensures err { IfErr result (λ fault. fault ≡ Fault.NoMemory) }
+    {
+        match &self.last {
+            Some(names) => names_also(alloc, states, names, right.state),
+            None => names_of_both(alloc, states, left, right),
+        }
+    }
+
+    // Whether there is a character before further text, in the pieces or before them.
+    fn has_left(&self, left: &Option<Cell<StateId>>) -> bool
+        ensures { result ≡ (is_some self.now.last || is_some left.now) }
+    {
+        self.last.is_some() || left.is_some()
+    }
+
+    // Whether two characters are both selected already, or after the insertion.
+    fn selects_both(&self, selection: &Selection, left: Stamp, right: Stamp) -> bool
+        ensures both { result ≡ (is_among (with_stamps self.now.selected.items (stamps_in selection.now)) left
+            && is_among (with_stamps self.now.selected.items (stamps_in selection.now)) right) }
+    {
+        self.selects(selection, left) && self.selects(selection, right)
+    }
+
+    // Whether a character is selected already, or after the insertion.
+    fn selects(&self, selection: &Selection, stamp: Stamp) -> bool
+        ensures { result ≡ is_among (with_stamps self.now.selected.items (stamps_in selection.now)) stamp }
+    {
+        selection.has(stamp) || self.selected.contains(&stamp)
+    }
+
+    /// Adds text without a list behind the pieces, or where they have no text, behind a left neighbour,
+    /// and answers the characters that stand between two others. `ClockSpent`, or want of memory.
+    pub(crate) fn add_rest(
+        &mut self,
+        alloc: Global,
+        states: &StateTable,
+        site: Site,
+        selection: &Selection,
+        left: Option<Cell<StateId>>,
+        right: Cell<StateId>,
+        rest: &str,
+    ) -> Result<Option<Between>, Fault>
+        requires count { self.old.texts.count ≤ GREATEST_COUNT }
+        requires left { IfSome left (λ cell. IsState states.now cell.state) }
+        requires right { IsState states.now right.state }
+        ensures drafts { OnOk result ((after : Stamp) (listed : List Word) (so_far : Insertion)
+            → AreSoFar after (stamps_in selection.now) listed self.old so_far → map body_of self.new.texts.drafts.items
+            ≡ map body_of self.old.texts.drafts.items ++ text_drafts MOST_CHARACTERS site.number so_far.count (behind after so_far.cells)
+            (tags_between (last_of (option_map (shown states.now) left) so_far.cells) (Some (shown states.now right))) (chars rest.now)) }
+        ensures plans { IfOk result (λ between. (plan : Plan) (after : Stamp) (listed : List Word) (so_far : Insertion)
+            → AreSoFar after (stamps_in selection.now) listed self.old so_far
+            → after ≡ unwrap_or (option_map (λ cell. cell.stamp) left) ROOT → ArePlanned plan self.new between
+            → Plans plan (stamps_in selection.now) so_far.others listed (with_unlisted site.number
+            (last_of (option_map (shown states.now) left) so_far.cells) (Some (shown states.now right)) (chars rest.now) so_far)) }
+        ensures err { IfErr result (λ fault. (fault ≡ Fault.NoMemory) ⊎ ((fault ≡ Fault.ClockSpent)
+            × ((after : Stamp) (listed : List Word) (so_far : Insertion) → AreSoFar after (stamps_in selection.now) listed self.old so_far
+            → GREATEST_COUNT < so_far.count + counts_for
+            (tags_between (last_of (option_map (shown states.now) left) so_far.cells) (Some (shown states.now right))) (chars rest.now)))) }
+    {
+        let text = chars_of(alloc, rest)?;
+        if text.is_empty() {
+            return Ok(None);
+        }
+        let has_left = self.has_left(&left);
+        let before = self.texts.behind;
+        let after = right.stamp;
+        let names = self.names_between(alloc, states, left, right)?;
+        let stamps = self.add_text(alloc, site, &names, &text)?;
+        if !has_left {
+            return Ok(None);
+        }
+        let selected = self.selects_both(selection, before, after);
+        self.select(selected, &stamps)?;
+        Ok(Some(Between {
+            left: before,
+            right: after,
+            stamps,
+        }))
+    }
+}
