@@ -11,10 +11,12 @@ use Rattle.rt_stamps.specs.Outcomes.{first_of}
 use Rattle.rt_stamps.specs.Words.{Word}
 use Rattle.rt_rga.specs.Cells.{cells_of}
 use Rattle.rt_rga.specs.Drafts.{with_drafts}
-use Rattle.rt_rga.specs.Histories.{greatest_last_count}
+use Rattle.rt_rga.specs.Histories.{IsHistory, greatest_last_count}
 use Rattle.rt_rga.specs.Kept.{ReplicaValue}
 use Rattle.rt_rga.specs.Made.{refusal_of}
 use Rattle.rt_rga.specs.Requests.{characters_in_all, last_count_after}
+use Rattle.rt_rga.proofs.Corollaries.{cells_written}
+use Rattle.rt_store.specs.Written.{AreWritten}
 use Rattle.rt_edits.specs.DraftLaws.{IsDocument}
 use Rattle.rt_edits.specs.Flat.{Flat, logged}
 use Rattle.rt_text.specs.Commands.{clock_check, cell_check}
@@ -93,3 +95,9 @@ both_fit count limit cells e = by (nat_lt GREATEST_COUNT count) (nat_lt limit ce
     by false false f h k = (ltb-false GREATEST_COUNT count f, ltb-false limit cells h)
     by false true f h k = let bad : ⊥ = cc in absurd bad
     by true d f h k = let bad : ⊥ = cc in absurd bad
+
+-- WRITES
+
+-- no write in a document that has the cells of a history is newer than its count
+pub document_written : (flat : Flat) → IsHistory flat.log → IsDocument flat.site flat.log flat → AreWritten flat.count flat.cells
+document_written flat history doc = subst (λ (p : _). p) (λ i. AreWritten (sym doc.count i) (sym doc.cells i)) (cells_written flat.log history)

@@ -21,7 +21,7 @@ use Rattle.rt_edits.proofs.ListedWrites.{StaysTagged, all_without_stays}
 use Rattle.rt_text.specs.Kept.{IsDoc}
 use Rattle.rt_text.specs.Widgets.{AreSiteMarks}
 use Rattle.rt_text.proofs.KeptDocument.{clock_fine}
-use Rattle.rt_text.proofs.MadeDocument.{seen}
+use Rattle.rt_text.proofs.MadeDocument.{document_written, seen}
 use Rattle.rt_text.proofs.TaggedDocument.{deleted_makes, fits, kept_beside, left_of_deletion, makes_seen, of_site, refuses}
 use Rattle.rt_text.proofs.doc.Doc.delete_tags.Goals as goal
 
@@ -30,7 +30,7 @@ make-requires g c =
     let old = c.args.self.now in
     let names = map (λ w. string_bytes w) c.args.names.now in
     let drafts = deletion_drafts MOST_SPANS old names in
-    let bodies : map body_of c.in_ok-drafts.drafts.items ≡ drafts = c.in_ok-drafts.ensures.ok old (sym c.kept.ensures.cells) in
+    let bodies : map body_of c.in_ok-drafts.drafts.items ≡ drafts = c.in_ok-drafts.ensures.ok old (document_written old c.kept.ensures.history c.kept.ensures.document) (sym c.kept.ensures.cells) in
     let of = of_site c.kept.result.1.now (g.S.TextStore.list c.kept.result.0.now) old c.kept.ensures.history c.kept.ensures.document c.kept.ensures.site c.kept.ensures.cells c.kept.ensures.few in
     let makes = deleted_makes old names of in
     subst (λ (l : List Body). MayBeMade c.self.inside.replica.site c.self.inside.replica.log l) (sym bodies)
@@ -41,7 +41,7 @@ returns-in_err-_made-clause-err g c =
     let old = c.args.self.now in
     let names = map (λ w. string_bytes w) c.args.names.now in
     let drafts = deletion_drafts MOST_SPANS old names in
-    let bodies : map body_of c.in_ok-drafts.drafts.items ≡ drafts = c.in_ok-drafts.ensures.ok old (sym c.kept.ensures.cells) in
+    let bodies : map body_of c.in_ok-drafts.drafts.items ≡ drafts = c.in_ok-drafts.ensures.ok old (document_written old c.kept.ensures.history c.kept.ensures.document) (sym c.kept.ensures.cells) in
     let of = of_site c.kept.result.1.now (g.S.TextStore.list c.kept.result.0.now) old c.kept.ensures.history c.kept.ensures.document c.kept.ensures.site c.kept.ensures.cells c.kept.ensures.few in
     let edited = without_tags old names in
     let makes = deleted_makes old names of in
@@ -56,7 +56,7 @@ invariant_of-self-2 g c =
     let old = c.args.self.now in
     let names = map (λ w. string_bytes w) c.args.names.now in
     let drafts = deletion_drafts MOST_SPANS old names in
-    let bodies : map body_of c.in_ok-drafts.drafts.items ≡ drafts = c.in_ok-drafts.ensures.ok old (sym c.kept.ensures.cells) in
+    let bodies : map body_of c.in_ok-drafts.drafts.items ≡ drafts = c.in_ok-drafts.ensures.ok old (document_written old c.kept.ensures.history c.kept.ensures.document) (sym c.kept.ensures.cells) in
     let of = of_site c.kept.result.1.now (g.S.TextStore.list c.kept.result.0.now) old c.kept.ensures.history c.kept.ensures.document c.kept.ensures.site c.kept.ensures.cells c.kept.ensures.few in
     let edited = without_tags old names in
     let makes = deleted_makes old names of in
@@ -78,7 +78,7 @@ returns-clause-ok g c =
     let old = c.args.self.now in
     let names = map (λ w. string_bytes w) c.args.names.now in
     let drafts = deletion_drafts MOST_SPANS old names in
-    let bodies : map body_of c.in_ok-drafts.drafts.items ≡ drafts = c.in_ok-drafts.ensures.ok old (sym c.kept.ensures.cells) in
+    let bodies : map body_of c.in_ok-drafts.drafts.items ≡ drafts = c.in_ok-drafts.ensures.ok old (document_written old c.kept.ensures.history c.kept.ensures.document) (sym c.kept.ensures.cells) in
     let of = of_site c.kept.result.1.now (g.S.TextStore.list c.kept.result.0.now) old c.kept.ensures.history c.kept.ensures.document c.kept.ensures.site c.kept.ensures.cells c.kept.ensures.few in
     let edited = without_tags old names in
     let makes = deleted_makes old names of in
@@ -96,7 +96,7 @@ returns-clause-text g c =
     let old = c.args.self.now in
     let names = map (λ w. string_bytes w) c.args.names.now in
     let drafts = deletion_drafts MOST_SPANS old names in
-    let bodies : map body_of c.in_ok-drafts.drafts.items ≡ drafts = c.in_ok-drafts.ensures.ok old (sym c.kept.ensures.cells) in
+    let bodies : map body_of c.in_ok-drafts.drafts.items ≡ drafts = c.in_ok-drafts.ensures.ok old (document_written old c.kept.ensures.history c.kept.ensures.document) (sym c.kept.ensures.cells) in
     let of = of_site c.kept.result.1.now (g.S.TextStore.list c.kept.result.0.now) old c.kept.ensures.history c.kept.ensures.document c.kept.ensures.site c.kept.ensures.cells c.kept.ensures.few in
     let edited = without_tags old names in
     let makes = deleted_makes old names of in
