@@ -1,18 +1,17 @@
 -- Laws of cells.
 use Rattle.std.proofs.Common.{◌≡◌, ℕ, ◌+◌, ◌<◌, ◌≤◌, zero, suc, List, [], ◌∷◌, ◌++◌, Bool, true, false, cond, length, take, drop, refl, sym, ◌∙◌, ap, arith, eqb, Some, not, ◌&&◌}
 use Rattle.std.specs.Prelude.{slice_get, take_while, nat_lt}
-use Rattle.std.proofs.lemmas.List.Elements.{All-drop, All-take, All-append, All-cons, All-nil}
+use Rattle.std.proofs.lemmas.List.Elements.{All-drop, All-take, All-append}
 use Rattle.std.proofs.lemmas.Bool.{le-ltb, eqb-true}
 use Rattle.std.specs.List.{position_or_len}
 use Rattle.rt_stamps.specs.declared.stamp.Stamp.{Stamp}
 use Rattle.rt_store.specs.declared.cell.Cell.{Cell}
-use Rattle.rt_stamps.specs.declared.stamp.TheConstants.{FINAL, ROOT}
+use Rattle.rt_stamps.specs.declared.stamp.TheConstants.{FINAL}
 use Rattle.rt_stamps.specs.Stamps.{is_before, is_same}
-use Rattle.rt_store.specs.Cells.{EndsFinal, final_cell, skip_from, visible_of, after_element, StandsBefore, with_state, cells_from}
+use Rattle.rt_store.specs.Cells.{EndsFinal, final_cell, skip_from, visible_of, after_element, with_state, cells_from}
 use Rattle.rt_edits.specs.Flat.{put_after}
 use Rattle.rt_store.specs.Written.{IsBelowNext, AreBelowNext}
 use Rattle.rt_stamps.proofs.Order.{same_refl}
-use Rattle.rt_store.proofs.Places.{stands_by}
 
 -- a known stamp is no greater than one of the next count
 lesser_site : (new old : Stamp) (b : Bool) → eqb new.count old.count ≡ b → (new.count ≡ old.count → old.site ≡ 0) → b && nat_lt new.site old.site ≡ false
@@ -75,13 +74,6 @@ pub found_before : {T : Type 0} (cells : List (Cell T)) (p : ℕ) (cell : Cell T
     → position_or_len (λ x. is_same x.stamp cell.stamp) cells + 1 < length cells
 found_before [] p cell h k = absurd (omega arith)
 found_before (x ∷ xs) p cell h k = found_step x xs p cell x.gone h k (λ q a b. found_before xs q cell a b)
-
-pub left_stands : {T : Type 0} (cells : List (Cell T)) (p : ℕ) (cell : Cell T) → slice_get (visible_of cells) p ≡ Some cell → suc p < length (visible_of cells) → StandsBefore cells cell.stamp
-left_stands cells p cell h k = stands_by _ _ (is_same cell.stamp ROOT) (found_before cells p cell h k)
-
--- the final newline is known to each document
-pub known_final : (count : ℕ) → AreBelowNext count (final_cell ∷ [])
-known_final count = All-cons (λ cell. IsBelowNext count cell.stamp) final_cell [] (omega arith, λ e. refl) (All-nil (λ cell. IsBelowNext count cell.stamp))
 
 -- a last cell that stands alone is the final newline, in some state
 pub final_parts : (x : Cell ℕ) → EndsFinal (x ∷ []) → (x.stamp ≡ FINAL) × (x.ch ≡ 10) × (x.gone ≡ false)

@@ -1,20 +1,14 @@
 -- Stamps that differ.
-use Rattle.std.proofs.Common.{◌≡◌, ℕ, ◌+◌, ◌<◌, ◌≤◌, List, [], ◌∷◌, ◌++◌, Bool, true, false, cond, length, take, drop, refl, sym, ◌∙◌, ap, subst, arith, append_assoc, take-append-drop}
+use Rattle.std.proofs.Common.{◌≡◌, ℕ, ◌+◌, List, [], ◌∷◌, Bool, true, false, cond, refl}
 use Rattle.std.specs.List.{IsDistinct}
-use Rattle.std.specs.List.Sorted.{IsPermutation}
 use Rattle.std.proofs.lemmas.Bool.{or_from, or_parts}
-use Rattle.std.proofs.lemmas.List.Sorted.{IsPermutation-append_left, IsPermutation-append_comm, IsPermutation-map}
-use Rattle.std.proofs.lemmas.Map.Keys.{IsDistinct-IsPermutation}
 use Rattle.rt_stamps.specs.declared.stamp.Stamp.{Stamp}
 use Rattle.rt_stamps.specs.Stamps.{is_same}
-use Rattle.rt_stamps.proofs.Order.{same_sym}
 use Rattle.rt_store.specs.declared.cell.Cell.{Cell}
-use Rattle.rt_store.specs.Cells.{after_element, cells_from, stamps_of, AreDistinct}
-use Rattle.rt_edits.specs.Flat.{put_after}
-use Rattle.rt_store.specs.Written.{AreBelowNext}
+use Rattle.rt_store.specs.Cells.{stamps_of}
 use Rattle.rt_store.specs.Spans.{is_among}
 use Rattle.rt_edits.specs.Removals.{stamps_at}
-use Rattle.rt_store.proofs.Distinct.{distinct_more, distinct_new, first_apart, none_distinct, others_distinct}
+use Rattle.rt_store.proofs.Distinct.{distinct_more, first_apart, none_distinct, others_distinct}
 
 -- STAMPS AT PLACES
 
@@ -44,28 +38,3 @@ distinct_at r p (c ∷ cs) h =
     let rest = others_distinct c.stamp (stamps_of cs) h in
     distinct_step c.stamp c.gone (r p) (stamps_at r p cs) (stamps_at r (p + 1) cs)
     (stamps_within r (p + 1) cs c.stamp (first_apart c.stamp (stamps_of cs) h)) (distinct_at r p cs rest) (distinct_at r (p + 1) cs rest)
-
-few_step : (x : Stamp) (b d : Bool) (xs ys : List Stamp) (n : ℕ) → length xs ≤ n → length ys ≤ n → length (cond b xs (cond d (x ∷ ys) ys)) ≤ n + 1
-few_step x true d xs ys n h k = omega arith
-few_step x false true xs ys n h k = omega arith
-few_step x false false xs ys n h k = omega arith
-
--- and are no more
-pub stamps_few : {T : Type 0} (r : ℕ → Bool) (p : ℕ) (cells : List (Cell T)) → length (stamps_at r p cells) ≤ length cells
-stamps_few r p [] = omega arith
-stamps_few r p (c ∷ cs) =
-    omega (arith, few_step c.stamp c.gone (r p) (stamps_at r p cs) (stamps_at r (p + 1) cs) (length cs) (stamps_few r p cs) (stamps_few r (p + 1) cs))
-
--- new cells with counts above all known ones differ from all
-pub distinct_put : {T : Type 0} (count first site : ℕ) (cells : List (Cell T)) (left : Stamp) (state : T) (text : List ℕ) → count < first → 1 ≤ site → AreBelowNext count cells → AreDistinct cells
-    → AreDistinct (put_after cells left (cells_from first site state text))
-distinct_put {T} count first site cells left state text h k known d =
-    let at = after_element cells left in
-    let new = cells_from first site state text in
-    let before : List (Cell T) = take at cells in
-    let behind : List (Cell T) = drop at cells in
-    let same : (new ++ before) ++ behind ≡ new ++ cells = append_assoc new before behind ∙ ap (λ l. new ++ l) (take-append-drop at cells) in
-    let moved : IsPermutation ((new ++ before) ++ behind) ((before ++ new) ++ behind) = IsPermutation-append_left behind (new ++ before) (before ++ new) (IsPermutation-append_comm new before) in
-    IsDistinct-IsPermutation is_same same_sym (stamps_of ((new ++ before) ++ behind)) (stamps_of ((before ++ new) ++ behind))
-    (IsPermutation-map (λ (cell : Cell T). cell.stamp) ((new ++ before) ++ behind) ((before ++ new) ++ behind) moved)
-    (subst AreDistinct (sym same) (distinct_new count first site state text cells h k known d))

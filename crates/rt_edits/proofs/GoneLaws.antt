@@ -1,19 +1,15 @@
 -- Cells made gone by their stamps are those at the places.
-use Rattle.std.proofs.Common.{◌≡◌, ℕ, suc, All, ◌+◌, ◌-◌, ◌<◌, ◌≤◌, List, [], ◌∷◌, Bool, true, false, cond, not, ◌||◌, length, map, refl, sym, ◌∙◌, ap, arith}
+use Rattle.std.proofs.Common.{◌≡◌, ℕ, ◌+◌, ◌≤◌, List, [], ◌∷◌, Bool, true, false, cond, not, ◌||◌, length, map, refl, sym, ◌∙◌, ap, arith}
 use native.Mathlib.Numerals.{unary_clauses}
-use Rattle.std.proofs.lemmas.Bool.{or_from, or_left, or_right, cond-true, cond-false}
+use Rattle.std.proofs.lemmas.Bool.{or_left, or_right, cond-true, cond-false}
 use Rattle.rt_stamps.specs.declared.stamp.Span.{Span}
 use Rattle.rt_stamps.specs.declared.stamp.Stamp.{Stamp}
-use Rattle.rt_stamps.specs.declared.stamp.TheConstants.{FINAL}
 use Rattle.rt_stamps.specs.Stamps.{is_same}
 use Rattle.rt_stamps.proofs.Order.{same_refl}
 use Rattle.rt_store.specs.declared.cell.Cell.{Cell}
-use Rattle.rt_store.specs.Cells.{EndsFinal, visible_of, text_of, stamps_of, AreDistinct}
-use Rattle.rt_edits.specs.Removals.{is_covered, stamps_at, gone_at}
-use Rattle.rt_edits.specs.declared.range.Range.{Range}
+use Rattle.rt_store.specs.Cells.{EndsFinal, visible_of, stamps_of, AreDistinct}
+use Rattle.rt_edits.specs.Removals.{stamps_at, gone_at}
 use Rattle.rt_edits.proofs.CellLaws.{final_parts}
-use Rattle.rt_edits.proofs.PlaceLaws.{length_text}
-use Rattle.rt_edits.proofs.StampLaws.{uncovered_from}
 use Rattle.rt_store.specs.Spans.{is_among, is_in_spans, gone_in_any}
 use Rattle.rt_edits.proofs.DistinctLaws.{stamps_within}
 use Rattle.rt_store.proofs.Distinct.{split, first_apart, others_distinct, differs}
@@ -81,11 +77,6 @@ gone_from_spans r cells spans d h = marked (is_in_spans spans) r 0 cells d (λ s
 last_tail : (x y : Cell ℕ) (xs : List (Cell ℕ)) → EndsFinal (x ∷ y ∷ xs) → EndsFinal (y ∷ xs)
 last_tail x y xs h = simp unary_clauses (simp unary_clauses at h)
 
-final_among : (cells : List (Cell ℕ)) → EndsFinal cells → is_among (stamps_of cells) FINAL ≡ true
-final_among [] h = let bad : ⊥ = cc in absurd bad
-final_among (x ∷ []) h = let parts = final_parts x h in or_left (is_same x.stamp FINAL) _ (ap (λ s. is_same s FINAL) parts.0 ∙ same_refl FINAL)
-final_among (x ∷ y ∷ xs) h = or_right (is_same x.stamp FINAL) _ (final_among (y ∷ xs) (last_tail x y xs h))
-
 some_step : {T : Type 0} (b : Bool) (x : Cell T) (xs : List (Cell T)) → 1 ≤ length xs → 1 ≤ length (cond (not b) (x ∷ xs) xs)
 some_step true x xs h = h
 some_step false x xs h = omega arith
@@ -94,33 +85,3 @@ pub some_visible : (cells : List (Cell ℕ)) → EndsFinal cells → 1 ≤ lengt
 some_visible [] h = let bad : ⊥ = cc in absurd bad
 some_visible (x ∷ []) h = let parts = final_parts x h in rw parts.2 (omega arith)
 some_visible (x ∷ y ∷ xs) h = some_step x.gone x (visible_of (y ∷ xs)) (some_visible (y ∷ xs) (last_tail x y xs h))
-
-final_step : {T : Type 0} (x : Stamp) (b d : Bool) (p n : ℕ) (r : ℕ → Bool) (c : Cell T) (vs : List (Cell T)) (xs ys : List Stamp) → is_same x FINAL ≡ false → 1 ≤ length vs
-    → r (p + (length (cond (not b) (c ∷ vs) vs) - 1)) ≡ false
-    → (r (p + (length vs - 1)) ≡ false → is_among xs FINAL ≡ false) → (r (p + 1 + (length vs - 1)) ≡ false → is_among ys FINAL ≡ false)
-    → is_among (cond b xs (cond d (x ∷ ys) ys)) FINAL ≡ false
-final_step x true d p n r c vs xs ys e one h f g = f h
-final_step x false d p n r c vs xs ys e one h f g =
-    let at : p + (suc (length vs) - 1) ≡ p + 1 + (length vs - 1) = omega arith in
-    let k : is_among ys FINAL ≡ false = g (ap r (sym at) ∙ h) in
-    split d (λ q. rw q (or_from (is_same x FINAL) (is_among ys FINAL) e k)) (λ q. rw q k)
-
--- its stamp is not one of those at places where its place isn't one
-pub final_stays : (r : ℕ → Bool) (p : ℕ) (cells : List (Cell ℕ)) → EndsFinal cells → AreDistinct cells → r (p + (length (visible_of cells) - 1)) ≡ false → is_among (stamps_at r p cells) FINAL ≡ false
-final_stays r p [] h d k = refl
-final_stays r p (x ∷ []) h d k =
-    let shown = (final_parts x h).2 in
-    let n : p + (length (visible_of (x ∷ [])) - 1) ≡ p = rw shown (omega arith) in
-    let off : r p ≡ false = ap r (sym n) ∙ k in
-    rw (shown, off) refl
-final_stays r p (x ∷ y ∷ xs) h d k =
-    let tail = last_tail x y xs h in
-    let new = first_apart x.stamp (stamps_of (y ∷ xs)) d in
-    let rest = others_distinct x.stamp (stamps_of (y ∷ xs)) d in
-    final_step x.stamp x.gone (r p) p 0 r x (visible_of (y ∷ xs)) (stamps_at r p (y ∷ xs)) (stamps_at r (p + 1) (y ∷ xs))
-    (differs x.stamp FINAL (stamps_of (y ∷ xs)) new (final_among (y ∷ xs) tail)) (some_visible (y ∷ xs) tail) k
-    (λ q. final_stays r p (y ∷ xs) tail rest q) (λ q. final_stays r (p + 1) (y ∷ xs) tail rest q)
-
--- the last newline isn't in ranges that end before it
-pub last_uncovered : (cells : List (Cell ℕ)) (ranges : List Range) → EndsFinal cells → All (λ range. range.to < length (text_of cells)) ranges → is_covered ranges (0 + (length (visible_of cells) - 1)) ≡ false
-last_uncovered cells ranges ends h = uncovered_from ranges (length (text_of cells)) (0 + (length (visible_of cells) - 1)) h (omega (arith, length_text cells))

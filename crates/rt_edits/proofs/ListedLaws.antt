@@ -9,8 +9,6 @@ use Rattle.rt_stamps.specs.declared.fault.Fault.{Fault}
 use Rattle.rt_stamps.specs.declared.fault.Fault.TheVariants.{NoTag}
 use Rattle.rt_stamps.specs.Words.{Word}
 use Rattle.rt_store.specs.Cells.{final_cell}
-use Rattle.rt_store.specs.Tagged.{AreStates}
-use Rattle.rt_store.proofs.GivenStates.{one_state}
 use Rattle.rt_tags.specs.States.{TagStates, is_on, Write}
 use Rattle.rt_tags.specs.Tags.{IsName, sel, Tags, is_listed, is_place, without, just_above, just_below, raised, lowered}
 use Rattle.rt_tags.proofs.Places.{split, same_name, name_itself}
@@ -169,9 +167,6 @@ lower_keeps name below old new cells (Err fault) done same answer listed = subst
 
 abbrev pub new_table : TagStates
 new_table = record { names = []; states = [] ∷ [] }
-
-pub given_new : AreStates new_table (final_cell ∷ [])
-given_new = one_state new_table final_cell (omega arith)
 
 -- no tag is on the final newline
 pub listed_new : AreListed (sel ∷ []) (map (shown new_table) (final_cell ∷ []))

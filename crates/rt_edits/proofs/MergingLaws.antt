@@ -2,9 +2,9 @@
 use Rattle.std.proofs.Common.{◌≡◌, ℕ, suc, ◌+◌, ◌<◌, ◌≤◌, List, [], ◌∷◌, ◌++◌, Bool, true, false, cond, ◌&&◌, length, drop, get_or, min, max, refl, sym, ◌∙◌, ap, arith, All, append-nil}
 use Rattle.std.specs.Prelude.{nat_lt, nat_le, ◌||◌, if◌then◌else◌}
 use Rattle.std.specs.List.Sorted.{IsNonDecreasingBy}
-use Rattle.std.proofs.lemmas.Bool.{leb-true, leb-false, ltb-true, ltb-false, lt-ltb, le-ltb, le-leb, lt-leb}
+use Rattle.std.proofs.lemmas.Bool.{leb-true, leb-false, ltb-true, ltb-false}
 use Rattle.std.proofs.lemmas.Bool.Decides.{nat_tests}
-use Rattle.std.proofs.lemmas.List.{drop_more, drop_all}
+use Rattle.std.proofs.lemmas.List.{drop_all}
 use Rattle.std.proofs.lemmas.List.Elements.{All-cons, All-nil}
 use Rattle.rt_edits.specs.declared.range.Range.{Range}
 use Rattle.rt_edits.specs.Merging.{AreRising, AreApart}
@@ -17,18 +17,6 @@ abbrev pub before : ℕ → List Range → List Range
 before end [] = []
 before end (range ∷ ranges) =
     if nat_lt range.from (min range.to end) then record { from = range.from; to = min range.to end } ∷ before end ranges else before end ranges
-
-pub before_some : (end : ℕ) (ranges : List Range) (i : ℕ) (d : Range) → i < length ranges → (get_or ranges i d).from < min (get_or ranges i d).to end
-    → before end (drop i ranges) ≡ record { from = (get_or ranges i d).from; to = min (get_or ranges i d).to end } ∷ before end (drop (i + 1) ranges)
-before_some end ranges i d h k =
-    let some : nat_lt (get_or ranges i d).from (min (get_or ranges i d).to end) ≡ true = lt-ltb _ _ k in
-    rw (drop_more ranges i d h, some) refl
-
-pub before_none : (end : ℕ) (ranges : List Range) (i : ℕ) (d : Range) → i < length ranges → min (get_or ranges i d).to end ≤ (get_or ranges i d).from
-    → before end (drop i ranges) ≡ before end (drop (i + 1) ranges)
-before_none end ranges i d h k =
-    let none : nat_lt (get_or ranges i d).from (min (get_or ranges i d).to end) ≡ false = le-ltb _ _ k in
-    rw (drop_more ranges i d h, none) refl
 
 cut_some : (from to end place : ℕ) (rest : Bool) → from < min to end
     → (nat_le from place && nat_lt place (min to end) || (nat_lt place end && rest)) ≡ (nat_lt place end && (nat_le from place && nat_lt place to || rest))
@@ -92,18 +80,6 @@ abbrev pub merged_from : Range → List Range → List Range
 merged_from current [] = current ∷ []
 merged_from current (range ∷ ranges) =
     if nat_le range.from current.to then merged_from (record { from = current.from; to = max current.to range.to }) ranges else current ∷ merged_from range ranges
-
-pub merged_joined : (current : Range) (ranges : List Range) (i : ℕ) (d : Range) → i < length ranges → (get_or ranges i d).from ≤ current.to
-    → merged_from current (drop i ranges) ≡ merged_from (record { from = current.from; to = max current.to (get_or ranges i d).to }) (drop (i + 1) ranges)
-merged_joined current ranges i d h k =
-    let joined : nat_le (get_or ranges i d).from current.to ≡ true = le-leb _ _ k in
-    rw (drop_more ranges i d h, joined) refl
-
-pub merged_apart : (current : Range) (ranges : List Range) (i : ℕ) (d : Range) → i < length ranges → current.to < (get_or ranges i d).from
-    → merged_from current (drop i ranges) ≡ current ∷ merged_from (get_or ranges i d) (drop (i + 1) ranges)
-merged_apart current ranges i d h k =
-    let apart : nat_le (get_or ranges i d).from current.to ≡ false = lt-leb _ _ k in
-    rw (drop_more ranges i d h, apart) refl
 
 joined_covers : (from to begin end place : ℕ) (rest : Bool) → from ≤ begin → begin ≤ to
     → (nat_le from place && nat_lt place (max to end) || rest) ≡ (nat_le from place && nat_lt place to || (nat_le begin place && nat_lt place end || rest))

@@ -9,7 +9,7 @@ use Rattle.rt_stamps.specs.declared.limits.TheConstants.{MOST_SPANS}
 use Rattle.rt_stamps.specs.declared.stamp.Stamp.{Stamp}
 use Rattle.rt_stamps.specs.declared.stamp.TheConstants.{FINAL}
 use Rattle.rt_stamps.specs.Words.{Word}
-use Rattle.rt_oplog.specs.Operations.{Operation, Tag}
+use Rattle.rt_oplog.specs.Operations.{Operation}
 use Rattle.rt_tags.specs.States.{IsByName, Write, is_on, names_on, says_on, write_of, written}
 use Rattle.rt_tags.specs.Tags.{HaveNoRepeats, is_listed}
 use Rattle.rt_tags.proofs.Places.{name_itself, same_name}
@@ -27,7 +27,6 @@ use Rattle.rt_rga.proofs.Writes.{state_sorted}
 use Rattle.rt_edits.specs.Deletions.{is_last, last_tags}
 use Rattle.rt_edits.specs.DraftLaws.{IsDocument}
 use Rattle.rt_edits.specs.Flat.{Flat}
-use Rattle.rt_edits.specs.NamedSpans.{span_of}
 use Rattle.rt_edits.specs.Removals.{cells_at}
 use Rattle.rt_edits.specs.TagDrafts.{newline_drafts, tag_drafts, tags_drafts_at}
 use Rattle.rt_edits.specs.TagWrites.{changed_stamps, tag_write, tagged, with_tag_at}
@@ -62,9 +61,6 @@ only_last m p (c ∷ cs) last g h =
     ∙ only_last m (p + 1) cs last g (omega (arith, seen, h)))
 
 -- ONE TAG
-
-one_draft : (name : Word) (stamp : Stamp) → tag_drafts MOST_SPANS false name (stamp ∷ []) ≡ Tag false name (span_of stamp ∷ []) ∷ []
-one_draft name stamp = refl
 
 changed_last : (name : Word) (last : TaggedCell) → is_on name last.state ≡ true → changed_stamps name false (last ∷ []) ≡ last.stamp ∷ []
 changed_last name last e = ap stamps_of (cond-true (is_on name last.state) (last ∷ []) [] e)

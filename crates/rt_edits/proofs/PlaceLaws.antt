@@ -31,12 +31,6 @@ all_front (c ∷ t) = all_step c (t ++ 10 ∷ []) (newlines (t ++ 10 ∷ [])) (i
 pub after_all : (t : List ℕ) → EndsWithNewline t → after_newlines (newlines t) t ≡ length t
 after_all t h = rw (h.1) (all_front h.0)
 
--- a newline stands before the place after it
-pub after_some : (k : ℕ) (t : List ℕ) → 1 ≤ k → k ≤ newlines t → 1 ≤ after_newlines k t
-after_some zero t h k = absurd (omega arith)
-after_some (suc n) [] h k = absurd (omega arith)
-after_some (suc n) (c ∷ t) h k = elim (is_newline c) as (λ b. 1 ≤ cond b (after_newlines n t + 1) (after_newlines (suc n) t + 1)) [ true ↦ omega arith | false ↦ omega arith ]
-
 -- no place after newlines is beyond the text
 pub after_within : (k : ℕ) (t : List ℕ) → after_newlines k t ≤ length t
 after_within zero t = omega arith

@@ -1,32 +1,25 @@
 -- Laws of the plan of an insertion.
-use Rattle.std.proofs.Common.{◌≡◌, ℕ, zero, suc, ◌+◌, ◌-◌, ◌*◌, ◌/◌, ◌%◌, ◌<◌, ◌≤◌, List, [], ◌∷◌, ◌++◌, Bool, true, false, cond, not, length, take, drop, map, filter, get_or, refl, sym, ◌∙◌, ap, subst, arith, ◌⊎◌, inl, inr, min, ltb}
+use Rattle.std.proofs.Common.{◌≡◌, ℕ, zero, suc, ◌+◌, ◌-◌, ◌*◌, ◌/◌, ◌%◌, ◌<◌, ◌≤◌, List, [], ◌∷◌, ◌++◌, Bool, true, false, cond, not, length, take, drop, map, filter, get_or, refl, sym, ◌∙◌, ap, arith, ◌⊎◌, inl, inr, min, ltb}
 use Rattle.std.specs.Prelude.{All, nat_eq}
 use Rattle.std.proofs.lemmas.Bool.{eqb-true, lt-ltb, le-ltb, cases_lt}
-use Rattle.std.proofs.lemmas.List.{take_all, drop_all, take-append-le, drop-append-le, length-drop, length-take, length-append, length-map, length-take-le, map_more, append-nil, append_assoc, map-append}
+use Rattle.std.proofs.lemmas.List.{take_all, drop_all, take-append-le, drop-append-le, length-drop, length-take, length-append, map_more, append-nil, append_assoc}
 use Rattle.std.proofs.lemmas.Nat.{div-add-mod', div-mul-add, div_below}
 use Rattle.std.proofs.lemmas.List.Elements.{filter-append, All-append, All-head, All-tail, All-cons, All-nil}
-use Rattle.rt_stamps.specs.declared.limits.TheConstants.{MOST_CHARACTERS, MOST_TAGS}
+use Rattle.rt_stamps.specs.declared.limits.TheConstants.{MOST_CHARACTERS}
 use Rattle.rt_stamps.specs.declared.stamp.Stamp.{Stamp}
 use Rattle.rt_stamps.specs.declared.stamp.TheConstants.{ROOT}
 use Rattle.rt_stamps.specs.Words.{Word}
 use Rattle.rt_store.specs.declared.cell.Cell.{Cell}
 use Rattle.rt_store.specs.Tagged.{AreStates}
-use Rattle.rt_store.proofs.GivenStates.{kept_states}
 use Rattle.std.specs.Str.{bytes_eq}
-use Rattle.rt_tags.specs.States.{TagStates, Write, IsState, IsTag, KeepsIds, name_at, state_at, write_at, writes_at, written}
+use Rattle.rt_tags.specs.States.{TagStates, Write, IsState, IsTag, KeepsIds, name_at, written}
 use Rattle.rt_tags.specs.Tags.{sel}
 use Rattle.rt_tags.specs.declared.states.Entry.{Entry}
 use Rattle.rt_tags.specs.Writers.{listed_by, state_after}
-use Rattle.rt_store.specs.Shown.{TaggedCell, shown}
 use Rattle.rt_store.specs.Cells.{cells_from}
 use Rattle.rt_edits.specs.Insertions.{cells_of_inserts, counts_for, further_tags, inserts_for, new_state, put_on, tagged_cells}
-use Rattle.rt_edits.specs.Planned.{writer_at}
-use Rattle.rt_store.proofs.Shown.{from_shown, shown_later}
 
 -- A TABLE THAT KEEPS ITS IDS
-
-pub keeps_itself : (t : TagStates) → KeepsIds t t
-keeps_itself t = record { tags = λ tag h. (h, refl); states = λ state h. (h, refl) }
 
 pub keeps_further : (t u v : TagStates) → KeepsIds t u → KeepsIds u v → KeepsIds t v
 keeps_further t u v h k = record {
@@ -120,10 +113,6 @@ one_more most site last names name = by (cases_lt (length names) most)
     by (inl h) = one_listed most site last names name h
     by (inr h) = one_put_on most site last names name h
 
-pub new_state_more : (site last : ℕ) (names : List Word) (name : Word)
-    → new_state site last (names ++ name ∷ []) ≡ written (record { name = name; writer = writer_at site last (length names); on = true }) (new_state site last names)
-new_state_more site last names name = one_more MOST_TAGS site last names name
-
 -- INSERTS
 
 -- how many parts of a size there are, one part more
@@ -174,59 +163,10 @@ counts_more names text h =
     counted : (whole part rest further a b : ℕ) → whole ≡ part + rest → a ≡ suc b → whole + a * further ≡ part + further + (rest + b * further)
     counted whole part rest further a b h k = rw (h, k) (omega arith)
 
--- these counts by the numbers of tags and characters
-pub counts_of : (f : ℕ → Word) (tags : List ℕ) (text : List ℕ) → counts_for (map f tags) text ≡ length text + inserts_for (length text) * (length tags - MOST_TAGS)
-counts_of f tags text = ap (λ n. length text + inserts_for (length text) * n) (length-drop MOST_TAGS (map f tags) ∙ ap (λ n. n - MOST_TAGS) (length-map tags f))
-
-further_of : (f : ℕ → Word) (tags : List ℕ) → length (further_tags (map f tags)) ≡ length tags - MOST_TAGS
-further_of f tags = length-drop MOST_TAGS (map f tags) ∙ ap (λ n. n - MOST_TAGS) (length-map tags f)
-
--- one part further
-pub counts_behind : (f : ℕ → Word) (tags rest part behind : List ℕ) (now further last : ℕ) → 1 ≤ length rest → part ≡ take MOST_CHARACTERS rest → behind ≡ drop MOST_CHARACTERS rest → further ≡ length tags - MOST_TAGS
-    → now + counts_for (map f tags) rest ≡ last → now + length part + further + counts_for (map f tags) behind ≡ last
-counts_behind f tags rest part behind now further last h p b k e =
-    (λ i. now + length (p i) + (k ∙ sym (further_of f tags)) i + counts_for (map f tags) (b i))
-    ∙ added now (counts_for (map f tags) rest) (length (take MOST_CHARACTERS rest)) (length (further_tags (map f tags))) (counts_for (map f tags) (drop MOST_CHARACTERS rest)) last (counts_more (map f tags) rest h) e
-  where
-    added : (now a p f r last : ℕ) → a ≡ p + f + r → now + a ≡ last → now + p + f + r ≡ last
-    added now a p f r last h e = omega arith
-
-pub within_last : (a b last greatest : ℕ) → a + b ≡ last → last ≤ greatest → a ≤ greatest
-within_last a b last greatest h k = omega arith
-
 pub fewer_behind : (rest behind : List ℕ) → 1 ≤ length rest → behind ≡ drop MOST_CHARACTERS rest → length behind < length rest
 fewer_behind rest behind h b = omega (arith, ap length b ∙ length-drop MOST_CHARACTERS rest)
 
-pub part_more : (old new : TagStates) (cells after : List (Cell ℕ)) (site now state further : ℕ) (f : ℕ → Word) (tags rest part behind : List ℕ)
-    → KeepsIds old new → AreStates old cells → 1 ≤ length rest → part ≡ take MOST_CHARACTERS rest → behind ≡ drop MOST_CHARACTERS rest → further ≡ length tags - MOST_TAGS
-    → state_at new state ≡ new_state site (now + length part) (map f tags) → after ≡ cells ++ cells_from (now + 1) site state part
-    → map (shown new) after ++ tagged_cells site (now + length part + further) (map f tags) behind ≡ map (shown old) cells ++ tagged_cells site now (map f tags) rest
-part_more old new cells after site now state further f tags rest part behind keeps given h p b k s a =
-    let names = map f tags in
-    let further_is : further ≡ length (further_tags names) = k ∙ sym (further_of f tags) in
-    let more : List TaggedCell = tagged_cells site (now + length part + further) names behind in
-    let added : List TaggedCell = cells_from (now + 1) site (new_state site (now + length part) names) part in
-    ap (λ l. map (shown new) l ++ more) a
-    ∙ ap (λ l. l ++ more) (map-append (shown new) cells (cells_from (now + 1) site state part))
-    ∙ (λ i. (shown_later old new cells keeps given i ++ from_shown (state_at new) (now + 1) site state part i) ++ more)
-    ∙ ap (λ x. (map (shown old) cells ++ cells_from (now + 1) site x part) ++ more) s
-    ∙ append_assoc (map (shown old) cells) added more
-    ∙ ap (λ l. map (shown old) cells ++ l)
-    ((λ i. cells_from (now + 1) site (new_state site (now + length (p i)) names) (p i) ++ tagged_cells site (now + length (p i) + further_is i) names (b i)) ∙ sym (cells_more site now names rest h))
-
 -- LISTS OF TAGS
-
--- one tag more of new text
-pub state_more : (site last : ℕ) (f : ℕ → Word) (tags : List ℕ) (i tag : ℕ) (name : Word) (writer : Stamp) → i < length tags → tag ≡ get_or tags i tag → name ≡ f tag → writer ≡ writer_at site last i
-    → written (record { name = name; writer = writer; on = true }) (new_state site last (map f (take i tags))) ≡ new_state site last (map f (take (i + 1) tags))
-state_more site last f tags i tag name writer h at n w =
-    let names = map f (take i tags) in
-    let le : i ≤ length tags = omega arith in
-    let len : length names ≡ i = length-map (take i tags) f ∙ length-take-le i tags le in
-    (λ j. written (record { name = n j; writer = (w ∙ ap (writer_at site last) (sym len)) j; on = true }) (new_state site last names))
-    ∙ sym (new_state_more site last names (f tag))
-    ∙ ap (λ t. new_state site last (names ++ f t ∷ [])) at
-    ∙ ap (new_state site last) (sym (map_more f tags i tag h))
 
 -- one name more of a list
 pub filtered_more : {X : Type 0} (test : Word → Bool) (f : X → Word) (xs : List X) (i : ℕ) (x : X) → i < length xs → x ≡ get_or xs i x
@@ -243,12 +183,6 @@ kept_one names name e = ap (λ b. names ++ cond (not b) (name ∷ []) []) (sym e
 
 pub one_given : (old new : TagStates) (tags : List ℕ) (tag : ℕ) → KeepsIds old new → All (IsTag old) tags → IsTag new tag → All (IsTag new) (tags ++ tag ∷ [])
 one_given old new tags tag keeps h n = All-append (IsTag new) tags (tag ∷ []) (tags_kept old new tags keeps h) (All-cons (IsTag new) tag [] n (All-nil (IsTag new)))
-
--- one more write
-pub one_written : (table : TagStates) (writes : List Entry) (w : Entry) → state_after [] (writes_at table (writes ++ w ∷ [])) ≡ written (write_at table w.tag w.writer w.on) (state_after [] (writes_at table writes))
-one_written table writes w =
-    let seen : Entry → Write = λ e. write_at table e.tag e.writer e.on in
-    ap (state_after []) (map-append seen writes (w ∷ [])) ∙ after_more [] (writes_at table writes) (seen w ∷ [])
 
 -- writes of tags that were given out
 pub writes_given : (table : TagStates) (writes : List Entry) → All (IsTag table) (map (λ w. w.tag) writes) → All (λ w. IsTag table w.tag) writes
@@ -268,12 +202,3 @@ some_left empty n e f = by n (sym e ∙ f)
 pub none_left : (empty : Bool) (rest : List ℕ) → empty ≡ nat_eq (length rest) 0 → empty ≡ true → rest ≡ []
 none_left empty [] e f = refl
 none_left empty (c ∷ rest) e f = let none : suc (length rest) ≡ 0 = eqb-true (suc (length rest)) 0 (sym e ∙ f) in absurd (omega arith)
-
-pub tagged_nothing : (cells more : List TaggedCell) (site now : ℕ) (names : List Word) (rest : List ℕ) → rest ≡ [] → cells ++ tagged_cells site now names rest ≡ more → cells ≡ more
-tagged_nothing cells more site now names rest e h = sym (append-nil cells) ∙ sym (ap (λ r. cells ++ tagged_cells site now names r) e) ∙ h
-
-pub added_states : (old new : TagStates) (cells after : List (Cell ℕ)) (count site state : ℕ) (part : List ℕ) → KeepsIds old new → AreStates old cells → IsState new state → after ≡ cells ++ cells_from count site state part
-    → AreStates new after
-added_states old new cells after count site state part keeps given is a =
-    let p : Cell ℕ → Type 0 = λ cell. IsState new cell.state in
-    subst (AreStates new) (sym a) (All-append p cells (cells_from count site state part) (kept_states old new cells keeps given) (states_from new count site state part is))

@@ -1,25 +1,10 @@
 -- Selections, one stamp or one selection more.
-use Rattle.std.proofs.Common.{◌≡◌, ℕ, zero, suc, ◌+◌, ◌<◌, All, List, [], ◌∷◌, ◌++◌, cond, length, map, take, drop, get_or, set, refl, sym, ◌∙◌, ap, subst, arith}
-use Rattle.std.specs.List.{list_any}
+use Rattle.std.proofs.Common.{◌≡◌, ℕ, zero, suc, ◌+◌, ◌<◌, All, List, [], ◌∷◌, ◌++◌, length, map, take, drop, get_or, set, refl, sym, ◌∙◌, ap, subst, arith}
 use Rattle.std.proofs.Math.Seq.{take-suc-set}
 use Rattle.std.proofs.lemmas.List.{drop_more, drop-set-lt, map-append, map_more}
 use Rattle.std.proofs.lemmas.List.Elements.{All-append, All-cons, All-nil}
-use Rattle.rt_stamps.specs.declared.stamp.Stamp.{Stamp}
-use Rattle.rt_stamps.specs.Stamps.{is_same}
-use Rattle.rt_stamps.proofs.Order.{same_sym}
-use Rattle.rt_edits.specs.Selections.{with_stamp, with_stamps}
-use Rattle.rt_store.specs.Spans.{is_among}
 
 -- ONE STAMP MORE
-
-pub among_back : (stamps : List Stamp) (stamp : Stamp) → list_any (λ other. is_same stamp other) stamps ≡ is_among stamps stamp
-among_back stamps stamp = λ j. list_any (λ other. same_sym stamp other j) stamps
-
-pub with_one : (stamps : List Stamp) (stamp : Stamp) → cond (list_any (λ other. is_same stamp other) stamps) stamps (stamps ++ stamp ∷ []) ≡ with_stamp stamp stamps
-with_one stamps stamp = ap (λ b. cond b stamps (stamps ++ stamp ∷ [])) (among_back stamps stamp)
-
-pub with_more : (stamps : List Stamp) (i : ℕ) (d : Stamp) (selection : List Stamp) → i < length stamps → with_stamps (drop i stamps) selection ≡ with_stamps (drop (i + 1) stamps) (with_stamp (get_or stamps i d) selection)
-with_more stamps i d selection h = ap (λ l. with_stamps l selection) (drop_more stamps i d h)
 
 -- ONE ELEMENT MORE THAT IS SET, AS ONE SEES IT
 

@@ -85,12 +85,6 @@ covered_to_end front last n place apart h k =
     let more : n - (place + 1) ≡ suc (n - (place + 2)) = omega arith in
     rw more (covered_from front last n apart h (n - (place + 2)) (place + 1) (omega arith))
 
--- none are left to cover at the end
-pub covered_at_end : (ranges : List Range) (n place : ℕ) → n ≤ place + 1 → are_covered ranges (place + 1) (n - (place + 1)) ≡ true
-covered_at_end ranges n place h =
-    let none : n - (place + 1) ≡ 0 = omega arith in
-    rw none refl
-
 -- THE LAST NEWLINE
 
 -- a last range that ends before it

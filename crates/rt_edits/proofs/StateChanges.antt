@@ -1,16 +1,12 @@
 -- Cells that change their states alone.
-use Rattle.std.proofs.Common.{◌≡◌, ℕ, ◌+◌, ◌<◌, ◌≤◌, List, [], ◌∷◌, Bool, true, false, cond, not, All, length, map, get_or, refl, sym, ◌∙◌, ap, subst, arith}
+use Rattle.std.proofs.Common.{◌≡◌, ℕ, ◌+◌, ◌<◌, ◌≤◌, List, [], ◌∷◌, Bool, true, false, cond, not, length, map, get_or, refl, sym, ◌∙◌, ap, subst, arith}
 use Rattle.std.specs.List.{IsDistinct}
-use Rattle.std.proofs.lemmas.List.Elements.{All-head, All-tail, All-map}
+use Rattle.std.proofs.lemmas.List.Elements.{All-map}
 use Rattle.rt_stamps.specs.Stamps.{is_same}
 use Rattle.rt_store.specs.declared.cell.Cell.{Cell}
-use Rattle.rt_store.specs.Cells.{is_in_span, text_of, visible_of, with_state, stamps_of, AreDistinct}
-use Rattle.rt_store.specs.Tagged.{AreStates}
-use Rattle.rt_tags.specs.States.{TagStates, IsState}
-use Rattle.rt_edits.specs.declared.tagging.StateRun.{StateRun}
+use Rattle.rt_store.specs.Cells.{text_of, visible_of, with_state, stamps_of, AreDistinct}
 use Rattle.rt_store.specs.Written.{IsBelowNext, AreBelowNext}
 use Rattle.rt_edits.specs.Removals.{cells_at}
-use Rattle.rt_edits.specs.Working.{put_back_in_any}
 
 -- nothing but the state of a cell changes
 abbrev pub ChangesState : {T : Type 0} → (Cell T → Cell T) → Type 0
@@ -43,33 +39,7 @@ module _ {T : Type 0} (g : Cell T → Cell T) (h : ChangesState g) where
   pub distinct_changed : (cells : List (Cell T)) → AreDistinct cells → AreDistinct (map g cells)
   distinct_changed cells k = subst (IsDistinct is_same) (sym (stamps_changed cells)) k
 
--- what is known stays known, also under the same count
-pub known_from : {T : Type 0} (count later : ℕ) (cells : List (Cell T)) → count ≤ later → AreBelowNext count cells → AreBelowNext later cells
-known_from count later cells le h = λ k d lt. let p = h k d lt in (omega (arith, p.0), λ e. p.1 (omega (arith, p.0)))
-
 -- RUNS
-
-put_step : (b : Bool) (s : ℕ) (cell other : Cell ℕ) → other ≡ with_state other.state cell → cond b (with_state s cell) other ≡ with_state (cond b (with_state s cell) other).state cell
-put_step true s cell other h = refl
-put_step false s cell other h = h
-
-pub runs_change : (runs : List StateRun) → ChangesState (put_back_in_any runs)
-runs_change [] cell = refl
-runs_change (run ∷ runs) cell = put_step (is_in_span run.span cell.stamp) run.state cell (put_back_in_any runs cell) (runs_change runs cell)
-
-given_step : (table : TagStates) (b : Bool) (s : ℕ) (cell other : Cell ℕ) → IsState table s → IsState table other.state → IsState table (cond b (with_state s cell) other).state
-given_step table true s cell other h k = h
-given_step table false s cell other h k = k
-
-given_cell : (table : TagStates) (runs : List StateRun) (cell : Cell ℕ) → All (λ run. IsState table run.state) runs → IsState table cell.state → IsState table (put_back_in_any runs cell).state
-given_cell table [] cell h k = k
-given_cell table (run ∷ runs) cell h k =
-    let P : StateRun → Type 0 = λ r. IsState table r.state in
-    given_step table (is_in_span run.span cell.stamp) run.state cell (put_back_in_any runs cell) (All-head P run runs h) (given_cell table runs cell (All-tail P run runs h) k)
-
--- the states of cells that runs change were given out
-pub given_changed : (table : TagStates) (runs : List StateRun) (cells : List (Cell ℕ)) → All (λ run. IsState table run.state) runs → AreStates table cells → AreStates table (map (put_back_in_any runs) cells)
-given_changed table runs cells h k = All-map (λ (c : Cell ℕ). IsState table c.state) (put_back_in_any runs) cells (λ j d lt. given_cell table runs (get_or cells j d) h (k j d lt))
 
 -- PLACES OF A TEXT
 

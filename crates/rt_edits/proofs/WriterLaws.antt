@@ -12,11 +12,10 @@ use Rattle.rt_stamps.specs.declared.stamp.Stamp.{Stamp}
 use Rattle.rt_stamps.specs.Stamps.{is_same, is_before}
 use Rattle.rt_stamps.specs.Words.{Word}
 use Rattle.rt_stamps.proofs.Order.{same_from_true}
-use Rattle.rt_store.specs.Cells.{final_cell, with_state}
+use Rattle.rt_store.specs.Cells.{with_state}
 use Rattle.rt_tags.specs.Tags.{sel}
-use Rattle.rt_edits.specs.TagWrites.{without_tag, without_tags, changed_stamps, spans_before, operation_of, tag_write, tagged, with_tag_at, with_tags_at}
-use Rattle.rt_store.specs.Shown.{shown, TaggedCell}
-use Rattle.rt_edits.proofs.ListedLaws.{new_table}
+use Rattle.rt_edits.specs.TagWrites.{without_tag, without_tags, changed_stamps, spans_before, operation_of, tag_write, tagged, with_tag_at}
+use Rattle.rt_store.specs.Shown.{TaggedCell}
 use Rattle.rt_tags.specs.States.{Write, is_on, says_on, write_of, written}
 use Rattle.rt_tags.proofs.Greatest.{newer, write_of_written}
 use Rattle.rt_tags.proofs.Places.{same_name, name_itself}
@@ -211,14 +210,6 @@ pub tag_written : (flat : Flat) (places : ℕ → Bool) (on : Bool) (name : Word
 tag_written flat places on name h =
     let stamps = changed_stamps name on (cells_at places 0 flat.cells) in
     all_map (λ c. IsWritten flat.count c.state) (λ c. IsWritten (flat.count + operations_for (span_count stamps)) c.state) (tagged flat.site flat.count name on stamps) (tagged_written flat.site flat.count name on stamps) flat.cells h
-
-pub tags_written : (names : List Word) (flat : Flat) (places : ℕ → Bool) (on : Bool) → AreWritten flat.count flat.cells → AreWritten (with_tags_at flat places on names).count (with_tags_at flat places on names).cells
-tags_written [] flat places on h = h
-tags_written (name ∷ names) flat places on h = tags_written names (with_tag_at flat places on name) places on (tag_written flat places on name h)
-
--- nothing was written on a new document's final newline
-pub written_new : (count : ℕ) → AreWritten count (map (shown new_table) (final_cell ∷ []))
-written_new count = All-cons (λ (c : TaggedCell). IsWritten count c.state) (shown new_table final_cell) [] (λ q v e. let bad : ⊥ = cc in absurd bad) (All-nil (λ (c : TaggedCell). IsWritten count c.state))
 
 pub tag_grows : (flat : Flat) (places : ℕ → Bool) (on : Bool) (name : Word) → flat.count ≤ (with_tag_at flat places on name).count
 tag_grows flat places on name = omega arith

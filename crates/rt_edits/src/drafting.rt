@@ -18,7 +18,7 @@ use crate::changes::push_changes;
 use crate::parts::{push_deletes, push_tags};
 use crate::removal::removed_ranges;
 use crate::span::{span_of, spans_of, stamps_in};
-use crate::tagging::cells_in;
+use crate::cells::cells_in;
 use rt_rga::Draft;
 use rt_stamps::{FINAL, Fault};
 use rt_store::TextStore;

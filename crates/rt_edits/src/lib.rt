@@ -1,26 +1,24 @@
-//! What edits do to the cells of a text: the plan of an insertion, the places and spans of a removal,
-//! tag operations, and the selected characters of a widget.
+//! Edits of a text: what each does to the cells, which operations it makes, the plans of these, and the
+//! selected characters of a widget.
 #![tactic(auto)]
 
+mod cells;
 mod changes;
 mod counts;
 pub mod drafting;
 pub mod examples;
 pub mod inserting;
-pub mod insertion;
 mod inserts;
 pub mod laws;
-mod parts;
+pub mod listing;
 mod lists;
+mod parts;
 pub mod piece;
 mod pieces;
-pub mod plan;
 pub mod range;
 pub mod removal;
-pub mod retagging;
 pub mod selection;
-pub mod span;
-pub mod tagging;
+mod span;
 mod unlisted;
 
 pub use piece::Piece;

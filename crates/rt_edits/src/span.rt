@@ -1,21 +1,16 @@
 // Spans of removed stamps.
-ghost use Rattle.std.specs.Prelude.{◌≡◌, ◌+◌, ◌*◌, ◌<◌, ◌≤◌, ◌++◌, All, IfOk, IfErr, OnOk, true, false, map, take, drop, ◌-◌, length, IsPermutation};
+ghost use Rattle.std.specs.Prelude.{◌≡◌, ◌+◌, ◌*◌, ◌<◌, ◌≤◌, ◌++◌, All, IfOk, IfErr, OnOk, true, map, take, drop, ◌-◌, length, IsPermutation};
 ghost use Rattle.std.specs.List.{list_all, IsDistinct};
-ghost use Rattle.rt_stamps.specs.declared.limits.TheConstants.{MOST_CELLS};
 ghost use Rattle.rt_stamps.specs.declared.stamp.Stamp.{Stamp};
-ghost use Rattle.rt_stamps.specs.declared.stamp.TheConstants.{FINAL};
 ghost use Rattle.rt_stamps.specs.Stamps.{is_same};
-ghost use Rattle.rt_store.specs.Cells.{visible_of, text_of, HasRoom, Spends, AreDistinct};
-ghost use Rattle.rt_store.specs.Tagged.{AreStates};
+ghost use Rattle.rt_store.specs.Cells.{visible_of};
 ghost use Rattle.rt_edits.specs.NamedSpans.{runs, spans_in};
-ghost use Rattle.rt_edits.specs.Removals.{is_covered, stamps_at, gone_at, span_count, operations_for, AreInOrder};
-ghost use Rattle.rt_store.specs.Spans.{each_next, is_span, is_clear_of, precedes, next_stamp, last_stamp, is_in_spans, is_among, gone_in_any};
+ghost use Rattle.rt_edits.specs.Removals.{is_covered, stamps_at, span_count, AreInOrder};
+ghost use Rattle.rt_store.specs.Spans.{each_next, is_span, is_clear_of, precedes, next_stamp, last_stamp, is_in_spans, is_among};
 
 use crate::Range;
-use rt_stamps::limits::MOST_SPANS;
 use rt_stamps::{Fault, Span, Stamp};
 use rt_store::TextStore;
-use rt_tags::StateTable;
 use std::alloc::Global;
 
 // Adds the stamps of the visible cells in a range.
@@ -118,48 +113,4 @@ pub(crate) fn spans_of(alloc: Global, stamps: Vec<Stamp>) -> Result<Vec<Span>, F
     let mut sorted = stamps;
     sort(&mut sorted);
     runs_of(alloc, &sorted)
-}
-
-/// The spans of the stamps in ranges that end before the last newline. Want of memory.
-pub fn removed_spans<S: TextStore>(
-    alloc: Global,
-    store: &S,
-    removed: &[Range],
-) -> Result<Vec<Span>, Fault>
-    requires distinct { AreDistinct (S.list store.now) }
-    requires order { AreInOrder 0 removed.now }
-    requires within { All (λ range. range.to < length (text_of (S.list store.now))) removed.now }
-    ensures gone { IfOk result (λ spans. map (gone_in_any spans.items) (S.list store.now) ≡ gone_at (is_covered removed.now) 0 (S.list store.now)) }
-    ensures count { IfOk result (λ spans. length spans.items ≡ span_count (stamps_at (is_covered removed.now) 0 (S.list store.now))) }
-    ensures few { IfOk result (λ spans. length spans.items ≤ length (S.list store.now)) }
-    ensures forward { IfOk result (λ spans. list_all is_span spans.items ≡ true) }
-    ensures clear { IfOk result (λ spans. each_next is_clear_of spans.items ≡ true) }
-    ensures stays { IfOk result (λ spans. is_in_spans spans.items FINAL ≡ false) }
-    ensures err { IfErr result (λ fault. fault ≡ Fault.NoMemory) }
-{
-    let stamps = stamps_in(alloc, store, removed)?;
-    spans_of(alloc, stamps)
-}
-
-/// How many operations so many spans are.
-pub fn operations_for(spans: usize) -> u64
-    requires { spans ≤ MOST_CELLS }
-    ensures value { result ≡ operations_for spans }
-    ensures few { result ≤ spans }
-    ensures some { 1 ≤ spans → 1 ≤ result }
-{
-    spans.div_ceil(MOST_SPANS) as u64
-}
-
-/// Makes the cells of spans of stamps gone.
-pub fn set_all_gone<S: TextStore>(store: &mut S, states: &StateTable, spans: &[Span])
-    requires states { AreStates states.now (S.list store.old) }
-    requires stays { is_in_spans spans.now FINAL ≡ false }
-    requires room { HasRoom (S.room store.old) 0 (2 * length spans.now) }
-    ensures list { S.list store.new ≡ map (gone_in_any spans.now) (S.list store.old) }
-    ensures room { Spends (S.room store.old) (S.room store.new) 0 (2 * length spans.now) }
-{
-    for span in spans {
-        store.set_gone(states, *span);
-    }
 }

@@ -23,7 +23,7 @@ use crate::Widget;
 use crate::characters::{cell_has, next_with};
 use rt_edits::drafting::{planned_tag, planned_tag_deletion};
 use rt_edits::removal::ranges_within;
-use rt_edits::retagging::{forget_all, list_if, prepare_if, select};
+use rt_edits::listing::{forget_all, list_if, prepare_if, select};
 use rt_edits::{Range, Selection};
 use rt_stamps::Fault;
 use rt_store::{Cell, TextStore};

@@ -1,0 +1,75 @@
+// Which tags are listed, and which characters are selected.
+ghost use Rattle.std.specs.Prelude.{◌≡◌, ◌<◌, ◌≤◌, All, IfErr, OnOk, OnErr, true, length, map, string_bytes, if◌then◌else◌};
+ghost use Rattle.rt_store.specs.Cells.{visible_of};
+ghost use Rattle.rt_tags.specs.Tags.{IsName, is_ready, with_name};
+ghost use Rattle.rt_edits.specs.Removals.{AreInOrder, is_covered, stamps_at};
+ghost use Rattle.rt_edits.specs.Selected.{stamps_in as selected_in};
+ghost use Rattle.rt_edits.specs.Selections.{selection_with};
+ghost use Rattle.rt_edits.specs.Working.{all_forgotten};
+
+use crate::Range;
+use crate::selection::Selection;
+use crate::span::stamps_in;
+use rt_stamps::Fault;
+use rt_store::TextStore;
+use rt_tags::TagTable;
+use std::alloc::Global;
+
+/// Selects the characters in ranges, or takes them out of a selection. Want of memory, and then
+/// nothing changes.
+pub fn select<S: TextStore>(
+    alloc: Global,
+    store: &S,
+    selection: &mut Selection,
+    ranges: &[Range],
+    on: bool,
+) -> Result<(), Fault>
+    requires order { AreInOrder 0 ranges.now }
+    requires within { All (λ range. range.to ≤ length (visible_of (S.list store.now))) ranges.now }
+    ensures ok { OnOk result (selected_in selection.new
+        ≡ selection_with on (stamps_at (is_covered ranges.now) 0 (S.list store.now)) (selected_in selection.old)) }
+    ensures unchanged { OnErr result (selected_in selection.new ≡ selected_in selection.old) }
+    ensures err { IfErr result (λ fault. fault ≡ Fault.NoMemory) }
+{
+    let stamps = stamps_in(alloc, store, ranges)?;
+    if on {
+        selection.reserve(stamps.len())?;
+        selection.add(&stamps);
+    } else {
+        selection.remove(&Selection::of(alloc, &stamps)?);
+    }
+    Ok(())
+}
+
+/// Prepares a tag that is put on: to list it takes no memory. Want of memory.
+pub fn prepare_if(tags: &mut TagTable, on: bool, name: &str) -> Result<(), Fault>
+    requires { IsName name.now }
+    ensures names { tags.new.names ≡ tags.old.names }
+    ensures ready { OnOk result (on ≡ true → is_ready name.now tags.new ≡ true) }
+    ensures err { IfErr result (λ fault. fault ≡ Fault.NoMemory) }
+{
+    if on {
+        tags.prepare(name)?;
+    }
+    Ok(())
+}
+
+/// Lists a tag that is put on, which was prepared. It takes no memory.
+pub fn list_if(tags: &mut TagTable, on: bool, name: &str)
+    requires name { IsName name.now }
+    requires ready { on ≡ true → is_ready name.now tags.old ≡ true }
+    ensures { tags.new.names ≡ (if on then with_name name.now tags.old.names else tags.old.names) }
+{
+    if on {
+        tags.ensure(name).unwrap();
+    }
+}
+
+/// Forgets names in turn. It takes no memory.
+pub fn forget_all(tags: &mut TagTable, names: &[String])
+    ensures { tags.new.names ≡ all_forgotten (map (λ w. string_bytes w) names.now) tags.old.names }
+{
+    for name in names {
+        tags.forget(name);
+    }
+}
