@@ -1,11 +1,12 @@
 // Deletions and tag writes, as the operations that they make.
-ghost use Rattle.std.specs.Prelude.{◌≡◌, ℕ, ◌-◌, ◌<◌, ◌≤◌, ◌++◌, All, IfOk, IfErr, OnOk, length, map, string_bytes};
+ghost use Rattle.std.specs.Prelude.{◌≡◌, ℕ, ◌-◌, ◌<◌, ◌≤◌, ◌++◌, ◌&&◌, All, IfOk, IfErr, OnOk, length, map, not, string_bytes};
 ghost use Rattle.rt_stamps.specs.declared.limits.TheConstants.{MOST_SPANS};
 ghost use Rattle.rt_oplog.specs.Edits.{body_of};
 ghost use Rattle.rt_store.specs.Cells.{AreDistinct, text_of, visible_of};
 ghost use Rattle.rt_store.specs.Shown.{shown};
 ghost use Rattle.rt_store.specs.Tagged.{AreStates};
 ghost use Rattle.rt_store.specs.Written.{AreWritten};
+ghost use Rattle.rt_tags.specs.Tags.{IsName, is_listed};
 ghost use Rattle.rt_edits.specs.Deletions.{delete_drafts, last_tags};
 ghost use Rattle.rt_edits.specs.Flat.{Flat};
 ghost use Rattle.rt_edits.specs.Listed.{AreListed};
@@ -21,8 +22,8 @@ use crate::span::{span_of, spans_of, stamps_in};
 use crate::cells::cells_in;
 use rt_rga::Draft;
 use rt_stamps::{FINAL, Fault};
-use rt_store::TextStore;
-use rt_tags::{StateTable, TagTable};
+use rt_store::{Cell, TextStore};
+use rt_tags::{StateId, StateTable, TagTable};
 use std::alloc::Global;
 
 /// What a deletion comes to: the ranges of places that go, whether it holds the last newline, and its
@@ -132,6 +133,41 @@ pub fn planned_tag<S: TextStore>(
     Ok(drafts)
 }
 
+// Whether a name is that of a listed tag, and comes for the first time.
+fn is_new(tags: &TagTable, seen: &TagTable, name: &str) -> bool
+    ensures { result ≡ (is_listed name.now tags.now.names && not (is_listed name.now seen.now.names)) }
+{
+    tags.has(name) && !seen.has(name)
+}
+
+// The Tags that take tags off the characters of a text.
+fn taken_off(
+    alloc: Global,
+    states: &StateTable,
+    tags: &TagTable,
+    cells: &[Cell<StateId>],
+    names: &[String],
+) -> Result<Vec<Draft>, Fault>
+    requires distinct { AreDistinct cells.now }
+    requires states { AreStates states.now cells.now }
+    requires names { All IsName tags.now.names }
+    ensures ok { IfOk result (λ drafts. (flat : Flat) → AreWritten flat.count flat.cells → AreListed tags.now.names flat.cells
+        → visible_of flat.cells ≡ map (shown states.now) cells.now
+        → map body_of drafts.items ≡ deletion_drafts MOST_SPANS flat (map (λ w. string_bytes w) names.now)) }
+    ensures err { IfErr result (λ fault. fault ≡ Fault.NoMemory) }
+{
+    // `sel` is seen from the start
+    let mut seen = TagTable::new(alloc)?;
+    let mut drafts = Vec::new(alloc);
+    for name in names {
+        if is_new(tags, &seen, name) {
+            seen.ensure(name)?;
+            push_changes(alloc, &mut drafts, states, cells, name, false)?;
+        }
+    }
+    Ok(drafts)
+}
+
 /// The operations that take tags off all characters, `sel` passed over: those of a name that comes
 /// again, or isn't listed, are none. No write on the characters is newer than the document's count.
 /// Want of memory.
@@ -150,5 +186,10 @@ pub fn planned_tag_deletion<S: TextStore>(
         → map body_of drafts.items ≡ deletion_drafts MOST_SPANS flat (map (λ w. string_bytes w) names.now)) }
     ensures err { IfErr result (λ fault. fault ≡ Fault.NoMemory) }
 {
-    Err(Fault::NoMemory)
+    let all = [Range {
+        from: 0,
+        to: store.visible(),
+    }];
+    let cells = cells_in(alloc, store, &all)?;
+    taken_off(alloc, states, tags, &cells, names)
 }

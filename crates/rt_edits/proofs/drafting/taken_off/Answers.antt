@@ -1,0 +1,78 @@
+use Rattle.std.proofs.Common.{◌≡◌, ℕ, ◌+◌, ◌<◌, Bool, Err, List, [], ◌∷◌, ◌++◌, ◌&&◌, true, false, not, inl, inr, append-nil, ap, arith, drop, get_or, length, map, refl, string_bytes, subst, sym, ◌∙◌}
+use Rattle.std.proofs.Common.{String, Global}
+use Rattle.std.proofs.lemmas.Bool.{and_parts}
+use Rattle.std.proofs.lemmas.List.{drop_all, drop_more}
+use Rattle.std.proofs.lemmas.Result.{err_from_is_err_and}
+use Rattle.rt_stamps.specs.declared.limits.TheConstants.{MOST_SPANS}
+use Rattle.rt_stamps.specs.Words.{Word}
+use Rattle.rt_oplog.specs.Edits.{body_of}
+use Rattle.rt_oplog.specs.Operations.{Body}
+use Rattle.rt_tags.specs.Tags.{is_listed, sel, with_name}
+use Rattle.rt_edits.specs.Listed.{listed_name}
+use Rattle.rt_edits.specs.TagDrafts.{deletion_drafts, tag_drafts}
+use Rattle.rt_edits.specs.TagWrites.{changed_stamps}
+use Rattle.rt_edits.proofs.DeletionsInTurn.{Stands, stands_first, stands_more, stands_past}
+use Rattle.rt_edits.proofs.ListedWrites.{every_cell}
+use Rattle.rt_edits.proofs.drafting.taken_off.Goals as goal
+use Rattle.rt_edits.proofs.drafting.taken_off.Goals.{then-is_new+in_ok-ensure+in_ok-push_changes, else-is_new}
+
+-- the next name, and the others
+next_name : (names : List (String Global)) (i : ℕ) (name : String Global) → i < length names → name ≡ get_or names i name
+    → map (λ w. string_bytes w) (drop i names) ≡ string_bytes name ∷ map (λ w. string_bytes w) (drop (i + 1) names)
+next_name names i name lt e = ap (map (λ w. string_bytes w)) (drop_more names i name lt) ∙ ap (λ n. string_bytes n ∷ map (λ w. string_bytes w) (drop (i + 1) names)) (sym e)
+
+pub loop-name-init : goal.loop-name-init
+loop-name-init c = λ flat written listed shows.
+    let names = map (λ w. string_bytes w) c.args.names.now in
+    subst (λ seen. Stands MOST_SPANS flat seen (map body_of c.new-drafts.result.items) names names) (sym (λ i. (c.in_ok-seen.ensures.ok i).names))
+    (subst (λ l. Stands MOST_SPANS flat (sel ∷ []) (map body_of l) names names) (sym c.new-drafts.ensures.items)
+    (stands_first MOST_SPANS flat c.args.tags.now.names names written listed))
+
+pub returns-in_err-ensure-clause-err : goal.returns-in_err-ensure-clause-err
+returns-in_err-ensure-clause-err c =
+    let p = err_from_is_err_and c.from_residual-in_err-ensure.result c.from_residual-in_err-ensure.ensures.1 in
+    let tags = c.args.tags.now.names in
+    let name = c.deref-then-is_new.result.now in
+    let seen = is_listed c.deref.result.now c.loop-name.seen.names in
+    let listed : is_listed name tags ≡ true =
+    ap (λ n. is_listed n tags) (c.deref-then-is_new.ensures ∙ sym c.deref.ensures) ∙ (and_parts (is_listed c.deref.result.now tags) (not seen) (sym c.is_new.ensures ∙ c.if-is_new.true)).0 in
+    rw p.1 (elim c.in_err-ensure.ensures.fault [
+      | inl e ↦ absurd (c.in_err-ensure.ensures.bad_name.0 (ap (λ f. Err f) e) (listed_name name tags c.requires.names listed))
+      | inr e ↦ p.2 ∙ e
+    ])
+
+pub loop-name-preserved : goal.loop-name-preserved
+loop-name-preserved c =
+    let tags = c.args.tags.now.names in
+    let seen = c.loop-name.seen.names in
+    let done : List Body = map body_of c.loop-name.drafts.items in
+    let name : Word = string_bytes c.name-item.result in
+    let left : List Word = map (λ w. string_bytes w) (drop (c.loop-name.name-index + 1) c.args.names.now) in
+    let names : List Word = map (λ w. string_bytes w) c.args.names.now in
+    let next = next_name c.args.names.now c.loop-name.name-index c.name-item.result c.loop-name-test.true c.name-item.is in
+    let told = ap (λ n. is_listed n tags && not (is_listed n seen)) (sym c.deref.ensures) ∙ sym c.is_new.ensures in
+    elim c.if-is_new.branch [
+      | then-is_new+in_ok-ensure+in_ok-push_changes w ↦
+          rw (w.seen-is, w.drafts-is) (λ flat written listed shows.
+          let before : Stands MOST_SPANS flat seen done (name ∷ left) names = subst (λ l. Stands MOST_SPANS flat seen done l names) next (c.loop-name.invariant flat written listed shows) in
+          let new : is_listed name seen ≡ false = fresh (is_listed name tags) (is_listed name seen) (told ∙ w.if-is_new.true) in
+          let cells = every_cell 0 flat.cells ∙ shows in
+          let drafts = w.in_ok-push_changes.ensures.ok ∙ (λ i. done ++ tag_drafts MOST_SPANS false (w.deref-then-is_new-2.ensures i) (changed_stamps (w.deref-then-is_new-2.ensures i) false (sym cells i))) in
+          subst (λ l. Stands MOST_SPANS flat l (map body_of w.push_changes.new.drafts.items) left names) (sym (w.in_ok-ensure.ensures.names ∙ ap (λ n. with_name n seen) w.deref-then-is_new.ensures))
+          (subst (λ l. Stands MOST_SPANS flat (with_name name seen) l left names) (sym drafts) (stands_more MOST_SPANS flat seen done name left names new before)))
+      | else-is_new w ↦
+          rw (w.seen-is, w.drafts-is) (λ flat written listed shows.
+          stands_past MOST_SPANS flat tags seen done name left names refl listed (told ∙ w.if-is_new.false)
+          (subst (λ l. Stands MOST_SPANS flat seen done l names) next (c.loop-name.invariant flat written listed shows)))
+    ]
+  where
+    fresh : (b d : Bool) → (b && not d) ≡ true → d ≡ false
+    fresh true true h = absurd (cc h)
+    fresh true false h = refl
+    fresh false d h = absurd (cc h)
+
+pub returns-clause-ok : goal.returns-clause-ok
+returns-clause-ok c = λ flat written listed shows.
+    let done : List Body = map body_of c.loop-name.drafts.items in
+    let s = c.loop-name.invariant flat written listed shows in
+    sym (append-nil done) ∙ ap (λ l. done ++ deletion_drafts MOST_SPANS s.doc (map (λ w. string_bytes w) l)) (sym (drop_all c.loop-name.name-index c.args.names.now (omega arith))) ∙ s.drafts
