@@ -15,11 +15,11 @@ ghost use Rattle.rt_edits.specs.RemovalDrafts.{removal_drafts};
 ghost use Rattle.rt_edits.specs.TagDrafts.{deletion_drafts, newline_drafts, tag_drafts_at};
 
 use crate::Range;
+use crate::cells::cells_in;
 use crate::changes::push_changes;
 use crate::parts::{push_deletes, push_tags};
 use crate::removal::removed_ranges;
 use crate::span::{span_of, spans_of, stamps_in};
-use crate::cells::cells_in;
 use rt_rga::Draft;
 use rt_stamps::{FINAL, Fault};
 use rt_store::{Cell, TextStore};
