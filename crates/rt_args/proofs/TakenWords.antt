@@ -55,15 +55,6 @@ help = with_index 1 (filled help_rule)
 abbrev file : ℕ → Text → Rule
 file place name = with_index place (filled (file_word name))
 
-run_rules : run.rules ≡ site ∷ help ∷ []
-run_rules = refl
-
-join_rules : join.rules ≡ file 1 (codes "A") ∷ file 2 (codes "B") ∷ file 3 (codes "OUT") ∷ help ∷ []
-join_rules = refl
-
-show_rules : show.rules ≡ file 1 (codes "FILE") ∷ help ∷ []
-show_rules = refl
-
 abbrev pub site_row : Text → Row
 site_row text = record {
   id = codes "site";

@@ -62,9 +62,6 @@ pub record Turn (flat doc : Flat) (seen : List Word) : Type 0 where
   pub absent : (name : Word) → IsOff name flat.cells → IsOff name doc.cells
   pub same : (name : Word) → is_listed name seen ≡ false → changed_stamps name false (cells_at everywhere 0 doc.cells) ≡ changed_stamps name false (cells_at everywhere 0 flat.cells)
 
-pub turn_begun : (flat : Flat) → AreWritten flat.count flat.cells → Turn flat flat []
-turn_begun flat h = record { written = h; off = λ name e. absurd (cc e); absent = λ name k. k; same = λ name e. refl }
-
 -- one tag more
 pub turn_more : (flat doc : Flat) (seen : List Word) (name : Word) → bytes_eq name sel ≡ false → Turn flat doc seen → Turn flat (without_tag doc name) (name ∷ seen)
 turn_more flat doc seen name f h =

@@ -1,22 +1,18 @@
 -- Tags written at places: as far as the text goes, and everywhere.
-use Rattle.std.proofs.Common.{◌≡◌, ℕ, inl, inr, List, [], ◌∷◌, Bool, true, false, cond, not, ◌&&◌, All, length, map, filter, get_or, refl, sym, ◌∙◌, ap, subst, arith, add-zero}
-use Rattle.std.specs.Str.{bytes_eq}
-use Rattle.std.specs.Prelude.{nat_le, nat_lt}
-use Rattle.std.proofs.lemmas.Bool.{both_ways, cond-true, cond-false, and_from, or_left, le-leb, lt-ltb}
+use Rattle.std.proofs.Common.{◌≡◌, ℕ, inl, inr, List, [], ◌∷◌, Bool, true, false, All, length, map, filter, get_or, refl, sym, ◌∙◌, ap, subst, add-zero}
+use Rattle.std.proofs.lemmas.Bool.{both_ways, cond-false}
 use Rattle.std.proofs.lemmas.List.{length-map}
 use Rattle.std.proofs.lemmas.List.Elements.{All-head, All-tail}
 use Rattle.rt_stamps.specs.Words.{Word}
 use Rattle.rt_store.specs.Cells.{visible_of, text_of}
 use Rattle.rt_tags.specs.States.{is_on}
-use Rattle.rt_tags.specs.Tags.{sel, is_listed, without}
+use Rattle.rt_tags.specs.Tags.{is_listed}
 use Rattle.rt_tags.proofs.Places.{split}
-use Rattle.rt_edits.specs.TagWrites.{listed_if, without_tags, is_changed, changed_stamps, tagged, with_tag, with_tag_at, with_tags_at}
+use Rattle.rt_edits.specs.TagWrites.{listed_if, is_changed, changed_stamps, tagged, with_tag, with_tag_at, with_tags_at}
 use Rattle.rt_edits.specs.Flat.{Flat}
 use Rattle.rt_store.specs.Shown.{TaggedCell}
 use Rattle.rt_edits.specs.Listed.{AreListed}
-use Rattle.rt_edits.specs.declared.range.Range.{Range}
-use Rattle.rt_edits.specs.Removals.{is_in, is_covered, cells_at}
-use Rattle.rt_edits.specs.Working.{is_shared_of, all_forgotten}
+use Rattle.rt_edits.specs.Removals.{cells_at}
 use Rattle.rt_edits.proofs.ListedWrites.{everywhere, every_cell, visible_after}
 use Rattle.rt_edits.proofs.Putting.{tagged_state}
 use Rattle.rt_edits.proofs.StateChanges.{AreAlike, cells_alike, text_changed, visible_changed}
@@ -55,10 +51,6 @@ listed_count false name flat = refl
 
 -- TAGS THAT ARE DELETED
 
-with_other_tags : (names : List Word) (flat : Flat) (tags : List Word) (s : ℕ → Bool) (on : Bool) → with_tags_at (record flat { tags = tags }) s on names ≡ record (with_tags_at flat s on names) { tags = tags }
-with_other_tags [] flat tags s on = refl
-with_other_tags (name ∷ names) flat tags s on = with_other_tags names (with_tag_at flat s on name) tags s on
-
 pub none_changed : (name : Word) (cells : List TaggedCell) → All (λ c. is_on name c.state ≡ false) cells → filter (is_changed name false) cells ≡ []
 none_changed name [] h = refl
 none_changed name (c ∷ cs) h =
@@ -96,35 +88,3 @@ among_listed tags cells listed name h =
     λ k d lt. split (is_on name (get_or (visible_of cells) k d).state)
     (λ t. absurd (both_ways (is_listed name tags) h (listed.each k d lt name t)))
     (λ f. f)
-
--- deleting tags takes those off that are listed, but for `sel`
-pub deleted_tags : (names tags : List Word) (flat : Flat) → AreAmong tags flat.cells
-    → without_tags flat names ≡ record (with_tags_at flat everywhere false (filter (is_shared_of tags) names)) { tags = all_forgotten names flat.tags }
-deleted_tags [] tags flat h = refl
-deleted_tags (name ∷ names) tags flat h =
-    let off : Flat = with_tag_at flat everywhere false name in
-    let next : Flat = record off { tags = without name flat.tags } in
-    let rest = filter (is_shared_of tags) names in
-    split (bytes_eq name sel)
-    (λ t. ap (λ f. without_tags f names) (cond-true (bytes_eq name sel) flat next t) ∙ deleted_tags names tags flat h
-    ∙ (λ i. record (with_tags_at flat everywhere false (cond (not (sym t i) && is_listed name tags) (name ∷ rest) rest)) { tags = all_forgotten names (cond (sym t i) flat.tags (without name flat.tags)) }))
-    (λ f. ap (λ f. without_tags f names) (cond-false (bytes_eq name sel) flat next f)
-    ∙ split (is_listed name tags)
-    (λ t. deleted_tags names tags next (λ q k. still_absent flat name q (h q k))
-    ∙ ap (λ (g : Flat). record g { tags = all_forgotten names (without name flat.tags) }) (with_other_tags rest off (without name flat.tags) everywhere false)
-    ∙ (λ i. record (with_tags_at flat everywhere false (cond (not (sym f i) && sym t i) (name ∷ rest) rest)) { tags = all_forgotten names (cond (sym f i) flat.tags (without name flat.tags)) }))
-    (λ e. let same : next ≡ record flat { tags = without name flat.tags } = ap (λ (g : Flat). record g { tags = without name flat.tags }) (absent_tag flat name (h name e)) in
-    ap (λ g. without_tags g names) same ∙ deleted_tags names tags (record flat { tags = without name flat.tags }) h
-    ∙ ap (λ (g : Flat). record g { tags = all_forgotten names (without name flat.tags) }) (with_other_tags rest flat (without name flat.tags) everywhere false)
-    ∙ (λ i. record (with_tags_at flat everywhere false (cond (not (sym f i) && sym e i) (name ∷ rest) rest)) { tags = all_forgotten names (cond (sym f i) flat.tags (without name flat.tags)) })))
-
--- the same, by the numbers of those tags, at all places of the text
-pub deleted_numbers : (flat : Flat) (names tags numbers : List Word) (n : ℕ) → n ≡ length (visible_of flat.cells) → numbers ≡ filter (is_shared_of tags) names → AreAmong tags flat.cells
-    → without_tags flat names ≡ record (with_tags_at flat (is_covered (record { from = 0; to = n } ∷ [])) false numbers) { tags = all_forgotten names flat.tags }
-deleted_numbers flat names tags numbers n e f h =
-    let range : Range = record { from = 0; to = n } in
-    let alike : AreAlike (is_covered (range ∷ [])) everywhere 0 (length (visible_of flat.cells)) =
-    λ q l m. or_left (is_in range q) false (and_from (nat_le 0 q) (nat_lt q n) (le-leb 0 q (omega arith)) (lt-ltb q n (omega (arith, m, e)))) in
-    deleted_tags names tags flat h
-    ∙ ap (λ (g : Flat). record g { tags = all_forgotten names flat.tags })
-    (ap (with_tags_at flat everywhere false) (sym f) ∙ sym (tags_alike_at numbers flat (is_covered (range ∷ [])) everywhere false alike))

@@ -9,6 +9,7 @@ pub mod Insertions
 pub mod Listed
 pub mod Merging
 pub mod NamedSpans
+pub mod Names
 pub mod PlannedPieces
 pub mod RemovalDrafts
 pub mod Removals
@@ -17,7 +18,6 @@ pub mod Selections
 pub mod TagDrafts
 pub mod TagWrites
 pub mod Texts
-pub mod Working
 pub use Rattle.rt_stamps.specs.Outcomes
 pub use Rattle.rt_stamps.specs.Places
 pub use Rattle.rt_stamps.specs.Words

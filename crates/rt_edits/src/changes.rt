@@ -9,7 +9,7 @@ ghost use Rattle.rt_store.specs.Tagged.{AreStates};
 ghost use Rattle.rt_tags.specs.States.{IsState, IsTag, is_on, state_at};
 ghost use Rattle.rt_edits.specs.TagDrafts.{tag_drafts};
 ghost use Rattle.rt_edits.specs.TagWrites.{changed_stamps, is_changed};
-ghost use Rattle.rt_edits.specs.Working.{Numbers};
+ghost use Rattle.rt_edits.specs.Names.{Numbers};
 
 use crate::parts::push_tags;
 use crate::span::spans_of;

@@ -5,7 +5,7 @@ ghost use Rattle.rt_tags.specs.Tags.{IsName, is_ready, with_name};
 ghost use Rattle.rt_edits.specs.Removals.{AreInOrder, is_covered, stamps_at};
 ghost use Rattle.rt_edits.specs.Selected.{stamps_in as selected_in};
 ghost use Rattle.rt_edits.specs.Selections.{selection_with};
-ghost use Rattle.rt_edits.specs.Working.{all_forgotten};
+ghost use Rattle.rt_edits.specs.Names.{all_forgotten};
 
 use crate::Range;
 use crate::selection::Selection;

@@ -9,7 +9,6 @@ use Rattle.std.specs.Str.Parse.{digits_value}
 use Rattle.std.proofs.lemmas.Str.{digit_value_digit}
 use Rattle.std.proofs.lemmas.Str.Parse.{IsNumeralModel, numerals_by_value, tells_all_ascii_digits, digit_at}
 use Rattle.std.proofs.lemmas.Int.Digits.{digits_value_more}
-use Rattle.rt_index.specs.Expression.{kept}
 use Rattle.rt_index.proofs.Places.{split}
 
 pub own : IsNumeralModel (λ ds. all_ascii_digits ds ≡ true) (digits_value 10)
@@ -31,9 +30,6 @@ digits_whole [] h = refl
 digits_whole (c ∷ t) h = split (is_ascii_digit c)
     (λ e. let k = rw e at h in rw e (digits_whole t (omega arith)))
     (λ e. let k = rw e at h in absurd (omega arith))
-
-pub kept_more : (v d : ℕ) → kept (kept (kept v * 10) + d) ≡ kept (v * 10 + d)
-kept_more v d = omega arith
 
 pub number_more : (ds : List ℕ) (i : ℕ) → all_ascii_digits ds ≡ true → i < length ds → digits_value 10 (take (i + 1) ds) ≡ digits_value 10 (take i ds) * 10 + (get_or ds i 0 - 48)
 number_more ds i h l = digits_value_more 10 ds i l ∙ ap (λ d. digits_value 10 (take i ds) * 10 + d) (omega (arith, digit_value_digit (get_or ds i 0) (is_digit_at ds i h l)))

@@ -162,10 +162,6 @@ parsed_named word tag ms items e t m i =
           ∙ ap (λ xs. moved_from w.text base (Some xs)) i;
     }
 
--- words without modifiers where they should be
-pub hopeless_fixed : (word : List ℕ) (fixed : Fixed) → fixed_of (token_of word) ≡ Some fixed → modifiers_of (drop (token_length word) word) ≡ None → IsHopeless word
-hopeless_fixed word fixed e m = λ w proper. fixed_same w word fixed e ∙ ap (moved_from w.text (Ok (fixed_place w.text fixed))) m
-
 pub hopeless_rest : (word : List ℕ) (tag : Option Tag) → fixed_of (token_of word) ≡ None → longest_named word (length word) ≡ tag
     → modifiers_of (drop (named_after (token_length word) tag) word) ≡ None → IsHopeless word
 hopeless_rest word tag e t m = λ w proper.

@@ -69,17 +69,6 @@ marks_then later from to h marks =
     in_order_then (mark_removed from n) (map (mark_left later) marks)
     ∙ ap in_order (both_at_once (mark_left later) (mark_removed from n) (mark_left (is_within_or from to later)) (λ m. λ i. record m { place = place_then later from to h m.place i }) marks)
 
--- tests that agree leave the same places
-pub place_same : (a b : ℕ → Bool) → ((p : ℕ) → a p ≡ b p) → (p : ℕ) → place_left a p ≡ place_left b p
-place_same a b h zero = refl
-place_same a b h (suc p) = λ i. place_same a b h p i + cond (h p i) 0 1
-
-pub marks_same : (a b : ℕ → Bool) → ((p : ℕ) → a p ≡ b p) → (marks : List Mark) → marks_left a marks ≡ marks_left b marks
-marks_same a b h marks = ap in_order (each_same marks) where
-  each_same : (marks : List Mark) → map (mark_left a) marks ≡ map (mark_left b) marks
-  each_same [] = refl
-  each_same (m ∷ marks) = λ i. record m { place = place_same a b h m.place i } ∷ each_same marks i
-
 -- nothing is removed
 pub place_kept : (removed : ℕ → Bool) → ((p : ℕ) → removed p ≡ false) → (p : ℕ) → place_left removed p ≡ p
 place_kept removed h p = left_low removed p (λ q l. h q) p (omega arith)

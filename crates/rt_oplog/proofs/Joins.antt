@@ -7,7 +7,7 @@ use Rattle.rt_stamps.specs.declared.fault.Fault.TheVariants.{Conflict}
 use Rattle.rt_stamps.specs.Stamps.{is_before, is_same}
 use Rattle.rt_oplog.specs.Operations.{Operation, stamp_of, last_count, has_bad_stamp}
 use Rattle.rt_oplog.specs.Logs.{Has, same_operation, holds, reaches_into, clash, IsFalling, IsLog, with_operation, known_end, added, union, has_clash, IsUnion, HasClashOf, joined, joins}
-use Rattle.rt_oplog.proofs.Sets.{split, operation_true, clash_self, clash_sym, last_ge, apart, has_with, has_held, held_from, added_has, has_union, union_has, none_at, clash_in, clash_from, free_from, falling_with, same_set}
+use Rattle.rt_oplog.proofs.Sets.{split, operation_true, clash_self, clash_sym, last_ge, apart, has_with, held_from, added_has, has_union, union_has, none_at, clash_in, clash_from, free_from, falling_with, same_set}
 
 -- a set that has another operation, with its stamp apart from theirs, is a log
 pub log_with : (op : Operation) (set : List Operation) → IsLog set → has_bad_stamp op ≡ false → holds set op ≡ false → list_any (clash op) set ≡ false → IsLog (with_operation op set)
@@ -195,11 +195,6 @@ free_past set op s l x i =
         (λ e. let r : reaches_into op x ≡ false = grind (arith, nat_tests, e) in
         let t : reaches_into x op ≡ false = grind (arith, nat_tests, e) in
         (elim (not (same_operation op x)) as (λ n. (n && (reaches_into op x || reaches_into x op)) ≡ false) [ true ↦ rw (r, t) | false ↦ refl ]))
-
-pub new_past : (set : List Operation) (op : Operation) → has_bad_stamp op ≡ false → known_end set op.site ≤ op.prev → holds set op ≡ false
-new_past set op s l = split (holds set op)
-    (λ e. let g = end_ge set op (has_held set op e) in let a = last_ge op.count op.body in let b : op.prev < op.count = grind (arith, nat_tests, s) in absurd (omega arith))
-    (λ e. e)
 
 pub end_with : (op : Operation) (set : List Operation) (site : ℕ) → known_end (with_operation op set) site ≡ known_end (op ∷ set) site
 end_with op [] site = refl

@@ -1,5 +1,5 @@
 -- The log of operations that are pushed in turn.
-use Rattle.std.proofs.Common.{◌≡◌, ◌↔◌, ℕ, ◌+◌, ◌<◌, ◌⊎◌, inl, inr, List, [], length, take, sym, subst, Ok, Err}
+use Rattle.std.proofs.Common.{◌≡◌, ◌↔◌, ℕ, ◌+◌, ◌<◌, ◌⊎◌, inl, inr, List, length, take, sym, subst, Ok, Err}
 use Rattle.std.proofs.lemmas.List.{take_more}
 use Rattle.std.proofs.lemmas.Option.{slice_get-get_or}
 use Rattle.std.specs.List.{list_any}
@@ -11,9 +11,6 @@ use Rattle.rt_oplog.specs.Kept.{nothing, op_at}
 use Rattle.rt_oplog.specs.Outcomes.{IsLogOf, MakesLog}
 use Rattle.rt_oplog.proofs.Sets.{split, has_with, with_has, has_held}
 use Rattle.rt_oplog.proofs.Merges.{has_end, end_has}
-
-pub log_of_none : (log : List Operation) → log ≡ [] → IsLog log → IsLogOf [] log
-log_of_none log e l = record { is_log = l; members = λ op. (λ h. subst (λ set. Has set op) e h, λ h. absurd h) }
 
 -- what a push leaves has the operation, and what was there
 pushed_has : (op : Operation) (log new : List Operation) → pushed op log ≡ Ok new → (x : Operation) → Has new x ↔ (Has log x ⊎ (op ≡ x))

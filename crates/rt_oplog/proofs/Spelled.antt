@@ -31,9 +31,6 @@ spelling_parts ops i op h =
     ap (λ v. magic ++ v) (flat_map_parts record_of ops i op (slice_get_within ops i op h) ∙ ap (λ x. (front ++ record_of x) ++ rest) (get_or_from_slice_get ops i op op h))
     ∙ sym (append_assoc magic (front ++ record_of op) rest) ∙ ap (λ v. v ++ rest) (sym (append_assoc magic front (record_of op)))
 
-pub wrote_none : (a b : Option (List ℕ)) → Appends a b magic → Appends a b (spelling [])
-wrote_none a b h = rw (append-nil magic) h
-
 pub wrote_more : (a b c : Option (List ℕ)) (ops : List Operation) (i : ℕ) (op : Operation) → slice_get ops i ≡ Some op → Appends a b (spelling (take i ops)) → Appends b c (record_of op) → Appends a c (spelling (take (i + 1) ops))
 wrote_more a b c ops i op is h k = rw (spelling_more ops i op is) (appends_then a b c _ _ h k)
 

@@ -1,13 +1,13 @@
 -- Bytes taken one piece after another.
-use Rattle.std.proofs.Common.{◌≡◌, ℕ, ◌+◌, ◌-◌, ◌^◌, ◌<◌, ◌≤◌, Bool, true, false, cond, List, [], ◌∷◌, ◌++◌, length, take, Option, Some, None, Err, refl, sym, ap, subst, ◌∙◌, append_assoc, append-nil, arith, inl, inr}
-use Rattle.std.specs.Prelude.{◌⊎◌, min, max, not, nat_lt}
+use Rattle.std.proofs.Common.{◌≡◌, ℕ, ◌+◌, ◌^◌, ◌<◌, ◌≤◌, Bool, true, false, cond, List, [], ◌∷◌, ◌++◌, length, take, Option, Some, None, Err, refl, sym, ap, subst, ◌∙◌, append_assoc, append-nil, arith, inl, inr}
+use Rattle.std.specs.Prelude.{◌⊎◌, not, nat_lt}
 use Rattle.std.specs.Str.{bytes_eq}
 use Rattle.std.proofs.lemmas.Bool.{false≢true}
 use Rattle.std.proofs.lemmas.Bool.Decides.{nat_tests}
 use Rattle.std.proofs.lemmas.Slice.Eq.{bytes_eq-Decides}
 use Rattle.std.specs.Int.{w32}
-use Rattle.std.specs.Io.KnownBytes.{Consumes, Keeps, IsAtEnd}
-use Rattle.std.proofs.lemmas.List.{length-append, length-take, nil_from_length}
+use Rattle.std.specs.Io.KnownBytes.{Consumes, IsAtEnd}
+use Rattle.std.proofs.lemmas.List.{length-append, nil_from_length}
 use Rattle.rt_stamps.specs.declared.limits.TheConstants.{FEWEST_RECORD_BYTES, MOST_RECORD_BYTES}
 use Rattle.rt_stamps.specs.declared.fault.Fault.{Fault}
 use Rattle.rt_stamps.specs.declared.fault.Fault.TheVariants.{NoMemory, BadMagic, BadVersion, Truncated, BadRecord, ReadFault}
@@ -17,18 +17,13 @@ use Rattle.rt_oplog.specs.Decoding.{Refuses}
 use Rattle.rt_oplog.specs.File.{magic, number, content_of, record_of, HasRecord}
 use Rattle.rt_oplog.specs.Rules.{is_within}
 use Rattle.rt_oplog.specs.Reading.{file_name, head_fault, EndsEarly}
-use Rattle.rt_oplog.specs.Intake.{ReaderState, Takes, IsStopped, HasNoRecord, Fails, AtEnd, GetsHead}
+use Rattle.rt_oplog.specs.Intake.{ReaderState, Takes, IsStopped, HasNoRecord, Fails, GetsHead}
 use Rattle.rt_oplog.proofs.Lengths.{length_4, same_front, content_length, content_short}
 use Rattle.rt_oplog.proofs.Spells.{front_same_4}
 
 pub consumes_none : (a : Option (List ℕ)) → Consumes a a []
 consumes_none None = tt
 consumes_none (Some xs) = refl
-
-pub consumes_kept : (a b : Option (List ℕ)) → Keeps a b → Consumes a b []
-consumes_kept None b h = tt
-consumes_kept (Some xs) None h = h
-consumes_kept (Some xs) (Some ys) h = sym h
 
 pub consumes_then : (a b c : Option (List ℕ)) (s t : List ℕ) → Consumes a b s → Consumes b c t → Consumes a c (s ++ t)
 consumes_then None b c s t h k = tt
@@ -59,11 +54,6 @@ stopped_then a b c x y s t h k = record {
     ]
   ];
 }
-
--- one byte
-pub one_byte : (n : ℕ) (buf : List ℕ) → n ≡ 1 → n ≤ length buf → (byte : ℕ) × (take n buf ≡ byte ∷ [])
-one_byte n [] e h = absurd (omega arith)
-one_byte n (byte ∷ buf) e h = (byte, ap (λ k. take k (byte ∷ buf)) e)
 
 -- why a field isn't gathered is why the record isn't read
 pub not_gathered : (a b c : ReaderState) (x y z : Bounds) (front : List ℕ) (wanted : ℕ) (fault : Fault) → Takes a b x y front → ((taken : List ℕ) → length taken < wanted → EndsEarly (front ++ taken))
@@ -125,37 +115,6 @@ not_decoded a b x y content n fault h least most size (inr bad) = (number w32 n 
 
 -- ---- one read
 
-pub stopped_spent : (a : ReaderState) (x : Bounds) → x.reads ≡ 0 → IsStopped a a x []
-stopped_spent a x none = record {
-  within = omega arith;
-  calls = omega arith;
-  cause = inr (inl (consumes_none a.left, refl, omega (arith, none)));
-}
-
-pub stopped_failed : (a b : ReaderState) (x : Bounds) → (x.reads ≡ 0 → ⊥) → Keeps a.left b.left → b.calls ≡ a.calls + 1 → b.failures ≡ a.failures + 1 → IsStopped a b x []
-stopped_failed a b x some kept calls failures = record {
-  within = omega arith;
-  calls = omega (arith, some, calls);
-  cause = inl (consumes_kept a.left b.left kept, failures);
-}
-
-pub stopped_over : (a b : ReaderState) (x : Bounds) (n most : ℕ) (buf : List ℕ) → (x.reads ≡ 0 → ⊥) → Consumes a.left b.left (take n buf) → n ≤ length buf → n ≤ max (min x.bytes most) 1 → x.bytes < n → b.calls ≡ a.calls + 1 → b.failures ≡ a.failures → IsStopped a b x []
-stopped_over a b x n most buf some consumed long bounded over calls failures =
-    let byte = one_byte n buf (omega (arith, bounded, over)) long in
-    record {
-      within = omega arith;
-      calls = omega (arith, some, calls);
-      cause = inr (inr (byte.0, subst (Consumes a.left b.left) byte.1 consumed, failures, omega (arith, bounded, over)));
-    }
-
-pub took_some : (a b : ReaderState) (x : Bounds) (n : ℕ) (buf : List ℕ) → (x.reads ≡ 0 → ⊥) → Consumes a.left b.left (take n buf) → n ≤ length buf → n ≤ x.bytes → b.calls ≡ a.calls + 1 → b.failures ≡ a.failures → Takes a b x (record { bytes = x.bytes - n; reads = x.reads - 1 }) (take n buf)
-took_some a b x n buf some consumed long room calls failures = record {
-  consumed = consumed;
-  failures = failures;
-  calls = omega (arith, some, calls);
-  room = omega (arith, room, long, length-take n buf);
-}
-
 -- ---- several reads
 
 pub takes_empty : (a b c : ReaderState) (x y z : Bounds) (s buf : List ℕ) (n : ℕ) → n ≡ 0 → Takes a b x y s → Takes b c y z (take n buf) → Takes a c x z s
@@ -165,12 +124,6 @@ pub stopped_in : (a b c : ReaderState) (x y : Bounds) (s : List ℕ) → Takes a
 stopped_in a b c x y s h k = subst (IsStopped a c x) (append-nil s) (stopped_then a b c x y s [] h k)
 
 -- ---- a length field
-
-pub nothing_left : (a b : ReaderState) (x y : Bounds) (s : List ℕ) → length s ≡ 0 → Takes a b x y s → (length s < 4 → IsAtEnd b.left) → AtEnd a b x y
-nothing_left a b x y s none h end = (subst (Takes a b x y) (nil_from_length s none) h, end (omega (arith, none)))
-
-pub cut_length : (a b : ReaderState) (x y : Bounds) (s : List ℕ) → (length s ≡ 0 → ⊥) → length s < 4 → Takes a b x y s → (length s < 4 → IsAtEnd b.left) → Fails a b x y Truncated
-cut_length a b x y s some lt h end = (s, inr (inl (refl, h, end lt, omega (arith, some), inl lt)))
 
 pub refused_length : (a b : ReaderState) (x y : Bounds) (s rest : List ℕ) (n : ℕ) → n < 2 ^ 32 → s ≡ number w32 n ++ rest → length s ≤ 4 → Takes a b x y s → is_within FEWEST_RECORD_BYTES MOST_RECORD_BYTES n ≡ false → Fails a b x y BadRecord
 refused_length a b x y s rest n few parts short h out = (
@@ -183,10 +136,6 @@ refused_length a b x y s rest n few parts short h out = (
         false≢true (sym out ∙ inside)),
   ))),
 )
-
-pub got_length : (a b : ReaderState) (x y : Bounds) (s rest : List ℕ) (n : ℕ) → s ≡ number w32 n ++ rest → length s ≤ 4 → Takes a b x y s → is_within FEWEST_RECORD_BYTES MOST_RECORD_BYTES n ≡ true
-    → Takes a b x y (number w32 n) × (FEWEST_RECORD_BYTES ≤ n) × (n ≤ MOST_RECORD_BYTES)
-got_length a b x y s rest n parts short h inside = (subst (Takes a b x y) (only_length s rest n parts short) h, grind (arith, nat_tests), grind (arith, nat_tests))
 
 -- ---- what a record has behind it
 

@@ -10,9 +10,6 @@ pub record Reading (words left : List Word) (pieces : List Piece) : Type 0 where
   pub reads_on : (more : List Piece) (rest : Word) → AreTexts left more rest → AreTexts words (pieces ++ more) rest
   pub needs : (others : List Piece) (rest : Word) → AreTexts words others rest → (more : List Piece) × AreTexts left more rest
 
-pub begun : (words : List Word) → Reading words words []
-begun words = record { reads_on = λ more rest h. h; needs = λ others rest h. (others, h) }
-
 -- what follows a text and its list
 after : (left : List Word) (text list rest : Word) (more : List Piece) → AreTexts (text ∷ list ∷ left) more rest → (more : List Piece) × AreTexts left more rest
 after left text list rest [] h = absurd h
@@ -24,14 +21,6 @@ next words left text list pieces piece e s r = record {
   reads_on = λ more rest h. subst (λ (v : List Piece). AreTexts words v rest) (sym (append_assoc pieces (piece ∷ []) more)) (r.reads_on (piece ∷ more) rest (e, s, h));
   needs = λ others rest h. let n = r.needs others rest h in after left text list rest n.0 n.1;
 }
-
--- a list that spells no words
-bad_pair : (left : List Word) (text list rest : Word) (more : List Piece) → IsBadlyQuotedList list → AreTexts (text ∷ list ∷ left) more rest → ⊥
-bad_pair left text list rest [] bad h = h
-bad_pair left text list rest (piece ∷ more) bad h = bad piece.tags h.1
-
-pub bad_list : (words left : List Word) (text list : Word) (pieces : List Piece) → IsBadlyQuotedList list → Reading words (text ∷ list ∷ left) pieces → AreNoTexts words
-bad_list words left text list pieces bad r others rest h = let n = r.needs others rest h in bad_pair left text list rest n.0 bad n.1
 
 -- what is left is a text without a list, or nothing
 pub read_all : (words left : List Word) (rest : Word) (pieces : List Piece) → AreTexts left [] rest → Reading words left pieces → AreTexts words pieces rest

@@ -34,20 +34,6 @@ pub unset_of_some : (state : State) (words : List (String Global)) → false ≡
 unset_of_some state [] h = absurd (cc)
 unset_of_some state (word ∷ words) h = refl
 
--- `mark gravity` of three words or more, and `mark names` of any
-gravity_many : (state : State) (words : List Word) → 3 ≤ length words → mark_gravity_step state words ≡ Err BadCommand
-gravity_many state [] h = absurd (omega arith)
-gravity_many state (a ∷ []) h = absurd (omega arith)
-gravity_many state (a ∷ b ∷ []) h = absurd (omega arith)
-gravity_many state (a ∷ b ∷ c ∷ words) h = refl
-
-pub gravity_of_many : (state : State) (words : List (String Global)) → 3 ≤ length words → mark_gravity_step state (map (λ w. string_bytes w) words) ≡ Err BadCommand
-gravity_of_many state words h = gravity_many state (map (λ w. string_bytes w) words) (rw (length-map words (λ w. string_bytes w)) h)
-
-pub names_of_some : (state : State) (words : List (String Global)) → false ≡ (length words == 0) → mark_names_step state (map (λ w. string_bytes w) words) ≡ Err BadCommand
-names_of_some state [] h = absurd (cc)
-names_of_some state (word ∷ words) h = refl
-
 -- a state is its document and its widget's marks
 abbrev pub state_of : Flat → Own → State
 state_of doc own = record { doc = doc; own = own }
@@ -87,9 +73,6 @@ change_refused outcome = refused_by (λ changed. ([], record { doc = changed.0; 
 
 pub edit_refused : (outcome : Result Edited Fault) (fault found : Fault) → Refuses outcome found → fault ≡ found → Refuses (edited_step outcome) fault
 edit_refused outcome = refused_by (λ edited. ([], record { doc = edited.doc; own = edited.own })) outcome
-
-pub document_refused : (state : State) (outcome : Result Flat Fault) (fault found : Fault) → Refuses outcome found → fault ≡ found → Refuses (document_step state outcome) fault
-document_refused state outcome = refused_by (λ doc. ([], record state { doc = doc })) outcome
 
 -- a change that is refused, and one that is made, by what the call says of the document and the widget
 pub changed_refused : (f : Flat → Own → Result (Flat × Own) Fault) (state : State) (doc : Flat) (own : Own) (fault found : Fault) → state_of doc own ≡ state → Refuses (f doc own) found → fault ≡ found
@@ -148,11 +131,6 @@ pub remove_of_few : (state : State) (words : List (String Global)) → length wo
 remove_of_few state [] h = refl
 remove_of_few state (w ∷ []) h = refl
 remove_of_few state (w ∷ v ∷ words) h = absurd (omega arith)
-
--- tags to delete, one or more
-pub delete_tags_of_some : (state : State) (words : List (String Global)) → false ≡ (length words == 0) → tag_delete_step state (map (λ w. string_bytes w) words) ≡ document_step state (tags_deleted state.doc (map (λ w. string_bytes w) words))
-delete_tags_of_some state [] h = absurd (cc)
-delete_tags_of_some state (word ∷ words) h = refl
 
 -- words by their number
 pub single : (words : List (String Global)) (x : String Global) → 1 ≤ length words → length words < 2 → x ≡ get_or words 0 x → map (λ w. string_bytes w) words ≡ string_bytes x ∷ []

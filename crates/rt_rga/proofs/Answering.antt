@@ -52,11 +52,6 @@ gap_kept log kept r span = λ i. list_any (λ s. not (kept_character log kept r 
 
 -- SPANS BY COUNTS
 
-pub gap_here : (p : Stamp → Bool) (site count last : ℕ) → count < last + 1 → p (record { count = count; site = site }) ≡ true → list_any p (stamps_from site count (last + 1 - count)) ≡ true
-gap_here p site count last l h =
-    let e : last + 1 - count ≡ suc (last + 1 - (count + 1)) = omega arith in
-    ap (λ n. list_any p (stamps_from site count n)) e ∙ ap (λ b. b || list_any p (stamps_from site (count + 1) (last + 1 - (count + 1)))) h
-
 pub gap_on : (p : Stamp → Bool) (site count last : ℕ) → count < last + 1 → p (record { count = count; site = site }) ≡ false
     → list_any p (stamps_from site (count + 1) (last + 1 - (count + 1))) ≡ list_any p (stamps_from site count (last + 1 - count))
 gap_on p site count last l h =

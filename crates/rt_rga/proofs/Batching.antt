@@ -1,7 +1,7 @@
 -- What is kept of a log, after several operations at once.
-use Rattle.std.proofs.Common.{◌≡◌, ℕ, suc, ◌+◌, ◌≤◌, ◌<◌, Bool, true, false, refl, sym, ap, subst, ◌∙◌, arith, List, [], ◌∷◌, ◌++◌, All, cond, length, map}
-use Rattle.std.proofs.lemmas.List.{length-append, length-map}
-use Rattle.std.proofs.lemmas.List.Elements.{All-append, All-map, recursion_from_All}
+use Rattle.std.proofs.Common.{◌≡◌, ℕ, suc, ◌+◌, ◌≤◌, true, false, refl, sym, ap, subst, ◌∙◌, arith, List, [], ◌∷◌, All, cond, length, map}
+use Rattle.std.proofs.lemmas.List.{length-map}
+use Rattle.std.proofs.lemmas.List.Elements.{All-map}
 use Rattle.std.specs.List.{AllByRecursion}
 use Rattle.rt_stamps.specs.declared.limits.TheConstants.{GREATEST_COUNT}
 use Rattle.rt_oplog.specs.Logs.{with_operation}
@@ -20,7 +20,6 @@ use Rattle.rt_rga.specs.Making.{AreNewest, CanAllBePut, ContinueInTurn, fresh_ce
 use Rattle.rt_rga.specs.Replicas.{IsReplica}
 use Rattle.rt_rga.specs.Runs.{put_back_in_any}
 use Rattle.rt_rga.specs.declared.tagging.StateRun.{StateRun}
-use Rattle.rt_rga.proofs.Merging.{map_same}
 use Rattle.rt_rga.proofs.Planned.{batch}
 use Rattle.rt_rga.proofs.Putting.{can_all_put, cells_after, every_after, history_after, in_turn_sound, kept_shown, length_kept_after, newest_rise}
 use Rattle.rt_rga.proofs.Continuing.{sound_of}

@@ -1,12 +1,9 @@
 -- What the code's edits do to what is kept.
-use Rattle.std.proofs.Common.{◌≡◌, ℕ, suc, ◌+◌, refl, ap, ◌∙◌, List, [], ◌∷◌, length, map}
-use Rattle.std.proofs.lemmas.List.{length-map}
-use Rattle.rt_stamps.specs.declared.stamp.Span.{Span}
+use Rattle.std.proofs.Common.{◌≡◌, ℕ, suc, ◌+◌, refl, ap, ◌∙◌, List, [], ◌∷◌, length}
 use Rattle.rt_stamps.specs.declared.stamp.Stamp.{Stamp}
 use Rattle.rt_store.specs.declared.cell.Cell.{Cell}
-use Rattle.rt_oplog.specs.Operations.{Operation, Insert, Delete, Name, stamp_of}
+use Rattle.rt_oplog.specs.Operations.{Operation, Insert, Name, stamp_of}
 use Rattle.rt_store.proofs.Places.{length_from, length_put}
-use Rattle.rt_store.specs.Spans.{gone_in_any}
 use Rattle.rt_store.specs.Cells.{cells_from, put_at}
 use Rattle.rt_rga.specs.Histories.{characters_from, inserted, inserted_by}
 
@@ -17,12 +14,6 @@ length_text left stamp (c ∷ cs) = ap suc (length_text stamp (record { count = 
 pub length_inserted : (op : Operation) (after : Stamp) (tags : List Name) (text : List ℕ) → op.body ≡ Insert after tags text → length (inserted op) ≡ length text
 length_inserted op after tags text e = ap (λ b. length (inserted_by (stamp_of op) b)) e ∙ length_text after (stamp_of op) text
 
-pub none_inserted : (op : Operation) (spans : List Span) → op.body ≡ Delete spans → length (inserted op) ≡ 0
-none_inserted op spans e = ap (λ b. length (inserted_by (stamp_of op) b)) e
-
 -- as many cells as before, and the new ones
 pub length_changed : (cells old : List (Cell ℕ)) (at count site state : ℕ) (text : List ℕ) → cells ≡ put_at at (cells_from count site state text) old → length cells ≡ length old + length text
 length_changed cells old at count site state text e = ap length e ∙ length_put at (cells_from count site state text) old ∙ ap (λ n. length old + n) (length_from count site state text)
-
-pub length_gone : (cells old : List (Cell ℕ)) (spans : List Span) → cells ≡ map (gone_in_any spans) old → length cells ≡ length old
-length_gone cells old spans e = ap length e ∙ length-map old (gone_in_any spans)

@@ -304,15 +304,6 @@ characters_with op (q ∷ older) h k =
           ∙ with_all_comm (inserted q) (inserted op) (inserted_apart q op (other_site older q op k b)) (characters older)
     ] refl
 
--- An operation that has_character a larger history continues the smaller one.
-head_of : (P : Operation → Type 0) (op : Operation) (older : List Operation) → AllByRecursion P (with_operation op older) → P op
-head_of P op [] h = h.0
-head_of P op (q ∷ older) h =
-    (elim (is_before (stamp_of q) (stamp_of op)) as (λ t. AllByRecursion P (cond t (op ∷ q ∷ older) (q ∷ with_operation op older)) → P op) [
-      | true ↦ λ k. k.0
-      | false ↦ λ k. head_of P op older k.1
-    ]) h
-
 end_ge : (op : Operation) (older : List Operation) → last_count op ≤ known_end (with_operation op older) op.site
 end_ge op [] = grind (arith, nat_tests)
 end_ge op (q ∷ older) = grind (arith, nat_tests, end_ge op older)
@@ -370,8 +361,3 @@ pub law_insert : (older : List Operation) (op : Operation) (after : Stamp) (tags
 law_insert older op after tags text e h k =
     ap reading_by_stamp (characters_with op older h k)
     ∙ by_body older (stamp_of op) op.body after tags text e h (sound_of k).text (sound_of k).named (knows k) (inserted_fresh older op k)
-
-pub law_of_skipping : (older : List Operation) (op : Operation) (after : Stamp) (tags : List Name) (text : List ℕ) → op.body ≡ Insert after tags text
-    → IsHistory older → IsHistory (with_operation op older)
-    → reading_by_stamp (characters (with_operation op older)) ≡ put_at (after_skip after (stamp_of op) (stamps_read (reading_by_stamp (characters older)))) (inserted op) (reading_by_stamp (characters older))
-law_of_skipping older op after tags text e h w = law_insert older op after tags text e h (continues_from op older h w)

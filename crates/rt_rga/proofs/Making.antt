@@ -1,5 +1,5 @@
 -- From drafts to operations.
-use Rattle.std.proofs.Common.{◌≡◌, ℕ, suc, ◌+◌, ◌<◌, ◌≤◌, refl, sym, ap, subst, ◌∙◌, arith, List, [], ◌∷◌, ◌++◌, ◌==◌, Bool, All, true, false, cond, map, max, length, drop, get_or, nat_le, nat_lt, not, ◌&&◌, Some, None, Option}
+use Rattle.std.proofs.Common.{◌≡◌, ℕ, suc, ◌+◌, ◌<◌, ◌≤◌, refl, sym, ap, subst, ◌∙◌, arith, List, [], ◌∷◌, ◌++◌, ◌==◌, Bool, All, true, false, cond, map, max, length, drop, get_or, nat_le, nat_lt, not, ◌&&◌, Some, None}
 use Rattle.std.proofs.lemmas.List.{append_assoc, drop_more, length-append, map-append}
 use Rattle.rt_oplog.specs.Edits.{body_of}
 use Rattle.rt_oplog.specs.Operations.{Operation, Body, Insert, Name, last_count, last_of, stamp_of}
@@ -62,9 +62,6 @@ stamped_more site last prev more ops now all op old new draft e l o p h =
 
 pub rules_left : (old new : List Edit) (draft : Edit) → old ≡ draft ∷ new → All (λ d. keeps_rules (body_of d) ≡ true) old → All (λ d. keeps_rules (body_of d) ≡ true) new
 rules_left old new draft e h = λ k d lt. subst (λ (drafts : List Edit). All (λ d. keeps_rules (body_of d) ≡ true) drafts) e h (suc k) d (omega (arith, lt))
-
-pub rules_first : (old new : List Edit) (draft : Edit) → old ≡ draft ∷ new → All (λ d. keeps_rules (body_of d) ≡ true) old → keeps_rules (body_of draft) ≡ true
-rules_first old new draft e h = subst (λ (drafts : List Edit). All (λ d. keeps_rules (body_of d) ≡ true) drafts) e h 0 draft (omega arith)
 
 pub fits_left : (last more bound : ℕ) (old new : List Edit) (draft : Edit) → old ≡ draft ∷ new → last_of (last + 1) (body_of draft) ≡ last + more
     → last_count_after last (map body_of old) ≤ bound → last_count_after (last + more) (map body_of new) ≤ bound

@@ -3,9 +3,9 @@ use Rattle.std.proofs.Common.{◌≡◌, ℕ, suc, ◌+◌, ◌<◌, ◌≤◌, 
 use Rattle.std.specs.Prelude.{nat_le, nat_lt, if◌then◌else◌}
 use Rattle.std.specs.List.{list_any}
 use Rattle.std.specs.Ordering.{nat_cmp, is_lt}
-use Rattle.std.proofs.lemmas.Bool.{and_from, and_parts, leb-true, leb-false, le-leb, lt-leb}
+use Rattle.std.proofs.lemmas.Bool.{and_from, and_parts, leb-true, leb-false}
 use Rattle.std.proofs.lemmas.Bool.Decides.{nat_tests}
-use Rattle.std.proofs.lemmas.List.{drop_more, drop_all}
+use Rattle.std.proofs.lemmas.List.{drop_all}
 use Rattle.std.proofs.lemmas.List.Elements.{All-head}
 use Rattle.rt_stamps.specs.Spans.{each_next}
 use Rattle.rt_rga.specs.declared.taken.PlaceRun.{PlaceRun}
@@ -23,18 +23,6 @@ runs_from run (place ∷ places) =
     if nat_le run.from (place + 1) then runs_from (record { from = place; to = run.to }) places else run ∷ runs_from (run_of place) places
 
 -- THE LOOP
-
-pub longer : (run : PlaceRun) (places : List ℕ) (i : ℕ) (d : ℕ) → i < length places → run.from ≤ get_or places i d + 1
-    → runs_from run (drop i places) ≡ runs_from (record { from = get_or places i d; to = run.to }) (drop (i + 1) places)
-longer run places i d h k =
-    let joined : nat_le run.from (get_or places i d + 1) ≡ true = le-leb _ _ k in
-    rw (drop_more places i d h, joined) refl
-
-pub begun : (run : PlaceRun) (places : List ℕ) (i : ℕ) (d : ℕ) → i < length places → get_or places i d + 1 < run.from
-    → runs_from run (drop i places) ≡ run ∷ runs_from (run_of (get_or places i d)) (drop (i + 1) places)
-begun run places i d h k =
-    let apart : nat_le run.from (get_or places i d + 1) ≡ false = lt-leb _ _ k in
-    rw (drop_more places i d h, apart) refl
 
 -- when all are taken
 pub runs_done : (run : PlaceRun) (places : List ℕ) (done runs : List PlaceRun) (i : ℕ) → length places ≤ i → done ++ runs_from run (drop i places) ≡ runs → done ++ run ∷ [] ≡ runs

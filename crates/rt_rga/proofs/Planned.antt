@@ -1,5 +1,5 @@
 -- Operations at once: Tags wait until all Inserts and Deletes are done.
-use Rattle.std.proofs.Common.{◌≡◌, ℕ, ◌+◌, ◌≤◌, ◌<◌, Bool, true, false, true≢false, refl, sym, ap, ◌∙◌, arith, List, [], ◌∷◌, ◌++◌, cond, length, map, take, drop}
+use Rattle.std.proofs.Common.{◌≡◌, ℕ, ◌+◌, ◌≤◌, Bool, true, false, true≢false, refl, sym, ap, ◌∙◌, arith, List, [], ◌∷◌, ◌++◌, cond, length, map, take, drop}
 use Rattle.std.proofs.lemmas.Bool.Decides.{nat_tests}
 use Rattle.std.proofs.lemmas.List.{drop-map, take-map}
 use Rattle.std.specs.Prelude.{position, take_while, unwrap_or}
@@ -9,7 +9,7 @@ use Rattle.rt_stamps.specs.declared.stamp.Stamp.{Stamp}
 use Rattle.rt_stamps.specs.declared.stamp.TheConstants.{ROOT}
 use Rattle.rt_stamps.specs.Stamps.{is_before, is_same}
 use Rattle.rt_stamps.proofs.Order.{before_asym}
-use Rattle.rt_oplog.specs.Operations.{Operation, Body, Insert, Delete, Tag, Name, has_bad_stamp, last_count, stamp_of}
+use Rattle.rt_oplog.specs.Operations.{Operation, Body, Insert, Delete, Tag, Name, has_bad_stamp, stamp_of}
 use Rattle.rt_store.specs.Cells.{after_element, cells_from, position_of, put_at, skip_from, stamps_of, with_state}
 use Rattle.rt_store.specs.Shown.{TaggedCell}
 use Rattle.rt_store.specs.Spans.{gone_in_any, is_in_spans}
@@ -19,12 +19,7 @@ use Rattle.rt_tags.specs.States.{Write, written}
 use Rattle.rt_tags.specs.Writers.{listed_by, state_after}
 use Rattle.rt_rga.specs.Batches.{AreRising, AreSound, after_tags, all_put, put_by, tag_writes, tag_writes_by}
 use Rattle.rt_rga.specs.Changes.{changed_by, written_in_any}
-use Rattle.rt_rga.specs.Cells.{cells_of}
-use Rattle.rt_rga.specs.Drafts.{AreDraftsFor, all_changed, next_operation, operations_of, with_drafts}
-use Rattle.rt_rga.specs.Histories.{Continues, IsHistory, greatest_last_count}
-use Rattle.rt_rga.proofs.Drafting.{count_after, draft_continues, made}
-use Rattle.rt_rga.proofs.Histories.{history_with, last_ge}
-use Rattle.rt_oplog.specs.Logs.{with_operation}
+use Rattle.rt_rga.specs.Drafts.{all_changed}
 use Rattle.rt_rga.proofs.Continuing.{names}
 use Rattle.rt_rga.proofs.Later.{named_before}
 use Rattle.rt_rga.proofs.Skipping.{split}
@@ -167,36 +162,3 @@ batch [] cells s h = no_tags cells
 batch (op ∷ ops) cells s h = batch ops (changed_by (stamp_of op) op.body cells) s.1 h.1 ∙ one_more op op.body ops cells refl s.0 h.0
 
 -- A SITE'S OWN OPERATIONS
-
-own_above : (site : ℕ) (drafts : List Body) (set : List Operation) (stamp : Stamp) → stamp.count ≤ greatest_last_count set
-    → AllByRecursion (λ later. is_before stamp (stamp_of later) ≡ true) (operations_of site drafts set)
-own_above site [] set stamp h = tt
-own_above site (draft ∷ drafts) set stamp h =
-    let op : Operation = next_operation site draft set in
-    let after : greatest_last_count (with_operation op set) ≡ last_count op = count_after op set (omega arith) in
-    let least : op.count ≤ last_count op = last_ge op.count op.body in
-    (lesser stamp (stamp_of op) (omega arith), own_above site drafts (with_operation op set) stamp (omega arith))
-  where
-    lesser : (a b : Stamp) → a.count < b.count → is_before a b ≡ true
-    lesser a b h = grind (arith, nat_tests)
-
--- they rise, and are sound
-pub own_rise : (site : ℕ) (drafts : List Body) (set : List Operation) → AreRising (operations_of site drafts set)
-own_rise site [] set = tt
-own_rise site (draft ∷ drafts) set =
-    let op : Operation = next_operation site draft set in
-    let after : greatest_last_count (with_operation op set) ≡ last_count op = count_after op set (omega arith) in
-    let least : op.count ≤ last_count op = last_ge op.count op.body in
-    (own_above site drafts (with_operation op set) (stamp_of op) (omega arith), own_rise site drafts (with_operation op set))
-
-pub own_sound : (site : ℕ) (drafts : List Body) (set : List Operation) → 0 < site → IsHistory set → AreDraftsFor site set drafts → AreSound (operations_of site drafts set)
-own_sound site [] set p h d = tt
-own_sound site (draft ∷ drafts) set p h d =
-    let op : Operation = next_operation site draft set in
-    let k : Continues set op = draft_continues site set draft p d.0 in
-    (k.sound, own_sound site drafts (with_operation op set) p (history_with op set h k) d.1)
-
--- what a site's own operations do to the cells of its history
-pub own_batch : (site : ℕ) (drafts : List Body) (set : List Operation) → 0 < site → IsHistory set → AreDraftsFor site set drafts
-    → cells_of (with_drafts site drafts set) ≡ map (after_tags (operations_of site drafts set)) (all_put (operations_of site drafts set) (cells_of set))
-own_batch site drafts set p h d = (made site drafts set p h d).cells ∙ batch (operations_of site drafts set) (cells_of set) (own_sound site drafts set p h d) (own_rise site drafts set)

@@ -1,20 +1,20 @@
 -- Kept cells after the Inserts and Deletes of several operations.
-use Rattle.std.proofs.Common.{◌≡◌, ℕ, suc, ◌+◌, ◌-◌, ◌≤◌, ◌<◌, Bool, true, false, refl, sym, ap, subst, ◌∙◌, arith, Some, None, Option, List, [], ◌∷◌, ◌++◌, All, cond, length, map, take, drop, get_or}
+use Rattle.std.proofs.Common.{◌≡◌, ℕ, ◌+◌, ◌≤◌, ◌<◌, true, false, refl, sym, ap, ◌∙◌, arith, List, [], ◌∷◌, ◌++◌, All, cond, length, map, take, drop, get_or}
 use Rattle.std.specs.Prelude.{position, take_while, unwrap_or}
-use Rattle.std.proofs.lemmas.List.{append_assoc, drop_at, drop-map, length-append, length-drop, length-map, length-take, take_at, take-map}
+use Rattle.std.proofs.lemmas.List.{drop_at, drop-map, length-append, length-map, length-take, take_at, take-map}
 use Rattle.std.proofs.lemmas.List.Elements.{All-append, All-drop, All-map, All-take}
 use Rattle.rt_stamps.specs.declared.stamp.Span.{Span}
 use Rattle.rt_stamps.specs.declared.stamp.Stamp.{Stamp}
-use Rattle.rt_stamps.specs.declared.stamp.TheConstants.{FINAL, ROOT}
+use Rattle.rt_stamps.specs.declared.stamp.TheConstants.{ROOT}
 use Rattle.rt_stamps.specs.Stamps.{is_before, is_same}
-use Rattle.rt_oplog.specs.Operations.{Operation, Body, Insert, Delete, Tag, Name, stamp_of}
+use Rattle.rt_oplog.specs.Operations.{Operation, Body, Insert, Delete, Tag, stamp_of}
 use Rattle.rt_oplog.specs.Logs.{with_operation}
 use Rattle.rt_store.specs.declared.cell.Cell.{Cell}
-use Rattle.rt_store.specs.Cells.{after_element, cells_from, IsPlaced, position_of, put_at, skip_from, stamps_of, StandsBefore}
+use Rattle.rt_store.specs.Cells.{after_element, IsPlaced, position_of, put_at, skip_from, stamps_of}
 use Rattle.rt_store.specs.Shown.{shown, TaggedCell}
 use Rattle.rt_store.specs.Spans.{gone_in_any, is_in_spans}
 use Rattle.rt_store.specs.Tagged.{AreStates}
-use Rattle.rt_store.proofs.Gone.{all_gone_states, length_stays, stamps_stay}
+use Rattle.rt_store.proofs.Gone.{length_stays, stamps_stay}
 use Rattle.rt_store.proofs.Places.{length_from, length_put, past, past_is}
 use Rattle.rt_store.proofs.Shown.{gone_shown, position_map, skip_shown}
 use Rattle.rt_tags.specs.States.{IsState, TagStates, Write, state_at, written}
@@ -82,11 +82,6 @@ pub length_fresh : (stamp : Stamp) (body : Body) → length (fresh_by stamp body
 length_fresh stamp (Insert after tags text) = length_from stamp.count stamp.site (state_after [] (listed_by ROOT tags)) text
 length_fresh stamp (Delete spans) = refl
 length_fresh stamp (Tag on name spans) = refl
-
-pub enough : (stamp : Stamp) (body : Body) (new kept : List (Cell ℕ)) → CanBePut stamp body new kept → characters_in body ≤ length new
-enough stamp (Insert after tags text) new kept h = h.1
-enough stamp (Delete spans) new kept h = omega arith
-enough stamp (Tag on name spans) new kept h = omega arith
 
 pub put_length : (stamp : Stamp) (body : Body) (new kept : List (Cell ℕ)) → CanBePut stamp body new kept → length (put_by_kept stamp body new kept) ≡ length kept + characters_in body
 put_length stamp (Insert after tags text) new kept h =

@@ -1,5 +1,5 @@
 -- What is kept of a history, after one more operation.
-use Rattle.std.proofs.Common.{◌≡◌, ℕ, ◌+◌, Bool, sym, ap, subst, ◌∙◌, arith, List, [], ◌∷◌, ◌++◌, map, length, take, drop}
+use Rattle.std.proofs.Common.{◌≡◌, ℕ, ◌+◌, Bool, sym, ap, subst, ◌∙◌, arith, List, [], ◌∷◌, ◌++◌, map, take, drop}
 use Rattle.std.proofs.lemmas.List.{length-map}
 use Rattle.std.proofs.lemmas.List.Elements.{All-append, All-drop, All-from_recursion, All-take}
 use Rattle.std.specs.List.{AllByRecursion}
@@ -110,10 +110,6 @@ replica_later log table new kept r keeps = record {
   states = kept_states table new kept keeps r.states;
   cells = shown_later table new kept keeps r.states ∙ r.cells;
 }
-
--- kept cells are as many as the cells
-pub replica_length : (log : List Operation) (table : TagStates) (kept : List (Cell ℕ)) → IsReplica log table kept → length kept ≡ length (cells_of log)
-replica_length log table kept r = sym (length-map kept (shown table)) ∙ ap length r.cells
 
 -- no two kept cells have one stamp
 pub replica_distinct : (log : List Operation) (table : TagStates) (kept : List (Cell ℕ)) → IsReplica log table kept → AreDistinct kept

@@ -137,10 +137,6 @@ found_from cells done site count last l =
     ap (λ n. done ++ cells_found cells (stamps_from site count n)) e
     ∙ sym (append_assoc done (listed (cell_of cells (record { count = count; site = site }))) (cells_found cells (stamps_from site (count + 1) (last + 1 - (count + 1)))))
 
-pub found_spans : (cells : List (Cell ℕ)) (xs ys : List Stamp) → cells_found cells (xs ++ ys) ≡ cells_found cells xs ++ cells_found cells ys
-found_spans cells [] ys = refl
-found_spans cells (x ∷ xs) ys = ap (λ l. listed (cell_of cells x) ++ l) (found_spans cells xs ys) ∙ sym (append_assoc (listed (cell_of cells x)) (cells_found cells xs) (cells_found cells ys))
-
 -- STATES THAT WERE GIVEN OUT
 
 each_append : (P : Cell ℕ → Type 0) (xs ys : List (Cell ℕ)) → AllByRecursion P xs → AllByRecursion P ys → AllByRecursion P (xs ++ ys)

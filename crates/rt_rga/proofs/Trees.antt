@@ -24,10 +24,6 @@ pub all_from_absent : (s : Stamp) (cs : List Character) → has_stamp cs s ≡ f
 all_from_absent s [] h = tt
 all_from_absent s (c ∷ cs) h = (grind arith, all_from_absent s cs (grind arith))
 
-all_both : (P Q R : Character → Type 0) → ((d : Character) → P d → Q d → R d) → (xs : List Character) → AllByRecursion P xs → AllByRecursion Q xs → AllByRecursion R xs
-all_both P Q R w [] h k = tt
-all_both P Q R w (x ∷ xs) h k = (w x h.0 k.0, all_both P Q R w xs h.1 k.1)
-
 pub member_same : (cs : List Character) (a b : Stamp) → is_same a b ≡ true → has_stamp cs a ≡ has_stamp cs b
 member_same cs a b h = ap (has_stamp cs) (same_from_true a b h)
 

@@ -1,6 +1,6 @@
 -- A replica after a call.
 use Rattle.std.proofs.Common.{◌≡◌, ℕ, ◌+◌, ◌≤◌, Bool, true, false, refl, sym, ap, subst, ◌∙◌, arith, List, length, map, max, Ok, Err, Result}
-use Rattle.std.specs.Prelude.{OnOk, OnErr, nat_lt, Option, Some, None, option_map, slice_get, unwrap_or}
+use Rattle.std.specs.Prelude.{OnErr, nat_lt, Option, Some, None, option_map, slice_get, unwrap_or}
 use Rattle.std.proofs.lemmas.Bool.Decides.{nat_tests}
 use Rattle.rt_stamps.specs.declared.stamp.Stamp.{Stamp}
 use Rattle.rt_oplog.specs.Operations.{Operation, Body, Insert, Delete, Tag, Name, last_count, stamp_of}
@@ -27,10 +27,6 @@ use Rattle.rt_rga.proofs.Final.{final_stays}
 use Rattle.rt_store.specs.Shown.{shown, TaggedCell}
 use Rattle.rt_store.specs.Cells.{IsPlaced, map_state, stamps_of, visible_of}
 use Rattle.rt_rga.proofs.Replicas.{replica_later, replica_placed}
-
-pub on_ok : {T E : Type 0} {P : Type 0} (r : Result T E) → P → OnOk r P
-on_ok (Ok x) p = p
-on_ok (Err e) p = tt
 
 pub on_err : {T E : Type 0} {P : Type 0} (r : Result T E) → P → OnErr r P
 on_err (Ok x) p = tt

@@ -1,5 +1,5 @@
 -- What contracts see of a replica.
-use Rattle.std.specs.Prelude.{◌≡◌, ℕ, ◌≤◌, Bool, not, ◌&&◌, ◌==◌, nat_le, nat_lt, List, length, Result, Ok, Err}
+use Rattle.std.specs.Prelude.{◌≡◌, ℕ, ◌≤◌, Bool, not, ◌&&◌, ◌==◌, List, length, Result, Ok, Err}
 use Rattle.rt_stamps.specs.declared.fault.Fault.{Fault}
 use Rattle.rt_stamps.specs.declared.limits.TheConstants.{MOST_CELLS}
 use Rattle.rt_stamps.specs.declared.stamp.Span.{Span}
@@ -7,7 +7,6 @@ use Rattle.rt_stamps.specs.declared.stamp.Stamp.{Stamp}
 use Rattle.rt_stamps.specs.declared.stamp.TheConstants.{FINAL}
 use Rattle.rt_stamps.specs.Stamps.{is_same}
 use Rattle.rt_oplog.specs.Operations.{Operation}
-use Rattle.rt_oplog.specs.Logs.{known_end}
 use Rattle.rt_store.specs.declared.cell.Cell.{Cell}
 use Rattle.rt_tags.specs.States.{TagStates}
 use Rattle.rt_rga.specs.declared.answer.Offer.{Offer}

@@ -27,10 +27,6 @@ pub record Goes {S : Type 0} (gives : S → List Word → Answer → S → Type 
   pub reads : left.failures ≡ script.failures
   pub writes : after.failures ≡ before.failures
 
-consumes_self : (a : Option (List ℕ)) → Consumes a a []
-consumes_self None = tt
-consumes_self (Some xs) = refl
-
 consumes_keeps : (a b c : Option (List ℕ)) (xs : List ℕ) → Consumes a b xs → Keeps b c → Consumes a c xs
 consumes_keeps None b c xs h k = tt
 consumes_keeps (Some x) None c xs h k = absurd h
@@ -42,20 +38,6 @@ consumes_then None b c xs ys h k = tt
 consumes_then (Some x) None c xs ys h k = absurd h
 consumes_then (Some x) (Some y) None xs ys h k = k
 consumes_then (Some x) (Some y) (Some z) xs ys h k = h ∙ ap (λ v. xs ++ v) k ∙ sym (append_assoc xs ys z)
-
--- nothing was read yet
-pub goes_first : {S : Type 0} (gives : S → List Word → Answer → S → Type 0) (s : S) (script out : Stream) (pending : List ℕ) → pending ≡ [] → Goes gives s s script script out out pending MOST_BYTES 0
-goes_first gives s script out pending e = record {
-  read = [];
-  consumes = consumes_self script.bytes;
-  ran = ran_none gives s out.bytes;
-  rest = e;
-  bounded = omega arith;
-  calls = omega arith;
-  some = omega arith;
-  reads = refl;
-  writes = refl;
-}
 
 -- the front of a buffer
 length_front : (n : ℕ) (buf : List ℕ) → n ≤ length buf → length (take n buf) ≡ n

@@ -33,6 +33,3 @@ differ_back a b h = grind (arith, nat_tests)
 
 pub before_total : (a b : Stamp) → is_before a b ≡ false → is_same a b ≡ false → is_before b a ≡ true
 before_total a b h k = grind (arith, nat_tests)
-
-pub before_neither : (a b : Stamp) → is_before a b ≡ false → is_before b a ≡ false → a ≡ b
-before_neither a b h k = same_from_true a b (grind (arith, nat_tests))

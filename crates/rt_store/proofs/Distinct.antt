@@ -1,5 +1,5 @@
 -- Stamps that differ.
-use Rattle.std.proofs.Common.{◌≡◌, ℕ, suc, ◌+◌, ◌==◌, ◌<◌, ◌≤◌, List, [], ◌∷◌, ◌++◌, Bool, true, false, refl, ◌∙◌, ap, arith}
+use Rattle.std.proofs.Common.{◌≡◌, ℕ, suc, ◌==◌, ◌<◌, ◌≤◌, List, [], ◌∷◌, Bool, true, false, refl, ◌∙◌, ap, arith}
 use Rattle.std.specs.List.{IsDistinct, AllByRecursion}
 use Rattle.std.proofs.lemmas.Bool.{or_from, or_parts, both_ways, and_left, and_right, eqb-true, ne_eqb}
 use Rattle.std.proofs.lemmas.Map.Keys.{IsDistinct-cons, IsDistinct-head, IsDistinct-tail}
@@ -7,7 +7,7 @@ use Rattle.rt_stamps.specs.declared.stamp.Stamp.{Stamp}
 use Rattle.rt_stamps.specs.Stamps.{is_same}
 use Rattle.rt_stamps.proofs.Order.{same_sym, same_from_true}
 use Rattle.rt_store.specs.declared.cell.Cell.{Cell}
-use Rattle.rt_store.specs.Cells.{AreDistinct, cells_from, stamps_of}
+use Rattle.rt_store.specs.Cells.{stamps_of}
 use Rattle.rt_store.specs.Spans.{is_among}
 use Rattle.rt_store.specs.Written.{AreBelowNext, IsBelowNext}
 
@@ -60,21 +60,3 @@ new_apart count n site [] h k l = refl
 new_apart count n site (x ∷ xs) h k l =
     or_from (is_same x.stamp (record { count = n; site = site })) _ (apart_known count n site x.stamp (h 0 x (omega arith)) k l)
     (new_apart count n site xs (λ i d lt. h (suc i) d (omega arith)) k l)
-
-later_apart : {T : Type 0} (n first site : ℕ) (state : T) (cs : List ℕ) (old : List (Cell T)) → n < first → is_among (stamps_of old) (record { count = n; site = site }) ≡ false
-    → is_among (stamps_of (cells_from first site state cs ++ old)) (record { count = n; site = site }) ≡ false
-later_apart n first site state [] old h k = k
-later_apart n first site state (c ∷ cs) old h k =
-    or_from (is_same (record { count = first; site = site }) (record { count = n; site = site })) _ (and_left _ _ (ne_eqb first n (λ e. absurd (omega arith))))
-    (later_apart n (first + 1) site state cs old (omega arith) k)
-
-pub distinct_new : {T : Type 0} (count first site : ℕ) (state : T) (cs : List ℕ) (old : List (Cell T)) → count < first → 1 ≤ site → AreBelowNext count old → AreDistinct old → AreDistinct (cells_from first site state cs ++ old)
-distinct_new count first site state [] old h k known d = d
-distinct_new count first site state (c ∷ cs) old h k known d =
-    distinct_more (record { count = first; site = site }) (stamps_of (cells_from (first + 1) site state cs ++ old))
-    (later_apart first (first + 1) site state cs old (omega arith) (new_apart count first site old known h k))
-    (distinct_new count (first + 1) site state cs old (omega arith) k known d)
-
--- one cell differs from all others
-pub distinct_one : {T : Type 0} (cell : Cell T) → AreDistinct (cell ∷ [])
-distinct_one cell = distinct_more cell.stamp [] refl none_distinct

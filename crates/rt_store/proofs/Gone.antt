@@ -1,15 +1,12 @@
 -- Cells made gone by spans.
-use Rattle.std.proofs.Common.{◌≡◌, ℕ, ◌+◌, ◌<◌, List, [], ◌∷◌, Bool, true, false, cond, ◌||◌, length, map, drop, get_or, refl, sym, ◌∙◌, ap, subst}
-use Rattle.std.specs.List.{IsDistinct}
+use Rattle.std.proofs.Common.{◌≡◌, ℕ, ◌+◌, ◌<◌, List, [], ◌∷◌, Bool, true, false, cond, ◌||◌, length, map, drop, get_or, refl, sym, ◌∙◌, ap}
 use Rattle.std.proofs.lemmas.List.{drop_more, length-map}
 use Rattle.std.proofs.lemmas.List.Elements.{All-map}
 use Rattle.rt_stamps.specs.declared.stamp.Span.{Span}
-use Rattle.rt_stamps.specs.Stamps.{is_same}
 use Rattle.rt_store.specs.declared.cell.Cell.{Cell}
-use Rattle.rt_store.specs.Cells.{AreDistinct, gone_in, is_in_span, stamps_of}
+use Rattle.rt_store.specs.Cells.{gone_in, is_in_span, stamps_of}
 use Rattle.rt_store.specs.Spans.{gone_in_any, is_in_spans}
 use Rattle.rt_store.specs.Tagged.{AreStates}
-use Rattle.rt_store.specs.Written.{AreBelowNext, IsBelowNext}
 use Rattle.rt_tags.specs.States.{IsState, TagStates}
 
 -- one span after another
@@ -48,14 +45,6 @@ stamps_stay spans (c ∷ cs) = λ i. same_stamp (is_in_spans spans c.stamp) c i 
 -- made gone by spans, cells are as many, as known and as different
 pub length_stays : {T : Type 0} (spans : List Span) (cells : List (Cell T)) → length (map (gone_in_any spans) cells) ≡ length cells
 length_stays spans cells = length-map cells (gone_in_any spans)
-
-pub known_stays : {T : Type 0} (count : ℕ) (spans : List Span) (cells : List (Cell T)) → AreBelowNext count cells → AreBelowNext count (map (gone_in_any spans) cells)
-known_stays count spans cells h =
-    All-map (λ cell. IsBelowNext count cell.stamp) (gone_in_any spans) cells
-    (λ k d lt. subst (IsBelowNext count) (sym (same_stamp (is_in_spans spans (get_or cells k d).stamp) (get_or cells k d))) (h k d lt))
-
-pub distinct_stays : {T : Type 0} (spans : List Span) (cells : List (Cell T)) → AreDistinct cells → AreDistinct (map (gone_in_any spans) cells)
-distinct_stays spans cells h = subst (IsDistinct is_same) (sym (stamps_stay spans cells)) h
 
 kept_state : (b : Bool) (cell : Cell ℕ) → (cond b (record cell { gone = true }) cell).state ≡ cell.state
 kept_state true cell = refl

@@ -1,9 +1,9 @@
 -- Cells with what their states stand for: what doesn't look at the states is the same of them.
-use Rattle.std.proofs.Common.{◌≡◌, ℕ, ◌+◌, List, [], ◌∷◌, ◌++◌, Bool, true, false, cond, not, length, map, take, drop, refl, sym, ◌∙◌, ap, subst, Some, None}
+use Rattle.std.proofs.Common.{◌≡◌, ℕ, ◌+◌, List, [], ◌∷◌, ◌++◌, Bool, true, false, cond, not, length, map, drop, refl, sym, ◌∙◌, ap, subst, Some, None}
 use Rattle.std.specs.Prelude.{filter, position, slice_get, option_map, take_while, unwrap_or, nat_lt}
 use Rattle.std.specs.List.{IsDistinct, position_or_len}
-use Rattle.std.proofs.lemmas.List.{length-map, take-map, drop-map}
-use Rattle.std.proofs.lemmas.List.Elements.{All-map, All-head, All-tail}
+use Rattle.std.proofs.lemmas.List.{length-map, drop-map}
+use Rattle.std.proofs.lemmas.List.Elements.{All-head, All-tail}
 use Rattle.std.proofs.lemmas.Option.{slice_get-map}
 use Rattle.rt_stamps.specs.declared.stamp.Span.{Span}
 use Rattle.rt_stamps.specs.declared.stamp.Stamp.{Stamp}
@@ -13,8 +13,7 @@ use Rattle.rt_store.specs.declared.cell.Cell.{Cell}
 use Rattle.rt_store.specs.Cells.{AreDistinct, after_element, cells_from, map_state, position_of, skip_from, stamps_of, text_of, visible_of}
 use Rattle.rt_store.specs.Shown.{shown}
 use Rattle.rt_store.specs.Spans.{gone_in_any, is_in_spans}
-use Rattle.rt_store.specs.Tagged.{AreStates, last_place, last_with, next_place, previous_place}
-use Rattle.rt_store.specs.Written.{AreBelowNext, IsBelowNext}
+use Rattle.rt_store.specs.Tagged.{AreStates, last_place, last_with, next_place}
 use Rattle.rt_store.proofs.Places.{past, past_is}
 use Rattle.rt_tags.specs.States.{IsState, KeepsIds, TagStates, state_at}
 
@@ -49,9 +48,6 @@ pub last_map : {A B : Type 0} (test : B → Bool) (g : A → B) (xs : List A) �
 last_map test g [] = refl
 last_map test g (x ∷ xs) = ap (last_with (test (g x))) (last_map test g xs)
 
-pub previous_map : {A B : Type 0} (test : B → Bool) (g : A → B) (xs : List A) (place : ℕ) → previous_place test (map g xs) place ≡ previous_place (λ x. test (g x)) xs place
-previous_map test g xs place = ap (last_place test) (take-map g place xs) ∙ last_map test g (take place xs)
-
 -- TEXTS AND STAMPS
 
 pub visible_shown : {S T : Type 0} (f : S → T) (cells : List (Cell S)) → visible_of (map (map_state f) cells) ≡ map (map_state f) (visible_of cells)
@@ -75,9 +71,6 @@ stamps_shown f (cell ∷ cells) = ap (λ l. cell.stamp ∷ l) (stamps_shown f ce
 pub visible_at_shown : {S T : Type 0} (f : S → T) (cells : List (Cell S)) (place : ℕ)
     → slice_get (visible_of (map (map_state f) cells)) place ≡ option_map (map_state f) (slice_get (visible_of cells) place)
 visible_at_shown f cells place = ap (λ l. slice_get l place) (visible_shown f cells) ∙ slice_get-map (map_state f) (visible_of cells) place
-
-pub known_shown : {S T : Type 0} (f : S → T) (count : ℕ) (cells : List (Cell S)) → AreBelowNext count cells → AreBelowNext count (map (map_state f) cells)
-known_shown f count cells h = All-map (λ cell. IsBelowNext count cell.stamp) (map_state f) cells h
 
 pub distinct_shown : {S T : Type 0} (f : S → T) (cells : List (Cell S)) → AreDistinct cells → AreDistinct (map (map_state f) cells)
 distinct_shown f cells h = subst (IsDistinct is_same) (sym (stamps_shown f cells)) h

@@ -262,8 +262,3 @@ previous_more test cs to place r last e = ap (λ o. option_or o last) (previous_
 -- the walk's end
 pub previous_last : {A : Type 0} (test : A → Bool) (cs : List A) (to place : ℕ) (last : Option Range) → next_range place to (passing_ranges test cs) ≡ None → option_or (previous_range to place (passing_ranges test cs)) last ≡ last
 previous_last test cs to place last e = ap (λ o. option_or o last) (previous_none to place (passing_ranges test cs) e)
-
--- its beginning
-pub previous_first : (o : Option Range) → o ≡ option_or o None
-previous_first None = refl
-previous_first (Some r) = refl

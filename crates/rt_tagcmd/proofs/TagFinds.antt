@@ -68,16 +68,6 @@ previous_within flat own name to from =
 
 -- POSITIONS
 
-pub ends_more : (flat : Flat) (ranges : List Range) (i : ℕ) (range : Range) → i < length ranges → range ≡ get_or ranges i range
-    → (range_ends flat (take i ranges) ++ position_at (text_of flat.cells) range.from ∷ []) ++ position_at (text_of flat.cells) range.to ∷ [] ≡ range_ends flat (take (i + 1) ranges)
-ends_more flat ranges i range l e =
-    let text = text_of flat.cells in
-    let ends : Range → List Position = λ r. position_at text r.from ∷ position_at text r.to ∷ [] in
-    append_assoc (range_ends flat (take i ranges)) (position_at text range.from ∷ []) (position_at text range.to ∷ [])
-    ∙ ap (λ r. range_ends flat (take i ranges) ++ ends r) e
-    ∙ sym (flat_map-append ends (take i ranges) (get_or ranges i range ∷ []))
-    ∙ ap (range_ends flat) (sym (take_more ranges i range l))
-
 -- A TAG THAT ISN'T LISTED
 
 none_passes : {A : Type 0} (test : A → Bool) (place : ℕ) (cs : List A) → All (λ c. test c ≡ false) cs → ranges_from test place cs ≡ []

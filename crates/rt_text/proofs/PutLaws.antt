@@ -60,12 +60,6 @@ by_late_checks flat own others index pieces rest found place h e p =
 
 -- CHECKS
 
-pub clock_fine : (count : ℕ) → count ≤ GREATEST_COUNT → clock_check count ≡ None
-clock_fine count h = ap (λ b. cond b (Some ClockSpent) None) (le-ltb GREATEST_COUNT count h)
-
-pub clock_spent : (count : ℕ) (more : List (Option Fault)) → GREATEST_COUNT < count → first_of (clock_check count ∷ more) ≡ Some ClockSpent
-clock_spent count more h = ap (λ b. first_of (cond b (Some ClockSpent) None ∷ more)) (lt-ltb GREATEST_COUNT count h)
-
 -- WHAT A PLAN MAKES OF A DOCUMENT
 
 abbrev pub start_of : Flat → Own → List (List Stamp) → Insertion
@@ -74,10 +68,6 @@ start_of flat own others = record { cells = []; count = flat.count; sel = own.se
 abbrev pub insertion_in : Flat → Own → List (List Stamp) → ℕ → List Piece → Word → Insertion
 insertion_in flat own others place pieces rest =
     insertion_of flat.site (left_neighbour (visible_of flat.cells) place) (right_neighbour (visible_of flat.cells) place) pieces rest (start_of flat own others)
-
-pub on_err : {P : Type 0} {A : Type 0} (r : Result A Fault) → P → OnErr r P
-on_err (Ok x) p = tt
-on_err (Err fault) p = p
 
 -- WHAT STAYS
 

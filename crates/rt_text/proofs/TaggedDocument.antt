@@ -27,7 +27,7 @@ use Rattle.rt_edits.specs.Flat.{Flat, logged}
 use Rattle.rt_edits.specs.Listed.{AreListed}
 use Rattle.rt_edits.specs.TagDrafts.{deletion_drafts, tag_drafts, tag_drafts_at, tags_drafts_at}
 use Rattle.rt_edits.specs.TagWrites.{changed_stamps, listed_if, with_tag_at, without_tags}
-use Rattle.rt_edits.specs.Working.{all_forgotten}
+use Rattle.rt_edits.specs.Names.{all_forgotten}
 use Rattle.rt_edits.proofs.CharacterCounts.{deletions_insert_none, tags_insert_none}
 use Rattle.rt_edits.proofs.DeletedNames.{deletions_made, deletions_may}
 use Rattle.rt_edits.proofs.TagDocuments.{all_deletions_counted, all_tags_counted, tags_made, tags_may}

@@ -118,9 +118,8 @@ abbrev pub inserted : Flat → Own → List (List Stamp) → Word → List Piece
 inserted flat own others index pieces rest =
     let w = widget_of flat own in
     let edited = with_pieces_at flat own others (insertion_place w index) pieces rest in
-    unless
-    (first_of (map name_check (names_in pieces) ++ index_check w index ∷ clock_check edited.doc.count ∷ cell_check flat.limit (length edited.doc.cells) ∷ []))
-    edited
+    let checks = index_check w index ∷ clock_check edited.doc.count ∷ cell_check flat.limit (length edited.doc.cells) ∷ [] in
+    unless (first_of (map name_check (names_in pieces) ++ checks)) edited
 
 -- delete INDEX ?INDEX ...?: the document without the characters in the ranges that the indices name in pairs
 abbrev pub deleted : Flat → Own → List (List Stamp) → List Word → Result Edited Fault

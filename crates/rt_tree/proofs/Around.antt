@@ -35,12 +35,6 @@ count-at id (Down d t ∷ es) zero e lt is to = let h : d.index ≡ id = subst (
 count-at id (Here r ∷ es) (suc i) e lt is to = count-at id es i e (omega arith) is to
 count-at id (Down d t ∷ es) (suc i) e lt is to = let h = count-at id es i e (omega arith) is to in omega arith
 
--- the entry of a node among entries, or another where it isn't there
-abbrev pub entry_of : ℕ → List Entry → Entry → Entry
-entry_of id [] e = e
-entry_of id (Here r ∷ es) e = entry_of id es e
-entry_of id (Down c t ∷ es) e = if c.index == id then Down c t else entry_of id es e
-
 -- the entries around one that stands once
 pub record Cut (id : ℕ) (es : List Entry) : Type 0 where
   pub totals : Totals

@@ -61,10 +61,6 @@ shown_text text r shown = ap (map (λ (c : Cell ℕ). c.ch)) (shown_run text r s
 pub gone_text : (text : List ℕ) (r : Run) → r.gone ≡ true → text_of (run_cells text r) ≡ []
 gone_text text r gone = ap (map (λ (c : Cell ℕ). c.ch)) (gone_run text r gone)
 
--- what cells count
-abbrev pub cell_counts : List (Cell ℕ) → Counts
-cell_counts cs = record { cells = length cs; visible = length (visible_of cs); newlines = newlines (text_of cs) }
-
 pub run_visible : (text : List ℕ) (r : Run) → IsRun text r → (g : Bool) → r.gone ≡ g → length (visible_of (run_cells text r)) ≡ (if g then 0 else r.len)
 run_visible text r is true e = ap length (gone_run text r e)
 run_visible text r is false e = ap length (shown_run text r e) ∙ run_length text r is

@@ -96,9 +96,6 @@ few-first es i n e low lt is few = let le = le-first es i n e low lt is in recor
 pub few-right : (a b : Counts) → AreFew (plus a b) → AreFew b
 few-right a b few = record { cells = omega (arith, few.cells); visible = omega (arith, few.visible); newlines = omega (arith, few.newlines) }
 
-pub few-left : (a b : Counts) → AreFew (plus a b) → AreFew a
-few-left a b few = record { cells = omega (arith, few.cells); visible = omega (arith, few.visible); newlines = omega (arith, few.newlines) }
-
 module _ {X : Type 0} (P : X → Type 0) where
   each-front : (xs ys : List X) → AllByRecursion P (xs ++ ys) → AllByRecursion P xs
   each-front [] ys all = tt

@@ -2,7 +2,7 @@ use Rattle.std.proofs.Common.{◌≡◌, ◌++◌, drop, map}
 use Rattle.rt_stamps.specs.Words.{Word}
 use Rattle.rt_store.specs.Shown.{shown}
 use Rattle.rt_edits.specs.TagWrites.{changed_stamps}
-use Rattle.rt_edits.specs.Working.{Numbers}
+use Rattle.rt_edits.specs.Names.{Numbers}
 use Rattle.rt_edits.proofs.changes.changed_stamps.Given as goal
 
 abbrev pub invariant-loop-cell : goal.invariant-loop-cell

@@ -13,7 +13,7 @@ use Rattle.rt_store.proofs.Shown.{distinct_shown}
 use Rattle.rt_tags.specs.States.{TagStates, is_on, name_at, state_at}
 use Rattle.rt_edits.specs.NamedSpans.{parts_of, spans_in}
 use Rattle.rt_edits.specs.TagWrites.{is_changed}
-use Rattle.rt_edits.specs.Working.{Numbers}
+use Rattle.rt_edits.specs.Names.{Numbers}
 use Rattle.rt_edits.proofs.TagDocuments.{distinct_some}
 use Rattle.rt_edits.proofs.changes.push_changes.Goals as goal
 

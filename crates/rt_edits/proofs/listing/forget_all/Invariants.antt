@@ -1,5 +1,5 @@
 use Rattle.std.proofs.Common.{◌≡◌, drop, map, string_bytes}
-use Rattle.rt_edits.specs.Working.{all_forgotten}
+use Rattle.rt_edits.specs.Names.{all_forgotten}
 use Rattle.rt_edits.proofs.listing.forget_all.Given as goal
 
 abbrev pub invariant-loop-name : goal.invariant-loop-name

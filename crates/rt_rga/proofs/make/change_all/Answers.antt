@@ -1,10 +1,10 @@
-use Rattle.std.proofs.Common.{◌≡◌, ◌∙◌, ◌++◌, ℕ, All, List, ap, map, subst, sym}
+use Rattle.std.proofs.Common.{◌∙◌, ◌++◌, ℕ, All, List, map, subst, sym}
 use Rattle.rt_oplog.specs.Operations.{Operation}
 use Rattle.rt_store.specs.declared.cell.Cell.{Cell}
 use Rattle.rt_store.specs.Cells.{AreDistinct}
 use Rattle.rt_store.specs.Tagged.{AreStates}
 use Rattle.rt_rga.specs.Batches.{CountsRise}
-use Rattle.rt_rga.specs.Making.{CanAllBePut, fresh_cells, kept_after}
+use Rattle.rt_rga.specs.Making.{CanAllBePut, kept_after}
 use Rattle.rt_rga.specs.Runs.{put_back_in_any}
 use Rattle.rt_rga.proofs.Batching.{ComesOut, batch_counts, batch_kept, batch_length, batch_placed, batch_states}
 use Rattle.rt_rga.proofs.Fresh.{all_back, all_front, fresh_counts, fresh_distinct, fresh_states}

@@ -1,4 +1,4 @@
-use Rattle.std.proofs.Common.{◌+◌, arith}
+use Rattle.std.proofs.Common.{arith}
 use Rattle.rt_rga.proofs.Making.{first_within}
 use Rattle.rt_rga.proofs.make.last_count.Goals as goal
 

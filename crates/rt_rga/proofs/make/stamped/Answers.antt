@@ -1,4 +1,4 @@
-use Rattle.std.proofs.Common.{◌+◌, map}
+use Rattle.std.proofs.Common.{map}
 use Rattle.std.specs.Vec.Iter.{into_iter_items}
 use Rattle.rt_stamps.specs.declared.limits.TheConstants.{GREATEST_COUNT}
 use Rattle.rt_oplog.specs.Edits.{body_of}

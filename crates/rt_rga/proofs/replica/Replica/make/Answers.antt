@@ -1,4 +1,4 @@
-use Rattle.std.proofs.Common.{◌≡◌, ◌∙◌, ◌+◌, ◌≤◌, ◌<◌, ℕ, List, None, Some, ap, arith, length, map, subst, sym}
+use Rattle.std.proofs.Common.{◌≡◌, ◌∙◌, ℕ, List, None, ap, arith, length, map, sym}
 use Rattle.std.proofs.lemmas.List.{length-map}
 use Rattle.rt_oplog.specs.Edits.{body_of}
 use Rattle.rt_oplog.specs.Logs.{known_end}
@@ -6,12 +6,11 @@ use Rattle.rt_oplog.specs.Operations.{Body, Operation}
 use Rattle.rt_store.specs.declared.cell.Cell.{Cell}
 use Rattle.rt_store.specs.Shown.{shown, TaggedCell}
 use Rattle.rt_rga.specs.Cells.{cells_of}
-use Rattle.rt_rga.specs.Drafts.{operations_of, with_operations}
+use Rattle.rt_rga.specs.Drafts.{with_operations}
 use Rattle.rt_rga.specs.Histories.{greatest_last_count}
 use Rattle.rt_rga.specs.Kept.{ReplicaValue}
 use Rattle.rt_rga.specs.Made.{refusal_of}
-use Rattle.rt_rga.specs.Requests.{MayBeMade}
-use Rattle.rt_rga.proofs.Making.{AreReady, made_of, ready, refusal_is, rules_of}
+use Rattle.rt_rga.proofs.Making.{made_of, ready, refusal_is, rules_of}
 use Rattle.rt_rga.proofs.replica.Replica.make.Goals as goal
 
 pub prepared-requires-clause-rules : goal.prepared-requires-clause-rules

@@ -1,5 +1,4 @@
-use Rattle.std.proofs.Common.{◌≡◌, ◌∙◌, ◌+◌, ◌≤◌, ℕ, List, ap, arith, length, refl, subst, sym}
-use Rattle.rt_oplog.specs.Operations.{Operation}
+use Rattle.std.proofs.Common.{◌∙◌, ℕ, List, ap}
 use Rattle.rt_store.specs.declared.cell.Cell.{Cell}
 use Rattle.rt_rga.specs.Kept.{ReplicaValue}
 use Rattle.rt_rga.proofs.Within.{on_err, same_value, within_later}

@@ -16,7 +16,7 @@ use Rattle.rt_edits.specs.Flat.{Flat, logged}
 use Rattle.rt_edits.specs.Listed.{AreListed}
 use Rattle.rt_edits.specs.TagDrafts.{deletion_drafts}
 use Rattle.rt_edits.specs.TagWrites.{without_tags}
-use Rattle.rt_edits.specs.Working.{all_forgotten}
+use Rattle.rt_edits.specs.Names.{all_forgotten}
 use Rattle.rt_edits.proofs.ListedWrites.{StaysTagged, all_without_stays}
 use Rattle.rt_text.specs.Kept.{IsDoc}
 use Rattle.rt_text.specs.Widgets.{AreSiteMarks}

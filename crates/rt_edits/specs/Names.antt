@@ -1,13 +1,8 @@
--- Working copies of cells, on the way to other states.
-use Rattle.std.specs.Prelude.{◌≡◌, ℕ, List, [], ◌∷◌, Bool, not, ◌&&◌, false, Option, Some, None}
+-- Names of tags: those that are listed no longer, and the numbers that a table gave them.
+use Rattle.std.specs.Prelude.{◌≡◌, ℕ, List, [], ◌∷◌, false, Option, Some, None}
 use Rattle.rt_stamps.specs.Words.{Word}
-use Rattle.std.specs.Str.{bytes_eq}
 use Rattle.rt_tags.specs.States.{TagStates, is_on, name_at, state_at}
-use Rattle.rt_tags.specs.Tags.{sel, forgotten, is_listed}
-
--- a name is that of a listed tag other than `sel`
-abbrev pub is_shared_of : List Word → Word → Bool
-is_shared_of tags name = not (bytes_eq name sel) && is_listed name tags
+use Rattle.rt_tags.specs.Tags.{forgotten}
 
 -- the tags without those that are deleted
 abbrev pub all_forgotten : List Word → List Word → List Word
