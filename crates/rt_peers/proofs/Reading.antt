@@ -1,9 +1,9 @@
 -- Words that are read as texts with their lists, one pair after the other.
 use Rattle.std.proofs.Common.{◌≡◌, ◌∙◌, ℕ, ◌≤◌, ◌-◌, List, [], ◌∷◌, ◌++◌, map, take, drop, get_or, length, refl, sym, ap, subst, arith, append_assoc, append-nil, String, Global, string_bytes}
 use Rattle.std.proofs.lemmas.List.{take_all}
-use Rattle.rt_stamps.specs.Words.{Word, SpellsList, IsBadlyQuotedList}
+use Rattle.rt_stamps.specs.Words.{Word, SpellsList}
 use Rattle.rt_edits.specs.Insertions.{Piece}
-use Rattle.rt_peers.specs.Step.{AreTexts, AreNoTexts}
+use Rattle.rt_peers.specs.Step.{AreTexts}
 
 -- some pieces were read of words, and so many words are left
 pub record Reading (words left : List Word) (pieces : List Piece) : Type 0 where

@@ -7,12 +7,12 @@ use Rattle.rt_stamps.specs.declared.fault.Fault.{Fault}
 use Rattle.rt_stamps.specs.declared.fault.Fault.TheVariants.{NoMemory, BadCommand}
 use Rattle.rt_stamps.specs.Outcomes.{Answers, Refuses}
 use Rattle.rt_stamps.specs.Words.{Word}
-use Rattle.rt_tagcmd.specs.TagCommands.{tag_added, tag_removed, tags_deleted}
+use Rattle.rt_tagcmd.specs.TagCommands.{tag_added, tag_removed}
 use Rattle.rt_text.specs.Commands.{Edited}
 use Rattle.rt_edits.specs.Flat.{Flat}
 use Rattle.rt_text.specs.Widgets.{Own}
 use Rattle.rt_peers.specs.State.{State}
-use Rattle.rt_peers.specs.Step.{as_outcome, changed_step, document_step, edited_step, TextsGive, InsertGives, tag_add_step, tag_remove_step, tag_delete_step, mark_unset_step, unset_step, mark_gravity_step, mark_names_step, delete_step, removal_step, get_step, list_step, count_step, counted_step, distances_step, is_switch}
+use Rattle.rt_peers.specs.Step.{as_outcome, changed_step, edited_step, TextsGive, InsertGives, tag_add_step, tag_remove_step, mark_unset_step, unset_step, delete_step, removal_step, get_step, list_step, count_step, counted_step, distances_step, is_switch}
 
 -- three indices or more
 many : (state : State) (words : List Word) → 3 ≤ length words → get_step state words ≡ list_step state words

@@ -1,15 +1,12 @@
 -- The ranges of a tag stand in the text, and a tag that isn't listed has none.
-use Rattle.std.proofs.Common.{◌≡◌, ℕ, ◌+◌, ◌<◌, ◌≤◌, List, [], ◌∷◌, ◌++◌, append_assoc, length, get_or, take, reverse, All, true, false, refl, sym, ap, ◌∙◌, Bool, subst, arith, Some}
+use Rattle.std.proofs.Common.{◌≡◌, ℕ, ◌+◌, ◌<◌, ◌≤◌, List, [], ◌∷◌, length, get_or, reverse, All, true, false, refl, sym, ◌∙◌, Bool, subst, arith, Some}
 use Rattle.std.specs.Prelude.{find, option_to_list}
 use Rattle.std.specs.Str.{bytes_eq}
 use Rattle.std.proofs.lemmas.Bool.{cond-true, cond-false}
-use Rattle.std.proofs.lemmas.Grind.{flat_map-append}
-use Rattle.std.proofs.lemmas.List.{length-map, reverse-append, take_more}
+use Rattle.std.proofs.lemmas.List.{length-map, reverse-append}
 use Rattle.std.proofs.lemmas.List.Elements.{All-append, All-cons, All-nil, All-head, All-tail}
 use Rattle.rt_marks.proofs.InOrder.{split}
 use Rattle.rt_marks.proofs.Names.{clash, same_name}
-use Rattle.rt_stamps.specs.declared.position.Position.{Position}
-use Rattle.rt_stamps.specs.Places.{position_at}
 use Rattle.rt_stamps.specs.Words.{Word}
 use Rattle.rt_store.specs.declared.cell.Cell.{Cell}
 use Rattle.rt_store.specs.Cells.{text_of, visible_of}
@@ -21,7 +18,7 @@ use Rattle.rt_store.specs.Shown.{TaggedCell}
 use Rattle.rt_edits.specs.Listed.{AreListed}
 use Rattle.rt_store.specs.Spans.{is_among}
 use Rattle.rt_text.specs.Widgets.{Own, is_tagged}
-use Rattle.rt_tagcmd.specs.TagCommands.{range_ends, tagged_ranges}
+use Rattle.rt_tagcmd.specs.TagCommands.{tagged_ranges}
 use Rattle.rt_tagcmd.specs.TagRanges.{IsMaximal, begins_between, ranges_from, passing_ranges, next_range, previous_range}
 use Rattle.rt_tagcmd.proofs.TagRangeLaws.{each_maximal}
 
