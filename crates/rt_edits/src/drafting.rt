@@ -169,8 +169,8 @@ fn taken_off(
 }
 
 /// The operations that take tags off all characters, `sel` passed over: those of a name that comes
-/// again, or isn't listed, are none. No write on the characters is newer than the document's count.
-/// Want of memory.
+/// again, or isn't listed, are none. They are those of any document with these cells in which no write
+/// is newer than its count. Want of memory.
 pub fn planned_tag_deletion<S: TextStore>(
     alloc: Global,
     store: &S,
