@@ -12,7 +12,7 @@ use Rattle.rt_script.specs.declared.answer.Answer.{Answer}
 use Rattle.rt_script.specs.Run.{Ran, RanFront, RanUnwritten, Stream, Ends}
 use Rattle.rt_script.specs.Pieces.{kept, RanLines}
 use Rattle.rt_script.proofs.LinesLaws.{complete_append, rest_append, cut_rest}
-use Rattle.rt_script.proofs.RunLaws.{ran_none, ran_then, front_then, unwritten_then, lines_append}
+use Rattle.rt_script.proofs.RunLaws.{ran_then, front_then, unwritten_then, lines_append}
 
 -- a run goes on: what was read of the script, and that its complete lines were run
 pub record Goes {S : Type 0} (gives : S → List Word → Answer → S → Type 0) (old new : S) (script left before after : Stream) (pending : List ℕ) (room turns : ℕ) : Type 0 where
