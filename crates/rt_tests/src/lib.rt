@@ -2,6 +2,8 @@
 #![tactic(auto)]
 
 #[cfg(test)]
+mod edit_logs;
+#[cfg(test)]
 mod edits_removals;
 #[cfg(test)]
 mod edits_selections;

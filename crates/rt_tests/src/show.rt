@@ -57,7 +57,8 @@ fn written<A: Ledger, B: Ledger>(
     Ok(out.into_inner())
 }
 
-fn lines_of(alloc: Global, ops: &[Op]) -> Result<Vec<u8>, Fault> {
+/// The lines of operations.
+pub fn lines_of(alloc: Global, ops: &[Op]) -> Result<Vec<u8>, Fault> {
     written::<Brand, Brand>(alloc, ops, Blank::new(1), Blank::new(1))
 }
 
