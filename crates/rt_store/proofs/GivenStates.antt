@@ -1,11 +1,16 @@
 -- The states of cells stay those that a table gave out.
-use Rattle.std.proofs.Common.{◌≡◌, ◌++◌, take, drop, map, ℕ, List, Bool, true, false, cond, refl, get_or}
-use Rattle.std.proofs.lemmas.List.Elements.{All-append, All-map, All-take, All-drop}
+use Rattle.std.proofs.Common.{◌≡◌, ◌++◌, ◌∷◌, [], take, drop, map, ℕ, List, Bool, true, false, cond, refl, get_or}
+use Rattle.std.proofs.lemmas.List.Elements.{All-append, All-map, All-take, All-drop, All-cons, All-nil}
 use Rattle.rt_stamps.specs.declared.stamp.Span.{Span}
 use Rattle.rt_store.specs.declared.cell.Cell.{Cell}
 use Rattle.rt_store.specs.Cells.{gone_in, is_in_span, state_in, with_state}
 use Rattle.rt_store.specs.Tagged.{AreStates}
 use Rattle.rt_tags.specs.States.{TagStates, IsState, KeepsIds}
+
+pub one_state : (table : TagStates) (cell : Cell ℕ) → IsState table cell.state → AreStates table (cell ∷ [])
+one_state table cell h =
+    let p : Cell ℕ → Type 0 = λ c. IsState table c.state in
+    All-cons p cell [] h (All-nil p)
 
 pub spliced_states : (table : TagStates) (at : ℕ) (old new : List (Cell ℕ)) → AreStates table old → AreStates table new → AreStates table (take at old ++ new ++ drop at old)
 spliced_states table at old new h k =

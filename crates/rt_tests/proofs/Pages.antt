@@ -14,3 +14,9 @@ newlines_counted t = is_count_by newlines is_newline refl newlines_step t
 -- where the lines of the page begin
 pub second_start : (text : List ℕ) → text ≡ page_text → 8 ≡ line_start text 2
 second_start text same = subst (λ t. 8 ≡ line_start t 2) (sym same) refl
+
+pub third_start : (text : List ℕ) (line : ℕ) → text ≡ page_text → 1 ≤ line → line ≤ newlines text → line ≢ 1 → line ≢ 2 → 9 ≡ line_start text line
+third_start text line same a b c d =
+    let n : newlines text ≡ 3 = ap newlines same in
+    let e : 3 ≡ line = omega arith in
+    subst (λ t. 9 ≡ line_start t line) (sym same) (subst (λ l. 9 ≡ line_start page_text l) e refl)
