@@ -58,7 +58,7 @@ fn written<A: Ledger, B: Ledger>(
 }
 
 /// The lines of operations.
-pub fn lines_of(alloc: Global, ops: &[Op]) -> Result<Vec<u8>, Fault> {
+pub(crate) fn lines_of(alloc: Global, ops: &[Op]) -> Result<Vec<u8>, Fault> {
     written::<Brand, Brand>(alloc, ops, Blank::new(1), Blank::new(1))
 }
 
