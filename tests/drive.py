@@ -1,6 +1,6 @@
 #!/usr/bin/env python3
-"""Drives the built program: whole scripts, long lines, hostile bytes, a program that asks and waits, statuses, and files
-of operations that are joined and shown.
+"""Drives the built program: whole scripts, long lines, hostile bytes, a program that asks and waits, statuses, files of
+operations that are joined and shown, and those that a run reads and writes.
 
 Usage: tests/drive.py [PROGRAM]; without a program it takes ./peertext, which builds it where it is missing.
 The last line is 'N passed, M failed'.
@@ -8,6 +8,7 @@ The last line is 'N passed, M failed'.
 import contextlib
 import os
 import random
+import re
 import resource
 import shutil
 import signal
@@ -95,7 +96,8 @@ def asks_and_waits():
 
 def statuses():
     for words in [(), ("frob",), ("run",), ("run", "--site"), ("run", "--site", "0"), ("run", "--site", "65536"), ("run", "--site", "x"),
-                  ("run", "--site", "1", "--site", "2"), ("run", "--site", "1", "more"), ("run", "--site", "1", "--frob"), ("join",), ("join", "a", "b"), ("join", "a", "b", "c", "d"), ("show",), ("show", "a", "b"), ("show", "--frob")]:
+                  ("run", "--site", "1", "--site", "2"), ("run", "--site", "1", "--frob"), ("run", "--log", "a", "b"), ("run", "--site", "1", "--log"), ("run", "--site", "1", "--out"),
+                  ("run", "--site", "1", "--log", "a", "--log", "a"), ("run", "--site", "1", "--out=a", "b", "--out", "a"), ("run", "--site", "1", "-f"), ("join", "--out", "a", "b", "c"), ("join",), ("join", "a", "b"), ("join", "a", "b", "c", "d"), ("show",), ("show", "a", "b"), ("show", "--frob")]:
         done = subprocess.run([PROGRAM, *words], input=b"", capture_output=True, timeout=120)
         check(f"{words}", (done.stdout, bool(done.stderr), done.returncode), (b"", True, 2))
     for words in [("--help",), ("--version",), ("run", "--help"), ("join", "--help"), ("show", "--help")]:
@@ -394,8 +396,178 @@ def many_operations():
     check("show of many", (out.count(b"\n"), out[:41], err, status), (20000, b"insert 1.1 prev 0 after 0.0 text xy tags\n", b"", 0))
 
 
+def ran(script, *words, **how):
+    """A run of lines within a folder of files: its reply lines, its error line and its status."""
+    done = subprocess.run([PROGRAM, "run", *words], input="".join(line + "\n" for line in script).encode(), timeout=300, **{"capture_output": True, **how})
+    return (done.stdout or b"").decode().splitlines(), (done.stderr or b"").decode(), done.returncode
+
+
+def refused(name, fault):
+    return [], f"peertext: {name}: {fault}\n" if name else f"peertext: {fault}\n", 1
+
+
+def put(name, data):
+    with open(name, "wb") as file:
+        file.write(data)
+
+
+def remove(*names):
+    for name in names:
+        with contextlib.suppress(FileNotFoundError):
+            os.remove(name)
+
+
+SITE = ("--site", "1")
+
+
+def outs_of_runs():
+    """The log that a run leaves behind."""
+    long = "a" * 65536
+    for name, script, want in [
+        ("nothing", [], HEAD),
+        ("an insertion", [".t insert 1.0 ab"], FILES["ab"]),
+        ("a deletion", [".t insert 1.0 ab", ".t delete 1.1"], FILES["deleted"]),
+        ("a tag", [".t insert 1.0 ab", ".t tag add t 1.0"], FILES["tagged"]),
+        ("what no operation says", [".t mark set m 1.0", ".t tag add sel 1.0 end", ".t get 1.0 end", ".t insert 1.0 {}"], HEAD),
+        ("more characters than one operation has", [".t insert 1.0 " + long], HEAD + insert(1, 1, 0, (0, 0), b"a" * 65535) + insert(65536, 1, 65535, (65535, 1), b"a")),
+    ]:
+        for old in (None, OLD):
+            if old is not None:
+                put("out", old)
+            lines, err, status = ran(script, *SITE, "--out", "out")
+            check(f"--out after {name}", (err, status, contents("out")), ("", 0, want))
+            check(f"files after {name}", "out" in os.listdir(".") and len(os.listdir(".")), len(FILES) + 2)
+        remove("out")
+    check("a long insertion is two records", len(HEAD + insert(1, 1, 0, (0, 0), b"a" * 65535) + insert(65536, 1, 65535, (65535, 1), b"a")), 65612)
+
+
+def logs_of_runs():
+    """The log with which a site begins."""
+    check("--log", ran([".t get 1.0 end"], *SITE, "--log", "ab"), (['= "ab\\n"'], "", 0))
+    check("--log of a deletion", ran([".t get 1.0 end"], *SITE, "--log", "deleted"), (['= "a\\n"'], "", 0))
+    check("--log of a tag", ran([".t tag names", ".t tag ranges t"], *SITE, "--log", "tagged"), (["= sel t", "= 1.0 1.1"], "", 0))
+    check("--log and --out", (ran([".t insert 1.0 X"], *SITE, "--log", "ab", "--out", "out"), contents("out")), ((["="], "", 0), HEAD + AB + insert(3, 1, 2, (0, 0), b"X")))
+    check("the same file as --log and --out", (ran([".t delete 1.0"], *SITE, "--log", "out", "--out", "out", "out"), contents("out")),
+          ((["="], "", 0), HEAD + AB + insert(3, 1, 2, (0, 0), b"X") + operation(2, 4, 1, 3, spans((1, 3, 3)))))
+    remove("out")
+
+
+def received():
+    """Lines that receive files, and their replies."""
+    get = ".t get 1.0 end"
+    for name, words, script, want in [
+        ("a file, and once more", ("ab",), ["receive ab", "receive ab", get], ["= 1 0", "= 0 1", '= "ab\\n"']),
+        ("a file given twice", ("ab", "ab"), ["receive ab", "receive ab"], ["= 1 0", "= 0 1"]),
+        ("a file that is cut", ("cut",), ["receive cut", get], ["! 32 Truncated at 44 new 1 repeat 0", '= "ab\\n"']),
+        ("one that is cut after it was received", ("cut", "ab"), ["receive ab", "receive cut"], ["= 1 0", "! 32 Truncated at 44 new 0 repeat 1"]),
+        ("what comes too early", ("y", "ab"), ["receive y", "receive ab", "receive y", get], ["! 36 NotYet at 8 new 0 repeat 0", "= 1 0", "= 1 0", '= "aYb\\n"']),
+        ("the greatest count", ("last",), ["receive last", ".t insert end a", get], ["= 1 0", "! 17 ClockSpent", '= "z\\n"']),
+        ("no file", (), ["receive none"], ["! 20 NoFile"]),
+        ("a file that wasn't given", ("ab",), ["receive deleted", "receive ./ab"], ["! 20 NoFile", "! 20 NoFile"]),
+        ("other numbers of words", ("ab",), ["receive", "receive ab ab", "receive ab"], ["! 4 BadCommand", "! 4 BadCommand", "= 1 0"]),
+        ("damaged files", ("empty", "magic", "version", "short", "unsound", "final"), ["receive empty", "receive magic", "receive version", "receive short", "receive unsound", "receive final", get],
+         ["! 32 Truncated at 0 new 0 repeat 0", "! 30 BadMagic at 0 new 0 repeat 0", "! 31 BadVersion at 0 new 0 repeat 0", "! 33 BadRecord at 8 new 0 repeat 0",
+          "! 34 BadStamp at 8 new 0 repeat 0", "! 37 BadTarget at 8 new 0 repeat 0", '= "\\n"']),
+        ("a clash", ("ab", "b", "clash"), ["receive ab", "receive b", "receive clash"], ["= 1 0", "! 35 Conflict at 8 new 0 repeat 0", "! 35 Conflict at 44 new 0 repeat 1"]),
+        ("damaged files that are not received", ("empty", "cut", "magic"), [get], ['= "\\n"']),
+        ("marks", ("ab", "y"), ["receive ab", ".t mark set m 1.1", ".t mark set l 1.1", ".t mark gravity l left", "receive y", ".t index m", ".t index l"], ["= 1 0", "=", "=", "=", "= 1 0", "= 1.2", "= 1.1"]),
+    ]:
+        put("last", HEAD + insert(2**48 - 1, 9, 0, (0, 0), b"z"))
+        check(f"receive: {name}", ran(script, *SITE, *words), (want, "", 0))
+        remove("last")
+    # a pipe gives its bytes to the first of two readings alone: of one name the first counts
+    first, last = os.pipe()
+    os.write(last, FILES["ab"])
+    os.close(last)
+    name = f"/dev/fd/{first}"
+    check("of one name the first counts", ran([f"receive {name}"], *SITE, name, name, pass_fds=(first,)), (["= 1 0"], "", 0))
+    os.close(first)
+
+
+def exchanges():
+    """Two sites that edit side by side, and then hold what both did."""
+    get = ".t get 1.0 end"
+    for name, begin, one, two, want in [
+        ("insertions at one place", "ab", [".t insert 1.1 XX"], [".t insert 1.1 Y"], [(get, '= "aYXXb\\n"')]),
+        ("an insertion beside a deletion", "ab", [".t delete 1.1"], [".t insert 1.2 Z"], [(get, '= "aZ\\n"')]),
+        ("a tag taken off and put on", "t", [".t tag remove t 1.0", ".t tag add t 1.0"], [".t tag remove t 1.0"], [(".t tag ranges t", "= 1.0 1.2")]),
+        ("a later write of a tag", "t", [".t tag remove t 1.0", ".t tag add t 1.0"], [".t insert end q", ".t tag remove t 1.0"], [(".t tag ranges t", "= 1.1 1.2")]),
+    ]:
+        check(f"the tagged text of {name}", ran([".t insert 1.0 ab t"], *SITE, "--out", "t"), (["="], "", 0))
+        for number, script in (("1", one), ("2", two)):
+            check(f"site {number} of {name}", ran(script, "--site", number, "--log", begin, "--out", f"out{number}"), (["="] * len(script), "", 0))
+        asks, wants = zip(*want)
+        logs = []
+        for number, other in (("1", "2"), ("2", "1")):
+            lines, err, status = ran([f"receive out{other}", *asks], "--site", number, "--log", f"out{number}", "--out", "both", f"out{other}")
+            check(f"site {number} after the exchange of {name}", (lines[1:], err, status), (list(wants), "", 0))
+            logs.append(contents("both"))
+        check(f"the logs after the exchange of {name}", logs[0], logs[1])
+        check(f"their join in {name}", (called("join", "out1", "out2", "joined"), contents("joined")), ((b"", b"", 0), logs[0]))
+        remove("t", "out1", "out2", "both", "joined")
+
+
+def faults_before_the_script():
+    """A log or a file at fault: the script isn't run, and nothing is written."""
+    names = sorted(os.listdir("."))
+    script = [".t insert 1.0 x"]
+    for words, name, fault in [
+        (("--log", "cut"), "cut", "32 Truncated at 44"), (("--log", "empty"), "empty", "32 Truncated at 0"), (("--log", "magic"), "magic", "30 BadMagic at 0"),
+        (("--log", "version"), "version", "31 BadVersion at 0"), (("--log", "short"), "short", "33 BadRecord at 8"), (("--log", "unsound"), "unsound", "34 BadStamp at 8"),
+        (("--log", "clash"), "clash", "35 Conflict at 44"), (("--log", "y"), "y", "36 NotYet at 8"), (("--log", "final"), "final", "37 BadTarget at 8"),
+        (("--log", "missing"), "missing", "40 ReadFault"), (("--log", "folder"), "folder", "40 ReadFault"), (("--log="), "", "40 ReadFault"),
+        (("missing",), "missing", "40 ReadFault"), (("folder",), "folder", "40 ReadFault"), (("ab", "cut", "missing", "folder"), "missing", "40 ReadFault"),
+        (("folder", "missing"), "folder", "40 ReadFault"), (("ab", "folder", "ab", "missing"), "folder", "40 ReadFault"),
+        # the log's fault, whatever the files are
+        (("missing", "--log", "cut"), "cut", "32 Truncated at 44"), (("--log", "ab", "missing"), "missing", "40 ReadFault"), (("--log", "missing", "folder"), "missing", "40 ReadFault"),
+    ]:
+        words = (words,) if isinstance(words, str) else words
+        want = ([], f"peertext: {name}: {fault}\n", 1)
+        check(f"run with {words}", ran(script, *SITE, *words), want)
+        for old in (None, OLD):
+            if old is not None:
+                put("out", old)
+            check(f"run with {words} and --out", (ran(script, *SITE, "--out", "out", *words), contents("out")), (want, old))
+            check(f"run with {words} and an --out that can't be written", ran(script, *SITE, *words, "--out", "folder"), want)
+        remove("out")
+        check(f"files after {words}", sorted(os.listdir(".")), names)
+    # one byte more than a file may have
+    with open("big", "wb") as big:
+        big.truncate(2**30 + 1)
+    for words in (("big",), ("--log", "big")):
+        check(f"run with {words}", ran(script, *SITE, *words), refused("big", "40 ReadFault"))
+    remove("big")
+
+
+def outs_after_faults():
+    """The log is written also where the script ended with a fault, which is then told; and an --out that can't be written."""
+    script = [".t insert 1.0 ab", ".t insert 1.0 c"]
+    for out in ["folder", "none/out", "missing/out", "", "a" * 300]:
+        check(f"--out {out!r:.20}", ran(script, *SITE, "--out", out), (["=", "="], f"peertext: {out}: 41 WriteFault\n", 1))
+    put("out", OLD)
+
+    def small():
+        signal.signal(signal.SIGXFSZ, signal.SIG_IGN)
+        resource.setrlimit(resource.RLIMIT_FSIZE, (60, 60))
+
+    check("--out on a full disk", (ran(script, *SITE, "--out", "out", preexec_fn=small), contents("out")), ((["=", "="], "peertext: out: 41 WriteFault\n", 1), OLD))
+    os.chmod("out", 0o444)
+    check("--out that is protected", (ran(script, *SITE, "--out", "out"), contents("out")), ((["=", "="], "peertext: out: 41 WriteFault\n", 1), OLD))
+    os.chmod("out", 0o644)
+    for out, left in (("out", FILES["ab"]), ("folder", None)):
+        with open("/proc/self/mem", "rb") as unreadable:
+            got = subprocess.run([PROGRAM, "run", *SITE, "--log", "ab", "--out", out], stdin=unreadable, capture_output=True, timeout=120)
+        check(f"--out {out} after a failed read", ((got.stdout, got.stderr, got.returncode), contents("out")), ((b"", b"peertext: 40 ReadFault\n", 1), left or FILES["ab"]))
+    for out, left in (("out", FILES["ab"]), ("folder", FILES["ab"])):
+        with open("/dev/full", "wb") as full:
+            got = ran(script, *SITE, "--out", out, capture_output=False, stdout=full, stderr=subprocess.PIPE)
+        check(f"--out {out} after a failed write", (got, contents("out")), (([], "peertext: 41 WriteFault\n", 1), left))
+    remove("out")
+
+
 def files():
-    for test in (joins, outs_that_fail, outs_with_modes, shows, many_operations, failing_allocations_of_files):
+    for test in (joins, outs_that_fail, outs_with_modes, shows, many_operations, failing_allocations_of_files, outs_of_runs, logs_of_runs, received, exchanges,
+                 faults_before_the_script, outs_after_faults, failing_allocations_of_receive):
         with_files(test)
 
 
@@ -406,8 +578,8 @@ def failing_library(folder):
     return None if made.returncode else shim
 
 
-def without_an_allocation(shim, number, *words):
-    done = subprocess.run([BUILT, *words], stdin=subprocess.DEVNULL, capture_output=True, timeout=120, env={**os.environ, "LD_PRELOAD": shim, "FAIL_ALLOC": str(number)})
+def without_an_allocation(shim, number, *words, script=b""):
+    done = subprocess.run([BUILT, *words], input=script, capture_output=True, timeout=120, env={**os.environ, "LD_PRELOAD": shim, "FAIL_ALLOC": str(number)})
     return done.stdout, done.stderr, done.returncode
 
 
@@ -433,6 +605,65 @@ def failing_allocations_of_files():
         refused += none
     check("some allocations were refused", refused > 10, True)
     check("the last of them is behind us", status, 0)
+
+
+# where the records of the file `deleted` begin, and the text after so many of them
+OFFSETS = (8, 44)
+TEXTS = ('= "\\n"', '= "ab\\n"', '= "a\\n"')
+
+
+def held_after(line, known):
+    """How many records of `deleted` a site holds after this reply to `receive deleted`, of which it held some; none where
+    there is no such reply."""
+    if line == "! 1 NoMemory":
+        return known
+    if line == f"= {2 - known} {known}":
+        return 2
+    found = re.fullmatch(r"! 1 NoMemory at ([0-9]+) new ([0-9]+) repeat ([0-9]+)", line)
+    if not found:
+        return None
+    at, new, repeats = map(int, found.groups())
+    taken = new + repeats
+    fits = taken < 2 and repeats == min(known, taken) and (at == OFFSETS[taken] or (at, taken) == (0, 0))
+    return max(known, taken) if fits else None
+
+
+def failing_allocations_of_receive():
+    """Each allocation fails in turn, those of the command line, the log and the files too: a file is received up to the record
+    that found no memory, and the log at the end is that of what is held; or the run ends for want of memory, and --out has
+    the log, or stays."""
+    shim = failing_library(".")
+    if shim is None:
+        return
+    asks = ["receive deleted", ".t get 1.0 end"] * 3
+    script = "".join(line + "\n" for line in asks).encode()
+    logs = (HEAD, FILES["ab"], FILES["deleted"])
+    early = cut = number = quiet = 0
+    while quiet < 30 and number < 1000:
+        number += 1
+        # in turn a new site, and one that begins with the first record
+        begin = number % 2
+        put("out", OLD)
+        words = ("run", *SITE, *(("--log", "ab") if begin else ()), "--out", "out", "deleted")
+        out, err, status = without_an_allocation(shim, (number + 1) // 2, *words, script=script)
+        lines, known, good = out.decode().splitlines(), begin, True
+        for ask, line in zip(asks, lines):
+            if ask.startswith("receive"):
+                after = held_after(line, known)
+                good &= after is not None
+                cut += " at " in line
+                known = known if after is None else after
+            else:
+                good &= line in ("! 1 NoMemory", TEXTS[known])
+        left = contents("out")
+        whole = len(lines) == len(asks) and (err, status, left) == (b"", 0, logs[known])
+        ended = (err, status) == (b"peertext: 1 NoMemory\n", 1) and (left == OLD or left == logs[known])
+        check(f"receive without allocation {number}: {lines} {err} {status}", good and (whole or ended), True)
+        early += ended
+        quiet = quiet + 1 if whole and not any("NoMemory" in line for line in lines) else 0
+    check("some allocations ended the run", early > 0, True)
+    check("some allocations were refused to an operation", cut > 0, True)
+    check("the last of them is behind us", number < 1000, True)
 
 
 def failing_allocations():

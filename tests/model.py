@@ -1,28 +1,34 @@
 #!/usr/bin/env python3
 """Random scripts, answered by the built program and by a plain model of the widget: a list of characters
-with their tags, a table of marks, and the list of tags.
+with their tags, a table of marks, and the list of tags. Then sites, which edit by scripts of their own and
+receive one another's files, late, repeated and cut; their model reads all operations of a site again after
+each (docs/REPLICATION.md).
 
-Usage: tests/model.py [PROGRAM [SCRIPTS [SEED]]]; without a program it takes ./peertext, which builds it where it is missing.
-The last line is 'N passed, M failed'.
+Usage: tests/model.py [PROGRAM [SCRIPTS [SEED [GROUPS]]]]; without a program it takes ./peertext, which builds it where it is
+missing. SCRIPTS are those of one site, GROUPS the groups of two to four sites. The last line is 'N passed, M failed'.
 """
+import collections
 import os
 import random
 import re
 import subprocess
 import sys
+import tempfile
 
 ROOT = os.path.dirname(os.path.dirname(os.path.abspath(__file__)))
-PROGRAM = sys.argv[1] if len(sys.argv) > 1 else os.path.join(ROOT, "peertext")
+PROGRAM = os.path.abspath(sys.argv[1]) if len(sys.argv) > 1 else os.path.join(ROOT, "peertext")
 SCRIPTS = int(sys.argv[2]) if len(sys.argv) > 2 else 300
 SEED = int(sys.argv[3]) if len(sys.argv) > 3 else 20261122
+GROUPS = int(sys.argv[4]) if len(sys.argv) > 4 else 40
 
 
 class Refused(Exception):
     pass
 
 
-BAD_INDEX, NONE_TAGGED, BAD_COMMAND, NO_TAG, NO_MARK, BAD_OPTION, BAD_NAME, BAD_QUOTING = (
-    "! 2 BadIndex", "! 3 NoneTagged", "! 4 BadCommand", "! 7 NoTag", "! 8 NoMark", "! 9 BadOption", "! 14 BadName", "! 19 BadQuoting")
+BAD_INDEX, NONE_TAGGED, BAD_COMMAND, NO_TAG, NO_MARK, BAD_OPTION, BAD_NAME, BAD_QUOTING, NO_FILE, NOT_YET, TRUNCATED = (
+    "! 2 BadIndex", "! 3 NoneTagged", "! 4 BadCommand", "! 7 NoTag", "! 8 NoMark", "! 9 BadOption", "! 14 BadName", "! 19 BadQuoting", "! 20 NoFile",
+    "! 36 NotYet", "! 32 Truncated")
 
 POSITION = re.compile(r"([0-9]+)\.([0-9]+|end)\Z")
 # a modifier: a count, or a keyword
@@ -191,6 +197,18 @@ class Widget:
 
     # edits
 
+    # what a site makes operations of: characters put in, characters taken away (and the last newline's tags, if it is
+    # cleared), a tag put on characters or taken off
+
+    def has_inserted(self, p, new, tags):
+        pass
+
+    def is_removing(self, gone, is_cleared):
+        pass
+
+    def is_tagging(self, name, places, on):
+        pass
+
     def listed(self, names):
         self.names += [name for name in names if name not in self.names]
 
@@ -205,10 +223,18 @@ class Widget:
         self.text = self.text[:p] + new + self.text[p:]
         self.tags[p:p] = [tags] * len(new)
         self.listed(sorted(tags, key=str.encode))
+        self.marks_inserted(p, len(new))
+        self.has_inserted(p, new, tags)
+        return p + len(new)
+
+    def marks_inserted(self, p, n):
         for mark in self.marks.values():
             if mark[0] > p or mark[0] == p and mark[1] == "right":
-                mark[0] += len(new)
-        return p + len(new)
+                mark[0] += n
+
+    def marks_removed(self, gone):
+        for mark in self.marks.values():
+            mark[0] = sum(p not in gone for p in range(mark[0]))
 
     def inserted(self, words):
         if len(words) < 2:
@@ -232,16 +258,18 @@ class Widget:
                 merged[-1][1] = max(b, merged[-1][1])
             else:
                 merged.append([a, b])
-        gone = set()
+        gone, is_cleared = set(), False
         for a, b in merged:
             gone |= set(range(a, b))
             if b == n:
                 gone.discard(n - 1)
-                self.tags[n - 1] = frozenset()
+                is_cleared = True
                 if a > 0 and self.text[a - 1] == "\n":
                     gone.add(a - 1)
-        for mark in self.marks.values():
-            mark[0] = sum(p not in gone for p in range(mark[0]))
+        self.is_removing(sorted(gone), is_cleared)
+        if is_cleared:
+            self.tags[n - 1] = frozenset()
+        self.marks_removed(gone)
         self.text = "".join(c for p, c in enumerate(self.text) if p not in gone)
         self.tags = [tags for p, tags in enumerate(self.tags) if p not in gone]
 
@@ -275,6 +303,7 @@ class Widget:
         if action == "delete":
             for name in words:
                 if name != "sel":
+                    self.is_tagging(name, [p for p in range(n) if name in self.tags[p]], False)
                     self.tags = [tags - {name} for tags in self.tags]
                     self.names = [x for x in self.names if x != name]
             return []
@@ -287,9 +316,10 @@ class Widget:
                 self.names.insert(at, words[0])
             return []
         if action in ("add", "remove"):
-            for a, b in self.pairs(words[1:]):
-                for p in range(a, min(b, n)):
-                    self.tags[p] = self.tags[p] | {words[0]} if action == "add" else self.tags[p] - {words[0]}
+            covered = sorted({p for a, b in self.pairs(words[1:]) for p in range(a, min(b, n))})
+            self.is_tagging(words[0], [p for p in covered if (words[0] in self.tags[p]) != (action == "add")], action == "add")
+            for p in covered:
+                self.tags[p] = self.tags[p] | {words[0]} if action == "add" else self.tags[p] - {words[0]}
             if action == "add":
                 self.listed(words[:1])
             return []
@@ -472,6 +502,272 @@ class Chance(random.Random):
         return [kind, action, self.choice([self.name(), self.word()])]
 
 
+# ---- sites
+
+# an operation: its count, site and prev; for an Insert the stamp that it goes after, the text and its tags; for a Delete the
+# stamps; for a Tag whether it is on, its name and the stamps
+Insert = collections.namedtuple("Insert", "count site prev after text tags")
+Delete = collections.namedtuple("Delete", "count site prev stamps")
+Tag = collections.namedtuple("Tag", "count site prev stamps on name")
+ROOT_STAMP, FINAL_STAMP = (0, 0), (1, 0)
+
+
+def stamp(op):
+    return op.count, op.site
+
+
+def last_count(op):
+    return op.count + len(op.text) - 1 if isinstance(op, Insert) else op.count
+
+
+def made(op):
+    """The stamps of the characters of an Insert."""
+    return [(op.count + i, op.site) for i in range(len(op.text))] if isinstance(op, Insert) else []
+
+
+def named(op):
+    return [op.after] if isinstance(op, Insert) else op.stamps
+
+
+def number(n, size):
+    return n.to_bytes(size, "big")
+
+
+def spans(stamps):
+    found = []
+    for count, site in sorted(stamps, key=lambda s: (s[1], s[0])):
+        if found and found[-1][0] == site and found[-1][2] == count - 1:
+            found[-1][2] = count
+        else:
+            found.append([site, count, count])
+    return number(len(found), 4) + b"".join(number(site, 2) + number(first, 8) + number(last, 8) for site, first, last in found)
+
+
+def record(op):
+    if isinstance(op, Insert):
+        tags = sorted(tag.encode() for tag in op.tags)
+        kind, body = 1, number(op.after[0], 8) + number(op.after[1], 2) + number(len(tags), 1) + b"".join(number(len(t), 1) + t for t in tags) + op.text.encode()
+    elif isinstance(op, Delete):
+        kind, body = 2, spans(op.stamps)
+    else:
+        kind, body = 3, number(op.on, 1) + number(len(op.name.encode()), 1) + op.name.encode() + spans(op.stamps)
+    content = number(kind, 1) + number(op.count, 8) + number(op.site, 2) + number(op.prev, 8) + body
+    return number(len(content), 4) + content
+
+
+def spelling(ops):
+    return b"RGATEXT1" + b"".join(record(op) for op in sorted(ops, key=stamp))
+
+
+def reading(ops):
+    """The visible characters of a history, with their stamps and shared tags: a tree read depth first, of the children of an
+    element the greater stamp first. A tag is on a character where the greatest of what was said of it says on."""
+    children, chars, gone, said = collections.defaultdict(list), {FINAL_STAMP: "\n"}, set(), collections.defaultdict(dict)
+    children[ROOT_STAMP].append(FINAL_STAMP)
+    for op in sorted(ops, key=stamp):
+        if isinstance(op, Insert):
+            left = op.after
+            for here, char in zip(made(op), op.text):
+                children[left].append(here)
+                chars[here], left = char, here
+                for tag in op.tags:
+                    said[here].setdefault(tag, True)
+        elif isinstance(op, Delete):
+            gone |= set(op.stamps)
+        else:
+            # by rising stamp, so the last is the greatest; each is greater than the Inserts of what it names
+            for here in op.stamps:
+                said[here][op.name] = op.on
+    order, rest = [], [ROOT_STAMP]
+    while rest:
+        here = rest.pop()
+        order.append(here)
+        rest += sorted(children[here])
+    return [(here, chars[here], frozenset(t for t, on in said[here].items() if on)) for here in order if here in chars and here not in gone]
+
+
+class Site(Widget):
+    """A site: the widget, the stamps of its characters, and the operations that it has accepted."""
+
+    def __init__(self, site):
+        super().__init__()
+        self.site, self.ops, self.stamps = site, [], [FINAL_STAMP]
+
+    def known_end(self, site):
+        return max((last_count(op) for op in self.ops if op.site == site), default=0)
+
+    def make(self, kind, *fields):
+        op = kind(max(map(last_count, self.ops), default=0) + 1, self.site, self.known_end(self.site), *fields)
+        self.ops.append(op)
+        return op
+
+    # own edits
+
+    def has_inserted(self, p, new, tags):
+        op = self.make(Insert, self.stamps[p - 1] if p else ROOT_STAMP, new, tags - {"sel"})
+        self.stamps[p:p] = made(op)
+
+    def is_removing(self, gone, is_cleared):
+        if gone:
+            self.make(Delete, [self.stamps[p] for p in gone])
+        for tag in sorted(self.tags[-1] - {"sel"}, key=str.encode) if is_cleared else []:
+            self.make(Tag, [FINAL_STAMP], False, tag)
+        self.stamps = [here for p, here in enumerate(self.stamps) if p not in set(gone)]
+
+    def is_tagging(self, name, places, on):
+        if places and name != "sel":
+            self.make(Tag, [self.stamps[p] for p in places], on, name)
+
+    # operations of others
+
+    def accept(self, op):
+        """Whether an operation is new, or that it comes too early; those of these tests are never at fault otherwise."""
+        if op in self.ops:
+            return False
+        known = {FINAL_STAMP, ROOT_STAMP}.union(*map(made, self.ops))
+        if op.prev != self.known_end(op.site) or not set(named(op)) <= known:
+            raise Refused(NOT_YET)
+        selected = {here for here, tags in zip(self.stamps, self.tags) if "sel" in tags}
+        before, self.ops = self.stamps, [*self.ops, op]
+        read = reading(self.ops)
+        self.stamps, self.text = [here for here, _, _ in read], "".join(char for _, char, _ in read)
+        self.tags = [tags | {"sel"} if here in selected else tags for here, _, tags in read]
+        if isinstance(op, Insert):
+            self.marks_inserted(self.stamps.index(stamp(op)), len(op.text))
+            self.listed(sorted(op.tags, key=str.encode))
+        else:
+            self.marks_removed({p for p, here in enumerate(before) if here not in set(self.stamps)})
+            if isinstance(op, Tag) and op.on:
+                self.listed([op.name])
+        return True
+
+    def receive(self, file):
+        """The reply to a file: a list of operations, and how many of its bytes there are."""
+        ops, size = file
+        new = repeats = 0
+        at, fault = 8, None
+        for op in ops:
+            if at + len(record(op)) > size:
+                break
+            try:
+                if self.accept(op):
+                    new += 1
+                else:
+                    repeats += 1
+            except Refused as why:
+                return f"{why} at {at} new {new} repeat {repeats}"
+            at += len(record(op))
+        if size < 8 or at < size:
+            fault = TRUNCATED
+        return f"{fault} at {at if size >= 8 else 0} new {new} repeat {repeats}" if fault else f"= {new} {repeats}"
+
+    def is_sound(self):
+        """Whether the widget shows what its operations say."""
+        return reading(self.ops) == [(here, char, tags - {"sel"}) for here, char, tags in zip(self.stamps, self.text, self.tags)]
+
+
+class Group:
+    """Sites with their files, in a folder. A file is a list of operations in stamp order, and how many bytes there are of it."""
+
+    def __init__(self, chance, folder, count):
+        self.chance, self.folder = chance, folder
+        self.logs = {site: [] for site in chance.sample([1, 2, 3, 7, 65535], count)}
+        self.files = {}
+
+    def write(self, name, ops, size=None):
+        data = spelling(ops)
+        size = len(data) if size is None else min(size, len(data))
+        with open(os.path.join(self.folder, name), "wb") as file:
+            file.write(data[:size])
+        self.files[name] = (sorted(ops, key=stamp), size)
+
+    def snapshot(self, site, turn):
+        """A site's log as a file for others: the whole of it, its later operations alone, or a front of its bytes."""
+        ops = sorted(self.logs[site], key=stamp)
+        self.write(f"{site}.{turn}", ops)
+        if ops and self.chance.random() < .3:
+            self.write(f"{site}.{turn}.late", ops[self.chance.randrange(len(ops)):])
+        if self.chance.random() < .2:
+            self.write(f"{site}.{turn}.cut", ops, self.chance.randrange(len(spelling(ops))))
+
+    def lines(self, site, names):
+        """A script: commands, and files that are received."""
+        found = []
+        for _ in range(self.chance.randrange(1, 40)):
+            if names and self.chance.random() < .2:
+                found.append(["receive", self.chance.choice(names)])
+            elif self.chance.random() < .02:
+                found.append(self.chance.choice([["receive"], ["receive", "none"], ["receive", "a", "b"]]))
+            else:
+                found.append([".t", *self.chance.command()])
+        return found
+
+    def run(self, site, script, names):
+        """Whether the program answers a script of a site as the model does, and leaves the same log."""
+        model, wants = Site(site), []
+        if self.logs[site]:
+            model.receive((sorted(self.logs[site], key=stamp), len(spelling(self.logs[site]))))
+        for words in script:
+            if words[0] == ".t":
+                wants.append(model.answer(words[1:]))
+            elif len(words) != 2:
+                wants.append(BAD_COMMAND)
+            else:
+                wants.append(model.receive(self.files[words[1]]) if words[1] in names else NO_FILE)
+            assert model.is_sound(), script
+        log = os.path.join(self.folder, f"{site}.log")
+        options = ["--site", str(site), "--out", log] + (["--log", log] if os.path.exists(log) else [])
+        text = "".join(" ".join(map(spelled, words)) + "\n" for words in script)
+        done = subprocess.run([PROGRAM, "run", *options, *names], input=text.encode(), capture_output=True, timeout=120, cwd=self.folder)
+        self.logs[site] = model.ops
+        lines = done.stdout.decode().split("\n")[:-1]
+        with open(log, "rb") as file:
+            left = file.read()
+        if (lines, done.stderr, done.returncode, left) == (wants, b"", 0, spelling(model.ops)):
+            return True
+        at = next((i for i, (a, b) in enumerate(zip(lines, wants)) if a != b), min(len(lines), len(wants)))
+        print(f"failed: site {site}, {' '.join(options)}, line {at + 1}: {done.returncode} {done.stderr!r}")
+        print("".join(text.splitlines(True)[:at + 1]), end="")
+        print(f"  got  {lines[at] if at < len(lines) else None!r}\n  want {wants[at] if at < len(wants) else None!r}\n  the log is {'' if left == spelling(model.ops) else 'not '}the model's")
+        return False
+
+    def play(self):
+        """Sites edit and receive in turns; then each receives all that the others did, in some order, some of it twice."""
+        good = True
+        for turn in range(self.chance.randrange(1, 5)):
+            for site in self.chance.sample(list(self.logs), len(self.logs)):
+                names = self.chance.choices(list(self.files), k=self.chance.randrange(4)) if self.files else []
+                good &= self.run(site, self.lines(site, names), names)
+                self.snapshot(site, turn)
+        for site in self.logs:
+            self.write(f"{site}.whole", self.logs[site])
+        ends = [f"{site}.whole" for site in self.logs]
+        shown = [[".t", "get", "1.0", "end"], *([".t", "tag", "ranges", tag] for tag in ("t", "u", "v", "a b", "t.first", "é"))]
+        answers = []
+        for site in self.logs:
+            names = self.chance.choices(list(self.files), k=2) + self.chance.sample(ends, len(ends))
+            good &= self.run(site, [["receive", name] for name in names] + shown, names)
+            model = Site(site)
+            for op in sorted(self.logs[site], key=stamp):
+                model.accept(op)
+            answers.append((sorted(map(str, self.logs[site])), [model.answer(words[1:]) for words in shown]))
+        if any(answer != answers[0] for answer in answers):
+            print("failed: sites that accepted the same differ in the model")
+            good = False
+        return good
+
+
+def play_groups(chance):
+    passed = failed = 0
+    for group in range(GROUPS):
+        with tempfile.TemporaryDirectory() as folder:
+            good = Group(chance, folder, chance.randrange(2, 5)).play()
+        passed, failed = passed + good, failed + (not good)
+        if not good:
+            print(f"failed: group {group}")
+    return passed, failed
+
+
 def main():
     chance, passed, failed = Chance(SEED), 0, 0
     # the launcher may have to build the program first, and says so on standard error
@@ -490,6 +786,8 @@ def main():
             print(f"failed: script {number}, line {at + 1}")
             print("".join(script.splitlines(True)[:at + 1]), end="")
             print(f"  got  {lines[at] if at < len(lines) else None!r}\n  want {wants[at] if at < len(wants) else None!r}")
+    whole, broken = play_groups(chance)
+    passed, failed = passed + whole, failed + broken
     print(f"{passed} passed, {failed} failed")
     sys.exit(1 if failed else 0)
 

@@ -1,5 +1,5 @@
 -- How the program ends.
-use Rattle.std.specs.Prelude.{◌≡◌, ◌⊎◌, ℕ, ◌&&◌, ◌==◌, Bool, true, false, nat_le, List, ◌++◌, Option, Some, None, Result, Ok, Err, codes, if◌then◌else◌}
+use Rattle.std.specs.Prelude.{ℕ, ◌&&◌, ◌==◌, Bool, true, false, nat_le, List, ◌++◌, Option, Some, None, Result, Ok, Err, codes, if◌then◌else◌}
 use Rattle.std.specs.Borrow.{Bor}
 use Rattle.std.specs.Fmt.{decimal}
 use Rattle.std.specs.declared.io.ErrorKind.{ErrorKind}
@@ -7,10 +7,6 @@ use Rattle.std.specs.declared.io.ErrorKind.TheVariants.{OutOfMemory}
 use Rattle.rt_stamps.specs.Fault.{number_of, text_of}
 use Rattle.rt_stamps.specs.declared.fault.Fault.{Fault}
 use Rattle.rt_stamps.specs.declared.fault.Fault.TheVariants.{NoMemory, WriteFault}
-use Rattle.rt_stamps.specs.declared.limits.TheConstants.{MOST_CELLS}
-use Rattle.rt_script.specs.Run.{Stream, Ends}
-use Rattle.rt_script.specs.Site.{SiteGives}
-use Rattle.rt_script.specs.State.{State, new_state}
 use Rattle.rt_script.specs.declared.join.JoinFault.{JoinFault}
 use Rattle.peertext.specs.declared.ending.Failure.{Failure}
 
@@ -54,20 +50,27 @@ is_of_file NoMemory = false
 is_of_file WriteFault = false
 is_of_file fault = true
 
+-- a file that is read is at fault, or no file is
+abbrev pub file_failure : Fault × ℕ → Bor (List ℕ) → Failure
+file_failure found path = record { fault = found.0; file = if is_of_file found.0 then Some (path, found.1) else None }
+
+-- a site did not begin: its log's file is at fault, if there is one, or memory was wanting
+abbrev pub log_failure : Fault × ℕ → Option (Bor (List ℕ)) → Failure
+log_failure found None = record { fault = found.0; file = None }
+log_failure found (Some path) = file_failure found path
+
+-- the fault with which a script ended comes before that of the file which gets the log
+abbrev pub first_failure : Option Fault → Option Failure → Option Failure
+first_failure None out = out
+first_failure (Some fault) out = run_failure (Some fault)
+
 -- how `show` ends: with a failed write where its lines were not all written, else as the file was read
 abbrev pub show_failure : Result (Unit {0}) (Fault × ℕ) → Bool → Bor (List ℕ) → Option Failure
 show_failure shown false path = Some (record { fault = WriteFault; file = None })
 show_failure (Ok x) true path = None
-show_failure (Err found) true path = Some (record { fault = found.0; file = if is_of_file found.0 then Some (path, found.1) else None })
+show_failure (Err found) true path = Some (file_failure found path)
 
 -- a write of a file failed: for want of memory, or for the file's sake
 abbrev pub write_failure : ErrorKind → Bor (List ℕ) → Failure
 write_failure OutOfMemory path = record { fault = NoMemory; file = None }
 write_failure kind path = record { fault = WriteFault; file = Some (path, 0) }
-
--- A script was run by a new site, which has room for all cells there may be; or the site found no memory, and nothing was
--- read or written.
-abbrev pub RunsScript : ℕ → Stream → Stream → Stream → Stream → Option Fault → Type 0
-RunsScript site script left before after fault =
-    ((new : State) × Ends SiteGives (new_state site MOST_CELLS) new script left before after fault)
-    ⊎ ((fault ≡ Some NoMemory) × (left ≡ script) × (after ≡ before))

@@ -1,6 +1,6 @@
 // How the program ends.
 ghost use Rattle.std.specs.Prelude.{◌≡◌};
-ghost use Rattle.peertext.specs.Endings.{status_of, has_offset, is_of_file, run_failure, join_failure, show_failure, write_failure};
+ghost use Rattle.peertext.specs.Endings.{status_of, has_offset, is_of_file, file_failure, run_failure, log_failure, first_failure, join_failure, show_failure, write_failure};
 
 use rt_script::JoinFault;
 use rt_stamps::Fault;
@@ -45,6 +45,42 @@ pub fn run_failure<'a>(fault: Option<Fault>) -> Option<Failure<'a>>
     }
 }
 
+/// How the program failed at a file that it reads. Want of memory is no fault of the file, nor is a
+/// failed write of its lines.
+pub fn file_failure<'a>(fault: Fault, offset: u64, path: &'a str) -> Failure<'a>
+    ensures { result ≡ file_failure (fault, offset) path.entry }
+{
+    Failure {
+        fault,
+        file: if is_of_file(fault) {
+            Some((path, offset))
+        } else {
+            None
+        },
+    }
+}
+
+/// Why a site didn't begin: its log's file is at fault, if there is one, or memory was wanting.
+pub fn log_failure<'a>(fault: Fault, offset: u64, log: Option<&'a str>) -> Failure<'a>
+    ensures { result ≡ log_failure (fault, offset) log.entry }
+{
+    match log {
+        Some(path) => file_failure(fault, offset, path),
+        None => Failure { fault, file: None },
+    }
+}
+
+/// How a run failed whose script ended with a fault, or whose log was then not written: by the first
+/// of both.
+pub fn first_failure<'a>(run: Option<Fault>, out: Option<Failure<'a>>) -> Option<Failure<'a>>
+    ensures { result ≡ first_failure run out.entry }
+{
+    match run {
+        Some(_) => run_failure(run),
+        None => out,
+    }
+}
+
 /// How the join of two files failed. Neither is named for a clash between them, nor for want of
 /// memory.
 pub fn join_failure<'a>(why: JoinFault, a: &'a str, b: &'a str) -> Failure<'a>
@@ -61,7 +97,7 @@ pub fn join_failure<'a>(why: JoinFault, a: &'a str, b: &'a str) -> Failure<'a>
     }
 }
 
-/// Whether a fault of `show` is the file's own.
+/// Whether a fault that was met with a file is the file's own.
 fn is_of_file(fault: Fault) -> bool
     ensures { result ≡ is_of_file fault }
 {
@@ -84,14 +120,7 @@ pub fn show_failure<'a>(
     }
     match shown {
         Ok(()) => None,
-        Err((fault, offset)) => Some(Failure {
-            fault,
-            file: if is_of_file(fault) {
-                Some((path, offset))
-            } else {
-                None
-            },
-        }),
+        Err((fault, offset)) => Some(file_failure(fault, offset, path)),
     }
 }
 

@@ -1,21 +1,28 @@
 //! `peertext run --site N` runs a script from standard input, and writes its replies to standard
-//! output. `peertext join A B OUT` joins two files of operations, and `peertext show FILE` writes the
-//! line of each operation of one.
+//! output; `--log` is the file of the log with which the site begins, `--out` gets its log at the end,
+//! and FILEs are what the script may receive. `peertext join A B OUT` joins two files of operations,
+//! and `peertext show FILE` writes the line of each operation of one.
 #![tactic(auto)]
 
-ghost use Rattle.std.specs.Prelude.{◌≡◌, ◌<◌};
-ghost use Rattle.peertext.specs.Endings.{RunsScript};
+ghost use Rattle.std.specs.Prelude.{◌≡◌, ◌<◌, ◌≤◌, length, IfOk, OnOk};
+ghost use Rattle.rt_stamps.specs.declared.limits.TheConstants.{MOST_BYTES};
+ghost use Rattle.rt_script.specs.Site.{AreWithin};
 
 mod ending;
 mod files;
+mod run;
 
-use ending::{Failure, join_failure, run_failure, show_failure, status, write_failure};
+use ending::{
+    Failure, file_failure, first_failure, join_failure, log_failure, run_failure, show_failure,
+    status, write_failure,
+};
 use files::{LazyFile, write_whole};
 use rt_args::{Line, LineFault, line};
-use rt_script::{JoinFault, SiteState, join_files, run, show_file};
-use rt_stamps::limits::MOST_CELLS;
+use rt_oplog::read_whole;
+use rt_script::{JoinFault, SiteState, join_files, show_file};
 use rt_stamps::std_ends::{Count, Reader, Writer};
-use rt_stamps::{Fault, Sink, Site, Source};
+use rt_stamps::{Fault, Site};
+use run::{Outcome, begun, run_site};
 use std::alloc::Global;
 use std::env::{self, Env};
 use std::io::{self, BufReader, BufWriter, Read, Write};
@@ -23,37 +30,19 @@ use std::marker::Brand;
 use std::process::ExitCode;
 use std::sync::ledger::{Blank, Ledger};
 
-// Runs a script by a new site, and answers why the run ended before the script did. Where the site
-// finds no memory, nothing is read or written.
-fn run_site<R: Source, W: Sink>(
-    alloc: Global,
-    site: Site,
-    script: &mut R,
-    out: &mut W,
-) -> Option<Fault>
-    ensures { RunsScript site.number
-        (record { calls = R.calls script.old; failures = R.failures script.old; bytes = R.remaining script.old })
-        (record { calls = R.calls script.new; failures = R.failures script.new; bytes = R.remaining script.new })
-        (record { calls = W.calls out.old; failures = W.failures out.old; bytes = W.contents out.old })
-        (record { calls = W.calls out.new; failures = W.failures out.new; bytes = W.contents out.new })
-        result }
-{
-    match SiteState::new(alloc, site, MOST_CELLS) {
-        Ok(state) => run(alloc, state, script, &[], out).fault,
-        Err(fault) => Some(fault),
-    }
-}
-
-// Runs standard input, with its reads and the writes to standard output counted in ledgers that
-// take no bytes.
+// Runs standard input by a site, with its reads and the writes to standard output counted in ledgers
+// that take no bytes.
 fn run_streams<A: Ledger, B: Ledger, C: Ledger, D: Ledger, R: Input + Print + AllocGlobal>(
     rt: &R,
-    site: Site,
+    site: SiteState,
+    files: &[(String, Vec<u8>)],
+    wants_log: bool,
     reads: Blank,
     failed_reads: Blank,
     writes: Blank,
     failed_writes: Blank,
-) -> Option<Fault>
+) -> Outcome
+    requires files { AreWithin files.now }
     requires a { (reads.name ≡ A.name) × (reads.parts ≡ A.parts) × (0 < A.parts) }
     requires b { (failed_reads.name ≡ B.name) × (failed_reads.parts ≡ B.parts) × (0 < B.parts) }
     requires c { (writes.name ≡ C.name) × (writes.parts ≡ C.parts) × (0 < C.parts) }
@@ -69,7 +58,26 @@ fn run_streams<A: Ledger, B: Ledger, C: Ledger, D: Ledger, R: Input + Print + Al
         Count::<C>::begin(writes),
         Count::<D>::begin(failed_writes),
     );
-    run_site(rt.alloc(), site, &mut script, &mut out)
+    run_site(rt.alloc(), site, files, wants_log, &mut script, &mut out)
+}
+
+// Reads all bytes of a file, with its reads counted in ledgers that take no bytes.
+fn read_bytes<A: Ledger, B: Ledger, S: Read + Drop>(
+    alloc: Global,
+    file: S,
+    reads: Blank,
+    failed_reads: Blank,
+) -> Result<Vec<u8>, Fault>
+    requires a { (reads.name ≡ A.name) × (reads.parts ≡ A.parts) × (0 < A.parts) }
+    requires b { (failed_reads.name ≡ B.name) × (failed_reads.parts ≡ B.parts) × (0 < B.parts) }
+    ensures { IfOk result (λ bytes. length bytes.items ≤ MOST_BYTES) }
+{
+    let mut file = Reader::new(
+        file,
+        Count::<A>::begin(reads),
+        Count::<B>::begin(failed_reads),
+    );
+    read_whole(alloc, &mut file)
 }
 
 // Joins two files, with their reads counted in ledgers that take no bytes.
@@ -136,6 +144,134 @@ fn file_at<'a>(rt: &'a HostRuntime, path: &'a str) -> Result<FileReader<'a>, Fau
     match BufReader::new(rt.alloc(), LazyFile::new(rt, path)) {
         Ok(file) => Ok(file),
         Err(_) => Err(Fault::NoMemory),
+    }
+}
+
+// All bytes of a file.
+fn read_path<'a>(rt: &HostRuntime, path: &'a str) -> Result<Vec<u8>, Failure<'a>>
+    ensures { IfOk result (λ bytes. length bytes.items ≤ MOST_BYTES) }
+{
+    let file = match file_at(rt, path) {
+        Ok(file) => file,
+        Err(fault) => return Err(file_failure(fault, 0, path)),
+    };
+    match read_bytes::<Brand, Brand, FileReader<'_>>(
+        rt.alloc(),
+        file,
+        Blank::new(1),
+        Blank::new(1),
+    ) {
+        Ok(bytes) => Ok(bytes),
+        Err(fault) => Err(file_failure(fault, 0, path)),
+    }
+}
+
+// A new site, with the log of a file if there is one.
+fn begun_at<'a>(
+    rt: &HostRuntime,
+    site: Site,
+    log: Option<&'a str>,
+) -> Result<SiteState, Failure<'a>> {
+    let state = match log {
+        Some(path) => begun(rt.alloc(), site, Some(read_path(rt, path)?.as_slice())),
+        None => begun(rt.alloc(), site, None),
+    };
+    match state {
+        Ok(state) => Ok(state),
+        Err((fault, offset)) => Err(log_failure(fault, offset, log)),
+    }
+}
+
+// Adds a file.
+fn add_file(
+    alloc: Global,
+    files: &mut Vec<(String, Vec<u8>)>,
+    path: &str,
+    bytes: Vec<u8>,
+) -> Result<(), Fault>
+    requires files { AreWithin files.old.items }
+    requires bytes { length bytes.items ≤ MOST_BYTES }
+    ensures { OnOk result (AreWithin files.new.items) }
+{
+    let name = String::from_str(alloc, path)?;
+    files.push((name, bytes))?;
+    Ok(())
+}
+
+// The bytes of files, with their names, in order.
+fn read_paths<'a>(
+    rt: &HostRuntime,
+    paths: &'a [String],
+) -> Result<Vec<(String, Vec<u8>)>, Failure<'a>>
+    ensures { IfOk result (λ files. AreWithin files.items) }
+{
+    let mut files = Vec::new(rt.alloc());
+    for path in paths {
+        let bytes = read_path(rt, path)?;
+        match add_file(rt.alloc(), &mut files, path, bytes) {
+            Ok(()) => {}
+            Err(fault) => return Err(file_failure(fault, 0, path)),
+        }
+    }
+    Ok(files)
+}
+
+// Writes the log's file where it is wanted.
+fn write_log<'a>(
+    rt: &HostRuntime,
+    out: Option<&'a str>,
+    log: Option<Result<Vec<u8>, Fault>>,
+) -> Option<Failure<'a>> {
+    match (out, log) {
+        (Some(path), Some(Ok(bytes))) => match write_whole(rt, path, &bytes) {
+            Ok(()) => None,
+            Err(error) => Some(write_failure(error.kind(), path)),
+        },
+        (_, Some(Err(fault))) => run_failure(Some(fault)),
+        _ => None,
+    }
+}
+
+// Runs standard input by a site, and then writes its log's file where it is wanted.
+fn run_begun<'a>(
+    rt: &HostRuntime,
+    site: SiteState,
+    files: &[(String, Vec<u8>)],
+    out: Option<&'a str>,
+) -> Option<Failure<'a>>
+    requires { AreWithin files.now }
+{
+    let Outcome { fault, log } = run_streams::<Brand, Brand, Brand, Brand, HostRuntime>(
+        rt,
+        site,
+        files,
+        out.is_some(),
+        Blank::new(1),
+        Blank::new(1),
+        Blank::new(1),
+        Blank::new(1),
+    );
+    first_failure(fault, write_log(rt, out, log))
+}
+
+// Reads the log and then the files, and runs standard input where none of these is at fault.
+fn run_paths<'a>(
+    rt: &HostRuntime,
+    site: Site,
+    log: Option<&'a str>,
+    out: Option<&'a str>,
+    files: &'a [String],
+) -> Option<Failure<'a>> {
+    let site = match begun_at(rt, site, log) {
+        Ok(site) => site,
+        Err(failure) => return Some(failure),
+    };
+    match read_paths(rt, files) {
+        Ok(files) => run_begun(rt, site, &files, out),
+        Err(failure) => {
+            drop(site);
+            Some(failure)
+        }
     }
 }
 
@@ -226,17 +362,17 @@ fn refuse(rt: &(impl Print + Eprint), fault: &LineFault) -> ExitCode {
 
 fn main(rt: HostRuntime) -> ExitCode {
     match asked(&rt) {
-        Ok(Line::Run { site }) => {
-            let fault = run_streams::<Brand, Brand, Brand, Brand, HostRuntime>(
-                &rt,
+        Ok(
+            Line::Run {
                 site,
-                Blank::new(1),
-                Blank::new(1),
-                Blank::new(1),
-                Blank::new(1),
-            );
-            end(&rt, run_failure(fault))
-        }
+                log,
+                out,
+                files,
+            },
+        ) => end(
+            &rt,
+            run_paths(&rt, site, log.as_deref(), out.as_deref(), &files),
+        ),
         Ok(Line::Join { a, b, out }) => end(&rt, join(&rt, a.as_str(), b.as_str(), out.as_str())),
         Ok(Line::Show { file }) => end(&rt, show(&rt, file.as_str())),
         Err(fault) => refuse(&rt, &fault),

@@ -1,30 +1,29 @@
 -- Words that clap takes name a subcommand, and give it all that it wants.
-use Rattle.std.proofs.Common.{◌≡◌, ◌∙◌, ◌⊎◌, ◌<◌, ◌≤◌, ◌^◌, ◌==◌, ◌||◌, ◌++◌, inl, inr, ℕ, Bool, cond, true, false, not, refl, sym, ap, subst, arith, List, [], ◌∷◌, length, length-append, drop, Option, Some, None, is_some, Result, Ok, Err, true≢false, codes}
+use Rattle.std.proofs.Common.{◌≡◌, ◌∙◌, ◌<◌, ◌^◌, ◌||◌, ◌++◌, inl, inr, ℕ, Bool, cond, true, false, not, refl, sym, ap, subst, arith, List, [], ◌∷◌, length, length-append, drop, Option, Some, None, is_some, Result, Ok, Err, true≢false, codes}
 use Rattle.std.specs.List.{fold, AllByRecursion}
 use Rattle.std.specs.Option.{option_and_then, option_map, option_map_or}
 use Rattle.std.specs.Prelude.{IfErr, IsErrAnd, find, slice_get}
 use Rattle.std.specs.Str.{bytes_eq}
 use Rattle.std.specs.Str.Parse.{ParsesUnsigned, digits_value, without_leading_plus}
-use Rattle.std.proofs.lemmas.Bool.{ne_eqb}
 use Rattle.clap.specs.Facts.{explicit_source}
-use Rattle.clap.specs.Faults.{check_fault, defaults_fault, entered_fault, fault_of, level_fault, settle_fault, use_fault, walk_fault}
-use Rattle.clap.specs.Kinds.{HasKind, or_else, range_kinds}
+use Rattle.clap.specs.Faults.{check_fault, defaults_fault, entered_fault, fault_of, level_fault, repeat_fault, set_fault, settle_fault, use_fault, values_fault, walk_fault}
+use Rattle.clap.specs.Kinds.{HasKind, or_else, range_kinds, value_kinds}
 use Rattle.clap.specs.Simple.{Shape, built, entered, filled, help_rule, names_of, rows_at, subcommand_of, with_index}
 use Rattle.clap.specs.Takes.{is_given}
+use Rattle.clap.specs.Values.{read_as}
 use Rattle.clap.specs.ValueTests.{is_unsigned_in}
-use Rattle.clap.specs.Walk.{Row, Rule, Text, default_rows, finished, has_row, more_values, nothing_held, reading_by, rows_after, settled, used, walk, walk_from, with_default, with_values, without}
+use Rattle.clap.specs.Walk.{Row, Rule, Text, default_rows, finished, has_row, more_values, nothing_held, reading_by, row_text, rows_after, settled, stronger, walk, walk_from, with_default, with_values, without}
 use Rattle.clap.specs.declared.builder.value_parser.Reading.{Reading}
-use Rattle.clap.specs.declared.error.ErrorKind.TheVariants.{DisplayHelp, InvalidValue, MissingRequiredArgument, ValueValidation, WrongNumberOfValues}
-use Rattle.clap.specs.declared.parser.ValueSource.{ValueSource}
+use Rattle.clap.specs.declared.error.ErrorKind.TheVariants.{DisplayHelp, MissingRequiredArgument, ValueValidation}
 use Rattle.clap.specs.declared.parser.ValueSource.TheVariants.{CommandLine}
 use Rattle.rt_stamps.specs.declared.limits.TheConstants.{GREATEST_SITE}
-use Rattle.clap.specs.Words.{ReadsOne, kind_of, one_of}
+use Rattle.clap.specs.Words.{ReadsOne, kind_of}
 use Rattle.clap.specs.declared.error.Error.{Error}
 use Rattle.clap.specs.declared.builder.ValueParser.TheVariants.{Unsigned}
 use Rattle.clap.proofs.ValueTestLemmas.{accepts-Accepts}
 use Rattle.rt_args.specs.declared.command_line.LineFault.{LineFault}
 use Rattle.rt_args.specs.declared.command_line.LineFault.TheVariants.{NoMemory, Usage}
-use Rattle.rt_args.specs.CommandLine.{HasFile, HasSite, IsWhole, Refuses, fault_from, file_word, is_out_of_memory, peertext, run_command, site_option}
+use Rattle.rt_args.specs.CommandLine.{HasFile, HasSite, IsWhole, Refuses, fault_from, file_word, files_word, is_out_of_memory, path_option, peertext, run_command, site_option}
 use Rattle.rt_args.proofs.Walks.{Keeps, found_all, is_full, level_sound, no_kinds, some_kind}
 
 -- ---- the subcommands, as clap builds them
@@ -49,60 +48,90 @@ show = first_or (behind (behind (built peertext).subs)) run_command.top
 abbrev site : Rule
 site = with_index 1 (filled site_option)
 
+abbrev path : Text → Rule
+path name = with_index 1 (filled (path_option name))
+
+abbrev files : Rule
+files = with_index 1 (filled files_word)
+
 abbrev help : Rule
 help = with_index 1 (filled help_rule)
 
 abbrev file : ℕ → Text → Rule
 file place name = with_index place (filled (file_word name))
 
-abbrev pub site_row : Text → Row
-site_row text = record {
-  id = codes "site";
-  values = text ∷ [];
+-- ---- rows of which each has something
+
+all_without : (Q : Row → Type 0) (id : Text) (rows : List Row) → AllByRecursion Q rows → AllByRecursion Q (without id rows)
+all_without Q id [] all = tt
+all_without Q id (r ∷ rs) all =
+    elim (bytes_eq r.id id) as (λ t. AllByRecursion Q (cond t rs (r ∷ without id rs))) [ true ↦ all.1 | false ↦ (all.0, all_without Q id rs all.1) ]
+
+-- a row keeps it with these values behind its own
+abbrev Grows : (Row → Type 0) → List Text → Type 0
+Grows Q values = (r : Row) → Q r → Q (record r { values = r.values ++ values; source = Some (stronger r.source CommandLine) })
+
+-- the row of a first use
+abbrev first_row : Text → Reading → List Text → Row
+first_row id how values = record {
+  id = id;
+  values = values;
   count = None;
   source = Some CommandLine;
-  reading = reading_by site;
+  reading = how;
 }
 
--- `--site` was given once, a number that it takes
-abbrev Given : List Row → Type 0
-Given rows = (text : Text) × (rows ≡ site_row text ∷ []) × (is_unsigned_in 1 GREATEST_SITE text ≡ true)
+all_with : (Q : Row → Type 0) (id : Text) (how : Reading) (values : List Text) (rows : List Row) → Grows Q values → Q (first_row id how values) → AllByRecursion Q rows
+    → AllByRecursion Q (with_values id how CommandLine values rows)
+all_with Q id how values [] grows first all = (first, tt)
+all_with Q id how values (r ∷ rs) grows first all =
+    elim (bytes_eq r.id id) as (λ t. AllByRecursion Q (cond t (more_values CommandLine values r ++ rs) (r ∷ with_values id how CommandLine values rs))) [
+      | true ↦ (grows r all.0, all.1)
+      | false ↦ (all.0, all_with Q id how values rs grows first all.1)
+    ]
 
--- nothing was given, or `--site` alone
-abbrev IsSound : List Row → Type 0
-IsSound rows = (rows ≡ []) ⊎ Given rows
+-- ---- one use of `--site`, of another option, of a file of a run, and of `--help`
 
--- ---- one use of `--site`, and of `--help`
+abbrev IsNumber : Row → Type 0
+IsNumber r = (text : Text) × (row_text r ≡ Some text) × (is_unsigned_in 1 GREATEST_SITE text ≡ true)
 
-accepted : (b : Bool) → or_else (cond b [] (ValueValidation ∷ [])) [] ≡ [] → b ≡ true
+-- what `--site` was given is a number that it takes
+abbrev IsSound : Row → Type 0
+IsSound r = bytes_eq r.id (codes "site") ≡ true → IsNumber r
+
+abbrev AreSound : List Row → Type 0
+AreSound rows = AllByRecursion IsSound rows
+
+first_stays : (how : Reading) (xs vs : List Text) (text : Text) → option_map (read_as how) (slice_get xs 0) ≡ Some text → option_map (read_as how) (slice_get (xs ++ vs) 0) ≡ Some text
+first_stays how [] vs text e = absurd (true≢false (ap is_some (sym e)))
+first_stays how (x ∷ xs) vs text e = e
+
+sound_grows : (values : List Text) → Grows IsSound values
+sound_grows values r sound same = (let number = sound same in (number.0, first_stays r.reading r.values values number.0 number.1, number.2))
+
+accepted : (b : Bool) → cond b [] (ValueValidation ∷ []) ≡ [] → b ≡ true
 accepted true e = refl
 accepted false e = absurd (some_kind ValueValidation [] e)
 
-first_use : (v : Text) → use_fault false site (v ∷ []) [] ≡ [] → IsSound (used site (v ∷ []) [])
-first_use v e = inr (v, refl, accepted (is_unsigned_in 1 GREATEST_SITE v) e)
+site_accepted : (v : Text) (vs : List Text) (rows : List Row) → use_fault false site (v ∷ vs) rows ≡ [] → is_unsigned_in 1 GREATEST_SITE v ≡ true
+site_accepted v vs rows e =
+    let set = (no_kinds (range_kinds 1 1 (length (v ∷ vs))) (set_fault false site (v ∷ vs) rows) e).1 in
+    let values = (no_kinds (repeat_fault false (codes "site") rows) (values_fault site (v ∷ vs)) set).1 in
+    accepted (is_unsigned_in 1 GREATEST_SITE v) (no_kinds (value_kinds false (Unsigned 1 GREATEST_SITE) v) (values_fault site vs) values).0
 
-second_use : (v t : Text) → use_fault false site (v ∷ []) (site_row t ∷ []) ≡ [] → ⊥
-second_use v t e = true≢false (ap is_full e)
+site_keeps : Keeps AreSound false site
+site_keeps [] rows all e = absurd (true≢false (ap is_full e))
+site_keeps (v ∷ vs) rows all e =
+    all_with IsSound (codes "site") (reading_by site) (v ∷ vs) (without (codes "site") rows) (sound_grows (v ∷ vs)) (λ same. (v, refl, site_accepted v vs rows e)) (all_without IsSound (codes "site") rows all)
 
-counts : (b c : Bool) → c ≡ false → cond b (InvalidValue ∷ []) (cond c [] (WrongNumberOfValues ∷ [])) ≡ [] → ⊥
-counts true c q e = some_kind InvalidValue [] e
-counts false true q e = true≢false q
-counts false false q e = some_kind WrongNumberOfValues [] e
+path_keeps : (name : Text) → bytes_eq name (codes "site") ≡ false → Keeps AreSound false (path name)
+path_keeps name other [] rows all e = absurd (true≢false (ap is_full e))
+path_keeps name other (v ∷ vs) rows all e =
+    all_with IsSound name (reading_by (path name)) (v ∷ vs) (without name rows) (sound_grows (v ∷ vs)) (λ same. absurd (true≢false (sym same ∙ other))) (all_without IsSound name rows all)
 
-not_one : (n : ℕ) → 2 ≤ n → range_kinds 1 1 n ≡ [] → ⊥
-not_one n many e =
-    let other : (1 == n) ≡ false = ne_eqb 1 n (λ same. omega arith) in
-    counts (n == 0) (1 == n) other e
-
-site_used : (values : List Text) (rows : List Row) → IsSound rows → use_fault false site values rows ≡ [] → IsSound (used site values rows)
-site_used [] rows sound e = absurd (true≢false (ap is_full e))
-site_used (v ∷ []) rows sound e = elim sound [
-  | inl none ↦ subst (λ rs. IsSound (used site (v ∷ []) rs)) (sym none) (first_use v (subst (λ rs. use_fault false site (v ∷ []) rs ≡ []) none e))
-  | inr given ↦ absurd (second_use v given.0 (subst (λ rs. use_fault false site (v ∷ []) rs ≡ []) given.1 e))
-]
-site_used (v ∷ w ∷ vs) rows sound e =
-    let many : 2 ≤ length (v ∷ w ∷ vs) = omega arith in
-    absurd (not_one (length (v ∷ w ∷ vs)) many (no_kinds (range_kinds 1 1 (length (v ∷ w ∷ vs))) _ e).0)
+files_keeps : Keeps AreSound false files
+files_keeps [] rows all e = absurd (true≢false (ap is_full e))
+files_keeps (v ∷ vs) rows all e = all_with IsSound (codes "FILE") (reading_by files) (v ∷ vs) rows (sound_grows (v ∷ vs)) (λ same. absurd (true≢false (sym same))) all
 
 help_used : (values : List Text) (rows : List Row) → use_fault false help values rows ≡ [] → ⊥
 help_used values rows e = some_kind DisplayHelp [] (no_kinds (range_kinds 0 0 (length values)) (DisplayHelp ∷ []) e).1
@@ -119,24 +148,13 @@ IsFull r = 0 < length r.values
 abbrev AreFull : List Row → Type 0
 AreFull rows = AllByRecursion IsFull rows
 
-full_without : (id : Text) (rows : List Row) → AreFull rows → AreFull (without id rows)
-full_without id [] all = tt
-full_without id (r ∷ rs) all = elim (bytes_eq r.id id) as (λ t. AreFull (cond t rs (r ∷ without id rs))) [ true ↦ all.1 | false ↦ (all.0, full_without id rs all.1) ]
-
-full_more : (r : Row) (v : Text) (vs : List Text) → 0 < length (r.values ++ v ∷ vs)
-full_more r v vs = let e = length-append r.values (v ∷ vs) in omega arith
-
-full_with : (id : Text) (how : Reading) (source : ValueSource) (v : Text) (vs : List Text) (rows : List Row) → AreFull rows → AreFull (with_values id how source (v ∷ vs) rows)
-full_with id how source v vs [] all = (omega arith, tt)
-full_with id how source v vs (r ∷ rs) all =
-    elim (bytes_eq r.id id) as (λ t. AreFull (cond t (more_values source (v ∷ vs) r ++ rs) (r ∷ with_values id how source (v ∷ vs) rs))) [
-      | true ↦ (full_more r v vs, all.1)
-      | false ↦ (all.0, full_with id how source v vs rs all.1)
-    ]
+full_grows : (v : Text) (vs : List Text) → Grows IsFull (v ∷ vs)
+full_grows v vs r full = let e = length-append r.values (v ∷ vs) in omega arith
 
 file_keeps : (place : ℕ) (name : Text) → Keeps AreFull false (file place name)
 file_keeps place name [] rows all e = absurd (true≢false (ap is_full e))
-file_keeps place name (v ∷ vs) rows all e = full_with name (reading_by (file place name)) CommandLine v vs (without name rows) (full_without name rows all)
+file_keeps place name (v ∷ vs) rows all e =
+    all_with IsFull name (reading_by (file place name)) (v ∷ vs) (without name rows) (full_grows v vs) (omega arith) (all_without IsFull name rows all)
 
 -- ---- the end of the words
 
@@ -179,21 +197,23 @@ all_given false b c e = absurd (some_kind MissingRequiredArgument [] e)
 
 -- ---- what each subcommand is given
 
-site_there : (rows : List Row) → Given rows → HasSite rows
-site_there rows given = (given.0, ap (one_of (codes "site")) given.1, given.2)
-
-was_given : (rows : List Row) → IsSound rows → check_fault run (fold with_default rows run.rules) false ≡ [] → HasSite (fold with_default rows run.rules)
-was_given rows sound e = elim sound [
-  | inl none ↦
-      let bad = subst (λ rs. check_fault run (fold with_default rs run.rules) false ≡ []) none e in
-      absurd (true≢false (ap is_full bad))
-  | inr given ↦ site_there (fold with_default rows run.rules) (given.0, ap (λ rs. fold with_default rs run.rules) given.1, given.2)
-]
+site_there : (rows : List Row) → AreSound rows → is_given (codes "site") rows ≡ true → HasSite rows
+site_there [] all e = absurd (true≢false (sym e))
+site_there (r ∷ rs) all e = go (bytes_eq r.id (codes "site")) refl (site_there rs all.1) e
+  where
+    go : (b : Bool) → bytes_eq r.id (codes "site") ≡ b → (is_given (codes "site") rs ≡ true → HasSite rs)
+        → option_map_or (λ x. explicit_source x.source) (cond b (Some r) (find (λ x. bytes_eq x.id (codes "site")) rs)) false ≡ true
+        → (text : Text) × (option_and_then row_text (cond b (Some r) (find (λ x. bytes_eq x.id (codes "site")) rs)) ≡ Some text) × (is_unsigned_in 1 GREATEST_SITE text ≡ true)
+    go true same more e = all.0 same
+    go false same more e = more e
 
 run_given : (words : List Text) → level_fault run [] nothing_held words false [] ≡ [] → HasSite (rows_after run.rules [] words)
 run_given words e =
-    let ended = level_sound IsSound run (λ p. found_all (Keeps IsSound false) p run.rules (site_used, (help_keeps IsSound, tt))) words (inl refl) e in
-    was_given (settled run.rules (walk run.rules [] nothing_held words).held).rows ended.0 ended.1
+    let ended = level_sound AreSound run (λ p. found_all (Keeps AreSound false) p run.rules
+    (site_keeps, (path_keeps (codes "log") refl, (path_keeps (codes "out") refl, (files_keeps, (help_keeps AreSound, tt)))))) words tt e in
+    let rows = rows_after run.rules [] words in
+    let sound : AreSound rows = subst AreSound (sym (no_defaults run.rules (refl, (refl, (refl, (refl, (refl, tt))))) (settled run.rules (walk run.rules [] nothing_held words).held).rows)) ended.0 in
+    site_there rows sound (one_given (is_given (codes "site") rows) ended.1)
 
 join_given : (words : List Text) → level_fault join [] nothing_held words false [] ≡ []
     → HasFile (codes "A") (rows_after join.rules [] words) × HasFile (codes "B") (rows_after join.rules [] words) × HasFile (codes "OUT") (rows_after join.rules [] words)

@@ -1,13 +1,15 @@
--- The command line of peertext, as clap reads it: `peertext run --site N`, `peertext join A B OUT` and `peertext show FILE`.
-use Rattle.std.specs.Prelude.{◌≡◌, ◌⊎◌, ℕ, List, ◌∷◌, ◌++◌, Bool, true, false, not, Option, Some, None, option_map, codes, string_bytes, [], if◌then◌else◌, ⊤}
+-- The command line of peertext, as clap reads it: `peertext run --site N [--log F] [--out F] [FILE..]`, `peertext join A B OUT`
+-- and `peertext show FILE`.
+use Rattle.std.specs.Prelude.{◌≡◌, ◌⊎◌, ℕ, List, ◌∷◌, ◌++◌, Bool, true, false, not, Option, Some, None, option_map, unwrap_or, map, codes, string_bytes, [], if◌then◌else◌, ⊤}
 use Rattle.std.specs.declared.io.ErrorKind.{ErrorKind as ReadKind}
 use Rattle.std.specs.declared.io.ErrorKind.TheVariants as read
 use Rattle.std.specs.Str.Parse.{digits_value, without_leading_plus}
 use Rattle.clap.specs.ValueTests.{is_unsigned_in}
-use Rattle.clap.specs.Words.{App, IsAmong, Row, Rule, Text, app_of, fault_of, first_of, kind_of, new_app, new_rule, one_of, rule_of, subcommand_of, with_rule, with_subcommand}
+use Rattle.clap.specs.Words.{App, IsAmong, Row, Rule, Text, all_of, app_of, fault_of, first_of, kind_of, new_app, new_rule, one_of, rule_of, subcommand_of, with_rule, with_subcommand}
 use Rattle.clap.specs.declared.builder.Arg.{Arg}
 use Rattle.clap.specs.declared.builder.Command.{Command}
 use Rattle.clap.specs.declared.builder.Command.TheViews.{out-Command as fields_of}
+use Rattle.clap.specs.declared.builder.ArgAction.TheVariants.{Append}
 use Rattle.clap.specs.declared.builder.ValueParser.TheVariants.{Unsigned}
 use Rattle.clap.specs.declared.error.Error.{Error}
 use Rattle.clap.specs.declared.error.ErrorKind.{ErrorKind}
@@ -29,9 +31,27 @@ site_option = record (new_rule (codes "site")) {
   parser = Some (Unsigned 1 GREATEST_SITE);
 }
 
--- `run --site N`
+-- `--log F` or `--out F`, which may be left out: the path of a file
+abbrev pub path_option : Text → Rule
+path_option name = record (new_rule name) {
+  long = Some name;
+  value_names = 1;
+}
+
+-- any number of words without an option before them
+abbrev pub files_word : Rule
+files_word = record (new_rule (codes "FILE")) {
+  action = Some Append;
+  value_names = 1;
+}
+
+-- `run --site N` with its options
+abbrev pub run_options : App
+run_options = with_rule (with_rule (with_rule (new_app (codes "run")) site_option) (path_option (codes "log"))) (path_option (codes "out"))
+
+-- `run --site N [--log F] [--out F] [FILE..]`
 abbrev pub run_command : App
-run_command = with_rule (new_app (codes "run")) site_option
+run_command = with_rule run_options files_word
 
 -- a program that wants a subcommand, and shows its help and its version by options alone
 abbrev pub program : App
@@ -60,7 +80,7 @@ join_command = with_rule (with_rule (with_rule (new_app (codes "join")) (file_wo
 abbrev pub show_command : App
 show_command = with_rule (new_app (codes "show")) (file_word (codes "FILE"))
 
--- `peertext run --site N`, `peertext join A B OUT` and `peertext show FILE`
+-- `peertext run`, `peertext join` and `peertext show`
 abbrev pub peertext : App
 peertext = with_subcommand (with_subcommand (with_subcommand program run_command.top) join_command.top) show_command.top
 
@@ -68,20 +88,29 @@ peertext = with_subcommand (with_subcommand (with_subcommand program run_command
 abbrev pub site_given : List Row → Option ℕ
 site_given rows = option_map (λ text. digits_value 10 (without_leading_plus text)) (one_of (codes "site") rows)
 
--- the name that was given for a file
+-- the name that was given for a file, if one was
 abbrev pub file_given : Text → List Row → Option Text
 file_given name rows = first_of name rows
 
+-- the names that were given for any number of files, in the order of the words
+abbrev pub files_given : Text → List Row → List Text
+files_given name rows = unwrap_or (all_of name rows) []
+
 -- the subcommand of a line
 abbrev pub subcommand_name : Line → Text
-subcommand_name (Run site) = codes "run"
+subcommand_name (Run site log out files) = codes "run"
 subcommand_name (Join a b out) = codes "join"
 subcommand_name (Show file) = codes "show"
 
 -- a line has what the subcommand was given
 abbrev pub HasValues : List Row → Line → Type 0
-HasValues rows (Run site) = site_given rows ≡ Some site.number
-HasValues rows (Join a b out) = (file_given (codes "A") rows ≡ Some (string_bytes a)) × (file_given (codes "B") rows ≡ Some (string_bytes b)) × (file_given (codes "OUT") rows ≡ Some (string_bytes out))
+HasValues rows (Run site log out files) =
+    (site_given rows ≡ Some site.number)
+    × (file_given (codes "log") rows ≡ option_map string_bytes log) × (file_given (codes "out") rows ≡ option_map string_bytes out)
+    × (files_given (codes "FILE") rows ≡ map string_bytes files.items)
+HasValues rows (Join a b out) =
+    (file_given (codes "A") rows ≡ Some (string_bytes a)) × (file_given (codes "B") rows ≡ Some (string_bytes b))
+    × (file_given (codes "OUT") rows ≡ Some (string_bytes out))
 HasValues rows (Show file) = file_given (codes "FILE") rows ≡ Some (string_bytes file)
 
 -- A line says what a subcommand is, and what it was given.

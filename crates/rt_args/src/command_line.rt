@@ -11,12 +11,25 @@ use std::{fmt, io};
 /// What a command line asks for.
 #[derive(Drop)]
 pub enum Line {
-    /// A run of a script by a site.
-    Run { site: Site },
+    /// A run of a script by a site, with the path of its log's file, that of the file which gets the
+    /// log after the script, and those of the files that the script may name, in the order of the
+    /// words.
+    Run {
+        site: Site,
+        log: Option<String>,
+        out: Option<String>,
+        files: Vec<String>,
+    },
     /// The join of the files A and B, to be written into OUT.
-    Join { a: String, b: String, out: String },
+    Join {
+        a: String,
+        b: String,
+        out: String,
+    },
     /// The lines of a file of operations.
-    Show { file: String },
+    Show {
+        file: String,
+    },
 }
 
 /// Why a command line asks for nothing.

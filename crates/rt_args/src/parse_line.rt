@@ -1,13 +1,13 @@
 // The command line, by clap.
-ghost use Rattle.std.specs.Prelude.{◌≡◌, ◌<◌, IfErr, IfOk, Some, codes, false, map, string_bytes};
+ghost use Rattle.std.specs.Prelude.{◌≡◌, ◌<◌, IfErr, IfOk, Some, codes, false, map, option_map, string_bytes};
 ghost use Rattle.clap.specs.Words.{app_of, found_of, new_app, rows_of, rule_of, subcommand_rows_of, with_rule, with_subcommand};
 ghost use Rattle.clap.specs.declared.builder.Command.TheViews.{out-Command as fields_of};
-ghost use Rattle.rt_args.specs.CommandLine.{HasFile, HasSite, HasValues, IsCommand, IsOption, IsWhole, LineIn, LineOf, Refuses, Takes, file_given, file_word, join_command, peertext, program, run_command, show_command, site_given, site_option, subcommand_name};
+ghost use Rattle.rt_args.specs.CommandLine.{HasFile, HasSite, HasValues, IsCommand, IsOption, IsWhole, LineIn, LineOf, Refuses, Takes, file_given, file_word, files_given, files_word, join_command, path_option, peertext, program, run_command, run_options, show_command, site_given, site_option, subcommand_name};
 ghost use Rattle.rt_args.specs.declared.command_line.LineFault.TheVariants.{NoMemory};
 
 use crate::{Line, LineFault};
 use clap::builder::ValueParser;
-use clap::{Arg, ArgMatches, Command};
+use clap::{Arg, ArgAction, ArgMatches, Command};
 use rt_stamps::Site;
 use rt_stamps::limits::GREATEST_SITE;
 use std::alloc::{AllocError, Global};
@@ -39,13 +39,41 @@ fn with_command<'a>(command: Command<'a>, below: Command<'a>) -> Result<Command<
     command.subcommand(below)
 }
 
+fn path_option<'a>(alloc: Global, name: &'a str, help: &'a str) -> Arg<'a>
+    ensures { IsOption (path_option name.now) result }
+{
+    Arg::new(alloc, name).long(name).value_name("F").help(help)
+}
+
+fn files_word<'a>(alloc: Global) -> Arg<'a>
+    ensures { IsOption files_word result }
+{
+    Arg::new(alloc, "FILE")
+        .value_name("FILE")
+        .action(ArgAction::Append)
+        .help("A file of operations that the script may receive")
+}
+
+fn run_options<'a>(alloc: Global) -> Result<Command<'a>, AllocError>
+    ensures { IfOk result (IsCommand run_options) }
+{
+    let log = path_option(
+        alloc,
+        "log",
+        "The file of the log that the site begins with",
+    );
+    let out = path_option(alloc, "out", "The file that gets the log after the script");
+    let command = Command::new(alloc, "run").about("Runs a script");
+    with_option(
+        with_option(with_option(command, site_option(alloc))?, log)?,
+        out,
+    )
+}
+
 fn run_command<'a>(alloc: Global) -> Result<Command<'a>, AllocError>
     ensures { IfOk result (IsCommand run_command) }
 {
-    with_option(
-        Command::new(alloc, "run").about("Runs a script"),
-        site_option(alloc),
-    )
+    with_option(run_options(alloc)?, files_word(alloc))
 }
 
 fn file_word<'a>(alloc: Global, name: &'a str, help: &'a str) -> Arg<'a>
@@ -147,6 +175,55 @@ fn join_in(alloc: Global, join: &ArgMatches<'_>) -> Result<Line, LineFault>
     Ok(Line::Join { a, b, out })
 }
 
+// The path that an option was given, if it was.
+fn path_in(alloc: Global, run: &ArgMatches<'_>, name: &str) -> Result<Option<String>, LineFault>
+    ensures path { IfOk result (λ path. file_given name.now (rows_of (found_of run.now)) ≡ option_map string_bytes path) }
+    ensures fault { IfErr result (λ fault. fault ≡ NoMemory) }
+{
+    match run.get_str(name) {
+        Some(path) => Ok(Some(String::from_str(alloc, path)?)),
+        None => Ok(None),
+    }
+}
+
+fn copied(alloc: Global, texts: &[&str]) -> Result<Vec<String>, AllocError>
+    ensures { IfOk result (λ copies. map string_bytes copies.items ≡ map (λ text. text.now) texts.now) }
+{
+    let mut copies = Vec::with_capacity(alloc, texts.len())?;
+    for text in texts {
+        copies.push(String::from_str(alloc, text)?)?;
+    }
+    Ok(copies)
+}
+
+// The names of the files that a subcommand was given, as many as there are.
+fn files_in(alloc: Global, run: &ArgMatches<'_>, name: &str) -> Result<Vec<String>, LineFault>
+    ensures files { IfOk result (λ files. files_given name.now (rows_of (found_of run.now)) ≡ map string_bytes files.items) }
+    ensures fault { IfErr result (λ fault. fault ≡ NoMemory) }
+{
+    match run.get_raw(name) {
+        Some(files) => Ok(copied(alloc, files)?),
+        None => Ok(Vec::new(alloc)),
+    }
+}
+
+fn run_in(alloc: Global, run: &ArgMatches<'_>) -> Result<Line, LineFault>
+    requires { HasSite (rows_of (found_of run.now)) }
+    ensures line { IfOk result (λ line. (subcommand_name line ≡ codes "run") × HasValues (rows_of (found_of run.now)) line) }
+    ensures fault { IfErr result (λ fault. fault ≡ NoMemory) }
+{
+    let site = site_in(run);
+    let log = path_in(alloc, run, "log")?;
+    let out = path_in(alloc, run, "out")?;
+    let files = files_in(alloc, run, "FILE")?;
+    Ok(Line::Run {
+        site,
+        log,
+        out,
+        files,
+    })
+}
+
 // The line of a subcommand that was given all that it wants.
 fn line_in(alloc: Global, matches: &ArgMatches<'_>) -> Result<Line, LineFault>
     requires { IsWhole (subcommand_rows_of matches.now) }
@@ -154,7 +231,7 @@ fn line_in(alloc: Global, matches: &ArgMatches<'_>) -> Result<Line, LineFault>
     ensures fault { IfErr result (λ fault. fault ≡ NoMemory) }
 {
     match matches.subcommand_matches("run") {
-        Some(run) => Ok(Line::Run { site: site_in(run) }),
+        Some(run) => run_in(alloc, run),
         None => match matches.subcommand_matches("join") {
             Some(join) => join_in(alloc, join),
             None => {
@@ -166,8 +243,9 @@ fn line_in(alloc: Global, matches: &ArgMatches<'_>) -> Result<Line, LineFault>
     }
 }
 
-/// Reads a command line, whose first word is the program's name: `peertext run --site N`, for an N
-/// from 1 to `GREATEST_SITE`, `peertext join A B OUT` or `peertext show FILE`.
+/// Reads a command line, whose first word is the program's name: `peertext run --site N [--log F]
+/// [--out F] [FILE..]`, for an N from 1 to `GREATEST_SITE`, `peertext join A B OUT` or `peertext show
+/// FILE`.
 pub fn line(alloc: Global, words: &[&str]) -> Result<Line, LineFault>
     ensures line { IfOk result (LineOf (map (λ w. w.now) words.now)) }
     ensures takes { IfOk result (λ _. Takes (map (λ w. w.now) words.now)) }
@@ -180,14 +258,44 @@ pub fn line(alloc: Global, words: &[&str]) -> Result<Line, LineFault>
 #[cfg(test)]
 mod tests {
     use crate::{Line, line};
+    use rt_stamps::Site;
     use std::alloc::Global;
+    use std::fmt::Write;
     use std::test::Fail;
+
+    // The words of a run: the site, the log and OUT where they are given, and the files.
+    fn run_text(
+        alloc: Global,
+        site: Site,
+        log: Option<String>,
+        out: Option<String>,
+        files: Vec<String>,
+    ) -> Result<String, Fail> {
+        let mut text = format!(in alloc; "run {}", site.number())?;
+        if let Some(log) = log {
+            write!(text, " log {log}")?;
+        }
+        if let Some(out) = out {
+            write!(text, " out {out}")?;
+        }
+        for file in &files {
+            write!(text, " {file}")?;
+        }
+        Ok(text)
+    }
 
     // What a command line asks for, or the status with which it is refused.
     fn answer(alloc: Global, text: &str) -> Result<Result<String, u8>, Fail> {
         let words: Vec<&str> = text.split(' ').collect(alloc)?;
         Ok(match line(alloc, words.as_slice()) {
-            Ok(Line::Run { site }) => Ok(format!(in alloc; "run {}", site.number())?),
+            Ok(
+                Line::Run {
+                    site,
+                    log,
+                    out,
+                    files,
+                },
+            ) => Ok(run_text(alloc, site, log, out, files)?),
             Ok(Line::Join { a, b, out }) => Ok(format!(in alloc; "join {a} {b} {out}")?),
             Ok(Line::Show { file }) => Ok(format!(in alloc; "show {file}")?),
             Err(fault) => Err(fault.status()),
@@ -200,6 +308,35 @@ mod tests {
             ("peertext run --site 7", Ok("run 7")),
             ("peertext run --site 1", Ok("run 1")),
             ("peertext run --site=65535", Ok("run 65535")),
+            ("peertext run --site 7 --log a", Ok("run 7 log a")),
+            ("peertext run --out a --site 7", Ok("run 7 out a")),
+            (
+                "peertext run --site 7 --log a --out b",
+                Ok("run 7 log a out b"),
+            ),
+            (
+                "peertext run --out=b --site=7 --log=a c",
+                Ok("run 7 log a out b c"),
+            ),
+            (
+                "peertext run a --site 7 b --log l c --out o a",
+                Ok("run 7 log l out o a b c a"),
+            ),
+            (
+                "peertext run --site 7 -- --log a --",
+                Ok("run 7 --log a --"),
+            ),
+            (
+                "peertext run --site 7 a -- -b --out=c",
+                Ok("run 7 a -b --out=c"),
+            ),
+            (
+                "peertext run --site 7 --log same --out same same",
+                Ok("run 7 log same out same same"),
+            ),
+            ("peertext run --site 7 --log= more", Ok("run 7 log  more")),
+            ("peertext run --site 7 run join", Ok("run 7 run join")),
+            ("peertext run --site 7 -", Ok("run 7 -")),
             ("peertext join a b c", Ok("join a b c")),
             ("peertext join -- -a b -c", Ok("join -a b -c")),
             ("peertext join run join show", Ok("join run join show")),
@@ -218,7 +355,17 @@ mod tests {
             ("peertext run", Err(2)),
             ("peertext run --site 7 --site 7", Err(2)),
             ("peertext run --site 7 --slow", Err(2)),
-            ("peertext run --site 7 more", Err(2)),
+            ("peertext run --site 7 --log", Err(2)),
+            ("peertext run --site 7 --out", Err(2)),
+            ("peertext run --site 7 --log --out b", Err(2)),
+            ("peertext run --site 7 --log a --log a", Err(2)),
+            ("peertext run --site 7 --out a b --out=c", Err(2)),
+            ("peertext run --site 7 a --site 7", Err(2)),
+            ("peertext run --log a --out b c", Err(2)),
+            ("peertext run --site 7 -b", Err(2)),
+            ("peertext run a -- --site 7", Err(2)),
+            ("peertext join --log a b c d", Err(2)),
+            ("peertext show --out a b", Err(2)),
             ("peertext walk --site 7", Err(2)),
             ("peertext --site 7", Err(2)),
             ("peertext", Err(2)),

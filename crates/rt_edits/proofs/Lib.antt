@@ -7,6 +7,7 @@ pub mod DeletionDraftLaws
 pub mod DeletionsInTurn
 pub mod DistinctLaws
 pub mod DraftSteps
+pub mod ForgottenNames
 pub mod FoundLaws
 pub mod GoneLaws
 pub mod InsertDraftLaws

@@ -65,11 +65,9 @@ pub fn list_if(tags: &mut TagTable, on: bool, name: &str)
     }
 }
 
-/// Forgets names in turn. It takes no memory.
+/// Forgets names, at once. It takes no memory.
 pub fn forget_all(tags: &mut TagTable, names: &[String])
     ensures { tags.new.names ≡ all_forgotten (map (λ w. string_bytes w) names.now) tags.old.names }
 {
-    for name in names {
-        tags.forget(name);
-    }
+    tags.forget_all(names);
 }

@@ -17,10 +17,10 @@ use Rattle.rt_oplog.specs.Operations.{Operation, stamp_of}
 use Rattle.rt_oplog.specs.Rules.{each_next}
 use Rattle.rt_oplog.specs.File.{magic, number, content_of, record_of, spelling, HasRecord, AreInFile}
 use Rattle.rt_oplog.specs.Reading.{file_name, head_fault, offsets_from, EndsEarly, IsEnd, ReadsAs, Reads, may_follow}
-use Rattle.rt_oplog.specs.Intake.{ReaderState, Takes, IsStopped, HasNoRecord, Fails, AtEnd, GetsHead, FILE_BOUNDS, HasRead, IsTold, ReadsFile, LacksMemory}
+use Rattle.rt_oplog.specs.Intake.{ReaderState, Takes, Finishes, IsStopped, HasNoRecord, Fails, GetsHead, FILE_BOUNDS, HasRead, IsTold, ReadsFile, LacksMemory}
 use Rattle.rt_oplog.proofs.Lengths.{length_4, same_front, content_short}
 use Rattle.rt_oplog.proofs.Spells.{front_same_4, same_content}
-use Rattle.rt_oplog.proofs.Taken.{takes_then, stopped_then}
+use Rattle.rt_oplog.proofs.Taken.{takes_then, finishes_then, stopped_then, magic_length}
 
 -- ---- records
 
@@ -61,10 +61,6 @@ offsets_push at (q ∷ ops) op =
     let rest = offsets_push (at + length (record_of q)) ops op in
     let same : (at + length (record_of q)) + length (flat_map record_of ops) ≡ at + length (record_of q ++ flat_map record_of ops) = omega (arith, length-append (record_of q) (flat_map record_of ops)) in
     ap (λ v. at ∷ v) (rest ∙ ap (λ n. offsets_from (at + length (record_of q)) ops ++ n ∷ []) same)
-
-pub magic_length : length magic ≡ 8
-unfolding magic
-magic_length = refl
 
 pub spelling_length : (ops : List Operation) → length (spelling ops) ≡ 8 + length (flat_map record_of ops)
 spelling_length ops = omega (arith, length-append magic (flat_map record_of ops), magic_length)
@@ -148,7 +144,10 @@ reads_head bytes front rest fault parts short end found =
 -- ---- how reading a file ends
 
 pub has_read : (a b : ReaderState) (y : Bounds) (bytes : List ℕ) → Takes a b FILE_BOUNDS y bytes → HasRead a b bytes
-has_read a b y bytes h = record { consumed = h.consumed; within = omega (arith, h.room); failures = h.failures; calls = omega (arith, h.calls) }
+has_read a b y bytes h = record { consumed = h.consumed; within = omega (arith, h.room); failures = h.failures; calls = omega (arith, h.calls, h.room) }
+
+pub has_finished : (a b : ReaderState) (y : Bounds) (bytes : List ℕ) → Finishes a b FILE_BOUNDS y bytes → HasRead a b bytes
+has_finished a b y bytes h = record { consumed = h.consumed; within = omega (arith, h.room); failures = h.failures; calls = omega (arith, h.calls, h.room) }
 
 kinds_of_head : (a b c : Bool) (fault : Fault) → cond (not a) (Some BadMagic) (cond b (Some Truncated) (cond c None (Some BadVersion))) ≡ Some fault → fault ≡ NoMemory → ⊥
 kinds_of_head false b c fault e is = cc
@@ -160,10 +159,10 @@ kinds_of_head true false false fault e is = cc
 not_memory : (front : List ℕ) (fault : Fault) → head_fault front ≡ Some fault → fault ≡ NoMemory → ⊥
 not_memory front fault e = kinds_of_head (bytes_eq (take 7 front) (take (length front) file_name)) (nat_lt (length front) 8) (bytes_eq front magic) fault e
 
-pub ends_whole : (a b c : ReaderState) (y z : Bounds) (ops : List Operation) (offsets : List ℕ) → Takes a b FILE_BOUNDS y (spelling ops) → AreInFile ops → offsets ≡ offsets_from 8 ops → AtEnd b c y z → ReadsFile a c ops offsets None
+pub ends_whole : (a b c : ReaderState) (y z : Bounds) (ops : List Operation) (offsets : List ℕ) → Takes a b FILE_BOUNDS y (spelling ops) → AreInFile ops → offsets ≡ offsets_from 8 ops → Finishes b c y z [] → ReadsFile a c ops offsets None
 ends_whole a b c y z ops offsets h are off e =
     let bytes = spelling ops ++ [] in
-    inl (bytes, has_read a c z bytes (takes_then a b c FILE_BOUNDS y z (spelling ops) [] h e.0), inl (e.1, reads_records bytes ops offsets None [] refl are off refl))
+    inl (bytes, has_finished a c z bytes (finishes_then a b c FILE_BOUNDS y z (spelling ops) [] h e), inl (e.at_end, reads_records bytes ops offsets None [] refl are off refl))
 
 pub ends_fault : (a b c : ReaderState) (y z : Bounds) (ops : List Operation) (offsets : List ℕ) (fault : Fault) (at : ℕ) → Takes a b FILE_BOUNDS y (spelling ops) → AreInFile ops → offsets ≡ offsets_from 8 ops → Fails b c y z fault
     → (fault ≡ NoMemory → ⊥) → at ≡ length (spelling ops) → ReadsFile a c ops offsets (Some (fault, at))
@@ -175,11 +174,11 @@ ends_fault a b c y z ops offsets fault at h are off fails other place = by fails
     bytes : List ℕ
     bytes = spelling ops ++ taken
 
-    truncated : (fault ≡ Truncated) × Takes b c y z taken × IsAtEnd c.left × (0 < length taken) × EndsEarly taken → ReadsFile a c ops offsets (Some (fault, at))
+    truncated : (fault ≡ Truncated) × Finishes b c y z taken × (0 < length taken) × EndsEarly taken → ReadsFile a c ops offsets (Some (fault, at))
     truncated t = inl (
       bytes,
-      has_read a c z bytes (takes_then a b c FILE_BOUNDS y z (spelling ops) taken h t.1),
-      inl (t.2, reads_records bytes ops offsets (Some (fault, at)) taken refl are off (place, inl (t.0, (t.3, t.4)))),
+      has_finished a c z bytes (finishes_then a b c FILE_BOUNDS y z (spelling ops) taken h t.1),
+      inl (t.1.at_end, reads_records bytes ops offsets (Some (fault, at)) taken refl are off (place, inl (t.0, (t.2, t.3)))),
     )
 
     broken : (fault ≡ BadRecord) × Takes b c y z taken × HasNoRecord taken → ReadsFile a c ops offsets (Some (fault, at))
@@ -200,7 +199,7 @@ ends_fault a b c y z ops offsets fault at h are off fails other place = by fails
     )
 
     by : ((fault ≡ NoMemory) × Takes b c y z taken)
-        ⊎ (((fault ≡ Truncated) × Takes b c y z taken × IsAtEnd c.left × (0 < length taken) × EndsEarly taken)
+        ⊎ (((fault ≡ Truncated) × Finishes b c y z taken × (0 < length taken) × EndsEarly taken)
         ⊎ (((fault ≡ BadRecord) × Takes b c y z taken × HasNoRecord taken)
         ⊎ ((fault ≡ ReadFault) × IsStopped b c y taken × EndsEarly taken))) → ReadsFile a c ops offsets (Some (fault, at))
     by (inl memory) = absurd (other memory.0)
@@ -232,12 +231,15 @@ ends_unrisen a b c y z ops offsets op at h are off t has out place =
     )
 
 pub ends_head : (a b : ReaderState) (y : Bounds) (fault : Fault) → (bytes : List ℕ) × (((fault ≡ NoMemory) × Takes a b FILE_BOUNDS y bytes)
-    ⊎ (((head_fault bytes ≡ Some fault) × Takes a b FILE_BOUNDS y bytes × (length bytes ≤ 8) × (length bytes < 8 → IsAtEnd b.left))
+    ⊎ (((head_fault bytes ≡ Some fault) × (length bytes ≤ 8) × (8 ≤ length bytes → Takes a b FILE_BOUNDS y bytes) × (length bytes < 8 → Finishes a b FILE_BOUNDS y bytes))
     ⊎ ((fault ≡ ReadFault) × IsStopped a b FILE_BOUNDS bytes × (length bytes < 8)))) → (fault ≡ NoMemory → ⊥) → ReadsFile a b [] [] (Some (fault, 0))
 ends_head a b y fault gets other = by gets.1
   where
     bytes : List ℕ
     bytes = gets.0
+
+    read : (8 ≤ length bytes → Takes a b FILE_BOUNDS y bytes) → (length bytes < 8 → Finishes a b FILE_BOUNDS y bytes) → HasRead a b bytes
+    read takes finishes = elim (cases_lt (length bytes) 8) [ inl lt ↦ has_finished a b y bytes (finishes lt) | inr le ↦ has_read a b y bytes (takes le) ]
 
     told : head_fault bytes ≡ Some fault → length bytes ≤ 8 → (length bytes < 8 → IsAtEnd b.left) → IsTold b.left bytes [] [] (Some (fault, 0))
     told found short end = elim (cases_lt (length bytes) 8) [
@@ -246,10 +248,10 @@ ends_head a b y fault gets other = by gets.1
     ]
 
     by : ((fault ≡ NoMemory) × Takes a b FILE_BOUNDS y bytes)
-        ⊎ (((head_fault bytes ≡ Some fault) × Takes a b FILE_BOUNDS y bytes × (length bytes ≤ 8) × (length bytes < 8 → IsAtEnd b.left))
+        ⊎ (((head_fault bytes ≡ Some fault) × (length bytes ≤ 8) × (8 ≤ length bytes → Takes a b FILE_BOUNDS y bytes) × (length bytes < 8 → Finishes a b FILE_BOUNDS y bytes))
         ⊎ ((fault ≡ ReadFault) × IsStopped a b FILE_BOUNDS bytes × (length bytes < 8))) → ReadsFile a b [] [] (Some (fault, 0))
     by (inl memory) = absurd (other memory.0)
-    by (inr (inl t)) = inl (bytes, has_read a b y bytes t.1, told t.0 t.2 t.3)
+    by (inr (inl t)) = inl (bytes, read t.2 t.3, told t.0 t.1 (λ lt. (t.3 lt).at_end))
     by (inr (inr t)) = inr (0, bytes, ap (λ f. Some (f, 0)) t.0, inl (t.2, refl, refl, refl), t.1)
 
 -- ---- an offset for each operation
@@ -265,6 +267,11 @@ reads_length bytes ops offsets fault h = by (head_fault (take 8 bytes)) h
     by (Some found) r = ap length r.1 ∙ sym (ap length r.0)
     by None r = ap length r.3 ∙ offsets_length 8 ops
 
+pub each_has_place : {R : Type 0} (result : Result R Fault) (bytes : List ℕ) (view : R → List Operation) (places : R → List ℕ) (found : R → Option (Fault × ℕ)) → IfOk result (λ r. Reads bytes (view r) (places r) (found r))
+    → IfOk result (λ r. length (places r) ≡ length (view r))
+each_has_place (Ok r) bytes view places found h = reads_length bytes (view r) (places r) (found r) h
+each_has_place (Err fault) bytes view places found h = tt
+
 pub offset_each : (a b : ReaderState) (ops : List Operation) (offsets : List ℕ) (fault : Option (Fault × ℕ)) → ReadsFile a b ops offsets fault → length offsets ≡ length ops
 offset_each a b ops offsets fault (inl h) = elim h.2 [ inl t ↦ reads_length h.0 ops offsets fault t.1 | inr f ↦ reads_length (h.0 ++ []) ops offsets fault (f []) ]
 offset_each a b ops offsets fault (inr h) = elim h.3 [ inl s ↦ ap length s.2 ∙ sym (ap length s.1) | inr s ↦ ap length s.3 ∙ offsets_length 8 ops ]
@@ -278,7 +285,7 @@ memory_in a b c y z taken fault h fails is = by fails.1
     more = fails.0
 
     by : ((fault ≡ NoMemory) × Takes b c y z more)
-        ⊎ (((fault ≡ Truncated) × Takes b c y z more × IsAtEnd c.left × (0 < length more) × EndsEarly more)
+        ⊎ (((fault ≡ Truncated) × Finishes b c y z more × (0 < length more) × EndsEarly more)
         ⊎ (((fault ≡ BadRecord) × Takes b c y z more × HasNoRecord more)
         ⊎ ((fault ≡ ReadFault) × IsStopped b c y more × EndsEarly more))) → LacksMemory a c
     by (inl t) = (taken ++ more, has_read a c z (taken ++ more) (takes_then a b c FILE_BOUNDS y z taken more h t.1))
@@ -299,7 +306,7 @@ memory_first a b y fault gets is = by gets.1
     other e = not_memory bytes fault e is
 
     by : ((fault ≡ NoMemory) × Takes a b FILE_BOUNDS y bytes)
-        ⊎ (((head_fault bytes ≡ Some fault) × Takes a b FILE_BOUNDS y bytes × (length bytes ≤ 8) × (length bytes < 8 → IsAtEnd b.left))
+        ⊎ (((head_fault bytes ≡ Some fault) × (length bytes ≤ 8) × (8 ≤ length bytes → Takes a b FILE_BOUNDS y bytes) × (length bytes < 8 → Finishes a b FILE_BOUNDS y bytes))
         ⊎ ((fault ≡ ReadFault) × IsStopped a b FILE_BOUNDS bytes × (length bytes < 8))) → LacksMemory a b
     by (inl t) = (bytes, has_read a b y bytes t.1)
     by (inr (inl t)) = absurd (other t.0)

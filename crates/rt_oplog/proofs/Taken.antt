@@ -6,7 +6,7 @@ use Rattle.std.proofs.lemmas.Bool.{false≢true}
 use Rattle.std.proofs.lemmas.Bool.Decides.{nat_tests}
 use Rattle.std.proofs.lemmas.Slice.Eq.{bytes_eq-Decides}
 use Rattle.std.specs.Int.{w32}
-use Rattle.std.specs.Io.KnownBytes.{Consumes, IsAtEnd}
+use Rattle.std.specs.Io.KnownBytes.{Consumes}
 use Rattle.std.proofs.lemmas.List.{length-append, nil_from_length}
 use Rattle.rt_stamps.specs.declared.limits.TheConstants.{FEWEST_RECORD_BYTES, MOST_RECORD_BYTES}
 use Rattle.rt_stamps.specs.declared.fault.Fault.{Fault}
@@ -17,7 +17,7 @@ use Rattle.rt_oplog.specs.Decoding.{Refuses}
 use Rattle.rt_oplog.specs.File.{magic, number, content_of, record_of, HasRecord}
 use Rattle.rt_oplog.specs.Rules.{is_within}
 use Rattle.rt_oplog.specs.Reading.{file_name, head_fault, EndsEarly}
-use Rattle.rt_oplog.specs.Intake.{ReaderState, Takes, IsStopped, HasNoRecord, Fails, GetsHead}
+use Rattle.rt_oplog.specs.Intake.{ReaderState, Takes, Finishes, IsStopped, HasNoRecord, Fails, GetsHead}
 use Rattle.rt_oplog.proofs.Lengths.{length_4, same_front, content_length, content_short}
 use Rattle.rt_oplog.proofs.Spells.{front_same_4}
 
@@ -32,26 +32,32 @@ consumes_then (Some xs) (Some ys) None s t h k = k
 consumes_then (Some xs) (Some ys) (Some zs) s t h k = h ∙ ap (λ v. s ++ v) k ∙ sym (append_assoc s t zs)
 
 pub takes_none : (a : ReaderState) (x : Bounds) → Takes a a x x []
-takes_none a x = record { consumed = consumes_none a.left; failures = refl; calls = refl; room = omega arith }
+takes_none a x = record { consumed = consumes_none a.left; failures = refl; calls = omega arith; room = omega arith }
 
 pub takes_then : (a b c : ReaderState) (x y z : Bounds) (s t : List ℕ) → Takes a b x y s → Takes b c y z t → Takes a c x z (s ++ t)
 takes_then a b c x y z s t h k = record {
   consumed = consumes_then a.left b.left c.left s t h.consumed k.consumed;
   failures = k.failures ∙ h.failures;
-  calls = omega (arith, h.calls, k.calls);
+  calls = omega (arith, h.calls, k.calls, length-append s t);
   room = omega (arith, h.room, k.room, length-append s t);
+}
+
+pub finishes_then : (a b c : ReaderState) (x y z : Bounds) (s t : List ℕ) → Takes a b x y s → Finishes b c y z t → Finishes a c x z (s ++ t)
+finishes_then a b c x y z s t h k = record {
+  consumed = consumes_then a.left b.left c.left s t h.consumed k.consumed;
+  failures = k.failures ∙ h.failures;
+  calls = omega (arith, h.calls, k.calls, length-append s t);
+  room = omega (arith, h.room, k.room, length-append s t);
+  at_end = k.at_end;
 }
 
 pub stopped_then : (a b c : ReaderState) (x y : Bounds) (s t : List ℕ) → Takes a b x y s → IsStopped b c y t → IsStopped a c x (s ++ t)
 stopped_then a b c x y s t h k = record {
   within = omega (arith, h.room, k.within, length-append s t);
-  calls = omega (arith, h.calls, k.calls);
+  calls = omega (arith, h.calls, k.calls, length-append s t);
   cause = elim k.cause [
     | inl failed ↦ inl (consumes_then a.left b.left c.left s t h.consumed failed.0, failed.1 ∙ ap (λ n. n + 1) h.failures)
-    | inr more ↦ elim more [
-      | inl spent ↦ inr (inl (consumes_then a.left b.left c.left s t h.consumed spent.0, spent.1 ∙ h.failures, omega (arith, spent.2, h.calls)))
-      | inr over ↦ inr (inr (over.0, subst (Consumes a.left c.left) (sym (append_assoc s t (over.0 ∷ []))) (consumes_then a.left b.left c.left s (t ++ over.0 ∷ []) h.consumed over.1), over.2 ∙ h.failures, omega (arith, over.3, h.room, length-append s t)))
-    ]
+    | inr over ↦ inr (over.0, subst (Consumes a.left c.left) (sym (append_assoc s t (over.0 ∷ []))) (consumes_then a.left b.left c.left s (t ++ over.0 ∷ []) h.consumed over.1), over.2 ∙ h.failures, omega (arith, over.3, h.room, length-append s t))
   ];
 }
 
@@ -117,20 +123,20 @@ not_decoded a b x y content n fault h least most size (inr bad) = (number w32 n 
 
 -- ---- several reads
 
-pub takes_empty : (a b c : ReaderState) (x y z : Bounds) (s buf : List ℕ) (n : ℕ) → n ≡ 0 → Takes a b x y s → Takes b c y z (take n buf) → Takes a c x z s
-takes_empty a b c x y z s buf n none h k = subst (Takes a c x z) (append-nil s) (takes_then a b c x y z s [] h (subst (λ m. Takes b c y z (take m buf)) none k))
+pub finishes_in : (a b c : ReaderState) (x y z : Bounds) (s : List ℕ) → Takes a b x y s → Finishes b c y z [] → Finishes a c x z s
+finishes_in a b c x y z s h k = subst (Finishes a c x z) (append-nil s) (finishes_then a b c x y z s [] h k)
 
 pub stopped_in : (a b c : ReaderState) (x y : Bounds) (s : List ℕ) → Takes a b x y s → IsStopped b c y [] → IsStopped a c x s
 stopped_in a b c x y s h k = subst (IsStopped a c x) (append-nil s) (stopped_then a b c x y s [] h k)
 
 -- ---- a length field
 
-pub refused_length : (a b : ReaderState) (x y : Bounds) (s rest : List ℕ) (n : ℕ) → n < 2 ^ 32 → s ≡ number w32 n ++ rest → length s ≤ 4 → Takes a b x y s → is_within FEWEST_RECORD_BYTES MOST_RECORD_BYTES n ≡ false → Fails a b x y BadRecord
+pub refused_length : (a b : ReaderState) (x y : Bounds) (s rest : List ℕ) (n : ℕ) → n < 2 ^ 32 → s ≡ number w32 n ++ rest → length s ≤ 4 → (4 ≤ length s → Takes a b x y s) → is_within FEWEST_RECORD_BYTES MOST_RECORD_BYTES n ≡ false → Fails a b x y BadRecord
 refused_length a b x y s rest n few parts short h out = (
   s,
   inr (inr (inl (
     refl,
-    h,
+    h (omega (arith, ap length parts, length-append (number w32 n) rest, length_4 n)),
     bad_length s n few (only_length s rest n parts short) (λ range.
         let inside : is_within FEWEST_RECORD_BYTES MOST_RECORD_BYTES n ≡ true = grind (arith, nat_tests, range.0, range.1) in
         false≢true (sym out ∙ inside)),
@@ -139,9 +145,9 @@ refused_length a b x y s rest n few parts short h out = (
 
 -- ---- what a record has behind it
 
-pub cut_content : (a b c : ReaderState) (x y z : Bounds) (n : ℕ) (content : List ℕ) → Takes a b x y (number w32 n) → FEWEST_RECORD_BYTES ≤ n → n ≤ MOST_RECORD_BYTES → Takes b c y z content → length content < n → (length content < n → IsAtEnd c.left) → Fails a c x z Truncated
-cut_content a b c x y z n content h least most k lt end =
-    (number w32 n ++ content, inr (inl (refl, takes_then a b c x y z (number w32 n) content h k, end lt, omega (arith, length-append (number w32 n) content, length_4 n), inr (n, content, refl, least, most, lt))))
+pub cut_content : (a b c : ReaderState) (x y z : Bounds) (n : ℕ) (content : List ℕ) → Takes a b x y (number w32 n) → FEWEST_RECORD_BYTES ≤ n → n ≤ MOST_RECORD_BYTES → Finishes b c y z content → length content < n → Fails a c x z Truncated
+cut_content a b c x y z n content h least most k lt =
+    (number w32 n ++ content, inr (inl (refl, finishes_then a b c x y z (number w32 n) content h k, omega (arith, length-append (number w32 n) content, length_4 n), inr (n, content, refl, least, most, lt))))
 
 pub refused_content : (a b c : ReaderState) (x y z : Bounds) (n : ℕ) (content : List ℕ) (fault : Fault) → Takes a b x y (number w32 n) → FEWEST_RECORD_BYTES ≤ n → n ≤ MOST_RECORD_BYTES → Takes b c y z content → length content ≤ n → n ≤ length content
     → Refuses fault ((op : Operation) → HasRecord op → content ≡ content_of op → ⊥) → Fails a c x z fault
@@ -161,6 +167,10 @@ no_fault true true c e = absurd cc
 no_fault true false true e = refl
 no_fault true false false e = absurd cc
 
+pub magic_length : length magic ≡ 8
+unfolding magic
+magic_length = refl
+
 pub head_is_magic : (front : List ℕ) → head_fault front ≡ None → front ≡ magic
 head_is_magic front h = (bytes_eq-Decides front magic).0 (no_fault (bytes_eq (take 7 front) (take (length front) file_name)) (nat_lt (length front) 8) (bytes_eq front magic) h)
 
@@ -169,5 +179,7 @@ pub head_not_gathered : (a b : ReaderState) (x y : Bounds) (fault : Fault) → (
 head_not_gathered a b x y fault (inl memory) = (memory.1, inl (memory.0, memory.2))
 head_not_gathered a b x y fault (inr stop) = (stop.1, inr (inr (stop.0, stop.3, stop.2)))
 
-pub took_magic : (a b : ReaderState) (x y : Bounds) (s front : List ℕ) → front ≡ s → head_fault front ≡ None → Takes a b x y s → Takes a b x y magic
-took_magic a b x y s front same none h = subst (Takes a b x y) (sym same ∙ head_is_magic front none) h
+pub took_magic : (a b : ReaderState) (x y : Bounds) (s front : List ℕ) → front ≡ s → head_fault front ≡ None → (8 ≤ length s → Takes a b x y s) → Takes a b x y magic
+took_magic a b x y s front same none h =
+    let whole : s ≡ magic = sym same ∙ head_is_magic front none in
+    subst (Takes a b x y) whole (h (omega (arith, ap length whole, magic_length)))

@@ -1,5 +1,6 @@
 -- Bytes taken from a reader, within the bounds of a file.
-use Rattle.std.specs.Prelude.{◌≡◌, ◌⊎◌, ℕ, ◌+◌, ◌<◌, ◌≤◌, List, [], ◌∷◌, ◌++◌, length, take, Option, Some, Result, MatchResult, MatchOption}
+use Rattle.std.specs.Prelude.{◌≡◌, ◌⊎◌, ℕ, ◌+◌, ◌<◌, ◌≤◌, List, [], ◌∷◌, ◌++◌, length, take, Option, Some, Result, MatchResult, MatchOption, Vec}
+use Rattle.std.specs.declared.alloc.Global.{Global}
 use Rattle.std.specs.Int.{w32}
 use Rattle.std.specs.Io.KnownBytes.{Consumes, IsAtEnd}
 use Rattle.rt_stamps.specs.declared.limits.TheConstants.{FEWEST_RECORD_BYTES, MOST_RECORD_BYTES, MOST_BYTES, MOST_READS}
@@ -16,31 +17,39 @@ pub record ReaderState : Type 0 where
   pub failures : ℕ
   pub left : Option (List ℕ)
 
--- These bytes were taken, and no read failed. `had` and `has` are what the bounds allowed before and allow now.
+-- These bytes were taken, each read gave some of them, and none failed. `had` and `has` are what the bounds allowed before
+-- and allow now.
 pub record Takes (old new : ReaderState) (had has : Bounds) (bytes : List ℕ) : Type 0 where
   pub consumed : Consumes old.left new.left bytes
   pub failures : new.failures ≡ old.failures
-  pub calls : new.calls + has.reads ≡ old.calls + had.reads
+  pub calls : new.calls ≤ old.calls + length bytes
   pub room : length bytes + has.bytes ≡ had.bytes
 
--- These bytes were taken, and then a read failed, or no further read was allowed, or one more byte came than is allowed.
+-- These bytes were taken, and then one read told that they are the last.
+pub record Finishes (old new : ReaderState) (had has : Bounds) (bytes : List ℕ) : Type 0 where
+  pub consumed : Consumes old.left new.left bytes
+  pub failures : new.failures ≡ old.failures
+  pub calls : new.calls ≤ old.calls + length bytes + 1
+  pub room : length bytes + has.bytes ≡ had.bytes
+  pub at_end : IsAtEnd new.left
+
+-- These bytes were taken, and then a read failed, or one more byte came than is allowed.
 pub record IsStopped (old new : ReaderState) (had : Bounds) (bytes : List ℕ) : Type 0 where
   pub within : length bytes ≤ had.bytes
-  pub calls : new.calls ≤ old.calls + had.reads
+  pub calls : new.calls ≤ old.calls + length bytes + 1
   pub cause : (Consumes old.left new.left bytes × (new.failures ≡ old.failures + 1))
-      ⊎ ((Consumes old.left new.left bytes × (new.failures ≡ old.failures) × (new.calls ≡ old.calls + had.reads))
-      ⊎ ((byte : ℕ) × Consumes old.left new.left (bytes ++ byte ∷ []) × (new.failures ≡ old.failures) × (length bytes ≡ had.bytes)))
+      ⊎ ((byte : ℕ) × Consumes old.left new.left (bytes ++ byte ∷ []) × (new.failures ≡ old.failures) × (length bytes ≡ had.bytes))
 
 -- a read of at most so many bytes, none only at the end
 abbrev pub GetsSome : ReaderState → ReaderState → Bounds → Bounds → ℕ → Result ℕ Fault → List ℕ → Type 0
 GetsSome old new had has most result buf = MatchResult result
-    (λ n. (n ≤ length buf) × (n ≤ most) × Takes old new had has (take n buf) × (n ≡ 0 → IsAtEnd new.left))
+    (λ n. (n ≤ length buf) × (n ≤ most) × (0 < n → Takes old new had has (take n buf)) × (n ≡ 0 → Finishes old new had has []))
     (λ fault. (fault ≡ ReadFault) × IsStopped old new had [])
 
 -- so many bytes, fewer only at the end
 abbrev pub Gathers : ReaderState → ReaderState → Bounds → Bounds → ℕ → Result (Unit {0}) Fault → List ℕ → Type 0
 Gathers old new had has wanted result bytes = MatchResult result
-    (λ _. Takes old new had has bytes × (length bytes ≤ wanted) × (length bytes < wanted → IsAtEnd new.left))
+    (λ _. (length bytes ≤ wanted) × (wanted ≤ length bytes → Takes old new had has bytes) × (length bytes < wanted → Finishes old new had has bytes))
     (λ fault. ((fault ≡ NoMemory) × (taken : List ℕ) × Takes old new had has taken)
     ⊎ ((fault ≡ ReadFault) × (taken : List ℕ) × (length taken < wanted) × IsStopped old new had taken))
 
@@ -54,23 +63,20 @@ pub record HasNoRecord (bytes : List ℕ) : Type 0 where
 abbrev pub Fails : ReaderState → ReaderState → Bounds → Bounds → Fault → Type 0
 Fails old new had has fault = (bytes : List ℕ) × (
     ((fault ≡ NoMemory) × Takes old new had has bytes)
-    ⊎ (((fault ≡ Truncated) × Takes old new had has bytes × IsAtEnd new.left × (0 < length bytes) × EndsEarly bytes)
+    ⊎ (((fault ≡ Truncated) × Finishes old new had has bytes × (0 < length bytes) × EndsEarly bytes)
     ⊎ (((fault ≡ BadRecord) × Takes old new had has bytes × HasNoRecord bytes)
     ⊎ ((fault ≡ ReadFault) × IsStopped old new had bytes × EndsEarly bytes))))
-
-abbrev pub AtEnd : ReaderState → ReaderState → Bounds → Bounds → Type 0
-AtEnd old new had has = Takes old new had has [] × IsAtEnd new.left
 
 -- a record's length field, or none at the end
 abbrev pub GetsLength : ReaderState → ReaderState → Bounds → Bounds → Result (Option ℕ) Fault → Type 0
 GetsLength old new had has result = MatchResult result
-    (λ found. MatchOption found (AtEnd old new had has) (λ n. Takes old new had has (number w32 n) × (FEWEST_RECORD_BYTES ≤ n) × (n ≤ MOST_RECORD_BYTES)))
+    (λ found. MatchOption found (Finishes old new had has []) (λ n. Takes old new had has (number w32 n) × (FEWEST_RECORD_BYTES ≤ n) × (n ≤ MOST_RECORD_BYTES)))
     (Fails old new had has)
 
 -- a record, or none at the end
 abbrev pub GetsRecord : ReaderState → ReaderState → Bounds → Bounds → Result (Option Operation) Fault → Type 0
 GetsRecord old new had has result = MatchResult result
-    (λ found. MatchOption found (AtEnd old new had has) (λ op. Takes old new had has (record_of op) × HasRecord op))
+    (λ found. MatchOption found (Finishes old new had has []) (λ op. Takes old new had has (record_of op) × HasRecord op))
     (Fails old new had has)
 
 -- the first eight bytes of a file, or why they aren't read
@@ -79,12 +85,13 @@ GetsHead old new had has result = MatchResult result
     (λ _. Takes old new had has magic)
     (λ fault. (bytes : List ℕ) × (
     ((fault ≡ NoMemory) × Takes old new had has bytes)
-    ⊎ (((head_fault bytes ≡ Some fault) × Takes old new had has bytes × (length bytes ≤ 8) × (length bytes < 8 → IsAtEnd new.left))
+    ⊎ (((head_fault bytes ≡ Some fault) × (length bytes ≤ 8) × (8 ≤ length bytes → Takes old new had has bytes)
+    × (length bytes < 8 → Finishes old new had has bytes))
     ⊎ ((fault ≡ ReadFault) × IsStopped old new had bytes × (length bytes < 8)))))
 
 -- what a file may take
 abbrev pub FILE_BOUNDS : Bounds
-FILE_BOUNDS = record { bytes = MOST_BYTES; reads = MOST_READS }
+FILE_BOUNDS = record { bytes = MOST_BYTES }
 
 -- These bytes of a file were read, within its bounds, and no read failed.
 pub record HasRead (old new : ReaderState) (bytes : List ℕ) : Type 0 where
@@ -98,7 +105,7 @@ abbrev pub IsTold : Option (List ℕ) → List ℕ → List Operation → List �
 IsTold left bytes ops offsets fault = (IsAtEnd left × Reads bytes ops offsets fault) ⊎ ((more : List ℕ) → Reads (bytes ++ more) ops offsets fault)
 
 -- Some bytes were read, and what is told is what they are read as. They are those that were left, where these are known.
--- Or reading was stopped before any fault: a read failed, or a bound was passed.
+-- Or reading was stopped before any fault: a read failed, or more bytes came than are allowed.
 abbrev pub ReadsFile : ReaderState → ReaderState → List Operation → List ℕ → Option (Fault × ℕ) → Type 0
 ReadsFile old new ops offsets fault =
     ((bytes : List ℕ) × HasRead old new bytes × IsTold new.left bytes ops offsets fault)
@@ -107,3 +114,10 @@ ReadsFile old new ops offsets fault =
 -- Memory was wanting after some bytes, within the bounds, and no read had failed.
 abbrev pub LacksMemory : ReaderState → ReaderState → Type 0
 LacksMemory old new = (bytes : List ℕ) × HasRead old new bytes
+
+-- All bytes were read, to the end. Or memory was wanting after some. Or reading was stopped: a read failed, or more bytes came
+-- than are allowed.
+abbrev pub ReadsWhole : ReaderState → ReaderState → Result (Vec ℕ Global) Fault → Type 0
+ReadsWhole old new result = MatchResult result
+    (λ bytes. HasRead old new bytes.items × IsAtEnd new.left)
+    (λ fault. ((fault ≡ NoMemory) × LacksMemory old new) ⊎ ((fault ≡ ReadFault) × ((front : List ℕ) × IsStopped old new FILE_BOUNDS front)))

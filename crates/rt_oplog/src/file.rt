@@ -5,13 +5,13 @@ ghost use Rattle.rt_stamps.specs.declared.fault.Fault.TheVariants.{NoMemory, Wri
 ghost use Rattle.rt_stamps.specs.Source.{failures_of};
 ghost use Rattle.rt_stamps.specs.Written.{Wrote};
 ghost use Rattle.rt_oplog.specs.File.{spelling, magic};
-ghost use Rattle.rt_oplog.specs.Intake.{GetsHead, ReadsFile, LacksMemory};
+ghost use Rattle.rt_oplog.specs.Intake.{GetsHead, ReadsFile, ReadsWhole, LacksMemory};
 ghost use Rattle.rt_oplog.specs.Reading.{file_name, head_fault, may_follow, offsets_from, Reads};
 
 use crate::intake::{Bounds, gather, next_op};
 use crate::spell::spell;
 use crate::{Op, OpLog};
-use rt_stamps::limits::{MOST_BYTES, MOST_READS};
+use rt_stamps::limits::MOST_BYTES;
 use rt_stamps::{Fault, Sink, Source, write_all};
 use std::alloc::Global;
 
@@ -146,8 +146,8 @@ fn ended(ops: Vec<Op>, offsets: Vec<u64>, fault: Fault, offset: u64) -> Result<R
 /// Reads a file to its end or to its first fault. `NoMemory` where a growth was refused.
 ///
 /// The operations of all records before the first fault are given, each with the offset of its
-/// record. A failed read, or one past the bounds of `MOST_BYTES` bytes and `MOST_READS` reads, is a
-/// `ReadFault` at the offset of the record in which it came.
+/// record. A failed read, or one past the bound of `MOST_BYTES` bytes, is a `ReadFault` at the offset
+/// of the record in which it came. No more than `MOST_READS` reads are made.
 pub fn read_file<R: Source>(alloc: Global, reader: &mut R) -> Result<Reading, Fault>
     ensures reads { IfOk result (λ reading. ReadsFile
         (record { calls = R.calls reader.old; failures = R.failures reader.old; left = R.remaining reader.old })
@@ -160,10 +160,7 @@ pub fn read_file<R: Source>(alloc: Global, reader: &mut R) -> Result<Reading, Fa
     let mut ops = Vec::new(alloc);
     let mut offsets = Vec::new(alloc);
     let mut buffer = Vec::new(alloc);
-    let mut bounds = Bounds {
-        bytes: MOST_BYTES,
-        reads: MOST_READS,
-    };
+    let mut bounds = Bounds { bytes: MOST_BYTES };
     match read_head(reader, &mut bounds, &mut buffer) {
         Ok(()) => {}
         Err(fault) => return ended(ops, offsets, fault, 0),
@@ -186,4 +183,19 @@ pub fn read_file<R: Source>(alloc: Global, reader: &mut R) -> Result<Reading, Fa
         offsets,
         fault: None,
     })
+}
+
+/// Reads all bytes of a file, to its end. `ReadFault` where a read failed, or the file has more than
+/// `MOST_BYTES` bytes; `NoMemory` where a growth was refused.
+pub fn read_whole<R: Source>(alloc: Global, reader: &mut R) -> Result<Vec<u8>, Fault>
+    ensures { ReadsWhole
+        (record { calls = R.calls reader.old; failures = R.failures reader.old; left = R.remaining reader.old })
+        (record { calls = R.calls reader.new; failures = R.failures reader.new; left = R.remaining reader.new })
+        result }
+{
+    let mut bounds = Bounds { bytes: MOST_BYTES };
+    let mut bytes = Vec::new(alloc);
+    // one more than a file has, so that no file is taken for its front
+    gather(reader, &mut bounds, &mut bytes, MOST_BYTES + 1)?;
+    Ok(bytes)
 }

@@ -19,7 +19,6 @@ const PIECE_BYTES: usize = 1024;
 #[derive(Clone, Copy)]
 pub struct Bounds {
     pub bytes: usize,
-    pub reads: usize,
 }
 
 /// Reads a piece of at most so many bytes, but always of one at least.
@@ -50,9 +49,6 @@ fn read_some<R: Source>(
         (record { calls = R.calls reader.new; failures = R.failures reader.new; left = R.remaining reader.new })
         bounds.old bounds.new most result buf.new }
 {
-    if bounds.reads == 0 {
-        return Err(Fault::ReadFault);
-    }
     let n = match read_piece(reader, buf, bounds.bytes.min(most)) {
         Ok(n) => n,
         Err(_) => return Err(Fault::ReadFault),
@@ -60,7 +56,6 @@ fn read_some<R: Source>(
     if n > bounds.bytes {
         return Err(Fault::ReadFault);
     }
-    bounds.reads -= 1;
     bounds.bytes -= n;
     Ok(n)
 }

@@ -1,8 +1,9 @@
 // Laws of logs, joins and files, each the contract of a function that does nothing.
-ghost use Rattle.std.specs.Prelude.{◌≡◌, ◌↔◌, ℕ, List, reverse, Option, Some, None, Ok, Err};
+ghost use Rattle.std.specs.Prelude.{◌≡◌, ◌↔◌, ℕ, ◌+◌, ◌≤◌, List, reverse, Option, Some, None, Ok, Err};
 ghost use Rattle.std.specs.List.{AllByRecursion};
 ghost use Rattle.rt_stamps.specs.declared.fault.Fault.{Fault};
 ghost use Rattle.rt_stamps.specs.declared.fault.Fault.TheVariants.{Conflict, ReadFault};
+ghost use Rattle.rt_stamps.specs.declared.limits.TheConstants.{MOST_READS};
 ghost use Rattle.rt_oplog.specs.Operations.{Operation};
 ghost use Rattle.rt_oplog.specs.File.{HasRecord, AreInFile, spelling};
 ghost use Rattle.rt_oplog.specs.Intake.{ReaderState, ReadsFile};
@@ -40,11 +41,14 @@ pub fn logs()
 {}
 
 /// What is told of a reader, whose bytes may be known or not, are operations that a file can have, each
-/// with the offset of its record. Known bytes are told as what they are read as.
+/// with the offset of its record. Known bytes are told as what they are read as. No more than
+/// `MOST_READS` reads are made.
 pub fn readings()
     ensures told { (old new : ReaderState) (ops : List Operation) (offsets : List ℕ) (fault : Option (Fault × ℕ))
         → ReadsFile old new ops offsets fault → AreInFile ops × (offsets ≡ offsets_from 8 ops) }
     ensures known { (old new : ReaderState) (bytes : List ℕ) (ops : List Operation) (offsets : List ℕ) (fault : Option (Fault × ℕ)) → old.left
         ≡ Some bytes
         → ((at : ℕ) → fault ≡ Some (ReadFault, at) → ⊥) → ReadsFile old new ops offsets fault → Reads bytes ops offsets fault }
+    ensures reads { (old new : ReaderState) (ops : List Operation) (offsets : List ℕ) (fault : Option (Fault × ℕ))
+        → ReadsFile old new ops offsets fault → new.calls ≤ old.calls + MOST_READS }
 {}

@@ -1,6 +1,7 @@
 //! Operations of sites, and logs of them.
 #![tactic(auto)]
 
+pub mod bytes;
 mod decode;
 mod ends;
 mod fields;
@@ -15,7 +16,8 @@ mod same;
 mod spell;
 pub mod text;
 
-pub use file::{Reading, read_file, write_file};
+pub use bytes::read_bytes;
+pub use file::{Reading, read_file, read_whole, write_file};
 pub use log::{OpLog, Refused, join};
 pub use op::{Edit, Op};
 pub use text::Text;

@@ -8,11 +8,8 @@ use Rattle.rt_stamps.specs.declared.fault.Fault.TheVariants.{NoMemory, BadComman
 use Rattle.rt_stamps.specs.Outcomes.{Answers, Refuses}
 use Rattle.rt_stamps.specs.Words.{Word}
 use Rattle.rt_tagcmd.specs.TagCommands.{tag_added, tag_removed}
-use Rattle.rt_text.specs.Commands.{Edited}
-use Rattle.rt_edits.specs.Flat.{Flat}
-use Rattle.rt_text.specs.Widgets.{Own}
 use Rattle.rt_peers.specs.State.{State}
-use Rattle.rt_peers.specs.Step.{as_outcome, changed_step, edited_step, TextsGive, InsertGives, tag_add_step, tag_remove_step, mark_unset_step, unset_step, delete_step, removal_step, get_step, list_step, count_step, counted_step, distances_step, is_switch}
+use Rattle.rt_peers.specs.Step.{as_outcome, changed_step, TextsGive, InsertGives, tag_add_step, tag_remove_step, mark_unset_step, unset_step, delete_step, removal_step, get_step, list_step, count_step, counted_step, distances_step, is_switch}
 
 -- three indices or more
 many : (state : State) (words : List Word) → 3 ≤ length words → get_step state words ≡ list_step state words
@@ -33,14 +30,6 @@ delete_of_some state (word ∷ words) h = refl
 pub unset_of_some : (state : State) (words : List (String Global)) → false ≡ (length words == 0) → mark_unset_step state (map (λ w. string_bytes w) words) ≡ unset_step state (map (λ w. string_bytes w) words)
 unset_of_some state [] h = absurd (cc)
 unset_of_some state (word ∷ words) h = refl
-
--- a state is its document and its widget's marks
-abbrev pub state_of : Flat → Own → State
-state_of doc own = record { doc = doc; own = own }
-
--- a state whose parts stayed
-pub same_state : (doc doc' : Flat) (own own' : Own) (state : State) → (doc ≡ doc') × (own ≡ own') → state_of doc' own' ≡ state → state_of doc own ≡ state
-same_state doc doc' own own' state h v = rw (h.0, h.1) v
 
 -- the words at the front that pass a test
 prefix_len_map : {X Y : Type 0} (f : X → Y) (p : Y → Bool) (xs : List X) → prefix_len p (map f xs) ≡ prefix_len (λ x. p (f x)) xs
@@ -68,29 +57,23 @@ pub refused_with : {T : Type 0} (state : State) (f : T → List Word) (outcome :
     → Refuses (as_outcome (λ v. (f v, state)) outcome) fault
 refused_with state f outcome = refused_by (λ v. (f v, state)) outcome
 
-pub change_refused : (outcome : Result (Flat × Own) Fault) (fault found : Fault) → Refuses outcome found → fault ≡ found → Refuses (changed_step outcome) fault
-change_refused outcome = refused_by (λ changed. ([], record { doc = changed.0; own = changed.1 })) outcome
+pub change_refused : (outcome : Result State Fault) (fault found : Fault) → Refuses outcome found → fault ≡ found → Refuses (changed_step outcome) fault
+change_refused outcome = refused_by (λ state. ([], state)) outcome
 
-pub edit_refused : (outcome : Result Edited Fault) (fault found : Fault) → Refuses outcome found → fault ≡ found → Refuses (edited_step outcome) fault
-edit_refused outcome = refused_by (λ edited. ([], record { doc = edited.doc; own = edited.own })) outcome
+-- a change that is refused, and one that is made, by what the call says of the view that is the state
+pub changed_refused : (f : State → Result State Fault) (state view : State) (fault found : Fault) → view ≡ state → Refuses (f view) found → fault ≡ found → Refuses (changed_step (f state)) fault
+changed_refused f state view fault found v r e = change_refused (f state) fault found (subst (λ (s : State). Refuses (f s) found) v r) e
 
--- a change that is refused, and one that is made, by what the call says of the document and the widget
-pub changed_refused : (f : Flat → Own → Result (Flat × Own) Fault) (state : State) (doc : Flat) (own : Own) (fault found : Fault) → state_of doc own ≡ state → Refuses (f doc own) found → fault ≡ found
-    → Refuses (changed_step (f state.doc state.own)) fault
-changed_refused f state doc own fault found v r e = change_refused (f state.doc state.own) fault found (subst (λ (s : State). Refuses (f s.doc s.own) found) v r) e
+pub changed_to : (f : State → Result State Fault) (state view new : State) → view ≡ state → f view ≡ Ok new → changed_step (f state) ≡ Ok ([], new)
+changed_to f state view new v e = ap changed_step (subst (λ (s : State). f s ≡ Ok new) v e)
 
-pub changed_to : (f : Flat → Own → Result (Flat × Own) Fault) (state : State) (doc doc' : Flat) (own own' : Own) → state_of doc own ≡ state → f doc own ≡ Ok (doc', own')
-    → changed_step (f state.doc state.own) ≡ Ok ([], state_of doc' own')
-changed_to f state doc doc' own own' v e = ap changed_step (subst (λ (s : State). f s.doc s.own ≡ Ok (doc', own')) v e)
+-- a reply that is refused, and one that is made, by what the call says of the view that is the state
+pub refused_at : {T : Type 0} (g : T → List Word) (f : State → Result T Fault) (state view : State) (fault found : Fault) → view ≡ state → Refuses (f view) found → fault ≡ found → Refuses (as_outcome (λ v. (g v, state)) (f state)) fault
+refused_at g f state view fault found v r e = refused_with state g (f state) fault found (subst (λ (s : State). Refuses (f s) found) v r) e
 
--- a reply that is refused, and one that is made, by what the call says of the document and the widget
-pub refused_at : {T : Type 0} (g : T → List Word) (f : Flat → Own → Result T Fault) (state : State) (doc : Flat) (own : Own) (fault found : Fault) → state_of doc own ≡ state → Refuses (f doc own) found → fault ≡ found
-    → Refuses (as_outcome (λ v. (g v, state)) (f state.doc state.own)) fault
-refused_at g f state doc own fault found v r e = refused_with state g (f state.doc state.own) fault found (subst (λ (s : State). Refuses (f s.doc s.own) found) v r) e
-
-pub replied_at : {T : Type 0} (g : T → List Word) (f : Flat → Own → Result T Fault) (state : State) (doc : Flat) (own : Own) (value : T) (result : Result (List Word) Fault) → state_of doc own ≡ state → f doc own ≡ Ok value
-    → IfOk result (λ reply. reply ≡ g value) → IfErr result (λ fault. fault ≡ NoMemory) → Answers (as_outcome (λ v. (g v, state)) (f state.doc state.own)) state result state
-replied_at g f state doc own value result v e ok err = replied_with state g (f state.doc state.own) value result (subst (λ (s : State). f s.doc s.own ≡ Ok value) v e) ok err
+pub replied_at : {T : Type 0} (g : T → List Word) (f : State → Result T Fault) (state view : State) (value : T) (result : Result (List Word) Fault) → view ≡ state → f view ≡ Ok value
+    → IfOk result (λ reply. reply ≡ g value) → IfErr result (λ fault. fault ≡ NoMemory) → Answers (as_outcome (λ v. (g v, state)) (f state)) state result state
+replied_at g f state view value result v e ok err = replied_with state g (f state) value result (subst (λ (s : State). f s ≡ Ok value) v e) ok err
 
 -- a word and one more or several: those behind the first, as a slice has them
 behind_is : (w : String Global) (words : List (String Global)) → take (length (w ∷ words) - 1) (drop 1 (w ∷ words)) ≡ words
@@ -105,13 +88,13 @@ insert_of_some old result new (w ∷ v ∷ words) x h a t =
     subst (λ (y : String Global). TextsGive (string_bytes y) (map (λ w. string_bytes w) (v ∷ words)) old result new) a front
 
 pub add_of_some : (state : State) (words : List (String Global)) (x : String Global) → 2 ≤ length words → x ≡ get_or words 0 x
-    → tag_add_step state (map (λ w. string_bytes w) words) ≡ changed_step (tag_added state.doc state.own (string_bytes x) (map (λ w. string_bytes w) (take (length words - 1) (drop 1 words))))
+    → tag_add_step state (map (λ w. string_bytes w) words) ≡ changed_step (tag_added state (string_bytes x) (map (λ w. string_bytes w) (take (length words - 1) (drop 1 words))))
 add_of_some state [] x h a = absurd (omega arith)
 add_of_some state (w ∷ []) x h a = absurd (omega arith)
 add_of_some state (w ∷ v ∷ words) x h a = rw (a, behind_is w (v ∷ words)) refl
 
 pub remove_of_some : (state : State) (words : List (String Global)) (x : String Global) → 2 ≤ length words → x ≡ get_or words 0 x
-    → tag_remove_step state (map (λ w. string_bytes w) words) ≡ changed_step (tag_removed state.doc state.own (string_bytes x) (map (λ w. string_bytes w) (take (length words - 1) (drop 1 words))))
+    → tag_remove_step state (map (λ w. string_bytes w) words) ≡ changed_step (tag_removed state (string_bytes x) (map (λ w. string_bytes w) (take (length words - 1) (drop 1 words))))
 remove_of_some state [] x h a = absurd (omega arith)
 remove_of_some state (w ∷ []) x h a = absurd (omega arith)
 remove_of_some state (w ∷ v ∷ words) x h a = rw (a, behind_is w (v ∷ words)) refl

@@ -6,3 +6,4 @@ pub use Rattle.rt_stamps.specs.Words
 pub use Rattle.rt_edits.specs.Flat
 pub use Rattle.rt_text.specs.Index
 pub use Rattle.rt_text.specs.Commands
+pub use Rattle.rt_exchange.specs.Receiving

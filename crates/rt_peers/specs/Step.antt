@@ -12,10 +12,8 @@ use Rattle.rt_stamps.specs.Words.{Word, SpellsList}
 use Rattle.rt_marks.specs.Marks.{gravity_word}
 use Rattle.rt_tagcmd.specs.MarkCommands.{mark_set, mark_unset, mark_gravity, mark_gravity_set, mark_names, mark_next, mark_previous}
 use Rattle.rt_tagcmd.specs.TagCommands.{tag_added, tag_removed, tags_deleted, tag_raised, tag_lowered, tag_names, tag_names_at, tag_ranges, tag_nextrange, tag_prevrange}
-use Rattle.rt_edits.specs.Flat.{Flat}
 use Rattle.rt_edits.specs.Insertions.{Piece}
-use Rattle.rt_text.specs.Widgets.{Own}
-use Rattle.rt_text.specs.Commands.{Edited, inserted, deleted, got_one, got, got_list, position_of_index, compared, counted}
+use Rattle.rt_text.specs.Commands.{inserted, deleted, got_one, got, got_list, position_of_index, compared, counted}
 use Rattle.rt_peers.specs.declared.command.Command.{Command}
 use Rattle.rt_peers.specs.declared.command.Command.TheVariants.{Insert, Delete, Get, Index, Compare, Count, Mark, Tag}
 use Rattle.rt_peers.specs.declared.command.MarkCommand.{MarkCommand}
@@ -33,17 +31,9 @@ abbrev pub as_outcome : {T : Type 0} → (T → List Word × State) → Result T
 as_outcome f (Ok value) = Ok (f value)
 as_outcome f (Err fault) = Err fault
 
--- a command that changes the document and the widget's marks, and has no words in its reply
-abbrev pub changed_step : Result (Flat × Own) Fault → Outcome
-changed_step = as_outcome (λ changed. ([], record { doc = changed.0; own = changed.1 }))
-
--- a command that changes the document alone, and has no words in its reply
-abbrev pub document_step : State → Result Flat Fault → Outcome
-document_step state = as_outcome (λ doc. ([], record state { doc = doc }))
-
--- a command that edits the text, and has no words in its reply
-abbrev pub edited_step : Result Edited Fault → Outcome
-edited_step = as_outcome (λ edited. ([], record { doc = edited.doc; own = edited.own }))
+-- a command that edits or changes something else, and has no words in its reply
+abbrev pub changed_step : Result State Fault → Outcome
+changed_step = as_outcome (λ state. ([], state))
 
 -- a command that changes nothing, and replies with one word
 abbrev pub word_step : State → Result Word Fault → Outcome
@@ -68,7 +58,7 @@ AreNoTexts words = (pieces : List Piece) (rest : Word) → AreTexts words pieces
 
 -- `insert` of texts whose lists are read
 abbrev pub texts_step : State → Word → List Piece → Word → Outcome
-texts_step state index pieces rest = edited_step (inserted state.doc state.own [] index pieces rest)
+texts_step state index pieces rest = changed_step (inserted state index pieces rest)
 
 -- `insert` of words that are texts, or else are badly quoted; memory may be wanting before that is known
 abbrev pub TextsGive : Word → List Word → State → Result (List Word) Fault → State → Type 0
@@ -87,7 +77,7 @@ InsertGives (index ∷ []) old result new = Answers (Err BadCommand) old result 
 
 -- without the characters in the ranges of some indices
 abbrev pub removal_step : State → List Word → Outcome
-removal_step state indices = edited_step (deleted state.doc state.own [] indices)
+removal_step state indices = changed_step (deleted state indices)
 
 -- `delete INDEX ?INDEX ...?`
 abbrev pub delete_step : State → List Word → Outcome
@@ -96,18 +86,18 @@ delete_step state [] = Err BadCommand
 
 -- `get` of more indices replies with the texts that aren't empty, a word each
 abbrev pub list_step : State → List Word → Outcome
-list_step state indices = words_step state (got_list state.doc state.own indices)
+list_step state indices = words_step state (got_list state indices)
 
 -- `get INDEX ?INDEX ...?`: of one index or two the reply is one word, the text
 abbrev pub get_step : State → List Word → Outcome
-get_step state (index ∷ []) = word_step state (got_one state.doc state.own index)
-get_step state (from ∷ to ∷ []) = word_step state (got state.doc state.own from to)
+get_step state (index ∷ []) = word_step state (got_one state index)
+get_step state (from ∷ to ∷ []) = word_step state (got state from to)
 get_step state (from ∷ to ∷ more ∷ words) = list_step state (from ∷ to ∷ more ∷ words)
 get_step state [] = Err BadCommand
 
 -- `index INDEX` replies with one word, LINE.CHARACTER
 abbrev pub index_step : State → List Word → Outcome
-index_step state (index ∷ []) = as_outcome (λ position. (text_of_position position ∷ [], state)) (position_of_index state.doc state.own index)
+index_step state (index ∷ []) = as_outcome (λ position. (text_of_position position ∷ [], state)) (position_of_index state index)
 index_step state [] = Err BadCommand
 index_step state (index ∷ more ∷ words) = Err BadCommand
 
@@ -117,7 +107,7 @@ text_of_bool holds = if holds then codes "1" else codes "0"
 
 -- whether a comparison holds of two indices
 abbrev pub comparison_step : State → Word → Word → Word → Outcome
-comparison_step state first operator second = as_outcome (λ holds. (text_of_bool holds ∷ [], state)) (compared state.doc state.own first operator second)
+comparison_step state first operator second = as_outcome (λ holds. (text_of_bool holds ∷ [], state)) (compared state first operator second)
 
 -- `compare INDEX OPERATOR INDEX` replies with one word, 1 or 0
 abbrev pub compare_step : State → List Word → Outcome
@@ -134,7 +124,7 @@ is_switch (c ∷ word) = c == 45
 
 -- from an index to another, a number for each switch in turn, and one where there is none
 abbrev pub distances_step : State → List Word → Word → Word → Outcome
-distances_step state switches from to = as_outcome (λ distances. (map signed_decimal distances, state)) (counted state.doc state.own switches from to)
+distances_step state switches from to = as_outcome (λ distances. (map signed_decimal distances, state)) (counted state switches from to)
 
 -- `count` with its switches and its indices, which are two
 abbrev pub counted_step : State → List Word → List Word → Outcome
@@ -156,14 +146,14 @@ words_of (Some name) = name ∷ []
 
 -- `mark set NAME INDEX`
 abbrev pub mark_set_step : State → List Word → Outcome
-mark_set_step state (name ∷ index ∷ []) = changed_step (mark_set state.doc state.own name index)
+mark_set_step state (name ∷ index ∷ []) = changed_step (mark_set state name index)
 mark_set_step state [] = Err BadCommand
 mark_set_step state (name ∷ []) = Err BadCommand
 mark_set_step state (name ∷ index ∷ more ∷ words) = Err BadCommand
 
 -- without the marks of some names
 abbrev pub unset_step : State → List Word → Outcome
-unset_step state names = document_step state (mark_unset state.doc names)
+unset_step state names = changed_step (mark_unset state names)
 
 -- `mark unset NAME ?NAME ...?`
 abbrev pub mark_unset_step : State → List Word → Outcome
@@ -172,18 +162,18 @@ mark_unset_step state [] = Err BadCommand
 
 -- the gravity of a mark
 abbrev pub gravity_step : State → Word → Outcome
-gravity_step state name = as_outcome (λ gravity. (gravity_word gravity ∷ [], state)) (mark_gravity state.doc state.own name)
+gravity_step state name = as_outcome (λ gravity. (gravity_word gravity ∷ [], state)) (mark_gravity state name)
 
 -- `mark gravity NAME ?GRAVITY?`
 abbrev pub mark_gravity_step : State → List Word → Outcome
 mark_gravity_step state (name ∷ []) = gravity_step state name
-mark_gravity_step state (name ∷ gravity ∷ []) = changed_step (mark_gravity_set state.doc state.own name gravity)
+mark_gravity_step state (name ∷ gravity ∷ []) = changed_step (mark_gravity_set state name gravity)
 mark_gravity_step state [] = Err BadCommand
 mark_gravity_step state (name ∷ gravity ∷ more ∷ words) = Err BadCommand
 
 -- `mark names`
 abbrev pub mark_names_step : State → List Word → Outcome
-mark_names_step state [] = Ok (mark_names state.doc, state)
+mark_names_step state [] = Ok (mark_names state, state)
 mark_names_step state (word ∷ words) = Err BadCommand
 
 -- a mark that is looked for: the reply is its name, or no word where there is none
@@ -192,13 +182,13 @@ found_step state = as_outcome (λ name. (words_of name, state))
 
 -- `mark next INDEX`
 abbrev pub mark_next_step : State → List Word → Outcome
-mark_next_step state (word ∷ []) = found_step state (mark_next state.doc state.own word)
+mark_next_step state (word ∷ []) = found_step state (mark_next state word)
 mark_next_step state [] = Err BadCommand
 mark_next_step state (word ∷ more ∷ words) = Err BadCommand
 
 -- `mark previous INDEX`
 abbrev pub mark_previous_step : State → List Word → Outcome
-mark_previous_step state (word ∷ []) = found_step state (mark_previous state.doc state.own word)
+mark_previous_step state (word ∷ []) = found_step state (mark_previous state word)
 mark_previous_step state [] = Err BadCommand
 mark_previous_step state (word ∷ more ∷ words) = Err BadCommand
 
@@ -232,39 +222,39 @@ mark_step state (what ∷ words) = mark_command_step state (mark_command_of what
 
 -- `tag add NAME INDEX ?INDEX ...?`
 abbrev pub tag_add_step : State → List Word → Outcome
-tag_add_step state (name ∷ index ∷ indices) = changed_step (tag_added state.doc state.own name (index ∷ indices))
+tag_add_step state (name ∷ index ∷ indices) = changed_step (tag_added state name (index ∷ indices))
 tag_add_step state [] = Err BadCommand
 tag_add_step state (name ∷ []) = Err BadCommand
 
 -- `tag remove NAME INDEX ?INDEX ...?`
 abbrev pub tag_remove_step : State → List Word → Outcome
-tag_remove_step state (name ∷ index ∷ indices) = changed_step (tag_removed state.doc state.own name (index ∷ indices))
+tag_remove_step state (name ∷ index ∷ indices) = changed_step (tag_removed state name (index ∷ indices))
 tag_remove_step state [] = Err BadCommand
 tag_remove_step state (name ∷ []) = Err BadCommand
 
 -- `tag delete NAME ?NAME ...?`
 abbrev pub tag_delete_step : State → List Word → Outcome
-tag_delete_step state (name ∷ names) = document_step state (tags_deleted state.doc (name ∷ names))
+tag_delete_step state (name ∷ names) = changed_step (tags_deleted state (name ∷ names))
 tag_delete_step state [] = Err BadCommand
 
 -- `tag raise NAME ?ABOVE?`
 abbrev pub tag_raise_step : State → List Word → Outcome
-tag_raise_step state (name ∷ []) = document_step state (tag_raised state.doc name None)
-tag_raise_step state (name ∷ above ∷ []) = document_step state (tag_raised state.doc name (Some above))
+tag_raise_step state (name ∷ []) = changed_step (tag_raised state name None)
+tag_raise_step state (name ∷ above ∷ []) = changed_step (tag_raised state name (Some above))
 tag_raise_step state [] = Err BadCommand
 tag_raise_step state (name ∷ above ∷ more ∷ words) = Err BadCommand
 
 -- `tag lower NAME ?BELOW?`
 abbrev pub tag_lower_step : State → List Word → Outcome
-tag_lower_step state (name ∷ []) = document_step state (tag_lowered state.doc name None)
-tag_lower_step state (name ∷ below ∷ []) = document_step state (tag_lowered state.doc name (Some below))
+tag_lower_step state (name ∷ []) = changed_step (tag_lowered state name None)
+tag_lower_step state (name ∷ below ∷ []) = changed_step (tag_lowered state name (Some below))
 tag_lower_step state [] = Err BadCommand
 tag_lower_step state (name ∷ below ∷ more ∷ words) = Err BadCommand
 
 -- `tag names ?INDEX?`: a word for each tag, lowest priority first
 abbrev pub tag_names_step : State → List Word → Outcome
-tag_names_step state [] = Ok (tag_names state.doc, state)
-tag_names_step state (index ∷ []) = words_step state (tag_names_at state.doc state.own index)
+tag_names_step state [] = Ok (tag_names state, state)
+tag_names_step state (index ∷ []) = words_step state (tag_names_at state index)
 tag_names_step state (index ∷ more ∷ words) = Err BadCommand
 
 -- a command that changes nothing, and replies with positions, a word LINE.CHARACTER each
@@ -273,22 +263,22 @@ positions_step state = as_outcome (λ positions. (map text_of_position positions
 
 -- `tag ranges NAME`
 abbrev pub tag_ranges_step : State → List Word → Outcome
-tag_ranges_step state (name ∷ []) = positions_step state (tag_ranges state.doc state.own name)
+tag_ranges_step state (name ∷ []) = positions_step state (tag_ranges state name)
 tag_ranges_step state [] = Err BadCommand
 tag_ranges_step state (name ∷ more ∷ words) = Err BadCommand
 
 -- `tag nextrange NAME INDEX ?INDEX?`
 abbrev pub tag_nextrange_step : State → List Word → Outcome
-tag_nextrange_step state (name ∷ from ∷ []) = positions_step state (tag_nextrange state.doc state.own name from None)
-tag_nextrange_step state (name ∷ from ∷ to ∷ []) = positions_step state (tag_nextrange state.doc state.own name from (Some to))
+tag_nextrange_step state (name ∷ from ∷ []) = positions_step state (tag_nextrange state name from None)
+tag_nextrange_step state (name ∷ from ∷ to ∷ []) = positions_step state (tag_nextrange state name from (Some to))
 tag_nextrange_step state [] = Err BadCommand
 tag_nextrange_step state (name ∷ []) = Err BadCommand
 tag_nextrange_step state (name ∷ from ∷ to ∷ more ∷ words) = Err BadCommand
 
 -- `tag prevrange NAME INDEX ?INDEX?`
 abbrev pub tag_prevrange_step : State → List Word → Outcome
-tag_prevrange_step state (name ∷ to ∷ []) = positions_step state (tag_prevrange state.doc state.own name to None)
-tag_prevrange_step state (name ∷ to ∷ from ∷ []) = positions_step state (tag_prevrange state.doc state.own name to (Some from))
+tag_prevrange_step state (name ∷ to ∷ []) = positions_step state (tag_prevrange state name to None)
+tag_prevrange_step state (name ∷ to ∷ from ∷ []) = positions_step state (tag_prevrange state name to (Some from))
 tag_prevrange_step state [] = Err BadCommand
 tag_prevrange_step state (name ∷ []) = Err BadCommand
 tag_prevrange_step state (name ∷ to ∷ from ∷ more ∷ words) = Err BadCommand

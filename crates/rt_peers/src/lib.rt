@@ -9,4 +9,5 @@ mod texts;
 
 pub use command::{Command, MarkCommand, TagCommand};
 pub use reply::Reply;
+pub use rt_exchange::Received;
 pub use site::SiteState;

@@ -5,6 +5,7 @@ ghost use Rattle.rt_peers.specs.State.{new_state, is_widget};
 ghost use Rattle.rt_peers.specs.Step.{CommandGives, Gives};
 
 mod editing;
+mod exchange;
 mod marking;
 mod reading;
 mod replies;
@@ -14,7 +15,7 @@ use crate::command::{Command, command_of};
 use crate::reply::Reply;
 use rt_stamps::{Fault, Site};
 use rt_store::ListStore;
-use rt_text::{Doc, Widget};
+use rt_text::View;
 use std::alloc::Global;
 use std::marker::Model;
 
@@ -22,21 +23,15 @@ use std::marker::Model;
 #[derive(Drop)]
 pub struct SiteState {
     alloc: Global,
-    doc: Doc<ListStore>,
-    widget: Widget,
+    view: View<ListStore>,
 }
 
 impl Model for SiteState {
-    ghost use Rattle.std.specs.Prelude.{length};
-    ghost use Rattle.rt_store.specs.Cells.{text_of};
-    ghost use Rattle.rt_text.specs.Widgets.{IsOwnOf};
     ghost use Rattle.rt_peers.specs.State.{State};
 
     ghost Value = { State };
 
-    ghost view = { λ s. record { doc = s.doc; own = s.widget } };
-
-    ghost invariant = { λ s. IsOwnOf (length (text_of s.doc.cells)) s.widget };
+    ghost view = { λ s. s.view };
 }
 
 // Whether a word is the path of the widget.
@@ -54,9 +49,8 @@ impl SiteState {
         ensures err { IfErr result (λ fault. fault ≡ Fault.NoMemory) }
     {
         let store = ListStore::new(alloc)?;
-        let doc = Doc::new(alloc, store, site, limit)?;
-        let widget = Widget::new(alloc);
-        Ok(SiteState { alloc, doc, widget })
+        let view = View::new(alloc, store, site, limit)?;
+        Ok(SiteState { alloc, view })
     }
 
     // A command and its words.

@@ -1,4 +1,5 @@
 pub mod EndsLaws
+pub mod FilesStay
 pub mod LinesLaws
 pub mod ReadReplies
 pub mod ReplyWords

@@ -1,14 +1,30 @@
 -- The line of an answer.
-use Rattle.std.specs.Prelude.{ℕ, List, [], ◌∷◌, ◌++◌, flat_map}
+use Rattle.std.specs.Prelude.{ℕ, List, [], ◌∷◌, ◌++◌, flat_map, Option, Some, None, codes}
+use Rattle.std.specs.Fmt.{decimal}
+use Rattle.rt_stamps.specs.declared.fault.Fault.{Fault}
 use Rattle.rt_stamps.specs.Fault.{text_of}
 use Rattle.rt_stamps.specs.Words.{text_of_word}
+use Rattle.rt_show.specs.Shown.{spaced}
 use Rattle.rt_script.specs.declared.answer.Answer.{Answer}
-use Rattle.rt_script.specs.declared.answer.Answer.TheVariants.{Replied, Refused}
+use Rattle.rt_script.specs.declared.answer.Answer.TheVariants.{Replied, Refused, Received}
 
--- a reply is `=` and its words, a space before each; a refusal is `!`, a space and the fault's number and name
+-- a refusal is `!`, a space and the fault's number and name
+abbrev pub text_of_refusal : Fault → List ℕ
+text_of_refusal fault = 33 ∷ 32 ∷ text_of fault
+
+-- what became of a file is `=` and how many operations were new and how many repeats; or else the fault that ended it, as a
+-- refusal, with its offset and these numbers
+abbrev pub text_of_received : ℕ → ℕ → Option (Fault × ℕ) → List ℕ
+text_of_received new repeats None = 61 ∷ spaced (decimal new ∷ decimal repeats ∷ [])
+text_of_received new repeats (Some found) =
+    text_of_refusal found.0
+    ++ spaced (codes "at" ∷ decimal found.1 ∷ codes "new" ∷ decimal new ∷ codes "repeat" ∷ decimal repeats ∷ [])
+
+-- a reply is `=` and its words, a space before each
 abbrev pub text_of_answer : Answer → List ℕ
 text_of_answer (Replied words) = 61 ∷ flat_map (λ word. 32 ∷ text_of_word word) words
-text_of_answer (Refused fault) = 33 ∷ 32 ∷ text_of fault
+text_of_answer (Refused fault) = text_of_refusal fault
+text_of_answer (Received received) = text_of_received received.new received.repeats received.fault
 
 abbrev pub reply_line : Answer → List ℕ
 reply_line answer = text_of_answer answer ++ (10 ∷ [])

@@ -1,12 +1,13 @@
 // What a line of a script is answered.
-use rt_peers::Reply;
+use rt_peers::{Received, Reply};
 use rt_stamps::Fault;
 
-/// What a line is answered: the words of a reply, or why it was refused.
+/// What a line is answered: the words of a reply, why it was refused, or what became of a file.
 #[derive(Drop)]
 pub enum Answer {
     Replied(Reply),
     Refused(Fault),
+    Received(Received),
 }
 
 impl From<Result<Reply, Fault>> for Answer {

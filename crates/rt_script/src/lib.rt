@@ -9,6 +9,8 @@ pub mod join;
 mod join_tests;
 pub mod laws;
 pub mod reply;
+#[cfg(test)]
+mod samples;
 pub mod scripts;
 pub mod show;
 pub mod site_lines;
@@ -24,7 +26,8 @@ pub use commands::Commands;
 pub use engine::Ended;
 pub use join::{JoinFault, join_files};
 pub use reply::reply_line;
-pub use rt_peers::{Command, Reply, SiteState};
+pub use rt_peers::{Command, Received, Reply, SiteState};
 pub use rt_words::words;
 pub use scripts::run;
 pub use show::show_file;
+pub use site_lines::Session;

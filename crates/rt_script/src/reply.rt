@@ -1,16 +1,20 @@
 // The lines of answers, written.
-ghost use Rattle.std.specs.Prelude.{◌≡◌, ◌+◌, ◌<◌, ◌∷◌, IfErr, flat_map, string_bytes};
-ghost use Rattle.rt_stamps.specs.Fault.{text_of};
+ghost use Rattle.std.specs.Prelude.{◌≡◌, ◌+◌, ◌<◌, ◌∷◌, ◌++◌, [], IfErr, codes, flat_map, string_bytes};
+ghost use Rattle.std.specs.Fmt.{decimal};
+ghost use Rattle.rt_show.specs.Shown.{spaced};
 ghost use Rattle.rt_stamps.specs.Source.{failures_of};
 ghost use Rattle.rt_stamps.specs.Words.{text_of_word};
 ghost use Rattle.rt_stamps.specs.Written.{Wrote};
-ghost use Rattle.rt_script.specs.Replies.{text_of_answer, reply_line};
+ghost use Rattle.rt_script.specs.Replies.{text_of_answer, text_of_received, text_of_refusal, reply_line};
 
 use crate::Answer;
+use rt_peers::Received;
+use rt_show::parts::{Part, write_parts};
 use rt_stamps::{Fault, Sink, write_all, write_word};
 
 /// Writes the line of an answer: `=` and the words of a reply, or `!` and a fault's number and
-/// name. `WriteFault` where a write fails or takes nothing; a front of the line was then written.
+/// name; of a file that was received how many of its operations were new and how many repeats, behind
+/// `=`, or behind its fault and the fault's offset. `WriteFault` where a write fails or takes nothing; a front of the line was then written.
 pub fn reply_line<W: Sink>(answer: &Answer, out: &mut W) -> Result<(), Fault>
     ensures wrote { Wrote (W.contents out.old) (W.contents out.new) result (reply_line answer.now) }
     ensures fault { IfErr result (λ fault. fault ≡ Fault.WriteFault) }
@@ -28,11 +32,59 @@ fn write_answer<W: Sink>(answer: &Answer, out: &mut W) -> Result<(), Fault>
     match answer {
         Answer::Replied(reply) => write_reply(&reply.words, out),
         Answer::Refused(fault) => write_fault(*fault, out),
+        Answer::Received(received) => write_received(*received, out),
     }
 }
 
+// How many operations of a file were new, and how many repeats, after why it was not all received.
+fn write_received<W: Sink>(received: Received, out: &mut W) -> Result<(), Fault>
+    ensures wrote { Wrote (W.contents out.old) (W.contents out.new) result (text_of_received received.new received.repeats received.fault) }
+    ensures fault { IfErr result (λ fault. fault ≡ Fault.WriteFault) }
+    ensures failures { W.failures out.new ≡ W.failures out.old + failures_of result }
+{
+    match received.fault {
+        Some((fault, offset)) => write_ended(fault, offset, received.new, received.repeats, out),
+        None => write_taken(received.new, received.repeats, out),
+    }
+}
+
+// How many operations of a whole file were new, and how many repeats.
+fn write_taken<W: Sink>(new: u64, repeats: u64, out: &mut W) -> Result<(), Fault>
+    ensures wrote { Wrote (W.contents out.old) (W.contents out.new) result (61 ∷ spaced (decimal new ∷ decimal repeats ∷ [])) }
+    ensures fault { IfErr result (λ fault. fault ≡ Fault.WriteFault) }
+    ensures failures { W.failures out.new ≡ W.failures out.old + failures_of result }
+{
+    write_all(out, b"=")?;
+    write_parts(&[Part::Number(new), Part::Number(repeats)], out)
+}
+
+// Why a file was not all received, where, and what was.
+fn write_ended<W: Sink>(
+    fault: Fault,
+    offset: u64,
+    new: u64,
+    repeats: u64,
+    out: &mut W,
+) -> Result<(), Fault>
+    ensures wrote { Wrote (W.contents out.old) (W.contents out.new) result (text_of_refusal fault
+        ++ spaced (codes "at" ∷ decimal offset ∷ codes "new" ∷ decimal new ∷ codes "repeat" ∷ decimal repeats ∷ [])) }
+    ensures fault { IfErr result (λ fault. fault ≡ Fault.WriteFault) }
+    ensures failures { W.failures out.new ≡ W.failures out.old + failures_of result }
+{
+    write_fault(fault, out)?;
+    let parts = [
+        Part::Letters(b"at"),
+        Part::Number(offset),
+        Part::Letters(b"new"),
+        Part::Number(new),
+        Part::Letters(b"repeat"),
+        Part::Number(repeats),
+    ];
+    write_parts(&parts, out)
+}
+
 fn write_fault<W: Sink>(fault: Fault, out: &mut W) -> Result<(), Fault>
-    ensures wrote { Wrote (W.contents out.old) (W.contents out.new) result (33 ∷ 32 ∷ text_of fault) }
+    ensures wrote { Wrote (W.contents out.old) (W.contents out.new) result (text_of_refusal fault) }
     ensures fault { IfErr result (λ fault. fault ≡ Fault.WriteFault) }
     ensures failures { W.failures out.new ≡ W.failures out.old + failures_of result }
 {

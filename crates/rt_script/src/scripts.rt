@@ -1,15 +1,16 @@
 // The run of a script by a site.
-ghost use Rattle.std.specs.Prelude.{◌≡◌, length};
 ghost use Rattle.rt_script.specs.Run.{Ends};
-ghost use Rattle.rt_script.specs.Site.{SiteGives};
+ghost use Rattle.rt_script.specs.Site.{AreWithin, SiteGives, named_files};
 
 use crate::engine::{Ended, run_lines};
+use crate::site_lines::Session;
 use rt_peers::SiteState;
 use rt_stamps::{Sink, Source};
 use std::alloc::Global;
 
 /// Runs a script by a site: each line of it is answered by one reply line, in the order of the
-/// lines. `files` are the files that a line may name; there is no such line yet.
+/// lines. `files` are the files that its lines may name, each with its name, of at most `MOST_BYTES`
+/// bytes; of one name the first counts.
 ///
 /// `ReadFault` where a read failed, or the script passed `MOST_BYTES` bytes or `MOST_READS` reads;
 /// `NoMemory` where a line couldn't be stored; `WriteFault` where a write failed or took nothing.
@@ -20,14 +21,19 @@ pub fn run<R: Source, W: Sink>(
     files: &[(String, Vec<u8>)],
     out: &mut W,
 ) -> Ended<SiteState>
-    requires { length files.now ≡ 0 }
-    ensures { Ends SiteGives site result.site
+    requires { AreWithin files.now }
+    ensures { Ends SiteGives
+        (record { site = site; files = named_files files.now })
+        (record { site = result.site; files = named_files files.now })
         (record { calls = R.calls script.old; failures = R.failures script.old; bytes = R.remaining script.old })
         (record { calls = R.calls script.new; failures = R.failures script.new; bytes = R.remaining script.new })
         (record { calls = W.calls out.old; failures = W.failures out.old; bytes = W.contents out.old })
         (record { calls = W.calls out.new; failures = W.failures out.new; bytes = W.contents out.new })
         result.fault }
 {
-    let _ = files;
-    run_lines(alloc, site, script, out)
+    let Ended { site, fault } = run_lines(alloc, Session::new(site, files), script, out);
+    Ended {
+        site: site.into_site(),
+        fault,
+    }
 }

@@ -1,24 +1,110 @@
-// A site that runs the lines of a script.
-ghost use Rattle.std.specs.Prelude.{◌≡◌};
-ghost use Rattle.rt_script.specs.Site.{is_site_word};
+// A site that runs the lines of a script, which may name files.
+ghost use Rattle.std.specs.Prelude.{◌≡◌, All, Some, None, codes, length, ◌≤◌, map, string_bytes, MatchOption};
+ghost use Rattle.std.specs.Str.{bytes_eq};
+ghost use Rattle.rt_stamps.specs.declared.limits.TheConstants.{MOST_BYTES};
+ghost use Rattle.rt_script.specs.Site.{AreWithin, ReceiveGives, PathGives, SiteGives, file_named, named_files};
 
 use crate::answer::Answer;
 use crate::commands::Commands;
 use rt_peers::SiteState;
 use rt_stamps::Fault;
+use std::marker::Model;
 
-// Whether a line's first word names no widget.
-fn is_site_word(word: &str) -> bool
-    ensures { result ≡ is_site_word word.now }
-{
-    word == "destroy" || word == "receive"
+/// A site, and the files that the lines of its script may name.
+#[derive(Drop)]
+pub struct Session<'a> {
+    site: SiteState,
+    files: &'a [(String, Vec<u8>)],
 }
 
-impl Commands for SiteState {
-    ghost use Rattle.rt_peers.specs.State.{State};
-    ghost use Rattle.rt_script.specs.Site.{SiteGives};
+impl<'a> Model for Session<'a> {
+    ghost use Rattle.rt_script.specs.Site.{AreWithin, Session, named_files};
 
-    ghost State = { State };
+    ghost Value = { Session };
+
+    ghost view = { λ s. record { site = s.site; files = named_files s.files.now } };
+
+    ghost invariant = { λ s. AreWithin s.files.now };
+}
+
+// Whether a line's first word is that of `receive NAME`.
+fn is_receive(word: &str) -> bool
+    ensures { result ≡ bytes_eq word.now (codes "receive") }
+{
+    word == "receive"
+}
+
+// Whether it is that of `destroy PATH`.
+fn is_destroy(word: &str) -> bool
+    ensures { result ≡ bytes_eq word.now (codes "destroy") }
+{
+    word == "destroy"
+}
+
+// The bytes of the file of a name: the first, where there are several.
+fn file_named<'a>(files: &'a [(String, Vec<u8>)], name: &str) -> Option<&'a [u8]>
+    requires { AreWithin files.now }
+    ensures { MatchOption result
+        (file_named name.now (named_files files.now) ≡ None)
+        (λ bytes. (file_named name.now (named_files files.now) ≡ Some bytes.now) × (length bytes.now ≤ MOST_BYTES)) }
+{
+    let mut left = files;
+    while let Some((file, rest)) = left.split_first() {
+        if file.0.as_str() == name {
+            return Some(&file.1);
+        }
+        left = rest;
+    }
+    None
+}
+
+impl<'a> Session<'a> {
+    /// A site with the files that lines may name, of at most `MOST_BYTES` bytes each.
+    pub fn new(site: SiteState, files: &'a [(String, Vec<u8>)]) -> Session<'a>
+        requires { AreWithin files.now }
+        ensures { result ≡ record { site = site; files = named_files files.now } }
+    {
+        Session { site, files }
+    }
+
+    /// The site.
+    pub fn into_site(self) -> SiteState
+        ensures { result ≡ self.entry.site }
+    {
+        let Session { site, .. } = self;
+        site
+    }
+
+    // `receive NAME`.
+    fn receive(&mut self, words: &[String]) -> Answer
+        ensures files { self.new.files ≡ self.old.files }
+        ensures gives { ReceiveGives self.old.files (map (λ w. string_bytes w) words.now) self.old.site result self.new.site }
+    {
+        let [name] = words else {
+            return Answer::Refused(Fault::BadCommand);
+        };
+        match file_named(self.files, name) {
+            Some(bytes) => Answer::Received(self.site.receive(bytes)),
+            None => Answer::Refused(Fault::NoFile),
+        }
+    }
+
+    // `PATH COMMAND WORDS`.
+    fn command(&mut self, path: &str, words: &[String]) -> Answer
+        ensures files { self.new.files ≡ self.old.files }
+        ensures gives { PathGives path.now (map (λ w. string_bytes w) words.now) self.old.site result self.new.site }
+    {
+        match self.site.command(path, words) {
+            Ok(reply) => Answer::Replied(reply),
+            Err(fault) => Answer::Refused(fault),
+        }
+    }
+}
+
+impl<'a> Commands for Session<'a> {
+    ghost use Rattle.rt_script.specs.Site.{Session, SiteGives};
+
+    ghost State = { Session };
 
     ghost state = { λ s. s };
 
@@ -28,12 +114,12 @@ impl Commands for SiteState {
         let Some((first, rest)) = words.split_first() else {
             return Answer::Refused(Fault::BadCommand);
         };
-        if is_site_word(first) {
+        if is_receive(first) {
+            return self.receive(rest);
+        }
+        if is_destroy(first) {
             return Answer::Refused(Fault::BadCommand);
         }
-        match self.command(first, rest) {
-            Ok(reply) => Answer::Replied(reply),
-            Err(fault) => Answer::Refused(fault),
-        }
+        self.command(first, rest)
     }
 }

@@ -1,5 +1,7 @@
 ghost use Rattle.std.specs.Prelude.{◌≡◌, ◌<◌, ◌≤◌};
+ghost use Rattle.rt_script.specs.Site.{AreWithin};
 
+mod exchange;
 mod marks;
 mod tags;
 mod texts;
@@ -8,7 +10,7 @@ use self::marks::{INDICES, MARK_ORDER, MARK_PLACES, MARK_WORDS};
 use self::tags::{TAG_COMMANDS, TAG_REFUSALS, TAG_WRITES, TAGGED_TEXT};
 use self::texts::{DELETIONS, RANGES, TEXTS};
 use crate::test_ends::{Output, Pieces};
-use crate::{SiteState, run};
+use crate::{Ended, SiteState, run};
 use rt_stamps::limits::{GREATEST_COUNT, MOST_CELLS};
 use rt_stamps::std_ends::{Count, Reader, Writer};
 use rt_stamps::{Clock, Fault, Site};
@@ -18,17 +20,19 @@ use std::process::Abort;
 use std::sync::ledger::{Blank, Ledger};
 use std::test::Fail;
 
+// A run of a site over files, with its reply lines.
 fn output<A: Ledger, B: Ledger, C: Ledger, D: Ledger>(
     alloc: Global,
-    limit: usize,
+    state: SiteState,
+    files: &[(String, Vec<u8>)],
     script: Pieces,
     failing_write: Option<usize>,
     reads: Blank,
     failed_reads: Blank,
     writes: Blank,
     failed_writes: Blank,
-) -> (Vec<u8>, Option<Fault>)
-    requires limit { (1 ≤ limit) × (limit ≤ MOST_CELLS) }
+) -> (Vec<u8>, Ended<SiteState>)
+    requires files { AreWithin files.now }
     requires reads { (reads.name ≡ A.name) × (reads.parts ≡ A.parts) × (0 < A.parts) }
     requires failed_reads { (failed_reads.name ≡ B.name) × (failed_reads.parts ≡ B.parts) × (0 < B.parts) }
     requires writes { (writes.name ≡ C.name) × (writes.parts ≡ C.parts) × (0 < C.parts) }
@@ -47,17 +51,44 @@ fn output<A: Ledger, B: Ledger, C: Ledger, D: Ledger>(
         Count::<C>::begin(writes),
         Count::<D>::begin(failed_writes),
     );
-    let Some(site) = Site::new(1) else {
-        return (Vec::new(alloc), None);
-    };
-    let fault = match SiteState::new(alloc, site, limit) {
-        Ok(state) => run(alloc, state, &mut script, &[], &mut out).fault,
-        Err(fault) => Some(fault),
-    };
+    let ended = run(alloc, state, &mut script, files, &mut out);
     let Output { bytes, .. } = out.into_inner();
-    (bytes, fault)
+    (bytes, ended)
 }
 
+fn run_of(
+    alloc: Global,
+    state: SiteState,
+    files: &[(String, Vec<u8>)],
+    script: Pieces,
+    failing_write: Option<usize>,
+) -> (Vec<u8>, Ended<SiteState>)
+    requires { AreWithin files.now }
+{
+    output::<Brand, Brand, Brand, Brand>(
+        alloc,
+        state,
+        files,
+        script,
+        failing_write,
+        Blank::new(1),
+        Blank::new(1),
+        Blank::new(1),
+        Blank::new(1),
+    )
+}
+
+// A new site of a number, with at most so many cells.
+fn new_site(alloc: Global, number: u16, limit: usize) -> Result<SiteState, Fault>
+    requires { (1 ≤ limit) × (limit ≤ MOST_CELLS) }
+{
+    let Some(site) = Site::new(number) else {
+        return Err(Fault::BadStamp);
+    };
+    SiteState::new(alloc, site, limit)
+}
+
+// The reply lines of a new site without files, and how its run ended.
 fn output_of(
     alloc: Global,
     limit: usize,
@@ -66,16 +97,13 @@ fn output_of(
 ) -> (Vec<u8>, Option<Fault>)
     requires { (1 ≤ limit) × (limit ≤ MOST_CELLS) }
 {
-    output::<Brand, Brand, Brand, Brand>(
-        alloc,
-        limit,
-        script,
-        failing_write,
-        Blank::new(1),
-        Blank::new(1),
-        Blank::new(1),
-        Blank::new(1),
-    )
+    match new_site(alloc, 1, limit) {
+        Ok(state) => {
+            let (bytes, ended) = run_of(alloc, state, &[], script, failing_write);
+            (bytes, ended.fault)
+        }
+        Err(fault) => (Vec::new(alloc), Some(fault)),
+    }
 }
 
 // The bytes of a script of these lines, the last with or without its newline, and of their replies.

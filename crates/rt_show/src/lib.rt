@@ -2,6 +2,6 @@
 #![tactic(auto)]
 
 pub mod lines;
-mod parts;
+pub mod parts;
 
 pub use lines::write_lines;

@@ -1,5 +1,5 @@
 // The cells in a vector.
-ghost use Rattle.std.specs.Prelude.{◌≡◌, ◌+◌, ◌-◌, ◌^◌, ◌<◌, ◌≤◌, ◌∷◌, ◌++◌, [], IfOk, IfErr, count_by, map, take, drop, length, slice_get, take_while, vec_len, vec_capacity};
+ghost use Rattle.std.specs.Prelude.{◌≡◌, ◌+◌, ◌-◌, min, ◌^◌, ◌<◌, ◌≤◌, ◌∷◌, ◌++◌, [], IfOk, IfErr, count_by, map, take, drop, length, slice_get, take_while, vec_len, vec_capacity};
 ghost use Rattle.rt_store.specs.Cells.{final_cell, EndsFinal, StandsBefore, after_element, visible_of, text_of, cell_of, position_of, is_in_span, gone_in, state_in};
 ghost use Rattle.rt_store.specs.Tagged.{AreStates, has_tag, next_place, previous_place, tag_is};
 ghost use Rattle.rt_tags.specs.States.{IsState, IsTag};
@@ -68,6 +68,27 @@ fn place_after(cells: &[Cell<StateId>], newlines: usize) -> usize
         }
     }
     place
+}
+
+// Puts the characters from a place on into a buffer, and answers how many these are.
+fn copy_text(cells: &[Cell<StateId>], place: usize, buffer: &mut [char]) -> usize
+    ensures count { result ≡ min (length buffer.old) (length (text_of cells.now) - place) }
+    ensures characters { take result buffer.new ≡ take result (drop place (text_of cells.now)) }
+    ensures rest { drop result buffer.new ≡ drop result buffer.old }
+{
+    let mut at = 0;
+    for cell in cells {
+        if !cell.gone {
+            if at >= place {
+                if at - place == buffer.len() {
+                    break;
+                }
+                buffer[at - place] = cell.ch;
+            }
+            at += 1;
+        }
+    }
+    at.saturating_sub(place)
 }
 
 // How many newlines the text has.
@@ -308,6 +329,10 @@ impl TextStore for ListStore {
 
     fn char_at(&self, place: usize) -> char {
         nth_visible(&self.cells, place).ch
+    }
+
+    fn characters(&self, place: usize, buffer: &mut [char]) -> usize {
+        copy_text(&self.cells, place, buffer)
     }
 
     fn cell_at(&self, place: usize) -> Cell<StateId> {

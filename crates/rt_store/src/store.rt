@@ -1,5 +1,5 @@
 // What keeps the cells of a text.
-ghost use Rattle.std.specs.Prelude.{◌≡◌, ℕ, ◌+◌, ◌<◌, ◌≤◌, List, ◌++◌, true, false, map, take, drop, length, OnOk, OnErr, IfErr, slice_get, option_map};
+ghost use Rattle.std.specs.Prelude.{◌≡◌, ℕ, ◌+◌, ◌-◌, min, ◌<◌, ◌≤◌, List, ◌++◌, true, false, map, take, drop, length, OnOk, OnErr, IfErr, slice_get, option_map};
 ghost use Rattle.rt_stamps.specs.Places.{newlines, line_of, line_start};
 ghost use Rattle.rt_stamps.specs.Stamps.{is_before};
 ghost use Rattle.rt_stamps.specs.declared.limits.TheConstants.{MOST_CELLS};
@@ -60,6 +60,13 @@ pub trait TextStore: Drop {
     fn char_at(&self, place: usize) -> char
         requires { place < length (visible_of (list self.now)) }
         ensures { slice_get (text_of (list self.now)) place ≡ Some result };
+
+    /// Puts the characters from a place on into a buffer, from its front on: all that the text has there, or as many
+    /// as the buffer holds. Answers how many these are; what is behind them in the buffer stays. Takes no memory.
+    fn characters(&self, place: usize, buffer: &mut [char]) -> usize
+        ensures count { result ≡ min (length buffer.old) (length (text_of (list self.now)) - place) }
+        ensures characters { take result buffer.new ≡ take result (drop place (text_of (list self.now))) }
+        ensures rest { drop result buffer.new ≡ drop result buffer.old };
 
     /// The visible cell at a place.
     fn cell_at(&self, place: usize) -> Cell<StateId>

@@ -1,5 +1,5 @@
 -- What `mark next` and `mark previous` find from where they look.
-use Rattle.std.proofs.Common.{◌≡◌, ℕ, ◌<◌, ◌&&◌, nat_le, nat_lt, List, [], ◌∷◌, find, true, false, refl, sym, ap, ◌∙◌, Bool, cond, subst, arith, Option, Some, None, is_some, Result, Ok, Err, inl, inr}
+use Rattle.std.proofs.Common.{◌≡◌, ℕ, ◌<◌, ◌&&◌, nat_le, nat_lt, List, [], ◌∷◌, length, find, true, false, refl, sym, ap, ◌∙◌, Bool, cond, subst, arith, Option, Some, None, is_some, Result, Ok, Err, inl, inr}
 use Rattle.std.specs.Prelude.{codes, option_and_then}
 use Rattle.std.specs.Option.{option_or}
 use Rattle.std.specs.Ordering.{nat_cmp, ordering_then, is_lt}
@@ -19,8 +19,9 @@ use Rattle.rt_marks.proofs.Names.{clash, same_name, named_with, none_cons}
 use Rattle.rt_stamps.specs.declared.fault.Fault.{Fault}
 use Rattle.rt_stamps.specs.Outcomes.{unless, Refuses}
 use Rattle.rt_stamps.specs.Words.{Word}
+use Rattle.rt_store.specs.Cells.{text_of}
 use Rattle.rt_edits.specs.Flat.{Flat}
-use Rattle.rt_text.specs.Widgets.{Own, AreSiteMarks, is_own, mark_among, mark_of, marks_of, own_or, widget_of}
+use Rattle.rt_text.specs.Widgets.{Own, Viewed, AreSiteMarks, is_own, mark_among, mark_of, marks_of, own_or, widget_of}
 use Rattle.rt_text.specs.declared.own_mark.OwnMark.TheVariants.{Insert, Current}
 use Rattle.rt_tagcmd.specs.Looking.{edge, mark_or, looked_from}
 use Rattle.rt_tagcmd.specs.MarkCommands.{name_of, names_mark, mark_next, mark_previous}
@@ -160,36 +161,39 @@ first_test true b h = refl
 first_test false b h = h
 
 -- what is so of a document and a widget on it
-pub record AreMarks (flat : Flat) (own : Own) (n : ℕ) : Type 0 where
-  pub site : AreSiteMarks n flat.marks
-  pub insert : own.insert.name ≡ codes "insert"
-  pub current : own.current.name ≡ codes "current"
+pub record AreMarks (view : Viewed) : Type 0 where
+  pub site : AreSiteMarks (length (text_of view.doc.cells)) view.doc.marks
+  pub insert : view.own.insert.name ≡ codes "insert"
+  pub current : view.own.current.name ≡ codes "current"
 
-named_among : (flat : Flat) (own : Own) (n : ℕ) (word : Word) → AreMarks flat own n → named word (marks_of own flat) ≡ mark_of own flat word
-named_among flat own n word h = named_all own flat.marks word h.insert h.current (none_own n (codes "insert") flat.marks h.site refl) (none_own n (codes "current") flat.marks h.site refl)
+pub shown_marks : (view : Viewed) (doc : Flat) → doc ≡ view.doc → AreSiteMarks (length (text_of doc.cells)) doc.marks → view.own.insert.name ≡ codes "insert" → view.own.current.name ≡ codes "current" → AreMarks view
+shown_marks view doc e h a b = record { site = subst (λ (d : Flat). AreSiteMarks (length (text_of d.cells)) d.marks) e h; insert = a; current = b }
+
+named_among : (view : Viewed) (word : Word) → AreMarks view → named word (marks_of view) ≡ mark_of view word
+named_among view word h = named_all view.own view.doc.marks word h.insert h.current (none_own _ (codes "insert") view.doc.marks h.site refl) (none_own _ (codes "current") view.doc.marks h.site refl)
 
 own_named : (name : List ℕ) (q : List ℕ) → name ≡ q → IsName q → IsName name
 own_named name q e h = subst IsName (sym e) h
 
-all_named : (flat : Flat) (own : Own) (n : ℕ) → AreMarks flat own n → Each (λ m. IsName m.name) (marks_of own flat)
-all_named flat own n h =
-    each_with (λ m. IsName m.name) own.insert (with_mark own.current flat.marks) (own_named own.insert.name (codes "insert") h.insert (omega arith, omega arith))
-    (each_with (λ m. IsName m.name) own.current flat.marks (own_named own.current.name (codes "current") h.current (omega arith, omega arith)) (site_names n flat.marks h.site))
+all_named : (view : Viewed) → AreMarks view → Each (λ m. IsName m.name) (marks_of view)
+all_named view h =
+    each_with (λ m. IsName m.name) view.own.insert (with_mark view.own.current view.doc.marks) (own_named view.own.insert.name (codes "insert") h.insert (omega arith, omega arith))
+    (each_with (λ m. IsName m.name) view.own.current view.doc.marks (own_named view.own.current.name (codes "current") h.current (omega arith, omega arith)) (site_names _ view.doc.marks h.site))
 
-pub next_found : (flat : Flat) (own : Own) (n : ℕ) (word : Word) → AreMarks flat own n → mark_next flat own word ≡ found_from (λ m. name_of (find (comes_before m) (marks_of own flat))) (looked_from flat own word)
-next_found flat own n word h =
-    let marks = marks_of own flat in
-    either_way (names_mark flat own word) (mark_of own flat word) (index_of (widget_of flat own) word) (name_of (mark_after word marks)) (λ p. name_of (first_mark_at p marks)) (λ m. name_of (find (comes_before m) marks))
+pub next_found : (view : Viewed) (word : Word) → AreMarks view → mark_next view word ≡ found_from (λ m. name_of (find (comes_before m) (marks_of view))) (looked_from view word)
+next_found view word h =
+    let marks = marks_of view in
+    either_way (names_mark view word) (mark_of view word) (index_of (widget_of view) word) (name_of (mark_after word marks)) (λ p. name_of (first_mark_at p marks)) (λ m. name_of (find (comes_before m) marks))
     (λ t. first_test _ _ t)
-    (λ x e. ap (λ o. name_of (option_and_then (λ m. find (comes_before m) marks) o)) (named_among flat own n word h ∙ e))
-    (λ p. ap name_of (first_from_edge p marks (all_named flat own n h)))
+    (λ x e. ap (λ o. name_of (option_and_then (λ m. find (comes_before m) marks) o)) (named_among view word h ∙ e))
+    (λ p. ap name_of (first_from_edge p marks (all_named view h)))
 
-pub previous_found : (flat : Flat) (own : Own) (n : ℕ) (word : Word) → AreMarks flat own n → mark_previous flat own word ≡ found_from (λ m. name_of (find_last (λ x. comes_before x m) (marks_of own flat))) (looked_from flat own word)
-previous_found flat own n word h =
-    let marks = marks_of own flat in
-    either_way (names_mark flat own word) (mark_of own flat word) (index_of (widget_of flat own) word) (name_of (mark_before word marks)) (λ p. name_of (last_mark_before p marks)) (λ m. name_of (find_last (λ x. comes_before x m) marks))
+pub previous_found : (view : Viewed) (word : Word) → AreMarks view → mark_previous view word ≡ found_from (λ m. name_of (find_last (λ x. comes_before x m) (marks_of view))) (looked_from view word)
+previous_found view word h =
+    let marks = marks_of view in
+    either_way (names_mark view word) (mark_of view word) (index_of (widget_of view) word) (name_of (mark_before word marks)) (λ p. name_of (last_mark_before p marks)) (λ m. name_of (find_last (λ x. comes_before x m) marks))
     (λ t. first_test _ _ t)
-    (λ x e. ap (λ o. name_of (option_and_then (λ m. find_last (λ x. comes_before x m) marks) o)) (named_among flat own n word h ∙ e))
+    (λ x e. ap (λ o. name_of (option_and_then (λ m. find_last (λ x. comes_before x m) marks) o)) (named_among view word h ∙ e))
     (λ p. ap name_of (last_from_edge p marks))
 
 -- a refusal of the look is the command's
@@ -197,6 +201,7 @@ pub refused_from : (outcome : Result (Option Word) Fault) (looked : Result Mark 
 refused_from outcome looked f fault found e (inl n) s = inl (s ∙ n)
 refused_from outcome looked f fault found e (inr r) s = inr (e ∙ ap (found_from f) r ∙ ap (λ x. Err x) (sym s))
 
-pub named_of_site : (n : ℕ) (own : Own) (marks now : List Mark) (current : Mark) → AreSiteMarks n marks → now ≡ marks → current ≡ own.current → own.current.name ≡ codes "current" → named current.name now ≡ None
-named_of_site n own marks now current h e c k =
-    (λ i. named (c i).name (e i)) ∙ ap (λ v. named v marks) k ∙ none_own n (codes "current") marks h refl
+-- no mark of the site is named as `current`
+pub no_current : (view : Viewed) (doc : Flat) (now : List Mark) (current : Mark) → AreMarks view → now ≡ doc.marks → doc ≡ view.doc → current ≡ view.own.current → named current.name now ≡ None
+no_current view doc now current h e d c =
+    (λ i. named (c i).name ((e ∙ ap (λ (f : Flat). f.marks) d) i)) ∙ ap (λ v. named v view.doc.marks) h.current ∙ none_own _ (codes "current") view.doc.marks h.site refl

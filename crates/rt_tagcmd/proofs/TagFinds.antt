@@ -8,24 +8,21 @@ use Rattle.std.proofs.lemmas.List.Elements.{All-append, All-cons, All-nil, All-h
 use Rattle.rt_marks.proofs.InOrder.{split}
 use Rattle.rt_marks.proofs.Names.{clash, same_name}
 use Rattle.rt_stamps.specs.Words.{Word}
-use Rattle.rt_store.specs.declared.cell.Cell.{Cell}
-use Rattle.rt_store.specs.Cells.{text_of, visible_of}
 use Rattle.rt_tags.specs.States.{is_on}
 use Rattle.rt_tags.specs.Tags.{is_listed, sel}
 use Rattle.rt_edits.specs.declared.range.Range.{Range}
-use Rattle.rt_edits.specs.Flat.{Flat}
 use Rattle.rt_store.specs.Shown.{TaggedCell}
 use Rattle.rt_edits.specs.Listed.{AreListed}
 use Rattle.rt_store.specs.Spans.{is_among}
-use Rattle.rt_text.specs.Widgets.{Own, is_tagged}
+use Rattle.rt_text.specs.Widgets.{Viewed, is_tagged, length_shown, shown_by}
 use Rattle.rt_tagcmd.specs.TagCommands.{tagged_ranges}
 use Rattle.rt_tagcmd.specs.TagRanges.{IsMaximal, begins_between, ranges_from, passing_ranges, next_range, previous_range}
 use Rattle.rt_tagcmd.proofs.TagRangeLaws.{each_maximal}
 
 -- WITHIN THE TEXT
 
-pub text_length : {T : Type 0} (cells : List (Cell T)) → length (text_of cells) ≡ length (visible_of cells)
-text_length cells = length-map (visible_of cells) (λ cell. cell.ch)
+text_length : (view : Viewed) → length_shown view ≡ length (shown_by view)
+text_length view = length-map (shown_by view) (λ cell. cell.ch)
 
 abbrev pub IsWithin : ℕ → Range → Type 0
 IsWithin n range = (range.from ≤ n) × (range.to ≤ n)
@@ -39,8 +36,8 @@ maximal_within test cs r h =
 all_within : {A : Type 0} (test : A → Bool) (cs : List A) → All (IsWithin (length cs)) (passing_ranges test cs)
 all_within test cs = λ k d l. maximal_within test cs _ (each_maximal test cs k d l)
 
-pub tagged_within : (flat : Flat) (own : Own) (name : Word) → All (IsWithin (length (text_of flat.cells))) (tagged_ranges flat own name)
-tagged_within flat own name = subst (λ n. All (IsWithin n) (tagged_ranges flat own name)) (sym (text_length flat.cells)) (all_within (is_tagged own name) (visible_of flat.cells))
+pub tagged_within : (view : Viewed) (name : Word) → All (IsWithin (length_shown view)) (tagged_ranges view name)
+tagged_within view name = subst (λ n. All (IsWithin n) (tagged_ranges view name)) (sym (text_length view)) (all_within (is_tagged view.own name) (shown_by view))
 
 all_found : {X : Type 0} (P : X → Type 0) (test : X → Bool) (xs : List X) → All P xs → All P (option_to_list (find test xs))
 all_found P test [] h = All-nil P
@@ -55,15 +52,13 @@ all_reversed P [] h = h
 all_reversed P (x ∷ xs) h =
     subst (All P) (sym (reverse-append (x ∷ []) xs)) (All-append P (reverse xs) (x ∷ []) (all_reversed P xs (All-tail P x xs h)) (All-cons P x [] (All-head P x xs h) (All-nil P)))
 
-pub next_within : (flat : Flat) (own : Own) (name : Word) (from to : ℕ) → All (IsWithin (length (text_of flat.cells))) (option_to_list (next_range from to (tagged_ranges flat own name)))
-next_within flat own name from to = all_found (IsWithin (length (text_of flat.cells))) (begins_between from to) (tagged_ranges flat own name) (tagged_within flat own name)
+pub next_within : (view : Viewed) (name : Word) (from to : ℕ) → All (IsWithin (length_shown view)) (option_to_list (next_range from to (tagged_ranges view name)))
+next_within view name from to = all_found (IsWithin (length_shown view)) (begins_between from to) (tagged_ranges view name) (tagged_within view name)
 
-pub previous_within : (flat : Flat) (own : Own) (name : Word) (to from : ℕ) → All (IsWithin (length (text_of flat.cells))) (option_to_list (previous_range to from (tagged_ranges flat own name)))
-previous_within flat own name to from =
-    let within = IsWithin (length (text_of flat.cells)) in
-    all_found within (begins_between from to) (reverse (tagged_ranges flat own name)) (all_reversed within (tagged_ranges flat own name) (tagged_within flat own name))
-
--- POSITIONS
+pub previous_within : (view : Viewed) (name : Word) (to from : ℕ) → All (IsWithin (length_shown view)) (option_to_list (previous_range to from (tagged_ranges view name)))
+previous_within view name to from =
+    let within = IsWithin (length_shown view) in
+    all_found within (begins_between from to) (reverse (tagged_ranges view name)) (all_reversed within (tagged_ranges view name) (tagged_within view name))
 
 -- A TAG THAT ISN'T LISTED
 
@@ -85,8 +80,8 @@ not_on name tags cell u h =
     (λ t. absurd (clash _ (h t) u))
     (λ f. f)
 
-pub unlisted : (flat : Flat) (own : Own) (name : Word) → AreListed flat.tags flat.cells → is_listed name flat.tags ≡ false → tagged_ranges flat own name ≡ []
-unlisted flat own name h u =
-    none_passes (is_tagged own name) 0 (visible_of flat.cells)
-    (λ k d l. let cell = get_or (visible_of flat.cells) k d in
-    cond-false (bytes_eq name sel) (is_among own.sel cell.stamp) (is_on name cell.state) (not_sel name flat.tags h.sel u) ∙ not_on name flat.tags cell u (h.each k d l name))
+pub unlisted : (view : Viewed) (name : Word) → AreListed view.doc.tags view.doc.cells → is_listed name view.doc.tags ≡ false → tagged_ranges view name ≡ []
+unlisted view name h u =
+    none_passes (is_tagged view.own name) 0 (shown_by view)
+    (λ k d l. let cell = get_or (shown_by view) k d in
+    cond-false (bytes_eq name sel) (is_among view.own.sel cell.stamp) (is_on name cell.state) (not_sel name view.doc.tags h.sel u) ∙ not_on name view.doc.tags cell u (h.each k d l name))

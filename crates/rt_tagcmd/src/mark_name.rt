@@ -7,7 +7,7 @@ ghost use Rattle.rt_tagcmd.specs.MarkCommands.{mark_names, with_name};
 
 use rt_stamps::Fault;
 use rt_store::TextStore;
-use rt_text::{Doc, OwnMark};
+use rt_text::{OwnMark, View};
 use std::alloc::Global;
 
 /// Whether a name comes before another by their bytes.
@@ -38,11 +38,11 @@ fn add_name(alloc: Global, names: &mut Vec<String>, name: &str) -> Result<(), Fa
 
 /// `mark names` (Tk text manual): the names of all marks of a widget by their bytes, `insert` and
 /// `current` among them. `NoMemory` is its only fault.
-pub fn mark_names<S: TextStore>(alloc: Global, doc: &Doc<S>) -> Result<Vec<String>, Fault>
-    ensures ok { IfOk result (λ names. map (λ s. string_bytes s) names.items ≡ mark_names doc.now) }
+pub fn mark_names<S: TextStore>(alloc: Global, view: &View<S>) -> Result<Vec<String>, Fault>
+    ensures ok { IfOk result (λ names. map (λ s. string_bytes s) names.items ≡ mark_names view.now) }
     ensures fault { IfErr result (λ fault. fault ≡ Fault.NoMemory) }
 {
-    let marks = doc.marks();
+    let marks = view.doc().marks();
     marks.order();
     let mut names = marks.names()?;
     add_name(alloc, &mut names, OwnMark::Current.name())?;

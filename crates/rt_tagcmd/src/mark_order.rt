@@ -1,25 +1,24 @@
 // The marks after and before another, or an index.
-ghost use Rattle.std.specs.Prelude.{◌≡◌, Ok, codes, IfOk, IfErr, length, option_copied, option_map};
+ghost use Rattle.std.specs.Prelude.{◌≡◌, Ok, IfOk, IfErr, option_copied, option_map};
 ghost use Rattle.rt_marks.specs.Seen.{spotted};
 ghost use Rattle.rt_stamps.specs.Outcomes.{Refuses};
-ghost use Rattle.rt_store.specs.Cells.{text_of};
 ghost use Rattle.rt_tagcmd.specs.Looking.{looked_from};
 ghost use Rattle.rt_tagcmd.specs.MarkCommands.{mark_next, mark_previous, name_of};
-ghost use Rattle.rt_text.specs.Widgets.{IsOwnOf, mark_of, own_mark};
+ghost use Rattle.rt_text.specs.Widgets.{mark_of, own_mark, own_name, own_shown};
 
 use crate::nearest::{first_after, last_before};
 use rt_index::is_fixed;
 use rt_marks::{Gravity, Spot};
 use rt_stamps::Fault;
 use rt_store::TextStore;
-use rt_text::{Doc, OwnMark, Widget};
+use rt_text::{OwnMark, View};
 
 /// Where a widget's own mark stands.
-fn own_spot(widget: &Widget, which: OwnMark) -> Spot<'static>
-    requires insert { widget.now.insert.name ≡ codes "insert" }
-    requires current { widget.now.current.name ≡ codes "current" }
-    ensures { spotted result ≡ own_mark which widget.now }
+fn own_spot<S: TextStore>(view: &View<S>, which: OwnMark) -> Spot<'static>
+    ensures spot { spotted result ≡ own_mark which (own_shown view.now) }
+    ensures name { (own_mark which (own_shown view.now)).name ≡ own_name which }
 {
+    let widget = view.widget();
     Spot {
         place: widget.place(which),
         gravity: widget.gravity(which),
@@ -28,28 +27,26 @@ fn own_spot(widget: &Widget, which: OwnMark) -> Spot<'static>
 }
 
 /// Where the mark of a name stands, an own one or one of the site.
-fn spot_of<'a, S: TextStore>(doc: &'a Doc<S>, widget: &Widget, name: &str) -> Option<Spot<'a>>
-    requires { IsOwnOf (length (text_of doc.now.cells)) widget.now }
-    ensures { option_map spotted result ≡ mark_of widget.now doc.now name.now }
+fn spot_of<'a, S: TextStore>(view: &'a View<S>, name: &str) -> Option<Spot<'a>>
+    ensures { option_map spotted result ≡ mark_of view.now name.now }
 {
     match OwnMark::of(name) {
-        Some(which) => Some(own_spot(widget, which)),
-        None => doc.marks().find(name),
+        Some(which) => Some(own_spot(view, which)),
+        None => view.doc().marks().find(name),
     }
 }
 
 /// Where a word looks from.
-fn look<'a, S: TextStore>(doc: &'a Doc<S>, widget: &Widget, word: &str) -> Result<Spot<'a>, Fault>
-    requires { IsOwnOf (length (text_of doc.now.cells)) widget.now }
-    ensures ok { IfOk result (λ spot. looked_from doc.now widget.now word.now ≡ Ok (spotted spot)) }
-    ensures err { IfErr result (Refuses (looked_from doc.now widget.now word.now)) }
+fn look<'a, S: TextStore>(view: &'a View<S>, word: &str) -> Result<Spot<'a>, Fault>
+    ensures ok { IfOk result (λ spot. looked_from view.now word.now ≡ Ok (spotted spot)) }
+    ensures err { IfErr result (Refuses (looked_from view.now word.now)) }
 {
     if !is_fixed(word) {
-        if let Some(spot) = spot_of(doc, widget, word) {
+        if let Some(spot) = spot_of(view, word) {
             return Ok(spot);
         }
     }
-    let place = doc.place(widget, word)?;
+    let place = view.place(word)?;
     Ok(Spot {
         place,
         gravity: Gravity::Left,
@@ -68,19 +65,14 @@ fn name_of<'a>(mark: Option<Spot<'a>>) -> Option<&'a str>
 /// order of place, gravity and name. A word that names no mark, or is a position or `end`, is an
 /// index, and then it is the first mark at or after it. None where there is no such mark.
 /// `BadIndex`, `NoneTagged`, or want of memory.
-pub fn mark_next<'a, S: TextStore>(
-    doc: &'a Doc<S>,
-    widget: &Widget,
-    word: &str,
-) -> Result<Option<&'a str>, Fault>
-    requires { IsOwnOf (length (text_of doc.now.cells)) widget.now }
-    ensures ok { IfOk result (λ name. mark_next doc.now widget.now word.now ≡ Ok (option_copied name)) }
-    ensures err { IfErr result (Refuses (mark_next doc.now widget.now word.now)) }
+pub fn mark_next<'a, S: TextStore>(view: &'a View<S>, word: &str) -> Result<Option<&'a str>, Fault>
+    ensures ok { IfOk result (λ name. mark_next view.now word.now ≡ Ok (option_copied name)) }
+    ensures err { IfErr result (Refuses (mark_next view.now word.now)) }
 {
-    let marks = doc.marks();
-    let here = look(doc, widget, word)?;
-    let insert = own_spot(widget, OwnMark::Insert);
-    let current = own_spot(widget, OwnMark::Current);
+    let marks = view.doc().marks();
+    let insert = own_spot(view, OwnMark::Insert);
+    let current = own_spot(view, OwnMark::Current);
+    let here = look(view, word)?;
     Ok(name_of(first_after(marks, insert, current, &here)))
 }
 
@@ -89,17 +81,15 @@ pub fn mark_next<'a, S: TextStore>(
 /// index, and then it is the last mark strictly before it. None where there is no such mark.
 /// `BadIndex`, `NoneTagged`, or want of memory.
 pub fn mark_previous<'a, S: TextStore>(
-    doc: &'a Doc<S>,
-    widget: &Widget,
+    view: &'a View<S>,
     word: &str,
 ) -> Result<Option<&'a str>, Fault>
-    requires { IsOwnOf (length (text_of doc.now.cells)) widget.now }
-    ensures ok { IfOk result (λ name. mark_previous doc.now widget.now word.now ≡ Ok (option_copied name)) }
-    ensures err { IfErr result (Refuses (mark_previous doc.now widget.now word.now)) }
+    ensures ok { IfOk result (λ name. mark_previous view.now word.now ≡ Ok (option_copied name)) }
+    ensures err { IfErr result (Refuses (mark_previous view.now word.now)) }
 {
-    let marks = doc.marks();
-    let here = look(doc, widget, word)?;
-    let insert = own_spot(widget, OwnMark::Insert);
-    let current = own_spot(widget, OwnMark::Current);
+    let marks = view.doc().marks();
+    let insert = own_spot(view, OwnMark::Insert);
+    let current = own_spot(view, OwnMark::Current);
+    let here = look(view, word)?;
     Ok(name_of(last_before(marks, insert, current, &here)))
 }

@@ -1,33 +1,32 @@
 // Where a tag is.
-ghost use Rattle.std.specs.Prelude.{◌≡◌, ◌≤◌, ◌⊎◌, ◌∷◌, [], All, None, Some, Ok, IfOk, IfErr, OnOk, false, length, map, option_copied, option_to_list};
+ghost use Rattle.std.specs.Prelude.{◌≡◌, ◌≤◌, ◌⊎◌, ◌∷◌, [], All, None, Some, Ok, IfOk, IfErr, OnOk, false, map, option_copied, option_to_list};
 ghost use Rattle.std.specs.Option.{option_map_or};
 ghost use Rattle.rt_stamps.specs.Outcomes.{Refuses, first_of};
-ghost use Rattle.rt_store.specs.Cells.{text_of};
 ghost use Rattle.rt_tagcmd.specs.TagCommands.{range_ends, tag_nextrange, tag_prevrange, tag_ranges};
 ghost use Rattle.rt_tags.specs.Tags.{is_listed};
 ghost use Rattle.rt_text.specs.Index.{index_check, place_at_index};
-ghost use Rattle.rt_text.specs.Widgets.{IsOwnOf, widget_of};
+ghost use Rattle.rt_text.specs.Widgets.{length_shown, widget_of};
 
 use crate::tag_range::{next_range, previous_range, ranges};
 use rt_stamps::{Fault, Position, check_name};
 use rt_store::TextStore;
-use rt_text::{Doc, Range, Widget};
+use rt_text::{Range, View};
 use std::alloc::Global;
 
 // Where ranges begin and end, in turn.
 fn range_ends<S: TextStore>(
     alloc: Global,
-    doc: &Doc<S>,
+    view: &View<S>,
     ranges: &[Range],
 ) -> Result<Vec<Position>, Fault>
-    requires { All (λ range. (range.from ≤ length (text_of doc.now.cells)) × (range.to ≤ length (text_of doc.now.cells))) ranges.now }
-    ensures ok { IfOk result (λ positions. positions.items ≡ range_ends doc.now ranges.now) }
+    requires { All (λ range. (range.from ≤ length_shown view.now) × (range.to ≤ length_shown view.now)) ranges.now }
+    ensures ok { IfOk result (λ positions. positions.items ≡ range_ends view.now ranges.now) }
     ensures err { IfErr result (λ fault. fault ≡ Fault.NoMemory) }
 {
     let mut positions = Vec::new(alloc);
     for range in ranges {
-        positions.push(doc.position(range.from))?;
-        positions.push(doc.position(range.to))?;
+        positions.push(view.position(range.from))?;
+        positions.push(view.position(range.to))?;
     }
     Ok(positions)
 }
@@ -37,42 +36,39 @@ fn range_ends<S: TextStore>(
 /// memory.
 pub fn tag_ranges<S: TextStore>(
     alloc: Global,
-    doc: &Doc<S>,
-    widget: &Widget,
+    view: &View<S>,
     name: &str,
 ) -> Result<Vec<Position>, Fault>
-    ensures ok { IfOk result (λ positions. tag_ranges doc.now widget.now name.now ≡ Ok positions.items) }
-    ensures unlisted { is_listed name.now doc.now.tags ≡ false → IfOk result (λ positions. positions.items ≡ []) }
-    ensures err { IfErr result (Refuses (tag_ranges doc.now widget.now name.now)) }
+    ensures ok { IfOk result (λ positions. tag_ranges view.now name.now ≡ Ok positions.items) }
+    ensures unlisted { is_listed name.now view.now.doc.tags ≡ false → IfOk result (λ positions. positions.items ≡ []) }
+    ensures err { IfErr result (Refuses (tag_ranges view.now name.now)) }
 {
     check_name(name)?;
-    let _tags = doc.tags();
-    let ranges = ranges(alloc, doc, widget, name)?;
-    range_ends(alloc, doc, &ranges)
+    let _tags = view.doc().tags();
+    let ranges = ranges(alloc, view, name)?;
+    range_ends(alloc, view, &ranges)
 }
 
 // The places of an index and perhaps another one, or of an index and a place where that isn't given.
 fn search_places<S: TextStore>(
-    doc: &Doc<S>,
-    widget: &Widget,
+    view: &View<S>,
     index: &str,
     other: Option<&str>,
     without: usize,
 ) -> Result<(usize, usize), Fault>
-    requires { IsOwnOf (length (text_of doc.now.cells)) widget.now }
     ensures ok { IfOk result (λ places. places ≡ (
-      place_at_index (widget_of doc.now widget.now) index.now,
+      place_at_index (widget_of view.now) index.now,
       option_map_or
-          (place_at_index (widget_of doc.now widget.now)) (option_copied other.entry) without,
+          (place_at_index (widget_of view.now)) (option_copied other.entry) without,
     )) }
-    ensures checked { OnOk result (first_of (map (index_check (widget_of doc.now widget.now)) (index.now ∷ option_to_list (option_copied other.entry)))
+    ensures checked { OnOk result (first_of (map (index_check (widget_of view.now)) (index.now ∷ option_to_list (option_copied other.entry)))
         ≡ None) }
     ensures err { IfErr result (λ fault. (fault ≡ Fault.NoMemory)
-        ⊎ (first_of (map (index_check (widget_of doc.now widget.now)) (index.now ∷ option_to_list (option_copied other.entry))) ≡ Some fault)) }
+        ⊎ (first_of (map (index_check (widget_of view.now)) (index.now ∷ option_to_list (option_copied other.entry))) ≡ Some fault)) }
 {
-    let place = doc.place(widget, index)?;
+    let place = view.place(index)?;
     match other {
-        Some(other) => Ok((place, doc.place(widget, other)?)),
+        Some(other) => Ok((place, view.place(other)?)),
         None => Ok((place, without)),
     }
 }
@@ -80,15 +76,15 @@ fn search_places<S: TextStore>(
 // Where a range begins and ends, if there is one.
 fn found_ends<S: TextStore>(
     alloc: Global,
-    doc: &Doc<S>,
+    view: &View<S>,
     range: Option<Range>,
 ) -> Result<Vec<Position>, Fault>
-    requires { All (λ range. (range.from ≤ length (text_of doc.now.cells)) × (range.to ≤ length (text_of doc.now.cells))) (option_to_list range) }
-    ensures ok { IfOk result (λ positions. positions.items ≡ range_ends doc.now (option_to_list range)) }
+    requires { All (λ range. (range.from ≤ length_shown view.now) × (range.to ≤ length_shown view.now)) (option_to_list range) }
+    ensures ok { IfOk result (λ positions. positions.items ≡ range_ends view.now (option_to_list range)) }
     ensures err { IfErr result (λ fault. fault ≡ Fault.NoMemory) }
 {
     match range {
-        Some(range) => range_ends(alloc, doc, &[range]),
+        Some(range) => range_ends(alloc, view, &[range]),
         None => Ok(Vec::new(alloc)),
     }
 }
@@ -99,19 +95,17 @@ fn found_ends<S: TextStore>(
 /// text's end. `BadName`, `BadIndex`, `NoneTagged`, or want of memory.
 pub fn tag_nextrange<S: TextStore>(
     alloc: Global,
-    doc: &Doc<S>,
-    widget: &Widget,
+    view: &View<S>,
     name: &str,
     from: &str,
     to: Option<&str>,
 ) -> Result<Vec<Position>, Fault>
-    requires { IsOwnOf (length (text_of doc.now.cells)) widget.now }
-    ensures ok { IfOk result (λ positions. tag_nextrange doc.now widget.now name.now from.now (option_copied to.entry) ≡ Ok positions.items) }
-    ensures err { IfErr result (Refuses (tag_nextrange doc.now widget.now name.now from.now (option_copied to.entry))) }
+    ensures ok { IfOk result (λ positions. tag_nextrange view.now name.now from.now (option_copied to.entry) ≡ Ok positions.items) }
+    ensures err { IfErr result (Refuses (tag_nextrange view.now name.now from.now (option_copied to.entry))) }
 {
     check_name(name)?;
-    let (from, to) = search_places(doc, widget, from, to, doc.visible())?;
-    found_ends(alloc, doc, next_range(doc, widget, name, from, to))
+    let (from, to) = search_places(view, from, to, view.visible())?;
+    found_ends(alloc, view, next_range(view, name, from, to))
 }
 
 /// `tag prevrange NAME INDEX ?INDEX?` (Tk text manual): where the last range of a tag begins and
@@ -120,17 +114,15 @@ pub fn tag_nextrange<S: TextStore>(
 /// a second index it is the text's beginning. `BadName`, `BadIndex`, `NoneTagged`, or want of memory.
 pub fn tag_prevrange<S: TextStore>(
     alloc: Global,
-    doc: &Doc<S>,
-    widget: &Widget,
+    view: &View<S>,
     name: &str,
     to: &str,
     from: Option<&str>,
 ) -> Result<Vec<Position>, Fault>
-    requires { IsOwnOf (length (text_of doc.now.cells)) widget.now }
-    ensures ok { IfOk result (λ positions. tag_prevrange doc.now widget.now name.now to.now (option_copied from.entry) ≡ Ok positions.items) }
-    ensures err { IfErr result (Refuses (tag_prevrange doc.now widget.now name.now to.now (option_copied from.entry))) }
+    ensures ok { IfOk result (λ positions. tag_prevrange view.now name.now to.now (option_copied from.entry) ≡ Ok positions.items) }
+    ensures err { IfErr result (Refuses (tag_prevrange view.now name.now to.now (option_copied from.entry))) }
 {
     check_name(name)?;
-    let (to, from) = search_places(doc, widget, to, from, 0)?;
-    found_ends(alloc, doc, previous_range(doc, widget, name, to, from))
+    let (to, from) = search_places(view, to, from, 0)?;
+    found_ends(alloc, view, previous_range(view, name, to, from))
 }

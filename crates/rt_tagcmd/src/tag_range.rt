@@ -1,69 +1,62 @@
 // The ranges of characters that have a tag.
 ghost use Rattle.std.specs.Prelude.{◌≡◌, ◌≤◌, Decides, IfOk, IfErr, length};
-ghost use Rattle.rt_store.specs.Cells.{visible_of};
 ghost use Rattle.rt_store.specs.Tagged.{Passes};
 ghost use Rattle.rt_tagcmd.specs.TagRanges.{IsClearFrom, PassUpTo, first_range_from, next_range, passing_ranges, previous_range};
-ghost use Rattle.rt_text.specs.Widgets.{is_tagged};
+ghost use Rattle.rt_text.specs.Widgets.{is_tagged, shown_by};
 
 use rt_stamps::Fault;
 use rt_store::TextStore;
-use rt_text::{Doc, Range, Widget};
+use rt_text::{Range, View};
 use std::alloc::Global;
 
 // Whether a character stands at a place and has a tag.
-fn has_tag<S: TextStore>(doc: &Doc<S>, widget: &Widget, name: &str, place: usize) -> bool
-    ensures { Decides result (Passes (is_tagged widget.now name.now) (visible_of doc.now.cells) place) }
+fn has_tag<S: TextStore>(view: &View<S>, name: &str, place: usize) -> bool
+    ensures { Decides result (Passes (is_tagged view.now.own name.now) (shown_by view.now) place) }
 {
-    doc.next_tagged(widget, name, place) == Some(place)
+    view.next_tagged(name, place) == Some(place)
 }
 
 // Up to where all characters from a place on have a tag.
-fn tagged_up_to<S: TextStore>(doc: &Doc<S>, widget: &Widget, name: &str, place: usize) -> usize
-    requires { place ≤ length (visible_of doc.now.cells) }
-    ensures { PassUpTo (is_tagged widget.now name.now) (visible_of doc.now.cells) place result }
+fn tagged_up_to<S: TextStore>(view: &View<S>, name: &str, place: usize) -> usize
+    requires { place ≤ length (shown_by view.now) }
+    ensures { PassUpTo (is_tagged view.now.own name.now) (shown_by view.now) place result }
 {
-    let end = doc.visible();
-    doc.next_untagged(widget, name, place).unwrap_or(end)
+    let end = view.visible();
+    view.next_untagged(name, place).unwrap_or(end)
 }
 
 // The end of the range that reaches over a place, or the place where none does.
-fn clear_from<S: TextStore>(doc: &Doc<S>, widget: &Widget, name: &str, place: usize) -> usize
-    ensures { IsClearFrom (is_tagged widget.now name.now) (visible_of doc.now.cells) place result }
+fn clear_from<S: TextStore>(view: &View<S>, name: &str, place: usize) -> usize
+    ensures { IsClearFrom (is_tagged view.now.own name.now) (shown_by view.now) place result }
 {
-    if place > 0 && has_tag(doc, widget, name, place - 1) {
-        return tagged_up_to(doc, widget, name, place);
+    if place > 0 && has_tag(view, name, place - 1) {
+        return tagged_up_to(view, name, place);
     }
     place
 }
 
 // The first range that begins at a place or later.
-fn first_range<S: TextStore>(
-    doc: &Doc<S>,
-    widget: &Widget,
-    name: &str,
-    place: usize,
-) -> Option<Range>
-    ensures { result ≡ first_range_from place (passing_ranges (is_tagged widget.now name.now) (visible_of doc.now.cells)) }
+fn first_range<S: TextStore>(view: &View<S>, name: &str, place: usize) -> Option<Range>
+    ensures { result ≡ first_range_from place (passing_ranges (is_tagged view.now.own name.now) (shown_by view.now)) }
 {
-    let clear = clear_from(doc, widget, name, place);
-    let from = doc.next_tagged(widget, name, clear)?;
-    let to = tagged_up_to(doc, widget, name, from);
+    let clear = clear_from(view, name, place);
+    let from = view.next_tagged(name, clear)?;
+    let to = tagged_up_to(view, name, from);
     Some(Range { from, to })
 }
 
 /// The ranges of characters that have a tag, in order. `NoMemory` is its only fault.
 pub(crate) fn ranges<S: TextStore>(
     alloc: Global,
-    doc: &Doc<S>,
-    widget: &Widget,
+    view: &View<S>,
     name: &str,
 ) -> Result<Vec<Range>, Fault>
-    ensures ok { IfOk result (λ ranges. ranges.items ≡ passing_ranges (is_tagged widget.now name.now) (visible_of doc.now.cells)) }
+    ensures ok { IfOk result (λ ranges. ranges.items ≡ passing_ranges (is_tagged view.now.own name.now) (shown_by view.now)) }
     ensures err { IfErr result (λ fault. fault ≡ Fault.NoMemory) }
 {
     let mut ranges = Vec::new(alloc);
     let mut place = 0;
-    while let Some(range) = first_range(doc, widget, name, place) {
+    while let Some(range) = first_range(view, name, place) {
         ranges.push(range)?;
         place = range.to;
     }
@@ -72,31 +65,29 @@ pub(crate) fn ranges<S: TextStore>(
 
 /// The first range of a tag that begins at one place or later, and before another.
 pub(crate) fn next_range<S: TextStore>(
-    doc: &Doc<S>,
-    widget: &Widget,
+    view: &View<S>,
     name: &str,
     from: usize,
     to: usize,
 ) -> Option<Range>
-    ensures { result ≡ next_range from to (passing_ranges (is_tagged widget.now name.now) (visible_of doc.now.cells)) }
+    ensures { result ≡ next_range from to (passing_ranges (is_tagged view.now.own name.now) (shown_by view.now)) }
 {
-    let range = first_range(doc, widget, name, from)?;
+    let range = first_range(view, name, from)?;
     if range.from < to { Some(range) } else { None }
 }
 
 /// The last range of a tag that begins before one place, and at another or later.
 pub(crate) fn previous_range<S: TextStore>(
-    doc: &Doc<S>,
-    widget: &Widget,
+    view: &View<S>,
     name: &str,
     to: usize,
     from: usize,
 ) -> Option<Range>
-    ensures { result ≡ previous_range to from (passing_ranges (is_tagged widget.now name.now) (visible_of doc.now.cells)) }
+    ensures { result ≡ previous_range to from (passing_ranges (is_tagged view.now.own name.now) (shown_by view.now)) }
 {
     let mut last = None;
     let mut place = from;
-    while let Some(range) = next_range(doc, widget, name, place, to) {
+    while let Some(range) = next_range(view, name, place, to) {
         last = Some(range);
         place = range.to;
     }

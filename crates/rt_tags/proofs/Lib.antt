@@ -4,6 +4,7 @@ pub mod Greatest
 pub mod Interning
 pub mod Keeping
 pub mod Listing
+pub mod Marked
 pub mod Merging
 pub mod Parts
 pub mod Places

@@ -1,11 +1,10 @@
 -- States of many writes, merged from two that are by name.
-use Rattle.std.proofs.Common.{◌≡◌, ℕ, ◌+◌, ◌<◌, List, [], ◌∷◌, ◌++◌, filter, length, Bool, true, false, not, cond, refl, sym, ap, subst, ◌∙◌, arith, map, Option, Some, None, append-nil}
-use Rattle.std.specs.List.{AllByRecursion, All}
+use Rattle.std.proofs.Common.{◌≡◌, ℕ, ◌+◌, ◌<◌, List, [], ◌∷◌, ◌++◌, length, Bool, true, false, not, cond, refl, sym, ap, subst, ◌∙◌, arith, Option, Some, None, append-nil}
+use Rattle.std.specs.List.{AllByRecursion}
 use Rattle.std.specs.Ordering.{is_lt, is_gt, is_eq, ordering_reverse}
 use Rattle.std.specs.Str.{bytes_eq}
-use Rattle.std.specs.declared.cmp.Ordering.{Ordering}
 use Rattle.std.specs.declared.cmp.Ordering.TheVariants.{Less, Equal, Greater}
-use Rattle.std.proofs.lemmas.Cmp.{nat_list_cmp_total, tied_itself}
+use Rattle.std.proofs.lemmas.Cmp.{nat_list_cmp_total}
 use Rattle.std.proofs.lemmas.List.{map-append}
 use Rattle.std.proofs.lemmas.List.Elements.{All-head, All-tail}
 use Rattle.std.proofs.lemmas.Map.Text.{is_eq-slice_cmp}
@@ -17,8 +16,8 @@ use Rattle.rt_tags.specs.Kept.{HaveNames, IsFirst, IsSorted, all_seen, seen}
 use Rattle.rt_tags.specs.declared.states.Entry.{Entry}
 use Rattle.rt_tags.proofs.Commuting.{all_above, back_other, none_above, one_state}
 use Rattle.rt_tags.proofs.Greatest.{after_all, newer, top}
-use Rattle.rt_tags.proofs.Places.{clash, name_itself, same_name, split}
-use Rattle.rt_tags.proofs.Sorted.{every, turned, written_sorted}
+use Rattle.rt_tags.proofs.Places.{name_itself, same_name}
+use Rattle.rt_tags.proofs.Sorted.{turned, written_sorted}
 
 -- a name that is less than another
 opposite : (a b : List ℕ) → name_order a b ≡ Less → name_order b a ≡ Greater

@@ -1,17 +1,16 @@
 -- The first of some names, as those are listed, when names are moved.
-use Rattle.std.proofs.Common.{◌≡◌, ℕ, zero, suc, ◌+◌, ◌-◌, ◌<◌, ◌≤◌, ◌||◌, length, arith, List, [], ◌∷◌, ◌++◌, true, false, refl, sym, ap, ◌∙◌, Bool, cond, get_or, insert, map, remove, set, slice_get, string_bytes, take, drop, Option, Some, None, option_map}
+use Rattle.std.proofs.Common.{◌≡◌, ℕ, zero, suc, ◌+◌, ◌-◌, ◌<◌, ◌≤◌, ◌||◌, length, arith, List, [], ◌∷◌, ◌++◌, true, false, refl, sym, ap, ◌∙◌, cond, get_or, insert, map, remove, set, slice_get, string_bytes, take, drop, Option, Some, None, option_map}
 use Rattle.std.specs.List.{swap}
 use Rattle.std.specs.Prelude.{IsPermutation}
 use Rattle.std.specs.Option.{option_map_or}
 use Rattle.std.specs.Str.{bytes_eq}
 use Rattle.std.specs.declared.string.String.{String}
-use Rattle.std.proofs.lemmas.List.{length-set, length-take-le, map-append, take-append-drop, take-append-le, take-map, take-set-le, take-take, take_at, take_more_set}
+use Rattle.std.proofs.lemmas.List.{length-set, length-take-le, map-append, take-append-drop, take-map, take-set-le, take-take, take_at, take_more_set}
 use Rattle.std.proofs.lemmas.List.Edits.{insert-append_left, length-insert, length-remove, remove-append_left, swap_is}
-use Rattle.std.proofs.lemmas.List.Folds.{list_any-append}
 use Rattle.std.proofs.lemmas.List.Sorted.{list_any-IsPermutation}
 use Rattle.std.proofs.lemmas.Option.{get_or_from_slice_get, slice_get-map}
 use Rattle.indexmap.specs.IndexSet.{move_index}
-use Rattle.rt_tags.specs.Tags.{HaveNoRepeats, is_listed, raised, with_name, without}
+use Rattle.rt_tags.specs.Tags.{HaveNoRepeats, is_listed, with_name, without}
 use Rattle.rt_tags.specs.Kept.{IsListing}
 use Rattle.rt_tags.specs.Seen.{IsAt}
 use Rattle.rt_tags.proofs.Places.{at_within, clash, got, listed_at, listed_head, listed_tail, moved_highest, name_itself, removed, split}

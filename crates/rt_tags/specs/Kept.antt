@@ -99,3 +99,8 @@ pub record IsFirst (names : List (List ℕ)) (old new : List Entry) (e : Entry) 
 pub record IsListing (names : List (List ℕ)) (listed : ℕ) : Type 0 where
   pub differ : HaveNoRepeats names
   pub within : listed ≤ length names
+
+-- and a mark for each of the names
+pub record IsMarkedListing (names : List (List ℕ)) (listed : ℕ) (marks : List Bool) : Type 0 where
+  pub listing : IsListing names listed
+  pub as_many : length marks ≡ length names

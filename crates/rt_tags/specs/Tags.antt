@@ -1,5 +1,5 @@
 -- Tags: the names that a site lists, in the order of their priority, lowest first. A name is seen as the list of its bytes.
-use Rattle.std.specs.Prelude.{◌≡◌, ℕ, List, [], ◌∷◌, ◌++◌, Bool, true, false, not, ◌||◌, filter, Option, Some, None, if◌then◌else◌}
+use Rattle.std.specs.Prelude.{◌≡◌, ℕ, List, [], ◌∷◌, ◌++◌, Bool, true, false, not, ◌||◌, ◌&&◌, filter, Option, Some, None, if◌then◌else◌}
 use Rattle.std.specs.List.{list_any}
 use Rattle.std.specs.Str.{bytes_eq}
 pub use Rattle.rt_stamps.specs.Names.{IsName}
@@ -32,6 +32,14 @@ with_name name names = if is_listed name names then names else names ++ name ∷
 -- the names but one that is forgotten: sel stays listed
 abbrev pub forgotten : List ℕ → List (List ℕ) → List (List ℕ)
 forgotten name names = if bytes_eq name sel then names else without name names
+
+-- a name is forgotten where it is among some that are given and isn't sel
+abbrev pub is_forgotten : List (List ℕ) → List ℕ → Bool
+is_forgotten given name = is_listed name given && not (bytes_eq name sel)
+
+-- the names but those that are forgotten
+abbrev pub without_all : List (List ℕ) → List (List ℕ) → List (List ℕ)
+without_all given names = filter (λ x. not (is_forgotten given x)) names
 
 -- READY NAMES
 

@@ -3,6 +3,7 @@
 //! `specs/States.antt` and `specs/Writers.antt`.
 #![tactic(auto)]
 
+mod forgetting;
 pub mod laws;
 mod names;
 mod sorting;

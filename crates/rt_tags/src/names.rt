@@ -1,5 +1,5 @@
 // Names in a set that keeps their order.
-ghost use Rattle.std.specs.Prelude.{◌≡◌, ◌+◌, ◌-◌, ◌≤◌, ◌<◌, ◌++◌, ◌∷◌, [], ℕ, List, Some, IfOk, IfSome, OnErr, OnOk, is_some, map, string_bytes, take, false};
+ghost use Rattle.std.specs.Prelude.{◌≡◌, ◌+◌, ◌-◌, ◌≤◌, ◌<◌, ◌++◌, ◌∷◌, [], ℕ, List, Some, IfOk, IfSome, OnErr, OnOk, drop, is_some, length, map, string_bytes, take, false};
 ghost use Rattle.indexmap.specs.IndexSet.{index_set_len, move_index, spare};
 ghost use Rattle.rt_tags.specs.Seen.{IsAt, names_of};
 ghost use Rattle.rt_tags.specs.Kept.{IsListing};
@@ -50,10 +50,17 @@ pub fn add(names: &mut IndexSet<String>, name: String)
     names.insert(name).unwrap();
 }
 
-/// Adds a name behind the others, none of which it is, and answers its index. Want of memory, and then
-/// they stay.
-pub fn add_new(alloc: Global, names: &mut IndexSet<String>, name: &str) -> Result<usize, AllocError>
-    requires { is_listed name.now (names_of names.old) ≡ false }
+/// Adds a name behind the others, none of which it is, and a mark for it, and answers its index. Want of
+/// memory, and then they stay.
+pub fn add_new(
+    alloc: Global,
+    names: &mut IndexSet<String>,
+    marks: &mut Vec<bool>,
+    name: &str,
+) -> Result<usize, AllocError>
+    requires new { is_listed name.now (names_of names.old) ≡ false }
+    requires marks { length marks.old.items ≡ length (names_of names.old) }
+    ensures marks { length marks.new.items ≡ length (names_of names.new) }
     ensures index { IfOk result (λ i. IsAt name.now (names_of names.new) i) }
     ensures within { IfOk result (λ i. i < index_set_len names.new) }
     ensures names { OnOk result (names_of names.new ≡ names_of names.old ++ name.now ∷ []) }
@@ -62,15 +69,19 @@ pub fn add_new(alloc: Global, names: &mut IndexSet<String>, name: &str) -> Resul
 {
     let index = names.len();
     let name = String::from_str(alloc, name)?;
+    marks.reserve(1)?;
     make_room(names, 1)?;
+    marks.push(false).unwrap();
     add(names, name);
     Ok(index)
 }
 
-// Brings the name at an index to another before it; those before this one stay.
-fn bring(names: &mut IndexSet<String>, from: usize, to: usize)
+/// Brings the name at an index to another before it; those before this one stay, and those behind the
+/// first.
+pub fn bring(names: &mut IndexSet<String>, from: usize, to: usize)
     requires from { from < index_set_len names.old }
     requires to { to ≤ from }
+    ensures behind { drop (from + 1) (names_of names.new) ≡ drop (from + 1) (names_of names.old) }
     ensures front { (name : List ℕ) → IsAt name (names_of names.old) from → take (to + 1) (names_of names.new) ≡ take to (names_of names.old)
         ++ name ∷ [] }
     ensures same { (name : List ℕ) → is_listed name (names_of names.new) ≡ is_listed name (names_of names.old) }
@@ -87,6 +98,7 @@ pub fn list(names: &mut IndexSet<String>, listed: usize, index: usize) -> usize
     ensures listed { IsListing (names_of names.new) result }
     ensures names { (name : List ℕ) → IsAt name (names_of names.old) index
         → take result (names_of names.new) ≡ with_name name (take listed (names_of names.old)) }
+    ensures len { length (names_of names.new) ≡ length (names_of names.old) }
     ensures same { (name : List ℕ) → is_listed name (names_of names.new) ≡ is_listed name (names_of names.old) }
 {
     if index < listed {
@@ -105,6 +117,7 @@ pub fn shift(names: &mut IndexSet<String>, listed: usize, from: usize, to: usize
     requires to { to < listed }
     ensures listed { IsListing (names_of names.new) listed }
     ensures names { take listed (names_of names.new) ≡ move_index (take listed (names_of names.old)) from to }
+    ensures len { length (names_of names.new) ≡ length (names_of names.old) }
     ensures same { (name : List ℕ) → is_listed name (names_of names.new) ≡ is_listed name (names_of names.old) }
 {
     names.move_index(from, to);
@@ -116,6 +129,7 @@ pub fn shift_highest(names: &mut IndexSet<String>, listed: usize, from: usize)
     requires from { from < listed }
     ensures listed { IsListing (names_of names.new) listed }
     ensures names { take listed (names_of names.new) ≡ move_index (take listed (names_of names.old)) from (listed - 1) }
+    ensures len { length (names_of names.new) ≡ length (names_of names.old) }
     ensures same { (name : List ℕ) → is_listed name (names_of names.new) ≡ is_listed name (names_of names.old) }
 {
     shift(names, listed, from, listed - 1);
@@ -130,6 +144,7 @@ pub fn shift_above(names: &mut IndexSet<String>, listed: usize, from: usize, to:
     ensures names { (name other : List ℕ) → IsAt name (take listed (names_of names.old)) from
         → IsAt other (take listed (names_of names.old)) to → take listed (names_of names.new)
         ≡ raised name (Some other) (take listed (names_of names.old)) }
+    ensures len { length (names_of names.new) ≡ length (names_of names.old) }
     ensures same { (name : List ℕ) → is_listed name (names_of names.new) ≡ is_listed name (names_of names.old) }
 {
     if from < to {
@@ -148,6 +163,7 @@ pub fn shift_below(names: &mut IndexSet<String>, listed: usize, from: usize, to:
     ensures names { (name other : List ℕ) → IsAt name (take listed (names_of names.old)) from
         → IsAt other (take listed (names_of names.old)) to → take listed (names_of names.new)
         ≡ lowered name (Some other) (take listed (names_of names.old)) }
+    ensures len { length (names_of names.new) ≡ length (names_of names.old) }
     ensures same { (name : List ℕ) → is_listed name (names_of names.new) ≡ is_listed name (names_of names.old) }
 {
     if from < to {

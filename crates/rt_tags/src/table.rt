@@ -1,9 +1,9 @@
 // The tags of a site.
 ghost use Rattle.std.specs.Prelude.{ℕ, List, ◌≡◌, ◌⊎◌, ◌↔◌, ◌&&◌, [], ◌∷◌, OnOk, OnErr, IfOk, IfErr, IfSome, Ok, Err, is_some, false, true, map, option_copied, string_bytes, if◌then◌else◌};
 ghost use Rattle.rt_tags.specs.Seen.{IsAt};
-ghost use Rattle.rt_tags.specs.Tags.{AlsoReady, HaveNoRepeats, IsName, SameReady, forgotten, is_listed, is_place, is_ready, lowered, raised, sel, with_name};
+ghost use Rattle.rt_tags.specs.Tags.{AlsoReady, HaveNoRepeats, IsName, SameReady, forgotten, is_listed, is_place, is_ready, lowered, raised, sel, with_name, without_all};
 
-use crate::names;
+use crate::{forgetting, names};
 use indexmap::IndexSet;
 use rt_stamps::{Fault, check_name};
 use std::alloc::Global;
@@ -18,20 +18,22 @@ pub struct TagTable {
     // the names that are ready: first those that are listed, lowest priority first
     names: IndexSet<String>,
     listed: usize,
+    // one for each name, for the use of `forget_all`, which takes no memory
+    marks: Vec<bool>,
 }
 
 impl Model for TagTable {
     ghost use Rattle.std.specs.Prelude.{◌≤◌, take};
     ghost use Rattle.indexmap.specs.IndexSet.{index_set_len};
     ghost use Rattle.rt_tags.specs.Tags.{Tags};
-    ghost use Rattle.rt_tags.specs.Kept.{IsListing};
+    ghost use Rattle.rt_tags.specs.Kept.{IsMarkedListing};
     ghost use Rattle.rt_tags.specs.Seen.{names_of};
 
     ghost Value = { Tags };
 
     ghost view = { λ t. record { names = take t.listed (names_of t.names); ready = names_of t.names } };
 
-    ghost invariant = { λ t. IsListing (names_of t.names) t.listed };
+    ghost invariant = { λ t. IsMarkedListing (names_of t.names) t.listed t.marks.items };
 }
 
 impl TagTable {
@@ -42,12 +44,14 @@ impl TagTable {
     {
         let mut names: IndexSet<String> = IndexSet::new(alloc);
         let name = String::from_str(alloc, "sel")?;
+        let marks = Vec::from_slice(alloc, &[false])?;
         names::make_room(&mut names, 1)?;
         names::add(&mut names, name);
         Ok(TagTable {
             alloc,
             names,
             listed: 1,
+            marks,
         })
     }
 
@@ -90,7 +94,7 @@ impl TagTable {
         match names::index_of(&self.names, name) {
             Some(_) => {}
             None => {
-                let _ = names::add_new(self.alloc, &mut self.names, name)?;
+                let _ = names::add_new(self.alloc, &mut self.names, &mut self.marks, name)?;
             }
         }
         Ok(())
@@ -113,7 +117,7 @@ impl TagTable {
                 self.listed = names::list(&mut self.names, self.listed, place);
             }
             None => {
-                let place = names::add_new(self.alloc, &mut self.names, name)?;
+                let place = names::add_new(self.alloc, &mut self.names, &mut self.marks, name)?;
                 self.listed = names::list(&mut self.names, self.listed, place);
             }
         }
@@ -135,6 +139,15 @@ impl TagTable {
             }
             None => {}
         }
+    }
+
+    /// Forgets names, which stay ready. `sel` and names that aren't listed are passed over. It takes no
+    /// memory, and goes through the names that are ready once, however many are given.
+    pub fn forget_all(&mut self, names: &[String])
+        ensures names { self.new.names ≡ without_all (map (λ w. string_bytes w) names.now) self.old.names }
+        ensures ready { SameReady self.old self.new }
+    {
+        self.listed = forgetting::forget(&mut self.names, self.listed, names, &mut self.marks);
     }
 
     /// Raises a name just above another, or above all ("tag raise"). `NoTag` just where one of them

@@ -5,39 +5,30 @@ use crate::show::lines_of;
 use rt_edits::{Piece, Range};
 use rt_stamps::{Fault, Site};
 use rt_store::ListStore;
-use rt_text::{Doc, Widget};
+use rt_text::View;
 use std::alloc::Global;
 use std::marker::Model;
 use std::test::Fail;
 
-/// A document of site 1 and its widget. Its calls have no clauses.
+/// A document of site 1 as a widget shows it. Its calls have no clauses.
 struct Page {
     alloc: Global,
-    doc: Doc<ListStore>,
-    widget: Widget,
+    view: View<ListStore>,
 }
 
 // Written out, so that each way out of a test lets a page go in one step of its proof.
 impl Drop for Page {
     fn drop(self) {
-        let Page {
-            alloc: _,
-            doc: _,
-            widget: _,
-        } = self;
+        let Page { alloc: _, view: _ } = self;
     }
 }
 
 impl Model for Page {
-    ghost use Rattle.std.specs.Prelude.{ℕ, length};
-    ghost use Rattle.rt_store.specs.Cells.{text_of};
-    ghost use Rattle.rt_text.specs.Widgets.{IsOwnOf};
+    ghost use Rattle.std.specs.Prelude.{ℕ};
 
     ghost Value = { ℕ };
 
     ghost view = { λ _. 0 };
-
-    ghost invariant = { λ p. IsOwnOf (length (text_of p.doc.cells)) p.widget };
 }
 
 /// What is done to a page.
@@ -56,14 +47,12 @@ impl Page {
     fn new(alloc: Global) -> Result<Page, Fail> {
         let site = Site::new(1).ok_or("a site")?;
         let store = ListStore::new(alloc)?;
-        let doc = Doc::new(alloc, store, site, 100_000)?;
-        let widget = Widget::new(alloc);
-        Ok(Page { alloc, doc, widget })
+        let view = View::new(alloc, store, site, 100_000)?;
+        Ok(Page { alloc, view })
     }
 
     fn insert(&mut self, index: &str, pieces: &[Piece], rest: &str) -> Result<(), Fault> {
-        self.doc
-            .insert(&mut self.widget, &mut [], index, pieces, rest)
+        self.view.insert(index, pieces, rest)
     }
 
     fn take(&mut self, step: Step<'_>) -> Result<(), Fault> {
@@ -74,26 +63,20 @@ impl Page {
             }
             Step::Delete(indices) => {
                 let indices = words(self.alloc, indices)?;
-                self.doc.delete(&mut self.widget, &mut [], &indices)
+                self.view.delete(&indices)
             }
-            Step::Tag(on, from, to) => {
-                self.doc
-                    .write_tag(&mut self.widget, on, "t", &[Range { from, to }])
-            }
-            Step::Select(from, to) => {
-                self.doc
-                    .write_tag(&mut self.widget, true, "sel", &[Range { from, to }])
-            }
+            Step::Tag(on, from, to) => self.view.write_tag(on, "t", &[Range { from, to }]),
+            Step::Select(from, to) => self.view.write_tag(true, "sel", &[Range { from, to }]),
             Step::DeleteTags(names) => {
                 let names = words(self.alloc, names)?;
-                self.doc.delete_tags(&names)
+                self.view.delete_tags(&names)
             }
         }
     }
 
     // The lines of the operations from a place of the log up.
     fn lines(&self, from: usize) -> Result<Vec<u8>, Fault> {
-        let log = self.doc.log();
+        let log = self.view.doc().log();
         let mut ops = Vec::new(self.alloc);
         for place in from..log.len() {
             ops.push(log.get(place).copied(self.alloc)?)?;
@@ -182,7 +165,7 @@ tag 14.1 prev 13 off t spans 0:1-1
 fn operations_of_commands(rt: HostRuntime) -> Result<(), Fail> {
     let mut page = Page::new(rt.alloc())?;
     for (step, wanted, lines) in STEPS {
-        let from = page.doc.log().len();
+        let from = page.view.doc().log().len();
         assert_eq!(rt; page.take(*step), *wanted, "{lines}");
         assert_eq!(rt; page.lines(from)?.as_slice(), lines.as_bytes(), "{lines}");
     }
@@ -224,7 +207,7 @@ fn operations_of_65536_characters(rt: HostRuntime) -> Result<(), Fail> {
         text.push('z')?;
     }
     page.insert("1.0", &[], text.as_str())?;
-    assert_eq!(rt; page.doc.log().known(1), 65_536);
+    assert_eq!(rt; page.view.doc().log().known(1), 65_536);
     let second = "insert 65536.1 prev 65535 after 65535.1 text z tags\n";
     assert_eq!(rt; page.lines(1)?.as_slice(), second.as_bytes());
     Ok(())

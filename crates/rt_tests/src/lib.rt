@@ -2,6 +2,8 @@
 #![tactic(auto)]
 
 #[cfg(test)]
+mod accepting;
+#[cfg(test)]
 mod edit_logs;
 #[cfg(test)]
 mod edits_removals;

@@ -5,7 +5,7 @@ use crate::samples::{
     AFTER_ITSELF, DELETE_FINAL, DELETE_SECOND, INSERT_AB, INSERT_B, INSERT_LAST, INSERT_Y,
     SHORT_LENGTH, TAG_FIRST,
 };
-use rt_oplog::{Edit, OpLog, Reading, join, read_file, write_file};
+use rt_oplog::{Edit, OpLog, Reading, join, read_file, read_whole, write_file};
 use rt_stamps::std_ends::{Count, Reader, Writer};
 use rt_stamps::{Fault, ROOT, Span, Stamp};
 use std::alloc::Global;
@@ -97,6 +97,37 @@ pub(crate) fn read_bytes(alloc: Global, bytes: &[u8]) -> Result<Reading, Fault> 
     read_pieces(alloc, bytes, 4096, None)
 }
 
+fn read_whole_in<A: Ledger, B: Ledger>(
+    alloc: Global,
+    pieces: Pieces,
+    reads: Blank,
+    failures: Blank,
+) -> Result<Vec<u8>, Fault>
+    requires reads { (reads.name ≡ A.name) × (reads.parts ≡ A.parts) × (0 < A.parts) }
+    requires failures { (failures.name ≡ B.name) × (failures.parts ≡ B.parts) × (0 < B.parts) }
+{
+    let mut reader = Reader::new(
+        pieces,
+        Count::<A>::begin(reads),
+        Count::<B>::begin(failures),
+    );
+    read_whole(alloc, &mut reader)
+}
+
+fn read_all(
+    alloc: Global,
+    bytes: &[u8],
+    size: usize,
+    until_failure: Option<usize>,
+) -> Result<Vec<u8>, Fault> {
+    let pieces = Pieces {
+        bytes,
+        size,
+        until_failure,
+    };
+    read_whole_in::<Brand, Brand>(alloc, pieces, Blank::new(1), Blank::new(1))
+}
+
 fn write_in<A: Ledger, B: Ledger>(
     alloc: Global,
     log: &OpLog,
@@ -156,6 +187,25 @@ fn files_are_written_back(rt: HostRuntime) -> Result<(), Fail> {
             assert_eq!(rt; fault, None);
             assert_eq!(rt; written.as_slice(), bytes);
         }
+    }
+    Ok(())
+}
+
+#[test]
+fn all_bytes_are_read(rt: HostRuntime) -> Result<(), Fail> {
+    let alloc = rt.alloc();
+    for size in [1, 7, 4096] {
+        let bytes = read_all(alloc, &INSERT_AB, size, None)?;
+        assert_eq!(rt; bytes.as_slice(), INSERT_AB.as_slice());
+    }
+    assert!(rt; read_all(alloc, b"", 4096, None)?.is_empty());
+    for failure in [0, 1, 7] {
+        assert!(rt;
+            matches!(
+                read_all(alloc, &INSERT_AB, 7, Some(failure)),
+                Err(Fault::ReadFault)
+            )
+        );
     }
     Ok(())
 }
@@ -394,6 +444,18 @@ fn with_change(alloc: Global, bytes: &[u8], place: usize, change: u8) -> Result<
         changed.push(if i == place { *byte ^ change } else { *byte })?;
     }
     Ok(changed)
+}
+
+#[test]
+fn files_in_memory(rt: HostRuntime) -> Result<(), Fail> {
+    let whole = rt_oplog::read_bytes(rt.alloc(), &INSERT_AB)?;
+    assert_eq!(rt; (whole.ops.len(), whole.fault), (1, None));
+    let cut = rt_oplog::read_bytes(rt.alloc(), &INSERT_AB[..43])?;
+    assert_eq!(rt;
+        (cut.ops.len(), cut.fault),
+        (0, Some((Fault::Truncated, 8)))
+    );
+    Ok(())
 }
 
 #[test]

@@ -40,7 +40,7 @@ fn span(named: (u16, u64, u64)) -> Span {
     Span { site, first, last }
 }
 
-fn op(alloc: Global, made: Made) -> Result<Op, Fault> {
+pub(crate) fn op(alloc: Global, made: Made) -> Result<Op, Fault> {
     let (count, site, prev, does) = made;
     let at = Stamp { count, site };
     let tag = String::from_str(alloc, "t")?;
@@ -71,7 +71,7 @@ pub(crate) enum Said {
     Refused(Fault),
 }
 
-fn told(taken: Taken) -> Said {
+pub(crate) fn told(taken: Taken) -> Said {
     match taken {
         Taken::New(change) => Said::New(change.place, change.inserted, change.lists.len()),
         Taken::Repeat => Said::Repeat,

@@ -6,108 +6,117 @@ use rt_edits::{Piece, Range, Selection};
 use rt_marks::Gravity;
 use rt_stamps::{FINAL, Fault, Position, Site, Stamp};
 use rt_store::ListStore;
-use rt_text::{Doc, OwnMark, Widget};
+use rt_text::{Doc, OwnMark, View, Widget};
 use std::alloc::Global;
 use std::marker::Model;
 use std::process::Abort;
 use std::test::Fail;
 
-/// A document and the widget that shows it. Its calls have no clauses.
+/// A document as a widget shows it. Its calls have no clauses.
 struct Page {
-    doc: Doc<ListStore>,
-    widget: Widget,
+    view: View<ListStore>,
 }
 
 // Written out, so that each way out of a test lets a page go in one step of its proof.
 impl Drop for Page {
     fn drop(self) {
-        let Page { doc: _, widget: _ } = self;
+        let Page { view: _ } = self;
     }
 }
 
 impl Model for Page {
-    ghost use Rattle.std.specs.Prelude.{ℕ, length};
-    ghost use Rattle.rt_store.specs.Cells.{text_of};
-    ghost use Rattle.rt_text.specs.Widgets.{IsOwnOf};
+    ghost use Rattle.std.specs.Prelude.{ℕ};
 
     ghost Value = { ℕ };
 
     ghost view = { λ _. 0 };
-
-    ghost invariant = { λ p. IsOwnOf (length (text_of p.doc.cells)) p.widget };
 }
 
 impl Page {
     fn new(alloc: Global) -> Result<Page, Fail> {
         let site = Site::new(1).ok_or("a site")?;
         let store = ListStore::new(alloc)?;
+        let view = View::new(alloc, store, site, 20_000)?;
+        Ok(Page { view })
+    }
+
+    // A page whose site has two other widgets, which have selected these.
+    fn beside(alloc: Global, first: &[Stamp], second: &[Stamp]) -> Result<Page, Fail> {
+        let site = Site::new(1).ok_or("a site")?;
+        let store = ListStore::new(alloc)?;
         let doc = Doc::new(alloc, store, site, 20_000)?;
-        let widget = Widget::new(alloc);
-        Ok(Page { doc, widget })
+        let mut others = Vec::new(alloc);
+        others.push(Selection::of(alloc, first)?)?;
+        others.push(Selection::of(alloc, second)?)?;
+        let view = View::of(alloc, doc, Widget::new(alloc), others);
+        Ok(Page { view })
     }
 
     fn insert(&mut self, index: &str, new: &str) -> Result<(), Fault> {
-        self.doc.insert(&mut self.widget, &mut [], index, &[], new)
+        self.view.insert(index, &[], new)
     }
 
-    fn insert_pieces(
-        &mut self,
-        others: &mut [Selection],
-        index: &str,
-        pieces: &[Piece],
-        rest: &str,
-    ) -> Result<(), Fault> {
-        self.doc
-            .insert(&mut self.widget, others, index, pieces, rest)
+    fn insert_pieces(&mut self, index: &str, pieces: &[Piece]) -> Result<(), Fault> {
+        self.view.insert(index, pieces, "")
     }
 
     fn next_tagged(&self, name: &str, place: usize) -> Option<usize> {
-        self.doc.next_tagged(&self.widget, name, place)
+        self.view.next_tagged(name, place)
     }
 
     fn next_untagged(&self, name: &str, place: usize) -> Option<usize> {
-        self.doc.next_untagged(&self.widget, name, place)
+        self.view.next_untagged(name, place)
     }
 
     fn write_tag(&mut self, on: bool, name: &str, ranges: &[Range]) -> Result<(), Fault>
         requires { IsName name.now }
     {
-        self.doc.write_tag(&mut self.widget, on, name, ranges)
+        self.view.write_tag(on, name, ranges)
     }
 
     fn delete(&mut self, indices: &[String]) -> Result<(), Fault> {
-        self.doc.delete(&mut self.widget, &mut [], indices)
+        self.view.delete(indices)
     }
 
     fn get(&self, from: &str, to: &str) -> Result<String, Fault> {
-        self.doc.get(&self.widget, from, to)
+        self.view.get(from, to)
     }
 
     fn index(&self, index: &str) -> Result<Position, Fault> {
-        self.doc.index(&self.widget, index)
+        self.view.index(index)
     }
 
     fn set(&mut self, name: &str, index: &str) -> Result<(), Fault> {
-        let place = self.doc.place(&self.widget, index)?;
-        let last = self.doc.visible() - 1;
+        let place = self.view.place(index)?;
         match OwnMark::of(name) {
-            Some(OwnMark::Insert) => self.widget.set(OwnMark::Insert, place.min(last)),
-            Some(OwnMark::Current) => self.widget.set(OwnMark::Current, place),
-            None => self.doc.set_mark(name, place)?,
+            Some(which) => self.view.set_own(which, place),
+            None => self.view.set_mark(name, place)?,
         }
         Ok(())
     }
 
     fn set_gravity(&mut self, name: &str, gravity: Gravity) -> Result<(), Fault> {
         match OwnMark::of(name) {
-            Some(which) => self.widget.set_gravity(which, gravity),
-            None => self.doc.set_mark_gravity(name, gravity)?,
+            Some(which) => self.view.set_own_gravity(which, gravity),
+            None => self.view.set_mark_gravity(name, gravity)?,
         }
         Ok(())
     }
 
+    // Whether the two other widgets have the character of a stamp selected.
+    fn selected(&self, stamp: Stamp) -> Option<(bool, bool)> {
+        match self.view.others() {
+            [first, second] => Some((first.has(stamp), second.has(stamp))),
+            _ => None,
+        }
+    }
+
+    fn has_tag(&self, name: &str) -> bool {
+        self.view.doc().tags().has(name)
+    }
+
     fn next(&self, name: &str) -> Option<&str> {
-        self.doc.marks().next(name)
+        self.view.doc().marks().next(name)
     }
 }
 
@@ -263,54 +272,6 @@ fn ranges_of_a_tag(rt: HostRuntime) -> Result<(), Fail> {
     Ok(())
 }
 
-/// A page, and what two other widgets of its site have selected. Its calls take it and give it back.
-struct Shared {
-    page: Page,
-    others: [Selection; 2],
-}
-
-impl Drop for Shared {
-    fn drop(self) {
-        let Shared { page: _, others: _ } = self;
-    }
-}
-
-impl Shared {
-    fn new(alloc: Global, first: &[Stamp], second: &[Stamp]) -> Result<Shared, Fail> {
-        let first = Selection::of(alloc, first)?;
-        let second = Selection::of(alloc, second)?;
-        let page = Page::new(alloc)?;
-        Ok(Shared {
-            page,
-            others: [first, second],
-        })
-    }
-
-    fn insert(mut self, index: &str, pieces: &[Piece], rest: &str) -> Result<Shared, Fault> {
-        self.page
-            .insert_pieces(&mut self.others, index, pieces, rest)?;
-        Ok(self)
-    }
-
-    fn tag(mut self, name: &str, ranges: &[Range]) -> Result<Shared, Fault>
-        requires { IsName name.now }
-    {
-        self.page.write_tag(true, name, ranges)?;
-        Ok(self)
-    }
-
-    fn delete(&mut self, indices: &[String]) -> Result<(), Fault> {
-        self.page
-            .doc
-            .delete(&mut self.page.widget, &mut self.others, indices)
-    }
-
-    // Whether the two other widgets have the character of a stamp selected.
-    fn selected(&self, stamp: Stamp) -> (bool, bool) {
-        (self.others[0].has(stamp), self.others[1].has(stamp))
-    }
-}
-
 fn stamp(count: u64) -> Stamp {
     Stamp { count, site: 1 }
 }
@@ -321,26 +282,27 @@ fn stamp(count: u64) -> Stamp {
 fn selected_in_other_widgets(rt: HostRuntime) -> Result<(), Fail> {
     let alloc = rt.alloc();
     let listed = [piece(alloc, "Z", &["sel"])?];
-    let shared = Shared::new(alloc, &[stamp(1), stamp(2)], &[stamp(1)])?;
-    let shared = shared.insert("1.0", &[], "ab")?;
-    let shared = shared.insert("1.1", &[], "X")?;
-    assert_eq!(rt; shared.selected(stamp(3)), (true, false));
-    assert_eq!(rt; shared.page.next_tagged("sel", 0), None);
-    let shared = shared.insert("1.1", &listed, "")?;
-    assert_eq!(rt; shared.selected(stamp(3)), (true, false));
-    assert_eq!(rt; shared.selected(stamp(4)), (false, false));
-    tagged(&rt, &shared.page, &[("sel", 0, 1, 2)]);
+    let mut page = Page::beside(alloc, &[stamp(1), stamp(2)], &[stamp(1)])?;
+    page.insert("1.0", "ab")?;
+    page.insert("1.1", "X")?;
+    assert_eq!(rt; page.selected(stamp(3)), Some((true, false)));
+    assert_eq!(rt; page.next_tagged("sel", 0), None);
+    page.insert_pieces("1.1", &listed)?;
+    assert_eq!(rt; page.selected(stamp(3)), Some((true, false)));
+    assert_eq!(rt; page.selected(stamp(4)), Some((false, false)));
+    tagged(&rt, &page, &[("sel", 0, 1, 2)]);
     Ok(())
 }
 
 // A page with the text `ab`, two tags on all of it and the last newline selected, here and in one of
 // the other widgets.
-fn page_with_tags(alloc: Global) -> Result<Shared, Fail> {
-    let shared = Shared::new(alloc, &[FINAL, stamp(1)], &[])?;
-    let shared = shared.insert("1.0", &[], "ab")?;
-    let shared = shared.tag("t", &[Range { from: 0, to: 3 }])?;
-    let shared = shared.tag("u", &[Range { from: 0, to: 3 }])?;
-    Ok(shared.tag("sel", &[Range { from: 2, to: 3 }])?)
+fn page_with_tags(alloc: Global) -> Result<Page, Fail> {
+    let mut page = Page::beside(alloc, &[FINAL, stamp(1)], &[])?;
+    page.insert("1.0", "ab")?;
+    page.write_tag(true, "t", &[Range { from: 0, to: 3 }])?;
+    page.write_tag(true, "u", &[Range { from: 0, to: 3 }])?;
+    page.write_tag(true, "sel", &[Range { from: 2, to: 3 }])?;
+    Ok(page)
 }
 
 // Where a deletion holds the last newline, it stays, and loses its tags. It is nowhere selected then.
@@ -348,13 +310,13 @@ fn page_with_tags(alloc: Global) -> Result<Shared, Fail> {
 fn the_last_newline_loses_its_tags(rt: HostRuntime) -> Result<(), Fail> {
     let alloc = rt.alloc();
     let down_to_the_end = words(alloc, &["1.1", "end"])?;
-    let mut shared = page_with_tags(alloc)?;
-    assert_eq!(rt; shared.delete(&down_to_the_end), Ok(()));
-    assert_eq!(rt; shared.page.get("1.0", "end")?.as_str(), "a\n");
-    tagged(&rt, &shared.page, &[("t", 0, 0, 1), ("u", 0, 0, 1)]);
-    assert_eq!(rt; shared.page.next_tagged("sel", 0), None);
-    assert_eq!(rt; shared.selected(FINAL), (false, false));
-    assert_eq!(rt; shared.selected(stamp(1)), (true, false));
-    assert!(rt; shared.page.doc.tags().has("t") && shared.page.doc.tags().has("u"));
+    let mut page = page_with_tags(alloc)?;
+    assert_eq!(rt; page.delete(&down_to_the_end), Ok(()));
+    assert_eq!(rt; page.get("1.0", "end")?.as_str(), "a\n");
+    tagged(&rt, &page, &[("t", 0, 0, 1), ("u", 0, 0, 1)]);
+    assert_eq!(rt; page.next_tagged("sel", 0), None);
+    assert_eq!(rt; page.selected(FINAL), Some((false, false)));
+    assert_eq!(rt; page.selected(stamp(1)), Some((true, false)));
+    assert!(rt; page.has_tag("t") && page.has_tag("u"));
     Ok(())
 }

@@ -6,6 +6,7 @@ use Rattle.rt_stamps.specs.declared.fault.Fault.{Fault}
 use Rattle.rt_stamps.specs.declared.fault.Fault.TheVariants.{NoMemory}
 use Rattle.rt_stamps.specs.declared.limits.TheConstants.{GREATEST_COUNT, MOST_SPANS}
 use Rattle.rt_stamps.specs.declared.stamp.Stamp.{Stamp}
+use Rattle.rt_stamps.specs.declared.stamp.TheConstants.{FINAL}
 use Rattle.rt_stamps.specs.Outcomes.{first_of, unless, Refuses}
 use Rattle.rt_stamps.specs.Words.{Word}
 use Rattle.rt_store.specs.Cells.{text_of}
@@ -21,15 +22,17 @@ use Rattle.rt_edits.specs.Deletions.{delete_drafts, is_last, last_tags, without_
 use Rattle.rt_edits.specs.DraftLaws.{IsDocument}
 use Rattle.rt_edits.specs.Flat.{Flat, logged}
 use Rattle.rt_edits.specs.Removals.{is_covered, is_removed}
+use Rattle.rt_edits.specs.Selections.{unselected}
 use Rattle.rt_edits.specs.TagWrites.{with_tag_at, with_tags_at}
 use Rattle.rt_edits.proofs.CharacterCounts.{ranges_insert_none}
 use Rattle.rt_edits.proofs.DeletionDraftLaws.{ranges_may, ranges_counted, ranges_deleted, spares_last}
 use Rattle.rt_edits.proofs.TagPlaces.{tag_text}
 use Rattle.rt_text.specs.Index.{index_check, place_at_index}
 use Rattle.rt_text.specs.Ranges.{ranges_of}
-use Rattle.rt_text.specs.Widgets.{Own, AreSiteMarks, IsOwnOf, widget_of, own_left}
-use Rattle.rt_text.specs.Commands.{Edited, clock_check, deleted, last_unselected, without_ranges}
+use Rattle.rt_text.specs.Widgets.{Own, AreSiteMarks, IsOwnOf, Viewed, widget_of, own_left}
+use Rattle.rt_text.specs.Commands.{clock_check, deleted, without_ranges}
 use Rattle.rt_text.proofs.MadeDocument.{seen, seen_made, counts_alone, clock_fits}
+use Rattle.rt_text.proofs.ViewLaws.{places_whole, viewed}
 use Rattle.rt_text.proofs.MarkLaws.{length_gone, own_of_left, site_left}
 
 -- two facts of a result that is Ok
@@ -50,27 +53,31 @@ first_some (None ∷ checks) last fault h = first_some checks last fault h
 first_some (Some other ∷ checks) last fault h = h
 
 -- the edit that a deletion is
-abbrev pub deletion : Flat → Own → List (List Stamp) → List Word → Edited
-deletion flat own others indices = without_ranges flat own others (ranges_of (map (place_at_index (widget_of flat own)) indices))
+abbrev pub deletion : Viewed → List Word → Viewed
+deletion view indices = without_ranges view (ranges_of (map (place_at_index (widget_of view)) indices))
 
 -- where the indices are some, the counts decide
-pub deleted_by : (flat : Flat) (own : Own) (others : List (List Stamp)) (indices : List Word) → first_of (map (index_check (widget_of flat own)) indices) ≡ None
-    → deleted flat own others indices ≡ unless (clock_check (deletion flat own others indices).doc.count) (deletion flat own others indices)
-deleted_by flat own others indices h =
-    let edited = deletion flat own others indices in
-    ap (λ f. unless f edited) (first_none (map (index_check (widget_of flat own)) indices) (clock_check edited.doc.count) h)
+pub deleted_by : (view : Viewed) (indices : List Word) → first_of (map (index_check (widget_of view)) indices) ≡ None
+    → deleted view indices ≡ unless (clock_check (deletion view indices).doc.count) (deletion view indices)
+deleted_by view indices h =
+    let edited = deletion view indices in
+    ap (λ f. unless f edited) (first_none (map (index_check (widget_of view)) indices) (clock_check edited.doc.count) h)
 
 -- a fault of the indices
-pub deleted_index : (flat : Flat) (own : Own) (others : List (List Stamp)) (indices : List Word) (fault found : Fault)
-    → (found ≡ NoMemory) ⊎ (first_of (map (index_check (widget_of flat own)) indices) ≡ Some found) → fault ≡ found → Refuses (deleted flat own others indices) fault
-deleted_index flat own others indices fault found (inl e) f = inl (f ∙ e)
-deleted_index flat own others indices fault found (inr e) f =
-    let edited = deletion flat own others indices in
-    inr (ap (λ c. unless c edited) (first_some (map (index_check (widget_of flat own)) indices) (clock_check edited.doc.count) found e ∙ ap (λ x. Some x) (sym f)))
+pub deleted_index : (view : Viewed) (indices : List Word) (fault found : Fault)
+    → (found ≡ NoMemory) ⊎ (first_of (map (index_check (widget_of view)) indices) ≡ Some found) → fault ≡ found → Refuses (deleted view indices) fault
+deleted_index view indices fault found (inl e) f = inl (f ∙ e)
+deleted_index view indices fault found (inr e) f =
+    let edited = deletion view indices in
+    inr (ap (λ c. unless c edited) (first_some (map (index_check (widget_of view)) indices) (clock_check edited.doc.count) found e ∙ ap (λ x. Some x) (sym f)))
 
 -- SELECTIONS
 
-pub map_same : (others : List (List Stamp)) → map (last_unselected false) others ≡ others
+-- a selection without the last newline, where a deletion holds it
+abbrev pub last_off : Bool → List Stamp → List Stamp
+last_off held selection = cond held (unselected (FINAL ∷ []) selection) selection
+
+pub map_same : (others : List (List Stamp)) → map (last_off false) others ≡ others
 map_same [] = refl
 map_same (s ∷ others) = ap (λ l. s ∷ l) (map_same others)
 
@@ -138,12 +145,12 @@ module _ (flat : Flat) (ranges : List Range) where
   -- the edit, by the places that go and whether the last newline is held
   pub deletion_edited : (doc : Flat) (own : Own) (others : List (List Stamp)) (removed : ℕ → Bool) (held : Bool) → doc ≡ logged flat drafts_of (without_text_in flat ranges)
       → ((p : ℕ) → removed p ≡ is_removed (text_of flat.cells) ranges p) → held ≡ is_covered ranges (length (text_of flat.cells) - 1)
-      → without_ranges flat own others ranges ≡ record { doc = doc; own = record (own_left removed own) { sel = last_unselected held own.sel }; others = map (last_unselected held) others }
+      → without_ranges (viewed flat own others) ranges ≡ record { doc = doc; own = record (own_left removed own) { sel = last_off held own.sel }; others = map (last_off held) others }
   deletion_edited doc own others removed held made places e =
       λ i. record {
         doc = sym made i;
-        own = record (own_left (λ p. sym (places p) i) own) { sel = last_unselected (sym e i) own.sel };
-        others = map (last_unselected (sym e i)) others;
+        own = record (own_left (λ p. (places_whole (viewed flat own others) removed_of p ∙ sym (places p)) i) own) { sel = last_off (sym e i) own.sel };
+        others = map (last_off (sym e i)) others;
       }
 
   -- marks stay in the text that is left

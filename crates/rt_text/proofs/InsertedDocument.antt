@@ -23,7 +23,7 @@ use Rattle.rt_rga.proofs.Writes.{state_sorted}
 use Rattle.rt_edits.specs.DeletionLaws.{IsPiece}
 use Rattle.rt_edits.specs.declared.inserting.Plan.{Plan}
 use Rattle.rt_edits.specs.DraftLaws.{IsDocument, IsInsertion}
-use Rattle.rt_edits.specs.Flat.{Flat, left_of, put_after}
+use Rattle.rt_edits.specs.Flat.{Flat, left_of, logged, put_after}
 use Rattle.rt_edits.specs.InsertionDrafts.{insertion_drafts}
 use Rattle.rt_edits.specs.InsertionPlans.{Plans}
 use Rattle.rt_edits.specs.Insertions.{Insertion, Piece, insertion_of, left_neighbour, right_neighbour}
@@ -32,13 +32,14 @@ use Rattle.rt_edits.proofs.CharacterCounts.{insertion_length}
 use Rattle.rt_edits.proofs.ListedLaws.{listed_more}
 use Rattle.rt_edits.proofs.PieceDraftLaws.{insertion_counted, insertion_made, insertion_may}
 use Rattle.rt_edits.proofs.PremiseLaws.{may_begin, pieces_are}
-use Rattle.rt_text.specs.Commands.{names_in, with_pieces_at}
+use Rattle.rt_text.specs.Commands.{cell_check, clock_check, names_in, with_pieces_at}
 use Rattle.rt_text.specs.Kept.{IsDoc}
-use Rattle.rt_text.specs.Widgets.{AreSiteMarks, IsOwnOf, Own, own_inserted}
+use Rattle.rt_text.specs.Widgets.{AreSiteMarks, IsOwnOf, Own, Viewed, own_inserted}
 use Rattle.rt_text.proofs.ListedText.{IsAmong, ListsAll, insertion_lists, insertion_tags, left_among, listed_put, names_of_all, text_among}
 use Rattle.rt_text.proofs.MadeDocument.{both_fit, refusal_is}
 use Rattle.rt_text.proofs.MarkLaws.{length_put, own_of_inserted, site_inserted}
 use Rattle.rt_text.proofs.PutLaws.{insertion_in, late_checks, put_length, start_of}
+use Rattle.rt_text.proofs.ViewLaws.{place_whole, viewed}
 
 pub pieces_named : (pieces : List Piece) → All IsPiece pieces → All IsName (names_in pieces)
 pieces_named [] h = All-nil IsName
@@ -64,6 +65,25 @@ module _ (flat : Flat) (own : Own) (others : List (List Stamp)) (place : ℕ) (p
     marks = marks_inserted place (length made_new.cells) flat.marks;
     tags = made_new.tags;
   }
+
+  -- the edit, by the place of the whole text
+  abbrev put_from : ℕ → Viewed
+  put_from at = record {
+    doc = logged flat
+        (insertion_drafts MOST_CHARACTERS flat.site (left_of flat.cells at) (left_neighbour (visible_of flat.cells) place) (right_neighbour (visible_of flat.cells) place) pieces rest (start_of flat own others))
+        (record flat {
+          cells = put_after flat.cells (left_of flat.cells at) made_new.cells;
+          count = made_new.count;
+          marks = marks_inserted at (length made_new.cells) flat.marks;
+          tags = made_new.tags;
+        });
+    own = record (own_inserted at (length made_new.cells) own) { sel = made_new.sel };
+    others = made_new.others;
+  }
+
+  pub put_made : with_pieces_at (viewed flat own others) place pieces rest
+      ≡ record { doc = logged flat made_drafts made_flat; own = record (own_inserted place (length made_new.cells) own) { sel = made_new.sel }; others = made_new.others }
+  put_made = ap put_from (place_whole (viewed flat own others) place)
 
   -- a plan on a site, a count and a selection that are the document's and the widget's
   pub drafts_are : (site count : ℕ) (sel : List Stamp) (drafts : List Body) → site ≡ flat.site → count ≡ flat.count → sel ≡ own.sel
@@ -96,8 +116,9 @@ module _ (flat : Flat) (own : Own) (others : List (List Stamp)) (place : ℕ) (p
   may_make within are utf8 =
       insertion_may flat.site flat.log (left_of flat.cells place) (left_neighbour (visible_of flat.cells) place) (right_neighbour (visible_of flat.cells) place) pieces rest (start_of flat own others) (begins within are utf8)
 
-  pub refused_as : refusal_of flat.limit (made_drafts flat own others place pieces rest) flat.log ≡ first_of (late_checks flat (with_pieces_at flat own others place pieces rest))
-  refused_as =
+  pub refused_made : refusal_of flat.limit (made_drafts flat own others place pieces rest) flat.log
+      ≡ first_of (clock_check (made_new flat own others place pieces rest).count ∷ cell_check flat.limit (length (made_flat flat own others place pieces rest).cells) ∷ [])
+  refused_made =
       let l = left_neighbour (visible_of flat.cells) place in
       let r = right_neighbour (visible_of flat.cells) place in
       let a = left_of flat.cells place in
@@ -106,6 +127,9 @@ module _ (flat : Flat) (own : Own) (others : List (List Stamp)) (place : ℕ) (p
       refusal_is flat.limit (made_drafts flat own others place pieces rest) flat.log (made_new flat own others place pieces rest).count (length (put_after flat.cells a (made_new flat own others place pieces rest).cells))
       (sym (all_count_on flat.site (made_drafts flat own others place pieces rest) flat.log) ∙ insertion_counted flat.site flat.log a l r pieces rest start doc.count)
       (omega (arith, chars, put_length flat.cells a (made_new flat own others place pieces rest).cells, ap (λ (cells : List TaggedCell). length cells) doc.cells))
+
+  pub refused_as : refusal_of flat.limit (made_drafts flat own others place pieces rest) flat.log ≡ first_of (late_checks flat (with_pieces_at (viewed flat own others) place pieces rest))
+  refused_as = refused_made ∙ ap (λ (x : Viewed). first_of (late_checks flat x)) (sym (put_made flat own others place pieces rest))
 
   pub made_is : 0 < flat.site → place < length (text_of flat.cells) → All IsPiece pieces → IsUtf8 rest → (made_new flat own others place pieces rest).count ≤ GREATEST_COUNT → IsDocument flat.site (with_drafts flat.site (made_drafts flat own others place pieces rest) flat.log) (made_flat flat own others place pieces rest)
   made_is real within are utf8 fits =
@@ -158,5 +182,5 @@ module _ (flat : Flat) (own : Own) (others : List (List Stamp)) (place : ℕ) (p
   all_fit none =
       let new = made_new flat own others place pieces rest in
       let a = left_of flat.cells place in
-      let fit = both_fit new.count flat.limit (length (put_after flat.cells a new.cells)) (sym refused_as ∙ none) in
+      let fit = both_fit new.count flat.limit (length (put_after flat.cells a new.cells)) (sym refused_made ∙ none) in
       (fit.0, omega (arith, fit.1, put_length flat.cells a new.cells))

@@ -1,11 +1,14 @@
+pub mod AcceptedDocument
+pub mod AcceptedView
 pub mod Checks
 pub mod DeletionLaws
 pub mod Deletions
 pub mod DistanceLaws
+pub mod FollowingLaws
 pub mod InsertedDocument
 pub mod KeptDocument
-pub mod MadeDocument
 pub mod ListedText
+pub mod MadeDocument
 pub mod MarkLaws
 pub mod MovingLaws
 pub mod PutLaws
@@ -16,3 +19,4 @@ pub mod SeenLaws
 pub mod TaggedDocument
 pub mod TaggedLaws
 pub mod TextLaws
+pub mod ViewLaws

@@ -28,7 +28,7 @@ use Rattle.rt_edits.specs.Listed.{AreListed, IsShared, listed_name}
 -- NAMES IN STATES
 
 -- each write of a state is of a name with a property
-abbrev HaveNamed : (Word → Type 0) → List Write → Type 0
+abbrev pub HaveNamed : (Word → Type 0) → List Write → Type 0
 HaveNamed P state = All (λ w. P w.name) state
 
 named_written : (P : Word → Type 0) (w : Write) (state : List Write) → P w.name → HaveNamed P state → HaveNamed P (written w state)
@@ -40,7 +40,7 @@ named_written P w state p h = by (is_settled w state)
         let Q : Write → Type 0 = λ v. P v.name in
         All-append Q (below w.name state) (w ∷ above w.name state) (All-filter _ Q state h) (All-cons Q w (above w.name state) p (All-filter _ Q state h))
 
-named_after : (P : Word → Type 0) (writes state : List Write) → HaveNamed P state → HaveNamed P writes → HaveNamed P (state_after state writes)
+pub named_after : (P : Word → Type 0) (writes state : List Write) → HaveNamed P state → HaveNamed P writes → HaveNamed P (state_after state writes)
 named_after P [] state h k = h
 named_after P (w ∷ writes) state h k =
     let Q : Write → Type 0 = λ v. P v.name in
@@ -51,7 +51,7 @@ by_name_after [] state h = h
 by_name_after (w ∷ writes) state h = by_name_after writes (written w state) (written_sorted w state h)
 
 -- a tag that is on has that property
-named_on : (P : Word → Type 0) (name : Word) (state : List Write) → HaveNamed P state → is_on name state ≡ true → P name
+pub named_on : (P : Word → Type 0) (name : Word) (state : List Write) → HaveNamed P state → is_on name state ≡ true → P name
 named_on P name [] h e = let bad : ⊥ = cc in absurd bad
 named_on P name (w ∷ state) h e =
     let Q : Write → Type 0 = λ v. P v.name in
@@ -67,7 +67,7 @@ put_on_named P site count [] h = All-nil (λ w. P w.name)
 put_on_named P site count (name ∷ names) h =
     All-cons (λ w. P w.name) (record { name = name; writer = record { count = count + 1; site = site }; on = true }) (put_on site (count + 1) names) (All-head P name names h) (put_on_named P site (count + 1) names (All-tail P name names h))
 
-listed_by_named : (P : Word → Type 0) (stamp : Stamp) (names : List Word) → All P names → HaveNamed P (listed_by stamp names)
+pub listed_by_named : (P : Word → Type 0) (stamp : Stamp) (names : List Word) → All P names → HaveNamed P (listed_by stamp names)
 listed_by_named P stamp [] h = All-nil (λ w. P w.name)
 listed_by_named P stamp (name ∷ names) h = All-cons (λ w. P w.name) (record { name = name; writer = stamp; on = true }) (listed_by stamp names) (All-head P name names h) (listed_by_named P stamp names (All-tail P name names h))
 
@@ -151,7 +151,7 @@ all_still n [] tags h = h
 all_still n (name ∷ names) tags h = all_still n names (with_name name tags) (with_still n name tags h)
 
 -- and all names are listed
-all_there : (names tags : List Word) → All (λ n. is_listed n (all_listed names tags) ≡ true) names
+pub all_there : (names tags : List Word) → All (λ n. is_listed n (all_listed names tags) ≡ true) names
 all_there [] tags = All-nil (λ n. is_listed n tags ≡ true)
 all_there (name ∷ names) tags =
     All-cons (λ n. is_listed n (all_listed names (with_name name tags)) ≡ true) name names (all_still name names (with_name name tags) (with_itself name tags)) (all_there names (with_name name tags))
@@ -163,7 +163,7 @@ with_named name tags h k = by (is_listed name tags)
     by true = k
     by false = All-append IsName tags (name ∷ []) k (All-cons IsName name [] h (All-nil IsName))
 
-all_named : (names tags : List Word) → All IsName names → All IsName tags → All IsName (all_listed names tags)
+pub all_named : (names tags : List Word) → All IsName names → All IsName tags → All IsName (all_listed names tags)
 all_named [] tags h k = k
 all_named (name ∷ names) tags h k = all_named names (with_name name tags) (All-tail IsName name names h) (with_named name tags (All-head IsName name names h) k)
 
@@ -189,11 +189,11 @@ listed_lists site names (c ∷ text) so_far h k =
       names = all_named shared so_far.tags (shared_named IsName names h) k.names;
     }
 
-all_front : {X : Type 0} (P : X → Type 0) (xs ys : List X) → All P (xs ++ ys) → All P xs
+pub all_front : {X : Type 0} (P : X → Type 0) (xs ys : List X) → All P (xs ++ ys) → All P xs
 all_front P [] ys h = All-nil P
 all_front P (x ∷ xs) ys h = All-cons P x xs (All-head P x (xs ++ ys) h) (all_front P xs ys (All-tail P x (xs ++ ys) h))
 
-all_rest : {X : Type 0} (P : X → Type 0) (xs ys : List X) → All P (xs ++ ys) → All P ys
+pub all_rest : {X : Type 0} (P : X → Type 0) (xs ys : List X) → All P (xs ++ ys) → All P ys
 all_rest P [] ys h = h
 all_rest P (x ∷ xs) ys h = all_rest P xs ys (All-tail P x (xs ++ ys) h)
 
@@ -279,7 +279,7 @@ text_among tags (c ∷ cs) h =
 
 -- THE DOCUMENT AFTER IT
 
-visible_all : {T : Type 0} (P : Cell T → Type 0) (xs ys : List (Cell T)) → All P (visible_of xs) → All P (visible_of ys) → All P (visible_of (xs ++ ys))
+pub visible_all : {T : Type 0} (P : Cell T → Type 0) (xs ys : List (Cell T)) → All P (visible_of xs) → All P (visible_of ys) → All P (visible_of (xs ++ ys))
 visible_all P xs ys h k = subst (All P) (sym (filter-append (λ cell. not cell.gone) xs ys)) (All-append P (visible_of xs) (visible_of ys) h k)
 
 pub listed_put : (tags : List Word) (cells : List TaggedCell) (left : Stamp) (new : List TaggedCell) → AreListed tags cells → All (IsAmong tags) new → AreListed tags (put_after cells left new)

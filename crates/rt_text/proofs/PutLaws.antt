@@ -13,52 +13,48 @@ use Rattle.rt_store.specs.declared.cell.Cell.{Cell}
 use Rattle.rt_store.specs.Cells.{after_element, map_state, text_of, visible_of}
 use Rattle.rt_tags.specs.States.{TagStates, state_at}
 use Rattle.rt_stamps.specs.Names.{name_check}
-use Rattle.rt_text.specs.Commands.{Edited, cell_check, clock_check, inserted, names_in, with_pieces_at}
+use Rattle.rt_text.specs.Commands.{cell_check, clock_check, inserted, names_in, with_pieces_at}
 use Rattle.rt_edits.specs.Flat.{Flat, put_after}
 use Rattle.rt_store.specs.Shown.{TaggedCell, shown}
 use Rattle.rt_edits.specs.Insertions.{Insertion, Piece, insertion_of, left_neighbour, right_neighbour}
-use Rattle.rt_text.specs.Widgets.{Own, widget_of}
+use Rattle.rt_text.specs.Widgets.{Own, Viewed, length_shown, widget_of}
 use Rattle.rt_text.proofs.ReadyLaws.{first_none, first_some}
 use Rattle.rt_store.proofs.Shown.{text_shown, visible_shown}
 
 -- THE COMMAND, BY ITS CHECKS
 
-abbrev pub late_checks : Flat → Edited → List (Option Fault)
+abbrev pub late_checks : Flat → Viewed → List (Option Fault)
 late_checks flat edited = clock_check edited.doc.count ∷ cell_check flat.limit (length edited.doc.cells) ∷ []
 
 -- an edit by an outcome of its index
-abbrev at_index : Flat → Own → List (List Stamp) → List Piece → Word → Result ℕ Fault → Edited
-at_index flat own others pieces rest r = with_pieces_at flat own others (min (result_unwrap_or r 0) (length (text_of flat.cells) - 1)) pieces rest
+abbrev at_index : Viewed → List Piece → Word → Result ℕ Fault → Viewed
+at_index view pieces rest r = with_pieces_at view (min (result_unwrap_or r 0) (length_shown view - 1)) pieces rest
 
-abbrev by_index : Flat → Own → List (List Stamp) → List Piece → Word → Result ℕ Fault → Result Edited Fault
-by_index flat own others pieces rest r =
-    unless (first_of (map name_check (names_in pieces) ++ result_err r ∷ late_checks flat (at_index flat own others pieces rest r))) (at_index flat own others pieces rest r)
+abbrev by_index : Viewed → List Piece → Word → Result ℕ Fault → Result Viewed Fault
+by_index view pieces rest r =
+    unless (first_of (map name_check (names_in pieces) ++ result_err r ∷ late_checks view.doc (at_index view pieces rest r))) (at_index view pieces rest r)
 
-pub refused_name : (flat : Flat) (own : Own) (others : List (List Stamp)) (index : Word) (pieces : List Piece) (rest : Word) (fault : Fault) → first_of (map name_check (names_in pieces)) ≡ Some fault
-    → inserted flat own others index pieces rest ≡ Err fault
-refused_name flat own others index pieces rest fault h =
-    let r = index_of (widget_of flat own) index in
-    ap (λ o. unless o (at_index flat own others pieces rest r)) (first_some (map name_check (names_in pieces)) (result_err r ∷ late_checks flat (at_index flat own others pieces rest r)) fault h)
+pub refused_name : (view : Viewed) (index : Word) (pieces : List Piece) (rest : Word) (fault : Fault) → first_of (map name_check (names_in pieces)) ≡ Some fault
+    → inserted view index pieces rest ≡ Err fault
+refused_name view index pieces rest fault h =
+    let r = index_of (widget_of view) index in
+    ap (λ o. unless o (at_index view pieces rest r)) (first_some (map name_check (names_in pieces)) (result_err r ∷ late_checks view.doc (at_index view pieces rest r)) fault h)
 
-pub refused_index : (flat : Flat) (own : Own) (others : List (List Stamp)) (index : Word) (pieces : List Piece) (rest : Word) (fault : Fault) → first_of (map name_check (names_in pieces)) ≡ None
-    → index_of (widget_of flat own) index ≡ Err fault → inserted flat own others index pieces rest ≡ Err fault
-refused_index flat own others index pieces rest fault h e =
-    ap (by_index flat own others pieces rest) e
-    ∙ ap (λ o. unless o (at_index flat own others pieces rest (Err fault))) (first_none (map name_check (names_in pieces)) (Some fault ∷ late_checks flat (at_index flat own others pieces rest (Err fault))) h)
+pub refused_index : (view : Viewed) (index : Word) (pieces : List Piece) (rest : Word) (fault : Fault) → first_of (map name_check (names_in pieces)) ≡ None
+    → index_of (widget_of view) index ≡ Err fault → inserted view index pieces rest ≡ Err fault
+refused_index view index pieces rest fault h e =
+    ap (by_index view pieces rest) e
+    ∙ ap (λ o. unless o (at_index view pieces rest (Err fault))) (first_none (map name_check (names_in pieces)) (Some fault ∷ late_checks view.doc (at_index view pieces rest (Err fault))) h)
 
 -- where the names and the index are fine, the counts and the cells decide
-pub by_late_checks : (flat : Flat) (own : Own) (others : List (List Stamp)) (index : Word) (pieces : List Piece) (rest : Word) (found place : ℕ) → first_of (map name_check (names_in pieces)) ≡ None
-    → index_of (widget_of flat own) index ≡ Ok found → place ≡ min found (length (text_of flat.cells) - 1)
-    → inserted flat own others index pieces rest
-    ≡ unless (first_of (late_checks flat (with_pieces_at flat own others place pieces rest))) (with_pieces_at flat own others place pieces rest)
-by_late_checks flat own others index pieces rest found place h e p =
-    ap (by_index flat own others pieces rest) e
-    ∙ ap (λ o. unless o (at_index flat own others pieces rest (Ok found))) (first_none (map name_check (names_in pieces)) (None ∷ late_checks flat (at_index flat own others pieces rest (Ok found))) h)
-    ∙ ap (λ n. unless (first_of (late_checks flat (with_pieces_at flat own others n pieces rest))) (with_pieces_at flat own others n pieces rest)) (sym p)
-
--- CHECKS
-
--- WHAT A PLAN MAKES OF A DOCUMENT
+pub by_late_checks : (view : Viewed) (index : Word) (pieces : List Piece) (rest : Word) (found place : ℕ) → first_of (map name_check (names_in pieces)) ≡ None
+    → index_of (widget_of view) index ≡ Ok found → place ≡ min found (length_shown view - 1)
+    → inserted view index pieces rest
+    ≡ unless (first_of (late_checks view.doc (with_pieces_at view place pieces rest))) (with_pieces_at view place pieces rest)
+by_late_checks view index pieces rest found place h e p =
+    ap (by_index view pieces rest) e
+    ∙ ap (λ o. unless o (at_index view pieces rest (Ok found))) (first_none (map name_check (names_in pieces)) (None ∷ late_checks view.doc (at_index view pieces rest (Ok found))) h)
+    ∙ ap (λ n. unless (first_of (late_checks view.doc (with_pieces_at view n pieces rest))) (with_pieces_at view n pieces rest)) (sym p)
 
 abbrev pub start_of : Flat → Own → List (List Stamp) → Insertion
 start_of flat own others = record { cells = []; count = flat.count; sel = own.sel; others = others; tags = flat.tags }
@@ -82,19 +78,19 @@ put_length cells left new =
 
 -- THE COMMAND'S END
 
-pub done_by : (flat : Flat) (own : Own) (others : List (List Stamp)) (index : Word) (pieces : List Piece) (rest : Word) (found place : ℕ) (edited : Edited) → first_of (map name_check (names_in pieces)) ≡ None
-    → index_of (widget_of flat own) index ≡ Ok found → place ≡ min found (length (text_of flat.cells) - 1)
-    → edited ≡ with_pieces_at flat own others place pieces rest → first_of (late_checks flat edited) ≡ None → inserted flat own others index pieces rest ≡ Ok edited
-done_by flat own others index pieces rest found place edited h e p made checked =
-    by_late_checks flat own others index pieces rest found place h e p
-    ∙ ap (λ x. unless (first_of (late_checks flat x)) x) (sym made)
+pub done_by : (view : Viewed) (index : Word) (pieces : List Piece) (rest : Word) (found place : ℕ) (edited : Viewed) → first_of (map name_check (names_in pieces)) ≡ None
+    → index_of (widget_of view) index ≡ Ok found → place ≡ min found (length_shown view - 1)
+    → edited ≡ with_pieces_at view place pieces rest → first_of (late_checks view.doc edited) ≡ None → inserted view index pieces rest ≡ Ok edited
+done_by view index pieces rest found place edited h e p made checked =
+    by_late_checks view index pieces rest found place h e p
+    ∙ ap (λ x. unless (first_of (late_checks view.doc x)) x) (sym made)
     ∙ ap (λ o. unless o edited) checked
 
-pub late_refused : (flat : Flat) (own : Own) (others : List (List Stamp)) (index : Word) (pieces : List Piece) (rest : Word) (found place : ℕ) (fault : Fault) → first_of (map name_check (names_in pieces)) ≡ None
-    → index_of (widget_of flat own) index ≡ Ok found → place ≡ min found (length (text_of flat.cells) - 1)
-    → first_of (late_checks flat (with_pieces_at flat own others place pieces rest)) ≡ Some fault → inserted flat own others index pieces rest ≡ Err fault
-late_refused flat own others index pieces rest found place fault h e p k =
-    by_late_checks flat own others index pieces rest found place h e p ∙ ap (λ o. unless o (with_pieces_at flat own others place pieces rest)) k
+pub late_refused : (view : Viewed) (index : Word) (pieces : List Piece) (rest : Word) (found place : ℕ) (fault : Fault) → first_of (map name_check (names_in pieces)) ≡ None
+    → index_of (widget_of view) index ≡ Ok found → place ≡ min found (length_shown view - 1)
+    → first_of (late_checks view.doc (with_pieces_at view place pieces rest)) ≡ Some fault → inserted view index pieces rest ≡ Err fault
+late_refused view index pieces rest found place fault h e p k =
+    by_late_checks view index pieces rest found place h e p ∙ ap (λ o. unless o (with_pieces_at view place pieces rest)) k
 
 pub either : {A B C : Type 0} → (B → C) → A ⊎ B → A ⊎ C
 either f (inl a) = inl a
@@ -104,8 +100,8 @@ pub both_done : {A B C X : Type 0} (r : Result X Fault) → (A → B → C) → 
 both_done (Ok x) f a b = f a b
 both_done (Err fault) f a b = tt
 
-pub all_refused : (flat : Flat) (own : Own) (others : List (List Stamp)) (index : Word) (pieces : List Piece) (rest : Word) (found place : ℕ) (r : Result (Unit {0}) Fault) → first_of (map name_check (names_in pieces)) ≡ None
-    → index_of (widget_of flat own) index ≡ Ok found → place ≡ min found (length (text_of flat.cells) - 1)
-    → IfErr r (λ fault. (fault ≡ NoMemory) ⊎ (first_of (late_checks flat (with_pieces_at flat own others place pieces rest)) ≡ Some fault)) → IfErr r (Refuses (inserted flat own others index pieces rest))
-all_refused flat own others index pieces rest found place (Ok x) h e p k = tt
-all_refused flat own others index pieces rest found place (Err fault) h e p k = either (late_refused flat own others index pieces rest found place fault h e p) k
+pub all_refused : (view : Viewed) (index : Word) (pieces : List Piece) (rest : Word) (found place : ℕ) (r : Result (Unit {0}) Fault) → first_of (map name_check (names_in pieces)) ≡ None
+    → index_of (widget_of view) index ≡ Ok found → place ≡ min found (length_shown view - 1)
+    → IfErr r (λ fault. (fault ≡ NoMemory) ⊎ (first_of (late_checks view.doc (with_pieces_at view place pieces rest)) ≡ Some fault)) → IfErr r (Refuses (inserted view index pieces rest))
+all_refused view index pieces rest found place (Ok x) h e p k = tt
+all_refused view index pieces rest found place (Err fault) h e p k = either (late_refused view index pieces rest found place fault h e p) k

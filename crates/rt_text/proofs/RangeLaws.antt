@@ -12,13 +12,11 @@ use Rattle.rt_stamps.specs.Words.{Word}
 use Rattle.rt_edits.specs.declared.range.Range.{Range}
 use Rattle.rt_text.specs.declared.comparison.Comparison.{Comparison}
 use Rattle.rt_text.specs.declared.distance.Measure.{Measure}
-use Rattle.rt_store.specs.Cells.{text_of}
-use Rattle.rt_edits.specs.Flat.{Flat}
 use Rattle.rt_text.specs.Index.{index_check, place_at_index}
 use Rattle.rt_text.specs.Ranges.{text_between, has_characters, texts_of}
 use Rattle.rt_text.specs.Comparisons.{comparison_of, holds_of}
 use Rattle.rt_text.specs.Distances.{measures_of, distance_of, or_indices}
-use Rattle.rt_text.specs.Widgets.{Own, widget_of}
+use Rattle.rt_text.specs.Widgets.{Viewed, text_shown, widget_of}
 use Rattle.rt_text.specs.Commands.{compared, counted}
 
 -- one index more
@@ -73,21 +71,21 @@ texts_none t ranges i d h k =
     rw (drop_more ranges i d h, none) refl
 
 -- what is counted, once the switches are read
-pub counted_by : (flat : Flat) (own : Own) (switches : List Word) (from to : Word) (measures : List Measure) → measures_of switches ≡ Some measures
-    → counted flat own switches from to
-    ≡ unless (first_of (index_check (widget_of flat own) from ∷ index_check (widget_of flat own) to ∷ []))
-    (map (distance_of (text_of flat.cells) (place_at_index (widget_of flat own) from) (place_at_index (widget_of flat own) to)) (or_indices measures))
-counted_by flat own switches from to measures e =
-    let w = widget_of flat own in
+pub counted_by : (view : Viewed) (switches : List Word) (from to : Word) (measures : List Measure) → measures_of switches ≡ Some measures
+    → counted view switches from to
+    ≡ unless (first_of (index_check (widget_of view) from ∷ index_check (widget_of view) to ∷ []))
+    (map (distance_of (text_shown view) (place_at_index (widget_of view) from) (place_at_index (widget_of view) to)) (or_indices measures))
+counted_by view switches from to measures e =
+    let w = widget_of view in
     ap (λ (o : Option (List Measure)). unless (first_of (cond (is_some o) None (Some BadOption) ∷ index_check w from ∷ index_check w to ∷ []))
-    (map (distance_of (text_of flat.cells) (place_at_index w from) (place_at_index w to)) (or_indices (unwrap_or o [])))) e
+    (map (distance_of (text_shown view) (place_at_index w from) (place_at_index w to)) (or_indices (unwrap_or o [])))) e
 
 -- whether a comparison holds, once the operator is read
-pub compared_by : (flat : Flat) (own : Own) (first operator second : Word) (comparison : Comparison) → comparison_of operator ≡ Some comparison
-    → compared flat own first operator second
-    ≡ unless (first_of (index_check (widget_of flat own) first ∷ index_check (widget_of flat own) second ∷ []))
-    (holds_of comparison (place_at_index (widget_of flat own) first) (place_at_index (widget_of flat own) second))
-compared_by flat own first operator second comparison e =
-    let w = widget_of flat own in
+pub compared_by : (view : Viewed) (first operator second : Word) (comparison : Comparison) → comparison_of operator ≡ Some comparison
+    → compared view first operator second
+    ≡ unless (first_of (index_check (widget_of view) first ∷ index_check (widget_of view) second ∷ []))
+    (holds_of comparison (place_at_index (widget_of view) first) (place_at_index (widget_of view) second))
+compared_by view first operator second comparison e =
+    let w = widget_of view in
     ap (λ (o : Option Comparison). unless (first_of (cond (is_some o) None (Some BadOption) ∷ index_check w first ∷ index_check w second ∷ []))
     (unwrap_or (option_map (λ c. holds_of c (place_at_index w first) (place_at_index w second)) o) false)) e

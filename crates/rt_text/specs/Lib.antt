@@ -1,3 +1,4 @@
+pub mod Accepted
 pub mod Commands
 pub mod Comparisons
 pub mod Distances

@@ -1,11 +1,12 @@
 -- A widget: its own marks, and what index expressions see of it.
-use Rattle.std.specs.Prelude.{◌≡◌, ℕ, ◌+◌, ◌<◌, ◌≤◌, Bool, false, List, [], filter, Option, Some, None, is_some, option_map, option_and_then, if◌then◌else◌, codes}
+use Rattle.std.specs.Prelude.{◌≡◌, ℕ, ◌+◌, ◌-◌, ◌<◌, ◌≤◌, ◌&&◌, nat_le, Bool, false, List, [], length, map, min, filter, Option, Some, None, is_some, option_map, option_and_then, if◌then◌else◌, codes}
 use Rattle.std.specs.Str.{bytes_eq}
 use Rattle.rt_index.specs.Widget.{Widget, Ends}
 use Rattle.rt_marks.specs.declared.gravity.Gravity.{Gravity}
 use Rattle.rt_marks.specs.declared.gravity.Gravity.TheVariants.{Right}
 use Rattle.rt_marks.specs.Marks.{Mark, Each, IsName, named, with_mark, mark_inserted, mark_removed, mark_left}
 use Rattle.rt_stamps.specs.declared.stamp.Stamp.{Stamp}
+use Rattle.rt_stamps.specs.declared.stamp.TheConstants.{FINAL}
 use Rattle.rt_stamps.specs.Words.{Word}
 use Rattle.rt_store.specs.Cells.{text_of, visible_of}
 use Rattle.rt_store.specs.Tagged.{next_place, last_place}
@@ -62,6 +63,11 @@ own_with Current m own = record own { current = m }
 abbrev pub own_set : OwnMark → ℕ → Own → Own
 own_set which place own = own_with which (record (own_mark which own) { place = place }) own
 
+-- where an own mark comes to stand in a text of n characters: `insert` never behind the last newline
+abbrev pub own_place : OwnMark → ℕ → ℕ → ℕ
+own_place Insert n place = min place (n - 1)
+own_place Current n place = place
+
 abbrev pub own_with_gravity : OwnMark → Gravity → Own → Own
 own_with_gravity which gravity own = own_with which (record (own_mark which own) { gravity = gravity }) own
 
@@ -100,12 +106,63 @@ own_or None own other = other
 abbrev pub mark_among : Own → List Mark → List ℕ → Option Mark
 mark_among own marks name = own_or (own_mark_of name) own (named name marks)
 
-abbrev pub mark_of : Own → Flat → List ℕ → Option Mark
-mark_of own flat name = mark_among own flat.marks name
+-- WHAT A WIDGET SHOWS
 
--- all marks that a widget has, in order
-abbrev pub marks_of : Own → Flat → List Mark
-marks_of own flat = with_mark own.insert (with_mark own.current flat.marks)
+-- a document as one of its site's widgets shows it: that widget, and what each other one has selected
+pub record Viewed : Type 0 where
+  pub doc : Flat
+  pub own : Own
+  pub others : List (List Stamp)
+
+-- The words by which commands speak of a widget's text: each command works as if what the widget shows were the whole text.
+
+-- the characters that it shows, a newline last: all of the text
+abbrev pub shown_by : Viewed → List TaggedCell
+shown_by view = visible_of view.doc.cells
+
+-- the place in the whole text where they begin
+abbrev pub begin_of : Viewed → ℕ
+begin_of view = 0
+
+-- the stamp of the last of them
+abbrev pub last_newline : Viewed → Stamp
+last_newline view = FINAL
+
+-- their code points, and how many they are
+abbrev pub text_shown : Viewed → List ℕ
+text_shown view = map (λ cell. cell.ch) (shown_by view)
+
+abbrev pub length_shown : Viewed → ℕ
+length_shown view = length (text_shown view)
+
+-- the site's marks and the widget's own, by their places among them
+abbrev pub marks_shown : Viewed → List Mark
+marks_shown view = view.doc.marks
+
+abbrev pub own_shown : Viewed → Own
+own_shown view = view.own
+
+-- other marks of the site, or another order of its tags
+abbrev pub with_marks : Viewed → List Mark → Viewed
+with_marks view marks = record view { doc = record view.doc { marks = marks } }
+
+abbrev pub with_tags : Viewed → List Word → Viewed
+with_tags view tags = record view { doc = record view.doc { tags = tags } }
+
+-- a place among them as one of the whole text
+abbrev pub in_text : Viewed → ℕ → ℕ
+in_text view place = begin_of view + place
+
+-- the places of the whole text that pass a test of places among them
+abbrev pub places_in_text : Viewed → (ℕ → Bool) → ℕ → Bool
+places_in_text view test place = nat_le (begin_of view) place && test (place - begin_of view)
+
+abbrev pub mark_of : Viewed → List ℕ → Option Mark
+mark_of view name = mark_among (own_shown view) (marks_shown view) name
+
+-- all marks that the widget has, in order
+abbrev pub marks_of : Viewed → List Mark
+marks_of view = with_mark (own_shown view).insert (with_mark (own_shown view).current (marks_shown view))
 
 -- TAGS
 
@@ -125,19 +182,23 @@ abbrev pub ends_of : (TaggedCell → Bool) → List TaggedCell → Option Ends
 ends_of test characters =
     option_and_then (λ first. option_map (λ last. record { first = first; last = last + 1 }) (last_place test characters)) (next_place test characters 0)
 
--- a listed tag, and its ends where some character has it
+-- a listed tag, and its ends where some of the characters has it
 abbrev pub tag_ends : Own → List TaggedCell → List Word → Word → Option (Option Ends)
-tag_ends own cells tags name = if is_listed name tags then Some (ends_of (is_tagged own name) (visible_of cells)) else None
+tag_ends own characters tags name = if is_listed name tags then Some (ends_of (is_tagged own name) characters) else None
 
 -- WHAT INDEX EXPRESSIONS SEE
 
--- a text, the places of its marks, and its tags
+-- characters, the places of marks among them, and the tags of a widget
 abbrev pub widget_over : List TaggedCell → List Mark → List Word → Own → Widget
 widget_over cells marks tags own = record {
   text = text_of cells;
   marks = λ name. option_map (λ m. m.place) (mark_among own marks name);
-  tags = tag_ends own cells tags;
+  tags = tag_ends own (visible_of cells) tags;
 }
 
-abbrev pub widget_of : Flat → Own → Widget
-widget_of flat own = widget_over flat.cells flat.marks flat.tags own
+abbrev pub widget_of : Viewed → Widget
+widget_of view = record {
+  text = text_shown view;
+  marks = λ name. option_map (λ m. m.place) (mark_of view name);
+  tags = tag_ends view.own (shown_by view) view.doc.tags;
+}

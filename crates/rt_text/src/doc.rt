@@ -11,6 +11,7 @@ ghost use Rattle.rt_edits.specs.Listed.{AreListed};
 ghost use Rattle.rt_rga.specs.Cells.{cells_of};
 ghost use Rattle.rt_rga.specs.Histories.{IsHistory, greatest_last_count};
 
+mod accepting;
 mod editing;
 mod marking;
 mod reading;
@@ -103,7 +104,7 @@ impl<S: TextStore> Doc<S> {
     }
 
     // The store, and what the states of its cells mean: the cells of the log, which is a history.
-    fn kept(&self) -> (&S, &StateTable)
+    pub(crate) fn kept(&self) -> (&S, &StateTable)
         ensures cells { map (shown result.1.now) (S.list result.0.now) ≡ self.now.cells }
         ensures states { AreStates result.1.now (S.list result.0.now) }
         ensures distinct { AreDistinct (S.list result.0.now) }

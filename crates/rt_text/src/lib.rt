@@ -5,12 +5,14 @@ mod characters;
 pub mod comparison;
 pub mod distance;
 pub mod doc;
+mod following;
 mod ground;
 pub mod index;
 mod moving;
 pub mod own_mark;
 mod preparing;
 pub mod range;
+pub mod view;
 pub mod widget;
 
 pub use comparison::Comparison;
@@ -18,6 +20,7 @@ pub use distance::Measure;
 pub use doc::Doc;
 pub use own_mark::OwnMark;
 pub use rt_edits::{Piece, Range, Selection};
+pub use view::View;
 pub use widget::Widget;
 
 #[cfg(test)]

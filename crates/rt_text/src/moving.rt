@@ -1,9 +1,9 @@
 // What a removal of text leaves of marks and selections.
-ghost use Rattle.std.specs.Prelude.{◌≡◌, map};
+ghost use Rattle.std.specs.Prelude.{◌≡◌, ◌∷◌, [], if◌then◌else◌, map};
 ghost use Rattle.rt_marks.specs.Marks.{marks_left};
 ghost use Rattle.rt_edits.specs.Removals.{is_covered, AreInOrder};
 ghost use Rattle.rt_edits.specs.Selected.{stamps_in};
-ghost use Rattle.rt_text.specs.Commands.{last_unselected};
+ghost use Rattle.rt_edits.specs.Selections.{unselected};
 ghost use Rattle.rt_text.specs.Widgets.{own_left};
 
 use crate::Widget;
@@ -31,8 +31,8 @@ pub(crate) fn move_back(marks: &mut Marks, widget: &mut Widget, removed: &[Range
 
 /// Takes the last newline out of a widget's selection and out of others, where a deletion holds it.
 pub(crate) fn unselect_last(held: bool, widget: &mut Widget, others: &mut [Selection])
-    ensures own { widget.new ≡ record widget.old { sel = last_unselected held widget.old.sel } }
-    ensures others { map stamps_in others.new ≡ map (last_unselected held) (map stamps_in others.old) }
+    ensures own { widget.new ≡ record widget.old { sel = if held then unselected (FINAL ∷ []) widget.old.sel else widget.old.sel } }
+    ensures others { map stamps_in others.new ≡ map (λ sel. if held then unselected (FINAL ∷ []) sel else sel) (map stamps_in others.old) }
 {
     if held {
         widget.selection.remove_one(FINAL);

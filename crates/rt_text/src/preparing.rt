@@ -29,8 +29,8 @@ pub(crate) fn check_names(pieces: &[Piece]) -> Result<(), Fault>
     Ok(())
 }
 
-// Prepares tags: to list them takes no memory.
-fn prepare_tags(table: &mut TagTable, names: &[String]) -> Result<(), Fault>
+/// Prepares tags: to list them takes no memory. Want of memory.
+pub(crate) fn prepare_tags(table: &mut TagTable, names: &[String]) -> Result<(), Fault>
     requires { All (λ w. IsName (string_bytes w)) names.now }
     ensures names { table.new.names ≡ table.old.names }
     ensures ready { OnOk result (All (λ w. is_ready (string_bytes w) table.new ≡ true) names.now) }

@@ -4,7 +4,7 @@ ghost use Rattle.rt_edits.specs.Listed.{AreListed};
 ghost use Rattle.rt_store.specs.Cells.{text_of};
 ghost use Rattle.rt_tags.specs.Tags.{IsName, sel};
 
-use crate::{Doc, Widget};
+use crate::{Doc, View, Widget};
 use rt_edits::{Range, Selection};
 use rt_oplog::Op;
 use rt_rga::Replica;
@@ -15,35 +15,24 @@ use std::alloc::Global;
 use std::marker::Model;
 use std::test::Fail;
 
-/// A document, the widget that shows it, and what two other widgets of its site have selected. Its
-/// calls have no clauses.
+/// A document as a widget shows it, with two other widgets of its site. Its calls have no clauses.
 struct Page {
-    doc: Doc<ListStore>,
-    widget: Widget,
-    others: [Selection; 2],
+    view: View<ListStore>,
 }
 
 // Written out, so that each way out of a test lets a page go in one step of its proof.
 impl Drop for Page {
     fn drop(self) {
-        let Page {
-            doc: _,
-            widget: _,
-            others: _,
-        } = self;
+        let Page { view: _ } = self;
     }
 }
 
 impl Model for Page {
-    ghost use Rattle.std.specs.Prelude.{ℕ, length};
-    ghost use Rattle.rt_store.specs.Cells.{text_of};
-    ghost use Rattle.rt_text.specs.Widgets.{IsOwnOf};
+    ghost use Rattle.std.specs.Prelude.{ℕ};
 
     ghost Value = { ℕ };
 
     ghost view = { λ _. 0 };
-
-    ghost invariant = { λ p. IsOwnOf (length (text_of p.doc.cells)) p.widget };
 }
 
 // A replica of an empty text, of whose counts so many are left: another site took a tag off the last
@@ -75,39 +64,47 @@ impl Page {
     // An empty page of whose counts so many are left. One other widget has these selected, the other
     // nothing.
     fn new(alloc: Global, counts: u64, selected: &[Stamp]) -> Result<Page, Fail> {
+        let doc = Doc::over(alloc, replica_of_counts(alloc, counts)?)?;
+        let mut others = Vec::new(alloc);
+        others.push(Selection::of(alloc, selected)?)?;
+        others.push(Selection::new(alloc))?;
         Ok(Page {
-            doc: Doc::over(alloc, replica_of_counts(alloc, counts)?)?,
-            widget: Widget::new(alloc),
-            others: [Selection::of(alloc, selected)?, Selection::new(alloc)],
+            view: View::of(alloc, doc, Widget::new(alloc), others),
         })
     }
 
     fn insert(&mut self, new: &str) -> Result<(), Fault> {
-        self.doc
-            .insert(&mut self.widget, &mut self.others, "1.0", &[], new)
+        self.view.insert("1.0", &[], new)
     }
 
     fn tag(&mut self, name: &str, from: usize) -> Result<(), Fault>
         requires { IsName name.now }
     {
-        let range = Range { from, to: 3 };
-        self.doc.write_tag(&mut self.widget, true, name, &[range])
+        self.view.write_tag(true, name, &[Range { from, to: 3 }])
     }
 
     fn delete(&mut self, indices: &[String]) -> Result<(), Fault> {
-        self.doc.delete(&mut self.widget, &mut self.others, indices)
+        self.view.delete(indices)
     }
 
     fn text(&self) -> Result<String, Fault> {
-        self.doc.get(&self.widget, "1.0", "end")
+        self.view.get("1.0", "end")
     }
 
     fn next_tagged(&self, name: &str) -> Option<usize> {
-        self.doc.next_tagged(&self.widget, name, 0)
+        self.view.next_tagged(name, 0)
     }
 
     fn next_untagged(&self, name: &str) -> Option<usize> {
-        self.doc.next_untagged(&self.widget, name, 0)
+        self.view.next_untagged(name, 0)
+    }
+
+    // Whether one of the other widgets has a character selected.
+    fn has(&self, other: usize, stamp: Stamp) -> bool {
+        match self.view.others().get(other) {
+            Some(selection) => selection.has(stamp),
+            None => false,
+        }
     }
 }
 
@@ -170,7 +167,7 @@ fn counts_of_the_last_newline(rt: HostRuntime) -> Result<(), Fail> {
         (Some(0), Some(1))
     );
     assert_eq!(rt; page.next_tagged("sel"), None);
-    assert!(rt; !page.others[0].has(FINAL) && page.others[0].has(stamp(1)));
+    assert!(rt; !page.has(0, FINAL) && page.has(0, stamp(1)));
     assert_eq!(rt; page.insert("c"), Err(Fault::ClockSpent));
     let mut page = page_of_counts(alloc, 2)?;
     assert_eq!(rt; page.delete(&down_to_the_end), Err(Fault::ClockSpent));
@@ -178,7 +175,7 @@ fn counts_of_the_last_newline(rt: HostRuntime) -> Result<(), Fail> {
     assert_eq!(rt; page.next_untagged("t"), None);
     assert_eq!(rt; page.next_untagged("u"), None);
     assert_eq!(rt; page.next_tagged("sel"), Some(2));
-    assert!(rt; page.others[0].has(FINAL) && !page.others[1].has(FINAL));
+    assert!(rt; page.has(0, FINAL) && !page.has(1, FINAL));
     assert_eq!(rt; page.insert("cd"), Ok(()));
     Ok(())
 }

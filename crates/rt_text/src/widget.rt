@@ -1,12 +1,17 @@
 // A widget's own marks.
-ghost use Rattle.std.specs.Prelude.{◌≡◌, ◌+◌, ◌≤◌};
+ghost use Rattle.std.specs.Prelude.{◌≡◌, ◌+◌, ◌≤◌, All, IfErr, OnErr, OnOk, length};
+ghost use Rattle.rt_edits.specs.Removals.{AreInOrder, is_covered, stamps_at};
 ghost use Rattle.rt_edits.specs.Selected.{stamps_in};
+ghost use Rattle.rt_edits.specs.Selections.{selection_with};
+ghost use Rattle.rt_store.specs.Cells.{visible_of};
 ghost use Rattle.rt_text.specs.Widgets.{new_own, own_mark, own_set, own_with_gravity, own_inserted, own_removed};
 
 use crate::OwnMark;
-use rt_edits::Selection;
+use rt_edits::{Range, Selection, listing};
 use rt_marks::Gravity;
 use rt_marks::place::{place_inserted, place_removed};
+use rt_stamps::Fault;
+use rt_store::TextStore;
 use std::alloc::Global;
 use std::marker::Model;
 
@@ -103,6 +108,26 @@ impl Widget {
         ensures { stamps_in result.now ≡ self.now.sel }
     {
         &self.selection
+    }
+
+    /// Selects the characters in ranges of a store, or no longer. Want of memory, and then nothing
+    /// changes.
+    pub(crate) fn select<S: TextStore>(
+        &mut self,
+        alloc: Global,
+        store: &S,
+        ranges: &[Range],
+        on: bool,
+    ) -> Result<(), Fault>
+        requires order { AreInOrder 0 ranges.now }
+        requires within { All (λ range. range.to ≤ length (visible_of (S.list store.now))) ranges.now }
+        ensures ok { OnOk result (self.new ≡ record self.old {
+          sel = selection_with on (stamps_at (is_covered ranges.now) 0 (S.list store.now)) self.old.sel;
+        }) }
+        ensures unchanged { OnErr result (self.new ≡ self.old) }
+        ensures err { IfErr result (λ fault. fault ≡ Fault.NoMemory) }
+    {
+        listing::select(alloc, store, &mut self.selection, ranges, on)
     }
 
     /// Moves its marks for `n` characters that were inserted at a place.

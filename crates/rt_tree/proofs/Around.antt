@@ -7,7 +7,7 @@ use Rattle.rt_tree.specs.declared.node.Run.{Run}
 use Rattle.rt_tree.specs.declared.node.Entry.{Entry}
 use Rattle.rt_tree.specs.declared.node.Entry.TheVariants.{Down, Here}
 use Rattle.rt_tree.specs.declared.node.Totals.{Totals}
-use Rattle.rt_tree.specs.Shape.{Memory, IsTree, all_below, below, runs, tree_runs, count_of, left_of, right_of, around, ahead, behind, level_of, parent_of}
+use Rattle.rt_tree.specs.Shape.{Memory, IsShape, all_below, below, runs, count_of, left_of, right_of, around, ahead, behind, level_of, parent_of}
 
 -- a test that holds, or not
 pub test_same : {X : Type 0} (a b : ℕ) (x y : X) → a ≡ b → (if a == b then x else y) ≡ x
@@ -70,18 +70,23 @@ take-left id (Down d t ∷ es) (suc i) e once lt is to =
 pub regroup : (a l m r b : List Run) → a ++ ((l ++ (m ++ r)) ++ b) ≡ (a ++ l) ++ (m ++ (r ++ b))
 regroup a l m r b = simp append_assoc
 
-module _ (m : Memory) (root : ℕ) (t : IsTree m root) where
+pub count-append : (id : ℕ) (a b : List Entry) → count_of id (a ++ b) ≡ count_of id a + count_of id b
+count-append id [] b = omega arith
+count-append id (Here r ∷ a) b = count-append id a b
+count-append id (Down c t ∷ a) b = omega (arith, count-append id a b)
+
+module _ (m : Memory) (height root : ℕ) (t : IsShape m height root) where
   -- only the root is at the top
-  pub below_top : (id : ℕ) → id < length m.heads → level_of m id < level_of m root → id ≡ root → ⊥
-  below_top id is lt e = let h : level_of m id ≡ level_of m root = ap (level_of m) e in omega arith
+  pub below_top : (id : ℕ) → id < length m.heads → level_of m id < height → id ≡ root → ⊥
+  below_top id is lt e = let h : level_of m id ≡ height = ap (level_of m) e ∙ t.top in omega arith
 
-  pub at_top : (id : ℕ) → id < length m.heads → level_of m id ≡ level_of m root → id ≡ root
-  at_top id is at = elim (cases_eq id root) [ inl e ↦ e | inr ne ↦ let k = t.known id is ne in let l = t.levels (parent_of m id) k.is in absurd (omega (arith, k.up)) ]
+  pub at_top : (id : ℕ) → id < length m.heads → level_of m id ≡ height → id ≡ root
+  at_top id is at = elim (cases_eq id root) [ inl e ↦ e | inr ne ↦ let k = t.known id is ne in let l = t.low (parent_of m id) k.is in absurd (omega (arith, k.up)) ]
 
-  -- the runs of the tree are those before a node, its own and those behind it
-  pub cut_at : (depth k id : ℕ) → id < length m.heads → level_of m id ≡ k → depth + k ≡ level_of m root → tree_runs m root ≡ ahead m depth id ++ (runs m k id ++ behind m depth id)
+  -- all runs are those before a node, its own and those behind it
+  pub cut_at : (depth k id : ℕ) → id < length m.heads → level_of m id ≡ k → depth + k ≡ height → runs m height root ≡ ahead m depth id ++ (runs m k id ++ behind m depth id)
   cut_at zero k id is at deep =
-      let q : k ≡ level_of m root = omega arith in
+      let q : k ≡ height = omega arith in
       let e = at_top id is (at ∙ q) in
       ap (λ n. runs m n root) (sym q) ∙ ap (λ n. runs m k n) (sym e) ∙ sym (append-nil (runs m k id))
   cut_at (suc depth) k id is at deep =
@@ -92,5 +97,5 @@ module _ (m : Memory) (root : ℕ) (t : IsTree m root) where
       let left = left_of id (around m id) in let right = right_of id (around m id) in
       let cut = cut_around id (around m id) (omega (arith, kn.once)) in
       let mid = ap (all_below m (suc k)) cut.is ∙ flat_map-append (below m (suc k)) left (Down (node id) cut.totals ∷ right) in
-      let P : ℕ → Type 0 = λ n. tree_runs m root ≡ (ahead m depth p ++ all_below m n left) ++ (runs m k id ++ (all_below m n right ++ behind m depth p)) in
+      let P : ℕ → Type 0 = λ n. runs m height root ≡ (ahead m depth p ++ all_below m n left) ++ (runs m k id ++ (all_below m n right ++ behind m depth p)) in
       subst P (sym lvl) (ih ∙ ap (λ x. ahead m depth p ++ (x ++ behind m depth p)) mid ∙ regroup (ahead m depth p) (all_below m (suc k) left) (runs m k id) (all_below m (suc k) right) (behind m depth p))

@@ -57,7 +57,7 @@ module _ (m : Memory) (root : ℕ) (t : IsTree m root) where
   sum-front id i is = sum-exact m (level_of m id) (take i (entries m id)) (each-take (IsExact m (level_of m id)) i (entries m id) (t.totals id is))
 
   pub fits-at : (id i : ℕ) (e : Entry) → id < length m.heads → i < length (entries m id) → e ≡ get_or (entries m id) i e → Fits m id (level_of m id) e
-  fits-at id i e is lt here = each-at (Fits m id (level_of m id)) (entries m id) i e (t.fits id is) lt here
+  fits-at id i e is lt here = each-at (Fits m id (level_of m id)) (entries m id) i e (t.shape.fits id is) lt here
 
   pub down : (id i : ℕ) (e : Entry) (c : NodeId) (x : Totals) → id < length m.heads → i < length (entries m id) → e ≡ get_or (entries m id) i e → e ≡ Down c x → Lower m root id i e c
   down id i e c x is lt here to =
@@ -67,8 +67,8 @@ module _ (m : Memory) (root : ℕ) (t : IsTree m root) where
       let lvl : level_of m id ≡ suc k = omega (arith, above) in
       let ch = child-of m id (level_of m id) c x f k lvl in
       let up : level_of m id ≡ suc (level_of m c.index) = lvl ∙ ap suc (sym ch.level) in
-      let top = t.levels id is in
-      let kn = t.known c.index ch.is (below_top m root t c.index ch.is (omega (arith, up, top))) in
+      let top = t.shape.low id is in
+      let kn = t.shape.known c.index ch.is (below_top m (level_of m root) root t.shape c.index ch.is (omega (arith, up, top))) in
       let once = subst (λ p. count_of c.index (entries m p) ≡ 1) ch.parent kn.once in
       let front = take-left c.index (entries m id) i e once lt here (subst (λ (y : Entry). leads_to y c.index) (sym to) refl) in
       let exact = each-at (IsExact m (level_of m id)) (entries m id) i e (t.totals id is) lt here in

@@ -40,18 +40,18 @@ module _ (m : Memory) (root : ℕ) (t : IsTree m root) where
 
   eights : (k : ℕ) → k ≤ level_of m root → AreWide k (8 ^ suc k)
   eights zero low id is at other =
-      let all = subst (λ k. AllByRecursion (Fits m id k) (entries m id)) at (t.fits id is) in
+      let all = subst (λ k. AllByRecursion (Fits m id k) (entries m id)) at (t.shape.fits id is) in
       let n = have m 0 1 (entries m id) (leaf m id (entries m id) all) in
       omega (arith, n, many id is other)
   eights (suc k) low id is at other =
-      let all = subst (λ k. AllByRecursion (Fits m id k) (entries m id)) at (t.fits id is) in
+      let all = subst (λ k. AllByRecursion (Fits m id k) (entries m id)) at (t.shape.fits id is) in
       let n = have m (suc k) (8 ^ suc k) (entries m id) (above k (8 ^ suc k) id (entries m id) low (eights k (omega (arith, low))) all) in
       omega (arith, n, mul-le-mul_right (8 ^ suc k) (many id is other), pow-succ' 8 (suc k))
 
   -- two such nodes at least stand below a root above the leaves
   pub full_tree : (k : ℕ) → level_of m root ≡ suc k → 2 * 8 ^ suc k ≤ length (tree_runs m root)
   full_tree k at =
-      let all = subst (λ k. AllByRecursion (Fits m root k) (entries m root)) at (t.fits root t.root_is) in
+      let all = subst (λ k. AllByRecursion (Fits m root k) (entries m root)) at (t.shape.fits root t.shape.root_is) in
       let n = have m (suc k) (8 ^ suc k) (entries m root) (above k (8 ^ suc k) root (entries m root) (omega (arith, at)) (eights k (omega (arith, at))) all) in
-      let two = subst (λ n. n ≤ length (entries m root)) (test_same root root _ 8 refl ∙ test_other (level_of m root) 0 0 2 (λ e. omega (arith, e, at))) (t.filled root t.root_is) in
+      let two = subst (λ n. n ≤ length (entries m root)) (test_same root root _ 8 refl ∙ test_other (level_of m root) 0 0 2 (λ e. omega (arith, e, at))) (t.filled root t.shape.root_is) in
       subst (λ l. 2 * 8 ^ suc k ≤ length (runs m l root)) (sym at) (omega (arith, n, mul-le-mul_right (8 ^ suc k) two))

@@ -41,7 +41,7 @@ module _ (m : Memory) (root : ℕ) (t : IsTree m root) (by : Measure) (place : �
   begins within =
       let z : level_of m root - level_of m root ≡ 0 = omega arith in
       record {
-        is = t.root_is;
+        is = t.shape.root_is;
         low = omega arith;
         at = omega (arith, amount-none by);
         before = ap (λ d. counts_of (ahead m d root)) (sym z);
@@ -53,7 +53,7 @@ module _ (m : Memory) (root : ℕ) (t : IsTree m root) (by : Measure) (place : �
   few-node id rest front g few =
       let k = level_of m id in
       let d = level_of m root - k in
-      let cut = ap counts_of (cut_at m root t d k id g.is refl (omega (arith, g.low))) ∙ counts-append (ahead m d id) (runs m k id ++ behind m d id) ∙ ap (plus (counts_of (ahead m d id))) (counts-append (runs m k id) (behind m d id)) in
+      let cut = ap counts_of (cut_at m (level_of m root) root t.shape d k id g.is refl (omega (arith, g.low))) ∙ counts-append (ahead m d id) (runs m k id ++ behind m d id) ∙ ap (plus (counts_of (ahead m d id))) (counts-append (runs m k id) (behind m d id)) in
       let whole = subst AreFew cut few in
       let own = sum-node m root t id g.is in
       let P : Counts → Type 0 = λ x. AreFew (plus x (sum_of (entries m id))) in

@@ -38,7 +38,7 @@ module _ (m : Memory) (root : ℕ) (text : List ℕ) (n : ℕ) (kept : IsKept m 
 
   -- the root's entries add up to the runs of the tree
   pub sum_root : sum_of (entries m root) ≡ counts_of (tree_runs m root)
-  sum_root = sum-node m root kept.tree root kept.tree.root_is
+  sum_root = sum-node m root kept.tree root kept.tree.shape.root_is
 
   pub few_root : AreFew (sum_of (entries m root))
   few_root = subst AreFew (sym sum_root) few_runs

@@ -110,7 +110,7 @@ module _ (m : Memory) (root : ℕ) (t : IsTree m root) where
       let front = all_below m 0 (take i es) in
       let back = all_below m 0 (drop i es) in
       let all = ap (all_below m 0) (sym (take-append-drop i es)) ∙ flat_map-append (below m 0) (take i es) (drop i es) in
-      let cut = cut_at m root t top 0 leaf is low (omega arith) ∙ ap (λ l. ahead m top leaf ++ (l ++ behind m top leaf)) all in
+      let cut = cut_at m (level_of m root) root t.shape top 0 leaf is low (omega arith) ∙ ap (λ l. ahead m top leaf ++ (l ++ behind m top leaf)) all in
       let a = counts_of (ahead m top leaf) in
       let sum = ap counts_of cut ∙ counts-append (ahead m top leaf) ((front ++ back) ++ behind m top leaf) ∙ ap (plus a) (counts-append (front ++ back) (behind m top leaf) ∙ ap (λ c. plus c (counts_of (behind m top leaf))) (counts-append front back)) in
       let f = subst AreFew sum few in
@@ -138,7 +138,7 @@ module _ (m : Memory) (root : ℕ) (t : IsTree m root) where
   -- the entries before a node in its parent add up to their runs
   sum-left : (id : ℕ) → id < length m.heads → (id ≡ root → ⊥) → sum_of (left_of id (around m id)) ≡ counts_of (all_below m (level_of m (parent_of m id)) (left_of id (around m id)))
   sum-left id is other =
-      let kn = t.known id is other in
+      let kn = t.shape.known id is other in
       let k = level_of m (parent_of m id) in
       let cut = cut_around id (around m id) (omega (arith, kn.once)) in
       sum-exact m k (left_of id (around m id)) (each-front (IsExact m k) (left_of id (around m id)) _ (subst (AllByRecursion (IsExact m k)) cut.is (t.totals (parent_of m id) kn.is)))
@@ -147,10 +147,10 @@ module _ (m : Memory) (root : ℕ) (t : IsTree m root) where
   above-sum : (leaf i id : ℕ) (before : Counts) → Rising m root leaf i id before → (id ≡ root → ⊥)
       → plus (counts_of (ahead m (level_of m root - level_of m (parent_of m id)) (parent_of m id))) (plus before (sum_of (left_of id (around m id)))) ≡ counts_of (runs_before m root leaf i)
   above-sum leaf i id before r other =
-      let kn = t.known id r.is other in
+      let kn = t.shape.known id r.is other in
       let p = parent_of m id in
       let d = level_of m root - level_of m p in
-      let most = t.levels p kn.is in
+      let most = t.shape.low p kn.is in
       let deep : level_of m root - level_of m id ≡ suc d = omega (arith, kn.up, most) in
       let left = left_of id (around m id) in
       let a = counts_of (ahead m d p) in
@@ -160,10 +160,10 @@ module _ (m : Memory) (root : ℕ) (t : IsTree m root) where
 
   pub goes_up : (leaf i id : ℕ) (before next : Counts) → Rising m root leaf i id before → (id ≡ root → ⊥) → next ≡ plus before (sum_of (left_of id (around m id))) → Rising m root leaf i (parent_of m id) next
   goes_up leaf i id before next r other is =
-      let kn = t.known id r.is other in
+      let kn = t.shape.known id r.is other in
       record {
         is = kn.is;
-        low = t.levels (parent_of m id) kn.is;
+        low = t.shape.low (parent_of m id) kn.is;
         at = ap (plus (counts_of (ahead m (level_of m root - level_of m (parent_of m id)) (parent_of m id)))) is ∙ above-sum leaf i id before r other;
       }
 

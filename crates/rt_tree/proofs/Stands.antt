@@ -18,7 +18,7 @@ cut_leaf m (e ∷ es) zero r is = let h : e ≡ Here r = cc in ap (λ x. below m
 cut_leaf m (e ∷ es) (suc i) r is = ap (λ l. below m 0 e ++ l) (cut_leaf m es i r is) ∙ sym (append_assoc (below m 0 e) (all_below m 0 (take i es)) ((r ∷ []) ++ all_below m 0 (drop (suc i) es)))
 
 -- the runs before an entry of a leaf stand before its run
-pub parted : (m : Memory) (root : ℕ) → IsTree m root → (leaf entry : ℕ) (run : Run) (front : Counts) → leaf < length m.heads → level_of m leaf ≡ 0 → slice_get (entries m leaf) entry ≡ Some (Here run) → front ≡ counts_of (runs_before m root leaf entry) → IsBehind (tree_runs m root) run front
+abbrev pub parted : (m : Memory) (root : ℕ) → IsTree m root → (leaf entry : ℕ) (run : Run) (front : Counts) → leaf < length m.heads → level_of m leaf ≡ 0 → slice_get (entries m leaf) entry ≡ Some (Here run) → front ≡ counts_of (runs_before m root leaf entry) → IsBehind (tree_runs m root) run front
 parted m root t leaf entry run front is low here counts =
     let es = entries m leaf in
     let top = level_of m root in
@@ -26,7 +26,7 @@ parted m root t leaf entry run front is low here counts =
     record {
       left = runs_before m root leaf entry;
       right = after ++ behind m top leaf;
-      here = cut_at m root t top 0 leaf is low (omega arith) ∙ ap (λ l. ahead m top leaf ++ (l ++ behind m top leaf)) (cut_leaf m es entry run here) ∙ regroup (ahead m top leaf) (all_below m 0 (take entry es)) (run ∷ []) after (behind m top leaf);
+      here = cut_at m (level_of m root) root t.shape top 0 leaf is low (omega arith) ∙ ap (λ l. ahead m top leaf ++ (l ++ behind m top leaf)) (cut_leaf m es entry run here) ∙ regroup (ahead m top leaf) (all_below m 0 (take entry es)) (run ∷ []) after (behind m top leaf);
       before = counts;
     }
 

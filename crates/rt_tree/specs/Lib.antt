@@ -3,6 +3,7 @@ pub mod Sums
 pub mod Shape
 pub mod Walks
 pub mod Trees
+pub mod Changes
 pub use Rattle.rt_nodes.specs.Nodes
 pub use Rattle.rt_stamps.specs.Places
 pub use Rattle.rt_stamps.specs.Stamps

@@ -95,13 +95,18 @@ pub record IsKnown (m : Memory) (id : ℕ) : Type 0 where
 abbrev pub IsFilled : Memory → ℕ → ℕ → Type 0
 IsFilled m root id = (if id == root then (if level_of m id == 0 then 0 else 2) else 8) ≤ length (entries m id)
 
--- all nodes of a memory are a tree below a root
-pub record IsTree (m : Memory) (root : ℕ) : Type 0 where
+-- all nodes of a memory stand below a root, so many levels above the leaves
+pub record IsShape (m : Memory) (height root : ℕ) : Type 0 where
   pub same : length m.heads ≡ length m.rows
   pub root_is : root < length m.heads
-  pub levels : (id : ℕ) → id < length m.heads → level_of m id ≤ level_of m root
+  pub top : level_of m root ≡ height
+  pub low : (id : ℕ) → id < length m.heads → level_of m id ≤ height
   pub fits : (id : ℕ) → id < length m.heads → AllByRecursion (Fits m id (level_of m id)) (entries m id)
   pub known : (id : ℕ) → id < length m.heads → id ≢ root → IsKnown m id
+
+-- they are a tree, whose nodes have entries enough and right totals
+pub record IsTree (m : Memory) (root : ℕ) : Type 0 where
+  pub shape : IsShape m (level_of m root) root
   pub filled : (id : ℕ) → id < length m.heads → IsFilled m root id
   pub totals : (id : ℕ) → id < length m.heads → AllByRecursion (IsExact m (level_of m id)) (entries m id)
 

@@ -4,6 +4,7 @@ use Rattle.rt_nodes.specs.Nodes.{entries}
 use Rattle.rt_tree.specs.declared.node.Counts.{Counts}
 use Rattle.rt_tree.specs.declared.node.Entry.TheVariants.{Here}
 use Rattle.rt_tree.specs.declared.node.Measure.{Measure}
+use Rattle.rt_tree.specs.declared.node.Measure.TheVariants.{Cells}
 use Rattle.rt_tree.specs.declared.node.Run.{Run}
 use Rattle.rt_tree.specs.Shape.{Memory, level_of, runs_before}
 use Rattle.rt_tree.specs.Sums.{amount, counts_of, counts_of_run}
@@ -31,3 +32,19 @@ pub record IsBehind (all : List Run) (run : Run) (front : Counts) : Type 0 where
   pub right : List Run
   pub here : all ≡ left ++ run ∷ right
   pub before : front ≡ counts_of left
+
+-- A run has been put in before the one that has the cell at a position.
+pub record IsPutAt (old new : List Run) (at : ℕ) (run : Run) : Type 0 where
+  pub next : Run
+  pub front : Counts
+  pub offset : ℕ
+  pub was : StandsAt Cells old next front offset at
+  pub is : new ≡ was.left ++ run ∷ next ∷ was.right
+
+-- A run stands in place of the one that has the cell at a position.
+pub record IsReplacedAt (old new : List Run) (at : ℕ) (run : Run) : Type 0 where
+  pub before : Run
+  pub front : Counts
+  pub offset : ℕ
+  pub was : StandsAt Cells old before front offset at
+  pub is : new ≡ was.left ++ run ∷ was.right

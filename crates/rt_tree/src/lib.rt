@@ -1,12 +1,18 @@
 //! The cells of a text in a counted B-tree of runs.
 #![tactic(auto)]
 
+mod change;
 mod find;
 pub mod looks;
 pub mod node;
+mod put;
+mod room;
+mod settle;
+mod split;
 mod sums;
 #[cfg(test)]
 mod tests;
+mod totals;
 pub mod tree;
 pub mod up;
 pub mod walk;

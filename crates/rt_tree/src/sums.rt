@@ -41,7 +41,7 @@ pub(crate) fn amount(by: Measure, counts: Counts) -> usize
 }
 
 // What a run counts.
-fn counts_of_run(run: Run) -> Counts
+pub(crate) fn counts_of_run(run: Run) -> Counts
     ensures { result ≡ counts_of_run run }
 {
     Counts {

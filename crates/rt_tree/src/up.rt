@@ -81,7 +81,7 @@ pub fn ascend<L: Looks>(looks: &mut L, root: NodeId, leaf: NodeId, entry: usize)
 }
 
 // Whether an entry is that of a node.
-fn is_node(entry: &Entry, node: NodeId) -> bool
+pub(crate) fn is_node(entry: &Entry, node: NodeId) -> bool
     ensures { result ≡ is_of node.index entry.now }
 {
     match entry {

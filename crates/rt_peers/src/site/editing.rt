@@ -33,8 +33,7 @@ impl SiteState {
     fn insert_texts(&mut self, index: &str, pieces: &[Piece], rest: &str) -> Result<Reply, Fault>
         ensures { Answers (texts_step self.old index.now pieces.now rest.now) self.old result self.new }
     {
-        self.doc
-            .insert(&mut self.widget, &mut [], index, pieces, rest)?;
+        self.view.insert(index, pieces, rest)?;
         Ok(no_words(self.alloc))
     }
 
@@ -52,7 +51,7 @@ impl SiteState {
     fn remove(&mut self, indices: &[String]) -> Result<Reply, Fault>
         ensures { Answers (removal_step self.old (map (λ w. string_bytes w) indices.now)) self.old result self.new }
     {
-        self.doc.delete(&mut self.widget, &mut [], indices)?;
+        self.view.delete(indices)?;
         Ok(no_words(self.alloc))
     }
 }

@@ -38,9 +38,9 @@ impl SiteState {
 
     // `mark set` of a name at an index.
     fn set_mark(&mut self, name: &str, index: &str) -> Result<Reply, Fault>
-        ensures { Answers (changed_step (mark_set self.old.doc self.old.own name.now index.now)) self.old result self.new }
+        ensures { Answers (changed_step (mark_set self.old name.now index.now)) self.old result self.new }
     {
-        mark_set(&mut self.doc, &mut self.widget, name, index)?;
+        mark_set(&mut self.view, name, index)?;
         Ok(no_words(self.alloc))
     }
 
@@ -58,7 +58,7 @@ impl SiteState {
     fn unset_marks(&mut self, names: &[String]) -> Result<Reply, Fault>
         ensures { Answers (unset_step self.old (map (λ w. string_bytes w) names.now)) self.old result self.new }
     {
-        mark_unset(&mut self.doc, names)?;
+        mark_unset(&mut self.view, names)?;
         Ok(no_words(self.alloc))
     }
 
@@ -78,15 +78,15 @@ impl SiteState {
     fn gravity(&mut self, name: &str) -> Result<Reply, Fault>
         ensures { Answers (gravity_step self.old name.now) self.old result self.new }
     {
-        let gravity = mark_gravity(&self.doc, &self.widget, name)?;
+        let gravity = mark_gravity(&self.view, name)?;
         one_word(self.alloc, String::from_str(self.alloc, gravity.word())?)
     }
 
     // `mark gravity` of a name and a gravity.
     fn set_gravity(&mut self, name: &str, gravity: &str) -> Result<Reply, Fault>
-        ensures { Answers (changed_step (mark_gravity_set self.old.doc self.old.own name.now gravity.now)) self.old result self.new }
+        ensures { Answers (changed_step (mark_gravity_set self.old name.now gravity.now)) self.old result self.new }
     {
-        set_mark_gravity(&mut self.doc, &mut self.widget, name, gravity)?;
+        set_mark_gravity(&mut self.view, name, gravity)?;
         Ok(no_words(self.alloc))
     }
 
@@ -97,7 +97,7 @@ impl SiteState {
         if !words.is_empty() {
             return Err(Fault::BadCommand);
         }
-        let words = mark_names(self.alloc, &self.doc)?;
+        let words = mark_names(self.alloc, &self.view)?;
         Ok(Reply { words })
     }
 
@@ -113,9 +113,9 @@ impl SiteState {
 
     // `mark next` of a word.
     fn next(&mut self, word: &str) -> Result<Reply, Fault>
-        ensures { Answers (found_step self.old (mark_next self.old.doc self.old.own word.now)) self.old result self.new }
+        ensures { Answers (found_step self.old (mark_next self.old word.now)) self.old result self.new }
     {
-        let name = mark_next(&self.doc, &self.widget, word)?;
+        let name = mark_next(&self.view, word)?;
         name_reply(self.alloc, name)
     }
 
@@ -131,9 +131,9 @@ impl SiteState {
 
     // `mark previous` of a word.
     fn previous(&mut self, word: &str) -> Result<Reply, Fault>
-        ensures { Answers (found_step self.old (mark_previous self.old.doc self.old.own word.now)) self.old result self.new }
+        ensures { Answers (found_step self.old (mark_previous self.old word.now)) self.old result self.new }
     {
-        let name = mark_previous(&self.doc, &self.widget, word)?;
+        let name = mark_previous(&self.view, word)?;
         name_reply(self.alloc, name)
     }
 

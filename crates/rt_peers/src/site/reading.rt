@@ -50,17 +50,17 @@ impl SiteState {
 
     // `get` of one index.
     fn get_one(&mut self, index: &str) -> Result<Reply, Fault>
-        ensures { Answers (word_step self.old (got_one self.old.doc self.old.own index.now)) self.old result self.new }
+        ensures { Answers (word_step self.old (got_one self.old index.now)) self.old result self.new }
     {
-        let text = self.doc.get_one(&self.widget, index)?;
+        let text = self.view.get_one(index)?;
         one_word(self.alloc, text)
     }
 
     // `get` of two indices.
     fn get_between(&mut self, from: &str, to: &str) -> Result<Reply, Fault>
-        ensures { Answers (word_step self.old (got self.old.doc self.old.own from.now to.now)) self.old result self.new }
+        ensures { Answers (word_step self.old (got self.old from.now to.now)) self.old result self.new }
     {
-        let text = self.doc.get(&self.widget, from, to)?;
+        let text = self.view.get(from, to)?;
         one_word(self.alloc, text)
     }
 
@@ -68,7 +68,7 @@ impl SiteState {
     fn get_list(&mut self, words: &[String]) -> Result<Reply, Fault>
         ensures { Answers (list_step self.old (map (λ w. string_bytes w) words.now)) self.old result self.new }
     {
-        let words = self.doc.get_list(&self.widget, words)?;
+        let words = self.view.get_list(words)?;
         Ok(Reply { words })
     }
 
@@ -79,7 +79,7 @@ impl SiteState {
         let [index] = words else {
             return Err(Fault::BadCommand);
         };
-        let position = self.doc.index(&self.widget, index)?;
+        let position = self.view.index(index)?;
         one_word(self.alloc, position.to_string(self.alloc)?)
     }
 
@@ -97,7 +97,7 @@ impl SiteState {
     fn compare_places(&mut self, first: &str, operator: &str, second: &str) -> Result<Reply, Fault>
         ensures { Answers (comparison_step self.old first.now operator.now second.now) self.old result self.new }
     {
-        let holds = self.doc.compare(&self.widget, first, operator, second)?;
+        let holds = self.view.compare(first, operator, second)?;
         one_word(self.alloc, text_of_bool(self.alloc, holds)?)
     }
 
@@ -105,7 +105,7 @@ impl SiteState {
     fn count_from(&mut self, switches: &[String], from: &str, to: &str) -> Result<Reply, Fault>
         ensures { Answers (distances_step self.old (map (λ w. string_bytes w) switches.now) from.now to.now) self.old result self.new }
     {
-        let distances = self.doc.count(&self.widget, switches, from, to)?;
+        let distances = self.view.count(switches, from, to)?;
         numbers(self.alloc, &distances)
     }
 

@@ -2,7 +2,7 @@
 ghost use Rattle.std.specs.Prelude.{map, string_bytes, option_copied};
 ghost use Rattle.rt_stamps.specs.Outcomes.{Answers};
 ghost use Rattle.rt_tagcmd.specs.TagCommands.{tag_added, tag_removed, tags_deleted, tag_raised, tag_lowered, tag_names, tag_names_at, tag_ranges, tag_nextrange, tag_prevrange};
-ghost use Rattle.rt_peers.specs.Step.{changed_step, document_step, words_step, positions_step, tag_add_step, tag_remove_step, tag_delete_step, tag_raise_step, tag_lower_step, tag_names_step, tag_ranges_step, tag_nextrange_step, tag_prevrange_step, tag_command_step, tag_step};
+ghost use Rattle.rt_peers.specs.Step.{changed_step, words_step, positions_step, tag_add_step, tag_remove_step, tag_delete_step, tag_raise_step, tag_lower_step, tag_names_step, tag_ranges_step, tag_nextrange_step, tag_prevrange_step, tag_command_step, tag_step};
 
 use super::SiteState;
 use super::replies::{no_words, positions_reply};
@@ -27,9 +27,9 @@ impl SiteState {
 
     // `tag add` of a name and one index or more.
     fn add_tag(&mut self, name: &str, indices: &[String]) -> Result<Reply, Fault>
-        ensures { Answers (changed_step (tag_added self.old.doc self.old.own name.now (map (λ w. string_bytes w) indices.now))) self.old result self.new }
+        ensures { Answers (changed_step (tag_added self.old name.now (map (λ w. string_bytes w) indices.now))) self.old result self.new }
     {
-        tag_add(&mut self.doc, &mut self.widget, name, indices)?;
+        tag_add(&mut self.view, name, indices)?;
         Ok(no_words(self.alloc))
     }
 
@@ -45,9 +45,9 @@ impl SiteState {
 
     // `tag remove` of a name and one index or more.
     fn remove_tag(&mut self, name: &str, indices: &[String]) -> Result<Reply, Fault>
-        ensures { Answers (changed_step (tag_removed self.old.doc self.old.own name.now (map (λ w. string_bytes w) indices.now))) self.old result self.new }
+        ensures { Answers (changed_step (tag_removed self.old name.now (map (λ w. string_bytes w) indices.now))) self.old result self.new }
     {
-        tag_remove(&mut self.doc, &mut self.widget, name, indices)?;
+        tag_remove(&mut self.view, name, indices)?;
         Ok(no_words(self.alloc))
     }
 
@@ -63,9 +63,9 @@ impl SiteState {
 
     // `tag delete` of one name or more.
     fn delete_tags(&mut self, names: &[String]) -> Result<Reply, Fault>
-        ensures { Answers (document_step self.old (tags_deleted self.old.doc (map (λ w. string_bytes w) names.now))) self.old result self.new }
+        ensures { Answers (changed_step (tags_deleted self.old (map (λ w. string_bytes w) names.now))) self.old result self.new }
     {
-        tag_delete(&mut self.doc, names)?;
+        tag_delete(&mut self.view, names)?;
         Ok(no_words(self.alloc))
     }
 
@@ -83,9 +83,9 @@ impl SiteState {
 
     // `tag raise` of a name.
     fn raise(&mut self, name: &str, above: Option<&str>) -> Result<Reply, Fault>
-        ensures { Answers (document_step self.old (tag_raised self.old.doc name.now (option_copied above.entry))) self.old result self.new }
+        ensures { Answers (changed_step (tag_raised self.old name.now (option_copied above.entry))) self.old result self.new }
     {
-        tag_raise(&mut self.doc, name, above)?;
+        tag_raise(&mut self.view, name, above)?;
         Ok(no_words(self.alloc))
     }
 
@@ -103,9 +103,9 @@ impl SiteState {
 
     // `tag lower` of a name.
     fn lower(&mut self, name: &str, below: Option<&str>) -> Result<Reply, Fault>
-        ensures { Answers (document_step self.old (tag_lowered self.old.doc name.now (option_copied below.entry))) self.old result self.new }
+        ensures { Answers (changed_step (tag_lowered self.old name.now (option_copied below.entry))) self.old result self.new }
     {
-        tag_lower(&mut self.doc, name, below)?;
+        tag_lower(&mut self.view, name, below)?;
         Ok(no_words(self.alloc))
     }
 
@@ -122,17 +122,17 @@ impl SiteState {
 
     // `tag names` of all tags.
     fn all_tags(&mut self) -> Result<Reply, Fault>
-        ensures { Answers (Ok (tag_names self.old.doc, self.old)) self.old result self.new }
+        ensures { Answers (Ok (tag_names self.old, self.old)) self.old result self.new }
     {
-        let words = tag_names(&self.doc)?;
+        let words = tag_names(&self.view)?;
         Ok(Reply { words })
     }
 
     // `tag names` of an index.
     fn tags_at(&mut self, index: &str) -> Result<Reply, Fault>
-        ensures { Answers (words_step self.old (tag_names_at self.old.doc self.old.own index.now)) self.old result self.new }
+        ensures { Answers (words_step self.old (tag_names_at self.old index.now)) self.old result self.new }
     {
-        let words = tag_names_at(self.alloc, &self.doc, &self.widget, index)?;
+        let words = tag_names_at(self.alloc, &self.view, index)?;
         Ok(Reply { words })
     }
 
@@ -148,9 +148,9 @@ impl SiteState {
 
     // `tag ranges` of a name.
     fn ranges(&mut self, name: &str) -> Result<Reply, Fault>
-        ensures { Answers (positions_step self.old (tag_ranges self.old.doc self.old.own name.now)) self.old result self.new }
+        ensures { Answers (positions_step self.old (tag_ranges self.old name.now)) self.old result self.new }
     {
-        let positions = tag_ranges(self.alloc, &self.doc, &self.widget, name)?;
+        let positions = tag_ranges(self.alloc, &self.view, name)?;
         positions_reply(self.alloc, &positions)
     }
 
@@ -167,10 +167,10 @@ impl SiteState {
 
     // `tag nextrange` of a name, an index and perhaps another.
     fn next_range(&mut self, name: &str, from: &str, to: Option<&str>) -> Result<Reply, Fault>
-        ensures { Answers (positions_step self.old (tag_nextrange self.old.doc self.old.own name.now from.now
+        ensures { Answers (positions_step self.old (tag_nextrange self.old name.now from.now
             (option_copied to.entry))) self.old result self.new }
     {
-        let positions = tag_nextrange(self.alloc, &self.doc, &self.widget, name, from, to)?;
+        let positions = tag_nextrange(self.alloc, &self.view, name, from, to)?;
         positions_reply(self.alloc, &positions)
     }
 
@@ -187,10 +187,10 @@ impl SiteState {
 
     // `tag prevrange` of a name, an index and perhaps another.
     fn previous_range(&mut self, name: &str, to: &str, from: Option<&str>) -> Result<Reply, Fault>
-        ensures { Answers (positions_step self.old (tag_prevrange self.old.doc self.old.own name.now to.now
+        ensures { Answers (positions_step self.old (tag_prevrange self.old name.now to.now
             (option_copied from.entry))) self.old result self.new }
     {
-        let positions = tag_prevrange(self.alloc, &self.doc, &self.widget, name, to, from)?;
+        let positions = tag_prevrange(self.alloc, &self.view, name, to, from)?;
         positions_reply(self.alloc, &positions)
     }
 

@@ -30,7 +30,9 @@ pub(crate) const TEXTS: &[&[(&str, &str)]] = &[
         (".t frob", "! 4 BadCommand"),
         (".t", "! 4 BadCommand"),
         ("destroy .t", "! 4 BadCommand"),
-        ("receive a", "! 4 BadCommand"),
+        ("receive", "! 4 BadCommand"),
+        ("receive a b", "! 4 BadCommand"),
+        ("receive a", "! 20 NoFile"),
     ],
     &[
         (".t insert", "! 4 BadCommand"),

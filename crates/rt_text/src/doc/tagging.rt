@@ -10,9 +10,9 @@ ghost use Rattle.rt_store.specs.Tagged.{next_place};
 ghost use Rattle.rt_tags.specs.States.{IsState};
 ghost use Rattle.rt_tags.specs.Tags.{is_listed, is_place, lowered, raised, sel};
 ghost use Rattle.rt_edits.specs.Flat.{logged};
-ghost use Rattle.rt_edits.specs.TagDrafts.{tag_drafts_at};
-ghost use Rattle.rt_edits.specs.TagWrites.{listed_if, with_tag_at};
-ghost use Rattle.rt_text.specs.Commands.{clock_check, with_tag_in, with_tags_deleted};
+ghost use Rattle.rt_edits.specs.TagDrafts.{deletion_drafts, tag_drafts_at};
+ghost use Rattle.rt_edits.specs.TagWrites.{listed_if, with_tag_at, without_tags};
+ghost use Rattle.rt_text.specs.Commands.{clock_check};
 ghost use Rattle.rt_edits.specs.Listed.{AreListed};
 ghost use Rattle.rt_edits.specs.Selected.{stamps_in};
 ghost use Rattle.rt_store.specs.Shown.{shown};
@@ -22,8 +22,7 @@ use super::Doc;
 use crate::Widget;
 use crate::characters::{cell_has, next_with};
 use rt_edits::drafting::{planned_tag, planned_tag_deletion};
-use rt_edits::listing::{forget_all, list_if, prepare_if, select};
-use rt_edits::removal::ranges_within;
+use rt_edits::listing::{forget_all, list_if, prepare_if};
 use rt_edits::{Range, Selection};
 use rt_stamps::Fault;
 use rt_store::{Cell, TextStore};
@@ -66,7 +65,7 @@ impl<S: TextStore> Doc<S> {
 
     /// The least place from one up whose character has a tag on the widget; none if there is none. It
     /// takes no memory.
-    pub fn next_tagged(&self, widget: &Widget, name: &str, place: usize) -> Option<usize>
+    pub(crate) fn next_tagged(&self, widget: &Widget, name: &str, place: usize) -> Option<usize>
         ensures { result ≡ next_place (is_tagged widget.now name.now) (visible_of self.now.cells) place }
     {
         let (store, states) = self.kept();
@@ -75,7 +74,7 @@ impl<S: TextStore> Doc<S> {
 
     /// The least place from one up whose character hasn't a tag on the widget; none if there is none.
     /// It takes no memory.
-    pub fn next_untagged(&self, widget: &Widget, name: &str, place: usize) -> Option<usize>
+    pub(crate) fn next_untagged(&self, widget: &Widget, name: &str, place: usize) -> Option<usize>
         ensures { result ≡ next_place (λ cell. not (is_tagged widget.now name.now cell)) (visible_of self.now.cells) place }
     {
         let (store, states) = self.kept();
@@ -84,7 +83,7 @@ impl<S: TextStore> Doc<S> {
 
     /// The listed tags of the character at a place on a widget, lowest priority first (Tk text manual,
     /// "tag names"). Want of memory.
-    pub fn tags_at(&self, widget: &Widget, place: usize) -> Result<Vec<String>, Fault>
+    pub(crate) fn tags_at(&self, widget: &Widget, place: usize) -> Result<Vec<String>, Fault>
         requires { place < length (visible_of self.now.cells) }
         ensures ok { IfOk result (λ names. option_map (tags_on widget.now self.now.tags) (slice_get (visible_of self.now.cells) place)
             ≡ Some (map (λ w. string_bytes w) names.items)) }
@@ -97,37 +96,13 @@ impl<S: TextStore> Doc<S> {
         Ok(names)
     }
 
-    /// Puts a tag on the characters in ranges of places, or takes it off ("tag add", "tag remove"):
-    /// `sel` is the widget's own, any other one is the text's. One that is put on is listed, also
-    /// where no character gets it. `ClockSpent`, or want of memory, and then nothing changes. It takes
-    /// one count for each 65,536 spans of stamps that it changes or a part of them; `sel` takes none.
-    pub fn write_tag(
+    // Puts a tag that isn't `sel` on the characters in ranges, or takes it off.
+    pub(crate) fn write_shared(
         &mut self,
-        widget: &mut Widget,
         on: bool,
         name: &str,
         ranges: &[Range],
     ) -> Result<(), Fault>
-        requires name { IsName name.now }
-        ensures ok { OnOk result ((with_tag_in self.old widget.old on name.now ranges.now ≡ (self.new, widget.new))
-            × (clock_check self.new.count ≡ None)) }
-        ensures err { IfErr result (λ fault. (fault ≡ Fault.NoMemory)
-            ⊎ (clock_check (with_tag_in self.old widget.old on name.now ranges.now).0.count ≡ Some fault)) }
-        ensures unchanged { OnErr result ((self.new ≡ self.old) × (widget.new ≡ widget.old)) }
-        ensures text { text_of self.new.cells ≡ text_of self.old.cells }
-        ensures insert { widget.new.insert ≡ widget.old.insert }
-        ensures current { widget.new.current ≡ widget.old.current }
-    {
-        let (store, _) = self.kept();
-        let ranges = ranges_within(self.alloc, store, ranges)?;
-        if name == "sel" {
-            return select(self.alloc, store, &mut widget.selection, &ranges, on);
-        }
-        self.write_shared(on, name, &ranges)
-    }
-
-    // Puts a tag that isn't `sel` on the characters in ranges, or takes it off.
-    fn write_shared(&mut self, on: bool, name: &str, ranges: &[Range]) -> Result<(), Fault>
         requires name { IsName name.now }
         requires shared { bytes_eq name.now sel ≡ false }
         requires order { AreInOrder 0 ranges.now }
@@ -147,13 +122,13 @@ impl<S: TextStore> Doc<S> {
         Ok(())
     }
 
-    /// Takes tags off all characters, and lists them no longer ("tag delete"); `sel` is passed over.
-    /// `ClockSpent`, or want of memory, and then nothing changes. It takes one count for each 65,536
-    /// spans of stamps of each tag or a part of them.
-    pub fn delete_tags(&mut self, names: &[String]) -> Result<(), Fault>
-        ensures ok { OnOk result ((self.new ≡ with_tags_deleted self.old (map (λ w. string_bytes w) names.now)) × (clock_check self.new.count ≡ None)) }
+    // Takes tags off all characters, and lists them no longer.
+    pub(crate) fn delete_tags(&mut self, names: &[String]) -> Result<(), Fault>
+        ensures ok { OnOk result (self.new ≡ logged self.old (deletion_drafts MOST_SPANS self.old (map (λ w. string_bytes w) names.now))
+            (without_tags self.old (map (λ w. string_bytes w) names.now))) }
+        ensures checked { OnOk result (clock_check self.new.count ≡ None) }
         ensures err { IfErr result (λ fault. (fault ≡ Fault.NoMemory)
-            ⊎ (clock_check (with_tags_deleted self.old (map (λ w. string_bytes w) names.now)).count ≡ Some fault)) }
+            ⊎ (clock_check (without_tags self.old (map (λ w. string_bytes w) names.now)).count ≡ Some fault)) }
         ensures unchanged { OnErr result (self.new ≡ self.old) }
         ensures text { text_of self.new.cells ≡ text_of self.old.cells }
     {

@@ -9,4 +9,4 @@ returns-in_err-gather g c =
     rw (p.1, p.2) (head_not_gathered _ _ _ _ c.in_err-gather.field-0.0 c.in_err-gather.ensures)
 
 pub returns-in-None : goal.returns-in-None
-returns-in-None g c = took_magic _ _ _ _ c.gather.new.buffer.items c.deref.result.now c.deref.ensures.value (sym c.head_fault.ensures ∙ c.in-None.is) c.in_ok-gather.ensures.0
+returns-in-None g c = took_magic _ _ _ _ c.gather.new.buffer.items c.deref.result.now c.deref.ensures.value (sym c.head_fault.ensures ∙ c.in-None.is) c.in_ok-gather.ensures.1

@@ -11,4 +11,4 @@ returns-in_err-gather g c =
 pub returns-then-not-is_length : goal.returns-then-not-is_length
 returns-then-not-is_length g c =
     let gathered = c.in_ok-gather.ensures in
-    refused_length _ _ _ _ c.gather.new.buffer.items c.in-Some.found.1.now c.in-Some.found.0 c.in-Some.ensures.fits (sym c.deref.ensures.value ∙ c.in-Some.ensures.bytes) gathered.1 gathered.0 (sym c.is_length.ensures ∙ c.if-not-is_length.true)
+    refused_length _ _ _ _ c.gather.new.buffer.items c.in-Some.found.1.now c.in-Some.found.0 c.in-Some.ensures.fits (sym c.deref.ensures.value ∙ c.in-Some.ensures.bytes) gathered.0 gathered.1 (sym c.is_length.ensures ∙ c.if-not-is_length.true)

@@ -17,7 +17,7 @@ returns-then-len-length g c =
     let field = rw c.in-Some.is at c.in_ok-length.ensures in
     let content = c.in_ok-gather.ensures in
     let few : length c.gather.new.buffer.items < c.in-Some.length = omega (arith, c.if-len-length.true, c.len.ensures, c.gather.new.buffer.ok.0) in
-    cut_content _ _ _ _ _ _ c.in-Some.length c.gather.new.buffer.items field.0 field.1 field.2 content.0 few content.2
+    cut_content _ _ _ _ _ _ c.in-Some.length c.gather.new.buffer.items field.0 field.1 field.2 (content.2 few) few
 
 pub returns-in_err-op : goal.returns-in_err-op
 returns-in_err-op g c =
@@ -25,7 +25,7 @@ returns-in_err-op g c =
     let field = rw c.in-Some.is at c.in_ok-length.ensures in
     let content = c.in_ok-gather.ensures in
     let all : c.in-Some.length ≤ length c.gather.new.buffer.items = omega (arith, c.if-len-length.false, c.len.ensures, c.gather.new.buffer.ok.0) in
-    rw (p.1, p.2) (refused_content _ _ _ _ _ _ c.in-Some.length c.gather.new.buffer.items c.in_err-op.field-0.0 field.0 field.1 field.2 content.0 content.1 all (rw c.deref.ensures.value at c.in_err-op.ensures))
+    rw (p.1, p.2) (refused_content _ _ _ _ _ _ c.in-Some.length c.gather.new.buffer.items c.in_err-op.field-0.0 field.0 field.1 field.2 (content.1 all) content.0 all (rw c.deref.ensures.value at c.in_err-op.ensures))
 
 pub returns : goal.returns
 returns g c =
@@ -33,4 +33,4 @@ returns g c =
     let content = c.in_ok-gather.ensures in
     let all : c.in-Some.length ≤ length c.gather.new.buffer.items = omega (arith, c.if-len-length.false, c.len.ensures, c.gather.new.buffer.ok.0) in
     let op = c.in_ok-op.ensures in
-    (got_content _ _ _ _ _ _ c.in-Some.length c.gather.new.buffer.items c.in_ok-op.op field.0 content.0 content.1 all (sym c.deref.ensures.value ∙ op.1), op.0)
+    (got_content _ _ _ _ _ _ c.in-Some.length c.gather.new.buffer.items c.in_ok-op.op field.0 (content.1 all) content.0 all (sym c.deref.ensures.value ∙ op.1), op.0)

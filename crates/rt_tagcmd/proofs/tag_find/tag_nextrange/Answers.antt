@@ -1,12 +1,12 @@
-use Rattle.std.proofs.Common.{All, Option, length, subst, sym}
+use Rattle.std.proofs.Common.{All, Option, subst, sym}
 use Rattle.std.specs.Prelude.{option_to_list}
-use Rattle.rt_store.specs.Cells.{text_of}
+use Rattle.rt_text.specs.Widgets.{length_shown}
 use Rattle.rt_edits.specs.declared.range.Range.{Range}
 use Rattle.rt_tagcmd.proofs.TagFinds.{IsWithin, next_within}
 use Rattle.rt_tagcmd.proofs.tag_find.tag_nextrange.Goals as goal
 
 pub found_ends-requires : goal.found_ends-requires
 found_ends-requires g c =
-    let flat = c.args.doc.now in
-    subst (λ (range : Option Range). All (IsWithin (length (text_of flat.cells))) (option_to_list range)) (sym c.next_range.ensures)
-    (next_within flat c.args.widget.now c.args.name.now c.in_ok-from.from c.in_ok-from.to)
+    let view = c.args.view.now in
+    subst (λ (range : Option Range). All (IsWithin (length_shown view)) (option_to_list range)) (sym c.next_range.ensures)
+    (next_within view c.args.name.now c.in_ok-from.from c.in_ok-from.to)

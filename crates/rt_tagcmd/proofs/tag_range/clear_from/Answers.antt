@@ -1,7 +1,6 @@
-use Rattle.rt_store.specs.Cells.{visible_of}
-use Rattle.rt_text.specs.Widgets.{is_tagged}
+use Rattle.rt_text.specs.Widgets.{is_tagged, shown_by}
 use Rattle.rt_tagcmd.proofs.FirstRange.{clear_past}
 use Rattle.rt_tagcmd.proofs.tag_range.clear_from.Goals as goal
 
 pub returns-then-has_tag : goal.returns-then-has_tag
-returns-then-has_tag g c = clear_past (is_tagged c.args.widget.now c.args.name.now) (visible_of c.args.doc.now.cells) c.args.place c.tagged_up_to.result c.if-place-gt0.true (c.has_tag.ensures.0 c.if-has_tag.true) c.tagged_up_to.ensures
+returns-then-has_tag g c = clear_past (is_tagged c.args.view.now.own c.args.name.now) (shown_by c.args.view.now) c.args.place c.tagged_up_to.result c.if-place-gt0.true (c.has_tag.ensures.0 c.if-has_tag.true) c.tagged_up_to.ensures

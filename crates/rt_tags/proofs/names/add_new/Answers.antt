@@ -8,4 +8,4 @@ pub returns-clause-index : goal.returns-clause-index
 returns-clause-index c =
     let all = c.add.ensures.names ∙ (λ j. c.make_room.ensures.names j ++ c.in_ok-name.ensures.ok j ∷ []) in
     subst (λ v. IsAt c.args.name.now v c.len-index.result) (sym all)
-    (at_last c.args.name.now (names_of c.args.names.now) c.len-index.result (c.len-index.ensures.len ∙ sym (len_names c.args.names.now.keys)) c.requires)
+    (at_last c.args.name.now (names_of c.args.names.now) c.len-index.result (c.len-index.ensures.len ∙ sym (len_names c.args.names.now.keys)) c.requires.new)

@@ -15,3 +15,6 @@ returns-clause-listed c = record {
   differ = c.bring.ensures.no_repeats;
   within = omega (arith, c.bring.ensures.len, len_names c.bring.new.names.keys, c.requires.index, c.if-index-listed.false);
 }
+
+pub returns-clause-len : goal.returns-clause-len
+returns-clause-len c = omega (arith, c.bring.ensures.len, len_names c.bring.new.names.keys, len_names c.args.names.now.keys)

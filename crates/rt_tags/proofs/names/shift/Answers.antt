@@ -23,3 +23,6 @@ returns-clause-names c =
 
 pub returns-clause-same : goal.returns-clause-same
 returns-clause-same c = same_names c.args.names.now.keys c.move_index.new.self.keys c.move_index.ensures.reordered.0
+
+pub returns-clause-len : goal.returns-clause-len
+returns-clause-len c = omega (arith, c.move_index.ensures.reordered.1, len_names c.args.names.now.keys, len_names c.move_index.new.self.keys)

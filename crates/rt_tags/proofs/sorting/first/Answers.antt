@@ -1,4 +1,4 @@
-use Rattle.std.proofs.Common.{◌∙◌, ap, map, string_bytes, sym}
+use Rattle.std.proofs.Common.{◌∙◌, map, string_bytes, sym}
 use Rattle.rt_tags.proofs.Merging.{first_in_new, first_in_old, first_is_equal, first_is_greater, first_is_less}
 use Rattle.rt_tags.proofs.sorting.first.Goals as goal
 

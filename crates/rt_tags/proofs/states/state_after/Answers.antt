@@ -1,4 +1,4 @@
-use Rattle.std.proofs.Common.{◌∙◌, [], ap, map, string_bytes}
+use Rattle.std.proofs.Common.{◌∙◌, ap, map, string_bytes}
 use Rattle.rt_tags.specs.Kept.{all_seen}
 use Rattle.rt_tags.specs.Writers.{state_after}
 use Rattle.rt_tags.proofs.Merging.{after_made}

@@ -1,10 +1,9 @@
 use Rattle.std.proofs.Common.{◌∙◌, ap, map, sym}
-use Rattle.rt_text.specs.Commands.{last_unselected}
 use Rattle.rt_edits.specs.Selected.{stamps_in}
-use Rattle.rt_text.proofs.Deletions.{map_same}
+use Rattle.rt_text.proofs.Deletions.{last_off, map_same}
 use Rattle.rt_text.proofs.moving.unselect_last.Goals as goal
 
 pub returns-else-held-clause-others : goal.returns-else-held-clause-others
 returns-else-held-clause-others c =
     let others = map stamps_in c.args.others.now in
-    sym (map_same others) ∙ ap (λ b. map (last_unselected b) others) (sym c.if-held.false)
+    sym (map_same others) ∙ ap (λ b. map (last_off b) others) (sym c.if-held.false)

@@ -47,8 +47,8 @@ counts_with_left-before-requires-clause-room g c =
     let m = g.L.Looks.nodes c.first_counts-before.new.looks in
     let tree = subst (λ n. IsTree n root) (sym same) c.requires.tree in
     let top = ap (λ n. level_of n root) same in
-    let known = tree.known c.loop-node.node.index old.rising.is c.loop-node-test.true in
-    let most = tree.levels (parent_of m c.loop-node.node.index) known.is in
+    let known = tree.shape.known c.loop-node.node.index old.rising.is c.loop-node-test.true in
+    let most = tree.shape.low (parent_of m c.loop-node.node.index) known.is in
     omega (arith, top, known.up, most, old.cost, c.first_counts-before.ensures.cost, c.requires.room)
 
 pub loop-node-preserved : goal.loop-node-preserved
@@ -60,7 +60,7 @@ loop-node-preserved g c =
     let m = g.L.Looks.nodes c.first_counts-before.new.looks in
     let id = c.loop-node.node.index in
     let tree = subst (λ n. IsTree n root) (sym same) c.requires.tree in
-    let known = tree.known id old.rising.is c.loop-node-test.true in
+    let known = tree.shape.known id old.rising.is c.loop-node-test.true in
     let next = c.counts_with_left-before in
     let parent : c.parent-parent.result.index ≡ parent_of m id = c.parent-parent.ensures ∙ ap (λ n. parent_of n id) old.same in
     let left : next.result ≡ plus c.loop-node.before (sum_of (left_of id (entries m (parent_of m id)))) =

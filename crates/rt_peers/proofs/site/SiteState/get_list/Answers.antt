@@ -8,4 +8,4 @@ pub returns-in_err-words : goal.returns-in_err-words
 returns-in_err-words c =
     let p = err_from_is_err_and c.from_residual.result c.from_residual.ensures.1 in
     let state = c.args.self.now in
-    rw p.1 (refl, refused_with state (λ texts. texts) (got_list state.doc state.own (map (λ w. string_bytes w) c.args.words.now)) p.0 c.in_err-words.field-0.0 (rw (← c.self.view_is) c.in_err-words.ensures.err) p.2)
+    rw p.1 (refl, refused_with state (λ texts. texts) (got_list state (map (λ w. string_bytes w) c.args.words.now)) p.0 c.in_err-words.field-0.0 (rw (← c.self.view_is) c.in_err-words.ensures.err) p.2)

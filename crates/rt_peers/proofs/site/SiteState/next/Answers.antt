@@ -7,4 +7,4 @@ use Rattle.rt_peers.proofs.site.SiteState.next.Goals as goal
 pub returns : goal.returns
 returns c =
     let state = c.args.self.now in
-    replied_with state words_of (mark_next state.doc state.own c.args.word.now) (option_copied c.in_ok-name.name) c.name_reply.result (rw (← c.self.view_is) c.in_ok-name.ensures.ok) c.name_reply.ensures.ok c.name_reply.ensures.err
+    replied_with state words_of (mark_next state c.args.word.now) (option_copied c.in_ok-name.name) c.name_reply.result (rw (← c.self.view_is) c.in_ok-name.ensures.ok) c.name_reply.ensures.ok c.name_reply.ensures.err

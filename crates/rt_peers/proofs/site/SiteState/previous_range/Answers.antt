@@ -8,7 +8,7 @@ use Rattle.rt_peers.proofs.site.SiteState.previous_range.Goals as goal
 pub returns-in_err-positions : goal.returns-in_err-positions
 returns-in_err-positions c =
     let p = err_from_is_err_and c.from_residual.result c.from_residual.ensures.1 in
-    rw p.1 (refl, refused_at (λ positions. map text_of_position positions) (λ doc own. tag_prevrange doc own c.args.name.now c.args.to.now (option_copied c.args.from)) c.args.self.now _ _ p.0 c.in_err-positions.field-0.0 c.self.view_is c.in_err-positions.ensures.err p.2)
+    rw p.1 (refl, refused_at (λ positions. map text_of_position positions) (λ view. tag_prevrange view c.args.name.now c.args.to.now (option_copied c.args.from)) c.args.self.now _ p.0 c.in_err-positions.field-0.0 c.self.view_is c.in_err-positions.ensures.err p.2)
 
 pub returns : goal.returns
-returns c = replied_at (λ positions. map text_of_position positions) (λ doc own. tag_prevrange doc own c.args.name.now c.args.to.now (option_copied c.args.from)) c.args.self.now _ _ c.in_ok-positions.positions.items c.positions_reply.result c.self.view_is c.in_ok-positions.ensures.ok (rw (← c.deref.ensures.value) c.positions_reply.ensures.ok) c.positions_reply.ensures.err
+returns c = replied_at (λ positions. map text_of_position positions) (λ view. tag_prevrange view c.args.name.now c.args.to.now (option_copied c.args.from)) c.args.self.now _ c.in_ok-positions.positions.items c.positions_reply.result c.self.view_is c.in_ok-positions.ensures.ok (rw (← c.deref.ensures.value) c.positions_reply.ensures.ok) c.positions_reply.ensures.err

@@ -1,4 +1,4 @@
-use Rattle.std.proofs.Common.{◌≡◌, ◌<◌, ◌∙◌, ◌++◌, ◌∷◌, [], All, ap, arith, length, map, string_bytes, subst, sym, take}
+use Rattle.std.proofs.Common.{◌<◌, ◌∙◌, ◌++◌, ◌∷◌, [], All, ap, arith, length, map, string_bytes, subst, sym, take}
 use Rattle.std.proofs.lemmas.List.{map-append, map_more}
 use Rattle.rt_tags.specs.States.{TagStates, IsTag, all_numbered, name_at}
 use Rattle.rt_tags.specs.Tags.{with_name}

@@ -1,5 +1,4 @@
-use Rattle.std.proofs.Common.{◌≡◌, ◌∙◌, ◌-◌, ap, length, sym, option_copied, take}
-use Rattle.std.proofs.lemmas.List.{length-take-le}
+use Rattle.std.proofs.Common.{◌∙◌, ap, sym, option_copied, take}
 use Rattle.rt_tags.specs.Tags.{Tags, lowered}
 use Rattle.rt_tags.specs.Seen.{names_of}
 use Rattle.rt_tags.proofs.Parts.{no_repeats_part, place_within}
@@ -10,25 +9,25 @@ use Rattle.rt_tags.proofs.table.TagTable.lower.Goals as goal
 pub shift-requires-clause-from : goal.shift-requires-clause-from
 shift-requires-clause-from c =
     let names = names_of c.self.inside.names in
-    place_within c.args.name.now names c.self.inside.listed c.in-Some.from c.self.invariant (at_front c.args.name.now names c.self.inside.listed c.args.self.now c.self.view_is c.in-Some.from c.in-Some.ensures.index)
+    place_within c.args.name.now names c.self.inside.listed c.in-Some.from c.self.invariant.listing (at_front c.args.name.now names c.self.inside.listed c.args.self.now c.self.view_is c.in-Some.from c.in-Some.ensures.index)
 
 pub shift_below-requires-clause-from : goal.shift_below-requires-clause-from
 shift_below-requires-clause-from c =
     let names = names_of c.self.inside.names in
-    place_within c.args.name.now names c.self.inside.listed c.in-Some.from c.self.invariant (at_front c.args.name.now names c.self.inside.listed c.args.self.now c.self.view_is c.in-Some.from c.in-Some.ensures.index)
+    place_within c.args.name.now names c.self.inside.listed c.in-Some.from c.self.invariant.listing (at_front c.args.name.now names c.self.inside.listed c.args.self.now c.self.view_is c.in-Some.from c.in-Some.ensures.index)
 
 pub shift_below-requires-clause-to : goal.shift_below-requires-clause-to
 shift_below-requires-clause-to c =
     let names = names_of c.self.inside.names in
     let other = c.in-Some-below.other.now in
-    place_within other names c.self.inside.listed c.in-Some-place_of.to c.self.invariant (at_front other names c.self.inside.listed c.args.self.now c.self.view_is c.in-Some-place_of.to c.in-Some-place_of.ensures.index)
+    place_within other names c.self.inside.listed c.in-Some-place_of.to c.self.invariant.listing (at_front other names c.self.inside.listed c.args.self.now c.self.view_is c.in-Some-place_of.to c.in-Some-place_of.ensures.index)
 
 pub returns-in-None-below-clause-names : goal.returns-in-None-below-clause-names
 returns-in-None-below-clause-names c =
     let name = c.args.name.now in
     let n = c.self.inside.listed in
     let names = names_of c.self.inside.names in
-    let own = no_repeats_part names n c.self.invariant.differ in
+    let own = no_repeats_part names n c.self.invariant.listing.differ in
     let at = at_front name names n c.args.self.now c.self.view_is c.in-Some.from c.in-Some.ensures.index in
     c.shift.ensures.names
     ∙ moved_lowest name (take n names) c.in-Some.from own at

@@ -1,11 +1,11 @@
-use Rattle.std.proofs.Common.{◌≡◌, ◌∙◌, ap, arith, length, map, string_bytes, sym, take}
+use Rattle.std.proofs.Common.{◌∙◌, ap, arith, length, map, string_bytes, sym, take}
 use Rattle.std.proofs.lemmas.List.{take-map}
 use Rattle.rt_tags.specs.Tags.{Tags}
 use Rattle.rt_tags.proofs.Sets.{len_names}
 use Rattle.rt_tags.proofs.table.TagTable.names.Goals as goal
 
 pub split_at-requires : goal.split_at-requires
-split_at-requires c = omega (arith, c.self.invariant.within, len_names c.self.inside.names.keys, ap (λ v. length v) c.as_slice.ensures.keys)
+split_at-requires c = omega (arith, c.self.invariant.listing.within, len_names c.self.inside.names.keys, ap (λ v. length v) c.as_slice.ensures.keys)
 
 pub returns-clause-names : goal.returns-clause-names
 returns-clause-names c =

@@ -5,7 +5,7 @@ use Rattle.rt_tags.proofs.Parts.{listed_whole, no_repeats_part}
 use Rattle.rt_tags.proofs.table.TagTable.order.Goals as goal
 
 pub returns-clause-no_repeats : goal.returns-clause-no_repeats
-returns-clause-no_repeats c = subst (λ (t : Tags). HaveNoRepeats t.names) c.self.view_is (no_repeats_part (names_of c.self.inside.names) c.self.inside.listed c.self.invariant.differ)
+returns-clause-no_repeats c = subst (λ (t : Tags). HaveNoRepeats t.names) c.self.view_is (no_repeats_part (names_of c.self.inside.names) c.self.inside.listed c.self.invariant.listing.differ)
 
 pub returns-clause-ready : goal.returns-clause-ready
 returns-clause-ready c =

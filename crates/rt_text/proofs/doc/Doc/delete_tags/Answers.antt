@@ -89,7 +89,25 @@ returns-clause-ok g c =
     let made : seen c.make.new.self c.self.inside.marks c.forget_all.new.tags.names ≡ logged old drafts edited =
     makes_seen old edited drafts makes c.make.new.self c.self.inside.marks c.forget_all.new.tags.names fit log c.in_ok-_made.ensures.cells (c.make.ensures.site ∙ ap (λ (f : Flat). f.site) c.self.view_is)
     (c.make.ensures.limit ∙ ap (λ (f : Flat). f.limit) c.self.view_is) (ap (λ (f : Flat). f.marks) c.self.view_is ∙ sym left.marks) tags left.limit in
-    (made, clock_fine (greatest_last_count c.make.new.self.log) (subst (λ n. n ≤ GREATEST_COUNT) (sym (ap (λ (f : Flat). f.count) made)) (fits old edited drafts makes fit)))
+    made
+
+pub returns-clause-checked : goal.returns-clause-checked
+returns-clause-checked g c =
+    let old = c.args.self.now in
+    let names = map (λ w. string_bytes w) c.args.names.now in
+    let drafts = deletion_drafts MOST_SPANS old names in
+    let bodies : map body_of c.in_ok-drafts.drafts.items ≡ drafts = c.in_ok-drafts.ensures.ok old (document_written old c.kept.ensures.history c.kept.ensures.document) (sym c.kept.ensures.cells) in
+    let of = of_site c.kept.result.1.now (g.S.TextStore.list c.kept.result.0.now) old c.kept.ensures.history c.kept.ensures.document c.kept.ensures.site c.kept.ensures.cells c.kept.ensures.few in
+    let edited = without_tags old names in
+    let makes = deleted_makes old names of in
+    let left = left_of_deletion names old in
+    let fit : refusal_of old.limit drafts old.log ≡ None = (λ i. refusal_of (sym c.self.view_is i).limit (sym bodies i) (sym c.self.view_is i).log) ∙ c.in_ok-_made.ensures.fits in
+    let log : c.make.new.self.log ≡ with_drafts old.site drafts old.log = c.in_ok-_made.ensures.log ∙ (λ i. with_drafts (c.self.view_is i).site (bodies i) (c.self.view_is i).log) in
+    let tags : c.forget_all.new.tags.names ≡ edited.tags = c.forget_all.ensures ∙ ap (λ (f : Flat). all_forgotten names f.tags) c.self.view_is ∙ sym left.tags in
+    let made : seen c.make.new.self c.self.inside.marks c.forget_all.new.tags.names ≡ logged old drafts edited =
+    makes_seen old edited drafts makes c.make.new.self c.self.inside.marks c.forget_all.new.tags.names fit log c.in_ok-_made.ensures.cells (c.make.ensures.site ∙ ap (λ (f : Flat). f.site) c.self.view_is)
+    (c.make.ensures.limit ∙ ap (λ (f : Flat). f.limit) c.self.view_is) (ap (λ (f : Flat). f.marks) c.self.view_is ∙ sym left.marks) tags left.limit in
+    clock_fine (greatest_last_count c.make.new.self.log) (subst (λ n. n ≤ GREATEST_COUNT) (sym (ap (λ (f : Flat). f.count) made)) (fits old edited drafts makes fit))
 
 pub returns-clause-text : goal.returns-clause-text
 returns-clause-text g c =

@@ -19,10 +19,11 @@ use Rattle.rt_edits.proofs.PlaceLaws.{length_text, text_within}
 use Rattle.rt_text.specs.Commands.{with_pieces_at}
 use Rattle.rt_text.specs.Kept.{IsDoc}
 use Rattle.rt_text.specs.Widgets.{IsOwnOf, Own, own_inserted}
-use Rattle.rt_text.proofs.InsertedDocument.{all_fit, drafts_are, kept_made, made_drafts, made_flat, made_is, made_new, may_make, names_given, own_made, plans_are, refused_as}
+use Rattle.rt_text.proofs.InsertedDocument.{all_fit, drafts_are, kept_made, made_drafts, made_flat, made_is, made_new, may_make, names_given, own_made, plans_are, put_made, refused_as, refused_made}
 use Rattle.rt_text.proofs.MadeDocument.{seen, seen_made}
 use Rattle.rt_text.proofs.MarkLaws.{site_fits}
 use Rattle.rt_text.proofs.PutLaws.{late_checks, visible_same}
+use Rattle.rt_text.proofs.ViewLaws.{viewed}
 use Rattle.rt_text.proofs.doc.Doc.insert_at.Goals as goal
 
 which : {F X : Type 0} {r checked : X} {fault memory : F} {some none : X} → (r ≡ some) ⊎ ((fault ≡ memory) × (r ≡ none)) → r ≡ checked → (fault ≡ memory) ⊎ (checked ≡ some)
@@ -81,7 +82,7 @@ returns-in_err-_made-clause-err g c =
     drafts_are flat own others c.args.place pieces rest c.site-site.result.number c.seen-count.result (stamps_in c.widget.inside.selection) (map body_of c.in_ok-plan.plan.drafts.items) site count sel
     (c.in_ok-plan.ensures.drafts flat.cells others flat.tags (sym c.kept.ensures.cells)) in
     let p = err_from_is_err_and c.from_residual-in_err-_made.result c.from_residual-in_err-_made.ensures.1 in
-    let same : refusal_of c.self.inside.replica.limit (map body_of c.in_ok-plan.plan.drafts.items) c.self.inside.replica.log ≡ first_of (late_checks flat (with_pieces_at flat own others c.args.place pieces rest)) =
+    let same : refusal_of c.self.inside.replica.limit (map body_of c.in_ok-plan.plan.drafts.items) c.self.inside.replica.log ≡ first_of (late_checks flat (with_pieces_at (viewed flat own others) c.args.place pieces rest)) =
     (λ i. refusal_of (c.self.view_is i).limit (drafts i) (c.self.view_is i).log) ∙ refused_as flat own others c.args.place pieces rest c.kept.ensures.history c.kept.ensures.document in
     rw (p.1, p.2) (which c.in_err-_made.ensures.refused same)
 
@@ -249,6 +250,7 @@ returns-clause-ok g c =
     let others_after : map stamps_in c.select_between.new.others ≡ new.others =
     c.select_between.ensures ∙ ap (map (selected_between c.in_ok-plan.plan.between)) c.make_room.ensures.others ∙ plans.others in
     (λ i. record { doc = seen c.make.new.self (marks i) (tags i); own = own_after i; others = others_after i }) ∙ ap (λ (f : Flat). record { doc = f; own = record (own_inserted c.args.place (length new.cells) own) { sel = new.sel }; others = new.others }) doc
+    ∙ sym (put_made flat own others c.args.place pieces rest)
 
 pub returns-clause-checked : goal.returns-clause-checked
 returns-clause-checked g c =
@@ -280,7 +282,7 @@ returns-clause-checked g c =
     let tags : c.list_tags.new.table.names ≡ edited.tags =
     c.list_tags.ensures ∙ (λ i. all_listed (map (λ w. string_bytes w) (c.deref-2.ensures.value i)) (c.make_room.ensures.tags i)) ∙ ap (λ (f : Flat). all_listed (map (λ w. string_bytes w) c.in_ok-plan.plan.names.items) f.tags) c.self.view_is ∙ plans.tags in
     (λ i. first_of (late_checks flat (record { doc = doc i; own = own; others = others })))
-    ∙ sym (refused_as flat own others c.args.place pieces rest c.kept.ensures.history c.kept.ensures.document)
+    ∙ sym (refused_made flat own others c.args.place pieces rest c.kept.ensures.history c.kept.ensures.document)
     ∙ sym (λ i. refusal_of (c.self.view_is i).limit (drafts i) (c.self.view_is i).log) ∙ c.in_ok-_made.ensures.fits
 
 pub returns-clause-own : goal.returns-clause-own

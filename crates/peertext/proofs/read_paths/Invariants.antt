@@ -1,0 +1,5 @@
+use Rattle.rt_script.specs.Site.{AreWithin}
+use Rattle.peertext.proofs.read_paths.Given as goal
+
+abbrev pub invariant-loop-path : goal.invariant-loop-path
+invariant-loop-path l = AreWithin l.files.items

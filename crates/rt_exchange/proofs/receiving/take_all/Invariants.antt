@@ -1,0 +1,16 @@
+use Rattle.std.proofs.Common.{◌≡◌, ◌+◌, drop, length}
+use Rattle.std.specs.Vec.Iter.{into_iter_items}
+use Rattle.rt_text.specs.Widgets.{Viewed}
+use Rattle.rt_exchange.specs.declared.receiving.Received.{Received}
+use Rattle.rt_exchange.specs.Receiving.{Offers}
+use Rattle.rt_exchange.proofs.Receptions.{added}
+use Rattle.rt_exchange.proofs.receiving.take_all.Given as goal
+
+abbrev pub invariant-loop-op : goal.invariant-loop-op
+invariant-loop-op g l = record {
+  left : l.i + length (into_iter_items l.op-iterator) ≡ length l.fn.offsets;
+  counted : l.received.new + l.received.repeats ≡ l.i;
+  none : l.received.fault ≡ l.fn.ending;
+  goes_on : (received : Received) (new : Viewed) → Offers (into_iter_items l.op-iterator) (drop l.i l.fn.offsets) l.fn.ending l.view received new
+      → Offers l.fn.ops.items l.fn.offsets l.fn.ending l.initial.view (added l.received received) new;
+}

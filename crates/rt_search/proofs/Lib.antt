@@ -1,0 +1,6 @@
+pub mod Ending
+pub mod Finding
+pub mod Folding
+pub mod Nearest
+pub mod Orders
+pub mod Standing

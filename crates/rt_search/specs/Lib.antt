@@ -1,0 +1,4 @@
+pub mod Ends
+pub mod Searches
+pub mod Windows
+pub use Rattle.rt_store.specs.Cells

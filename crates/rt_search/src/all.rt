@@ -1,0 +1,103 @@
+// All matches of a pattern.
+ghost use Rattle.std.specs.Prelude.{◌≡◌, ◌≤◌, ◌<◌, [], ℕ, IfOk, IfErr, OnOk, IfSome, fold, length};
+ghost use Rattle.rt_store.specs.Cells.{text_of, visible_of};
+ghost use Rattle.rt_search.specs.Ends.{EndsDecide, FirstDecides, IsBefore, overlaps_one};
+ghost use Rattle.rt_search.specs.Searches.{all_matches, is_taken, matches_in, overlap, with_match};
+
+use crate::find::{last_end, stretches};
+use crate::matching::Reader;
+use crate::search::{Overlaps, Search, Stretch};
+use rt_stamps::Fault;
+use rt_store::TextStore;
+use std::alloc::Global;
+
+/// Whether two matches of one length share a character.
+fn overlap(length: usize, a: usize, b: usize) -> bool
+    ensures { result ≡ overlap length a b }
+{
+    if a < b {
+        b - a < length
+    } else {
+        a - b < length
+    }
+}
+
+/// Whether a match overlaps another one, if there is one.
+fn overlaps_one(length: usize, place: usize, other: Option<usize>) -> bool
+    ensures { result ≡ overlaps_one length other place }
+{
+    match other {
+        Some(other) => overlap(length, place, other),
+        None => false,
+    }
+}
+
+/// Whether a match is taken.
+fn is_taken(overlaps: Overlaps, length: usize, taken: &[usize], place: usize) -> bool
+    requires { EndsDecide length taken.now place }
+    ensures { result ≡ is_taken overlaps length taken.now place }
+{
+    match overlaps {
+        Overlaps::Taken => true,
+        Overlaps::PassedOver => {
+            !overlaps_one(length, place, taken.first().copied())
+                && !overlaps_one(length, place, taken.last().copied())
+        }
+    }
+}
+
+/// Takes the matches of a stretch.
+fn take_in<S: TextStore>(
+    taken: &mut Vec<usize>,
+    store: &S,
+    pattern: &[char],
+    search: Search,
+    overlaps: Overlaps,
+    stretch: Stretch,
+) -> Result<(), Fault>
+    requires stretch { stretch.to ≤ length (visible_of (S.list store.now)) }
+    requires taken { (place : ℕ) → stretch.from ≤ place → place < stretch.to → FirstDecides (length pattern.now) taken.old.items place }
+    ensures ok { OnOk result (taken.new.items
+        ≡ fold (with_match overlaps (length pattern.now)) taken.old.items (matches_in search pattern.now (text_of (S.list store.now)) stretch)) }
+    ensures before { taken.old.items ≡ [] → (place : ℕ) → IsBefore search.direction stretch place
+        → FirstDecides (length pattern.now) taken.new.items place }
+    ensures err { IfErr result (λ fault. fault ≡ Fault.NoMemory) }
+{
+    let end = last_end(search.limits, stretch, store.visible());
+    let mut reader = Reader::new();
+    for index in 0..stretch.len() {
+        let place = stretch.nth(search.direction, index);
+        if reader.is_match(store, search.case, pattern, place, end)
+            && is_taken(overlaps, pattern.len(), taken, place)
+        {
+            taken.push(place)?;
+        }
+    }
+    Ok(())
+}
+
+/// The places of all matches, stretch after stretch, rising when forwards and falling when backwards (Tk text manual,
+/// "search -all"). Of matches that overlap the one that comes first is taken, unless all are asked for. It costs what
+/// `find_first` does where nothing is found. `NoMemory` where the list can't grow.
+pub fn find_all<S: TextStore>(
+    alloc: Global,
+    store: &S,
+    pattern: &[char],
+    search: Search,
+    overlaps: Overlaps,
+    start: usize,
+    stop: Option<usize>,
+) -> Result<Vec<usize>, Fault>
+    requires start { start ≤ length (visible_of (S.list store.now)) }
+    requires stop { IfSome stop (λ place. place ≤ length (visible_of (S.list store.now))) }
+    ensures ok { IfOk result (λ found. found.items ≡ all_matches overlaps search pattern.now (text_of (S.list store.now)) start stop) }
+    ensures err { IfErr result (λ fault. fault ≡ Fault.NoMemory) }
+{
+    let (near, far) = stretches(search.direction, start, stop, store.visible());
+    let mut taken = Vec::new(alloc);
+    take_in(&mut taken, store, pattern, search, overlaps, near)?;
+    if let Some(far) = far {
+        take_in(&mut taken, store, pattern, search, overlaps, far)?;
+    }
+    Ok(taken)
+}

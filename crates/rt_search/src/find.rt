@@ -1,0 +1,105 @@
+// The matches of a pattern.
+ghost use Rattle.std.specs.Prelude.{◌≡◌, ℕ, ◌<◌, ◌≤◌, ◌∷◌, IfSome, length, option_to_list, slice_get};
+ghost use Rattle.rt_store.specs.Cells.{text_of, visible_of};
+ghost use Rattle.rt_search.specs.Ends.{IsBefore};
+ghost use Rattle.rt_search.specs.Searches.{first_match, matches_in, stretches};
+
+use crate::matching::Reader;
+use crate::search::{Direction, Limits, Search, Stretch};
+use rt_store::TextStore;
+
+/// The stretches that a search goes through: one, or two.
+pub(crate) fn stretches(
+    direction: Direction,
+    start: usize,
+    stop: Option<usize>,
+    end: usize,
+) -> (Stretch, Option<Stretch>)
+    requires start { start ≤ end }
+    requires stop { IfSome stop (λ place. place ≤ end) }
+    ensures value { result.0 ∷ option_to_list result.1 ≡ stretches direction start stop end }
+    ensures near { result.0.to ≤ end }
+    ensures far { IfSome result.1 (λ stretch. stretch.to ≤ end) }
+    ensures apart { IfSome result.1 (λ stretch. (place : ℕ) → stretch.from ≤ place → place < stretch.to → IsBefore direction result.0 place) }
+{
+    let before = Stretch { from: 0, to: start };
+    let after = Stretch {
+        from: start,
+        to: end,
+    };
+    match (direction, stop) {
+        (Direction::Forwards, None) => (after, Some(before)),
+        (Direction::Forwards, Some(stop)) => (
+            Stretch {
+                from: start,
+                to: stop,
+            },
+            None,
+        ),
+        (Direction::Backwards, None) => (before, Some(after)),
+        (Direction::Backwards, Some(stop)) => (
+            Stretch {
+                from: stop,
+                to: start,
+            },
+            None,
+        ),
+    }
+}
+
+/// Where a match must end at the latest: at the end of the text, or of its stretch.
+pub(crate) fn last_end(limits: Limits, stretch: Stretch, end: usize) -> usize
+    ensures first { limits ≡ Limits.First → result ≡ end }
+    ensures strict { limits ≡ Limits.Strict → result ≡ stretch.to }
+{
+    match limits {
+        Limits::First => end,
+        Limits::Strict => stretch.to,
+    }
+}
+
+/// The first match in a stretch.
+fn first_in<S: TextStore>(
+    store: &S,
+    pattern: &[char],
+    search: Search,
+    stretch: Stretch,
+) -> Option<usize>
+    requires { stretch.to ≤ length (visible_of (S.list store.now)) }
+    ensures { result ≡ slice_get (matches_in search pattern.now (text_of (S.list store.now)) stretch) 0 }
+{
+    let end = last_end(search.limits, stretch, store.visible());
+    let mut reader = Reader::new();
+    for index in 0..stretch.len() {
+        let place = stretch.nth(search.direction, index);
+        if reader.is_match(store, search.case, pattern, place, end) {
+            return Some(place);
+        }
+    }
+    None
+}
+
+/// The place where a pattern is found first, from a start on: the least of the first stretch that has one, or the
+/// greatest when backwards (Tk text manual, "search"); none if there is none. Each character of the text is read
+/// once, in pieces, and each match that begins is compared until it fails: at worst, where the pattern nearly stands
+/// at each place, that is a comparison for each place and each character of the pattern. Takes no memory.
+pub fn find_first<S: TextStore>(
+    store: &S,
+    pattern: &[char],
+    search: Search,
+    start: usize,
+    stop: Option<usize>,
+) -> Option<usize>
+    requires start { start ≤ length (visible_of (S.list store.now)) }
+    requires stop { IfSome stop (λ place. place ≤ length (visible_of (S.list store.now))) }
+    ensures { result ≡ first_match search pattern.now (text_of (S.list store.now)) start stop }
+{
+    let (near, far) = stretches(search.direction, start, stop, store.visible());
+    if let Some(place) = first_in(store, pattern, search, near) {
+        return Some(place);
+    }
+    match far {
+        Some(far) => first_in(store, pattern, search, far),
+        None => None,
+    }
+}

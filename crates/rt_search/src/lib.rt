@@ -1,0 +1,15 @@
+//! Searches for a pattern in the characters of a text.
+#![tactic(auto)]
+
+pub mod all;
+pub mod find;
+pub mod laws;
+mod matching;
+pub mod search;
+#[cfg(test)]
+mod tests;
+mod window;
+
+pub use all::find_all;
+pub use find::find_first;
+pub use search::{Case, Direction, Limits, Overlaps, Search};

@@ -1,0 +1,78 @@
+use Rattle.std.proofs.Common.{◌≡◌, ◌∙◌, ◌^◌, ◌-◌, All, ap, length, map, subst, sym, true}
+use Rattle.rt_oplog.specs.Edits.{body_of}
+use Rattle.rt_oplog.specs.Logs.{with_operation}
+use Rattle.rt_rga.specs.Answers.{New}
+use Rattle.rt_rga.specs.Histories.{IsHistory}
+use Rattle.rt_rga.specs.Taken.{lists_of}
+use Rattle.rt_tags.specs.States.{name_at}
+use Rattle.rt_tags.specs.Tags.{IsName, is_ready}
+use Rattle.rt_edits.specs.Flat.{Flat}
+use Rattle.rt_edits.specs.Insertions.{all_listed}
+use Rattle.rt_store.specs.Cells.{text_of}
+use Rattle.rt_text.specs.Accepted.{answer_of, flat_after, with_new}
+use Rattle.rt_text.specs.Kept.{IsDoc}
+use Rattle.rt_text.proofs.AcceptedDocument.{accepted_fits, accepted_is, accepted_seen, all_under, answered_new, given_names, lists_named, seen_with}
+use Rattle.rt_text.proofs.MarkLaws.{site_fits}
+use Rattle.rt_text.proofs.doc.Doc.accept.Goals as goal
+
+pub follow-requires-clause-fits : goal.follow-requires-clause-fits
+follow-requires-clause-fits g c =
+    let old = c.self.inside.replica in
+    site_fits (length (text_of old.cells)) c.in-New.change.inserted (2 ^ 64 - 1) c.self.inside.marks
+    (accepted_fits old c.args.op c.accept.new.self.table c.in-New.change c.in_ok-taken.taken c.in-New.is c.in_ok-taken.ensures.answer c.in_ok-taken.ensures.change
+    c.args.self.now c.self.inside.marks c.self.inside.tags.names c.self.view_is c.kept.ensures.document.cells c.kept.ensures.most)
+    c.self.invariant.placed
+
+pub list_given-requires-clause-names : goal.list_given-requires-clause-names
+list_given-requires-clause-names g c =
+    let states = c.states.result.now in
+    let tags = c.deref.result.now in
+    let lists : map (name_at states) tags ≡ lists_of c.args.op.body =
+    given_names c.self.inside.replica c.args.op c.accept.new.self.table c.in-New.change c.in_ok-taken.taken c.in-New.is c.in_ok-taken.ensures.answer c.in_ok-taken.ensures.change states tags c.states.ensures c.deref.ensures.value in
+    all_under IsName (name_at states) tags (subst (All IsName) (sym lists) (lists_named c.args.op.body c.edit.ensures.rules))
+
+pub list_given-requires-clause-ready : goal.list_given-requires-clause-ready
+list_given-requires-clause-ready g c =
+    let states = c.states.result.now in
+    let tags = c.deref.result.now in
+    let lists : map (name_at states) tags ≡ lists_of c.args.op.body =
+    given_names c.self.inside.replica c.args.op c.accept.new.self.table c.in-New.change c.in_ok-taken.taken c.in-New.is c.in_ok-taken.ensures.answer c.in_ok-taken.ensures.change states tags c.states.ensures c.deref.ensures.value in
+    let body : lists_of (body_of c.edit.result.now) ≡ lists_of c.args.op.body = ap lists_of c.edit.ensures.body in
+    all_under (λ n. is_ready n c.prepare_lists.new.table ≡ true) (name_at states) tags (subst (All (λ n. is_ready n c.prepare_lists.new.table ≡ true)) (body ∙ sym lists) c.in_ok-prepare_lists.ensures.ready)
+
+pub invariant_of-self-in-New : goal.invariant_of-self-in-New
+invariant_of-self-in-New g c =
+    let old = c.self.inside.replica in
+    let flat = c.args.self.now in
+    let op = c.args.op in
+    let table = c.accept.new.self.table in
+    let change = c.in-New.change in
+    let taken = c.in_ok-taken.taken in
+    let answer = c.in_ok-taken.ensures.answer in
+    let tells = c.in_ok-taken.ensures.change in
+    let lists = given_names old op table change taken c.in-New.is answer tells c.states.result.now c.deref.result.now c.states.ensures c.deref.ensures.value in
+    let names = c.list_given.ensures ∙ ap (λ l. all_listed l c.prepare_lists.new.table.names) lists ∙ ap (all_listed (lists_of op.body)) c.prepare_lists.ensures.names in
+    let seen : seen_with c.accept.new.self c.follow.new.marks c.list_given.new.table.names ≡ with_new op flat =
+    accepted_seen old op table change taken c.in-New.is answer tells flat c.accept.new.self c.self.inside.marks c.follow.new.marks c.self.inside.tags.names c.list_given.new.table.names c.self.view_is
+    c.in_ok-taken.ensures.log c.store.ensures.cells c.accept.ensures.site c.accept.ensures.limit c.follow.ensures names in
+    let doc : IsDoc flat.cells flat.marks flat.tags = subst (λ (f : Flat). IsDoc f.cells f.marks f.tags) c.self.view_is c.self.invariant in
+    let more : IsHistory (with_operation op flat.log) = subst IsHistory (ap (λ (f : Flat). f.log) seen) c.log.ensures.history in
+    subst (λ (f : Flat). IsDoc f.cells f.marks f.tags) (sym seen) (accepted_is flat op c.kept.ensures.history more c.kept.ensures.document.cells c.edit.ensures.rules doc)
+
+pub returns-in-New-clause-ok : goal.returns-in-New-clause-ok
+returns-in-New-clause-ok g c =
+    let old = c.self.inside.replica in
+    let flat = c.args.self.now in
+    let op = c.args.op in
+    let table = c.accept.new.self.table in
+    let change = c.in-New.change in
+    let taken = c.in_ok-taken.taken in
+    let answer = c.in_ok-taken.ensures.answer in
+    let tells = c.in_ok-taken.ensures.change in
+    let lists = given_names old op table change taken c.in-New.is answer tells c.states.result.now c.deref.result.now c.states.ensures c.deref.ensures.value in
+    let names = c.list_given.ensures ∙ ap (λ l. all_listed l c.prepare_lists.new.table.names) lists ∙ ap (all_listed (lists_of op.body)) c.prepare_lists.ensures.names in
+    let seen : seen_with c.accept.new.self c.follow.new.marks c.list_given.new.table.names ≡ with_new op flat =
+    accepted_seen old op table change taken c.in-New.is answer tells flat c.accept.new.self c.self.inside.marks c.follow.new.marks c.self.inside.tags.names c.list_given.new.table.names c.self.view_is
+    c.in_ok-taken.ensures.log c.store.ensures.cells c.accept.ensures.site c.accept.ensures.limit c.follow.ensures names in
+    let new : answer_of flat op ≡ New = sym (ap (λ (f : Flat). answer_of f op) c.self.view_is) ∙ answered_new old op table change taken c.in-New.is answer tells in
+    seen ∙ sym (ap (λ a. flat_after a op flat) new)

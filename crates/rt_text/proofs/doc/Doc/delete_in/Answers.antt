@@ -1,0 +1,139 @@
+use Rattle.std.proofs.Common.{◌≡◌, ◌≤◌, ◌-◌, ◌∙◌, ◌⊎◌, ℕ, List, Bool, None, ap, arith, inl, inr, length, map, subst, sym}
+use Rattle.std.proofs.lemmas.List.{length-map}
+use Rattle.std.proofs.lemmas.Result.{err_from_is_err_and}
+use Rattle.rt_stamps.specs.declared.limits.TheConstants.{MOST_SPANS}
+use Rattle.rt_marks.specs.Marks.{Mark, marks_left}
+use Rattle.rt_oplog.specs.Edits.{body_of}
+use Rattle.rt_store.specs.Cells.{text_of}
+use Rattle.rt_store.specs.Shown.{TaggedCell, shown}
+use Rattle.rt_store.proofs.Shown.{text_shown}
+use Rattle.rt_tags.specs.States.{state_at}
+use Rattle.rt_rga.specs.Drafts.{with_drafts}
+use Rattle.rt_rga.specs.Kept.{ReplicaValue}
+use Rattle.rt_rga.specs.Made.{refusal_of}
+use Rattle.rt_rga.specs.Requests.{MayBeMade}
+use Rattle.rt_edits.specs.declared.range.Range.{Range}
+use Rattle.rt_edits.specs.Deletions.{delete_drafts, without_text_in}
+use Rattle.rt_edits.specs.Flat.{Flat, logged}
+use Rattle.rt_edits.specs.Listed.{AreListed}
+use Rattle.rt_edits.specs.Removals.{is_covered, is_removed}
+use Rattle.rt_edits.specs.Selected.{stamps_in}
+use Rattle.rt_text.specs.Commands.{clock_check}
+use Rattle.rt_text.specs.Widgets.{Own, IsOwnOf, AreSiteMarks, own_left}
+use Rattle.rt_text.proofs.Deletions.{deletion_edited, deletion_may, deletion_own, deletion_placed, deletion_refusal, deletion_seen, last_off}
+use Rattle.rt_text.proofs.DeletionLaws.{deletion_listed}
+use Rattle.rt_text.proofs.MadeDocument.{seen}
+use Rattle.rt_text.proofs.doc.Doc.delete_in.Given.{Over}
+use Rattle.rt_text.proofs.doc.Doc.delete_in.Goals as goal
+
+which : {F X : Type 0} {r checked : X} {fault memory : F} {some none : X} → (r ≡ some) ⊎ ((fault ≡ memory) × (r ≡ none)) → r ≡ checked → (fault ≡ memory) ⊎ (checked ≡ some)
+which (inl e) s = inr (sym s ∙ e)
+which (inr p) s = inl p.0
+
+pub make-requires : goal.make-requires
+make-requires g c =
+    let flat = c.args.self.now in
+    let drafts : map body_of c.in_ok-deletion.deletion.drafts.items ≡ delete_drafts MOST_SPANS flat c.args.ranges.now = c.in_ok-deletion.ensures.drafts flat (sym c.kept.ensures.cells) in
+    subst (λ (f : Flat). MayBeMade f.site f.log (map body_of c.in_ok-deletion.deletion.drafts.items)) (sym c.self.view_is)
+    (subst (MayBeMade flat.site flat.log) (sym drafts) (deletion_may flat c.args.ranges.now c.kept.ensures.history c.kept.ensures.document))
+
+pub returns-in_err-_made-clause-err : goal.returns-in_err-_made-clause-err
+returns-in_err-_made-clause-err g c =
+    let flat = c.args.self.now in
+    let ranges = c.args.ranges.now in
+    let drafts : map body_of c.in_ok-deletion.deletion.drafts.items ≡ delete_drafts MOST_SPANS flat ranges = c.in_ok-deletion.ensures.drafts flat (sym c.kept.ensures.cells) in
+    let few : length flat.cells ≤ flat.limit = omega (arith, c.kept.ensures.few, ap length c.kept.ensures.cells, length-map (g.S.TextStore.list c.kept.result.0.now) (shown c.kept.result.1.now)) in
+    let bodies = map body_of c.in_ok-deletion.deletion.drafts.items in
+    let refusal : refusal_of c.self.inside.replica.limit bodies c.self.inside.replica.log ≡ clock_check (without_text_in flat ranges).count =
+    ap (λ (f : Flat). refusal_of f.limit bodies f.log) c.self.view_is ∙ ap (λ l. refusal_of flat.limit l flat.log) drafts ∙ deletion_refusal flat ranges c.kept.ensures.history c.kept.ensures.document few in
+    let p = err_from_is_err_and c.from_residual-in_err-_made.result c.from_residual-in_err-_made.ensures.1 in
+    rw (p.1, p.2) (which c.in_err-_made.ensures.refused refusal)
+
+-- what the deletion has made, in the words of its laws
+record Made (flat : Flat) (ranges : List Range) (new : ReplicaValue) (marks : List Mark) (removed : ℕ → Bool) (held : Bool) : Type 0 where
+  doc : seen new marks flat.tags ≡ logged flat (delete_drafts MOST_SPANS flat ranges) (without_text_in flat ranges)
+  places : (p : ℕ) → removed p ≡ is_removed (text_of flat.cells) ranges p
+  moved : marks ≡ marks_left removed flat.marks
+  last : held ≡ is_covered ranges (length (text_of flat.cells) - 1)
+  fits : clock_check (without_text_in flat ranges).count ≡ None
+
+made : (g : Over) (c : goal.After-drop-deletion-2 g)
+    → Made c.args.self.now c.args.ranges.now c.make.new.self c.move_back.new.marks (is_covered c.in_ok-deletion.deletion.removed.items) c.in_ok-deletion.deletion.held
+made g c =
+    let flat = c.args.self.now in
+    let ranges = c.args.ranges.now in
+    let d = c.in_ok-deletion.deletion in
+    let kept = g.S.TextStore.list c.kept.result.0.now in
+    let history = c.kept.ensures.history in
+    let document = c.kept.ensures.document in
+    let drafts : map body_of d.drafts.items ≡ delete_drafts MOST_SPANS flat ranges = c.in_ok-deletion.ensures.drafts flat (sym c.kept.ensures.cells) in
+    let few : length flat.cells ≤ flat.limit = omega (arith, c.kept.ensures.few, ap length c.kept.ensures.cells, length-map kept (shown c.kept.result.1.now)) in
+    let view = c.self.view_is in
+    let bodies = map body_of d.drafts.items in
+    let fits : refusal_of flat.limit (delete_drafts MOST_SPANS flat ranges) flat.log ≡ None =
+    ap (λ l. refusal_of flat.limit l flat.log) (sym drafts) ∙ ap (λ (f : Flat). refusal_of f.limit bodies f.log) (sym view) ∙ c.in_ok-_made.ensures.fits in
+    let log : c.make.new.self.log ≡ with_drafts flat.site (delete_drafts MOST_SPANS flat ranges) flat.log =
+    c.in_ok-_made.ensures.log ∙ ap (λ (f : Flat). with_drafts f.site bodies f.log) view ∙ ap (λ l. with_drafts flat.site l flat.log) drafts in
+    let text : text_of kept ≡ text_of flat.cells = sym (text_shown (state_at c.kept.result.1.now) kept) ∙ ap text_of c.kept.ensures.cells in
+    let places : (p : ℕ) → is_covered d.removed.items p ≡ is_removed (text_of flat.cells) ranges p = λ p. c.in_ok-deletion.ensures.places p ∙ ap (λ t. is_removed t ranges p) text in
+    let moved : c.move_back.new.marks ≡ marks_left (is_covered d.removed.items) flat.marks =
+    c.move_back.ensures.marks ∙ ap (λ l. marks_left (is_covered l) c.self.inside.marks) c.deref.ensures.value ∙ ap (λ (f : Flat). marks_left (is_covered d.removed.items) f.marks) view in
+    let site : c.make.new.self.site ≡ flat.site = c.make.ensures.site ∙ ap (λ (f : Flat). f.site) view in
+    let limit : c.make.new.self.limit ≡ flat.limit = c.make.ensures.limit ∙ ap (λ (f : Flat). f.limit) view in
+    record {
+      doc = deletion_seen flat ranges history document c.kept.ensures.site c.make.new.self c.move_back.new.marks (is_covered d.removed.items) log c.in_ok-_made.ensures.cells site limit fits few places moved;
+      places = places;
+      moved = moved;
+      last = c.in_ok-deletion.ensures.held ∙ ap (λ t. is_covered ranges (length t - 1)) text;
+      fits = sym (deletion_refusal flat ranges history document few) ∙ fits;
+    }
+
+pub invariant_of-self-2 : goal.invariant_of-self-2
+invariant_of-self-2 g c =
+    let flat = c.args.self.now in
+    let ranges = c.args.ranges.now in
+    let m = made g c in
+    let cells : c.make.new.self.cells ≡ (without_text_in flat ranges).cells = ap (λ (f : Flat). f.cells) m.doc in record {
+      placed = subst (λ (l : List TaggedCell). AreSiteMarks (length (text_of l)) c.move_back.new.marks) (sym cells)
+          (deletion_placed flat ranges c.move_back.new.marks (is_covered c.in_ok-deletion.deletion.removed.items) m.places m.moved
+          (subst (λ (f : Flat). AreSiteMarks (length (text_of f.cells)) f.marks) c.self.view_is c.self.invariant.placed));
+      listed = subst (λ (l : List TaggedCell). AreListed c.self.inside.tags.names l) (sym cells)
+          (deletion_listed flat ranges c.self.inside.tags.names (subst (λ (f : Flat). AreListed c.self.inside.tags.names f.cells) c.self.view_is c.self.invariant.listed));
+    }
+
+-- a widget after the deletion
+abbrev widget_after : Own → (ℕ → Bool) → Bool → Own
+widget_after own removed held = record (own_left removed own) { sel = last_off held own.sel }
+
+widget : (g : Over) (c : goal.After-drop-deletion-2 g) → c.unselect_last.new.widget ≡ widget_after c.args.widget.now (is_covered c.in_ok-deletion.deletion.removed.items) c.in_ok-deletion.deletion.held
+widget g c =
+    let held = c.in_ok-deletion.deletion.held in
+    c.unselect_last.ensures.own ∙ ap (λ (w : Own). record w { sel = last_off held w.sel }) (c.move_back.ensures.own ∙ ap (λ l. own_left (is_covered l) c.args.widget.now) c.deref.ensures.value)
+
+pub returns-clause-ok : goal.returns-clause-ok
+returns-clause-ok g c =
+    let flat = c.args.self.now in
+    let own = c.args.widget.now in
+    let others = map stamps_in c.args.others.now in
+    let ranges = c.args.ranges.now in
+    let d = c.in_ok-deletion.deletion in
+    let m = made g c in
+    let doc : Flat = seen c.make.new.self c.move_back.new.marks c.self.inside.tags.names in
+    let same : doc ≡ seen c.make.new.self c.move_back.new.marks flat.tags = ap (λ (f : Flat). seen c.make.new.self c.move_back.new.marks f.tags) c.self.view_is in
+    deletion_edited flat ranges doc own others (is_covered d.removed.items) d.held (same ∙ m.doc) m.places m.last
+    ∙ (λ i. record { doc = doc; own = sym (widget g c) i; others = sym c.unselect_last.ensures.others i })
+
+pub returns-clause-checked : goal.returns-clause-checked
+returns-clause-checked g c =
+    let m = made g c in
+    ap (λ (f : Flat). clock_check f.count) m.doc ∙ m.fits
+
+pub returns-clause-own : goal.returns-clause-own
+returns-clause-own g c =
+    let flat = c.args.self.now in
+    let ranges = c.args.ranges.now in
+    let d = c.in_ok-deletion.deletion in
+    let m = made g c in
+    let cells : c.make.new.self.cells ≡ (without_text_in flat ranges).cells = ap (λ (f : Flat). f.cells) m.doc in
+    subst (λ (l : List TaggedCell). IsOwnOf (length (text_of l)) c.unselect_last.new.widget) (sym cells)
+    (subst (IsOwnOf (length (text_of (without_text_in flat ranges).cells))) (sym (widget g c)) (deletion_own flat ranges c.args.widget.now (is_covered d.removed.items) m.places c.requires))

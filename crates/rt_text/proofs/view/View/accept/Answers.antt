@@ -1,0 +1,61 @@
+use Rattle.std.proofs.Common.{◌≡◌, ◌+◌, ◌≤◌, ◌-◌, ◌^◌, ◌∙◌, ap, arith, length, map, subst, sym}
+use Rattle.rt_oplog.specs.Logs.{with_operation}
+use Rattle.rt_rga.specs.Histories.{IsHistory}
+use Rattle.rt_store.specs.Cells.{text_of, visible_of}
+use Rattle.rt_edits.specs.Flat.{Flat}
+use Rattle.rt_edits.specs.Selected.{stamps_in}
+use Rattle.rt_text.specs.Accepted.{answer_of, flat_after, own_with_new, view_after, with_new}
+use Rattle.rt_text.specs.Widgets.{IsOwnOf, Viewed}
+use Rattle.rt_text.proofs.AcceptedView.{own_seen, own_stands, view_change, view_fits, view_new}
+use Rattle.rt_text.proofs.view.View.accept.Goals as goal
+
+pub follow-requires-clause-runs : goal.follow-requires-clause-runs
+follow-requires-clause-runs g c =
+    let flat = c.self.inside.doc in
+    let tells = c.in_ok-taken.ensures.change in
+    (length (visible_of flat.cells), (view_change flat c.args.op tells.0 c.in-New.change c.in_ok-taken.taken c.in-New.is c.in_ok-taken.ensures.answer tells.1).runs)
+
+pub follow-requires-clause-insert : goal.follow-requires-clause-insert
+follow-requires-clause-insert g c =
+    let flat = c.self.inside.doc in
+    let tells = c.in_ok-taken.ensures.change in
+    let fits : length (text_of flat.cells) + c.in-New.change.inserted ≤ 2 ^ 64 - 1 =
+    view_fits flat c.args.op tells.0 c.in-New.change c.in_ok-taken.taken c.in-New.is c.in_ok-taken.ensures.answer tells.1 c.log.ensures.cells c.kept.ensures.most in
+    omega (arith, fits, c.self.invariant.0)
+
+pub follow-requires-clause-current : goal.follow-requires-clause-current
+follow-requires-clause-current g c =
+    let flat = c.self.inside.doc in
+    let tells = c.in_ok-taken.ensures.change in
+    let fits : length (text_of flat.cells) + c.in-New.change.inserted ≤ 2 ^ 64 - 1 =
+    view_fits flat c.args.op tells.0 c.in-New.change c.in_ok-taken.taken c.in-New.is c.in_ok-taken.ensures.answer tells.1 c.log.ensures.cells c.kept.ensures.most in
+    omega (arith, fits, c.self.invariant.1)
+
+pub invariant_of-self-in-New : goal.invariant_of-self-in-New
+invariant_of-self-in-New g c =
+    let flat = c.self.inside.doc in
+    let op = c.args.op in
+    let tells = c.in_ok-taken.ensures.change in
+    let change = c.in-New.change in
+    let taken = c.in_ok-taken.taken in
+    let answer = c.in_ok-taken.ensures.answer in
+    let seen : c.accept.new.self ≡ with_new op flat = c.in_ok-taken.ensures.ok ∙ ap (λ a. flat_after a op flat) (view_new flat op tells.0 change taken c.in-New.is answer tells.1) in
+    let own : c.follow.new.self ≡ own_with_new op flat c.self.inside.widget = c.follow.ensures ∙ own_seen flat op tells.0 change taken c.in-New.is answer tells.1 c.self.inside.widget in
+    let more : IsHistory (with_operation op flat.log) = subst IsHistory (ap (λ (f : Flat). f.log) seen) c.log-2.ensures.history in
+    let stands = own_stands flat op tells.0 change taken c.in-New.is answer tells.1 c.self.inside.widget c.log.ensures.history c.log.ensures.cells more c.self.invariant in
+    subst (λ (p : _). p) (λ i. IsOwnOf (length (text_of (sym seen i).cells)) (sym own i)) stands
+
+pub returns-in-New-clause-ok : goal.returns-in-New-clause-ok
+returns-in-New-clause-ok g c =
+    let flat = c.self.inside.doc in
+    let op = c.args.op in
+    let tells = c.in_ok-taken.ensures.change in
+    let change = c.in-New.change in
+    let taken = c.in_ok-taken.taken in
+    let answer = c.in_ok-taken.ensures.answer in
+    let new = view_new flat op tells.0 change taken c.in-New.is answer tells.1 in
+    let seen : c.accept.new.self ≡ with_new op flat = c.in_ok-taken.ensures.ok ∙ ap (λ a. flat_after a op flat) new in
+    let own : c.follow.new.self ≡ own_with_new op flat c.self.inside.widget = c.follow.ensures ∙ own_seen flat op tells.0 change taken c.in-New.is answer tells.1 c.self.inside.widget in
+    let old : Viewed = record { doc = flat; own = c.self.inside.widget; others = map stamps_in c.self.inside.others.items } in
+    (λ i. record { doc = seen i; own = own i; others = old.others })
+    ∙ sym (ap (λ a. view_after a op old) new) ∙ ap (λ (v : Viewed). view_after (answer_of v.doc op) op v) c.self.view_is

@@ -1,0 +1,45 @@
+-- Operations that a document accepts, of whichever site.
+use Rattle.std.specs.Prelude.{length}
+use Rattle.rt_marks.specs.Marks.{marks_inserted, marks_left}
+use Rattle.rt_oplog.specs.Logs.{with_operation}
+use Rattle.rt_oplog.specs.Operations.{Operation}
+use Rattle.rt_rga.specs.Answers.{Answer, New, Repeat, Refused, answer_within}
+use Rattle.rt_rga.specs.Cells.{cells_of}
+use Rattle.rt_rga.specs.Histories.{greatest_last_count, inserted}
+use Rattle.rt_rga.specs.Taken.{lists_of, place_in, takes_away}
+use Rattle.rt_edits.specs.Flat.{Flat}
+use Rattle.rt_edits.specs.Insertions.{all_listed}
+use Rattle.rt_text.specs.Widgets.{Own, Viewed, own_inserted, own_left}
+
+-- A document with an operation that is new to it: the log gains it, and the cells are the log's. Marks move for the characters
+-- that it puts in and for those that it takes away, as they do for the site's own edits; the tags that it lists are listed.
+abbrev pub with_new : Operation → Flat → Flat
+with_new op flat =
+    let log = with_operation op flat.log in
+    record flat {
+      cells = cells_of log;
+      log = log;
+      count = greatest_last_count log;
+      marks = marks_left (takes_away op.body flat.cells) (marks_inserted (place_in op flat.cells) (length (inserted op)) flat.marks);
+      tags = all_listed (lists_of op.body) flat.tags;
+    }
+
+-- a widget's own marks move likewise; what it has selected stays so, and no new character is selected
+abbrev pub own_with_new : Operation → Flat → Own → Own
+own_with_new op flat own = own_left (takes_away op.body flat.cells) (own_inserted (place_in op flat.cells) (length (inserted op)) own)
+
+-- what the answer to an operation makes of a document
+abbrev pub flat_after : Answer → Operation → Flat → Flat
+flat_after New op flat = with_new op flat
+flat_after Repeat op flat = flat
+flat_after (Refused fault) op flat = flat
+
+-- and of a view of it
+abbrev pub view_after : Answer → Operation → Viewed → Viewed
+view_after New op view = record { doc = with_new op view.doc; own = own_with_new op view.doc view.own; others = view.others }
+view_after Repeat op view = view
+view_after (Refused fault) op view = view
+
+-- what is answered to an operation that is offered to a document
+abbrev pub answer_of : Flat → Operation → Answer
+answer_of flat op = answer_within flat.limit op flat.log

@@ -1,0 +1,79 @@
+// What an accepted operation does to the marks of its text and to the list of tags.
+ghost use Rattle.std.specs.Prelude.{ℕ, ◌≡◌, ◌+◌, ◌≤◌, All, IfErr, OnOk, map, string_bytes, true};
+ghost use Rattle.rt_marks.specs.Marks.{Each, marks_inserted, marks_left};
+ghost use Rattle.rt_tags.specs.States.{IsTag, name_at};
+ghost use Rattle.rt_tags.specs.Tags.{IsName, is_ready};
+ghost use Rattle.rt_oplog.specs.Edits.{body_of};
+ghost use Rattle.rt_oplog.specs.Rules.{keeps_rules};
+ghost use Rattle.rt_rga.specs.Taken.{AreFallingRuns, is_in_runs, lists_of};
+ghost use Rattle.rt_edits.specs.Insertions.{all_listed};
+ghost use Rattle.rt_text.specs.Widgets.{own_inserted, own_left};
+
+use crate::Widget;
+use crate::preparing::prepare_tags;
+use rt_edits::listing::prepare_if;
+use rt_marks::Marks;
+use rt_oplog::Edit;
+use rt_rga::Change;
+use rt_stamps::Fault;
+use rt_tags::{StateTable, TagId, TagTable};
+
+/// Prepares the tags that an edit lists: to list them takes no memory. Want of memory.
+pub(crate) fn prepare_lists(table: &mut TagTable, edit: &Edit) -> Result<(), Fault>
+    requires { keeps_rules (body_of edit.now) ≡ true }
+    ensures names { table.new.names ≡ table.old.names }
+    ensures ready { OnOk result (All (λ name. is_ready name table.new ≡ true) (lists_of (body_of edit.now))) }
+    ensures err { IfErr result (λ fault. fault ≡ Fault.NoMemory) }
+{
+    match edit {
+        Edit::Insert {
+            after: _,
+            tags,
+            text: _,
+        } => prepare_tags(table, tags),
+        Edit::Delete { spans: _ } => Ok(()),
+        Edit::Tag { on, name, spans: _ } => prepare_if(table, *on, name),
+    }
+}
+
+/// Lists tags that a replica gives, which were prepared. It takes no memory.
+pub(crate) fn list_given(table: &mut TagTable, states: &StateTable, tags: &[TagId])
+    requires given { All (IsTag states.now) tags.now }
+    requires names { All (λ tag. IsName (name_at states.now tag)) tags.now }
+    requires ready { All (λ tag. is_ready (name_at states.now tag) table.old ≡ true) tags.now }
+    ensures { table.new.names ≡ all_listed (map (name_at states.now) tags.now) table.old.names }
+{
+    for tag in tags {
+        table.ensure(states.name(*tag)).unwrap();
+    }
+}
+
+/// Moves the marks of a site for a change of the text. Characters are put in first, and then runs are
+/// taken away, the last one first, so that the places of the others still count. It takes no memory.
+pub(crate) fn follow(marks: &mut Marks, change: &Change)
+    requires runs { (end : ℕ) × AreFallingRuns end change.now.removed.items }
+    requires fits { Each (λ m. m.place + change.now.inserted ≤ usize.MAX) marks.old }
+    ensures { marks.new ≡ marks_left (is_in_runs change.now.removed.items) (marks_inserted change.now.place change.now.inserted marks.old) }
+{
+    marks.inserted(change.place, change.inserted);
+    marks.order();
+    for run in &change.removed {
+        marks.removed(run.from, run.to - run.from);
+    }
+}
+
+impl Widget {
+    /// Moves its marks for a change of the text that an accepted operation told. The runs are those
+    /// of a text before the operation, the last one first. It takes no memory.
+    pub fn follow(&mut self, change: &Change)
+        requires runs { (end : ℕ) × AreFallingRuns end change.now.removed.items }
+        requires insert { self.old.insert.place + change.now.inserted ≤ usize.MAX }
+        requires current { self.old.current.place + change.now.inserted ≤ usize.MAX }
+        ensures { self.new ≡ own_left (is_in_runs change.now.removed.items) (own_inserted change.now.place change.now.inserted self.old) }
+    {
+        self.inserted(change.place, change.inserted);
+        for run in &change.removed {
+            self.removed(run.from, run.to - run.from);
+        }
+    }
+}

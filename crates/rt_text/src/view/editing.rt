@@ -1,0 +1,49 @@
+// Insertions and removals.
+ghost use Rattle.std.specs.Prelude.{◌≡◌, Ok, IfErr, OnOk, OnErr, map, string_bytes};
+ghost use Rattle.rt_stamps.specs.Outcomes.{Refuses};
+ghost use Rattle.rt_text.specs.Commands.{inserted, deleted};
+
+use super::View;
+use crate::preparing::check_names;
+use rt_edits::Piece;
+use rt_stamps::Fault;
+use rt_store::TextStore;
+
+impl<S: TextStore> View<S> {
+    /// `insert INDEX CHARS ?TAGLIST CHARS TAGLIST ...?` (Tk text manual): puts pieces of text, each
+    /// with its list of tags, and then characters without a list, before the one at the index, and at
+    /// the text's end before the last newline, and moves all marks for them. A list gives exactly its
+    /// tags, `sel` to the widget alone. Characters without a list get the tags that both neighbours
+    /// have, and in each widget they are selected where both neighbours are. `BadName`, `BadIndex`,
+    /// `NoneTagged`, `ClockSpent`, `TextFull`, or want of memory, and then nothing changes. It takes one
+    /// count for each character and one for each tag that an Insert of at most 65,535 characters can't
+    /// list, above 64.
+    pub fn insert(&mut self, index: &str, pieces: &[Piece], rest: &str) -> Result<(), Fault>
+        ensures ok { OnOk result (inserted self.old index.now pieces.now rest.now ≡ Ok self.new) }
+        ensures err { IfErr result (Refuses (inserted self.old index.now pieces.now rest.now)) }
+        ensures unchanged { OnErr result (self.new ≡ self.old) }
+    {
+        check_names(pieces)?;
+        let place = self.place(index)?;
+        let place = place.min(self.doc.visible() - 1);
+        self.doc
+            .insert_at(&mut self.widget, &mut self.others, place, pieces, rest)
+    }
+
+    /// `delete INDEX ?INDEX ...?` (Tk text manual): removes the characters in the ranges that the
+    /// indices name in pairs, and moves all marks for that: a mark within a range comes to stand
+    /// where the range was. All indices are read before the first change, a last index without
+    /// another is one character. The last newline stays; where a range holds it, it loses its tags,
+    /// and `sel` in every widget. `BadIndex`, `NoneTagged`, `ClockSpent`, or want of memory, and then
+    /// nothing changes. It takes one count for each 65,536 spans of removed stamps or a part of them,
+    /// none where nothing is removed, and one for each tag of the last newline.
+    pub fn delete(&mut self, indices: &[String]) -> Result<(), Fault>
+        ensures ok { OnOk result (deleted self.old (map (λ w. string_bytes w) indices.now) ≡ Ok self.new) }
+        ensures err { IfErr result (Refuses (deleted self.old (map (λ w. string_bytes w) indices.now))) }
+        ensures unchanged { OnErr result (self.new ≡ self.old) }
+    {
+        let ranges = self.ranges(indices)?;
+        self.doc
+            .delete_in(&mut self.widget, &mut self.others, &ranges)
+    }
+}

@@ -1,0 +1,131 @@
+// What a widget says of the text that it shows: places, positions, ranges, texts, comparisons and distances.
+ghost use Rattle.std.specs.Prelude.{◌≡◌, ◌⊎◌, ◌≤◌, Ok, None, Some, IfOk, IfErr, map, string_bytes};
+ghost use Rattle.rt_index.specs.Index.{index_of};
+ghost use Rattle.rt_stamps.specs.Outcomes.{first_of, Refuses};
+ghost use Rattle.rt_stamps.specs.Places.{position_at};
+ghost use Rattle.rt_text.specs.Index.{index_check, place_at_index};
+ghost use Rattle.rt_text.specs.Ranges.{ranges_of};
+ghost use Rattle.rt_text.specs.Widgets.{length_shown, text_shown, widget_of};
+ghost use Rattle.rt_text.specs.Commands.{got_one, got, got_list, position_of_index, compared, counted};
+
+use super::View;
+use crate::Comparison;
+use crate::distance::{distances_of, measures_of};
+use crate::index::{place_of, position_at};
+use crate::range::{ranges_at, text_between, texts_of};
+use rt_edits::Range;
+use rt_stamps::{Fault, Position};
+use rt_store::TextStore;
+
+impl<S: TextStore> View<S> {
+    /// The place of an index, from 0 to the number of characters (Tk text manual, "Indices").
+    /// `BadIndex`, `NoneTagged`, or want of memory.
+    pub fn place(&self, index: &str) -> Result<usize, Fault>
+        ensures ok { IfOk result (λ place. index_of (widget_of self.now) index.now ≡ Ok place) }
+        ensures within { IfOk result (λ place. place ≤ length_shown self.now) }
+        ensures err { IfErr result (Refuses (index_of (widget_of self.now) index.now)) }
+    {
+        place_of(self.alloc, &self.doc.ground(&self.widget), index)
+    }
+
+    /// How many characters the widget shows, its last newline included.
+    pub fn visible(&self) -> usize
+        ensures { result ≡ length_shown self.now }
+    {
+        self.doc.visible()
+    }
+
+    /// The line and the character of a place, which is at most the text's end.
+    pub fn position(&self, place: usize) -> Position
+        requires { place ≤ length_shown self.now }
+        ensures { result ≡ position_at (text_shown self.now) place }
+    {
+        self.doc.position(place)
+    }
+
+    /// The ranges that indices name in pairs (Tk text manual): a last index without another is one
+    /// character. `BadIndex`, `NoneTagged`, or want of memory.
+    pub fn ranges(&self, indices: &[String]) -> Result<Vec<Range>, Fault>
+        ensures ok { IfOk result (λ ranges. ranges.items
+            ≡ ranges_of (map (place_at_index (widget_of self.now)) (map (λ w. string_bytes w) indices.now))) }
+        ensures checked { IfOk result (λ ranges. first_of (map (index_check (widget_of self.now)) (map (λ w. string_bytes w) indices.now)) ≡ None) }
+        ensures err { IfErr result (λ fault. (fault ≡ Fault.NoMemory)
+            ⊎ (first_of (map (index_check (widget_of self.now)) (map (λ w. string_bytes w) indices.now)) ≡ Some fault)) }
+    {
+        ranges_at(self.alloc, &self.doc.ground(&self.widget), indices)
+    }
+
+    /// `get INDEX` (Tk text manual): the character at the index, none at the text's end. `BadIndex`,
+    /// `NoneTagged`, or want of memory.
+    pub fn get_one(&self, index: &str) -> Result<String, Fault>
+        ensures ok { IfOk result (λ text. got_one self.now index.now ≡ Ok (string_bytes text)) }
+        ensures err { IfErr result (Refuses (got_one self.now index.now)) }
+    {
+        let place = self.place(index)?;
+        let (store, _) = self.doc.kept();
+        text_between(self.alloc, store, place, place.saturating_add(1))
+    }
+
+    /// `get INDEX INDEX` (Tk text manual): the characters from the first index up to before the
+    /// second, none where that isn't later. `BadIndex`, `NoneTagged`, or want of memory.
+    pub fn get(&self, from: &str, to: &str) -> Result<String, Fault>
+        ensures ok { IfOk result (λ text. got self.now from.now to.now ≡ Ok (string_bytes text)) }
+        ensures err { IfErr result (Refuses (got self.now from.now to.now)) }
+    {
+        let start = self.place(from)?;
+        let end = self.place(to)?;
+        let (store, _) = self.doc.kept();
+        text_between(self.alloc, store, start, end)
+    }
+
+    /// `get INDEX INDEX INDEX ...` (Tk text manual): of the ranges that the indices name in pairs,
+    /// the texts that aren't empty, in the order given. A last index without another is one
+    /// character. `BadIndex`, `NoneTagged`, or want of memory.
+    pub fn get_list(&self, indices: &[String]) -> Result<Vec<String>, Fault>
+        ensures ok { IfOk result (λ texts. got_list self.now (map (λ w. string_bytes w) indices.now) ≡ Ok (map (λ w. string_bytes w) texts.items)) }
+        ensures err { IfErr result (Refuses (got_list self.now (map (λ w. string_bytes w) indices.now))) }
+    {
+        let ranges = self.ranges(indices)?;
+        let (store, _) = self.doc.kept();
+        texts_of(self.alloc, store, &ranges)
+    }
+
+    /// `index INDEX` (Tk text manual): the line and the character of the index. `BadIndex`,
+    /// `NoneTagged`, or want of memory.
+    pub fn index(&self, index: &str) -> Result<Position, Fault>
+        ensures ok { IfOk result (λ position. position_of_index self.now index.now ≡ Ok position) }
+        ensures err { IfErr result (Refuses (position_of_index self.now index.now)) }
+    {
+        let place = self.place(index)?;
+        let (store, _) = self.doc.kept();
+        Ok(position_at(store, place))
+    }
+
+    /// `compare INDEX OPERATOR INDEX` (Tk text manual): whether the comparison holds of the two
+    /// places. `BadOption`, `BadIndex`, `NoneTagged`, or want of memory.
+    pub fn compare(&self, first: &str, operator: &str, second: &str) -> Result<bool, Fault>
+        ensures ok { IfOk result (λ holds. compared self.now first.now operator.now second.now ≡ Ok holds) }
+        ensures err { IfErr result (Refuses (compared self.now first.now operator.now second.now)) }
+    {
+        let Some(comparison) = Comparison::of(operator) else {
+            return Err(Fault::BadOption);
+        };
+        let left = self.place(first)?;
+        let right = self.place(second)?;
+        Ok(comparison.holds(left, right))
+    }
+
+    /// `count SWITCHES INDEX INDEX` (Tk text manual): the distances from the first index to the
+    /// second that the switches ask for in turn, negative where the first is later; in indices where
+    /// there is no switch. `BadOption`, `BadIndex`, `NoneTagged`, or want of memory.
+    pub fn count(&self, switches: &[String], from: &str, to: &str) -> Result<Vec<i64>, Fault>
+        ensures ok { IfOk result (λ distances. counted self.now (map (λ w. string_bytes w) switches.now) from.now to.now ≡ Ok distances.items) }
+        ensures err { IfErr result (Refuses (counted self.now (map (λ w. string_bytes w) switches.now) from.now to.now)) }
+    {
+        let measures = measures_of(self.alloc, switches)?;
+        let start = self.place(from)?;
+        let end = self.place(to)?;
+        let (store, _) = self.doc.kept();
+        distances_of(self.alloc, store, start, end, &measures)
+    }
+}

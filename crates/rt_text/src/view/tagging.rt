@@ -1,0 +1,95 @@
+// The tags of the text that a widget shows: which characters have them, and how they are put on and taken off.
+ghost use Rattle.std.specs.Prelude.{◌≡◌, ◌⊎◌, if◌then◌else◌, ◌<◌, ◌&&◌, Ok, Err, None, Some, IfOk, IfErr, OnOk, OnErr, length, map, not, option_copied, option_map, slice_get, string_bytes};
+ghost use Rattle.rt_store.specs.Tagged.{next_place};
+ghost use Rattle.rt_tags.specs.Tags.{IsName, is_listed, is_place, lowered, raised};
+ghost use Rattle.rt_text.specs.Commands.{clock_check, with_tag_in, with_tags_deleted};
+ghost use Rattle.rt_text.specs.Widgets.{is_tagged, shown_by, tags_on, with_tags};
+
+use super::View;
+use rt_edits::Range;
+use rt_edits::removal::ranges_within;
+use rt_stamps::Fault;
+use rt_store::TextStore;
+
+impl<S: TextStore> View<S> {
+    /// The least place from one up whose character has a tag; none if there is none. It takes no
+    /// memory.
+    pub fn next_tagged(&self, name: &str, place: usize) -> Option<usize>
+        ensures { result ≡ next_place (is_tagged self.now.own name.now) (shown_by self.now) place }
+    {
+        self.doc.next_tagged(&self.widget, name, place)
+    }
+
+    /// The least place from one up whose character hasn't a tag; none if there is none. It takes no
+    /// memory.
+    pub fn next_untagged(&self, name: &str, place: usize) -> Option<usize>
+        ensures { result ≡ next_place (λ cell. not (is_tagged self.now.own name.now cell)) (shown_by self.now) place }
+    {
+        self.doc.next_untagged(&self.widget, name, place)
+    }
+
+    /// The listed tags of the character at a place, lowest priority first (Tk text manual, "tag
+    /// names"). Want of memory.
+    pub fn tags_at(&self, place: usize) -> Result<Vec<String>, Fault>
+        requires { place < length (shown_by self.now) }
+        ensures ok { IfOk result (λ names. option_map (tags_on self.now.own self.now.doc.tags) (slice_get (shown_by self.now) place)
+            ≡ Some (map (λ w. string_bytes w) names.items)) }
+        ensures err { IfErr result (λ fault. fault ≡ Fault.NoMemory) }
+    {
+        self.doc.tags_at(&self.widget, place)
+    }
+
+    /// Puts a tag on the characters in ranges of places, or takes it off ("tag add", "tag remove"):
+    /// `sel` is the widget's own, any other one is the text's. One that is put on is listed, also
+    /// where no character gets it. `ClockSpent`, or want of memory, and then nothing changes. It takes
+    /// one count for each 65,536 spans of stamps that it changes or a part of them; `sel` takes none.
+    pub fn write_tag(&mut self, on: bool, name: &str, ranges: &[Range]) -> Result<(), Fault>
+        requires { IsName name.now }
+        ensures ok { OnOk result ((with_tag_in self.old on name.now ranges.now ≡ self.new) × (clock_check self.new.doc.count ≡ None)) }
+        ensures err { IfErr result (λ fault. (fault ≡ Fault.NoMemory)
+            ⊎ (clock_check (with_tag_in self.old on name.now ranges.now).doc.count ≡ Some fault)) }
+        ensures unchanged { OnErr result (self.new ≡ self.old) }
+    {
+        let (store, _) = self.doc.kept();
+        let ranges = ranges_within(self.alloc, store, ranges)?;
+        if name == "sel" {
+            return self.widget.select(self.alloc, store, &ranges, on);
+        }
+        self.doc.write_shared(on, name, &ranges)
+    }
+
+    /// Takes tags off all characters of the whole text, and lists them no longer ("tag delete"); `sel`
+    /// is passed over. `ClockSpent`, or want of memory, and then nothing changes. It takes one count
+    /// for each 65,536 spans of stamps of each tag or a part of them.
+    pub fn delete_tags(&mut self, names: &[String]) -> Result<(), Fault>
+        ensures ok { OnOk result ((self.new ≡ with_tags_deleted self.old (map (λ w. string_bytes w) names.now))
+            × (clock_check self.new.doc.count ≡ None)) }
+        ensures err { IfErr result (λ fault. (fault ≡ Fault.NoMemory)
+            ⊎ (clock_check (with_tags_deleted self.old (map (λ w. string_bytes w) names.now)).doc.count ≡ Some fault)) }
+        ensures unchanged { OnErr result (self.new ≡ self.old) }
+    {
+        self.doc.delete_tags(names)
+    }
+
+    /// Raises a tag just above another, or above all ("tag raise"). `NoTag` just where one of them
+    /// isn't listed, and then nothing changes. It takes no memory.
+    pub fn raise_tag(&mut self, name: &str, above: Option<&str>) -> Result<(), Fault>
+        ensures ok { OnOk result (self.new ≡ with_tags self.old (raised name.now (option_copied above.entry) self.old.doc.tags)) }
+        ensures unchanged { OnErr result (self.new ≡ self.old) }
+        ensures answer { result ≡ (if is_listed name.now self.old.doc.tags
+            && is_place (option_copied above.entry) self.old.doc.tags then Ok tt else Err Fault.NoTag) }
+    {
+        self.doc.raise_tag(name, above)
+    }
+
+    /// Lowers a tag just below another, or below all ("tag lower"). `NoTag` just where one of them
+    /// isn't listed, and then nothing changes. It takes no memory.
+    pub fn lower_tag(&mut self, name: &str, below: Option<&str>) -> Result<(), Fault>
+        ensures ok { OnOk result (self.new ≡ with_tags self.old (lowered name.now (option_copied below.entry) self.old.doc.tags)) }
+        ensures unchanged { OnErr result (self.new ≡ self.old) }
+        ensures answer { result ≡ (if is_listed name.now self.old.doc.tags
+            && is_place (option_copied below.entry) self.old.doc.tags then Ok tt else Err Fault.NoTag) }
+    {
+        self.doc.lower_tag(name, below)
+    }
+}

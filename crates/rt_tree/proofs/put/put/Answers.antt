@@ -1,0 +1,85 @@
+use Rattle.std.proofs.Common.{ℕ, ◌+◌, ◌<◌, List, length, insert, arith, sym, ap, ◌∙◌, subst}
+use Rattle.rt_tree.specs.declared.node.Run.{Run}
+use Rattle.rt_tree.specs.Changes.{bare}
+use Rattle.rt_tree.specs.Shape.{IsShape, ahead, level_of, runs, tree_runs}
+use Rattle.rt_tree.specs.Sums.{AreFew, counts_of}
+use Rattle.rt_tree.specs.Walks.{IsPutAt}
+use Rattle.rt_tree.proofs.Puts.{few-insert, few-rest, opened, puts, spot_within}
+use Rattle.rt_tree.proofs.Wholes.{runs-bare, tree-exact, tree-shape, whole, whole_runs}
+use Rattle.rt_tree.proofs.put.put.Goals as goal
+
+pub top_room-top-requires-clause-tree : goal.top_room-top-requires-clause-tree
+top_room-top-requires-clause-tree c = subst (λ h. IsShape (bare c.args.mem.now) h c.args.root.index) (sym c.level_of-height.ensures) (tree-shape c.args.mem.now c.args.root.index c.requires.tree)
+
+pub top_room-top-requires-clause-exact : goal.top_room-top-requires-clause-exact
+top_room-top-requires-clause-exact c = tree-exact c.args.mem.now c.args.root.index c.requires.tree
+
+pub top_room-top-requires-clause-few : goal.top_room-top-requires-clause-few
+top_room-top-requires-clause-few c =
+    let m = c.args.mem.now in let r = c.args.root.index in
+    let same = ap (λ k. runs (bare m) k r) c.level_of-height.ensures ∙ runs-bare m (level_of m r) r in
+    subst (λ (l : List Run). AreFew (counts_of l)) (sym same) (few-rest c.args.run (tree_runs m r) c.requires.few)
+
+pub spot_of-spot-requires-clause-tree : goal.spot_of-spot-requires-clause-tree
+spot_of-spot-requires-clause-tree c =
+    let m = c.args.mem.now in let r = c.args.root.index in let e = c.top_room-top.ensures in let top = c.top_room-top.result in let m1 = c.top_room-top.new.mem in
+    let o = opened m r c.level_of-height.result c.level_of-height.ensures m1 top.root.index top.height e.tree e.exact e.filled e.runs in
+    o.tree
+
+pub spot_of-spot-requires-clause-few : goal.spot_of-spot-requires-clause-few
+spot_of-spot-requires-clause-few c =
+    let m = c.args.mem.now in let r = c.args.root.index in let e = c.top_room-top.ensures in let top = c.top_room-top.result in let m1 = c.top_room-top.new.mem in
+    let o = opened m r c.level_of-height.result c.level_of-height.ensures m1 top.root.index top.height e.tree e.exact e.filled e.runs in
+    subst (λ (l : List Run). AreFew (counts_of l)) (sym o.same) (few-rest c.args.run (tree_runs m r) c.requires.few)
+
+pub spot_of-spot-requires-clause-within : goal.spot_of-spot-requires-clause-within
+spot_of-spot-requires-clause-within c =
+    let m = c.args.mem.now in let r = c.args.root.index in let e = c.top_room-top.ensures in let top = c.top_room-top.result in let m1 = c.top_room-top.new.mem in
+    let o = opened m r c.level_of-height.result c.level_of-height.ensures m1 top.root.index top.height e.tree e.exact e.filled e.runs in
+    subst (λ (l : List Run). c.args.at < (counts_of l).cells) (sym o.same) c.requires.within
+
+pub insert_run-requires-clause-few : goal.insert_run-requires-clause-few
+insert_run-requires-clause-few c =
+    let m = c.args.mem.now in let r = c.args.root.index in let e = c.top_room-top.ensures in let top = c.top_room-top.result in let m1 = c.top_room-top.new.mem in
+    let o = opened m r c.level_of-height.result c.level_of-height.ensures m1 top.root.index top.height e.tree e.exact e.filled e.runs in
+    let same = ap (λ k. runs (bare m) k r) c.level_of-height.ensures ∙ runs-bare m (level_of m r) r in
+    subst (λ (l : List Run). AreFew (counts_of l)) (sym (e.runs ∙ same)) (few-rest c.args.run (tree_runs m r) c.requires.few)
+
+pub insert_run-requires-clause-leaf : goal.insert_run-requires-clause-leaf
+insert_run-requires-clause-leaf c = let s = c.spot_of-spot.ensures.1 in (s.is, s.low)
+
+pub insert_run-requires-clause-within : goal.insert_run-requires-clause-within
+insert_run-requires-clause-within c =
+    let spot = c.spot_of-spot.result in
+    let lt = spot_within c.top_room-top.new.mem c.top_room-top.result.root.index c.args.at spot.leaf.index spot.entry spot.offset c.spot_of-spot.ensures.0 c.spot_of-spot.ensures.1 in
+    omega (arith, lt)
+
+pub insert_run-requires-clause-still_few : goal.insert_run-requires-clause-still_few
+insert_run-requires-clause-still_few c =
+    let m = c.args.mem.now in let r = c.args.root.index in let e = c.top_room-top.ensures in let top = c.top_room-top.result in let m1 = c.top_room-top.new.mem in
+    let o = opened m r c.level_of-height.result c.level_of-height.ensures m1 top.root.index top.height e.tree e.exact e.filled e.runs in
+    let same = ap (λ k. runs (bare m) k r) c.level_of-height.ensures ∙ runs-bare m (level_of m r) r in
+    let n = length (ahead (bare m1) top.height c.spot_of-spot.result.leaf.index) + c.spot_of-spot.result.entry in
+    subst (λ (l : List Run). AreFew (counts_of (insert l n c.args.run))) (sym (e.runs ∙ same)) (few-insert (tree_runs m r) n c.args.run c.requires.few)
+
+pub insert_run-requires-clause-room : goal.insert_run-requires-clause-room
+insert_run-requires-clause-room c = omega (arith, c.top_room-top.ensures.height, c.top_room-top.ensures.room, c.level_of-height.ensures, c.requires.room)
+
+pub returns-clause-tree : goal.returns-clause-tree
+returns-clause-tree c =
+    let e = c.insert_run.ensures in
+    whole c.insert_run.new.mem c.top_room-top.result.height c.top_room-top.result.root.index e.tree e.exact e.filled
+
+pub returns-clause-runs : goal.returns-clause-runs
+returns-clause-runs c =
+    let m = c.args.mem.now in let r = c.args.root.index in let e = c.top_room-top.ensures in let top = c.top_room-top.result in let m1 = c.top_room-top.new.mem in
+    let o = opened m r c.level_of-height.result c.level_of-height.ensures m1 top.root.index top.height e.tree e.exact e.filled e.runs in
+    let i = c.insert_run.ensures in
+    let spot = c.spot_of-spot.result in
+    let N : ℕ → List Run → List Run = λ k l. insert l (length (ahead (bare m1) k spot.leaf.index) + spot.entry) c.args.run in
+    let new = whole_runs c.insert_run.new.mem top.height top.root.index i.tree i.exact i.filled ∙ i.runs ∙ ap (N top.height) (sym (whole_runs m1 top.height top.root.index e.tree e.exact e.filled)) ∙ ap (λ k. N k (tree_runs m1 top.root.index)) (sym e.tree.top) in
+    subst (λ (l : List Run). IsPutAt l (tree_runs c.insert_run.new.mem top.root.index) c.args.at c.args.run) o.same
+    (puts m1 top.root.index o.tree spot.leaf.index spot.entry spot.offset c.args.at c.spot_of-spot.ensures.0 c.args.run (tree_runs c.insert_run.new.mem top.root.index) c.spot_of-spot.ensures.1 new)
+
+pub returns-clause-room : goal.returns-clause-room
+returns-clause-room c = omega (arith, c.top_room-top.ensures.height, c.top_room-top.ensures.room, c.insert_run.ensures.room, c.level_of-height.ensures)

@@ -1,0 +1,119 @@
+use Rattle.std.proofs.Common.{◌≡◌, ◌≢◌, ◌-◌, ◌<◌, suc, length, arith, refl, sym, ap, ◌∙◌, subst}
+use Rattle.rt_nodes.specs.Nodes.{entries}
+use Rattle.rt_tree.specs.Changes.{bare, above}
+use Rattle.rt_tree.specs.Shape.{level_of, parent_of, count_of}
+use Rattle.rt_tree.proofs.Above.{above-is, above_top, roomy_split}
+use Rattle.rt_tree.proofs.Around.{below_top}
+use Rattle.rt_tree.proofs.Fills.{filled_split}
+use Rattle.rt_tree.proofs.Raise.{length-rows}
+use Rattle.rt_tree.proofs.Splits.{parent_in}
+use Rattle.rt_tree.proofs.room.make_way.Goals as goal
+
+pub loop-level-init : goal.loop-level-init
+loop-level-init c =
+    let m = c.args.mem.now in
+    record {
+      low = omega arith;
+      tree = c.requires.tree;
+      exact = c.requires.exact;
+      filled = c.requires.filled;
+      spent = omega arith;
+      high = λ z. z;
+      same = refl;
+      ahead_is = refl;
+      runs_are = refl;
+      leaf = c.requires.leaf;
+      roomy = subst (λ y. length (entries m y) < 16) (sym (above_top (bare m) c.args.height c.args.root.index c.requires.tree c.args.leaf.index c.requires.leaf.0 c.requires.leaf.1)) c.requires.root_room;
+      room = c.requires.room;
+    }
+
+pub len-requires : goal.len-requires
+len-requires c =
+    let m = c.loop-level.mem in let i = c.loop-level.invariant in
+    let h = c.args.height in let r = c.args.root.index in let x = c.args.leaf.index in
+    let k = c.loop-level.level - 1 in
+    let n = c.above-node.result.index in
+    let ab = above-is (bare m) h r i.tree k x i.leaf.0 (omega (arith, i.leaf.1, i.low)) in
+    let nis : n < length m.heads = subst (λ y. y < length m.heads) (sym c.above-node.ensures) ab.0 in
+    let nl : level_of (bare m) n ≡ k = ap (level_of (bare m)) c.above-node.ensures ∙ (omega (arith, ab.1, i.leaf.1)) in
+    let nr : n ≢ r = below_top (bare m) h r i.tree n nis (omega (arith, nl, i.low)) in
+    (omega arith, (nis, omega (arith, nis, i.tree.same, length-rows m)))
+
+pub slot_of-slot-requires-clause-node : goal.slot_of-slot-requires-clause-node
+slot_of-slot-requires-clause-node c =
+    let m = c.loop-level.mem in let i = c.loop-level.invariant in
+    let h = c.args.height in let r = c.args.root.index in let x = c.args.leaf.index in
+    let k = c.loop-level.level - 1 in
+    let n = c.above-node.result.index in
+    let ab = above-is (bare m) h r i.tree k x i.leaf.0 (omega (arith, i.leaf.1, i.low)) in
+    let nis : n < length m.heads = subst (λ y. y < length m.heads) (sym c.above-node.ensures) ab.0 in
+    let nl : level_of (bare m) n ≡ k = ap (level_of (bare m)) c.above-node.ensures ∙ (omega (arith, ab.1, i.leaf.1)) in
+    let nr : n ≢ r = below_top (bare m) h r i.tree n nis (omega (arith, nl, i.low)) in
+    let p = parent_in m h r i.tree n c.parent_of-parent.result.index nis nr c.parent_of-parent.ensures in
+    (p.0, p.1)
+
+pub slot_of-slot-requires-clause-stands : goal.slot_of-slot-requires-clause-stands
+slot_of-slot-requires-clause-stands c =
+    let m = c.loop-level.mem in let i = c.loop-level.invariant in
+    let h = c.args.height in let r = c.args.root.index in let x = c.args.leaf.index in
+    let k = c.loop-level.level - 1 in
+    let n = c.above-node.result.index in
+    let ab = above-is (bare m) h r i.tree k x i.leaf.0 (omega (arith, i.leaf.1, i.low)) in
+    let nis : n < length m.heads = subst (λ y. y < length m.heads) (sym c.above-node.ensures) ab.0 in
+    let nl : level_of (bare m) n ≡ k = ap (level_of (bare m)) c.above-node.ensures ∙ (omega (arith, ab.1, i.leaf.1)) in
+    let nr : n ≢ r = below_top (bare m) h r i.tree n nis (omega (arith, nl, i.low)) in
+    let kn = i.tree.known n nis nr in
+    omega (arith, kn.once, ap (λ y. count_of n (entries (bare m) y)) c.parent_of-parent.ensures)
+
+pub split-requires-clause-node : goal.split-requires-clause-node
+split-requires-clause-node c =
+    let m = c.loop-level.mem in let i = c.loop-level.invariant in
+    let h = c.args.height in let r = c.args.root.index in let x = c.args.leaf.index in
+    let k = c.loop-level.level - 1 in
+    let n = c.above-node.result.index in
+    let ab = above-is (bare m) h r i.tree k x i.leaf.0 (omega (arith, i.leaf.1, i.low)) in
+    let nis : n < length m.heads = subst (λ y. y < length m.heads) (sym c.above-node.ensures) ab.0 in
+    let nl : level_of (bare m) n ≡ k = ap (level_of (bare m)) c.above-node.ensures ∙ (omega (arith, ab.1, i.leaf.1)) in
+    let nr : n ≢ r = below_top (bare m) h r i.tree n nis (omega (arith, nl, i.low)) in
+    (nis, nr)
+
+pub split-requires-clause-parent_room : goal.split-requires-clause-parent_room
+split-requires-clause-parent_room c =
+    let m = c.loop-level.mem in let i = c.loop-level.invariant in
+    let h = c.args.height in let r = c.args.root.index in let x = c.args.leaf.index in
+    let k = c.loop-level.level - 1 in
+    let n = c.above-node.result.index in
+    let ab = above-is (bare m) h r i.tree k x i.leaf.0 (omega (arith, i.leaf.1, i.low)) in
+    let nis : n < length m.heads = subst (λ y. y < length m.heads) (sym c.above-node.ensures) ab.0 in
+    let nl : level_of (bare m) n ≡ k = ap (level_of (bare m)) c.above-node.ensures ∙ (omega (arith, ab.1, i.leaf.1)) in
+    let nr : n ≢ r = below_top (bare m) h r i.tree n nis (omega (arith, nl, i.low)) in
+    let deep : suc k ≡ c.loop-level.level = omega arith in
+    let up : c.parent_of-parent.result.index ≡ above (bare m) c.loop-level.level x = c.parent_of-parent.ensures ∙ ap (parent_of (bare m)) c.above-node.ensures ∙ ap (λ j. above (bare m) j x) deep in
+    subst (λ y. length (entries m y) < 16) (sym up) i.roomy
+
+pub loop-level-preserved-then-len-ge16 : goal.loop-level-preserved-then-len-ge16
+loop-level-preserved-then-len-ge16 c =
+    let m = c.loop-level.mem in let i = c.loop-level.invariant in
+    let h = c.args.height in let r = c.args.root.index in let x = c.args.leaf.index in
+    let k = c.loop-level.level - 1 in
+    let n = c.above-node.result.index in
+    let ab = above-is (bare m) h r i.tree k x i.leaf.0 (omega (arith, i.leaf.1, i.low)) in
+    let nis : n < length m.heads = subst (λ y. y < length m.heads) (sym c.above-node.ensures) ab.0 in
+    let nl : level_of (bare m) n ≡ k = ap (level_of (bare m)) c.above-node.ensures ∙ (omega (arith, ab.1, i.leaf.1)) in
+    let nr : n ≢ r = below_top (bare m) h r i.tree n nis (omega (arith, nl, i.low)) in
+    let hv = c.split.ensures.halves in let st = c.split.ensures.still in
+    let deep : suc (k - 1) ≡ k = omega arith in
+    record {
+      low = omega (arith, i.low);
+      tree = c.split.ensures.tree;
+      exact = c.split.ensures.exact;
+      filled = filled_split m c.split.new.mem r n c.split.result.index hv nis i.tree.root_is nr (omega (arith, c.len.ensures.value, c.len.ensures.fits)) i.filled;
+      spent = omega (arith, c.split.ensures.room, i.spent);
+      high = λ z. omega arith;
+      same = st.same x i.leaf.0 (omega (arith, nl, i.leaf.1)) ∙ i.same;
+      ahead_is = st.lower (k - 1) h x i.leaf.0 (omega (arith, nl, i.leaf.1)) (ap (λ j. above (bare m) j x) deep ∙ sym c.above-node.ensures) (omega (arith, i.leaf.1)) ∙ i.ahead_is;
+      runs_are = c.split.ensures.runs ∙ i.runs_are;
+      leaf = (omega (arith, i.leaf.0, hv.new, hv.longer), hv.levels x (omega (arith, i.leaf.0, hv.new)) ∙ i.leaf.1);
+      roomy = roomy_split m c.split.new.mem h r n c.split.result.index k x i.tree hv i.leaf.0 i.leaf.1 (omega (arith, i.low)) c.above-node.ensures (omega (arith, c.len.ensures.value, c.len.ensures.fits));
+      room = omega (arith, c.split.ensures.room, i.room);
+    }

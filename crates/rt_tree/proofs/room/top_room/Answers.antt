@@ -1,0 +1,31 @@
+use Rattle.std.proofs.Common.{List, length, get_or, arith, sym, ap, ◌∙◌, subst}
+use Rattle.rt_tree.specs.declared.node.Entry.{Entry}
+use Rattle.rt_tree.specs.declared.node.Run.{Run}
+use Rattle.rt_tree.specs.Changes.{strip}
+use Rattle.rt_tree.specs.Sums.{AreFew, counts_of}
+use Rattle.rt_tree.proofs.Fills.{filled_root}
+use Rattle.rt_tree.proofs.room.top_room.Goals as goal
+
+pub split-requires-clause-node : goal.split-requires-clause-node
+split-requires-clause-node c = let g = c.grow-top.ensures.grown in (omega (arith, g.new, g.longer, c.requires.tree.root_is), λ e. omega (arith, e, g.new, c.requires.tree.root_is))
+
+pub split-requires-clause-parent : goal.split-requires-clause-parent
+split-requires-clause-parent c = sym c.grow-top.ensures.grown.parent
+
+pub split-requires-clause-within : goal.split-requires-clause-within
+split-requires-clause-within c = omega (arith, ap length c.grow-top.ensures.grown.at_q)
+
+pub split-requires-clause-slot : goal.split-requires-clause-slot
+split-requires-clause-slot c e is = ap strip (is ∙ ap (λ (l : List Entry). get_or l 0 e) c.grow-top.ensures.grown.at_q)
+
+pub split-requires-clause-parent_room : goal.split-requires-clause-parent_room
+split-requires-clause-parent_room c = omega (arith, ap length c.grow-top.ensures.grown.at_q)
+
+pub split-requires-clause-few : goal.split-requires-clause-few
+split-requires-clause-few c = subst (λ (l : List Run). AreFew (counts_of l)) (sym c.grow-top.ensures.runs) c.requires.few
+
+pub returns-clause-filled : goal.returns-clause-filled
+returns-clause-filled c =
+    let m = c.args.mem.now in let m1 = c.grow-top.new.mem in let m2 = c.split.new.mem in
+    let r = c.args.root.index in let q = c.grow-top.result.index in
+    filled_root m m1 m2 c.args.height r q c.split.result.index c.grow-top.ensures.grown c.split.ensures.halves c.requires.tree.root_is (omega (arith, c.len.ensures.value, c.len.ensures.fits)) (omega (arith, c.split.ensures.wider, ap length c.grow-top.ensures.grown.at_q)) c.requires.filled

@@ -1,0 +1,52 @@
+// Changes of one leaf.
+ghost use Rattle.std.specs.Prelude.{◌≡◌, ◌<◌, ◌≤◌, ◌++◌, insert, length, slice_set};
+ghost use Rattle.rt_nodes.specs.Nodes.{entries, with_entries};
+ghost use Rattle.rt_tree.specs.declared.node.Entry.TheVariants.{Here};
+ghost use Rattle.rt_tree.specs.Changes.{AreExact, AreFilled, bare, links};
+ghost use Rattle.rt_tree.specs.Shape.{IsShape, ahead, all_below, behind, level_of, runs};
+ghost use Rattle.rt_tree.specs.Sums.{AreFew, counts_of};
+
+use crate::node::{Entry, Mem, Run};
+use crate::settle::{set_entry, settle};
+use rt_nodes::NodeId;
+
+// Puts another run in place of one.
+pub(crate) fn set_run(mem: &mut Mem, root: NodeId, height: u32, leaf: NodeId, i: usize, run: Run)
+    requires tree { IsShape (bare mem.old) height root.index }
+    requires exact { AreExact mem.old }
+    requires filled { AreFilled mem.old root.index }
+    requires leaf { (leaf.index < length mem.old.heads) × (level_of (bare mem.old) leaf.index ≡ 0) }
+    requires within { i < length (entries mem.old leaf.index) }
+    requires few { AreFew (counts_of (ahead (bare mem.old) height leaf.index
+        ++ (all_below (bare mem.old) 0 (links (slice_set (entries mem.old leaf.index) i (Here run))) ++ behind (bare mem.old) height leaf.index))) }
+    ensures tree { IsShape (bare mem.new) height root.index }
+    ensures exact { AreExact mem.new }
+    ensures filled { AreFilled mem.new root.index }
+    ensures bare { bare mem.new ≡ with_entries (bare mem.old) leaf.index (links (slice_set (entries mem.old leaf.index) i (Here run))) }
+    ensures runs { runs (bare mem.new) height root.index ≡ ahead (bare mem.old) height leaf.index
+        ++ (all_below (bare mem.old) 0 (links (slice_set (entries mem.old leaf.index) i (Here run))) ++ behind (bare mem.old) height leaf.index) }
+{
+    set_entry(mem, leaf, i, Entry::Here(run));
+    settle(mem, root, height, leaf);
+}
+
+// Puts a run into a leaf that has room.
+pub(crate) fn put_run(mem: &mut Mem, root: NodeId, height: u32, leaf: NodeId, i: usize, run: Run)
+    requires tree { IsShape (bare mem.old) height root.index }
+    requires exact { AreExact mem.old }
+    requires filled { AreFilled mem.old root.index }
+    requires leaf { (leaf.index < length mem.old.heads) × (level_of (bare mem.old) leaf.index ≡ 0) }
+    requires within { i ≤ length (entries mem.old leaf.index) }
+    requires room { length (entries mem.old leaf.index) < 16 }
+    requires few { AreFew (counts_of (ahead (bare mem.old) height leaf.index
+        ++ (all_below (bare mem.old) 0 (links (insert (entries mem.old leaf.index) i (Here run))) ++ behind (bare mem.old) height leaf.index))) }
+    ensures tree { IsShape (bare mem.new) height root.index }
+    ensures exact { AreExact mem.new }
+    ensures filled { AreFilled mem.new root.index }
+    ensures runs { runs (bare mem.new) height root.index ≡ ahead (bare mem.old) height leaf.index
+        ++ (all_below (bare mem.old) 0 (links (insert (entries mem.old leaf.index) i (Here run))) ++ behind (bare mem.old) height leaf.index) }
+    ensures room { mem.new.room ≡ mem.old.room }
+{
+    mem.insert_at(leaf, i, Entry::Here(run));
+    settle(mem, root, height, leaf);
+}

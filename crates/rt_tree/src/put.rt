@@ -1,0 +1,87 @@
+// Runs put in, and put in place of others.
+ghost use Rattle.std.specs.Prelude.{◌≡◌, ◌+◌, ◌*◌, ◌<◌, ◌≤◌, ◌^◌, insert, length};
+ghost use Rattle.rt_nodes.specs.Nodes.{entries};
+ghost use Rattle.rt_tree.specs.declared.node.Measure.TheVariants.{Cells};
+ghost use Rattle.rt_tree.specs.declared.node.Run.{Run};
+ghost use Rattle.rt_tree.specs.Changes.{AreExact, AreFilled, bare};
+ghost use Rattle.rt_tree.specs.Shape.{IsShape, IsTree, ahead, level_of, runs, tree_runs};
+ghost use Rattle.rt_tree.specs.Sums.{AreFew, amount, counts_of, counts_of_run, plus};
+ghost use Rattle.rt_tree.specs.Walks.{IsPutAt, IsReplacedAt, IsSpot};
+
+use crate::change::{put_run, set_run};
+use crate::looks::Counted;
+use crate::node::{Measure, Mem, Run};
+use crate::room::{make_room, top_room};
+use crate::settle::level_of;
+use crate::walk::{Spot, descend_by};
+use rt_nodes::NodeId;
+
+// Puts a run in at a place of a leaf, the root having room.
+fn insert_run(mem: &mut Mem, root: NodeId, height: u32, leaf: NodeId, i: usize, run: Run)
+    requires tree { IsShape (bare mem.old) height root.index }
+    requires exact { AreExact mem.old }
+    requires filled { AreFilled mem.old root.index }
+    requires few { AreFew (counts_of (runs (bare mem.old) height root.index)) }
+    requires leaf { (leaf.index < length mem.old.heads) × (level_of (bare mem.old) leaf.index ≡ 0) }
+    requires within { i ≤ length (entries mem.old leaf.index) }
+    requires root_room { length (entries mem.old root.index) < 16 }
+    requires room { height ≤ mem.old.room }
+    requires still_few { AreFew (counts_of
+        (insert (runs (bare mem.old) height root.index) (length (ahead (bare mem.old) height leaf.index) + i) run)) }
+    ensures tree { IsShape (bare mem.new) height root.index }
+    ensures exact { AreExact mem.new }
+    ensures filled { AreFilled mem.new root.index }
+    ensures runs { runs (bare mem.new) height root.index
+        ≡ insert (runs (bare mem.old) height root.index) (length (ahead (bare mem.old) height leaf.index) + i) run }
+    ensures room { mem.old.room ≤ mem.new.room + height }
+{
+    let place = make_room(mem, root, height, leaf, i);
+    put_run(mem, root, height, place.leaf, place.entry, run);
+}
+
+// The spot of the cell at a position.
+fn spot_of(mem: &Mem, root: NodeId, at: usize) -> Spot
+    requires tree { IsTree mem.now root.index }
+    requires few { AreFew (counts_of (tree_runs mem.now root.index)) }
+    requires within { at < (counts_of (tree_runs mem.now root.index)).cells }
+    ensures { (run : Run) × IsSpot mem.now root.index Cells at result.leaf.index result.entry result.offset run }
+{
+    crate::find::height(mem, root);
+    let mut looks = 0;
+    let looks = &mut looks;
+    let mut sight = Counted { mem, looks };
+    descend_by(&mut sight, root, Measure::Cells, at).spot
+}
+
+// Puts a run in before the one that has the cell at a position. The root may now be another node.
+pub(crate) fn put(mem: &mut Mem, root: NodeId, at: usize, run: Run) -> NodeId
+    requires tree { IsTree mem.old root.index }
+    requires within { at < (counts_of (tree_runs mem.old root.index)).cells }
+    requires few { AreFew (plus (counts_of_run run) (counts_of (tree_runs mem.old root.index))) }
+    requires height { level_of mem.old root.index + 1 < 2 ^ 32 }
+    requires room { level_of mem.old root.index + 3 ≤ mem.old.room }
+    ensures tree { IsTree mem.new result.index }
+    ensures runs { IsPutAt (tree_runs mem.old root.index) (tree_runs mem.new result.index) at run }
+    ensures room { mem.old.room ≤ mem.new.room + (level_of mem.old root.index + 3) }
+{
+    let height = level_of(mem, root);
+    let top = top_room(mem, root, height);
+    let spot = spot_of(mem, top.root, at);
+    insert_run(mem, top.root, top.height, spot.leaf, spot.entry, run);
+    top.root
+}
+
+// Puts a run in place of the one that has the cell at a position.
+pub(crate) fn replace(mem: &mut Mem, root: NodeId, at: usize, run: Run)
+    requires tree { IsTree mem.old root.index }
+    requires within { at < (counts_of (tree_runs mem.old root.index)).cells }
+    requires few { AreFew (plus (counts_of_run run) (counts_of (tree_runs mem.old root.index))) }
+    ensures tree { IsTree mem.new root.index }
+    ensures runs { IsReplacedAt (tree_runs mem.old root.index) (tree_runs mem.new root.index) at run }
+    ensures height { level_of mem.new root.index ≡ level_of mem.old root.index }
+    ensures room { mem.new.room ≡ mem.old.room }
+{
+    let height = level_of(mem, root);
+    let spot = spot_of(mem, root, at);
+    set_run(mem, root, height, spot.leaf, spot.entry, run);
+}

@@ -1,0 +1,136 @@
+// Room in a leaf.
+ghost use Rattle.std.specs.Prelude.{◌≡◌, ℕ, ◌+◌, ◌-◌, ◌<◌, ◌≤◌, ◌^◌, length};
+ghost use Rattle.rt_nodes.specs.Nodes.{entries};
+ghost use Rattle.rt_tree.specs.Changes.{AreExact, AreFilled, above, bare};
+ghost use Rattle.rt_tree.specs.Shape.{IsShape, ahead, level_of, parent_of, runs};
+ghost use Rattle.rt_tree.specs.Sums.{AreFew, counts_of};
+
+use crate::node::Mem;
+use crate::settle::{parent_of, slot_of};
+use crate::split::{grow, split};
+use rt_nodes::NodeId;
+
+// The node so many levels above a node.
+fn above(mem: &Mem, root: NodeId, height: u32, node: NodeId, levels: u32) -> NodeId
+    requires tree { IsShape (bare mem.now) height root.index }
+    requires node { node.index < length mem.now.heads }
+    requires levels { level_of (bare mem.now) node.index + levels ≤ height }
+    ensures { result.index ≡ above (bare mem.now) levels node.index }
+{
+    let mut at = node;
+    for i in 0..levels {
+        at = parent_of(mem, at);
+    }
+    at
+}
+
+// A place in a leaf, before an entry or behind the last.
+#[derive(Clone, Copy)]
+pub(crate) struct Place {
+    pub(crate) leaf: NodeId,
+    pub(crate) entry: usize,
+}
+
+// Sees to it that the node above a leaf has room, the root having some.
+fn make_way(mem: &mut Mem, root: NodeId, height: u32, leaf: NodeId)
+    requires tree { IsShape (bare mem.old) height root.index }
+    requires exact { AreExact mem.old }
+    requires filled { AreFilled mem.old root.index }
+    requires few { AreFew (counts_of (runs (bare mem.old) height root.index)) }
+    requires leaf { (leaf.index < length mem.old.heads) × (level_of (bare mem.old) leaf.index ≡ 0) }
+    requires root_room { length (entries mem.old root.index) < 16 }
+    requires room { height ≤ mem.old.room }
+    ensures tree { IsShape (bare mem.new) height root.index }
+    ensures exact { AreExact mem.new }
+    ensures filled { AreFilled mem.new root.index }
+    ensures runs { runs (bare mem.new) height root.index ≡ runs (bare mem.old) height root.index }
+    ensures leaf { (leaf.index < length mem.new.heads) × (level_of (bare mem.new) leaf.index ≡ 0) }
+    ensures same { entries mem.new leaf.index ≡ entries mem.old leaf.index }
+    ensures ahead { ahead (bare mem.new) height leaf.index ≡ ahead (bare mem.old) height leaf.index }
+    ensures way { 0 < height → length (entries mem.new (parent_of (bare mem.new) leaf.index)) < 16 }
+    ensures room { 0 < height → mem.old.room + 1 ≤ mem.new.room + height }
+{
+    let mut level = height;
+    while level > 1 {
+        let next = level - 1;
+        let node = above(mem, root, height, leaf, next);
+        if mem.len(node) >= 16 {
+            let parent = parent_of(mem, node);
+            let slot = slot_of(mem, parent, node);
+            split(mem, root, height, node, parent, slot);
+        }
+        level = next;
+    }
+}
+
+// Sees to it that a place's leaf has room, the root having some; the place may now be in a new leaf.
+pub(crate) fn make_room(mem: &mut Mem, root: NodeId, height: u32, leaf: NodeId, i: usize) -> Place
+    requires tree { IsShape (bare mem.old) height root.index }
+    requires exact { AreExact mem.old }
+    requires filled { AreFilled mem.old root.index }
+    requires few { AreFew (counts_of (runs (bare mem.old) height root.index)) }
+    requires leaf { (leaf.index < length mem.old.heads) × (level_of (bare mem.old) leaf.index ≡ 0) }
+    requires within { i ≤ length (entries mem.old leaf.index) }
+    requires root_room { length (entries mem.old root.index) < 16 }
+    requires room { height ≤ mem.old.room }
+    ensures tree { IsShape (bare mem.new) height root.index }
+    ensures exact { AreExact mem.new }
+    ensures filled { AreFilled mem.new root.index }
+    ensures runs { runs (bare mem.new) height root.index ≡ runs (bare mem.old) height root.index }
+    ensures leaf { (result.leaf.index < length mem.new.heads) × (level_of (bare mem.new) result.leaf.index ≡ 0) }
+    ensures within { result.entry ≤ length (entries mem.new result.leaf.index) }
+    ensures leaf_room { length (entries mem.new result.leaf.index) < 16 }
+    ensures place { length (ahead (bare mem.new) height result.leaf.index) + result.entry ≡ length (ahead (bare mem.old) height leaf.index) + i }
+    ensures room { mem.old.room ≤ mem.new.room + height }
+{
+    if mem.len(leaf) < 16 {
+        return Place { leaf, entry: i };
+    }
+    make_way(mem, root, height, leaf);
+    let parent = parent_of(mem, leaf);
+    let slot = slot_of(mem, parent, leaf);
+    let new = split(mem, root, height, leaf, parent, slot);
+    let half = mem.len(leaf);
+    if i <= half {
+        Place { leaf, entry: i }
+    } else {
+        Place {
+            leaf: new,
+            entry: i - half,
+        }
+    }
+}
+
+// The root, and how many levels are below it.
+#[derive(Clone, Copy)]
+pub(crate) struct Top {
+    pub(crate) root: NodeId,
+    pub(crate) height: u32,
+}
+
+// Sees to it that the root has room.
+pub(crate) fn top_room(mem: &mut Mem, root: NodeId, height: u32) -> Top
+    requires tree { IsShape (bare mem.old) height root.index }
+    requires exact { AreExact mem.old }
+    requires filled { AreFilled mem.old root.index }
+    requires few { AreFew (counts_of (runs (bare mem.old) height root.index)) }
+    requires height { height + 1 < 2 ^ 32 }
+    requires room { 2 ≤ mem.old.room }
+    ensures tree { IsShape (bare mem.new) result.height result.root.index }
+    ensures exact { AreExact mem.new }
+    ensures filled { AreFilled mem.new result.root.index }
+    ensures runs { runs (bare mem.new) result.height result.root.index ≡ runs (bare mem.old) height root.index }
+    ensures roomy { length (entries mem.new result.root.index) < 16 }
+    ensures height { result.height ≤ height + 1 }
+    ensures room { mem.old.room ≤ mem.new.room + 2 }
+{
+    if mem.len(root) < 16 {
+        return Top { root, height };
+    }
+    let top = grow(mem, root, height);
+    split(mem, top, height + 1, root, top, 0);
+    Top {
+        root: top,
+        height: height + 1,
+    }
+}

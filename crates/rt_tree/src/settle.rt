@@ -1,0 +1,72 @@
+// Totals put right from a node upwards.
+ghost use Rattle.std.specs.Prelude.{◌≡◌, ◌<◌, length, slice_index_or};
+ghost use Rattle.rt_nodes.specs.Nodes.{IsNode, entries, with_entry};
+ghost use Rattle.rt_tree.specs.declared.node.Entry.{Entry};
+ghost use Rattle.rt_tree.specs.declared.node.Entry.TheVariants.{Down};
+ghost use Rattle.rt_tree.specs.Changes.{AreExact, AreExactBut, bare, blank, strip};
+ghost use Rattle.rt_tree.specs.Shape.{IsShape, count_of, level_of, parent_of, runs};
+ghost use Rattle.rt_tree.specs.Sums.{AreFew, counts_of};
+
+use crate::node::{Entry, Mem};
+use crate::totals::adds_up;
+use crate::up::is_node;
+use rt_nodes::NodeId;
+
+pub(crate) fn parent_of(mem: &Mem, id: NodeId) -> NodeId
+    requires { IsNode mem.now id.index }
+    ensures { result.index ≡ parent_of (bare mem.now) id.index }
+{
+    mem.head(id).parent
+}
+
+pub(crate) fn level_of(mem: &Mem, id: NodeId) -> u32
+    requires { IsNode mem.now id.index }
+    ensures { result ≡ level_of (bare mem.now) id.index }
+{
+    mem.head(id).level
+}
+
+// Replaces an entry.
+pub(crate) fn set_entry(mem: &mut Mem, id: NodeId, i: usize, entry: Entry)
+    requires { IsNode mem.old id.index × (i < length (entries mem.old id.index)) }
+    ensures { mem.new ≡ with_entry mem.old id.index i entry }
+{
+    *mem.entry_mut(id, i) = entry;
+}
+
+// Where a node stands in its parent.
+pub(crate) fn slot_of(mem: &Mem, parent: NodeId, id: NodeId) -> usize
+    requires node { IsNode mem.now parent.index }
+    requires stands { 0 < count_of id.index (entries (bare mem.now) parent.index) }
+    ensures within { result < length (entries mem.now parent.index) }
+    ensures few { result < 16 }
+    ensures is { (e : Entry) → e ≡ slice_index_or (entries mem.now parent.index) result e → strip e ≡ Down id blank }
+{
+    for i in 0..mem.len(parent) {
+        if is_node(mem.entry(parent, i), id) {
+            return i;
+        }
+    }
+    unreachable!()
+}
+
+// Puts right the totals above a node whose entries have changed.
+pub(crate) fn settle(mem: &mut Mem, root: NodeId, height: u32, from: NodeId)
+    requires tree { IsShape (bare mem.old) height root.index }
+    requires from { from.index < length mem.old.heads }
+    requires exact { AreExactBut from.index mem.old }
+    requires few { AreFew (counts_of (runs (bare mem.old) height root.index)) }
+    ensures same { bare mem.new ≡ bare mem.old }
+    ensures exact { AreExact mem.new }
+{
+    let mut node = from;
+    let mut level = level_of(mem, from);
+    while level < height {
+        let totals = adds_up(mem, node);
+        let parent = parent_of(mem, node);
+        let slot = slot_of(mem, parent, node);
+        set_entry(mem, parent, slot, Entry::Down(node, totals));
+        node = parent;
+        level += 1;
+    }
+}

@@ -1,0 +1,9 @@
+use Rattle.std.proofs.Common.{◌≡◌, ◌++◌, drop, map}
+use Rattle.rt_oplog.specs.Operations.{stamps_in}
+use Rattle.rt_undo.specs.Actions.{removed_in, removed_with}
+use Rattle.rt_undo.proofs.copies.push_removed.Given as goal
+
+abbrev pub invariant-loop-span : goal.invariant-loop-span
+invariant-loop-span l =
+    removed_in l.removed.items ++ map (removed_with l.state) (stamps_in (drop l.span-index l.spans))
+    ≡ removed_in l.initial.removed.items ++ map (removed_with l.state) (stamps_in l.spans)

@@ -1,0 +1,42 @@
+-- Histories for the worked examples.
+use Rattle.std.specs.Prelude.{ℕ, ◌+◌, [], ◌∷◌, true}
+use Rattle.rt_stamps.specs.declared.stamp.Stamp.{Stamp}
+use Rattle.rt_undo.specs.declared.action.Kind.TheVariants.{Insert, Delete, Replace}
+use Rattle.rt_undo.specs.Actions.{Action}
+use Rattle.rt_undo.specs.Undo.{History, added, no_history, undo_done, unmodified}
+
+-- a stamp of site 1
+abbrev pub at : ℕ → Stamp
+at count = record { count = count; site = 1 }
+
+-- the character of a count is typed
+abbrev pub typed : ℕ → Action ℕ
+typed count = record { number = count; kind = Insert; inserted = at count ∷ []; removed = [] }
+
+-- that of another count, in state 7, is removed
+abbrev pub cut : ℕ → ℕ → Action ℕ
+cut count other = record { number = count; kind = Delete; inserted = []; removed = record { stamp = at other; tags = 7 } ∷ [] }
+
+-- that of another count, in state 7, is replaced
+abbrev pub swapped : ℕ → ℕ → Action ℕ
+swapped count other = record { number = count; kind = Replace; inserted = at (count + 1) ∷ []; removed = record { stamp = at other; tags = 7 } ∷ [] }
+
+-- the insertion of a character is reverted: the character goes
+abbrev pub untyped : ℕ → ℕ → Action ℕ
+untyped count other = record { number = count; kind = Insert; inserted = []; removed = record { stamp = at other; tags = 7 } ∷ [] }
+
+-- nothing was done yet
+abbrev pub at_first : History ℕ
+at_first = no_history
+
+-- two characters are typed in one go
+abbrev pub two_typed : History ℕ
+two_typed = added true (typed 2) (added true (typed 1) no_history)
+
+-- a character is typed and removed
+abbrev pub typed_and_cut : History ℕ
+typed_and_cut = added true (cut 2 1) (added true (typed 1) no_history)
+
+-- a character is typed, the text said to be unmodified, and the character undone
+abbrev pub undone_after : History ℕ
+undone_after = undo_done (untyped 1 1 ∷ []) (unmodified (added true (typed 1) no_history))

@@ -1,0 +1,7 @@
+pub mod Renames
+pub mod Actions
+pub mod Undo
+pub mod Copies
+pub mod Groups
+pub mod Seen
+pub mod Examples

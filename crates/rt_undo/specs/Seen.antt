@@ -1,0 +1,39 @@
+-- What contracts see of undo stacks.
+use Rattle.std.specs.Prelude.{◌≡◌, ℕ, ◌+◌, ◌<◌, ◌≤◌, Bool, true, [], vec_len, vec_capacity}
+use Rattle.rt_undo.specs.declared.renames.Move.{Move}
+use Rattle.rt_undo.specs.declared.stacks.Stacks.TheInside.{Inside}
+use Rattle.rt_undo.specs.Actions.{group_of}
+use Rattle.rt_undo.specs.Groups.{groups_of}
+use Rattle.rt_undo.specs.Renames.{Shown, now_of}
+use Rattle.rt_undo.specs.Undo.{History, renamed_by}
+
+-- The groups and the flag; which characters came back; and whether there is room for one more action or group.
+pub record UndoStacks : Type 0 where
+  pub history : History ℕ
+  pub moves : Shown Move
+  pub ready : Bool
+
+abbrev pub history_kept : Inside → History ℕ
+history_kept s = record {
+  closed = groups_of s.closed.items;
+  current = group_of s.current.items;
+  undone = groups_of s.undone.items;
+  kept = s.kept.items;
+  forced = s.forced;
+}
+
+-- stamps stand as they were recorded, and are seen as they are now
+abbrev pub shown : Inside → UndoStacks
+shown s = record { history = renamed_by (now_of s.renames) (history_kept s); moves = s.renames; ready = s.ready }
+
+-- room for an action, for a group that is closed before it, and for one that was reverted
+pub record HasRoom (s : Inside) : Type 0 where
+  pub closed : vec_len s.closed + 2 ≤ vec_capacity s.closed
+  pub current : vec_len s.current < vec_capacity s.current
+  pub spare : 0 < vec_capacity s.spare
+  pub undone : vec_len s.undone < vec_capacity s.undone
+
+pub record IsKept (s : Inside) : Type 0 where
+  pub spare : s.spare.items ≡ []
+  pub closing : 0 < vec_len s.current → vec_len s.closed < vec_capacity s.closed
+  pub ready : s.ready ≡ true → HasRoom s

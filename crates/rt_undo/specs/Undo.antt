@@ -1,0 +1,129 @@
+-- The undo stacks of a text, in the words of the Tk text manual ("The undo mechanism"), with stamps for positions.
+use Rattle.std.specs.Prelude.{ℕ, ◌-◌, ◌++◌, ◌||◌, ◌&&◌, ◌==◌, not, Bool, true, false, List, [], ◌∷◌, length, map, take, slice_get, Option, Some, None, if◌then◌else◌}
+use Rattle.std.specs.List.{flat_map}
+use Rattle.rt_stamps.specs.declared.stamp.Stamp.{Stamp}
+use Rattle.rt_stamps.specs.declared.stamp.Span.{Span}
+use Rattle.rt_undo.specs.declared.action.Kind.{Kind}
+use Rattle.rt_undo.specs.Actions.{Action, with_stamps, same_kind, is_replace}
+use Rattle.rt_undo.specs.Renames.{renamed, replaced}
+
+-- The actions between two separators are undone and redone as one: a group, oldest action first. A separator closes the group that
+-- takes the next action. The undo stack is the closed groups, oldest first, and behind them the group of the actions since the
+-- last separator, if there are any; the redo stack is the groups that were undone, the last of which is redone first. Kept are
+-- the numbers of the actions on the undo stack when the text was last said to be unmodified.
+pub record History (T : Type 0) : Type 0 where
+  pub closed : List (List (Action T))
+  pub current : List (Action T)
+  pub undone : List (List (Action T))
+  pub kept : List ℕ
+  pub forced : Bool
+
+-- nothing was done
+abbrev pub no_history : {T : Type 0} → History T
+no_history = record { closed = []; current = []; undone = []; kept = []; forced = false }
+
+-- a list as a group, if it has an action
+abbrev pub as_group : {X : Type 0} → List X → List (List X)
+as_group [] = []
+as_group (x ∷ xs) = (x ∷ xs) ∷ []
+
+abbrev pub last : {X : Type 0} → List X → Option X
+last xs = slice_get xs (length xs - 1)
+
+abbrev pub but_last : {X : Type 0} → List X → List X
+but_last xs = take (length xs - 1) xs
+
+-- the undo stack
+abbrev pub to_undo : {T : Type 0} → History T → List (List (Action T))
+to_undo h = h.closed ++ as_group h.current
+
+-- SEPARATORS AND ACTIONS
+
+-- a separator: the next action begins a group
+abbrev pub separated : {T : Type 0} → History T → History T
+separated h = record h { closed = to_undo h; current = [] }
+
+abbrev pub differs_from : {T : Type 0} → Kind → Option (Action T) → Bool
+differs_from kind None = false
+differs_from kind (Some action) = not (same_kind kind action.kind)
+
+-- With automatic separators one stands before each replacement, and where the kind differs from that of the last action since
+-- the last separator.
+abbrev pub asks_separator : {T : Type 0} → Kind → History T → Bool
+asks_separator kind h = is_replace kind || differs_from kind (last h.current)
+
+-- an action is recorded; what was undone can't be redone any more
+abbrev pub recorded : {T : Type 0} → Action T → History T → History T
+recorded action h = record h { current = h.current ++ action ∷ []; undone = [] }
+
+-- the same, with automatic separators or without
+abbrev pub added : {T : Type 0} → Bool → Action T → History T → History T
+added auto action h = recorded action (if auto && asks_separator action.kind h then separated h else h)
+
+-- UNDO AND REDO
+
+-- the group that is undone next, and the one that is redone next
+abbrev pub next_undo : {T : Type 0} → History T → Option (List (Action T))
+next_undo h = last (to_undo h)
+
+abbrev pub next_redo : {T : Type 0} → History T → Option (List (Action T))
+next_redo h = last h.undone
+
+-- The last group was reverted: it leaves the undo stack, and its reverted actions can be redone. The next action begins a group.
+abbrev pub undo_done : {T : Type 0} → List (Action T) → History T → History T
+undo_done reverted h = record h { closed = but_last (to_undo h); current = []; undone = h.undone ++ reverted ∷ [] }
+
+-- The group that was undone last was reverted: it leaves the redo stack, and its reverted actions can be undone. They are a
+-- closed group, and the next action begins another.
+abbrev pub redo_done : {T : Type 0} → List (Action T) → History T → History T
+redo_done reverted h = record h { closed = to_undo h ++ reverted ∷ []; current = []; undone = but_last h.undone }
+
+-- THE MODIFIED FLAG
+
+-- the numbers of the actions of groups
+abbrev pub numbers_in : {T : Type 0} → List (List (Action T)) → List ℕ
+numbers_in {T} groups = flat_map {X = List (Action T)} {A = ℕ} (λ group. map (λ action. action.number) group) groups
+
+-- the numbers of the actions that can be undone
+abbrev pub numbers : {T : Type 0} → History T → List ℕ
+numbers h = numbers_in (to_undo h)
+
+abbrev pub same_numbers : List ℕ → List ℕ → Bool
+same_numbers [] [] = true
+same_numbers (m ∷ ms) (n ∷ ns) = (m == n) && same_numbers ms ns
+same_numbers _ _ = false
+
+-- the flag was forced, or other actions can be undone than when the text was last said to be unmodified
+abbrev pub is_modified : {T : Type 0} → History T → Bool
+is_modified h = h.forced || not (same_numbers (numbers h) h.kept)
+
+abbrev pub forced_on : {T : Type 0} → History T → History T
+forced_on h = record h { forced = true }
+
+abbrev pub unmodified : {T : Type 0} → History T → History T
+unmodified h = record h { kept = numbers h; forced = false }
+
+-- both stacks are emptied; the flag stays as it is
+abbrev pub emptied : {T : Type 0} → History T → History T
+emptied h = record { closed = []; current = []; undone = []; kept = []; forced = is_modified h }
+
+-- CHARACTERS THAT COME BACK
+
+-- other stamps in the place of those of every action
+abbrev pub with_stamps_in : {T : Type 0} → (Stamp → Stamp) → List (Action T) → List (Action T)
+with_stamps_in f group = map (with_stamps f) group
+
+abbrev pub renamed_by : {T : Type 0} → (Stamp → Stamp) → History T → History T
+renamed_by f h = record h {
+  closed = map (with_stamps_in f) h.closed;
+  current = with_stamps_in f h.current;
+  undone = map (with_stamps_in f) h.undone;
+}
+
+-- a character came back under another stamp: this replaces the former one in every group
+abbrev pub replaced_in : {T : Type 0} → Stamp → Stamp → History T → History T
+replaced_in old new h = renamed_by (replaced old new) h
+
+-- the same for the characters of a span and stamps of consecutive counts
+abbrev pub came_back : {T : Type 0} → Span → Stamp → History T → History T
+came_back former newer h = renamed_by (renamed former newer) h

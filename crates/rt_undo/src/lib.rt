@@ -1,0 +1,15 @@
+//! The undo stacks of a site: groups of actions by stamps, and the modified flag (Tk text manual, "The
+//! undo mechanism"). The definitions stand in `specs/Undo.antt`.
+#![tactic(auto)]
+
+pub mod action;
+mod copies;
+pub mod examples;
+pub mod renames;
+pub mod stacks;
+#[cfg(test)]
+mod tests;
+
+pub use action::{Action, Kind, RemovedSpan};
+pub use renames::Renames;
+pub use stacks::Stacks;
