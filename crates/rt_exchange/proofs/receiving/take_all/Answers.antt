@@ -19,7 +19,7 @@ returns-in-Err g c =
     let ending = Some (c.in-Err.fault, slice_index_or offsets c.loop-op.i 0) in
     let last = stopped op rest offsets c.loop-op.i c.args.ending c.loop-op.view c.accept.new.self c.in-Err.fault there c.in-Err.ensures.refused c.in-Err.ensures.unchanged in
     let whole = before.goes_on (nothing_taken ending) c.accept.new.self
-        (subst (λ (ops : List Operation). Offers ops (drop c.loop-op.i offsets) c.args.ending c.loop-op.view (nothing_taken ending) c.accept.new.self) (sym first) last) in
+    (subst (λ (ops : List Operation). Offers ops (drop c.loop-op.i offsets) c.args.ending c.loop-op.view (nothing_taken ending) c.accept.new.self) (sym first) last) in
     subst (λ (r : Received). Offers c.args.ops.items offsets c.args.ending c.args.view.now r c.accept.new.self) (added_nothing c.loop-op.received ending) whole
 
 pub loop-op-preserved : goal.loop-op-preserved
@@ -34,19 +34,19 @@ loop-op-preserved g c =
     let there : i < length offsets = omega (arith, ap length first, before.left) in
     let answer = c.in-Ok.ensures.answer in
     let kind : (answer_of old.doc op ≡ New) ⊎ (answer_of old.doc op ≡ Repeat) =
-        subst (λ (a : Answer). (a ≡ New) ⊎ (a ≡ Repeat)) (sym answer) c.with-received.ensures.kind in
+    subst (λ (a : Answer). (a ≡ New) ⊎ (a ≡ Repeat)) (sym answer) c.with-received.ensures.kind in
     let counted : c.with-received.result ≡ one_more (answer_of old.doc op) c.loop-op.received =
-        c.with-received.ensures.counted ∙ ap (λ (a : Answer). one_more a c.loop-op.received) (sym answer) in
+    c.with-received.ensures.counted ∙ ap (λ (a : Answer). one_more a c.loop-op.received) (sym answer) in
     record {
       left = omega (arith, ap length first, before.left);
       counted = omega (arith, c.with-received.ensures.sum, before.counted);
       none = c.with-received.ensures.fault ∙ before.none;
       goes_on = λ received new k.
-        subst (λ (r : Received). Offers c.args.ops.items offsets c.args.ending c.args.view.now r new)
-        (sym (added_more (answer_of old.doc op) c.loop-op.received received) ∙ ap (λ (r : Received). added r received) (sym counted))
-        (before.goes_on (one_more (answer_of old.doc op) received) new
-        (subst (λ (ops : List Operation). Offers ops (drop i offsets) c.args.ending old (one_more (answer_of old.doc op) received) new) (sym first)
-        (goes_before op rest offsets i c.args.ending old c.accept.new.self new received there kind c.in-Ok.ensures.ok k)));
+          subst (λ (r : Received). Offers c.args.ops.items offsets c.args.ending c.args.view.now r new)
+          (sym (added_more (answer_of old.doc op) c.loop-op.received received) ∙ ap (λ (r : Received). added r received) (sym counted))
+          (before.goes_on (one_more (answer_of old.doc op) received) new
+          (subst (λ (ops : List Operation). Offers ops (drop i offsets) c.args.ending old (one_more (answer_of old.doc op) received) new) (sym first)
+          (goes_before op rest offsets i c.args.ending old c.accept.new.self new received there kind c.in-Ok.ensures.ok k)));
     }
 
 pub returns : goal.returns
