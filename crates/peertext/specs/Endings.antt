@@ -7,7 +7,7 @@ use Rattle.std.specs.declared.io.ErrorKind.TheVariants.{OutOfMemory}
 use Rattle.rt_stamps.specs.Fault.{number_of, text_of}
 use Rattle.rt_stamps.specs.declared.fault.Fault.{Fault}
 use Rattle.rt_stamps.specs.declared.fault.Fault.TheVariants.{NoMemory, WriteFault}
-use Rattle.rt_script.specs.declared.join.JoinFault.{JoinFault}
+use Rattle.rt_files.specs.declared.join.JoinFault.{JoinFault}
 use Rattle.peertext.specs.declared.ending.Failure.{Failure}
 
 -- 1 where the program failed: a refused command is a reply, and no failure

@@ -6,8 +6,9 @@ use Rattle.std.specs.declared.alloc.Global.{Global}
 use Rattle.rt_stamps.specs.declared.fault.Fault.{Fault}
 use Rattle.rt_stamps.specs.declared.fault.Fault.TheVariants.{NoMemory}
 use Rattle.rt_stamps.specs.declared.limits.TheConstants.{MOST_BYTES, MOST_CELLS}
+use Rattle.rt_stamps.specs.Streams.{Stream}
 use Rattle.rt_oplog.specs.File.{spelling}
-use Rattle.rt_script.specs.Run.{Stream, Ends}
+use Rattle.rt_script.specs.Run.{Ends}
 use Rattle.rt_script.specs.State.{State, new_state}
 use Rattle.rt_script.specs.Receiving.{Receives}
 use Rattle.rt_script.specs.Site.{NamedFile, SiteGives}

@@ -17,7 +17,8 @@ use Rattle.rt_oplog.specs.Operations.{Operation, stamp_of}
 use Rattle.rt_oplog.specs.Rules.{each_next}
 use Rattle.rt_oplog.specs.File.{magic, number, content_of, record_of, spelling, HasRecord, AreInFile}
 use Rattle.rt_oplog.specs.Reading.{file_name, head_fault, offsets_from, EndsEarly, IsEnd, ReadsAs, Reads, may_follow}
-use Rattle.rt_oplog.specs.Intake.{ReaderState, Takes, Finishes, IsStopped, HasNoRecord, Fails, GetsHead, FILE_BOUNDS, HasRead, IsTold, ReadsFile, LacksMemory}
+use Rattle.rt_stamps.specs.Streams.{Stream}
+use Rattle.rt_oplog.specs.Intake.{Takes, Finishes, IsStopped, HasNoRecord, Fails, GetsHead, FILE_BOUNDS, HasRead, IsTold, ReadsFile, LacksMemory}
 use Rattle.rt_oplog.proofs.Lengths.{length_4, same_front, content_short}
 use Rattle.rt_oplog.proofs.Spells.{front_same_4, same_content}
 use Rattle.rt_oplog.proofs.Taken.{takes_then, finishes_then, stopped_then, magic_length}
@@ -143,10 +144,10 @@ reads_head bytes front rest fault parts short end found =
 
 -- ---- how reading a file ends
 
-pub has_read : (a b : ReaderState) (y : Bounds) (bytes : List ℕ) → Takes a b FILE_BOUNDS y bytes → HasRead a b bytes
+pub has_read : (a b : Stream) (y : Bounds) (bytes : List ℕ) → Takes a b FILE_BOUNDS y bytes → HasRead a b bytes
 has_read a b y bytes h = record { consumed = h.consumed; within = omega (arith, h.room); failures = h.failures; calls = omega (arith, h.calls, h.room) }
 
-pub has_finished : (a b : ReaderState) (y : Bounds) (bytes : List ℕ) → Finishes a b FILE_BOUNDS y bytes → HasRead a b bytes
+pub has_finished : (a b : Stream) (y : Bounds) (bytes : List ℕ) → Finishes a b FILE_BOUNDS y bytes → HasRead a b bytes
 has_finished a b y bytes h = record { consumed = h.consumed; within = omega (arith, h.room); failures = h.failures; calls = omega (arith, h.calls, h.room) }
 
 kinds_of_head : (a b c : Bool) (fault : Fault) → cond (not a) (Some BadMagic) (cond b (Some Truncated) (cond c None (Some BadVersion))) ≡ Some fault → fault ≡ NoMemory → ⊥
@@ -159,12 +160,12 @@ kinds_of_head true false false fault e is = cc
 not_memory : (front : List ℕ) (fault : Fault) → head_fault front ≡ Some fault → fault ≡ NoMemory → ⊥
 not_memory front fault e = kinds_of_head (bytes_eq (take 7 front) (take (length front) file_name)) (nat_lt (length front) 8) (bytes_eq front magic) fault e
 
-pub ends_whole : (a b c : ReaderState) (y z : Bounds) (ops : List Operation) (offsets : List ℕ) → Takes a b FILE_BOUNDS y (spelling ops) → AreInFile ops → offsets ≡ offsets_from 8 ops → Finishes b c y z [] → ReadsFile a c ops offsets None
+pub ends_whole : (a b c : Stream) (y z : Bounds) (ops : List Operation) (offsets : List ℕ) → Takes a b FILE_BOUNDS y (spelling ops) → AreInFile ops → offsets ≡ offsets_from 8 ops → Finishes b c y z [] → ReadsFile a c ops offsets None
 ends_whole a b c y z ops offsets h are off e =
     let bytes = spelling ops ++ [] in
     inl (bytes, has_finished a c z bytes (finishes_then a b c FILE_BOUNDS y z (spelling ops) [] h e), inl (e.at_end, reads_records bytes ops offsets None [] refl are off refl))
 
-pub ends_fault : (a b c : ReaderState) (y z : Bounds) (ops : List Operation) (offsets : List ℕ) (fault : Fault) (at : ℕ) → Takes a b FILE_BOUNDS y (spelling ops) → AreInFile ops → offsets ≡ offsets_from 8 ops → Fails b c y z fault
+pub ends_fault : (a b c : Stream) (y z : Bounds) (ops : List Operation) (offsets : List ℕ) (fault : Fault) (at : ℕ) → Takes a b FILE_BOUNDS y (spelling ops) → AreInFile ops → offsets ≡ offsets_from 8 ops → Fails b c y z fault
     → (fault ≡ NoMemory → ⊥) → at ≡ length (spelling ops) → ReadsFile a c ops offsets (Some (fault, at))
 ends_fault a b c y z ops offsets fault at h are off fails other place = by fails.1
   where
@@ -208,7 +209,7 @@ ends_fault a b c y z ops offsets fault at h are off fails other place = by fails
     by (inr (inr (inr t))) = inr (at, spelling ops ++ taken, ap (λ f. Some (f, at)) t.0, inr (taken, refl, are, off, place, t.2), stopped_then a b c FILE_BOUNDS y (spelling ops) taken h t.1)
 
 -- the record of an operation that may not follow
-pub ends_unrisen : (a b c : ReaderState) (y z : Bounds) (ops : List Operation) (offsets : List ℕ) (op : Operation) (at : ℕ) → Takes a b FILE_BOUNDS y (spelling ops) → AreInFile ops → offsets ≡ offsets_from 8 ops → Takes b c y z (record_of op) → HasRecord op
+pub ends_unrisen : (a b c : Stream) (y z : Bounds) (ops : List Operation) (offsets : List ℕ) (op : Operation) (at : ℕ) → Takes a b FILE_BOUNDS y (spelling ops) → AreInFile ops → offsets ≡ offsets_from 8 ops → Takes b c y z (record_of op) → HasRecord op
     → may_follow (slice_get ops (length ops - 1)) op ≡ false → at ≡ length (spelling ops) → ReadsFile a c ops offsets (Some (BadRecord, at))
 ends_unrisen a b c y z ops offsets op at h are off t has out place =
     let bytes = spelling ops ++ record_of op in
@@ -230,7 +231,7 @@ ends_unrisen a b c y z ops offsets op at h are off t has out place =
       )),
     )
 
-pub ends_head : (a b : ReaderState) (y : Bounds) (fault : Fault) → (bytes : List ℕ) × (((fault ≡ NoMemory) × Takes a b FILE_BOUNDS y bytes)
+pub ends_head : (a b : Stream) (y : Bounds) (fault : Fault) → (bytes : List ℕ) × (((fault ≡ NoMemory) × Takes a b FILE_BOUNDS y bytes)
     ⊎ (((head_fault bytes ≡ Some fault) × (length bytes ≤ 8) × (8 ≤ length bytes → Takes a b FILE_BOUNDS y bytes) × (length bytes < 8 → Finishes a b FILE_BOUNDS y bytes))
     ⊎ ((fault ≡ ReadFault) × IsStopped a b FILE_BOUNDS bytes × (length bytes < 8)))) → (fault ≡ NoMemory → ⊥) → ReadsFile a b [] [] (Some (fault, 0))
 ends_head a b y fault gets other = by gets.1
@@ -241,7 +242,7 @@ ends_head a b y fault gets other = by gets.1
     read : (8 ≤ length bytes → Takes a b FILE_BOUNDS y bytes) → (length bytes < 8 → Finishes a b FILE_BOUNDS y bytes) → HasRead a b bytes
     read takes finishes = elim (cases_lt (length bytes) 8) [ inl lt ↦ has_finished a b y bytes (finishes lt) | inr le ↦ has_read a b y bytes (takes le) ]
 
-    told : head_fault bytes ≡ Some fault → length bytes ≤ 8 → (length bytes < 8 → IsAtEnd b.left) → IsTold b.left bytes [] [] (Some (fault, 0))
+    told : head_fault bytes ≡ Some fault → length bytes ≤ 8 → (length bytes < 8 → IsAtEnd b.bytes) → IsTold b.bytes bytes [] [] (Some (fault, 0))
     told found short end = elim (cases_lt (length bytes) 8) [
       | inl lt ↦ inl (end lt, reads_head bytes bytes [] fault (sym (append-nil bytes)) short (λ less. refl) found)
       | inr le ↦ inr (λ rest. reads_head (bytes ++ rest) bytes rest fault refl short (λ lt. absurd (omega (arith, le, lt))) found)
@@ -272,13 +273,13 @@ pub each_has_place : {R : Type 0} (result : Result R Fault) (bytes : List ℕ) (
 each_has_place (Ok r) bytes view places found h = reads_length bytes (view r) (places r) (found r) h
 each_has_place (Err fault) bytes view places found h = tt
 
-pub offset_each : (a b : ReaderState) (ops : List Operation) (offsets : List ℕ) (fault : Option (Fault × ℕ)) → ReadsFile a b ops offsets fault → length offsets ≡ length ops
+pub offset_each : (a b : Stream) (ops : List Operation) (offsets : List ℕ) (fault : Option (Fault × ℕ)) → ReadsFile a b ops offsets fault → length offsets ≡ length ops
 offset_each a b ops offsets fault (inl h) = elim h.2 [ inl t ↦ reads_length h.0 ops offsets fault t.1 | inr f ↦ reads_length (h.0 ++ []) ops offsets fault (f []) ]
 offset_each a b ops offsets fault (inr h) = elim h.3 [ inl s ↦ ap length s.2 ∙ sym (ap length s.1) | inr s ↦ ap length s.3 ∙ offsets_length 8 ops ]
 
 -- ---- want of memory
 
-pub memory_in : (a b c : ReaderState) (y z : Bounds) (taken : List ℕ) (fault : Fault) → Takes a b FILE_BOUNDS y taken → Fails b c y z fault → fault ≡ NoMemory → LacksMemory a c
+pub memory_in : (a b c : Stream) (y z : Bounds) (taken : List ℕ) (fault : Fault) → Takes a b FILE_BOUNDS y taken → Fails b c y z fault → fault ≡ NoMemory → LacksMemory a c
 memory_in a b c y z taken fault h fails is = by fails.1
   where
     more : List ℕ
@@ -293,10 +294,10 @@ memory_in a b c y z taken fault h fails is = by fails.1
     by (inr (inr (inl t))) = absurd (cc (is, t.0))
     by (inr (inr (inr t))) = absurd (cc (is, t.0))
 
-pub memory_after : (a b c : ReaderState) (y z : Bounds) (taken more : List ℕ) → Takes a b FILE_BOUNDS y taken → Takes b c y z more → LacksMemory a c
+pub memory_after : (a b c : Stream) (y z : Bounds) (taken more : List ℕ) → Takes a b FILE_BOUNDS y taken → Takes b c y z more → LacksMemory a c
 memory_after a b c y z taken more h k = (taken ++ more, has_read a c z (taken ++ more) (takes_then a b c FILE_BOUNDS y z taken more h k))
 
-pub memory_first : (a b : ReaderState) (y : Bounds) (fault : Fault) → GetsHead a b FILE_BOUNDS y (Err fault) → fault ≡ NoMemory → LacksMemory a b
+pub memory_first : (a b : Stream) (y : Bounds) (fault : Fault) → GetsHead a b FILE_BOUNDS y (Err fault) → fault ≡ NoMemory → LacksMemory a b
 memory_first a b y fault gets is = by gets.1
   where
     bytes : List ℕ
@@ -313,19 +314,19 @@ memory_first a b y fault gets is = by gets.1
     by (inr (inr t)) = absurd (cc (is, t.0))
 
 -- what was read up to a fault
-pub ended_reads : {R : Type 0} (result : Result R Fault) (view : R → List Operation) (places : R → List ℕ) (found : R → Option (Fault × ℕ)) (a c : ReaderState) (ops : List Operation) (offsets : List ℕ) (fault : Fault) (at : ℕ)
+pub ended_reads : {R : Type 0} (result : Result R Fault) (view : R → List Operation) (places : R → List ℕ) (found : R → Option (Fault × ℕ)) (a c : Stream) (ops : List Operation) (offsets : List ℕ) (fault : Fault) (at : ℕ)
     → IfOk result (λ r. view r ≡ ops) → IfOk result (λ r. places r ≡ offsets) → IfOk result (λ r. (found r ≡ Some (fault, at)) × (fault ≡ NoMemory → ⊥))
     → ((fault ≡ NoMemory → ⊥) → ReadsFile a c ops offsets (Some (fault, at))) → IfOk result (λ r. ReadsFile a c (view r) (places r) (found r))
 ended_reads (Ok r) view places found a c ops offsets fault at v p f reads = rw (v, p, f.0) (reads f.1)
 ended_reads (Err refused) view places found a c ops offsets fault at v p f reads = tt
 
-pub ended_memory : {R : Type 0} (result : Result R Fault) (a c : ReaderState) (fault : Fault) → IfErr result (λ refused. (refused ≡ NoMemory) × (fault ≡ NoMemory)) → (fault ≡ NoMemory → LacksMemory a c)
+pub ended_memory : {R : Type 0} (result : Result R Fault) (a c : Stream) (fault : Fault) → IfErr result (λ refused. (refused ≡ NoMemory) × (fault ≡ NoMemory)) → (fault ≡ NoMemory → LacksMemory a c)
     → IfErr result (λ refused. (refused ≡ NoMemory) × LacksMemory a c)
 ended_memory (Ok r) a c fault h lacks = tt
 ended_memory (Err refused) a c fault h lacks = (h.0, lacks h.1)
 
 -- one more record is read
-pub records_more : (a b c : ReaderState) (y z : Bounds) (ops : List Operation) (offsets : List ℕ) (op : Operation) (at : ℕ) → Takes a b FILE_BOUNDS y (spelling ops) → AreInFile ops → offsets ≡ offsets_from 8 ops → Takes b c y z (record_of op) → HasRecord op
+pub records_more : (a b c : Stream) (y z : Bounds) (ops : List Operation) (offsets : List ℕ) (op : Operation) (at : ℕ) → Takes a b FILE_BOUNDS y (spelling ops) → AreInFile ops → offsets ≡ offsets_from 8 ops → Takes b c y z (record_of op) → HasRecord op
     → may_follow (slice_get ops (length ops - 1)) op ≡ true → at ≡ length (spelling ops)
     → Takes a c FILE_BOUNDS z (spelling (ops ++ op ∷ [])) × AreInFile (ops ++ op ∷ []) × (offsets ++ at ∷ [] ≡ offsets_from 8 (ops ++ op ∷ []))
 records_more a b c y z ops offsets op at h are off t has f place = (

@@ -105,8 +105,8 @@ fn read_head<R: Source>(
     buffer: &mut Vec<u8>,
 ) -> Result<(), Fault>
     ensures { GetsHead
-        (record { calls = R.calls reader.old; failures = R.failures reader.old; left = R.remaining reader.old })
-        (record { calls = R.calls reader.new; failures = R.failures reader.new; left = R.remaining reader.new })
+        (record { calls = R.calls reader.old; failures = R.failures reader.old; bytes = R.remaining reader.old })
+        (record { calls = R.calls reader.new; failures = R.failures reader.new; bytes = R.remaining reader.new })
         bounds.old bounds.new result }
 {
     gather(reader, bounds, buffer, HEAD_BYTES)?;
@@ -150,12 +150,12 @@ fn ended(ops: Vec<Op>, offsets: Vec<u64>, fault: Fault, offset: u64) -> Result<R
 /// of the record in which it came. No more than `MOST_READS` reads are made.
 pub fn read_file<R: Source>(alloc: Global, reader: &mut R) -> Result<Reading, Fault>
     ensures reads { IfOk result (λ reading. ReadsFile
-        (record { calls = R.calls reader.old; failures = R.failures reader.old; left = R.remaining reader.old })
-        (record { calls = R.calls reader.new; failures = R.failures reader.new; left = R.remaining reader.new })
+        (record { calls = R.calls reader.old; failures = R.failures reader.old; bytes = R.remaining reader.old })
+        (record { calls = R.calls reader.new; failures = R.failures reader.new; bytes = R.remaining reader.new })
         reading.ops.items reading.offsets.items reading.fault) }
     ensures memory { IfErr result (λ fault. (fault ≡ NoMemory) × LacksMemory
-        (record { calls = R.calls reader.old; failures = R.failures reader.old; left = R.remaining reader.old })
-        (record { calls = R.calls reader.new; failures = R.failures reader.new; left = R.remaining reader.new })) }
+        (record { calls = R.calls reader.old; failures = R.failures reader.old; bytes = R.remaining reader.old })
+        (record { calls = R.calls reader.new; failures = R.failures reader.new; bytes = R.remaining reader.new })) }
 {
     let mut ops = Vec::new(alloc);
     let mut offsets = Vec::new(alloc);
@@ -189,8 +189,8 @@ pub fn read_file<R: Source>(alloc: Global, reader: &mut R) -> Result<Reading, Fa
 /// `MOST_BYTES` bytes; `NoMemory` where a growth was refused.
 pub fn read_whole<R: Source>(alloc: Global, reader: &mut R) -> Result<Vec<u8>, Fault>
     ensures { ReadsWhole
-        (record { calls = R.calls reader.old; failures = R.failures reader.old; left = R.remaining reader.old })
-        (record { calls = R.calls reader.new; failures = R.failures reader.new; left = R.remaining reader.new })
+        (record { calls = R.calls reader.old; failures = R.failures reader.old; bytes = R.remaining reader.old })
+        (record { calls = R.calls reader.new; failures = R.failures reader.new; bytes = R.remaining reader.new })
         result }
 {
     let mut bounds = Bounds { bytes: MOST_BYTES };

@@ -1,37 +1,19 @@
 // Records, taken from a reader within the bounds of a file.
 ghost use Rattle.std.specs.Prelude.{◌≡◌, ◌+◌, ◌<◌, ◌≤◌, length, max, IfOk};
-ghost use Rattle.std.specs.Io.KnownBytes.{ReadConsumes};
-ghost use Rattle.rt_stamps.specs.Source.{failed_reads};
 ghost use Rattle.rt_oplog.specs.Rules.{is_within};
 ghost use Rattle.rt_oplog.specs.Intake.{GetsSome, Gathers, GetsLength, GetsRecord};
 
 use crate::Op;
 use crate::decode::decode;
 use crate::fields::{LENGTH_BYTES, u32_at};
-use rt_stamps::limits::{FEWEST_RECORD_BYTES, MOST_RECORD_BYTES};
-use rt_stamps::{Failed, Fault, Source};
+use rt_stamps::limits::{FEWEST_RECORD_BYTES, MOST_RECORD_BYTES, PIECE_BYTES};
+use rt_stamps::{Fault, Source, read_piece};
 use std::alloc::Global;
-
-/// The most bytes of one read.
-const PIECE_BYTES: usize = 1024;
 
 /// What a file may still take.
 #[derive(Clone, Copy)]
 pub struct Bounds {
     pub bytes: usize,
-}
-
-/// Reads a piece of at most so many bytes, but always of one at least.
-fn read_piece<R: Source>(reader: &mut R, buf: &mut [u8], most: usize) -> Result<usize, Failed>
-    requires { 0 < length buf.old }
-    ensures calls { R.calls reader.new ≡ R.calls reader.old + 1 }
-    ensures failures { R.failures reader.new ≡ R.failures reader.old + failed_reads result }
-    ensures bytes { ReadConsumes (R.remaining reader.old) (R.remaining reader.new) result buf.new }
-    ensures within { IfOk result (λ n. n ≤ length buf.new) }
-    ensures bounded { IfOk result (λ n. n ≤ max most 1) }
-{
-    let limit = most.max(1).min(buf.len());
-    reader.read(&mut buf[..limit])
 }
 
 /// Reads a piece of at most so many bytes within the bounds. Where these allow no byte it reads
@@ -45,8 +27,8 @@ fn read_some<R: Source>(
     requires buffer { 0 < length buf.old }
     requires most { 0 < most }
     ensures { GetsSome
-        (record { calls = R.calls reader.old; failures = R.failures reader.old; left = R.remaining reader.old })
-        (record { calls = R.calls reader.new; failures = R.failures reader.new; left = R.remaining reader.new })
+        (record { calls = R.calls reader.old; failures = R.failures reader.old; bytes = R.remaining reader.old })
+        (record { calls = R.calls reader.new; failures = R.failures reader.new; bytes = R.remaining reader.new })
         bounds.old bounds.new most result buf.new }
 {
     let n = match read_piece(reader, buf, bounds.bytes.min(most)) {
@@ -68,8 +50,8 @@ pub fn gather<R: Source>(
     wanted: usize,
 ) -> Result<(), Fault>
     ensures { Gathers
-        (record { calls = R.calls reader.old; failures = R.failures reader.old; left = R.remaining reader.old })
-        (record { calls = R.calls reader.new; failures = R.failures reader.new; left = R.remaining reader.new })
+        (record { calls = R.calls reader.old; failures = R.failures reader.old; bytes = R.remaining reader.old })
+        (record { calls = R.calls reader.new; failures = R.failures reader.new; bytes = R.remaining reader.new })
         bounds.old bounds.new wanted result buffer.new.items }
 {
     buffer.clear();
@@ -98,8 +80,8 @@ fn next_length<R: Source>(
     buffer: &mut Vec<u8>,
 ) -> Result<Option<usize>, Fault>
     ensures { GetsLength
-        (record { calls = R.calls reader.old; failures = R.failures reader.old; left = R.remaining reader.old })
-        (record { calls = R.calls reader.new; failures = R.failures reader.new; left = R.remaining reader.new })
+        (record { calls = R.calls reader.old; failures = R.failures reader.old; bytes = R.remaining reader.old })
+        (record { calls = R.calls reader.new; failures = R.failures reader.new; bytes = R.remaining reader.new })
         bounds.old bounds.new result }
 {
     gather(reader, bounds, buffer, LENGTH_BYTES)?;
@@ -126,8 +108,8 @@ pub fn next_op<R: Source>(
     buffer: &mut Vec<u8>,
 ) -> Result<Option<Op>, Fault>
     ensures { GetsRecord
-        (record { calls = R.calls reader.old; failures = R.failures reader.old; left = R.remaining reader.old })
-        (record { calls = R.calls reader.new; failures = R.failures reader.new; left = R.remaining reader.new })
+        (record { calls = R.calls reader.old; failures = R.failures reader.old; bytes = R.remaining reader.old })
+        (record { calls = R.calls reader.new; failures = R.failures reader.new; bytes = R.remaining reader.new })
         bounds.old bounds.new result }
 {
     let length = match next_length(reader, bounds, buffer)? {

@@ -6,7 +6,8 @@ ghost use Rattle.rt_stamps.specs.declared.fault.Fault.TheVariants.{Conflict, Rea
 ghost use Rattle.rt_stamps.specs.declared.limits.TheConstants.{MOST_READS};
 ghost use Rattle.rt_oplog.specs.Operations.{Operation};
 ghost use Rattle.rt_oplog.specs.File.{HasRecord, AreInFile, spelling};
-ghost use Rattle.rt_oplog.specs.Intake.{ReaderState, ReadsFile};
+ghost use Rattle.rt_stamps.specs.Streams.{Stream};
+ghost use Rattle.rt_oplog.specs.Intake.{ReadsFile};
 ghost use Rattle.rt_oplog.specs.Reading.{Reads, offsets_from};
 ghost use Rattle.rt_oplog.specs.Logs.{IsLog, IsUnion, HasClashOf, joined, joins};
 ghost use Rattle.rt_oplog.specs.Outcomes.{IsLogOf, IsFirstRefused};
@@ -44,11 +45,11 @@ pub fn logs()
 /// with the offset of its record. Known bytes are told as what they are read as. No more than
 /// `MOST_READS` reads are made.
 pub fn readings()
-    ensures told { (old new : ReaderState) (ops : List Operation) (offsets : List ℕ) (fault : Option (Fault × ℕ))
+    ensures told { (old new : Stream) (ops : List Operation) (offsets : List ℕ) (fault : Option (Fault × ℕ))
         → ReadsFile old new ops offsets fault → AreInFile ops × (offsets ≡ offsets_from 8 ops) }
-    ensures known { (old new : ReaderState) (bytes : List ℕ) (ops : List Operation) (offsets : List ℕ) (fault : Option (Fault × ℕ)) → old.left
+    ensures known { (old new : Stream) (bytes : List ℕ) (ops : List Operation) (offsets : List ℕ) (fault : Option (Fault × ℕ)) → old.bytes
         ≡ Some bytes
         → ((at : ℕ) → fault ≡ Some (ReadFault, at) → ⊥) → ReadsFile old new ops offsets fault → Reads bytes ops offsets fault }
-    ensures reads { (old new : ReaderState) (ops : List Operation) (offsets : List ℕ) (fault : Option (Fault × ℕ))
+    ensures reads { (old new : Stream) (ops : List Operation) (offsets : List ℕ) (fault : Option (Fault × ℕ))
         → ReadsFile old new ops offsets fault → new.calls ≤ old.calls + MOST_READS }
 {}

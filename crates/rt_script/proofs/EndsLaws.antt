@@ -8,8 +8,9 @@ use Rattle.rt_stamps.specs.declared.fault.Fault.TheVariants.{NoMemory, ReadFault
 use Rattle.rt_stamps.specs.declared.limits.TheConstants.{MOST_BYTES, MOST_READS}
 use Rattle.rt_stamps.specs.Lines.{cut, complete_of, rest_of, last_of, lines_of}
 use Rattle.rt_stamps.specs.Words.{Word}
+use Rattle.rt_stamps.specs.Streams.{Stream}
 use Rattle.rt_script.specs.declared.answer.Answer.{Answer}
-use Rattle.rt_script.specs.Run.{Ran, RanFront, RanUnwritten, Stream, Ends}
+use Rattle.rt_script.specs.Run.{Ran, RanFront, RanUnwritten, Ends}
 use Rattle.rt_script.specs.Pieces.{kept, RanLines}
 use Rattle.rt_script.proofs.LinesLaws.{complete_append, rest_append, cut_rest}
 use Rattle.rt_script.proofs.RunLaws.{ran_then, front_then, unwritten_then, lines_append}

@@ -1,4 +1,3 @@
-pub mod Files
 pub mod Pieces
 pub mod Replies
 pub mod Run
@@ -11,6 +10,7 @@ pub use Rattle.rt_stamps.specs.Outcomes
 pub use Rattle.rt_stamps.specs.Places
 pub use Rattle.rt_stamps.specs.Words
 pub use Rattle.rt_stamps.specs.Written
+pub use Rattle.rt_files.specs.Files
 pub use Rattle.rt_edits.specs.Flat
 pub use Rattle.rt_text.specs.Index
 pub use Rattle.rt_text.specs.Commands

@@ -5,6 +5,7 @@ use Rattle.rt_stamps.specs.declared.limits.TheConstants.{MOST_BYTES, MOST_READS}
 use Rattle.rt_stamps.specs.declared.fault.Fault.{Fault}
 use Rattle.rt_stamps.specs.declared.fault.Fault.TheVariants.{NoMemory, BadQuoting, ReadFault, WriteFault}
 use Rattle.rt_stamps.specs.Lines.{is_readable, answered, complete_of, lines_of}
+use Rattle.rt_stamps.specs.Streams.{Stream}
 use Rattle.rt_stamps.specs.Words.{Word, Spells, IsBadlyQuoted}
 use Rattle.rt_stamps.specs.Written.{AppendsPart}
 use Rattle.rt_script.specs.declared.answer.Answer.{Answer}
@@ -52,12 +53,6 @@ pub record RanUnwritten {S : Type 0} (gives : S → List Word → Answer → S �
   pub here : Option (List ℕ)
   pub wrote : Appends before here (flat_map reply_line answers)
   pub part : AppendsPart here after (reply_line last)
-
--- what a reader or a writer tells of itself: its calls, those that failed, and its bytes where they are known
-pub record Stream : Type 0 where
-  pub calls : ℕ
-  pub failures : ℕ
-  pub bytes : Option (List ℕ)
 
 -- A run of a script ended: what was read of it, what was run and written, and when each fault comes.
 pub record Ends {S : Type 0} (gives : S → List Word → Answer → S → Type 0) (old new : S) (script left before after : Stream) (fault : Option Fault) : Type 0 where

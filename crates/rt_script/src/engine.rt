@@ -1,9 +1,8 @@
 // Runs of scripts.
 ghost use Rattle.std.specs.Prelude.{◌≡◌, ℕ, ◌+◌, ◌<◌, ◌≤◌, ◌&&◌, ◌∷◌, ◌++◌, [], true, false, List, length, IfOk, IfErr, OnOk, IfSome, MatchOption};
 ghost use Rattle.std.specs.List.{list_all};
-ghost use Rattle.std.specs.Io.KnownBytes.{ReadConsumes};
 ghost use Rattle.rt_stamps.specs.Lines.{cut, without_return, is_blank, is_readable, is_silent, complete_of, rest_of, last_of, lines_of};
-ghost use Rattle.rt_stamps.specs.Source.{failed_reads, failures_of};
+ghost use Rattle.rt_stamps.specs.Source.{failures_of};
 ghost use Rattle.rt_stamps.specs.Written.{Wrote};
 ghost use Rattle.rt_script.specs.Pieces.{kept, RanLine, RanLines};
 ghost use Rattle.rt_script.specs.Replies.{reply_line};
@@ -11,9 +10,9 @@ ghost use Rattle.rt_script.specs.Run.{LineGives, Ends};
 
 use crate::reply::reply_line;
 use crate::{Answer, Commands};
-use rt_stamps::limits::{MOST_BYTES, MOST_LINE_BYTES, MOST_READS};
+use rt_stamps::limits::{MOST_BYTES, MOST_LINE_BYTES, MOST_READS, PIECE_BYTES};
 use rt_stamps::std_ends::{Count, Writer};
-use rt_stamps::{Failed, Fault, Sink, Source, write_all};
+use rt_stamps::{Fault, Sink, Source, is_blank, read_piece, write_all};
 use rt_words::words::words;
 use std::alloc::Global;
 use std::marker::Brand;
@@ -33,9 +32,6 @@ pub struct Ended<C: Drop> {
 // The most bytes that are kept of a line. One that has more can't be read, even if its last byte
 // is a carriage return.
 const MOST_KEPT_BYTES: usize = MOST_LINE_BYTES + 2;
-
-// The most bytes of one read.
-const PIECE_BYTES: usize = 1024;
 
 // A line without a carriage return at its end.
 fn without_return(line: &[u8]) -> &[u8]
@@ -58,12 +54,6 @@ fn readable(line: &[u8]) -> Option<&str>
         Ok(text) => Some(text),
         Err(_) => None,
     }
-}
-
-fn is_blank(byte: u8) -> bool
-    ensures { result ≡ is_blank byte }
-{
-    matches!(byte, b' ' | b'\t')
 }
 
 fn are_blank(bytes: &[u8]) -> bool
@@ -212,20 +202,6 @@ fn finish<C: Commands, W: Sink>(
         return Ok(());
     }
     run_line(alloc, site, pending, out)
-}
-
-// Reads a piece of a script of which so many bytes may still be run. Where that is none, it reads
-// one byte, which tells whether the script ends there.
-fn read_piece<R: Source>(script: &mut R, buf: &mut [u8], room: usize) -> Result<usize, Failed>
-    requires { 0 < length buf.old }
-    ensures calls { R.calls script.new ≡ R.calls script.old + 1 }
-    ensures failures { R.failures script.new ≡ R.failures script.old + failed_reads result }
-    ensures bytes { ReadConsumes (R.remaining script.old) (R.remaining script.new) result buf.new }
-    ensures within { IfOk result (λ n. n ≤ length buf.new) }
-    ensures bounded { IfOk result (λ n. 0 < room → n ≤ room) }
-{
-    let limit = room.max(1).min(buf.len());
-    script.read(&mut buf[..limit])
 }
 
 /// Runs a script, and writes the line of each answer.

@@ -4,7 +4,6 @@
 pub mod answer;
 pub mod commands;
 pub mod engine;
-pub mod join;
 #[cfg(test)]
 mod join_tests;
 pub mod laws;
@@ -12,7 +11,6 @@ pub mod reply;
 #[cfg(test)]
 mod samples;
 pub mod scripts;
-pub mod show;
 pub mod site_lines;
 #[cfg(test)]
 mod site_tests;
@@ -24,10 +22,9 @@ mod tests;
 pub use answer::Answer;
 pub use commands::Commands;
 pub use engine::Ended;
-pub use join::{JoinFault, join_files};
 pub use reply::reply_line;
+pub use rt_files::{JoinFault, join_files, show_file};
 pub use rt_peers::{Command, Received, Reply, SiteState};
 pub use rt_words::words;
 pub use scripts::run;
-pub use show::show_file;
 pub use site_lines::Session;

@@ -7,5 +7,6 @@ pub mod Places
 pub mod Source
 pub mod Spans
 pub mod Stamps
+pub mod Streams
 pub mod Words
 pub mod Written

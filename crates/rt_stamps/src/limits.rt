@@ -35,3 +35,6 @@ pub const MOST_BYTES: usize = 0x4000_0000;
 
 /// The most reads of a script or a file, 2^31.
 pub const MOST_READS: usize = 0x8000_0000;
+
+/// The most bytes of one read.
+pub const PIECE_BYTES: usize = 1024;

@@ -1,5 +1,5 @@
 // Readers and writers whose calls a contract counts.
-ghost use Rattle.std.specs.Prelude.{◌≡◌, ℕ, ◌+◌, List, Option};
+ghost use Rattle.std.specs.Prelude.{◌≡◌, ℕ, ◌+◌, ◌<◌, ◌≤◌, List, Option, length, max, IfOk};
 ghost use Rattle.std.specs.Io.{ReadsAtMost, WritesAtMost};
 ghost use Rattle.std.specs.Io.KnownBytes.{ReadConsumes, WriteAppends};
 ghost use Rattle.rt_stamps.specs.Source.{failed_reads, failed_writes};
@@ -45,4 +45,18 @@ pub trait Sink {
         ensures failures { failures self.new ≡ failures self.old + failed_writes result piece.now }
         ensures bound { WritesAtMost result piece.now }
         ensures bytes { WriteAppends (contents self.old) (contents self.new) result piece.now };
+}
+
+/// One read into the front of a buffer, of at most so many bytes where that is some, and else of one byte, which tells
+/// whether there are more. Answers how many came: 0 only at the end.
+pub fn read_piece<R: Source>(reader: &mut R, buf: &mut [u8], most: usize) -> Result<usize, Failed>
+    requires { 0 < length buf.old }
+    ensures calls { R.calls reader.new ≡ R.calls reader.old + 1 }
+    ensures failures { R.failures reader.new ≡ R.failures reader.old + failed_reads result }
+    ensures bytes { ReadConsumes (R.remaining reader.old) (R.remaining reader.new) result buf.new }
+    ensures within { IfOk result (λ n. n ≤ length buf.new) }
+    ensures bounded { IfOk result (λ n. n ≤ max most 1) }
+{
+    let limit = most.max(1).min(buf.len());
+    reader.read(&mut buf[..limit])
 }

@@ -1,11 +1,19 @@
 // Words, written.
 ghost use Rattle.std.specs.Prelude.{◌≡◌, ◌+◌, ◌<◌, ◌∷◌, ◌++◌, [], IfErr, flat_map, encode_utf8, encode_utf8_all};
 ghost use Rattle.std.specs.List.{list_any};
+ghost use Rattle.rt_stamps.specs.Lines.{is_blank};
 ghost use Rattle.rt_stamps.specs.Source.{failures_of};
 ghost use Rattle.rt_stamps.specs.Words.{escape_of, needs_quotes, text_of_word};
 ghost use Rattle.rt_stamps.specs.Written.{Wrote};
 
 use crate::{Fault, Sink, write_all};
+
+/// Whether a byte separates the words of a line: a space or a tab.
+pub fn is_blank(byte: u8) -> bool
+    ensures { result ≡ is_blank byte }
+{
+    matches!(byte, b' ' | b'\t')
+}
 
 /// Writes a word: bare, or in quotes where it is empty or has a space, a tab, a newline, a carriage
 /// return, a quote, a backslash or a brace. `WriteFault` where a write fails or takes nothing; a

@@ -1,12 +1,11 @@
 // The words of a line and of a list.
 ghost use Rattle.std.specs.Prelude.{◌≡◌, ◌≢◌, ◌⊎◌, ℕ, ◌<◌, ◌≤◌, ◌∷◌, [], IfOk, IfErr, MatchOption, MatchResult, drop, map, not, false, length, slice_index, string_bytes};
 ghost use Rattle.std.specs.List.{prefix_len};
-ghost use Rattle.rt_stamps.specs.Lines.{is_blank};
 ghost use Rattle.rt_stamps.specs.Words.{EndsWord, Spells, SpellsBy, SpellsList, IsBadlyQuoted, IsBadlyQuotedBy, IsBadlyQuotedList, escape_of};
 ghost use Rattle.rt_words.specs.FirstWord.{BeginsWith, ClosesAt, IsFirstWord, HasNoFirstWord, IsQuotedFront, HasNoQuotedFront, IsBracedFront, HasNoBracedFront, is_plain};
 ghost use Rattle.rt_words.specs.Separators.{separates};
 
-use rt_stamps::Fault;
+use rt_stamps::{Fault, is_blank};
 use std::alloc::Global;
 
 /// The words of a line: bare, quoted or braced, with spaces and tabs between them. `BadQuoting`
@@ -208,12 +207,6 @@ fn plain_len(text: &[u8]) -> usize
     ensures { result ≡ prefix_len is_plain text.now }
 {
     text.iter().take_while(|c| is_plain(**c)).count()
-}
-
-fn is_blank(c: u8) -> bool
-    ensures { result ≡ is_blank c }
-{
-    c == b' ' || c == b'\t'
 }
 
 fn is_plain(c: u8) -> bool

@@ -6,8 +6,8 @@ use Rattle.rt_oplog.proofs.file.read_file.Given as goal
 
 abbrev pub invariant-records : goal.invariant-records
 invariant-records g l = record {
-  takes : Takes (record { calls = g.R.Source.calls l.fn.reader; failures = g.R.Source.failures l.fn.reader; left = g.R.Source.remaining l.fn.reader })
-      (record { calls = g.R.Source.calls l.reader; failures = g.R.Source.failures l.reader; left = g.R.Source.remaining l.reader }) FILE_BOUNDS l.bounds (spelling l.ops.items);
+  takes : Takes (record { calls = g.R.Source.calls l.fn.reader; failures = g.R.Source.failures l.fn.reader; bytes = g.R.Source.remaining l.fn.reader })
+      (record { calls = g.R.Source.calls l.reader; failures = g.R.Source.failures l.reader; bytes = g.R.Source.remaining l.reader }) FILE_BOUNDS l.bounds (spelling l.ops.items);
   are : AreInFile l.ops.items;
   offsets : l.offsets.items ≡ offsets_from 8 l.ops.items;
 }

@@ -1,5 +1,5 @@
 use Rattle.std.proofs.Common.{◌≡◌, length}
-use Rattle.rt_script.specs.declared.engine.TheConstants.{PIECE_BYTES}
+use Rattle.rt_stamps.specs.declared.limits.TheConstants.{PIECE_BYTES}
 use Rattle.rt_script.proofs.EndsLaws.{Goes}
 use Rattle.rt_script.proofs.engine.run_lines.Given as goal
 

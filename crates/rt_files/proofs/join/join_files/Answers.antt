@@ -1,6 +1,6 @@
 use Rattle.std.proofs.Common.{inl, inr, refl}
 use Rattle.std.proofs.lemmas.Result.{err_from_is_err_and}
-use Rattle.rt_script.proofs.join.join_files.Goals as goal
+use Rattle.rt_files.proofs.join.join_files.Goals as goal
 
 pub returns-in_err-one : goal.returns-in_err-one
 returns-in_err-one g c =

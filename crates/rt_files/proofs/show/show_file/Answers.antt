@@ -1,6 +1,6 @@
 use Rattle.std.proofs.Common.{inl, sym, ap, ◌∙◌, add-zero}
-use Rattle.rt_script.specs.Files.{ending_of}
-use Rattle.rt_script.proofs.show.show_file.Goals as goal
+use Rattle.rt_files.specs.Files.{ending_of}
+use Rattle.rt_files.proofs.show.show_file.Goals as goal
 
 pub returns-in-Some : goal.returns-in-Some
 returns-in-Some g c =

@@ -4,15 +4,15 @@ use Rattle.std.specs.declared.alloc.Global.{Global}
 use Rattle.std.specs.Io.KnownBytes.{Appends}
 use Rattle.rt_stamps.specs.declared.fault.Fault.{Fault}
 use Rattle.rt_stamps.specs.declared.fault.Fault.TheVariants.{NoMemory, WriteFault}
+use Rattle.rt_stamps.specs.Streams.{Stream}
 use Rattle.rt_stamps.specs.Written.{AppendsPart}
 use Rattle.rt_oplog.specs.File.{spelling}
-use Rattle.rt_oplog.specs.Intake.{ReaderState, ReadsFile, LacksMemory}
+use Rattle.rt_oplog.specs.Intake.{ReadsFile, LacksMemory}
 use Rattle.rt_oplog.specs.Logs.{joined}
 use Rattle.rt_oplog.specs.Operations.{Operation}
 use Rattle.rt_oplog.specs.Outcomes.{IsFirstRefused, IsLogOf}
 use Rattle.rt_show.specs.Shown.{lines_of}
-use Rattle.rt_script.specs.declared.join.JoinFault.{JoinFault}
-use Rattle.rt_script.specs.Run.{Stream}
+use Rattle.rt_files.specs.declared.join.JoinFault.{JoinFault}
 
 -- a reading ended with no fault, or with this one at an offset
 abbrev pub ending_of : Option (Fault × ℕ) → Result (Unit {0}) (Fault × ℕ)
@@ -28,7 +28,7 @@ TellsLines ops fault before after result =
 
 -- The file was read to its end or its first fault, and the lines of its operations were told. Or they found no memory
 -- before that, and nothing was written.
-abbrev pub ShowsFile : ReaderState → ReaderState → Stream → Stream → Result (Unit {0}) (Fault × ℕ) → Type 0
+abbrev pub ShowsFile : Stream → Stream → Stream → Stream → Result (Unit {0}) (Fault × ℕ) → Type 0
 ShowsFile old new before after result =
     ((ops : List Operation) × (offsets : List ℕ) × (fault : Option (Fault × ℕ)) × ReadsFile old new ops offsets fault × TellsLines ops fault before after result)
     ⊎ ((result ≡ Err (NoMemory, 0)) × LacksMemory old new × (after ≡ before))
@@ -39,7 +39,7 @@ IsRefused ops offsets found = (place : ℕ) × IsFirstRefused ops place found.0 
 
 -- What a file gives: the log of its operations, where its reading has no fault. Or its first fault: of the first operation
 -- that is refused, else that of the reading, which comes after all of them.
-abbrev pub FileGives : ReaderState → ReaderState → Result (List Operation) (Fault × ℕ) → Type 0
+abbrev pub FileGives : Stream → Stream → Result (List Operation) (Fault × ℕ) → Type 0
 FileGives old new result = (ops : List Operation) × (offsets : List ℕ) × (fault : Option (Fault × ℕ)) × ReadsFile old new ops offsets fault × MatchResult result
     (λ log. (fault ≡ None) × IsLogOf ops log)
     (λ found. IsRefused ops offsets found ⊎ ((fault ≡ Some found) × ((log : List Operation) × IsLogOf ops log)))
@@ -54,20 +54,20 @@ of_neither fault = record { file = 0; fault = fault; offset = 0 }
 
 -- A file's operations found no memory: before all were read, and no read had failed. Or some were read, however the
 -- reading ended, and then memory was wanting for the log of them.
-abbrev pub FindsNoMemory : ReaderState → ReaderState → Type 0
+abbrev pub FindsNoMemory : Stream → Stream → Type 0
 FindsNoMemory old new =
     LacksMemory old new
     ⊎ ((ops : List Operation) × (offsets : List ℕ) × (fault : Option (Fault × ℕ)) × ReadsFile old new ops offsets fault × (0 < length ops))
 
 -- why there is no log of a file: its first fault, or want of memory
-abbrev pub GivesNoLog : ℕ → ReaderState → ReaderState → JoinFault → Type 0
+abbrev pub GivesNoLog : ℕ → Stream → Stream → JoinFault → Type 0
 GivesNoLog file old new why =
     ((found : Fault × ℕ) × (why ≡ in_file file found) × FileGives old new (Err found))
     ⊎ ((why ≡ of_neither NoMemory) × FindsNoMemory old new)
 
 -- Two files are joined: the bytes spell the join of their logs. Or the first file has no log, and the second is not read;
 -- or the first has one, and the second has none; or both have, and these have no join, or it found no memory.
-abbrev pub JoinsFiles : ReaderState → ReaderState → ReaderState → ReaderState → Result (Vec ℕ Global) JoinFault → Type 0
+abbrev pub JoinsFiles : Stream → Stream → Stream → Stream → Result (Vec ℕ Global) JoinFault → Type 0
 JoinsFiles first read second then result = MatchResult result
     (λ bytes. (one : List Operation) × (other : List Operation) × (log : List Operation)
     × FileGives first read (Ok one) × FileGives second then (Ok other) × (joined one other ≡ Ok log) × (bytes.items ≡ spelling (reverse log)))

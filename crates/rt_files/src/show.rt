@@ -1,6 +1,6 @@
 // The lines of a file of operations.
 ghost use Rattle.std.specs.Prelude.{◌≡◌};
-ghost use Rattle.rt_script.specs.Files.{ShowsFile};
+ghost use Rattle.rt_files.specs.Files.{ShowsFile};
 
 use rt_oplog::read_file;
 use rt_show::write_lines;
@@ -21,8 +21,8 @@ pub fn show_file<R: Source, W: Sink>(
     out: &mut W,
 ) -> Result<(), (Fault, u64)>
     ensures { ShowsFile
-        (record { calls = R.calls source.old; failures = R.failures source.old; left = R.remaining source.old })
-        (record { calls = R.calls source.new; failures = R.failures source.new; left = R.remaining source.new })
+        (record { calls = R.calls source.old; failures = R.failures source.old; bytes = R.remaining source.old })
+        (record { calls = R.calls source.new; failures = R.failures source.new; bytes = R.remaining source.new })
         (record { calls = W.calls out.old; failures = W.failures out.old; bytes = W.contents out.old })
         (record { calls = W.calls out.new; failures = W.failures out.new; bytes = W.contents out.new })
         result }

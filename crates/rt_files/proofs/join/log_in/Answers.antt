@@ -1,6 +1,6 @@
 use Rattle.std.proofs.Common.{inl, inr}
 use Rattle.rt_oplog.proofs.Readings.{offset_each}
-use Rattle.rt_script.proofs.join.log_in.Goals as goal
+use Rattle.rt_files.proofs.join.log_in.Goals as goal
 
 pub log_of-requires : goal.log_of-requires
 log_of-requires g c = rw c.deref.ensures.value (offset_each _ _ c.in-Ok.reading.ops.items c.in-Ok.reading.offsets.items c.in-Ok.reading.fault c.in-Ok.ensures.reads)

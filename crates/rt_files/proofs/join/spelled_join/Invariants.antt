@@ -1,4 +1,4 @@
-use Rattle.rt_script.proofs.join.spelled_join.Given as goal
+use Rattle.rt_files.proofs.join.spelled_join.Given as goal
 
 abbrev pub ghosts-spelled-A-Ledger : goal.ghosts-spelled-A-Ledger
 ghosts-spelled-A-Ledger a = record { name = a.writes.name; parts = a.writes.parts }

@@ -5,7 +5,7 @@ ghost use Rattle.rt_oplog.specs.File.{spelling};
 ghost use Rattle.rt_oplog.specs.Logs.{joined};
 ghost use Rattle.rt_oplog.specs.Operations.{Operation};
 ghost use Rattle.rt_oplog.specs.Outcomes.{IsLogOf};
-ghost use Rattle.rt_script.specs.Files.{IsRefused, FileGives, GivesNoLog, JoinsFiles, in_file, of_neither};
+ghost use Rattle.rt_files.specs.Files.{IsRefused, FileGives, GivesNoLog, JoinsFiles, in_file, of_neither};
 
 use rt_oplog::{Op, OpLog, join, read_file, write_file};
 use rt_stamps::std_ends::{Count, Writer};
@@ -70,12 +70,12 @@ fn log_of(alloc: Global, file: u8, ops: Vec<Op>, offsets: &[u64]) -> Result<OpLo
 fn log_in<R: Source>(alloc: Global, file: u8, source: &mut R) -> Result<OpLog, JoinFault>
     ensures { MatchResult result
         (λ log. FileGives
-        (record { calls = R.calls source.old; failures = R.failures source.old; left = R.remaining source.old })
-        (record { calls = R.calls source.new; failures = R.failures source.new; left = R.remaining source.new })
+        (record { calls = R.calls source.old; failures = R.failures source.old; bytes = R.remaining source.old })
+        (record { calls = R.calls source.new; failures = R.failures source.new; bytes = R.remaining source.new })
         (Ok log.operations))
         (λ why. GivesNoLog file
-        (record { calls = R.calls source.old; failures = R.failures source.old; left = R.remaining source.old })
-        (record { calls = R.calls source.new; failures = R.failures source.new; left = R.remaining source.new })
+        (record { calls = R.calls source.old; failures = R.failures source.old; bytes = R.remaining source.old })
+        (record { calls = R.calls source.new; failures = R.failures source.new; bytes = R.remaining source.new })
         why) }
 {
     let reading = match read_file(alloc, source) {
@@ -135,10 +135,10 @@ pub fn join_files<A: Source, B: Source>(
     b: &mut B,
 ) -> Result<Vec<u8>, JoinFault>
     ensures { JoinsFiles
-        (record { calls = A.calls a.old; failures = A.failures a.old; left = A.remaining a.old })
-        (record { calls = A.calls a.new; failures = A.failures a.new; left = A.remaining a.new })
-        (record { calls = B.calls b.old; failures = B.failures b.old; left = B.remaining b.old })
-        (record { calls = B.calls b.new; failures = B.failures b.new; left = B.remaining b.new })
+        (record { calls = A.calls a.old; failures = A.failures a.old; bytes = A.remaining a.old })
+        (record { calls = A.calls a.new; failures = A.failures a.new; bytes = A.remaining a.new })
+        (record { calls = B.calls b.old; failures = B.failures b.old; bytes = B.remaining b.old })
+        (record { calls = B.calls b.new; failures = B.failures b.new; bytes = B.remaining b.new })
         result }
 {
     let one = log_in(alloc, 1, a)?;

@@ -1,6 +1,6 @@
 use Rattle.std.proofs.Common.{inl, inr, arith}
 use Rattle.std.proofs.lemmas.Option.{slice_get_within, slice_get-get_or}
-use Rattle.rt_script.proofs.join.log_of.Goals as goal
+use Rattle.rt_files.proofs.join.log_of.Goals as goal
 
 pub returns-in_default : goal.returns-in_default
 returns-in_default c = elim c.in-Err.ensures [
