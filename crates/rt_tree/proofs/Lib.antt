@@ -26,4 +26,5 @@ mod Grows
 mod NewRoot
 mod Wholes
 mod Fills
+mod Spare
 mod Puts
