@@ -28,3 +28,6 @@ mod Wholes
 mod Fills
 mod Spare
 mod Puts
+mod Edges
+mod Pieces
+mod Cutting
