@@ -80,6 +80,13 @@ impl<H, E, const CAP: usize> NodeMem<H, E, CAP> {
         Ok(())
     }
 
+    /// How many nodes there are.
+    pub fn nodes(&self) -> usize
+        ensures { result ≡ length self.now.heads }
+    {
+        self.heads.len()
+    }
+
     /// A new node with no entry. There must be room.
     pub fn make(&mut self, header: H) -> NodeId
         requires { 0 < self.old.room }

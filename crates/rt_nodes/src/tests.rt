@@ -33,6 +33,7 @@ fn the_listed_example(rt: HostRuntime) -> Result<(), Fault> {
     mem.reserve(2)?;
     let a = mem.make('a');
     let b = mem.make('b');
+    assert_eq!(rt; mem.nodes(), 2);
     mem.insert_at(a, 0, 'x');
     mem.insert_at(a, 1, 'y');
     mem.insert_at(b, 0, 'z');

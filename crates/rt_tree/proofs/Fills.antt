@@ -16,7 +16,7 @@ least_root level = if level == 0 then 0 else 2
 filled_other : (m : Memory) (root id : ℕ) → (id ≡ root → ⊥) → 8 ≤ length (entries m id) → IsFilled m root id
 filled_other m root id ne le = subst (λ n. n ≤ length (entries m id)) (sym (test_other id root (least_root (level_of m id)) 8 ne)) le
 
-other_filled : (m : Memory) (root id : ℕ) → (id ≡ root → ⊥) → IsFilled m root id → 8 ≤ length (entries m id)
+pub other_filled : (m : Memory) (root id : ℕ) → (id ≡ root → ⊥) → IsFilled m root id → 8 ≤ length (entries m id)
 other_filled m root id ne le = subst (λ n. n ≤ length (entries m id)) (test_other id root (least_root (level_of m id)) 8 ne) le
 
 le_trans : (a b c : ℕ) → a ≤ b → b ≤ c → a ≤ c
@@ -50,7 +50,7 @@ module _ (m m' : Memory) (root n q : ℕ) (hv : AreHalves m m' n q) (nis : n < l
 filled_with : (m m' : Memory) (root : ℕ) → ((id : ℕ) → level_of m' id ≡ level_of m id) → length m'.heads ≡ length m.heads → ((id : ℕ) → length (entries m id) ≤ length (entries m' id)) → AreFilled m root → AreFilled m' root
 filled_with m m' root level same more filled id is = filled_more m m' root id (level id) (more id) (filled id (omega (arith, same, is)))
 
-links_long : (n : Memory) (c : ℕ) → length (entries (bare n) c) ≡ length (entries n c)
+pub links_long : (n : Memory) (c : ℕ) → length (entries (bare n) c) ≡ length (entries n c)
 links_long n c = ap length (bare-entries n c) ∙ length-map (entries n c) strip
 
 -- a node with other entries, which aren't fewer

@@ -20,7 +20,7 @@ pub record Below (counts : Counts) : Type 0 where
   pub visible : counts.visible ≤ counts.cells
   pub newlines : counts.newlines ≤ counts.cells
 
-one_below : (len : ℕ) (gone newline : Bool) → 0 < len → ((if gone then 0 else len) ≤ len) × ((if gone then 0 else (if newline then 1 else 0)) ≤ len)
+pub one_below : (len : ℕ) (gone newline : Bool) → 0 < len → ((if gone then 0 else len) ≤ len) × ((if gone then 0 else (if newline then 1 else 0)) ≤ len)
 one_below len true newline lt = (omega arith, omega arith)
 one_below len false true lt = (omega arith, omega arith)
 one_below len false false lt = (omega arith, omega arith)

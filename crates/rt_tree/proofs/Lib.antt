@@ -26,4 +26,8 @@ mod Grows
 mod NewRoot
 mod Wholes
 mod Fills
+mod Spare
 mod Puts
+mod Edges
+mod Pieces
+mod Cutting

@@ -2,6 +2,7 @@ pub mod Runs
 pub mod Sums
 pub mod Shape
 pub mod Walks
+pub mod Stretches
 pub mod Trees
 pub mod Changes
 pub use Rattle.rt_nodes.specs.Nodes

@@ -1,5 +1,5 @@
 -- What a tree shows, and how it is kept.
-use Rattle.std.specs.Prelude.{◌≡◌, ℕ, ◌+◌, ◌≤◌, false, true, List, length}
+use Rattle.std.specs.Prelude.{◌≡◌, ℕ, ◌+◌, ◌*◌, ◌≤◌, false, true, List, length}
 use Rattle.std.specs.List.{AllByRecursion}
 use Rattle.rt_stamps.specs.declared.limits.TheConstants.{MOST_CELLS}
 use Rattle.rt_stamps.specs.declared.stamp.TheConstants.{FINAL}
@@ -24,6 +24,10 @@ pub record IsKept (m : Memory) (root : ℕ) (text : List ℕ) (runs : ℕ) : Typ
   pub kept : AllByRecursion (IsRun text) (tree_runs m root)
   pub counted : runs ≡ length (tree_runs m root)
   pub few : (counts_of (tree_runs m root)).cells ≤ MOST_CELLS
+
+-- There are nodes enough, spare ones too, for a tree of so many runs: each node but the root has eight entries or more.
+abbrev pub HasNodes : Memory → ℕ → Type 0
+HasNodes m runs = runs ≤ 7 * (length m.heads + m.room)
 
 -- the run of the final newline, as it is at first
 abbrev pub final_run : Run

@@ -45,7 +45,7 @@ pub(crate) fn put_run(mem: &mut Mem, root: NodeId, height: u32, leaf: NodeId, i:
     ensures filled { AreFilled mem.new root.index }
     ensures runs { runs (bare mem.new) height root.index ≡ ahead (bare mem.old) height leaf.index
         ++ (all_below (bare mem.old) 0 (links (insert (entries mem.old leaf.index) i (Here run))) ++ behind (bare mem.old) height leaf.index) }
-    ensures room { mem.new.room ≡ mem.old.room }
+    ensures room { (mem.new.room ≡ mem.old.room) × (length mem.new.heads ≡ length mem.old.heads) }
 {
     mem.insert_at(leaf, i, Entry::Here(run));
     settle(mem, root, height, leaf);

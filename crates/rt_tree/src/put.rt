@@ -6,6 +6,7 @@ ghost use Rattle.rt_tree.specs.declared.node.Run.{Run};
 ghost use Rattle.rt_tree.specs.Changes.{AreExact, AreFilled, bare};
 ghost use Rattle.rt_tree.specs.Shape.{IsShape, IsTree, ahead, level_of, runs, tree_runs};
 ghost use Rattle.rt_tree.specs.Sums.{AreFew, amount, counts_of, counts_of_run, plus};
+ghost use Rattle.rt_tree.specs.Trees.{HasNodes};
 ghost use Rattle.rt_tree.specs.Walks.{IsPutAt, IsReplacedAt, IsSpot};
 
 use crate::change::{put_run, set_run};
@@ -25,7 +26,7 @@ fn insert_run(mem: &mut Mem, root: NodeId, height: u32, leaf: NodeId, i: usize, 
     requires leaf { (leaf.index < length mem.old.heads) × (level_of (bare mem.old) leaf.index ≡ 0) }
     requires within { i ≤ length (entries mem.old leaf.index) }
     requires root_room { length (entries mem.old root.index) < 16 }
-    requires room { height ≤ mem.old.room }
+    requires room { HasNodes mem.old (length (runs (bare mem.old) height root.index)) }
     requires still_few { AreFew (counts_of
         (insert (runs (bare mem.old) height root.index) (length (ahead (bare mem.old) height leaf.index) + i) run)) }
     ensures tree { IsShape (bare mem.new) height root.index }
@@ -33,7 +34,7 @@ fn insert_run(mem: &mut Mem, root: NodeId, height: u32, leaf: NodeId, i: usize, 
     ensures filled { AreFilled mem.new root.index }
     ensures runs { runs (bare mem.new) height root.index
         ≡ insert (runs (bare mem.old) height root.index) (length (ahead (bare mem.old) height leaf.index) + i) run }
-    ensures room { mem.old.room ≤ mem.new.room + height }
+    ensures room { length mem.new.heads + mem.new.room ≡ length mem.old.heads + mem.old.room }
 {
     let place = make_room(mem, root, height, leaf, i);
     put_run(mem, root, height, place.leaf, place.entry, run);
@@ -59,10 +60,10 @@ pub(crate) fn put(mem: &mut Mem, root: NodeId, at: usize, run: Run) -> NodeId
     requires within { at < (counts_of (tree_runs mem.old root.index)).cells }
     requires few { AreFew (plus (counts_of_run run) (counts_of (tree_runs mem.old root.index))) }
     requires height { level_of mem.old root.index + 1 < 2 ^ 32 }
-    requires room { level_of mem.old root.index + 3 ≤ mem.old.room }
+    requires room { HasNodes mem.old (length (tree_runs mem.old root.index)) }
     ensures tree { IsTree mem.new result.index }
     ensures runs { IsPutAt (tree_runs mem.old root.index) (tree_runs mem.new result.index) at run }
-    ensures room { mem.old.room ≤ mem.new.room + (level_of mem.old root.index + 3) }
+    ensures room { length mem.new.heads + mem.new.room ≡ length mem.old.heads + mem.old.room }
 {
     let height = level_of(mem, root);
     let top = top_room(mem, root, height);
@@ -79,7 +80,7 @@ pub(crate) fn replace(mem: &mut Mem, root: NodeId, at: usize, run: Run)
     ensures tree { IsTree mem.new root.index }
     ensures runs { IsReplacedAt (tree_runs mem.old root.index) (tree_runs mem.new root.index) at run }
     ensures height { level_of mem.new root.index ≡ level_of mem.old root.index }
-    ensures room { mem.new.room ≡ mem.old.room }
+    ensures room { (mem.new.room ≡ mem.old.room) × (length mem.new.heads ≡ length mem.old.heads) }
 {
     let height = level_of(mem, root);
     let spot = spot_of(mem, root, at);

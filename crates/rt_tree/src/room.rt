@@ -4,6 +4,7 @@ ghost use Rattle.rt_nodes.specs.Nodes.{entries};
 ghost use Rattle.rt_tree.specs.Changes.{AreExact, AreFilled, above, bare};
 ghost use Rattle.rt_tree.specs.Shape.{IsShape, ahead, level_of, parent_of, runs};
 ghost use Rattle.rt_tree.specs.Sums.{AreFew, counts_of};
+ghost use Rattle.rt_tree.specs.Trees.{HasNodes};
 
 use crate::node::Mem;
 use crate::settle::{parent_of, slot_of};
@@ -39,7 +40,7 @@ fn make_way(mem: &mut Mem, root: NodeId, height: u32, leaf: NodeId)
     requires few { AreFew (counts_of (runs (bare mem.old) height root.index)) }
     requires leaf { (leaf.index < length mem.old.heads) × (level_of (bare mem.old) leaf.index ≡ 0) }
     requires root_room { length (entries mem.old root.index) < 16 }
-    requires room { height ≤ mem.old.room }
+    requires room { HasNodes mem.old (length (runs (bare mem.old) height root.index)) }
     ensures tree { IsShape (bare mem.new) height root.index }
     ensures exact { AreExact mem.new }
     ensures filled { AreFilled mem.new root.index }
@@ -48,7 +49,7 @@ fn make_way(mem: &mut Mem, root: NodeId, height: u32, leaf: NodeId)
     ensures same { entries mem.new leaf.index ≡ entries mem.old leaf.index }
     ensures ahead { ahead (bare mem.new) height leaf.index ≡ ahead (bare mem.old) height leaf.index }
     ensures way { 0 < height → length (entries mem.new (parent_of (bare mem.new) leaf.index)) < 16 }
-    ensures room { 0 < height → mem.old.room + 1 ≤ mem.new.room + height }
+    ensures room { length mem.new.heads + mem.new.room ≡ length mem.old.heads + mem.old.room }
 {
     let mut level = height;
     while level > 1 {
@@ -72,7 +73,7 @@ pub(crate) fn make_room(mem: &mut Mem, root: NodeId, height: u32, leaf: NodeId, 
     requires leaf { (leaf.index < length mem.old.heads) × (level_of (bare mem.old) leaf.index ≡ 0) }
     requires within { i ≤ length (entries mem.old leaf.index) }
     requires root_room { length (entries mem.old root.index) < 16 }
-    requires room { height ≤ mem.old.room }
+    requires room { HasNodes mem.old (length (runs (bare mem.old) height root.index)) }
     ensures tree { IsShape (bare mem.new) height root.index }
     ensures exact { AreExact mem.new }
     ensures filled { AreFilled mem.new root.index }
@@ -81,7 +82,7 @@ pub(crate) fn make_room(mem: &mut Mem, root: NodeId, height: u32, leaf: NodeId, 
     ensures within { result.entry ≤ length (entries mem.new result.leaf.index) }
     ensures leaf_room { length (entries mem.new result.leaf.index) < 16 }
     ensures place { length (ahead (bare mem.new) height result.leaf.index) + result.entry ≡ length (ahead (bare mem.old) height leaf.index) + i }
-    ensures room { mem.old.room ≤ mem.new.room + height }
+    ensures room { length mem.new.heads + mem.new.room ≡ length mem.old.heads + mem.old.room }
 {
     if mem.len(leaf) < 16 {
         return Place { leaf, entry: i };
@@ -115,14 +116,14 @@ pub(crate) fn top_room(mem: &mut Mem, root: NodeId, height: u32) -> Top
     requires filled { AreFilled mem.old root.index }
     requires few { AreFew (counts_of (runs (bare mem.old) height root.index)) }
     requires height { height + 1 < 2 ^ 32 }
-    requires room { 2 ≤ mem.old.room }
+    requires room { HasNodes mem.old (length (runs (bare mem.old) height root.index)) }
     ensures tree { IsShape (bare mem.new) result.height result.root.index }
     ensures exact { AreExact mem.new }
     ensures filled { AreFilled mem.new result.root.index }
     ensures runs { runs (bare mem.new) result.height result.root.index ≡ runs (bare mem.old) height root.index }
     ensures roomy { length (entries mem.new result.root.index) < 16 }
     ensures height { result.height ≤ height + 1 }
-    ensures room { mem.old.room ≤ mem.new.room + 2 }
+    ensures room { length mem.new.heads + mem.new.room ≡ length mem.old.heads + mem.old.room }
 {
     if mem.len(root) < 16 {
         return Top { root, height };

@@ -39,4 +39,5 @@ returns-clause-filled c =
     filled_leaf m c.insert_at.new.self c.settle.new.mem c.args.root.index x (insert es c.args.i (Here c.args.run)) c.insert_at.ensures c.settle.ensures.same within longer c.requires.filled
 
 pub returns-clause-room : goal.returns-clause-room
-returns-clause-room c = ap (λ (b : Memory). b.room) c.settle.ensures.same ∙ ap (λ (b : Memory). b.room) c.insert_at.ensures
+returns-clause-room c =
+    (ap (λ (b : Memory). b.room) c.settle.ensures.same ∙ ap (λ (b : Memory). b.room) c.insert_at.ensures, ap (λ (b : Memory). length b.heads) c.settle.ensures.same ∙ ap (λ (b : Memory). length b.heads) c.insert_at.ensures)

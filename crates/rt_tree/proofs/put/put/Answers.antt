@@ -62,8 +62,17 @@ insert_run-requires-clause-still_few c =
     let n = length (ahead (bare m1) top.height c.spot_of-spot.result.leaf.index) + c.spot_of-spot.result.entry in
     subst (λ (l : List Run). AreFew (counts_of (insert l n c.args.run))) (sym (e.runs ∙ same)) (few-insert (tree_runs m r) n c.args.run c.requires.few)
 
+pub top_room-top-requires-clause-room : goal.top_room-top-requires-clause-room
+top_room-top-requires-clause-room c =
+    let m = c.args.mem.now in let r = c.args.root.index in
+    let same = ap (λ k. runs (bare m) k r) c.level_of-height.ensures ∙ runs-bare m (level_of m r) r in
+    omega (arith, ap length same, c.requires.room)
+
 pub insert_run-requires-clause-room : goal.insert_run-requires-clause-room
-insert_run-requires-clause-room c = omega (arith, c.top_room-top.ensures.height, c.top_room-top.ensures.room, c.level_of-height.ensures, c.requires.room)
+insert_run-requires-clause-room c =
+    let m = c.args.mem.now in let r = c.args.root.index in let e = c.top_room-top.ensures in
+    let same = ap (λ k. runs (bare m) k r) c.level_of-height.ensures ∙ runs-bare m (level_of m r) r in
+    omega (arith, ap length (e.runs ∙ same), e.room, c.requires.room)
 
 pub returns-clause-tree : goal.returns-clause-tree
 returns-clause-tree c =
@@ -80,6 +89,3 @@ returns-clause-runs c =
     let new = whole_runs c.insert_run.new.mem top.height top.root.index i.tree i.exact i.filled ∙ i.runs ∙ ap (N top.height) (sym (whole_runs m1 top.height top.root.index e.tree e.exact e.filled)) ∙ ap (λ k. N k (tree_runs m1 top.root.index)) (sym e.tree.top) in
     subst (λ (l : List Run). IsPutAt l (tree_runs c.insert_run.new.mem top.root.index) c.args.at c.args.run) o.same
     (puts m1 top.root.index o.tree spot.leaf.index spot.entry spot.offset c.args.at c.spot_of-spot.ensures.0 c.args.run (tree_runs c.insert_run.new.mem top.root.index) c.spot_of-spot.ensures.1 new)
-
-pub returns-clause-room : goal.returns-clause-room
-returns-clause-room c = omega (arith, c.top_room-top.ensures.height, c.top_room-top.ensures.room, c.insert_run.ensures.room, c.level_of-height.ensures)

@@ -1,4 +1,4 @@
-use Rattle.std.proofs.Common.{ℕ, ◌++◌, List, set, sym, ap, ◌∙◌, subst}
+use Rattle.std.proofs.Common.{ℕ, length, ◌++◌, List, set, sym, ap, ◌∙◌, subst}
 use Rattle.rt_nodes.specs.Nodes.{entries}
 use Rattle.rt_tree.specs.declared.node.Entry.TheVariants.{Here}
 use Rattle.rt_tree.specs.declared.node.Run.{Run}
@@ -47,4 +47,4 @@ pub returns-clause-height : goal.returns-clause-height
 returns-clause-height c = ap (λ (b : Memory). level_of b c.args.root.index) c.set_run.ensures.bare
 
 pub returns-clause-room : goal.returns-clause-room
-returns-clause-room c = ap (λ (b : Memory). b.room) c.set_run.ensures.bare
+returns-clause-room c = (ap (λ (b : Memory). b.room) c.set_run.ensures.bare, ap (λ (b : Memory). length b.heads) c.set_run.ensures.bare)

@@ -6,6 +6,7 @@ use Rattle.rt_tree.proofs.Above.{above-is, above_top, roomy_split}
 use Rattle.rt_tree.proofs.Around.{below_top}
 use Rattle.rt_tree.proofs.Fills.{filled_split}
 use Rattle.rt_tree.proofs.Raise.{length-rows}
+use Rattle.rt_tree.proofs.Spare.{spare_node}
 use Rattle.rt_tree.proofs.Splits.{parent_in}
 use Rattle.rt_tree.proofs.room.make_way.Goals as goal
 
@@ -17,7 +18,7 @@ loop-level-init c =
       tree = c.requires.tree;
       exact = c.requires.exact;
       filled = c.requires.filled;
-      spent = omega arith;
+      spent = refl;
       high = λ z. z;
       same = refl;
       ahead_is = refl;
@@ -77,6 +78,18 @@ split-requires-clause-node c =
     let nr : n ≢ r = below_top (bare m) h r i.tree n nis (omega (arith, nl, i.low)) in
     (nis, nr)
 
+pub split-requires-clause-room : goal.split-requires-clause-room
+split-requires-clause-room c =
+    let m = c.loop-level.mem in let i = c.loop-level.invariant in
+    let h = c.args.height in let r = c.args.root.index in let x = c.args.leaf.index in
+    let k = c.loop-level.level - 1 in
+    let n = c.above-node.result.index in
+    let ab = above-is (bare m) h r i.tree k x i.leaf.0 (omega (arith, i.leaf.1, i.low)) in
+    let nis : n < length m.heads = subst (λ y. y < length m.heads) (sym c.above-node.ensures) ab.0 in
+    let nl : level_of (bare m) n ≡ k = ap (level_of (bare m)) c.above-node.ensures ∙ (omega (arith, ab.1, i.leaf.1)) in
+    let nr : n ≢ r = below_top (bare m) h r i.tree n nis (omega (arith, nl, i.low)) in
+    spare_node m h r n i.tree i.filled (omega (arith, i.room, i.spent, ap length i.runs_are)) (omega (arith, c.len.ensures.value, c.len.ensures.fits)) nis nr
+
 pub split-requires-clause-parent_room : goal.split-requires-clause-parent_room
 split-requires-clause-parent_room c =
     let m = c.loop-level.mem in let i = c.loop-level.invariant in
@@ -108,12 +121,12 @@ loop-level-preserved-then-len-ge16 c =
       tree = c.split.ensures.tree;
       exact = c.split.ensures.exact;
       filled = filled_split m c.split.new.mem r n c.split.result.index hv nis i.tree.root_is nr (omega (arith, c.len.ensures.value, c.len.ensures.fits)) i.filled;
-      spent = omega (arith, c.split.ensures.room, i.spent);
+      spent = omega (arith, c.split.ensures.room, i.spent, hv.new, hv.longer);
       high = λ z. omega arith;
       same = st.same x i.leaf.0 (omega (arith, nl, i.leaf.1)) ∙ i.same;
       ahead_is = st.lower (k - 1) h x i.leaf.0 (omega (arith, nl, i.leaf.1)) (ap (λ j. above (bare m) j x) deep ∙ sym c.above-node.ensures) (omega (arith, i.leaf.1)) ∙ i.ahead_is;
       runs_are = c.split.ensures.runs ∙ i.runs_are;
       leaf = (omega (arith, i.leaf.0, hv.new, hv.longer), hv.levels x (omega (arith, i.leaf.0, hv.new)) ∙ i.leaf.1);
       roomy = roomy_split m c.split.new.mem h r n c.split.result.index k x i.tree hv i.leaf.0 i.leaf.1 (omega (arith, i.low)) c.above-node.ensures (omega (arith, c.len.ensures.value, c.len.ensures.fits));
-      room = omega (arith, c.split.ensures.room, i.room);
+      room = i.room;
     }

@@ -2,6 +2,7 @@ use Rattle.std.proofs.Common.{◌≡◌, ◌+◌, ◌<◌, ◌≤◌, length}
 use Rattle.rt_nodes.specs.Nodes.{entries}
 use Rattle.rt_tree.specs.Changes.{bare, above, AreExact, AreFilled}
 use Rattle.rt_tree.specs.Shape.{ahead, level_of, runs, IsShape}
+use Rattle.rt_tree.specs.Trees.{HasNodes}
 use Rattle.rt_tree.proofs.room.make_way.Given as goal
 
 abbrev pub invariant-loop-level : goal.invariant-loop-level
@@ -10,14 +11,14 @@ invariant-loop-level l = record {
   tree : IsShape (bare l.mem) l.height l.root.index;
   exact : AreExact l.mem;
   filled : AreFilled l.mem l.root.index;
-  spent : l.initial.mem.room + l.level ≤ l.mem.room + l.height;
+  spent : length l.mem.heads + l.mem.room ≡ length l.initial.mem.heads + l.initial.mem.room;
   high : 0 < l.height → 0 < l.level;
   same : entries l.mem l.leaf.index ≡ entries l.initial.mem l.leaf.index;
   ahead_is : ahead (bare l.mem) l.height l.leaf.index ≡ ahead (bare l.initial.mem) l.height l.leaf.index;
   runs_are : runs (bare l.mem) l.height l.root.index ≡ runs (bare l.initial.mem) l.height l.root.index;
   leaf : (l.leaf.index < length l.mem.heads) × (level_of (bare l.mem) l.leaf.index ≡ 0);
   roomy : length (entries l.mem (above (bare l.mem) l.level l.leaf.index)) < 16;
-  room : l.level ≤ l.mem.room;
+  room : HasNodes l.initial.mem (length (runs (bare l.initial.mem) l.height l.root.index));
 }
 
 abbrev pub decreases-loop-level : goal.decreases-loop-level

@@ -1,9 +1,10 @@
-use Rattle.std.proofs.Common.{List, length, get_or, arith, sym, ap, ◌∙◌, subst}
+use Rattle.std.proofs.Common.{List, length, get_or, arith, refl, sym, ap, ◌∙◌, subst}
 use Rattle.rt_tree.specs.declared.node.Entry.{Entry}
 use Rattle.rt_tree.specs.declared.node.Run.{Run}
 use Rattle.rt_tree.specs.Changes.{strip}
 use Rattle.rt_tree.specs.Sums.{AreFew, counts_of}
 use Rattle.rt_tree.proofs.Fills.{filled_root}
+use Rattle.rt_tree.proofs.Spare.{spare_root}
 use Rattle.rt_tree.proofs.room.top_room.Goals as goal
 
 pub split-requires-clause-node : goal.split-requires-clause-node
@@ -29,3 +30,16 @@ returns-clause-filled c =
     let m = c.args.mem.now in let m1 = c.grow-top.new.mem in let m2 = c.split.new.mem in
     let r = c.args.root.index in let q = c.grow-top.result.index in
     filled_root m m1 m2 c.args.height r q c.split.result.index c.grow-top.ensures.grown c.split.ensures.halves c.requires.tree.root_is (omega (arith, c.len.ensures.value, c.len.ensures.fits)) (omega (arith, c.split.ensures.wider, ap length c.grow-top.ensures.grown.at_q)) c.requires.filled
+
+pub grow-top-requires-clause-room : goal.grow-top-requires-clause-room
+grow-top-requires-clause-room c =
+    let two = spare_root c.args.mem.now c.args.height c.args.root.index c.args.root.index c.requires.tree c.requires.filled c.requires.room (omega (arith, c.len.ensures.value, c.len.ensures.fits)) refl in
+    omega (arith, two)
+
+pub split-requires-clause-room : goal.split-requires-clause-room
+split-requires-clause-room c =
+    let two = spare_root c.args.mem.now c.args.height c.args.root.index c.args.root.index c.requires.tree c.requires.filled c.requires.room (omega (arith, c.len.ensures.value, c.len.ensures.fits)) refl in
+    omega (arith, two, c.grow-top.ensures.room)
+
+pub returns-clause-room : goal.returns-clause-room
+returns-clause-room c = let hv = c.split.ensures.halves in let g = c.grow-top.ensures.grown in omega (arith, c.grow-top.ensures.room, c.split.ensures.room, hv.new, hv.longer, g.new, g.longer)

@@ -1,0 +1,72 @@
+// Runs cut in two.
+ghost use Rattle.std.specs.Prelude.{◌≡◌, ◌+◌, ◌<◌, ◌≤◌, ◌^◌, length};
+ghost use Rattle.rt_stamps.specs.declared.limits.TheConstants.{MOST_CELLS};
+ghost use Rattle.rt_tree.specs.Shape.{IsTree, tree_runs};
+ghost use Rattle.rt_tree.specs.Stretches.{AreKept, IsEdge, IsRecut, back_of, front_of, lengths};
+ghost use Rattle.rt_tree.specs.Sums.{counts_of};
+ghost use Rattle.rt_tree.specs.Trees.{HasNodes};
+
+use crate::find::{seek, sum_of};
+use crate::node::{Measure, Mem, Run};
+use crate::put::{put, replace};
+use rt_nodes::NodeId;
+
+// The root after a change, and how many runs were put in.
+#[derive(Clone, Copy)]
+pub(crate) struct Change {
+    pub(crate) root: NodeId,
+    pub(crate) more: usize,
+}
+
+// The first cells of a run.
+fn front_of(run: Run, count: u32) -> Run
+    ensures { result ≡ front_of count run }
+{
+    Run {
+        len: count,
+        newline: false,
+        ..run
+    }
+}
+
+// The others.
+fn back_of(run: Run, count: u32) -> Run
+    requires count { count < run.len }
+    requires fits { (run.first + count < 2 ^ 64) × (run.at + count < 2 ^ 32) }
+    ensures { result ≡ back_of count run }
+{
+    Run {
+        first: run.first + count as u64,
+        at: run.at + count,
+        len: run.len - count,
+        ..run
+    }
+}
+
+// Sees to it that a run begins or ends at a position.
+pub(crate) fn cut(mem: &mut Mem, root: NodeId, at: usize) -> Change
+    requires tree { IsTree mem.old root.index }
+    requires kept { AreKept (tree_runs mem.old root.index) }
+    requires few { (counts_of (tree_runs mem.old root.index)).cells ≤ MOST_CELLS }
+    requires within { at ≤ (counts_of (tree_runs mem.old root.index)).cells }
+    requires room { HasNodes mem.old (length (tree_runs mem.old root.index)) }
+    ensures tree { IsTree mem.new result.root.index }
+    ensures recut { IsRecut (tree_runs mem.old root.index) (tree_runs mem.new result.root.index) }
+    ensures edge { IsEdge (lengths (tree_runs mem.new result.root.index)) at }
+    ensures runs { length (tree_runs mem.new result.root.index) ≡ length (tree_runs mem.old root.index) + result.more }
+    ensures more { result.more ≤ 1 }
+    ensures room { length mem.new.heads + mem.new.room ≡ length mem.old.heads + mem.old.room }
+{
+    if at == sum_of(mem, root).cells as usize {
+        return Change { root, more: 0 };
+    }
+    let found = seek(mem, root, Measure::Cells, at);
+    let offset = found.spot.offset;
+    if offset == 0 {
+        return Change { root, more: 0 };
+    }
+    replace(mem, root, at, back_of(found.run, offset as u32));
+    let front = front_of(found.run, offset as u32);
+    let root = put(mem, root, at - offset, front);
+    Change { root, more: 1 }
+}
