@@ -5,21 +5,11 @@ pub mod answer;
 pub mod commands;
 pub mod engine;
 pub mod join;
-#[cfg(test)]
-mod join_tests;
 pub mod laws;
 pub mod reply;
-#[cfg(test)]
-mod samples;
 pub mod scripts;
 pub mod show;
 pub mod site_lines;
-#[cfg(test)]
-mod site_tests;
-#[cfg(test)]
-mod test_ends;
-#[cfg(test)]
-mod tests;
 
 pub use answer::Answer;
 pub use commands::Commands;
