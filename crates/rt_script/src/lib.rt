@@ -4,20 +4,10 @@
 pub mod answer;
 pub mod commands;
 pub mod engine;
-#[cfg(test)]
-mod join_tests;
 pub mod laws;
 pub mod reply;
-#[cfg(test)]
-mod samples;
 pub mod scripts;
 pub mod site_lines;
-#[cfg(test)]
-mod site_tests;
-#[cfg(test)]
-mod test_ends;
-#[cfg(test)]
-mod tests;
 
 pub use answer::Answer;
 pub use commands::Commands;

@@ -6,8 +6,6 @@ pub mod find;
 pub mod laws;
 mod matching;
 pub mod search;
-#[cfg(test)]
-mod tests;
 mod window;
 
 pub use all::find_all;

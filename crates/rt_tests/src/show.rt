@@ -1,9 +1,8 @@
 // The lines of a few operations.
 ghost use Rattle.std.specs.Prelude.{◌≡◌, ◌<◌};
 
-use crate::oplog_files::read_bytes;
-use crate::samples::{DELETE_SECOND, INSERT_AB, INSERT_LAST, TAG_FIRST};
-use rt_oplog::Op;
+use rt_oplog::{Op, read_bytes};
+use rt_samples::files::{DELETE_SECOND, INSERT_AB, INSERT_LAST, TAG_FIRST};
 use rt_show::write_lines;
 use rt_stamps::std_ends::{Count, Writer};
 use rt_stamps::{Fault, ROOT, Span, Stamp};
@@ -89,24 +88,24 @@ fn lines_of_operations(rt: HostRuntime) -> Result<(), Fail> {
 
 #[test]
 fn lines_of_files(rt: HostRuntime) -> Result<(), Fail> {
-    let files: [(&[u8], &str); 5] = [
+    let files: &[(&[u8], &str)] = &[
         (b"RGATEXT1", ""),
-        (&INSERT_AB, "insert 1.1 prev 0 after 0.0 text ab tags\n"),
+        (INSERT_AB, "insert 1.1 prev 0 after 0.0 text ab tags\n"),
         (
-            &INSERT_LAST,
+            INSERT_LAST,
             "insert 281474976710655.9 prev 0 after 0.0 text z tags\n",
         ),
         (
-            &DELETE_SECOND,
+            DELETE_SECOND,
             "insert 1.1 prev 0 after 0.0 text ab tags\ndelete 3.1 prev 2 spans 1:2-2\n",
         ),
         (
-            &TAG_FIRST,
+            TAG_FIRST,
             "insert 1.1 prev 0 after 0.0 text ab tags\ntag 3.1 prev 2 on t spans 1:1-1\n",
         ),
     ];
     for (bytes, wanted) in files {
-        let lines = lines_of(rt.alloc(), &read_bytes(rt.alloc(), bytes)?.ops)?;
+        let lines = lines_of(rt.alloc(), &read_bytes(rt.alloc(), *bytes)?.ops)?;
         assert_eq!(rt; lines.as_slice(), wanted.as_bytes(), "{wanted}");
     }
     Ok(())

@@ -4,7 +4,9 @@ ghost use Rattle.rt_tags.specs.Tags.{IsName};
 
 use rt_edits::{Piece, Range, Selection};
 use rt_marks::Gravity;
-use rt_stamps::{FINAL, Fault, Position, Site, Stamp};
+use rt_oplog::Op;
+use rt_stamps::limits::GREATEST_COUNT;
+use rt_stamps::{FINAL, Fault, Position, Site, Span, Stamp};
 use rt_store::ListStore;
 use rt_text::{Doc, OwnMark, View, Widget};
 use std::alloc::Global;
@@ -50,6 +52,24 @@ impl Page {
         others.push(Selection::of(alloc, second)?)?;
         let view = View::of(alloc, doc, Widget::new(alloc), others);
         Ok(Page { view })
+    }
+
+    // Another site takes a tag off the last newline, which never had it, with a count behind which so
+    // many are left.
+    fn leave_counts(&mut self, alloc: Global, counts: u64) -> Result<(), Fail> {
+        let last = Stamp {
+            count: GREATEST_COUNT.saturating_sub(counts),
+            site: 2,
+        };
+        let newline = Span {
+            site: FINAL.site,
+            first: FINAL.count,
+            last: FINAL.count,
+        };
+        let name = String::from_str(alloc, "other")?;
+        let spans = Vec::from_slice(alloc, &[newline])?;
+        let _taken = self.view.accept(Op::tag(last, 0, false, name, spans)?)?;
+        Ok(())
     }
 
     fn insert(&mut self, index: &str, new: &str) -> Result<(), Fault> {
@@ -294,14 +314,26 @@ fn selected_in_other_widgets(rt: HostRuntime) -> Result<(), Fail> {
     Ok(())
 }
 
-// A page with the text `ab`, two tags on all of it and the last newline selected, here and in one of
-// the other widgets.
-fn page_with_tags(alloc: Global) -> Result<Page, Fail> {
-    let mut page = Page::beside(alloc, &[FINAL, stamp(1)], &[])?;
+// Types `ab`, puts two tags on all of the text, and selects the last newline.
+fn type_tagged(page: &mut Page) -> Result<(), Fault> {
     page.insert("1.0", "ab")?;
     page.write_tag(true, "t", &[Range { from: 0, to: 3 }])?;
     page.write_tag(true, "u", &[Range { from: 0, to: 3 }])?;
-    page.write_tag(true, "sel", &[Range { from: 2, to: 3 }])?;
+    page.write_tag(true, "sel", &[Range { from: 2, to: 3 }])
+}
+
+// Such a page, whose last newline is selected in one of the other widgets too.
+fn page_with_tags(alloc: Global) -> Result<Page, Fail> {
+    let mut page = Page::beside(alloc, &[FINAL, stamp(1)], &[])?;
+    type_tagged(&mut page)?;
+    Ok(page)
+}
+
+// Such a page whose site has so many counts left.
+fn page_of_counts(alloc: Global, counts: u64) -> Result<Page, Fail> {
+    let mut page = Page::beside(alloc, &[FINAL, stamp(1)], &[])?;
+    page.leave_counts(alloc, counts.saturating_add(4))?;
+    type_tagged(&mut page)?;
     Ok(page)
 }
 
@@ -318,5 +350,56 @@ fn the_last_newline_loses_its_tags(rt: HostRuntime) -> Result<(), Fail> {
     assert_eq!(rt; page.selected(FINAL), Some((false, false)));
     assert_eq!(rt; page.selected(stamp(1)), Some((true, false)));
     assert!(rt; page.has_tag("t") && page.has_tag("u"));
+    Ok(())
+}
+
+#[test]
+fn deletes_with_the_last_count(rt: HostRuntime) -> Result<(), Fail> {
+    let alloc = rt.alloc();
+    let mut page = Page::new(alloc)?;
+    page.leave_counts(alloc, 6)?;
+    page.insert("1.0", "hello")?;
+    let nothing = words(alloc, &["1.2", "1.2"])?;
+    let two = words(alloc, &["1.0", "1.1", "1.3", "1.4"])?;
+    let unread = words(alloc, &["1.0", "one"])?;
+    assert_eq!(rt; page.delete(&nothing), Ok(()));
+    assert_eq!(rt; page.delete(&two), Ok(()));
+    assert_eq!(rt; page.get("1.0", "end")?.as_str(), "elo\n");
+    assert_eq!(rt; page.delete(&two), Err(Fault::ClockSpent));
+    assert_eq!(rt; page.get("1.0", "end")?.as_str(), "elo\n");
+    assert_eq!(rt; page.delete(&nothing), Ok(()));
+    assert_eq!(rt; page.delete(&unread), Err(Fault::BadIndex));
+    Ok(())
+}
+
+// Each tag that the last newline loses takes a count behind that of the deletion.
+#[test]
+fn counts_of_the_last_newline(rt: HostRuntime) -> Result<(), Fail> {
+    let alloc = rt.alloc();
+    let down_to_the_end = words(alloc, &["1.1", "end"])?;
+    let mut page = page_of_counts(alloc, 3)?;
+    assert_eq!(rt; page.delete(&down_to_the_end), Ok(()));
+    assert_eq!(rt; page.get("1.0", "end")?.as_str(), "a\n");
+    tagged(&rt, &page, &[("t", 0, 0, 1), ("u", 0, 0, 1)]);
+    assert_eq!(rt; page.next_tagged("sel", 0), None);
+    assert_eq!(rt; page.selected(FINAL), Some((false, false)));
+    assert_eq!(rt; page.selected(stamp(1)), Some((true, false)));
+    assert_eq!(rt; page.insert("1.0", "c"), Err(Fault::ClockSpent));
+    Ok(())
+}
+
+// Where the clock can't go as far as the last of those counts, all is as it was.
+#[test]
+fn too_few_counts_for_the_last_newline(rt: HostRuntime) -> Result<(), Fail> {
+    let alloc = rt.alloc();
+    let down_to_the_end = words(alloc, &["1.1", "end"])?;
+    let mut page = page_of_counts(alloc, 2)?;
+    assert_eq!(rt; page.delete(&down_to_the_end), Err(Fault::ClockSpent));
+    assert_eq!(rt; page.get("1.0", "end")?.as_str(), "ab\n");
+    assert_eq!(rt; page.next_untagged("t", 0), None);
+    assert_eq!(rt; page.next_untagged("u", 0), None);
+    assert_eq!(rt; page.next_tagged("sel", 0), Some(2));
+    assert_eq!(rt; page.selected(FINAL), Some((true, false)));
+    assert_eq!(rt; page.insert("1.0", "cd"), Ok(()));
     Ok(())
 }

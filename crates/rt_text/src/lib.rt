@@ -22,6 +22,3 @@ pub use own_mark::OwnMark;
 pub use rt_edits::{Piece, Range, Selection};
 pub use view::View;
 pub use widget::Widget;
-
-#[cfg(test)]
-mod tests;

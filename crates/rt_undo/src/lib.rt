@@ -7,8 +7,6 @@ mod copies;
 pub mod examples;
 pub mod renames;
 pub mod stacks;
-#[cfg(test)]
-mod tests;
 
 pub use action::{Action, Kind, RemovedSpan};
 pub use renames::Renames;

@@ -1,5 +1,0 @@
-use Rattle.rt_script.specs.Site.{AreWithin}
-use Rattle.rt_script.proofs.site_tests.exchange.given.Given as goal
-
-abbrev pub invariant-loop-file : goal.invariant-loop-file
-invariant-loop-file l = AreWithin l.given.items

@@ -1,0 +1,25 @@
+//! Tests of the crates that stand on no other but rt_stamps, rt_tags and rt_spans, by what is public of them. The library itself is empty.
+#![tactic(auto)]
+
+#[cfg(test)]
+mod clock;
+#[cfg(test)]
+mod index;
+#[cfg(test)]
+mod marks;
+#[cfg(test)]
+mod oplog_files;
+#[cfg(test)]
+mod oplog_logs;
+#[cfg(test)]
+mod search;
+#[cfg(test)]
+mod spans;
+#[cfg(test)]
+mod tags_states;
+#[cfg(test)]
+mod tags_table;
+#[cfg(test)]
+mod undo;
+#[cfg(test)]
+mod words;

@@ -1,0 +1,19 @@
+//! Tests of scripts and of files, by what is public of rt_script. The library itself is empty.
+#![tactic(auto)]
+
+#[cfg(test)]
+mod exchange;
+#[cfg(test)]
+mod files;
+#[cfg(test)]
+mod lines;
+#[cfg(test)]
+mod marks;
+#[cfg(test)]
+mod replies;
+#[cfg(test)]
+mod sites;
+#[cfg(test)]
+mod tags;
+#[cfg(test)]
+mod texts;
