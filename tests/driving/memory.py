@@ -1,0 +1,148 @@
+"""Each allocation failing in turn, by a small library that is loaded before the program's own allocator."""
+import os
+import re
+import subprocess
+import tempfile
+
+from driving.program import BUILT, ROOT, SITE, check
+from driving.samples import AB, AB_LINE, FILES, HEAD, OLD, TAKE_B, Y, contents, put
+
+
+def failing_library(folder):
+    """The library by which the allocation of a number fails, where there is a C compiler."""
+    shim = os.path.join(folder, "fail_alloc.so")
+    made = subprocess.run(["cc", "-shared", "-fPIC", "-o", shim, os.path.join(ROOT, "tests", "fail_alloc.c"), "-ldl"], capture_output=True)
+    return None if made.returncode else shim
+
+
+def without_an_allocation(shim, number, *words, script=b""):
+    done = subprocess.run([BUILT, *words], input=script, capture_output=True, timeout=120, env={**os.environ, "LD_PRELOAD": shim, "FAIL_ALLOC": str(number)})
+    return done.stdout, done.stderr, done.returncode
+
+
+def failing_allocations_of_files():
+    """Each allocation fails in turn, those of the words of the command line too: a join is written whole, or OUT stays as it
+    was; lines are shown, or none or a front of them; and the program says that memory was wanting."""
+    shim = failing_library(".")
+    if shim is None:
+        return
+    want = AB_LINE + b"delete 3.1 prev 2 spans 1:2-2\n"
+    refused = 0
+    for number in range(1, 300):
+        with open("out", "wb") as file:
+            file.write(OLD)
+        out, err, status = without_an_allocation(shim, number, "join", "deleted", "y", "out")
+        whole = (status, contents("out")) == (0, HEAD + AB + TAKE_B + Y)
+        none = (status, contents("out")) == (1, OLD) and err == b"peertext: 1 NoMemory\n"
+        check(f"join without allocation {number}: {status} {err}", out == b"" and (whole or none), True)
+        refused += none
+        out, err, status = without_an_allocation(shim, number, "show", "deleted")
+        none = (status, err) == (1, b"peertext: 1 NoMemory\n")
+        check(f"show without allocation {number}: {status} {err}", (status, out) == (0, want) or (none and want.startswith(out)), True)
+        refused += none
+    check("some allocations were refused", refused > 10, True)
+    check("the last of them is behind us", status, 0)
+
+
+# where the records of the file `deleted` begin, and the text after so many of them
+OFFSETS = (8, 44)
+TEXTS = ('= "\\n"', '= "ab\\n"', '= "a\\n"')
+
+
+def held_after(line, known):
+    """How many records of `deleted` a site holds after this reply to `receive deleted`, of which it held some; none where
+    there is no such reply."""
+    if line == "! 1 NoMemory":
+        return known
+    if line == f"= {2 - known} {known}":
+        return 2
+    found = re.fullmatch(r"! 1 NoMemory at ([0-9]+) new ([0-9]+) repeat ([0-9]+)", line)
+    if not found:
+        return None
+    at, new, repeats = map(int, found.groups())
+    taken = new + repeats
+    fits = taken < 2 and repeats == min(known, taken) and (at == OFFSETS[taken] or (at, taken) == (0, 0))
+    return max(known, taken) if fits else None
+
+
+def failing_allocations_of_receive():
+    """Each allocation fails in turn, those of the command line, the log and the files too: a file is received up to the record
+    that found no memory, and the log at the end is that of what is held; or the run ends for want of memory, and --out has
+    the log, or stays."""
+    shim = failing_library(".")
+    if shim is None:
+        return
+    asks = ["receive deleted", ".t get 1.0 end"] * 3
+    script = "".join(line + "\n" for line in asks).encode()
+    logs = (HEAD, FILES["ab"], FILES["deleted"])
+    early = cut = number = quiet = 0
+    while quiet < 30 and number < 1000:
+        number += 1
+        # in turn a new site, and one that begins with the first record
+        begin = number % 2
+        put("out", OLD)
+        words = ("run", *SITE, *(("--log", "ab") if begin else ()), "--out", "out", "deleted")
+        out, err, status = without_an_allocation(shim, (number + 1) // 2, *words, script=script)
+        lines, known, good = out.decode().splitlines(), begin, True
+        for ask, line in zip(asks, lines):
+            if ask.startswith("receive"):
+                after = held_after(line, known)
+                good &= after is not None
+                cut += " at " in line
+                known = known if after is None else after
+            else:
+                good &= line in ("! 1 NoMemory", TEXTS[known])
+        left = contents("out")
+        whole = len(lines) == len(asks) and (err, status, left) == (b"", 0, logs[known])
+        ended = (err, status) == (b"peertext: 1 NoMemory\n", 1) and (left == OLD or left == logs[known])
+        check(f"receive without allocation {number}: {lines} {err} {status}", good and (whole or ended), True)
+        early += ended
+        quiet = quiet + 1 if whole and not any("NoMemory" in line for line in lines) else 0
+    check("some allocations ended the run", early > 0, True)
+    check("some allocations were refused to an operation", cut > 0, True)
+    check("the last of them is behind us", number < 1000, True)
+
+
+def failing_allocations():
+    """Each allocation fails in turn: a line is answered as the text then is, or `1 NoMemory` and the text is as it was."""
+    with tempfile.TemporaryDirectory() as folder:
+        shim = failing_library(folder)
+        if shim is None:
+            print("no C compiler: the failing allocations were not tried")
+            return
+        asks = [
+            (".t insert 1.0 hello", lambda text: ("hello" + text, "=")),
+            (".t get 1.0 end", lambda text: (text, f'= "{text}\\n"')),
+            (".t insert 1.0 \"" + "a" * 3000 + '"', lambda text: ("a" * 3000 + text, "=")),
+            (".t get 1.0 end", lambda text: (text, f'= "{text}\\n"')),
+            (".t delete 1.1 1.3 1.2 {1.4}", lambda text: (text[:1] + text[4:], "=")),
+            (".t get 1.0 1.1 1.1 1.2", lambda text: (text, " ".join(["=", *text[:2]]))),
+            (".t count -chars -lines 1.0 end", lambda text: (text, f"= {len(text) + 1} 1")),
+            (".t compare 1.0 < end", lambda text: (text, "= 1")),
+            (".t get 1.0 end", lambda text: (text, f'= "{text}\\n"')),
+            (".t index 1.end", lambda text: (text, f"= 1.{len(text)}")),
+            (".t index {1.0 + 1 c + 1 c + 1 c + 1 c + 1 c}", lambda text: (text, "= 1.5" if len(text) >= 5 else "= 2.0")),
+            (".t mark set m 1.1", lambda text: (text, "=")),
+            (".t mark gravity insert", lambda text: (text, "= right")),
+            (".t mark next end", lambda text: (text, "=")),
+        ]
+        script = "".join(line + "\n" for line, _ in asks)
+        number, quiet, refused = 0, 0, 0
+        while quiet < 30 and number < 400:
+            number += 1
+            done = subprocess.run([BUILT, "run", "--site", "1"], input=script.encode(), capture_output=True, timeout=120,
+                                  env={**os.environ, "LD_PRELOAD": shim, "FAIL_ALLOC": str(number)})
+            lines = done.stdout.decode().splitlines()
+            text, good = "", True
+            for (_, answer), line in zip(asks, lines):
+                if line == "! 1 NoMemory":
+                    refused += 1
+                    continue
+                text, want = answer(text)
+                good &= line == want
+            whole = len(lines) == len(asks) and done.returncode == 0
+            early = len(lines) < len(asks) and (done.returncode, done.stderr) == (1, b"peertext: 1 NoMemory\n")
+            check(f"allocation {number} fails: {lines}", good and (whole or early), True)
+            quiet = quiet + 1 if whole and "! 1 NoMemory" not in lines else 0
+        check("some allocations were refused to a line", refused > 0, True)
+        check("the last of them is behind us", number < 400, True)

@@ -1,0 +1,66 @@
+"""Random commands, some of whose words are wrong."""
+import random
+
+from modelled.widget import spelled
+
+
+class Chance(random.Random):
+    def text(self):
+        return "".join(self.choice("ab_1 \n-é日") for _ in range(self.randrange(9)))
+
+    def name(self):
+        return self.choice(["insert", "current", "m", "n", "l", "1.0", "2.1", "end", "a b", "m+1c", "sel.first", "q.last", "é", "" if self.random() < .2 else "k"])
+
+    def tag(self):
+        return self.choice(["sel", "t", "t", "t", "u", "u", "v", "a b", "t.first", "é", "" if self.random() < .1 else "t"])
+
+    def list(self):
+        if self.random() < .03:
+            return self.choice(['"t', "{t", '"t"u', "{t}u", '"\\q"', "{t}}"])
+        return self.choice(["", " ", "\n"]) + self.choice([" ", "\n", "\t", "  "]).join(spelled(self.tag()) for _ in range(self.randrange(4)))
+
+    def word(self):
+        base = self.choice([f"{self.randrange(5)}.{self.randrange(9)}", f"{self.randrange(1, 5)}.end", "end", self.name(), self.tag() + self.choice([".first", ".last"]) if self.random() < .4 else "1.0", "x" if self.random() < .2 else "insert"])
+        for _ in range(self.choice([0, 0, 0, 1, 1, 2])):
+            space = " " * self.choice([0, 1, 1, 2])
+            if self.random() < .6:
+                base += (space + self.choice("+-") + self.choice(["", " "]) + self.choice(["", "", "+", "-"]) + str(self.choice([0, 1, 2, 3, 7, 2**70])) + self.choice(["", " "])
+                         + self.choice(["", "", "any "]) + self.choice(["c", "char", "chars", "i", "indices", "l", "lines", "line", "lin", "cx" if self.random() < .1 else "c"]))
+            else:
+                base += self.choice([" ", " ", "  ", "" if self.random() < .1 else " "]) + self.choice(["", "", "any "]) + self.choice(["linestart", "lineend", "wordstart", "wordend", "lines", "linee", "words", "worde", "line" if self.random() < .1 else "lineend"])
+        return base + self.choice(["", "", "", " "])
+
+    def command(self):
+        kind = self.choice(["insert", "insert", "insert", "delete", "get", "index", "index", "compare", "count", "mark", "mark", "tag", "tag", "tag", "tag", "tag"])
+        if kind == "insert":
+            words = [w for _ in range(self.choice([1, 1, 1, 2, 3])) for w in (self.text(), self.list())]
+            return [kind, self.word(), *(words if self.random() < .5 else words[:-1])]
+        if kind == "tag":
+            action = self.choice(["add", "add", "add", "remove", "delete", "raise", "lower", "names", "ranges", "ranges", "nextrange", "nextrange", "prevrange", "prevrange", "frob" if self.random() < .1 else "names"])
+            if action in ("add", "remove"):
+                return [kind, action, self.tag(), *(self.word() for _ in range(self.randrange(5)))]
+            if action in ("delete", "raise", "lower"):
+                return [kind, action, *(self.tag() for _ in range(self.randrange(4) if action == "delete" else self.randrange(1, 3)))]
+            if action == "names":
+                return [kind, action, *(self.word() for _ in range(self.randrange(2)))]
+            if action == "ranges":
+                return [kind, action, self.tag()]
+            return [kind, action, self.tag(), *(self.word() for _ in range(self.randrange(1, 3)))]
+        if kind in ("delete", "get"):
+            return [kind, *(self.word() for _ in range(self.randrange(1, 6)))]
+        if kind == "index":
+            return [kind, self.word()]
+        if kind == "compare":
+            return [kind, self.word(), self.choice(["<", "<=", "==", ">=", ">", "!=", "=<"]), self.word()]
+        if kind == "count":
+            return [kind, *self.choices(["-chars", "-indices", "-lines"], k=self.randrange(3)), self.word(), self.word()]
+        action = self.choice(["set", "set", "set", "unset", "gravity", "gravity", "names", "next", "next", "previous", "previous"])
+        if action == "set":
+            return [kind, action, self.name(), self.word()]
+        if action == "unset":
+            return [kind, action, *(self.name() for _ in range(self.randrange(3)))]
+        if action == "gravity":
+            return [kind, action, self.name(), *self.choice([[], ["left"], ["right"], ["up"]])]
+        if action == "names":
+            return [kind, action]
+        return [kind, action, self.choice([self.name(), self.word()])]

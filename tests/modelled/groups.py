@@ -1,0 +1,97 @@
+"""Groups of sites, which edit by scripts of their own and receive one another's files, late, repeated and cut."""
+import os
+import subprocess
+
+from modelled.sites import Site, spelling, stamp
+from modelled.widget import BAD_COMMAND, NO_FILE, spelled
+
+
+class Group:
+    """Sites with their files, in a folder. A file is a list of operations in stamp order, and how many bytes there are of it."""
+
+    def __init__(self, program, chance, folder, count):
+        self.program, self.chance, self.folder = program, chance, folder
+        self.logs = {site: [] for site in chance.sample([1, 2, 3, 7, 65535], count)}
+        self.files = {}
+
+    def write(self, name, ops, size=None):
+        data = spelling(ops)
+        size = len(data) if size is None else min(size, len(data))
+        with open(os.path.join(self.folder, name), "wb") as file:
+            file.write(data[:size])
+        self.files[name] = (sorted(ops, key=stamp), size)
+
+    def snapshot(self, site, turn):
+        """A site's log as a file for others: the whole of it, its later operations alone, or a front of its bytes."""
+        ops = sorted(self.logs[site], key=stamp)
+        self.write(f"{site}.{turn}", ops)
+        if ops and self.chance.random() < .3:
+            self.write(f"{site}.{turn}.late", ops[self.chance.randrange(len(ops)):])
+        if self.chance.random() < .2:
+            self.write(f"{site}.{turn}.cut", ops, self.chance.randrange(len(spelling(ops))))
+
+    def lines(self, site, names):
+        """A script: commands, and files that are received."""
+        found = []
+        for _ in range(self.chance.randrange(1, 40)):
+            if names and self.chance.random() < .2:
+                found.append(["receive", self.chance.choice(names)])
+            elif self.chance.random() < .02:
+                found.append(self.chance.choice([["receive"], ["receive", "none"], ["receive", "a", "b"]]))
+            else:
+                found.append([".t", *self.chance.command()])
+        return found
+
+    def run(self, site, script, names):
+        """Whether the program answers a script of a site as the model does, and leaves the same log."""
+        model, wants = Site(site), []
+        if self.logs[site]:
+            model.receive((sorted(self.logs[site], key=stamp), len(spelling(self.logs[site]))))
+        for words in script:
+            if words[0] == ".t":
+                wants.append(model.answer(words[1:]))
+            elif len(words) != 2:
+                wants.append(BAD_COMMAND)
+            else:
+                wants.append(model.receive(self.files[words[1]]) if words[1] in names else NO_FILE)
+            assert model.is_sound(), script
+        log = os.path.join(self.folder, f"{site}.log")
+        options = ["--site", str(site), "--out", log] + (["--log", log] if os.path.exists(log) else [])
+        text = "".join(" ".join(map(spelled, words)) + "\n" for words in script)
+        done = subprocess.run([self.program, "run", *options, *names], input=text.encode(), capture_output=True, timeout=120, cwd=self.folder)
+        self.logs[site] = model.ops
+        lines = done.stdout.decode().split("\n")[:-1]
+        with open(log, "rb") as file:
+            left = file.read()
+        if (lines, done.stderr, done.returncode, left) == (wants, b"", 0, spelling(model.ops)):
+            return True
+        at = next((i for i, (a, b) in enumerate(zip(lines, wants)) if a != b), min(len(lines), len(wants)))
+        print(f"failed: site {site}, {' '.join(options)}, line {at + 1}: {done.returncode} {done.stderr!r}")
+        print("".join(text.splitlines(True)[:at + 1]), end="")
+        print(f"  got  {lines[at] if at < len(lines) else None!r}\n  want {wants[at] if at < len(wants) else None!r}\n  the log is {'' if left == spelling(model.ops) else 'not '}the model's")
+        return False
+
+    def play(self):
+        """Sites edit and receive in turns; then each receives all that the others did, in some order, some of it twice."""
+        good = True
+        for turn in range(self.chance.randrange(1, 5)):
+            for site in self.chance.sample(list(self.logs), len(self.logs)):
+                names = self.chance.choices(list(self.files), k=self.chance.randrange(4)) if self.files else []
+                good &= self.run(site, self.lines(site, names), names)
+                self.snapshot(site, turn)
+        for site in self.logs:
+            self.write(f"{site}.whole", self.logs[site])
+        ends = [f"{site}.whole" for site in self.logs]
+        shown = [[".t", "get", "1.0", "end"], *([".t", "tag", "ranges", tag] for tag in ("t", "u", "v", "a b", "t.first", "é"))]
+        answers = []
+        for site in self.logs:
+            names = self.chance.choices(list(self.files), k=2) + self.chance.sample(ends, len(ends))
+            good &= self.run(site, [["receive", name] for name in names] + shown, names)
+            model = Site(site)
+            for op in sorted(self.logs[site], key=stamp):
+                model.accept(op)
+            answers.append((sorted(map(str, self.logs[site])), [model.answer(words[1:]) for words in shown]))
+        if any(answer != answers[0] for answer in answers):
+            print("failed: sites that accepted the same differ in the model")
+            good = False
+        return good

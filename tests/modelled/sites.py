@@ -1,0 +1,166 @@
+"""The plain model of a site: a widget over the operations that it has accepted, which are all read again after each
+(docs/REPLICATION.md), and the bytes of operations (docs/FILES.md)."""
+import collections
+
+from modelled.widget import NOT_YET, TRUNCATED, Refused, Widget
+
+# an operation: its count, site and prev; for an Insert the stamp that it goes after, the text and its tags; for a Delete the
+# stamps; for a Tag whether it is on, its name and the stamps
+Insert = collections.namedtuple("Insert", "count site prev after text tags")
+Delete = collections.namedtuple("Delete", "count site prev stamps")
+Tag = collections.namedtuple("Tag", "count site prev stamps on name")
+ROOT_STAMP, FINAL_STAMP = (0, 0), (1, 0)
+
+
+def stamp(op):
+    return op.count, op.site
+
+
+def last_count(op):
+    return op.count + len(op.text) - 1 if isinstance(op, Insert) else op.count
+
+
+def made(op):
+    """The stamps of the characters of an Insert."""
+    return [(op.count + i, op.site) for i in range(len(op.text))] if isinstance(op, Insert) else []
+
+
+def named(op):
+    return [op.after] if isinstance(op, Insert) else op.stamps
+
+
+def number(n, size):
+    return n.to_bytes(size, "big")
+
+
+def spans(stamps):
+    found = []
+    for count, site in sorted(stamps, key=lambda s: (s[1], s[0])):
+        if found and found[-1][0] == site and found[-1][2] == count - 1:
+            found[-1][2] = count
+        else:
+            found.append([site, count, count])
+    return number(len(found), 4) + b"".join(number(site, 2) + number(first, 8) + number(last, 8) for site, first, last in found)
+
+
+def record(op):
+    if isinstance(op, Insert):
+        tags = sorted(tag.encode() for tag in op.tags)
+        kind, body = 1, number(op.after[0], 8) + number(op.after[1], 2) + number(len(tags), 1) + b"".join(number(len(t), 1) + t for t in tags) + op.text.encode()
+    elif isinstance(op, Delete):
+        kind, body = 2, spans(op.stamps)
+    else:
+        kind, body = 3, number(op.on, 1) + number(len(op.name.encode()), 1) + op.name.encode() + spans(op.stamps)
+    content = number(kind, 1) + number(op.count, 8) + number(op.site, 2) + number(op.prev, 8) + body
+    return number(len(content), 4) + content
+
+
+def spelling(ops):
+    return b"RGATEXT1" + b"".join(record(op) for op in sorted(ops, key=stamp))
+
+
+def reading(ops):
+    """The visible characters of a history, with their stamps and shared tags: a tree read depth first, of the children of an
+    element the greater stamp first. A tag is on a character where the greatest of what was said of it says on."""
+    children, chars, gone, said = collections.defaultdict(list), {FINAL_STAMP: "\n"}, set(), collections.defaultdict(dict)
+    children[ROOT_STAMP].append(FINAL_STAMP)
+    for op in sorted(ops, key=stamp):
+        if isinstance(op, Insert):
+            left = op.after
+            for here, char in zip(made(op), op.text):
+                children[left].append(here)
+                chars[here], left = char, here
+                for tag in op.tags:
+                    said[here].setdefault(tag, True)
+        elif isinstance(op, Delete):
+            gone |= set(op.stamps)
+        else:
+            # by rising stamp, so the last is the greatest; each is greater than the Inserts of what it names
+            for here in op.stamps:
+                said[here][op.name] = op.on
+    order, rest = [], [ROOT_STAMP]
+    while rest:
+        here = rest.pop()
+        order.append(here)
+        rest += sorted(children[here])
+    return [(here, chars[here], frozenset(t for t, on in said[here].items() if on)) for here in order if here in chars and here not in gone]
+
+
+class Site(Widget):
+    """A site: the widget, the stamps of its characters, and the operations that it has accepted."""
+
+    def __init__(self, site):
+        super().__init__()
+        self.site, self.ops, self.stamps = site, [], [FINAL_STAMP]
+
+    def known_end(self, site):
+        return max((last_count(op) for op in self.ops if op.site == site), default=0)
+
+    def make(self, kind, *fields):
+        op = kind(max(map(last_count, self.ops), default=0) + 1, self.site, self.known_end(self.site), *fields)
+        self.ops.append(op)
+        return op
+
+    # own edits
+
+    def has_inserted(self, p, new, tags):
+        op = self.make(Insert, self.stamps[p - 1] if p else ROOT_STAMP, new, tags - {"sel"})
+        self.stamps[p:p] = made(op)
+
+    def is_removing(self, gone, is_cleared):
+        if gone:
+            self.make(Delete, [self.stamps[p] for p in gone])
+        for tag in sorted(self.tags[-1] - {"sel"}, key=str.encode) if is_cleared else []:
+            self.make(Tag, [FINAL_STAMP], False, tag)
+        self.stamps = [here for p, here in enumerate(self.stamps) if p not in set(gone)]
+
+    def is_tagging(self, name, places, on):
+        if places and name != "sel":
+            self.make(Tag, [self.stamps[p] for p in places], on, name)
+
+    # operations of others
+
+    def accept(self, op):
+        """Whether an operation is new, or that it comes too early; those of these tests are never at fault otherwise."""
+        if op in self.ops:
+            return False
+        known = {FINAL_STAMP, ROOT_STAMP}.union(*map(made, self.ops))
+        if op.prev != self.known_end(op.site) or not set(named(op)) <= known:
+            raise Refused(NOT_YET)
+        selected = {here for here, tags in zip(self.stamps, self.tags) if "sel" in tags}
+        before, self.ops = self.stamps, [*self.ops, op]
+        read = reading(self.ops)
+        self.stamps, self.text = [here for here, _, _ in read], "".join(char for _, char, _ in read)
+        self.tags = [tags | {"sel"} if here in selected else tags for here, _, tags in read]
+        if isinstance(op, Insert):
+            self.marks_inserted(self.stamps.index(stamp(op)), len(op.text))
+            self.listed(sorted(op.tags, key=str.encode))
+        else:
+            self.marks_removed({p for p, here in enumerate(before) if here not in set(self.stamps)})
+            if isinstance(op, Tag) and op.on:
+                self.listed([op.name])
+        return True
+
+    def receive(self, file):
+        """The reply to a file: a list of operations, and how many of its bytes there are."""
+        ops, size = file
+        new = repeats = 0
+        at, fault = 8, None
+        for op in ops:
+            if at + len(record(op)) > size:
+                break
+            try:
+                if self.accept(op):
+                    new += 1
+                else:
+                    repeats += 1
+            except Refused as why:
+                return f"{why} at {at} new {new} repeat {repeats}"
+            at += len(record(op))
+        if size < 8 or at < size:
+            fault = TRUNCATED
+        return f"{fault} at {at if size >= 8 else 0} new {new} repeat {repeats}" if fault else f"= {new} {repeats}"
+
+    def is_sound(self):
+        """Whether the widget shows what its operations say."""
+        return reading(self.ops) == [(here, char, tags - {"sel"}) for here, char, tags in zip(self.stamps, self.text, self.tags)]

@@ -1,0 +1,420 @@
+"""The plain model of a widget: a list of characters with their tags, a table of marks, and the list of tags."""
+import re
+
+
+class Refused(Exception):
+    pass
+
+
+BAD_INDEX, NONE_TAGGED, BAD_COMMAND, NO_TAG, NO_MARK, BAD_OPTION, BAD_NAME, BAD_QUOTING, NO_FILE, NOT_YET, TRUNCATED = (
+    "! 2 BadIndex", "! 3 NoneTagged", "! 4 BadCommand", "! 7 NoTag", "! 8 NoMark", "! 9 BadOption", "! 14 BadName", "! 19 BadQuoting", "! 20 NoFile",
+    "! 36 NotYet", "! 32 Truncated")
+
+POSITION = re.compile(r"([0-9]+)\.([0-9]+|end)\Z")
+# a modifier: a count, or a keyword
+COUNT = re.compile(r" *([+-]) *([+-]?)([0-9]+) *(?:any +)?([a-z]+)(?![A-Za-z])")
+KEYWORD = re.compile(r" +(?:any +)?([a-z]+)(?![A-Za-z])")
+KEYWORDS = ("linestart", "lineend", "wordstart", "wordend")
+UNITS = ("chars", "indices", "lines")
+
+
+def is_word(c):
+    return c == "_" or c.isalpha() or c.isdecimal()
+
+
+def names_checked(names):
+    if not all(1 <= len(name.encode()) <= 255 for name in names):
+        raise Refused(BAD_NAME)
+
+
+def words_of(text):
+    """The words of a tag list."""
+    words, i = [], 0
+    while True:
+        while i < len(text) and text[i] in " \t\n":
+            i += 1
+        if i == len(text):
+            return words
+        word = ""
+        if text[i] == '"':
+            i += 1
+            while i < len(text) and text[i] != '"':
+                if text[i] == "\\":
+                    i += 1
+                    if i == len(text) or text[i] not in "ntr\\\"":
+                        raise Refused(BAD_QUOTING)
+                    word += {"n": "\n", "t": "\t", "r": "\r"}.get(text[i], text[i])
+                else:
+                    word += text[i]
+                i += 1
+            if i == len(text):
+                raise Refused(BAD_QUOTING)
+            i += 1
+        elif text[i] == "{":
+            depth, start = 0, i + 1
+            while i < len(text):
+                depth += {"{": 1, "}": -1}.get(text[i], 0)
+                i += 1
+                if depth == 0:
+                    break
+            if depth:
+                raise Refused(BAD_QUOTING)
+            word = text[start:i - 1]
+        else:
+            while i < len(text) and text[i] not in " \t\n":
+                word, i = word + text[i], i + 1
+            words.append(word)
+            continue
+        if i < len(text) and text[i] not in " \t\n":
+            raise Refused(BAD_QUOTING)
+        words.append(word)
+
+
+class Widget:
+    def __init__(self):
+        self.text = "\n"
+        # the tags of each character, `sel` among them, and the listed tags
+        self.tags = [frozenset()]
+        self.names = ["sel"]
+        self.marks = {"insert": [0, "right"], "current": [0, "right"]}
+
+    # places
+
+    def lines(self):
+        return self.text.count("\n")
+
+    def start(self, line):
+        """The first place of a line, which may be the line of the end."""
+        return sum(len(x) + 1 for x in self.text.split("\n")[:line - 1])
+
+    def line(self, place):
+        return 1 + self.text[:place].count("\n")
+
+    def character(self, line, character):
+        """A character of a line, or its newline."""
+        return min(self.start(line) + character, self.start(line + 1) - 1)
+
+    def position(self, place):
+        line = self.line(place)
+        return f"{line}.{place - self.start(line)}"
+
+    # indices
+
+    def base(self, word):
+        token = re.match(r"[^ +-]*", word).group()
+        at = POSITION.match(token)
+        n = len(self.text)
+        if at:
+            line, rest = int(at[1]), word[len(token):]
+            if line == 0:
+                return 0, rest
+            if line > self.lines():
+                return n, rest
+            return (self.start(line + 1) - 1 if at[2] == "end" else self.character(line, int(at[2]))), rest
+        if token == "end":
+            return n, word[3:]
+        if token in self.marks:
+            return self.marks[token][0], word[len(token):]
+        for size in range(len(word), 0, -1):
+            name, _, end = word[:size].rpartition(".")
+            if name in self.names and end in ("first", "last") and word[size:size + 1] in ("", " ", "+", "-"):
+                tagged = [p for p in range(n) if name in self.tags[p]]
+                return (None if not tagged else tagged[0] if end == "first" else tagged[-1] + 1), word[size:]
+        raise Refused(BAD_INDEX)
+
+    def modifiers(self, rest):
+        found = []
+        while rest.strip(" "):
+            m = COUNT.match(rest)
+            if m:
+                units = [u for u in UNITS if u.startswith(m[4])]
+                if not units:
+                    raise Refused(BAD_INDEX)
+                # no two units begin alike
+                found.append((units[0], (-1 if m[1] == "-" else 1) * (-1 if m[2] == "-" else 1), int(m[3])))
+            else:
+                m = KEYWORD.match(rest)
+                words = [k for k in KEYWORDS if m and len(m[1]) >= 5 and k.startswith(m[1])]
+                if not words:
+                    raise Refused(BAD_INDEX)
+                found.append((words[0], 1, 0))
+            rest = rest[m.end():]
+        return found
+
+    def moved(self, p, kind, sign, k):
+        n, text = len(self.text), self.text
+        if kind in ("chars", "indices"):
+            return max(0, min(n, p + sign * k))
+        if p == n:
+            if kind == "lines" and sign < 0 and k > 0:
+                return self.start(max(self.lines() + 1 - k, 1))
+            return n
+        line = self.line(p)
+        if kind == "lines":
+            return self.character(max(1, min(self.lines(), line + sign * k)), p - self.start(line))
+        if kind == "linestart":
+            return self.start(line)
+        if kind == "lineend":
+            return self.start(line + 1) - 1
+        low = high = p
+        if is_word(text[p]):
+            while low > 0 and is_word(text[low - 1]):
+                low -= 1
+            while is_word(text[high]):
+                high += 1
+        else:
+            high = p + 1
+        return low if kind == "wordstart" else p if p == n - 1 else high
+
+    def index(self, word):
+        p, rest = self.base(word)
+        modifiers = self.modifiers(rest)
+        if p is None:
+            raise Refused(NONE_TAGGED)
+        for m in modifiers:
+            p = self.moved(p, *m)
+        return p
+
+    # edits
+
+    # what a site makes operations of: characters put in, characters taken away (and the last newline's tags, if it is
+    # cleared), a tag put on characters or taken off
+
+    def has_inserted(self, p, new, tags):
+        pass
+
+    def is_removing(self, gone, is_cleared):
+        pass
+
+    def is_tagging(self, name, places, on):
+        pass
+
+    def listed(self, names):
+        self.names += [name for name in names if name not in self.names]
+
+    def insert(self, p, new, names):
+        """Text with a list of tags, or without one."""
+        if not new:
+            return p
+        if names is None:
+            tags = self.tags[p - 1] & self.tags[p] if p else frozenset()
+        else:
+            tags = frozenset(names)
+        self.text = self.text[:p] + new + self.text[p:]
+        self.tags[p:p] = [tags] * len(new)
+        self.listed(sorted(tags, key=str.encode))
+        self.marks_inserted(p, len(new))
+        self.has_inserted(p, new, tags)
+        return p + len(new)
+
+    def marks_inserted(self, p, n):
+        for mark in self.marks.values():
+            if mark[0] > p or mark[0] == p and mark[1] == "right":
+                mark[0] += n
+
+    def marks_removed(self, gone):
+        for mark in self.marks.values():
+            mark[0] = sum(p not in gone for p in range(mark[0]))
+
+    def inserted(self, words):
+        if len(words) < 2:
+            raise Refused(BAD_COMMAND)
+        lists = [words_of(w) for w in words[2::2]]
+        names_checked([name for names in lists for name in names])
+        p = min(self.index(words[0]), len(self.text) - 1)
+        for i, new in enumerate(words[1::2]):
+            p = self.insert(p, new, lists[i] if i < len(lists) else None)
+
+    def pairs(self, words):
+        places = [self.index(w) for w in words]
+        if len(places) % 2:
+            places.append(places[-1] + 1)
+        return list(zip(places[::2], places[1::2]))
+
+    def delete(self, words):
+        n, merged = len(self.text), []
+        for a, b in sorted((a, min(b, n)) for a, b in self.pairs(words) if a < min(b, n)):
+            if merged and a <= merged[-1][1]:
+                merged[-1][1] = max(b, merged[-1][1])
+            else:
+                merged.append([a, b])
+        gone, is_cleared = set(), False
+        for a, b in merged:
+            gone |= set(range(a, b))
+            if b == n:
+                gone.discard(n - 1)
+                is_cleared = True
+                if a > 0 and self.text[a - 1] == "\n":
+                    gone.add(a - 1)
+        self.is_removing(sorted(gone), is_cleared)
+        if is_cleared:
+            self.tags[n - 1] = frozenset()
+        self.marks_removed(gone)
+        self.text = "".join(c for p, c in enumerate(self.text) if p not in gone)
+        self.tags = [tags for p, tags in enumerate(self.tags) if p not in gone]
+
+    # tags
+
+    def ranges(self, name):
+        """The longest runs of characters that have a tag."""
+        places = [p for p in range(len(self.text)) if name in self.tags[p]]
+        firsts = [p for p in places if p - 1 not in places]
+        lasts = [p for p in places if p + 1 not in places]
+        return list(zip(firsts, [p + 1 for p in lasts]))
+
+    def positions(self, ranges):
+        return [self.position(p) for r in ranges for p in r]
+
+    def tag(self, words):
+        if not words:
+            raise Refused(BAD_COMMAND)
+        action, words = words[0], words[1:]
+        least, most = {"add": (2, 99), "remove": (2, 99), "delete": (1, 99), "raise": (1, 2), "lower": (1, 2), "names": (0, 1), "ranges": (1, 1),
+                       "nextrange": (2, 3), "prevrange": (2, 3)}.get(action, (1, 0))
+        if not least <= len(words) <= most:
+            raise Refused(BAD_COMMAND)
+        n = len(self.text)
+        if action == "names":
+            if not words:
+                return list(self.names)
+            p = self.index(words[0])
+            return [name for name in self.names if p < n and name in self.tags[p]]
+        names_checked(words if action in ("delete", "raise", "lower") else words[:1])
+        if action == "delete":
+            for name in words:
+                if name != "sel":
+                    self.is_tagging(name, [p for p in range(n) if name in self.tags[p]], False)
+                    self.tags = [tags - {name} for tags in self.tags]
+                    self.names = [x for x in self.names if x != name]
+            return []
+        if action in ("raise", "lower"):
+            if not set(words) <= set(self.names):
+                raise Refused(NO_TAG)
+            if words[0] != words[-1] or len(words) == 1:
+                self.names.remove(words[0])
+                at = (len(self.names) if action == "raise" else 0) if len(words) == 1 else self.names.index(words[1]) + (action == "raise")
+                self.names.insert(at, words[0])
+            return []
+        if action in ("add", "remove"):
+            covered = sorted({p for a, b in self.pairs(words[1:]) for p in range(a, min(b, n))})
+            self.is_tagging(words[0], [p for p in covered if (words[0] in self.tags[p]) != (action == "add")], action == "add")
+            for p in covered:
+                self.tags[p] = self.tags[p] | {words[0]} if action == "add" else self.tags[p] - {words[0]}
+            if action == "add":
+                self.listed(words[:1])
+            return []
+        ranges = self.ranges(words[0])
+        if action == "ranges":
+            return self.positions(ranges)
+        places = [self.index(w) for w in words[1:]]
+        if action == "nextrange":
+            a, b = (places + [n])[:2]
+            return self.positions([r for r in ranges if a <= r[0] < b][:1])
+        a, b = (places + [0])[:2]
+        return self.positions([r for r in ranges if b <= r[0] < a][-1:])
+
+    # marks
+
+    def ordered(self):
+        return sorted((p, g == "right", name.encode(), name) for name, (p, g) in self.marks.items())
+
+    def named(self, word):
+        return word in self.marks and word != "end" and not POSITION.match(word)
+
+    def mark(self, words):
+        if not words:
+            raise Refused(BAD_COMMAND)
+        action, words = words[0], words[1:]
+        least, most = {"set": (2, 2), "unset": (1, 99), "gravity": (1, 2), "names": (0, 0), "next": (1, 1), "previous": (1, 1)}.get(action, (1, 0))
+        if not least <= len(words) <= most:
+            raise Refused(BAD_COMMAND)
+        if action == "names":
+            return sorted(self.marks, key=str.encode)
+        if action in ("next", "previous"):
+            marks = self.ordered()
+            if self.named(words[0]):
+                here = [m[3] for m in marks].index(words[0])
+                found = marks[here + 1:] if action == "next" else marks[:here]
+            else:
+                p = self.index(words[0])
+                found = [m for m in marks if (m[0] >= p if action == "next" else m[0] < p)]
+            return [(found[0] if action == "next" else found[-1])[3]] if found else []
+        if action == "gravity" and len(words) == 2 and words[1] not in ("left", "right"):
+            raise Refused(BAD_OPTION)
+        if not all(1 <= len(w.encode()) <= 255 for w in (words[:1] if action != "unset" else words)):
+            raise Refused(BAD_NAME)
+        if action == "set":
+            p = self.index(words[1])
+            if words[0] == "insert":
+                p = min(p, len(self.text) - 1)
+            self.marks.setdefault(words[0], [0, "right"])[0] = p
+            return []
+        if action == "unset":
+            for w in words:
+                if w not in ("insert", "current"):
+                    self.marks.pop(w, None)
+            return []
+        if words[0] not in self.marks:
+            raise Refused(NO_MARK)
+        if len(words) == 1:
+            return [self.marks[words[0]][1]]
+        self.marks[words[0]][1] = words[1]
+        return []
+
+    # a command
+
+    def answer(self, words):
+        try:
+            reply = self.command(words[0], words[1:])
+        except Refused as fault:
+            return str(fault)
+        return " ".join(["=", *map(spelled, reply)])
+
+    def command(self, name, words):
+        if name == "insert":
+            self.inserted(words)
+            return []
+        if name == "delete":
+            if not words:
+                raise Refused(BAD_COMMAND)
+            self.delete(words)
+            return []
+        if name == "get":
+            if not words:
+                raise Refused(BAD_COMMAND)
+            texts = [self.text[a:b] for a, b in self.pairs(words)]
+            return texts if len(words) < 3 else [t for t in texts if t]
+        if name == "index":
+            if len(words) != 1:
+                raise Refused(BAD_COMMAND)
+            return [self.position(self.index(words[0]))]
+        if name == "compare":
+            if len(words) != 3:
+                raise Refused(BAD_COMMAND)
+            operators = {"<": int.__lt__, "<=": int.__le__, "==": int.__eq__, ">=": int.__ge__, ">": int.__gt__, "!=": int.__ne__}
+            if words[1] not in operators:
+                raise Refused(BAD_OPTION)
+            return [str(int(operators[words[1]](self.index(words[0]), self.index(words[2]))))]
+        if name == "count":
+            switches = []
+            while words and words[0].startswith("-"):
+                switches, words = switches + words[:1], words[1:]
+            if len(words) != 2:
+                raise Refused(BAD_COMMAND)
+            if not set(switches) <= {"-chars", "-indices", "-lines"}:
+                raise Refused(BAD_OPTION)
+            a, b = self.index(words[0]), self.index(words[1])
+            return [str(self.line(b) - self.line(a) if s == "-lines" else b - a) for s in switches or ["-indices"]]
+        if name == "mark":
+            return self.mark(words)
+        if name == "tag":
+            return self.tag(words)
+        raise Refused(BAD_COMMAND)
+
+
+def spelled(word):
+    """A word as scripts and replies write it."""
+    if word and not re.search(r'[ \t\n\r"\\{}]', word):
+        return word
+    escapes = {"\n": "\\n", "\t": "\\t", "\r": "\\r", "\\": "\\\\", '"': '\\"'}
+    return '"' + "".join(escapes.get(c, c) for c in word) + '"'
