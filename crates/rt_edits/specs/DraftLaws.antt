@@ -23,7 +23,7 @@ use Rattle.rt_edits.specs.InsertionDrafts.{insertion_drafts, text_drafts}
 use Rattle.rt_edits.specs.Insertions.{Insertion, Piece, counts_for, insertion_of, last_of, left_neighbour, shared_names, tagged_cells, tags_between, with_pieces}
 use Rattle.rt_edits.specs.RemovalDrafts.{removal_drafts}
 use Rattle.rt_edits.specs.Removals.{gone_at, operations_for, span_count, stamps_at}
-use Rattle.rt_edits.specs.TagDrafts.{deletion_drafts, newline_drafts, tag_drafts, tags_drafts_at}
+use Rattle.rt_edits.specs.TagDrafts.{deletion_drafts, tag_drafts, tags_drafts_at}
 use Rattle.rt_edits.specs.TagWrites.{tagged, with_tags_at, without_tags}
 
 -- a document has the cells of its site's history, and its greatest count
@@ -98,13 +98,6 @@ DeletionsAreMade =
     (site : ℕ) (log : List Operation) (flat : Flat) (names : List Word)
     → 0 < site → IsHistory log → IsDocument site log flat → (without_tags flat names).count ≤ GREATEST_COUNT
     → IsDocument site (with_drafts site (deletion_drafts MOST_SPANS flat names) log) (without_tags flat names)
-
--- The last newline, whose cell is the last one, loses all its tags by one Tag for each.
-abbrev pub NewlineHasOneTagEach : Type 0
-NewlineHasOneTagEach =
-    (site : ℕ) (log : List Operation) (flat : Flat) (last : TaggedCell) → IsHistory log → IsDocument site log flat
-    → slice_get flat.cells (length flat.cells - 1) ≡ Some last
-    → tags_drafts_at MOST_SPANS flat (λ place. place + 1 == length (text_of flat.cells)) false (names_on last.state) ≡ newline_drafts (names_on last.state)
 
 -- INSERTIONS
 
