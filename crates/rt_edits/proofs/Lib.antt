@@ -15,7 +15,6 @@ pub mod InsertRules
 pub mod InsertTexts
 pub mod InsertedText
 pub mod LastNames
-pub mod LastNewline
 pub mod ListedLaws
 pub mod ListedWrites
 pub mod MergingLaws
