@@ -20,6 +20,7 @@ pub mod ListedWrites
 pub mod MergingLaws
 pub mod NamedSpanLaws
 pub mod NewlineDrafts
+pub mod NewlineTags
 pub mod PartLaws
 pub mod PieceDraftLaws
 pub mod PieceLaws

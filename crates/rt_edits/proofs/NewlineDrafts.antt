@@ -139,7 +139,7 @@ same_some : (x y : TaggedCell) → Some x ≡ Some y → x ≡ y
 same_some x y e = cc
 
 -- what holds of all cells holds of the one at a place
-of_one : (P : TaggedCell → Type 0) (cells : List TaggedCell) (place : ℕ) (cell : TaggedCell) → AllByRecursion P cells → slice_get cells place ≡ Some cell → P cell
+pub of_one : (P : TaggedCell → Type 0) (cells : List TaggedCell) (place : ℕ) (cell : TaggedCell) → AllByRecursion P cells → slice_get cells place ≡ Some cell → P cell
 of_one P [] place cell h e = let bad : ⊥ = cc in absurd bad
 of_one P (x ∷ xs) zero cell h e = subst P (same_some x cell e) h.0
 of_one P (x ∷ xs) (suc place) cell h e = of_one P xs place cell h.1 e
