@@ -128,7 +128,7 @@ bared_named (name ∷ names) flat stamp n h =
 -- THE NEWLINE THAT STAYS
 
 -- it is the visible cell of some place
-newline_at : (flat : Flat) (loss : Loss) (cell : TaggedCell) → newline_of flat loss ≡ Some cell → (place : ℕ) × (slice_get (visible_of flat.cells) place ≡ Some cell)
+pub newline_at : (flat : Flat) (loss : Loss) (cell : TaggedCell) → newline_of flat loss ≡ Some cell → (place : ℕ) × (slice_get (visible_of flat.cells) place ≡ Some cell)
 newline_at flat loss cell e = by loss.newline e
   where
     by : (o : Option ℕ) → option_and_then (slice_get (visible_of flat.cells)) o ≡ Some cell → (place : ℕ) × (slice_get (visible_of flat.cells) place ≡ Some cell)

@@ -10,8 +10,8 @@ use Rattle.rt_edits.specs.Deletions.{places_from}
 pub use Rattle.rt_edits.specs.Texts.{ends_text, text_within}
 
 -- places of a stretch that begins at 0 are those of the text
-pub places_whole : (test : ℕ → Bool) (place : ℕ) → places_from 0 test place ≡ test place
-places_whole test place =
+pub places_from_start : (test : ℕ → Bool) (place : ℕ) → places_from 0 test place ≡ test place
+places_from_start test place =
     let zero : place - 0 ≡ place = omega arith in
     ap (λ b. b && test (place - 0)) (le-leb 0 place (omega arith)) ∙ ap test zero
 

@@ -18,7 +18,7 @@ use Rattle.rt_edits.specs.RemovalDrafts.{removal_drafts}
 use Rattle.rt_edits.specs.Removals.{is_covered, is_removed, stamps_at}
 use Rattle.rt_edits.specs.TagDrafts.{newline_drafts}
 use Rattle.rt_edits.proofs.GoneLaws.{some_visible}
-use Rattle.rt_edits.proofs.PlaceLaws.{places_whole}
+use Rattle.rt_edits.proofs.PlaceLaws.{places_from_start}
 use Rattle.rt_edits.proofs.Shown.{stamps_at_shown}
 use Rattle.rt_edits.proofs.drafting.planned_deletion.Goals as goal
 use Rattle.rt_edits.proofs.drafting.planned_deletion.Goals.{then-held+in_ok-push_newline, else-held}
@@ -46,7 +46,7 @@ held_is : (kept : List (Cell ℕ)) (ranges : List Range) (n : ℕ) (held : Bool)
 held_is kept ranges n held e h = h ∙ ap (λ k. is_covered ranges (k - 1)) (e ∙ sym (length-map (visible_of kept) (λ (cell : Cell ℕ). cell.ch)))
 
 pub returns-clause-places : goal.returns-clause-places
-returns-clause-places g c = λ place. c.in_ok-removed.ensures.places place ∙ sym (places_whole (is_removed (text_of (g.S.TextStore.list c.args.store.now)) c.args.ranges.now) place)
+returns-clause-places g c = λ place. c.in_ok-removed.ensures.places place ∙ sym (places_from_start (is_removed (text_of (g.S.TextStore.list c.args.store.now)) c.args.ranges.now) place)
 
 pub returns-clause-held : goal.returns-clause-held
 returns-clause-held g c =
@@ -69,7 +69,7 @@ returns-clause-drafts g c = λ flat h.
     let deleted : map body_of c.in_ok-drafts.drafts.items ≡ deletes =
     c.in_ok-drafts.ensures.ok ∙ ap (λ l. removal_drafts MOST_SPANS (is_covered l) kept) c.deref.ensures.value
     ∙ same_deletes table kept flat (is_covered c.in_ok-removed.removed.items) loss.places h
-    (λ place. c.in_ok-removed.ensures.places place ∙ sym (places_whole (is_removed (text_of kept) ranges) place)) in
+    (λ place. c.in_ok-removed.ensures.places place ∙ sym (places_from_start (is_removed (text_of kept) ranges) place)) in
     elim c.if-held.branch [
       | then-held+in_ok-push_newline w ↦
           (λ i. map body_of (w.drafts-is i).items) ∙ w.in_ok-push_newline.ensures.ok
