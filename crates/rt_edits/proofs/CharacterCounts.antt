@@ -1,5 +1,6 @@
 -- How many characters the operations of edits insert.
-use Rattle.std.proofs.Common.{◌≡◌, ℕ, zero, suc, ◌+◌, ◌-◌, ◌*◌, ◌≤◌, List, [], ◌∷◌, ◌++◌, Bool, true, false, cond, length, take, drop, map, refl, sym, ◌∙◌, ap, subst, arith, length-append, length-drop, Option}
+use Rattle.std.proofs.Common.{◌≡◌, ℕ, zero, suc, ◌+◌, ◌-◌, ◌*◌, ◌≤◌, List, [], ◌∷◌, ◌++◌, Bool, true, false, cond, length, take, drop, map, refl, sym, ◌∙◌, ap, subst, arith, length-append, length-drop, Option, Some, None}
+use Rattle.std.specs.Prelude.{option_map, unwrap_or}
 use Rattle.std.specs.Str.{bytes_eq, chars}
 use Rattle.std.proofs.lemmas.List.{length-take}
 use Rattle.std.proofs.Math.Nat.{suc-mul}
@@ -11,17 +12,17 @@ use Rattle.rt_oplog.specs.Operations.{Body, Delete, Tag}
 use Rattle.rt_store.specs.Cells.{cells_from, text_of}
 use Rattle.rt_store.specs.Shown.{TaggedCell}
 use Rattle.rt_store.proofs.Places.{length_from}
+use Rattle.rt_tags.specs.States.{names_on}
 use Rattle.rt_tags.specs.Tags.{sel}
 use Rattle.rt_rga.specs.Requests.{characters_in_all}
 use Rattle.rt_rga.proofs.Appending.{characters_append}
-use Rattle.rt_edits.specs.declared.range.Range.{Range}
-use Rattle.rt_edits.specs.Deletions.{delete_drafts, last_tags}
+use Rattle.rt_edits.specs.Deletions.{Loss, delete_drafts, newline_of}
 use Rattle.rt_edits.specs.Flat.{Flat}
 use Rattle.rt_edits.specs.InsertionDrafts.{behind, insertion_drafts, inserts_of, pieces_drafts, tags_on, text_drafts}
 use Rattle.rt_edits.specs.Insertions.{Insertion, Piece, cells_of_inserts, further_tags, insertion_of, inserts_for, last_of, new_state, shared_names, tagged_cells, tags_between, with_listed, with_pieces}
 use Rattle.rt_edits.specs.NamedSpans.{first_parts, parts_of, spans_in}
 use Rattle.rt_edits.specs.RemovalDrafts.{removal_drafts}
-use Rattle.rt_edits.specs.Removals.{cells_at, is_covered, is_removed, stamps_at}
+use Rattle.rt_edits.specs.Removals.{cells_at, stamps_at}
 use Rattle.rt_edits.specs.TagDrafts.{deletion_drafts, newline_drafts, tag_drafts_at, tags_drafts_at}
 use Rattle.rt_edits.specs.TagWrites.{changed_stamps, with_tag_at, without_tag}
 use Rattle.rt_edits.proofs.NamedSpanLaws.{IsCut, cut, cut_more}
@@ -37,9 +38,9 @@ tags_none : (on : Bool) (name : Word) (parts : List (List Span)) → characters_
 tags_none on name [] = refl
 tags_none on name (part ∷ parts) = omega (arith, tags_none on name parts)
 
-newline_none : (names : List Word) → characters_in_all (newline_drafts names) ≡ 0
-newline_none [] = refl
-newline_none (name ∷ names) = omega (arith, newline_none names)
+newline_none : (stamp : Stamp) (names : List Word) → characters_in_all (newline_drafts stamp names) ≡ 0
+newline_none stamp [] = refl
+newline_none stamp (name ∷ names) = omega (arith, newline_none stamp names)
 
 tags_on_none : (span : Span) (names : List Word) → characters_in_all (tags_on span names) ≡ 0
 tags_on_none span [] = refl
@@ -65,13 +66,17 @@ deletions_insert_none (name ∷ names) flat =
     (elim (bytes_eq name sel) as (λ b. characters_in_all (cond b [] off) ≡ 0) [ true ↦ refl | false ↦ at_none (λ _. true) false name flat.cells ])
     (deletions_insert_none names (without_tag flat name))
 
-pub ranges_insert_none : (flat : Flat) (ranges : List Range) → characters_in_all (delete_drafts MOST_SPANS flat ranges) ≡ 0
-ranges_insert_none flat ranges =
-    let removed = is_removed (text_of flat.cells) ranges in
-    let last = is_covered ranges (length (text_of flat.cells) - 1) in
-    let tags = newline_drafts (last_tags flat) in
-    both_none (removal_drafts MOST_SPANS removed flat.cells) (cond last tags []) (deletes_none (parts_of MOST_SPANS (spans_in (stamps_at removed 0 flat.cells))))
-    (elim last as (λ b. characters_in_all (cond b tags []) ≡ 0) [ true ↦ newline_none (last_tags flat) | false ↦ refl ])
+pub loss_inserts_none : (flat : Flat) (loss : Loss) → characters_in_all (delete_drafts MOST_SPANS flat loss) ≡ 0
+loss_inserts_none flat loss =
+    both_none (removal_drafts MOST_SPANS loss.places flat.cells) (tags (newline_of flat loss))
+    (deletes_none (parts_of MOST_SPANS (spans_in (stamps_at loss.places 0 flat.cells)))) (none (newline_of flat loss))
+  where
+    tags : Option TaggedCell → List Body
+    tags o = unwrap_or (option_map (λ (cell : TaggedCell). newline_drafts cell.stamp (names_on cell.state)) o) []
+
+    none : (o : Option TaggedCell) → characters_in_all (tags o) ≡ 0
+    none None = refl
+    none (Some cell) = newline_none cell.stamp (names_on cell.state)
 
 -- TEXTS
 

@@ -1,7 +1,7 @@
 -- What edits find in the cells of a history, and in what a deletion leaves of them.
 use Rattle.std.proofs.Common.{◌≡◌, ℕ, zero, suc, ◌-◌, ◌<◌, inl, inr, List, [], ◌∷◌, ◌++◌, Bool, true, false, cond, not, ◌||◌, length, map, refl, sym, ◌∙◌, ap, subst, arith, Some, Option}
 use Rattle.std.specs.Prelude.{option_map, slice_get, unwrap_or}
-use Rattle.std.specs.List.{IsDistinct, list_all}
+use Rattle.std.specs.List.{IsDistinct}
 use Rattle.std.specs.Str.{IsUtf8, all_scalars, chars}
 use Rattle.std.proofs.lemmas.Bool.{or_left, or_right}
 use Rattle.std.proofs.lemmas.Str.{scalars-chars}
@@ -12,7 +12,7 @@ use Rattle.rt_stamps.specs.Stamps.{is_same}
 use Rattle.rt_stamps.specs.Words.{Word}
 use Rattle.rt_stamps.proofs.Order.{same_refl}
 use Rattle.rt_oplog.specs.Operations.{Operation}
-use Rattle.rt_oplog.specs.Rules.{is_name}
+use Rattle.rt_tags.specs.States.{names_on}
 use Rattle.rt_store.specs.Cells.{AreDistinct, stamps_of, text_of, visible_of}
 use Rattle.rt_store.specs.Shown.{TaggedCell}
 use Rattle.rt_store.specs.Spans.{is_among}
@@ -23,21 +23,19 @@ use Rattle.rt_rga.specs.Drafts.{with_drafts}
 use Rattle.rt_rga.specs.Histories.{IsHistory, final_character, has_character}
 use Rattle.rt_rga.proofs.Corollaries.{cells_distinct}
 use Rattle.rt_rga.proofs.Final.{cells_last}
-use Rattle.rt_edits.specs.declared.range.Range.{Range}
-use Rattle.rt_edits.specs.Deletions.{delete_drafts, is_last, last_tags, without_places, without_text_in}
-use Rattle.rt_edits.specs.DraftLaws.{AreTagNames, AreTexts, IsDocument, IsElement}
+use Rattle.rt_edits.specs.Deletions.{Loss, delete_drafts, without_places, without_text}
+use Rattle.rt_edits.specs.DraftLaws.{AreTagNames, AreTexts, IsDocument, IsElement, SparesLast}
 use Rattle.rt_edits.specs.Flat.{Flat, left_of}
 use Rattle.rt_edits.specs.Insertions.{Insertion, Piece, last_of, left_neighbour, tags_between, with_pieces}
-use Rattle.rt_edits.specs.Removals.{cells_at, gone_at, is_covered, is_removed}
-use Rattle.rt_edits.specs.TagWrites.{changed_stamps, tagged, with_tag_at, with_tags_at}
-use Rattle.rt_edits.proofs.DeletionDraftLaws.{last_names, same_tags, spares_last, stamps_gone, still_ends}
+use Rattle.rt_edits.specs.Removals.{gone_at}
+use Rattle.rt_edits.specs.TagWrites.{bared, tagged, with_tag}
+use Rattle.rt_edits.proofs.DeletionDraftLaws.{document_named, stamps_gone, still_ends}
 use Rattle.rt_edits.proofs.DraftSteps.{AreKnownCells, known_cells, known_later}
-use Rattle.rt_edits.proofs.NewlineDrafts.{EndsAs, document_ends}
+use Rattle.rt_edits.proofs.NewlineDrafts.{EndsAs, bared_named, bared_stamps, document_ends, loss_has, newline_names}
 use Rattle.rt_edits.proofs.PieceDraftLaws.{apart_front}
 use Rattle.rt_edits.proofs.PlaceLaws.{length_text}
 use Rattle.rt_edits.proofs.Putting.{tagged_state}
-use Rattle.rt_edits.proofs.TagDocuments.{tag_stamps}
-use Rattle.rt_edits.proofs.TagNames.{CellsNamed, every_named, gone_named, tags_between_in, tags_named}
+use Rattle.rt_edits.proofs.TagNames.{CellsNamed, gone_named, tags_between_in}
 
 -- THE LEFT NEIGHBOUR
 
@@ -104,11 +102,10 @@ left_is_element log place h l =
 abbrev SomeLast : List TaggedCell → Type 0
 SomeLast cells = (front : List TaggedCell) × (last : TaggedCell) × HasLast cells front last
 
-tag_end : (flat : Flat) (places : ℕ → Bool) (on : Bool) (name : Word) → SomeLast flat.cells → SomeLast (with_tag_at flat places on name).cells
-tag_end flat places on name w =
-    let stamps = changed_stamps name on (cells_at places 0 flat.cells) in
-    let g = tagged flat.site flat.count name on stamps in
-    let change = tagged_state flat.site flat.count name on stamps w.1 in (
+tag_end : (flat : Flat) (name : Word) (stamps : List Stamp) → SomeLast flat.cells → SomeLast (with_tag flat name false stamps).cells
+tag_end flat name stamps w =
+    let g = tagged flat.site flat.count name false stamps in
+    let change = tagged_state flat.site flat.count name false stamps w.1 in (
       map g w.0,
       g w.1,
       record {
@@ -118,55 +115,43 @@ tag_end flat places on name w =
       },
     )
 
-tags_end : (names : List Word) (flat : Flat) (places : ℕ → Bool) (on : Bool) → SomeLast flat.cells → SomeLast (with_tags_at flat places on names).cells
-tags_end [] flat places on w = w
-tags_end (name ∷ names) flat places on w = tags_end names (with_tag_at flat places on name) places on (tag_end flat places on name w)
+bared_end : (names : List Word) (flat : Flat) (stamp : Stamp) → SomeLast flat.cells → SomeLast (bared flat stamp names).cells
+bared_end [] flat stamp w = w
+bared_end (name ∷ names) flat stamp w = bared_end names (with_tag flat name false (stamp ∷ [])) stamp (tag_end flat name (stamp ∷ []) w)
 
-tags_stamps : (names : List Word) (flat : Flat) (places : ℕ → Bool) (on : Bool) → stamps_of (with_tags_at flat places on names).cells ≡ stamps_of flat.cells
-tags_stamps [] flat places on = refl
-tags_stamps (name ∷ names) flat places on = tags_stamps names (with_tag_at flat places on name) places on ∙ tag_stamps flat places on name
+left_stamps : (flat : Flat) (loss : Loss) → stamps_of (without_text flat loss).cells ≡ stamps_of flat.cells
+left_stamps flat loss =
+    loss_has (λ (left : Flat). stamps_of left.cells ≡ stamps_of flat.cells) flat loss (stamps_gone loss.places 0 flat.cells)
+    (λ cell e. bared_stamps (names_on cell.state) (without_places flat loss.places) cell.stamp ∙ stamps_gone loss.places 0 flat.cells)
 
--- what holds of the removal and stays when tags are taken off holds of the deletion
-left_has : (P : List TaggedCell → Type 0) (flat : Flat) (ranges : List Range) → let left = without_places flat (is_removed (text_of flat.cells) ranges) in
-    P left.cells → (P left.cells → P (with_tags_at left (is_last left) false (last_tags left)).cells) → P (without_text_in flat ranges).cells
-left_has P flat ranges h f =
-    let left = without_places flat (is_removed (text_of flat.cells) ranges) in
-    elim (is_covered ranges (length (text_of flat.cells) - 1)) as (λ b. P (cond b (with_tags_at left (is_last left) false (last_tags left)) left).cells) [ true ↦ f h | false ↦ h ]
+left_end : (flat : Flat) (loss : Loss) (front : List TaggedCell) (last : TaggedCell) → EndsAs flat front last → SparesLast loss.places (text_of flat.cells) → SomeLast (without_text flat loss).cells
+left_end flat loss front last e s =
+    let left = without_places flat loss.places in
+    let still = still_ends flat loss.places front last e s in
+    let end : SomeLast left.cells = (gone_at loss.places 0 front, last, record { is = still.is; stamp = still.stamp; gone = still.gone }) in
+    loss_has (λ (left : Flat). SomeLast left.cells) flat loss end (λ cell k. bared_end (names_on cell.state) left cell.stamp end)
 
-left_stamps : (flat : Flat) (ranges : List Range) → stamps_of (without_text_in flat ranges).cells ≡ stamps_of flat.cells
-left_stamps flat ranges =
-    let removed = is_removed (text_of flat.cells) ranges in
-    let left = without_places flat removed in
-    left_has (λ cells. stamps_of cells ≡ stamps_of flat.cells) flat ranges (stamps_gone removed 0 flat.cells) (λ h. tags_stamps (last_tags left) left (is_last left) false ∙ h)
-
-left_end : (flat : Flat) (ranges : List Range) (front : List TaggedCell) (last : TaggedCell) → EndsAs flat front last → SomeLast (without_text_in flat ranges).cells
-left_end flat ranges front last e =
-    let removed = is_removed (text_of flat.cells) ranges in
-    let left = without_places flat removed in
-    let still = still_ends flat removed front last e (spares_last (text_of flat.cells) ranges) in
-    left_has SomeLast flat ranges (gone_at removed 0 front, last, record { is = still.is; stamp = still.stamp; gone = still.gone }) (λ w. tags_end (last_tags left) left (is_last left) false w)
-
-pub left_stays : (site : ℕ) (log : List Operation) (flat : Flat) (ranges : List Range) (place : ℕ) → IsHistory log → IsDocument site log flat → place < length (text_of (without_text_in flat ranges).cells)
-    → IsElement (with_drafts site (delete_drafts MOST_SPANS flat ranges) log) (left_of (without_text_in flat ranges).cells place)
-left_stays site log flat ranges place h doc l =
-    let cells = (without_text_in flat ranges).cells in
-    let drafts = delete_drafts MOST_SPANS flat ranges in
-    let stamps = left_stamps flat ranges in
-    let w = left_end flat ranges (cells_last log h).0 (cell_in log final_character) (document_ends site log flat h doc) in
+pub left_stays : (site : ℕ) (log : List Operation) (flat : Flat) (loss : Loss) (place : ℕ) → IsHistory log → IsDocument site log flat → SparesLast loss.places (text_of flat.cells)
+    → place < length (text_of (without_text flat loss).cells) → IsElement (with_drafts site (delete_drafts MOST_SPANS flat loss) log) (left_of (without_text flat loss).cells place)
+left_stays site log flat loss place h doc spared l =
+    let cells = (without_text flat loss).cells in
+    let drafts = delete_drafts MOST_SPANS flat loss in
+    let stamps = left_stamps flat loss in
+    let w = left_end flat loss (cells_last log h).0 (cell_in log final_character) (document_ends site log flat h doc) spared in
     let distinct : AreDistinct cells = subst (IsDistinct is_same) (sym stamps) (subst AreDistinct (sym doc.cells) (cells_distinct log h)) in
     left_known (with_drafts site drafts log) cells w.0 w.1 place w.2 distinct
     (λ s k. known_later site drafts log flat.cells (known_cells log flat.cells h doc.cells) s (ap (λ l. is_among l s) (sym stamps) ∙ k)) l
 
-pub tags_left_are : (site : ℕ) (log : List Operation) (flat : Flat) (ranges : List Range) (place : ℕ) (right : Option TaggedCell) (pieces : List Piece) (start : Insertion)
+pub tags_left_are : (site : ℕ) (log : List Operation) (flat : Flat) (loss : Loss) (place : ℕ) (right : Option TaggedCell) (pieces : List Piece) (start : Insertion)
     → IsHistory log → IsDocument site log flat → AreTexts pieces → start.cells ≡ []
-    → AreTagNames (tags_between (last_of (left_neighbour (visible_of (without_text_in flat ranges).cells) place) (with_pieces site pieces start).cells) right)
-tags_left_are site log flat ranges place right pieces start h doc t none =
-    let removed = is_removed (text_of flat.cells) ranges in
-    let left = without_places flat removed in
-    let spared = spares_last (text_of flat.cells) ranges in
-    let names : list_all is_name (last_tags left) ≡ true = ap (list_all is_name) (same_tags site log flat removed h doc spared) ∙ last_names site log flat h doc in
-    let named = left_has CellsNamed flat ranges (gone_named removed 0 flat.cells (subst CellsNamed (sym doc.cells) (every_named log h))) (λ k. tags_named (last_tags left) left (is_last left) false names k) in
-    tags_between_in site (without_text_in flat ranges).cells place right pieces start named t none
+    → AreTagNames (tags_between (last_of (left_neighbour (visible_of (without_text flat loss).cells) place) (with_pieces site pieces start).cells) right)
+tags_left_are site log flat loss place right pieces start h doc t none =
+    let named = document_named site log flat h doc in
+    let left : CellsNamed (without_places flat loss.places).cells = gone_named loss.places 0 flat.cells named in
+    let all : CellsNamed (without_text flat loss).cells =
+    loss_has (λ (left : Flat). CellsNamed left.cells) flat loss left
+    (λ cell e. bared_named (names_on cell.state) (without_places flat loss.places) cell.stamp (newline_names flat loss cell named e) left) in
+    tags_between_in site (without_text flat loss).cells place right pieces start all t none
 
 -- CHARACTERS
 

@@ -15,12 +15,12 @@ pub mod InsertRules
 pub mod InsertTexts
 pub mod InsertedText
 pub mod LastNames
-pub mod LastNewline
 pub mod ListedLaws
 pub mod ListedWrites
 pub mod MergingLaws
 pub mod NamedSpanLaws
 pub mod NewlineDrafts
+pub mod NewlineTags
 pub mod PartLaws
 pub mod PieceDraftLaws
 pub mod PieceLaws

@@ -1,165 +1,177 @@
--- The Tags that take the last newline's tags off.
-use Rattle.std.proofs.Common.{◌≡◌, ℕ, ◌+◌, ◌-◌, ◌==◌, List, [], ◌∷◌, ◌++◌, Bool, true, false, cond, not, ◌||◌, length, map, refl, sym, ◌∙◌, ap, subst, arith, Some, length-append}
-use Rattle.std.specs.Prelude.{option_map, slice_get, unwrap_or}
-use Rattle.std.specs.List.{AllByRecursion}
-use Rattle.std.specs.Str.{bytes_eq}
-use Rattle.std.proofs.lemmas.Bool.{cond-false, cond-true, or_parts}
-use Rattle.std.proofs.lemmas.Bool.Decides.{nat_tests}
-use Rattle.rt_stamps.specs.declared.limits.TheConstants.{MOST_SPANS}
+-- The Tags that take its tags off a newline that stays, and the last newline of a document.
+use Rattle.std.proofs.Common.{◌≡◌, ℕ, zero, suc, ◌+◌, ◌≤◌, ◌<◌, ◌⊎◌, inl, inr, List, [], ◌∷◌, ◌++◌, Bool, true, false, not, ◌||◌, length, map, refl, sym, ◌∙◌, ap, subst, arith, Option, Some, None}
+use Rattle.std.specs.Prelude.{option_and_then, option_map, slice_get, unwrap_or}
+use Rattle.std.specs.List.{AllByRecursion, IsDistinct, list_all}
+use Rattle.std.proofs.lemmas.Bool.{and_parts, or_left, or_right}
+use Rattle.rt_stamps.specs.declared.limits.TheConstants.{GREATEST_COUNT, MOST_SPANS}
 use Rattle.rt_stamps.specs.declared.stamp.Stamp.{Stamp}
 use Rattle.rt_stamps.specs.declared.stamp.TheConstants.{FINAL}
+use Rattle.rt_stamps.specs.Stamps.{is_same}
 use Rattle.rt_stamps.specs.Words.{Word}
-use Rattle.rt_oplog.specs.Operations.{Operation}
-use Rattle.rt_tags.specs.States.{IsByName, Write, is_on, names_on, says_on, write_of, written}
-use Rattle.rt_tags.specs.Tags.{HaveNoRepeats, is_listed}
-use Rattle.rt_tags.proofs.Places.{name_itself, same_name}
-use Rattle.rt_tags.proofs.Commuting.{on_is_listed, on_once}
-use Rattle.rt_tags.proofs.Greatest.{newer, write_of_written}
+use Rattle.rt_stamps.proofs.Order.{same_from_true, same_refl}
+use Rattle.rt_oplog.specs.Operations.{Operation, Body, Tag}
+use Rattle.rt_oplog.specs.Rules.{is_name}
+use Rattle.rt_tags.specs.States.{names_on}
 use Rattle.rt_store.specs.Cells.{stamps_of, text_of, visible_of}
 use Rattle.rt_store.specs.Shown.{TaggedCell}
 use Rattle.rt_store.specs.Spans.{is_among}
-use Rattle.rt_store.proofs.Distinct.{split}
-use Rattle.rt_store.proofs.Shown.{map_append}
-use Rattle.rt_rga.specs.Cells.{cell_in, writes_on}
-use Rattle.rt_rga.specs.Histories.{IsHistory, final_character}
+use Rattle.rt_store.proofs.Distinct.{distinct_more, none_distinct, split}
+use Rattle.rt_rga.specs.Cells.{cell_in}
+use Rattle.rt_rga.specs.Drafts.{with_drafts}
+use Rattle.rt_rga.specs.Histories.{IsHistory, final_character, greatest_last_count, has_character}
+use Rattle.rt_rga.specs.Requests.{MayBeMade}
+use Rattle.rt_rga.proofs.Appending.{drafts_append, may_append}
 use Rattle.rt_rga.proofs.Final.{cells_last}
-use Rattle.rt_rga.proofs.Writes.{state_sorted}
-use Rattle.rt_edits.specs.Deletions.{is_last, last_tags}
+use Rattle.rt_edits.specs.Deletions.{Loss, newline_of, without_places, without_text}
 use Rattle.rt_edits.specs.DraftLaws.{IsDocument}
 use Rattle.rt_edits.specs.Flat.{Flat}
-use Rattle.rt_edits.specs.Removals.{cells_at}
-use Rattle.rt_edits.specs.TagDrafts.{newline_drafts, tag_drafts, tags_drafts_at}
-use Rattle.rt_edits.specs.TagWrites.{changed_stamps, tag_write, tagged, with_tag_at}
+use Rattle.rt_edits.specs.NamedSpans.{span_of}
+use Rattle.rt_edits.specs.Removals.{operations_for, span_count}
+use Rattle.rt_edits.specs.TagDrafts.{newline_drafts, tag_drafts}
+use Rattle.rt_edits.specs.TagWrites.{bared, tagged, with_tag}
+use Rattle.rt_edits.proofs.DraftSteps.{stays_character}
 use Rattle.rt_edits.proofs.PlaceLaws.{length_text}
 use Rattle.rt_edits.proofs.Putting.{tagged_state}
 use Rattle.rt_edits.proofs.RemovalDraftLaws.{visible_append}
-use Rattle.rt_edits.proofs.StateChanges.{visible_changed}
+use Rattle.rt_edits.proofs.StateChanges.{stamps_changed}
+use Rattle.rt_edits.proofs.TagDocuments.{stamps_made, tags_are_counted}
+use Rattle.rt_edits.proofs.TagDraftLaws.{tags_may_be_made}
+use Rattle.rt_edits.proofs.TagEffects.{some_among}
+use Rattle.rt_edits.proofs.TagNames.{AreNamed, CellsNamed, all_tagged_named, every_filter, on_names}
 
--- THE LAST CELL ALONE
+-- ONE CHARACTER
 
-ends_here : (p m : ℕ) → p + 0 + 1 ≡ m → (p + 1 == m) ≡ true
-ends_here p m h = grind (arith, nat_tests)
+-- the Tag that takes a tag off a character
+abbrev pub tag_off : Stamp → Word → Body
+tag_off stamp name = Tag false name (span_of stamp ∷ [])
 
-ends_later : (p n m : ℕ) → p + (n + 1) + 1 ≡ m → (p + 1 == m) ≡ false
-ends_later p n m h = grind (arith, nat_tests)
+one_tag : (stamp : Stamp) (name : Word) → tag_drafts MOST_SPANS false name (stamp ∷ []) ≡ tag_off stamp name ∷ []
+one_tag stamp name = refl
 
-only_last : (m p : ℕ) (front : List TaggedCell) (last : TaggedCell) → last.gone ≡ false → p + length (visible_of front) + 1 ≡ m
-    → cells_at (λ place. place + 1 == m) p (front ++ last ∷ []) ≡ last ∷ []
-only_last m p [] last g h =
-    cond-false last.gone [] (cond (p + 1 == m) (last ∷ []) []) g ∙ cond-true (p + 1 == m) (last ∷ []) [] (ends_here p m h)
-only_last m p (c ∷ cs) last g h =
-    let here = cells_at (λ place. place + 1 == m) p (cs ++ last ∷ []) in
-    let next = cells_at (λ place. place + 1 == m) (p + 1) (cs ++ last ∷ []) in
-    split c.gone
-    (λ e.
-    let seen : length (visible_of (c ∷ cs)) ≡ length (visible_of cs) = ap (λ b. length (cond (not b) (c ∷ visible_of cs) (visible_of cs))) e in
-    cond-true c.gone here (cond (p + 1 == m) (c ∷ next) next) e ∙ only_last m p cs last g (omega (arith, seen, h)))
-    (λ e.
-    let seen : length (visible_of (c ∷ cs)) ≡ length (c ∷ visible_of cs) = ap (λ b. length (cond (not b) (c ∷ visible_of cs) (visible_of cs))) e in
-    cond-false c.gone here (cond (p + 1 == m) (c ∷ next) next) e
-    ∙ cond-false (p + 1 == m) (c ∷ next) next (ends_later p (length (visible_of cs)) m (omega (arith, seen, h)))
-    ∙ only_last m (p + 1) cs last g (omega (arith, seen, h)))
+alone : (stamp : Stamp) → IsDistinct is_same (stamp ∷ [])
+alone stamp = distinct_more stamp [] refl none_distinct
 
--- ONE TAG
+-- a stamp is a character's, or the last newline's
+abbrev pub IsKnown : List Operation → Stamp → Type 0
+IsKnown log stamp = (has_character log stamp ≡ true) ⊎ (stamp ≡ FINAL)
 
-changed_last : (name : Word) (last : TaggedCell) → is_on name last.state ≡ true → changed_stamps name false (last ∷ []) ≡ last.stamp ∷ []
-changed_last name last e = ap stamps_of (cond-true (is_on name last.state) (last ∷ []) [] e)
+known_alone : (log : List Operation) (stamp : Stamp) → IsKnown log stamp → (s : Stamp) → is_among (stamp ∷ []) s ≡ true → IsKnown log s
+known_alone log stamp k s h = split (is_same stamp s)
+    (λ e. subst (IsKnown log) (same_from_true stamp s e) k)
+    (λ e. absurd (let no : false ≡ true = ap (λ b. b || false) (sym e) ∙ h in cc no))
 
-stays_on : (q : Word) (w : Write) (state : List Write) → bytes_eq q w.name ≡ false → is_on q state ≡ true → is_on q (written w state) ≡ true
-stays_on q w state e h = ap says_on (write_of_written q w state ∙ cond-false (bytes_eq q w.name) (Some (newer (write_of w.name state) w)) (write_of q state) e) ∙ h
+tag_may : (site : ℕ) (log : List Operation) (stamp : Stamp) (name : Word) → is_name name ≡ true → IsKnown log stamp → MayBeMade site log (tag_off stamp name ∷ [])
+tag_may site log stamp name n k =
+    subst (MayBeMade site log) (one_tag stamp name)
+    (tags_may_be_made site name false (stamp ∷ []) (alone stamp) MOST_SPANS log n (omega arith) (omega arith) (known_alone log stamp k))
 
-still_on : (site count : ℕ) (name : Word) (on : Bool) (stamps : List Stamp) (q : Word) (cell : TaggedCell) → bytes_eq q name ≡ false → is_on q cell.state ≡ true → is_on q (tagged site count name on stamps cell).state ≡ true
-still_on site count name on stamps q cell e h = by (is_among stamps cell.stamp)
+pub still_known : (site : ℕ) (drafts : List Body) (log : List Operation) (stamp : Stamp) → IsKnown log stamp → IsKnown (with_drafts site drafts log) stamp
+still_known site drafts log stamp (inl h) = inl (stays_character site drafts log stamp h)
+still_known site drafts log stamp (inr h) = inr h
+
+-- SEVERAL TAGS
+
+pub bared_grows : (names : List Word) (flat : Flat) (stamp : Stamp) → flat.count ≤ (bared flat stamp names).count
+bared_grows [] flat stamp = omega arith
+bared_grows (name ∷ names) flat stamp =
+    let next : Flat = with_tag flat name false (stamp ∷ []) in
+    let one : flat.count ≤ next.count = omega arith in
+    omega (arith, one, bared_grows names next stamp)
+
+pub bared_may : (names : List Word) (site : ℕ) (log : List Operation) (stamp : Stamp) → list_all is_name names ≡ true → IsKnown log stamp → MayBeMade site log (newline_drafts stamp names)
+bared_may [] site log stamp n k = tt
+bared_may (name ∷ names) site log stamp n k =
+    let p = and_parts (is_name name) (list_all is_name names) n in
+    let first = tag_off stamp name ∷ [] in
+    may_append site first (newline_drafts stamp names) log (tag_may site log stamp name p.0 k)
+    (bared_may names site (with_drafts site first log) stamp p.1 (still_known site first log stamp k))
+
+pub bared_counted : (names : List Word) (site : ℕ) (log : List Operation) (flat : Flat) (stamp : Stamp) → flat.count ≡ greatest_last_count log
+    → greatest_last_count (with_drafts site (newline_drafts stamp names) log) ≡ (bared flat stamp names).count
+bared_counted [] site log flat stamp e = sym e
+bared_counted (name ∷ names) site log flat stamp e =
+    let first = tag_off stamp name ∷ [] in
+    let next : Flat = with_tag flat name false (stamp ∷ []) in
+    let one : next.count ≡ greatest_last_count (with_drafts site first log) =
+    ap (λ k. k + operations_for (span_count (stamp ∷ []))) e ∙ sym (tags_are_counted site log false name (stamp ∷ []) (alone stamp))
+    ∙ ap (λ drafts. greatest_last_count (with_drafts site drafts log)) (one_tag stamp name) in
+    ap greatest_last_count (drafts_append site first (newline_drafts stamp names) log) ∙ bared_counted names site (with_drafts site first log) next stamp one
+
+pub bared_made : (names : List Word) (site : ℕ) (log : List Operation) (flat : Flat) (stamp : Stamp) → 0 < site → IsHistory log → IsDocument site log flat → list_all is_name names ≡ true → IsKnown log stamp
+    → (bared flat stamp names).count ≤ GREATEST_COUNT → IsDocument site (with_drafts site (newline_drafts stamp names) log) (bared flat stamp names)
+bared_made [] site log flat stamp p h doc n k l = doc
+bared_made (name ∷ names) site log flat stamp p h doc n k l =
+    let q = and_parts (is_name name) (list_all is_name names) n in
+    let first = tag_off stamp name ∷ [] in
+    let next : Flat = with_tag flat name false (stamp ∷ []) in
+    let few : next.count ≤ GREATEST_COUNT = omega (arith, l, bared_grows names next stamp) in
+    let may : MayBeMade site log (tag_drafts MOST_SPANS false name (stamp ∷ [])) = subst (MayBeMade site log) (sym (one_tag stamp name)) (tag_may site log stamp name q.0 k) in
+    let one = stamps_made site log flat false name (stamp ∷ []) p h doc q.0 (alone stamp) may few in
+    let larger = with_drafts site first log in
+    let history : IsHistory larger = subst (λ drafts. IsHistory (with_drafts site drafts log)) (one_tag stamp name) one.0 in
+    let document : IsDocument site larger next = subst (λ drafts. IsDocument site (with_drafts site drafts log) next) (one_tag stamp name) one.1 in
+    subst (λ log. IsDocument site log (bared next stamp names)) (sym (drafts_append site first (newline_drafts stamp names) log))
+    (bared_made names site larger next stamp p history document q.1 (still_known site first log stamp k) l)
+
+pub bared_stamps : (names : List Word) (flat : Flat) (stamp : Stamp) → stamps_of (bared flat stamp names).cells ≡ stamps_of flat.cells
+bared_stamps [] flat stamp = refl
+bared_stamps (name ∷ names) flat stamp =
+    bared_stamps names (with_tag flat name false (stamp ∷ [])) stamp
+    ∙ stamps_changed (tagged flat.site flat.count name false (stamp ∷ [])) (tagged_state flat.site flat.count name false (stamp ∷ [])) flat.cells
+
+pub bared_named : (names : List Word) (flat : Flat) (stamp : Stamp) → list_all is_name names ≡ true → CellsNamed flat.cells → CellsNamed (bared flat stamp names).cells
+bared_named [] flat stamp n h = h
+bared_named (name ∷ names) flat stamp n h =
+    let p = and_parts (is_name name) (list_all is_name names) n in
+    bared_named names (with_tag flat name false (stamp ∷ [])) stamp p.1 (all_tagged_named flat.site flat.count name false (stamp ∷ []) flat.cells p.0 h)
+
+-- THE NEWLINE THAT STAYS
+
+-- it is the visible cell of some place
+pub newline_at : (flat : Flat) (loss : Loss) (cell : TaggedCell) → newline_of flat loss ≡ Some cell → (place : ℕ) × (slice_get (visible_of flat.cells) place ≡ Some cell)
+newline_at flat loss cell e = by loss.newline e
   where
-    by : (b : Bool) → is_on q (cond b (record cell { state = written (tag_write site count name on stamps cell.stamp) cell.state }) cell).state ≡ true
-    by true = stays_on q (tag_write site count name on stamps cell.stamp) cell.state e h
-    by false = h
+    by : (o : Option ℕ) → option_and_then (slice_get (visible_of flat.cells)) o ≡ Some cell → (place : ℕ) × (slice_get (visible_of flat.cells) place ≡ Some cell)
+    by None k = let bad : ⊥ = cc in absurd bad
+    by (Some place) k = (place, k)
 
-all_still_on : (site count : ℕ) (name : Word) (on : Bool) (stamps : List Stamp) (cell : TaggedCell) (names : List Word) → ((q : Word) → bytes_eq name q ≡ bytes_eq q name) → is_listed name names ≡ false
-    → AllByRecursion (λ q. is_on q cell.state ≡ true) names → AllByRecursion (λ q. is_on q (tagged site count name on stamps cell).state ≡ true) names
-all_still_on site count name on stamps cell [] turn n h = tt
-all_still_on site count name on stamps cell (q ∷ names) turn n h =
-    let p = or_parts (bytes_eq name q) (is_listed name names) n in
-    (still_on site count name on stamps q cell (sym (turn q) ∙ p.0) h.0, all_still_on site count name on stamps cell names turn p.1 h.1)
+same_some : (x y : TaggedCell) → Some x ≡ Some y → x ≡ y
+same_some x y e = cc
 
--- ALL TAGS
+-- what holds of all cells holds of the one at a place
+pub of_one : (P : TaggedCell → Type 0) (cells : List TaggedCell) (place : ℕ) (cell : TaggedCell) → AllByRecursion P cells → slice_get cells place ≡ Some cell → P cell
+of_one P [] place cell h e = let bad : ⊥ = cc in absurd bad
+of_one P (x ∷ xs) zero cell h e = subst P (same_some x cell e) h.0
+of_one P (x ∷ xs) (suc place) cell h e = of_one P xs place cell h.1 e
 
-record EndsIn (cells front : List TaggedCell) (last : TaggedCell) (m : ℕ) : Type 0 where
-  pub is : cells ≡ front ++ last ∷ []
-  pub stamp : last.stamp ≡ FINAL
-  pub gone : last.gone ≡ false
-  pub places : length (visible_of front) + 1 ≡ m
+among_at : (cells : List TaggedCell) (place : ℕ) (cell : TaggedCell) → slice_get cells place ≡ Some cell → is_among (stamps_of cells) cell.stamp ≡ true
+among_at [] place cell e = let bad : ⊥ = cc in absurd bad
+among_at (x ∷ xs) zero cell e =
+    subst (λ (c : TaggedCell). is_among (stamps_of (x ∷ xs)) c.stamp ≡ true) (same_some x cell e) (or_left (is_same x.stamp x.stamp) _ (same_refl x.stamp))
+among_at (x ∷ xs) (suc place) cell e = or_right (is_same x.stamp cell.stamp) _ (among_at xs place cell e)
 
-one_each : (turn : (p q : Word) → bytes_eq p q ≡ bytes_eq q p) (m : ℕ) (names : List Word) (flat : Flat) (front : List TaggedCell) (last : TaggedCell) → EndsIn flat.cells front last m
-    → AllByRecursion (λ q. is_on q last.state ≡ true) names → HaveNoRepeats names → tags_drafts_at MOST_SPANS flat (λ place. place + 1 == m) false names ≡ newline_drafts names
-one_each turn m [] flat front last h on once = refl
-one_each turn m (name ∷ names) flat front last h on once =
-    let r : ℕ → Bool = λ place. place + 1 == m in
-    let n = h.places in
-    let stamps = changed_stamps name false (cells_at r 0 flat.cells) in
-    let chosen : cells_at r 0 flat.cells ≡ last ∷ [] = ap (cells_at r 0) h.is ∙ only_last m 0 front last h.gone (omega (arith, n)) in
-    let named : stamps ≡ FINAL ∷ [] = ap (changed_stamps name false) chosen ∙ changed_last name last on.0 ∙ ap (λ (s : Stamp). s ∷ []) h.stamp in
-    let g = tagged flat.site flat.count name false stamps in
-    let change = tagged_state flat.site flat.count name false stamps last in
-    let after : EndsIn (with_tag_at flat r false name).cells (map g front) (g last) m = record {
-      is = ap (map g) h.is ∙ map_append g front (last ∷ []);
-      stamp = ap (λ (c : TaggedCell). c.stamp) change ∙ h.stamp;
-      gone = ap (λ (c : TaggedCell). c.gone) change ∙ h.gone;
-      places = ap (λ (l : List TaggedCell). length l + 1) (visible_changed g (tagged_state flat.site flat.count name false stamps) front) ∙ ap (λ k. k + 1) (length-map g (visible_of front)) ∙ n;
-    } in
-    let rest = one_each turn m names (with_tag_at flat r false name) (map g front) (g last) after (all_still_on flat.site flat.count name false stamps last names (turn name) once.0 on.1) once.1 in
-    λ i. tag_drafts MOST_SPANS false name (named i) ++ rest i
+pub newline_among : (flat : Flat) (loss : Loss) (cell : TaggedCell) → newline_of flat loss ≡ Some cell → is_among (stamps_of flat.cells) cell.stamp ≡ true
+newline_among flat loss cell e =
+    let w = newline_at flat loss cell e in
+    some_among (λ (c : TaggedCell). not c.gone) flat.cells cell.stamp (among_at (visible_of flat.cells) w.0 cell w.1)
+
+pub newline_names : (flat : Flat) (loss : Loss) (cell : TaggedCell) → CellsNamed flat.cells → newline_of flat loss ≡ Some cell → list_all is_name (names_on cell.state) ≡ true
+newline_names flat loss cell h e =
+    let w = newline_at flat loss cell e in
+    let P = λ (c : TaggedCell). AreNamed c.state in
+    (on_names cell.state (of_one P (visible_of flat.cells) w.0 cell (every_filter P (λ (c : TaggedCell). not c.gone) flat.cells h) w.1)).each
+
+-- what holds of the removal, and where a newline stays, also without its tags, holds of the deletion
+pub loss_has : (P : Flat → Type 0) (flat : Flat) (loss : Loss) → P (without_places flat loss.places)
+    → ((cell : TaggedCell) → newline_of flat loss ≡ Some cell → P (bared (without_places flat loss.places) cell.stamp (names_on cell.state))) → P (without_text flat loss)
+loss_has P flat loss h f = by (newline_of flat loss) refl
   where
-    length-map : (g : TaggedCell → TaggedCell) (xs : List TaggedCell) → length (map g xs) ≡ length xs
-    length-map g [] = refl
-    length-map g (x ∷ xs) = omega (arith, length-map g xs)
+    left : Flat
+    left = without_places flat loss.places
 
--- what is listed is on
-listed_on : (turn : (p q : Word) → bytes_eq p q ≡ bytes_eq q p) (itself : (q : Word) → bytes_eq q q ≡ true) (state : List Write) (names : List Word)
-    → ((q : Word) → is_listed q names ≡ true → is_on q state ≡ true) → AllByRecursion (λ q. is_on q state ≡ true) names
-listed_on turn itself state [] f = tt
-listed_on turn itself state (name ∷ names) f =
-    (f name (ap (λ b. b || is_listed name names) (itself name)), listed_on turn itself state names (λ q k. f q (or_right (bytes_eq q name) _ k)))
-  where
-    or_right : (a b : Bool) → b ≡ true → (a || b) ≡ true
-    or_right true b h = refl
-    or_right false b h = h
-
-turned : (p q : Word) → bytes_eq p q ≡ bytes_eq q p
-turned p q = split (bytes_eq p q)
-    (λ e. e ∙ sym (ap (λ x. bytes_eq x p) (sym (same_name p q e)) ∙ name_itself p))
-    (λ e. split (bytes_eq q p)
-    (λ f. absurd (let both : bytes_eq p q ≡ true = ap (λ x. bytes_eq p x) (same_name q p f) ∙ name_itself p in cc (e, both)))
-    (λ f. e ∙ sym f))
-
-at_end : {X : Type 0} (xs : List X) (x : X) → slice_get (xs ++ x ∷ []) (length xs) ≡ Some x
-at_end [] x = refl
-at_end (y ∷ ys) x = at_end ys x
-
-get_last : {X : Type 0} (xs : List X) (x : X) → slice_get (xs ++ x ∷ []) (length (xs ++ x ∷ []) - 1) ≡ Some x
-get_last xs x =
-    let e : length (xs ++ x ∷ []) - 1 ≡ length xs = omega (arith, length-append xs (x ∷ [])) in
-    ap (slice_get (xs ++ x ∷ [])) e ∙ at_end xs x
-
-some_same : (x y : TaggedCell) → Some x ≡ Some y → x ≡ y
-some_same x y e = cc
-
-pub newline_one_each : (site : ℕ) (log : List Operation) (flat : Flat) (last : TaggedCell) → IsHistory log → IsDocument site log flat → slice_get flat.cells (length flat.cells - 1) ≡ Some last
-    → tags_drafts_at MOST_SPANS flat (λ place. place + 1 == length (text_of flat.cells)) false (names_on last.state) ≡ newline_drafts (names_on last.state)
-newline_one_each site log flat last h doc e =
-    let w = cells_last log h in
-    let front = w.0 in
-    let l = w.1 in
-    let final : TaggedCell = cell_in log final_character in
-    let is : flat.cells ≡ front ++ final ∷ [] = doc.cells ∙ l.is in
-    let same : final ≡ last = some_same final last (sym (get_last front final) ∙ ap (λ (cells : List TaggedCell). slice_get cells (length cells - 1)) (sym is) ∙ e) in
-    let places : length (visible_of front) + 1 ≡ length (text_of flat.cells) =
-    omega (arith, length_text flat.cells, ap (λ (cells : List TaggedCell). length (visible_of cells)) is, visible_append front final l.gone) in
-    let by_name = state_sorted [] (writes_on log FINAL) tt in
-    subst (λ (c : TaggedCell). tags_drafts_at MOST_SPANS flat (λ place. place + 1 == length (text_of flat.cells)) false (names_on c.state) ≡ newline_drafts (names_on c.state)) same
-    (one_each turned (length (text_of flat.cells)) (names_on final.state) flat front final (record { is = is; stamp = l.stamp; gone = l.gone; places = places })
-    (listed_on turned name_itself final.state (names_on final.state) (λ q k. on_is_listed q final.state by_name ∙ k))
-    (on_once final.state by_name))
+    by : (o : Option TaggedCell) → newline_of flat loss ≡ o → P (unwrap_or (option_map (λ (cell : TaggedCell). bared left cell.stamp (names_on cell.state)) o) left)
+    by None e = h
+    by (Some cell) e = f cell e
 
 -- THE LAST NEWLINE OF A DOCUMENT
 
@@ -167,25 +179,12 @@ pub record EndsAs (flat : Flat) (front : List TaggedCell) (last : TaggedCell) : 
   pub is : flat.cells ≡ front ++ last ∷ []
   pub stamp : last.stamp ≡ FINAL
   pub gone : last.gone ≡ false
-  pub by_name : IsByName last.state
 
 pub document_ends : (site : ℕ) (log : List Operation) (flat : Flat) (h : IsHistory log) → IsDocument site log flat → EndsAs flat (cells_last log h).0 (cell_in log final_character)
 document_ends site log flat h doc =
     let l = (cells_last log h).1 in
-    record { is = doc.cells ∙ l.is; stamp = l.stamp; gone = l.gone; by_name = state_sorted [] (writes_on log FINAL) tt }
-
-pub last_tags_are : (flat : Flat) (front : List TaggedCell) (last : TaggedCell) → EndsAs flat front last → last_tags flat ≡ names_on last.state
-last_tags_are flat front last e =
-    ap (λ (cells : List TaggedCell). unwrap_or (option_map (λ (cell : TaggedCell). names_on cell.state) (slice_get cells (length cells - 1))) []) e.is
-    ∙ ap (λ o. unwrap_or (option_map (λ (cell : TaggedCell). names_on cell.state) o) []) (get_last front last)
+    record { is = doc.cells ∙ l.is; stamp = l.stamp; gone = l.gone }
 
 pub length_ends : (flat : Flat) (front : List TaggedCell) (last : TaggedCell) → EndsAs flat front last → length (visible_of front) + 1 ≡ length (text_of flat.cells)
 length_ends flat front last e =
     omega (arith, length_text flat.cells, ap (λ (cells : List TaggedCell). length (visible_of cells)) e.is, visible_append front last e.gone)
-
-pub newline_each : (flat : Flat) (front : List TaggedCell) (last : TaggedCell) → EndsAs flat front last → tags_drafts_at MOST_SPANS flat (is_last flat) false (last_tags flat) ≡ newline_drafts (last_tags flat)
-newline_each flat front last e =
-    subst (λ names. tags_drafts_at MOST_SPANS flat (is_last flat) false names ≡ newline_drafts names) (sym (last_tags_are flat front last e))
-    (one_each turned (length (text_of flat.cells)) (names_on last.state) flat front last (record { is = e.is; stamp = e.stamp; gone = e.gone; places = length_ends flat front last e })
-    (listed_on turned name_itself last.state (names_on last.state) (λ q k. on_is_listed q last.state e.by_name ∙ k))
-    (on_once last.state e.by_name))

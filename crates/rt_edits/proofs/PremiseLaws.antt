@@ -16,13 +16,12 @@ use Rattle.rt_store.specs.Shown.{TaggedCell}
 use Rattle.rt_tags.specs.Tags.{sel}
 use Rattle.rt_rga.specs.Drafts.{with_drafts}
 use Rattle.rt_rga.specs.Histories.{IsHistory}
-use Rattle.rt_edits.specs.declared.range.Range.{Range}
 use Rattle.rt_edits.specs.DeletionLaws.{IsPiece}
-use Rattle.rt_edits.specs.Deletions.{delete_drafts, without_text_in}
-use Rattle.rt_edits.specs.DraftLaws.{AreTexts, IsDocument, IsElement, IsInsertion, IsText}
+use Rattle.rt_edits.specs.Deletions.{Loss, delete_drafts, without_text}
+use Rattle.rt_edits.specs.DraftLaws.{AreTexts, IsDocument, IsElement, IsInsertion, IsText, SparesLast}
 use Rattle.rt_edits.specs.Flat.{Flat, left_of}
 use Rattle.rt_edits.specs.Insertions.{Insertion, Piece, left_neighbour, shared_names}
-use Rattle.rt_edits.proofs.DeletionDraftLaws.{ranges_counted}
+use Rattle.rt_edits.proofs.DeletionDraftLaws.{loss_counted}
 use Rattle.rt_edits.proofs.FoundLaws.{characters_are_scalars, left_is_element, left_stays, tags_left_are}
 use Rattle.rt_edits.proofs.TagNames.{CellsNamed, every_named, shared_are, tags_between_in}
 
@@ -70,14 +69,14 @@ may_begin site log flat place right pieces rest start h doc l t u none count = r
   count = count ∙ doc.count;
 }
 
-pub may_begin_in_rest : (site : ℕ) (log : List Operation) (flat : Flat) (ranges : List Range) (place : ℕ) (right : Option TaggedCell) (pieces : List Piece) (rest : Word) (start : Insertion)
-    → IsHistory log → IsDocument site log flat → place < length (text_of (without_text_in flat ranges).cells) → AreTexts pieces → IsUtf8 rest → start.cells ≡ [] → start.count ≡ (without_text_in flat ranges).count
-    → IsInsertion site (with_drafts site (delete_drafts MOST_SPANS flat ranges) log) (left_of (without_text_in flat ranges).cells place)
-    (left_neighbour (visible_of (without_text_in flat ranges).cells) place) right pieces rest start
-may_begin_in_rest site log flat ranges place right pieces rest start h doc l t u none count = record {
-  element = left_stays site log flat ranges place h doc l;
+pub may_begin_in_rest : (site : ℕ) (log : List Operation) (flat : Flat) (loss : Loss) (place : ℕ) (right : Option TaggedCell) (pieces : List Piece) (rest : Word) (start : Insertion)
+    → IsHistory log → IsDocument site log flat → SparesLast loss.places (text_of flat.cells) → place < length (text_of (without_text flat loss).cells) → AreTexts pieces → IsUtf8 rest → start.cells ≡ [] → start.count ≡ (without_text flat loss).count
+    → IsInsertion site (with_drafts site (delete_drafts MOST_SPANS flat loss) log) (left_of (without_text flat loss).cells place)
+    (left_neighbour (visible_of (without_text flat loss).cells) place) right pieces rest start
+may_begin_in_rest site log flat loss place right pieces rest start h doc s l t u none count = record {
+  element = left_stays site log flat loss place h doc s l;
   listed = t;
-  unlisted = record { tags = tags_left_are site log flat ranges place right pieces start h doc t none; characters = characters_are_scalars rest u };
+  unlisted = record { tags = tags_left_are site log flat loss place right pieces start h doc t none; characters = characters_are_scalars rest u };
   none = none;
-  count = count ∙ sym (ranges_counted site log flat ranges h doc);
+  count = count ∙ sym (loss_counted site log flat loss h doc);
 }

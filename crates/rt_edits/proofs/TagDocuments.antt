@@ -25,7 +25,7 @@ use Rattle.rt_edits.specs.DraftLaws.{IsDocument}
 use Rattle.rt_edits.specs.Flat.{Flat}
 use Rattle.rt_edits.specs.Removals.{cells_at, operations_for, span_count}
 use Rattle.rt_edits.specs.TagDrafts.{deletion_drafts, tag_drafts, tag_drafts_at, tags_drafts_at}
-use Rattle.rt_edits.specs.TagWrites.{changed_stamps, is_changed, tagged, with_tag_at, with_tags_at, without_tags}
+use Rattle.rt_edits.specs.TagWrites.{changed_stamps, is_changed, tagged, with_tag, with_tag_at, with_tags_at, without_tags}
 use Rattle.rt_edits.proofs.DistinctLaws.{stamps_within}
 use Rattle.rt_edits.proofs.DraftSteps.{AreKnownCells, known_cells, known_later}
 use Rattle.rt_edits.proofs.Putting.{distinct_cells_at, stamps_at_cells, tagged_state}
@@ -86,16 +86,12 @@ known_tagged log flat places on name f s k = f s (ap (λ l. is_among l s) (sym (
 
 -- ONE TAG
 
-pub one_made : (site : ℕ) (log : List Operation) (flat : Flat) (places : ℕ → Bool) (on : Bool) (name : Word) → 0 < site → IsHistory log → IsDocument site log flat → is_name name ≡ true
-    → (with_tag_at flat places on name).count ≤ GREATEST_COUNT
-    → IsHistory (with_drafts site (tag_drafts_at MOST_SPANS places on name flat.cells) log)
-    × IsDocument site (with_drafts site (tag_drafts_at MOST_SPANS places on name flat.cells) log) (with_tag_at flat places on name)
-one_made site log flat places on name p h doc n l =
-    let stamps = changed_at places on name flat.cells in
-    let drafts = tag_drafts_at MOST_SPANS places on name flat.cells in
-    let d : AreDistinct flat.cells = subst AreDistinct (sym doc.cells) (cells_distinct log h) in
-    let distinct = distinct_changed places on name flat.cells d in
-    let may = one_may_be_made site log places on name flat.cells d (known_cells log flat.cells h doc.cells) n in
+-- on characters that are named by their stamps
+pub stamps_made : (site : ℕ) (log : List Operation) (flat : Flat) (on : Bool) (name : Word) (stamps : List Stamp) → 0 < site → IsHistory log → IsDocument site log flat → is_name name ≡ true
+    → IsDistinct is_same stamps → MayBeMade site log (tag_drafts MOST_SPANS on name stamps) → (with_tag flat name on stamps).count ≤ GREATEST_COUNT
+    → IsHistory (with_drafts site (tag_drafts MOST_SPANS on name stamps) log) × IsDocument site (with_drafts site (tag_drafts MOST_SPANS on name stamps) log) (with_tag flat name on stamps)
+stamps_made site log flat on name stamps p h doc n distinct may l =
+    let drafts = tag_drafts MOST_SPANS on name stamps in
     let counts = tags_counted site name on stamps distinct (greatest_last_count log) in
     let fits : last_count_after (greatest_last_count log) drafts ≤ GREATEST_COUNT = omega (arith, counts, doc.count, l) in
     let all = made site drafts log p h (drafts_for site log drafts may fits) in (
@@ -106,6 +102,15 @@ one_made site log flat places on name p h doc n l =
         count = ap (λ k. k + operations_for (span_count stamps)) doc.count ∙ sym (all_count_on site drafts log ∙ counts);
       },
     )
+
+pub one_made : (site : ℕ) (log : List Operation) (flat : Flat) (places : ℕ → Bool) (on : Bool) (name : Word) → 0 < site → IsHistory log → IsDocument site log flat → is_name name ≡ true
+    → (with_tag_at flat places on name).count ≤ GREATEST_COUNT
+    → IsHistory (with_drafts site (tag_drafts_at MOST_SPANS places on name flat.cells) log)
+    × IsDocument site (with_drafts site (tag_drafts_at MOST_SPANS places on name flat.cells) log) (with_tag_at flat places on name)
+one_made site log flat places on name p h doc n l =
+    let d : AreDistinct flat.cells = subst AreDistinct (sym doc.cells) (cells_distinct log h) in
+    stamps_made site log flat on name (changed_at places on name flat.cells) p h doc n (distinct_changed places on name flat.cells d)
+    (one_may_be_made site log places on name flat.cells d (known_cells log flat.cells h doc.cells) n) l
 
 pub tags_are_counted : (site : ℕ) (log : List Operation) (on : Bool) (name : Word) (stamps : List Stamp) → IsDistinct is_same stamps
     → greatest_last_count (with_drafts site (tag_drafts MOST_SPANS on name stamps) log) ≡ greatest_last_count log + operations_for (span_count stamps)

@@ -45,7 +45,7 @@ pub record AreNamed (state : List Write) : Type 0 where
   pub by_name : IsByName state
   pub named : AllByRecursion IsNamed state
 
-every_filter : {X : Type 0} (P : X → Type 0) (test : X → Bool) (xs : List X) → AllByRecursion P xs → AllByRecursion P (filter test xs)
+pub every_filter : {X : Type 0} (P : X → Type 0) (test : X → Bool) (xs : List X) → AllByRecursion P xs → AllByRecursion P (filter test xs)
 every_filter P test [] h = tt
 every_filter P test (x ∷ xs) h = by (test x) (every_filter P test xs h.1)
   where
@@ -182,9 +182,6 @@ on_names state h = names_are (filter (λ (w : Write). w.on) state) (some_named (
 
 pub cells_have_names : (log : List Operation) → IsHistory log → All (λ (cell : TaggedCell). AreTagNames (names_on cell.state)) (cells_of log)
 cells_have_names log h = λ i d l. on_names (get_or (cells_of log) i d).state (cells_are_named log h i d l)
-
-pub final_names : (log : List Operation) → IsHistory log → AreTagNames (names_on (cell_in log final_character).state)
-final_names log h = on_names (cell_in log final_character).state (after_writes (writes_on log FINAL) (writes_named log h FINAL))
 
 -- NEW CELLS
 

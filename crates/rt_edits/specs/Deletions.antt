@@ -1,16 +1,40 @@
--- Deletion of ranges (Tk text manual, "delete"): the document without their characters, and the operations that make it.
-use Rattle.std.specs.Prelude.{ℕ, ◌+◌, ◌-◌, ◌==◌, Bool, false, List, [], ◌++◌, length, option_map, slice_get, unwrap_or, if◌then◌else◌}
+-- Deletion (Tk text manual, "delete"): the document without what it takes, and the operations that make it.
+use Rattle.std.specs.Prelude.{ℕ, ◌+◌, ◌-◌, ◌&&◌, nat_le, Bool, List, [], ◌++◌, length, Option, Some, None, option_and_then, option_map, slice_get, unwrap_or, if◌then◌else◌}
 use Rattle.rt_marks.specs.Marks.{marks_left}
 use Rattle.rt_oplog.specs.Operations.{Body}
-use Rattle.rt_stamps.specs.Words.{Word}
-use Rattle.rt_store.specs.Cells.{text_of}
+use Rattle.rt_store.specs.Cells.{visible_of}
+use Rattle.rt_store.specs.Shown.{TaggedCell}
 use Rattle.rt_tags.specs.States.{names_on}
 use Rattle.rt_edits.specs.declared.range.Range.{Range}
 use Rattle.rt_edits.specs.Flat.{Flat}
 use Rattle.rt_edits.specs.RemovalDrafts.{removal_drafts}
 use Rattle.rt_edits.specs.Removals.{gone_at, is_covered, is_removed, operations_for, span_count, stamps_at}
 use Rattle.rt_edits.specs.TagDrafts.{newline_drafts}
-use Rattle.rt_edits.specs.TagWrites.{with_tags_at}
+use Rattle.rt_edits.specs.TagWrites.{bared}
+
+-- what a deletion takes: the characters at some places, and where it was to take a newline that stays, that newline's place, for it
+-- loses its tags
+pub record Loss : Type 0 where
+  pub places : ℕ → Bool
+  pub newline : Option ℕ
+
+-- places of a stretch of the text, which begins at a place, as places of the text
+abbrev pub places_from : ℕ → (ℕ → Bool) → ℕ → Bool
+places_from begin test place = nat_le begin place && test (place - begin)
+
+-- What a deletion of ranges takes of a stretch of the text, given by its characters and the place where they begin: the stretch's
+-- last newline stays.
+abbrev pub loss_in : List ℕ → ℕ → List Range → Loss
+loss_in text begin ranges =
+    let last = length text - 1 in
+    record {
+      places = places_from begin (is_removed text ranges);
+      newline = if is_covered ranges last then Some (begin + last) else None;
+    }
+
+-- the newline that stays
+abbrev pub newline_of : Flat → Loss → Option TaggedCell
+newline_of flat loss = option_and_then (slice_get (visible_of flat.cells)) loss.newline
 
 -- the document without the characters at some places: their cells are gone, with the counts that this takes, and the marks move
 -- for that
@@ -21,23 +45,15 @@ without_places flat removed = record flat {
   marks = marks_left removed flat.marks;
 }
 
--- a place is that of the last newline
-abbrev pub is_last : Flat → ℕ → Bool
-is_last flat place = place + 1 == length (text_of flat.cells)
+-- the document without what a deletion takes
+abbrev pub without_text : Flat → Loss → Flat
+without_text flat loss =
+    let left = without_places flat loss.places in
+    unwrap_or (option_map (λ cell. bared left cell.stamp (names_on cell.state)) (newline_of flat loss)) left
 
--- the shared tags of the last newline, whose cell is the last one, by their bytes
-abbrev pub last_tags : Flat → List Word
-last_tags flat = unwrap_or (option_map (λ cell. names_on cell.state) (slice_get flat.cells (length flat.cells - 1))) []
-
--- the document without the characters in ranges, where the last newline stays; it loses its tags where a range holds it
-abbrev pub without_text_in : Flat → List Range → Flat
-without_text_in flat ranges =
-    let left = without_places flat (is_removed (text_of flat.cells) ranges) in
-    if is_covered ranges (length (text_of flat.cells) - 1) then with_tags_at left (is_last left) false (last_tags left) else left
-
--- The operations: the Deletes of the removed characters, of at most so many spans each, and then, where a range holds the last
--- newline, one Tag for each of its shared tags, by their bytes.
-abbrev pub delete_drafts : ℕ → Flat → List Range → List Body
-delete_drafts most flat ranges =
-    removal_drafts most (is_removed (text_of flat.cells) ranges) flat.cells
-    ++ (if is_covered ranges (length (text_of flat.cells) - 1) then newline_drafts (last_tags flat) else [])
+-- The operations: the Deletes of the characters that go, of at most so many spans each, and then one Tag for each shared tag of the
+-- newline that stays, by their bytes.
+abbrev pub delete_drafts : ℕ → Flat → Loss → List Body
+delete_drafts most flat loss =
+    removal_drafts most loss.places flat.cells
+    ++ unwrap_or (option_map (λ cell. newline_drafts cell.stamp (names_on cell.state)) (newline_of flat loss)) []

@@ -24,7 +24,7 @@ use Rattle.rt_edits.specs.Insertions.{Insertion, Piece, counts_for, insertion_of
 use Rattle.rt_edits.specs.RemovalDrafts.{removal_drafts}
 use Rattle.rt_edits.specs.Removals.{gone_at, operations_for, span_count, stamps_at}
 use Rattle.rt_edits.specs.TagDrafts.{deletion_drafts, newline_drafts, tag_drafts, tags_drafts_at}
-use Rattle.rt_edits.specs.TagWrites.{tagged, with_tags_at, without_tags}
+use Rattle.rt_edits.specs.TagWrites.{bared, tagged, with_tags_at, without_tags}
 
 -- a document has the cells of its site's history, and its greatest count
 pub record IsDocument (number : ℕ) (log : List Operation) (flat : Flat) : Type 0 where
@@ -99,12 +99,20 @@ DeletionsAreMade =
     → 0 < site → IsHistory log → IsDocument site log flat → (without_tags flat names).count ≤ GREATEST_COUNT
     → IsDocument site (with_drafts site (deletion_drafts MOST_SPANS flat names) log) (without_tags flat names)
 
--- The last newline, whose cell is the last one, loses all its tags by one Tag for each.
+-- A newline that stays, or any other visible character, loses all its tags by one Tag for each: just those that take them off at
+-- its place.
 abbrev pub NewlineHasOneTagEach : Type 0
 NewlineHasOneTagEach =
-    (site : ℕ) (log : List Operation) (flat : Flat) (last : TaggedCell) → IsHistory log → IsDocument site log flat
-    → slice_get flat.cells (length flat.cells - 1) ≡ Some last
-    → tags_drafts_at MOST_SPANS flat (λ place. place + 1 == length (text_of flat.cells)) false (names_on last.state) ≡ newline_drafts (names_on last.state)
+    (site : ℕ) (log : List Operation) (flat : Flat) (place : ℕ) (cell : TaggedCell) → IsHistory log → IsDocument site log flat
+    → slice_get (visible_of flat.cells) place ≡ Some cell
+    → tags_drafts_at MOST_SPANS flat (λ p. p == place) false (names_on cell.state) ≡ newline_drafts cell.stamp (names_on cell.state)
+
+-- The document is then as where they are taken off at its place.
+abbrev pub NewlineIsBared : Type 0
+NewlineIsBared =
+    (site : ℕ) (log : List Operation) (flat : Flat) (place : ℕ) (cell : TaggedCell) → IsHistory log → IsDocument site log flat
+    → slice_get (visible_of flat.cells) place ≡ Some cell
+    → with_tags_at flat (λ p. p == place) false (names_on cell.state) ≡ bared flat cell.stamp (names_on cell.state)
 
 -- INSERTIONS
 

@@ -29,6 +29,13 @@ flat_with_newline = record flat_with_t {
   cells = cells_with_t ++ record { stamp = FINAL; ch = 10; gone = false; state = state_after [] (listed_by ROOT only_t) } ∷ [];
 }
 
+-- the lines `a`, `b`, `c` and `d`, of site 1, each character of which has the tag t, and the last newline
+abbrev pub flat_of_lines : Flat
+flat_of_lines = record (new_flat 3 9) {
+  cells = cells_from 1 1 (state_after [] (listed_by (at 1 1) only_t)) (codes "a\nb\nc\nd") ++ record { stamp = FINAL; ch = 10; gone = false; state = [] } ∷ [];
+  count = 7;
+}
+
 -- so many names of one byte each, from one on
 abbrev pub names_from : ℕ → ℕ → List Word
 names_from zero byte = []

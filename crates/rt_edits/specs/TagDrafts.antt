@@ -2,7 +2,6 @@
 use Rattle.std.specs.Prelude.{ℕ, Bool, true, false, List, [], ◌∷◌, ◌++◌, map, if◌then◌else◌}
 use Rattle.std.specs.Str.{bytes_eq}
 use Rattle.rt_stamps.specs.declared.stamp.Stamp.{Stamp}
-use Rattle.rt_stamps.specs.declared.stamp.TheConstants.{FINAL}
 use Rattle.rt_stamps.specs.Words.{Word}
 use Rattle.rt_oplog.specs.Operations.{Body, Tag}
 use Rattle.rt_store.specs.Shown.{TaggedCell}
@@ -33,6 +32,6 @@ deletion_drafts most flat [] = []
 deletion_drafts most flat (name ∷ names) =
     (if bytes_eq name sel then [] else tag_drafts_at most (λ _. true) false name flat.cells) ++ deletion_drafts most (without_tag flat name) names
 
--- the last newline loses tags: one Tag for each of them, by their bytes where the names are
-abbrev pub newline_drafts : List Word → List Body
-newline_drafts names = map (λ name. Tag false name (span_of FINAL ∷ [])) names
+-- a newline loses tags: one Tag for each of them, by their bytes where the names are
+abbrev pub newline_drafts : Stamp → List Word → List Body
+newline_drafts stamp names = map (λ name. Tag false name (span_of stamp ∷ [])) names

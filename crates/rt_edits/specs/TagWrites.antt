@@ -57,6 +57,11 @@ abbrev pub with_tags_at : Flat → (ℕ → Bool) → Bool → List Word → Fla
 with_tags_at flat places on [] = flat
 with_tags_at flat places on (name ∷ names) = with_tags_at (with_tag_at flat places on name) places on names
 
+-- tags taken off one character, one after the other
+abbrev pub bared : Flat → Stamp → List Word → Flat
+bared flat stamp [] = flat
+bared flat stamp (name ∷ names) = bared (with_tag flat name false (stamp ∷ [])) stamp names
+
 -- a tag that is put on is listed, a new one with the highest priority, also where no character gets it
 abbrev pub listed_if : Bool → Word → Flat → Flat
 listed_if true name flat = record flat { tags = with_name name flat.tags }

@@ -1,16 +1,17 @@
 // Deletions and tag writes, as the operations that they make.
-ghost use Rattle.std.specs.Prelude.{◌≡◌, ℕ, ◌-◌, ◌<◌, ◌≤◌, ◌++◌, ◌&&◌, All, IfOk, IfErr, OnOk, length, map, not, string_bytes};
+ghost use Rattle.std.specs.Prelude.{◌≡◌, ℕ, ◌<◌, ◌≤◌, ◌++◌, ◌&&◌, All, IfOk, IfErr, OnOk, [], is_some, length, map, not, option_map, slice_get, string_bytes, unwrap_or};
 ghost use Rattle.rt_stamps.specs.declared.limits.TheConstants.{MOST_SPANS};
 ghost use Rattle.rt_oplog.specs.Edits.{body_of};
 ghost use Rattle.rt_store.specs.Cells.{AreDistinct, text_of, visible_of};
 ghost use Rattle.rt_store.specs.Shown.{shown};
 ghost use Rattle.rt_store.specs.Tagged.{AreStates};
 ghost use Rattle.rt_store.specs.Written.{AreWritten};
+ghost use Rattle.rt_tags.specs.States.{names_on};
 ghost use Rattle.rt_tags.specs.Tags.{IsName, is_listed};
-ghost use Rattle.rt_edits.specs.Deletions.{delete_drafts, last_tags};
+ghost use Rattle.rt_edits.specs.Deletions.{delete_drafts, loss_in};
 ghost use Rattle.rt_edits.specs.Flat.{Flat};
 ghost use Rattle.rt_edits.specs.Listed.{AreListed};
-ghost use Rattle.rt_edits.specs.Removals.{AreInOrder, is_covered, is_removed};
+ghost use Rattle.rt_edits.specs.Removals.{AreInOrder, is_covered};
 ghost use Rattle.rt_edits.specs.RemovalDrafts.{removal_drafts};
 ghost use Rattle.rt_edits.specs.TagDrafts.{deletion_drafts, newline_drafts, tag_drafts_at};
 
@@ -21,7 +22,7 @@ use crate::parts::{push_deletes, push_tags};
 use crate::removal::removed_ranges;
 use crate::span::{span_of, spans_of, stamps_in};
 use rt_rga::Draft;
-use rt_stamps::{FINAL, Fault};
+use rt_stamps::Fault;
 use rt_store::{Cell, TextStore};
 use rt_tags::{StateId, StateTable, TagTable};
 use std::alloc::Global;
@@ -59,27 +60,36 @@ fn removals<S: TextStore>(alloc: Global, store: &S, removed: &[Range]) -> Result
     Ok(drafts)
 }
 
-// Adds the Tags that take its tags off the last newline.
+// Adds the Tags that take its tags off the character at a place.
 fn push_newline<S: TextStore>(
     alloc: Global,
     store: &S,
     states: &StateTable,
+    place: usize,
     drafts: &mut Vec<Draft>,
 ) -> Result<(), Fault>
     requires states { AreStates states.now (S.list store.now) }
-    ensures ok { OnOk result ((flat : Flat) → flat.cells ≡ map (shown states.now) (S.list store.now)
-        → map body_of drafts.new.items ≡ map body_of drafts.old.items ++ newline_drafts (last_tags flat)) }
+    requires place { place < length (visible_of (S.list store.now)) }
+    ensures ok { OnOk result (let newline = slice_get (visible_of (map (shown states.now) (S.list store.now))) place in
+        map body_of drafts.new.items ≡ map body_of drafts.old.items
+        ++ unwrap_or (option_map (λ cell. newline_drafts cell.stamp (names_on cell.state)) newline) []) }
     ensures err { IfErr result (λ fault. fault ≡ Fault.NoMemory) }
 {
-    let last = store.cell_at(store.visible() - 1);
-    for tag in states.on(last.state) {
-        push_tags(alloc, drafts, false, states.name(*tag), &[span_of(FINAL)])?;
+    let newline = store.cell_at(place);
+    for tag in states.on(newline.state) {
+        push_tags(
+            alloc,
+            drafts,
+            false,
+            states.name(*tag),
+            &[span_of(newline.stamp)],
+        )?;
     }
     Ok(())
 }
 
-/// Plans the deletion of ranges, in any order and of any length: the Deletes of their characters, and
-/// where they hold the last newline, a Tag for each of its shared tags. Want of memory.
+/// Plans the deletion of ranges of the whole text, in any order and of any length: the Deletes of their
+/// characters, and where they hold the last newline, a Tag for each of its shared tags. Want of memory.
 pub fn planned_deletion<S: TextStore>(
     alloc: Global,
     store: &S,
@@ -89,18 +99,19 @@ pub fn planned_deletion<S: TextStore>(
     requires distinct { AreDistinct (S.list store.now) }
     requires states { AreStates states.now (S.list store.now) }
     ensures drafts { IfOk result (λ d. (flat : Flat) → flat.cells ≡ map (shown states.now) (S.list store.now)
-        → map body_of d.drafts.items ≡ delete_drafts MOST_SPANS flat ranges.now) }
-    ensures places { IfOk result (λ d. (place : ℕ) → is_covered d.removed.items place ≡ is_removed (text_of (S.list store.now)) ranges.now place) }
+        → map body_of d.drafts.items ≡ delete_drafts MOST_SPANS flat (loss_in (text_of (S.list store.now)) 0 ranges.now)) }
+    ensures places { IfOk result (λ d. (place : ℕ) → is_covered d.removed.items place ≡ (loss_in (text_of (S.list store.now)) 0 ranges.now).places place) }
     ensures order { IfOk result (λ d. AreInOrder 0 d.removed.items) }
     ensures before { IfOk result (λ d. All (λ range. range.to < length (text_of (S.list store.now))) d.removed.items) }
-    ensures held { IfOk result (λ d. d.held ≡ is_covered ranges.now (length (text_of (S.list store.now)) - 1)) }
+    ensures held { IfOk result (λ d. d.held ≡ is_some (loss_in (text_of (S.list store.now)) 0 ranges.now).newline) }
     ensures err { IfErr result (λ fault. fault ≡ Fault.NoMemory) }
 {
     let removed = removed_ranges(alloc, store, ranges)?;
     let mut drafts = removals(alloc, store, &removed)?;
-    let held = holds(ranges, store.visible() - 1);
+    let last = store.visible() - 1;
+    let held = holds(ranges, last);
     if held {
-        push_newline(alloc, store, states, &mut drafts)?;
+        push_newline(alloc, store, states, last, &mut drafts)?;
     }
     Ok(Deletion {
         removed,

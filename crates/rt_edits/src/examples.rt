@@ -1,13 +1,14 @@
 // Worked examples of the definitions, each a clause that computes.
 ghost use Rattle.std.specs.Prelude.{◌≡◌, ◌==◌, false, true, [], ◌∷◌, codes, Some, None};
 ghost use Rattle.rt_stamps.specs.declared.fault.Fault.TheVariants.{ClockSpent, TextFull};
-ghost use Rattle.rt_stamps.specs.declared.stamp.TheConstants.{ROOT};
+ghost use Rattle.rt_stamps.specs.declared.stamp.TheConstants.{FINAL, ROOT};
 ghost use Rattle.rt_stamps.specs.declared.limits.TheConstants.{MOST_CHARACTERS, MOST_SPANS};
 ghost use Rattle.rt_oplog.specs.Operations.{Delete, Insert, Tag};
+ghost use Rattle.rt_store.specs.Cells.{text_of};
 ghost use Rattle.rt_rga.specs.Examples.{at, insert_ab, only_t, span};
 ghost use Rattle.rt_rga.specs.Made.{refusal_of};
-ghost use Rattle.rt_edits.specs.Deletions.{delete_drafts};
-ghost use Rattle.rt_edits.specs.Examples.{all_tags, cells_of_yab, cells_with_t, flat_with_newline, flat_with_t, listed_tags, log_at_end, nothing_yet, piece_with_sel, three_pieces, two_pieces, with_u};
+ghost use Rattle.rt_edits.specs.Deletions.{delete_drafts, loss_in, without_text};
+ghost use Rattle.rt_edits.specs.Examples.{all_tags, cells_of_yab, cells_with_t, flat_of_lines, flat_with_newline, flat_with_t, listed_tags, log_at_end, nothing_yet, piece_with_sel, three_pieces, two_pieces, with_u};
 ghost use Rattle.rt_edits.specs.InsertionDrafts.{insertion_drafts, text_drafts};
 ghost use Rattle.rt_edits.specs.RemovalDrafts.{removal_drafts};
 ghost use Rattle.rt_edits.specs.TagDrafts.{deletion_drafts, newline_drafts, tag_drafts_at, tags_drafts_at};
@@ -41,7 +42,7 @@ pub fn tags()
     ensures deleted { deletion_drafts MOST_SPANS flat_with_t (sel ∷ codes "t" ∷ codes "t" ∷ []) ≡ Tag false (codes "t") (span 1 1 1 ∷ []) ∷ [] }
     ensures deleted_at_end { deletion_drafts MOST_SPANS flat_with_newline (codes "t" ∷ [])
         ≡ Tag false (codes "t") (span 0 1 1 ∷ span 1 1 1 ∷ []) ∷ [] }
-    ensures newline { newline_drafts (codes "t" ∷ codes "u" ∷ [])
+    ensures newline { newline_drafts FINAL (codes "t" ∷ codes "u" ∷ [])
         ≡ Tag false (codes "t") (span 0 1 1 ∷ []) ∷ Tag false (codes "u") (span 0 1 1 ∷ []) ∷ [] }
 {}
 
@@ -74,11 +75,26 @@ pub fn pieces()
 /// Of `Yab` with the tag t on `a` and on the last newline: a range within it is one Delete. Where a range
 /// holds the last newline, this stays, and loses its tag after the Delete of the others.
 pub fn deletions()
-    ensures inner { delete_drafts MOST_SPANS flat_with_newline (record { from = 1; to = 2 } ∷ []) ≡ Delete (span 1 1 1 ∷ []) ∷ [] }
-    ensures whole { delete_drafts MOST_SPANS flat_with_newline (record { from = 0; to = 4 } ∷ [])
+    ensures inner { delete_drafts MOST_SPANS flat_with_newline (loss_in (codes "Yab\n") 0 (record { from = 1; to = 2 } ∷ [])) ≡ Delete (span 1 1 1 ∷ []) ∷ [] }
+    ensures whole { delete_drafts MOST_SPANS flat_with_newline (loss_in (codes "Yab\n") 0 (record { from = 0; to = 4 } ∷ []))
         ≡ Delete (span 1 1 2 ∷ span 2 3 3 ∷ []) ∷ Tag false (codes "t") (span 0 1 1 ∷ []) ∷ [] }
-    ensures newline { delete_drafts MOST_SPANS flat_with_newline (record { from = 3; to = 4 } ∷ []) ≡ Tag false (codes "t") (span 0 1 1 ∷ []) ∷ [] }
-    ensures nothing { delete_drafts MOST_SPANS flat_with_newline [] ≡ [] }
+    ensures newline { delete_drafts MOST_SPANS flat_with_newline (loss_in (codes "Yab\n") 0 (record { from = 3; to = 4 } ∷ []))
+        ≡ Tag false (codes "t") (span 0 1 1 ∷ []) ∷ [] }
+    ensures nothing { delete_drafts MOST_SPANS flat_with_newline (loss_in (codes "Yab\n") 0 []) ≡ [] }
+{}
+
+/// Of the lines `a`, `b`, `c` and `d`, each character of which has the tag t, a stretch of two, `b` and
+/// `c`: a range that holds all of it takes `b`, the newline behind it and `c`. The one behind `c` stays,
+/// and loses its tag, as the last one of the stretch. A range of the second line takes the newline
+/// behind `b` and `c`: no empty line is left. The text around the stretch stays.
+pub fn stretches()
+    ensures all { delete_drafts MOST_SPANS flat_of_lines (loss_in (codes "b\nc\n") 2 (record { from = 0; to = 4 } ∷ []))
+        ≡ Delete (span 1 3 5 ∷ []) ∷ Tag false (codes "t") (span 1 6 6 ∷ []) ∷ [] }
+    ensures second { delete_drafts MOST_SPANS flat_of_lines (loss_in (codes "b\nc\n") 2 (record { from = 2; to = 4 } ∷ []))
+        ≡ Delete (span 1 4 5 ∷ []) ∷ Tag false (codes "t") (span 1 6 6 ∷ []) ∷ [] }
+    ensures inner { delete_drafts MOST_SPANS flat_of_lines (loss_in (codes "b\nc\n") 2 (record { from = 0; to = 1 } ∷ []))
+        ≡ Delete (span 1 3 3 ∷ []) ∷ [] }
+    ensures left { text_of (without_text flat_of_lines (loss_in (codes "b\nc\n") 2 (record { from = 0; to = 4 } ∷ []))).cells ≡ codes "a\n\nd\n" }
 {}
 
 /// Where neither the counts of drafts fit nor their cells, the counts are told. The limit is of all cells,

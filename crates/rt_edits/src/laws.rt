@@ -13,8 +13,8 @@ ghost use Rattle.rt_store.specs.Shown.{TaggedCell};
 ghost use Rattle.rt_edits.specs.Insertions.{tagged_cells};
 ghost use Rattle.rt_edits.specs.Merging.{begins_line};
 ghost use Rattle.rt_edits.specs.Removals.{cells_at, gone_at, is_removed, left_at, span_count};
-ghost use Rattle.rt_edits.specs.DeletionLaws.{CellsHaveTagNames, CharactersAreScalars, InsertionsMayBegin, LeftIsElement, LeftStaysElement, PiecesAreTexts, RangesAreCounted, RangesAreDeleted, RangesInsertNone, RangesMayBeDeleted, RangesSpareLast, ReplacementIsCounted, ReplacementIsMade, ReplacementMayBeMade, ReplacementsMayBegin, TagsLeftAreTags};
-ghost use Rattle.rt_edits.specs.DraftLaws.{AllTagsAreCounted, DeletesAreCounted, DeletesMakeGone, DeletesMayBeMade, DeletionsAreCounted, DeletionsAreMade, DeletionsInsertNone, DeletionsMayBeMade, InsertionHasNewCells, InsertionIsCounted, InsertionIsMade, InsertionMayBeMade, NewlineHasOneTagEach, RemovalIsMade, SharedNamesAreTags, TagsAreCounted, TagsAreMade, TagsBetweenAreTags, TagsInsertNone, TagsMayBeMade, TagsWriteAsFlat, TextIsCounted, TextIsMade, TextIsPutAsFlat, TextMayBeMade};
+ghost use Rattle.rt_edits.specs.DeletionLaws.{CellsHaveTagNames, CharactersAreScalars, InsertionsMayBegin, LeftIsElement, LeftStaysElement, PiecesAreTexts, LossInsertsNone, LossIsCounted, LossIsMade, LossMayBeMade, RangesSpareLast, ReplacementIsCounted, ReplacementIsMade, ReplacementMayBeMade, ReplacementsMayBegin, TagsLeftAreTags};
+ghost use Rattle.rt_edits.specs.DraftLaws.{AllTagsAreCounted, DeletesAreCounted, DeletesMakeGone, DeletesMayBeMade, DeletionsAreCounted, DeletionsAreMade, DeletionsInsertNone, DeletionsMayBeMade, InsertionHasNewCells, InsertionIsCounted, InsertionIsMade, InsertionMayBeMade, NewlineHasOneTagEach, NewlineIsBared, RemovalIsMade, SharedNamesAreTags, TagsAreCounted, TagsAreMade, TagsBetweenAreTags, TagsInsertNone, TagsMayBeMade, TagsWriteAsFlat, TextIsCounted, TextIsMade, TextIsPutAsFlat, TextMayBeMade};
 ghost use Rattle.rt_edits.specs.NamedSpans.{spans_in};
 ghost use Rattle.rt_store.specs.Spans.{each_next, is_among, is_clear_of, is_in_spans, is_span};
 ghost use Rattle.rt_edits.specs.TagWrites.{AreTagged, cells_beside, cells_but, with_tag, with_tag_at, writes_of};
@@ -86,17 +86,17 @@ pub fn removal_drafts()
     ensures made { RemovalIsMade }
 {}
 
-/// The operations of a deletion of ranges may be made, also where their counts don't fit: the Tags behind
-/// the Deletes name the last newline, which each set knows, and which no removal takes. They take as
-/// many counts as the deletion does, and insert no characters. So where the counts fit, a document that
-/// has the cells of a history has, without the characters in the ranges, those of the history with the
-/// operations.
+/// The operations of a deletion may be made, also where their counts don't fit, where the text's last
+/// newline isn't among the removed characters: so it is where ranges are deleted in a stretch of the text.
+/// They take as many counts as the deletion does, and insert no characters. So where the counts fit, a
+/// document that has the cells of a history has, without what the deletion takes, those of the history
+/// with the operations.
 pub fn delete_drafts()
     ensures spared { RangesSpareLast }
-    ensures may_be_made { RangesMayBeDeleted }
-    ensures count { RangesAreCounted }
-    ensures made { RangesAreDeleted }
-    ensures characters { RangesInsertNone }
+    ensures may_be_made { LossMayBeMade }
+    ensures count { LossIsCounted }
+    ensures made { LossIsMade }
+    ensures characters { LossInsertsNone }
 {}
 
 /// The operations of a replacement are those of a deletion, and then those of an insertion into what it
@@ -127,7 +127,8 @@ pub fn insertion_premises()
 /// The Tag operations of a tag edit write on just the characters that they name, under the counts of
 /// the document's definition, and insert none. They keep the rules, and name what is known. So a
 /// document that has the cells of a history has, after tags were put on characters, taken off or
-/// deleted, those of the history with their operations.
+/// deleted, those of the history with their operations. A newline that loses all its tags loses them by
+/// one Tag for each, as tags that are taken off at its place.
 pub fn tag_drafts()
     ensures cells { TagsWriteAsFlat }
     ensures count { TagsAreCounted }
@@ -136,6 +137,7 @@ pub fn tag_drafts()
     ensures deleted_may_be_made { DeletionsMayBeMade }
     ensures deleted { DeletionsAreMade }
     ensures newline { NewlineHasOneTagEach }
+    ensures bared { NewlineIsBared }
     ensures all_counted { AllTagsAreCounted }
     ensures deleted_counted { DeletionsAreCounted }
     ensures characters { TagsInsertNone }

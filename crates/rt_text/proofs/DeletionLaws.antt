@@ -1,13 +1,12 @@
 -- Tags on the characters that a deletion leaves: they stay listed.
-use Rattle.std.proofs.Common.{◌≡◌, ℕ, ◌+◌, ◌-◌, List, [], ◌∷◌, Bool, true, false, cond, not, length, map, All, refl, sym, ◌∙◌, ap, subst, Option, Some, None, get_or}
-use Rattle.std.specs.Prelude.{slice_get, option_map, unwrap_or}
+use Rattle.std.proofs.Common.{◌≡◌, ℕ, ◌+◌, List, [], ◌∷◌, Bool, true, false, cond, not, map, All, refl, sym, ◌∙◌, ap, subst, Option, Some, None, get_or}
 use Rattle.std.specs.Str.{bytes_eq}
-use Rattle.std.proofs.lemmas.List.Elements.{All-map, All-cons, All-nil, All-head, All-tail}
+use Rattle.std.proofs.lemmas.List.Elements.{All-filter, All-map, All-cons, All-nil, All-head, All-tail}
 use Rattle.std.proofs.lemmas.Option.{get_or_from_slice_get, slice_get_within}
 use Rattle.rt_stamps.specs.declared.stamp.Stamp.{Stamp}
 use Rattle.rt_stamps.specs.Stamps.{is_before}
 use Rattle.rt_stamps.specs.Words.{Word}
-use Rattle.rt_store.specs.Cells.{visible_of, text_of}
+use Rattle.rt_store.specs.Cells.{visible_of}
 use Rattle.rt_store.specs.Shown.{TaggedCell}
 use Rattle.rt_store.specs.Spans.{is_among}
 use Rattle.rt_store.proofs.Distinct.{split}
@@ -15,12 +14,12 @@ use Rattle.rt_tags.specs.States.{Write, is_on, names_on, write_of, written, says
 use Rattle.rt_tags.specs.Tags.{is_listed, sel}
 use Rattle.rt_tags.proofs.Greatest.{newer, write_of_written}
 use Rattle.rt_tags.proofs.Places.{same_name}
-use Rattle.rt_edits.specs.declared.range.Range.{Range}
-use Rattle.rt_edits.specs.Deletions.{is_last, last_tags, without_places, without_text_in}
+use Rattle.rt_edits.specs.Deletions.{Loss, newline_of, without_places, without_text}
 use Rattle.rt_edits.specs.Flat.{Flat}
 use Rattle.rt_edits.specs.Listed.{AreListed, IsShared}
-use Rattle.rt_edits.specs.Removals.{cells_at, gone_at, is_covered, is_removed}
-use Rattle.rt_edits.specs.TagWrites.{changed_stamps, tagged, tag_write, with_tag_at, with_tags_at}
+use Rattle.rt_edits.specs.Removals.{gone_at}
+use Rattle.rt_edits.specs.TagWrites.{bared, tagged, tag_write, with_tag}
+use Rattle.rt_edits.proofs.NewlineDrafts.{loss_has, newline_at}
 use Rattle.rt_edits.proofs.ListedWrites.{shared_names_on, shared_tagged}
 
 -- TAGS THAT ARE ON
@@ -116,36 +115,28 @@ off_on site count name stamps cell other h = by (is_among stamps cell.stamp) h
     by true k = on_before other (tag_write site count name false stamps cell.stamp) cell.state refl k
     by false k = k
 
--- tags that are taken off leave those that are on listed
-pub listed_off : (listed : List Word) (flat : Flat) (places : ℕ → Bool) (names : List Word) → All (λ name. bytes_eq name sel ≡ false) names → AreListed listed flat.cells
-    → AreListed listed (with_tags_at flat places false names).cells
-listed_off listed flat places [] others h = h
-listed_off listed flat places (name ∷ names) others h =
-    let stamps = changed_stamps name false (cells_at places 0 flat.cells) in
-    listed_off listed (with_tag_at flat places false name) places names (All-tail (λ (n : Word). bytes_eq n sel ≡ false) name names others)
+-- tags that are taken off a character leave those that are on listed
+bared_listed : (listed : List Word) (flat : Flat) (stamp : Stamp) (names : List Word) → All (λ name. bytes_eq name sel ≡ false) names → AreListed listed flat.cells → AreListed listed (bared flat stamp names).cells
+bared_listed listed flat stamp [] others h = h
+bared_listed listed flat stamp (name ∷ names) others h =
+    let stamps = stamp ∷ [] in
+    bared_listed listed (with_tag flat name false stamps) stamp names (All-tail (λ (n : Word). bytes_eq n sel ≡ false) name names others)
     (listed_less listed (tagged flat.site flat.count name false stamps) flat.cells (off_seen flat.site flat.count name stamps) (off_on flat.site flat.count name stamps)
     (shared_tagged flat.site flat.count name false stamps (All-head (λ (n : Word). bytes_eq n sel ≡ false) name names others)) h)
 
-last_shared : (cells : List TaggedCell) (place : ℕ) → All (λ cell. IsShared cell.state) cells → All (λ name. bytes_eq name sel ≡ false) (unwrap_or (option_map (λ cell. names_on cell.state) (slice_get cells place)) [])
-last_shared cells place h = by (slice_get cells place) refl
-  where
-    by : (o : Option TaggedCell) → slice_get cells place ≡ o → All (λ name. bytes_eq name sel ≡ false) (unwrap_or (option_map (λ cell. names_on cell.state) o) [])
-    by None e = All-nil (λ name. bytes_eq name sel ≡ false)
-    by (Some cell) e =
-        shared_names_on cell.state (subst (λ (c : TaggedCell). IsShared c.state) (get_or_from_slice_get cells place cell cell e) (h place cell (slice_get_within cells place cell e)))
+newline_shared : (flat : Flat) (loss : Loss) (cell : TaggedCell) → All (λ cell. IsShared cell.state) flat.cells → newline_of flat loss ≡ Some cell → All (λ name. bytes_eq name sel ≡ false) (names_on cell.state)
+newline_shared flat loss cell h e =
+    let w = newline_at flat loss cell e in
+    let P : TaggedCell → Type 0 = λ c. IsShared c.state in
+    let all : All P (visible_of flat.cells) = All-filter (λ (c : TaggedCell). not c.gone) P flat.cells h in
+    shared_names_on cell.state (subst P (get_or_from_slice_get (visible_of flat.cells) w.0 cell cell w.1) (all w.0 cell (slice_get_within (visible_of flat.cells) w.0 cell w.1)))
 
 -- A DELETION
 
 -- the tags that are listed stay so
-pub deletion_listed : (flat : Flat) (ranges : List Range) (names : List Word) → AreListed names flat.cells → AreListed names (without_text_in flat ranges).cells
-deletion_listed flat ranges names h = by (is_covered ranges (length (text_of flat.cells) - 1))
-  where
-    left : Flat
-    left = without_places flat (is_removed (text_of flat.cells) ranges)
-
-    gone : AreListed names left.cells
-    gone = listed_gone names (is_removed (text_of flat.cells) ranges) flat.cells h
-
-    by : (b : Bool) → AreListed names (cond b (with_tags_at left (is_last left) false (last_tags left)) left).cells
-    by true = listed_off names left (is_last left) (last_tags left) (last_shared left.cells (length left.cells - 1) gone.shared) gone
-    by false = gone
+pub deletion_listed : (flat : Flat) (loss : Loss) (names : List Word) → AreListed names flat.cells → AreListed names (without_text flat loss).cells
+deletion_listed flat loss names h =
+    let left = without_places flat loss.places in
+    let gone : AreListed names left.cells = listed_gone names loss.places flat.cells h in
+    loss_has (λ (f : Flat). AreListed names f.cells) flat loss gone
+    (λ cell e. bared_listed names left cell.stamp (names_on cell.state) (newline_shared flat loss cell h.shared e) gone)

@@ -1,5 +1,6 @@
 -- What a deletion gives, by its checks, and what it leaves of a document.
-use Rattle.std.proofs.Common.{◌≡◌, ℕ, ◌-◌, ◌<◌, ◌≤◌, ◌⊎◌, inl, inr, List, [], ◌∷◌, ◌++◌, Bool, true, false, cond, length, map, refl, sym, ◌∙◌, ap, subst, Some, None, Ok, Err, Option, Result, OnOk}
+use Rattle.std.proofs.Common.{◌≡◌, ℕ, ◌<◌, ◌≤◌, ◌⊎◌, inl, inr, List, [], ◌∷◌, ◌++◌, Bool, true, false, cond, length, map, refl, sym, ◌∙◌, ap, arith, subst, Some, None, Ok, Err, Option, Result, OnOk}
+use Rattle.std.specs.Prelude.{is_some}
 use Rattle.rt_marks.specs.Marks.{Mark, marks_left, place_left}
 use Rattle.rt_oplog.specs.Operations.{Body}
 use Rattle.rt_stamps.specs.declared.fault.Fault.{Fault}
@@ -10,6 +11,7 @@ use Rattle.rt_stamps.specs.declared.stamp.TheConstants.{FINAL}
 use Rattle.rt_stamps.specs.Outcomes.{first_of, unless, Refuses}
 use Rattle.rt_stamps.specs.Words.{Word}
 use Rattle.rt_store.specs.Cells.{text_of}
+use Rattle.rt_tags.specs.States.{names_on}
 use Rattle.rt_rga.specs.Cells.{cells_of}
 use Rattle.rt_rga.specs.Drafts.{with_drafts}
 use Rattle.rt_rga.specs.Histories.{IsHistory}
@@ -18,21 +20,22 @@ use Rattle.rt_rga.specs.Made.{refusal_of}
 use Rattle.rt_rga.specs.Requests.{MayBeMade}
 use Rattle.rt_rga.proofs.Requests.{all_count_on}
 use Rattle.rt_edits.specs.declared.range.Range.{Range}
-use Rattle.rt_edits.specs.Deletions.{delete_drafts, is_last, last_tags, without_places, without_text_in}
-use Rattle.rt_edits.specs.DraftLaws.{IsDocument}
+use Rattle.rt_edits.specs.Deletions.{Loss, delete_drafts, loss_in, without_places, without_text}
+use Rattle.rt_edits.specs.DraftLaws.{IsDocument, SparesLast}
 use Rattle.rt_edits.specs.Flat.{Flat, logged}
-use Rattle.rt_edits.specs.Removals.{is_covered, is_removed}
 use Rattle.rt_edits.specs.Selections.{unselected}
-use Rattle.rt_edits.specs.TagWrites.{with_tag_at, with_tags_at}
-use Rattle.rt_edits.proofs.CharacterCounts.{ranges_insert_none}
-use Rattle.rt_edits.proofs.DeletionDraftLaws.{ranges_may, ranges_counted, ranges_deleted, spares_last}
-use Rattle.rt_edits.proofs.TagPlaces.{tag_text}
+use Rattle.rt_edits.specs.TagWrites.{bared, tagged, with_tag}
+use Rattle.rt_edits.proofs.CharacterCounts.{loss_inserts_none}
+use Rattle.rt_edits.proofs.DeletionDraftLaws.{loss_counted, loss_made, loss_may, spares_last}
+use Rattle.rt_edits.proofs.NewlineDrafts.{loss_has}
+use Rattle.rt_edits.proofs.Putting.{tagged_state}
+use Rattle.rt_edits.proofs.StateChanges.{text_changed}
 use Rattle.rt_text.specs.Index.{index_check, place_at_index}
 use Rattle.rt_text.specs.Ranges.{ranges_of}
 use Rattle.rt_text.specs.Widgets.{Own, AreSiteMarks, IsOwnOf, Viewed, widget_of, own_left}
 use Rattle.rt_text.specs.Commands.{clock_check, deleted, without_ranges}
 use Rattle.rt_text.proofs.MadeDocument.{seen, seen_made, counts_alone, clock_fits}
-use Rattle.rt_text.proofs.ViewLaws.{places_whole, viewed}
+use Rattle.rt_text.proofs.ViewLaws.{viewed}
 use Rattle.rt_text.proofs.MarkLaws.{length_gone, own_of_left, site_left}
 
 -- two facts of a result that is Ok
@@ -83,88 +86,92 @@ map_same (s ∷ others) = ap (λ l. s ∷ l) (map_same others)
 
 -- WHAT A DELETION LEAVES
 
--- tags that are written leave all but cells and count
-tags_rest : (names : List Word) (flat : Flat) (places : ℕ → Bool) (on : Bool)
-    → with_tags_at flat places on names ≡ record flat { cells = (with_tags_at flat places on names).cells; count = (with_tags_at flat places on names).count }
-tags_rest [] flat places on = refl
-tags_rest (name ∷ names) flat places on = tags_rest names (with_tag_at flat places on name) places on
+-- tags that are taken off a character leave all but cells and count
+bared_rest : (names : List Word) (flat : Flat) (stamp : Stamp) → bared flat stamp names ≡ record flat { cells = (bared flat stamp names).cells; count = (bared flat stamp names).count }
+bared_rest [] flat stamp = refl
+bared_rest (name ∷ names) flat stamp = bared_rest names (with_tag flat name false (stamp ∷ [])) stamp
 
-tags_text : (names : List Word) (flat : Flat) (places : ℕ → Bool) (on : Bool) → text_of (with_tags_at flat places on names).cells ≡ text_of flat.cells
-tags_text [] flat places on = refl
-tags_text (name ∷ names) flat places on = tags_text names (with_tag_at flat places on name) places on ∙ tag_text flat places on name
+bared_text : (names : List Word) (flat : Flat) (stamp : Stamp) → text_of (bared flat stamp names).cells ≡ text_of flat.cells
+bared_text [] flat stamp = refl
+bared_text (name ∷ names) flat stamp =
+    bared_text names (with_tag flat name false (stamp ∷ [])) stamp
+    ∙ text_changed (tagged flat.site flat.count name false (stamp ∷ [])) (tagged_state flat.site flat.count name false (stamp ∷ [])) flat.cells
 
--- a document without the characters at some places, and perhaps without tags of the last newline
-abbrev pub cleared : Bool → Flat → Flat
-cleared held left = cond held (with_tags_at left (is_last left) false (last_tags left)) left
-
-cleared_rest : (held : Bool) (left : Flat) → cleared held left ≡ record left { cells = (cleared held left).cells; count = (cleared held left).count }
-cleared_rest true left = tags_rest (last_tags left) left (is_last left) false
-cleared_rest false left = refl
-
-cleared_text : (held : Bool) (left : Flat) → text_of (cleared held left).cells ≡ text_of left.cells
-cleared_text true left = tags_text (last_tags left) left (is_last left) false
-cleared_text false left = refl
+-- what a deletion of ranges of the whole text takes
+abbrev pub loss_of : Flat → List Range → Loss
+loss_of flat ranges = loss_in (text_of flat.cells) 0 ranges
 
 module _ (flat : Flat) (ranges : List Range) where
   abbrev pub drafts_of : List Body
-  drafts_of = delete_drafts MOST_SPANS flat ranges
+  drafts_of = delete_drafts MOST_SPANS flat (loss_of flat ranges)
 
   abbrev removed_of : ℕ → Bool
-  removed_of = is_removed (text_of flat.cells) ranges
+  removed_of = (loss_of flat ranges).places
+
+  abbrev pub left_of : Flat
+  left_of = without_text flat (loss_of flat ranges)
+
+  pub spared : SparesLast removed_of (text_of flat.cells)
+  spared = spares_last (text_of flat.cells) (text_of flat.cells) 0 ranges (omega arith)
 
   -- all but cells, count and marks
-  deletion_rest : without_text_in flat ranges ≡ record flat { cells = (without_text_in flat ranges).cells; count = (without_text_in flat ranges).count; marks = marks_left removed_of flat.marks }
-  deletion_rest = cleared_rest (is_covered ranges (length (text_of flat.cells) - 1)) (without_places flat removed_of)
+  deletion_rest : left_of ≡ record flat { cells = left_of.cells; count = left_of.count; marks = marks_left removed_of flat.marks }
+  deletion_rest =
+      loss_has (λ (f : Flat). f ≡ record flat { cells = f.cells; count = f.count; marks = marks_left removed_of flat.marks }) flat (loss_of flat ranges) refl
+      (λ cell e. bared_rest (names_on cell.state) (without_places flat removed_of) cell.stamp)
 
   -- how many characters are left
-  pub deletion_length : length (text_of (without_text_in flat ranges).cells) ≡ place_left removed_of (length (text_of flat.cells))
-  deletion_length = ap length (cleared_text (is_covered ranges (length (text_of flat.cells) - 1)) (without_places flat removed_of)) ∙ length_gone removed_of flat.cells
+  pub deletion_length : length (text_of left_of.cells) ≡ place_left removed_of (length (text_of flat.cells))
+  deletion_length =
+      let n = length_gone removed_of flat.cells in
+      loss_has (λ (f : Flat). length (text_of f.cells) ≡ place_left removed_of (length (text_of flat.cells))) flat (loss_of flat ranges) n
+      (λ cell e. ap length (bared_text (names_on cell.state) (without_places flat removed_of) cell.stamp) ∙ n)
 
   module _ (h : IsHistory flat.log) (doc : IsDocument flat.site flat.log flat) where
     pub deletion_may : MayBeMade flat.site flat.log drafts_of
-    deletion_may = ranges_may flat.site flat.log flat ranges h doc
+    deletion_may = loss_may flat.site flat.log flat (loss_of flat ranges) h doc spared
 
     -- it is refused for its counts alone
-    pub deletion_refusal : length flat.cells ≤ flat.limit → refusal_of flat.limit drafts_of flat.log ≡ clock_check (without_text_in flat ranges).count
+    pub deletion_refusal : length flat.cells ≤ flat.limit → refusal_of flat.limit drafts_of flat.log ≡ clock_check left_of.count
     deletion_refusal few =
-        counts_alone flat.limit drafts_of flat.log (without_text_in flat ranges).count (subst (λ l. length l ≤ flat.limit) doc.cells few) (ranges_insert_none flat ranges)
-        (sym (all_count_on flat.site drafts_of flat.log) ∙ ranges_counted flat.site flat.log flat ranges h doc)
+        counts_alone flat.limit drafts_of flat.log left_of.count (subst (λ l. length l ≤ flat.limit) doc.cells few) (loss_inserts_none flat (loss_of flat ranges))
+        (sym (all_count_on flat.site drafts_of flat.log) ∙ loss_counted flat.site flat.log flat (loss_of flat ranges) h doc)
 
     -- what the replica has then made, with the marks moved for some places, is seen as the document that the deletion leaves
     pub deletion_seen : 0 < flat.site → (new : ReplicaValue) (marks : List Mark) (removed : ℕ → Bool) → new.log ≡ with_drafts flat.site drafts_of flat.log → new.cells ≡ cells_of new.log → new.site ≡ flat.site
-        → new.limit ≡ flat.limit → refusal_of flat.limit drafts_of flat.log ≡ None → length flat.cells ≤ flat.limit → ((p : ℕ) → removed p ≡ is_removed (text_of flat.cells) ranges p) → marks ≡ marks_left removed flat.marks
-        → seen new marks flat.tags ≡ logged flat drafts_of (without_text_in flat ranges)
+        → new.limit ≡ flat.limit → refusal_of flat.limit drafts_of flat.log ≡ None → length flat.cells ≤ flat.limit → ((p : ℕ) → removed p ≡ removed_of p) → marks ≡ marks_left removed flat.marks
+        → seen new marks flat.tags ≡ logged flat drafts_of left_of
     deletion_seen positive new marks removed log cells site limit fits few places moved =
-        let edited : Flat = without_text_in flat ranges in
+        let edited : Flat = left_of in
         let count : edited.count ≤ GREATEST_COUNT = clock_fits edited.count (sym (deletion_refusal few) ∙ fits) in
         let all : marks ≡ edited.marks = moved ∙ (λ i. marks_left (λ p. places p i) flat.marks) ∙ sym (ap (λ (f : Flat). f.marks) deletion_rest) in
         let names : flat.tags ≡ edited.tags = sym (ap (λ (f : Flat). f.tags) deletion_rest) in
         (λ i. seen new (all i) (names i))
-        ∙ seen_made flat edited drafts_of new log cells site limit (ap (λ (f : Flat). f.limit) deletion_rest) (ranges_deleted flat.site flat.log flat ranges positive h doc count)
+        ∙ seen_made flat edited drafts_of new log cells site limit (ap (λ (f : Flat). f.limit) deletion_rest) (loss_made flat.site flat.log flat (loss_of flat ranges) positive h doc spared count)
 
   -- the edit, by the places that go and whether the last newline is held
-  pub deletion_edited : (doc : Flat) (own : Own) (others : List (List Stamp)) (removed : ℕ → Bool) (held : Bool) → doc ≡ logged flat drafts_of (without_text_in flat ranges)
-      → ((p : ℕ) → removed p ≡ is_removed (text_of flat.cells) ranges p) → held ≡ is_covered ranges (length (text_of flat.cells) - 1)
+  pub deletion_edited : (doc : Flat) (own : Own) (others : List (List Stamp)) (removed : ℕ → Bool) (held : Bool) → doc ≡ logged flat drafts_of left_of
+      → ((p : ℕ) → removed p ≡ removed_of p) → held ≡ is_some (loss_of flat ranges).newline
       → without_ranges (viewed flat own others) ranges ≡ record { doc = doc; own = record (own_left removed own) { sel = last_off held own.sel }; others = map (last_off held) others }
   deletion_edited doc own others removed held made places e =
       λ i. record {
         doc = sym made i;
-        own = record (own_left (λ p. (places_whole (viewed flat own others) removed_of p ∙ sym (places p)) i) own) { sel = last_off (sym e i) own.sel };
+        own = record (own_left (λ p. sym (places p) i) own) { sel = last_off (sym e i) own.sel };
         others = map (last_off (sym e i)) others;
       }
 
   -- marks stay in the text that is left
-  pub deletion_placed : (marks : List Mark) (removed : ℕ → Bool) → ((p : ℕ) → removed p ≡ is_removed (text_of flat.cells) ranges p) → marks ≡ marks_left removed flat.marks
-      → AreSiteMarks (length (text_of flat.cells)) flat.marks → AreSiteMarks (length (text_of (without_text_in flat ranges).cells)) marks
+  pub deletion_placed : (marks : List Mark) (removed : ℕ → Bool) → ((p : ℕ) → removed p ≡ removed_of p) → marks ≡ marks_left removed flat.marks
+      → AreSiteMarks (length (text_of flat.cells)) flat.marks → AreSiteMarks (length (text_of left_of.cells)) marks
   deletion_placed marks removed places moved h =
       let n = length (text_of flat.cells) in
       let all : marks ≡ marks_left removed_of flat.marks = moved ∙ (λ i. marks_left (λ p. places p i) flat.marks) in
       subst (λ m. AreSiteMarks m marks) (sym deletion_length) (subst (AreSiteMarks (place_left removed_of n)) (sym all) (site_left n removed_of flat.marks h))
 
   -- the same of a widget's own, since the last newline stays
-  pub deletion_own : (own : Own) (removed : ℕ → Bool) → ((p : ℕ) → removed p ≡ is_removed (text_of flat.cells) ranges p) → IsOwnOf (length (text_of flat.cells)) own
-      → IsOwnOf (length (text_of (without_text_in flat ranges).cells)) (own_left removed own)
+  pub deletion_own : (own : Own) (removed : ℕ → Bool) → ((p : ℕ) → removed p ≡ removed_of p) → IsOwnOf (length (text_of flat.cells)) own
+      → IsOwnOf (length (text_of left_of.cells)) (own_left removed own)
   deletion_own own removed places h =
       let n = length (text_of flat.cells) in
       subst (λ m. IsOwnOf m (own_left removed own)) (sym deletion_length)
-      (subst (IsOwnOf (place_left removed_of n)) (λ i. own_left (λ p. sym (places p) i) own) (own_of_left n removed_of own (spares_last (text_of flat.cells) ranges) h))
+      (subst (IsOwnOf (place_left removed_of n)) (λ i. own_left (λ p. sym (places p) i) own) (own_of_left n removed_of own spared h))

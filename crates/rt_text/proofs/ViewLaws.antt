@@ -1,11 +1,12 @@
 -- The words by which commands speak of a widget's text, where it shows all of the text.
-use Rattle.std.proofs.Common.{◌≡◌, ◌∙◌, ℕ, ◌+◌, ◌-◌, ◌&&◌, Bool, true, false, cond, List, ap, arith}
+use Rattle.std.proofs.Common.{◌≡◌, ◌∙◌, ℕ, ◌+◌, Bool, true, false, cond, List, ap, arith}
 use Rattle.std.specs.Str.{bytes_eq}
-use Rattle.std.proofs.lemmas.Bool.{cond-false, cond-true, le-leb}
+use Rattle.std.proofs.lemmas.Bool.{cond-false, cond-true}
 use Rattle.rt_marks.specs.Marks.{Mark}
 use Rattle.rt_stamps.specs.declared.stamp.Stamp.{Stamp}
 use Rattle.rt_stamps.specs.Words.{Word}
 use Rattle.rt_store.specs.Shown.{TaggedCell}
+use Rattle.rt_edits.proofs.PlaceLaws.{places_from_start}
 use Rattle.rt_edits.specs.declared.range.Range.{Range}
 use Rattle.rt_edits.specs.Flat.{Flat, logged}
 use Rattle.rt_edits.specs.Removals.{is_covered, stamps_at}
@@ -27,9 +28,7 @@ place_whole view place = let same : 0 + place ≡ place = omega arith in same
 
 -- and places are
 pub places_whole : (view : Viewed) (test : ℕ → Bool) (place : ℕ) → places_in_text view test place ≡ test place
-places_whole view test place =
-    let zero : place - 0 ≡ place = omega arith in
-    ap (λ b. b && test (place - 0)) (le-leb 0 place (omega arith)) ∙ ap test zero
+places_whole view test place = places_from_start test place
 
 -- what index expressions see, by its parts
 pub ground_whole : (view : Viewed) (cells : List TaggedCell) (marks : List Mark) (tags : List Word) (own : Own) → cells ≡ view.doc.cells → marks ≡ view.doc.marks → tags ≡ view.doc.tags → own ≡ view.own

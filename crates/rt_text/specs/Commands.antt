@@ -14,7 +14,7 @@ use Rattle.rt_stamps.specs.Places.{position_at}
 use Rattle.rt_stamps.specs.Words.{Word}
 use Rattle.rt_tags.specs.Tags.{sel}
 use Rattle.rt_edits.specs.declared.range.Range.{Range}
-use Rattle.rt_edits.specs.Deletions.{delete_drafts, without_text_in}
+use Rattle.rt_edits.specs.Deletions.{delete_drafts, loss_in, without_text}
 use Rattle.rt_edits.specs.Flat.{left_of, logged, put_after}
 use Rattle.rt_edits.specs.InsertionDrafts.{insertion_drafts}
 use Rattle.rt_edits.specs.Insertions.{Insertion, Piece, insertion_of, left_neighbour, right_neighbour}
@@ -22,11 +22,11 @@ use Rattle.rt_text.specs.Comparisons.{comparison_of, holds_of}
 use Rattle.rt_text.specs.Distances.{measures_of, or_indices, distance_of}
 use Rattle.rt_text.specs.Index.{index_check, place_at_index}
 use Rattle.rt_text.specs.Ranges.{text_between, texts_of, ranges_of}
-use Rattle.rt_edits.specs.Removals.{is_covered, is_removed, stamps_at}
+use Rattle.rt_edits.specs.Removals.{is_covered, stamps_at}
 use Rattle.rt_edits.specs.Selections.{unselected, selection_with}
 use Rattle.rt_edits.specs.TagDrafts.{deletion_drafts, tag_drafts_at}
 use Rattle.rt_edits.specs.TagWrites.{listed_if, with_tag_at, without_tags}
-use Rattle.rt_text.specs.Widgets.{Viewed, in_text, last_newline, length_shown, own_inserted, own_left, places_in_text, shown_by, text_shown, widget_of}
+use Rattle.rt_text.specs.Widgets.{Viewed, begin_of, in_text, last_newline, own_inserted, own_left, places_in_text, shown_by, text_shown, widget_of}
 
 -- CHECKS
 
@@ -80,15 +80,16 @@ with_pieces_at view place pieces rest =
 abbrev pub last_unselected : Viewed → Bool → List Stamp → List Stamp
 last_unselected view held selection = if held then unselected (last_newline view ∷ []) selection else selection
 
--- the document without the characters in ranges, where the widget's last newline stays: where a range holds it, it loses its
--- tags, and is nowhere selected
+-- the document without the characters in ranges of what the widget shows, where the widget's last newline stays: where a range
+-- holds it, it loses its tags, and is nowhere selected
 abbrev pub without_ranges : Viewed → List Range → Viewed
 without_ranges view ranges =
     let flat = view.doc in
-    let held = is_covered ranges (length_shown view - 1) in
+    let loss = loss_in (text_shown view) (begin_of view) ranges in
+    let held = is_some loss.newline in
     record {
-      doc = logged flat (delete_drafts MOST_SPANS flat ranges) (without_text_in flat ranges);
-      own = record (own_left (places_in_text view (is_removed (text_shown view) ranges)) view.own) { sel = last_unselected view held view.own.sel };
+      doc = logged flat (delete_drafts MOST_SPANS flat loss) (without_text flat loss);
+      own = record (own_left loss.places view.own) { sel = last_unselected view held view.own.sel };
       others = map (last_unselected view held) view.others;
     }
 

@@ -1,5 +1,5 @@
 -- A widget: its own marks, and what index expressions see of it.
-use Rattle.std.specs.Prelude.{◌≡◌, ℕ, ◌+◌, ◌-◌, ◌<◌, ◌≤◌, ◌&&◌, nat_le, Bool, false, List, [], length, map, min, filter, Option, Some, None, is_some, option_map, option_and_then, if◌then◌else◌, codes}
+use Rattle.std.specs.Prelude.{◌≡◌, ℕ, ◌+◌, ◌-◌, ◌<◌, ◌≤◌, Bool, false, List, [], length, map, min, filter, Option, Some, None, is_some, option_map, option_and_then, if◌then◌else◌, codes}
 use Rattle.std.specs.Str.{bytes_eq}
 use Rattle.rt_index.specs.Widget.{Widget, Ends}
 use Rattle.rt_marks.specs.declared.gravity.Gravity.{Gravity}
@@ -14,6 +14,7 @@ use Rattle.rt_tags.specs.States.{is_on}
 use Rattle.rt_tags.specs.Tags.{sel, is_listed}
 use Rattle.rt_text.specs.declared.own_mark.OwnMark.{OwnMark}
 use Rattle.rt_text.specs.declared.own_mark.OwnMark.TheVariants.{Insert, Current}
+use Rattle.rt_edits.specs.Deletions.{places_from}
 use Rattle.rt_edits.specs.Flat.{Flat}
 use Rattle.rt_store.specs.Shown.{TaggedCell}
 use Rattle.rt_store.specs.Spans.{is_among}
@@ -155,7 +156,7 @@ in_text view place = begin_of view + place
 
 -- the places of the whole text that pass a test of places among them
 abbrev pub places_in_text : Viewed → (ℕ → Bool) → ℕ → Bool
-places_in_text view test place = nat_le (begin_of view) place && test (place - begin_of view)
+places_in_text view test = places_from (begin_of view) test
 
 abbrev pub mark_of : Viewed → List ℕ → Option Mark
 mark_of view name = mark_among (own_shown view) (marks_shown view) name

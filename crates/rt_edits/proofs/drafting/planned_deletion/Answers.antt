@@ -1,4 +1,5 @@
-use Rattle.std.proofs.Common.{◌≡◌, ℕ, Bool, ◌-◌, List, [], ◌++◌, cond, ap, append-nil, arith, length, map, sym, ◌∙◌}
+use Rattle.std.proofs.Common.{◌≡◌, ℕ, Bool, true, false, ◌+◌, ◌-◌, ◌&&◌, List, [], ◌++◌, cond, ap, append-nil, arith, length, map, refl, sym, ◌∙◌, Option, Some, None}
+use Rattle.std.specs.Prelude.{is_some, option_and_then, option_map, slice_get, unwrap_or}
 use Rattle.std.proofs.lemmas.List.{length-map}
 use Rattle.rt_stamps.specs.declared.limits.TheConstants.{MOST_SPANS}
 use Rattle.rt_stamps.specs.declared.stamp.Span.{Span}
@@ -7,52 +8,74 @@ use Rattle.rt_oplog.specs.Edits.{body_of}
 use Rattle.rt_oplog.specs.Operations.{Body, Delete}
 use Rattle.rt_store.specs.declared.cell.Cell.{Cell}
 use Rattle.rt_store.specs.Cells.{text_of, visible_of}
-use Rattle.rt_store.specs.Shown.{shown}
-use Rattle.rt_store.proofs.Shown.{text_shown}
-use Rattle.rt_tags.specs.States.{TagStates, state_at}
+use Rattle.rt_store.specs.Shown.{TaggedCell, shown}
+use Rattle.rt_tags.specs.States.{TagStates, names_on, state_at}
 use Rattle.rt_edits.specs.declared.range.Range.{Range}
-use Rattle.rt_edits.specs.Deletions.{last_tags}
+use Rattle.rt_edits.specs.Deletions.{Loss, loss_in}
 use Rattle.rt_edits.specs.Flat.{Flat}
 use Rattle.rt_edits.specs.NamedSpans.{parts_of, spans_in}
 use Rattle.rt_edits.specs.RemovalDrafts.{removal_drafts}
 use Rattle.rt_edits.specs.Removals.{is_covered, is_removed, stamps_at}
 use Rattle.rt_edits.specs.TagDrafts.{newline_drafts}
 use Rattle.rt_edits.proofs.GoneLaws.{some_visible}
+use Rattle.rt_edits.proofs.PlaceLaws.{places_from_start}
 use Rattle.rt_edits.proofs.Shown.{stamps_at_shown}
 use Rattle.rt_edits.proofs.drafting.planned_deletion.Goals as goal
 use Rattle.rt_edits.proofs.drafting.planned_deletion.Goals.{then-held+in_ok-push_newline, else-held}
 
--- the text, as cells are shown
-text_is : (table : TagStates) (kept : List (Cell ℕ)) (flat : Flat) → flat.cells ≡ map (shown table) kept → text_of kept ≡ text_of flat.cells
-text_is table kept flat h = sym (ap text_of h ∙ text_shown (state_at table) kept)
-
 -- the Deletes at the same places
-same_deletes : (table : TagStates) (kept : List (Cell ℕ)) (flat : Flat) (removed : ℕ → Bool) (ranges : List Range) → flat.cells ≡ map (shown table) kept
-    → ((place : ℕ) → removed place ≡ is_removed (text_of kept) ranges place) → removal_drafts MOST_SPANS removed kept ≡ removal_drafts MOST_SPANS (is_removed (text_of flat.cells) ranges) flat.cells
-same_deletes table kept flat removed ranges h places =
-    let text = text_is table kept flat h in
-    let stamps : stamps_at removed 0 kept ≡ stamps_at (is_removed (text_of flat.cells) ranges) 0 flat.cells =
-    (λ i. stamps_at (λ place. places place i) 0 kept) ∙ (λ i. stamps_at (is_removed (text i) ranges) 0 kept)
-    ∙ sym (stamps_at_shown (state_at table) (is_removed (text_of flat.cells) ranges) 0 kept) ∙ ap (stamps_at (is_removed (text_of flat.cells) ranges) 0) (sym h) in
+same_deletes : (table : TagStates) (kept : List (Cell ℕ)) (flat : Flat) (removed places : ℕ → Bool) → flat.cells ≡ map (shown table) kept
+    → ((place : ℕ) → removed place ≡ places place) → removal_drafts MOST_SPANS removed kept ≡ removal_drafts MOST_SPANS places flat.cells
+same_deletes table kept flat removed places h same =
+    let stamps : stamps_at removed 0 kept ≡ stamps_at places 0 flat.cells =
+    (λ i. stamps_at (λ place. same place i) 0 kept) ∙ sym (stamps_at_shown (state_at table) places 0 kept) ∙ ap (stamps_at places 0) (sym h) in
     ap (λ (l : List Stamp). map (λ (spans : List Span). Delete spans) (parts_of MOST_SPANS (spans_in l))) stamps
 
-pub overflow_sub-visible : goal.overflow_sub-visible
-overflow_sub-visible g c = omega (arith, c.visible.ensures, some_visible (g.S.TextStore.list c.args.store.now) (g.met.S.TextStore.ends c.args.store.now))
+pub overflow_sub-last : goal.overflow_sub-last
+overflow_sub-last g c = omega (arith, c.visible-last.ensures, some_visible (g.S.TextStore.list c.args.store.now) (g.met.S.TextStore.ends c.args.store.now))
+
+pub push_newline-requires-clause-place : goal.push_newline-requires-clause-place
+push_newline-requires-clause-place g c = omega (arith, c.visible-last.ensures, some_visible (g.S.TextStore.list c.args.store.now) (g.met.S.TextStore.ends c.args.store.now))
+
+some_if : (b : Bool) (n : ℕ) → is_some (cond b (Some n) None) ≡ b
+some_if true n = refl
+some_if false n = refl
+
+-- where the last newline is held
+held_is : (kept : List (Cell ℕ)) (ranges : List Range) (n : ℕ) (held : Bool) → n ≡ length (visible_of kept) → held ≡ is_covered ranges (n - 1) → held ≡ is_covered ranges (length (text_of kept) - 1)
+held_is kept ranges n held e h = h ∙ ap (λ k. is_covered ranges (k - 1)) (e ∙ sym (length-map (visible_of kept) (λ (cell : Cell ℕ). cell.ch)))
+
+pub returns-clause-places : goal.returns-clause-places
+returns-clause-places g c = λ place. c.in_ok-removed.ensures.places place ∙ sym (places_from_start (is_removed (text_of (g.S.TextStore.list c.args.store.now)) c.args.ranges.now) place)
+
+pub returns-clause-held : goal.returns-clause-held
+returns-clause-held g c =
+    let kept = g.S.TextStore.list c.args.store.now in
+    let last = length (text_of kept) - 1 in
+    held_is kept c.args.ranges.now c.visible-last.result c.holds-held.result c.visible-last.ensures c.holds-held.ensures ∙ sym (some_if (is_covered c.args.ranges.now last) (0 + last))
 
 pub returns-clause-drafts : goal.returns-clause-drafts
 returns-clause-drafts g c = λ flat h.
     let kept = g.S.TextStore.list c.args.store.now in
     let table = c.args.states.now in
     let ranges = c.args.ranges.now in
-    let deletes : List Body = removal_drafts MOST_SPANS (is_removed (text_of flat.cells) ranges) flat.cells in
-    let tags : List Body = newline_drafts (last_tags flat) in
-    let many : c.visible.result ≡ length (text_of flat.cells) = c.visible.ensures ∙ sym (length-map (visible_of kept) (λ (cell : Cell ℕ). cell.ch)) ∙ ap length (text_is table kept flat h) in
-    let held : c.holds-held.result ≡ is_covered ranges (length (text_of flat.cells) - 1) = c.holds-held.ensures ∙ ap (λ n. is_covered ranges (n - 1)) many in
+    let last = length (text_of kept) - 1 in
+    let loss : Loss = loss_in (text_of kept) 0 ranges in
+    let deletes : List Body = removal_drafts MOST_SPANS loss.places flat.cells in
+    let tags : Option ℕ → List Body =
+    λ o. unwrap_or (option_map (λ (cell : TaggedCell). newline_drafts cell.stamp (names_on cell.state)) (option_and_then (slice_get (visible_of flat.cells)) o)) [] in
+    let held = held_is kept ranges c.visible-last.result c.holds-held.result c.visible-last.ensures c.holds-held.ensures in
+    let at : c.visible-last.result - 1 ≡ 0 + last = omega (arith, c.visible-last.ensures, length-map (visible_of kept) (λ (cell : Cell ℕ). cell.ch)) in
     let deleted : map body_of c.in_ok-drafts.drafts.items ≡ deletes =
     c.in_ok-drafts.ensures.ok ∙ ap (λ l. removal_drafts MOST_SPANS (is_covered l) kept) c.deref.ensures.value
-    ∙ same_deletes table kept flat (is_covered c.in_ok-removed.removed.items) ranges h c.in_ok-removed.ensures.places in
+    ∙ same_deletes table kept flat (is_covered c.in_ok-removed.removed.items) loss.places h
+    (λ place. c.in_ok-removed.ensures.places place ∙ sym (places_from_start (is_removed (text_of kept) ranges) place)) in
     elim c.if-held.branch [
       | then-held+in_ok-push_newline w ↦
-          (λ i. map body_of (w.drafts-is i).items) ∙ w.in_ok-push_newline.ensures.ok flat h ∙ ap (λ l. l ++ tags) deleted ∙ ap (λ b. deletes ++ cond b tags []) (sym w.if-held.true ∙ held)
-      | else-held w ↦ (λ i. map body_of (w.drafts-is i).items) ∙ deleted ∙ sym (append-nil deletes) ∙ ap (λ b. deletes ++ cond b tags []) (sym w.if-held.false ∙ held)
+          (λ i. map body_of (w.drafts-is i).items) ∙ w.in_ok-push_newline.ensures.ok
+          ∙ (λ i. deleted i ++ unwrap_or (option_map (λ (cell : TaggedCell). newline_drafts cell.stamp (names_on cell.state)) (slice_get (visible_of (sym h i)) (at i))) [])
+          ∙ ap (λ b. deletes ++ tags (cond b (Some (0 + last)) None)) (sym w.if-held.true ∙ held)
+      | else-held w ↦
+          (λ i. map body_of (w.drafts-is i).items) ∙ deleted ∙ sym (append-nil deletes)
+          ∙ ap (λ b. deletes ++ tags (cond b (Some (0 + last)) None)) (sym w.if-held.false ∙ held)
     ]

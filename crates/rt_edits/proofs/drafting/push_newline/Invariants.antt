@@ -6,4 +6,5 @@ use Rattle.rt_edits.proofs.drafting.push_newline.Given as goal
 
 abbrev pub invariant-loop-tag : goal.invariant-loop-tag
 invariant-loop-tag g l =
-    map body_of l.drafts.items ++ newline_drafts (map (name_at l.states) (drop l.tag-index l.tag-items)) ≡ map body_of l.fn.drafts.items ++ newline_drafts (map (name_at l.states) l.tag-items)
+    map body_of l.drafts.items ++ newline_drafts l.newline.stamp (map (name_at l.states) (drop l.tag-index l.tag-items))
+    ≡ map body_of l.fn.drafts.items ++ newline_drafts l.newline.stamp (map (name_at l.states) l.tag-items)

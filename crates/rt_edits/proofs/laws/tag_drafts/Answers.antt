@@ -1,6 +1,6 @@
 use Rattle.rt_edits.proofs.CharacterCounts.{deletions_insert_none, tags_insert_none}
 use Rattle.rt_edits.proofs.DeletedNames.{deletions_made, deletions_may}
-use Rattle.rt_edits.proofs.NewlineDrafts.{newline_one_each}
+use Rattle.rt_edits.proofs.NewlineTags.{bared_as_tags, newline_one_each}
 use Rattle.rt_edits.proofs.TagDocuments.{all_deletions_counted, all_tags_counted, tags_are_counted, tags_made, tags_may}
 use Rattle.rt_edits.proofs.TagDraftLaws.{tags_as_flat}
 use Rattle.rt_edits.proofs.laws.tag_drafts.Goals as goal
@@ -25,6 +25,9 @@ returns-clause-deleted c = deletions_made
 
 pub returns-clause-newline : goal.returns-clause-newline
 returns-clause-newline c = newline_one_each
+
+pub returns-clause-bared : goal.returns-clause-bared
+returns-clause-bared c = bared_as_tags
 
 pub returns-clause-all_counted : goal.returns-clause-all_counted
 returns-clause-all_counted c = all_tags_counted
