@@ -8,8 +8,10 @@ mod matching;
 pub mod search;
 #[cfg(test)]
 mod tests;
+pub mod walk;
 mod window;
 
 pub use all::find_all;
 pub use find::find_first;
 pub use search::{Case, Direction, Limits, Overlaps, Search};
+pub use walk::positions;
