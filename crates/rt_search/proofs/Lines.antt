@@ -64,6 +64,7 @@ lines_few t p = omega (arith, few t p)
     by : (b : Bool) (n m : ℕ) → n ≤ m → cond b (n + 1) n ≤ suc m
     by true n m h = omega arith
     by false n m h = omega arith
+
     few : (t : List ℕ) (p : ℕ) → newlines (take p t) ≤ p
     few t zero = omega arith
     few [] (suc p) = omega arith
