@@ -1,4 +1,5 @@
 pub mod Ends
 pub mod Searches
+pub mod Walks
 pub mod Windows
 pub use Rattle.rt_store.specs.Cells

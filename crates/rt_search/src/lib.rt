@@ -6,8 +6,10 @@ pub mod find;
 pub mod laws;
 mod matching;
 pub mod search;
+pub mod walk;
 mod window;
 
 pub use all::find_all;
 pub use find::find_first;
 pub use search::{Case, Direction, Limits, Overlaps, Search};
+pub use walk::positions;

@@ -22,3 +22,5 @@ mod show;
 mod store;
 #[cfg(test)]
 mod text;
+#[cfg(test)]
+mod walks;

@@ -8,6 +8,7 @@ ghost use Rattle.rt_text.specs.Widgets.{IsOwnOf, new_own};
 
 mod accepting;
 mod editing;
+mod lending;
 mod marking;
 mod reading;
 mod tagging;
