@@ -1,11 +1,12 @@
 -- The cells of the worked examples.
-use Rattle.std.specs.Prelude.{ℕ, zero, suc, ◌+◌, false, List, [], ◌∷◌, ◌++◌, codes, Option, Some}
-use Rattle.rt_store.specs.Cells.{cells_from}
+use Rattle.std.specs.Prelude.{ℕ, zero, suc, ◌+◌, false, List, [], ◌∷◌, ◌++◌, map, codes, Option, Some}
+use Rattle.rt_store.specs.Cells.{cells_from, visible_of}
 use Rattle.rt_store.specs.Shown.{TaggedCell}
 use Rattle.rt_stamps.specs.declared.limits.TheConstants.{GREATEST_COUNT, MOST_TAGS}
 use Rattle.rt_stamps.specs.declared.stamp.TheConstants.{FINAL, ROOT}
 use Rattle.rt_stamps.specs.Words.{Word}
 use Rattle.rt_oplog.specs.Operations.{Operation, Insert}
+use Rattle.rt_tags.specs.States.{names_on}
 use Rattle.rt_tags.specs.Tags.{sel}
 use Rattle.rt_tags.specs.Writers.{listed_by, state_after}
 use Rattle.rt_rga.specs.Examples.{at, only_t}
@@ -35,6 +36,10 @@ flat_of_lines = record (new_flat 3 9) {
   cells = cells_from 1 1 (state_after [] (listed_by (at 1 1) only_t)) (codes "a\nb\nc\nd") ++ record { stamp = FINAL; ch = 10; gone = false; state = [] } ∷ [];
   count = 7;
 }
+
+-- the tags on each character of a text
+abbrev pub tags_of_each : List TaggedCell → List (List Word)
+tags_of_each cells = map (λ cell. names_on cell.state) (visible_of cells)
 
 -- so many names of one byte each, from one on
 abbrev pub names_from : ℕ → ℕ → List Word

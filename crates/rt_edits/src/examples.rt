@@ -8,7 +8,7 @@ ghost use Rattle.rt_store.specs.Cells.{text_of};
 ghost use Rattle.rt_rga.specs.Examples.{at, insert_ab, only_t, span};
 ghost use Rattle.rt_rga.specs.Made.{refusal_of};
 ghost use Rattle.rt_edits.specs.Deletions.{delete_drafts, loss_in, without_text};
-ghost use Rattle.rt_edits.specs.Examples.{all_tags, cells_of_yab, cells_with_t, flat_of_lines, flat_with_newline, flat_with_t, listed_tags, log_at_end, nothing_yet, piece_with_sel, three_pieces, two_pieces, with_u};
+ghost use Rattle.rt_edits.specs.Examples.{all_tags, cells_of_yab, cells_with_t, flat_of_lines, flat_with_newline, flat_with_t, listed_tags, log_at_end, nothing_yet, piece_with_sel, tags_of_each, three_pieces, two_pieces, with_u};
 ghost use Rattle.rt_edits.specs.InsertionDrafts.{insertion_drafts, text_drafts};
 ghost use Rattle.rt_edits.specs.RemovalDrafts.{removal_drafts};
 ghost use Rattle.rt_edits.specs.TagDrafts.{deletion_drafts, newline_drafts, tag_drafts_at, tags_drafts_at};
@@ -86,7 +86,8 @@ pub fn deletions()
 /// Of the lines `a`, `b`, `c` and `d`, each character of which has the tag t, a stretch of two, `b` and
 /// `c`: a range that holds all of it takes `b`, the newline behind it and `c`. The one behind `c` stays,
 /// and loses its tag, as the last one of the stretch. A range of the second line takes the newline
-/// behind `b` and `c`: no empty line is left. The text around the stretch stays.
+/// behind `b` and `c`: no empty line is left. The text around the stretch stays, with its tags; the last
+/// newline had none.
 pub fn stretches()
     ensures all { delete_drafts MOST_SPANS flat_of_lines (loss_in (codes "b\nc\n") 2 (record { from = 0; to = 4 } ∷ []))
         ≡ Delete (span 1 3 5 ∷ []) ∷ Tag false (codes "t") (span 1 6 6 ∷ []) ∷ [] }
@@ -95,6 +96,8 @@ pub fn stretches()
     ensures inner { delete_drafts MOST_SPANS flat_of_lines (loss_in (codes "b\nc\n") 2 (record { from = 0; to = 1 } ∷ []))
         ≡ Delete (span 1 3 3 ∷ []) ∷ [] }
     ensures left { text_of (without_text flat_of_lines (loss_in (codes "b\nc\n") 2 (record { from = 0; to = 4 } ∷ []))).cells ≡ codes "a\n\nd\n" }
+    ensures bare { tags_of_each (without_text flat_of_lines (loss_in (codes "b\nc\n") 2 (record { from = 0; to = 4 } ∷ []))).cells
+        ≡ only_t ∷ only_t ∷ [] ∷ only_t ∷ [] ∷ [] }
 {}
 
 /// Where neither the counts of drafts fit nor their cells, the counts are told. The limit is of all cells,
