@@ -1,0 +1,3 @@
+pub mod ReadTexts
+pub mod Measuring
+pub mod Counting
