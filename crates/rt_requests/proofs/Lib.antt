@@ -1,3 +1,4 @@
 pub mod ReadTexts
 pub mod Measuring
 pub mod Counting
+pub mod Inserting
