@@ -3,7 +3,6 @@
 
 pub mod comparison;
 mod editing;
-pub mod laws;
 mod marking;
 pub mod measure;
 mod reading;

@@ -1,1 +1,0 @@
-// Laws of the definitions, each the contract of a function that does nothing.
