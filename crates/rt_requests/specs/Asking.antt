@@ -201,3 +201,14 @@ AsksOf name words asked = MatchBool (bytes_eq name (codes "insert")) (AsksInsert
 abbrev pub Asks : List Word → Asked → Type 0
 Asks [] asked = asked ≡ Err BadCommand
 Asks (name ∷ words) asked = AsksOf name words asked
+
+-- what can be asked for: not a count from an index that begins with a minus, since such a word is read as a switch
+abbrev pub CanBeAsked : Request → Type 0
+CanBeAsked (Count measures from to) = is_switch from ≡ false
+CanBeAsked (Insert index texts) = Unit {0}
+CanBeAsked (Delete indices) = Unit {0}
+CanBeAsked (Get indices) = Unit {0}
+CanBeAsked (Index index) = Unit {0}
+CanBeAsked (Compare first comparison second) = Unit {0}
+CanBeAsked (Mark request) = Unit {0}
+CanBeAsked (Tag request) = Unit {0}

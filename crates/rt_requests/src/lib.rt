@@ -3,6 +3,7 @@
 
 pub mod comparison;
 mod editing;
+pub mod laws;
 mod marking;
 pub mod measure;
 mod reading;
