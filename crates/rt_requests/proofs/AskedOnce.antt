@@ -1,5 +1,5 @@
 -- Words ask for one thing alone.
-use Rattle.std.proofs.Common.{◌≡◌, ◌∙◌, inl, inr, ℕ, Ok, Err, List, [], ◌∷◌, Bool, true, false, ap, sym, subst, codes, bytes_eq}
+use Rattle.std.proofs.Common.{◌≡◌, ◌∙◌, inl, inr, ℕ, Ok, List, [], ◌∷◌, Bool, true, false, ap, sym, subst, codes, bytes_eq}
 use Rattle.std.specs.Prelude.{MatchBool}
 use Rattle.rt_stamps.specs.Words.{Word, SpellsList}
 use Rattle.rt_requests.specs.declared.request.Request.TheVariants.{Insert}

@@ -1,5 +1,5 @@
 -- `insert` of an index and words behind it, as a slice has them.
-use Rattle.std.proofs.Common.{◌≡◌, ◌⊎◌, ◌≤◌, ◌-◌, Err, List, [], ◌∷◌, map, take, drop, get_or, length, refl, subst, arith, String, Global, string_bytes}
+use Rattle.std.proofs.Common.{◌≡◌, ◌⊎◌, ◌≤◌, ◌-◌, Err, List, [], ◌∷◌, map, take, drop, get_or, length, subst, arith, String, Global, string_bytes}
 use Rattle.std.proofs.lemmas.List.{take_all}
 use Rattle.rt_stamps.specs.declared.fault.Fault.TheVariants.{NoMemory}
 use Rattle.rt_requests.specs.Asking.{Asked, AsksInsert, AsksTexts}

@@ -1,9 +1,8 @@
 -- Words that ask for a request.
-use Rattle.std.proofs.Common.{◌≡◌, ◌∙◌, inl, inr, ℕ, ◌==◌, ◌+◌, Ok, Some, None, Option, List, [], ◌∷◌, ◌++◌, Bool, true, false, true≢false, refl, sym, ap, arith, codes, length, map, take, drop}
+use Rattle.std.proofs.Common.{◌≡◌, ◌∙◌, inl, inr, ℕ, ◌==◌, Ok, Some, None, Option, List, [], ◌∷◌, ◌++◌, Bool, true, false, true≢false, refl, sym, ap, arith, codes, length, map}
 use Rattle.std.specs.List.{flat_map, list_any, prefix_len}
 use Rattle.std.proofs.lemmas.Bool.{ne_eqb}
 use Rattle.std.proofs.Math.Seq.{take-append_seam, drop-append_seam}
-use Rattle.rt_marks.specs.declared.gravity.Gravity.{Gravity}
 use Rattle.rt_marks.specs.declared.gravity.Gravity.TheVariants.{Left, Right}
 use Rattle.rt_marks.specs.Marks.{gravity_word}
 use Rattle.rt_stamps.specs.Words.{Word, EndsWord, IsBare, IsEscaped, IsSpelling, SpellsList, escape_of, is_list_blank, needs_quotes, text_of_word}
@@ -18,8 +17,8 @@ use Rattle.rt_requests.specs.declared.request.Request.{Request}
 use Rattle.rt_requests.specs.declared.request.Request.TheVariants.{Insert, Delete, Get, Index, Compare, Count, Mark, Tag}
 use Rattle.rt_requests.specs.declared.request.TagRequest.{TagRequest}
 use Rattle.rt_requests.specs.declared.request.TagRequest.TheVariants as tags
-use Rattle.rt_requests.specs.Parts.{PieceValue, TextsValue, all_of}
-use Rattle.rt_requests.specs.Asking.{AreTexts, Asks, AsksTexts, CanBeAsked, asked_distances, asked_of_marks, asked_of_tags, asked_count}
+use Rattle.rt_requests.specs.Parts.{PieceValue, all_of}
+use Rattle.rt_requests.specs.Asking.{AreTexts, Asks, CanBeAsked, asked_count}
 use Rattle.rt_requests.specs.Switches.{is_switch, measures_of, operator_of, switch_of}
 
 -- LISTS OF TAGS

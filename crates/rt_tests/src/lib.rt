@@ -18,6 +18,8 @@ mod oplog_files;
 #[cfg(test)]
 mod oplog_logs;
 #[cfg(test)]
+mod requests;
+#[cfg(test)]
 mod rga_make;
 #[cfg(test)]
 mod rga_orders;
