@@ -46,7 +46,8 @@ fn tell_mark(told: &mut String, request: &MarkRequest<'_>) -> Result<(), Fault> 
         MarkRequest::Unset { names } => tell_all(told, "Unset", names.all()),
         MarkRequest::Gravity { name } => tell(told, &["Gravity", name.text()]),
         MarkRequest::SetGravity { name, gravity } => {
-            tell(told, &["SetGravity", name.text(), gravity.word()])
+            tell(told, &["SetGravity", name.text()])?;
+            tell(told, &[gravity.word()])
         }
         MarkRequest::Names => tell(told, &["Names"]),
         MarkRequest::Next { word } => tell(told, &["Next", word.text()]),
@@ -92,15 +93,11 @@ fn tell_request(told: &mut String, request: &Request<'_>) -> Result<(), Fault> {
             first,
             comparison,
             second,
-        } => tell(
-            told,
-            &[
-                "Compare",
-                first.text(),
-                comparison.operator(),
-                second.text(),
-            ],
-        ),
+        } => {
+            tell(told, &["Compare", first.text()])?;
+            tell(told, &[comparison.operator()])?;
+            tell(told, &[second.text()])
+        }
         Request::Count { measures, from, to } => {
             tell(told, &["Count", from.text(), to.text()])?;
             for measure in measures.all() {
