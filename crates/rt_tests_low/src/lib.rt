@@ -12,6 +12,8 @@ mod oplog_files;
 #[cfg(test)]
 mod oplog_logs;
 #[cfg(test)]
+mod requests;
+#[cfg(test)]
 mod search;
 #[cfg(test)]
 mod spans;

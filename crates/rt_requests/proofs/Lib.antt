@@ -1,0 +1,6 @@
+pub mod ReadTexts
+pub mod Measuring
+pub mod Counting
+pub mod Inserting
+pub mod AskedOnce
+pub mod SpelledRequests

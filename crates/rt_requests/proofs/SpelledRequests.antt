@@ -1,0 +1,180 @@
+-- Words that ask for a request.
+use Rattle.std.proofs.Common.{◌≡◌, ◌∙◌, inl, inr, ℕ, ◌==◌, Ok, Some, None, Option, List, [], ◌∷◌, ◌++◌, Bool, true, false, true≢false, refl, sym, ap, arith, codes, length, map}
+use Rattle.std.specs.List.{flat_map, list_any, prefix_len}
+use Rattle.std.proofs.lemmas.Bool.{ne_eqb}
+use Rattle.std.proofs.Math.Seq.{take-append_seam, drop-append_seam}
+use Rattle.rt_marks.specs.declared.gravity.Gravity.TheVariants.{Left, Right}
+use Rattle.rt_marks.specs.Marks.{gravity_word}
+use Rattle.rt_stamps.specs.Words.{Word, EndsWord, IsBare, IsEscaped, IsSpelling, SpellsList, escape_of, is_list_blank, needs_quotes, text_of_word}
+use Rattle.rt_words.proofs.BareWords.{both_false}
+use Rattle.rt_requests.specs.declared.comparison.Comparison.{Comparison}
+use Rattle.rt_requests.specs.declared.comparison.Comparison.TheVariants.{Less, LessOrEqual, Equal, GreaterOrEqual, Greater, NotEqual}
+use Rattle.rt_requests.specs.declared.measure.Measure.{Measure}
+use Rattle.rt_requests.specs.declared.measure.Measure.TheVariants.{Chars, Indices, Lines}
+use Rattle.rt_requests.specs.declared.request.MarkRequest.{MarkRequest}
+use Rattle.rt_requests.specs.declared.request.MarkRequest.TheVariants as marks
+use Rattle.rt_requests.specs.declared.request.Request.{Request}
+use Rattle.rt_requests.specs.declared.request.Request.TheVariants.{Insert, Delete, Get, Index, Compare, Count, Mark, Tag}
+use Rattle.rt_requests.specs.declared.request.TagRequest.{TagRequest}
+use Rattle.rt_requests.specs.declared.request.TagRequest.TheVariants as tags
+use Rattle.rt_requests.specs.Parts.{PieceValue, all_of}
+use Rattle.rt_requests.specs.Asking.{AreTexts, Asks, CanBeAsked, asked_count}
+use Rattle.rt_requests.specs.Switches.{is_switch, measures_of, operator_of, switch_of}
+
+-- LISTS OF TAGS
+
+not_needed : (c n : ℕ) → needs_quotes n ≡ true → needs_quotes c ≡ false → (c == n) ≡ false
+not_needed c n y h = ne_eqb c n (λ e. true≢false (sym y ∙ sym (ap needs_quotes e) ∙ h))
+
+no_blank : (c : ℕ) → needs_quotes c ≡ false → is_list_blank c ≡ false
+no_blank c h = rw (not_needed c 32 refl h, not_needed c 9 refl h, not_needed c 10 refl h) refl
+
+no_blanks : (word : List ℕ) → list_any needs_quotes word ≡ false → list_any is_list_blank word ≡ false
+no_blanks [] h = refl
+no_blanks (c ∷ word) h =
+    let p = both_false (needs_quotes c) (list_any needs_quotes word) h in rw (no_blank c p.0) (no_blanks word p.1)
+
+written_bare : (c : ℕ) (word : List ℕ) → list_any needs_quotes (c ∷ word) ≡ false → IsBare is_list_blank (c ∷ word)
+written_bare c word h =
+    let p = (both_false (needs_quotes c) (list_any needs_quotes word) h).0 in
+    (rw (not_needed c 34 refl p, not_needed c 123 refl p) refl, no_blanks (c ∷ word) h)
+
+written_escaped : (word : Word) → IsEscaped (flat_map escape_of word) word
+written_escaped [] = refl
+written_escaped (c ∷ word) = (escape_of c, flat_map escape_of word, refl, inl refl, written_escaped word)
+
+written_by : (b : Bool) (c : ℕ) (word : Word) → list_any needs_quotes (c ∷ word) ≡ b → list_any needs_quotes (c ∷ word) ≡ b → IsSpelling is_list_blank (text_of_word (c ∷ word)) (c ∷ word)
+written_by true c word e f = rw e (inr (inl (flat_map escape_of (c ∷ word), refl, written_escaped (c ∷ word))))
+written_by false c word e f = rw e (inl (written_bare c word f, refl))
+
+written : (word : Word) → IsSpelling is_list_blank (text_of_word word) word
+written [] = inr (inl ([], refl, refl))
+written (c ∷ word) = written_by (list_any needs_quotes (c ∷ word)) c word refl refl
+
+-- words as a list has them
+abbrev list_of : List Word → List ℕ
+list_of words = flat_map (λ word. 32 ∷ text_of_word word) words
+
+spaced_ends : (words : List Word) → EndsWord is_list_blank (list_of words)
+spaced_ends [] = tt
+spaced_ends (word ∷ words) = refl
+
+spaced : (words : List Word) → SpellsList (list_of words) words
+spaced [] = refl
+spaced (word ∷ words) = (32 ∷ [], text_of_word word, list_of words, refl, refl, written word, spaced_ends words, spaced words)
+
+-- TEXTS
+
+-- texts with their lists, and the text without one
+abbrev texts_words : List PieceValue → Word → List Word
+texts_words [] rest = rest ∷ []
+texts_words (piece ∷ pieces) rest = piece.text ∷ list_of piece.tags ∷ texts_words pieces rest
+
+are_texts : (pieces : List PieceValue) (rest : Word) → AreTexts (texts_words pieces rest) pieces rest
+are_texts [] rest = (refl, refl)
+are_texts (piece ∷ pieces) rest = (refl, spaced piece.tags, are_texts pieces rest)
+
+insert_asked : (index : Word) (pieces : List PieceValue) (rest : Word)
+    → Asks (codes "insert" ∷ index ∷ texts_words pieces rest) (Ok (Insert index (record { pieces = pieces; rest = rest })))
+insert_asked index [] rest = inl (record { pieces = []; rest = rest }, are_texts [] rest, refl)
+insert_asked index (piece ∷ pieces) rest = inl (record { pieces = piece ∷ pieces; rest = rest }, are_texts (piece ∷ pieces) rest, refl)
+
+-- COMPARISONS AND COUNTS
+
+compare_asked : (first second : Word) (comparison : Comparison)
+    → Asks (codes "compare" ∷ first ∷ operator_of comparison ∷ second ∷ []) (Ok (Compare first comparison second))
+compare_asked first second Less = refl
+compare_asked first second LessOrEqual = refl
+compare_asked first second Equal = refl
+compare_asked first second GreaterOrEqual = refl
+compare_asked first second Greater = refl
+compare_asked first second NotEqual = refl
+
+measures_asked : (measures : List Measure) → measures_of (map switch_of measures) ≡ Some measures
+measures_asked [] = refl
+measures_asked (Chars ∷ measures) = rw (measures_asked measures) refl
+measures_asked (Indices ∷ measures) = rw (measures_asked measures) refl
+measures_asked (Lines ∷ measures) = rw (measures_asked measures) refl
+
+switches_first : (measures : List Measure) (rest : List Word) → prefix_len is_switch rest ≡ 0
+    → prefix_len is_switch (map switch_of measures ++ rest) ≡ length (map switch_of measures)
+switches_first [] rest h = h
+switches_first (Chars ∷ measures) rest h = rw (switches_first measures rest h) (omega arith)
+switches_first (Indices ∷ measures) rest h = rw (switches_first measures rest h) (omega arith)
+switches_first (Lines ∷ measures) rest h = rw (switches_first measures rest h) (omega arith)
+
+no_switch_first : (from to : Word) → is_switch from ≡ false → prefix_len is_switch (from ∷ to ∷ []) ≡ 0
+no_switch_first from to h = rw h refl
+
+count_asked : (measures : List Measure) (from to : Word) → is_switch from ≡ false
+    → asked_count (map switch_of measures ++ from ∷ to ∷ []) ≡ Ok (Count measures from to)
+count_asked measures from to h =
+    rw (switches_first measures (from ∷ to ∷ []) (no_switch_first from to h), take-append_seam (map switch_of measures) (from ∷ to ∷ []), drop-append_seam (map switch_of measures) (from ∷ to ∷ []), measures_asked measures) refl
+
+-- MARKS
+
+abbrev mark_words : MarkRequest → List Word
+mark_words (marks.Set name index) = codes "set" ∷ name ∷ index ∷ []
+mark_words (marks.Unset names) = codes "unset" ∷ all_of names
+mark_words (marks.Gravity name) = codes "gravity" ∷ name ∷ []
+mark_words (marks.SetGravity name gravity) = codes "gravity" ∷ name ∷ gravity_word gravity ∷ []
+mark_words marks.Names = codes "names" ∷ []
+mark_words (marks.Next word) = codes "next" ∷ word ∷ []
+mark_words (marks.Previous word) = codes "previous" ∷ word ∷ []
+
+mark_asked : (request : MarkRequest) → Asks (codes "mark" ∷ mark_words request) (Ok (Mark request))
+mark_asked (marks.Set name index) = refl
+mark_asked (marks.Unset names) = refl
+mark_asked (marks.Gravity name) = refl
+mark_asked (marks.SetGravity name Left) = refl
+mark_asked (marks.SetGravity name Right) = refl
+mark_asked marks.Names = refl
+mark_asked (marks.Next word) = refl
+mark_asked (marks.Previous word) = refl
+
+-- TAGS
+
+-- a word that may be left out
+abbrev maybe_word : Option Word → List Word
+maybe_word None = []
+maybe_word (Some word) = word ∷ []
+
+abbrev tag_words : TagRequest → List Word
+tag_words (tags.Add name indices) = codes "add" ∷ name ∷ all_of indices
+tag_words (tags.Remove name indices) = codes "remove" ∷ name ∷ all_of indices
+tag_words (tags.Delete names) = codes "delete" ∷ all_of names
+tag_words (tags.Raise name above) = codes "raise" ∷ name ∷ maybe_word above
+tag_words (tags.Lower name below) = codes "lower" ∷ name ∷ maybe_word below
+tag_words tags.Names = codes "names" ∷ []
+tag_words (tags.NamesAt index) = codes "names" ∷ index ∷ []
+tag_words (tags.Ranges name) = codes "ranges" ∷ name ∷ []
+tag_words (tags.NextRange name from to) = codes "nextrange" ∷ name ∷ from ∷ maybe_word to
+tag_words (tags.PreviousRange name to from) = codes "prevrange" ∷ name ∷ to ∷ maybe_word from
+
+tag_asked : (request : TagRequest) → Asks (codes "tag" ∷ tag_words request) (Ok (Tag request))
+tag_asked (tags.Add name indices) = refl
+tag_asked (tags.Remove name indices) = refl
+tag_asked (tags.Delete names) = refl
+tag_asked (tags.Raise name None) = refl
+tag_asked (tags.Raise name (Some above)) = refl
+tag_asked (tags.Lower name None) = refl
+tag_asked (tags.Lower name (Some below)) = refl
+tag_asked tags.Names = refl
+tag_asked (tags.NamesAt index) = refl
+tag_asked (tags.Ranges name) = refl
+tag_asked (tags.NextRange name from None) = refl
+tag_asked (tags.NextRange name from (Some to)) = refl
+tag_asked (tags.PreviousRange name to None) = refl
+tag_asked (tags.PreviousRange name to (Some from)) = refl
+
+-- ALL REQUESTS
+
+pub spelled : (request : Request) → CanBeAsked request → (words : List Word) × Asks words (Ok request)
+spelled (Insert index texts) h = (codes "insert" ∷ index ∷ texts_words texts.pieces texts.rest, insert_asked index texts.pieces texts.rest)
+spelled (Delete indices) h = (codes "delete" ∷ all_of indices, refl)
+spelled (Get indices) h = (codes "get" ∷ all_of indices, refl)
+spelled (Index index) h = (codes "index" ∷ index ∷ [], refl)
+spelled (Compare first comparison second) h = (codes "compare" ∷ first ∷ operator_of comparison ∷ second ∷ [], compare_asked first second comparison)
+spelled (Count measures from to) h = (codes "count" ∷ (map switch_of measures ++ from ∷ to ∷ []), sym (count_asked measures from to h))
+spelled (Mark request) h = (codes "mark" ∷ mark_words request, mark_asked request)
+spelled (Tag request) h = (codes "tag" ∷ tag_words request, tag_asked request)

@@ -1,0 +1,30 @@
+-- The parts of requests: words, and texts with their tags.
+use Rattle.std.specs.Prelude.{List, [], ◌∷◌, Option, Some, None}
+use Rattle.rt_stamps.specs.Words.{Word}
+
+-- one word or more
+pub record Several : Type 0 where
+  pub first : Word
+  pub others : List Word
+
+abbrev pub all_of : Several → List Word
+all_of words = words.first ∷ words.others
+
+-- some words, where there is one
+abbrev pub several : List Word → Option Several
+several [] = None
+several (word ∷ words) = Some (record { first = word; others = words })
+
+abbrev pub several_or_empty : List Word → Several
+several_or_empty [] = record { first = []; others = [] }
+several_or_empty (word ∷ words) = record { first = word; others = words }
+
+-- a text with the names of its tags
+pub record PieceValue : Type 0 where
+  pub text : Word
+  pub tags : List Word
+
+-- texts with tags, and a text without a list behind them
+pub record TextsValue : Type 0 where
+  pub pieces : List PieceValue
+  pub rest : Word

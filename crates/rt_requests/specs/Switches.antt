@@ -1,0 +1,52 @@
+-- The words of comparisons and of what is counted (Tk text manual, "compare" and "count").
+use Rattle.std.specs.Prelude.{List, [], ◌∷◌, ◌==◌, Bool, false, Option, Some, None, option_map, option_and_then, if◌then◌else◌, codes}
+use Rattle.std.specs.Str.{bytes_eq}
+use Rattle.rt_stamps.specs.Words.{Word}
+use Rattle.rt_requests.specs.declared.comparison.Comparison.{Comparison}
+use Rattle.rt_requests.specs.declared.comparison.Comparison.TheVariants.{Less, LessOrEqual, Equal, GreaterOrEqual, Greater, NotEqual}
+use Rattle.rt_requests.specs.declared.measure.Measure.{Measure}
+use Rattle.rt_requests.specs.declared.measure.Measure.TheVariants.{Chars, Indices, Lines}
+
+-- a comparison as it is written
+abbrev pub operator_of : Comparison → Word
+operator_of Less = codes "<"
+operator_of LessOrEqual = codes "<="
+operator_of Equal = codes "=="
+operator_of GreaterOrEqual = codes ">="
+operator_of Greater = codes ">"
+operator_of NotEqual = codes "!="
+
+-- the comparison that an operator names
+abbrev pub comparison_of : Word → Option Comparison
+comparison_of operator =
+    if bytes_eq operator (codes "<") then Some Less
+    else if bytes_eq operator (codes "<=") then Some LessOrEqual
+    else if bytes_eq operator (codes "==") then Some Equal
+    else if bytes_eq operator (codes ">=") then Some GreaterOrEqual
+    else if bytes_eq operator (codes ">") then Some Greater
+    else if bytes_eq operator (codes "!=") then Some NotEqual
+    else None
+
+-- a word that begins with a minus is a switch
+abbrev pub is_switch : Word → Bool
+is_switch [] = false
+is_switch (c ∷ word) = c == 45
+
+-- a measure as it is written
+abbrev pub switch_of : Measure → Word
+switch_of Chars = codes "-chars"
+switch_of Indices = codes "-indices"
+switch_of Lines = codes "-lines"
+
+-- what a switch asks to be counted
+abbrev pub measure_of : Word → Option Measure
+measure_of switch =
+    if bytes_eq switch (codes "-chars") then Some Chars
+    else if bytes_eq switch (codes "-indices") then Some Indices
+    else if bytes_eq switch (codes "-lines") then Some Lines
+    else None
+
+-- what switches ask for in turn; none where one of them is unknown
+abbrev pub measures_of : List Word → Option (List Measure)
+measures_of [] = Some []
+measures_of (switch ∷ switches) = option_and_then (λ measure. option_map (λ others. measure ∷ others) (measures_of switches)) (measure_of switch)

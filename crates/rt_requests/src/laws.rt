@@ -1,0 +1,20 @@
+// Laws of the definitions, each the contract of a function that does nothing.
+ghost use Rattle.std.specs.Prelude.{◌≡◌, Ok, List};
+ghost use Rattle.rt_stamps.specs.Words.{Word};
+ghost use Rattle.rt_requests.specs.declared.request.Request.{Request};
+ghost use Rattle.rt_requests.specs.Asking.{Asked, Asks, CanBeAsked};
+
+use rt_words::laws::spelling_is_unique;
+
+/// Words ask for one thing alone, or are refused with one fault.
+pub fn reading_is_unique()
+    ensures { (words : List Word) (one other : Asked) → Asks words one → Asks words other → one ≡ other }
+{
+    spelling_is_unique();
+}
+
+/// There are words for each request, whatever bytes its parts are, but for a count from an index that
+/// begins with a minus: such a word is a switch.
+pub fn requests_are_spelled()
+    ensures { (request : Request) → CanBeAsked request → (words : List Word) × Asks words (Ok request) }
+{}

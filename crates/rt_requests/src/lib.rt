@@ -1,0 +1,19 @@
+//! Requests: what is asked of a widget, with its parts by name and type, and the words that ask for it.
+#![tactic(auto)]
+
+pub mod comparison;
+mod editing;
+pub mod laws;
+mod marking;
+pub mod measure;
+mod reading;
+pub mod request;
+mod tagging;
+pub mod texts;
+pub mod word;
+
+pub use comparison::Comparison;
+pub use measure::{Measure, Measures};
+pub use request::{MarkRequest, Request, TagRequest};
+pub use texts::{Piece, Texts};
+pub use word::{Word, Words};

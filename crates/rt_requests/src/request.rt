@@ -1,0 +1,153 @@
+// Requests, and the words that ask for them.
+ghost use Rattle.std.specs.Prelude.{◌≡◌, ◌⊎◌, Err, map, string_bytes};
+ghost use Rattle.rt_requests.specs.Asking.{Asks, AsksOf};
+
+use crate::comparison::Comparison;
+use crate::editing::{delete, insert};
+use crate::marking::mark;
+use crate::measure::Measures;
+use crate::reading::{compare, count, get, index};
+use crate::tagging::tag;
+use crate::texts::Texts;
+use crate::word::{Word, Words};
+use rt_marks::Gravity;
+use rt_stamps::Fault;
+use std::alloc::Global;
+
+/// What is asked of a widget (Tk text manual, "WIDGET COMMAND"). Indices are words of the index grammar.
+#[derive(Drop)]
+pub enum Request<'a> {
+    /// Text before the character at an index.
+    Insert {
+        index: Word<'a>,
+        texts: Texts<'a>,
+    },
+    /// The characters in the ranges of some indices are removed.
+    Delete {
+        indices: Words<'a>,
+    },
+    /// The text in the ranges of some indices.
+    Get {
+        indices: Words<'a>,
+    },
+    /// Where an index stands.
+    Index {
+        index: Word<'a>,
+    },
+    /// Whether a comparison holds of two indices.
+    Compare {
+        first: Word<'a>,
+        comparison: Comparison,
+        second: Word<'a>,
+    },
+    /// How far one index is from another: a number for each measure, and in indices where there is none.
+    Count {
+        measures: Measures,
+        from: Word<'a>,
+        to: Word<'a>,
+    },
+    /// Something is asked of marks.
+    Mark(MarkRequest<'a>),
+    /// Something is asked of tags.
+    Tag(TagRequest<'a>),
+}
+
+/// What is asked of marks (Tk text manual, "mark").
+#[derive(Drop)]
+pub enum MarkRequest<'a> {
+    /// A mark is set at an index.
+    Set { name: Word<'a>, index: Word<'a> },
+    /// Marks are no longer there.
+    Unset { names: Words<'a> },
+    /// The gravity of a mark.
+    Gravity { name: Word<'a> },
+    /// A mark gets a gravity.
+    SetGravity { name: Word<'a>, gravity: Gravity },
+    /// The names of all marks.
+    Names,
+    /// The mark after another, or after an index.
+    Next { word: Word<'a> },
+    /// The mark before another, or before an index.
+    Previous { word: Word<'a> },
+}
+
+/// What is asked of tags (Tk text manual, "tag").
+#[derive(Drop)]
+pub enum TagRequest<'a> {
+    /// The characters in the ranges of some indices get a tag.
+    Add {
+        name: Word<'a>,
+        indices: Words<'a>,
+    },
+    /// They lose a tag.
+    Remove {
+        name: Word<'a>,
+        indices: Words<'a>,
+    },
+    /// Tags are no longer there.
+    Delete {
+        names: Words<'a>,
+    },
+    /// A tag is put just above another, or highest.
+    Raise {
+        name: Word<'a>,
+        above: Option<Word<'a>>,
+    },
+    /// A tag is put just below another, or lowest.
+    Lower {
+        name: Word<'a>,
+        below: Option<Word<'a>>,
+    },
+    /// All listed tags.
+    Names,
+    /// The tags of the character at an index.
+    NamesAt {
+        index: Word<'a>,
+    },
+    /// The ranges of a tag.
+    Ranges {
+        name: Word<'a>,
+    },
+    /// The first range that begins at an index or later, and before another index or the end.
+    NextRange {
+        name: Word<'a>,
+        from: Word<'a>,
+        to: Option<Word<'a>>,
+    },
+    /// The last range that begins before an index, and at another or later, or anywhere.
+    PreviousRange {
+        name: Word<'a>,
+        to: Word<'a>,
+        from: Option<Word<'a>>,
+    },
+}
+
+impl<'a> Request<'a> {
+    /// What `COMMAND ?WORD ...?` asks for. Refused by the first of `BadCommand`, `BadOption` and
+    /// `BadQuoting` for a list of tags, and by want of memory in place of any.
+    pub fn of(alloc: Global, words: &'a [String]) -> Result<Request<'a>, Fault>
+        ensures { Asks (map (λ w. string_bytes w) words.now) result ⊎ (result ≡ Err Fault.NoMemory) }
+    {
+        let Some((name, words)) = words.split_first() else {
+            return Err(Fault::BadCommand);
+        };
+        by_name(alloc, name, words)
+    }
+}
+
+// A command by its name.
+fn by_name<'a>(alloc: Global, name: &str, words: &'a [String]) -> Result<Request<'a>, Fault>
+    ensures { AsksOf name.now (map (λ w. string_bytes w) words.now) result ⊎ (result ≡ Err Fault.NoMemory) }
+{
+    match name {
+        "insert" => insert(alloc, words),
+        "delete" => delete(words),
+        "get" => get(words),
+        "index" => index(words),
+        "compare" => compare(words),
+        "count" => count(alloc, words),
+        "mark" => mark(words),
+        "tag" => tag(words),
+        _ => Err(Fault::BadCommand),
+    }
+}

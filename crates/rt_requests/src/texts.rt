@@ -1,0 +1,81 @@
+// Texts to insert.
+ghost use Rattle.std.specs.Prelude.{◌≡◌, map, string_bytes};
+
+use std::marker::Model;
+
+/// A text with the names of its tags, in any order, repeated or not.
+#[derive(Drop)]
+pub struct Piece<'a> {
+    text: &'a str,
+    tags: Vec<String>,
+}
+
+impl<'a> Model for Piece<'a> {
+    ghost use Rattle.std.specs.Prelude.{map, string_bytes};
+    ghost use Rattle.rt_requests.specs.Parts.{PieceValue};
+
+    ghost Value = { PieceValue };
+
+    ghost view = { λ p. record { text = p.text.now; tags = map (λ w. string_bytes w) p.tags.items } };
+}
+
+impl<'a> Piece<'a> {
+    /// A text with the names of its tags.
+    pub fn new(text: &'a str, tags: Vec<String>) -> Piece<'a>
+        ensures { result ≡ record { text = text.now; tags = map (λ w. string_bytes w) tags.items } }
+    {
+        Piece { text, tags }
+    }
+
+    /// The text.
+    pub fn text(&self) -> &'a str
+        ensures { result.now ≡ self.now.text }
+    {
+        self.text
+    }
+
+    /// The names of its tags.
+    pub fn tags(&self) -> &[String]
+        ensures { map (λ w. string_bytes w) result.now ≡ self.now.tags }
+    {
+        &self.tags
+    }
+}
+
+/// Texts with their tags, and a text without a list of tags behind them, perhaps an empty one.
+#[derive(Drop)]
+pub struct Texts<'a> {
+    pieces: Vec<Piece<'a>>,
+    rest: &'a str,
+}
+
+impl<'a> Model for Texts<'a> {
+    ghost use Rattle.rt_requests.specs.Parts.{TextsValue};
+
+    ghost Value = { TextsValue };
+
+    ghost view = { λ t. record { pieces = t.pieces.items; rest = t.rest.now } };
+}
+
+impl<'a> Texts<'a> {
+    /// Texts with their tags, and a text without a list.
+    pub fn new(pieces: Vec<Piece<'a>>, rest: &'a str) -> Texts<'a>
+        ensures { result ≡ record { pieces = pieces.entry.items; rest = rest.now } }
+    {
+        Texts { pieces, rest }
+    }
+
+    /// The texts that have a list of tags.
+    pub fn pieces(&self) -> &[Piece<'a>]
+        ensures { result.now ≡ self.now.pieces }
+    {
+        &self.pieces
+    }
+
+    /// The text without a list, perhaps an empty one.
+    pub fn rest(&self) -> &'a str
+        ensures { result.now ≡ self.now.rest }
+    {
+        self.rest
+    }
+}

@@ -1,0 +1,243 @@
+// What the words of commands ask for (Tk text manual, "WIDGET COMMAND").
+use rt_requests::{MarkRequest, Request, TagRequest, Texts, Word};
+use rt_stamps::Fault;
+use rt_words::words::words;
+use std::alloc::Global;
+use std::test::Fail;
+
+// A bar before each word.
+fn tell(told: &mut String, words: &[&str]) -> Result<(), Fault> {
+    for word in words {
+        told.push('|')?;
+        told.push_str(word)?;
+    }
+    Ok(())
+}
+
+fn tell_all(told: &mut String, name: &str, words: &[String]) -> Result<(), Fault> {
+    tell(told, &[name])?;
+    for word in words {
+        tell(told, &[word.as_str()])?;
+    }
+    Ok(())
+}
+
+// Words, and behind them one that may be wanting.
+fn tell_maybe(told: &mut String, words: &[&str], last: &Option<Word<'_>>) -> Result<(), Fault> {
+    tell(told, words)?;
+    match last {
+        Some(word) => tell(told, &[word.text()]),
+        None => Ok(()),
+    }
+}
+
+// Each text and its tags, and the text behind them.
+fn tell_texts(told: &mut String, texts: &Texts<'_>) -> Result<(), Fault> {
+    for piece in texts.pieces() {
+        tell(told, &["text", piece.text()])?;
+        tell_all(told, "tags", piece.tags())?;
+    }
+    tell(told, &["rest", texts.rest()])
+}
+
+fn tell_mark(told: &mut String, request: &MarkRequest<'_>) -> Result<(), Fault> {
+    match request {
+        MarkRequest::Set { name, index } => tell(told, &["Set", name.text(), index.text()]),
+        MarkRequest::Unset { names } => tell_all(told, "Unset", names.all()),
+        MarkRequest::Gravity { name } => tell(told, &["Gravity", name.text()]),
+        MarkRequest::SetGravity { name, gravity } => {
+            tell(told, &["SetGravity", name.text()])?;
+            tell(told, &[gravity.word()])
+        }
+        MarkRequest::Names => tell(told, &["Names"]),
+        MarkRequest::Next { word } => tell(told, &["Next", word.text()]),
+        MarkRequest::Previous { word } => tell(told, &["Previous", word.text()]),
+    }
+}
+
+fn tell_tag(told: &mut String, request: &TagRequest<'_>) -> Result<(), Fault> {
+    match request {
+        TagRequest::Add { name, indices } => {
+            tell(told, &["Add", name.text()])?;
+            tell_all(told, "at", indices.all())
+        }
+        TagRequest::Remove { name, indices } => {
+            tell(told, &["Remove", name.text()])?;
+            tell_all(told, "at", indices.all())
+        }
+        TagRequest::Delete { names } => tell_all(told, "Delete", names.all()),
+        TagRequest::Raise { name, above } => tell_maybe(told, &["Raise", name.text()], above),
+        TagRequest::Lower { name, below } => tell_maybe(told, &["Lower", name.text()], below),
+        TagRequest::Names => tell(told, &["Names"]),
+        TagRequest::NamesAt { index } => tell(told, &["NamesAt", index.text()]),
+        TagRequest::Ranges { name } => tell(told, &["Ranges", name.text()]),
+        TagRequest::NextRange { name, from, to } => {
+            tell_maybe(told, &["NextRange", name.text(), from.text()], to)
+        }
+        TagRequest::PreviousRange { name, to, from } => {
+            tell_maybe(told, &["PreviousRange", name.text(), to.text()], from)
+        }
+    }
+}
+
+fn tell_request(told: &mut String, request: &Request<'_>) -> Result<(), Fault> {
+    match request {
+        Request::Insert { index, texts } => {
+            tell(told, &["Insert", index.text()])?;
+            tell_texts(told, texts)
+        }
+        Request::Delete { indices } => tell_all(told, "Delete", indices.all()),
+        Request::Get { indices } => tell_all(told, "Get", indices.all()),
+        Request::Index { index } => tell(told, &["Index", index.text()]),
+        Request::Compare {
+            first,
+            comparison,
+            second,
+        } => {
+            tell(told, &["Compare", first.text()])?;
+            tell(told, &[comparison.operator()])?;
+            tell(told, &[second.text()])
+        }
+        Request::Count { measures, from, to } => {
+            tell(told, &["Count", from.text(), to.text()])?;
+            for measure in measures.all() {
+                tell(told, &[measure.switch()])?;
+            }
+            Ok(())
+        }
+        Request::Mark(request) => tell_mark(told, request),
+        Request::Tag(request) => tell_tag(told, request),
+    }
+}
+
+// What the words of a line ask for, in words.
+fn asked(alloc: Global, line: &str) -> Result<String, Fault> {
+    let words = words(alloc, line)?;
+    let request = Request::of(alloc, &words)?;
+    let mut told = String::new(alloc);
+    tell_request(&mut told, &request)?;
+    Ok(told)
+}
+
+#[test]
+fn of_text(rt: HostRuntime) -> Result<(), Fail> {
+    for (line, want) in [
+        ("insert 1.0 hello", "|Insert|1.0|rest|hello"),
+        ("insert 1.0 \"\"", "|Insert|1.0|rest|"),
+        ("insert end a big", "|Insert|end|text|a|tags|big|rest|"),
+        (
+            "insert end plain {} \"and loud\" \"bold loud\" tail",
+            "|Insert|end|text|plain|tags|text|and loud|tags|bold|loud|rest|tail",
+        ),
+        ("delete 1.0", "|Delete|1.0"),
+        ("delete 1.0 1.2 2.0", "|Delete|1.0|1.2|2.0"),
+        ("get 1.0", "|Get|1.0"),
+        ("get 1.0 \"insert lineend\"", "|Get|1.0|insert lineend"),
+        ("index \"end - 1 chars\"", "|Index|end - 1 chars"),
+        ("compare 1.0 < 2.0", "|Compare|1.0|<|2.0"),
+        ("compare 1.0 <= 2.0", "|Compare|1.0|<=|2.0"),
+        ("compare 1.0 == 2.0", "|Compare|1.0|==|2.0"),
+        ("compare 1.0 >= 2.0", "|Compare|1.0|>=|2.0"),
+        ("compare 1.0 > 2.0", "|Compare|1.0|>|2.0"),
+        ("compare 1.0 != 2.0", "|Compare|1.0|!=|2.0"),
+        ("count 1.0 end", "|Count|1.0|end"),
+        (
+            "count -lines -chars 1.0 end",
+            "|Count|1.0|end|-lines|-chars",
+        ),
+        ("count -indices end 1.0", "|Count|end|1.0|-indices"),
+    ] {
+        assert_eq!(rt; asked(rt.alloc(), line)?.as_str(), want, "by {line:?}");
+    }
+    Ok(())
+}
+
+#[test]
+fn of_marks_and_tags(rt: HostRuntime) -> Result<(), Fail> {
+    for (line, want) in [
+        ("mark set here 1.0", "|Set|here|1.0"),
+        ("mark unset here", "|Unset|here"),
+        ("mark unset here there", "|Unset|here|there"),
+        ("mark gravity here", "|Gravity|here"),
+        ("mark gravity here left", "|SetGravity|here|left"),
+        ("mark gravity here right", "|SetGravity|here|right"),
+        ("mark names", "|Names"),
+        ("mark next 1.0", "|Next|1.0"),
+        ("mark previous here", "|Previous|here"),
+        ("tag add big 1.0", "|Add|big|at|1.0"),
+        ("tag add big 1.0 1.2 2.0", "|Add|big|at|1.0|1.2|2.0"),
+        ("tag remove big 1.0 end", "|Remove|big|at|1.0|end"),
+        ("tag delete big", "|Delete|big"),
+        ("tag delete big small", "|Delete|big|small"),
+        ("tag raise big", "|Raise|big"),
+        ("tag raise big small", "|Raise|big|small"),
+        ("tag lower big", "|Lower|big"),
+        ("tag lower big small", "|Lower|big|small"),
+        ("tag names", "|Names"),
+        ("tag names 1.0", "|NamesAt|1.0"),
+        ("tag ranges big", "|Ranges|big"),
+        ("tag nextrange big 1.0", "|NextRange|big|1.0"),
+        ("tag nextrange big 1.0 end", "|NextRange|big|1.0|end"),
+        ("tag prevrange big end", "|PreviousRange|big|end"),
+        ("tag prevrange big end 1.0", "|PreviousRange|big|end|1.0"),
+    ] {
+        assert_eq!(rt; asked(rt.alloc(), line)?.as_str(), want, "by {line:?}");
+    }
+    Ok(())
+}
+
+// An unknown command or a wrong number of words, and that before an unknown operator or switch.
+#[test]
+fn bad_commands(rt: HostRuntime) -> Result<(), Fail> {
+    for line in [
+        "",
+        "frob",
+        "insert",
+        "insert 1.0",
+        "delete",
+        "get",
+        "index",
+        "index 1.0 2.0",
+        "compare 1.0 <",
+        "compare 1.0 =<",
+        "compare 1.0 < 2.0 3.0",
+        "count",
+        "count -lines 1.0",
+        "count -frob 1.0",
+        "count 1.0 2.0 3.0",
+        "mark",
+        "mark frob",
+        "mark set here",
+        "mark unset",
+        "mark gravity here up 1.0",
+        "mark names 1.0",
+        "mark next",
+        "tag",
+        "tag frob",
+        "tag add big",
+        "tag raise",
+        "tag names 1.0 2.0",
+        "tag ranges",
+        "tag nextrange big",
+        "tag prevrange big 1.0 2.0 3.0",
+    ] {
+        let refused = asked(rt.alloc(), line).err();
+        assert_eq!(rt; refused, Some(Fault::BadCommand), "by {line:?}");
+    }
+    Ok(())
+}
+
+#[test]
+fn bad_options_and_lists(rt: HostRuntime) -> Result<(), Fail> {
+    for (line, want) in [
+        ("compare 1.0 =< end", Fault::BadOption),
+        ("count -lines -words 1.0 end", Fault::BadOption),
+        ("mark gravity here up", Fault::BadOption),
+        ("insert 1.0 a {\"b}", Fault::BadQuoting),
+        ("insert 1.0 a big b {x {y}z} c", Fault::BadQuoting),
+    ] {
+        let refused = asked(rt.alloc(), line).err();
+        assert_eq!(rt; refused, Some(want), "by {line:?}");
+    }
+    Ok(())
+}
