@@ -1,4 +1,4 @@
-//! Tests of the crates that stand on no other but rt_stamps, rt_tags and rt_spans, by what is public of them. The library itself is empty.
+//! Tests of the crates from rt_oplog and rt_search down, by what is public of them. The library itself is empty.
 #![tactic(auto)]
 
 #[cfg(test)]
