@@ -31,3 +31,4 @@ mod Puts
 mod Edges
 mod Pieces
 mod Cutting
+mod Marking

@@ -20,10 +20,10 @@ pub enum Mark {
     State(StateId),
 }
 
-fn marked(run: Run, mark: Mark) -> Run
-    ensures { result ≡ marked_run mark run }
+fn marked(run: Run, mark: &Mark) -> Run
+    ensures { result ≡ marked_run mark.now run }
 {
-    match mark {
+    match *mark {
         Mark::Gone => Run { gone: true, ..run },
         Mark::State(state) => Run { state, ..run },
     }
@@ -46,7 +46,8 @@ pub(crate) fn mark_between(mem: &mut Mem, root: NodeId, from: usize, to: usize, 
     let mut at = from;
     while at < to {
         let run = seek(mem, root, Measure::Cells, at).run;
-        replace(mem, root, at, marked(run, mark));
-        at += run.len as usize;
+        let next = at + run.len as usize;
+        replace(mem, root, at, marked(run, &mark));
+        at = next;
     }
 }
