@@ -1,13 +1,14 @@
 -- A stretch of runs, marked run by run.
-use Rattle.std.proofs.Common.{◌≡◌, ℕ, ◌+◌, ◌-◌, ◌<◌, ◌≤◌, List, [], ◌∷◌, ◌++◌, refl, sym, ap, ◌∙◌, arith, subst, append_assoc}
+use Rattle.std.proofs.Common.{◌≡◌, ℕ, ◌+◌, ◌-◌, ◌<◌, ◌≤◌, List, [], ◌∷◌, ◌++◌, length, refl, sym, ap, ◌∙◌, arith, subst, append_assoc}
 use Rattle.std.specs.List.{AllByRecursion}
 use Rattle.rt_stamps.specs.declared.limits.TheConstants.{MOST_CELLS}
+use Rattle.rt_store.specs.declared.cell.Cell.{Cell}
 use Rattle.rt_tree.specs.declared.mark.Mark.{Mark}
 use Rattle.rt_tree.specs.declared.node.Counts.{Counts}
 use Rattle.rt_tree.specs.declared.node.Measure.TheVariants.{Cells}
 use Rattle.rt_tree.specs.declared.node.Run.{Run}
 use Rattle.rt_tree.specs.Runs.{IsRun, cells_of, run_cells}
-use Rattle.rt_tree.specs.Stretches.{AreChanged, AreKept, IsEdge, lengths, map_between, marked_cell, marked_run}
+use Rattle.rt_tree.specs.Stretches.{AreChanged, AreKept, IsEdge, IsRecut, lengths, map_between, marked_cell, marked_run}
 use Rattle.rt_tree.specs.Sums.{AreFew, counts_of, counts_of_run, plus}
 use Rattle.rt_tree.specs.Walks.{IsReplacedAt, StandsAt}
 use Rattle.rt_tree.proofs.CellLaws.{counted, counted_left, is_run, run_length}
@@ -119,3 +120,21 @@ module _ (old now : List Run) (mark : Mark) (from at to : ℕ) (kept : AreKept o
 
       pub fewer_left : to - (at + run.len) < to - at
       fewer_left = omega (arith, there.some, lt)
+
+-- RUNS THAT WERE CUT
+
+pub recut_kept : (old new : List Run) → IsRecut old new → AreKept old → AreKept new
+recut_kept old new is kept = record { text = kept.text; short = kept.short; runs = is.kept kept.text kept.runs }
+
+pub recut_cells : (old new : List Run) → IsRecut old new → AreKept old → (counts_of new).cells ≡ (counts_of old).cells
+recut_cells old new is kept =
+    let a = counted kept.text old kept.runs in
+    let b = counted kept.text new (is.kept kept.text kept.runs) in
+    let c = ap length (is.cells kept.text kept.runs) in
+    omega (arith, a.cells, b.cells, c)
+
+pub recut_changed : (old mid cut new : List Run) (f : List (Cell ℕ) → List (Cell ℕ)) → IsRecut old mid → IsRecut mid cut → ((text : List ℕ) → AllByRecursion (IsRun text) cut → AreChanged cut new text f) → (text : List ℕ) → AllByRecursion (IsRun text) old → AreChanged old new text f
+recut_changed old mid cut new f one two is text all =
+    let all1 = one.kept text all in
+    let done = is text (two.kept text all1) in
+    record { kept = done.kept; cells = done.cells ∙ ap f (two.cells text all1 ∙ one.cells text all) }

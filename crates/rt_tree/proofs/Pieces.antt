@@ -68,9 +68,9 @@ module _ (text : List ℕ) (r : Run) (k : ℕ) (is : IsRun text r) (some : 0 < k
     counts = omega (arith, is.counts, lt);
     plain = ap newlines (take-take (r.len - k - 1) (r.len - k) there (omega arith)) ∙ back_few;
     ends =
-    (let a = ap newlines (parts r.len (omega (arith, lt))) ∙ newlines-append (take k here) (take (r.len - k) there) in
-    let b : newlines (take (r.len - k) there) ≡ newlines (take r.len here) = omega (arith, a, front_few) in
-    b ∙ is.ends);
+        (let a = ap newlines (parts r.len (omega (arith, lt))) ∙ newlines-append (take k here) (take (r.len - k) there) in
+        let b : newlines (take (r.len - k) there) ≡ newlines (take r.len here) = omega (arith, a, front_few) in
+        b ∙ is.ends);
   }
 
   pub run_parts : run_cells text r ≡ run_cells text (front_of k r) ++ run_cells text (back_of k r)

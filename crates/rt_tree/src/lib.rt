@@ -19,8 +19,8 @@ pub mod tree;
 pub mod up;
 pub mod walk;
 
-pub use mark::Mark;
 pub use looks::{Counted, Looks};
+pub use mark::Mark;
 pub use node::{Counts, Entry, Head, Measure, Run, Totals};
 pub use tree::Tree;
 pub use up::ascend;

@@ -6,7 +6,9 @@ ghost use Rattle.rt_tree.specs.Runs.{IsRun};
 ghost use Rattle.rt_tree.specs.Shape.{IsTree, tree_runs};
 ghost use Rattle.rt_tree.specs.Stretches.{AreChanged, AreKept, IsEdge, lengths, map_between, marked_cell, marked_run};
 ghost use Rattle.rt_tree.specs.Sums.{counts_of};
+ghost use Rattle.rt_tree.specs.Trees.{HasNodes};
 
+use crate::cut::{Change, cut};
 use crate::find::seek;
 use crate::node::{Measure, Mem, Run};
 use crate::put::replace;
@@ -30,7 +32,7 @@ fn marked(run: Run, mark: &Mark) -> Run
 }
 
 // Marks the cells between two positions at which runs begin or end.
-pub(crate) fn mark_between(mem: &mut Mem, root: NodeId, from: usize, to: usize, mark: Mark)
+fn mark_between(mem: &mut Mem, root: NodeId, from: usize, to: usize, mark: Mark)
     requires tree { IsTree mem.old root.index }
     requires kept { AreKept (tree_runs mem.old root.index) }
     requires few { (counts_of (tree_runs mem.old root.index)).cells ≤ MOST_CELLS }
@@ -49,5 +51,29 @@ pub(crate) fn mark_between(mem: &mut Mem, root: NodeId, from: usize, to: usize, 
         let next = at + run.len as usize;
         replace(mem, root, at, marked(run, &mark));
         at = next;
+    }
+}
+
+// Marks the cells between two positions, in two runs more at most.
+pub(crate) fn mark_cells(mem: &mut Mem, root: NodeId, from: usize, to: usize, mark: Mark) -> Change
+    requires tree { IsTree mem.old root.index }
+    requires kept { AreKept (tree_runs mem.old root.index) }
+    requires few { (counts_of (tree_runs mem.old root.index)).cells ≤ MOST_CELLS }
+    requires order { from ≤ to }
+    requires within { to ≤ (counts_of (tree_runs mem.old root.index)).cells }
+    requires room { HasNodes mem.old (length (tree_runs mem.old root.index) + 1) }
+    ensures tree { IsTree mem.new result.root.index }
+    ensures cells { (text : List ℕ) → AllByRecursion (IsRun text) (tree_runs mem.old root.index)
+        → AreChanged (tree_runs mem.old root.index) (tree_runs mem.new result.root.index) text (map_between (marked_cell mark) from to) }
+    ensures runs { length (tree_runs mem.new result.root.index) ≡ length (tree_runs mem.old root.index) + result.more }
+    ensures more { result.more ≤ 2 }
+    ensures room { length mem.new.heads + mem.new.room ≡ length mem.old.heads + mem.old.room }
+{
+    let first = cut(mem, root, from);
+    let second = cut(mem, first.root, to);
+    mark_between(mem, second.root, from, to, mark);
+    Change {
+        root: second.root,
+        more: first.more + second.more,
     }
 }
