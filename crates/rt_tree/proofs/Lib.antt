@@ -32,3 +32,4 @@ mod Edges
 mod Pieces
 mod Cutting
 mod Marking
+mod Roomier

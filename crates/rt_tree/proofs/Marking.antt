@@ -1,5 +1,6 @@
 -- A stretch of runs, marked run by run.
-use Rattle.std.proofs.Common.{◌≡◌, ℕ, ◌+◌, ◌-◌, ◌<◌, ◌≤◌, List, [], ◌∷◌, ◌++◌, length, refl, sym, ap, ◌∙◌, arith, subst, append_assoc}
+use Rattle.std.proofs.Common.{◌≡◌, ℕ, ◌+◌, ◌-◌, ◌<◌, ◌≤◌, List, [], ◌∷◌, ◌++◌, length, length-append, map, take, drop, refl, sym, ap, ◌∙◌, arith, subst, append_assoc}
+use Rattle.std.proofs.lemmas.List.{length-drop, length-map, length-take-le}
 use Rattle.std.specs.List.{AllByRecursion}
 use Rattle.rt_stamps.specs.declared.limits.TheConstants.{MOST_CELLS}
 use Rattle.rt_store.specs.declared.cell.Cell.{Cell}
@@ -138,3 +139,24 @@ recut_changed old mid cut new f one two is text all =
     let all1 = one.kept text all in
     let done = is text (two.kept text all1) in
     record { kept = done.kept; cells = done.cells ∙ ap f (two.cells text all1 ∙ one.cells text all) }
+
+-- THE CELLS OF A STRETCH
+
+between_length : {X : Type 0} (f : X → X) (from to : ℕ) (xs : List X) → from ≤ to → to ≤ length xs → length (map_between f from to xs) ≡ length xs
+between_length f from to xs order within =
+    let mid = take (to - from) (drop from xs) in
+    let a = length-append (take from xs ++ map f mid) (drop to xs) in
+    let b = length-append (take from xs) (map f mid) in
+    let c = length-take-le from xs (omega (arith, order, within)) in
+    let d = length-drop from xs in
+    let e = length-map mid f ∙ length-take-le (to - from) (drop from xs) (omega (arith, d, within)) in
+    let g = length-drop to xs in
+    omega (arith, a, b, c, e, g, order, within)
+
+-- as many cells as before
+pub changed_cells : (old new : List Run) (text : List ℕ) (f : Cell ℕ → Cell ℕ) (from to : ℕ) → AllByRecursion (IsRun text) old → AreChanged old new text (map_between f from to) → from ≤ to → to ≤ (counts_of old).cells → (counts_of new).cells ≡ (counts_of old).cells
+changed_cells old new text f from to all is order within =
+    let a = counted text old all in
+    let b = counted text new is.kept in
+    let c = ap length is.cells ∙ between_length f from to (cells_of text old) order (omega (arith, a.cells, within)) in
+    omega (arith, a.cells, b.cells, c)
