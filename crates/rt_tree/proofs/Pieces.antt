@@ -1,18 +1,16 @@
 -- Runs cut, marked and put in, and their cells.
-use Rattle.std.proofs.Common.{◌≡◌, ℕ, zero, suc, ◌+◌, ◌-◌, ◌^◌, ◌<◌, ◌≤◌, Bool, true, false, if◌then◌else◌, List, [], ◌∷◌, ◌++◌, length, take, drop, map, refl, sym, ap, ◌∙◌, arith, subst, append-nil, append_assoc, length-append}
+use Rattle.std.proofs.Common.{◌≡◌, ℕ, ◌+◌, ◌-◌, ◌<◌, ◌≤◌, Bool, true, false, List, [], ◌∷◌, ◌++◌, length, take, drop, map, refl, sym, ap, ◌∙◌, arith, append-nil, append_assoc, length-append}
 use Rattle.std.specs.List.{AllByRecursion}
 use Rattle.std.proofs.lemmas.List.{drop-append-le, drop-drop, drop_at, length-drop, length-map, length-take-le, map-append, take-append-drop, take-append-le, take-take, take_at}
 use Rattle.std.proofs.lemmas.List.Concat.{flat_map-append}
 use Rattle.std.proofs.Math.Seq.{take-add}
 use Rattle.rt_stamps.specs.Places.{newlines}
-use Rattle.rt_store.specs.declared.cell.Cell.{Cell}
 use Rattle.rt_store.specs.Cells.{cells_from}
 use Rattle.rt_tree.specs.declared.mark.Mark.{Mark}
 use Rattle.rt_tree.specs.declared.mark.Mark.TheVariants.{Gone, State}
 use Rattle.rt_tree.specs.declared.node.Run.{Run}
 use Rattle.rt_tree.specs.Runs.{IsRun, cells_of, characters, run_cells, with_gone}
-use Rattle.rt_tree.specs.Stretches.{IsRecut, back_of, front_of, lengths, made_gone, map_between, marked_cell, marked_run}
-use Rattle.rt_tree.specs.Sums.{counts_of}
+use Rattle.rt_tree.specs.Stretches.{IsRecut, back_of, front_of, made_gone, map_between, marked_cell, marked_run}
 use Rattle.rt_tree.proofs.CellLaws.{characters_length}
 use Rattle.rt_tree.proofs.Edges.{edge_cut}
 use Rattle.rt_tree.proofs.Texts.{newlines-append, newlines-take}

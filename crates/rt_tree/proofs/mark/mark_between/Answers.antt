@@ -1,12 +1,10 @@
-use Rattle.std.proofs.Common.{◌≡◌, ◌+◌, ℕ, List, length, refl, arith, sym, ap, ◌∙◌, subst}
-use Rattle.std.specs.List.{AllByRecursion}
+use Rattle.std.proofs.Common.{◌≡◌, refl, arith, sym, subst}
 use Rattle.rt_tree.specs.declared.node.Run.{Run}
-use Rattle.rt_tree.specs.Runs.{IsRun}
 use Rattle.rt_tree.specs.Shape.{tree_runs}
 use Rattle.rt_tree.specs.Stretches.{AreChanged, map_between, marked_cell}
 use Rattle.rt_tree.specs.Sums.{AreFew, counts_of, counts_of_run, plus}
 use Rattle.rt_tree.specs.Walks.{IsReplacedAt}
-use Rattle.rt_tree.proofs.Marking.{IsMarked, fewer_left, marked_few, marked_with, marked_within, more_marked, next_within, none_marked}
+use Rattle.rt_tree.proofs.Marking.{marked_few, marked_with, marked_within, more_marked, none_marked}
 use Rattle.rt_tree.proofs.mark.mark_between.Goals as goal
 
 pub loop-at-init : goal.loop-at-init

@@ -1,5 +1,4 @@
-use Rattle.std.proofs.Common.{◌≡◌, ◌≤◌, arith, sym, ◌∙◌, subst}
-use Rattle.rt_stamps.specs.declared.limits.TheConstants.{MOST_CELLS}
+use Rattle.std.proofs.Common.{arith}
 use Rattle.rt_tree.specs.Shape.{tree_runs}
 use Rattle.rt_tree.specs.Stretches.{map_between, marked_cell}
 use Rattle.rt_tree.proofs.Marking.{recut_cells, recut_changed, recut_kept}

@@ -1,4 +1,4 @@
-use Rattle.std.proofs.Common.{◌≡◌, ◌+◌, ◌*◌, ◌≤◌, length, arith, ap, ◌∙◌}
+use Rattle.std.proofs.Common.{arith, ap}
 use Rattle.rt_tree.specs.Shape.{tree_runs}
 use Rattle.rt_tree.specs.Stretches.{marked_cell}
 use Rattle.rt_tree.proofs.Cutting.{runs_few}
@@ -26,6 +26,7 @@ invariant_of-self c =
     let h = shows s.mem s.root.index s.text.items s.runs k c.args.self.now c.self.view_is in
     let is = e.cells s.text.items k.kept in
     let same = changed_cells old new s.text.items (marked_cell c.args.mark) c.args.from c.args.to k.kept is c.requires.order (omega (arith, h.cells, c.requires.within)) in
-    let cuts = ap (λ v. v.room.cuts) c.self.view_is in
-    (record { tree = e.tree; kept = is.kept; counted = omega (arith, k.counted, e.runs); few = omega (arith, same, k.few); all = omega (arith, same, k.all) },
-      record { nodes = omega (arith, r.nodes, e.runs, e.more, e.room, cuts, c.requires.room.1); holds = r.holds; few = r.few })
+    let cuts = ap (λ v. v.room.cuts) c.self.view_is in (
+      record { tree = e.tree; kept = is.kept; counted = omega (arith, k.counted, e.runs); few = omega (arith, same, k.few); all = omega (arith, same, k.all) },
+      record { nodes = omega (arith, r.nodes, e.runs, e.more, e.room, cuts, c.requires.room.1); holds = r.holds; few = r.few },
+    )
