@@ -1,5 +1,5 @@
 -- A cut, and what changes need to know of runs.
-use Rattle.std.proofs.Common.{◌≡◌, ℕ, zero, suc, ◌+◌, ◌-◌, ◌*◌, ◌^◌, ◌<◌, ◌≤◌, List, [], ◌∷◌, ◌++◌, length, refl, sym, ap, ◌∙◌, arith, subst, append_assoc, length-append}
+use Rattle.std.proofs.Common.{◌≡◌, ℕ, zero, suc, ◌+◌, ◌-◌, ◌^◌, ◌<◌, ◌≤◌, List, [], ◌∷◌, ◌++◌, length, refl, sym, ap, ◌∙◌, arith, subst, append_assoc, length-append}
 use Rattle.std.specs.List.{AllByRecursion}
 use Rattle.std.proofs.Math.Nat.{pow-succ'}
 use Rattle.rt_stamps.specs.declared.limits.TheConstants.{MOST_CELLS}
@@ -11,7 +11,6 @@ use Rattle.rt_tree.specs.Shape.{IsTree, Memory, level_of, tree_runs}
 use Rattle.rt_tree.specs.Stretches.{AreKept, IsEdge, IsRecut, back_of, front_of, lengths}
 use Rattle.rt_tree.specs.Sums.{AreFew, counts_of, counts_of_run, plus}
 use Rattle.rt_tree.specs.Walks.{IsPutAt, IsReplacedAt, StandsAt}
-use Rattle.rt_tree.proofs.CellLaws.{is_run}
 use Rattle.rt_tree.proofs.Edges.{counts_mid, edge_there, one_spot, IsSameSpot}
 use Rattle.rt_tree.proofs.Filled.{full_tree}
 use Rattle.rt_tree.proofs.Kept.{below_cells, one_below}

@@ -3,7 +3,7 @@ use Rattle.std.proofs.Common.{◌≡◌, ℕ, ◌+◌, ◌<◌, ◌≤◌, Bool,
 use Rattle.std.specs.List.{AllByRecursion}
 use Rattle.std.proofs.lemmas.List.{get_or-drop, get_or-take}
 use Rattle.rt_nodes.specs.Nodes.{entries}
-use Rattle.rt_store.specs.Cells.{text_of, visible_of}
+use Rattle.rt_store.specs.Cells.{Room, text_of, visible_of}
 use Rattle.rt_stamps.specs.Places.{newlines}
 use Rattle.rt_tree.specs.declared.node.Counts.{Counts}
 use Rattle.rt_tree.specs.declared.node.Run.{Run}
@@ -49,7 +49,7 @@ module _ (m : Memory) (root : ℕ) (text : List ℕ) (n : ℕ) (kept : IsKept m 
     pub visible : length (visible_of now.cells) ≡ (counts_of (tree_runs m root)).visible
     pub newlines : newlines (text_of now.cells) ≡ (counts_of (tree_runs m root)).newlines
 
-  pub shows : (now : Shown) → shown m root text ≡ now → Shows now
+  pub shows : {room : Room} (now : Shown) → shown m root text room ≡ now → Shows now
   shows now is =
       let c = counted text (tree_runs m root) kept.kept in
       subst Shows is (record { cells = c.cells; visible = c.visible; newlines = c.newlines })

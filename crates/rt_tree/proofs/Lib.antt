@@ -31,3 +31,5 @@ mod Puts
 mod Edges
 mod Pieces
 mod Cutting
+mod Marking
+mod Roomier

@@ -1,19 +1,21 @@
--- Runs cut in two, and their cells.
-use Rattle.std.proofs.Common.{◌≡◌, ℕ, zero, suc, ◌+◌, ◌-◌, ◌^◌, ◌<◌, ◌≤◌, Bool, true, false, if◌then◌else◌, List, [], ◌∷◌, ◌++◌, length, take, drop, map, refl, sym, ap, ◌∙◌, arith, subst, append-nil, append_assoc, length-append}
+-- Runs cut, marked and put in, and their cells.
+use Rattle.std.proofs.Common.{◌≡◌, ℕ, ◌+◌, ◌-◌, ◌<◌, ◌≤◌, Bool, true, false, List, [], ◌∷◌, ◌++◌, length, take, drop, map, refl, sym, ap, ◌∙◌, arith, append-nil, append_assoc, length-append}
 use Rattle.std.specs.List.{AllByRecursion}
 use Rattle.std.proofs.lemmas.List.{drop-append-le, drop-drop, drop_at, length-drop, length-map, length-take-le, map-append, take-append-drop, take-append-le, take-take, take_at}
 use Rattle.std.proofs.lemmas.List.Concat.{flat_map-append}
 use Rattle.std.proofs.Math.Seq.{take-add}
 use Rattle.rt_stamps.specs.Places.{newlines}
-use Rattle.rt_store.specs.declared.cell.Cell.{Cell}
 use Rattle.rt_store.specs.Cells.{cells_from}
+use Rattle.rt_tree.specs.declared.mark.Mark.{Mark}
+use Rattle.rt_tree.specs.declared.mark.Mark.TheVariants.{Gone, State}
 use Rattle.rt_tree.specs.declared.node.Run.{Run}
 use Rattle.rt_tree.specs.Runs.{IsRun, cells_of, characters, run_cells, with_gone}
-use Rattle.rt_tree.specs.Stretches.{IsRecut, back_of, front_of}
-use Rattle.rt_tree.specs.Sums.{counts_of}
+use Rattle.rt_tree.specs.Stretches.{IsRecut, back_of, front_of, made_gone, map_between, marked_cell, marked_run}
 use Rattle.rt_tree.proofs.CellLaws.{characters_length}
 use Rattle.rt_tree.proofs.Edges.{edge_cut}
 use Rattle.rt_tree.proofs.Texts.{newlines-append, newlines-take}
+
+-- CUTS
 
 from-append : (count site state : ℕ) (a b : List ℕ) (next : ℕ) → count + length a ≡ next → cells_from count site state (a ++ b) ≡ cells_from count site state a ++ cells_from next site state b
 from-append count site state [] b next e = let h : count ≡ next = omega (arith, e) in ap (λ n. cells_from n site state b) h
@@ -93,7 +95,97 @@ module _ (r : Run) (k : ℕ) (b : List Run) (some : 0 < k) (lt : k < r.len) wher
     edges = λ at. edge_cut a r (front_of k r) (back_of k r) b at (omega (arith, lt));
   }
 
--- another run in place of one
+-- MARKS
+
+from-gone : (gone : Bool) (count site state : ℕ) (cs : List ℕ) → map (with_gone true) (cells_from count site state cs) ≡ map made_gone (map (with_gone gone) (cells_from count site state cs))
+from-gone gone count site state [] = refl
+from-gone gone count site state (c ∷ cs) = ap (λ l. record { stamp = record { count = count; site = site }; ch = c; gone = true; state = state } ∷ l) (from-gone gone (count + 1) site state cs)
+
+from-state : (gone : Bool) (count site old new : ℕ) (cs : List ℕ) → map (with_gone gone) (cells_from count site new cs) ≡ map (marked_cell (State new)) (map (with_gone gone) (cells_from count site old cs))
+from-state gone count site old new [] = refl
+from-state gone count site old new (c ∷ cs) = ap (λ l. record { stamp = record { count = count; site = site }; ch = c; gone = gone; state = new } ∷ l) (from-state gone (count + 1) site old new cs)
+
+pub marked_cells : (text : List ℕ) (mark : Mark) (r : Run) → run_cells text (marked_run mark r) ≡ map (marked_cell mark) (run_cells text r)
+marked_cells text Gone r = from-gone r.gone r.first r.site r.state (characters text r)
+marked_cells text (State state) r = from-state r.gone r.first r.site r.state state (characters text r)
+
+pub run_marked : (text : List ℕ) (mark : Mark) (r : Run) → IsRun text r → IsRun text (marked_run mark r)
+run_marked text Gone r is = record { some = is.some; stands = is.stands; counts = is.counts; plain = is.plain; ends = is.ends }
+run_marked text (State state) r is = record { some = is.some; stands = is.stands; counts = is.counts; plain = is.plain; ends = is.ends }
+
+pub marked_length : (mark : Mark) (r : Run) → (marked_run mark r).len ≡ r.len
+marked_length Gone r = refl
+marked_length (State state) r = refl
+
+-- one more stretch of elements is changed
+pub between_step : {X : Type 0} (f : X → X) (from at n : ℕ) (cs a m b : List X) → from ≤ at → at ≤ length cs → a ++ (m ++ b) ≡ map_between f from at cs → length a ≡ at → length m ≡ n → a ++ (map f m ++ b) ≡ map_between f from (at + n) cs
+between_step {X} f from at n cs a m b le in_cs is la lm =
+    let front = take from cs in
+    let mid = take (at - from) (drop from cs) in
+    let A = front ++ map f mid in
+    let whole : a ++ (m ++ b) ≡ A ++ drop at cs = is in
+    let lfront = length-take-le from cs (omega (arith, le, in_cs)) in
+    let ldrop = length-drop from cs in
+    let lmid = length-map mid f ∙ length-take-le (at - from) (drop from cs) (omega (arith, ldrop, le, in_cs)) in
+    let lA : length A ≡ at = length-append front (map f mid) ∙ (omega (arith, lfront, lmid, le)) in
+    let ea : a ≡ A = sym (take_at a (m ++ b) at la) ∙ ap (take at) whole ∙ take_at A (drop at cs) at lA in
+    let er : m ++ b ≡ drop at cs = sym (drop_at a (m ++ b) at la) ∙ ap (drop at) whole ∙ drop_at A (drop at cs) at lA in
+    let em : m ≡ take n (drop at cs) = sym (take_at m b n lm) ∙ ap (take n) er in
+    let eb : b ≡ drop (at + n) cs = sym (drop_at m b n lm) ∙ ap (drop n) er ∙ drop-drop n at cs in
+    let up : from + (at - from) ≡ at = omega (arith, le) in
+    let sum : at - from + n ≡ at + n - from = omega (arith, le) in
+    let more : mid ++ take n (drop at cs) ≡ take (at + n - from) (drop from cs) =
+    ap (λ l. mid ++ take n l) (ap (λ i. drop i cs) (sym up) ∙ sym (drop-drop (at - from) from cs)) ∙ sym (take-add (at - from) n (drop from cs)) ∙ ap (λ i. take i (drop from cs)) sum in
+    ap (λ l. l ++ (map f m ++ b)) ea
+    ∙ sym (append_assoc A (map f m) b)
+    ∙ ap (λ l. l ++ b) (append_assoc front (map f mid) (map f m) ∙ ap (λ l. front ++ l) (sym (map-append f mid m)))
+    ∙ ap (λ l. front ++ map f (mid ++ l) ++ b) em
+    ∙ ap (λ l. front ++ map f l ++ b) more
+    ∙ ap (λ l. front ++ map f (take (at + n - from) (drop from cs)) ++ l) eb
+
+pub between_none : {X : Type 0} (f : X → X) (at : ℕ) (cs : List X) → map_between f at at cs ≡ cs
+between_none f at cs =
+    let z : at - at ≡ 0 = omega arith in
+    ap (λ i. take at cs ++ map f (take i (drop at cs)) ++ drop at cs) z ∙ ap (λ l. l ++ drop at cs) (append-nil (take at cs)) ∙ take-append-drop at cs
+
+-- OTHER RUNS IN PLACE OF ONE
+
 pub kept_set : (text : List ℕ) (a : List Run) (x y : Run) (b : List Run) → (IsRun text x → IsRun text y) → AllByRecursion (IsRun text) (a ++ x ∷ b) → AllByRecursion (IsRun text) (a ++ y ∷ b)
 kept_set text [] x y b f all = (f all.0, all.1)
 kept_set text (z ∷ a) x y b f all = (all.0, kept_set text a x y b f all.1)
+
+pub kept_more : (text : List ℕ) (a : List Run) (x : Run) (b : List Run) → IsRun text x → AllByRecursion (IsRun text) (a ++ b) → AllByRecursion (IsRun text) (a ++ x ∷ b)
+kept_more text [] x b is all = (is, all)
+kept_more text (z ∷ a) x b is all = (all.0, kept_more text a x b is all.1)
+
+pub cells_mid : (text : List ℕ) (a : List Run) (x : Run) (b : List Run) → cells_of text (a ++ x ∷ b) ≡ cells_of text a ++ (run_cells text x ++ cells_of text b)
+cells_mid text a x b = flat_map-append (run_cells text) a (x ∷ b)
+
+-- A LONGER TEXT
+
+grown_characters : (text more : List ℕ) (r : Run) → r.at + r.len ≤ length text → characters (text ++ more) r ≡ characters text r
+grown_characters text more r le =
+    let l = length-drop r.at text in
+    ap (take r.len) (drop-append-le r.at text more (omega (arith, le))) ∙ take-append-le r.len (drop r.at text) more (omega (arith, l, le))
+
+grown_run : (text more : List ℕ) (r : Run) → IsRun text r → IsRun (text ++ more) r
+grown_run text more r is =
+    let e = grown_characters text more r is.stands in
+    let l = length-append text more in
+    record {
+      some = is.some;
+      stands = omega (arith, is.stands, l);
+      counts = is.counts;
+      plain = ap (λ cs. newlines (take (r.len - 1) cs)) e ∙ is.plain;
+      ends = ap newlines e ∙ is.ends;
+    }
+
+pub grown_kept : (text more : List ℕ) (rs : List Run) → AllByRecursion (IsRun text) rs → AllByRecursion (IsRun (text ++ more)) rs
+grown_kept text more [] all = tt
+grown_kept text more (r ∷ rs) all = (grown_run text more r all.0, grown_kept text more rs all.1)
+
+pub grown_cells : (text more : List ℕ) (rs : List Run) → AllByRecursion (IsRun text) rs → cells_of (text ++ more) rs ≡ cells_of text rs
+grown_cells text more [] all = refl
+grown_cells text more (r ∷ rs) all =
+    ap (λ cs. map (with_gone r.gone) (cells_from r.first r.site r.state cs) ++ cells_of (text ++ more) rs) (grown_characters text more r all.0.stands)
+    ∙ ap (λ l. run_cells text r ++ l) (grown_cells text more rs all.1)

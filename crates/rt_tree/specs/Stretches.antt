@@ -1,9 +1,30 @@
--- Where runs begin and end, and runs cut in two.
-use Rattle.std.specs.Prelude.{◌≡◌, ℕ, ◌+◌, ◌-◌, ◌≤◌, ◌⊎◌, false, List, [], ◌∷◌, length, map}
+-- Stretches of runs and of cells, and what changes them.
+use Rattle.std.specs.Prelude.{◌≡◌, ℕ, ◌+◌, ◌-◌, ◌<◌, ◌≤◌, ◌⊎◌, true, false, List, [], ◌∷◌, ◌++◌, length, map, take, drop}
 use Rattle.std.specs.List.{AllByRecursion}
 use Rattle.rt_stamps.specs.declared.limits.TheConstants.{MOST_CELLS}
+use Rattle.rt_store.specs.declared.cell.Cell.{Cell}
+use Rattle.rt_store.specs.Cells.{with_state}
 use Rattle.rt_tree.specs.declared.node.Run.{Run}
-use Rattle.rt_tree.specs.Runs.{IsRun, cells_of}
+use Rattle.rt_tree.specs.declared.mark.Mark.{Mark}
+use Rattle.rt_tree.specs.declared.mark.Mark.TheVariants.{Gone, State}
+use Rattle.rt_tree.specs.Runs.{IsRun, cells_of, run_cells}
+
+-- the elements between two positions of a list are changed
+abbrev pub map_between : {X : Type 0} → (X → X) → ℕ → ℕ → List X → List X
+map_between f from to xs = take from xs ++ map f (take (to - from) (drop from xs)) ++ drop to xs
+
+-- a cell that is gone now
+abbrev pub made_gone : Cell ℕ → Cell ℕ
+made_gone cell = record cell { gone = true }
+
+-- what a mark makes of a cell, and of a run
+abbrev pub marked_cell : Mark → Cell ℕ → Cell ℕ
+marked_cell Gone cell = made_gone cell
+marked_cell (State state) cell = with_state state cell
+
+abbrev pub marked_run : Mark → Run → Run
+marked_run Gone r = record r { gone = true }
+marked_run (State state) r = record r { state = state }
 
 -- how many cells runs have
 abbrev pub lengths : List Run → List ℕ
@@ -32,3 +53,20 @@ pub record AreKept (rs : List Run) : Type 0 where
   pub text : List ℕ
   pub short : length text ≤ MOST_CELLS
   pub runs : AllByRecursion (IsRun text) rs
+
+-- the characters of cells stand in a text
+abbrev pub StandsFrom : List ℕ → ℕ → List (Cell ℕ) → Type 0
+StandsFrom text start cells = take (length cells) (drop start text) ≡ map (λ cell. cell.ch) cells
+
+-- a run's cells are the first of some cells, when its characters stand in a text
+pub record IsRunOf (new : List (Cell ℕ)) (start : ℕ) (r : Run) : Type 0 where
+  pub some : 0 < r.len
+  pub within : r.len ≤ length new
+  pub at : r.at ≡ start
+  pub run : (text : List ℕ) → StandsFrom text start new → IsRun text r
+  pub cells : (text : List ℕ) → StandsFrom text start new → run_cells text r ≡ take r.len new
+
+-- Stretches of runs change: the runs stay as they should be, and the cells are changed in a way.
+pub record AreChanged (old new : List Run) (text : List ℕ) (f : List (Cell ℕ) → List (Cell ℕ)) : Type 0 where
+  pub kept : AllByRecursion (IsRun text) new
+  pub cells : cells_of text new ≡ f (cells_of text old)

@@ -5,6 +5,7 @@ mod change;
 mod cut;
 mod find;
 pub mod looks;
+mod mark;
 pub mod node;
 mod put;
 mod room;
@@ -19,6 +20,7 @@ pub mod up;
 pub mod walk;
 
 pub use looks::{Counted, Looks};
+pub use mark::Mark;
 pub use node::{Counts, Entry, Head, Measure, Run, Totals};
 pub use tree::Tree;
 pub use up::ascend;

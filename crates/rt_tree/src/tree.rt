@@ -1,12 +1,15 @@
 // The cells of a text in a tree.
-ghost use Rattle.std.specs.Prelude.{◌≡◌, ◌+◌, ◌-◌, ◌*◌, ◌<◌, ◌≤◌, ◌^◌, [], ◌∷◌, length, slice_get, Some, IfOk, IfErr};
+ghost use Rattle.std.specs.Prelude.{◌≡◌, ◌+◌, ◌-◌, ◌*◌, ◌<◌, ◌≤◌, ◌^◌, [], ◌∷◌, length, slice_get, Some, IfOk, IfErr, IsOk, OnOk, OnErr};
 ghost use Rattle.rt_stamps.specs.Places.{line_of, line_start, newlines};
-ghost use Rattle.rt_store.specs.Cells.{final_cell, text_of, visible_of};
+ghost use Rattle.rt_store.specs.Cells.{HasRoom, Spends, final_cell, text_of, visible_of, with_state};
+ghost use Rattle.rt_tree.specs.Stretches.{made_gone, map_between, marked_cell};
 ghost use Rattle.rt_tree.specs.Trees.{final_run};
 
 use crate::find::{cell_in, find, height, seek, sum_of};
+use crate::mark::{Mark, mark_cells};
 use crate::node::{Entry, Head, Measure, Mem, Run};
 use rt_nodes::{NodeId, NodeMem};
+use rt_stamps::limits::MOST_CELLS;
 use rt_stamps::{FINAL, Fault};
 use rt_store::Cell;
 use rt_tags::StateId;
@@ -21,16 +24,21 @@ pub struct Tree {
     // The characters of all runs, in the order in which they came.
     text: Vec<char>,
     runs: usize,
+    // What there is room for.
+    spare_cells: usize,
+    spare_cuts: usize,
 }
 
 impl Model for Tree {
-    ghost use Rattle.rt_tree.specs.Trees.{IsKept, Shown, shown};
+    ghost use Rattle.std.specs.Prelude.{vec_capacity};
+    ghost use Rattle.rt_tree.specs.Trees.{IsKept, IsRoomy, Shown, shown};
 
     ghost Value = { Shown };
 
-    ghost view = { λ t. shown t.mem t.root.index t.text.items };
+    ghost view = { λ t. shown t.mem t.root.index t.text.items (record { cells = t.spare_cells; cuts = t.spare_cuts }) };
 
-    ghost invariant = { λ t. IsKept t.mem t.root.index t.text.items t.runs };
+    ghost invariant = { λ t. IsKept t.mem t.root.index t.text.items t.runs
+        × IsRoomy t.mem t.root.index t.text.items (vec_capacity t.text) (record { cells = t.spare_cells; cuts = t.spare_cuts }) };
 }
 
 // The run of the final newline, as it is at first.
@@ -54,6 +62,7 @@ impl Tree {
         ensures cells { IfOk result (λ tree. tree.cells ≡ final_cell ∷ []) }
         ensures runs { IfOk result (λ tree. tree.runs ≡ 1) }
         ensures height { IfOk result (λ tree. tree.height ≡ 1) }
+        ensures room { IfOk result (λ tree. tree.room ≡ record { cells = 0; cuts = 0 }) }
         ensures err { IfErr result (λ fault. fault ≡ Fault.NoMemory) }
     {
         let mut text = Vec::with_capacity(alloc, 1)?;
@@ -70,6 +79,8 @@ impl Tree {
             root,
             text,
             runs: 1,
+            spare_cells: 0,
+            spare_cuts: 0,
         })
     }
 
@@ -171,5 +182,74 @@ impl Tree {
         }
         let found = seek(&self.mem, self.root, Measure::Visible, place);
         found.before.newlines as usize + 1
+    }
+
+    /// Makes room for new cells and for cuts of runs, and keeps what was there. `NoMemory` changes
+    /// nothing; it is also the answer where the cells would be too many, or nodes without number.
+    pub fn reserve(&mut self, cells: usize, cuts: usize) -> Result<(), Fault>
+        ensures same { OnOk result (self.new ≡ record self.old { room = self.new.room }) }
+        ensures ok { OnOk result (HasRoom self.new.room cells cuts) }
+        ensures kept { HasRoom self.new.room self.old.room.cells self.old.room.cuts }
+        ensures unchanged { OnErr result (self.new ≡ self.old) }
+        ensures err { IfErr result (λ fault. fault ≡ Fault.NoMemory) }
+        ensures roomy { HasRoom self.old.room cells cuts → IsOk result }
+    {
+        if cells <= self.spare_cells && cuts <= self.spare_cuts {
+            return Ok(());
+        }
+        let cells = cells.max(self.spare_cells);
+        let cuts = cuts.max(self.spare_cuts);
+        if cells > MOST_CELLS - self.text.len() {
+            return Err(Fault::NoMemory);
+        }
+        let runs = (self.runs + cells)
+            .checked_add(cuts)
+            .ok_or(Fault::NoMemory)?;
+        let nodes = runs / 7 + 1;
+        self.text.reserve(cells)?;
+        self.mem.reserve(nodes.saturating_sub(self.mem.nodes()))?;
+        self.spare_cells = cells;
+        self.spare_cuts = cuts;
+        Ok(())
+    }
+
+    // Marks the cells between two positions.
+    fn apply(&mut self, from: usize, to: usize, mark: Mark)
+        requires order { from ≤ to }
+        requires within { to ≤ length self.old.cells }
+        requires room { HasRoom self.old.room 0 2 }
+        ensures cells { self.new.cells ≡ map_between (marked_cell mark) from to self.old.cells }
+        ensures runs { self.new.runs ≤ self.old.runs + 2 }
+        ensures room { Spends self.old.room self.new.room 0 2 }
+    {
+        let change = mark_cells(&mut self.mem, self.root, from, to, mark);
+        self.root = change.root;
+        self.runs += change.more;
+        self.spare_cuts -= 2;
+    }
+
+    /// Makes the cells from one position up to another gone, in two runs more at most. Takes no memory.
+    pub fn set_gone(&mut self, from: usize, to: usize)
+        requires order { from ≤ to }
+        requires within { to ≤ length self.old.cells }
+        requires room { HasRoom self.old.room 0 2 }
+        ensures cells { self.new.cells ≡ map_between made_gone from to self.old.cells }
+        ensures runs { self.new.runs ≤ self.old.runs + 2 }
+        ensures room { Spends self.old.room self.new.room 0 2 }
+    {
+        self.apply(from, to, Mark::Gone);
+    }
+
+    /// Puts the cells from one position up to another in a state, gone ones too, in two runs more at
+    /// most. Takes no memory.
+    pub fn set_state(&mut self, from: usize, to: usize, state: StateId)
+        requires order { from ≤ to }
+        requires within { to ≤ length self.old.cells }
+        requires room { HasRoom self.old.room 0 2 }
+        ensures cells { self.new.cells ≡ map_between (with_state state) from to self.old.cells }
+        ensures runs { self.new.runs ≤ self.old.runs + 2 }
+        ensures room { Spends self.old.room self.new.room 0 2 }
+    {
+        self.apply(from, to, Mark::State(state));
     }
 }

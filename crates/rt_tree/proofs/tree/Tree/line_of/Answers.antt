@@ -11,30 +11,30 @@ use Rattle.rt_tree.proofs.Lines.{newlines_found}
 use Rattle.rt_tree.proofs.tree.Tree.line_of.Goals as goal
 
 pub sum_of-all-requires-clause-few : goal.sum_of-all-requires-clause-few
-sum_of-all-requires-clause-few c = let s = c.self.inside in few_root s.mem s.root.index s.text.items s.runs c.self.invariant
+sum_of-all-requires-clause-few c = let s = c.self.inside in few_root s.mem s.root.index s.text.items s.runs c.self.invariant.0
 
 pub seek-found-requires-clause-few : goal.seek-found-requires-clause-few
-seek-found-requires-clause-few c = let s = c.self.inside in few_runs s.mem s.root.index s.text.items s.runs c.self.invariant
+seek-found-requires-clause-few c = let s = c.self.inside in few_runs s.mem s.root.index s.text.items s.runs c.self.invariant.0
 
 pub seek-found-requires-clause-within : goal.seek-found-requires-clause-within
 seek-found-requires-clause-within c =
     let s = c.self.inside in
-    let h = shows s.mem s.root.index s.text.items s.runs c.self.invariant c.args.self.now c.self.view_is in
-    let v = ap (λ (x : Counts). x.visible) (c.sum_of-all.ensures ∙ sum_root s.mem s.root.index s.text.items s.runs c.self.invariant) in
+    let h = shows s.mem s.root.index s.text.items s.runs c.self.invariant.0 c.args.self.now c.self.view_is in
+    let v = ap (λ (x : Counts). x.visible) (c.sum_of-all.ensures ∙ sum_root s.mem s.root.index s.text.items s.runs c.self.invariant.0) in
     omega (arith, h.visible, c.requires, v, c.if-place-all.false)
 
 pub returns : goal.returns
 returns c =
     let s = c.self.inside in
     let f = c.seek-found.result in
-    let found = newlines_found s.text.items (tree_runs s.mem s.root.index) f.run f.before f.spot.offset c.args.place c.self.invariant.kept c.seek-found.ensures in
+    let found = newlines_found s.text.items (tree_runs s.mem s.root.index) f.run f.before f.spot.offset c.args.place c.self.invariant.0.kept c.seek-found.ensures in
     ap (λ (n : ℕ). n + 1) (sym found ∙ ap (λ (x : Shown). newlines (take c.args.place (text_of x.cells))) c.self.view_is)
 
 pub returns-then-place-all : goal.returns-then-place-all
 returns-then-place-all c =
     let s = c.self.inside in
-    let h = shows s.mem s.root.index s.text.items s.runs c.self.invariant c.args.self.now c.self.view_is in
-    let all = c.sum_of-all.ensures ∙ sum_root s.mem s.root.index s.text.items s.runs c.self.invariant in
+    let h = shows s.mem s.root.index s.text.items s.runs c.self.invariant.0 c.args.self.now c.self.view_is in
+    let all = c.sum_of-all.ensures ∙ sum_root s.mem s.root.index s.text.items s.runs c.self.invariant.0 in
     let v = ap (λ (x : Counts). x.visible) all in
     let n = ap (λ (x : Counts). x.newlines) all in
     let text = text_of c.args.self.now.cells in

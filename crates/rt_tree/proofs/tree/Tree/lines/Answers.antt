@@ -4,10 +4,10 @@ use Rattle.rt_tree.proofs.Kept.{few_root, shows, sum_root}
 use Rattle.rt_tree.proofs.tree.Tree.lines.Goals as goal
 
 pub sum_of-requires-clause-few : goal.sum_of-requires-clause-few
-sum_of-requires-clause-few c = let s = c.self.inside in few_root s.mem s.root.index s.text.items s.runs c.self.invariant
+sum_of-requires-clause-few c = let s = c.self.inside in few_root s.mem s.root.index s.text.items s.runs c.self.invariant.0
 
 pub returns : goal.returns
 returns c =
     let s = c.self.inside in
-    let h = shows s.mem s.root.index s.text.items s.runs c.self.invariant c.args.self.now c.self.view_is in
-    ap (λ (x : Counts). x.newlines) (c.sum_of.ensures ∙ sum_root s.mem s.root.index s.text.items s.runs c.self.invariant) ∙ sym h.newlines
+    let h = shows s.mem s.root.index s.text.items s.runs c.self.invariant.0 c.args.self.now c.self.view_is in
+    ap (λ (x : Counts). x.newlines) (c.sum_of.ensures ∙ sum_root s.mem s.root.index s.text.items s.runs c.self.invariant.0) ∙ sym h.newlines

@@ -1,0 +1,98 @@
+-- A tree in a memory that has more room, and the nodes that some runs ask for.
+use Rattle.std.proofs.Common.{◌≡◌, ℕ, zero, suc, ◌+◌, ◌-◌, ◌*◌, ◌/◌, ◌≤◌, max, List, [], ◌∷◌, ◌++◌, length, refl, sym, ap, ◌∙◌, arith, subst}
+use Rattle.std.proofs.Math.Nat.{le-max_right}
+use Rattle.std.specs.List.{AllByRecursion}
+use Rattle.rt_nodes.specs.Nodes.{entries, with_room}
+use Rattle.rt_tree.specs.declared.node.Entry.{Entry}
+use Rattle.rt_tree.specs.declared.node.Entry.TheVariants.{Down, Here}
+use Rattle.rt_stamps.specs.declared.limits.TheConstants.{MOST_CELLS}
+use Rattle.rt_store.specs.Cells.{Room}
+use Rattle.rt_tree.specs.declared.node.Run.{Run}
+use Rattle.rt_tree.specs.Runs.{IsRun, cells_of}
+use Rattle.rt_tree.specs.Shape.{Fits, IsExact, IsTree, Memory, all_below, below, level_of, tree_runs}
+use Rattle.rt_tree.specs.Sums.{counts_of, totals_of}
+use Rattle.rt_tree.specs.Trees.{HasNodes, IsKept, shown}
+
+module _ (m : Memory) (n : ℕ) where
+  abbrev more : Memory
+  more = with_room m n
+
+  flat-room : (k : ℕ) → ((e : Entry) → below more k e ≡ below m k e) → (es : List Entry) → all_below more k es ≡ all_below m k es
+  flat-room k same [] = refl
+  flat-room k same (e ∷ es) = ap (λ l. l ++ all_below more k es) (same e) ∙ ap (λ l. below m k e ++ l) (flat-room k same es)
+
+  below-room : (k : ℕ) (e : Entry) → below more k e ≡ below m k e
+  below-room zero (Here r) = refl
+  below-room zero (Down c t) = refl
+  below-room (suc k) (Here r) = refl
+  below-room (suc k) (Down c t) = flat-room k (below-room k) (entries m c.index)
+
+  fits-room : (id k : ℕ) (e : Entry) → Fits m id k e → Fits more id k e
+  fits-room id zero (Here r) f = f
+  fits-room id (suc k) (Here r) f = f
+  fits-room id zero (Down c t) f = f
+  fits-room id (suc k) (Down c t) f = record { is = f.is; level = f.level; parent = f.parent }
+
+  all-fits : (id k : ℕ) (es : List Entry) → AllByRecursion (Fits m id k) es → AllByRecursion (Fits more id k) es
+  all-fits id k [] all = tt
+  all-fits id k (e ∷ es) all = (fits-room id k e all.0, all-fits id k es all.1)
+
+  exact-room : (k : ℕ) (e : Entry) → IsExact m k e → IsExact more k e
+  exact-room k (Here r) f = f
+  exact-room k (Down c t) f = f ∙ ap totals_of (sym (below-room k (Down c t)))
+
+  all-exact : (k : ℕ) (es : List Entry) → AllByRecursion (IsExact m k) es → AllByRecursion (IsExact more k) es
+  all-exact k [] all = tt
+  all-exact k (e ∷ es) all = (exact-room k e all.0, all-exact k es all.1)
+
+  pub tree_room : (root : ℕ) → IsTree m root → IsTree more root
+  tree_room root t = record {
+    shape = record {
+      same = t.shape.same;
+      root_is = t.shape.root_is;
+      top = t.shape.top;
+      low = t.shape.low;
+      fits = λ id is. all-fits id (level_of m id) (entries m id) (t.shape.fits id is);
+      known = λ id is ne. let k = t.shape.known id is ne in record { is = k.is; up = k.up; once = k.once };
+    };
+    filled = t.filled;
+    totals = λ id is. all-exact (level_of m id) (entries m id) (t.totals id is);
+  }
+
+  pub runs_room : (root : ℕ) → tree_runs more root ≡ tree_runs m root
+  runs_room root = flat-room (level_of m root) (below-room (level_of m root)) (entries m root)
+
+-- as many nodes as are asked for are enough
+pub nodes_enough : (runs heads had : ℕ) → runs ≤ 7 * (heads + max had (runs / 7 + 1 - heads))
+nodes_enough runs heads had =
+    let r = le-max_right had (runs / 7 + 1 - heads) in
+    omega (arith, r)
+
+module _ (m : Memory) (n : ℕ) (root : ℕ) (text : List ℕ) (runs : ℕ) (m' : Memory) (is : m' ≡ with_room m n) where
+  room_runs : tree_runs m' root ≡ tree_runs m root
+  room_runs = ap (λ (x : Memory). tree_runs x root) is ∙ runs_room m n root
+
+  pub room_kept : IsKept m root text runs → IsKept m' root text runs
+  room_kept k =
+      let same = sym room_runs in
+      record {
+        tree = subst (λ (x : Memory). IsTree x root) (sym is) (tree_room m n root k.tree);
+        kept = subst (AllByRecursion (IsRun text)) same k.kept;
+        counted = k.counted ∙ ap length same;
+        few = subst (λ (l : List Run). (counts_of l).cells ≤ MOST_CELLS) same k.few;
+        all = k.all ∙ ap (λ (l : List Run). (counts_of l).cells) same;
+      }
+
+module _ (m : Memory) (n : ℕ) (root : ℕ) (text : List ℕ) (room : Room) (m' : Memory) (is : m' ≡ with_room m n) where
+  pub room_shown : shown m' root text room ≡ shown m root text room
+  room_shown =
+      ap (λ (x : Memory). shown x root text room) is
+      ∙ ap (λ (l : List Run). record { cells = cells_of text l; runs = length l; height = level_of m root + 1; room = room }) (runs_room m n root)
+
+pub room_nodes : (m : Memory) (root runs cells cuts asked : ℕ) (m' : Memory) → m' ≡ with_room m (max m.room asked) → runs ≡ length (tree_runs m root) → asked ≡ (runs + cells + cuts) / 7 + 1 - length m.heads → HasNodes m' (length (tree_runs m' root) + cells + cuts)
+room_nodes m root runs cells cuts asked m' is counted wants =
+    let enough = nodes_enough (runs + cells + cuts) (length m.heads) m.room in
+    let got : m'.room ≡ max m.room ((runs + cells + cuts) / 7 + 1 - length m.heads) = ap (λ (x : Memory). x.room) is ∙ ap (max m.room) wants in
+    let heads = ap (λ (x : Memory). length x.heads) is in
+    let same = ap length (ap (λ (x : Memory). tree_runs x root) is ∙ runs_room m (max m.room asked) root) in
+    omega (arith, enough, got, heads, same, counted)

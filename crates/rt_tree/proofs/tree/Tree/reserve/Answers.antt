@@ -1,0 +1,40 @@
+use Rattle.std.proofs.Common.{ℕ, ◌≡◌, ◌+◌, ◌^◌, ◌<◌, List, Option, length, arith, sym, ap, ◌∙◌, subst}
+use Rattle.std.specs.Option.{SomeIff}
+use Rattle.rt_store.specs.Cells.{Room}
+use Rattle.rt_tree.specs.Shape.{tree_runs}
+use Rattle.rt_tree.specs.Trees.{IsKept, Shown, shown}
+use Rattle.rt_tree.proofs.Cutting.{runs_few}
+use Rattle.rt_tree.proofs.Roomier.{room_kept, room_nodes, room_shown}
+use Rattle.rt_tree.proofs.tree.Tree.reserve.Goals as goal
+
+pub overflow_add-self-inside : goal.overflow_add-self-inside
+overflow_add-self-inside c =
+    let s = c.self.inside in let k = c.self.invariant.0 in
+    let r = runs_few s.text.items (tree_runs s.mem s.root.index) k.kept in
+    let low = c.if-cells-len.false in
+    omega (arith, r, low, k.counted, k.few)
+
+pub invariant_of-self-2 : goal.invariant_of-self-2
+invariant_of-self-2 c =
+    let s = c.self.inside in let k = c.self.invariant.0 in
+    let m = s.mem in let root = s.root.index in
+    let e = c.in_ok-reserve-2.ensures.room in
+    let text = c.in_ok-reserve.ensures.items in
+    let holds = c.in_ok-reserve.ensures.ok in
+    let low = c.if-cells-len.false in
+    let len = ap length text in
+    let a = s.text.ok.0 in
+    let b = c.reserve.new.self.ok.0 in
+    let ask : c.in_ok-runs.runs ≡ s.runs + c.max-cells.result + c.max-cuts.result = (subst (λ (o : Option ℕ). SomeIff o (s.runs + c.max-cells.result + c.max-cuts.result < 2 ^ 64) (s.runs + c.max-cells.result + c.max-cuts.result)) c.in_ok-runs.ensures.ok_part c.checked_add.ensures).1 in
+    let nodes = room_nodes m root s.runs c.max-cells.result c.max-cuts.result c.saturating_sub.result c.reserve-2.new.self e k.counted (omega (arith, ask, c.saturating_sub.ensures, c.nodes.ensures)) in (
+      subst (λ t. IsKept c.reserve-2.new.self root t s.runs) (sym text) (room_kept m _ root s.text.items s.runs c.reserve-2.new.self e k),
+      record { nodes = nodes; holds = omega (arith, holds, b); few = omega (arith, len, a, low, c.len.ensures) },
+    )
+
+pub returns-clause-same : goal.returns-clause-same
+returns-clause-same c =
+    let s = c.self.inside in
+    let room : Room = record { cells = c.max-cells.result; cuts = c.max-cuts.result } in
+    ap (λ (t : List ℕ). shown c.reserve-2.new.self s.root.index t room) c.in_ok-reserve.ensures.items
+    ∙ room_shown s.mem _ s.root.index s.text.items room c.reserve-2.new.self c.in_ok-reserve-2.ensures.room
+    ∙ ap (λ (v : Shown). record v { room = room }) c.self.view_is
