@@ -100,7 +100,8 @@ pub fn planned_deletion<S: TextStore>(
     requires states { AreStates states.now (S.list store.now) }
     ensures drafts { IfOk result (λ d. (flat : Flat) → flat.cells ≡ map (shown states.now) (S.list store.now)
         → map body_of d.drafts.items ≡ delete_drafts MOST_SPANS flat (loss_in (text_of (S.list store.now)) 0 ranges.now)) }
-    ensures places { IfOk result (λ d. (place : ℕ) → is_covered d.removed.items place ≡ (loss_in (text_of (S.list store.now)) 0 ranges.now).places place) }
+    ensures places { IfOk result (λ d. (place : ℕ)
+        → is_covered d.removed.items place ≡ (loss_in (text_of (S.list store.now)) 0 ranges.now).places place) }
     ensures order { IfOk result (λ d. AreInOrder 0 d.removed.items) }
     ensures before { IfOk result (λ d. All (λ range. range.to < length (text_of (S.list store.now))) d.removed.items) }
     ensures held { IfOk result (λ d. d.held ≡ is_some (loss_in (text_of (S.list store.now)) 0 ranges.now).newline) }

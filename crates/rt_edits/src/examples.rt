@@ -75,7 +75,8 @@ pub fn pieces()
 /// Of `Yab` with the tag t on `a` and on the last newline: a range within it is one Delete. Where a range
 /// holds the last newline, this stays, and loses its tag after the Delete of the others.
 pub fn deletions()
-    ensures inner { delete_drafts MOST_SPANS flat_with_newline (loss_in (codes "Yab\n") 0 (record { from = 1; to = 2 } ∷ [])) ≡ Delete (span 1 1 1 ∷ []) ∷ [] }
+    ensures inner { delete_drafts MOST_SPANS flat_with_newline (loss_in (codes "Yab\n") 0 (record { from = 1; to = 2 } ∷ []))
+        ≡ Delete (span 1 1 1 ∷ []) ∷ [] }
     ensures whole { delete_drafts MOST_SPANS flat_with_newline (loss_in (codes "Yab\n") 0 (record { from = 0; to = 4 } ∷ []))
         ≡ Delete (span 1 1 2 ∷ span 2 3 3 ∷ []) ∷ Tag false (codes "t") (span 0 1 1 ∷ []) ∷ [] }
     ensures newline { delete_drafts MOST_SPANS flat_with_newline (loss_in (codes "Yab\n") 0 (record { from = 3; to = 4 } ∷ []))
