@@ -63,17 +63,21 @@ turned direction switch =
 abbrev pub direction_of : List Word → Direction
 direction_of switches = fold turned Forwards switches
 
+abbrev pub case_of : List Word → Case
+case_of switches = if has switches (codes "-nocase") then Ignored else Exact
+
+abbrev pub limits_of : List Word → Limits
+limits_of switches = if has switches (codes "-strictlimits") then Strict else First
+
+abbrev pub overlaps_of : List Word → Overlaps
+overlaps_of switches = if has switches (codes "-overlap") then Taken else PassedOver
+
 abbrev pub search_of : List Word → Search
-search_of switches = record {
-  direction = direction_of switches;
-  case = if has switches (codes "-nocase") then Ignored else Exact;
-  limits = if has switches (codes "-strictlimits") then Strict else First;
-}
+search_of switches = record { direction = direction_of switches; case = case_of switches; limits = limits_of switches }
 
 -- one match, or each of them
 abbrev pub wanted_of : List Word → Wanted
-wanted_of switches =
-    if has switches (codes "-all") then Each (if has switches (codes "-overlap") then Taken else PassedOver) else One
+wanted_of switches = if has switches (codes "-all") then Each (overlaps_of switches) else One
 
 -- CHECKS
 
@@ -83,10 +87,13 @@ is_known switch =
     list_any (λ name. bytes_eq switch name) (codes "-forwards" ∷ codes "-backwards" ∷ codes "-exact" ∷ codes "-nocase"
         ∷ codes "-all" ∷ codes "-overlap" ∷ codes "-strictlimits" ∷ [])
 
--- each switch is known, and `-overlap` is given with `-all` alone
+-- `-overlap` is given with `-all` alone
+abbrev pub overlap_fits : List Word → Bool
+overlap_fits switches = has switches (codes "-all") || not (has switches (codes "-overlap"))
+
+-- each switch is known, and each fits
 abbrev pub switch_check : List Word → Option Fault
-switch_check switches =
-    if list_all is_known switches && (has switches (codes "-all") || not (has switches (codes "-overlap"))) then None else Some BadOption
+switch_check switches = if list_all is_known switches && overlap_fits switches then None else Some BadOption
 
 -- REQUESTS
 

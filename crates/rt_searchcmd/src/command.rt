@@ -111,18 +111,18 @@ pub fn search<S: TextStore>(
     request: SearchRequest,
 ) -> Result<Vec<Position>, Fault>
     ensures ok { IfOk result (λ found. searched view.now (record {
-      search = request.search;
-      wanted = request.wanted;
-      pattern = request.pattern.now;
-      start = request.start.now;
-      stop = option_copied request.stop;
+      search = request.entry.search;
+      wanted = request.entry.wanted;
+      pattern = request.entry.pattern.now;
+      start = request.entry.start.now;
+      stop = option_copied request.entry.stop;
     }) ≡ Ok found.items) }
     ensures err { IfErr result (Refuses (searched view.now (record {
-      search = request.search;
-      wanted = request.wanted;
-      pattern = request.pattern.now;
-      start = request.start.now;
-      stop = option_copied request.stop;
+      search = request.entry.search;
+      wanted = request.entry.wanted;
+      pattern = request.entry.pattern.now;
+      start = request.entry.start.now;
+      stop = option_copied request.entry.stop;
     }))) }
 {
     let start = view.place(request.start)?;

@@ -1,6 +1,7 @@
 // What a search asks for.
 ghost use Rattle.std.specs.Prelude.{◌≡◌, Some, None, Ok, Err, IfOk, IfErr, map, option_copied, string_bytes};
-ghost use Rattle.rt_searchcmd.specs.SearchWords.{arguments_in, requested, requested_by, without_dashes};
+ghost use Rattle.rt_searchcmd.specs.SearchWords.{asked_by, requested, requested_by, switch_check, without_dashes};
+ghost use Rattle.rt_stamps.specs.Outcomes.{unless};
 
 use crate::switches::{check_switches, search_of, switches_len, wanted_of};
 use rt_search::{Overlaps, Search};
@@ -36,6 +37,44 @@ fn without_dashes(words: &[String]) -> &[String]
     }
 }
 
+// What switches and arguments ask for.
+fn request_of<'a>(
+    switches: &[String],
+    pattern: &'a str,
+    start: &'a str,
+    stop: Option<&'a str>,
+) -> Result<SearchRequest<'a>, Fault>
+    ensures ok { IfOk result (λ r. unless (switch_check (map (λ w. string_bytes w) switches.now))
+          (asked_by (map (λ w. string_bytes w) switches.now) pattern.now start.now (option_copied stop.entry))
+        ≡ Ok record { search = r.search; wanted = r.wanted; pattern = r.pattern.now; start = r.start.now; stop = option_copied r.stop }) }
+    ensures err { IfErr result (λ fault. switch_check (map (λ w. string_bytes w) switches.now) ≡ Some fault) }
+{
+    check_switches(switches)?;
+    Ok(SearchRequest {
+        search: search_of(switches),
+        wanted: wanted_of(switches),
+        pattern,
+        start,
+        stop,
+    })
+}
+
+// What switches and the words behind them ask for.
+fn request_by<'a>(
+    switches: &[String],
+    arguments: &'a [String],
+) -> Result<SearchRequest<'a>, Fault>
+    ensures ok { IfOk result (λ r. requested_by (map (λ w. string_bytes w) switches.now) (map (λ w. string_bytes w) arguments.now)
+        ≡ Ok record { search = r.search; wanted = r.wanted; pattern = r.pattern.now; start = r.start.now; stop = option_copied r.stop }) }
+    ensures err { IfErr result (λ fault. requested_by (map (λ w. string_bytes w) switches.now) (map (λ w. string_bytes w) arguments.now) ≡ Err fault) }
+{
+    match arguments {
+        [pattern, start] => request_of(switches, pattern, start, None),
+        [pattern, start, stop] => request_of(switches, pattern, start, Some(stop.as_str())),
+        _ => Err(Fault::BadCommand),
+    }
+}
+
 /// What the words behind `search` ask for (Tk text manual, "search"): `?SWITCH ...? PATTERN INDEX ?STOPINDEX?`. All words
 /// in front that begin with a minus are switches, up to a `--`: `-forwards`, `-backwards` (of the two the last counts),
 /// `-exact` (there is no other kind), `-nocase`, `-all`, `-overlap` and `-strictlimits`. `BadCommand` for another number
@@ -46,18 +85,5 @@ pub fn search_request(words: &[String]) -> Result<SearchRequest<'_>, Fault>
     ensures err { IfErr result (λ fault. requested (map (λ w. string_bytes w) words.now) ≡ Err fault) }
 {
     let count = switches_len(words);
-    let switches = &words[..count];
-    let (pattern, start, stop) = match without_dashes(&words[count..]) {
-        [pattern, start] => (pattern.as_str(), start.as_str(), None),
-        [pattern, start, stop] => (pattern.as_str(), start.as_str(), Some(stop.as_str())),
-        _ => return Err(Fault::BadCommand),
-    };
-    check_switches(switches)?;
-    Ok(SearchRequest {
-        search: search_of(switches),
-        wanted: wanted_of(switches),
-        pattern,
-        start,
-        stop,
-    })
+    request_by(&words[..count], without_dashes(&words[count..]))
 }

@@ -1,7 +1,8 @@
 // The switches of a search.
-ghost use Rattle.std.specs.Prelude.{◌≡◌, ◌≤◌, length, map, string_bytes};
-ghost use Rattle.std.specs.List.{prefix_len};
-ghost use Rattle.rt_searchcmd.specs.SearchWords.{direction_of, has, is_known, is_switch, search_of, switch_check, turned, wanted_of};
+ghost use Rattle.std.specs.Prelude.{◌≡◌, ◌≤◌, fold, length, map, string_bytes};
+ghost use Rattle.std.specs.List.{list_all, list_any, prefix_len};
+ghost use Rattle.std.specs.Str.{bytes_eq};
+ghost use Rattle.rt_searchcmd.specs.SearchWords.{case_of, is_known, is_switch, limits_of, overlap_fits, overlaps_of, search_of, switch_check, turned, wanted_of};
 ghost use Rattle.rt_stamps.specs.Outcomes.{unless};
 
 use crate::request::Wanted;
@@ -35,7 +36,7 @@ fn is_known(switch: &str) -> bool
 
 /// Whether a switch is given.
 fn has(switches: &[String], name: &str) -> bool
-    ensures { result ≡ has (map (λ w. string_bytes w) switches.now) name.now }
+    ensures { result ≡ list_any (λ w. bytes_eq (string_bytes w) name.now) switches.now }
 {
     switches.iter().any(|switch| switch.as_str() == name)
 }
@@ -53,24 +54,68 @@ fn turned(direction: Direction, switch: &str) -> Direction
 
 /// The way that switches ask to go: of several the last one counts.
 fn direction_of(switches: &[String]) -> Direction
-    ensures { result ≡ direction_of (map (λ w. string_bytes w) switches.now) }
+    ensures { result ≡ fold (λ direction w. turned direction (string_bytes w)) Direction.Forwards switches.now }
 {
-    let mut direction = Direction::Forwards;
-    for switch in switches {
-        direction = turned(direction, switch);
-    }
-    direction
+    switches
+        .iter()
+        .fold(Direction::Forwards, |direction, switch| turned(direction, switch))
+}
+
+/// Whether a search has each of some switches.
+fn all_known(switches: &[String]) -> bool
+    ensures { result ≡ list_all (λ w. is_known (string_bytes w)) switches.now }
+{
+    switches.iter().all(|switch| is_known(switch))
+}
+
+/// Whether `-overlap` is given with `-all` alone.
+fn overlap_fits(switches: &[String]) -> bool
+    ensures { result ≡ overlap_fits (map (λ w. string_bytes w) switches.now) }
+{
+    has(switches, "-all") || !has(switches, "-overlap")
 }
 
 /// Refuses switches of which one is unknown, and `-overlap` without `-all`.
 pub(crate) fn check_switches(switches: &[String]) -> Result<(), Fault>
     ensures { result ≡ unless (switch_check (map (λ w. string_bytes w) switches.now)) tt }
 {
-    let known = switches.iter().all(|switch| is_known(switch));
-    if known && (has(switches, "-all") || !has(switches, "-overlap")) {
+    if all_known(switches) && overlap_fits(switches) {
         Ok(())
     } else {
         Err(Fault::BadOption)
+    }
+}
+
+/// Which characters count as the same.
+fn case_of(switches: &[String]) -> Case
+    ensures { result ≡ case_of (map (λ w. string_bytes w) switches.now) }
+{
+    if has(switches, "-nocase") {
+        Case::Ignored
+    } else {
+        Case::Exact
+    }
+}
+
+/// What of a match must lie in the stretch that is searched.
+fn limits_of(switches: &[String]) -> Limits
+    ensures { result ≡ limits_of (map (λ w. string_bytes w) switches.now) }
+{
+    if has(switches, "-strictlimits") {
+        Limits::Strict
+    } else {
+        Limits::First
+    }
+}
+
+/// What becomes of matches that overlap.
+fn overlaps_of(switches: &[String]) -> Overlaps
+    ensures { result ≡ overlaps_of (map (λ w. string_bytes w) switches.now) }
+{
+    if has(switches, "-overlap") {
+        Overlaps::Taken
+    } else {
+        Overlaps::PassedOver
     }
 }
 
@@ -80,16 +125,8 @@ pub(crate) fn search_of(switches: &[String]) -> Search
 {
     Search {
         direction: direction_of(switches),
-        case: if has(switches, "-nocase") {
-            Case::Ignored
-        } else {
-            Case::Exact
-        },
-        limits: if has(switches, "-strictlimits") {
-            Limits::Strict
-        } else {
-            Limits::First
-        },
+        case: case_of(switches),
+        limits: limits_of(switches),
     }
 }
 
@@ -97,12 +134,10 @@ pub(crate) fn search_of(switches: &[String]) -> Search
 pub(crate) fn wanted_of(switches: &[String]) -> Wanted
     ensures { result ≡ wanted_of (map (λ w. string_bytes w) switches.now) }
 {
-    if !has(switches, "-all") {
-        return Wanted::One;
-    }
-    Wanted::Each(if has(switches, "-overlap") {
-        Overlaps::Taken
+    let overlaps = overlaps_of(switches);
+    if has(switches, "-all") {
+        Wanted::Each(overlaps)
     } else {
-        Overlaps::PassedOver
-    })
+        Wanted::One
+    }
 }
