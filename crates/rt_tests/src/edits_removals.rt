@@ -12,7 +12,7 @@ fn range(from: usize, to: usize) -> Range {
 }
 
 // Some characters before the last newline.
-fn text_of(alloc: Global, characters: &str) -> Result<Text, Fault> {
+pub(crate) fn text_of(alloc: Global, characters: &str) -> Result<Text, Fault> {
     let mut text = Text::new(alloc)?;
     let mut count = 100u64;
     for ch in characters.chars().rev() {

@@ -36,4 +36,6 @@ mod tags_table;
 #[cfg(test)]
 mod text;
 #[cfg(test)]
+mod walks;
+#[cfg(test)]
 mod words;
