@@ -1,5 +1,5 @@
 -- The words of `search ?SWITCH ...? PATTERN INDEX ?STOPINDEX?`, and what they ask for (Tk text manual, "search").
-use Rattle.std.specs.Prelude.{ℕ, ◌&&◌, ◌||◌, not, Bool, List, [], ◌∷◌, take, drop, fold, Option, Some, None, Result, Err, codes, if◌then◌else◌}
+use Rattle.std.specs.Prelude.{◌&&◌, ◌||◌, not, Bool, List, [], ◌∷◌, take, drop, fold, Option, Some, None, Result, Err, codes, if◌then◌else◌}
 use Rattle.std.specs.List.{list_all, list_any, prefix_len}
 use Rattle.std.specs.Str.{bytes_eq}
 use Rattle.std.specs.Str.Parse.{starts_with_minus}
@@ -85,7 +85,7 @@ wanted_of switches = if has switches (codes "-all") then Each (overlaps_of switc
 abbrev pub is_known : Word → Bool
 is_known switch =
     list_any (λ name. bytes_eq switch name) (codes "-forwards" ∷ codes "-backwards" ∷ codes "-exact" ∷ codes "-nocase"
-        ∷ codes "-all" ∷ codes "-overlap" ∷ codes "-strictlimits" ∷ [])
+    ∷ codes "-all" ∷ codes "-overlap" ∷ codes "-strictlimits" ∷ [])
 
 -- `-overlap` is given with `-all` alone
 abbrev pub overlap_fits : List Word → Bool

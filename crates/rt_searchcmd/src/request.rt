@@ -45,7 +45,7 @@ fn request_of<'a>(
     stop: Option<&'a str>,
 ) -> Result<SearchRequest<'a>, Fault>
     ensures ok { IfOk result (λ r. unless (switch_check (map (λ w. string_bytes w) switches.now))
-          (asked_by (map (λ w. string_bytes w) switches.now) pattern.now start.now (option_copied stop.entry))
+        (asked_by (map (λ w. string_bytes w) switches.now) pattern.now start.now (option_copied stop.entry))
         ≡ Ok record { search = r.search; wanted = r.wanted; pattern = r.pattern.now; start = r.start.now; stop = option_copied r.stop }) }
     ensures err { IfErr result (λ fault. switch_check (map (λ w. string_bytes w) switches.now) ≡ Some fault) }
 {
@@ -60,10 +60,7 @@ fn request_of<'a>(
 }
 
 // What switches and the words behind them ask for.
-fn request_by<'a>(
-    switches: &[String],
-    arguments: &'a [String],
-) -> Result<SearchRequest<'a>, Fault>
+fn request_by<'a>(switches: &[String], arguments: &'a [String]) -> Result<SearchRequest<'a>, Fault>
     ensures ok { IfOk result (λ r. requested_by (map (λ w. string_bytes w) switches.now) (map (λ w. string_bytes w) arguments.now)
         ≡ Ok record { search = r.search; wanted = r.wanted; pattern = r.pattern.now; start = r.start.now; stop = option_copied r.stop }) }
     ensures err { IfErr result (λ fault. requested_by (map (λ w. string_bytes w) switches.now) (map (λ w. string_bytes w) arguments.now) ≡ Err fault) }

@@ -56,9 +56,10 @@ fn turned(direction: Direction, switch: &str) -> Direction
 fn direction_of(switches: &[String]) -> Direction
     ensures { result ≡ fold (λ direction w. turned direction (string_bytes w)) Direction.Forwards switches.now }
 {
-    switches
-        .iter()
-        .fold(Direction::Forwards, |direction, switch| turned(direction, switch))
+    switches.iter().fold(
+        Direction::Forwards,
+        |direction, switch| turned(direction, switch),
+    )
 }
 
 /// Whether a search has each of some switches.

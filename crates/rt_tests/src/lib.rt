@@ -26,6 +26,8 @@ mod rga_sites;
 #[cfg(test)]
 mod samples;
 #[cfg(test)]
+mod searching;
+#[cfg(test)]
 mod show;
 #[cfg(test)]
 mod store;

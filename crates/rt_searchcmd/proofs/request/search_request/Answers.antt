@@ -1,6 +1,6 @@
-use Rattle.std.proofs.Common.{◌≡◌, ◌∙◌, ap, map, string_bytes, sym, take, List}
+use Rattle.std.proofs.Common.{◌∙◌, ap, map, string_bytes, sym, take, List}
 use Rattle.rt_stamps.specs.Words.{Word}
-use Rattle.rt_searchcmd.specs.SearchWords.{requested, requested_by}
+use Rattle.rt_searchcmd.specs.SearchWords.{requested_by}
 use Rattle.rt_searchcmd.proofs.Words.{parts}
 use Rattle.rt_searchcmd.proofs.request.search_request.Goals as goal
 

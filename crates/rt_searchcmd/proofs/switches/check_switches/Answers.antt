@@ -1,4 +1,4 @@
-use Rattle.std.proofs.Common.{◌≡◌, ◌∙◌, ap, false, map, string_bytes, sym, true, List}
+use Rattle.std.proofs.Common.{◌≡◌, ◌∙◌, ap, map, string_bytes, sym, true, List}
 use Rattle.std.specs.List.{list_all}
 use Rattle.rt_stamps.specs.Outcomes.{unless}
 use Rattle.rt_stamps.specs.Words.{Word}
@@ -19,7 +19,7 @@ returns-else-all_known c =
     let switches : List Word = map (λ w. string_bytes w) c.args.switches.now in
     let k : list_all is_known switches ≡ c.all_known.result = known c.args.switches.now ∙ sym c.all_known.ensures in
     elim c.else-all_known.branch [
-      else-all_known-via-then-all_known+else-overlap_fits w ↦
-        sym (ap (λ check. unless check tt) (unfit switches (k ∙ w.if-all_known.true) (sym w.overlap_fits.ensures ∙ w.if-overlap_fits.false)))
+      | else-all_known-via-then-all_known+else-overlap_fits w ↦
+          sym (ap (λ check. unless check tt) (unfit switches (k ∙ w.if-all_known.true) (sym w.overlap_fits.ensures ∙ w.if-overlap_fits.false)))
       | else-all_known-via-else-all_known w ↦ sym (ap (λ check. unless check tt) (one_unknown switches (k ∙ w.if-all_known.false)))
     ]

@@ -1,4 +1,4 @@
-use Rattle.std.proofs.Common.{◌∙◌, ap, cond, map, string_bytes}
+use Rattle.std.proofs.Common.{◌∙◌, ap, map, string_bytes}
 use Rattle.std.specs.Prelude.{codes}
 use Rattle.rt_searchcmd.specs.declared.request.Wanted.TheVariants.{Each, One}
 use Rattle.rt_searchcmd.specs.SearchWords.{overlaps_of}
