@@ -94,7 +94,8 @@ fn each_found<S: TextStore>(
 ) -> Result<Vec<Position>, Fault>
     requires start { start ≤ length_shown view.now }
     requires stop { IfSome stop (λ place. place ≤ length_shown view.now) }
-    ensures ok { IfOk result (λ found. found.items ≡ map (position_at (text_shown view.now)) (all_matches overlaps search pattern.now (text_shown view.now) start stop)) }
+    ensures ok { IfOk result (λ found. found.items
+        ≡ map (position_at (text_shown view.now)) (all_matches overlaps search pattern.now (text_shown view.now) start stop)) }
     ensures err { IfErr result (λ fault. fault ≡ Fault.NoMemory) }
 {
     let places = find_all(alloc, view.store(), pattern, search, overlaps, start, stop)?;

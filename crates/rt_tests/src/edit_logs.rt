@@ -51,7 +51,12 @@ impl Page {
         Ok(Page { alloc, view })
     }
 
-    pub(crate) fn insert(&mut self, index: &str, pieces: &[Piece], rest: &str) -> Result<(), Fault> {
+    pub(crate) fn insert(
+        &mut self,
+        index: &str,
+        pieces: &[Piece],
+        rest: &str,
+    ) -> Result<(), Fault> {
         self.view.insert(index, pieces, rest)
     }
 

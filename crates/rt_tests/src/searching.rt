@@ -36,12 +36,7 @@ fn gives(rt: &impl Abort, alloc: Global, page: &Page, row: &Row) {
     }
 }
 
-fn all_give(
-    rt: &impl Abort,
-    alloc: Global,
-    text: &str,
-    rows: &[Row],
-) -> Result<(), Fail> {
+fn all_give(rt: &impl Abort, alloc: Global, text: &str, rows: &[Row]) -> Result<(), Fail> {
     let mut page = Page::new(alloc)?;
     page.insert("1.0", &[], text)?;
     for row in rows {
@@ -58,13 +53,19 @@ const TWICE_ABC: &[Row] = &[
     (&["abc", "1.0", "1.2"], Ok(&[(1, 0)])),
     (&["-strictlimits", "abc", "1.0", "1.2"], Ok(&[])),
     (&["-forwards", "-backwards", "abc", "1.0"], Ok(&[(1, 3)])),
-    (&["-backwards", "-exact", "-forwards", "--", "abc", "1.4"], Ok(&[(1, 0)])),
+    (
+        &["-backwards", "-exact", "-forwards", "--", "abc", "1.4"],
+        Ok(&[(1, 0)]),
+    ),
     (&["BC", "1.0"], Ok(&[])),
 ];
 
 const FOUR_AS: &[Row] = &[
     (&["-all", "aa", "1.0"], Ok(&[(1, 0), (1, 2)])),
-    (&["-all", "-overlap", "aa", "1.0"], Ok(&[(1, 0), (1, 1), (1, 2)])),
+    (
+        &["-all", "-overlap", "aa", "1.0"],
+        Ok(&[(1, 0), (1, 1), (1, 2)]),
+    ),
     (&["-all", "-backwards", "aa", "end"], Ok(&[(1, 2), (1, 0)])),
 ];
 
