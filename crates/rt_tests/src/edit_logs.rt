@@ -11,9 +11,9 @@ use std::marker::Model;
 use std::test::Fail;
 
 /// A document of site 1 as a widget shows it. Its calls have no clauses.
-struct Page {
+pub(crate) struct Page {
     alloc: Global,
-    view: View<ListStore>,
+    pub(crate) view: View<ListStore>,
 }
 
 // Written out, so that each way out of a test lets a page go in one step of its proof.
@@ -44,14 +44,19 @@ enum Step<'a> {
 }
 
 impl Page {
-    fn new(alloc: Global) -> Result<Page, Fail> {
+    pub(crate) fn new(alloc: Global) -> Result<Page, Fail> {
         let site = Site::new(1).ok_or("a site")?;
         let store = ListStore::new(alloc)?;
         let view = View::new(alloc, store, site, 100_000)?;
         Ok(Page { alloc, view })
     }
 
-    fn insert(&mut self, index: &str, pieces: &[Piece], rest: &str) -> Result<(), Fault> {
+    pub(crate) fn insert(
+        &mut self,
+        index: &str,
+        pieces: &[Piece],
+        rest: &str,
+    ) -> Result<(), Fault> {
         self.view.insert(index, pieces, rest)
     }
 
@@ -85,7 +90,7 @@ impl Page {
     }
 }
 
-fn words(alloc: Global, words: &[&str]) -> Result<Vec<String>, Fault> {
+pub(crate) fn words(alloc: Global, words: &[&str]) -> Result<Vec<String>, Fault> {
     let mut all = Vec::new(alloc);
     for word in words {
         all.push(String::from_str(alloc, word)?)?;

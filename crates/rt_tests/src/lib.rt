@@ -17,6 +17,8 @@ mod rga_orders;
 #[cfg(test)]
 mod rga_sites;
 #[cfg(test)]
+mod searching;
+#[cfg(test)]
 mod show;
 #[cfg(test)]
 mod store;

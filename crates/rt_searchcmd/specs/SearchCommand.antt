@@ -1,0 +1,39 @@
+-- What `search` answers (Tk text manual, "search"): of the places where the pattern stands, the first, or all of them.
+use Rattle.std.specs.Prelude.{ℕ, List, [], ◌∷◌, ◌++◌, map, Option, Some, None, option_map, option_to_list, Result}
+use Rattle.std.specs.Str.{chars}
+use Rattle.rt_search.specs.declared.search.Search.{Search}
+use Rattle.rt_search.specs.Searches.{all_matches, first_match}
+use Rattle.rt_searchcmd.specs.declared.request.Wanted.{Wanted}
+use Rattle.rt_searchcmd.specs.declared.request.Wanted.TheVariants.{One, Each}
+use Rattle.rt_searchcmd.specs.SearchWords.{Asked}
+use Rattle.rt_stamps.specs.declared.fault.Fault.{Fault}
+use Rattle.rt_stamps.specs.declared.fault.Fault.TheVariants.{EmptyPattern}
+use Rattle.rt_stamps.specs.declared.position.Position.{Position}
+use Rattle.rt_stamps.specs.Outcomes.{first_of, unless}
+use Rattle.rt_stamps.specs.Places.{position_at}
+use Rattle.rt_stamps.specs.Words.{Word}
+use Rattle.rt_text.specs.Index.{index_check, place_at_index}
+use Rattle.rt_text.specs.Widgets.{Viewed, text_shown, widget_of}
+
+-- nothing can't be searched for
+abbrev pub pattern_check : Word → Option Fault
+pattern_check [] = Some EmptyPattern
+pattern_check (c ∷ pattern) = None
+
+-- the indices of a search, and its pattern
+abbrev pub search_check : Viewed → Asked → Option Fault
+search_check view asked = first_of (map (index_check (widget_of view)) (asked.start ∷ option_to_list asked.stop) ++ pattern_check asked.pattern ∷ [])
+
+-- the places that are wanted of those where a pattern stands in a text, from a start on, and up to a stop where there is one
+abbrev pub places_wanted : Wanted → Search → List ℕ → List ℕ → ℕ → Option ℕ → List ℕ
+places_wanted One search pattern text start stop = option_to_list (first_match search pattern text start stop)
+places_wanted (Each overlaps) search pattern text start stop = all_matches overlaps search pattern text start stop
+
+abbrev pub places_found : Viewed → Asked → List ℕ
+places_found view asked =
+    let w = widget_of view in
+    places_wanted asked.wanted asked.search (chars asked.pattern) (text_shown view) (place_at_index w asked.start) (option_map (place_at_index w) asked.stop)
+
+-- the lines and characters where the pattern stands
+abbrev pub searched : Viewed → Asked → Result (List Position) Fault
+searched view asked = unless (search_check view asked) (map (position_at (text_shown view)) (places_found view asked))

@@ -1,0 +1,141 @@
+// What a search answers.
+ghost use Rattle.std.specs.Prelude.{◌≡◌, ◌⊎◌, ◌<◌, ◌≤◌, All, Ok, None, Some, IfOk, IfErr, IfSome, length, map, option_copied, option_map, option_to_list};
+ghost use Rattle.std.specs.Str.{chars};
+ghost use Rattle.rt_search.specs.Searches.{all_matches, first_match};
+ghost use Rattle.rt_searchcmd.specs.SearchCommand.{searched};
+ghost use Rattle.rt_stamps.specs.Outcomes.{Refuses, first_of};
+ghost use Rattle.rt_stamps.specs.Places.{position_at};
+ghost use Rattle.rt_text.specs.Index.{index_check, place_at_index};
+ghost use Rattle.rt_text.specs.Widgets.{length_shown, text_shown, widget_of};
+
+use crate::request::{SearchRequest, Wanted};
+use rt_search::{Direction, Overlaps, Search, find_all, find_first, positions};
+use rt_stamps::{Fault, Position};
+use rt_store::TextStore;
+use rt_text::View;
+use std::alloc::Global;
+
+/// The characters of a pattern.
+fn characters_of(alloc: Global, pattern: &str) -> Result<Vec<char>, Fault>
+    ensures ok { IfOk result (λ all. all.items ≡ chars pattern.now) }
+    ensures err { IfErr result (λ fault. fault ≡ Fault.NoMemory) }
+{
+    let all: Vec<char> = pattern.chars().collect(alloc)?;
+    Ok(all)
+}
+
+/// The place of an index, if there is one.
+fn stop_of<S: TextStore>(view: &View<S>, stop: Option<&str>) -> Result<Option<usize>, Fault>
+    ensures ok { IfOk result (λ place. place ≡ option_map (place_at_index (widget_of view.now)) (option_copied stop.entry)) }
+    ensures checked { IfOk result (λ place. first_of (map (index_check (widget_of view.now)) (option_to_list (option_copied stop.entry))) ≡ None) }
+    ensures within { IfOk result (λ place. IfSome place (λ p. p ≤ length_shown view.now)) }
+    ensures err { IfErr result (λ fault. (fault ≡ Fault.NoMemory)
+        ⊎ (first_of (map (index_check (widget_of view.now)) (option_to_list (option_copied stop.entry))) ≡ Some fault)) }
+{
+    match stop {
+        Some(index) => Ok(Some(view.place(index)?)),
+        None => Ok(None),
+    }
+}
+
+/// The line and the character of the first match, if there is one.
+fn one_found<S: TextStore>(
+    alloc: Global,
+    view: &View<S>,
+    pattern: &[char],
+    search: Search,
+    start: usize,
+    stop: Option<usize>,
+) -> Result<Vec<Position>, Fault>
+    requires start { start ≤ length_shown view.now }
+    requires stop { IfSome stop (λ place. place ≤ length_shown view.now) }
+    ensures ok { IfOk result (λ found. found.items
+        ≡ map (position_at (text_shown view.now)) (option_to_list (first_match search pattern.now (text_shown view.now) start stop))) }
+    ensures err { IfErr result (λ fault. fault ≡ Fault.NoMemory) }
+{
+    let mut found = Vec::new(alloc);
+    if let Some(place) = find_first(view.store(), pattern, search, start, stop) {
+        found.push(view.position(place))?;
+    }
+    Ok(found)
+}
+
+/// The lines and characters of places, which mostly rise, or mostly fall.
+fn positions_along<S: TextStore>(
+    alloc: Global,
+    view: &View<S>,
+    direction: Direction,
+    mut places: Vec<usize>,
+) -> Result<Vec<Position>, Fault>
+    requires { All (λ place. place < length_shown view.now) places.items }
+    ensures ok { IfOk result (λ found. found.items ≡ map (position_at (text_shown view.now)) places.items) }
+    ensures err { IfErr result (λ fault. fault ≡ Fault.NoMemory) }
+{
+    match direction {
+        Direction::Forwards => positions(alloc, view.store(), &places),
+        Direction::Backwards => {
+            places.reverse();
+            let mut found = positions(alloc, view.store(), &places)?;
+            found.reverse();
+            Ok(found)
+        }
+    }
+}
+
+/// The lines and characters of all matches.
+fn each_found<S: TextStore>(
+    alloc: Global,
+    view: &View<S>,
+    pattern: &[char],
+    search: Search,
+    overlaps: Overlaps,
+    start: usize,
+    stop: Option<usize>,
+) -> Result<Vec<Position>, Fault>
+    requires start { start ≤ length_shown view.now }
+    requires stop { IfSome stop (λ place. place ≤ length_shown view.now) }
+    ensures ok { IfOk result (λ found. found.items
+        ≡ map (position_at (text_shown view.now)) (all_matches overlaps search pattern.now (text_shown view.now) start stop)) }
+    ensures err { IfErr result (λ fault. fault ≡ Fault.NoMemory) }
+{
+    let places = find_all(alloc, view.store(), pattern, search, overlaps, start, stop)?;
+    positions_along(alloc, view, search.direction, places)
+}
+
+/// `search ?SWITCH ...? PATTERN INDEX ?STOPINDEX?` (Tk text manual, "search"), by what its words ask for: where the
+/// pattern stands, as lines and characters. Without `-all` that is at most one place: forwards the least of the first
+/// stretch that has one, backwards the greatest. With `-all` they are all places, stretch after stretch, rising when
+/// forwards and falling when backwards. `BadIndex`, `NoneTagged`, then `EmptyPattern`, or want of memory.
+pub fn search<S: TextStore>(
+    alloc: Global,
+    view: &View<S>,
+    request: SearchRequest,
+) -> Result<Vec<Position>, Fault>
+    ensures ok { IfOk result (λ found. searched view.now (record {
+      search = request.entry.search;
+      wanted = request.entry.wanted;
+      pattern = request.entry.pattern.now;
+      start = request.entry.start.now;
+      stop = option_copied request.entry.stop;
+    }) ≡ Ok found.items) }
+    ensures err { IfErr result (Refuses (searched view.now (record {
+      search = request.entry.search;
+      wanted = request.entry.wanted;
+      pattern = request.entry.pattern.now;
+      start = request.entry.start.now;
+      stop = option_copied request.entry.stop;
+    }))) }
+{
+    let start = view.place(request.start)?;
+    let stop = stop_of(view, request.stop)?;
+    if request.pattern.is_empty() {
+        return Err(Fault::EmptyPattern);
+    }
+    let pattern = characters_of(alloc, request.pattern)?;
+    match request.wanted {
+        Wanted::One => one_found(alloc, view, &pattern, request.search, start, stop),
+        Wanted::Each(overlaps) => {
+            each_found(alloc, view, &pattern, request.search, overlaps, start, stop)
+        }
+    }
+}
