@@ -374,6 +374,33 @@ fn a_text_of_two_operations(rt: HostRuntime) -> Result<(), Fail> {
         text.push('x')?;
     }
     let insert = format!(in alloc; ".t insert 1.0 {text}")?;
+    let taken = String::from_str(alloc, "=")?;
+    let typed = [(insert.as_str(), taken.as_str())];
+    let received = [
+        ("receive long", "= 2 0"),
+        (".t index 1.end", "= 1.65536"),
+        (".t get 1.65535 1.end", "= x"),
+        ("receive long", "= 0 2"),
+    ];
+    let file = session(&rt, alloc, 1, &[], &[&typed])?;
+    assert_eq!(rt; file.as_slice(), INSERT_AB);
+    let file = session(&rt, alloc, 1, &[], &[&typed, &deleted])?;
+    assert_eq!(rt; file.as_slice(), DELETE_SECOND);
+    let file = session(&rt, alloc, 1, &[], &[])?;
+    assert_eq!(rt; file.as_slice(), b"RGATEXT1".as_slice());
+    Ok(())
+}
+
+// A second site receives a text of 65,536 characters: two operations, since an Insert has at most
+// 65,535.
+#[test]
+fn a_text_of_two_operations(rt: HostRuntime) -> Result<(), Fail> {
+    let alloc = rt.alloc();
+    let mut text = String::new(alloc);
+    for _ in 0..65_536usize {
+        text.push('x')?;
+    }
+    let insert = format!(in alloc; ".t insert 1.0 {text}")?;
     let shown = format!(in alloc; "= {text}")?;
     let typed = [(insert.as_str(), "=")];
     let received = [

@@ -30,13 +30,13 @@ pub returns-in-Err-feed : goal.returns-in-Err-feed
 returns-in-Err-feed g c =
     let e = c.in-Ok.ensures in
     rw (c.stopped-in-Err-feed.ensures.site, c.stopped-in-Err-feed.ensures.fault)
-    (ends_stopped _ _ _ _ _ _ _ _ _ _ _ c.in-Ok.n c.read_piece.new.buf _ _ c.in-Err-feed.fault c.loop.invariant.goes c.loop-test.true e.bytes.0 e.within (e.bounded (omega arith)) e.calls e.failures c.in-Err-feed.ensures.ran)
+    (ends_stopped _ _ _ _ _ _ _ _ _ _ _ c.in-Ok.n c.read_piece.new.buf _ _ c.in-Err-feed.fault c.loop.invariant.goes c.loop-test.true e.bytes.0 e.within (omega (arith, e.bounded)) e.calls e.failures c.in-Err-feed.ensures.ran)
 
 pub loop-preserved : goal.loop-preserved
 loop-preserved g c =
     let e = c.in-Ok.ensures in
     record {
-      goes = goes_more _ _ _ _ _ _ _ _ _ _ _ _ c.in-Ok.n c.read_piece.new.buf _ _ c.loop.invariant.goes e.bytes.0 e.within (e.bounded (omega arith)) c.if-n-eq0.false e.calls e.failures c.in-Ok-feed.ensures.ran c.in-Ok-feed.ensures.rest;
+      goes = goes_more _ _ _ _ _ _ _ _ _ _ _ _ c.in-Ok.n c.read_piece.new.buf _ _ c.loop.invariant.goes e.bytes.0 e.within (omega (arith, e.bounded)) c.if-n-eq0.false e.calls e.failures c.in-Ok-feed.ensures.ran c.in-Ok-feed.ensures.rest;
       buffer = c.read_piece.auto.buf ∙ c.loop.invariant.buffer;
     }
 
