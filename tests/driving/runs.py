@@ -26,7 +26,12 @@ def outs_of_runs():
             check(f"--out after {name}", (err, status, contents("out")), ("", 0, want))
             check(f"files after {name}", "out" in os.listdir(".") and len(os.listdir(".")), len(FILES) + 2)
         remove("out")
-    check("a long insertion is two records", len(HEAD + insert(1, 1, 0, (0, 0), b"a" * 65535) + insert(65536, 1, 65535, (65535, 1), b"a")), 65612)
+    two = HEAD + insert(1, 1, 0, (0, 0), b"a" * 65535) + insert(65536, 1, 65535, (65535, 1), b"a")
+    put("long", two)
+    asks = ["receive long", ".t get 1.0 1.end", ".t index 1.end", "receive long"]
+    check("a text of two operations is received", ran(asks, "--site", "2", "long"), (["= 2 0", "= " + long, "= 1.65536", "= 0 2"], "", 0))
+    remove("long")
+    check("a long insertion is two records", len(two), 65612)
 
 
 def logs_of_runs():

@@ -364,53 +364,31 @@ fn files_of_logs(rt: HostRuntime) -> Result<(), Fail> {
     Ok(())
 }
 
-// A second site receives a text of 65,536 characters: two operations, since an Insert has at most
-// 65,535.
+// The file of a site that typed 65,536 times `x`: up to the characters of its first Insert, which
+// are 65,535, and what follows them.
+const BEFORE_LONG: &[u8] =
+    b"RGATEXT1\0\x01\0\x1d\x01\0\0\0\0\0\0\0\x01\0\x01\0\0\0\0\0\0\0\0\0\0\0\0\0\0\0\0\0\0\0";
+
+const AFTER_LONG: &[u8] =
+    b"\0\0\0\x1f\x01\0\0\0\0\0\x01\0\0\0\x01\0\0\0\0\0\0\xff\xff\0\0\0\0\0\0\xff\xff\0\x01\0x";
+
+// A second site receives a text of two operations.
 #[test]
 fn a_text_of_two_operations(rt: HostRuntime) -> Result<(), Fail> {
     let alloc = rt.alloc();
-    let mut text = String::new(alloc);
-    for _ in 0..65_536usize {
-        text.push('x')?;
+    let mut file = Vec::new(alloc);
+    file.extend_from_slice(BEFORE_LONG)?;
+    for _ in 0..65_535usize {
+        file.push(b'x')?;
     }
-    let insert = format!(in alloc; ".t insert 1.0 {text}")?;
-    let taken = String::from_str(alloc, "=")?;
-    let typed = [(insert.as_str(), taken.as_str())];
+    file.extend_from_slice(AFTER_LONG)?;
+    assert_eq!(rt; file.len(), 65_612);
     let received = [
         ("receive long", "= 2 0"),
         (".t index 1.end", "= 1.65536"),
         (".t get 1.65535 1.end", "= x"),
         ("receive long", "= 0 2"),
     ];
-    let file = session(&rt, alloc, 1, &[], &[&typed])?;
-    assert_eq!(rt; file.as_slice(), INSERT_AB);
-    let file = session(&rt, alloc, 1, &[], &[&typed, &deleted])?;
-    assert_eq!(rt; file.as_slice(), DELETE_SECOND);
-    let file = session(&rt, alloc, 1, &[], &[])?;
-    assert_eq!(rt; file.as_slice(), b"RGATEXT1".as_slice());
-    Ok(())
-}
-
-// A second site receives a text of 65,536 characters: two operations, since an Insert has at most
-// 65,535.
-#[test]
-fn a_text_of_two_operations(rt: HostRuntime) -> Result<(), Fail> {
-    let alloc = rt.alloc();
-    let mut text = String::new(alloc);
-    for _ in 0..65_536usize {
-        text.push('x')?;
-    }
-    let insert = format!(in alloc; ".t insert 1.0 {text}")?;
-    let shown = format!(in alloc; "= {text}")?;
-    let typed = [(insert.as_str(), "=")];
-    let received = [
-        ("receive long", "= 2 0"),
-        (".t get 1.0 1.end", shown.as_str()),
-        (".t index 1.end", "= 1.65536"),
-        ("receive long", "= 0 2"),
-    ];
-    let file = session(&rt, alloc, 1, &[], &[&typed])?;
-    assert_eq!(rt; file.len(), 65_612);
     let equal = session(&rt, alloc, 2, &[("long", &file)], &[&received])?;
     assert_eq!(rt; equal.as_slice(), file.as_slice());
     Ok(())
