@@ -3,6 +3,7 @@
 
 pub mod comparison;
 mod editing;
+pub mod kinds;
 pub mod laws;
 mod marking;
 pub mod measure;
@@ -13,6 +14,7 @@ pub mod texts;
 pub mod word;
 
 pub use comparison::Comparison;
+pub use kinds::Kinds;
 pub use measure::{Measure, Measures};
 pub use request::{MarkRequest, Request, TagRequest};
 pub use texts::{Piece, Texts};
