@@ -44,3 +44,20 @@ tagged_gone = record (new_flat 1 99) { cells = gone (at 1 1) 97 only_t ∷ shown
 
 abbrev pub tagged_removed : Action (List Word)
 tagged_removed = record { number = 2; kind = Delete; inserted = []; removed = record { stamp = at 1 1; tags = only_t } ∷ [] }
+
+-- Site 1 typed `abc`, and site 2 removed the `b`; then site 2 undid that.
+abbrev pub without_b : Flat
+without_b = record (new_flat 1 99) {
+  cells = shown (at 1 1) 97 [] ∷ gone (at 2 1) 98 [] ∷ shown (at 3 1) 99 [] ∷ shown FINAL 10 [] ∷ [];
+  count = 4;
+}
+
+abbrev pub with_b_again : Flat
+with_b_again = record (new_flat 1 99) {
+  cells = shown (at 1 1) 97 [] ∷ gone (at 2 1) 98 [] ∷ shown (at 5 2) 98 [] ∷ shown (at 3 1) 99 [] ∷ shown FINAL 10 [] ∷ [];
+  count = 5;
+}
+
+-- the insertion of `abc`, as a group
+abbrev pub abc_typed : List (Action (List Word))
+abc_typed = record { number = 1; kind = Insert; inserted = at 1 1 ∷ at 2 1 ∷ at 3 1 ∷ []; removed = [] } ∷ []
