@@ -1,0 +1,6 @@
+pub mod CellCounts
+pub mod Endings
+pub mod Scalars
+pub mod Stamps
+pub mod Steps
+pub mod TakenBack
