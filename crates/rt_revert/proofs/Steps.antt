@@ -1,5 +1,5 @@
 -- A group is reverted in a history: step by step, the operations so far make it larger, and the document is that of its cells.
-use Rattle.std.proofs.Common.{◌≡◌, ℕ, ◌+◌, ◌<◌, ◌≤◌, Bool, true, false, List, [], ◌∷◌, ◌||◌, map, refl, sym, ◌∙◌, ap, subst, arith, Option, Some, None}
+use Rattle.std.proofs.Common.{◌≡◌, ℕ, ◌+◌, ◌<◌, ◌≤◌, Bool, true, false, List, [], ◌∷◌, ◌||◌, length, map, refl, sym, ◌∙◌, ap, subst, arith, Option, Some, None}
 use Rattle.std.specs.Prelude.{option_map, reverse, unwrap_or}
 use Rattle.std.proofs.lemmas.Bool.{or_left}
 use mathlib.Core.List.{reverse-cons}
@@ -31,10 +31,11 @@ use Rattle.rt_edits.specs.RemovalDrafts.{removal_drafts}
 use Rattle.rt_edits.proofs.InsertRules.{text_is_counted, text_is_made, text_may}
 use Rattle.rt_edits.proofs.RemovalDraftLaws.{removal_made, removal_may}
 use Rattle.rt_undo.specs.Actions.{Action, Removed}
-use Rattle.rt_revert.specs.Reverting.{Reversion, are_at, as_it_is, next_in, reversion, stamp_after, with_character, with_copy, with_each_reverted, with_gone, with_return, with_returns, with_reverted}
+use Rattle.rt_revert.specs.Reverting.{Reversion, are_at, as_it_is, next_in, reversion, reverted_group, since, stamp_after, still_visible, with_character, with_copy, with_each_reverted, with_gone, with_return, with_returns, with_reverted}
 use Rattle.rt_revert.specs.ReversionLaws.{AreSound, IsSound, MayReturn}
 use Rattle.rt_revert.proofs.Endings.{spares_final}
 use Rattle.rt_revert.proofs.Scalars.{HasScalar, cells_have_scalars}
+use Rattle.rt_revert.proofs.Soundness.{group_renamed, names_of_cells, since_apart, went_sound}
 use Rattle.rt_revert.proofs.Stamps.{IsApart, after_apart, all_apart, found, site_apart}
 
 -- what holds of a reversion on its way
@@ -43,6 +44,7 @@ pub record IsOnWay (site : ℕ) (log : List Operation) (r : Reversion) : Type 0 
   pub history : IsHistory (with_drafts site r.drafts log)
   pub document : IsDocument site (with_drafts site r.drafts log) r.doc
   pub apart : AllByRecursion IsApart r.returns
+  pub sound : AreSound r.actions
 
 -- CHARACTERS THAT GO
 
@@ -60,6 +62,7 @@ gone_step site log stamps r p h n l =
       history = subst IsHistory all larger.history;
       document = subst (λ ops. IsDocument site ops (without_places r.doc places)) all larger.document;
       apart = h.apart;
+      sound = h.sound;
     }
 
 -- CHARACTERS THAT COME BACK
@@ -105,6 +108,7 @@ character_step site log stamp tags cell r p h n t e l =
       history = subst IsHistory all put.history;
       document = subst (λ ops. IsDocument site ops (with_copy r.doc stamp tags cell.ch)) all document;
       apart = every_append IsApart r.returns (record { former = stamp; newer = next_in r.doc } ∷ []) h.apart (site_apart (next_in r.doc) (omega (arith, doc.site, p)), tt);
+      sound = h.sound;
     }
   where
     other : (a b : Bool) → b ≡ false → (a || b) ≡ true → a ≡ true
@@ -171,9 +175,14 @@ action_step site log action r p h c l =
     let stamps = map (stamp_after r.returns) action.inserted in
     let left = with_gone stamps r in
     let few : left.doc.count ≤ GREATEST_COUNT = omega (arith, returns_grow action.removed left, l) in
-    let gone = gone_step site log stamps r p h (all_apart r.returns action.inserted h.apart c.inserted) few in
+    let apart = all_apart r.returns action.inserted h.apart c.inserted in
+    let gone = gone_step site log stamps r p h apart few in
     let back = returns_step site log action.removed left p gone c.removed l in
-    record { may = back.may; history = back.history; document = back.document; apart = back.apart }
+    let all = with_returns action.removed left in
+    let names = names_of_cells (with_drafts site r.drafts log) r.doc.cells h.history h.document.cells in
+    let new : Action (List Word) = record { number = action.number; kind = action.kind; inserted = since r all; removed = still_visible stamps r.doc.cells } in
+    let fine : IsSound new = record { inserted = since_apart (length r.returns) all.returns back.apart; removed = went_sound stamps r.doc.cells apart names } in
+    record { may = back.may; history = back.history; document = back.document; apart = back.apart; sound = every_append IsSound r.actions (new ∷ []) h.sound (fine, tt) }
 
 all_steps : (site : ℕ) (log : List Operation) (actions : List (Action (List Word))) (r : Reversion) → 0 < site → IsOnWay site log r → AreSound actions
     → (with_each_reverted actions r).doc.count ≤ GREATEST_COUNT → IsOnWay site log (with_each_reverted actions r)
@@ -192,7 +201,7 @@ all_reversed P (x ∷ xs) h = subst (AllByRecursion P) (sym (reverse-cons x xs))
 on_way : (site : ℕ) (log : List Operation) (flat : Flat) (group : List (Action (List Word))) → 0 < site → IsHistory log → IsDocument site log flat → AreSound group
     → (reversion flat group).doc.count ≤ GREATEST_COUNT → IsOnWay site log (reversion flat group)
 on_way site log flat group p h doc s l =
-    all_steps site log (reverse group) (as_it_is flat) p (record { may = tt; history = h; document = doc; apart = tt }) (all_reversed IsSound group s) l
+    all_steps site log (reverse group) (as_it_is flat) p (record { may = tt; history = h; document = doc; apart = tt; sound = tt }) (all_reversed IsSound group s) l
 
 pub reversion_may : (site : ℕ) (log : List Operation) (flat : Flat) (group : List (Action (List Word))) → 0 < site → IsHistory log → IsDocument site log flat → AreSound group
     → (reversion flat group).doc.count ≤ GREATEST_COUNT → MayBeMade site log (reversion flat group).drafts
@@ -201,3 +210,9 @@ reversion_may site log flat group p h doc s l = (on_way site log flat group p h 
 pub reversion_made : (site : ℕ) (log : List Operation) (flat : Flat) (group : List (Action (List Word))) → 0 < site → IsHistory log → IsDocument site log flat → AreSound group
     → (reversion flat group).doc.count ≤ GREATEST_COUNT → IsDocument site (with_drafts site (reversion flat group).drafts log) (reversion flat group).doc
 reversion_made site log flat group p h doc s l = (on_way site log flat group p h doc s l).document
+
+pub reversion_sound : (site : ℕ) (log : List Operation) (flat : Flat) (group : List (Action (List Word))) → 0 < site → IsHistory log → IsDocument site log flat → AreSound group
+    → (reversion flat group).doc.count ≤ GREATEST_COUNT → AreSound (reverted_group flat group)
+reversion_sound site log flat group p h doc s l =
+    let w = on_way site log flat group p h doc s l in
+    group_renamed (reversion flat group).returns (reversion flat group).actions w.apart w.sound

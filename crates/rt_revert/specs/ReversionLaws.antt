@@ -13,7 +13,7 @@ use Rattle.rt_rga.specs.Requests.{MayBeMade, characters_in_all}
 use Rattle.rt_edits.specs.DraftLaws.{AreTagNames, IsDocument}
 use Rattle.rt_edits.specs.Flat.{Flat}
 use Rattle.rt_undo.specs.Actions.{Action, Removed}
-use Rattle.rt_revert.specs.Reverting.{reversion}
+use Rattle.rt_revert.specs.Reverting.{reversion, reverted_group}
 
 -- a removed character isn't the final newline, and its tags are names as an operation lists them
 pub record MayReturn (removed : Removed (List Word)) : Type 0 where
@@ -46,3 +46,9 @@ abbrev pub ReversionHasNewCells : Type 0
 ReversionHasNewCells =
     (flat : Flat) (group : List (Action (List Word)))
     → length flat.cells + characters_in_all (reversion flat group).drafts ≡ length (reversion flat group).doc.cells
+
+-- What is asked of a group holds of the one for the other stack.
+abbrev pub ReversionIsSound : Type 0
+ReversionIsSound =
+    (site : ℕ) (log : List Operation) (flat : Flat) (group : List (Action (List Word))) → 0 < site → IsHistory log → IsDocument site log flat
+    → AreSound group → (reversion flat group).doc.count ≤ GREATEST_COUNT → AreSound (reverted_group flat group)
