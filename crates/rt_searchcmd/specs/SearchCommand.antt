@@ -32,7 +32,8 @@ places_wanted (Each overlaps) search pattern text start stop = all_matches overl
 abbrev pub places_found : Viewed → SearchRequest → List ℕ
 places_found view request =
     let w = widget_of view in
-    places_wanted request.wanted request.search (chars request.pattern) (text_shown view) (place_at_index w request.start) (option_map (place_at_index w) request.stop)
+    places_wanted request.wanted request.search (chars request.pattern) (text_shown view)
+    (place_at_index w request.start) (option_map (place_at_index w) request.stop)
 
 -- the lines and characters where the pattern stands
 abbrev pub searched : Viewed → SearchRequest → Result (List Position) Fault

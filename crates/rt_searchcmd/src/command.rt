@@ -24,6 +24,16 @@ fn characters_of(alloc: Global, pattern: &str) -> Result<Vec<char>, Fault>
     Ok(all)
 }
 
+/// The place of an index.
+fn place_of<S: TextStore>(view: &View<S>, index: &Word<'_>) -> Result<usize, Fault>
+    ensures ok { IfOk result (λ place. place ≡ place_at_index (widget_of view.now) index.now) }
+    ensures checked { IfOk result (λ place. index_check (widget_of view.now) index.now ≡ None) }
+    ensures within { IfOk result (λ place. place ≤ length_shown view.now) }
+    ensures err { IfErr result (λ fault. (fault ≡ Fault.NoMemory) ⊎ (index_check (widget_of view.now) index.now ≡ Some fault)) }
+{
+    view.place(index.text())
+}
+
 /// The place of an index, if there is one.
 fn stop_of<S: TextStore>(view: &View<S>, stop: &Option<Word<'_>>) -> Result<Option<usize>, Fault>
     ensures ok { IfOk result (λ place. place ≡ option_map (place_at_index (widget_of view.now)) stop.now) }
@@ -33,7 +43,7 @@ fn stop_of<S: TextStore>(view: &View<S>, stop: &Option<Word<'_>>) -> Result<Opti
         ⊎ (first_of (map (index_check (widget_of view.now)) (option_to_list stop.now)) ≡ Some fault)) }
 {
     match stop {
-        Some(index) => Ok(Some(view.place(index.text())?)),
+        Some(index) => Ok(Some(place_of(view, index)?)),
         None => Ok(None),
     }
 }
@@ -114,7 +124,7 @@ pub fn search<S: TextStore>(
     ensures ok { IfOk result (λ found. searched view.now request.now ≡ Ok found.items) }
     ensures err { IfErr result (Refuses (searched view.now request.now)) }
 {
-    let start = view.place(request.start.text())?;
+    let start = place_of(view, &request.start)?;
     let stop = stop_of(view, &request.stop)?;
     let pattern = request.pattern.text();
     if pattern.is_empty() {
