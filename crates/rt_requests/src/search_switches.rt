@@ -1,30 +1,15 @@
 // The switches of a search.
-ghost use Rattle.std.specs.Prelude.{◌≡◌, ◌≤◌, fold, length, map, string_bytes};
-ghost use Rattle.std.specs.List.{list_all, list_any, prefix_len};
-ghost use Rattle.std.specs.Str.{bytes_eq};
-ghost use Rattle.rt_searchcmd.specs.SearchWords.{case_of, is_known, is_switch, limits_of, overlap_fits, overlaps_of, search_of, switch_check, turned, wanted_of};
+ghost use Rattle.std.specs.Prelude.{◌≡◌, map, string_bytes};
+ghost use Rattle.std.specs.List.{list_all};
+ghost use Rattle.rt_requests.specs.SearchWords.{case_of, direction_of, is_known, limits_of, overlap_fits, overlaps_of, search_of, switch_check, turned, wanted_of};
 ghost use Rattle.rt_stamps.specs.Outcomes.{unless};
 
 use crate::request::Wanted;
+use crate::switches::has;
 use rt_search::{Case, Direction, Limits, Overlaps, Search};
 use rt_stamps::Fault;
 
-/// Whether a word is a switch.
-fn is_switch(word: &str) -> bool
-    ensures { result ≡ is_switch word.now }
-{
-    word.as_bytes().first() == Some(&b'-') && word != "--"
-}
-
-/// How many switches some words begin with.
-pub(crate) fn switches_len(words: &[String]) -> usize
-    ensures value { result ≡ prefix_len (λ w. is_switch (string_bytes w)) words.now }
-    ensures within { result ≤ length words.now }
-{
-    words.iter().take_while(|word| is_switch(word)).count()
-}
-
-/// Whether a search has such a switch.
+// Whether a search has such a switch.
 fn is_known(switch: &str) -> bool
     ensures { result ≡ is_known switch.now }
 {
@@ -34,14 +19,7 @@ fn is_known(switch: &str) -> bool
     )
 }
 
-/// Whether a switch is given.
-fn has(switches: &[String], name: &str) -> bool
-    ensures { result ≡ list_any (λ w. bytes_eq (string_bytes w) name.now) switches.now }
-{
-    switches.iter().any(|switch| switch.as_str() == name)
-}
-
-/// The way that a switch names, and else the way that it was.
+// The way that a switch names, and else the way that it was.
 fn turned(direction: Direction, switch: &str) -> Direction
     ensures { result ≡ turned direction switch.now }
 {
@@ -52,9 +30,9 @@ fn turned(direction: Direction, switch: &str) -> Direction
     }
 }
 
-/// The way that switches ask to go: of several the last one counts.
+// The way that switches ask to go: of several the last one counts.
 fn direction_of(switches: &[String]) -> Direction
-    ensures { result ≡ fold (λ direction w. turned direction (string_bytes w)) Direction.Forwards switches.now }
+    ensures { result ≡ direction_of (map (λ w. string_bytes w) switches.now) }
 {
     switches.iter().fold(
         Direction::Forwards,
@@ -62,21 +40,28 @@ fn direction_of(switches: &[String]) -> Direction
     )
 }
 
-/// Whether a search has each of some switches.
+// Whether a search has each of some switches.
 fn all_known(switches: &[String]) -> bool
+    ensures { result ≡ list_all is_known (map (λ w. string_bytes w) switches.now) }
+{
+    are_known(switches)
+}
+
+// The same, of the strings themselves.
+fn are_known(switches: &[String]) -> bool
     ensures { result ≡ list_all (λ w. is_known (string_bytes w)) switches.now }
 {
     switches.iter().all(|switch| is_known(switch))
 }
 
-/// Whether `-overlap` is given with `-all` alone.
+// Whether `-overlap` is given with `-all` alone.
 fn overlap_fits(switches: &[String]) -> bool
     ensures { result ≡ overlap_fits (map (λ w. string_bytes w) switches.now) }
 {
     has(switches, "-all") || !has(switches, "-overlap")
 }
 
-/// Refuses switches of which one is unknown, and `-overlap` without `-all`.
+// Refuses switches of which one is unknown, and `-overlap` without `-all`.
 pub(crate) fn check_switches(switches: &[String]) -> Result<(), Fault>
     ensures { result ≡ unless (switch_check (map (λ w. string_bytes w) switches.now)) tt }
 {
@@ -87,7 +72,7 @@ pub(crate) fn check_switches(switches: &[String]) -> Result<(), Fault>
     }
 }
 
-/// Which characters count as the same.
+// Which characters count as the same.
 fn case_of(switches: &[String]) -> Case
     ensures { result ≡ case_of (map (λ w. string_bytes w) switches.now) }
 {
@@ -98,7 +83,7 @@ fn case_of(switches: &[String]) -> Case
     }
 }
 
-/// What of a match must lie in the stretch that is searched.
+// What of a match must lie in the stretch that is searched.
 fn limits_of(switches: &[String]) -> Limits
     ensures { result ≡ limits_of (map (λ w. string_bytes w) switches.now) }
 {
@@ -109,7 +94,7 @@ fn limits_of(switches: &[String]) -> Limits
     }
 }
 
-/// What becomes of matches that overlap.
+// What becomes of matches that overlap.
 fn overlaps_of(switches: &[String]) -> Overlaps
     ensures { result ≡ overlaps_of (map (λ w. string_bytes w) switches.now) }
 {
@@ -120,7 +105,7 @@ fn overlaps_of(switches: &[String]) -> Overlaps
     }
 }
 
-/// How switches ask to search.
+// How switches ask to search.
 pub(crate) fn search_of(switches: &[String]) -> Search
     ensures { result ≡ search_of (map (λ w. string_bytes w) switches.now) }
 {
@@ -131,7 +116,7 @@ pub(crate) fn search_of(switches: &[String]) -> Search
     }
 }
 
-/// Which matches switches ask for.
+// Which matches switches ask for.
 pub(crate) fn wanted_of(switches: &[String]) -> Wanted
     ensures { result ≡ wanted_of (map (λ w. string_bytes w) switches.now) }
 {

@@ -2,7 +2,6 @@
 use Rattle.std.specs.Prelude.{◌&&◌, ◌||◌, not, Bool, List, [], ◌∷◌, take, drop, fold, Option, Some, None, Result, Err, codes, if◌then◌else◌}
 use Rattle.std.specs.List.{list_all, list_any, prefix_len}
 use Rattle.std.specs.Str.{bytes_eq}
-use Rattle.std.specs.Str.Parse.{starts_with_minus}
 use Rattle.rt_search.specs.declared.search.Case.{Case}
 use Rattle.rt_search.specs.declared.search.Case.TheVariants.{Exact, Ignored}
 use Rattle.rt_search.specs.declared.search.Direction.{Direction}
@@ -12,45 +11,27 @@ use Rattle.rt_search.specs.declared.search.Limits.TheVariants.{First, Strict}
 use Rattle.rt_search.specs.declared.search.Overlaps.{Overlaps}
 use Rattle.rt_search.specs.declared.search.Overlaps.TheVariants.{PassedOver, Taken}
 use Rattle.rt_search.specs.declared.search.Search.{Search}
-use Rattle.rt_searchcmd.specs.declared.request.Wanted.{Wanted}
-use Rattle.rt_searchcmd.specs.declared.request.Wanted.TheVariants.{One, Each}
 use Rattle.rt_stamps.specs.declared.fault.Fault.{Fault}
 use Rattle.rt_stamps.specs.declared.fault.Fault.TheVariants.{BadCommand, BadOption}
 use Rattle.rt_stamps.specs.Outcomes.{unless}
 use Rattle.rt_stamps.specs.Words.{Word}
-
--- what a search asks for: how to search, which matches are wanted, the pattern, and where to begin and perhaps to stop
-pub record Asked : Type 0 where
-  pub search : Search
-  pub wanted : Wanted
-  pub pattern : Word
-  pub start : Word
-  pub stop : Option Word
+use Rattle.rt_requests.specs.declared.request.SearchRequest.{SearchRequest}
+use Rattle.rt_requests.specs.declared.request.Wanted.{Wanted}
+use Rattle.rt_requests.specs.declared.request.Wanted.TheVariants.{One, Each}
+use Rattle.rt_requests.specs.Switches.{has, is_switch}
 
 -- SWITCHES AND ARGUMENTS
 
--- a switch begins with a minus; `--` is none
-abbrev pub is_switch : Word → Bool
-is_switch word = starts_with_minus word && not (bytes_eq word (codes "--"))
-
--- all words in front that are switches
-abbrev pub switches_in : List Word → List Word
-switches_in words = take (prefix_len is_switch words) words
+-- a word that begins with a minus is a switch, but for `--`, which ends the switches
+abbrev pub is_search_switch : Word → Bool
+is_search_switch word = is_switch word && not (bytes_eq word (codes "--"))
 
 -- without a `--` in front
 abbrev pub without_dashes : List Word → List Word
 without_dashes [] = []
 without_dashes (word ∷ words) = if bytes_eq word (codes "--") then words else word ∷ words
 
--- the words behind the switches, of which a `--` is the end
-abbrev pub arguments_in : List Word → List Word
-arguments_in words = without_dashes (drop (prefix_len is_switch words) words)
-
 -- WHAT SWITCHES ASK FOR
-
--- a switch is given
-abbrev pub has : List Word → Word → Bool
-has switches name = list_any (λ switch. bytes_eq switch name) switches
 
 -- the way that a switch names, and else the way that it was
 abbrev pub turned : Direction → Word → Direction
@@ -97,17 +78,23 @@ switch_check switches = if list_all is_known switches && overlap_fits switches t
 
 -- REQUESTS
 
-abbrev pub asked_by : List Word → Word → Word → Option Word → Asked
-asked_by switches pattern start stop = record { search = search_of switches; wanted = wanted_of switches; pattern = pattern; start = start; stop = stop }
+-- what is asked of a search, or why it is refused
+abbrev pub AskedOfSearch : Type 0
+AskedOfSearch = Result SearchRequest Fault
 
--- there are two arguments or three, and the switches may be given
-abbrev pub requested_by : List Word → List Word → Result Asked Fault
-requested_by switches (pattern ∷ start ∷ []) = unless (switch_check switches) (asked_by switches pattern start None)
-requested_by switches (pattern ∷ start ∷ stop ∷ []) = unless (switch_check switches) (asked_by switches pattern start (Some stop))
-requested_by switches [] = Err BadCommand
-requested_by switches (pattern ∷ []) = Err BadCommand
-requested_by switches (pattern ∷ start ∷ stop ∷ more ∷ words) = Err BadCommand
+-- a search by switches that may be given
+abbrev pub asked_by_switches : List Word → Word → Word → Option Word → AskedOfSearch
+asked_by_switches switches pattern start stop =
+    unless (switch_check switches) (record { search = search_of switches; wanted = wanted_of switches; pattern = pattern; start = start; stop = stop })
 
--- what the words behind `search` ask for, or why they ask for nothing
-abbrev pub requested : List Word → Result Asked Fault
-requested words = requested_by (switches_in words) (arguments_in words)
+-- there are two arguments or three: PATTERN INDEX ?STOPINDEX?
+abbrev pub asked_by_arguments : List Word → List Word → AskedOfSearch
+asked_by_arguments switches (pattern ∷ start ∷ []) = asked_by_switches switches pattern start None
+asked_by_arguments switches (pattern ∷ start ∷ stop ∷ []) = asked_by_switches switches pattern start (Some stop)
+asked_by_arguments switches [] = Err BadCommand
+asked_by_arguments switches (pattern ∷ []) = Err BadCommand
+asked_by_arguments switches (pattern ∷ start ∷ stop ∷ more ∷ words) = Err BadCommand
+
+-- the words behind `search`: all words in front that are switches, perhaps a `--`, and arguments
+abbrev pub asked_of_search : List Word → AskedOfSearch
+asked_of_search words = let switches = prefix_len is_search_switch words in asked_by_arguments (take switches words) (without_dashes (drop switches words))
