@@ -3,7 +3,7 @@
 use Rattle.std.specs.Prelude.{◌≡◌, ◌⊎◌, List, [], ◌∷◌, map, Bool, true, false, Option, Some, None, Result, Ok, Err, codes, if◌then◌else◌}
 use Rattle.std.specs.Fmt.{signed_decimal}
 use Rattle.rt_stamps.specs.declared.fault.Fault.{Fault}
-use Rattle.rt_stamps.specs.declared.fault.Fault.TheVariants.{NoMemory, NoWidget}
+use Rattle.rt_stamps.specs.declared.fault.Fault.TheVariants.{BadCommand, NoMemory, NoWidget}
 use Rattle.rt_stamps.specs.declared.position.Position.{Position}
 use Rattle.rt_stamps.specs.Outcomes.{Answers}
 use Rattle.rt_stamps.specs.Places.{text_of_position}
@@ -12,11 +12,12 @@ use Rattle.rt_marks.specs.Marks.{gravity_word}
 use Rattle.rt_requests.specs.declared.request.MarkRequest.{MarkRequest}
 use Rattle.rt_requests.specs.declared.request.MarkRequest.TheVariants as marks
 use Rattle.rt_requests.specs.declared.request.Request.{Request}
-use Rattle.rt_requests.specs.declared.request.Request.TheVariants.{Insert, Delete, Get, Index, Compare, Count, Mark, Tag}
+use Rattle.rt_requests.specs.declared.request.Request.TheVariants.{Insert, Delete, Get, Index, Compare, Count, Search, Replace, Dump, Mark, Tag}
 use Rattle.rt_requests.specs.declared.request.TagRequest.{TagRequest}
 use Rattle.rt_requests.specs.declared.request.TagRequest.TheVariants as tags
 use Rattle.rt_requests.specs.Asking.{Asked, Asks}
 use Rattle.rt_requests.specs.Parts.{PieceValue, all_of}
+use Rattle.rt_searchcmd.specs.SearchCommand.{searched}
 use Rattle.rt_tagcmd.specs.MarkCommands.{mark_set, mark_unset, mark_gravity, mark_gravity_set, mark_names, mark_next, mark_previous}
 use Rattle.rt_tagcmd.specs.TagCommands.{tag_added, tag_removed, tags_deleted, tag_raised, tag_lowered, tag_names, tag_names_at, tag_ranges, tag_nextrange, tag_prevrange}
 use Rattle.rt_edits.specs.Insertions.{Piece}
@@ -99,6 +100,9 @@ step state (Get indices) = get_step state (all_of indices)
 step state (Index index) = told_step (λ position. one_word (text_of_position position)) state (position_of_index state index)
 step state (Compare first comparison second) = told_step (λ holds. one_word (text_of_bool holds)) state (compared state first comparison second)
 step state (Count measures from to) = told_step (map signed_decimal) state (counted state measures from to)
+step state (Search request) = told_step (map text_of_position) state (searched state request)
+step state (Replace from to texts) = Err BadCommand
+step state (Dump kinds from to) = Err BadCommand
 step state (Mark request) = mark_step state request
 step state (Tag request) = tag_step state request
 

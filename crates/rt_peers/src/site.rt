@@ -10,6 +10,7 @@ mod exchange;
 mod marking;
 mod reading;
 mod replies;
+mod searching;
 mod tagging;
 
 use crate::reply::Reply;
@@ -70,6 +71,17 @@ impl SiteState {
                 second,
             } => self.compare(first, *comparison, second),
             Request::Count { measures, from, to } => self.count(measures, from, to),
+            Request::Search(request) => self.search(request),
+            Request::Replace {
+                from: _,
+                to: _,
+                texts: _,
+            }
+            | Request::Dump {
+                kinds: _,
+                from: _,
+                to: _,
+            } => Err(Fault::BadCommand),
             Request::Mark(request) => self.mark(request),
             Request::Tag(request) => self.tag(request),
         }
