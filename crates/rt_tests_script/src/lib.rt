@@ -12,6 +12,8 @@ mod marks;
 #[cfg(test)]
 mod replies;
 #[cfg(test)]
+mod searches;
+#[cfg(test)]
 mod sites;
 #[cfg(test)]
 mod tags;
