@@ -122,10 +122,10 @@ pub before_grows : (ranges : List Range) (p : ℕ) → p ≤ before_of ranges p
 before_grows [] p = omega arith
 before_grows (range ∷ ranges) p = omega (arith, passing_grows range p, before_grows ranges (passing range p))
 
-passing_not : (range : Range) (p : ℕ) → p < range.from → passing range p ≡ p
+pub passing_not : (range : Range) (p : ℕ) → p < range.from → passing range p ≡ p
 passing_not range p h = cond-false (nat_le range.from p) (p + (range.to - range.from)) p (grind (arith, nat_tests, h))
 
-passing_all : (range : Range) (p : ℕ) → range.from ≤ p → passing range p ≡ p + (range.to - range.from)
+pub passing_all : (range : Range) (p : ℕ) → range.from ≤ p → passing range p ≡ p + (range.to - range.from)
 passing_all range p h = cond-true (nat_le range.from p) (p + (range.to - range.from)) p (grind (arith, nat_tests, h))
 
 before_same : (start : ℕ) (ranges : List Range) (p : ℕ) → AreInOrder start ranges → p < start → before_of ranges p ≡ p
