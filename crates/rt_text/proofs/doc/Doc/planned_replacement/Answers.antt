@@ -1,26 +1,26 @@
-use Rattle.std.proofs.Common.{◌≡◌, ◌∙◌, ℕ, ◌+◌, ◌-◌, ◌<◌, ◌≤◌, ◌++◌, Bool, true, false, cond, List, [], ◌∷◌, None, Option, length, map, min, refl, ap, arith, subst, sym}
-use Rattle.std.specs.Prelude.{IfSome, is_some, option_map, unwrap_or}
-use Rattle.std.proofs.lemmas.Result.{err_from_is_err_and}
-use Rattle.rt_marks.specs.Marks.{place_left}
-use Rattle.rt_stamps.specs.declared.limits.TheConstants.{GREATEST_COUNT, MOST_SPANS}
-use Rattle.rt_stamps.specs.declared.stamp.Stamp.{Stamp}
-use Rattle.rt_oplog.specs.Edits.{body_of}
+use Rattle.std.proofs.Common.{◌≡◌, ◌∙◌, ℕ, List, [], ◌∷◌, map, ap, sym}
+use Rattle.std.specs.Prelude.{is_some}
+use Rattle.rt_stamps.specs.declared.limits.TheConstants.{GREATEST_COUNT}
 use Rattle.rt_store.specs.declared.cell.Cell.{Cell}
 use Rattle.rt_store.specs.Cells.{text_of, visible_of}
 use Rattle.rt_store.specs.Shown.{TaggedCell, shown}
 use Rattle.rt_store.proofs.Shown.{text_shown}
 use Rattle.rt_tags.specs.States.{TagStates, state_at}
-use Rattle.rt_edits.specs.Deletions.{delete_drafts, loss_in, without_text}
-use Rattle.rt_edits.specs.Flat.{Flat}
-use Rattle.rt_edits.specs.InsertionPlans.{Plans}
-use Rattle.rt_edits.specs.Insertions.{Insertion, left_neighbour, right_neighbour}
-use Rattle.rt_edits.specs.Removals.{gone_at, is_covered}
-use Rattle.rt_edits.specs.Selected.{stamps_in}
-use Rattle.rt_edits.proofs.PieceDraftLaws.{insertion_grows}
-use Rattle.rt_edits.proofs.RestLaws.{left_shown}
-use Rattle.rt_text.specs.Replacements.{loss_at}
-use Rattle.rt_text.specs.Widgets.{Own}
-use Rattle.rt_text.proofs.Replacements.{IsBetween, deletion_count, gone, is_between, left, of_any, sel_kept, shown_left, some_text}
-use Rattle.rt_text.proofs.StayingPlaces.{gone_shown}
-use Rattle.rt_text.proofs.doc.Doc.planned_replacement.Given.{Over}
+use Rattle.rt_edits.specs.Deletions.{loss_in}
+use Rattle.rt_text.proofs.Replacements.{is_between, some_text}
+use Rattle.rt_text.proofs.ReplacedDocument.{both_refused, both_logged, rest_kept}
 use Rattle.rt_text.proofs.doc.Doc.planned_replacement.Goals as goal
+
+-- the text, as cells are shown
+same_text : (table : TagStates) (kept : List (Cell ℕ)) (cells : List TaggedCell) → map (shown table) kept ≡ cells → text_of kept ≡ text_of cells
+same_text table kept cells h = sym (text_shown (state_at table) kept) ∙ ap text_of h
+
+pub returns-clause-removed : goal.returns-clause-removed
+returns-clause-removed g c = λ p.
+    c.in_ok-deletion.ensures.places p
+    ∙ ap (λ x. (loss_in x 0 (c.args.range ∷ [])).places p) (same_text c.kept.result.1.now (g.S.TextStore.list c.kept.result.0.now) c.args.self.now.cells c.kept.ensures.cells)
+
+pub returns-clause-held : goal.returns-clause-held
+returns-clause-held g c =
+    c.in_ok-deletion.ensures.held
+    ∙ ap (λ x. is_some (loss_in x 0 (c.args.range ∷ [])).newline) (same_text c.kept.result.1.now (g.S.TextStore.list c.kept.result.0.now) c.args.self.now.cells c.kept.ensures.cells)
