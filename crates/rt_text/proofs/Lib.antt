@@ -4,7 +4,6 @@ pub mod BareNewline
 pub mod Checks
 pub mod DeletionLaws
 pub mod Deletions
-pub mod DistanceLaws
 pub mod FollowingLaws
 pub mod InsertedDocument
 pub mod KeptDocument
