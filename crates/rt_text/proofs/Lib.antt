@@ -11,6 +11,7 @@ pub mod ListedText
 pub mod MadeDocument
 pub mod MarkLaws
 pub mod MovingLaws
+pub mod PlannedReplacement
 pub mod PutLaws
 pub mod RangeLaws
 pub mod ReadyLaws
