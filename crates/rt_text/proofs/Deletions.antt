@@ -115,7 +115,7 @@ module _ (flat : Flat) (ranges : List Range) where
   spared = spares_last (text_of flat.cells) (text_of flat.cells) 0 ranges (omega arith)
 
   -- all but cells, count and marks
-  deletion_rest : left_of ≡ record flat { cells = left_of.cells; count = left_of.count; marks = marks_left removed_of flat.marks }
+  pub deletion_rest : left_of ≡ record flat { cells = left_of.cells; count = left_of.count; marks = marks_left removed_of flat.marks }
   deletion_rest =
       loss_has (λ (f : Flat). f ≡ record flat { cells = f.cells; count = f.count; marks = marks_left removed_of flat.marks }) flat (loss_of flat ranges) refl
       (λ cell e. bared_rest (names_on cell.state) (without_places flat removed_of) cell.stamp)

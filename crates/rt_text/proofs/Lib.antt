@@ -1,5 +1,6 @@
 pub mod AcceptedDocument
 pub mod AcceptedView
+pub mod BareNewline
 pub mod Checks
 pub mod DeletionLaws
 pub mod Deletions
@@ -10,11 +11,16 @@ pub mod ListedText
 pub mod MadeDocument
 pub mod MarkLaws
 pub mod MovingLaws
+pub mod PlannedReplacement
 pub mod PutLaws
 pub mod RangeLaws
 pub mod ReadyLaws
 pub mod Refusals
+pub mod ReplaceLaws
+pub mod ReplacedDocument
+pub mod Replacements
 pub mod SeenLaws
+pub mod StayingPlaces
 pub mod TaggedDocument
 pub mod TaggedLaws
 pub mod TextLaws

@@ -34,11 +34,16 @@ marks_back ranges i d marks h k =
     let range = get_or ranges i d in
     marks_then (is_covered (drop (i + 1) ranges)) range.from range.to (not_later ranges i d h k) marks ∙ ap (λ r. marks_left r marks) (covers ranges i d h)
 
+pub place_back : (ranges : List Range) (i : ℕ) (d : Range) (p : ℕ) → i < length ranges → AreInOrder 0 ranges
+    → place_removed (get_or ranges i d).from ((get_or ranges i d).to - (get_or ranges i d).from) (place_left (is_covered (drop (i + 1) ranges)) p) ≡ place_left (is_covered (drop i ranges)) p
+place_back ranges i d p h k =
+    let range = get_or ranges i d in
+    place_then (is_covered (drop (i + 1) ranges)) range.from range.to (not_later ranges i d h k) p ∙ ap (λ r. place_left r p) (covers ranges i d h)
+
 pub own_back : (ranges : List Range) (i : ℕ) (d : Range) (own : Own) → i < length ranges → AreInOrder 0 ranges
     → own_removed (get_or ranges i d).from ((get_or ranges i d).to - (get_or ranges i d).from) (own_left (is_covered (drop (i + 1) ranges)) own) ≡ own_left (is_covered (drop i ranges)) own
 own_back ranges i d own h k =
-    let range = get_or ranges i d in
-    let later = is_covered (drop (i + 1) ranges) in
-    let at : (p : ℕ) → place_removed range.from (range.to - range.from) (place_left later p) ≡ place_left (is_covered (drop i ranges)) p =
-    λ p. place_then later range.from range.to (not_later ranges i d h k) p ∙ ap (λ r. place_left r p) (covers ranges i d h) in
-    λ j. record own { insert = record own.insert { place = at own.insert.place j }; current = record own.current { place = at own.current.place j } }
+    λ j. record own {
+      insert = record own.insert { place = place_back ranges i d own.insert.place h k j };
+      current = record own.current { place = place_back ranges i d own.current.place h k j };
+    }

@@ -5,7 +5,7 @@ use Rattle.rt_index.specs.Widget.{Widget}
 use Rattle.rt_marks.specs.Marks.{marks_inserted}
 use Rattle.rt_stamps.specs.declared.limits.TheConstants.{GREATEST_COUNT, MOST_CHARACTERS, MOST_SPANS}
 use Rattle.rt_stamps.specs.declared.fault.Fault.{Fault}
-use Rattle.rt_stamps.specs.declared.fault.Fault.TheVariants.{ClockSpent, TextFull}
+use Rattle.rt_stamps.specs.declared.fault.Fault.TheVariants.{BackwardsRange, ClockSpent, TextFull}
 use Rattle.rt_stamps.specs.declared.position.Position.{Position}
 use Rattle.rt_stamps.specs.declared.stamp.Stamp.{Stamp}
 use Rattle.rt_stamps.specs.Names.{name_check}
@@ -28,9 +28,13 @@ use Rattle.rt_edits.specs.Removals.{is_covered, stamps_at}
 use Rattle.rt_edits.specs.Selections.{unselected, selection_with}
 use Rattle.rt_edits.specs.TagDrafts.{deletion_drafts, tag_drafts_at}
 use Rattle.rt_edits.specs.TagWrites.{listed_if, with_tag_at, without_tags}
-use Rattle.rt_text.specs.Widgets.{Viewed, begin_of, in_text, last_newline, own_inserted, own_left, places_in_text, shown_by, text_shown, widget_of}
+use Rattle.rt_text.specs.Widgets.{Viewed, begin_of, in_text, last_newline, length_shown, own_inserted, own_left, places_in_text, shown_by, text_shown, widget_of}
 
 -- CHECKS
+
+-- a range that is replaced doesn't end before it begins
+abbrev pub backwards_check : Range → Option Fault
+backwards_check range = if nat_lt range.to range.from then Some BackwardsRange else None
 
 -- a clock may go as far as a count
 abbrev pub clock_check : ℕ → Option Fault
@@ -87,6 +91,13 @@ without_ranges view ranges =
       others = map (last_unselected view held) view.others;
     }
 
+-- a range replaced by pieces of text, and then characters without a list: it is deleted, and then they are inserted into what that
+-- leaves, at the place where the range begins, and before the last newline
+abbrev pub with_range_replaced : Viewed → Range → List Piece → Word → Viewed
+with_range_replaced view range pieces rest =
+    let left = without_ranges view (range ∷ []) in
+    with_pieces_at left (min range.from (length_shown left - 1)) pieces rest
+
 -- a tag put on the characters in ranges, or taken off: `sel` is the widget's own
 abbrev pub with_tag_in : Viewed → Bool → Word → List Range → Viewed
 with_tag_in view on name ranges =
@@ -119,6 +130,16 @@ deleted view indices =
     let w = widget_of view in
     let edited = without_ranges view (ranges_of (map (place_at_index w) indices)) in
     unless (first_of (map (index_check w) indices ++ clock_check edited.doc.count ∷ [])) edited
+
+-- replace INDEX INDEX ?CHARS TAGLIST ...? ?CHARS?: the delete followed by the insert, which are made or refused as a whole
+abbrev pub replaced : Viewed → Word → Word → List Piece → Word → Result Viewed Fault
+replaced view from to pieces rest =
+    let w = widget_of view in
+    let range : Range = record { from = place_at_index w from; to = place_at_index w to } in
+    let edited = with_range_replaced view range pieces rest in
+    let indices = index_check w from ∷ index_check w to ∷ backwards_check range ∷ [] in
+    let checks = clock_check edited.doc.count ∷ cell_check view.doc.limit (length edited.doc.cells) ∷ [] in
+    unless (first_of (map name_check (names_in pieces) ++ indices ++ checks)) edited
 
 -- get INDEX: the character at the index, none at the text's end
 abbrev pub got_one : Viewed → Word → Result Word Fault

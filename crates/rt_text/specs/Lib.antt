@@ -6,6 +6,7 @@ pub mod Index
 pub mod Kept
 pub mod Proper
 pub mod Ranges
+pub mod Replacements
 pub mod Widgets
 pub use Rattle.rt_stamps.specs.Outcomes
 pub use Rattle.rt_stamps.specs.Places

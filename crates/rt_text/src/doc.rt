@@ -15,6 +15,7 @@ mod accepting;
 mod editing;
 mod marking;
 mod reading;
+mod replacing;
 mod tagging;
 
 use rt_marks::Marks;

@@ -12,6 +12,7 @@ mod moving;
 pub mod own_mark;
 mod preparing;
 pub mod range;
+mod staying;
 pub mod view;
 pub mod widget;
 

@@ -1,8 +1,8 @@
 // What a removal of text leaves of marks and selections.
-ghost use Rattle.std.specs.Prelude.{◌≡◌, ◌∷◌, [], if◌then◌else◌, map};
+ghost use Rattle.std.specs.Prelude.{◌≡◌, ◌≤◌, ◌∷◌, [], false, if◌then◌else◌, map};
 ghost use Rattle.rt_marks.specs.Marks.{marks_left};
 ghost use Rattle.rt_edits.specs.Removals.{is_covered, AreInOrder};
-ghost use Rattle.rt_edits.specs.Selected.{stamps_in};
+ghost use Rattle.rt_edits.specs.Selected.{room_in, stamps_in};
 ghost use Rattle.rt_edits.specs.Selections.{unselected};
 ghost use Rattle.rt_text.specs.Widgets.{own_left};
 
@@ -29,13 +29,24 @@ pub(crate) fn move_back(marks: &mut Marks, widget: &mut Widget, removed: &[Range
     }
 }
 
-/// Takes the last newline out of a widget's selection and out of others, where a deletion holds it.
+/// Takes the last newline out of a widget's selection and out of others, where a deletion holds it. It
+/// takes no memory.
+pub(crate) fn unselect(held: bool, selection: &mut Selection, others: &mut [Selection])
+    ensures sel { stamps_in selection.new ≡ (if held then unselected (FINAL ∷ []) (stamps_in selection.old) else stamps_in selection.old) }
+    ensures others { map stamps_in others.new ≡ map (λ sel. if held then unselected (FINAL ∷ []) sel else sel) (map stamps_in others.old) }
+    ensures room { room_in selection.old ≤ room_in selection.new }
+    ensures kept { held ≡ false → others.new ≡ others.old }
+{
+    if held {
+        selection.remove_one(FINAL);
+        remove_from_each(others, FINAL);
+    }
+}
+
+/// The same of a widget.
 pub(crate) fn unselect_last(held: bool, widget: &mut Widget, others: &mut [Selection])
     ensures own { widget.new ≡ record widget.old { sel = if held then unselected (FINAL ∷ []) widget.old.sel else widget.old.sel } }
     ensures others { map stamps_in others.new ≡ map (λ sel. if held then unselected (FINAL ∷ []) sel else sel) (map stamps_in others.old) }
 {
-    if held {
-        widget.selection.remove_one(FINAL);
-        remove_from_each(others, FINAL);
-    }
+    unselect(held, &mut widget.selection, others);
 }

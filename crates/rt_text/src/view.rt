@@ -11,6 +11,7 @@ mod editing;
 mod lending;
 mod marking;
 mod reading;
+mod replacing;
 mod tagging;
 
 use crate::{Doc, Selection, Widget};

@@ -1,0 +1,138 @@
+// Replacements: a deletion and then an insertion, as one plan.
+ghost use Rattle.std.specs.Prelude.{◌≡◌, ℕ, ◌⊎◌, ◌+◌, ◌<◌, ◌≤◌, ◌∷◌, [], All, List, None, Some, IfOk, IfErr, OnOk, OnErr, is_some, length, map, true};
+ghost use Rattle.rt_stamps.specs.declared.limits.TheConstants.{GREATEST_COUNT};
+ghost use Rattle.rt_stamps.specs.declared.stamp.Stamp.{Stamp};
+ghost use Rattle.rt_stamps.specs.Outcomes.{first_of};
+ghost use Rattle.rt_store.specs.Cells.{text_of};
+ghost use Rattle.rt_text.specs.Commands.{cell_check, clock_check, with_range_replaced};
+ghost use Rattle.rt_text.specs.Replacements.{PlansReplacement, loss_at};
+ghost use Rattle.rt_text.specs.Widgets.{IsOwnOf, Viewed};
+ghost use Rattle.rt_edits.specs.DeletionLaws.{IsPiece};
+ghost use Rattle.rt_edits.specs.Deletions.{without_text};
+ghost use Rattle.rt_edits.specs.Removals.{AreInOrder, is_covered};
+ghost use Rattle.rt_edits.specs.Selected.{stamps_in};
+
+use super::Doc;
+use crate::Widget;
+use crate::moving::{move_back, unselect};
+use crate::preparing::{list_tags, make_room, select_between};
+use crate::staying::{left_after, place_after, right_after};
+use rt_edits::drafting::planned_deletion;
+use rt_edits::inserting::{Plan, planned_between};
+use rt_edits::{Piece, Range, Selection};
+use rt_rga::Draft;
+use rt_stamps::Fault;
+use rt_stamps::limits::GREATEST_COUNT;
+use rt_store::TextStore;
+
+/// What a replacement comes to: the ranges of places that go, and whether they hold the last newline; the
+/// place of the new text in what is left; the operations of the deletion and of the insertion in turn;
+/// and the plan of the new text beside these.
+#[derive(Drop)]
+pub(crate) struct Replacement {
+    pub removed: Vec<Range>,
+    pub held: bool,
+    pub place: usize,
+    pub drafts: Vec<Draft>,
+    pub plan: Plan,
+}
+
+// The greatest count after operations of one count each, or why there are too few counts.
+fn count_after(count: u64, operations: usize) -> Result<u64, Fault>
+    requires { count ≤ GREATEST_COUNT }
+    ensures ok { IfOk result (λ last. (last ≡ count + operations) × (last ≤ GREATEST_COUNT)) }
+    ensures err { IfErr result (λ fault. (fault ≡ Fault.ClockSpent) × (GREATEST_COUNT < count + operations)) }
+{
+    let operations = operations as u64;
+    if operations > GREATEST_COUNT - count {
+        return Err(Fault::ClockSpent);
+    }
+    Ok(count + operations)
+}
+
+impl<S: TextStore> Doc<S> {
+    // Plans the replacement of a range: its text is planned for what the deletion leaves, before anything
+    // changes. Where the last newline is held, it is no neighbour: it has no tags then, and isn't selected.
+    fn planned_replacement(
+        &self,
+        widget: &Widget,
+        range: Range,
+        pieces: &[Piece],
+        rest: &str,
+    ) -> Result<Replacement, Fault>
+        ensures plans { IfOk result (λ r. (others : List (List Stamp))
+            → PlansReplacement (record { doc = self.now; own = widget.now; others = others }) range pieces.now rest.now r) }
+        ensures removed { IfOk result (λ r. (place : ℕ) → is_covered r.removed.items place ≡ (loss_at self.now range).places place) }
+        ensures order { IfOk result (λ r. AreInOrder 0 r.removed.items) }
+        ensures held { IfOk result (λ r. r.held ≡ is_some (loss_at self.now range).newline) }
+        ensures alone { IfOk result (λ r. r.held ≡ true → r.plan.between ≡ None) }
+        ensures fits { IfOk result (λ r. (without_text self.now (loss_at self.now range)).count ≤ GREATEST_COUNT) }
+        ensures err { IfErr result (λ fault. (fault ≡ Fault.NoMemory) ⊎ ((fault ≡ Fault.ClockSpent) × ((others : List (List Stamp)) → GREATEST_COUNT
+            < (with_range_replaced (record { doc = self.now; own = widget.now; others = others }) range pieces.now rest.now).doc.count))) }
+    {
+        let site = self.replica.site();
+        let count = self.replica.clock().seen();
+        let (store, states) = self.kept();
+        let mut deletion = planned_deletion(self.alloc, store, states, &[range])?;
+        let count = count_after(count, deletion.drafts.len())?;
+        let last = place_after(&deletion.removed, store.visible() - 1);
+        let place = range.from.min(last);
+        let left = left_after(store, &deletion.removed, place);
+        let right = right_after(store, &deletion.removed, deletion.held, place);
+        let mut plan = planned_between(
+            self.alloc,
+            states,
+            site,
+            count,
+            &widget.selection,
+            left,
+            right,
+            pieces,
+            rest,
+        )?;
+        deletion.drafts.append(&mut plan.drafts)?;
+        Ok(Replacement {
+            removed: deletion.removed,
+            held: deletion.held,
+            place,
+            drafts: deletion.drafts,
+            plan,
+        })
+    }
+
+    // Replaces the characters in a range by pieces of text and characters without a list.
+    pub(crate) fn replace_in(
+        &mut self,
+        widget: &mut Widget,
+        others: &mut [Selection],
+        range: Range,
+        pieces: &[Piece],
+        rest: &str,
+    ) -> Result<(), Fault>
+        requires pieces { All IsPiece pieces.now }
+        requires own { IsOwnOf (length (text_of self.old.cells)) widget.old }
+        ensures ok { let view : Viewed = record { doc = self.old; own = widget.old; others = map stamps_in others.old } in
+            OnOk result (record { doc = self.new; own = widget.new; others = map stamps_in others.new } ≡ with_range_replaced view range pieces.now rest.now) }
+        ensures checked { OnOk result (first_of (clock_check self.new.count ∷ cell_check self.old.limit (length self.new.cells) ∷ []) ≡ None) }
+        ensures err { let view : Viewed = record { doc = self.old; own = widget.old; others = map stamps_in others.old } in
+            let edited = (with_range_replaced view range pieces.now rest.now).doc in
+            IfErr result (λ fault. (fault ≡ Fault.NoMemory)
+            ⊎ (first_of (clock_check edited.count ∷ cell_check self.old.limit (length edited.cells) ∷ []) ≡ Some fault)) }
+        ensures unchanged { OnErr result ((self.new ≡ self.old) × (widget.new ≡ widget.old) × (map stamps_in others.new ≡ map stamps_in others.old)) }
+        ensures own { IsOwnOf (length (text_of self.new.cells)) widget.new }
+    {
+        let _ = self.kept();
+        let planned = self.planned_replacement(widget, range, pieces, rest)?;
+        let plan = planned.plan;
+        make_room(&mut self.tags, &mut widget.selection, others, &plan)?;
+        let _made = self.replica.make(planned.drafts)?;
+        unselect(planned.held, &mut widget.selection, others);
+        widget.selection.add(&plan.selected);
+        select_between(others, &plan.between);
+        move_back(&mut self.marks, widget, &planned.removed);
+        self.marks.inserted(planned.place, plan.characters);
+        widget.inserted(planned.place, plan.characters);
+        list_tags(&mut self.tags, &plan.names);
+        Ok(())
+    }
+}
