@@ -21,7 +21,7 @@ use Rattle.rt_searchcmd.specs.SearchCommand.{searched}
 use Rattle.rt_tagcmd.specs.MarkCommands.{mark_set, mark_unset, mark_gravity, mark_gravity_set, mark_names, mark_next, mark_previous}
 use Rattle.rt_tagcmd.specs.TagCommands.{tag_added, tag_removed, tags_deleted, tag_raised, tag_lowered, tag_names, tag_names_at, tag_ranges, tag_nextrange, tag_prevrange}
 use Rattle.rt_edits.specs.Insertions.{Piece}
-use Rattle.rt_text.specs.Commands.{inserted, deleted, got_one, got, got_list, position_of_index, compared, counted}
+use Rattle.rt_text.specs.Commands.{inserted, deleted, replaced, got_one, got, got_list, position_of_index, compared, counted}
 use Rattle.rt_peers.specs.State.{State, is_widget}
 
 -- the words of a reply and the state after it, or a fault
@@ -96,12 +96,12 @@ tag_step state (tags.PreviousRange name to from) = told_step (map text_of_positi
 abbrev pub step : State → Request → Outcome
 step state (Insert index texts) = changed_step (inserted state index (map as_piece texts.pieces) texts.rest)
 step state (Delete indices) = changed_step (deleted state (all_of indices))
+step state (Replace from to texts) = changed_step (replaced state from to (map as_piece texts.pieces) texts.rest)
 step state (Get indices) = get_step state (all_of indices)
 step state (Index index) = told_step (λ position. one_word (text_of_position position)) state (position_of_index state index)
 step state (Compare first comparison second) = told_step (λ holds. one_word (text_of_bool holds)) state (compared state first comparison second)
 step state (Count measures from to) = told_step (map signed_decimal) state (counted state measures from to)
 step state (Search request) = told_step (map text_of_position) state (searched state request)
-step state (Replace from to texts) = Err BadCommand
 step state (Dump kinds from to) = Err BadCommand
 step state (Mark request) = mark_step state request
 step state (Tag request) = tag_step state request

@@ -55,9 +55,9 @@ impl SiteState {
         Ok(SiteState { alloc, view })
     }
 
-    /// What is asked of the widget. Refused by the request's own faults, or for want of memory; then
-    /// the site is as it was.
-    pub fn request(&mut self, request: &Request<'_>) -> Result<Reply, Fault>
+    // What is asked of the widget. Refused by the request's own faults, or for want of memory; then
+    // the site is as it was.
+    fn request(&mut self, request: &Request<'_>) -> Result<Reply, Fault>
         ensures { Answers (step self.old request.now) self.old result self.new }
     {
         match request {
@@ -72,12 +72,8 @@ impl SiteState {
             } => self.compare(first, *comparison, second),
             Request::Count { measures, from, to } => self.count(measures, from, to),
             Request::Search(request) => self.search(request),
-            Request::Replace {
-                from: _,
-                to: _,
-                texts: _,
-            }
-            | Request::Dump {
+            Request::Replace { from, to, texts } => self.replace(from, to, texts),
+            Request::Dump {
                 kinds: _,
                 from: _,
                 to: _,
