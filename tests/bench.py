@@ -10,6 +10,8 @@ million if no number is given.
 tests/bench.py spans: times the map over spans beside Rust's BTreeMap, which is left out where there is no rustc.
 tests/bench.py nodes: times calls of node memory, in a program of its own, tests/bench/nodes, which rt proves and builds.
 tests/bench.py replica: times a replica over the plain list that accepts typed text, in a program of its own, tests/bench/replica.
+tests/bench.py instructions [PROGRAM [LINES]]: counts the instructions that a line takes, by valgrind's callgrind: those of 4,000
+lines less those of 2,000, if no number is given, which are the same each time.
 """
 import filecmp
 import os
@@ -22,7 +24,7 @@ import tempfile
 import time
 
 ROOT = os.path.dirname(os.path.dirname(os.path.abspath(__file__)))
-MODE = sys.argv[1] if sys.argv[1:2] and sys.argv[1] in ("lists", "spans", "nodes", "replica") else ""
+MODE = sys.argv[1] if sys.argv[1:2] and sys.argv[1] in ("lists", "spans", "nodes", "replica", "instructions") else ""
 WORDS = sys.argv[2:] if MODE else sys.argv[1:]
 PROGRAM = WORDS[0] if WORDS else os.path.join(ROOT, "crates", "peertext", "out", "peertext")
 OPERATIONS = int(WORDS[1]) if len(WORDS) > 1 else 1_000_000
@@ -178,5 +180,24 @@ def replica():
         return max(subprocess.call([program, str(operations)]) for operations in (20_000, 40_000))
 
 
+def collected(line, lines):
+    """How many instructions the program takes for so many equal lines behind an insertion."""
+    script = b".t insert 1.0 hello\n" + line + b"\n"
+    script += (line + b"\n") * (lines - 1)
+    words = ["valgrind", "--tool=callgrind", "--callgrind-out-file=/dev/null", PROGRAM, "run", "--site", "1"]
+    told = subprocess.run(words, input=script, capture_output=True, check=True)
+    expect(line.decode(), told.stdout.count(b"\n") == lines + 1)
+    return int(told.stderr.decode().rsplit("Collected :", 1)[1].split()[0])
+
+
+def instructions():
+    """Counts the instructions of some lines."""
+    lines = int(WORDS[1]) if len(WORDS) > 1 else 2_000
+    for line in (b".t index 1.0", b".t compare 1.0 < end", b".t get 1.0 1.3", b".t insert 1.0 a", b".t mark set m 1.0"):
+        each = (collected(line, 2 * lines) - collected(line, lines)) / lines
+        print(f"{line.decode():24} {each:10,.0f} instructions a line", flush=True)
+    return 1 if wrong else 0
+
+
 if __name__ == "__main__":
-    sys.exit({"lists": lists, "spans": spans, "nodes": nodes, "replica": replica, "": main}[MODE]())
+    sys.exit({"instructions": instructions, "lists": lists, "spans": spans, "nodes": nodes, "replica": replica, "": main}[MODE]())

@@ -4,6 +4,10 @@ import random
 from modelled.widget import spelled
 
 
+# commands that the program hasn't got yet: no script has them
+NOT_YET = ("replace", "search", "dump")
+
+
 class Chance(random.Random):
     def text(self):
         return "".join(self.choice("ab_1 \n-é日") for _ in range(self.randrange(9)))
@@ -30,11 +34,30 @@ class Chance(random.Random):
                 base += self.choice([" ", " ", "  ", "" if self.random() < .1 else " "]) + self.choice(["", "", "any "]) + self.choice(["linestart", "lineend", "wordstart", "wordend", "lines", "linee", "words", "worde", "line" if self.random() < .1 else "lineend"])
         return base + self.choice(["", "", "", " "])
 
+    def texts(self):
+        words = [w for _ in range(self.choice([1, 1, 1, 2, 3])) for w in (self.text(), self.list())]
+        return words if self.random() < .5 else words[:-1]
+
+    def search(self):
+        switches = self.choices(["-forwards", "-backwards", "-exact", "-nocase", "-all", "-all", "-strictlimits", "-overlap", "-x" if self.random() < .1 else "-all"], k=self.randrange(4))
+        pattern = "".join(self.choice("abAB_ \n-éÉ日") for _ in range(self.choice([0, 1, 1, 1, 2, 2, 3]) if self.random() < .3 else 1))
+        return [*switches, *self.choice([[], [], ["--"]]), pattern, self.word(), *(self.word() for _ in range(self.randrange(2)))]
+
+    def dump(self):
+        switches = self.choices(["-all", "-mark", "-tag", "-text", "-text", "--" if self.random() < .1 else "-tag"], k=self.randrange(3))
+        return [*switches, self.word(), *(self.word() for _ in range(self.randrange(2)))]
+
     def command(self):
-        kind = self.choice(["insert", "insert", "insert", "delete", "get", "index", "index", "compare", "count", "mark", "mark", "tag", "tag", "tag", "tag", "tag"])
+        kinds = ["insert", "insert", "insert", "delete", "get", "index", "index", "compare", "count", "mark", "mark", "tag", "tag", "tag", "tag", "tag", "replace", "search", "search", "dump", "dump"]
+        kind = self.choice([k for k in kinds if k not in NOT_YET])
         if kind == "insert":
-            words = [w for _ in range(self.choice([1, 1, 1, 2, 3])) for w in (self.text(), self.list())]
-            return [kind, self.word(), *(words if self.random() < .5 else words[:-1])]
+            return [kind, self.word(), *self.texts()]
+        if kind == "replace":
+            return [kind, self.word(), self.word(), *self.texts()]
+        if kind == "search":
+            return [kind, *self.search()]
+        if kind == "dump":
+            return [kind, *self.dump()]
         if kind == "tag":
             action = self.choice(["add", "add", "add", "remove", "delete", "raise", "lower", "names", "ranges", "ranges", "nextrange", "nextrange", "prevrange", "prevrange", "frob" if self.random() < .1 else "names"])
             if action in ("add", "remove"):

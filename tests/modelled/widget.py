@@ -9,6 +9,7 @@ class Refused(Exception):
 BAD_INDEX, NONE_TAGGED, BAD_COMMAND, NO_TAG, NO_MARK, BAD_OPTION, BAD_NAME, BAD_QUOTING, NO_FILE, NOT_YET, TRUNCATED = (
     "! 2 BadIndex", "! 3 NoneTagged", "! 4 BadCommand", "! 7 NoTag", "! 8 NoMark", "! 9 BadOption", "! 14 BadName", "! 19 BadQuoting", "! 20 NoFile",
     "! 36 NotYet", "! 32 Truncated")
+BACKWARDS_RANGE, EMPTY_PATTERN = "! 10 BackwardsRange", "! 11 EmptyPattern"
 
 POSITION = re.compile(r"([0-9]+)\.([0-9]+|end)\Z")
 # a modifier: a count, or a keyword
@@ -16,10 +17,23 @@ COUNT = re.compile(r" *([+-]) *([+-]?)([0-9]+) *(?:any +)?([a-z]+)(?![A-Za-z])")
 KEYWORD = re.compile(r" +(?:any +)?([a-z]+)(?![A-Za-z])")
 KEYWORDS = ("linestart", "lineend", "wordstart", "wordend")
 UNITS = ("chars", "indices", "lines")
+SEARCH_SWITCHES = ("-forwards", "-backwards", "-exact", "-nocase", "-all", "-overlap", "-strictlimits")
+DUMP_SWITCHES = ("-all", "-mark", "-tag", "-text")
 
 
 def is_word(c):
     return c == "_" or c.isalpha() or c.isdecimal()
+
+
+def folded(c):
+    """The simple case folding of a character, as far as the full one shows it."""
+    return c.casefold() if len(c.casefold()) == 1 else c
+
+
+def switches_of(words, end=None):
+    """The words in front that begin with a minus, up to an end of the switches, and the words behind."""
+    at = next((i for i, w in enumerate(words) if not w.startswith("-") or w == end), len(words))
+    return words[:at], words[at + (words[at:at + 1] == [end]):]
 
 
 def names_checked(names):
@@ -216,14 +230,33 @@ class Widget:
         for mark in self.marks.values():
             mark[0] = sum(p not in gone for p in range(mark[0]))
 
+    def lists(self, words):
+        """The tag lists of texts in pairs."""
+        lists = [words_of(w) for w in words[1::2]]
+        names_checked([name for names in lists for name in names])
+        return lists
+
+    def put(self, p, words, lists):
+        """Texts in pairs with their lists, the last perhaps without one."""
+        p = min(p, len(self.text) - 1)
+        for i, new in enumerate(words[::2]):
+            p = self.insert(p, new, lists[i] if i < len(lists) else None)
+
     def inserted(self, words):
         if len(words) < 2:
             raise Refused(BAD_COMMAND)
-        lists = [words_of(w) for w in words[2::2]]
-        names_checked([name for names in lists for name in names])
-        p = min(self.index(words[0]), len(self.text) - 1)
-        for i, new in enumerate(words[1::2]):
-            p = self.insert(p, new, lists[i] if i < len(lists) else None)
+        lists = self.lists(words[1:])
+        self.put(self.index(words[0]), words[1:], lists)
+
+    def replaced(self, words):
+        if len(words) < 3:
+            raise Refused(BAD_COMMAND)
+        lists = self.lists(words[2:])
+        a, b = self.index(words[0]), self.index(words[1])
+        if b < a:
+            raise Refused(BACKWARDS_RANGE)
+        self.remove([(a, b)])
+        self.put(a, words[2:], lists)
 
     def pairs(self, words):
         places = [self.index(w) for w in words]
@@ -232,8 +265,11 @@ class Widget:
         return list(zip(places[::2], places[1::2]))
 
     def delete(self, words):
+        self.remove(self.pairs(words))
+
+    def remove(self, ranges):
         n, merged = len(self.text), []
-        for a, b in sorted((a, min(b, n)) for a, b in self.pairs(words) if a < min(b, n)):
+        for a, b in sorted((a, min(b, n)) for a, b in ranges if a < min(b, n)):
             if merged and a <= merged[-1][1]:
                 merged[-1][1] = max(b, merged[-1][1])
             else:
@@ -361,6 +397,58 @@ class Widget:
         self.marks[words[0]][1] = words[1]
         return []
 
+    # searches
+
+    def search(self, words):
+        switches, words = switches_of(words, "--")
+        if len(words) not in (2, 3):
+            raise Refused(BAD_COMMAND)
+        if not set(switches) <= set(SEARCH_SWITCHES) or "-overlap" in switches and "-all" not in switches:
+            raise Refused(BAD_OPTION)
+        i, stops = self.index(words[1]), [self.index(w) for w in words[2:]]
+        if not words[0]:
+            raise Refused(EMPTY_PATTERN)
+        ways = [s for s in switches if s in ("-forwards", "-backwards")]
+        is_back, n = ways[-1:] == ["-backwards"], len(self.text)
+        if stops:
+            stretches = [(stops[0], i) if is_back else (i, stops[0])]
+        else:
+            stretches = [(0, i), (i, n)] if is_back else [(i, n), (0, i)]
+        same = folded if "-nocase" in switches else str
+        pattern, text, taken = [same(c) for c in words[0]], [same(c) for c in self.text], []
+        for a, b in stretches:
+            for p in reversed(range(a, b)) if is_back else range(a, b):
+                if text[p:p + len(pattern)] != pattern or "-strictlimits" in switches and p + len(pattern) > b:
+                    continue
+                if "-overlap" in switches or all(abs(p - q) >= len(pattern) for q in taken):
+                    taken.append(p)
+        return [self.position(p) for p in (taken if "-all" in switches else taken[:1])]
+
+    # dumps
+
+    def dump(self, words):
+        switches, words = switches_of(words)
+        if len(words) not in (1, 2):
+            raise Refused(BAD_COMMAND)
+        if not set(switches) <= set(DUMP_SWITCHES):
+            raise Refused(BAD_OPTION)
+        n, a = len(self.text), self.index(words[0])
+        b = self.index(words[1]) if len(words) == 2 else min(a + 1, n)
+        shown = [kind for kind in ("-tag", "-mark", "-text") if not switches or "-all" in switches or kind in switches]
+        # the elements at each place
+        found = {p: [] for p in [*range(a, b), *([n] if b == n else [])]}
+        for p, elements in found.items():
+            if "-tag" in shown:
+                elements += [("tagoff", name) for name in self.names for r in self.ranges(name) if r[1] == p]
+                elements += [("tagon", name) for name in self.names for r in self.ranges(name) if r[0] == p]
+            if "-mark" in shown:
+                elements += [("mark", m[3]) for m in self.ordered() if m[0] == p]
+        if "-text" in shown:
+            begins = [p for p in range(a, b) if p == a or self.text[p - 1] == "\n" or found[p]]
+            for p, q in zip(begins, [*begins[1:], b]):
+                found[p].append(("text", self.text[p:q]))
+        return [word for p in found for kind, value in found[p] for word in (kind, value, self.position(p))]
+
     # a command
 
     def answer(self, words):
@@ -405,6 +493,13 @@ class Widget:
                 raise Refused(BAD_OPTION)
             a, b = self.index(words[0]), self.index(words[1])
             return [str(self.line(b) - self.line(a) if s == "-lines" else b - a) for s in switches or ["-indices"]]
+        if name == "replace":
+            self.replaced(words)
+            return []
+        if name == "search":
+            return self.search(words)
+        if name == "dump":
+            return self.dump(words)
         if name == "mark":
             return self.mark(words)
         if name == "tag":

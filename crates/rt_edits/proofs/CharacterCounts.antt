@@ -30,7 +30,7 @@ use Rattle.rt_edits.proofs.PieceDraftLaws.{IsMore, listed_more, unlisted_more}
 
 -- NONE
 
-deletes_none : (parts : List (List Span)) → characters_in_all (map (λ spans. Delete spans) parts) ≡ 0
+pub deletes_none : (parts : List (List Span)) → characters_in_all (map (λ spans. Delete spans) parts) ≡ 0
 deletes_none [] = refl
 deletes_none (part ∷ parts) = omega (arith, deletes_none parts)
 
@@ -102,10 +102,10 @@ inserts_characters (suc inserts) site count after names text c =
     ) in
     omega (arith, all, l, m)
 
-text_characters : (site count : ℕ) (after : Stamp) (names : List Word) (text : List ℕ) → characters_in_all (text_drafts MOST_CHARACTERS site count after names text) ≡ length text
+pub text_characters : (site count : ℕ) (after : Stamp) (names : List Word) (text : List ℕ) → characters_in_all (text_drafts MOST_CHARACTERS site count after names text) ≡ length text
 text_characters site count after names text = inserts_characters (inserts_for (length text)) site count after names text (cut MOST_CHARACTERS (length text) (omega arith))
 
-cells_length : (inserts site count : ℕ) (names : List Word) (text : List ℕ) → length text ≤ inserts * MOST_CHARACTERS → length (cells_of_inserts inserts site count names text) ≡ length text
+pub cells_length : (inserts site count : ℕ) (names : List Word) (text : List ℕ) → length text ≤ inserts * MOST_CHARACTERS → length (cells_of_inserts inserts site count names text) ≡ length text
 cells_length zero site count names text h = omega (arith, h)
 cells_length (suc inserts) site count names text h =
     let part = take MOST_CHARACTERS text in

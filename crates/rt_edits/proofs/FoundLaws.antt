@@ -119,7 +119,7 @@ bared_end : (names : List Word) (flat : Flat) (stamp : Stamp) → SomeLast flat.
 bared_end [] flat stamp w = w
 bared_end (name ∷ names) flat stamp w = bared_end names (with_tag flat name false (stamp ∷ [])) stamp (tag_end flat name (stamp ∷ []) w)
 
-left_stamps : (flat : Flat) (loss : Loss) → stamps_of (without_text flat loss).cells ≡ stamps_of flat.cells
+pub left_stamps : (flat : Flat) (loss : Loss) → stamps_of (without_text flat loss).cells ≡ stamps_of flat.cells
 left_stamps flat loss =
     loss_has (λ (left : Flat). stamps_of left.cells ≡ stamps_of flat.cells) flat loss (stamps_gone loss.places 0 flat.cells)
     (λ cell e. bared_stamps (names_on cell.state) (without_places flat loss.places) cell.stamp ∙ stamps_gone loss.places 0 flat.cells)

@@ -69,7 +69,7 @@ less_to : (name : Word) (ws : List Write) → AllByRecursion (λ v. name_order n
 less_to name [] h = tt
 less_to name (w ∷ ws) h = (h.0, less_to name ws h.1)
 
-rise_to : (ws : List Write) → IsByName ws → Rise (map (λ (w : Write). w.name) ws)
+pub rise_to : (ws : List Write) → IsByName ws → Rise (map (λ (w : Write). w.name) ws)
 rise_to [] h = tt
 rise_to (w ∷ ws) h = (less_to w.name ws h.0, rise_to ws h.1)
 
@@ -89,7 +89,7 @@ every_filter P test (x ∷ xs) h = by (test x) (every_filter P test xs h.1)
     by true r = (h.0, r)
     by false r = r
 
-sorted_filter : (test : Write → Bool) (state : List Write) → IsByName state → IsByName (filter test state)
+pub sorted_filter : (test : Write → Bool) (state : List Write) → IsByName state → IsByName (filter test state)
 sorted_filter test [] h = tt
 sorted_filter test (w ∷ state) h = by (test w) (sorted_filter test state h.1)
   where

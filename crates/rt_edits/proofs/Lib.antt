@@ -1,3 +1,4 @@
+pub mod BareText
 pub mod CellLaws
 pub mod CharacterCounts
 pub mod ChosenLaws

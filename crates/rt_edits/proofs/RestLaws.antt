@@ -163,7 +163,7 @@ element_shown table cells (suc place) =
 
 -- OTHERS
 
-listed_others : (site : ℕ) (names : List Word) (text : List ℕ) (so_far : Insertion) → (with_listed site names text so_far).others ≡ so_far.others
+pub listed_others : (site : ℕ) (names : List Word) (text : List ℕ) (so_far : Insertion) → (with_listed site names text so_far).others ≡ so_far.others
 listed_others site names [] so_far = refl
 listed_others site names (c ∷ text) so_far = refl
 

@@ -127,8 +127,13 @@ impl PlannedPieces {
         Ok(())
     }
 
-    // Adds a piece with a list. `ClockSpent`, or want of memory.
-    fn add_listed(&mut self, alloc: Global, site: Site, piece: &Piece) -> Result<(), Fault>
+    /// Adds a piece with a list. `ClockSpent`, or want of memory.
+    pub(crate) fn add_listed(
+        &mut self,
+        alloc: Global,
+        site: Site,
+        piece: &Piece,
+    ) -> Result<(), Fault>
         requires { self.old.texts.count ≤ GREATEST_COUNT }
         ensures drafts { OnOk result (map body_of self.new.texts.drafts.items ≡ map body_of self.old.texts.drafts.items
             ++ text_drafts MOST_CHARACTERS site.number self.old.texts.count self.old.texts.behind (shared_names piece.now.tags) (chars piece.now.text)) }

@@ -88,7 +88,8 @@ impl Selection {
 
     /// Takes out a character. It takes no memory.
     pub fn remove_one(&mut self, stamp: Stamp)
-        ensures { stamps_in self.new ≡ unselected (stamp ∷ []) (stamps_in self.old) }
+        ensures stamps { stamps_in self.new ≡ unselected (stamp ∷ []) (stamps_in self.old) }
+        ensures room { room_in self.old ≤ room_in self.new }
     {
         self.stamps.retain(|other| is_another(stamp, *other));
     }

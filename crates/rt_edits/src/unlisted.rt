@@ -12,15 +12,15 @@ ghost use Rattle.rt_tags.specs.States.{IsState, is_on, names_on, state_at};
 ghost use Rattle.rt_edits.specs.declared.inserting.Plan.{Plan};
 ghost use Rattle.rt_edits.specs.InsertionDrafts.{behind, text_drafts};
 ghost use Rattle.rt_edits.specs.InsertionPlans.{Plans};
-ghost use Rattle.rt_edits.specs.Insertions.{Insertion, counts_for, last_of, tags_between, with_unlisted};
+ghost use Rattle.rt_edits.specs.Insertions.{Insertion, counts_for, last_of, tags_between, with_listed, with_unlisted};
 ghost use Rattle.rt_edits.specs.PlannedPieces.{ArePlanned, AreSoFar};
 ghost use Rattle.rt_edits.specs.Selected.{stamps_in};
 ghost use Rattle.rt_edits.specs.Selections.{with_stamps};
 
-use crate::Selection;
 use crate::inserting::Between;
 use crate::lists::{chars_of, tags_of_both};
 use crate::pieces::{PlannedPieces, names_of};
+use crate::{Piece, Selection};
 use rt_stamps::{Fault, Site, Stamp};
 use rt_store::Cell;
 use rt_tags::{StateId, StateTable};
@@ -124,9 +124,23 @@ impl PlannedPieces {
         selection.has(stamp) || self.selected.contains(&stamp)
     }
 
-    /// Adds text without a list behind the pieces, or where they have no text, behind a left neighbour,
-    /// and answers the characters that stand between two others. `ClockSpent`, or want of memory.
-    pub(crate) fn add_rest(
+    // Adds text behind the pieces that has no tags and isn't selected. `ClockSpent`, or want of memory.
+    fn add_bare(&mut self, alloc: Global, site: Site, rest: &str) -> Result<(), Fault>
+        requires { self.old.texts.count ≤ GREATEST_COUNT }
+        ensures drafts { OnOk result (map body_of self.new.texts.drafts.items ≡ map body_of self.old.texts.drafts.items
+            ++ text_drafts MOST_CHARACTERS site.number self.old.texts.count self.old.texts.behind [] (chars rest.now)) }
+        ensures so_far { OnOk result ((after : Stamp) (selection : List Stamp) (listed : List Word) (so_far : Insertion)
+            → AreSoFar after selection listed self.old so_far → AreSoFar after selection listed self.new (with_listed site.number [] (chars rest.now) so_far)) }
+        ensures err { IfErr result (λ fault. (fault ≡ Fault.NoMemory) ⊎ ((fault ≡ Fault.ClockSpent)
+            × (GREATEST_COUNT < self.old.texts.count + counts_for [] (chars rest.now)))) }
+    {
+        let bare = Piece::new(String::from_str(alloc, rest)?, Vec::new(alloc));
+        self.add_listed(alloc, site, &bare)
+    }
+
+    // Adds text without a list behind the pieces, or where they have no text, behind a left neighbour,
+    // and answers the characters that stand between two others. `ClockSpent`, or want of memory.
+    fn add_rest(
         &mut self,
         alloc: Global,
         states: &StateTable,
@@ -172,5 +186,46 @@ impl PlannedPieces {
             right: after,
             stamps,
         }))
+    }
+    /// Adds text without a list behind the pieces, or where they have no text, behind a left neighbour,
+    /// and answers the characters that stand between two others. Without a right neighbour the text
+    /// has no tags and isn't selected. `ClockSpent`, or want of memory.
+    pub(crate) fn add_unlisted(
+        &mut self,
+        alloc: Global,
+        states: &StateTable,
+        site: Site,
+        selection: &Selection,
+        left: Option<Cell<StateId>>,
+        right: Option<Cell<StateId>>,
+        rest: &str,
+    ) -> Result<Option<Between>, Fault>
+        requires count { self.old.texts.count ≤ GREATEST_COUNT }
+        requires left { IfSome left (λ cell. IsState states.now cell.state) }
+        requires right { IfSome right (λ cell. IsState states.now cell.state) }
+        ensures drafts { OnOk result ((after : Stamp) (sel : List Stamp) (listed : List Word) (so_far : Insertion)
+            → IfSome right (λ cell. sel ≡ stamps_in selection.now) → AreSoFar after sel listed self.old so_far
+            → map body_of self.new.texts.drafts.items
+            ≡ map body_of self.old.texts.drafts.items ++ text_drafts MOST_CHARACTERS site.number so_far.count (behind after so_far.cells)
+            (tags_between (last_of (option_map (shown states.now) left) so_far.cells) (option_map (shown states.now) right)) (chars rest.now)) }
+        ensures plans { IfOk result (λ between. (plan : Plan) (after : Stamp) (sel : List Stamp) (listed : List Word) (so_far : Insertion)
+            → IfSome right (λ cell. sel ≡ stamps_in selection.now) → AreSoFar after sel listed self.old so_far
+            → after ≡ unwrap_or (option_map (λ cell. cell.stamp) left) ROOT → ArePlanned plan self.new between
+            → Plans plan sel so_far.others listed (with_unlisted site.number
+            (last_of (option_map (shown states.now) left) so_far.cells) (option_map (shown states.now) right) (chars rest.now) so_far)) }
+        ensures alone { IfOk result (λ between. right ≡ None → between ≡ None) }
+        ensures err { IfErr result (λ fault. (fault ≡ Fault.NoMemory) ⊎ ((fault ≡ Fault.ClockSpent)
+            × ((after : Stamp) (sel : List Stamp) (listed : List Word) (so_far : Insertion)
+            → IfSome right (λ cell. sel ≡ stamps_in selection.now) → AreSoFar after sel listed self.old so_far
+            → GREATEST_COUNT < so_far.count + counts_for
+            (tags_between (last_of (option_map (shown states.now) left) so_far.cells) (option_map (shown states.now) right)) (chars rest.now)))) }
+    {
+        match right {
+            Some(right) => self.add_rest(alloc, states, site, selection, left, right, rest),
+            None => {
+                self.add_bare(alloc, site, rest)?;
+                Ok(None)
+            }
+        }
     }
 }

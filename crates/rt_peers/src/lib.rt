@@ -1,13 +1,11 @@
-//! Sites: their state, and the commands of their widgets.
+//! Sites: their state, and what is asked of their widgets.
 #![tactic(auto)]
 
-pub mod command;
 pub mod laws;
+mod pieces;
 pub mod reply;
 pub mod site;
-mod texts;
 
-pub use command::{Command, MarkCommand, TagCommand};
 pub use reply::Reply;
 pub use rt_exchange::Received;
 pub use site::SiteState;

@@ -1,18 +1,20 @@
-// A site, and its commands.
+// A site, and what is asked of it.
 ghost use Rattle.std.specs.Prelude.{◌≡◌, ◌≤◌, map, string_bytes, IfOk, IfErr};
 ghost use Rattle.rt_stamps.specs.declared.limits.TheConstants.{MOST_CELLS};
 ghost use Rattle.rt_peers.specs.State.{new_state, is_widget};
-ghost use Rattle.rt_peers.specs.Step.{CommandGives, Gives};
+ghost use Rattle.rt_stamps.specs.Outcomes.{Answers};
+ghost use Rattle.rt_peers.specs.Step.{Gives, step, step_at};
 
 mod editing;
 mod exchange;
 mod marking;
 mod reading;
 mod replies;
+mod searching;
 mod tagging;
 
-use crate::command::{Command, command_of};
 use crate::reply::Reply;
+use rt_requests::Request;
 use rt_stamps::{Fault, Site};
 use rt_store::ListStore;
 use rt_text::View;
@@ -53,35 +55,59 @@ impl SiteState {
         Ok(SiteState { alloc, view })
     }
 
-    // A command and its words.
-    fn run_command(&mut self, command: Option<Command>, words: &[String]) -> Result<Reply, Fault>
-        ensures { CommandGives command (map (λ w. string_bytes w) words.now) self.old result self.new }
+    /// What is asked of the widget. Refused by the request's own faults, or for want of memory; then
+    /// the site is as it was.
+    pub fn request(&mut self, request: &Request<'_>) -> Result<Reply, Fault>
+        ensures { Answers (step self.old request.now) self.old result self.new }
     {
-        match command {
-            Some(Command::Insert) => self.insert(words),
-            Some(Command::Delete) => self.delete(words),
-            Some(Command::Get) => self.get(words),
-            Some(Command::Index) => self.index(words),
-            Some(Command::Compare) => self.compare(words),
-            Some(Command::Count) => self.count(words),
-            Some(Command::Mark) => self.mark(words),
-            Some(Command::Tag) => self.tag(words),
-            None => Err(Fault::BadCommand),
+        match request {
+            Request::Insert { index, texts } => self.insert(index, texts),
+            Request::Delete { indices } => self.delete(indices),
+            Request::Get { indices } => self.get(indices),
+            Request::Index { index } => self.index(index),
+            Request::Compare {
+                first,
+                comparison,
+                second,
+            } => self.compare(first, *comparison, second),
+            Request::Count { measures, from, to } => self.count(measures, from, to),
+            Request::Search(request) => self.search(request),
+            Request::Replace {
+                from: _,
+                to: _,
+                texts: _,
+            }
+            | Request::Dump {
+                kinds: _,
+                from: _,
+                to: _,
+            } => Err(Fault::BadCommand),
+            Request::Mark(request) => self.mark(request),
+            Request::Tag(request) => self.tag(request),
         }
     }
 
+    /// What is asked of the widget of a path. Refused by the first of `NoWidget` and the request's own
+    /// faults, or for want of memory; then the site is as it was.
+    pub fn answer(&mut self, widget: &str, request: &Request<'_>) -> Result<Reply, Fault>
+        ensures { Answers (step_at widget.now self.old request.now) self.old result self.new }
+    {
+        if !is_widget(widget) {
+            return Err(Fault::NoWidget);
+        }
+        self.request(request)
+    }
+
     /// `PATH COMMAND WORDS` (Tk text manual): runs a command of the widget of a path. Refused by the
-    /// first of `NoWidget`, `BadCommand`, the command's own faults, and want of memory in place of
-    /// any; then the site is as it was.
+    /// first of `NoWidget`, the faults of the words (`Request::of`) and of the request, and want of
+    /// memory in place of any; then the site is as it was.
     pub fn command(&mut self, path: &str, words: &[String]) -> Result<Reply, Fault>
         ensures { Gives path.now (map (λ w. string_bytes w) words.now) self.old result self.new }
     {
         if !is_widget(path) {
             return Err(Fault::NoWidget);
         }
-        let Some((name, args)) = words.split_first() else {
-            return Err(Fault::BadCommand);
-        };
-        self.run_command(command_of(name), args)
+        let request = Request::of(self.alloc, words)?;
+        self.request(&request)
     }
 }

@@ -1,21 +1,22 @@
--- `insert` of an index and words behind it, as a slice has them.
-use Rattle.std.proofs.Common.{◌≡◌, ◌⊎◌, ◌≤◌, ◌-◌, Err, List, [], ◌∷◌, map, take, drop, get_or, length, subst, arith, String, Global, string_bytes}
-use Rattle.std.proofs.lemmas.List.{take_all}
+-- `insert` and `replace` of indices and words behind them.
+use Rattle.std.proofs.Common.{◌≡◌, ◌⊎◌, ◌==◌, Err, List, [], ◌∷◌, false, length, map, String, Global, string_bytes}
 use Rattle.rt_stamps.specs.declared.fault.Fault.TheVariants.{NoMemory}
-use Rattle.rt_requests.specs.Asking.{Asked, AsksInsert, AsksTexts}
+use Rattle.rt_stamps.specs.Words.{Word}
+use Rattle.rt_requests.specs.declared.request.Request.TheVariants.{Insert, Replace}
+use Rattle.rt_requests.specs.Asking.{Asked, AsksInsert, AsksReplace, AsksTexts}
 
 -- what is read is asked for, or memory was wanting
 abbrev pub OrNoMemory : Type 0 → Asked → Type 0
 OrNoMemory asks result = asks ⊎ (result ≡ Err NoMemory)
 
-behind_is : (w : String Global) (words : List (String Global)) → take (length (w ∷ words) - 1) (drop 1 (w ∷ words)) ≡ words
-behind_is w words = take_all (length (w ∷ words) - 1) words (omega arith)
+pub insert_of_some : (result : Asked) (index : Word) (texts : List (String Global)) → (length texts == 0) ≡ false
+    → OrNoMemory (AsksTexts (Insert index) (map (λ w. string_bytes w) texts) result) result
+    → OrNoMemory (AsksInsert (index ∷ map (λ w. string_bytes w) texts) result) result
+insert_of_some result index [] h t = absurd (cc)
+insert_of_some result index (text ∷ texts) h t = t
 
-pub insert_of_some : (result : Asked) (words : List (String Global)) (x : String Global) → 2 ≤ length words → x ≡ get_or words 0 x
-    → OrNoMemory (AsksTexts (string_bytes x) (map (λ w. string_bytes w) (take (length words - 1) (drop 1 words))) result) result
-    → OrNoMemory (AsksInsert (map (λ w. string_bytes w) words) result) result
-insert_of_some result [] x h a t = absurd (omega arith)
-insert_of_some result (w ∷ []) x h a t = absurd (omega arith)
-insert_of_some result (w ∷ v ∷ words) x h a t =
-    let front : OrNoMemory (AsksTexts (string_bytes x) (map (λ w. string_bytes w) (v ∷ words)) result) result = subst (λ (l : List (String Global)). OrNoMemory (AsksTexts (string_bytes x) (map (λ w. string_bytes w) l) result) result) (behind_is w (v ∷ words)) t in
-    subst (λ (y : String Global). OrNoMemory (AsksTexts (string_bytes y) (map (λ w. string_bytes w) (v ∷ words)) result) result) a front
+pub replace_of_some : (result : Asked) (from to : Word) (texts : List (String Global)) → (length texts == 0) ≡ false
+    → OrNoMemory (AsksTexts (Replace from to) (map (λ w. string_bytes w) texts) result) result
+    → OrNoMemory (AsksReplace (from ∷ to ∷ map (λ w. string_bytes w) texts) result) result
+replace_of_some result from to [] h t = absurd (cc)
+replace_of_some result from to (text ∷ texts) h t = t

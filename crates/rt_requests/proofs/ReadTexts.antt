@@ -27,7 +27,7 @@ pub read_all : (words left : List Word) (rest : Word) (pieces : List PieceValue)
 read_all words left rest pieces h r = subst (λ (v : List PieceValue). AreTexts words v rest) (append-nil pieces) (r.reads_on [] rest h)
 
 -- a text and a list in front, and those behind them, as a slice has them
-behind_two : (w v : String Global) (words : List (String Global)) → take (length (w ∷ v ∷ words) - 2) (drop 2 (w ∷ v ∷ words)) ≡ words
+pub behind_two : (w v : String Global) (words : List (String Global)) → take (length (w ∷ v ∷ words) - 2) (drop 2 (w ∷ v ∷ words)) ≡ words
 behind_two w v words = take_all (length (w ∷ v ∷ words) - 2) words (omega arith)
 
 pub two_and_more : (words : List (String Global)) (x y : String Global) → 2 ≤ length words → x ≡ get_or words 0 x → y ≡ get_or words 1 y

@@ -1,25 +1,28 @@
 -- Words that ask for a request.
-use Rattle.std.proofs.Common.{◌≡◌, ◌∙◌, inl, inr, ℕ, ◌==◌, Ok, Some, None, Option, List, [], ◌∷◌, ◌++◌, Bool, true, false, true≢false, refl, sym, ap, arith, codes, length, map}
-use Rattle.std.specs.List.{flat_map, list_any, prefix_len}
+use Rattle.std.proofs.Common.{◌≡◌, ◌∙◌, inl, inr, ℕ, ◌==◌, Ok, Some, None, Option, List, [], ◌∷◌, ◌++◌, Bool, true, false, true≢false, refl, sym, ap, arith, codes, length, map, take, drop}
+use Rattle.std.specs.List.{flat_map, list_all, list_any, prefix_len}
+use Rattle.std.specs.Prelude.{IsTrue}
 use Rattle.std.proofs.lemmas.Bool.{ne_eqb}
 use Rattle.std.proofs.Math.Seq.{take-append_seam, drop-append_seam}
 use Rattle.rt_marks.specs.declared.gravity.Gravity.TheVariants.{Left, Right}
 use Rattle.rt_marks.specs.Marks.{gravity_word}
 use Rattle.rt_stamps.specs.Words.{Word, EndsWord, IsBare, IsEscaped, IsSpelling, SpellsList, escape_of, is_list_blank, needs_quotes, text_of_word}
-use Rattle.rt_words.proofs.BareWords.{both_false}
+use Rattle.rt_words.proofs.BareWords.{both_false, both_true}
 use Rattle.rt_requests.specs.declared.comparison.Comparison.{Comparison}
 use Rattle.rt_requests.specs.declared.comparison.Comparison.TheVariants.{Less, LessOrEqual, Equal, GreaterOrEqual, Greater, NotEqual}
+use Rattle.rt_requests.specs.declared.kinds.Kinds.{Kinds}
 use Rattle.rt_requests.specs.declared.measure.Measure.{Measure}
 use Rattle.rt_requests.specs.declared.measure.Measure.TheVariants.{Chars, Indices, Lines}
 use Rattle.rt_requests.specs.declared.request.MarkRequest.{MarkRequest}
 use Rattle.rt_requests.specs.declared.request.MarkRequest.TheVariants as marks
 use Rattle.rt_requests.specs.declared.request.Request.{Request}
-use Rattle.rt_requests.specs.declared.request.Request.TheVariants.{Insert, Delete, Get, Index, Compare, Count, Mark, Tag}
+use Rattle.rt_requests.specs.declared.request.Request.TheVariants.{Insert, Delete, Replace, Get, Index, Compare, Count, Search, Dump, Mark, Tag}
 use Rattle.rt_requests.specs.declared.request.TagRequest.{TagRequest}
 use Rattle.rt_requests.specs.declared.request.TagRequest.TheVariants as tags
 use Rattle.rt_requests.specs.Parts.{PieceValue, all_of}
-use Rattle.rt_requests.specs.Asking.{AreTexts, Asks, CanBeAsked, asked_count}
-use Rattle.rt_requests.specs.Switches.{is_switch, measures_of, operator_of, switch_of}
+use Rattle.rt_requests.specs.Asking.{AreTexts, Asked, Asks, CanBeAsked, as_request, asked_count, asked_distances, asked_dump, asked_elements}
+use Rattle.rt_requests.specs.Switches.{is_switch, kinds_of, measures_of, operator_of, shows_some, switch_of}
+use Rattle.rt_requests.proofs.SpelledSearches.{any_search_asked, maybe_word, search_words}
 
 -- LISTS OF TAGS
 
@@ -79,6 +82,11 @@ insert_asked : (index : Word) (pieces : List PieceValue) (rest : Word)
 insert_asked index [] rest = inl (record { pieces = []; rest = rest }, are_texts [] rest, refl)
 insert_asked index (piece ∷ pieces) rest = inl (record { pieces = piece ∷ pieces; rest = rest }, are_texts (piece ∷ pieces) rest, refl)
 
+replace_asked : (from to : Word) (pieces : List PieceValue) (rest : Word)
+    → Asks (codes "replace" ∷ from ∷ to ∷ texts_words pieces rest) (Ok (Replace from to (record { pieces = pieces; rest = rest })))
+replace_asked from to [] rest = inl (record { pieces = []; rest = rest }, are_texts [] rest, refl)
+replace_asked from to (piece ∷ pieces) rest = inl (record { pieces = piece ∷ pieces; rest = rest }, are_texts (piece ∷ pieces) rest, refl)
+
 -- COMPARISONS AND COUNTS
 
 compare_asked : (first second : Word) (comparison : Comparison)
@@ -96,20 +104,68 @@ measures_asked (Chars ∷ measures) = rw (measures_asked measures) refl
 measures_asked (Indices ∷ measures) = rw (measures_asked measures) refl
 measures_asked (Lines ∷ measures) = rw (measures_asked measures) refl
 
-switches_first : (measures : List Measure) (rest : List Word) → prefix_len is_switch rest ≡ 0
-    → prefix_len is_switch (map switch_of measures ++ rest) ≡ length (map switch_of measures)
-switches_first [] rest h = h
-switches_first (Chars ∷ measures) rest h = rw (switches_first measures rest h) (omega arith)
-switches_first (Indices ∷ measures) rest h = rw (switches_first measures rest h) (omega arith)
-switches_first (Lines ∷ measures) rest h = rw (switches_first measures rest h) (omega arith)
+-- switches, and a word that is none behind them
+switches_first : (switches rest : List Word) → list_all is_switch switches ≡ true → prefix_len is_switch rest ≡ 0 → prefix_len is_switch (switches ++ rest) ≡ length switches
+switches_first [] rest s h = h
+switches_first (switch ∷ switches) rest s h =
+    let both = both_true (is_switch switch) (list_all is_switch switches) s in rw (both.0, switches_first switches rest both.1 h) (omega arith)
 
-no_switch_first : (from to : Word) → is_switch from ≡ false → prefix_len is_switch (from ∷ to ∷ []) ≡ 0
-no_switch_first from to h = rw h refl
+no_switch_first : (from : Word) (rest : List Word) → is_switch from ≡ false → prefix_len is_switch (from ∷ rest) ≡ 0
+no_switch_first from rest h = rw h refl
+
+-- switches and indices, as `count` and `dump` take them apart
+taken_apart : (f : List Word → List Word → Asked) (switches : List Word) (from : Word) (rest : List Word) → list_all is_switch switches ≡ true → is_switch from ≡ false
+    → f (take (prefix_len is_switch (switches ++ from ∷ rest)) (switches ++ from ∷ rest)) (drop (prefix_len is_switch (switches ++ from ∷ rest)) (switches ++ from ∷ rest))
+    ≡ f switches (from ∷ rest)
+taken_apart f switches from rest s h =
+    rw (switches_first switches (from ∷ rest) s (no_switch_first from rest h), take-append_seam switches (from ∷ rest), drop-append_seam switches (from ∷ rest)) refl
+
+measures_switches : (measures : List Measure) → list_all is_switch (map switch_of measures) ≡ true
+measures_switches [] = refl
+measures_switches (Chars ∷ measures) = measures_switches measures
+measures_switches (Indices ∷ measures) = measures_switches measures
+measures_switches (Lines ∷ measures) = measures_switches measures
 
 count_asked : (measures : List Measure) (from to : Word) → is_switch from ≡ false
     → asked_count (map switch_of measures ++ from ∷ to ∷ []) ≡ Ok (Count measures from to)
 count_asked measures from to h =
-    rw (switches_first measures (from ∷ to ∷ []) (no_switch_first from to h), take-append_seam (map switch_of measures) (from ∷ to ∷ []), drop-append_seam (map switch_of measures) (from ∷ to ∷ []), measures_asked measures) refl
+    taken_apart asked_distances (map switch_of measures) from (to ∷ []) (measures_switches measures) h ∙ rw (measures_asked measures) refl
+
+-- DUMPS
+
+-- a switch that may be left out
+abbrev switch_if : Bool → Word → List Word
+switch_if true switch = switch ∷ []
+switch_if false switch = []
+
+abbrev kinds_words : Bool → Bool → Bool → List Word
+kinds_words tags marks text = switch_if tags (codes "-tag") ++ switch_if marks (codes "-mark") ++ switch_if text (codes "-text")
+
+abbrev kinds_by : Bool → Bool → Bool → Kinds
+kinds_by tags marks text = record { tags = tags; marks = marks; text = text }
+
+kinds_asked : (tags marks text : Bool) → IsTrue (shows_some (kinds_by tags marks text))
+    → (list_all is_switch (kinds_words tags marks text) ≡ true) × (kinds_of (kinds_words tags marks text) ≡ Some (kinds_by tags marks text))
+kinds_asked true true true h = (refl, refl)
+kinds_asked true true false h = (refl, refl)
+kinds_asked true false true h = (refl, refl)
+kinds_asked true false false h = (refl, refl)
+kinds_asked false true true h = (refl, refl)
+kinds_asked false true false h = (refl, refl)
+kinds_asked false false true h = (refl, refl)
+kinds_asked false false false h = absurd (true≢false (sym h))
+
+elements_asked : (switches : List Word) (kinds : Kinds) (from : Word) (to : Option Word) → kinds_of switches ≡ Some kinds
+    → asked_elements switches (from ∷ maybe_word to) ≡ Ok (Dump kinds from to)
+elements_asked switches kinds from None k = rw k refl
+elements_asked switches kinds from (Some to) k = rw k refl
+
+dump_asked : (kinds : Kinds) (from : Word) (to : Option Word) → IsTrue (shows_some kinds) → is_switch from ≡ false
+    → asked_dump (kinds_words kinds.tags kinds.marks kinds.text ++ from ∷ maybe_word to) ≡ Ok (Dump kinds from to)
+dump_asked kinds from to s h =
+    let switches = kinds_words kinds.tags kinds.marks kinds.text in
+    let asked = kinds_asked kinds.tags kinds.marks kinds.text s in
+    taken_apart asked_elements switches from (maybe_word to) asked.0 h ∙ elements_asked switches kinds from to asked.1
 
 -- MARKS
 
@@ -133,11 +189,6 @@ mark_asked (marks.Next word) = refl
 mark_asked (marks.Previous word) = refl
 
 -- TAGS
-
--- a word that may be left out
-abbrev maybe_word : Option Word → List Word
-maybe_word None = []
-maybe_word (Some word) = word ∷ []
 
 abbrev tag_words : TagRequest → List Word
 tag_words (tags.Add name indices) = codes "add" ∷ name ∷ all_of indices
@@ -172,9 +223,13 @@ tag_asked (tags.PreviousRange name to (Some from)) = refl
 pub spelled : (request : Request) → CanBeAsked request → (words : List Word) × Asks words (Ok request)
 spelled (Insert index texts) h = (codes "insert" ∷ index ∷ texts_words texts.pieces texts.rest, insert_asked index texts.pieces texts.rest)
 spelled (Delete indices) h = (codes "delete" ∷ all_of indices, refl)
+spelled (Replace from to texts) h = (codes "replace" ∷ from ∷ to ∷ texts_words texts.pieces texts.rest, replace_asked from to texts.pieces texts.rest)
 spelled (Get indices) h = (codes "get" ∷ all_of indices, refl)
 spelled (Index index) h = (codes "index" ∷ index ∷ [], refl)
 spelled (Compare first comparison second) h = (codes "compare" ∷ first ∷ operator_of comparison ∷ second ∷ [], compare_asked first second comparison)
 spelled (Count measures from to) h = (codes "count" ∷ (map switch_of measures ++ from ∷ to ∷ []), sym (count_asked measures from to h))
+spelled (Search request) h = (codes "search" ∷ search_words request, sym (ap (as_request Search) (any_search_asked request)))
+spelled (Dump kinds from to) h =
+    (codes "dump" ∷ (kinds_words kinds.tags kinds.marks kinds.text ++ from ∷ maybe_word to), sym (dump_asked kinds from to h.0 h.1))
 spelled (Mark request) h = (codes "mark" ∷ mark_words request, mark_asked request)
 spelled (Tag request) h = (codes "tag" ∷ tag_words request, tag_asked request)

@@ -1,5 +1,7 @@
 -- The parts of requests: words, and texts with their tags.
-use Rattle.std.specs.Prelude.{List, [], ◌∷◌, Option, Some, None}
+use Rattle.std.specs.Prelude.{List, [], ◌∷◌, Option, Some, None, option_map, ok_or, Result, Ok, Err}
+use Rattle.rt_stamps.specs.declared.fault.Fault.{Fault}
+use Rattle.rt_stamps.specs.declared.fault.Fault.TheVariants.{BadCommand}
 use Rattle.rt_stamps.specs.Words.{Word}
 
 -- one word or more
@@ -28,3 +30,13 @@ pub record PieceValue : Type 0 where
 pub record TextsValue : Type 0 where
   pub pieces : List PieceValue
   pub rest : Word
+
+-- a request of one word or more
+abbrev pub of_several : {T : Type 0} → (Several → T) → List Word → Result T Fault
+of_several request words = ok_or (option_map request (several words)) BadCommand
+
+-- a request of one word
+abbrev pub of_one : {T : Type 0} → (Word → T) → List Word → Result T Fault
+of_one request (word ∷ []) = Ok (request word)
+of_one request [] = Err BadCommand
+of_one request (word ∷ more ∷ words) = Err BadCommand

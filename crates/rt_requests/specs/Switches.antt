@@ -1,9 +1,11 @@
--- The words of comparisons and of what is counted (Tk text manual, "compare" and "count").
-use Rattle.std.specs.Prelude.{List, [], ◌∷◌, ◌==◌, Bool, false, Option, Some, None, option_map, option_and_then, if◌then◌else◌, codes}
+-- The words of comparisons, of what is counted and of what is dumped (Tk text manual, "compare", "count" and "dump").
+use Rattle.std.specs.Prelude.{List, [], ◌∷◌, ◌==◌, ◌||◌, Bool, false, true, Option, Some, None, option_map, option_and_then, if◌then◌else◌, codes}
+use Rattle.std.specs.List.{list_all, list_any}
 use Rattle.std.specs.Str.{bytes_eq}
 use Rattle.rt_stamps.specs.Words.{Word}
 use Rattle.rt_requests.specs.declared.comparison.Comparison.{Comparison}
 use Rattle.rt_requests.specs.declared.comparison.Comparison.TheVariants.{Less, LessOrEqual, Equal, GreaterOrEqual, Greater, NotEqual}
+use Rattle.rt_requests.specs.declared.kinds.Kinds.{Kinds}
 use Rattle.rt_requests.specs.declared.measure.Measure.{Measure}
 use Rattle.rt_requests.specs.declared.measure.Measure.TheVariants.{Chars, Indices, Lines}
 
@@ -32,6 +34,10 @@ abbrev pub is_switch : Word → Bool
 is_switch [] = false
 is_switch (c ∷ word) = c == 45
 
+-- a switch is given
+abbrev pub has : List Word → Word → Bool
+has switches name = list_any (λ switch. bytes_eq switch name) switches
+
 -- a measure as it is written
 abbrev pub switch_of : Measure → Word
 switch_of Chars = codes "-chars"
@@ -50,3 +56,23 @@ measure_of switch =
 abbrev pub measures_of : List Word → Option (List Measure)
 measures_of [] = Some []
 measures_of (switch ∷ switches) = option_and_then (λ measure. option_map (λ others. measure ∷ others) (measures_of switches)) (measure_of switch)
+
+-- a switch of `dump`
+abbrev pub is_dump_switch : Word → Bool
+is_dump_switch switch = list_any (λ name. bytes_eq switch name) (codes "-all" ∷ codes "-mark" ∷ codes "-tag" ∷ codes "-text" ∷ [])
+
+-- elements of a kind are shown for its switch and for `-all`; where there is no switch, those of all kinds are
+abbrev pub shows : List Word → Word → Bool
+shows [] kind = true
+shows (switch ∷ switches) kind = has (switch ∷ switches) (codes "-all") || has (switch ∷ switches) kind
+
+-- the kinds that switches ask for; none where one of them is unknown
+abbrev pub kinds_of : List Word → Option Kinds
+kinds_of switches =
+    if list_all is_dump_switch switches
+    then Some (record { tags = shows switches (codes "-tag"); marks = shows switches (codes "-mark"); text = shows switches (codes "-text") })
+    else None
+
+-- there is a kind of elements that is shown
+abbrev pub shows_some : Kinds → Bool
+shows_some kinds = kinds.tags || kinds.marks || kinds.text

@@ -1,8 +1,9 @@
 // Insertions and removals.
-ghost use Rattle.std.specs.Prelude.{◌≡◌, ◌<◌, ◌⊎◌, [], Err, IfOk, IfErr, length, map, string_bytes};
+ghost use Rattle.std.specs.Prelude.{◌≡◌, ◌<◌, ◌⊎◌, [], ◌∷◌, Err, IfOk, IfErr, length, map, string_bytes};
 ghost use Rattle.rt_stamps.specs.Words.{SpellsList, IsBadlyQuotedList};
-ghost use Rattle.rt_requests.specs.declared.request.Request.TheVariants.{Delete};
-ghost use Rattle.rt_requests.specs.Asking.{AreTexts, AreNoTexts, AsksInsert, AsksTexts, of_several};
+ghost use Rattle.rt_requests.specs.declared.request.Request.TheVariants.{Delete, Insert, Replace};
+ghost use Rattle.rt_requests.specs.Asking.{AreTexts, AreNoTexts, AsksInsert, AsksReplace, AsksTexts};
+ghost use Rattle.rt_requests.specs.Parts.{of_several};
 
 use crate::request::Request;
 use crate::texts::{Piece, Texts};
@@ -15,10 +16,13 @@ use std::alloc::Global;
 pub(crate) fn insert<'a>(alloc: Global, words: &'a [String]) -> Result<Request<'a>, Fault>
     ensures { AsksInsert (map (λ w. string_bytes w) words.now) result ⊎ (result ≡ Err Fault.NoMemory) }
 {
-    let [index, _, ..] = words else {
+    let Some((index, words)) = words.split_first() else {
         return Err(Fault::BadCommand);
     };
-    insert_texts(alloc, index, &words[1..])
+    if words.is_empty() {
+        return Err(Fault::BadCommand);
+    }
+    insert_texts(alloc, index, words)
 }
 
 // `insert` of texts with their lists, as words.
@@ -27,11 +31,51 @@ fn insert_texts<'a>(
     index: &'a str,
     words: &'a [String],
 ) -> Result<Request<'a>, Fault>
-    ensures { AsksTexts index.now (map (λ w. string_bytes w) words.now) result ⊎ (result ≡ Err Fault.NoMemory) }
+    ensures { AsksTexts (Insert index.now) (map (λ w. string_bytes w) words.now) result ⊎ (result ≡ Err Fault.NoMemory) }
 {
     let texts = read_texts(alloc, words)?;
     Ok(Request::Insert {
         index: Word::new(index),
+        texts,
+    })
+}
+
+// `replace INDEX1 INDEX2 CHARS ?TAGLIST CHARS TAGLIST ...?`.
+pub(crate) fn replace<'a>(alloc: Global, words: &'a [String]) -> Result<Request<'a>, Fault>
+    ensures { AsksReplace (map (λ w. string_bytes w) words.now) result ⊎ (result ≡ Err Fault.NoMemory) }
+{
+    let Some((from, words)) = words.split_first() else {
+        return Err(Fault::BadCommand);
+    };
+    replace_from(alloc, from, words)
+}
+
+// `replace` from an index, with the words behind it.
+fn replace_from<'a>(alloc: Global, from: &'a str, words: &'a [String]) -> Result<Request<'a>, Fault>
+    ensures { AsksReplace (from.now ∷ map (λ w. string_bytes w) words.now) result ⊎ (result ≡ Err Fault.NoMemory) }
+{
+    let Some((to, texts)) = words.split_first() else {
+        return Err(Fault::BadCommand);
+    };
+    if texts.is_empty() {
+        return Err(Fault::BadCommand);
+    }
+    replace_by_texts(alloc, from, to, texts)
+}
+
+// `replace` by texts with their lists, as words.
+fn replace_by_texts<'a>(
+    alloc: Global,
+    from: &'a str,
+    to: &'a str,
+    words: &'a [String],
+) -> Result<Request<'a>, Fault>
+    ensures { AsksTexts (Replace from.now to.now) (map (λ w. string_bytes w) words.now) result ⊎ (result ≡ Err Fault.NoMemory) }
+{
+    let texts = read_texts(alloc, words)?;
+    Ok(Request::Replace {
+        from: Word::new(from),
+        to: Word::new(to),
         texts,
     })
 }

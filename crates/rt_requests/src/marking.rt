@@ -1,7 +1,9 @@
 // What is asked of marks.
 ghost use Rattle.std.specs.Prelude.{◌≡◌, map, string_bytes};
 ghost use Rattle.rt_requests.specs.declared.request.MarkRequest.TheVariants.{Next, Previous, Unset};
-ghost use Rattle.rt_requests.specs.Asking.{asked_gravity, asked_mark, asked_mark_names, asked_mark_set, asked_of_marks, asked_of_one, of_several};
+ghost use Rattle.rt_requests.specs.Asking.{asked_mark};
+ghost use Rattle.rt_requests.specs.MarkWords.{asked_gravity, asked_mark_names, asked_mark_set, asked_of_marks};
+ghost use Rattle.rt_requests.specs.Parts.{of_one, of_several};
 
 use crate::request::{MarkRequest, Request};
 use crate::word::{Word, Words};
@@ -86,7 +88,7 @@ fn names<'a>(words: &'a [String]) -> Result<MarkRequest<'a>, Fault>
 
 // `mark next INDEX`.
 fn next<'a>(words: &'a [String]) -> Result<MarkRequest<'a>, Fault>
-    ensures { result ≡ asked_of_one Next (map (λ w. string_bytes w) words.now) }
+    ensures { result ≡ of_one Next (map (λ w. string_bytes w) words.now) }
 {
     let [word] = words else {
         return Err(Fault::BadCommand);
@@ -98,7 +100,7 @@ fn next<'a>(words: &'a [String]) -> Result<MarkRequest<'a>, Fault>
 
 // `mark previous INDEX`.
 fn previous<'a>(words: &'a [String]) -> Result<MarkRequest<'a>, Fault>
-    ensures { result ≡ asked_of_one Previous (map (λ w. string_bytes w) words.now) }
+    ensures { result ≡ of_one Previous (map (λ w. string_bytes w) words.now) }
 {
     let [word] = words else {
         return Err(Fault::BadCommand);

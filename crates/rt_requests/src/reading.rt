@@ -1,13 +1,14 @@
 // Questions about the text.
-ghost use Rattle.std.specs.Prelude.{◌≡◌, ◌≤◌, ◌⊎◌, Err, length, map, string_bytes};
-ghost use Rattle.std.specs.List.{prefix_len};
+ghost use Rattle.std.specs.Prelude.{◌≡◌, ◌⊎◌, Err, map, string_bytes};
 ghost use Rattle.rt_requests.specs.declared.request.Request.TheVariants.{Get};
-ghost use Rattle.rt_requests.specs.Asking.{asked_compare, asked_count, asked_distances, asked_index, of_several};
-ghost use Rattle.rt_requests.specs.Switches.{is_switch};
+ghost use Rattle.rt_requests.specs.Asking.{asked_compare, asked_count, asked_distances, asked_dump, asked_elements, asked_from, asked_index};
+ghost use Rattle.rt_requests.specs.Parts.{of_several};
 
 use crate::comparison::Comparison;
+use crate::kinds::Kinds;
 use crate::measure::Measures;
 use crate::request::Request;
+use crate::switches::switches_len;
 use crate::word::{Word, Words};
 use rt_stamps::Fault;
 use std::alloc::Global;
@@ -49,21 +50,6 @@ pub(crate) fn compare<'a>(words: &'a [String]) -> Result<Request<'a>, Fault>
     })
 }
 
-// Whether a word is a switch.
-fn is_switch(word: &str) -> bool
-    ensures { result ≡ is_switch word.now }
-{
-    word.as_bytes().first() == Some(&b'-')
-}
-
-// How many switches some words begin with.
-fn switches_len(words: &[String]) -> usize
-    ensures value { result ≡ prefix_len (λ w. is_switch (string_bytes w)) words.now }
-    ensures within { result ≤ length words.now }
-{
-    words.iter().take_while(|word| is_switch(word)).count()
-}
-
 // `count ?SWITCH ...? INDEX INDEX`.
 pub(crate) fn count<'a>(alloc: Global, words: &'a [String]) -> Result<Request<'a>, Fault>
     ensures { (result ≡ asked_count (map (λ w. string_bytes w) words.now)) ⊎ (result ≡ Err Fault.NoMemory) }
@@ -89,5 +75,42 @@ fn distances<'a>(
         measures,
         from: Word::new(from),
         to: Word::new(to),
+    })
+}
+
+// `dump ?SWITCH ...? INDEX ?INDEX?`.
+pub(crate) fn dump<'a>(words: &'a [String]) -> Result<Request<'a>, Fault>
+    ensures { result ≡ asked_dump (map (λ w. string_bytes w) words.now) }
+{
+    let switches = switches_len(words);
+    elements(&words[..switches], &words[switches..])
+}
+
+// `dump` with its switches and its indices.
+fn elements<'a>(switches: &[String], indices: &'a [String]) -> Result<Request<'a>, Fault>
+    ensures { result ≡ asked_elements (map (λ w. string_bytes w) switches.now) (map (λ w. string_bytes w) indices.now) }
+{
+    match indices {
+        [from] => elements_from(switches, from, None),
+        [from, to] => elements_from(switches, from, Some(Word::new(to))),
+        _ => Err(Fault::BadCommand),
+    }
+}
+
+// `dump` from an index on.
+fn elements_from<'a>(
+    switches: &[String],
+    from: &'a str,
+    to: Option<Word<'a>>,
+) -> Result<Request<'a>, Fault>
+    ensures { result ≡ asked_from (map (λ w. string_bytes w) switches.now) from.now to.entry }
+{
+    let Some(kinds) = Kinds::of(switches) else {
+        return Err(Fault::BadOption);
+    };
+    Ok(Request::Dump {
+        kinds,
+        from: Word::new(from),
+        to,
     })
 }

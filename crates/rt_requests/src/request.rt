@@ -3,14 +3,17 @@ ghost use Rattle.std.specs.Prelude.{◌≡◌, ◌⊎◌, Err, map, string_bytes
 ghost use Rattle.rt_requests.specs.Asking.{Asks, AsksOf};
 
 use crate::comparison::Comparison;
-use crate::editing::{delete, insert};
+use crate::editing::{delete, insert, replace};
+use crate::kinds::Kinds;
 use crate::marking::mark;
 use crate::measure::Measures;
-use crate::reading::{compare, count, get, index};
+use crate::reading::{compare, count, dump, get, index};
+use crate::searching::search;
 use crate::tagging::tag;
 use crate::texts::Texts;
 use crate::word::{Word, Words};
 use rt_marks::Gravity;
+use rt_search::{Overlaps, Search};
 use rt_stamps::Fault;
 use std::alloc::Global;
 
@@ -25,6 +28,12 @@ pub enum Request<'a> {
     /// The characters in the ranges of some indices are removed.
     Delete {
         indices: Words<'a>,
+    },
+    /// The characters between two indices are removed, and text is put in their place.
+    Replace {
+        from: Word<'a>,
+        to: Word<'a>,
+        texts: Texts<'a>,
     },
     /// The text in the ranges of some indices.
     Get {
@@ -46,10 +55,38 @@ pub enum Request<'a> {
         from: Word<'a>,
         to: Word<'a>,
     },
+    /// Where a pattern stands.
+    Search(SearchRequest<'a>),
+    /// Tags, marks and text from an index up to another, or of the character at an index.
+    Dump {
+        kinds: Kinds,
+        from: Word<'a>,
+        to: Option<Word<'a>>,
+    },
     /// Something is asked of marks.
     Mark(MarkRequest<'a>),
     /// Something is asked of tags.
     Tag(TagRequest<'a>),
+}
+
+/// Which matches are wanted (Tk text manual, "search").
+#[derive(Clone, Copy, Debug, PartialEq, Eq)]
+pub enum Wanted {
+    /// The first one. A search that isn't told wants it.
+    One,
+    /// `-all`: each one, with or without those that overlap one that is taken.
+    Each(Overlaps),
+}
+
+/// What `search` asks for (Tk text manual, "search"): how to search, which matches are wanted, the pattern, and the
+/// indices where to begin and perhaps to stop.
+#[derive(Drop)]
+pub struct SearchRequest<'a> {
+    pub search: Search,
+    pub wanted: Wanted,
+    pub pattern: Word<'a>,
+    pub start: Word<'a>,
+    pub stop: Option<Word<'a>>,
 }
 
 /// What is asked of marks (Tk text manual, "mark").
@@ -142,10 +179,13 @@ fn by_name<'a>(alloc: Global, name: &str, words: &'a [String]) -> Result<Request
     match name {
         "insert" => insert(alloc, words),
         "delete" => delete(words),
+        "replace" => replace(alloc, words),
         "get" => get(words),
         "index" => index(words),
         "compare" => compare(words),
         "count" => count(alloc, words),
+        "search" => search(words),
+        "dump" => dump(words),
         "mark" => mark(words),
         "tag" => tag(words),
         _ => Err(Fault::BadCommand),

@@ -1,7 +1,9 @@
 // What is asked of tags.
 ghost use Rattle.std.specs.Prelude.{◌≡◌, map, string_bytes};
 ghost use Rattle.rt_requests.specs.declared.request.TagRequest.TheVariants.{Add, Delete, Lower, NextRange, PreviousRange, Raise, Ranges, Remove};
-ghost use Rattle.rt_requests.specs.Asking.{asked_of_one, asked_of_tags, asked_order, asked_range, asked_tag, asked_tag_names, asked_tagging, of_several};
+ghost use Rattle.rt_requests.specs.Asking.{asked_tag};
+ghost use Rattle.rt_requests.specs.Parts.{of_one, of_several};
+ghost use Rattle.rt_requests.specs.TagWords.{asked_of_tags, asked_order, asked_range, asked_tag_names, asked_tagging};
 
 use crate::request::{Request, TagRequest};
 use crate::word::{Word, Words};
@@ -121,7 +123,7 @@ fn names<'a>(words: &'a [String]) -> Result<TagRequest<'a>, Fault>
 
 // `tag ranges NAME`.
 fn ranges<'a>(words: &'a [String]) -> Result<TagRequest<'a>, Fault>
-    ensures { result ≡ asked_of_one Ranges (map (λ w. string_bytes w) words.now) }
+    ensures { result ≡ of_one Ranges (map (λ w. string_bytes w) words.now) }
 {
     let [name] = words else {
         return Err(Fault::BadCommand);

@@ -14,7 +14,7 @@ pub use commands::Commands;
 pub use engine::Ended;
 pub use reply::reply_line;
 pub use rt_files::{JoinFault, join_files, show_file};
-pub use rt_peers::{Command, Received, Reply, SiteState};
+pub use rt_peers::{Received, Reply, SiteState};
 pub use rt_words::words;
 pub use scripts::run;
 pub use site_lines::Session;

@@ -1,2 +1,2 @@
 pub mod Lists
-pub mod Words
+pub mod Refusals

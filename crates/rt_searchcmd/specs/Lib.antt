@@ -1,5 +1,4 @@
 pub mod SearchCommand
-pub mod SearchWords
 pub use Rattle.rt_search.specs.Searches
 pub use Rattle.rt_stamps.specs.Outcomes
 pub use Rattle.rt_text.specs.Widgets

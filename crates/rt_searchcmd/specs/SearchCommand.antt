@@ -1,11 +1,11 @@
 -- What `search` answers (Tk text manual, "search"): of the places where the pattern stands, the first, or all of them.
 use Rattle.std.specs.Prelude.{ℕ, List, [], ◌∷◌, ◌++◌, map, Option, Some, None, option_map, option_to_list, Result}
 use Rattle.std.specs.Str.{chars}
+use Rattle.rt_requests.specs.declared.request.SearchRequest.{SearchRequest}
+use Rattle.rt_requests.specs.declared.request.Wanted.{Wanted}
+use Rattle.rt_requests.specs.declared.request.Wanted.TheVariants.{One, Each}
 use Rattle.rt_search.specs.declared.search.Search.{Search}
 use Rattle.rt_search.specs.Searches.{all_matches, first_match}
-use Rattle.rt_searchcmd.specs.declared.request.Wanted.{Wanted}
-use Rattle.rt_searchcmd.specs.declared.request.Wanted.TheVariants.{One, Each}
-use Rattle.rt_searchcmd.specs.SearchWords.{Asked}
 use Rattle.rt_stamps.specs.declared.fault.Fault.{Fault}
 use Rattle.rt_stamps.specs.declared.fault.Fault.TheVariants.{EmptyPattern}
 use Rattle.rt_stamps.specs.declared.position.Position.{Position}
@@ -21,19 +21,20 @@ pattern_check [] = Some EmptyPattern
 pattern_check (c ∷ pattern) = None
 
 -- the indices of a search, and its pattern
-abbrev pub search_check : Viewed → Asked → Option Fault
-search_check view asked = first_of (map (index_check (widget_of view)) (asked.start ∷ option_to_list asked.stop) ++ pattern_check asked.pattern ∷ [])
+abbrev pub search_check : Viewed → SearchRequest → Option Fault
+search_check view request = first_of (map (index_check (widget_of view)) (request.start ∷ option_to_list request.stop) ++ pattern_check request.pattern ∷ [])
 
 -- the places that are wanted of those where a pattern stands in a text, from a start on, and up to a stop where there is one
 abbrev pub places_wanted : Wanted → Search → List ℕ → List ℕ → ℕ → Option ℕ → List ℕ
 places_wanted One search pattern text start stop = option_to_list (first_match search pattern text start stop)
 places_wanted (Each overlaps) search pattern text start stop = all_matches overlaps search pattern text start stop
 
-abbrev pub places_found : Viewed → Asked → List ℕ
-places_found view asked =
+abbrev pub places_found : Viewed → SearchRequest → List ℕ
+places_found view request =
     let w = widget_of view in
-    places_wanted asked.wanted asked.search (chars asked.pattern) (text_shown view) (place_at_index w asked.start) (option_map (place_at_index w) asked.stop)
+    places_wanted request.wanted request.search (chars request.pattern) (text_shown view)
+    (place_at_index w request.start) (option_map (place_at_index w) request.stop)
 
 -- the lines and characters where the pattern stands
-abbrev pub searched : Viewed → Asked → Result (List Position) Fault
-searched view asked = unless (search_check view asked) (map (position_at (text_shown view)) (places_found view asked))
+abbrev pub searched : Viewed → SearchRequest → Result (List Position) Fault
+searched view request = unless (search_check view request) (map (position_at (text_shown view)) (places_found view request))

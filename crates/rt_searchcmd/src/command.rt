@@ -1,5 +1,5 @@
 // What a search answers.
-ghost use Rattle.std.specs.Prelude.{◌≡◌, ◌⊎◌, ◌<◌, ◌≤◌, All, Ok, None, Some, IfOk, IfErr, IfSome, length, map, option_copied, option_map, option_to_list};
+ghost use Rattle.std.specs.Prelude.{◌≡◌, ◌⊎◌, ◌<◌, ◌≤◌, All, Ok, None, Some, IfOk, IfErr, IfSome, length, map, option_map, option_to_list};
 ghost use Rattle.std.specs.Str.{chars};
 ghost use Rattle.rt_search.specs.Searches.{all_matches, first_match};
 ghost use Rattle.rt_searchcmd.specs.SearchCommand.{searched};
@@ -8,7 +8,7 @@ ghost use Rattle.rt_stamps.specs.Places.{position_at};
 ghost use Rattle.rt_text.specs.Index.{index_check, place_at_index};
 ghost use Rattle.rt_text.specs.Widgets.{length_shown, text_shown, widget_of};
 
-use crate::request::{SearchRequest, Wanted};
+use rt_requests::{SearchRequest, Wanted, Word};
 use rt_search::{Direction, Overlaps, Search, find_all, find_first, positions};
 use rt_stamps::{Fault, Position};
 use rt_store::TextStore;
@@ -24,16 +24,26 @@ fn characters_of(alloc: Global, pattern: &str) -> Result<Vec<char>, Fault>
     Ok(all)
 }
 
+/// The place of an index.
+fn place_of<S: TextStore>(view: &View<S>, index: &Word<'_>) -> Result<usize, Fault>
+    ensures ok { IfOk result (λ place. place ≡ place_at_index (widget_of view.now) index.now) }
+    ensures checked { IfOk result (λ place. index_check (widget_of view.now) index.now ≡ None) }
+    ensures within { IfOk result (λ place. place ≤ length_shown view.now) }
+    ensures err { IfErr result (λ fault. (fault ≡ Fault.NoMemory) ⊎ (index_check (widget_of view.now) index.now ≡ Some fault)) }
+{
+    view.place(index.text())
+}
+
 /// The place of an index, if there is one.
-fn stop_of<S: TextStore>(view: &View<S>, stop: Option<&str>) -> Result<Option<usize>, Fault>
-    ensures ok { IfOk result (λ place. place ≡ option_map (place_at_index (widget_of view.now)) (option_copied stop.entry)) }
-    ensures checked { IfOk result (λ place. first_of (map (index_check (widget_of view.now)) (option_to_list (option_copied stop.entry))) ≡ None) }
+fn stop_of<S: TextStore>(view: &View<S>, stop: &Option<Word<'_>>) -> Result<Option<usize>, Fault>
+    ensures ok { IfOk result (λ place. place ≡ option_map (place_at_index (widget_of view.now)) stop.now) }
+    ensures checked { IfOk result (λ place. first_of (map (index_check (widget_of view.now)) (option_to_list stop.now)) ≡ None) }
     ensures within { IfOk result (λ place. IfSome place (λ p. p ≤ length_shown view.now)) }
     ensures err { IfErr result (λ fault. (fault ≡ Fault.NoMemory)
-        ⊎ (first_of (map (index_check (widget_of view.now)) (option_to_list (option_copied stop.entry))) ≡ Some fault)) }
+        ⊎ (first_of (map (index_check (widget_of view.now)) (option_to_list stop.now)) ≡ Some fault)) }
 {
     match stop {
-        Some(index) => Ok(Some(view.place(index)?)),
+        Some(index) => Ok(Some(place_of(view, index)?)),
         None => Ok(None),
     }
 }
@@ -102,36 +112,25 @@ fn each_found<S: TextStore>(
     positions_along(alloc, view, search.direction, places)
 }
 
-/// `search ?SWITCH ...? PATTERN INDEX ?STOPINDEX?` (Tk text manual, "search"), by what its words ask for: where the
+/// `search` (Tk text manual, "search"), by what its words ask for: where the
 /// pattern stands, as lines and characters. Without `-all` that is at most one place: forwards the least of the first
 /// stretch that has one, backwards the greatest. With `-all` they are all places, stretch after stretch, rising when
 /// forwards and falling when backwards. `BadIndex`, `NoneTagged`, then `EmptyPattern`, or want of memory.
 pub fn search<S: TextStore>(
     alloc: Global,
     view: &View<S>,
-    request: SearchRequest,
+    request: &SearchRequest<'_>,
 ) -> Result<Vec<Position>, Fault>
-    ensures ok { IfOk result (λ found. searched view.now (record {
-      search = request.entry.search;
-      wanted = request.entry.wanted;
-      pattern = request.entry.pattern.now;
-      start = request.entry.start.now;
-      stop = option_copied request.entry.stop;
-    }) ≡ Ok found.items) }
-    ensures err { IfErr result (Refuses (searched view.now (record {
-      search = request.entry.search;
-      wanted = request.entry.wanted;
-      pattern = request.entry.pattern.now;
-      start = request.entry.start.now;
-      stop = option_copied request.entry.stop;
-    }))) }
+    ensures ok { IfOk result (λ found. searched view.now request.now ≡ Ok found.items) }
+    ensures err { IfErr result (Refuses (searched view.now request.now)) }
 {
-    let start = view.place(request.start)?;
-    let stop = stop_of(view, request.stop)?;
-    if request.pattern.is_empty() {
+    let start = place_of(view, &request.start)?;
+    let stop = stop_of(view, &request.stop)?;
+    let pattern = request.pattern.text();
+    if pattern.is_empty() {
         return Err(Fault::EmptyPattern);
     }
-    let pattern = characters_of(alloc, request.pattern)?;
+    let pattern = characters_of(alloc, pattern)?;
     match request.wanted {
         Wanted::One => one_found(alloc, view, &pattern, request.search, start, stop),
         Wanted::Each(overlaps) => {

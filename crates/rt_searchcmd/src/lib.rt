@@ -2,8 +2,5 @@
 #![tactic(auto)]
 
 pub mod command;
-pub mod request;
-mod switches;
 
 pub use command::search;
-pub use request::{SearchRequest, Wanted, search_request};

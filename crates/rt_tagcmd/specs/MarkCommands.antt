@@ -1,14 +1,14 @@
 -- The mark commands of a widget (Tk text manual, "mark"), each what it gives or why it is refused. The marks of a widget are
 -- those of its site and two of its own, `insert` and `current`.
-use Rattle.std.specs.Prelude.{ℕ, ◌&&◌, Bool, not, List, [], ◌∷◌, map, Option, Some, None, is_some, option_map, unwrap_or, Result, Ok, codes, if◌then◌else◌}
+use Rattle.std.specs.Prelude.{ℕ, ◌&&◌, Bool, not, List, [], ◌∷◌, map, Option, Some, None, is_some, option_map, Result, Ok, codes, if◌then◌else◌}
 use Rattle.std.specs.Option.{option_map_or}
 use Rattle.std.specs.Ordering.{is_lt}
 use Rattle.rt_index.specs.Reading.{fixed_of}
 use Rattle.rt_marks.specs.declared.gravity.Gravity.{Gravity}
 use Rattle.rt_marks.specs.declared.gravity.Gravity.TheVariants.{Right}
-use Rattle.rt_marks.specs.Marks.{Mark, gravity_of, mark_after, mark_before, first_mark_at, last_mark_before, marks_set, marks_with_gravity, name_order, without_all}
+use Rattle.rt_marks.specs.Marks.{Mark, mark_after, mark_before, first_mark_at, last_mark_before, marks_set, marks_with_gravity, name_order, without_all}
 use Rattle.rt_stamps.specs.declared.fault.Fault.{Fault}
-use Rattle.rt_stamps.specs.declared.fault.Fault.TheVariants.{BadOption, NoMark}
+use Rattle.rt_stamps.specs.declared.fault.Fault.TheVariants.{NoMark}
 use Rattle.rt_stamps.specs.Outcomes.{first_of, unless}
 use Rattle.rt_stamps.specs.Words.{Word}
 use Rattle.rt_stamps.specs.Names.{name_check}
@@ -21,10 +21,6 @@ use Rattle.rt_text.specs.Widgets.{Viewed, in_text, length_shown, mark_of, marks_
 -- the widget has a mark of a name
 abbrev pub mark_check : Viewed → Word → Option Fault
 mark_check view name = if is_some (mark_of view name) then None else Some NoMark
-
--- a word names a gravity
-abbrev pub gravity_check : Word → Option Fault
-gravity_check word = if is_some (gravity_of word) then None else Some BadOption
 
 -- mark set NAME INDEX
 
@@ -54,10 +50,9 @@ abbrev pub with_gravity : Option OwnMark → Viewed → Word → Gravity → Vie
 with_gravity (Some which) view name gravity = record view { own = own_with_gravity which gravity view.own }
 with_gravity None view name gravity = with_marks view (marks_with_gravity name gravity view.doc.marks)
 
-abbrev pub mark_gravity_set : Viewed → Word → Word → Result Viewed Fault
-mark_gravity_set view name word =
-    unless (first_of (gravity_check word ∷ name_check name ∷ mark_check view name ∷ []))
-    (with_gravity (own_mark_of name) view name (unwrap_or (gravity_of word) Right))
+abbrev pub mark_gravity_set : Viewed → Word → Gravity → Result Viewed Fault
+mark_gravity_set view name gravity =
+    unless (first_of (name_check name ∷ mark_check view name ∷ [])) (with_gravity (own_mark_of name) view name gravity)
 
 -- mark names
 

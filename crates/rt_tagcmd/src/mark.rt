@@ -52,20 +52,17 @@ pub fn mark_gravity<S: TextStore>(view: &View<S>, name: &str) -> Result<Gravity,
     }
 }
 
-/// `mark gravity NAME GRAVITY` (Tk text manual): gives a mark the gravity `left` or `right`.
-/// `BadOption`, `BadName` or `NoMark`, and then nothing changes. It takes no memory.
+/// `mark gravity NAME GRAVITY` (Tk text manual): gives a mark a gravity.
+/// `BadName` or `NoMark`, and then nothing changes. It takes no memory.
 pub fn set_mark_gravity<S: TextStore>(
     view: &mut View<S>,
     name: &str,
-    word: &str,
+    gravity: Gravity,
 ) -> Result<(), Fault>
-    ensures ok { OnOk result (mark_gravity_set view.old name.now word.now ≡ Ok view.new) }
-    ensures err { IfErr result (λ fault. mark_gravity_set view.old name.now word.now ≡ Err fault) }
+    ensures ok { OnOk result (mark_gravity_set view.old name.now gravity ≡ Ok view.new) }
+    ensures err { IfErr result (λ fault. mark_gravity_set view.old name.now gravity ≡ Err fault) }
     ensures unchanged { OnErr result (view.new ≡ view.old) }
 {
-    let Some(gravity) = Gravity::of(word) else {
-        return Err(Fault::BadOption);
-    };
     check_name(name)?;
     match OwnMark::of(name) {
         Some(which) => {

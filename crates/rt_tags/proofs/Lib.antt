@@ -1,5 +1,6 @@
 pub mod Commuting
 pub mod Entries
+pub mod Found
 pub mod Greatest
 pub mod Interning
 pub mod Keeping

@@ -31,6 +31,11 @@ abbrev pub entry_of : ℕ → List Entry → Option Entry
 entry_of tag [] = None
 entry_of tag (e ∷ entries) = if e.tag == tag then Some e else entry_of tag entries
 
+-- an entry, if it is the tag's
+abbrev pub if_of : ℕ → Option Entry → Option Entry
+if_of tag None = None
+if_of tag (Some e) = if e.tag == tag then Some e else None
+
 -- the tags that are on
 abbrev pub tags_on : List Entry → List ℕ
 tags_on entries = map (λ e. e.tag) (filter (λ e. e.on) entries)

@@ -1,10 +1,12 @@
 // Interned tag states of characters.
 ghost use Rattle.std.specs.Prelude.{List, ℕ, ◌≡◌, IsOk, All, ◌==◌, [], ◌∷◌, ◌++◌, ◌<◌, ◌≤◌, ◌&&◌, OnOk, None, OnErr, IfOk, IfErr, IfSome, IfNone, Ok, Some, true, false, map, filter, length, slice_get, slice_index_or, position, string_bytes, vec_len};
+ghost use Rattle.std.specs.List.{prefix_len};
 ghost use Rattle.std.specs.Ordering.{ordering_index};
+ghost use Rattle.std.specs.declared.cmp.Ordering.TheVariants.{Less};
 ghost use Rattle.std.specs.Str.{bytes_eq};
 ghost use Rattle.rt_stamps.specs.Names.{name_order};
 ghost use Rattle.rt_tags.specs.Tags.{is_listed};
-ghost use Rattle.rt_tags.specs.Kept.{HaveNames, IsKept, IsNext, AreKept, IsSorted, all_on, all_seen, is_entry_kept, entries_written, entry_of, is_on_side, state_seen, states_seen, tags_on};
+ghost use Rattle.rt_tags.specs.Kept.{HaveNames, IsKept, IsNext, AreKept, IsSorted, all_on, all_seen, is_entry_kept, entries_written, entry_of, if_of, is_on_side, state_seen, states_seen, tags_on};
 ghost use Rattle.rt_tags.specs.States.{Interns, IsByName, IsState, IsTag, KeepsIds, all_numbered, is_on, is_settled, name_at, names_on, numbered, state_at, write_at, writes_at, written};
 ghost use Rattle.rt_tags.specs.Writers.{listed_by, state_after};
 ghost use Rattle.rt_stamps.specs.declared.stamp.TheConstants.{ROOT};
@@ -93,12 +95,49 @@ fn entry_of(entries: &[Entry], tag: TagId) -> Option<Entry>
     None
 }
 
+// The name of a tag, or no text for a number that was not given out.
+fn name_at(names: &[String], tag: TagId) -> &str
+    ensures { result.now ≡ slice_index_or (map (λ s. string_bytes s) names.now) tag [] }
+{
+    match names.get(tag.place) {
+        Some(name) => name.as_str(),
+        None => "",
+    }
+}
+
 // Whether the name of an entry's tag stands on a side of a name.
 fn is_on_side(entry: Entry, names: &[String], name: &str, side: Ordering) -> bool
-    requires { entry.tag < length names.now }
     ensures { result ≡ is_on_side (map (λ s. string_bytes s) names.now) name.now side entry }
 {
-    names[entry.tag.place].as_str().cmp(name) == side
+    name_at(names, entry.tag).cmp(name) == side
+}
+
+// How many entries stand before a name.
+fn place_of(names: &[String], entries: &[Entry], name: &str) -> usize
+    requires { IsByName (all_seen (map (λ s. string_bytes s) names.now) entries.now) }
+    ensures place { result ≡ prefix_len (is_on_side (map (λ s. string_bytes s) names.now) name.now Less) entries.now }
+    ensures within { result ≤ length entries.now }
+{
+    entries.partition_point(|entry| is_on_side(*entry, names, name, Ordering::Less))
+}
+
+// An entry, if it is the tag's.
+fn if_of(entry: Option<Entry>, tag: TagId) -> Option<Entry>
+    ensures { result ≡ if_of tag entry }
+{
+    match entry {
+        Some(entry) if entry.tag == tag => Some(entry),
+        _ => None,
+    }
+}
+
+// The entry of a tag among entries that stand by the names of their tags.
+fn found(names: &[String], entries: &[Entry], tag: TagId) -> Option<Entry>
+    requires { IsByName (all_seen (map (λ s. string_bytes s) names.now) entries.now) }
+    ensures { result ≡ entry_of tag entries.now }
+{
+    let at = place_of(names, entries, name_at(names, tag));
+    if_of(entries.get(at).copied(), tag)
 }
 
 // Adds the entries whose tags' names stand on a side of a name.
@@ -423,13 +462,14 @@ impl StateTable {
         Ok(tags_on(self.alloc, &sorted)?)
     }
 
-    /// Whether a tag is on.
+    /// Whether a tag is on. It compares about as many names as the number of the state's tags has binary digits.
     pub fn has(&self, state: StateId, tag: TagId) -> bool
         requires state { IsState self.now state }
         requires tag { IsTag self.now tag }
         ensures { result ≡ is_on (name_at self.now tag) (state_at self.now state) }
     {
-        match entry_of(&state_of(&self.states, state).entries, tag) {
+        let names = self.names.as_slice();
+        match found(names, &state_of(&self.states, state).entries, tag) {
             Some(entry) => entry.on,
             None => false,
         }

@@ -1,16 +1,22 @@
 // What the command `search` of a widget answers.
 use crate::edit_logs::{Page, words};
-use rt_searchcmd::{search, search_request};
+use rt_requests::Request;
+use rt_searchcmd::search;
 use rt_stamps::{Fault, Position};
 use std::alloc::Global;
 use std::process::Abort;
 use std::test::Fail;
 
-// What the words behind `search` give on a page.
+// What the words behind `search` give on a page. A request of another kind is `NoWidget`, which no row wants.
 fn found(alloc: Global, page: &Page, asked: &[&str]) -> Result<Vec<Position>, Fault> {
-    let asked = words(alloc, asked)?;
-    let request = search_request(&asked)?;
-    search(alloc, &page.view, request)
+    let mut command = words(alloc, &["search"])?;
+    for word in asked {
+        command.push(String::from_str(alloc, word)?)?;
+    }
+    let Request::Search(request) = Request::of(alloc, &command)? else {
+        return Err(Fault::NoWidget);
+    };
+    search(alloc, &page.view, &request)
 }
 
 /// The words behind `search`, and the lines and characters that they give, or why they are refused.

@@ -1,5 +1,6 @@
 // What the words of commands ask for (Tk text manual, "WIDGET COMMAND").
-use rt_requests::{MarkRequest, Request, TagRequest, Texts, Word};
+use rt_requests::{Kinds, MarkRequest, Request, SearchRequest, TagRequest, Texts, Wanted, Word};
+use rt_search::{Case, Direction, Limits, Overlaps};
 use rt_stamps::Fault;
 use rt_words::words::words;
 use std::alloc::Global;
@@ -38,6 +39,44 @@ fn tell_texts(told: &mut String, texts: &Texts<'_>) -> Result<(), Fault> {
         tell_all(told, "tags", piece.tags())?;
     }
     tell(told, &["rest", texts.rest()])
+}
+
+// How to search, which matches are wanted, and the words.
+fn tell_search(told: &mut String, request: &SearchRequest<'_>) -> Result<(), Fault> {
+    let way = match request.search.direction {
+        Direction::Forwards => "forwards",
+        Direction::Backwards => "backwards",
+    };
+    let case = match request.search.case {
+        Case::Exact => "exact",
+        Case::Ignored => "nocase",
+    };
+    let limits = match request.search.limits {
+        Limits::First => "first",
+        Limits::Strict => "strict",
+    };
+    let wanted = match request.wanted {
+        Wanted::One => "one",
+        Wanted::Each(Overlaps::PassedOver) => "each",
+        Wanted::Each(Overlaps::Taken) => "overlapping",
+    };
+    tell(told, &["Search", way, case, limits, wanted])?;
+    let words = [request.pattern.text(), request.start.text()];
+    tell_maybe(told, &words, &request.stop)
+}
+
+// The kinds that are shown.
+fn tell_kinds(told: &mut String, kinds: Kinds) -> Result<(), Fault> {
+    for (shown, name) in [
+        (kinds.tags, "tags"),
+        (kinds.marks, "marks"),
+        (kinds.text, "text"),
+    ] {
+        if shown {
+            tell(told, &[name])?;
+        }
+    }
+    Ok(())
 }
 
 fn tell_mark(told: &mut String, request: &MarkRequest<'_>) -> Result<(), Fault> {
@@ -87,6 +126,10 @@ fn tell_request(told: &mut String, request: &Request<'_>) -> Result<(), Fault> {
             tell_texts(told, texts)
         }
         Request::Delete { indices } => tell_all(told, "Delete", indices.all()),
+        Request::Replace { from, to, texts } => {
+            tell(told, &["Replace", from.text(), to.text()])?;
+            tell_texts(told, texts)
+        }
         Request::Get { indices } => tell_all(told, "Get", indices.all()),
         Request::Index { index } => tell(told, &["Index", index.text()]),
         Request::Compare {
@@ -104,6 +147,12 @@ fn tell_request(told: &mut String, request: &Request<'_>) -> Result<(), Fault> {
                 tell(told, &[measure.switch()])?;
             }
             Ok(())
+        }
+        Request::Search(request) => tell_search(told, request),
+        Request::Dump { kinds, from, to } => {
+            tell(told, &["Dump"])?;
+            tell_kinds(told, *kinds)?;
+            tell_maybe(told, &["of", from.text()], to)
         }
         Request::Mark(request) => tell_mark(told, request),
         Request::Tag(request) => tell_tag(told, request),
@@ -131,6 +180,12 @@ fn of_text(rt: HostRuntime) -> Result<(), Fail> {
         ),
         ("delete 1.0", "|Delete|1.0"),
         ("delete 1.0 1.2 2.0", "|Delete|1.0|1.2|2.0"),
+        ("replace 1.0 1.2 new", "|Replace|1.0|1.2|rest|new"),
+        ("replace 1.0 end \"\"", "|Replace|1.0|end|rest|"),
+        (
+            "replace 1.0 1.2 a big b",
+            "|Replace|1.0|1.2|text|a|tags|big|rest|b",
+        ),
         ("get 1.0", "|Get|1.0"),
         ("get 1.0 \"insert lineend\"", "|Get|1.0|insert lineend"),
         ("index \"end - 1 chars\"", "|Index|end - 1 chars"),
@@ -146,6 +201,69 @@ fn of_text(rt: HostRuntime) -> Result<(), Fail> {
             "|Count|1.0|end|-lines|-chars",
         ),
         ("count -indices end 1.0", "|Count|end|1.0|-indices"),
+    ] {
+        assert_eq!(rt; asked(rt.alloc(), line)?.as_str(), want, "by {line:?}");
+    }
+    Ok(())
+}
+
+#[test]
+fn of_searches(rt: HostRuntime) -> Result<(), Fail> {
+    for (line, want) in [
+        ("search a 1.0", "|Search|forwards|exact|first|one|a|1.0"),
+        (
+            "search a 1.0 end",
+            "|Search|forwards|exact|first|one|a|1.0|end",
+        ),
+        ("search \"\" frob", "|Search|forwards|exact|first|one||frob"),
+        (
+            "search -backwards -nocase a 1.0",
+            "|Search|backwards|nocase|first|one|a|1.0",
+        ),
+        (
+            "search -forwards -backwards -exact a 1.0",
+            "|Search|backwards|exact|first|one|a|1.0",
+        ),
+        (
+            "search -backwards -forwards a 1.0",
+            "|Search|forwards|exact|first|one|a|1.0",
+        ),
+        (
+            "search -all -strictlimits a 1.0",
+            "|Search|forwards|exact|strict|each|a|1.0",
+        ),
+        (
+            "search -overlap -all -all a 1.0",
+            "|Search|forwards|exact|first|overlapping|a|1.0",
+        ),
+        (
+            "search -- -all 1.0",
+            "|Search|forwards|exact|first|one|-all|1.0",
+        ),
+        (
+            "search -all -- -- -1.0",
+            "|Search|forwards|exact|first|each|--|-1.0",
+        ),
+        ("search a -all", "|Search|forwards|exact|first|one|a|-all"),
+    ] {
+        assert_eq!(rt; asked(rt.alloc(), line)?.as_str(), want, "by {line:?}");
+    }
+    Ok(())
+}
+
+#[test]
+fn of_dumps(rt: HostRuntime) -> Result<(), Fail> {
+    for (line, want) in [
+        ("dump 1.0", "|Dump|tags|marks|text|of|1.0"),
+        ("dump 1.0 end", "|Dump|tags|marks|text|of|1.0|end"),
+        ("dump -all 1.0", "|Dump|tags|marks|text|of|1.0"),
+        (
+            "dump -mark -all 1.0 end",
+            "|Dump|tags|marks|text|of|1.0|end",
+        ),
+        ("dump -text 1.0 end", "|Dump|text|of|1.0|end"),
+        ("dump -text -tag -text 1.0", "|Dump|tags|text|of|1.0"),
+        ("dump -mark 1.0 -1.0", "|Dump|marks|of|1.0|-1.0"),
     ] {
         assert_eq!(rt; asked(rt.alloc(), line)?.as_str(), want, "by {line:?}");
     }
@@ -195,6 +313,9 @@ fn bad_commands(rt: HostRuntime) -> Result<(), Fail> {
         "insert",
         "insert 1.0",
         "delete",
+        "replace",
+        "replace 1.0",
+        "replace 1.0 1.2",
         "get",
         "index",
         "index 1.0 2.0",
@@ -204,7 +325,20 @@ fn bad_commands(rt: HostRuntime) -> Result<(), Fail> {
         "count",
         "count -lines 1.0",
         "count -frob 1.0",
+        "count -1.0 2.0",
         "count 1.0 2.0 3.0",
+        "search",
+        "search a",
+        "search -x a",
+        "search -all --",
+        "search -all -- a",
+        "search a 1.0 1.1 1.2",
+        "dump",
+        "dump -all",
+        "dump -x",
+        "dump -1.0",
+        "dump 1.0 1.1 1.2",
+        "dump -x 1.0 1.1 1.2",
         "mark",
         "mark frob",
         "mark set here",
@@ -232,9 +366,18 @@ fn bad_options_and_lists(rt: HostRuntime) -> Result<(), Fail> {
     for (line, want) in [
         ("compare 1.0 =< end", Fault::BadOption),
         ("count -lines -words 1.0 end", Fault::BadOption),
+        ("search -x a 1.0", Fault::BadOption),
+        ("search -regexp a 1.0", Fault::BadOption),
+        ("search -overlap a 1.0", Fault::BadOption),
+        ("search -overlap \"\" frob", Fault::BadOption),
+        ("dump -x 1.0", Fault::BadOption),
+        ("dump -all -x 1.0 end", Fault::BadOption),
+        ("dump -- 1.0", Fault::BadOption),
+        ("count -- 1.0 end", Fault::BadOption),
         ("mark gravity here up", Fault::BadOption),
         ("insert 1.0 a {\"b}", Fault::BadQuoting),
         ("insert 1.0 a big b {x {y}z} c", Fault::BadQuoting),
+        ("replace 1.0 1.2 a {\"b}", Fault::BadQuoting),
     ] {
         let refused = asked(rt.alloc(), line).err();
         assert_eq!(rt; refused, Some(want), "by {line:?}");

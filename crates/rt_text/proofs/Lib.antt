@@ -3,7 +3,6 @@ pub mod AcceptedView
 pub mod Checks
 pub mod DeletionLaws
 pub mod Deletions
-pub mod DistanceLaws
 pub mod FollowingLaws
 pub mod InsertedDocument
 pub mod KeptDocument

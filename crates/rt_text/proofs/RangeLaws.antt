@@ -1,23 +1,16 @@
 -- Indices, ranges and texts, one more.
-use Rattle.std.proofs.Common.{◌≡◌, ℕ, ◌+◌, ◌-◌, ◌<◌, ◌≤◌, ◌⊎◌, inl, inr, List, [], ◌∷◌, cond, true, false, length, drop, map, min, get_or, refl, sym, ◌∙◌, ap, arith, Some, None, Ok, Option, String, Global, string_bytes}
-use Rattle.std.specs.Prelude.{encode_utf8_all, is_some, option_map, unwrap_or}
+use Rattle.std.proofs.Common.{◌≡◌, ℕ, ◌+◌, ◌-◌, ◌<◌, ◌≤◌, ◌⊎◌, inl, inr, List, [], ◌∷◌, true, false, length, drop, map, min, get_or, refl, sym, ◌∙◌, ap, arith, Some, None, Ok, Option, String, Global, string_bytes}
+use Rattle.std.specs.Prelude.{encode_utf8_all}
 use Rattle.std.specs.Result.{result_err, result_unwrap_or}
 use Rattle.std.proofs.lemmas.List.{drop_more, length-drop, length-take}
 use Rattle.rt_index.specs.Index.{index_of}
 use Rattle.rt_index.specs.Widget.{Widget}
 use Rattle.rt_stamps.specs.declared.fault.Fault.{Fault}
-use Rattle.rt_stamps.specs.declared.fault.Fault.TheVariants.{NoMemory, BadOption}
-use Rattle.rt_stamps.specs.Outcomes.{first_of, unless, Refuses}
-use Rattle.rt_stamps.specs.Words.{Word}
+use Rattle.rt_stamps.specs.declared.fault.Fault.TheVariants.{NoMemory}
+use Rattle.rt_stamps.specs.Outcomes.{first_of, Refuses}
 use Rattle.rt_edits.specs.declared.range.Range.{Range}
-use Rattle.rt_text.specs.declared.comparison.Comparison.{Comparison}
-use Rattle.rt_text.specs.declared.distance.Measure.{Measure}
 use Rattle.rt_text.specs.Index.{index_check, place_at_index}
 use Rattle.rt_text.specs.Ranges.{text_between, has_characters, texts_of}
-use Rattle.rt_text.specs.Comparisons.{comparison_of, holds_of}
-use Rattle.rt_text.specs.Distances.{measures_of, distance_of, or_indices}
-use Rattle.rt_text.specs.Widgets.{Viewed, text_shown, widget_of}
-use Rattle.rt_text.specs.Commands.{compared, counted}
 
 -- one index more
 pub places_more : (w : Widget) (words : List (String Global)) (i : ℕ) (word : String Global) (place : ℕ) → i < length words → word ≡ get_or words i word → index_of w (string_bytes word) ≡ Ok place
@@ -69,23 +62,3 @@ texts_none t ranges i d h k =
     let r : Range = get_or ranges i d in
     let none : has_characters (text_between t r.from r.to) ≡ false = no_characters (text_between t r.from r.to) (omega (arith, length_between t r.from r.to)) in
     rw (drop_more ranges i d h, none) refl
-
--- what is counted, once the switches are read
-pub counted_by : (view : Viewed) (switches : List Word) (from to : Word) (measures : List Measure) → measures_of switches ≡ Some measures
-    → counted view switches from to
-    ≡ unless (first_of (index_check (widget_of view) from ∷ index_check (widget_of view) to ∷ []))
-    (map (distance_of (text_shown view) (place_at_index (widget_of view) from) (place_at_index (widget_of view) to)) (or_indices measures))
-counted_by view switches from to measures e =
-    let w = widget_of view in
-    ap (λ (o : Option (List Measure)). unless (first_of (cond (is_some o) None (Some BadOption) ∷ index_check w from ∷ index_check w to ∷ []))
-    (map (distance_of (text_shown view) (place_at_index w from) (place_at_index w to)) (or_indices (unwrap_or o [])))) e
-
--- whether a comparison holds, once the operator is read
-pub compared_by : (view : Viewed) (first operator second : Word) (comparison : Comparison) → comparison_of operator ≡ Some comparison
-    → compared view first operator second
-    ≡ unless (first_of (index_check (widget_of view) first ∷ index_check (widget_of view) second ∷ []))
-    (holds_of comparison (place_at_index (widget_of view) first) (place_at_index (widget_of view) second))
-compared_by view first operator second comparison e =
-    let w = widget_of view in
-    ap (λ (o : Option Comparison). unless (first_of (cond (is_some o) None (Some BadOption) ∷ index_check w first ∷ index_check w second ∷ []))
-    (unwrap_or (option_map (λ c. holds_of c (place_at_index w first) (place_at_index w second)) o) false)) e

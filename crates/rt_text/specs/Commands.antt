@@ -1,11 +1,11 @@
 -- The commands on a text.
-use Rattle.std.specs.Prelude.{ℕ, ◌+◌, ◌-◌, ℤ, List, [], ◌∷◌, ◌++◌, length, map, flat_map, min, nat_lt, Bool, false, Option, Some, None, is_some, option_map, Result, if◌then◌else◌, unwrap_or, encode_utf8_all}
+use Rattle.std.specs.Prelude.{ℕ, ◌+◌, ◌-◌, ℤ, List, [], ◌∷◌, ◌++◌, length, map, flat_map, min, nat_lt, Bool, Option, Some, None, is_some, Result, if◌then◌else◌, encode_utf8_all}
 use Rattle.std.specs.Str.{bytes_eq}
 use Rattle.rt_index.specs.Widget.{Widget}
 use Rattle.rt_marks.specs.Marks.{marks_inserted}
 use Rattle.rt_stamps.specs.declared.limits.TheConstants.{GREATEST_COUNT, MOST_CHARACTERS, MOST_SPANS}
 use Rattle.rt_stamps.specs.declared.fault.Fault.{Fault}
-use Rattle.rt_stamps.specs.declared.fault.Fault.TheVariants.{BadOption, ClockSpent, TextFull}
+use Rattle.rt_stamps.specs.declared.fault.Fault.TheVariants.{ClockSpent, TextFull}
 use Rattle.rt_stamps.specs.declared.position.Position.{Position}
 use Rattle.rt_stamps.specs.declared.stamp.Stamp.{Stamp}
 use Rattle.rt_stamps.specs.Names.{name_check}
@@ -18,8 +18,10 @@ use Rattle.rt_edits.specs.Deletions.{delete_drafts, loss_in, without_text}
 use Rattle.rt_edits.specs.Flat.{left_of, logged, put_after}
 use Rattle.rt_edits.specs.InsertionDrafts.{insertion_drafts}
 use Rattle.rt_edits.specs.Insertions.{Insertion, Piece, insertion_of, left_neighbour, right_neighbour}
-use Rattle.rt_text.specs.Comparisons.{comparison_of, holds_of}
-use Rattle.rt_text.specs.Distances.{measures_of, or_indices, distance_of}
+use Rattle.rt_requests.specs.declared.comparison.Comparison.{Comparison}
+use Rattle.rt_requests.specs.declared.measure.Measure.{Measure}
+use Rattle.rt_text.specs.Comparisons.{holds_of}
+use Rattle.rt_text.specs.Distances.{or_indices, distance_of}
 use Rattle.rt_text.specs.Index.{index_check, place_at_index}
 use Rattle.rt_text.specs.Ranges.{text_between, texts_of, ranges_of}
 use Rattle.rt_edits.specs.Removals.{is_covered, stamps_at}
@@ -29,14 +31,6 @@ use Rattle.rt_edits.specs.TagWrites.{listed_if, with_tag_at, without_tags}
 use Rattle.rt_text.specs.Widgets.{Viewed, begin_of, in_text, last_newline, own_inserted, own_left, places_in_text, shown_by, text_shown, widget_of}
 
 -- CHECKS
-
--- a word names a comparison
-abbrev pub operator_check : Word → Option Fault
-operator_check operator = if is_some (comparison_of operator) then None else Some BadOption
-
--- each switch asks for something to be counted
-abbrev pub switch_check : List Word → Option Fault
-switch_check switches = if is_some (measures_of switches) then None else Some BadOption
 
 -- a clock may go as far as a count
 abbrev pub clock_check : ℕ → Option Fault
@@ -153,15 +147,15 @@ got_list view indices =
     unless (first_of (map (index_check w) indices)) (texts_of (text_shown view) (ranges_of (map (place_at_index w) indices)))
 
 -- compare INDEX OPERATOR INDEX: whether the comparison holds
-abbrev pub compared : Viewed → Word → Word → Word → Result Bool Fault
-compared view first operator second =
+abbrev pub compared : Viewed → Word → Comparison → Word → Result Bool Fault
+compared view first comparison second =
     let w = widget_of view in
-    unless (first_of (operator_check operator ∷ index_check w first ∷ index_check w second ∷ []))
-    (unwrap_or (option_map (λ comparison. holds_of comparison (place_at_index w first) (place_at_index w second)) (comparison_of operator)) false)
+    unless (first_of (index_check w first ∷ index_check w second ∷ []))
+    (holds_of comparison (place_at_index w first) (place_at_index w second))
 
--- count SWITCHES INDEX INDEX: the distances from the first index to the second that the switches ask for, in turn
-abbrev pub counted : Viewed → List Word → Word → Word → Result (List ℤ) Fault
-counted view switches from to =
+-- count ?SWITCH ...? INDEX INDEX: the distances from the first index to the second, one for each measure in turn
+abbrev pub counted : Viewed → List Measure → Word → Word → Result (List ℤ) Fault
+counted view measures from to =
     let w = widget_of view in
-    unless (first_of (switch_check switches ∷ index_check w from ∷ index_check w to ∷ []))
-    (map (distance_of (text_shown view) (place_at_index w from) (place_at_index w to)) (or_indices (unwrap_or (measures_of switches) [])))
+    unless (first_of (index_check w from ∷ index_check w to ∷ []))
+    (map (distance_of (text_shown view) (place_at_index w from) (place_at_index w to)) (or_indices measures))

@@ -1,20 +1,7 @@
 -- The comparisons of two places (Tk text manual).
-use Rattle.std.specs.Prelude.{ℕ, nat_lt, nat_le, ◌==◌, not, Bool, Option, Some, None, if◌then◌else◌, codes}
-use Rattle.std.specs.Str.{bytes_eq}
-use Rattle.rt_stamps.specs.Words.{Word}
-use Rattle.rt_text.specs.declared.comparison.Comparison.{Comparison}
-use Rattle.rt_text.specs.declared.comparison.Comparison.TheVariants.{Less, LessOrEqual, Equal, GreaterOrEqual, Greater, NotEqual}
-
--- the comparison that an operator names
-abbrev pub comparison_of : Word → Option Comparison
-comparison_of operator =
-    if bytes_eq operator (codes "<") then Some Less
-    else if bytes_eq operator (codes "<=") then Some LessOrEqual
-    else if bytes_eq operator (codes "==") then Some Equal
-    else if bytes_eq operator (codes ">=") then Some GreaterOrEqual
-    else if bytes_eq operator (codes ">") then Some Greater
-    else if bytes_eq operator (codes "!=") then Some NotEqual
-    else None
+use Rattle.std.specs.Prelude.{ℕ, nat_lt, nat_le, ◌==◌, not, Bool}
+use Rattle.rt_requests.specs.declared.comparison.Comparison.{Comparison}
+use Rattle.rt_requests.specs.declared.comparison.Comparison.TheVariants.{Less, LessOrEqual, Equal, GreaterOrEqual, Greater, NotEqual}
 
 -- a comparison holds of two places
 abbrev pub holds_of : Comparison → ℕ → ℕ → Bool

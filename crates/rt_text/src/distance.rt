@@ -1,53 +1,13 @@
 // Distances between two places.
-ghost use Rattle.std.specs.Prelude.{◌≡◌, ◌+◌, ◌≤◌, pos, ◌-ℤ◌, IfOk, IfErr, map, length, string_bytes, Some, None, ◌⊎◌};
+ghost use Rattle.std.specs.Prelude.{◌≡◌, ◌+◌, ◌≤◌, pos, ◌-ℤ◌, IfOk, IfErr, map, length};
 ghost use Rattle.rt_stamps.specs.declared.limits.TheConstants.{MOST_CELLS};
 ghost use Rattle.rt_store.specs.Cells.{text_of};
-ghost use Rattle.rt_text.specs.Distances.{measure_of, measures_of, or_indices, distance_of};
+ghost use Rattle.rt_text.specs.Distances.{or_indices, distance_of};
 
+use rt_requests::Measure;
 use rt_stamps::Fault;
 use rt_store::TextStore;
 use std::alloc::Global;
-
-/// What is counted between two places (Tk text manual).
-#[derive(Clone, Copy, Debug, PartialEq, Eq)]
-pub enum Measure {
-    /// `-chars`: characters.
-    Chars,
-    /// `-indices`: indices, one for each character.
-    Indices,
-    /// `-lines`: the line of the second place less that of the first.
-    Lines,
-}
-
-impl Measure {
-    /// What a switch asks to be counted.
-    pub fn of(switch: &str) -> Option<Measure>
-        ensures { result ≡ measure_of switch.now }
-    {
-        match switch {
-            "-chars" => Some(Measure::Chars),
-            "-indices" => Some(Measure::Indices),
-            "-lines" => Some(Measure::Lines),
-            _ => None,
-        }
-    }
-}
-
-/// What switches ask for, in turn. `BadOption` where one is unknown, or want of memory.
-pub(crate) fn measures_of(alloc: Global, switches: &[String]) -> Result<Vec<Measure>, Fault>
-    ensures ok { IfOk result (λ measures. measures_of (map (λ w. string_bytes w) switches.now) ≡ Some measures.items) }
-    ensures err { IfErr result (λ fault. (fault ≡ Fault.NoMemory)
-        ⊎ ((fault ≡ Fault.BadOption) × (measures_of (map (λ w. string_bytes w) switches.now) ≡ None))) }
-{
-    let mut measures = Vec::new(alloc);
-    for switch in switches {
-        let Some(measure) = Measure::of(switch) else {
-            return Err(Fault::BadOption);
-        };
-        measures.push(measure)?;
-    }
-    Ok(measures)
-}
 
 // How far a place is from another.
 fn difference(from: usize, to: usize) -> i64

@@ -2,8 +2,8 @@
 #![tactic(auto)]
 
 mod characters;
-pub mod comparison;
-pub mod distance;
+mod comparison;
+mod distance;
 pub mod doc;
 mod following;
 mod ground;
@@ -15,10 +15,9 @@ pub mod range;
 pub mod view;
 pub mod widget;
 
-pub use comparison::Comparison;
-pub use distance::Measure;
 pub use doc::Doc;
 pub use own_mark::OwnMark;
 pub use rt_edits::{Piece, Range, Selection};
+pub use rt_requests::{Comparison, Measure};
 pub use view::View;
 pub use widget::Widget;

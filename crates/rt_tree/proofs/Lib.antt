@@ -33,3 +33,6 @@ mod Pieces
 mod Cutting
 mod Marking
 mod Roomier
+mod Following
+mod Joining
+mod Splicing

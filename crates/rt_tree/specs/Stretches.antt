@@ -1,5 +1,5 @@
 -- Stretches of runs and of cells, and what changes them.
-use Rattle.std.specs.Prelude.{◌≡◌, ℕ, ◌+◌, ◌-◌, ◌<◌, ◌≤◌, ◌⊎◌, true, false, List, [], ◌∷◌, ◌++◌, length, map, take, drop}
+use Rattle.std.specs.Prelude.{◌≡◌, ℕ, ◌+◌, ◌-◌, ◌≤◌, ◌⊎◌, true, false, List, [], ◌∷◌, ◌++◌, length, map, take, drop}
 use Rattle.std.specs.List.{AllByRecursion}
 use Rattle.rt_stamps.specs.declared.limits.TheConstants.{MOST_CELLS}
 use Rattle.rt_store.specs.declared.cell.Cell.{Cell}
@@ -7,7 +7,7 @@ use Rattle.rt_store.specs.Cells.{with_state}
 use Rattle.rt_tree.specs.declared.node.Run.{Run}
 use Rattle.rt_tree.specs.declared.mark.Mark.{Mark}
 use Rattle.rt_tree.specs.declared.mark.Mark.TheVariants.{Gone, State}
-use Rattle.rt_tree.specs.Runs.{IsRun, cells_of, run_cells}
+use Rattle.rt_tree.specs.Runs.{IsRun, cells_of}
 
 -- the elements between two positions of a list are changed
 abbrev pub map_between : {X : Type 0} → (X → X) → ℕ → ℕ → List X → List X
@@ -53,18 +53,6 @@ pub record AreKept (rs : List Run) : Type 0 where
   pub text : List ℕ
   pub short : length text ≤ MOST_CELLS
   pub runs : AllByRecursion (IsRun text) rs
-
--- the characters of cells stand in a text
-abbrev pub StandsFrom : List ℕ → ℕ → List (Cell ℕ) → Type 0
-StandsFrom text start cells = take (length cells) (drop start text) ≡ map (λ cell. cell.ch) cells
-
--- a run's cells are the first of some cells, when its characters stand in a text
-pub record IsRunOf (new : List (Cell ℕ)) (start : ℕ) (r : Run) : Type 0 where
-  pub some : 0 < r.len
-  pub within : r.len ≤ length new
-  pub at : r.at ≡ start
-  pub run : (text : List ℕ) → StandsFrom text start new → IsRun text r
-  pub cells : (text : List ℕ) → StandsFrom text start new → run_cells text r ≡ take r.len new
 
 -- Stretches of runs change: the runs stay as they should be, and the cells are changed in a way.
 pub record AreChanged (old new : List Run) (text : List ℕ) (f : List (Cell ℕ) → List (Cell ℕ)) : Type 0 where

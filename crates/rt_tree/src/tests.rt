@@ -1,7 +1,13 @@
-ghost use Rattle.std.specs.Prelude.{◌≡◌};
+ghost use Rattle.std.specs.Prelude.{◌≡◌, false};
+ghost use Rattle.rt_store.specs.ListStore.{cells_of};
+ghost use Rattle.rt_store.specs.Tagged.{AreStates};
+ghost use Rattle.rt_tags.specs.States.{IsState};
 
 use crate::Tree;
-use rt_store::FINAL_CELL;
+use rt_stamps::{Fault, ROOT, Span, Stamp};
+use rt_store::{Cell, FINAL_CELL, ListStore, TextStore};
+use rt_tags::{StateId, StateTable};
+use std::alloc::Global;
 use std::test::Fail;
 
 // The final newline alone: one run in one leaf.
@@ -25,5 +31,279 @@ fn looks_are_counted(rt: HostRuntime) -> Result<(), Fail> {
     let mut looks = 5;
     assert_eq!(rt; tree.find(0, &mut looks), FINAL_CELL);
     assert_eq!(rt; looks, 6);
+    Ok(())
+}
+
+// The cell of a character without tags.
+fn plain(count: u64, site: u16, ch: char) -> Cell<StateId>
+    ensures { result ≡ record { stamp = record { count = count; site = site }; ch = ch; gone = false; state = 0 } }
+{
+    Cell {
+        stamp: Stamp { count, site },
+        ch,
+        gone: false,
+        state: StateId::EMPTY,
+    }
+}
+
+/// One text in a list and in a tree. A call that is out of bounds answers `NoMemory`.
+struct Both {
+    states: StateTable,
+    tagged: StateId,
+    list: ListStore,
+    tree: Tree,
+    ghost tagged_given: { IsState states tagged },
+    ghost cells_given: { AreStates states (cells_of list) },
+}
+
+// Written out, so that each way out of a test lets a text go in one step of its proof.
+impl Drop for Both {
+    fn drop(self) {
+        let Both {
+            states: _,
+            tagged: _,
+            list: _,
+            tree: _,
+        } = self;
+    }
+}
+
+impl Both {
+    #[tactic(auto, using(rt_store::proofs::GivenStates::one_state))]
+    fn new(alloc: Global) -> Result<Both, Fault> {
+        let mut states = StateTable::new(alloc)?;
+        let tag = states.number("t")?;
+        let tagged = states.with(StateId::EMPTY, tag, ROOT, true)?;
+        let list = ListStore::new(alloc)?;
+        let tree = Tree::new(alloc)?;
+        Ok(Both {
+            states,
+            tagged,
+            list,
+            tree,
+        })
+    }
+
+    // A character, in the list.
+    #[tactic(auto, using(rt_store::proofs::GivenStates::spliced_states, rt_store::proofs::GivenStates::one_state))]
+    fn list_one(&mut self, at: usize, count: u64, site: u16, ch: char) -> Result<(), Fault> {
+        if self.list.cells() > 1000 || at >= self.list.cells() {
+            return Err(Fault::NoMemory);
+        }
+        self.list.reserve(1, 1)?;
+        self.list
+            .splice(&self.states, at, &[plain(count, site, ch)]);
+        Ok(())
+    }
+
+    // New cells, in the tree.
+    fn grow(&mut self, at: usize, cells: &[Cell<StateId>]) -> Result<(), Fault> {
+        if at >= self.tree.cells() {
+            return Err(Fault::NoMemory);
+        }
+        self.tree.reserve(cells.len(), 1)?;
+        self.tree.splice(at, cells);
+        Ok(())
+    }
+
+    // A character.
+    fn put(&mut self, at: usize, count: u64, site: u16, ch: char) -> Result<(), Fault> {
+        self.list_one(at, count, site, ch)?;
+        self.grow(at, &[plain(count, site, ch)])
+    }
+
+    // Three characters of one site, in the tree at once.
+    fn paste(&mut self, at: usize, count: u64, site: u16, text: [char; 3]) -> Result<(), Fault> {
+        if at > 1000 || count > 1_000_000 {
+            return Err(Fault::NoMemory);
+        }
+        let [a, b, c] = text;
+        self.list_one(at, count, site, a)?;
+        self.list_one(at + 1, count + 1, site, b)?;
+        self.list_one(at + 2, count + 2, site, c)?;
+        let a = plain(count, site, a);
+        let b = plain(count + 1, site, b);
+        let c = plain(count + 2, site, c);
+        self.grow(at, &[a, b, c])
+    }
+
+    // The cell at a position of the list becomes gone; the final newline never does.
+    #[tactic(auto, using(rt_store::proofs::GivenStates::gone_states))]
+    fn list_gone(&mut self, at: usize) -> Result<(), Fault> {
+        if self.list.cells() > 1000 || at >= self.list.cells() {
+            return Err(Fault::NoMemory);
+        }
+        let stamp = self.list.nth(at).stamp;
+        if stamp.site == 0 {
+            return Err(Fault::NoMemory);
+        }
+        self.list.reserve(0, 2)?;
+        let span = Span {
+            site: stamp.site,
+            first: stamp.count,
+            last: stamp.count,
+        };
+        self.list.set_gone(&self.states, span);
+        Ok(())
+    }
+
+    // The cells between two positions become gone.
+    fn remove(&mut self, from: usize, to: usize) -> Result<(), Fault> {
+        if from > to || to > self.tree.cells() {
+            return Err(Fault::NoMemory);
+        }
+        for at in from..to {
+            self.list_gone(at)?;
+        }
+        self.remove_stretch(from, to)
+    }
+
+    fn remove_stretch(&mut self, from: usize, to: usize) -> Result<(), Fault> {
+        if from > to || to > self.tree.cells() {
+            return Err(Fault::NoMemory);
+        }
+        self.tree.reserve(0, 2)?;
+        self.tree.set_gone(from, to);
+        Ok(())
+    }
+
+    // The cell at a position of the list gets the tag.
+    #[tactic(auto, using(rt_store::proofs::GivenStates::put_states))]
+    fn list_tag(&mut self, at: usize) -> Result<(), Fault> {
+        if self.list.cells() > 1000 || at >= self.list.cells() {
+            return Err(Fault::NoMemory);
+        }
+        let stamp = self.list.nth(at).stamp;
+        self.list.reserve(0, 2)?;
+        let span = Span {
+            site: stamp.site,
+            first: stamp.count,
+            last: stamp.count,
+        };
+        self.list.set_state(&self.states, span, self.tagged);
+        Ok(())
+    }
+
+    // The cells between two positions get the tag.
+    fn tag(&mut self, from: usize, to: usize) -> Result<(), Fault> {
+        for at in from..to {
+            self.list_tag(at)?;
+        }
+        self.tag_stretch(from, to)
+    }
+
+    fn tag_stretch(&mut self, from: usize, to: usize) -> Result<(), Fault> {
+        if from > to || to > self.tree.cells() {
+            return Err(Fault::NoMemory);
+        }
+        self.tree.reserve(0, 2)?;
+        self.tree.set_state(from, to, self.tagged);
+        Ok(())
+    }
+
+    // Whether both have the same cells, and as many visible ones and lines.
+    fn same(&self) -> bool {
+        let cells = self.list.cells();
+        if self.tree.cells() != cells
+            || self.tree.visible() != self.list.visible()
+            || self.tree.lines() != self.list.lines()
+        {
+            return false;
+        }
+        for at in 0..cells {
+            if self.tree.nth(at) != self.list.nth(at) {
+                return false;
+            }
+        }
+        true
+    }
+}
+
+// With ample memory room is made, and kept.
+#[test]
+fn room(rt: HostRuntime) -> Result<(), Fail> {
+    let mut tree = Tree::new(rt.alloc())?;
+    tree.reserve(1000, 50)?;
+    tree.reserve(10, 60)?;
+    assert_eq!(rt; (tree.cells(), tree.runs(), tree.height()), (1, 1, 1));
+    Ok(())
+}
+
+// What is typed on makes its run longer; cells that don't follow make another.
+#[test]
+fn typing(rt: HostRuntime) -> Result<(), Fail> {
+    let mut both = Both::new(rt.alloc())?;
+    both.put(0, 1, 1, 'a')?;
+    both.put(1, 2, 1, 'b')?;
+    both.put(2, 3, 1, '\n')?;
+    assert!(rt; both.same());
+    assert_eq!(rt; both.tree.runs(), 2);
+    both.put(3, 4, 1, 'c')?;
+    both.put(1, 5, 2, 'x')?;
+    assert!(rt; both.same());
+    assert_eq!(rt; both.tree.runs(), 5);
+    Ok(())
+}
+
+// A stretch that is pasted is one run, or more where a newline ends one.
+#[test]
+fn pasting(rt: HostRuntime) -> Result<(), Fail> {
+    let mut both = Both::new(rt.alloc())?;
+    both.paste(0, 1, 1, ['a', 'b', 'c'])?;
+    assert_eq!(rt; both.tree.runs(), 2);
+    both.paste(3, 4, 1, ['\n', 'd', 'e'])?;
+    assert_eq!(rt; both.tree.runs(), 3);
+    both.paste(2, 1, 2, ['\n', '\n', 'f'])?;
+    assert!(rt; both.same());
+    assert_eq!(rt; both.tree.runs(), 7);
+    Ok(())
+}
+
+// Cells that become gone, or get a tag.
+#[test]
+fn marking(rt: HostRuntime) -> Result<(), Fail> {
+    let mut both = Both::new(rt.alloc())?;
+    both.paste(0, 1, 1, ['a', 'b', 'c'])?;
+    both.paste(3, 4, 1, ['\n', 'd', 'e'])?;
+    both.remove(1, 5)?;
+    assert!(rt; both.same());
+    assert_eq!(rt; both.tree.runs(), 5);
+    both.tag(2, 7)?;
+    assert!(rt; both.same());
+    Ok(())
+}
+
+impl Both {
+    // One call at a place that a number gives; each round has counts of its own.
+    fn turn(&mut self, random: usize, round: u64) -> Result<(), Fault> {
+        let cells = self.tree.cells();
+        if cells == 0 || round > 1000 {
+            return Err(Fault::NoMemory);
+        }
+        let at = random / 8 % cells;
+        let to = (at + random / 1024 % 9).min(cells - 1);
+        let count = 1 + 3 * round;
+        match random % 8 {
+            0 => self.remove(at, to),
+            1 => self.tag(at, to),
+            2 => self.put(at, count, 3, '\n'),
+            3 => self.paste(at, count, 1, ['a', '\n', 'b']),
+            4 => self.paste(at, count, 2, ['c', 'd', '\n']),
+            _ => self.paste(cells - 1, count, 1, ['e', 'f', 'g']),
+        }
+    }
+}
+
+// A series of calls at pseudo-random places: after each, both stores have the same cells.
+#[test]
+fn a_random_series(rt: HostRuntime) -> Result<(), Fail> {
+    let mut both = Both::new(rt.alloc())?;
+    let mut seed: u32 = 7;
+    for round in 0..200 {
+        seed = seed.wrapping_mul(1_664_525).wrapping_add(1_013_904_223);
+        both.turn((seed / 65_536) as usize, round)?;
+        assert!(rt; both.same());
+    }
+    assert!(rt; both.tree.height() > 1);
     Ok(())
 }

@@ -1,13 +1,15 @@
 // The cells of a text in a tree.
 ghost use Rattle.std.specs.Prelude.{◌≡◌, ◌+◌, ◌-◌, ◌*◌, ◌<◌, ◌≤◌, ◌^◌, [], ◌∷◌, length, slice_get, Some, IfOk, IfErr, IsOk, OnOk, OnErr};
 ghost use Rattle.rt_stamps.specs.Places.{line_of, line_start, newlines};
-ghost use Rattle.rt_store.specs.Cells.{HasRoom, Spends, final_cell, text_of, visible_of, with_state};
+ghost use Rattle.rt_store.specs.Cells.{HasRoom, Spends, final_cell, put_at, text_of, visible_of, with_state};
+ghost use Rattle.rt_tree.specs.Additions.{stretches};
 ghost use Rattle.rt_tree.specs.Stretches.{made_gone, map_between, marked_cell};
 ghost use Rattle.rt_tree.specs.Trees.{final_run};
 
 use crate::find::{cell_in, find, height, seek, sum_of};
 use crate::mark::{Mark, mark_cells};
 use crate::node::{Entry, Head, Measure, Mem, Run};
+use crate::splice::{push_characters, put_cells};
 use rt_nodes::{NodeId, NodeMem};
 use rt_stamps::limits::MOST_CELLS;
 use rt_stamps::{FINAL, Fault};
@@ -251,5 +253,22 @@ impl Tree {
         ensures room { Spends self.old.room self.new.room 0 2 }
     {
         self.apply(from, to, Mark::State(state));
+    }
+
+    /// Puts new cells in before the one at a position. A run that they go on with gets longer; each
+    /// other stretch of them becomes a run. Takes no memory.
+    pub fn splice(&mut self, at: usize, cells: &[Cell<StateId>])
+        requires within { at < length self.old.cells }
+        requires room { HasRoom self.old.room (length cells.now) 1 }
+        ensures cells { self.new.cells ≡ put_at at cells.now self.old.cells }
+        ensures runs { self.new.runs ≤ self.old.runs + stretches cells.now + 1 }
+        ensures room { Spends self.old.room self.new.room (length cells.now) 1 }
+    {
+        push_characters(&mut self.text, cells);
+        let change = put_cells(&mut self.mem, self.root, &self.text, at, cells);
+        self.root = change.root;
+        self.runs += change.more;
+        self.spare_cells -= cells.len();
+        self.spare_cuts -= 1;
     }
 }

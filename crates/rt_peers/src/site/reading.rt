@@ -1,13 +1,16 @@
-// What a site's commands say of its text: texts, positions, comparisons and distances.
-ghost use Rattle.std.specs.Prelude.{◌≡◌, ◌≤◌, map, length, string_bytes, IfOk, IfErr};
-ghost use Rattle.std.specs.List.{prefix_len};
+// What a site says of its text: texts, positions, comparisons and distances.
+ghost use Rattle.std.specs.Prelude.{◌≡◌, map, string_bytes, IfOk, IfErr};
+ghost use Rattle.std.specs.Fmt.{signed_decimal};
 ghost use Rattle.rt_stamps.specs.Outcomes.{Answers};
-ghost use Rattle.rt_text.specs.Commands.{got_one, got};
-ghost use Rattle.rt_peers.specs.Step.{word_step, get_step, list_step, index_step, comparison_step, compare_step, distances_step, counted_step, count_step, text_of_bool, is_switch};
+ghost use Rattle.rt_stamps.specs.Places.{text_of_position};
+ghost use Rattle.rt_requests.specs.Parts.{all_of};
+ghost use Rattle.rt_text.specs.Commands.{got_one, got, got_list, position_of_index, compared, counted};
+ghost use Rattle.rt_peers.specs.Step.{get_step, one_word, text_of_bool, told_step};
 
 use super::SiteState;
 use super::replies::{numbers, one_word};
 use crate::reply::Reply;
+use rt_requests::{Comparison, Measures, Word, Words};
 use rt_stamps::Fault;
 use std::alloc::Global;
 
@@ -20,110 +23,78 @@ fn text_of_bool(alloc: Global, holds: bool) -> Result<String, Fault>
     Ok(String::from_str(alloc, text)?)
 }
 
-// Whether a word is a switch.
-fn is_switch(word: &str) -> bool
-    ensures { result ≡ is_switch word.now }
-{
-    word.as_bytes().first() == Some(&b'-')
-}
-
-// How many switches some words begin with.
-fn switches_len(words: &[String]) -> usize
-    ensures value { result ≡ prefix_len (λ w. is_switch (string_bytes w)) words.now }
-    ensures within { result ≤ length words.now }
-{
-    words.iter().take_while(|word| is_switch(word)).count()
-}
-
 impl SiteState {
-    // `get INDEX ?INDEX ...?`.
-    pub(super) fn get(&mut self, words: &[String]) -> Result<Reply, Fault>
-        ensures { Answers (get_step self.old (map (λ w. string_bytes w) words.now)) self.old result self.new }
+    // The text of some indices.
+    pub(super) fn get(&self, indices: &Words<'_>) -> Result<Reply, Fault>
+        ensures { Answers (get_step self.now (all_of indices.now)) self.now result self.now }
     {
-        match words {
+        let indices = indices.all();
+        match indices {
             [index] => self.get_one(index),
             [from, to] => self.get_between(from, to),
-            [] => Err(Fault::BadCommand),
-            _ => self.get_list(words),
+            [_, _, _, ..] => self.get_list(indices),
+            [] => self.get_list(indices),
         }
     }
 
-    // `get` of one index.
-    fn get_one(&mut self, index: &str) -> Result<Reply, Fault>
-        ensures { Answers (word_step self.old (got_one self.old index.now)) self.old result self.new }
+    // The character at an index.
+    fn get_one(&self, index: &str) -> Result<Reply, Fault>
+        ensures { Answers (told_step one_word self.now (got_one self.now index.now)) self.now result self.now }
     {
         let text = self.view.get_one(index)?;
         one_word(self.alloc, text)
     }
 
-    // `get` of two indices.
-    fn get_between(&mut self, from: &str, to: &str) -> Result<Reply, Fault>
-        ensures { Answers (word_step self.old (got self.old from.now to.now)) self.old result self.new }
+    // The text from an index to another.
+    fn get_between(&self, from: &str, to: &str) -> Result<Reply, Fault>
+        ensures { Answers (told_step one_word self.now (got self.now from.now to.now)) self.now result self.now }
     {
         let text = self.view.get(from, to)?;
         one_word(self.alloc, text)
     }
 
-    // `get` of more indices.
-    fn get_list(&mut self, words: &[String]) -> Result<Reply, Fault>
-        ensures { Answers (list_step self.old (map (λ w. string_bytes w) words.now)) self.old result self.new }
+    // The texts of more indices.
+    fn get_list(&self, indices: &[String]) -> Result<Reply, Fault>
+        ensures { Answers (told_step (λ texts. texts) self.now (got_list self.now (map (λ w. string_bytes w) indices.now))) self.now result self.now }
     {
-        let words = self.view.get_list(words)?;
+        let words = self.view.get_list(indices)?;
         Ok(Reply { words })
     }
 
-    // `index INDEX`.
-    pub(super) fn index(&mut self, words: &[String]) -> Result<Reply, Fault>
-        ensures { Answers (index_step self.old (map (λ w. string_bytes w) words.now)) self.old result self.new }
+    // Where an index stands.
+    pub(super) fn index(&self, index: &Word<'_>) -> Result<Reply, Fault>
+        ensures { Answers (told_step (λ position. one_word (text_of_position position)) self.now (position_of_index self.now index.now))
+            self.now result self.now }
     {
-        let [index] = words else {
-            return Err(Fault::BadCommand);
-        };
-        let position = self.view.index(index)?;
-        one_word(self.alloc, position.to_string(self.alloc)?)
+        let position = self.view.index(index.text())?;
+        let text = position.to_string(self.alloc)?;
+        one_word(self.alloc, text)
     }
 
-    // `compare INDEX OPERATOR INDEX`.
-    pub(super) fn compare(&mut self, words: &[String]) -> Result<Reply, Fault>
-        ensures { Answers (compare_step self.old (map (λ w. string_bytes w) words.now)) self.old result self.new }
+    // Whether a comparison holds of two indices.
+    pub(super) fn compare(
+        &self,
+        first: &Word<'_>,
+        comparison: Comparison,
+        second: &Word<'_>,
+    ) -> Result<Reply, Fault>
+        ensures { Answers (told_step (λ holds. one_word (text_of_bool holds)) self.now (compared self.now first.now comparison second.now))
+            self.now result self.now }
     {
-        let [first, operator, second] = words else {
-            return Err(Fault::BadCommand);
-        };
-        self.compare_places(first, operator, second)
-    }
-
-    // `compare` of two indices by an operator.
-    fn compare_places(&mut self, first: &str, operator: &str, second: &str) -> Result<Reply, Fault>
-        ensures { Answers (comparison_step self.old first.now operator.now second.now) self.old result self.new }
-    {
-        let holds = self.view.compare(first, operator, second)?;
+        let holds = self.view.compare(first.text(), comparison, second.text())?;
         one_word(self.alloc, text_of_bool(self.alloc, holds)?)
     }
 
-    // `count` with its switches, from an index to another.
-    fn count_from(&mut self, switches: &[String], from: &str, to: &str) -> Result<Reply, Fault>
-        ensures { Answers (distances_step self.old (map (λ w. string_bytes w) switches.now) from.now to.now) self.old result self.new }
+    // How far an index is from another.
+    pub(super) fn count(
+        &self,
+        measures: &Measures,
+        from: &Word<'_>,
+        to: &Word<'_>,
+    ) -> Result<Reply, Fault>
+        ensures { Answers (told_step (map signed_decimal) self.now (counted self.now measures.now from.now to.now)) self.now result self.now }
     {
-        let distances = self.view.count(switches, from, to)?;
+        let distances = self.view.count(measures.all(), from.text(), to.text())?;
         numbers(self.alloc, &distances)
-    }
-
-    // `count` with its switches and its indices.
-    fn count_between(&mut self, switches: &[String], indices: &[String]) -> Result<Reply, Fault>
-        ensures { Answers (counted_step self.old (map (λ w. string_bytes w) switches.now) (map (λ w. string_bytes w) indices.now)) self.old result self.new }
-    {
-        let [from, to] = indices else {
-            return Err(Fault::BadCommand);
-        };
-        self.count_from(switches, from, to)
-    }
-
-    // `count ?SWITCH ...? INDEX INDEX`.
-    pub(super) fn count(&mut self, words: &[String]) -> Result<Reply, Fault>
-        ensures { Answers (count_step self.old (map (λ w. string_bytes w) words.now)) self.old result self.new }
-    {
-        let switches = switches_len(words);
-        self.count_between(&words[..switches], &words[switches..])
     }
 }

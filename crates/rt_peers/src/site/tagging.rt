@@ -1,228 +1,149 @@
-// What is done with tags by commands of a site.
-ghost use Rattle.std.specs.Prelude.{map, string_bytes, option_copied};
+// What is asked of tags.
+ghost use Rattle.std.specs.Prelude.{◌≡◌, map, option_copied, Ok};
 ghost use Rattle.rt_stamps.specs.Outcomes.{Answers};
+ghost use Rattle.rt_stamps.specs.Places.{text_of_position};
+ghost use Rattle.rt_requests.specs.Parts.{all_of};
 ghost use Rattle.rt_tagcmd.specs.TagCommands.{tag_added, tag_removed, tags_deleted, tag_raised, tag_lowered, tag_names, tag_names_at, tag_ranges, tag_nextrange, tag_prevrange};
-ghost use Rattle.rt_peers.specs.Step.{changed_step, words_step, positions_step, tag_add_step, tag_remove_step, tag_delete_step, tag_raise_step, tag_lower_step, tag_names_step, tag_ranges_step, tag_nextrange_step, tag_prevrange_step, tag_command_step, tag_step};
+ghost use Rattle.rt_peers.specs.Step.{changed_step, tag_step, told_step};
 
 use super::SiteState;
 use super::replies::{no_words, positions_reply};
-use crate::command::{TagCommand, tag_command_of};
 use crate::reply::Reply;
+use rt_requests::{TagRequest, Word, Words};
 use rt_stamps::Fault;
 use rt_tagcmd::{
     tag_add, tag_delete, tag_lower, tag_names, tag_names_at, tag_nextrange, tag_prevrange,
     tag_raise, tag_ranges, tag_remove,
 };
 
+// The text of a word that may be wanting.
+fn text_of<'a>(word: &Option<Word<'a>>) -> Option<&'a str>
+    ensures { option_copied result ≡ word.now }
+{
+    match word {
+        Some(word) => Some(word.text()),
+        None => None,
+    }
+}
+
 impl SiteState {
-    // `tag add NAME INDEX ?INDEX ...?`.
-    fn tag_add(&mut self, words: &[String]) -> Result<Reply, Fault>
-        ensures { Answers (tag_add_step self.old (map (λ w. string_bytes w) words.now)) self.old result self.new }
+    // The characters in the ranges of some indices get a tag.
+    fn add_tag(&mut self, name: &Word<'_>, indices: &Words<'_>) -> Result<Reply, Fault>
+        ensures { Answers (changed_step (tag_added self.old name.now (all_of indices.now))) self.old result self.new }
     {
-        let [name, _, ..] = words else {
-            return Err(Fault::BadCommand);
-        };
-        self.add_tag(name, &words[1..])
-    }
-
-    // `tag add` of a name and one index or more.
-    fn add_tag(&mut self, name: &str, indices: &[String]) -> Result<Reply, Fault>
-        ensures { Answers (changed_step (tag_added self.old name.now (map (λ w. string_bytes w) indices.now))) self.old result self.new }
-    {
-        tag_add(&mut self.view, name, indices)?;
+        tag_add(&mut self.view, name.text(), indices.all())?;
         Ok(no_words(self.alloc))
     }
 
-    // `tag remove NAME INDEX ?INDEX ...?`.
-    fn tag_remove(&mut self, words: &[String]) -> Result<Reply, Fault>
-        ensures { Answers (tag_remove_step self.old (map (λ w. string_bytes w) words.now)) self.old result self.new }
+    // They lose a tag.
+    fn remove_tag(&mut self, name: &Word<'_>, indices: &Words<'_>) -> Result<Reply, Fault>
+        ensures { Answers (changed_step (tag_removed self.old name.now (all_of indices.now))) self.old result self.new }
     {
-        let [name, _, ..] = words else {
-            return Err(Fault::BadCommand);
-        };
-        self.remove_tag(name, &words[1..])
-    }
-
-    // `tag remove` of a name and one index or more.
-    fn remove_tag(&mut self, name: &str, indices: &[String]) -> Result<Reply, Fault>
-        ensures { Answers (changed_step (tag_removed self.old name.now (map (λ w. string_bytes w) indices.now))) self.old result self.new }
-    {
-        tag_remove(&mut self.view, name, indices)?;
+        tag_remove(&mut self.view, name.text(), indices.all())?;
         Ok(no_words(self.alloc))
     }
 
-    // `tag delete NAME ?NAME ...?`.
-    fn tag_delete(&mut self, words: &[String]) -> Result<Reply, Fault>
-        ensures { Answers (tag_delete_step self.old (map (λ w. string_bytes w) words.now)) self.old result self.new }
+    // Tags are no longer there.
+    fn delete_tags(&mut self, names: &Words<'_>) -> Result<Reply, Fault>
+        ensures { Answers (changed_step (tags_deleted self.old (all_of names.now))) self.old result self.new }
     {
-        if words.is_empty() {
-            return Err(Fault::BadCommand);
-        }
-        self.delete_tags(words)
-    }
-
-    // `tag delete` of one name or more.
-    fn delete_tags(&mut self, names: &[String]) -> Result<Reply, Fault>
-        ensures { Answers (changed_step (tags_deleted self.old (map (λ w. string_bytes w) names.now))) self.old result self.new }
-    {
-        tag_delete(&mut self.view, names)?;
+        tag_delete(&mut self.view, names.all())?;
         Ok(no_words(self.alloc))
     }
 
-    // `tag raise NAME ?ABOVE?`.
-    fn tag_raise(&mut self, words: &[String]) -> Result<Reply, Fault>
-        ensures { Answers (tag_raise_step self.old (map (λ w. string_bytes w) words.now)) self.old result self.new }
+    // A tag is put just above another, or highest.
+    fn raise(&mut self, name: &Word<'_>, above: &Option<Word<'_>>) -> Result<Reply, Fault>
+        ensures { Answers (changed_step (tag_raised self.old name.now above.now)) self.old result self.new }
     {
-        match words {
-            [name] => self.raise(name, None),
-            [name, above] => self.raise(name, Some(above)),
-            [] => Err(Fault::BadCommand),
-            _ => Err(Fault::BadCommand),
-        }
-    }
-
-    // `tag raise` of a name.
-    fn raise(&mut self, name: &str, above: Option<&str>) -> Result<Reply, Fault>
-        ensures { Answers (changed_step (tag_raised self.old name.now (option_copied above.entry))) self.old result self.new }
-    {
-        tag_raise(&mut self.view, name, above)?;
+        tag_raise(&mut self.view, name.text(), text_of(above))?;
         Ok(no_words(self.alloc))
     }
 
-    // `tag lower NAME ?BELOW?`.
-    fn tag_lower(&mut self, words: &[String]) -> Result<Reply, Fault>
-        ensures { Answers (tag_lower_step self.old (map (λ w. string_bytes w) words.now)) self.old result self.new }
+    // A tag is put just below another, or lowest.
+    fn lower(&mut self, name: &Word<'_>, below: &Option<Word<'_>>) -> Result<Reply, Fault>
+        ensures { Answers (changed_step (tag_lowered self.old name.now below.now)) self.old result self.new }
     {
-        match words {
-            [name] => self.lower(name, None),
-            [name, below] => self.lower(name, Some(below)),
-            [] => Err(Fault::BadCommand),
-            _ => Err(Fault::BadCommand),
-        }
-    }
-
-    // `tag lower` of a name.
-    fn lower(&mut self, name: &str, below: Option<&str>) -> Result<Reply, Fault>
-        ensures { Answers (changed_step (tag_lowered self.old name.now (option_copied below.entry))) self.old result self.new }
-    {
-        tag_lower(&mut self.view, name, below)?;
+        tag_lower(&mut self.view, name.text(), text_of(below))?;
         Ok(no_words(self.alloc))
     }
 
-    // `tag names ?INDEX?`.
-    fn tag_names(&mut self, words: &[String]) -> Result<Reply, Fault>
-        ensures { Answers (tag_names_step self.old (map (λ w. string_bytes w) words.now)) self.old result self.new }
-    {
-        match words {
-            [] => self.all_tags(),
-            [index] => self.tags_at(index),
-            _ => Err(Fault::BadCommand),
-        }
-    }
-
-    // `tag names` of all tags.
-    fn all_tags(&mut self) -> Result<Reply, Fault>
-        ensures { Answers (Ok (tag_names self.old, self.old)) self.old result self.new }
+    // All listed tags.
+    fn all_tags(&self) -> Result<Reply, Fault>
+        ensures { Answers (Ok (tag_names self.now, self.now)) self.now result self.now }
     {
         let words = tag_names(&self.view)?;
         Ok(Reply { words })
     }
 
-    // `tag names` of an index.
-    fn tags_at(&mut self, index: &str) -> Result<Reply, Fault>
-        ensures { Answers (words_step self.old (tag_names_at self.old index.now)) self.old result self.new }
+    // The tags of the character at an index.
+    fn tags_at(&self, index: &Word<'_>) -> Result<Reply, Fault>
+        ensures { Answers (told_step (λ names. names) self.now (tag_names_at self.now index.now)) self.now result self.now }
     {
-        let words = tag_names_at(self.alloc, &self.view, index)?;
+        let words = tag_names_at(self.alloc, &self.view, index.text())?;
         Ok(Reply { words })
     }
 
-    // `tag ranges NAME`.
-    fn tag_ranges(&mut self, words: &[String]) -> Result<Reply, Fault>
-        ensures { Answers (tag_ranges_step self.old (map (λ w. string_bytes w) words.now)) self.old result self.new }
+    // The ranges of a tag.
+    fn ranges(&self, name: &Word<'_>) -> Result<Reply, Fault>
+        ensures { Answers (told_step (map text_of_position) self.now (tag_ranges self.now name.now)) self.now result self.now }
     {
-        let [name] = words else {
-            return Err(Fault::BadCommand);
-        };
-        self.ranges(name)
-    }
-
-    // `tag ranges` of a name.
-    fn ranges(&mut self, name: &str) -> Result<Reply, Fault>
-        ensures { Answers (positions_step self.old (tag_ranges self.old name.now)) self.old result self.new }
-    {
-        let positions = tag_ranges(self.alloc, &self.view, name)?;
+        let positions = tag_ranges(self.alloc, &self.view, name.text())?;
         positions_reply(self.alloc, &positions)
     }
 
-    // `tag nextrange NAME INDEX ?INDEX?`.
-    fn tag_nextrange(&mut self, words: &[String]) -> Result<Reply, Fault>
-        ensures { Answers (tag_nextrange_step self.old (map (λ w. string_bytes w) words.now)) self.old result self.new }
-    {
-        match words {
-            [name, from] => self.next_range(name, from, None),
-            [name, from, to] => self.next_range(name, from, Some(to)),
-            _ => Err(Fault::BadCommand),
-        }
-    }
-
-    // `tag nextrange` of a name, an index and perhaps another.
-    fn next_range(&mut self, name: &str, from: &str, to: Option<&str>) -> Result<Reply, Fault>
-        ensures { Answers (positions_step self.old (tag_nextrange self.old name.now from.now
-            (option_copied to.entry))) self.old result self.new }
-    {
-        let positions = tag_nextrange(self.alloc, &self.view, name, from, to)?;
-        positions_reply(self.alloc, &positions)
-    }
-
-    // `tag prevrange NAME INDEX ?INDEX?`.
-    fn tag_prevrange(&mut self, words: &[String]) -> Result<Reply, Fault>
-        ensures { Answers (tag_prevrange_step self.old (map (λ w. string_bytes w) words.now)) self.old result self.new }
-    {
-        match words {
-            [name, to] => self.previous_range(name, to, None),
-            [name, to, from] => self.previous_range(name, to, Some(from)),
-            _ => Err(Fault::BadCommand),
-        }
-    }
-
-    // `tag prevrange` of a name, an index and perhaps another.
-    fn previous_range(&mut self, name: &str, to: &str, from: Option<&str>) -> Result<Reply, Fault>
-        ensures { Answers (positions_step self.old (tag_prevrange self.old name.now to.now
-            (option_copied from.entry))) self.old result self.new }
-    {
-        let positions = tag_prevrange(self.alloc, &self.view, name, to, from)?;
-        positions_reply(self.alloc, &positions)
-    }
-
-    // What is done with tags, and its words.
-    fn run_tag_command(
-        &mut self,
-        command: Option<TagCommand>,
-        words: &[String],
+    // The first range of a tag that begins at an index or later, and before another or the end.
+    fn next_range(
+        &self,
+        name: &Word<'_>,
+        from: &Word<'_>,
+        to: &Option<Word<'_>>,
     ) -> Result<Reply, Fault>
-        ensures { Answers (tag_command_step self.old command (map (λ w. string_bytes w) words.now)) self.old result self.new }
+        ensures { Answers (told_step (map text_of_position) self.now (tag_nextrange self.now name.now from.now to.now)) self.now result self.now }
     {
-        match command {
-            Some(TagCommand::Add) => self.tag_add(words),
-            Some(TagCommand::Remove) => self.tag_remove(words),
-            Some(TagCommand::Delete) => self.tag_delete(words),
-            Some(TagCommand::Raise) => self.tag_raise(words),
-            Some(TagCommand::Lower) => self.tag_lower(words),
-            Some(TagCommand::Names) => self.tag_names(words),
-            Some(TagCommand::Ranges) => self.tag_ranges(words),
-            Some(TagCommand::NextRange) => self.tag_nextrange(words),
-            Some(TagCommand::PreviousRange) => self.tag_prevrange(words),
-            None => Err(Fault::BadCommand),
-        }
+        let positions = tag_nextrange(
+            self.alloc,
+            &self.view,
+            name.text(),
+            from.text(),
+            text_of(to),
+        )?;
+        positions_reply(self.alloc, &positions)
     }
 
-    // `tag WHAT ?WORD ...?`.
-    pub(super) fn tag(&mut self, words: &[String]) -> Result<Reply, Fault>
-        ensures { Answers (tag_step self.old (map (λ w. string_bytes w) words.now)) self.old result self.new }
+    // The last range of a tag that begins before an index, and at another or later, or anywhere.
+    fn previous_range(
+        &self,
+        name: &Word<'_>,
+        to: &Word<'_>,
+        from: &Option<Word<'_>>,
+    ) -> Result<Reply, Fault>
+        ensures { Answers (told_step (map text_of_position) self.now (tag_prevrange self.now name.now to.now from.now)) self.now result self.now }
     {
-        let Some((what, words)) = words.split_first() else {
-            return Err(Fault::BadCommand);
-        };
-        self.run_tag_command(tag_command_of(what), words)
+        let positions = tag_prevrange(
+            self.alloc,
+            &self.view,
+            name.text(),
+            to.text(),
+            text_of(from),
+        )?;
+        positions_reply(self.alloc, &positions)
+    }
+
+    // What is asked of tags.
+    pub(super) fn tag(&mut self, request: &TagRequest<'_>) -> Result<Reply, Fault>
+        ensures { Answers (tag_step self.old request.now) self.old result self.new }
+    {
+        match request {
+            TagRequest::Add { name, indices } => self.add_tag(name, indices),
+            TagRequest::Remove { name, indices } => self.remove_tag(name, indices),
+            TagRequest::Delete { names } => self.delete_tags(names),
+            TagRequest::Raise { name, above } => self.raise(name, above),
+            TagRequest::Lower { name, below } => self.lower(name, below),
+            TagRequest::Names => self.all_tags(),
+            TagRequest::NamesAt { index } => self.tags_at(index),
+            TagRequest::Ranges { name } => self.ranges(name),
+            TagRequest::NextRange { name, from, to } => self.next_range(name, from, to),
+            TagRequest::PreviousRange { name, to, from } => self.previous_range(name, to, from),
+        }
     }
 }

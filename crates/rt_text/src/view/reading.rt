@@ -9,11 +9,12 @@ ghost use Rattle.rt_text.specs.Widgets.{length_shown, text_shown, widget_of};
 ghost use Rattle.rt_text.specs.Commands.{got_one, got, got_list, position_of_index, compared, counted};
 
 use super::View;
-use crate::Comparison;
-use crate::distance::{distances_of, measures_of};
+use crate::comparison::holds;
+use crate::distance::distances_of;
 use crate::index::{place_of, position_at};
 use crate::range::{ranges_at, text_between, texts_of};
 use rt_edits::Range;
+use rt_requests::{Comparison, Measure};
 use rt_stamps::{Fault, Position};
 use rt_store::TextStore;
 
@@ -102,30 +103,26 @@ impl<S: TextStore> View<S> {
     }
 
     /// `compare INDEX OPERATOR INDEX` (Tk text manual): whether the comparison holds of the two
-    /// places. `BadOption`, `BadIndex`, `NoneTagged`, or want of memory.
-    pub fn compare(&self, first: &str, operator: &str, second: &str) -> Result<bool, Fault>
-        ensures ok { IfOk result (λ holds. compared self.now first.now operator.now second.now ≡ Ok holds) }
-        ensures err { IfErr result (Refuses (compared self.now first.now operator.now second.now)) }
+    /// places. `BadIndex`, `NoneTagged`, or want of memory.
+    pub fn compare(&self, first: &str, comparison: Comparison, second: &str) -> Result<bool, Fault>
+        ensures ok { IfOk result (λ holds. compared self.now first.now comparison second.now ≡ Ok holds) }
+        ensures err { IfErr result (Refuses (compared self.now first.now comparison second.now)) }
     {
-        let Some(comparison) = Comparison::of(operator) else {
-            return Err(Fault::BadOption);
-        };
         let left = self.place(first)?;
         let right = self.place(second)?;
-        Ok(comparison.holds(left, right))
+        Ok(holds(comparison, left, right))
     }
 
     /// `count SWITCHES INDEX INDEX` (Tk text manual): the distances from the first index to the
-    /// second that the switches ask for in turn, negative where the first is later; in indices where
-    /// there is no switch. `BadOption`, `BadIndex`, `NoneTagged`, or want of memory.
-    pub fn count(&self, switches: &[String], from: &str, to: &str) -> Result<Vec<i64>, Fault>
-        ensures ok { IfOk result (λ distances. counted self.now (map (λ w. string_bytes w) switches.now) from.now to.now ≡ Ok distances.items) }
-        ensures err { IfErr result (Refuses (counted self.now (map (λ w. string_bytes w) switches.now) from.now to.now)) }
+    /// second, one for each measure in turn, negative where the first is later; in indices where
+    /// there is no measure. `BadIndex`, `NoneTagged`, or want of memory.
+    pub fn count(&self, measures: &[Measure], from: &str, to: &str) -> Result<Vec<i64>, Fault>
+        ensures ok { IfOk result (λ distances. counted self.now measures.now from.now to.now ≡ Ok distances.items) }
+        ensures err { IfErr result (Refuses (counted self.now measures.now from.now to.now)) }
     {
-        let measures = measures_of(self.alloc, switches)?;
         let start = self.place(from)?;
         let end = self.place(to)?;
         let (store, _) = self.doc.kept();
-        distances_of(self.alloc, store, start, end, &measures)
+        distances_of(self.alloc, store, start, end, measures)
     }
 }

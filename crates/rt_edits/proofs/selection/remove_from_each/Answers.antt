@@ -15,7 +15,7 @@ loop-i-preserved c =
     let known = c.loop-i.invariant in
     let lt : i < length xs = omega (arith, c.loop-i-test.true) in
     record {
-      done = done_more stamps_in xs ys i d lt known.len known.rest (unselected (c.args.stamp ∷ [])) x known.done c.remove_one.ensures;
+      done = done_more stamps_in xs ys i d lt known.len known.rest (unselected (c.args.stamp ∷ [])) x known.done c.remove_one.ensures.stamps;
       rest = rest_more stamps_in xs ys i d lt known.len known.rest x;
       len = length-set ys i x ∙ known.len;
     }

@@ -1,8 +1,17 @@
-use Rattle.rt_peers.proofs.Steps.{insert_of_few, insert_of_some}
+use Rattle.std.proofs.Common.{◌∙◌, ap, map}
+use Rattle.std.proofs.lemmas.Result.{err_from_is_err_and}
+use Rattle.rt_peers.specs.Step.{as_piece}
+use Rattle.rt_text.specs.Commands.{inserted}
+use Rattle.rt_peers.proofs.Steps.{changed_refused, changed_to}
 use Rattle.rt_peers.proofs.site.SiteState.insert.Goals as goal
 
-pub returns-in_default : goal.returns-in_default
-returns-in_default c = insert_of_few c.args.self.now c.args.words.now c.in_default.len_below
+pub returns-in_err-insert : goal.returns-in_err-insert
+returns-in_err-insert c =
+    let p = err_from_is_err_and c.from_residual-in_err-insert.result c.from_residual-in_err-insert.ensures.1 in
+    let pieces = c.deref.ensures.value ∙ c.in_ok-pieces.ensures.ok ∙ ap (map as_piece) c.pieces.ensures in
+    rw p.1 (c.in_err-insert.ensures.unchanged ∙ c.self.view_is, changed_refused _ _ p.0 c.in_err-insert.field-0.0 (λ i. inserted (c.self.view_is i) (c.text.ensures i) (pieces i) (c.rest.ensures i)) c.in_err-insert.ensures.err p.2)
 
 pub returns : goal.returns
-returns c = insert_of_some c.args.self.now _ _ c.args.words.now c.index-item.result c.in-len2-up.len_at_least c.index-item.is (rw (← c.deref.ensures) c.insert_words.ensures)
+returns c =
+    let pieces = c.deref.ensures.value ∙ c.in_ok-pieces.ensures.ok ∙ ap (map as_piece) c.pieces.ensures in
+    rw c.no_words.ensures (changed_to _ _ _ (λ i. inserted (c.self.view_is i) (c.text.ensures i) (pieces i) (c.rest.ensures i)) c.in_ok-insert.ensures.ok)

@@ -1,0 +1,54 @@
+use Rattle.std.proofs.Common.{◌≡◌, ℕ, ◌∙◌, [], ◌+◌, ◌++◌, ◌<◌, List, Option, ap, refl, subst, sym}
+use Rattle.std.specs.Prelude.{option_map}
+use Rattle.std.specs.Str.{chars}
+use Rattle.std.proofs.lemmas.Result.{err_from_is_err_and}
+use Rattle.rt_stamps.specs.declared.limits.TheConstants.{GREATEST_COUNT, MOST_CHARACTERS}
+use Rattle.rt_store.specs.Shown.{TaggedCell, shown}
+use Rattle.rt_edits.specs.declared.inserting.Plan.{Plan}
+use Rattle.rt_edits.specs.InsertionDrafts.{behind, insertion_drafts, text_drafts}
+use Rattle.rt_edits.specs.InsertionPlans.{Plans}
+use Rattle.rt_edits.specs.Insertions.{Insertion, counts_for, last_of, tags_between, with_pieces, with_unlisted}
+use Rattle.rt_edits.proofs.PlanLaws.{spent, unlisted_count}
+use Rattle.rt_edits.proofs.RestLaws.{pieces_others}
+use Rattle.rt_edits.proofs.inserting.planned_between.Goals as goal
+
+pub returns-in_err-between-clause-err : goal.returns-in_err-between-clause-err
+returns-in_err-between-clause-err c =
+    let r = err_from_is_err_and c.from_residual-in_err-between.result c.from_residual-in_err-between.ensures.1 in
+    let t = c.args.states.now in
+    let site = c.args.site.number in
+    rw (r.1, r.2) (spent
+    (λ k sel others tags same.
+    let start : Insertion = record { cells = []; count = c.args.count; sel = sel; others = others; tags = tags } in
+    let so_far = with_pieces site c.args.pieces.now start in
+    let left = last_of (option_map (shown t) c.args.left) so_far.cells in
+    subst (λ (n : ℕ). GREATEST_COUNT < n) (sym (unlisted_count site left (option_map (shown t) c.args.right) (chars c.args.rest.now) so_far))
+    (k c.element_of.result sel tags so_far same (c.in_ok-all.ensures.so_far sel others tags)))
+    c.in_err-between.ensures.err)
+
+pub returns-clause-drafts : goal.returns-clause-drafts
+returns-clause-drafts c = λ sel others tags same.
+    let t = c.args.states.now in
+    let site = c.args.site.number in
+    let start : Insertion = record { cells = []; count = c.args.count; sel = sel; others = others; tags = tags } in
+    let so_far = with_pieces site c.args.pieces.now start in
+    let after = c.element_of.result in
+    let left = option_map (shown t) c.args.left in
+    let right = option_map (shown t) c.args.right in
+    c.in_ok-between.ensures.drafts after sel tags so_far same (c.in_ok-all.ensures.so_far sel others tags)
+    ∙ ap (λ l. l ++ text_drafts MOST_CHARACTERS site so_far.count (behind after so_far.cells) (tags_between (last_of left so_far.cells) right) (chars c.args.rest.now))
+    (c.in_ok-all.ensures.drafts sel others tags)
+    ∙ ap (λ s. insertion_drafts MOST_CHARACTERS site s left right c.args.pieces.now c.args.rest.now start) c.element_of.ensures
+
+pub returns-clause-plans : goal.returns-clause-plans
+returns-clause-plans c = λ sel others tags same.
+    let t = c.args.states.now in
+    let site = c.args.site.number in
+    let start : Insertion = record { cells = []; count = c.args.count; sel = sel; others = others; tags = tags } in
+    let so_far = with_pieces site c.args.pieces.now start in
+    let new = c.add_unlisted.new.self in
+    let plan : Plan = record { drafts = new.texts.drafts; characters = c.len-characters.result; selected = new.selected; names = new.names; between = c.in_ok-between.between } in
+    let all = with_unlisted site (last_of (option_map (shown t) c.args.left) so_far.cells) (option_map (shown t) c.args.right) (chars c.args.rest.now) so_far in
+    subst (λ o. Plans plan sel o tags all) (pieces_others site c.args.pieces.now start)
+    (c.in_ok-between.ensures.plans plan c.element_of.result sel tags so_far same (c.in_ok-all.ensures.so_far sel others tags) c.element_of.ensures
+    (record { characters = c.len-characters.ensures ∙ new.texts.stamps.ok.0; selected = refl; names = refl; others = refl }))

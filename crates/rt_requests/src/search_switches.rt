@@ -1,0 +1,129 @@
+// The switches of a search.
+ghost use Rattle.std.specs.Prelude.{◌≡◌, map, string_bytes};
+ghost use Rattle.std.specs.List.{list_all};
+ghost use Rattle.rt_requests.specs.SearchWords.{case_of, direction_of, is_known, limits_of, overlap_fits, overlaps_of, search_of, switch_check, turned, wanted_of};
+ghost use Rattle.rt_stamps.specs.Outcomes.{unless};
+
+use crate::request::Wanted;
+use crate::switches::has;
+use rt_search::{Case, Direction, Limits, Overlaps, Search};
+use rt_stamps::Fault;
+
+// Whether a search has such a switch.
+fn is_known(switch: &str) -> bool
+    ensures { result ≡ is_known switch.now }
+{
+    matches!(
+        switch,
+        "-forwards" | "-backwards" | "-exact" | "-nocase" | "-all" | "-overlap" | "-strictlimits"
+    )
+}
+
+// The way that a switch names, and else the way that it was.
+fn turned(direction: Direction, switch: &str) -> Direction
+    ensures { result ≡ turned direction switch.now }
+{
+    match switch {
+        "-forwards" => Direction::Forwards,
+        "-backwards" => Direction::Backwards,
+        _ => direction,
+    }
+}
+
+// The way that switches ask to go: of several the last one counts.
+fn direction_of(switches: &[String]) -> Direction
+    ensures { result ≡ direction_of (map (λ w. string_bytes w) switches.now) }
+{
+    switches.iter().fold(
+        Direction::Forwards,
+        |direction, switch| turned(direction, switch),
+    )
+}
+
+// Whether a search has each of some switches.
+fn all_known(switches: &[String]) -> bool
+    ensures { result ≡ list_all is_known (map (λ w. string_bytes w) switches.now) }
+{
+    are_known(switches)
+}
+
+// The same, of the strings themselves.
+fn are_known(switches: &[String]) -> bool
+    ensures { result ≡ list_all (λ w. is_known (string_bytes w)) switches.now }
+{
+    switches.iter().all(|switch| is_known(switch))
+}
+
+// Whether `-overlap` is given with `-all` alone.
+fn overlap_fits(switches: &[String]) -> bool
+    ensures { result ≡ overlap_fits (map (λ w. string_bytes w) switches.now) }
+{
+    has(switches, "-all") || !has(switches, "-overlap")
+}
+
+// Refuses switches of which one is unknown, and `-overlap` without `-all`.
+pub(crate) fn check_switches(switches: &[String]) -> Result<(), Fault>
+    ensures { result ≡ unless (switch_check (map (λ w. string_bytes w) switches.now)) tt }
+{
+    if all_known(switches) && overlap_fits(switches) {
+        Ok(())
+    } else {
+        Err(Fault::BadOption)
+    }
+}
+
+// Which characters count as the same.
+fn case_of(switches: &[String]) -> Case
+    ensures { result ≡ case_of (map (λ w. string_bytes w) switches.now) }
+{
+    if has(switches, "-nocase") {
+        Case::Ignored
+    } else {
+        Case::Exact
+    }
+}
+
+// What of a match must lie in the stretch that is searched.
+fn limits_of(switches: &[String]) -> Limits
+    ensures { result ≡ limits_of (map (λ w. string_bytes w) switches.now) }
+{
+    if has(switches, "-strictlimits") {
+        Limits::Strict
+    } else {
+        Limits::First
+    }
+}
+
+// What becomes of matches that overlap.
+fn overlaps_of(switches: &[String]) -> Overlaps
+    ensures { result ≡ overlaps_of (map (λ w. string_bytes w) switches.now) }
+{
+    if has(switches, "-overlap") {
+        Overlaps::Taken
+    } else {
+        Overlaps::PassedOver
+    }
+}
+
+// How switches ask to search.
+pub(crate) fn search_of(switches: &[String]) -> Search
+    ensures { result ≡ search_of (map (λ w. string_bytes w) switches.now) }
+{
+    Search {
+        direction: direction_of(switches),
+        case: case_of(switches),
+        limits: limits_of(switches),
+    }
+}
+
+// Which matches switches ask for.
+pub(crate) fn wanted_of(switches: &[String]) -> Wanted
+    ensures { result ≡ wanted_of (map (λ w. string_bytes w) switches.now) }
+{
+    let overlaps = overlaps_of(switches);
+    if has(switches, "-all") {
+        Wanted::Each(overlaps)
+    } else {
+        Wanted::One
+    }
+}

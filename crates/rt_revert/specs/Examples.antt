@@ -1,0 +1,63 @@
+-- Documents and groups for the worked examples.
+use Rattle.std.specs.Prelude.{ℕ, true, false, List, [], ◌∷◌}
+use Rattle.rt_stamps.specs.declared.stamp.TheConstants.{FINAL, ROOT}
+use Rattle.rt_stamps.specs.declared.stamp.Stamp.{Stamp}
+use Rattle.rt_stamps.specs.Words.{Word}
+use Rattle.rt_store.specs.Shown.{TaggedCell}
+use Rattle.rt_tags.specs.Writers.{listed_by, state_after}
+use Rattle.rt_rga.specs.Examples.{at, only_t}
+use Rattle.rt_edits.specs.Flat.{Flat, new_flat}
+use Rattle.rt_undo.specs.declared.action.Kind.TheVariants.{Insert, Delete}
+use Rattle.rt_undo.specs.Actions.{Action}
+
+-- a character, and one that is gone; the last newline
+abbrev pub shown : Stamp → ℕ → List Word → TaggedCell
+shown stamp ch tags = record { stamp = stamp; ch = ch; gone = false; state = state_after [] (listed_by ROOT tags) }
+
+abbrev pub gone : Stamp → ℕ → List Word → TaggedCell
+gone stamp ch tags = record (shown stamp ch tags) { gone = true }
+
+-- Site 1 typed `abc`, site 2 put `X` behind the `a`, and site 1 removed the `b`.
+abbrev pub beside_x : Flat
+beside_x = record (new_flat 1 99) {
+  cells = shown (at 1 1) 97 [] ∷ shown (at 4 2) 88 [] ∷ gone (at 2 1) 98 [] ∷ shown (at 3 1) 99 [] ∷ shown FINAL 10 [] ∷ [];
+  count = 4;
+}
+
+-- the removal of the `b`, and the insertion of `abc`; this one by the stamps that its characters have when the `b` came back
+abbrev pub b_removed : Action (List Word)
+b_removed = record { number = 4; kind = Delete; inserted = []; removed = record { stamp = at 2 1; tags = [] } ∷ [] }
+
+abbrev pub abc_inserted : Action (List Word)
+abc_inserted = record { number = 1; kind = Insert; inserted = at 1 1 ∷ at 5 1 ∷ at 3 1 ∷ []; removed = [] }
+
+-- `ab` typed, and the `b` removed, in one group
+abbrev pub b_gone : Flat
+b_gone = record (new_flat 1 99) { cells = shown (at 1 1) 97 [] ∷ gone (at 2 1) 98 [] ∷ shown FINAL 10 [] ∷ []; count = 3 }
+
+abbrev pub both_actions : List (Action (List Word))
+both_actions = record { number = 1; kind = Insert; inserted = at 1 1 ∷ at 2 1 ∷ []; removed = [] } ∷ record b_removed { number = 3 } ∷ []
+
+-- an `a` with the tag t, which was removed, and its removal
+abbrev pub tagged_gone : Flat
+tagged_gone = record (new_flat 1 99) { cells = gone (at 1 1) 97 only_t ∷ shown FINAL 10 [] ∷ []; count = 2 }
+
+abbrev pub tagged_removed : Action (List Word)
+tagged_removed = record { number = 2; kind = Delete; inserted = []; removed = record { stamp = at 1 1; tags = only_t } ∷ [] }
+
+-- Site 1 typed `abc`, and site 2 removed the `b`; then site 2 undid that.
+abbrev pub without_b : Flat
+without_b = record (new_flat 1 99) {
+  cells = shown (at 1 1) 97 [] ∷ gone (at 2 1) 98 [] ∷ shown (at 3 1) 99 [] ∷ shown FINAL 10 [] ∷ [];
+  count = 4;
+}
+
+abbrev pub with_b_again : Flat
+with_b_again = record (new_flat 1 99) {
+  cells = shown (at 1 1) 97 [] ∷ gone (at 2 1) 98 [] ∷ shown (at 5 2) 98 [] ∷ shown (at 3 1) 99 [] ∷ shown FINAL 10 [] ∷ [];
+  count = 5;
+}
+
+-- the insertion of `abc`, as a group
+abbrev pub abc_typed : List (Action (List Word))
+abc_typed = record { number = 1; kind = Insert; inserted = at 1 1 ∷ at 2 1 ∷ at 3 1 ∷ []; removed = [] } ∷ []

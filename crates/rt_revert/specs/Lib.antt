@@ -1,0 +1,4 @@
+pub mod Examples
+pub mod ReversionLaws
+pub mod Reverting
+pub mod TextLaws

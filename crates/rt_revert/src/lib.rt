@@ -1,0 +1,6 @@
+//! Undo and redo of a document: groups of actions are reverted by the stamps of their characters (Tk
+//! text manual, "The undo mechanism"). The definitions stand in `specs/Reverting.antt`.
+#![tactic(auto)]
+
+pub mod examples;
+pub mod laws;

@@ -1,0 +1,86 @@
+use Rattle.std.proofs.Common.{◌+◌, ◌-◌, ◌≤◌, ℕ, List, take, drop, length, arith, ap, ◌∙◌, sym, subst}
+use Rattle.std.proofs.lemmas.List.{length-drop, take_all}
+use Rattle.rt_store.specs.declared.cell.Cell.{Cell}
+use Rattle.rt_store.specs.Cells.{put_at}
+use Rattle.rt_tree.specs.Additions.{EndsWith, stretches}
+use Rattle.rt_tree.specs.Shape.{tree_runs}
+use Rattle.rt_tree.specs.Stretches.{AreChanged}
+use Rattle.rt_tree.proofs.Following.{stretches_drop, stretches_few}
+use Rattle.rt_tree.proofs.Splicing.{cut_count, ends_later, put_count, put_twice, rest_is}
+use Rattle.rt_tree.proofs.splice.put_cells.Goals as goal
+
+pub cut-first-requires-clause-few : goal.cut-first-requires-clause-few
+cut-first-requires-clause-few c =
+    let r = c.requires in let e = c.extend-done.ensures in let old = tree_runs c.args.mem.now c.args.root.index in
+    let n = put_count c.args.text.now old (tree_runs c.extend-done.new.mem c.args.root.index) c.args.at c.extend-done.result c.args.cells.now r.kept e.cells e.within r.within in
+    let w = e.within in let f = r.few in
+    omega (arith, n, w, f)
+
+pub cut-first-requires-clause-within : goal.cut-first-requires-clause-within
+cut-first-requires-clause-within c =
+    let r = c.requires in let e = c.extend-done.ensures in let old = tree_runs c.args.mem.now c.args.root.index in
+    let n = put_count c.args.text.now old (tree_runs c.extend-done.new.mem c.args.root.index) c.args.at c.extend-done.result c.args.cells.now r.kept e.cells e.within r.within in
+    let w = r.within in
+    omega (arith, n, w)
+
+pub put_runs-then-requires-clause-kept : goal.put_runs-then-requires-clause-kept
+put_runs-then-requires-clause-kept c = c.cut-first.ensures.recut.kept c.args.text.now c.extend-done.ensures.cells.kept
+
+pub put_runs-then-requires-clause-last : goal.put_runs-then-requires-clause-last
+put_runs-then-requires-clause-last c =
+    let cells = c.args.cells.now in let k = c.extend-done.result in let w = c.extend-done.ensures.within in
+    subst (λ (x : List (Cell ℕ)). EndsWith c.args.text.now x) (sym (rest_is k cells w)) (ends_later c.args.text.now cells k w c.requires.last)
+
+pub put_runs-then-requires-clause-few : goal.put_runs-then-requires-clause-few
+put_runs-then-requires-clause-few c =
+    let r = c.requires in let e = c.extend-done.ensures in let old = tree_runs c.args.mem.now c.args.root.index in
+    let k = c.extend-done.result in let cells = c.args.cells.now in
+    let n = cut_count c.args.text.now old (tree_runs c.extend-done.new.mem c.args.root.index) c.args.at k cells r.kept e.cells e.within r.within (tree_runs c.cut-first.new.mem c.cut-first.result.root.index) c.cut-first.ensures.recut in
+    let l = ap length (rest_is k cells e.within) ∙ length-drop k cells in
+    let w = e.within in let f = r.few in
+    omega (arith, n, l, w, f)
+
+pub put_runs-then-requires-clause-within : goal.put_runs-then-requires-clause-within
+put_runs-then-requires-clause-within c =
+    let r = c.requires in let e = c.extend-done.ensures in let old = tree_runs c.args.mem.now c.args.root.index in
+    let n = cut_count c.args.text.now old (tree_runs c.extend-done.new.mem c.args.root.index) c.args.at c.extend-done.result c.args.cells.now r.kept e.cells e.within r.within (tree_runs c.cut-first.new.mem c.cut-first.result.root.index) c.cut-first.ensures.recut in
+    let w = r.within in
+    omega (arith, n, w)
+
+pub put_runs-then-requires-clause-room : goal.put_runs-then-requires-clause-room
+put_runs-then-requires-clause-room c =
+    let r = c.requires in let e = c.extend-done.ensures in let k = c.cut-first.ensures in
+    let l = ap length (rest_is c.extend-done.result c.args.cells.now e.within) ∙ length-drop c.extend-done.result c.args.cells.now in
+    let a = e.runs in let b = k.runs in let m = k.more in let x = e.room in let y = k.room in let z = r.room in
+    omega (arith, a, b, m, l, x, y, z)
+
+-- so many runs are put in
+few : (cells : List (Cell ℕ)) (k more : ℕ) → k ≤ length cells → more ≤ stretches (take (length cells - k) (drop k cells)) → more ≤ stretches cells
+few cells k more w le = let e = ap stretches (rest_is k cells w) in let s = stretches_drop k cells in omega (arith, le, e, s)
+
+pub overflow_add-result : goal.overflow_add-result
+overflow_add-result c =
+    let m = few c.args.cells.now c.extend-done.result c.put_runs-then.result.more c.extend-done.ensures.within c.put_runs-then.ensures.more in
+    let n = stretches_few c.args.cells.now in
+    let k = c.cut-first.ensures.more in let f = c.requires.few in
+    omega (arith, m, n, k, f)
+
+pub returns-clause-cells : goal.returns-clause-cells
+returns-clause-cells c =
+    let r = c.requires in let e = c.extend-done.ensures in let old = tree_runs c.args.mem.now c.args.root.index in
+    let k = c.extend-done.result in let cells = c.args.cells.now in
+    let mid = tree_runs c.cut-first.new.mem c.cut-first.result.root.index in let new = tree_runs c.put_runs-then.new.mem c.put_runs-then.result.root.index in
+    put_twice c.args.text.now old (tree_runs c.extend-done.new.mem c.args.root.index) c.args.at k cells r.kept e.cells e.within r.within mid c.cut-first.ensures.recut new
+    (subst (λ (x : List (Cell ℕ)). AreChanged mid new c.args.text.now (put_at (c.args.at + k) x)) (rest_is k cells e.within) c.put_runs-then.ensures.cells)
+
+pub returns-clause-more : goal.returns-clause-more
+returns-clause-more c =
+    let m = few c.args.cells.now c.extend-done.result c.put_runs-then.result.more c.extend-done.ensures.within c.put_runs-then.ensures.more in
+    let k = c.cut-first.ensures.more in
+    omega (arith, m, k)
+
+pub returns-then-done-cells-clause-cells : goal.returns-then-done-cells-clause-cells
+returns-then-done-cells-clause-cells c =
+    let e = c.extend-done.ensures in let old = tree_runs c.args.mem.now c.args.root.index in let new = tree_runs c.extend-done.new.mem c.args.root.index in
+    let all = take_all c.extend-done.result c.args.cells.now (let d = c.if-done-cells.true in omega (arith, d)) in
+    subst (λ (x : List (Cell ℕ)). AreChanged old new c.args.text.now (put_at c.args.at x)) all e.cells

@@ -1,0 +1,68 @@
+use Rattle.std.proofs.Common.{ℕ, List, arith, ap, ◌∙◌, subst}
+use Rattle.rt_store.specs.Cells.{put_at}
+use Rattle.rt_tree.specs.Shape.{tree_runs}
+use Rattle.rt_tree.specs.Stretches.{AreChanged}
+use Rattle.rt_tree.specs.Trees.{Shown}
+use Rattle.rt_tree.proofs.Cutting.{runs_few}
+use Rattle.rt_tree.proofs.Following.{stretches_few}
+use Rattle.rt_tree.proofs.Kept.{shows}
+use Rattle.rt_tree.proofs.Splicing.{longer_count, longer_ends, longer_kept, longer_shown, longer_text}
+use Rattle.rt_tree.proofs.tree.Tree.splice.Goals as goal
+
+pub put_cells-change-requires-clause-kept : goal.put_cells-change-requires-clause-kept
+put_cells-change-requires-clause-kept c =
+    let s = c.self.inside in let k = c.self.invariant.0 in
+    longer_kept s.text.items c.deref.result.now (tree_runs s.mem s.root.index) c.args.cells.now k.kept (c.deref.ensures.value ∙ c.push_characters.ensures.items)
+
+pub put_cells-change-requires-clause-last : goal.put_cells-change-requires-clause-last
+put_cells-change-requires-clause-last c =
+    let s = c.self.inside in let k = c.self.invariant.0 in
+    longer_ends s.text.items c.deref.result.now (tree_runs s.mem s.root.index) c.args.cells.now k.kept (c.deref.ensures.value ∙ c.push_characters.ensures.items)
+
+pub put_cells-change-requires-clause-within : goal.put_cells-change-requires-clause-within
+put_cells-change-requires-clause-within c =
+    let s = c.self.inside in
+    let h = shows s.mem s.root.index s.text.items s.runs c.self.invariant.0 c.args.self.now c.self.view_is in
+    let w = c.requires.within in let n = h.cells in
+    omega (arith, n, w)
+
+pub overflow_add-self : goal.overflow_add-self
+overflow_add-self c =
+    let s = c.self.inside in let k = c.self.invariant.0 in let r = c.self.invariant.1 in
+    let n = runs_few s.text.items (tree_runs s.mem s.root.index) k.kept in
+    let f = stretches_few c.args.cells.now in
+    let m = c.put_cells-change.ensures.more in
+    let cells = ap (λ (v : Shown). v.room.cells) c.self.view_is in
+    let a = k.counted in let b = k.few in let d = r.few in let e = c.requires.room.0 in
+    omega (arith, n, f, m, cells, a, b, d, e)
+
+pub invariant_of-self : goal.invariant_of-self
+invariant_of-self c =
+    let s = c.self.inside in let k = c.self.invariant.0 in let r = c.self.invariant.1 in
+    let e = c.put_cells-change.ensures in
+    let old = tree_runs s.mem s.root.index in let new = tree_runs c.put_cells-change.new.mem c.put_cells-change.result.root.index in
+    let added = c.args.cells.now in let text = c.push_characters.new.text.items in
+    let more = c.push_characters.ensures.items in
+    let is = subst (λ (t : List ℕ). AreChanged old new t (put_at c.args.at added)) c.deref.ensures.value e.cells in
+    let h = shows s.mem s.root.index s.text.items s.runs k c.args.self.now c.self.view_is in
+    let w = c.requires.within in let hc = h.cells in
+    let n = longer_count s.text.items text old added k.kept more new c.args.at is (omega (arith, hc, w)) in
+    let l = longer_text s.text.items text old added k.kept more in
+    let f = stretches_few added in
+    let cells = ap (λ (v : Shown). v.room.cells) c.self.view_is in
+    let cuts = ap (λ (v : Shown). v.room.cuts) c.self.view_is in
+    let ra = c.requires.room.0 in let rb = c.requires.room.1 in
+    let ka = k.all in let kc = k.counted in let rn = r.nodes in let rh = r.holds in let rf = r.few in
+    let er = e.runs in let em = e.more in let eo = e.room in let cap = c.push_characters.ensures.capacity in (
+      record { tree = e.tree; kept = is.kept; counted = omega (arith, kc, er); few = omega (arith, n, rf, ka, cells, ra); all = omega (arith, n, l, ka) },
+      record { nodes = omega (arith, rn, er, em, eo, f, cells, cuts, ra, rb); holds = omega (arith, rh, l, cap, cells, ra); few = omega (arith, rf, l, cells, ra) },
+    )
+
+pub returns-clause-cells : goal.returns-clause-cells
+returns-clause-cells c =
+    let s = c.self.inside in let k = c.self.invariant.0 in
+    let e = c.put_cells-change.ensures in
+    let old = tree_runs s.mem s.root.index in let new = tree_runs c.put_cells-change.new.mem c.put_cells-change.result.root.index in
+    let is = subst (λ (t : List ℕ). AreChanged old new t (put_at c.args.at c.args.cells.now)) c.deref.ensures.value e.cells in
+    longer_shown s.text.items c.push_characters.new.text.items old c.args.cells.now k.kept c.push_characters.ensures.items new c.args.at is
+    ∙ ap (λ (v : Shown). put_at c.args.at c.args.cells.now v.cells) c.self.view_is

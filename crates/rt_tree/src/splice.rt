@@ -1,0 +1,214 @@
+// New cells put in.
+ghost use Rattle.std.specs.Prelude.{◌≡◌, ◌+◌, ◌<◌, ◌≤◌, ◌^◌, ◌++◌, drop, length, map, take, vec_capacity, vec_len};
+ghost use Rattle.std.specs.List.{AllByRecursion};
+ghost use Rattle.rt_stamps.specs.declared.limits.TheConstants.{MOST_CELLS};
+ghost use Rattle.rt_store.specs.Cells.{put_at};
+ghost use Rattle.rt_tree.specs.Additions.{are_joint, EndsWith, IsRunOf, IsStretch, follows, joined, run_from, stretches};
+ghost use Rattle.rt_tree.specs.Runs.{IsRun};
+ghost use Rattle.rt_tree.specs.Shape.{IsTree, tree_runs};
+ghost use Rattle.rt_tree.specs.Stretches.{AreChanged, IsEdge, lengths};
+ghost use Rattle.rt_tree.specs.Sums.{counts_of};
+ghost use Rattle.rt_tree.specs.Trees.{HasNodes};
+
+use crate::cut::{Change, cut};
+use crate::find::seek;
+use crate::node::{Measure, Mem, Run};
+use crate::put::{put, replace};
+use rt_nodes::NodeId;
+use rt_store::Cell;
+use rt_tags::StateId;
+
+// Whether a cell goes on where another ends.
+fn follows(before: Cell<StateId>, cell: Cell<StateId>) -> bool
+    ensures { result ≡ follows before cell }
+{
+    cell.state == before.state
+        && cell.gone == before.gone
+        && cell.stamp.site == before.stamp.site
+        && cell.stamp.count > before.stamp.count
+        && cell.stamp.count - before.stamp.count == 1
+        && before.ch != '\n'
+}
+
+// How many cells at the front are one stretch.
+fn stretch(cells: &[Cell<StateId>]) -> usize
+    requires { 0 < length cells.now }
+    ensures { IsStretch cells.now result }
+{
+    for i in 1..cells.len() {
+        if !follows(cells[i - 1], cells[i]) {
+            return i;
+        }
+    }
+    cells.len()
+}
+
+// A run from a first cell on.
+fn run_from(first: Cell<StateId>, at: u32, len: u32, newline: bool) -> Run
+    ensures { result ≡ run_from first at len newline }
+{
+    Run {
+        first: first.stamp.count,
+        state: first.state,
+        at,
+        len,
+        site: first.stamp.site,
+        gone: first.gone,
+        newline,
+    }
+}
+
+// The run of the first cells, whose characters are the last of the text.
+fn run_of(text: &[char], cells: &[Cell<StateId>]) -> Run
+    requires some { 0 < length cells.now }
+    requires last { EndsWith text.now cells.now }
+    requires short { length text.now ≤ MOST_CELLS }
+    ensures { IsRunOf text.now cells.now result }
+{
+    let len = stretch(cells);
+    let last = cells[len - 1];
+    let at = (text.len() - cells.len()) as u32;
+    run_from(cells[0], at, len as u32, last.ch == '\n')
+}
+
+// The run of the cells from one on.
+fn next_run(text: &[char], cells: &[Cell<StateId>], done: usize) -> Run
+    requires some { done < length cells.now }
+    requires last { EndsWith text.now cells.now }
+    requires short { length text.now ≤ MOST_CELLS }
+    ensures { IsRunOf text.now (drop done cells.now) result }
+{
+    run_of(text, &cells[done..])
+}
+
+// Puts cells in before a position at which a run begins.
+fn put_runs(
+    mem: &mut Mem,
+    root: NodeId,
+    text: &[char],
+    at: usize,
+    cells: &[Cell<StateId>],
+) -> Change
+    requires tree { IsTree mem.old root.index }
+    requires kept { AllByRecursion (IsRun text.now) (tree_runs mem.old root.index) }
+    requires last { EndsWith text.now cells.now }
+    requires short { length text.now ≤ MOST_CELLS }
+    requires few { (counts_of (tree_runs mem.old root.index)).cells + length cells.now ≤ MOST_CELLS }
+    requires within { at < (counts_of (tree_runs mem.old root.index)).cells }
+    requires edge { IsEdge (lengths (tree_runs mem.old root.index)) at }
+    requires room { HasNodes mem.old (length (tree_runs mem.old root.index) + length cells.now) }
+    ensures tree { IsTree mem.new result.root.index }
+    ensures cells { AreChanged (tree_runs mem.old root.index) (tree_runs mem.new result.root.index) text.now (put_at at cells.now) }
+    ensures runs { length (tree_runs mem.new result.root.index) ≡ length (tree_runs mem.old root.index) + result.more }
+    ensures more { result.more ≤ stretches cells.now }
+    ensures room { length mem.new.heads + mem.new.room ≡ length mem.old.heads + mem.old.room }
+{
+    let mut root = root;
+    let mut done = 0;
+    let mut more = 0;
+    while done < cells.len() {
+        let run = next_run(text, cells, done);
+        let next = done + run.len as usize;
+        root = put(mem, root, at + done, run);
+        done = next;
+        more += 1;
+    }
+    Change { root, more }
+}
+
+// Whether a run goes on where another ends, in the text too.
+fn are_joint(before: &Run, run: &Run) -> bool
+    ensures { result ≡ are_joint before.now run.now }
+{
+    run.state == before.state
+        && run.gone == before.gone
+        && run.site == before.site
+        && run.first >= before.first
+        && run.first - before.first == before.len as u64
+        && run.at >= before.at
+        && run.at - before.at == before.len
+        && !before.newline
+}
+
+// Both as one run.
+fn joined(before: Run, run: Run) -> Run
+    requires { before.len + run.len < 2 ^ 32 }
+    ensures { result ≡ joined before run }
+{
+    Run {
+        len: before.len + run.len,
+        newline: run.newline,
+        ..before
+    }
+}
+
+// Lets the run that ends at a position go on with the first of new cells, if these follow it, and tells how many they are.
+fn extend(mem: &mut Mem, root: NodeId, text: &[char], at: usize, cells: &[Cell<StateId>]) -> usize
+    requires tree { IsTree mem.old root.index }
+    requires kept { AllByRecursion (IsRun text.now) (tree_runs mem.old root.index) }
+    requires last { EndsWith text.now cells.now }
+    requires short { length text.now ≤ MOST_CELLS }
+    requires few { (counts_of (tree_runs mem.old root.index)).cells + length cells.now ≤ MOST_CELLS }
+    requires within { at < (counts_of (tree_runs mem.old root.index)).cells }
+    ensures tree { IsTree mem.new root.index }
+    ensures within { result ≤ length cells.now }
+    ensures cells { AreChanged (tree_runs mem.old root.index) (tree_runs mem.new root.index) text.now (put_at at (take result cells.now)) }
+    ensures runs { length (tree_runs mem.new root.index) ≡ length (tree_runs mem.old root.index) }
+    ensures room { length mem.new.heads + mem.new.room ≡ length mem.old.heads + mem.old.room }
+{
+    if at == 0 || cells.is_empty() {
+        return 0;
+    }
+    let found = seek(mem, root, Measure::Cells, at - 1);
+    let run = run_of(text, cells);
+    if found.spot.offset + 1 < found.run.len as usize || !are_joint(&found.run, &run) {
+        return 0;
+    }
+    replace(mem, root, at - 1, joined(found.run, run));
+    run.len as usize
+}
+
+// Puts cells in at a position; their characters are the last of the text.
+pub(crate) fn put_cells(
+    mem: &mut Mem,
+    root: NodeId,
+    text: &[char],
+    at: usize,
+    cells: &[Cell<StateId>],
+) -> Change
+    requires tree { IsTree mem.old root.index }
+    requires kept { AllByRecursion (IsRun text.now) (tree_runs mem.old root.index) }
+    requires last { EndsWith text.now cells.now }
+    requires short { length text.now ≤ MOST_CELLS }
+    requires few { (counts_of (tree_runs mem.old root.index)).cells + length cells.now ≤ MOST_CELLS }
+    requires within { at < (counts_of (tree_runs mem.old root.index)).cells }
+    requires room { HasNodes mem.old (length (tree_runs mem.old root.index) + length cells.now + 1) }
+    ensures tree { IsTree mem.new result.root.index }
+    ensures cells { AreChanged (tree_runs mem.old root.index) (tree_runs mem.new result.root.index) text.now (put_at at cells.now) }
+    ensures runs { length (tree_runs mem.new result.root.index) ≡ length (tree_runs mem.old root.index) + result.more }
+    ensures more { result.more ≤ stretches cells.now + 1 }
+    ensures room { length mem.new.heads + mem.new.room ≡ length mem.old.heads + mem.old.room }
+{
+    let done = extend(mem, root, text, at, cells);
+    if done == cells.len() {
+        return Change { root, more: 0 };
+    }
+    let first = cut(mem, root, at + done);
+    let rest = &cells[done..];
+    let then = put_runs(mem, first.root, text, at + done, rest);
+    Change {
+        root: then.root,
+        more: first.more + then.more,
+    }
+}
+
+// Puts the characters of cells behind a text that has room for them.
+pub(crate) fn push_characters(text: &mut Vec<char>, cells: &[Cell<StateId>])
+    requires room { vec_len text.old + length cells.now ≤ vec_capacity text.old }
+    ensures items { text.new.items ≡ text.old.items ++ map (λ cell. cell.ch) cells.now }
+    ensures capacity { vec_capacity text.old ≤ vec_capacity text.new }
+{
+    for cell in cells {
+        text.push(cell.ch).unwrap();
+    }
+}
