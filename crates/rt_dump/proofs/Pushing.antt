@@ -1,34 +1,29 @@
--- Elements of a stretch, one behind the other.
-use Rattle.std.proofs.Common.{◌≡◌, ℕ, ◌+◌, ◌<◌, List, [], ◌∷◌, ◌++◌, map, length, take, get_or, filter, flat_map, refl, sym, ap, ◌∙◌, Bool, true, false, cond, append_assoc}
-use Rattle.std.proofs.lemmas.List.{append-nil, map-append, take_more}
-use Rattle.std.proofs.lemmas.List.Elements.{filter-append}
-use Rattle.std.proofs.lemmas.Grind.{flat_map-append}
+-- Elements of a stretch, one behind the other, and as they are answered.
+use Rattle.std.proofs.Common.{◌≡◌, ℕ, List, [], ◌∷◌, ◌++◌, map, filter, flat_map, refl, sym, ap, ◌∙◌, Bool, cond}
 use Rattle.rt_dump.specs.declared.stretch.Stretch.{Stretch}
-use Rattle.rt_dump.specs.Elements.{Placed, if_asked}
-use Rattle.rt_dump.specs.Stretches.{within}
+use Rattle.rt_dump.specs.Elements.{Element, Placed, answered}
+use Rattle.rt_dump.specs.Stretches.{is_in, within}
+use Rattle.rt_dump.proofs.Bools.{split}
+use Rattle.rt_stamps.specs.declared.position.Position.{Position}
+use Rattle.rt_stamps.specs.Places.{position_at}
 
--- one element more
-pub within_push : (s : Stretch) {X : Type 0} (f : X → Placed) (old new : List Placed) (xs : List X) (i : ℕ) (x : X) (start : List Placed) → i < length xs → x ≡ get_or xs i x
-    → old ≡ start ++ within s (map f (take i xs)) → new ≡ old ++ within s (f x ∷ []) → new ≡ start ++ within s (map f (take (i + 1) xs))
-within_push s f old new xs i x start l e h k =
-    k ∙ ap (λ v. v ++ within s (f x ∷ [])) h ∙ append_assoc start (within s (map f (take i xs))) (within s (f x ∷ []))
-    ∙ ap (λ v. start ++ v) (sym (filter-append _ (map f (take i xs)) (f x ∷ [])) ∙ ap (within s) (sym (map-append f (take i xs) (x ∷ [])) ∙ ap (map f) (sym (take_more xs i x l ∙ ap (λ y. take i xs ++ y ∷ []) (sym e)))))
+-- one list for each of some elements
+pub flat_over : {X Y : Type 0} (f : Y → List Placed) (g : X → Y) (xs : List X) → flat_map f (map g xs) ≡ flat_map (λ x. f (g x)) xs
+flat_over f g [] = refl
+flat_over f g (x ∷ xs) = ap (λ v. f (g x) ++ v) (flat_over f g xs)
 
--- one list more
-pub within_flat : (s : Stretch) {X : Type 0} (f : X → List Placed) (old new : List Placed) (xs : List X) (i : ℕ) (x : X) → i < length xs → x ≡ get_or xs i x
-    → old ≡ within s (flat_map f (take i xs)) → new ≡ old ++ within s (f x) → new ≡ within s (flat_map f (take (i + 1) xs))
-within_flat s f old new xs i x l e h k =
-    k ∙ ap (λ v. v ++ within s (f x)) h ∙ sym (filter-append _ (flat_map f (take i xs)) (f x))
-    ∙ ap (within s) (ap (λ v. flat_map f (take i xs) ++ v) (sym (append-nil (f x))) ∙ sym (flat_map-append f (take i xs) (x ∷ [])) ∙ ap (flat_map f) (sym (take_more xs i x l ∙ ap (λ y. take i xs ++ y ∷ []) (sym e))))
+abbrev makes : (s : Stretch) {X : Type 0} (f : X → Placed) → X → Bool
+makes s f x = is_in s (f x).place
 
--- the elements of a stretch, of three lists where they are asked for
-pub within_asked : (s : Stretch) (tags marks : Bool) (ends starts standing : List Placed)
-    → cond tags (within s ends ++ within s starts) [] ++ cond marks (within s standing) [] ≡ within s (if_asked tags ends ++ if_asked tags starts ++ if_asked marks standing)
-within_asked s true true ends starts standing =
-    append_assoc (within s ends) (within s starts) (within s standing)
-    ∙ ap (λ v. within s ends ++ v) (sym (filter-append _ starts standing)) ∙ sym (filter-append _ ends (starts ++ standing))
-within_asked s true false ends starts standing =
-    append_assoc (within s ends) (within s starts) []
-    ∙ ap (λ v. within s ends ++ v) (sym (filter-append _ starts [])) ∙ sym (filter-append _ ends (starts ++ []))
-within_asked s false true ends starts standing = refl
-within_asked s false false ends starts standing = refl
+-- the elements of a stretch, made of what stands in it
+pub within_made : (s : Stretch) {X : Type 0} (f : X → Placed) (xs : List X) → map f (filter (λ x. is_in s (f x).place) xs) ≡ within s (map f xs)
+within_made s f [] = refl
+within_made s f (x ∷ xs) =
+    let more = within_made s f xs in
+    split (is_in s (f x).place)
+    (λ t. ap (λ b. map f (cond b (x ∷ filter (makes s f) xs) (filter (makes s f) xs))) t ∙ ap (λ v. f x ∷ v) more ∙ sym (ap (λ b. cond b (f x ∷ within s (map f xs)) (within s (map f xs))) t))
+    (λ t. ap (λ b. map f (cond b (x ∷ filter (makes s f) xs) (filter (makes s f) xs))) t ∙ more ∙ sym (ap (λ b. cond b (f x ∷ within s (map f xs)) (within s (map f xs))) t))
+
+-- an element at its place
+pub at_its_place : (text : List ℕ) (e : Placed) (p : Position) (made : Element) → made ≡ record { key = e.key; value = e.value; position = p } → p ≡ position_at text e.place → made ≡ answered text e
+at_its_place text e p made h k = h ∙ (λ i. record { key = e.key; value = e.value; position = k i })

@@ -1,10 +1,9 @@
 // What a dump answers.
-ghost use Rattle.std.specs.Prelude.{◌≡◌, ◌+◌, ◌-◌, ◌==◌, ◌≤◌, if◌then◌else◌, ◌⊎◌, All, IfErr, IfOk, None, Ok, OnOk, Some, map, min, option_copied, option_to_list};
+ghost use Rattle.std.specs.Prelude.{◌≡◌, ◌+◌, ◌==◌, ◌≤◌, if◌then◌else◌, ◌⊎◌, All, IfErr, IfOk, None, Ok, OnOk, Some, map, option_copied, option_to_list};
 ghost use Rattle.rt_dump.specs.Dumping.{dumped, elements_between, others_asked, stop_of};
 ghost use Rattle.rt_dump.specs.Elements.{answered};
 ghost use Rattle.rt_dump.specs.Stretches.{within};
 ghost use Rattle.rt_stamps.specs.Outcomes.{Refuses, first_of};
-ghost use Rattle.rt_stamps.specs.Places.{position_at};
 ghost use Rattle.rt_text.specs.Index.{index_check};
 ghost use Rattle.rt_text.specs.Widgets.{length_shown, text_shown, widget_of};
 
@@ -16,8 +15,7 @@ use crate::sorting::sort;
 use crate::stretch::Stretch;
 use crate::texts::texts_in;
 use rt_requests::Kinds;
-use rt_search::positions;
-use rt_stamps::{Fault, Position};
+use rt_stamps::Fault;
 use rt_store::TextStore;
 use rt_text::View;
 use std::alloc::Global;
@@ -68,39 +66,6 @@ fn others_in<S: TextStore>(
     Ok(others)
 }
 
-/// The lines and the characters of the places of elements, and for the text's end those of the last character. One pass
-/// through the characters, where the places rise. `NoMemory` is its only fault.
-fn positions_of<S: TextStore>(
-    alloc: Global,
-    view: &View<S>,
-    all: &[Placed],
-) -> Result<Vec<Position>, Fault>
-    ensures ok { IfOk result (λ found. found.items
-        ≡ map (position_at (text_shown view.now)) (map (λ e. min e.place (length_shown view.now - 1)) all.now)) }
-    ensures err { IfErr result (λ fault. fault ≡ Fault.NoMemory) }
-{
-    let _ = view.widget();
-    let last = view.visible() - 1;
-    let mut places = Vec::new(alloc);
-    for element in all {
-        places.push(element.place().min(last))?;
-    }
-    positions(alloc, view.store(), &places)
-}
-
-/// The line and the character of a place, where that of each place but the text's end was found.
-fn position_of<S: TextStore>(view: &View<S>, place: usize, found: Position) -> Position
-    requires within { place ≤ length_shown view.now }
-    requires found { found ≡ position_at (text_shown view.now) (min place (length_shown view.now - 1)) }
-    ensures { result ≡ position_at (text_shown view.now) place }
-{
-    if place == view.visible() {
-        view.position(place)
-    } else {
-        found
-    }
-}
-
 /// Elements at the lines and characters of their places. `NoMemory` is its only fault.
 fn elements_at<S: TextStore>(
     alloc: Global,
@@ -111,13 +76,10 @@ fn elements_at<S: TextStore>(
     ensures ok { IfOk result (λ elements. elements.items ≡ map (answered (text_shown view.now)) all.items) }
     ensures err { IfErr result (λ fault. fault ≡ Fault.NoMemory) }
 {
-    let found = positions_of(alloc, view, &all)?;
     let mut elements = Vec::new(alloc);
-    let mut index = 0;
     for element in all {
-        let position = position_of(view, element.place(), found[index]);
+        let position = view.position(element.place());
         elements.push(element.at(position))?;
-        index += 1;
     }
     Ok(elements)
 }
@@ -152,9 +114,9 @@ fn gathered<S: TextStore>(
 /// A text value ends before the next of the other elements, just after a newline, or where the dump stops. `BadIndex`,
 /// `NoneTagged`, or want of memory.
 ///
-/// It goes once through the ranges of each listed tag, and reads the characters of the stretch twice, in pieces; it
-/// sorts what stands there. At worst, where each of n characters has a mark or a range of its own, that is the sort of
-/// a few times n elements.
+/// It goes once through the ranges of each listed tag, reads the characters of the stretch once, in one piece, and asks
+/// the store for the line of each element; it sorts what stands there. At worst, where each of n characters has a mark
+/// or a range of its own, that is the sort of a few times n elements.
 pub fn dump<S: TextStore>(
     alloc: Global,
     view: &View<S>,

@@ -1,4 +1,3 @@
-use Rattle.std.proofs.Common.{◌≡◌, ◌<◌, ◌≤◌, arith}
 use Rattle.rt_dump.proofs.Values.{text_ends}
 use Rattle.rt_dump.proofs.texts.text_end.Goals as goal
 

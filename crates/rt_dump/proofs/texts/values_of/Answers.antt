@@ -1,4 +1,4 @@
-use Rattle.std.proofs.Common.{◌≡◌, ◌<◌, ◌≤◌, ◌-◌, ◌++◌, ◌∷◌, [], ◌∙◌, ap, sym, arith, length, append_assoc, append-nil}
+use Rattle.std.proofs.Common.{◌<◌, ◌++◌, ◌∷◌, [], ◌∙◌, ap, sym, arith, append_assoc, append-nil}
 use Rattle.std.specs.Prelude.{encode_utf8_all}
 use Rattle.rt_dump.specs.declared.element.Key.TheVariants.{Text}
 use Rattle.rt_dump.specs.Elements.{placed}
