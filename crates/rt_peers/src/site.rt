@@ -5,6 +5,7 @@ ghost use Rattle.rt_peers.specs.State.{new_state, is_widget};
 ghost use Rattle.rt_stamps.specs.Outcomes.{Answers};
 ghost use Rattle.rt_peers.specs.Step.{Gives, step, step_at};
 
+mod dumping;
 mod editing;
 mod exchange;
 mod marking;
@@ -73,11 +74,7 @@ impl SiteState {
             Request::Count { measures, from, to } => self.count(measures, from, to),
             Request::Search(request) => self.search(request),
             Request::Replace { from, to, texts } => self.replace(from, to, texts),
-            Request::Dump {
-                kinds: _,
-                from: _,
-                to: _,
-            } => Err(Fault::BadCommand),
+            Request::Dump { kinds, from, to } => self.dump(*kinds, from, to),
             Request::Mark(request) => self.mark(request),
             Request::Tag(request) => self.tag(request),
         }

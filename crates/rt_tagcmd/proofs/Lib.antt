@@ -2,6 +2,7 @@ pub mod About
 pub mod ByBytes
 pub mod FirstRange
 pub mod LookingLaws
+pub mod MarkListLaws
 pub mod RangeWalks
 pub mod Runs
 pub mod TagChecks

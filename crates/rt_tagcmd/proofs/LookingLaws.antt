@@ -53,7 +53,7 @@ at_or_after x y o h =
     le_false l = grind (arith, nat_tests)
 
 -- an edge comes before just the marks at its place or behind it
-edge_first : (place : ℕ) (m : Mark) → IsName m.name → comes_before (edge place) m ≡ nat_le place m.place
+pub edge_first : (place : ℕ) (m : Mark) → IsName m.name → comes_before (edge place) m ≡ nat_le place m.place
 edge_first place m h = at_or_after place m.place (ordering_then (gravity_order Left m.gravity) (name_order [] m.name)) (first_there m.gravity (name_order [] m.name) (least_name m.name h))
 
 not_least : (name : List ℕ) → is_lt (name_order name []) ≡ false
@@ -124,7 +124,7 @@ turned a b =
     (λ f. f ∙ split (bytes_eq b a) (λ s. absurd (clash _ ((bytes_eq-Decides a b).1 (sym (same_name b a s))) f)) (λ g. sym g))
 
 -- the names of own marks are two
-apart : (own : Own) → own.insert.name ≡ codes "insert" → own.current.name ≡ codes "current" → is_named own.insert.name own.current ≡ false
+pub apart : (own : Own) → own.insert.name ≡ codes "insert" → own.current.name ≡ codes "current" → is_named own.insert.name own.current ≡ false
 apart own a b = (λ i. bytes_eq (b i) (a i))
 
 pub named_all : (own : Own) (marks : List Mark) (q : List ℕ) → own.insert.name ≡ codes "insert" → own.current.name ≡ codes "current" → named (codes "insert") marks ≡ None → named (codes "current") marks ≡ None → named q (with_mark own.insert (with_mark own.current marks)) ≡ mark_among own marks q
@@ -175,7 +175,7 @@ named_among view word h = named_all view.own view.doc.marks word h.insert h.curr
 own_named : (name : List ℕ) (q : List ℕ) → name ≡ q → IsName q → IsName name
 own_named name q e h = subst IsName (sym e) h
 
-all_named : (view : Viewed) → AreMarks view → Each (λ m. IsName m.name) (marks_of view)
+pub all_named : (view : Viewed) → AreMarks view → Each (λ m. IsName m.name) (marks_of view)
 all_named view h =
     each_with (λ m. IsName m.name) view.own.insert (with_mark view.own.current view.doc.marks) (own_named view.own.insert.name (codes "insert") h.insert (omega arith, omega arith))
     (each_with (λ m. IsName m.name) view.own.current view.doc.marks (own_named view.own.current.name (codes "current") h.current (omega arith, omega arith)) (site_names _ view.doc.marks h.site))

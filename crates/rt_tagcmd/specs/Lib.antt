@@ -1,5 +1,6 @@
 pub mod Looking
 pub mod MarkCommands
+pub mod MarkLists
 pub mod TagCommands
 pub mod TagRanges
 pub use Rattle.rt_marks.specs.Marks

@@ -3,16 +3,19 @@
 
 pub mod laws;
 pub mod mark;
+pub mod mark_list;
 pub mod mark_name;
 pub mod mark_order;
 mod name;
 mod nearest;
 pub mod tag;
 pub mod tag_find;
-mod tag_range;
+pub mod tag_range;
 
 pub use mark::{mark_gravity, mark_set, mark_unset, set_mark_gravity};
+pub use mark_list::marks_between;
 pub use mark_name::mark_names;
 pub use mark_order::{mark_next, mark_previous};
 pub use tag::{tag_add, tag_delete, tag_lower, tag_names, tag_names_at, tag_raise, tag_remove};
 pub use tag_find::{tag_nextrange, tag_prevrange, tag_ranges};
+pub use tag_range::ranges;

@@ -14,7 +14,7 @@ use rt_store::TextStore;
 use rt_text::{OwnMark, View};
 
 /// Where a widget's own mark stands.
-fn own_spot<S: TextStore>(view: &View<S>, which: OwnMark) -> Spot<'static>
+pub(crate) fn own_spot<S: TextStore>(view: &View<S>, which: OwnMark) -> Spot<'static>
     ensures spot { spotted result ≡ own_mark which (own_shown view.now) }
     ensures name { (own_mark which (own_shown view.now)).name ≡ own_name which }
 {

@@ -46,11 +46,7 @@ fn first_range<S: TextStore>(view: &View<S>, name: &str, place: usize) -> Option
 }
 
 /// The ranges of characters that have a tag, in order. `NoMemory` is its only fault.
-pub(crate) fn ranges<S: TextStore>(
-    alloc: Global,
-    view: &View<S>,
-    name: &str,
-) -> Result<Vec<Range>, Fault>
+pub fn ranges<S: TextStore>(alloc: Global, view: &View<S>, name: &str) -> Result<Vec<Range>, Fault>
     ensures ok { IfOk result (λ ranges. ranges.items ≡ passing_ranges (is_tagged view.now.own name.now) (shown_by view.now)) }
     ensures err { IfErr result (λ fault. fault ≡ Fault.NoMemory) }
 {

@@ -5,6 +5,8 @@
 #[cfg(test)]
 mod accepting;
 #[cfg(test)]
+mod dumping;
+#[cfg(test)]
 mod edit_logs;
 #[cfg(test)]
 mod edits_removals;
