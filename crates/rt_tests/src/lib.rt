@@ -13,6 +13,8 @@ mod edits_removals;
 #[cfg(test)]
 mod edits_selections;
 #[cfg(test)]
+mod replacing;
+#[cfg(test)]
 mod rga_make;
 #[cfg(test)]
 mod rga_orders;

@@ -139,7 +139,7 @@ replaced view from to pieces rest =
     let edited = with_range_replaced view range pieces rest in
     let indices = index_check w from ∷ index_check w to ∷ backwards_check range ∷ [] in
     let checks = clock_check edited.doc.count ∷ cell_check view.doc.limit (length edited.doc.cells) ∷ [] in
-    unless (first_of (map name_check (names_in pieces) ++ indices ++ checks)) edited
+    unless (first_of (map name_check (names_in pieces) ++ (indices ++ checks))) edited
 
 -- get INDEX: the character at the index, none at the text's end
 abbrev pub got_one : Viewed → Word → Result Word Fault

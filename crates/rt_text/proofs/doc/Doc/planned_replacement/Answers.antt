@@ -28,8 +28,10 @@ returns-in_err-count-clause-err g c =
     (c.in_ok-deletion.ensures.drafts flat (sym c.kept.ensures.cells)) in
     let p = err_from_is_err_and c.from_residual-in_err-count.result c.from_residual-in_err-count.ensures.1 in
     rw (p.1, p.2)
-    (inr (c.in_err-count.ensures.err.0,
-    λ others. omega (arith, c.in_err-count.ensures.err.1, c.len.ensures, d.drafts.ok.0, count, all, counts_grow (viewed flat c.args.widget.now others) c.args.range c.args.pieces.now c.args.rest.now)))
+    (inr (
+      c.in_err-count.ensures.err.0,
+      λ others. omega (arith, c.in_err-count.ensures.err.1, c.len.ensures, d.drafts.ok.0, count, all, counts_grow (viewed flat c.args.widget.now others) c.args.range c.args.pieces.now c.args.rest.now),
+    ))
 
 pub overflow_sub-visible : goal.overflow_sub-visible
 overflow_sub-visible g c =
@@ -99,9 +101,11 @@ returns-in_err-plan-clause-err g c =
     let sel : stamps_in c.widget.inside.selection ≡ own.sel = ap (λ (o : Own). o.sel) c.widget.view_is in
     let p = err_from_is_err_and c.from_residual-in_err-plan.result c.from_residual-in_err-plan.ensures.1 in
     rw (p.1, p.2)
-    (either (λ q. (q.0,
-    λ others. too_great table kept flat cells history document c.args.range removed places own others d.held c.min-place.result c.left_after-left.result c.right_after-right.result c.kept.ensures.site c.in_ok-deletion.ensures.held at l r
-    c.args.pieces.now c.args.rest.now c.site-site.result.number c.in_ok-count.count (stamps_in c.widget.inside.selection) site count sel GREATEST_COUNT q.1)) c.in_err-plan.ensures.err)
+    (either (λ q. (
+      q.0,
+      λ others. too_great table kept flat cells history document c.args.range removed places own others d.held c.min-place.result c.left_after-left.result c.right_after-right.result c.kept.ensures.site c.in_ok-deletion.ensures.held at l r
+          c.args.pieces.now c.args.rest.now c.site-site.result.number c.in_ok-count.count (stamps_in c.widget.inside.selection) site count sel GREATEST_COUNT q.1,
+    )) c.in_err-plan.ensures.err)
 
 pub returns-clause-plans : goal.returns-clause-plans
 returns-clause-plans g c = λ others.
