@@ -5,15 +5,11 @@
 #[cfg(test)]
 mod accepting;
 #[cfg(test)]
-mod dumping;
-#[cfg(test)]
 mod edit_logs;
 #[cfg(test)]
 mod edits_removals;
 #[cfg(test)]
 mod edits_selections;
-#[cfg(test)]
-mod replacing;
 #[cfg(test)]
 mod rga_make;
 #[cfg(test)]
