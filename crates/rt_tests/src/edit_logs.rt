@@ -80,7 +80,7 @@ impl Page {
     }
 
     // The lines of the operations from a place of the log up.
-    pub(crate) fn lines(&self, from: usize) -> Result<Vec<u8>, Fault> {
+    fn lines(&self, from: usize) -> Result<Vec<u8>, Fault> {
         let log = self.view.doc().log();
         let mut ops = Vec::new(self.alloc);
         for place in from..log.len() {
@@ -98,7 +98,7 @@ pub(crate) fn words(alloc: Global, words: &[&str]) -> Result<Vec<String>, Fault>
     Ok(all)
 }
 
-pub(crate) fn pieces(alloc: Global, listed: &[(&str, &[&str])]) -> Result<Vec<Piece>, Fault> {
+fn pieces(alloc: Global, listed: &[(&str, &[&str])]) -> Result<Vec<Piece>, Fault> {
     let mut all = Vec::new(alloc);
     for (text, tags) in listed {
         all.push(Piece::new(String::from_str(alloc, text)?, words(alloc, tags)?))?;

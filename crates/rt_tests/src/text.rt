@@ -15,7 +15,7 @@ use std::process::Abort;
 use std::test::Fail;
 
 /// A document as a widget shows it. Its calls have no clauses.
-pub(crate) struct Page {
+struct Page {
     view: View<ListStore>,
 }
 
@@ -35,7 +35,7 @@ impl Model for Page {
 }
 
 impl Page {
-    pub(crate) fn new(alloc: Global) -> Result<Page, Fail> {
+    fn new(alloc: Global) -> Result<Page, Fail> {
         let site = Site::new(1).ok_or("a site")?;
         let store = ListStore::new(alloc)?;
         let view = View::new(alloc, store, site, 20_000)?;
@@ -43,7 +43,7 @@ impl Page {
     }
 
     // A page whose site has two other widgets, which have selected these.
-    pub(crate) fn beside(alloc: Global, first: &[Stamp], second: &[Stamp]) -> Result<Page, Fail> {
+    fn beside(alloc: Global, first: &[Stamp], second: &[Stamp]) -> Result<Page, Fail> {
         let site = Site::new(1).ok_or("a site")?;
         let store = ListStore::new(alloc)?;
         let doc = Doc::new(alloc, store, site, 20_000)?;
@@ -56,7 +56,7 @@ impl Page {
 
     // Another site takes a tag off the last newline, which never had it, with a count behind which so
     // many are left.
-    pub(crate) fn leave_counts(&mut self, alloc: Global, counts: u64) -> Result<(), Fail> {
+    fn leave_counts(&mut self, alloc: Global, counts: u64) -> Result<(), Fail> {
         let last = Stamp {
             count: GREATEST_COUNT.saturating_sub(counts),
             site: 2,
@@ -72,7 +72,7 @@ impl Page {
         Ok(())
     }
 
-    pub(crate) fn insert(&mut self, index: &str, new: &str) -> Result<(), Fault> {
+    fn insert(&mut self, index: &str, new: &str) -> Result<(), Fault> {
         self.view.insert(index, &[], new)
     }
 
@@ -80,7 +80,7 @@ impl Page {
         self.view.insert(index, pieces, "")
     }
 
-    pub(crate) fn next_tagged(&self, name: &str, place: usize) -> Option<usize> {
+    fn next_tagged(&self, name: &str, place: usize) -> Option<usize> {
         self.view.next_tagged(name, place)
     }
 
@@ -88,7 +88,7 @@ impl Page {
         self.view.next_untagged(name, place)
     }
 
-    pub(crate) fn write_tag(&mut self, on: bool, name: &str, ranges: &[Range]) -> Result<(), Fault>
+    fn write_tag(&mut self, on: bool, name: &str, ranges: &[Range]) -> Result<(), Fault>
         requires { IsName name.now }
     {
         self.view.write_tag(on, name, ranges)
@@ -98,19 +98,15 @@ impl Page {
         self.view.delete(indices)
     }
 
-    pub(crate) fn replace(&mut self, from: &str, to: &str, new: &str) -> Result<(), Fault> {
-        self.view.replace(from, to, &[], new)
-    }
-
-    pub(crate) fn get(&self, from: &str, to: &str) -> Result<String, Fault> {
+    fn get(&self, from: &str, to: &str) -> Result<String, Fault> {
         self.view.get(from, to)
     }
 
-    pub(crate) fn index(&self, index: &str) -> Result<Position, Fault> {
+    fn index(&self, index: &str) -> Result<Position, Fault> {
         self.view.index(index)
     }
 
-    pub(crate) fn set(&mut self, name: &str, index: &str) -> Result<(), Fault> {
+    fn set(&mut self, name: &str, index: &str) -> Result<(), Fault> {
         let place = self.view.place(index)?;
         match OwnMark::of(name) {
             Some(which) => self.view.set_own(which, place),
@@ -119,7 +115,7 @@ impl Page {
         Ok(())
     }
 
-    pub(crate) fn set_gravity(&mut self, name: &str, gravity: Gravity) -> Result<(), Fault> {
+    fn set_gravity(&mut self, name: &str, gravity: Gravity) -> Result<(), Fault> {
         match OwnMark::of(name) {
             Some(which) => self.view.set_own_gravity(which, gravity),
             None => self.view.set_mark_gravity(name, gravity)?,
@@ -128,7 +124,7 @@ impl Page {
     }
 
     // Whether the two other widgets have the character of a stamp selected.
-    pub(crate) fn selected(&self, stamp: Stamp) -> Option<(bool, bool)> {
+    fn selected(&self, stamp: Stamp) -> Option<(bool, bool)> {
         match self.view.others() {
             [first, second] => Some((first.has(stamp), second.has(stamp))),
             _ => None,
@@ -144,7 +140,7 @@ impl Page {
     }
 }
 
-pub(crate) fn at(line: usize, character: usize) -> Result<Position, Fault> {
+fn at(line: usize, character: usize) -> Result<Position, Fault> {
     Ok(Position { line, character })
 }
 
@@ -296,7 +292,7 @@ fn ranges_of_a_tag(rt: HostRuntime) -> Result<(), Fail> {
     Ok(())
 }
 
-pub(crate) fn stamp(count: u64) -> Stamp {
+fn stamp(count: u64) -> Stamp {
     Stamp { count, site: 1 }
 }
 
