@@ -5,7 +5,7 @@ from modelled.widget import spelled
 
 
 # commands that the program hasn't got yet: no script has them
-NOT_YET = ()
+NOT_YET = ("replace", "dump")
 
 
 class Chance(random.Random):

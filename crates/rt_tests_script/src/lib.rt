@@ -10,8 +10,6 @@ mod lines;
 #[cfg(test)]
 mod marks;
 #[cfg(test)]
-mod replacements;
-#[cfg(test)]
 mod replies;
 #[cfg(test)]
 mod searches;

@@ -3,7 +3,6 @@ ghost use Rattle.std.specs.Prelude.{◌≡◌, ◌<◌, ◌≤◌};
 ghost use Rattle.rt_script.specs.Site.{AreWithin};
 
 use crate::marks::{INDICES, MARK_ORDER, MARK_PLACES, MARK_WORDS};
-use crate::replacements::REPLACEMENTS;
 use crate::searches::SEARCHES;
 use crate::tags::{TAG_COMMANDS, TAG_REFUSALS, TAG_WRITES, TAGGED_TEXT};
 use crate::texts::{DELETIONS, RANGES, TEXTS};
@@ -163,11 +162,6 @@ fn scripts_of_deletions(rt: HostRuntime) -> Result<(), Fail> {
 #[test]
 fn scripts_of_ranges(rt: HostRuntime) -> Result<(), Fail> {
     answer_all(&rt, rt.alloc(), RANGES)
-}
-
-#[test]
-fn scripts_of_replacements(rt: HostRuntime) -> Result<(), Fail> {
-    answer_all(&rt, rt.alloc(), REPLACEMENTS)
 }
 
 #[test]
