@@ -1,9 +1,9 @@
 -- What a request to a widget does: the reply and the state after it, or why it is refused. Which words ask for what stands in
 -- rt_requests (`Asks`).
-use Rattle.std.specs.Prelude.{◌≡◌, ◌⊎◌, List, [], ◌∷◌, map, Bool, true, false, Option, Some, None, Result, Ok, Err, codes, if◌then◌else◌}
+use Rattle.std.specs.Prelude.{◌≡◌, ◌⊎◌, List, [], ◌∷◌, map, flat_map, Bool, true, false, Option, Some, None, Result, Ok, Err, codes, if◌then◌else◌}
 use Rattle.std.specs.Fmt.{signed_decimal}
 use Rattle.rt_stamps.specs.declared.fault.Fault.{Fault}
-use Rattle.rt_stamps.specs.declared.fault.Fault.TheVariants.{BadCommand, NoMemory, NoWidget}
+use Rattle.rt_stamps.specs.declared.fault.Fault.TheVariants.{NoMemory, NoWidget}
 use Rattle.rt_stamps.specs.declared.position.Position.{Position}
 use Rattle.rt_stamps.specs.Outcomes.{Answers}
 use Rattle.rt_stamps.specs.Places.{text_of_position}
@@ -17,11 +17,13 @@ use Rattle.rt_requests.specs.declared.request.TagRequest.{TagRequest}
 use Rattle.rt_requests.specs.declared.request.TagRequest.TheVariants as tags
 use Rattle.rt_requests.specs.Asking.{Asked, Asks}
 use Rattle.rt_requests.specs.Parts.{PieceValue, all_of}
+use Rattle.rt_dump.specs.Dumping.{dumped}
+use Rattle.rt_dump.specs.Elements.{Element, key_word}
 use Rattle.rt_searchcmd.specs.SearchCommand.{searched}
 use Rattle.rt_tagcmd.specs.MarkCommands.{mark_set, mark_unset, mark_gravity, mark_gravity_set, mark_names, mark_next, mark_previous}
 use Rattle.rt_tagcmd.specs.TagCommands.{tag_added, tag_removed, tags_deleted, tag_raised, tag_lowered, tag_names, tag_names_at, tag_ranges, tag_nextrange, tag_prevrange}
 use Rattle.rt_edits.specs.Insertions.{Piece}
-use Rattle.rt_text.specs.Commands.{inserted, deleted, got_one, got, got_list, position_of_index, compared, counted}
+use Rattle.rt_text.specs.Commands.{inserted, deleted, replaced, got_one, got, got_list, position_of_index, compared, counted}
 use Rattle.rt_peers.specs.State.{State, is_widget}
 
 -- the words of a reply and the state after it, or a fault
@@ -55,6 +57,10 @@ text_of_bool holds = if holds then codes "1" else codes "0"
 abbrev pub words_of : Option Word → List Word
 words_of None = []
 words_of (Some name) = name ∷ []
+
+-- an element of a dump: what it is, its name or its characters, and where it stands
+abbrev pub element_words : Element → List Word
+element_words element = key_word element.key ∷ element.value ∷ text_of_position element.position ∷ []
 
 -- REQUESTS
 
@@ -101,8 +107,8 @@ step state (Index index) = told_step (λ position. one_word (text_of_position po
 step state (Compare first comparison second) = told_step (λ holds. one_word (text_of_bool holds)) state (compared state first comparison second)
 step state (Count measures from to) = told_step (map signed_decimal) state (counted state measures from to)
 step state (Search request) = told_step (map text_of_position) state (searched state request)
-step state (Replace from to texts) = Err BadCommand
-step state (Dump kinds from to) = Err BadCommand
+step state (Replace from to texts) = changed_step (replaced state from to (map as_piece texts.pieces) texts.rest)
+step state (Dump kinds from to) = told_step (flat_map element_words) state (dumped state kinds from to)
 step state (Mark request) = mark_step state request
 step state (Tag request) = tag_step state request
 

@@ -5,6 +5,7 @@ ghost use Rattle.rt_peers.specs.State.{new_state, is_widget};
 ghost use Rattle.rt_stamps.specs.Outcomes.{Answers};
 ghost use Rattle.rt_peers.specs.Step.{Gives, step, step_at};
 
+mod dumping;
 mod editing;
 mod exchange;
 mod marking;
@@ -55,9 +56,9 @@ impl SiteState {
         Ok(SiteState { alloc, view })
     }
 
-    /// What is asked of the widget. Refused by the request's own faults, or for want of memory; then
-    /// the site is as it was.
-    pub fn request(&mut self, request: &Request<'_>) -> Result<Reply, Fault>
+    // What is asked of the widget. Refused by the request's own faults, or for want of memory; then
+    // the site is as it was.
+    fn request(&mut self, request: &Request<'_>) -> Result<Reply, Fault>
         ensures { Answers (step self.old request.now) self.old result self.new }
     {
         match request {
@@ -72,16 +73,8 @@ impl SiteState {
             } => self.compare(first, *comparison, second),
             Request::Count { measures, from, to } => self.count(measures, from, to),
             Request::Search(request) => self.search(request),
-            Request::Replace {
-                from: _,
-                to: _,
-                texts: _,
-            }
-            | Request::Dump {
-                kinds: _,
-                from: _,
-                to: _,
-            } => Err(Fault::BadCommand),
+            Request::Replace { from, to, texts } => self.replace(from, to, texts),
+            Request::Dump { kinds, from, to } => self.dump(*kinds, from, to),
             Request::Mark(request) => self.mark(request),
             Request::Tag(request) => self.tag(request),
         }

@@ -2,7 +2,7 @@
 ghost use Rattle.std.specs.Prelude.{map};
 ghost use Rattle.rt_stamps.specs.Outcomes.{Answers};
 ghost use Rattle.rt_requests.specs.Parts.{all_of};
-ghost use Rattle.rt_text.specs.Commands.{inserted, deleted};
+ghost use Rattle.rt_text.specs.Commands.{inserted, deleted, replaced};
 ghost use Rattle.rt_peers.specs.Step.{as_piece, changed_step};
 
 use super::SiteState;
@@ -19,6 +19,22 @@ impl SiteState {
     {
         let pieces = owned(self.alloc, texts.pieces())?;
         self.view.insert(index.text(), &pieces, texts.rest())?;
+        Ok(no_words(self.alloc))
+    }
+
+    // Texts with their tags, and a text without a list, in the place of the characters from one index up
+    // to before another.
+    pub(super) fn replace(
+        &mut self,
+        from: &Word<'_>,
+        to: &Word<'_>,
+        texts: &Texts<'_>,
+    ) -> Result<Reply, Fault>
+        ensures { Answers (changed_step (replaced self.old from.now to.now (map as_piece texts.now.pieces) texts.now.rest)) self.old result self.new }
+    {
+        let pieces = owned(self.alloc, texts.pieces())?;
+        self.view
+            .replace(from.text(), to.text(), &pieces, texts.rest())?;
         Ok(no_words(self.alloc))
     }
 

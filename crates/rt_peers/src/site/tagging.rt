@@ -17,7 +17,7 @@ use rt_tagcmd::{
 };
 
 // The text of a word that may be wanting.
-fn text_of<'a>(word: &Option<Word<'a>>) -> Option<&'a str>
+pub(super) fn text_of<'a>(word: &Option<Word<'a>>) -> Option<&'a str>
     ensures { option_copied result ≡ word.now }
 {
     match word {
