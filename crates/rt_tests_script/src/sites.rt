@@ -3,6 +3,7 @@ ghost use Rattle.std.specs.Prelude.{◌≡◌, ◌<◌, ◌≤◌};
 ghost use Rattle.rt_script.specs.Site.{AreWithin};
 
 use crate::marks::{INDICES, MARK_ORDER, MARK_PLACES, MARK_WORDS};
+use crate::replacements::{DUMPS, REPLACEMENTS};
 use crate::searches::SEARCHES;
 use crate::tags::{TAG_COMMANDS, TAG_REFUSALS, TAG_WRITES, TAGGED_TEXT};
 use crate::texts::{DELETIONS, RANGES, TEXTS};
@@ -167,6 +168,16 @@ fn scripts_of_ranges(rt: HostRuntime) -> Result<(), Fail> {
 #[test]
 fn scripts_of_searches(rt: HostRuntime) -> Result<(), Fail> {
     answer_all(&rt, rt.alloc(), SEARCHES)
+}
+
+#[test]
+fn scripts_of_replacements(rt: HostRuntime) -> Result<(), Fail> {
+    answer_all(&rt, rt.alloc(), REPLACEMENTS)
+}
+
+#[test]
+fn scripts_of_dumps(rt: HostRuntime) -> Result<(), Fail> {
+    answer_all(&rt, rt.alloc(), DUMPS)
 }
 
 #[test]

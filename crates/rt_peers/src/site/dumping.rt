@@ -14,7 +14,7 @@ use std::alloc::Global;
 
 // The words of an element behind others.
 fn push_element(alloc: Global, words: &mut Vec<String>, element: &Element) -> Result<(), Fault>
-    ensures ok { OnOk result (map (λ w. string_bytes w) words.new ≡ map (λ w. string_bytes w) words.old ++ element_words element.now) }
+    ensures ok { OnOk result (map (λ w. string_bytes w) words.new.items ≡ map (λ w. string_bytes w) words.old.items ++ element_words element.now) }
     ensures err { IfErr result (λ fault. fault ≡ Fault.NoMemory) }
 {
     words.push(String::from_str(alloc, element.key().word())?)?;
