@@ -1,3 +1,4 @@
+pub mod Runs
 pub mod Complete
 pub mod Digits
 pub mod Hope

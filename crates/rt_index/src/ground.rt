@@ -1,5 +1,5 @@
 // What a widget tells.
-ghost use Rattle.std.specs.Prelude.{◌≡◌, ◌<◌, ◌≤◌, ◌↔◌, IsTrue, IsSome, length, slice_index};
+ghost use Rattle.std.specs.Prelude.{◌≡◌, ◌<◌, ◌≤◌, ◌-◌, min, ◌↔◌, IsTrue, IsSome, length, take, drop, slice_index};
 ghost use Rattle.rt_stamps.specs.Places.{newlines, line_of, line_start};
 
 /// A widget as index expressions see it. No call takes memory.
@@ -21,6 +21,13 @@ pub trait Ground {
     fn char_at(&self, place: usize) -> char
         requires { place < length (widget self.now).text }
         ensures { result ≡ slice_index (widget self.now).text place };
+
+    /// Puts the characters from a place on into a buffer, from its front on: all that there are, or as many as it
+    /// holds. Answers how many these are; what is behind them in the buffer stays.
+    fn characters(&self, place: usize, buffer: &mut [char]) -> usize
+        ensures count { result ≡ min (length buffer.old) (length (widget self.now).text - place) }
+        ensures characters { take result buffer.new ≡ take result (drop place (widget self.now).text) }
+        ensures rest { drop result buffer.new ≡ drop result buffer.old };
 
     /// The first place of a line, from line 1 to line `lines`.
     fn line_start(&self, line: usize) -> usize

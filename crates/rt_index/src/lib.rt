@@ -8,6 +8,7 @@ pub mod laws;
 pub mod parts;
 pub mod reading;
 pub mod values;
+mod words;
 
 pub use expression::{Expr, is_fixed, parse, resolve};
 pub use ground::Ground;

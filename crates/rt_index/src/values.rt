@@ -1,19 +1,11 @@
 // The places that bases give and modifiers make.
 ghost use Rattle.std.specs.Prelude.{◌≡◌, ◌+◌, ◌<◌, ◌≤◌, IsTrue, length};
 ghost use Rattle.rt_stamps.specs.Places.{newlines, line_end};
-ghost use Rattle.rt_index.specs.Characters.{is_word_character};
-ghost use Rattle.rt_index.specs.Values.{character_place, line_end_place, lines_forward, lines_back, word_start, word_end, keyword_place, moved, all_moved};
+ghost use Rattle.rt_index.specs.Values.{character_place, line_end_place, lines_forward, lines_back, keyword_place, moved, all_moved};
 
 use crate::Ground;
 use crate::parts::{Keyword, Modifier, Step};
-use unicode::properties::{GeneralCategory, is_alphabetic};
-
-/// Whether words run through a character: a letter, a digit or an underscore.
-fn is_word_character(c: char) -> bool
-    ensures { result ≡ is_word_character c }
-{
-    is_alphabetic(c) || GeneralCategory::for_char(c) == GeneralCategory::DecimalNumber || c == '_'
-}
+use crate::words::{word_end, word_start};
 
 /// The place of the newline that ends a line.
 fn line_end<G: Ground>(ground: &G, line: usize) -> usize
@@ -87,38 +79,6 @@ fn lines_back<G: Ground>(ground: &G, place: usize, count: usize) -> usize
     } else {
         ground.line_start((ground.lines() + 1).saturating_sub(count).max(1))
     }
-}
-
-/// The first character of the word that holds a place.
-fn word_start<G: Ground>(ground: &G, place: usize) -> usize
-    requires { place < length (G.widget ground.now).text }
-    ensures value { result ≡ word_start (G.widget ground.now).text place }
-    ensures within { result ≤ place }
-{
-    if !is_word_character(ground.char_at(place)) {
-        return place;
-    }
-    let mut start = place;
-    while start > 0 && is_word_character(ground.char_at(start - 1)) {
-        start -= 1;
-    }
-    start
-}
-
-/// The place after the last character of the word that holds a place.
-fn word_end<G: Ground>(ground: &G, place: usize) -> usize
-    requires { place < length (G.widget ground.now).text }
-    ensures value { result ≡ word_end (G.widget ground.now).text place }
-    ensures within { result ≤ length (G.widget ground.now).text }
-{
-    if !is_word_character(ground.char_at(place)) {
-        return place + 1;
-    }
-    let mut end = place + 1;
-    while end < ground.len() && is_word_character(ground.char_at(end)) {
-        end += 1;
-    }
-    end
 }
 
 /// A keyword, at the place of a character.
