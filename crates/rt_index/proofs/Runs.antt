@@ -2,7 +2,7 @@
 use Rattle.std.proofs.Common.{◌≡◌, Bool, true, false, cond, ℕ, zero, suc, min, ◌+◌, ◌-◌, ◌<◌, ◌≤◌, ◌∙◌, ◌++◌, List, [], ◌∷◌, length, take, drop, reverse, arith, ap, sym, refl}
 use Rattle.std.specs.List.{prefix_len}
 use Rattle.std.proofs.Math.Seq.{drop-append_seam, take-append_seam}
-use Rattle.std.proofs.lemmas.List.{drop-drop, drop-take, length-drop, length-reverse, length-take, reverse-append, take-append-drop, take_min}
+use Rattle.std.proofs.lemmas.List.{drop-drop, drop-take, length-drop, length-reverse, length-take, reverse-append, take-append-drop, take-take, take_min}
 
 -- a run that ends within the first stretch
 ends_next : (b : Bool) (n taken whole : ℕ) → (taken < n → whole ≡ taken) → cond b (1 + taken) 0 < suc n → cond b (1 + whole) 0 ≡ cond b (1 + taken) 0
@@ -23,12 +23,6 @@ pub goes_on : {X : Type 0} (p : X → Bool) (n : ℕ) (xs : List X) → prefix_l
 goes_on p zero xs h = omega arith
 goes_on p (suc n) [] h = absurd (omega (arith, h))
 goes_on p (suc n) (x ∷ xs) h = goes_next (p x) n (prefix_len p (take n xs)) (prefix_len p xs) (prefix_len p (drop n xs)) (goes_on p n xs) h
-
-taken_twice : {X : Type 0} (k n : ℕ) (xs : List X) → k ≤ n → take k (take n xs) ≡ take k xs
-taken_twice zero n xs h = refl
-taken_twice (suc k) zero xs h = absurd (omega (arith, h))
-taken_twice (suc k) (suc n) [] h = refl
-taken_twice (suc k) (suc n) (x ∷ xs) h = ap (λ l. x ∷ l) (taken_twice k n xs (omega (arith, h)))
 
 -- the last elements, from back to front, and those before them
 halves : {X : Type 0} (i : ℕ) (xs : List X) → reverse xs ≡ reverse (drop i xs) ++ reverse (take i xs)
@@ -61,7 +55,7 @@ pub read_before : {X : Type 0} (buffer text : List X) (n from place read : ℕ) 
 read_before {X} buffer text n from place read h f count same =
     let k = place - from in
     let few : k ≤ read = omega (arith, h, f, count) in
-    let front : take k buffer ≡ take k (drop from text) = sym (taken_twice k read buffer few) ∙ ap (take k) same ∙ taken_twice k read (drop from text) few in
+    let front : take k buffer ≡ take k (drop from text) = sym (take-take k read buffer few) ∙ ap (take k) same ∙ take-take k read (drop from text) few in
     let whole : length (take place text) ≡ place = omega (arith, length-take place text, h) in
     let size : from + k ≡ place = omega (arith, f) in
     let rest : drop from (take place text) ≡ take k (drop from text) = ap (λ m. drop from (take m text)) (sym size) ∙ drop-take from k text in
@@ -103,6 +97,6 @@ goes_before p text n to place found inside so_far e h within =
     let whole = goes_on p n (reverse (take to text)) long in
     let size : length (take to text) ≡ to = omega (arith, length-take to text, inside) in
     let front : drop n (reverse (take to text)) ≡ reverse (take (length (take to text) - n) (take to text)) = before_back n (take to text) (omega (arith, size, h, within)) in
-    let cut : take (length (take to text) - n) (take to text) ≡ take (to - found) text = ap (λ k. take (k - n) (take to text)) size ∙ ap (λ k. take (to - k) (take to text)) (sym h) ∙ taken_twice (to - found) to text (omega arith) in
+    let cut : take (length (take to text) - n) (take to text) ≡ take (to - found) text = ap (λ k. take (k - n) (take to text)) size ∙ ap (λ k. take (to - k) (take to text)) (sym h) ∙ take-take (to - found) to text (omega arith) in
     let next : prefix_len p (drop n (reverse (take to text))) ≡ prefix_len p (reverse (take (to - found) text)) = ap (prefix_len p) (front ∙ ap reverse cut) in
     omega (arith, so_far, e, h, whole, next, within)

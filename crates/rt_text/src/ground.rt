@@ -53,6 +53,10 @@ impl<'a, S: TextStore> Ground for WidgetGround<'a, S> {
         self.store.char_at(place)
     }
 
+    fn characters(&self, place: usize, buffer: &mut [char]) -> usize {
+        self.store.characters(place, buffer)
+    }
+
     fn line_start(&self, line: usize) -> usize {
         self.store.line_start(line)
     }

@@ -1,5 +1,5 @@
 // Ranges of places.
-ghost use Rattle.std.specs.Prelude.{◌≡◌, ◌≤◌, ◌⊎◌, All, IfOk, IfErr, map, length, string_bytes, encode_utf8_all};
+ghost use Rattle.std.specs.Prelude.{◌≡◌, ◌≤◌, ◌⊎◌, ◌++◌, All, IfOk, IfErr, OnOk, map, length, string_bytes, encode_utf8_all};
 ghost use Rattle.rt_stamps.specs.declared.limits.TheConstants.{MOST_CELLS};
 ghost use Rattle.rt_stamps.specs.Outcomes.{first_of};
 ghost use Rattle.rt_store.specs.Cells.{text_of};
@@ -12,6 +12,9 @@ use rt_index::Ground;
 use rt_stamps::Fault;
 use rt_store::TextStore;
 use std::alloc::Global;
+
+// How many characters are read at a time.
+const READ_CHARACTERS: usize = 256;
 
 // The places of indices.
 fn places_of<G: Ground>(alloc: Global, ground: &G, indices: &[String]) -> Result<Vec<usize>, Fault>
@@ -67,7 +70,18 @@ pub(crate) fn ranges_at<G: Ground>(
     ranges_of(alloc, &places)
 }
 
-/// The text of a store from a place up to before another.
+// Puts characters behind a text.
+fn push_all(text: &mut String, characters: &[char]) -> Result<(), Fault>
+    ensures ok { OnOk result (string_bytes text.new ≡ string_bytes text.old ++ encode_utf8_all characters.now) }
+    ensures err { IfErr result (λ fault. fault ≡ Fault.NoMemory) }
+{
+    for c in characters {
+        text.push(*c)?;
+    }
+    Ok(())
+}
+
+/// The text of a store from a place up to before another, read stretch by stretch.
 pub(crate) fn text_between<S: TextStore>(
     alloc: Global,
     store: &S,
@@ -78,9 +92,13 @@ pub(crate) fn text_between<S: TextStore>(
     ensures err { IfErr result (λ fault. fault ≡ Fault.NoMemory) }
 {
     let mut text = String::new(alloc);
+    let mut buffer = ['\0'; READ_CHARACTERS];
     let end = to.min(store.visible()).max(from);
-    for place in from..end {
-        text.push(store.char_at(place))?;
+    let mut place = from;
+    while place < end {
+        let read = store.characters(place, &mut buffer).min(end - place);
+        push_all(&mut text, &buffer[..read])?;
+        place += read;
     }
     Ok(text)
 }

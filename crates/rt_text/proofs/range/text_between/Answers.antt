@@ -1,5 +1,5 @@
-use Rattle.std.proofs.Common.{◌≡◌, ◌<◌, ◌∙◌, ap, sym, arith, length, min, max, append-nil}
-use Rattle.std.specs.Prelude.{encode_utf8, encode_utf8_all, ◌++◌}
+use Rattle.std.proofs.Common.{◌≡◌, ◌≤◌, ◌∙◌, ap, sym, arith, length, min, max, take}
+use Rattle.std.specs.Prelude.{encode_utf8_all, ◌++◌}
 use Rattle.rt_store.specs.Cells.{text_of}
 use Rattle.rt_text.specs.Ranges.{text_between}
 use Rattle.rt_edits.proofs.PlaceLaws.{length_text}
@@ -8,16 +8,19 @@ use Rattle.rt_text.proofs.range.text_between.Goals as goal
 
 pub loop-place-preserved : goal.loop-place-preserved
 loop-place-preserved g c =
-    let cells = g.S.TextStore.list c.args.store.now in
-    let within : c.loop-place.place < length (text_of cells) = omega (arith, length_text cells) in
-    c.in_ok-push.ensures.bytes ∙ ap (λ v. v ++ encode_utf8 c.char_at.result) c.loop-place.invariant
-    ∙ ap (λ v. encode_utf8_all (text_between (text_of cells) c.args.from c.loop-place.place) ++ v) (sym (append-nil (encode_utf8 c.char_at.result)))
-    ∙ sym (between_more (text_of cells) c.args.from c.loop-place.place c.char_at.result c.loop-place.auto.place within c.char_at.ensures)
+    let text = text_of (g.S.TextStore.list c.args.store.now) in
+    let few : c.min-read.result ≤ c.characters.result = omega (arith, c.min-read.ensures) in
+    let more = encode_utf8_all (take c.min-read.result c.characters.new.buffer) in
+    record {
+      from = omega (arith, c.loop-place.invariant.from);
+      to = omega (arith, c.min-read.ensures, c.loop-place-test.true);
+      same = c.in_ok-push_all.ensures.ok ∙ ap (λ v. v ++ more) c.loop-place.invariant.same ∙ sym (between_more text c.characters.new.buffer c.args.from c.loop-place.place c.characters.result c.min-read.result c.loop-place.invariant.from few c.characters.ensures.characters);
+    }
 
 pub returns-clause-ok : goal.returns-clause-ok
 returns-clause-ok g c =
     let cells = g.S.TextStore.list c.args.store.now in
     let n : c.visible.result ≡ length (text_of cells) = c.visible.ensures ∙ sym (length_text cells) in
-    let last : c.loop-place.place ≡ max (min c.args.to c.visible.result) c.args.from = omega arith in
-    c.loop-place.invariant ∙ ap (λ place. encode_utf8_all (text_between (text_of cells) c.args.from place)) last
+    let last : c.loop-place.place ≡ max (min c.args.to c.visible.result) c.args.from = omega (arith, c.loop-place.invariant.to) in
+    c.loop-place.invariant.same ∙ ap (λ place. encode_utf8_all (text_between (text_of cells) c.args.from place)) last
     ∙ ap encode_utf8_all (between_all (text_of cells) c.args.from c.args.to c.visible.result n)
