@@ -1,6 +1,6 @@
 // A page of three lines, the second of them empty, and index words with the places worked out by
 // hand from the table of values.
-ghost use Rattle.std.specs.Prelude.{◌≡◌, count_by};
+ghost use Rattle.std.specs.Prelude.{◌≡◌, ◌-◌, count_by, drop, length, min, take};
 ghost use Rattle.rt_stamps.specs.Places.{is_newline};
 ghost use Rattle.rt_tests_low.specs.Page.{page_text};
 
@@ -45,6 +45,10 @@ impl Ground for Page {
 
     fn char_at(&self, place: usize) -> char {
         self.characters[place]
+    }
+
+    fn characters(&self, place: usize, buffer: &mut [char]) -> usize {
+        copied(&self.characters, place, buffer)
     }
 
     #[tactic(auto, using(crate::proofs::Pages::second_start, crate::proofs::Pages::third_start))]
@@ -104,6 +108,18 @@ impl Ground for Page {
     }
 
     ghost proper = { λ s. page_proper s.characters.items s.same };
+}
+
+/// Puts characters from a place on into a buffer, as many as there are or fit; how many these are.
+fn copied(characters: &[char], place: usize, buffer: &mut [char]) -> usize
+    ensures count { result ≡ min (length buffer.old) (length characters.now - place) }
+    ensures characters { take result buffer.new ≡ take result (drop place characters.now) }
+    ensures rest { drop result buffer.new ≡ drop result buffer.old }
+{
+    let rest = &characters[place.min(characters.len())..];
+    let read = rest.len().min(buffer.len());
+    buffer[..read].copy_from_slice(&rest[..read]);
+    read
 }
 
 /// How many newlines there are.
