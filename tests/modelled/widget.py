@@ -27,7 +27,7 @@ def is_word(c):
 
 def folded(c):
     """The simple case folding of a character, as far as the full one shows it."""
-    return c.casefold() if len(c.casefold()) == 1 else c
+    return "ß" if c == "ẞ" else c.casefold() if len(c.casefold()) == 1 else c
 
 
 def switches_of(words, end=None):

@@ -46,6 +46,16 @@ pub(crate) const REPLACEMENTS: &[&[(&str, &str)]] = &[
     ],
 ];
 
+// On a site of four characters, tombstones and the final newline included.
+pub(crate) const FULL: &[(&str, &str)] = &[
+    (".t insert 1.0 abc", "="),
+    (".t replace 1.0 1.1 x", "! 18 TextFull"),
+    (".t get 1.0 end", "= \"abc\\n\""),
+    (".t replace 1.0 1.1 \"\"", "="),
+    (".t insert 1.0 x", "! 18 TextFull"),
+    (".t get 1.0 end", "= \"bc\\n\""),
+];
+
 // What a dump shows, in its order, and what is refused.
 pub(crate) const DUMPS: &[&[(&str, &str)]] = &[
     &[
@@ -81,7 +91,10 @@ pub(crate) const DUMPS: &[&[(&str, &str)]] = &[
             "= tagon t 1.0 text a 1.0 tagoff t 1.1 tagon u 1.1 text \"b\\n\" 1.1 text c 2.0 tagoff u 2.1 tagon t 2.1 text d 2.1 mark current 2.2 mark insert 2.2 text \"\\n\" 2.2 tagoff t 3.0 mark z 3.0",
         ),
         (".t dump -mark end", "= mark z 3.0"),
-        (".t dump -mark 2.2", "= mark current 2.2 mark insert 2.2 mark z 3.0"),
+        (
+            ".t dump -mark 2.2",
+            "= mark current 2.2 mark insert 2.2 mark z 3.0",
+        ),
         (".t dump -text 1.0 2.1", "= text \"ab\\n\" 1.0 text c 2.0"),
     ],
     &[

@@ -17,6 +17,7 @@ pub(crate) const SEARCHES: &[&[(&str, &str)]] = &[
         (".t search -all aa 1.0", "= 1.0 1.2"),
         (".t search -all -overlap aa 1.0", "= 1.0 1.1 1.2"),
         (".t search -all -backwards aa end", "= 1.2 1.0"),
+        (".t search -all -overlap -backwards aa end", "= 1.2 1.1 1.0"),
         (".t search aaaaaa 1.0", "="),
     ],
     &[
@@ -36,5 +37,12 @@ pub(crate) const SEARCHES: &[&[(&str, &str)]] = &[
         (r#".t search "b\n-b\n" 1.0"#, "= 1.2"),
         (".t search -- -b 1.2", "= 2.0"),
         (".t search -all -- -b 1.0", "= 1.1 2.0"),
+    ],
+    &[
+        (".t insert 1.0 \"\u{3a3}\u{3c2} \u{17f}top \u{1e9e}\"", "="),
+        (".t search -all -nocase \u{3c3} 1.0", "= 1.0 1.1"),
+        (".t search -nocase STOP 1.0", "= 1.3"),
+        (".t search -nocase \u{df} 1.0", "= 1.8"),
+        (".t search \u{3c3} 1.0", "="),
     ],
 ];
