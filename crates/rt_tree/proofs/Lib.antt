@@ -36,3 +36,6 @@ mod Roomier
 mod Following
 mod Joining
 mod Splicing
+mod Passing
+mod Passes
+mod Skipping

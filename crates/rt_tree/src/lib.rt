@@ -10,6 +10,7 @@ pub mod node;
 mod put;
 mod room;
 mod settle;
+mod skip;
 mod splice;
 mod split;
 mod sums;

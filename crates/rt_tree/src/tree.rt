@@ -1,6 +1,7 @@
 // The cells of a text in a tree.
-ghost use Rattle.std.specs.Prelude.{◌≡◌, ◌+◌, ◌-◌, ◌*◌, ◌<◌, ◌≤◌, ◌^◌, [], ◌∷◌, length, slice_get, Some, IfOk, IfErr, IsOk, OnOk, OnErr};
+ghost use Rattle.std.specs.Prelude.{◌≡◌, ◌+◌, ◌-◌, ◌*◌, ◌<◌, ◌≤◌, ◌^◌, [], ◌∷◌, length, drop, take_while, slice_get, Some, IfOk, IfErr, IsOk, OnOk, OnErr};
 ghost use Rattle.rt_stamps.specs.Places.{line_of, line_start, newlines};
+ghost use Rattle.rt_stamps.specs.Stamps.{is_before};
 ghost use Rattle.rt_store.specs.Cells.{HasRoom, Spends, final_cell, put_at, text_of, visible_of, with_state};
 ghost use Rattle.rt_tree.specs.Additions.{stretches};
 ghost use Rattle.rt_tree.specs.Stretches.{made_gone, map_between, marked_cell};
@@ -9,10 +10,11 @@ ghost use Rattle.rt_tree.specs.Trees.{final_run};
 use crate::find::{cell_in, find, height, seek, sum_of};
 use crate::mark::{Mark, mark_cells};
 use crate::node::{Entry, Head, Measure, Mem, Run};
+use crate::skip::{is_low, passed};
 use crate::splice::{push_characters, put_cells};
 use rt_nodes::{NodeId, NodeMem};
 use rt_stamps::limits::MOST_CELLS;
-use rt_stamps::{FINAL, Fault};
+use rt_stamps::{FINAL, Fault, Stamp};
 use rt_store::Cell;
 use rt_tags::StateId;
 use std::alloc::Global;
@@ -184,6 +186,19 @@ impl Tree {
         }
         let found = seek(&self.mem, self.root, Measure::Visible, place);
         found.before.newlines as usize + 1
+    }
+
+    /// The first position from one on whose cell's stamp isn't greater than a new one, or the end. It
+    /// goes past whole subtrees with greater stamps alone.
+    pub fn skip(&self, position: usize, new: Stamp) -> usize
+        requires { position < length self.now.cells }
+        ensures { result ≡ position + length (take_while (λ cell. is_before new cell.stamp) (drop position self.now.cells)) }
+    {
+        let cell = self.nth(position);
+        if is_low(cell.stamp, new) {
+            return position;
+        }
+        passed(&self.mem, self.root, self.root, position + 1, new)
     }
 
     /// Makes room for new cells and for cuts of runs, and keeps what was there. `NoMemory` changes
