@@ -39,3 +39,4 @@ mod Splicing
 mod Passing
 mod Passes
 mod Skipping
+mod Positions

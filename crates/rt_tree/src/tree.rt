@@ -1,8 +1,8 @@
 // The cells of a text in a tree.
-ghost use Rattle.std.specs.Prelude.{◌≡◌, ◌+◌, ◌-◌, ◌*◌, ◌<◌, ◌≤◌, ◌^◌, [], ◌∷◌, length, drop, take_while, slice_get, Some, IfOk, IfErr, IsOk, OnOk, OnErr};
+ghost use Rattle.std.specs.Prelude.{◌≡◌, ◌+◌, ◌-◌, ◌*◌, ◌<◌, ◌≤◌, ◌^◌, [], ◌∷◌, length, drop, take_while, slice_get, option_map, if◌then◌else◌, Some, IfOk, IfErr, IsOk, OnOk, OnErr};
 ghost use Rattle.rt_stamps.specs.Places.{line_of, line_start, newlines};
-ghost use Rattle.rt_stamps.specs.Stamps.{is_before};
-ghost use Rattle.rt_store.specs.Cells.{HasRoom, Spends, final_cell, put_at, text_of, visible_of, with_state};
+ghost use Rattle.rt_stamps.specs.Stamps.{is_before, is_same};
+ghost use Rattle.rt_store.specs.Cells.{HasRoom, Spends, StandsBefore, after_element, cell_of, final_cell, position_of, put_at, skip_from, text_of, visible_before, visible_of, with_state};
 ghost use Rattle.rt_tree.specs.Additions.{stretches};
 ghost use Rattle.rt_tree.specs.Stretches.{made_gone, map_between, marked_cell};
 ghost use Rattle.rt_tree.specs.Trees.{final_run};
@@ -14,7 +14,7 @@ use crate::skip::{is_low, passed};
 use crate::splice::{push_characters, put_cells};
 use rt_nodes::{NodeId, NodeMem};
 use rt_stamps::limits::MOST_CELLS;
-use rt_stamps::{FINAL, Fault, Stamp};
+use rt_stamps::{FINAL, Fault, ROOT, Stamp};
 use rt_store::Cell;
 use rt_tags::StateId;
 use std::alloc::Global;
@@ -58,6 +58,19 @@ fn final_run() -> Run
         gone: false,
         newline: true,
     }
+}
+
+fn is_same(a: Stamp, b: Stamp) -> bool
+    ensures { result ≡ is_same a b }
+{
+    a == b
+}
+
+// How many of the first cells of a run are visible.
+fn visible_part(run: Run, count: usize) -> usize
+    ensures { result ≡ (if run.gone then 0 else count) }
+{
+    if run.gone { 0 } else { count }
 }
 
 impl Tree {
@@ -199,6 +212,75 @@ impl Tree {
             return position;
         }
         passed(&self.mem, self.root, self.root, position + 1, new)
+    }
+
+    // The position of the first cell that has a stamp, by a walk from the first cell on.
+    fn seek_stamp(&self, stamp: Stamp) -> Option<usize>
+        ensures { result ≡ position_of self.now.cells stamp }
+    {
+        for position in 0..self.cells() {
+            let cell = self.nth(position);
+            if is_same(cell.stamp, stamp) {
+                return Some(position);
+            }
+        }
+        None
+    }
+
+    /// The position of the cell of a stamp, gone or not; none if no cell has the stamp.
+    pub fn position_of(&self, stamp: Stamp) -> Option<usize>
+        ensures { result ≡ position_of self.now.cells stamp }
+    {
+        self.seek_stamp(stamp)
+    }
+
+    /// The cell of a stamp, gone or not; none if no cell has the stamp.
+    pub fn cell_of(&self, stamp: Stamp) -> Option<Cell<StateId>>
+        ensures { result ≡ cell_of self.now.cells stamp }
+    {
+        let position = self.position_of(stamp)?;
+        Some(self.nth(position))
+    }
+
+    // How many visible cells stand before a position.
+    fn visible_before(&self, position: usize) -> usize
+        requires { position < length self.now.cells }
+        ensures { result ≡ visible_before self.now.cells position }
+    {
+        let found = seek(&self.mem, self.root, Measure::Cells, position);
+        found.before.visible as usize + visible_part(found.run, found.spot.offset)
+    }
+
+    /// How many visible cells stand before a stamp's cell, which is its place if it is visible; none if
+    /// no cell has the stamp.
+    pub fn place_of(&self, stamp: Stamp) -> Option<usize>
+        ensures { result ≡ option_map (visible_before self.now.cells) (position_of self.now.cells stamp) }
+    {
+        let position = self.position_of(stamp)?;
+        Some(self.visible_before(position))
+    }
+
+    // The position after an element.
+    fn after_element(&self, left: Stamp) -> usize
+        requires { StandsBefore self.now.cells left }
+        ensures { result ≡ after_element self.now.cells left }
+    {
+        self.cells();
+        if left == ROOT {
+            0
+        } else {
+            self.position_of(left).unwrap() + 1
+        }
+    }
+
+    /// The position where a new character goes whose left element is `left`: behind it and past all
+    /// cells directly behind it that have greater stamps.
+    pub fn after_skip(&self, left: Stamp, new: Stamp) -> usize
+        requires { StandsBefore self.now.cells left }
+        ensures { result ≡ skip_from self.now.cells left new }
+    {
+        let after = self.after_element(left);
+        self.skip(after, new)
     }
 
     /// Makes room for new cells and for cuts of runs, and keeps what was there. `NoMemory` changes
