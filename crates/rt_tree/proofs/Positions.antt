@@ -88,8 +88,8 @@ module _ (text : List ℕ) (all : List Run) (run : Run) (front : Counts) (offset
       let v = ap (λ (x : Counts). x.visible) st.before in
       let long = run_length text run (is_run text all run front offset place runs st.left st.right st.here) in
       let cut = ap (λ cs. visible_of (take place cs)) (cells_around text all run front offset place runs st.left st.right st.here)
-          ∙ ap visible_of (take-right before_it (run_cells text run ++ rest) place offset (omega (arith, l.cells, f, st.at)))
-          ∙ visible-append before_it (take offset (run_cells text run ++ rest)) in
+      ∙ ap visible_of (take-right before_it (run_cells text run ++ rest) place offset (omega (arith, l.cells, f, st.at)))
+      ∙ visible-append before_it (take offset (run_cells text run ++ rest)) in
       let n = ap length cut ∙ length-append (visible_of before_it) (visible_of (take offset (run_cells text run ++ rest))) in
       let own = visible-row run.gone (cells_from run.first run.site run.state (characters text run)) rest offset (omega (arith, long, st.inside)) in
       omega (arith, n, l.visible, v, own)

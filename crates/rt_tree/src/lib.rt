@@ -14,8 +14,6 @@ mod skip;
 mod splice;
 mod split;
 mod sums;
-#[cfg(test)]
-mod tests;
 mod totals;
 pub mod tree;
 pub mod up;

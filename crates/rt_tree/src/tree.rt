@@ -1,8 +1,10 @@
 // The cells of a text in a tree.
-ghost use Rattle.std.specs.Prelude.{◌≡◌, ◌+◌, ◌-◌, ◌*◌, ◌<◌, ◌≤◌, ◌^◌, [], ◌∷◌, length, drop, take_while, slice_get, option_map, if◌then◌else◌, Some, IfOk, IfErr, IsOk, OnOk, OnErr};
+ghost use Rattle.std.specs.Prelude.{◌≡◌, ◌+◌, ◌-◌, ◌*◌, ◌<◌, ◌≤◌, ◌^◌, [], ◌∷◌, length, drop, take_while, slice_get};
+ghost use Rattle.std.specs.Prelude.{option_map, if◌then◌else◌, Some, IfOk, IfErr, IsOk, OnOk, OnErr};
 ghost use Rattle.rt_stamps.specs.Places.{line_of, line_start, newlines};
 ghost use Rattle.rt_stamps.specs.Stamps.{is_before, is_same};
-ghost use Rattle.rt_store.specs.Cells.{HasRoom, Spends, StandsBefore, after_element, cell_of, final_cell, position_of, put_at, skip_from, text_of, visible_before, visible_of, with_state};
+ghost use Rattle.rt_store.specs.Cells.{HasRoom, Spends, StandsBefore, after_element, cell_of, position_of, skip_from, visible_before};
+ghost use Rattle.rt_store.specs.Cells.{final_cell, put_at, text_of, visible_of, with_state};
 ghost use Rattle.rt_tree.specs.Additions.{stretches};
 ghost use Rattle.rt_tree.specs.Stretches.{made_gone, map_between, marked_cell};
 ghost use Rattle.rt_tree.specs.Trees.{final_run};
