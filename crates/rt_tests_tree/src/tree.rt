@@ -235,6 +235,14 @@ impl Both {
             && self.tree.place_of(stamp) == self.list.place_of(stamp)
     }
 
+    // Whether both put the same characters into a buffer, and leave the rest of it.
+    fn same_characters(&self, place: usize) -> bool {
+        let mut ours = ['-'; 4];
+        let mut theirs = ['-'; 4];
+        self.tree.characters(place, &mut ours) == self.list.characters(place, &mut theirs)
+            && ours == theirs
+    }
+
     // Whether both put a new stamp's cell at the same position, at the very beginning of the text.
     fn same_skip(&self, new: Stamp) -> bool {
         if self.tree.cells() == 0 || self.list.cells() == 0 || new.count < 2 {
@@ -296,6 +304,9 @@ fn marking(rt: HostRuntime) -> Result<(), Fail> {
     both.tag(2, 7)?;
     assert!(rt; both.same());
     assert!(rt; both.same_by_stamps());
+    for place in 0..5 {
+        assert!(rt; both.same_characters(place));
+    }
     Ok(())
 }
 

@@ -40,3 +40,4 @@ mod Passing
 mod Passes
 mod Skipping
 mod Positions
+mod Buffers

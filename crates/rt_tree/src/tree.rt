@@ -1,11 +1,12 @@
 // The cells of a text in a tree.
-ghost use Rattle.std.specs.Prelude.{◌≡◌, ◌+◌, ◌-◌, ◌*◌, ◌<◌, ◌≤◌, ◌^◌, [], ◌∷◌, length, drop, take_while, slice_get};
+ghost use Rattle.std.specs.Prelude.{◌≡◌, ◌+◌, ◌-◌, ◌*◌, ◌<◌, ◌≤◌, ◌^◌, [], ◌∷◌, length, min, take, drop, take_while, slice_get};
 ghost use Rattle.std.specs.Prelude.{option_map, if◌then◌else◌, Some, IfOk, IfErr, IsOk, OnOk, OnErr};
 ghost use Rattle.rt_stamps.specs.Places.{line_of, line_start, newlines};
-ghost use Rattle.rt_stamps.specs.Stamps.{is_before, is_same};
+ghost use Rattle.rt_stamps.specs.Stamps.{is_before};
 ghost use Rattle.rt_store.specs.Cells.{HasRoom, Spends, StandsBefore, after_element, cell_of, position_of, skip_from, visible_before};
 ghost use Rattle.rt_store.specs.Cells.{final_cell, put_at, text_of, visible_of, with_state};
 ghost use Rattle.rt_tree.specs.Additions.{stretches};
+ghost use Rattle.rt_tree.specs.Runs.{has};
 ghost use Rattle.rt_tree.specs.Stretches.{made_gone, map_between, marked_cell};
 ghost use Rattle.rt_tree.specs.Trees.{final_run};
 
@@ -62,10 +63,11 @@ fn final_run() -> Run
     }
 }
 
-fn is_same(a: Stamp, b: Stamp) -> bool
-    ensures { result ≡ is_same a b }
+// Whether a stamp is one of a run's cells'.
+fn has(run: Run, stamp: Stamp) -> bool
+    ensures { result ≡ has run stamp }
 {
-    a == b
+    run.site == stamp.site && run.first <= stamp.count && stamp.count - run.first < run.len as u64
 }
 
 // How many of the first cells of a run are visible.
@@ -178,6 +180,23 @@ impl Tree {
         self.cell_at(place).ch
     }
 
+    /// Puts the characters from a place on into a buffer, from its front on: all that the text has
+    /// there, or as many as the buffer holds. Answers how many these are; what is behind them in the
+    /// buffer stays. Takes no memory.
+    pub fn characters(&self, place: usize, buffer: &mut [char]) -> usize
+        ensures count { result ≡ min (length buffer.old) (length (text_of self.now.cells) - place) }
+        ensures characters { take result buffer.new ≡ take result (drop place (text_of self.now.cells)) }
+        ensures rest { drop result buffer.new ≡ drop result buffer.old }
+    {
+        let left = self.visible().saturating_sub(place);
+        let count = left.min(buffer.len());
+        for done in 0..count {
+            let ch = self.char_at(place + done);
+            buffer[done] = ch;
+        }
+        count
+    }
+
     /// The first place of a line, counted from 1.
     pub fn line_start(&self, line: usize) -> usize
         requires { (1 ≤ line) × (line ≤ newlines (text_of self.now.cells)) }
@@ -216,15 +235,19 @@ impl Tree {
         passed(&self.mem, self.root, self.root, position + 1, new)
     }
 
-    // The position of the first cell that has a stamp, by a walk from the first cell on.
+    // The position of the first cell that has a stamp, by a walk from run to run.
     fn seek_stamp(&self, stamp: Stamp) -> Option<usize>
         ensures { result ≡ position_of self.now.cells stamp }
     {
-        for position in 0..self.cells() {
-            let cell = self.nth(position);
-            if is_same(cell.stamp, stamp) {
-                return Some(position);
+        let all = self.cells();
+        let mut at = 0;
+        while at < all {
+            let found = seek(&self.mem, self.root, Measure::Cells, at);
+            let begin = at - found.spot.offset;
+            if has(found.run, stamp) {
+                return Some(begin + (stamp.count - found.run.first) as usize);
             }
+            at = begin + found.run.len as usize;
         }
         None
     }
