@@ -63,7 +63,7 @@ stamp-at gone count site state (c ∷ text) rest (suc at) cell lt is =
     let e : count + 1 + at ≡ count + suc at = omega arith in
     stamp-at gone (count + 1) site state text rest at cell (omega (arith, lt)) is ∙ ap (λ n. stamp n site) e
 
-drop-right : {X : Type 0} (a b : List X) (n k : ℕ) → length a + k ≡ n → drop n (a ++ b) ≡ drop k b
+pub drop-right : {X : Type 0} (a b : List X) (n k : ℕ) → length a + k ≡ n → drop n (a ++ b) ≡ drop k b
 drop-right [] b n k e = let h : n ≡ k = omega arith in ap (λ i. drop i b) h
 drop-right (x ∷ a) b zero k e = absurd (omega arith)
 drop-right (x ∷ a) b (suc n) k e = drop-right a b n k (omega arith)

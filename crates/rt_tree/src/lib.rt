@@ -2,6 +2,7 @@
 #![tactic(auto)]
 
 mod change;
+mod copy;
 mod cut;
 mod find;
 pub mod looks;

@@ -10,6 +10,7 @@ ghost use Rattle.rt_tree.specs.Runs.{has};
 ghost use Rattle.rt_tree.specs.Stretches.{made_gone, map_between, marked_cell};
 ghost use Rattle.rt_tree.specs.Trees.{final_run};
 
+use crate::copy::copy;
 use crate::find::{cell_in, find, height, seek, sum_of};
 use crate::mark::{Mark, mark_cells};
 use crate::node::{Entry, Head, Measure, Mem, Run};
@@ -190,9 +191,14 @@ impl Tree {
     {
         let left = self.visible().saturating_sub(place);
         let count = left.min(buffer.len());
-        for done in 0..count {
-            let ch = self.char_at(place + done);
-            buffer[done] = ch;
+        let mut done = 0;
+        while done < count {
+            let found = seek(&self.mem, self.root, Measure::Visible, place + done);
+            let rest = found.run.len as usize - found.spot.offset;
+            let more = rest.min(count - done);
+            let from = found.run.at as usize + found.spot.offset;
+            copy(&self.text, from, buffer, done, more);
+            done += more;
         }
         count
     }
