@@ -36,3 +36,8 @@ mod Roomier
 mod Following
 mod Joining
 mod Splicing
+mod Passing
+mod Passes
+mod Skipping
+mod Positions
+mod Buffers

@@ -6,6 +6,7 @@ pub mod Stretches
 pub mod Additions
 pub mod Trees
 pub mod Changes
+pub mod Skips
 pub use Rattle.rt_nodes.specs.Nodes
 pub use Rattle.rt_stamps.specs.Places
 pub use Rattle.rt_stamps.specs.Stamps

@@ -1,5 +1,5 @@
 -- Runs, and the cells that they stand for. The characters of all runs stand in one text, which only grows.
-use Rattle.std.specs.Prelude.{◌≡◌, ℕ, ◌+◌, ◌-◌, ◌^◌, ◌<◌, ◌≤◌, Bool, List, length, map, take, drop, flat_map, if◌then◌else◌}
+use Rattle.std.specs.Prelude.{◌≡◌, ℕ, ◌+◌, ◌-◌, ◌^◌, ◌<◌, ◌≤◌, ◌==◌, ◌&&◌, nat_le, nat_lt, Bool, List, length, map, take, drop, flat_map, if◌then◌else◌}
 use Rattle.rt_stamps.specs.declared.stamp.Stamp.{Stamp}
 use Rattle.rt_stamps.specs.Places.{newlines}
 use Rattle.rt_store.specs.declared.cell.Cell.{Cell}
@@ -25,6 +25,10 @@ cells_of text rs = flat_map (run_cells text) rs
 -- the stamp of a run's first cell
 abbrev pub first_stamp : Run → Stamp
 first_stamp r = record { count = r.first; site = r.site }
+
+-- a stamp is that of one of a run's cells
+abbrev pub has : Run → Stamp → Bool
+has r stamp = (r.site == stamp.site) && (nat_le r.first stamp.count && nat_lt (stamp.count - r.first) r.len)
 
 -- What a run keeps to: it has cells, its characters are in the text, its counts are counts; and no character but the last is a
 -- newline, and that one only if the run says so.

@@ -2,6 +2,7 @@
 #![tactic(auto)]
 
 mod change;
+mod copy;
 mod cut;
 mod find;
 pub mod looks;
@@ -10,11 +11,10 @@ pub mod node;
 mod put;
 mod room;
 mod settle;
+mod skip;
 mod splice;
 mod split;
 mod sums;
-#[cfg(test)]
-mod tests;
 mod totals;
 pub mod tree;
 pub mod up;

@@ -21,7 +21,7 @@ fn no_totals() -> Totals
     }
 }
 
-fn least_of(totals: Totals) -> Stamp
+pub(crate) fn least_of(totals: Totals) -> Stamp
     ensures { result ≡ least_of totals }
 {
     Stamp {

@@ -1,18 +1,24 @@
 // The cells of a text in a tree.
-ghost use Rattle.std.specs.Prelude.{◌≡◌, ◌+◌, ◌-◌, ◌*◌, ◌<◌, ◌≤◌, ◌^◌, [], ◌∷◌, length, slice_get, Some, IfOk, IfErr, IsOk, OnOk, OnErr};
+ghost use Rattle.std.specs.Prelude.{◌≡◌, ◌+◌, ◌-◌, ◌*◌, ◌<◌, ◌≤◌, ◌^◌, [], ◌∷◌, length, min, take, drop, take_while, slice_get};
+ghost use Rattle.std.specs.Prelude.{option_map, if◌then◌else◌, Some, IfOk, IfErr, IsOk, OnOk, OnErr};
 ghost use Rattle.rt_stamps.specs.Places.{line_of, line_start, newlines};
-ghost use Rattle.rt_store.specs.Cells.{HasRoom, Spends, final_cell, put_at, text_of, visible_of, with_state};
+ghost use Rattle.rt_stamps.specs.Stamps.{is_before};
+ghost use Rattle.rt_store.specs.Cells.{HasRoom, Spends, StandsBefore, after_element, cell_of, position_of, skip_from, visible_before};
+ghost use Rattle.rt_store.specs.Cells.{final_cell, put_at, text_of, visible_of, with_state};
 ghost use Rattle.rt_tree.specs.Additions.{stretches};
+ghost use Rattle.rt_tree.specs.Runs.{has};
 ghost use Rattle.rt_tree.specs.Stretches.{made_gone, map_between, marked_cell};
 ghost use Rattle.rt_tree.specs.Trees.{final_run};
 
+use crate::copy::copy;
 use crate::find::{cell_in, find, height, seek, sum_of};
 use crate::mark::{Mark, mark_cells};
 use crate::node::{Entry, Head, Measure, Mem, Run};
+use crate::skip::{is_low, passed};
 use crate::splice::{push_characters, put_cells};
 use rt_nodes::{NodeId, NodeMem};
 use rt_stamps::limits::MOST_CELLS;
-use rt_stamps::{FINAL, Fault};
+use rt_stamps::{FINAL, Fault, ROOT, Stamp};
 use rt_store::Cell;
 use rt_tags::StateId;
 use std::alloc::Global;
@@ -56,6 +62,20 @@ fn final_run() -> Run
         gone: false,
         newline: true,
     }
+}
+
+// Whether a stamp is one of a run's cells'.
+fn has(run: Run, stamp: Stamp) -> bool
+    ensures { result ≡ has run stamp }
+{
+    run.site == stamp.site && run.first <= stamp.count && stamp.count - run.first < run.len as u64
+}
+
+// How many of the first cells of a run are visible.
+fn visible_part(run: Run, count: usize) -> usize
+    ensures { result ≡ (if run.gone then 0 else count) }
+{
+    if run.gone { 0 } else { count }
 }
 
 impl Tree {
@@ -161,6 +181,28 @@ impl Tree {
         self.cell_at(place).ch
     }
 
+    /// Puts the characters from a place on into a buffer, from its front on: all that the text has
+    /// there, or as many as the buffer holds. Answers how many these are; what is behind them in the
+    /// buffer stays. Takes no memory.
+    pub fn characters(&self, place: usize, buffer: &mut [char]) -> usize
+        ensures count { result ≡ min (length buffer.old) (length (text_of self.now.cells) - place) }
+        ensures characters { take result buffer.new ≡ take result (drop place (text_of self.now.cells)) }
+        ensures rest { drop result buffer.new ≡ drop result buffer.old }
+    {
+        let left = self.visible().saturating_sub(place);
+        let count = left.min(buffer.len());
+        let mut done = 0;
+        while done < count {
+            let found = seek(&self.mem, self.root, Measure::Visible, place + done);
+            let rest = found.run.len as usize - found.spot.offset;
+            let more = rest.min(count - done);
+            let from = found.run.at as usize + found.spot.offset;
+            copy(&self.text, from, buffer, done, more);
+            done += more;
+        }
+        count
+    }
+
     /// The first place of a line, counted from 1.
     pub fn line_start(&self, line: usize) -> usize
         requires { (1 ≤ line) × (line ≤ newlines (text_of self.now.cells)) }
@@ -184,6 +226,92 @@ impl Tree {
         }
         let found = seek(&self.mem, self.root, Measure::Visible, place);
         found.before.newlines as usize + 1
+    }
+
+    /// The first position from one on whose cell's stamp isn't greater than a new one, or the end. It
+    /// goes past whole subtrees with greater stamps alone.
+    pub fn skip(&self, position: usize, new: Stamp) -> usize
+        requires { position < length self.now.cells }
+        ensures { result ≡ position + length (take_while (λ cell. is_before new cell.stamp) (drop position self.now.cells)) }
+    {
+        let cell = self.nth(position);
+        if is_low(cell.stamp, new) {
+            return position;
+        }
+        passed(&self.mem, self.root, self.root, position + 1, new)
+    }
+
+    // The position of the first cell that has a stamp, by a walk from run to run.
+    fn seek_stamp(&self, stamp: Stamp) -> Option<usize>
+        ensures { result ≡ position_of self.now.cells stamp }
+    {
+        let all = self.cells();
+        let mut at = 0;
+        while at < all {
+            let found = seek(&self.mem, self.root, Measure::Cells, at);
+            let begin = at - found.spot.offset;
+            if has(found.run, stamp) {
+                return Some(begin + (stamp.count - found.run.first) as usize);
+            }
+            at = begin + found.run.len as usize;
+        }
+        None
+    }
+
+    /// The position of the cell of a stamp, gone or not; none if no cell has the stamp.
+    pub fn position_of(&self, stamp: Stamp) -> Option<usize>
+        ensures { result ≡ position_of self.now.cells stamp }
+    {
+        self.seek_stamp(stamp)
+    }
+
+    /// The cell of a stamp, gone or not; none if no cell has the stamp.
+    pub fn cell_of(&self, stamp: Stamp) -> Option<Cell<StateId>>
+        ensures { result ≡ cell_of self.now.cells stamp }
+    {
+        let position = self.position_of(stamp)?;
+        Some(self.nth(position))
+    }
+
+    // How many visible cells stand before a position.
+    fn visible_before(&self, position: usize) -> usize
+        requires { position < length self.now.cells }
+        ensures { result ≡ visible_before self.now.cells position }
+    {
+        let found = seek(&self.mem, self.root, Measure::Cells, position);
+        found.before.visible as usize + visible_part(found.run, found.spot.offset)
+    }
+
+    /// How many visible cells stand before a stamp's cell, which is its place if it is visible; none if
+    /// no cell has the stamp.
+    pub fn place_of(&self, stamp: Stamp) -> Option<usize>
+        ensures { result ≡ option_map (visible_before self.now.cells) (position_of self.now.cells stamp) }
+    {
+        let position = self.position_of(stamp)?;
+        Some(self.visible_before(position))
+    }
+
+    // The position after an element.
+    fn after_element(&self, left: Stamp) -> usize
+        requires { StandsBefore self.now.cells left }
+        ensures { result ≡ after_element self.now.cells left }
+    {
+        self.cells();
+        if left == ROOT {
+            0
+        } else {
+            self.position_of(left).unwrap() + 1
+        }
+    }
+
+    /// The position where a new character goes whose left element is `left`: behind it and past all
+    /// cells directly behind it that have greater stamps.
+    pub fn after_skip(&self, left: Stamp, new: Stamp) -> usize
+        requires { StandsBefore self.now.cells left }
+        ensures { result ≡ skip_from self.now.cells left new }
+    {
+        let after = self.after_element(left);
+        self.skip(after, new)
     }
 
     /// Makes room for new cells and for cuts of runs, and keeps what was there. `NoMemory` changes

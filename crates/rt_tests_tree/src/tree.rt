@@ -1,12 +1,13 @@
+// The cells of texts in a tree, beside those in a list.
 ghost use Rattle.std.specs.Prelude.{◌≡◌, false};
 ghost use Rattle.rt_store.specs.ListStore.{cells_of};
 ghost use Rattle.rt_store.specs.Tagged.{AreStates};
 ghost use Rattle.rt_tags.specs.States.{IsState};
 
-use crate::Tree;
 use rt_stamps::{Fault, ROOT, Span, Stamp};
 use rt_store::{Cell, FINAL_CELL, ListStore, TextStore};
 use rt_tags::{StateId, StateTable};
+use rt_tree::Tree;
 use std::alloc::Global;
 use std::test::Fail;
 
@@ -217,6 +218,38 @@ impl Both {
         }
         true
     }
+
+    // Whether both find the same cell and the same place for the stamp of each cell, and none for one of no cell.
+    fn same_by_stamps(&self) -> bool {
+        for at in 0..self.list.cells() {
+            if !self.same_at(self.list.nth(at).stamp) {
+                return false;
+            }
+        }
+        self.same_at(ROOT)
+    }
+
+    // Whether both find the same cell and the same place for a stamp.
+    fn same_at(&self, stamp: Stamp) -> bool {
+        self.tree.cell_of(stamp) == self.list.cell_of(stamp)
+            && self.tree.place_of(stamp) == self.list.place_of(stamp)
+    }
+
+    // Whether both put the same characters into a buffer, and leave the rest of it.
+    fn same_characters(&self, place: usize) -> bool {
+        let mut ours = ['-'; 4];
+        let mut theirs = ['-'; 4];
+        self.tree.characters(place, &mut ours) == self.list.characters(place, &mut theirs)
+            && ours == theirs
+    }
+
+    // Whether both put a new stamp's cell at the same position, at the very beginning of the text.
+    fn same_skip(&self, new: Stamp) -> bool {
+        if self.tree.cells() == 0 || self.list.cells() == 0 || new.count < 2 {
+            return false;
+        }
+        self.tree.after_skip(ROOT, new) == self.list.after_skip(ROOT, new)
+    }
 }
 
 // With ample memory room is made, and kept.
@@ -270,6 +303,10 @@ fn marking(rt: HostRuntime) -> Result<(), Fail> {
     assert_eq!(rt; both.tree.runs(), 5);
     both.tag(2, 7)?;
     assert!(rt; both.same());
+    assert!(rt; both.same_by_stamps());
+    for place in 0..5 {
+        assert!(rt; both.same_characters(place));
+    }
     Ok(())
 }
 
@@ -305,5 +342,23 @@ fn a_random_series(rt: HostRuntime) -> Result<(), Fail> {
         assert!(rt; both.same());
     }
     assert!(rt; both.tree.height() > 1);
+    Ok(())
+}
+
+// A new stamp goes past the greater ones behind its left element, over many runs, and both stores agree where.
+#[test]
+fn skipping(rt: HostRuntime) -> Result<(), Fail> {
+    let mut both = Both::new(rt.alloc())?;
+    for round in 0..300 {
+        both.put(0, 1000 - round, 1, 'a')?;
+    }
+    assert!(rt; both.tree.height() > 1);
+    for count in 0..30 {
+        let new = Stamp {
+            count: 695 + 10 * count,
+            site: 2,
+        };
+        assert!(rt; both.same_skip(new));
+    }
     Ok(())
 }
