@@ -27,7 +27,7 @@ fn push_cells<S: TextStore>(
 }
 
 /// The visible cells in ranges, in the text's order. Want of memory.
-pub(crate) fn cells_in<S: TextStore>(
+pub fn cells_in<S: TextStore>(
     alloc: Global,
     store: &S,
     ranges: &[Range],

@@ -123,7 +123,7 @@ fn push_stamps(
 /// Texts, each behind the one before it, as their operations: these and the stamps of the characters,
 /// both in turn, the greatest count, and the element behind which further text goes.
 #[derive(Drop)]
-pub(crate) struct Inserts {
+pub struct Inserts {
     pub drafts: Vec<Draft>,
     pub stamps: Vec<Stamp>,
     pub count: u64,
@@ -172,7 +172,7 @@ impl Inserts {
     }
 
     /// Adds a text with some tags. `ClockSpent`, or want of memory.
-    pub(crate) fn push_text(
+    pub fn push_text(
         &mut self,
         alloc: Global,
         site: Site,

@@ -2,13 +2,13 @@
 //! selected characters of a widget.
 #![tactic(auto)]
 
-mod cells;
+pub mod cells;
 mod changes;
 mod counts;
 pub mod drafting;
 pub mod examples;
 pub mod inserting;
-mod inserts;
+pub mod inserts;
 pub mod laws;
 pub mod listing;
 mod lists;

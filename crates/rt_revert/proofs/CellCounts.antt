@@ -33,7 +33,7 @@ length_gone {T} removed place (cell ∷ cells) = by cell.gone (length_gone remov
     by true h k = ap suc h
     by false h k = ap suc k
 
-length_put : {T : Type 0} (cells : List (Cell T)) (left : Stamp) (new : List (Cell T)) → length (put_after cells left new) ≡ length cells + length new
+pub length_put : {T : Type 0} (cells : List (Cell T)) (left : Stamp) (new : List (Cell T)) → length (put_after cells left new) ≡ length cells + length new
 length_put cells left new =
     let at = after_element cells left in
     let rest : length (take at cells ++ new) + length (drop at cells) ≡ length cells + length new =

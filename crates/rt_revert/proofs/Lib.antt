@@ -1,7 +1,9 @@
 pub mod CellCounts
 pub mod Endings
+pub mod PlacesFound
 pub mod Scalars
 pub mod Soundness
 pub mod Stamps
 pub mod Steps
 pub mod TakenBack
+pub mod WorkCells

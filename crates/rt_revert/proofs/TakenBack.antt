@@ -87,7 +87,7 @@ cell_behind (x ∷ pre) cell rest h =
     let p = or_parts (is_same x.stamp cell.stamp) (is_among (stamps_of pre) cell.stamp) h in
     cond-false (is_same x.stamp cell.stamp) (Some x) (cell_of (pre ++ cell ∷ rest) cell.stamp) p.0 ∙ cell_behind pre cell rest p.1
 
-stamp_after_more : (returns : List Return) (r : Return) (s : Stamp) → stamp_after (returns ++ r ∷ []) s ≡ replaced r.former r.newer (stamp_after returns s)
+pub stamp_after_more : (returns : List Return) (r : Return) (s : Stamp) → stamp_after (returns ++ r ∷ []) s ≡ replaced r.former r.newer (stamp_after returns s)
 stamp_after_more [] r s = refl
 stamp_after_more (x ∷ returns) r s = stamp_after_more returns r (replaced x.former x.newer s)
 
@@ -268,7 +268,7 @@ at_tests test places p (c ∷ cs) h =
     let rest = at_tests test places (p + 1) cs (λ k. ap places (omega arith) ∙ h (suc k)) in
     λ i. cond (here i) (c ∷ rest i) (rest i)
 
-still_is : (stamps : List Stamp) (cells : List TaggedCell) → still_visible stamps cells ≡ map as_removed (cells_at (are_at stamps cells) 0 cells)
+pub still_is : (stamps : List Stamp) (cells : List TaggedCell) → still_visible stamps cells ≡ map as_removed (cells_at (are_at stamps cells) 0 cells)
 still_is stamps cells =
     let test : TaggedCell → Bool = λ cell. is_among stamps cell.stamp in
     ap (map as_removed) (sym (chosen_visible (are_at stamps cells) 0 cells ∙ at_tests test (are_at stamps cells) 0 (visible_of cells) (λ k. ap (are_at stamps cells) (omega arith))))

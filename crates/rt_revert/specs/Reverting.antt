@@ -6,10 +6,12 @@ use Rattle.rt_stamps.specs.declared.stamp.Stamp.{Stamp}
 use Rattle.rt_stamps.specs.Words.{Word}
 use Rattle.rt_marks.specs.Marks.{marks_inserted}
 use Rattle.rt_oplog.specs.Operations.{Body}
+use Rattle.rt_store.specs.declared.cell.Cell.{Cell}
 use Rattle.rt_store.specs.Cells.{after_element, cell_of, visible_before, visible_of}
 use Rattle.rt_store.specs.Shown.{TaggedCell}
 use Rattle.rt_store.specs.Spans.{is_among}
 use Rattle.rt_tags.specs.States.{names_on}
+pub use Rattle.rt_revert.specs.declared.plan.Return.{Return}
 use Rattle.rt_edits.specs.Deletions.{without_places}
 use Rattle.rt_edits.specs.Flat.{Flat, logged, put_after}
 use Rattle.rt_edits.specs.InsertionDrafts.{text_drafts}
@@ -19,12 +21,7 @@ use Rattle.rt_undo.specs.Actions.{Action, Removed}
 use Rattle.rt_undo.specs.Renames.{replaced}
 use Rattle.rt_undo.specs.Undo.{with_stamps_in}
 
--- a character that came back: the stamp that it had, and the one that it has now
-pub record Return : Type 0 where
-  pub former : Stamp
-  pub newer : Stamp
-
--- the stamp that a character has after some came back, one after the other
+-- the stamp that a character has after some came back, one after the other, each under a newer stamp than the one that it had
 abbrev pub stamp_after : List Return → Stamp → Stamp
 stamp_after [] s = s
 stamp_after (r ∷ returns) s = stamp_after returns (replaced r.former r.newer s)
@@ -44,7 +41,7 @@ as_it_is flat = record { doc = flat; returns = []; actions = []; drafts = [] }
 -- CHARACTERS THAT GO
 
 -- the character at a place is one of those of some stamps
-abbrev pub are_at : List Stamp → List TaggedCell → ℕ → Bool
+abbrev pub are_at : {T : Type 0} → List Stamp → List (Cell T) → ℕ → Bool
 are_at stamps cells place = unwrap_or (option_map (λ cell. is_among stamps cell.stamp) (slice_get (visible_of cells) place)) false
 
 -- a character as one that is removed, with the tags that it has

@@ -4,3 +4,10 @@
 
 pub mod examples;
 pub mod laws;
+pub mod losses;
+mod lost;
+pub mod plan;
+mod work;
+
+pub use losses::Losses;
+pub use plan::Return;

@@ -78,7 +78,8 @@ impl Renames {
     /// The stamp that a character has now: the last one under which it came back, its own if it never
     /// did.
     pub fn now(&self, stamp: Stamp) -> Stamp
-        ensures { result ≡ now_of self.now stamp }
+        ensures now { result ≡ now_of self.now stamp }
+        ensures newest { is_moved self.now result ≡ false }
     {
         let mut newest = stamp;
         while let Some(step) = self.map.get(newest) {

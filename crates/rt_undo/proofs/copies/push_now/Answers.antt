@@ -9,5 +9,5 @@ loop-count-preserved c =
     let count = c.loop-count.count in
     let span = c.args.span in
     let f = now_of c.args.renames.now in
-    ap (λ l. l ++ map f (stamps_from span.site (count + 1) (span.last + 1 - (count + 1)))) (c.in_ok-push_stamp.ensures.ok ∙ ap (λ s. stamps_in c.loop-count.spans.items ++ s ∷ []) c.now.ensures)
+    ap (λ l. l ++ map f (stamps_from span.site (count + 1) (span.last + 1 - (count + 1)))) (c.in_ok-push_stamp.ensures.ok ∙ ap (λ s. stamps_in c.loop-count.spans.items ++ s ∷ []) c.now.ensures.now)
     ∙ sym (from_step f (stamps_in c.loop-count.spans.items) span.site count span.last (omega arith)) ∙ c.loop-count.invariant
