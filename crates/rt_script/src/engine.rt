@@ -13,11 +13,12 @@ use crate::{Answer, Commands};
 use rt_stamps::limits::{MOST_BYTES, MOST_LINE_BYTES, MOST_READS, PIECE_BYTES};
 use rt_stamps::std_ends::{Count, Writer};
 use rt_stamps::{Fault, Sink, Source, is_blank, read_piece, write_all};
-use rt_words::words::words;
+use rt_words::Spare;
+use rt_words::words::words_in;
 use std::alloc::Global;
 use std::marker::Brand;
-use std::str;
 use std::sync::ledger::{Blank, Ledger};
+use std::{mem, str};
 
 /// How a run ended.
 #[derive(Drop)]
@@ -32,6 +33,42 @@ pub struct Ended<C: Drop> {
 // The most bytes that are kept of a line. One that has more can't be read, even if its last byte
 // is a carriage return.
 const MOST_KEPT_BYTES: usize = MOST_LINE_BYTES + 2;
+
+// How many bytes of memory are kept for the lines of answers.
+const MOST_ANSWER_BYTES: usize = 4_096;
+
+// Memory that is kept from line to line: of words, and of an answer's line. What is kept shows nowhere.
+#[derive(Drop)]
+struct Memory {
+    words: Spare,
+    answer: Vec<u8>,
+}
+
+impl Memory {
+    // None yet.
+    fn new(alloc: Global) -> Memory {
+        Memory {
+            words: Spare::new(alloc),
+            answer: Vec::new(alloc),
+        }
+    }
+
+    // That of an answer's line, without a byte.
+    fn answer(&mut self, alloc: Global) -> Vec<u8>
+        ensures { result.items ≡ [] }
+    {
+        let mut line = mem::replace(&mut self.answer, Vec::new(alloc));
+        line.clear();
+        line
+    }
+
+    // Keeps that of an answer's line.
+    fn keep_answer(&mut self, line: Vec<u8>) {
+        if line.capacity() <= MOST_ANSWER_BYTES {
+            self.answer = line;
+        }
+    }
+}
 
 // A line without a carriage return at its end.
 fn without_return(line: &[u8]) -> &[u8]
@@ -70,17 +107,26 @@ fn is_silent(line: &[u8]) -> bool
 }
 
 // What the words of a line are answered.
-fn answer_text<C: Commands>(alloc: Global, site: &mut C, text: &str) -> Answer
+fn answer_text<C: Commands>(alloc: Global, spare: &mut Spare, site: &mut C, text: &str) -> Answer
     ensures { is_readable text.now ≡ true → LineGives C.gives (C.state site.old) text.now result (C.state site.new) }
 {
-    match words(alloc, text) {
-        Ok(words) => site.run_words(&words),
+    match words_in(alloc, spare, text) {
+        Ok(words) => {
+            let answer = site.run_words(&words);
+            spare.keep(words);
+            answer
+        }
         Err(fault) => Answer::Refused(fault),
     }
 }
 
 // What a line is answered, unless it is a silent one.
-fn answer_line<C: Commands>(alloc: Global, site: &mut C, line: &[u8]) -> Option<Answer>
+fn answer_line<C: Commands>(
+    alloc: Global,
+    spare: &mut Spare,
+    site: &mut C,
+    line: &[u8],
+) -> Option<Answer>
     ensures answered { IfSome result (λ answer. (is_readable line.now && is_silent line.now ≡ false)
         × LineGives C.gives (C.state site.old) line.now answer (C.state site.new)) }
     ensures silent { result ≡ None → (is_readable line.now && is_silent line.now ≡ true) × (C.state site.new ≡ C.state site.old) }
@@ -92,23 +138,24 @@ fn answer_line<C: Commands>(alloc: Global, site: &mut C, line: &[u8]) -> Option<
     if is_silent(line) {
         None
     } else {
-        Some(answer_text(alloc, site, text))
+        Some(answer_text(alloc, spare, site, text))
     }
 }
 
-// The line of an answer, in memory.
+// The line of an answer, in memory that has no byte yet.
 fn rendered<A: Ledger, B: Ledger>(
-    alloc: Global,
+    empty: Vec<u8>,
     answer: &Answer,
     writes: Blank,
     failures: Blank,
 ) -> Option<Vec<u8>>
+    requires empty { empty.items ≡ [] }
     requires writes { (writes.name ≡ A.name) × (writes.parts ≡ A.parts) × (0 < A.parts) }
     requires failures { (failures.name ≡ B.name) × (failures.parts ≡ B.parts) × (0 < B.parts) }
     ensures { IfSome result (λ line. line.items ≡ reply_line answer.now) }
 {
     let mut line = Writer::new(
-        Vec::new(alloc),
+        empty,
         Count::<A>::begin(writes),
         Count::<B>::begin(failures),
     );
@@ -119,13 +166,23 @@ fn rendered<A: Ledger, B: Ledger>(
 }
 
 // Writes the line of an answer, in one write where there is memory for it.
-fn write_answer<W: Sink>(alloc: Global, answer: &Answer, out: &mut W) -> Result<(), Fault>
+fn write_answer<W: Sink>(
+    alloc: Global,
+    memory: &mut Memory,
+    answer: &Answer,
+    out: &mut W,
+) -> Result<(), Fault>
     ensures wrote { Wrote (W.contents out.old) (W.contents out.new) result (reply_line answer.now) }
     ensures fault { IfErr result (λ fault. fault ≡ Fault.WriteFault) }
     ensures failures { W.failures out.new ≡ W.failures out.old + failures_of result }
 {
-    match rendered::<Brand, Brand>(alloc, answer, Blank::new(1), Blank::new(1)) {
-        Some(line) => write_all(out, &line),
+    let empty = memory.answer(alloc);
+    match rendered::<Brand, Brand>(empty, answer, Blank::new(1), Blank::new(1)) {
+        Some(line) => {
+            let written = write_all(out, &line);
+            memory.keep_answer(line);
+            written
+        }
         None => reply_line(answer, out),
     }
 }
@@ -133,6 +190,7 @@ fn write_answer<W: Sink>(alloc: Global, answer: &Answer, out: &mut W) -> Result<
 // Runs a line, and writes the line of its answer.
 fn run_line<C: Commands, W: Sink>(
     alloc: Global,
+    memory: &mut Memory,
     site: &mut C,
     line: &[u8],
     out: &mut W,
@@ -141,8 +199,8 @@ fn run_line<C: Commands, W: Sink>(
     ensures fault { IfErr result (λ fault. fault ≡ Fault.WriteFault) }
     ensures failures { W.failures out.new ≡ W.failures out.old + failures_of result }
 {
-    match answer_line(alloc, site, line) {
-        Some(answer) => write_answer(alloc, &answer, out),
+    match answer_line(alloc, &mut memory.words, site, line) {
+        Some(answer) => write_answer(alloc, memory, &answer, out),
         None => Ok(()),
     }
 }
@@ -163,6 +221,7 @@ fn keep(pending: &mut Vec<u8>, byte: u8) -> Result<(), Fault>
 // the piece goes on with.
 fn feed<C: Commands, W: Sink>(
     alloc: Global,
+    memory: &mut Memory,
     site: &mut C,
     pending: &mut Vec<u8>,
     piece: &[u8],
@@ -177,7 +236,7 @@ fn feed<C: Commands, W: Sink>(
 {
     for byte in piece {
         if *byte == b'\n' {
-            run_line(alloc, site, without_return(pending), out)?;
+            run_line(alloc, memory, site, without_return(pending), out)?;
             pending.clear();
         } else {
             keep(pending, *byte)?;
@@ -189,6 +248,7 @@ fn feed<C: Commands, W: Sink>(
 // Runs what follows the last newline, if there is anything.
 fn finish<C: Commands, W: Sink>(
     alloc: Global,
+    memory: &mut Memory,
     site: &mut C,
     pending: &[u8],
     out: &mut W,
@@ -201,7 +261,7 @@ fn finish<C: Commands, W: Sink>(
     if pending.is_empty() {
         return Ok(());
     }
-    run_line(alloc, site, pending, out)
+    run_line(alloc, memory, site, pending, out)
 }
 
 /// Runs a script, and writes the line of each answer.
@@ -230,6 +290,7 @@ pub fn run_lines<C: Commands + Drop, R: Source, W: Sink>(
         (record { calls = W.calls out.new; failures = W.failures out.new; bytes = W.contents out.new })
         result.fault }
 {
+    let mut memory = Memory::new(alloc);
     let mut pending = Vec::new(alloc);
     let mut buf = [0u8; PIECE_BYTES];
     let mut room = MOST_BYTES;
@@ -239,13 +300,13 @@ pub fn run_lines<C: Commands + Drop, R: Source, W: Sink>(
             Err(_) => return stopped(site, Fault::ReadFault),
         };
         if n == 0 {
-            let fault = finish(alloc, &mut site, &pending, out).err();
+            let fault = finish(alloc, &mut memory, &mut site, &pending, out).err();
             return Ended { site, fault };
         }
         if room == 0 {
             return stopped(site, Fault::ReadFault);
         }
-        match feed(alloc, &mut site, &mut pending, &buf[..n], out) {
+        match feed(alloc, &mut memory, &mut site, &mut pending, &buf[..n], out) {
             Ok(()) => {}
             Err(fault) => return stopped(site, fault),
         }

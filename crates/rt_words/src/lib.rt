@@ -2,4 +2,7 @@
 #![tactic(auto)]
 
 pub mod laws;
+pub mod spare;
 pub mod words;
+
+pub use spare::Spare;

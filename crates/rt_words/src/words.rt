@@ -5,6 +5,7 @@ ghost use Rattle.rt_stamps.specs.Words.{EndsWord, Spells, SpellsBy, SpellsList, 
 ghost use Rattle.rt_words.specs.FirstWord.{BeginsWith, ClosesAt, IsFirstWord, HasNoFirstWord, IsQuotedFront, HasNoQuotedFront, IsBracedFront, HasNoBracedFront, is_plain};
 ghost use Rattle.rt_words.specs.Separators.{separates};
 
+use crate::Spare;
 use rt_stamps::{Fault, is_blank};
 use std::alloc::Global;
 
@@ -15,7 +16,17 @@ pub fn words(alloc: Global, line: &str) -> Result<Vec<String>, Fault>
     ensures quoting { result ≡ Err Fault.BadQuoting → IsBadlyQuoted line.now }
     ensures fault { IfErr result (λ fault. (fault ≡ Fault.NoMemory) ⊎ (fault ≡ Fault.BadQuoting)) }
 {
-    words_by(alloc, Separators::OfLine, line)
+    words_in(alloc, &mut Spare::new(alloc), line)
+}
+
+/// The same, in memory that words of former lines had. `BadQuoting` where the line spells no words,
+/// `NoMemory` where they can't be stored.
+pub fn words_in(alloc: Global, spare: &mut Spare, line: &str) -> Result<Vec<String>, Fault>
+    ensures ok { IfOk result (λ words. Spells line.now (map (λ w. string_bytes w) words.items)) }
+    ensures quoting { result ≡ Err Fault.BadQuoting → IsBadlyQuoted line.now }
+    ensures fault { IfErr result (λ fault. (fault ≡ Fault.NoMemory) ⊎ (fault ≡ Fault.BadQuoting)) }
+{
+    words_by(alloc, spare, Separators::OfLine, line)
 }
 
 /// The words of a list, as of tags: those of a line, but that newlines stand between them too.
@@ -25,7 +36,7 @@ pub fn list_words(alloc: Global, list: &str) -> Result<Vec<String>, Fault>
     ensures quoting { result ≡ Err Fault.BadQuoting → IsBadlyQuotedList list.now }
     ensures fault { IfErr result (λ fault. (fault ≡ Fault.NoMemory) ⊎ (fault ≡ Fault.BadQuoting)) }
 {
-    words_by(alloc, Separators::OfList, list)
+    words_by(alloc, &mut Spare::new(alloc), Separators::OfList, list)
 }
 
 // What separates words: spaces and tabs in a line, and newlines too in a list.
@@ -48,16 +59,21 @@ impl Separators {
 }
 
 // The words of a text, with separators between them.
-fn words_by(alloc: Global, separators: Separators, text: &str) -> Result<Vec<String>, Fault>
+fn words_by(
+    alloc: Global,
+    spare: &mut Spare,
+    separators: Separators,
+    text: &str,
+) -> Result<Vec<String>, Fault>
     ensures ok { IfOk result (λ words. SpellsBy (separates separators) text.now (map (λ w. string_bytes w) words.items)) }
     ensures quoting { result ≡ Err Fault.BadQuoting → IsBadlyQuotedBy (separates separators) text.now }
     ensures fault { IfErr result (λ fault. (fault ≡ Fault.NoMemory) ⊎ (fault ≡ Fault.BadQuoting)) }
 {
     let bytes = text.as_bytes();
-    let mut words = Vec::new(alloc);
+    let mut words = spare.list(alloc);
     let mut start = gap_len(separators, bytes);
     while start < bytes.len() {
-        let first = first_word(alloc, separators, &text[start..])?;
+        let first = first_word(alloc, spare, separators, &text[start..])?;
         words.push(first.word)?;
         let end = start + first.len;
         start = end + gap_len(separators, &bytes[end..]);
@@ -73,7 +89,12 @@ struct Front {
 }
 
 // The word at the front of a text, which begins with no separator.
-fn first_word(alloc: Global, separators: Separators, text: &str) -> Result<Front, Fault>
+fn first_word(
+    alloc: Global,
+    spare: &mut Spare,
+    separators: Separators,
+    text: &str,
+) -> Result<Front, Fault>
     requires some { 0 < length text.now }
     requires dark { separates separators (slice_index text.now 0) ≡ false }
     ensures ok { IfOk result (λ front. IsFirstWord (separates separators) text.now front.len (string_bytes front.word)) }
@@ -84,7 +105,7 @@ fn first_word(alloc: Global, separators: Separators, text: &str) -> Result<Front
     match bytes[0] {
         b'"' => ended(separators, bytes, quoted_word(alloc, text)?),
         b'{' => ended(separators, bytes, braced_word(alloc, text)?),
-        _ => bare_word(alloc, separators, text),
+        _ => bare_word(alloc, spare, separators, text),
     }
 }
 
@@ -171,7 +192,12 @@ fn closing_brace(text: &[u8]) -> Option<usize>
 }
 
 // The bare word at the front of a text.
-fn bare_word(alloc: Global, separators: Separators, text: &str) -> Result<Front, Fault>
+fn bare_word(
+    alloc: Global,
+    spare: &mut Spare,
+    separators: Separators,
+    text: &str,
+) -> Result<Front, Fault>
     requires some { 0 < length text.now }
     requires dark { separates separators (slice_index text.now 0) ≡ false }
     requires quote { slice_index text.now 0 ≢ 34 }
@@ -180,7 +206,8 @@ fn bare_word(alloc: Global, separators: Separators, text: &str) -> Result<Front,
     ensures fault { IfErr result (λ fault. fault ≡ Fault.NoMemory) }
 {
     let len = bare_len(separators, text.as_bytes());
-    let word = String::from_str(alloc, &text[..len])?;
+    let mut word = spare.word(alloc);
+    word.push_str(&text[..len])?;
     Ok(Front { word, len })
 }
 

@@ -11,7 +11,7 @@ use Rattle.rt_words.proofs.words.words_by.Goals as goal
 
 pub loop-start-init : goal.loop-start-init
 loop-start-init c =
-    rw c.new-words.ensures.items (begun (separates c.args.separators) (separating c.args.separators) c.args.text.now c.gap_len-start.result c.utf8.text (c.gap_len-start.ensures ∙ ap (prefix_len (separates c.args.separators)) c.as_bytes-bytes.ensures.value))
+    rw c.list-words.ensures (begun (separates c.args.separators) (separating c.args.separators) c.args.text.now c.gap_len-start.result c.utf8.text (c.gap_len-start.ensures ∙ ap (prefix_len (separates c.args.separators)) c.as_bytes-bytes.ensures.value))
 
 pub returns-in_err-first-clause-quoting : goal.returns-in_err-first-clause-quoting
 returns-in_err-first-clause-quoting c e =
