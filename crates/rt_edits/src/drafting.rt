@@ -46,7 +46,11 @@ fn holds(ranges: &[Range], place: usize) -> bool
 }
 
 /// The Deletes of the characters in ranges of the text, which may hold its last newline. Want of memory.
-pub fn removals<S: TextStore>(alloc: Global, store: &S, removed: &[Range]) -> Result<Vec<Draft>, Fault>
+pub fn removals<S: TextStore>(
+    alloc: Global,
+    store: &S,
+    removed: &[Range],
+) -> Result<Vec<Draft>, Fault>
     requires distinct { AreDistinct (S.list store.now) }
     requires order { AreInOrder 0 removed.now }
     requires within { All (λ range. range.to ≤ length (visible_of (S.list store.now))) removed.now }
