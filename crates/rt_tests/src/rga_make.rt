@@ -7,6 +7,8 @@ ghost use Rattle.rt_oplog.specs.Operations.{Delete, Insert, Tag};
 ghost use Rattle.rt_rga.specs.Requests.{MayBeMade};
 
 use rt_oplog::{Op, Text};
+use rt_revert::Losses;
+use rt_revert::losses::planned_losses;
 use rt_rga::{Draft, Replica, Taken};
 use rt_stamps::{Fault, ROOT, Site, Span, Stamp};
 use rt_store::{ListStore, TextStore};
@@ -225,6 +227,26 @@ fn several_drafts(rt: HostRuntime) -> Result<(), Fail> {
         assert!(rt; matches!(other.replica.accept(op)?, Taken::New(_)));
     }
     assert_several(&rt, &other)
+}
+
+// What goes of some characters.
+fn losses_of(own: &Own, stamps: &[Stamp]) -> Result<Losses, Fault> {
+    let replica = &own.replica;
+    let _ = replica.log();
+    planned_losses(own.alloc, replica.store(), replica.states(), stamps)
+}
+
+#[test]
+fn what_goes_of_an_insertion(rt: HostRuntime) -> Result<(), Fail> {
+    let mut own = Own::new(rt.alloc(), 4)?;
+    let _ops = make_several(&mut own)?;
+    let stamps = [3, 2, 1].map(|count| Stamp { count, site: 1 });
+    let losses = losses_of(&own, &stamps)?;
+    assert_eq!(rt; losses.drafts.len(), 1);
+    assert_eq!(rt; losses.removed.len(), 2);
+    assert_eq!(rt; losses.removed[0].span, span(1, 1, 1));
+    assert_eq!(rt; losses.removed[1].span, span(1, 3, 3));
+    Ok(())
 }
 
 const MOST: u64 = (1 << 48) - 1;

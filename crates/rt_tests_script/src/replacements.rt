@@ -47,7 +47,7 @@ pub(crate) const REPLACEMENTS: &[&[(&str, &str)]] = &[
 ];
 
 // On a site of four characters, tombstones and the final newline included.
-pub(crate) const FULL: &[(&str, &str)] = &[
+pub(crate) const FULL_SITE: &[(&str, &str)] = &[
     (".t insert 1.0 abc", "="),
     (".t replace 1.0 1.1 x", "! 18 TextFull"),
     (".t get 1.0 end", "= \"abc\\n\""),

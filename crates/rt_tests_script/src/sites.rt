@@ -3,7 +3,7 @@ ghost use Rattle.std.specs.Prelude.{◌≡◌, ◌<◌, ◌≤◌};
 ghost use Rattle.rt_script.specs.Site.{AreWithin};
 
 use crate::marks::{INDICES, MARK_ORDER, MARK_PLACES, MARK_WORDS};
-use crate::replacements::{DUMPS, FULL, REPLACEMENTS};
+use crate::replacements::{DUMPS, FULL_SITE, REPLACEMENTS};
 use crate::searches::SEARCHES;
 use crate::tags::{TAG_COMMANDS, TAG_REFUSALS, TAG_WRITES, TAGGED_TEXT};
 use crate::texts::{DELETIONS, RANGES, TEXTS};
@@ -178,7 +178,7 @@ fn scripts_of_replacements(rt: HostRuntime) -> Result<(), Fail> {
 #[test]
 fn a_full_site_replaces_nothing(rt: HostRuntime) -> Result<(), Fail> {
     let state = new_site(rt.alloc(), 1, 4)?;
-    let _site = answered(&rt, rt.alloc(), state, &[], FULL, 4096)?;
+    let _site = answered(&rt, rt.alloc(), state, &[], FULL_SITE, 4096)?;
     Ok(())
 }
 
