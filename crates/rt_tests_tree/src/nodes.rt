@@ -1,7 +1,8 @@
+// Memory of nodes, by its public calls.
 ghost use Rattle.std.specs.Prelude.{◌≡◌, ◌+◌, ◌<◌, ◌≤◌, length};
 ghost use Rattle.rt_nodes.specs.Nodes.{IsNode, entries};
 
-use crate::{NodeId, NodeMem};
+use rt_nodes::{NodeId, NodeMem};
 use rt_stamps::Fault;
 use std::alloc::Global;
 use std::collections::BTreeMap;
