@@ -26,4 +26,6 @@ mod tags_table;
 #[cfg(test)]
 mod undo;
 #[cfg(test)]
+mod undo_requests;
+#[cfg(test)]
 mod words;
