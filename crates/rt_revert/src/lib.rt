@@ -7,7 +7,8 @@ pub mod laws;
 pub mod losses;
 mod lost;
 pub mod plan;
+mod progress;
 mod work;
 
 pub use losses::Losses;
-pub use plan::Return;
+pub use plan::{Return, Reversal, TextChange};
