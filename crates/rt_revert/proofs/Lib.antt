@@ -1,9 +1,13 @@
+pub mod Alike
 pub mod CellCounts
 pub mod Endings
 pub mod PlacesFound
+pub mod Rest
+pub mod Returned
 pub mod Scalars
 pub mod Soundness
 pub mod Stamps
 pub mod Steps
 pub mod TakenBack
+pub mod Went
 pub mod WorkCells

@@ -3,11 +3,14 @@
 #![tactic(auto)]
 
 pub mod examples;
+mod going;
 pub mod laws;
 pub mod losses;
 mod lost;
 pub mod plan;
 mod progress;
+mod returning;
+mod reverting;
 mod work;
 
 pub use losses::Losses;
