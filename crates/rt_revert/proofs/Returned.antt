@@ -17,7 +17,7 @@ use Rattle.rt_oplog.specs.Edits.{body_of}
 use Rattle.rt_oplog.specs.Rules.{is_name}
 use Rattle.rt_marks.specs.Marks.{marks_inserted}
 use Rattle.rt_store.specs.declared.cell.Cell.{Cell}
-use Rattle.rt_store.specs.Cells.{AreDistinct, EndsFinal, IsPlaced, after_element, map_state, position_of, skip_from, stamps_of, visible_before, visible_of}
+use Rattle.rt_store.specs.Cells.{AreDistinct, EndsFinal, IsPlaced, after_element, cell_of, map_state, position_of, skip_from, stamps_of, visible_before, visible_of}
 use Rattle.rt_store.specs.Shown.{TaggedCell, shown}
 use Rattle.rt_store.specs.Spans.{is_among}
 use Rattle.rt_store.specs.Written.{AreBelowNext, IsBelowNext}
@@ -35,15 +35,15 @@ use Rattle.rt_edits.specs.Insertions.{all_listed, counts_for, new_state, tagged_
 use Rattle.rt_edits.proofs.CellLaws.{skip_from_newest}
 use Rattle.rt_edits.proofs.LastNames.{Rise, new_names, rise_to, sorted_filter}
 use Rattle.rt_edits.proofs.PlanLaws.{all_append}
-use Rattle.rt_undo.specs.Actions.{group_of}
+use Rattle.rt_undo.specs.Actions.{Removed, group_of}
 use Rattle.rt_undo.specs.Renames.{is_moved, now_of, replaced}
 use Rattle.rt_revert.specs.declared.plan.Return.{Return}
 use Rattle.rt_revert.specs.declared.plan.TextChange.TheVariants.{Inserted}
 use Rattle.rt_revert.specs.declared.progress.Progress.{Progress}
 use Rattle.rt_revert.specs.Plans.{AreGiven, AreUpTo, IsChange, IsUpTo, marks_after, named_group}
 use Rattle.rt_revert.specs.Progress.{IsCopy, IsGoing, IsOther, IsSoFar, LookAlike, with_names}
-use Rattle.rt_revert.specs.Reverting.{Reversion, stamp_after, with_character}
-use Rattle.rt_revert.proofs.Alike.{alike_place, alike_put, place_shown, put_shown}
+use Rattle.rt_revert.specs.Reverting.{Reversion, stamp_after, with_character, with_return}
+use Rattle.rt_revert.proofs.Alike.{alike_character, alike_place, alike_put, character, character_shown, place_shown, put_shown}
 use Rattle.rt_revert.proofs.Stamps.{site_apart}
 use Rattle.rt_revert.proofs.TakenBack.{stamp_after_more}
 use Rattle.rt_revert.proofs.Went.{after_more}
@@ -175,7 +175,7 @@ module _ (site : ℕ) (table : TagStates) (old new : List (Cell ℕ)) (before af
   abbrev this : Cell ℕ
   this = new_of site before cell
 
-  fresh : 0 < site → IsCopy table old before.texts.count → is_among (stamps_of old) this.stamp ≡ false
+  pub fresh : 0 < site → IsCopy table old before.texts.count → is_among (stamps_of old) this.stamp ≡ false
   fresh p k = new_apart before.texts.count (before.texts.count + 1) site old (all_below before.texts.count old k.older) (omega arith) p
 
   pub came_copy : Came site table old new before after cell place words → IsThere table old cell → IsCopy table old before.texts.count → IsCopy table new after.texts.count
@@ -248,3 +248,24 @@ module _ (site : ℕ) (table : TagStates) (old new : List (Cell ℕ)) (before af
 
   pub goes_directly : IsCopy table old before.texts.count → skip_from old cell.stamp this.stamp ≡ after_element old cell.stamp
   goes_directly k = skip_from_newest before.texts.count old cell.stamp this.stamp refl (all_below before.texts.count old k.older)
+
+-- a stamp that is newer than all hasn't moved
+pub unmoved : (table : TagStates) (plan : Progress) (s : Stamp) → IsGoing table plan → plan.texts.count < s.count → is_moved plan.renames s ≡ false
+unmoved table plan s g lt = split (is_moved plan.renames s) (λ e. absurd (omega (arith, g.moved s e, lt))) (λ e. e)
+
+-- A CHARACTER THAT MAY BE THERE
+
+brought : (whole : ℕ → Reversion) (r : Reversion) (o : Option TaggedCell) → unwrap_or (option_map (λ (cell : TaggedCell). whole cell.ch) o) r ≡ unwrap_or (option_map whole (character o)) r
+brought whole r None = refl
+brought whole r (Some cell) = refl
+
+pub return_is : (table : TagStates) (site : ℕ) (old : List (Cell ℕ)) (plan : Progress) (flat : Flat) (r : Reversion) (removed : Removed (List Word)) (s : Stamp) (o : Option (Cell ℕ))
+    → IsSoFar table site old plan flat r → stamp_after plan.returns.items removed.stamp ≡ s → cell_of old s ≡ o
+    → with_return removed r ≡ unwrap_or (option_map (λ ch. with_character s removed.tags ch r) (character o)) r
+return_is table site old plan flat r removed s o h e f =
+    let all : List TaggedCell = map (shown table) old in
+    let same : stamp_after r.returns removed.stamp ≡ s = ap (λ l. stamp_after l removed.stamp) h.returns ∙ e in
+    let theirs : character (cell_of r.doc.cells s) ≡ character o = sym (alike_character all r.doc.cells s h.cells) ∙ character_shown (state_at table) old s ∙ ap character f in
+    ap (λ t. unwrap_or (option_map (λ (cell : TaggedCell). with_character t removed.tags cell.ch r) (cell_of r.doc.cells t)) r) same
+    ∙ brought (λ ch. with_character s removed.tags ch r) r (cell_of r.doc.cells s)
+    ∙ ap (λ o. unwrap_or (option_map (λ ch. with_character s removed.tags ch r) o) r) theirs
