@@ -1,7 +1,9 @@
+pub mod Acted
 pub mod Alike
 pub mod CellCounts
 pub mod Endings
 pub mod PlacesFound
+pub mod Reaching
 pub mod Rest
 pub mod Returned
 pub mod Scalars

@@ -2,8 +2,10 @@
 //! text manual, "The undo mechanism"). The definitions stand in `specs/Reverting.antt`.
 #![tactic(auto)]
 
+mod copying;
 pub mod examples;
 mod going;
+pub mod group;
 pub mod laws;
 pub mod losses;
 mod lost;
@@ -13,5 +15,6 @@ mod returning;
 mod reverting;
 mod work;
 
+pub use group::planned_reversion_in;
 pub use losses::Losses;
 pub use plan::{Return, Reversal, TextChange};

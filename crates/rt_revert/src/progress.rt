@@ -1,20 +1,22 @@
 // What reverting actions has come to.
-ghost use Rattle.std.specs.Prelude.{◌≡◌, ℕ, ◌⊎◌, ◌+◌, ◌<◌, ◌≤◌, ◌++◌, ◌∷◌, [], ◌||◌, false, IfErr, OnOk, length, map, string_bytes};
+ghost use Rattle.std.specs.Prelude.{◌≡◌, ℕ, ◌⊎◌, ◌+◌, ◌<◌, ◌≤◌, ◌++◌, ◌∷◌, [], ◌||◌, false, IfErr, IfOk, OnOk, length, map, string_bytes};
 ghost use Rattle.rt_stamps.specs.declared.limits.TheConstants.{GREATEST_COUNT, MOST_CHARACTERS};
 ghost use Rattle.rt_stamps.specs.declared.stamp.Stamp.{Stamp};
 ghost use Rattle.rt_stamps.specs.Stamps.{is_same};
 ghost use Rattle.rt_oplog.specs.Edits.{body_of};
 ghost use Rattle.rt_edits.specs.InsertionDrafts.{text_drafts};
 ghost use Rattle.rt_edits.specs.Insertions.{counts_for};
+ghost use Rattle.rt_undo.specs.Actions.{group_of};
 ghost use Rattle.rt_undo.specs.Renames.{is_moved, now_of, replaced};
+ghost use Rattle.rt_undo.specs.Undo.{with_stamps_in};
 
-use crate::plan::{Return, TextChange};
+use crate::plan::{Return, Reversal, TextChange};
 use rt_edits::Range;
 use rt_edits::inserts::Inserts;
 use rt_rga::Draft;
 use rt_stamps::limits::GREATEST_COUNT;
 use rt_stamps::{Fault, ROOT, Site, Span, Stamp};
-use rt_undo::{Action, Renames};
+use rt_undo::{Action, Renames, group_now};
 use std::alloc::Global;
 
 /// What reverting actions has come to: the operations with the greatest count, the stamps that
@@ -141,5 +143,24 @@ impl Progress {
         };
         self.renames.rename(span, newer);
         Ok(())
+    }
+
+    /// The plan that this is. Want of memory.
+    pub(crate) fn done(self, alloc: Global) -> Result<Reversal, Fault>
+        ensures drafts { IfOk result (λ plan. plan.drafts.items ≡ self.texts.drafts.items) }
+        ensures names { IfOk result (λ plan. plan.names.items ≡ self.names.items) }
+        ensures changes { IfOk result (λ plan. plan.changes.items ≡ self.changes.items) }
+        ensures returns { IfOk result (λ plan. plan.returns.items ≡ self.returns.items) }
+        ensures actions { IfOk result (λ plan. group_of plan.actions.items ≡ with_stamps_in (now_of self.renames) (group_of self.actions.items)) }
+        ensures err { IfErr result (λ fault. fault ≡ Fault.NoMemory) }
+    {
+        let actions = group_now(alloc, &self.renames, &self.actions)?;
+        Ok(Reversal {
+            drafts: self.texts.drafts,
+            names: self.names,
+            changes: self.changes,
+            returns: self.returns,
+            actions,
+        })
     }
 }

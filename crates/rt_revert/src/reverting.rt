@@ -1,5 +1,5 @@
 // Actions that are reverted in the working copy of a text.
-ghost use Rattle.std.specs.Prelude.{◌≡◌, ◌++◌, ◌⊎◌, ◌<◌, IfErr, IfOk, OnOk, map, reverse};
+ghost use Rattle.std.specs.Prelude.{◌≡◌, ◌++◌, ◌⊎◌, ◌<◌, IfErr, IfOk, OnOk, drop, map, reverse};
 ghost use Rattle.rt_stamps.specs.declared.limits.TheConstants.{GREATEST_COUNT};
 ghost use Rattle.rt_oplog.specs.Operations.{stamps_in, stamps_of_span};
 ghost use Rattle.rt_edits.specs.Flat.{Flat};
@@ -59,6 +59,13 @@ fn spans_back(alloc: Global, returns: &[Return]) -> Result<Vec<Span>, Fault>
     Ok(spans)
 }
 
+// The characters that came back after so many others.
+fn since(returns: &[Return], before: usize) -> &[Return]
+    ensures { result.now ≡ drop before returns.now }
+{
+    returns.split_at(returns.len().min(before)).1
+}
+
 // An action is reverted. `ClockSpent`, or want of memory.
 fn revert<S: TextStore>(
     alloc: Global,
@@ -84,7 +91,7 @@ fn revert<S: TextStore>(
     let before = plan.returns.len();
     let removed = take_out(alloc, kept, copy, &stamps, plan)?;
     bring_all_back(alloc, site, kept, copy, &action.removed, plan)?;
-    let inserted = spans_back(alloc, &plan.returns[before..])?;
+    let inserted = spans_back(alloc, since(&plan.returns, before))?;
     plan.actions.push(Action {
         number: action.number,
         kind: action.kind,
