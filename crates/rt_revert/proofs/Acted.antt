@@ -82,7 +82,7 @@ module _ (table : TagStates) (number : ℕ) (old : List (Cell ℕ)) (before : Pr
       ∙ ap (map (named_action table)) (sym (map-append action_of late.actions.items (made ∷ [])))
       ∙ ap (λ l. named_group table (group_of l)) (sym pushed) in
       let ours : IsSoFar table number new (record late { actions = acts }) flat (record back {
-        actions = r.actions ++ entry (map (λ (x : Return). x.newer) (drop (length r.returns) back.returns)) (still_visible stamps r.doc.cells) ∷ []
+        actions = r.actions ++ entry (map (λ (x : Return). x.newer) (drop (length r.returns) back.returns)) (still_visible stamps r.doc.cells) ∷ [];
       }) = record {
         cells = k.cells;
         site = k.site;
@@ -94,7 +94,7 @@ module _ (table : TagStates) (number : ℕ) (old : List (Cell ℕ)) (before : Pr
         tags = k.tags;
       } in
       subst (λ (ss : List Stamp). IsSoFar table number new (record late { actions = acts }) flat (record (with_returns removed (with_gone ss r)) {
-        actions = r.actions ++ entry (map (λ (x : Return). x.newer) (drop (length r.returns) (with_returns removed (with_gone ss r)).returns)) (still_visible ss r.doc.cells) ∷ []
+        actions = r.actions ++ entry (map (λ (x : Return). x.newer) (drop (length r.returns) (with_returns removed (with_gone ss r)).returns)) (still_visible ss r.doc.cells) ∷ [];
       })) (theirs h e) ours
 
 -- GROUPS
@@ -112,7 +112,9 @@ action_sound table (x ∷ group) (suc i) a lt e h = action_sound table group i a
 one_more : (group : List KeptAction) (i : ℕ) (a : KeptAction) → i < length group → a ≡ get_or group i a → take (i + 1) group ≡ take i group ++ a ∷ []
 one_more [] i a lt e = absurd (omega arith)
 one_more (x ∷ group) zero a lt e = ap (λ b. b ∷ []) (sym e)
-one_more (x ∷ group) (suc i) a lt e = ap (λ l. x ∷ l) (one_more group i a (omega arith) e)
+one_more (x ∷ group) (suc i) a lt e =
+    let n : suc i + 1 ≡ suc (i + 1) = omega arith in
+    ap (λ k. take k (x ∷ group)) n ∙ ap (λ l. x ∷ l) (one_more group i a (omega arith) e)
 
 turned : {X : Type 0} (xs : List X) (x : X) → reverse (xs ++ x ∷ []) ≡ x ∷ reverse xs
 turned [] x = reverse-cons x []

@@ -1,7 +1,9 @@
 pub mod Acted
 pub mod Alike
 pub mod CellCounts
+pub mod Copied
 pub mod Endings
+pub mod Grouped
 pub mod PlacesFound
 pub mod Reaching
 pub mod Rest

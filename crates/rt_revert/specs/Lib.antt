@@ -1,5 +1,6 @@
 pub mod Examples
 pub mod Planning
+pub mod PlannedGroups
 pub mod Plans
 pub mod Progress
 pub mod ReversionLaws

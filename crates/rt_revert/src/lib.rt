@@ -15,6 +15,6 @@ mod returning;
 mod reverting;
 mod work;
 
-pub use group::planned_reversion_in;
+pub use group::{planned_reversion, planned_reversion_in};
 pub use losses::Losses;
 pub use plan::{Return, Reversal, TextChange};

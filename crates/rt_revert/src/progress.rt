@@ -154,12 +154,26 @@ impl Progress {
         ensures actions { IfOk result (λ plan. group_of plan.actions.items ≡ with_stamps_in (now_of self.renames) (group_of self.actions.items)) }
         ensures err { IfErr result (λ fault. fault ≡ Fault.NoMemory) }
     {
-        let actions = group_now(alloc, &self.renames, &self.actions)?;
+        let Progress {
+            texts,
+            renames,
+            names,
+            changes,
+            returns,
+            actions,
+        } = self;
+        let Inserts {
+            drafts,
+            stamps: _,
+            count: _,
+            behind: _,
+        } = texts;
+        let actions = group_now(alloc, &renames, &actions)?;
         Ok(Reversal {
-            drafts: self.texts.drafts,
-            names: self.names,
-            changes: self.changes,
-            returns: self.returns,
+            drafts,
+            names,
+            changes,
+            returns,
             actions,
         })
     }

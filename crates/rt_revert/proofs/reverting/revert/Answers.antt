@@ -68,5 +68,5 @@ returns-clause-so_far g c flat r s =
     (c.in_ok-bring_all_back.ensures.so_far flat (with_gone stamps r) (c.in_ok-removed.ensures.so_far number flat r s)))
     (c.in_ok-bring_all_back.ensures.actions ∙ c.in_ok-removed.ensures.actions)
     c.in_ok-push.ensures.items
-    (c.in_ok-inserted.ensures.ok ∙ ap (map (λ (x : Return). x.newer)) (c.since.ensures ∙ (λ i. drop (c.len-before.ensures i) (c.deref-4.ensures.value i))))
+    (c.in_ok-inserted.ensures.ok ∙ ap (map (λ (x : Return). x.newer)) (c.since.ensures ∙ (λ i. drop ((c.len-before.ensures ∙ c.args.plan.now.returns.ok.0) i) (c.deref-4.ensures.value i))))
     (c.in_ok-removed.ensures.removed number flat r s)
