@@ -1,10 +1,9 @@
 -- A reverted action, in the working copy as in the document.
-use Rattle.std.proofs.Common.{◌≡◌, ◌∙◌, ℕ, zero, suc, ◌+◌, ◌<◌, false, List, [], ◌∷◌, ◌++◌, drop, get_or, length, map, refl, sym, ap, subst, arith, take}
+use Rattle.std.proofs.Common.{◌≡◌, ◌∙◌, ℕ, zero, suc, ◌+◌, ◌<◌, false, List, [], ◌∷◌, ◌++◌, drop, get_or, length, map, sym, ap, subst, arith, take}
 use Rattle.std.specs.Prelude.{reverse}
 use Rattle.std.specs.declared.alloc.Global.{Global}
 use Rattle.std.specs.declared.vec.Vec.{Vec}
 use Rattle.std.proofs.lemmas.List.{map-append}
-use Rattle.std.specs.List.{AllByRecursion}
 use mathlib.Core.List.{reverse-cons}
 use Rattle.rt_stamps.specs.declared.limits.TheConstants.{GREATEST_COUNT}
 use Rattle.rt_stamps.specs.declared.stamp.Span.{Span}
@@ -14,7 +13,7 @@ use Rattle.rt_stamps.specs.Words.{Word}
 use Rattle.rt_oplog.specs.Operations.{stamps_in}
 use Rattle.rt_store.specs.declared.cell.Cell.{Cell}
 use Rattle.rt_store.specs.Spans.{is_among}
-use Rattle.rt_tags.specs.States.{KeepsIds, TagStates, names_on}
+use Rattle.rt_tags.specs.States.{TagStates}
 use Rattle.rt_edits.specs.Flat.{Flat}
 use Rattle.rt_undo.specs.declared.action.Action.{Action as KeptAction}
 use Rattle.rt_undo.specs.declared.action.RemovedSpan.{RemovedSpan}
@@ -26,7 +25,6 @@ use Rattle.rt_revert.specs.Plans.{AreGiven, RemovedAreGiven, named_action, named
 use Rattle.rt_revert.specs.Progress.{IsGoing, IsSoFar}
 use Rattle.rt_revert.specs.Reverting.{Reversion, stamp_after, still_visible, with_gone, with_returns, with_reverted}
 use Rattle.rt_revert.specs.ReversionLaws.{AreSound, IsSound}
-use Rattle.rt_revert.proofs.Rest.{next_left}
 use Rattle.rt_revert.proofs.Stamps.{all_apart}
 use Rattle.rt_revert.proofs.Steps.{returns_grow}
 

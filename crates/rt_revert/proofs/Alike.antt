@@ -1,5 +1,5 @@
 -- Cells that look alike: what reverting asks of them is the same.
-use Rattle.std.proofs.Common.{◌≡◌, ◌∙◌, ℕ, zero, suc, ◌+◌, Bool, true, false, List, [], ◌∷◌, ◌++◌, cond, drop, filter, length, map, refl, sym, ap, take, Option, Some, None}
+use Rattle.std.proofs.Common.{◌≡◌, ◌∙◌, ℕ, zero, suc, ◌+◌, Bool, true, false, List, [], ◌∷◌, ◌++◌, cond, drop, length, map, refl, sym, ap, take, Option, Some, None}
 use Rattle.std.specs.Prelude.{option_map}
 use Rattle.rt_stamps.specs.declared.limits.TheConstants.{MOST_SPANS}
 use Rattle.rt_stamps.specs.declared.stamp.Stamp.{Stamp}
@@ -7,10 +7,10 @@ use Rattle.rt_stamps.specs.Stamps.{is_same}
 use Rattle.rt_stamps.specs.Words.{Word}
 use Rattle.rt_oplog.specs.Operations.{Delete}
 use Rattle.rt_store.specs.declared.cell.Cell.{Cell}
-use Rattle.rt_store.specs.Cells.{after_element, cell_of, map_state, stamps_of, visible_before, visible_of}
-use Rattle.rt_store.specs.Shown.{TaggedCell, shown}
-use Rattle.rt_store.proofs.Shown.{after_shown, length_shown, map_append, stamps_shown, visible_shown}
-use Rattle.rt_tags.specs.States.{TagStates, names_on, state_at}
+use Rattle.rt_store.specs.Cells.{after_element, cell_of, map_state, visible_before, visible_of}
+use Rattle.rt_store.specs.Shown.{TaggedCell}
+use Rattle.rt_store.proofs.Shown.{after_shown, length_shown, map_append, visible_shown}
+use Rattle.rt_tags.specs.States.{names_on}
 use Rattle.rt_edits.specs.Flat.{put_after}
 use Rattle.rt_edits.specs.NamedSpans.{parts_of, spans_in}
 use Rattle.rt_edits.specs.RemovalDrafts.{removal_drafts}

@@ -1,27 +1,26 @@
 -- Characters come back into the working copy of a text as they do into the document.
-use Rattle.std.proofs.Common.{All, ◌≡◌, ◌∙◌, ℕ, zero, suc, ◌+◌, ◌<◌, ◌≤◌, ◌⊎◌, inl, inr, Bool, true, false, not, List, [], ◌∷◌, ◌++◌, ◌||◌, ◌&&◌, cond, drop, filter, get_or, length, map, refl, sym, ap, subst, append_assoc, arith, length-append, length-take, take, take-append-drop, Option, Some, None}
+use Rattle.std.proofs.Common.{All, ◌≡◌, ◌∙◌, ℕ, zero, suc, ◌+◌, ◌<◌, ◌≤◌, ◌⊎◌, inl, inr, Bool, true, false, List, [], ◌∷◌, ◌++◌, ◌||◌, cond, drop, filter, get_or, length, map, refl, sym, ap, subst, append_assoc, arith, length-take, take, take-append-drop, Option, Some, None}
 use Rattle.std.specs.Prelude.{option_map, string_bytes, unwrap_or}
-use Rattle.std.proofs.lemmas.Bool.{and_from, or_from, or_left, or_parts, or_right}
+use Rattle.std.proofs.lemmas.Bool.{and_from, or_from, or_parts}
 use Rattle.std.proofs.lemmas.Bool.Decides.{nat_tests}
-use Rattle.std.proofs.lemmas.List.{map-append}
 use Rattle.std.proofs.lemmas.List.Elements.{All-append, All-drop, All-tail, All-take}
-use Rattle.std.proofs.lemmas.List.Folds.{list_all-append, list_any-append}
-use Rattle.std.specs.List.{AllByRecursion, IsDistinct, list_all}
+use Rattle.std.proofs.lemmas.List.Folds.{list_all-append}
+use Rattle.std.specs.List.{AllByRecursion, list_all}
 use Rattle.rt_stamps.specs.declared.limits.TheConstants.{GREATEST_COUNT, MOST_CELLS, MOST_CHARACTERS}
 use Rattle.rt_stamps.specs.declared.stamp.Stamp.{Stamp}
-use Rattle.rt_stamps.specs.declared.stamp.TheConstants.{FINAL, ROOT}
-use Rattle.rt_stamps.specs.Stamps.{is_before, is_same}
+use Rattle.rt_stamps.specs.declared.stamp.TheConstants.{FINAL}
+use Rattle.rt_stamps.specs.Stamps.{is_same}
 use Rattle.rt_stamps.specs.Words.{Word}
 use Rattle.rt_stamps.proofs.Order.{same_from_true, same_refl, same_sym}
 use Rattle.rt_oplog.specs.Edits.{body_of}
 use Rattle.rt_oplog.specs.Rules.{is_name}
 use Rattle.rt_marks.specs.Marks.{marks_inserted}
 use Rattle.rt_store.specs.declared.cell.Cell.{Cell}
-use Rattle.rt_store.specs.Cells.{AreDistinct, EndsFinal, IsPlaced, after_element, cell_of, map_state, position_of, skip_from, stamps_of, visible_before, visible_of}
+use Rattle.rt_store.specs.Cells.{AreDistinct, EndsFinal, IsPlaced, after_element, cell_of, position_of, skip_from, stamps_of, visible_before, visible_of}
 use Rattle.rt_store.specs.Shown.{TaggedCell, shown}
 use Rattle.rt_store.specs.Spans.{is_among}
 use Rattle.rt_store.specs.Written.{AreBelowNext, IsBelowNext}
-use Rattle.rt_store.proofs.Distinct.{differs, distinct_more, first_apart, new_apart, others_distinct, split}
+use Rattle.rt_store.proofs.Distinct.{distinct_more, first_apart, new_apart, others_distinct, split}
 use Rattle.rt_store.proofs.GivenStates.{one_state, spliced_states}
 use Rattle.rt_store.proofs.Nearest.{position_cons}
 use Rattle.rt_store.proofs.Places.{placed}
@@ -37,11 +36,10 @@ use Rattle.rt_edits.proofs.LastNames.{Rise, new_names, rise_to, sorted_filter}
 use Rattle.rt_edits.proofs.PlanLaws.{all_append}
 use Rattle.rt_undo.specs.Actions.{Removed, group_of}
 use Rattle.rt_undo.specs.Renames.{is_moved, now_of, replaced}
-use Rattle.rt_revert.specs.declared.plan.Return.{Return}
 use Rattle.rt_revert.specs.declared.plan.TextChange.TheVariants.{Inserted}
 use Rattle.rt_revert.specs.declared.progress.Progress.{Progress}
 use Rattle.rt_revert.specs.Plans.{AreGiven, AreUpTo, IsChange, IsUpTo, marks_after, named_group}
-use Rattle.rt_revert.specs.Progress.{IsCopy, IsGoing, IsOther, IsSoFar, LookAlike, with_names}
+use Rattle.rt_revert.specs.Progress.{IsCopy, IsGoing, IsOther, IsSoFar, LookAlike}
 use Rattle.rt_revert.specs.Reverting.{Reversion, stamp_after, with_character, with_return}
 use Rattle.rt_revert.proofs.Alike.{alike_character, alike_place, alike_put, character, character_shown, place_shown, put_shown}
 use Rattle.rt_revert.proofs.Stamps.{site_apart}

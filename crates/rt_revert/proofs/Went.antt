@@ -1,6 +1,6 @@
 -- Characters go from the working copy of a text as they do from the document.
-use Rattle.std.proofs.Common.{All, ◌≡◌, ◌∙◌, ℕ, ◌+◌, ◌<◌, ◌≤◌, ◌⊎◌, Bool, true, false, List, [], ◌∷◌, ◌++◌, ◌||◌, cond, filter, get_or, length, map, refl, sym, ap, subst, arith, length-append}
-use Rattle.std.proofs.lemmas.Bool.{or_from, or_parts}
+use Rattle.std.proofs.Common.{All, ◌≡◌, ◌∙◌, ℕ, ◌+◌, ◌≤◌, Bool, true, false, List, [], ◌∷◌, ◌++◌, ◌||◌, cond, filter, get_or, length, map, refl, sym, ap, subst, arith}
+use Rattle.std.proofs.lemmas.Bool.{or_from}
 use Rattle.std.proofs.lemmas.List.{length-map, map-append}
 use Rattle.std.proofs.lemmas.List.Elements.{All-map}
 use Rattle.std.proofs.lemmas.List.Folds.{list_any-append}
@@ -12,10 +12,9 @@ use Rattle.rt_stamps.specs.declared.stamp.Span.{Span}
 use Rattle.rt_stamps.specs.declared.stamp.Stamp.{Stamp}
 use Rattle.rt_stamps.specs.declared.stamp.TheConstants.{FINAL}
 use Rattle.rt_stamps.specs.Stamps.{is_same}
-use Rattle.rt_stamps.specs.Words.{Word}
 use Rattle.rt_stamps.proofs.Order.{same_sym}
 use Rattle.rt_oplog.specs.Edits.{body_of}
-use Rattle.rt_oplog.specs.Operations.{Body, Delete, stamps_of_span}
+use Rattle.rt_oplog.specs.Operations.{Delete, stamps_of_span}
 use Rattle.rt_marks.specs.Marks.{Mark, marks_left}
 use Rattle.rt_store.specs.declared.cell.Cell.{Cell}
 use Rattle.rt_store.specs.Cells.{stamps_of, visible_of}

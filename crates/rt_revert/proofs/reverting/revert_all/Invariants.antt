@@ -1,8 +1,8 @@
-use Rattle.std.proofs.Common.{◌≡◌, ◌≤◌, length, map, take}
+use Rattle.std.proofs.Common.{◌≤◌, length, take}
 use Rattle.std.specs.Prelude.{reverse}
 use Rattle.rt_edits.specs.Flat.{Flat}
 use Rattle.rt_undo.specs.Actions.{group_of}
-use Rattle.rt_revert.specs.Plans.{AreGiven, named_group}
+use Rattle.rt_revert.specs.Plans.{named_group}
 use Rattle.rt_revert.specs.Progress.{IsCopy, IsGoing, IsSoFar, Reaches}
 use Rattle.rt_revert.specs.Reverting.{Reversion, with_each_reverted}
 use Rattle.rt_revert.proofs.reverting.revert_all.Given as goal
