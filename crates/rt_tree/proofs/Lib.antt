@@ -29,12 +29,15 @@ mod Fills
 mod Spare
 mod Puts
 mod Edges
+mod Apart
 mod Pieces
+mod Walking
 mod Cutting
 mod Marking
 mod Roomier
 mod Following
 mod Joining
+mod Shared
 mod Splicing
 mod Passing
 mod Passes

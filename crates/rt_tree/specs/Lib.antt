@@ -3,6 +3,7 @@ pub mod Sums
 pub mod Shape
 pub mod Walks
 pub mod Stretches
+pub mod Sharing
 pub mod Additions
 pub mod Trees
 pub mod Changes
