@@ -44,3 +44,4 @@ mod Passes
 mod Skipping
 mod Positions
 mod Buffers
+mod Tagging

@@ -6,6 +6,7 @@ pub mod Stretches
 pub mod Sharing
 pub mod Additions
 pub mod Trees
+pub mod Stores
 pub mod Changes
 pub mod Skips
 pub use Rattle.rt_nodes.specs.Nodes

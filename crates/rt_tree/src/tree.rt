@@ -5,6 +5,8 @@ ghost use Rattle.rt_stamps.specs.Places.{line_of, line_start, newlines};
 ghost use Rattle.rt_stamps.specs.Stamps.{is_before};
 ghost use Rattle.rt_store.specs.Cells.{AreDistinct, HasRoom, Spends, StandsBefore, after_element, cell_of, position_of, skip_from, visible_before};
 ghost use Rattle.rt_store.specs.Cells.{final_cell, gone_in, put_at, state_in, text_of, visible_of};
+ghost use Rattle.rt_store.specs.Tagged.{AreStates, next_place, next_tagged, next_untagged, previous_tagged, tag_is};
+ghost use Rattle.rt_tags.specs.States.{IsTag};
 ghost use Rattle.rt_tree.specs.Additions.{stretches};
 ghost use Rattle.rt_tree.specs.Sharing.{cell_in};
 ghost use Rattle.rt_tree.specs.Trees.{final_run};
@@ -15,11 +17,12 @@ use crate::mark::{Mark, mark_span};
 use crate::node::{Entry, Head, Measure, Mem, Run};
 use crate::skip::{is_low, passed};
 use crate::splice::{push_characters, put_cells};
+use crate::tagged::tag_is;
 use rt_nodes::{NodeId, NodeMem};
 use rt_stamps::limits::MOST_CELLS;
 use rt_stamps::{FINAL, Fault, ROOT, Span, Stamp};
 use rt_store::Cell;
-use rt_tags::StateId;
+use rt_tags::{StateId, StateTable, TagId};
 use std::alloc::Global;
 use std::marker::Model;
 
@@ -304,6 +307,65 @@ impl Tree {
     {
         let after = self.after_element(left);
         self.skip(after, new)
+    }
+
+    // The least place from one up whose character has a tag, or hasn't it, by a walk from run to run.
+    fn next_place(
+        &self,
+        states: &StateTable,
+        tag: TagId,
+        on: bool,
+        place: usize,
+    ) -> Option<usize>
+        requires tag { IsTag states.now tag }
+        requires states { AreStates states.now self.now.cells }
+        ensures { result ≡ next_place (tag_is states.now tag on) (visible_of self.now.cells) place }
+    {
+        let all = self.visible();
+        let mut at = place;
+        while at < all {
+            let found = seek(&self.mem, self.root, Measure::Visible, at);
+            if tag_is(states, tag, on, &found.run) {
+                return Some(at);
+            }
+            at += found.run.len as usize - found.spot.offset;
+        }
+        None
+    }
+
+    /// The least place from one up whose character has a tag; none if there is none.
+    pub fn next_tagged(&self, states: &StateTable, tag: TagId, place: usize) -> Option<usize>
+        requires tag { IsTag states.now tag }
+        requires states { AreStates states.now self.now.cells }
+        ensures { result ≡ next_tagged states.now tag self.now.cells place }
+    {
+        self.next_place(states, tag, true, place)
+    }
+
+    /// The least place from one up whose character hasn't a tag; none if there is none.
+    pub fn next_untagged(&self, states: &StateTable, tag: TagId, place: usize) -> Option<usize>
+        requires tag { IsTag states.now tag }
+        requires states { AreStates states.now self.now.cells }
+        ensures { result ≡ next_untagged states.now tag self.now.cells place }
+    {
+        self.next_place(states, tag, false, place)
+    }
+
+    /// The greatest place below one whose character has a tag; none if there is none.
+    pub fn previous_tagged(&self, states: &StateTable, tag: TagId, place: usize) -> Option<usize>
+        requires tag { IsTag states.now tag }
+        requires states { AreStates states.now self.now.cells }
+        ensures { result ≡ previous_tagged states.now tag self.now.cells place }
+    {
+        let mut at = place.min(self.visible());
+        while at > 0 {
+            let found = seek(&self.mem, self.root, Measure::Visible, at - 1);
+            if tag_is(states, tag, true, &found.run) {
+                return Some(at - 1);
+            }
+            at -= found.spot.offset + 1;
+        }
+        None
     }
 
     /// Makes room for new cells and for cuts of runs, and keeps what was there. `NoMemory` changes
