@@ -2,4 +2,6 @@
 #![tactic(auto)]
 
 #[cfg(test)]
+mod stores;
+#[cfg(test)]
 mod tree;
