@@ -194,7 +194,9 @@ impl Pair {
         let state = self.tagged;
         let a = cell(count, site, 'e', state);
         let b = cell(count + 1, site, 'f', state);
-        self.put(random, &[a, b, a, b])
+        let c = cell(count, site, 'g', state);
+        let d = cell(count + 1, site, 'h', state);
+        self.put(random, &[a, b, c, d])
     }
 
     fn remove(&mut self, span: Span) -> Result<(), Fault> {
