@@ -4,4 +4,6 @@
 #[cfg(test)]
 mod nodes;
 #[cfg(test)]
+mod stores;
+#[cfg(test)]
 mod tree;
