@@ -1,0 +1,4 @@
+pub mod Naming
+pub mod Recordings
+pub mod Seen
+pub mod Own
