@@ -1,3 +1,4 @@
 pub mod Named
 pub mod Removals
 pub mod Relisted
+pub mod Renamed

@@ -13,14 +13,15 @@ use Rattle.rt_undo.specs.Renames.{Shown, is_moved}
 use Rattle.rt_undo.specs.Undo.{History}
 
 -- What a site has recorded: the actions by groups, with the names of tags; the widget's options -undo and -autoseparators; the
--- characters that the next action takes away, if that is prepared; which characters came back under other stamps; and the
--- states that the tags of planned actions stand for.
+-- characters that the next action takes away, if that is prepared; which characters came back under other stamps, with the room
+-- for more; whether there is room for a group that is undone or redone; and the states that the tags of planned actions stand for.
 pub record Recording : Type 0 where
   pub history : History (List Word)
   pub undo : Bool
   pub auto : Bool
   pub pending : Option (List (Removed (List Word)))
   pub moves : Shown Move
+  pub ready : Bool
   pub table : TagStates
 
 -- the character of a stamp came back under another one
@@ -35,3 +36,6 @@ made kind span removed = record { number = span.first; kind = kind; inserted = s
 pub record HasStayed (back : Stamp → Bool) (action : Action (List Word)) : Type 0 where
   pub inserted : AllByRecursion (λ stamp. back stamp ≡ false) action.inserted
   pub removed : AllByRecursion (λ r. back r.stamp ≡ false) action.removed
+
+abbrev pub HaveStayed : (Stamp → Bool) → List (Action (List Word)) → Type 0
+HaveStayed back group = AllByRecursion (HasStayed back) group

@@ -15,6 +15,7 @@ shown s = record {
   auto = s.auto_separators;
   pending = option_map (λ next. map (named_removed s.table) (removed_in next.removed.items)) s.next;
   moves = s.stacks.moves;
+  ready = s.stacks.ready;
   table = s.table;
 }
 

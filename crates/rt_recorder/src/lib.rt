@@ -3,6 +3,7 @@
 //! `specs/Recordings.antt`.
 #![tactic(auto)]
 
+mod coming;
 mod own;
 pub mod recorder;
 

@@ -1,16 +1,18 @@
 // What a site records of its own edits.
-ghost use Rattle.std.specs.Prelude.{◌≡◌, ◌↔◌, ◌⊎◌, Bool, true, false, None, Some, Err, map, is_some, if◌then◌else◌, IfErr, IfOk, IfSome, OnErr, OnOk};
+ghost use Rattle.std.specs.Prelude.{◌≡◌, ◌↔◌, ◌⊎◌, ◌^◌, ◌<◌, ◌≤◌, Bool, true, false, None, Some, Err, length, map, is_some, if◌then◌else◌, IfErr, IfOk, IfSome, OnErr, OnOk};
 ghost use Rattle.rt_stamps.specs.declared.stamp.Stamp.{Stamp};
 ghost use Rattle.rt_revert.specs.Reverting.{as_removed};
 ghost use Rattle.rt_store.specs.Shown.{shown};
 ghost use Rattle.rt_store.specs.Tagged.{AreStates};
 ghost use Rattle.rt_tags.specs.States.{KeepsIds};
 ghost use Rattle.rt_undo.specs.Actions.{group_of};
-ghost use Rattle.rt_undo.specs.Undo.{added, emptied, forced_on, is_modified, next_redo, next_undo, no_history, separated, unmodified};
+ghost use Rattle.rt_undo.specs.Undo.{added, emptied, forced_on, is_modified, next_redo, next_undo, no_history, redo_done, renamed_by, separated, undo_done, unmodified};
 ghost use Rattle.rt_recorder.specs.Naming.{AreGiven, named_group};
-ghost use Rattle.rt_recorder.specs.Recordings.{HasStayed, came_back, made};
+ghost use Rattle.rt_recorder.specs.Recordings.{HasStayed, HaveStayed, came_back, made};
+ghost use Rattle.rt_recorder.specs.Returns.{AreReturns, back_after, stamp_after};
 
-use crate::own;
+use crate::{coming, own};
+use rt_revert::Return;
 use rt_stamps::{Fault, Site, Span};
 use rt_store::Cell;
 use rt_tags::{StateId, StateTable};
@@ -162,7 +164,10 @@ impl Recorder {
     /// Places a separator: the next action begins a group ("edit separator"). Nothing is prepared then.
     /// It takes no memory.
     pub fn separate(&mut self)
-        ensures { self.new ≡ record self.old { history = separated self.old.history; pending = None } }
+        ensures history { self.new.history ≡ separated self.old.history }
+        ensures settings { (self.new.undo ≡ self.old.undo) × (self.new.auto ≡ self.old.auto) }
+        ensures pending { self.new.pending ≡ None }
+        ensures others { (self.new.moves ≡ self.old.moves) × (self.new.table ≡ self.old.table) }
     {
         self.next = None;
         self.stacks.separate();
@@ -234,5 +239,62 @@ impl Recorder {
         ensures fault { IfErr result (λ fault. (fault ≡ Fault.NothingToRedo) ⊎ (fault ≡ Fault.NoMemory)) }
     {
         self.stacks.redo()
+    }
+
+    /// Makes room for one `undone` or `redone`, and for so many characters that come back by it. After
+    /// `NoMemory` all is as it was.
+    pub fn begin(&mut self, returns: usize) -> Result<(), Fault>
+        requires { returns < 2 ^ 32 }
+        ensures room { OnOk result ((self.new.ready ≡ true) × (returns ≤ self.new.moves.room)) }
+        ensures history { self.new.history ≡ self.old.history }
+        ensures settings { (self.new.undo ≡ self.old.undo) × (self.new.auto ≡ self.old.auto) }
+        ensures came_back { (stamp : Stamp) → came_back self.new stamp ≡ came_back self.old stamp }
+        ensures others { (self.new.pending ≡ self.old.pending) × (self.new.table ≡ self.old.table) }
+        ensures err { OnErr result (self.new ≡ self.old) }
+        ensures fault { IfErr result (λ fault. fault ≡ Fault.NoMemory) }
+    {
+        self.stacks.reserve(returns)
+    }
+
+    /// The group to undo was reverted, and characters came back by it, one after the other: it leaves its
+    /// stack, and its reverted actions are the next group to redo. Nothing is prepared then. It takes no
+    /// memory.
+    pub fn undone(&mut self, returns: &[Return], reverted: Vec<Action>)
+        requires ready { self.old.ready ≡ true }
+        requires room { length returns.now ≤ self.old.moves.room }
+        requires some { is_some (next_undo self.old.history) ≡ true }
+        requires returns { AreReturns (came_back self.old) returns.now }
+        requires given { AreGiven self.old.table (group_of reverted.items) }
+        requires stay { HaveStayed (back_after returns.now (came_back self.old)) (named_group self.old.table (group_of reverted.items)) }
+        ensures history { self.new.history ≡ undo_done (named_group self.old.table (group_of reverted.items))
+            (renamed_by (stamp_after returns.now) self.old.history) }
+        ensures came_back { (stamp : Stamp) → came_back self.new stamp ≡ back_after returns.now (came_back self.old) stamp }
+        ensures settings { (self.new.undo ≡ self.old.undo) × (self.new.auto ≡ self.old.auto) }
+        ensures others { (self.new.pending ≡ None) × (self.new.table ≡ self.old.table) }
+    {
+        self.next = None;
+        coming::bring_back(&mut self.stacks, returns);
+        self.stacks.undone(reverted);
+    }
+
+    /// The group to redo was reverted, and characters came back by it, one after the other: it leaves its
+    /// stack, and its reverted actions are the next group to undo, which is closed. Nothing is prepared
+    /// then. It takes no memory.
+    pub fn redone(&mut self, returns: &[Return], reverted: Vec<Action>)
+        requires ready { self.old.ready ≡ true }
+        requires room { length returns.now ≤ self.old.moves.room }
+        requires some { is_some (next_redo self.old.history) ≡ true }
+        requires returns { AreReturns (came_back self.old) returns.now }
+        requires given { AreGiven self.old.table (group_of reverted.items) }
+        requires stay { HaveStayed (back_after returns.now (came_back self.old)) (named_group self.old.table (group_of reverted.items)) }
+        ensures history { self.new.history ≡ redo_done (named_group self.old.table (group_of reverted.items))
+            (renamed_by (stamp_after returns.now) self.old.history) }
+        ensures came_back { (stamp : Stamp) → came_back self.new stamp ≡ back_after returns.now (came_back self.old) stamp }
+        ensures settings { (self.new.undo ≡ self.old.undo) × (self.new.auto ≡ self.old.auto) }
+        ensures others { (self.new.pending ≡ None) × (self.new.table ≡ self.old.table) }
+    {
+        self.next = None;
+        coming::bring_back(&mut self.stacks, returns);
+        self.stacks.redone(reverted);
     }
 }

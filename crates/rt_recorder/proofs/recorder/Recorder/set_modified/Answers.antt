@@ -19,6 +19,7 @@ returns-clause-ok c =
     (λ e. (λ i. record (shown s) {
       history = (ap (named_history s.table) e ∙ set_named s.table on h) i;
       moves = c.set_modified.ensures.others.0 i;
+      ready = c.set_modified.ensures.others.1 i;
     })
     ∙ ap (λ (v : Recording). record v { history = if on then forced_on v.history else unmodified v.history }) c.self.view_is)
     c.set_modified.ensures.ok
