@@ -1,0 +1,4 @@
+pub mod Named
+pub mod Removals
+pub mod Relisted
+pub mod Renamed

@@ -1,0 +1,5 @@
+pub mod Naming
+pub mod Recordings
+pub mod Seen
+pub mod Own
+pub mod Returns
