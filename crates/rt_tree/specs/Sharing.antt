@@ -82,3 +82,13 @@ occurrences stamp cells = length (filter (λ cell. is_same cell.stamp stamp) cel
 -- no two cells have one stamp, those of two lists together
 abbrev pub AreOnce : List (Cell ℕ) → List (Cell ℕ) → Type 0
 AreOnce old new = (stamp : Stamp) → occurrences stamp old + occurrences stamp new ≤ 1
+
+-- no cell has a greater count
+abbrev pub AreUpTo : ℕ → List (Cell ℕ) → Type 0
+AreUpTo newest cells = AllByRecursion (λ cell. cell.stamp.count ≤ newest) cells
+
+-- runs as they should be in some text, with no cell of a greater count
+pub record AreKnown (newest : ℕ) (rs : List Run) : Type 0 where
+  pub text : List ℕ
+  pub kept : AllByRecursion (IsRun text) rs
+  pub upto : AreUpTo newest (cells_of text rs)
