@@ -43,7 +43,7 @@ pub record IsRecut (old new : List Run) : Type 0 where
   pub apart : AreApart old → AreApart new
   pub begins : (stamp : Stamp) → AllByRecursion (BeginsAt stamp) old → AllByRecursion (BeginsAt stamp) new
 
--- a run is cut in two so many cells before a position
+-- the run that a position is within, so many cells behind its beginning, is cut in two there
 abbrev pub AreParts : List Run → List Run → ℕ → Type 0
 AreParts old new at = (left right : List Run) (run : Run) (k : ℕ) → old ≡ left ++ run ∷ right → (counts_of left).cells + k ≡ at → 0 < k → k < run.len
     → new ≡ left ++ front_of k run ∷ back_of k run ∷ right
