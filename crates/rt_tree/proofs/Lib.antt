@@ -38,6 +38,7 @@ mod Roomier
 mod Following
 mod Joining
 mod Shared
+mod Newest
 mod Splicing
 mod Passing
 mod Passes

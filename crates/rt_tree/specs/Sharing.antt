@@ -43,7 +43,7 @@ pub record IsRecut (old new : List Run) : Type 0 where
   pub apart : AreApart old → AreApart new
   pub begins : (stamp : Stamp) → AllByRecursion (BeginsAt stamp) old → AllByRecursion (BeginsAt stamp) new
 
--- a run is cut in two so many cells before a position
+-- the run that a position is within, so many cells behind its beginning, is cut in two there
 abbrev pub AreParts : List Run → List Run → ℕ → Type 0
 AreParts old new at = (left right : List Run) (run : Run) (k : ℕ) → old ≡ left ++ run ∷ right → (counts_of left).cells + k ≡ at → 0 < k → k < run.len
     → new ≡ left ++ front_of k run ∷ back_of k run ∷ right
@@ -82,3 +82,13 @@ occurrences stamp cells = length (filter (λ cell. is_same cell.stamp stamp) cel
 -- no two cells have one stamp, those of two lists together
 abbrev pub AreOnce : List (Cell ℕ) → List (Cell ℕ) → Type 0
 AreOnce old new = (stamp : Stamp) → occurrences stamp old + occurrences stamp new ≤ 1
+
+-- no cell has a greater count
+abbrev pub AreUpTo : ℕ → List (Cell ℕ) → Type 0
+AreUpTo newest cells = AllByRecursion (λ cell. cell.stamp.count ≤ newest) cells
+
+-- runs as they should be in some text, with no cell of a greater count
+pub record AreKnown (newest : ℕ) (rs : List Run) : Type 0 where
+  pub text : List ℕ
+  pub kept : AllByRecursion (IsRun text) rs
+  pub upto : AreUpTo newest (cells_of text rs)

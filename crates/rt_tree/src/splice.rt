@@ -6,7 +6,7 @@ ghost use Rattle.rt_store.specs.Cells.{put_at};
 ghost use Rattle.rt_tree.specs.Additions.{are_joint, EndsWith, IsFrontOf, IsRunOf, IsStretch, follows, joined, run_from, stretches};
 ghost use Rattle.rt_tree.specs.Runs.{IsRun, cells_of};
 ghost use Rattle.rt_tree.specs.Shape.{IsTree, tree_runs};
-ghost use Rattle.rt_tree.specs.Sharing.{AreApart, AreOnce, is_shared_by};
+ghost use Rattle.rt_tree.specs.Sharing.{AreApart, AreKnown, AreOnce, AreUpTo, is_shared_by};
 ghost use Rattle.rt_tree.specs.Stretches.{AreChanged, AreKept, IsEdge, lengths};
 ghost use Rattle.rt_tree.specs.Sums.{counts_of};
 ghost use Rattle.rt_tree.specs.Trees.{HasNodes};
@@ -113,13 +113,29 @@ fn is_shared_by(run: &Run, other: &Run) -> bool
     other.len > 1 && (has(*other, first_stamp(run)) || has(*run, first_stamp(other)))
 }
 
-// Whether a run of a tree, of more than one cell, has a stamp of a run.
-fn is_shared(mem: &Mem, root: NodeId, run: &Run) -> bool
+// The greatest of a count and those of cells.
+pub(crate) fn newest_of(newest: u64, cells: &[Cell<StateId>]) -> u64
+    ensures least { newest ≤ result }
+    ensures cells { AreUpTo result cells.now }
+{
+    let mut newest = newest;
+    for cell in cells {
+        newest = newest.max(cell.stamp.count);
+    }
+    newest
+}
+
+// Whether a run of a tree, of more than one cell, has a stamp of a run. No run is looked at if no cell has so great a count.
+fn is_shared(mem: &Mem, root: NodeId, newest: u64, run: &Run) -> bool
     requires tree { IsTree mem.now root.index }
     requires kept { AreKept (tree_runs mem.now root.index) }
+    requires known { AreKnown newest (tree_runs mem.now root.index) }
     requires few { (counts_of (tree_runs mem.now root.index)).cells ≤ MOST_CELLS }
     ensures { result ≡ list_any (is_shared_by run.now) (tree_runs mem.now root.index) }
 {
+    if run.first > newest {
+        return false;
+    }
     let all = cells_of(mem, root);
     let mut at = 0;
     while at < all {
@@ -133,13 +149,14 @@ fn is_shared(mem: &Mem, root: NodeId, run: &Run) -> bool
 }
 
 // Whether a run of more than one cell shares a stamp with one of a tree.
-fn is_in_two(mem: &Mem, root: NodeId, run: &Run) -> bool
+fn is_in_two(mem: &Mem, root: NodeId, newest: u64, run: &Run) -> bool
     requires tree { IsTree mem.now root.index }
     requires kept { AreKept (tree_runs mem.now root.index) }
+    requires known { AreKnown newest (tree_runs mem.now root.index) }
     requires few { (counts_of (tree_runs mem.now root.index)).cells ≤ MOST_CELLS }
     ensures { result ≡ (nat_lt 1 run.now.len && list_any (is_shared_by run.now) (tree_runs mem.now root.index)) }
 {
-    run.len > 1 && is_shared(mem, root, run)
+    run.len > 1 && is_shared(mem, root, newest, run)
 }
 
 // A run for the next cells, and how many cells then come alone.
@@ -158,10 +175,12 @@ fn choose(
     cells: &[Cell<StateId>],
     done: usize,
     lone: usize,
+    newest: u64,
 ) -> Next
     requires tree { IsTree mem.now root.index }
     requires kept { AllByRecursion (IsRun text.now) (tree_runs mem.now root.index) }
     requires apart { AreApart (tree_runs mem.now root.index) }
+    requires upto { AreUpTo newest (cells_of text.now (tree_runs mem.now root.index)) }
     requires few { (counts_of (tree_runs mem.now root.index)).cells ≤ MOST_CELLS }
     requires some { done < length cells.now }
     requires last { EndsWith text.now cells.now }
@@ -179,7 +198,7 @@ fn choose(
         };
     }
     let run = next_run(text, cells, done);
-    if is_in_two(mem, root, &run) {
+    if is_in_two(mem, root, newest, &run) {
         let first = lone_run(text, cells, done);
         return Next {
             run: first,
@@ -196,10 +215,12 @@ fn put_runs(
     text: &[char],
     at: usize,
     cells: &[Cell<StateId>],
+    newest: u64,
 ) -> Change
     requires tree { IsTree mem.old root.index }
     requires kept { AllByRecursion (IsRun text.now) (tree_runs mem.old root.index) }
     requires apart { AreApart (tree_runs mem.old root.index) }
+    requires upto { AreUpTo newest (cells_of text.now (tree_runs mem.old root.index)) }
     requires last { EndsWith text.now cells.now }
     requires short { length text.now ≤ MOST_CELLS }
     requires few { (counts_of (tree_runs mem.old root.index)).cells + length cells.now ≤ MOST_CELLS }
@@ -218,10 +239,13 @@ fn put_runs(
     let mut done = 0;
     let mut more = 0;
     let mut lone = 0;
+    let mut newest = newest;
     while done < cells.len() {
-        let next = choose(mem, root, text, cells, done, lone);
+        let next = choose(mem, root, text, cells, done, lone, newest);
         root = put(mem, root, at + done, next.run);
-        done += next.run.len as usize;
+        let to = done + next.run.len as usize;
+        newest = newest_of(newest, &cells[done..to]);
+        done = to;
         lone = next.lone;
         more += 1;
     }
@@ -267,10 +291,18 @@ fn lengthened(before: Run, run: Run) -> Run
 }
 
 // Lets the run that ends at a position go on with the first of new cells, if these follow it, and tells how many they are.
-fn extend(mem: &mut Mem, root: NodeId, text: &[char], at: usize, cells: &[Cell<StateId>]) -> usize
+fn extend(
+    mem: &mut Mem,
+    root: NodeId,
+    text: &[char],
+    at: usize,
+    cells: &[Cell<StateId>],
+    newest: u64,
+) -> usize
     requires tree { IsTree mem.old root.index }
     requires kept { AllByRecursion (IsRun text.now) (tree_runs mem.old root.index) }
     requires apart { AreApart (tree_runs mem.old root.index) }
+    requires upto { AreUpTo newest (cells_of text.now (tree_runs mem.old root.index)) }
     requires last { EndsWith text.now cells.now }
     requires short { length text.now ≤ MOST_CELLS }
     requires few { (counts_of (tree_runs mem.old root.index)).cells + length cells.now ≤ MOST_CELLS }
@@ -291,7 +323,7 @@ fn extend(mem: &mut Mem, root: NodeId, text: &[char], at: usize, cells: &[Cell<S
         return 0;
     }
     let longer = lengthened(found.run, run);
-    if is_shared(mem, root, &longer) {
+    if is_shared(mem, root, newest, &longer) {
         return 0;
     }
     replace(mem, root, at - 1, joined(found.run, run));
@@ -305,10 +337,12 @@ pub(crate) fn put_cells(
     text: &[char],
     at: usize,
     cells: &[Cell<StateId>],
+    newest: u64,
 ) -> Change
     requires tree { IsTree mem.old root.index }
     requires kept { AllByRecursion (IsRun text.now) (tree_runs mem.old root.index) }
     requires apart { AreApart (tree_runs mem.old root.index) }
+    requires upto { AreUpTo newest (cells_of text.now (tree_runs mem.old root.index)) }
     requires last { EndsWith text.now cells.now }
     requires short { length text.now ≤ MOST_CELLS }
     requires few { (counts_of (tree_runs mem.old root.index)).cells + length cells.now ≤ MOST_CELLS }
@@ -322,13 +356,14 @@ pub(crate) fn put_cells(
     ensures more { AreOnce (cells_of text.now (tree_runs mem.old root.index)) cells.now → result.more ≤ stretches cells.now + 1 }
     ensures room { length mem.new.heads + mem.new.room ≡ length mem.old.heads + mem.old.room }
 {
-    let done = extend(mem, root, text, at, cells);
+    let done = extend(mem, root, text, at, cells, newest);
     if done == cells.len() {
         return Change { root, more: 0 };
     }
     let first = cut(mem, root, at + done);
+    let newest = newest_of(newest, &cells[..done]);
     let rest = &cells[done..];
-    let then = put_runs(mem, first.root, text, at + done, rest);
+    let then = put_runs(mem, first.root, text, at + done, rest, newest);
     Change {
         root: then.root,
         more: first.more + then.more,

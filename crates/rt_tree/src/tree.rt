@@ -16,7 +16,7 @@ use crate::find::{cell_in, find, has, height, seek, sum_of};
 use crate::mark::{Mark, mark_span};
 use crate::node::{Entry, Head, Measure, Mem, Run};
 use crate::skip::{is_low, passed};
-use crate::splice::{push_characters, put_cells};
+use crate::splice::{newest_of, push_characters, put_cells};
 use crate::tagged::tag_is;
 use rt_nodes::{NodeId, NodeMem};
 use rt_stamps::limits::MOST_CELLS;
@@ -34,6 +34,8 @@ pub struct Tree {
     // The characters of all runs, in the order in which they came.
     text: Vec<char>,
     runs: usize,
+    // The greatest count that a cell has, or a greater one.
+    newest: u64,
     // What there is room for.
     spare_cells: usize,
     spare_cuts: usize,
@@ -41,6 +43,9 @@ pub struct Tree {
 
 impl Model for Tree {
     ghost use Rattle.std.specs.Prelude.{vec_capacity};
+    ghost use Rattle.rt_tree.specs.Runs.{cells_of};
+    ghost use Rattle.rt_tree.specs.Shape.{tree_runs};
+    ghost use Rattle.rt_tree.specs.Sharing.{AreUpTo};
     ghost use Rattle.rt_tree.specs.Trees.{IsKept, IsRoomy, Shown, shown};
 
     ghost Value = { Shown };
@@ -48,7 +53,8 @@ impl Model for Tree {
     ghost view = { λ t. shown t.mem t.root.index t.text.items (record { cells = t.spare_cells; cuts = t.spare_cuts }) };
 
     ghost invariant = { λ t. IsKept t.mem t.root.index t.text.items t.runs
-        × IsRoomy t.mem t.root.index t.text.items (vec_capacity t.text) (record { cells = t.spare_cells; cuts = t.spare_cuts }) };
+        × (IsRoomy t.mem t.root.index t.text.items (vec_capacity t.text) (record { cells = t.spare_cells; cuts = t.spare_cuts })
+        × AreUpTo t.newest (cells_of t.text.items (tree_runs t.mem t.root.index))) };
 }
 
 // The run of the final newline, as it is at first.
@@ -96,6 +102,7 @@ impl Tree {
             root,
             text,
             runs: 1,
+            newest: FINAL.count,
             spare_cells: 0,
             spare_cuts: 0,
         })
@@ -310,13 +317,7 @@ impl Tree {
     }
 
     // The least place from one up whose character has a tag, or hasn't it, by a walk from run to run.
-    fn next_place(
-        &self,
-        states: &StateTable,
-        tag: TagId,
-        on: bool,
-        place: usize,
-    ) -> Option<usize>
+    fn next_place(&self, states: &StateTable, tag: TagId, on: bool, place: usize) -> Option<usize>
         requires tag { IsTag states.now tag }
         requires states { AreStates states.now self.now.cells }
         ensures { result ≡ next_place (tag_is states.now tag on) (visible_of self.now.cells) place }
@@ -443,7 +444,8 @@ impl Tree {
         ensures room { Spends self.old.room self.new.room (length cells.now) 1 }
     {
         push_characters(&mut self.text, cells);
-        let change = put_cells(&mut self.mem, self.root, &self.text, at, cells);
+        let change = put_cells(&mut self.mem, self.root, &self.text, at, cells, self.newest);
+        self.newest = newest_of(self.newest, cells);
         self.root = change.root;
         self.runs += change.more;
         self.spare_cells -= cells.len();

@@ -4,6 +4,9 @@ use Rattle.rt_tree.proofs.Shared.{apart_chosen, apart_lone, chosen_twice}
 use Rattle.rt_tree.proofs.Splicing.{front_is}
 use Rattle.rt_tree.proofs.splice.choose.Goals as goal
 
+pub is_in_two-requires-clause-known : goal.is_in_two-requires-clause-known
+is_in_two-requires-clause-known c = record { text = c.args.text.now; kept = c.requires.kept; upto = c.requires.upto }
+
 pub returns-then-lone-gt0-clause-apart : goal.returns-then-lone-gt0-clause-apart
 returns-then-lone-gt0-clause-apart c =
     let o = c.lone_run-run.ensures.one in

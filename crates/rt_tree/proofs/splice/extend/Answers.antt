@@ -20,6 +20,9 @@ seek-found-requires-clause-few c =
 pub is_shared-requires-clause-kept : goal.is_shared-requires-clause-kept
 is_shared-requires-clause-kept c = record { text = c.args.text.now; short = c.requires.short; runs = c.requires.kept }
 
+pub is_shared-requires-clause-known : goal.is_shared-requires-clause-known
+is_shared-requires-clause-known c = record { text = c.args.text.now; kept = c.requires.kept; upto = c.requires.upto }
+
 pub lengthened-longer-requires : goal.lengthened-longer-requires
 lengthened-longer-requires c =
     let st = c.seek-found.ensures in let run = c.seek-found.result.run in

@@ -4,6 +4,7 @@ use Rattle.rt_tree.specs.declared.node.Run.{Run}
 use Rattle.rt_tree.specs.Shape.{tree_runs}
 use Rattle.rt_tree.specs.Sharing.{is_shared_by}
 use Rattle.rt_tree.proofs.Cutting.{few_all}
+use Rattle.rt_tree.proofs.Newest.{new_shares_none}
 use Rattle.rt_tree.proofs.Shared.{none_shared, one_shared}
 use Rattle.rt_tree.proofs.Walking.{all_passed, passed_more}
 use Rattle.rt_tree.proofs.splice.is_shared.Goals as goal
@@ -13,6 +14,9 @@ cells_of-all-requires-clause-few c = few_all (tree_runs c.args.mem.now c.args.ro
 
 pub seek-found-requires-clause-few : goal.seek-found-requires-clause-few
 seek-found-requires-clause-few c = few_all (tree_runs c.args.mem.now c.args.root.index) c.requires.kept c.requires.few
+
+pub returns-then-run-newest : goal.returns-then-run-newest
+returns-then-run-newest c = sym (new_shares_none c.args.newest c.args.run.now (tree_runs c.args.mem.now c.args.root.index) c.if-run-newest.true c.requires.known)
 
 pub returns-then-is_shared_by : goal.returns-then-is_shared_by
 returns-then-is_shared_by c =

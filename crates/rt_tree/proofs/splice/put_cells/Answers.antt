@@ -5,7 +5,8 @@ use Rattle.rt_store.specs.Cells.{put_at}
 use Rattle.rt_tree.specs.Additions.{EndsWith, stretches}
 use Rattle.rt_tree.specs.Runs.{cells_of}
 use Rattle.rt_tree.specs.Shape.{tree_runs}
-use Rattle.rt_tree.specs.Sharing.{AreOnce}
+use Rattle.rt_tree.specs.Sharing.{AreOnce, AreUpTo}
+use Rattle.rt_tree.proofs.Newest.{upto_more, upto_put}
 use Rattle.rt_tree.specs.Stretches.{AreChanged}
 use Rattle.rt_tree.proofs.Following.{stretches_drop}
 use Rattle.rt_tree.proofs.Splicing.{cut_count, ends_later, put_count, put_twice, rest_is, rest_once}
@@ -30,6 +31,14 @@ put_runs-then-requires-clause-kept c = c.cut-first.ensures.recut.kept c.args.tex
 
 pub put_runs-then-requires-clause-apart : goal.put_runs-then-requires-clause-apart
 put_runs-then-requires-clause-apart c = c.cut-first.ensures.recut.apart c.extend-done.ensures.apart
+
+pub put_runs-then-requires-clause-upto : goal.put_runs-then-requires-clause-upto
+put_runs-then-requires-clause-upto c =
+    let e = c.extend-done.ensures in let text = c.args.text.now in let n = c.newest_of-newest.ensures in let m = c.newest_of-newest.result in
+    let old = cells_of text (tree_runs c.args.mem.now c.args.root.index) in
+    let front = take c.extend-done.result c.args.cells.now in
+    subst (AreUpTo m) (sym (c.cut-first.ensures.recut.cells text e.cells.kept ∙ e.cells.cells))
+    (upto_put m c.args.at front old (upto_more c.args.newest m old n.least c.requires.upto) n.cells)
 
 pub put_runs-then-requires-clause-last : goal.put_runs-then-requires-clause-last
 put_runs-then-requires-clause-last c =

@@ -1,5 +1,8 @@
-use Rattle.std.proofs.Common.{refl, arith, ◌∙◌}
+use Rattle.std.proofs.Common.{refl, arith, ◌∙◌, ◌≡◌, ◌+◌, ◌-◌, take, drop, subst}
+use Rattle.rt_tree.specs.Runs.{cells_of}
 use Rattle.rt_tree.specs.Shape.{tree_runs}
+use Rattle.rt_tree.specs.Sharing.{AreUpTo}
+use Rattle.rt_tree.proofs.Newest.{upto_next}
 use Rattle.rt_tree.proofs.Splicing.{all_spliced, fewer_cells, more_spliced, none_spliced, spliced_few, spliced_low, spliced_runs, spliced_with, spliced_within}
 use Rattle.rt_tree.proofs.splice.put_runs.Goals as goal
 
@@ -7,6 +10,7 @@ pub loop-done-init : goal.loop-done-init
 loop-done-init c = record {
   tree = c.requires.tree;
   spliced = none_spliced c.args.text.now (tree_runs c.args.mem.now c.args.root.index) c.args.at c.args.cells.now c.requires.kept c.requires.edge c.requires.apart;
+  upto = c.requires.upto;
   room = refl;
 }
 
@@ -37,10 +41,15 @@ put-root-requires-clause-room c =
 pub loop-done-preserved : goal.loop-done-preserved
 loop-done-preserved c =
     let r = c.requires in let l = c.loop-done in let old = tree_runs c.args.mem.now c.args.root.index in
-    let p = c.put-root.ensures in
+    let p = c.put-root.ensures in let len = c.choose-next.result.run.len in let m = c.newest_of-newest.result in
+    let now = tree_runs l.mem l.root.index in let new = tree_runs c.put-root.new.mem c.put-root.result.index in
+    let n : l.done + len - l.done ≡ len = omega arith in
+    let more = subst (λ i. AreUpTo m (take i (drop l.done c.args.cells.now))) n c.newest_of-newest.ensures.cells in
+    let then_spliced = more_spliced c.args.text.now old (tree_runs l.mem l.root.index) c.args.at l.done l.more l.lone c.args.cells.now r.kept r.short r.few r.within l.invariant.spliced c.choose-next.result.run c.choose-next.ensures.run (tree_runs c.put-root.new.mem c.put-root.result.index) p.runs c.choose-next.result.lone c.choose-next.ensures.apart c.choose-next.ensures.stretch in
     record {
       tree = p.tree;
-      spliced = more_spliced c.args.text.now old (tree_runs l.mem l.root.index) c.args.at l.done l.more l.lone c.args.cells.now r.kept r.short r.few r.within l.invariant.spliced c.choose-next.result.run c.choose-next.ensures.run (tree_runs c.put-root.new.mem c.put-root.result.index) p.runs c.choose-next.result.lone c.choose-next.ensures.apart c.choose-next.ensures.stretch;
+      spliced = then_spliced;
+      upto = upto_next l.newest m c.args.at l.done len c.args.cells.now (cells_of c.args.text.now old) (cells_of c.args.text.now now) (cells_of c.args.text.now new) c.newest_of-newest.ensures.least l.invariant.spliced.changed.cells then_spliced.changed.cells l.invariant.upto more;
       room = p.room ∙ l.invariant.room;
     }
 
@@ -79,6 +88,9 @@ choose-next-requires-clause-tree c = c.loop-done.invariant.tree
 
 pub choose-next-requires-clause-kept : goal.choose-next-requires-clause-kept
 choose-next-requires-clause-kept c = c.loop-done.invariant.spliced.changed.kept
+
+pub choose-next-requires-clause-upto : goal.choose-next-requires-clause-upto
+choose-next-requires-clause-upto c = c.loop-done.invariant.upto
 
 pub choose-next-requires-clause-apart : goal.choose-next-requires-clause-apart
 choose-next-requires-clause-apart c = c.loop-done.invariant.spliced.apart

@@ -1,5 +1,7 @@
 use Rattle.std.proofs.Common.{◌≡◌, ◌+◌, ◌-◌, length}
+use Rattle.rt_tree.specs.Runs.{cells_of}
 use Rattle.rt_tree.specs.Shape.{IsTree, tree_runs}
+use Rattle.rt_tree.specs.Sharing.{AreUpTo}
 use Rattle.rt_tree.proofs.Splicing.{IsSpliced}
 use Rattle.rt_tree.proofs.splice.put_runs.Given as goal
 
@@ -7,6 +9,7 @@ abbrev pub invariant-loop-done : goal.invariant-loop-done
 invariant-loop-done l = record {
   tree : IsTree l.mem l.root.index;
   spliced : IsSpliced l.text (tree_runs l.initial.mem l.initial.root.index) (tree_runs l.mem l.root.index) l.at l.done l.more l.lone l.cells;
+  upto : AreUpTo l.newest (cells_of l.text (tree_runs l.mem l.root.index));
   room : length l.mem.heads + l.mem.room ≡ length l.initial.mem.heads + l.initial.mem.room;
 }
 

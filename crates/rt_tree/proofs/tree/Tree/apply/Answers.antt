@@ -1,9 +1,11 @@
-use Rattle.std.proofs.Common.{arith, ap, ◌∙◌, map}
+use Rattle.std.proofs.Common.{arith, sym, ap, ◌∙◌, map, subst}
+use Rattle.rt_tree.specs.Runs.{cells_of}
 use Rattle.rt_tree.specs.Shape.{tree_runs}
-use Rattle.rt_tree.specs.Sharing.{cell_in}
+use Rattle.rt_tree.specs.Sharing.{AreUpTo, cell_in}
 use Rattle.rt_tree.specs.Trees.{Shown}
 use Rattle.rt_tree.proofs.Cutting.{runs_few}
 use Rattle.rt_tree.proofs.Marking.{span_count}
+use Rattle.rt_tree.proofs.Newest.{upto_marked}
 use Rattle.rt_tree.proofs.tree.Tree.apply.Goals as goal
 
 pub overflow_add-self : goal.overflow_add-self
@@ -14,14 +16,17 @@ overflow_add-self c =
 
 pub invariant_of-self : goal.invariant_of-self
 invariant_of-self c =
-    let s = c.self.inside in let k = c.self.invariant.0 in let r = c.self.invariant.1 in
+    let s = c.self.inside in let k = c.self.invariant.0 in let r = c.self.invariant.1.0 in
     let e = c.mark_span-change.ensures in
     let old = tree_runs s.mem s.root.index in let new = tree_runs c.mark_span-change.new.mem c.mark_span-change.result.root.index in
     let is = e.cells s.text.items k.kept in
     let same = span_count old new s.text.items (cell_in c.args.span c.args.mark) k.kept is in
     let cuts = ap (λ (v : Shown). v.room.cuts) c.self.view_is in (
       record { tree = e.tree; kept = is.kept; apart = e.apart; counted = omega (arith, k.counted, e.runs); few = omega (arith, same, k.few); all = omega (arith, same, k.all) },
-      record { nodes = omega (arith, r.nodes, e.runs, e.more, e.room, cuts, c.requires.room.1); holds = r.holds; few = r.few },
+      (
+        record { nodes = omega (arith, r.nodes, e.runs, e.more, e.room, cuts, c.requires.room.1); holds = r.holds; few = r.few },
+        subst (AreUpTo s.newest) (sym is.cells) (upto_marked s.newest c.args.span c.args.mark (cells_of s.text.items old) c.self.invariant.1.1),
+      ),
     )
 
 pub returns-clause-cells : goal.returns-clause-cells

@@ -1,10 +1,10 @@
-use Rattle.std.proofs.Common.{◌≡◌, ◌+◌, ◌-◌, ◌≤◌, length, refl, arith, sym, ap, ◌∙◌, subst, Some}
+use Rattle.std.proofs.Common.{◌≡◌, ◌+◌, ◌-◌, refl, arith, sym, ap, ◌∙◌, subst}
 use Rattle.rt_store.specs.Cells.{visible_of}
 use Rattle.rt_store.specs.Tagged.{AreStates, next_place, tag_is}
 use Rattle.rt_tree.specs.Shape.{tree_runs}
 use Rattle.rt_tree.specs.Trees.{Shown}
 use Rattle.rt_tree.proofs.Kept.{few_runs, shows}
-use Rattle.rt_tree.proofs.Tagging.{next_end, next_found, next_passed, state_there, visible_fits, visible_in}
+use Rattle.rt_tree.proofs.Tagging.{next_end, next_found, next_passed, state_there}
 use Rattle.rt_tree.proofs.tree.Tree.next_place.Goals as goal
 
 pub loop-at-init : goal.loop-at-init

@@ -1,11 +1,11 @@
-use Rattle.std.proofs.Common.{◌≡◌, ◌+◌, ◌-◌, ◌≤◌, length, refl, arith, sym, ap, ◌∙◌, subst, Some}
+use Rattle.std.proofs.Common.{◌≡◌, ◌+◌, ◌-◌, arith, sym, ap, ◌∙◌, subst}
 use Rattle.std.proofs.Math.Nat.{min-le_right}
 use Rattle.rt_store.specs.Cells.{visible_of}
 use Rattle.rt_store.specs.Tagged.{AreStates, has_tag, previous_place}
 use Rattle.rt_tree.specs.Shape.{tree_runs}
 use Rattle.rt_tree.specs.Trees.{Shown}
 use Rattle.rt_tree.proofs.Kept.{few_runs, shows}
-use Rattle.rt_tree.proofs.Tagging.{previous_found, previous_from, previous_passed, state_there, visible_in}
+use Rattle.rt_tree.proofs.Tagging.{previous_found, previous_from, previous_passed, state_there}
 use Rattle.rt_tree.proofs.tree.Tree.previous_tagged.Goals as goal
 
 pub loop-at-init : goal.loop-at-init

@@ -2,6 +2,7 @@ use Rattle.std.proofs.Common.{ℕ, ◌≡◌, ◌+◌, ◌^◌, ◌<◌, List, O
 use Rattle.std.specs.Option.{SomeIff}
 use Rattle.rt_store.specs.Cells.{Room}
 use Rattle.rt_tree.specs.Shape.{tree_runs}
+use Rattle.rt_tree.specs.Sharing.{AreUpTo}
 use Rattle.rt_tree.specs.Trees.{IsKept, Shown, shown}
 use Rattle.rt_tree.proofs.Cutting.{runs_few}
 use Rattle.rt_tree.proofs.Roomier.{room_kept, room_nodes, room_shown}
@@ -26,9 +27,14 @@ invariant_of-self-2 c =
     let a = s.text.ok.0 in
     let b = c.reserve.new.self.ok.0 in
     let ask : c.in_ok-runs.runs ≡ s.runs + c.max-cells.result + c.max-cuts.result = (subst (λ (o : Option ℕ). SomeIff o (s.runs + c.max-cells.result + c.max-cuts.result < 2 ^ 64) (s.runs + c.max-cells.result + c.max-cuts.result)) c.in_ok-runs.ensures.ok_part c.checked_add.ensures).1 in
+    let room : Room = record { cells = c.max-cells.result; cuts = c.max-cuts.result } in
+    let same = ap (λ (t : List ℕ). shown c.reserve-2.new.self root t room) text ∙ room_shown m _ root s.text.items room c.reserve-2.new.self e in
     let nodes = room_nodes m root s.runs c.max-cells.result c.max-cuts.result c.saturating_sub.result c.reserve-2.new.self e k.counted (omega (arith, ask, c.saturating_sub.ensures, c.nodes.ensures)) in (
       subst (λ t. IsKept c.reserve-2.new.self root t s.runs) (sym text) (room_kept m _ root s.text.items s.runs c.reserve-2.new.self e k),
-      record { nodes = nodes; holds = omega (arith, holds, b); few = omega (arith, len, a, low, c.len.ensures) },
+      (
+        record { nodes = nodes; holds = omega (arith, holds, b); few = omega (arith, len, a, low, c.len.ensures) },
+        subst (AreUpTo s.newest) (sym (ap (λ (v : Shown). v.cells) same)) c.self.invariant.1.1,
+      ),
     )
 
 pub returns-clause-same : goal.returns-clause-same

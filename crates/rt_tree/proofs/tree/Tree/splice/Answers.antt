@@ -3,11 +3,12 @@ use Rattle.rt_store.specs.declared.cell.Cell.{Cell}
 use Rattle.rt_store.specs.Cells.{AreDistinct, put_at}
 use Rattle.rt_tree.specs.Runs.{cells_of}
 use Rattle.rt_tree.specs.Shape.{tree_runs}
-use Rattle.rt_tree.specs.Sharing.{AreOnce}
+use Rattle.rt_tree.specs.Sharing.{AreOnce, AreUpTo}
 use Rattle.rt_tree.specs.Stretches.{AreChanged}
 use Rattle.rt_tree.specs.Trees.{Shown}
 use Rattle.rt_tree.proofs.Cutting.{runs_few}
 use Rattle.rt_tree.proofs.Kept.{shows}
+use Rattle.rt_tree.proofs.Newest.{upto_more, upto_put}
 use Rattle.rt_tree.proofs.Shared.{distinct_once}
 use Rattle.rt_tree.proofs.Splicing.{longer_cells, longer_count, longer_ends, longer_kept, longer_shown, longer_text}
 use Rattle.rt_tree.proofs.tree.Tree.splice.Goals as goal
@@ -16,6 +17,12 @@ pub put_cells-change-requires-clause-kept : goal.put_cells-change-requires-claus
 put_cells-change-requires-clause-kept c =
     let s = c.self.inside in let k = c.self.invariant.0 in
     longer_kept s.text.items c.deref.result.now (tree_runs s.mem s.root.index) c.args.cells.now k.kept (c.deref.ensures.value ∙ c.push_characters.ensures.items)
+
+pub put_cells-change-requires-clause-upto : goal.put_cells-change-requires-clause-upto
+put_cells-change-requires-clause-upto c =
+    let s = c.self.inside in let old = tree_runs s.mem s.root.index in
+    let grown = sym (longer_cells s.text.items c.push_characters.new.text.items old c.args.cells.now c.self.invariant.0.kept c.push_characters.ensures.items) ∙ ap (λ (t : List ℕ). cells_of t old) (sym c.deref.ensures.value) in
+    subst (AreUpTo s.newest) grown c.self.invariant.1.1
 
 pub put_cells-change-requires-clause-last : goal.put_cells-change-requires-clause-last
 put_cells-change-requires-clause-last c =
@@ -31,7 +38,7 @@ put_cells-change-requires-clause-within c =
 
 pub overflow_add-self : goal.overflow_add-self
 overflow_add-self c =
-    let s = c.self.inside in let k = c.self.invariant.0 in let r = c.self.invariant.1 in
+    let s = c.self.inside in let k = c.self.invariant.0 in let r = c.self.invariant.1.0 in
     let n = runs_few s.text.items (tree_runs s.mem s.root.index) k.kept in
     let m = c.put_cells-change.ensures.most in
     let cells = ap (λ (v : Shown). v.room.cells) c.self.view_is in
@@ -40,12 +47,13 @@ overflow_add-self c =
 
 pub invariant_of-self : goal.invariant_of-self
 invariant_of-self c =
-    let s = c.self.inside in let k = c.self.invariant.0 in let r = c.self.invariant.1 in
+    let s = c.self.inside in let k = c.self.invariant.0 in let r = c.self.invariant.1.0 in
     let e = c.put_cells-change.ensures in
     let old = tree_runs s.mem s.root.index in let new = tree_runs c.put_cells-change.new.mem c.put_cells-change.result.root.index in
     let added = c.args.cells.now in let text = c.push_characters.new.text.items in
     let more = c.push_characters.ensures.items in
     let is = subst (λ (t : List ℕ). AreChanged old new t (put_at c.args.at added)) c.deref.ensures.value e.cells in
+    let shown_cells = longer_shown s.text.items text old added k.kept more new c.args.at is in
     let h = shows s.mem s.root.index s.text.items s.runs k c.args.self.now c.self.view_is in
     let w = c.requires.within in let hc = h.cells in
     let n = longer_count s.text.items text old added k.kept more new c.args.at is (omega (arith, hc, w)) in
@@ -56,7 +64,10 @@ invariant_of-self c =
     let ka = k.all in let kc = k.counted in let rn = r.nodes in let rh = r.holds in let rf = r.few in
     let er = e.runs in let em = e.most in let eo = e.room in let cap = c.push_characters.ensures.capacity in (
       record { tree = e.tree; kept = is.kept; apart = e.apart; counted = omega (arith, kc, er); few = omega (arith, n, rf, ka, cells, ra); all = omega (arith, n, l, ka) },
-      record { nodes = omega (arith, rn, er, em, eo, cells, cuts, ra, rb); holds = omega (arith, rh, l, cap, cells, ra); few = omega (arith, rf, l, cells, ra) },
+      (
+        record { nodes = omega (arith, rn, er, em, eo, cells, cuts, ra, rb); holds = omega (arith, rh, l, cap, cells, ra); few = omega (arith, rf, l, cells, ra) },
+        subst (AreUpTo c.newest_of-self-inside.result) (sym shown_cells) (upto_put c.newest_of-self-inside.result c.args.at added (cells_of s.text.items old) (upto_more s.newest c.newest_of-self-inside.result (cells_of s.text.items old) c.newest_of-self-inside.ensures.least c.self.invariant.1.1) c.newest_of-self-inside.ensures.cells),
+      ),
     )
 
 pub returns-clause-cells : goal.returns-clause-cells
