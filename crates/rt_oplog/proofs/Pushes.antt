@@ -1,11 +1,11 @@
 -- What a push answers, from what was tested.
-use Rattle.std.proofs.Common.{◌≡◌, ◌≤◌, Bool, false, List, [], ◌∷◌, map, refl, ap, Result, Ok, Err, arith, ◌&&◌}
+use Rattle.std.proofs.Common.{◌≡◌, ◌≤◌, Bool, true, false, List, [], ◌∷◌, map, refl, ap, Result, Ok, Err, arith, ◌&&◌}
 use Rattle.std.proofs.lemmas.Bool.Decides.{nat_tests}
 use Rattle.std.specs.Cmp.Lexicographic.{pointwise}
 use Rattle.std.specs.List.{list_any}
 use Rattle.rt_stamps.specs.declared.limits.TheConstants.{GREATEST_COUNT}
 use Rattle.rt_stamps.specs.declared.fault.Fault.{Fault}
-use Rattle.rt_stamps.specs.declared.fault.Fault.TheVariants.{BadStamp}
+use Rattle.rt_stamps.specs.declared.fault.Fault.TheVariants.{BadStamp, Conflict}
 use Rattle.rt_oplog.specs.Operations.{Operation, last_count, has_bad_stamp, soundness}
 use Rattle.rt_oplog.specs.Logs.{holds, clash, with_operation, pushed}
 use Rattle.rt_oplog.proofs.Sets.{split}
@@ -22,6 +22,12 @@ sound_if_ok op x h = split (has_bad_stamp op)
 
 pub push_new : (op : Operation) (log : List Operation) → has_bad_stamp op ≡ false → holds log op ≡ false → list_any (clash op) log ≡ false → pushed op log ≡ Ok (with_operation op log)
 push_new op log s n f = rw (s, n, f) refl
+
+pub push_held : (op : Operation) (log : List Operation) → has_bad_stamp op ≡ false → holds log op ≡ true → pushed op log ≡ Ok log
+push_held op log s h = rw (s, h) refl
+
+pub push_clash : (op : Operation) (log : List Operation) → has_bad_stamp op ≡ false → holds log op ≡ false → list_any (clash op) log ≡ true → pushed op log ≡ Err Conflict
+push_clash op log s n f = rw (s, n, f) refl
 
 pub sound_last : (op : Operation) → has_bad_stamp op ≡ false → last_count op ≤ GREATEST_COUNT
 sound_last op h = grind (arith, nat_tests)

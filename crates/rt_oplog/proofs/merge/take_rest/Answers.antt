@@ -2,6 +2,7 @@ use Rattle.std.proofs.Common.{◌≡◌, ◌+◌, ◌<◌, ◌++◌, ◌∷◌, 
 use Rattle.std.specs.List.{range_with_len}
 use Rattle.rt_oplog.specs.Kept.{op_at}
 use Rattle.rt_oplog.proofs.Kept.{rest_start, rest_first, rest_stays, row_step, row_length, range_last}
+use Rattle.std.proofs.lemmas.Result.{err_from_is_err_and}
 use Rattle.rt_oplog.proofs.merge.take_rest.Goals as goal
 
 pub loop-place-init : goal.loop-place-init
@@ -33,3 +34,8 @@ loop-place-preserved c =
       order = c.in_ok-take_over.ensures.order ∙ ap (λ xs. xs ++ length c.loop-place.ops.items ∷ []) c.loop-place.invariant.order ∙ append_assoc order (range_with_len (length ops) i) (length c.loop-place.ops.items ∷ [])
           ∙ ap (λ xs. order ++ xs) (sym (range_last (length ops) i (length c.loop-place.ops.items) (omega (arith, len, short))) ∙ ap (range_with_len (length ops)) (sym (add-one i)));
     }
+
+pub returns-in_err-take_over : goal.returns-in_err-take_over
+returns-in_err-take_over c =
+    let (y, is, gives) = err_from_is_err_and c.from_residual.result c.from_residual.ensures.1 in
+    rw (is, gives) (record { ops = tt; order = tt; fault = c.in_err-take_over.ensures.fault })

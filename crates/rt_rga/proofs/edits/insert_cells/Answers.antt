@@ -1,8 +1,9 @@
-use Rattle.std.proofs.Common.{◌∙◌, ap, sym, subst, arith, length}
+use Rattle.std.proofs.Common.{◌∙◌, ap, sym, subst, arith, length, refl}
 use Rattle.rt_store.specs.Tagged.{AreStates}
 use Rattle.rt_store.proofs.GivenStates.{kept_states}
 use Rattle.rt_rga.proofs.Replicas.{all_from_states}
 use Rattle.rt_store.proofs.Places.{length_from}
+use Rattle.std.proofs.lemmas.Result.{err_from_is_err_and}
 use Rattle.rt_rga.proofs.edits.insert_cells.Goals as goal
 
 pub reserve-requires : goal.reserve-requires
@@ -17,3 +18,18 @@ pub splice-requires-clause-new : goal.splice-requires-clause-new
 splice-requires-clause-new g c =
     subst (AreStates c.state_of_list.new.self) (sym (c.deref.ensures.value ∙ c.in_ok-cells.ensures.cells))
     (all_from_states c.state_of_list.new.self c.args.stamp.count c.args.stamp.site c.in_ok-state.state c.args.text.now c.in_ok-state.ensures.given)
+
+pub returns-in_err-state : goal.returns-in_err-state
+returns-in_err-state g c =
+    let (y, is, gives) = err_from_is_err_and c.from_residual.result c.from_residual.ensures.1 in
+    rw (is, gives) (record { given = tt; state = tt; list = tt; ids = c.state_of_list.ensures.ids; err = refl; fault = c.in_err-state.ensures.fault })
+
+pub returns-in_err-cells : goal.returns-in_err-cells
+returns-in_err-cells g c =
+    let (y, is, gives) = err_from_is_err_and c.from_residual-in_err-cells.result c.from_residual-in_err-cells.ensures.1 in
+    rw (is, gives) (record { given = tt; state = tt; list = tt; ids = c.state_of_list.ensures.ids; err = refl; fault = c.in_err-cells.ensures.fault })
+
+pub returns-in_err-reserve : goal.returns-in_err-reserve
+returns-in_err-reserve g c =
+    let (y, is, gives) = err_from_is_err_and c.from_residual-in_err-reserve.result c.from_residual-in_err-reserve.ensures.1 in
+    rw (is, gives) (record { given = tt; state = tt; list = tt; ids = c.state_of_list.ensures.ids; err = c.reserve.ensures.same; fault = c.in_err-reserve.ensures.err })

@@ -1,4 +1,4 @@
-use Rattle.std.proofs.Common.{◌∙◌, ◌++◌, ℕ, All, List, map, subst, sym}
+use Rattle.std.proofs.Common.{◌∙◌, ◌++◌, ℕ, All, List, map, subst, sym, refl, arith, ap, length}
 use Rattle.rt_oplog.specs.Operations.{Operation}
 use Rattle.rt_store.specs.declared.cell.Cell.{Cell}
 use Rattle.rt_store.specs.Cells.{AreDistinct}
@@ -8,6 +8,11 @@ use Rattle.rt_rga.specs.Making.{CanAllBePut, kept_after}
 use Rattle.rt_rga.specs.Runs.{put_back_in_any}
 use Rattle.rt_rga.proofs.Batching.{ComesOut, batch_counts, batch_kept, batch_length, batch_placed, batch_states}
 use Rattle.rt_rga.proofs.Fresh.{all_back, all_front, fresh_counts, fresh_distinct, fresh_states}
+use Rattle.std.proofs.lemmas.Result.{err_from_is_err_and}
+use Rattle.rt_rga.proofs.Listing.{keeps_both}
+use Rattle.rt_store.proofs.GivenStates.{kept_states}
+use Rattle.rt_tags.specs.States.{IsState}
+use Rattle.rt_rga.specs.declared.tagging.StateRun.{StateRun}
 use Rattle.rt_rga.proofs.make.change_all.Goals as goal
 
 pub fresh-requires : goal.fresh-requires
@@ -62,3 +67,47 @@ returns-clause-cells g c =
     let can = batch_placed c.args.log.now.operations ops c.args.states.now c.fresh.new.states kept fresh c.requires.replica c.requires.continues c.in_ok-new.ensures.cells in
     batch_length ops c.in_ok-runs.runs.items kept fresh (g.S.TextStore.list c.put_states.new.store) can
     (c.put_states.ensures.list ∙ (λ j. map (put_back_in_any (c.deref-3.ensures.value j)) ((c.put_all.ensures.list ∙ (λ k. kept_after ops (c.deref-2.ensures.value k) (c.in_ok-make_room.ensures.same k))) j)))
+
+-- What a call that fails leaves: its fault, and what was given out keeps its meaning.
+pub returns-in_err-new : goal.returns-in_err-new
+returns-in_err-new g c =
+    let (y, is, gives) = err_from_is_err_and c.from_residual.result c.from_residual.ensures.1 in
+    rw (is, gives) (record { replica = tt; cells = tt; ids = c.fresh.ensures.ids; same = refl; fault = c.in_err-new.ensures.fault })
+
+pub returns-in_err-runs : goal.returns-in_err-runs
+returns-in_err-runs g c =
+    let (y, is, gives) = err_from_is_err_and c.from_residual-in_err-runs.result c.from_residual-in_err-runs.ensures.1 in
+    rw (is, gives) (record { replica = tt; cells = tt; ids = keeps_both c.args.states.now c.fresh.new.states c.planned_states.new.states c.fresh.ensures.ids c.planned_states.ensures.ids; same = refl; fault = c.in_err-runs.ensures.fault })
+
+pub returns-in_err-make_room : goal.returns-in_err-make_room
+returns-in_err-make_room g c =
+    let (y, is, gives) = err_from_is_err_and c.from_residual-in_err-make_room.result c.from_residual-in_err-make_room.ensures.1 in
+    rw (is, gives) (record { replica = tt; cells = tt; ids = keeps_both c.args.states.now c.fresh.new.states c.planned_states.new.states c.fresh.ensures.ids c.planned_states.ensures.ids; same = c.make_room.ensures.same; fault = c.in_err-make_room.ensures.fault })
+
+pub put_all-requires-clause-states : goal.put_all-requires-clause-states
+put_all-requires-clause-states g c =
+    let kept : List (Cell ℕ) = g.S.TextStore.list c.args.store.now in
+    let new = c.planned_states.new.states in
+    let ids = keeps_both c.args.states.now c.fresh.new.states new c.fresh.ensures.ids c.planned_states.ensures.ids in
+    subst (AreStates new) (sym c.in_ok-make_room.ensures.same) (kept_states c.args.states.now new kept ids c.requires.replica.states)
+
+pub put_all-requires-clause-given : goal.put_all-requires-clause-given
+put_all-requires-clause-given g c =
+    let new = c.planned_states.new.states in
+    subst (AreStates new) (sym c.deref-2.ensures.value) (kept_states c.fresh.new.states new c.in_ok-new.new.items c.planned_states.ensures.ids c.in_ok-new.ensures.given)
+
+pub put_states-requires-clause-runs : goal.put_states-requires-clause-runs
+put_states-requires-clause-runs g c =
+    subst (λ (runs : List StateRun). All (λ run. IsState c.planned_states.new.states run.state) runs) (sym c.deref-3.ensures.value) c.in_ok-runs.ensures.given
+
+pub returns-clause-ids : goal.returns-clause-ids
+returns-clause-ids g c = keeps_both c.args.states.now c.fresh.new.states c.planned_states.new.states c.fresh.ensures.ids c.planned_states.ensures.ids
+
+pub put_all-requires-clause-room : goal.put_all-requires-clause-room
+put_all-requires-clause-room g c =
+    let room = c.in_ok-make_room.ensures.room in
+    (omega (arith, room.0, c.len.ensures, ap length c.deref-2.ensures.value), omega (arith, room.1))
+
+pub put_states-requires-clause-room : goal.put_states-requires-clause-room
+put_states-requires-clause-room g c =
+    (omega arith, omega (arith, c.put_all.ensures.room, c.in_ok-make_room.ensures.room.1, c.len-2.ensures, ap length c.deref-3.ensures.value))

@@ -1,10 +1,13 @@
-use Rattle.std.proofs.Common.{◌≤◌, List, map, subst}
+use Rattle.std.proofs.Common.{◌≤◌, List, map, subst, ◌∙◌, ◌++◌, ap, append-nil, sym}
 use Rattle.std.specs.List.{AllByRecursion}
 use Rattle.rt_stamps.specs.declared.limits.TheConstants.{GREATEST_COUNT}
 use Rattle.rt_oplog.specs.Operations.{Operation, last_count}
 use Rattle.rt_store.specs.Shown.{shown}
 use Rattle.rt_rga.proofs.Listing.{keeps_both}
 use Rattle.rt_rga.proofs.Making.{fresh_left, ops_left}
+use Rattle.std.proofs.lemmas.Result.{err_from_is_err_and}
+use Rattle.std.proofs.lemmas.List.{drop_all}
+use Rattle.rt_rga.specs.Making.{fresh_cells}
 use Rattle.rt_rga.proofs.make.fresh.Goals as goal
 
 pub loop-op-preserved : goal.loop-op-preserved
@@ -18,3 +21,27 @@ loop-op-preserved c =
       ids = keeps_both c.args.states.now c.loop-op.states c.push_fresh.new.states c.loop-op.invariant.ids c.push_fresh.ensures.ids;
       counts = (subst (λ (ops : List Operation). AllByRecursion (λ op. last_count op ≤ GREATEST_COUNT) ops) left c.loop-op.invariant.counts).1;
     }
+
+pub push_fresh-requires : goal.push_fresh-requires
+push_fresh-requires c =
+    let left = ops_left c.args.ops.now c.loop-op.op-index c.op-item.result c.loop-op-test.true c.op-item.is in
+    record {
+      counts = (subst (λ (ops : List Operation). AllByRecursion (λ op. last_count op ≤ GREATEST_COUNT) ops) left c.loop-op.invariant.counts).0;
+      given = c.loop-op.invariant.given;
+    }
+
+pub returns : goal.returns
+returns c =
+    let made = map (shown c.loop-op.states) c.loop-op.cells.items in
+    record {
+      cells = sym (append-nil made) ∙ ap (λ (ops : List Operation). made ++ fresh_cells ops) (sym (drop_all c.loop-op.op-index c.args.ops.now c.loop-op-test.false)) ∙ c.loop-op.invariant.cells;
+      given = c.loop-op.invariant.given;
+      ids = c.loop-op.invariant.ids;
+      fault = tt;
+    }
+
+-- What a call that fails leaves: its fault, and what was given out keeps its meaning.
+pub returns-in_err-push_fresh : goal.returns-in_err-push_fresh
+returns-in_err-push_fresh c =
+    let (y, is, gives) = err_from_is_err_and c.from_residual.result c.from_residual.ensures.1 in
+    rw (is, gives) (record { cells = tt; given = tt; ids = keeps_both c.args.states.now c.loop-op.states c.push_fresh.new.states c.loop-op.invariant.ids c.push_fresh.ensures.ids; fault = c.in_err-push_fresh.ensures.fault })

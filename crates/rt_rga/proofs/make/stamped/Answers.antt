@@ -1,9 +1,10 @@
-use Rattle.std.proofs.Common.{map}
+use Rattle.std.proofs.Common.{map, refl}
 use Rattle.std.specs.Vec.Iter.{into_iter_items}
 use Rattle.rt_stamps.specs.declared.limits.TheConstants.{GREATEST_COUNT}
 use Rattle.rt_oplog.specs.Edits.{body_of}
 use Rattle.rt_rga.specs.Making.{operations_from}
 use Rattle.rt_rga.proofs.Making.{fits_left, rules_left, stamped_more}
+use Rattle.std.proofs.lemmas.Result.{err_from_is_err_and}
 use Rattle.rt_rga.proofs.make.stamped.Goals as goal
 
 pub loop-draft-preserved : goal.loop-draft-preserved
@@ -21,3 +22,8 @@ loop-draft-preserved c =
       rules = rules_left old new draft first c.loop-draft.invariant.rules;
       fits = fits_left last more GREATEST_COUNT old new draft first counts c.loop-draft.invariant.fits;
     }
+
+pub returns-in_err-push : goal.returns-in_err-push
+returns-in_err-push c =
+    let (y, is, gives) = err_from_is_err_and c.from_residual.result c.from_residual.ensures.1 in
+    rw (is, gives) (record { ops = tt; fault = refl })

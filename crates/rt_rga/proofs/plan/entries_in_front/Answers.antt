@@ -1,7 +1,8 @@
-use Rattle.std.proofs.Common.{◌≡◌, ◌∙◌, ◌+◌, ◌++◌, ◌∷◌, [], ap, append_assoc, drop, map, rules, sym, true}
+use Rattle.std.proofs.Common.{◌≡◌, ◌∙◌, ◌+◌, ◌++◌, ◌∷◌, [], ap, append_assoc, drop, map, rules, sym, true, refl}
 use Rattle.std.specs.List.{take_while}
 use Rattle.rt_stamps.specs.Stamps.{is_same}
 use Rattle.rt_rga.proofs.PlannedEntries.{front_from}
+use Rattle.std.proofs.lemmas.Result.{err_from_is_err_and}
 use Rattle.rt_rga.proofs.plan.entries_in_front.Goals as goal
 
 pub loop-n-preserved : goal.loop-n-preserved
@@ -16,3 +17,8 @@ loop-n-preserved c =
     ∙ append_assoc c.loop-n.entries.items (n.entry ∷ []) rest
     ∙ ap (λ es. c.loop-n.entries.items ++ es) (sym (front_from named stamp i n c.loop-n-test.true c.n-item.is t))
     ∙ c.loop-n.invariant
+
+pub returns-in_err-push : goal.returns-in_err-push
+returns-in_err-push c =
+    let (y, is, gives) = err_from_is_err_and c.from_residual.result c.from_residual.ensures.1 in
+    rw (is, gives) (record { entries = tt; fault = refl })

@@ -8,6 +8,8 @@ use Rattle.rt_rga.specs.declared.plan.Named.{Named}
 use Rattle.rt_rga.specs.Batches.{after_tags, entries_on}
 use Rattle.rt_rga.specs.Runs.{put_back, put_back_in_any}
 use Rattle.rt_rga.proofs.PlannedStates.{all_planned}
+use Rattle.std.proofs.lemmas.Result.{err_from_is_err_and}
+use Rattle.rt_rga.proofs.Listing.{keeps_both}
 use Rattle.rt_rga.proofs.plan.planned_states.Goals as goal
 
 pub written_cells-requires-clause-tags : goal.written_cells-requires-clause-tags
@@ -30,3 +32,18 @@ returns-clause-runs g c =
     c.in_ok-copies.ensures.written c.in_ok-copies.ensures.all
     (λ cell. back cell ∙ ap (λ copies. put_back copies cell) c.deref-2.ensures.value))
     c.state_runs.ensures.ok
+
+pub returns-in_err-named : goal.returns-in_err-named
+returns-in_err-named g c =
+    let (y, is, gives) = err_from_is_err_and c.from_residual.result c.from_residual.ensures.1 in
+    rw (is, gives) (record { runs = tt; given = tt; ids = c.named_writes.ensures.ids; fault = c.in_err-named.ensures.fault })
+
+pub returns-in_err-put_in_order : goal.returns-in_err-put_in_order
+returns-in_err-put_in_order g c =
+    let (y, is, gives) = err_from_is_err_and c.from_residual-in_err-put_in_order.result c.from_residual-in_err-put_in_order.ensures.1 in
+    rw (is, gives) (record { runs = tt; given = tt; ids = c.named_writes.ensures.ids; fault = c.in_err-put_in_order.ensures.fault })
+
+pub returns-in_err-copies : goal.returns-in_err-copies
+returns-in_err-copies g c =
+    let (y, is, gives) = err_from_is_err_and c.from_residual-in_err-copies.result c.from_residual-in_err-copies.ensures.1 in
+    rw (is, gives) (record { runs = tt; given = tt; ids = keeps_both c.args.states.now c.named_writes.new.states c.written_cells.new.states c.named_writes.ensures.ids c.written_cells.ensures.ids; fault = c.in_err-copies.ensures.fault })

@@ -5,6 +5,7 @@ use Rattle.rt_rga.specs.Batches.{HasEntries}
 use Rattle.rt_rga.proofs.Listing.{keeps_both}
 use Rattle.rt_rga.proofs.PlannedEntries.{tags_kept}
 use Rattle.rt_rga.proofs.PlannedStates.{AreCopied, copied_more, found_by, written_more}
+use Rattle.std.proofs.lemmas.Result.{err_from_is_err_and}
 use Rattle.rt_rga.proofs.plan.written_cells.Goals as goal
 
 pub written_cell-requires-clause-tags : goal.written_cell-requires-clause-tags
@@ -29,3 +30,14 @@ loop-at-preserved g c =
           (copied_more cells named copies c.loop-at.at found c.loop-at-test.true (found_by cells named c.loop-at.at found c.in_ok-copy.ensures.stamp c.in_ok-copy.ensures.none) c.loop-at.invariant.copied);
       ids = keeps_both old now new c.loop-at.invariant.ids c.written_cell.ensures.ids;
     }
+
+-- What a call that fails leaves: its fault, and what was given out keeps its meaning.
+pub returns-in_err-copy : goal.returns-in_err-copy
+returns-in_err-copy g c =
+    let (y, is, gives) = err_from_is_err_and c.from_residual.result c.from_residual.ensures.1 in
+    rw (is, gives) (record { written = tt; all = tt; ids = keeps_both c.args.states.now c.loop-at.states c.written_cell.new.states c.loop-at.invariant.ids c.written_cell.ensures.ids; fault = c.in_err-copy.ensures.fault })
+
+pub returns-in_err-push_found : goal.returns-in_err-push_found
+returns-in_err-push_found g c =
+    let (y, is, gives) = err_from_is_err_and c.from_residual-in_err-push_found.result c.from_residual-in_err-push_found.ensures.1 in
+    rw (is, gives) (record { written = tt; all = tt; ids = keeps_both c.args.states.now c.loop-at.states c.written_cell.new.states c.loop-at.invariant.ids c.written_cell.ensures.ids; fault = c.in_err-push_found.ensures.fault })

@@ -2,6 +2,7 @@ use Rattle.std.proofs.Common.{◌∙◌, ◌+◌, ◌-◌, ◌++◌, ap, arith, 
 use Rattle.rt_oplog.specs.Operations.{stamps_from}
 use Rattle.rt_rga.specs.Runs.{cells_found, listed}
 use Rattle.rt_rga.proofs.TagWrites.{found_from}
+use Rattle.std.proofs.lemmas.Result.{err_from_is_err_and}
 use Rattle.rt_rga.proofs.tagging.push_cells.Goals as goal
 
 pub loop-count-preserved : goal.loop-count-preserved
@@ -12,3 +13,8 @@ loop-count-preserved g c =
     ap (λ items. items ++ cells_found list (stamps_from span.site (count + 1) (span.last + 1 - (count + 1))))
     (c.in_ok-push_found.ensures.ok ∙ ap (λ o. c.loop-count.cells.items ++ listed o) c.cell_of.ensures)
     ∙ sym (found_from list c.loop-count.cells.items span.site count span.last (omega arith)) ∙ c.loop-count.invariant
+
+pub returns-in_err-push_found : goal.returns-in_err-push_found
+returns-in_err-push_found g c =
+    let (y, is, gives) = err_from_is_err_and c.from_residual.result c.from_residual.ensures.1 in
+    rw (is, gives) (record { ok = tt; fault = c.in_err-push_found.ensures.fault })

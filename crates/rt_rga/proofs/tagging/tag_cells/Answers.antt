@@ -1,14 +1,16 @@
-use Rattle.std.proofs.Common.{◌≡◌, ◌∙◌, ℕ, List, sym, subst, map, ap}
+use Rattle.std.proofs.Common.{◌≡◌, ◌∙◌, ℕ, List, sym, subst, map, ap, refl, All, arith, length}
 use Rattle.rt_oplog.specs.Operations.{stamps_in}
 use Rattle.rt_store.specs.declared.cell.Cell.{Cell}
 use Rattle.rt_store.specs.Shown.{shown}
 use Rattle.rt_store.specs.Tagged.{AreStates}
 use Rattle.rt_store.proofs.GivenStates.{kept_states}
-use Rattle.rt_tags.specs.States.{KeepsIds, Write}
+use Rattle.rt_tags.specs.States.{IsState, KeepsIds, Write}
 use Rattle.rt_rga.specs.Runs.{cells_found, put_back, put_back_in_any, with_write}
 use Rattle.rt_rga.proofs.Listing.{keeps_both}
 use Rattle.rt_rga.proofs.TagWrites.{found_states, put_states_given, tagged_cells}
 use Rattle.rt_store.proofs.Shown.{shown_later}
+use Rattle.std.proofs.lemmas.Result.{err_from_is_err_and}
+use Rattle.rt_rga.specs.declared.tagging.StateRun.{StateRun}
 use Rattle.rt_rga.proofs.tagging.tag_cells.Goals as goal
 
 pub written_cells-requires-clause-states : goal.written_cells-requires-clause-states
@@ -61,3 +63,50 @@ returns-clause-given g c =
     ∙ (λ i. map (λ cell. c.in_ok-runs.ensures.ok cell i) list)
     ∙ (λ i. map (put_back (c.deref-2.ensures.value i)) list) in
     subst (AreStates new) (sym back) (put_states_given new copies list c.in_ok-cells.ensures.given (kept_states old new list ids c.requires.states))
+
+-- What a call that fails leaves: its fault, and what was given out keeps its meaning.
+pub returns-in_err-named : goal.returns-in_err-named
+returns-in_err-named g c =
+    let (y, is, gives) = err_from_is_err_and c.from_residual.result c.from_residual.ensures.1 in
+    rw (is, gives) (record { cells = tt; given = tt; tag = tt; name = tt; ids = record { tags = λ tag i. (i, refl); states = λ state i. (i, refl) }; err = refl; fault = c.in_err-named.ensures.fault })
+
+pub returns-in_err-tag : goal.returns-in_err-tag
+returns-in_err-tag g c =
+    let (y, is, gives) = err_from_is_err_and c.from_residual-in_err-tag.result c.from_residual-in_err-tag.ensures.1 in
+    rw (is, gives) (record { cells = tt; given = tt; tag = tt; name = tt; ids = c.number.ensures.ids; err = refl; fault = c.in_err-tag.ensures.fault })
+
+pub returns-in_err-cells : goal.returns-in_err-cells
+returns-in_err-cells g c =
+    let (y, is, gives) = err_from_is_err_and c.from_residual-in_err-cells.result c.from_residual-in_err-cells.ensures.1 in
+    rw (is, gives) (record { cells = tt; given = tt; tag = tt; name = tt; ids = keeps_both c.args.states.now c.number.new.self c.written_cells.new.states c.number.ensures.ids c.written_cells.ensures.ids; err = refl; fault = c.in_err-cells.ensures.fault })
+
+pub returns-in_err-runs : goal.returns-in_err-runs
+returns-in_err-runs g c =
+    let (y, is, gives) = err_from_is_err_and c.from_residual-in_err-runs.result c.from_residual-in_err-runs.ensures.1 in
+    rw (is, gives) (record { cells = tt; given = tt; tag = tt; name = tt; ids = keeps_both c.args.states.now c.number.new.self c.written_cells.new.states c.number.ensures.ids c.written_cells.ensures.ids; err = refl; fault = c.in_err-runs.ensures.err })
+
+pub returns-in_err-reserve : goal.returns-in_err-reserve
+returns-in_err-reserve g c =
+    let (y, is, gives) = err_from_is_err_and c.from_residual-in_err-reserve.result c.from_residual-in_err-reserve.ensures.1 in
+    rw (is, gives) (record { cells = tt; given = tt; tag = tt; name = tt; ids = keeps_both c.args.states.now c.number.new.self c.written_cells.new.states c.number.ensures.ids c.written_cells.ensures.ids; err = c.reserve.ensures.same; fault = c.in_err-reserve.ensures.err })
+
+pub written_cells-requires-clause-tag : goal.written_cells-requires-clause-tag
+written_cells-requires-clause-tag g c = c.in_ok-tag.ensures.given
+
+pub put_states-requires-clause-runs : goal.put_states-requires-clause-runs
+put_states-requires-clause-runs g c =
+    let new = c.written_cells.new.states in
+    subst (λ (runs : List StateRun). All (λ run. IsState new run.state) runs) (sym c.deref-3.ensures.value)
+    (c.in_ok-runs.ensures.given new (subst (AreStates new) (sym c.deref-2.ensures.value) c.in_ok-cells.ensures.given))
+
+pub returns-clause-tag : goal.returns-clause-tag
+returns-clause-tag g c = (c.written_cells.ensures.ids.tags c.in_ok-tag.tag c.in_ok-tag.ensures.given).0
+
+pub returns-clause-name : goal.returns-clause-name
+returns-clause-name g c = (c.written_cells.ensures.ids.tags c.in_ok-tag.tag c.in_ok-tag.ensures.given).1 ∙ c.in_ok-tag.ensures.tag
+
+pub returns-clause-ids : goal.returns-clause-ids
+returns-clause-ids g c = keeps_both c.args.states.now c.number.new.self c.written_cells.new.states c.number.ensures.ids c.written_cells.ensures.ids
+
+pub put_states-requires-clause-room : goal.put_states-requires-clause-room
+put_states-requires-clause-room g c = (omega arith, omega (arith, c.in_ok-reserve.ensures.ok.1, c.len.ensures, ap length c.deref-3.ensures.value))

@@ -1,5 +1,9 @@
-use Rattle.std.proofs.Common.{◌∙◌, map, string_bytes, sym}
+use Rattle.std.proofs.Common.{◌∙◌, map, string_bytes, sym, ◌<◌, ℕ, List, length, subst}
 use Rattle.rt_tags.proofs.Merging.{first_in_new, first_in_old, first_is_equal, first_is_greater, first_is_less}
+use Rattle.std.proofs.lemmas.List.{length-map}
+use Rattle.std.proofs.lemmas.List.Elements.{All-head}
+use Rattle.rt_tags.specs.declared.states.Entry.{Entry}
+use Rattle.rt_tags.specs.Kept.{HaveNames}
 use Rattle.rt_tags.proofs.sorting.first.Goals as goal
 
 pub returns-in-Some-split_first-clause-some : goal.returns-in-Some-split_first-clause-some
@@ -21,3 +25,16 @@ returns-in-Greater-clause-some c =
 pub returns-in-Equal-clause-some : goal.returns-in-Equal-clause-some
 returns-in-Equal-clause-some c =
     first_is_equal (map (λ s. string_bytes s) c.args.names.now) c.args.old.now c.args.new.now c.in-Some.more_old.now c.in-Some-split_first-2.more_new.now c.in-Some.x.now c.in-Some-split_first-2.y.now c.in-Some.ensures.cases c.in-Some-split_first-2.ensures.cases c.requires.old c.requires.new c.newer.result (sym c.order.ensures ∙ c.in-Equal.is) c.newer.ensures
+
+-- both entries have names
+pub order-requires-clause-x : goal.order-requires-clause-x
+order-requires-clause-x c =
+    let names : List (List ℕ) = map (λ s. string_bytes s) c.args.names.now in
+    let named = subst (HaveNames (length names)) c.in-Some.ensures.cases.0 c.requires.old.named in
+    subst (λ n. c.in-Some.x.now.tag < n) (length-map c.args.names.now (λ s. string_bytes s)) (All-head (λ (e : Entry). e.tag < length names) c.in-Some.x.now c.in-Some.more_old.now named)
+
+pub order-requires-clause-y : goal.order-requires-clause-y
+order-requires-clause-y c =
+    let names : List (List ℕ) = map (λ s. string_bytes s) c.args.names.now in
+    let named = subst (HaveNames (length names)) c.in-Some-split_first-2.ensures.cases.0 c.requires.new.named in
+    subst (λ n. c.in-Some-split_first-2.y.now.tag < n) (length-map c.args.names.now (λ s. string_bytes s)) (All-head (λ (e : Entry). e.tag < length names) c.in-Some-split_first-2.y.now c.in-Some-split_first-2.more_new.now named)
