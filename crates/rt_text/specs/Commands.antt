@@ -12,6 +12,7 @@ use Rattle.rt_stamps.specs.Names.{name_check}
 use Rattle.rt_stamps.specs.Outcomes.{first_of, unless}
 use Rattle.rt_stamps.specs.Places.{position_at}
 use Rattle.rt_stamps.specs.Words.{Word}
+use Rattle.rt_store.specs.Shown.{TaggedCell}
 use Rattle.rt_tags.specs.Tags.{sel}
 use Rattle.rt_edits.specs.declared.range.Range.{Range}
 use Rattle.rt_edits.specs.Deletions.{delete_drafts, loss_in, without_text}
@@ -24,7 +25,7 @@ use Rattle.rt_text.specs.Comparisons.{holds_of}
 use Rattle.rt_text.specs.Distances.{or_indices, distance_of}
 use Rattle.rt_text.specs.Index.{index_check, place_at_index}
 use Rattle.rt_text.specs.Ranges.{text_between, texts_of, ranges_of}
-use Rattle.rt_edits.specs.Removals.{is_covered, stamps_at}
+use Rattle.rt_edits.specs.Removals.{cells_at, is_covered, stamps_at}
 use Rattle.rt_edits.specs.Selections.{unselected, selection_with}
 use Rattle.rt_edits.specs.TagDrafts.{deletion_drafts, tag_drafts_at}
 use Rattle.rt_edits.specs.TagWrites.{listed_if, with_tag_at, without_tags}
@@ -90,6 +91,10 @@ without_ranges view ranges =
       own = record (own_left loss.places view.own) { sel = last_unselected view held view.own.sel };
       others = map (last_unselected view held) view.others;
     }
+
+-- the characters that this takes, in the text's order
+abbrev pub lost_in : Viewed → List Range → List TaggedCell
+lost_in view ranges = cells_at (loss_in (text_shown view) (begin_of view) ranges).places 0 view.doc.cells
 
 -- a range replaced by pieces of text, and then characters without a list: it is deleted, and then they are inserted into what that
 -- leaves, at the place where the range begins, and before the last newline

@@ -31,6 +31,21 @@ impl<S: TextStore> Doc<S> {
         }
     }
 
+    /// The greatest count of its operations, 0 where it has none.
+    pub fn count(&self) -> u64
+        ensures { result ≡ self.now.count }
+    {
+        self.replica.clock().seen()
+    }
+
+    /// How many cells it has, those of removed characters and of the last newline included.
+    pub fn cells(&self) -> usize
+        ensures { result ≡ length self.now.cells }
+    {
+        let (store, _) = self.kept();
+        store.cells()
+    }
+
     /// How many characters the text has, the last newline included.
     pub fn visible(&self) -> usize
         ensures { result ≡ length (text_of self.now.cells) }
