@@ -4,8 +4,6 @@
 
 mod block;
 mod memory;
-#[cfg(test)]
-mod tests;
 
 // A crate can name a memory in a contract only if the types of its fields are exported.
 #[doc(hidden)]

@@ -1,9 +1,17 @@
+pub mod Acted
+pub mod Alike
 pub mod CellCounts
+pub mod Copied
 pub mod Endings
+pub mod Grouped
 pub mod PlacesFound
+pub mod Reaching
+pub mod Rest
+pub mod Returned
 pub mod Scalars
 pub mod Soundness
 pub mod Stamps
 pub mod Steps
 pub mod TakenBack
+pub mod Went
 pub mod WorkCells

@@ -143,19 +143,19 @@ return_grows removed r = by (cell_of r.doc.cells (stamp_after r.returns removed.
     by None = omega arith
     by (Some cell) = omega arith
 
-returns_grow : (removed : List (Removed (List Word))) (r : Reversion) → r.doc.count ≤ (with_returns removed r).doc.count
+pub returns_grow : (removed : List (Removed (List Word))) (r : Reversion) → r.doc.count ≤ (with_returns removed r).doc.count
 returns_grow [] r = omega arith
 returns_grow (x ∷ more) r = omega (arith, return_grows x r, returns_grow more (with_return x r))
 
 gone_grows : (stamps : List Stamp) (r : Reversion) → r.doc.count ≤ (with_gone stamps r).doc.count
 gone_grows stamps r = omega arith
 
-action_grows : (action : Action (List Word)) (r : Reversion) → r.doc.count ≤ (with_reverted action r).doc.count
+pub action_grows : (action : Action (List Word)) (r : Reversion) → r.doc.count ≤ (with_reverted action r).doc.count
 action_grows action r =
     let stamps = map (stamp_after r.returns) action.inserted in
     omega (arith, gone_grows stamps r, returns_grow action.removed (with_gone stamps r))
 
-all_grow : (actions : List (Action (List Word))) (r : Reversion) → r.doc.count ≤ (with_each_reverted actions r).doc.count
+pub all_grow : (actions : List (Action (List Word))) (r : Reversion) → r.doc.count ≤ (with_each_reverted actions r).doc.count
 all_grow [] r = omega arith
 all_grow (action ∷ actions) r = omega (arith, action_grows action r, all_grow actions (with_reverted action r))
 

@@ -1,19 +1,13 @@
 -- Cells of a copy of the text, as those of the document.
-use Rattle.std.proofs.Common.{All, add-one, drop-cons, get_or, length-take, take, ◌≡◌, ◌∙◌, ℕ, zero, suc, ◌+◌, ◌-◌, ◌<◌, ◌≤◌, ◌++◌, ◌||◌, List, [], ◌∷◌, Bool, true, false, cond, not, map, filter, length, drop, refl, ap, sym, arith, append_assoc, Option, Some, None, add-zero}
+use Rattle.std.proofs.Common.{All, length-take, take, ◌≡◌, ◌∙◌, ℕ, ◌<◌, List, [], ◌∷◌, Bool, false, map, length, refl, ap, sym, arith, Option, Some, None}
 use Rattle.std.specs.Prelude.{IfSome, option_map, slice_get, unwrap_or}
-use Rattle.std.proofs.lemmas.Bool.Decides.{nat_tests}
 use Rattle.std.proofs.lemmas.List.Elements.{All-tail}
-use Rattle.std.specs.Cmp.{both_ways}
 use Rattle.std.specs.List.{AllByRecursion}
-use Rattle.rt_stamps.specs.declared.stamp.Span.{Span}
 use Rattle.rt_stamps.specs.declared.stamp.Stamp.{Stamp}
-use Rattle.rt_stamps.specs.Stamps.{is_same}
-use Rattle.rt_oplog.specs.Operations.{stamps_from}
 use Rattle.rt_store.specs.declared.cell.Cell.{Cell}
-use Rattle.rt_store.specs.Cells.{gone_in, is_in_span, map_state, position_of, visible_before, visible_of}
+use Rattle.rt_store.specs.Cells.{map_state, position_of, visible_before, visible_of}
 use Rattle.rt_store.specs.Shown.{TaggedCell, shown}
 use Rattle.rt_store.proofs.Finding.{position_within}
-use Rattle.rt_store.proofs.Gone.{gone_more}
 use Rattle.rt_store.proofs.Shown.{visible_at_shown}
 use Rattle.rt_tags.specs.States.{IsState, TagStates, state_at}
 use Rattle.rt_rga.proofs.RemovedPlaces.{fewer}
@@ -22,9 +16,8 @@ use Rattle.rt_undo.specs.Actions.{Removed}
 use Rattle.rt_revert.specs.Planning.{cell_removed}
 use Rattle.rt_revert.specs.Plans.{named_removed}
 use Rattle.rt_revert.proofs.TakenBack.{still_is}
-use Rattle.rt_store.specs.Spans.{gone_in_any, is_among, is_in_spans}
-use Rattle.rt_edits.specs.NamedSpans.{span_of}
-use Rattle.rt_edits.specs.Removals.{cells_at, gone_at}
+use Rattle.rt_store.specs.Spans.{is_among}
+use Rattle.rt_edits.specs.Removals.{cells_at}
 use Rattle.rt_revert.specs.Reverting.{are_at, as_removed, still_visible}
 
 -- THE PLACES OF CHARACTERS

@@ -2,12 +2,20 @@
 //! text manual, "The undo mechanism"). The definitions stand in `specs/Reverting.antt`.
 #![tactic(auto)]
 
+pub mod copying;
 pub mod examples;
+mod going;
+pub mod group;
 pub mod laws;
 pub mod losses;
 mod lost;
 pub mod plan;
+mod progress;
+mod returning;
+mod reverting;
 mod work;
 
+pub use copying::kept_state;
+pub use group::{planned_reversion, planned_reversion_in};
 pub use losses::Losses;
-pub use plan::Return;
+pub use plan::{Return, Reversal, TextChange};

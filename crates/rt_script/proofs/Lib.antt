@@ -4,3 +4,4 @@ pub mod LinesLaws
 pub mod ReadReplies
 pub mod ReplyWords
 pub mod RunLaws
+pub mod Stretches

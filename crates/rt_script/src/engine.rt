@@ -1,10 +1,10 @@
 // Runs of scripts.
 ghost use Rattle.std.specs.Prelude.{◌≡◌, ℕ, ◌+◌, ◌<◌, ◌≤◌, ◌&&◌, ◌∷◌, ◌++◌, [], true, false, List, length, IfOk, IfErr, OnOk, IfSome, MatchOption};
-ghost use Rattle.std.specs.List.{list_all};
+ghost use Rattle.std.specs.List.{list_all, prefix_len};
 ghost use Rattle.rt_stamps.specs.Lines.{cut, without_return, is_blank, is_readable, is_silent, complete_of, rest_of, last_of, lines_of};
 ghost use Rattle.rt_stamps.specs.Source.{failures_of};
 ghost use Rattle.rt_stamps.specs.Written.{Wrote};
-ghost use Rattle.rt_script.specs.Pieces.{kept, RanLine, RanLines};
+ghost use Rattle.rt_script.specs.Pieces.{is_inner, kept, RanLine, RanLines};
 ghost use Rattle.rt_script.specs.Replies.{reply_line};
 ghost use Rattle.rt_script.specs.Run.{LineGives, Ends};
 
@@ -205,15 +205,30 @@ fn run_line<C: Commands, W: Sink>(
     }
 }
 
-// Keeps a byte of a line that isn't complete, if the line isn't too long already.
-fn keep(pending: &mut Vec<u8>, byte: u8) -> Result<(), Fault>
-    requires { length pending.old.items ≤ MOST_KEPT_BYTES }
-    ensures kept { OnOk result (pending.new.items ≡ kept (pending.old.items ++ byte ∷ [])) }
-    ensures fault { IfErr result (λ fault. fault ≡ Fault.NoMemory) }
+// How many bytes a piece has before its first newline, if it has one.
+fn newline_in(piece: &[u8]) -> Option<usize>
+    ensures { MatchOption result (prefix_len is_inner piece.now ≡ length piece.now)
+        (λ place. (place ≡ prefix_len is_inner piece.now) × (place < length piece.now)) }
 {
-    if pending.len() < MOST_KEPT_BYTES {
-        pending.push(byte)?;
+    let place = piece.iter().take_while(|byte| **byte != b'\n').count();
+    if place < piece.len() {
+        Some(place)
+    } else {
+        None
     }
+}
+
+// Keeps bytes of a line that isn't complete, as many as it takes to tell whether the line is too long.
+fn keep(pending: &mut Vec<u8>, bytes: &[u8]) -> Result<(), Fault>
+    requires { length pending.old.items ≤ MOST_KEPT_BYTES }
+    ensures kept { OnOk result (pending.new.items ≡ kept (pending.old.items ++ bytes.now)) }
+    ensures fault { IfErr result (λ fault. (fault ≡ Fault.NoMemory) × (0 < length bytes.now)) }
+{
+    if bytes.is_empty() {
+        return Ok(());
+    }
+    let room = MOST_KEPT_BYTES - pending.len();
+    pending.extend_from_slice(&bytes[..bytes.len().min(room)])?;
     Ok(())
 }
 
@@ -234,15 +249,14 @@ fn feed<C: Commands, W: Sink>(
     ensures rest { (rest : List ℕ) → cut rest ≡ ([], rest) → pending.old.items ≡ kept rest
         → OnOk result (pending.new.items ≡ kept (rest_of (rest ++ piece.now))) }
 {
-    for byte in piece {
-        if *byte == b'\n' {
-            run_line(alloc, memory, site, without_return(pending), out)?;
-            pending.clear();
-        } else {
-            keep(pending, *byte)?;
-        }
+    let mut start = 0;
+    while let Some(len) = newline_in(&piece[start..]) {
+        keep(pending, &piece[start..start + len])?;
+        run_line(alloc, memory, site, without_return(pending), out)?;
+        pending.clear();
+        start += len + 1;
     }
-    Ok(())
+    keep(pending, &piece[start..])
 }
 
 // Runs what follows the last newline, if there is anything.

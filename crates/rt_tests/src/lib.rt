@@ -11,8 +11,6 @@ mod edits_removals;
 #[cfg(test)]
 mod edits_selections;
 #[cfg(test)]
-mod recorder;
-#[cfg(test)]
 mod rga_make;
 #[cfg(test)]
 mod rga_orders;

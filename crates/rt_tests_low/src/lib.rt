@@ -1,8 +1,10 @@
-//! Tests of the crates from rt_oplog and rt_search down, by what is public of them. The library itself is empty.
+//! Tests of the crates from rt_oplog and rt_search down, and of rt_args, by what is public of them. The library itself is empty.
 #![tactic(auto)]
 
 #[cfg(test)]
 mod clock;
+#[cfg(test)]
+mod command_lines;
 #[cfg(test)]
 mod index;
 #[cfg(test)]
@@ -23,5 +25,7 @@ mod tags_states;
 mod tags_table;
 #[cfg(test)]
 mod undo;
+#[cfg(test)]
+mod undo_requests;
 #[cfg(test)]
 mod words;

@@ -1,5 +1,9 @@
-//! Tests of rt_tree, by what is public of it. The library itself is empty.
+//! Tests of rt_nodes and rt_tree, by what is public of them. The library itself is empty.
 #![tactic(auto)]
 
+#[cfg(test)]
+mod nodes;
+#[cfg(test)]
+mod stores;
 #[cfg(test)]
 mod tree;

@@ -47,6 +47,13 @@ fn plain(count: u64, site: u16, ch: char) -> Cell<StateId>
     }
 }
 
+// The counts of a site from a first one to a last one.
+fn span(site: u16, first: u64, last: u64) -> Span
+    ensures { result ≡ record { site = site; first = first; last = last } }
+{
+    Span { site, first, last }
+}
+
 /// One text in a list and in a tree. A call that is out of bounds answers `NoMemory`.
 struct Both {
     states: StateTable,
@@ -128,77 +135,29 @@ impl Both {
         self.grow(at, &[a, b, c])
     }
 
-    // The cell at a position of the list becomes gone; the final newline never does.
+    // The cells of a span become gone; the final newline never does.
     #[tactic(auto, using(rt_store::proofs::GivenStates::gone_states))]
-    fn list_gone(&mut self, at: usize) -> Result<(), Fault> {
-        if self.list.cells() > 1000 || at >= self.list.cells() {
-            return Err(Fault::NoMemory);
-        }
-        let stamp = self.list.nth(at).stamp;
-        if stamp.site == 0 {
+    fn remove(&mut self, span: Span) -> Result<(), Fault> {
+        if self.list.cells() > 1000 || span.site == 0 {
             return Err(Fault::NoMemory);
         }
         self.list.reserve(0, 2)?;
-        let span = Span {
-            site: stamp.site,
-            first: stamp.count,
-            last: stamp.count,
-        };
         self.list.set_gone(&self.states, span);
-        Ok(())
-    }
-
-    // The cells between two positions become gone.
-    fn remove(&mut self, from: usize, to: usize) -> Result<(), Fault> {
-        if from > to || to > self.tree.cells() {
-            return Err(Fault::NoMemory);
-        }
-        for at in from..to {
-            self.list_gone(at)?;
-        }
-        self.remove_stretch(from, to)
-    }
-
-    fn remove_stretch(&mut self, from: usize, to: usize) -> Result<(), Fault> {
-        if from > to || to > self.tree.cells() {
-            return Err(Fault::NoMemory);
-        }
         self.tree.reserve(0, 2)?;
-        self.tree.set_gone(from, to);
+        self.tree.set_gone(span);
         Ok(())
     }
 
-    // The cell at a position of the list gets the tag.
+    // The cells of a span get the tag.
     #[tactic(auto, using(rt_store::proofs::GivenStates::put_states))]
-    fn list_tag(&mut self, at: usize) -> Result<(), Fault> {
-        if self.list.cells() > 1000 || at >= self.list.cells() {
+    fn tag(&mut self, span: Span) -> Result<(), Fault> {
+        if self.list.cells() > 1000 {
             return Err(Fault::NoMemory);
         }
-        let stamp = self.list.nth(at).stamp;
         self.list.reserve(0, 2)?;
-        let span = Span {
-            site: stamp.site,
-            first: stamp.count,
-            last: stamp.count,
-        };
         self.list.set_state(&self.states, span, self.tagged);
-        Ok(())
-    }
-
-    // The cells between two positions get the tag.
-    fn tag(&mut self, from: usize, to: usize) -> Result<(), Fault> {
-        for at in from..to {
-            self.list_tag(at)?;
-        }
-        self.tag_stretch(from, to)
-    }
-
-    fn tag_stretch(&mut self, from: usize, to: usize) -> Result<(), Fault> {
-        if from > to || to > self.tree.cells() {
-            return Err(Fault::NoMemory);
-        }
         self.tree.reserve(0, 2)?;
-        self.tree.set_state(from, to, self.tagged);
+        self.tree.set_state(span, self.tagged);
         Ok(())
     }
 
@@ -292,16 +251,38 @@ fn pasting(rt: HostRuntime) -> Result<(), Fail> {
     Ok(())
 }
 
+// A stamp that is there already: its cells come in as runs of one cell, and are marked with the others.
+#[test]
+fn stamps_twice(rt: HostRuntime) -> Result<(), Fail> {
+    let mut both = Both::new(rt.alloc())?;
+    both.paste(0, 1, 1, ['a', 'b', 'c'])?;
+    both.paste(1, 2, 1, ['d', 'e', 'f'])?;
+    assert!(rt; both.same());
+    assert_eq!(rt; both.tree.runs(), 6);
+    both.paste(0, 7, 1, ['g', 'h', 'i'])?;
+    both.put(3, 10, 1, 'j')?;
+    assert_eq!(rt; both.tree.runs(), 7);
+    both.remove(span(1, 2, 2))?;
+    assert!(rt; both.same());
+    assert_eq!(rt; both.tree.runs(), 8);
+    both.tag(span(1, 3, 8))?;
+    assert!(rt; both.same());
+    assert!(rt; both.same_by_stamps());
+    Ok(())
+}
+
 // Cells that become gone, or get a tag.
 #[test]
 fn marking(rt: HostRuntime) -> Result<(), Fail> {
     let mut both = Both::new(rt.alloc())?;
     both.paste(0, 1, 1, ['a', 'b', 'c'])?;
     both.paste(3, 4, 1, ['\n', 'd', 'e'])?;
-    both.remove(1, 5)?;
+    both.remove(span(1, 2, 5))?;
     assert!(rt; both.same());
     assert_eq!(rt; both.tree.runs(), 5);
-    both.tag(2, 7)?;
+    both.tag(span(1, 3, 6))?;
+    assert_eq!(rt; both.tree.runs(), 6);
+    both.tag(span(0, 1, 1))?;
     assert!(rt; both.same());
     assert!(rt; both.same_by_stamps());
     for place in 0..5 {
@@ -318,11 +299,13 @@ impl Both {
             return Err(Fault::NoMemory);
         }
         let at = random / 8 % cells;
-        let to = (at + random / 1024 % 9).min(cells - 1);
+        let stamp = self.tree.nth(at).stamp;
+        let last = stamp.count.saturating_add((random / 1024 % 9) as u64);
+        let near = span(stamp.site, stamp.count, last);
         let count = 1 + 3 * round;
         match random % 8 {
-            0 => self.remove(at, to),
-            1 => self.tag(at, to),
+            0 if stamp.site > 0 => self.remove(near),
+            1 => self.tag(near),
             2 => self.put(at, count, 3, '\n'),
             3 => self.paste(at, count, 1, ['a', '\n', 'b']),
             4 => self.paste(at, count, 2, ['c', 'd', '\n']),

@@ -142,7 +142,7 @@ module _ (text : List ℕ) (all : List Run) (run : Run) (front : Counts) (offset
     shown true lt = absurd (omega arith)
     shown false lt = (refl, lt)
 
-  visible_around : (left right : List Run) → all ≡ left ++ run ∷ right → run.gone ≡ false → visible_of (cells_of text all) ≡ visible_of (cells_of text left) ++ (run_cells text run ++ visible_of (cells_of text right))
+  pub visible_around : (left right : List Run) → all ≡ left ++ run ∷ right → run.gone ≡ false → visible_of (cells_of text all) ≡ visible_of (cells_of text left) ++ (run_cells text run ++ visible_of (cells_of text right))
   visible_around left right here shown =
       ap visible_of (cells_around left right here)
       ∙ visible-append (cells_of text left) (run_cells text run ++ cells_of text right)

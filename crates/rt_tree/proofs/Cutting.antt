@@ -8,10 +8,11 @@ use Rattle.rt_tree.specs.declared.node.Measure.TheVariants.{Cells}
 use Rattle.rt_tree.specs.declared.node.Run.{Run}
 use Rattle.rt_tree.specs.Runs.{IsRun}
 use Rattle.rt_tree.specs.Shape.{IsTree, Memory, level_of, tree_runs}
-use Rattle.rt_tree.specs.Stretches.{AreKept, IsEdge, IsRecut, back_of, front_of, lengths}
+use Rattle.rt_tree.specs.Sharing.{AreParts, IsRecut}
+use Rattle.rt_tree.specs.Stretches.{AreKept, IsEdge, back_of, front_of, lengths}
 use Rattle.rt_tree.specs.Sums.{AreFew, counts_of, counts_of_run, plus}
 use Rattle.rt_tree.specs.Walks.{IsPutAt, IsReplacedAt, StandsAt}
-use Rattle.rt_tree.proofs.Edges.{counts_mid, edge_there, one_spot, IsSameSpot}
+use Rattle.rt_tree.proofs.Edges.{counts_mid, edge_mid, edge_there, one_spot, IsSameSpot}
 use Rattle.rt_tree.proofs.Filled.{full_tree}
 use Rattle.rt_tree.proofs.Kept.{below_cells, one_below}
 use Rattle.rt_tree.proofs.Pieces.{back_run, kept_set, recut}
@@ -109,3 +110,20 @@ module _ (old mid : List Run) (run : Run) (front : Counts) (offset at : ℕ) (st
         let a = ap length new_is ∙ length-append st.left (front_of offset run ∷ back_of offset run ∷ st.right) in
         let b = ap length st.here ∙ length-append st.left (run ∷ st.right) in
         omega (arith, a, b)
+
+    -- wherever it is said to stand
+    pub new_parts : AreParts old new at
+    new_parts left right r k here place more less =
+        let s = one_spot left r right k st.left run st.right offset (sym here ∙ st.here) (omega (arith, place, left_cells)) less st.inside in
+        let e = ap (λ l. (counts_of l).cells) s.left in
+        let n : offset ≡ k = omega (arith, place, left_cells, e) in
+        new_is
+        ∙ ap (λ l. l ++ front_of offset run ∷ back_of offset run ∷ st.right) (sym s.left)
+        ∙ ap (λ (x : Run). left ++ front_of offset x ∷ back_of offset x ∷ st.right) (sym s.run)
+        ∙ ap (λ l. left ++ front_of offset r ∷ back_of offset r ∷ l) (sym s.right)
+        ∙ ap (λ i. left ++ front_of i r ∷ back_of i r ∷ right) n
+
+-- where a run begins or ends none is cut
+pub no_parts : (old new : List Run) (at : ℕ) → IsEdge (lengths old) at → AreParts old new at
+no_parts old new at edge left right r k here place more less =
+    absurd (let z = edge_mid left r right k at place less (subst (λ (l : List Run). IsEdge (lengths l) at) here edge) in omega (arith, z, more))

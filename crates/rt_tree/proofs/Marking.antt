@@ -1,126 +1,32 @@
--- A stretch of runs, marked run by run.
-use Rattle.std.proofs.Common.{◌≡◌, ℕ, ◌+◌, ◌-◌, ◌<◌, ◌≤◌, List, [], ◌∷◌, ◌++◌, length, length-append, map, take, drop, refl, sym, ap, ◌∙◌, arith, subst, append_assoc}
-use Rattle.std.proofs.lemmas.List.{length-drop, length-map, length-take-le}
+-- The runs of a span, marked run by run.
+use Rattle.std.proofs.Common.{◌≡◌, ℕ, suc, ◌+◌, ◌^◌, ◌<◌, ◌≤◌, Bool, true, false, List, [], ◌∷◌, ◌++◌, length, map, refl, sym, ap, ◌∙◌, arith, subst, append_assoc, append-nil}
+use Rattle.std.proofs.lemmas.Bool.Decides.{nat_tests}
+use Rattle.std.proofs.lemmas.List.{length-map, map-append}
 use Rattle.std.specs.List.{AllByRecursion}
 use Rattle.rt_stamps.specs.declared.limits.TheConstants.{MOST_CELLS}
+use Rattle.rt_stamps.specs.declared.stamp.Span.{Span}
+use Rattle.rt_stamps.specs.declared.stamp.Stamp.{Stamp}
 use Rattle.rt_store.specs.declared.cell.Cell.{Cell}
+use Rattle.rt_store.specs.Cells.{cells_from, is_in_span}
+use Rattle.rt_store.specs.Spans.{last_stamp, next_stamp}
+use Rattle.rt_store.proofs.Distinct.{split}
 use Rattle.rt_tree.specs.declared.mark.Mark.{Mark}
+use Rattle.rt_tree.specs.declared.mark.Mark.TheVariants.{Gone, State}
 use Rattle.rt_tree.specs.declared.node.Counts.{Counts}
 use Rattle.rt_tree.specs.declared.node.Measure.TheVariants.{Cells}
 use Rattle.rt_tree.specs.declared.node.Run.{Run}
-use Rattle.rt_tree.specs.Runs.{IsRun, cells_of, run_cells}
-use Rattle.rt_tree.specs.Stretches.{AreChanged, AreKept, IsEdge, IsRecut, lengths, map_between, marked_cell, marked_run}
+use Rattle.rt_tree.specs.Runs.{IsRun, cells_of, characters, first_stamp, has, run_cells, with_gone}
+use Rattle.rt_tree.specs.Sharing.{AreApart, BeginsAt, IsChangedAt, IsRecut, cell_in, is_long_with, long_with, run_in}
+use Rattle.rt_tree.specs.Stretches.{AreChanged, AreKept, marked_cell, marked_run}
 use Rattle.rt_tree.specs.Sums.{AreFew, counts_of, counts_of_run, plus}
 use Rattle.rt_tree.specs.Walks.{IsReplacedAt, StandsAt}
-use Rattle.rt_tree.proofs.CellLaws.{counted, counted_left, is_run, run_length}
-use Rattle.rt_tree.proofs.Cutting.{few_all, few_with}
-use Rattle.rt_tree.proofs.Edges.{counts_lengths, counts_mid, edge_far, edge_there, lengths_set, one_spot, stands_first, IsSameSpot}
-use Rattle.rt_tree.proofs.Pieces.{between_none, between_step, cells_mid, kept_set, marked_cells, marked_length, run_marked}
-
--- The cells from one position up to another are marked.
-pub record IsMarked (old now : List Run) (mark : Mark) (from at to : ℕ) : Type 0 where
-  pub long : lengths now ≡ lengths old
-  pub low : from ≤ at
-  pub high : at ≤ to
-  pub edge : IsEdge (lengths old) at
-  pub cells : (text : List ℕ) → AllByRecursion (IsRun text) old → AreChanged old now text (map_between (marked_cell mark) from at)
-
-pub none_marked : (old : List Run) (mark : Mark) (from to : ℕ) → from ≤ to → IsEdge (lengths old) from → IsMarked old old mark from from to
-none_marked old mark from to le edge = record {
-  long = refl;
-  low = omega arith;
-  high = le;
-  edge = edge;
-  cells = λ text all. record { kept = all; cells = sym (between_none (marked_cell mark) from (cells_of text old)) };
-}
-
-module _ (old now : List Run) (mark : Mark) (from at to : ℕ) (kept : AreKept old) (few : (counts_of old).cells ≤ MOST_CELLS) (in_old : to ≤ (counts_of old).cells) (is : IsMarked old now mark from at to) (lt : at < to) where
-  now_runs : AllByRecursion (IsRun kept.text) now
-  now_runs = (is.cells kept.text kept.runs).kept
-
-  now_kept : AreKept now
-  now_kept = record { text = kept.text; short = kept.short; runs = now_runs }
-
-  now_cells : (counts_of now).cells ≡ (counts_of old).cells
-  now_cells = counts_lengths now old is.long
-
-  now_few : (counts_of now).cells ≤ MOST_CELLS
-  now_few = omega (arith, now_cells, few)
-
-  pub marked_few : AreFew (counts_of now)
-  marked_few = few_all now now_kept now_few
-
-  pub marked_within : at < (counts_of now).cells
-  marked_within = omega (arith, now_cells, in_old, lt)
-
-  module _ (run : Run) (front : Counts) (offset : ℕ) (st : StandsAt Cells now run front offset at) where
-    there : IsRun kept.text run
-    there = is_run kept.text now run front offset at now_runs st.left st.right st.here
-
-    same_length : (marked_run mark run).len ≡ run.len
-    same_length = marked_length mark run
-
-    whole : (counts_of now).cells ≡ (counts_of st.left).cells + (run.len + (counts_of st.right).cells)
-    whole = ap (λ l. (counts_of l).cells) st.here ∙ counts_mid st.left run st.right
-
-    run_low : run.len ≤ MOST_CELLS
-    run_low = omega (arith, whole, now_few)
-
-    pub marked_with : AreFew (plus (counts_of_run (marked_run mark run)) (counts_of now))
-    marked_with = few_with (marked_run mark run) now (omega (arith, same_length, there.some)) (omega (arith, same_length, run_low)) now_kept now_few
-
-    edge_now : IsEdge (lengths now) at
-    edge_now = subst (λ l. IsEdge l at) (sym is.long) is.edge
-
-    first : (offset ≡ 0) × ((counts_of st.left).cells ≡ at)
-    first = stands_first now run front offset at st edge_now
-
-    pub next_within : at + run.len ≤ MOST_CELLS
-    next_within = omega (arith, first.1, whole, now_few)
-
-    module _ (new : List Run) (rep : IsReplacedAt now new at (marked_run mark run)) (edge_to : IsEdge (lengths old) to) where
-      same : IsSameSpot st.left run st.right rep.was.left rep.before rep.was.right
-      same =
-          let f = ap (λ (c : Counts). c.cells) rep.was.before in
-          one_spot st.left run st.right 0 rep.was.left rep.before rep.was.right rep.offset (sym st.here ∙ rep.was.here) (omega (arith, first.1, f, rep.was.at)) there.some rep.was.inside
-
-      new_is : new ≡ st.left ++ marked_run mark run ∷ st.right
-      new_is = rep.is ∙ ap (λ l. l ++ marked_run mark run ∷ rep.was.right) (sym same.left) ∙ ap (λ l. st.left ++ marked_run mark run ∷ l) (sym same.right)
-
-      new_lengths : lengths new ≡ lengths old
-      new_lengths = ap lengths new_is ∙ lengths_set st.left (marked_run mark run) run st.right same_length ∙ ap lengths (sym st.here) ∙ is.long
-
-      new_edge : IsEdge (lengths old) (at + run.len)
-      new_edge =
-          let e = counts_mid st.left run [] in
-          subst (λ l. IsEdge l (at + run.len)) (ap lengths (append_assoc st.left (run ∷ []) st.right ∙ sym st.here) ∙ is.long)
-          (edge_there (st.left ++ run ∷ []) st.right (at + run.len) (omega (arith, e, first.1)))
-
-      new_high : at + run.len ≤ to
-      new_high =
-          let far = edge_far st.left run st.right to (omega (arith, first.1, lt)) (subst (λ (l : List Run). IsEdge (lengths l) to) st.here (subst (λ l. IsEdge l to) (sym is.long) edge_to)) in
-          omega (arith, far, first.1)
-
-      new_cells : (text : List ℕ) → AllByRecursion (IsRun text) old → AreChanged old new text (map_between (marked_cell mark) from (at + run.len))
-      new_cells text all =
-          let had = is.cells text all in
-          let cs = cells_of text old in
-          let left = cells_of text st.left in let mid = run_cells text run in let right = cells_of text st.right in
-          let c = counted text old all in
-          let l = counted_left text now run front offset at had.kept st.left st.right st.here in
-          let r = is_run text now run front offset at had.kept st.left st.right st.here in
-          let was = sym (cells_mid text st.left run st.right) ∙ ap (cells_of text) (sym st.here) ∙ had.cells in
-          let step = between_step (marked_cell mark) from at run.len cs left mid right is.low (omega (arith, c.cells, in_old, lt)) was (l.cells ∙ first.1) (run_length text run r) in
-          record {
-            kept = subst (AllByRecursion (IsRun text)) (sym new_is) (kept_set text st.left run (marked_run mark run) st.right (run_marked text mark run) (subst (AllByRecursion (IsRun text)) st.here had.kept));
-            cells = ap (cells_of text) new_is ∙ cells_mid text st.left (marked_run mark run) st.right ∙ ap (λ l. left ++ (l ++ right)) (marked_cells text mark run) ∙ step;
-          }
-
-      pub more_marked : IsMarked old new mark from (at + run.len) to
-      more_marked = record { long = new_lengths; low = omega (arith, is.low); high = new_high; edge = new_edge; cells = new_cells }
-
-      pub fewer_left : to - (at + run.len) < to - at
-      fewer_left = omega (arith, there.some, lt)
+use Rattle.rt_tree.proofs.Apart.{bit, long-cons}
+use Rattle.rt_tree.proofs.CellLaws.{characters_length, counted}
+use Rattle.rt_tree.proofs.Cutting.{few_with}
+use Rattle.rt_tree.proofs.Edges.{counts_mid, one_spot}
+use Rattle.rt_tree.proofs.Pieces.{marked_cells, marked_length, run_marked}
+use Rattle.rt_tree.proofs.Positions.{has_within}
+use Rattle.rt_tree.proofs.Walking.{IsNext, all_right, next_is, none_left}
 
 -- RUNS THAT WERE CUT
 
@@ -134,29 +40,226 @@ recut_cells old new is kept =
     let c = ap length (is.cells kept.text kept.runs) in
     omega (arith, a.cells, b.cells, c)
 
-pub recut_changed : (old mid cut new : List Run) (f : List (Cell ℕ) → List (Cell ℕ)) → IsRecut old mid → IsRecut mid cut → ((text : List ℕ) → AllByRecursion (IsRun text) cut → AreChanged cut new text f) → (text : List ℕ) → AllByRecursion (IsRun text) old → AreChanged old new text f
-recut_changed old mid cut new f one two is text all =
-    let all1 = one.kept text all in
-    let done = is text (two.kept text all1) in
-    record { kept = done.kept; cells = done.cells ∙ ap f (two.cells text all1 ∙ one.cells text all) }
+-- ONE RUN
 
--- THE CELLS OF A STRETCH
+module _ (span : Span) (mark : Mark) (old : List Run) (run : Run) (front : Counts) (offset at : ℕ) where
+  pub changed_out : StandsAt Cells old run front offset at → is_in_span span (first_stamp run) ≡ false → IsChangedAt old old at (run_in span mark) run.len
+  changed_out st out = record {
+    run = run;
+    front = front;
+    offset = offset;
+    was = st;
+    is = st.here ∙ ap (λ (r : Run). st.left ++ r ∷ st.right) (sym (rw out refl));
+    long = refl;
+  }
 
-between_length : {X : Type 0} (f : X → X) (from to : ℕ) (xs : List X) → from ≤ to → to ≤ length xs → length (map_between f from to xs) ≡ length xs
-between_length f from to xs order within =
-    let mid = take (to - from) (drop from xs) in
-    let a = length-append (take from xs ++ map f mid) (drop to xs) in
-    let b = length-append (take from xs) (map f mid) in
-    let c = length-take-le from xs (omega (arith, order, within)) in
-    let d = length-drop from xs in
-    let e = length-map mid f ∙ length-take-le (to - from) (drop from xs) (omega (arith, d, within)) in
-    let g = length-drop to xs in
-    omega (arith, a, b, c, e, g, order, within)
+  pub changed_in : (new : List Run) → AreKept old → (st : StandsAt Cells old run front offset at) → is_in_span span (first_stamp run) ≡ true → IsReplacedAt old new at (marked_run mark run) → IsChangedAt old new at (run_in span mark) run.len
+  changed_in new kept st within rep =
+      let f = ap (λ (c : Counts). c.cells) rep.was.before in
+      let g = ap (λ (c : Counts). c.cells) st.before in
+      let a = st.at in let b = rep.was.at in
+      let s = one_spot st.left run st.right offset rep.was.left rep.before rep.was.right rep.offset (sym st.here ∙ rep.was.here) (omega (arith, f, g, a, b)) st.inside rep.was.inside in
+      record {
+        run = run;
+        front = front;
+        offset = offset;
+        was = st;
+        is =
+            (rep.is ∙ ap (λ l. l ++ marked_run mark run ∷ rep.was.right) (sym s.left) ∙ ap (λ l. st.left ++ marked_run mark run ∷ l) (sym s.right)
+            ∙ ap (λ (r : Run). st.left ++ r ∷ st.right) (sym (rw within refl)));
+        long = refl;
+      }
+
+pub marked_few : (mark : Mark) (old : List Run) (run : Run) (front : Counts) (offset at : ℕ) → AreKept old → (counts_of old).cells ≤ MOST_CELLS → StandsAt Cells old run front offset at → AreFew (plus (counts_of_run (marked_run mark run)) (counts_of old))
+marked_few mark old run front offset at kept few st =
+    let l = marked_length mark run in
+    let w = ap (λ l. (counts_of l).cells) st.here ∙ counts_mid st.left run st.right in
+    let i = st.inside in
+    few_with (marked_run mark run) old (omega (arith, l, i)) (omega (arith, l, w, few)) kept few
+
+-- RUN BY RUN
+
+module _ (span : Span) (mark : Mark) where
+  abbrev f : Run → Run
+  f = run_in span mark
+
+  run_len : (r : Run) → (f r).len ≡ r.len
+  run_len r = split (is_in_span span (first_stamp r)) (λ e. rw e (marked_length mark r)) (λ e. rw e refl)
+
+  run_kept : (text : List ℕ) (r : Run) → IsRun text r → IsRun text (f r)
+  run_kept text r is = split (is_in_span span (first_stamp r)) (λ e. rw e (run_marked text mark r is)) (λ e. rw e is)
+
+  run_long : (stamp : Stamp) (r : Run) → is_long_with stamp (f r) ≡ is_long_with stamp r
+  run_long stamp r = split (is_in_span span (first_stamp r)) (λ e. rw e (mark_long mark)) (λ e. rw e refl)
+    where
+      mark_long : (m : Mark) → is_long_with stamp (marked_run m r) ≡ is_long_with stamp r
+      mark_long Gone = refl
+      mark_long (State state) = refl
+
+  pub runs_count : (rs : List Run) → (counts_of (map f rs)).cells ≡ (counts_of rs).cells
+  runs_count [] = refl
+  runs_count (r ∷ rs) = let a = run_len r in let b = runs_count rs in omega (arith, a, b)
+
+  pub runs_kept : (text : List ℕ) (rs : List Run) → AllByRecursion (IsRun text) rs → AllByRecursion (IsRun text) (map f rs)
+  runs_kept text [] all = tt
+  runs_kept text (r ∷ rs) all = (run_kept text r all.0, runs_kept text rs all.1)
+
+  pub runs_apart : (rs : List Run) → AreApart rs → AreApart (map f rs)
+  runs_apart rs is stamp = let e = same rs in let h = is stamp in omega (arith, e, h)
+    where
+      same : (l : List Run) → long_with stamp (map f l) ≡ long_with stamp l
+      same [] = refl
+      same (r ∷ l) =
+          let a = long-cons stamp (f r) (map f l) in
+          let b = long-cons stamp r l in
+          let c = ap bit (run_long stamp r) in
+          let d = same l in
+          omega (arith, a, b, c, d)
+
+  -- the first runs are marked, up to a position
+  pub record AreMarked (old now : List Run) (at : ℕ) : Type 0 where
+    pub left : List Run
+    pub right : List Run
+    pub was : old ≡ left ++ right
+    pub is : now ≡ map f left ++ right
+    pub count : (counts_of left).cells ≡ at
+
+  pub none_marked : (old : List Run) → AreMarked old old 0
+  none_marked old = record { left = []; right = old; was = refl; is = refl; count = refl }
+
+  kept_parts : (text : List ℕ) (a b : List Run) → AllByRecursion (IsRun text) (a ++ b) → AllByRecursion (IsRun text) (map f a ++ b)
+  kept_parts text [] b all = all
+  kept_parts text (r ∷ a) b all = (run_kept text r all.0, kept_parts text a b all.1)
+
+  count_parts : (a b : List Run) → (counts_of (map f a ++ b)).cells ≡ (counts_of (a ++ b)).cells
+  count_parts [] b = refl
+  count_parts (r ∷ a) b = let e = run_len r in let h = count_parts a b in omega (arith, e, h)
+
+  module _ (old now : List Run) (at : ℕ) (kept : AreKept old) (few : (counts_of old).cells ≤ MOST_CELLS) (m : AreMarked old now at) where
+    pub now_kept : AreKept now
+    now_kept = record {
+      text = kept.text;
+      short = kept.short;
+      runs = subst (AllByRecursion (IsRun kept.text)) (sym m.is) (kept_parts kept.text m.left m.right (subst (AllByRecursion (IsRun kept.text)) m.was kept.runs));
+    }
+
+    pub now_count : (counts_of now).cells ≡ (counts_of old).cells
+    now_count = ap (λ (l : List Run). (counts_of l).cells) m.is ∙ count_parts m.left m.right ∙ ap (λ (l : List Run). (counts_of l).cells) (sym m.was)
+
+    pub now_few : (counts_of now).cells ≤ MOST_CELLS
+    now_few = let c = now_count in omega (arith, c, few)
+
+    rest_kept : AllByRecursion (IsRun kept.text) m.right
+    rest_kept = all_right kept.text m.left m.right (subst (AllByRecursion (IsRun kept.text)) m.was kept.runs)
+
+    module _ (new : List Run) (len : ℕ) (ch : IsChangedAt now new at f len) where
+      next : IsNext (map f m.left) m.right ch.was.left ch.run ch.was.right ch.offset
+      next = next_is kept.text now (map f m.left) m.right at ch.run ch.front ch.offset m.is (runs_count m.left ∙ m.count) rest_kept ch.was
+
+      pub more_marked : AreMarked old new (at + len)
+      more_marked = record {
+        left = m.left ++ ch.run ∷ [];
+        right = ch.was.right;
+        was = m.was ∙ ap (λ (l : List Run). m.left ++ l) next.rest ∙ sym (append_assoc m.left (ch.run ∷ []) ch.was.right);
+        is =
+            (ch.is ∙ ap (λ (l : List Run). l ++ f ch.run ∷ ch.was.right) (sym next.left)
+            ∙ sym (append_assoc (map f m.left) (f ch.run ∷ []) ch.was.right)
+            ∙ ap (λ (l : List Run). l ++ ch.was.right) (sym (map-append f m.left (ch.run ∷ []))));
+        count = (let c = counts_mid m.left ch.run [] in let a = m.count in let l = ch.long in omega (arith, c, a, l));
+      }
+
+      pub more_within : at + len ≤ (counts_of old).cells
+      more_within =
+          let c = ap (λ (l : List Run). (counts_of l).cells) more_marked.was in
+          let d = more_marked.count in
+          let e = counts_split more_marked.left more_marked.right in
+          omega (arith, c, d, e)
+        where
+          counts_split : (a b : List Run) → (counts_of (a ++ b)).cells ≡ (counts_of a).cells + (counts_of b).cells
+          counts_split [] b = omega arith
+          counts_split (x ∷ a) b = let h = counts_split a b in omega (arith, h)
+
+      pub more_some : 0 < len
+      more_some = let l = ch.long in let i = ch.was.inside in omega (arith, l, i)
+
+    pub all_marked : (counts_of old).cells ≤ at → now ≡ map f old
+    all_marked end =
+        let c = ap (λ (l : List Run). (counts_of l).cells) m.was in
+        let d = m.count in
+        let none = none_left kept.text m.left m.right rest_kept (omega (arith, c, d, end)) in
+        m.is ∙ ap (λ (l : List Run). map f m.left ++ l) none ∙ append-nil (map f m.left) ∙ ap (map f) (sym (m.was ∙ ap (λ (l : List Run). m.left ++ l) none ∙ append-nil m.left))
+
+  -- THE CELLS OF RUNS THAT LIE IN A SPAN OR OUT OF IT
+
+  abbrev row : Bool → ℕ → ℕ → ℕ → List ℕ → List (Cell ℕ)
+  row gone count site state text = map (with_gone gone) (cells_from count site state text)
+
+  abbrev in_it : ℕ → ℕ → Bool
+  in_it count site = is_in_span span (record { count = count; site = site })
+
+  cells_out : (gone : Bool) (count site state : ℕ) (text : List ℕ) → ((i : ℕ) → i < length text → in_it (count + i) site ≡ false) → map (cell_in span mark) (row gone count site state text) ≡ row gone count site state text
+  cells_out gone count site state [] out = refl
+  cells_out gone count site state (c ∷ text) out =
+      let z : count + 0 ≡ count = omega arith in
+      let here : in_it count site ≡ false = subst (λ n. in_it n site ≡ false) z (out 0 (omega arith)) in
+      let rest = cells_out gone (count + 1) site state text (λ i lt. let n : count + suc i ≡ count + 1 + i = omega arith in subst (λ n. in_it n site ≡ false) n (out (suc i) (omega (arith, lt)))) in
+      rw (here, rest) refl
+
+  cells_within : (gone : Bool) (count site state : ℕ) (text : List ℕ) → ((i : ℕ) → i < length text → in_it (count + i) site ≡ true) → map (cell_in span mark) (row gone count site state text) ≡ map (marked_cell mark) (row gone count site state text)
+  cells_within gone count site state [] out = refl
+  cells_within gone count site state (c ∷ text) out =
+      let z : count + 0 ≡ count = omega arith in
+      let here : in_it count site ≡ true = subst (λ n. in_it n site ≡ true) z (out 0 (omega arith)) in
+      let rest = cells_within gone (count + 1) site state text (λ i lt. let n : count + suc i ≡ count + 1 + i = omega arith in subst (λ n. in_it n site ≡ true) n (out (suc i) (omega (arith, lt)))) in
+      rw (here, rest) refl
+
+  module _ (text : List ℕ) (r : Run) (is : IsRun text r) (first : BeginsAt (record { count = span.first; site = span.site }) r) (behind : BeginsAt (next_stamp (last_stamp span)) r) where
+    stays_in : (i : ℕ) → i < r.len → is_in_span span (first_stamp r) ≡ true → in_it (r.first + i) r.site ≡ true
+    stays_in i lt e = split (has r (next_stamp (last_stamp span)))
+        (λ h. let b = behind h in absurd (grind (arith, nat_tests)))
+        (λ h. grind (arith, nat_tests))
+
+    stays_out : (i : ℕ) → i < r.len → is_in_span span (first_stamp r) ≡ false → in_it (r.first + i) r.site ≡ false
+    stays_out i lt e = split (has r (record { count = span.first; site = span.site }))
+        (λ h. let b = first h in split (in_it (r.first + i) r.site) (λ y. absurd (grind (arith, nat_tests))) (λ n. n))
+        (λ h. split (in_it (r.first + i) r.site) (λ y. absurd (grind (arith, nat_tests))) (λ n. n))
+
+    one_marked : run_cells text (f r) ≡ map (cell_in span mark) (run_cells text r)
+    one_marked =
+        let long = characters_length text r is in
+        split (is_in_span span (first_stamp r))
+        (λ e. rw e (marked_cells text mark r ∙ sym (cells_within r.gone r.first r.site r.state (characters text r) (λ i lt. stays_in i (omega (arith, lt, long)) e))))
+        (λ e. rw e (sym (cells_out r.gone r.first r.site r.state (characters text r) (λ i lt. stays_out i (omega (arith, lt, long)) e))))
+
+  pub span_marked : (text : List ℕ) (rs : List Run) → AllByRecursion (IsRun text) rs → AllByRecursion (BeginsAt (record { count = span.first; site = span.site })) rs → AllByRecursion (BeginsAt (next_stamp (last_stamp span))) rs → cells_of text (map f rs) ≡ map (cell_in span mark) (cells_of text rs)
+  span_marked text [] all first behind = refl
+  span_marked text (r ∷ rs) all first behind =
+      ap (λ l. l ++ cells_of text (map f rs)) (one_marked text r all.0 first.0 behind.0)
+      ∙ ap (λ l. map (cell_in span mark) (run_cells text r) ++ l) (span_marked text rs all.1 first.1 behind.1)
+      ∙ sym (map-append (cell_in span mark) (run_cells text r) (cells_of text rs))
+
+-- no run goes behind the greatest count
+pub none_behind : (text : List ℕ) (rs : List Run) (stamp : Stamp) → 2 ^ 64 ≤ stamp.count → AllByRecursion (IsRun text) rs → AllByRecursion (BeginsAt stamp) rs
+none_behind text [] stamp e all = tt
+none_behind text (r ∷ rs) stamp e all = (λ h. let c = all.0.counts in let w = has_within r stamp h in absurd (omega (arith, c, w, e)), none_behind text rs stamp e all.1)
 
 -- as many cells as before
-pub changed_cells : (old new : List Run) (text : List ℕ) (f : Cell ℕ → Cell ℕ) (from to : ℕ) → AllByRecursion (IsRun text) old → AreChanged old new text (map_between f from to) → from ≤ to → to ≤ (counts_of old).cells → (counts_of new).cells ≡ (counts_of old).cells
-changed_cells old new text f from to all is order within =
+pub span_count : (old new : List Run) (text : List ℕ) (g : Cell ℕ → Cell ℕ) → AllByRecursion (IsRun text) old → AreChanged old new text (map g) → (counts_of new).cells ≡ (counts_of old).cells
+span_count old new text g all is =
     let a = counted text old all in
     let b = counted text new is.kept in
-    let c = ap length is.cells ∙ between_length f from to (cells_of text old) order (omega (arith, a.cells, within)) in
+    let c = ap length is.cells ∙ length-map (cells_of text old) g in
     omega (arith, a.cells, b.cells, c)
+
+pub span_changed : (old mid cut new : List Run) (span : Span) (mark : Mark) → IsRecut old mid → IsRecut mid cut → AllByRecursion (BeginsAt (record { count = span.first; site = span.site })) mid → AllByRecursion (BeginsAt (next_stamp (last_stamp span))) cut → new ≡ map (run_in span mark) cut
+    → (text : List ℕ) → AllByRecursion (IsRun text) old → AreChanged old new text (map (cell_in span mark))
+span_changed old mid cut new span mark one two first behind is text all =
+    let all1 = one.kept text all in
+    let all2 = two.kept text all1 in
+    record {
+      kept = subst (AllByRecursion (IsRun text)) (sym is) (runs_kept span mark text cut all2);
+      cells =
+          (ap (cells_of text) is
+          ∙ span_marked span mark text cut all2 (two.begins (record { count = span.first; site = span.site }) first) behind
+          ∙ ap (map (cell_in span mark)) (two.cells text all1 ∙ one.cells text all));
+    }

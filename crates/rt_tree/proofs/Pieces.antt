@@ -1,7 +1,7 @@
 -- Runs cut, marked and put in, and their cells.
-use Rattle.std.proofs.Common.{◌≡◌, ℕ, ◌+◌, ◌-◌, ◌<◌, ◌≤◌, Bool, true, false, List, [], ◌∷◌, ◌++◌, length, take, drop, map, refl, sym, ap, ◌∙◌, arith, append-nil, append_assoc, length-append}
+use Rattle.std.proofs.Common.{◌≡◌, ℕ, ◌+◌, ◌-◌, ◌<◌, ◌≤◌, Bool, true, false, List, [], ◌∷◌, ◌++◌, length, take, drop, map, refl, sym, ap, ◌∙◌, arith, append_assoc, length-append}
 use Rattle.std.specs.List.{AllByRecursion}
-use Rattle.std.proofs.lemmas.List.{drop-append-le, drop-drop, drop_at, length-drop, length-map, length-take-le, map-append, take-append-drop, take-append-le, take-take, take_at}
+use Rattle.std.proofs.lemmas.List.{drop-append-le, drop-drop, length-drop, map-append, take-append-le, take-take}
 use Rattle.std.proofs.lemmas.List.Concat.{flat_map-append}
 use Rattle.std.proofs.Math.Seq.{take-add}
 use Rattle.rt_stamps.specs.Places.{newlines}
@@ -10,7 +10,9 @@ use Rattle.rt_tree.specs.declared.mark.Mark.{Mark}
 use Rattle.rt_tree.specs.declared.mark.Mark.TheVariants.{Gone, State}
 use Rattle.rt_tree.specs.declared.node.Run.{Run}
 use Rattle.rt_tree.specs.Runs.{IsRun, cells_of, characters, run_cells, with_gone}
-use Rattle.rt_tree.specs.Stretches.{IsRecut, back_of, front_of, made_gone, map_between, marked_cell, marked_run}
+use Rattle.rt_tree.specs.Sharing.{IsRecut}
+use Rattle.rt_tree.specs.Stretches.{back_of, front_of, made_gone, marked_cell, marked_run}
+use Rattle.rt_tree.proofs.Apart.{apart_cut, begins_cut}
 use Rattle.rt_tree.proofs.CellLaws.{characters_length}
 use Rattle.rt_tree.proofs.Edges.{edge_cut}
 use Rattle.rt_tree.proofs.Texts.{newlines-append, newlines-take}
@@ -93,6 +95,8 @@ module _ (r : Run) (k : ℕ) (b : List Run) (some : 0 < k) (lt : k < r.len) wher
     kept = λ text. kept_cut text a;
     cells = λ text. cells_cut text a;
     edges = λ at. edge_cut a r (front_of k r) (back_of k r) b at (omega (arith, lt));
+    apart = apart_cut r k b some lt a;
+    begins = begins_cut r k b some lt a;
   }
 
 -- MARKS
@@ -116,37 +120,6 @@ run_marked text (State state) r is = record { some = is.some; stands = is.stands
 pub marked_length : (mark : Mark) (r : Run) → (marked_run mark r).len ≡ r.len
 marked_length Gone r = refl
 marked_length (State state) r = refl
-
--- one more stretch of elements is changed
-pub between_step : {X : Type 0} (f : X → X) (from at n : ℕ) (cs a m b : List X) → from ≤ at → at ≤ length cs → a ++ (m ++ b) ≡ map_between f from at cs → length a ≡ at → length m ≡ n → a ++ (map f m ++ b) ≡ map_between f from (at + n) cs
-between_step {X} f from at n cs a m b le in_cs is la lm =
-    let front = take from cs in
-    let mid = take (at - from) (drop from cs) in
-    let A = front ++ map f mid in
-    let whole : a ++ (m ++ b) ≡ A ++ drop at cs = is in
-    let lfront = length-take-le from cs (omega (arith, le, in_cs)) in
-    let ldrop = length-drop from cs in
-    let lmid = length-map mid f ∙ length-take-le (at - from) (drop from cs) (omega (arith, ldrop, le, in_cs)) in
-    let lA : length A ≡ at = length-append front (map f mid) ∙ (omega (arith, lfront, lmid, le)) in
-    let ea : a ≡ A = sym (take_at a (m ++ b) at la) ∙ ap (take at) whole ∙ take_at A (drop at cs) at lA in
-    let er : m ++ b ≡ drop at cs = sym (drop_at a (m ++ b) at la) ∙ ap (drop at) whole ∙ drop_at A (drop at cs) at lA in
-    let em : m ≡ take n (drop at cs) = sym (take_at m b n lm) ∙ ap (take n) er in
-    let eb : b ≡ drop (at + n) cs = sym (drop_at m b n lm) ∙ ap (drop n) er ∙ drop-drop n at cs in
-    let up : from + (at - from) ≡ at = omega (arith, le) in
-    let sum : at - from + n ≡ at + n - from = omega (arith, le) in
-    let more : mid ++ take n (drop at cs) ≡ take (at + n - from) (drop from cs) =
-    ap (λ l. mid ++ take n l) (ap (λ i. drop i cs) (sym up) ∙ sym (drop-drop (at - from) from cs)) ∙ sym (take-add (at - from) n (drop from cs)) ∙ ap (λ i. take i (drop from cs)) sum in
-    ap (λ l. l ++ (map f m ++ b)) ea
-    ∙ sym (append_assoc A (map f m) b)
-    ∙ ap (λ l. l ++ b) (append_assoc front (map f mid) (map f m) ∙ ap (λ l. front ++ l) (sym (map-append f mid m)))
-    ∙ ap (λ l. front ++ map f (mid ++ l) ++ b) em
-    ∙ ap (λ l. front ++ map f l ++ b) more
-    ∙ ap (λ l. front ++ map f (take (at + n - from) (drop from cs)) ++ l) eb
-
-pub between_none : {X : Type 0} (f : X → X) (at : ℕ) (cs : List X) → map_between f at at cs ≡ cs
-between_none f at cs =
-    let z : at - at ≡ 0 = omega arith in
-    ap (λ i. take at cs ++ map f (take i (drop at cs)) ++ drop at cs) z ∙ ap (λ l. l ++ drop at cs) (append-nil (take at cs)) ∙ take-append-drop at cs
 
 -- OTHER RUNS IN PLACE OF ONE
 

@@ -10,6 +10,7 @@ use Rattle.rt_store.specs.Cells.{Room}
 use Rattle.rt_tree.specs.declared.node.Run.{Run}
 use Rattle.rt_tree.specs.Runs.{IsRun, cells_of}
 use Rattle.rt_tree.specs.Shape.{Fits, IsExact, IsTree, Memory, all_below, below, level_of, tree_runs}
+use Rattle.rt_tree.specs.Sharing.{AreApart}
 use Rattle.rt_tree.specs.Sums.{counts_of, totals_of}
 use Rattle.rt_tree.specs.Trees.{HasNodes, IsKept, shown}
 
@@ -78,6 +79,7 @@ module _ (m : Memory) (n : ℕ) (root : ℕ) (text : List ℕ) (runs : ℕ) (m' 
       record {
         tree = subst (λ (x : Memory). IsTree x root) (sym is) (tree_room m n root k.tree);
         kept = subst (AllByRecursion (IsRun text)) same k.kept;
+        apart = subst AreApart same k.apart;
         counted = k.counted ∙ ap length same;
         few = subst (λ (l : List Run). (counts_of l).cells ≤ MOST_CELLS) same k.few;
         all = k.all ∙ ap (λ (l : List Run). (counts_of l).cells) same;

@@ -1,6 +1,7 @@
 -- New cells put in run by run.
-use Rattle.std.proofs.Common.{◌≡◌, ℕ, ◌+◌, ◌-◌, ◌^◌, ◌<◌, ◌≤◌, true, List, [], ◌∷◌, ◌++◌, length, take, drop, map, refl, sym, ap, ◌∙◌, arith, subst, append_assoc, length-append}
-use Rattle.std.specs.List.{AllByRecursion}
+use Rattle.std.proofs.Common.{◌≡◌, ℕ, ◌+◌, ◌-◌, ◌^◌, ◌<◌, ◌≤◌, true, false, List, [], ◌∷◌, ◌++◌, length, take, drop, map, refl, sym, ap, ◌∙◌, arith, subst, append_assoc, length-append}
+use Rattle.std.specs.Prelude.{◌==◌, if◌then◌else◌}
+use Rattle.std.specs.List.{AllByRecursion, list_any}
 use Rattle.std.proofs.Math.Seq.{take-add}
 use Rattle.std.proofs.lemmas.List.{drop-drop, drop_at, length-drop, length-map, length-take-le, take_all, take_at, take-append-drop, drop-map}
 use Rattle.rt_stamps.specs.declared.limits.TheConstants.{MOST_CELLS}
@@ -9,17 +10,18 @@ use Rattle.rt_store.specs.Cells.{put_at}
 use Rattle.rt_tree.specs.declared.node.Counts.{Counts}
 use Rattle.rt_tree.specs.declared.node.Measure.TheVariants.{Cells}
 use Rattle.rt_tree.specs.declared.node.Run.{Run}
-use Rattle.rt_tree.specs.Additions.{EndsWith, IsRunOf, are_joint, joined, stretches}
+use Rattle.rt_tree.specs.Additions.{EndsWith, IsFrontOf, IsRunOf, IsStretch, are_joint, joined, stretches}
 use Rattle.rt_tree.specs.Runs.{IsRun, cells_of, run_cells}
 use Rattle.rt_tree.specs.Shape.{IsTree, Memory, level_of, tree_runs}
-use Rattle.rt_tree.specs.Stretches.{AreChanged, AreKept, IsEdge, IsRecut, lengths}
+use Rattle.rt_tree.specs.Sharing.{AreApart, AreOnce, IsRecut, is_shared_by, occurrences}
+use Rattle.rt_tree.specs.Stretches.{AreChanged, AreKept, IsEdge, lengths}
 use Rattle.rt_tree.specs.Sums.{AreFew, counts_of, counts_of_run, plus}
 use Rattle.rt_tree.specs.Walks.{IsPutAt, IsReplacedAt, StandsAt}
 use Rattle.rt_tree.proofs.CellLaws.{counted, counted_left, is_run, run_length}
 use Rattle.rt_tree.proofs.Cutting.{few_with, low_tree}
 use Rattle.rt_tree.proofs.Edges.{counts_mid, edge_there, one_spot, stands_first, IsSameSpot}
-use Rattle.rt_tree.proofs.Following.{stretches_few}
 use Rattle.rt_tree.proofs.Joining.{joined_cells, joined_run, joint_true}
+use Rattle.rt_tree.proofs.Shared.{apart_joined, apart_put, occurs-parts, occurs-put}
 use Rattle.rt_tree.proofs.Pieces.{cells_mid, grown_cells, grown_kept, kept_more, kept_set}
 
 -- more elements behind those that were put in
@@ -62,25 +64,29 @@ ends_later text cells k le e =
     }
 
 -- so many cells have been put in, in so many runs
-pub record IsSpliced (text : List ℕ) (old now : List Run) (at done more : ℕ) (cells : List (Cell ℕ)) : Type 0 where
+pub record IsSpliced (text : List ℕ) (old now : List Run) (at done more lone : ℕ) (cells : List (Cell ℕ)) : Type 0 where
   pub low : done ≤ length cells
   pub edge : IsEdge (lengths now) (at + done)
   pub changed : AreChanged old now text (put_at at (take done cells))
   pub runs : length now ≡ length old + more
-  pub few : more + stretches (drop done cells) ≤ stretches cells
+  pub most : more ≤ done
+  pub apart : AreApart now
+  pub few : AreOnce (cells_of text old) cells → (more + stretches (drop done cells) ≤ stretches cells) × (lone ≡ 0)
 
-pub none_spliced : (text : List ℕ) (old : List Run) (at : ℕ) (cells : List (Cell ℕ)) → AllByRecursion (IsRun text) old → IsEdge (lengths old) at → IsSpliced text old old at 0 0 cells
-none_spliced text old at cells all edge =
+pub none_spliced : (text : List ℕ) (old : List Run) (at : ℕ) (cells : List (Cell ℕ)) → AllByRecursion (IsRun text) old → IsEdge (lengths old) at → AreApart old → IsSpliced text old old at 0 0 0 cells
+none_spliced text old at cells all edge apart =
     let z : at ≡ at + 0 = omega arith in
     record {
       low = omega arith;
       edge = subst (IsEdge (lengths old)) z edge;
       changed = record { kept = all; cells = sym (put_none at (cells_of text old)) };
       runs = omega arith;
-      few = omega arith;
+      most = omega arith;
+      apart = apart;
+      few = λ once. (omega arith, refl);
     }
 
-module _ (text : List ℕ) (old now : List Run) (at done more : ℕ) (cells : List (Cell ℕ)) (all : AllByRecursion (IsRun text) old) (short : length text ≤ MOST_CELLS) (few : (counts_of old).cells + length cells ≤ MOST_CELLS) (within : at < (counts_of old).cells) (is : IsSpliced text old now at done more cells) where
+module _ (text : List ℕ) (old now : List Run) (at done more lone : ℕ) (cells : List (Cell ℕ)) (all : AllByRecursion (IsRun text) old) (short : length text ≤ MOST_CELLS) (few : (counts_of old).cells + length cells ≤ MOST_CELLS) (within : at < (counts_of old).cells) (is : IsSpliced text old now at done more lone cells) where
   -- there are as many cells more
   pub spliced_cells : (counts_of now).cells ≡ (counts_of old).cells + done
   spliced_cells =
@@ -103,11 +109,18 @@ module _ (text : List ℕ) (old now : List Run) (at done more : ℕ) (cells : Li
   spliced_low m root t e = low_tree m root t (subst AreKept (sym e) now_kept) (subst (λ (l : List Run). (counts_of l).cells ≤ MOST_CELLS) (sym e) spliced_few)
 
   pub spliced_runs : length now ≤ length old + length cells
-  spliced_runs = let s = stretches_few cells in omega (arith, is.runs, is.few, s)
+  spliced_runs = omega (arith, is.runs, is.most, is.low)
 
-  module _ (run : Run) (rest : IsRunOf text (drop done cells) run) where
+  pub spliced_once : AreOnce (cells_of text old) cells → AreOnce (cells_of text now) (drop done cells)
+  spliced_once once stamp =
+      let h = once stamp in
+      let a = ap (occurrences stamp) is.changed.cells ∙ occurs-put stamp at (take done cells) (cells_of text old) in
+      let b = occurs-parts stamp done cells in
+      omega (arith, h, a, b)
+
+  module _ (run : Run) (rest : IsFrontOf text (drop done cells) run) where
     within_rest : run.len + done ≤ length cells
-    within_rest = let l = length-drop done cells in let w = rest.stretch.within in omega (arith, l, w, is.low)
+    within_rest = let l = length-drop done cells in let w = rest.within in omega (arith, l, w, is.low)
 
     pub spliced_with : AreFew (plus (counts_of_run run) (counts_of now))
     spliced_with = few_with run now rest.run.some (omega (arith, within_rest, few)) now_kept spliced_few
@@ -150,27 +163,32 @@ module _ (text : List ℕ) (old now : List Run) (at done more : ℕ) (cells : Li
           cells_around_left [] b = refl
           cells_around_left (x ∷ a) b = ap (λ l. run_cells text x ++ l) (cells_around_left a b) ∙ sym (append_assoc (run_cells text x) (cells_of text a) (cells_of text b))
 
-      pub more_spliced : IsSpliced text old new at (done + run.len) (more + 1) cells
-      more_spliced =
+      pub more_spliced : (lone' : ℕ) → AreApart (run ∷ now) → (lone ≡ 0 → AreOnce (cells_of text now) (drop done cells) → IsStretch (drop done cells) run.len × (lone' ≡ 0)) → IsSpliced text old new at (done + run.len) (more + 1) lone' cells
+      more_spliced lone' apart chosen =
           let a = ap length put.is ∙ length-append put.was.left (run ∷ put.next ∷ put.was.right) in
           let b = ap length put.was.here ∙ length-append put.was.left (put.next ∷ put.was.right) in
-          let s = rest.stretch.longest in
           let d = ap stretches (drop-drop run.len done cells) in
+          let some = rest.run.some in
           record {
             low = omega (arith, within_rest);
             edge = new_edge;
             changed = record { kept = new_kept; cells = new_cells };
             runs = omega (arith, a, b, is.runs);
-            few = omega (arith, is.few, s, d);
+            most = (let m = is.most in omega (arith, m, some));
+            apart = apart_put now new (at + done) run put apart;
+            few = λ once. (let f = is.few once in let c = chosen f.1 (spliced_once once) in let s = c.0.longest in let g = f.0 in (omega (arith, g, s, d), c.1));
           }
 
       pub fewer_cells : length cells - (done + run.len) < length cells - done
       fewer_cells = omega (arith, rest.run.some, within_rest)
 
+pub front_is : (text : List ℕ) (cells : List (Cell ℕ)) (run : Run) → IsRunOf text cells run → IsFrontOf text cells run
+front_is text cells run is = record { within = is.stretch.within; at = is.at; run = is.run; same = is.same }
+
 -- all are in
-pub all_spliced : (text : List ℕ) (old now : List Run) (at done more : ℕ) (cells : List (Cell ℕ)) → IsSpliced text old now at done more cells → length cells ≤ done → AreChanged old now text (put_at at cells) × (more ≤ stretches cells)
-all_spliced text old now at done more cells is end =
-    (record { kept = is.changed.kept; cells = is.changed.cells ∙ ap (λ l. put_at at l (cells_of text old)) (take_all done cells end) }, omega (arith, is.few))
+pub all_spliced : (text : List ℕ) (old now : List Run) (at done more lone : ℕ) (cells : List (Cell ℕ)) → IsSpliced text old now at done more lone cells → length cells ≤ done → AreChanged old now text (put_at at cells) × (AreOnce (cells_of text old) cells → more ≤ stretches cells)
+all_spliced text old now at done more lone cells is end =
+    (record { kept = is.changed.kept; cells = is.changed.cells ∙ ap (λ l. put_at at l (cells_of text old)) (take_all done cells end) }, λ once. (let f = (is.few once).0 in omega (arith, f)))
 
 -- A RUN THAT GOES ON
 
@@ -210,6 +228,11 @@ module _ (text : List ℕ) (old : List Run) (at : ℕ) (cells : List (Cell ℕ))
       cells = extended_cells;
     }
 
+    pub extended_apart : AreApart old → list_any (is_shared_by (if run.len == 1 then joined run b else b)) old ≡ false → AreApart new
+    extended_apart is apart =
+        subst AreApart (sym new_is)
+        (apart_joined run b st.left st.right j there.some (subst (λ (l : List Run). list_any (is_shared_by (if run.len == 1 then joined run b else b)) l ≡ false) st.here apart) (subst AreApart st.here is))
+
     pub extended_length : length new ≡ length old
     extended_length =
         let a = ap length new_is ∙ length-append st.left (joined run b ∷ st.right) in
@@ -238,6 +261,13 @@ module _ (text : List ℕ) (old m1 : List Run) (at k : ℕ) (cells : List (Cell 
       omega (arith, a.cells, b.cells, c, d)
 
   module _ (m2 : List Run) (cut : IsRecut m1 m2) where
+    pub rest_once : AreOnce (cells_of text old) cells → AreOnce (cells_of text m2) (drop k cells)
+    rest_once once stamp =
+        let h = once stamp in
+        let a = ap (occurrences stamp) (cut.cells text is.kept ∙ is.cells) ∙ occurs-put stamp at (take k cells) (cells_of text old) in
+        let b = occurs-parts stamp k cells in
+        omega (arith, h, a, b)
+
     pub cut_count : (counts_of m2).cells ≡ (counts_of old).cells + k
     cut_count =
         let a = counted text m1 is.kept in
@@ -246,15 +276,15 @@ module _ (text : List ℕ) (old m1 : List Run) (at k : ℕ) (cells : List (Cell 
         omega (arith, a.cells, b.cells, c, put_count)
 
     pub put_twice : (new : List Run) → AreChanged m2 new text (put_at (at + k) (drop k cells)) → AreChanged old new text (put_at at cells)
-    put_twice new then =
+    put_twice new rest =
         let a = counted text old all in
         let front = take k cells in
         let d = length-take-le k cells low in
         let n : at + k ≡ at + length front = ap (λ i. at + i) (sym d) in
         record {
-          kept = then.kept;
+          kept = rest.kept;
           cells =
-              (then.cells
+              (rest.cells
               ∙ ap (put_at (at + k) (drop k cells)) (cut.cells text is.kept ∙ is.cells)
               ∙ ap (λ i. put_at i (drop k cells) (put_at at front (cells_of text old))) n
               ∙ put_more at front (drop k cells) (cells_of text old) (omega (arith, a.cells, within))
@@ -276,8 +306,11 @@ module _ (text longer : List ℕ) (old : List Run) (cells : List (Cell ℕ)) (ke
   pub longer_text : length longer ≡ length text + length cells
   longer_text = ap length more ∙ length-append text new_characters ∙ ap (λ n. length text + n) (length-map cells (λ (c : Cell ℕ). c.ch))
 
+  pub longer_cells : cells_of longer old ≡ cells_of text old
+  longer_cells = ap (λ (t : List ℕ). cells_of t old) more ∙ grown_cells text new_characters old kept
+
   pub longer_shown : (new : List Run) (at : ℕ) → AreChanged old new longer (put_at at cells) → cells_of longer new ≡ put_at at cells (cells_of text old)
-  longer_shown new at is = is.cells ∙ ap (put_at at cells) (ap (λ (t : List ℕ). cells_of t old) more ∙ grown_cells text new_characters old kept)
+  longer_shown new at is = is.cells ∙ ap (put_at at cells) longer_cells
 
   pub longer_count : (new : List Run) (at : ℕ) → AreChanged old new longer (put_at at cells) → at < (counts_of old).cells → (counts_of new).cells ≡ (counts_of old).cells + length cells
   longer_count new at is within =

@@ -40,6 +40,13 @@ pub record IsRunOf (text : List ℕ) (cells : List (Cell ℕ)) (r : Run) : Type 
   pub run : IsRun text r
   pub same : run_cells text r ≡ take r.len cells
 
+-- a run has the first cells, as many as may be
+pub record IsFrontOf (text : List ℕ) (cells : List (Cell ℕ)) (r : Run) : Type 0 where
+  pub within : r.len ≤ length cells
+  pub at : r.at ≡ length text - length cells
+  pub run : IsRun text r
+  pub same : run_cells text r ≡ take r.len cells
+
 -- a run goes on where another ends: with the next count of its site and the next character, in its state, gone if that one is, and in its line
 abbrev pub are_joint : Run → Run → Bool
 are_joint before run =

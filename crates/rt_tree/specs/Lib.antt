@@ -3,8 +3,10 @@ pub mod Sums
 pub mod Shape
 pub mod Walks
 pub mod Stretches
+pub mod Sharing
 pub mod Additions
 pub mod Trees
+pub mod Stores
 pub mod Changes
 pub mod Skips
 pub use Rattle.rt_nodes.specs.Nodes

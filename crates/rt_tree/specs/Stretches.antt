@@ -1,5 +1,5 @@
 -- Stretches of runs and of cells, and what changes them.
-use Rattle.std.specs.Prelude.{◌≡◌, ℕ, ◌+◌, ◌-◌, ◌≤◌, ◌⊎◌, true, false, List, [], ◌∷◌, ◌++◌, length, map, take, drop}
+use Rattle.std.specs.Prelude.{◌≡◌, ℕ, ◌+◌, ◌-◌, ◌≤◌, ◌⊎◌, true, false, List, [], ◌∷◌, length, map}
 use Rattle.std.specs.List.{AllByRecursion}
 use Rattle.rt_stamps.specs.declared.limits.TheConstants.{MOST_CELLS}
 use Rattle.rt_store.specs.declared.cell.Cell.{Cell}
@@ -8,10 +8,6 @@ use Rattle.rt_tree.specs.declared.node.Run.{Run}
 use Rattle.rt_tree.specs.declared.mark.Mark.{Mark}
 use Rattle.rt_tree.specs.declared.mark.Mark.TheVariants.{Gone, State}
 use Rattle.rt_tree.specs.Runs.{IsRun, cells_of}
-
--- the elements between two positions of a list are changed
-abbrev pub map_between : {X : Type 0} → (X → X) → ℕ → ℕ → List X → List X
-map_between f from to xs = take from xs ++ map f (take (to - from) (drop from xs)) ++ drop to xs
 
 -- a cell that is gone now
 abbrev pub made_gone : Cell ℕ → Cell ℕ
@@ -41,12 +37,6 @@ front_of k r = record r { len = k; newline = false }
 
 abbrev pub back_of : ℕ → Run → Run
 back_of k r = record r { first = r.first + k; at = r.at + k; len = r.len - k }
-
--- runs with the same cells, where runs begin and end at no fewer positions
-pub record IsRecut (old new : List Run) : Type 0 where
-  pub kept : (text : List ℕ) → AllByRecursion (IsRun text) old → AllByRecursion (IsRun text) new
-  pub cells : (text : List ℕ) → AllByRecursion (IsRun text) old → cells_of text new ≡ cells_of text old
-  pub edges : (at : ℕ) → IsEdge (lengths old) at → IsEdge (lengths new) at
 
 -- runs are as they should be in some text
 pub record AreKept (rs : List Run) : Type 0 where

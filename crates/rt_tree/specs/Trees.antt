@@ -8,6 +8,7 @@ use Rattle.rt_store.specs.Cells.{Room}
 use Rattle.rt_tree.specs.declared.node.Run.{Run}
 use Rattle.rt_tree.specs.Runs.{IsRun, cells_of}
 use Rattle.rt_tree.specs.Shape.{IsTree, Memory, level_of, tree_runs}
+use Rattle.rt_tree.specs.Sharing.{AreApart}
 use Rattle.rt_tree.specs.Sums.{counts_of}
 
 -- the cells in order, how many runs they are kept in, how many levels of nodes there are, and what there is room for
@@ -21,10 +22,12 @@ abbrev pub shown : Memory → ℕ → List ℕ → Room → Shown
 shown m root text room =
     record { cells = cells_of text (tree_runs m root); runs = length (tree_runs m root); height = level_of m root + 1; room = room }
 
--- the nodes are a tree, whose runs stand in the text and share it, and have no more cells than a text may have
+-- the nodes are a tree, whose runs stand in the text and share it, have no more cells than a text may have, and share no stamp if they
+-- have more than one cell
 pub record IsKept (m : Memory) (root : ℕ) (text : List ℕ) (runs : ℕ) : Type 0 where
   pub tree : IsTree m root
   pub kept : AllByRecursion (IsRun text) (tree_runs m root)
+  pub apart : AreApart (tree_runs m root)
   pub counted : runs ≡ length (tree_runs m root)
   pub few : (counts_of (tree_runs m root)).cells ≤ MOST_CELLS
   pub all : length text ≡ (counts_of (tree_runs m root)).cells

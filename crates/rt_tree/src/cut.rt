@@ -1,15 +1,19 @@
 // Runs cut in two.
-ghost use Rattle.std.specs.Prelude.{◌≡◌, ◌+◌, ◌<◌, ◌≤◌, ◌^◌, length};
+ghost use Rattle.std.specs.Prelude.{◌≡◌, ◌+◌, ◌<◌, ◌≤◌, ◌^◌, ◌&&◌, nat_lt, length, MatchOption};
+ghost use Rattle.std.specs.List.{AllByRecursion};
 ghost use Rattle.rt_stamps.specs.declared.limits.TheConstants.{MOST_CELLS};
+ghost use Rattle.rt_tree.specs.Runs.{has};
 ghost use Rattle.rt_tree.specs.Shape.{IsTree, tree_runs};
-ghost use Rattle.rt_tree.specs.Stretches.{AreKept, IsEdge, IsRecut, back_of, front_of, lengths};
+ghost use Rattle.rt_tree.specs.Sharing.{AreApart, AreParts, BeginsAt, IsInside, IsRecut};
+ghost use Rattle.rt_tree.specs.Stretches.{AreKept, IsEdge, back_of, front_of, lengths};
 ghost use Rattle.rt_tree.specs.Sums.{counts_of};
 ghost use Rattle.rt_tree.specs.Trees.{HasNodes};
 
-use crate::find::{seek, sum_of};
+use crate::find::{cells_of, has, seek, sum_of};
 use crate::node::{Measure, Mem, Run};
 use crate::put::{put, replace};
 use rt_nodes::NodeId;
+use rt_stamps::Stamp;
 
 // The root after a change, and how many runs were put in.
 #[derive(Clone, Copy)]
@@ -53,6 +57,7 @@ pub(crate) fn cut(mem: &mut Mem, root: NodeId, at: usize) -> Change
     ensures tree { IsTree mem.new result.root.index }
     ensures recut { IsRecut (tree_runs mem.old root.index) (tree_runs mem.new result.root.index) }
     ensures edge { IsEdge (lengths (tree_runs mem.new result.root.index)) at }
+    ensures parts { AreParts (tree_runs mem.old root.index) (tree_runs mem.new result.root.index) at }
     ensures runs { length (tree_runs mem.new result.root.index) ≡ length (tree_runs mem.old root.index) + result.more }
     ensures more { result.more ≤ 1 }
     ensures room { length mem.new.heads + mem.new.room ≡ length mem.old.heads + mem.old.room }
@@ -69,4 +74,51 @@ pub(crate) fn cut(mem: &mut Mem, root: NodeId, at: usize) -> Change
     let front = front_of(found.run, offset as u32);
     let root = put(mem, root, at - offset, front);
     Change { root, more: 1 }
+}
+
+// Whether a run has a stamp and doesn't begin with it.
+fn is_within(run: &Run, stamp: Stamp) -> bool
+    ensures { result ≡ (has run.now stamp && nat_lt run.now.first stamp.count) }
+{
+    has(*run, stamp) && run.first < stamp.count
+}
+
+// The position of the cell of a stamp that a run has and doesn't begin with; none if no run has it so.
+fn inside(mem: &Mem, root: NodeId, stamp: Stamp) -> Option<usize>
+    requires tree { IsTree mem.now root.index }
+    requires kept { AreKept (tree_runs mem.now root.index) }
+    requires few { (counts_of (tree_runs mem.now root.index)).cells ≤ MOST_CELLS }
+    ensures { MatchOption result (AllByRecursion (BeginsAt stamp) (tree_runs mem.now root.index))
+        (λ at. IsInside (tree_runs mem.now root.index) stamp at) }
+{
+    let all = cells_of(mem, root);
+    let mut at = 0;
+    while at < all {
+        let found = seek(mem, root, Measure::Cells, at);
+        if is_within(&found.run, stamp) {
+            return Some(at + (stamp.count - found.run.first) as usize);
+        }
+        at += found.run.len as usize;
+    }
+    None
+}
+
+// Sees to it that each run which has a stamp begins with it: of more than one cell only one run can have it.
+pub(crate) fn part(mem: &mut Mem, root: NodeId, stamp: Stamp) -> Change
+    requires tree { IsTree mem.old root.index }
+    requires kept { AreKept (tree_runs mem.old root.index) }
+    requires apart { AreApart (tree_runs mem.old root.index) }
+    requires few { (counts_of (tree_runs mem.old root.index)).cells ≤ MOST_CELLS }
+    requires room { HasNodes mem.old (length (tree_runs mem.old root.index)) }
+    ensures tree { IsTree mem.new result.root.index }
+    ensures recut { IsRecut (tree_runs mem.old root.index) (tree_runs mem.new result.root.index) }
+    ensures begins { AllByRecursion (BeginsAt stamp) (tree_runs mem.new result.root.index) }
+    ensures runs { length (tree_runs mem.new result.root.index) ≡ length (tree_runs mem.old root.index) + result.more }
+    ensures more { result.more ≤ 1 }
+    ensures room { length mem.new.heads + mem.new.room ≡ length mem.old.heads + mem.old.room }
+{
+    match inside(mem, root, stamp) {
+        None => Change { root, more: 0 },
+        Some(at) => cut(mem, root, at),
+    }
 }

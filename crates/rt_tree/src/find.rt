@@ -1,7 +1,7 @@
 // Runs by what is counted, in the nodes of a tree.
 ghost use Rattle.std.specs.Prelude.{◌≡◌, ◌+◌, ◌*◌, ◌<◌, ◌≤◌, ◌^◌, length, take, slice_get, Some};
 ghost use Rattle.rt_nodes.specs.Nodes.{IsNode, entries};
-ghost use Rattle.rt_tree.specs.Runs.{IsRun, run_cells};
+ghost use Rattle.rt_tree.specs.Runs.{IsRun, first_stamp, has, run_cells};
 ghost use Rattle.rt_tree.specs.Shape.{IsTree, level_of, sum_of, tree_runs};
 ghost use Rattle.rt_tree.specs.Sums.{AreFew, amount, counts_of};
 ghost use Rattle.rt_tree.specs.Walks.{StandsAt};
@@ -26,6 +26,15 @@ pub(crate) fn sum_of(mem: &Mem, id: NodeId) -> Counts
         sum = plus(sum, entry_counts(mem.entry(id, i)));
     }
     sum
+}
+
+// How many cells the runs of a tree have.
+pub(crate) fn cells_of(mem: &Mem, root: NodeId) -> usize
+    requires tree { IsTree mem.now root.index }
+    requires few { AreFew (counts_of (tree_runs mem.now root.index)) }
+    ensures { result ≡ (counts_of (tree_runs mem.now root.index)).cells }
+{
+    sum_of(mem, root).cells as usize
 }
 
 // How many levels of nodes there are.
@@ -77,5 +86,22 @@ pub(crate) fn cell_in(text: &[char], run: &Run, offset: usize) -> Cell<StateId>
         ch: text[run.at as usize + offset],
         gone: run.gone,
         state: run.state,
+    }
+}
+
+// Whether a stamp is one of a run's cells'.
+pub(crate) fn has(run: Run, stamp: Stamp) -> bool
+    ensures { result ≡ has run stamp }
+{
+    run.site == stamp.site && run.first <= stamp.count && stamp.count - run.first < run.len as u64
+}
+
+// The stamp of a run's first cell.
+pub(crate) fn first_stamp(run: &Run) -> Stamp
+    ensures { result ≡ first_stamp run.now }
+{
+    Stamp {
+        count: run.first,
+        site: run.site,
     }
 }

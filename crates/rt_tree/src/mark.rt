@@ -1,18 +1,22 @@
 // Cells that become gone, or get another state.
-ghost use Rattle.std.specs.Prelude.{◌≡◌, ◌+◌, ◌≤◌, ℕ, List, length};
+ghost use Rattle.std.specs.Prelude.{◌≡◌, ◌+◌, ◌<◌, ◌≤◌, ℕ, List, length, map};
 ghost use Rattle.std.specs.List.{AllByRecursion};
 ghost use Rattle.rt_stamps.specs.declared.limits.TheConstants.{MOST_CELLS};
-ghost use Rattle.rt_tree.specs.Runs.{IsRun};
+ghost use Rattle.rt_store.specs.Cells.{is_in_span};
+ghost use Rattle.rt_store.specs.Spans.{last_stamp, next_stamp};
+ghost use Rattle.rt_tree.specs.Runs.{IsRun, first_stamp};
 ghost use Rattle.rt_tree.specs.Shape.{IsTree, tree_runs};
-ghost use Rattle.rt_tree.specs.Stretches.{AreChanged, AreKept, IsEdge, lengths, map_between, marked_cell, marked_run};
+ghost use Rattle.rt_tree.specs.Sharing.{AreApart, BeginsAt, IsChangedAt, IsRecut, cell_in, run_in};
+ghost use Rattle.rt_tree.specs.Stretches.{AreChanged, AreKept, marked_run};
 ghost use Rattle.rt_tree.specs.Sums.{counts_of};
 ghost use Rattle.rt_tree.specs.Trees.{HasNodes};
 
-use crate::cut::{Change, cut};
-use crate::find::seek;
+use crate::cut::{Change, part};
+use crate::find::{cells_of, seek};
 use crate::node::{Measure, Mem, Run};
 use crate::put::replace;
 use rt_nodes::NodeId;
+use rt_stamps::{Span, Stamp};
 use rt_tags::StateId;
 
 /// What cells become.
@@ -31,47 +35,92 @@ fn marked(run: Run, mark: &Mark) -> Run
     }
 }
 
-// Marks the cells between two positions at which runs begin or end.
-fn mark_between(mem: &mut Mem, root: NodeId, from: usize, to: usize, mark: Mark)
+// Whether a run's first stamp is one of a span's.
+fn is_first_in(span: Span, run: &Run) -> bool
+    ensures { result ≡ is_in_span span (first_stamp run.now) }
+{
+    run.site == span.site && span.first <= run.first && run.first <= span.last
+}
+
+// Marks the run that has the cell at a position, if its first stamp is in a span, and tells how many cells the run has.
+fn mark_run(mem: &mut Mem, root: NodeId, at: usize, span: Span, mark: &Mark) -> u32
     requires tree { IsTree mem.old root.index }
     requires kept { AreKept (tree_runs mem.old root.index) }
     requires few { (counts_of (tree_runs mem.old root.index)).cells ≤ MOST_CELLS }
-    requires order { from ≤ to }
-    requires within { to ≤ (counts_of (tree_runs mem.old root.index)).cells }
-    requires edges { IsEdge (lengths (tree_runs mem.old root.index)) from × IsEdge (lengths (tree_runs mem.old root.index)) to }
+    requires within { at < (counts_of (tree_runs mem.old root.index)).cells }
     ensures tree { IsTree mem.new root.index }
-    ensures lengths { lengths (tree_runs mem.new root.index) ≡ lengths (tree_runs mem.old root.index) }
-    ensures cells { (text : List ℕ) → AllByRecursion (IsRun text) (tree_runs mem.old root.index)
-        → AreChanged (tree_runs mem.old root.index) (tree_runs mem.new root.index) text (map_between (marked_cell mark) from to) }
+    ensures run { IsChangedAt (tree_runs mem.old root.index) (tree_runs mem.new root.index) at (run_in span mark.now) result }
     ensures room { length mem.new.heads + mem.new.room ≡ length mem.old.heads + mem.old.room }
 {
-    let mut at = from;
-    while at < to {
-        let run = seek(mem, root, Measure::Cells, at).run;
-        let next = at + run.len as usize;
-        replace(mem, root, at, marked(run, &mark));
-        at = next;
+    let found = seek(mem, root, Measure::Cells, at);
+    if is_first_in(span, &found.run) {
+        replace(mem, root, at, marked(found.run, mark));
+    }
+    found.run.len
+}
+
+// Marks each run whose first stamp is in a span.
+fn mark_runs(mem: &mut Mem, root: NodeId, span: Span, mark: &Mark)
+    requires tree { IsTree mem.old root.index }
+    requires kept { AreKept (tree_runs mem.old root.index) }
+    requires few { (counts_of (tree_runs mem.old root.index)).cells ≤ MOST_CELLS }
+    ensures tree { IsTree mem.new root.index }
+    ensures runs { tree_runs mem.new root.index ≡ map (run_in span mark.now) (tree_runs mem.old root.index) }
+    ensures room { length mem.new.heads + mem.new.room ≡ length mem.old.heads + mem.old.room }
+{
+    let all = cells_of(mem, root);
+    let mut at = 0;
+    while at < all {
+        let len = mark_run(mem, root, at, span, mark);
+        at += len as usize;
     }
 }
 
-// Marks the cells between two positions, in two runs more at most.
-pub(crate) fn mark_cells(mem: &mut Mem, root: NodeId, from: usize, to: usize, mark: Mark) -> Change
+// Sees to it that each run which has the stamp behind a span begins with it.
+fn part_behind(mem: &mut Mem, root: NodeId, span: Span) -> Change
     requires tree { IsTree mem.old root.index }
     requires kept { AreKept (tree_runs mem.old root.index) }
+    requires apart { AreApart (tree_runs mem.old root.index) }
     requires few { (counts_of (tree_runs mem.old root.index)).cells ≤ MOST_CELLS }
-    requires order { from ≤ to }
-    requires within { to ≤ (counts_of (tree_runs mem.old root.index)).cells }
+    requires room { HasNodes mem.old (length (tree_runs mem.old root.index)) }
+    ensures tree { IsTree mem.new result.root.index }
+    ensures recut { IsRecut (tree_runs mem.old root.index) (tree_runs mem.new result.root.index) }
+    ensures begins { AllByRecursion (BeginsAt (next_stamp (last_stamp span))) (tree_runs mem.new result.root.index) }
+    ensures runs { length (tree_runs mem.new result.root.index) ≡ length (tree_runs mem.old root.index) + result.more }
+    ensures more { result.more ≤ 1 }
+    ensures room { length mem.new.heads + mem.new.room ≡ length mem.old.heads + mem.old.room }
+{
+    match span.last.checked_add(1) {
+        None => Change { root, more: 0 },
+        Some(count) => {
+            let site = span.site;
+            part(mem, root, Stamp { count, site })
+        }
+    }
+}
+
+// Marks the cells of a span of stamps, in two runs more at most.
+pub(crate) fn mark_span(mem: &mut Mem, root: NodeId, span: Span, mark: Mark) -> Change
+    requires tree { IsTree mem.old root.index }
+    requires kept { AreKept (tree_runs mem.old root.index) }
+    requires apart { AreApart (tree_runs mem.old root.index) }
+    requires few { (counts_of (tree_runs mem.old root.index)).cells ≤ MOST_CELLS }
     requires room { HasNodes mem.old (length (tree_runs mem.old root.index) + 1) }
     ensures tree { IsTree mem.new result.root.index }
     ensures cells { (text : List ℕ) → AllByRecursion (IsRun text) (tree_runs mem.old root.index)
-        → AreChanged (tree_runs mem.old root.index) (tree_runs mem.new result.root.index) text (map_between (marked_cell mark) from to) }
+        → AreChanged (tree_runs mem.old root.index) (tree_runs mem.new result.root.index) text (map (cell_in span mark)) }
+    ensures apart { AreApart (tree_runs mem.new result.root.index) }
     ensures runs { length (tree_runs mem.new result.root.index) ≡ length (tree_runs mem.old root.index) + result.more }
     ensures more { result.more ≤ 2 }
     ensures room { length mem.new.heads + mem.new.room ≡ length mem.old.heads + mem.old.room }
 {
-    let first = cut(mem, root, from);
-    let second = cut(mem, first.root, to);
-    mark_between(mem, second.root, from, to, mark);
+    let begin = Stamp {
+        count: span.first,
+        site: span.site,
+    };
+    let first = part(mem, root, begin);
+    let second = part_behind(mem, first.root, span);
+    mark_runs(mem, second.root, span, &mark);
     Change {
         root: second.root,
         more: first.more + second.more,

@@ -1,17 +1,18 @@
 // New cells put in.
-ghost use Rattle.std.specs.Prelude.{◌≡◌, ◌+◌, ◌<◌, ◌≤◌, ◌^◌, ◌++◌, drop, length, map, take, vec_capacity, vec_len};
-ghost use Rattle.std.specs.List.{AllByRecursion};
+ghost use Rattle.std.specs.Prelude.{◌≡◌, ◌+◌, ◌<◌, ◌≤◌, ◌^◌, ◌∷◌, ◌++◌, ◌==◌, ◌&&◌, nat_lt, if◌then◌else◌, drop, length, map, take, vec_capacity, vec_len};
+ghost use Rattle.std.specs.List.{AllByRecursion, list_any};
 ghost use Rattle.rt_stamps.specs.declared.limits.TheConstants.{MOST_CELLS};
 ghost use Rattle.rt_store.specs.Cells.{put_at};
-ghost use Rattle.rt_tree.specs.Additions.{are_joint, EndsWith, IsRunOf, IsStretch, follows, joined, run_from, stretches};
-ghost use Rattle.rt_tree.specs.Runs.{IsRun};
+ghost use Rattle.rt_tree.specs.Additions.{are_joint, EndsWith, IsFrontOf, IsRunOf, IsStretch, follows, joined, run_from, stretches};
+ghost use Rattle.rt_tree.specs.Runs.{IsRun, cells_of};
 ghost use Rattle.rt_tree.specs.Shape.{IsTree, tree_runs};
-ghost use Rattle.rt_tree.specs.Stretches.{AreChanged, IsEdge, lengths};
+ghost use Rattle.rt_tree.specs.Sharing.{AreApart, AreOnce, is_shared_by};
+ghost use Rattle.rt_tree.specs.Stretches.{AreChanged, AreKept, IsEdge, lengths};
 ghost use Rattle.rt_tree.specs.Sums.{counts_of};
 ghost use Rattle.rt_tree.specs.Trees.{HasNodes};
 
 use crate::cut::{Change, cut};
-use crate::find::seek;
+use crate::find::{cells_of, first_stamp, has, seek};
 use crate::node::{Measure, Mem, Run};
 use crate::put::{put, replace};
 use rt_nodes::NodeId;
@@ -81,6 +82,113 @@ fn next_run(text: &[char], cells: &[Cell<StateId>], done: usize) -> Run
     run_of(text, &cells[done..])
 }
 
+// The run of the first cell alone.
+fn first_run(text: &[char], cells: &[Cell<StateId>]) -> Run
+    requires some { 0 < length cells.now }
+    requires last { EndsWith text.now cells.now }
+    requires short { length text.now ≤ MOST_CELLS }
+    ensures run { IsFrontOf text.now cells.now result }
+    ensures one { result.len ≡ 1 }
+{
+    let first = cells[0];
+    let at = (text.len() - cells.len()) as u32;
+    run_from(first, at, 1, first.ch == '\n')
+}
+
+// The run of the cell after so many.
+fn lone_run(text: &[char], cells: &[Cell<StateId>], done: usize) -> Run
+    requires some { done < length cells.now }
+    requires last { EndsWith text.now cells.now }
+    requires short { length text.now ≤ MOST_CELLS }
+    ensures run { IsFrontOf text.now (drop done cells.now) result }
+    ensures one { result.len ≡ 1 }
+{
+    first_run(text, &cells[done..])
+}
+
+// Whether another run of more than one cell has a stamp of a run.
+fn is_shared_by(run: &Run, other: &Run) -> bool
+    ensures { result ≡ is_shared_by run.now other.now }
+{
+    other.len > 1 && (has(*other, first_stamp(run)) || has(*run, first_stamp(other)))
+}
+
+// Whether a run of a tree, of more than one cell, has a stamp of a run.
+fn is_shared(mem: &Mem, root: NodeId, run: &Run) -> bool
+    requires tree { IsTree mem.now root.index }
+    requires kept { AreKept (tree_runs mem.now root.index) }
+    requires few { (counts_of (tree_runs mem.now root.index)).cells ≤ MOST_CELLS }
+    ensures { result ≡ list_any (is_shared_by run.now) (tree_runs mem.now root.index) }
+{
+    let all = cells_of(mem, root);
+    let mut at = 0;
+    while at < all {
+        let found = seek(mem, root, Measure::Cells, at);
+        if is_shared_by(run, &found.run) {
+            return true;
+        }
+        at += found.run.len as usize;
+    }
+    false
+}
+
+// Whether a run of more than one cell shares a stamp with one of a tree.
+fn is_in_two(mem: &Mem, root: NodeId, run: &Run) -> bool
+    requires tree { IsTree mem.now root.index }
+    requires kept { AreKept (tree_runs mem.now root.index) }
+    requires few { (counts_of (tree_runs mem.now root.index)).cells ≤ MOST_CELLS }
+    ensures { result ≡ (nat_lt 1 run.now.len && list_any (is_shared_by run.now) (tree_runs mem.now root.index)) }
+{
+    run.len > 1 && is_shared(mem, root, run)
+}
+
+// A run for the next cells, and how many cells then come alone.
+#[derive(Clone, Copy)]
+struct Next {
+    run: Run,
+    lone: usize,
+}
+
+// The run that the cells after so many begin with: that of their stretch, or of one cell alone, where a run of more than one
+// cell would share a stamp with another.
+fn choose(
+    mem: &Mem,
+    root: NodeId,
+    text: &[char],
+    cells: &[Cell<StateId>],
+    done: usize,
+    lone: usize,
+) -> Next
+    requires tree { IsTree mem.now root.index }
+    requires kept { AllByRecursion (IsRun text.now) (tree_runs mem.now root.index) }
+    requires apart { AreApart (tree_runs mem.now root.index) }
+    requires few { (counts_of (tree_runs mem.now root.index)).cells ≤ MOST_CELLS }
+    requires some { done < length cells.now }
+    requires last { EndsWith text.now cells.now }
+    requires short { length text.now ≤ MOST_CELLS }
+    ensures run { IsFrontOf text.now (drop done cells.now) result.run }
+    ensures apart { AreApart (result.run ∷ tree_runs mem.now root.index) }
+    ensures stretch { lone ≡ 0 → AreOnce (cells_of text.now (tree_runs mem.now root.index)) (drop done cells.now)
+        → IsStretch (drop done cells.now) result.run.len × (result.lone ≡ 0) }
+{
+    if lone > 0 {
+        let run = lone_run(text, cells, done);
+        return Next {
+            run,
+            lone: lone - 1,
+        };
+    }
+    let run = next_run(text, cells, done);
+    if is_in_two(mem, root, &run) {
+        let first = lone_run(text, cells, done);
+        return Next {
+            run: first,
+            lone: run.len as usize - 1,
+        };
+    }
+    Next { run, lone: 0 }
+}
+
 // Puts cells in before a position at which a run begins.
 fn put_runs(
     mem: &mut Mem,
@@ -91,6 +199,7 @@ fn put_runs(
 ) -> Change
     requires tree { IsTree mem.old root.index }
     requires kept { AllByRecursion (IsRun text.now) (tree_runs mem.old root.index) }
+    requires apart { AreApart (tree_runs mem.old root.index) }
     requires last { EndsWith text.now cells.now }
     requires short { length text.now ≤ MOST_CELLS }
     requires few { (counts_of (tree_runs mem.old root.index)).cells + length cells.now ≤ MOST_CELLS }
@@ -99,18 +208,21 @@ fn put_runs(
     requires room { HasNodes mem.old (length (tree_runs mem.old root.index) + length cells.now) }
     ensures tree { IsTree mem.new result.root.index }
     ensures cells { AreChanged (tree_runs mem.old root.index) (tree_runs mem.new result.root.index) text.now (put_at at cells.now) }
+    ensures apart { AreApart (tree_runs mem.new result.root.index) }
     ensures runs { length (tree_runs mem.new result.root.index) ≡ length (tree_runs mem.old root.index) + result.more }
-    ensures more { result.more ≤ stretches cells.now }
+    ensures most { result.more ≤ length cells.now }
+    ensures more { AreOnce (cells_of text.now (tree_runs mem.old root.index)) cells.now → result.more ≤ stretches cells.now }
     ensures room { length mem.new.heads + mem.new.room ≡ length mem.old.heads + mem.old.room }
 {
     let mut root = root;
     let mut done = 0;
     let mut more = 0;
+    let mut lone = 0;
     while done < cells.len() {
-        let run = next_run(text, cells, done);
-        let next = done + run.len as usize;
-        root = put(mem, root, at + done, run);
-        done = next;
+        let next = choose(mem, root, text, cells, done, lone);
+        root = put(mem, root, at + done, next.run);
+        done += next.run.len as usize;
+        lone = next.lone;
         more += 1;
     }
     Change { root, more }
@@ -142,10 +254,23 @@ fn joined(before: Run, run: Run) -> Run
     }
 }
 
+// Of a run that would go on with another: the cells that come into a run of more than one cell.
+fn lengthened(before: Run, run: Run) -> Run
+    requires { before.len + run.len < 2 ^ 32 }
+    ensures { result ≡ (if before.len == 1 then joined before run else run) }
+{
+    if before.len == 1 {
+        joined(before, run)
+    } else {
+        run
+    }
+}
+
 // Lets the run that ends at a position go on with the first of new cells, if these follow it, and tells how many they are.
 fn extend(mem: &mut Mem, root: NodeId, text: &[char], at: usize, cells: &[Cell<StateId>]) -> usize
     requires tree { IsTree mem.old root.index }
     requires kept { AllByRecursion (IsRun text.now) (tree_runs mem.old root.index) }
+    requires apart { AreApart (tree_runs mem.old root.index) }
     requires last { EndsWith text.now cells.now }
     requires short { length text.now ≤ MOST_CELLS }
     requires few { (counts_of (tree_runs mem.old root.index)).cells + length cells.now ≤ MOST_CELLS }
@@ -153,6 +278,7 @@ fn extend(mem: &mut Mem, root: NodeId, text: &[char], at: usize, cells: &[Cell<S
     ensures tree { IsTree mem.new root.index }
     ensures within { result ≤ length cells.now }
     ensures cells { AreChanged (tree_runs mem.old root.index) (tree_runs mem.new root.index) text.now (put_at at (take result cells.now)) }
+    ensures apart { AreApart (tree_runs mem.new root.index) }
     ensures runs { length (tree_runs mem.new root.index) ≡ length (tree_runs mem.old root.index) }
     ensures room { length mem.new.heads + mem.new.room ≡ length mem.old.heads + mem.old.room }
 {
@@ -162,6 +288,10 @@ fn extend(mem: &mut Mem, root: NodeId, text: &[char], at: usize, cells: &[Cell<S
     let found = seek(mem, root, Measure::Cells, at - 1);
     let run = run_of(text, cells);
     if found.spot.offset + 1 < found.run.len as usize || !are_joint(&found.run, &run) {
+        return 0;
+    }
+    let longer = lengthened(found.run, run);
+    if is_shared(mem, root, &longer) {
         return 0;
     }
     replace(mem, root, at - 1, joined(found.run, run));
@@ -178,6 +308,7 @@ pub(crate) fn put_cells(
 ) -> Change
     requires tree { IsTree mem.old root.index }
     requires kept { AllByRecursion (IsRun text.now) (tree_runs mem.old root.index) }
+    requires apart { AreApart (tree_runs mem.old root.index) }
     requires last { EndsWith text.now cells.now }
     requires short { length text.now ≤ MOST_CELLS }
     requires few { (counts_of (tree_runs mem.old root.index)).cells + length cells.now ≤ MOST_CELLS }
@@ -185,8 +316,10 @@ pub(crate) fn put_cells(
     requires room { HasNodes mem.old (length (tree_runs mem.old root.index) + length cells.now + 1) }
     ensures tree { IsTree mem.new result.root.index }
     ensures cells { AreChanged (tree_runs mem.old root.index) (tree_runs mem.new result.root.index) text.now (put_at at cells.now) }
+    ensures apart { AreApart (tree_runs mem.new result.root.index) }
     ensures runs { length (tree_runs mem.new result.root.index) ≡ length (tree_runs mem.old root.index) + result.more }
-    ensures more { result.more ≤ stretches cells.now + 1 }
+    ensures most { result.more ≤ length cells.now + 1 }
+    ensures more { AreOnce (cells_of text.now (tree_runs mem.old root.index)) cells.now → result.more ≤ stretches cells.now + 1 }
     ensures room { length mem.new.heads + mem.new.room ≡ length mem.old.heads + mem.old.room }
 {
     let done = extend(mem, root, text, at, cells);

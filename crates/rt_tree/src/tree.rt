@@ -1,26 +1,28 @@
 // The cells of a text in a tree.
-ghost use Rattle.std.specs.Prelude.{◌≡◌, ◌+◌, ◌-◌, ◌*◌, ◌<◌, ◌≤◌, ◌^◌, [], ◌∷◌, length, min, take, drop, take_while, slice_get};
+ghost use Rattle.std.specs.Prelude.{◌≡◌, ◌+◌, ◌-◌, ◌*◌, ◌<◌, ◌≤◌, ◌^◌, [], ◌∷◌, length, map, min, take, drop, take_while, slice_get};
 ghost use Rattle.std.specs.Prelude.{option_map, if◌then◌else◌, Some, IfOk, IfErr, IsOk, OnOk, OnErr};
 ghost use Rattle.rt_stamps.specs.Places.{line_of, line_start, newlines};
 ghost use Rattle.rt_stamps.specs.Stamps.{is_before};
-ghost use Rattle.rt_store.specs.Cells.{HasRoom, Spends, StandsBefore, after_element, cell_of, position_of, skip_from, visible_before};
-ghost use Rattle.rt_store.specs.Cells.{final_cell, put_at, text_of, visible_of, with_state};
+ghost use Rattle.rt_store.specs.Cells.{AreDistinct, HasRoom, Spends, StandsBefore, after_element, cell_of, position_of, skip_from, visible_before};
+ghost use Rattle.rt_store.specs.Cells.{final_cell, gone_in, put_at, state_in, text_of, visible_of};
+ghost use Rattle.rt_store.specs.Tagged.{AreStates, next_place, next_tagged, next_untagged, previous_tagged, tag_is};
+ghost use Rattle.rt_tags.specs.States.{IsTag};
 ghost use Rattle.rt_tree.specs.Additions.{stretches};
-ghost use Rattle.rt_tree.specs.Runs.{has};
-ghost use Rattle.rt_tree.specs.Stretches.{made_gone, map_between, marked_cell};
+ghost use Rattle.rt_tree.specs.Sharing.{cell_in};
 ghost use Rattle.rt_tree.specs.Trees.{final_run};
 
 use crate::copy::copy;
-use crate::find::{cell_in, find, height, seek, sum_of};
-use crate::mark::{Mark, mark_cells};
+use crate::find::{cell_in, find, has, height, seek, sum_of};
+use crate::mark::{Mark, mark_span};
 use crate::node::{Entry, Head, Measure, Mem, Run};
 use crate::skip::{is_low, passed};
 use crate::splice::{push_characters, put_cells};
+use crate::tagged::tag_is;
 use rt_nodes::{NodeId, NodeMem};
 use rt_stamps::limits::MOST_CELLS;
-use rt_stamps::{FINAL, Fault, ROOT, Stamp};
+use rt_stamps::{FINAL, Fault, ROOT, Span, Stamp};
 use rt_store::Cell;
-use rt_tags::StateId;
+use rt_tags::{StateId, StateTable, TagId};
 use std::alloc::Global;
 use std::marker::Model;
 
@@ -62,13 +64,6 @@ fn final_run() -> Run
         gone: false,
         newline: true,
     }
-}
-
-// Whether a stamp is one of a run's cells'.
-fn has(run: Run, stamp: Stamp) -> bool
-    ensures { result ≡ has run stamp }
-{
-    run.site == stamp.site && run.first <= stamp.count && stamp.count - run.first < run.len as u64
 }
 
 // How many of the first cells of a run are visible.
@@ -314,6 +309,65 @@ impl Tree {
         self.skip(after, new)
     }
 
+    // The least place from one up whose character has a tag, or hasn't it, by a walk from run to run.
+    fn next_place(
+        &self,
+        states: &StateTable,
+        tag: TagId,
+        on: bool,
+        place: usize,
+    ) -> Option<usize>
+        requires tag { IsTag states.now tag }
+        requires states { AreStates states.now self.now.cells }
+        ensures { result ≡ next_place (tag_is states.now tag on) (visible_of self.now.cells) place }
+    {
+        let all = self.visible();
+        let mut at = place;
+        while at < all {
+            let found = seek(&self.mem, self.root, Measure::Visible, at);
+            if tag_is(states, tag, on, &found.run) {
+                return Some(at);
+            }
+            at += found.run.len as usize - found.spot.offset;
+        }
+        None
+    }
+
+    /// The least place from one up whose character has a tag; none if there is none.
+    pub fn next_tagged(&self, states: &StateTable, tag: TagId, place: usize) -> Option<usize>
+        requires tag { IsTag states.now tag }
+        requires states { AreStates states.now self.now.cells }
+        ensures { result ≡ next_tagged states.now tag self.now.cells place }
+    {
+        self.next_place(states, tag, true, place)
+    }
+
+    /// The least place from one up whose character hasn't a tag; none if there is none.
+    pub fn next_untagged(&self, states: &StateTable, tag: TagId, place: usize) -> Option<usize>
+        requires tag { IsTag states.now tag }
+        requires states { AreStates states.now self.now.cells }
+        ensures { result ≡ next_untagged states.now tag self.now.cells place }
+    {
+        self.next_place(states, tag, false, place)
+    }
+
+    /// The greatest place below one whose character has a tag; none if there is none.
+    pub fn previous_tagged(&self, states: &StateTable, tag: TagId, place: usize) -> Option<usize>
+        requires tag { IsTag states.now tag }
+        requires states { AreStates states.now self.now.cells }
+        ensures { result ≡ previous_tagged states.now tag self.now.cells place }
+    {
+        let mut at = place.min(self.visible());
+        while at > 0 {
+            let found = seek(&self.mem, self.root, Measure::Visible, at - 1);
+            if tag_is(states, tag, true, &found.run) {
+                return Some(at - 1);
+            }
+            at -= found.spot.offset + 1;
+        }
+        None
+    }
+
     /// Makes room for new cells and for cuts of runs, and keeps what was there. `NoMemory` changes
     /// nothing; it is also the answer where the cells would be too many, or nodes without number.
     pub fn reserve(&mut self, cells: usize, cuts: usize) -> Result<(), Fault>
@@ -343,53 +397,49 @@ impl Tree {
         Ok(())
     }
 
-    // Marks the cells between two positions.
-    fn apply(&mut self, from: usize, to: usize, mark: Mark)
-        requires order { from ≤ to }
-        requires within { to ≤ length self.old.cells }
+    // Marks the cells of a span.
+    fn apply(&mut self, span: Span, mark: Mark)
         requires room { HasRoom self.old.room 0 2 }
-        ensures cells { self.new.cells ≡ map_between (marked_cell mark) from to self.old.cells }
+        ensures cells { self.new.cells ≡ map (cell_in span mark) self.old.cells }
         ensures runs { self.new.runs ≤ self.old.runs + 2 }
         ensures room { Spends self.old.room self.new.room 0 2 }
     {
-        let change = mark_cells(&mut self.mem, self.root, from, to, mark);
+        let change = mark_span(&mut self.mem, self.root, span, mark);
         self.root = change.root;
         self.runs += change.more;
         self.spare_cuts -= 2;
     }
 
-    /// Makes the cells from one position up to another gone, in two runs more at most. Takes no memory.
-    pub fn set_gone(&mut self, from: usize, to: usize)
-        requires order { from ≤ to }
-        requires within { to ≤ length self.old.cells }
+    /// Makes the cells of a span of stamps gone, in two runs more at most. Takes no memory.
+    pub fn set_gone(&mut self, span: Span)
         requires room { HasRoom self.old.room 0 2 }
-        ensures cells { self.new.cells ≡ map_between made_gone from to self.old.cells }
+        ensures cells { self.new.cells ≡ map (gone_in span) self.old.cells }
         ensures runs { self.new.runs ≤ self.old.runs + 2 }
         ensures room { Spends self.old.room self.new.room 0 2 }
     {
-        self.apply(from, to, Mark::Gone);
+        self.apply(span, Mark::Gone);
     }
 
-    /// Puts the cells from one position up to another in a state, gone ones too, in two runs more at
-    /// most. Takes no memory.
-    pub fn set_state(&mut self, from: usize, to: usize, state: StateId)
-        requires order { from ≤ to }
-        requires within { to ≤ length self.old.cells }
+    /// Puts the cells of a span of stamps in a state, gone ones too, in two runs more at most. Takes
+    /// no memory.
+    pub fn set_state(&mut self, span: Span, state: StateId)
         requires room { HasRoom self.old.room 0 2 }
-        ensures cells { self.new.cells ≡ map_between (with_state state) from to self.old.cells }
+        ensures cells { self.new.cells ≡ map (state_in span state) self.old.cells }
         ensures runs { self.new.runs ≤ self.old.runs + 2 }
         ensures room { Spends self.old.room self.new.room 0 2 }
     {
-        self.apply(from, to, Mark::State(state));
+        self.apply(span, Mark::State(state));
     }
 
     /// Puts new cells in before the one at a position. A run that they go on with gets longer; each
-    /// other stretch of them becomes a run. Takes no memory.
+    /// other stretch of them becomes a run, or each of its cells one, if a stamp of it is there
+    /// already. Takes no memory.
     pub fn splice(&mut self, at: usize, cells: &[Cell<StateId>])
         requires within { at < length self.old.cells }
         requires room { HasRoom self.old.room (length cells.now) 1 }
         ensures cells { self.new.cells ≡ put_at at cells.now self.old.cells }
-        ensures runs { self.new.runs ≤ self.old.runs + stretches cells.now + 1 }
+        ensures most { self.new.runs ≤ self.old.runs + length cells.now + 1 }
+        ensures runs { AreDistinct self.new.cells → self.new.runs ≤ self.old.runs + stretches cells.now + 1 }
         ensures room { Spends self.old.room self.new.room (length cells.now) 1 }
     {
         push_characters(&mut self.text, cells);

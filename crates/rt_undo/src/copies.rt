@@ -22,8 +22,8 @@ fn is_next(span: Span, stamp: Stamp) -> bool
         && stamp.count - span.last == 1
 }
 
-// Adds a stamp to those of spans, to the last span where it is the next one.
-fn push_stamp(spans: &mut Vec<Span>, stamp: Stamp) -> Result<(), Fault>
+/// Adds a stamp to those of spans, to the last span where it is the next one. Want of memory.
+pub fn push_stamp(spans: &mut Vec<Span>, stamp: Stamp) -> Result<(), Fault>
     ensures ok { OnOk result (stamps_in spans.new.items ≡ stamps_in spans.old.items ++ stamp ∷ []) }
     ensures fault { IfErr result (λ fault. fault ≡ Fault.NoMemory) }
 {

@@ -1,7 +1,9 @@
 // Memory of words, kept for others.
-ghost use Rattle.std.specs.Prelude.{◌≡◌, [], string_bytes};
+ghost use Rattle.std.specs.Prelude.{◌≡◌, ◌≤◌, [], string_bytes};
+ghost use Rattle.rt_words.specs.declared.spare.TheConstants.{MOST_WORDS};
 
 use std::alloc::Global;
+use std::marker::Model;
 use std::mem;
 
 // How many words' memory is kept, and how many bytes of each at most.
@@ -17,9 +19,23 @@ pub struct Spare {
     words: Vec<String>,
 }
 
+impl Model for Spare {
+    ghost use Rattle.std.specs.Prelude.{ℕ, ◌≤◌, length};
+    ghost use Rattle.rt_words.specs.declared.spare.TheConstants.{MOST_WORDS};
+
+    // how many words' memory is kept
+    ghost Value = { ℕ };
+
+    ghost view = { λ s. length s.words.items };
+
+    ghost invariant = { λ s. length s.words.items ≤ MOST_WORDS };
+}
+
 impl Spare {
     /// None yet.
-    pub fn new(alloc: Global) -> Spare {
+    pub fn new(alloc: Global) -> Spare
+        ensures { result ≡ 0 }
+    {
         Spare {
             list: Vec::new(alloc),
             words: Vec::new(alloc),
@@ -49,14 +65,22 @@ impl Spare {
     }
 
     // Keeps the memory of a word.
-    fn keep_word(&mut self, word: String) {
+    fn keep_word(&mut self, word: String)
+        ensures most { self.new ≤ MOST_WORDS }
+        ensures kept { self.old ≤ self.new }
+    {
         if self.words.len() < MOST_WORDS && word.capacity() <= MOST_WORD_BYTES {
             let _ = self.words.push(word);
         }
     }
 
-    /// Keeps the memory of words that are no longer wanted.
-    pub fn keep(&mut self, mut words: Vec<String>) {
+    /// Keeps the memory of words that are no longer wanted, beside what is kept already; no more than of
+    /// sixteen words.
+    pub fn keep(&mut self, mut words: Vec<String>)
+        ensures most { self.new ≤ MOST_WORDS }
+        ensures kept { self.old ≤ self.new }
+    {
+        let _ = self.words.len();
         if words.len() > MOST_WORDS {
             return;
         }

@@ -1,7 +1,7 @@
 // The words of a line and of a list.
 ghost use Rattle.std.specs.Prelude.{◌≡◌, ◌≢◌, ◌⊎◌, ℕ, ◌<◌, ◌≤◌, ◌∷◌, [], IfOk, IfErr, MatchOption, MatchResult, drop, map, not, false, length, slice_index, string_bytes};
 ghost use Rattle.std.specs.List.{prefix_len};
-ghost use Rattle.rt_stamps.specs.Words.{EndsWord, Spells, SpellsBy, SpellsList, IsBadlyQuoted, IsBadlyQuotedBy, IsBadlyQuotedList, escape_of};
+ghost use Rattle.rt_stamps.specs.Words.{EndsWord, Spells, SpellsBy, SpellsList, IsBadlyQuoted, IsBadlyQuotedBy, IsBadlyQuotedList, escape_of, is_list_blank};
 ghost use Rattle.rt_words.specs.FirstWord.{BeginsWith, ClosesAt, IsFirstWord, HasNoFirstWord, IsQuotedFront, HasNoQuotedFront, IsBracedFront, HasNoBracedFront, is_plain};
 ghost use Rattle.rt_words.specs.Separators.{separates};
 
@@ -46,6 +46,13 @@ enum Separators {
     OfList,
 }
 
+// Whether a character separates the words of a list.
+fn is_list_blank(c: u8) -> bool
+    ensures { result ≡ is_list_blank c }
+{
+    is_blank(c) || c == b'\n'
+}
+
 impl Separators {
     // Whether a character is one of them.
     fn separates(self, c: u8) -> bool
@@ -53,7 +60,7 @@ impl Separators {
     {
         match self {
             Separators::OfLine => is_blank(c),
-            Separators::OfList => is_blank(c) || c == b'\n',
+            Separators::OfList => is_list_blank(c),
         }
     }
 }
@@ -215,18 +222,20 @@ fn bare_word(
 fn gap_len(separators: Separators, text: &[u8]) -> usize
     ensures { result ≡ prefix_len (separates separators) text.now }
 {
-    text.iter()
-        .take_while(|c| separators.separates(**c))
-        .count()
+    match separators {
+        Separators::OfLine => text.iter().take_while(|c| is_blank(**c)).count(),
+        Separators::OfList => text.iter().take_while(|c| is_list_blank(**c)).count(),
+    }
 }
 
 // How many characters a text has before its first separator.
 fn bare_len(separators: Separators, text: &[u8]) -> usize
     ensures { result ≡ prefix_len (λ c. not (separates separators c)) text.now }
 {
-    text.iter()
-        .take_while(|c| !separators.separates(**c))
-        .count()
+    match separators {
+        Separators::OfLine => text.iter().take_while(|c| !is_blank(**c)).count(),
+        Separators::OfList => text.iter().take_while(|c| !is_list_blank(**c)).count(),
+    }
 }
 
 // How many characters a text has before its first quote or backslash.

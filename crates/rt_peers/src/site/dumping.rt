@@ -5,6 +5,7 @@ ghost use Rattle.rt_dump.specs.Dumping.{dumped};
 ghost use Rattle.rt_peers.specs.Step.{element_words, told_step};
 
 use super::SiteState;
+use super::replies::position_text;
 use super::tagging::text_of;
 use crate::reply::Reply;
 use rt_dump::{Element, dump};
@@ -19,7 +20,7 @@ fn push_element(alloc: Global, words: &mut Vec<String>, element: &Element) -> Re
 {
     words.push(String::from_str(alloc, element.key().word())?)?;
     words.push(String::from_str(alloc, element.value())?)?;
-    words.push(element.position().to_string(alloc)?)?;
+    words.push(position_text(alloc, element.position())?)?;
     Ok(())
 }
 

@@ -8,7 +8,7 @@ ghost use Rattle.rt_text.specs.Commands.{got_one, got, got_list, position_of_ind
 ghost use Rattle.rt_peers.specs.Step.{get_step, one_word, text_of_bool, told_step};
 
 use super::SiteState;
-use super::replies::{numbers, one_word};
+use super::replies::{numbers, one_word, position_text};
 use crate::reply::Reply;
 use rt_requests::{Comparison, Measures, Word, Words};
 use rt_stamps::Fault;
@@ -67,7 +67,7 @@ impl SiteState {
             self.now result self.now }
     {
         let position = self.view.index(index.text())?;
-        let text = position.to_string(self.alloc)?;
+        let text = position_text(self.alloc, position)?;
         one_word(self.alloc, text)
     }
 

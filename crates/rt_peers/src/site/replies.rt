@@ -4,8 +4,12 @@ ghost use Rattle.std.specs.Fmt.{signed_decimal};
 ghost use Rattle.rt_stamps.specs.Places.{text_of_position};
 
 use crate::reply::Reply;
+use itoa::Buffer;
 use rt_stamps::{Fault, Position};
 use std::alloc::Global;
+
+// How many bytes the text of a position takes in a text of ordinary length. A longer one takes more memory.
+const POSITION_BYTES: usize = 24;
 
 // A reply without words.
 pub(super) fn no_words(alloc: Global) -> Reply
@@ -38,6 +42,19 @@ pub(super) fn numbers(alloc: Global, values: &[i64]) -> Result<Reply, Fault>
     Ok(Reply { words })
 }
 
+// The text of a position.
+pub(super) fn position_text(alloc: Global, position: Position) -> Result<String, Fault>
+    ensures ok { IfOk result (λ text. string_bytes text ≡ text_of_position position) }
+    ensures err { IfErr result (λ fault. fault ≡ Fault.NoMemory) }
+{
+    let mut digits = Buffer::new();
+    let mut text = String::with_capacity(alloc, POSITION_BYTES)?;
+    text.push_str(digits.format(position.line))?;
+    text.push('.')?;
+    text.push_str(digits.format(position.character))?;
+    Ok(text)
+}
+
 // A reply of positions.
 pub(super) fn positions_reply(alloc: Global, positions: &[Position]) -> Result<Reply, Fault>
     ensures ok { IfOk result (λ reply. reply ≡ map text_of_position positions.now) }
@@ -45,7 +62,7 @@ pub(super) fn positions_reply(alloc: Global, positions: &[Position]) -> Result<R
 {
     let mut words = Vec::with_capacity(alloc, positions.len())?;
     for position in positions {
-        words.push(position.to_string(alloc)?)?;
+        words.push(position_text(alloc, *position)?)?;
     }
     Ok(Reply { words })
 }

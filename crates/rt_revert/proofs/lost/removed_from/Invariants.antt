@@ -1,6 +1,5 @@
-use Rattle.std.proofs.Common.{◌≡◌, ◌++◌, drop, map, ℕ}
-use Rattle.rt_store.specs.declared.cell.Cell.{Cell}
-use Rattle.rt_undo.specs.Actions.{Removed, removed_in}
+use Rattle.std.proofs.Common.{◌≡◌, ◌++◌, drop, map}
+use Rattle.rt_undo.specs.Actions.{removed_in}
 use Rattle.rt_revert.specs.Planning.{cell_removed}
 use Rattle.rt_revert.proofs.lost.removed_from.Given as goal
 

@@ -7,7 +7,7 @@ use Rattle.rt_tree.specs.Stretches.{IsEdge, back_of, front_of, lengths}
 use Rattle.rt_tree.specs.Sums.{AreFew, counts_of, counts_of_run, plus}
 use Rattle.rt_tree.specs.Walks.{IsPutAt, IsReplacedAt}
 use Rattle.rt_tree.proofs.CellLaws.{is_run}
-use Rattle.rt_tree.proofs.Cutting.{few_all, few_with, low_tree, mid_cells, mid_kept, mid_within, new_edge, new_length, new_recut}
+use Rattle.rt_tree.proofs.Cutting.{few_all, few_with, low_tree, mid_cells, mid_kept, mid_within, new_edge, new_length, new_parts, new_recut, no_parts}
 use Rattle.rt_tree.proofs.Down.{sum-node}
 use Rattle.rt_tree.proofs.Edges.{counts_mid, edge_end, edge_there}
 use Rattle.rt_tree.proofs.cut.cut.Goals as goal
@@ -26,6 +26,9 @@ returns-then-at-sum_of-clause-edge c =
     let e : c.args.at ≡ (counts_of old).cells = c.if-at-sum_of.true ∙ ap (λ (x : Counts). x.cells) (c.sum_of.ensures ∙ root_sum m r c.requires.tree) in
     subst (IsEdge (lengths old)) (sym e) (edge_end old)
 
+pub returns-then-at-sum_of-clause-parts : goal.returns-then-at-sum_of-clause-parts
+returns-then-at-sum_of-clause-parts c = let old = tree_runs c.args.mem.now c.args.root.index in no_parts old old c.args.at (returns-then-at-sum_of-clause-edge c)
+
 pub seek-found-requires-clause-few : goal.seek-found-requires-clause-few
 seek-found-requires-clause-few c =
     let m = c.args.mem.now in let r = c.args.root.index in let old = tree_runs m r in
@@ -42,6 +45,9 @@ returns-then-offset-eq0-clause-edge c =
     let m = c.args.mem.now in let r = c.args.root.index in let old = tree_runs m r in
     let f = c.seek-found.result in let st = c.seek-found.ensures in let b = ap (λ (x : Counts). x.cells) st.before in
     subst (λ (l : List Run). IsEdge (lengths l) c.args.at) (sym st.here) (edge_there st.left (f.run ∷ st.right) c.args.at (omega (arith, b, st.at, c.if-offset-eq0.true)))
+
+pub returns-then-offset-eq0-clause-parts : goal.returns-then-offset-eq0-clause-parts
+returns-then-offset-eq0-clause-parts c = let old = tree_runs c.args.mem.now c.args.root.index in no_parts old old c.args.at (returns-then-offset-eq0-clause-edge c)
 
 pub back_of-requires-clause-fits : goal.back_of-requires-clause-fits
 back_of-requires-clause-fits c =
@@ -109,3 +115,11 @@ returns-clause-runs c =
     let mid = tree_runs c.replace.new.mem r in let rep = subst (λ (x : Run). IsReplacedAt old mid c.args.at x) c.back_of.ensures c.replace.ensures.runs in
     let new = tree_runs c.put-root.new.mem c.put-root.result.index in let put = subst (λ (x : Run). IsPutAt mid new (c.args.at - o) x) c.front_of-front.ensures c.put-root.ensures.runs in
     new_length old mid f.run f.before o c.args.at st some rep new put
+
+pub returns-clause-parts : goal.returns-clause-parts
+returns-clause-parts c =
+    let m = c.args.mem.now in let r = c.args.root.index in let old = tree_runs m r in
+    let f = c.seek-found.result in let o = f.spot.offset in let st = c.seek-found.ensures in let some : 0 < o = omega (arith, c.if-offset-eq0.false) in
+    let mid = tree_runs c.replace.new.mem r in let rep = subst (λ (x : Run). IsReplacedAt old mid c.args.at x) c.back_of.ensures c.replace.ensures.runs in
+    let new = tree_runs c.put-root.new.mem c.put-root.result.index in let put = subst (λ (x : Run). IsPutAt mid new (c.args.at - o) x) c.front_of-front.ensures c.put-root.ensures.runs in
+    new_parts old mid f.run f.before o c.args.at st some rep new put

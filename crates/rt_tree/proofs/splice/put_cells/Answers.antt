@@ -3,10 +3,12 @@ use Rattle.std.proofs.lemmas.List.{length-drop, take_all}
 use Rattle.rt_store.specs.declared.cell.Cell.{Cell}
 use Rattle.rt_store.specs.Cells.{put_at}
 use Rattle.rt_tree.specs.Additions.{EndsWith, stretches}
+use Rattle.rt_tree.specs.Runs.{cells_of}
 use Rattle.rt_tree.specs.Shape.{tree_runs}
+use Rattle.rt_tree.specs.Sharing.{AreOnce}
 use Rattle.rt_tree.specs.Stretches.{AreChanged}
-use Rattle.rt_tree.proofs.Following.{stretches_drop, stretches_few}
-use Rattle.rt_tree.proofs.Splicing.{cut_count, ends_later, put_count, put_twice, rest_is}
+use Rattle.rt_tree.proofs.Following.{stretches_drop}
+use Rattle.rt_tree.proofs.Splicing.{cut_count, ends_later, put_count, put_twice, rest_is, rest_once}
 use Rattle.rt_tree.proofs.splice.put_cells.Goals as goal
 
 pub cut-first-requires-clause-few : goal.cut-first-requires-clause-few
@@ -25,6 +27,9 @@ cut-first-requires-clause-within c =
 
 pub put_runs-then-requires-clause-kept : goal.put_runs-then-requires-clause-kept
 put_runs-then-requires-clause-kept c = c.cut-first.ensures.recut.kept c.args.text.now c.extend-done.ensures.cells.kept
+
+pub put_runs-then-requires-clause-apart : goal.put_runs-then-requires-clause-apart
+put_runs-then-requires-clause-apart c = c.cut-first.ensures.recut.apart c.extend-done.ensures.apart
 
 pub put_runs-then-requires-clause-last : goal.put_runs-then-requires-clause-last
 put_runs-then-requires-clause-last c =
@@ -60,8 +65,9 @@ few cells k more w le = let e = ap stretches (rest_is k cells w) in let s = stre
 
 pub overflow_add-result : goal.overflow_add-result
 overflow_add-result c =
-    let m = few c.args.cells.now c.extend-done.result c.put_runs-then.result.more c.extend-done.ensures.within c.put_runs-then.ensures.more in
-    let n = stretches_few c.args.cells.now in
+    let w = c.extend-done.ensures.within in
+    let m = c.put_runs-then.ensures.most in
+    let n = ap length (rest_is c.extend-done.result c.args.cells.now w) ∙ length-drop c.extend-done.result c.args.cells.now in
     let k = c.cut-first.ensures.more in let f = c.requires.few in
     omega (arith, m, n, k, f)
 
@@ -73,10 +79,23 @@ returns-clause-cells c =
     put_twice c.args.text.now old (tree_runs c.extend-done.new.mem c.args.root.index) c.args.at k cells r.kept e.cells e.within r.within mid c.cut-first.ensures.recut new
     (subst (λ (x : List (Cell ℕ)). AreChanged mid new c.args.text.now (put_at (c.args.at + k) x)) (rest_is k cells e.within) c.put_runs-then.ensures.cells)
 
+pub returns-clause-most : goal.returns-clause-most
+returns-clause-most c =
+    let w = c.extend-done.ensures.within in
+    let m = c.put_runs-then.ensures.most in
+    let n = ap length (rest_is c.extend-done.result c.args.cells.now w) ∙ length-drop c.extend-done.result c.args.cells.now in
+    let k = c.cut-first.ensures.more in
+    omega (arith, m, n, k)
+
 pub returns-clause-more : goal.returns-clause-more
 returns-clause-more c =
-    let m = few c.args.cells.now c.extend-done.result c.put_runs-then.result.more c.extend-done.ensures.within c.put_runs-then.ensures.more in
+    let r = c.requires in let e = c.extend-done.ensures in let old = tree_runs c.args.mem.now c.args.root.index in
+    let done = c.extend-done.result in let cells = c.args.cells.now in
+    let mid = tree_runs c.cut-first.new.mem c.cut-first.result.root.index in
     let k = c.cut-first.ensures.more in
+    λ once. let o = rest_once c.args.text.now old (tree_runs c.extend-done.new.mem c.args.root.index) c.args.at done cells r.kept e.cells e.within r.within mid c.cut-first.ensures.recut once in
+    let p = subst (λ (x : List (Cell ℕ)). AreOnce (cells_of c.args.text.now mid) x) (sym (rest_is done cells e.within)) o in
+    let m = few cells done c.put_runs-then.result.more e.within (c.put_runs-then.ensures.more p) in
     omega (arith, m, k)
 
 pub returns-then-done-cells-clause-cells : goal.returns-then-done-cells-clause-cells

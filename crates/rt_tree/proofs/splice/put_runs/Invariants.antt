@@ -6,7 +6,7 @@ use Rattle.rt_tree.proofs.splice.put_runs.Given as goal
 abbrev pub invariant-loop-done : goal.invariant-loop-done
 invariant-loop-done l = record {
   tree : IsTree l.mem l.root.index;
-  spliced : IsSpliced l.text (tree_runs l.initial.mem l.initial.root.index) (tree_runs l.mem l.root.index) l.at l.done l.more l.cells;
+  spliced : IsSpliced l.text (tree_runs l.initial.mem l.initial.root.index) (tree_runs l.mem l.root.index) l.at l.done l.more l.lone l.cells;
   room : length l.mem.heads + l.mem.room ≡ length l.initial.mem.heads + l.initial.mem.room;
 }
 

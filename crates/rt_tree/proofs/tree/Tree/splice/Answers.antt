@@ -1,12 +1,15 @@
-use Rattle.std.proofs.Common.{ℕ, List, arith, ap, ◌∙◌, subst}
-use Rattle.rt_store.specs.Cells.{put_at}
+use Rattle.std.proofs.Common.{ℕ, List, arith, ap, sym, ◌∙◌, subst}
+use Rattle.rt_store.specs.declared.cell.Cell.{Cell}
+use Rattle.rt_store.specs.Cells.{AreDistinct, put_at}
+use Rattle.rt_tree.specs.Runs.{cells_of}
 use Rattle.rt_tree.specs.Shape.{tree_runs}
+use Rattle.rt_tree.specs.Sharing.{AreOnce}
 use Rattle.rt_tree.specs.Stretches.{AreChanged}
 use Rattle.rt_tree.specs.Trees.{Shown}
 use Rattle.rt_tree.proofs.Cutting.{runs_few}
-use Rattle.rt_tree.proofs.Following.{stretches_few}
 use Rattle.rt_tree.proofs.Kept.{shows}
-use Rattle.rt_tree.proofs.Splicing.{longer_count, longer_ends, longer_kept, longer_shown, longer_text}
+use Rattle.rt_tree.proofs.Shared.{distinct_once}
+use Rattle.rt_tree.proofs.Splicing.{longer_cells, longer_count, longer_ends, longer_kept, longer_shown, longer_text}
 use Rattle.rt_tree.proofs.tree.Tree.splice.Goals as goal
 
 pub put_cells-change-requires-clause-kept : goal.put_cells-change-requires-clause-kept
@@ -30,11 +33,10 @@ pub overflow_add-self : goal.overflow_add-self
 overflow_add-self c =
     let s = c.self.inside in let k = c.self.invariant.0 in let r = c.self.invariant.1 in
     let n = runs_few s.text.items (tree_runs s.mem s.root.index) k.kept in
-    let f = stretches_few c.args.cells.now in
-    let m = c.put_cells-change.ensures.more in
+    let m = c.put_cells-change.ensures.most in
     let cells = ap (λ (v : Shown). v.room.cells) c.self.view_is in
     let a = k.counted in let b = k.few in let d = r.few in let e = c.requires.room.0 in
-    omega (arith, n, f, m, cells, a, b, d, e)
+    omega (arith, n, m, cells, a, b, d, e)
 
 pub invariant_of-self : goal.invariant_of-self
 invariant_of-self c =
@@ -48,14 +50,13 @@ invariant_of-self c =
     let w = c.requires.within in let hc = h.cells in
     let n = longer_count s.text.items text old added k.kept more new c.args.at is (omega (arith, hc, w)) in
     let l = longer_text s.text.items text old added k.kept more in
-    let f = stretches_few added in
     let cells = ap (λ (v : Shown). v.room.cells) c.self.view_is in
     let cuts = ap (λ (v : Shown). v.room.cuts) c.self.view_is in
     let ra = c.requires.room.0 in let rb = c.requires.room.1 in
     let ka = k.all in let kc = k.counted in let rn = r.nodes in let rh = r.holds in let rf = r.few in
-    let er = e.runs in let em = e.more in let eo = e.room in let cap = c.push_characters.ensures.capacity in (
-      record { tree = e.tree; kept = is.kept; counted = omega (arith, kc, er); few = omega (arith, n, rf, ka, cells, ra); all = omega (arith, n, l, ka) },
-      record { nodes = omega (arith, rn, er, em, eo, f, cells, cuts, ra, rb); holds = omega (arith, rh, l, cap, cells, ra); few = omega (arith, rf, l, cells, ra) },
+    let er = e.runs in let em = e.most in let eo = e.room in let cap = c.push_characters.ensures.capacity in (
+      record { tree = e.tree; kept = is.kept; apart = e.apart; counted = omega (arith, kc, er); few = omega (arith, n, rf, ka, cells, ra); all = omega (arith, n, l, ka) },
+      record { nodes = omega (arith, rn, er, em, eo, cells, cuts, ra, rb); holds = omega (arith, rh, l, cap, cells, ra); few = omega (arith, rf, l, cells, ra) },
     )
 
 pub returns-clause-cells : goal.returns-clause-cells
@@ -66,3 +67,18 @@ returns-clause-cells c =
     let is = subst (λ (t : List ℕ). AreChanged old new t (put_at c.args.at c.args.cells.now)) c.deref.ensures.value e.cells in
     longer_shown s.text.items c.push_characters.new.text.items old c.args.cells.now k.kept c.push_characters.ensures.items new c.args.at is
     ∙ ap (λ (v : Shown). put_at c.args.at c.args.cells.now v.cells) c.self.view_is
+
+pub returns-clause-runs : goal.returns-clause-runs
+returns-clause-runs c =
+    let s = c.self.inside in let k = c.self.invariant.0 in
+    let e = c.put_cells-change.ensures in
+    let old = tree_runs s.mem s.root.index in let added = c.args.cells.now in
+    let same = returns-clause-cells c in
+    let n = ap (λ (v : Shown). v.runs) c.self.view_is in
+    let er = e.runs in
+    λ distinct.
+    let d = subst AreDistinct (same ∙ ap (λ (v : Shown). put_at c.args.at added v.cells) (sym c.self.view_is)) distinct in
+    let o = distinct_once c.args.at (cells_of s.text.items old) added d in
+    let grown = sym (longer_cells s.text.items c.push_characters.new.text.items old added k.kept c.push_characters.ensures.items) ∙ ap (λ (t : List ℕ). cells_of t old) (sym c.deref.ensures.value) in
+    let m = e.more (subst (λ (x : List (Cell ℕ)). AreOnce x added) grown o) in
+    omega (arith, m, n, er)

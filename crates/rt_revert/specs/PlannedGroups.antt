@@ -1,0 +1,20 @@
+-- The plan of a group that is reverted in a document.
+use Rattle.std.specs.Prelude.{◌≡◌, List, map, string_bytes}
+use Rattle.rt_stamps.specs.Words.{Word}
+use Rattle.rt_oplog.specs.Edits.{body_of}
+use Rattle.rt_tags.specs.States.{TagStates}
+use Rattle.rt_edits.specs.Flat.{Flat}
+use Rattle.rt_edits.specs.Insertions.{all_listed}
+use Rattle.rt_undo.specs.Actions.{Action, group_of}
+use Rattle.rt_revert.specs.declared.plan.Reversal.{Reversal}
+use Rattle.rt_revert.specs.Plans.{marks_after, named_group}
+use Rattle.rt_revert.specs.Reverting.{reversion, reverted_group}
+
+-- The operations; the group for the other stack, with states of a table; the characters that came back; the marks after the changes
+-- of the text; and the listed tags.
+pub record IsPlanOf (table : TagStates) (flat : Flat) (group : List (Action (List Word))) (plan : Reversal) : Type 0 where
+  pub drafts : map body_of plan.drafts.items ≡ (reversion flat group).drafts
+  pub actions : named_group table (group_of plan.actions.items) ≡ reverted_group flat group
+  pub returns : plan.returns.items ≡ (reversion flat group).returns
+  pub marks : marks_after plan.changes.items flat.marks ≡ (reversion flat group).doc.marks
+  pub tags : all_listed (map (λ w. string_bytes w) plan.names.items) flat.tags ≡ (reversion flat group).doc.tags

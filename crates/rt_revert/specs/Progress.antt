@@ -1,0 +1,74 @@
+-- What reverting actions has come to, in the working copy of a text and beside it.
+use Rattle.std.specs.Prelude.{◌≡◌, ℕ, ◌≤◌, List, true, false, length, map, string_bytes}
+use Rattle.std.specs.List.{AllByRecursion, list_all}
+use Rattle.rt_stamps.specs.declared.limits.TheConstants.{GREATEST_COUNT, MOST_CELLS}
+use Rattle.rt_stamps.specs.declared.stamp.Span.{Span}
+use Rattle.rt_stamps.specs.declared.stamp.Stamp.{Stamp}
+use Rattle.rt_stamps.specs.declared.stamp.TheConstants.{FINAL}
+use Rattle.rt_stamps.specs.Stamps.{is_same}
+use Rattle.rt_stamps.specs.Words.{Word}
+use Rattle.rt_oplog.specs.Edits.{body_of}
+use Rattle.rt_oplog.specs.Rules.{is_name}
+use Rattle.rt_store.specs.declared.cell.Cell.{Cell}
+use Rattle.rt_store.specs.Cells.{AreDistinct, map_state}
+use Rattle.rt_store.specs.Shown.{TaggedCell, shown}
+use Rattle.rt_store.specs.Tagged.{AreStates}
+use Rattle.rt_tags.specs.States.{TagStates, names_on}
+use Rattle.rt_edits.specs.Flat.{Flat}
+use Rattle.rt_edits.specs.Insertions.{all_listed}
+use Rattle.rt_undo.specs.declared.action.RemovedSpan.{RemovedSpan}
+use Rattle.rt_undo.specs.Actions.{group_of}
+use Rattle.rt_undo.specs.Renames.{is_moved, now_of}
+use Rattle.rt_revert.specs.declared.plan.Return.{Return}
+use Rattle.rt_revert.specs.declared.progress.Progress.{Progress}
+use Rattle.rt_revert.specs.Plans.{AreGiven, AreUpTo, IsChange, marks_after, named_group}
+use Rattle.rt_revert.specs.Reverting.{Reversion, stamp_after}
+
+-- cells with the names of their tags; cells that look alike have the same ones
+abbrev pub with_names : List TaggedCell → List (Cell (List Word))
+with_names cells = map (map_state names_on) cells
+
+pub record LookAlike (xs ys : List TaggedCell) : Type 0 where
+  pub names : with_names xs ≡ with_names ys
+
+-- the spans of removed characters
+abbrev pub spans_of : List RemovedSpan → List Span
+spans_of removed = map (λ r. r.span) removed
+
+-- a character that came back isn't the final newline
+abbrev pub IsOther : Return → Type 0
+IsOther r = is_same r.newer FINAL ≡ false
+
+-- a working copy of a text, whose states a table gave out
+pub record IsCopy (table : TagStates) (cells : List (Cell ℕ)) (count : ℕ) : Type 0 where
+  pub states : AreStates table cells
+  pub distinct : AreDistinct cells
+  pub few : length cells ≤ MOST_CELLS
+  pub older : AreUpTo count cells
+
+-- what is known beside it: moved are only stamps up to the greatest count, to those that the characters have now
+pub record IsGoing (table : TagStates) (plan : Progress) : Type 0 where
+  pub count : plan.texts.count ≤ GREATEST_COUNT
+  pub moved : (s : Stamp) → is_moved plan.renames s ≡ true → s.count ≤ plan.texts.count
+  pub now : (s : Stamp) → now_of plan.renames s ≡ stamp_after plan.returns.items s
+  pub apart : AllByRecursion IsOther plan.returns.items
+  pub changes : AllByRecursion IsChange plan.changes.items
+  pub names : list_all is_name (map (λ w. string_bytes w) plan.names.items) ≡ true
+  pub given : AreGiven table (group_of plan.actions.items)
+
+-- both are what a reversion in a document of a site has come to
+pub record IsSoFar (table : TagStates) (number : ℕ) (copy : List (Cell ℕ)) (plan : Progress) (flat : Flat) (r : Reversion) : Type 0 where
+  pub cells : LookAlike (map (shown table) copy) r.doc.cells
+  pub site : r.doc.site ≡ number
+  pub count : r.doc.count ≡ plan.texts.count
+  pub drafts : r.drafts ≡ map body_of plan.texts.drafts.items
+  pub returns : r.returns ≡ plan.returns.items
+  pub actions : r.actions ≡ named_group table (group_of plan.actions.items)
+  pub marks : r.doc.marks ≡ marks_after plan.changes.items flat.marks
+  pub tags : r.doc.tags ≡ all_listed (map (λ w. string_bytes w) plan.names.items) flat.tags
+
+-- they are, and what is left to do leads to an end
+pub record Reaches (table : TagStates) (number : ℕ) (copy : List (Cell ℕ)) (plan : Progress) (flat : Flat) (rest : Reversion → Reversion) (end : Reversion) : Type 0 where
+  pub so_far : Reversion
+  pub stands : IsSoFar table number copy plan flat so_far
+  pub leads : rest so_far ≡ end

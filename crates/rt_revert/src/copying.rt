@@ -1,0 +1,105 @@
+// A working copy of a text.
+ghost use Rattle.std.specs.Prelude.{◌≡◌, ℕ, ◌+◌, ◌<◌, ◌≤◌, ◌∷◌, [], All, IfErr, IfOk, OnOk, length, map, take};
+ghost use Rattle.rt_stamps.specs.declared.limits.TheConstants.{MOST_CELLS};
+ghost use Rattle.rt_store.specs.Cells.{EndsFinal, final_cell};
+ghost use Rattle.rt_store.specs.Shown.{shown};
+ghost use Rattle.rt_store.specs.Tagged.{AreStates};
+ghost use Rattle.rt_tags.specs.States.{IsState, KeepsIds, names_on, state_at};
+ghost use Rattle.rt_revert.specs.Progress.{LookAlike};
+
+use crate::returning::names_of;
+use rt_stamps::{FINAL, Fault, ROOT, Span};
+use rt_store::{Cell, TextStore};
+use rt_tags::{StateId, StateTable};
+use std::alloc::Global;
+
+/// The state of another table in which the same tags are on. Want of memory.
+pub fn kept_state(
+    alloc: Global,
+    states: &StateTable,
+    state: StateId,
+    kept: &mut StateTable,
+) -> Result<StateId, Fault>
+    requires { IsState states.now state }
+    ensures given { IfOk result (IsState kept.new) }
+    ensures names { IfOk result (λ id. names_on (state_at kept.new id) ≡ names_on (state_at states.now state)) }
+    ensures ids { KeepsIds kept.old kept.new }
+    ensures err { IfErr result (λ fault. fault ≡ Fault.NoMemory) }
+{
+    states.order();
+    let names = names_of(alloc, states, state)?;
+    kept.state_of_list(ROOT, &names)
+}
+
+// The cells of a store, with states of another table in which the same tags are on. Want of memory.
+fn kept_cells<S: TextStore>(
+    alloc: Global,
+    store: &S,
+    states: &StateTable,
+    kept: &mut StateTable,
+) -> Result<Vec<Cell<StateId>>, Fault>
+    requires states { AreStates states.now (S.list store.now) }
+    ensures states { IfOk result (λ cells. AreStates kept.new cells.items) }
+    ensures alike { IfOk result (λ cells. LookAlike (map (shown kept.new) cells.items) (map (shown states.now) (S.list store.now))) }
+    ensures ids { KeepsIds kept.old kept.new }
+    ensures err { IfErr result (λ fault. fault ≡ Fault.NoMemory) }
+{
+    let mut cells = Vec::new(alloc);
+    for position in 0..store.cells() {
+        let cell = store.nth(position);
+        let state = kept_state(alloc, states, cell.state, kept)?;
+        cells.push(Cell { state, ..cell })?;
+    }
+    Ok(cells)
+}
+
+/// Fills an empty store with cells, the last of which is the final newline. Want of memory.
+fn fill<C: TextStore>(
+    kept: &StateTable,
+    copy: &mut C,
+    cells: Vec<Cell<StateId>>,
+) -> Result<(), Fault>
+    requires empty { C.list copy.old ≡ final_cell ∷ [] }
+    requires states { AreStates kept.now cells.items }
+    requires few { length cells.items ≤ MOST_CELLS }
+    requires ends { EndsFinal cells.items }
+    ensures list { OnOk result (C.list copy.new ≡ cells.items) }
+    ensures err { IfErr result (λ fault. fault ≡ Fault.NoMemory) }
+{
+    kept.order();
+    let mut front = cells;
+    let Some(last) = front.pop() else {
+        unreachable!()
+    };
+    let state = last.state;
+    copy.reserve(front.len(), 3)?;
+    let newline = Span {
+        site: FINAL.site,
+        first: FINAL.count,
+        last: FINAL.count,
+    };
+    copy.set_state(kept, newline, state);
+    copy.splice(kept, 0, &front);
+    Ok(())
+}
+
+/// A working copy of a store's cells in an empty store, with states of a table in which the same tags
+/// are on. Want of memory.
+pub(crate) fn copied<S: TextStore, C: TextStore>(
+    alloc: Global,
+    store: &S,
+    states: &StateTable,
+    kept: &mut StateTable,
+    copy: &mut C,
+) -> Result<(), Fault>
+    requires empty { C.list copy.old ≡ final_cell ∷ [] }
+    requires states { AreStates states.now (S.list store.now) }
+    requires few { length (S.list store.now) ≤ MOST_CELLS }
+    ensures states { OnOk result (AreStates kept.new (C.list copy.new)) }
+    ensures alike { OnOk result (LookAlike (map (shown kept.new) (C.list copy.new)) (map (shown states.now) (S.list store.now))) }
+    ensures ids { KeepsIds kept.old kept.new }
+    ensures err { IfErr result (λ fault. fault ≡ Fault.NoMemory) }
+{
+    let cells = kept_cells(alloc, store, states, kept)?;
+    fill(kept, copy, cells)
+}

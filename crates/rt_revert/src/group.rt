@@ -1,0 +1,97 @@
+// The plan of a whole group that is reverted.
+ghost use Rattle.std.specs.Prelude.{◌≡◌, ◌≤◌, ◌<◌, ◌⊎◌, ◌∷◌, [], true, IfErr, IfOk, length, map, string_bytes};
+ghost use Rattle.std.specs.List.{AllByRecursion, list_all};
+ghost use Rattle.rt_stamps.specs.declared.limits.TheConstants.{GREATEST_COUNT, MOST_CELLS};
+ghost use Rattle.rt_oplog.specs.Rules.{is_name};
+ghost use Rattle.rt_store.specs.Cells.{AreDistinct, final_cell};
+ghost use Rattle.rt_store.specs.Tagged.{AreStates};
+ghost use Rattle.rt_tags.specs.States.{KeepsIds};
+ghost use Rattle.rt_edits.specs.Flat.{Flat};
+ghost use Rattle.rt_undo.specs.Actions.{group_of};
+ghost use Rattle.rt_revert.specs.PlannedGroups.{IsPlanOf};
+ghost use Rattle.rt_revert.specs.Plans.{AreGiven, AreUpTo, IsChange, IsOf, named_group};
+ghost use Rattle.rt_revert.specs.Reverting.{reversion};
+ghost use Rattle.rt_revert.specs.ReversionLaws.{AreSound};
+
+use crate::copying::copied;
+use crate::plan::Reversal;
+use crate::progress::Progress;
+use crate::reverting::revert_all;
+use rt_stamps::{Fault, Site};
+use rt_store::{ListStore, TextStore};
+use rt_tags::StateTable;
+use rt_undo::Action;
+use std::alloc::Global;
+
+/// Plans that a group is reverted, the last action first, and changes nothing of the document. The group
+/// is by the stamps of now, and `count` is the document's greatest count. The tags of removed characters
+/// are states of `kept`, a table of the undo stacks' own: it gets the states that the plan needs, also
+/// where that is refused. `ClockSpent`, or want of memory, as also where a copy of the text, in which the
+/// actions are reverted, grows past the most cells. The copy is a plain list, so the cost goes by the
+/// cells of the text for each character of the group: `planned_reversion_in` takes a better store.
+pub fn planned_reversion<S: TextStore>(
+    alloc: Global,
+    store: &S,
+    states: &StateTable,
+    site: Site,
+    count: u64,
+    group: &[Action],
+    kept: &mut StateTable,
+) -> Result<Reversal, Fault>
+    requires distinct { AreDistinct (S.list store.now) }
+    requires few { length (S.list store.now) ≤ MOST_CELLS }
+    requires states { AreStates states.now (S.list store.now) }
+    requires older { AreUpTo count (S.list store.now) }
+    requires count { count ≤ GREATEST_COUNT }
+    requires given { AreGiven kept.old (group_of group.now) }
+    requires sound { AreSound (named_group kept.old (group_of group.now)) }
+    ensures plan { IfOk result (λ plan. (flat : Flat) → IsOf states.now (S.list store.now) site.number count flat
+        → IsPlanOf kept.new flat (named_group kept.old (group_of group.now)) plan) }
+    ensures given { IfOk result (λ plan. AreGiven kept.new (group_of plan.actions.items)) }
+    ensures changes { IfOk result (λ plan. AllByRecursion IsChange plan.changes.items) }
+    ensures names { IfOk result (λ plan. list_all is_name (map (λ w. string_bytes w) plan.names.items) ≡ true) }
+    ensures ids { KeepsIds kept.old kept.new }
+    ensures err { IfErr result (λ fault. (fault ≡ Fault.NoMemory) ⊎ ((fault ≡ Fault.ClockSpent)
+        × ((flat : Flat) → IsOf states.now (S.list store.now) site.number count flat
+        → GREATEST_COUNT < (reversion flat (named_group kept.old (group_of group.now))).doc.count))) }
+{
+    let copy = ListStore::new(alloc)?;
+    planned_reversion_in(alloc, store, states, copy, site, count, group, kept)
+}
+
+/// The same, with an empty store for the copy of the text.
+pub fn planned_reversion_in<S: TextStore, C: TextStore>(
+    alloc: Global,
+    store: &S,
+    states: &StateTable,
+    copy: C,
+    site: Site,
+    count: u64,
+    group: &[Action],
+    kept: &mut StateTable,
+) -> Result<Reversal, Fault>
+    requires empty { C.list copy ≡ final_cell ∷ [] }
+    requires distinct { AreDistinct (S.list store.now) }
+    requires few { length (S.list store.now) ≤ MOST_CELLS }
+    requires states { AreStates states.now (S.list store.now) }
+    requires older { AreUpTo count (S.list store.now) }
+    requires count { count ≤ GREATEST_COUNT }
+    requires given { AreGiven kept.old (group_of group.now) }
+    requires sound { AreSound (named_group kept.old (group_of group.now)) }
+    ensures plan { IfOk result (λ plan. (flat : Flat) → IsOf states.now (S.list store.now) site.number count flat
+        → IsPlanOf kept.new flat (named_group kept.old (group_of group.now)) plan) }
+    ensures given { IfOk result (λ plan. AreGiven kept.new (group_of plan.actions.items)) }
+    ensures changes { IfOk result (λ plan. AllByRecursion IsChange plan.changes.items) }
+    ensures names { IfOk result (λ plan. list_all is_name (map (λ w. string_bytes w) plan.names.items) ≡ true) }
+    ensures ids { KeepsIds kept.old kept.new }
+    ensures err { IfErr result (λ fault. (fault ≡ Fault.NoMemory) ⊎ ((fault ≡ Fault.ClockSpent)
+        × ((flat : Flat) → IsOf states.now (S.list store.now) site.number count flat
+        → GREATEST_COUNT < (reversion flat (named_group kept.old (group_of group.now))).doc.count))) }
+{
+    let mut work = copy;
+    copied(alloc, store, states, kept, &mut work)?;
+    let mut plan = Progress::new(alloc, count);
+    revert_all(alloc, site, kept, &mut work, group, &mut plan)?;
+    let reversal = plan.done(alloc)?;
+    Ok(reversal)
+}

@@ -1,0 +1,180 @@
+// What reverting actions has come to.
+ghost use Rattle.std.specs.Prelude.{◌≡◌, ℕ, ◌⊎◌, ◌+◌, ◌<◌, ◌≤◌, ◌++◌, ◌∷◌, [], ◌||◌, false, IfErr, IfOk, OnOk, length, map, string_bytes};
+ghost use Rattle.rt_stamps.specs.declared.limits.TheConstants.{GREATEST_COUNT, MOST_CHARACTERS};
+ghost use Rattle.rt_stamps.specs.declared.stamp.Stamp.{Stamp};
+ghost use Rattle.rt_stamps.specs.Stamps.{is_same};
+ghost use Rattle.rt_oplog.specs.Edits.{body_of};
+ghost use Rattle.rt_edits.specs.InsertionDrafts.{text_drafts};
+ghost use Rattle.rt_edits.specs.Insertions.{counts_for};
+ghost use Rattle.rt_undo.specs.Actions.{group_of};
+ghost use Rattle.rt_undo.specs.Renames.{is_moved, now_of, replaced};
+ghost use Rattle.rt_undo.specs.Undo.{with_stamps_in};
+
+use crate::plan::{Return, Reversal, TextChange};
+use rt_edits::Range;
+use rt_edits::inserts::Inserts;
+use rt_rga::Draft;
+use rt_stamps::limits::GREATEST_COUNT;
+use rt_stamps::{Fault, ROOT, Site, Span, Stamp};
+use rt_undo::{Action, Renames, group_now};
+use std::alloc::Global;
+
+/// What reverting actions has come to: the operations with the greatest count, the stamps that
+/// characters have now, the tags that operations put on them, the changes of the text, the characters
+/// that came back, and the reverted actions.
+#[derive(Drop)]
+pub(crate) struct Progress {
+    pub texts: Inserts,
+    pub renames: Renames,
+    pub names: Vec<String>,
+    pub changes: Vec<TextChange>,
+    pub returns: Vec<Return>,
+    pub actions: Vec<Action>,
+}
+
+impl Progress {
+    /// Nothing was reverted yet.
+    pub(crate) fn new(alloc: Global, count: u64) -> Progress
+        ensures drafts { result.texts.drafts.items ≡ [] }
+        ensures count { result.texts.count ≡ count }
+        ensures now { (stamp : Stamp) → now_of result.renames stamp ≡ stamp }
+        ensures moved { (stamp : Stamp) → is_moved result.renames stamp ≡ false }
+        ensures names { result.names.items ≡ [] }
+        ensures changes { result.changes.items ≡ [] }
+        ensures returns { result.returns.items ≡ [] }
+        ensures actions { result.actions.items ≡ [] }
+    {
+        Progress {
+            texts: Inserts {
+                drafts: Vec::new(alloc),
+                stamps: Vec::new(alloc),
+                count,
+                behind: ROOT,
+            },
+            renames: Renames::new(alloc),
+            names: Vec::new(alloc),
+            changes: Vec::new(alloc),
+            returns: Vec::new(alloc),
+            actions: Vec::new(alloc),
+        }
+    }
+
+    /// Characters go that stood at some places, by some operations. `ClockSpent`, or want of memory.
+    pub(crate) fn lose(&mut self, places: Vec<Range>, drafts: Vec<Draft>) -> Result<(), Fault>
+        requires { self.old.texts.count ≤ GREATEST_COUNT }
+        ensures drafts { OnOk result (self.new.texts.drafts.items ≡ self.old.texts.drafts.items ++ drafts.items) }
+        ensures count { OnOk result (self.new.texts.count ≡ self.old.texts.count + length drafts.items) }
+        ensures within { OnOk result (self.new.texts.count ≤ GREATEST_COUNT) }
+        ensures changes { OnOk result (self.new.changes.items ≡ self.old.changes.items ++ TextChange.Removed places ∷ []) }
+        ensures renames { OnOk result (self.new.renames ≡ self.old.renames) }
+        ensures names { OnOk result (self.new.names ≡ self.old.names) }
+        ensures returns { OnOk result (self.new.returns ≡ self.old.returns) }
+        ensures actions { OnOk result (self.new.actions ≡ self.old.actions) }
+        ensures err { IfErr result (λ fault. (fault ≡ Fault.NoMemory)
+            ⊎ ((fault ≡ Fault.ClockSpent) × (GREATEST_COUNT < self.old.texts.count + length drafts.items))) }
+    {
+        let counts = drafts.len() as u64;
+        if counts > GREATEST_COUNT - self.texts.count {
+            return Err(Fault::ClockSpent);
+        }
+        let mut more = drafts;
+        self.texts.drafts.append(&mut more)?;
+        self.changes.push(TextChange::Removed(places))?;
+        self.texts.count += counts;
+        Ok(())
+    }
+
+    /// A character is inserted behind an element, with some tags. `ClockSpent`, or want of memory.
+    pub(crate) fn write(
+        &mut self,
+        alloc: Global,
+        site: Site,
+        names: &[String],
+        behind: Stamp,
+        ch: char,
+    ) -> Result<(), Fault>
+        requires { self.old.texts.count ≤ GREATEST_COUNT }
+        ensures drafts { OnOk result (map body_of self.new.texts.drafts.items ≡ map body_of self.old.texts.drafts.items
+            ++ text_drafts MOST_CHARACTERS site.number self.old.texts.count behind (map (λ w. string_bytes w) names.now) (ch ∷ [])) }
+        ensures count { OnOk result (self.new.texts.count ≡ self.old.texts.count + counts_for (map (λ w. string_bytes w) names.now) (ch ∷ [])) }
+        ensures within { OnOk result (self.new.texts.count ≤ GREATEST_COUNT) }
+        ensures changes { OnOk result (self.new.changes ≡ self.old.changes) }
+        ensures renames { OnOk result (self.new.renames ≡ self.old.renames) }
+        ensures names { OnOk result (self.new.names ≡ self.old.names) }
+        ensures returns { OnOk result (self.new.returns ≡ self.old.returns) }
+        ensures actions { OnOk result (self.new.actions ≡ self.old.actions) }
+        ensures err { IfErr result (λ fault. (fault ≡ Fault.NoMemory) ⊎ ((fault ≡ Fault.ClockSpent)
+            × (GREATEST_COUNT < self.old.texts.count + counts_for (map (λ w. string_bytes w) names.now) (ch ∷ [])))) }
+    {
+        self.texts.behind = behind;
+        self.texts.push_text(alloc, site, names, &[ch])
+    }
+
+    /// A character came back at a place, with some tags. Want of memory.
+    pub(crate) fn come_back(
+        &mut self,
+        former: Stamp,
+        newer: Stamp,
+        place: usize,
+        names: Vec<String>,
+    ) -> Result<(), Fault>
+        requires later { former.count < newer.count }
+        requires bound { newer.count ≤ GREATEST_COUNT }
+        requires still { is_moved self.old.renames former ≡ false }
+        requires fresh { is_moved self.old.renames newer ≡ false }
+        ensures now { OnOk result ((s : Stamp) → now_of self.new.renames s ≡ replaced former newer (now_of self.old.renames s)) }
+        ensures moved { OnOk result ((s : Stamp) → is_moved self.new.renames s ≡ (is_same s former || is_moved self.old.renames s)) }
+        ensures returns { OnOk result (self.new.returns.items ≡ self.old.returns.items ++ record { former = former; newer = newer } ∷ []) }
+        ensures changes { OnOk result (self.new.changes.items ≡ self.old.changes.items ++ TextChange.Inserted place ∷ []) }
+        ensures names { OnOk result (self.new.names.items ≡ self.old.names.items ++ names.items) }
+        ensures texts { OnOk result (self.new.texts ≡ self.old.texts) }
+        ensures actions { OnOk result (self.new.actions ≡ self.old.actions) }
+        ensures err { IfErr result (λ fault. fault ≡ Fault.NoMemory) }
+    {
+        self.renames.reserve(1)?;
+        let mut more = names;
+        self.names.append(&mut more)?;
+        self.changes.push(TextChange::Inserted(place))?;
+        self.returns.push(Return { former, newer })?;
+        let span = Span {
+            site: former.site,
+            first: former.count,
+            last: former.count,
+        };
+        self.renames.rename(span, newer);
+        Ok(())
+    }
+
+    /// The plan that this is. Want of memory.
+    pub(crate) fn done(self, alloc: Global) -> Result<Reversal, Fault>
+        ensures drafts { IfOk result (λ plan. plan.drafts.items ≡ self.texts.drafts.items) }
+        ensures names { IfOk result (λ plan. plan.names.items ≡ self.names.items) }
+        ensures changes { IfOk result (λ plan. plan.changes.items ≡ self.changes.items) }
+        ensures returns { IfOk result (λ plan. plan.returns.items ≡ self.returns.items) }
+        ensures actions { IfOk result (λ plan. group_of plan.actions.items ≡ with_stamps_in (now_of self.renames) (group_of self.actions.items)) }
+        ensures err { IfErr result (λ fault. fault ≡ Fault.NoMemory) }
+    {
+        let Progress {
+            texts,
+            renames,
+            names,
+            changes,
+            returns,
+            actions,
+        } = self;
+        let Inserts {
+            drafts,
+            stamps: _,
+            count: _,
+            behind: _,
+        } = texts;
+        let actions = group_now(alloc, &renames, &actions)?;
+        Ok(Reversal {
+            drafts,
+            names,
+            changes,
+            returns,
+            actions,
+        })
+    }
+}

@@ -1,0 +1,34 @@
+use Rattle.std.proofs.Common.{◌≡◌, true, false, sym, ◌∙◌, subst}
+use Rattle.rt_store.specs.Cells.{is_in_span}
+use Rattle.rt_tree.specs.declared.node.Run.{Run}
+use Rattle.rt_tree.specs.Runs.{first_stamp}
+use Rattle.rt_tree.specs.Shape.{tree_runs}
+use Rattle.rt_tree.specs.Sums.{AreFew, counts_of, counts_of_run, plus}
+use Rattle.rt_tree.specs.Walks.{IsReplacedAt}
+use Rattle.rt_tree.proofs.Cutting.{few_all}
+use Rattle.rt_tree.proofs.Marking.{changed_in, changed_out, marked_few}
+use Rattle.rt_tree.proofs.mark.mark_run.Goals as goal
+
+pub seek-found-requires-clause-few : goal.seek-found-requires-clause-few
+seek-found-requires-clause-few c = few_all (tree_runs c.args.mem.now c.args.root.index) c.requires.kept c.requires.few
+
+pub replace-requires-clause-few : goal.replace-requires-clause-few
+replace-requires-clause-few c =
+    let old = tree_runs c.args.mem.now c.args.root.index in
+    let f = c.seek-found.result in
+    subst (λ (r : Run). AreFew (plus (counts_of_run r) (counts_of old))) (sym c.marked.ensures)
+    (marked_few c.args.mark.now old f.run f.before f.spot.offset c.args.at c.requires.kept c.requires.few c.seek-found.ensures)
+
+pub returns-then-is_first_in-clause-run : goal.returns-then-is_first_in-clause-run
+returns-then-is_first_in-clause-run c =
+    let old = tree_runs c.args.mem.now c.args.root.index in let new = tree_runs c.replace.new.mem c.args.root.index in
+    let f = c.seek-found.result in
+    let in_it : is_in_span c.args.span (first_stamp f.run) ≡ true = sym c.is_first_in.ensures ∙ c.if-is_first_in.true in
+    changed_in c.args.span c.args.mark.now old f.run f.before f.spot.offset c.args.at new c.requires.kept c.seek-found.ensures in_it (subst (λ (r : Run). IsReplacedAt old new c.args.at r) c.marked.ensures c.replace.ensures.runs)
+
+pub returns-else-is_first_in-clause-run : goal.returns-else-is_first_in-clause-run
+returns-else-is_first_in-clause-run c =
+    let old = tree_runs c.args.mem.now c.args.root.index in
+    let f = c.seek-found.result in
+    let out : is_in_span c.args.span (first_stamp f.run) ≡ false = sym c.is_first_in.ensures ∙ c.if-is_first_in.false in
+    changed_out c.args.span c.args.mark.now old f.run f.before f.spot.offset c.args.at c.seek-found.ensures out

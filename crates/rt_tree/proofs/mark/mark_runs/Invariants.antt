@@ -1,0 +1,14 @@
+use Rattle.std.proofs.Common.{◌≡◌, ◌+◌, ◌-◌, length}
+use Rattle.rt_tree.specs.Shape.{IsTree, tree_runs}
+use Rattle.rt_tree.proofs.Marking.{AreMarked}
+use Rattle.rt_tree.proofs.mark.mark_runs.Given as goal
+
+abbrev pub invariant-loop-at : goal.invariant-loop-at
+invariant-loop-at l = record {
+  tree : IsTree l.mem l.root.index;
+  marked : AreMarked l.span l.mark (tree_runs l.initial.mem l.root.index) (tree_runs l.mem l.root.index) l.at;
+  room : length l.mem.heads + l.mem.room ≡ length l.initial.mem.heads + l.initial.mem.room;
+}
+
+abbrev pub decreases-loop-at : goal.decreases-loop-at
+decreases-loop-at l = l.all - l.at

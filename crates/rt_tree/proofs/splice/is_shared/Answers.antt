@@ -1,0 +1,30 @@
+use Rattle.std.proofs.Common.{◌≡◌, List, false, arith, sym, ap, ◌∙◌}
+use Rattle.std.specs.List.{list_any}
+use Rattle.rt_tree.specs.declared.node.Run.{Run}
+use Rattle.rt_tree.specs.Shape.{tree_runs}
+use Rattle.rt_tree.specs.Sharing.{is_shared_by}
+use Rattle.rt_tree.proofs.Cutting.{few_all}
+use Rattle.rt_tree.proofs.Shared.{none_shared, one_shared}
+use Rattle.rt_tree.proofs.Walking.{all_passed, passed_more}
+use Rattle.rt_tree.proofs.splice.is_shared.Goals as goal
+
+pub cells_of-all-requires-clause-few : goal.cells_of-all-requires-clause-few
+cells_of-all-requires-clause-few c = few_all (tree_runs c.args.mem.now c.args.root.index) c.requires.kept c.requires.few
+
+pub seek-found-requires-clause-few : goal.seek-found-requires-clause-few
+seek-found-requires-clause-few c = few_all (tree_runs c.args.mem.now c.args.root.index) c.requires.kept c.requires.few
+
+pub returns-then-is_shared_by : goal.returns-then-is_shared_by
+returns-then-is_shared_by c =
+    let st = c.seek-found.ensures in let f = c.seek-found.result in
+    sym (ap (λ (l : List Run). list_any (is_shared_by c.args.run.now) l) st.here ∙ one_shared c.args.run.now st.left f.run st.right (sym c.is_shared_by.ensures ∙ c.if-is_shared_by.true))
+
+pub loop-at-preserved : goal.loop-at-preserved
+loop-at-preserved c =
+    let all = tree_runs c.args.mem.now c.args.root.index in let f = c.seek-found.result in
+    passed_more c.requires.kept.text all c.loop-at.at (λ (r : Run). is_shared_by c.args.run.now r ≡ false) f.run f.before f.spot.offset c.requires.kept.runs c.loop-at.invariant c.seek-found.ensures (sym c.is_shared_by.ensures ∙ c.if-is_shared_by.false)
+
+pub returns : goal.returns
+returns c =
+    let all = tree_runs c.args.mem.now c.args.root.index in let e = c.cells_of-all.ensures in let t = c.loop-at-test.false in
+    sym (none_shared c.args.run.now all (all_passed c.requires.kept.text all c.loop-at.at (λ (r : Run). is_shared_by c.args.run.now r ≡ false) c.requires.kept.runs c.loop-at.invariant (omega (arith, e, t))))

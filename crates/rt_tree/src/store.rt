@@ -1,0 +1,113 @@
+// A tree as the store of a text.
+ghost use Rattle.std.specs.Prelude.{◌≡◌, ◌∷◌, [], IfOk, IfErr};
+ghost use Rattle.rt_store.specs.Cells.{EndsFinal, final_cell};
+
+use crate::Tree;
+use rt_stamps::{Fault, Span, Stamp};
+use rt_store::{Cell, TextStore};
+use rt_tags::{StateId, StateTable, TagId};
+use std::alloc::Global;
+
+/// The cells of a text in the runs of a counted B-tree; the last one is the final newline.
+#[derive(Drop)]
+pub struct TreeStore {
+    tree: Tree,
+    ghost ends: { EndsFinal tree.cells },
+}
+
+impl TreeStore {
+    ghost use Rattle.rt_tree.specs.Stores.{cells_of};
+
+    /// A store of the final newline alone.
+    pub fn new(alloc: Global) -> Result<TreeStore, Fault>
+        ensures ok { IfOk result (λ store. cells_of store ≡ final_cell ∷ []) }
+        ensures err { IfErr result (λ fault. fault ≡ Fault.NoMemory) }
+    {
+        let tree = Tree::new(alloc)?;
+        Ok(TreeStore { tree })
+    }
+}
+
+impl TextStore for TreeStore {
+    ghost list = { λ s. s.tree.cells };
+
+    ghost room = { λ s. s.tree.room };
+
+    ghost ends = { λ s. s.ends };
+
+    fn reserve(&mut self, cells: usize, cuts: usize) -> Result<(), Fault> {
+        self.tree.reserve(cells, cuts)
+    }
+
+    fn cells(&self) -> usize {
+        self.tree.cells()
+    }
+
+    fn visible(&self) -> usize {
+        self.tree.visible()
+    }
+
+    fn nth(&self, position: usize) -> Cell<StateId> {
+        self.tree.nth(position)
+    }
+
+    fn cell_of(&self, stamp: Stamp) -> Option<Cell<StateId>> {
+        self.tree.cell_of(stamp)
+    }
+
+    fn place_of(&self, stamp: Stamp) -> Option<usize> {
+        self.tree.place_of(stamp)
+    }
+
+    fn lines(&self) -> usize {
+        self.tree.lines()
+    }
+
+    fn char_at(&self, place: usize) -> char {
+        self.tree.char_at(place)
+    }
+
+    fn characters(&self, place: usize, buffer: &mut [char]) -> usize {
+        self.tree.characters(place, buffer)
+    }
+
+    fn cell_at(&self, place: usize) -> Cell<StateId> {
+        self.tree.cell_at(place)
+    }
+
+    fn line_start(&self, line: usize) -> usize {
+        self.tree.line_start(line)
+    }
+
+    fn line_of(&self, place: usize) -> usize {
+        self.tree.line_of(place)
+    }
+
+    fn after_skip(&self, left: Stamp, new: Stamp) -> usize {
+        self.tree.after_skip(left, new)
+    }
+
+    fn next_tagged(&self, states: &StateTable, tag: TagId, place: usize) -> Option<usize> {
+        self.tree.next_tagged(states, tag, place)
+    }
+
+    fn next_untagged(&self, states: &StateTable, tag: TagId, place: usize) -> Option<usize> {
+        self.tree.next_untagged(states, tag, place)
+    }
+
+    fn previous_tagged(&self, states: &StateTable, tag: TagId, place: usize) -> Option<usize> {
+        self.tree.previous_tagged(states, tag, place)
+    }
+
+    fn splice(&mut self, _states: &StateTable, at: usize, cells: &[Cell<StateId>]) {
+        self.tree.splice(at, cells);
+    }
+
+    fn set_gone(&mut self, _states: &StateTable, span: Span) {
+        self.tree.set_gone(span);
+    }
+
+    fn set_state(&mut self, _states: &StateTable, span: Span, state: StateId) {
+        self.tree.set_state(span, state);
+    }
+}

@@ -1,0 +1,4 @@
+pub mod Asked
+pub mod EditWords
+pub mod OptionWords
+pub mod Truth
