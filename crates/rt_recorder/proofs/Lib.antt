@@ -1,4 +1,3 @@
 pub mod Named
 pub mod Removals
-pub mod Relisted
 pub mod Renamed

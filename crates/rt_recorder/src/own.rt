@@ -1,14 +1,15 @@
 // Characters that go, with their tags as states of a table of one's own.
-ghost use Rattle.std.specs.Prelude.{◌≡◌, ◌∷◌, ◌++◌, ◌==◌, ◌&&◌, [], map, IfErr, IfOk, IfSome, OnOk, string_bytes};
+ghost use Rattle.std.specs.Prelude.{◌≡◌, ◌∷◌, ◌++◌, ◌==◌, ◌&&◌, [], map, IfErr, IfOk, IfSome, OnOk};
 ghost use Rattle.rt_revert.specs.Reverting.{as_removed};
 ghost use Rattle.rt_store.specs.Shown.{shown};
 ghost use Rattle.rt_store.specs.Tagged.{AreStates};
-ghost use Rattle.rt_tags.specs.States.{IsState, KeepsIds, names_on, state_at};
+ghost use Rattle.rt_tags.specs.States.{IsState, KeepsIds};
 ghost use Rattle.rt_undo.specs.Actions.{removed_in};
 ghost use Rattle.rt_recorder.specs.Naming.{RemovedAreGiven, named_removed};
 ghost use Rattle.rt_recorder.specs.Own.{AreAlike, follows};
 
-use rt_stamps::{Fault, ROOT, Span, Stamp};
+use rt_revert::kept_state;
+use rt_stamps::{Fault, Span, Stamp};
 use rt_store::Cell;
 use rt_tags::{StateId, StateTable};
 use rt_undo::RemovedSpan;
@@ -21,38 +22,7 @@ struct Alike {
     own: StateId,
 }
 
-// The names of the tags that are on in a state. Want of memory.
-fn names_of(alloc: Global, states: &StateTable, state: StateId) -> Result<Vec<String>, Fault>
-    requires { IsState states.now state }
-    ensures ok { IfOk result (λ v. map (λ s. string_bytes s) v.items ≡ names_on (state_at states.now state)) }
-    ensures err { IfErr result (λ fault. fault ≡ Fault.NoMemory) }
-{
-    let mut names = Vec::new(alloc);
-    for tag in states.on(state) {
-        names.push(String::from_str(alloc, states.name(*tag))?)?;
-    }
-    Ok(names)
-}
-
-// A state of one's own table in which the same tags are on. Want of memory.
-fn own_state(
-    alloc: Global,
-    states: &StateTable,
-    state: StateId,
-    table: &mut StateTable,
-) -> Result<StateId, Fault>
-    requires { IsState states.now state }
-    ensures given { IfOk result (λ own. IsState table.new own) }
-    ensures names { IfOk result (λ own. names_on (state_at table.new own) ≡ names_on (state_at states.now state)) }
-    ensures ids { KeepsIds table.old table.new }
-    ensures err { IfErr result (λ fault. fault ≡ Fault.NoMemory) }
-{
-    states.order();
-    let names = names_of(alloc, states, state)?;
-    table.state_of_list(ROOT, &names)
-}
-
-// The same, where perhaps a pair of such states is known.
+// A state of a table with such a state of one's own, where perhaps a pair of them is known.
 fn alike_state(
     alloc: Global,
     states: &StateTable,
@@ -71,7 +41,7 @@ fn alike_state(
         Some(alike) if alike.theirs == state => Ok(alike),
         _ => Ok(Alike {
             theirs: state,
-            own: own_state(alloc, states, state, table)?,
+            own: kept_state(alloc, states, state, table)?,
         }),
     }
 }

@@ -13,8 +13,8 @@ use rt_store::{Cell, TextStore};
 use rt_tags::{StateId, StateTable};
 use std::alloc::Global;
 
-// The state of another table in which the same tags are on. Want of memory.
-fn kept_state(
+/// The state of another table in which the same tags are on. Want of memory.
+pub fn kept_state(
     alloc: Global,
     states: &StateTable,
     state: StateId,

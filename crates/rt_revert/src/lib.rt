@@ -2,7 +2,7 @@
 //! text manual, "The undo mechanism"). The definitions stand in `specs/Reverting.antt`.
 #![tactic(auto)]
 
-mod copying;
+pub mod copying;
 pub mod examples;
 mod going;
 pub mod group;
@@ -15,6 +15,7 @@ mod returning;
 mod reverting;
 mod work;
 
+pub use copying::kept_state;
 pub use group::{planned_reversion, planned_reversion_in};
 pub use losses::Losses;
 pub use plan::{Return, Reversal, TextChange};
