@@ -2,6 +2,7 @@
 #![tactic(auto)]
 
 mod characters;
+mod changing;
 mod comparison;
 mod distance;
 pub mod doc;
@@ -12,12 +13,14 @@ mod moving;
 pub mod own_mark;
 mod preparing;
 pub mod range;
+pub mod reverted;
 mod staying;
 pub mod view;
 pub mod widget;
 
 pub use doc::Doc;
 pub use own_mark::OwnMark;
+pub use reverted::Reverted;
 pub use rt_edits::{Piece, Range, Selection};
 pub use rt_requests::{Comparison, Measure};
 pub use view::View;
