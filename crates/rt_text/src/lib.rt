@@ -1,8 +1,8 @@
 //! A text, its marks, and the commands of a widget on them.
 #![tactic(auto)]
 
-mod characters;
 mod changing;
+mod characters;
 mod comparison;
 mod distance;
 pub mod doc;

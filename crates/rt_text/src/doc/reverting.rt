@@ -49,8 +49,7 @@ impl<S: TextStore> Doc<S> {
         let site = self.replica.site();
         let count = self.replica.clock().seen();
         let (store, states) = self.kept();
-        let plan =
-            planned_reversion_in(self.alloc, store, states, copy, site, count, group, kept)?;
+        let plan = planned_reversion_in(self.alloc, store, states, copy, site, count, group, kept)?;
         prepare_tags(&mut self.tags, &plan.names)?;
         let _made = self.replica.make(plan.drafts)?;
         move_for_all(&mut self.marks, widget, &plan.changes);
