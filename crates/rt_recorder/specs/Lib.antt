@@ -1,5 +1,4 @@
 pub mod Naming
 pub mod Recordings
 pub mod Seen
-pub mod Own
 pub mod Returns

@@ -10,6 +10,7 @@ pub mod Rest
 pub mod Returned
 pub mod Scalars
 pub mod Soundness
+pub mod Spanned
 pub mod Stamps
 pub mod Steps
 pub mod TakenBack
