@@ -1,5 +1,5 @@
 // What a document says of its text: how long it is, and where places stand in it.
-ghost use Rattle.std.specs.Prelude.{◌≡◌, ◌≤◌, length, map};
+ghost use Rattle.std.specs.Prelude.{◌≡◌, ◌<◌, ◌≤◌, length, map};
 ghost use Rattle.rt_stamps.specs.Places.{position_at};
 ghost use Rattle.rt_store.specs.Cells.{text_of};
 ghost use Rattle.rt_store.specs.Shown.{shown};
@@ -9,7 +9,7 @@ use super::Doc;
 use crate::Widget;
 use crate::ground::WidgetGround;
 use crate::index::position_at;
-use rt_stamps::Position;
+use rt_stamps::{Position, Site};
 use rt_store::TextStore;
 
 impl<S: TextStore> Doc<S> {
@@ -36,6 +36,15 @@ impl<S: TextStore> Doc<S> {
         ensures { result ≡ self.now.count }
     {
         self.replica.clock().seen()
+    }
+
+    /// The site that makes its operations.
+    pub fn site(&self) -> Site
+        ensures number { result.number ≡ self.now.site }
+        ensures some { 0 < self.now.site }
+    {
+        let _ = self.kept();
+        self.replica.site()
     }
 
     /// How many cells it has, those of removed characters and of the last newline included.
