@@ -3,7 +3,7 @@
 use Rattle.std.specs.Prelude.{◌≡◌, ◌⊎◌, List, [], ◌∷◌, map, flat_map, Bool, true, false, Option, Some, None, Result, Ok, Err, codes, if◌then◌else◌}
 use Rattle.std.specs.Fmt.{signed_decimal}
 use Rattle.rt_stamps.specs.declared.fault.Fault.{Fault}
-use Rattle.rt_stamps.specs.declared.fault.Fault.TheVariants.{NoMemory, NoWidget}
+use Rattle.rt_stamps.specs.declared.fault.Fault.TheVariants.{BadCommand, NoMemory, NoWidget}
 use Rattle.rt_stamps.specs.declared.position.Position.{Position}
 use Rattle.rt_stamps.specs.Outcomes.{Answers}
 use Rattle.rt_stamps.specs.Places.{text_of_position}
@@ -12,7 +12,7 @@ use Rattle.rt_marks.specs.Marks.{gravity_word}
 use Rattle.rt_requests.specs.declared.request.MarkRequest.{MarkRequest}
 use Rattle.rt_requests.specs.declared.request.MarkRequest.TheVariants as marks
 use Rattle.rt_requests.specs.declared.request.Request.{Request}
-use Rattle.rt_requests.specs.declared.request.Request.TheVariants.{Insert, Delete, Get, Index, Compare, Count, Search, Replace, Dump, Mark, Tag}
+use Rattle.rt_requests.specs.declared.request.Request.TheVariants.{Insert, Delete, Get, Index, Compare, Count, Search, Replace, Dump, Mark, Tag, Edit, Configure, Cget}
 use Rattle.rt_requests.specs.declared.request.TagRequest.{TagRequest}
 use Rattle.rt_requests.specs.declared.request.TagRequest.TheVariants as tags
 use Rattle.rt_requests.specs.Asking.{Asked, Asks}
@@ -111,6 +111,9 @@ step state (Replace from to texts) = changed_step (replaced state from to (map a
 step state (Dump kinds from to) = told_step (flat_map element_words) state (dumped state kinds from to)
 step state (Mark request) = mark_step state request
 step state (Tag request) = tag_step state request
+step state (Edit request) = Err BadCommand
+step state (Configure settings) = Err BadCommand
+step state (Cget option) = Err BadCommand
 
 -- a request to the widget of a path: there is one widget
 abbrev pub step_at : Word → State → Request → Outcome

@@ -77,6 +77,9 @@ impl SiteState {
             Request::Dump { kinds, from, to } => self.dump(*kinds, from, to),
             Request::Mark(request) => self.mark(request),
             Request::Tag(request) => self.tag(request),
+            Request::Edit(_) | Request::Configure { .. } | Request::Cget { .. } => {
+                Err(Fault::BadCommand)
+            }
         }
     }
 

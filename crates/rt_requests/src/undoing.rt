@@ -1,42 +1,21 @@
 // What is asked of the undo mechanism.
 ghost use Rattle.std.specs.Prelude.{◌≡◌, map, string_bytes};
-ghost use Rattle.rt_undo_requests.specs.EditWords.{alone, asked_edit, asked_modified, asked_of_edits};
+ghost use Rattle.rt_requests.specs.Asking.{asked_edit};
+ghost use Rattle.rt_requests.specs.EditWords.{alone, asked_modified, asked_of_edits};
 
 use crate::options::truth_of;
+use crate::request::{EditRequest, Request};
 use rt_stamps::Fault;
 
-/// What is asked of the undo mechanism (Tk text manual, "edit" and "THE UNDO MECHANISM").
-#[derive(Clone, Copy, Debug, PartialEq, Eq)]
-pub enum EditRequest {
-    /// The edits since the last separator are undone.
-    Undo,
-    /// The edits that were undone last are done again.
-    Redo,
-    /// A separator on the undo stack.
-    Separator,
-    /// The undo and redo stacks are cleared.
-    Reset,
-    /// Whether there is something to undo.
-    CanUndo,
-    /// Whether there is something to redo.
-    CanRedo,
-    /// The modified flag.
-    Modified,
-    /// The modified flag is set.
-    SetModified { modified: bool },
-}
-
-impl EditRequest {
-    /// What the words behind `edit` ask for. `BadCommand` for an unknown name or a wrong number of words,
-    /// `BadOption` for a modified flag that is neither `0` nor `1`. It takes no memory.
-    pub fn of(words: &[String]) -> Result<EditRequest, Fault>
-        ensures { result ≡ asked_edit (map (λ w. string_bytes w) words.now) }
-    {
-        let Some((what, words)) = words.split_first() else {
-            return Err(Fault::BadCommand);
-        };
-        of_edits(what, words)
-    }
+// `edit WHAT ?WORD ...?`.
+pub(crate) fn edit<'a>(words: &'a [String]) -> Result<Request<'a>, Fault>
+    ensures { result ≡ asked_edit (map (λ w. string_bytes w) words.now) }
+{
+    let Some((what, words)) = words.split_first() else {
+        return Err(Fault::BadCommand);
+    };
+    let request = of_edits(what, words)?;
+    Ok(Request::Edit(request))
 }
 
 // What is asked, by its name.

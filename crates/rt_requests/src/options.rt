@@ -1,7 +1,7 @@
 // The options of a widget.
 ghost use Rattle.std.specs.Prelude.{◌≡◌};
-ghost use Rattle.rt_undo_requests.specs.OptionWords.{option_of, option_word};
-ghost use Rattle.rt_undo_requests.specs.Truth.{truth_of};
+ghost use Rattle.rt_requests.specs.OptionWords.{option_of, option_word};
+ghost use Rattle.rt_requests.specs.Truth.{truth_of};
 
 /// An option of a widget (Tk text manual, "WIDGET-SPECIFIC OPTIONS").
 #[derive(Clone, Copy, Debug, PartialEq, Eq)]
@@ -44,13 +44,13 @@ pub struct Settings {
     pub auto_separators: Option<bool>,
 }
 
-// The truth that a word tells: `0` or `1`.
+// The truth that a word tells: one of the words for yes, or for no.
 pub(crate) fn truth_of(word: &str) -> Option<bool>
     ensures { result ≡ truth_of word.now }
 {
     match word {
-        "0" => Some(false),
-        "1" => Some(true),
+        "1" | "true" | "yes" | "on" => Some(true),
+        "0" | "false" | "no" | "off" => Some(false),
         _ => None,
     }
 }

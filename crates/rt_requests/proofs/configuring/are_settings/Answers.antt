@@ -1,6 +1,6 @@
 use Rattle.std.proofs.Common.{◌==◌, ◌∙◌, ap, string_bytes, sym, true≢false}
-use Rattle.rt_undo_requests.proofs.SettingOptions.{some_pairs}
-use Rattle.rt_undo_requests.proofs.configuring.are_settings.Goals as goal
+use Rattle.rt_requests.proofs.SettingOptions.{some_pairs}
+use Rattle.rt_requests.proofs.configuring.are_settings.Goals as goal
 
 pub returns-then-not-is_empty : goal.returns-then-not-is_empty
 returns-then-not-is_empty c =

@@ -5,10 +5,10 @@ use Rattle.std.specs.Str.{bytes_eq}
 use Rattle.rt_stamps.specs.declared.fault.Fault.{Fault}
 use Rattle.rt_stamps.specs.declared.fault.Fault.TheVariants.{BadCommand, BadOption}
 use Rattle.rt_stamps.specs.Words.{Word}
-use Rattle.rt_undo_requests.specs.declared.options.Settings.{Settings}
-use Rattle.rt_undo_requests.specs.declared.options.WidgetOption.{WidgetOption}
-use Rattle.rt_undo_requests.specs.declared.options.WidgetOption.TheVariants.{Undo, AutoSeparators}
-use Rattle.rt_undo_requests.specs.Truth.{truth_of}
+use Rattle.rt_requests.specs.declared.options.Settings.{Settings}
+use Rattle.rt_requests.specs.declared.options.WidgetOption.{WidgetOption}
+use Rattle.rt_requests.specs.declared.options.WidgetOption.TheVariants.{Undo, AutoSeparators}
+use Rattle.rt_requests.specs.Truth.{truth_of}
 
 -- OPTIONS
 

@@ -4,9 +4,9 @@ use Rattle.std.specs.Str.{bytes_eq}
 use Rattle.rt_stamps.specs.declared.fault.Fault.{Fault}
 use Rattle.rt_stamps.specs.declared.fault.Fault.TheVariants.{BadCommand, BadOption}
 use Rattle.rt_stamps.specs.Words.{Word}
-use Rattle.rt_undo_requests.specs.declared.undoing.EditRequest.{EditRequest}
-use Rattle.rt_undo_requests.specs.declared.undoing.EditRequest.TheVariants as edits
-use Rattle.rt_undo_requests.specs.Truth.{truth_of}
+use Rattle.rt_requests.specs.declared.request.EditRequest.{EditRequest}
+use Rattle.rt_requests.specs.declared.request.EditRequest.TheVariants as edits
+use Rattle.rt_requests.specs.Truth.{truth_of}
 
 -- what is asked of the undo mechanism, or why it is refused
 abbrev pub AskedOfEdits : Type 0
@@ -23,7 +23,7 @@ asked_modified [] = Ok edits.Modified
 asked_modified (word ∷ []) = ok_or (option_map edits.SetModified (truth_of word)) BadOption
 asked_modified (word ∷ more ∷ words) = Err BadCommand
 
--- what is asked, by its name
+-- `edit WHAT ?WORD ...?`
 abbrev pub asked_of_edits : Word → List Word → AskedOfEdits
 asked_of_edits what words =
     if bytes_eq what (codes "undo") then alone edits.Undo words
@@ -34,8 +34,3 @@ asked_of_edits what words =
     else if bytes_eq what (codes "canredo") then alone edits.CanRedo words
     else if bytes_eq what (codes "modified") then asked_modified words
     else Err BadCommand
-
--- the words behind `edit`: WHAT ?WORD ...?
-abbrev pub asked_edit : List Word → AskedOfEdits
-asked_edit [] = Err BadCommand
-asked_edit (what ∷ words) = asked_of_edits what words

@@ -1,10 +1,10 @@
 use Rattle.std.proofs.Common.{◌∙◌, List, Some, ap, map, string_bytes, subst, sym}
 use Rattle.rt_stamps.specs.Words.{Word}
-use Rattle.rt_undo_requests.specs.OptionWords.{option_of}
-use Rattle.rt_undo_requests.specs.Truth.{truth_of}
-use Rattle.rt_undo_requests.proofs.Pairs.{two_and_more}
-use Rattle.rt_undo_requests.proofs.SettingOptions.{AreRead, all_read, separators_read, undo_read}
-use Rattle.rt_undo_requests.proofs.configuring.read_settings.Goals as goal
+use Rattle.rt_requests.specs.OptionWords.{option_of}
+use Rattle.rt_requests.specs.Truth.{truth_of}
+use Rattle.rt_requests.proofs.ReadTexts.{two_and_more}
+use Rattle.rt_requests.proofs.SettingOptions.{AreRead, all_read, separators_read, undo_read}
+use Rattle.rt_requests.proofs.configuring.read_settings.Goals as goal
 
 pub loop-left-preserved-in-Undo : goal.loop-left-preserved-in-Undo
 loop-left-preserved-in-Undo c =

@@ -3,11 +3,11 @@ use Rattle.std.proofs.Common.{◌≡◌, ◌∙◌, ◌%◌, ◌==◌, ◌<◌, 
 use Rattle.std.specs.Option.{option_or}
 use Rattle.std.proofs.lemmas.Slice.Eq.{bytes_eq-Decides}
 use Rattle.rt_stamps.specs.Words.{Word}
-use Rattle.rt_undo_requests.specs.declared.options.Settings.{Settings}
-use Rattle.rt_undo_requests.specs.declared.options.WidgetOption.{WidgetOption}
-use Rattle.rt_undo_requests.specs.declared.options.WidgetOption.TheVariants.{Undo, AutoSeparators}
-use Rattle.rt_undo_requests.specs.OptionWords.{are_pairs, are_settings, can_be_set, option_of, settings_of, value_of}
-use Rattle.rt_undo_requests.specs.Truth.{truth_of}
+use Rattle.rt_requests.specs.declared.options.Settings.{Settings}
+use Rattle.rt_requests.specs.declared.options.WidgetOption.{WidgetOption}
+use Rattle.rt_requests.specs.declared.options.WidgetOption.TheVariants.{Undo, AutoSeparators}
+use Rattle.rt_requests.specs.OptionWords.{are_pairs, are_settings, can_be_set, option_of, settings_of, value_of}
+use Rattle.rt_requests.specs.Truth.{truth_of}
 
 -- pairs are an even number of words
 pub even_pairs : {T : Type 0} (f : T → Word) (words : List T) → (length words % 2 == 0) ≡ are_pairs (map f words)
