@@ -9,7 +9,7 @@ ghost use Rattle.rt_editing.specs.Edited.{edited};
 ghost use Rattle.rt_editing.specs.Edits.{text_after, text_deleted, text_inserted, text_replaced};
 
 use crate::before::Before;
-use crate::noting::{note, prepare, prepare_deletion, prepare_replacement};
+use crate::noting::{note, prepare_deletion, prepare_insertion, prepare_replacement};
 use rt_edits::Piece;
 use rt_oplog::Op;
 use rt_recorder::Recorder;
@@ -35,7 +35,7 @@ pub fn insert<S: TextStore>(
     ensures settled { IsSettled view.new recorder.new }
 {
     let before = Before::of(view);
-    prepare(view, recorder, &[])?;
+    prepare_insertion(view, recorder)?;
     view.insert(index, pieces, rest)?;
     note(view, recorder, Kind::Insert, before);
     Ok(())

@@ -1,5 +1,5 @@
 // What is recorded of an edit.
-ghost use Rattle.std.specs.Prelude.{◌≡◌, ◌≤◌, true, List, None, Some, IfErr, IfOk, OnOk, map, string_bytes};
+ghost use Rattle.std.specs.Prelude.{◌≡◌, ◌≤◌, true, List, [], None, Some, IfErr, IfOk, OnOk, map, string_bytes};
 ghost use Rattle.rt_stamps.specs.declared.limits.TheConstants.{GREATEST_COUNT};
 ghost use Rattle.rt_stamps.specs.Outcomes.{Refuses};
 ghost use Rattle.rt_stamps.specs.Words.{Word};
@@ -10,7 +10,7 @@ ghost use Rattle.rt_text.specs.Commands.{deleted, lost_in};
 ghost use Rattle.rt_text.specs.Index.{index_check, place_at_index};
 ghost use Rattle.rt_text.specs.Widgets.{widget_of};
 ghost use Rattle.rt_editing.specs.Edits.{counts_between, has_changed, lost_between, lost_from, noted_by};
-ghost use Rattle.rt_editing.specs.Noting.{Keeps};
+ghost use Rattle.rt_editing.specs.Noting.{IsOfLog, Keeps};
 
 use crate::before::Before;
 use rt_edits::Range;
@@ -20,25 +20,39 @@ use rt_store::TextStore;
 use rt_text::View;
 use rt_undo::Kind;
 
-/// Makes ready to record an edit that takes what stands in ranges, where edits are recorded. Want of
-/// memory, and then what was recorded is as it was.
-pub(crate) fn prepare<S: TextStore>(
+/// Makes ready to record an insertion, where edits are recorded. Want of memory, and then what was recorded
+/// is as it was.
+pub(crate) fn prepare_insertion<S: TextStore>(
+    view: &View<S>,
+    recorder: &mut Recorder,
+) -> Result<(), Fault>
+    ensures pending { OnOk result (recorder.old.undo ≡ true → recorder.new.pending ≡ Some []) }
+    ensures kept { Keeps recorder.old recorder.new }
+    ensures err { IfErr result (λ fault. fault ≡ Fault.NoMemory) }
+{
+    if !recorder.is_undo_on() {
+        return Ok(());
+    }
+    let (_, states) = view.lost(&[])?;
+    recorder.prepare(&[], states)
+}
+
+// Makes ready to record an edit that takes what stands in ranges. Want of memory, and then what was
+// recorded is as it was.
+fn prepare<S: TextStore>(
     view: &View<S>,
     recorder: &mut Recorder,
     ranges: &[Range],
 ) -> Result<(), Fault>
-    ensures pending { OnOk result (recorder.old.undo ≡ true → recorder.new.pending ≡ Some (map as_removed (lost_in view.now ranges.now))) }
+    ensures pending { OnOk result (recorder.new.pending ≡ Some (map as_removed (lost_in view.now ranges.now))) }
     ensures kept { Keeps recorder.old recorder.new }
     ensures err { IfErr result (λ fault. fault ≡ Fault.NoMemory) }
 {
-    if recorder.undo() {
-        let (lost, states) = view.lost(ranges)?;
-        recorder.prepare(&lost, states)?;
-    }
-    Ok(())
+    let (lost, states) = view.lost(ranges)?;
+    recorder.prepare(&lost, states)
 }
 
-/// The same for a deletion, by its indices. Its faults, or want of memory.
+/// The same for a deletion, by its indices, where edits are recorded. Its faults, or want of memory.
 pub(crate) fn prepare_deletion<S: TextStore>(
     view: &View<S>,
     recorder: &mut Recorder,
@@ -49,7 +63,7 @@ pub(crate) fn prepare_deletion<S: TextStore>(
     ensures kept { Keeps recorder.old recorder.new }
     ensures err { IfErr result (Refuses (deleted view.now (map (λ w. string_bytes w) indices.now))) }
 {
-    if !recorder.undo() {
+    if !recorder.is_undo_on() {
         return Ok(());
     }
     let ranges = view.ranges(indices)?;
@@ -81,7 +95,7 @@ pub(crate) fn prepare_replacement<S: TextStore>(
     ensures kept { Keeps recorder.old recorder.new }
     ensures err { IfErr result (λ fault. fault ≡ Fault.NoMemory) }
 {
-    if !recorder.undo() {
+    if !recorder.is_undo_on() {
         return Ok(());
     }
     let begin = found(view, from)?;
@@ -103,17 +117,19 @@ pub(crate) fn note<S: TextStore>(
     requires count { before.count ≤ GREATEST_COUNT }
     requires prepared { recorder.old.undo ≡ true → (lost : List (Removed (List Word))) × (recorder.old.pending ≡ Some lost) }
     requires stays { (lost : List (Removed (List Word))) → recorder.old.undo ≡ true → recorder.old.pending ≡ Some lost
-        → HasStayed (came_back recorder.old) (made kind (counts_between view.now.doc.site before.count view.now.doc.count) lost) }
+        → HasStayed (came_back recorder.old) (made kind (counts_between before.site.number before.count view.now.doc.count) lost) }
     ensures history { (lost : List (Removed (List Word))) → (recorder.old.undo ≡ true → recorder.old.pending ≡ Some lost)
         → recorder.new.history ≡ noted_by (has_changed before.cells before.visible view.now.doc) recorder.old.undo recorder.old.auto
-        (made kind (counts_between view.now.doc.site before.count view.now.doc.count) lost) recorder.old.history }
+        (made kind (counts_between before.site.number before.count view.now.doc.count) lost) recorder.old.history }
     ensures settings { (recorder.new.undo ≡ recorder.old.undo) × (recorder.new.auto ≡ recorder.old.auto) }
     ensures moves { recorder.new.moves ≡ recorder.old.moves }
+    ensures kept { IsOfLog view.now.doc }
 {
+    let doc = view.doc();
+    let _ = doc.log();
     if before.has_changed(view) {
-        if recorder.undo() {
-            let doc = view.doc();
-            recorder.record(kind, doc.site(), before.count + 1, doc.count());
+        if recorder.is_undo_on() {
+            recorder.record(kind, before.site, before.count + 1, doc.count());
         } else {
             recorder.force();
         }

@@ -26,10 +26,10 @@ pub fn undo<S: TextStore, C: TextStore>(
     ensures unchanged { OnErr result (edited view.new recorder.new ≡ edited view.old recorder.old) }
     ensures settled { IsSettled view.new recorder.new }
 {
-    if !recorder.undo() {
+    if !recorder.is_undo_on() {
         return Ok(());
     }
-    recorder.undo_last(view, copy)
+    recorder.undo(view, copy)
 }
 
 /// `edit redo` (Tk text manual): reverts the group that was undone last, and moves it back to the undo
@@ -47,8 +47,8 @@ pub fn redo<S: TextStore, C: TextStore>(
     ensures unchanged { OnErr result (edited view.new recorder.new ≡ edited view.old recorder.old) }
     ensures settled { IsSettled view.new recorder.new }
 {
-    if !recorder.undo() {
+    if !recorder.is_undo_on() {
         return Ok(());
     }
-    recorder.redo_last(view, copy)
+    recorder.redo(view, copy)
 }

@@ -1,5 +1,5 @@
 // What a document says of its text: how long it is, and where places stand in it.
-ghost use Rattle.std.specs.Prelude.{◌≡◌, ◌<◌, ◌≤◌, length, map};
+ghost use Rattle.std.specs.Prelude.{◌≡◌, ◌≤◌, length, map};
 ghost use Rattle.rt_stamps.specs.Places.{position_at};
 ghost use Rattle.rt_store.specs.Cells.{text_of};
 ghost use Rattle.rt_store.specs.Shown.{shown};
@@ -31,20 +31,18 @@ impl<S: TextStore> Doc<S> {
         }
     }
 
+    /// The site whose document it is.
+    pub fn site(&self) -> Site
+        ensures { result.number ≡ self.now.site }
+    {
+        self.replica.site()
+    }
+
     /// The greatest count of its operations, 0 where it has none.
     pub fn count(&self) -> u64
         ensures { result ≡ self.now.count }
     {
         self.replica.clock().seen()
-    }
-
-    /// The site that makes its operations.
-    pub fn site(&self) -> Site
-        ensures number { result.number ≡ self.now.site }
-        ensures some { 0 < self.now.site }
-    {
-        let _ = self.kept();
-        self.replica.site()
     }
 
     /// How many cells it has, those of removed characters and of the last newline included.
