@@ -169,7 +169,7 @@ returns_step site log (x ∷ more) r p h c l =
     let few : next.doc.count ≤ GREATEST_COUNT = omega (arith, returns_grow more next, l) in
     returns_step site log more next p (return_step site log x r p h c.0 few) c.1 l
 
-action_step : (site : ℕ) (log : List Operation) (action : Action (List Word)) (r : Reversion) → 0 < site → IsOnWay site log r → IsSound action
+pub action_step : (site : ℕ) (log : List Operation) (action : Action (List Word)) (r : Reversion) → 0 < site → IsOnWay site log r → IsSound action
     → (with_reverted action r).doc.count ≤ GREATEST_COUNT → IsOnWay site log (with_reverted action r)
 action_step site log action r p h c l =
     let stamps = map (stamp_after r.returns) action.inserted in
@@ -194,7 +194,7 @@ all_steps site log (action ∷ actions) r p h c l =
 
 -- GROUPS
 
-all_reversed : {X : Type 0} (P : X → Type 0) (xs : List X) → AllByRecursion P xs → AllByRecursion P (reverse xs)
+pub all_reversed : {X : Type 0} (P : X → Type 0) (xs : List X) → AllByRecursion P xs → AllByRecursion P (reverse xs)
 all_reversed P [] h = tt
 all_reversed P (x ∷ xs) h = subst (AllByRecursion P) (sym (reverse-cons x xs)) (every_append P (reverse xs) (x ∷ []) (all_reversed P xs h.1) (h.0, tt))
 
