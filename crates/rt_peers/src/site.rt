@@ -6,6 +6,7 @@ ghost use Rattle.rt_stamps.specs.Outcomes.{Answers};
 ghost use Rattle.rt_peers.specs.Step.{Gives, step, step_at};
 
 mod exchange;
+mod marking;
 mod undoing;
 
 use crate::reply::Reply;
@@ -80,8 +81,8 @@ impl SiteState {
             Request::Count { measures, from, to } => self.viewer.count(measures, from, to),
             Request::Search(request) => self.viewer.search(request),
             Request::Dump { kinds, from, to } => self.viewer.dump(*kinds, from, to),
-            Request::Mark(request) => self.viewer.mark(request),
-            Request::Tag(request) => self.viewer.tag(request),
+            Request::Mark(request) => self.mark(request),
+            Request::Tag(request) => self.tag(request),
             Request::Edit(request) => self.edit(*request),
             Request::Configure { settings } => self.configure(*settings),
             Request::Cget { option } => self.cget(*option),

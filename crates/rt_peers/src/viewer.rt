@@ -1,6 +1,8 @@
 // What the site's widget shows, and what is asked of it.
 ghost use Rattle.std.specs.Prelude.{◌≡◌, ◌≤◌, IfOk, IfErr};
 ghost use Rattle.rt_stamps.specs.declared.limits.TheConstants.{MOST_CELLS};
+ghost use Rattle.rt_rga.specs.Cells.{cells_of};
+ghost use Rattle.rt_rga.specs.Histories.{IsHistory, greatest_last_count};
 ghost use Rattle.rt_peers.specs.State.{new_view};
 
 mod dumping;
@@ -10,6 +12,7 @@ mod reading;
 mod searching;
 mod tagging;
 
+use rt_oplog::OpLog;
 use rt_stamps::{Fault, Site};
 use rt_text::View;
 use rt_tree::TreeStore;
@@ -43,10 +46,13 @@ impl Viewer {
         Ok(Viewer { alloc, view })
     }
 
-    /// The view of the document.
-    pub fn view(&self) -> &View<TreeStore>
-        ensures { result.now ≡ self.now }
+    /// The log of the document, which is a history: the cells are its cells.
+    pub fn log(&self) -> &OpLog
+        ensures operations { result.now.operations ≡ self.now.doc.log }
+        ensures history { IsHistory self.now.doc.log }
+        ensures cells { self.now.doc.cells ≡ cells_of self.now.doc.log }
+        ensures count { self.now.doc.count ≡ greatest_last_count self.now.doc.log }
     {
-        &self.view
+        self.view.doc().log()
     }
 }

@@ -33,7 +33,7 @@ impl SiteState {
         ensures cells { self.now.view.doc.cells ≡ cells_of self.now.view.doc.log }
         ensures count { self.now.view.doc.count ≡ greatest_last_count self.now.view.doc.log }
     {
-        self.viewer.view().doc().log()
+        self.viewer.log()
     }
 
     /// The file of the log: its operations in the order of their stamps. Want of memory.

@@ -1,0 +1,31 @@
+// What is asked of marks and tags.
+ghost use Rattle.rt_stamps.specs.Outcomes.{Answers};
+ghost use Rattle.rt_peers.specs.Step.{on_view};
+ghost use Rattle.rt_peers.specs.ViewStep.{mark_step, tag_step};
+
+use super::SiteState;
+use crate::reply::Reply;
+use rt_requests::{MarkRequest, TagRequest};
+use rt_stamps::Fault;
+
+impl SiteState {
+    // What is asked of marks.
+    pub(super) fn mark(&mut self, request: &MarkRequest<'_>) -> Result<Reply, Fault>
+        ensures { Answers (on_view self.old (mark_step self.old.view request.now)) self.old result self.new }
+    {
+        let _ = self.viewer.log();
+        let reply = self.viewer.mark(request);
+        let _ = self.viewer.log();
+        reply
+    }
+
+    // What is asked of tags.
+    pub(super) fn tag(&mut self, request: &TagRequest<'_>) -> Result<Reply, Fault>
+        ensures { Answers (on_view self.old (tag_step self.old.view request.now)) self.old result self.new }
+    {
+        let _ = self.viewer.log();
+        let reply = self.viewer.tag(request);
+        let _ = self.viewer.log();
+        reply
+    }
+}
