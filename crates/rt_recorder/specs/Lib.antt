@@ -3,3 +3,5 @@ pub mod Recordings
 pub mod Seen
 pub mod Own
 pub mod Returns
+pub mod Reversals
+pub mod Settled
