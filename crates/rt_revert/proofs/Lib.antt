@@ -10,6 +10,8 @@ pub mod Rest
 pub mod Returned
 pub mod Scalars
 pub mod Soundness
+pub mod Spanned
+pub mod SpansCovered
 pub mod Stamps
 pub mod Steps
 pub mod TakenBack

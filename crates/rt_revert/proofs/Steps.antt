@@ -31,12 +31,12 @@ use Rattle.rt_edits.specs.RemovalDrafts.{removal_drafts}
 use Rattle.rt_edits.proofs.InsertRules.{text_is_counted, text_is_made, text_may}
 use Rattle.rt_edits.proofs.RemovalDraftLaws.{removal_made, removal_may}
 use Rattle.rt_undo.specs.Actions.{Action, Removed}
-use Rattle.rt_revert.specs.Reverting.{Reversion, are_at, as_it_is, next_in, reversion, reverted_group, since, stamp_after, still_visible, with_character, with_copy, with_each_reverted, with_gone, with_return, with_returns, with_reverted}
+use Rattle.rt_revert.specs.Reverting.{Reversion, are_at, as_it_is, gone_cell_of, next_in, reversion, reverted_group, since, stamp_after, still_visible, with_character, with_copy, with_each_reverted, with_gone, with_return, with_returns, with_reverted}
 use Rattle.rt_revert.specs.ReversionLaws.{AreSound, IsSound, MayReturn}
 use Rattle.rt_revert.proofs.Endings.{spares_final}
 use Rattle.rt_revert.proofs.Scalars.{HasScalar, cells_have_scalars}
 use Rattle.rt_revert.proofs.Soundness.{group_renamed, names_of_cells, since_apart, went_sound}
-use Rattle.rt_revert.proofs.Stamps.{IsApart, after_apart, all_apart, found, site_apart}
+use Rattle.rt_revert.proofs.Stamps.{IsApart, after_apart, all_apart, found, gone_found, site_apart}
 
 -- what holds of a reversion on its way
 pub record IsOnWay (site : ℕ) (log : List Operation) (r : Reversion) : Type 0 where
@@ -125,19 +125,19 @@ brought stamp tags o r = unwrap_or (option_map (λ (cell : TaggedCell). with_cha
 
 return_step : (site : ℕ) (log : List Operation) (removed : Removed (List Word)) (r : Reversion) → 0 < site → IsOnWay site log r → MayReturn removed
     → (with_return removed r).doc.count ≤ GREATEST_COUNT → IsOnWay site log (with_return removed r)
-return_step site log removed r p h c l = by (cell_of r.doc.cells stamp) refl l
+return_step site log removed r p h c l = by (gone_cell_of r.doc.cells stamp) refl l
   where
     stamp : Stamp
     stamp = stamp_after r.returns removed.stamp
 
-    by : (o : Option TaggedCell) → cell_of r.doc.cells stamp ≡ o → (brought stamp removed.tags o r).doc.count ≤ GREATEST_COUNT → IsOnWay site log (brought stamp removed.tags o r)
+    by : (o : Option TaggedCell) → gone_cell_of r.doc.cells stamp ≡ o → (brought stamp removed.tags o r).doc.count ≤ GREATEST_COUNT → IsOnWay site log (brought stamp removed.tags o r)
     by None e f = h
-    by (Some cell) e f = character_step site log stamp removed.tags cell r p h (after_apart r.returns removed.stamp h.apart c.stamp) c.tags e f
+    by (Some cell) e f = character_step site log stamp removed.tags cell r p h (after_apart r.returns removed.stamp h.apart c.stamp) c.tags (gone_found r.doc.cells stamp cell e).0 f
 
 -- COUNTS RISE
 
 return_grows : (removed : Removed (List Word)) (r : Reversion) → r.doc.count ≤ (with_return removed r).doc.count
-return_grows removed r = by (cell_of r.doc.cells (stamp_after r.returns removed.stamp))
+return_grows removed r = by (gone_cell_of r.doc.cells (stamp_after r.returns removed.stamp))
   where
     by : (o : Option TaggedCell) → r.doc.count ≤ (brought (stamp_after r.returns removed.stamp) removed.tags o r).doc.count
     by None = omega arith

@@ -59,8 +59,8 @@ fn push_now(renames: &Renames, span: Span, spans: &mut Vec<Span>) -> Result<(), 
     Ok(())
 }
 
-// The stamps that the characters of spans have now.
-fn spans_now(alloc: Global, renames: &Renames, spans: &[Span]) -> Result<Vec<Span>, Fault>
+/// The stamps that the characters of spans have now. Want of memory.
+pub fn spans_now(alloc: Global, renames: &Renames, spans: &[Span]) -> Result<Vec<Span>, Fault>
     ensures ok { IfOk result (λ copy. stamps_in copy.items ≡ map (now_of renames.now) (stamps_in spans.now)) }
     ensures fault { IfErr result (λ fault. fault ≡ Fault.NoMemory) }
 {

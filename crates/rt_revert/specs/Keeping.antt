@@ -1,9 +1,9 @@
--- How characters that go are kept by spans, with states of one's own table.
+-- How characters that go are kept by spans, with states of a table of one's own.
 use Rattle.std.specs.Prelude.{◌≡◌, ℕ, ◌+◌, ◌==◌, ◌&&◌, nat_le, Bool}
 use Rattle.rt_stamps.specs.declared.stamp.Stamp.{Stamp}
 use Rattle.rt_tags.specs.States.{IsState, TagStates, names_on, state_at}
 use Rattle.rt_undo.specs.declared.action.RemovedSpan.{RemovedSpan}
-use Rattle.rt_recorder.specs.declared.own.Alike.{Alike}
+use Rattle.rt_revert.specs.declared.copying.Alike.{Alike}
 
 -- the same tags are on in two states, one of each table
 pub record AreAlike (states table : TagStates) (alike : Alike) : Type 0 where

@@ -1,8 +1,8 @@
 use Rattle.std.proofs.Common.{◌∙◌, ◌++◌, [], ◌∷◌, ap, sym, append-nil}
 use Rattle.rt_undo.specs.Actions.{removed_in}
-use Rattle.rt_recorder.proofs.Removals.{one, pushed_alone, pushed_behind}
-use Rattle.rt_recorder.proofs.own.push_removed.Goals as goal
-use Rattle.rt_recorder.proofs.own.push_removed.Goals.{in-Some+then-follows, in-Some+else-follows+in_ok-push, in_default}
+use Rattle.rt_revert.proofs.Spanned.{one, pushed_alone, pushed_behind}
+use Rattle.rt_revert.proofs.lost.push_removed.Goals as goal
+use Rattle.rt_revert.proofs.lost.push_removed.Goals.{in-Some+then-follows, in-Some+else-follows+in_ok-push, in_default}
 
 pub returns-clause-ok : goal.returns-clause-ok
 returns-clause-ok c =
