@@ -1,15 +1,14 @@
 -- Undo and redo of what a site recorded (Tk text manual, "The undo mechanism").
-use Rattle.std.specs.Prelude.{List, [], ◌∷◌, length, Result, Err}
+use Rattle.std.specs.Prelude.{List, Result, Err}
 use Rattle.std.specs.Option.{option_map_or}
 use Rattle.rt_stamps.specs.declared.fault.Fault.{Fault}
 use Rattle.rt_stamps.specs.declared.fault.Fault.TheVariants.{NothingToRedo, NothingToUndo}
-use Rattle.rt_stamps.specs.Outcomes.{first_of, unless}
+use Rattle.rt_stamps.specs.Outcomes.{unless}
 use Rattle.rt_stamps.specs.Words.{Word}
 use Rattle.rt_undo.specs.Actions.{Action}
 use Rattle.rt_undo.specs.Undo.{History, next_redo, next_undo, redo_done, renamed_by, undo_done}
 use Rattle.rt_revert.specs.Reverting.{reversion, reverted_group, stamp_after}
-use Rattle.rt_text.specs.Commands.{cell_check, clock_check}
-use Rattle.rt_text.specs.Reversions.{view_reverted}
+use Rattle.rt_text.specs.Reversions.{reversion_check, view_reverted}
 use Rattle.rt_text.specs.Widgets.{Viewed}
 
 -- A view after a group was reverted, and the history, by the stamps that characters have then, where `done` moves the group to the
@@ -17,9 +16,8 @@ use Rattle.rt_text.specs.Widgets.{Viewed}
 abbrev pub reverted_by : (List (Action (List Word)) → History (List Word) → History (List Word)) → Viewed → History (List Word)
     → List (Action (List Word)) → Result (Viewed × History (List Word)) Fault
 reverted_by done view history group =
-    let left = view_reverted view group in
-    unless (first_of (clock_check left.doc.count ∷ cell_check view.doc.limit (length left.doc.cells) ∷ []))
-    (left, done (reverted_group view.doc group) (renamed_by (stamp_after (reversion view.doc group).returns) history))
+    unless (reversion_check view.doc group)
+    (view_reverted view group, done (reverted_group view.doc group) (renamed_by (stamp_after (reversion view.doc group).returns) history))
 
 -- edit undo: the last group of the undo stack is reverted
 abbrev pub undone : Viewed → History (List Word) → Result (Viewed × History (List Word)) Fault

@@ -4,6 +4,7 @@ pub mod CellCounts
 pub mod Copied
 pub mod Endings
 pub mod Grouped
+pub mod Induction
 pub mod PlacesFound
 pub mod Reaching
 pub mod Rest

@@ -92,7 +92,7 @@ fn cut(alloc: Global, number: u64, first: u64, last: u64) -> Result<Action, Faul
 }
 
 // `ab` was typed.
-fn typing(alloc: Global) -> Result<Vec<Action>, Fault>
+pub(crate) fn typing(alloc: Global) -> Result<Vec<Action>, Fault>
     ensures given { IfOk result (λ group. AreGiven (record { names = []; states = [] ∷ [] }) (group_of group.items)) }
     ensures sound { IfOk result (λ group. AreSound (named_group (record { names = []; states = [] ∷ [] }) (group_of group.items))) }
 {

@@ -2,13 +2,12 @@
 ghost use Rattle.std.specs.Prelude.{◌≡◌, ◌⊎◌, ◌≤◌, ◌∷◌, [], true, None, Some, Ok, length, IfErr, IfOk, OnErr, OnOk};
 ghost use Rattle.std.specs.List.{AllByRecursion};
 ghost use Rattle.rt_stamps.specs.declared.stamp.Stamp.{Stamp};
-ghost use Rattle.rt_stamps.specs.Outcomes.{Refuses, first_of};
+ghost use Rattle.rt_stamps.specs.Outcomes.{Refuses};
 ghost use Rattle.rt_store.specs.Cells.{final_cell};
 ghost use Rattle.rt_undo.specs.Actions.{group_of};
 ghost use Rattle.rt_revert.specs.Reverting.{reversion, reverted_group};
 ghost use Rattle.rt_revert.specs.ReversionLaws.{AreSound};
-ghost use Rattle.rt_text.specs.Commands.{cell_check, clock_check};
-ghost use Rattle.rt_text.specs.Reversions.{view_reverted};
+ghost use Rattle.rt_text.specs.Reversions.{reversion_check, view_reverted};
 ghost use Rattle.rt_recorder.specs.Naming.{AreGiven, named_group};
 ghost use Rattle.rt_recorder.specs.Recordings.{HaveStayed, came_back};
 ghost use Rattle.rt_recorder.specs.Returns.{AreReturns, IsOther, back_after};
@@ -38,8 +37,7 @@ impl Recorder {
         requires stay { HaveStayed (came_back self.old) (named_group self.old.table (group_of group.now)) }
         requires gone { (stamp : Stamp) → came_back self.old stamp ≡ true → is_gone view.old.doc.cells stamp ≡ true }
         ensures view { OnOk result (view.new ≡ view_reverted view.old (named_group self.old.table (group_of group.now))) }
-        ensures checked { OnOk result (first_of
-            (clock_check view.new.doc.count ∷ cell_check view.old.doc.limit (length view.new.doc.cells) ∷ []) ≡ None) }
+        ensures checked { OnOk result (reversion_check view.old.doc (named_group self.old.table (group_of group.now)) ≡ None) }
         ensures returns { IfOk result (λ r. r.returns.items ≡ (reversion view.old.doc (named_group self.old.table (group_of group.now))).returns) }
         ensures first_times { IfOk result (λ r. AreReturns (came_back self.new) r.returns.items) }
         ensures others { IfOk result (λ r. AllByRecursion IsOther r.returns.items) }
@@ -57,9 +55,8 @@ impl Recorder {
         ensures came_back { (stamp : Stamp) → came_back self.new stamp ≡ came_back self.old stamp }
         ensures settings { (self.new.undo ≡ self.old.undo) × (self.new.auto ≡ self.old.auto) }
         ensures pending { self.new.pending ≡ None }
-        ensures err { let left = view_reverted view.old (named_group self.old.table (group_of group.now)) in
-            IfErr result (λ fault. (fault ≡ Fault.NoMemory)
-            ⊎ (first_of (clock_check left.doc.count ∷ cell_check view.old.doc.limit (length left.doc.cells) ∷ []) ≡ Some fault)) }
+        ensures err { IfErr result (λ fault. (fault ≡ Fault.NoMemory)
+            ⊎ (reversion_check view.old.doc (named_group self.old.table (group_of group.now)) ≡ Some fault)) }
         ensures unchanged { OnErr result (view.new ≡ view.old) }
     {
         self.next = None;
