@@ -10,7 +10,7 @@ use Rattle.rt_oplog.specs.Operations.{stamps_from, stamps_in, stamps_of_span}
 use Rattle.rt_store.specs.declared.cell.Cell.{Cell}
 use Rattle.rt_edits.specs.declared.range.Range.{Range}
 use Rattle.rt_edits.specs.Removals.{is_covered, is_in}
-use Rattle.rt_revert.specs.Planning.{range_at, ranges_of, visible_place}
+use Rattle.rt_revert.specs.Planning.{is_behind, range_at, ranges_of, visible_place}
 use Rattle.rt_revert.proofs.Rest.{next_left}
 
 or_left_assoc : (a b d : Bool) → ((a || b) || d) ≡ (a || (b || d))
@@ -60,14 +60,14 @@ spans_more spans i span lt e = ap stamps_in (next_left spans i span lt e)
 covered_last : (front : List Range) (range : Range) (at : ℕ) → is_covered (front ++ range ∷ []) at ≡ (is_covered front at || is_in range at)
 covered_last front range at = covered_append front (range ∷ []) at ∙ ap (λ b. is_covered front at || b) (or_nothing (is_in range at))
 
-joined : (last : Range) (place at : ℕ) → last.from ≤ last.to → last.to ≡ place → is_in (record { from = last.from; to = place + 1 }) at ≡ (is_in last at || is_in (record { from = place; to = place + 1 }) at)
-joined last place at o e = grind (arith, nat_tests, o, e)
+joined : (last : Range) (place at : ℕ) → is_behind last place ≡ true → is_in (record { from = last.from; to = place + 1 }) at ≡ (is_in last at || is_in (record { from = place; to = place + 1 }) at)
+joined last place at e = grind (arith, nat_tests, e)
 
-pub placed_behind : (front : List Range) (last : Range) (place at : ℕ) → last.from ≤ last.to → last.to ≡ place
+pub placed_behind : (front : List Range) (last : Range) (place at : ℕ) → is_behind last place ≡ true
     → is_covered (front ++ record { from = last.from; to = place + 1 } ∷ []) at ≡ (is_covered (front ++ last ∷ []) at || is_covered (range_at (Some place)) at)
-placed_behind front last place at o e =
+placed_behind front last place at e =
     covered_last front (record { from = last.from; to = place + 1 }) at
-    ∙ ap (λ b. is_covered front at || b) (joined last place at o e)
+    ∙ ap (λ b. is_covered front at || b) (joined last place at e)
     ∙ sym (or_left_assoc (is_covered front at) (is_in last at) (is_in (record { from = place; to = place + 1 }) at))
     ∙ (λ i. sym (covered_last front last at) i || sym (or_nothing (is_in (record { from = place; to = place + 1 }) at)) i)
 

@@ -4,7 +4,7 @@ ghost use Rattle.rt_stamps.specs.declared.limits.TheConstants.{MOST_CELLS};
 ghost use Rattle.rt_oplog.specs.Operations.{stamps_in, stamps_of_span};
 ghost use Rattle.rt_store.specs.Cells.{AreDistinct, visible_of};
 ghost use Rattle.rt_edits.specs.Removals.{AreInOrder, is_covered};
-ghost use Rattle.rt_revert.specs.Planning.{range_at, ranges_of, visible_place};
+ghost use Rattle.rt_revert.specs.Planning.{is_behind, range_at, ranges_of, visible_place};
 ghost use Rattle.rt_revert.specs.Reverting.{are_at};
 
 use rt_edits::Range;
@@ -24,7 +24,14 @@ fn visible_place<S: TextStore>(store: &S, stamp: Stamp) -> Option<usize>
     }
 }
 
-// Adds a place to ranges, to the last one where it stands directly behind it.
+// Whether a place is the one behind a range.
+fn is_behind(range: Range, place: usize) -> bool
+    ensures { result ≡ is_behind range place }
+{
+    range.from <= range.to && range.to == place
+}
+
+// Adds a place to ranges, to the last one where it is the one behind it.
 fn push_place(ranges: &mut Vec<Range>, place: usize) -> Result<(), Fault>
     requires { place < MOST_CELLS }
     ensures ok { OnOk result ((at : ℕ) → is_covered ranges.new.items at ≡ (is_covered ranges.old.items at || is_covered (range_at (Some place)) at)) }
@@ -35,7 +42,7 @@ fn push_place(ranges: &mut Vec<Range>, place: usize) -> Result<(), Fault>
         to: place + 1,
     };
     if let Some(last) = ranges.pop() {
-        if last.from <= last.to && last.to == place {
+        if is_behind(last, place) {
             range.from = last.from;
         } else {
             ranges.push(last)?;

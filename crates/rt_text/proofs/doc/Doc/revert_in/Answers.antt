@@ -156,7 +156,7 @@ move_for_all-requires-clause-fits g c =
     let cells : length flat.cells ≡ length store = ap length (sym c.kept.ensures.cells) ∙ length-map store (shown states) in
     let within : n ≤ MOST_CELLS = omega (arith, text, cells, text_within flat.cells, c.kept.ensures.few, c.kept.ensures.most) in
     let changes : c.deref-2.result.now ≡ plan.changes.items = c.deref-2.ensures.value in
-    let few : length c.deref-2.result.now ≤ 2 ^ 63 = omega (arith, ap length changes, plan.changes.ok) in
+    let few : length c.deref-2.result.now ≤ 2 ^ 63 = omega (arith, ap length changes, plan.changes.ok.0, plan.changes.ok.1, plan.changes.small) in
     site_fits n (length c.deref-2.result.now) (2 ^ 64 - 1) c.self.inside.marks (omega (arith, within, few)) c.self.invariant.placed
 
 pub move_for_all-requires-clause-insert : goal.move_for_all-requires-clause-insert
@@ -175,7 +175,7 @@ move_for_all-requires-clause-insert g c =
     let cells : length flat.cells ≡ length store = ap length (sym c.kept.ensures.cells) ∙ length-map store (shown states) in
     let within : n ≤ MOST_CELLS = omega (arith, text, cells, text_within flat.cells, c.kept.ensures.few, c.kept.ensures.most) in
     let changes : c.deref-2.result.now ≡ plan.changes.items = c.deref-2.ensures.value in
-    let few : length c.deref-2.result.now ≤ 2 ^ 63 = omega (arith, ap length changes, plan.changes.ok) in
+    let few : length c.deref-2.result.now ≤ 2 ^ 63 = omega (arith, ap length changes, plan.changes.ok.0, plan.changes.ok.1, plan.changes.small) in
     let place : c.widget.inside.insert.place ≡ c.args.widget.now.insert.place = ap (λ (o : Own). o.insert.place) c.widget.view_is in
     omega (arith, place, text, within, few, c.requires.own.0)
 
@@ -195,7 +195,7 @@ move_for_all-requires-clause-current g c =
     let cells : length flat.cells ≡ length store = ap length (sym c.kept.ensures.cells) ∙ length-map store (shown states) in
     let within : n ≤ MOST_CELLS = omega (arith, text, cells, text_within flat.cells, c.kept.ensures.few, c.kept.ensures.most) in
     let changes : c.deref-2.result.now ≡ plan.changes.items = c.deref-2.ensures.value in
-    let few : length c.deref-2.result.now ≤ 2 ^ 63 = omega (arith, ap length changes, plan.changes.ok) in
+    let few : length c.deref-2.result.now ≤ 2 ^ 63 = omega (arith, ap length changes, plan.changes.ok.0, plan.changes.ok.1, plan.changes.small) in
     let place : c.widget.inside.current.place ≡ c.args.widget.now.current.place = ap (λ (o : Own). o.current.place) c.widget.view_is in
     omega (arith, place, text, within, few, c.requires.own.1)
 
