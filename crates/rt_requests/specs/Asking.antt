@@ -1,6 +1,6 @@
 -- Which words ask a widget for what, and else the fault (Tk text manual): first an unknown command or a wrong number of words,
 -- BadCommand, then an unknown operator, switch, gravity, option or value, BadOption, then a list of tags that spells no words, BadQuoting.
-use Rattle.std.specs.Prelude.{◌≡◌, ◌⊎◌, List, [], ◌∷◌, take, drop, false, Bool, Option, Some, None, IsTrue, option_map, ok_or, Result, Ok, Err, MatchBool, codes, if◌then◌else◌}
+use Rattle.std.specs.Prelude.{◌≡◌, ◌⊎◌, List, [], ◌∷◌, take, drop, false, Option, Some, None, IsTrue, option_map, ok_or, Result, Ok, Err, MatchBool, codes, if◌then◌else◌}
 use Rattle.std.specs.List.{prefix_len}
 use Rattle.std.specs.Str.{bytes_eq}
 use Rattle.rt_stamps.specs.declared.fault.Fault.{Fault}
