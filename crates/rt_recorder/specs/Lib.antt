@@ -1,5 +1,6 @@
 pub mod Naming
 pub mod Recordings
 pub mod Seen
-pub mod Own
 pub mod Returns
+pub mod Reversals
+pub mod Settled

@@ -1,6 +1,6 @@
 -- Cells that look alike: what reverting asks of them is the same.
 use Rattle.std.proofs.Common.{◌≡◌, ◌∙◌, ℕ, zero, suc, ◌+◌, Bool, true, false, List, [], ◌∷◌, ◌++◌, cond, drop, length, map, refl, sym, ap, take, Option, Some, None}
-use Rattle.std.specs.Prelude.{option_map}
+use Rattle.std.specs.Prelude.{option_and_then, option_map}
 use Rattle.rt_stamps.specs.declared.limits.TheConstants.{MOST_SPANS}
 use Rattle.rt_stamps.specs.declared.stamp.Stamp.{Stamp}
 use Rattle.rt_stamps.specs.Stamps.{is_same}
@@ -18,7 +18,7 @@ use Rattle.rt_edits.specs.Removals.{cells_at, gone_at, stamps_at}
 use Rattle.rt_edits.proofs.Shown.{cells_at_shown, stamps_at_shown}
 use Rattle.rt_undo.specs.Actions.{Removed}
 use Rattle.rt_revert.specs.Progress.{LookAlike, with_names}
-use Rattle.rt_revert.specs.Reverting.{are_at, as_removed, still_visible}
+use Rattle.rt_revert.specs.Reverting.{are_at, as_removed, gone_cell_of, still_visible}
 use Rattle.rt_revert.proofs.TakenBack.{still_is}
 use Rattle.rt_revert.proofs.WorkCells.{at_shown}
 
@@ -108,7 +108,7 @@ pub alike_place : (xs ys : List TaggedCell) (left : Stamp) → LookAlike xs ys �
 alike_place xs ys left h =
     sym (place_shown names_on xs left) ∙ ap (λ (l : List (Cell (List Word))). visible_before l (after_element l left)) h.names ∙ place_shown names_on ys left
 
--- the character of a stamp's cell
+-- the character of a stamp's cell, if it is gone
 find_step : {S T : Type 0} (f : S → T) (b : Bool) (c : Cell S) (o : Option (Cell T)) (p : Option (Cell S)) → o ≡ option_map (map_state f) p
     → cond b (Some (map_state f c)) o ≡ option_map (map_state f) (cond b (Some c) p)
 find_step f true c o p h = refl
@@ -118,6 +118,19 @@ cell_shown : {S T : Type 0} (f : S → T) (cells : List (Cell S)) (s : Stamp) �
 cell_shown f [] s = refl
 cell_shown f (c ∷ cs) s = find_step f (is_same c.stamp s) c (cell_of (map (map_state f) cs) s) (cell_of cs s) (cell_shown f cs s)
 
+same_gone : {S T : Type 0} (f : S → T) (o : Option (Cell S))
+    → option_and_then (λ (cell : Cell T). cond cell.gone (Some cell) None) (option_map (map_state f) o)
+    ≡ option_map (map_state f) (option_and_then (λ (cell : Cell S). cond cell.gone (Some cell) None) o)
+same_gone f None = refl
+same_gone {S} {T} f (Some cell) = by cell.gone
+  where
+    by : (b : Bool) → cond b (Some (map_state f cell)) None ≡ option_map (map_state f) (cond b (Some cell) None)
+    by true = refl
+    by false = refl
+
+gone_cell_shown : {S T : Type 0} (f : S → T) (cells : List (Cell S)) (s : Stamp) → gone_cell_of (map (map_state f) cells) s ≡ option_map (map_state f) (gone_cell_of cells s)
+gone_cell_shown {S} {T} f cells s = ap (option_and_then (λ (cell : Cell T). cond cell.gone (Some cell) None)) (cell_shown f cells s) ∙ same_gone f (cell_of cells s)
+
 abbrev pub character : {T : Type 0} → Option (Cell T) → Option ℕ
 character o = option_map (λ cell. cell.ch) o
 
@@ -125,9 +138,9 @@ same_character : {S T : Type 0} (f : S → T) (o : Option (Cell S)) → characte
 same_character f None = refl
 same_character f (Some cell) = refl
 
-pub character_shown : {S T : Type 0} (f : S → T) (cells : List (Cell S)) (s : Stamp) → character (cell_of (map (map_state f) cells) s) ≡ character (cell_of cells s)
-character_shown f cells s = ap character (cell_shown f cells s) ∙ same_character f (cell_of cells s)
+pub character_shown : {S T : Type 0} (f : S → T) (cells : List (Cell S)) (s : Stamp) → character (gone_cell_of (map (map_state f) cells) s) ≡ character (gone_cell_of cells s)
+character_shown f cells s = ap character (gone_cell_shown f cells s) ∙ same_character f (gone_cell_of cells s)
 
-pub alike_character : (xs ys : List TaggedCell) (s : Stamp) → LookAlike xs ys → character (cell_of xs s) ≡ character (cell_of ys s)
+pub alike_character : (xs ys : List TaggedCell) (s : Stamp) → LookAlike xs ys → character (gone_cell_of xs s) ≡ character (gone_cell_of ys s)
 alike_character xs ys s h =
-    sym (character_shown names_on xs s) ∙ ap (λ (l : List (Cell (List Word))). character (cell_of l s)) h.names ∙ character_shown names_on ys s
+    sym (character_shown names_on xs s) ∙ ap (λ (l : List (Cell (List Word))). character (gone_cell_of l s)) h.names ∙ character_shown names_on ys s

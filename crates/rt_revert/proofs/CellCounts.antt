@@ -5,7 +5,7 @@ use Rattle.rt_stamps.specs.declared.limits.TheConstants.{MOST_CHARACTERS, MOST_S
 use Rattle.rt_stamps.specs.declared.stamp.Stamp.{Stamp}
 use Rattle.rt_stamps.specs.Words.{Word}
 use Rattle.rt_store.specs.declared.cell.Cell.{Cell}
-use Rattle.rt_store.specs.Cells.{after_element, cell_of}
+use Rattle.rt_store.specs.Cells.{after_element}
 use Rattle.rt_store.specs.Shown.{TaggedCell}
 use Rattle.rt_rga.specs.Requests.{characters_in_all}
 use Rattle.rt_rga.proofs.Appending.{characters_append}
@@ -18,7 +18,7 @@ use Rattle.rt_edits.specs.Removals.{gone_at, stamps_at}
 use Rattle.rt_edits.proofs.CharacterCounts.{cells_length, deletes_none, text_characters}
 use Rattle.rt_edits.proofs.NamedSpanLaws.{cut}
 use Rattle.rt_undo.specs.Actions.{Action, Removed}
-use Rattle.rt_revert.specs.Reverting.{Reversion, are_at, as_it_is, reversion, stamp_after, with_character, with_each_reverted, with_gone, with_return, with_returns, with_reverted}
+use Rattle.rt_revert.specs.Reverting.{Reversion, are_at, as_it_is, gone_cell_of, reversion, stamp_after, with_character, with_each_reverted, with_gone, with_return, with_returns, with_reverted}
 
 -- n cells and those of the operations so far
 abbrev HasCells : ℕ → Reversion → Type 0
@@ -56,7 +56,7 @@ character_cells n stamp tags ch r h =
     omega (arith, characters_append r.drafts new, text_characters r.doc.site r.doc.count stamp tags text, length_put r.doc.cells stamp cells, one, h)
 
 return_cells : (n : ℕ) (removed : Removed (List Word)) (r : Reversion) → HasCells n r → HasCells n (with_return removed r)
-return_cells n removed r h = by (cell_of r.doc.cells stamp)
+return_cells n removed r h = by (gone_cell_of r.doc.cells stamp)
   where
     stamp : Stamp
     stamp = stamp_after r.returns removed.stamp

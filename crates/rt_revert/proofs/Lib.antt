@@ -4,12 +4,15 @@ pub mod CellCounts
 pub mod Copied
 pub mod Endings
 pub mod Grouped
+pub mod Induction
 pub mod PlacesFound
 pub mod Reaching
 pub mod Rest
 pub mod Returned
 pub mod Scalars
 pub mod Soundness
+pub mod Spanned
+pub mod SpansCovered
 pub mod Stamps
 pub mod Steps
 pub mod TakenBack

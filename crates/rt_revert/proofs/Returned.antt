@@ -16,7 +16,7 @@ use Rattle.rt_oplog.specs.Edits.{body_of}
 use Rattle.rt_oplog.specs.Rules.{is_name}
 use Rattle.rt_marks.specs.Marks.{marks_inserted}
 use Rattle.rt_store.specs.declared.cell.Cell.{Cell}
-use Rattle.rt_store.specs.Cells.{AreDistinct, EndsFinal, IsPlaced, after_element, cell_of, position_of, skip_from, stamps_of, visible_before, visible_of}
+use Rattle.rt_store.specs.Cells.{AreDistinct, EndsFinal, IsPlaced, after_element, position_of, skip_from, stamps_of, visible_before, visible_of}
 use Rattle.rt_store.specs.Shown.{TaggedCell, shown}
 use Rattle.rt_store.specs.Spans.{is_among}
 use Rattle.rt_store.specs.Written.{AreBelowNext, IsBelowNext}
@@ -40,7 +40,7 @@ use Rattle.rt_revert.specs.declared.plan.TextChange.TheVariants.{Inserted}
 use Rattle.rt_revert.specs.declared.progress.Progress.{Progress}
 use Rattle.rt_revert.specs.Plans.{AreGiven, AreUpTo, IsChange, IsUpTo, marks_after, named_group}
 use Rattle.rt_revert.specs.Progress.{IsCopy, IsGoing, IsOther, IsSoFar, LookAlike}
-use Rattle.rt_revert.specs.Reverting.{Reversion, stamp_after, with_character, with_return}
+use Rattle.rt_revert.specs.Reverting.{Reversion, gone_cell_of, stamp_after, with_character, with_return}
 use Rattle.rt_revert.proofs.Alike.{alike_character, alike_place, alike_put, character, character_shown, place_shown, put_shown}
 use Rattle.rt_revert.proofs.Stamps.{site_apart}
 use Rattle.rt_revert.proofs.TakenBack.{stamp_after_more}
@@ -258,12 +258,12 @@ brought whole r None = refl
 brought whole r (Some cell) = refl
 
 pub return_is : (table : TagStates) (site : ℕ) (old : List (Cell ℕ)) (plan : Progress) (flat : Flat) (r : Reversion) (removed : Removed (List Word)) (s : Stamp) (o : Option (Cell ℕ))
-    → IsSoFar table site old plan flat r → stamp_after plan.returns.items removed.stamp ≡ s → cell_of old s ≡ o
+    → IsSoFar table site old plan flat r → stamp_after plan.returns.items removed.stamp ≡ s → gone_cell_of old s ≡ o
     → with_return removed r ≡ unwrap_or (option_map (λ ch. with_character s removed.tags ch r) (character o)) r
 return_is table site old plan flat r removed s o h e f =
     let all : List TaggedCell = map (shown table) old in
     let same : stamp_after r.returns removed.stamp ≡ s = ap (λ l. stamp_after l removed.stamp) h.returns ∙ e in
-    let theirs : character (cell_of r.doc.cells s) ≡ character o = sym (alike_character all r.doc.cells s h.cells) ∙ character_shown (state_at table) old s ∙ ap character f in
-    ap (λ t. unwrap_or (option_map (λ (cell : TaggedCell). with_character t removed.tags cell.ch r) (cell_of r.doc.cells t)) r) same
-    ∙ brought (λ ch. with_character s removed.tags ch r) r (cell_of r.doc.cells s)
+    let theirs : character (gone_cell_of r.doc.cells s) ≡ character o = sym (alike_character all r.doc.cells s h.cells) ∙ character_shown (state_at table) old s ∙ ap character f in
+    ap (λ t. unwrap_or (option_map (λ (cell : TaggedCell). with_character t removed.tags cell.ch r) (gone_cell_of r.doc.cells t)) r) same
+    ∙ brought (λ ch. with_character s removed.tags ch r) r (gone_cell_of r.doc.cells s)
     ∙ ap (λ o. unwrap_or (option_map (λ ch. with_character s removed.tags ch r) o) r) theirs

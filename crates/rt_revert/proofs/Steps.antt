@@ -31,12 +31,12 @@ use Rattle.rt_edits.specs.RemovalDrafts.{removal_drafts}
 use Rattle.rt_edits.proofs.InsertRules.{text_is_counted, text_is_made, text_may}
 use Rattle.rt_edits.proofs.RemovalDraftLaws.{removal_made, removal_may}
 use Rattle.rt_undo.specs.Actions.{Action, Removed}
-use Rattle.rt_revert.specs.Reverting.{Reversion, are_at, as_it_is, next_in, reversion, reverted_group, since, stamp_after, still_visible, with_character, with_copy, with_each_reverted, with_gone, with_return, with_returns, with_reverted}
+use Rattle.rt_revert.specs.Reverting.{Reversion, are_at, as_it_is, gone_cell_of, next_in, reversion, reverted_group, since, stamp_after, still_visible, with_character, with_copy, with_each_reverted, with_gone, with_return, with_returns, with_reverted}
 use Rattle.rt_revert.specs.ReversionLaws.{AreSound, IsSound, MayReturn}
 use Rattle.rt_revert.proofs.Endings.{spares_final}
 use Rattle.rt_revert.proofs.Scalars.{HasScalar, cells_have_scalars}
 use Rattle.rt_revert.proofs.Soundness.{group_renamed, names_of_cells, since_apart, went_sound}
-use Rattle.rt_revert.proofs.Stamps.{IsApart, after_apart, all_apart, found, site_apart}
+use Rattle.rt_revert.proofs.Stamps.{IsApart, after_apart, all_apart, found, gone_found, site_apart}
 
 -- what holds of a reversion on its way
 pub record IsOnWay (site : ℕ) (log : List Operation) (r : Reversion) : Type 0 where
@@ -48,7 +48,7 @@ pub record IsOnWay (site : ℕ) (log : List Operation) (r : Reversion) : Type 0 
 
 -- CHARACTERS THAT GO
 
-gone_step : (site : ℕ) (log : List Operation) (stamps : List Stamp) (r : Reversion) → 0 < site → IsOnWay site log r → is_among stamps FINAL ≡ false
+pub gone_step : (site : ℕ) (log : List Operation) (stamps : List Stamp) (r : Reversion) → 0 < site → IsOnWay site log r → is_among stamps FINAL ≡ false
     → (with_gone stamps r).doc.count ≤ GREATEST_COUNT → IsOnWay site log (with_gone stamps r)
 gone_step site log stamps r p h n l =
     let places = are_at stamps r.doc.cells in
@@ -123,21 +123,21 @@ character_step site log stamp tags cell r p h n t e l =
 abbrev brought : Stamp → List Word → Option TaggedCell → Reversion → Reversion
 brought stamp tags o r = unwrap_or (option_map (λ (cell : TaggedCell). with_character stamp tags cell.ch r) o) r
 
-return_step : (site : ℕ) (log : List Operation) (removed : Removed (List Word)) (r : Reversion) → 0 < site → IsOnWay site log r → MayReturn removed
+pub return_step : (site : ℕ) (log : List Operation) (removed : Removed (List Word)) (r : Reversion) → 0 < site → IsOnWay site log r → MayReturn removed
     → (with_return removed r).doc.count ≤ GREATEST_COUNT → IsOnWay site log (with_return removed r)
-return_step site log removed r p h c l = by (cell_of r.doc.cells stamp) refl l
+return_step site log removed r p h c l = by (gone_cell_of r.doc.cells stamp) refl l
   where
     stamp : Stamp
     stamp = stamp_after r.returns removed.stamp
 
-    by : (o : Option TaggedCell) → cell_of r.doc.cells stamp ≡ o → (brought stamp removed.tags o r).doc.count ≤ GREATEST_COUNT → IsOnWay site log (brought stamp removed.tags o r)
+    by : (o : Option TaggedCell) → gone_cell_of r.doc.cells stamp ≡ o → (brought stamp removed.tags o r).doc.count ≤ GREATEST_COUNT → IsOnWay site log (brought stamp removed.tags o r)
     by None e f = h
-    by (Some cell) e f = character_step site log stamp removed.tags cell r p h (after_apart r.returns removed.stamp h.apart c.stamp) c.tags e f
+    by (Some cell) e f = character_step site log stamp removed.tags cell r p h (after_apart r.returns removed.stamp h.apart c.stamp) c.tags (gone_found r.doc.cells stamp cell e).0 f
 
 -- COUNTS RISE
 
 return_grows : (removed : Removed (List Word)) (r : Reversion) → r.doc.count ≤ (with_return removed r).doc.count
-return_grows removed r = by (cell_of r.doc.cells (stamp_after r.returns removed.stamp))
+return_grows removed r = by (gone_cell_of r.doc.cells (stamp_after r.returns removed.stamp))
   where
     by : (o : Option TaggedCell) → r.doc.count ≤ (brought (stamp_after r.returns removed.stamp) removed.tags o r).doc.count
     by None = omega arith
@@ -169,7 +169,7 @@ returns_step site log (x ∷ more) r p h c l =
     let few : next.doc.count ≤ GREATEST_COUNT = omega (arith, returns_grow more next, l) in
     returns_step site log more next p (return_step site log x r p h c.0 few) c.1 l
 
-action_step : (site : ℕ) (log : List Operation) (action : Action (List Word)) (r : Reversion) → 0 < site → IsOnWay site log r → IsSound action
+pub action_step : (site : ℕ) (log : List Operation) (action : Action (List Word)) (r : Reversion) → 0 < site → IsOnWay site log r → IsSound action
     → (with_reverted action r).doc.count ≤ GREATEST_COUNT → IsOnWay site log (with_reverted action r)
 action_step site log action r p h c l =
     let stamps = map (stamp_after r.returns) action.inserted in
@@ -194,11 +194,11 @@ all_steps site log (action ∷ actions) r p h c l =
 
 -- GROUPS
 
-all_reversed : {X : Type 0} (P : X → Type 0) (xs : List X) → AllByRecursion P xs → AllByRecursion P (reverse xs)
+pub all_reversed : {X : Type 0} (P : X → Type 0) (xs : List X) → AllByRecursion P xs → AllByRecursion P (reverse xs)
 all_reversed P [] h = tt
 all_reversed P (x ∷ xs) h = subst (AllByRecursion P) (sym (reverse-cons x xs)) (every_append P (reverse xs) (x ∷ []) (all_reversed P xs h.1) (h.0, tt))
 
-on_way : (site : ℕ) (log : List Operation) (flat : Flat) (group : List (Action (List Word))) → 0 < site → IsHistory log → IsDocument site log flat → AreSound group
+pub on_way : (site : ℕ) (log : List Operation) (flat : Flat) (group : List (Action (List Word))) → 0 < site → IsHistory log → IsDocument site log flat → AreSound group
     → (reversion flat group).doc.count ≤ GREATEST_COUNT → IsOnWay site log (reversion flat group)
 on_way site log flat group p h doc s l =
     all_steps site log (reverse group) (as_it_is flat) p (record { may = tt; history = h; document = doc; apart = tt; sound = tt }) (all_reversed IsSound group s) l

@@ -1,6 +1,6 @@
 -- The text after an action was reverted.
 use Rattle.std.proofs.Common.{◌≡◌, ℕ, ◌+◌, ◌<◌, ◌≤◌, Bool, true, false, not, List, [], ◌∷◌, ◌++◌, cond, map, append_assoc, refl, sym, ◌∙◌, ap, subst, arith, add-zero, suc, Option, Some, None, filter}
-use Rattle.std.specs.Prelude.{option_map, reverse, slice_get, unwrap_or}
+use Rattle.std.specs.Prelude.{option_and_then, option_map, reverse, slice_get, unwrap_or}
 use Rattle.std.specs.List.{AllByRecursion}
 use Rattle.std.proofs.lemmas.Bool.{cond-false, cond-true, or_from, or_left, or_parts, or_right}
 use Rattle.std.proofs.lemmas.List.{map-append, map-id}
@@ -34,7 +34,7 @@ use Rattle.rt_edits.proofs.TagNames.{AreNamed, CellsNamed, every_named}
 use Rattle.rt_undo.specs.Actions.{Action, with_stamp}
 use Rattle.rt_undo.specs.Renames.{replaced}
 use Rattle.rt_undo.specs.Undo.{with_stamps_in}
-use Rattle.rt_revert.specs.Reverting.{Return, Reversion, are_at, as_it_is, as_removed, reverted, reverted_group, stamp_after, still_visible, with_character, with_each_reverted, with_gone, with_return, with_returns, with_reverted}
+use Rattle.rt_revert.specs.Reverting.{Return, Reversion, are_at, as_it_is, as_removed, gone_cell_of, reverted, reverted_group, stamp_after, still_visible, with_character, with_each_reverted, with_gone, with_return, with_returns, with_reverted}
 
 -- INSERTIONS
 
@@ -142,13 +142,15 @@ module _ (places : ℕ → Bool) (p : ℕ) (pre : List TaggedCell) (c : TaggedCe
   abbrev before : List TaggedCell
   before = (pre ++ left ∷ []) ++ new ∷ []
 
-  is_next : c.gone ≡ false → IsPart places p pre (c ∷ cs) r → with_return (as_removed c) r ≡ next
-  is_next e h =
+  is_next : c.gone ≡ false → places p ≡ true → IsPart places p pre (c ∷ cs) r → with_return (as_removed c) r ≡ next
+  is_next e q h =
       let rest = gone_at places (p + 1) cs in
       let same : is_among (stamps_of (c ∷ cs)) c.stamp ≡ true = or_left (is_same c.stamp c.stamp) _ (same_refl c.stamp) in
       let whole : r.doc.cells ≡ pre ++ left ∷ rest = h.cells ∙ ap (λ l. pre ++ l) (cond-false c.gone (c ∷ gone_at places p cs) (left ∷ rest) e) in
-      let found : cell_of r.doc.cells c.stamp ≡ Some left = ap (λ l. cell_of l c.stamp) whole ∙ cell_behind pre left rest (h.apart c.stamp same) in
-      ap (λ s. unwrap_or (option_map (λ (cell : TaggedCell). with_character s (names_on c.state) cell.ch r) (cell_of r.doc.cells s)) r) (h.still c.stamp same)
+      let is_there : cell_of r.doc.cells c.stamp ≡ Some left = ap (λ l. cell_of l c.stamp) whole ∙ cell_behind pre left rest (h.apart c.stamp same) in
+      let found : gone_cell_of r.doc.cells c.stamp ≡ Some left =
+      ap (option_and_then (λ (cell : TaggedCell). cond cell.gone (Some cell) None)) is_there ∙ ap (λ b. cond b (Some left) None) q in
+      ap (λ s. unwrap_or (option_map (λ (cell : TaggedCell). with_character s (names_on c.state) cell.ch r) (gone_cell_of r.doc.cells s)) r) (h.still c.stamp same)
       ∙ ap (λ o. unwrap_or (option_map (λ (cell : TaggedCell). with_character c.stamp (names_on c.state) cell.ch r) o) r) found
 
   part_next : c.gone ≡ false → IsPart places p pre (c ∷ cs) r → IsPart places (p + 1) before cs next
@@ -196,7 +198,7 @@ back places (c ∷ cs) p pre r h =
     (λ e. split (places p)
     (λ q.
     ap text (cond-false c.gone same (cond (places p) (c ∷ more) more) e ∙ cond-true (places p) (c ∷ more) more q)
-    ∙ ap (λ s. tagged_text (with_returns (map as_removed more) s).doc.cells) (is_next places p pre c cs r e h)
+    ∙ ap (λ s. tagged_text (with_returns (map as_removed more) s).doc.cells) (is_next places p pre c cs r e q h)
     ∙ back places cs (p + 1) (before places p pre c cs r) (next places p pre c cs r) (part_next places p pre c cs r e h)
     ∙ text_next places p pre c cs r e q h)
     (λ q.

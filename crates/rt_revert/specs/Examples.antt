@@ -31,6 +31,10 @@ b_removed = record { number = 4; kind = Delete; inserted = []; removed = record 
 abbrev pub abc_inserted : Action (List Word)
 abc_inserted = record { number = 1; kind = Insert; inserted = at 1 1 ∷ at 5 1 ∷ at 3 1 ∷ []; removed = [] }
 
+-- the removal of the `c`, which is there
+abbrev pub c_removed : Action (List Word)
+c_removed = record b_removed { removed = record { stamp = at 3 1; tags = [] } ∷ [] }
+
 -- `ab` typed, and the `b` removed, in one group
 abbrev pub b_gone : Flat
 b_gone = record (new_flat 1 99) { cells = shown (at 1 1) 97 [] ∷ gone (at 2 1) 98 [] ∷ shown FINAL 10 [] ∷ []; count = 3 }

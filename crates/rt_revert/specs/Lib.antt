@@ -1,4 +1,5 @@
 pub mod Examples
+pub mod Keeping
 pub mod Planning
 pub mod PlannedGroups
 pub mod Plans

@@ -1,5 +1,5 @@
 -- Words of private contracts.
-use Rattle.std.specs.Prelude.{ℕ, ◌+◌, List, [], ◌∷◌, ◌++◌, Option, None, Some, option_and_then, option_map, if◌then◌else◌}
+use Rattle.std.specs.Prelude.{ℕ, ◌+◌, ◌==◌, ◌&&◌, nat_le, Bool, List, [], ◌∷◌, ◌++◌, Option, None, Some, option_and_then, option_map, if◌then◌else◌}
 use Rattle.rt_stamps.specs.declared.stamp.Stamp.{Stamp}
 use Rattle.rt_store.specs.declared.cell.Cell.{Cell}
 use Rattle.rt_store.specs.Cells.{cell_of, position_of, visible_before}
@@ -20,6 +20,10 @@ range_at (Some place) = record { from = place; to = place + 1 } ∷ []
 abbrev pub ranges_of : {T : Type 0} → List (Cell T) → List Stamp → List Range
 ranges_of cells [] = []
 ranges_of cells (stamp ∷ stamps) = range_at (visible_place cells stamp) ++ ranges_of cells stamps
+
+-- the place behind a range
+abbrev pub is_behind : Range → ℕ → Bool
+is_behind range place = nat_le range.from range.to && (range.to == place)
 
 -- a cell as a character that is removed
 abbrev pub cell_removed : Cell ℕ → Removed ℕ

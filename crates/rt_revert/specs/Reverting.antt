@@ -1,6 +1,6 @@
 -- Undo in a document, and redo (Tk text manual, "The undo mechanism"): actions are reverted by the stamps of their characters, in
 -- the place of positions.
-use Rattle.std.specs.Prelude.{ℕ, ◌+◌, ◌++◌, Bool, false, List, [], ◌∷◌, drop, filter, length, map, option_map, reverse, slice_get, unwrap_or}
+use Rattle.std.specs.Prelude.{ℕ, ◌+◌, ◌++◌, Bool, false, List, [], ◌∷◌, Option, None, Some, drop, filter, length, map, option_and_then, option_map, reverse, slice_get, unwrap_or, if◌then◌else◌}
 use Rattle.rt_stamps.specs.declared.limits.TheConstants.{MOST_CHARACTERS, MOST_SPANS}
 use Rattle.rt_stamps.specs.declared.stamp.Stamp.{Stamp}
 use Rattle.rt_stamps.specs.Words.{Word}
@@ -84,11 +84,16 @@ with_character stamp tags ch so_far = record so_far {
   drafts = so_far.drafts ++ text_drafts MOST_CHARACTERS so_far.doc.site so_far.doc.count stamp tags (ch ∷ []);
 }
 
--- A removed character comes back behind the cell that it has now: its first one, or where it came back before, the last one.
+-- the cell of a stamp, if its character is gone
+abbrev pub gone_cell_of : {T : Type 0} → List (Cell T) → Stamp → Option (Cell T)
+gone_cell_of cells stamp = option_and_then (λ cell. if cell.gone then Some cell else None) (cell_of cells stamp)
+
+-- A removed character comes back, if it is gone, behind the cell that it has now: its first one, or where it came back before, the
+-- last one.
 abbrev pub with_return : Removed (List Word) → Reversion → Reversion
 with_return removed so_far =
     let stamp = stamp_after so_far.returns removed.stamp in
-    unwrap_or (option_map (λ cell. with_character stamp removed.tags cell.ch so_far) (cell_of so_far.doc.cells stamp)) so_far
+    unwrap_or (option_map (λ cell. with_character stamp removed.tags cell.ch so_far) (gone_cell_of so_far.doc.cells stamp)) so_far
 
 abbrev pub with_returns : List (Removed (List Word)) → Reversion → Reversion
 with_returns [] so_far = so_far

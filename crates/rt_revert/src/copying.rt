@@ -1,10 +1,11 @@
 // A working copy of a text.
-ghost use Rattle.std.specs.Prelude.{◌≡◌, ℕ, ◌+◌, ◌<◌, ◌≤◌, ◌∷◌, [], All, IfErr, IfOk, OnOk, length, map, take};
+ghost use Rattle.std.specs.Prelude.{◌≡◌, ℕ, ◌+◌, ◌<◌, ◌≤◌, ◌∷◌, [], All, IfErr, IfOk, IfSome, OnOk, length, map, take};
 ghost use Rattle.rt_stamps.specs.declared.limits.TheConstants.{MOST_CELLS};
 ghost use Rattle.rt_store.specs.Cells.{EndsFinal, final_cell};
 ghost use Rattle.rt_store.specs.Shown.{shown};
 ghost use Rattle.rt_store.specs.Tagged.{AreStates};
 ghost use Rattle.rt_tags.specs.States.{IsState, KeepsIds, names_on, state_at};
+ghost use Rattle.rt_revert.specs.Keeping.{AreAlike};
 ghost use Rattle.rt_revert.specs.Progress.{LookAlike};
 
 use crate::returning::names_of;
@@ -31,6 +32,38 @@ pub fn kept_state(
     kept.state_of_list(ROOT, &names)
 }
 
+/// Two states in which the same tags are on: one of a table, and one of a table of one's own.
+#[derive(Clone, Copy)]
+pub struct Alike {
+    pub theirs: StateId,
+    pub own: StateId,
+}
+
+/// A state of a table with such a state of one's own, where perhaps a pair of them is known. Want of
+/// memory.
+pub fn alike_state(
+    alloc: Global,
+    states: &StateTable,
+    state: StateId,
+    known: Option<Alike>,
+    table: &mut StateTable,
+) -> Result<Alike, Fault>
+    requires state { IsState states.now state }
+    requires known { IfSome known (AreAlike states.now table.old) }
+    ensures theirs { IfOk result (λ alike. alike.theirs ≡ state) }
+    ensures alike { IfOk result (AreAlike states.now table.new) }
+    ensures ids { KeepsIds table.old table.new }
+    ensures err { IfErr result (λ fault. fault ≡ Fault.NoMemory) }
+{
+    match known {
+        Some(alike) if alike.theirs == state => Ok(alike),
+        _ => Ok(Alike {
+            theirs: state,
+            own: kept_state(alloc, states, state, table)?,
+        }),
+    }
+}
+
 // The cells of a store, with states of another table in which the same tags are on. Want of memory.
 fn kept_cells<S: TextStore>(
     alloc: Global,
@@ -45,10 +78,13 @@ fn kept_cells<S: TextStore>(
     ensures err { IfErr result (λ fault. fault ≡ Fault.NoMemory) }
 {
     let mut cells = Vec::new(alloc);
+    let mut known = None;
     for position in 0..store.cells() {
         let cell = store.nth(position);
-        let state = kept_state(alloc, states, cell.state, kept)?;
+        let alike = alike_state(alloc, states, cell.state, known, kept)?;
+        let state = alike.own;
         cells.push(Cell { state, ..cell })?;
+        known = Some(alike);
     }
     Ok(cells)
 }

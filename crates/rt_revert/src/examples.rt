@@ -4,7 +4,7 @@ ghost use Rattle.rt_oplog.specs.Operations.{Delete, Insert};
 ghost use Rattle.rt_store.specs.Cells.{text_of};
 ghost use Rattle.rt_rga.specs.Examples.{at, only_t, span};
 ghost use Rattle.rt_edits.specs.Examples.{tags_of_each};
-ghost use Rattle.rt_revert.specs.Examples.{abc_inserted, abc_typed, b_gone, b_removed, beside_x, both_actions, tagged_gone, tagged_removed, with_b_again, without_b};
+ghost use Rattle.rt_revert.specs.Examples.{abc_inserted, abc_typed, b_gone, b_removed, beside_x, both_actions, c_removed, tagged_gone, tagged_removed, with_b_again, without_b};
 ghost use Rattle.rt_revert.specs.Reverting.{reversion, reverted, reverted_group};
 
 /// Site 1 typed `abc`, site 2 put `X` behind the `a`, and site 1 removed the `b`. Undone, the `b` comes
@@ -36,7 +36,7 @@ pub fn with_tags()
 
 /// Site 1 typed `abc`, and site 2 removed the `b`. Undone, the other two go, redone, these two come back,
 /// and undone once more they go again. Where both sites removed the `b`, and each undoes that, it is there
-/// twice.
+/// twice. A removed character that is there doesn't come back again.
 pub fn what_others_removed()
     ensures undone { text_of (reverted without_b abc_typed).cells ≡ codes "\n" }
     ensures operations { (reversion without_b abc_typed).drafts ≡ Delete (span 1 1 1 ∷ span 1 3 3 ∷ []) ∷ [] }
@@ -45,4 +45,5 @@ pub fn what_others_removed()
         let group = reverted_group without_b abc_typed in
         text_of (reverted (reverted once group) (reverted_group once group)).cells ≡ codes "\n" }
     ensures twice { text_of (reverted with_b_again (b_removed ∷ [])).cells ≡ codes "abbc\n" }
+    ensures visible { text_of (reverted beside_x (c_removed ∷ [])).cells ≡ codes "aXc\n" }
 {}

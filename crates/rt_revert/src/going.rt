@@ -2,6 +2,7 @@
 ghost use Rattle.std.specs.Prelude.{◌≡◌, ℕ, ◌≤◌, ◌⊎◌, ◌<◌, false, IfErr, IfOk, OnOk, length, map};
 ghost use Rattle.rt_stamps.specs.declared.limits.TheConstants.{GREATEST_COUNT, MOST_CELLS};
 ghost use Rattle.rt_stamps.specs.declared.stamp.TheConstants.{FINAL};
+ghost use Rattle.rt_oplog.specs.Operations.{stamps_in};
 ghost use Rattle.rt_store.specs.Spans.{gone_in_any, is_among, is_in_spans};
 ghost use Rattle.rt_store.specs.Tagged.{AreStates};
 ghost use Rattle.rt_edits.specs.Flat.{Flat};
@@ -12,7 +13,7 @@ ghost use Rattle.rt_revert.specs.Reverting.{Reversion, still_visible, with_gone}
 
 use crate::losses::planned_losses;
 use crate::progress::Progress;
-use rt_stamps::{Fault, Stamp};
+use rt_stamps::{Fault, Span};
 use rt_store::TextStore;
 use rt_tags::StateTable;
 use rt_undo::RemovedSpan;
@@ -43,26 +44,26 @@ pub(crate) fn take_out<S: TextStore>(
     alloc: Global,
     kept: &StateTable,
     copy: &mut S,
-    stamps: &[Stamp],
+    spans: &[Span],
     plan: &mut Progress,
 ) -> Result<Vec<RemovedSpan>, Fault>
     requires copy { IsCopy kept.now (S.list copy.old) plan.old.texts.count }
     requires going { IsGoing kept.now plan.old }
-    requires stays { is_among stamps.now FINAL ≡ false }
+    requires stays { is_among (stamps_in spans.now) FINAL ≡ false }
     ensures copy { OnOk result (IsCopy kept.now (S.list copy.new) plan.new.texts.count) }
     ensures going { OnOk result (IsGoing kept.now plan.new) }
     ensures returns { OnOk result (plan.new.returns ≡ plan.old.returns) }
     ensures actions { OnOk result (plan.new.actions ≡ plan.old.actions) }
     ensures so_far { OnOk result ((number : ℕ) (flat : Flat) (r : Reversion) → IsSoFar kept.now number (S.list copy.old) plan.old flat r
-        → IsSoFar kept.now number (S.list copy.new) plan.new flat (with_gone stamps.now r)) }
+        → IsSoFar kept.now number (S.list copy.new) plan.new flat (with_gone (stamps_in spans.now) r)) }
     ensures removed { IfOk result (λ removed. (number : ℕ) (flat : Flat) (r : Reversion) → IsSoFar kept.now number (S.list copy.old) plan.old flat r
-        → map (named_removed kept.now) (removed_in removed.items) ≡ still_visible stamps.now r.doc.cells) }
+        → map (named_removed kept.now) (removed_in removed.items) ≡ still_visible (stamps_in spans.now) r.doc.cells) }
     ensures given { IfOk result (λ removed. RemovedAreGiven kept.now (removed_in removed.items)) }
     ensures err { IfErr result (λ fault. (fault ≡ Fault.NoMemory) ⊎ ((fault ≡ Fault.ClockSpent)
         × ((number : ℕ) (flat : Flat) (r : Reversion) → IsSoFar kept.now number (S.list copy.old) plan.old flat r
-        → GREATEST_COUNT < (with_gone stamps.now r).doc.count))) }
+        → GREATEST_COUNT < (with_gone (stamps_in spans.now) r).doc.count))) }
 {
-    let losses = planned_losses(alloc, &*copy, kept, stamps)?;
+    let losses = planned_losses(alloc, &*copy, kept, spans)?;
     make_gone(copy, kept, &losses.removed)?;
     plan.lose(losses.places, losses.drafts)?;
     Ok(losses.removed)

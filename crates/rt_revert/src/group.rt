@@ -1,5 +1,5 @@
 // The plan of a whole group that is reverted.
-ghost use Rattle.std.specs.Prelude.{◌≡◌, ◌≤◌, ◌<◌, ◌⊎◌, ◌∷◌, [], true, IfErr, IfOk, length, map, string_bytes};
+ghost use Rattle.std.specs.Prelude.{◌≡◌, ◌≤◌, ◌<◌, ◌⊎◌, ◌∷◌, [], true, IfErr, IfOk, OnOk, length, map, string_bytes};
 ghost use Rattle.std.specs.List.{AllByRecursion, list_all};
 ghost use Rattle.rt_stamps.specs.declared.limits.TheConstants.{GREATEST_COUNT, MOST_CELLS};
 ghost use Rattle.rt_oplog.specs.Rules.{is_name};
@@ -47,6 +47,8 @@ pub fn planned_reversion<S: TextStore>(
     requires sound { AreSound (named_group kept.old (group_of group.now)) }
     ensures plan { IfOk result (λ plan. (flat : Flat) → IsOf states.now (S.list store.now) site.number count flat
         → IsPlanOf kept.new flat (named_group kept.old (group_of group.now)) plan) }
+    ensures fits { OnOk result ((flat : Flat) → IsOf states.now (S.list store.now) site.number count flat
+        → (reversion flat (named_group kept.old (group_of group.now))).doc.count ≤ GREATEST_COUNT) }
     ensures given { IfOk result (λ plan. AreGiven kept.new (group_of plan.actions.items)) }
     ensures changes { IfOk result (λ plan. AllByRecursion IsChange plan.changes.items) }
     ensures names { IfOk result (λ plan. list_all is_name (map (λ w. string_bytes w) plan.names.items) ≡ true) }
@@ -80,6 +82,8 @@ pub fn planned_reversion_in<S: TextStore, C: TextStore>(
     requires sound { AreSound (named_group kept.old (group_of group.now)) }
     ensures plan { IfOk result (λ plan. (flat : Flat) → IsOf states.now (S.list store.now) site.number count flat
         → IsPlanOf kept.new flat (named_group kept.old (group_of group.now)) plan) }
+    ensures fits { OnOk result ((flat : Flat) → IsOf states.now (S.list store.now) site.number count flat
+        → (reversion flat (named_group kept.old (group_of group.now))).doc.count ≤ GREATEST_COUNT) }
     ensures given { IfOk result (λ plan. AreGiven kept.new (group_of plan.actions.items)) }
     ensures changes { IfOk result (λ plan. AllByRecursion IsChange plan.changes.items) }
     ensures names { IfOk result (λ plan. list_all is_name (map (λ w. string_bytes w) plan.names.items) ≡ true) }

@@ -8,14 +8,15 @@ mod going;
 pub mod group;
 pub mod laws;
 pub mod losses;
-mod lost;
+pub mod lost;
 pub mod plan;
 mod progress;
 mod returning;
 mod reverting;
 mod work;
 
-pub use copying::kept_state;
+pub use copying::{Alike, alike_state, kept_state};
 pub use group::{planned_reversion, planned_reversion_in};
 pub use losses::Losses;
+pub use lost::push_removed;
 pub use plan::{Return, Reversal, TextChange};

@@ -3,6 +3,7 @@ ghost use Rattle.std.specs.Prelude.{◌≡◌, ℕ, ◌≤◌, All, IfErr, IfOk,
 ghost use Rattle.std.specs.List.{AllByRecursion};
 ghost use Rattle.rt_stamps.specs.declared.limits.TheConstants.{MOST_CELLS, MOST_SPANS};
 ghost use Rattle.rt_oplog.specs.Edits.{body_of};
+ghost use Rattle.rt_oplog.specs.Operations.{stamps_in};
 ghost use Rattle.rt_store.specs.Cells.{AreDistinct, visible_of};
 ghost use Rattle.rt_store.specs.Shown.{shown};
 ghost use Rattle.rt_store.specs.Tagged.{AreStates};
@@ -19,7 +20,7 @@ use rt_edits::Range;
 use rt_edits::cells::cells_in;
 use rt_edits::drafting::removals;
 use rt_rga::Draft;
-use rt_stamps::{Fault, Stamp};
+use rt_stamps::{Fault, Span};
 use rt_store::TextStore;
 use rt_tags::StateTable;
 use rt_undo::RemovedSpan;
@@ -41,22 +42,22 @@ pub fn planned_losses<S: TextStore>(
     alloc: Global,
     store: &S,
     states: &StateTable,
-    stamps: &[Stamp],
+    spans: &[Span],
 ) -> Result<Losses, Fault>
     requires distinct { AreDistinct (S.list store.now) }
     requires few { length (S.list store.now) ≤ MOST_CELLS }
     requires states { AreStates states.now (S.list store.now) }
     ensures drafts { IfOk result (λ losses. map body_of losses.drafts.items
-        ≡ removal_drafts MOST_SPANS (are_at stamps.now (S.list store.now)) (S.list store.now)) }
+        ≡ removal_drafts MOST_SPANS (are_at (stamps_in spans.now) (S.list store.now)) (S.list store.now)) }
     ensures removed { IfOk result (λ losses. map (named_removed states.now) (removed_in losses.removed.items)
-        ≡ still_visible stamps.now (map (shown states.now) (S.list store.now))) }
+        ≡ still_visible (stamps_in spans.now) (map (shown states.now) (S.list store.now))) }
     ensures given { IfOk result (λ losses. AllByRecursion (λ removed. IsState states.now removed.tags) (removed_in losses.removed.items)) }
-    ensures places { IfOk result (λ losses. (place : ℕ) → is_covered losses.places.items place ≡ are_at stamps.now (S.list store.now) place) }
+    ensures places { IfOk result (λ losses. (place : ℕ) → is_covered losses.places.items place ≡ are_at (stamps_in spans.now) (S.list store.now) place) }
     ensures order { IfOk result (λ losses. AreInOrder 0 losses.places.items) }
     ensures within { IfOk result (λ losses. All (λ range. range.to ≤ length (visible_of (S.list store.now))) losses.places.items) }
     ensures err { IfErr result (λ fault. fault ≡ Fault.NoMemory) }
 {
-    let places = visible_ranges(alloc, store, stamps)?;
+    let places = visible_ranges(alloc, store, spans)?;
     let cells = cells_in(alloc, store, &places)?;
     let removed = removed_from(alloc, &cells)?;
     let drafts = removals(alloc, store, &places)?;

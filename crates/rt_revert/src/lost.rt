@@ -1,6 +1,7 @@
-// Cells as characters that were removed.
-ghost use Rattle.std.specs.Prelude.{◌≡◌, IfOk, IfErr, map};
+// Removed characters by spans.
+ghost use Rattle.std.specs.Prelude.{◌≡◌, ◌∷◌, ◌++◌, [], IfOk, IfErr, OnOk, map};
 ghost use Rattle.rt_undo.specs.Actions.{removed_in};
+ghost use Rattle.rt_revert.specs.Keeping.{follows};
 ghost use Rattle.rt_revert.specs.Planning.{cell_removed};
 
 use rt_stamps::{Fault, Span, Stamp};
@@ -9,15 +10,43 @@ use rt_tags::StateId;
 use rt_undo::RemovedSpan;
 use std::alloc::Global;
 
-// The span of one stamp.
-fn span_of(stamp: Stamp) -> Span
-    ensures { result ≡ record { site = stamp.site; first = stamp.count; last = stamp.count } }
+// Whether a removed character stands behind those of a span: its stamp is the next one, and it had the
+// same tags.
+fn follows(part: &RemovedSpan, stamp: Stamp, state: StateId) -> bool
+    ensures { result ≡ follows part.now stamp state }
 {
-    Span {
+    part.state == state
+        && part.span.first <= part.span.last
+        && stamp.site == part.span.site
+        && stamp.count > part.span.last
+        && stamp.count - part.span.last == 1
+}
+
+/// Adds a removed character to those of spans, to the last span where it stands behind it. Want of
+/// memory.
+pub fn push_removed(
+    removed: &mut Vec<RemovedSpan>,
+    stamp: Stamp,
+    state: StateId,
+) -> Result<(), Fault>
+    ensures ok { OnOk result (removed_in removed.new.items ≡ removed_in removed.old.items ++ record { stamp = stamp; tags = state } ∷ []) }
+    ensures fault { IfErr result (λ fault. fault ≡ Fault.NoMemory) }
+{
+    let mut span = Span {
         site: stamp.site,
         first: stamp.count,
         last: stamp.count,
+    };
+    if let Some(last) = removed.pop() {
+        let before = last.span;
+        if follows(&last, stamp, state) {
+            span.first = before.first;
+        } else {
+            removed.push(last)?;
+        }
     }
+    removed.push(RemovedSpan { span, state })?;
+    Ok(())
 }
 
 /// Cells as removed characters. Want of memory.
@@ -30,10 +59,7 @@ pub(crate) fn removed_from(
 {
     let mut removed = Vec::new(alloc);
     for cell in cells {
-        removed.push(RemovedSpan {
-            span: span_of(cell.stamp),
-            state: cell.state,
-        })?;
+        push_removed(&mut removed, cell.stamp, cell.state)?;
     }
     Ok(removed)
 }

@@ -14,7 +14,7 @@ ghost use Rattle.rt_undo.specs.Actions.{removed_in, removed_of, removed_with};
 ghost use Rattle.rt_undo.specs.Renames.{is_moved};
 ghost use Rattle.rt_revert.specs.Plans.{RemovedAreGiven, named_removed};
 ghost use Rattle.rt_revert.specs.Progress.{IsCopy, IsGoing, IsSoFar};
-ghost use Rattle.rt_revert.specs.Reverting.{Reversion, with_character, with_return, with_returns};
+ghost use Rattle.rt_revert.specs.Reverting.{Reversion, gone_cell_of, with_character, with_return, with_returns};
 ghost use Rattle.rt_revert.specs.ReversionLaws.{MayReturn};
 
 use crate::progress::Progress;
@@ -116,7 +116,17 @@ fn put_back<S: TextStore>(
     Ok(())
 }
 
-// A removed character comes back behind the cell that it has now, if there is one. `ClockSpent`, or
+// The cell of a stamp, if its character is gone.
+fn gone_cell<S: TextStore>(store: &S, stamp: Stamp) -> Option<Cell<StateId>>
+    ensures { result ≡ gone_cell_of (S.list store.now) stamp }
+{
+    match store.cell_of(stamp) {
+        Some(cell) if cell.gone => Some(cell),
+        _ => None,
+    }
+}
+
+// A removed character comes back, if it is gone, behind the cell that it has now. `ClockSpent`, or
 // want of memory.
 fn bring_back<S: TextStore>(
     alloc: Global,
@@ -141,7 +151,7 @@ fn bring_back<S: TextStore>(
 {
     let (recorded, state) = removed;
     let stamp = plan.renames.now(recorded);
-    match copy.cell_of(stamp) {
+    match gone_cell(&*copy, stamp) {
         Some(old) => {
             let cell = Cell { state, ..old };
             put_back(alloc, site, kept, copy, cell, plan)

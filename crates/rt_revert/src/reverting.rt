@@ -1,10 +1,9 @@
 // Actions that are reverted in the working copy of a text.
-ghost use Rattle.std.specs.Prelude.{◌≡◌, ◌++◌, ◌⊎◌, ◌<◌, IfErr, IfOk, OnOk, drop, map, reverse};
+ghost use Rattle.std.specs.Prelude.{◌≡◌, ◌⊎◌, ◌<◌, IfErr, IfOk, OnOk, drop, map, reverse};
 ghost use Rattle.rt_stamps.specs.declared.limits.TheConstants.{GREATEST_COUNT};
-ghost use Rattle.rt_oplog.specs.Operations.{stamps_in, stamps_of_span};
+ghost use Rattle.rt_oplog.specs.Operations.{stamps_in};
 ghost use Rattle.rt_edits.specs.Flat.{Flat};
 ghost use Rattle.rt_undo.specs.Actions.{action_of, group_of, removed_in};
-ghost use Rattle.rt_undo.specs.Renames.{now_of};
 ghost use Rattle.rt_revert.specs.Plans.{AreGiven, RemovedAreGiven, named_action, named_group};
 ghost use Rattle.rt_revert.specs.Progress.{IsCopy, IsGoing, IsSoFar};
 ghost use Rattle.rt_revert.specs.Reverting.{Reversion, with_each_reverted, with_reverted};
@@ -14,38 +13,11 @@ use crate::going::take_out;
 use crate::plan::Return;
 use crate::progress::Progress;
 use crate::returning::bring_all_back;
-use rt_stamps::{Fault, Site, Span, Stamp};
+use rt_stamps::{Fault, Site, Span};
 use rt_store::TextStore;
 use rt_tags::StateTable;
-use rt_undo::{Action, Renames, push_stamp};
+use rt_undo::{Action, push_stamp, spans_now};
 use std::alloc::Global;
-
-// Adds the stamps that the characters of a span have now.
-fn push_now(renames: &Renames, span: Span, stamps: &mut Vec<Stamp>) -> Result<(), Fault>
-    ensures ok { OnOk result (stamps.new.items ≡ stamps.old.items ++ map (now_of renames.now) (stamps_of_span span)) }
-    ensures err { IfErr result (λ fault. fault ≡ Fault.NoMemory) }
-{
-    for count in span.first..=span.last {
-        let stamp = Stamp {
-            count,
-            site: span.site,
-        };
-        stamps.push(renames.now(stamp))?;
-    }
-    Ok(())
-}
-
-// The stamps that the characters of spans have now.
-fn stamps_now(alloc: Global, renames: &Renames, spans: &[Span]) -> Result<Vec<Stamp>, Fault>
-    ensures ok { IfOk result (λ stamps. stamps.items ≡ map (now_of renames.now) (stamps_in spans.now)) }
-    ensures err { IfErr result (λ fault. fault ≡ Fault.NoMemory) }
-{
-    let mut stamps = Vec::new(alloc);
-    for span in spans {
-        push_now(renames, *span, &mut stamps)?;
-    }
-    Ok(stamps)
-}
 
 // The spans of the stamps under which characters came back.
 fn spans_back(alloc: Global, returns: &[Return]) -> Result<Vec<Span>, Fault>
@@ -87,9 +59,9 @@ fn revert<S: TextStore>(
         × ((flat : Flat) (r : Reversion) → IsSoFar kept.now site.number (S.list copy.old) plan.old flat r
         → GREATEST_COUNT < (with_reverted (named_action kept.now (action_of action.now)) r).doc.count))) }
 {
-    let stamps = stamps_now(alloc, &plan.renames, &action.inserted)?;
+    let spans = spans_now(alloc, &plan.renames, &action.inserted)?;
     let before = plan.returns.len();
-    let removed = take_out(alloc, kept, copy, &stamps, plan)?;
+    let removed = take_out(alloc, kept, copy, &spans, plan)?;
     bring_all_back(alloc, site, kept, copy, &action.removed, plan)?;
     let inserted = spans_back(alloc, since(&plan.returns, before))?;
     plan.actions.push(Action {

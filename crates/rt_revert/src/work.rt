@@ -1,14 +1,15 @@
 // The places of characters that are named by their stamps.
-ghost use Rattle.std.specs.Prelude.{◌≡◌, ℕ, ◌≤◌, ◌<◌, ◌++◌, All, IfOk, IfErr, IfSome, OnOk, length};
+ghost use Rattle.std.specs.Prelude.{◌≡◌, ℕ, ◌≤◌, ◌<◌, ◌||◌, All, IfOk, IfErr, IfSome, OnOk, Some, length};
 ghost use Rattle.rt_stamps.specs.declared.limits.TheConstants.{MOST_CELLS};
+ghost use Rattle.rt_oplog.specs.Operations.{stamps_in, stamps_of_span};
 ghost use Rattle.rt_store.specs.Cells.{AreDistinct, visible_of};
 ghost use Rattle.rt_edits.specs.Removals.{AreInOrder, is_covered};
-ghost use Rattle.rt_revert.specs.Planning.{range_at, ranges_of, visible_place};
+ghost use Rattle.rt_revert.specs.Planning.{is_behind, range_at, ranges_of, visible_place};
 ghost use Rattle.rt_revert.specs.Reverting.{are_at};
 
 use rt_edits::Range;
 use rt_edits::removal::ranges_within;
-use rt_stamps::{Fault, Stamp};
+use rt_stamps::{Fault, Span, Stamp};
 use rt_store::TextStore;
 use std::alloc::Global;
 
@@ -23,30 +24,73 @@ fn visible_place<S: TextStore>(store: &S, stamp: Stamp) -> Option<usize>
     }
 }
 
-// Adds the place of a stamp's character, if it is visible.
-fn push_place<S: TextStore>(store: &S, stamp: Stamp, ranges: &mut Vec<Range>) -> Result<(), Fault>
-    requires few { length (S.list store.now) ≤ MOST_CELLS }
-    ensures ok { OnOk result (ranges.new.items ≡ ranges.old.items ++ range_at (visible_place (S.list store.now) stamp)) }
+// Whether a place is the one behind a range.
+fn is_behind(range: Range, place: usize) -> bool
+    ensures { result ≡ is_behind range place }
+{
+    range.from <= range.to && range.to == place
+}
+
+// Adds a place to ranges, to the last one where it is the one behind it.
+fn push_place(ranges: &mut Vec<Range>, place: usize) -> Result<(), Fault>
+    requires { place < MOST_CELLS }
+    ensures ok { OnOk result ((at : ℕ) → is_covered ranges.new.items at ≡ (is_covered ranges.old.items at || is_covered (range_at (Some place)) at)) }
     ensures err { IfErr result (λ fault. fault ≡ Fault.NoMemory) }
 {
-    if let Some(place) = visible_place(store, stamp) {
-        ranges.push(Range {
-            from: place,
-            to: place + 1,
-        })?;
+    let mut range = Range {
+        from: place,
+        to: place + 1,
+    };
+    if let Some(last) = ranges.pop() {
+        if is_behind(last, place) {
+            range.from = last.from;
+        } else {
+            ranges.push(last)?;
+        }
+    }
+    ranges.push(range)?;
+    Ok(())
+}
+
+// Adds the place of a stamp's character, if it is visible.
+fn push_visible<S: TextStore>(store: &S, stamp: Stamp, ranges: &mut Vec<Range>) -> Result<(), Fault>
+    requires few { length (S.list store.now) ≤ MOST_CELLS }
+    ensures ok { OnOk result ((at : ℕ) → is_covered ranges.new.items at
+        ≡ (is_covered ranges.old.items at || is_covered (range_at (visible_place (S.list store.now) stamp)) at)) }
+    ensures err { IfErr result (λ fault. fault ≡ Fault.NoMemory) }
+{
+    match visible_place(store, stamp) {
+        Some(place) => push_place(ranges, place),
+        None => Ok(()),
+    }
+}
+
+// Adds the places of those of a span's characters that are visible.
+fn push_places<S: TextStore>(store: &S, span: Span, ranges: &mut Vec<Range>) -> Result<(), Fault>
+    requires few { length (S.list store.now) ≤ MOST_CELLS }
+    ensures ok { OnOk result ((at : ℕ) → is_covered ranges.new.items at
+        ≡ (is_covered ranges.old.items at || is_covered (ranges_of (S.list store.now) (stamps_of_span span)) at)) }
+    ensures err { IfErr result (λ fault. fault ≡ Fault.NoMemory) }
+{
+    for count in span.first..=span.last {
+        let stamp = Stamp {
+            count,
+            site: span.site,
+        };
+        push_visible(store, stamp, ranges)?;
     }
     Ok(())
 }
 
 // The places of those of some characters that are visible, in the order of their stamps.
-fn places_of<S: TextStore>(alloc: Global, store: &S, stamps: &[Stamp]) -> Result<Vec<Range>, Fault>
+fn places_of<S: TextStore>(alloc: Global, store: &S, spans: &[Span]) -> Result<Vec<Range>, Fault>
     requires few { length (S.list store.now) ≤ MOST_CELLS }
-    ensures ok { IfOk result (λ ranges. ranges.items ≡ ranges_of (S.list store.now) stamps.now) }
+    ensures ok { IfOk result (λ ranges. (at : ℕ) → is_covered ranges.items at ≡ is_covered (ranges_of (S.list store.now) (stamps_in spans.now)) at) }
     ensures err { IfErr result (λ fault. fault ≡ Fault.NoMemory) }
 {
     let mut ranges = Vec::new(alloc);
-    for stamp in stamps {
-        push_place(store, *stamp, &mut ranges)?;
+    for span in spans {
+        push_places(store, *span, &mut ranges)?;
     }
     Ok(ranges)
 }
@@ -56,15 +100,15 @@ fn places_of<S: TextStore>(alloc: Global, store: &S, stamps: &[Stamp]) -> Result
 pub(crate) fn visible_ranges<S: TextStore>(
     alloc: Global,
     store: &S,
-    stamps: &[Stamp],
+    spans: &[Span],
 ) -> Result<Vec<Range>, Fault>
     requires distinct { AreDistinct (S.list store.now) }
     requires few { length (S.list store.now) ≤ MOST_CELLS }
     ensures order { IfOk result (λ ranges. AreInOrder 0 ranges.items) }
     ensures within { IfOk result (λ ranges. All (λ range. range.to ≤ length (visible_of (S.list store.now))) ranges.items) }
-    ensures places { IfOk result (λ ranges. (place : ℕ) → is_covered ranges.items place ≡ are_at stamps.now (S.list store.now) place) }
+    ensures places { IfOk result (λ ranges. (place : ℕ) → is_covered ranges.items place ≡ are_at (stamps_in spans.now) (S.list store.now) place) }
     ensures err { IfErr result (λ fault. fault ≡ Fault.NoMemory) }
 {
-    let ranges = places_of(alloc, store, stamps)?;
+    let ranges = places_of(alloc, store, spans)?;
     ranges_within(alloc, store, &ranges)
 }

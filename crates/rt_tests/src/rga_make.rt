@@ -230,18 +230,18 @@ fn several_drafts(rt: HostRuntime) -> Result<(), Fail> {
 }
 
 // What goes of some characters.
-fn losses_of(own: &Own, stamps: &[Stamp]) -> Result<Losses, Fault> {
+fn losses_of(own: &Own, spans: &[Span]) -> Result<Losses, Fault> {
     let replica = &own.replica;
     let _ = replica.log();
-    planned_losses(own.alloc, replica.store(), replica.states(), stamps)
+    planned_losses(own.alloc, replica.store(), replica.states(), spans)
 }
 
 #[test]
 fn what_goes_of_an_insertion(rt: HostRuntime) -> Result<(), Fail> {
     let mut own = Own::new(rt.alloc(), 4)?;
     let _ops = make_several(&mut own)?;
-    let stamps = [3, 2, 1].map(|count| Stamp { count, site: 1 });
-    let losses = losses_of(&own, &stamps)?;
+    let spans = [span(1, 3, 3), span(1, 2, 2), span(1, 1, 1)];
+    let losses = losses_of(&own, &spans)?;
     assert_eq!(rt; losses.drafts.len(), 1);
     assert_eq!(rt; losses.removed.len(), 2);
     assert_eq!(rt; losses.removed[0].span, span(1, 1, 1));

@@ -1,5 +1,8 @@
-//! Tests of rt_revert's planner of undo, by what is public of it. The library itself is empty.
+//! Tests of undo, of rt_revert's planner and of a view, by what is public of them. The library itself is
+//! empty.
 #![tactic(auto)]
 
 #[cfg(test)]
 mod planning;
+#[cfg(test)]
+mod reverting;

@@ -92,7 +92,7 @@ fn cut(alloc: Global, number: u64, first: u64, last: u64) -> Result<Action, Faul
 }
 
 // `ab` was typed.
-fn typing(alloc: Global) -> Result<Vec<Action>, Fault>
+pub(crate) fn typing(alloc: Global) -> Result<Vec<Action>, Fault>
     ensures given { IfOk result (λ group. AreGiven (record { names = []; states = [] ∷ [] }) (group_of group.items)) }
     ensures sound { IfOk result (λ group. AreSound (named_group (record { names = []; states = [] ∷ [] }) (group_of group.items))) }
 {
@@ -164,9 +164,8 @@ fn typing_is_reverted(rt: HostRuntime) -> Result<(), Fail> {
     assert_eq!(rt; plan.returns.len(), 0);
     assert_eq!(rt; plan.actions.len(), 1);
     assert_eq!(rt; plan.actions[0].inserted.len(), 0);
-    assert_eq!(rt; plan.actions[0].removed.len(), 2);
-    assert_eq!(rt; plan.actions[0].removed[0].span, span(1, 1));
-    assert_eq!(rt; plan.actions[0].removed[1].span, span(2, 2));
+    assert_eq!(rt; plan.actions[0].removed.len(), 1);
+    assert_eq!(rt; plan.actions[0].removed[0].span, span(1, 2));
     Ok(())
 }
 
@@ -195,5 +194,17 @@ fn typing_and_cutting_is_reverted(rt: HostRuntime) -> Result<(), Fail> {
     assert_both(&rt, &plan);
     let other = planned_in(rt.alloc(), site, true, 3, &group)?;
     assert_both(&rt, &other);
+    Ok(())
+}
+
+// A removed character that is there doesn't come back.
+#[test]
+fn what_is_visible_does_not_come_back(rt: HostRuntime) -> Result<(), Fail> {
+    let site = Site::new(1).ok_or("a site")?;
+    let group = typing_and_cutting(rt.alloc())?;
+    let plan = planned(rt.alloc(), site, false, 3, &group)?;
+    assert_eq!(rt; plan.drafts.len(), 1);
+    assert!(rt; matches!(&plan.drafts[0], Draft::Delete { .. }));
+    assert_eq!(rt; plan.returns.len(), 0);
     Ok(())
 }

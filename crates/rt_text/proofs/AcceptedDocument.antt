@@ -68,7 +68,7 @@ all_under P f (x ∷ xs) h = All-cons (λ x. P (f x)) x xs (All-head P (f x) (ma
 name_is : (name : Name) → is_name name ≡ true → IsName name
 name_is name h = (grind (arith, nat_tests), grind (arith, nat_tests))
 
-names_are : (names : List Name) → list_all is_name names ≡ true → All IsName names
+pub names_are : (names : List Name) → list_all is_name names ≡ true → All IsName names
 names_are [] h = All-nil IsName
 names_are (name ∷ names) h =
     let both = and_parts (is_name name) (list_all is_name names) h in

@@ -93,7 +93,7 @@ all_gone p removed place (cell ∷ cells) f h =
     (all_gone p removed (place + 1) cells f rest)
 
 -- characters that are removed leave the tags on others listed
-listed_gone : (names : List Word) (removed : ℕ → Bool) (cells : List TaggedCell) → AreListed names cells → AreListed names (gone_at removed 0 cells)
+pub listed_gone : (names : List Word) (removed : ℕ → Bool) (cells : List TaggedCell) → AreListed names cells → AreListed names (gone_at removed 0 cells)
 listed_gone names removed cells h = record {
   each = to_visible names (gone_at removed 0 cells) (all_gone (Listed names) removed 0 cells (λ cell b g k. λ e name on. k g name on) (from_visible names cells h.each));
   sel = h.sel;

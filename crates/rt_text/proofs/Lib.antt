@@ -1,6 +1,7 @@
 pub mod AcceptedDocument
 pub mod AcceptedView
 pub mod BareNewline
+pub mod ChangedMarks
 pub mod Checks
 pub mod DeletionLaws
 pub mod Deletions
@@ -12,6 +13,7 @@ pub mod MadeDocument
 pub mod MarkLaws
 pub mod MovingLaws
 pub mod PlannedReplacement
+pub mod PlannedReversion
 pub mod PutLaws
 pub mod RangeLaws
 pub mod ReadyLaws
@@ -19,6 +21,7 @@ pub mod Refusals
 pub mod ReplaceLaws
 pub mod ReplacedDocument
 pub mod Replacements
+pub mod RevertedDocument
 pub mod SeenLaws
 pub mod StayingPlaces
 pub mod TaggedDocument

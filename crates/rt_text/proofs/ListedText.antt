@@ -119,7 +119,7 @@ from_among tags count site state [] h k q = All-nil (IsAmong tags)
 from_among tags count site state (c ∷ text) h k q =
     All-cons (IsAmong tags) (record { stamp = record { count = count; site = site }; ch = c; gone = false; state = state }) (cells_from (count + 1) site state text) (record { each = h; by_name = k; shared = q; there = refl }) (from_among tags (count + 1) site state text h k q)
 
-inserts_among : (tags : List Word) (inserts site count : ℕ) (names : List Word) (text : List ℕ) → All (λ name. is_listed name tags ≡ true) names → All IsOther names
+pub inserts_among : (tags : List Word) (inserts site count : ℕ) (names : List Word) (text : List ℕ) → All (λ name. is_listed name tags ≡ true) names → All IsOther names
     → All (IsAmong tags) (cells_of_inserts inserts site count names text)
 inserts_among tags zero site count names text h q = All-nil (IsAmong tags)
 inserts_among tags (suc inserts) site count names text h q =

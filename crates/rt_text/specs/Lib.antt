@@ -1,4 +1,5 @@
 pub mod Accepted
+pub mod Changes
 pub mod Commands
 pub mod Comparisons
 pub mod Distances
@@ -7,6 +8,7 @@ pub mod Kept
 pub mod Proper
 pub mod Ranges
 pub mod Replacements
+pub mod Reversions
 pub mod Widgets
 pub use Rattle.rt_stamps.specs.Outcomes
 pub use Rattle.rt_stamps.specs.Places

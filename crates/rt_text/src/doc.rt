@@ -16,6 +16,7 @@ mod editing;
 mod marking;
 mod reading;
 mod replacing;
+mod reverting;
 mod tagging;
 
 use rt_marks::Marks;

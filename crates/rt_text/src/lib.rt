@@ -1,6 +1,7 @@
 //! A text, its marks, and the commands of a widget on them.
 #![tactic(auto)]
 
+mod changing;
 mod characters;
 mod comparison;
 mod distance;
@@ -12,12 +13,14 @@ mod moving;
 pub mod own_mark;
 mod preparing;
 pub mod range;
+pub mod reverted;
 mod staying;
 pub mod view;
 pub mod widget;
 
 pub use doc::Doc;
 pub use own_mark::OwnMark;
+pub use reverted::Reverted;
 pub use rt_edits::{Piece, Range, Selection};
 pub use rt_requests::{Comparison, Measure};
 pub use view::View;

@@ -13,6 +13,7 @@ mod losing;
 mod marking;
 mod reading;
 mod replacing;
+mod reverting;
 mod tagging;
 
 use crate::{Doc, Selection, Widget};

@@ -9,6 +9,6 @@ pub mod renames;
 pub mod stacks;
 
 pub use action::{Action, Kind, RemovedSpan};
-pub use copies::{group_now, push_stamp};
+pub use copies::{group_now, push_stamp, spans_now};
 pub use renames::Renames;
 pub use stacks::Stacks;

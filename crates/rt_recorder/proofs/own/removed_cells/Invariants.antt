@@ -1,11 +1,11 @@
 use Rattle.std.proofs.Common.{◌≡◌, map, take}
 use Rattle.std.specs.Prelude.{IfSome}
+use Rattle.rt_revert.specs.Keeping.{AreAlike}
 use Rattle.rt_revert.specs.Reverting.{as_removed}
 use Rattle.rt_store.specs.Shown.{shown}
 use Rattle.rt_tags.specs.States.{KeepsIds}
 use Rattle.rt_undo.specs.Actions.{removed_in}
 use Rattle.rt_recorder.specs.Naming.{RemovedAreGiven, named_removed}
-use Rattle.rt_recorder.specs.Own.{AreAlike}
 use Rattle.rt_recorder.proofs.own.removed_cells.Given as goal
 
 abbrev pub invariant-loop-cell : goal.invariant-loop-cell

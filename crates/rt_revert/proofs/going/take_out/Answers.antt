@@ -2,6 +2,7 @@ use Rattle.std.proofs.Common.{◌∙◌, ◌<◌, ℕ, ap, map, subst, sym}
 use Rattle.std.proofs.lemmas.Result.{err_from_is_err_and}
 use Rattle.rt_stamps.specs.declared.limits.TheConstants.{GREATEST_COUNT}
 use Rattle.rt_stamps.specs.declared.stamp.TheConstants.{FINAL}
+use Rattle.rt_oplog.specs.Operations.{stamps_in}
 use Rattle.rt_store.specs.Spans.{gone_in_any, is_in_spans}
 use Rattle.rt_edits.proofs.PlanLaws.{spent}
 use Rattle.rt_revert.specs.Progress.{spans_of}
@@ -11,14 +12,14 @@ use Rattle.rt_revert.proofs.going.take_out.Goals as goal
 pub make_gone-requires-clause-stays : goal.make_gone-requires-clause-stays
 make_gone-requires-clause-stays g c =
     ap (λ l. is_in_spans (spans_of l) FINAL) c.deref.ensures.value
-    ∙ spared c.args.kept.now c.args.stamps.now (g.S.TextStore.list c.args.copy.now) c.in_ok-losses.losses.removed.items c.in_ok-losses.ensures.removed c.requires.stays
+    ∙ spared c.args.kept.now (stamps_in c.args.spans.now) (g.S.TextStore.list c.args.copy.now) c.in_ok-losses.losses.removed.items c.in_ok-losses.ensures.removed c.requires.stays
 
 pub returns-clause-copy : goal.returns-clause-copy
 returns-clause-copy g c =
     let old = g.S.TextStore.list c.args.copy.now in
     let new = g.S.TextStore.list c.make_gone.new.copy in
     let losses = c.in_ok-losses.losses in
-    let took : Took c.args.kept.now c.args.stamps.now old new c.args.plan.now c.lose.new.self losses = record {
+    let took : Took c.args.kept.now (stamps_in c.args.spans.now) old new c.args.plan.now c.lose.new.self losses = record {
       list = c.in_ok-make_gone.ensures.list ∙ ap (λ l. map (gone_in_any (spans_of l)) old) c.deref.ensures.value;
       removed = c.in_ok-losses.ensures.removed;
       drafts = c.in_ok-losses.ensures.drafts;
@@ -34,14 +35,14 @@ returns-clause-copy g c =
       returns = c.in_ok-lose.ensures.returns;
       actions = c.in_ok-lose.ensures.actions;
     } in
-    took_copy c.args.kept.now c.args.stamps.now old new c.args.plan.now c.lose.new.self losses took c.requires.copy
+    took_copy c.args.kept.now (stamps_in c.args.spans.now) old new c.args.plan.now c.lose.new.self losses took c.requires.copy
 
 pub returns-clause-going : goal.returns-clause-going
 returns-clause-going g c =
     let old = g.S.TextStore.list c.args.copy.now in
     let new = g.S.TextStore.list c.make_gone.new.copy in
     let losses = c.in_ok-losses.losses in
-    let took : Took c.args.kept.now c.args.stamps.now old new c.args.plan.now c.lose.new.self losses = record {
+    let took : Took c.args.kept.now (stamps_in c.args.spans.now) old new c.args.plan.now c.lose.new.self losses = record {
       list = c.in_ok-make_gone.ensures.list ∙ ap (λ l. map (gone_in_any (spans_of l)) old) c.deref.ensures.value;
       removed = c.in_ok-losses.ensures.removed;
       drafts = c.in_ok-losses.ensures.drafts;
@@ -57,14 +58,14 @@ returns-clause-going g c =
       returns = c.in_ok-lose.ensures.returns;
       actions = c.in_ok-lose.ensures.actions;
     } in
-    took_going c.args.kept.now c.args.stamps.now old new c.args.plan.now c.lose.new.self losses took c.requires.copy.few c.requires.going
+    took_going c.args.kept.now (stamps_in c.args.spans.now) old new c.args.plan.now c.lose.new.self losses took c.requires.copy.few c.requires.going
 
 pub returns-clause-so_far : goal.returns-clause-so_far
 returns-clause-so_far g c =
     let old = g.S.TextStore.list c.args.copy.now in
     let new = g.S.TextStore.list c.make_gone.new.copy in
     let losses = c.in_ok-losses.losses in
-    let took : Took c.args.kept.now c.args.stamps.now old new c.args.plan.now c.lose.new.self losses = record {
+    let took : Took c.args.kept.now (stamps_in c.args.spans.now) old new c.args.plan.now c.lose.new.self losses = record {
       list = c.in_ok-make_gone.ensures.list ∙ ap (λ l. map (gone_in_any (spans_of l)) old) c.deref.ensures.value;
       removed = c.in_ok-losses.ensures.removed;
       drafts = c.in_ok-losses.ensures.drafts;
@@ -80,11 +81,11 @@ returns-clause-so_far g c =
       returns = c.in_ok-lose.ensures.returns;
       actions = c.in_ok-lose.ensures.actions;
     } in
-    took_so_far c.args.kept.now c.args.stamps.now old new c.args.plan.now c.lose.new.self losses took c.requires.copy.distinct
+    took_so_far c.args.kept.now (stamps_in c.args.spans.now) old new c.args.plan.now c.lose.new.self losses took c.requires.copy.distinct
 
 pub returns-clause-removed : goal.returns-clause-removed
 returns-clause-removed g c number flat r s =
-    took_still c.args.kept.now c.args.stamps.now (g.S.TextStore.list c.args.copy.now) (g.S.TextStore.list c.make_gone.new.copy) c.args.plan.now c.lose.new.self c.in_ok-losses.losses
+    took_still c.args.kept.now (stamps_in c.args.spans.now) (g.S.TextStore.list c.args.copy.now) (g.S.TextStore.list c.make_gone.new.copy) c.args.plan.now c.lose.new.self c.in_ok-losses.losses
     number flat r c.in_ok-losses.ensures.removed s
 
 pub returns-in_err-lose-clause-err : goal.returns-in_err-lose-clause-err
@@ -93,6 +94,6 @@ returns-in_err-lose-clause-err g c =
     let old = g.S.TextStore.list c.args.copy.now in
     rw (p.1, p.2) (spent
     (λ k number flat r s. subst (λ (n : ℕ). GREATEST_COUNT < n)
-    (sym (lost_count c.args.kept.now c.args.stamps.now old (g.S.TextStore.list c.make_gone.new.copy) c.args.plan.now c.lose.new.self c.in_ok-losses.losses number flat r
+    (sym (lost_count c.args.kept.now (stamps_in c.args.spans.now) old (g.S.TextStore.list c.make_gone.new.copy) c.args.plan.now c.lose.new.self c.in_ok-losses.losses number flat r
     c.in_ok-losses.ensures.drafts c.requires.copy.distinct s)) k)
     c.in_err-lose.ensures.err)

@@ -1,4 +1,4 @@
-use Rattle.std.proofs.Common.{◌≡◌, ◌∙◌, ◌<◌, List, ap, map, subst, sym}
+use Rattle.std.proofs.Common.{◌≡◌, ◌∙◌, ◌<◌, List, ap, arith, map, subst, sym}
 use Rattle.std.specs.Prelude.{string_bytes}
 use Rattle.std.proofs.lemmas.Result.{err_from_is_err_and}
 use Rattle.rt_stamps.specs.declared.limits.TheConstants.{GREATEST_COUNT}
@@ -127,6 +127,35 @@ returns-clause-plan g c flat of =
       marks = ap (λ l. marks_after l flat.marks) c.in_ok-reversal.ensures.changes ∙ sym so_far.marks;
       tags = ap (λ l. all_listed (map (λ w. string_bytes w) l) flat.tags) c.in_ok-reversal.ensures.names ∙ sym so_far.tags;
     }
+
+pub returns-clause-fits : goal.returns-clause-fits
+returns-clause-fits g c flat of =
+    let old = c.args.kept.now in
+    let kept = c.copied.new.kept in
+    let states = c.args.states.now in
+    let store = g.S.TextStore.list c.args.store.now in
+    let work = g.C.TextStore.list c.copied.new.copy in
+    let number = c.args.site.number in
+    let count = c.args.count in
+    let plan = c.new-plan.result in
+    let group = group_of c.args.group.now in
+    let fresh : IsNew count plan = record {
+      drafts = c.new-plan.ensures.drafts;
+      greatest = c.new-plan.ensures.count;
+      now = c.new-plan.ensures.now;
+      moved = c.new-plan.ensures.moved;
+      names = c.new-plan.ensures.names;
+      changes = c.new-plan.ensures.changes;
+      returns = c.new-plan.ensures.returns;
+      actions = c.new-plan.ensures.actions;
+    } in
+    let same : named_group kept group ≡ named_group old group = later_group old kept group c.in_ok-copied.ensures.ids c.requires.given in
+    let late = g.C.TextStore.list c.revert_all.new.copy in
+    let done = c.revert_all.new.plan in
+    let so_far : IsSoFar kept number late done flat (reversion flat (named_group old group)) =
+    subst (λ (l : List (Action (List Word))). IsSoFar kept number late done flat (reversion flat l)) same
+    (c.in_ok-revert_all.ensures.so_far flat (as_it_is flat) (new_so_far kept states work store number count plan fresh c.in_ok-copied.ensures.alike flat of)) in
+    omega (arith, so_far.count, c.in_ok-revert_all.ensures.going.count)
 
 pub returns-clause-given : goal.returns-clause-given
 returns-clause-given g c = ended_given c.copied.new.kept c.revert_all.new.plan c.in_ok-reversal.reversal.actions.items c.in_ok-revert_all.ensures.going c.in_ok-reversal.ensures.actions

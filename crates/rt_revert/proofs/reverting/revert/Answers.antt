@@ -18,7 +18,7 @@ use Rattle.rt_revert.proofs.reverting.revert.Goals as goal
 pub take_out-requires-clause-stays : goal.take_out-requires-clause-stays
 take_out-requires-clause-stays g c =
     let f = now_of c.args.plan.now.renames in
-    ap (λ l. is_among l FINAL) (c.deref-2.ensures.value ∙ c.in_ok-stamps.ensures.ok ∙ ap (λ l. map f (stamps_in l)) c.deref.ensures.value)
+    ap (λ l. is_among l FINAL) (ap stamps_in c.deref-2.ensures.value ∙ c.in_ok-spans.ensures.ok ∙ ap (λ l. map f (stamps_in l)) c.deref.ensures.value)
     ∙ stays c.args.kept.now c.args.plan.now (stamps_in c.args.action.now.inserted.items) c.requires.going c.requires.sound.inserted
 
 pub returns-in_err-removed-clause-err : goal.returns-in_err-removed-clause-err
@@ -27,9 +27,9 @@ returns-in_err-removed-clause-err g c =
     let table = c.args.kept.now in
     let before = c.args.plan.now in
     let action = c.args.action.now in
-    let stamps = c.deref-2.result.now in
+    let stamps = stamps_in c.deref-2.result.now in
     let stamps_are : stamps ≡ map (stamp_after before.returns.items) (stamps_in action.inserted.items) =
-    c.deref-2.ensures.value ∙ c.in_ok-stamps.ensures.ok ∙ ap (λ l. map (now_of before.renames) (stamps_in l)) c.deref.ensures.value
+    ap stamps_in c.deref-2.ensures.value ∙ c.in_ok-spans.ensures.ok ∙ ap (λ l. map (now_of before.renames) (stamps_in l)) c.deref.ensures.value
     ∙ stamps_after table before (stamps_in action.inserted.items) c.requires.going in
     rw (p.1, p.2) (spent
     (λ k flat r s. early_gone table c.args.site.number (g.S.TextStore.list c.args.copy.now) before flat r action stamps s stamps_are (k c.args.site.number flat r s))
@@ -41,9 +41,9 @@ returns-in_err-bring_all_back-clause-err g c =
     let table = c.args.kept.now in
     let before = c.args.plan.now in
     let action = c.args.action.now in
-    let stamps = c.deref-2.result.now in
+    let stamps = stamps_in c.deref-2.result.now in
     let stamps_are : stamps ≡ map (stamp_after before.returns.items) (stamps_in action.inserted.items) =
-    c.deref-2.ensures.value ∙ c.in_ok-stamps.ensures.ok ∙ ap (λ l. map (now_of before.renames) (stamps_in l)) c.deref.ensures.value
+    ap stamps_in c.deref-2.ensures.value ∙ c.in_ok-spans.ensures.ok ∙ ap (λ l. map (now_of before.renames) (stamps_in l)) c.deref.ensures.value
     ∙ stamps_after table before (stamps_in action.inserted.items) c.requires.going in
     rw (p.1, p.2) (spent
     (λ k flat r s. early_back table c.args.site.number (g.S.TextStore.list c.args.copy.now) before flat r action stamps s stamps_are
@@ -57,9 +57,9 @@ returns-clause-so_far g c flat r s =
     let number = c.args.site.number in
     let before = c.args.plan.now in
     let action = c.args.action.now in
-    let stamps = c.deref-2.result.now in
+    let stamps = stamps_in c.deref-2.result.now in
     let stamps_are : stamps ≡ map (stamp_after before.returns.items) (stamps_in action.inserted.items) =
-    c.deref-2.ensures.value ∙ c.in_ok-stamps.ensures.ok ∙ ap (λ l. map (now_of before.renames) (stamps_in l)) c.deref.ensures.value
+    ap stamps_in c.deref-2.ensures.value ∙ c.in_ok-spans.ensures.ok ∙ ap (λ l. map (now_of before.renames) (stamps_in l)) c.deref.ensures.value
     ∙ stamps_after table before (stamps_in action.inserted.items) c.requires.going in
     let new = g.S.TextStore.list c.bring_all_back.new.copy in
     let late = c.bring_all_back.new.plan in

@@ -1,6 +1,10 @@
-use Rattle.std.proofs.Common.{◌≡◌, ◌++◌, drop}
+use Rattle.std.proofs.Common.{◌≡◌, ◌||◌, ℕ, drop}
+use Rattle.rt_oplog.specs.Operations.{stamps_in}
+use Rattle.rt_edits.specs.Removals.{is_covered}
 use Rattle.rt_revert.specs.Planning.{ranges_of}
 use Rattle.rt_revert.proofs.work.places_of.Given as goal
 
-abbrev pub invariant-loop-stamp : goal.invariant-loop-stamp
-invariant-loop-stamp g l = l.ranges.items ++ ranges_of (g.S.TextStore.list l.store) (drop l.stamp-index l.stamps) ≡ ranges_of (g.S.TextStore.list l.store) l.stamps
+abbrev pub invariant-loop-span : goal.invariant-loop-span
+invariant-loop-span g l =
+    (at : ℕ) → (is_covered l.ranges.items at || is_covered (ranges_of (g.S.TextStore.list l.store) (stamps_in (drop l.span-index l.spans))) at)
+    ≡ is_covered (ranges_of (g.S.TextStore.list l.store) (stamps_in l.spans)) at

@@ -1,9 +1,0 @@
-use Rattle.std.proofs.Common.{◌≡◌, ◌+◌, ◌-◌, ◌++◌, map}
-use Rattle.rt_oplog.specs.Operations.{stamps_from, stamps_of_span}
-use Rattle.rt_undo.specs.Renames.{now_of}
-use Rattle.rt_revert.proofs.reverting.push_now.Given as goal
-
-abbrev pub invariant-loop-count : goal.invariant-loop-count
-invariant-loop-count l =
-    l.stamps.items ++ map (now_of l.renames) (stamps_from l.span.site l.count (l.span.last + 1 - l.count))
-    ≡ l.initial.stamps.items ++ map (now_of l.renames) (stamps_of_span l.span)

@@ -1,0 +1,106 @@
+// Groups that are reverted on a page, with ample memory.
+ghost use Rattle.std.specs.Prelude.{IfOk};
+ghost use Rattle.rt_undo.specs.Actions.{group_of};
+ghost use Rattle.rt_revert.specs.Plans.{AreGiven, named_group};
+ghost use Rattle.rt_revert.specs.ReversionLaws.{AreSound};
+
+use crate::planning::typing;
+use rt_stamps::{Fault, Site};
+use rt_store::ListStore;
+use rt_tags::StateTable;
+use rt_text::{OwnMark, Piece, Reverted, View};
+use rt_undo::Action;
+use std::alloc::Global;
+use std::marker::Model;
+use std::process::Abort;
+use std::test::Fail;
+
+/// A document as a widget shows it. Its calls say no more than how groups go on.
+struct Page {
+    view: View<ListStore>,
+}
+
+// Written out, so that each way out of a test lets a page go in one step of its proof.
+impl Drop for Page {
+    fn drop(self) {
+        let Page { view: _ } = self;
+    }
+}
+
+impl Model for Page {
+    ghost use Rattle.std.specs.Prelude.{ℕ};
+
+    ghost Value = { ℕ };
+
+    ghost view = { λ _. 0 };
+}
+
+impl Page {
+    // A page on which `ab` was typed with the tag `bold`.
+    fn typed(alloc: Global) -> Result<Page, Fail> {
+        let site = Site::new(1).ok_or("a site")?;
+        let store = ListStore::new(alloc)?;
+        let view = View::new(alloc, store, site, 1_000)?;
+        let mut page = Page { view };
+        page.insert_bold(alloc, "ab")?;
+        Ok(page)
+    }
+
+    fn insert_bold(&mut self, alloc: Global, text: &str) -> Result<(), Fault> {
+        let mut tags = Vec::new(alloc);
+        tags.push(String::from_str(alloc, "bold")?)?;
+        let mut pieces = Vec::new(alloc);
+        pieces.push(Piece::new(String::from_str(alloc, text)?, tags))?;
+        self.view.insert("1.0", &pieces, "")
+    }
+
+    fn revert(
+        &mut self,
+        alloc: Global,
+        group: &[Action],
+        kept: &mut StateTable,
+    ) -> Result<Reverted, Fault>
+        requires given { AreGiven kept.old (group_of group.now) }
+        requires sound { AreSound (named_group kept.old (group_of group.now)) }
+        ensures given { IfOk result (λ r. AreGiven kept.new (group_of r.actions.items)) }
+        ensures sound { IfOk result (λ r. AreSound (named_group kept.new (group_of r.actions.items))) }
+    {
+        let copy = ListStore::new(alloc)?;
+        self.view.revert(copy, group, kept)
+    }
+
+    fn text(&self) -> Result<String, Fault> {
+        self.view.get("1.0", "end")
+    }
+
+    fn insert_place(&self) -> usize {
+        self.view.widget().place(OwnMark::Insert)
+    }
+
+    fn next_bold(&self) -> Option<usize> {
+        self.view.next_tagged("bold", 0)
+    }
+
+    fn next_plain(&self) -> Option<usize> {
+        self.view.next_untagged("bold", 0)
+    }
+}
+
+// What was typed goes, and comes back with its tag; the insertion cursor stands behind it again.
+#[test]
+fn typing_is_undone_and_redone(rt: HostRuntime) -> Result<(), Fail> {
+    let mut page = Page::typed(rt.alloc())?;
+    let mut kept = StateTable::new(rt.alloc())?;
+    let group = typing(rt.alloc())?;
+    let undone = page.revert(rt.alloc(), &group, &mut kept)?;
+    assert_eq!(rt; page.text()?.as_str(), "\n");
+    assert_eq!(rt; page.insert_place(), 0);
+    assert_eq!(rt; undone.returns.len(), 0);
+    let redone = page.revert(rt.alloc(), &undone.actions, &mut kept)?;
+    assert_eq!(rt; page.text()?.as_str(), "ab\n");
+    assert_eq!(rt; page.insert_place(), 2);
+    assert_eq!(rt; page.next_bold(), Some(0));
+    assert_eq!(rt; page.next_plain(), Some(2));
+    assert_eq!(rt; redone.returns.len(), 2);
+    Ok(())
+}

@@ -1,0 +1,87 @@
+-- The plan of a group that is reverted, on a document and on a widget's own marks.
+use Rattle.std.proofs.Common.{◌≡◌, ◌∙◌, ◌⊎◌, inl, inr, ℕ, ◌<◌, ◌≤◌, All, List, Some, length, map, string_bytes, sym, ap, true}
+use Rattle.std.specs.List.{list_all}
+use Rattle.rt_marks.specs.Marks.{Mark}
+use Rattle.rt_oplog.specs.Rules.{is_name}
+use Rattle.rt_stamps.specs.declared.fault.Fault.{Fault}
+use Rattle.rt_stamps.specs.declared.fault.Fault.TheVariants.{ClockSpent, NoMemory}
+use Rattle.rt_stamps.specs.declared.limits.TheConstants.{GREATEST_COUNT}
+use Rattle.rt_stamps.specs.Words.{Word}
+use Rattle.rt_store.specs.declared.cell.Cell.{Cell}
+use Rattle.rt_store.specs.Cells.{text_of}
+use Rattle.rt_tags.specs.States.{TagStates}
+use Rattle.rt_tags.specs.Tags.{IsName}
+use Rattle.rt_rga.specs.Histories.{IsHistory}
+use Rattle.rt_edits.specs.DraftLaws.{IsDocument}
+use Rattle.rt_edits.specs.Flat.{Flat}
+use Rattle.rt_undo.specs.Actions.{Action}
+use Rattle.rt_revert.specs.declared.plan.Reversal.{Reversal}
+use Rattle.rt_revert.specs.PlannedGroups.{IsPlanOf}
+use Rattle.rt_revert.specs.Plans.{IsOf}
+use Rattle.rt_revert.specs.Reverting.{reversion}
+use Rattle.rt_revert.specs.ReversionLaws.{AreSound}
+use Rattle.rt_text.specs.Changes.{own_after}
+use Rattle.rt_text.specs.Reversions.{own_reverted, reversion_check}
+use Rattle.rt_text.specs.Widgets.{IsOwnOf, Own}
+use Rattle.rt_text.proofs.AcceptedDocument.{all_under, names_are}
+use Rattle.rt_text.proofs.ChangedMarks.{current_alone, insert_alone, still_selected}
+use Rattle.rt_text.proofs.RevertedDocument.{IsReverted, head_or, only, own_stands, spent_check}
+
+-- why a group isn't planned
+pub not_planned : (states : TagStates) (store : List (Cell ℕ)) (number count : ℕ) (flat : Flat) (group : List (Action (List Word))) (fault : Fault) → IsOf states store number count flat
+    → (fault ≡ NoMemory) ⊎ ((fault ≡ ClockSpent) × ((f : Flat) → IsOf states store number count f → GREATEST_COUNT < (reversion f group).doc.count))
+    → (fault ≡ NoMemory) ⊎ (reversion_check flat group ≡ Some fault)
+not_planned states store number count flat group fault is (inl e) = inl e
+not_planned states store number count flat group fault is (inr q) = inr (spent_check flat group (q.1 flat is) ∙ ap (λ x. Some x) (sym q.0))
+
+-- the tags to list are names
+pub names_planned : (plan : Reversal) → list_all is_name (map (λ w. string_bytes w) plan.names.items) ≡ true → All (λ w. IsName (string_bytes w)) plan.names.items
+names_planned plan h = all_under IsName (λ w. string_bytes w) plan.names.items (names_are (map (λ w. string_bytes w) plan.names.items) h)
+
+-- A plan on a document of a history: the states of a store's cells and those of the group's own table, the store's cells, a site, and
+-- a greatest count.
+pub record IsPlanned (states table : TagStates) (store : List (Cell ℕ)) (number count : ℕ) (flat : Flat) (group : List (Action (List Word))) (plan : Reversal) : Type 0 where
+  pub real : 0 < flat.site
+  pub history : IsHistory flat.log
+  pub document : IsDocument flat.site flat.log flat
+  pub sound : AreSound group
+  pub is : IsOf states store number count flat
+  pub plans : (f : Flat) → IsOf states store number count f → IsPlanOf table f group plan
+  pub fits : (f : Flat) → IsOf states store number count f → (reversion f group).doc.count ≤ GREATEST_COUNT
+
+module _ (states table : TagStates) (store : List (Cell ℕ)) (number count : ℕ) (flat : Flat) (group : List (Action (List Word))) (plan : Reversal) (p : IsPlanned states table store number count flat group plan) where
+  pub planned : IsPlanOf table flat group plan
+  planned = p.plans flat p.is
+
+  pub reverts : IsReverted flat group
+  reverts = record { real = p.real; history = p.history; document = p.document; sound = p.sound; fits = p.fits flat p.is }
+
+  -- a mark alone, in the place of the document's
+  only_is : (m : Mark) → IsOf states store number count (only flat m)
+  only_is m = record { cells = p.is.cells; site = p.is.site; count = p.is.count }
+
+  only_planned : (m : Mark) → IsPlanOf table (only flat m) group plan
+  only_planned m = p.plans (only flat m) (only_is m)
+
+  only_reverts : (m : Mark) → IsReverted (only flat m) group
+  only_reverts m = record {
+    real = p.real;
+    history = p.history;
+    document = record { cells = p.document.cells; site = p.document.site; count = p.document.count };
+    sound = p.sound;
+    fits = p.fits (only flat m) (only_is m);
+  }
+
+  -- the changes move a widget's own marks as the group that is reverted does
+  pub own_moved : (own : Own) → own_after plan.changes.items own ≡ own_reverted flat group own
+  own_moved own =
+      let changes = plan.changes.items in
+      let insert : (own_after changes own).insert ≡ (own_reverted flat group own).insert = ap (head_or own.insert) (sym (insert_alone changes own) ∙ (only_planned own.insert).marks) in
+      let current : (own_after changes own).current ≡ (own_reverted flat group own).current = ap (head_or own.current) (sym (current_alone changes own) ∙ (only_planned own.current).marks) in
+      λ k. record { insert = insert k; current = current k; sel = still_selected changes own k }
+
+  -- and they stand in the text that is left
+  pub own_left_in : (own : Own) → IsOwnOf (length (text_of flat.cells)) own → IsOwnOf (length (text_of (reversion flat group).doc.cells)) (own_reverted flat group own)
+  own_left_in own h =
+      own_stands flat group own reverts (only_reverts own.insert) (only_reverts own.current)
+      (sym (only_planned own.insert).drafts ∙ planned.drafts) (sym (only_planned own.current).drafts ∙ planned.drafts) h

@@ -1,0 +1,437 @@
+use Rattle.std.proofs.Common.{◌≡◌, ◌∙◌, ◌⊎◌, ◌<◌, ◌≤◌, ◌+◌, ◌^◌, ◌-◌, ℕ, All, List, ap, arith, inl, inr, length, map, string_bytes, subst, sym}
+use Rattle.std.specs.List.{AllByRecursion}
+use Rattle.std.specs.Prelude.{codes}
+use Rattle.std.proofs.lemmas.List.{length-map}
+use Rattle.std.proofs.lemmas.Result.{err_from_is_err_and}
+use Rattle.rt_oplog.specs.Edits.{body_of}
+use Rattle.rt_stamps.specs.declared.limits.TheConstants.{GREATEST_COUNT, MOST_CELLS}
+use Rattle.rt_stamps.specs.Words.{Word}
+use Rattle.rt_store.specs.declared.cell.Cell.{Cell}
+use Rattle.rt_store.specs.Cells.{text_of}
+use Rattle.rt_store.specs.Shown.{shown}
+use Rattle.rt_tags.specs.States.{TagStates}
+use Rattle.rt_tags.specs.Tags.{IsName}
+use Rattle.rt_rga.specs.Drafts.{with_drafts}
+use Rattle.rt_rga.specs.Made.{refusal_of}
+use Rattle.rt_rga.specs.Requests.{MayBeMade}
+use Rattle.rt_rga.proofs.Requests.{greatest_bound}
+use Rattle.rt_edits.specs.Flat.{Flat}
+use Rattle.rt_edits.specs.Insertions.{all_listed}
+use Rattle.rt_edits.specs.Selected.{stamps_in}
+use Rattle.rt_edits.proofs.PlaceLaws.{text_within}
+use Rattle.rt_undo.specs.Actions.{Action, group_of}
+use Rattle.rt_revert.specs.Plans.{IsChange, IsOf, marks_after, named_group}
+use Rattle.rt_revert.specs.Reverting.{reversion, reverted}
+use Rattle.rt_revert.specs.ReversionLaws.{AreSound}
+use Rattle.rt_revert.proofs.Steps.{reversion_sound}
+use Rattle.rt_text.specs.Changes.{own_after}
+use Rattle.rt_text.specs.Kept.{IsDoc}
+use Rattle.rt_text.specs.Reversions.{own_reverted, reversion_check}
+use Rattle.rt_text.specs.Widgets.{IsOwnOf, Own}
+use Rattle.rt_text.proofs.MadeDocument.{seen}
+use Rattle.rt_text.proofs.MarkLaws.{site_fits}
+use Rattle.rt_text.proofs.PlannedReversion.{IsPlanned, names_planned, not_planned, own_left_in, own_moved, planned, reverts}
+use Rattle.rt_text.proofs.RevertedDocument.{all_may, all_refused, left_kept, left_seen, store_older}
+use Rattle.rt_text.proofs.doc.Doc.revert_in.Goals as goal
+
+which : {F X : Type 0} {r checked : X} {fault memory : F} {some none : X} → (r ≡ some) ⊎ ((fault ≡ memory) × (r ≡ none)) → r ≡ checked → (fault ≡ memory) ⊎ (checked ≡ some)
+which (inl e) s = inr (sym s ∙ e)
+which (inr p) s = inl p.0
+
+pub planned_reversion_in-requires-clause-older : goal.planned_reversion_in-requires-clause-older
+planned_reversion_in-requires-clause-older g c =
+    let flat = c.args.self.now in
+    let group = named_group c.args.kept.now (group_of c.args.group.now) in
+    let states = c.kept.result.1.now in
+    let store = g.S.TextStore.list c.kept.result.0.now in
+    let number = c.site-site.result.number in
+    let many = c.seen-count.result in
+    let site : number ≡ flat.site = c.site-site.ensures ∙ ap (λ (f : Flat). f.site) c.self.view_is in
+    let count : many ≡ flat.count = c.seen-count.ensures.value ∙ c.clock.ensures ∙ ap (λ (f : Flat). f.count) c.self.view_is in
+    store_older states store flat many c.kept.ensures.cells c.kept.ensures.history c.kept.ensures.document count
+
+pub planned_reversion_in-requires-clause-count : goal.planned_reversion_in-requires-clause-count
+planned_reversion_in-requires-clause-count g c =
+    let flat = c.args.self.now in
+    let group = named_group c.args.kept.now (group_of c.args.group.now) in
+    let states = c.kept.result.1.now in
+    let store = g.S.TextStore.list c.kept.result.0.now in
+    let number = c.site-site.result.number in
+    let many = c.seen-count.result in
+    let site : number ≡ flat.site = c.site-site.ensures ∙ ap (λ (f : Flat). f.site) c.self.view_is in
+    let count : many ≡ flat.count = c.seen-count.ensures.value ∙ c.clock.ensures ∙ ap (λ (f : Flat). f.count) c.self.view_is in
+    let most = greatest_bound flat.log c.kept.ensures.history in
+    omega (arith, count, c.kept.ensures.document.count, most)
+
+pub returns-in_err-plan-clause-err : goal.returns-in_err-plan-clause-err
+returns-in_err-plan-clause-err g c =
+    let flat = c.args.self.now in
+    let group = named_group c.args.kept.now (group_of c.args.group.now) in
+    let states = c.kept.result.1.now in
+    let store = g.S.TextStore.list c.kept.result.0.now in
+    let number = c.site-site.result.number in
+    let many = c.seen-count.result in
+    let site : number ≡ flat.site = c.site-site.ensures ∙ ap (λ (f : Flat). f.site) c.self.view_is in
+    let count : many ≡ flat.count = c.seen-count.ensures.value ∙ c.clock.ensures ∙ ap (λ (f : Flat). f.count) c.self.view_is in
+    let is : IsOf states store number many flat = record { cells = sym c.kept.ensures.cells; site = sym site; count = sym count } in
+    let e = err_from_is_err_and c.from_residual.result c.from_residual.ensures.1 in
+    rw (e.1, e.2) (not_planned states store number many flat group c.in_err-plan.field-0.0 is c.in_err-plan.ensures.err)
+
+pub prepare_tags-requires : goal.prepare_tags-requires
+prepare_tags-requires g c =
+    subst (All (λ w. IsName (string_bytes w))) (sym c.deref.ensures.value) (names_planned c.in_ok-plan.plan c.in_ok-plan.ensures.names)
+
+pub make-requires : goal.make-requires
+make-requires g c =
+    let flat = c.args.self.now in
+    let group = named_group c.args.kept.now (group_of c.args.group.now) in
+    let states = c.kept.result.1.now in
+    let store = g.S.TextStore.list c.kept.result.0.now in
+    let number = c.site-site.result.number in
+    let many = c.seen-count.result in
+    let site : number ≡ flat.site = c.site-site.ensures ∙ ap (λ (f : Flat). f.site) c.self.view_is in
+    let count : many ≡ flat.count = c.seen-count.ensures.value ∙ c.clock.ensures ∙ ap (λ (f : Flat). f.count) c.self.view_is in
+    let is : IsOf states store number many flat = record { cells = sym c.kept.ensures.cells; site = sym site; count = sym count } in
+    let table = c.planned_reversion_in.new.kept in
+    let plan = c.in_ok-plan.plan in
+    let p : IsPlanned states table store number many flat group plan = record {
+      real = c.kept.ensures.site;
+      history = c.kept.ensures.history;
+      document = c.kept.ensures.document;
+      sound = c.requires.sound;
+      is = is;
+      plans = c.in_ok-plan.ensures.plan;
+      fits = c.in_ok-plan.ensures.fits;
+    } in
+    let plans = planned states table store number many flat group plan p in
+    let i = reverts states table store number many flat group plan p in
+    subst (λ (x : _). x) (λ k. MayBeMade (sym c.self.view_is k).site (sym c.self.view_is k).log (sym plans.drafts k)) (all_may flat group i)
+
+pub returns-in_err-_made-clause-err : goal.returns-in_err-_made-clause-err
+returns-in_err-_made-clause-err g c =
+    let flat = c.args.self.now in
+    let group = named_group c.args.kept.now (group_of c.args.group.now) in
+    let states = c.kept.result.1.now in
+    let store = g.S.TextStore.list c.kept.result.0.now in
+    let number = c.site-site.result.number in
+    let many = c.seen-count.result in
+    let site : number ≡ flat.site = c.site-site.ensures ∙ ap (λ (f : Flat). f.site) c.self.view_is in
+    let count : many ≡ flat.count = c.seen-count.ensures.value ∙ c.clock.ensures ∙ ap (λ (f : Flat). f.count) c.self.view_is in
+    let is : IsOf states store number many flat = record { cells = sym c.kept.ensures.cells; site = sym site; count = sym count } in
+    let table = c.planned_reversion_in.new.kept in
+    let plan = c.in_ok-plan.plan in
+    let p : IsPlanned states table store number many flat group plan = record {
+      real = c.kept.ensures.site;
+      history = c.kept.ensures.history;
+      document = c.kept.ensures.document;
+      sound = c.requires.sound;
+      is = is;
+      plans = c.in_ok-plan.ensures.plan;
+      fits = c.in_ok-plan.ensures.fits;
+    } in
+    let plans = planned states table store number many flat group plan p in
+    let i = reverts states table store number many flat group plan p in
+    let e = err_from_is_err_and c.from_residual-in_err-_made.result c.from_residual-in_err-_made.ensures.1 in
+    let same : refusal_of c.self.inside.replica.limit (map body_of plan.drafts.items) c.self.inside.replica.log ≡ reversion_check flat group =
+    (λ k. refusal_of (c.self.view_is k).limit (plans.drafts k) (c.self.view_is k).log) ∙ all_refused flat group i in
+    rw (e.1, e.2) (which c.in_err-_made.ensures.refused same)
+
+pub move_for_all-requires-clause-changes : goal.move_for_all-requires-clause-changes
+move_for_all-requires-clause-changes g c =
+    subst (AllByRecursion IsChange) (sym c.deref-2.ensures.value) c.in_ok-plan.ensures.changes
+
+pub move_for_all-requires-clause-fits : goal.move_for_all-requires-clause-fits
+move_for_all-requires-clause-fits g c =
+    let flat = c.args.self.now in
+    let group = named_group c.args.kept.now (group_of c.args.group.now) in
+    let states = c.kept.result.1.now in
+    let store = g.S.TextStore.list c.kept.result.0.now in
+    let number = c.site-site.result.number in
+    let many = c.seen-count.result in
+    let site : number ≡ flat.site = c.site-site.ensures ∙ ap (λ (f : Flat). f.site) c.self.view_is in
+    let count : many ≡ flat.count = c.seen-count.ensures.value ∙ c.clock.ensures ∙ ap (λ (f : Flat). f.count) c.self.view_is in
+    let plan = c.in_ok-plan.plan in
+    let n = length (text_of c.self.inside.replica.cells) in
+    let text : n ≡ length (text_of flat.cells) = ap (λ (f : Flat). length (text_of f.cells)) c.self.view_is in
+    let cells : length flat.cells ≡ length store = ap length (sym c.kept.ensures.cells) ∙ length-map store (shown states) in
+    let within : n ≤ MOST_CELLS = omega (arith, text, cells, text_within flat.cells, c.kept.ensures.few, c.kept.ensures.most) in
+    let changes : c.deref-2.result.now ≡ plan.changes.items = c.deref-2.ensures.value in
+    let few : length c.deref-2.result.now ≤ 2 ^ 63 = omega (arith, ap length changes, plan.changes.ok.0, plan.changes.ok.1, plan.changes.small) in
+    site_fits n (length c.deref-2.result.now) (2 ^ 64 - 1) c.self.inside.marks (omega (arith, within, few)) c.self.invariant.placed
+
+pub move_for_all-requires-clause-insert : goal.move_for_all-requires-clause-insert
+move_for_all-requires-clause-insert g c =
+    let flat = c.args.self.now in
+    let group = named_group c.args.kept.now (group_of c.args.group.now) in
+    let states = c.kept.result.1.now in
+    let store = g.S.TextStore.list c.kept.result.0.now in
+    let number = c.site-site.result.number in
+    let many = c.seen-count.result in
+    let site : number ≡ flat.site = c.site-site.ensures ∙ ap (λ (f : Flat). f.site) c.self.view_is in
+    let count : many ≡ flat.count = c.seen-count.ensures.value ∙ c.clock.ensures ∙ ap (λ (f : Flat). f.count) c.self.view_is in
+    let plan = c.in_ok-plan.plan in
+    let n = length (text_of c.self.inside.replica.cells) in
+    let text : n ≡ length (text_of flat.cells) = ap (λ (f : Flat). length (text_of f.cells)) c.self.view_is in
+    let cells : length flat.cells ≡ length store = ap length (sym c.kept.ensures.cells) ∙ length-map store (shown states) in
+    let within : n ≤ MOST_CELLS = omega (arith, text, cells, text_within flat.cells, c.kept.ensures.few, c.kept.ensures.most) in
+    let changes : c.deref-2.result.now ≡ plan.changes.items = c.deref-2.ensures.value in
+    let few : length c.deref-2.result.now ≤ 2 ^ 63 = omega (arith, ap length changes, plan.changes.ok.0, plan.changes.ok.1, plan.changes.small) in
+    let place : c.widget.inside.insert.place ≡ c.args.widget.now.insert.place = ap (λ (o : Own). o.insert.place) c.widget.view_is in
+    omega (arith, place, text, within, few, c.requires.own.0)
+
+pub move_for_all-requires-clause-current : goal.move_for_all-requires-clause-current
+move_for_all-requires-clause-current g c =
+    let flat = c.args.self.now in
+    let group = named_group c.args.kept.now (group_of c.args.group.now) in
+    let states = c.kept.result.1.now in
+    let store = g.S.TextStore.list c.kept.result.0.now in
+    let number = c.site-site.result.number in
+    let many = c.seen-count.result in
+    let site : number ≡ flat.site = c.site-site.ensures ∙ ap (λ (f : Flat). f.site) c.self.view_is in
+    let count : many ≡ flat.count = c.seen-count.ensures.value ∙ c.clock.ensures ∙ ap (λ (f : Flat). f.count) c.self.view_is in
+    let plan = c.in_ok-plan.plan in
+    let n = length (text_of c.self.inside.replica.cells) in
+    let text : n ≡ length (text_of flat.cells) = ap (λ (f : Flat). length (text_of f.cells)) c.self.view_is in
+    let cells : length flat.cells ≡ length store = ap length (sym c.kept.ensures.cells) ∙ length-map store (shown states) in
+    let within : n ≤ MOST_CELLS = omega (arith, text, cells, text_within flat.cells, c.kept.ensures.few, c.kept.ensures.most) in
+    let changes : c.deref-2.result.now ≡ plan.changes.items = c.deref-2.ensures.value in
+    let few : length c.deref-2.result.now ≤ 2 ^ 63 = omega (arith, ap length changes, plan.changes.ok.0, plan.changes.ok.1, plan.changes.small) in
+    let place : c.widget.inside.current.place ≡ c.args.widget.now.current.place = ap (λ (o : Own). o.current.place) c.widget.view_is in
+    omega (arith, place, text, within, few, c.requires.own.1)
+
+pub list_tags-requires-clause-names : goal.list_tags-requires-clause-names
+list_tags-requires-clause-names g c =
+    subst (All (λ w. IsName (string_bytes w))) (sym c.deref-3.ensures.value) (names_planned c.in_ok-plan.plan c.in_ok-plan.ensures.names)
+
+pub invariant_of-self-2 : goal.invariant_of-self-2
+invariant_of-self-2 g c =
+    let flat = c.args.self.now in
+    let group = named_group c.args.kept.now (group_of c.args.group.now) in
+    let states = c.kept.result.1.now in
+    let store = g.S.TextStore.list c.kept.result.0.now in
+    let number = c.site-site.result.number in
+    let many = c.seen-count.result in
+    let site : number ≡ flat.site = c.site-site.ensures ∙ ap (λ (f : Flat). f.site) c.self.view_is in
+    let count : many ≡ flat.count = c.seen-count.ensures.value ∙ c.clock.ensures ∙ ap (λ (f : Flat). f.count) c.self.view_is in
+    let is : IsOf states store number many flat = record { cells = sym c.kept.ensures.cells; site = sym site; count = sym count } in
+    let table = c.planned_reversion_in.new.kept in
+    let plan = c.in_ok-plan.plan in
+    let p : IsPlanned states table store number many flat group plan = record {
+      real = c.kept.ensures.site;
+      history = c.kept.ensures.history;
+      document = c.kept.ensures.document;
+      sound = c.requires.sound;
+      is = is;
+      plans = c.in_ok-plan.ensures.plan;
+      fits = c.in_ok-plan.ensures.fits;
+    } in
+    let plans = planned states table store number many flat group plan p in
+    let i = reverts states table store number many flat group plan p in
+    let left = (reversion flat group).doc in
+    let doc : seen c.make.new.self left.marks left.tags ≡ reverted flat group =
+    left_seen flat group i c.make.new.self (c.in_ok-_made.ensures.log ∙ (λ k. with_drafts (c.self.view_is k).site (plans.drafts k) (c.self.view_is k).log)) c.in_ok-_made.ensures.cells
+    (c.make.ensures.site ∙ ap (λ (f : Flat). f.site) c.self.view_is) (c.make.ensures.limit ∙ ap (λ (f : Flat). f.limit) c.self.view_is) in
+    let marks : c.move_for_all.new.marks ≡ left.marks = c.move_for_all.ensures.marks ∙ (λ k. marks_after (c.deref-2.ensures.value k) (c.self.view_is k).marks) ∙ plans.marks in
+    let tags : c.list_tags.new.table.names ≡ left.tags =
+    c.list_tags.ensures ∙ (λ k. all_listed (map (λ w. string_bytes w) (c.deref-3.ensures.value k)) (c.prepare_tags.ensures.names k)) ∙ ap (λ (f : Flat). all_listed (map (λ w. string_bytes w) plan.names.items) f.tags) c.self.view_is ∙ plans.tags in
+    let kept : IsDoc flat.cells flat.marks flat.tags = subst (λ (f : Flat). IsDoc f.cells f.marks f.tags) c.self.view_is c.self.invariant in
+    subst (λ (x : _). x) (λ k. IsDoc (sym doc k).cells (sym marks k) (sym tags k)) (left_kept flat group i kept)
+
+pub returns-clause-doc : goal.returns-clause-doc
+returns-clause-doc g c =
+    let flat = c.args.self.now in
+    let group = named_group c.args.kept.now (group_of c.args.group.now) in
+    let states = c.kept.result.1.now in
+    let store = g.S.TextStore.list c.kept.result.0.now in
+    let number = c.site-site.result.number in
+    let many = c.seen-count.result in
+    let site : number ≡ flat.site = c.site-site.ensures ∙ ap (λ (f : Flat). f.site) c.self.view_is in
+    let count : many ≡ flat.count = c.seen-count.ensures.value ∙ c.clock.ensures ∙ ap (λ (f : Flat). f.count) c.self.view_is in
+    let is : IsOf states store number many flat = record { cells = sym c.kept.ensures.cells; site = sym site; count = sym count } in
+    let table = c.planned_reversion_in.new.kept in
+    let plan = c.in_ok-plan.plan in
+    let p : IsPlanned states table store number many flat group plan = record {
+      real = c.kept.ensures.site;
+      history = c.kept.ensures.history;
+      document = c.kept.ensures.document;
+      sound = c.requires.sound;
+      is = is;
+      plans = c.in_ok-plan.ensures.plan;
+      fits = c.in_ok-plan.ensures.fits;
+    } in
+    let plans = planned states table store number many flat group plan p in
+    let i = reverts states table store number many flat group plan p in
+    let left = (reversion flat group).doc in
+    let doc : seen c.make.new.self left.marks left.tags ≡ reverted flat group =
+    left_seen flat group i c.make.new.self (c.in_ok-_made.ensures.log ∙ (λ k. with_drafts (c.self.view_is k).site (plans.drafts k) (c.self.view_is k).log)) c.in_ok-_made.ensures.cells
+    (c.make.ensures.site ∙ ap (λ (f : Flat). f.site) c.self.view_is) (c.make.ensures.limit ∙ ap (λ (f : Flat). f.limit) c.self.view_is) in
+    let marks : c.move_for_all.new.marks ≡ left.marks = c.move_for_all.ensures.marks ∙ (λ k. marks_after (c.deref-2.ensures.value k) (c.self.view_is k).marks) ∙ plans.marks in
+    let tags : c.list_tags.new.table.names ≡ left.tags =
+    c.list_tags.ensures ∙ (λ k. all_listed (map (λ w. string_bytes w) (c.deref-3.ensures.value k)) (c.prepare_tags.ensures.names k)) ∙ ap (λ (f : Flat). all_listed (map (λ w. string_bytes w) plan.names.items) f.tags) c.self.view_is ∙ plans.tags in
+    (λ k. seen c.make.new.self (marks k) (tags k)) ∙ doc
+
+pub returns-clause-widget : goal.returns-clause-widget
+returns-clause-widget g c =
+    let flat = c.args.self.now in
+    let group = named_group c.args.kept.now (group_of c.args.group.now) in
+    let states = c.kept.result.1.now in
+    let store = g.S.TextStore.list c.kept.result.0.now in
+    let number = c.site-site.result.number in
+    let many = c.seen-count.result in
+    let site : number ≡ flat.site = c.site-site.ensures ∙ ap (λ (f : Flat). f.site) c.self.view_is in
+    let count : many ≡ flat.count = c.seen-count.ensures.value ∙ c.clock.ensures ∙ ap (λ (f : Flat). f.count) c.self.view_is in
+    let is : IsOf states store number many flat = record { cells = sym c.kept.ensures.cells; site = sym site; count = sym count } in
+    let table = c.planned_reversion_in.new.kept in
+    let plan = c.in_ok-plan.plan in
+    let p : IsPlanned states table store number many flat group plan = record {
+      real = c.kept.ensures.site;
+      history = c.kept.ensures.history;
+      document = c.kept.ensures.document;
+      sound = c.requires.sound;
+      is = is;
+      plans = c.in_ok-plan.ensures.plan;
+      fits = c.in_ok-plan.ensures.fits;
+    } in
+    let plans = planned states table store number many flat group plan p in
+    let i = reverts states table store number many flat group plan p in
+    let own = c.args.widget.now in
+    let moved : c.move_for_all.new.widget ≡ own_reverted flat group own =
+    c.move_for_all.ensures.own ∙ (λ k. own_after (c.deref-2.ensures.value k) (c.widget.view_is k)) ∙ own_moved states table store number many flat group plan p own in
+    moved
+
+pub returns-clause-checked : goal.returns-clause-checked
+returns-clause-checked g c =
+    let flat = c.args.self.now in
+    let group = named_group c.args.kept.now (group_of c.args.group.now) in
+    let states = c.kept.result.1.now in
+    let store = g.S.TextStore.list c.kept.result.0.now in
+    let number = c.site-site.result.number in
+    let many = c.seen-count.result in
+    let site : number ≡ flat.site = c.site-site.ensures ∙ ap (λ (f : Flat). f.site) c.self.view_is in
+    let count : many ≡ flat.count = c.seen-count.ensures.value ∙ c.clock.ensures ∙ ap (λ (f : Flat). f.count) c.self.view_is in
+    let is : IsOf states store number many flat = record { cells = sym c.kept.ensures.cells; site = sym site; count = sym count } in
+    let table = c.planned_reversion_in.new.kept in
+    let plan = c.in_ok-plan.plan in
+    let p : IsPlanned states table store number many flat group plan = record {
+      real = c.kept.ensures.site;
+      history = c.kept.ensures.history;
+      document = c.kept.ensures.document;
+      sound = c.requires.sound;
+      is = is;
+      plans = c.in_ok-plan.ensures.plan;
+      fits = c.in_ok-plan.ensures.fits;
+    } in
+    let plans = planned states table store number many flat group plan p in
+    let i = reverts states table store number many flat group plan p in
+    sym (all_refused flat group i) ∙ sym (λ k. refusal_of (c.self.view_is k).limit (plans.drafts k) (c.self.view_is k).log) ∙ c.in_ok-_made.ensures.fits
+
+pub returns-clause-returns : goal.returns-clause-returns
+returns-clause-returns g c =
+    let flat = c.args.self.now in
+    let group = named_group c.args.kept.now (group_of c.args.group.now) in
+    let states = c.kept.result.1.now in
+    let store = g.S.TextStore.list c.kept.result.0.now in
+    let number = c.site-site.result.number in
+    let many = c.seen-count.result in
+    let site : number ≡ flat.site = c.site-site.ensures ∙ ap (λ (f : Flat). f.site) c.self.view_is in
+    let count : many ≡ flat.count = c.seen-count.ensures.value ∙ c.clock.ensures ∙ ap (λ (f : Flat). f.count) c.self.view_is in
+    let is : IsOf states store number many flat = record { cells = sym c.kept.ensures.cells; site = sym site; count = sym count } in
+    let table = c.planned_reversion_in.new.kept in
+    let plan = c.in_ok-plan.plan in
+    let p : IsPlanned states table store number many flat group plan = record {
+      real = c.kept.ensures.site;
+      history = c.kept.ensures.history;
+      document = c.kept.ensures.document;
+      sound = c.requires.sound;
+      is = is;
+      plans = c.in_ok-plan.ensures.plan;
+      fits = c.in_ok-plan.ensures.fits;
+    } in
+    let plans = planned states table store number many flat group plan p in
+    let i = reverts states table store number many flat group plan p in
+    plans.returns
+
+pub returns-clause-actions : goal.returns-clause-actions
+returns-clause-actions g c =
+    let flat = c.args.self.now in
+    let group = named_group c.args.kept.now (group_of c.args.group.now) in
+    let states = c.kept.result.1.now in
+    let store = g.S.TextStore.list c.kept.result.0.now in
+    let number = c.site-site.result.number in
+    let many = c.seen-count.result in
+    let site : number ≡ flat.site = c.site-site.ensures ∙ ap (λ (f : Flat). f.site) c.self.view_is in
+    let count : many ≡ flat.count = c.seen-count.ensures.value ∙ c.clock.ensures ∙ ap (λ (f : Flat). f.count) c.self.view_is in
+    let is : IsOf states store number many flat = record { cells = sym c.kept.ensures.cells; site = sym site; count = sym count } in
+    let table = c.planned_reversion_in.new.kept in
+    let plan = c.in_ok-plan.plan in
+    let p : IsPlanned states table store number many flat group plan = record {
+      real = c.kept.ensures.site;
+      history = c.kept.ensures.history;
+      document = c.kept.ensures.document;
+      sound = c.requires.sound;
+      is = is;
+      plans = c.in_ok-plan.ensures.plan;
+      fits = c.in_ok-plan.ensures.fits;
+    } in
+    let plans = planned states table store number many flat group plan p in
+    let i = reverts states table store number many flat group plan p in
+    plans.actions
+
+pub returns-clause-sound : goal.returns-clause-sound
+returns-clause-sound g c =
+    let flat = c.args.self.now in
+    let group = named_group c.args.kept.now (group_of c.args.group.now) in
+    let states = c.kept.result.1.now in
+    let store = g.S.TextStore.list c.kept.result.0.now in
+    let number = c.site-site.result.number in
+    let many = c.seen-count.result in
+    let site : number ≡ flat.site = c.site-site.ensures ∙ ap (λ (f : Flat). f.site) c.self.view_is in
+    let count : many ≡ flat.count = c.seen-count.ensures.value ∙ c.clock.ensures ∙ ap (λ (f : Flat). f.count) c.self.view_is in
+    let is : IsOf states store number many flat = record { cells = sym c.kept.ensures.cells; site = sym site; count = sym count } in
+    let table = c.planned_reversion_in.new.kept in
+    let plan = c.in_ok-plan.plan in
+    let p : IsPlanned states table store number many flat group plan = record {
+      real = c.kept.ensures.site;
+      history = c.kept.ensures.history;
+      document = c.kept.ensures.document;
+      sound = c.requires.sound;
+      is = is;
+      plans = c.in_ok-plan.ensures.plan;
+      fits = c.in_ok-plan.ensures.fits;
+    } in
+    let plans = planned states table store number many flat group plan p in
+    let i = reverts states table store number many flat group plan p in
+    subst AreSound (sym plans.actions) (reversion_sound flat.site flat.log flat group i.real i.history i.document i.sound i.fits)
+
+pub returns-clause-own : goal.returns-clause-own
+returns-clause-own g c =
+    let flat = c.args.self.now in
+    let group = named_group c.args.kept.now (group_of c.args.group.now) in
+    let states = c.kept.result.1.now in
+    let store = g.S.TextStore.list c.kept.result.0.now in
+    let number = c.site-site.result.number in
+    let many = c.seen-count.result in
+    let site : number ≡ flat.site = c.site-site.ensures ∙ ap (λ (f : Flat). f.site) c.self.view_is in
+    let count : many ≡ flat.count = c.seen-count.ensures.value ∙ c.clock.ensures ∙ ap (λ (f : Flat). f.count) c.self.view_is in
+    let is : IsOf states store number many flat = record { cells = sym c.kept.ensures.cells; site = sym site; count = sym count } in
+    let table = c.planned_reversion_in.new.kept in
+    let plan = c.in_ok-plan.plan in
+    let p : IsPlanned states table store number many flat group plan = record {
+      real = c.kept.ensures.site;
+      history = c.kept.ensures.history;
+      document = c.kept.ensures.document;
+      sound = c.requires.sound;
+      is = is;
+      plans = c.in_ok-plan.ensures.plan;
+      fits = c.in_ok-plan.ensures.fits;
+    } in
+    let plans = planned states table store number many flat group plan p in
+    let i = reverts states table store number many flat group plan p in
+    let left = (reversion flat group).doc in
+    let doc : seen c.make.new.self left.marks left.tags ≡ reverted flat group =
+    left_seen flat group i c.make.new.self (c.in_ok-_made.ensures.log ∙ (λ k. with_drafts (c.self.view_is k).site (plans.drafts k) (c.self.view_is k).log)) c.in_ok-_made.ensures.cells
+    (c.make.ensures.site ∙ ap (λ (f : Flat). f.site) c.self.view_is) (c.make.ensures.limit ∙ ap (λ (f : Flat). f.limit) c.self.view_is) in
+    let own = c.args.widget.now in
+    let moved : c.move_for_all.new.widget ≡ own_reverted flat group own =
+    c.move_for_all.ensures.own ∙ (λ k. own_after (c.deref-2.ensures.value k) (c.widget.view_is k)) ∙ own_moved states table store number many flat group plan p own in
+    subst (λ (x : _). x) (λ k. IsOwnOf (length (text_of (sym doc k).cells)) (sym moved k)) (own_left_in states table store number many flat group plan p own c.requires.own)

@@ -1,0 +1,28 @@
+-- Groups of actions that are reverted in a document as a widget shows it (Tk text manual, "The undo mechanism").
+use Rattle.std.specs.Prelude.{List, [], ◌∷◌, length, Option, slice_get, unwrap_or}
+use Rattle.rt_marks.specs.Marks.{Mark}
+use Rattle.rt_stamps.specs.declared.fault.Fault.{Fault}
+use Rattle.rt_stamps.specs.Outcomes.{first_of}
+use Rattle.rt_stamps.specs.Words.{Word}
+use Rattle.rt_edits.specs.Flat.{Flat}
+use Rattle.rt_undo.specs.Actions.{Action}
+use Rattle.rt_revert.specs.Reverting.{reversion, reverted}
+use Rattle.rt_text.specs.Commands.{cell_check, clock_check}
+use Rattle.rt_text.specs.Widgets.{Own, Viewed}
+
+-- where a mark comes to stand when a group is reverted: where it would as the only mark of the document
+abbrev pub mark_reverted : Flat → List (Action (List Word)) → Mark → Mark
+mark_reverted flat group m = unwrap_or (slice_get (reversion (record flat { marks = m ∷ [] }) group).doc.marks 0) m
+
+-- a widget's own marks move with the text as all marks do; what is selected stays so, and no character that comes back is selected
+abbrev pub own_reverted : Flat → List (Action (List Word)) → Own → Own
+own_reverted flat group own = record own { insert = mark_reverted flat group own.insert; current = mark_reverted flat group own.current }
+
+abbrev pub view_reverted : Viewed → List (Action (List Word)) → Viewed
+view_reverted view group = record view { doc = reverted view.doc group; own = own_reverted view.doc group view.own }
+
+-- why a group can't be reverted: its counts don't fit, or the cells of the document that it leaves
+abbrev pub reversion_check : Flat → List (Action (List Word)) → Option Fault
+reversion_check flat group =
+    let left = reverted flat group in
+    first_of (clock_check left.count ∷ cell_check flat.limit (length left.cells) ∷ [])
