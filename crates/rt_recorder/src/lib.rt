@@ -4,6 +4,7 @@
 #![tactic(auto)]
 
 mod coming;
+mod counting;
 mod own;
 pub mod recorder;
 

@@ -11,6 +11,8 @@ ghost use Rattle.rt_recorder.specs.Naming.{AreGiven, named_group};
 ghost use Rattle.rt_recorder.specs.Recordings.{HasStayed, HaveStayed, came_back, made};
 ghost use Rattle.rt_recorder.specs.Returns.{AreReturns, back_after, stamp_after};
 
+mod reverting;
+
 use crate::{coming, own};
 use rt_revert::Return;
 use rt_stamps::{Fault, Site, Span};
@@ -75,7 +77,7 @@ impl Recorder {
     }
 
     /// Whether edits are recorded, so that they can be undone (`-undo`).
-    pub fn undo(&self) -> bool
+    pub fn is_undo_on(&self) -> bool
         ensures { result ≡ self.now.undo }
     {
         self.undo
@@ -219,47 +221,34 @@ impl Recorder {
         self.stacks.can_redo()
     }
 
-    /// A copy of the group to undo, its actions oldest first. `NothingToUndo` just where there is none,
-    /// and else only `NoMemory`.
-    pub fn undo_group(&self) -> Result<Vec<Action>, Fault>
+    // A copy of the group to undo, its actions oldest first. `NothingToUndo` just where there is none,
+    // and else only `NoMemory`.
+    fn undo_group(&self) -> Result<Vec<Action>, Fault>
         ensures ok { IfOk result (λ group. next_undo self.now.history ≡ Some (named_group self.now.table (group_of group.items))) }
         ensures given { IfOk result (λ group. AreGiven self.now.table (group_of group.items)) }
+        ensures stay { IfOk result (λ group. HaveStayed (came_back self.now) (named_group self.now.table (group_of group.items))) }
         ensures none { (result ≡ Err Fault.NothingToUndo) ↔ (next_undo self.now.history ≡ None) }
         ensures fault { IfErr result (λ fault. (fault ≡ Fault.NothingToUndo) ⊎ (fault ≡ Fault.NoMemory)) }
     {
         self.stacks.undo()
     }
 
-    /// A copy of the group to redo, its actions in the order in which they were reverted.
-    /// `NothingToRedo` just where there is none, and else only `NoMemory`.
-    pub fn redo_group(&self) -> Result<Vec<Action>, Fault>
+    // A copy of the group to redo, its actions in the order in which they were reverted.
+    // `NothingToRedo` just where there is none, and else only `NoMemory`.
+    fn redo_group(&self) -> Result<Vec<Action>, Fault>
         ensures ok { IfOk result (λ group. next_redo self.now.history ≡ Some (named_group self.now.table (group_of group.items))) }
         ensures given { IfOk result (λ group. AreGiven self.now.table (group_of group.items)) }
+        ensures stay { IfOk result (λ group. HaveStayed (came_back self.now) (named_group self.now.table (group_of group.items))) }
         ensures none { (result ≡ Err Fault.NothingToRedo) ↔ (next_redo self.now.history ≡ None) }
         ensures fault { IfErr result (λ fault. (fault ≡ Fault.NothingToRedo) ⊎ (fault ≡ Fault.NoMemory)) }
     {
         self.stacks.redo()
     }
 
-    /// Makes room for one `undone` or `redone`, and for so many characters that come back by it. After
-    /// `NoMemory` all is as it was.
-    pub fn begin(&mut self, returns: usize) -> Result<(), Fault>
-        requires { returns < 2 ^ 32 }
-        ensures room { OnOk result ((self.new.ready ≡ true) × (returns ≤ self.new.moves.room)) }
-        ensures history { self.new.history ≡ self.old.history }
-        ensures settings { (self.new.undo ≡ self.old.undo) × (self.new.auto ≡ self.old.auto) }
-        ensures came_back { (stamp : Stamp) → came_back self.new stamp ≡ came_back self.old stamp }
-        ensures others { (self.new.pending ≡ self.old.pending) × (self.new.table ≡ self.old.table) }
-        ensures err { OnErr result (self.new ≡ self.old) }
-        ensures fault { IfErr result (λ fault. fault ≡ Fault.NoMemory) }
-    {
-        self.stacks.reserve(returns)
-    }
-
-    /// The group to undo was reverted, and characters came back by it, one after the other: it leaves its
-    /// stack, and its reverted actions are the next group to redo. Nothing is prepared then. It takes no
-    /// memory.
-    pub fn undone(&mut self, returns: &[Return], reverted: Vec<Action>)
+    // The group to undo was reverted, and characters came back by it, one after the other: it leaves its
+    // stack, and its reverted actions are the next group to redo. Nothing is prepared then. It takes no
+    // memory.
+    fn undone(&mut self, returns: &[Return], reverted: Vec<Action>)
         requires ready { self.old.ready ≡ true }
         requires room { length returns.now ≤ self.old.moves.room }
         requires some { is_some (next_undo self.old.history) ≡ true }
@@ -277,10 +266,10 @@ impl Recorder {
         self.stacks.undone(reverted);
     }
 
-    /// The group to redo was reverted, and characters came back by it, one after the other: it leaves its
-    /// stack, and its reverted actions are the next group to undo, which is closed. Nothing is prepared
-    /// then. It takes no memory.
-    pub fn redone(&mut self, returns: &[Return], reverted: Vec<Action>)
+    // The group to redo was reverted, and characters came back by it, one after the other: it leaves its
+    // stack, and its reverted actions are the next group to undo, which is closed. Nothing is prepared
+    // then. It takes no memory.
+    fn redone(&mut self, returns: &[Return], reverted: Vec<Action>)
         requires ready { self.old.ready ≡ true }
         requires room { length returns.now ≤ self.old.moves.room }
         requires some { is_some (next_redo self.old.history) ≡ true }

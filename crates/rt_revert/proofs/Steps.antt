@@ -48,7 +48,7 @@ pub record IsOnWay (site : ℕ) (log : List Operation) (r : Reversion) : Type 0 
 
 -- CHARACTERS THAT GO
 
-gone_step : (site : ℕ) (log : List Operation) (stamps : List Stamp) (r : Reversion) → 0 < site → IsOnWay site log r → is_among stamps FINAL ≡ false
+pub gone_step : (site : ℕ) (log : List Operation) (stamps : List Stamp) (r : Reversion) → 0 < site → IsOnWay site log r → is_among stamps FINAL ≡ false
     → (with_gone stamps r).doc.count ≤ GREATEST_COUNT → IsOnWay site log (with_gone stamps r)
 gone_step site log stamps r p h n l =
     let places = are_at stamps r.doc.cells in
@@ -123,7 +123,7 @@ character_step site log stamp tags cell r p h n t e l =
 abbrev brought : Stamp → List Word → Option TaggedCell → Reversion → Reversion
 brought stamp tags o r = unwrap_or (option_map (λ (cell : TaggedCell). with_character stamp tags cell.ch r) o) r
 
-return_step : (site : ℕ) (log : List Operation) (removed : Removed (List Word)) (r : Reversion) → 0 < site → IsOnWay site log r → MayReturn removed
+pub return_step : (site : ℕ) (log : List Operation) (removed : Removed (List Word)) (r : Reversion) → 0 < site → IsOnWay site log r → MayReturn removed
     → (with_return removed r).doc.count ≤ GREATEST_COUNT → IsOnWay site log (with_return removed r)
 return_step site log removed r p h c l = by (gone_cell_of r.doc.cells stamp) refl l
   where
@@ -198,7 +198,7 @@ pub all_reversed : {X : Type 0} (P : X → Type 0) (xs : List X) → AllByRecurs
 all_reversed P [] h = tt
 all_reversed P (x ∷ xs) h = subst (AllByRecursion P) (sym (reverse-cons x xs)) (every_append P (reverse xs) (x ∷ []) (all_reversed P xs h.1) (h.0, tt))
 
-on_way : (site : ℕ) (log : List Operation) (flat : Flat) (group : List (Action (List Word))) → 0 < site → IsHistory log → IsDocument site log flat → AreSound group
+pub on_way : (site : ℕ) (log : List Operation) (flat : Flat) (group : List (Action (List Word))) → 0 < site → IsHistory log → IsDocument site log flat → AreSound group
     → (reversion flat group).doc.count ≤ GREATEST_COUNT → IsOnWay site log (reversion flat group)
 on_way site log flat group p h doc s l =
     all_steps site log (reverse group) (as_it_is flat) p (record { may = tt; history = h; document = doc; apart = tt; sound = tt }) (all_reversed IsSound group s) l

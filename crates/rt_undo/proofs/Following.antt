@@ -192,3 +192,23 @@ renamed_one old new s =
     ∙ (λ i. record { count = k i; site = new.site })
     ∙ sym (ap (λ b. cond b new s) yes))
     (λ no. renamed_out span new s (in_one_no old s no) ∙ sym (ap (λ b. cond b new s) no))
+
+-- AT THE END
+
+follow_still : (n : ℕ) (moves : Shown Move) (s : Stamp) → AreRising moves → GREATEST_COUNT ≤ n + s.count → is_moved moves (follow n moves s) ≡ false
+follow_still zero moves s rising far =
+    by_look (value_of moves s)
+    (λ none. ap (is_moved moves) (now_zero moves s) ∙ ap is_some none)
+    (λ m some. let l : LeadsOn m s = rising s m some in let a = l.later in let b = l.bounded in absurd (omega arith))
+follow_still (suc n) moves s rising far =
+    by_look (value_of moves s)
+    (λ none. ap (is_moved moves) (follow_ends (suc n) moves s none) ∙ ap is_some none)
+    (λ m some. let l : LeadsOn m s = rising s m some in let a = l.later in
+    ap (is_moved moves) (follow_on n moves s m some) ∙ follow_still n moves (target m s) rising (omega arith))
+
+-- the stamp that a character has now leads no further
+pub now_still : (moves : Shown Move) → AreRising moves → (s : Stamp) → is_moved moves (now_of moves s) ≡ false
+unfolding now_of
+now_still moves rising s =
+    let far : GREATEST_COUNT ≤ GREATEST_COUNT + s.count = omega arith in
+    follow_still GREATEST_COUNT moves s rising far

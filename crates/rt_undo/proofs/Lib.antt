@@ -1,3 +1,4 @@
 pub mod Following
 pub mod Copying
 pub mod Histories
+pub mod Still

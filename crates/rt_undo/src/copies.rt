@@ -2,6 +2,7 @@
 ghost use Rattle.std.specs.Prelude.{◌≡◌, [], ◌∷◌, ◌++◌, ◌&&◌, map, IfErr, IfOk, OnOk};
 ghost use Rattle.rt_oplog.specs.Operations.{stamps_in, stamps_of_span};
 ghost use Rattle.rt_undo.specs.Actions.{action_of, group_of, removed_in, removed_with, with_stamp, with_stamps};
+ghost use Rattle.rt_undo.specs.Groups.{AreStill};
 ghost use Rattle.rt_undo.specs.Renames.{now_of};
 ghost use Rattle.rt_undo.specs.Undo.{with_stamps_in};
 ghost use Rattle.rt_undo.specs.Copies.{is_next};
@@ -114,11 +115,13 @@ impl Action {
     }
 }
 
-/// A group, by the stamps that its characters have now. Want of memory.
+/// A group, by the stamps that its characters have now, none of which is moved. Want of memory.
 pub fn group_now(alloc: Global, renames: &Renames, group: &[Action]) -> Result<Vec<Action>, Fault>
     ensures ok { IfOk result (λ copy. group_of copy.items ≡ with_stamps_in (now_of renames.now) (group_of group.now)) }
+    ensures still { IfOk result (λ copy. AreStill renames.now (group_of copy.items)) }
     ensures fault { IfErr result (λ fault. fault ≡ Fault.NoMemory) }
 {
+    renames.ends();
     let mut copy = Vec::new(alloc);
     for action in group {
         copy.push(action.renamed(alloc, renames)?)?;

@@ -88,6 +88,13 @@ impl Renames {
         newest
     }
 
+    // The stamp that a character has now leads no further.
+    pub(crate) fn ends(&self)
+        ensures { (stamp : Stamp) → is_moved self.now (now_of self.now stamp) ≡ false }
+    {
+        let _ = &self.map;
+    }
+
     /// The characters of a span came back under the stamp `newer` and the next counts. Neither they nor
     /// those stamps came back before. It takes no memory, and one of the room.
     pub fn rename(&mut self, former: Span, newer: Stamp)

@@ -282,10 +282,11 @@ impl Stacks {
         !self.undone.is_empty()
     }
 
-    /// A copy of the group to undo, its actions oldest first. `NothingToUndo` just where there is none,
-    /// and else only `NoMemory`.
+    /// A copy of the group to undo, its actions oldest first; it names no stamp that is moved.
+    /// `NothingToUndo` just where there is none, and else only `NoMemory`.
     pub fn undo(&self) -> Result<Vec<Action>, Fault>
         ensures ok { IfOk result (λ group. next_undo self.now.history ≡ Some (group_of group.items)) }
+        ensures still { IfOk result (λ group. AreStill self.now.moves (group_of group.items)) }
         ensures none { (result ≡ Err Fault.NothingToUndo) ↔ (next_undo self.now.history ≡ None) }
         ensures fault { IfErr result (λ fault. (fault ≡ Fault.NothingToUndo) ⊎ (fault ≡ Fault.NoMemory)) }
     {
@@ -295,10 +296,11 @@ impl Stacks {
         }
     }
 
-    /// A copy of the group to redo, its actions in the order in which they were reverted.
-    /// `NothingToRedo` just where there is none, and else only `NoMemory`.
+    /// A copy of the group to redo, its actions in the order in which they were reverted; it names no
+    /// stamp that is moved. `NothingToRedo` just where there is none, and else only `NoMemory`.
     pub fn redo(&self) -> Result<Vec<Action>, Fault>
         ensures ok { IfOk result (λ group. next_redo self.now.history ≡ Some (group_of group.items)) }
+        ensures still { IfOk result (λ group. AreStill self.now.moves (group_of group.items)) }
         ensures none { (result ≡ Err Fault.NothingToRedo) ↔ (next_redo self.now.history ≡ None) }
         ensures fault { IfErr result (λ fault. (fault ≡ Fault.NothingToRedo) ⊎ (fault ≡ Fault.NoMemory)) }
     {

@@ -9,7 +9,7 @@ use super::Doc;
 use crate::Widget;
 use crate::ground::WidgetGround;
 use crate::index::position_at;
-use rt_stamps::Position;
+use rt_stamps::{Position, Site};
 use rt_store::TextStore;
 
 impl<S: TextStore> Doc<S> {
@@ -29,6 +29,13 @@ impl<S: TextStore> Doc<S> {
             tags: &self.tags,
             widget,
         }
+    }
+
+    /// The site whose document it is.
+    pub fn site(&self) -> Site
+        ensures { result.number ≡ self.now.site }
+    {
+        self.replica.site()
     }
 
     /// The greatest count of its operations, 0 where it has none.
