@@ -87,21 +87,21 @@ module _ (flat : Flat) (kept : IsOfLog flat) (back : Stamp → Bool) (gone : (s 
   taken_stay : (places : ℕ → Bool) (place : ℕ) (cells : List TaggedCell) → AllByRecursion TellsGone cells
       → AllByRecursion (λ (r : Removed (List Word)). back r.stamp ≡ false) (map as_removed (cells_at places place cells))
   taken_stay places place [] h = tt
-  taken_stay places place (cell ∷ cells) h = by cell.gone refl (places place) refl
+  taken_stay places place (cell ∷ cells) h = by cell.gone refl (places place) refl (taken_stay places place cells h.1) (taken_stay places (place + 1) cells h.1)
     where
       Stays : List TaggedCell → Type 0
       Stays taken = AllByRecursion (λ (r : Removed (List Word)). back r.stamp ≡ false) (map as_removed taken)
 
-      by : (g : Bool) → cell.gone ≡ g → (c : Bool) → places place ≡ c
+      by : (g : Bool) → cell.gone ≡ g → (c : Bool) → places place ≡ c → Stays (cells_at places place cells) → Stays (cells_at places (place + 1) cells)
           → Stays (cond cell.gone (cells_at places place cells) (cond (places place) (cell ∷ cells_at places (place + 1) cells) (cells_at places (place + 1) cells)))
-      by true e c f = subst (λ b. Stays (cond b (cells_at places place cells) (cond (places place) (cell ∷ cells_at places (place + 1) cells) (cells_at places (place + 1) cells)))) (sym e)
-          (taken_stay places place cells h.1)
-      by false e true f = subst (λ b. Stays (cond b (cells_at places place cells) (cond (places place) (cell ∷ cells_at places (place + 1) cells) (cells_at places (place + 1) cells)))) (sym e)
+      by true e c f here next = subst (λ b. Stays (cond b (cells_at places place cells) (cond (places place) (cell ∷ cells_at places (place + 1) cells) (cells_at places (place + 1) cells)))) (sym e)
+          here
+      by false e true f here next = subst (λ b. Stays (cond b (cells_at places place cells) (cond (places place) (cell ∷ cells_at places (place + 1) cells) (cells_at places (place + 1) cells)))) (sym e)
           (subst (λ b. Stays (cond b (cell ∷ cells_at places (place + 1) cells) (cells_at places (place + 1) cells))) (sym f)
-          (visible_stays cell h.0 e, taken_stay places (place + 1) cells h.1))
-      by false e false f = subst (λ b. Stays (cond b (cells_at places place cells) (cond (places place) (cell ∷ cells_at places (place + 1) cells) (cells_at places (place + 1) cells)))) (sym e)
+          (visible_stays cell h.0 e, next))
+      by false e false f here next = subst (λ b. Stays (cond b (cells_at places place cells) (cond (places place) (cell ∷ cells_at places (place + 1) cells) (cells_at places (place + 1) cells)))) (sym e)
           (subst (λ b. Stays (cond b (cell ∷ cells_at places (place + 1) cells) (cells_at places (place + 1) cells))) (sym f)
-          (taken_stay places (place + 1) cells h.1))
+          next)
 
   pub places_stay : (places : ℕ → Bool) → AllByRecursion (λ (r : Removed (List Word)). back r.stamp ≡ false) (map as_removed (cells_at places 0 flat.cells))
   places_stay places =
@@ -128,16 +128,18 @@ or_rest false b h = h
 taken_sound : (places : ℕ → Bool) (place : ℕ) (cells : List TaggedCell) → AllByRecursion HasNames cells → is_among (stamps_at places place cells) FINAL ≡ false
     → AllByRecursion MayReturn (map as_removed (cells_at places place cells))
 taken_sound places place [] h spared = tt
-taken_sound places place (cell ∷ cells) h spared = by cell.gone (places place) spared
+taken_sound places place (cell ∷ cells) h spared = by cell.gone (places place) (taken_sound places place cells h.1) (taken_sound places (place + 1) cells h.1) spared
   where
-    by : (g c : Bool) → is_among (cond g (stamps_at places place cells) (cond c (cell.stamp ∷ stamps_at places (place + 1) cells) (stamps_at places (place + 1) cells))) FINAL ≡ false
+    by : (g c : Bool) → (is_among (stamps_at places place cells) FINAL ≡ false → AllByRecursion MayReturn (map as_removed (cells_at places place cells)))
+        → (is_among (stamps_at places (place + 1) cells) FINAL ≡ false → AllByRecursion MayReturn (map as_removed (cells_at places (place + 1) cells)))
+        → is_among (cond g (stamps_at places place cells) (cond c (cell.stamp ∷ stamps_at places (place + 1) cells) (stamps_at places (place + 1) cells))) FINAL ≡ false
         → AllByRecursion MayReturn (map as_removed (cond g (cells_at places place cells) (cond c (cell ∷ cells_at places (place + 1) cells) (cells_at places (place + 1) cells))))
-    by true c s = taken_sound places place cells h.1 s
-    by false true s = (
+    by true c here next s = here s
+    by false true here next s = (
       record { stamp = or_left (is_same cell.stamp FINAL) (is_among (stamps_at places (place + 1) cells) FINAL) s; tags = h.0 },
-      taken_sound places (place + 1) cells h.1 (or_rest (is_same cell.stamp FINAL) (is_among (stamps_at places (place + 1) cells) FINAL) s),
+      next (or_rest (is_same cell.stamp FINAL) (is_among (stamps_at places (place + 1) cells) FINAL) s),
     )
-    by false false s = taken_sound places (place + 1) cells h.1 s
+    by false false here next s = next s
 
 pub lost_sound : (view : Viewed) (ranges : List Range) → IsOfLog view.doc → AllByRecursion MayReturn (map as_removed (lost_in view ranges))
 lost_sound view ranges kept =

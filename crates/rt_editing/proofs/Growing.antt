@@ -59,18 +59,18 @@ gone_some cell false e = ap (λ (g : Bool). is_some (cond g (Some cell) None)) e
 -- the cell of a stamp is gone where it is there and the log takes it away
 among_gone : (log : List Operation) (s : Stamp) (xs : List Character) → has_gone (map (cell_in log) xs) s ≡ (is_among (stamps_of (map (cell_in log) xs)) s && is_gone log s)
 among_gone log s [] = refl
-among_gone log s (x ∷ xs) = by (is_same x.stamp s) refl
+among_gone log s (x ∷ xs) = by (is_same x.stamp s) refl (among_gone log s xs)
   where
     rest : List TaggedCell
     rest = map (cell_in log) xs
 
-    by : (b : Bool) → is_same x.stamp s ≡ b
+    by : (b : Bool) → is_same x.stamp s ≡ b → has_gone rest s ≡ (is_among (stamps_of rest) s && is_gone log s)
         → some_gone (cond (is_same x.stamp s) (Some (cell_in log x)) (find (λ (cell : TaggedCell). is_same cell.stamp s) rest)) ≡ ((is_same x.stamp s || is_among (stamps_of rest) s) && is_gone log s)
-    by true e = ap (λ b. some_gone (cond b (Some (cell_in log x)) (find (λ (cell : TaggedCell). is_same cell.stamp s) rest))) e
+    by true e more = ap (λ b. some_gone (cond b (Some (cell_in log x)) (find (λ (cell : TaggedCell). is_same cell.stamp s) rest))) e
         ∙ gone_some (cell_in log x) (is_gone log s) (ap (is_gone log) (same_from_true x.stamp s e))
         ∙ sym (ap (λ b. (b || is_among (stamps_of rest) s) && is_gone log s) e)
-    by false e = ap (λ b. some_gone (cond b (Some (cell_in log x)) (find (λ (cell : TaggedCell). is_same cell.stamp s) rest))) e
-        ∙ among_gone log s xs ∙ sym (ap (λ b. (b || is_among (stamps_of rest) s) && is_gone log s) e)
+    by false e more = ap (λ b. some_gone (cond b (Some (cell_in log x)) (find (λ (cell : TaggedCell). is_same cell.stamp s) rest))) e
+        ∙ more ∙ sym (ap (λ b. (b || is_among (stamps_of rest) s) && is_gone log s) e)
 
 and_true : (a b : Bool) → a ≡ true → b ≡ true → (a && b) ≡ true
 and_true a b h k = grind arith

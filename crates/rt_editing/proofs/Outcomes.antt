@@ -1,16 +1,22 @@
 -- What commands that are made leave of a log.
-use Rattle.std.proofs.Common.{◌≡◌, ◌∙◌, ◌∷◌, ◌++◌, [], List, None, Option, Some, Ok, Err, Result, ap, map, refl, subst, sym}
+use Rattle.std.proofs.Common.{◌≡◌, ◌∙◌, ℕ, ◌-◌, ◌∷◌, ◌++◌, [], List, None, Option, Some, Ok, Err, Result, ap, map, min, refl, subst, sym}
 use Rattle.rt_stamps.specs.declared.fault.Fault.{Fault}
+use Rattle.rt_stamps.specs.declared.limits.TheConstants.{MOST_CHARACTERS, MOST_SPANS}
 use Rattle.rt_stamps.specs.Names.{name_check}
 use Rattle.rt_stamps.specs.Outcomes.{first_of, unless}
 use Rattle.rt_stamps.specs.Words.{Word}
 use Rattle.rt_oplog.specs.Operations.{Operation}
 use Rattle.rt_rga.specs.Answers.{Answer, New, Repeat, Refused}
-use Rattle.rt_edits.specs.Insertions.{Piece}
+use Rattle.rt_edits.specs.declared.range.Range.{Range}
+use Rattle.rt_edits.specs.Deletions.{delete_drafts, loss_in}
+use Rattle.rt_edits.specs.Flat.{left_of}
+use Rattle.rt_edits.specs.InsertionDrafts.{insertion_drafts}
+use Rattle.rt_edits.specs.Insertions.{Piece, left_neighbour, right_neighbour}
 use Rattle.rt_text.specs.Accepted.{view_after}
-use Rattle.rt_text.specs.Commands.{deleted, inserted, names_in, replaced}
-use Rattle.rt_text.specs.Index.{index_check}
-use Rattle.rt_text.specs.Widgets.{Viewed, widget_of}
+use Rattle.rt_text.specs.Commands.{deleted, inserted, insertion_place, names_in, replaced, with_pieces_at, with_range_replaced, without_ranges}
+use Rattle.rt_text.specs.Index.{index_check, place_at_index}
+use Rattle.rt_text.specs.Ranges.{ranges_of}
+use Rattle.rt_text.specs.Widgets.{Viewed, begin_of, in_text, length_shown, shown_by, text_shown, widget_of}
 use Rattle.rt_editing.proofs.Growing.{Grows, grows_by, grows_drafts, grows_same, grows_with}
 
 -- CHECKS
@@ -34,15 +40,32 @@ none_first (Some fault) checks h = absurd (cc h)
 
 -- EDITS
 
+put_grows : (view : Viewed) (place : ℕ) (pieces : List Piece) (rest : Word) → Grows view.doc.log (with_pieces_at view place pieces rest).doc.log
+put_grows view place pieces rest =
+    grows_drafts view.doc.site
+    (insertion_drafts MOST_CHARACTERS view.doc.site (left_of view.doc.cells (in_text view place)) (left_neighbour (shown_by view) place) (right_neighbour (shown_by view) place) pieces rest
+    (record { cells = []; count = view.doc.count; sel = view.own.sel; others = view.others; tags = view.doc.tags })) view.doc.log
+
+without_grows : (view : Viewed) (ranges : List Range) → Grows view.doc.log (without_ranges view ranges).doc.log
+without_grows view ranges = grows_drafts view.doc.site (delete_drafts MOST_SPANS view.doc (loss_in (text_shown view) (begin_of view) ranges)) view.doc.log
+
 pub grows_inserted : (view new : Viewed) (index : Word) (pieces : List Piece) (rest : Word) → inserted view index pieces rest ≡ Ok new → Grows view.doc.log new.doc.log
-grows_inserted view new index pieces rest h = subst (λ (v : Viewed). Grows view.doc.log v.doc.log) (given _ _ new h) (grows_drafts view.doc.site _ view.doc.log)
+grows_inserted view new index pieces rest h =
+    let place = insertion_place (widget_of view) index in
+    subst (λ (v : Viewed). Grows view.doc.log v.doc.log) (given _ (with_pieces_at view place pieces rest) new h) (put_grows view place pieces rest)
 
 pub grows_deleted : (view new : Viewed) (indices : List Word) → deleted view indices ≡ Ok new → Grows view.doc.log new.doc.log
-grows_deleted view new indices h = subst (λ (v : Viewed). Grows view.doc.log v.doc.log) (given _ _ new h) (grows_drafts view.doc.site _ view.doc.log)
+grows_deleted view new indices h =
+    let ranges = ranges_of (map (place_at_index (widget_of view)) indices) in
+    subst (λ (v : Viewed). Grows view.doc.log v.doc.log) (given _ (without_ranges view ranges) new h) (without_grows view ranges)
 
 pub grows_replaced : (view new : Viewed) (from to : Word) (pieces : List Piece) (rest : Word) → replaced view from to pieces rest ≡ Ok new → Grows view.doc.log new.doc.log
 grows_replaced view new from to pieces rest h =
-    subst (λ (v : Viewed). Grows view.doc.log v.doc.log) (given _ _ new h) (grows_by view.doc.log _ _ (grows_drafts view.doc.site _ view.doc.log) (grows_drafts _ _ _))
+    let range : Range = record { from = place_at_index (widget_of view) from; to = place_at_index (widget_of view) to } in
+    let left = without_ranges view (range ∷ []) in
+    let place = min range.from (length_shown left - 1) in
+    subst (λ (v : Viewed). Grows view.doc.log v.doc.log) (given _ (with_range_replaced view range pieces rest) new h)
+    (grows_by view.doc.log left.doc.log (with_pieces_at left place pieces rest).doc.log (without_grows view (range ∷ [])) (put_grows left place pieces rest))
 
 -- the indices of a replacement that is made
 pub both_indices : (view new : Viewed) (from to : Word) (pieces : List Piece) (rest : Word) → replaced view from to pieces rest ≡ Ok new
