@@ -1,3 +1,7 @@
 pub mod Named
 pub mod Removals
 pub mod Renamed
+pub mod Stayed
+pub mod Gone
+pub mod Told
+pub mod Counted
