@@ -5,3 +5,4 @@ pub mod Stayed
 pub mod Gone
 pub mod Told
 pub mod Counted
+pub mod Settling
