@@ -52,9 +52,9 @@ pub if_checked : {A E C : Type 0} (P Q : A → Type 0) (r : Result A E) → OnOk
 if_checked P Q (Ok x) c p f = f c x p
 if_checked P Q (Err e) c p f = tt
 
-pub on_both : {A E C D : Type 0} (r : Result A E) → OnOk r C → OnOk r D → OnOk r (C × D)
-on_both (Ok x) c d = (c, d)
-on_both (Err e) c d = tt
+pub on_both : {A E : Type 0} (C D : Type 0) (r : Result A E) → OnOk r C → OnOk r D → OnOk r (C × D)
+on_both C D (Ok x) c d = (c, d)
+on_both C D (Err e) c d = tt
 
 pub if_both : {A E : Type 0} (P Q : A → Type 0) (r : Result A E) → IfOk r P → IfOk r Q → IfOk r (λ x. P x × Q x)
 if_both P Q (Ok x) p q = (p, q)

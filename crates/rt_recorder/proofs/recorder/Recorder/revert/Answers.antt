@@ -92,7 +92,7 @@ returns-clause-gone g c =
     let moves = c.reserve.new.self.moves in
     if_checked (λ (r : Reverted). r.returns.items ≡ returns)
     (λ (r : Reverted). (stamp : Stamp) → back_after r.returns.items (is_moved moves) stamp ≡ true → is_gone c.revert.new.self.doc.cells stamp ≡ true) c.revert.result
-    (on_both c.revert.result c.revert.ensures.checked c.revert.ensures.ok) c.revert.ensures.returns
+    (on_both (reversion_check flat group ≡ None) (c.revert.new.self ≡ view_reverted c.args.view.now group) c.revert.result c.revert.ensures.checked c.revert.ensures.ok) c.revert.ensures.returns
     (λ both r same stamp back. ap (λ (v : Viewed). is_gone v.doc.cells stamp) both.1
     ∙ (told_here g c both.0).gone stamp ((λ j. back_after (sym same j) (λ u. sym (c.reserve.ensures.moves u) j) stamp) ∙ back))
 
