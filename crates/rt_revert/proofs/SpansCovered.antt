@@ -1,8 +1,7 @@
 -- The places of characters in spans, span by span, and the ranges that these make.
-use Rattle.std.proofs.Common.{◌≡◌, ◌∙◌, ℕ, suc, ◌+◌, ◌-◌, ◌≤◌, ◌<◌, ◌++◌, ◌||◌, ◌&&◌, Bool, true, false, List, [], ◌∷◌, Some, drop, get_or, length, refl, sym, ap, arith, append_assoc}
-use Rattle.std.specs.Prelude.{nat_le, nat_lt}
+use Rattle.std.proofs.Common.{◌≡◌, ◌∙◌, ℕ, suc, ◌+◌, ◌-◌, ◌≤◌, ◌<◌, ◌++◌, ◌||◌, Bool, true, false, List, [], ◌∷◌, Some, drop, get_or, length, refl, sym, ap, arith, append_assoc}
 use Rattle.std.proofs.lemmas.Bool.Decides.{nat_tests}
-use Rattle.std.proofs.lemmas.Grind.{flat_map-append}
+use Rattle.std.proofs.lemmas.List.{drop_more}
 use Rattle.std.proofs.lemmas.List.Folds.{list_any-append}
 use Rattle.rt_stamps.specs.declared.stamp.Span.{Span}
 use Rattle.rt_stamps.specs.declared.stamp.Stamp.{Stamp}
@@ -11,7 +10,6 @@ use Rattle.rt_store.specs.declared.cell.Cell.{Cell}
 use Rattle.rt_edits.specs.declared.range.Range.{Range}
 use Rattle.rt_edits.specs.Removals.{is_covered, is_in}
 use Rattle.rt_revert.specs.Planning.{is_behind, range_at, ranges_of, visible_place}
-use Rattle.rt_revert.proofs.Rest.{next_left}
 
 or_left_assoc : (a b d : Bool) → ((a || b) || d) ≡ (a || (b || d))
 or_left_assoc true b d = refl
@@ -52,8 +50,8 @@ from_none site first last le =
     ap (stamps_from site first) e
 
 -- the span at an index, and those behind it
-pub spans_more : (spans : List Span) (i : ℕ) (span : Span) → i < length spans → span ≡ get_or spans i span → stamps_in (drop i spans) ≡ stamps_of_span span ++ stamps_in (drop (i + 1) spans)
-spans_more spans i span lt e = ap stamps_in (next_left spans i span lt e)
+pub spans_more : (spans : List Span) (i : ℕ) (d : Span) → i < length spans → stamps_in (drop i spans) ≡ stamps_of_span (get_or spans i d) ++ stamps_in (drop (i + 1) spans)
+spans_more spans i d lt = ap stamps_in (drop_more spans i d lt)
 
 -- A PLACE MORE
 

@@ -15,7 +15,7 @@ mod returning;
 mod reverting;
 mod work;
 
-pub use copying::{Alike, alike_state, kept_state};
+pub use copying::{alike_state, kept_state};
 pub use group::{planned_reversion, planned_reversion_in};
 pub use losses::Losses;
 pub use lost::push_removed;

@@ -1,5 +1,5 @@
 use Rattle.std.proofs.Common.{◌∙◌, ◌+◌, ◌||◌, ap, drop, sym}
-use Rattle.rt_oplog.specs.Operations.{stamps_in, stamps_of_span}
+use Rattle.rt_oplog.specs.Operations.{stamps_in}
 use Rattle.rt_edits.specs.Removals.{is_covered}
 use Rattle.rt_revert.specs.Planning.{ranges_of}
 use Rattle.rt_revert.proofs.Rest.{none_left}
@@ -9,14 +9,13 @@ use Rattle.rt_revert.proofs.work.places_of.Goals as goal
 pub loop-span-preserved : goal.loop-span-preserved
 loop-span-preserved g c at =
     let cells = g.S.TextStore.list c.args.store.now in
+    let spans = c.args.spans.now in
     let i = c.loop-span.span-index in
-    let span = c.span-item.result in
     let old = c.loop-span.ranges.items in
-    let rest = ranges_of cells (stamps_in (drop (i + 1) c.args.spans.now)) in
-    let here = ranges_of cells (stamps_of_span span) in
-    covered_step old c.push_places.new.ranges.items here rest at (c.in_ok-push_places.ensures.ok at)
+    let rest = ranges_of cells (stamps_in (drop (i + 1) spans)) in
+    covered_step old c.push_places.new.ranges.items _ rest at (c.in_ok-push_places.ensures.ok at)
     ∙ ap (λ l. is_covered old at || is_covered l at)
-    (sym (ap (ranges_of cells) (spans_more c.args.spans.now i span c.loop-span-test.true c.span-item.is) ∙ ranges_append cells (stamps_of_span span) (stamps_in (drop (i + 1) c.args.spans.now))))
+    (sym (ap (ranges_of cells) (spans_more spans i _ c.loop-span-test.true) ∙ ranges_append cells _ (stamps_in (drop (i + 1) spans))))
     ∙ c.loop-span.invariant at
 
 pub returns-clause-ok : goal.returns-clause-ok
