@@ -176,8 +176,7 @@ move_for_all-requires-clause-insert g c =
     let within : n ≤ MOST_CELLS = omega (arith, text, cells, text_within flat.cells, c.kept.ensures.few, c.kept.ensures.most) in
     let changes : c.deref-2.result.now ≡ plan.changes.items = c.deref-2.ensures.value in
     let few : length c.deref-2.result.now ≤ 2 ^ 63 = omega (arith, ap length changes, plan.changes.ok.0, plan.changes.ok.1, plan.changes.small) in
-    let place : c.widget.inside.insert.place ≡ c.args.widget.now.insert.place = ap (λ (o : Own). o.insert.place) c.widget.view_is in
-    omega (arith, place, text, within, few, c.requires.own.0)
+    omega (arith, text, within, few, c.requires.own.0)
 
 pub move_for_all-requires-clause-current : goal.move_for_all-requires-clause-current
 move_for_all-requires-clause-current g c =
@@ -196,8 +195,7 @@ move_for_all-requires-clause-current g c =
     let within : n ≤ MOST_CELLS = omega (arith, text, cells, text_within flat.cells, c.kept.ensures.few, c.kept.ensures.most) in
     let changes : c.deref-2.result.now ≡ plan.changes.items = c.deref-2.ensures.value in
     let few : length c.deref-2.result.now ≤ 2 ^ 63 = omega (arith, ap length changes, plan.changes.ok.0, plan.changes.ok.1, plan.changes.small) in
-    let place : c.widget.inside.current.place ≡ c.args.widget.now.current.place = ap (λ (o : Own). o.current.place) c.widget.view_is in
-    omega (arith, place, text, within, few, c.requires.own.1)
+    omega (arith, text, within, few, c.requires.own.1)
 
 pub list_tags-requires-clause-names : goal.list_tags-requires-clause-names
 list_tags-requires-clause-names g c =
@@ -296,7 +294,7 @@ returns-clause-widget g c =
     let i = reverts states table store number many flat group plan p in
     let own = c.args.widget.now in
     let moved : c.move_for_all.new.widget ≡ own_reverted flat group own =
-    c.move_for_all.ensures.own ∙ (λ k. own_after (c.deref-2.ensures.value k) (c.widget.view_is k)) ∙ own_moved states table store number many flat group plan p own in
+    c.move_for_all.ensures.own ∙ (λ k. own_after (c.deref-2.ensures.value k) own) ∙ own_moved states table store number many flat group plan p own in
     moved
 
 pub returns-clause-checked : goal.returns-clause-checked
@@ -433,5 +431,5 @@ returns-clause-own g c =
     (c.make.ensures.site ∙ ap (λ (f : Flat). f.site) c.self.view_is) (c.make.ensures.limit ∙ ap (λ (f : Flat). f.limit) c.self.view_is) in
     let own = c.args.widget.now in
     let moved : c.move_for_all.new.widget ≡ own_reverted flat group own =
-    c.move_for_all.ensures.own ∙ (λ k. own_after (c.deref-2.ensures.value k) (c.widget.view_is k)) ∙ own_moved states table store number many flat group plan p own in
+    c.move_for_all.ensures.own ∙ (λ k. own_after (c.deref-2.ensures.value k) own) ∙ own_moved states table store number many flat group plan p own in
     subst (λ (x : _). x) (λ k. IsOwnOf (length (text_of (sym doc k).cells)) (sym moved k)) (own_left_in states table store number many flat group plan p own c.requires.own)
