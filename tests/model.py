@@ -1,8 +1,8 @@
 #!/usr/bin/env python3
 """Random scripts, answered by the built program and by a plain model of the widget: a list of characters
-with their tags, a table of marks, and the list of tags. Then sites, which edit by scripts of their own and
-receive one another's files, late, repeated and cut; their model reads all operations of a site again after
-each (docs/REPLICATION.md).
+with their tags and stamps, a table of marks, the list of tags, and the undo stacks. Then sites, which edit by
+scripts of their own and receive one another's files, late, repeated and cut; their model reads all operations of
+a site again after each, and after each operation of an undo (docs/REPLICATION.md).
 
 Usage: tests/model.py [PROGRAM [SCRIPTS [SEED [GROUPS]]]]; without a program it takes ./peertext, which builds it where it is
 missing. SCRIPTS are those of one site, GROUPS the groups of two to four sites. The last line is 'N passed, M failed'.
@@ -14,7 +14,8 @@ import tempfile
 
 from modelled.chance import Chance
 from modelled.groups import Group
-from modelled.widget import Widget, spelled
+from modelled.sites import Site
+from modelled.widget import spelled
 
 ROOT = os.path.dirname(os.path.dirname(os.path.abspath(__file__)))
 PROGRAM = os.path.abspath(sys.argv[1]) if len(sys.argv) > 1 else os.path.join(ROOT, "peertext")
@@ -39,10 +40,10 @@ def main():
     # the launcher may have to build the program first, and says so on standard error
     subprocess.run([PROGRAM, "--version"], capture_output=True, check=True)
     for number in range(SCRIPTS):
-        widget = Widget()
-        commands = [chance.command() for _ in range(chance.randrange(1, 80))]
+        site = Site(1)
+        commands = [chance.begin(), *(chance.command() for _ in range(chance.randrange(1, 80)))]
         script = "".join(" ".join([".t", *map(spelled, c)]) + "\n" for c in commands)
-        wants = [widget.answer(c) for c in commands]
+        wants = [site.answer(c) for c in commands]
         done = subprocess.run([PROGRAM, "run", "--site", "1"], input=script.encode(), capture_output=True, timeout=120)
         lines = done.stdout.decode().split("\n")[:-1]
         good = done.returncode == 0 and done.stderr == b"" and lines == wants

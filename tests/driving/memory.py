@@ -6,6 +6,8 @@ import tempfile
 
 from driving.program import BUILT, ROOT, SITE, check
 from driving.samples import AB, AB_LINE, FILES, HEAD, OLD, TAKE_B, Y, contents, put
+from modelled.sites import Site, spelling
+from modelled.widget import words_of
 
 
 def failing_library(folder):
@@ -101,6 +103,70 @@ def failing_allocations_of_receive():
     check("some allocations ended the run", early > 0, True)
     check("some allocations were refused to an operation", cut > 0, True)
     check("the last of them is behind us", number < 1000, True)
+
+
+UNDO_LINES = """.t configure -undo 1
+.t insert 1.0 hello t
+.t insert 1.2 "a\\nb" "u t"
+.t mark set m 1.3
+.t delete 1.1 1.3 2.0
+.t replace 1.0 1.1 X
+.t edit undo
+.t edit canredo
+.t edit undo
+.t get 1.0 end
+.t tag ranges t
+.t edit modified 0
+.t edit redo
+.t edit redo
+.t edit modified
+.t get 1.0 end
+.t edit undo
+.t edit undo
+.t edit undo
+.t edit undo
+.t get 1.0 end
+.t edit redo
+.t edit redo
+.t edit separator
+.t insert end !
+.t edit undo
+.t get 1.0 end
+.t edit canundo
+.t edit reset
+.t edit undo
+.t tag names
+.t mark names
+.t index m
+.t dump 1.0 end""".splitlines()
+
+
+def failing_allocations_of_undo():
+    """Each allocation fails in turn: a line is answered as the plain model answers it, or `1 NoMemory`, and then it changed
+    nothing: the lines behind it are answered by the model that hasn't met it, and the log is the model's."""
+    shim = failing_library(".")
+    if shim is None:
+        return
+    script = "".join(line + "\n" for line in UNDO_LINES).encode()
+    number = quiet = 0
+    refused = set()
+    while quiet < 30 and number < 2000:
+        number += 1
+        put("out", OLD)
+        out, err, status = without_an_allocation(shim, number, "run", *SITE, "--out", "out", script=script)
+        lines, site, good = out.decode().splitlines(), Site(1), True
+        for ask, line in zip(UNDO_LINES, lines):
+            if line == "! 1 NoMemory":
+                refused.add(" ".join(ask.split()[1:3] if ".t edit" in ask else ask.split()[1:2]))
+            else:
+                good &= line == site.answer(words_of(ask)[1:])
+        left, log = contents("out"), spelling(site.ops)
+        whole = len(lines) == len(UNDO_LINES) and (err, status, left) == (b"", 0, log)
+        ended = (err, status) == (b"peertext: 1 NoMemory\n", 1) and left in (OLD, log)
+        check(f"undo without allocation {number}: {lines} {err} {status}", good and (whole or ended), True)
+        quiet = quiet + 1 if whole and "! 1 NoMemory" not in lines else 0
+    check("allocations were refused to undo and redo", {"insert", "delete", "replace", "edit undo", "edit redo"} <= refused, True)
+    check("the last of them is behind us", number < 2000, True)
 
 
 def failing_allocations():

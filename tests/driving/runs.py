@@ -16,6 +16,9 @@ def outs_of_runs():
         ("an insertion", [".t insert 1.0 ab"], FILES["ab"]),
         ("a deletion", [".t insert 1.0 ab", ".t delete 1.1"], FILES["deleted"]),
         ("a tag", [".t insert 1.0 ab", ".t tag add t 1.0"], FILES["tagged"]),
+        ("a deletion that is undone", [".t configure -undo 1", ".t insert 1.0 ab", ".t delete 1.1", ".t edit undo"], FILES["deleted"] + insert(4, 1, 3, (2, 1), b"b")),
+        ("that is redone", [".t configure -undo 1", ".t insert 1.0 ab", ".t delete 1.1", ".t edit undo", ".t edit redo"],
+         FILES["deleted"] + insert(4, 1, 3, (2, 1), b"b") + operation(2, 5, 1, 4, spans((1, 4, 4)))),
         ("what no operation says", [".t mark set m 1.0", ".t tag add sel 1.0 end", ".t get 1.0 end", ".t insert 1.0 {}"], HEAD),
         ("more characters than one operation has", [".t insert 1.0 " + long], HEAD + insert(1, 1, 0, (0, 0), b"a" * 65535) + insert(65536, 1, 65535, (65535, 1), b"a")),
     ]:
@@ -38,6 +41,9 @@ def logs_of_runs():
     """The log with which a site begins."""
     check("--log", ran([".t get 1.0 end"], *SITE, "--log", "ab"), (['= "ab\\n"'], "", 0))
     check("--log of a deletion", ran([".t get 1.0 end"], *SITE, "--log", "deleted"), (['= "a\\n"'], "", 0))
+    check("--log forces the modified flag", ran([".t edit modified", ".t edit modified 0", ".t edit modified"], *SITE, "--log", "ab"), (["= 1", "=", "= 0"], "", 0))
+    check("--log of nothing leaves it", ran([".t edit modified"], *SITE, "--log", "none"), (["= 0"], "", 0))
+    check("--log isn't recorded", ran([".t configure -undo 1", ".t edit undo", ".t edit redo"], *SITE, "--log", "deleted"), (["=", "! 12 NothingToUndo", "! 13 NothingToRedo"], "", 0))
     check("--log of a tag", ran([".t tag names", ".t tag ranges t"], *SITE, "--log", "tagged"), (["= sel t", "= 1.0 1.1"], "", 0))
     check("--log and --out", (ran([".t insert 1.0 X"], *SITE, "--log", "ab", "--out", "out"), contents("out")), ((["="], "", 0), HEAD + AB + insert(3, 1, 2, (0, 0), b"X")))
     check("the same file as --log and --out", (ran([".t delete 1.0"], *SITE, "--log", "out", "--out", "out", "out"), contents("out")),

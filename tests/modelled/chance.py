@@ -43,8 +43,30 @@ class Chance(random.Random):
         switches = self.choices(["-all", "-mark", "-tag", "-text", "-text", "--" if self.random() < .1 else "-tag"], k=self.randrange(3))
         return [*switches, self.word(), *(self.word() for _ in range(self.randrange(2)))]
 
+    def truth(self):
+        return self.choice(["1", "1", "true", "yes", "on", "0", "false", "no", "off", "True" if self.random() < .1 else "1"])
+
+    def edit(self):
+        action = self.choice(["undo", "undo", "undo", "undo", "redo", "redo", "separator", "canundo", "canredo", "modified", "modified", "reset" if self.random() < .2 else "undo"])
+        if action == "modified" and self.random() < .5:
+            return [action, self.truth()]
+        return [action, *(["1"] if self.random() < .02 else [])]
+
+    def options(self):
+        return [w for _ in range(self.choice([1, 1, 1, 2, 3])) for w in (self.choice(["-undo", "-autoseparators", "-font" if self.random() < .05 else "-autoseparators"]), self.truth())]
+
+    def begin(self):
+        """Most scripts begin with the undo mechanism on."""
+        return ["configure", "-undo", "1" if self.random() < .7 else "0"]
+
     def command(self):
-        kind = self.choice(["insert", "insert", "insert", "delete", "get", "index", "index", "compare", "count", "mark", "mark", "tag", "tag", "tag", "tag", "tag", "replace", "search", "search", "dump", "dump"])
+        kind = self.choice(["insert", "insert", "insert", "delete", "delete", "get", "index", "index", "compare", "count", "mark", "mark", "tag", "tag", "tag", "tag", "tag", "replace", "search", "search", "dump", "dump", "edit", "edit", "edit", "edit", "edit", "configure", "cget"])
+        if kind == "edit":
+            return [kind, *self.edit()]
+        if kind == "configure":
+            return [kind, *(self.options() if self.random() < .5 else ["-undo", "1"])][:99 if self.random() < .95 else 2]
+        if kind == "cget":
+            return [kind, self.choice(["-undo", "-autoseparators", "-font" if self.random() < .1 else "-undo"])]
         if kind == "insert":
             return [kind, self.word(), *self.texts()]
         if kind == "replace":

@@ -32,7 +32,7 @@ class Group:
 
     def lines(self, site, names):
         """A script: commands, and files that are received."""
-        found = []
+        found = [[".t", *self.chance.begin()]]
         for _ in range(self.chance.randrange(1, 40)):
             if names and self.chance.random() < .2:
                 found.append(["receive", self.chance.choice(names)])

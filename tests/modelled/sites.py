@@ -2,7 +2,8 @@
 (docs/REPLICATION.md), and the bytes of operations (docs/FILES.md)."""
 import collections
 
-from modelled.widget import NOT_YET, TRUNCATED, Refused, Widget
+from modelled.undo import Action, Undo
+from modelled.widget import BAD_COMMAND, BAD_OPTION, NOT_YET, NOTHING_TO_REDO, NOTHING_TO_UNDO, TRUNCATED, Refused, Widget
 
 # an operation: its count, site and prev; for an Insert the stamp that it goes after, the text and its tags; for a Delete the
 # stamps; for a Tag whether it is on, its name and the stamps
@@ -10,6 +11,7 @@ Insert = collections.namedtuple("Insert", "count site prev after text tags")
 Delete = collections.namedtuple("Delete", "count site prev stamps")
 Tag = collections.namedtuple("Tag", "count site prev stamps on name")
 ROOT_STAMP, FINAL_STAMP = (0, 0), (1, 0)
+TRUTHS = {"1": True, "true": True, "yes": True, "on": True, "0": False, "false": False, "no": False, "off": False}
 
 
 def stamp(op):
@@ -59,9 +61,10 @@ def spelling(ops):
     return b"RGATEXT1" + b"".join(record(op) for op in sorted(ops, key=stamp))
 
 
-def reading(ops):
-    """The visible characters of a history, with their stamps and shared tags: a tree read depth first, of the children of an
-    element the greater stamp first. A tag is on a character where the greatest of what was said of it says on."""
+def cells(ops):
+    """The characters of a history, with their stamps, whether they are visible, and their shared tags: a tree read depth first,
+    of the children of an element the greater stamp first. A tag is on a character where the greatest of what was said of it
+    says on."""
     children, chars, gone, said = collections.defaultdict(list), {FINAL_STAMP: "\n"}, set(), collections.defaultdict(dict)
     children[ROOT_STAMP].append(FINAL_STAMP)
     for op in sorted(ops, key=stamp):
@@ -83,31 +86,54 @@ def reading(ops):
         here = rest.pop()
         order.append(here)
         rest += sorted(children[here])
-    return [(here, chars[here], frozenset(t for t, on in said[here].items() if on)) for here in order if here in chars and here not in gone]
+    return [(here, chars[here], here not in gone, frozenset(t for t, on in said[here].items() if on)) for here in order if here in chars]
+
+
+def reading(ops):
+    """The visible characters of a history, with their stamps and shared tags."""
+    return [(here, char, tags) for here, char, is_visible, tags in cells(ops) if is_visible]
+
+
+def truth(word):
+    if word not in TRUTHS:
+        raise Refused(BAD_OPTION)
+    return TRUTHS[word]
 
 
 class Site(Widget):
-    """A site: the widget, the stamps of its characters, and the operations that it has accepted."""
+    """A site: the widget, the stamps of its characters, the operations that it has accepted, and the undo stacks."""
 
     def __init__(self, site):
         super().__init__()
         self.site, self.ops, self.stamps = site, [], [FINAL_STAMP]
+        self.undo, self.put_in, self.taken_away = Undo(), [], []
 
     def known_end(self, site):
         return max((last_count(op) for op in self.ops if op.site == site), default=0)
 
+    def next_count(self):
+        return max(map(last_count, self.ops), default=0) + 1
+
+    def own(self, kind, *fields):
+        return kind(self.next_count(), self.site, self.known_end(self.site), *fields)
+
     def make(self, kind, *fields):
-        op = kind(max(map(last_count, self.ops), default=0) + 1, self.site, self.known_end(self.site), *fields)
-        self.ops.append(op)
-        return op
+        self.ops.append(self.own(kind, *fields))
+        return self.ops[-1]
 
     # own edits
 
     def has_inserted(self, p, new, tags):
         op = self.make(Insert, self.stamps[p - 1] if p else ROOT_STAMP, new, tags - {"sel"})
         self.stamps[p:p] = made(op)
+        self.put_in += made(op)
+
+    def shown_at(self, places):
+        """What is visible at places: stamps, characters and shared tags."""
+        return [(self.stamps[p], self.text[p], self.tags[p] - {"sel"}) for p in places]
 
     def is_removing(self, gone, is_cleared):
+        self.taken_away += self.shown_at(gone)
         if gone:
             self.make(Delete, [self.stamps[p] for p in gone])
         for tag in sorted(self.tags[-1] - {"sel"}, key=str.encode) if is_cleared else []:
@@ -118,15 +144,80 @@ class Site(Widget):
         if places and name != "sel":
             self.make(Tag, [self.stamps[p] for p in places], on, name)
 
-    # operations of others
+    # undo
 
-    def accept(self, op):
-        """Whether an operation is new, or that it comes too early; those of these tests are never at fault otherwise."""
-        if op in self.ops:
-            return False
-        known = {FINAL_STAMP, ROOT_STAMP}.union(*map(made, self.ops))
-        if op.prev != self.known_end(op.site) or not set(named(op)) <= known:
-            raise Refused(NOT_YET)
+    def revert(self, action):
+        """The reverted action, and the stamps of characters that came back with their new ones."""
+        gone = [p for p, here in enumerate(self.stamps) if here in action.put]
+        taken, order = self.shown_at(gone), [here for here, *_ in cells(self.ops)]
+        if gone:
+            self.take(self.own(Delete, [here for here, *_ in taken]))
+        renamed = []
+        for old, char, tags in sorted(action.taken, key=lambda t: order.index(t[0])):
+            op = self.own(Insert, old, char, tags)
+            self.take(op)
+            renamed.append((old, stamp(op)))
+        return Action(action.number, action.kind, [new for _, new in renamed], taken), renamed
+
+    def edit(self, words):
+        undo = self.undo
+        most = {"undo": 1, "redo": 1, "separator": 1, "reset": 1, "canundo": 1, "canredo": 1, "modified": 2}.get(words[0], 0) if words else -1
+        if len(words) > most:
+            raise Refused(BAD_COMMAND)
+        if words == ["modified"]:
+            return [str(int(undo.is_modified()))]
+        if words[0] == "modified":
+            undo.set_modified(truth(words[1]))
+        elif words[0] == "separator":
+            undo.separate()
+        elif words[0] == "reset":
+            undo.reset()
+        elif words[0] in ("canundo", "canredo"):
+            return [str(int(undo.is_on and bool(undo.done if words[0] == "canundo" else undo.undone)))]
+        elif undo.is_on:
+            source, target, fault = (undo.done, undo.undone, NOTHING_TO_UNDO) if words[0] == "undo" else (undo.undone, undo.done, NOTHING_TO_REDO)
+            if not source:
+                raise Refused(fault)
+            undo.move(source, target, self.revert)
+        return []
+
+    def configure(self, words):
+        if not words or len(words) % 2:
+            raise Refused(BAD_COMMAND)
+        if not set(words[::2]) <= {"-undo", "-autoseparators"}:
+            raise Refused(BAD_OPTION)
+        for option, value in [(option, truth(word)) for option, word in zip(words[::2], words[1::2])]:
+            if option == "-undo":
+                self.undo.is_on = value
+            else:
+                self.undo.separates = value
+        return []
+
+    def cget(self, words):
+        if len(words) != 1:
+            raise Refused(BAD_COMMAND)
+        values = {"-undo": self.undo.is_on, "-autoseparators": self.undo.separates}
+        if words[0] not in values:
+            raise Refused(BAD_OPTION)
+        return [str(int(values[words[0]]))]
+
+    def command(self, name, words):
+        if name == "edit":
+            return self.edit(words)
+        if name == "configure":
+            return self.configure(words)
+        if name == "cget":
+            return self.cget(words)
+        self.put_in, self.taken_away, number = [], [], self.next_count()
+        reply = super().command(name, words)
+        if self.put_in or self.taken_away:
+            self.undo.record(Action(number, name, self.put_in, self.taken_away))
+        return reply
+
+    # operations that are accepted
+
+    def take(self, op):
+        """Shows a history with one more operation."""
         selected = {here for here, tags in zip(self.stamps, self.tags) if "sel" in tags}
         before, self.ops = self.stamps, [*self.ops, op]
         read = reading(self.ops)
@@ -139,6 +230,18 @@ class Site(Widget):
             self.marks_removed({p for p, here in enumerate(before) if here not in set(self.stamps)})
             if isinstance(op, Tag) and op.on:
                 self.listed([op.name])
+
+    def accept(self, op):
+        """Whether an operation is new, or that it comes too early; those of these tests are never at fault otherwise."""
+        if op in self.ops:
+            return False
+        known = {FINAL_STAMP, ROOT_STAMP}.union(*map(made, self.ops))
+        if op.prev != self.known_end(op.site) or not set(named(op)) <= known:
+            raise Refused(NOT_YET)
+        before = self.stamps
+        self.take(op)
+        if self.stamps != before:
+            self.undo.is_forced = True
         return True
 
     def receive(self, file):

@@ -6,8 +6,9 @@ use Rattle.rt_stamps.specs.declared.fault.Fault.{Fault}
 use Rattle.rt_stamps.specs.declared.fault.Fault.TheVariants.{NoMemory}
 use Rattle.rt_oplog.specs.Operations.{Operation}
 use Rattle.rt_rga.specs.Answers.{Answer, New, Repeat, Refused}
-use Rattle.rt_text.specs.Accepted.{answer_of, view_after}
-use Rattle.rt_text.specs.Widgets.{Viewed}
+use Rattle.rt_text.specs.Accepted.{answer_of}
+use Rattle.rt_editing.specs.Edited.{Edited}
+use Rattle.rt_editing.specs.Edits.{text_after}
 use Rattle.rt_exchange.specs.declared.receiving.Received.{Received}
 use Rattle.rt_exchange.specs.Receiving.{Offers, nothing_taken, one_more}
 
@@ -31,24 +32,24 @@ added_more Repeat r s =
 added_more (Refused fault) r s = refl
 
 -- an operation that is refused ends the receiving
-pub stopped : (op : Operation) (ops : List Operation) (offsets : List ℕ) (i : ℕ) (ending : Option (Fault × ℕ)) (old new : Viewed) (fault : Fault)
-    → i < length offsets → (answer_of old.doc op ≡ Refused fault) ⊎ (fault ≡ NoMemory) → new ≡ old
+pub stopped : (op : Operation) (ops : List Operation) (offsets : List ℕ) (i : ℕ) (ending : Option (Fault × ℕ)) (old new : Edited) (fault : Fault)
+    → i < length offsets → (answer_of old.view.doc op ≡ Refused fault) ⊎ (fault ≡ NoMemory) → new ≡ old
     → Offers (op ∷ ops) (drop i offsets) ending old (nothing_taken (Some (fault, get_or offsets i 0))) new
 stopped op ops offsets i ending old new fault h why same =
     subst (λ (l : List ℕ). Offers (op ∷ ops) l ending old (nothing_taken (Some (fault, get_or offsets i 0))) new) (sym (drop_more offsets i 0 h))
     (inl (fault, why, refl, same))
 
 -- one that is taken goes before the others
-pub goes_before : (op : Operation) (ops : List Operation) (offsets : List ℕ) (i : ℕ) (ending : Option (Fault × ℕ)) (old mid new : Viewed) (received : Received)
-    → i < length offsets → (answer_of old.doc op ≡ New) ⊎ (answer_of old.doc op ≡ Repeat) → mid ≡ view_after (answer_of old.doc op) op old
+pub goes_before : (op : Operation) (ops : List Operation) (offsets : List ℕ) (i : ℕ) (ending : Option (Fault × ℕ)) (old mid new : Edited) (received : Received)
+    → i < length offsets → (answer_of old.view.doc op ≡ New) ⊎ (answer_of old.view.doc op ≡ Repeat) → mid ≡ text_after (answer_of old.view.doc op) op old
     → Offers ops (drop (i + 1) offsets) ending mid received new
-    → Offers (op ∷ ops) (drop i offsets) ending old (one_more (answer_of old.doc op) received) new
+    → Offers (op ∷ ops) (drop i offsets) ending old (one_more (answer_of old.view.doc op) received) new
 goes_before op ops offsets i ending old mid new received h kind taken rest =
-    subst (λ (l : List ℕ). Offers (op ∷ ops) l ending old (one_more (answer_of old.doc op) received) new) (sym (drop_more offsets i 0 h))
-    (inr (received, kind, refl, subst (λ (v : Viewed). Offers ops (drop (i + 1) offsets) ending v received new) taken rest))
+    subst (λ (l : List ℕ). Offers (op ∷ ops) l ending old (one_more (answer_of old.view.doc op) received) new) (sym (drop_more offsets i 0 h))
+    (inr (received, kind, refl, subst (λ (v : Edited). Offers ops (drop (i + 1) offsets) ending v received new) taken rest))
 
 -- where none is left, the ending is told
-pub none_left : (ops : List Operation) (offsets : List ℕ) (ending : Option (Fault × ℕ)) (view : Viewed) → length ops ≡ 0
-    → Offers ops offsets ending view (nothing_taken ending) view
-none_left [] offsets ending view h = (refl, refl)
-none_left (op ∷ ops) offsets ending view h = let bad : ⊥ = cc in absurd bad
+pub none_left : (ops : List Operation) (offsets : List ℕ) (ending : Option (Fault × ℕ)) (text : Edited) → length ops ≡ 0
+    → Offers ops offsets ending text (nothing_taken ending) text
+none_left [] offsets ending text h = (refl, refl)
+none_left (op ∷ ops) offsets ending text h = let bad : ⊥ = cc in absurd bad

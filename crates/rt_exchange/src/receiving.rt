@@ -3,9 +3,13 @@ ghost use Rattle.std.specs.Prelude.{◌≡◌, ◌⊎◌, ◌+◌, ◌<◌, ◌�
 ghost use Rattle.rt_stamps.specs.declared.limits.TheConstants.{MOST_BYTES};
 ghost use Rattle.rt_rga.specs.Answers.{New, Repeat};
 ghost use Rattle.rt_rga.specs.Taken.{told};
+ghost use Rattle.rt_recorder.specs.Settled.{IsSettled};
+ghost use Rattle.rt_editing.specs.Edited.{edited};
 ghost use Rattle.rt_exchange.specs.Receiving.{Offers, Receives, nothing_taken, one_more};
 
+use rt_editing::accept;
 use rt_oplog::{Op, read_bytes};
+use rt_recorder::Recorder;
 use rt_rga::Taken;
 use rt_stamps::Fault;
 use rt_store::TextStore;
@@ -60,17 +64,20 @@ impl Received {
 // Offers operations in order, up to the first that is refused.
 fn take_all<S: TextStore>(
     view: &mut View<S>,
+    recorder: &mut Recorder,
     ops: Vec<Op>,
     offsets: &[u64],
     ending: Option<(Fault, u64)>,
 ) -> Received
     requires offsets { length offsets.now ≡ length ops.items }
-    ensures { Offers ops.items offsets.now ending view.old result view.new }
+    requires settled { IsSettled view.old recorder.old }
+    ensures offers { Offers ops.items offsets.now ending (edited view.old recorder.old) result (edited view.new recorder.new) }
+    ensures settled { IsSettled view.new recorder.new }
 {
     let mut received = Received::nothing(ending);
     let mut i = 0;
     for op in ops {
-        match view.accept(op) {
+        match accept(view, recorder, op) {
             Ok(taken) => received = received.with(&taken),
             Err(fault) => {
                 received.fault = Some((fault, offsets[i]));
@@ -84,16 +91,23 @@ fn take_all<S: TextStore>(
 
 /// Receives the bytes of a file of operations: they are read, and offered to the document one after the
 /// other, each in the place of its record. What is new changes the text, moves all marks, and lists its
-/// tags. The first that is refused ends it, with its fault: `BadStamp`, `Conflict`, `NotYet`,
+/// tags; where it changes the visible text, it forces the modified flag. The first that is refused ends it, with its fault: `BadStamp`, `Conflict`, `NotYet`,
 /// `BadTarget`, `TextFull`; those before it stay accepted. Else the reading's own fault is told, if it
 /// has one: `BadMagic`, `BadVersion`, `Truncated`, `BadRecord`. `NoMemory` in place of any, at the offset
 /// 0 where the file found no memory.
-pub fn receive<S: TextStore>(alloc: Global, view: &mut View<S>, bytes: &[u8]) -> Received
-    requires { length bytes.now ≤ MOST_BYTES }
-    ensures { Receives bytes.now view.old result view.new }
+pub fn receive<S: TextStore>(
+    alloc: Global,
+    view: &mut View<S>,
+    recorder: &mut Recorder,
+    bytes: &[u8],
+) -> Received
+    requires bytes { length bytes.now ≤ MOST_BYTES }
+    requires settled { IsSettled view.old recorder.old }
+    ensures receives { Receives bytes.now (edited view.old recorder.old) result (edited view.new recorder.new) }
+    ensures settled { IsSettled view.new recorder.new }
 {
     match read_bytes(alloc, bytes) {
-        Ok(reading) => take_all(view, reading.ops, &reading.offsets, reading.fault),
+        Ok(reading) => take_all(view, recorder, reading.ops, &reading.offsets, reading.fault),
         Err(fault) => Received::nothing(Some((fault, 0))),
     }
 }

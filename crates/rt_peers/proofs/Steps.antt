@@ -8,33 +8,37 @@ use Rattle.rt_stamps.specs.Words.{Word}
 use Rattle.rt_requests.specs.declared.request.Request.{Request}
 use Rattle.rt_requests.specs.Asking.{Asked, Asks}
 use Rattle.rt_text.specs.Commands.{got_list}
+use Rattle.rt_text.specs.Widgets.{Viewed}
+use Rattle.rt_editing.specs.Edited.{edited}
+use Rattle.rt_recorder.specs.Recordings.{Recording}
 use Rattle.rt_peers.specs.State.{State}
-use Rattle.rt_peers.specs.Step.{as_outcome, changed_step, get_step, step, told_step, WidgetGives}
+use Rattle.rt_peers.specs.Step.{WidgetGives, on_view, step}
+use Rattle.rt_peers.specs.ViewStep.{Outcome, as_outcome, changed_step, get_step, told_step}
 
 -- a reply that is made of a value, or a want of memory in its making
-pub replied_with : {T : Type 0} (state : State) (f : T → List Word) (outcome : Result T Fault) (value : T) (result : Result (List Word) Fault) → outcome ≡ Ok value
+pub replied_with : {T S : Type 0} (state : S) (f : T → List Word) (outcome : Result T Fault) (value : T) (result : Result (List Word) Fault) → outcome ≡ Ok value
     → IfOk result (λ reply. reply ≡ f value) → IfErr result (λ fault. fault ≡ NoMemory) → Answers (told_step f state outcome) state result state
 replied_with state f outcome value (Ok reply) e ok err = rw (e, ok) refl
 replied_with state f outcome value (Err fault) e ok err = (refl, inl err)
 
 -- what is refused stays refused
-refused_by : {T : Type 0} (f : T → List Word × State) (outcome : Result T Fault) (fault found : Fault) → Refuses outcome found → fault ≡ found → Refuses (as_outcome f outcome) fault
+refused_by : {T S : Type 0} (f : T → List Word × S) (outcome : Result T Fault) (fault found : Fault) → Refuses outcome found → fault ≡ found → Refuses (as_outcome f outcome) fault
 refused_by f outcome fault found (inl e) h = inl (h ∙ e)
 refused_by f outcome fault found (inr e) h = inr (rw (e, h) refl)
 
 -- a change that is refused, and one that is made, by what the call says that was asked of it
-pub changed_refused : (said meant : Result State Fault) (fault found : Fault) → said ≡ meant → Refuses said found → fault ≡ found → Refuses (changed_step meant) fault
-changed_refused said meant fault found same r e = refused_by (λ state. ([], state)) meant fault found (subst (λ (o : Result State Fault). Refuses o found) same r) e
+pub changed_refused : {S : Type 0} (said meant : Result S Fault) (fault found : Fault) → said ≡ meant → Refuses said found → fault ≡ found → Refuses (changed_step meant) fault
+changed_refused {S} said meant fault found same r e = refused_by {T = S} {S = S} (λ new. ([], new)) meant fault found (subst (λ (o : Result S Fault). Refuses o found) same r) e
 
-pub changed_to : (said meant : Result State Fault) (new : State) → said ≡ meant → said ≡ Ok new → changed_step meant ≡ Ok ([], new)
-changed_to said meant new same e = ap changed_step (sym same ∙ e)
+pub changed_to : {S : Type 0} (said meant : Result S Fault) (new : S) → said ≡ meant → said ≡ Ok new → changed_step meant ≡ Ok ([], new)
+changed_to {S} said meant new same e = ap (changed_step {S = S}) (sym same ∙ e)
 
 -- a reply that is refused, and one that is made, likewise
-pub refused_as : {T : Type 0} (f : T → List Word) (state : State) (said meant : Result T Fault) (fault found : Fault) → said ≡ meant → Refuses said found → fault ≡ found
+pub refused_as : {T S : Type 0} (f : T → List Word) (state : S) (said meant : Result T Fault) (fault found : Fault) → said ≡ meant → Refuses said found → fault ≡ found
     → Refuses (told_step f state meant) fault
-refused_as {T} f state said meant fault found same r e = refused_by (λ v. (f v, state)) meant fault found (subst (λ (o : Result T Fault). Refuses o found) same r) e
+refused_as {T} {S} f state said meant fault found same r e = refused_by (λ v. (f v, state)) meant fault found (subst (λ (o : Result T Fault). Refuses o found) same r) e
 
-pub replied_as : {T : Type 0} (f : T → List Word) (state : State) (said meant : Result T Fault) (value : T) (result : Result (List Word) Fault) → said ≡ meant → said ≡ Ok value
+pub replied_as : {T S : Type 0} (f : T → List Word) (state : S) (said meant : Result T Fault) (value : T) (result : Result (List Word) Fault) → said ≡ meant → said ≡ Ok value
     → IfOk result (λ reply. reply ≡ f value) → IfErr result (λ fault. fault ≡ NoMemory) → Answers (told_step f state meant) state result state
 replied_as f state said meant value result same e ok err = replied_with state f meant value result (sym same ∙ e) ok err
 
@@ -52,12 +56,23 @@ pair (w ∷ v ∷ []) x y h k a b = rw (a, b) refl
 pair (w ∷ v ∷ u ∷ words) x y h k a b = absurd (omega arith)
 
 -- the texts of indices that are neither one nor two
-pub get_of_many : (state : State) (words : List (String Global)) → (length words ≡ 1 → ⊥) → (length words ≡ 2 → ⊥)
-    → get_step state (map (λ w. string_bytes w) words) ≡ told_step (λ texts. texts) state (got_list state (map (λ w. string_bytes w) words))
-get_of_many state [] one two = refl
-get_of_many state (w ∷ []) one two = absurd (one refl)
-get_of_many state (w ∷ v ∷ []) one two = absurd (two refl)
-get_of_many state (w ∷ v ∷ u ∷ words) one two = refl
+pub get_of_many : (view : Viewed) (words : List (String Global)) → (length words ≡ 1 → ⊥) → (length words ≡ 2 → ⊥)
+    → get_step view (map (λ w. string_bytes w) words) ≡ told_step (λ texts. texts) view (got_list view (map (λ w. string_bytes w) words))
+get_of_many view [] one two = refl
+get_of_many view (w ∷ []) one two = absurd (one refl)
+get_of_many view (w ∷ v ∷ []) one two = absurd (two refl)
+get_of_many view (w ∷ v ∷ u ∷ words) one two = refl
+
+-- what a request does to what the widget shows, as one to the site
+pub lifted : (state : State) (outcome : Outcome Viewed) (result : Result (List Word) Fault) (new : Viewed) → Answers outcome state.view result new
+    → Answers (on_view state outcome) state result (record state { view = new })
+lifted state outcome (Ok reply) new h = ap (on_view state) h
+lifted state outcome (Err fault) new h = (λ i. record state { view = h.0 i }, refused_by (λ answer. (answer.0, record state { view = answer.1 })) outcome fault fault h.1 refl)
+
+pub lifted_to : (state : State) (viewer new : Viewed) (recording : Recording) → edited viewer recording ≡ state → (outcome : Viewed → Outcome Viewed) (result : Result (List Word) Fault)
+    → Answers (outcome viewer) viewer result new → Answers (on_view state (outcome state.view)) state result (edited new recording)
+lifted_to state viewer new recording e outcome result h =
+    subst (λ (s : State). Answers (on_view s (outcome s.view)) s result (edited new recording)) e (lifted (edited viewer recording) (outcome viewer) result new h)
 
 -- words that ask for a request, and words that are refused
 pub asked_gives : (words : List Word) (request : Request) (old : State) (result : Result (List Word) Fault) (new : State) → Asks words (Ok request) ⊎ (◌≡◌ {A = Asked} (Ok request) (Err NoMemory))

@@ -8,8 +8,8 @@ use crate::SiteState;
 /// Sites that accepted the same operations hold equal cells, and so equal text with equal tags: whatever
 /// their calls were, in whatever order, with repeats and refusals between.
 pub fn sites_agree(one: &SiteState, other: &SiteState)
-    ensures cells { HaveSame one.now.doc.log other.now.doc.log → one.now.doc.cells ≡ other.now.doc.cells }
-    ensures text { HaveSame one.now.doc.log other.now.doc.log → tagged_text one.now.doc.cells ≡ tagged_text other.now.doc.cells }
+    ensures cells { HaveSame one.now.view.doc.log other.now.view.doc.log → one.now.view.doc.cells ≡ other.now.view.doc.cells }
+    ensures text { HaveSame one.now.view.doc.log other.now.view.doc.log → tagged_text one.now.view.doc.cells ≡ tagged_text other.now.view.doc.cells }
 {
     let _ = one.log();
     let _ = other.log();

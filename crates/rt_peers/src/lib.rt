@@ -3,8 +3,10 @@
 
 pub mod laws;
 mod pieces;
+mod replies;
 pub mod reply;
 pub mod site;
+mod viewer;
 
 pub use reply::Reply;
 pub use rt_exchange::Received;

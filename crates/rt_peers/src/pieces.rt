@@ -1,6 +1,6 @@
 // The texts of an insertion.
 ghost use Rattle.std.specs.Prelude.{◌≡◌, IfOk, IfErr, map, string_bytes};
-ghost use Rattle.rt_peers.specs.Step.{as_piece};
+ghost use Rattle.rt_peers.specs.ViewStep.{as_piece};
 
 use rt_stamps::Fault;
 use rt_text::Piece;

@@ -5,36 +5,36 @@ ghost use Rattle.rt_peers.specs.State.{new_state, is_widget};
 ghost use Rattle.rt_stamps.specs.Outcomes.{Answers};
 ghost use Rattle.rt_peers.specs.Step.{Gives, step, step_at};
 
-mod dumping;
-mod editing;
 mod exchange;
 mod marking;
-mod reading;
-mod replies;
-mod searching;
-mod tagging;
+mod undoing;
 
 use crate::reply::Reply;
+use crate::viewer::Viewer;
+use rt_recorder::Recorder;
 use rt_requests::Request;
 use rt_stamps::{Fault, Site};
-use rt_store::ListStore;
-use rt_text::View;
 use std::alloc::Global;
 use std::marker::Model;
 
-/// A site with its document, shown by the widget `.t`.
+/// A site with its document, shown by the widget `.t`, and what it recorded of its edits.
 #[derive(Drop)]
 pub struct SiteState {
     alloc: Global,
-    view: View<ListStore>,
+    viewer: Viewer,
+    recorder: Recorder,
 }
 
 impl Model for SiteState {
+    ghost use Rattle.rt_recorder.specs.Settled.{IsSettled};
+    ghost use Rattle.rt_editing.specs.Edited.{edited};
     ghost use Rattle.rt_peers.specs.State.{State};
 
     ghost Value = { State };
 
-    ghost view = { λ s. s.view };
+    ghost view = { λ s. edited s.viewer s.recorder };
+
+    ghost invariant = { λ s. IsSettled s.viewer s.recorder };
 }
 
 // Whether a word is the path of the widget.
@@ -51,9 +51,13 @@ impl SiteState {
         ensures ok { IfOk result (λ state. state ≡ new_state site.number limit) }
         ensures err { IfErr result (λ fault. fault ≡ Fault.NoMemory) }
     {
-        let store = ListStore::new(alloc)?;
-        let view = View::new(alloc, store, site, limit)?;
-        Ok(SiteState { alloc, view })
+        let viewer = Viewer::new(alloc, site, limit)?;
+        let recorder = Recorder::new(alloc)?;
+        Ok(SiteState {
+            alloc,
+            viewer,
+            recorder,
+        })
     }
 
     // What is asked of the widget. Refused by the request's own faults, or for want of memory; then
@@ -62,21 +66,26 @@ impl SiteState {
         ensures { Answers (step self.old request.now) self.old result self.new }
     {
         match request {
-            Request::Insert { index, texts } => self.insert(index, texts),
-            Request::Delete { indices } => self.delete(indices),
-            Request::Get { indices } => self.get(indices),
-            Request::Index { index } => self.index(index),
+            Request::Insert { index, texts } => self.viewer.insert(&mut self.recorder, index, texts),
+            Request::Delete { indices } => self.viewer.delete(&mut self.recorder, indices),
+            Request::Replace { from, to, texts } => {
+                self.viewer.replace(&mut self.recorder, from, to, texts)
+            }
+            Request::Get { indices } => self.viewer.get(indices),
+            Request::Index { index } => self.viewer.index(index),
             Request::Compare {
                 first,
                 comparison,
                 second,
-            } => self.compare(first, *comparison, second),
-            Request::Count { measures, from, to } => self.count(measures, from, to),
-            Request::Search(request) => self.search(request),
-            Request::Replace { from, to, texts } => self.replace(from, to, texts),
-            Request::Dump { kinds, from, to } => self.dump(*kinds, from, to),
+            } => self.viewer.compare(first, *comparison, second),
+            Request::Count { measures, from, to } => self.viewer.count(measures, from, to),
+            Request::Search(request) => self.viewer.search(request),
+            Request::Dump { kinds, from, to } => self.viewer.dump(*kinds, from, to),
             Request::Mark(request) => self.mark(request),
             Request::Tag(request) => self.tag(request),
+            Request::Edit(request) => self.edit(*request),
+            Request::Configure { settings } => self.configure(*settings),
+            Request::Cget { option } => self.cget(*option),
         }
     }
 

@@ -4,4 +4,6 @@ pub mod Counting
 pub mod Inserting
 pub mod AskedOnce
 pub mod SpelledSearches
+pub mod SettingOptions
+pub mod SpelledOptions
 pub mod SpelledRequests

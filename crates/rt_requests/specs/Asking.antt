@@ -1,14 +1,16 @@
 -- Which words ask a widget for what, and else the fault (Tk text manual): first an unknown command or a wrong number of words,
--- BadCommand, then an unknown operator, switch or gravity, BadOption, then a list of tags that spells no words, BadQuoting.
-use Rattle.std.specs.Prelude.{◌≡◌, ◌⊎◌, List, [], ◌∷◌, take, drop, false, Bool, Option, Some, None, IsTrue, option_map, ok_or, Result, Ok, Err, MatchBool, codes, if◌then◌else◌}
+-- BadCommand, then an unknown operator, switch, gravity, option or value, BadOption, then a list of tags that spells no words, BadQuoting.
+use Rattle.std.specs.Prelude.{◌≡◌, ◌⊎◌, List, [], ◌∷◌, take, drop, false, Option, Some, None, IsTrue, option_map, ok_or, Result, Ok, Err, MatchBool, codes, if◌then◌else◌}
 use Rattle.std.specs.List.{prefix_len}
 use Rattle.std.specs.Str.{bytes_eq}
 use Rattle.rt_stamps.specs.declared.fault.Fault.{Fault}
 use Rattle.rt_stamps.specs.declared.fault.Fault.TheVariants.{BadCommand, BadOption, BadQuoting}
 use Rattle.rt_stamps.specs.Words.{Word, SpellsList}
 use Rattle.rt_requests.specs.declared.request.Request.{Request}
-use Rattle.rt_requests.specs.declared.request.Request.TheVariants.{Insert, Delete, Replace, Get, Index, Compare, Count, Search, Dump, Mark, Tag}
+use Rattle.rt_requests.specs.declared.request.Request.TheVariants.{Insert, Delete, Replace, Get, Index, Compare, Count, Search, Dump, Mark, Tag, Edit, Configure, Cget}
+use Rattle.rt_requests.specs.EditWords.{asked_of_edits}
 use Rattle.rt_requests.specs.MarkWords.{asked_of_marks}
+use Rattle.rt_requests.specs.OptionWords.{asked_option, asked_settings, sets_some}
 use Rattle.rt_requests.specs.Parts.{PieceValue, TextsValue, of_several}
 use Rattle.rt_requests.specs.SearchWords.{asked_of_search}
 use Rattle.rt_requests.specs.Switches.{comparison_of, is_switch, kinds_of, measures_of, shows_some}
@@ -109,6 +111,11 @@ abbrev pub asked_tag : List Word → Asked
 asked_tag [] = Err BadCommand
 asked_tag (what ∷ words) = as_request Tag (asked_of_tags what words)
 
+-- `edit WHAT ?WORD ...?`
+abbrev pub asked_edit : List Word → Asked
+asked_edit [] = Err BadCommand
+asked_edit (what ∷ words) = as_request Edit (asked_of_edits what words)
+
 -- the commands that have no lists of tags
 abbrev pub asked_of : Word → List Word → Asked
 asked_of name words =
@@ -121,6 +128,9 @@ asked_of name words =
     else if bytes_eq name (codes "dump") then asked_dump words
     else if bytes_eq name (codes "mark") then asked_mark words
     else if bytes_eq name (codes "tag") then asked_tag words
+    else if bytes_eq name (codes "edit") then asked_edit words
+    else if bytes_eq name (codes "configure") then as_request Configure (asked_settings words)
+    else if bytes_eq name (codes "cget") then as_request Cget (asked_option words)
     else Err BadCommand
 
 -- a command by its name
@@ -135,7 +145,8 @@ Asks [] asked = asked ≡ Err BadCommand
 Asks (name ∷ words) asked = AsksOf name words asked
 
 -- What can be asked for: neither a count nor a dump from an index that begins with a minus, since such a word is read as a
--- switch; nor a dump of no kind of elements, since that without switches is one of all kinds.
+-- switch; nor a dump of no kind of elements, since that without switches is one of all kinds; nor settings of no option, since
+-- `configure` names one at least.
 abbrev pub CanBeAsked : Request → Type 0
 CanBeAsked (Count measures from to) = is_switch from ≡ false
 CanBeAsked (Dump kinds from to) = IsTrue (shows_some kinds) × (is_switch from ≡ false)
@@ -148,3 +159,6 @@ CanBeAsked (Compare first comparison second) = Unit {0}
 CanBeAsked (Search request) = Unit {0}
 CanBeAsked (Mark request) = Unit {0}
 CanBeAsked (Tag request) = Unit {0}
+CanBeAsked (Edit request) = Unit {0}
+CanBeAsked (Configure settings) = IsTrue (sets_some settings)
+CanBeAsked (Cget option) = Unit {0}

@@ -1,8 +1,11 @@
 pub mod Asking
+pub mod EditWords
 pub mod MarkWords
+pub mod OptionWords
 pub mod Parts
 pub mod SearchWords
 pub mod Switches
 pub mod TagWords
+pub mod Truth
 pub use Rattle.rt_stamps.specs.Words
 pub use Rattle.rt_marks.specs.Marks

@@ -14,7 +14,7 @@ pub fn reading_is_unique()
 }
 
 /// There are words for each request, whatever bytes its parts are, but for a count and a dump from an index that begins
-/// with a minus: such a word is a switch; and for a dump of no kind of elements.
+/// with a minus: such a word is a switch; for a dump of no kind of elements; and for settings of no option.
 pub fn requests_are_spelled()
     ensures { (request : Request) → CanBeAsked request → (words : List Word) × Asks words (Ok request) }
 {}

@@ -3,14 +3,17 @@ ghost use Rattle.std.specs.Prelude.{◌≡◌, ◌⊎◌, Err, map, string_bytes
 ghost use Rattle.rt_requests.specs.Asking.{Asks, AsksOf};
 
 use crate::comparison::Comparison;
+use crate::configuring::{cget, configure};
 use crate::editing::{delete, insert, replace};
 use crate::kinds::Kinds;
 use crate::marking::mark;
 use crate::measure::Measures;
+use crate::options::{Settings, WidgetOption};
 use crate::reading::{compare, count, dump, get, index};
 use crate::searching::search;
 use crate::tagging::tag;
 use crate::texts::Texts;
+use crate::undoing::edit;
 use crate::word::{Word, Words};
 use rt_marks::Gravity;
 use rt_search::{Overlaps, Search};
@@ -67,6 +70,16 @@ pub enum Request<'a> {
     Mark(MarkRequest<'a>),
     /// Something is asked of tags.
     Tag(TagRequest<'a>),
+    /// Something is asked of the undo mechanism.
+    Edit(EditRequest),
+    /// Options are set.
+    Configure {
+        settings: Settings,
+    },
+    /// What an option is set to.
+    Cget {
+        option: WidgetOption,
+    },
 }
 
 /// Which matches are wanted (Tk text manual, "search").
@@ -159,6 +172,27 @@ pub enum TagRequest<'a> {
     },
 }
 
+/// What is asked of the undo mechanism (Tk text manual, "edit" and "THE UNDO MECHANISM").
+#[derive(Clone, Copy, Debug, PartialEq, Eq)]
+pub enum EditRequest {
+    /// The edits since the last separator are undone.
+    Undo,
+    /// The edits that were undone last are done again.
+    Redo,
+    /// A separator on the undo stack.
+    Separator,
+    /// The undo and redo stacks are cleared.
+    Reset,
+    /// Whether there is something to undo.
+    CanUndo,
+    /// Whether there is something to redo.
+    CanRedo,
+    /// The modified flag.
+    Modified,
+    /// The modified flag is set, or taken away.
+    SetModified { modified: bool },
+}
+
 impl<'a> Request<'a> {
     /// What `COMMAND ?WORD ...?` asks for. Refused by the first of `BadCommand`, `BadOption` and
     /// `BadQuoting` for a list of tags, and by want of memory in place of any.
@@ -188,6 +222,9 @@ fn by_name<'a>(alloc: Global, name: &str, words: &'a [String]) -> Result<Request
         "dump" => dump(words),
         "mark" => mark(words),
         "tag" => tag(words),
+        "edit" => edit(words),
+        "configure" => configure(words),
+        "cget" => cget(words),
         _ => Err(Fault::BadCommand),
     }
 }

@@ -14,6 +14,8 @@ mod oplog_files;
 #[cfg(test)]
 mod oplog_logs;
 #[cfg(test)]
+mod option_requests;
+#[cfg(test)]
 mod requests;
 #[cfg(test)]
 mod search;
@@ -25,7 +27,5 @@ mod tags_states;
 mod tags_table;
 #[cfg(test)]
 mod undo;
-#[cfg(test)]
-mod undo_requests;
 #[cfg(test)]
 mod words;

@@ -156,6 +156,9 @@ fn tell_request(told: &mut String, request: &Request<'_>) -> Result<(), Fault> {
         }
         Request::Mark(request) => tell_mark(told, request),
         Request::Tag(request) => tell_tag(told, request),
+        Request::Edit(_) => tell(told, &["Edit"]),
+        Request::Configure { .. } => tell(told, &["Configure"]),
+        Request::Cget { .. } => tell(told, &["Cget"]),
     }
 }
 

@@ -55,9 +55,9 @@ fn followed<'a>(
     Ok(lines)
 }
 
-// Runs scripts, one behind the other, on a new site of a number that may receive files, looks at the
-// replies, and gives the file of its log.
-fn session(
+/// Runs scripts, one behind the other, on a new site of a number that may receive files, looks at the
+/// replies, and gives the file of its log.
+pub(crate) fn session(
     rt: &impl Abort,
     alloc: Global,
     number: u16,
@@ -71,8 +71,8 @@ fn session(
     Ok(site.export()?)
 }
 
-// Runs each script of a table on a new site of a number that may receive each of the samples.
-fn receive_all(rt: &impl Abort, alloc: Global, table: &[(u16, Script)]) -> Result<(), Fail> {
+/// Runs each script of a table on a new site of a number that may receive each of the samples.
+pub(crate) fn receive_all(rt: &impl Abort, alloc: Global, table: &[(u16, Script)]) -> Result<(), Fail> {
     let files: &[(&str, &[u8])] = &[
         ("ab", INSERT_AB),
         ("ab", INSERT_B),
@@ -96,23 +96,24 @@ fn receive_all(rt: &impl Abort, alloc: Global, table: &[(u16, Script)]) -> Resul
     Ok(())
 }
 
-// What two sites do that hold what site 1 did first, what either is answered to the file of the other,
-// and what both say then.
+/// What two sites do that hold what site 1 did first, what either is answered to the file of the other,
+/// and what both say then.
 #[derive(Clone, Copy)]
-struct Case {
-    first: Script<'static>,
-    one: Script<'static>,
-    other: Script<'static>,
-    receives_one: Script<'static>,
-    receives_other: Script<'static>,
-    after: Script<'static>,
+pub(crate) struct Case {
+    pub(crate) first: Script<'static>,
+    pub(crate) one: Script<'static>,
+    pub(crate) other: Script<'static>,
+    pub(crate) receives_one: Script<'static>,
+    pub(crate) receives_other: Script<'static>,
+    pub(crate) after: Script<'static>,
 }
 
-const HOLDS_FIRST: Script<'static> = &[("receive first", "= 1 0")];
+/// Site 1's first file is received.
+pub(crate) const HOLDS_FIRST: Script<'static> = &[("receive first", "= 1 0")];
 
-// Sites 1 and 2 exchange their files, and a third one receives them in either order. Then all have the
-// same log.
-fn exchange(rt: &impl Abort, alloc: Global, case: &Case) -> Result<(), Fail> {
+/// Sites 1 and 2 exchange their files, and a third one receives them in either order. Then all have the
+/// same log.
+pub(crate) fn exchange(rt: &impl Abort, alloc: Global, case: &Case) -> Result<(), Fail> {
     let first = session(rt, alloc, 1, &[], &[case.first])?;
     let begun: &[(&str, &[u8])] = &[("first", &first)];
     let one = session(rt, alloc, 1, &[], &[case.first, case.one])?;

@@ -21,3 +21,7 @@ mod sites;
 mod tags;
 #[cfg(test)]
 mod texts;
+#[cfg(test)]
+mod undoing;
+#[cfg(test)]
+mod undoing_sites;

@@ -7,6 +7,7 @@ use crate::replacements::{DUMPS, FULL_SITE, REPLACEMENTS};
 use crate::searches::SEARCHES;
 use crate::tags::{TAG_COMMANDS, TAG_REFUSALS, TAG_WRITES, TAGGED_TEXT};
 use crate::texts::{DELETIONS, RANGES, TEXTS};
+use crate::undoing::{COMING_BACK, FLAGS, GROUPING, UNDOING, UNDOING_FULL};
 use rt_samples::{Output, Pieces};
 use rt_script::{Ended, SiteState, run};
 use rt_stamps::limits::MOST_CELLS;
@@ -225,6 +226,33 @@ fn scripts_of_tag_writes(rt: HostRuntime) -> Result<(), Fail> {
 #[test]
 fn scripts_of_tagged_text(rt: HostRuntime) -> Result<(), Fail> {
     answer_all(&rt, rt.alloc(), TAGGED_TEXT)
+}
+
+#[test]
+fn scripts_of_undoing(rt: HostRuntime) -> Result<(), Fail> {
+    answer_all(&rt, rt.alloc(), UNDOING)
+}
+
+#[test]
+fn scripts_of_coming_back(rt: HostRuntime) -> Result<(), Fail> {
+    answer_all(&rt, rt.alloc(), COMING_BACK)
+}
+
+#[test]
+fn scripts_of_grouping(rt: HostRuntime) -> Result<(), Fail> {
+    answer_all(&rt, rt.alloc(), GROUPING)
+}
+
+#[test]
+fn scripts_of_flags(rt: HostRuntime) -> Result<(), Fail> {
+    answer_all(&rt, rt.alloc(), FLAGS)
+}
+
+#[test]
+fn a_full_site_brings_nothing_back(rt: HostRuntime) -> Result<(), Fail> {
+    let state = new_site(rt.alloc(), 1, 5)?;
+    let _site = answered(&rt, rt.alloc(), state, &[], UNDOING_FULL, 4096)?;
+    Ok(())
 }
 
 const FULL: Script<'static> = &[

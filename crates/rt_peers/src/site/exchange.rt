@@ -7,14 +7,14 @@ ghost use Rattle.rt_rga.specs.Histories.{IsHistory, greatest_last_count};
 ghost use Rattle.rt_exchange.specs.Receiving.{Receives};
 
 use super::SiteState;
-use rt_exchange::{Received, export, receive};
+use rt_exchange::{Received, export};
 use rt_oplog::OpLog;
 use rt_stamps::Fault;
 
 impl SiteState {
     /// Receives the bytes of a file of operations, at most `MOST_BYTES`: its operations are offered one
     /// after the other. One that is new changes the text, moves all marks, and lists its tags; what is
-    /// selected stays so. The first that is refused ends it, with its fault, and those before it stay
+    /// selected stays so, and where it changes the visible text it forces the modified flag. The first that is refused ends it, with its fault, and those before it stay
     /// accepted: `BadStamp`, `Conflict`, `NotYet`, `BadTarget`, `TextFull`. Else the reading's own fault
     /// is told, if it has one: `BadMagic`, `BadVersion`, `Truncated`, `BadRecord`. `NoMemory` in place of
     /// any.
@@ -22,23 +22,23 @@ impl SiteState {
         requires { length bytes.now ≤ MOST_BYTES }
         ensures { Receives bytes.now self.old result self.new }
     {
-        receive(self.alloc, &mut self.view, bytes)
+        self.viewer.receive(&mut self.recorder, bytes)
     }
 
     /// The log of the operations that the site accepted or made. The cells of its text are those of the
     /// log, which is a history.
     pub fn log(&self) -> &OpLog
-        ensures operations { result.now.operations ≡ self.now.doc.log }
-        ensures history { IsHistory self.now.doc.log }
-        ensures cells { self.now.doc.cells ≡ cells_of self.now.doc.log }
-        ensures count { self.now.doc.count ≡ greatest_last_count self.now.doc.log }
+        ensures operations { result.now.operations ≡ self.now.view.doc.log }
+        ensures history { IsHistory self.now.view.doc.log }
+        ensures cells { self.now.view.doc.cells ≡ cells_of self.now.view.doc.log }
+        ensures count { self.now.view.doc.count ≡ greatest_last_count self.now.view.doc.log }
     {
-        self.view.doc().log()
+        self.viewer.log()
     }
 
     /// The file of the log: its operations in the order of their stamps. Want of memory.
     pub fn export(&self) -> Result<Vec<u8>, Fault>
-        ensures ok { IfOk result (λ bytes. bytes.items ≡ spelling (reverse self.now.doc.log)) }
+        ensures ok { IfOk result (λ bytes. bytes.items ≡ spelling (reverse self.now.view.doc.log)) }
         ensures err { IfErr result (λ fault. fault ≡ Fault.NoMemory) }
     {
         export(self.alloc, self.log())

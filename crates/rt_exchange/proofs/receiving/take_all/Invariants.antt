@@ -1,6 +1,7 @@
 use Rattle.std.proofs.Common.{◌≡◌, ◌+◌, drop, length}
 use Rattle.std.specs.Vec.Iter.{into_iter_items}
-use Rattle.rt_text.specs.Widgets.{Viewed}
+use Rattle.rt_editing.specs.Edited.{Edited, edited}
+use Rattle.rt_recorder.specs.Settled.{IsSettled}
 use Rattle.rt_exchange.specs.declared.receiving.Received.{Received}
 use Rattle.rt_exchange.specs.Receiving.{Offers}
 use Rattle.rt_exchange.proofs.Receptions.{added}
@@ -11,6 +12,7 @@ invariant-loop-op g l = record {
   left : l.i + length (into_iter_items l.op-iterator) ≡ length l.fn.offsets;
   counted : l.received.new + l.received.repeats ≡ l.i;
   none : l.received.fault ≡ l.fn.ending;
-  goes_on : (received : Received) (new : Viewed) → Offers (into_iter_items l.op-iterator) (drop l.i l.fn.offsets) l.fn.ending l.view received new
-      → Offers l.fn.ops.items l.fn.offsets l.fn.ending l.initial.view (added l.received received) new;
+  settled : IsSettled l.view l.recorder;
+  goes_on : (received : Received) (new : Edited) → Offers (into_iter_items l.op-iterator) (drop l.i l.fn.offsets) l.fn.ending (edited l.view l.recorder) received new
+      → Offers l.fn.ops.items l.fn.offsets l.fn.ending (edited l.initial.view l.initial.recorder) (added l.received received) new;
 }

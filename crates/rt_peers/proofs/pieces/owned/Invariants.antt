@@ -1,5 +1,5 @@
 use Rattle.std.proofs.Common.{◌≡◌, ◌++◌, drop, map}
-use Rattle.rt_peers.specs.Step.{as_piece}
+use Rattle.rt_peers.specs.ViewStep.{as_piece}
 use Rattle.rt_peers.proofs.pieces.owned.Given as goal
 
 abbrev pub invariant-loop-piece : goal.invariant-loop-piece

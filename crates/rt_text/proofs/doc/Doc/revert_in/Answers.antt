@@ -1,15 +1,11 @@
-use Rattle.std.proofs.Common.{◌≡◌, ◌∙◌, ◌⊎◌, ◌<◌, ◌≤◌, ◌+◌, ◌^◌, ◌-◌, ℕ, All, List, ap, arith, inl, inr, length, map, string_bytes, subst, sym}
+use Rattle.std.proofs.Common.{◌≡◌, ◌∙◌, ◌⊎◌, ◌≤◌, ◌^◌, ◌-◌, All, ap, arith, inl, inr, length, map, string_bytes, subst, sym}
 use Rattle.std.specs.List.{AllByRecursion}
-use Rattle.std.specs.Prelude.{codes}
 use Rattle.std.proofs.lemmas.List.{length-map}
 use Rattle.std.proofs.lemmas.Result.{err_from_is_err_and}
 use Rattle.rt_oplog.specs.Edits.{body_of}
-use Rattle.rt_stamps.specs.declared.limits.TheConstants.{GREATEST_COUNT, MOST_CELLS}
-use Rattle.rt_stamps.specs.Words.{Word}
-use Rattle.rt_store.specs.declared.cell.Cell.{Cell}
+use Rattle.rt_stamps.specs.declared.limits.TheConstants.{MOST_CELLS}
 use Rattle.rt_store.specs.Cells.{text_of}
 use Rattle.rt_store.specs.Shown.{shown}
-use Rattle.rt_tags.specs.States.{TagStates}
 use Rattle.rt_tags.specs.Tags.{IsName}
 use Rattle.rt_rga.specs.Drafts.{with_drafts}
 use Rattle.rt_rga.specs.Made.{refusal_of}
@@ -17,9 +13,8 @@ use Rattle.rt_rga.specs.Requests.{MayBeMade}
 use Rattle.rt_rga.proofs.Requests.{greatest_bound}
 use Rattle.rt_edits.specs.Flat.{Flat}
 use Rattle.rt_edits.specs.Insertions.{all_listed}
-use Rattle.rt_edits.specs.Selected.{stamps_in}
 use Rattle.rt_edits.proofs.PlaceLaws.{text_within}
-use Rattle.rt_undo.specs.Actions.{Action, group_of}
+use Rattle.rt_undo.specs.Actions.{group_of}
 use Rattle.rt_revert.specs.Plans.{IsChange, IsOf, marks_after, named_group}
 use Rattle.rt_revert.specs.Reverting.{reversion, reverted}
 use Rattle.rt_revert.specs.ReversionLaws.{AreSound}
@@ -27,7 +22,7 @@ use Rattle.rt_revert.proofs.Steps.{reversion_sound}
 use Rattle.rt_text.specs.Changes.{own_after}
 use Rattle.rt_text.specs.Kept.{IsDoc}
 use Rattle.rt_text.specs.Reversions.{own_reverted, reversion_check}
-use Rattle.rt_text.specs.Widgets.{IsOwnOf, Own}
+use Rattle.rt_text.specs.Widgets.{IsOwnOf}
 use Rattle.rt_text.proofs.MadeDocument.{seen}
 use Rattle.rt_text.proofs.MarkLaws.{site_fits}
 use Rattle.rt_text.proofs.PlannedReversion.{IsPlanned, names_planned, not_planned, own_left_in, own_moved, planned, reverts}
@@ -176,8 +171,7 @@ move_for_all-requires-clause-insert g c =
     let within : n ≤ MOST_CELLS = omega (arith, text, cells, text_within flat.cells, c.kept.ensures.few, c.kept.ensures.most) in
     let changes : c.deref-2.result.now ≡ plan.changes.items = c.deref-2.ensures.value in
     let few : length c.deref-2.result.now ≤ 2 ^ 63 = omega (arith, ap length changes, plan.changes.ok.0, plan.changes.ok.1, plan.changes.small) in
-    let place : c.widget.inside.insert.place ≡ c.args.widget.now.insert.place = ap (λ (o : Own). o.insert.place) c.widget.view_is in
-    omega (arith, place, text, within, few, c.requires.own.0)
+    omega (arith, text, within, few, c.requires.own.0)
 
 pub move_for_all-requires-clause-current : goal.move_for_all-requires-clause-current
 move_for_all-requires-clause-current g c =
@@ -196,8 +190,7 @@ move_for_all-requires-clause-current g c =
     let within : n ≤ MOST_CELLS = omega (arith, text, cells, text_within flat.cells, c.kept.ensures.few, c.kept.ensures.most) in
     let changes : c.deref-2.result.now ≡ plan.changes.items = c.deref-2.ensures.value in
     let few : length c.deref-2.result.now ≤ 2 ^ 63 = omega (arith, ap length changes, plan.changes.ok.0, plan.changes.ok.1, plan.changes.small) in
-    let place : c.widget.inside.current.place ≡ c.args.widget.now.current.place = ap (λ (o : Own). o.current.place) c.widget.view_is in
-    omega (arith, place, text, within, few, c.requires.own.1)
+    omega (arith, text, within, few, c.requires.own.1)
 
 pub list_tags-requires-clause-names : goal.list_tags-requires-clause-names
 list_tags-requires-clause-names g c =
@@ -296,7 +289,7 @@ returns-clause-widget g c =
     let i = reverts states table store number many flat group plan p in
     let own = c.args.widget.now in
     let moved : c.move_for_all.new.widget ≡ own_reverted flat group own =
-    c.move_for_all.ensures.own ∙ (λ k. own_after (c.deref-2.ensures.value k) (c.widget.view_is k)) ∙ own_moved states table store number many flat group plan p own in
+    c.move_for_all.ensures.own ∙ (λ k. own_after (c.deref-2.ensures.value k) own) ∙ own_moved states table store number many flat group plan p own in
     moved
 
 pub returns-clause-checked : goal.returns-clause-checked
@@ -433,5 +426,5 @@ returns-clause-own g c =
     (c.make.ensures.site ∙ ap (λ (f : Flat). f.site) c.self.view_is) (c.make.ensures.limit ∙ ap (λ (f : Flat). f.limit) c.self.view_is) in
     let own = c.args.widget.now in
     let moved : c.move_for_all.new.widget ≡ own_reverted flat group own =
-    c.move_for_all.ensures.own ∙ (λ k. own_after (c.deref-2.ensures.value k) (c.widget.view_is k)) ∙ own_moved states table store number many flat group plan p own in
+    c.move_for_all.ensures.own ∙ (λ k. own_after (c.deref-2.ensures.value k) own) ∙ own_moved states table store number many flat group plan p own in
     subst (λ (x : _). x) (λ k. IsOwnOf (length (text_of (sym doc k).cells)) (sym moved k)) (own_left_in states table store number many flat group plan p own c.requires.own)

@@ -1,0 +1,99 @@
+-- Who is gone stays gone while a log grows.
+use Rattle.std.proofs.Common.{◌≡◌, ◌∙◌, ℕ, Bool, true, false, ◌||◌, ◌&&◌, List, [], ◌∷◌, Option, None, Some, cond, map, ap, arith, refl, subst, sym}
+use Rattle.std.specs.Prelude.{is_some, option_and_then}
+use Rattle.std.specs.List.{find, list_any}
+use Rattle.rt_stamps.specs.declared.stamp.Stamp.{Stamp}
+use Rattle.rt_stamps.specs.Stamps.{is_same}
+use Rattle.rt_stamps.proofs.Order.{same_from_true, same_refl, same_sym}
+use Rattle.rt_oplog.specs.Logs.{with_operation}
+use Rattle.rt_oplog.specs.Operations.{Body, Operation}
+use Rattle.rt_store.specs.Cells.{cell_of, stamps_of}
+use Rattle.rt_store.specs.Shown.{TaggedCell}
+use Rattle.rt_store.specs.Spans.{is_among}
+use Rattle.rt_rga.specs.Cells.{cell_in, cells_of, deletes, is_gone}
+use Rattle.rt_rga.specs.Drafts.{operations_of, with_drafts, with_operations}
+use Rattle.rt_rga.specs.Histories.{IsHistory, characters, has_character}
+use Rattle.rt_rga.specs.Reading.{Character, reading}
+use Rattle.rt_rga.proofs.Corollaries.{cells_have}
+use Rattle.rt_rga.proofs.Skipping.{split}
+use Rattle.rt_rga.proofs.Writes.{gone_with, not_gone}
+use Rattle.rt_revert.specs.Reverting.{gone_cell_of}
+use Rattle.rt_recorder.specs.Settled.{is_gone as has_gone}
+
+-- LOGS
+
+-- who is gone in a log is gone in another
+abbrev pub Grows : List Operation → List Operation → Type 0
+Grows old new = (s : Stamp) → is_gone old s ≡ true → is_gone new s ≡ true
+
+pub grows_same : (old new : List Operation) → new ≡ old → Grows old new
+grows_same old new e s h = ap (λ log. is_gone log s) e ∙ h
+
+pub grows_by : (old mid new : List Operation) → Grows old mid → Grows mid new → Grows old new
+grows_by old mid new f g s h = g s (f s h)
+
+or_true : (a b : Bool) → b ≡ true → (a || b) ≡ true
+or_true true b h = refl
+or_true false b h = h
+
+pub grows_with : (op : Operation) (log : List Operation) → Grows log (with_operation op log)
+grows_with op log s h = gone_with op log s ∙ or_true (deletes op.body s) (is_gone log s) h
+
+grows_all : (ops log : List Operation) → Grows log (with_operations ops log)
+grows_all [] log s h = h
+grows_all (op ∷ ops) log s h = grows_all ops (with_operation op log) s (grows_with op log s h)
+
+pub grows_drafts : (site : ℕ) (drafts : List Body) (log : List Operation) → Grows log (with_drafts site drafts log)
+grows_drafts site drafts log = grows_all (operations_of site drafts log) log
+
+-- THE CELLS OF A LOG
+
+-- whether there is such a gone cell
+abbrev some_gone : Option TaggedCell → Bool
+some_gone found = is_some (option_and_then (λ (cell : TaggedCell). cond cell.gone (Some cell) None) found)
+
+gone_some : (cell : TaggedCell) (b : Bool) → cell.gone ≡ b → some_gone (Some cell) ≡ b
+gone_some cell true e = ap (λ (g : Bool). is_some (cond g (Some cell) None)) e
+gone_some cell false e = ap (λ (g : Bool). is_some (cond g (Some cell) None)) e
+
+-- the cell of a stamp is gone where it is there and the log takes it away
+among_gone : (log : List Operation) (s : Stamp) (xs : List Character) → has_gone (map (cell_in log) xs) s ≡ (is_among (stamps_of (map (cell_in log) xs)) s && is_gone log s)
+among_gone log s [] = refl
+among_gone log s (x ∷ xs) = by (is_same x.stamp s) refl
+  where
+    rest : List TaggedCell
+    rest = map (cell_in log) xs
+
+    by : (b : Bool) → is_same x.stamp s ≡ b
+        → some_gone (cond (is_same x.stamp s) (Some (cell_in log x)) (find (λ (cell : TaggedCell). is_same cell.stamp s) rest)) ≡ ((is_same x.stamp s || is_among (stamps_of rest) s) && is_gone log s)
+    by true e = ap (λ b. some_gone (cond b (Some (cell_in log x)) (find (λ (cell : TaggedCell). is_same cell.stamp s) rest))) e
+        ∙ gone_some (cell_in log x) (is_gone log s) (ap (is_gone log) (same_from_true x.stamp s e))
+        ∙ sym (ap (λ b. (b || is_among (stamps_of rest) s) && is_gone log s) e)
+    by false e = ap (λ b. some_gone (cond b (Some (cell_in log x)) (find (λ (cell : TaggedCell). is_same cell.stamp s) rest))) e
+        ∙ among_gone log s xs ∙ sym (ap (λ b. (b || is_among (stamps_of rest) s) && is_gone log s) e)
+
+and_true : (a b : Bool) → a ≡ true → b ≡ true → (a && b) ≡ true
+and_true a b h k = grind arith
+
+and_second : (a b : Bool) → (a && b) ≡ true → b ≡ true
+and_second true b h = h
+and_second false b h = absurd (cc h)
+
+pub character_gone : (log : List Operation) → IsHistory log → (s : Stamp) → is_gone log s ≡ true → has_character log s ≡ true
+character_gone log h s e = split (has_character log s) (λ y. y) (λ n. absurd (let other = not_gone log h s n in cc (other, e)))
+
+pub gone_in_log : (log : List Operation) (s : Stamp) → has_gone (cells_of log) s ≡ true → is_gone log s ≡ true
+gone_in_log log s h = and_second (is_among (stamps_of (cells_of log)) s) (is_gone log s) (sym (among_gone log s (reading (characters log))) ∙ h)
+
+pub gone_in_cells : (log : List Operation) → IsHistory log → (s : Stamp) → is_gone log s ≡ true → has_gone (cells_of log) s ≡ true
+gone_in_cells log h s e =
+    among_gone log s (reading (characters log))
+    ∙ and_true (is_among (stamps_of (cells_of log)) s) (is_gone log s) (cells_have log h s ∙ or_true_left (has_character log s) (is_same _ s) (character_gone log h s e)) e
+  where
+    or_true_left : (a b : Bool) → a ≡ true → (a || b) ≡ true
+    or_true_left true b h = refl
+    or_true_left false b h = absurd (cc h)
+
+-- so a cell that is gone stays so
+pub cells_stay_gone : (old new : List Operation) → IsHistory new → Grows old new → (s : Stamp) → has_gone (cells_of old) s ≡ true → has_gone (cells_of new) s ≡ true
+cells_stay_gone old new h grows s e = gone_in_cells new h s (grows s (gone_in_log old s e))

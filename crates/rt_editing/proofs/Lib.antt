@@ -1,0 +1,4 @@
+pub mod Actions
+pub mod Growing
+pub mod Noted
+pub mod Outcomes

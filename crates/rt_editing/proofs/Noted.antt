@@ -1,0 +1,121 @@
+-- What is recorded of an edit, and that a site stays settled.
+use Rattle.std.proofs.Common.{◌≡◌, ◌∙◌, ◌⊎◌, ℕ, Bool, true, false, List, [], ◌∷◌, ◌++◌, Result, Ok, Err, cond, inl, inr, map, length, ap, refl, subst, sym}
+use Rattle.std.specs.Prelude.{◌&&◌}
+use Rattle.std.specs.List.{AllByRecursion}
+use Rattle.rt_stamps.specs.declared.fault.Fault.{Fault}
+use Rattle.rt_stamps.specs.declared.stamp.Stamp.{Stamp}
+use Rattle.rt_stamps.specs.Outcomes.{Refuses}
+use Rattle.rt_stamps.specs.Words.{Word}
+use Rattle.rt_store.specs.Cells.{text_of}
+use Rattle.rt_store.specs.Shown.{TaggedCell}
+use Rattle.rt_revert.specs.Reverting.{as_removed}
+use Rattle.rt_revert.specs.ReversionLaws.{AreSound, IsSound}
+use Rattle.rt_recorder.specs.Recordings.{Recording, came_back, made}
+use Rattle.rt_recorder.specs.Settled.{IsSettled, is_gone}
+use Rattle.rt_text.specs.Widgets.{Viewed}
+use Rattle.rt_undo.specs.declared.action.Kind.{Kind}
+use Rattle.rt_undo.specs.Actions.{Action}
+use Rattle.rt_undo.specs.Undo.{History, added, as_group, asks_separator, forced_on, recorded, separated}
+use Rattle.rt_editing.specs.Edited.{Edited, edited}
+use Rattle.rt_editing.specs.Edits.{action_of, counts_between, has_changed, noted, noted_by, recorded_edit}
+use Rattle.rt_editing.specs.Noting.{IsOfLog, Keeps}
+use Rattle.rt_editing.proofs.Growing.{Grows, cells_stay_gone}
+
+-- SOUND HISTORIES
+
+pub record IsSoundHistory (h : History (List Word)) : Type 0 where
+  pub closed : AllByRecursion AreSound h.closed
+  pub current : AreSound h.current
+  pub undone : AllByRecursion AreSound h.undone
+
+pub every_append : {X : Type 0} (P : X → Type 0) (xs ys : List X) → AllByRecursion P xs → AllByRecursion P ys → AllByRecursion P (xs ++ ys)
+every_append P [] ys h k = k
+every_append P (x ∷ xs) ys h k = (h.0, every_append P xs ys h.1 k)
+
+group_sound : (group : List (Action (List Word))) → AreSound group → AllByRecursion AreSound (as_group group)
+group_sound [] h = tt
+group_sound (action ∷ group) h = (h, tt)
+
+pub separated_sound : (h : History (List Word)) → IsSoundHistory h → IsSoundHistory (separated h)
+separated_sound h sound = record {
+  closed = every_append AreSound h.closed (as_group h.current) sound.closed (group_sound h.current sound.current);
+  current = tt;
+  undone = sound.undone;
+}
+
+recorded_sound : (action : Action (List Word)) (h : History (List Word)) → IsSound action → IsSoundHistory h → IsSoundHistory (recorded action h)
+recorded_sound action h k sound = record { closed = sound.closed; current = every_append IsSound h.current (action ∷ []) sound.current (k, tt); undone = tt }
+
+added_sound : (auto : Bool) (action : Action (List Word)) (h : History (List Word)) → IsSound action → IsSoundHistory h → IsSoundHistory (added auto action h)
+added_sound auto action h k sound = by (auto && asks_separator action.kind h)
+  where
+    by : (b : Bool) → IsSoundHistory (recorded action (cond b (separated h) h))
+    by true = recorded_sound action (separated h) k (separated_sound h sound)
+    by false = recorded_sound action h k sound
+
+pub forced_sound : (h : History (List Word)) → IsSoundHistory h → IsSoundHistory (forced_on h)
+forced_sound h sound = record { closed = sound.closed; current = sound.current; undone = sound.undone }
+
+pub noted_sound : (changed undo auto : Bool) (action : Action (List Word)) (h : History (List Word)) → IsSound action → IsSoundHistory h → IsSoundHistory (noted_by changed undo auto action h)
+noted_sound true true auto action h k sound = added_sound auto action h k sound
+noted_sound true false auto action h k sound = forced_sound h sound
+noted_sound false undo auto action h k sound = sound
+
+pub history_of : (view : Viewed) (recording : Recording) → IsSettled view recording → IsSoundHistory recording.history
+history_of view recording settled = record { closed = settled.closed; current = settled.current; undone = settled.undone }
+
+-- SETTLED SITES
+
+-- who came back stays gone while the log grows
+pub settled_after : (view new : Viewed) (old next : Recording) → IsSettled view old → IsOfLog view.doc → IsOfLog new.doc → Grows view.doc.log new.doc.log
+    → ((s : Stamp) → came_back next s ≡ came_back old s) → IsSoundHistory next.history → IsSettled new next
+settled_after view new old next settled kept same grows back sound = record {
+  gone = λ s h. ap (λ (cells : List TaggedCell). is_gone cells s) same.cells
+      ∙ cells_stay_gone view.doc.log new.doc.log same.history grows s (sym (ap (λ (cells : List TaggedCell). is_gone cells s) kept.cells) ∙ settled.gone s (sym (back s) ∙ h));
+  closed = sound.closed;
+  current = sound.current;
+  undone = sound.undone;
+}
+
+-- nothing changes while an action is prepared
+pub settled_kept : (view new : Viewed) (old next : Recording) → IsSettled view old → new ≡ view → Keeps old next → IsSettled new next
+settled_kept view new old next settled same keeps = record {
+  gone = λ s h. ap (λ (v : Viewed). is_gone v.doc.cells s) same ∙ settled.gone s (sym (keeps.back s) ∙ h);
+  closed = subst (λ (h : History (List Word)). AllByRecursion AreSound h.closed) (sym keeps.history) settled.closed;
+  current = subst (λ (h : History (List Word)). AreSound h.current) (sym keeps.history) settled.current;
+  undone = subst (λ (h : History (List Word)). AllByRecursion AreSound h.undone) (sym keeps.history) settled.undone;
+}
+
+pub edited_kept : (view new : Viewed) (old next : Recording) → new ≡ view → Keeps old next → edited new next ≡ edited view old
+edited_kept view new old next same keeps = λ i. record { view = same i; history = keeps.history i; undo = keeps.undo i; auto = keeps.auto i }
+
+pub keeps_itself : (old : Recording) → Keeps old old
+keeps_itself old = record { history = refl; undo = refl; auto = refl; back = λ s. refl }
+
+-- AN EDIT THAT IS MADE
+
+module _ (kind : Kind) (lost : List TaggedCell) (view new : Viewed) (old mid next : Recording) (cells visible count site : ℕ)
+    (same_cells : cells ≡ length view.doc.cells) (same_visible : visible ≡ length (text_of view.doc.cells)) (same_count : count ≡ view.doc.count) (same_site : site ≡ view.doc.site)
+    (keeps : Keeps old mid)
+    (history : next.history ≡ noted_by (has_changed cells visible new.doc) mid.undo mid.auto (made kind (counts_between site count new.doc.count) (map as_removed lost)) mid.history)
+    (settings : (next.undo ≡ mid.undo) × (next.auto ≡ mid.auto)) where
+  pub noted_history : next.history ≡ noted kind lost (edited view old) new.doc
+  noted_history = history ∙ (λ i. noted_by (has_changed (same_cells i) (same_visible i) new.doc) (keeps.undo i) (keeps.auto i)
+      (made kind (counts_between (same_site i) (same_count i) new.doc.count) (map as_removed lost)) (keeps.history i))
+
+  pub edit_done : (said : Result Viewed Fault) → said ≡ Ok new → recorded_edit kind lost (edited view old) said ≡ Ok (edited new next)
+  edit_done said e =
+      ap (recorded_edit kind lost (edited view old)) e
+      ∙ (λ i. Ok (record { view = new; history = sym noted_history i; undo = sym (settings.0 ∙ keeps.undo) i; auto = sym (settings.1 ∙ keeps.auto) i }))
+
+  pub edit_settled : IsSettled view old → IsOfLog view.doc → IsOfLog new.doc → Grows view.doc.log new.doc.log → next.moves ≡ mid.moves
+      → IsSound (action_of kind view.doc new.doc lost) → IsSettled new next
+  edit_settled settled kept same grows moves sound =
+      settled_after view new old next settled kept same grows (λ s. ap (λ m. came_back (record next { moves = m }) s) moves ∙ keeps.back s)
+      (subst IsSoundHistory (sym noted_history)
+      (noted_sound (has_changed (length view.doc.cells) (length (text_of view.doc.cells)) new.doc) old.undo old.auto (action_of kind view.doc new.doc lost) old.history sound (history_of view old settled)))
+
+-- one that is refused
+pub edit_refused : (kind : Kind) (lost : List TaggedCell) (text : Edited) (said : Result Viewed Fault) (fault : Fault) → Refuses said fault → Refuses (recorded_edit kind lost text said) fault
+edit_refused kind lost text said fault (inl e) = inl e
+edit_refused kind lost text said fault (inr e) = inr (ap (recorded_edit kind lost text) e)

@@ -1,0 +1,21 @@
+-- Undo and redo of a text with its history: nothing is done where edits aren't recorded.
+use Rattle.std.specs.Prelude.{List, Result, Ok, Err, if◌then◌else◌}
+use Rattle.rt_stamps.specs.declared.fault.Fault.{Fault}
+use Rattle.rt_stamps.specs.Words.{Word}
+use Rattle.rt_recorder.specs.Reversals.{redone, undone}
+use Rattle.rt_text.specs.Widgets.{Viewed}
+use Rattle.rt_undo.specs.Undo.{History}
+use Rattle.rt_editing.specs.Edited.{Edited}
+
+-- a text after another view and history
+abbrev pub with_history : Edited → Result (Viewed × History (List Word)) Fault → Result Edited Fault
+with_history text (Ok left) = Ok (record text { view = left.0; history = left.1 })
+with_history text (Err fault) = Err fault
+
+-- `edit undo`
+abbrev pub text_undone : Edited → Result Edited Fault
+text_undone text = if text.undo then with_history text (undone text.view text.history) else Ok text
+
+-- `edit redo`
+abbrev pub text_redone : Edited → Result Edited Fault
+text_redone text = if text.undo then with_history text (redone text.view text.history) else Ok text

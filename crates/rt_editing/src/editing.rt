@@ -1,0 +1,107 @@
+// Insertions, removals, replacements, and operations of other sites.
+ghost use Rattle.std.specs.Prelude.{◌≡◌, ◌⊎◌, Ok, IfErr, IfOk, OnErr, OnOk, map, string_bytes};
+ghost use Rattle.rt_stamps.specs.Outcomes.{Refuses};
+ghost use Rattle.rt_rga.specs.Answers.{Refused};
+ghost use Rattle.rt_rga.specs.Taken.{told};
+ghost use Rattle.rt_recorder.specs.Settled.{IsSettled};
+ghost use Rattle.rt_text.specs.Accepted.{answer_of};
+ghost use Rattle.rt_editing.specs.Edited.{edited};
+ghost use Rattle.rt_editing.specs.Edits.{text_after, text_deleted, text_inserted, text_replaced};
+
+use crate::before::Before;
+use crate::noting::{note, prepare_deletion, prepare_insertion, prepare_replacement};
+use rt_edits::Piece;
+use rt_oplog::Op;
+use rt_recorder::Recorder;
+use rt_rga::Taken;
+use rt_stamps::Fault;
+use rt_store::TextStore;
+use rt_text::View;
+use rt_undo::Kind;
+
+/// `insert INDEX CHARS ?TAGLIST CHARS TAGLIST ...?` (Tk text manual), as `View::insert` does it, with the
+/// action that it is for undo. Its faults, and then all is as it was.
+pub fn insert<S: TextStore>(
+    view: &mut View<S>,
+    recorder: &mut Recorder,
+    index: &str,
+    pieces: &[Piece],
+    rest: &str,
+) -> Result<(), Fault>
+    requires { IsSettled view.old recorder.old }
+    ensures ok { OnOk result (text_inserted (edited view.old recorder.old) index.now pieces.now rest.now ≡ Ok (edited view.new recorder.new)) }
+    ensures err { IfErr result (Refuses (text_inserted (edited view.old recorder.old) index.now pieces.now rest.now)) }
+    ensures unchanged { OnErr result (edited view.new recorder.new ≡ edited view.old recorder.old) }
+    ensures settled { IsSettled view.new recorder.new }
+{
+    let before = Before::of(view);
+    prepare_insertion(view, recorder)?;
+    view.insert(index, pieces, rest)?;
+    note(view, recorder, Kind::Insert, before);
+    Ok(())
+}
+
+/// `delete INDEX ?INDEX ...?` (Tk text manual), as `View::delete` does it, with the action that it is for
+/// undo. Its faults, and then all is as it was.
+pub fn delete<S: TextStore>(
+    view: &mut View<S>,
+    recorder: &mut Recorder,
+    indices: &[String],
+) -> Result<(), Fault>
+    requires { IsSettled view.old recorder.old }
+    ensures ok { OnOk result (text_deleted (edited view.old recorder.old) (map (λ w. string_bytes w) indices.now) ≡ Ok (edited view.new recorder.new)) }
+    ensures err { IfErr result (Refuses (text_deleted (edited view.old recorder.old) (map (λ w. string_bytes w) indices.now))) }
+    ensures unchanged { OnErr result (edited view.new recorder.new ≡ edited view.old recorder.old) }
+    ensures settled { IsSettled view.new recorder.new }
+{
+    let before = Before::of(view);
+    prepare_deletion(view, recorder, indices)?;
+    view.delete(indices)?;
+    note(view, recorder, Kind::Delete, before);
+    Ok(())
+}
+
+/// `replace INDEX INDEX CHARS ?TAGLIST CHARS TAGLIST ...?` (Tk text manual), as `View::replace` does it:
+/// one action for undo. Its faults, and then all is as it was.
+pub fn replace<S: TextStore>(
+    view: &mut View<S>,
+    recorder: &mut Recorder,
+    from: &str,
+    to: &str,
+    pieces: &[Piece],
+    rest: &str,
+) -> Result<(), Fault>
+    requires { IsSettled view.old recorder.old }
+    ensures ok { OnOk result (text_replaced (edited view.old recorder.old) from.now to.now pieces.now rest.now ≡ Ok (edited view.new recorder.new)) }
+    ensures err { IfErr result (Refuses (text_replaced (edited view.old recorder.old) from.now to.now pieces.now rest.now)) }
+    ensures unchanged { OnErr result (edited view.new recorder.new ≡ edited view.old recorder.old) }
+    ensures settled { IsSettled view.new recorder.new }
+{
+    let before = Before::of(view);
+    prepare_replacement(view, recorder, from, to)?;
+    view.replace(from, to, pieces, rest)?;
+    note(view, recorder, Kind::Replace, before);
+    Ok(())
+}
+
+/// Accepts an operation of any site, as `View::accept` does: it is never recorded, and forces the modified
+/// flag where it changes the visible text. Its faults, and then all is as it was.
+pub fn accept<S: TextStore>(
+    view: &mut View<S>,
+    recorder: &mut Recorder,
+    op: Op,
+) -> Result<Taken, Fault>
+    requires { IsSettled view.old recorder.old }
+    ensures answer { IfOk result (λ taken. answer_of view.old.doc op ≡ told taken) }
+    ensures ok { OnOk result (edited view.new recorder.new ≡ text_after (answer_of view.old.doc op) op (edited view.old recorder.old)) }
+    ensures refused { IfErr result (λ fault. (answer_of view.old.doc op ≡ Refused fault) ⊎ (fault ≡ Fault.NoMemory)) }
+    ensures unchanged { OnErr result (edited view.new recorder.new ≡ edited view.old recorder.old) }
+    ensures settled { IsSettled view.new recorder.new }
+{
+    let before = Before::of(view);
+    let taken = view.accept(op)?;
+    if before.has_changed(view) {
+        recorder.force();
+    }
+    Ok(taken)
+}

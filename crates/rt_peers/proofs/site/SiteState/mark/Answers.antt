@@ -1,4 +1,0 @@
-use Rattle.rt_peers.proofs.site.SiteState.mark.Goals as goal
-
-pub returns-in-Set : goal.returns-in-Set
-returns-in-Set c = rw c.in-Set.is c.set_mark.ensures

@@ -1,0 +1,78 @@
+// Replies of no word, one word, numbers and positions.
+ghost use Rattle.std.specs.Prelude.{◌≡◌, ◌∷◌, [], map, string_bytes, IfOk, IfErr};
+ghost use Rattle.std.specs.Fmt.{signed_decimal};
+ghost use Rattle.rt_stamps.specs.Places.{text_of_position};
+ghost use Rattle.rt_peers.specs.ViewStep.{one_word, text_of_bool};
+
+use crate::reply::Reply;
+use itoa::Buffer;
+use rt_stamps::{Fault, Position};
+use std::alloc::Global;
+
+// How many bytes the text of a position takes in a text of ordinary length. A longer one takes more memory.
+const POSITION_BYTES: usize = 24;
+
+// A reply without words.
+pub(crate) fn no_words(alloc: Global) -> Reply
+    ensures { result ≡ [] }
+{
+    Reply {
+        words: Vec::new(alloc),
+    }
+}
+
+// A reply of one word.
+pub(crate) fn one_word(alloc: Global, word: String) -> Result<Reply, Fault>
+    ensures ok { IfOk result (λ reply. reply ≡ string_bytes word ∷ []) }
+    ensures err { IfErr result (λ fault. fault ≡ Fault.NoMemory) }
+{
+    let mut words = Vec::with_capacity(alloc, 1)?;
+    words.push(word)?;
+    Ok(Reply { words })
+}
+
+// Truth, as it is written.
+pub(crate) fn truth(alloc: Global, holds: bool) -> Result<Reply, Fault>
+    ensures ok { IfOk result (λ reply. reply ≡ one_word (text_of_bool holds)) }
+    ensures err { IfErr result (λ fault. fault ≡ Fault.NoMemory) }
+{
+    let text = if holds { "1" } else { "0" };
+    one_word(alloc, String::from_str(alloc, text)?)
+}
+
+// A reply of numbers.
+pub(crate) fn numbers(alloc: Global, values: &[i64]) -> Result<Reply, Fault>
+    ensures ok { IfOk result (λ reply. reply ≡ map signed_decimal values.now) }
+    ensures err { IfErr result (λ fault. fault ≡ Fault.NoMemory) }
+{
+    let mut words = Vec::with_capacity(alloc, values.len())?;
+    for value in values {
+        words.push(value.to_string(alloc)?)?;
+    }
+    Ok(Reply { words })
+}
+
+// The text of a position.
+pub(crate) fn position_text(alloc: Global, position: Position) -> Result<String, Fault>
+    ensures ok { IfOk result (λ text. string_bytes text ≡ text_of_position position) }
+    ensures err { IfErr result (λ fault. fault ≡ Fault.NoMemory) }
+{
+    let mut digits = Buffer::new();
+    let mut text = String::with_capacity(alloc, POSITION_BYTES)?;
+    text.push_str(digits.format(position.line))?;
+    text.push('.')?;
+    text.push_str(digits.format(position.character))?;
+    Ok(text)
+}
+
+// A reply of positions.
+pub(crate) fn positions_reply(alloc: Global, positions: &[Position]) -> Result<Reply, Fault>
+    ensures ok { IfOk result (λ reply. reply ≡ map text_of_position positions.now) }
+    ensures err { IfErr result (λ fault. fault ≡ Fault.NoMemory) }
+{
+    let mut words = Vec::with_capacity(alloc, positions.len())?;
+    for position in positions {
+        words.push(position_text(alloc, *position)?)?;
+    }
+    Ok(Reply { words })
+}

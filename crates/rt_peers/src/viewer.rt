@@ -1,0 +1,58 @@
+// What the site's widget shows, and what is asked of it.
+ghost use Rattle.std.specs.Prelude.{◌≡◌, ◌≤◌, IfOk, IfErr};
+ghost use Rattle.rt_stamps.specs.declared.limits.TheConstants.{MOST_CELLS};
+ghost use Rattle.rt_rga.specs.Cells.{cells_of};
+ghost use Rattle.rt_rga.specs.Histories.{IsHistory, greatest_last_count};
+ghost use Rattle.rt_peers.specs.State.{new_view};
+
+mod dumping;
+mod editing;
+mod marking;
+mod reading;
+mod searching;
+mod tagging;
+
+use rt_oplog::OpLog;
+use rt_stamps::{Fault, Site};
+use rt_text::View;
+use rt_tree::TreeStore;
+use std::alloc::Global;
+use std::marker::Model;
+
+/// A document, as the site's widget shows it.
+#[derive(Drop)]
+pub(crate) struct Viewer {
+    alloc: Global,
+    view: View<TreeStore>,
+}
+
+impl Model for Viewer {
+    ghost use Rattle.rt_text.specs.Widgets.{Viewed};
+
+    ghost Value = { Viewed };
+
+    ghost view = { λ v. v.view };
+}
+
+impl Viewer {
+    /// A new document of a site, with at most `limit` cells, and a new widget. Want of memory.
+    pub fn new(alloc: Global, site: Site, limit: usize) -> Result<Viewer, Fault>
+        requires { (1 ≤ limit) × (limit ≤ MOST_CELLS) }
+        ensures ok { IfOk result (λ viewer. viewer ≡ new_view site.number limit) }
+        ensures err { IfErr result (λ fault. fault ≡ Fault.NoMemory) }
+    {
+        let store = TreeStore::new(alloc)?;
+        let view = View::new(alloc, store, site, limit)?;
+        Ok(Viewer { alloc, view })
+    }
+
+    /// The log of the document, which is a history: the cells are its cells.
+    pub fn log(&self) -> &OpLog
+        ensures operations { result.now.operations ≡ self.now.doc.log }
+        ensures history { IsHistory self.now.doc.log }
+        ensures cells { self.now.doc.cells ≡ cells_of self.now.doc.log }
+        ensures count { self.now.doc.count ≡ greatest_last_count self.now.doc.log }
+    {
+        self.view.doc().log()
+    }
+}

@@ -1,0 +1,110 @@
+// Edits of the text, with what is recorded of them.
+ghost use Rattle.std.specs.Prelude.{◌≤◌, length, map};
+ghost use Rattle.rt_stamps.specs.declared.limits.TheConstants.{MOST_BYTES};
+ghost use Rattle.rt_stamps.specs.Outcomes.{Answers};
+ghost use Rattle.rt_requests.specs.Parts.{all_of};
+ghost use Rattle.rt_recorder.specs.Settled.{IsSettled};
+ghost use Rattle.rt_editing.specs.Edited.{edited};
+ghost use Rattle.rt_editing.specs.Edits.{text_deleted, text_inserted, text_replaced};
+ghost use Rattle.rt_editing.specs.Reverts.{text_redone, text_undone};
+ghost use Rattle.rt_exchange.specs.Receiving.{Receives};
+ghost use Rattle.rt_peers.specs.ViewStep.{as_piece, changed_step};
+
+use super::Viewer;
+use crate::pieces::owned;
+use crate::replies::no_words;
+use crate::reply::Reply;
+use rt_exchange::Received;
+use rt_recorder::Recorder;
+use rt_requests::{Texts, Word, Words};
+use rt_stamps::Fault;
+use rt_tree::TreeStore;
+
+impl Viewer {
+    // Texts with their tags, and a text without a list, before the character at an index.
+    pub(crate) fn insert(
+        &mut self,
+        recorder: &mut Recorder,
+        index: &Word<'_>,
+        texts: &Texts<'_>,
+    ) -> Result<Reply, Fault>
+        requires { IsSettled self.old recorder.old }
+        ensures answers { Answers (changed_step (text_inserted (edited self.old recorder.old) index.now (map as_piece texts.now.pieces) texts.now.rest))
+            (edited self.old recorder.old) result (edited self.new recorder.new) }
+        ensures settled { IsSettled self.new recorder.new }
+    {
+        let pieces = owned(self.alloc, texts.pieces())?;
+        let view = &mut self.view;
+        rt_editing::insert(view, recorder, index.text(), &pieces, texts.rest())?;
+        Ok(no_words(self.alloc))
+    }
+
+    // Texts with their tags, and a text without a list, in the place of the characters from one index up
+    // to before another.
+    pub(crate) fn replace(
+        &mut self,
+        recorder: &mut Recorder,
+        from: &Word<'_>,
+        to: &Word<'_>,
+        texts: &Texts<'_>,
+    ) -> Result<Reply, Fault>
+        requires { IsSettled self.old recorder.old }
+        ensures answers { Answers (changed_step (text_replaced (edited self.old recorder.old) from.now to.now (map as_piece texts.now.pieces) texts.now.rest))
+            (edited self.old recorder.old) result (edited self.new recorder.new) }
+        ensures settled { IsSettled self.new recorder.new }
+    {
+        let pieces = owned(self.alloc, texts.pieces())?;
+        let view = &mut self.view;
+        rt_editing::replace(view, recorder, from.text(), to.text(), &pieces, texts.rest())?;
+        Ok(no_words(self.alloc))
+    }
+
+    // Without the characters in the ranges of some indices.
+    pub(crate) fn delete(
+        &mut self,
+        recorder: &mut Recorder,
+        indices: &Words<'_>,
+    ) -> Result<Reply, Fault>
+        requires { IsSettled self.old recorder.old }
+        ensures answers { Answers (changed_step (text_deleted (edited self.old recorder.old) (all_of indices.now)))
+            (edited self.old recorder.old) result (edited self.new recorder.new) }
+        ensures settled { IsSettled self.new recorder.new }
+    {
+        rt_editing::delete(&mut self.view, recorder, indices.all())?;
+        Ok(no_words(self.alloc))
+    }
+
+    // The last group of edits is undone.
+    pub(crate) fn undo(&mut self, recorder: &mut Recorder) -> Result<Reply, Fault>
+        requires { IsSettled self.old recorder.old }
+        ensures answers { Answers (changed_step (text_undone (edited self.old recorder.old)))
+            (edited self.old recorder.old) result (edited self.new recorder.new) }
+        ensures settled { IsSettled self.new recorder.new }
+    {
+        let copy = TreeStore::new(self.alloc)?;
+        rt_editing::undo(&mut self.view, recorder, copy)?;
+        Ok(no_words(self.alloc))
+    }
+
+    // The group that was undone last is done again.
+    pub(crate) fn redo(&mut self, recorder: &mut Recorder) -> Result<Reply, Fault>
+        requires { IsSettled self.old recorder.old }
+        ensures answers { Answers (changed_step (text_redone (edited self.old recorder.old)))
+            (edited self.old recorder.old) result (edited self.new recorder.new) }
+        ensures settled { IsSettled self.new recorder.new }
+    {
+        let copy = TreeStore::new(self.alloc)?;
+        rt_editing::redo(&mut self.view, recorder, copy)?;
+        Ok(no_words(self.alloc))
+    }
+
+    // The bytes of a file of operations are received.
+    pub(crate) fn receive(&mut self, recorder: &mut Recorder, bytes: &[u8]) -> Received
+        requires bytes { length bytes.now ≤ MOST_BYTES }
+        requires settled { IsSettled self.old recorder.old }
+        ensures receives { Receives bytes.now (edited self.old recorder.old) result (edited self.new recorder.new) }
+        ensures settled { IsSettled self.new recorder.new }
+    {
+        rt_exchange::receive(self.alloc, &mut self.view, recorder, bytes)
+    }
+}

@@ -1,0 +1,198 @@
+// Undo at sites that receive files, and exchange theirs.
+use crate::exchange::{Case, HOLDS_FIRST, exchange, receive_all, session};
+use crate::sites::Script;
+use std::alloc::Global;
+use std::process::Abort;
+use std::test::Fail;
+
+// What site 1 does first, what site 2 does upon that, what site 1 does then, which receives that on the
+// way, and how site 2 receives that. Both show the text in the end.
+#[derive(Clone, Copy)]
+struct Undoing {
+    first: Script<'static>,
+    other: Script<'static>,
+    one: Script<'static>,
+    receives_one: Script<'static>,
+    after: Script<'static>,
+}
+
+// Sites 1 and 2 exchange their files. Then both have the same log.
+fn undo_among(rt: &impl Abort, alloc: Global, case: &Undoing) -> Result<(), Fail> {
+    let first = session(rt, alloc, 1, &[], &[case.first])?;
+    let begun: &[(&str, &[u8])] = &[("first", &first)];
+    let other = session(rt, alloc, 2, begun, &[HOLDS_FIRST, case.other])?;
+    let files: &[(&str, &[u8])] = &[("other", &other)];
+    let log = session(rt, alloc, 1, files, &[case.first, case.one, case.after])?;
+    let files: &[(&str, &[u8])] = &[("first", &first), ("one", &log)];
+    let scripts = [HOLDS_FIRST, case.other, case.receives_one, case.after];
+    let equal = session(rt, alloc, 2, files, &scripts)?;
+    assert_eq!(rt; equal.as_slice(), log.as_slice());
+    Ok(())
+}
+
+#[test]
+fn undo_beside_a_received_character(rt: HostRuntime) -> Result<(), Fail> {
+    let case = Undoing {
+        first: &[(".t configure -undo 1", "="), (".t insert 1.0 abc", "=")],
+        other: &[(".t insert 1.1 X", "=")],
+        one: &[
+            (".t delete 1.1", "="),
+            ("receive other", "= 1 1"),
+            (".t get 1.0 end", r#"= "aXc\n""#),
+            (".t edit undo", "="),
+            (".t get 1.0 end", r#"= "aXbc\n""#),
+            (".t edit undo", "="),
+            (".t get 1.0 end", r#"= "X\n""#),
+            (".t edit undo", "! 12 NothingToUndo"),
+            (".t edit redo", "="),
+        ],
+        receives_one: &[("receive one", "= 6 2")],
+        after: &[(".t get 1.0 end", r#"= "aXbc\n""#)],
+    };
+    undo_among(&rt, rt.alloc(), &case)
+}
+
+#[test]
+fn undo_of_a_removal_around_new_text(rt: HostRuntime) -> Result<(), Fail> {
+    let case = Undoing {
+        first: &[(".t configure -undo 1", "="), (".t insert 1.0 abcd t", "=")],
+        other: &[(".t insert 1.2 YY u", "=")],
+        one: &[
+            (".t delete 1.1 1.3", "="),
+            ("receive other", "= 1 1"),
+            (".t get 1.0 end", r#"= "aYYd\n""#),
+            (".t edit undo", "="),
+        ],
+        receives_one: &[("receive one", "= 3 2")],
+        after: &[
+            (".t get 1.0 end", r#"= "abYYcd\n""#),
+            (".t tag ranges t", "= 1.0 1.2 1.4 1.6"),
+            (".t tag ranges u", "= 1.2 1.4"),
+        ],
+    };
+    undo_among(&rt, rt.alloc(), &case)
+}
+
+#[test]
+fn undo_of_what_another_site_removed(rt: HostRuntime) -> Result<(), Fail> {
+    let case = Undoing {
+        first: &[(".t configure -undo 1", "="), (".t insert 1.0 abc", "=")],
+        other: &[(".t delete 1.0 end", "=")],
+        one: &[
+            ("receive other", "= 1 1"),
+            (".t get 1.0 end", r#"= "\n""#),
+            (".t edit undo", "="),
+            (".t edit canundo", "= 0"),
+            (".t edit canredo", "= 1"),
+            (".t edit redo", "="),
+            (".t edit canundo", "= 1"),
+            (".t edit canredo", "= 0"),
+        ],
+        receives_one: &[("receive one", "= 0 2")],
+        after: &[(".t get 1.0 end", r#"= "\n""#)],
+    };
+    undo_among(&rt, rt.alloc(), &case)
+}
+
+#[test]
+fn redo_of_what_was_left(rt: HostRuntime) -> Result<(), Fail> {
+    let case = Undoing {
+        first: &[(".t configure -undo 1", "="), (".t insert 1.0 abc", "=")],
+        other: &[(".t delete 1.1", "=")],
+        one: &[
+            ("receive other", "= 1 1"),
+            (".t edit undo", "="),
+            (".t get 1.0 end", r#"= "\n""#),
+            (".t edit redo", "="),
+        ],
+        receives_one: &[("receive one", "= 3 2")],
+        after: &[(".t get 1.0 end", r#"= "ac\n""#)],
+    };
+    undo_among(&rt, rt.alloc(), &case)
+}
+
+// One character that two sites removed and brought back is there twice.
+#[test]
+fn one_removal_undone_at_two_sites(rt: HostRuntime) -> Result<(), Fail> {
+    let undone: Script<'static> = &[
+        (".t configure -undo 1", "="),
+        (".t delete 1.1", "="),
+        (".t edit undo", "="),
+        (".t get 1.0 end", r#"= "abc\n""#),
+    ];
+    let case = Case {
+        first: &[(".t insert 1.0 abc", "=")],
+        one: undone,
+        other: undone,
+        receives_one: &[("receive one", "= 2 1")],
+        receives_other: &[("receive other", "= 2 1")],
+        after: &[(".t get 1.0 end", r#"= "abbc\n""#)],
+    };
+    exchange(&rt, rt.alloc(), &case)
+}
+
+// What is received is never recorded, and forces the flag where it changes which characters are visible.
+const RECEIVED: &[(u16, Script<'static>)] = &[
+    (
+        3,
+        &[
+            (".t configure -undo 1", "="),
+            (".t edit modified", "= 0"),
+            ("receive ab", "= 1 0"),
+            (".t edit modified", "= 1"),
+            (".t edit undo", "! 12 NothingToUndo"),
+            (".t edit modified 0", "="),
+            ("receive ab", "= 0 1"),
+            (".t edit modified", "= 0"),
+            ("receive tagged", "= 1 1"),
+            (".t tag ranges t", "= 1.0 1.1"),
+            (".t edit modified", "= 0"),
+        ],
+    ),
+    (
+        3,
+        &[
+            (".t configure -undo 1", "="),
+            ("receive ab", "= 1 0"),
+            (".t delete 1.1", "="),
+            (".t edit modified 0", "="),
+            ("receive second_gone", "= 1 1"),
+            (".t edit modified", "= 0"),
+            (".t edit undo", "="),
+            (".t get 1.0 end", r#"= "ab\n""#),
+            (".t edit modified", "= 1"),
+            (".t edit canredo", "= 1"),
+            ("receive y", "= 1 0"),
+            (".t edit canredo", "= 1"),
+            (".t edit redo", "="),
+            (".t get 1.0 end", r#"= "aY\n""#),
+        ],
+    ),
+    (
+        3,
+        &[
+            ("receive ab", "= 1 0"),
+            (".t edit modified 0", "="),
+            ("receive second_gone", "= 1 1"),
+            (".t edit modified", "= 1"),
+        ],
+    ),
+    (
+        1,
+        &[
+            (".t configure -undo 1", "="),
+            (".t insert 1.0 a", "="),
+            (".t delete 1.0", "="),
+            ("receive last", "= 1 0"),
+            (".t edit undo", "! 17 ClockSpent"),
+            (".t get 1.0 end", r#"= "z\n""#),
+            (".t edit canundo", "= 1"),
+            (".t edit canredo", "= 0"),
+        ],
+    ),
+];
+
+#[test]
+fn what_is_received_is_not_recorded(rt: HostRuntime) -> Result<(), Fail> {
+    receive_all(&rt, rt.alloc(), RECEIVED)
+}

@@ -1,4 +1,0 @@
-pub mod Asked
-pub mod EditWords
-pub mod OptionWords
-pub mod Truth
