@@ -227,6 +227,27 @@ pub still_after : (t : TagStates) (moves : Shown Move) (back : Stamp → Bool) (
 still_after t moves back group e stay =
     group_still t moves group (subst (λ (b : Stamp → Bool). HaveStayed b (named_group t group)) (λ j s. sym (e s) j) stay)
 
+removed_stayed : (t : TagStates) (back : Stamp → Bool) (removed : List (Removed ℕ)) → AllByRecursion (λ r. back r.stamp ≡ false) removed
+    → AllByRecursion (λ r. back r.stamp ≡ false) (map (named_removed t) removed)
+removed_stayed t back [] still = tt
+removed_stayed t back (r ∷ removed) still = (still.0, removed_stayed t back removed still.1)
+
+pub group_stayed : (t : TagStates) (moves : Shown Move) (group : List (Action ℕ)) → AreStill moves group → HaveStayed (is_moved moves) (named_group t group)
+group_stayed t moves [] still = tt
+group_stayed t moves (a ∷ group) still =
+    (record { inserted = still.0.inserted; removed = removed_stayed t (is_moved moves) a.removed still.0.removed }, group_stayed t moves group still.1)
+
+-- the next groups, with the names of tags
+pub undo_named : (t : TagStates) (h : History ℕ) → next_undo (named_history t h) ≡ option_map (named_group t) (next_undo h)
+undo_named t h = ap (λ l. last l) (to_undo_named t h) ∙ last_map (named_group t) (to_undo h)
+
+pub redo_named : (t : TagStates) (h : History ℕ) → next_redo (named_history t h) ≡ option_map (named_group t) (next_redo h)
+redo_named t h = last_map (named_group t) h.undone
+
+pub none_from : {A B : Type 0} (f : A → B) (o : Option A) → option_map f o ≡ None → o ≡ None
+none_from f None e = refl
+none_from f (Some x) e = absurd (cc e)
+
 -- THE STATES OF TAGS
 
 removed_given : (t : TagStates) (f : Stamp → Stamp) (removed : List (Removed ℕ)) → RemovedAreGiven t removed → RemovedAreGiven t (map (with_stamp {T = ℕ} f) removed)

@@ -2,10 +2,10 @@
 use Rattle.std.specs.Prelude.{◌≡◌, ℕ, ◌+◌, ◌<◌, ◌≤◌, ◌||◌, Bool, false, List, [], ◌∷◌, length}
 use Rattle.rt_stamps.specs.declared.limits.TheConstants.{GREATEST_COUNT}
 use Rattle.rt_stamps.specs.declared.stamp.Stamp.{Stamp}
-use Rattle.rt_stamps.specs.declared.stamp.TheConstants.{FINAL}
 use Rattle.rt_stamps.specs.Stamps.{is_same}
 use Rattle.rt_undo.specs.Actions.{Action}
 pub use Rattle.rt_revert.specs.declared.plan.Return.{Return}
+pub use Rattle.rt_revert.specs.Progress.{IsOther}
 pub use Rattle.rt_revert.specs.Reverting.{stamp_after}
 
 -- which characters came back, after one more did
@@ -32,7 +32,3 @@ AreReturns back (r ∷ returns) = IsReturn back r × AreReturns (back_with r bac
 abbrev pub removed_count : {T : Type 0} → List (Action T) → ℕ
 removed_count [] = 0
 removed_count (action ∷ group) = length action.removed + removed_count group
-
--- a character that came back isn't the final newline
-abbrev pub IsOther : Return → Type 0
-IsOther r = is_same r.newer FINAL ≡ false

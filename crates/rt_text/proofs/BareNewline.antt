@@ -1,6 +1,6 @@
 -- The last newline without its tags, and text that is inserted before it.
 use Rattle.std.proofs.Common.{◌≡◌, ℕ, zero, suc, ◌+◌, ◌<◌, ◌≤◌, ◌&&◌, ◌||◌, List, [], ◌∷◌, ◌++◌, Bool, true, false, cond, inl, inr, length, take, drop, map, filter, refl, sym, ap, ◌∙◌, subst, arith, Option, None, Some}
-use Rattle.std.specs.List.{AllByRecursion, list_any}
+use Rattle.std.specs.List.{AllByRecursion}
 use Rattle.std.specs.Str.{bytes_eq, chars}
 use Rattle.std.proofs.lemmas.Bool.{or_from, or_parts}
 use Rattle.std.proofs.lemmas.Bool.Decides.{nat_tests}
@@ -11,7 +11,6 @@ use Rattle.rt_stamps.specs.declared.stamp.TheConstants.{FINAL}
 use Rattle.rt_stamps.specs.Stamps.{is_same}
 use Rattle.rt_stamps.specs.Words.{Word}
 use Rattle.rt_stamps.proofs.Order.{same_sym}
-use Rattle.rt_oplog.specs.Operations.{Body}
 use Rattle.rt_store.specs.Cells.{cells_from, stamps_of}
 use Rattle.rt_store.specs.Shown.{TaggedCell}
 use Rattle.rt_store.specs.Spans.{is_among}
@@ -25,7 +24,6 @@ use Rattle.rt_tags.proofs.Places.{same_name}
 use Rattle.rt_edits.specs.Flat.{Flat}
 use Rattle.rt_edits.specs.InsertionDrafts.{behind, insertion_drafts, pieces_drafts, text_drafts}
 use Rattle.rt_edits.specs.Insertions.{Insertion, Piece, all_listed, are_among, cells_of_inserts, counts_for, further_tags, inserts_for, insertion_of, last_of, new_state, selected_if, shared_names, tagged_cells, tags_between, with_listed, with_pieces, with_unlisted}
-use Rattle.rt_edits.specs.Selections.{with_stamps}
 use Rattle.rt_edits.specs.TagWrites.{bared, tag_write, tagged, with_tag}
 use Rattle.rt_edits.proofs.PlanLaws.{among_with}
 use Rattle.rt_edits.proofs.Putting.{tagged_state}

@@ -3,7 +3,7 @@ use Rattle.std.proofs.Common.{◌≡◌, ◌∙◌, ℕ, zero, suc, ◌+◌, ◌
 use Rattle.std.specs.List.{AllByRecursion}
 use Rattle.std.proofs.lemmas.List.{drop_more}
 use Rattle.std.proofs.lemmas.List.Elements.{All-from_recursion, All-get_or}
-use Rattle.rt_marks.specs.Marks.{Each, Mark, is_moved_on, mark_inserted, mark_left, marks_inserted, place_left}
+use Rattle.rt_marks.specs.Marks.{Each, Mark, is_moved_on, mark_left, marks_inserted, place_left}
 use Rattle.rt_marks.proofs.InOrder.{each_in_order}
 use Rattle.rt_edits.specs.Removals.{is_covered}
 use Rattle.rt_revert.specs.declared.plan.TextChange.{TextChange}

@@ -1,5 +1,5 @@
 -- What a deletion gives, by its checks, and what it leaves of a document.
-use Rattle.std.proofs.Common.{◌≡◌, ℕ, ◌<◌, ◌≤◌, ◌⊎◌, inl, inr, List, [], ◌∷◌, ◌++◌, Bool, true, false, cond, length, map, refl, sym, ◌∙◌, ap, arith, subst, Some, None, Ok, Err, Option, Result, OnOk}
+use Rattle.std.proofs.Common.{◌≡◌, ℕ, ◌<◌, ◌≤◌, ◌⊎◌, inl, inr, List, [], ◌∷◌, ◌++◌, Bool, false, cond, length, map, refl, sym, ◌∙◌, ap, arith, subst, Some, None, Ok, Err, Option, Result, OnOk}
 use Rattle.std.specs.Prelude.{is_some}
 use Rattle.rt_marks.specs.Marks.{Mark, marks_left, place_left}
 use Rattle.rt_oplog.specs.Operations.{Body}

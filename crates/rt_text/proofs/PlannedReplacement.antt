@@ -1,9 +1,7 @@
 -- What the plan of a replacement finds, by what is kept of a document.
-use Rattle.std.proofs.Common.{◌≡◌, ◌∙◌, ℕ, zero, suc, ◌+◌, ◌-◌, ◌<◌, ◌≤◌, ◌++◌, Bool, true, false, cond, List, [], ◌∷◌, length, map, min, Option, None, Some, refl, sym, ap, arith, subst}
+use Rattle.std.proofs.Common.{◌≡◌, ◌∙◌, ℕ, suc, ◌+◌, ◌-◌, ◌<◌, ◌≤◌, ◌++◌, Bool, true, false, cond, List, [], ◌∷◌, length, map, min, Option, None, Some, refl, sym, ap, arith, subst}
 use Rattle.std.specs.Prelude.{IfSome, is_some, option_map, unwrap_or}
-use Rattle.std.proofs.lemmas.Bool.{cond-true}
 use Rattle.std.proofs.lemmas.List.{length-map, map-append}
-use Rattle.std.proofs.lemmas.Option.{slice_get-map}
 use Rattle.rt_marks.specs.Marks.{place_left}
 use Rattle.rt_stamps.specs.declared.limits.TheConstants.{MOST_CELLS, MOST_CHARACTERS, MOST_SPANS}
 use Rattle.rt_stamps.specs.declared.stamp.Stamp.{Stamp}
@@ -16,7 +14,7 @@ use Rattle.rt_store.specs.declared.cell.Cell.{Cell}
 use Rattle.rt_store.specs.Cells.{text_of, visible_of}
 use Rattle.rt_store.specs.Shown.{TaggedCell, shown}
 use Rattle.rt_store.proofs.Distinct.{split}
-use Rattle.rt_store.proofs.Shown.{text_shown, visible_shown}
+use Rattle.rt_store.proofs.Shown.{text_shown}
 use Rattle.rt_tags.specs.States.{TagStates, state_at}
 use Rattle.rt_rga.specs.Cells.{cell_in}
 use Rattle.rt_rga.specs.Histories.{IsHistory, final_character}
@@ -24,7 +22,7 @@ use Rattle.rt_rga.proofs.Final.{cells_last}
 use Rattle.rt_edits.specs.declared.inserting.Plan.{Plan}
 use Rattle.rt_edits.specs.declared.range.Range.{Range}
 use Rattle.rt_edits.specs.Deletions.{delete_drafts, loss_in, without_text}
-use Rattle.rt_edits.specs.DraftLaws.{IsDocument, SparesLast}
+use Rattle.rt_edits.specs.DraftLaws.{IsDocument}
 use Rattle.rt_edits.specs.Flat.{Flat}
 use Rattle.rt_edits.specs.InsertionDrafts.{insertion_drafts}
 use Rattle.rt_edits.specs.InsertionPlans.{Plans}
@@ -36,7 +34,7 @@ use Rattle.rt_edits.proofs.PieceDraftLaws.{insertion_grows}
 use Rattle.rt_edits.proofs.PlaceLaws.{length_text, text_within}
 use Rattle.rt_edits.proofs.RestLaws.{left_shown}
 use Rattle.rt_text.specs.Commands.{with_range_replaced}
-use Rattle.rt_text.specs.Replacements.{PlansReplacement, drafts_at, insertion_at, left_by, loss_at, none_inserted}
+use Rattle.rt_text.specs.Replacements.{drafts_at, insertion_at, left_by, loss_at, none_inserted}
 use Rattle.rt_text.specs.Widgets.{Own, Viewed, length_shown}
 use Rattle.rt_text.proofs.Deletions.{deletion_rest}
 use Rattle.rt_text.proofs.PutLaws.{visible_same}

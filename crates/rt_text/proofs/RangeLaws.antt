@@ -1,5 +1,5 @@
 -- Indices, ranges and texts, one more.
-use Rattle.std.proofs.Common.{◌≡◌, ℕ, ◌+◌, ◌-◌, ◌<◌, ◌≤◌, ◌⊎◌, inl, inr, List, [], ◌∷◌, true, false, length, drop, map, min, get_or, refl, sym, ◌∙◌, ap, arith, Some, None, Ok, Option, String, Global, string_bytes}
+use Rattle.std.proofs.Common.{◌≡◌, ℕ, ◌+◌, ◌-◌, ◌<◌, ◌≤◌, ◌⊎◌, inl, inr, List, [], ◌∷◌, true, false, length, drop, map, min, get_or, refl, sym, ◌∙◌, ap, arith, Some, Ok, Option, String, Global, string_bytes}
 use Rattle.std.specs.Prelude.{encode_utf8_all}
 use Rattle.std.specs.Result.{result_err, result_unwrap_or}
 use Rattle.std.proofs.lemmas.List.{drop_more, length-drop, length-take}

@@ -1,27 +1,26 @@
 -- What the deletion of a replacement leaves, as its insertion finds it.
-use Rattle.std.proofs.Common.{◌≡◌, ◌∙◌, ℕ, zero, suc, ◌+◌, ◌-◌, ◌<◌, ◌≤◌, ◌&&◌, ◌||◌, ◌++◌, Bool, true, false, cond, not, All, List, [], ◌∷◌, length, map, filter, min, Option, None, Some, refl, sym, ap, arith, subst, nat_lt, nat_le}
+use Rattle.std.proofs.Common.{◌≡◌, ◌∙◌, ℕ, zero, suc, ◌+◌, ◌-◌, ◌<◌, ◌≤◌, ◌||◌, ◌++◌, Bool, true, false, cond, not, All, List, [], ◌∷◌, length, map, min, Option, None, Some, refl, sym, ap, arith, subst, nat_lt, nat_le}
 use Rattle.std.specs.Prelude.{IfSome, is_some, option_map, option_and_then, slice_get, unwrap_or}
 use Rattle.std.specs.List.{AllByRecursion}
-use Rattle.std.proofs.lemmas.Bool.{and_from, and_parts, cond-false, cond-true, or_from, or_left}
+use Rattle.std.proofs.lemmas.Bool.{and_from, and_parts, or_from, or_left}
 use Rattle.std.proofs.lemmas.Bool.Decides.{nat_tests}
 use Rattle.std.proofs.lemmas.List.{length-append}
 use Rattle.std.proofs.lemmas.List.Elements.{filter-append}
 use Rattle.std.proofs.Math.Seq.{get_or-append_seam}
 use Rattle.rt_marks.specs.Marks.{place_left}
-use Rattle.rt_stamps.specs.declared.limits.TheConstants.{GREATEST_COUNT, MOST_CHARACTERS, MOST_SPANS}
+use Rattle.rt_stamps.specs.declared.limits.TheConstants.{MOST_CHARACTERS, MOST_SPANS}
 use Rattle.rt_stamps.specs.declared.stamp.Stamp.{Stamp}
 use Rattle.rt_stamps.specs.declared.stamp.TheConstants.{FINAL, ROOT}
 use Rattle.rt_stamps.specs.Stamps.{is_same}
 use Rattle.rt_stamps.specs.Words.{Word}
 use Rattle.rt_stamps.proofs.Order.{same_sym}
-use Rattle.rt_oplog.specs.Operations.{Body, Delete, Tag, last_of}
-use Rattle.rt_store.specs.declared.cell.Cell.{Cell}
+use Rattle.rt_oplog.specs.Operations.{Body, Delete, last_of}
 use Rattle.rt_store.specs.Cells.{AreDistinct, stamps_of, text_of, visible_of}
 use Rattle.rt_store.specs.Shown.{TaggedCell}
 use Rattle.rt_store.specs.Spans.{is_among}
-use Rattle.rt_store.specs.Written.{AreWritten, IsWritten}
+use Rattle.rt_store.specs.Written.{IsWritten}
 use Rattle.rt_store.proofs.Distinct.{split}
-use Rattle.rt_tags.specs.States.{IsByName, is_on, names_on}
+use Rattle.rt_tags.specs.States.{IsByName, names_on}
 use Rattle.rt_rga.specs.Cells.{cell_in, writes_on}
 use Rattle.rt_rga.specs.Histories.{IsHistory, final_character, greatest_last_count}
 use Rattle.rt_rga.specs.Requests.{last_count_after}
@@ -43,7 +42,6 @@ use Rattle.rt_edits.specs.TagWrites.{bared}
 use Rattle.rt_edits.proofs.DeletionDraftLaws.{loss_counted, spares_last, stamps_gone, still_ends}
 use Rattle.rt_edits.proofs.NewlineDrafts.{EndsAs, document_ends, length_ends}
 use Rattle.rt_edits.proofs.PieceDraftLaws.{apart_front}
-use Rattle.rt_edits.proofs.PlaceLaws.{length_text}
 use Rattle.rt_text.specs.Commands.{without_ranges}
 use Rattle.rt_text.specs.Replacements.{drafts_at, insertion_at, loss_at, none_inserted}
 use Rattle.rt_text.specs.Widgets.{Own, Viewed, length_shown}

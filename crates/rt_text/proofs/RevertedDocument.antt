@@ -1,12 +1,12 @@
 -- A document after a group was reverted, which its replica made.
-use Rattle.std.proofs.Common.{◌≡◌, ◌∙◌, ℕ, ◌+◌, ◌<◌, ◌≤◌, ◌&&◌, ◌||◌, Bool, true, false, not, All, List, [], ◌∷◌, None, Option, Some, length, map, refl, sym, ap, arith, subst}
+use Rattle.std.proofs.Common.{◌≡◌, ◌∙◌, ℕ, ◌+◌, ◌<◌, ◌≤◌, ◌&&◌, ◌||◌, Bool, true, false, not, All, List, [], ◌∷◌, Option, Some, length, map, refl, sym, ap, arith, subst}
 use Rattle.std.specs.List.{list_all}
 use Rattle.std.specs.Prelude.{codes, slice_get, unwrap_or}
 use Rattle.std.specs.Str.{bytes_eq, is_utf8}
 use Rattle.std.proofs.lemmas.Bool.{and_parts, not-true, or_left, or_right}
 use Rattle.std.proofs.lemmas.List.Elements.{All-cons, All-nil}
 use Rattle.rt_marks.specs.Marks.{Mark, marks_inserted, marks_left}
-use Rattle.rt_oplog.specs.Operations.{Body, Name, Operation}
+use Rattle.rt_oplog.specs.Operations.{Body, Name}
 use Rattle.rt_oplog.specs.Rules.{is_name}
 use Rattle.rt_stamps.specs.declared.fault.Fault.{Fault}
 use Rattle.rt_stamps.specs.declared.fault.Fault.TheVariants.{ClockSpent}
@@ -48,7 +48,7 @@ use Rattle.rt_revert.specs.ReversionLaws.{AreSound}
 use Rattle.rt_revert.proofs.CellCounts.{reversion_cells}
 use Rattle.rt_revert.proofs.Induction.{reversion_keeps}
 use Rattle.rt_revert.proofs.Steps.{reversion_made, reversion_may}
-use Rattle.rt_text.specs.Commands.{cell_check, clock_check}
+use Rattle.rt_text.specs.Commands.{cell_check}
 use Rattle.rt_text.specs.Kept.{IsDoc}
 use Rattle.rt_text.specs.Reversions.{own_reverted, reversion_check}
 use Rattle.rt_text.specs.Widgets.{AreSiteMarks, IsOwnOf, Own, own_inserted, own_left}

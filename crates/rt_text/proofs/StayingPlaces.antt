@@ -1,11 +1,9 @@
 -- Where characters stand before and after a removal.
-use Rattle.std.proofs.Common.{◌≡◌, ℕ, zero, suc, ◌+◌, ◌-◌, ◌^◌, ◌<◌, ◌≤◌, ◌||◌, List, [], ◌∷◌, Bool, true, false, cond, not, All, length, drop, get_or, map, refl, sym, ap, ◌∙◌, subst, arith, Option, Some, nat_le, nat_lt}
+use Rattle.std.proofs.Common.{◌≡◌, ℕ, zero, suc, ◌+◌, ◌-◌, ◌^◌, ◌<◌, ◌≤◌, List, [], ◌∷◌, Bool, true, false, cond, not, All, length, drop, get_or, map, refl, sym, ap, ◌∙◌, subst, arith, Some, nat_le, nat_lt}
 use Rattle.std.specs.Prelude.{slice_get}
 use Rattle.std.proofs.lemmas.Bool.{cond-false, cond-true, or_from}
 use Rattle.std.proofs.lemmas.Bool.Decides.{nat_tests}
 use Rattle.std.proofs.lemmas.List.{drop_all, drop_more}
-use Rattle.std.proofs.lemmas.List.Elements.{All-filter}
-use Rattle.std.proofs.lemmas.Option.{get_or_from_slice_get, slice_get_within}
 use Rattle.rt_marks.specs.Marks.{place_left, place_removed}
 use Rattle.rt_marks.proofs.Leaving.{place_kept, place_rising, place_then}
 use Rattle.rt_stamps.specs.declared.limits.TheConstants.{MOST_CELLS}

@@ -88,8 +88,8 @@ impl Recorder {
         ensures settled { IsSettled view.new self.new }
     {
         let group = self.undo_group()?;
-        let reverted = self.revert(view, copy, &group)?;
-        self.undone(&reverted.returns, reverted.actions);
+        let Reverted { returns, actions } = self.revert(view, copy, &group)?;
+        self.undone(&returns, actions);
         Ok(())
     }
 
@@ -112,8 +112,8 @@ impl Recorder {
         ensures settled { IsSettled view.new self.new }
     {
         let group = self.redo_group()?;
-        let reverted = self.revert(view, copy, &group)?;
-        self.redone(&reverted.returns, reverted.actions);
+        let Reverted { returns, actions } = self.revert(view, copy, &group)?;
+        self.redone(&returns, actions);
         Ok(())
     }
 }

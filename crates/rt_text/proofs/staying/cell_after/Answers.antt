@@ -1,4 +1,4 @@
-use Rattle.std.proofs.Common.{◌≡◌, ◌∙◌, ◌<◌, ◌≤◌, All, arith, length}
+use Rattle.std.proofs.Common.{◌∙◌, length}
 use Rattle.rt_store.specs.Cells.{visible_of}
 use Rattle.rt_edits.specs.Removals.{is_covered}
 use Rattle.rt_edits.proofs.RestLaws.{visible_given}

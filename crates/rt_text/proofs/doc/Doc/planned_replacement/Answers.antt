@@ -1,8 +1,7 @@
-use Rattle.std.proofs.Common.{◌≡◌, ◌∙◌, ◌⊎◌, ℕ, ◌+◌, ◌-◌, ◌<◌, ◌≤◌, List, [], ◌∷◌, cond, None, length, map, min, ap, arith, inl, inr, subst, sym}
+use Rattle.std.proofs.Common.{◌≡◌, ◌∙◌, ◌⊎◌, ◌+◌, ◌-◌, ◌<◌, [], ◌∷◌, cond, None, length, min, ap, arith, inl, inr, subst, sym}
 use Rattle.std.specs.Prelude.{is_some}
 use Rattle.std.proofs.lemmas.Result.{err_from_is_err_and}
 use Rattle.rt_stamps.specs.declared.limits.TheConstants.{GREATEST_COUNT}
-use Rattle.rt_stamps.specs.declared.stamp.Stamp.{Stamp}
 use Rattle.rt_marks.specs.Marks.{place_left}
 use Rattle.rt_store.specs.Cells.{visible_of}
 use Rattle.rt_edits.specs.Deletions.{loss_in, without_text}
@@ -10,7 +9,6 @@ use Rattle.rt_edits.specs.Flat.{Flat}
 use Rattle.rt_edits.specs.Insertions.{left_neighbour, right_neighbour}
 use Rattle.rt_edits.specs.Removals.{gone_at, is_covered}
 use Rattle.rt_edits.specs.Selected.{stamps_in}
-use Rattle.rt_text.specs.Commands.{with_range_replaced}
 use Rattle.rt_text.specs.Replacements.{loss_at}
 use Rattle.rt_text.specs.Widgets.{Own}
 use Rattle.rt_text.proofs.PlannedReplacement.{at_left, counted, counts_grow, drafts_are, few_visible, place_within, plan_is, same_text, spares, too_great, visible_some}

@@ -1,15 +1,11 @@
-use Rattle.std.proofs.Common.{◌≡◌, ◌∙◌, ◌⊎◌, ◌<◌, ◌≤◌, ◌+◌, ◌^◌, ◌-◌, ℕ, All, List, ap, arith, inl, inr, length, map, string_bytes, subst, sym}
+use Rattle.std.proofs.Common.{◌≡◌, ◌∙◌, ◌⊎◌, ◌≤◌, ◌^◌, ◌-◌, All, ap, arith, inl, inr, length, map, string_bytes, subst, sym}
 use Rattle.std.specs.List.{AllByRecursion}
-use Rattle.std.specs.Prelude.{codes}
 use Rattle.std.proofs.lemmas.List.{length-map}
 use Rattle.std.proofs.lemmas.Result.{err_from_is_err_and}
 use Rattle.rt_oplog.specs.Edits.{body_of}
-use Rattle.rt_stamps.specs.declared.limits.TheConstants.{GREATEST_COUNT, MOST_CELLS}
-use Rattle.rt_stamps.specs.Words.{Word}
-use Rattle.rt_store.specs.declared.cell.Cell.{Cell}
+use Rattle.rt_stamps.specs.declared.limits.TheConstants.{MOST_CELLS}
 use Rattle.rt_store.specs.Cells.{text_of}
 use Rattle.rt_store.specs.Shown.{shown}
-use Rattle.rt_tags.specs.States.{TagStates}
 use Rattle.rt_tags.specs.Tags.{IsName}
 use Rattle.rt_rga.specs.Drafts.{with_drafts}
 use Rattle.rt_rga.specs.Made.{refusal_of}
@@ -17,9 +13,8 @@ use Rattle.rt_rga.specs.Requests.{MayBeMade}
 use Rattle.rt_rga.proofs.Requests.{greatest_bound}
 use Rattle.rt_edits.specs.Flat.{Flat}
 use Rattle.rt_edits.specs.Insertions.{all_listed}
-use Rattle.rt_edits.specs.Selected.{stamps_in}
 use Rattle.rt_edits.proofs.PlaceLaws.{text_within}
-use Rattle.rt_undo.specs.Actions.{Action, group_of}
+use Rattle.rt_undo.specs.Actions.{group_of}
 use Rattle.rt_revert.specs.Plans.{IsChange, IsOf, marks_after, named_group}
 use Rattle.rt_revert.specs.Reverting.{reversion, reverted}
 use Rattle.rt_revert.specs.ReversionLaws.{AreSound}
@@ -27,7 +22,7 @@ use Rattle.rt_revert.proofs.Steps.{reversion_sound}
 use Rattle.rt_text.specs.Changes.{own_after}
 use Rattle.rt_text.specs.Kept.{IsDoc}
 use Rattle.rt_text.specs.Reversions.{own_reverted, reversion_check}
-use Rattle.rt_text.specs.Widgets.{IsOwnOf, Own}
+use Rattle.rt_text.specs.Widgets.{IsOwnOf}
 use Rattle.rt_text.proofs.MadeDocument.{seen}
 use Rattle.rt_text.proofs.MarkLaws.{site_fits}
 use Rattle.rt_text.proofs.PlannedReversion.{IsPlanned, names_planned, not_planned, own_left_in, own_moved, planned, reverts}
