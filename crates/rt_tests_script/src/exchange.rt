@@ -72,7 +72,11 @@ pub(crate) fn session(
 }
 
 /// Runs each script of a table on a new site of a number that may receive each of the samples.
-pub(crate) fn receive_all(rt: &impl Abort, alloc: Global, table: &[(u16, Script)]) -> Result<(), Fail> {
+pub(crate) fn receive_all(
+    rt: &impl Abort,
+    alloc: Global,
+    table: &[(u16, Script)],
+) -> Result<(), Fail> {
     let files: &[(&str, &[u8])] = &[
         ("ab", INSERT_AB),
         ("ab", INSERT_B),
