@@ -35,7 +35,7 @@ use Rattle.rt_text.specs.Commands.{lost_in}
 use Rattle.rt_text.specs.Widgets.{Viewed, begin_of, text_shown}
 use Rattle.rt_undo.specs.declared.action.Kind.{Kind}
 use Rattle.rt_undo.specs.Actions.{Removed}
-use Rattle.rt_editing.specs.Edits.{counts_between}
+use Rattle.rt_editing.specs.Edits.{action_of, counts_between}
 use Rattle.rt_editing.specs.Noting.{IsOfLog}
 use Rattle.rt_editing.proofs.Growing.{character_gone, gone_in_log}
 
@@ -152,3 +152,7 @@ lost_sound view ranges kept =
 
 pub action_sound : (kind : Kind) (site before after : ℕ) (removed : List (Removed (List Word))) → 0 < site → AllByRecursion MayReturn removed → IsSound (made kind (counts_between site before after) removed)
 action_sound kind site before after removed h k = record { inserted = counts_spare_final site before after h; removed = k }
+
+-- an edit's action, where it is the site's own
+pub edit_sound : (kind : Kind) (site : ℕ) (old new : Flat) (lost : List TaggedCell) → site ≡ old.site → 0 < site → AllByRecursion MayReturn (map as_removed lost) → IsSound (action_of kind old new lost)
+edit_sound kind site old new lost e h k = action_sound kind old.site old.count new.count (map as_removed lost) (subst (λ n. 0 < n) e h) k

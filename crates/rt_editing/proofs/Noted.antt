@@ -10,15 +10,19 @@ use Rattle.rt_store.specs.Cells.{text_of}
 use Rattle.rt_store.specs.Shown.{TaggedCell}
 use Rattle.rt_revert.specs.Reverting.{as_removed}
 use Rattle.rt_revert.specs.ReversionLaws.{AreSound, IsSound}
-use Rattle.rt_recorder.specs.Recordings.{Recording, came_back, made}
+use Rattle.rt_recorder.specs.Recordings.{HasStayed, Recording, came_back, made}
 use Rattle.rt_recorder.specs.Settled.{IsSettled, is_gone}
-use Rattle.rt_text.specs.Widgets.{Viewed}
+use Rattle.rt_edits.specs.declared.range.Range.{Range}
+use Rattle.rt_edits.specs.Deletions.{loss_in}
+use Rattle.rt_text.specs.Commands.{lost_in}
+use Rattle.rt_text.specs.Widgets.{Viewed, begin_of, text_shown}
 use Rattle.rt_undo.specs.declared.action.Kind.{Kind}
-use Rattle.rt_undo.specs.Actions.{Action}
+use Rattle.rt_undo.specs.Actions.{Action, Removed}
 use Rattle.rt_undo.specs.Undo.{History, added, as_group, asks_separator, forced_on, recorded, separated}
 use Rattle.rt_editing.specs.Edited.{Edited, edited}
 use Rattle.rt_editing.specs.Edits.{action_of, counts_between, has_changed, noted, noted_by, recorded_edit}
 use Rattle.rt_editing.specs.Noting.{IsOfLog, Keeps}
+use Rattle.rt_editing.proofs.Actions.{action_stays, places_stay}
 use Rattle.rt_editing.proofs.Growing.{Grows, cells_stay_gone}
 
 -- SOUND HISTORIES
@@ -114,6 +118,33 @@ module _ (kind : Kind) (lost : List TaggedCell) (view new : Viewed) (old mid nex
       settled_after view new old next settled kept same grows (λ s. ap (λ m. came_back (record next { moves = m }) s) moves ∙ keeps.back s)
       (subst IsSoundHistory (sym noted_history)
       (noted_sound (has_changed (length view.doc.cells) (length (text_of view.doc.cells)) new.doc) old.undo old.auto (action_of kind view.doc new.doc lost) old.history sound (history_of view old settled)))
+
+-- who came back under another stamp is none of the edit's characters
+pub edit_stays : (kind : Kind) (view : Viewed) (old mid : Recording) (count site after : ℕ) (removed : List (Removed (List Word)))
+    → count ≡ view.doc.count → site ≡ view.doc.site → IsSettled view old → IsOfLog view.doc → Keeps old mid
+    → AllByRecursion (λ (r : Removed (List Word)). came_back mid r.stamp ≡ false) removed → HasStayed (came_back mid) (made kind (counts_between site count after) removed)
+edit_stays kind view old mid count site after removed c s settled kept keeps h =
+    let stays : HasStayed (came_back mid) (made kind (counts_between view.doc.site view.doc.count after) removed) =
+    action_stays view.doc kept (came_back mid) (λ t back. settled.gone t (sym (keeps.back t) ∙ back)) kind after removed h in
+    subst (λ (x : _). x) (λ i. HasStayed (came_back mid) (made kind (counts_between (sym s i) (sym c i) after) removed)) stays
+
+pub lost_stay : (view : Viewed) (old mid : Recording) (ranges : List Range) → IsSettled view old → IsOfLog view.doc → Keeps old mid
+    → AllByRecursion (λ (r : Removed (List Word)). came_back mid r.stamp ≡ false) (map as_removed (lost_in view ranges))
+lost_stay view old mid ranges settled kept keeps =
+    places_stay view.doc kept (came_back mid) (λ t back. settled.gone t (sym (keeps.back t) ∙ back)) (loss_in (text_shown view) (begin_of view) ranges).places
+
+-- WHAT IS ACCEPTED
+
+-- the flag may be forced, where it is of no action
+pub settled_forced : (view new : Viewed) (old next : Recording) → next ≡ record old { history = forced_on old.history } → IsSettled view old → IsOfLog view.doc → IsOfLog new.doc
+    → Grows view.doc.log new.doc.log → IsSettled new next
+settled_forced view new old next e settled kept same grows =
+    subst (IsSettled new) (sym e)
+    (settled_after view new old (record old { history = forced_on old.history }) settled kept same grows (λ s. refl) (forced_sound old.history (history_of view old settled)))
+
+pub settled_same : (view new : Viewed) (old next : Recording) → next ≡ old → IsSettled view old → IsOfLog view.doc → IsOfLog new.doc → Grows view.doc.log new.doc.log → IsSettled new next
+settled_same view new old next e settled kept same grows =
+    subst (IsSettled new) (sym e) (settled_after view new old old settled kept same grows (λ s. refl) (history_of view old settled))
 
 -- one that is refused
 pub edit_refused : (kind : Kind) (lost : List TaggedCell) (text : Edited) (said : Result Viewed Fault) (fault : Fault) → Refuses said fault → Refuses (recorded_edit kind lost text said) fault

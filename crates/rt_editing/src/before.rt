@@ -40,9 +40,11 @@ impl Before {
 
     /// Whether the document's text was changed since.
     pub fn has_changed<S: TextStore>(self, view: &View<S>) -> bool
-        ensures { result ≡ has_changed self.cells self.visible view.now.doc }
+        ensures changed { result ≡ has_changed self.cells self.visible view.now.doc }
+        ensures kept { IsOfLog view.now.doc }
     {
         let doc = view.doc();
+        let _ = doc.log();
         self.cells < doc.cells() || doc.visible() < self.visible
     }
 }

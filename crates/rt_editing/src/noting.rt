@@ -125,11 +125,10 @@ pub(crate) fn note<S: TextStore>(
     ensures moves { recorder.new.moves ≡ recorder.old.moves }
     ensures kept { IsOfLog view.now.doc }
 {
-    let doc = view.doc();
-    let _ = doc.log();
     if before.has_changed(view) {
         if recorder.is_undo_on() {
-            recorder.record(kind, before.site, before.count + 1, doc.count());
+            let last = view.doc().count();
+            recorder.record(kind, before.site, before.count + 1, last);
         } else {
             recorder.force();
         }
