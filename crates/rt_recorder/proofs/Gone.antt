@@ -98,7 +98,7 @@ gone_still places p (c ∷ cs) s h =
     (λ g. ap (λ l. is_gone l s) (cond-false c.gone same other g)
     ∙ gone_cons left (gone_at places (p + 1) cs) s
     ∙ later (is_same c.stamp s) (places p) (is_gone cs s) (is_gone (gone_at places (p + 1) cs) s)
-        (ap (λ b. cond (is_same c.stamp s) b (is_gone cs s)) (sym g) ∙ told) (gone_still places (p + 1) cs s))
+    (ap (λ b. cond (is_same c.stamp s) b (is_gone cs s)) (sym g) ∙ told) (gone_still places (p + 1) cs s))
 
 -- A NEW CELL
 

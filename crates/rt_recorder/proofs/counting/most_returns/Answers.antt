@@ -7,8 +7,13 @@ use Rattle.rt_recorder.proofs.counting.most_returns.Goals as goal
 pub loop-action-preserved : goal.loop-action-preserved
 loop-action-preserved c = record {
   few = c.in_ok-all.ensures.few;
-  all = omega (arith, c.loop-action.invariant.all, c.in_ok-all.ensures.ok, ap (λ l. length (removed_in l)) c.deref.ensures.value,
-      action_step c.args.group.now c.loop-action.action-index c.action-item.result c.loop-action-test.true c.action-item.is);
+  all = omega (
+    arith,
+    c.loop-action.invariant.all,
+    c.in_ok-all.ensures.ok,
+    ap (λ l. length (removed_in l)) c.deref.ensures.value,
+    action_step c.args.group.now c.loop-action.action-index c.action-item.result c.loop-action-test.true c.action-item.is,
+  );
 }
 
 pub returns-clause-ok : goal.returns-clause-ok

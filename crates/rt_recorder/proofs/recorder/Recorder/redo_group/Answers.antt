@@ -18,6 +18,7 @@ pub returns-clause-none : goal.returns-clause-none
 returns-clause-none c =
     let s = c.self.inside in
     let e : next_redo c.args.self.now.history ≡ option_map (named_group s.table) (next_redo s.stacks.history)
-    = sym (ap (λ (v : Recording). next_redo v.history) c.self.view_is) ∙ redo_named s.table s.stacks.history in
-    (λ is. e ∙ ap (option_map (named_group s.table)) (c.redo.ensures.none.0 is),
-    λ none. c.redo.ensures.none.1 (none_from (named_group s.table) (next_redo s.stacks.history) (sym e ∙ none)))
+    = sym (ap (λ (v : Recording). next_redo v.history) c.self.view_is) ∙ redo_named s.table s.stacks.history in (
+      λ is. e ∙ ap (option_map (named_group s.table)) (c.redo.ensures.none.0 is),
+      λ none. c.redo.ensures.none.1 (none_from (named_group s.table) (next_redo s.stacks.history) (sym e ∙ none)),
+    )
