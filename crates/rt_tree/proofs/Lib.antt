@@ -46,3 +46,4 @@ mod Skipping
 mod Positions
 mod Buffers
 mod Tagging
+mod Housing

@@ -1,9 +1,10 @@
 // Cells that become gone, or get another state.
-ghost use Rattle.std.specs.Prelude.{◌≡◌, ◌+◌, ◌<◌, ◌≤◌, ℕ, List, length, map};
+ghost use Rattle.std.specs.Prelude.{◌≡◌, ◌+◌, ◌<◌, ◌≤◌, ℕ, List, length, map, true};
 ghost use Rattle.std.specs.List.{AllByRecursion};
 ghost use Rattle.rt_stamps.specs.declared.limits.TheConstants.{MOST_CELLS};
 ghost use Rattle.rt_store.specs.Cells.{is_in_span};
 ghost use Rattle.rt_store.specs.Spans.{last_stamp, next_stamp};
+ghost use Rattle.rt_tree.specs.Homes.{AreHome};
 ghost use Rattle.rt_tree.specs.Runs.{IsRun, first_stamp};
 ghost use Rattle.rt_tree.specs.Shape.{IsTree, tree_runs};
 ghost use Rattle.rt_tree.specs.Sharing.{AreApart, BeginsAt, IsChangedAt, IsRecut, cell_in, run_in};
@@ -13,6 +14,7 @@ ghost use Rattle.rt_tree.specs.Trees.{HasNodes};
 
 use crate::cut::{Change, part};
 use crate::find::{cells_of, seek};
+use crate::homes::Homes;
 use crate::node::{Measure, Mem, Run};
 use crate::put::replace;
 use rt_nodes::NodeId;
@@ -77,12 +79,15 @@ fn mark_runs(mem: &mut Mem, root: NodeId, span: Span, mark: &Mark)
 }
 
 // Sees to it that each run which has the stamp behind a span begins with it.
-fn part_behind(mem: &mut Mem, root: NodeId, span: Span) -> Change
+fn part_behind(mem: &mut Mem, root: NodeId, span: Span, homes: &mut Homes, keep: usize) -> Change
+    requires home { homes.old.sure ≡ true → AreHome homes.old.leaves (tree_runs mem.old root.index) }
     requires tree { IsTree mem.old root.index }
     requires kept { AreKept (tree_runs mem.old root.index) }
     requires apart { AreApart (tree_runs mem.old root.index) }
     requires few { (counts_of (tree_runs mem.old root.index)).cells ≤ MOST_CELLS }
     requires room { HasNodes mem.old (length (tree_runs mem.old root.index)) }
+    ensures home { homes.new.sure ≡ true → AreHome homes.new.leaves (tree_runs mem.new result.root.index) }
+    ensures left { keep ≤ homes.old.left → keep ≤ homes.new.left }
     ensures tree { IsTree mem.new result.root.index }
     ensures recut { IsRecut (tree_runs mem.old root.index) (tree_runs mem.new result.root.index) }
     ensures begins { AllByRecursion (BeginsAt (next_stamp (last_stamp span))) (tree_runs mem.new result.root.index) }
@@ -94,18 +99,28 @@ fn part_behind(mem: &mut Mem, root: NodeId, span: Span) -> Change
         None => Change { root, more: 0 },
         Some(count) => {
             let site = span.site;
-            part(mem, root, Stamp { count, site })
+            part(mem, root, Stamp { count, site }, homes, keep)
         }
     }
 }
 
 // Marks the cells of a span of stamps, in two runs more at most.
-pub(crate) fn mark_span(mem: &mut Mem, root: NodeId, span: Span, mark: Mark) -> Change
+pub(crate) fn mark_span(
+    mem: &mut Mem,
+    root: NodeId,
+    span: Span,
+    mark: Mark,
+    homes: &mut Homes,
+    keep: usize,
+) -> Change
+    requires home { homes.old.sure ≡ true → AreHome homes.old.leaves (tree_runs mem.old root.index) }
     requires tree { IsTree mem.old root.index }
     requires kept { AreKept (tree_runs mem.old root.index) }
     requires apart { AreApart (tree_runs mem.old root.index) }
     requires few { (counts_of (tree_runs mem.old root.index)).cells ≤ MOST_CELLS }
     requires room { HasNodes mem.old (length (tree_runs mem.old root.index) + 1) }
+    ensures home { homes.new.sure ≡ true → AreHome homes.new.leaves (tree_runs mem.new result.root.index) }
+    ensures left { keep ≤ homes.old.left → keep ≤ homes.new.left }
     ensures tree { IsTree mem.new result.root.index }
     ensures cells { (text : List ℕ) → AllByRecursion (IsRun text) (tree_runs mem.old root.index)
         → AreChanged (tree_runs mem.old root.index) (tree_runs mem.new result.root.index) text (map (cell_in span mark)) }
@@ -118,8 +133,8 @@ pub(crate) fn mark_span(mem: &mut Mem, root: NodeId, span: Span, mark: Mark) -> 
         count: span.first,
         site: span.site,
     };
-    let first = part(mem, root, begin);
-    let second = part_behind(mem, first.root, span);
+    let first = part(mem, root, begin, homes, keep);
+    let second = part_behind(mem, first.root, span, homes, keep);
     mark_runs(mem, second.root, span, &mark);
     Change {
         root: second.root,

@@ -2,6 +2,7 @@ use Rattle.std.proofs.Common.{length, arith, ap, ◌∙◌}
 use Rattle.std.proofs.lemmas.List.{length-map}
 use Rattle.rt_tree.specs.Shape.{tree_runs}
 use Rattle.rt_tree.specs.Sharing.{long_with, run_in}
+use Rattle.rt_tree.proofs.Housing.{marked_home}
 use Rattle.rt_tree.proofs.Marking.{recut_cells, recut_kept, runs_apart, span_changed}
 use Rattle.rt_tree.proofs.mark.mark_span.Goals as goal
 
@@ -49,3 +50,9 @@ returns-clause-runs c =
     let a = c.part-first.ensures.runs in let b = c.part_behind-second.ensures.runs in
     let m = ap length c.mark_runs.ensures.runs ∙ length-map cut (run_in c.args.span c.args.mark) in
     omega (arith, a, b, m)
+
+pub returns-clause-home : goal.returns-clause-home
+returns-clause-home c =
+    let cut = tree_runs c.part_behind-second.new.mem c.part_behind-second.result.root.index in
+    let new = tree_runs c.mark_runs.new.mem c.part_behind-second.result.root.index in
+    λ sure. marked_home c.part_behind-second.new.homes.leaves c.args.span c.args.mark cut new c.mark_runs.ensures.runs (c.part_behind-second.ensures.home sure)
