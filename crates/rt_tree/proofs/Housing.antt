@@ -152,7 +152,7 @@ all_occurs text (r ∷ rs) stamp kept =
 recut_holders : (text : List ℕ) (old new : List Run) → AllByRecursion (IsRun text) old → IsRecut old new → (stamp : Stamp) → holders stamp new ≡ holders stamp old
 recut_holders text old new kept recut stamp = sym (all_occurs text new stamp (recut.kept text kept)) ∙ ap (occurrences stamp) (recut.cells text kept) ∙ all_occurs text old stamp kept
 
-same_home : (leaves : Shown NodeId) (old new : List Run) → ((stamp : Stamp) → holders stamp new ≡ holders stamp old) → AreHome leaves old → AreHome leaves new
+pub same_home : (leaves : Shown NodeId) (old new : List Run) → ((stamp : Stamp) → holders stamp new ≡ holders stamp old) → AreHome leaves old → AreHome leaves new
 same_home leaves old new same home = record { once = λ stamp. let s = same stamp in let h = home.once stamp in omega (arith, s, h); known = λ stamp none. same stamp ∙ home.known stamp none }
 
 pub recut_home : (leaves : Shown NodeId) (old new : List Run) → AreKept old → IsRecut old new → AreHome leaves old → AreHome leaves new

@@ -47,3 +47,4 @@ mod Positions
 mod Buffers
 mod Tagging
 mod Housing
+mod Meeting

@@ -1,5 +1,5 @@
 -- The leaves in which runs are looked for. No public clause cites this module.
-use Rattle.std.specs.Prelude.{◌≡◌, ◌≢◌, ℕ, ◌+◌, ◌^◌, ◌<◌, ◌≤◌, ◌⊎◌, ◌==◌, ◌&&◌, nat_lt, true, Bool, List, ◌∷◌, ◌++◌, length, filter, Option, None, if◌then◌else◌, map}
+use Rattle.std.specs.Prelude.{◌≡◌, ◌≢◌, ℕ, ◌+◌, ◌^◌, ◌<◌, ◌≤◌, ◌⊎◌, ◌&&◌, nat_lt, true, List, ◌∷◌, ◌++◌, length, filter, None, if◌then◌else◌, map}
 use Rattle.rt_nodes.specs.declared.memory.NodeId.{NodeId}
 use Rattle.rt_spans.specs.Shown.{Shown, value_of}
 use Rattle.rt_stamps.specs.declared.stamp.Span.{Span}
