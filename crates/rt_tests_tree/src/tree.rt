@@ -314,7 +314,8 @@ impl Both {
     }
 }
 
-// A series of calls at pseudo-random places: after each, both stores have the same cells.
+// A series of calls at pseudo-random places: after each, both stores have the same cells. At the end they find the same by stamps,
+// though runs have moved to other leaves and were cut.
 #[test]
 fn a_random_series(rt: HostRuntime) -> Result<(), Fail> {
     let mut both = Both::new(rt.alloc())?;
@@ -325,6 +326,7 @@ fn a_random_series(rt: HostRuntime) -> Result<(), Fail> {
         assert!(rt; both.same());
     }
     assert!(rt; both.tree.height() > 1);
+    assert!(rt; both.same_by_stamps());
     Ok(())
 }
 

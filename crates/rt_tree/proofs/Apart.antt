@@ -68,7 +68,7 @@ all_right : (text : List ℕ) (a b : List Run) → AllByRecursion (IsRun text) (
 all_right text [] b all = all
 all_right text (x ∷ a) b all = all_right text a b all.1
 
-both_begin : (stamp : Stamp) (a b : List Run) → AllByRecursion (BeginsAt stamp) a → AllByRecursion (BeginsAt stamp) b → AllByRecursion (BeginsAt stamp) (a ++ b)
+pub both_begin : (stamp : Stamp) (a b : List Run) → AllByRecursion (BeginsAt stamp) a → AllByRecursion (BeginsAt stamp) b → AllByRecursion (BeginsAt stamp) (a ++ b)
 both_begin stamp [] b left right = right
 both_begin stamp (x ∷ a) b left right = (left.0, both_begin stamp a b left.1 right)
 

@@ -46,3 +46,5 @@ mod Skipping
 mod Positions
 mod Buffers
 mod Tagging
+mod Housing
+mod Meeting

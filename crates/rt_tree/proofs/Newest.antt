@@ -71,7 +71,7 @@ upto_marked n span mark (c ∷ cs) all =
 
 -- RUNS WITH COUNTS THAT NO CELL HAS
 
-row_upto : (n : ℕ) (gone : Bool) (count site state : ℕ) (text : List ℕ) → 0 < length text → AreUpTo n (map (with_gone gone) (cells_from count site state text)) → count + length text ≤ n + 1
+pub row_upto : (n : ℕ) (gone : Bool) (count site state : ℕ) (text : List ℕ) → 0 < length text → AreUpTo n (map (with_gone gone) (cells_from count site state text)) → count + length text ≤ n + 1
 row_upto n gone count site state [] some all = absurd (omega (arith, some))
 row_upto n gone count site state (c ∷ []) some all = let h = all.0 in omega (arith, h)
 row_upto n gone count site state (c ∷ d ∷ text) some all = let h = row_upto n gone (count + 1) site state (d ∷ text) (omega arith) all.1 in omega (arith, h)

@@ -66,7 +66,7 @@ before-row gone count site state (c ∷ text) rest stamp h = split (is_same (rec
     let i = before-row gone (count + 1) site state text rest stamp h' in
     omega (arith, l, i, k))
 
-before-none : (gone : Bool) (count site state : ℕ) (text : List ℕ) (rest : List (Cell ℕ)) (stamp : Stamp) → among count site (length text) stamp ≡ false → before (row gone count site state text ++ rest) stamp ≡ length text + before rest stamp
+pub before-none : (gone : Bool) (count site state : ℕ) (text : List ℕ) (rest : List (Cell ℕ)) (stamp : Stamp) → among count site (length text) stamp ≡ false → before (row gone count site state text ++ rest) stamp ≡ length text + before rest stamp
 before-none gone count site state [] rest stamp h = omega arith
 before-none gone count site state (c ∷ text) rest stamp h =
     let n : length (c ∷ text) ≡ length text + 1 = omega arith in

@@ -70,7 +70,7 @@ nodes_enough runs heads had =
     omega (arith, r)
 
 module _ (m : Memory) (n : ℕ) (root : ℕ) (text : List ℕ) (runs : ℕ) (m' : Memory) (is : m' ≡ with_room m n) where
-  room_runs : tree_runs m' root ≡ tree_runs m root
+  pub room_runs : tree_runs m' root ≡ tree_runs m root
   room_runs = ap (λ (x : Memory). tree_runs x root) is ∙ runs_room m n root
 
   pub room_kept : IsKept m root text runs → IsKept m' root text runs

@@ -89,7 +89,7 @@ apart_put old new at run put is stamp =
 
 -- A RUN THAT GOES ON
 
-either_has : (a b : Run) (stamp : Stamp) → AreJoint a b → has (joined a b) stamp ≡ true → has a stamp ≡ false → has b stamp ≡ true
+pub either_has : (a b : Run) (stamp : Stamp) → AreJoint a b → has (joined a b) stamp ≡ true → has a stamp ≡ false → has b stamp ≡ true
 either_has a b stamp j there not_a = let s = j.site in let f = j.first in grind (arith, nat_tests)
 
 long_there : (a : Run) (stamp : Stamp) → 2 ≤ a.len → has a stamp ≡ true → bit (is_long_with stamp a) ≡ 1
@@ -159,10 +159,10 @@ occurs_row gone count site state (c ∷ text) stamp h =
 pub occurs_run : (text : List ℕ) (r : Run) (stamp : Stamp) → IsRun text r → has r stamp ≡ true → 1 ≤ occurrences stamp (run_cells text r)
 occurs_run text r stamp is h = occurs_row r.gone r.first r.site r.state (characters text r) stamp (ap (λ n. among r.first r.site n stamp) (characters_length text r is) ∙ h)
 
-first_has : (r : Run) → 0 < r.len → has r (first_stamp r) ≡ true
+pub first_has : (r : Run) → 0 < r.len → has r (first_stamp r) ≡ true
 first_has r some = grind (arith, nat_tests)
 
-shared_first : (run r : Run) → is_shared_by run r ≡ true → has r (first_stamp run) ≡ false → has run (first_stamp r) ≡ true
+pub shared_first : (run r : Run) → is_shared_by run r ≡ true → has r (first_stamp run) ≡ false → has run (first_stamp r) ≡ true
 shared_first run r e f = grind (arith, nat_tests)
 
 -- a stamp that is in a run, and in new cells

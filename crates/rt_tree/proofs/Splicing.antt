@@ -205,7 +205,7 @@ module _ (text : List ℕ) (old : List Run) (at : ℕ) (cells : List (Cell ℕ))
         let f = ap (λ (c : Counts). c.cells) rep.was.before in
         one_spot st.left run st.right offset rep.was.left rep.before rep.was.right rep.offset (sym st.here ∙ rep.was.here) (omega (arith, left_cells, f, rep.was.at)) st.inside rep.was.inside
 
-    new_is : new ≡ st.left ++ joined run b ∷ st.right
+    pub new_is : new ≡ st.left ++ joined run b ∷ st.right
     new_is = rep.is ∙ ap (λ l. l ++ joined run b ∷ rep.was.right) (sym same.left) ∙ ap (λ l. st.left ++ joined run b ∷ l) (sym same.right)
 
     extended_cells : cells_of text new ≡ put_at at (take b.len cells) (cells_of text old)

@@ -9,6 +9,7 @@ pub mod Trees
 pub mod Stores
 pub mod Changes
 pub mod Skips
+pub mod Homes
 pub use Rattle.rt_nodes.specs.Nodes
 pub use Rattle.rt_stamps.specs.Places
 pub use Rattle.rt_stamps.specs.Stamps

@@ -1,7 +1,8 @@
 // Runs cut in two.
-ghost use Rattle.std.specs.Prelude.{◌≡◌, ◌+◌, ◌<◌, ◌≤◌, ◌^◌, ◌&&◌, nat_lt, length, MatchOption};
+ghost use Rattle.std.specs.Prelude.{◌≡◌, ◌+◌, ◌<◌, ◌≤◌, ◌^◌, ◌&&◌, nat_lt, length, true, MatchOption};
 ghost use Rattle.std.specs.List.{AllByRecursion};
 ghost use Rattle.rt_stamps.specs.declared.limits.TheConstants.{MOST_CELLS};
+ghost use Rattle.rt_tree.specs.Homes.{AreHome};
 ghost use Rattle.rt_tree.specs.Runs.{has};
 ghost use Rattle.rt_tree.specs.Shape.{IsTree, tree_runs};
 ghost use Rattle.rt_tree.specs.Sharing.{AreApart, AreParts, BeginsAt, IsInside, IsRecut};
@@ -10,6 +11,7 @@ ghost use Rattle.rt_tree.specs.Sums.{counts_of};
 ghost use Rattle.rt_tree.specs.Trees.{HasNodes};
 
 use crate::find::{cells_of, has, seek, sum_of};
+use crate::homes::Homes;
 use crate::node::{Measure, Mem, Run};
 use crate::put::{put, replace};
 use rt_nodes::NodeId;
@@ -76,6 +78,36 @@ pub(crate) fn cut(mem: &mut Mem, root: NodeId, at: usize) -> Change
     Change { root, more: 1 }
 }
 
+// The same, and tells where the stamps are of runs that are in another leaf now.
+pub(crate) fn cut_home(
+    mem: &mut Mem,
+    root: NodeId,
+    at: usize,
+    homes: &mut Homes,
+    keep: usize,
+) -> Change
+    requires tree { IsTree mem.old root.index }
+    requires kept { AreKept (tree_runs mem.old root.index) }
+    requires few { (counts_of (tree_runs mem.old root.index)).cells ≤ MOST_CELLS }
+    requires within { at ≤ (counts_of (tree_runs mem.old root.index)).cells }
+    requires room { HasNodes mem.old (length (tree_runs mem.old root.index)) }
+    requires home { homes.old.sure ≡ true → AreHome homes.old.leaves (tree_runs mem.old root.index) }
+    ensures tree { IsTree mem.new result.root.index }
+    ensures recut { IsRecut (tree_runs mem.old root.index) (tree_runs mem.new result.root.index) }
+    ensures edge { IsEdge (lengths (tree_runs mem.new result.root.index)) at }
+    ensures parts { AreParts (tree_runs mem.old root.index) (tree_runs mem.new result.root.index) at }
+    ensures runs { length (tree_runs mem.new result.root.index) ≡ length (tree_runs mem.old root.index) + result.more }
+    ensures more { result.more ≤ 1 }
+    ensures room { length mem.new.heads + mem.new.room ≡ length mem.old.heads + mem.old.room }
+    ensures home { homes.new.sure ≡ true → AreHome homes.new.leaves (tree_runs mem.new result.root.index) }
+    ensures left { keep ≤ homes.old.left → keep ≤ homes.new.left }
+{
+    let nodes = mem.nodes();
+    let change = cut(mem, root, at);
+    homes.note_new(mem, nodes, keep);
+    change
+}
+
 // Whether a run has a stamp and doesn't begin with it.
 fn is_within(run: &Run, stamp: Stamp) -> bool
     ensures { result ≡ (has run.now stamp && nat_lt run.now.first stamp.count) }
@@ -84,7 +116,25 @@ fn is_within(run: &Run, stamp: Stamp) -> bool
 }
 
 // The position of the cell of a stamp that a run has and doesn't begin with; none if no run has it so.
-fn inside(mem: &Mem, root: NodeId, stamp: Stamp) -> Option<usize>
+fn inside(mem: &Mem, root: NodeId, stamp: Stamp, homes: &Homes) -> Option<usize>
+    requires home { homes.now.sure ≡ true → AreHome homes.now.leaves (tree_runs mem.now root.index) }
+    requires tree { IsTree mem.now root.index }
+    requires kept { AreKept (tree_runs mem.now root.index) }
+    requires few { (counts_of (tree_runs mem.now root.index)).cells ≤ MOST_CELLS }
+    ensures { MatchOption result (AllByRecursion (BeginsAt stamp) (tree_runs mem.now root.index))
+        (λ at. IsInside (tree_runs mem.now root.index) stamp at) }
+{
+    if homes.is_nowhere(stamp) {
+        return None;
+    }
+    if let Some(home) = homes.locate(mem, root, stamp) {
+        return home.inside(stamp);
+    }
+    inside_by_walk(mem, root, stamp)
+}
+
+// The same, by a walk from run to run.
+fn inside_by_walk(mem: &Mem, root: NodeId, stamp: Stamp) -> Option<usize>
     requires tree { IsTree mem.now root.index }
     requires kept { AreKept (tree_runs mem.now root.index) }
     requires few { (counts_of (tree_runs mem.now root.index)).cells ≤ MOST_CELLS }
@@ -104,12 +154,21 @@ fn inside(mem: &Mem, root: NodeId, stamp: Stamp) -> Option<usize>
 }
 
 // Sees to it that each run which has a stamp begins with it: of more than one cell only one run can have it.
-pub(crate) fn part(mem: &mut Mem, root: NodeId, stamp: Stamp) -> Change
+pub(crate) fn part(
+    mem: &mut Mem,
+    root: NodeId,
+    stamp: Stamp,
+    homes: &mut Homes,
+    keep: usize,
+) -> Change
+    requires home { homes.old.sure ≡ true → AreHome homes.old.leaves (tree_runs mem.old root.index) }
     requires tree { IsTree mem.old root.index }
     requires kept { AreKept (tree_runs mem.old root.index) }
     requires apart { AreApart (tree_runs mem.old root.index) }
     requires few { (counts_of (tree_runs mem.old root.index)).cells ≤ MOST_CELLS }
     requires room { HasNodes mem.old (length (tree_runs mem.old root.index)) }
+    ensures home { homes.new.sure ≡ true → AreHome homes.new.leaves (tree_runs mem.new result.root.index) }
+    ensures left { keep ≤ homes.old.left → keep ≤ homes.new.left }
     ensures tree { IsTree mem.new result.root.index }
     ensures recut { IsRecut (tree_runs mem.old root.index) (tree_runs mem.new result.root.index) }
     ensures begins { AllByRecursion (BeginsAt stamp) (tree_runs mem.new result.root.index) }
@@ -117,8 +176,8 @@ pub(crate) fn part(mem: &mut Mem, root: NodeId, stamp: Stamp) -> Change
     ensures more { result.more ≤ 1 }
     ensures room { length mem.new.heads + mem.new.room ≡ length mem.old.heads + mem.old.room }
 {
-    match inside(mem, root, stamp) {
+    match inside(mem, root, stamp, homes) {
         None => Change { root, more: 0 },
-        Some(at) => cut(mem, root, at),
+        Some(at) => cut_home(mem, root, at, homes, keep),
     }
 }

@@ -5,6 +5,7 @@ mod change;
 mod copy;
 mod cut;
 mod find;
+mod homes;
 pub mod looks;
 mod mark;
 pub mod node;

@@ -1,9 +1,10 @@
 // Cells that become gone, or get another state.
-ghost use Rattle.std.specs.Prelude.{◌≡◌, ◌+◌, ◌<◌, ◌≤◌, ℕ, List, length, map};
+ghost use Rattle.std.specs.Prelude.{◌≡◌, ◌+◌, ◌<◌, ◌≤◌, ℕ, List, length, map, true, None, IfSome};
 ghost use Rattle.std.specs.List.{AllByRecursion};
 ghost use Rattle.rt_stamps.specs.declared.limits.TheConstants.{MOST_CELLS};
 ghost use Rattle.rt_store.specs.Cells.{is_in_span};
 ghost use Rattle.rt_store.specs.Spans.{last_stamp, next_stamp};
+ghost use Rattle.rt_tree.specs.Homes.{AreHome, MarksOn, run_to};
 ghost use Rattle.rt_tree.specs.Runs.{IsRun, first_stamp};
 ghost use Rattle.rt_tree.specs.Shape.{IsTree, tree_runs};
 ghost use Rattle.rt_tree.specs.Sharing.{AreApart, BeginsAt, IsChangedAt, IsRecut, cell_in, run_in};
@@ -13,6 +14,7 @@ ghost use Rattle.rt_tree.specs.Trees.{HasNodes};
 
 use crate::cut::{Change, part};
 use crate::find::{cells_of, seek};
+use crate::homes::Homes;
 use crate::node::{Measure, Mem, Run};
 use crate::put::replace;
 use rt_nodes::NodeId;
@@ -59,7 +61,7 @@ fn mark_run(mem: &mut Mem, root: NodeId, at: usize, span: Span, mark: &Mark) -> 
     found.run.len
 }
 
-// Marks each run whose first stamp is in a span.
+// Marks each run whose first stamp is in a span, by a walk from run to run.
 fn mark_runs(mem: &mut Mem, root: NodeId, span: Span, mark: &Mark)
     requires tree { IsTree mem.old root.index }
     requires kept { AreKept (tree_runs mem.old root.index) }
@@ -76,13 +78,91 @@ fn mark_runs(mem: &mut Mem, root: NodeId, span: Span, mark: &Mark)
     }
 }
 
+// Marks the run that begins with a count of a span, if it is found, and tells the count behind it; if no run has that count, it
+// is the next one.
+fn mark_at(
+    mem: &mut Mem,
+    root: NodeId,
+    span: Span,
+    count: u64,
+    mark: &Mark,
+    homes: &Homes,
+) -> Option<u64>
+    requires within { (span.first ≤ count) × (count ≤ span.last) }
+    requires tree { IsTree mem.old root.index }
+    requires kept { AreKept (tree_runs mem.old root.index) }
+    requires few { (counts_of (tree_runs mem.old root.index)).cells ≤ MOST_CELLS }
+    requires home { homes.now.sure ≡ true → AreHome homes.now.leaves (tree_runs mem.old root.index) }
+    ensures tree { IsTree mem.new root.index }
+    ensures none { result ≡ None → tree_runs mem.new root.index ≡ tree_runs mem.old root.index }
+    ensures some { IfSome result (λ next. MarksOn span mark.now count next (tree_runs mem.old root.index) (tree_runs mem.new root.index)) }
+    ensures room { length mem.new.heads + mem.new.room ≡ length mem.old.heads + mem.old.room }
+{
+    let site = span.site;
+    let stamp = Stamp { count, site };
+    if homes.is_nowhere(stamp) {
+        return count.checked_add(1);
+    }
+    let home = homes.locate(mem, root, stamp)?;
+    if home.run.first != count {
+        return None;
+    }
+    let next = count.checked_add(home.run.len as u64)?;
+    mark_run(mem, root, home.before.cells as usize, span, mark);
+    Some(next)
+}
+
+// Marks runs whose first stamp is in a span, by its stamps and their leaves, and tells whether all were found. A long span has
+// more stamps than there are cells, and isn't tried.
+fn mark_by_homes(mem: &mut Mem, root: NodeId, span: Span, mark: &Mark, homes: &Homes) -> bool
+    requires tree { IsTree mem.old root.index }
+    requires kept { AreKept (tree_runs mem.old root.index) }
+    requires few { (counts_of (tree_runs mem.old root.index)).cells ≤ MOST_CELLS }
+    requires home { homes.now.sure ≡ true → AreHome homes.now.leaves (tree_runs mem.old root.index) }
+    ensures tree { IsTree mem.new root.index }
+    ensures part { (count : ℕ) × (tree_runs mem.new root.index ≡ map (run_to span count mark.now) (tree_runs mem.old root.index)) }
+    ensures all { result ≡ true → tree_runs mem.new root.index ≡ map (run_in span mark.now) (tree_runs mem.old root.index) }
+    ensures room { length mem.new.heads + mem.new.room ≡ length mem.old.heads + mem.old.room }
+{
+    if span.last.saturating_sub(span.first) > cells_of(mem, root) as u64 {
+        return false;
+    }
+    let mut count = span.first;
+    while count <= span.last {
+        match mark_at(mem, root, span, count, mark, homes) {
+            None => return false,
+            Some(next) => count = next,
+        }
+    }
+    true
+}
+
+// Marks each run whose first stamp is in a span.
+fn mark_all(mem: &mut Mem, root: NodeId, span: Span, mark: &Mark, homes: &Homes)
+    requires tree { IsTree mem.old root.index }
+    requires kept { AreKept (tree_runs mem.old root.index) }
+    requires few { (counts_of (tree_runs mem.old root.index)).cells ≤ MOST_CELLS }
+    requires home { homes.now.sure ≡ true → AreHome homes.now.leaves (tree_runs mem.old root.index) }
+    ensures tree { IsTree mem.new root.index }
+    ensures runs { tree_runs mem.new root.index ≡ map (run_in span mark.now) (tree_runs mem.old root.index) }
+    ensures room { length mem.new.heads + mem.new.room ≡ length mem.old.heads + mem.old.room }
+{
+    if mark_by_homes(mem, root, span, mark, homes) {
+        return;
+    }
+    mark_runs(mem, root, span, mark);
+}
+
 // Sees to it that each run which has the stamp behind a span begins with it.
-fn part_behind(mem: &mut Mem, root: NodeId, span: Span) -> Change
+fn part_behind(mem: &mut Mem, root: NodeId, span: Span, homes: &mut Homes, keep: usize) -> Change
+    requires home { homes.old.sure ≡ true → AreHome homes.old.leaves (tree_runs mem.old root.index) }
     requires tree { IsTree mem.old root.index }
     requires kept { AreKept (tree_runs mem.old root.index) }
     requires apart { AreApart (tree_runs mem.old root.index) }
     requires few { (counts_of (tree_runs mem.old root.index)).cells ≤ MOST_CELLS }
     requires room { HasNodes mem.old (length (tree_runs mem.old root.index)) }
+    ensures home { homes.new.sure ≡ true → AreHome homes.new.leaves (tree_runs mem.new result.root.index) }
+    ensures left { keep ≤ homes.old.left → keep ≤ homes.new.left }
     ensures tree { IsTree mem.new result.root.index }
     ensures recut { IsRecut (tree_runs mem.old root.index) (tree_runs mem.new result.root.index) }
     ensures begins { AllByRecursion (BeginsAt (next_stamp (last_stamp span))) (tree_runs mem.new result.root.index) }
@@ -94,18 +174,28 @@ fn part_behind(mem: &mut Mem, root: NodeId, span: Span) -> Change
         None => Change { root, more: 0 },
         Some(count) => {
             let site = span.site;
-            part(mem, root, Stamp { count, site })
+            part(mem, root, Stamp { count, site }, homes, keep)
         }
     }
 }
 
 // Marks the cells of a span of stamps, in two runs more at most.
-pub(crate) fn mark_span(mem: &mut Mem, root: NodeId, span: Span, mark: Mark) -> Change
+pub(crate) fn mark_span(
+    mem: &mut Mem,
+    root: NodeId,
+    span: Span,
+    mark: Mark,
+    homes: &mut Homes,
+    keep: usize,
+) -> Change
+    requires home { homes.old.sure ≡ true → AreHome homes.old.leaves (tree_runs mem.old root.index) }
     requires tree { IsTree mem.old root.index }
     requires kept { AreKept (tree_runs mem.old root.index) }
     requires apart { AreApart (tree_runs mem.old root.index) }
     requires few { (counts_of (tree_runs mem.old root.index)).cells ≤ MOST_CELLS }
     requires room { HasNodes mem.old (length (tree_runs mem.old root.index) + 1) }
+    ensures home { homes.new.sure ≡ true → AreHome homes.new.leaves (tree_runs mem.new result.root.index) }
+    ensures left { keep ≤ homes.old.left → keep ≤ homes.new.left }
     ensures tree { IsTree mem.new result.root.index }
     ensures cells { (text : List ℕ) → AllByRecursion (IsRun text) (tree_runs mem.old root.index)
         → AreChanged (tree_runs mem.old root.index) (tree_runs mem.new result.root.index) text (map (cell_in span mark)) }
@@ -118,9 +208,9 @@ pub(crate) fn mark_span(mem: &mut Mem, root: NodeId, span: Span, mark: Mark) -> 
         count: span.first,
         site: span.site,
     };
-    let first = part(mem, root, begin);
-    let second = part_behind(mem, first.root, span);
-    mark_runs(mem, second.root, span, &mark);
+    let first = part(mem, root, begin, homes, keep);
+    let second = part_behind(mem, first.root, span, homes, keep);
+    mark_all(mem, second.root, span, &mark, homes);
     Change {
         root: second.root,
         more: first.more + second.more,

@@ -1,15 +1,18 @@
 // Runs put in, and put in place of others.
-ghost use Rattle.std.specs.Prelude.{◌≡◌, ◌+◌, ◌*◌, ◌<◌, ◌≤◌, ◌^◌, insert, length};
+ghost use Rattle.std.specs.Prelude.{◌≡◌, ◌+◌, ◌*◌, ◌<◌, ◌≤◌, ◌^◌, insert, length, true};
 ghost use Rattle.rt_nodes.specs.Nodes.{entries};
 ghost use Rattle.rt_tree.specs.declared.node.Measure.TheVariants.{Cells};
 ghost use Rattle.rt_tree.specs.declared.node.Run.{Run};
 ghost use Rattle.rt_tree.specs.Changes.{AreExact, AreFilled, bare};
+ghost use Rattle.rt_tree.specs.Homes.{AreHome};
 ghost use Rattle.rt_tree.specs.Shape.{IsShape, IsTree, ahead, level_of, runs, tree_runs};
+ghost use Rattle.rt_tree.specs.Sharing.{AreKnown};
 ghost use Rattle.rt_tree.specs.Sums.{AreFew, amount, counts_of, counts_of_run, plus};
 ghost use Rattle.rt_tree.specs.Trees.{HasNodes};
 ghost use Rattle.rt_tree.specs.Walks.{IsPutAt, IsReplacedAt, IsSpot};
 
 use crate::change::{put_run, set_run};
+use crate::homes::Homes;
 use crate::looks::Counted;
 use crate::node::{Measure, Mem, Run};
 use crate::room::{make_room, top_room};
@@ -70,6 +73,41 @@ pub(crate) fn put(mem: &mut Mem, root: NodeId, at: usize, run: Run) -> NodeId
     let spot = spot_of(mem, top.root, at);
     insert_run(mem, top.root, top.height, spot.leaf, spot.entry, run);
     top.root
+}
+
+// Puts a run in before the one that has the cell at a position, and tells where its stamps are. No cell has a greater count
+// than `newest`; so many spans can be given a leaf later.
+pub(crate) fn put_home(
+    mem: &mut Mem,
+    root: NodeId,
+    at: usize,
+    run: Run,
+    homes: &mut Homes,
+    newest: u64,
+    keep: usize,
+) -> NodeId
+    requires tree { IsTree mem.old root.index }
+    requires within { at < (counts_of (tree_runs mem.old root.index)).cells }
+    requires few { AreFew (plus (counts_of_run run) (counts_of (tree_runs mem.old root.index))) }
+    requires height { level_of mem.old root.index + 1 < 2 ^ 32 }
+    requires room { HasNodes mem.old (length (tree_runs mem.old root.index)) }
+    requires counts { run.first + run.len ≤ 2 ^ 64 }
+    requires known { AreKnown newest (tree_runs mem.old root.index) }
+    requires home { homes.old.sure ≡ true → AreHome homes.old.leaves (tree_runs mem.old root.index) }
+    requires left { keep < homes.old.left }
+    ensures tree { IsTree mem.new result.index }
+    ensures runs { IsPutAt (tree_runs mem.old root.index) (tree_runs mem.new result.index) at run }
+    ensures room { length mem.new.heads + mem.new.room ≡ length mem.old.heads + mem.old.room }
+    ensures home { homes.new.sure ≡ true → AreHome homes.new.leaves (tree_runs mem.new result.index) }
+    ensures left { keep ≤ homes.new.left }
+{
+    let spot = spot_of(mem, root, at);
+    let is_new = homes.is_new(newest, &run);
+    let nodes = mem.nodes();
+    let root = put(mem, root, at, run);
+    homes.enter(&run, spot.leaf, is_new);
+    homes.note_new(mem, nodes, keep);
+    root
 }
 
 // Puts a run in place of the one that has the cell at a position.

@@ -1,9 +1,10 @@
 // New cells put in.
-ghost use Rattle.std.specs.Prelude.{◌≡◌, ◌+◌, ◌<◌, ◌≤◌, ◌^◌, ◌∷◌, ◌++◌, ◌==◌, ◌&&◌, nat_lt, if◌then◌else◌, drop, length, map, take, vec_capacity, vec_len};
+ghost use Rattle.std.specs.Prelude.{◌≡◌, ◌+◌, ◌<◌, ◌≤◌, ◌^◌, ◌∷◌, ◌++◌, ◌==◌, ◌&&◌, ◌-◌, false, true, nat_lt, if◌then◌else◌, drop, length, map, take, vec_capacity, vec_len};
 ghost use Rattle.std.specs.List.{AllByRecursion, list_any};
 ghost use Rattle.rt_stamps.specs.declared.limits.TheConstants.{MOST_CELLS};
 ghost use Rattle.rt_store.specs.Cells.{put_at};
 ghost use Rattle.rt_tree.specs.Additions.{are_joint, EndsWith, IsFrontOf, IsRunOf, IsStretch, follows, joined, run_from, stretches};
+ghost use Rattle.rt_tree.specs.Homes.{AreHome, AreOnceEach, IsAmong, IsNew};
 ghost use Rattle.rt_tree.specs.Runs.{IsRun, cells_of};
 ghost use Rattle.rt_tree.specs.Shape.{IsTree, tree_runs};
 ghost use Rattle.rt_tree.specs.Sharing.{AreApart, AreKnown, AreOnce, AreUpTo, is_shared_by};
@@ -11,10 +12,11 @@ ghost use Rattle.rt_tree.specs.Stretches.{AreChanged, AreKept, IsEdge, lengths};
 ghost use Rattle.rt_tree.specs.Sums.{counts_of};
 ghost use Rattle.rt_tree.specs.Trees.{HasNodes};
 
-use crate::cut::{Change, cut};
+use crate::cut::{Change, cut_home};
 use crate::find::{cells_of, first_stamp, has, seek};
+use crate::homes::Homes;
 use crate::node::{Measure, Mem, Run};
-use crate::put::{put, replace};
+use crate::put::{put_home, replace};
 use rt_nodes::NodeId;
 use rt_store::Cell;
 use rt_tags::StateId;
@@ -149,14 +151,23 @@ fn is_shared(mem: &Mem, root: NodeId, newest: u64, run: &Run) -> bool
 }
 
 // Whether a run of more than one cell shares a stamp with one of a tree.
-fn is_in_two(mem: &Mem, root: NodeId, newest: u64, run: &Run) -> bool
+fn is_in_two(mem: &Mem, root: NodeId, newest: u64, run: &Run, homes: &Homes) -> bool
+    requires some { 0 < run.now.len }
+    requires counts { run.now.first + run.now.len ≤ 2 ^ 64 }
+    requires home { homes.now.sure ≡ true → AreHome homes.now.leaves (tree_runs mem.now root.index) }
     requires tree { IsTree mem.now root.index }
     requires kept { AreKept (tree_runs mem.now root.index) }
     requires known { AreKnown newest (tree_runs mem.now root.index) }
     requires few { (counts_of (tree_runs mem.now root.index)).cells ≤ MOST_CELLS }
     ensures { result ≡ (nat_lt 1 run.now.len && list_any (is_shared_by run.now) (tree_runs mem.now root.index)) }
 {
-    run.len > 1 && is_shared(mem, root, newest, run)
+    if run.len == 1 {
+        return false;
+    }
+    if homes.is_new(newest, run) {
+        return false;
+    }
+    is_shared(mem, root, newest, run)
 }
 
 // A run for the next cells, and how many cells then come alone.
@@ -176,7 +187,9 @@ fn choose(
     done: usize,
     lone: usize,
     newest: u64,
+    homes: &Homes,
 ) -> Next
+    requires home { homes.now.sure ≡ true → AreHome homes.now.leaves (tree_runs mem.now root.index) }
     requires tree { IsTree mem.now root.index }
     requires kept { AllByRecursion (IsRun text.now) (tree_runs mem.now root.index) }
     requires apart { AreApart (tree_runs mem.now root.index) }
@@ -198,7 +211,7 @@ fn choose(
         };
     }
     let run = next_run(text, cells, done);
-    if is_in_two(mem, root, newest, &run) {
+    if is_in_two(mem, root, newest, &run, homes) {
         let first = lone_run(text, cells, done);
         return Next {
             run: first,
@@ -216,7 +229,11 @@ fn put_runs(
     at: usize,
     cells: &[Cell<StateId>],
     newest: u64,
+    homes: &mut Homes,
+    keep: usize,
 ) -> Change
+    requires home { homes.old.sure ≡ true → AreHome homes.old.leaves (tree_runs mem.old root.index) }
+    requires left { keep + length cells.now ≤ homes.old.left }
     requires tree { IsTree mem.old root.index }
     requires kept { AllByRecursion (IsRun text.now) (tree_runs mem.old root.index) }
     requires apart { AreApart (tree_runs mem.old root.index) }
@@ -233,6 +250,8 @@ fn put_runs(
     ensures runs { length (tree_runs mem.new result.root.index) ≡ length (tree_runs mem.old root.index) + result.more }
     ensures most { result.more ≤ length cells.now }
     ensures more { AreOnce (cells_of text.now (tree_runs mem.old root.index)) cells.now → result.more ≤ stretches cells.now }
+    ensures home { homes.new.sure ≡ true → AreHome homes.new.leaves (tree_runs mem.new result.root.index) }
+    ensures left { keep ≤ homes.new.left }
     ensures room { length mem.new.heads + mem.new.room ≡ length mem.old.heads + mem.old.room }
 {
     let mut root = root;
@@ -241,9 +260,10 @@ fn put_runs(
     let mut lone = 0;
     let mut newest = newest;
     while done < cells.len() {
-        let next = choose(mem, root, text, cells, done, lone, newest);
-        root = put(mem, root, at + done, next.run);
+        let next = choose(mem, root, text, cells, done, lone, newest, homes);
         let to = done + next.run.len as usize;
+        let left = keep + (cells.len() - to);
+        root = put_home(mem, root, at + done, next.run, homes, newest, left);
         newest = newest_of(newest, &cells[done..to]);
         done = to;
         lone = next.lone;
@@ -290,6 +310,26 @@ fn lengthened(before: Run, run: Run) -> Run
     }
 }
 
+// Whether one of a tree's runs may not go on with a new one, since a run of more than one cell would share a stamp.
+fn is_barred(mem: &Mem, root: NodeId, newest: u64, before: Run, run: Run, is_new: bool) -> bool
+    requires tree { IsTree mem.now root.index }
+    requires kept { AreKept (tree_runs mem.now root.index) }
+    requires known { AreKnown newest (tree_runs mem.now root.index) }
+    requires few { (counts_of (tree_runs mem.now root.index)).cells ≤ MOST_CELLS }
+    requires sum { before.len + run.len < 2 ^ 32 }
+    requires some { 0 < run.len }
+    requires joint { are_joint before run ≡ true }
+    requires among { IsAmong (tree_runs mem.now root.index) before }
+    requires once { is_new ≡ true → AreOnceEach (tree_runs mem.now root.index) }
+    requires new { is_new ≡ true → IsNew run (tree_runs mem.now root.index) }
+    ensures { result ≡ list_any (is_shared_by (if before.len == 1 then joined before run else run)) (tree_runs mem.now root.index) }
+{
+    if is_new {
+        return false;
+    }
+    is_shared(mem, root, newest, &lengthened(before, run))
+}
+
 // Lets the run that ends at a position go on with the first of new cells, if these follow it, and tells how many they are.
 fn extend(
     mem: &mut Mem,
@@ -298,7 +338,11 @@ fn extend(
     at: usize,
     cells: &[Cell<StateId>],
     newest: u64,
+    homes: &mut Homes,
+    keep: usize,
 ) -> usize
+    requires home { homes.old.sure ≡ true → AreHome homes.old.leaves (tree_runs mem.old root.index) }
+    requires left { keep + length cells.now ≤ homes.old.left }
     requires tree { IsTree mem.old root.index }
     requires kept { AllByRecursion (IsRun text.now) (tree_runs mem.old root.index) }
     requires apart { AreApart (tree_runs mem.old root.index) }
@@ -312,6 +356,8 @@ fn extend(
     ensures cells { AreChanged (tree_runs mem.old root.index) (tree_runs mem.new root.index) text.now (put_at at (take result cells.now)) }
     ensures apart { AreApart (tree_runs mem.new root.index) }
     ensures runs { length (tree_runs mem.new root.index) ≡ length (tree_runs mem.old root.index) }
+    ensures home { homes.new.sure ≡ true → AreHome homes.new.leaves (tree_runs mem.new root.index) }
+    ensures left { keep + (length cells.now - result) ≤ homes.new.left }
     ensures room { length mem.new.heads + mem.new.room ≡ length mem.old.heads + mem.old.room }
 {
     if at == 0 || cells.is_empty() {
@@ -322,11 +368,18 @@ fn extend(
     if found.spot.offset + 1 < found.run.len as usize || !are_joint(&found.run, &run) {
         return 0;
     }
-    let longer = lengthened(found.run, run);
-    if is_shared(mem, root, newest, &longer) {
+    let is_new = homes.is_new(newest, &run);
+    if is_barred(mem, root, newest, found.run, run, is_new) {
         return 0;
     }
-    replace(mem, root, at - 1, joined(found.run, run));
+    let whole = joined(found.run, run);
+    replace(mem, root, at - 1, whole);
+    homes.enter(&run, found.spot.leaf, is_new);
+    homes.hint(
+        &whole,
+        found.spot.leaf,
+        keep + (cells.len() - run.len as usize),
+    );
     run.len as usize
 }
 
@@ -338,7 +391,11 @@ pub(crate) fn put_cells(
     at: usize,
     cells: &[Cell<StateId>],
     newest: u64,
+    homes: &mut Homes,
+    keep: usize,
 ) -> Change
+    requires home { homes.old.sure ≡ true → AreHome homes.old.leaves (tree_runs mem.old root.index) }
+    requires left { keep + length cells.now ≤ homes.old.left }
     requires tree { IsTree mem.old root.index }
     requires kept { AllByRecursion (IsRun text.now) (tree_runs mem.old root.index) }
     requires apart { AreApart (tree_runs mem.old root.index) }
@@ -354,16 +411,18 @@ pub(crate) fn put_cells(
     ensures runs { length (tree_runs mem.new result.root.index) ≡ length (tree_runs mem.old root.index) + result.more }
     ensures most { result.more ≤ length cells.now + 1 }
     ensures more { AreOnce (cells_of text.now (tree_runs mem.old root.index)) cells.now → result.more ≤ stretches cells.now + 1 }
+    ensures home { homes.new.sure ≡ true → AreHome homes.new.leaves (tree_runs mem.new result.root.index) }
+    ensures left { keep ≤ homes.new.left }
     ensures room { length mem.new.heads + mem.new.room ≡ length mem.old.heads + mem.old.room }
 {
-    let done = extend(mem, root, text, at, cells, newest);
+    let done = extend(mem, root, text, at, cells, newest, homes, keep);
     if done == cells.len() {
         return Change { root, more: 0 };
     }
-    let first = cut(mem, root, at + done);
-    let newest = newest_of(newest, &cells[..done]);
     let rest = &cells[done..];
-    let then = put_runs(mem, first.root, text, at + done, rest, newest);
+    let first = cut_home(mem, root, at + done, homes, keep + rest.len());
+    let newest = newest_of(newest, &cells[..done]);
+    let then = put_runs(mem, first.root, text, at + done, rest, newest, homes, keep);
     Change {
         root: then.root,
         more: first.more + then.more,

@@ -13,6 +13,7 @@ ghost use Rattle.rt_tree.specs.Trees.{final_run};
 
 use crate::copy::copy;
 use crate::find::{cell_in, find, has, height, seek, sum_of};
+use crate::homes::Homes;
 use crate::mark::{Mark, mark_span};
 use crate::node::{Entry, Head, Measure, Mem, Run};
 use crate::skip::{is_low, passed};
@@ -36,13 +37,16 @@ pub struct Tree {
     runs: usize,
     // The greatest count that a cell has, or a greater one.
     newest: u64,
+    // Where stamps are.
+    homes: Homes,
     // What there is room for.
     spare_cells: usize,
     spare_cuts: usize,
 }
 
 impl Model for Tree {
-    ghost use Rattle.std.specs.Prelude.{vec_capacity};
+    ghost use Rattle.std.specs.Prelude.{◌≡◌, ◌≤◌, vec_capacity, true};
+    ghost use Rattle.rt_tree.specs.Homes.{AreHome};
     ghost use Rattle.rt_tree.specs.Runs.{cells_of};
     ghost use Rattle.rt_tree.specs.Shape.{tree_runs};
     ghost use Rattle.rt_tree.specs.Sharing.{AreUpTo};
@@ -54,7 +58,8 @@ impl Model for Tree {
 
     ghost invariant = { λ t. IsKept t.mem t.root.index t.text.items t.runs
         × (IsRoomy t.mem t.root.index t.text.items (vec_capacity t.text) (record { cells = t.spare_cells; cuts = t.spare_cuts })
-        × AreUpTo t.newest (cells_of t.text.items (tree_runs t.mem t.root.index))) };
+        × (AreUpTo t.newest (cells_of t.text.items (tree_runs t.mem t.root.index))
+        × ((t.homes.sure ≡ true → AreHome t.homes.leaves (tree_runs t.mem t.root.index)) × (t.spare_cells ≤ t.homes.left)))) };
 }
 
 // The run of the final newline, as it is at first.
@@ -70,6 +75,17 @@ fn final_run() -> Run
         gone: false,
         newline: true,
     }
+}
+
+// How many spans new cells and cuts give leaves to: a run for each, and once more for those that move when leaves are cut in
+// two, which happens once in eight runs, and the first time perhaps at once.
+fn spans_for(cells: usize, cuts: usize) -> usize
+    ensures { cells ≤ result }
+{
+    cells
+        .saturating_add(cuts)
+        .saturating_mul(3)
+        .saturating_add(24)
 }
 
 // How many of the first cells of a run are visible.
@@ -97,12 +113,14 @@ impl Tree {
             level: 0,
         });
         mem.insert_at(root, 0, Entry::Here(final_run()));
+        let homes = Homes::new(alloc, root)?;
         Ok(Tree {
             mem,
             root,
             text,
             runs: 1,
             newest: FINAL.count,
+            homes,
             spare_cells: 0,
             spare_cuts: 0,
         })
@@ -264,6 +282,12 @@ impl Tree {
     pub fn position_of(&self, stamp: Stamp) -> Option<usize>
         ensures { result ≡ position_of self.now.cells stamp }
     {
+        if self.homes.is_nowhere(stamp) {
+            return None;
+        }
+        if let Some(home) = self.homes.locate(&self.mem, self.root, stamp) {
+            return Some(home.position(stamp));
+        }
         self.seek_stamp(stamp)
     }
 
@@ -391,6 +415,7 @@ impl Tree {
             .checked_add(cuts)
             .ok_or(Fault::NoMemory)?;
         let nodes = runs / 7 + 1;
+        self.homes.reserve(spans_for(cells, cuts))?;
         self.text.reserve(cells)?;
         self.mem.reserve(nodes.saturating_sub(self.mem.nodes()))?;
         self.spare_cells = cells;
@@ -405,7 +430,8 @@ impl Tree {
         ensures runs { self.new.runs ≤ self.old.runs + 2 }
         ensures room { Spends self.old.room self.new.room 0 2 }
     {
-        let change = mark_span(&mut self.mem, self.root, span, mark);
+        let keep = self.spare_cells;
+        let change = mark_span(&mut self.mem, self.root, span, mark, &mut self.homes, keep);
         self.root = change.root;
         self.runs += change.more;
         self.spare_cuts -= 2;
@@ -444,7 +470,17 @@ impl Tree {
         ensures room { Spends self.old.room self.new.room (length cells.now) 1 }
     {
         push_characters(&mut self.text, cells);
-        let change = put_cells(&mut self.mem, self.root, &self.text, at, cells, self.newest);
+        let keep = self.spare_cells - cells.len();
+        let change = put_cells(
+            &mut self.mem,
+            self.root,
+            &self.text,
+            at,
+            cells,
+            self.newest,
+            &mut self.homes,
+            keep,
+        );
         self.newest = newest_of(self.newest, cells);
         self.root = change.root;
         self.runs += change.more;

@@ -1,27 +1,22 @@
-use Rattle.std.proofs.Common.{arith, sym, ◌∙◌}
+use Rattle.std.proofs.Common.{ℕ, Option, arith, subst, sym}
+use Rattle.std.specs.Prelude.{MatchOption}
+use Rattle.std.specs.List.{AllByRecursion}
+use Rattle.rt_tree.specs.Sharing.{BeginsAt, IsInside}
 use Rattle.rt_tree.specs.Shape.{tree_runs}
-use Rattle.rt_tree.specs.Sharing.{BeginsAt}
 use Rattle.rt_tree.proofs.Cutting.{few_all}
-use Rattle.rt_tree.proofs.Walking.{all_passed, begins_here, found_inside, passed_more}
+use Rattle.rt_tree.proofs.Housing.{behind_few, home_inside, nowhere_begins}
 use Rattle.rt_tree.proofs.cut.inside.Goals as goal
 
-pub cells_of-all-requires-clause-few : goal.cells_of-all-requires-clause-few
-cells_of-all-requires-clause-few c = few_all (tree_runs c.args.mem.now c.args.root.index) c.requires.kept c.requires.few
+pub returns-then-is_nowhere : goal.returns-then-is_nowhere
+returns-then-is_nowhere c =
+    let none = c.is_nowhere.ensures c.if-is_nowhere.true in
+    nowhere_begins c.args.homes.now.leaves c.args.stamp (tree_runs c.args.mem.now c.args.root.index) (c.requires.home none.0) none.1
 
-pub seek-found-requires-clause-few : goal.seek-found-requires-clause-few
-seek-found-requires-clause-few c = few_all (tree_runs c.args.mem.now c.args.root.index) c.requires.kept c.requires.few
+pub locate-requires-clause-few : goal.locate-requires-clause-few
+locate-requires-clause-few c = few_all (tree_runs c.args.mem.now c.args.root.index) c.requires.kept c.requires.few
 
-pub returns-then-is_within : goal.returns-then-is_within
-returns-then-is_within c =
-    let all = tree_runs c.args.mem.now c.args.root.index in let f = c.seek-found.result in
-    found_inside c.requires.kept.text all c.loop-at.at c.args.stamp f.run f.before f.spot.offset c.requires.kept.runs c.loop-at.invariant c.seek-found.ensures (sym c.is_within.ensures ∙ c.if-is_within.true)
-
-pub loop-at-preserved : goal.loop-at-preserved
-loop-at-preserved c =
-    let all = tree_runs c.args.mem.now c.args.root.index in let f = c.seek-found.result in
-    passed_more c.requires.kept.text all c.loop-at.at (BeginsAt c.args.stamp) f.run f.before f.spot.offset c.requires.kept.runs c.loop-at.invariant c.seek-found.ensures (begins_here c.args.stamp f.run (sym c.is_within.ensures ∙ c.if-is_within.false))
-
-pub returns : goal.returns
-returns c =
-    let all = tree_runs c.args.mem.now c.args.root.index in let e = c.cells_of-all.ensures in let t = c.loop-at-test.false in
-    all_passed c.requires.kept.text all c.loop-at.at (BeginsAt c.args.stamp) c.requires.kept.runs c.loop-at.invariant (omega (arith, e, t))
+pub returns-in-Some : goal.returns-in-Some
+returns-in-Some c =
+    let all = tree_runs c.args.mem.now c.args.root.index in let h = c.in-Some.home in let e = c.in-Some.ensures in
+    subst (λ (o : Option ℕ). MatchOption o (AllByRecursion (BeginsAt c.args.stamp) all) (λ at. IsInside all c.args.stamp at)) (sym c.inside.ensures)
+    (home_inside all h.run h.before c.args.stamp (c.requires.home e.sure).once e.home e.has)

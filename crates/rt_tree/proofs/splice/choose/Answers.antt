@@ -30,3 +30,9 @@ returns-clause-apart c = apart_chosen c.next_run-run.result (tree_runs c.args.me
 
 pub returns-clause-stretch : goal.returns-clause-stretch
 returns-clause-stretch c = λ none once. (c.next_run-run.ensures.stretch, refl)
+
+pub is_in_two-requires-clause-some : goal.is_in_two-requires-clause-some
+is_in_two-requires-clause-some c = c.next_run-run.ensures.run.some
+
+pub is_in_two-requires-clause-counts : goal.is_in_two-requires-clause-counts
+is_in_two-requires-clause-counts c = c.next_run-run.ensures.run.counts

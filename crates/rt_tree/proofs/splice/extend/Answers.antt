@@ -7,8 +7,9 @@ use Rattle.rt_tree.specs.Stretches.{AreKept}
 use Rattle.rt_tree.specs.Sums.{AreFew, counts_of, counts_of_run, plus}
 use Rattle.rt_tree.specs.Walks.{IsReplacedAt}
 use Rattle.rt_tree.proofs.Cutting.{few_all, few_with}
+use Rattle.rt_tree.proofs.Housing.{home_more, joined_holders, keeps_more, placed_more, unknown_new}
 use Rattle.rt_tree.proofs.Edges.{counts_mid}
-use Rattle.rt_tree.proofs.Splicing.{extended, extended_apart}
+use Rattle.rt_tree.proofs.Splicing.{extended, extended_apart, new_is}
 use Rattle.rt_tree.proofs.splice.extend.Goals as goal
 
 pub seek-found-requires-clause-few : goal.seek-found-requires-clause-few
@@ -17,25 +18,70 @@ seek-found-requires-clause-few c =
     let kept : AreKept old = record { text = c.args.text.now; short = c.requires.short; runs = c.requires.kept } in
     few_all old kept (omega (arith, c.requires.few))
 
-pub is_shared-requires-clause-kept : goal.is_shared-requires-clause-kept
-is_shared-requires-clause-kept c = record { text = c.args.text.now; short = c.requires.short; runs = c.requires.kept }
+pub is_barred-requires-clause-kept : goal.is_barred-requires-clause-kept
+is_barred-requires-clause-kept c = record { text = c.args.text.now; short = c.requires.short; runs = c.requires.kept }
 
-pub is_shared-requires-clause-known : goal.is_shared-requires-clause-known
-is_shared-requires-clause-known c = record { text = c.args.text.now; kept = c.requires.kept; upto = c.requires.upto }
+pub is_barred-requires-clause-known : goal.is_barred-requires-clause-known
+is_barred-requires-clause-known c = record { text = c.args.text.now; kept = c.requires.kept; upto = c.requires.upto }
 
-pub lengthened-longer-requires : goal.lengthened-longer-requires
-lengthened-longer-requires c =
+pub is_new-is_new-requires : goal.is_new-is_new-requires
+is_new-is_new-requires c = c.run_of-run.ensures.run.counts
+
+pub is_barred-requires-clause-sum : goal.is_barred-requires-clause-sum
+is_barred-requires-clause-sum c =
     let st = c.seek-found.ensures in let run = c.seek-found.result.run in
     let w = ap (λ l. (counts_of l).cells) st.here ∙ counts_mid st.left run st.right in
     let low = c.run_of-run.ensures.stretch.within in
     omega (arith, w, low, c.requires.few)
 
+pub is_barred-requires-clause-some : goal.is_barred-requires-clause-some
+is_barred-requires-clause-some c = c.run_of-run.ensures.run.some
+
+pub is_barred-requires-clause-joint : goal.is_barred-requires-clause-joint
+is_barred-requires-clause-joint c = sym c.are_joint.ensures ∙ c.if-not-are_joint.false
+
+pub is_barred-requires-clause-among : goal.is_barred-requires-clause-among
+is_barred-requires-clause-among c = let st = c.seek-found.ensures in record { left = st.left; right = st.right; here = st.here }
+
+pub is_barred-requires-clause-once : goal.is_barred-requires-clause-once
+is_barred-requires-clause-once c = λ new. (c.requires.home (c.is_new-is_new.ensures.sure new)).once
+
+pub is_barred-requires-clause-new : goal.is_barred-requires-clause-new
+is_barred-requires-clause-new c =
+    let old = tree_runs c.args.mem.now c.args.root.index in
+    λ new. unknown_new c.args.homes.now.leaves c.args.newest c.run_of-run.result old (record { text = c.args.text.now; kept = c.requires.kept; upto = c.requires.upto }) (c.requires.home (c.is_new-is_new.ensures.sure new)) (c.is_new-is_new.ensures.unknown new)
+
+pub joined-whole-requires : goal.joined-whole-requires
+joined-whole-requires c =
+    let st = c.seek-found.ensures in let run = c.seek-found.result.run in
+    let w = ap (λ l. (counts_of l).cells) st.here ∙ counts_mid st.left run st.right in
+    let low = c.run_of-run.ensures.stretch.within in
+    omega (arith, w, low, c.requires.few)
+
+pub returns-clause-home : goal.returns-clause-home
+returns-clause-home c =
+    let old = tree_runs c.args.mem.now c.args.root.index in let new = tree_runs c.replace.new.mem c.args.root.index in
+    let st = c.seek-found.ensures in let f = c.seek-found.result in let b = c.run_of-run.result in
+    let rep = subst (λ (r : Run). IsReplacedAt old new (c.args.at - 1) r) c.joined-whole.ensures c.replace.ensures.runs in
+    let joint = sym c.are_joint.ensures ∙ c.if-not-are_joint.false in
+    let is = new_is c.args.text.now old c.args.at c.args.cells.now c.requires.kept f.run b f.before f.spot.offset st (let z = c.if-at-eq0.false in omega (arith, z)) (let l = c.if-found.false in let i = st.inside in omega (arith, l, i)) c.run_of-run.ensures joint new rep in
+    let leaves = c.args.homes.now.leaves in let then = c.enter.new.self.leaves in let after = c.hint.new.self.leaves in
+    let e = c.enter.ensures in let n = c.hint.ensures in let i = c.is_new-is_new.ensures in
+    λ sure.
+    let then_sure = sym n.sure ∙ sure in
+    let new_there = e.sure then_sure in
+    let home = c.requires.home (i.sure new_there) in
+    home_more leaves after b old new (joined_holders f.run b st.left st.right old new joint st.here is) home
+    (unknown_new leaves c.args.newest b old (record { text = c.args.text.now; kept = c.requires.kept; upto = c.requires.upto }) home (i.unknown new_there))
+    (placed_more then after b (e.placed then_sure) n.keeps)
+    (keeps_more leaves then after e.keeps n.keeps)
+
 pub returns-clause-apart : goal.returns-clause-apart
 returns-clause-apart c =
     let old = tree_runs c.args.mem.now c.args.root.index in let new = tree_runs c.replace.new.mem c.args.root.index in
     let st = c.seek-found.ensures in let f = c.seek-found.result in let b = c.run_of-run.result in
-    let rep = subst (λ (r : Run). IsReplacedAt old new (c.args.at - 1) r) c.joined.ensures c.replace.ensures.runs in
-    let none = ap (λ (r : Run). list_any (is_shared_by r) old) (sym c.lengthened-longer.ensures) ∙ sym c.is_shared.ensures ∙ c.if-is_shared.false in
+    let rep = subst (λ (r : Run). IsReplacedAt old new (c.args.at - 1) r) c.joined-whole.ensures c.replace.ensures.runs in
+    let none = sym c.is_barred.ensures ∙ c.if-is_barred.false in
     extended_apart c.args.text.now old c.args.at c.args.cells.now c.requires.kept f.run b f.before f.spot.offset st (let z = c.if-at-eq0.false in omega (arith, z)) (let l = c.if-found.false in let i = st.inside in omega (arith, l, i)) c.run_of-run.ensures (sym c.are_joint.ensures ∙ c.if-not-are_joint.false) new rep c.requires.apart none
 
 pub replace-requires-clause-few : goal.replace-requires-clause-few
@@ -45,12 +91,12 @@ replace-requires-clause-few c =
     let st = c.seek-found.ensures in let run = c.seek-found.result.run in let b = c.run_of-run.result in
     let w = ap (λ l. (counts_of l).cells) st.here ∙ counts_mid st.left run st.right in
     let low = c.run_of-run.ensures.stretch.within in let some = c.run_of-run.ensures.run.some in
-    subst (λ (r : Run). AreFew (plus (counts_of_run r) (counts_of old))) (sym c.joined.ensures)
+    subst (λ (r : Run). AreFew (plus (counts_of_run r) (counts_of old))) (sym c.joined-whole.ensures)
     (few_with (record run { len = run.len + b.len; newline = b.newline }) old (omega (arith, some)) (omega (arith, w, low, c.requires.few)) kept (omega (arith, c.requires.few)))
 
 pub returns-clause-cells : goal.returns-clause-cells
 returns-clause-cells c =
     let old = tree_runs c.args.mem.now c.args.root.index in let new = tree_runs c.replace.new.mem c.args.root.index in
     let st = c.seek-found.ensures in let f = c.seek-found.result in let b = c.run_of-run.result in
-    let rep = subst (λ (r : Run). IsReplacedAt old new (c.args.at - 1) r) c.joined.ensures c.replace.ensures.runs in
+    let rep = subst (λ (r : Run). IsReplacedAt old new (c.args.at - 1) r) c.joined-whole.ensures c.replace.ensures.runs in
     extended c.args.text.now old c.args.at c.args.cells.now c.requires.kept f.run b f.before f.spot.offset st (let z = c.if-at-eq0.false in omega (arith, z)) (let l = c.if-found.false in let i = st.inside in omega (arith, l, i)) c.run_of-run.ensures (sym c.are_joint.ensures ∙ c.if-not-are_joint.false) new rep

@@ -1,4 +1,5 @@
 use Rattle.std.proofs.Common.{refl, arith, ◌∙◌, ◌≡◌, ◌+◌, ◌-◌, take, drop, subst}
+use Rattle.std.proofs.lemmas.List.{length-drop}
 use Rattle.rt_tree.specs.Runs.{cells_of}
 use Rattle.rt_tree.specs.Shape.{tree_runs}
 use Rattle.rt_tree.specs.Sharing.{AreUpTo}
@@ -12,28 +13,30 @@ loop-done-init c = record {
   spliced = none_spliced c.args.text.now (tree_runs c.args.mem.now c.args.root.index) c.args.at c.args.cells.now c.requires.kept c.requires.edge c.requires.apart;
   upto = c.requires.upto;
   room = refl;
+  home = c.requires.home;
+  left = let r = c.requires.left in omega (arith, r);
 }
 
-pub put-root-requires-clause-tree : goal.put-root-requires-clause-tree
-put-root-requires-clause-tree c = c.loop-done.invariant.tree
+pub put_home-root-requires-clause-tree : goal.put_home-root-requires-clause-tree
+put_home-root-requires-clause-tree c = c.loop-done.invariant.tree
 
-pub put-root-requires-clause-within : goal.put-root-requires-clause-within
-put-root-requires-clause-within c =
+pub put_home-root-requires-clause-within : goal.put_home-root-requires-clause-within
+put_home-root-requires-clause-within c =
     let r = c.requires in let l = c.loop-done in let old = tree_runs c.args.mem.now c.args.root.index in
     spliced_within c.args.text.now old (tree_runs l.mem l.root.index) c.args.at l.done l.more l.lone c.args.cells.now r.kept r.short r.few r.within l.invariant.spliced
 
-pub put-root-requires-clause-few : goal.put-root-requires-clause-few
-put-root-requires-clause-few c =
+pub put_home-root-requires-clause-few : goal.put_home-root-requires-clause-few
+put_home-root-requires-clause-few c =
     let r = c.requires in let l = c.loop-done in let old = tree_runs c.args.mem.now c.args.root.index in
     spliced_with c.args.text.now old (tree_runs l.mem l.root.index) c.args.at l.done l.more l.lone c.args.cells.now r.kept r.short r.few r.within l.invariant.spliced c.choose-next.result.run c.choose-next.ensures.run
 
-pub put-root-requires-clause-height : goal.put-root-requires-clause-height
-put-root-requires-clause-height c =
+pub put_home-root-requires-clause-height : goal.put_home-root-requires-clause-height
+put_home-root-requires-clause-height c =
     let r = c.requires in let l = c.loop-done in let old = tree_runs c.args.mem.now c.args.root.index in
     spliced_low c.args.text.now old (tree_runs l.mem l.root.index) c.args.at l.done l.more l.lone c.args.cells.now r.kept r.short r.few r.within l.invariant.spliced l.mem l.root.index l.invariant.tree refl
 
-pub put-root-requires-clause-room : goal.put-root-requires-clause-room
-put-root-requires-clause-room c =
+pub put_home-root-requires-clause-room : goal.put_home-root-requires-clause-room
+put_home-root-requires-clause-room c =
     let r = c.requires in let l = c.loop-done in let old = tree_runs c.args.mem.now c.args.root.index in
     let n = spliced_runs c.args.text.now old (tree_runs l.mem l.root.index) c.args.at l.done l.more l.lone c.args.cells.now r.kept r.short r.few r.within l.invariant.spliced in
     omega (arith, n, r.room, l.invariant.room)
@@ -41,22 +44,24 @@ put-root-requires-clause-room c =
 pub loop-done-preserved : goal.loop-done-preserved
 loop-done-preserved c =
     let r = c.requires in let l = c.loop-done in let old = tree_runs c.args.mem.now c.args.root.index in
-    let p = c.put-root.ensures in let len = c.choose-next.result.run.len in let m = c.newest_of-newest.result in
-    let now = tree_runs l.mem l.root.index in let new = tree_runs c.put-root.new.mem c.put-root.result.index in
+    let p = c.put_home-root.ensures in let len = c.choose-next.result.run.len in let m = c.newest_of-newest.result in
+    let now = tree_runs l.mem l.root.index in let new = tree_runs c.put_home-root.new.mem c.put_home-root.result.index in
     let n : l.done + len - l.done ≡ len = omega arith in
     let more = subst (λ i. AreUpTo m (take i (drop l.done c.args.cells.now))) n c.newest_of-newest.ensures.cells in
-    let then_spliced = more_spliced c.args.text.now old (tree_runs l.mem l.root.index) c.args.at l.done l.more l.lone c.args.cells.now r.kept r.short r.few r.within l.invariant.spliced c.choose-next.result.run c.choose-next.ensures.run (tree_runs c.put-root.new.mem c.put-root.result.index) p.runs c.choose-next.result.lone c.choose-next.ensures.apart c.choose-next.ensures.stretch in
+    let then_spliced = more_spliced c.args.text.now old (tree_runs l.mem l.root.index) c.args.at l.done l.more l.lone c.args.cells.now r.kept r.short r.few r.within l.invariant.spliced c.choose-next.result.run c.choose-next.ensures.run (tree_runs c.put_home-root.new.mem c.put_home-root.result.index) p.runs c.choose-next.result.lone c.choose-next.ensures.apart c.choose-next.ensures.stretch in
     record {
       tree = p.tree;
       spliced = then_spliced;
       upto = upto_next l.newest m c.args.at l.done len c.args.cells.now (cells_of c.args.text.now old) (cells_of c.args.text.now now) (cells_of c.args.text.now new) c.newest_of-newest.ensures.least l.invariant.spliced.changed.cells then_spliced.changed.cells l.invariant.upto more;
       room = p.room ∙ l.invariant.room;
+      home = p.home;
+      left = p.left;
     }
 
 pub loop-done-smaller : goal.loop-done-smaller
 loop-done-smaller c =
     let r = c.requires in let l = c.loop-done in let old = tree_runs c.args.mem.now c.args.root.index in
-    fewer_cells c.args.text.now old (tree_runs l.mem l.root.index) c.args.at l.done l.more l.lone c.args.cells.now r.kept r.short r.few r.within l.invariant.spliced c.choose-next.result.run c.choose-next.ensures.run (tree_runs c.put-root.new.mem c.put-root.result.index) c.put-root.ensures.runs
+    fewer_cells c.args.text.now old (tree_runs l.mem l.root.index) c.args.at l.done l.more l.lone c.args.cells.now r.kept r.short r.few r.within l.invariant.spliced c.choose-next.result.run c.choose-next.ensures.run (tree_runs c.put_home-root.new.mem c.put_home-root.result.index) c.put_home-root.ensures.runs
 
 pub returns-clause-tree : goal.returns-clause-tree
 returns-clause-tree c = c.loop-done.invariant.tree
@@ -108,3 +113,27 @@ returns-clause-most c =
     let s = c.loop-done.invariant.spliced in
     let f = s.most in let n = s.low in
     omega (arith, f, n)
+
+pub choose-next-requires-clause-home : goal.choose-next-requires-clause-home
+choose-next-requires-clause-home c = c.loop-done.invariant.home
+
+pub put_home-root-requires-clause-counts : goal.put_home-root-requires-clause-counts
+put_home-root-requires-clause-counts c = c.choose-next.ensures.run.run.counts
+
+pub put_home-root-requires-clause-known : goal.put_home-root-requires-clause-known
+put_home-root-requires-clause-known c = record { text = c.args.text.now; kept = c.loop-done.invariant.spliced.changed.kept; upto = c.loop-done.invariant.upto }
+
+pub put_home-root-requires-clause-home : goal.put_home-root-requires-clause-home
+put_home-root-requires-clause-home c = c.loop-done.invariant.home
+
+pub put_home-root-requires-clause-left : goal.put_home-root-requires-clause-left
+put_home-root-requires-clause-left c =
+    let i = c.loop-done.invariant.left in let w = c.choose-next.ensures.run.within in let s = c.choose-next.ensures.run.run.some in
+    let l = length-drop c.loop-done.done c.args.cells.now in let t = c.loop-done-test.true in
+    omega (arith, i, w, s, l, t)
+
+pub returns-clause-home : goal.returns-clause-home
+returns-clause-home c = c.loop-done.invariant.home
+
+pub returns-clause-left : goal.returns-clause-left
+returns-clause-left c = let i = c.loop-done.invariant.left in omega (arith, i)

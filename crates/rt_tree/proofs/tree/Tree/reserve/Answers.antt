@@ -1,11 +1,13 @@
 use Rattle.std.proofs.Common.{ℕ, ◌≡◌, ◌+◌, ◌^◌, ◌<◌, List, Option, length, arith, sym, ap, ◌∙◌, subst}
 use Rattle.std.specs.Option.{SomeIff}
 use Rattle.rt_store.specs.Cells.{Room}
+use Rattle.rt_tree.specs.Homes.{AreHome}
 use Rattle.rt_tree.specs.Shape.{tree_runs}
 use Rattle.rt_tree.specs.Sharing.{AreUpTo}
 use Rattle.rt_tree.specs.Trees.{IsKept, Shown, shown}
 use Rattle.rt_tree.proofs.Cutting.{runs_few}
-use Rattle.rt_tree.proofs.Roomier.{room_kept, room_nodes, room_shown}
+use Rattle.rt_tree.proofs.Housing.{home_keeps}
+use Rattle.rt_tree.proofs.Roomier.{room_kept, room_nodes, room_runs, room_shown}
 use Rattle.rt_tree.proofs.tree.Tree.reserve.Goals as goal
 
 pub overflow_add-self-inside : goal.overflow_add-self-inside
@@ -19,21 +21,30 @@ pub invariant_of-self-2 : goal.invariant_of-self-2
 invariant_of-self-2 c =
     let s = c.self.inside in let k = c.self.invariant.0 in
     let m = s.mem in let root = s.root.index in
-    let e = c.in_ok-reserve-2.ensures.room in
-    let text = c.in_ok-reserve.ensures.items in
-    let holds = c.in_ok-reserve.ensures.ok in
+    let e = c.in_ok-reserve-3.ensures.room in
+    let text = c.in_ok-reserve-2.ensures.items in
+    let holds = c.in_ok-reserve-2.ensures.ok in
     let low = c.if-cells-len.false in
     let len = ap length text in
+    let leaves = c.reserve.new.self.leaves in
+    let spans = c.in_ok-reserve.ensures.ok in let all = c.spans_for.ensures in
     let a = s.text.ok.0 in
-    let b = c.reserve.new.self.ok.0 in
+    let b = c.reserve-2.new.self.ok.0 in
     let ask : c.in_ok-runs.runs ≡ s.runs + c.max-cells.result + c.max-cuts.result = (subst (λ (o : Option ℕ). SomeIff o (s.runs + c.max-cells.result + c.max-cuts.result < 2 ^ 64) (s.runs + c.max-cells.result + c.max-cuts.result)) c.in_ok-runs.ensures.ok_part c.checked_add.ensures).1 in
     let room : Room = record { cells = c.max-cells.result; cuts = c.max-cuts.result } in
-    let same = ap (λ (t : List ℕ). shown c.reserve-2.new.self root t room) text ∙ room_shown m _ root s.text.items room c.reserve-2.new.self e in
-    let nodes = room_nodes m root s.runs c.max-cells.result c.max-cuts.result c.saturating_sub.result c.reserve-2.new.self e k.counted (omega (arith, ask, c.saturating_sub.ensures, c.nodes.ensures)) in (
-      subst (λ t. IsKept c.reserve-2.new.self root t s.runs) (sym text) (room_kept m _ root s.text.items s.runs c.reserve-2.new.self e k),
+    let same = ap (λ (t : List ℕ). shown c.reserve-3.new.self root t room) text ∙ room_shown m _ root s.text.items room c.reserve-3.new.self e in
+    let nodes = room_nodes m root s.runs c.max-cells.result c.max-cuts.result c.saturating_sub.result c.reserve-3.new.self e k.counted (omega (arith, ask, c.saturating_sub.ensures, c.nodes.ensures)) in (
+      subst (λ t. IsKept c.reserve-3.new.self root t s.runs) (sym text) (room_kept m _ root s.text.items s.runs c.reserve-3.new.self e k),
       (
         record { nodes = nodes; holds = omega (arith, holds, b); few = omega (arith, len, a, low, c.len.ensures) },
-        subst (AreUpTo s.newest) (sym (ap (λ (v : Shown). v.cells) same)) c.self.invariant.1.1,
+        (
+          subst (AreUpTo s.newest) (sym (ap (λ (v : Shown). v.cells) same)) c.self.invariant.1.1.0,
+          (
+            (λ sure. subst (AreHome leaves) (sym (room_runs m _ root s.text.items s.runs c.reserve-3.new.self e))
+                (home_keeps s.homes.leaves leaves (tree_runs m root) (λ stamp none. sym (c.in_ok-reserve.ensures.leaves stamp) ∙ none) (c.self.invariant.1.1.1.0 (sym c.in_ok-reserve.ensures.sure ∙ sure)))),
+            omega (arith, spans, all),
+          ),
+        ),
       ),
     )
 
@@ -41,6 +52,6 @@ pub returns-clause-same : goal.returns-clause-same
 returns-clause-same c =
     let s = c.self.inside in
     let room : Room = record { cells = c.max-cells.result; cuts = c.max-cuts.result } in
-    ap (λ (t : List ℕ). shown c.reserve-2.new.self s.root.index t room) c.in_ok-reserve.ensures.items
-    ∙ room_shown s.mem _ s.root.index s.text.items room c.reserve-2.new.self c.in_ok-reserve-2.ensures.room
+    ap (λ (t : List ℕ). shown c.reserve-3.new.self s.root.index t room) c.in_ok-reserve-2.ensures.items
+    ∙ room_shown s.mem _ s.root.index s.text.items room c.reserve-3.new.self c.in_ok-reserve-3.ensures.room
     ∙ ap (λ (v : Shown). record v { room = room }) c.self.view_is

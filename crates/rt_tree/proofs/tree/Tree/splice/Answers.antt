@@ -22,7 +22,7 @@ pub put_cells-change-requires-clause-upto : goal.put_cells-change-requires-claus
 put_cells-change-requires-clause-upto c =
     let s = c.self.inside in let old = tree_runs s.mem s.root.index in
     let grown = sym (longer_cells s.text.items c.push_characters.new.text.items old c.args.cells.now c.self.invariant.0.kept c.push_characters.ensures.items) ∙ ap (λ (t : List ℕ). cells_of t old) (sym c.deref.ensures.value) in
-    subst (AreUpTo s.newest) grown c.self.invariant.1.1
+    subst (AreUpTo s.newest) grown c.self.invariant.1.1.0
 
 pub put_cells-change-requires-clause-last : goal.put_cells-change-requires-clause-last
 put_cells-change-requires-clause-last c =
@@ -66,7 +66,10 @@ invariant_of-self c =
       record { tree = e.tree; kept = is.kept; apart = e.apart; counted = omega (arith, kc, er); few = omega (arith, n, rf, ka, cells, ra); all = omega (arith, n, l, ka) },
       (
         record { nodes = omega (arith, rn, er, em, eo, cells, cuts, ra, rb); holds = omega (arith, rh, l, cap, cells, ra); few = omega (arith, rf, l, cells, ra) },
-        subst (AreUpTo c.newest_of-self-inside.result) (sym shown_cells) (upto_put c.newest_of-self-inside.result c.args.at added (cells_of s.text.items old) (upto_more s.newest c.newest_of-self-inside.result (cells_of s.text.items old) c.newest_of-self-inside.ensures.least c.self.invariant.1.1) c.newest_of-self-inside.ensures.cells),
+        (
+          subst (AreUpTo c.newest_of-self-inside.result) (sym shown_cells) (upto_put c.newest_of-self-inside.result c.args.at added (cells_of s.text.items old) (upto_more s.newest c.newest_of-self-inside.result (cells_of s.text.items old) c.newest_of-self-inside.ensures.least c.self.invariant.1.1.0) c.newest_of-self-inside.ensures.cells),
+          (e.home, e.left),
+        ),
       ),
     )
 

@@ -1,0 +1,44 @@
+use Rattle.std.proofs.Common.{◌≡◌, ℕ, ◌+◌, ◌^◌, ◌<◌, Option, Some, None, arith, refl, sym, ◌∙◌, subst}
+use Rattle.std.specs.Prelude.{IfSome}
+use Rattle.std.specs.Option.{SomeIff}
+use Rattle.rt_tree.specs.Homes.{MarksOn}
+use Rattle.rt_tree.specs.Shape.{tree_runs}
+use Rattle.rt_tree.proofs.Cutting.{few_all}
+use Rattle.rt_tree.proofs.Housing.{behind_few}
+use Rattle.rt_tree.proofs.Meeting.{found_on, in_it, nowhere_on}
+use Rattle.rt_tree.proofs.Positions.{has_within}
+use Rattle.rt_tree.proofs.Skipping.{have_cells}
+use Rattle.rt_tree.proofs.mark.mark_at.Goals as goal
+
+some_on : (o : Option ℕ) (P : Type 0) (v : ℕ) (Q : ℕ → Type 0) → SomeIff o P v → Q v → IfSome o Q
+some_on None P v Q h q = tt
+some_on (Some x) P v Q h q = subst Q (sym h.1) q
+
+pub returns-then-is_nowhere-clause-some : goal.returns-then-is_nowhere-clause-some
+returns-then-is_nowhere-clause-some c =
+    let all = tree_runs c.args.mem.now c.args.root.index in
+    let none = c.is_nowhere.ensures c.if-is_nowhere.true in
+    let on = nowhere_on c.args.span c.args.mark.now c.args.count all (have_cells c.requires.kept.text all c.requires.kept.runs) ((c.requires.home none.0).known _ none.1) in
+    some_on c.checked_add.result _ (c.args.count + 1) (λ next. MarksOn c.args.span c.args.mark.now c.args.count next all all) c.checked_add.ensures on
+
+pub locate-requires-clause-few : goal.locate-requires-clause-few
+locate-requires-clause-few c = few_all (tree_runs c.args.mem.now c.args.root.index) c.requires.kept c.requires.few
+
+pub mark_run-requires-clause-within : goal.mark_run-requires-clause-within
+mark_run-requires-clause-within c =
+    let all = tree_runs c.args.mem.now c.args.root.index in let h = c.in_ok-home.home in let e = c.in_ok-home.ensures in
+    let b = behind_few all h.run h.before e.home in
+    let w = has_within h.run _ e.has in
+    omega (arith, b, w)
+
+pub returns-clause-some : goal.returns-clause-some
+returns-clause-some c =
+    let old = tree_runs c.args.mem.now c.args.root.index in let new = tree_runs c.mark_run.new.mem c.args.root.index in
+    let h = c.in_ok-home.home in let e = c.in_ok-home.ensures in
+    let home = c.requires.home e.sure in
+    let first : h.run.first ≡ c.args.count = c.if-home-count.false in
+    let i = in_it c.args.span c.args.count h.run c.requires.within.0 c.requires.within.1 e.has first in
+    let w = has_within h.run _ e.has in
+    let on = found_on c.args.span c.args.mark.now c.args.count h.run i.0 first (omega (arith, w)) i.1 old new h.before c.mark_run.result home.once (have_cells c.requires.kept.text old c.requires.kept.runs) e.home c.mark_run.ensures.run in
+    let next : c.in_ok-next.next ≡ c.args.count + h.run.len = (subst (λ (o : Option ℕ). SomeIff o (c.args.count + h.run.len < 2 ^ 64) (c.args.count + h.run.len)) c.in_ok-next.was c.checked_add-2.ensures).1 in
+    subst (λ n. MarksOn c.args.span c.args.mark.now c.args.count n old new) (sym next) on

@@ -1,0 +1,53 @@
+use Rattle.std.proofs.Common.{arith, refl, sym, ◌∙◌}
+use Rattle.rt_tree.specs.Shape.{tree_runs}
+use Rattle.rt_tree.proofs.Cutting.{few_all}
+use Rattle.rt_tree.proofs.Meeting.{at_first, at_last, counts_to, home_to, kept_to}
+use Rattle.rt_tree.proofs.mark.mark_by_homes.Goals as goal
+
+pub cells_of-requires-clause-few : goal.cells_of-requires-clause-few
+cells_of-requires-clause-few c = few_all (tree_runs c.args.mem.now c.args.root.index) c.requires.kept c.requires.few
+
+pub loop-count-init : goal.loop-count-init
+loop-count-init c = record {
+  low = omega arith;
+  tree = c.requires.tree;
+  marks = at_first c.args.span c.args.mark.now (tree_runs c.args.mem.now c.args.root.index);
+  room = refl;
+}
+
+pub mark_at-requires-clause-kept : goal.mark_at-requires-clause-kept
+mark_at-requires-clause-kept c = kept_to c.args.span c.args.mark.now c.loop-count.count (tree_runs c.args.mem.now c.args.root.index) (tree_runs c.loop-count.mem c.args.root.index) c.loop-count.invariant.marks c.requires.kept
+
+pub mark_at-requires-clause-few : goal.mark_at-requires-clause-few
+mark_at-requires-clause-few c =
+    let e = counts_to c.args.span c.args.mark.now c.loop-count.count (tree_runs c.args.mem.now c.args.root.index) (tree_runs c.loop-count.mem c.args.root.index) c.loop-count.invariant.marks in
+    let f = c.requires.few in omega (arith, e, f)
+
+pub mark_at-requires-clause-home : goal.mark_at-requires-clause-home
+mark_at-requires-clause-home c = λ sure. home_to c.args.span c.args.mark.now c.loop-count.count c.args.homes.now.leaves (tree_runs c.args.mem.now c.args.root.index) (tree_runs c.loop-count.mem c.args.root.index) c.loop-count.invariant.marks (c.requires.home sure)
+
+pub loop-count-preserved : goal.loop-count-preserved
+loop-count-preserved c =
+    let m = c.in-Some.ensures.some in let i = c.loop-count.invariant in
+    record {
+      low = (let l = m.later in let w = i.low in omega (arith, l, w));
+      tree = c.mark_at.ensures.tree;
+      marks = m.marks (tree_runs c.args.mem.now c.args.root.index) i.marks;
+      room = c.mark_at.ensures.room ∙ i.room;
+    }
+
+pub loop-count-smaller : goal.loop-count-smaller
+loop-count-smaller c = let l = c.in-Some.ensures.some.later in let t = c.loop-count-test.true in omega (arith, l, t)
+
+pub returns-then-saturating_sub-cells_of-clause-part : goal.returns-then-saturating_sub-cells_of-clause-part
+returns-then-saturating_sub-cells_of-clause-part c = (c.args.span.first, at_first c.args.span c.args.mark.now (tree_runs c.args.mem.now c.args.root.index))
+
+pub returns-in-None-clause-part : goal.returns-in-None-clause-part
+returns-in-None-clause-part c = (c.loop-count.count, c.mark_at.ensures.none c.in-None.is ∙ c.loop-count.invariant.marks)
+
+pub returns-clause-part : goal.returns-clause-part
+returns-clause-part c = (c.loop-count.count, c.loop-count.invariant.marks)
+
+pub returns-clause-all : goal.returns-clause-all
+returns-clause-all c =
+    λ _. c.loop-count.invariant.marks ∙ at_last c.args.span c.args.mark.now c.loop-count.count (tree_runs c.args.mem.now c.args.root.index) (let t = c.loop-count-test.false in omega (arith, t))

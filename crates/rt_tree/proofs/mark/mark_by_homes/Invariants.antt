@@ -1,0 +1,15 @@
+use Rattle.std.proofs.Common.{◌≡◌, ◌≤◌, ◌+◌, ◌-◌, length, map}
+use Rattle.rt_tree.specs.Homes.{run_to}
+use Rattle.rt_tree.specs.Shape.{IsTree, tree_runs}
+use Rattle.rt_tree.proofs.mark.mark_by_homes.Given as goal
+
+abbrev pub invariant-loop-count : goal.invariant-loop-count
+invariant-loop-count l = record {
+  low : l.span.first ≤ l.count;
+  tree : IsTree l.mem l.root.index;
+  marks : tree_runs l.mem l.root.index ≡ map (run_to l.span l.count l.mark) (tree_runs l.initial.mem l.root.index);
+  room : length l.mem.heads + l.mem.room ≡ length l.initial.mem.heads + l.initial.mem.room;
+}
+
+abbrev pub decreases-loop-count : goal.decreases-loop-count
+decreases-loop-count l = l.span.last + 1 - l.count

@@ -1,0 +1,67 @@
+-- The leaves in which runs are looked for. No public clause cites this module.
+use Rattle.std.specs.Prelude.{◌≡◌, ◌≢◌, ℕ, ◌+◌, ◌^◌, ◌<◌, ◌≤◌, ◌⊎◌, ◌&&◌, nat_lt, true, List, ◌∷◌, ◌++◌, length, filter, None, if◌then◌else◌, map}
+use Rattle.rt_nodes.specs.declared.memory.NodeId.{NodeId}
+use Rattle.rt_spans.specs.Shown.{Shown, value_of}
+use Rattle.rt_stamps.specs.declared.stamp.Span.{Span}
+use Rattle.rt_stamps.specs.declared.stamp.Stamp.{Stamp}
+use Rattle.rt_store.specs.Cells.{is_in_span}
+use Rattle.rt_tree.specs.declared.mark.Mark.{Mark}
+use Rattle.rt_tree.specs.declared.node.Run.{Run}
+use Rattle.rt_tree.specs.Runs.{first_stamp, has}
+use Rattle.rt_tree.specs.Stretches.{marked_run}
+
+-- how many runs have a stamp
+abbrev pub holders : Stamp → List Run → ℕ
+holders stamp rs = length (filter (λ r. has r stamp) rs)
+
+-- no stamp is in two runs, and each that is in one has a leaf
+pub record AreHome (leaves : Shown NodeId) (rs : List Run) : Type 0 where
+  pub once : (stamp : Stamp) → holders stamp rs ≤ 1
+  pub known : (stamp : Stamp) → value_of leaves stamp ≡ None → holders stamp rs ≡ 0
+
+-- no run has a stamp of another one
+abbrev pub IsNew : Run → List Run → Type 0
+IsNew run rs = (stamp : Stamp) → has run stamp ≡ true → holders stamp rs ≡ 0
+
+-- no cell has so great a count, or no stamp of a run has a leaf
+abbrev pub IsUnknown : Shown NodeId → ℕ → Run → Type 0
+IsUnknown leaves newest run = (newest < run.first) ⊎ ((stamp : Stamp) → has run stamp ≡ true → value_of leaves stamp ≡ None)
+
+-- each stamp that has a leaf still has one
+abbrev pub KeepsAll : Shown NodeId → Shown NodeId → Type 0
+KeepsAll old new = (stamp : Stamp) → value_of new stamp ≡ None → value_of old stamp ≡ None
+
+-- each stamp of a run has a leaf
+abbrev pub IsPlaced : Shown NodeId → Run → Type 0
+IsPlaced leaves run = (stamp : Stamp) → has run stamp ≡ true → value_of leaves stamp ≢ None
+
+-- the stamps of a run are those of a span
+pub record IsSpanOf (run : Run) (span : Span) : Type 0 where
+  pub site : span.site ≡ run.site
+  pub first : span.first ≡ run.first
+  pub last : span.last + 1 ≡ run.first + run.len
+  pub some : span.first ≤ span.last
+  pub bound : span.last + 1 < 2 ^ 64
+
+-- the first stamps of a run have no leaf
+abbrev pub AreUnknown : Shown NodeId → Run → ℕ → Type 0
+AreUnknown leaves run len = (stamp : Stamp) → has (record run { len = len }) stamp ≡ true → value_of leaves stamp ≡ None
+
+-- a run stands among others
+pub record IsAmong (all : List Run) (run : Run) : Type 0 where
+  pub left : List Run
+  pub right : List Run
+  pub here : all ≡ left ++ run ∷ right
+
+-- no stamp is in two runs
+abbrev pub AreOnceEach : List Run → Type 0
+AreOnceEach rs = (stamp : Stamp) → holders stamp rs ≤ 1
+
+-- a run is marked if its first stamp is in a span and comes before a count
+abbrev pub run_to : Span → ℕ → Mark → Run → Run
+run_to span count mark r = if is_in_span span (first_stamp r) && nat_lt r.first count then marked_run mark r else r
+
+-- where runs were marked up to a count of a span, they are marked up to a later one now
+pub record MarksOn (span : Span) (mark : Mark) (count next : ℕ) (old new : List Run) : Type 0 where
+  pub later : count < next
+  pub marks : (rs : List Run) → old ≡ map (run_to span count mark) rs → new ≡ map (run_to span next mark) rs

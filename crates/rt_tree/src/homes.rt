@@ -1,0 +1,297 @@
+// The leaves in which cells stand, by their stamps.
+ghost use Rattle.std.specs.Prelude.{◌≡◌, ℕ, ◌+◌, ◌-◌, ◌*◌, ◌&&◌, ◌<◌, ◌≤◌, ◌^◌, ◌∷◌, [], IfOk, IfErr, OnOk, OnErr, IfSome, Some, None, if◌then◌else◌, nat_lt, true, length, slice_get};
+ghost use Rattle.rt_stamps.specs.declared.stamp.Stamp.{Stamp};
+ghost use Rattle.rt_nodes.specs.Nodes.{IsNode, entries};
+ghost use Rattle.rt_tree.specs.declared.node.Entry.TheVariants.{Here};
+ghost use Rattle.rt_tree.specs.declared.node.Run.{Run};
+ghost use Rattle.rt_spans.specs.Shown.{value_of};
+ghost use Rattle.rt_tree.specs.Homes.{AreHome, AreUnknown, IsPlaced, IsSpanOf, IsUnknown, KeepsAll};
+ghost use Rattle.rt_tree.specs.Runs.{has};
+ghost use Rattle.rt_tree.specs.Shape.{IsTree, level_of, tree_runs};
+ghost use Rattle.rt_tree.specs.Sums.{AreFew, counts_of};
+ghost use Rattle.rt_tree.specs.Trees.{final_run};
+ghost use Rattle.rt_tree.specs.Walks.{IsBehind};
+
+use crate::find::{has, height};
+use crate::looks::Counted;
+use crate::node::{Counts, Entry, Mem, Run};
+use crate::settle::level_of;
+use crate::up::ascend;
+use rt_nodes::NodeId;
+use rt_spans::SpanMap;
+use rt_stamps::{FINAL, Fault, Span, Stamp};
+use std::alloc::Global;
+
+/// Leaves by the stamps of their cells. A leaf is a guess: runs move to other leaves when nodes are cut in two.
+#[derive(Drop)]
+pub(crate) struct Homes {
+    pub(crate) leaves: SpanMap<NodeId>,
+    // So many spans can be given a leaf.
+    pub(crate) left: usize,
+    // Whether each cell's stamp has a leaf, and no two cells have one stamp.
+    pub(crate) sure: bool,
+    ghost fits: { left ≤ leaves.room },
+}
+
+// A run, and what the runs before it count.
+#[derive(Clone, Copy)]
+pub(crate) struct Home {
+    pub(crate) run: Run,
+    pub(crate) before: Counts,
+}
+
+impl Home {
+    // The position of the cell of a stamp that the run has.
+    pub(crate) fn position(self, stamp: Stamp) -> usize
+        requires has { has self.run stamp ≡ true }
+        requires few { self.before.cells + self.run.len < 2 ^ 33 }
+        ensures { result ≡ self.before.cells + (stamp.count - self.run.first) }
+    {
+        self.before.cells as usize + (stamp.count - self.run.first) as usize
+    }
+
+    // The same, if the run doesn't begin with it.
+    pub(crate) fn inside(self, stamp: Stamp) -> Option<usize>
+        requires has { has self.run stamp ≡ true }
+        requires few { self.before.cells + self.run.len < 2 ^ 33 }
+        ensures { result ≡ (if nat_lt self.run.first stamp.count then Some (self.before.cells + (stamp.count - self.run.first)) else None) }
+    {
+        if self.run.first < stamp.count {
+            Some(self.position(stamp))
+        } else {
+            None
+        }
+    }
+}
+
+// The span of a run's stamps; none if it has none, or the greatest count that there is.
+fn span_of(run: &Run) -> Option<Span>
+    ensures { IfSome result (λ span. IsSpanOf run.now span) }
+{
+    if run.len == 0 {
+        return None;
+    }
+    let end = run.first.checked_add(run.len as u64)?;
+    Some(Span {
+        site: run.site,
+        first: run.first,
+        last: end - 1,
+    })
+}
+
+// Where in a node a run with a stamp stands.
+fn entry_with(mem: &Mem, node: NodeId, stamp: Stamp) -> Option<usize>
+    requires { IsNode mem.now node.index }
+    ensures { IfSome result (λ i. (run : Run) × (slice_get (entries mem.now node.index) i ≡ Some (Here run)) × (has run stamp ≡ true)) }
+{
+    for i in 0..mem.len(node) {
+        if has_at(mem, node, i, stamp) {
+            return Some(i);
+        }
+    }
+    None
+}
+
+// Whether an entry of a node is a run with a stamp.
+fn has_at(mem: &Mem, node: NodeId, i: usize, stamp: Stamp) -> bool
+    requires { IsNode mem.now node.index × (i < length (entries mem.now node.index)) }
+    ensures { result ≡ true → (run : Run) × (slice_get (entries mem.now node.index) i ≡ Some (Here run)) × (has run stamp ≡ true) }
+{
+    match *mem.entry(node, i) {
+        Entry::Here(run) => has(run, stamp),
+        Entry::Down(..) => false,
+    }
+}
+
+impl Homes {
+    // The leaf of the final newline alone is known.
+    pub(crate) fn new(alloc: Global, root: NodeId) -> Result<Homes, Fault>
+        ensures home { IfOk result (λ homes. AreHome homes.leaves (final_run ∷ [])) }
+        ensures left { IfOk result (λ homes. homes.left ≡ 0) }
+        ensures err { IfErr result (λ fault. fault ≡ Fault.NoMemory) }
+    {
+        let mut leaves = SpanMap::new(alloc);
+        leaves.reserve(1)?;
+        let span = Span {
+            site: FINAL.site,
+            first: FINAL.count,
+            last: FINAL.count,
+        };
+        leaves.set(span, root);
+        Ok(Homes {
+            leaves,
+            left: 0,
+            sure: true,
+        })
+    }
+
+    // Makes room for so many spans.
+    pub(crate) fn reserve(&mut self, spans: usize) -> Result<(), Fault>
+        ensures leaves { (stamp : Stamp) → value_of self.new.leaves stamp ≡ value_of self.old.leaves stamp }
+        ensures sure { self.new.sure ≡ self.old.sure }
+        ensures ok { OnOk result (spans ≤ self.new.left) }
+        ensures more { self.old.left ≤ self.new.left }
+        ensures fault { IfErr result (λ fault. fault ≡ Fault.NoMemory) }
+    {
+        if spans > u32::MAX as usize {
+            return Err(Fault::NoMemory);
+        }
+        self.leaves.reserve(spans)?;
+        self.left = self.left.max(spans);
+        Ok(())
+    }
+
+    // Whether no cell has a stamp, as far as is known.
+    pub(crate) fn is_nowhere(&self, stamp: Stamp) -> bool
+        ensures { result ≡ true → (self.now.sure ≡ true) × (value_of self.now.leaves stamp ≡ None) }
+    {
+        self.sure && self.leaves.get(stamp).is_none()
+    }
+
+    // The run that has a stamp, if it is where it was put and no other has it.
+    pub(crate) fn locate(&self, mem: &Mem, root: NodeId, stamp: Stamp) -> Option<Home>
+        requires tree { IsTree mem.now root.index }
+        requires few { AreFew (counts_of (tree_runs mem.now root.index)) }
+        ensures sure { IfSome result (λ _. self.now.sure ≡ true) }
+        ensures home { IfSome result (λ home. IsBehind (tree_runs mem.now root.index) home.run home.before) }
+        ensures has { IfSome result (λ home. has home.run stamp ≡ true) }
+    {
+        if !self.sure {
+            return None;
+        }
+        home_in(mem, root, self.leaves.get(stamp)?, stamp)
+    }
+
+    // Whether no stamp of a run has a leaf.
+    fn has_none(&self, run: &Run) -> bool
+        requires { run.now.first + run.now.len ≤ 2 ^ 64 }
+        ensures { result ≡ true → AreUnknown self.now.leaves run.now run.now.len }
+    {
+        for offset in 0..run.len {
+            let stamp = Stamp {
+                count: run.first + offset as u64,
+                site: run.site,
+            };
+            if self.leaves.get(stamp).is_some() {
+                return false;
+            }
+        }
+        true
+    }
+
+    // Whether no cell has a stamp of a run, as far as is known; none has a greater count than `newest`.
+    pub(crate) fn is_new(&self, newest: u64, run: &Run) -> bool
+        requires { run.now.first + run.now.len ≤ 2 ^ 64 }
+        ensures sure { result ≡ true → self.now.sure ≡ true }
+        ensures unknown { result ≡ true → IsUnknown self.now.leaves newest run.now }
+    {
+        self.sure && (run.first > newest || self.has_none(run))
+    }
+
+    // The stamps of a run have a leaf from now on, if they can be told.
+    fn place(&mut self, run: &Run, leaf: NodeId) -> bool
+        requires { 0 < self.old.left }
+        ensures placed { result ≡ true → IsPlaced self.new.leaves run.now }
+        ensures keeps { KeepsAll self.old.leaves self.new.leaves }
+        ensures sure { self.new.sure ≡ self.old.sure }
+        ensures left { self.old.left ≤ self.new.left + 1 }
+    {
+        match span_of(run) {
+            None => false,
+            Some(span) => {
+                self.left -= 1;
+                self.leaves.set(span, leaf);
+                true
+            }
+        }
+    }
+
+    // A run was put into a leaf. If it wasn't new, nothing is sure any more.
+    pub(crate) fn enter(&mut self, run: &Run, leaf: NodeId, is_new: bool)
+        requires { 0 < self.old.left }
+        ensures sure { self.new.sure ≡ true → is_new ≡ true }
+        ensures placed { self.new.sure ≡ true → IsPlaced self.new.leaves run.now }
+        ensures keeps { KeepsAll self.old.leaves self.new.leaves }
+        ensures left { self.old.left ≤ self.new.left + 1 }
+    {
+        let placed = self.place(run, leaf);
+        self.sure = is_new && placed;
+    }
+
+    // A run is in a leaf, which is told if so much room is left then.
+    pub(crate) fn hint(&mut self, run: &Run, leaf: NodeId, keep: usize)
+        ensures keeps { KeepsAll self.old.leaves self.new.leaves }
+        ensures sure { self.new.sure ≡ self.old.sure }
+        ensures left { keep ≤ self.old.left → keep ≤ self.new.left }
+    {
+        if self.left > keep {
+            self.place(run, leaf);
+        }
+    }
+
+    // Tells where the runs of a leaf are.
+    fn hint_all(&mut self, mem: &Mem, node: NodeId, keep: usize)
+        requires { IsNode mem.now node.index }
+        ensures keeps { KeepsAll self.old.leaves self.new.leaves }
+        ensures sure { self.new.sure ≡ self.old.sure }
+        ensures left { keep ≤ self.old.left → keep ≤ self.new.left }
+    {
+        for i in 0..mem.len(node) {
+            match *mem.entry(node, i) {
+                Entry::Here(run) => self.hint(&run, node, keep),
+                Entry::Down(..) => {}
+            }
+        }
+    }
+
+    // Tells where the runs of the newest node are, if it has come since there were so many nodes: when
+    // a leaf is cut in two, the new one is the last node to come.
+    pub(crate) fn note_new(&mut self, mem: &Mem, nodes: usize, keep: usize)
+        requires { length mem.now.heads ≡ length mem.now.rows }
+        ensures keeps { KeepsAll self.old.leaves self.new.leaves }
+        ensures sure { self.new.sure ≡ self.old.sure }
+        ensures left { keep ≤ self.old.left → keep ≤ self.new.left }
+    {
+        let now = mem.nodes();
+        if now > nodes && now <= u32::MAX as usize {
+            let index = (now - 1) as u32;
+            self.hint_all(mem, NodeId { index }, keep);
+        }
+    }
+}
+
+// The run of a node that has a stamp, if it is a leaf and has one.
+fn home_in(mem: &Mem, root: NodeId, leaf: NodeId, stamp: Stamp) -> Option<Home>
+    requires tree { IsTree mem.now root.index }
+    requires few { AreFew (counts_of (tree_runs mem.now root.index)) }
+    ensures home { IfSome result (λ home. IsBehind (tree_runs mem.now root.index) home.run home.before) }
+    ensures has { IfSome result (λ home. has home.run stamp ≡ true) }
+{
+    if leaf.index as usize >= mem.nodes() || level_of(mem, leaf) > 0 {
+        return None;
+    }
+    let entry = entry_with(mem, leaf, stamp)?;
+    home_at(mem, root, leaf, entry)
+}
+
+// The run at an entry of a leaf.
+fn home_at(mem: &Mem, root: NodeId, leaf: NodeId, entry: usize) -> Option<Home>
+    requires tree { IsTree mem.now root.index }
+    requires few { AreFew (counts_of (tree_runs mem.now root.index)) }
+    requires leaf { IsNode mem.now leaf.index × (level_of mem.now leaf.index ≡ 0) }
+    requires within { entry < length (entries mem.now leaf.index) }
+    ensures home { IfSome result (λ home. IsBehind (tree_runs mem.now root.index) home.run home.before) }
+    ensures run { IfSome result (λ home. slice_get (entries mem.now leaf.index) entry ≡ Some (Here home.run)) }
+{
+    match *mem.entry(leaf, entry) {
+        Entry::Down(..) => None,
+        Entry::Here(run) => {
+            height(mem, root);
+            let mut looks = 0;
+            let looks = &mut looks;
+            let mut sight = Counted { mem, looks };
+            let before = ascend(&mut sight, root, leaf, entry);
+            Some(Home { run, before })
+        }
+    }
+}
