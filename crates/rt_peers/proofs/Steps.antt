@@ -74,6 +74,11 @@ pub lifted_to : (state : State) (viewer new : Viewed) (recording : Recording) �
 lifted_to state viewer new recording e outcome result h =
     subst (λ (s : State). Answers (on_view s (outcome s.view)) s result (edited new recording)) e (lifted (edited viewer recording) (outcome viewer) result new h)
 
+pub told_to : (state : State) (viewer : Viewed) (recording : Recording) → edited viewer recording ≡ state → (outcome : Viewed → Outcome Viewed) (result : Result (List Word) Fault)
+    → Answers (outcome viewer) viewer result viewer → Answers (on_view state (outcome state.view)) state result state
+told_to state viewer recording e outcome result h =
+    subst (λ (s : State). Answers (on_view s (outcome s.view)) s result s) e (lifted (edited viewer recording) (outcome viewer) result viewer h)
+
 -- words that ask for a request, and words that are refused
 pub asked_gives : (words : List Word) (request : Request) (old : State) (result : Result (List Word) Fault) (new : State) → Asks words (Ok request) ⊎ (◌≡◌ {A = Asked} (Ok request) (Err NoMemory))
     → Answers (step old request) old result new → WidgetGives words old result new

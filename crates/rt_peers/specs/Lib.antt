@@ -1,9 +1,13 @@
 pub mod State
 pub mod Step
+pub mod ViewStep
 pub use Rattle.rt_stamps.specs.Outcomes
 pub use Rattle.rt_stamps.specs.Places
 pub use Rattle.rt_stamps.specs.Words
 pub use Rattle.rt_edits.specs.Flat
 pub use Rattle.rt_text.specs.Index
 pub use Rattle.rt_text.specs.Commands
+pub use Rattle.rt_editing.specs.Edited
+pub use Rattle.rt_editing.specs.Edits
+pub use Rattle.rt_editing.specs.Reverts
 pub use Rattle.rt_exchange.specs.Receiving

@@ -24,7 +24,7 @@ use Rattle.rt_text.specs.Commands.{position_of_index, compared, counted}
 use Rattle.rt_text.specs.Widgets.{Viewed}
 use Rattle.rt_undo.specs.Undo.{emptied, forced_on, is_modified, next_redo, next_undo, separated, unmodified}
 use Rattle.rt_peers.specs.State.{State, is_widget}
-pub use Rattle.rt_peers.specs.ViewStep
+use Rattle.rt_peers.specs.ViewStep.{Outcome, as_outcome, as_piece, changed_step, element_words, get_step, mark_step, one_word, tag_step, text_of_bool, told_step}
 
 -- what a request does to what the widget shows, as one to the site: the history of its edits stays
 abbrev pub on_view : State → Outcome Viewed → Outcome State

@@ -1,5 +1,5 @@
 // What is asked of the undo mechanism, and the options of the widget.
-ghost use Rattle.std.specs.Prelude.{◌≡◌, Ok};
+ghost use Rattle.std.specs.Prelude.{◌≡◌, [], Ok};
 ghost use Rattle.rt_stamps.specs.Outcomes.{Answers};
 ghost use Rattle.rt_peers.specs.Step.{configured, edit_step, option_value};
 ghost use Rattle.rt_peers.specs.ViewStep.{one_word, text_of_bool};

@@ -11,4 +11,4 @@ returns-in_err-holds c =
     rw p.1 (refl, refused_as (λ holds. one_word (text_of_bool holds)) c.args.self.now _ _ p.0 c.in_err-holds.field-0.0 (λ i. compared (c.self.view_is i) (c.text.ensures i) c.args.comparison (c.text-2.ensures i)) c.in_err-holds.ensures.err p.2)
 
 pub returns : goal.returns
-returns c = replied_as (λ holds. one_word (text_of_bool holds)) c.args.self.now _ _ c.in_ok-holds.holds c.one_word.result (λ i. compared (c.self.view_is i) (c.text.ensures i) c.args.comparison (c.text-2.ensures i)) c.in_ok-holds.ensures.ok (rw (← c.in_ok-text_of_bool.ensures.ok) c.one_word.ensures.ok) c.one_word.ensures.err
+returns c = replied_as (λ holds. one_word (text_of_bool holds)) c.args.self.now _ _ c.in_ok-holds.holds c.truth.result (λ i. compared (c.self.view_is i) (c.text.ensures i) c.args.comparison (c.text-2.ensures i)) c.in_ok-holds.ensures.ok c.truth.ensures.ok c.truth.ensures.err
