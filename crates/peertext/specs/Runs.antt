@@ -35,7 +35,7 @@ Begins site log result = MatchResult result
 
 -- the file of a site's log, or want of memory
 abbrev pub Exports : State → Result (Vec ℕ Global) Fault → Type 0
-Exports state result = IfOk result (λ bytes. bytes.items ≡ spelling (reverse state.doc.log)) × IfErr result (λ fault. fault ≡ NoMemory)
+Exports state result = IfOk result (λ bytes. bytes.items ≡ spelling (reverse state.view.doc.log)) × IfErr result (λ fault. fault ≡ NoMemory)
 
 -- the log at the end of a run is told where it is wanted, however the run ended
 abbrev pub TellsLog : Bool → State → Option (Result (Vec ℕ Global) Fault) → Type 0
