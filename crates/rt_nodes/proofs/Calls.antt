@@ -1,6 +1,6 @@
 -- A call as one step of a walk: what the caller hands over, and what it has once the call is done. Assumes `Logic`.
 use mathlib.Core.List.{List, ◌∷◌}
-use base.Logic.{SProp, ent}
+use base.Logic.{ent}
 use denote.Triple.Call.{calls_at, calls_at_last}
 use denote.Triple.Statement.{Contract, Triple}
 use mir.Syntax.{Callee, Place, Opd, Body, seq, call}
@@ -8,7 +8,7 @@ use mir.Val.{Val}
 use prog.Wp.{Env, Calls, Loops, Wp, after_seq}
 use seplogic.Ra.Ura.{Ura}
 use sound.WpLaws.{FmC}
-use types.Kit.{Item, raw, later, mean, Post, post, any_q, Goal, Seq, Soaks, runs, lands, settles, ◌$◌, use1, await}
+use types.Kit.{Item, raw, later, mean, Post, post, any_q, Seq, runs, lands, settles, ◌$◌, use1, await}
 use types.Logic.{Logic}
 use types.Run.{Opds}
 

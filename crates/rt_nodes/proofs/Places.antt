@@ -29,7 +29,7 @@ use prog.Capped.{capped_is}
 use prog.Memory.{Memory, size, align, capped}
 use prog.RawLaws.{size-raw, align-raw}
 use prog.Routine.{Routine}
-use types.Kit.{Goal, Seq, Item, ‵, raw, ◌$◌, ◌∵◌, !, qed, by, move, keep, drop, use0, use1, join, rewrite, fsplit, fjoin, feq_i, flt_l, flt_i, done}
+use types.Kit.{Goal, Seq, Item, ‵, raw, ◌$◌, ◌∵◌, !, qed, by, move, keep, drop, use0, use1, join, rewrite, fsplit, fjoin, feq_i, flt_i, done}
 use types.Logic.{Logic, sem}
 use Rattle.core.proofs.alloc.Calls.{Al, token}
 use Rattle.std_alloc.proofs.OfLodged.{lodging}

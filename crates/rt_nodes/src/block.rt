@@ -12,7 +12,7 @@ use std_alloc::vec::Lodged;
 
 /// Entries, in room for so many: the first places of memory that `claim` gives the right to free.
 pub struct Block<E> {
-    row: Vec<E, Lodged>,
+    entries: Vec<E, Lodged>,
     claim: Claim<E, Global>,
     heap: Global,
 }
@@ -26,9 +26,9 @@ impl<E> Model for Block<E> {
 
     ghost coded = { row_code E.code };
 
-    ghost view = { λ b. row b.row.items (vec_capacity b.row) };
+    ghost view = { λ b. row b.entries.items (vec_capacity b.entries) };
 
-    ghost invariant = { λ b. IsClaimOn b.claim b.row b.heap };
+    ghost invariant = { λ b. IsClaimOn b.claim b.entries b.heap };
 }
 
 impl<E> Block<E> {
@@ -41,15 +41,19 @@ impl<E> Block<E> {
         if !may_hold::<E>(capacity) {
             return Err(AllocError);
         }
-        let (row, claim) = allocate(&heap, capacity)?;
-        Ok(Block { row, claim, heap })
+        let (entries, claim) = allocate(&heap, capacity)?;
+        Ok(Block {
+            entries,
+            claim,
+            heap,
+        })
     }
 
     /// How many entries there are.
     pub(crate) fn len(&self) -> usize
         ensures { result ≡ length self.now.items }
     {
-        self.row.len()
+        self.entries.len()
     }
 
     /// An entry.
@@ -57,7 +61,7 @@ impl<E> Block<E> {
         requires { i < length self.now.items }
         ensures { result.now ≡ slice_index_or self.now.items i result.now }
     {
-        &self.row[i]
+        &self.entries[i]
     }
 
     /// An entry, for writing.
@@ -66,7 +70,7 @@ impl<E> Block<E> {
         ensures* writes_back { sem 𝓛 (lends_item E.row self.entry i result) }
         ensures value { result.now ≡ slice_index_or self.old.items i result.now }
     {
-        &mut self.row[i]
+        &mut self.entries[i]
     }
 
     /// Puts an entry in at `i`. There must be room.
@@ -75,7 +79,7 @@ impl<E> Block<E> {
         requires room { length self.old.items < self.old.capacity }
         ensures { self.new ≡ row (insert self.old.items i e) self.old.capacity }
     {
-        self.row.insert_reserved(i, e);
+        self.entries.insert_reserved(i, e);
     }
 
     /// Moves the entries after the first `k` to the end of `to`, which must have room.
@@ -85,8 +89,8 @@ impl<E> Block<E> {
         ensures front { self.new ≡ row (take k self.old.items) self.old.capacity }
         ensures back { to.new ≡ row (to.old.items ++ drop k self.old.items) to.old.capacity }
     {
-        if k < self.row.len() {
-            to.row.append_tail(&mut self.row, k);
+        if k < self.entries.len() {
+            to.entries.append_tail(&mut self.entries, k);
         }
     }
 }
@@ -95,16 +99,16 @@ impl<E> Block<E> {
 impl<E: Drop> Drop for Block<E> {
     fn drop(self) {
         let Block {
-            mut row,
+            mut entries,
             claim,
             heap,
         } = self;
-        while row.len() > 0 {
-            let last = row.len() - 1;
-            drop(row.remove(last));
+        while entries.len() > 0 {
+            let last = entries.len() - 1;
+            drop(entries.remove(last));
         }
-        let at = row.as_mut_ptr();
-        let places = row.capacity();
-        deallocate(&heap, at, places, row, claim);
+        let at = entries.as_mut_ptr();
+        let places = entries.capacity();
+        deallocate(&heap, at, places, entries, claim);
     }
 }

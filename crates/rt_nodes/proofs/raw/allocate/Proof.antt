@@ -1,7 +1,6 @@
 -- `allocate`: the allocator's places become a row without entries, and its right to free them a claim. Assumes `Logic`.
 use Rattle.std.proofs.Common.{◌≡◌, ℕ, ◌*◌, ◌^◌, ◌<◌, List, [], ◌∷◌, ◌++◌, refl, sym, ap, subst, arith, lit<, w64, true, false}
 use base.Fml.{ftrue, flft, froom, Incl-trans}
-use base.Logic.{SProp, id⊢}
 use contract.BorrowLft.{◌⊑◌}
 use contract.Monad.{fact}
 use contract.Running.{tables}
@@ -16,7 +15,6 @@ use denote.Steps.{heard, nothing, only}
 use denote.Struct.Struct.{Struct-Makes}
 use denote.Struct.Tuple.{Tuple}
 use denote.Struct.Declared as Declared
-use denote.Triple.Entry.{alive}
 use denote.Triple.Table.{framed}
 use denote.Triple.Walked.{Stays, walk_of, stay_dropped, Goes-dropped, ends_at, says}
 use mir.MapTy.{inst_fn}
@@ -26,7 +24,7 @@ use prog.Capped.{capped_fits}
 use prog.Memory.{align, capped}
 use prog.Wp.{Env, WpFn}
 use types.ByLocal.{alloc_all, pass_all, free_all, look_at, get, get_in, get_tag, is, sets, sets_last, lands_as, lands_last, env}
-use types.Kit.{Sq, Post, ‵, raw, ◌⊛◌, some, given, prop, at_ret, ◌$◌, ◌∵◌, !, qed, move, keep, drop, use0, use1, use2, split, join, pick, learn, regoal, rewrite, fsplit, fjoin, suffices, done}
+use types.Kit.{Sq, ‵, raw, ◌⊛◌, some, given, prop, at_ret, ◌$◌, ◌∵◌, !, qed, move, keep, drop, use0, use1, use2, split, join, pick, learn, regoal, rewrite, fsplit, fjoin, suffices, done}
 use types.Match.{live, vrt, in_variant}
 use types.Part.{whole, agg}
 use types.Run.{stop, fld, lit, of_opd, bin, size_word, align_word, no_more, and_then, first, blocks, switches_on, exec, returns, enter}
