@@ -10,6 +10,8 @@ million if no number is given.
 tests/bench.py spans: times the map over spans beside Rust's BTreeMap, which is left out where there is no rustc.
 tests/bench.py nodes: times calls of node memory, in a program of its own, tests/bench/nodes, which rt proves and builds.
 tests/bench.py replica: times a replica over the plain list that accepts typed text, in a program of its own, tests/bench/replica.
+tests/bench.py tree: counts, by callgrind too, the instructions that an operation takes on the tree of a text and on the plain list, in
+a program of its own, tests/bench/tree.
 tests/bench.py instructions [PROGRAM [LINES]]: counts the instructions that a line takes, by valgrind's callgrind: those of 4,000
 lines less those of 2,000, if no number is given, which are the same each time.
 """
@@ -24,7 +26,7 @@ import tempfile
 import time
 
 ROOT = os.path.dirname(os.path.dirname(os.path.abspath(__file__)))
-MODE = sys.argv[1] if sys.argv[1:2] and sys.argv[1] in ("lists", "spans", "nodes", "replica", "instructions") else ""
+MODE = sys.argv[1] if sys.argv[1:2] and sys.argv[1] in ("lists", "spans", "nodes", "replica", "tree", "instructions") else ""
 WORDS = sys.argv[2:] if MODE else sys.argv[1:]
 PROGRAM = WORDS[0] if WORDS else os.path.join(ROOT, "crates", "peertext", "out", "peertext")
 OPERATIONS = int(WORDS[1]) if len(WORDS) > 1 else 1_000_000
@@ -180,14 +182,33 @@ def replica():
         return max(subprocess.call([program, str(operations)]) for operations in (20_000, 40_000))
 
 
+def counted(*words, script=b""):
+    """How many instructions a program takes, and how many lines it writes."""
+    told = subprocess.run(["valgrind", "--tool=callgrind", "--callgrind-out-file=/dev/null", *words], input=script, capture_output=True, check=True)
+    return int(told.stderr.decode().rsplit("Collected :", 1)[1].split()[0]), told.stdout.count(b"\n")
+
+
+def tree():
+    """Proves and builds tests/bench/tree, a program over rt_tree and rt_store, and counts the instructions of an operation between
+    4,000 and 8,000."""
+    with tempfile.TemporaryDirectory() as folder:
+        ours = laid(folder, "tree", "bench_tree", "rt_stamps", "rt_spans", "rt_nodes", "rt_tags", "rt_store", "rt_tree")
+        subprocess.run(["rt", "run"], cwd=ours, stdout=subprocess.DEVNULL, check=True)
+        program = os.path.join(ours, "out", "bench_tree")
+        for store in ("tree", "list"):
+            for where in ("end", "random"):
+                few, many = (counted(program, str(operations), store, where)[0] for operations in (4_000, 8_000))
+                print(f"{store:5} {where:7} {(many - few) / 4_000:10,.0f} instructions an operation", flush=True)
+    return 0
+
+
 def collected(line, lines):
     """How many instructions the program takes for so many equal lines behind an insertion."""
     script = b".t insert 1.0 hello\n" + line + b"\n"
     script += (line + b"\n") * (lines - 1)
-    words = ["valgrind", "--tool=callgrind", "--callgrind-out-file=/dev/null", PROGRAM, "run", "--site", "1"]
-    told = subprocess.run(words, input=script, capture_output=True, check=True)
-    expect(line.decode(), told.stdout.count(b"\n") == lines + 1)
-    return int(told.stderr.decode().rsplit("Collected :", 1)[1].split()[0])
+    took, wrote = counted(PROGRAM, "run", "--site", "1", script=script)
+    expect(line.decode(), wrote == lines + 1)
+    return took
 
 
 def instructions():
@@ -200,4 +221,4 @@ def instructions():
 
 
 if __name__ == "__main__":
-    sys.exit({"instructions": instructions, "lists": lists, "spans": spans, "nodes": nodes, "replica": replica, "": main}[MODE]())
+    sys.exit({"instructions": instructions, "lists": lists, "spans": spans, "nodes": nodes, "replica": replica, "tree": tree, "": main}[MODE]())

@@ -3,3 +3,4 @@ pub mod Lends
 pub mod Rows
 pub mod RowLends
 pub mod Inside
+pub mod Claims

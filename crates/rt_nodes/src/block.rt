@@ -1,44 +1,59 @@
-//! A row of entries with room for so many.
+//! A block: entries in memory of its own, with places for so many.
 ghost use Rattle.std.specs.Prelude.{◌≡◌, ◌+◌, ◌-◌, ◌<◌, ◌≤◌, List, [], ◌∷◌, ◌++◌, length, take, drop, insert, slice_index_or, vec_capacity, IfOk};
 ghost use Rattle.std.specs.Borrow.{sem};
 ghost use Rattle.rt_nodes.specs.Rows.{row};
 
+use crate::claim::Claim;
+use crate::raw::{allocate, deallocate};
 use std::alloc::{AllocError, Global};
 use std::marker::Model;
+use std_alloc::room::may_hold;
+use std_alloc::vec::Lodged;
 
-/// Entries, in room for so many.
-#[derive(Drop)]
+/// Entries, in room for so many: the first places of memory that `claim` gives the right to free.
 pub struct Block<E> {
-    items: Vec<E>,
+    entries: Vec<E, Lodged>,
+    claim: Claim<E, Global>,
+    heap: Global,
 }
 
 impl<E> Model for Block<E> {
     ghost use Rattle.std.specs.Prelude.{vec_capacity};
     ghost use Rattle.rt_nodes.specs.Rows.{Row, row_code, row};
+    ghost use Rattle.rt_nodes.specs.Claims.{IsClaimOn};
 
     ghost Value = { Row E };
 
     ghost coded = { row_code E.code };
 
-    ghost view = { λ b. row b.items.items (vec_capacity b.items) };
+    ghost view = { λ b. row b.entries.items (vec_capacity b.entries) };
+
+    ghost invariant = { λ b. IsClaimOn b.claim b.entries b.heap };
 }
 
 impl<E> Block<E> {
     ghost use Rattle.rt_nodes.specs.RowLends.{lends_item};
 
     /// No entry, in room for so many.
-    pub(crate) fn new(alloc: Global, capacity: usize) -> Result<Self, AllocError>
+    pub(crate) fn new(heap: Global, capacity: usize) -> Result<Self, AllocError>
         ensures { IfOk result (λ b. b ≡ row [] capacity) }
     {
-        let items = Vec::with_capacity(alloc, capacity)?;
-        Ok(Block { items })
+        if !may_hold::<E>(capacity) {
+            return Err(AllocError);
+        }
+        let (entries, claim) = allocate(&heap, capacity)?;
+        Ok(Block {
+            entries,
+            claim,
+            heap,
+        })
     }
 
     /// How many entries there are.
     pub(crate) fn len(&self) -> usize
         ensures { result ≡ length self.now.items }
     {
-        self.items.len()
+        self.entries.len()
     }
 
     /// An entry.
@@ -46,7 +61,7 @@ impl<E> Block<E> {
         requires { i < length self.now.items }
         ensures { result.now ≡ slice_index_or self.now.items i result.now }
     {
-        &self.items[i]
+        &self.entries[i]
     }
 
     /// An entry, for writing.
@@ -55,7 +70,7 @@ impl<E> Block<E> {
         ensures* writes_back { sem 𝓛 (lends_item E.row self.entry i result) }
         ensures value { result.now ≡ slice_index_or self.old.items i result.now }
     {
-        &mut self.items[i]
+        &mut self.entries[i]
     }
 
     /// Puts an entry in at `i`. There must be room.
@@ -64,7 +79,7 @@ impl<E> Block<E> {
         requires room { length self.old.items < self.old.capacity }
         ensures { self.new ≡ row (insert self.old.items i e) self.old.capacity }
     {
-        insert_reserved(&mut self.items, i, e);
+        self.entries.insert_reserved(i, e);
     }
 
     /// Moves the entries after the first `k` to the end of `to`, which must have room.
@@ -74,35 +89,26 @@ impl<E> Block<E> {
         ensures front { self.new ≡ row (take k self.old.items) self.old.capacity }
         ensures back { to.new ≡ row (to.old.items ++ drop k self.old.items) to.old.capacity }
     {
-        pour(&mut self.items, k, &mut to.items);
+        if k < self.entries.len() {
+            to.entries.append_tail(&mut self.entries, k);
+        }
     }
 }
 
-// Moves the elements of `from` after the first `k` to the end of `to`, which must have room.
-fn pour<T>(from: &mut Vec<T>, k: usize, to: &mut Vec<T>)
-    requires tail { k ≤ length from.old.items }
-    requires room { length to.old.items + (length from.old.items - k) ≤ vec_capacity to.old }
-    ensures from { from.new.items ≡ take k from.old.items }
-    ensures to { to.new.items ≡ to.old.items ++ drop k from.old.items }
-    ensures capacity { (vec_capacity from.new ≡ vec_capacity from.old) × (vec_capacity to.new ≡ vec_capacity to.old) }
-{
-    let end = to.len();
-    while from.len() > k {
-        let e = from.take_last();
-        insert_reserved(to, end, e);
-    }
-}
-
-// Inserts `x` at `i`. There must be room.
-fn insert_reserved<T>(row: &mut Vec<T>, i: usize, x: T)
-    requires in_bounds { i ≤ length row.old.items }
-    requires room { length row.old.items < vec_capacity row.old }
-    ensures items { row.new.items ≡ insert row.old.items i x }
-    ensures len { length row.new.items ≡ length row.old.items + 1 }
-    ensures capacity { vec_capacity row.new ≡ vec_capacity row.old }
-{
-    match row.insert(i, x) {
-        Ok(()) => {}
-        Err(_) => unreachable!(),
+// The entries go first, since memory is given back only once it is empty.
+impl<E: Drop> Drop for Block<E> {
+    fn drop(self) {
+        let Block {
+            mut entries,
+            claim,
+            heap,
+        } = self;
+        while entries.len() > 0 {
+            let last = entries.len() - 1;
+            drop(entries.remove(last));
+        }
+        let at = entries.as_mut_ptr();
+        let places = entries.capacity();
+        deallocate(&heap, at, places, entries, claim);
     }
 }

@@ -1,6 +1,6 @@
 -- What a reversion tells of the characters that come back by it: each does so for the first time, and is gone under its former stamp;
 -- and the group for the other stack names none of them.
-use Rattle.std.proofs.Common.{◌≡◌, ◌∙◌, ℕ, zero, suc, ◌+◌, ◌<◌, ◌≤◌, ◌||◌, Bool, true, false, List, [], ◌∷◌, ◌++◌, Option, Some, None, is_some, cond, drop, filter, length, map, ap, refl, subst, sym, arith}
+use Rattle.std.proofs.Common.{◌≡◌, ◌∙◌, ℕ, zero, suc, ◌+◌, ◌<◌, ◌≤◌, ◌||◌, Bool, true, false, List, [], ◌∷◌, Option, Some, None, is_some, cond, drop, filter, length, map, ap, refl, subst, sym, arith}
 use Rattle.std.specs.Prelude.{option_map, reverse, unwrap_or}
 use Rattle.std.specs.List.{AllByRecursion}
 use Rattle.std.proofs.lemmas.Bool.{both_ways, false_from_ne_true}

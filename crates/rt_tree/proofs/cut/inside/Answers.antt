@@ -1,10 +1,10 @@
-use Rattle.std.proofs.Common.{ℕ, Option, arith, subst, sym}
+use Rattle.std.proofs.Common.{ℕ, Option, subst, sym}
 use Rattle.std.specs.Prelude.{MatchOption}
 use Rattle.std.specs.List.{AllByRecursion}
 use Rattle.rt_tree.specs.Sharing.{BeginsAt, IsInside}
 use Rattle.rt_tree.specs.Shape.{tree_runs}
 use Rattle.rt_tree.proofs.Cutting.{few_all}
-use Rattle.rt_tree.proofs.Housing.{behind_few, home_inside, nowhere_begins}
+use Rattle.rt_tree.proofs.Housing.{home_inside, nowhere_begins}
 use Rattle.rt_tree.proofs.cut.inside.Goals as goal
 
 pub returns-then-is_nowhere : goal.returns-then-is_nowhere

@@ -1,4 +1,4 @@
-use Rattle.std.proofs.Common.{◌≡◌, Bool, true, false, refl, sym, ◌∙◌, nat_lt}
+use Rattle.std.proofs.Common.{◌≡◌, Bool, true, false, refl, sym, nat_lt}
 use Rattle.std.specs.Prelude.{◌&&◌}
 use Rattle.std.specs.List.{list_any}
 use Rattle.rt_tree.specs.Shape.{tree_runs}

@@ -2,7 +2,7 @@ use Rattle.std.proofs.Common.{Some, ap, ◌∙◌}
 use Rattle.rt_store.specs.Cells.{position_of}
 use Rattle.rt_tree.specs.Shape.{tree_runs}
 use Rattle.rt_tree.specs.Trees.{Shown}
-use Rattle.rt_tree.proofs.Housing.{behind_few, is_here, is_nowhere}
+use Rattle.rt_tree.proofs.Housing.{is_here, is_nowhere}
 use Rattle.rt_tree.proofs.Kept.{few_runs}
 use Rattle.rt_tree.proofs.tree.Tree.position_of.Goals as goal
 
