@@ -18,11 +18,22 @@ use std::alloc::Global;
 use std::marker::Model;
 
 /// A site with its document, shown by the widget `.t`, and what it recorded of its edits.
-#[derive(Drop)]
 pub struct SiteState {
     alloc: Global,
     viewer: Viewer,
     recorder: Recorder,
+}
+
+// Written out, so that where a site is let go is one step for the crates above, and not one for each
+// field of each field.
+impl Drop for SiteState {
+    fn drop(self) {
+        let SiteState {
+            alloc: _,
+            viewer: _,
+            recorder: _,
+        } = self;
+    }
 }
 
 impl Model for SiteState {
