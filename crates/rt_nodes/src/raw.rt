@@ -1,4 +1,5 @@
-//! The memory of a block: places for so many entries, allocated at once. No other module has a raw pointer.
+//! The memory of a block: places for so many entries, allocated at once. No other code takes or makes a raw pointer but
+//! `Block::drop`, which passes the row's address on.
 ghost use Rattle.std.specs.Prelude.{◌≡◌, ℕ, [], IfOk};
 ghost use Rattle.std_alloc.specs.Vec.Ownership.{FitsInBlock};
 ghost use Rattle.std_alloc.specs.Vec.{vec_capacity, vec_ptr};

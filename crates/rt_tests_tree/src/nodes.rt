@@ -48,6 +48,24 @@ fn the_listed_example(rt: HostRuntime) -> Result<(), Fault> {
     Ok(())
 }
 
+// Blocks of no bytes.
+#[test]
+fn entries_of_no_bytes_and_nodes_of_no_room(rt: HostRuntime) -> Result<(), Fault> {
+    let mut small: NodeMem<char, (), 3> = NodeMem::new(rt.alloc());
+    small.reserve(2)?;
+    let a = small.make('a');
+    let b = small.make('b');
+    small.insert_at(a, 0, ());
+    small.insert_at(a, 1, ());
+    small.move_tail(a, 1, b);
+    assert!(rt; small.len(a) == 1 && small.len(b) == 1);
+    let mut heads: NodeMem<char, char, 0> = NodeMem::new(rt.alloc());
+    heads.reserve(1)?;
+    let c = heads.make('c');
+    assert!(rt; *heads.head(c) == 'c' && heads.len(c) == 0);
+    Ok(())
+}
+
 // Each clone counts: the count falls by one where one is dropped.
 #[test]
 fn drops_headers_and_entries_once(rt: HostRuntime) -> Result<(), Fault> {
