@@ -150,7 +150,7 @@ def failing_allocations_of_undo():
     script = "".join(line + "\n" for line in UNDO_LINES).encode()
     number = quiet = 0
     refused = set()
-    while quiet < 30 and number < 2000:
+    while quiet < 30 and number < 8000:
         number += 1
         put("out", OLD)
         out, err, status = without_an_allocation(shim, number, "run", *SITE, "--out", "out", script=script)
@@ -166,7 +166,7 @@ def failing_allocations_of_undo():
         check(f"undo without allocation {number}: {lines} {err} {status}", good and (whole or ended), True)
         quiet = quiet + 1 if whole and "! 1 NoMemory" not in lines else 0
     check("allocations were refused to undo and redo", {"insert", "delete", "replace", "edit undo", "edit redo"} <= refused, True)
-    check("the last of them is behind us", number < 2000, True)
+    check("the last of them is behind us", number < 8000, True)
 
 
 def failing_allocations():
