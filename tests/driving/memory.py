@@ -78,7 +78,7 @@ def failing_allocations_of_receive():
     script = "".join(line + "\n" for line in asks).encode()
     logs = (HEAD, FILES["ab"], FILES["deleted"])
     early = cut = number = quiet = 0
-    while quiet < 30 and number < 1000:
+    while quiet < 30 and number < 40000:
         number += 1
         # in turn a new site, and one that begins with the first record
         begin = number % 2
@@ -102,7 +102,7 @@ def failing_allocations_of_receive():
         quiet = quiet + 1 if whole and not any("NoMemory" in line for line in lines) else 0
     check("some allocations ended the run", early > 0, True)
     check("some allocations were refused to an operation", cut > 0, True)
-    check("the last of them is behind us", number < 1000, True)
+    check("the last of them is behind us", number < 40000, True)
 
 
 UNDO_LINES = """.t configure -undo 1
@@ -194,7 +194,7 @@ def failing_allocations():
         ]
         script = "".join(line + "\n" for line, _ in asks)
         number, quiet, refused = 0, 0, 0
-        while quiet < 30 and number < 400:
+        while quiet < 30 and number < 4000:
             number += 1
             done = subprocess.run([BUILT, "run", "--site", "1"], input=script.encode(), capture_output=True, timeout=120,
                                   env={**os.environ, "LD_PRELOAD": shim, "FAIL_ALLOC": str(number)})
@@ -211,4 +211,4 @@ def failing_allocations():
             check(f"allocation {number} fails: {lines}", good and (whole or early), True)
             quiet = quiet + 1 if whole and "! 1 NoMemory" not in lines else 0
         check("some allocations were refused to a line", refused > 0, True)
-        check("the last of them is behind us", number < 400, True)
+        check("the last of them is behind us", number < 4000, True)
