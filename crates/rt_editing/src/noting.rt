@@ -72,7 +72,8 @@ pub(crate) fn prepare_deletion<S: TextStore>(
 
 // The place of an index, if it is one. Want of memory.
 fn found<S: TextStore>(view: &View<S>, index: &str) -> Result<Option<usize>, Fault>
-    ensures ok { IfOk result (λ place. index_check (widget_of view.now) index.now ≡ None → place ≡ Some (place_at_index (widget_of view.now) index.now)) }
+    ensures ok { IfOk result (λ place. index_check (widget_of view.now) index.now ≡ None
+        → place ≡ Some (place_at_index (widget_of view.now) index.now)) }
     ensures err { IfErr result (λ fault. fault ≡ Fault.NoMemory) }
 {
     match view.place(index) {
@@ -90,8 +91,8 @@ pub(crate) fn prepare_replacement<S: TextStore>(
     from: &str,
     to: &str,
 ) -> Result<(), Fault>
-    ensures pending { OnOk result (recorder.old.undo ≡ true → index_check (widget_of view.now) from.now ≡ None → index_check (widget_of view.now) to.now ≡ None
-        → recorder.new.pending ≡ Some (map as_removed (lost_from view.now from.now to.now))) }
+    ensures pending { OnOk result (recorder.old.undo ≡ true → index_check (widget_of view.now) from.now ≡ None
+        → index_check (widget_of view.now) to.now ≡ None → recorder.new.pending ≡ Some (map as_removed (lost_from view.now from.now to.now))) }
     ensures kept { Keeps recorder.old recorder.new }
     ensures err { IfErr result (λ fault. fault ≡ Fault.NoMemory) }
 {

@@ -77,7 +77,9 @@ impl SiteState {
         ensures { Answers (step self.old request.now) self.old result self.new }
     {
         match request {
-            Request::Insert { index, texts } => self.viewer.insert(&mut self.recorder, index, texts),
+            Request::Insert { index, texts } => self
+                .viewer
+                .insert(&mut self.recorder, index, texts),
             Request::Delete { indices } => self.viewer.delete(&mut self.recorder, indices),
             Request::Replace { from, to, texts } => {
                 self.viewer.replace(&mut self.recorder, from, to, texts)

@@ -5,8 +5,8 @@ ghost use Rattle.rt_dump.specs.Dumping.{dumped};
 ghost use Rattle.rt_peers.specs.ViewStep.{element_words, told_step};
 
 use super::Viewer;
-use crate::replies::position_text;
 use super::tagging::text_of;
+use crate::replies::position_text;
 use crate::reply::Reply;
 use rt_dump::{Element, dump};
 use rt_requests::{Kinds, Word};

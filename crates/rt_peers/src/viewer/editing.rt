@@ -55,7 +55,14 @@ impl Viewer {
     {
         let pieces = owned(self.alloc, texts.pieces())?;
         let view = &mut self.view;
-        rt_editing::replace(view, recorder, from.text(), to.text(), &pieces, texts.rest())?;
+        rt_editing::replace(
+            view,
+            recorder,
+            from.text(),
+            to.text(),
+            &pieces,
+            texts.rest(),
+        )?;
         Ok(no_words(self.alloc))
     }
 

@@ -16,7 +16,7 @@ returns-in-Some-Some-clause-pending g c =
     let w = widget_of view in
     on_ok_weaker c.prepare.result
     (λ pending on first second.
-        let from = same_place c.in_ok-begin.begin c.in-Some-Some.from (place_at_index w c.args.from.now) c.in-Some-Some.is-0 (c.in_ok-begin.ensures.ok first) in
-        let to = same_place c.in_ok-end.end c.in-Some-Some.to (place_at_index w c.args.to.now) c.in-Some-Some.is-1 (c.in_ok-end.ensures.ok second) in
-        pending ∙ (λ i. Some (map as_removed (lost_in view (record { from = from i; to = to i } ∷ [])))))
+    let from = same_place c.in_ok-begin.begin c.in-Some-Some.from (place_at_index w c.args.from.now) c.in-Some-Some.is-0 (c.in_ok-begin.ensures.ok first) in
+    let to = same_place c.in_ok-end.end c.in-Some-Some.to (place_at_index w c.args.to.now) c.in-Some-Some.is-1 (c.in_ok-end.ensures.ok second) in
+    pending ∙ (λ i. Some (map as_removed (lost_in view (record { from = from i; to = to i } ∷ [])))))
     c.prepare.ensures.pending
