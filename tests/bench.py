@@ -297,4 +297,5 @@ def steps():
 
 
 if __name__ == "__main__":
-    sys.exit({"instructions": instructions, "lists": lists, "spans": spans, "nodes": nodes, "replica": replica, "tree": tree, "growth": grown, "steps": steps, "": main}[MODE]())
+    parts = {"instructions": instructions, "lists": lists, "spans": spans, "nodes": nodes, "replica": replica, "tree": tree}
+    sys.exit({**parts, "growth": grown, "steps": steps, "": main}[MODE]())
