@@ -12,6 +12,11 @@ tests/bench.py nodes: times calls of node memory, in a program of its own, tests
 tests/bench.py replica: times a replica over the plain list that accepts typed text, in a program of its own, tests/bench/replica.
 tests/bench.py tree: counts, by callgrind too, the instructions that an operation takes on the tree of a text and on the plain list, in
 a program of its own, tests/bench/tree.
+tests/bench.py growth [PROGRAM [PERCENT]]: times what an editor and its peers do, at n and at 2n (tests/bench/growth.py), in seconds of
+the processor, the least of three runs where these are short; with PERCENT, so many hundredths of each n. It is wrong where 2n takes more than 2.3 times n.
+Then the memory of the editing session over its visible characters, at most 200 bytes. Some twenty minutes on a busy machine.
+tests/bench.py steps [PROGRAM [COMMANDS]]: counts the instructions of a command in 4,000 and in 8,000, by callgrind too. It is wrong
+where they differ by more than a tenth.
 tests/bench.py instructions [PROGRAM [LINES]]: counts the instructions that a line takes, by valgrind's callgrind: those of 4,000
 lines less those of 2,000, if no number is given, which are the same each time.
 """
@@ -26,7 +31,10 @@ import tempfile
 import time
 
 ROOT = os.path.dirname(os.path.dirname(os.path.abspath(__file__)))
-MODE = sys.argv[1] if sys.argv[1:2] and sys.argv[1] in ("lists", "spans", "nodes", "replica", "tree", "instructions") else ""
+sys.path.insert(0, os.path.join(ROOT, "tests", "bench"))
+import growth as cases
+MODES = ("lists", "spans", "nodes", "replica", "tree", "instructions", "growth", "steps")
+MODE = sys.argv[1] if sys.argv[1:2] and sys.argv[1] in MODES else ""
 WORDS = sys.argv[2:] if MODE else sys.argv[1:]
 PROGRAM = WORDS[0] if WORDS else os.path.join(ROOT, "crates", "peertext", "out", "peertext")
 OPERATIONS = int(WORDS[1]) if len(WORDS) > 1 else 1_000_000
@@ -220,5 +228,74 @@ def instructions():
     return 1 if wrong else 0
 
 
+def spent(lines, *words, site=1):
+    """Runs a script in the current folder: seconds of the processor, and the greatest memory before the input ends, in bytes."""
+    with open("script", "w", encoding="ascii") as file:
+        file.writelines(line + "\n" for line in lines)
+        file.write(".t frob\n")
+    with open("script", "rb") as script, open("replies", "wb+") as out:
+        child = subprocess.Popen([PROGRAM, "run", "--site", str(site), *words], stdin=subprocess.PIPE, stdout=out)
+        shutil.copyfileobj(script, child.stdin)
+        child.stdin.flush()
+        # The last line is answered: then its memory is that of this program alone, and not of the one that started it.
+        while child.poll() is None and (out.seek(0, 2) < 16 or not ended(out)):
+            time.sleep(0.01)
+        with open(f"/proc/{child.pid}/status", encoding="ascii") as status:
+            memory = next((int(line.split()[1]) * 1024 for line in status if line.startswith("VmHWM")), 0)
+        child.stdin.close()
+        _, status, usage = os.wait4(child.pid, 0)
+        child.returncode = os.waitstatus_to_exitcode(status)
+        out.seek(0)
+        refused = sum(line.startswith(b"!") for line in out)
+    expect(f"a run of {words}", child.returncode == 0 and refused == 1)
+    return usage.ru_utime + usage.ru_stime, memory
+
+
+def least(lines, words):
+    """The least seconds of three runs, or of one that takes a second: what else the machine does makes a time longer, never shorter."""
+    best = spent(lines, *words)[0]
+    return best if best > 1 else min(best, *(spent(lines, *words)[0] for _ in range(2)))
+
+
+def ended(out):
+    """Whether the reply to the last line is there."""
+    out.seek(-14, 2)
+    return out.read() == b" 4 BadCommand\n"
+
+
+def grown():
+    """The cases of tests/bench/growth.py at n and 2n, and the memory of the editing session."""
+    percent = int(WORDS[1]) if len(WORDS) > 1 else 100
+    with tempfile.TemporaryDirectory() as folder:
+        os.chdir(folder)
+        for name, whole, case in cases.CASES:
+            took = []
+            for n in (whole * percent // 100, whole * percent // 50):
+                lines, words, before = case(n, spent)
+                lines = list(lines)
+                start = least(before, words) if before else 0
+                took.append(least(lines, words) - start)
+            times = took[1] / max(took[0], 0.001)
+            expect(name, times <= 2.3 or took[1] < 0.05)
+            print(f"{name:42} {n // 2:9,} {took[0]:7.2f} s {n:9,} {took[1]:7.2f} s, times {times:4.2f}", flush=True)
+        visible, n = [], 5_000 * percent
+        size = spent(cases.session(n, visible))[1] - spent([])[1]
+        print(f"an editing session of {n:,}: {visible[0]:,} characters, {size / visible[0]:.0f} bytes each", flush=True)
+        expect("memory", size <= 200 * visible[0])
+    return 1 if wrong else 0
+
+
+def steps():
+    """The instructions of a command in a script of 4,000 and in one of 8,000, and of one between them."""
+    n = int(WORDS[1]) if len(WORDS) > 1 else 4_000
+    read = [".t insert 1.0 hello"] + [".t index 1.0"] * (2 * n)
+    for name, script in [("typing at the end", cases.typing), ("insertions at random places", cases.inserts), ("a line that is read", lambda k: read[:k])]:
+        few, many = (counted(PROGRAM, "run", "--site", "1", script="".join(f"{line}\n" for line in script(k)).encode())[0] for k in (n, 2 * n))
+        expect(name, many / 2 <= 1.1 * few)
+        print(f"{name:28} {few / n:8,.0f} at {n:,} {many / n / 2:8,.0f} at {2 * n:,} {(many - few) / n:8,.0f} between", flush=True)
+    return 1 if wrong else 0
+
+
 if __name__ == "__main__":
-    sys.exit({"instructions": instructions, "lists": lists, "spans": spans, "nodes": nodes, "replica": replica, "tree": tree, "": main}[MODE]())
+    parts = {"instructions": instructions, "lists": lists, "spans": spans, "nodes": nodes, "replica": replica, "tree": tree}
+    sys.exit({**parts, "growth": grown, "steps": steps, "": main}[MODE]())
