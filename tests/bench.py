@@ -238,7 +238,7 @@ def spent(lines, *words, site=1):
         shutil.copyfileobj(script, child.stdin)
         child.stdin.flush()
         # The last line is answered: then its memory is that of this program alone, and not of the one that started it.
-        while child.poll() is None and (out.seek(0, 2) < 16 or not ended(out)):
+        while child.poll() is None and (out.seek(0, 2) < 14 or not ended(out)):
             time.sleep(0.01)
         with open(f"/proc/{child.pid}/status", encoding="ascii") as status:
             memory = next((int(line.split()[1]) * 1024 for line in status if line.startswith("VmHWM")), 0)
