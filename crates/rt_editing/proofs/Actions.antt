@@ -1,21 +1,20 @@
 -- What an edit's action names: characters that never came back under other stamps, no final newline, and tags as operations list them.
-use Rattle.std.proofs.Common.{◌≡◌, ◌∙◌, ℕ, zero, suc, ◌+◌, ◌-◌, ◌<◌, ◌≤◌, Bool, true, false, ◌||◌, List, [], ◌∷◌, ◌++◌, cond, map, length, ap, arith, refl, subst, sym}
-use Rattle.std.specs.List.{AllByRecursion, list_any}
+use Rattle.std.proofs.Common.{◌≡◌, ◌∙◌, ℕ, zero, suc, ◌+◌, ◌-◌, ◌<◌, Bool, true, false, ◌||◌, List, [], ◌∷◌, cond, map, length, ap, arith, refl, subst, sym}
+use Rattle.std.specs.List.{AllByRecursion}
 use Rattle.std.proofs.lemmas.Bool.{or_from}
 use Rattle.std.proofs.lemmas.Bool.Decides.{nat_tests}
 use Rattle.std.proofs.lemmas.List.Elements.{recursion_from_All}
-use Rattle.rt_stamps.specs.declared.stamp.Span.{Span}
 use Rattle.rt_stamps.specs.declared.stamp.Stamp.{Stamp}
 use Rattle.rt_stamps.specs.declared.stamp.TheConstants.{FINAL}
 use Rattle.rt_stamps.specs.Stamps.{is_same}
 use Rattle.rt_stamps.specs.Words.{Word}
-use Rattle.rt_oplog.specs.Operations.{Operation, stamps_from, stamps_of_span}
+use Rattle.rt_oplog.specs.Operations.{stamps_from, stamps_of_span}
 use Rattle.rt_store.specs.Cells.{text_of}
 use Rattle.rt_store.specs.Shown.{TaggedCell}
 use Rattle.rt_store.specs.Spans.{is_among}
 use Rattle.rt_tags.specs.States.{names_on}
 use Rattle.rt_rga.specs.Cells.{cell_in, cells_of, is_gone}
-use Rattle.rt_rga.specs.Histories.{IsHistory, characters}
+use Rattle.rt_rga.specs.Histories.{characters}
 use Rattle.rt_rga.specs.Reading.{Character, reading}
 use Rattle.rt_rga.proofs.Corollaries.{character_count}
 use Rattle.rt_rga.proofs.Skipping.{split}

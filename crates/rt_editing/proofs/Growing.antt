@@ -1,13 +1,13 @@
 -- Who is gone stays gone while a log grows.
-use Rattle.std.proofs.Common.{◌≡◌, ◌∙◌, ℕ, Bool, true, false, ◌||◌, ◌&&◌, List, [], ◌∷◌, Option, None, Some, cond, map, ap, arith, refl, subst, sym}
+use Rattle.std.proofs.Common.{◌≡◌, ◌∙◌, ℕ, Bool, true, false, ◌||◌, ◌&&◌, List, [], ◌∷◌, Option, None, Some, cond, map, ap, arith, refl, sym}
 use Rattle.std.specs.Prelude.{is_some, option_and_then}
-use Rattle.std.specs.List.{find, list_any}
+use Rattle.std.specs.List.{find}
 use Rattle.rt_stamps.specs.declared.stamp.Stamp.{Stamp}
 use Rattle.rt_stamps.specs.Stamps.{is_same}
-use Rattle.rt_stamps.proofs.Order.{same_from_true, same_refl, same_sym}
+use Rattle.rt_stamps.proofs.Order.{same_from_true}
 use Rattle.rt_oplog.specs.Logs.{with_operation}
 use Rattle.rt_oplog.specs.Operations.{Body, Operation}
-use Rattle.rt_store.specs.Cells.{cell_of, stamps_of}
+use Rattle.rt_store.specs.Cells.{stamps_of}
 use Rattle.rt_store.specs.Shown.{TaggedCell}
 use Rattle.rt_store.specs.Spans.{is_among}
 use Rattle.rt_rga.specs.Cells.{cell_in, cells_of, deletes, is_gone}
@@ -17,7 +17,6 @@ use Rattle.rt_rga.specs.Reading.{Character, reading}
 use Rattle.rt_rga.proofs.Corollaries.{cells_have}
 use Rattle.rt_rga.proofs.Skipping.{split}
 use Rattle.rt_rga.proofs.Writes.{gone_with, not_gone}
-use Rattle.rt_revert.specs.Reverting.{gone_cell_of}
 use Rattle.rt_recorder.specs.Settled.{is_gone as has_gone}
 
 -- LOGS

@@ -1,5 +1,5 @@
 -- What commands that are made leave of a log.
-use Rattle.std.proofs.Common.{◌≡◌, ◌∙◌, ℕ, ◌-◌, ◌∷◌, ◌++◌, [], List, None, Option, Some, Ok, Err, Result, ap, map, min, refl, subst, sym}
+use Rattle.std.proofs.Common.{◌≡◌, ℕ, ◌-◌, ◌∷◌, ◌++◌, [], List, None, Option, Some, Ok, map, min, refl, subst}
 use Rattle.rt_stamps.specs.declared.fault.Fault.{Fault}
 use Rattle.rt_stamps.specs.declared.limits.TheConstants.{MOST_CHARACTERS, MOST_SPANS}
 use Rattle.rt_stamps.specs.Names.{name_check}

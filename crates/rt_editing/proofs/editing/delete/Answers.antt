@@ -1,4 +1,4 @@
-use Rattle.std.proofs.Common.{◌≡◌, ◌∙◌, List, Some, map, string_bytes, subst, sym}
+use Rattle.std.proofs.Common.{◌≡◌, ◌∙◌, List, map, string_bytes, subst, sym}
 use Rattle.rt_stamps.specs.Words.{Word}
 use Rattle.rt_revert.specs.Reverting.{as_removed}
 use Rattle.rt_recorder.specs.Recordings.{HasStayed, came_back, made}

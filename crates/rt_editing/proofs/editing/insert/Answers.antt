@@ -1,4 +1,4 @@
-use Rattle.std.proofs.Common.{◌≡◌, ◌∙◌, ◌∷◌, [], List, Some, map, refl, subst, sym}
+use Rattle.std.proofs.Common.{◌≡◌, ◌∙◌, [], List, subst, sym}
 use Rattle.rt_stamps.specs.Words.{Word}
 use Rattle.rt_recorder.specs.Recordings.{HasStayed, came_back, made}
 use Rattle.rt_undo.specs.declared.action.Kind.TheVariants.{Insert}

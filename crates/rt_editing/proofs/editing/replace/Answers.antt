@@ -1,4 +1,4 @@
-use Rattle.std.proofs.Common.{◌≡◌, ◌∙◌, ◌∷◌, [], List, Some, map, subst, sym}
+use Rattle.std.proofs.Common.{◌≡◌, ◌∙◌, ◌∷◌, [], List, map, subst, sym}
 use Rattle.rt_stamps.specs.Words.{Word}
 use Rattle.rt_edits.specs.declared.range.Range.{Range}
 use Rattle.rt_revert.specs.Reverting.{as_removed}

@@ -1,4 +1,4 @@
-use Rattle.std.proofs.Common.{◌≡◌, ◌∙◌, ◌∷◌, [], ℕ, Option, Some, ap, map, sym}
+use Rattle.std.proofs.Common.{◌≡◌, ◌∙◌, ◌∷◌, [], ℕ, Option, Some, map}
 use Rattle.std.proofs.lemmas.Result.{on_ok_weaker}
 use Rattle.rt_revert.specs.Reverting.{as_removed}
 use Rattle.rt_text.specs.Commands.{lost_in}

@@ -1,4 +1,4 @@
-use Rattle.std.proofs.Common.{◌≡◌, ◌∙◌, ◌≤◌, ap, arith}
+use Rattle.std.proofs.Common.{ap, arith}
 use Rattle.rt_edits.specs.Flat.{Flat}
 use Rattle.rt_rga.proofs.Requests.{greatest_bound}
 use Rattle.rt_editing.proofs.before.Before.of.Goals as goal
