@@ -19,8 +19,8 @@ use Rattle.rt_edits.specs.Removals.{is_covered, stamps_at}
 use Rattle.rt_edits.specs.Selections.{selection_with}
 use Rattle.rt_edits.specs.TagDrafts.{deletion_drafts, tag_drafts_at}
 use Rattle.rt_edits.specs.TagWrites.{listed_if, with_tag_at}
-use Rattle.rt_tagcmd.specs.MarkCommands.{mark_gravity_set, mark_set, mark_unset, set_at, with_gravity}
-use Rattle.rt_tagcmd.specs.TagCommands.{tag_lowered, tag_raised, tag_written, tags_deleted}
+use Rattle.rt_tagcmd.specs.MarkCommands.{set_at, with_gravity}
+use Rattle.rt_tagcmd.specs.TagCommands.{tag_written}
 use Rattle.rt_text.specs.declared.own_mark.OwnMark.{OwnMark}
 use Rattle.rt_text.specs.Commands.{with_tag_in, with_tags_deleted}
 use Rattle.rt_text.specs.Index.{place_at_index}
@@ -32,7 +32,7 @@ use Rattle.rt_editing.specs.Noting.{IsOfLog}
 use Rattle.rt_editing.proofs.Growing.{Grows, grows_drafts, grows_same}
 use Rattle.rt_editing.proofs.Noted.{settled_same}
 use Rattle.rt_editing.proofs.Outcomes.{given}
-use Rattle.rt_peers.specs.ViewStep.{Outcome, as_outcome, changed_step, mark_step, tag_step, told_step}
+use Rattle.rt_peers.specs.ViewStep.{Outcome, changed_step, mark_step, tag_step, told_step}
 
 -- what is there after an answer
 abbrev left_by : Outcome Viewed → Viewed → Viewed

@@ -1,9 +1,7 @@
 -- What a request does to what a widget shows, where it edits no text: the words of the reply and what the widget shows after it, or
 -- why it is refused.
-use Rattle.std.specs.Prelude.{List, [], ◌∷◌, map, flat_map, Bool, Option, Some, None, Result, Ok, Err, codes, if◌then◌else◌}
-use Rattle.std.specs.Fmt.{signed_decimal}
+use Rattle.std.specs.Prelude.{List, [], ◌∷◌, map, Bool, Option, Some, None, Result, Ok, Err, codes, if◌then◌else◌}
 use Rattle.rt_stamps.specs.declared.fault.Fault.{Fault}
-use Rattle.rt_stamps.specs.declared.position.Position.{Position}
 use Rattle.rt_stamps.specs.Places.{text_of_position}
 use Rattle.rt_stamps.specs.Words.{Word}
 use Rattle.rt_marks.specs.Marks.{gravity_word}

@@ -1,5 +1,5 @@
 -- Logs with the same operations are one list, and so are their cells.
-use Rattle.std.proofs.Common.{◌≡◌, ◌∙◌, ap, sym}
+use Rattle.std.proofs.Common.{◌∙◌, ap, sym}
 use Rattle.rt_rga.proofs.Accepting.{one_list}
 use Rattle.rt_rga.specs.Cells.{cells_of}
 use Rattle.rt_rga.specs.Texts.{tagged_text}

@@ -1,6 +1,5 @@
 use Rattle.std.proofs.Common.{map, string_bytes}
-use Rattle.std.proofs.lemmas.Result.{err_from_is_err_and}
-use Rattle.rt_peers.proofs.Steps.{asked_gives, refused_gives}
+use Rattle.rt_peers.proofs.Steps.{asked_gives}
 use Rattle.rt_peers.proofs.site.SiteState.command.Goals as goal
 
 pub returns : goal.returns

@@ -1,7 +1,6 @@
 use Rattle.rt_editing.specs.Noting.{IsOfLog}
 use Rattle.rt_peers.specs.ViewStep.{tag_step}
 use Rattle.rt_peers.proofs.Growing.{tag_grows, viewer_settled}
-use Rattle.rt_peers.proofs.Steps.{lifted_to}
 use Rattle.rt_peers.proofs.site.SiteState.tag.Goals as goal
 
 pub invariant_of-self : goal.invariant_of-self

@@ -1,4 +1,4 @@
-use Rattle.std.proofs.Common.{◌≡◌, [], ◌∷◌, List, length, arith, ap, sym, subst, ◌∙◌}
+use Rattle.std.proofs.Common.{[], ◌∷◌, List, arith, ap, sym, subst, ◌∙◌}
 use Rattle.rt_stamps.specs.Outcomes.{Answers}
 use Rattle.rt_stamps.specs.Words.{Word}
 use Rattle.rt_peers.specs.ViewStep.{get_step}
