@@ -11,3 +11,8 @@ returns-in-Some g c = inl (
   c.in_file.ensures,
   (c.in-Ok.reading.ops.items, c.in-Ok.reading.offsets.items, c.in-Ok.reading.fault, c.in-Ok.ensures.reads, inr (c.in-Some.is, (c.in_ok-log.log.operations, c.in_ok-log.ensures))),
 )
+
+pub returns-in-Err : goal.returns-in-Err
+returns-in-Err g c =
+    let memory = c.in-Err.ensures.memory in
+    inr (rw memory.0 at c.of_neither.ensures, inl memory.1)
