@@ -82,3 +82,7 @@ affords_rest spare debt spare_new debt_new entries m a l d = elim a as (λ _. Af
   | inl s ↦ inl (omega (arith, s, l))
   | inr s ↦ inr (omega (arith, s, d, m))
 ]
+
+-- a lesser debt
+pub affords_less : (spare debt less entries : ℕ) → less ≤ debt → Affords spare debt entries → Affords spare less entries
+affords_less spare debt less entries l a = elim a as (λ _. Affords spare less entries) [ inl s ↦ inl s | inr s ↦ inr (omega (arith, s, l)) ]

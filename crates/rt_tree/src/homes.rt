@@ -218,12 +218,28 @@ impl Homes {
         self.sure = is_new && placed;
     }
 
-    // A run is in a leaf, which is told if so much room is left then.
+    // The stamps of a run have another leaf from now on, if spans that have one begin and end where the run does. That takes no
+    // room. The answer is whether it was done.
+    fn retell(&mut self, run: &Run, leaf: NodeId) -> bool
+        ensures keeps { KeepsAll self.old.leaves self.new.leaves }
+        ensures sure { self.new.sure ≡ self.old.sure }
+        ensures left { self.new.left ≡ self.old.left }
+    {
+        match span_of(run) {
+            None => false,
+            Some(span) => self.leaves.repaint(span, leaf),
+        }
+    }
+
+    // A run is in a leaf, which is told if that takes no room, or if so much is left then.
     pub(crate) fn hint(&mut self, run: &Run, leaf: NodeId, keep: usize)
         ensures keeps { KeepsAll self.old.leaves self.new.leaves }
         ensures sure { self.new.sure ≡ self.old.sure }
         ensures left { keep ≤ self.old.left → keep ≤ self.new.left }
     {
+        if self.retell(run, leaf) {
+            return;
+        }
         if self.left > keep {
             self.place(run, leaf);
         }

@@ -77,15 +77,14 @@ fn final_run() -> Run
     }
 }
 
-// How many spans new cells and cuts give leaves to: a run for each, and once more for those that move when leaves are cut in
-// two, which happens once in eight runs, and the first time perhaps at once.
+// How many spans are given a leaf for new cells and cuts: one for each cell, which is a run perhaps. When a leaf is cut in two,
+// the runs of one half are told again; those that were put in or told before take no room then, but for the parts of a run
+// that was cut: three for each cut, and some for runs that were cut before.
 fn spans_for(cells: usize, cuts: usize) -> usize
     ensures { cells ≤ result }
 {
-    cells
-        .saturating_add(cuts)
-        .saturating_mul(3)
-        .saturating_add(24)
+    let parts = cuts.saturating_mul(3);
+    cells.saturating_add(parts).saturating_add(24)
 }
 
 // How many of the first cells of a run are visible.
