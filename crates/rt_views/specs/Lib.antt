@@ -1,0 +1,7 @@
+pub mod Choices
+pub mod Following
+pub mod Limits
+pub mod Stretches
+pub use Rattle.rt_marks.specs.Marks
+pub use Rattle.rt_stamps.specs.Places
+pub use Rattle.rt_store.specs.Cells
