@@ -44,8 +44,8 @@ pub struct Settings {
     pub auto_separators: Option<bool>,
 }
 
-// The truth that a word tells: one of the words for yes, or for no.
-pub(crate) fn truth_of(word: &str) -> Option<bool>
+/// The truth that a word tells: one of the words for yes, or for no. It takes no memory.
+pub fn truth_of(word: &str) -> Option<bool>
     ensures { result ≡ truth_of word.now }
 {
     match word {

@@ -16,6 +16,8 @@ mod oplog_logs;
 #[cfg(test)]
 mod option_requests;
 #[cfg(test)]
+mod peer_requests;
+#[cfg(test)]
 mod requests;
 #[cfg(test)]
 mod search;

@@ -1,0 +1,4 @@
+pub mod Numbers
+pub mod ReadSettings
+pub mod Spelled
+pub mod WithoutLimits
