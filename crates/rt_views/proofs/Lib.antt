@@ -1,2 +1,4 @@
 pub mod Lines
 pub mod Places
+pub mod Shown
+pub mod Whole

@@ -1,1 +1,30 @@
 // Laws of the definitions, each the contract of a function that does nothing.
+ghost use Rattle.std.specs.Prelude.{◌≡◌, ◌<◌, ◌≤◌, List, length, map};
+ghost use Rattle.rt_stamps.specs.Places.{EndsWithNewline};
+ghost use Rattle.rt_store.specs.declared.cell.Cell.{Cell};
+ghost use Rattle.rt_store.specs.Cells.{EndsFinal, map_state, visible_of};
+ghost use Rattle.rt_views.specs.declared.choice.Choice.{Choice};
+ghost use Rattle.rt_views.specs.declared.limits.Limits.{Limits};
+ghost use Rattle.rt_views.specs.Choices.{limits_chosen};
+ghost use Rattle.rt_views.specs.Limits.{first_line, last_line, no_limits};
+ghost use Rattle.rt_views.specs.Stretches.{shown_part, stretch_of};
+
+/// Without limits all of a text is shown. Whatever the limits are, and whichever newlines are gone, what is shown lies
+/// in the text, has a character at least, and ends with a newline.
+pub fn shown_lines<T>()
+    ensures all { (cells : List (Cell T)) → EndsFinal cells → stretch_of cells no_limits ≡ record { begin = 0; end = length (visible_of cells) } }
+    ensures some { (cells : List (Cell T)) (limits : Limits) → EndsFinal cells → (stretch_of cells limits).begin < (stretch_of cells limits).end }
+    ensures within { (cells : List (Cell T)) (limits : Limits) → EndsFinal cells → (stretch_of cells limits).end ≤ length (visible_of cells) }
+    ensures newline { (cells : List (Cell T)) (limits : Limits) → EndsFinal cells
+        → EndsWithNewline (map (λ cell. cell.ch) (shown_part cells limits)) }
+{}
+
+/// What is shown of a text, and what options ask for, is the same of cells in other states, as of a document's cells,
+/// which have what the states of the store's stand for.
+pub fn limits_without_states<S, T>()
+    ensures stretch { (f : S → T) (cells : List (Cell S)) (limits : Limits) → stretch_of (map (map_state f) cells) limits ≡ stretch_of cells limits }
+    ensures first { (f : S → T) (cells : List (Cell S)) (limits : Limits) → first_line (map (map_state f) cells) limits ≡ first_line cells limits }
+    ensures last { (f : S → T) (cells : List (Cell S)) (limits : Limits) → last_line (map (map_state f) cells) limits ≡ last_line cells limits }
+    ensures chosen { (f : S → T) (cells : List (Cell S)) (start end : Choice) (limits : Limits)
+        → limits_chosen (map (map_state f) cells) start end limits ≡ limits_chosen cells start end limits }
+{}
