@@ -11,6 +11,7 @@ import subprocess
 import sys
 
 from driving.joins import joins, many_operations, outs_that_fail, outs_with_modes, shows
+from driving.lists import long_lists
 from driving.memory import failing_allocations, failing_allocations_of_files, failing_allocations_of_receive, failing_allocations_of_undo
 from driving.program import CHECKED, PROGRAM, called, check, run
 from driving.runs import exchanges, faults_before_the_script, logs_of_runs, outs_after_faults, outs_of_runs, received
@@ -103,7 +104,7 @@ def many_marks():
     check("many marks", (out.decode().splitlines(), err, status), (["="] * len(lines) + wants, b"", 0))
 
 
-PARTS = (whole_scripts, hostile_bytes, asks_and_waits, statuses, failing_allocations, many_marks)
+PARTS = (whole_scripts, hostile_bytes, asks_and_waits, statuses, failing_allocations, many_marks, long_lists)
 IN_FILES = (joins, outs_that_fail, outs_with_modes, shows, many_operations, outs_of_runs, logs_of_runs, received, exchanges,
             faults_before_the_script, outs_after_faults, failing_allocations_of_files, failing_allocations_of_receive,
             failing_allocations_of_undo)
