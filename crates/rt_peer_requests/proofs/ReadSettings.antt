@@ -13,7 +13,7 @@ use Rattle.rt_peer_requests.specs.declared.options.NamedOption.{NamedOption}
 use Rattle.rt_peer_requests.specs.declared.options.NamedOption.TheVariants.{Shared, StartLine, EndLine}
 use Rattle.rt_peer_requests.specs.declared.settings.WidgetSettings.{WidgetSettings}
 use Rattle.rt_peer_requests.specs.LimitWords.{limit_of}
-use Rattle.rt_peer_requests.specs.SettingWords.{can_all_be_set, can_be_given, can_have, limit_in, named_option, settings_in, with_value}
+use Rattle.rt_peer_requests.specs.SettingWords.{can_all_be_set, can_be_given, limit_in, named_option, settings_in, with_value}
 
 pub or_none : {T : Type 0} (o : Option T) → option_or o None ≡ o
 or_none None = refl

@@ -1,9 +1,7 @@
 -- Words that ask for a request.
-use Rattle.std.proofs.Common.{◌≡◌, ◌∙◌, ◌<◌, ◌^◌, ◌++◌, ℕ, Bool, true, false, List, [], ◌∷◌, Ok, Option, None, Some, arith, codes, length, refl, sym, true≢false}
+use Rattle.std.proofs.Common.{◌≡◌, ◌∙◌, ◌^◌, ◌++◌, Bool, true, false, List, [], ◌∷◌, Ok, Option, None, Some, arith, codes, refl, sym, true≢false}
 use Rattle.std.specs.Fmt.{decimal}
 use Rattle.std.specs.Prelude.{IsTrue}
-use Rattle.std.specs.Str.{all_ascii_digits}
-use Rattle.std.specs.Str.Parse.{digits_value}
 use Rattle.std.proofs.lemmas.Bool.{lt-ltb}
 use Rattle.rt_stamps.specs.Words.{Word}
 use Rattle.rt_requests.specs.declared.options.WidgetOption.{WidgetOption}
@@ -16,8 +14,7 @@ use Rattle.rt_peer_requests.specs.declared.options.NamedOption.TheVariants.{Shar
 use Rattle.rt_peer_requests.specs.declared.settings.WidgetSettings.{WidgetSettings}
 use Rattle.rt_peer_requests.specs.declared.peers.PeerRequest.TheVariants.{Create, Names}
 use Rattle.rt_peer_requests.specs.Asked.{AreKept, IsKept, LinesAreSpelled, OptionsAreSpelled, PeersAreSpelled, sets_some}
-use Rattle.rt_peer_requests.specs.LimitWords.{limit_of, line_of}
-use Rattle.rt_peer_requests.specs.Paths.{is_path}
+use Rattle.rt_peer_requests.specs.LimitWords.{limit_of}
 use Rattle.rt_peer_requests.specs.SettingWords.{asked_named_option, asked_of_pairs, asked_settings, can_all_be_set, limit_in}
 use Rattle.rt_peer_requests.proofs.Numbers.{decimal_read}
 use Rattle.rt_peer_requests.proofs.ReadSettings.{named_word, or_none}

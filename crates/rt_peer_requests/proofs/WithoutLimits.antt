@@ -1,7 +1,6 @@
 -- Words that name no limit.
-use Rattle.std.proofs.Common.{◌≡◌, ◌&&◌, ◌||◌, Bool, true, false, not, List, [], ◌∷◌, Ok, Err, Option, None, Some, Result, ap, bytes_eq, codes, cond, refl}
+use Rattle.std.proofs.Common.{◌≡◌, ◌&&◌, ◌||◌, Bool, true, false, not, List, [], ◌∷◌, Ok, Err, Option, None, Some, ap, bytes_eq, codes, cond, refl}
 use Rattle.std.specs.Prelude.{is_some, option_map, unwrap_or}
-use Rattle.rt_stamps.specs.declared.fault.Fault.{Fault}
 use Rattle.rt_stamps.specs.declared.fault.Fault.TheVariants.{BadCommand, BadOption}
 use Rattle.rt_stamps.specs.Words.{Word}
 use Rattle.rt_requests.specs.declared.options.Settings.{Settings}
@@ -10,7 +9,7 @@ use Rattle.rt_requests.specs.OptionWords as old
 use Rattle.rt_requests.specs.Truth.{truth_of}
 use Rattle.rt_peer_requests.specs.declared.options.NamedOption.TheVariants.{Shared}
 use Rattle.rt_peer_requests.specs.Asked.{names_limit, without_limits}
-use Rattle.rt_peer_requests.specs.SettingWords.{AskedOfSettings, asked_settings, can_all_be_set, can_have, limit_in}
+use Rattle.rt_peer_requests.specs.SettingWords.{asked_settings, can_all_be_set, can_have, limit_in}
 
 both_false : (a b : Bool) → (a || b) ≡ false → (a ≡ false) × (b ≡ false)
 both_false true b h = absurd (cc)

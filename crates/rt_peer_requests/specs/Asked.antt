@@ -1,5 +1,5 @@
 -- Laws of words: each request is spelled by some, and without limits they ask for what they ask of the shared options.
-use Rattle.std.specs.Prelude.{◌≡◌, ◌<◌, ◌^◌, ◌||◌, Bool, true, false, List, [], ◌∷◌, Option, Some, None, is_some, Result, Ok, Err, IsTrue, codes}
+use Rattle.std.specs.Prelude.{◌≡◌, ◌<◌, ◌^◌, ◌||◌, Bool, false, List, [], ◌∷◌, Option, Some, None, is_some, Result, Ok, Err, IsTrue, codes}
 use Rattle.std.specs.Str.{bytes_eq}
 use Rattle.rt_stamps.specs.declared.fault.Fault.{Fault}
 use Rattle.rt_stamps.specs.Words.{Word}
@@ -42,7 +42,8 @@ PeersAreSpelled = (request : PeerRequest) → CanBeAsked request → (words : Li
 
 -- settings of one option at least
 abbrev pub SettingsAreSpelled : Type 0
-SettingsAreSpelled = (settings : WidgetSettings) → AreKept settings → IsTrue (sets_some settings) → (words : List Word) × (asked_settings words ≡ Ok settings)
+SettingsAreSpelled = (settings : WidgetSettings) → AreKept settings → IsTrue (sets_some settings)
+    → (words : List Word) × (asked_settings words ≡ Ok settings)
 
 abbrev pub OptionsAreSpelled : Type 0
 OptionsAreSpelled = (option : NamedOption) → (words : List Word) × (asked_named_option words ≡ Ok option)

@@ -5,8 +5,8 @@ ghost use Rattle.rt_peer_requests.specs.SettingWords.{asked_of_pairs, asked_sett
 
 use crate::limits::Limit;
 use crate::options::NamedOption;
-use rt_requests::{Settings, WidgetOption};
 use rt_requests::options::truth_of;
+use rt_requests::{Settings, WidgetOption};
 use rt_stamps::Fault;
 
 /// What options are set to, each that is given a value (Tk text manual, "configure").
@@ -38,7 +38,9 @@ impl WidgetSettings {
     {
         let mut settings = self;
         match option {
-            NamedOption::Shared(WidgetOption::Undo) => settings.shared.undo = Some(truth_of(value)?),
+            NamedOption::Shared(WidgetOption::Undo) => settings.shared.undo = Some(truth_of(
+                value,
+            )?),
             NamedOption::Shared(WidgetOption::AutoSeparators) => {
                 settings.shared.auto_separators = Some(truth_of(value)?);
             }

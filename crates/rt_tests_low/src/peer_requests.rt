@@ -143,10 +143,7 @@ fn of_configure(rt: HostRuntime) -> Result<(), Fail> {
             set(None, None, Some(Limit::Absent), None),
         ),
         ("-endline {}", set(None, None, None, Some(Limit::Absent))),
-        (
-            "-startline 9 -startline 2",
-            set(None, None, line(2), None),
-        ),
+        ("-startline 9 -startline 2", set(None, None, line(2), None)),
         (
             "-endline 3 -startline 2 -endline {}",
             set(None, None, line(2), Some(Limit::Absent)),
