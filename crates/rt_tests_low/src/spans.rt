@@ -113,3 +113,41 @@ fn random_calls(rt: HostRuntime) -> Result<(), Fail> {
     }
     Ok(())
 }
+
+// A span that was set gets another value without room; one that begins or ends elsewhere doesn't.
+#[test]
+fn set_again_without_room(rt: HostRuntime) -> Result<(), Fail> {
+    let mut map = SpanMap::new(rt.alloc());
+    map.reserve(2)?;
+    let front = Span {
+        site: 1,
+        first: 1,
+        last: 5,
+    };
+    let back = Span {
+        site: 1,
+        first: 6,
+        last: 9,
+    };
+    map.set(front, 'a');
+    map.set(back, 'b');
+    assert!(rt; map.repaint(back, 'c'));
+    assert!(rt; !map.repaint(Span { last: 3, ..front }, 'd'));
+    assert!(rt; !map.repaint(Span { first: 2, ..front }, 'd'));
+    assert_eq!(rt;
+        (value(&map, 5), value(&map, 6), value(&map, 9)),
+        (Some('a'), Some('c'), Some('c'))
+    );
+    assert!(rt; map.repaint(Span { last: 9, ..front }, 'e'));
+    assert_eq!(rt;
+        (value(&map, 1), value(&map, 6), value(&map, 10)),
+        (Some('e'), Some('e'), None)
+    );
+    assert!(rt; !map.repaint(back, 'f'));
+    Ok(())
+}
+
+// The value of a count of site 1.
+fn value(map: &SpanMap<char>, count: u64) -> Option<char> {
+    map.get(Stamp { count, site: 1 })
+}
