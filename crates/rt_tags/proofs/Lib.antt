@@ -1,4 +1,7 @@
+pub mod Bordering
 pub mod Commuting
+pub mod CountLaws
+pub mod Counts
 pub mod Entries
 pub mod Found
 pub mod Greatest
@@ -9,6 +12,7 @@ pub mod Marked
 pub mod Merging
 pub mod Parts
 pub mod Places
+pub mod Retelling
 pub mod Sets
 pub mod Sorted
 pub mod Tables

@@ -1,5 +1,5 @@
 -- How a table keeps names and states.
-use Rattle.std.specs.Prelude.{◌≡◌, ◌==◌, ℕ, ◌<◌, ◌≤◌, List, [], ◌∷◌, ◌++◌, ◌+◌, Bool, true, false, not, map, filter, length, Option, Some, None, slice_get, slice_index_or, if◌then◌else◌}
+use Rattle.std.specs.Prelude.{◌≡◌, ◌==◌, ℕ, ◌<◌, ◌≤◌, nat_lt, List, [], ◌∷◌, ◌++◌, ◌+◌, Bool, true, false, not, map, filter, length, Option, Some, None, slice_get, slice_index_or, if◌then◌else◌}
 use Rattle.std.specs.List.{All, AllByRecursion}
 use Rattle.std.specs.Ordering.{ordering_index}
 use Rattle.std.specs.declared.cmp.Ordering.{Ordering}
@@ -9,6 +9,7 @@ use Rattle.rt_stamps.specs.Names.{name_order}
 use Rattle.rt_stamps.specs.Stamps.{is_before}
 use Rattle.rt_tags.specs.declared.states.Entry.{Entry}
 use Rattle.rt_tags.specs.declared.states.State.{State}
+use Rattle.rt_tags.specs.declared.toggles.TagCount.{TagCount}
 use Rattle.rt_tags.specs.States.{Write, IsByName, AreDistinct}
 use Rattle.rt_tags.specs.Writers.{state_after}
 use Rattle.rt_tags.specs.Tags.{HaveNoRepeats}
@@ -109,3 +110,7 @@ pub record IsListing (names : List (List ℕ)) (listed : ℕ) : Type 0 where
 pub record IsMarkedListing (names : List (List ℕ)) (listed : ℕ) (marks : List Bool) : Type 0 where
   pub listing : IsListing names listed
   pub as_many : length marks ≡ length names
+
+-- a count is that of a lesser tag
+abbrev pub is_tag_before : ℕ → TagCount → Bool
+is_tag_before tag c = nat_lt c.tag tag

@@ -9,7 +9,7 @@ use Rattle.rt_stamps.specs.declared.stamp.Stamp.{Stamp}
 use Rattle.rt_stamps.specs.Names.{name_order}
 use Rattle.rt_stamps.specs.Stamps.{is_before}
 use Rattle.rt_tags.specs.declared.states.Entry.{Entry}
-use Rattle.rt_tags.specs.Tags.{with_name}
+use Rattle.rt_tags.specs.Tags.{is_listed, with_name}
 
 -- a tag is put on a character or taken off: which one, under which stamp, and whether it is on
 pub record Write : Type 0 where
@@ -81,6 +81,14 @@ name_at table tag = slice_index_or table.names tag []
 -- what a state that was given out stands for
 abbrev pub state_at : TagStates → ℕ → List Write
 state_at table state = slice_index_or table.states state []
+
+-- each name has one number
+abbrev pub HaveOneNumber : TagStates → Type 0
+HaveOneNumber table = (a b : ℕ) → IsTag table a → IsTag table b → name_at table a ≡ name_at table b → a ≡ b
+
+-- a name without a number is on in no state
+abbrev pub AreNumbered : TagStates → Type 0
+AreNumbered table = (name : List ℕ) (state : ℕ) → is_listed name table.names ≡ false → is_on name (state_at table state) ≡ false
 
 -- a write of a tag that was given out
 abbrev pub write_at : TagStates → ℕ → Stamp → Bool → Write

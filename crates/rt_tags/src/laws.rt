@@ -1,12 +1,15 @@
 // Laws of the definitions, each the contract of a function that does nothing.
-ghost use Rattle.std.specs.Prelude.{◌≡◌, ℕ, List, [], ◌++◌, true, false};
+ghost use Rattle.std.specs.Prelude.{◌≡◌, ◌↔◌, ℕ, ◌+◌, ◌<◌, ◌≤◌, List, [], ◌∷◌, ◌++◌, Bool, true, false, length};
 ghost use Rattle.std.specs.List.{AllByRecursion};
 ghost use Rattle.std.specs.Str.{bytes_eq};
 ghost use Rattle.rt_stamps.specs.declared.stamp.Stamp.{Stamp};
 ghost use Rattle.rt_stamps.specs.declared.stamp.TheConstants.{ROOT};
 ghost use Rattle.rt_stamps.specs.Stamps.{is_before, is_same};
-ghost use Rattle.rt_tags.specs.States.{IsByName, Write, is_on, names_on, write_of, written};
+ghost use Rattle.rt_tags.specs.States.{AreNumbered, HaveOneNumber, IsByName, IsState, KeepsIds, TagStates, Write, is_on, names_on, write_of, written};
+ghost use Rattle.rt_tags.specs.declared.toggles.TagCount.{TagCount};
+ghost use Rattle.rt_tags.specs.Borders.{AreToggles, border, borders, either, first, last};
 ghost use Rattle.rt_tags.specs.Tags.{HaveNoRepeats, is_listed};
+ghost use Rattle.rt_tags.specs.Toggles.{AreFrom, TagCounts, count_in};
 ghost use Rattle.rt_tags.specs.Writers.{is_shared, listed_by, state_after};
 
 /// A state has one write of each tag and is known by them, and writes may come in any order, unless
@@ -28,4 +31,31 @@ pub fn deciding_writes()
     ensures root { (name : List ℕ) (insert : Stamp) (names : List (List ℕ)) (tags : List Write)
         → AllByRecursion (λ w. is_before insert w.writer ≡ true) tags
         → is_on name (state_after [] (listed_by ROOT names ++ tags)) ≡ is_shared name (listed_by insert names ++ tags) }
+{}
+
+/// Tags in order are known by the count of each tag. If each tag that has a count here has one there,
+/// there are no more of them here.
+pub fn tag_counts()
+    ensures known { (cs ds : List TagCount) → AreFrom 0 cs → AreFrom 0 ds → ((tag : ℕ) → count_in tag cs ≡ count_in tag ds) → cs ≡ ds }
+    ensures within { (cs ds : List TagCount) → AreFrom 0 cs → AreFrom 0 ds
+        → ((tag : ℕ) → 0 < count_in tag cs → 0 < count_in tag ds) → length cs ≤ length ds }
+{}
+
+/// The borders of two stretches that are joined are those of both, and the one between them: so what a
+/// stretch adds up to is its borders, and its first and its last element. Where there is no border, all
+/// elements are alike.
+pub fn joined_stretches<A>()
+    ensures joined { (test : A → Bool) (xs ys : List A)
+        → borders test (xs ++ ys) ≡ borders test xs + (border test (last xs) (first ys) + borders test ys) }
+    ensures first { (xs ys : List A) → first (xs ++ ys) ≡ either (first xs) (first ys) }
+    ensures last { (xs ys : List A) → last (xs ++ ys) ≡ either (last ys) (last xs) }
+    ensures alike { (test : A → Bool) (x : A) (xs : List A) → (borders test (x ∷ xs) ≡ 0) ↔ AllByRecursion (λ y. test y ≡ test x) xs }
+    ensures same { (test other : A → Bool) (xs : List A) → AllByRecursion (λ x. test x ≡ other x) xs → borders test xs ≡ borders other xs }
+    ensures few { (test : A → Bool) (xs : List A) → borders test xs ≤ length xs }
+{}
+
+/// What are the toggles of a stretch by one table, are they by each later one that keeps its ids.
+pub fn kept_toggles()
+    ensures { (old new : TagStates) (states : List ℕ) (t : TagCounts) → KeepsIds old new → AreNumbered old → HaveOneNumber new
+        → AllByRecursion (IsState old) states → AreToggles old states t → AreToggles new states t }
 {}

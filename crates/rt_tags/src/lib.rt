@@ -1,6 +1,7 @@
 //! The tags that a site lists, in the order of their priority (Tk text manual, "tag raise", "tag
-//! lower"), and the tags of characters, interned as states. The definitions stand in `specs/Tags.antt`,
-//! `specs/States.antt` and `specs/Writers.antt`.
+//! lower"), the tags of characters, interned as states, and how many toggles a stretch of text has of
+//! each tag. The definitions stand in `specs/Tags.antt`, `specs/States.antt`, `specs/Writers.antt`,
+//! `specs/Toggles.antt` and `specs/Borders.antt`.
 #![tactic(auto)]
 
 mod forgetting;
@@ -9,6 +10,8 @@ mod names;
 mod sorting;
 pub mod states;
 pub mod table;
+pub mod toggles;
 
 pub use states::{Entry, StateId, StateTable, TagId};
 pub use table::TagTable;
+pub use toggles::{TagCount, Toggles};

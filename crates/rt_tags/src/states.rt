@@ -7,7 +7,7 @@ ghost use Rattle.std.specs.Str.{bytes_eq};
 ghost use Rattle.rt_stamps.specs.Names.{name_order};
 ghost use Rattle.rt_tags.specs.Tags.{is_listed};
 ghost use Rattle.rt_tags.specs.Kept.{HaveNames, IsKept, IsNext, AreKept, IsSorted, all_on, all_seen, is_entry_kept, entries_written, entry_of, if_of, is_on_side, state_seen, states_seen, tags_on};
-ghost use Rattle.rt_tags.specs.States.{Interns, IsByName, IsState, IsTag, KeepsIds, all_numbered, is_on, is_settled, name_at, names_on, numbered, state_at, write_at, writes_at, written};
+ghost use Rattle.rt_tags.specs.States.{AreNumbered, HaveOneNumber, Interns, IsByName, IsState, IsTag, KeepsIds, all_numbered, is_on, is_settled, name_at, names_on, numbered, state_at, write_at, writes_at, written};
 ghost use Rattle.rt_tags.specs.Writers.{listed_by, state_after};
 ghost use Rattle.rt_stamps.specs.declared.stamp.TheConstants.{ROOT};
 ghost use Rattle.indexmap.specs.IndexSet.{index_set_len};
@@ -484,10 +484,12 @@ impl StateTable {
         state_of(&self.states, state).on.as_slice()
     }
 
-    /// Each name has one number and each state one id; a state has one write of each tag, by the bytes of
-    /// the tags' names; and `StateId::EMPTY`, whose place is 0, is the state without writes.
+    /// Each name has one number and each state one id; a name without a number is on in no state; a state
+    /// has one write of each tag, by the bytes of the tags' names; and `StateId::EMPTY`, whose place is 0,
+    /// is the state without writes.
     pub fn order(&self)
-        ensures numbers { (a b : ℕ) → IsTag self.now a → IsTag self.now b → name_at self.now a ≡ name_at self.now b → a ≡ b }
+        ensures numbers { HaveOneNumber self.now }
+        ensures nowhere { AreNumbered self.now }
         ensures ids { (a b : ℕ) → IsState self.now a → IsState self.now b → state_at self.now a ≡ state_at self.now b → a ≡ b }
         ensures by_name { (state : ℕ) → IsState self.now state → IsByName (state_at self.now state) }
         ensures given { IsState self.now 0 }

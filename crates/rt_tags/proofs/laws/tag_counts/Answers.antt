@@ -1,0 +1,8 @@
+use Rattle.rt_tags.proofs.CountLaws.{known, within}
+use Rattle.rt_tags.proofs.laws.tag_counts.Goals as goal
+
+pub returns-clause-known : goal.returns-clause-known
+returns-clause-known c = known 0 0
+
+pub returns-clause-within : goal.returns-clause-within
+returns-clause-within c = within 0 0
