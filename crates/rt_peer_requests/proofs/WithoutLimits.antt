@@ -5,7 +5,7 @@ use Rattle.rt_stamps.specs.declared.fault.Fault.TheVariants.{BadCommand, BadOpti
 use Rattle.rt_stamps.specs.Words.{Word}
 use Rattle.rt_requests.specs.declared.options.Settings.{Settings}
 use Rattle.rt_requests.specs.declared.options.WidgetOption.{WidgetOption}
-use Rattle.rt_requests.specs.OptionWords as old
+use Rattle.rt_requests.specs.OptionWords as options
 use Rattle.rt_requests.specs.Truth.{truth_of}
 use Rattle.rt_peer_requests.specs.declared.options.NamedOption.TheVariants.{Shared}
 use Rattle.rt_peer_requests.specs.Asked.{names_limit, without_limits}
@@ -33,12 +33,12 @@ shared_first : (value : Word) (option : Option WidgetOption) (a b : Bool) → a 
 shared_first value None a b e = refl
 shared_first value (Some option) a b e = ap (λ c. is_some (truth_of value) && c) e
 
-same_sound : (words : List Word) → names_limit words ≡ false → can_all_be_set words ≡ old.can_be_set words
+same_sound : (words : List Word) → names_limit words ≡ false → can_all_be_set words ≡ options.can_be_set words
 same_sound [] h = refl
 same_sound (word ∷ []) h = refl
 same_sound (word ∷ value ∷ words) h =
     let n = no_limit word value words h in
-    rw (n.no_start, n.no_end) (shared_first value (old.option_of word) (can_all_be_set words) (old.can_be_set words) (same_sound words n.others))
+    rw (n.no_start, n.no_end) (shared_first value (options.option_of word) (can_all_be_set words) (options.can_be_set words) (same_sound words n.others))
 
 no_start_in : (words : List Word) → names_limit words ≡ false → limit_in (codes "-startline") words ≡ None
 no_start_in [] h = refl
@@ -58,8 +58,8 @@ shared_asked true true settings = refl
 shared_asked true false settings = refl
 shared_asked false sound settings = refl
 
-pub as_before : (words : List Word) → names_limit words ≡ false → asked_settings words ≡ without_limits (old.asked_settings words)
-as_before [] h = refl
-as_before (option ∷ words) h =
+pub shared_alone : (words : List Word) → names_limit words ≡ false → asked_settings words ≡ without_limits (options.asked_settings words)
+shared_alone [] h = refl
+shared_alone (option ∷ words) h =
     rw (same_sound (option ∷ words) h, no_start_in (option ∷ words) h, no_end_in (option ∷ words) h)
-    (shared_asked (old.are_pairs (option ∷ words)) (old.can_be_set (option ∷ words)) (old.settings_of (option ∷ words)))
+    (shared_asked (options.are_pairs (option ∷ words)) (options.can_be_set (option ∷ words)) (options.settings_of (option ∷ words)))

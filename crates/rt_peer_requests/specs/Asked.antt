@@ -4,7 +4,7 @@ use Rattle.std.specs.Str.{bytes_eq}
 use Rattle.rt_stamps.specs.declared.fault.Fault.{Fault}
 use Rattle.rt_stamps.specs.Words.{Word}
 use Rattle.rt_requests.specs.declared.options.Settings.{Settings}
-use Rattle.rt_requests.specs.OptionWords as old
+use Rattle.rt_requests.specs.OptionWords as options
 use Rattle.rt_peer_requests.specs.declared.destroying.Destroy.{Destroy}
 use Rattle.rt_peer_requests.specs.declared.limits.Limit.{Limit}
 use Rattle.rt_peer_requests.specs.declared.limits.Limit.TheVariants.{Absent, Line, PastEveryLine}
@@ -30,7 +30,7 @@ AreKept settings = IsKept settings.start_line × IsKept settings.end_line
 
 -- something is set
 abbrev pub sets_some : WidgetSettings → Bool
-sets_some settings = old.sets_some settings.shared || is_some settings.start_line || is_some settings.end_line
+sets_some settings = options.sets_some settings.shared || is_some settings.start_line || is_some settings.end_line
 
 -- a new widget has a path that it can have
 abbrev pub CanBeAsked : PeerRequest → Type 0
@@ -64,5 +64,5 @@ abbrev pub without_limits : Result Settings Fault → AskedOfSettings
 without_limits (Ok settings) = Ok (record { shared = settings; start_line = None; end_line = None })
 without_limits (Err fault) = Err fault
 
-abbrev pub IsAsBeforeWithoutLimits : Type 0
-IsAsBeforeWithoutLimits = (words : List Word) → names_limit words ≡ false → asked_settings words ≡ without_limits (old.asked_settings words)
+abbrev pub AreSharedWithoutLimits : Type 0
+AreSharedWithoutLimits = (words : List Word) → names_limit words ≡ false → asked_settings words ≡ without_limits (options.asked_settings words)

@@ -1,5 +1,5 @@
 // Laws of the definitions, each the contract of a function that does nothing.
-ghost use Rattle.rt_peer_requests.specs.Asked.{PeersAreSpelled, SettingsAreSpelled, OptionsAreSpelled, LinesAreSpelled, IsAsBeforeWithoutLimits};
+ghost use Rattle.rt_peer_requests.specs.Asked.{PeersAreSpelled, SettingsAreSpelled, OptionsAreSpelled, LinesAreSpelled, AreSharedWithoutLimits};
 
 /// There are words for each request, whose path is one that a widget can have and whose numbers are those that are kept;
 /// and for settings of one option at least.
@@ -12,5 +12,5 @@ pub fn requests_are_spelled()
 
 /// Words that name no limit set what they set of the shared options alone, and are refused alike.
 pub fn settings_without_limits()
-    ensures { IsAsBeforeWithoutLimits }
+    ensures { AreSharedWithoutLimits }
 {}

@@ -38,9 +38,9 @@ impl WidgetSettings {
     {
         let mut settings = self;
         match option {
-            NamedOption::Shared(WidgetOption::Undo) => settings.shared.undo = Some(truth_of(
-                value,
-            )?),
+            NamedOption::Shared(WidgetOption::Undo) => {
+                settings.shared.undo = Some(truth_of(value)?);
+            }
             NamedOption::Shared(WidgetOption::AutoSeparators) => {
                 settings.shared.auto_separators = Some(truth_of(value)?);
             }
