@@ -1,4 +1,5 @@
 pub mod Lines
+pub mod Ordered
 pub mod Places
 pub mod Shown
 pub mod Whole

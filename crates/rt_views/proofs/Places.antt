@@ -26,7 +26,7 @@ ends_text cells h =
     (text_of front, ap text_of l.is ∙ ap (map (λ cell. cell.ch)) (visible_last front last l.gone) ∙ map_append (λ cell. cell.ch) (visible_of front) (last ∷ []) ∙ ap (λ c. text_of front ++ c ∷ []) l.ch)
 
 -- before a cell stand some of the visible ones
-few_by : {X : Type 0} (b : Bool) (x : X) (before all : List X) → length before ≤ length all → length (cond b (x ∷ before) before) ≤ length (cond b (x ∷ all) all)
+pub few_by : {X : Type 0} (b : Bool) (x : X) (before all : List X) → length before ≤ length all → length (cond b (x ∷ before) before) ≤ length (cond b (x ∷ all) all)
 few_by true x before all h = omega arith
 few_by false x before all h = h
 
@@ -41,9 +41,9 @@ place_within {T} cells position h below =
     let (front, last, l) = final_last cells h in
     let within : position ≤ length front = omega (arith, ap length l.is, length-append front (last ∷ [])) in
     let before : visible_before cells position ≡ visible_before front position =
-        ap (λ (cs : List (Cell T)). visible_before cs position) l.is ∙ ap (λ (cs : List (Cell T)). length (visible_of cs)) (take-append-le position front (last ∷ []) within) in
+    ap (λ (cs : List (Cell T)). visible_before cs position) l.is ∙ ap (λ (cs : List (Cell T)). length (visible_of cs)) (take-append-le position front (last ∷ []) within) in
     let all : length (visible_of cells) ≡ length (visible_of front) + 1 =
-        ap (λ (cs : List (Cell T)). length (visible_of cs)) l.is ∙ ap length (visible_last front last l.gone) ∙ length-append (visible_of front) (last ∷ []) in
+    ap (λ (cs : List (Cell T)). length (visible_of cs)) l.is ∙ ap length (visible_last front last l.gone) ∙ length-append (visible_of front) (last ∷ []) in
     omega (arith, before, all, few_before front position, length-map (visible_of cells) (λ cell. cell.ch))
 
 -- THE LINES OF LIMITS

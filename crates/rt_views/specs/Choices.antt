@@ -1,7 +1,6 @@
 -- What the options -startline and -endline ask for. Their numbers are those of lines of the whole text: of the first line shown,
 -- and of the one behind the last.
 use Rattle.std.specs.Prelude.{ℕ, ◌+◌, ◌-◌, ◌&&◌, nat_le, nat_lt, Bool, List, Option, None, option_map, Result, Ok, Err, slice_get, if◌then◌else◌}
-
 use Rattle.rt_stamps.specs.declared.fault.Fault.{Fault}
 use Rattle.rt_stamps.specs.declared.fault.Fault.TheVariants.{BadView}
 use Rattle.rt_stamps.specs.declared.stamp.Stamp.{Stamp}

@@ -1,12 +1,14 @@
 // Laws of the definitions, each the contract of a function that does nothing.
-ghost use Rattle.std.specs.Prelude.{◌≡◌, ◌<◌, ◌≤◌, List, length, map};
+ghost use Rattle.std.specs.Prelude.{◌≡◌, ℕ, ◌<◌, ◌≤◌, List, Some, length, map};
 ghost use Rattle.rt_stamps.specs.Places.{EndsWithNewline};
+ghost use Rattle.rt_stamps.specs.declared.stamp.Stamp.{Stamp};
 ghost use Rattle.rt_store.specs.declared.cell.Cell.{Cell};
 ghost use Rattle.rt_store.specs.Cells.{EndsFinal, map_state, visible_of};
 ghost use Rattle.rt_views.specs.declared.choice.Choice.{Choice};
 ghost use Rattle.rt_views.specs.declared.limits.Limits.{Limits};
 ghost use Rattle.rt_views.specs.Choices.{limits_chosen};
-ghost use Rattle.rt_views.specs.Limits.{first_line, last_line, no_limits};
+ghost use Rattle.rt_views.specs.Limits.{first_line, last_line, line_behind, no_limits};
+ghost use Rattle.rt_views.specs.Ordered.{IsStart};
 ghost use Rattle.rt_views.specs.Stretches.{shown_part, stretch_of};
 
 /// Without limits all of a text is shown. Whatever the limits are, and whichever newlines are gone, what is shown lies
@@ -27,4 +29,11 @@ pub fn limits_without_states<S, T>()
     ensures last { (f : S → T) (cells : List (Cell S)) (limits : Limits) → last_line (map (map_state f) cells) limits ≡ last_line cells limits }
     ensures chosen { (f : S → T) (cells : List (Cell S)) (start end : Choice) (limits : Limits)
         → limits_chosen (map (map_state f) cells) start end limits ≡ limits_chosen cells start end limits }
+{}
+
+/// Where the limit at the start stands before the one at the end, the first line that is shown is the one behind it:
+/// no line is cut off.
+pub fn ordered_limits<T>()
+    ensures { (cells : List (Cell T)) (limits : Limits) (stamp : Stamp) (position : ℕ) → EndsFinal cells → IsStart cells limits stamp position
+        → line_behind cells stamp ≡ Some (first_line cells limits) }
 {}
