@@ -26,6 +26,8 @@ mod tags_states;
 #[cfg(test)]
 mod tags_table;
 #[cfg(test)]
+mod tags_toggles;
+#[cfg(test)]
 mod undo;
 #[cfg(test)]
 mod words;
