@@ -28,6 +28,8 @@ mod tags_states;
 #[cfg(test)]
 mod tags_table;
 #[cfg(test)]
+mod tags_toggles;
+#[cfg(test)]
 mod undo;
 #[cfg(test)]
 mod words;
