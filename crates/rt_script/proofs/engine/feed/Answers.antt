@@ -1,10 +1,10 @@
-use Rattle.std.proofs.Common.{◌≡◌, inl, inr, ℕ, ◌+◌, ◌<◌, ◌≤◌, ◌++◌, take, length, ap, sym, refl, ◌∙◌, append-nil, add-zero, arith}
+use Rattle.std.proofs.Common.{inl, inr, ℕ, ◌+◌, ◌<◌, ◌++◌, take, length, ap, sym, refl, ◌∙◌, append-nil, add-zero, arith}
 use Rattle.std.proofs.lemmas.List.{take_all}
 use Rattle.std.proofs.lemmas.Result.{err_from_is_err_and}
-use Rattle.rt_stamps.specs.Lines.{complete_of, rest_of, without_return}
+use Rattle.rt_stamps.specs.Lines.{rest_of, without_return}
 use Rattle.rt_script.specs.Pieces.{kept}
 use Rattle.rt_script.proofs.LinesLaws.{complete_none}
-use Rattle.rt_script.proofs.RunLaws.{line_at, line_counted, line_within, newline_at, ran_start, ran_front, ran_newline, unwritten_newline, front_unstored, bytes_newline, bytes_all, kept_front, kept_newline, kept_short, drop_some}
+use Rattle.rt_script.proofs.RunLaws.{line_counted, line_within, newline_at, ran_start, ran_front, ran_newline, unwritten_newline, front_unstored, bytes_newline, bytes_all, kept_front, kept_newline, drop_some}
 use Rattle.rt_script.proofs.engine.feed.Goals as goal
 
 pub loop-start-init : goal.loop-start-init

@@ -1,5 +1,4 @@
-use Rattle.std.proofs.Common.{◌≡◌, ◌∙◌, ◌-◌, min, length, arith}
-use Rattle.rt_script.specs.declared.engine.TheConstants.{MOST_KEPT_BYTES}
+use Rattle.std.proofs.Common.{◌∙◌, arith}
 use Rattle.rt_script.proofs.RunLaws.{kept_more}
 use Rattle.rt_script.proofs.engine.keep.Goals as goal
 
