@@ -8,7 +8,7 @@ use Rattle.rt_stamps.specs.Streams.{Stream}
 use Rattle.rt_script.specs.declared.answer.Answer.{Answer}
 use Rattle.rt_script.specs.Run.{Ends, LineGives, Ran, RanUnwritten, Runs}
 use Rattle.rt_peers.specs.State.{State}
-use Rattle.rt_script.specs.Site.{NamedFile, Session, SiteGives}
+use Rattle.rt_script.specs.Site.{Session, SiteGives}
 
 line_keeps : (old new : Session) (line : List ℕ) (answer : Answer) → LineGives SiteGives old line answer new → new.files ≡ old.files
 line_keeps old new line answer (inl (readable, (words, spells, gives))) = gives.0

@@ -1,7 +1,10 @@
 -- The lines of a script that goes on.
-use Rattle.std.proofs.Common.{◌≡◌, ◌≢◌, ℕ, List, [], ◌∷◌, ◌++◌, Bool, true, false, cond, refl, ◌∙◌, ap, ne_eqb, eqb, map}
+use Rattle.std.proofs.Common.{◌≡◌, ◌≢◌, ℕ, ◌+◌, suc, arith, take, append_assoc, append-nil, List, [], ◌∷◌, ◌++◌, Bool, true, false, cond, refl, sym, ◌∙◌, ap, ne_eqb, eqb, map}
 use Rattle.std.proofs.lemmas.List.{map-append}
+use Rattle.std.specs.List.{prefix_len}
+use Rattle.std.proofs.lemmas.Bool.{false≢true}
 use Rattle.rt_stamps.specs.Lines.{cut, before_all, without_return, complete_of, rest_of}
+use Rattle.rt_script.specs.Pieces.{is_inner}
 
 -- a newline ends the last line
 abbrev ended : List (List ℕ) × List ℕ → List (List ℕ) × List ℕ
@@ -95,6 +98,31 @@ complete_other xs b h = ap (λ p. map without_return p.0) (cut_other xs b h)
 
 pub rest_other : (xs : List ℕ) (b : ℕ) → (b ≡ 10 → ⊥) → rest_of (xs ++ b ∷ []) ≡ rest_of xs ++ b ∷ []
 rest_other xs b h = ap (λ p. p.1) (cut_other xs b h)
+
+-- nor do bytes up to a newline
+inner_is : (c : ℕ) → is_inner c ≡ true → c ≡ 10 → ⊥
+inner_is c e f = absurd (false≢true (ap is_inner (sym f) ∙ e))
+
+pub complete_front : (xs zs : List ℕ) → complete_of (xs ++ take (prefix_len is_inner zs) zs) ≡ complete_of xs
+complete_front xs [] = ap complete_of (append-nil xs)
+complete_front xs (z ∷ zs) = go (is_inner z) refl (complete_front (xs ++ z ∷ []) zs)
+  where
+    go : (b : Bool) → is_inner z ≡ b → complete_of ((xs ++ z ∷ []) ++ take (prefix_len is_inner zs) zs) ≡ complete_of (xs ++ z ∷ []) → complete_of (xs ++ take (cond b (1 + prefix_len is_inner zs) 0) (z ∷ zs)) ≡ complete_of xs
+    go true e more =
+        let one : 1 + prefix_len is_inner zs ≡ suc (prefix_len is_inner zs) = omega arith in
+        rw one (ap complete_of (sym (append_assoc xs (z ∷ []) (take (prefix_len is_inner zs) zs))) ∙ more ∙ complete_other xs z (inner_is z e))
+    go false e more = ap complete_of (append-nil xs)
+
+pub rest_front : (xs zs : List ℕ) → rest_of (xs ++ take (prefix_len is_inner zs) zs) ≡ rest_of xs ++ take (prefix_len is_inner zs) zs
+rest_front xs [] = ap rest_of (append-nil xs) ∙ sym (append-nil (rest_of xs))
+rest_front xs (z ∷ zs) = go (is_inner z) refl (rest_front (xs ++ z ∷ []) zs)
+  where
+    go : (b : Bool) → is_inner z ≡ b → rest_of ((xs ++ z ∷ []) ++ take (prefix_len is_inner zs) zs) ≡ rest_of (xs ++ z ∷ []) ++ take (prefix_len is_inner zs) zs → rest_of (xs ++ take (cond b (1 + prefix_len is_inner zs) 0) (z ∷ zs)) ≡ rest_of xs ++ take (cond b (1 + prefix_len is_inner zs) 0) (z ∷ zs)
+    go true e more =
+        let one : 1 + prefix_len is_inner zs ≡ suc (prefix_len is_inner zs) = omega arith in
+        let front = take (prefix_len is_inner zs) zs in
+        rw one (ap rest_of (sym (append_assoc xs (z ∷ []) front)) ∙ more ∙ ap (λ r. r ++ front) (rest_other xs z (inner_is z e)) ∙ append_assoc (rest_of xs) (z ∷ []) front)
+    go false e more = ap rest_of (append-nil xs) ∙ sym (append-nil (rest_of xs))
 
 -- a script without a newline has no complete line
 pub complete_none : (rest : List ℕ) → cut rest ≡ ([], rest) → complete_of rest ≡ []

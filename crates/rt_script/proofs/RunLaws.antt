@@ -1,6 +1,9 @@
 -- Runs of lines, one after the other.
-use Rattle.std.proofs.Common.{IfErr, ◌≢◌, zero, suc, ◌==◌, ◌≡◌, inl, inr, ℕ, ◌+◌, ◌<◌, ◌≤◌, ◌&&◌, not, Bool, true, false, cond, length, take, drop, get_or, take-append-drop, map, Some, None, List, [], ◌∷◌, ◌++◌, refl, sym, ◌∙◌, ap, subst, Option, Result, Ok, Err, append_assoc, append-nil, arith, nat_le}
-use Rattle.std.proofs.lemmas.List.{take_more, take_all, length-take, length-drop}
+use Rattle.std.proofs.Common.{IfErr, ◌≢◌, zero, suc, ◌==◌, ◌≡◌, inl, inr, ℕ, ◌+◌, ◌-◌, min, ◌<◌, ◌≤◌, ◌&&◌, not, Bool, true, false, cond, length, take, drop, get_or, take-append-drop, map, Some, None, List, [], ◌∷◌, ◌++◌, refl, sym, ◌∙◌, ap, subst, Option, Result, Ok, Err, append_assoc, append-nil, arith, nat_le}
+use Rattle.std.proofs.lemmas.List.{take_more, take_all, take_min, take_rest, get_or-drop, length-take, length-drop}
+use Rattle.std.proofs.Math.Seq.{take-add, take-append-add}
+use Rattle.std.specs.List.{prefix_len}
+use Rattle.std.proofs.lemmas.List.Sums.{prefix_len-le-length, prefix_len_stops}
 use Rattle.std.proofs.lemmas.List.Elements.{filter-append}
 use Rattle.std.proofs.lemmas.Grind.{flat_map-append}
 use Rattle.std.proofs.lemmas.Bool.{false≢true, cases_lt}
@@ -18,9 +21,9 @@ use Rattle.rt_script.specs.declared.answer.Answer.{Answer}
 use Rattle.rt_script.specs.declared.engine.TheConstants.{MOST_KEPT_BYTES}
 use Rattle.rt_script.specs.Replies.{reply_line}
 use Rattle.rt_script.specs.Run.{LineGives, Runs, Ran, RanFront, RanUnwritten}
-use Rattle.rt_script.specs.Pieces.{kept, RanLine, RanLines}
+use Rattle.rt_script.specs.Pieces.{is_inner, kept, RanLine, RanLines}
 use Rattle.rt_stamps.specs.Source.{failures_of}
-use Rattle.rt_script.proofs.LinesLaws.{complete_append, complete_newline, complete_other, rest_append, rest_newline, rest_other, cut_empty}
+use Rattle.rt_script.proofs.LinesLaws.{complete_append, complete_newline, complete_front, rest_append, rest_newline, rest_front, cut_empty}
 
 -- a run goes on
 pub runs_then : {S : Type 0} (gives : S → List Word → Answer → S → Type 0) (old mid new : S) (ls ms : List (List ℕ)) (bs cs : List Answer) → Runs gives old ls bs mid → Runs gives mid ms cs new → Runs gives old (ls ++ ms) (bs ++ cs) new
@@ -160,6 +163,13 @@ take_longer (suc n) (x ∷ xs) ys = ap (λ l. x ∷ l) (take_longer n xs ys)
 pub kept_longer : (xs ys : List ℕ) → kept (kept xs ++ ys) ≡ kept (xs ++ ys)
 kept_longer xs ys = take_longer MOST_KEPT_BYTES xs ys
 
+-- as many bytes more as there is room for
+pub kept_more : (old bytes : List ℕ) (n : ℕ) → length old ≤ MOST_KEPT_BYTES → n ≡ min (MOST_KEPT_BYTES - length old) (length bytes) → old ++ take n bytes ≡ kept (old ++ bytes)
+kept_more old bytes n h e =
+    let all : length old + (MOST_KEPT_BYTES - length old) ≡ MOST_KEPT_BYTES = omega arith in
+    ap (λ v. old ++ v) (ap (λ k. take k bytes) e ∙ take_min (MOST_KEPT_BYTES - length old) bytes)
+    ∙ sym (take-append-add old bytes (MOST_KEPT_BYTES - length old)) ∙ ap (λ k. take k (old ++ bytes)) all
+
 pub kept_short : (line : List ℕ) → length (kept line) ≤ MOST_KEPT_BYTES
 kept_short line = omega (arith, length-take MOST_KEPT_BYTES line)
 
@@ -239,16 +249,42 @@ bytes_newline p xs i h e = bytes_more p xs i h ∙ ap (λ b. (p ++ take i xs) ++
 pub bytes_all : (p xs : List ℕ) (n : ℕ) → p ++ xs ≡ (p ++ take n xs) ++ drop n xs
 bytes_all p xs n = ap (λ v. p ++ v) (sym (take-append-drop n xs)) ∙ sym (append_assoc p (take n xs) (drop n xs))
 
--- what is kept of the line of the next byte
-pub rest_kept_newline : (xs ys : List ℕ) → ys ≡ xs ++ 10 ∷ [] → [] ≡ kept (rest_of ys)
-rest_kept_newline xs ys f = ap kept (sym (ap rest_of f ∙ rest_newline xs))
+-- how many bytes of a piece come from a place on before the next newline
+abbrev pub line_at : List ℕ → ℕ → ℕ
+line_at xs i = prefix_len is_inner (drop i xs)
 
-pub rest_kept_other : (old new xs ys : List ℕ) (b : ℕ) → new ≡ kept (old ++ b ∷ []) → old ≡ kept (rest_of xs) → (b ≡ 10 → ⊥) → ys ≡ xs ++ b ∷ [] → new ≡ kept (rest_of ys)
-rest_kept_other old new xs ys b e p h f =
-    e ∙ ap (λ o. kept (o ++ b ∷ [])) p ∙ kept_longer (rest_of xs) (b ∷ []) ∙ ap kept (sym (ap rest_of f ∙ rest_other xs b h))
+pub line_counted : (xs : List ℕ) (i n : ℕ) → n ≡ prefix_len is_inner (take (length xs - i) (drop i xs)) → n ≡ line_at xs i
+line_counted xs i n e = e ∙ ap (prefix_len is_inner) (take_rest xs i)
 
-pub ran_other : {S : Type 0} (gives : S → List Word → Answer → S → Type 0) (old new : S) (a b : Option (List ℕ)) (xs ys : List ℕ) (byte : ℕ) → Ran gives old new a b (complete_of xs) → (byte ≡ 10 → ⊥) → ys ≡ xs ++ byte ∷ [] → Ran gives old new a b (complete_of ys)
-ran_other gives old new a b xs ys byte h n f = rw (f, complete_other xs byte n) h
+pub line_within : (xs : List ℕ) (i n : ℕ) → n ≡ line_at xs i → i ≤ length xs → i + n ≤ length xs
+line_within xs i n e h = let l = prefix_len-le-length is_inner (drop i xs) in omega (arith, e, l, length-drop i xs, h)
+
+newline_is : (c : ℕ) → is_inner c ≡ false → c ≡ 10
+newline_is c e = grind (arith, nat_tests)
+
+pub newline_at : (xs : List ℕ) (i n : ℕ) → n ≡ line_at xs i → i + n < length xs → get_or xs (i + n) 0 ≡ 10
+newline_at xs i n e h =
+    let s : line_at xs i < length (drop i xs) = omega (arith, e, length-drop i xs) in
+    ap (λ k. get_or xs (i + k) 0) e ∙ sym (get_or-drop i xs (line_at xs i) 0) ∙ newline_is _ (prefix_len_stops is_inner (drop i xs) 0 s)
+
+-- they complete no line, and are kept behind what was kept
+bytes_front : (p xs : List ℕ) (i n : ℕ) → n ≡ line_at xs i → p ++ take (i + n) xs ≡ (p ++ take i xs) ++ take (line_at xs i) (drop i xs)
+bytes_front p xs i n e = ap (λ k. p ++ take (i + k) xs) e ∙ ap (λ v. p ++ v) (take-add i (line_at xs i) xs) ∙ sym (append_assoc p (take i xs) (take (line_at xs i) (drop i xs)))
+
+pub ran_front : {S : Type 0} (gives : S → List Word → Answer → S → Type 0) (old new : S) (a b : Option (List ℕ)) (p xs : List ℕ) (i n : ℕ) → n ≡ line_at xs i → Ran gives old new a b (complete_of (p ++ take i xs)) → Ran gives old new a b (complete_of (p ++ take (i + n) xs))
+ran_front gives old new a b p xs i n e h = rw (bytes_front p xs i n e, complete_front (p ++ take i xs) (drop i xs)) h
+
+pub kept_front : (old new p xs : List ℕ) (i n : ℕ) → n ≡ line_at xs i → new ≡ kept (old ++ take (i + n - i) (drop i xs)) → old ≡ kept (rest_of (p ++ take i xs)) → new ≡ kept (rest_of (p ++ take (i + n) xs))
+kept_front old new p xs i n e h k =
+    let count : i + n - i ≡ line_at xs i = omega (arith, e) in
+    let front = take (line_at xs i) (drop i xs) in
+    let before = rest_of (p ++ take i xs) in
+    h ∙ ap (λ m. kept (old ++ take m (drop i xs))) count ∙ ap (λ v. kept (v ++ front)) k ∙ kept_longer before front
+    ∙ ap kept (sym (ap rest_of (bytes_front p xs i n e) ∙ rest_front (p ++ take i xs) (drop i xs)))
+
+-- nothing is kept after a newline
+pub kept_newline : (xs ys : List ℕ) → ys ≡ xs ++ 10 ∷ [] → [] ≡ kept (rest_of ys)
+kept_newline xs ys f = ap kept (sym (ap rest_of f ∙ rest_newline xs))
 
 -- nothing was run of a script without a newline
 pub ran_start : {S : Type 0} (gives : S → List Word → Answer → S → Type 0) (s : S) (a : Option (List ℕ)) (rest : List ℕ) → complete_of rest ≡ [] → Ran gives s s a a (complete_of rest)

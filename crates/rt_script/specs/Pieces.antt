@@ -1,5 +1,5 @@
 -- A script that is read in pieces: what is kept of a line that isn't complete, and what is run of a piece.
-use Rattle.std.specs.Prelude.{◌≡◌, ◌⊎◌, ℕ, ◌+◌, ◌&&◌, true, false, List, [], take, Option, Result, Ok, MatchResult}
+use Rattle.std.specs.Prelude.{◌≡◌, ◌⊎◌, ℕ, ◌+◌, ◌==◌, ◌&&◌, not, Bool, true, false, List, [], take, Option, Result, Ok, MatchResult}
 use Rattle.std.specs.Io.KnownBytes.{Appends}
 use Rattle.rt_stamps.specs.declared.fault.Fault.{Fault}
 use Rattle.rt_stamps.specs.declared.fault.Fault.TheVariants.{NoMemory, WriteFault}
@@ -10,6 +10,10 @@ use Rattle.rt_script.specs.declared.answer.Answer.{Answer}
 use Rattle.rt_script.specs.declared.engine.TheConstants.{MOST_KEPT_BYTES}
 use Rattle.rt_script.specs.Replies.{reply_line}
 use Rattle.rt_script.specs.Run.{LineGives, Ran, RanFront, RanUnwritten}
+
+-- a byte that ends no line
+abbrev pub is_inner : ℕ → Bool
+is_inner c = not (c == 10)
 
 -- what is kept of a line
 abbrev pub kept : List ℕ → List ℕ

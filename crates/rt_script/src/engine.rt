@@ -1,10 +1,10 @@
 // Runs of scripts.
 ghost use Rattle.std.specs.Prelude.{◌≡◌, ℕ, ◌+◌, ◌<◌, ◌≤◌, ◌&&◌, ◌∷◌, ◌++◌, [], true, false, List, length, IfOk, IfErr, OnOk, IfSome, MatchOption};
-ghost use Rattle.std.specs.List.{list_all};
+ghost use Rattle.std.specs.List.{list_all, prefix_len};
 ghost use Rattle.rt_stamps.specs.Lines.{cut, without_return, is_blank, is_readable, is_silent, complete_of, rest_of, last_of, lines_of};
 ghost use Rattle.rt_stamps.specs.Source.{failures_of};
 ghost use Rattle.rt_stamps.specs.Written.{Wrote};
-ghost use Rattle.rt_script.specs.Pieces.{kept, RanLine, RanLines};
+ghost use Rattle.rt_script.specs.Pieces.{is_inner, kept, RanLine, RanLines};
 ghost use Rattle.rt_script.specs.Replies.{reply_line};
 ghost use Rattle.rt_script.specs.Run.{LineGives, Ends};
 
@@ -205,15 +205,21 @@ fn run_line<C: Commands, W: Sink>(
     }
 }
 
-// Keeps a byte of a line that isn't complete, if the line isn't too long already.
-fn keep(pending: &mut Vec<u8>, byte: u8) -> Result<(), Fault>
+// How many bytes of some come before the first newline.
+fn line_len(bytes: &[u8]) -> usize
+    ensures { result ≡ prefix_len is_inner bytes.now }
+{
+    bytes.iter().take_while(|byte| **byte != b'\n').count()
+}
+
+// Keeps bytes of a line that isn't complete, as far as the line isn't too long already.
+fn keep(pending: &mut Vec<u8>, bytes: &[u8]) -> Result<(), Fault>
     requires { length pending.old.items ≤ MOST_KEPT_BYTES }
-    ensures kept { OnOk result (pending.new.items ≡ kept (pending.old.items ++ byte ∷ [])) }
+    ensures kept { OnOk result (pending.new.items ≡ kept (pending.old.items ++ bytes.now)) }
     ensures fault { IfErr result (λ fault. fault ≡ Fault.NoMemory) }
 {
-    if pending.len() < MOST_KEPT_BYTES {
-        pending.push(byte)?;
-    }
+    let room = MOST_KEPT_BYTES - pending.len();
+    pending.extend_from_slice(&bytes[..bytes.len().min(room)])?;
     Ok(())
 }
 
@@ -234,13 +240,16 @@ fn feed<C: Commands, W: Sink>(
     ensures rest { (rest : List ℕ) → cut rest ≡ ([], rest) → pending.old.items ≡ kept rest
         → OnOk result (pending.new.items ≡ kept (rest_of (rest ++ piece.now))) }
 {
-    for byte in piece {
-        if *byte == b'\n' {
-            run_line(alloc, memory, site, without_return(pending), out)?;
-            pending.clear();
-        } else {
-            keep(pending, *byte)?;
+    let mut start = 0;
+    while start < piece.len() {
+        let end = start + line_len(&piece[start..]);
+        keep(pending, &piece[start..end])?;
+        if end == piece.len() {
+            return Ok(());
         }
+        run_line(alloc, memory, site, without_return(pending), out)?;
+        pending.clear();
+        start = end + 1;
     }
     Ok(())
 }
