@@ -1,4 +1,6 @@
 pub mod Adjacent
+pub mod Filling
+pub mod InBlocks
 pub mod Lengths
 pub mod Joins
 pub mod Kept

@@ -199,11 +199,11 @@ pub seen_append : (ops : List Operation) (xs ys : List ℕ) → newest_first ops
 seen_append ops [] ys = sym (append-nil (newest_first ops ys))
 seen_append ops (place ∷ xs) ys = ap (λ s. s ++ op_at ops place ∷ []) (seen_append ops xs ys) ∙ append_assoc (newest_first ops ys) (newest_first ops xs) (op_at ops place ∷ [])
 
-falling_after : (xs ys : List Operation) → IsFalling (xs ++ ys) → IsFalling ys
+pub falling_after : (xs ys : List Operation) → IsFalling (xs ++ ys) → IsFalling ys
 falling_after [] ys h = h
 falling_after (x ∷ xs) ys h = falling_after xs ys h.1
 
-has_after : (xs ys : List Operation) (x : Operation) → Has ys x → Has (xs ++ ys) x
+pub has_after : (xs ys : List Operation) (x : Operation) → Has ys x → Has (xs ++ ys) x
 has_after [] ys x h = h
 has_after (y ∷ xs) ys x h = inr (has_after xs ys x h)
 

@@ -1,3 +1,4 @@
+pub mod Blocks
 pub mod Decoding
 pub mod Edits
 pub mod Ends
@@ -7,7 +8,10 @@ pub mod Kept
 pub mod Logs
 pub mod Merged
 pub mod Operations
+pub mod Ordered
 pub mod Outcomes
+pub mod Places
 pub mod Reading
 pub mod Rules
+pub mod Spares
 pub mod Texts

@@ -1,6 +1,8 @@
 //! Operations of sites, and logs of them.
 #![tactic(auto)]
 
+mod block;
+mod blocks;
 pub mod bytes;
 mod decode;
 mod ends;
@@ -11,6 +13,7 @@ pub mod laws;
 pub mod log;
 mod merge;
 pub mod op;
+mod order;
 mod rules;
 mod same;
 mod spell;

@@ -5,12 +5,15 @@ ghost use Rattle.rt_stamps.specs.declared.fault.Fault.TheVariants.{NoMemory};
 ghost use Rattle.rt_stamps.specs.Stamps.{is_before};
 ghost use Rattle.rt_oplog.specs.Operations.{stamp_of, has_bad_stamp};
 ghost use Rattle.rt_oplog.specs.Logs.{IsLog, IsFalling, holds, same_operation, clash, known_end, pushed};
-ghost use Rattle.rt_oplog.specs.Kept.{op_at, newest_first, leading, IsKept};
+ghost use Rattle.rt_oplog.specs.Kept.{op_at, newest_first, IsKept};
+ghost use Rattle.rt_oplog.specs.Blocks.{in_blocks};
 ghost use Rattle.rt_oplog.specs.Outcomes.{Pushes, MakesLog, Joins};
 
 use crate::Op;
+use crate::block::Block;
 use crate::ends::Ends;
 use crate::merge::{ends_of, merge};
+use crate::order::Order;
 use crate::same::{is_clash, is_same};
 use rt_stamps::{Fault, ROOT, Stamp};
 use std::alloc::Global;
@@ -23,7 +26,7 @@ pub struct OpLog {
     /// As they came.
     ops: Vec<Op>,
     /// Their places in `ops`, by rising stamp.
-    order: Vec<usize>,
+    order: Order,
     ends: Ends,
 }
 
@@ -46,30 +49,10 @@ impl Model for OpLog {
 
     ghost view = { λ log. record {
       operations = newest_first log.ops.items log.order.items;
-      room = min (vec_capacity log.ops - vec_len log.ops)
-          (min (vec_capacity log.order - vec_len log.order) (vec_capacity log.ends.ends - vec_len log.ends.ends));
+      room = min (vec_capacity log.ops - vec_len log.ops) (min log.order.room (vec_capacity log.ends.ends - vec_len log.ends.ends));
     } };
 
     ghost invariant = { λ log. IsKept log.ops.items log.order.items log.ends.ends.items };
-}
-
-/// Whether the operation of a place is before a stamp.
-fn is_earlier(ops: &[Op], place: usize, stamp: Stamp) -> bool
-    ensures { result ≡ is_before (stamp_of (op_at ops.now place)) stamp }
-{
-    match ops.get(place) {
-        Some(op) => op.stamp() < stamp,
-        None => ROOT < stamp,
-    }
-}
-
-/// How many operations are before a stamp.
-fn place_of(ops: &[Op], order: &[usize], stamp: Stamp) -> usize
-    requires { IsFalling (newest_first ops.now order.now) }
-    ensures place { result ≡ leading (λ place. is_before (stamp_of (op_at ops.now place)) stamp) order.now }
-    ensures within { result ≤ length order.now }
-{
-    order.partition_point(|place| is_earlier(ops, *place, stamp))
 }
 
 /// Whether the operation of a place is this one.
@@ -81,13 +64,15 @@ fn is_at(ops: &[Op], place: usize, op: &Op) -> bool
 }
 
 /// Whether this very operation is one of the places.
-fn is_held(ops: &[Op], order: &[usize], op: &Op) -> bool
-    requires within { AllByRecursion (λ place. place < length ops.now) order.now }
-    requires falling { IsFalling (newest_first ops.now order.now) }
-    ensures { result ≡ holds (newest_first ops.now order.now) op.now }
+fn is_held(ops: &[Op], order: &Order, op: &Op) -> bool
+    requires within { AllByRecursion (λ place. place < length ops.now) order.now.items }
+    requires falling { IsFalling (newest_first ops.now order.now.items) }
+    ensures { result ≡ holds (newest_first ops.now order.now.items) op.now }
 {
-    let place = place_of(ops, order, op.stamp());
-    place < order.len() && is_at(ops, order[place], op)
+    match order.find(ops, op.stamp()) {
+        Some(place) => is_at(ops, place, op),
+        None => false,
+    }
 }
 
 /// Whether an operation of the places clashes with this one.
@@ -105,29 +90,39 @@ fn any_clash(ops: &[Op], order: &[usize], op: &Op) -> bool
     false
 }
 
+/// Whether an operation of the places of blocks clashes with this one.
+fn any_clash_in(ops: &[Op], blocks: &[Block], op: &Op) -> bool
+    requires within { AllByRecursion (λ place. place < length ops.now) (in_blocks blocks.now) }
+    requires log { IsLog (newest_first ops.now (in_blocks blocks.now)) }
+    requires sound { has_bad_stamp op.now ≡ false }
+    ensures { result ≡ list_any (λ place. clash op.now (op_at ops.now place)) (in_blocks blocks.now) }
+{
+    for block in blocks {
+        if any_clash(ops, &block.places, op) {
+            return true;
+        }
+    }
+    false
+}
+
 /// Whether an operation of the places clashes with this one. What goes on from its site's known end
 /// clashes with none; what is the newest and goes on from below it clashes.
-fn has_clash(ops: &[Op], order: &[usize], ends: &Ends, op: &Op) -> bool
-    requires kept { IsKept ops.now order.now ends.now.ends.items }
+fn has_clash(ops: &[Op], order: &Order, ends: &Ends, op: &Op) -> bool
+    requires kept { IsKept ops.now order.now.items ends.now.ends.items }
     requires sound { has_bad_stamp op.now ≡ false }
-    ensures { result ≡ list_any (clash op.now) (newest_first ops.now order.now) }
+    ensures { result ≡ list_any (clash op.now) (newest_first ops.now order.now.items) }
 {
     if op.prev() >= ends.get(op.site()) {
         return false;
     }
-    if place_of(ops, order, op.stamp()) == order.len() {
-        return true;
+    match order.find(ops, op.stamp()) {
+        Some(_) => any_clash_in(ops, order.blocks(), op),
+        None => true,
     }
-    any_clash(ops, order, op)
 }
 
 /// Pushes the operation of a place to the log of those that have been put in order.
-fn push_place(
-    ops: &[Op],
-    order: &mut Vec<usize>,
-    ends: &mut Ends,
-    place: usize,
-) -> Result<(), Fault>
+fn push_place(ops: &[Op], order: &mut Order, ends: &mut Ends, place: usize) -> Result<(), Fault>
     requires place { place < length ops.now }
     requires kept { IsKept ops.now order.old.items ends.old.ends.items }
     ensures { MatchResult result
@@ -142,9 +137,9 @@ fn push_place(
     if has_clash(ops, order, ends, op) {
         return Err(Fault::Conflict);
     }
+    order.reserve(1)?;
     ends.reserve(1)?;
-    let at = place_of(ops, order, op.stamp());
-    order.insert(at, place)?;
+    order.insert(ops, op.stamp(), place);
     ends.raise(op.site(), op.last_count());
     Ok(())
 }
@@ -157,7 +152,7 @@ impl OpLog {
         OpLog {
             alloc,
             ops: Vec::new(alloc),
-            order: Vec::new(alloc),
+            order: Order::new(alloc),
             ends: Ends::new(alloc),
         }
     }
@@ -167,7 +162,7 @@ impl OpLog {
     pub fn from_ops(alloc: Global, ops: Vec<Op>) -> Result<OpLog, Refused>
         ensures { MakesLog ops.items result }
     {
-        let mut order = Vec::new(alloc);
+        let mut order = Order::new(alloc);
         let mut ends = Ends::new(alloc);
         for place in 0..ops.len() {
             match push_place(&ops, &mut order, &mut ends, place) {
@@ -211,7 +206,7 @@ impl OpLog {
         ensures operation { slice_get (reverse self.now.operations) place ≡ Some result.now }
         ensures log { IsLog self.now.operations }
     {
-        &self.ops[self.order[place]]
+        &self.ops[self.order.get(place)]
     }
 
     /// The operations by rising stamp.
@@ -219,8 +214,9 @@ impl OpLog {
         ensures operations { IfOk result (λ ops. map (λ op. op.now) ops.items ≡ reverse self.now.operations) }
         ensures fault { IfErr result (λ fault. fault ≡ NoMemory) }
     {
+        let places = self.order.flat()?;
         let mut ops = Vec::new(self.alloc);
-        for place in &self.order {
+        for place in &places {
             ops.push(&self.ops[*place])?;
         }
         Ok(ops)
@@ -262,9 +258,9 @@ impl OpLog {
             return Err(Fault::Conflict);
         }
         self.reserve(1)?;
-        let place = place_of(&self.ops, &self.order, op.stamp());
         self.ends.raise(op.site(), op.last_count());
-        let _added = self.order.insert(place, self.ops.len());
+        let place = self.ops.len();
+        self.order.insert(&self.ops, op.stamp(), place);
         self.ops.push_reserved(op);
         Ok(())
     }
@@ -286,8 +282,9 @@ pub fn join(one: OpLog, other: OpLog) -> Result<OpLog, Fault>
         order: theirs,
         ..
     } = other;
-    let order = merge(alloc, &mut ops, &mut more, &mine, &theirs)?;
-    let ends = ends_of(alloc, &ops, &order)?;
+    let places = merge(alloc, &mut ops, &mut more, &mine.flat()?, &theirs.flat()?)?;
+    let ends = ends_of(alloc, &ops, &places)?;
+    let order = Order::of(alloc, &places)?;
     Ok(OpLog {
         alloc,
         ops,

@@ -2,24 +2,24 @@ use Rattle.std.proofs.lemmas.Result.{err_from_is_err_and}
 use Rattle.rt_oplog.proofs.Kept.{told_of_two, told_of_merged, joined_merged}
 use Rattle.rt_oplog.proofs.log.join.Goals as goal
 
-pub returns-in_err-order : goal.returns-in_err-order
-returns-in_err-order c =
-    let (y, is, gives) = err_from_is_err_and c.from_residual.result c.from_residual.ensures.1 in
-    let told = rw (c.deref_mut.ensures.value, c.deref.ensures.value, c.deref-2.ensures.value) at c.in_err-order.ensures in
-    rw (is, gives, ← c.one.view_is, ← c.other.view_is) (told_of_two _ _ c.in_err-order.field-0.0 told)
+pub returns-in_err-places : goal.returns-in_err-places
+returns-in_err-places c =
+    let (y, is, gives) = err_from_is_err_and c.from_residual-in_err-places.result c.from_residual-in_err-places.ensures.1 in
+    let told = rw (c.deref_mut.ensures.value, c.deref.ensures.value, c.in_ok-flat.ensures, c.deref-2.ensures.value, c.in_ok-flat-2.ensures) at c.in_err-places.ensures in
+    rw (is, gives, ← c.one.view_is, ← c.other.view_is) (told_of_two _ _ c.in_err-places.field-0.0 told)
 
 pub ends_of-requires-clause-within : goal.ends_of-requires-clause-within
-ends_of-requires-clause-within c = rw (c.deref-3.ensures.value, c.deref-4.ensures.value) c.in_ok-order.ensures.within
+ends_of-requires-clause-within c = rw (c.deref-3.ensures.value, c.deref-4.ensures.value) c.in_ok-places.ensures.within
 
 pub returns-in_err-ends : goal.returns-in_err-ends
 returns-in_err-ends c =
     let (y, is, gives) = err_from_is_err_and c.from_residual-in_err-ends.result c.from_residual-in_err-ends.ensures.1 in
-    let merged = rw (c.deref_mut.ensures.value, c.deref.ensures.value, c.deref-2.ensures.value) at c.in_ok-order.ensures in
+    let merged = rw (c.deref_mut.ensures.value, c.deref.ensures.value, c.in_ok-flat.ensures, c.deref-2.ensures.value, c.in_ok-flat-2.ensures) at c.in_ok-places.ensures in
     let told = rw (c.deref-3.ensures.value, c.deref-4.ensures.value) at c.in_err-ends.ensures in
-    rw (is, gives, ← c.one.view_is, ← c.other.view_is) (told_of_merged c.merge.new.ops.items _ _ c.in_ok-order.order.items c.in_err-ends.field-0.0 merged told)
+    rw (is, gives, ← c.one.view_is, ← c.other.view_is) (told_of_merged c.merge.new.ops.items _ _ c.in_ok-places.places.items c.in_err-ends.field-0.0 merged told)
 
 pub returns : goal.returns
 returns c =
-    let merged = rw (c.deref_mut.ensures.value, c.deref.ensures.value, c.deref-2.ensures.value) at c.in_ok-order.ensures in
+    let merged = rw (c.deref_mut.ensures.value, c.deref.ensures.value, c.in_ok-flat.ensures, c.deref-2.ensures.value, c.in_ok-flat-2.ensures) at c.in_ok-places.ensures in
     let kept = rw (c.deref-3.ensures.value, c.deref-4.ensures.value) at c.in_ok-ends.ensures in
-    rw (← c.one.view_is, ← c.other.view_is) (joined_merged c.merge.new.ops.items _ _ c.in_ok-order.order.items c.in_ok-ends.ends.ends.items merged kept c.one.invariant.log c.other.invariant.log)
+    rw (← c.one.view_is, ← c.other.view_is, c.in_ok-order.ensures, c.deref-5.ensures.value) (joined_merged c.merge.new.ops.items _ _ c.in_ok-places.places.items c.in_ok-ends.ends.ends.items merged kept c.one.invariant.log c.other.invariant.log)

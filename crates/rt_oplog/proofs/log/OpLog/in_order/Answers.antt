@@ -1,5 +1,7 @@
-use Rattle.std.proofs.Common.{◌∙◌, sym, ap, map, arith, refl}
+use Rattle.std.proofs.Common.{◌≡◌, ◌<◌, ◌∙◌, sym, ap, subst, length, map, arith, refl}
 use Rattle.std.proofs.lemmas.List.{take_all}
+use Rattle.std.proofs.lemmas.List.Elements.{All-from_recursion}
+use Rattle.std.specs.List.{AllByRecursion}
 use Rattle.rt_oplog.specs.Kept.{op_at}
 use Rattle.rt_oplog.proofs.Merges.{seen_reversed}
 use Rattle.std.proofs.lemmas.Result.{err_from_is_err_and}
@@ -8,10 +10,20 @@ use Rattle.rt_oplog.proofs.log.OpLog.in_order.Goals as goal
 pub returns-clause-operations : goal.returns-clause-operations
 returns-clause-operations c =
     let ops = c.self.inside.ops.items in
-    let order = c.self.inside.order.items in
-    rw (← c.self.view_is) (c.loop-place.invariant ∙ ap (map (op_at ops)) (take_all c.loop-place.place-index order (omega (arith, c.loop-place-test.false, c.deref-place-items.ensures.len, c.self.inside.order.ok.0))) ∙ sym (seen_reversed ops order))
+    let list = c.deref-place-items.result.now in
+    let same : list ≡ c.self.inside.order.items = c.deref-place-items.ensures.value ∙ c.in_ok-places.ensures in
+    rw (← c.self.view_is) (c.loop-place.invariant ∙ ap (map (op_at ops)) (take_all c.loop-place.place-index list (omega (arith, c.loop-place-test.false)) ∙ same) ∙ sym (seen_reversed ops c.self.inside.order.items))
+
+pub index-requires : goal.index-requires
+index-requires c =
+    let ops = c.self.inside.ops.items in
+    let list = c.deref-place-items.result.now in
+    let same : list ≡ c.self.inside.order.items = c.deref-place-items.ensures.value ∙ c.in_ok-places.ensures in
+    let within = subst (λ xs. AllByRecursion (λ place. place < length ops) xs) (sym same) c.self.invariant.within in
+    let fits = All-from_recursion (λ place. place < length ops) list within c.loop-place.place-index 0 c.loop-place-test.true in
+    omega (arith, fits, c.self.inside.ops.ok.0)
 
 pub returns-in_err-push : goal.returns-in_err-push
 returns-in_err-push c =
-    let (y, is, gives) = err_from_is_err_and c.from_residual.result c.from_residual.ensures.1 in
+    let (y, is, gives) = err_from_is_err_and c.from_residual-in_err-push.result c.from_residual-in_err-push.ensures.1 in
     rw (is, gives) (record { operations = tt; fault = refl })

@@ -3,4 +3,4 @@ use Rattle.rt_oplog.specs.Kept.{op_at}
 use Rattle.rt_oplog.proofs.log.OpLog.in_order.Given as goal
 
 abbrev pub invariant-loop-place : goal.invariant-loop-place
-invariant-loop-place l = map (λ op. op.now) l.ops.items ≡ map (op_at l.self-inside.ops.items) (take l.place-index l.self-inside.order.items)
+invariant-loop-place l = map (λ op. op.now) l.ops.items ≡ map (op_at l.self-inside.ops.items) (take l.place-index l.place-items)

@@ -1,4 +1,4 @@
-use Rattle.std.proofs.Common.{◌≡◌, ◌∷◌, ◌<◌, ℕ, List, false, inl, refl, sym, ap, ◌∙◌, length, Result, Ok, Err, arith}
+use Rattle.std.proofs.Common.{◌≡◌, ◌∷◌, ℕ, List, false, inl, refl, sym, ap, ◌∙◌, length, Result, Ok, Err, arith}
 use Rattle.std.proofs.lemmas.Result.{err_from_is_err_and}
 use Rattle.std.specs.List.{insert, list_any}
 use Rattle.rt_stamps.specs.declared.fault.Fault.{Fault}
@@ -27,11 +27,8 @@ invariant_of-self c =
     let sound : has_bad_stamp op ≡ false = sound_if_ok op c.in_ok-check.field-0 (sym c.in_ok-check.ensures) in
     let new : holds set op ≡ false = rw seen (sym c.contains.ensures ∙ c.if-contains.false) in
     let free : list_any (clash op) set ≡ false = rw seen (sym c.clashes.ensures ∙ c.if-clashes.false) in
-    let place : c.place_of-place.result ≡ leading (is_earlier ops (stamp_of op)) order = rw (c.deref.ensures.value, c.deref-2.ensures.value, c.stamp.ensures) at c.place_of-place.ensures.place in
-    let one = rw (← c.self.view_is) at c.in_ok-reserve.ensures.ok in
-    let room : c.self.inside.order.len < c.self.inside.order.cap = omega (arith, one) in
-    let items = rw (c.insert-added.ensures.succeeds room) at c.insert-added.ensures.items in
-    let put : c.insert-added.new.self.items ≡ insert order (leading (is_earlier ops (stamp_of op)) order) (length ops) = cc (items, place, c.len.ensures, c.self.inside.ops.ok.0) in
+    let items = rw (c.deref.ensures.value, c.stamp.ensures) at c.insert.ensures.items in
+    let put : c.insert.new.self.items ≡ insert order (leading (is_earlier ops (stamp_of op)) order) (length ops) = cc (items, c.len-place.ensures, c.self.inside.ops.ok.0) in
     let known : (s : ℕ) → end_in c.raise.new.self.ends.items s ≡ known_end (op ∷ set) s = λ s. c.raise.ensures.ends s ∙ rw (c.site.ensures, c.last_count.ensures, c.self.invariant.known s) refl in
     rw (c.push_reserved.ensures.items, put) (kept_with ops order ends c.raise.new.self.ends.items op c.self.invariant sound new free known)
 
@@ -45,15 +42,12 @@ returns c =
     let sound : has_bad_stamp op ≡ false = sound_if_ok op c.in_ok-check.field-0 (sym c.in_ok-check.ensures) in
     let new : holds set op ≡ false = rw seen (sym c.contains.ensures ∙ c.if-contains.false) in
     let free : list_any (clash op) set ≡ false = rw seen (sym c.clashes.ensures ∙ c.if-clashes.false) in
-    let place : c.place_of-place.result ≡ leading (is_earlier ops (stamp_of op)) order = rw (c.deref.ensures.value, c.deref-2.ensures.value, c.stamp.ensures) at c.place_of-place.ensures.place in
     let one = rw (← c.self.view_is) at c.in_ok-reserve.ensures.ok in
     let kept = rw (← c.self.view_is) at c.in_ok-reserve.ensures.kept in
-    let room : c.self.inside.order.len < c.self.inside.order.cap = omega (arith, one) in
-    let items = rw (c.insert-added.ensures.succeeds room) at c.insert-added.ensures.items in
-    let len = rw (c.insert-added.ensures.succeeds room) at c.insert-added.ensures.len in
-    let put : c.insert-added.new.self.items ≡ insert order (leading (is_earlier ops (stamp_of op)) order) (length ops) = cc (items, place, c.len.ensures, c.self.inside.ops.ok.0) in
+    let items = rw (c.deref.ensures.value, c.stamp.ensures) at c.insert.ensures.items in
+    let put : c.insert.new.self.items ≡ insert order (leading (is_earlier ops (stamp_of op)) order) (length ops) = cc (items, c.len-place.ensures, c.self.inside.ops.ok.0) in
     let now = kept_seen ops order op c.self.invariant.within c.self.invariant.log.falling in
     let wrap : List Operation → Result (List Operation) Fault = λ log. Ok log in (
       ap (pushed op) (sym seen) ∙ push_new op set sound new free ∙ ap wrap (rw (c.push_reserved.ensures.items, put) (sym now)),
-      omega (arith, kept, one, len, c.push_reserved.ensures.len, c.push_reserved.ensures.capacity, c.insert-added.ensures.capacity, c.raise.ensures.capacity, c.raise.ensures.len),
+      omega (arith, kept, one, c.insert.ensures.room, c.push_reserved.ensures.len, c.push_reserved.ensures.capacity, c.raise.ensures.capacity, c.raise.ensures.len),
     )

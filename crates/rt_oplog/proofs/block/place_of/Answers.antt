@@ -1,7 +1,7 @@
 use Rattle.std.proofs.Common.{rules}
 use Rattle.std.proofs.lemmas.List.Sorted.{IsPartitionPoint-from_clause}
 use Rattle.rt_oplog.proofs.Places.{is_earlier, partitioned, leading_is}
-use Rattle.rt_oplog.proofs.log.place_of.Goals as goal
+use Rattle.rt_oplog.proofs.block.place_of.Goals as goal
 
 pub returns-clause-place : goal.returns-clause-place
 returns-clause-place c =

@@ -1,0 +1,42 @@
+use Rattle.std.proofs.Common.{◌≡◌, ◌<◌, ◌∙◌, sym, ap, subst, length, arith}
+use Rattle.std.specs.Prelude.{slice_get}
+use Rattle.std.proofs.lemmas.Option.{slice_get_past}
+use Rattle.rt_oplog.specs.Logs.{IsFalling}
+use Rattle.rt_oplog.specs.Kept.{newest_first, leading}
+use Rattle.rt_oplog.specs.Blocks.{all_pass, in_blocks}
+use Rattle.rt_oplog.proofs.Places.{is_earlier}
+use Rattle.rt_oplog.proofs.InBlocks.{falling_block, leading_at, leading_none, leading_within, place_at}
+use Rattle.rt_oplog.proofs.blocks.find.Goals as goal
+
+pub returns-then-before-blocks : goal.returns-then-before-blocks
+returns-then-before-blocks c =
+    let bs = c.args.blocks.now in
+    let p = is_earlier c.args.ops.now c.args.stamp in
+    let all : leading (all_pass p) bs ≡ length bs = omega (arith, c.blocks_before-before.ensures.blocks, c.if-before-blocks.true) in
+    sym (ap (slice_get (in_blocks bs)) (leading_none p bs all) ∙ slice_get_past (in_blocks bs) (length (in_blocks bs)) (omega arith))
+
+pub place_of-at-requires : goal.place_of-at-requires
+place_of-at-requires c =
+    subst (λ xs. IsFalling (newest_first c.args.ops.now xs)) (sym c.deref.ensures.value)
+    (falling_block c.args.ops.now c.args.blocks.now c.blocks_before-before.result c.index-blocks-before.result (omega (arith, c.blocks_before-before.ensures.within, c.if-before-blocks.false)) c.index-blocks-before.is c.requires)
+
+pub index-requires : goal.index-requires
+index-requires c =
+    let bs = c.args.blocks.now in
+    let i = c.blocks_before-before.result in
+    let p = is_earlier c.args.ops.now c.args.stamp in
+    let l : i < length bs = omega (arith, c.blocks_before-before.ensures.within, c.if-before-blocks.false) in
+    let at : c.place_of-at.result ≡ leading p c.index-blocks-before.result.places.items = rw c.deref.ensures.value at c.place_of-at.ensures.place in
+    omega (arith, at, leading_within p bs i c.index-blocks-before.result c.blocks_before-before.ensures.blocks l c.index-blocks-before.is)
+
+pub returns : goal.returns
+returns c =
+    let bs = c.args.blocks.now in
+    let i = c.blocks_before-before.result in
+    let b = c.index-blocks-before.result in
+    let p = is_earlier c.args.ops.now c.args.stamp in
+    let l : i < length bs = omega (arith, c.blocks_before-before.ensures.within, c.if-before-blocks.false) in
+    let at : c.place_of-at.result ≡ leading p b.places.items = rw c.deref.ensures.value at c.place_of-at.ensures.place in
+    let within = leading_within p bs i b c.blocks_before-before.ensures.blocks l c.index-blocks-before.is in
+    sym (ap (slice_get (in_blocks bs)) (leading_at p bs i b c.blocks_before-before.ensures.blocks l c.index-blocks-before.is ∙ omega (arith, at))
+    ∙ place_at bs i c.place_of-at.result c.index.result.now b l c.index-blocks-before.is (omega (arith, at, within)) c.index.ensures)

@@ -1,0 +1,82 @@
+// Blocks of places.
+ghost use Rattle.std.specs.Prelude.{◌≡◌, ◌+◌, ◌-◌, ◌<◌, ◌≤◌, [], ◌∷◌, ◌++◌, length, slice_index_or, vec_len, vec_capacity};
+ghost use Rattle.std.specs.List.{insert};
+ghost use Rattle.rt_stamps.specs.Stamps.{is_before};
+ghost use Rattle.rt_oplog.specs.Operations.{stamp_of};
+ghost use Rattle.rt_oplog.specs.Logs.{IsFalling};
+ghost use Rattle.rt_oplog.specs.Kept.{op_at, newest_first, leading};
+ghost use Rattle.rt_oplog.specs.Spares.{IsSpare};
+
+use crate::Op;
+use rt_stamps::{ROOT, Stamp};
+
+/// Places that stand next to each other, at least one and at most 512.
+#[derive(Drop)]
+pub(crate) struct Block {
+    pub places: Vec<usize>,
+    ghost some: { 0 < vec_len places },
+    ghost few: { vec_len places ≤ 512 },
+    ghost wide: { 512 ≤ vec_capacity places },
+}
+
+/// Whether the operation of a place is before a stamp.
+fn is_earlier(ops: &[Op], place: usize, stamp: Stamp) -> bool
+    ensures { result ≡ is_before (stamp_of (op_at ops.now place)) stamp }
+{
+    match ops.get(place) {
+        Some(op) => op.stamp() < stamp,
+        None => ROOT < stamp,
+    }
+}
+
+/// How many operations are before a stamp.
+pub(crate) fn place_of(ops: &[Op], order: &[usize], stamp: Stamp) -> usize
+    requires { IsFalling (newest_first ops.now order.now) }
+    ensures place { result ≡ leading (λ place. is_before (stamp_of (op_at ops.now place)) stamp) order.now }
+    ensures within { result ≤ length order.now }
+{
+    order.partition_point(|place| is_earlier(ops, *place, stamp))
+}
+
+impl Block {
+    /// A place that stands alone so far.
+    pub(crate) fn one(spare: Vec<usize>, place: usize) -> Block
+        requires { IsSpare spare }
+        ensures { result.places.items ≡ place ∷ [] }
+    {
+        let mut places = spare;
+        places.push_reserved(place);
+        Block { places }
+    }
+
+    /// Whether the operation of the last place is before a stamp.
+    pub(crate) fn is_before(&self, ops: &[Op], stamp: Stamp) -> bool
+        ensures { result ≡ is_before (stamp_of (op_at ops.now (slice_index_or self.now.places.items (length self.now.places.items - 1) 0))) stamp }
+    {
+        is_earlier(ops, self.places[self.places.len() - 1], stamp)
+    }
+
+    /// Puts a place in, where there is room.
+    pub(crate) fn put(&mut self, at: usize, place: usize)
+        requires within { at ≤ vec_len self.old.places }
+        requires room { vec_len self.old.places < 512 }
+        ensures items { self.new.places.items ≡ insert self.old.places.items at place }
+        ensures len { vec_len self.new.places ≡ vec_len self.old.places + 1 }
+    {
+        let _ = self.places.insert(at, place);
+    }
+
+    /// What stands in the second half becomes a block of its own.
+    pub(crate) fn split_off(&mut self, spare: Vec<usize>) -> Block
+        requires spare { IsSpare spare }
+        requires full { vec_len self.old.places ≡ 512 }
+        ensures items { self.old.places.items ≡ self.new.places.items ++ result.places.items }
+        ensures front { vec_len self.new.places ≡ 256 }
+        ensures back { vec_len result.places ≡ 256 }
+    {
+        let mut later = spare;
+        let _ = later.extend_from_slice(&self.places[256..]);
+        self.places.truncate(256);
+        Block { places: later }
+    }
+}

@@ -1,0 +1,245 @@
+// Places in blocks.
+ghost use Rattle.std.specs.Prelude.{◌≡◌, ◌+◌, ◌-◌, ◌<◌, ◌≤◌, ◌∷◌, ◌++◌, [], length, take, slice_get, Some, slice_index_or, vec_len, vec_capacity, IfOk};
+ghost use Rattle.std.specs.Bool.{OnTrue, OnFalse};
+ghost use Rattle.std.specs.List.{insert};
+ghost use Rattle.rt_stamps.specs.Stamps.{is_before};
+ghost use Rattle.rt_oplog.specs.Operations.{stamp_of};
+ghost use Rattle.rt_oplog.specs.Logs.{IsFalling};
+ghost use Rattle.rt_oplog.specs.Kept.{op_at, newest_first, leading};
+ghost use Rattle.rt_oplog.specs.declared.block.Block.{Block};
+ghost use Rattle.rt_oplog.specs.Spares.{AreSpare, IsSpare};
+ghost use Rattle.rt_oplog.specs.Blocks.{AreHalfFull, IsFull, all_pass, in_blocks, places_before, room_of};
+
+use crate::Op;
+use crate::block::{Block, place_of};
+use rt_stamps::Stamp;
+use std::alloc::{AllocError, Global};
+
+/// How many blocks stand in front, all of whose operations are before a stamp.
+fn blocks_before(ops: &[Op], blocks: &[Block], stamp: Stamp) -> usize
+    requires { IsFalling (newest_first ops.now (in_blocks blocks.now)) }
+    ensures blocks { result ≡ leading (all_pass (λ place. is_before (stamp_of (op_at ops.now place)) stamp)) blocks.now }
+    ensures within { result ≤ length blocks.now }
+{
+    blocks.partition_point(|block| block.is_before(ops, stamp))
+}
+
+/// The first place whose operation is not before a stamp.
+pub(crate) fn find(ops: &[Op], blocks: &[Block], stamp: Stamp) -> Option<usize>
+    requires { IsFalling (newest_first ops.now (in_blocks blocks.now)) }
+    ensures { result ≡ slice_get (in_blocks blocks.now) (leading (λ place. is_before (stamp_of (op_at ops.now place)) stamp) (in_blocks blocks.now)) }
+{
+    let before = blocks_before(ops, blocks, stamp);
+    if before == blocks.len() {
+        return None;
+    }
+    let block = &blocks[before];
+    let at = place_of(ops, &block.places, stamp);
+    Some(block.places[at])
+}
+
+/// The place that stands at a number.
+pub(crate) fn get(blocks: &[Block], at: usize) -> usize
+    requires { at < length (in_blocks blocks.now) }
+    ensures { slice_get (in_blocks blocks.now) at ≡ Some result }
+{
+    let mut left = at;
+    for block in blocks {
+        if left < block.places.len() {
+            return block.places[left];
+        }
+        left -= block.places.len();
+    }
+    0
+}
+
+/// The places in one list, of which there are so many.
+pub(crate) fn flat(alloc: Global, blocks: &[Block], len: usize) -> Result<Vec<usize>, AllocError>
+    ensures { IfOk result (λ places. places.items ≡ in_blocks blocks.now) }
+{
+    let mut places = Vec::with_capacity(alloc, len)?;
+    for block in blocks {
+        places.extend_from_slice(&block.places)?;
+    }
+    Ok(places)
+}
+
+/// A block to be.
+fn take_spare(spare: &mut Vec<Vec<usize>>) -> Vec<usize>
+    requires spares { AreSpare spare.old.items }
+    requires left { 0 < vec_len spare.old }
+    ensures spare { IsSpare result }
+    ensures spares { AreSpare spare.new.items }
+    ensures left { vec_len spare.new + 1 ≡ vec_len spare.old }
+{
+    spare.pop().unwrap()
+}
+
+/// Puts a block in, where there is room.
+fn insert_block(blocks: &mut Vec<Block>, at: usize, block: Block)
+    requires within { at ≤ vec_len blocks.old }
+    requires room { vec_len blocks.old < vec_capacity blocks.old }
+    ensures items { blocks.new.items ≡ insert blocks.old.items at block }
+    ensures len { vec_len blocks.new ≡ vec_len blocks.old + 1 }
+    ensures capacity { vec_capacity blocks.new ≡ vec_capacity blocks.old }
+{
+    let _ = blocks.insert(at, block);
+}
+
+/// Puts a place into a block, where there is room.
+fn put_in(blocks: &mut Vec<Block>, block: usize, at: usize, place: usize)
+    requires block { block < vec_len blocks.old }
+    requires within { (d : Block) → at ≤ vec_len (slice_index_or blocks.old.items block d).places }
+    requires room { (d : Block) → vec_len (slice_index_or blocks.old.items block d).places < 512 }
+    requires half { AreHalfFull blocks.old.items }
+    ensures items { in_blocks blocks.new.items ≡ insert (in_blocks blocks.old.items) (places_before blocks.old.items block + at) place }
+    ensures half { AreHalfFull blocks.new.items }
+    ensures len { vec_len blocks.new ≡ vec_len blocks.old }
+    ensures capacity { vec_capacity blocks.new ≡ vec_capacity blocks.old }
+{
+    blocks[block].put(at, place);
+}
+
+/// A full block becomes two.
+fn split(blocks: &mut Vec<Block>, block: usize, spare: Vec<usize>)
+    requires block { block < vec_len blocks.old }
+    requires full { (d : Block) → vec_len (slice_index_or blocks.old.items block d).places ≡ 512 }
+    requires spare { IsSpare spare }
+    requires free { vec_len blocks.old < vec_capacity blocks.old }
+    requires half { AreHalfFull blocks.old.items }
+    ensures items { in_blocks blocks.new.items ≡ in_blocks blocks.old.items }
+    ensures front { take block blocks.new.items ≡ take block blocks.old.items }
+    ensures one { (d : Block) → vec_len (slice_index_or blocks.new.items block d).places ≡ 256 }
+    ensures other { (d : Block) → vec_len (slice_index_or blocks.new.items (block + 1) d).places ≡ 256 }
+    ensures half { AreHalfFull blocks.new.items }
+    ensures len { vec_len blocks.new ≡ vec_len blocks.old + 1 }
+    ensures capacity { vec_capacity blocks.new ≡ vec_capacity blocks.old }
+{
+    let later = blocks[block].split_off(spare);
+    insert_block(blocks, block + 1, later);
+}
+
+/// Puts a place into a block. A full one becomes two first.
+fn put_at(
+    blocks: &mut Vec<Block>,
+    spare: &mut Vec<Vec<usize>>,
+    block: usize,
+    at: usize,
+    place: usize,
+)
+    requires block { block < vec_len blocks.old }
+    requires within { (d : Block) → at ≤ vec_len (slice_index_or blocks.old.items block d).places }
+    requires half { AreHalfFull blocks.old.items }
+    requires spares { AreSpare spare.old.items }
+    requires free { vec_len blocks.old + vec_len spare.old ≤ vec_capacity blocks.old }
+    requires room { 0 < room_of (vec_len spare.old) (vec_len blocks.old) (length (in_blocks blocks.old.items)) }
+    ensures items { in_blocks blocks.new.items ≡ insert (in_blocks blocks.old.items) (places_before blocks.old.items block + at) place }
+    ensures half { AreHalfFull blocks.new.items }
+    ensures spares { AreSpare spare.new.items }
+    ensures left { vec_len spare.old ≤ vec_len spare.new + 1 }
+    ensures len { vec_len blocks.new + vec_len spare.new ≡ vec_len blocks.old + vec_len spare.old }
+    ensures capacity { vec_capacity blocks.new ≡ vec_capacity blocks.old }
+{
+    if blocks[block].places.len() < 512 {
+        put_in(blocks, block, at, place);
+        return;
+    }
+    let later = take_spare(spare);
+    split(blocks, block, later);
+    if at <= 256 {
+        put_in(blocks, block, at, place);
+    } else {
+        put_in(blocks, block + 1, at - 256, place);
+    }
+}
+
+/// Puts a place into a block, behind those whose operations are before a stamp.
+fn insert_at(
+    ops: &[Op],
+    blocks: &mut Vec<Block>,
+    spare: &mut Vec<Vec<usize>>,
+    block: usize,
+    stamp: Stamp,
+    place: usize,
+)
+    requires falling { IsFalling (newest_first ops.now (in_blocks blocks.old.items)) }
+    requires block { block ≡ leading (all_pass (λ p. is_before (stamp_of (op_at ops.now p)) stamp)) blocks.old.items }
+    requires within { block < vec_len blocks.old }
+    requires half { AreHalfFull blocks.old.items }
+    requires spares { AreSpare spare.old.items }
+    requires free { vec_len blocks.old + vec_len spare.old ≤ vec_capacity blocks.old }
+    requires room { 0 < room_of (vec_len spare.old) (vec_len blocks.old) (length (in_blocks blocks.old.items)) }
+    ensures items { in_blocks blocks.new.items
+        ≡ insert (in_blocks blocks.old.items) (leading (λ p. is_before (stamp_of (op_at ops.now p)) stamp) (in_blocks blocks.old.items)) place }
+    ensures half { AreHalfFull blocks.new.items }
+    ensures spares { AreSpare spare.new.items }
+    ensures left { vec_len spare.old ≤ vec_len spare.new + 1 }
+    ensures len { vec_len blocks.new + vec_len spare.new ≡ vec_len blocks.old + vec_len spare.old }
+    ensures capacity { vec_capacity blocks.new ≡ vec_capacity blocks.old }
+{
+    let at = place_of(ops, &blocks[block].places, stamp);
+    put_at(blocks, spare, block, at, place);
+}
+
+/// Puts a place behind all others. Where the last block is full, it begins one.
+pub(crate) fn append(blocks: &mut Vec<Block>, spare: &mut Vec<Vec<usize>>, place: usize)
+    requires half { AreHalfFull blocks.old.items }
+    requires spares { AreSpare spare.old.items }
+    requires free { vec_len blocks.old + vec_len spare.old ≤ vec_capacity blocks.old }
+    requires room { 0 < room_of (vec_len spare.old) (vec_len blocks.old) (length (in_blocks blocks.old.items)) }
+    ensures items { in_blocks blocks.new.items ≡ in_blocks blocks.old.items ++ place ∷ [] }
+    ensures half { AreHalfFull blocks.new.items }
+    ensures spares { AreSpare spare.new.items }
+    ensures left { vec_len spare.old ≤ vec_len spare.new + 1 }
+    ensures len { vec_len blocks.new + vec_len spare.new ≡ vec_len blocks.old + vec_len spare.old }
+    ensures capacity { vec_capacity blocks.new ≡ vec_capacity blocks.old }
+{
+    let count = blocks.len();
+    if is_full(blocks) {
+        let rest = take_spare(spare);
+        insert_block(blocks, count, Block::one(rest, place));
+    } else {
+        let at = blocks[count - 1].places.len();
+        put_in(blocks, count - 1, at, place);
+    }
+}
+
+/// Whether the last block is full, if there is one.
+fn is_full(blocks: &[Block]) -> bool
+    ensures full { OnTrue result (IsFull blocks.now) }
+    ensures free { OnFalse result ((0 < length blocks.now) × ((d : Block) → vec_len (slice_index_or blocks.now (length blocks.now - 1) d).places < 512)) }
+{
+    match blocks.last() {
+        Some(block) => block.places.len() == 512,
+        None => true,
+    }
+}
+
+/// Puts a place in behind those whose operations are before a stamp.
+pub(crate) fn insert_in(
+    ops: &[Op],
+    blocks: &mut Vec<Block>,
+    spare: &mut Vec<Vec<usize>>,
+    stamp: Stamp,
+    place: usize,
+)
+    requires falling { IsFalling (newest_first ops.now (in_blocks blocks.old.items)) }
+    requires half { AreHalfFull blocks.old.items }
+    requires spares { AreSpare spare.old.items }
+    requires free { vec_len blocks.old + vec_len spare.old ≤ vec_capacity blocks.old }
+    requires room { 0 < room_of (vec_len spare.old) (vec_len blocks.old) (length (in_blocks blocks.old.items)) }
+    ensures items { in_blocks blocks.new.items
+        ≡ insert (in_blocks blocks.old.items) (leading (λ p. is_before (stamp_of (op_at ops.now p)) stamp) (in_blocks blocks.old.items)) place }
+    ensures half { AreHalfFull blocks.new.items }
+    ensures spares { AreSpare spare.new.items }
+    ensures left { vec_len spare.old ≤ vec_len spare.new + 1 }
+    ensures len { vec_len blocks.new + vec_len spare.new ≡ vec_len blocks.old + vec_len spare.old }
+    ensures capacity { vec_capacity blocks.new ≡ vec_capacity blocks.old }
+{
+    let block = blocks_before(ops, blocks, stamp);
+    if block == blocks.len() {
+        append(blocks, spare, place);
+    } else {
+        insert_at(ops, blocks, spare, block, stamp, place);
+    }
+}
