@@ -16,7 +16,7 @@ use Rattle.rt_text.specs.Accepted.{view_after}
 use Rattle.rt_text.specs.Commands.{deleted, inserted, insertion_place, names_in, replaced, with_pieces_at, with_range_replaced, without_ranges}
 use Rattle.rt_text.specs.Index.{index_check, place_at_index}
 use Rattle.rt_text.specs.Ranges.{ranges_of}
-use Rattle.rt_text.specs.Widgets.{Viewed, begin_of, in_text, length_shown, shown_by, text_shown, widget_of}
+use Rattle.rt_text.specs.Widgets.{Viewed, begin_of, in_text, length_shown, selections_of, shown_by, text_shown, widget_of}
 use Rattle.rt_editing.proofs.Growing.{Grows, grows_by, grows_drafts, grows_same, grows_with}
 
 -- CHECKS
@@ -44,7 +44,7 @@ put_grows : (view : Viewed) (place : ℕ) (pieces : List Piece) (rest : Word) �
 put_grows view place pieces rest =
     grows_drafts view.doc.site
     (insertion_drafts MOST_CHARACTERS view.doc.site (left_of view.doc.cells (in_text view place)) (left_neighbour (shown_by view) place) (right_neighbour (shown_by view) place) pieces rest
-    (record { cells = []; count = view.doc.count; sel = view.own.sel; others = view.others; tags = view.doc.tags })) view.doc.log
+    (record { cells = []; count = view.doc.count; sel = view.own.sel; others = selections_of view.others; tags = view.doc.tags })) view.doc.log
 
 without_grows : (view : Viewed) (ranges : List Range) → Grows view.doc.log (without_ranges view ranges).doc.log
 without_grows view ranges = grows_drafts view.doc.site (delete_drafts MOST_SPANS view.doc (loss_in (text_shown view) (begin_of view) ranges)) view.doc.log

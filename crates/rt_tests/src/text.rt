@@ -2,13 +2,13 @@
 ghost use Rattle.std.specs.Prelude.{◌≡◌};
 ghost use Rattle.rt_tags.specs.Tags.{IsName};
 
-use rt_edits::{Piece, Range, Selection};
+use rt_edits::{Piece, Range};
 use rt_marks::Gravity;
 use rt_oplog::Op;
 use rt_stamps::limits::GREATEST_COUNT;
 use rt_stamps::{FINAL, Fault, Position, Site, Span, Stamp};
 use rt_store::ListStore;
-use rt_text::{Doc, OwnMark, View, Widget};
+use rt_text::{OwnMark, View};
 use std::alloc::Global;
 use std::marker::Model;
 use std::process::Abort;
@@ -42,16 +42,27 @@ impl Page {
         Ok(Page { view })
     }
 
-    // A page whose site has two other widgets, which have selected these.
-    fn beside(alloc: Global, first: &[Stamp], second: &[Stamp]) -> Result<Page, Fail> {
-        let site = Site::new(1).ok_or("a site")?;
-        let store = ListStore::new(alloc)?;
-        let doc = Doc::new(alloc, store, site, 20_000)?;
-        let mut others = Vec::new(alloc);
-        others.push(Selection::of(alloc, first)?)?;
-        others.push(Selection::of(alloc, second)?)?;
-        let view = View::of(alloc, doc, Widget::new(alloc), others);
-        Ok(Page { view })
+    // A page whose site has two other widgets.
+    fn beside(alloc: Global) -> Result<Page, Fail> {
+        let mut page = Page::new(alloc)?;
+        page.view.add_widget()?;
+        page.view.add_widget()?;
+        Ok(page)
+    }
+
+    // Lets another widget command, and this one take its place.
+    fn exchange(&mut self, other: usize) {
+        if other < self.view.others() {
+            self.view.exchange(other);
+        }
+    }
+
+    // Selects characters in another widget.
+    fn select_in(&mut self, other: usize, ranges: &[Range]) -> Result<(), Fault> {
+        self.exchange(other);
+        self.view.write_tag(true, "sel", ranges)?;
+        self.exchange(other);
+        Ok(())
     }
 
     // Another site takes a tag off the last newline, which never had it, with a count behind which so
@@ -123,12 +134,25 @@ impl Page {
         Ok(())
     }
 
-    // Whether the two other widgets have the character of a stamp selected.
-    fn selected(&self, stamp: Stamp) -> Option<(bool, bool)> {
-        match self.view.others() {
-            [first, second] => Some((first.has(stamp), second.has(stamp))),
-            _ => None,
-        }
+    // Where the insertion cursor of another widget stands.
+    fn cursor_in(&mut self, other: usize) -> usize {
+        self.exchange(other);
+        let place = self.view.widget().place(OwnMark::Insert);
+        self.exchange(other);
+        place
+    }
+
+    // Whether another widget has the character of a stamp selected.
+    fn selected_in(&mut self, other: usize, stamp: Stamp) -> bool {
+        self.exchange(other);
+        let selected = self.view.widget().selection().has(stamp);
+        self.exchange(other);
+        selected
+    }
+
+    // Whether the two other widgets have it selected.
+    fn selected(&mut self, stamp: Stamp) -> (bool, bool) {
+        (self.selected_in(0, stamp), self.selected_in(1, stamp))
     }
 
     fn has_tag(&self, name: &str) -> bool {
@@ -302,21 +326,25 @@ fn stamp(count: u64) -> Stamp {
 fn selected_in_other_widgets(rt: HostRuntime) -> Result<(), Fail> {
     let alloc = rt.alloc();
     let listed = [piece(alloc, "Z", &["sel"])?];
-    let mut page = Page::beside(alloc, &[stamp(1), stamp(2)], &[stamp(1)])?;
+    let mut page = Page::beside(alloc)?;
     page.insert("1.0", "ab")?;
+    page.select_in(0, &[Range { from: 0, to: 2 }])?;
+    page.select_in(1, &[Range { from: 0, to: 1 }])?;
     page.insert("1.1", "X")?;
-    assert_eq!(rt; page.selected(stamp(3)), Some((true, false)));
+    assert_eq!(rt; page.selected(stamp(3)), (true, false));
     assert_eq!(rt; page.next_tagged("sel", 0), None);
     page.insert_pieces("1.1", &listed)?;
-    assert_eq!(rt; page.selected(stamp(3)), Some((true, false)));
-    assert_eq!(rt; page.selected(stamp(4)), Some((false, false)));
+    assert_eq!(rt; page.selected(stamp(3)), (true, false));
+    assert_eq!(rt; page.selected(stamp(4)), (false, false));
     tagged(&rt, &page, &[("sel", 0, 1, 2)]);
     Ok(())
 }
 
-// Types `ab`, puts two tags on all of the text, and selects the last newline.
+// Types `ab`, puts two tags on all of the text, and selects the last newline, in one of the other
+// widgets too, which has the `a` selected beside.
 fn type_tagged(page: &mut Page) -> Result<(), Fault> {
     page.insert("1.0", "ab")?;
+    page.select_in(0, &[Range { from: 0, to: 1 }, Range { from: 2, to: 3 }])?;
     page.write_tag(true, "t", &[Range { from: 0, to: 3 }])?;
     page.write_tag(true, "u", &[Range { from: 0, to: 3 }])?;
     page.write_tag(true, "sel", &[Range { from: 2, to: 3 }])
@@ -324,14 +352,14 @@ fn type_tagged(page: &mut Page) -> Result<(), Fault> {
 
 // Such a page, whose last newline is selected in one of the other widgets too.
 fn page_with_tags(alloc: Global) -> Result<Page, Fail> {
-    let mut page = Page::beside(alloc, &[FINAL, stamp(1)], &[])?;
+    let mut page = Page::beside(alloc)?;
     type_tagged(&mut page)?;
     Ok(page)
 }
 
 // Such a page whose site has so many counts left.
 fn page_of_counts(alloc: Global, counts: u64) -> Result<Page, Fail> {
-    let mut page = Page::beside(alloc, &[FINAL, stamp(1)], &[])?;
+    let mut page = Page::beside(alloc)?;
     page.leave_counts(alloc, counts.saturating_add(4))?;
     type_tagged(&mut page)?;
     Ok(page)
@@ -347,8 +375,8 @@ fn the_last_newline_loses_its_tags(rt: HostRuntime) -> Result<(), Fail> {
     assert_eq!(rt; page.get("1.0", "end")?.as_str(), "a\n");
     tagged(&rt, &page, &[("t", 0, 0, 1), ("u", 0, 0, 1)]);
     assert_eq!(rt; page.next_tagged("sel", 0), None);
-    assert_eq!(rt; page.selected(FINAL), Some((false, false)));
-    assert_eq!(rt; page.selected(stamp(1)), Some((true, false)));
+    assert_eq!(rt; page.selected(FINAL), (false, false));
+    assert_eq!(rt; page.selected(stamp(1)), (true, false));
     assert!(rt; page.has_tag("t") && page.has_tag("u"));
     Ok(())
 }
@@ -382,8 +410,8 @@ fn counts_of_the_last_newline(rt: HostRuntime) -> Result<(), Fail> {
     assert_eq!(rt; page.get("1.0", "end")?.as_str(), "a\n");
     tagged(&rt, &page, &[("t", 0, 0, 1), ("u", 0, 0, 1)]);
     assert_eq!(rt; page.next_tagged("sel", 0), None);
-    assert_eq!(rt; page.selected(FINAL), Some((false, false)));
-    assert_eq!(rt; page.selected(stamp(1)), Some((true, false)));
+    assert_eq!(rt; page.selected(FINAL), (false, false));
+    assert_eq!(rt; page.selected(stamp(1)), (true, false));
     assert_eq!(rt; page.insert("1.0", "c"), Err(Fault::ClockSpent));
     Ok(())
 }
@@ -399,7 +427,36 @@ fn too_few_counts_for_the_last_newline(rt: HostRuntime) -> Result<(), Fail> {
     assert_eq!(rt; page.next_untagged("t", 0), None);
     assert_eq!(rt; page.next_untagged("u", 0), None);
     assert_eq!(rt; page.next_tagged("sel", 0), Some(2));
-    assert_eq!(rt; page.selected(FINAL), Some((true, false)));
+    assert_eq!(rt; page.selected(FINAL), (true, false));
     assert_eq!(rt; page.insert("1.0", "cd"), Ok(()));
+    Ok(())
+}
+
+// Where the insertion cursor of the widget that commands stands, and those of the two others.
+fn cursors(page: &mut Page) -> (usize, usize, usize) {
+    let own = page.view.widget().place(OwnMark::Insert);
+    (own, page.cursor_in(0), page.cursor_in(1))
+}
+
+// The insertion cursor of each widget moves with every edit; one that is set leaves the others.
+#[test]
+fn marks_of_other_widgets(rt: HostRuntime) -> Result<(), Fail> {
+    let alloc = rt.alloc();
+    let mut page = Page::beside(alloc)?;
+    page.insert("1.0", "abcdef")?;
+    assert_eq!(rt; cursors(&mut page), (6, 6, 6));
+    page.set("insert", "1.1")?;
+    page.exchange(0);
+    page.set("insert", "1.4")?;
+    page.exchange(0);
+    assert_eq!(rt; cursors(&mut page), (1, 4, 6));
+    page.insert("1.2", "XY")?;
+    assert_eq!(rt; cursors(&mut page), (1, 6, 8));
+    delete_at(alloc, &mut page, &["1.0", "1.3"])?;
+    assert_eq!(rt; cursors(&mut page), (0, 3, 5));
+    page.view.replace("1.2", "1.4", &[], "pqr")?;
+    assert_eq!(rt; cursors(&mut page), (0, 5, 6));
+    page.exchange(1);
+    assert_eq!(rt; cursors(&mut page), (6, 5, 0));
     Ok(())
 }

@@ -1,6 +1,7 @@
 -- What a deletion gives, by its checks, and what it leaves of a document.
 use Rattle.std.proofs.Common.{◌≡◌, ℕ, ◌<◌, ◌≤◌, ◌⊎◌, inl, inr, List, [], ◌∷◌, ◌++◌, Bool, false, cond, length, map, refl, sym, ◌∙◌, ap, arith, subst, Some, None, Ok, Err, Option, Result, OnOk}
 use Rattle.std.specs.Prelude.{is_some}
+use Rattle.std.specs.List.{AllByRecursion}
 use Rattle.rt_marks.specs.Marks.{Mark, marks_left, place_left}
 use Rattle.rt_oplog.specs.Operations.{Body}
 use Rattle.rt_stamps.specs.declared.fault.Fault.{Fault}
@@ -32,11 +33,12 @@ use Rattle.rt_edits.proofs.Putting.{tagged_state}
 use Rattle.rt_edits.proofs.StateChanges.{text_changed}
 use Rattle.rt_text.specs.Index.{index_check, place_at_index}
 use Rattle.rt_text.specs.Ranges.{ranges_of}
-use Rattle.rt_text.specs.Widgets.{Own, AreSiteMarks, IsOwnOf, Viewed, widget_of, own_left}
+use Rattle.rt_text.specs.Widgets.{Own, AreSiteMarks, IsOwnOf, Viewed, widget_of, own_left, reselected}
 use Rattle.rt_text.specs.Commands.{clock_check, deleted, without_ranges}
 use Rattle.rt_text.proofs.MadeDocument.{seen, seen_made, counts_alone, clock_fits}
 use Rattle.rt_text.proofs.ViewLaws.{viewed}
 use Rattle.rt_text.proofs.MarkLaws.{length_gone, own_of_left, site_left}
+use Rattle.rt_text.proofs.PeerLaws.{each_by}
 
 -- two facts of a result that is Ok
 pub both_ok : {T E A B C : Type 0} (r : Result T E) → (A → B → C) → OnOk r A → OnOk r B → OnOk r C
@@ -80,9 +82,13 @@ deleted_index view indices fault found (inr e) f =
 abbrev pub last_off : Bool → List Stamp → List Stamp
 last_off held selection = cond held (unselected (FINAL ∷ []) selection) selection
 
-pub map_same : (others : List (List Stamp)) → map (last_off false) others ≡ others
+pub map_same : (others : List Own) → map (reselected (last_off false)) others ≡ others
 map_same [] = refl
-map_same (s ∷ others) = ap (λ l. s ∷ l) (map_same others)
+map_same (own ∷ others) = ap (λ l. own ∷ l) (map_same others)
+
+-- a widget after a deletion
+abbrev pub widget_left : (ℕ → Bool) → Bool → Own → Own
+widget_left removed held own = reselected (last_off held) (own_left removed own)
 
 -- WHAT A DELETION LEAVES
 
@@ -150,14 +156,14 @@ module _ (flat : Flat) (ranges : List Range) where
         ∙ seen_made flat edited drafts_of new log cells site limit (ap (λ (f : Flat). f.limit) deletion_rest) (loss_made flat.site flat.log flat (loss_of flat ranges) positive h doc spared count)
 
   -- the edit, by the places that go and whether the last newline is held
-  pub deletion_edited : (doc : Flat) (own : Own) (others : List (List Stamp)) (removed : ℕ → Bool) (held : Bool) → doc ≡ logged flat drafts_of left_of
+  pub deletion_edited : (doc : Flat) (own : Own) (others : List Own) (removed : ℕ → Bool) (held : Bool) → doc ≡ logged flat drafts_of left_of
       → ((p : ℕ) → removed p ≡ removed_of p) → held ≡ is_some (loss_of flat ranges).newline
-      → without_ranges (viewed flat own others) ranges ≡ record { doc = doc; own = record (own_left removed own) { sel = last_off held own.sel }; others = map (last_off held) others }
+      → without_ranges (viewed flat own others) ranges ≡ record { doc = doc; own = widget_left removed held own; others = map (widget_left removed held) others }
   deletion_edited doc own others removed held made places e =
       λ i. record {
         doc = sym made i;
-        own = record (own_left (λ p. sym (places p) i) own) { sel = last_off (sym e i) own.sel };
-        others = map (last_off (sym e i)) others;
+        own = widget_left (λ p. sym (places p) i) (sym e i) own;
+        others = map (widget_left (λ p. sym (places p) i) (sym e i)) others;
       }
 
   -- marks stay in the text that is left
@@ -175,3 +181,9 @@ module _ (flat : Flat) (ranges : List Range) where
       let n = length (text_of flat.cells) in
       subst (λ m. IsOwnOf m (own_left removed own)) (sym deletion_length)
       (subst (IsOwnOf (place_left removed_of n)) (λ i. own_left (λ p. sym (places p) i) own) (own_of_left n removed_of own spared h))
+
+  -- and of each other one's
+  pub deletion_others : (others : List Own) (removed : ℕ → Bool) (held : Bool) → ((p : ℕ) → removed p ≡ removed_of p) → AllByRecursion (IsOwnOf (length (text_of flat.cells))) others
+      → AllByRecursion (IsOwnOf (length (text_of left_of.cells))) (map (widget_left removed held) others)
+  deletion_others others removed held places h =
+      each_by (IsOwnOf (length (text_of flat.cells))) (IsOwnOf (length (text_of left_of.cells))) (widget_left removed held) (λ own k. deletion_own own removed places k) others h

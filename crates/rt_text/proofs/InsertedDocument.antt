@@ -1,5 +1,6 @@
 -- A document after an insertion at a place, which its replica made.
 use Rattle.std.proofs.Common.{◌≡◌, ◌∙◌, ℕ, ◌+◌, ◌<◌, ◌≤◌, All, List, [], ◌∷◌, length, map, None, refl, string_bytes, sym, ap, arith, subst, IsUtf8}
+use Rattle.std.specs.List.{AllByRecursion}
 use Rattle.std.proofs.lemmas.List.{get_or-map, length-map}
 use Rattle.std.proofs.lemmas.List.Elements.{All-append, All-head, All-nil, All-tail}
 use Rattle.rt_marks.specs.Marks.{marks_inserted}
@@ -34,10 +35,11 @@ use Rattle.rt_edits.proofs.PieceDraftLaws.{insertion_counted, insertion_made, in
 use Rattle.rt_edits.proofs.PremiseLaws.{may_begin, pieces_are}
 use Rattle.rt_text.specs.Commands.{cell_check, clock_check, names_in, with_pieces_at}
 use Rattle.rt_text.specs.Kept.{IsDoc}
-use Rattle.rt_text.specs.Widgets.{AreSiteMarks, IsOwnOf, Own, Viewed, own_inserted}
+use Rattle.rt_text.specs.Widgets.{AreSiteMarks, IsOwnOf, Own, Viewed, own_inserted, selections_of, with_selections}
 use Rattle.rt_text.proofs.ListedText.{IsAmong, ListsAll, insertion_lists, insertion_tags, left_among, listed_put, names_of_all, text_among}
 use Rattle.rt_text.proofs.MadeDocument.{both_fit, refusal_is}
 use Rattle.rt_text.proofs.MarkLaws.{length_put, own_of_inserted, site_inserted}
+use Rattle.rt_text.proofs.PeerLaws.{each_by, each_selecting}
 use Rattle.rt_text.proofs.PutLaws.{insertion_in, late_checks, put_length, start_of}
 use Rattle.rt_text.proofs.ViewLaws.{place_whole, viewed}
 
@@ -49,7 +51,7 @@ pieces_named (piece ∷ pieces) h =
 unmapped : {X Y : Type 0} (P : Y → Type 0) (f : X → Y) (xs : List X) → All P (map f xs) → All (λ x. P (f x)) xs
 unmapped P f xs h = λ k d lt. subst P (get_or-map f xs k d (f d) lt) (h k (f d) (omega (arith, length-map xs f, lt)))
 
-module _ (flat : Flat) (own : Own) (others : List (List Stamp)) (place : ℕ) (pieces : List Piece) (rest : Word) where
+module _ (flat : Flat) (own : Own) (others : List Own) (place : ℕ) (pieces : List Piece) (rest : Word) where
   -- the operations, and the new cells with what else the insertion comes to
   abbrev pub made_drafts : List Body
   made_drafts = insertion_drafts MOST_CHARACTERS flat.site (left_of flat.cells place) (left_neighbour (visible_of flat.cells) place) (right_neighbour (visible_of flat.cells) place) pieces rest (start_of flat own others)
@@ -78,34 +80,35 @@ module _ (flat : Flat) (own : Own) (others : List (List Stamp)) (place : ℕ) (p
           tags = made_new.tags;
         });
     own = record (own_inserted at (length made_new.cells) own) { sel = made_new.sel };
-    others = made_new.others;
+    others = with_selections made_new.others (map (own_inserted at (length made_new.cells)) others);
   }
 
   pub put_made : with_pieces_at (viewed flat own others) place pieces rest
-      ≡ record { doc = logged flat made_drafts made_flat; own = record (own_inserted place (length made_new.cells) own) { sel = made_new.sel }; others = made_new.others }
+      ≡ record { doc = logged flat made_drafts made_flat; own = record (own_inserted place (length made_new.cells) own) { sel = made_new.sel };
+      others = with_selections made_new.others (map (own_inserted place (length made_new.cells)) others) }
   put_made = ap put_from (place_whole (viewed flat own others) place)
 
   -- a plan on a site, a count and a selection that are the document's and the widget's
   pub drafts_are : (site count : ℕ) (sel : List Stamp) (drafts : List Body) → site ≡ flat.site → count ≡ flat.count → sel ≡ own.sel
       → drafts ≡ insertion_drafts MOST_CHARACTERS site (left_of flat.cells place) (left_neighbour (visible_of flat.cells) place) (right_neighbour (visible_of flat.cells) place) pieces rest
-      (record { cells = []; count = count; sel = sel; others = others; tags = flat.tags })
+      (record { cells = []; count = count; sel = sel; others = selections_of others; tags = flat.tags })
       → drafts ≡ made_drafts
   drafts_are site count sel drafts s n e d =
       d ∙ (λ i. insertion_drafts MOST_CHARACTERS (s i) (left_of flat.cells place) (left_neighbour (visible_of flat.cells) place) (right_neighbour (visible_of flat.cells) place) pieces rest
-      (record { cells = []; count = n i; sel = e i; others = others; tags = flat.tags }))
+      (record { cells = []; count = n i; sel = e i; others = selections_of others; tags = flat.tags }))
 
   pub new_is : (site count : ℕ) (sel : List Stamp) → site ≡ flat.site → count ≡ flat.count → sel ≡ own.sel
-      → insertion_of site (left_neighbour (visible_of flat.cells) place) (right_neighbour (visible_of flat.cells) place) pieces rest (record { cells = []; count = count; sel = sel; others = others; tags = flat.tags }) ≡ made_new
+      → insertion_of site (left_neighbour (visible_of flat.cells) place) (right_neighbour (visible_of flat.cells) place) pieces rest (record { cells = []; count = count; sel = sel; others = selections_of others; tags = flat.tags }) ≡ made_new
   new_is site count sel s n e =
-      λ i. insertion_of (s i) (left_neighbour (visible_of flat.cells) place) (right_neighbour (visible_of flat.cells) place) pieces rest (record { cells = []; count = n i; sel = e i; others = others; tags = flat.tags })
+      λ i. insertion_of (s i) (left_neighbour (visible_of flat.cells) place) (right_neighbour (visible_of flat.cells) place) pieces rest (record { cells = []; count = n i; sel = e i; others = selections_of others; tags = flat.tags })
 
   pub plans_are : (plan : Plan) (site count : ℕ) (sel : List Stamp) → site ≡ flat.site → count ≡ flat.count → sel ≡ own.sel
-      → Plans plan sel others flat.tags
-      (insertion_of site (left_neighbour (visible_of flat.cells) place) (right_neighbour (visible_of flat.cells) place) pieces rest (record { cells = []; count = count; sel = sel; others = others; tags = flat.tags }))
-      → Plans plan own.sel others flat.tags made_new
-  plans_are plan site count sel s n e h = subst (λ (p : _). p) (λ i. Plans plan (e i) others flat.tags (new_is site count sel s n e i)) h
+      → Plans plan sel (selections_of others) flat.tags
+      (insertion_of site (left_neighbour (visible_of flat.cells) place) (right_neighbour (visible_of flat.cells) place) pieces rest (record { cells = []; count = count; sel = sel; others = selections_of others; tags = flat.tags }))
+      → Plans plan own.sel (selections_of others) flat.tags made_new
+  plans_are plan site count sel s n e h = subst (λ (p : _). p) (λ i. Plans plan (e i) (selections_of others) flat.tags (new_is site count sel s n e i)) h
 
-module _ (flat : Flat) (own : Own) (others : List (List Stamp)) (place : ℕ) (pieces : List Piece) (rest : Word) (history : IsHistory flat.log) (doc : IsDocument flat.site flat.log flat) where
+module _ (flat : Flat) (own : Own) (others : List Own) (place : ℕ) (pieces : List Piece) (rest : Word) (history : IsHistory flat.log) (doc : IsDocument flat.site flat.log flat) where
   -- MAKING IT
 
   begins : place < length (text_of flat.cells) → All IsPiece pieces → IsUtf8 rest
@@ -171,7 +174,18 @@ module _ (flat : Flat) (own : Own) (others : List (List Stamp)) (place : ℕ) (p
   own_made are listed is =
       subst (λ (n : ℕ). IsOwnOf n (record (own_inserted place (length (made_new flat own others place pieces rest).cells) own) { sel = (made_new flat own others place pieces rest).sel })) (sym (text_more are listed)) (own_of_inserted (length (text_of flat.cells)) place (length (made_new flat own others place pieces rest).cells) own is)
 
-  pub names_given : (plan : Plan) → Plans plan own.sel others flat.tags (made_new flat own others place pieces rest) → All IsPiece pieces → AreListed flat.tags flat.cells → All (λ w. IsName (string_bytes w)) plan.names.items
+  -- the other widgets stand in it too
+  pub others_made : All IsPiece pieces → AreListed flat.tags flat.cells → AllByRecursion (IsOwnOf (length (text_of flat.cells))) others
+      → AllByRecursion (IsOwnOf (length (text_of (made_flat flat own others place pieces rest).cells)))
+      (with_selections (made_new flat own others place pieces rest).others (map (own_inserted place (length (made_new flat own others place pieces rest).cells)) others))
+  others_made are listed h =
+      let n = length (text_of flat.cells) in
+      let k = length (made_new flat own others place pieces rest).cells in
+      subst (λ (m : ℕ). AllByRecursion (IsOwnOf m) (with_selections (made_new flat own others place pieces rest).others (map (own_inserted place k) others))) (sym (text_more are listed))
+      (each_selecting (n + k) (made_new flat own others place pieces rest).others (map (own_inserted place k) others)
+      (each_by (IsOwnOf n) (IsOwnOf (n + k)) (own_inserted place k) (λ other stands. own_of_inserted n place k other stands) others h))
+
+  pub names_given : (plan : Plan) → Plans plan own.sel (selections_of others) flat.tags (made_new flat own others place pieces rest) → All IsPiece pieces → AreListed flat.tags flat.cells → All (λ w. IsName (string_bytes w)) plan.names.items
   names_given plan plans are listed =
       let names = map (λ w. string_bytes w) plan.names.items in
       unmapped IsName (λ w. string_bytes w) plan.names.items (names_of_all names flat.tags (subst (All IsName) (sym plans.tags) (lists (pieces_named pieces are) listed).names))

@@ -5,6 +5,7 @@ pub mod ChangedMarks
 pub mod Checks
 pub mod DeletionLaws
 pub mod Deletions
+pub mod ExchangeLaws
 pub mod FollowingLaws
 pub mod InsertedDocument
 pub mod KeptDocument
@@ -12,6 +13,7 @@ pub mod ListedText
 pub mod MadeDocument
 pub mod MarkLaws
 pub mod MovingLaws
+pub mod PeerLaws
 pub mod PlannedReplacement
 pub mod PlannedReversion
 pub mod PutLaws

@@ -35,7 +35,7 @@ use Rattle.rt_edits.proofs.PlaceLaws.{length_text, text_within}
 use Rattle.rt_edits.proofs.RestLaws.{left_shown}
 use Rattle.rt_text.specs.Commands.{with_range_replaced}
 use Rattle.rt_text.specs.Replacements.{drafts_at, insertion_at, left_by, loss_at, none_inserted}
-use Rattle.rt_text.specs.Widgets.{Own, Viewed, length_shown}
+use Rattle.rt_text.specs.Widgets.{Own, Viewed, length_shown, selections_of}
 use Rattle.rt_text.proofs.Deletions.{deletion_rest}
 use Rattle.rt_text.proofs.PutLaws.{visible_same}
 use Rattle.rt_text.proofs.Replacements.{IsBetween, deletion_count, is_between, of_any, sel_kept, shown_left}
@@ -105,7 +105,7 @@ module _ (table : TagStates) (kept : List (Cell ℕ)) (flat : Flat) (cells : map
         sym (length-map drafts body_of) ∙ ap length e ∙ ap (λ t. length (delete_drafts MOST_SPANS flat (loss_in t 0 (range ∷ [])))) same_text in
         deletion_count flat (loss_at flat range) h doc ∙ ap (λ n. flat.count + n) (sym many)
 
-    module _ (own : Own) (others : List (List Stamp)) (held : Bool) (place : ℕ) (l r : Option (Cell ℕ)) (real : 0 < flat.site) (is : held ≡ is_some (loss_in (text_of kept) 0 (range ∷ [])).newline)
+    module _ (own : Own) (others : List Own) (held : Bool) (place : ℕ) (l r : Option (Cell ℕ)) (real : 0 < flat.site) (is : held ≡ is_some (loss_in (text_of kept) 0 (range ∷ [])).newline)
         (at : place ≡ min range.from (place_left (is_covered removed) (length (visible_of kept) - 1))) (a : l ≡ left_neighbour (visible_of (gone_at (is_covered removed) 0 kept)) place)
         (b : r ≡ cond held None (right_neighbour (visible_of (gone_at (is_covered removed) 0 kept)) place)) where
       abbrev left : Viewed
@@ -148,15 +148,15 @@ module _ (table : TagStates) (kept : List (Cell ℕ)) (flat : Flat) (cells : map
         site_is : site ≡ left.doc.site
         site_is = s ∙ sym (ap (λ (f : Flat). f.site) (deletion_rest flat (range ∷ [])))
 
-        inserting_is : inserting left.own.sel left.others left.doc.tags ≡ insertion_at left place pieces rest
+        inserting_is : inserting left.own.sel (selections_of left.others) left.doc.tags ≡ insertion_at left place pieces rest
         inserting_is =
-            (λ i. insertion_of (site_is i) (option_map (shown table) l) (option_map (shown table) r) pieces rest (record { cells = []; count = n i; sel = left.own.sel; others = left.others; tags = left.doc.tags }))
+            (λ i. insertion_of (site_is i) (option_map (shown table) l) (option_map (shown table) r) pieces rest (record { cells = []; count = n i; sel = left.own.sel; others = selections_of left.others; tags = left.doc.tags }))
             ∙ (between pieces rest).insertion
 
-        drafting_is : drafting left.own.sel left.others left.doc.tags ≡ drafts_at left place pieces rest
+        drafting_is : drafting left.own.sel (selections_of left.others) left.doc.tags ≡ drafts_at left place pieces rest
         drafting_is =
             (λ i. insertion_drafts MOST_CHARACTERS (site_is i) (stamp_same table l i) (option_map (shown table) l) (option_map (shown table) r) pieces rest
-            (record { cells = []; count = n i; sel = left.own.sel; others = left.others; tags = left.doc.tags }))
+            (record { cells = []; count = n i; sel = left.own.sel; others = selections_of left.others; tags = left.doc.tags }))
             ∙ (between pieces rest).drafts
 
         pub at_left : place ≡ min range.from (length_shown left - 1)
@@ -165,17 +165,17 @@ module _ (table : TagStates) (kept : List (Cell ℕ)) (flat : Flat) (cells : map
         -- counts that are too great are so in the whole edit
         pub too_great : (most : ℕ) → ((x : List Stamp) (y : List (List Stamp)) (z : List Word) → IfSome r (λ cell. x ≡ sel) → most < (inserting x y z).count) → most < (with_range_replaced (viewed flat own others) range pieces rest).doc.count
         too_great most f =
-            let here : most < (insertion_at left place pieces rest).count = subst (λ (x : Insertion). most < x.count) inserting_is (f left.own.sel left.others left.doc.tags (selected sel e)) in
+            let here : most < (insertion_at left place pieces rest).count = subst (λ (x : Insertion). most < x.count) inserting_is (f left.own.sel (selections_of left.others) left.doc.tags (selected sel e)) in
             subst (λ p. most < (insertion_at left p pieces rest).count) at_left here
 
         pub plan_is : (plan : Plan) → ((x : List Stamp) (y : List (List Stamp)) (z : List Word) → IfSome r (λ cell. x ≡ sel) → Plans plan x y z (inserting x y z))
-            → Plans plan left.own.sel left.others left.doc.tags (insertion_at left place pieces rest)
-        plan_is plan f = subst (Plans plan left.own.sel left.others left.doc.tags) inserting_is (f left.own.sel left.others left.doc.tags (selected sel e))
+            → Plans plan left.own.sel (selections_of left.others) left.doc.tags (insertion_at left place pieces rest)
+        plan_is plan f = subst (Plans plan left.own.sel (selections_of left.others) left.doc.tags) inserting_is (f left.own.sel (selections_of left.others) left.doc.tags (selected sel e))
 
         pub drafts_are : (deletes more all : List Edit) → map body_of deletes ≡ delete_drafts MOST_SPANS flat (loss_in (text_of kept) 0 (range ∷ []))
             → ((x : List Stamp) (y : List (List Stamp)) (z : List Word) → IfSome r (λ cell. x ≡ sel) → map body_of more ≡ drafting x y z) → all ≡ deletes ++ more
             → map body_of all ≡ delete_drafts MOST_SPANS flat (loss_at flat range) ++ drafts_at left place pieces rest
         drafts_are deletes more all d f g =
             let first : map body_of deletes ≡ delete_drafts MOST_SPANS flat (loss_at flat range) = d ∙ ap (λ t. delete_drafts MOST_SPANS flat (loss_in t 0 (range ∷ []))) same_text in
-            let second : map body_of more ≡ drafts_at left place pieces rest = f left.own.sel left.others left.doc.tags (selected sel e) ∙ drafting_is in
+            let second : map body_of more ≡ drafts_at left place pieces rest = f left.own.sel (selections_of left.others) left.doc.tags (selected sel e) ∙ drafting_is in
             ap (map body_of) g ∙ map-append body_of deletes more ∙ (λ i. first i ++ second i)

@@ -7,14 +7,12 @@ use Rattle.std.proofs.lemmas.List.{drop_more, map-append}
 use Rattle.std.proofs.lemmas.List.Elements.{All-get_or, All-more, All-weaker}
 use Rattle.rt_stamps.specs.declared.fault.Fault.{Fault}
 use Rattle.rt_stamps.specs.declared.fault.Fault.TheVariants.{BadName, NoMemory}
-use Rattle.rt_stamps.specs.declared.stamp.Stamp.{Stamp}
 use Rattle.rt_stamps.specs.Outcomes.{first_of}
 use Rattle.rt_stamps.specs.Words.{Word}
 use Rattle.rt_tags.specs.Tags.{AlsoReady, IsName, Tags, is_ready, with_name}
 use Rattle.rt_tags.proofs.Places.{clash, name_itself}
 use Rattle.rt_stamps.specs.Names.{name_check}
 use Rattle.rt_text.specs.Commands.{names_in}
-use Rattle.rt_edits.specs.InsertionPlans.{selected_between}
 use Rattle.rt_edits.specs.Insertions.{Piece, all_listed}
 use Rattle.rt_edits.proofs.PlanLaws.{pieces_from}
 
@@ -84,11 +82,7 @@ pub at_ok : {P : Type 0} (r : Result (Unit {0}) Fault) → IsOk r → OnOk r P �
 at_ok (Ok x) h p = p
 at_ok (Err fault) h p = let bad : ⊥ = cc in absurd bad
 
--- SELECTIONS
-
-pub none_between : (others : List (List Stamp)) → map (selected_between None) others ≡ others
-none_between [] = refl
-none_between (s ∷ others) = ap (λ l. s ∷ l) (none_between others)
+-- RESULTS
 
 -- what holds anyway holds where a call is done
 pub anyway : {P X : Type 0} (r : Result X Fault) → P → OnOk r P

@@ -1,10 +1,10 @@
 -- A document after a replacement, which its replica made.
-use Rattle.std.proofs.Common.{◌≡◌, ◌∙◌, ℕ, ◌+◌, ◌-◌, ◌^◌, ◌<◌, ◌≤◌, ◌++◌, All, IsUtf8, List, [], ◌∷◌, cond, min, None, Some, Option, length, refl, string_bytes, sym, ap, arith, subst}
-use Rattle.std.specs.Prelude.{nat_lt}
+use Rattle.std.proofs.Common.{◌≡◌, ◌∙◌, ℕ, ◌+◌, ◌-◌, ◌^◌, ◌<◌, ◌≤◌, ◌++◌, All, IsUtf8, List, [], ◌∷◌, cond, min, None, Some, Option, length, map, refl, string_bytes, sym, ap, arith, subst}
+use Rattle.std.specs.Prelude.{is_some, nat_lt}
+use Rattle.std.specs.List.{AllByRecursion}
 use Rattle.rt_stamps.specs.declared.fault.Fault.{Fault}
 use Rattle.rt_stamps.specs.declared.fault.Fault.TheVariants.{ClockSpent, TextFull}
 use Rattle.rt_stamps.specs.declared.limits.TheConstants.{GREATEST_COUNT, MOST_CELLS, MOST_SPANS}
-use Rattle.rt_stamps.specs.declared.stamp.Stamp.{Stamp}
 use Rattle.rt_stamps.specs.Outcomes.{first_of}
 use Rattle.rt_stamps.specs.Words.{Word}
 use Rattle.rt_marks.specs.Marks.{marks_left}
@@ -39,10 +39,10 @@ use Rattle.rt_tags.specs.Tags.{IsName}
 use Rattle.rt_text.specs.Commands.{cell_check, clock_check, with_pieces_at, with_range_replaced, without_ranges}
 use Rattle.rt_text.specs.Kept.{IsDoc}
 use Rattle.rt_text.specs.Replacements.{left_by, loss_at}
-use Rattle.rt_text.specs.Widgets.{AreSiteMarks, IsOwnOf, Own, Viewed, length_shown, own_inserted}
+use Rattle.rt_text.specs.Widgets.{AreSiteMarks, IsOwnOf, Own, Viewed, length_shown, own_inserted, selections_of, with_selections}
 use Rattle.rt_text.proofs.DeletionLaws.{deletion_listed}
-use Rattle.rt_text.proofs.Deletions.{deletion_own, deletion_placed, deletion_rest}
-use Rattle.rt_text.proofs.InsertedDocument.{all_fit, kept_made, made_drafts, made_flat, made_is, made_new, may_make, names_given, own_made, put_made, refused_as}
+use Rattle.rt_text.proofs.Deletions.{deletion_others, deletion_own, deletion_placed, deletion_rest}
+use Rattle.rt_text.proofs.InsertedDocument.{all_fit, kept_made, made_drafts, made_flat, made_is, made_new, may_make, names_given, others_made, own_made, put_made, refused_as}
 use Rattle.rt_text.proofs.MadeDocument.{seen, seen_made}
 use Rattle.rt_text.proofs.PutLaws.{late_checks}
 use Rattle.rt_text.proofs.ViewLaws.{viewed}
@@ -60,7 +60,7 @@ refused_behind limit site deletes more log none same =
     omega (arith, characters_append deletes more, none, same) in
     λ i. refusal_by limit (count i) (cells i)
 
-module _ (flat : Flat) (own : Own) (others : List (List Stamp)) (range : Range) (h : IsHistory flat.log) (doc : IsDocument flat.site flat.log flat) (real : 0 < flat.site)
+module _ (flat : Flat) (own : Own) (others : List Own) (range : Range) (h : IsHistory flat.log) (doc : IsDocument flat.site flat.log flat) (real : 0 < flat.site)
     (fits : (without_text flat (loss_at flat range)).count ≤ GREATEST_COUNT) where
   abbrev deletes : List Body
   deletes = delete_drafts MOST_SPANS flat (loss_at flat range)
@@ -107,6 +107,9 @@ module _ (flat : Flat) (own : Own) (others : List (List Stamp)) (range : Range) 
   pub rest_own : IsOwnOf (length (text_of flat.cells)) own → IsOwnOf (length (text_of rest_of.doc.cells)) rest_of.own
   rest_own is = deletion_own flat (range ∷ []) own (loss_at flat range).places (λ p. refl) is
 
+  pub rest_others : AllByRecursion (IsOwnOf (length (text_of flat.cells))) others → AllByRecursion (IsOwnOf (length (text_of rest_of.doc.cells))) rest_of.others
+  rest_others h = deletion_others flat (range ∷ []) others (loss_at flat range).places (is_some (loss_at flat range).newline) (λ p. refl) h
+
   -- both in turn may be made
   pub both_may : (more : List Body) → MayBeMade rest_of.doc.site rest_of.doc.log more → MayBeMade flat.site flat.log (deletes ++ more)
   both_may more may =
@@ -137,7 +140,7 @@ module _ (flat : Flat) (own : Own) (others : List (List Stamp)) (range : Range) 
 -- THE WHOLE REPLACEMENT
 
 -- a replacement of a document of a history, where the counts of the deletion fit
-pub record IsReplacement (flat : Flat) (own : Own) (others : List (List Stamp)) (range : Range) (place : ℕ) (pieces : List Piece) (rest : Word) : Type 0 where
+pub record IsReplacement (flat : Flat) (own : Own) (others : List Own) (range : Range) (place : ℕ) (pieces : List Piece) (rest : Word) : Type 0 where
   pub history : IsHistory flat.log
   pub document : IsDocument flat.site flat.log flat
   pub real : 0 < flat.site
@@ -146,7 +149,7 @@ pub record IsReplacement (flat : Flat) (own : Own) (others : List (List Stamp)) 
   pub texts : All IsPiece pieces
   pub utf8 : IsUtf8 rest
 
-module _ (flat : Flat) (own : Own) (others : List (List Stamp)) (range : Range) (place : ℕ) (pieces : List Piece) (rest : Word) (i : IsReplacement flat own others range place pieces rest) where
+module _ (flat : Flat) (own : Own) (others : List Own) (range : Range) (place : ℕ) (pieces : List Piece) (rest : Word) (i : IsReplacement flat own others range place pieces rest) where
   abbrev left : Viewed
   left = left_by (viewed flat own others) range
 
@@ -175,7 +178,8 @@ module _ (flat : Flat) (own : Own) (others : List (List Stamp)) (range : Range) 
   within : place < length (text_of left.doc.cells)
   within = omega (arith, i.at, rest_some flat own others range i.history i.document i.real i.fits)
 
-  pub replaced_is : edited ≡ record { doc = logged left.doc more_drafts more_flat; own = record (own_inserted place (length more_new.cells) left.own) { sel = more_new.sel }; others = more_new.others }
+  pub replaced_is : edited ≡ record { doc = logged left.doc more_drafts more_flat; own = record (own_inserted place (length more_new.cells) left.own) { sel = more_new.sel };
+      others = with_selections more_new.others (map (own_inserted place (length more_new.cells)) left.others) }
   replaced_is = ap (λ p. with_pieces_at left p pieces rest) (sym i.at) ∙ put_made left.doc left.own left.others place pieces rest
 
   pub all_may : MayBeMade flat.site flat.log all_drafts
@@ -204,7 +208,10 @@ module _ (flat : Flat) (own : Own) (others : List (List Stamp)) (range : Range) 
   pub own_left_in : IsOwnOf (length (text_of flat.cells)) own → IsOwnOf (length (text_of left.doc.cells)) left.own
   own_left_in is = rest_own flat own others range i.history i.document i.real i.fits is
 
-  pub given_names : (plan : Plan) → Plans plan left.own.sel left.others left.doc.tags more_new → IsDoc flat.cells flat.marks flat.tags → All (λ w. IsName (string_bytes w)) plan.names.items
+  pub others_left_in : AllByRecursion (IsOwnOf (length (text_of flat.cells))) others → AllByRecursion (IsOwnOf (length (text_of left.doc.cells))) left.others
+  others_left_in h = rest_others flat own others range i.history i.document i.real i.fits h
+
+  pub given_names : (plan : Plan) → Plans plan left.own.sel (selections_of left.others) left.doc.tags more_new → IsDoc flat.cells flat.marks flat.tags → All (λ w. IsName (string_bytes w)) plan.names.items
   given_names plan plans kept =
       names_given left.doc left.own left.others place pieces rest history_left document_left plan plans i.texts (rest_listed flat own others range i.history i.document i.real i.fits kept.listed)
 
@@ -223,6 +230,11 @@ module _ (flat : Flat) (own : Own) (others : List (List Stamp)) (range : Range) 
       → IsOwnOf (length (text_of more_flat.cells)) (record (own_inserted place (length more_new.cells) left.own) { sel = more_new.sel })
   own_after kept is =
       own_made left.doc left.own left.others place pieces rest history_left document_left i.texts (rest_listed flat own others range i.history i.document i.real i.fits kept.listed) (own_left_in is)
+
+  pub others_after : IsDoc flat.cells flat.marks flat.tags → AllByRecursion (IsOwnOf (length (text_of flat.cells))) others
+      → AllByRecursion (IsOwnOf (length (text_of more_flat.cells))) (with_selections more_new.others (map (own_inserted place (length more_new.cells)) left.others))
+  others_after kept h =
+      others_made left.doc left.own left.others place pieces rest history_left document_left i.texts (rest_listed flat own others range i.history i.document i.real i.fits kept.listed) (others_left_in h)
 
   pub tags_left_are : left.doc.tags ≡ flat.tags
   tags_left_are = rest_tags flat own others range i.history i.document i.real i.fits

@@ -44,9 +44,9 @@ use Rattle.rt_edits.proofs.NewlineDrafts.{EndsAs, document_ends, length_ends}
 use Rattle.rt_edits.proofs.PieceDraftLaws.{apart_front}
 use Rattle.rt_text.specs.Commands.{without_ranges}
 use Rattle.rt_text.specs.Replacements.{drafts_at, insertion_at, loss_at, none_inserted}
-use Rattle.rt_text.specs.Widgets.{Own, Viewed, length_shown}
+use Rattle.rt_text.specs.Widgets.{Own, Viewed, length_shown, selections_of}
 use Rattle.rt_text.proofs.BareNewline.{IsBare, all_bare, bare_drafts, bare_insertion}
-use Rattle.rt_text.proofs.Deletions.{deletion_length, deletion_rest}
+use Rattle.rt_text.proofs.Deletions.{deletion_length, deletion_rest, widget_left}
 use Rattle.rt_text.proofs.MarkLaws.{length_gone}
 use Rattle.rt_text.proofs.MadeDocument.{document_written}
 use Rattle.rt_text.proofs.StayingPlaces.{left_small}
@@ -159,9 +159,9 @@ none_kept (s ∷ sel) = by (is_same FINAL s) refl (none_kept sel)
     by true e rest = rest
     by false e rest = or_from (is_same s FINAL) _ (same_sym s FINAL ∙ e) rest
 
-none_each : (others : List (List Stamp)) → AllByRecursion (λ selection. is_among selection FINAL ≡ false) (map (unselected (FINAL ∷ [])) others)
-none_each [] = tt
-none_each (s ∷ others) = (none_kept s, none_each others)
+none_each : (removed : ℕ → Bool) (others : List Own) → AllByRecursion (λ selection. is_among selection FINAL ≡ false) (selections_of (map (widget_left removed true) others))
+none_each removed [] = tt
+none_each removed (own ∷ others) = (none_kept own.sel, none_each removed others)
 
 pub of_any : {X : Type 0} (o : Option X) (P : Type 0) → P → IfSome o (λ x. P)
 of_any None P h = tt
@@ -169,7 +169,7 @@ of_any (Some x) P h = h
 
 -- WHAT THE DELETION LEAVES
 
-module _ (flat : Flat) (own : Own) (others : List (List Stamp)) (range : Range) where
+module _ (flat : Flat) (own : Own) (others : List Own) (range : Range) where
   abbrev loss : Loss
   loss = loss_at flat range
 
@@ -290,8 +290,8 @@ module _ (flat : Flat) (own : Own) (others : List (List Stamp)) (range : Range) 
         let whole = between_by pieces rest place l (Some new) same_left same_right in
         let positive : 0 < left.doc.site = subst (λ n. 0 < n) (sym site_left) real in
         let sel : is_among left.own.sel FINAL ≡ false = ap (λ b. is_among (cond b (unselected (FINAL ∷ []) own.sel) own.sel) FINAL) e ∙ none_kept own.sel in
-        let all : AllByRecursion (λ selection. is_among selection FINAL ≡ false) left.others =
-        subst (λ f. AllByRecursion (λ selection. is_among selection FINAL ≡ false) (map (λ s. cond f (unselected (FINAL ∷ []) s) s) others)) (sym e) (none_each others) in
+        let all : AllByRecursion (λ selection. is_among selection FINAL ≡ false) (selections_of left.others) =
+        subst (λ f. AllByRecursion (λ selection. is_among selection FINAL ≡ false) (selections_of (map (widget_left loss.places f) others))) (sym e) (none_each loss.places others) in
         record {
           insertion = ap (inserting pieces rest l) b ∙ bare_insertion left.doc.site l new pieces rest (none_inserted left) positive bare.1.stamp bare.1.off sel all ∙ whole.insertion;
           drafts = ap (drafting pieces rest l) b

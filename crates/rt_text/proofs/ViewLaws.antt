@@ -3,7 +3,6 @@ use Rattle.std.proofs.Common.{◌≡◌, ◌∙◌, ℕ, ◌+◌, Bool, true, fa
 use Rattle.std.specs.Str.{bytes_eq}
 use Rattle.std.proofs.lemmas.Bool.{cond-false, cond-true}
 use Rattle.rt_marks.specs.Marks.{Mark}
-use Rattle.rt_stamps.specs.declared.stamp.Stamp.{Stamp}
 use Rattle.rt_stamps.specs.Words.{Word}
 use Rattle.rt_store.specs.Shown.{TaggedCell}
 use Rattle.rt_edits.proofs.PlaceLaws.{places_from_start}
@@ -19,7 +18,7 @@ use Rattle.rt_text.specs.Commands.{with_tag_in}
 use Rattle.rt_text.specs.Widgets.{Own, Viewed, in_text, places_in_text, widget_of, widget_over}
 
 -- a document on which a widget works, beside others
-abbrev pub viewed : Flat → Own → List (List Stamp) → Viewed
+abbrev pub viewed : Flat → Own → List Own → Viewed
 viewed flat own others = record { doc = flat; own = own; others = others }
 
 -- a place is the same in the whole text

@@ -9,7 +9,7 @@ use Rattle.rt_rga.specs.Histories.{greatest_last_count, inserted}
 use Rattle.rt_rga.specs.Taken.{lists_of, place_in, takes_away}
 use Rattle.rt_edits.specs.Flat.{Flat}
 use Rattle.rt_edits.specs.Insertions.{all_listed}
-use Rattle.rt_text.specs.Widgets.{Own, Viewed, own_inserted, own_left}
+use Rattle.rt_text.specs.Widgets.{Own, Viewed, each_widget, own_inserted, own_left}
 
 -- A document with an operation that is new to it: the log gains it, and the cells are the log's. Marks move for the characters
 -- that it puts in and for those that it takes away, as they do for the site's own edits; the tags that it lists are listed.
@@ -24,7 +24,7 @@ with_new op flat =
       tags = all_listed (lists_of op.body) flat.tags;
     }
 
--- a widget's own marks move likewise; what it has selected stays so, and no new character is selected
+-- the own marks of each widget move likewise; what it has selected stays so, and no new character is selected
 abbrev pub own_with_new : Operation → Flat → Own → Own
 own_with_new op flat own = own_left (takes_away op.body flat.cells) (own_inserted (place_in op flat.cells) (length (inserted op)) own)
 
@@ -36,7 +36,7 @@ flat_after (Refused fault) op flat = flat
 
 -- and of a view of it
 abbrev pub view_after : Answer → Operation → Viewed → Viewed
-view_after New op view = record { doc = with_new op view.doc; own = own_with_new op view.doc view.own; others = view.others }
+view_after New op view = each_widget (own_with_new op view.doc) (record view { doc = with_new op view.doc })
 view_after Repeat op view = view
 view_after (Refused fault) op view = view
 

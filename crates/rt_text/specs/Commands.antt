@@ -29,7 +29,7 @@ use Rattle.rt_edits.specs.Removals.{cells_at, is_covered, stamps_at}
 use Rattle.rt_edits.specs.Selections.{unselected, selection_with}
 use Rattle.rt_edits.specs.TagDrafts.{deletion_drafts, tag_drafts_at}
 use Rattle.rt_edits.specs.TagWrites.{listed_if, with_tag_at, without_tags}
-use Rattle.rt_text.specs.Widgets.{Viewed, begin_of, in_text, last_newline, length_shown, own_inserted, own_left, places_in_text, shown_by, text_shown, widget_of}
+use Rattle.rt_text.specs.Widgets.{Viewed, begin_of, each_widget, in_text, last_newline, length_shown, own_inserted, own_left, places_in_text, reselected, selections_of, shown_by, text_shown, widget_of, with_selections}
 
 -- CHECKS
 
@@ -54,7 +54,7 @@ insertion_place w word = min (place_at_index w word) (length w.text - 1)
 -- EDITS
 
 -- pieces of text, and then characters without a list, before the character at a place: their cells stand directly after that of
--- the visible left neighbour, and all marks move for them
+-- the visible left neighbour, and all marks move for them, those of each widget too
 abbrev pub with_pieces_at : Viewed → ℕ → List Piece → Word → Viewed
 with_pieces_at view place pieces rest =
     let flat = view.doc in
@@ -62,8 +62,9 @@ with_pieces_at view place pieces rest =
     let left = left_neighbour (shown_by view) place in
     let right = right_neighbour (shown_by view) place in
     let after = left_of flat.cells at in
-    let start : Insertion = record { cells = []; count = flat.count; sel = view.own.sel; others = view.others; tags = flat.tags } in
+    let start : Insertion = record { cells = []; count = flat.count; sel = view.own.sel; others = selections_of view.others; tags = flat.tags } in
     let new = insertion_of flat.site left right pieces rest start in
+    let moved = each_widget (own_inserted at (length new.cells)) view in
     record {
       doc = logged flat (insertion_drafts MOST_CHARACTERS flat.site after left right pieces rest start) (record flat {
         cells = put_after flat.cells after new.cells;
@@ -71,8 +72,8 @@ with_pieces_at view place pieces rest =
         marks = marks_inserted at (length new.cells) flat.marks;
         tags = new.tags;
       });
-      own = record (own_inserted at (length new.cells) view.own) { sel = new.sel };
-      others = new.others;
+      own = record moved.own { sel = new.sel };
+      others = with_selections new.others moved.others;
     }
 
 -- a selection without the widget's last newline, where a deletion holds it
@@ -86,11 +87,8 @@ without_ranges view ranges =
     let flat = view.doc in
     let loss = loss_in (text_shown view) (begin_of view) ranges in
     let held = is_some loss.newline in
-    record {
-      doc = logged flat (delete_drafts MOST_SPANS flat loss) (without_text flat loss);
-      own = record (own_left loss.places view.own) { sel = last_unselected view held view.own.sel };
-      others = map (last_unselected view held) view.others;
-    }
+    each_widget (λ own. reselected (last_unselected view held) (own_left loss.places own))
+    (record view { doc = logged flat (delete_drafts MOST_SPANS flat loss) (without_text flat loss) })
 
 -- the characters that this takes, in the text's order
 abbrev pub lost_in : Viewed → List Range → List TaggedCell

@@ -13,7 +13,7 @@ use Rattle.rt_edits.specs.InsertionPlans.{Plans}
 use Rattle.rt_edits.specs.Insertions.{Insertion, Piece, insertion_of, left_neighbour, right_neighbour}
 use Rattle.rt_text.specs.declared.doc.replacing.Replacement.{Replacement}
 use Rattle.rt_text.specs.Commands.{without_ranges}
-use Rattle.rt_text.specs.Widgets.{Viewed, length_shown, shown_by}
+use Rattle.rt_text.specs.Widgets.{Viewed, length_shown, selections_of, shown_by}
 
 -- what the deletion of a range takes
 abbrev pub loss_at : Flat → Range → Loss
@@ -21,7 +21,7 @@ loss_at flat range = loss_in (text_of flat.cells) 0 (range ∷ [])
 
 -- nothing is inserted yet
 abbrev pub none_inserted : Viewed → Insertion
-none_inserted view = record { cells = []; count = view.doc.count; sel = view.own.sel; others = view.others; tags = view.doc.tags }
+none_inserted view = record { cells = []; count = view.doc.count; sel = view.own.sel; others = selections_of view.others; tags = view.doc.tags }
 
 -- an insertion before the character at a place, and its operations
 abbrev pub insertion_at : Viewed → ℕ → List Piece → Word → Insertion
@@ -42,5 +42,5 @@ left_by view range = without_ranges view (range ∷ [])
 pub record PlansReplacement (view : Viewed) (range : Range) (pieces : List Piece) (rest : Word) (r : Replacement) : Type 0 where
   pub place : r.place ≡ min range.from (length_shown (left_by view range) - 1)
   pub drafts : map body_of r.drafts.items ≡ delete_drafts MOST_SPANS view.doc (loss_at view.doc range) ++ drafts_at (left_by view range) r.place pieces rest
-  pub plan : Plans r.plan (left_by view range).own.sel (left_by view range).others (left_by view range).doc.tags
+  pub plan : Plans r.plan (left_by view range).own.sel (selections_of (left_by view range).others) (left_by view range).doc.tags
       (insertion_at (left_by view range) r.place pieces rest)

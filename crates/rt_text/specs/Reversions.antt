@@ -8,18 +8,18 @@ use Rattle.rt_edits.specs.Flat.{Flat}
 use Rattle.rt_undo.specs.Actions.{Action}
 use Rattle.rt_revert.specs.Reverting.{reversion, reverted}
 use Rattle.rt_text.specs.Commands.{cell_check, clock_check}
-use Rattle.rt_text.specs.Widgets.{Own, Viewed}
+use Rattle.rt_text.specs.Widgets.{Own, Viewed, each_widget}
 
 -- where a mark comes to stand when a group is reverted: where it would as the only mark of the document
 abbrev pub mark_reverted : Flat → List (Action (List Word)) → Mark → Mark
 mark_reverted flat group m = unwrap_or (slice_get (reversion (record flat { marks = m ∷ [] }) group).doc.marks 0) m
 
--- a widget's own marks move with the text as all marks do; what is selected stays so, and no character that comes back is selected
+-- the own marks of each widget move with the text as all marks do; what is selected stays so, and no character that comes back is selected
 abbrev pub own_reverted : Flat → List (Action (List Word)) → Own → Own
 own_reverted flat group own = record own { insert = mark_reverted flat group own.insert; current = mark_reverted flat group own.current }
 
 abbrev pub view_reverted : Viewed → List (Action (List Word)) → Viewed
-view_reverted view group = record view { doc = reverted view.doc group; own = own_reverted view.doc group view.own }
+view_reverted view group = each_widget (own_reverted view.doc group) (record view { doc = reverted view.doc group })
 
 -- why a group can't be reverted: its counts don't fit, or the cells of the document that it leaves
 abbrev pub reversion_check : Flat → List (Action (List Word)) → Option Fault

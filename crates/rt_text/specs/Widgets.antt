@@ -1,5 +1,5 @@
 -- A widget: its own marks, and what index expressions see of it.
-use Rattle.std.specs.Prelude.{◌≡◌, ℕ, ◌+◌, ◌-◌, ◌<◌, ◌≤◌, Bool, false, List, [], length, map, min, filter, Option, Some, None, is_some, option_map, option_and_then, if◌then◌else◌, codes}
+use Rattle.std.specs.Prelude.{◌≡◌, ℕ, ◌+◌, ◌-◌, ◌<◌, ◌≤◌, Bool, false, List, [], ◌∷◌, length, map, min, filter, Option, Some, None, is_some, option_map, option_and_then, if◌then◌else◌, codes}
 use Rattle.std.specs.Str.{bytes_eq}
 use Rattle.rt_index.specs.Widget.{Widget, Ends}
 use Rattle.rt_marks.specs.declared.gravity.Gravity.{Gravity}
@@ -109,11 +109,31 @@ mark_among own marks name = own_or (own_mark_of name) own (named name marks)
 
 -- WHAT A WIDGET SHOWS
 
--- a document as one of its site's widgets shows it: that widget, and what each other one has selected
+-- a document as one of its site's widgets shows it: that widget, which commands, and each other one
 pub record Viewed : Type 0 where
   pub doc : Flat
   pub own : Own
-  pub others : List (List Stamp)
+  pub others : List Own
+
+-- EACH WIDGET OF A SITE
+
+-- each of them by one rule
+abbrev pub each_widget : (Own → Own) → Viewed → Viewed
+each_widget rule view = record view { own = rule view.own; others = map rule view.others }
+
+-- a widget whose selection follows a rule
+abbrev pub reselected : (List Stamp → List Stamp) → Own → Own
+reselected rule own = record own { sel = rule own.sel }
+
+-- what each of some widgets has selected
+abbrev pub selections_of : List Own → List (List Stamp)
+selections_of widgets = map (λ own. own.sel) widgets
+
+-- widgets that have selected other characters, each those of its turn
+abbrev pub with_selections : List (List Stamp) → List Own → List Own
+with_selections selections [] = []
+with_selections [] (own ∷ widgets) = own ∷ widgets
+with_selections (selection ∷ selections) (own ∷ widgets) = record own { sel = selection } ∷ with_selections selections widgets
 
 -- The words by which commands speak of a widget's text: each command works as if what the widget shows were the whole text.
 

@@ -7,9 +7,10 @@ ghost use Rattle.rt_oplog.specs.Edits.{body_of};
 ghost use Rattle.rt_oplog.specs.Rules.{keeps_rules};
 ghost use Rattle.rt_rga.specs.Taken.{AreFallingRuns, is_in_runs, lists_of};
 ghost use Rattle.rt_edits.specs.Insertions.{all_listed};
+ghost use Rattle.rt_text.specs.Parts.{own_in};
 ghost use Rattle.rt_text.specs.Widgets.{own_inserted, own_left};
 
-use crate::Widget;
+use crate::parts::Parts;
 use crate::preparing::prepare_tags;
 use rt_edits::listing::prepare_if;
 use rt_marks::Marks;
@@ -62,14 +63,14 @@ pub(crate) fn follow(marks: &mut Marks, change: &Change)
     }
 }
 
-impl Widget {
+impl Parts {
     /// Moves its marks for a change of the text that an accepted operation told. The runs are those
     /// of a text before the operation, the last one first. It takes no memory.
-    pub fn follow(&mut self, change: &Change)
+    pub(crate) fn follow(&mut self, change: &Change)
         requires runs { (end : ℕ) × AreFallingRuns end change.now.removed.items }
         requires insert { self.old.insert.place + change.now.inserted ≤ usize.MAX }
         requires current { self.old.current.place + change.now.inserted ≤ usize.MAX }
-        ensures { self.new ≡ own_left (is_in_runs change.now.removed.items) (own_inserted change.now.place change.now.inserted self.old) }
+        ensures { own_in self.new ≡ own_left (is_in_runs change.now.removed.items) (own_inserted change.now.place change.now.inserted (own_in self.old)) }
     {
         self.inserted(change.place, change.inserted);
         for run in &change.removed {

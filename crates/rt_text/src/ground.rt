@@ -81,7 +81,7 @@ impl<'a, S: TextStore> Ground for WidgetGround<'a, S> {
             return None;
         }
         let widget = self.widget;
-        next_with(self.store, self.states, &widget.selection, name, true, 0)
+        next_with(self.store, self.states, &widget.parts.selection, name, true, 0)
     }
 
     fn tag_last(&self, name: &str) -> Option<usize> {
@@ -89,7 +89,7 @@ impl<'a, S: TextStore> Ground for WidgetGround<'a, S> {
             return None;
         }
         let widget = self.widget;
-        let last = last_with(self.store, self.states, &widget.selection, name)?;
+        let last = last_with(self.store, self.states, &widget.parts.selection, name)?;
         Some(last + 1)
     }
 

@@ -6,11 +6,14 @@ ghost use Rattle.rt_stamps.specs.Names.{name_check};
 ghost use Rattle.rt_text.specs.Commands.{names_in};
 ghost use Rattle.rt_edits.specs.DeletionLaws.{IsPiece};
 ghost use Rattle.rt_edits.specs.Insertions.{all_listed};
-ghost use Rattle.rt_edits.specs.InsertionPlans.{HaveRoom, selected_between};
+ghost use Rattle.rt_edits.specs.InsertionPlans.{selected_between};
 ghost use Rattle.rt_edits.specs.Selected.{room_in, stamps_in};
+ghost use Rattle.rt_text.specs.Widgets.{reselected};
+ghost use Rattle.rt_text.specs.Parts.{HaveRoomFor, own_in};
 
+use crate::others::{add_between, reserve_between};
+use crate::parts::Parts;
 use rt_edits::inserting::{Between, Plan};
-use rt_edits::selection::{add_between, reserve_between};
 use rt_edits::{Piece, Selection};
 use rt_stamps::Fault;
 use rt_tags::TagTable;
@@ -54,9 +57,9 @@ pub(crate) fn list_tags(table: &mut TagTable, names: &[String])
 }
 
 // Makes room for characters between two others in the selections that have both.
-fn reserve_others(others: &mut [Selection], between: &Option<Between>) -> Result<(), Fault>
-    ensures same { map stamps_in others.new ≡ map stamps_in others.old }
-    ensures room { OnOk result (HaveRoom between.now others.new) }
+fn reserve_others(others: &mut [Parts], between: &Option<Between>) -> Result<(), Fault>
+    ensures same { map own_in others.new ≡ map own_in others.old }
+    ensures room { OnOk result (HaveRoomFor between.now others.new) }
     ensures err { IfErr result (λ fault. fault ≡ Fault.NoMemory) }
 {
     match between {
@@ -66,9 +69,9 @@ fn reserve_others(others: &mut [Selection], between: &Option<Between>) -> Result
 }
 
 /// Selects characters between two others in the selections that have both. It takes no memory.
-pub(crate) fn select_between(others: &mut [Selection], between: &Option<Between>)
-    requires { HaveRoom between.now others.old }
-    ensures { map stamps_in others.new ≡ map (selected_between between.now) (map stamps_in others.old) }
+pub(crate) fn select_between(others: &mut [Parts], between: &Option<Between>)
+    requires { HaveRoomFor between.now others.old }
+    ensures { map own_in others.new ≡ map (reselected (selected_between between.now)) (map own_in others.old) }
 {
     match between {
         Some(between) => add_between(others, between.left, between.right, &between.stamps),
@@ -80,16 +83,16 @@ pub(crate) fn select_between(others: &mut [Selection], between: &Option<Between>
 pub(crate) fn make_room(
     tags: &mut TagTable,
     selection: &mut Selection,
-    others: &mut [Selection],
+    others: &mut [Parts],
     plan: &Plan,
 ) -> Result<(), Fault>
     requires { All (λ w. IsName (string_bytes w)) plan.now.names.items }
     ensures tags { tags.new.names ≡ tags.old.names }
     ensures selection { stamps_in selection.new ≡ stamps_in selection.old }
-    ensures others { map stamps_in others.new ≡ map stamps_in others.old }
+    ensures others { map own_in others.new ≡ map own_in others.old }
     ensures ready { OnOk result (All (λ w. is_ready (string_bytes w) tags.new ≡ true) plan.now.names.items) }
     ensures selects { OnOk result (length plan.now.selected.items ≤ room_in selection.new) }
-    ensures between { OnOk result (HaveRoom plan.now.between others.new) }
+    ensures between { OnOk result (HaveRoomFor plan.now.between others.new) }
     ensures err { IfErr result (λ fault. fault ≡ Fault.NoMemory) }
 {
     prepare_tags(tags, &plan.names)?;

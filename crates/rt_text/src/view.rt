@@ -1,9 +1,9 @@
 // A document as a widget shows it.
-ghost use Rattle.std.specs.Prelude.{◌≡◌, ◌≤◌, ◌∷◌, [], IfOk, IfErr, length, map};
+ghost use Rattle.std.specs.Prelude.{◌≡◌, ◌<◌, ◌≤◌, ◌∷◌, ◌++◌, [], IfOk, IfErr, OnOk, OnErr, Some, length, set, slice_get};
+ghost use Rattle.std.specs.List.{AllByRecursion};
 ghost use Rattle.rt_stamps.specs.declared.limits.TheConstants.{MOST_CELLS};
 ghost use Rattle.rt_store.specs.Cells.{final_cell, text_of};
 ghost use Rattle.rt_edits.specs.Flat.{new_flat};
-ghost use Rattle.rt_edits.specs.Selected.{stamps_in};
 ghost use Rattle.rt_text.specs.Widgets.{IsOwnOf, new_own};
 
 mod accepting;
@@ -16,33 +16,36 @@ mod replacing;
 mod reverting;
 mod tagging;
 
-use crate::{Doc, Selection, Widget};
+use crate::parts::Parts;
+use crate::{Doc, Widget};
 use rt_stamps::{Fault, Site};
 use rt_store::TextStore;
 use std::alloc::Global;
 use std::marker::Model;
 
-/// A document as one of its site's widgets shows it: what the commands of that widget work on. The
-/// site's other widgets are their selections.
+/// A document as one of its site's widgets shows it: what the commands of that widget work on. It keeps
+/// the site's other widgets too, in order: each edit moves their marks and their selections follow.
 #[derive(Drop)]
 pub struct View<S: TextStore> {
     alloc: Global,
     doc: Doc<S>,
     widget: Widget,
-    others: Vec<Selection>,
+    others: Vec<Parts>,
 }
 
 impl<S: TextStore> Model for View<S> {
     ghost use Rattle.std.specs.Prelude.{length, map};
+    ghost use Rattle.std.specs.List.{AllByRecursion};
     ghost use Rattle.rt_store.specs.Cells.{text_of};
-    ghost use Rattle.rt_edits.specs.Selected.{stamps_in};
+    ghost use Rattle.rt_text.specs.Parts.{own_in};
     ghost use Rattle.rt_text.specs.Widgets.{IsOwnOf, Viewed};
 
     ghost Value = { Viewed };
 
-    ghost view = { λ v. record { doc = v.doc; own = v.widget; others = map stamps_in v.others.items } };
+    ghost view = { λ v. record { doc = v.doc; own = v.widget; others = map own_in v.others.items } };
 
-    ghost invariant = { λ v. IsOwnOf (length (text_of v.doc.cells)) v.widget };
+    ghost invariant = { λ v. IsOwnOf (length (text_of v.doc.cells)) v.widget
+        × AllByRecursion (IsOwnOf (length (text_of v.doc.cells))) (map own_in v.others.items) };
 }
 
 impl<S: TextStore> View<S> {
@@ -55,19 +58,19 @@ impl<S: TextStore> View<S> {
         ensures err { IfErr result (λ fault. fault ≡ Fault.NoMemory) }
     {
         let doc = Doc::new(alloc, store, site, limit)?;
-        Ok(View::of(alloc, doc, Widget::new(alloc), Vec::new(alloc)))
+        Ok(View::of(alloc, doc, Widget::new(alloc)))
     }
 
-    /// A document as a widget of its site shows it, beside the selections of the others.
-    pub fn of(alloc: Global, doc: Doc<S>, widget: Widget, others: Vec<Selection>) -> View<S>
+    /// A document as the only widget of its site shows it.
+    pub fn of(alloc: Global, doc: Doc<S>, widget: Widget) -> View<S>
         requires { IsOwnOf (length (text_of doc.cells)) widget }
-        ensures { result ≡ record { doc = doc; own = widget; others = map stamps_in others.items } }
+        ensures { result ≡ record { doc = doc; own = widget; others = [] } }
     {
         View {
             alloc,
             doc,
             widget,
-            others,
+            others: Vec::new(alloc),
         }
     }
 
@@ -86,10 +89,32 @@ impl<S: TextStore> View<S> {
         &self.widget
     }
 
-    /// What the site's other widgets have selected.
-    pub fn others(&self) -> &[Selection]
-        ensures { map stamps_in result.now ≡ self.now.others }
+    /// How many other widgets the site has.
+    pub fn others(&self) -> usize
+        ensures count { result ≡ length self.now.others }
+        ensures stand { AllByRecursion (IsOwnOf (length (text_of self.now.doc.cells))) self.now.others }
     {
-        &self.others
+        self.others.len()
+    }
+
+    /// Adds a new widget behind the others, whose marks stand at the text's beginning. Want of memory, and
+    /// then nothing changes.
+    pub fn add_widget(&mut self) -> Result<(), Fault>
+        ensures ok { OnOk result (self.new ≡ record self.old { others = self.old.others ++ new_own ∷ [] }) }
+        ensures err { IfErr result (λ fault. fault ≡ Fault.NoMemory) }
+        ensures unchanged { OnErr result (self.new ≡ self.old) }
+    {
+        Ok(self.others.push(Parts::new(self.alloc))?)
+    }
+
+    /// Lets one of the other widgets command: the one that commanded takes its place among the others. It
+    /// takes no memory.
+    pub fn exchange(&mut self, other: usize)
+        requires { other < length self.old.others }
+        ensures own { slice_get self.old.others other ≡ Some self.new.own }
+        ensures others { self.new.others ≡ set self.old.others other self.old.own }
+        ensures doc { self.new.doc ≡ self.old.doc }
+    {
+        self.widget.exchange(&mut self.others[other]);
     }
 }

@@ -1,49 +1,43 @@
 // A widget's own marks.
-ghost use Rattle.std.specs.Prelude.{◌≡◌, ◌+◌, ◌≤◌, All, IfErr, OnErr, OnOk, length};
+ghost use Rattle.std.specs.Prelude.{ℕ, ◌≡◌, ◌+◌, ◌≤◌, All, IfErr, OnErr, OnOk, length};
+ghost use Rattle.std.specs.List.{AllByRecursion};
 ghost use Rattle.rt_edits.specs.Removals.{AreInOrder, is_covered, stamps_at};
 ghost use Rattle.rt_edits.specs.Selected.{stamps_in};
 ghost use Rattle.rt_edits.specs.Selections.{selection_with};
 ghost use Rattle.rt_store.specs.Cells.{visible_of};
-ghost use Rattle.rt_text.specs.Widgets.{new_own, own_mark, own_set, own_with_gravity, own_inserted, own_removed};
+ghost use Rattle.rt_revert.specs.Plans.{IsChange};
+ghost use Rattle.rt_rga.specs.Taken.{AreFallingRuns, is_in_runs};
+ghost use Rattle.rt_text.specs.Changes.{own_after};
+ghost use Rattle.rt_text.specs.Parts.{own_in};
+ghost use Rattle.rt_text.specs.Widgets.{new_own, own_mark, own_set, own_with_gravity, own_inserted, own_left};
 
 use crate::OwnMark;
+use crate::parts::Parts;
 use rt_edits::{Range, Selection, listing};
 use rt_marks::Gravity;
-use rt_marks::place::{place_inserted, place_removed};
+use rt_revert::TextChange;
+use rt_rga::Change;
 use rt_stamps::Fault;
 use rt_store::TextStore;
 use std::alloc::Global;
 use std::marker::Model;
-
-// A mark without its name.
-#[derive(Clone, Copy)]
-struct Gap {
-    place: usize,
-    gravity: Gravity,
-}
+use std::mem::swap;
 
 /// A widget: its marks `insert` and `current`, and the characters that it has selected, which no
 /// other widget sees. Contracts see the two marks and the stamps of those characters. The text that
 /// they stand in is a document's, and each edit of it moves the marks.
 #[derive(Drop)]
 pub struct Widget {
-    insert: Gap,
-    current: Gap,
-    pub(crate) selection: Selection,
+    pub(crate) parts: Parts,
 }
 
 impl Model for Widget {
-    ghost use Rattle.std.specs.Prelude.{codes};
-    ghost use Rattle.rt_edits.specs.Selected.{stamps_in};
+    ghost use Rattle.rt_text.specs.Parts.{own_in};
     ghost use Rattle.rt_text.specs.Widgets.{Own};
 
     ghost Value = { Own };
 
-    ghost view = { λ w. record {
-      insert = record { name = codes "insert"; place = w.insert.place; gravity = w.insert.gravity };
-      current = record { name = codes "current"; place = w.current.place; gravity = w.current.gravity };
-      sel = stamps_in w.selection;
-    } };
+    ghost view = { λ w. own_in w.parts };
 }
 
 impl Widget {
@@ -52,14 +46,8 @@ impl Widget {
     pub fn new(alloc: Global) -> Widget
         ensures { result ≡ new_own }
     {
-        let start = Gap {
-            place: 0,
-            gravity: Gravity::Right,
-        };
         Widget {
-            insert: start,
-            current: start,
-            selection: Selection::new(alloc),
+            parts: Parts::new(alloc),
         }
     }
 
@@ -68,8 +56,8 @@ impl Widget {
         ensures { result ≡ (own_mark which self.now).place }
     {
         match which {
-            OwnMark::Insert => self.insert.place,
-            OwnMark::Current => self.current.place,
+            OwnMark::Insert => self.parts.insert.place,
+            OwnMark::Current => self.parts.current.place,
         }
     }
 
@@ -78,8 +66,8 @@ impl Widget {
         ensures { result ≡ (own_mark which self.now).gravity }
     {
         match which {
-            OwnMark::Insert => self.insert.gravity,
-            OwnMark::Current => self.current.gravity,
+            OwnMark::Insert => self.parts.insert.gravity,
+            OwnMark::Current => self.parts.current.gravity,
         }
     }
 
@@ -88,8 +76,8 @@ impl Widget {
         ensures { self.new ≡ own_set which place self.old }
     {
         match which {
-            OwnMark::Insert => self.insert.place = place,
-            OwnMark::Current => self.current.place = place,
+            OwnMark::Insert => self.parts.insert.place = place,
+            OwnMark::Current => self.parts.current.place = place,
         }
     }
 
@@ -98,8 +86,8 @@ impl Widget {
         ensures { self.new ≡ own_with_gravity which gravity self.old }
     {
         match which {
-            OwnMark::Insert => self.insert.gravity = gravity,
-            OwnMark::Current => self.current.gravity = gravity,
+            OwnMark::Insert => self.parts.insert.gravity = gravity,
+            OwnMark::Current => self.parts.current.gravity = gravity,
         }
     }
 
@@ -107,7 +95,7 @@ impl Widget {
     pub fn selection(&self) -> &Selection
         ensures { stamps_in result.now ≡ self.now.sel }
     {
-        &self.selection
+        &self.parts.selection
     }
 
     /// Selects the characters in ranges of a store, or no longer. Want of memory, and then nothing
@@ -127,7 +115,7 @@ impl Widget {
         ensures unchanged { OnErr result (self.new ≡ self.old) }
         ensures err { IfErr result (λ fault. fault ≡ Fault.NoMemory) }
     {
-        listing::select(alloc, store, &mut self.selection, ranges, on)
+        listing::select(alloc, store, &mut self.parts.selection, ranges, on)
     }
 
     /// Moves its marks for `n` characters that were inserted at a place.
@@ -136,15 +124,43 @@ impl Widget {
         requires current { self.old.current.place + n ≤ usize.MAX }
         ensures { self.new ≡ own_inserted place n self.old }
     {
-        self.insert.place = place_inserted(place, n, self.insert.place, self.insert.gravity);
-        self.current.place = place_inserted(place, n, self.current.place, self.current.gravity);
+        self.parts.inserted(place, n);
     }
 
-    /// Moves its marks for the `n` characters from a place on that were removed.
-    pub(crate) fn removed(&mut self, place: usize, n: usize)
-        ensures { self.new ≡ own_removed place n self.old }
+    /// Moves its marks for ranges that are removed.
+    pub(crate) fn leave(&mut self, removed: &[Range])
+        requires { AreInOrder 0 removed.now }
+        ensures { self.new ≡ own_left (is_covered removed.now) self.old }
     {
-        self.insert.place = place_removed(place, n, self.insert.place);
-        self.current.place = place_removed(place, n, self.current.place);
+        self.parts.leave(removed);
+    }
+
+    /// Moves its marks for a change of the text that an accepted operation told. The runs are those
+    /// of a text before the operation, the last one first. It takes no memory.
+    pub fn follow(&mut self, change: &Change)
+        requires runs { (end : ℕ) × AreFallingRuns end change.now.removed.items }
+        requires insert { self.old.insert.place + change.now.inserted ≤ usize.MAX }
+        requires current { self.old.current.place + change.now.inserted ≤ usize.MAX }
+        ensures { self.new ≡ own_left (is_in_runs change.now.removed.items) (own_inserted change.now.place change.now.inserted self.old) }
+    {
+        self.parts.follow(change);
+    }
+
+    /// Moves its marks for changes of the text, one after the other.
+    pub(crate) fn change_all(&mut self, changes: &[TextChange])
+        requires changes { AllByRecursion IsChange changes.now }
+        requires insert { self.old.insert.place + length changes.now ≤ usize.MAX }
+        requires current { self.old.current.place + length changes.now ≤ usize.MAX }
+        ensures { self.new ≡ own_after changes.now self.old }
+    {
+        self.parts.change_all(changes);
+    }
+
+    /// Exchanges it for the parts of another.
+    pub(crate) fn exchange(&mut self, other: &mut Parts)
+        ensures own { self.new ≡ own_in other.old }
+        ensures other { own_in other.new ≡ self.old }
+    {
+        swap(&mut self.parts, other);
     }
 }

@@ -5,15 +5,18 @@ ghost use Rattle.rt_store.specs.Cells.{text_of, visible_of};
 ghost use Rattle.rt_text.specs.Widgets.{IsOwnOf, Viewed};
 ghost use Rattle.rt_text.specs.Commands.{cell_check, clock_check, with_pieces_at, without_ranges};
 ghost use Rattle.rt_edits.specs.DeletionLaws.{IsPiece};
-ghost use Rattle.rt_edits.specs.Selected.{stamps_in};
+ghost use Rattle.rt_text.specs.Parts.{own_in};
+ghost use Rattle.std.specs.List.{AllByRecursion};
 
 use super::Doc;
 use crate::Widget;
 use crate::moving::{move_back, unselect_last};
+use crate::others::{insert_each, leave_each};
+use crate::parts::Parts;
 use crate::preparing::{list_tags, make_room, select_between};
 use rt_edits::drafting::planned_deletion;
 use rt_edits::inserting::planned_insertion;
-use rt_edits::{Piece, Range, Selection};
+use rt_edits::{Piece, Range};
 use rt_stamps::Fault;
 use rt_store::TextStore;
 
@@ -22,7 +25,7 @@ impl<S: TextStore> Doc<S> {
     pub(crate) fn insert_at(
         &mut self,
         widget: &mut Widget,
-        others: &mut [Selection],
+        others: &mut [Parts],
         place: usize,
         pieces: &[Piece],
         rest: &str,
@@ -30,29 +33,32 @@ impl<S: TextStore> Doc<S> {
         requires place { place < length (visible_of self.old.cells) }
         requires pieces { All IsPiece pieces.now }
         requires own { IsOwnOf (length (text_of self.old.cells)) widget.old }
-        ensures ok { let view : Viewed = record { doc = self.old; own = widget.old; others = map stamps_in others.old } in
-            OnOk result (record { doc = self.new; own = widget.new; others = map stamps_in others.new } ≡ with_pieces_at view place pieces.now rest.now) }
+        requires others { AllByRecursion (IsOwnOf (length (text_of self.old.cells))) (map own_in others.old) }
+        ensures ok { let view : Viewed = record { doc = self.old; own = widget.old; others = map own_in others.old } in
+            OnOk result (record { doc = self.new; own = widget.new; others = map own_in others.new } ≡ with_pieces_at view place pieces.now rest.now) }
         ensures checked { OnOk result (first_of (clock_check self.new.count ∷ cell_check self.old.limit (length self.new.cells) ∷ []) ≡ None) }
-        ensures err { let view : Viewed = record { doc = self.old; own = widget.old; others = map stamps_in others.old } in
+        ensures err { let view : Viewed = record { doc = self.old; own = widget.old; others = map own_in others.old } in
             let edited = (with_pieces_at view place pieces.now rest.now).doc in
             IfErr result (λ fault. (fault ≡ Fault.NoMemory)
             ⊎ (first_of (clock_check edited.count ∷ cell_check self.old.limit (length edited.cells) ∷ []) ≡ Some fault)) }
-        ensures unchanged { OnErr result ((self.new ≡ self.old) × (widget.new ≡ widget.old) × (map stamps_in others.new ≡ map stamps_in others.old)) }
+        ensures unchanged { OnErr result ((self.new ≡ self.old) × (widget.new ≡ widget.old) × (map own_in others.new ≡ map own_in others.old)) }
         ensures own { IsOwnOf (length (text_of self.new.cells)) widget.new }
+        ensures others { AllByRecursion (IsOwnOf (length (text_of self.new.cells))) (map own_in others.new) }
     {
         let site = self.replica.site();
         let count = self.replica.clock().seen();
         let (store, states) = self.kept();
-        let selection = &widget.selection;
+        let selection = &widget.parts.selection;
         let plan = planned_insertion(
             self.alloc, store, states, site, count, selection, place, pieces, rest,
         )?;
-        make_room(&mut self.tags, &mut widget.selection, others, &plan)?;
+        make_room(&mut self.tags, &mut widget.parts.selection, others, &plan)?;
         let _made = self.replica.make(plan.drafts)?;
         self.marks.inserted(place, plan.characters);
-        widget.selection.add(&plan.selected);
+        widget.parts.selection.add(&plan.selected);
         widget.inserted(place, plan.characters);
         select_between(others, &plan.between);
+        insert_each(others, place, plan.characters);
         list_tags(&mut self.tags, &plan.names);
         Ok(())
     }
@@ -61,22 +67,26 @@ impl<S: TextStore> Doc<S> {
     pub(crate) fn delete_in(
         &mut self,
         widget: &mut Widget,
-        others: &mut [Selection],
+        others: &mut [Parts],
         ranges: &[Range],
     ) -> Result<(), Fault>
-        requires { IsOwnOf (length (text_of self.old.cells)) widget.old }
-        ensures ok { let view : Viewed = record { doc = self.old; own = widget.old; others = map stamps_in others.old } in
-            OnOk result (without_ranges view ranges.now ≡ record { doc = self.new; own = widget.new; others = map stamps_in others.new }) }
+        requires own { IsOwnOf (length (text_of self.old.cells)) widget.old }
+        requires others { AllByRecursion (IsOwnOf (length (text_of self.old.cells))) (map own_in others.old) }
+        ensures ok { let view : Viewed = record { doc = self.old; own = widget.old; others = map own_in others.old } in
+            OnOk result (without_ranges view ranges.now ≡ record { doc = self.new; own = widget.new; others = map own_in others.new }) }
         ensures checked { OnOk result (clock_check self.new.count ≡ None) }
-        ensures err { let view : Viewed = record { doc = self.old; own = widget.old; others = map stamps_in others.old } in
+        ensures err { let view : Viewed = record { doc = self.old; own = widget.old; others = map own_in others.old } in
             IfErr result (λ fault. (fault ≡ Fault.NoMemory) ⊎ (clock_check (without_ranges view ranges.now).doc.count ≡ Some fault)) }
-        ensures unchanged { OnErr result ((self.new ≡ self.old) × (widget.new ≡ widget.old) × (map stamps_in others.new ≡ map stamps_in others.old)) }
+        ensures unchanged { OnErr result ((self.new ≡ self.old) × (widget.new ≡ widget.old) × (map own_in others.new ≡ map own_in others.old)) }
         ensures own { IsOwnOf (length (text_of self.new.cells)) widget.new }
+        ensures others { AllByRecursion (IsOwnOf (length (text_of self.new.cells))) (map own_in others.new) }
     {
         let (store, states) = self.kept();
         let deletion = planned_deletion(self.alloc, store, states, ranges)?;
         let _made = self.replica.make(deletion.drafts)?;
-        move_back(&mut self.marks, widget, &deletion.removed);
+        move_back(&mut self.marks, &deletion.removed);
+        widget.leave(&deletion.removed);
+        leave_each(others, &deletion.removed);
         unselect_last(deletion.held, widget, others);
         Ok(())
     }

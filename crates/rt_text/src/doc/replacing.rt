@@ -1,25 +1,27 @@
 // Replacements: a deletion and then an insertion, as one plan.
 ghost use Rattle.std.specs.Prelude.{◌≡◌, ℕ, ◌⊎◌, ◌+◌, ◌<◌, ◌≤◌, ◌∷◌, [], All, List, None, Some, IfOk, IfErr, OnOk, OnErr, is_some, length, map, true};
 ghost use Rattle.rt_stamps.specs.declared.limits.TheConstants.{GREATEST_COUNT};
-ghost use Rattle.rt_stamps.specs.declared.stamp.Stamp.{Stamp};
 ghost use Rattle.rt_stamps.specs.Outcomes.{first_of};
 ghost use Rattle.rt_store.specs.Cells.{text_of};
 ghost use Rattle.rt_text.specs.Commands.{cell_check, clock_check, with_range_replaced};
 ghost use Rattle.rt_text.specs.Replacements.{PlansReplacement, loss_at};
-ghost use Rattle.rt_text.specs.Widgets.{IsOwnOf, Viewed};
+ghost use Rattle.rt_text.specs.Widgets.{IsOwnOf, Own, Viewed};
 ghost use Rattle.rt_edits.specs.DeletionLaws.{IsPiece};
 ghost use Rattle.rt_edits.specs.Deletions.{without_text};
 ghost use Rattle.rt_edits.specs.Removals.{AreInOrder, is_covered};
-ghost use Rattle.rt_edits.specs.Selected.{stamps_in};
+ghost use Rattle.rt_text.specs.Parts.{own_in};
+ghost use Rattle.std.specs.List.{AllByRecursion};
 
 use super::Doc;
 use crate::Widget;
 use crate::moving::{move_back, unselect};
+use crate::others::{insert_each, leave_each};
+use crate::parts::Parts;
 use crate::preparing::{list_tags, make_room, select_between};
 use crate::staying::{left_after, place_after, right_after};
 use rt_edits::drafting::planned_deletion;
 use rt_edits::inserting::{Plan, planned_between};
-use rt_edits::{Piece, Range, Selection};
+use rt_edits::{Piece, Range};
 use rt_rga::Draft;
 use rt_stamps::Fault;
 use rt_stamps::limits::GREATEST_COUNT;
@@ -60,14 +62,14 @@ impl<S: TextStore> Doc<S> {
         pieces: &[Piece],
         rest: &str,
     ) -> Result<Replacement, Fault>
-        ensures plans { IfOk result (λ r. (others : List (List Stamp))
+        ensures plans { IfOk result (λ r. (others : List Own)
             → PlansReplacement (record { doc = self.now; own = widget.now; others = others }) range pieces.now rest.now r) }
         ensures removed { IfOk result (λ r. (place : ℕ) → is_covered r.removed.items place ≡ (loss_at self.now range).places place) }
         ensures order { IfOk result (λ r. AreInOrder 0 r.removed.items) }
         ensures held { IfOk result (λ r. r.held ≡ is_some (loss_at self.now range).newline) }
         ensures alone { IfOk result (λ r. r.held ≡ true → r.plan.between ≡ None) }
         ensures fits { IfOk result (λ r. (without_text self.now (loss_at self.now range)).count ≤ GREATEST_COUNT) }
-        ensures err { IfErr result (λ fault. (fault ≡ Fault.NoMemory) ⊎ ((fault ≡ Fault.ClockSpent) × ((others : List (List Stamp)) → GREATEST_COUNT
+        ensures err { IfErr result (λ fault. (fault ≡ Fault.NoMemory) ⊎ ((fault ≡ Fault.ClockSpent) × ((others : List Own) → GREATEST_COUNT
             < (with_range_replaced (record { doc = self.now; own = widget.now; others = others }) range pieces.now rest.now).doc.count))) }
     {
         let site = self.replica.site();
@@ -84,7 +86,7 @@ impl<S: TextStore> Doc<S> {
             states,
             site,
             count,
-            &widget.selection,
+            &widget.parts.selection,
             left,
             right,
             pieces,
@@ -104,34 +106,39 @@ impl<S: TextStore> Doc<S> {
     pub(crate) fn replace_in(
         &mut self,
         widget: &mut Widget,
-        others: &mut [Selection],
+        others: &mut [Parts],
         range: Range,
         pieces: &[Piece],
         rest: &str,
     ) -> Result<(), Fault>
         requires pieces { All IsPiece pieces.now }
         requires own { IsOwnOf (length (text_of self.old.cells)) widget.old }
-        ensures ok { let view : Viewed = record { doc = self.old; own = widget.old; others = map stamps_in others.old } in
-            OnOk result (record { doc = self.new; own = widget.new; others = map stamps_in others.new } ≡ with_range_replaced view range pieces.now rest.now) }
+        requires others { AllByRecursion (IsOwnOf (length (text_of self.old.cells))) (map own_in others.old) }
+        ensures ok { let view : Viewed = record { doc = self.old; own = widget.old; others = map own_in others.old } in
+            OnOk result (record { doc = self.new; own = widget.new; others = map own_in others.new } ≡ with_range_replaced view range pieces.now rest.now) }
         ensures checked { OnOk result (first_of (clock_check self.new.count ∷ cell_check self.old.limit (length self.new.cells) ∷ []) ≡ None) }
-        ensures err { let view : Viewed = record { doc = self.old; own = widget.old; others = map stamps_in others.old } in
+        ensures err { let view : Viewed = record { doc = self.old; own = widget.old; others = map own_in others.old } in
             let edited = (with_range_replaced view range pieces.now rest.now).doc in
             IfErr result (λ fault. (fault ≡ Fault.NoMemory)
             ⊎ (first_of (clock_check edited.count ∷ cell_check self.old.limit (length edited.cells) ∷ []) ≡ Some fault)) }
-        ensures unchanged { OnErr result ((self.new ≡ self.old) × (widget.new ≡ widget.old) × (map stamps_in others.new ≡ map stamps_in others.old)) }
+        ensures unchanged { OnErr result ((self.new ≡ self.old) × (widget.new ≡ widget.old) × (map own_in others.new ≡ map own_in others.old)) }
         ensures own { IsOwnOf (length (text_of self.new.cells)) widget.new }
+        ensures others { AllByRecursion (IsOwnOf (length (text_of self.new.cells))) (map own_in others.new) }
     {
         let _ = self.kept();
         let planned = self.planned_replacement(widget, range, pieces, rest)?;
         let plan = planned.plan;
-        make_room(&mut self.tags, &mut widget.selection, others, &plan)?;
+        make_room(&mut self.tags, &mut widget.parts.selection, others, &plan)?;
         let _made = self.replica.make(planned.drafts)?;
-        unselect(planned.held, &mut widget.selection, others);
-        widget.selection.add(&plan.selected);
+        unselect(planned.held, &mut widget.parts.selection, others);
+        widget.parts.selection.add(&plan.selected);
         select_between(others, &plan.between);
-        move_back(&mut self.marks, widget, &planned.removed);
+        move_back(&mut self.marks, &planned.removed);
+        widget.leave(&planned.removed);
+        leave_each(others, &planned.removed);
         self.marks.inserted(planned.place, plan.characters);
         widget.inserted(planned.place, plan.characters);
+        insert_each(others, planned.place, plan.characters);
         list_tags(&mut self.tags, &plan.names);
         Ok(())
     }

@@ -69,7 +69,7 @@ impl<S: TextStore> Doc<S> {
         ensures { result ≡ next_place (is_tagged widget.now name.now) (visible_of self.now.cells) place }
     {
         let (store, states) = self.kept();
-        next_with(store, states, &widget.selection, name, true, place)
+        next_with(store, states, &widget.parts.selection, name, true, place)
     }
 
     /// The least place from one up whose character hasn't a tag on the widget; none if there is none.
@@ -78,7 +78,7 @@ impl<S: TextStore> Doc<S> {
         ensures { result ≡ next_place (λ cell. not (is_tagged widget.now name.now cell)) (visible_of self.now.cells) place }
     {
         let (store, states) = self.kept();
-        next_with(store, states, &widget.selection, name, false, place)
+        next_with(store, states, &widget.parts.selection, name, false, place)
     }
 
     /// The listed tags of the character at a place on a widget, lowest priority first (Tk text manual,
@@ -92,7 +92,7 @@ impl<S: TextStore> Doc<S> {
         let (store, states) = self.kept();
         let cell = store.cell_at(place);
         let mut names = self.tags.names()?;
-        keep_tags_on(states, &widget.selection, cell, &mut names);
+        keep_tags_on(states, &widget.parts.selection, cell, &mut names);
         Ok(names)
     }
 

@@ -6,6 +6,7 @@ ghost use Rattle.rt_rga.specs.Taken.{TellsChange, told};
 ghost use Rattle.rt_text.specs.Accepted.{answer_of, view_after};
 
 use super::View;
+use crate::others::follow_each;
 use rt_oplog::Op;
 use rt_rga::Taken;
 use rt_stamps::Fault;
@@ -13,7 +14,7 @@ use rt_store::TextStore;
 
 impl<S: TextStore> View<S> {
     /// Accepts an operation of any site, as the replica does: one that is new changes the text, moves
-    /// the site's marks and the widget's, and lists its tags; what is selected stays so. A repeat
+    /// the site's marks and those of each widget, and lists its tags; what is selected stays so. A repeat
     /// changes nothing. Refused by the first of `BadStamp`, `Conflict`, `NotYet`, `BadTarget`,
     /// `TextFull` that applies, or for want of memory, and then nothing changes.
     pub fn accept(&mut self, op: Op) -> Result<Taken, Fault>
@@ -31,6 +32,7 @@ impl<S: TextStore> View<S> {
             Taken::Repeat => Ok(Taken::Repeat),
             Taken::New(change) => {
                 self.widget.follow(&change);
+                follow_each(&mut self.others, &change);
                 Ok(Taken::New(change))
             }
         }

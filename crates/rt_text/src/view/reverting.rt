@@ -18,7 +18,7 @@ use rt_undo::Action;
 impl<S: TextStore> View<S> {
     /// Reverts a group of actions, the last one first (Tk text manual, "The undo mechanism"): of the
     /// characters that an action put in those go that are still visible, and those that it took away come
-    /// back with their tags, each directly after its old cell. All marks move for that; what comes back is
+    /// back with their tags, each directly after its old cell. All marks move for that, those of each widget too; what comes back is
     /// selected nowhere. The group is by the stamps of now, and the tags of removed characters are states
     /// of `kept`, which gets those of the group for the other stack, also where the call is refused. `copy`
     /// is an empty store, for the text in which the group is planned. `ClockSpent`, `TextFull`, or want of
@@ -45,6 +45,7 @@ impl<S: TextStore> View<S> {
             ⊎ (reversion_check self.old.doc (named_group kept.old (group_of group.now)) ≡ Some fault)) }
         ensures unchanged { OnErr result (self.new ≡ self.old) }
     {
-        self.doc.revert_in(&mut self.widget, copy, group, kept)
+        self.doc
+            .revert_in(&mut self.widget, &mut self.others, copy, group, kept)
     }
 }

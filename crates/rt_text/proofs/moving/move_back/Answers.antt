@@ -4,9 +4,7 @@ use Rattle.rt_marks.specs.Marks.{marks_left, marks_removed}
 use Rattle.rt_marks.proofs.Leaving.{marks_kept}
 use Rattle.rt_edits.specs.declared.range.Range.{Range}
 use Rattle.rt_edits.specs.Removals.{is_covered}
-use Rattle.rt_text.specs.Widgets.{own_left, own_removed}
-use Rattle.rt_text.proofs.MarkLaws.{own_kept}
-use Rattle.rt_text.proofs.MovingLaws.{forward_at, marks_back, own_back}
+use Rattle.rt_text.proofs.MovingLaws.{forward_at, marks_back}
 use Rattle.rt_text.proofs.moving.move_back.Goals as goal
 
 pub loop-i-init : goal.loop-i-init
@@ -15,14 +13,10 @@ loop-i-init c =
     record {
       within = omega arith;
       marks = sym (ap (λ l. marks_left (is_covered l) c.args.marks.now) none ∙ marks_kept (is_covered []) (λ p. refl) c.args.marks.now c.order.ensures.in_order);
-      own = sym (ap (λ l. own_left (is_covered l) c.args.widget.now) none ∙ own_kept (is_covered []) c.args.widget.now (λ p. refl));
     }
 
 pub overflow_sub-range : goal.overflow_sub-range
 overflow_sub-range c = forward_at c.args.removed.now (c.loop-i.i - 1) (record { from = 0; to = 0 }) (omega (arith, c.loop-i.invariant.within, c.loop-i-test.true)) c.requires
-
-pub overflow_sub-range-in-loop-i : goal.overflow_sub-range-in-loop-i
-overflow_sub-range-in-loop-i c = forward_at c.args.removed.now (c.loop-i.i - 1) (record { from = 0; to = 0 }) (omega (arith, c.loop-i.invariant.within, c.loop-i-test.true)) c.requires
 
 pub loop-i-preserved : goal.loop-i-preserved
 loop-i-preserved c =
@@ -36,15 +30,9 @@ loop-i-preserved c =
     record {
       within = omega (arith, c.loop-i.invariant.within);
       marks = c.removed.ensures ∙ ap (marks_removed range.from n) (c.loop-i.invariant.marks ∙ ap (λ k. marks_left (is_covered (drop k removed)) c.args.marks.now) next) ∙ marks_back removed j d c.args.marks.now here c.requires;
-      own = c.removed-in-loop-i.ensures ∙ ap (own_removed range.from n) (c.loop-i.invariant.own ∙ ap (λ k. own_left (is_covered (drop k removed)) c.args.widget.now) next) ∙ own_back removed j d c.args.widget.now here c.requires;
     }
 
-pub returns-clause-marks : goal.returns-clause-marks
-returns-clause-marks c =
+pub returns : goal.returns
+returns c =
     let done : c.loop-i.i ≡ 0 = omega (arith, c.loop-i-test.false) in
     c.loop-i.invariant.marks ∙ ap (λ k. marks_left (is_covered (drop k c.args.removed.now)) c.args.marks.now) done
-
-pub returns-clause-own : goal.returns-clause-own
-returns-clause-own c =
-    let done : c.loop-i.i ≡ 0 = omega (arith, c.loop-i-test.false) in
-    c.loop-i.invariant.own ∙ ap (λ k. own_left (is_covered (drop k c.args.removed.now)) c.args.widget.now) done

@@ -1,14 +1,12 @@
 use Rattle.std.proofs.Common.{◌≡◌, ◌≤◌, length, drop}
 use Rattle.rt_marks.specs.Marks.{marks_left}
 use Rattle.rt_edits.specs.Removals.{is_covered}
-use Rattle.rt_text.specs.Widgets.{own_left}
 use Rattle.rt_text.proofs.moving.move_back.Given as goal
 
 abbrev pub invariant-loop-i : goal.invariant-loop-i
 invariant-loop-i l = record {
   within : l.i ≤ length l.removed;
   marks : l.marks ≡ marks_left (is_covered (drop l.i l.removed)) l.fn.marks;
-  own : l.widget ≡ own_left (is_covered (drop l.i l.removed)) l.fn.widget;
 }
 
 abbrev pub decreases-loop-i : goal.decreases-loop-i

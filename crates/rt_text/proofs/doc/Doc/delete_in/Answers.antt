@@ -1,5 +1,6 @@
 use Rattle.std.proofs.Common.{◌≡◌, ◌≤◌, ◌∙◌, ◌⊎◌, ℕ, List, Bool, None, ap, arith, inl, inr, length, map, subst, sym}
 use Rattle.std.specs.Prelude.{is_some}
+use Rattle.std.specs.List.{AllByRecursion}
 use Rattle.std.proofs.lemmas.List.{length-map}
 use Rattle.std.proofs.lemmas.Result.{err_from_is_err_and}
 use Rattle.rt_stamps.specs.declared.limits.TheConstants.{MOST_SPANS}
@@ -19,12 +20,13 @@ use Rattle.rt_edits.specs.Deletions.{delete_drafts, loss_in, without_text}
 use Rattle.rt_edits.specs.Flat.{Flat, logged}
 use Rattle.rt_edits.specs.Listed.{AreListed}
 use Rattle.rt_edits.specs.Removals.{is_covered}
-use Rattle.rt_edits.specs.Selected.{stamps_in}
 use Rattle.rt_text.specs.Commands.{clock_check}
-use Rattle.rt_text.specs.Widgets.{Own, IsOwnOf, AreSiteMarks, own_left}
-use Rattle.rt_text.proofs.Deletions.{deletion_edited, deletion_may, deletion_own, deletion_placed, deletion_refusal, deletion_seen, last_off, loss_of}
+use Rattle.rt_text.specs.Parts.{own_in}
+use Rattle.rt_text.specs.Widgets.{IsOwnOf, AreSiteMarks, own_left, reselected}
+use Rattle.rt_text.proofs.Deletions.{deletion_edited, deletion_may, deletion_others, deletion_own, deletion_placed, deletion_refusal, deletion_seen, last_off, loss_of, widget_left}
 use Rattle.rt_text.proofs.DeletionLaws.{deletion_listed}
 use Rattle.rt_text.proofs.MadeDocument.{seen}
+use Rattle.rt_text.proofs.PeerLaws.{leave_then}
 use Rattle.rt_text.proofs.doc.Doc.delete_in.Given.{Over}
 use Rattle.rt_text.proofs.doc.Doc.delete_in.Goals as goal
 
@@ -86,7 +88,7 @@ made g c =
     let text : text_of kept ≡ text_of flat.cells = same_text c.kept.result.1.now kept flat c.kept.ensures.cells in
     let places : (p : ℕ) → is_covered d.removed.items p ≡ (loss_of flat ranges).places p = λ p. c.in_ok-deletion.ensures.places p ∙ ap (λ t. (loss_in t 0 ranges).places p) text in
     let moved : c.move_back.new.marks ≡ marks_left (is_covered d.removed.items) flat.marks =
-    c.move_back.ensures.marks ∙ ap (λ l. marks_left (is_covered l) c.self.inside.marks) c.deref.ensures.value ∙ ap (λ (f : Flat). marks_left (is_covered d.removed.items) f.marks) view in
+    c.move_back.ensures ∙ ap (λ l. marks_left (is_covered l) c.self.inside.marks) c.deref.ensures.value ∙ ap (λ (f : Flat). marks_left (is_covered d.removed.items) f.marks) view in
     let site : c.make.new.self.site ≡ flat.site = c.make.ensures.site ∙ ap (λ (f : Flat). f.site) view in
     let limit : c.make.new.self.limit ≡ flat.limit = c.make.ensures.limit ∙ ap (λ (f : Flat). f.limit) view in
     record {
@@ -110,27 +112,31 @@ invariant_of-self-2 g c =
           (deletion_listed flat (loss_of flat ranges) c.self.inside.tags.names (subst (λ (f : Flat). AreListed c.self.inside.tags.names f.cells) c.self.view_is c.self.invariant.listed));
     }
 
--- a widget after the deletion
-abbrev widget_after : Own → (ℕ → Bool) → Bool → Own
-widget_after own removed held = record (own_left removed own) { sel = last_off held own.sel }
-
-widget : (g : Over) (c : goal.After-drop-deletion-2 g) → c.unselect_last.new.widget ≡ widget_after c.args.widget.now (is_covered c.in_ok-deletion.deletion.removed.items) c.in_ok-deletion.deletion.held
+widget : (g : Over) (c : goal.After-drop-deletion-2 g) → c.unselect_last.new.widget ≡ widget_left (is_covered c.in_ok-deletion.deletion.removed.items) c.in_ok-deletion.deletion.held c.args.widget.now
 widget g c =
     let held = c.in_ok-deletion.deletion.held in
-    c.unselect_last.ensures.own ∙ ap (λ (w : Own). record w { sel = last_off held w.sel }) (c.move_back.ensures.own ∙ ap (λ l. own_left (is_covered l) c.args.widget.now) c.deref.ensures.value)
+    c.unselect_last.ensures.own ∙ ap (reselected (last_off held)) (c.leave.ensures ∙ ap (λ l. own_left (is_covered l) c.args.widget.now) c.deref-2.ensures.value)
+
+others_left : (g : Over) (c : goal.After-drop-deletion-2 g)
+    → map own_in c.unselect_last.new.others ≡ map (widget_left (is_covered c.in_ok-deletion.deletion.removed.items) c.in_ok-deletion.deletion.held) (map own_in c.args.others.now)
+others_left g c =
+    let held = c.in_ok-deletion.deletion.held in
+    let removed = is_covered c.in_ok-deletion.deletion.removed.items in
+    let others = map own_in c.args.others.now in
+    c.unselect_last.ensures.others ∙ ap (map (reselected (last_off held))) (c.leave_each.ensures ∙ ap (λ l. map (own_left (is_covered l)) others) c.deref-3.ensures.value) ∙ leave_then removed (last_off held) others
 
 pub returns-clause-ok : goal.returns-clause-ok
 returns-clause-ok g c =
     let flat = c.args.self.now in
     let own = c.args.widget.now in
-    let others = map stamps_in c.args.others.now in
+    let others = map own_in c.args.others.now in
     let ranges = c.args.ranges.now in
     let d = c.in_ok-deletion.deletion in
     let m = made g c in
     let doc : Flat = seen c.make.new.self c.move_back.new.marks c.self.inside.tags.names in
     let same : doc ≡ seen c.make.new.self c.move_back.new.marks flat.tags = ap (λ (f : Flat). seen c.make.new.self c.move_back.new.marks f.tags) c.self.view_is in
     deletion_edited flat ranges doc own others (is_covered d.removed.items) d.held (same ∙ m.doc) m.places m.last
-    ∙ (λ i. record { doc = doc; own = sym (widget g c) i; others = sym c.unselect_last.ensures.others i })
+    ∙ (λ i. record { doc = doc; own = sym (widget g c) i; others = sym (others_left g c) i })
 
 pub returns-clause-checked : goal.returns-clause-checked
 returns-clause-checked g c =
@@ -145,4 +151,15 @@ returns-clause-own g c =
     let m = made g c in
     let cells : c.make.new.self.cells ≡ (without_text flat (loss_of flat ranges)).cells = ap (λ (f : Flat). f.cells) m.doc in
     subst (λ (l : List TaggedCell). IsOwnOf (length (text_of l)) c.unselect_last.new.widget) (sym cells)
-    (subst (IsOwnOf (length (text_of (without_text flat (loss_of flat ranges)).cells))) (sym (widget g c)) (deletion_own flat ranges c.args.widget.now (is_covered d.removed.items) m.places c.requires))
+    (subst (IsOwnOf (length (text_of (without_text flat (loss_of flat ranges)).cells))) (sym (widget g c)) (deletion_own flat ranges c.args.widget.now (is_covered d.removed.items) m.places c.requires.own))
+
+pub returns-clause-others : goal.returns-clause-others
+returns-clause-others g c =
+    let flat = c.args.self.now in
+    let ranges = c.args.ranges.now in
+    let d = c.in_ok-deletion.deletion in
+    let m = made g c in
+    let cells : c.make.new.self.cells ≡ (without_text flat (loss_of flat ranges)).cells = ap (λ (f : Flat). f.cells) m.doc in
+    subst (λ (l : List TaggedCell). AllByRecursion (IsOwnOf (length (text_of l))) (map own_in c.unselect_last.new.others)) (sym cells)
+    (subst (AllByRecursion (IsOwnOf (length (text_of (without_text flat (loss_of flat ranges)).cells)))) (sym (others_left g c))
+    (deletion_others flat ranges (map own_in c.args.others.now) (is_covered d.removed.items) d.held m.places c.requires.others))

@@ -1,5 +1,5 @@
 use Rattle.std.proofs.Common.{◌≡◌, ◌∙◌, ◌<◌, ◌≤◌, ◌+◌, ◌^◌, ◌-◌, All, ◌⊎◌, ap, arith, inl, inr, length, map, refl, string_bytes, subst, sym}
-use Rattle.std.specs.Prelude.{codes}
+use Rattle.std.specs.List.{AllByRecursion}
 use Rattle.std.proofs.lemmas.Result.{err_from_is_err_and}
 use Rattle.rt_marks.specs.Marks.{mark_inserted, marks_inserted}
 use Rattle.rt_oplog.specs.Edits.{body_of}
@@ -10,7 +10,7 @@ use Rattle.rt_rga.specs.Drafts.{with_drafts}
 use Rattle.rt_rga.specs.Made.{refusal_of}
 use Rattle.rt_rga.specs.Requests.{MayBeMade}
 use Rattle.rt_edits.specs.Flat.{Flat, logged}
-use Rattle.rt_edits.specs.InsertionPlans.{Plans, selected_between}
+use Rattle.rt_edits.specs.InsertionPlans.{Plans}
 use Rattle.rt_edits.specs.Insertions.{all_listed}
 use Rattle.rt_edits.specs.Listed.{AreListed}
 use Rattle.rt_edits.specs.Selected.{stamps_in}
@@ -18,10 +18,12 @@ use Rattle.rt_edits.specs.Selections.{with_stamps}
 use Rattle.rt_edits.proofs.PlaceLaws.{length_text, text_within}
 use Rattle.rt_text.specs.Commands.{with_pieces_at}
 use Rattle.rt_text.specs.Kept.{IsDoc}
-use Rattle.rt_text.specs.Widgets.{IsOwnOf, Own, own_inserted}
-use Rattle.rt_text.proofs.InsertedDocument.{all_fit, drafts_are, kept_made, made_drafts, made_flat, made_is, made_new, may_make, names_given, own_made, plans_are, put_made, refused_as, refused_made}
+use Rattle.rt_text.specs.Parts.{own_in}
+use Rattle.rt_text.specs.Widgets.{IsOwnOf, Own, own_inserted, selections_of, with_selections}
+use Rattle.rt_text.proofs.InsertedDocument.{all_fit, drafts_are, kept_made, made_drafts, made_flat, made_is, made_new, may_make, names_given, others_made, own_made, plans_are, put_made, refused_as, refused_made}
 use Rattle.rt_text.proofs.MadeDocument.{seen, seen_made}
 use Rattle.rt_text.proofs.MarkLaws.{site_fits}
+use Rattle.rt_text.proofs.PeerLaws.{each_by, each_room, put_each, selecting}
 use Rattle.rt_text.proofs.PutLaws.{late_checks, visible_same}
 use Rattle.rt_text.proofs.ViewLaws.{viewed}
 use Rattle.rt_text.proofs.doc.Doc.insert_at.Goals as goal
@@ -38,15 +40,15 @@ pub make_room-requires : goal.make_room-requires
 make_room-requires g c =
     let flat = c.args.self.now in
     let own = c.args.widget.now in
-    let others = map stamps_in c.args.others.now in
+    let others = map own_in c.args.others.now in
     let pieces = c.args.pieces.now in
     let rest = c.args.rest.now in
     let site : c.site-site.result.number ≡ flat.site = c.site-site.ensures ∙ ap (λ (f : Flat). f.site) c.self.view_is in
     let count : c.seen-count.result ≡ flat.count = c.seen-count.ensures.value ∙ c.clock.ensures ∙ ap (λ (f : Flat). f.count) c.self.view_is in
-    let sel : stamps_in c.widget.inside.selection ≡ own.sel = ap (λ (o : Own). o.sel) c.widget.view_is in
-    let plans : Plans c.in_ok-plan.plan own.sel others flat.tags (made_new flat own others c.args.place pieces rest) =
-    plans_are flat own others c.args.place pieces rest c.in_ok-plan.plan c.site-site.result.number c.seen-count.result (stamps_in c.widget.inside.selection) site count sel
-    (c.in_ok-plan.ensures.plans flat.cells others flat.tags (sym c.kept.ensures.cells)) in
+    let sel : stamps_in c.widget.inside.parts.selection ≡ own.sel = ap (λ (o : Own). o.sel) c.widget.view_is in
+    let plans : Plans c.in_ok-plan.plan own.sel (selections_of others) flat.tags (made_new flat own others c.args.place pieces rest) =
+    plans_are flat own others c.args.place pieces rest c.in_ok-plan.plan c.site-site.result.number c.seen-count.result (stamps_in c.widget.inside.parts.selection) site count sel
+    (c.in_ok-plan.ensures.plans flat.cells (selections_of others) flat.tags (sym c.kept.ensures.cells)) in
     let listed : AreListed flat.tags flat.cells = subst (λ (f : Flat). AreListed f.tags f.cells) c.self.view_is c.self.invariant.listed in
     names_given flat own others c.args.place pieces rest c.kept.ensures.history c.kept.ensures.document c.in_ok-plan.plan plans c.requires.pieces listed
 
@@ -54,15 +56,15 @@ pub make-requires : goal.make-requires
 make-requires g c =
     let flat = c.args.self.now in
     let own = c.args.widget.now in
-    let others = map stamps_in c.args.others.now in
+    let others = map own_in c.args.others.now in
     let pieces = c.args.pieces.now in
     let rest = c.args.rest.now in
     let site : c.site-site.result.number ≡ flat.site = c.site-site.ensures ∙ ap (λ (f : Flat). f.site) c.self.view_is in
     let count : c.seen-count.result ≡ flat.count = c.seen-count.ensures.value ∙ c.clock.ensures ∙ ap (λ (f : Flat). f.count) c.self.view_is in
-    let sel : stamps_in c.widget.inside.selection ≡ own.sel = ap (λ (o : Own). o.sel) c.widget.view_is in
+    let sel : stamps_in c.widget.inside.parts.selection ≡ own.sel = ap (λ (o : Own). o.sel) c.widget.view_is in
     let drafts : map body_of c.in_ok-plan.plan.drafts.items ≡ made_drafts flat own others c.args.place pieces rest =
-    drafts_are flat own others c.args.place pieces rest c.site-site.result.number c.seen-count.result (stamps_in c.widget.inside.selection) (map body_of c.in_ok-plan.plan.drafts.items) site count sel
-    (c.in_ok-plan.ensures.drafts flat.cells others flat.tags (sym c.kept.ensures.cells)) in
+    drafts_are flat own others c.args.place pieces rest c.site-site.result.number c.seen-count.result (stamps_in c.widget.inside.parts.selection) (map body_of c.in_ok-plan.plan.drafts.items) site count sel
+    (c.in_ok-plan.ensures.drafts flat.cells (selections_of others) flat.tags (sym c.kept.ensures.cells)) in
     let within : c.args.place < length (text_of flat.cells) = omega (arith, length_text flat.cells, c.requires.place) in
     let may : MayBeMade flat.site flat.log (made_drafts flat own others c.args.place pieces rest) =
     may_make flat own others c.args.place pieces rest c.kept.ensures.history c.kept.ensures.document within c.requires.pieces c.utf8.rest in
@@ -72,15 +74,15 @@ pub returns-in_err-_made-clause-err : goal.returns-in_err-_made-clause-err
 returns-in_err-_made-clause-err g c =
     let flat = c.args.self.now in
     let own = c.args.widget.now in
-    let others = map stamps_in c.args.others.now in
+    let others = map own_in c.args.others.now in
     let pieces = c.args.pieces.now in
     let rest = c.args.rest.now in
     let site : c.site-site.result.number ≡ flat.site = c.site-site.ensures ∙ ap (λ (f : Flat). f.site) c.self.view_is in
     let count : c.seen-count.result ≡ flat.count = c.seen-count.ensures.value ∙ c.clock.ensures ∙ ap (λ (f : Flat). f.count) c.self.view_is in
-    let sel : stamps_in c.widget.inside.selection ≡ own.sel = ap (λ (o : Own). o.sel) c.widget.view_is in
+    let sel : stamps_in c.widget.inside.parts.selection ≡ own.sel = ap (λ (o : Own). o.sel) c.widget.view_is in
     let drafts : map body_of c.in_ok-plan.plan.drafts.items ≡ made_drafts flat own others c.args.place pieces rest =
-    drafts_are flat own others c.args.place pieces rest c.site-site.result.number c.seen-count.result (stamps_in c.widget.inside.selection) (map body_of c.in_ok-plan.plan.drafts.items) site count sel
-    (c.in_ok-plan.ensures.drafts flat.cells others flat.tags (sym c.kept.ensures.cells)) in
+    drafts_are flat own others c.args.place pieces rest c.site-site.result.number c.seen-count.result (stamps_in c.widget.inside.parts.selection) (map body_of c.in_ok-plan.plan.drafts.items) site count sel
+    (c.in_ok-plan.ensures.drafts flat.cells (selections_of others) flat.tags (sym c.kept.ensures.cells)) in
     let p = err_from_is_err_and c.from_residual-in_err-_made.result c.from_residual-in_err-_made.ensures.1 in
     let same : refusal_of c.self.inside.replica.limit (map body_of c.in_ok-plan.plan.drafts.items) c.self.inside.replica.log ≡ first_of (late_checks flat (with_pieces_at (viewed flat own others) c.args.place pieces rest)) =
     (λ i. refusal_of (c.self.view_is i).limit (drafts i) (c.self.view_is i).log) ∙ refused_as flat own others c.args.place pieces rest c.kept.ensures.history c.kept.ensures.document in
@@ -90,18 +92,18 @@ pub inserted-requires : goal.inserted-requires
 inserted-requires g c =
     let flat = c.args.self.now in
     let own = c.args.widget.now in
-    let others = map stamps_in c.args.others.now in
+    let others = map own_in c.args.others.now in
     let pieces = c.args.pieces.now in
     let rest = c.args.rest.now in
     let site : c.site-site.result.number ≡ flat.site = c.site-site.ensures ∙ ap (λ (f : Flat). f.site) c.self.view_is in
     let count : c.seen-count.result ≡ flat.count = c.seen-count.ensures.value ∙ c.clock.ensures ∙ ap (λ (f : Flat). f.count) c.self.view_is in
-    let sel : stamps_in c.widget.inside.selection ≡ own.sel = ap (λ (o : Own). o.sel) c.widget.view_is in
+    let sel : stamps_in c.widget.inside.parts.selection ≡ own.sel = ap (λ (o : Own). o.sel) c.widget.view_is in
     let drafts : map body_of c.in_ok-plan.plan.drafts.items ≡ made_drafts flat own others c.args.place pieces rest =
-    drafts_are flat own others c.args.place pieces rest c.site-site.result.number c.seen-count.result (stamps_in c.widget.inside.selection) (map body_of c.in_ok-plan.plan.drafts.items) site count sel
-    (c.in_ok-plan.ensures.drafts flat.cells others flat.tags (sym c.kept.ensures.cells)) in
-    let plans : Plans c.in_ok-plan.plan own.sel others flat.tags (made_new flat own others c.args.place pieces rest) =
-    plans_are flat own others c.args.place pieces rest c.in_ok-plan.plan c.site-site.result.number c.seen-count.result (stamps_in c.widget.inside.selection) site count sel
-    (c.in_ok-plan.ensures.plans flat.cells others flat.tags (sym c.kept.ensures.cells)) in
+    drafts_are flat own others c.args.place pieces rest c.site-site.result.number c.seen-count.result (stamps_in c.widget.inside.parts.selection) (map body_of c.in_ok-plan.plan.drafts.items) site count sel
+    (c.in_ok-plan.ensures.drafts flat.cells (selections_of others) flat.tags (sym c.kept.ensures.cells)) in
+    let plans : Plans c.in_ok-plan.plan own.sel (selections_of others) flat.tags (made_new flat own others c.args.place pieces rest) =
+    plans_are flat own others c.args.place pieces rest c.in_ok-plan.plan c.site-site.result.number c.seen-count.result (stamps_in c.widget.inside.parts.selection) site count sel
+    (c.in_ok-plan.ensures.plans flat.cells (selections_of others) flat.tags (sym c.kept.ensures.cells)) in
     let fit = all_fit flat own others c.args.place pieces rest c.kept.ensures.history c.kept.ensures.document
     (sym (λ i. refusal_of (c.self.view_is i).limit (drafts i) (c.self.view_is i).log) ∙ c.in_ok-_made.ensures.fits) in
     let characters : c.in_ok-plan.plan.characters ≡ length (made_new flat own others c.args.place pieces rest).cells = plans.characters in
@@ -113,63 +115,90 @@ pub inserted-requires-2-clause-insert : goal.inserted-requires-2-clause-insert
 inserted-requires-2-clause-insert g c =
     let flat = c.args.self.now in
     let own = c.args.widget.now in
-    let others = map stamps_in c.args.others.now in
+    let others = map own_in c.args.others.now in
     let pieces = c.args.pieces.now in
     let rest = c.args.rest.now in
     let site : c.site-site.result.number ≡ flat.site = c.site-site.ensures ∙ ap (λ (f : Flat). f.site) c.self.view_is in
     let count : c.seen-count.result ≡ flat.count = c.seen-count.ensures.value ∙ c.clock.ensures ∙ ap (λ (f : Flat). f.count) c.self.view_is in
-    let sel : stamps_in c.widget.inside.selection ≡ own.sel = ap (λ (o : Own). o.sel) c.widget.view_is in
+    let sel : stamps_in c.widget.inside.parts.selection ≡ own.sel = ap (λ (o : Own). o.sel) c.widget.view_is in
     let drafts : map body_of c.in_ok-plan.plan.drafts.items ≡ made_drafts flat own others c.args.place pieces rest =
-    drafts_are flat own others c.args.place pieces rest c.site-site.result.number c.seen-count.result (stamps_in c.widget.inside.selection) (map body_of c.in_ok-plan.plan.drafts.items) site count sel
-    (c.in_ok-plan.ensures.drafts flat.cells others flat.tags (sym c.kept.ensures.cells)) in
-    let plans : Plans c.in_ok-plan.plan own.sel others flat.tags (made_new flat own others c.args.place pieces rest) =
-    plans_are flat own others c.args.place pieces rest c.in_ok-plan.plan c.site-site.result.number c.seen-count.result (stamps_in c.widget.inside.selection) site count sel
-    (c.in_ok-plan.ensures.plans flat.cells others flat.tags (sym c.kept.ensures.cells)) in
+    drafts_are flat own others c.args.place pieces rest c.site-site.result.number c.seen-count.result (stamps_in c.widget.inside.parts.selection) (map body_of c.in_ok-plan.plan.drafts.items) site count sel
+    (c.in_ok-plan.ensures.drafts flat.cells (selections_of others) flat.tags (sym c.kept.ensures.cells)) in
+    let plans : Plans c.in_ok-plan.plan own.sel (selections_of others) flat.tags (made_new flat own others c.args.place pieces rest) =
+    plans_are flat own others c.args.place pieces rest c.in_ok-plan.plan c.site-site.result.number c.seen-count.result (stamps_in c.widget.inside.parts.selection) site count sel
+    (c.in_ok-plan.ensures.plans flat.cells (selections_of others) flat.tags (sym c.kept.ensures.cells)) in
     let fit = all_fit flat own others c.args.place pieces rest c.kept.ensures.history c.kept.ensures.document
     (sym (λ i. refusal_of (c.self.view_is i).limit (drafts i) (c.self.view_is i).log) ∙ c.in_ok-_made.ensures.fits) in
     let characters : c.in_ok-plan.plan.characters ≡ length (made_new flat own others c.args.place pieces rest).cells = plans.characters in
     let many : length (text_of c.self.inside.replica.cells) ≡ length (text_of flat.cells) = ap (λ (f : Flat). length (text_of f.cells)) c.self.view_is in
     let few : length (text_of flat.cells) + c.in_ok-plan.plan.characters ≤ 2 ^ 64 - 1 = omega (arith, fit.1, characters, text_within flat.cells, c.kept.ensures.most) in
-    let place : c.widget.inside.insert.place ≡ own.insert.place = ap (λ (o : Own). o.insert.place) c.widget.view_is in
+    let place : c.widget.inside.parts.insert.place ≡ own.insert.place = ap (λ (o : Own). o.insert.place) c.widget.view_is in
     omega (arith, place, few, c.requires.own.0)
 
 pub inserted-requires-2-clause-current : goal.inserted-requires-2-clause-current
 inserted-requires-2-clause-current g c =
     let flat = c.args.self.now in
     let own = c.args.widget.now in
-    let others = map stamps_in c.args.others.now in
+    let others = map own_in c.args.others.now in
     let pieces = c.args.pieces.now in
     let rest = c.args.rest.now in
     let site : c.site-site.result.number ≡ flat.site = c.site-site.ensures ∙ ap (λ (f : Flat). f.site) c.self.view_is in
     let count : c.seen-count.result ≡ flat.count = c.seen-count.ensures.value ∙ c.clock.ensures ∙ ap (λ (f : Flat). f.count) c.self.view_is in
-    let sel : stamps_in c.widget.inside.selection ≡ own.sel = ap (λ (o : Own). o.sel) c.widget.view_is in
+    let sel : stamps_in c.widget.inside.parts.selection ≡ own.sel = ap (λ (o : Own). o.sel) c.widget.view_is in
     let drafts : map body_of c.in_ok-plan.plan.drafts.items ≡ made_drafts flat own others c.args.place pieces rest =
-    drafts_are flat own others c.args.place pieces rest c.site-site.result.number c.seen-count.result (stamps_in c.widget.inside.selection) (map body_of c.in_ok-plan.plan.drafts.items) site count sel
-    (c.in_ok-plan.ensures.drafts flat.cells others flat.tags (sym c.kept.ensures.cells)) in
-    let plans : Plans c.in_ok-plan.plan own.sel others flat.tags (made_new flat own others c.args.place pieces rest) =
-    plans_are flat own others c.args.place pieces rest c.in_ok-plan.plan c.site-site.result.number c.seen-count.result (stamps_in c.widget.inside.selection) site count sel
-    (c.in_ok-plan.ensures.plans flat.cells others flat.tags (sym c.kept.ensures.cells)) in
+    drafts_are flat own others c.args.place pieces rest c.site-site.result.number c.seen-count.result (stamps_in c.widget.inside.parts.selection) (map body_of c.in_ok-plan.plan.drafts.items) site count sel
+    (c.in_ok-plan.ensures.drafts flat.cells (selections_of others) flat.tags (sym c.kept.ensures.cells)) in
+    let plans : Plans c.in_ok-plan.plan own.sel (selections_of others) flat.tags (made_new flat own others c.args.place pieces rest) =
+    plans_are flat own others c.args.place pieces rest c.in_ok-plan.plan c.site-site.result.number c.seen-count.result (stamps_in c.widget.inside.parts.selection) site count sel
+    (c.in_ok-plan.ensures.plans flat.cells (selections_of others) flat.tags (sym c.kept.ensures.cells)) in
     let fit = all_fit flat own others c.args.place pieces rest c.kept.ensures.history c.kept.ensures.document
     (sym (λ i. refusal_of (c.self.view_is i).limit (drafts i) (c.self.view_is i).log) ∙ c.in_ok-_made.ensures.fits) in
     let characters : c.in_ok-plan.plan.characters ≡ length (made_new flat own others c.args.place pieces rest).cells = plans.characters in
     let many : length (text_of c.self.inside.replica.cells) ≡ length (text_of flat.cells) = ap (λ (f : Flat). length (text_of f.cells)) c.self.view_is in
     let few : length (text_of flat.cells) + c.in_ok-plan.plan.characters ≤ 2 ^ 64 - 1 = omega (arith, fit.1, characters, text_within flat.cells, c.kept.ensures.most) in
-    let place : c.widget.inside.current.place ≡ own.current.place = ap (λ (o : Own). o.current.place) c.widget.view_is in
+    let place : c.widget.inside.parts.current.place ≡ own.current.place = ap (λ (o : Own). o.current.place) c.widget.view_is in
     omega (arith, place, few, c.requires.own.1)
+
+pub insert_each-requires : goal.insert_each-requires
+insert_each-requires g c =
+    let flat = c.args.self.now in
+    let own = c.args.widget.now in
+    let others = map own_in c.args.others.now in
+    let pieces = c.args.pieces.now in
+    let rest = c.args.rest.now in
+    let site : c.site-site.result.number ≡ flat.site = c.site-site.ensures ∙ ap (λ (f : Flat). f.site) c.self.view_is in
+    let count : c.seen-count.result ≡ flat.count = c.seen-count.ensures.value ∙ c.clock.ensures ∙ ap (λ (f : Flat). f.count) c.self.view_is in
+    let sel : stamps_in c.widget.inside.parts.selection ≡ own.sel = ap (λ (o : Own). o.sel) c.widget.view_is in
+    let drafts : map body_of c.in_ok-plan.plan.drafts.items ≡ made_drafts flat own others c.args.place pieces rest =
+    drafts_are flat own others c.args.place pieces rest c.site-site.result.number c.seen-count.result (stamps_in c.widget.inside.parts.selection) (map body_of c.in_ok-plan.plan.drafts.items) site count sel
+    (c.in_ok-plan.ensures.drafts flat.cells (selections_of others) flat.tags (sym c.kept.ensures.cells)) in
+    let plans : Plans c.in_ok-plan.plan own.sel (selections_of others) flat.tags (made_new flat own others c.args.place pieces rest) =
+    plans_are flat own others c.args.place pieces rest c.in_ok-plan.plan c.site-site.result.number c.seen-count.result (stamps_in c.widget.inside.parts.selection) site count sel
+    (c.in_ok-plan.ensures.plans flat.cells (selections_of others) flat.tags (sym c.kept.ensures.cells)) in
+    let fit = all_fit flat own others c.args.place pieces rest c.kept.ensures.history c.kept.ensures.document
+    (sym (λ i. refusal_of (c.self.view_is i).limit (drafts i) (c.self.view_is i).log) ∙ c.in_ok-_made.ensures.fits) in
+    let characters : c.in_ok-plan.plan.characters ≡ length (made_new flat own others c.args.place pieces rest).cells = plans.characters in
+    let many : length (text_of c.self.inside.replica.cells) ≡ length (text_of flat.cells) = ap (λ (f : Flat). length (text_of f.cells)) c.self.view_is in
+    let few : length (text_of flat.cells) + c.in_ok-plan.plan.characters ≤ 2 ^ 64 - 1 = omega (arith, fit.1, characters, text_within flat.cells, c.kept.ensures.most) in
+    let between = c.in_ok-plan.plan.between in
+    let now : map own_in c.select_between.new.others ≡ map (selecting between) others = c.select_between.ensures ∙ ap (map (selecting between)) c.make_room.ensures.others in
+    let n = length (text_of flat.cells) in
+    each_room n c.in_ok-plan.plan.characters (2 ^ 64 - 1) c.select_between.new.others few
+    (subst (AllByRecursion (IsOwnOf n)) (sym now) (each_by (IsOwnOf n) (IsOwnOf n) (selecting between) (λ other stands. stands) others c.requires.others))
 
 pub list_tags-requires-clause-names : goal.list_tags-requires-clause-names
 list_tags-requires-clause-names g c =
     let flat = c.args.self.now in
     let own = c.args.widget.now in
-    let others = map stamps_in c.args.others.now in
+    let others = map own_in c.args.others.now in
     let pieces = c.args.pieces.now in
     let rest = c.args.rest.now in
     let site : c.site-site.result.number ≡ flat.site = c.site-site.ensures ∙ ap (λ (f : Flat). f.site) c.self.view_is in
     let count : c.seen-count.result ≡ flat.count = c.seen-count.ensures.value ∙ c.clock.ensures ∙ ap (λ (f : Flat). f.count) c.self.view_is in
-    let sel : stamps_in c.widget.inside.selection ≡ own.sel = ap (λ (o : Own). o.sel) c.widget.view_is in
-    let plans : Plans c.in_ok-plan.plan own.sel others flat.tags (made_new flat own others c.args.place pieces rest) =
-    plans_are flat own others c.args.place pieces rest c.in_ok-plan.plan c.site-site.result.number c.seen-count.result (stamps_in c.widget.inside.selection) site count sel
-    (c.in_ok-plan.ensures.plans flat.cells others flat.tags (sym c.kept.ensures.cells)) in
+    let sel : stamps_in c.widget.inside.parts.selection ≡ own.sel = ap (λ (o : Own). o.sel) c.widget.view_is in
+    let plans : Plans c.in_ok-plan.plan own.sel (selections_of others) flat.tags (made_new flat own others c.args.place pieces rest) =
+    plans_are flat own others c.args.place pieces rest c.in_ok-plan.plan c.site-site.result.number c.seen-count.result (stamps_in c.widget.inside.parts.selection) site count sel
+    (c.in_ok-plan.ensures.plans flat.cells (selections_of others) flat.tags (sym c.kept.ensures.cells)) in
     let listed : AreListed flat.tags flat.cells = subst (λ (f : Flat). AreListed f.tags f.cells) c.self.view_is c.self.invariant.listed in
     subst (All (λ w. IsName (string_bytes w))) (sym c.deref-2.ensures.value)
     (names_given flat own others c.args.place pieces rest c.kept.ensures.history c.kept.ensures.document c.in_ok-plan.plan plans c.requires.pieces listed)
@@ -178,18 +207,18 @@ pub invariant_of-self-2 : goal.invariant_of-self-2
 invariant_of-self-2 g c =
     let flat = c.args.self.now in
     let own = c.args.widget.now in
-    let others = map stamps_in c.args.others.now in
+    let others = map own_in c.args.others.now in
     let pieces = c.args.pieces.now in
     let rest = c.args.rest.now in
     let site : c.site-site.result.number ≡ flat.site = c.site-site.ensures ∙ ap (λ (f : Flat). f.site) c.self.view_is in
     let count : c.seen-count.result ≡ flat.count = c.seen-count.ensures.value ∙ c.clock.ensures ∙ ap (λ (f : Flat). f.count) c.self.view_is in
-    let sel : stamps_in c.widget.inside.selection ≡ own.sel = ap (λ (o : Own). o.sel) c.widget.view_is in
+    let sel : stamps_in c.widget.inside.parts.selection ≡ own.sel = ap (λ (o : Own). o.sel) c.widget.view_is in
     let drafts : map body_of c.in_ok-plan.plan.drafts.items ≡ made_drafts flat own others c.args.place pieces rest =
-    drafts_are flat own others c.args.place pieces rest c.site-site.result.number c.seen-count.result (stamps_in c.widget.inside.selection) (map body_of c.in_ok-plan.plan.drafts.items) site count sel
-    (c.in_ok-plan.ensures.drafts flat.cells others flat.tags (sym c.kept.ensures.cells)) in
-    let plans : Plans c.in_ok-plan.plan own.sel others flat.tags (made_new flat own others c.args.place pieces rest) =
-    plans_are flat own others c.args.place pieces rest c.in_ok-plan.plan c.site-site.result.number c.seen-count.result (stamps_in c.widget.inside.selection) site count sel
-    (c.in_ok-plan.ensures.plans flat.cells others flat.tags (sym c.kept.ensures.cells)) in
+    drafts_are flat own others c.args.place pieces rest c.site-site.result.number c.seen-count.result (stamps_in c.widget.inside.parts.selection) (map body_of c.in_ok-plan.plan.drafts.items) site count sel
+    (c.in_ok-plan.ensures.drafts flat.cells (selections_of others) flat.tags (sym c.kept.ensures.cells)) in
+    let plans : Plans c.in_ok-plan.plan own.sel (selections_of others) flat.tags (made_new flat own others c.args.place pieces rest) =
+    plans_are flat own others c.args.place pieces rest c.in_ok-plan.plan c.site-site.result.number c.seen-count.result (stamps_in c.widget.inside.parts.selection) site count sel
+    (c.in_ok-plan.ensures.plans flat.cells (selections_of others) flat.tags (sym c.kept.ensures.cells)) in
     let fit = all_fit flat own others c.args.place pieces rest c.kept.ensures.history c.kept.ensures.document
     (sym (λ i. refusal_of (c.self.view_is i).limit (drafts i) (c.self.view_is i).log) ∙ c.in_ok-_made.ensures.fits) in
     let within : c.args.place < length (text_of flat.cells) = omega (arith, length_text flat.cells, c.requires.place) in
@@ -210,18 +239,18 @@ pub returns-clause-ok : goal.returns-clause-ok
 returns-clause-ok g c =
     let flat = c.args.self.now in
     let own = c.args.widget.now in
-    let others = map stamps_in c.args.others.now in
+    let others = map own_in c.args.others.now in
     let pieces = c.args.pieces.now in
     let rest = c.args.rest.now in
     let site : c.site-site.result.number ≡ flat.site = c.site-site.ensures ∙ ap (λ (f : Flat). f.site) c.self.view_is in
     let count : c.seen-count.result ≡ flat.count = c.seen-count.ensures.value ∙ c.clock.ensures ∙ ap (λ (f : Flat). f.count) c.self.view_is in
-    let sel : stamps_in c.widget.inside.selection ≡ own.sel = ap (λ (o : Own). o.sel) c.widget.view_is in
+    let sel : stamps_in c.widget.inside.parts.selection ≡ own.sel = ap (λ (o : Own). o.sel) c.widget.view_is in
     let drafts : map body_of c.in_ok-plan.plan.drafts.items ≡ made_drafts flat own others c.args.place pieces rest =
-    drafts_are flat own others c.args.place pieces rest c.site-site.result.number c.seen-count.result (stamps_in c.widget.inside.selection) (map body_of c.in_ok-plan.plan.drafts.items) site count sel
-    (c.in_ok-plan.ensures.drafts flat.cells others flat.tags (sym c.kept.ensures.cells)) in
-    let plans : Plans c.in_ok-plan.plan own.sel others flat.tags (made_new flat own others c.args.place pieces rest) =
-    plans_are flat own others c.args.place pieces rest c.in_ok-plan.plan c.site-site.result.number c.seen-count.result (stamps_in c.widget.inside.selection) site count sel
-    (c.in_ok-plan.ensures.plans flat.cells others flat.tags (sym c.kept.ensures.cells)) in
+    drafts_are flat own others c.args.place pieces rest c.site-site.result.number c.seen-count.result (stamps_in c.widget.inside.parts.selection) (map body_of c.in_ok-plan.plan.drafts.items) site count sel
+    (c.in_ok-plan.ensures.drafts flat.cells (selections_of others) flat.tags (sym c.kept.ensures.cells)) in
+    let plans : Plans c.in_ok-plan.plan own.sel (selections_of others) flat.tags (made_new flat own others c.args.place pieces rest) =
+    plans_are flat own others c.args.place pieces rest c.in_ok-plan.plan c.site-site.result.number c.seen-count.result (stamps_in c.widget.inside.parts.selection) site count sel
+    (c.in_ok-plan.ensures.plans flat.cells (selections_of others) flat.tags (sym c.kept.ensures.cells)) in
     let fit = all_fit flat own others c.args.place pieces rest c.kept.ensures.history c.kept.ensures.document
     (sym (λ i. refusal_of (c.self.view_is i).limit (drafts i) (c.self.view_is i).log) ∙ c.in_ok-_made.ensures.fits) in
     let within : c.args.place < length (text_of flat.cells) = omega (arith, length_text flat.cells, c.requires.place) in
@@ -235,39 +264,37 @@ returns-clause-ok g c =
     let marks : c.inserted.new.self ≡ edited.marks = c.inserted.ensures ∙ (λ i. marks_inserted c.args.place (plans.characters i) (c.self.view_is i).marks) in
     let tags : c.list_tags.new.table.names ≡ edited.tags =
     c.list_tags.ensures ∙ (λ i. all_listed (map (λ w. string_bytes w) (c.deref-2.ensures.value i)) (c.make_room.ensures.tags i)) ∙ ap (λ (f : Flat). all_listed (map (λ w. string_bytes w) c.in_ok-plan.plan.names.items) f.tags) c.self.view_is ∙ plans.tags in
-    let w = c.widget.inside in
-    let own_in : Own = record {
-      insert = record { name = codes "insert"; place = w.insert.place; gravity = w.insert.gravity };
-      current = record { name = codes "current"; place = w.current.place; gravity = w.current.gravity };
-      sel = stamps_in w.selection;
-    } in
+    let own_now : Own = own_in c.widget.inside.parts in
     let stamps : stamps_in c.add.new.self ≡ new.sel =
     c.add.ensures ∙ (λ i. with_stamps (c.deref.ensures.value i) (c.make_room.ensures.selection i)) ∙ ap (with_stamps c.in_ok-plan.plan.selected.items) sel ∙ plans.sel in
     let own_after : c.inserted-2.new.self ≡ record (own_inserted c.args.place (length new.cells) own) { sel = new.sel } =
     c.inserted-2.ensures
-    ∙ (λ i. record { insert = mark_inserted c.args.place (plans.characters i) own_in.insert; current = mark_inserted c.args.place (plans.characters i) own_in.current; sel = stamps i })
+    ∙ (λ i. record { insert = mark_inserted c.args.place (plans.characters i) own_now.insert; current = mark_inserted c.args.place (plans.characters i) own_now.current; sel = stamps i })
     ∙ ap (λ (o : Own). record (own_inserted c.args.place (length new.cells) o) { sel = new.sel }) c.widget.view_is in
-    let others_after : map stamps_in c.select_between.new.others ≡ new.others =
-    c.select_between.ensures ∙ ap (map (selected_between c.in_ok-plan.plan.between)) c.make_room.ensures.others ∙ plans.others in
-    (λ i. record { doc = seen c.make.new.self (marks i) (tags i); own = own_after i; others = others_after i }) ∙ ap (λ (f : Flat). record { doc = f; own = record (own_inserted c.args.place (length new.cells) own) { sel = new.sel }; others = new.others }) doc
+    let others_after : map own_in c.insert_each.new.others ≡ with_selections new.others (map (own_inserted c.args.place (length new.cells)) others) =
+    c.insert_each.ensures ∙ ap (map (own_inserted c.args.place c.in_ok-plan.plan.characters)) (c.select_between.ensures ∙ ap (map (selecting c.in_ok-plan.plan.between)) c.make_room.ensures.others)
+    ∙ ap (λ n. map (own_inserted c.args.place n) (map (selecting c.in_ok-plan.plan.between) others)) plans.characters ∙ put_each c.args.place (length new.cells) c.in_ok-plan.plan.between others
+    ∙ ap (λ l. with_selections l (map (own_inserted c.args.place (length new.cells)) others)) plans.others in
+    (λ i. record { doc = seen c.make.new.self (marks i) (tags i); own = own_after i; others = others_after i })
+    ∙ ap (λ (f : Flat). record { doc = f; own = record (own_inserted c.args.place (length new.cells) own) { sel = new.sel }; others = with_selections new.others (map (own_inserted c.args.place (length new.cells)) others) }) doc
     ∙ sym (put_made flat own others c.args.place pieces rest)
 
 pub returns-clause-checked : goal.returns-clause-checked
 returns-clause-checked g c =
     let flat = c.args.self.now in
     let own = c.args.widget.now in
-    let others = map stamps_in c.args.others.now in
+    let others = map own_in c.args.others.now in
     let pieces = c.args.pieces.now in
     let rest = c.args.rest.now in
     let site : c.site-site.result.number ≡ flat.site = c.site-site.ensures ∙ ap (λ (f : Flat). f.site) c.self.view_is in
     let count : c.seen-count.result ≡ flat.count = c.seen-count.ensures.value ∙ c.clock.ensures ∙ ap (λ (f : Flat). f.count) c.self.view_is in
-    let sel : stamps_in c.widget.inside.selection ≡ own.sel = ap (λ (o : Own). o.sel) c.widget.view_is in
+    let sel : stamps_in c.widget.inside.parts.selection ≡ own.sel = ap (λ (o : Own). o.sel) c.widget.view_is in
     let drafts : map body_of c.in_ok-plan.plan.drafts.items ≡ made_drafts flat own others c.args.place pieces rest =
-    drafts_are flat own others c.args.place pieces rest c.site-site.result.number c.seen-count.result (stamps_in c.widget.inside.selection) (map body_of c.in_ok-plan.plan.drafts.items) site count sel
-    (c.in_ok-plan.ensures.drafts flat.cells others flat.tags (sym c.kept.ensures.cells)) in
-    let plans : Plans c.in_ok-plan.plan own.sel others flat.tags (made_new flat own others c.args.place pieces rest) =
-    plans_are flat own others c.args.place pieces rest c.in_ok-plan.plan c.site-site.result.number c.seen-count.result (stamps_in c.widget.inside.selection) site count sel
-    (c.in_ok-plan.ensures.plans flat.cells others flat.tags (sym c.kept.ensures.cells)) in
+    drafts_are flat own others c.args.place pieces rest c.site-site.result.number c.seen-count.result (stamps_in c.widget.inside.parts.selection) (map body_of c.in_ok-plan.plan.drafts.items) site count sel
+    (c.in_ok-plan.ensures.drafts flat.cells (selections_of others) flat.tags (sym c.kept.ensures.cells)) in
+    let plans : Plans c.in_ok-plan.plan own.sel (selections_of others) flat.tags (made_new flat own others c.args.place pieces rest) =
+    plans_are flat own others c.args.place pieces rest c.in_ok-plan.plan c.site-site.result.number c.seen-count.result (stamps_in c.widget.inside.parts.selection) site count sel
+    (c.in_ok-plan.ensures.plans flat.cells (selections_of others) flat.tags (sym c.kept.ensures.cells)) in
     let fit = all_fit flat own others c.args.place pieces rest c.kept.ensures.history c.kept.ensures.document
     (sym (λ i. refusal_of (c.self.view_is i).limit (drafts i) (c.self.view_is i).log) ∙ c.in_ok-_made.ensures.fits) in
     let within : c.args.place < length (text_of flat.cells) = omega (arith, length_text flat.cells, c.requires.place) in
@@ -289,18 +316,18 @@ pub returns-clause-own : goal.returns-clause-own
 returns-clause-own g c =
     let flat = c.args.self.now in
     let own = c.args.widget.now in
-    let others = map stamps_in c.args.others.now in
+    let others = map own_in c.args.others.now in
     let pieces = c.args.pieces.now in
     let rest = c.args.rest.now in
     let site : c.site-site.result.number ≡ flat.site = c.site-site.ensures ∙ ap (λ (f : Flat). f.site) c.self.view_is in
     let count : c.seen-count.result ≡ flat.count = c.seen-count.ensures.value ∙ c.clock.ensures ∙ ap (λ (f : Flat). f.count) c.self.view_is in
-    let sel : stamps_in c.widget.inside.selection ≡ own.sel = ap (λ (o : Own). o.sel) c.widget.view_is in
+    let sel : stamps_in c.widget.inside.parts.selection ≡ own.sel = ap (λ (o : Own). o.sel) c.widget.view_is in
     let drafts : map body_of c.in_ok-plan.plan.drafts.items ≡ made_drafts flat own others c.args.place pieces rest =
-    drafts_are flat own others c.args.place pieces rest c.site-site.result.number c.seen-count.result (stamps_in c.widget.inside.selection) (map body_of c.in_ok-plan.plan.drafts.items) site count sel
-    (c.in_ok-plan.ensures.drafts flat.cells others flat.tags (sym c.kept.ensures.cells)) in
-    let plans : Plans c.in_ok-plan.plan own.sel others flat.tags (made_new flat own others c.args.place pieces rest) =
-    plans_are flat own others c.args.place pieces rest c.in_ok-plan.plan c.site-site.result.number c.seen-count.result (stamps_in c.widget.inside.selection) site count sel
-    (c.in_ok-plan.ensures.plans flat.cells others flat.tags (sym c.kept.ensures.cells)) in
+    drafts_are flat own others c.args.place pieces rest c.site-site.result.number c.seen-count.result (stamps_in c.widget.inside.parts.selection) (map body_of c.in_ok-plan.plan.drafts.items) site count sel
+    (c.in_ok-plan.ensures.drafts flat.cells (selections_of others) flat.tags (sym c.kept.ensures.cells)) in
+    let plans : Plans c.in_ok-plan.plan own.sel (selections_of others) flat.tags (made_new flat own others c.args.place pieces rest) =
+    plans_are flat own others c.args.place pieces rest c.in_ok-plan.plan c.site-site.result.number c.seen-count.result (stamps_in c.widget.inside.parts.selection) site count sel
+    (c.in_ok-plan.ensures.plans flat.cells (selections_of others) flat.tags (sym c.kept.ensures.cells)) in
     let fit = all_fit flat own others c.args.place pieces rest c.kept.ensures.history c.kept.ensures.document
     (sym (λ i. refusal_of (c.self.view_is i).limit (drafts i) (c.self.view_is i).log) ∙ c.in_ok-_made.ensures.fits) in
     let within : c.args.place < length (text_of flat.cells) = omega (arith, length_text flat.cells, c.requires.place) in
@@ -315,17 +342,49 @@ returns-clause-own g c =
     let marks : c.inserted.new.self ≡ edited.marks = c.inserted.ensures ∙ (λ i. marks_inserted c.args.place (plans.characters i) (c.self.view_is i).marks) in
     let tags : c.list_tags.new.table.names ≡ edited.tags =
     c.list_tags.ensures ∙ (λ i. all_listed (map (λ w. string_bytes w) (c.deref-2.ensures.value i)) (c.make_room.ensures.tags i)) ∙ ap (λ (f : Flat). all_listed (map (λ w. string_bytes w) c.in_ok-plan.plan.names.items) f.tags) c.self.view_is ∙ plans.tags in
-    let w = c.widget.inside in
-    let own_in : Own = record {
-      insert = record { name = codes "insert"; place = w.insert.place; gravity = w.insert.gravity };
-      current = record { name = codes "current"; place = w.current.place; gravity = w.current.gravity };
-      sel = stamps_in w.selection;
-    } in
+    let own_now : Own = own_in c.widget.inside.parts in
     let stamps : stamps_in c.add.new.self ≡ new.sel =
     c.add.ensures ∙ (λ i. with_stamps (c.deref.ensures.value i) (c.make_room.ensures.selection i)) ∙ ap (with_stamps c.in_ok-plan.plan.selected.items) sel ∙ plans.sel in
     let own_after : c.inserted-2.new.self ≡ record (own_inserted c.args.place (length new.cells) own) { sel = new.sel } =
     c.inserted-2.ensures
-    ∙ (λ i. record { insert = mark_inserted c.args.place (plans.characters i) own_in.insert; current = mark_inserted c.args.place (plans.characters i) own_in.current; sel = stamps i })
+    ∙ (λ i. record { insert = mark_inserted c.args.place (plans.characters i) own_now.insert; current = mark_inserted c.args.place (plans.characters i) own_now.current; sel = stamps i })
     ∙ ap (λ (o : Own). record (own_inserted c.args.place (length new.cells) o) { sel = new.sel }) c.widget.view_is in
     let is = own_made flat own others c.args.place pieces rest c.kept.ensures.history c.kept.ensures.document c.requires.pieces listed c.requires.own in
     subst (λ (p : _). p) (λ i. IsOwnOf (length (text_of (sym doc i).cells)) (sym own_after i)) is
+
+pub returns-clause-others : goal.returns-clause-others
+returns-clause-others g c =
+    let flat = c.args.self.now in
+    let own = c.args.widget.now in
+    let others = map own_in c.args.others.now in
+    let pieces = c.args.pieces.now in
+    let rest = c.args.rest.now in
+    let site : c.site-site.result.number ≡ flat.site = c.site-site.ensures ∙ ap (λ (f : Flat). f.site) c.self.view_is in
+    let count : c.seen-count.result ≡ flat.count = c.seen-count.ensures.value ∙ c.clock.ensures ∙ ap (λ (f : Flat). f.count) c.self.view_is in
+    let sel : stamps_in c.widget.inside.parts.selection ≡ own.sel = ap (λ (o : Own). o.sel) c.widget.view_is in
+    let drafts : map body_of c.in_ok-plan.plan.drafts.items ≡ made_drafts flat own others c.args.place pieces rest =
+    drafts_are flat own others c.args.place pieces rest c.site-site.result.number c.seen-count.result (stamps_in c.widget.inside.parts.selection) (map body_of c.in_ok-plan.plan.drafts.items) site count sel
+    (c.in_ok-plan.ensures.drafts flat.cells (selections_of others) flat.tags (sym c.kept.ensures.cells)) in
+    let plans : Plans c.in_ok-plan.plan own.sel (selections_of others) flat.tags (made_new flat own others c.args.place pieces rest) =
+    plans_are flat own others c.args.place pieces rest c.in_ok-plan.plan c.site-site.result.number c.seen-count.result (stamps_in c.widget.inside.parts.selection) site count sel
+    (c.in_ok-plan.ensures.plans flat.cells (selections_of others) flat.tags (sym c.kept.ensures.cells)) in
+    let fit = all_fit flat own others c.args.place pieces rest c.kept.ensures.history c.kept.ensures.document
+    (sym (λ i. refusal_of (c.self.view_is i).limit (drafts i) (c.self.view_is i).log) ∙ c.in_ok-_made.ensures.fits) in
+    let within : c.args.place < length (text_of flat.cells) = omega (arith, length_text flat.cells, c.requires.place) in
+    let listed : AreListed flat.tags flat.cells = subst (λ (f : Flat). AreListed f.tags f.cells) c.self.view_is c.self.invariant.listed in
+    let new = made_new flat own others c.args.place pieces rest in
+    let edited = made_flat flat own others c.args.place pieces rest in
+    let bodies = made_drafts flat own others c.args.place pieces rest in
+    let log : c.make.new.self.log ≡ with_drafts flat.site bodies flat.log = c.in_ok-_made.ensures.log ∙ (λ i. with_drafts (c.self.view_is i).site (drafts i) (c.self.view_is i).log) in
+    let made = made_is flat own others c.args.place pieces rest c.kept.ensures.history c.kept.ensures.document (omega (arith, site, c.site-site.result.positive)) within c.requires.pieces c.utf8.rest fit.0 in
+    let doc : seen c.make.new.self edited.marks edited.tags ≡ logged flat bodies edited =
+    seen_made flat edited bodies c.make.new.self log c.in_ok-_made.ensures.cells (c.make.ensures.site ∙ ap (λ (f : Flat). f.site) c.self.view_is) (c.make.ensures.limit ∙ ap (λ (f : Flat). f.limit) c.self.view_is) refl made in
+    let marks : c.inserted.new.self ≡ edited.marks = c.inserted.ensures ∙ (λ i. marks_inserted c.args.place (plans.characters i) (c.self.view_is i).marks) in
+    let tags : c.list_tags.new.table.names ≡ edited.tags =
+    c.list_tags.ensures ∙ (λ i. all_listed (map (λ w. string_bytes w) (c.deref-2.ensures.value i)) (c.make_room.ensures.tags i)) ∙ ap (λ (f : Flat). all_listed (map (λ w. string_bytes w) c.in_ok-plan.plan.names.items) f.tags) c.self.view_is ∙ plans.tags in
+    let others_after : map own_in c.insert_each.new.others ≡ with_selections new.others (map (own_inserted c.args.place (length new.cells)) others) =
+    c.insert_each.ensures ∙ ap (map (own_inserted c.args.place c.in_ok-plan.plan.characters)) (c.select_between.ensures ∙ ap (map (selecting c.in_ok-plan.plan.between)) c.make_room.ensures.others)
+    ∙ ap (λ n. map (own_inserted c.args.place n) (map (selecting c.in_ok-plan.plan.between) others)) plans.characters ∙ put_each c.args.place (length new.cells) c.in_ok-plan.plan.between others
+    ∙ ap (λ l. with_selections l (map (own_inserted c.args.place (length new.cells)) others)) plans.others in
+    let are = others_made flat own others c.args.place pieces rest c.kept.ensures.history c.kept.ensures.document c.requires.pieces listed c.requires.others in
+    subst (λ (p : _). p) (λ i. AllByRecursion (IsOwnOf (length (text_of (sym doc i).cells))) (sym others_after i)) are

@@ -7,5 +7,5 @@ use Rattle.rt_text.proofs.doc.Doc.next_tagged.Goals as goal
 pub returns : goal.returns
 returns g c =
     c.next_with.ensures
-    ∙ next_found c.kept.result.1.now (g.S.TextStore.list c.kept.result.0.now) c.args.self.now.cells (stamps_in c.widget.inside.selection) c.args.widget.now (λ stamps. is_tagged_in stamps c.args.name.now) c.args.place
+    ∙ next_found c.kept.result.1.now (g.S.TextStore.list c.kept.result.0.now) c.args.self.now.cells (stamps_in c.widget.inside.parts.selection) c.args.widget.now (λ stamps. is_tagged_in stamps c.args.name.now) c.args.place
     c.kept.ensures.cells (ap (λ (o : Own). o.sel) c.widget.view_is)

@@ -96,13 +96,13 @@ returns-in_err-plan-clause-err g c =
     let all : (without_text flat (loss_at flat c.args.range)).count ≡ flat.count + length d.drafts.items =
     counted table kept flat cells history document c.args.range removed places d.drafts.items (c.in_ok-deletion.ensures.drafts flat (sym cells)) in
     let count : c.in_ok-count.count ≡ (without_text flat (loss_at flat c.args.range)).count = omega (arith, c.in_ok-count.ensures.ok.0, c.len.ensures, d.drafts.ok.0, seen, all) in
-    let sel : stamps_in c.widget.inside.selection ≡ own.sel = ap (λ (o : Own). o.sel) c.widget.view_is in
+    let sel : stamps_in c.widget.inside.parts.selection ≡ own.sel = ap (λ (o : Own). o.sel) c.widget.view_is in
     let p = err_from_is_err_and c.from_residual-in_err-plan.result c.from_residual-in_err-plan.ensures.1 in
     rw (p.1, p.2)
     (either (λ q. (
       q.0,
       λ others. too_great table kept flat cells history document c.args.range removed places own others d.held c.min-place.result c.left_after-left.result c.right_after-right.result c.kept.ensures.site c.in_ok-deletion.ensures.held at l r
-          c.args.pieces.now c.args.rest.now c.site-site.result.number c.in_ok-count.count (stamps_in c.widget.inside.selection) site count sel GREATEST_COUNT q.1,
+          c.args.pieces.now c.args.rest.now c.site-site.result.number c.in_ok-count.count (stamps_in c.widget.inside.parts.selection) site count sel GREATEST_COUNT q.1,
     )) c.in_err-plan.ensures.err)
 
 pub returns-clause-plans : goal.returns-clause-plans
@@ -129,12 +129,12 @@ returns-clause-plans g c = λ others.
     let made = c.in_ok-deletion.ensures.drafts flat (sym cells) in
     let all : (without_text flat (loss_at flat c.args.range)).count ≡ flat.count + length d.drafts.items = counted table kept flat cells history document c.args.range removed places d.drafts.items made in
     let count : c.in_ok-count.count ≡ (without_text flat (loss_at flat c.args.range)).count = omega (arith, c.in_ok-count.ensures.ok.0, c.len.ensures, d.drafts.ok.0, seen, all) in
-    let sel : stamps_in c.widget.inside.selection ≡ own.sel = ap (λ (o : Own). o.sel) c.widget.view_is in
+    let sel : stamps_in c.widget.inside.parts.selection ≡ own.sel = ap (λ (o : Own). o.sel) c.widget.view_is in
     let held = c.in_ok-deletion.ensures.held in
     let left = c.left_after-left.result in
     let right = c.right_after-right.result in
     let number = c.site-site.result.number in
-    let selected = stamps_in c.widget.inside.selection in
+    let selected = stamps_in c.widget.inside.parts.selection in
     let pieces = c.args.pieces.now in
     let rest = c.args.rest.now in
     let plan =

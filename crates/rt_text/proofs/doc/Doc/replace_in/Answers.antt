@@ -1,10 +1,11 @@
-use Rattle.std.proofs.Common.{◌≡◌, ◌∙◌, ◌⊎◌, ◌≤◌, ◌+◌, ◌^◌, ◌-◌, ◌++◌, ℕ, All, List, None, ap, arith, inl, inr, length, map, string_bytes, subst, sym}
-use Rattle.std.specs.Prelude.{codes}
+use Rattle.std.proofs.Common.{[], ◌∷◌, ◌<◌, Option, Some, ◌≡◌, ◌∙◌, ◌⊎◌, ◌≤◌, ◌+◌, ◌^◌, ◌-◌, ◌++◌, ℕ, All, List, None, ap, arith, inl, inr, length, map, string_bytes, subst, sym}
+use Rattle.std.specs.List.{AllByRecursion}
 use Rattle.std.proofs.lemmas.Result.{err_from_is_err_and}
 use Rattle.rt_marks.specs.Marks.{Mark, marks_inserted, marks_left}
 use Rattle.rt_oplog.specs.Edits.{body_of}
-use Rattle.rt_stamps.specs.declared.limits.TheConstants.{MOST_SPANS}
-use Rattle.rt_stamps.specs.declared.stamp.Stamp.{Stamp}
+use Rattle.rt_stamps.specs.declared.fault.Fault.{Fault}
+use Rattle.rt_stamps.specs.declared.fault.Fault.TheVariants.{ClockSpent, NoMemory}
+use Rattle.rt_stamps.specs.declared.limits.TheConstants.{GREATEST_COUNT, MOST_SPANS}
 use Rattle.rt_stamps.specs.Outcomes.{first_of}
 use Rattle.rt_stamps.specs.Words.{Word}
 use Rattle.rt_store.specs.Cells.{text_of}
@@ -16,20 +17,22 @@ use Rattle.rt_rga.specs.Requests.{MayBeMade}
 use Rattle.rt_edits.specs.declared.range.Range.{Range}
 use Rattle.rt_edits.specs.Deletions.{delete_drafts}
 use Rattle.rt_edits.specs.Flat.{Flat, logged}
-use Rattle.rt_edits.specs.InsertionPlans.{selected_between}
 use Rattle.rt_edits.specs.Insertions.{Piece, all_listed}
 use Rattle.rt_edits.specs.Removals.{is_covered}
 use Rattle.rt_edits.specs.Selected.{stamps_in}
 use Rattle.rt_edits.specs.Selections.{with_stamps}
-use Rattle.rt_text.specs.Commands.{with_range_replaced}
+use Rattle.rt_text.specs.Commands.{cell_check, with_range_replaced}
 use Rattle.rt_text.specs.Kept.{IsDoc}
 use Rattle.rt_text.specs.Replacements.{left_by, loss_at}
-use Rattle.rt_text.specs.Widgets.{AreSiteMarks, IsOwnOf, Own, Viewed, own_inserted, own_left}
-use Rattle.rt_text.proofs.Deletions.{last_off}
+use Rattle.rt_text.specs.Parts.{own_in}
+use Rattle.rt_text.specs.Widgets.{AreSiteMarks, IsOwnOf, Own, Viewed, own_inserted, own_left, with_selections, reselected}
+use Rattle.rt_text.proofs.Deletions.{last_off, widget_left}
+use Rattle.rt_text.proofs.KeptDocument.{clock_spent}
 use Rattle.rt_text.proofs.MadeDocument.{seen}
 use Rattle.rt_text.proofs.MarkLaws.{site_fits}
+use Rattle.rt_text.proofs.PeerLaws.{each_by, each_room, leave_last, put_each, selecting}
 use Rattle.rt_text.proofs.PutLaws.{late_checks}
-use Rattle.rt_text.proofs.ReplacedDocument.{IsReplacement, all_may, all_refused, characters_fit, given_names, kept_after, marks_left_are, marks_left_in, more_drafts, more_flat, more_new, own_after, own_left_in, replaced_is, replacement_seen, tags_left_are}
+use Rattle.rt_text.proofs.ReplacedDocument.{IsReplacement, all_may, all_refused, characters_fit, given_names, kept_after, marks_left_are, marks_left_in, more_drafts, more_flat, more_new, others_after, others_left_in, own_after, own_left_in, replaced_is, replacement_seen, tags_left_are}
 use Rattle.rt_text.proofs.ViewLaws.{viewed}
 use Rattle.rt_text.proofs.doc.Doc.replace_in.Given.{Over}
 use Rattle.rt_text.proofs.doc.Doc.replace_in.Goals as goal
@@ -38,11 +41,26 @@ which : {F X : Type 0} {r checked : X} {fault memory : F} {some none : X} → (r
 which (inl e) s = inr (sym s ∙ e)
 which (inr p) s = inl p.0
 
+-- counts that are too great are refused first
+spent : (flat : Flat) (edited : List Own → Viewed) (others : List Own) (fault : Fault) → (fault ≡ NoMemory) ⊎ ((fault ≡ ClockSpent) × ((o : List Own) → GREATEST_COUNT < (edited o).doc.count))
+    → (fault ≡ NoMemory) ⊎ (first_of (late_checks flat (edited others)) ≡ Some fault)
+spent flat edited others fault (inl e) = inl e
+spent flat edited others fault (inr p) =
+    let view = edited others in
+    inr (ap (λ (o : Option Fault). first_of (o ∷ cell_check flat.limit (length view.doc.cells) ∷ [])) (clock_spent view.doc.count (p.1 others)) ∙ ap (λ (x : Fault). Some x) (sym p.0))
+
+pub returns-in_err-planned-clause-err : goal.returns-in_err-planned-clause-err
+returns-in_err-planned-clause-err g c =
+    let p = err_from_is_err_and c.from_residual.result c.from_residual.ensures.1 in
+    rw (p.1, p.2)
+    (spent c.args.self.now (λ (o : List Own). with_range_replaced (record { doc = c.args.self.now; own = c.args.widget.now; others = o }) c.args.range c.args.pieces.now c.args.rest.now)
+    (map own_in c.args.others.now) c.in_err-planned.field-0.0 c.in_err-planned.ensures.err)
+
 pub make_room-requires : goal.make_room-requires
 make_room-requires g c =
     let flat = c.args.self.now in
     let own = c.args.widget.now in
-    let others = map stamps_in c.args.others.now in
+    let others = map own_in c.args.others.now in
     let pieces = c.args.pieces.now in
     let rest = c.args.rest.now in
     let r = c.in_ok-planned.planned in
@@ -63,7 +81,7 @@ pub make-requires : goal.make-requires
 make-requires g c =
     let flat = c.args.self.now in
     let own = c.args.widget.now in
-    let others = map stamps_in c.args.others.now in
+    let others = map own_in c.args.others.now in
     let pieces = c.args.pieces.now in
     let rest = c.args.rest.now in
     let r = c.in_ok-planned.planned in
@@ -83,7 +101,7 @@ pub returns-in_err-_made-clause-err : goal.returns-in_err-_made-clause-err
 returns-in_err-_made-clause-err g c =
     let flat = c.args.self.now in
     let own = c.args.widget.now in
-    let others = map stamps_in c.args.others.now in
+    let others = map own_in c.args.others.now in
     let pieces = c.args.pieces.now in
     let rest = c.args.rest.now in
     let r = c.in_ok-planned.planned in
@@ -106,7 +124,7 @@ pub inserted-requires : goal.inserted-requires
 inserted-requires g c =
     let flat = c.args.self.now in
     let own = c.args.widget.now in
-    let others = map stamps_in c.args.others.now in
+    let others = map own_in c.args.others.now in
     let pieces = c.args.pieces.now in
     let rest = c.args.rest.now in
     let r = c.in_ok-planned.planned in
@@ -126,7 +144,7 @@ inserted-requires g c =
     let few : length (text_of left.doc.cells) + r.plan.characters ≤ 2 ^ 64 - 1 =
     omega (arith, characters_fit flat own others c.args.range r.place pieces rest i none c.kept.ensures.most, plans.plan.characters) in
     let moved : c.move_back.new.marks ≡ left.doc.marks =
-    c.move_back.ensures.marks ∙ ap (λ l. marks_left (is_covered l) c.self.inside.marks) c.deref-2.ensures.value
+    c.move_back.ensures ∙ ap (λ l. marks_left (is_covered l) c.self.inside.marks) c.deref-2.ensures.value
     ∙ (λ k. marks_left (λ p. c.in_ok-planned.ensures.removed p k) (c.self.view_is k).marks) ∙ sym (marks_left_are flat own others c.args.range r.place pieces rest i) in
     record {
       fits = site_fits (length (text_of left.doc.cells)) r.plan.characters (2 ^ 64 - 1) c.move_back.new.marks few
@@ -137,7 +155,7 @@ pub inserted-requires-2-clause-insert : goal.inserted-requires-2-clause-insert
 inserted-requires-2-clause-insert g c =
     let flat = c.args.self.now in
     let own = c.args.widget.now in
-    let others = map stamps_in c.args.others.now in
+    let others = map own_in c.args.others.now in
     let pieces = c.args.pieces.now in
     let rest = c.args.rest.now in
     let r = c.in_ok-planned.planned in
@@ -155,14 +173,9 @@ inserted-requires-2-clause-insert g c =
     let left = left_by (viewed flat own others) c.args.range in
     let few : length (text_of left.doc.cells) + r.plan.characters ≤ 2 ^ 64 - 1 =
     omega (arith, characters_fit flat own others c.args.range r.place pieces rest i none c.kept.ensures.most, plans.plan.characters) in
-    let w = c.widget.inside in
-    let own_in : Own = record {
-      insert = record { name = codes "insert"; place = w.insert.place; gravity = w.insert.gravity };
-      current = record { name = codes "current"; place = w.current.place; gravity = w.current.gravity };
-      sel = stamps_in w.selection;
-    } in
-    let place : c.move_back.new.widget.insert.place ≡ left.own.insert.place =
-    ap (λ (o : Own). o.insert.place) c.move_back.ensures.own ∙ ap (λ rs. (own_left (is_covered rs) own_in).insert.place) c.deref-2.ensures.value
+    let own_now : Own = own_in c.widget.inside.parts in
+    let place : c.leave.new.self.insert.place ≡ left.own.insert.place =
+    ap (λ (o : Own). o.insert.place) c.leave.ensures ∙ ap (λ rs. (own_left (is_covered rs) own_now).insert.place) c.deref-3.ensures.value
     ∙ (λ k. (own_left (λ p. c.in_ok-planned.ensures.removed p k) (c.widget.view_is k)).insert.place) in
     omega (arith, place, few, (own_left_in flat own others c.args.range r.place pieces rest i c.requires.own).0)
 
@@ -170,7 +183,7 @@ pub inserted-requires-2-clause-current : goal.inserted-requires-2-clause-current
 inserted-requires-2-clause-current g c =
     let flat = c.args.self.now in
     let own = c.args.widget.now in
-    let others = map stamps_in c.args.others.now in
+    let others = map own_in c.args.others.now in
     let pieces = c.args.pieces.now in
     let rest = c.args.rest.now in
     let r = c.in_ok-planned.planned in
@@ -188,22 +201,49 @@ inserted-requires-2-clause-current g c =
     let left = left_by (viewed flat own others) c.args.range in
     let few : length (text_of left.doc.cells) + r.plan.characters ≤ 2 ^ 64 - 1 =
     omega (arith, characters_fit flat own others c.args.range r.place pieces rest i none c.kept.ensures.most, plans.plan.characters) in
-    let w = c.widget.inside in
-    let own_in : Own = record {
-      insert = record { name = codes "insert"; place = w.insert.place; gravity = w.insert.gravity };
-      current = record { name = codes "current"; place = w.current.place; gravity = w.current.gravity };
-      sel = stamps_in w.selection;
-    } in
-    let place : c.move_back.new.widget.current.place ≡ left.own.current.place =
-    ap (λ (o : Own). o.current.place) c.move_back.ensures.own ∙ ap (λ rs. (own_left (is_covered rs) own_in).current.place) c.deref-2.ensures.value
+    let own_now : Own = own_in c.widget.inside.parts in
+    let place : c.leave.new.self.current.place ≡ left.own.current.place =
+    ap (λ (o : Own). o.current.place) c.leave.ensures ∙ ap (λ rs. (own_left (is_covered rs) own_now).current.place) c.deref-3.ensures.value
     ∙ (λ k. (own_left (λ p. c.in_ok-planned.ensures.removed p k) (c.widget.view_is k)).current.place) in
     omega (arith, place, few, (own_left_in flat own others c.args.range r.place pieces rest i c.requires.own).1)
+
+pub insert_each-requires : goal.insert_each-requires
+insert_each-requires g c =
+    let flat = c.args.self.now in
+    let own = c.args.widget.now in
+    let others = map own_in c.args.others.now in
+    let pieces = c.args.pieces.now in
+    let rest = c.args.rest.now in
+    let r = c.in_ok-planned.planned in
+    let plans = c.in_ok-planned.ensures.plans others in
+    let i : IsReplacement flat own others c.args.range r.place pieces rest = record {
+      history = c.kept.ensures.history;
+      document = c.kept.ensures.document;
+      real = c.kept.ensures.site;
+      fits = c.in_ok-planned.ensures.fits;
+      at = plans.place;
+      texts = c.requires.pieces;
+      utf8 = c.utf8.rest;
+    } in
+    let none = sym (λ k. refusal_of (c.self.view_is k).limit (plans.drafts k) (c.self.view_is k).log) ∙ c.in_ok-_made.ensures.fits in
+    let left = left_by (viewed flat own others) c.args.range in
+    let few : length (text_of left.doc.cells) + r.plan.characters ≤ 2 ^ 64 - 1 =
+    omega (arith, characters_fit flat own others c.args.range r.place pieces rest i none c.kept.ensures.most, plans.plan.characters) in
+    let peers : map own_in c.leave_each.new.others ≡ map (selecting r.plan.between) left.others =
+    c.leave_each.ensures ∙ ap (λ rs. map (own_left (is_covered rs)) (map own_in c.select_between.new.others)) c.deref-4.ensures.value
+    ∙ ap (map (own_left (is_covered r.removed.items))) (c.select_between.ensures ∙ ap (map (selecting r.plan.between)) (c.unselect.ensures.others ∙ ap (map (reselected (last_off r.held))) c.make_room.ensures.others))
+    ∙ leave_last (is_covered r.removed.items) (last_off r.held) r.plan.between others
+    ∙ (λ k. map (selecting r.plan.between) (map (widget_left (λ p. c.in_ok-planned.ensures.removed p k) (c.in_ok-planned.ensures.held k)) others)) in
+    let n = length (text_of left.doc.cells) in
+    each_room n r.plan.characters (2 ^ 64 - 1) c.leave_each.new.others few
+    (subst (AllByRecursion (IsOwnOf n)) (sym peers)
+    (each_by (IsOwnOf n) (IsOwnOf n) (selecting r.plan.between) (λ other stands. stands) left.others (others_left_in flat own others c.args.range r.place pieces rest i c.requires.others)))
 
 pub list_tags-requires-clause-names : goal.list_tags-requires-clause-names
 list_tags-requires-clause-names g c =
     let flat = c.args.self.now in
     let own = c.args.widget.now in
-    let others = map stamps_in c.args.others.now in
+    let others = map own_in c.args.others.now in
     let pieces = c.args.pieces.now in
     let rest = c.args.rest.now in
     let r = c.in_ok-planned.planned in
@@ -218,11 +258,11 @@ list_tags-requires-clause-names g c =
       utf8 = c.utf8.rest;
     } in
     let kept : IsDoc flat.cells flat.marks flat.tags = subst (λ (f : Flat). IsDoc f.cells f.marks f.tags) c.self.view_is c.self.invariant in
-    subst (All (λ w. IsName (string_bytes w))) (sym c.deref-3.ensures.value) (given_names flat own others c.args.range r.place pieces rest i r.plan plans.plan kept)
+    subst (All (λ w. IsName (string_bytes w))) (sym c.deref-5.ensures.value) (given_names flat own others c.args.range r.place pieces rest i r.plan plans.plan kept)
 
 -- what the replacement has made, in the words of its laws
-record Done (flat : Flat) (own : Own) (others : List (List Stamp)) (range : Range) (place : ℕ) (pieces : List Piece) (rest : Word) (new : ReplicaValue) (marks : List Mark) (tags : List Word) (widget : Own)
-    (selections : List (List Stamp)) : Type 0 where
+record Done (flat : Flat) (own : Own) (others : List Own) (range : Range) (place : ℕ) (pieces : List Piece) (rest : Word) (new : ReplicaValue) (marks : List Mark) (tags : List Word) (widget : Own)
+    (peers : List Own) : Type 0 where
   is : IsReplacement flat own others range place pieces rest
   kept : IsDoc flat.cells flat.marks flat.tags
   none : refusal_of flat.limit (delete_drafts MOST_SPANS flat (loss_at flat range) ++ more_drafts flat own others range place pieces rest is) flat.log ≡ None
@@ -232,15 +272,16 @@ record Done (flat : Flat) (own : Own) (others : List (List Stamp)) (range : Rang
       ≡ logged (left_by (viewed flat own others) range).doc (more_drafts flat own others range place pieces rest is) (more_flat flat own others range place pieces rest is)
   own_is : widget
       ≡ record (own_inserted place (length (more_new flat own others range place pieces rest is).cells) (left_by (viewed flat own others) range).own) { sel = (more_new flat own others range place pieces rest is).sel }
-  others_are : selections ≡ (more_new flat own others range place pieces rest is).others
+  others_are : peers ≡ with_selections (more_new flat own others range place pieces rest is).others
+      (map (own_inserted place (length (more_new flat own others range place pieces rest is).cells)) (left_by (viewed flat own others) range).others)
 
 done : (g : Over) (c : goal.After-drop-planned-2 g)
-    → Done c.args.self.now c.args.widget.now (map stamps_in c.args.others.now) c.args.range c.in_ok-planned.planned.place c.args.pieces.now c.args.rest.now c.make.new.self c.inserted.new.self c.list_tags.new.table.names
-    c.inserted-2.new.self (map stamps_in c.select_between.new.others)
+    → Done c.args.self.now c.args.widget.now (map own_in c.args.others.now) c.args.range c.in_ok-planned.planned.place c.args.pieces.now c.args.rest.now c.make.new.self c.inserted.new.self c.list_tags.new.table.names
+    c.inserted-2.new.self (map own_in c.insert_each.new.others)
 done g c =
     let flat = c.args.self.now in
     let own = c.args.widget.now in
-    let others = map stamps_in c.args.others.now in
+    let others = map own_in c.args.others.now in
     let pieces = c.args.pieces.now in
     let rest = c.args.rest.now in
     let r = c.in_ok-planned.planned in
@@ -258,45 +299,46 @@ done g c =
     let none = sym (λ k. refusal_of (c.self.view_is k).limit (plans.drafts k) (c.self.view_is k).log) ∙ c.in_ok-_made.ensures.fits in
     let left = left_by (viewed flat own others) c.args.range in
     let moved : c.move_back.new.marks ≡ left.doc.marks =
-    c.move_back.ensures.marks ∙ ap (λ l. marks_left (is_covered l) c.self.inside.marks) c.deref-2.ensures.value
+    c.move_back.ensures ∙ ap (λ l. marks_left (is_covered l) c.self.inside.marks) c.deref-2.ensures.value
     ∙ (λ k. marks_left (λ p. c.in_ok-planned.ensures.removed p k) (c.self.view_is k).marks) ∙ sym (marks_left_are flat own others c.args.range r.place pieces rest i) in
-    let w = c.widget.inside in
-    let own_in : Own = record {
-      insert = record { name = codes "insert"; place = w.insert.place; gravity = w.insert.gravity };
-      current = record { name = codes "current"; place = w.current.place; gravity = w.current.gravity };
-      sel = stamps_in w.selection;
-    } in
+    let own_now : Own = own_in c.widget.inside.parts in
     let new = more_new flat own others c.args.range r.place pieces rest i in
     let selected = r.plan.selected.items in
     let names = map (λ w. string_bytes w) r.plan.names.items in
-    let sel : stamps_in w.selection ≡ own.sel = ap (λ (o : Own). o.sel) c.widget.view_is in
+    let sel : stamps_in c.widget.inside.parts.selection ≡ own.sel = ap (λ (o : Own). o.sel) c.widget.view_is in
     let held = c.in_ok-planned.ensures.held in
     let stamps : stamps_in c.add.new.self ≡ new.sel =
     c.add.ensures ∙ (λ k. with_stamps (c.deref.ensures.value k) (c.unselect.ensures.sel k)) ∙ ap (λ s. with_stamps selected (last_off r.held s)) (c.make_room.ensures.selection ∙ sel)
     ∙ ap (λ b. with_stamps selected (last_off b own.sel)) held ∙ plans.plan.sel in
-    let own_moved : c.move_back.new.widget ≡ own_left (loss_at flat c.args.range).places (record own { sel = new.sel }) =
-    c.move_back.ensures.own ∙ ap (λ rs. own_left (is_covered rs) (record own_in { sel = stamps_in c.add.new.self })) c.deref-2.ensures.value
+    let own_moved : c.leave.new.self ≡ own_left (loss_at flat c.args.range).places (record own { sel = new.sel }) =
+    c.leave.ensures ∙ ap (λ rs. own_left (is_covered rs) (record own_now { sel = stamps_in c.add.new.self })) c.deref-3.ensures.value
     ∙ (λ k. own_left (λ p. c.in_ok-planned.ensures.removed p k) (record (c.widget.view_is k) { sel = stamps k })) in
+    let peers : map own_in c.leave_each.new.others ≡ map (selecting r.plan.between) left.others =
+    c.leave_each.ensures ∙ ap (λ rs. map (own_left (is_covered rs)) (map own_in c.select_between.new.others)) c.deref-4.ensures.value
+    ∙ ap (map (own_left (is_covered r.removed.items))) (c.select_between.ensures ∙ ap (map (selecting r.plan.between)) (c.unselect.ensures.others ∙ ap (map (reselected (last_off r.held))) c.make_room.ensures.others))
+    ∙ leave_last (is_covered r.removed.items) (last_off r.held) r.plan.between others
+    ∙ (λ k. map (selecting r.plan.between) (map (widget_left (λ p. c.in_ok-planned.ensures.removed p k) (c.in_ok-planned.ensures.held k)) others)) in
     record {
       is = i;
       kept = kept;
       none = none;
       marks_is = c.inserted.ensures ∙ (λ k. marks_inserted r.place (plans.plan.characters k) (moved k));
-      tags_is = c.list_tags.ensures ∙ (λ k. all_listed (map (λ w. string_bytes w) (c.deref-3.ensures.value k)) (c.make_room.ensures.tags k)) ∙ ap (λ (f : Flat). all_listed names f.tags) c.self.view_is
+      tags_is = c.list_tags.ensures ∙ (λ k. all_listed (map (λ w. string_bytes w) (c.deref-5.ensures.value k)) (c.make_room.ensures.tags k)) ∙ ap (λ (f : Flat). all_listed names f.tags) c.self.view_is
           ∙ ap (all_listed names) (sym (tags_left_are flat own others c.args.range r.place pieces rest i)) ∙ plans.plan.tags;
       doc = replacement_seen flat own others c.args.range r.place pieces rest i c.make.new.self none
           (c.in_ok-_made.ensures.log ∙ (λ k. with_drafts (c.self.view_is k).site (plans.drafts k) (c.self.view_is k).log)) c.in_ok-_made.ensures.cells
           (c.make.ensures.site ∙ ap (λ (f : Flat). f.site) c.self.view_is) (c.make.ensures.limit ∙ ap (λ (f : Flat). f.limit) c.self.view_is);
       own_is = c.inserted-2.ensures ∙ (λ k. own_inserted r.place (plans.plan.characters k) (own_moved k));
-      others_are = c.select_between.ensures
-          ∙ ap (map (selected_between r.plan.between)) (c.unselect.ensures.others ∙ ap (map (last_off r.held)) c.make_room.ensures.others ∙ ap (λ b. map (last_off b) others) held) ∙ plans.plan.others;
+      others_are = c.insert_each.ensures ∙ ap (map (own_inserted r.place r.plan.characters)) peers
+          ∙ ap (λ n. map (own_inserted r.place n) (map (selecting r.plan.between) left.others)) plans.plan.characters ∙ put_each r.place (length new.cells) r.plan.between left.others
+          ∙ ap (λ l. with_selections l (map (own_inserted r.place (length new.cells)) left.others)) plans.plan.others;
     }
 
 pub invariant_of-self-2 : goal.invariant_of-self-2
 invariant_of-self-2 g c =
     let flat = c.args.self.now in
     let own = c.args.widget.now in
-    let others = map stamps_in c.args.others.now in
+    let others = map own_in c.args.others.now in
     let place = c.in_ok-planned.planned.place in
     let pieces = c.args.pieces.now in
     let rest = c.args.rest.now in
@@ -307,21 +349,22 @@ pub returns-clause-ok : goal.returns-clause-ok
 returns-clause-ok g c =
     let flat = c.args.self.now in
     let own = c.args.widget.now in
-    let others = map stamps_in c.args.others.now in
+    let others = map own_in c.args.others.now in
     let place = c.in_ok-planned.planned.place in
     let pieces = c.args.pieces.now in
     let rest = c.args.rest.now in
     let d = done g c in
     let new = more_new flat own others c.args.range place pieces rest d.is in
     (λ k. record { doc = seen c.make.new.self (d.marks_is k) (d.tags_is k); own = d.own_is k; others = d.others_are k })
-    ∙ ap (λ (f : Flat). record { doc = f; own = record (own_inserted place (length new.cells) (left_by (viewed flat own others) c.args.range).own) { sel = new.sel }; others = new.others }) d.doc
+    ∙ ap (λ (f : Flat). record { doc = f; own = record (own_inserted place (length new.cells) (left_by (viewed flat own others) c.args.range).own) { sel = new.sel };
+      others = with_selections new.others (map (own_inserted place (length new.cells)) (left_by (viewed flat own others) c.args.range).others) }) d.doc
     ∙ sym (replaced_is flat own others c.args.range place pieces rest d.is)
 
 pub returns-clause-checked : goal.returns-clause-checked
 returns-clause-checked g c =
     let flat = c.args.self.now in
     let own = c.args.widget.now in
-    let others = map stamps_in c.args.others.now in
+    let others = map own_in c.args.others.now in
     let place = c.in_ok-planned.planned.place in
     let pieces = c.args.pieces.now in
     let rest = c.args.rest.now in
@@ -333,9 +376,20 @@ pub returns-clause-own : goal.returns-clause-own
 returns-clause-own g c =
     let flat = c.args.self.now in
     let own = c.args.widget.now in
-    let others = map stamps_in c.args.others.now in
+    let others = map own_in c.args.others.now in
     let place = c.in_ok-planned.planned.place in
     let pieces = c.args.pieces.now in
     let rest = c.args.rest.now in
     let d = done g c in
     subst (λ (p : _). p) (λ k. IsOwnOf (length (text_of (sym d.doc k).cells)) (sym d.own_is k)) (own_after flat own others c.args.range place pieces rest d.is d.kept c.requires.own)
+
+pub returns-clause-others : goal.returns-clause-others
+returns-clause-others g c =
+    let flat = c.args.self.now in
+    let own = c.args.widget.now in
+    let others = map own_in c.args.others.now in
+    let place = c.in_ok-planned.planned.place in
+    let pieces = c.args.pieces.now in
+    let rest = c.args.rest.now in
+    let d = done g c in
+    subst (λ (p : _). p) (λ k. AllByRecursion (IsOwnOf (length (text_of (sym d.doc k).cells))) (sym d.others_are k)) (others_after flat own others c.args.range place pieces rest d.is d.kept c.requires.others)

@@ -22,9 +22,11 @@ use Rattle.rt_revert.proofs.Steps.{reversion_sound}
 use Rattle.rt_text.specs.Changes.{own_after}
 use Rattle.rt_text.specs.Kept.{IsDoc}
 use Rattle.rt_text.specs.Reversions.{own_reverted, reversion_check}
+use Rattle.rt_text.specs.Parts.{own_in}
 use Rattle.rt_text.specs.Widgets.{IsOwnOf}
 use Rattle.rt_text.proofs.MadeDocument.{seen}
 use Rattle.rt_text.proofs.MarkLaws.{site_fits}
+use Rattle.rt_text.proofs.PeerLaws.{each_by, each_room}
 use Rattle.rt_text.proofs.PlannedReversion.{IsPlanned, names_planned, not_planned, own_left_in, own_moved, planned, reverts}
 use Rattle.rt_text.proofs.RevertedDocument.{all_may, all_refused, left_kept, left_seen, store_older}
 use Rattle.rt_text.proofs.doc.Doc.revert_in.Goals as goal
@@ -154,8 +156,12 @@ move_for_all-requires-clause-fits g c =
     let few : length c.deref-2.result.now ≤ 2 ^ 63 = omega (arith, ap length changes, plan.changes.ok.0, plan.changes.ok.1, plan.changes.small) in
     site_fits n (length c.deref-2.result.now) (2 ^ 64 - 1) c.self.inside.marks (omega (arith, within, few)) c.self.invariant.placed
 
-pub move_for_all-requires-clause-insert : goal.move_for_all-requires-clause-insert
-move_for_all-requires-clause-insert g c =
+pub change_all-requires-clause-changes : goal.change_all-requires-clause-changes
+change_all-requires-clause-changes g c =
+    subst (AllByRecursion IsChange) (sym c.deref-3.ensures.value) c.in_ok-plan.ensures.changes
+
+pub change_all-requires-clause-insert : goal.change_all-requires-clause-insert
+change_all-requires-clause-insert g c =
     let flat = c.args.self.now in
     let group = named_group c.args.kept.now (group_of c.args.group.now) in
     let states = c.kept.result.1.now in
@@ -169,12 +175,12 @@ move_for_all-requires-clause-insert g c =
     let text : n ≡ length (text_of flat.cells) = ap (λ (f : Flat). length (text_of f.cells)) c.self.view_is in
     let cells : length flat.cells ≡ length store = ap length (sym c.kept.ensures.cells) ∙ length-map store (shown states) in
     let within : n ≤ MOST_CELLS = omega (arith, text, cells, text_within flat.cells, c.kept.ensures.few, c.kept.ensures.most) in
-    let changes : c.deref-2.result.now ≡ plan.changes.items = c.deref-2.ensures.value in
-    let few : length c.deref-2.result.now ≤ 2 ^ 63 = omega (arith, ap length changes, plan.changes.ok.0, plan.changes.ok.1, plan.changes.small) in
+    let changes : c.deref-3.result.now ≡ plan.changes.items = c.deref-3.ensures.value in
+    let few : length c.deref-3.result.now ≤ 2 ^ 63 = omega (arith, ap length changes, plan.changes.ok.0, plan.changes.ok.1, plan.changes.small) in
     omega (arith, text, within, few, c.requires.own.0)
 
-pub move_for_all-requires-clause-current : goal.move_for_all-requires-clause-current
-move_for_all-requires-clause-current g c =
+pub change_all-requires-clause-current : goal.change_all-requires-clause-current
+change_all-requires-clause-current g c =
     let flat = c.args.self.now in
     let group = named_group c.args.kept.now (group_of c.args.group.now) in
     let states = c.kept.result.1.now in
@@ -188,13 +194,35 @@ move_for_all-requires-clause-current g c =
     let text : n ≡ length (text_of flat.cells) = ap (λ (f : Flat). length (text_of f.cells)) c.self.view_is in
     let cells : length flat.cells ≡ length store = ap length (sym c.kept.ensures.cells) ∙ length-map store (shown states) in
     let within : n ≤ MOST_CELLS = omega (arith, text, cells, text_within flat.cells, c.kept.ensures.few, c.kept.ensures.most) in
-    let changes : c.deref-2.result.now ≡ plan.changes.items = c.deref-2.ensures.value in
-    let few : length c.deref-2.result.now ≤ 2 ^ 63 = omega (arith, ap length changes, plan.changes.ok.0, plan.changes.ok.1, plan.changes.small) in
+    let changes : c.deref-3.result.now ≡ plan.changes.items = c.deref-3.ensures.value in
+    let few : length c.deref-3.result.now ≤ 2 ^ 63 = omega (arith, ap length changes, plan.changes.ok.0, plan.changes.ok.1, plan.changes.small) in
     omega (arith, text, within, few, c.requires.own.1)
 
+pub change_each-requires-clause-changes : goal.change_each-requires-clause-changes
+change_each-requires-clause-changes g c =
+    subst (AllByRecursion IsChange) (sym c.deref-4.ensures.value) c.in_ok-plan.ensures.changes
+
+pub change_each-requires-clause-fits : goal.change_each-requires-clause-fits
+change_each-requires-clause-fits g c =
+    let flat = c.args.self.now in
+    let group = named_group c.args.kept.now (group_of c.args.group.now) in
+    let states = c.kept.result.1.now in
+    let store = g.S.TextStore.list c.kept.result.0.now in
+    let number = c.site-site.result.number in
+    let many = c.seen-count.result in
+    let site : number ≡ flat.site = c.site-site.ensures ∙ ap (λ (f : Flat). f.site) c.self.view_is in
+    let count : many ≡ flat.count = c.seen-count.ensures.value ∙ c.clock.ensures ∙ ap (λ (f : Flat). f.count) c.self.view_is in
+    let plan = c.in_ok-plan.plan in
+    let n = length (text_of c.self.inside.replica.cells) in
+    let text : n ≡ length (text_of flat.cells) = ap (λ (f : Flat). length (text_of f.cells)) c.self.view_is in
+    let cells : length flat.cells ≡ length store = ap length (sym c.kept.ensures.cells) ∙ length-map store (shown states) in
+    let within : n ≤ MOST_CELLS = omega (arith, text, cells, text_within flat.cells, c.kept.ensures.few, c.kept.ensures.most) in
+    let changes : c.deref-4.result.now ≡ plan.changes.items = c.deref-4.ensures.value in
+    let few : length c.deref-4.result.now ≤ 2 ^ 63 = omega (arith, ap length changes, plan.changes.ok.0, plan.changes.ok.1, plan.changes.small) in
+    each_room (length (text_of flat.cells)) (length c.deref-4.result.now) (2 ^ 64 - 1) c.args.others.now (omega (arith, text, within, few)) c.requires.others
 pub list_tags-requires-clause-names : goal.list_tags-requires-clause-names
 list_tags-requires-clause-names g c =
-    subst (All (λ w. IsName (string_bytes w))) (sym c.deref-3.ensures.value) (names_planned c.in_ok-plan.plan c.in_ok-plan.ensures.names)
+    subst (All (λ w. IsName (string_bytes w))) (sym c.deref-5.ensures.value) (names_planned c.in_ok-plan.plan c.in_ok-plan.ensures.names)
 
 pub invariant_of-self-2 : goal.invariant_of-self-2
 invariant_of-self-2 g c =
@@ -224,9 +252,9 @@ invariant_of-self-2 g c =
     let doc : seen c.make.new.self left.marks left.tags ≡ reverted flat group =
     left_seen flat group i c.make.new.self (c.in_ok-_made.ensures.log ∙ (λ k. with_drafts (c.self.view_is k).site (plans.drafts k) (c.self.view_is k).log)) c.in_ok-_made.ensures.cells
     (c.make.ensures.site ∙ ap (λ (f : Flat). f.site) c.self.view_is) (c.make.ensures.limit ∙ ap (λ (f : Flat). f.limit) c.self.view_is) in
-    let marks : c.move_for_all.new.marks ≡ left.marks = c.move_for_all.ensures.marks ∙ (λ k. marks_after (c.deref-2.ensures.value k) (c.self.view_is k).marks) ∙ plans.marks in
+    let marks : c.move_for_all.new.marks ≡ left.marks = c.move_for_all.ensures ∙ (λ k. marks_after (c.deref-2.ensures.value k) (c.self.view_is k).marks) ∙ plans.marks in
     let tags : c.list_tags.new.table.names ≡ left.tags =
-    c.list_tags.ensures ∙ (λ k. all_listed (map (λ w. string_bytes w) (c.deref-3.ensures.value k)) (c.prepare_tags.ensures.names k)) ∙ ap (λ (f : Flat). all_listed (map (λ w. string_bytes w) plan.names.items) f.tags) c.self.view_is ∙ plans.tags in
+    c.list_tags.ensures ∙ (λ k. all_listed (map (λ w. string_bytes w) (c.deref-5.ensures.value k)) (c.prepare_tags.ensures.names k)) ∙ ap (λ (f : Flat). all_listed (map (λ w. string_bytes w) plan.names.items) f.tags) c.self.view_is ∙ plans.tags in
     let kept : IsDoc flat.cells flat.marks flat.tags = subst (λ (f : Flat). IsDoc f.cells f.marks f.tags) c.self.view_is c.self.invariant in
     subst (λ (x : _). x) (λ k. IsDoc (sym doc k).cells (sym marks k) (sym tags k)) (left_kept flat group i kept)
 
@@ -258,9 +286,9 @@ returns-clause-doc g c =
     let doc : seen c.make.new.self left.marks left.tags ≡ reverted flat group =
     left_seen flat group i c.make.new.self (c.in_ok-_made.ensures.log ∙ (λ k. with_drafts (c.self.view_is k).site (plans.drafts k) (c.self.view_is k).log)) c.in_ok-_made.ensures.cells
     (c.make.ensures.site ∙ ap (λ (f : Flat). f.site) c.self.view_is) (c.make.ensures.limit ∙ ap (λ (f : Flat). f.limit) c.self.view_is) in
-    let marks : c.move_for_all.new.marks ≡ left.marks = c.move_for_all.ensures.marks ∙ (λ k. marks_after (c.deref-2.ensures.value k) (c.self.view_is k).marks) ∙ plans.marks in
+    let marks : c.move_for_all.new.marks ≡ left.marks = c.move_for_all.ensures ∙ (λ k. marks_after (c.deref-2.ensures.value k) (c.self.view_is k).marks) ∙ plans.marks in
     let tags : c.list_tags.new.table.names ≡ left.tags =
-    c.list_tags.ensures ∙ (λ k. all_listed (map (λ w. string_bytes w) (c.deref-3.ensures.value k)) (c.prepare_tags.ensures.names k)) ∙ ap (λ (f : Flat). all_listed (map (λ w. string_bytes w) plan.names.items) f.tags) c.self.view_is ∙ plans.tags in
+    c.list_tags.ensures ∙ (λ k. all_listed (map (λ w. string_bytes w) (c.deref-5.ensures.value k)) (c.prepare_tags.ensures.names k)) ∙ ap (λ (f : Flat). all_listed (map (λ w. string_bytes w) plan.names.items) f.tags) c.self.view_is ∙ plans.tags in
     (λ k. seen c.make.new.self (marks k) (tags k)) ∙ doc
 
 pub returns-clause-widget : goal.returns-clause-widget
@@ -288,9 +316,36 @@ returns-clause-widget g c =
     let plans = planned states table store number many flat group plan p in
     let i = reverts states table store number many flat group plan p in
     let own = c.args.widget.now in
-    let moved : c.move_for_all.new.widget ≡ own_reverted flat group own =
-    c.move_for_all.ensures.own ∙ (λ k. own_after (c.deref-2.ensures.value k) own) ∙ own_moved states table store number many flat group plan p own in
+    let moved : c.change_all.new.self ≡ own_reverted flat group own =
+    c.change_all.ensures ∙ (λ k. own_after (c.deref-3.ensures.value k) own) ∙ own_moved states table store number many flat group plan p own in
     moved
+
+pub returns-clause-peers : goal.returns-clause-peers
+returns-clause-peers g c =
+    let flat = c.args.self.now in
+    let group = named_group c.args.kept.now (group_of c.args.group.now) in
+    let states = c.kept.result.1.now in
+    let store = g.S.TextStore.list c.kept.result.0.now in
+    let number = c.site-site.result.number in
+    let many = c.seen-count.result in
+    let site : number ≡ flat.site = c.site-site.ensures ∙ ap (λ (f : Flat). f.site) c.self.view_is in
+    let count : many ≡ flat.count = c.seen-count.ensures.value ∙ c.clock.ensures ∙ ap (λ (f : Flat). f.count) c.self.view_is in
+    let is : IsOf states store number many flat = record { cells = sym c.kept.ensures.cells; site = sym site; count = sym count } in
+    let table = c.planned_reversion_in.new.kept in
+    let plan = c.in_ok-plan.plan in
+    let p : IsPlanned states table store number many flat group plan = record {
+      real = c.kept.ensures.site;
+      history = c.kept.ensures.history;
+      document = c.kept.ensures.document;
+      sound = c.requires.sound;
+      is = is;
+      plans = c.in_ok-plan.ensures.plan;
+      fits = c.in_ok-plan.ensures.fits;
+    } in
+    let plans = planned states table store number many flat group plan p in
+    let i = reverts states table store number many flat group plan p in
+    let others = map own_in c.args.others.now in
+    c.change_each.ensures ∙ (λ k. map (own_after (c.deref-4.ensures.value k)) others) ∙ (λ k. map (λ own. own_moved states table store number many flat group plan p own k) others)
 
 pub returns-clause-checked : goal.returns-clause-checked
 returns-clause-checked g c =
@@ -425,6 +480,41 @@ returns-clause-own g c =
     left_seen flat group i c.make.new.self (c.in_ok-_made.ensures.log ∙ (λ k. with_drafts (c.self.view_is k).site (plans.drafts k) (c.self.view_is k).log)) c.in_ok-_made.ensures.cells
     (c.make.ensures.site ∙ ap (λ (f : Flat). f.site) c.self.view_is) (c.make.ensures.limit ∙ ap (λ (f : Flat). f.limit) c.self.view_is) in
     let own = c.args.widget.now in
-    let moved : c.move_for_all.new.widget ≡ own_reverted flat group own =
-    c.move_for_all.ensures.own ∙ (λ k. own_after (c.deref-2.ensures.value k) own) ∙ own_moved states table store number many flat group plan p own in
+    let moved : c.change_all.new.self ≡ own_reverted flat group own =
+    c.change_all.ensures ∙ (λ k. own_after (c.deref-3.ensures.value k) own) ∙ own_moved states table store number many flat group plan p own in
     subst (λ (x : _). x) (λ k. IsOwnOf (length (text_of (sym doc k).cells)) (sym moved k)) (own_left_in states table store number many flat group plan p own c.requires.own)
+
+pub returns-clause-others : goal.returns-clause-others
+returns-clause-others g c =
+    let flat = c.args.self.now in
+    let group = named_group c.args.kept.now (group_of c.args.group.now) in
+    let states = c.kept.result.1.now in
+    let store = g.S.TextStore.list c.kept.result.0.now in
+    let number = c.site-site.result.number in
+    let many = c.seen-count.result in
+    let site : number ≡ flat.site = c.site-site.ensures ∙ ap (λ (f : Flat). f.site) c.self.view_is in
+    let count : many ≡ flat.count = c.seen-count.ensures.value ∙ c.clock.ensures ∙ ap (λ (f : Flat). f.count) c.self.view_is in
+    let is : IsOf states store number many flat = record { cells = sym c.kept.ensures.cells; site = sym site; count = sym count } in
+    let table = c.planned_reversion_in.new.kept in
+    let plan = c.in_ok-plan.plan in
+    let p : IsPlanned states table store number many flat group plan = record {
+      real = c.kept.ensures.site;
+      history = c.kept.ensures.history;
+      document = c.kept.ensures.document;
+      sound = c.requires.sound;
+      is = is;
+      plans = c.in_ok-plan.ensures.plan;
+      fits = c.in_ok-plan.ensures.fits;
+    } in
+    let plans = planned states table store number many flat group plan p in
+    let i = reverts states table store number many flat group plan p in
+    let left = (reversion flat group).doc in
+    let doc : seen c.make.new.self left.marks left.tags ≡ reverted flat group =
+    left_seen flat group i c.make.new.self (c.in_ok-_made.ensures.log ∙ (λ k. with_drafts (c.self.view_is k).site (plans.drafts k) (c.self.view_is k).log)) c.in_ok-_made.ensures.cells
+    (c.make.ensures.site ∙ ap (λ (f : Flat). f.site) c.self.view_is) (c.make.ensures.limit ∙ ap (λ (f : Flat). f.limit) c.self.view_is) in
+    let others = map own_in c.args.others.now in
+    let moved : map own_in c.change_each.new.others ≡ map (own_reverted flat group) others =
+    c.change_each.ensures ∙ (λ k. map (own_after (c.deref-4.ensures.value k)) others) ∙ (λ k. map (λ own. own_moved states table store number many flat group plan p own k) others) in
+    subst (λ (x : _). x) (λ k. AllByRecursion (IsOwnOf (length (text_of (sym doc k).cells))) (sym moved k))
+    (each_by (IsOwnOf (length (text_of flat.cells))) (IsOwnOf (length (text_of (reverted flat group).cells))) (own_reverted flat group)
+    (λ own stands. own_left_in states table store number many flat group plan p own stands) others c.requires.others)

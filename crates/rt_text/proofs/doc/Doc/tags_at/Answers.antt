@@ -19,7 +19,7 @@ cell_at-cell-requires g c =
 
 pub returns-clause-ok : goal.returns-clause-ok
 returns-clause-ok g c =
-    tags_found c.kept.result.1.now (g.S.TextStore.list c.kept.result.0.now) c.args.self.now.cells (stamps_in c.widget.inside.selection) c.args.widget.now c.args.self.now.tags
+    tags_found c.kept.result.1.now (g.S.TextStore.list c.kept.result.0.now) c.args.self.now.cells (stamps_in c.widget.inside.parts.selection) c.args.widget.now c.args.self.now.tags
     (map (λ w. string_bytes w) c.in_ok-names.names.items) (map (λ w. string_bytes w) c.keep_tags_on.new.names.items) c.args.place c.cell_at-cell.result
     c.kept.ensures.cells (ap (λ (o : Own). o.sel) c.widget.view_is) c.cell_at-cell.ensures
     (c.in_ok-names.ensures.names ∙ ap (λ (f : Flat). f.tags) c.self.view_is) c.keep_tags_on.ensures

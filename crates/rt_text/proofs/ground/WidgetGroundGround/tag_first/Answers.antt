@@ -8,5 +8,5 @@ pub returns : goal.returns
 returns g c =
     let ground = c.args.self.now in
     c.next_with.ensures
-    ∙ begins_by ground.states.now (g.S.TextStore.list ground.store.now) ground.marks.now ground.tags.now.names (stamps_in c.widget.inside.selection) ground.widget.now c.args.name.now
+    ∙ begins_by ground.states.now (g.S.TextStore.list ground.store.now) ground.marks.now ground.tags.now.names (stamps_in c.widget.inside.parts.selection) ground.widget.now c.args.name.now
     (ap (λ (o : Own). o.sel) c.widget.view_is) (sym c.has.ensures ∙ c.if-not-has.false)

@@ -13,7 +13,7 @@ pub returns-in_err-last : goal.returns-in_err-last
 returns-in_err-last g c =
     let ground = c.args.self.now in
     c.from_residual.ensures ∙ ap (option_map (λ q. q + 1)) (sym c.in_err-last.was ∙ c.last_with.ensures)
-    ∙ stops_by ground.states.now (g.S.TextStore.list ground.store.now) ground.marks.now ground.tags.now.names (stamps_in c.widget.inside.selection) ground.widget.now c.args.name.now
+    ∙ stops_by ground.states.now (g.S.TextStore.list ground.store.now) ground.marks.now ground.tags.now.names (stamps_in c.widget.inside.parts.selection) ground.widget.now c.args.name.now
     (ap (λ (o : Own). o.sel) c.widget.view_is) (sym c.has.ensures ∙ c.if-not-has.false)
 
 pub overflow_add-result : goal.overflow_add-result
@@ -21,7 +21,7 @@ overflow_add-result g c =
     let ground = c.args.self.now in
     let kept = g.S.TextStore.list ground.store.now in
     let within : c.in_ok-last.last < length (visible_of kept) =
-    last_within (λ cell. is_tagged_in (stamps_in c.widget.inside.selection) c.args.name.now (shown ground.states.now cell)) (visible_of kept) c.in_ok-last.last (sym c.last_with.ensures ∙ c.in_ok-last.was) in
+    last_within (λ cell. is_tagged_in (stamps_in c.widget.inside.parts.selection) c.args.name.now (shown ground.states.now cell)) (visible_of kept) c.in_ok-last.last (sym c.last_with.ensures ∙ c.in_ok-last.was) in
     let same : length (text_of (map (shown ground.states.now) kept)) ≡ length (text_of kept) = ap length ground.text in
     omega (arith, within, same, length_text kept, ground.few)
 
@@ -29,5 +29,5 @@ pub returns : goal.returns
 returns g c =
     let ground = c.args.self.now in
     ap (option_map (λ q. q + 1)) (sym c.in_ok-last.was ∙ c.last_with.ensures)
-    ∙ stops_by ground.states.now (g.S.TextStore.list ground.store.now) ground.marks.now ground.tags.now.names (stamps_in c.widget.inside.selection) ground.widget.now c.args.name.now
+    ∙ stops_by ground.states.now (g.S.TextStore.list ground.store.now) ground.marks.now ground.tags.now.names (stamps_in c.widget.inside.parts.selection) ground.widget.now c.args.name.now
     (ap (λ (o : Own). o.sel) c.widget.view_is) (sym c.has.ensures ∙ c.if-not-has.false)

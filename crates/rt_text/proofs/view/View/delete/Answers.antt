@@ -1,12 +1,15 @@
-use Rattle.std.proofs.Common.{◌≡◌, ◌∙◌, ◌⊎◌, Some, ap, arith, map, string_bytes, subst, sym}
+use Rattle.std.specs.List.{AllByRecursion}
+use Rattle.rt_text.specs.declared.parts.Parts.{Parts}
+use Rattle.std.proofs.Common.{List, length, ◌≡◌, ◌∙◌, ◌⊎◌, Some, ap, arith, map, string_bytes, subst, sym}
 use Rattle.std.specs.Prelude.{IfErr}
 use Rattle.std.specs.Vec.{with_items}
 use Rattle.std.proofs.lemmas.List.{with_items_is}
 use Rattle.std.proofs.lemmas.Result.{IfErr-weaker, err_from_is_err_and}
 use Rattle.rt_stamps.specs.declared.fault.Fault.TheVariants.{NoMemory}
-use Rattle.rt_edits.specs.Selected.{stamps_in}
+use Rattle.rt_store.specs.Cells.{text_of}
+use Rattle.rt_text.specs.Parts.{own_in}
 use Rattle.rt_text.specs.Commands.{clock_check, without_ranges}
-use Rattle.rt_text.specs.Widgets.{Viewed}
+use Rattle.rt_text.specs.Widgets.{IsOwnOf, Viewed}
 use Rattle.rt_text.proofs.Deletions.{both_ok, deleted_index}
 use Rattle.rt_text.proofs.Refusals.{deleted_ok, deleted_refused}
 use Rattle.rt_text.proofs.ViewLaws.{viewed}
@@ -17,18 +20,22 @@ returns-in_err-ranges-clause-err g c =
     let p = err_from_is_err_and c.from_residual.result c.from_residual.ensures.1 in
     rw p.1 (deleted_index c.args.self.now (map (λ w. string_bytes w) c.args.indices.now) p.0 c.in_err-ranges.field-0.0 c.in_err-ranges.ensures.err p.2)
 
+pub delete_in-requires-clause-others : goal.delete_in-requires-clause-others
+delete_in-requires-clause-others g c =
+    subst (λ (l : List Parts). AllByRecursion (IsOwnOf (length (text_of c.self.inside.doc.cells))) (map own_in l)) (sym c.deref_mut.ensures.value) c.self.invariant.1
+
 pub returns-clause-ok : goal.returns-clause-ok
 returns-clause-ok g c =
     let view = c.args.self.now in
     let indices = map (λ w. string_bytes w) c.args.indices.now in
     let ranges = c.deref.result.now in
     let read = c.deref.ensures.value ∙ c.in_ok-ranges.ensures.ok in
-    let same : viewed c.self.inside.doc c.self.inside.widget (map stamps_in c.deref_mut.result.now) ≡ view =
-    ap (λ l. viewed c.self.inside.doc c.self.inside.widget (map stamps_in l)) c.deref_mut.ensures.value ∙ c.self.view_is in
+    let same : viewed c.self.inside.doc c.self.inside.widget (map own_in c.deref_mut.result.now) ≡ view =
+    ap (λ l. viewed c.self.inside.doc c.self.inside.widget (map own_in l)) c.deref_mut.ensures.value ∙ c.self.view_is in
     let back : (with_items c.self.inside.others c.delete_in.new.others).items ≡ c.delete_in.new.others = with_items_is c.self.inside.others c.delete_in.new.others (omega (arith, c.delete_in.auto.others, c.deref_mut.ensures.len)) in
-    let edited : Viewed = viewed c.delete_in.new.self c.delete_in.new.widget (map stamps_in (with_items c.self.inside.others c.delete_in.new.others).items) in
+    let edited : Viewed = viewed c.delete_in.new.self c.delete_in.new.widget (map own_in (with_items c.self.inside.others c.delete_in.new.others).items) in
     both_ok c.delete_in.result
-    (λ made fits. deleted_ok view indices ranges c.in_ok-ranges.ensures.checked read edited (ap (λ (v : Viewed). without_ranges v ranges) (sym same) ∙ made ∙ ap (λ l. viewed c.delete_in.new.self c.delete_in.new.widget (map stamps_in l)) (sym back)) fits)
+    (λ made fits. deleted_ok view indices ranges c.in_ok-ranges.ensures.checked read edited (ap (λ (v : Viewed). without_ranges v ranges) (sym same) ∙ made ∙ ap (λ l. viewed c.delete_in.new.self c.delete_in.new.widget (map own_in l)) (sym back)) fits)
     c.delete_in.ensures.ok c.delete_in.ensures.checked
 
 pub returns-clause-err : goal.returns-clause-err
@@ -37,7 +44,7 @@ returns-clause-err g c =
     let indices = map (λ w. string_bytes w) c.args.indices.now in
     let ranges = c.deref.result.now in
     let read = c.deref.ensures.value ∙ c.in_ok-ranges.ensures.ok in
-    let same : viewed c.self.inside.doc c.self.inside.widget (map stamps_in c.deref_mut.result.now) ≡ view =
-    ap (λ l. viewed c.self.inside.doc c.self.inside.widget (map stamps_in l)) c.deref_mut.ensures.value ∙ c.self.view_is in
+    let same : viewed c.self.inside.doc c.self.inside.widget (map own_in c.deref_mut.result.now) ≡ view =
+    ap (λ l. viewed c.self.inside.doc c.self.inside.widget (map own_in l)) c.deref_mut.ensures.value ∙ c.self.view_is in
     IfErr-weaker c.delete_in.result _ _ (λ fault h. deleted_refused view indices ranges c.in_ok-ranges.ensures.checked read fault h)
     (subst (λ (v : Viewed). IfErr c.delete_in.result (λ fault. (fault ≡ NoMemory) ⊎ (clock_check (without_ranges v ranges).doc.count ≡ Some fault))) same c.delete_in.ensures.err)

@@ -1,4 +1,6 @@
-use Rattle.std.proofs.Common.{◌≡◌, ◌∙◌, ◌⊎◌, ◌-◌, Some, ap, arith, inr, length, map, min, subst, sym}
+use Rattle.std.specs.List.{AllByRecursion}
+use Rattle.rt_text.specs.declared.parts.Parts.{Parts}
+use Rattle.std.proofs.Common.{List, ◌≡◌, ◌∙◌, ◌⊎◌, ◌-◌, Some, ap, arith, inr, length, map, min, subst, sym}
 use Rattle.std.specs.Prelude.{IfErr}
 use Rattle.std.specs.Vec.{with_items}
 use Rattle.std.proofs.lemmas.List.{with_items_is}
@@ -6,9 +8,9 @@ use Rattle.std.proofs.lemmas.Result.{err_from_is_err_and}
 use Rattle.rt_stamps.specs.declared.fault.Fault.TheVariants.{NoMemory}
 use Rattle.rt_stamps.specs.Outcomes.{first_of}
 use Rattle.rt_store.specs.Cells.{text_of}
-use Rattle.rt_edits.specs.Selected.{stamps_in}
+use Rattle.rt_text.specs.Parts.{own_in}
 use Rattle.rt_text.specs.Commands.{with_pieces_at}
-use Rattle.rt_text.specs.Widgets.{Viewed, length_shown}
+use Rattle.rt_text.specs.Widgets.{IsOwnOf, Viewed, length_shown}
 use Rattle.rt_text.proofs.PutLaws.{all_refused, both_done, done_by, either, late_checks, refused_index, refused_name}
 use Rattle.rt_text.proofs.ViewLaws.{viewed}
 use Rattle.rt_text.proofs.view.View.insert.Goals as goal
@@ -24,22 +26,26 @@ returns-in_err-place-clause-err g c =
     rw (p.1, p.2)
     (either (refused_index c.args.self.now c.args.index.now c.args.pieces.now c.args.rest.now c.in_err-place.field-0.0 c.in_ok-check_names.ensures.ok) c.in_err-place.ensures.err)
 
+pub insert_at-requires-clause-others : goal.insert_at-requires-clause-others
+insert_at-requires-clause-others g c =
+    subst (λ (l : List Parts). AllByRecursion (IsOwnOf (length (text_of c.self.inside.doc.cells))) (map own_in l)) (sym c.deref_mut.ensures.value) c.self.invariant.1
+
 pub returns-clause-ok : goal.returns-clause-ok
 returns-clause-ok g c =
     let view = c.args.self.now in
     let index = c.args.index.now in
     let pieces = c.args.pieces.now in
     let rest = c.args.rest.now in
-    let same : viewed c.self.inside.doc c.self.inside.widget (map stamps_in c.deref_mut.result.now) ≡ view =
-    ap (λ l. viewed c.self.inside.doc c.self.inside.widget (map stamps_in l)) c.deref_mut.ensures.value ∙ c.self.view_is in
+    let same : viewed c.self.inside.doc c.self.inside.widget (map own_in c.deref_mut.result.now) ≡ view =
+    ap (λ l. viewed c.self.inside.doc c.self.inside.widget (map own_in l)) c.deref_mut.ensures.value ∙ c.self.view_is in
     let at = c.min-place.result in
     let many : length (text_of c.self.inside.doc.cells) ≡ length_shown view = ap (λ (v : Viewed). length_shown v) c.self.view_is in
     let place : at ≡ min c.in_ok-place.place (length_shown view - 1) = c.min-place.ensures ∙ ap (λ n. min c.in_ok-place.place (n - 1)) (c.visible.ensures ∙ many) in
     let back : (with_items c.self.inside.others c.insert_at.new.others).items ≡ c.insert_at.new.others = with_items_is c.self.inside.others c.insert_at.new.others (omega (arith, c.insert_at.auto.others, c.deref_mut.ensures.len)) in
-    let edited : Viewed = viewed c.insert_at.new.self c.insert_at.new.widget (map stamps_in (with_items c.self.inside.others c.insert_at.new.others).items) in
+    let edited : Viewed = viewed c.insert_at.new.self c.insert_at.new.widget (map own_in (with_items c.self.inside.others c.insert_at.new.others).items) in
     both_done c.insert_at.result
     (λ made checked. done_by view index pieces rest c.in_ok-place.place at edited c.in_ok-check_names.ensures.ok c.in_ok-place.ensures.ok place
-    (ap (λ l. viewed c.insert_at.new.self c.insert_at.new.widget (map stamps_in l)) back ∙ made ∙ ap (λ (v : Viewed). with_pieces_at v at pieces rest) same)
+    (ap (λ l. viewed c.insert_at.new.self c.insert_at.new.widget (map own_in l)) back ∙ made ∙ ap (λ (v : Viewed). with_pieces_at v at pieces rest) same)
     (ap (λ (v : Viewed). first_of (late_checks v.doc edited)) (sym c.self.view_is) ∙ checked))
     c.insert_at.ensures.ok c.insert_at.ensures.checked
 
@@ -49,8 +55,8 @@ returns-clause-err g c =
     let index = c.args.index.now in
     let pieces = c.args.pieces.now in
     let rest = c.args.rest.now in
-    let same : viewed c.self.inside.doc c.self.inside.widget (map stamps_in c.deref_mut.result.now) ≡ view =
-    ap (λ l. viewed c.self.inside.doc c.self.inside.widget (map stamps_in l)) c.deref_mut.ensures.value ∙ c.self.view_is in
+    let same : viewed c.self.inside.doc c.self.inside.widget (map own_in c.deref_mut.result.now) ≡ view =
+    ap (λ l. viewed c.self.inside.doc c.self.inside.widget (map own_in l)) c.deref_mut.ensures.value ∙ c.self.view_is in
     let at = c.min-place.result in
     let many : length (text_of c.self.inside.doc.cells) ≡ length_shown view = ap (λ (v : Viewed). length_shown v) c.self.view_is in
     let place : at ≡ min c.in_ok-place.place (length_shown view - 1) = c.min-place.ensures ∙ ap (λ n. min c.in_ok-place.place (n - 1)) (c.visible.ensures ∙ many) in

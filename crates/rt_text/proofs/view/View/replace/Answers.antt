@@ -1,4 +1,6 @@
-use Rattle.std.proofs.Common.{◌≡◌, ◌∙◌, ◌⊎◌, Some, ap, arith, inr, map, subst, sym}
+use Rattle.std.specs.List.{AllByRecursion}
+use Rattle.rt_text.specs.declared.parts.Parts.{Parts}
+use Rattle.std.proofs.Common.{List, length, ◌≡◌, ◌∙◌, ◌⊎◌, Some, ap, arith, inr, map, subst, sym}
 use Rattle.std.specs.Prelude.{IfErr}
 use Rattle.std.specs.Vec.{with_items}
 use Rattle.std.proofs.lemmas.List.{with_items_is}
@@ -6,9 +8,10 @@ use Rattle.std.proofs.lemmas.Result.{err_from_is_err_and}
 use Rattle.rt_stamps.specs.declared.fault.Fault.TheVariants.{NoMemory}
 use Rattle.rt_stamps.specs.Outcomes.{first_of}
 use Rattle.rt_edits.specs.declared.range.Range.{Range}
-use Rattle.rt_edits.specs.Selected.{stamps_in}
+use Rattle.rt_store.specs.Cells.{text_of}
+use Rattle.rt_text.specs.Parts.{own_in}
 use Rattle.rt_text.specs.Commands.{with_range_replaced}
-use Rattle.rt_text.specs.Widgets.{Viewed}
+use Rattle.rt_text.specs.Widgets.{IsOwnOf, Viewed}
 use Rattle.rt_text.proofs.PutLaws.{both_done, either, late_checks}
 use Rattle.rt_text.proofs.ReplaceLaws.{backwards, bad_from, bad_name, bad_to, done_as, refused_late}
 use Rattle.rt_text.proofs.ViewLaws.{viewed}
@@ -39,21 +42,25 @@ returns-in_err-range-clause-err g c =
     (inr (backwards c.args.self.now c.args.pieces.now c.args.rest.now c.args.from.now c.args.to.now c.in_ok-check_names.ensures.ok c.in_ok-begin.begin c.in_ok-end.end
     c.in_ok-begin.ensures.ok c.in_ok-end.ensures.ok c.in_err-range.field-0.0 c.in_err-range.ensures.err))
 
+pub replace_in-requires-clause-others : goal.replace_in-requires-clause-others
+replace_in-requires-clause-others g c =
+    subst (λ (l : List Parts). AllByRecursion (IsOwnOf (length (text_of c.self.inside.doc.cells))) (map own_in l)) (sym c.deref_mut.ensures.value) c.self.invariant.1
+
 pub returns-clause-ok : goal.returns-clause-ok
 returns-clause-ok g c =
     let view = c.args.self.now in
     let pieces = c.args.pieces.now in
     let rest = c.args.rest.now in
     let range : Range = record { from = c.in_ok-begin.begin; to = c.in_ok-end.end } in
-    let same : viewed c.self.inside.doc c.self.inside.widget (map stamps_in c.deref_mut.result.now) ≡ view =
-    ap (λ l. viewed c.self.inside.doc c.self.inside.widget (map stamps_in l)) c.deref_mut.ensures.value ∙ c.self.view_is in
+    let same : viewed c.self.inside.doc c.self.inside.widget (map own_in c.deref_mut.result.now) ≡ view =
+    ap (λ l. viewed c.self.inside.doc c.self.inside.widget (map own_in l)) c.deref_mut.ensures.value ∙ c.self.view_is in
     let back : (with_items c.self.inside.others c.replace_in.new.others).items ≡ c.replace_in.new.others =
     with_items_is c.self.inside.others c.replace_in.new.others (omega (arith, c.replace_in.auto.others, c.deref_mut.ensures.len)) in
-    let edited : Viewed = viewed c.replace_in.new.self c.replace_in.new.widget (map stamps_in (with_items c.self.inside.others c.replace_in.new.others).items) in
+    let edited : Viewed = viewed c.replace_in.new.self c.replace_in.new.widget (map own_in (with_items c.self.inside.others c.replace_in.new.others).items) in
     both_done c.replace_in.result
     (λ made checked. done_as view pieces rest c.args.from.now c.args.to.now c.in_ok-check_names.ensures.ok c.in_ok-begin.begin c.in_ok-end.end c.in_ok-begin.ensures.ok c.in_ok-end.ensures.ok edited
     c.in_ok-range.ensures.checked
-    (ap (λ l. viewed c.replace_in.new.self c.replace_in.new.widget (map stamps_in l)) back ∙ made
+    (ap (λ l. viewed c.replace_in.new.self c.replace_in.new.widget (map own_in l)) back ∙ made
     ∙ (λ i. with_range_replaced (same i) (c.in_ok-range.ensures.ok i) pieces rest))
     (ap (λ (v : Viewed). first_of (late_checks v.doc edited)) (sym c.self.view_is) ∙ checked))
     c.replace_in.ensures.ok c.replace_in.ensures.checked
@@ -64,11 +71,11 @@ returns-clause-err g c =
     let pieces = c.args.pieces.now in
     let rest = c.args.rest.now in
     let range : Range = record { from = c.in_ok-begin.begin; to = c.in_ok-end.end } in
-    let same : viewed c.self.inside.doc c.self.inside.widget (map stamps_in c.deref_mut.result.now) ≡ view =
-    ap (λ l. viewed c.self.inside.doc c.self.inside.widget (map stamps_in l)) c.deref_mut.ensures.value ∙ c.self.view_is in
+    let same : viewed c.self.inside.doc c.self.inside.widget (map own_in c.deref_mut.result.now) ≡ view =
+    ap (λ l. viewed c.self.inside.doc c.self.inside.widget (map own_in l)) c.deref_mut.ensures.value ∙ c.self.view_is in
     refused_late view pieces rest c.args.from.now c.args.to.now c.in_ok-check_names.ensures.ok c.in_ok-begin.begin c.in_ok-end.end c.in_ok-begin.ensures.ok c.in_ok-end.ensures.ok
     c.replace_in.result c.in_ok-range.ensures.checked
     (subst (λ (v : Viewed). IfErr c.replace_in.result (λ fault. (fault ≡ NoMemory) ⊎ (first_of (late_checks v.doc (with_range_replaced v range pieces rest)) ≡ Some fault))) same
     (subst (λ (r : Range). IfErr c.replace_in.result (λ fault. (fault ≡ NoMemory)
-    ⊎ (first_of (late_checks c.self.inside.doc (with_range_replaced (viewed c.self.inside.doc c.self.inside.widget (map stamps_in c.deref_mut.result.now)) r pieces rest)) ≡ Some fault)))
+    ⊎ (first_of (late_checks c.self.inside.doc (with_range_replaced (viewed c.self.inside.doc c.self.inside.widget (map own_in c.deref_mut.result.now)) r pieces rest)) ≡ Some fault)))
     c.in_ok-range.ensures.ok c.replace_in.ensures.err))

@@ -1,4 +1,5 @@
 use Rattle.std.proofs.Common.{◌≡◌, ◌≤◌, ◌∙◌, ◌&&◌, All, List, Some, ap, false, inl, inr, length, map, subst, sym, true}
+use Rattle.std.specs.List.{AllByRecursion}
 use Rattle.std.specs.Prelude.{nat_lt}
 use Rattle.std.specs.Str.{bytes_eq}
 use Rattle.std.proofs.lemmas.Result.{IfErr-weaker, on_ok_weaker}
@@ -9,7 +10,7 @@ use Rattle.rt_tags.specs.Tags.{sel}
 use Rattle.rt_edits.specs.declared.range.Range.{Range}
 use Rattle.rt_edits.specs.Flat.{Flat}
 use Rattle.rt_edits.specs.Removals.{is_covered, stamps_at}
-use Rattle.rt_edits.specs.Selected.{stamps_in}
+use Rattle.rt_text.specs.Parts.{own_in}
 use Rattle.rt_edits.specs.Selections.{selection_with}
 use Rattle.rt_edits.specs.TagWrites.{with_tag_at}
 use Rattle.rt_text.specs.Commands.{clock_check, with_tag_in}
@@ -25,7 +26,7 @@ use Rattle.rt_text.proofs.view.View.write_tag.Goals as goal
 pub returns-then-eq-clause-ok : goal.returns-then-eq-clause-ok
 returns-then-eq-clause-ok g c =
     let old = c.self.inside.doc in
-    let view = viewed old c.self.inside.widget (map stamps_in c.self.inside.others.items) in
+    let view = viewed old c.self.inside.widget (map own_in c.self.inside.others.items) in
     let on = c.args.on in
     let name = c.args.name.now in
     let cells = g.S.TextStore.list c.kept.result.0.now in
@@ -58,12 +59,12 @@ invariant_of-self-2 g c =
     either_way c.write_shared.result
     (λ e. ap (λ (f : Flat). text_of f.cells) e ∙ listed_text c.args.on c.args.name.now (with_tag_at old within c.args.on c.args.name.now) ∙ tag_text old within c.args.on c.args.name.now)
     (λ e. ap (λ (f : Flat). text_of f.cells) e) c.write_shared.ensures.ok c.write_shared.ensures.unchanged in
-    subst (λ n. IsOwnOf n c.self.inside.widget) (sym (ap length text)) c.self.invariant
+    subst (λ n. IsOwnOf n c.self.inside.widget × AllByRecursion (IsOwnOf n) (map own_in c.self.inside.others.items)) (sym (ap length text)) c.self.invariant
 
 pub returns-clause-ok : goal.returns-clause-ok
 returns-clause-ok g c =
     let old = c.self.inside.doc in
-    let view = viewed old c.self.inside.widget (map stamps_in c.self.inside.others.items) in
+    let view = viewed old c.self.inside.widget (map own_in c.self.inside.others.items) in
     let on = c.args.on in
     let name = c.args.name.now in
     let cells = g.S.TextStore.list c.kept.result.0.now in
@@ -84,7 +85,7 @@ returns-clause-ok g c =
 pub returns-clause-err : goal.returns-clause-err
 returns-clause-err g c =
     let old = c.self.inside.doc in
-    let view = viewed old c.self.inside.widget (map stamps_in c.self.inside.others.items) in
+    let view = viewed old c.self.inside.widget (map own_in c.self.inside.others.items) in
     let on = c.args.on in
     let name = c.args.name.now in
     let cells = g.S.TextStore.list c.kept.result.0.now in

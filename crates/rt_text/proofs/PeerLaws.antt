@@ -1,0 +1,58 @@
+-- The other widgets of a site, each by the rule of its marks and of what it has selected.
+use Rattle.std.proofs.Common.{◌≡◌, ℕ, ◌+◌, ◌<◌, ◌≤◌, Bool, false, cond, All, List, [], ◌∷◌, Option, None, length, map, drop, get_or, refl, ap, subst, sym, arith}
+use Rattle.std.specs.List.{AllByRecursion}
+use Rattle.std.proofs.lemmas.List.Elements.{All-cons, All-nil}
+use Rattle.rt_stamps.specs.declared.stamp.Stamp.{Stamp}
+use Rattle.rt_edits.specs.declared.inserting.Between.{Between}
+use Rattle.rt_edits.specs.InsertionPlans.{selected_between}
+use Rattle.rt_edits.proofs.SelectionLaws.{same_here}
+use Rattle.rt_text.specs.declared.parts.Parts.{Parts}
+use Rattle.rt_text.specs.Parts.{own_in}
+use Rattle.rt_text.specs.Widgets.{IsOwnOf, Own, own_inserted, own_left, reselected, selections_of, with_selections}
+
+-- what a loop hasn't reached yet is as it was
+pub rest_same : (xs ys : List Parts) (i : ℕ) (d : Parts) → i < length xs → length ys ≡ length xs → drop i ys ≡ drop i xs → get_or ys i d ≡ get_or xs i d
+rest_same xs ys i d lt len rest = same_here (λ (p : Parts). p) xs ys i d lt len rest
+
+-- what is so of each is so of each that a rule makes of them
+pub each_by : (P Q : Own → Type 0) (rule : Own → Own) → ((own : Own) → P own → Q (rule own)) → (widgets : List Own) → AllByRecursion P widgets → AllByRecursion Q (map rule widgets)
+each_by P Q rule f [] h = tt
+each_by P Q rule f (own ∷ widgets) h = (f own h.0, each_by P Q rule f widgets h.1)
+
+-- they stand where they stood, whatever they have selected
+pub each_selecting : (n : ℕ) (selections : List (List Stamp)) (widgets : List Own) → AllByRecursion (IsOwnOf n) widgets → AllByRecursion (IsOwnOf n) (with_selections selections widgets)
+each_selecting n selections [] h = tt
+each_selecting n [] (own ∷ widgets) h = h
+each_selecting n (selection ∷ selections) (own ∷ widgets) h = (h.0, each_selecting n selections widgets h.1)
+
+-- there is room for places further on
+pub each_room : (n k most : ℕ) (others : List Parts) → n + k ≤ most → AllByRecursion (IsOwnOf n) (map own_in others)
+    → All (λ (p : Parts). (p.insert.place + k ≤ most) × (p.current.place + k ≤ most)) others
+each_room n k most [] f h = All-nil (λ (p : Parts). (p.insert.place + k ≤ most) × (p.current.place + k ≤ most))
+each_room n k most (p ∷ others) f h =
+    All-cons (λ (p : Parts). (p.insert.place + k ≤ most) × (p.current.place + k ≤ most)) p others (omega (arith, f, h.0.0), omega (arith, f, h.0.1)) (each_room n k most others f h.1)
+
+-- SELECTIONS
+
+abbrev pub selecting : Option Between → Own → Own
+selecting between own = reselected (selected_between between) own
+
+pub none_selecting : (widgets : List Own) → map (selecting None) widgets ≡ widgets
+none_selecting [] = refl
+none_selecting (own ∷ widgets) = ap (λ l. own ∷ l) (none_selecting widgets)
+
+-- selected first and moved then, they are as moved and given their selections
+pub put_each : (place n : ℕ) (between : Option Between) (widgets : List Own) → map (own_inserted place n) (map (selecting between) widgets)
+    ≡ with_selections (map (selected_between between) (selections_of widgets)) (map (own_inserted place n) widgets)
+put_each place n between [] = refl
+put_each place n between (own ∷ widgets) = ap (λ l. own_inserted place n (selecting between own) ∷ l) (put_each place n between widgets)
+
+pub leave_then : (removed : ℕ → Bool) (f : List Stamp → List Stamp) (widgets : List Own) → map (reselected f) (map (own_left removed) widgets) ≡ map (λ own. reselected f (own_left removed own)) widgets
+leave_then removed f [] = refl
+leave_then removed f (own ∷ widgets) = ap (λ l. reselected f (own_left removed own) ∷ l) (leave_then removed f widgets)
+
+-- the same in the order of a replacement
+pub leave_last : (removed : ℕ → Bool) (f : List Stamp → List Stamp) (between : Option Between) (widgets : List Own) → map (own_left removed) (map (selecting between) (map (reselected f) widgets))
+    ≡ map (selecting between) (map (λ own. reselected f (own_left removed own)) widgets)
+leave_last removed f between [] = refl
+leave_last removed f between (own ∷ widgets) = ap (λ l. own_left removed (selecting between (reselected f own)) ∷ l) (leave_last removed f between widgets)

@@ -1,0 +1,14 @@
+use Rattle.std.proofs.Common.{◌≡◌, ◌≤◌, length, drop}
+use Rattle.rt_edits.specs.Removals.{is_covered}
+use Rattle.rt_text.specs.Parts.{own_in}
+use Rattle.rt_text.specs.Widgets.{own_left}
+use Rattle.rt_text.proofs.parts.Parts.leave.Given as goal
+
+abbrev pub invariant-loop-i : goal.invariant-loop-i
+invariant-loop-i l = record {
+  within : l.i ≤ length l.removed;
+  own : own_in l.self ≡ own_left (is_covered (drop l.i l.removed)) (own_in l.fn.self);
+}
+
+abbrev pub decreases-loop-i : goal.decreases-loop-i
+decreases-loop-i l = l.i

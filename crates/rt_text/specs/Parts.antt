@@ -1,0 +1,22 @@
+-- What contracts see of the parts of widgets.
+use Rattle.std.specs.Prelude.{true, length, ◌≡◌, ◌≤◌, ◌&&◌, List, All, Option, None, Some, codes}
+use Rattle.rt_store.specs.Spans.{is_among}
+use Rattle.rt_edits.specs.declared.inserting.Between.{Between}
+use Rattle.rt_edits.specs.Selected.{room_in, stamps_in}
+use Rattle.rt_text.specs.declared.parts.Parts.{Parts}
+use Rattle.rt_text.specs.Widgets.{Own}
+
+-- a widget's own marks and the stamps of the characters that it has selected
+abbrev pub own_in : Parts → Own
+own_in parts = record {
+  insert = record { name = codes "insert"; place = parts.insert.place; gravity = parts.insert.gravity };
+  current = record { name = codes "current"; place = parts.current.place; gravity = parts.current.gravity };
+  sel = stamps_in parts.selection;
+}
+
+-- each widget that has both neighbours selected has room for the characters between them
+abbrev pub HaveRoomFor : Option Between → List Parts → Type 0
+HaveRoomFor None others = Unit {0}
+HaveRoomFor (Some between) others =
+    All (λ parts. (is_among (stamps_in parts.selection) between.left && is_among (stamps_in parts.selection) between.right) ≡ true
+    → length between.stamps.items ≤ room_in parts.selection) others

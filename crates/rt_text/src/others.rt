@@ -1,0 +1,102 @@
+// The other widgets of a site.
+ghost use Rattle.std.specs.Prelude.{ℕ, ◌≡◌, ◌+◌, ◌≤◌, ◌∷◌, [], ◌&&◌, true, All, IfErr, OnOk, length, map};
+ghost use Rattle.std.specs.List.{AllByRecursion};
+ghost use Rattle.rt_edits.specs.Insertions.{selected_if};
+ghost use Rattle.rt_edits.specs.Removals.{AreInOrder, is_covered};
+ghost use Rattle.rt_edits.specs.Selected.{room_in, stamps_in};
+ghost use Rattle.rt_edits.specs.Selections.{unselected};
+ghost use Rattle.rt_revert.specs.Plans.{IsChange};
+ghost use Rattle.rt_rga.specs.Taken.{AreFallingRuns, is_in_runs};
+ghost use Rattle.rt_store.specs.Spans.{is_among};
+ghost use Rattle.rt_text.specs.Changes.{own_after};
+ghost use Rattle.rt_text.specs.Parts.{own_in};
+ghost use Rattle.rt_text.specs.Widgets.{own_inserted, own_left, reselected};
+
+use crate::parts::Parts;
+use rt_edits::Range;
+use rt_revert::TextChange;
+use rt_rga::Change;
+use rt_stamps::{Fault, Stamp};
+
+/// Makes room for more selected characters in each that has both neighbours selected. Want of memory.
+pub(crate) fn reserve_between(
+    others: &mut [Parts],
+    left: Stamp,
+    right: Stamp,
+    more: usize,
+) -> Result<(), Fault>
+    ensures same { map own_in others.new ≡ map own_in others.old }
+    ensures room { OnOk result (All (λ parts. (is_among (stamps_in parts.selection) left && is_among (stamps_in parts.selection) right) ≡ true
+        → more ≤ room_in parts.selection) others.new) }
+    ensures err { IfErr result (λ fault. fault ≡ Fault.NoMemory) }
+{
+    for i in 0..others.len() {
+        others[i].reserve_if(left, right, more)?;
+    }
+    Ok(())
+}
+
+/// Selects characters in each that has both neighbours selected, within the room that there is.
+pub(crate) fn add_between(others: &mut [Parts], left: Stamp, right: Stamp, stamps: &[Stamp])
+    requires { All (λ parts. (is_among (stamps_in parts.selection) left && is_among (stamps_in parts.selection) right) ≡ true
+        → length stamps.now ≤ room_in parts.selection) others.old }
+    ensures { map own_in others.new ≡ map (reselected (λ sel. selected_if (is_among sel left && is_among sel right) stamps.now sel)) (map own_in others.old) }
+{
+    for i in 0..others.len() {
+        others[i].select_if(left, right, stamps);
+    }
+}
+
+/// Takes a character out of what each has selected. It takes no memory.
+pub(crate) fn remove_from_each(others: &mut [Parts], stamp: Stamp)
+    ensures { map own_in others.new ≡ map (reselected (unselected (stamp ∷ []))) (map own_in others.old) }
+{
+    for i in 0..others.len() {
+        others[i].unselect(stamp);
+    }
+}
+
+/// Moves the marks of each for `n` characters that were inserted at a place.
+pub(crate) fn insert_each(others: &mut [Parts], place: usize, n: usize)
+    requires { All (λ parts. (parts.insert.place + n ≤ usize.MAX) × (parts.current.place + n ≤ usize.MAX)) others.old }
+    ensures { map own_in others.new ≡ map (own_inserted place n) (map own_in others.old) }
+{
+    for i in 0..others.len() {
+        others[i].inserted(place, n);
+    }
+}
+
+/// Moves the marks of each for ranges that are removed.
+pub(crate) fn leave_each(others: &mut [Parts], removed: &[Range])
+    requires { AreInOrder 0 removed.now }
+    ensures { map own_in others.new ≡ map (own_left (is_covered removed.now)) (map own_in others.old) }
+{
+    for i in 0..others.len() {
+        others[i].leave(removed);
+    }
+}
+
+/// Moves the marks of each for a change of the text that an accepted operation told.
+pub(crate) fn follow_each(others: &mut [Parts], change: &Change)
+    requires runs { (end : ℕ) × AreFallingRuns end change.now.removed.items }
+    requires fits { All (λ parts. (parts.insert.place + change.now.inserted ≤ usize.MAX)
+        × (parts.current.place + change.now.inserted ≤ usize.MAX)) others.old }
+    ensures { map own_in others.new
+        ≡ map (λ own. own_left (is_in_runs change.now.removed.items) (own_inserted change.now.place change.now.inserted own)) (map own_in others.old) }
+{
+    for i in 0..others.len() {
+        others[i].follow(change);
+    }
+}
+
+/// Moves the marks of each for changes of the text, one after the other.
+pub(crate) fn change_each(others: &mut [Parts], changes: &[TextChange])
+    requires changes { AllByRecursion IsChange changes.now }
+    requires fits { All (λ parts. (parts.insert.place + length changes.now ≤ usize.MAX)
+        × (parts.current.place + length changes.now ≤ usize.MAX)) others.old }
+    ensures { map own_in others.new ≡ map (own_after changes.now) (map own_in others.old) }
+{
+    for i in 0..others.len() {
+        others[i].change_all(changes);
+    }
+}
