@@ -25,4 +25,6 @@ mod store;
 #[cfg(test)]
 mod text;
 #[cfg(test)]
+mod views;
+#[cfg(test)]
 mod walks;

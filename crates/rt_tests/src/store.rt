@@ -82,7 +82,7 @@ impl Text {
 
     // Removes a character.
     #[tactic(auto, using(rt_store::proofs::GivenStates::gone_states))]
-    fn remove(&mut self, count: u64) -> Result<(), Fault> {
+    pub(crate) fn remove(&mut self, count: u64) -> Result<(), Fault> {
         if self.store.cells() > 100 {
             return Err(Fault::NoMemory);
         }
