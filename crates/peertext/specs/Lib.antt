@@ -1,3 +1,4 @@
 pub mod Endings
 pub mod Files
+pub mod Readers
 pub mod Runs

@@ -7,6 +7,7 @@
 ghost use Rattle.std.specs.Prelude.{◌≡◌, ◌<◌, ◌≤◌, length, IfOk, OnOk};
 ghost use Rattle.rt_stamps.specs.declared.limits.TheConstants.{MOST_BYTES};
 ghost use Rattle.rt_script.specs.Site.{AreWithin};
+ghost use Rattle.peertext.specs.Readers.{ReadsFresh, JoinsFresh, ShowsFresh};
 
 mod ending;
 mod files;
@@ -70,7 +71,8 @@ fn read_bytes<A: Ledger, B: Ledger, S: Read + Drop>(
 ) -> Result<Vec<u8>, Fault>
     requires a { (reads.name ≡ A.name) × (reads.parts ≡ A.parts) × (0 < A.parts) }
     requires b { (failed_reads.name ≡ B.name) × (failed_reads.parts ≡ B.parts) × (0 < B.parts) }
-    ensures { IfOk result (λ bytes. length bytes.items ≤ MOST_BYTES) }
+    ensures read { ReadsFresh (S.remaining file) result }
+    ensures within { IfOk result (λ bytes. length bytes.items ≤ MOST_BYTES) }
 {
     let mut file = Reader::new(
         file,
@@ -94,6 +96,7 @@ fn join_readers<A: Ledger, B: Ledger, C: Ledger, D: Ledger, S: Read + Drop, T: R
     requires b { (failed_reads.name ≡ B.name) × (failed_reads.parts ≡ B.parts) × (0 < B.parts) }
     requires c { (more_reads.name ≡ C.name) × (more_reads.parts ≡ C.parts) × (0 < C.parts) }
     requires d { (more_failed_reads.name ≡ D.name) × (more_failed_reads.parts ≡ D.parts) × (0 < D.parts) }
+    ensures { JoinsFresh (S.remaining first) (T.remaining second) result }
 {
     let mut first = Reader::new(
         first,
@@ -122,6 +125,7 @@ fn show_lines<A: Ledger, B: Ledger, C: Ledger, D: Ledger, S: Read + Drop, W: Wri
     requires b { (failed_reads.name ≡ B.name) × (failed_reads.parts ≡ B.parts) × (0 < B.parts) }
     requires c { (writes.name ≡ C.name) × (writes.parts ≡ C.parts) × (0 < C.parts) }
     requires d { (failed_writes.name ≡ D.name) × (failed_writes.parts ≡ D.parts) × (0 < D.parts) }
+    ensures { ShowsFresh (S.remaining file) (W.contents out) (W.contents result.1) result.0 }
 {
     let mut file = Reader::new(
         file,
