@@ -33,7 +33,6 @@ struct Prepared {
 /// What a site records of its own edits for undo, and the settings of the widget's options `-undo` and
 /// `-autoseparators` (Tk text manual, "The undo mechanism"). An edit is prepared, made, and recorded:
 /// so all that can be refused comes before it.
-#[derive(Drop)]
 pub struct Recorder {
     alloc: Global,
     stacks: Stacks,
@@ -42,6 +41,21 @@ pub struct Recorder {
     undo: bool,
     auto_separators: bool,
     next: Option<Prepared>,
+}
+
+// Written out, so that where it is let go is one step for the crates above, and not one for each
+// field of each field.
+impl Drop for Recorder {
+    fn drop(self) {
+        let Recorder {
+            alloc: _,
+            stacks: _,
+            table: _,
+            undo: _,
+            auto_separators: _,
+            next: _,
+        } = self;
+    }
 }
 
 impl Model for Recorder {

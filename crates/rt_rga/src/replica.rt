@@ -30,7 +30,6 @@ use std::alloc::Global;
 use std::marker::Model;
 
 /// The accepted operations of a text, and its cells. The cells are those of the operations.
-#[derive(Drop)]
 pub struct Replica<S: TextStore> {
     alloc: Global,
     log: OpLog,
@@ -39,6 +38,22 @@ pub struct Replica<S: TextStore> {
     states: StateTable,
     site: Site,
     limit: usize,
+}
+
+// Written out, so that where it is let go is one step for the crates above, and not one for each
+// field of each field.
+impl<S: TextStore> Drop for Replica<S> {
+    fn drop(self) {
+        let Replica {
+            alloc: _,
+            log: _,
+            clock: _,
+            store: _,
+            states: _,
+            site: _,
+            limit: _,
+        } = self;
+    }
 }
 
 impl<S: TextStore> Model for Replica<S> {

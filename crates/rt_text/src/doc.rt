@@ -29,12 +29,24 @@ use std::alloc::Global;
 use std::marker::Model;
 
 /// A text of one site with its marks and tags, and its log of operations.
-#[derive(Drop)]
 pub struct Doc<S: TextStore> {
     alloc: Global,
     replica: Replica<S>,
     marks: Marks,
     tags: TagTable,
+}
+
+// Written out, so that where it is let go is one step for the crates above, and not one for each
+// field of each field.
+impl<S: TextStore> Drop for Doc<S> {
+    fn drop(self) {
+        let Doc {
+            alloc: _,
+            replica: _,
+            marks: _,
+            tags: _,
+        } = self;
+    }
 }
 
 impl<S: TextStore> Model for Doc<S> {

@@ -25,12 +25,24 @@ use std::marker::Model;
 
 /// A document as one of its site's widgets shows it: what the commands of that widget work on. It keeps
 /// the site's other widgets too, in order: each edit moves their marks and their selections follow.
-#[derive(Drop)]
 pub struct View<S: TextStore> {
     alloc: Global,
     doc: Doc<S>,
     widget: Widget,
     others: Vec<Parts>,
+}
+
+// Written out, so that where it is let go is one step for the crates above, and not one for each
+// field of each field.
+impl<S: TextStore> Drop for View<S> {
+    fn drop(self) {
+        let View {
+            alloc: _,
+            doc: _,
+            widget: _,
+            others: _,
+        } = self;
+    }
 }
 
 impl<S: TextStore> Model for View<S> {

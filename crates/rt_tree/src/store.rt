@@ -9,10 +9,19 @@ use rt_tags::{StateId, StateTable, TagId};
 use std::alloc::Global;
 
 /// The cells of a text in the runs of a counted B-tree; the last one is the final newline.
-#[derive(Drop)]
 pub struct TreeStore {
     tree: Tree,
     ghost ends: { EndsFinal tree.cells },
+}
+
+// Written out, so that where it is let go is one step for the crates above, and not one for each
+// field of each field.
+impl Drop for TreeStore {
+    fn drop(self) {
+        let TreeStore {
+            tree: _,
+        } = self;
+    }
 }
 
 impl TreeStore {

@@ -23,7 +23,6 @@ use std::mem;
 /// is kept once beside them, for all groups, so `replaced` costs about a logarithm of the spans that
 /// came back, however much stands on the stacks; `undo` and `redo` look up each character of their
 /// group. `modified` goes through the numbers of all actions that can be undone.
-#[derive(Drop)]
 pub struct Stacks {
     alloc: Global,
     // The undo stack: groups that take no more actions, oldest first.
@@ -40,6 +39,24 @@ pub struct Stacks {
     renames: Renames,
     // There is room for one action or group.
     ready: bool,
+}
+
+// Written out, so that where it is let go is one step for the crates above, and not one for each
+// field of each field.
+impl Drop for Stacks {
+    fn drop(self) {
+        let Stacks {
+            alloc: _,
+            closed: _,
+            current: _,
+            spare: _,
+            undone: _,
+            kept: _,
+            forced: _,
+            renames: _,
+            ready: _,
+        } = self;
+    }
 }
 
 impl Model for Stacks {
