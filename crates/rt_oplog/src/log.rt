@@ -20,6 +20,7 @@ use std::alloc::Global;
 use std::marker::Model;
 
 /// A set of sound operations, no two of which clash.
+#[derive(Drop)]
 pub struct OpLog {
     alloc: Global,
     /// As they came.
@@ -27,19 +28,6 @@ pub struct OpLog {
     /// Their places in `ops`, by rising stamp.
     order: Order,
     ends: Ends,
-}
-
-// Written out, so that where it is let go is one step for the crates above, and not one for each
-// field of each field.
-impl Drop for OpLog {
-    fn drop(self) {
-        let OpLog {
-            alloc: _,
-            ops: _,
-            order: _,
-            ends: _,
-        } = self;
-    }
 }
 
 /// Why operations have no log.

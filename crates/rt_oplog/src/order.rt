@@ -17,7 +17,6 @@ use std::marker::Model;
 
 /// Places of operations in a log, in an order. What is put in moves the places of one block, and not
 /// all behind it.
-#[derive(Drop)]
 pub(crate) struct Order {
     alloc: Global,
     blocks: Vec<Block>,
@@ -25,6 +24,18 @@ pub(crate) struct Order {
     spare: Vec<Vec<usize>>,
     /// How many places there are.
     len: usize,
+}
+
+// Written out, so that where a log is let go its order is one step for the crates above.
+impl Drop for Order {
+    fn drop(self) {
+        let Order {
+            alloc: _,
+            blocks: _,
+            spare: _,
+            len: _,
+        } = self;
+    }
 }
 
 impl Model for Order {
