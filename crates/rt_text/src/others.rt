@@ -1,7 +1,6 @@
 // The other widgets of a site.
 ghost use Rattle.std.specs.Prelude.{ℕ, ◌≡◌, ◌+◌, ◌≤◌, ◌∷◌, [], ◌&&◌, true, All, IfErr, OnOk, length, map};
 ghost use Rattle.std.specs.List.{AllByRecursion};
-ghost use Rattle.rt_edits.specs.Insertions.{selected_if};
 ghost use Rattle.rt_edits.specs.Removals.{AreInOrder, is_covered};
 ghost use Rattle.rt_edits.specs.Selected.{room_in, stamps_in};
 ghost use Rattle.rt_edits.specs.Selections.{unselected};
@@ -9,7 +8,7 @@ ghost use Rattle.rt_revert.specs.Plans.{IsChange};
 ghost use Rattle.rt_rga.specs.Taken.{AreFallingRuns, is_in_runs};
 ghost use Rattle.rt_store.specs.Spans.{is_among};
 ghost use Rattle.rt_text.specs.Changes.{own_after};
-ghost use Rattle.rt_text.specs.Parts.{own_in};
+ghost use Rattle.rt_text.specs.Parts.{own_in, selected_with};
 ghost use Rattle.rt_text.specs.Widgets.{own_inserted, own_left, reselected};
 
 use crate::parts::Parts;
@@ -40,7 +39,7 @@ pub(crate) fn reserve_between(
 pub(crate) fn add_between(others: &mut [Parts], left: Stamp, right: Stamp, stamps: &[Stamp])
     requires { All (λ parts. (is_among (stamps_in parts.selection) left && is_among (stamps_in parts.selection) right) ≡ true
         → length stamps.now ≤ room_in parts.selection) others.old }
-    ensures { map own_in others.new ≡ map (reselected (λ sel. selected_if (is_among sel left && is_among sel right) stamps.now sel)) (map own_in others.old) }
+    ensures { map own_in others.new ≡ map (reselected (selected_with left right stamps.now)) (map own_in others.old) }
 {
     for i in 0..others.len() {
         others[i].select_if(left, right, stamps);

@@ -1,10 +1,9 @@
 // The parts of a widget.
 ghost use Rattle.std.specs.Prelude.{◌≡◌, ◌+◌, ◌≤◌, ◌∷◌, [], ◌&&◌, true, IfErr, OnOk, length};
-ghost use Rattle.rt_edits.specs.Insertions.{selected_if};
 ghost use Rattle.rt_edits.specs.Selected.{room_in, stamps_in};
 ghost use Rattle.rt_edits.specs.Selections.{unselected};
 ghost use Rattle.rt_store.specs.Spans.{is_among};
-ghost use Rattle.rt_text.specs.Parts.{own_in};
+ghost use Rattle.rt_text.specs.Parts.{own_in, selected_with};
 ghost use Rattle.rt_text.specs.Widgets.{new_own, own_inserted, own_removed, reselected};
 
 use rt_edits::Selection;
@@ -87,7 +86,7 @@ impl Parts {
     pub(crate) fn select_if(&mut self, left: Stamp, right: Stamp, stamps: &[Stamp])
         requires { (is_among (stamps_in self.old.selection) left && is_among (stamps_in self.old.selection) right) ≡ true
             → length stamps.now ≤ room_in self.old.selection }
-        ensures { own_in self.new ≡ reselected (λ sel. selected_if (is_among sel left && is_among sel right) stamps.now sel) (own_in self.old) }
+        ensures { own_in self.new ≡ reselected (selected_with left right stamps.now) (own_in self.old) }
     {
         if self.has_both(left, right) {
             self.selection.add(stamps);

@@ -1,6 +1,6 @@
 // A document as a widget shows it.
 ghost use Rattle.std.specs.Prelude.{◌≡◌, ◌<◌, ◌≤◌, ◌∷◌, ◌++◌, [], IfOk, IfErr, OnOk, OnErr, Some, length, set, slice_get};
-ghost use Rattle.std.specs.List.{AllByRecursion};
+ghost use Rattle.std.specs.List.{AllByRecursion, remove};
 ghost use Rattle.rt_stamps.specs.declared.limits.TheConstants.{MOST_CELLS};
 ghost use Rattle.rt_store.specs.Cells.{final_cell, text_of};
 ghost use Rattle.rt_edits.specs.Flat.{new_flat};
@@ -128,5 +128,13 @@ impl<S: TextStore> View<S> {
         ensures doc { self.new.doc ≡ self.old.doc }
     {
         self.widget.exchange(&mut self.others[other]);
+    }
+
+    /// Takes one of the other widgets away; those behind it move up by one. It takes no memory.
+    pub fn remove_widget(&mut self, other: usize)
+        requires { other < length self.old.others }
+        ensures { self.new ≡ record self.old { others = remove self.old.others other } }
+    {
+        let _gone = self.others.remove(other);
     }
 }
