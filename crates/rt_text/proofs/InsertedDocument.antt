@@ -84,8 +84,11 @@ module _ (flat : Flat) (own : Own) (others : List Own) (place : ℕ) (pieces : L
   }
 
   pub put_made : with_pieces_at (viewed flat own others) place pieces rest
-      ≡ record { doc = logged flat made_drafts made_flat; own = record (own_inserted place (length made_new.cells) own) { sel = made_new.sel };
-      others = with_selections made_new.others (map (own_inserted place (length made_new.cells)) others) }
+      ≡ record {
+        doc = logged flat made_drafts made_flat;
+        own = record (own_inserted place (length made_new.cells) own) { sel = made_new.sel };
+        others = with_selections made_new.others (map (own_inserted place (length made_new.cells)) others);
+      }
   put_made = ap put_from (place_whole (viewed flat own others) place)
 
   -- a plan on a site, a count and a selection that are the document's and the widget's

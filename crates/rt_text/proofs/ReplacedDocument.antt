@@ -178,8 +178,11 @@ module _ (flat : Flat) (own : Own) (others : List Own) (range : Range) (place : 
   within : place < length (text_of left.doc.cells)
   within = omega (arith, i.at, rest_some flat own others range i.history i.document i.real i.fits)
 
-  pub replaced_is : edited ≡ record { doc = logged left.doc more_drafts more_flat; own = record (own_inserted place (length more_new.cells) left.own) { sel = more_new.sel };
-      others = with_selections more_new.others (map (own_inserted place (length more_new.cells)) left.others) }
+  pub replaced_is : edited ≡ record {
+    doc = logged left.doc more_drafts more_flat;
+    own = record (own_inserted place (length more_new.cells) left.own) { sel = more_new.sel };
+    others = with_selections more_new.others (map (own_inserted place (length more_new.cells)) left.others);
+  }
   replaced_is = ap (λ p. with_pieces_at left p pieces rest) (sym i.at) ∙ put_made left.doc left.own left.others place pieces rest
 
   pub all_may : MayBeMade flat.site flat.log all_drafts

@@ -81,7 +81,14 @@ impl<'a, S: TextStore> Ground for WidgetGround<'a, S> {
             return None;
         }
         let widget = self.widget;
-        next_with(self.store, self.states, &widget.parts.selection, name, true, 0)
+        next_with(
+            self.store,
+            self.states,
+            &widget.parts.selection,
+            name,
+            true,
+            0,
+        )
     }
 
     fn tag_last(&self, name: &str) -> Option<usize> {

@@ -356,8 +356,11 @@ returns-clause-ok g c =
     let d = done g c in
     let new = more_new flat own others c.args.range place pieces rest d.is in
     (λ k. record { doc = seen c.make.new.self (d.marks_is k) (d.tags_is k); own = d.own_is k; others = d.others_are k })
-    ∙ ap (λ (f : Flat). record { doc = f; own = record (own_inserted place (length new.cells) (left_by (viewed flat own others) c.args.range).own) { sel = new.sel };
-      others = with_selections new.others (map (own_inserted place (length new.cells)) (left_by (viewed flat own others) c.args.range).others) }) d.doc
+    ∙ ap (λ (f : Flat). record {
+      doc = f;
+      own = record (own_inserted place (length new.cells) (left_by (viewed flat own others) c.args.range).own) { sel = new.sel };
+      others = with_selections new.others (map (own_inserted place (length new.cells)) (left_by (viewed flat own others) c.args.range).others);
+    }) d.doc
     ∙ sym (replaced_is flat own others c.args.range place pieces rest d.is)
 
 pub returns-clause-checked : goal.returns-clause-checked

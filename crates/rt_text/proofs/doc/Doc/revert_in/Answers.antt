@@ -220,6 +220,7 @@ change_each-requires-clause-fits g c =
     let changes : c.deref-4.result.now ≡ plan.changes.items = c.deref-4.ensures.value in
     let few : length c.deref-4.result.now ≤ 2 ^ 63 = omega (arith, ap length changes, plan.changes.ok.0, plan.changes.ok.1, plan.changes.small) in
     each_room (length (text_of flat.cells)) (length c.deref-4.result.now) (2 ^ 64 - 1) c.args.others.now (omega (arith, text, within, few)) c.requires.others
+
 pub list_tags-requires-clause-names : goal.list_tags-requires-clause-names
 list_tags-requires-clause-names g c =
     subst (All (λ w. IsName (string_bytes w))) (sym c.deref-5.ensures.value) (names_planned c.in_ok-plan.plan c.in_ok-plan.ensures.names)
