@@ -1,14 +1,23 @@
-use Rattle.std.proofs.Common.{◌≡◌, ◌∙◌, ◌<◌, ap, arith, length, map, subst, sym}
+use Rattle.std.proofs.Common.{◌≡◌, ◌∙◌, List, ap, length, map, subst, sym}
 use Rattle.std.specs.List.{AllByRecursion, remove}
-use Rattle.std.proofs.lemmas.List.{length-map}
 use Rattle.rt_store.specs.Cells.{text_of}
 use Rattle.rt_text.specs.Parts.{own_in}
 use Rattle.rt_text.specs.Widgets.{IsOwnOf, Own, Viewed}
 use Rattle.rt_text.proofs.ExchangeLaws.{each_removed, map_removed}
 use Rattle.rt_text.proofs.view.View.remove_widget.Goals as goal
 
-pub remove-requires : goal.remove-requires
-remove-requires g c =
-    let many : length c.args.self.now.others ≡ length c.self.inside.others.items =
-    ap (λ (v : Viewed). length v.others) (sym c.self.view_is) ∙ length-map c.self.inside.others.items own_in in
-    omega (arith, c.requires, many)
+pub invariant_of-self : goal.invariant_of-self
+invariant_of-self g c =
+    let items = c.self.inside.others.items in
+    let i = c.args.other in
+    let back : map own_in c.remove.new.self.items ≡ remove (map own_in items) i = ap (map own_in) c.remove.ensures.items ∙ map_removed own_in items i in
+    let n = length (text_of c.self.inside.doc.cells) in
+    (c.self.invariant.0, subst (AllByRecursion (IsOwnOf n)) (sym back) (each_removed (IsOwnOf n) (map own_in items) i c.self.invariant.1))
+
+pub returns : goal.returns
+returns g c =
+    let items = c.self.inside.others.items in
+    let i = c.args.other in
+    let back : map own_in c.remove.new.self.items ≡ remove (map own_in items) i = ap (map own_in) c.remove.ensures.items ∙ map_removed own_in items i in
+    ap (λ (l : List Own). record { doc = c.self.inside.doc; own = c.self.inside.widget; others = l }) back
+    ∙ ap (λ (v : Viewed). record v { others = remove v.others i }) c.self.view_is
