@@ -135,6 +135,6 @@ impl<S: TextStore> View<S> {
         requires { other < length self.old.others }
         ensures { self.new ≡ record self.old { others = remove self.old.others other } }
     {
-        let _gone = self.others.remove(other);
+        self.others.remove(other);
     }
 }
