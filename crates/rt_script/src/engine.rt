@@ -110,14 +110,12 @@ fn is_silent(line: &[u8]) -> bool
 fn answer_text<C: Commands>(alloc: Global, spare: &mut Spare, site: &mut C, text: &str) -> Answer
     ensures { is_readable text.now ≡ true → LineGives C.gives (C.state site.old) text.now result (C.state site.new) }
 {
-    match words_in(alloc, spare, text) {
-        Ok(words) => {
-            let answer = site.run_words(&words);
-            spare.keep(words);
-            answer
-        }
+    let answer = match words_in(alloc, spare, text) {
+        Ok(words) => site.run_words(words),
         Err(fault) => Answer::Refused(fault),
-    }
+    };
+    spare.trim(alloc);
+    answer
 }
 
 // What a line is answered, unless it is a silent one.

@@ -1,34 +1,36 @@
 // Memory of words, kept for others.
-ghost use Rattle.std.specs.Prelude.{◌≡◌, ◌≤◌, [], string_bytes};
+ghost use Rattle.std.specs.Prelude.{◌≡◌, ◌≤◌};
 ghost use Rattle.rt_words.specs.declared.spare.TheConstants.{MOST_WORDS};
 
 use std::alloc::Global;
 use std::marker::Model;
-use std::mem;
 
 // How many words' memory is kept, and how many bytes of each at most.
 const MOST_WORDS: usize = 16;
 
 const MOST_WORD_BYTES: usize = 64;
 
-/// Memory that words had, for other words: that of sixteen words of 64 bytes at most, so that the words of
-/// one short line after the other take no new memory. What is kept shows nowhere.
+// The memory of a word grows to twice what it had at most, or to what it needs: that of the words of
+// such a line needs no look.
+const SHORT_LINE_BYTES: usize = MOST_WORD_BYTES / 2;
+
+/// Memory that words have from line to line: once trimmed, that of sixteen words of 64 bytes at most, so
+/// that the words of one short line after the other take no new memory. What is kept shows nowhere.
 #[derive(Drop)]
 pub struct Spare {
-    list: Vec<String>,
-    words: Vec<String>,
+    // Words of former lines: their memory is what counts.
+    pub(crate) words: Vec<String>,
+    // Whether one of them may have more memory than is kept.
+    are_long: bool,
 }
 
 impl Model for Spare {
-    ghost use Rattle.std.specs.Prelude.{ℕ, ◌≤◌, length};
-    ghost use Rattle.rt_words.specs.declared.spare.TheConstants.{MOST_WORDS};
+    ghost use Rattle.std.specs.Prelude.{ℕ, length};
 
     // how many words' memory is kept
     ghost Value = { ℕ };
 
     ghost view = { λ s. length s.words.items };
-
-    ghost invariant = { λ s. length s.words.items ≤ MOST_WORDS };
 }
 
 impl Spare {
@@ -37,56 +39,41 @@ impl Spare {
         ensures { result ≡ 0 }
     {
         Spare {
-            list: Vec::new(alloc),
             words: Vec::new(alloc),
+            are_long: false,
         }
     }
 
-    // A list without words.
-    pub(crate) fn list(&mut self, alloc: Global) -> Vec<String>
-        ensures { result.items ≡ [] }
+    // Notes that the words of a line come.
+    pub(crate) fn note(&mut self, line: &str)
+        ensures { self.new ≡ self.old }
     {
-        let mut list = mem::replace(&mut self.list, Vec::new(alloc));
-        list.clear();
-        list
+        if line.len() > SHORT_LINE_BYTES {
+            self.are_long = true;
+        }
     }
 
-    // A word without characters.
-    pub(crate) fn word(&mut self, alloc: Global) -> String
-        ensures { string_bytes result ≡ [] }
+    /// Gives back what is more than that of sixteen words of 64 bytes.
+    pub fn trim(&mut self, alloc: Global)
+        ensures most { self.new ≤ MOST_WORDS }
+        ensures fewer { self.new ≤ self.old }
+        ensures kept { self.old ≤ MOST_WORDS → self.new ≡ self.old }
     {
-        match self.words.pop() {
-            Some(mut word) => {
-                word.clear();
-                word
+        self.words.truncate(MOST_WORDS);
+        if self.are_long {
+            self.give_back_long(alloc);
+        }
+    }
+
+    // Gives back the memory of long words.
+    fn give_back_long(&mut self, alloc: Global)
+        ensures { self.new ≡ self.old }
+    {
+        for i in 0..self.words.len() {
+            if self.words[i].capacity() > MOST_WORD_BYTES {
+                self.words[i] = String::new(alloc);
             }
-            None => String::new(alloc),
         }
-    }
-
-    // Keeps the memory of a word.
-    fn keep_word(&mut self, word: String)
-        ensures most { self.new ≤ MOST_WORDS }
-        ensures kept { self.old ≤ self.new }
-    {
-        if self.words.len() < MOST_WORDS && word.capacity() <= MOST_WORD_BYTES {
-            let _ = self.words.push(word);
-        }
-    }
-
-    /// Keeps the memory of words that are no longer wanted, beside what is kept already; no more than of
-    /// sixteen words.
-    pub fn keep(&mut self, mut words: Vec<String>)
-        ensures most { self.new ≤ MOST_WORDS }
-        ensures kept { self.old ≤ self.new }
-    {
-        let _ = self.words.len();
-        if words.len() > MOST_WORDS {
-            return;
-        }
-        while let Some(word) = words.pop() {
-            self.keep_word(word);
-        }
-        self.list = words;
+        self.are_long = false;
     }
 }

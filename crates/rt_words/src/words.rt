@@ -1,6 +1,8 @@
 // The words of a line and of a list.
-ghost use Rattle.std.specs.Prelude.{◌≡◌, ◌≢◌, ◌⊎◌, ℕ, ◌<◌, ◌≤◌, ◌∷◌, [], IfOk, IfErr, MatchOption, MatchResult, drop, map, not, false, length, slice_index, string_bytes};
+ghost use Rattle.std.specs.Prelude.{◌≡◌, ◌≢◌, ◌⊎◌, ℕ, ◌<◌, ◌≤◌, ◌∷◌, [], IfOk, IfErr, MatchOption, MatchResult, OnOk, String, drop, map, not, false, length, slice_index, slice_index_or, string_bytes, take};
+ghost use Rattle.std.specs.declared.alloc.Global.{Global};
 ghost use Rattle.std.specs.List.{prefix_len};
+ghost use Rattle.rt_stamps.specs.Lines.{is_blank};
 ghost use Rattle.rt_stamps.specs.Words.{EndsWord, Spells, SpellsBy, SpellsList, IsBadlyQuoted, IsBadlyQuotedBy, IsBadlyQuotedList, escape_of, is_list_blank};
 ghost use Rattle.rt_words.specs.FirstWord.{BeginsWith, ClosesAt, IsFirstWord, HasNoFirstWord, IsQuotedFront, HasNoQuotedFront, IsBracedFront, HasNoBracedFront, is_plain};
 ghost use Rattle.rt_words.specs.Separators.{separates};
@@ -16,17 +18,22 @@ pub fn words(alloc: Global, line: &str) -> Result<Vec<String>, Fault>
     ensures quoting { result ≡ Err Fault.BadQuoting → IsBadlyQuoted line.now }
     ensures fault { IfErr result (λ fault. (fault ≡ Fault.NoMemory) ⊎ (fault ≡ Fault.BadQuoting)) }
 {
-    words_in(alloc, &mut Spare::new(alloc), line)
+    let mut words = Vec::new(alloc);
+    let count = words_by(alloc, &mut words, Separators::OfLine, line)?;
+    words.truncate(count);
+    Ok(words)
 }
 
 /// The same, in memory that words of former lines had. `BadQuoting` where the line spells no words,
 /// `NoMemory` where they can't be stored.
-pub fn words_in(alloc: Global, spare: &mut Spare, line: &str) -> Result<Vec<String>, Fault>
-    ensures ok { IfOk result (λ words. Spells line.now (map (λ w. string_bytes w) words.items)) }
+pub fn words_in<'a>(alloc: Global, spare: &'a mut Spare, line: &str) -> Result<&'a [String], Fault>
+    ensures ok { IfOk result (λ words. Spells line.now (map (λ w. string_bytes w) words.now)) }
     ensures quoting { result ≡ Err Fault.BadQuoting → IsBadlyQuoted line.now }
     ensures fault { IfErr result (λ fault. (fault ≡ Fault.NoMemory) ⊎ (fault ≡ Fault.BadQuoting)) }
 {
-    words_by(alloc, spare, Separators::OfLine, line)
+    spare.note(line);
+    let count = words_by(alloc, &mut spare.words, Separators::OfLine, line)?;
+    Ok(&spare.words[..count])
 }
 
 /// The words of a list, as of tags: those of a line, but that newlines stand between them too.
@@ -36,7 +43,10 @@ pub fn list_words(alloc: Global, list: &str) -> Result<Vec<String>, Fault>
     ensures quoting { result ≡ Err Fault.BadQuoting → IsBadlyQuotedList list.now }
     ensures fault { IfErr result (λ fault. (fault ≡ Fault.NoMemory) ⊎ (fault ≡ Fault.BadQuoting)) }
 {
-    words_by(alloc, &mut Spare::new(alloc), Separators::OfList, list)
+    let mut words = Vec::new(alloc);
+    let count = words_by(alloc, &mut words, Separators::OfList, list)?;
+    words.truncate(count);
+    Ok(words)
 }
 
 // What separates words: spaces and tabs in a line, and newlines too in a list.
@@ -65,84 +75,91 @@ impl Separators {
     }
 }
 
-// The words of a text, with separators between them.
+// Puts the words of a text, with separators between them, in place of others: how many there are.
 fn words_by(
     alloc: Global,
-    spare: &mut Spare,
+    words: &mut Vec<String>,
     separators: Separators,
     text: &str,
-) -> Result<Vec<String>, Fault>
-    ensures ok { IfOk result (λ words. SpellsBy (separates separators) text.now (map (λ w. string_bytes w) words.items)) }
+) -> Result<usize, Fault>
+    ensures ok { IfOk result (λ count. SpellsBy (separates separators) text.now (map (λ w. string_bytes w) (take count words.new.items))) }
+    ensures within { IfOk result (λ count. count ≤ length words.new.items) }
     ensures quoting { result ≡ Err Fault.BadQuoting → IsBadlyQuotedBy (separates separators) text.now }
     ensures fault { IfErr result (λ fault. (fault ≡ Fault.NoMemory) ⊎ (fault ≡ Fault.BadQuoting)) }
 {
     let bytes = text.as_bytes();
-    let mut words = spare.list(alloc);
+    let mut count = 0;
     let mut start = gap_len(separators, bytes);
     while start < bytes.len() {
-        let first = first_word(alloc, spare, separators, &text[start..])?;
-        words.push(first.word)?;
-        let end = start + first.len;
+        make_blank(alloc, words, count)?;
+        let end = start + first_word(separators, &text[start..], &mut words[count])?;
+        count += 1;
         start = end + gap_len(separators, &bytes[end..]);
     }
-    Ok(words)
+    Ok(count)
 }
 
-// A word at the front of a text, and the length of what spells it.
-#[derive(Drop)]
-struct Front {
-    word: String,
-    len: usize,
+// Makes the word at a place one without characters, in its own memory.
+fn make_blank(alloc: Global, words: &mut Vec<String>, place: usize) -> Result<(), Fault>
+    requires { place ≤ length words.old.items }
+    ensures place { OnOk result (place < length words.new.items) }
+    ensures blank { OnOk result ((other : String Global) → string_bytes (slice_index_or words.new.items place other) ≡ []) }
+    ensures before { OnOk result (take place words.new.items ≡ take place words.old.items) }
+    ensures fault { IfErr result (λ fault. fault ≡ Fault.NoMemory) }
+{
+    if place < words.len() {
+        words[place].clear();
+    } else {
+        words.push(String::new(alloc))?;
+    }
+    Ok(())
 }
 
-// The word at the front of a text, which begins with no separator.
-fn first_word(
-    alloc: Global,
-    spare: &mut Spare,
-    separators: Separators,
-    text: &str,
-) -> Result<Front, Fault>
+// Puts the word at the front of a text, which begins with no separator, in place of an empty one: the
+// length of what spells it.
+fn first_word(separators: Separators, text: &str, word: &mut String) -> Result<usize, Fault>
     requires some { 0 < length text.now }
     requires dark { separates separators (slice_index text.now 0) ≡ false }
-    ensures ok { IfOk result (λ front. IsFirstWord (separates separators) text.now front.len (string_bytes front.word)) }
+    requires blank { string_bytes word.old ≡ [] }
+    ensures ok { IfOk result (λ len. IsFirstWord (separates separators) text.now len (string_bytes word.new)) }
     ensures quoting { result ≡ Err Fault.BadQuoting → HasNoFirstWord (separates separators) text.now }
     ensures fault { IfErr result (λ fault. (fault ≡ Fault.NoMemory) ⊎ (fault ≡ Fault.BadQuoting)) }
 {
     let bytes = text.as_bytes();
     match bytes[0] {
-        b'"' => ended(separators, bytes, quoted_word(alloc, text)?),
-        b'{' => ended(separators, bytes, braced_word(alloc, text)?),
-        _ => bare_word(alloc, spare, separators, text),
+        b'"' => ended(separators, bytes, quoted_word(text, word)?),
+        b'{' => ended(separators, bytes, braced_word(text, word)?),
+        _ => bare_word(separators, text, word),
     }
 }
 
-// A word that a separator or nothing follows.
-fn ended(separators: Separators, text: &[u8], front: Front) -> Result<Front, Fault>
-    requires { front.len ≤ length text.now }
-    ensures { MatchResult result (λ same. (same ≡ front) × EndsWord (separates separators) (drop front.len text.now))
-        (λ fault. (fault ≡ Fault.BadQuoting) × (EndsWord (separates separators) (drop front.len text.now) → ⊥)) }
+// The length of what spells a word, if a separator or nothing follows.
+fn ended(separators: Separators, text: &[u8], len: usize) -> Result<usize, Fault>
+    requires { len ≤ length text.now }
+    ensures { MatchResult result (λ same. (same ≡ len) × EndsWord (separates separators) (drop len text.now))
+        (λ fault. (fault ≡ Fault.BadQuoting) × (EndsWord (separates separators) (drop len text.now) → ⊥)) }
 {
-    match text[front.len..].first() {
+    match text[len..].first() {
         Some(c) if !separators.separates(*c) => Err(Fault::BadQuoting),
-        _ => Ok(front),
+        _ => Ok(len),
     }
 }
 
-// The quoted word at the front of a text, whatever follows it.
-fn quoted_word(alloc: Global, text: &str) -> Result<Front, Fault>
-    requires { BeginsWith text.now 34 }
-    ensures ok { IfOk result (λ front. IsQuotedFront text.now front.len (string_bytes front.word)) }
+// Puts the quoted word at the front of a text, whatever follows it, in place of an empty one.
+fn quoted_word(text: &str, word: &mut String) -> Result<usize, Fault>
+    requires text { BeginsWith text.now 34 }
+    requires blank { string_bytes word.old ≡ [] }
+    ensures ok { IfOk result (λ len. IsQuotedFront text.now len (string_bytes word.new)) }
     ensures quoting { result ≡ Err Fault.BadQuoting → HasNoQuotedFront text.now }
     ensures fault { IfErr result (λ fault. (fault ≡ Fault.NoMemory) ⊎ (fault ≡ Fault.BadQuoting)) }
 {
     let bytes = text.as_bytes();
-    let mut word = String::new(alloc);
     let mut start = 1;
     while start < bytes.len() {
         let end = start + plain_len(&bytes[start..]);
         word.push_str(&text[start..end])?;
         if end < bytes.len() && bytes[end] == b'"' {
-            return Ok(Front { word, len: end + 1 });
+            return Ok(end + 1);
         }
         let Some(letter) = bytes.get(end + 1) else {
             return Err(Fault::BadQuoting);
@@ -168,18 +185,19 @@ fn escaped(letter: u8) -> Result<char, Fault>
     }
 }
 
-// The braced word at the front of a text, whatever follows it.
-fn braced_word(alloc: Global, text: &str) -> Result<Front, Fault>
-    requires { BeginsWith text.now 123 }
-    ensures ok { IfOk result (λ front. IsBracedFront text.now front.len (string_bytes front.word)) }
+// Puts the braced word at the front of a text, whatever follows it, in place of an empty one.
+fn braced_word(text: &str, word: &mut String) -> Result<usize, Fault>
+    requires text { BeginsWith text.now 123 }
+    requires blank { string_bytes word.old ≡ [] }
+    ensures ok { IfOk result (λ len. IsBracedFront text.now len (string_bytes word.new)) }
     ensures quoting { result ≡ Err Fault.BadQuoting → HasNoBracedFront text.now }
     ensures fault { IfErr result (λ fault. (fault ≡ Fault.NoMemory) ⊎ (fault ≡ Fault.BadQuoting)) }
 {
     let Some(len) = closing_brace(&text.as_bytes()[1..]) else {
         return Err(Fault::BadQuoting);
     };
-    let word = String::from_str(alloc, &text[1..len + 1])?;
-    Ok(Front { word, len: len + 2 })
+    word.push_str(&text[1..len + 1])?;
+    Ok(len + 2)
 }
 
 // The place of the brace that closes one before the text.
@@ -198,24 +216,19 @@ fn closing_brace(text: &[u8]) -> Option<usize>
     None
 }
 
-// The bare word at the front of a text.
-fn bare_word(
-    alloc: Global,
-    spare: &mut Spare,
-    separators: Separators,
-    text: &str,
-) -> Result<Front, Fault>
+// Puts the bare word at the front of a text in place of an empty one.
+fn bare_word(separators: Separators, text: &str, word: &mut String) -> Result<usize, Fault>
     requires some { 0 < length text.now }
     requires dark { separates separators (slice_index text.now 0) ≡ false }
     requires quote { slice_index text.now 0 ≢ 34 }
     requires brace { slice_index text.now 0 ≢ 123 }
-    ensures ok { IfOk result (λ front. IsFirstWord (separates separators) text.now front.len (string_bytes front.word)) }
+    requires blank { string_bytes word.old ≡ [] }
+    ensures ok { IfOk result (λ len. IsFirstWord (separates separators) text.now len (string_bytes word.new)) }
     ensures fault { IfErr result (λ fault. fault ≡ Fault.NoMemory) }
 {
     let len = bare_len(separators, text.as_bytes());
-    let mut word = spare.word(alloc);
     word.push_str(&text[..len])?;
-    Ok(Front { word, len })
+    Ok(len)
 }
 
 // How many separators a text begins with.
@@ -228,12 +241,19 @@ fn gap_len(separators: Separators, text: &[u8]) -> usize
     }
 }
 
+// Whether a character separates no words of a line: most lie past the space.
+fn is_dark(c: u8) -> bool
+    ensures { result ≡ not (is_blank c) }
+{
+    c > b' ' || !is_blank(c)
+}
+
 // How many characters a text has before its first separator.
 fn bare_len(separators: Separators, text: &[u8]) -> usize
     ensures { result ≡ prefix_len (λ c. not (separates separators c)) text.now }
 {
     match separators {
-        Separators::OfLine => text.iter().take_while(|c| !is_blank(**c)).count(),
+        Separators::OfLine => text.iter().take_while(|c| is_dark(**c)).count(),
         Separators::OfList => text.iter().take_while(|c| !is_list_blank(**c)).count(),
     }
 }

@@ -20,4 +20,4 @@ returns-clause-ok c =
     let n : c.bare_len-len.result ≡ prefix_len (is_dark (separates c.args.separators)) text = c.bare_len-len.ensures ∙ ap (prefix_len (is_dark (separates c.args.separators))) c.as_bytes.ensures.value in
     let m : ℕ = c.bare_len-len.result in
     let whole : m - 0 ≡ m = omega arith in
-    rw (c.in_ok-push_str.ensures.bytes ∙ ap (λ v. v ++ c.range.result.now) c.word-word.ensures ∙ c.range.ensures.value ∙ ap (λ k. take k text) whole, n) (bare_first (separates c.args.separators) (separating c.args.separators) text c.requires.some c.requires.dark c.requires.quote c.requires.brace)
+    rw (c.in_ok-push_str.ensures.bytes ∙ ap (λ v. v ++ c.range.result.now) c.requires.blank ∙ c.range.ensures.value ∙ ap (λ k. take k text) whole, n) (bare_first (separates c.args.separators) (separating c.args.separators) text c.requires.some c.requires.dark c.requires.quote c.requires.brace)

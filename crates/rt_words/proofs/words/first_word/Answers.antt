@@ -20,15 +20,15 @@ pub returns-in_ok-quoted_word-in-34-clause-quoting :
     goal.returns-in_ok-quoted_word-in-34-clause-quoting
 returns-in_ok-quoted_word-in-34-clause-quoting c e =
     let m = rw e at c.ended.ensures in
-    quoted_followed (separates c.args.separators) (separating c.args.separators) c.args.text.now c.in_ok-quoted_word-in-34.field-0.len _ (begins _ _ 34 c.requires.some c.as_bytes-bytes.ensures.value c.in-34.is) c.in_ok-quoted_word-in-34.ensures.ok
-    (λ ends. m.1 (subst (λ (v : List ℕ). EndsWord (separates c.args.separators) (drop c.in_ok-quoted_word-in-34.field-0.len v)) (sym c.as_bytes-bytes.ensures.value) ends))
+    quoted_followed (separates c.args.separators) (separating c.args.separators) c.args.text.now c.in_ok-quoted_word-in-34.field-0 _ (begins _ _ 34 c.requires.some c.as_bytes-bytes.ensures.value c.in-34.is) c.in_ok-quoted_word-in-34.ensures.ok
+    (λ ends. m.1 (subst (λ (v : List ℕ). EndsWord (separates c.args.separators) (drop c.in_ok-quoted_word-in-34.field-0 v)) (sym c.as_bytes-bytes.ensures.value) ends))
 
 pub returns-in_ok-braced_word-in-123-clause-quoting :
     goal.returns-in_ok-braced_word-in-123-clause-quoting
 returns-in_ok-braced_word-in-123-clause-quoting c e =
     let m = rw e at c.ended-in-123.ensures in
-    braced_followed (separates c.args.separators) (separating c.args.separators) c.args.text.now c.in_ok-braced_word-in-123.field-0.len _ (begins _ _ 123 c.requires.some c.as_bytes-bytes.ensures.value c.in-123.is) c.in_ok-braced_word-in-123.ensures.ok
-    (λ ends. m.1 (subst (λ (v : List ℕ). EndsWord (separates c.args.separators) (drop c.in_ok-braced_word-in-123.field-0.len v)) (sym c.as_bytes-bytes.ensures.value) ends))
+    braced_followed (separates c.args.separators) (separating c.args.separators) c.args.text.now c.in_ok-braced_word-in-123.field-0 _ (begins _ _ 123 c.requires.some c.as_bytes-bytes.ensures.value c.in-123.is) c.in_ok-braced_word-in-123.ensures.ok
+    (λ ends. m.1 (subst (λ (v : List ℕ). EndsWord (separates c.args.separators) (drop c.in_ok-braced_word-in-123.field-0 v)) (sym c.as_bytes-bytes.ensures.value) ends))
 
 pub returns-in_err-braced_word-in-123-clause-quoting :
     goal.returns-in_err-braced_word-in-123-clause-quoting

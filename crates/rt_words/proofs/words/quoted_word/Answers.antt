@@ -11,7 +11,7 @@ char_is : (bytes text : List ℕ) (i : ℕ) → bytes ≡ text → get_or text i
 char_is bytes text i e = ap (λ (v : List ℕ). get_or v i 0) (sym e)
 
 pub loop-start-init : goal.loop-start-init
-loop-start-init c = rw c.new-word.ensures.bytes (quote_opened c.args.text.now c.utf8.text c.requires)
+loop-start-init c = rw c.requires.blank (quote_opened c.args.text.now c.utf8.text c.requires.text)
 
 pub overflow_add-end : goal.overflow_add-end
 overflow_add-end c =
