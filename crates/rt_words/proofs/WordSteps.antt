@@ -8,7 +8,7 @@ use Rattle.std.proofs.lemmas.List.Sums.{prefix_len-le-length, prefix_len_passes,
 use Rattle.rt_stamps.specs.Words.{Word, AreSeparators, EndsWord, SpellsBy}
 use Rattle.rt_words.specs.FirstWord.{IsFirstWord, HasNoFirstWord}
 use Rattle.rt_words.proofs.Separating.{IsSeparating}
-use Rattle.rt_words.proofs.Spelling.{spells_after_blanks, spells_past_blanks, spells_first, after_first, no_words}
+use Rattle.rt_words.proofs.Spelling.{starts, spells_after_blanks, spells_past_blanks, spells_first, after_first, no_words}
 
 -- what words were read before a place, of those that the line spells
 abbrev pub ReadsOn : (ℕ → Bool) → List ℕ → ℕ → List Word → Type 0
@@ -65,8 +65,16 @@ module _ (separates : ℕ → Bool) (sound : IsSeparating separates) where
       let here : SpellsBy separates (drop i line) (word ∷ more) = spells_first separates sound (drop i line) len word more f (subst (λ (v : List ℕ). SpellsBy separates v more) (sym (drop-drop len i line)) after) in
       subst (λ v. SpellsBy separates line v) (sym (append_assoc words (word ∷ []) more)) (on (word ∷ more) here)
 
+  -- what spells a word is no empty piece
+  pub word_some : (text : List ℕ) (len : ℕ) (word : Word) → IsFirstWord separates text len word → 0 < len
+  word_some text zero word h =
+      let s = starts separates sound [] word h.1 in
+      let e : [] ≡ s.first ∷ s.rest = s.split in
+      absurd (cc)
+  word_some text (suc len) word h = omega arith
+
   -- what follows a place begins with no blank
-  dark_drop : (line : List ℕ) (i : ℕ) → separates (get_or line i 0) ≡ false → separates (get_or (drop i line) 0 0) ≡ false
+  pub dark_drop : (line : List ℕ) (i : ℕ) → separates (get_or line i 0) ≡ false → separates (get_or (drop i line) 0 0) ≡ false
   dark_drop line i d = let e : i + 0 ≡ i = omega arith in ap separates (get_or-drop i line 0 0 ∙ ap (λ n. get_or line n 0) e) ∙ d
 
   some_left : (line : List ℕ) (i : ℕ) → i < length line → 0 < length (drop i line)

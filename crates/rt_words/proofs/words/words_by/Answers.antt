@@ -1,4 +1,4 @@
-use Rattle.std.proofs.Common.{◌≡◌, ◌+◌, ◌∙◌, ℕ, ◌<◌, ◌++◌, ◌∷◌, [], length, drop, take, map, String, string_bytes, subst, sym, ap, refl, arith, List}
+use Rattle.std.proofs.Common.{◌≡◌, ◌+◌, ◌∙◌, ℕ, ◌<◌, ◌++◌, ◌∷◌, [], length, drop, take, map, String, string_bytes, subst, sym, ap, refl, arith, List, false, get_or}
 use Rattle.std.specs.declared.alloc.Global.{Global}
 use Rattle.std.specs.List.{prefix_len}
 use Rattle.std.proofs.Math.ListN.{set, length-set}
@@ -9,7 +9,7 @@ use Rattle.rt_stamps.specs.Words.{Word}
 use Rattle.rt_words.specs.FirstWord.{IsFirstWord, HasNoFirstWord}
 use Rattle.rt_words.specs.Separators.{separates}
 use Rattle.rt_words.proofs.Separating.{separating}
-use Rattle.rt_words.proofs.WordSteps.{Reading, begun, next, counted, blanks_within, word_within, bad_word, reads_end}
+use Rattle.rt_words.proofs.WordSteps.{Reading, begun, next, counted, blanks_within, word_within, bad_word, dark_drop, reads_end, word_some}
 use Rattle.rt_words.proofs.words.words_by.Goals as goal
 
 -- the words before a place, and one that is put there
@@ -24,6 +24,13 @@ loop-start-init c = record {
   reading = begun (separates c.args.separators) (separating c.args.separators) c.args.text.now c.gap_len-start.result c.utf8.text (c.gap_len-start.ensures ∙ ap (prefix_len (separates c.args.separators)) c.as_bytes-bytes.ensures.value);
   within = omega arith;
 }
+
+pub first_word-requires-clause-dark : goal.first_word-requires-clause-dark
+first_word-requires-clause-dark c =
+    let i : ℕ = c.loop-start.start in
+    let l : i < length c.args.text.now = omega (arith, c.loop-start-test.true, c.as_bytes-bytes.ensures.len) in
+    let rest : c.range_from.result.now ≡ drop i c.args.text.now = c.range_from.ensures.value in
+    subst (λ (v : List ℕ). separates c.args.separators (get_or v 0 0) ≡ false) (sym rest) (dark_drop (separates c.args.separators) (separating c.args.separators) c.args.text.now i (c.loop-start.invariant.reading.begins l))
 
 pub returns-in_err-end-clause-quoting : goal.returns-in_err-end-clause-quoting
 returns-in_err-end-clause-quoting c e =
@@ -57,6 +64,11 @@ loop-start-preserved c =
           (next (separates c.args.separators) (separating c.args.separators) c.args.text.now i len c.gap_len.result _ _ c.utf8.text l f j c.loop-start.invariant.reading);
       within = omega (arith, at, length-set c.make_blank.new.words.items c.loop-start.count c.first_word.new.word);
     }
+
+pub loop-start-smaller : goal.loop-start-smaller
+loop-start-smaller c =
+    let some : 0 < c.in_ok-end.field-0 = word_some (separates c.args.separators) (separating c.args.separators) c.range_from.result.now c.in_ok-end.field-0 (string_bytes c.first_word.new.word) c.in_ok-end.ensures.ok in
+    omega (arith, some, c.loop-start-test.true)
 
 pub returns-clause-ok : goal.returns-clause-ok
 returns-clause-ok c = reads_end (separates c.args.separators) (separating c.args.separators) c.args.text.now c.loop-start.start _ (omega (arith, c.loop-start-test.false, c.as_bytes-bytes.ensures.len)) c.loop-start.invariant.reading.reads_on
