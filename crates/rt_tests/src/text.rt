@@ -411,7 +411,8 @@ fn counts_of_the_last_newline(rt: HostRuntime) -> Result<(), Fail> {
     tagged(&rt, &page, &[("t", 0, 0, 1), ("u", 0, 0, 1)]);
     assert_eq!(rt; page.next_tagged("sel", 0), None);
     assert_eq!(rt; page.selected(FINAL), (false, false));
-    assert_eq!(rt; page.selected(stamp(1)), (true, false));
+    let first = stamp(GREATEST_COUNT.saturating_sub(6));
+    assert_eq!(rt; page.selected(first), (true, false));
     assert_eq!(rt; page.insert("1.0", "c"), Err(Fault::ClockSpent));
     Ok(())
 }
