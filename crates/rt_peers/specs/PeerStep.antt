@@ -1,6 +1,6 @@
 -- What is asked of the widgets of a site by a command of one of them, and by the line `destroy PATH` (Tk text manual, "PEER
 -- WIDGETS"): the reply and the site after it, or why it is refused.
-use Rattle.std.specs.Prelude.{ℕ, ◌||◌, not, nat_lt, List, [], ◌∷◌, filter, length, Option, Some, None, is_some, Result, Ok, Err, if◌then◌else◌}
+use Rattle.std.specs.Prelude.{ℕ, ◌||◌, Bool, not, nat_lt, List, [], ◌∷◌, filter, length, Option, Some, None, is_some, Result, Ok, Err, if◌then◌else◌}
 use Rattle.std.specs.Str.{bytes_eq}
 use Rattle.rt_stamps.specs.declared.fault.Fault.{Fault}
 use Rattle.rt_stamps.specs.declared.fault.Fault.TheVariants.{BadOption, LastWidget, NoWidget, WidgetExists}
@@ -19,8 +19,11 @@ use Rattle.rt_peers.specs.Peers.{with_widget, without_widget}
 -- `peer create PATH ?OPTION VALUE ...?`
 
 -- the limits of what a widget shows are options that aren't there yet
+abbrev pub sets_limit : WidgetSettings → Bool
+sets_limit settings = is_some settings.start_line || is_some settings.end_line
+
 abbrev pub limit_check : WidgetSettings → Option Fault
-limit_check settings = if is_some settings.start_line || is_some settings.end_line then Some BadOption else None
+limit_check settings = if sets_limit settings then Some BadOption else None
 
 -- no two widgets have one path
 abbrev pub path_check : Word → List Word → Option Fault

@@ -1,7 +1,8 @@
 -- The widgets of a site, each of which shows its text (Tk text manual, "PEER WIDGETS"): one of them commands, one more is made, one
 -- is no longer there.
-use Rattle.std.specs.Prelude.{ℕ, List, [], ◌∷◌, ◌++◌, drop, get_or, set}
-use Rattle.std.specs.List.{remove}
+use Rattle.std.specs.Prelude.{◌≡◌, ℕ, List, [], ◌∷◌, ◌++◌, drop, get_or, length, set}
+use Rattle.std.specs.List.{IsDistinct, remove}
+use Rattle.std.specs.Str.{bytes_eq}
 use Rattle.rt_stamps.specs.Words.{Word}
 use Rattle.rt_editing.specs.Edited.{Edited}
 use Rattle.rt_text.specs.Widgets.{Own, Viewed, new_own}
@@ -10,6 +11,11 @@ use Rattle.rt_peers.specs.State.{State}
 -- what is each widget's own, the first one's first
 abbrev pub widgets_of : Viewed → List Own
 widgets_of view = view.own ∷ view.others
+
+-- each widget has a path of its own
+pub record HavePaths (paths : List Word) (view : Viewed) : Type 0 where
+  pub each : length paths ≡ length (widgets_of view)
+  pub differ : IsDistinct bytes_eq paths
 
 -- the widget at a place commands: it and the first one change places
 abbrev pub view_led : ℕ → Viewed → Viewed

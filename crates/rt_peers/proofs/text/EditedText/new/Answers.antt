@@ -5,7 +5,7 @@ use Rattle.rt_stamps.specs.Words.{Word}
 use Rattle.std.specs.Prelude.{List}
 use Rattle.rt_revert.specs.ReversionLaws.{AreSound}
 use Rattle.rt_undo.specs.Undo.{History}
-use Rattle.rt_peers.proofs.site.SiteState.new.Goals as goal
+use Rattle.rt_peers.proofs.text.EditedText.new.Goals as goal
 
 pub returns-in_err-recorder-clause-err : goal.returns-in_err-recorder-clause-err
 returns-in_err-recorder-clause-err c =

@@ -11,7 +11,7 @@ use Rattle.rt_text.specs.Commands.{compared, counted, position_of_index}
 use Rattle.rt_peers.specs.State.{State}
 use Rattle.rt_peers.specs.ViewStep.{as_piece, changed_step, element_words, one_word, text_of_bool, told_step}
 use Rattle.rt_peers.proofs.Steps.{told_to}
-use Rattle.rt_peers.proofs.site.SiteState.request.Goals as goal
+use Rattle.rt_peers.proofs.text.EditedText.request.Goals as goal
 
 pub returns-in-Insert : goal.returns-in-Insert
 returns-in-Insert c =
