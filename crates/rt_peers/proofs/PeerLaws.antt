@@ -1,18 +1,25 @@
 -- Widgets by their places, and paths.
-use Rattle.std.proofs.Common.{◌≡◌, ◌∙◌, ◌+◌, ◌<◌, ℕ, zero, suc, Bool, true, false, cond, not, List, [], ◌∷◌, ◌++◌, Option, Some, None, Ok, Err, Result, inl, inr, ap, arith, drop, get_or, length, map, refl, set, subst, sym}
-use Rattle.std.specs.List.{AllByRecursion, IsDistinct, position, position_or_len, remove}
-use Rattle.std.specs.Prelude.{nat_lt}
+use Rattle.std.proofs.Common.{◌≡◌, ◌∙◌, ◌+◌, ◌-◌, ◌<◌, ◌≤◌, ◌||◌, ℕ, zero, suc, nat_lt, Bool, true, false, cond, not, List, [], ◌∷◌, ◌++◌, Option, Some, None, Ok, Err, Result, String, Global, inl, inr, ap, arith, drop, get_or, length, map, refl, set, slice_get, string_bytes, subst, sym, take}
+use Rattle.std.specs.Cmp.Lexicographic.{nat_list_eq_equiv}
+use Rattle.std.specs.List.{AllByRecursion, IsDistinct, list_any, position, position_or_len, remove}
 use Rattle.std.specs.Str.{bytes_eq}
-use Rattle.std.proofs.lemmas.Grind.{common_steps}
+use Rattle.std.proofs.lemmas.Bool.Decides.{nat_tests}
+use Rattle.std.proofs.lemmas.List.{drop-map, length-append, length-drop, length-map, map-append, take-map}
+use Rattle.std.proofs.lemmas.List.Edits.{length-remove}
 use Rattle.std.proofs.lemmas.List.Quantifiers.{position-Some}
+use Rattle.std.proofs.lemmas.Map.Keys.{IsDistinct-push}
 use Rattle.rt_stamps.specs.declared.fault.Fault.{Fault}
 use Rattle.rt_stamps.specs.Outcomes.{Answers, Refuses}
 use Rattle.rt_stamps.specs.Words.{Word}
+use Rattle.rt_store.proofs.Shown.{position_map}
+use Rattle.rt_edits.specs.Flat.{Flat}
 use Rattle.rt_editing.specs.Edited.{Edited}
-use Rattle.rt_text.specs.Widgets.{Own, Viewed}
-use Rattle.rt_peers.specs.Peers.{HavePaths, text_led, view_led, view_with_one, view_without, widgets_of, with_widget, without_widget}
+use Rattle.rt_recorder.specs.Recordings.{Recording}
+use Rattle.rt_recorder.specs.Settled.{IsSettled, is_gone}
+use Rattle.rt_text.specs.Widgets.{Own, Viewed, new_own}
+use Rattle.rt_peers.specs.Peers.{HavePaths, text_led, view_led, view_with_one, view_without, widgets_of}
 use Rattle.rt_peers.specs.SiteStep.{by_widget}
-use Rattle.rt_peers.specs.State.{State, place_of}
+use Rattle.rt_peers.specs.State.{State, new_view, place_of}
 use Rattle.rt_peers.specs.ViewStep.{Outcome, as_outcome}
 
 -- ONE LEADS
@@ -58,11 +65,127 @@ by_led place state does (Err fault) new h = (
     refused outcome (inl e) = inl e
     refused outcome (inr e) = inr (ap (as_outcome (λ answer. (answer.0, record state { text = text_led place answer.1 }))) e)
 
+-- what a view's calls leave
+pub led_here : (view : Viewed) (place : ℕ) → place ≤ 0 → view ≡ view_led place view
+led_here view zero h = refl
+led_here view (suc k) h = absurd (omega (arith, h))
+
+own_got : (xs : List Own) (k : ℕ) (x d : Own) → slice_get xs k ≡ Some x → x ≡ get_or xs k d
+own_got [] k x d h = absurd (cc h)
+own_got (y ∷ xs) zero x d h = cc
+own_got (y ∷ xs) (suc k) x d h = own_got xs k x d h
+
+pub led_there : (view new : Viewed) (place : ℕ) → 0 < place → slice_get view.others (place - 1) ≡ Some new.own → new.others ≡ set view.others (place - 1) view.own → new.doc ≡ view.doc
+    → new ≡ view_led place view
+led_there view new zero h own others doc = absurd (omega (arith, h))
+led_there view new (suc k) h own others doc =
+    let before : suc k - 1 ≡ k = omega arith in
+    let own_is : new.own ≡ get_or view.others k view.own = own_got view.others k new.own view.own (subst (λ (n : ℕ). slice_get view.others n ≡ Some new.own) before own) in
+    let others_are : new.others ≡ set view.others k view.own = others ∙ ap (λ n. set view.others n view.own) before in
+    λ i. record { doc = doc i; own = own_is i; others = others_are i }
+
+pub without_later : (view : Viewed) (place : ℕ) → 0 < place → record view { others = remove view.others (place - 1) } ≡ view_without place view
+without_later view zero h = absurd (omega (arith, h))
+without_later view (suc k) h = let before : suc k - 1 ≡ k = omega arith in ap (λ n. record view { others = remove view.others n }) before
+
+behind : (xs : List Own) (own : Own) → remove (set xs 0 own) 0 ≡ drop 1 xs
+behind [] own = refl
+behind (x ∷ xs) own = refl
+
+pub without_first : (view led : Viewed) → slice_get view.others 0 ≡ Some led.own → led.others ≡ set view.others 0 view.own → led.doc ≡ view.doc
+    → record led { others = remove led.others 0 } ≡ view_without 0 view
+without_first view led own others doc =
+    let own_is : led.own ≡ get_or view.others 0 view.own = own_got view.others 0 led.own view.own own in
+    let left : remove led.others 0 ≡ drop 1 view.others = ap (λ l. remove l 0) others ∙ behind view.others view.own in
+    λ i. record { doc = doc i; own = own_is i; others = left i }
+
+-- what a site recorded is of its document alone
+pub settled_by : (view new : Viewed) (recording : Recording) → new.doc ≡ view.doc → IsSettled view recording → IsSettled new recording
+settled_by view new recording e h = record {
+  gone = λ s back. subst (λ (flat : Flat). is_gone flat.cells s ≡ true) (sym e) (h.gone s back);
+  closed = h.closed;
+  current = h.current;
+  undone = h.undone;
+}
+
 -- PATHS
+
+split : {A : Type 0} (b : Bool) → (b ≡ true → A) → (b ≡ false → A) → A
+split true f g = f refl
+split false f g = g refl
 
 pub place_within : (path : Word) (paths : List Word) (place : ℕ) → place_of path paths ≡ Some place → place < length paths
 place_within path paths place e = (position-Some (λ other. bytes_eq other path) paths place [] e).0
 
--- none of them is the path
-abbrev pub AreOther : Word → List Word → Type 0
-AreOther path paths = AllByRecursion (λ other. bytes_eq other path ≡ false) paths
+-- paths as strings
+pub place_of_strings : (path : Word) (paths : List (String Global)) → place_of path (map (λ w. string_bytes w) paths) ≡ position (λ w. bytes_eq (string_bytes w) path) paths
+place_of_strings path paths = position_map (λ other. bytes_eq other path) (λ w. string_bytes w) paths
+
+pub place_in : (path : Word) (strings items : List (String Global)) (paths : List Word) (found : Option ℕ) → found ≡ place_of path (map (λ w. string_bytes w) strings) → strings ≡ items
+    → map (λ w. string_bytes w) items ≡ paths → place_of path paths ≡ found
+place_in path strings items paths found e f g = sym (e ∙ ap (λ l. place_of path (map (λ w. string_bytes w) l)) f ∙ ap (place_of path) g)
+
+pub number_of_strings : (paths : List (String Global)) → length (map (λ w. string_bytes w) paths) ≡ length paths
+number_of_strings paths = length-map paths (λ w. string_bytes w)
+
+pub strings_without : (paths : List (String Global)) (place : ℕ) → map (λ w. string_bytes w) (remove paths place) ≡ remove (map (λ w. string_bytes w) paths) place
+strings_without paths place =
+    let f : String Global → Word = λ w. string_bytes w in
+    map-append f (take place paths) (drop (suc place) paths) ∙ (λ i. sym (take-map f place paths) i ++ sym (drop-map f (suc place) paths) i)
+
+pub turned : (some none : Bool) → some ≡ not none → none ≡ true → some ≡ false
+turned some none e h = e ∙ ap not h
+
+-- a path that no widget has
+none_first : (b : Bool) (n : ℕ) → cond b (Some n) None ≡ None → b ≡ false
+none_first true n h = absurd (cc h)
+none_first false n h = refl
+
+reached : (a b : ℕ) → nat_lt a b ≡ false → b ≤ a
+reached a b h = grind (arith, nat_tests)
+
+lacks : (path : Word) (paths : List Word) → length paths ≤ position_or_len (λ other. bytes_eq other path) paths → list_any (bytes_eq path) paths ≡ false
+lacks path [] h = refl
+lacks path (x ∷ paths) h =
+    let n : ℕ = position_or_len (λ other. bytes_eq other path) paths in
+    split (bytes_eq x path)
+    (λ same. let none : suc (length paths) ≤ 0 = subst (λ b. suc (length paths) ≤ cond (not b) (1 + n) 0) same h in absurd (omega (arith, none)))
+    (λ other. let more : suc (length paths) ≤ 1 + n = subst (λ b. suc (length paths) ≤ cond (not b) (1 + n) 0) other h in
+    let rest : length paths ≤ n = omega (arith, more) in
+    ap (λ b. b || list_any (bytes_eq path) paths) (nat_list_eq_equiv.symm path x ∙ other) ∙ lacks path paths rest)
+
+-- EACH WIDGET HAS A PATH
+
+pub first_path : (paths : List Word) (view : Viewed) (path : Word) (site limit : ℕ) → paths ≡ path ∷ [] → view ≡ new_view site limit → HavePaths paths view
+unfolding IsDistinct
+first_path paths view path site limit e f = record { each = ap length e ∙ sym (ap (λ v. length (widgets_of v)) f); differ = subst (IsDistinct bytes_eq) (sym e) (tt, tt) }
+
+pub one_more_path : (paths : List Word) (view : Viewed) (path : Word) → HavePaths paths view → place_of path paths ≡ None → HavePaths (paths ++ path ∷ []) (view_with_one view)
+one_more_path paths view path h none =
+    let new = reached (position_or_len (λ other. bytes_eq other path) paths) (length paths) (none_first _ _ none) in
+    record { each = omega (arith, h.each, length-append paths (path ∷ []), length-append view.others (new_own ∷ [])); differ = IsDistinct-push nat_list_eq_equiv paths path h.differ (lacks path paths new) }
+
+all_without : (P : Word → Type 0) (paths : List Word) (place : ℕ) → AllByRecursion P paths → AllByRecursion P (remove paths place)
+all_without P [] zero h = tt
+all_without P [] (suc place) h = tt
+all_without P (x ∷ paths) zero h = h.1
+all_without P (x ∷ paths) (suc place) h = (h.0, all_without P paths place h.1)
+
+distinct_without : (paths : List Word) (place : ℕ) → IsDistinct bytes_eq paths → IsDistinct bytes_eq (remove paths place)
+unfolding IsDistinct
+distinct_without [] zero h = tt
+distinct_without [] (suc place) h = tt
+distinct_without (x ∷ paths) zero h = h.1
+distinct_without (x ∷ paths) (suc place) h = (all_without (λ y. bytes_eq x y ≡ false) paths place h.0, distinct_without paths place h.1)
+
+pub path_gone : (paths : List Word) (view : Viewed) (place : ℕ) → HavePaths paths view → place < length paths → 1 < length paths → HavePaths (remove paths place) (view_without place view)
+path_gone paths view place h there several =
+    let all = widgets_of view in
+    let here : place < length all = omega (arith, h.each) in
+    record {
+      each = omega (arith, h.each, length-remove paths place there, length-remove all place here, length-drop 1 (remove all place));
+      differ = distinct_without paths place h.differ;
+    }
+
+pub path_led : (paths : List Word) (view : Viewed) (place : ℕ) → HavePaths paths view → HavePaths paths (view_led place view)
+path_led paths view place h = record { each = h.each ∙ sym (led_number view place); differ = h.differ }

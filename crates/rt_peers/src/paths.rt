@@ -1,5 +1,6 @@
 // The paths of a site's widgets.
 ghost use Rattle.std.specs.Prelude.{◌≡◌, IfOk, IfErr, codes, map, string_bytes};
+ghost use Rattle.std.specs.List.{position};
 ghost use Rattle.std.specs.Str.{bytes_eq};
 ghost use Rattle.rt_peers.specs.PeerStep.{other_paths};
 ghost use Rattle.rt_peers.specs.State.{place_of};
@@ -7,11 +8,18 @@ ghost use Rattle.rt_peers.specs.State.{place_of};
 use rt_stamps::Fault;
 use std::alloc::Global;
 
+// Where the first of some strings stands that is a text.
+fn position_of(strings: &[String], text: &str) -> Option<usize>
+    ensures { result ≡ position (λ w. bytes_eq (string_bytes w) text.now) strings.now }
+{
+    strings.iter().position(|string| string.as_str() == text)
+}
+
 /// Which of some paths is this one.
 pub(crate) fn place_of(paths: &[String], path: &str) -> Option<usize>
     ensures { result ≡ place_of path.now (map (λ w. string_bytes w) paths.now) }
 {
-    paths.iter().position(|other| other.as_str() == path)
+    position_of(paths, path)
 }
 
 /// Copies of the paths but one. Want of memory.

@@ -1,14 +1,41 @@
-use Rattle.std.proofs.Common.{◌≡◌, ◌∙◌, ap, arith, length, map, string_bytes, subst, sym}
+use Rattle.std.proofs.Common.{◌≡◌, ◌∙◌, ◌<◌, Ok, Err, List, Result, String, Global, ap, arith, length, map, string_bytes, subst, sym}
+use Rattle.rt_stamps.specs.declared.fault.Fault.{Fault}
 use Rattle.rt_stamps.specs.Outcomes.{Answers}
+use Rattle.rt_stamps.specs.Words.{Word}
 use Rattle.rt_editing.specs.Edited.{Edited}
-use Rattle.rt_peers.specs.Peers.{text_led, widgets_of}
+use Rattle.rt_text.specs.Widgets.{Viewed}
+use Rattle.rt_peers.specs.Peers.{HavePaths, text_led, widgets_of}
+use Rattle.rt_peers.specs.State.{State}
+use Rattle.rt_peers.specs.SiteStep.{by_widget}
+use Rattle.rt_peers.specs.Step.{step}
+use Rattle.rt_peers.proofs.Staying.{answer_stays}
+use Rattle.rt_peers.proofs.PeerLaws.{by_led, led_number}
 use Rattle.rt_peers.proofs.site.SiteState.request.Goals as goal
 
 pub lead-requires-2 : goal.lead-requires-2
-lead-requires-2 c = ?
+lead-requires-2 c =
+    let stays = answer_stays c.lead.new.self c.args.request.now c.request-reply.result c.request-reply.new.self c.request-reply.ensures in
+    let led = ap (λ t. length (widgets_of t.view)) c.lead.ensures ∙ led_number c.self.inside.text.view c.args.place in
+    let paths = ap (λ s. length s.paths) c.self.view_is in
+    omega (arith, stays, led, paths, c.self.invariant.each, c.requires)
 
 pub invariant_of-self : goal.invariant_of-self
-invariant_of-self c = ?
+invariant_of-self c =
+    let stays = answer_stays c.lead.new.self c.args.request.now c.request-reply.result c.request-reply.new.self c.request-reply.ensures in
+    let led = ap (λ t. length (widgets_of t.view)) c.lead.ensures ∙ led_number c.self.inside.text.view c.args.place in
+    let back = ap (λ t. length (widgets_of t.view)) c.lead-2.ensures ∙ led_number c.request-reply.new.self.view c.args.place in
+    record { each = omega (arith, stays, led, back, c.self.invariant.each); differ = c.self.invariant.differ }
 
 pub returns : goal.returns
-returns c = ?
+returns c =
+    let paths = map (λ w. string_bytes w) c.self.inside.paths.items in
+    let state : State = record { paths = paths; text = c.self.inside.text } in
+    let place = c.args.place in
+    let result = c.request-reply.result in
+    let answers : Answers (step (text_led place state.text) c.args.request.now) (text_led place state.text) result c.request-reply.new.self =
+        subst (λ (t : Edited). Answers (step t c.args.request.now) t result c.request-reply.new.self) c.lead.ensures c.request-reply.ensures in
+    let led : Answers (by_widget place state (λ text. step text c.args.request.now)) state result (record state { text = text_led place c.request-reply.new.self }) =
+        by_led place state (λ text. step text c.args.request.now) result c.request-reply.new.self answers in
+    let there : Answers (by_widget place state (λ text. step text c.args.request.now)) state result (record { paths = paths; text = c.lead-2.new.self }) =
+        subst (λ (t : Edited). Answers (by_widget place state (λ text. step text c.args.request.now)) state result (record { paths = paths; text = t })) (sym c.lead-2.ensures) led in
+    subst (λ (s : State). Answers (by_widget place s (λ text. step text c.args.request.now)) s result (record { paths = paths; text = c.lead-2.new.self })) c.self.view_is there
