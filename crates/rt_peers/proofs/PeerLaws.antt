@@ -1,5 +1,5 @@
 -- Widgets by their places, and paths.
-use Rattle.std.proofs.Common.{◌≡◌, ◌∙◌, ◌+◌, ◌-◌, ◌<◌, ◌≤◌, ◌||◌, ℕ, zero, suc, nat_lt, Bool, true, false, cond, not, List, [], ◌∷◌, ◌++◌, Option, Some, None, Ok, Err, Result, String, Global, inl, inr, ap, arith, drop, get_or, length, map, refl, set, slice_get, string_bytes, subst, sym, take}
+use Rattle.std.proofs.Common.{◌≡◌, ◌∙◌, ◌+◌, ◌<◌, ◌≤◌, ◌||◌, ℕ, zero, suc, nat_lt, Bool, true, false, cond, not, List, [], ◌∷◌, ◌++◌, Option, Some, None, Ok, Err, Result, String, Global, inl, inr, ap, arith, drop, get_or, length, map, refl, set, string_bytes, subst, sym, take}
 use Rattle.std.specs.Cmp.Lexicographic.{nat_list_eq_equiv}
 use Rattle.std.specs.List.{AllByRecursion, IsDistinct, list_any, position, position_or_len, remove}
 use Rattle.std.specs.Str.{bytes_eq}
@@ -12,10 +12,7 @@ use Rattle.rt_stamps.specs.declared.fault.Fault.{Fault}
 use Rattle.rt_stamps.specs.Outcomes.{Answers, Refuses}
 use Rattle.rt_stamps.specs.Words.{Word}
 use Rattle.rt_store.proofs.Shown.{position_map}
-use Rattle.rt_edits.specs.Flat.{Flat}
 use Rattle.rt_editing.specs.Edited.{Edited}
-use Rattle.rt_recorder.specs.Recordings.{Recording}
-use Rattle.rt_recorder.specs.Settled.{IsSettled, is_gone}
 use Rattle.rt_text.specs.Widgets.{Own, Viewed, new_own}
 use Rattle.rt_peers.specs.Peers.{HavePaths, text_led, view_led, view_with_one, view_without, widgets_of}
 use Rattle.rt_peers.specs.SiteStep.{by_widget}
@@ -64,49 +61,6 @@ by_led place state does (Err fault) new h = (
     refused : (outcome : Outcome Edited) → Refuses outcome fault → Refuses (as_outcome (λ answer. (answer.0, record state { text = text_led place answer.1 })) outcome) fault
     refused outcome (inl e) = inl e
     refused outcome (inr e) = inr (ap (as_outcome (λ answer. (answer.0, record state { text = text_led place answer.1 }))) e)
-
--- what a view's calls leave
-pub led_here : (view : Viewed) (place : ℕ) → place ≤ 0 → view ≡ view_led place view
-led_here view zero h = refl
-led_here view (suc k) h = absurd (omega (arith, h))
-
-own_got : (xs : List Own) (k : ℕ) (x d : Own) → slice_get xs k ≡ Some x → x ≡ get_or xs k d
-own_got [] k x d h = absurd (cc h)
-own_got (y ∷ xs) zero x d h = cc
-own_got (y ∷ xs) (suc k) x d h = own_got xs k x d h
-
-pub led_there : (view new : Viewed) (place : ℕ) → 0 < place → slice_get view.others (place - 1) ≡ Some new.own → new.others ≡ set view.others (place - 1) view.own → new.doc ≡ view.doc
-    → new ≡ view_led place view
-led_there view new zero h own others doc = absurd (omega (arith, h))
-led_there view new (suc k) h own others doc =
-    let before : suc k - 1 ≡ k = omega arith in
-    let own_is : new.own ≡ get_or view.others k view.own = own_got view.others k new.own view.own (subst (λ (n : ℕ). slice_get view.others n ≡ Some new.own) before own) in
-    let others_are : new.others ≡ set view.others k view.own = others ∙ ap (λ n. set view.others n view.own) before in
-    λ i. record { doc = doc i; own = own_is i; others = others_are i }
-
-pub without_later : (view : Viewed) (place : ℕ) → 0 < place → record view { others = remove view.others (place - 1) } ≡ view_without place view
-without_later view zero h = absurd (omega (arith, h))
-without_later view (suc k) h = let before : suc k - 1 ≡ k = omega arith in ap (λ n. record view { others = remove view.others n }) before
-
-behind : (xs : List Own) (own : Own) → remove (set xs 0 own) 0 ≡ drop 1 xs
-behind [] own = refl
-behind (x ∷ xs) own = refl
-
-pub without_first : (view led : Viewed) → slice_get view.others 0 ≡ Some led.own → led.others ≡ set view.others 0 view.own → led.doc ≡ view.doc
-    → record led { others = remove led.others 0 } ≡ view_without 0 view
-without_first view led own others doc =
-    let own_is : led.own ≡ get_or view.others 0 view.own = own_got view.others 0 led.own view.own own in
-    let left : remove led.others 0 ≡ drop 1 view.others = ap (λ l. remove l 0) others ∙ behind view.others view.own in
-    λ i. record { doc = doc i; own = own_is i; others = left i }
-
--- what a site recorded is of its document alone
-pub settled_by : (view new : Viewed) (recording : Recording) → new.doc ≡ view.doc → IsSettled view recording → IsSettled new recording
-settled_by view new recording e h = record {
-  gone = λ s back. subst (λ (flat : Flat). is_gone flat.cells s ≡ true) (sym e) (h.gone s back);
-  closed = h.closed;
-  current = h.current;
-  undone = h.undone;
-}
 
 -- PATHS
 
