@@ -1,6 +1,7 @@
 -- The widgets of a site stay as many as they are, whatever is asked of one of them.
-use Rattle.std.proofs.Common.{◌≡◌, ◌∙◌, ℕ, suc, Bool, true, false, cond, List, [], ◌∷◌, Option, None, Some, Ok, Err, Result, ap, length, map, refl, subst, sym}
-use Rattle.std.specs.Prelude.{inl, inr}
+use Rattle.std.proofs.Common.{◌≡◌, ◌∙◌, ℕ, suc, Bool, true, false, cond, List, [], ◌∷◌, Option, None, Some, Ok, Err, Result, ap, inl, inr, length, map, refl, subst, sym}
+use Rattle.std.specs.Prelude.{flat_map}
+use Rattle.std.specs.Fmt.{signed_decimal}
 use Rattle.std.specs.Option.{option_map_or}
 use Rattle.std.specs.Str.{bytes_eq}
 use Rattle.std.proofs.lemmas.List.{length-map}
@@ -8,6 +9,7 @@ use Rattle.rt_stamps.specs.declared.fault.Fault.{Fault}
 use Rattle.rt_stamps.specs.declared.fault.Fault.TheVariants.{NothingToRedo, NothingToUndo}
 use Rattle.rt_stamps.specs.declared.stamp.Stamp.{Stamp}
 use Rattle.rt_stamps.specs.Outcomes.{Answers, unless}
+use Rattle.rt_stamps.specs.Places.{text_of_position}
 use Rattle.rt_stamps.specs.Words.{Word}
 use Rattle.rt_marks.specs.declared.gravity.Gravity.{Gravity}
 use Rattle.rt_marks.specs.Marks.{without_all}
@@ -23,31 +25,34 @@ use Rattle.rt_requests.specs.declared.request.TagRequest.{TagRequest}
 use Rattle.rt_requests.specs.declared.request.TagRequest.TheVariants as tags
 use Rattle.rt_requests.specs.Parts.{all_of}
 use Rattle.rt_tags.specs.Tags.{lowered, raised, sel}
+use Rattle.rt_dump.specs.Dumping.{dumped}
 use Rattle.rt_edits.specs.declared.range.Range.{Range}
 use Rattle.rt_edits.specs.Insertions.{Piece}
 use Rattle.rt_edits.specs.Removals.{is_covered}
+use Rattle.rt_searchcmd.specs.SearchCommand.{searched}
 use Rattle.rt_store.specs.Shown.{TaggedCell}
 use Rattle.rt_tagcmd.specs.MarkCommands.{set_at, with_gravity}
 use Rattle.rt_tagcmd.specs.TagCommands.{tag_written}
 use Rattle.rt_text.specs.declared.own_mark.OwnMark.{OwnMark}
 use Rattle.rt_text.specs.Accepted.{answer_of}
-use Rattle.rt_text.specs.Commands.{deleted, inserted, insertion_place, replaced, with_pieces_at, with_range_replaced, with_tag_in, with_tags_deleted, without_ranges}
+use Rattle.rt_text.specs.Commands.{compared, counted, deleted, got, got_list, got_one, inserted, insertion_place, position_of_index, replaced, with_pieces_at, with_range_replaced, with_tag_in, with_tags_deleted, without_ranges}
 use Rattle.rt_text.specs.Index.{place_at_index}
 use Rattle.rt_text.specs.Ranges.{ranges_of}
 use Rattle.rt_text.specs.Reversions.{view_reverted}
 use Rattle.rt_text.specs.Widgets.{Own, Viewed, own_mark_of, widget_of, with_marks, with_selections, with_tags}
 use Rattle.rt_undo.specs.declared.action.Kind.{Kind}
+use Rattle.rt_undo.specs.declared.action.Kind.TheVariants as kinds
 use Rattle.rt_undo.specs.Actions.{Action}
 use Rattle.rt_undo.specs.Undo.{History, next_redo, next_undo, redo_done, undo_done}
 use Rattle.rt_recorder.specs.Reversals.{redone, reverted_by, undone}
 use Rattle.rt_editing.specs.Edited.{Edited}
-use Rattle.rt_editing.specs.Edits.{recorded_edit, text_after, text_deleted, text_inserted, text_replaced}
+use Rattle.rt_editing.specs.Edits.{lost_between, lost_from, recorded_edit, text_after, text_deleted, text_inserted, text_replaced}
 use Rattle.rt_editing.specs.Reverts.{text_redone, text_undone, with_history}
 use Rattle.rt_editing.proofs.Outcomes.{given}
 use Rattle.rt_exchange.specs.declared.receiving.Received.{Received}
 use Rattle.rt_exchange.specs.Receiving.{Offers, Receives}
 use Rattle.rt_peers.specs.Step.{edit_step, on_view, step}
-use Rattle.rt_peers.specs.ViewStep.{Outcome, changed_step, get_step, mark_step, tag_step, told_step}
+use Rattle.rt_peers.specs.ViewStep.{Outcome, as_piece, changed_step, element_words, get_step, mark_step, one_word, tag_step, text_of_bool, told_step}
 
 -- as many other widgets
 abbrev pub Stay : Viewed → Viewed → Type 0
@@ -58,6 +63,10 @@ Stay old new = length new.others ≡ length old.others
 abbrev left_by : {S : Type 0} → Outcome S → S → S
 left_by (Ok answer) none = answer.1
 left_by (Err fault) none = none
+
+abbrev words_by : {S : Type 0} → Outcome S → List Word
+words_by (Ok answer) = answer.0
+words_by (Err fault) = []
 
 abbrev value_of : {S : Type 0} → Result S Fault → S → S
 value_of (Ok value) none = value
@@ -186,19 +195,15 @@ tag_stays view new (tags.NextRange name from to) words h = same view new (told_i
 tag_stays view new (tags.PreviousRange name to from) words h = same view new (told_is _ view _ words new h)
 
 get_stays : (view new : Viewed) (indices : List Word) (words : List Word) → get_step view indices ≡ Ok (words, new) → Stay view new
-get_stays view new [] words h = same view new (told_is _ view _ words new h)
-get_stays view new (index ∷ []) words h = same view new (told_is _ view _ words new h)
-get_stays view new (from ∷ to ∷ []) words h = same view new (told_is _ view _ words new h)
-get_stays view new (from ∷ to ∷ more ∷ indices) words h = same view new (told_is _ view _ words new h)
+get_stays view new [] words h = same view new (told_is (λ (texts : List Word). texts) view (got_list view []) words new h)
+get_stays view new (index ∷ []) words h = same view new (told_is one_word view (got_one view index) words new h)
+get_stays view new (from ∷ to ∷ []) words h = same view new (told_is one_word view (got view from to) words new h)
+get_stays view new (from ∷ to ∷ more ∷ indices) words h = same view new (told_is (λ (texts : List Word). texts) view (got_list view (from ∷ to ∷ more ∷ indices)) words new h)
 
 -- REQUESTS
 
 shown_is : (text new : Edited) (outcome : Outcome Viewed) (words : List Word) → on_view text outcome ≡ Ok (words, new) → outcome ≡ Ok (words, new.view)
 shown_is text new (Ok answer) words h = ap (λ (o : Outcome Edited). Ok (words_by o, (left_by o text).view)) h
-  where
-    abbrev words_by : Outcome Edited → List Word
-    words_by (Ok given) = given.0
-    words_by (Err fault) = []
 shown_is text new (Err fault) words h = absurd (cc h)
 
 told_stays : {T : Type 0} (f : T → List Word) (text new : Edited) (said : Result T Fault) (words : List Word) → on_view text (told_step f text.view said) ≡ Ok (words, new) → Stay text.view new.view
@@ -216,15 +221,22 @@ edit_stays text new (edits.SetModified on) words h = ap (λ (o : Outcome Edited)
 
 step_stays : (text new : Edited) (request : Request) (words : List Word) → step text request ≡ Ok (words, new) → Stay text.view new.view
 step_stays text new (Insert index texts) words h =
-    inserted_stays text.view new.view index _ texts.rest (recorded_is _ _ text new _ (changed_is _ words new h))
-step_stays text new (Delete indices) words h = deleted_stays text.view new.view (all_of indices) (recorded_is _ _ text new _ (changed_is _ words new h))
-step_stays text new (Replace from to texts) words h = replaced_stays text.view new.view from to _ texts.rest (recorded_is _ _ text new _ (changed_is _ words new h))
+    let pieces : List Piece = map as_piece texts.pieces in
+    inserted_stays text.view new.view index pieces texts.rest
+    (recorded_is kinds.Insert [] text new (inserted text.view index pieces texts.rest) (changed_is (text_inserted text index pieces texts.rest) words new h))
+step_stays text new (Delete indices) words h =
+    deleted_stays text.view new.view (all_of indices)
+    (recorded_is kinds.Delete (lost_between text.view (all_of indices)) text new (deleted text.view (all_of indices)) (changed_is (text_deleted text (all_of indices)) words new h))
+step_stays text new (Replace from to texts) words h =
+    let pieces : List Piece = map as_piece texts.pieces in
+    replaced_stays text.view new.view from to pieces texts.rest
+    (recorded_is kinds.Replace (lost_from text.view from to) text new (replaced text.view from to pieces texts.rest) (changed_is (text_replaced text from to pieces texts.rest) words new h))
 step_stays text new (Get indices) words h = get_stays text.view new.view (all_of indices) words (shown_is text new (get_step text.view (all_of indices)) words h)
-step_stays text new (Index index) words h = told_stays _ text new _ words h
-step_stays text new (Compare first comparison second) words h = told_stays _ text new _ words h
-step_stays text new (Count measures from to) words h = told_stays _ text new _ words h
-step_stays text new (Search request) words h = told_stays _ text new _ words h
-step_stays text new (Dump kinds from to) words h = told_stays _ text new _ words h
+step_stays text new (Index index) words h = told_stays (λ position. one_word (text_of_position position)) text new (position_of_index text.view index) words h
+step_stays text new (Compare first comparison second) words h = told_stays (λ holds. one_word (text_of_bool holds)) text new (compared text.view first comparison second) words h
+step_stays text new (Count measures from to) words h = told_stays (map signed_decimal) text new (counted text.view measures from to) words h
+step_stays text new (Search request) words h = told_stays (map text_of_position) text new (searched text.view request) words h
+step_stays text new (Dump shown from to) words h = told_stays (flat_map element_words) text new (dumped text.view shown from to) words h
 step_stays text new (Mark request) words h = mark_stays text.view new.view request words (shown_is text new (mark_step text.view request) words h)
 step_stays text new (Tag request) words h = tag_stays text.view new.view request words (shown_is text new (tag_step text.view request) words h)
 step_stays text new (Edit request) words h = edit_stays text new request words h
