@@ -10,8 +10,8 @@ use Rattle.rt_stamps.specs.Streams.{Stream}
 use Rattle.rt_oplog.specs.File.{spelling}
 use Rattle.rt_script.specs.Run.{Ends}
 use Rattle.rt_script.specs.State.{State, new_state}
-use Rattle.rt_script.specs.Receiving.{Receives}
 use Rattle.rt_script.specs.Site.{NamedFile, SiteGives}
+use Rattle.rt_script.specs.SiteStep.{SiteReceives}
 use Rattle.rt_exchange.specs.declared.receiving.Received.{Received}
 use Rattle.peertext.specs.declared.run.Outcome.{Outcome}
 
@@ -19,13 +19,13 @@ use Rattle.peertext.specs.declared.run.Outcome.{Outcome}
 abbrev pub BeginsWith : ℕ → Option (Bor (List ℕ)) → State → Type 0
 BeginsWith site None state = state ≡ new_state site MOST_CELLS
 BeginsWith site (Some log) state =
-    (received : Received) × Receives log.now (new_state site MOST_CELLS) received state × (received.fault ≡ None)
+    (received : Received) × SiteReceives log.now (new_state site MOST_CELLS) received state × (received.fault ≡ None)
 
 -- a new site refuses a log by this fault
 abbrev pub RefusesLog : ℕ → Option (Bor (List ℕ)) → Fault × ℕ → Type 0
 RefusesLog site None found = ⊥
 RefusesLog site (Some log) found =
-    (received : Received) × (state : State) × Receives log.now (new_state site MOST_CELLS) received state × (received.fault ≡ Some found)
+    (received : Received) × (state : State) × SiteReceives log.now (new_state site MOST_CELLS) received state × (received.fault ≡ Some found)
 
 -- A site begins, or its log is refused, or there is no memory for a site.
 abbrev pub Begins : ℕ → Option (Bor (List ℕ)) → Result State (Fault × ℕ) → Type 0
@@ -35,7 +35,7 @@ Begins site log result = MatchResult result
 
 -- the file of a site's log, or want of memory
 abbrev pub Exports : State → Result (Vec ℕ Global) Fault → Type 0
-Exports state result = IfOk result (λ bytes. bytes.items ≡ spelling (reverse state.view.doc.log)) × IfErr result (λ fault. fault ≡ NoMemory)
+Exports state result = IfOk result (λ bytes. bytes.items ≡ spelling (reverse state.text.view.doc.log)) × IfErr result (λ fault. fault ≡ NoMemory)
 
 -- the log at the end of a run is told where it is wanted, however the run ended
 abbrev pub TellsLog : Bool → State → Option (Result (Vec ℕ Global) Fault) → Type 0

@@ -5,14 +5,11 @@ use Rattle.rt_stamps.specs.declared.fault.Fault.{Fault}
 use Rattle.rt_stamps.specs.declared.fault.Fault.TheVariants.{NoMemory}
 use Rattle.rt_stamps.specs.Outcomes.{Answers, Refuses}
 use Rattle.rt_stamps.specs.Words.{Word}
-use Rattle.rt_requests.specs.declared.request.Request.{Request}
-use Rattle.rt_requests.specs.Asking.{Asked, Asks}
 use Rattle.rt_text.specs.Commands.{got_list}
 use Rattle.rt_text.specs.Widgets.{Viewed}
-use Rattle.rt_editing.specs.Edited.{edited}
+use Rattle.rt_editing.specs.Edited.{Edited, edited}
 use Rattle.rt_recorder.specs.Recordings.{Recording}
-use Rattle.rt_peers.specs.State.{State}
-use Rattle.rt_peers.specs.Step.{WidgetGives, on_view, step}
+use Rattle.rt_peers.specs.Step.{on_view}
 use Rattle.rt_peers.specs.ViewStep.{Outcome, as_outcome, changed_step, get_step, told_step}
 
 -- a reply that is made of a value, or a want of memory in its making
@@ -63,28 +60,18 @@ get_of_many view (w ∷ []) one two = absurd (one refl)
 get_of_many view (w ∷ v ∷ []) one two = absurd (two refl)
 get_of_many view (w ∷ v ∷ u ∷ words) one two = refl
 
--- what a request does to what the widget shows, as one to the site
-pub lifted : (state : State) (outcome : Outcome Viewed) (result : Result (List Word) Fault) (new : Viewed) → Answers outcome state.view result new
+-- what a request does to what the widget shows, as one to the text
+pub lifted : (state : Edited) (outcome : Outcome Viewed) (result : Result (List Word) Fault) (new : Viewed) → Answers outcome state.view result new
     → Answers (on_view state outcome) state result (record state { view = new })
 lifted state outcome (Ok reply) new h = ap (on_view state) h
 lifted state outcome (Err fault) new h = (λ i. record state { view = h.0 i }, refused_by (λ answer. (answer.0, record state { view = answer.1 })) outcome fault fault h.1 refl)
 
-pub lifted_to : (state : State) (viewer new : Viewed) (recording : Recording) → edited viewer recording ≡ state → (outcome : Viewed → Outcome Viewed) (result : Result (List Word) Fault)
+pub lifted_to : (state : Edited) (viewer new : Viewed) (recording : Recording) → edited viewer recording ≡ state → (outcome : Viewed → Outcome Viewed) (result : Result (List Word) Fault)
     → Answers (outcome viewer) viewer result new → Answers (on_view state (outcome state.view)) state result (edited new recording)
 lifted_to state viewer new recording e outcome result h =
-    subst (λ (s : State). Answers (on_view s (outcome s.view)) s result (edited new recording)) e (lifted (edited viewer recording) (outcome viewer) result new h)
+    subst (λ (s : Edited). Answers (on_view s (outcome s.view)) s result (edited new recording)) e (lifted (edited viewer recording) (outcome viewer) result new h)
 
-pub told_to : (state : State) (viewer : Viewed) (recording : Recording) → edited viewer recording ≡ state → (outcome : Viewed → Outcome Viewed) (result : Result (List Word) Fault)
+pub told_to : (state : Edited) (viewer : Viewed) (recording : Recording) → edited viewer recording ≡ state → (outcome : Viewed → Outcome Viewed) (result : Result (List Word) Fault)
     → Answers (outcome viewer) viewer result viewer → Answers (on_view state (outcome state.view)) state result state
 told_to state viewer recording e outcome result h =
-    subst (λ (s : State). Answers (on_view s (outcome s.view)) s result s) e (lifted (edited viewer recording) (outcome viewer) result viewer h)
-
--- words that ask for a request, and words that are refused
-pub asked_gives : (words : List Word) (request : Request) (old : State) (result : Result (List Word) Fault) (new : State) → Asks words (Ok request) ⊎ (◌≡◌ {A = Asked} (Ok request) (Err NoMemory))
-    → Answers (step old request) old result new → WidgetGives words old result new
-asked_gives words request old result new (inl asks) answers = inl (Ok request, asks, answers)
-asked_gives words request old result new (inr e) answers = absurd (cc)
-
-pub refused_gives : (words : List Word) (fault found : Fault) (old : State) → Asks words (Err found) ⊎ (◌≡◌ {A = Asked} (Err found) (Err NoMemory)) → fault ≡ found → WidgetGives words old (Err fault) old
-refused_gives words fault found old (inl asks) e = inl (Err found, asks, (refl, inr (ap Err (sym e))))
-refused_gives words fault found old (inr n) e = let none : found ≡ NoMemory = cc in inr (refl, inl (e ∙ none))
+    subst (λ (s : Edited). Answers (on_view s (outcome s.view)) s result s) e (lifted (edited viewer recording) (outcome viewer) result viewer h)

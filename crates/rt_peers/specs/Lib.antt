@@ -1,3 +1,6 @@
+pub mod PeerStep
+pub mod Peers
+pub mod SiteStep
 pub mod State
 pub mod Step
 pub mod ViewStep
@@ -5,6 +8,7 @@ pub use Rattle.rt_stamps.specs.Outcomes
 pub use Rattle.rt_stamps.specs.Places
 pub use Rattle.rt_stamps.specs.Words
 pub use Rattle.rt_edits.specs.Flat
+pub use Rattle.rt_peer_requests.specs.PeerWords
 pub use Rattle.rt_text.specs.Index
 pub use Rattle.rt_text.specs.Commands
 pub use Rattle.rt_editing.specs.Edited

@@ -1,5 +1,6 @@
 -- The state of a site.
-use Rattle.std.specs.Prelude.{◌↔◌, ℕ, Bool, true, false, List, [], codes}
+use Rattle.std.specs.Prelude.{◌↔◌, ℕ, Bool, true, false, List, [], ◌∷◌, Option, is_some, codes}
+use Rattle.std.specs.List.{position}
 use Rattle.std.specs.Str.{bytes_eq}
 use Rattle.rt_stamps.specs.Words.{Word}
 use Rattle.rt_oplog.specs.Logs.{Has}
@@ -9,20 +10,28 @@ use Rattle.rt_editing.specs.Edited.{Edited}
 use Rattle.rt_text.specs.Widgets.{Viewed, new_own}
 use Rattle.rt_undo.specs.Undo.{no_history}
 
--- a site: its document, as its one widget shows it, with the history of its edits and the widget's options
-abbrev pub State : Type 0
-State = Edited
+-- a site: the paths of its widgets, in the order in which they were made; and its text as the first of them shows it, with the
+-- history of its edits and the options that all widgets share. What is the other widgets' own stands there in the same order.
+pub record State : Type 0 where
+  pub paths : List Word
+  pub text : Edited
 
--- a new site has an empty document and a new widget; its edits aren't recorded, and separators are automatic
+-- a new site has an empty document and the widget `.t`; its edits aren't recorded, and separators are automatic
 abbrev pub new_view : ℕ → ℕ → Viewed
 new_view site limit = record { doc = new_flat site limit; own = new_own; others = [] }
 
-abbrev pub new_state : ℕ → ℕ → State
-new_state site limit = record { view = new_view site limit; history = no_history; undo = false; auto = true }
+abbrev pub new_text : ℕ → ℕ → Edited
+new_text site limit = record { view = new_view site limit; history = no_history; undo = false; auto = true }
 
--- a site has the one widget `.t`
-abbrev pub is_widget : Word → Bool
-is_widget path = bytes_eq path (codes ".t")
+abbrev pub new_state : ℕ → ℕ → State
+new_state site limit = record { paths = codes ".t" ∷ []; text = new_text site limit }
+
+-- which of some widgets has a path
+abbrev pub place_of : Word → List Word → Option ℕ
+place_of path paths = position (λ other. bytes_eq other path) paths
+
+abbrev pub is_widget : Word → List Word → Bool
+is_widget path paths = is_some (place_of path paths)
 
 -- logs have the same operations
 abbrev pub HaveSame : List Operation → List Operation → Type 0

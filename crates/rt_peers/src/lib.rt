@@ -2,10 +2,12 @@
 #![tactic(auto)]
 
 pub mod laws;
+mod paths;
 mod pieces;
 mod replies;
 pub mod reply;
 pub mod site;
+mod text;
 mod viewer;
 
 pub use reply::Reply;

@@ -1,27 +1,28 @@
-// A site, and what is asked of it.
-ghost use Rattle.std.specs.Prelude.{◌≡◌, ◌≤◌, map, string_bytes, IfOk, IfErr};
+// A site, and what is asked of its widgets.
+ghost use Rattle.std.specs.Prelude.{◌≡◌, ◌<◌, ◌≤◌, IfOk, IfErr, length, map, string_bytes};
 ghost use Rattle.rt_stamps.specs.declared.limits.TheConstants.{MOST_CELLS};
-ghost use Rattle.rt_peers.specs.State.{new_state, is_widget};
 ghost use Rattle.rt_stamps.specs.Outcomes.{Answers};
-ghost use Rattle.rt_peers.specs.Step.{Gives, step, step_at};
+ghost use Rattle.rt_peers.specs.Peers.{HavePaths};
+ghost use Rattle.rt_peers.specs.SiteStep.{CommandGives, Gives, WidgetGives, by_widget, step_at};
+ghost use Rattle.rt_peers.specs.State.{new_state};
+ghost use Rattle.rt_peers.specs.Step.{step};
 
 mod exchange;
-mod marking;
-mod undoing;
+mod peers;
 
+use crate::paths::{is_peer, place_of};
 use crate::reply::Reply;
-use crate::viewer::Viewer;
-use rt_recorder::Recorder;
+use crate::text::EditedText;
 use rt_requests::Request;
 use rt_stamps::{Fault, Site};
 use std::alloc::Global;
 use std::marker::Model;
 
-/// A site with its document, shown by the widget `.t`, and what it recorded of its edits.
+/// A site with its document, the widgets that show it, and what it recorded of its edits.
 pub struct SiteState {
     alloc: Global,
-    viewer: Viewer,
-    recorder: Recorder,
+    paths: Vec<String>,
+    text: EditedText,
 }
 
 // Written out, so that where a site is let go is one step for the crates above, and not one for each
@@ -30,99 +31,101 @@ impl Drop for SiteState {
     fn drop(self) {
         let SiteState {
             alloc: _,
-            viewer: _,
-            recorder: _,
+            paths: _,
+            text: _,
         } = self;
     }
 }
 
 impl Model for SiteState {
-    ghost use Rattle.rt_recorder.specs.Settled.{IsSettled};
-    ghost use Rattle.rt_editing.specs.Edited.{edited};
+    ghost use Rattle.std.specs.Prelude.{map, string_bytes};
+    ghost use Rattle.rt_peers.specs.Peers.{HavePaths};
     ghost use Rattle.rt_peers.specs.State.{State};
 
     ghost Value = { State };
 
-    ghost view = { λ s. edited s.viewer s.recorder };
+    ghost view = { λ s. record { paths = map (λ w. string_bytes w) s.paths.items; text = s.text } };
 
-    ghost invariant = { λ s. IsSettled s.viewer s.recorder };
-}
-
-// Whether a word is the path of the widget.
-fn is_widget(path: &str) -> bool
-    ensures { result ≡ is_widget path.now }
-{
-    path == ".t"
+    ghost invariant = { λ s. HavePaths (map (λ w. string_bytes w) s.paths.items) s.text.view };
 }
 
 impl SiteState {
-    /// A new site, with at most `limit` cells, the final newline and tombstones included.
+    /// A new site with the widget `.t`, with at most `limit` cells, the final newline and tombstones
+    /// included.
     pub fn new(alloc: Global, site: Site, limit: usize) -> Result<SiteState, Fault>
         requires { (1 ≤ limit) × (limit ≤ MOST_CELLS) }
         ensures ok { IfOk result (λ state. state ≡ new_state site.number limit) }
         ensures err { IfErr result (λ fault. fault ≡ Fault.NoMemory) }
     {
-        let viewer = Viewer::new(alloc, site, limit)?;
-        let recorder = Recorder::new(alloc)?;
-        Ok(SiteState {
-            alloc,
-            viewer,
-            recorder,
-        })
+        let text = EditedText::new(alloc, site, limit)?;
+        let mut paths = Vec::with_capacity(alloc, 1)?;
+        paths.push(String::from_str(alloc, ".t")?)?;
+        Ok(SiteState { alloc, paths, text })
     }
 
-    // What is asked of the widget. Refused by the request's own faults, or for want of memory; then
-    // the site is as it was.
-    fn request(&mut self, request: &Request<'_>) -> Result<Reply, Fault>
-        ensures { Answers (step self.old request.now) self.old result self.new }
+    /// The paths of its widgets, in the order in which they were made.
+    pub fn paths(&self) -> &[String]
+        ensures paths { map (λ w. string_bytes w) result.now ≡ self.now.paths }
+        ensures each { HavePaths self.now.paths self.now.text.view }
     {
-        match request {
-            Request::Insert { index, texts } => self
-                .viewer
-                .insert(&mut self.recorder, index, texts),
-            Request::Delete { indices } => self.viewer.delete(&mut self.recorder, indices),
-            Request::Replace { from, to, texts } => {
-                self.viewer.replace(&mut self.recorder, from, to, texts)
-            }
-            Request::Get { indices } => self.viewer.get(indices),
-            Request::Index { index } => self.viewer.index(index),
-            Request::Compare {
-                first,
-                comparison,
-                second,
-            } => self.viewer.compare(first, *comparison, second),
-            Request::Count { measures, from, to } => self.viewer.count(measures, from, to),
-            Request::Search(request) => self.viewer.search(request),
-            Request::Dump { kinds, from, to } => self.viewer.dump(*kinds, from, to),
-            Request::Mark(request) => self.mark(request),
-            Request::Tag(request) => self.tag(request),
-            Request::Edit(request) => self.edit(*request),
-            Request::Configure { settings } => self.configure(*settings),
-            Request::Cget { option } => self.cget(*option),
-        }
+        &self.paths
+    }
+
+    // What is asked of the widget at a place. Refused by the request's own faults, or for want of
+    // memory; then the site is as it was.
+    fn request(&mut self, place: usize, request: &Request<'_>) -> Result<Reply, Fault>
+        requires { place < length self.old.paths }
+        ensures { Answers (by_widget place self.old (λ text. step text request.now)) self.old result self.new }
+    {
+        self.text.lead(place);
+        let reply = self.text.request(request);
+        self.text.lead(place);
+        reply
     }
 
     /// What is asked of the widget of a path. Refused by the first of `NoWidget` and the request's own
     /// faults, or for want of memory; then the site is as it was.
-    pub fn answer(&mut self, widget: &str, request: &Request<'_>) -> Result<Reply, Fault>
-        ensures { Answers (step_at widget.now self.old request.now) self.old result self.new }
+    pub fn answer(&mut self, path: &str, request: &Request<'_>) -> Result<Reply, Fault>
+        ensures { Answers (step_at path.now self.old request.now) self.old result self.new }
     {
-        if !is_widget(widget) {
+        let Some(place) = place_of(&self.paths, path) else {
             return Err(Fault::NoWidget);
+        };
+        self.request(place, request)
+    }
+
+    // COMMAND WORDS of the widget at a place, where the command is about what that widget shows.
+    fn run_words(&mut self, place: usize, words: &[String]) -> Result<Reply, Fault>
+        requires { place < length self.old.paths }
+        ensures { WidgetGives place (map (λ w. string_bytes w) words.now) self.old result self.new }
+    {
+        let request = Request::of(self.alloc, words)?;
+        self.request(place, &request)
+    }
+
+    // COMMAND WORDS of the widget of a path, which is the one at a place.
+    fn run(&mut self, path: &str, place: usize, words: &[String]) -> Result<Reply, Fault>
+        requires { place < length self.old.paths }
+        ensures { CommandGives path.now place (map (λ w. string_bytes w) words.now) self.old result self.new }
+    {
+        let Some((name, rest)) = words.split_first() else {
+            return self.run_words(place, words);
+        };
+        if is_peer(name) {
+            return self.run_peer(path, rest);
         }
-        self.request(request)
+        self.run_words(place, words)
     }
 
     /// `PATH COMMAND WORDS` (Tk text manual): runs a command of the widget of a path. Refused by the
-    /// first of `NoWidget`, the faults of the words (`Request::of`) and of the request, and want of
-    /// memory in place of any; then the site is as it was.
+    /// first of `NoWidget`, the faults of the words (`PeerRequest::of` behind `peer`, `Request::of`) and
+    /// of the request, and want of memory in place of any; then the site is as it was.
     pub fn command(&mut self, path: &str, words: &[String]) -> Result<Reply, Fault>
         ensures { Gives path.now (map (λ w. string_bytes w) words.now) self.old result self.new }
     {
-        if !is_widget(path) {
+        let Some(place) = place_of(&self.paths, path) else {
             return Err(Fault::NoWidget);
-        }
-        let request = Request::of(self.alloc, words)?;
-        self.request(&request)
+        };
+        self.run(path, place, words)
     }
 }

@@ -8,6 +8,7 @@ ghost use Rattle.rt_peers.specs.State.{new_view};
 mod dumping;
 mod editing;
 mod marking;
+mod peers;
 mod reading;
 mod searching;
 mod tagging;

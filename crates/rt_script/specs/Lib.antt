@@ -2,6 +2,8 @@ pub mod Pieces
 pub mod Replies
 pub mod Run
 pub mod Site
+pub use Rattle.rt_peers.specs.PeerStep
+pub use Rattle.rt_peers.specs.SiteStep
 pub use Rattle.rt_peers.specs.State
 pub use Rattle.rt_peers.specs.Step
 pub use Rattle.rt_stamps.specs.Fault

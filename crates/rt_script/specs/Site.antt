@@ -1,5 +1,5 @@
 -- What the words of a script line do to a site.
-use Rattle.std.specs.Prelude.{◌≡◌, ◌≤◌, ℕ, List, [], ◌∷◌, length, map, All, true, false, Option, Some, None, Result, Ok, Err, MatchOption, String, Vec, codes, string_bytes, if◌then◌else◌}
+use Rattle.std.specs.Prelude.{◌≡◌, ◌≤◌, ℕ, List, [], ◌∷◌, length, map, All, true, false, Option, Some, None, Result, Ok, Err, MatchOption, MatchResult, String, Vec, codes, string_bytes, if◌then◌else◌}
 use Rattle.std.specs.Str.{bytes_eq}
 use Rattle.std.specs.declared.alloc.Global.{Global}
 use Rattle.rt_stamps.specs.declared.fault.Fault.{Fault}
@@ -9,9 +9,10 @@ use Rattle.rt_stamps.specs.Words.{Word}
 use Rattle.rt_script.specs.declared.answer.Answer.{Answer}
 use Rattle.rt_script.specs.declared.answer.Answer.TheVariants as answers
 use Rattle.rt_exchange.specs.declared.receiving.Received.{Received}
-use Rattle.rt_exchange.specs.Receiving.{Receives}
+use Rattle.rt_peer_requests.specs.PeerWords.{asked_destroy}
+use Rattle.rt_peers.specs.PeerStep.{destroyed}
+use Rattle.rt_peers.specs.SiteStep.{Gives, SiteReceives}
 use Rattle.rt_peers.specs.State.{State}
-use Rattle.rt_peers.specs.Step.{Gives}
 
 -- a file that a script may name: its name and its bytes
 abbrev pub NamedFile : Type 0
@@ -46,9 +47,19 @@ IsRefused fault old answer new = (answer ≡ answers.Refused fault) × (new ≡ 
 abbrev pub ReceiveGives : List NamedFile → List Word → State → Answer → State → Type 0
 ReceiveGives files (name ∷ []) old answer new = MatchOption (file_named name files)
     (IsRefused NoFile old answer new)
-    (λ bytes. (received : Received) × (answer ≡ answers.Received received) × Receives bytes old received new)
+    (λ bytes. (received : Received) × (answer ≡ answers.Received received) × SiteReceives bytes old received new)
 ReceiveGives files [] old answer new = IsRefused BadCommand old answer new
 ReceiveGives files (name ∷ more ∷ words) old answer new = IsRefused BadCommand old answer new
+
+-- a call without a reply, which changes the site or is refused
+abbrev pub IsDone : Result State Fault → State → Answer → State → Type 0
+IsDone said old answer new = MatchResult said (λ left. (answer ≡ answers.Replied []) × (new ≡ left)) (λ fault. IsRefused fault old answer new)
+
+-- `destroy PATH`: the widget of the path is no longer there
+abbrev pub DestroyGives : List Word → State → Answer → State → Type 0
+DestroyGives words old answer new = MatchResult (asked_destroy words)
+    (λ request. IsDone (destroyed request.path old) old answer new)
+    (λ fault. IsRefused fault old answer new)
 
 -- a reply or a fault, as an answer
 abbrev pub as_answer : Result (List Word) Fault → Answer
@@ -59,13 +70,13 @@ as_answer (Err fault) = answers.Refused fault
 abbrev pub PathGives : Word → List Word → State → Answer → State → Type 0
 PathGives path words old answer new = (result : Result (List Word) Fault) × (answer ≡ as_answer result) × Gives path words old result new
 
--- What the words of a line give: those of `receive NAME`, or of `PATH COMMAND WORDS`. `destroy` is no command yet.
+-- What the words of a line give: those of `receive NAME`, of `destroy PATH`, or of `PATH COMMAND WORDS`.
 abbrev pub WordsGive : List NamedFile → List Word → State → Answer → State → Type 0
 WordsGive files [] old answer new = IsRefused BadCommand old answer new
 WordsGive files (first ∷ words) old answer new =
     (bytes_eq first (codes "receive") ≡ true → ReceiveGives files words old answer new)
     × (bytes_eq first (codes "receive") ≡ false
-    → (bytes_eq first (codes "destroy") ≡ true → IsRefused BadCommand old answer new)
+    → (bytes_eq first (codes "destroy") ≡ true → DestroyGives words old answer new)
     × (bytes_eq first (codes "destroy") ≡ false → PathGives first words old answer new))
 
 -- A line is answered by its words, and the files stay.

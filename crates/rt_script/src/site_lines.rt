@@ -2,10 +2,12 @@
 ghost use Rattle.std.specs.Prelude.{◌≡◌, All, Some, None, codes, length, ◌≤◌, map, string_bytes, MatchOption};
 ghost use Rattle.std.specs.Str.{bytes_eq};
 ghost use Rattle.rt_stamps.specs.declared.limits.TheConstants.{MOST_BYTES};
-ghost use Rattle.rt_script.specs.Site.{AreWithin, ReceiveGives, PathGives, SiteGives, file_named, named_files};
+ghost use Rattle.rt_peers.specs.PeerStep.{destroyed};
+ghost use Rattle.rt_script.specs.Site.{AreWithin, DestroyGives, IsDone, ReceiveGives, PathGives, SiteGives, file_named, named_files};
 
 use crate::answer::Answer;
 use crate::commands::Commands;
+use rt_peer_requests::destroyed;
 use rt_peers::SiteState;
 use rt_stamps::Fault;
 use std::marker::Model;
@@ -89,6 +91,28 @@ impl<'a> Session<'a> {
         }
     }
 
+    // The widget of a path is no longer there.
+    fn let_go(&mut self, path: &str) -> Answer
+        ensures files { self.new.files ≡ self.old.files }
+        ensures gives { IsDone (destroyed path.now self.old.site) self.old.site result self.new.site }
+    {
+        match self.site.destroy(path) {
+            Ok(reply) => Answer::Replied(reply),
+            Err(fault) => Answer::Refused(fault),
+        }
+    }
+
+    // `destroy PATH`.
+    fn destroy(&mut self, words: &[String]) -> Answer
+        ensures files { self.new.files ≡ self.old.files }
+        ensures gives { DestroyGives (map (λ w. string_bytes w) words.now) self.old.site result self.new.site }
+    {
+        match destroyed(words) {
+            Ok(request) => self.let_go(request.path.text()),
+            Err(fault) => Answer::Refused(fault),
+        }
+    }
+
     // `PATH COMMAND WORDS`.
     fn command(&mut self, path: &str, words: &[String]) -> Answer
         ensures files { self.new.files ≡ self.old.files }
@@ -118,7 +142,7 @@ impl<'a> Commands for Session<'a> {
             return self.receive(rest);
         }
         if is_destroy(first) {
-            return Answer::Refused(Fault::BadCommand);
+            return self.destroy(rest);
         }
         self.command(first, rest)
     }

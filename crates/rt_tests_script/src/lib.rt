@@ -10,6 +10,8 @@ mod lines;
 #[cfg(test)]
 mod marks;
 #[cfg(test)]
+mod peers;
+#[cfg(test)]
 mod replacements;
 #[cfg(test)]
 mod replies;

@@ -3,6 +3,7 @@ ghost use Rattle.std.specs.Prelude.{◌≡◌, ◌<◌, ◌≤◌};
 ghost use Rattle.rt_script.specs.Site.{AreWithin};
 
 use crate::marks::{INDICES, MARK_ORDER, MARK_PLACES, MARK_WORDS};
+use crate::peers::{OWN_PARTS, PEERS, SHARED_PARTS};
 use crate::replacements::{DUMPS, FULL_SITE, REPLACEMENTS};
 use crate::searches::SEARCHES;
 use crate::tags::{TAG_COMMANDS, TAG_REFUSALS, TAG_WRITES, TAGGED_TEXT};
@@ -246,6 +247,21 @@ fn scripts_of_grouping(rt: HostRuntime) -> Result<(), Fail> {
 #[test]
 fn scripts_of_flags(rt: HostRuntime) -> Result<(), Fail> {
     answer_all(&rt, rt.alloc(), FLAGS)
+}
+
+#[test]
+fn scripts_of_peers(rt: HostRuntime) -> Result<(), Fail> {
+    answer_all(&rt, rt.alloc(), PEERS)
+}
+
+#[test]
+fn scripts_of_own_parts(rt: HostRuntime) -> Result<(), Fail> {
+    answer_all(&rt, rt.alloc(), OWN_PARTS)
+}
+
+#[test]
+fn scripts_of_shared_parts(rt: HostRuntime) -> Result<(), Fail> {
+    answer_all(&rt, rt.alloc(), SHARED_PARTS)
 }
 
 #[test]

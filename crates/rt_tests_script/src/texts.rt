@@ -29,7 +29,7 @@ pub(crate) const TEXTS: &[&[(&str, &str)]] = &[
     &[
         (".t frob", "! 4 BadCommand"),
         (".t", "! 4 BadCommand"),
-        ("destroy .t", "! 4 BadCommand"),
+        ("destroy .t", "! 16 LastWidget"),
         ("receive", "! 4 BadCommand"),
         ("receive a b", "! 4 BadCommand"),
         ("receive a", "! 20 NoFile"),

@@ -4,7 +4,7 @@ ghost use Rattle.rt_stamps.specs.declared.limits.TheConstants.{MOST_BYTES};
 ghost use Rattle.rt_oplog.specs.File.{spelling};
 ghost use Rattle.rt_rga.specs.Cells.{cells_of};
 ghost use Rattle.rt_rga.specs.Histories.{IsHistory, greatest_last_count};
-ghost use Rattle.rt_exchange.specs.Receiving.{Receives};
+ghost use Rattle.rt_peers.specs.SiteStep.{SiteReceives};
 
 use super::SiteState;
 use rt_exchange::{Received, export};
@@ -13,32 +13,33 @@ use rt_stamps::Fault;
 
 impl SiteState {
     /// Receives the bytes of a file of operations, at most `MOST_BYTES`: its operations are offered one
-    /// after the other. One that is new changes the text, moves all marks, and lists its tags; what is
-    /// selected stays so, and where it changes the visible text it forces the modified flag. The first that is refused ends it, with its fault, and those before it stay
+    /// after the other. One that is new changes the text, moves all marks, those of each widget too, and
+    /// lists its tags; what is selected stays so, and where it changes the visible text it forces the
+    /// modified flag. The first that is refused ends it, with its fault, and those before it stay
     /// accepted: `BadStamp`, `Conflict`, `NotYet`, `BadTarget`, `TextFull`. Else the reading's own fault
     /// is told, if it has one: `BadMagic`, `BadVersion`, `Truncated`, `BadRecord`. `NoMemory` in place of
     /// any.
     pub fn receive(&mut self, bytes: &[u8]) -> Received
         requires { length bytes.now ≤ MOST_BYTES }
-        ensures { Receives bytes.now self.old result self.new }
+        ensures { SiteReceives bytes.now self.old result self.new }
     {
-        self.viewer.receive(&mut self.recorder, bytes)
+        self.text.receive(bytes)
     }
 
     /// The log of the operations that the site accepted or made. The cells of its text are those of the
     /// log, which is a history.
     pub fn log(&self) -> &OpLog
-        ensures operations { result.now.operations ≡ self.now.view.doc.log }
-        ensures history { IsHistory self.now.view.doc.log }
-        ensures cells { self.now.view.doc.cells ≡ cells_of self.now.view.doc.log }
-        ensures count { self.now.view.doc.count ≡ greatest_last_count self.now.view.doc.log }
+        ensures operations { result.now.operations ≡ self.now.text.view.doc.log }
+        ensures history { IsHistory self.now.text.view.doc.log }
+        ensures cells { self.now.text.view.doc.cells ≡ cells_of self.now.text.view.doc.log }
+        ensures count { self.now.text.view.doc.count ≡ greatest_last_count self.now.text.view.doc.log }
     {
-        self.viewer.log()
+        self.text.log()
     }
 
     /// The file of the log: its operations in the order of their stamps. Want of memory.
     pub fn export(&self) -> Result<Vec<u8>, Fault>
-        ensures ok { IfOk result (λ bytes. bytes.items ≡ spelling (reverse self.now.view.doc.log)) }
+        ensures ok { IfOk result (λ bytes. bytes.items ≡ spelling (reverse self.now.text.view.doc.log)) }
         ensures err { IfErr result (λ fault. fault ≡ Fault.NoMemory) }
     {
         export(self.alloc, self.log())

@@ -1,23 +1,10 @@
-use Rattle.std.proofs.Common.{◌∙◌, subst, sym}
-use Rattle.std.specs.List.{AllByRecursion}
-use Rattle.std.proofs.lemmas.Result.{err_from_is_err_and}
-use Rattle.rt_stamps.specs.Words.{Word}
-use Rattle.std.specs.Prelude.{List}
-use Rattle.rt_revert.specs.ReversionLaws.{AreSound}
-use Rattle.rt_undo.specs.Undo.{History}
+use Rattle.std.proofs.Common.{◌≡◌, ◌∙◌, ◌++◌, ◌∷◌, [], List, String, Global, ap, codes, map, string_bytes}
+use Rattle.rt_peers.proofs.PeerLaws.{first_path}
 use Rattle.rt_peers.proofs.site.SiteState.new.Goals as goal
-
-pub returns-in_err-recorder-clause-err : goal.returns-in_err-recorder-clause-err
-returns-in_err-recorder-clause-err c =
-    let p = err_from_is_err_and c.from_residual-in_err-recorder.result c.from_residual-in_err-recorder.ensures.1 in
-    rw p.1 (p.2 ∙ c.in_err-recorder.ensures.err)
 
 pub invariant_of-result : goal.invariant_of-result
 invariant_of-result c =
-    let none = c.in_ok-recorder.ensures.history in
-    record {
-      gone = λ s back. let never = c.in_ok-recorder.ensures.came_back s in absurd (cc (never, back));
-      closed = subst (λ (h : History (List Word)). AllByRecursion AreSound h.closed) (sym none) tt;
-      current = subst (λ (h : History (List Word)). AreSound h.current) (sym none) tt;
-      undone = subst (λ (h : History (List Word)). AllByRecursion AreSound h.undone) (sym none) tt;
-    }
+    let f : String Global → List _ = λ w. string_bytes w in
+    let items : map f c.push.new.self.items ≡ codes ".t" ∷ [] =
+        ap (map f) (c.in_ok-push.ensures.items ∙ ap (λ l. l ++ c.in_ok-from_str.field-0 ∷ []) c.in_ok-paths.ensures.items) ∙ ap (λ x. x ∷ []) c.in_ok-from_str.ensures.ok in
+    first_path (map f c.push.new.self.items) c.in_ok-text.text.view (codes ".t") c.args.site.number c.args.limit items (ap (λ t. t.view) c.in_ok-text.ensures.ok)

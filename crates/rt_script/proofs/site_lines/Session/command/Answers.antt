@@ -1,8 +1,8 @@
 use Rattle.std.proofs.Common.{Ok, Err, List, Result, ap, map, string_bytes, subst}
 use Rattle.rt_stamps.specs.declared.fault.Fault.{Fault}
 use Rattle.rt_stamps.specs.Words.{Word}
+use Rattle.rt_peers.specs.SiteStep.{Gives}
 use Rattle.rt_peers.specs.State.{State}
-use Rattle.rt_peers.specs.Step.{Gives}
 use Rattle.rt_script.specs.Site.{Session}
 use Rattle.rt_script.proofs.site_lines.Session.command.Goals as goal
 use Rattle.rt_script.proofs.site_lines.Session.command.Goals.{in-Ok, in-Err}

@@ -1,13 +1,13 @@
 use Rattle.rt_editing.specs.Noting.{IsOfLog}
-use Rattle.rt_peers.specs.ViewStep.{mark_step}
-use Rattle.rt_peers.proofs.Growing.{mark_grows, viewer_settled}
-use Rattle.rt_peers.proofs.site.SiteState.mark.Goals as goal
+use Rattle.rt_peers.specs.ViewStep.{tag_step}
+use Rattle.rt_peers.proofs.Growing.{tag_grows, viewer_settled}
+use Rattle.rt_peers.proofs.text.EditedText.tag.Goals as goal
 
 pub invariant_of-self : goal.invariant_of-self
 invariant_of-self c =
     let view = c.self.inside.viewer in
-    let new = c.mark-reply.new.self in
+    let new = c.tag-reply.new.self in
     let kept : IsOfLog view.doc = record { history = c.log.ensures.history; cells = c.log.ensures.cells; count = c.log.ensures.count } in
     let same : IsOfLog new.doc = record { history = c.log-2.ensures.history; cells = c.log-2.ensures.cells; count = c.log-2.ensures.count } in
-    viewer_settled view new c.self.inside.recorder (mark_step view c.args.request.now) c.mark-reply.result c.mark-reply.ensures (λ words h. mark_grows view new c.args.request.now words h)
+    viewer_settled view new c.self.inside.recorder (tag_step view c.args.request.now) c.tag-reply.result c.tag-reply.ensures (λ words h. tag_grows view new c.args.request.now words h)
     c.self.invariant kept same

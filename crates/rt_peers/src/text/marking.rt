@@ -3,12 +3,12 @@ ghost use Rattle.rt_stamps.specs.Outcomes.{Answers};
 ghost use Rattle.rt_peers.specs.Step.{on_view};
 ghost use Rattle.rt_peers.specs.ViewStep.{mark_step, tag_step};
 
-use super::SiteState;
+use super::EditedText;
 use crate::reply::Reply;
 use rt_requests::{MarkRequest, TagRequest};
 use rt_stamps::Fault;
 
-impl SiteState {
+impl EditedText {
     // What is asked of marks.
     pub(super) fn mark(&mut self, request: &MarkRequest<'_>) -> Result<Reply, Fault>
         ensures { Answers (on_view self.old (mark_step self.old.view request.now)) self.old result self.new }

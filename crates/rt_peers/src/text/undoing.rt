@@ -4,13 +4,13 @@ ghost use Rattle.rt_stamps.specs.Outcomes.{Answers};
 ghost use Rattle.rt_peers.specs.Step.{configured, edit_step, option_value};
 ghost use Rattle.rt_peers.specs.ViewStep.{one_word, text_of_bool};
 
-use super::SiteState;
+use super::EditedText;
 use crate::replies::{no_words, truth};
 use crate::reply::Reply;
 use rt_requests::{EditRequest, Settings, WidgetOption};
 use rt_stamps::Fault;
 
-impl SiteState {
+impl EditedText {
     // What is asked of the undo mechanism.
     pub(super) fn edit(&mut self, request: EditRequest) -> Result<Reply, Fault>
         ensures { Answers (edit_step self.old request) self.old result self.new }
@@ -42,9 +42,9 @@ impl SiteState {
         }
     }
 
-    // Options are set.
-    pub(super) fn configure(&mut self, settings: Settings) -> Result<Reply, Fault>
-        ensures { Answers (Ok ([], configured self.old settings)) self.old result self.new }
+    /// Sets options, those that are given a value. It takes no memory.
+    pub(crate) fn set_options(&mut self, settings: Settings)
+        ensures { self.new ≡ configured self.old settings }
     {
         let undo = settings.undo.unwrap_or(self.recorder.is_undo_on());
         let auto = settings
@@ -52,6 +52,13 @@ impl SiteState {
             .unwrap_or(self.recorder.auto_separators());
         self.recorder.set_undo(undo);
         self.recorder.set_auto_separators(auto);
+    }
+
+    // Options are set.
+    pub(super) fn configure(&mut self, settings: Settings) -> Result<Reply, Fault>
+        ensures { Answers (Ok ([], configured self.old settings)) self.old result self.new }
+    {
+        self.set_options(settings);
         Ok(no_words(self.alloc))
     }
 

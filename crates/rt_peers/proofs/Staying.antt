@@ -1,0 +1,267 @@
+-- The widgets of a site stay as many as they are, whatever is asked of one of them.
+use Rattle.std.proofs.Common.{◌≡◌, ◌∙◌, ℕ, suc, Bool, true, false, cond, List, [], ◌∷◌, Option, None, Some, Ok, Err, Result, ap, inl, inr, length, map, refl, subst, sym}
+use Rattle.std.specs.Prelude.{flat_map}
+use Rattle.std.specs.Fmt.{signed_decimal}
+use Rattle.std.specs.Option.{option_map_or}
+use Rattle.std.specs.Str.{bytes_eq}
+use Rattle.std.proofs.lemmas.List.{length-map}
+use Rattle.rt_stamps.specs.declared.fault.Fault.{Fault}
+use Rattle.rt_stamps.specs.declared.fault.Fault.TheVariants.{NothingToRedo, NothingToUndo}
+use Rattle.rt_stamps.specs.declared.stamp.Stamp.{Stamp}
+use Rattle.rt_stamps.specs.Outcomes.{Answers, unless}
+use Rattle.rt_stamps.specs.Places.{text_of_position}
+use Rattle.rt_stamps.specs.Words.{Word}
+use Rattle.rt_marks.specs.declared.gravity.Gravity.{Gravity}
+use Rattle.rt_marks.specs.Marks.{without_all}
+use Rattle.rt_oplog.specs.Operations.{Operation}
+use Rattle.rt_rga.specs.Answers.{Answer, New, Repeat, Refused}
+use Rattle.rt_requests.specs.declared.request.EditRequest.{EditRequest}
+use Rattle.rt_requests.specs.declared.request.EditRequest.TheVariants as edits
+use Rattle.rt_requests.specs.declared.request.MarkRequest.{MarkRequest}
+use Rattle.rt_requests.specs.declared.request.MarkRequest.TheVariants as marks
+use Rattle.rt_requests.specs.declared.request.Request.{Request}
+use Rattle.rt_requests.specs.declared.request.Request.TheVariants.{Insert, Delete, Get, Index, Compare, Count, Search, Replace, Dump, Mark, Tag, Edit, Configure, Cget}
+use Rattle.rt_requests.specs.declared.request.TagRequest.{TagRequest}
+use Rattle.rt_requests.specs.declared.request.TagRequest.TheVariants as tags
+use Rattle.rt_requests.specs.Parts.{all_of}
+use Rattle.rt_tags.specs.Tags.{lowered, raised, sel}
+use Rattle.rt_dump.specs.Dumping.{dumped}
+use Rattle.rt_edits.specs.declared.range.Range.{Range}
+use Rattle.rt_edits.specs.Insertions.{Piece}
+use Rattle.rt_edits.specs.Removals.{is_covered}
+use Rattle.rt_searchcmd.specs.SearchCommand.{searched}
+use Rattle.rt_store.specs.Shown.{TaggedCell}
+use Rattle.rt_tagcmd.specs.MarkCommands.{set_at, with_gravity}
+use Rattle.rt_tagcmd.specs.TagCommands.{tag_written}
+use Rattle.rt_text.specs.declared.own_mark.OwnMark.{OwnMark}
+use Rattle.rt_text.specs.Accepted.{answer_of}
+use Rattle.rt_text.specs.Commands.{compared, counted, deleted, got, got_list, got_one, inserted, insertion_place, position_of_index, replaced, with_pieces_at, with_range_replaced, with_tag_in, with_tags_deleted, without_ranges}
+use Rattle.rt_text.specs.Index.{place_at_index}
+use Rattle.rt_text.specs.Ranges.{ranges_of}
+use Rattle.rt_text.specs.Reversions.{view_reverted}
+use Rattle.rt_text.specs.Widgets.{Own, Viewed, own_mark_of, widget_of, with_marks, with_selections, with_tags}
+use Rattle.rt_undo.specs.declared.action.Kind.{Kind}
+use Rattle.rt_undo.specs.declared.action.Kind.TheVariants as kinds
+use Rattle.rt_undo.specs.Actions.{Action}
+use Rattle.rt_undo.specs.Undo.{History, next_redo, next_undo, redo_done, undo_done}
+use Rattle.rt_recorder.specs.Reversals.{redone, reverted_by, undone}
+use Rattle.rt_editing.specs.Edited.{Edited}
+use Rattle.rt_editing.specs.Edits.{lost_between, lost_from, recorded_edit, text_after, text_deleted, text_inserted, text_replaced}
+use Rattle.rt_editing.specs.Reverts.{text_redone, text_undone, with_history}
+use Rattle.rt_editing.proofs.Outcomes.{given}
+use Rattle.rt_exchange.specs.declared.receiving.Received.{Received}
+use Rattle.rt_exchange.specs.Receiving.{Offers, Receives}
+use Rattle.rt_peers.specs.Step.{edit_step, on_view, step}
+use Rattle.rt_peers.specs.ViewStep.{Outcome, as_piece, changed_step, element_words, get_step, mark_step, one_word, tag_step, text_of_bool, told_step}
+
+-- as many other widgets
+abbrev pub Stay : Viewed → Viewed → Type 0
+Stay old new = length new.others ≡ length old.others
+
+-- WHAT AN ANSWER LEAVES
+
+abbrev left_by : {S : Type 0} → Outcome S → S → S
+left_by (Ok answer) none = answer.1
+left_by (Err fault) none = none
+
+abbrev words_by : {S : Type 0} → Outcome S → List Word
+words_by (Ok answer) = answer.0
+words_by (Err fault) = []
+
+abbrev value_of : {S : Type 0} → Result S Fault → S → S
+value_of (Ok value) none = value
+value_of (Err fault) none = none
+
+changed_is : {S : Type 0} (said : Result S Fault) (words : List Word) (new : S) → changed_step said ≡ Ok (words, new) → said ≡ Ok new
+changed_is {S} (Ok value) words new h = ap (λ (o : Outcome S). Ok (left_by o value)) h
+changed_is (Err fault) words new h = absurd (cc h)
+
+told_is : {T S : Type 0} (f : T → List Word) (old : S) (said : Result T Fault) (words : List Word) (new : S) → told_step f old said ≡ Ok (words, new) → old ≡ new
+told_is {S = S} f old (Ok value) words new h = ap (λ (o : Outcome S). left_by o old) h
+told_is f old (Err fault) words new h = absurd (cc h)
+
+same_is : {S : Type 0} (told words : List Word) (old new : S) → ◌≡◌ {A = Outcome S} (Ok (told, old)) (Ok (words, new)) → old ≡ new
+same_is {S} told words old new h = ap (λ (o : Outcome S). left_by o old) h
+
+same : (old new : Viewed) → old ≡ new → Stay old new
+same old new e = ap (λ v. length v.others) (sym e)
+
+checked : (check : Option Fault) (old value new : Viewed) → unless check value ≡ Ok new → Stay old value → Stay old new
+checked check old value new h stay = ap (λ v. length v.others) (sym (given check value new h)) ∙ stay
+
+-- EDITS
+
+as_many : (selections : List (List Stamp)) (widgets : List Own) → length (with_selections selections widgets) ≡ length widgets
+as_many selections [] = refl
+as_many [] (own ∷ widgets) = refl
+as_many (selection ∷ selections) (own ∷ widgets) = ap suc (as_many selections widgets)
+
+pieces_stay : (view : Viewed) (place : ℕ) (pieces : List Piece) (rest : Word) → Stay view (with_pieces_at view place pieces rest)
+pieces_stay view place pieces rest = as_many _ _ ∙ length-map view.others _
+
+ranges_stay : (view : Viewed) (ranges : List Range) → Stay view (without_ranges view ranges)
+ranges_stay view ranges = length-map view.others _
+
+inserted_stays : (view new : Viewed) (index : Word) (pieces : List Piece) (rest : Word) → inserted view index pieces rest ≡ Ok new → Stay view new
+inserted_stays view new index pieces rest h =
+    let place = insertion_place (widget_of view) index in checked _ view (with_pieces_at view place pieces rest) new h (pieces_stay view place pieces rest)
+
+deleted_stays : (view new : Viewed) (indices : List Word) → deleted view indices ≡ Ok new → Stay view new
+deleted_stays view new indices h =
+    let ranges = ranges_of (map (place_at_index (widget_of view)) indices) in checked _ view (without_ranges view ranges) new h (ranges_stay view ranges)
+
+replaced_stays : (view new : Viewed) (from to : Word) (pieces : List Piece) (rest : Word) → replaced view from to pieces rest ≡ Ok new → Stay view new
+replaced_stays view new from to pieces rest h =
+    let range : Range = record { from = place_at_index (widget_of view) from; to = place_at_index (widget_of view) to } in
+    checked _ view (with_range_replaced view range pieces rest) new h (pieces_stay (without_ranges view (range ∷ [])) _ pieces rest ∙ ranges_stay view (range ∷ []))
+
+recorded_is : (kind : Kind) (lost : List TaggedCell) (text new : Edited) (said : Result Viewed Fault) → recorded_edit kind lost text said ≡ Ok new → said ≡ Ok new.view
+recorded_is kind lost text new (Ok view) h = ap (λ (o : Result Edited Fault). Ok (value_of o text).view) h
+recorded_is kind lost text new (Err fault) h = absurd (cc h)
+
+-- UNDO AND REDO
+
+reverted_is : (text new : Edited) (said : Result (Viewed × History (List Word)) Fault) → with_history text said ≡ Ok new → (history : History (List Word)) × (said ≡ Ok (new.view, history))
+reverted_is text new (Ok left) h = (left.1, ap (λ (o : Result Edited Fault). Ok ((value_of o text).view, left.1)) h)
+reverted_is text new (Err fault) h = absurd (cc h)
+
+group_stays : (done : List (Action (List Word)) → History (List Word) → History (List Word)) (view new : Viewed) (old history : History (List Word)) (group : List (Action (List Word)))
+    → reverted_by done view old group ≡ Ok (new, history) → Stay view new
+group_stays done view new old history group h =
+    ap (λ (o : Viewed × History (List Word)). length o.0.others) (sym (given _ _ _ h)) ∙ length-map view.others _
+
+last_stays : (done : List (Action (List Word)) → History (List Word) → History (List Word)) (none : Fault) (view new : Viewed) (old history : History (List Word))
+    (group : Option (List (Action (List Word)))) → option_map_or (reverted_by done view old) group (Err none) ≡ Ok (new, history) → Stay view new
+last_stays done none view new old history None h = absurd (cc h)
+last_stays done none view new old history (Some group) h = group_stays done view new old history group h
+
+undone_by : (undo : Bool) (text new : Edited) (said : Result Edited Fault) → cond undo said (Ok text) ≡ Ok new → (said ≡ Ok new → Stay text.view new.view) → Stay text.view new.view
+undone_by true text new said h stay = stay h
+undone_by false text new said h stay = ap (λ (o : Result Edited Fault). length (value_of o text).view.others) (sym h)
+
+undone_stays : (text new : Edited) → text_undone text ≡ Ok new → Stay text.view new.view
+undone_stays text new h =
+    undone_by text.undo text new (with_history text (undone text.view text.history)) h
+    (λ e. let said = reverted_is text new (undone text.view text.history) e in last_stays undo_done NothingToUndo text.view new.view text.history said.0 (next_undo text.history) said.1)
+
+redone_stays : (text new : Edited) → text_redone text ≡ Ok new → Stay text.view new.view
+redone_stays text new h =
+    undone_by text.undo text new (with_history text (redone text.view text.history)) h
+    (λ e. let said = reverted_is text new (redone text.view text.history) e in last_stays redo_done NothingToRedo text.view new.view text.history said.0 (next_redo text.history) said.1)
+
+-- MARKS AND TAGS
+
+set_stays : (which : Option OwnMark) (view : Viewed) (name : Word) (place : ℕ) → Stay view (set_at which view name place)
+set_stays (Some which) view name place = refl
+set_stays None view name place = refl
+
+gravity_stays : (which : Option OwnMark) (view : Viewed) (name : Word) (gravity : Gravity) → Stay view (with_gravity which view name gravity)
+gravity_stays (Some which) view name gravity = refl
+gravity_stays None view name gravity = refl
+
+mark_stays : (view new : Viewed) (request : MarkRequest) (words : List Word) → mark_step view request ≡ Ok (words, new) → Stay view new
+mark_stays view new (marks.Set name index) words h =
+    let place = place_at_index (widget_of view) index in checked _ view (set_at (own_mark_of name) view name place) new (changed_is _ words new h) (set_stays (own_mark_of name) view name place)
+mark_stays view new (marks.Unset names) words h = checked _ view (with_marks view (without_all (all_of names) view.doc.marks)) new (changed_is _ words new h) refl
+mark_stays view new (marks.Gravity name) words h = same view new (told_is _ view _ words new h)
+mark_stays view new (marks.SetGravity name gravity) words h =
+    checked _ view (with_gravity (own_mark_of name) view name gravity) new (changed_is _ words new h) (gravity_stays (own_mark_of name) view name gravity)
+mark_stays view new marks.Names words h = same view new (same_is _ words view new h)
+mark_stays view new (marks.Next word) words h = same view new (told_is _ view _ words new h)
+mark_stays view new (marks.Previous word) words h = same view new (told_is _ view _ words new h)
+
+one_of_two : (own : Bool) (old one other : Viewed) → Stay old one → Stay old other → Stay old (cond own one other)
+one_of_two true old one other first second = first
+one_of_two false old one other first second = second
+
+write_stays : (view : Viewed) (on : Bool) (name : Word) (ranges : List Range) → Stay view (with_tag_in view on name ranges)
+write_stays view on name ranges = one_of_two (bytes_eq name sel) view _ _ refl refl
+
+written_stays : (on : Bool) (view new : Viewed) (name : Word) (indices : List Word) (words : List Word) → changed_step (tag_written on view name indices) ≡ Ok (words, new) → Stay view new
+written_stays on view new name indices words h =
+    let ranges = ranges_of (map (place_at_index (widget_of view)) indices) in
+    checked _ view (with_tag_in view on name ranges) new (changed_is _ words new h) (write_stays view on name ranges)
+
+tag_stays : (view new : Viewed) (request : TagRequest) (words : List Word) → tag_step view request ≡ Ok (words, new) → Stay view new
+tag_stays view new (tags.Add name indices) words h = written_stays true view new name (all_of indices) words h
+tag_stays view new (tags.Remove name indices) words h = written_stays false view new name (all_of indices) words h
+tag_stays view new (tags.Delete names) words h = checked _ view (with_tags_deleted view (all_of names)) new (changed_is _ words new h) refl
+tag_stays view new (tags.Raise name above) words h = checked _ view (with_tags view (raised name above view.doc.tags)) new (changed_is _ words new h) refl
+tag_stays view new (tags.Lower name below) words h = checked _ view (with_tags view (lowered name below view.doc.tags)) new (changed_is _ words new h) refl
+tag_stays view new tags.Names words h = same view new (same_is _ words view new h)
+tag_stays view new (tags.NamesAt index) words h = same view new (told_is _ view _ words new h)
+tag_stays view new (tags.Ranges name) words h = same view new (told_is _ view _ words new h)
+tag_stays view new (tags.NextRange name from to) words h = same view new (told_is _ view _ words new h)
+tag_stays view new (tags.PreviousRange name to from) words h = same view new (told_is _ view _ words new h)
+
+get_stays : (view new : Viewed) (indices : List Word) (words : List Word) → get_step view indices ≡ Ok (words, new) → Stay view new
+get_stays view new [] words h = same view new (told_is (λ (texts : List Word). texts) view (got_list view []) words new h)
+get_stays view new (index ∷ []) words h = same view new (told_is one_word view (got_one view index) words new h)
+get_stays view new (from ∷ to ∷ []) words h = same view new (told_is one_word view (got view from to) words new h)
+get_stays view new (from ∷ to ∷ more ∷ indices) words h = same view new (told_is (λ (texts : List Word). texts) view (got_list view (from ∷ to ∷ more ∷ indices)) words new h)
+
+-- REQUESTS
+
+shown_is : (text new : Edited) (outcome : Outcome Viewed) (words : List Word) → on_view text outcome ≡ Ok (words, new) → outcome ≡ Ok (words, new.view)
+shown_is text new (Ok answer) words h = ap (λ (o : Outcome Edited). Ok (words_by o, (left_by o text).view)) h
+shown_is text new (Err fault) words h = absurd (cc h)
+
+told_stays : {T : Type 0} (f : T → List Word) (text new : Edited) (said : Result T Fault) (words : List Word) → on_view text (told_step f text.view said) ≡ Ok (words, new) → Stay text.view new.view
+told_stays f text new said words h = same text.view new.view (told_is f text.view said words new.view (shown_is text new (told_step f text.view said) words h))
+
+edit_stays : (text new : Edited) (request : EditRequest) (words : List Word) → edit_step text request ≡ Ok (words, new) → Stay text.view new.view
+edit_stays text new edits.Undo words h = undone_stays text new (changed_is (text_undone text) words new h)
+edit_stays text new edits.Redo words h = redone_stays text new (changed_is (text_redone text) words new h)
+edit_stays text new edits.Separator words h = ap (λ (o : Outcome Edited). length (left_by o text).view.others) (sym h)
+edit_stays text new edits.Reset words h = ap (λ (o : Outcome Edited). length (left_by o text).view.others) (sym h)
+edit_stays text new edits.CanUndo words h = ap (λ (o : Outcome Edited). length (left_by o text).view.others) (sym h)
+edit_stays text new edits.CanRedo words h = ap (λ (o : Outcome Edited). length (left_by o text).view.others) (sym h)
+edit_stays text new edits.Modified words h = ap (λ (o : Outcome Edited). length (left_by o text).view.others) (sym h)
+edit_stays text new (edits.SetModified on) words h = ap (λ (o : Outcome Edited). length (left_by o text).view.others) (sym h)
+
+step_stays : (text new : Edited) (request : Request) (words : List Word) → step text request ≡ Ok (words, new) → Stay text.view new.view
+step_stays text new (Insert index texts) words h =
+    let pieces : List Piece = map as_piece texts.pieces in
+    inserted_stays text.view new.view index pieces texts.rest
+    (recorded_is kinds.Insert [] text new (inserted text.view index pieces texts.rest) (changed_is (text_inserted text index pieces texts.rest) words new h))
+step_stays text new (Delete indices) words h =
+    deleted_stays text.view new.view (all_of indices)
+    (recorded_is kinds.Delete (lost_between text.view (all_of indices)) text new (deleted text.view (all_of indices)) (changed_is (text_deleted text (all_of indices)) words new h))
+step_stays text new (Replace from to texts) words h =
+    let pieces : List Piece = map as_piece texts.pieces in
+    replaced_stays text.view new.view from to pieces texts.rest
+    (recorded_is kinds.Replace (lost_from text.view from to) text new (replaced text.view from to pieces texts.rest) (changed_is (text_replaced text from to pieces texts.rest) words new h))
+step_stays text new (Get indices) words h = get_stays text.view new.view (all_of indices) words (shown_is text new (get_step text.view (all_of indices)) words h)
+step_stays text new (Index index) words h = told_stays (λ position. one_word (text_of_position position)) text new (position_of_index text.view index) words h
+step_stays text new (Compare first comparison second) words h = told_stays (λ holds. one_word (text_of_bool holds)) text new (compared text.view first comparison second) words h
+step_stays text new (Count measures from to) words h = told_stays (map signed_decimal) text new (counted text.view measures from to) words h
+step_stays text new (Search request) words h = told_stays (map text_of_position) text new (searched text.view request) words h
+step_stays text new (Dump shown from to) words h = told_stays (flat_map element_words) text new (dumped text.view shown from to) words h
+step_stays text new (Mark request) words h = mark_stays text.view new.view request words (shown_is text new (mark_step text.view request) words h)
+step_stays text new (Tag request) words h = tag_stays text.view new.view request words (shown_is text new (tag_step text.view request) words h)
+step_stays text new (Edit request) words h = edit_stays text new request words h
+step_stays text new (Configure settings) words h = ap (λ (o : Outcome Edited). length (left_by o text).view.others) (sym h)
+step_stays text new (Cget option) words h = ap (λ (o : Outcome Edited). length (left_by o text).view.others) (sym h)
+
+pub answer_stays : (old : Edited) (request : Request) (result : Result (List Word) Fault) (new : Edited) → Answers (step old request) old result new → Stay old.view new.view
+answer_stays old request (Ok words) new h = step_stays old new request words h
+answer_stays old request (Err fault) new h = ap (λ (t : Edited). length t.view.others) h.0
+
+-- OPERATIONS OF OTHER SITES
+
+after_stays : (answer : Answer) (op : Operation) (text : Edited) → Stay text.view (text_after answer op text).view
+after_stays New op text = length-map text.view.others _
+after_stays Repeat op text = refl
+after_stays (Refused fault) op text = refl
+
+offers_stay : (ops : List Operation) (offsets : List ℕ) (ending : Option (Fault × ℕ)) (old : Edited) (received : Received) (new : Edited) → Offers ops offsets ending old received new → Stay old.view new.view
+offers_stay [] offsets ending old received new h = ap (λ (t : Edited). length t.view.others) h.1
+offers_stay (op ∷ ops) [] ending old received new h = absurd h
+offers_stay (op ∷ ops) (offset ∷ offsets) ending old received new (inl h) = ap (λ (t : Edited). length t.view.others) h.3
+offers_stay (op ∷ ops) (offset ∷ offsets) ending old received new (inr h) =
+    let answer = answer_of old.view.doc op in
+    offers_stay ops offsets ending (text_after answer op old) h.0 new h.3 ∙ after_stays answer op old
+
+pub received_stays : (bytes : List ℕ) (old : Edited) (received : Received) (new : Edited) → Receives bytes old received new → Stay old.view new.view
+received_stays bytes old received new (inl h) = offers_stay h.0 h.1 h.2 old received new h.4
+received_stays bytes old received new (inr h) = ap (λ (t : Edited). length t.view.others) h.1

@@ -1,0 +1,47 @@
+use Rattle.std.proofs.Common.{◌≡◌, ◌∙◌, ◌<◌, ℕ, nat_lt, true, List, None, Some, Ok, Result, String, Global, ap, arith, cond, length, map, refl, string_bytes, subst, sym}
+use Rattle.std.specs.List.{remove}
+use Rattle.std.proofs.lemmas.Bool.Decides.{nat_tests}
+use Rattle.rt_stamps.specs.declared.fault.Fault.TheVariants.{LastWidget}
+use Rattle.rt_stamps.specs.Outcomes.{unless}
+use Rattle.rt_stamps.specs.Words.{Word}
+use Rattle.rt_text.specs.Widgets.{Viewed}
+use Rattle.rt_peers.specs.Peers.{HavePaths, view_without, without_widget}
+use Rattle.rt_peers.specs.PeerStep.{destroyed, destroyed_at}
+use Rattle.rt_peers.specs.State.{State, place_of}
+use Rattle.rt_peers.proofs.PeerLaws.{number_of_strings, path_gone, place_in, place_within, strings_without}
+use Rattle.rt_peers.proofs.site.SiteState.destroy.Goals as goal
+
+counted : (n : ℕ) → 1 < n → nat_lt 1 n ≡ true
+counted n h = grind (arith, nat_tests)
+
+abbrev paths_in : goal.After-no_words → List Word
+paths_in c = map (λ w. string_bytes w) c.self.inside.paths.items
+
+found : (c : goal.After-no_words) → place_of c.args.path.now (paths_in c) ≡ Some c.in-Some.place
+found c = place_in c.args.path.now c.deref.result.now c.self.inside.paths.items (paths_in c) c.place_of.result c.place_of.ensures c.deref.ensures.value refl ∙ c.in-Some.is
+
+several : (c : goal.After-no_words) → 1 < length (paths_in c)
+several c =
+    let there = place_within c.args.path.now (paths_in c) c.in-Some.place (found c) in
+    omega (arith, there, number_of_strings c.self.inside.paths.items, c.len.ensures, c.if-len-eq1.false)
+
+pub invariant_of-self : goal.invariant_of-self
+invariant_of-self c =
+    let place = c.in-Some.place in
+    let view = c.self.inside.text.view in
+    let there : place < length (paths_in c) = place_within c.args.path.now (paths_in c) place (found c) in
+    let items : map (λ w. string_bytes w) c.remove.new.self.items ≡ remove (paths_in c) place = ap (map (λ w. string_bytes w)) c.remove.ensures.items ∙ strings_without c.self.inside.paths.items place in
+    subst (λ (l : List Word). HavePaths l c.remove_widget.new.self.view) (sym items)
+    (subst (λ (v : Viewed). HavePaths (remove (paths_in c) place) v) (sym (ap (λ t. t.view) c.remove_widget.ensures)) (path_gone (paths_in c) view place c.self.invariant there (several c)))
+
+pub returns-clause-ok : goal.returns-clause-ok
+returns-clause-ok c =
+    let place = c.in-Some.place in
+    let state : State = record { paths = paths_in c; text = c.self.inside.text } in
+    let items : map (λ w. string_bytes w) c.remove.new.self.items ≡ remove (paths_in c) place = ap (map (λ w. string_bytes w)) c.remove.ensures.items ∙ strings_without c.self.inside.paths.items place in
+    let left : without_widget place state ≡ record { paths = map (λ w. string_bytes w) c.remove.new.self.items; text = c.remove_widget.new.self } =
+        λ i. record { paths = sym items i; text = sym c.remove_widget.ensures i } in
+    let gone : destroyed c.args.path.now state ≡ Ok (without_widget place state) =
+        ap (λ o. destroyed_at o state) (found c) ∙ ap (λ b. unless (cond b None (Some LastWidget)) (without_widget place state)) (counted _ (several c)) in
+    let all : destroyed c.args.path.now state ≡ Ok (record { paths = map (λ w. string_bytes w) c.remove.new.self.items; text = c.remove_widget.new.self }) = gone ∙ ap (λ s. Ok s) left in
+    subst (λ (s : State). destroyed c.args.path.now s ≡ Ok (record { paths = map (λ w. string_bytes w) c.remove.new.self.items; text = c.remove_widget.new.self })) c.self.view_is all

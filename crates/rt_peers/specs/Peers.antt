@@ -1,0 +1,42 @@
+-- The widgets of a site, each of which shows its text (Tk text manual, "PEER WIDGETS"): one of them commands, one more is made, one
+-- is no longer there.
+use Rattle.std.specs.Prelude.{◌≡◌, ℕ, List, [], ◌∷◌, ◌++◌, drop, get_or, length, set}
+use Rattle.std.specs.List.{IsDistinct, remove}
+use Rattle.std.specs.Str.{bytes_eq}
+use Rattle.rt_stamps.specs.Words.{Word}
+use Rattle.rt_editing.specs.Edited.{Edited}
+use Rattle.rt_text.specs.Widgets.{Own, Viewed, new_own}
+use Rattle.rt_peers.specs.State.{State}
+
+-- what is each widget's own, the first one's first
+abbrev pub widgets_of : Viewed → List Own
+widgets_of view = view.own ∷ view.others
+
+-- each widget has a path of its own
+pub record HavePaths (paths : List Word) (view : Viewed) : Type 0 where
+  pub each : length paths ≡ length (widgets_of view)
+  pub differ : IsDistinct bytes_eq paths
+
+-- the widget at a place commands: it and the first one change places
+abbrev pub view_led : ℕ → Viewed → Viewed
+view_led place view = record view { own = get_or (widgets_of view) place view.own; others = drop 1 (set (widgets_of view) place view.own) }
+
+abbrev pub text_led : ℕ → Edited → Edited
+text_led place text = record text { view = view_led place text.view }
+
+-- one more widget, the last one: its marks stand at the beginning, and it has nothing selected
+abbrev pub view_with_one : Viewed → Viewed
+view_with_one view = record view { others = view.others ++ new_own ∷ [] }
+
+abbrev pub with_widget : Word → State → State
+with_widget path state = record { paths = state.paths ++ path ∷ []; text = record state.text { view = view_with_one state.text.view } }
+
+-- the widget at a place is no longer there; the others stay in their order
+abbrev pub view_without : ℕ → Viewed → Viewed
+view_without place view =
+    let left = remove (widgets_of view) place in
+    record view { own = get_or left 0 view.own; others = drop 1 left }
+
+abbrev pub without_widget : ℕ → State → State
+without_widget place state =
+    record { paths = remove state.paths place; text = record state.text { view = view_without place state.text.view } }

@@ -1,0 +1,48 @@
+// The paths of a site's widgets.
+ghost use Rattle.std.specs.Prelude.{◌≡◌, IfOk, IfErr, codes, map, string_bytes};
+ghost use Rattle.std.specs.List.{position};
+ghost use Rattle.std.specs.Str.{bytes_eq};
+ghost use Rattle.rt_peers.specs.PeerStep.{other_paths};
+ghost use Rattle.rt_peers.specs.State.{place_of};
+
+use rt_stamps::Fault;
+use std::alloc::Global;
+
+// Where the first of some strings stands that is a text.
+fn position_of(strings: &[String], text: &str) -> Option<usize>
+    ensures { result ≡ position (λ w. bytes_eq (string_bytes w) text.now) strings.now }
+{
+    strings.iter().position(|string| string.as_str() == text)
+}
+
+/// Which of some paths is this one.
+pub(crate) fn place_of(paths: &[String], path: &str) -> Option<usize>
+    ensures { result ≡ place_of path.now (map (λ w. string_bytes w) paths.now) }
+{
+    position_of(paths, path)
+}
+
+/// Copies of the paths but one. Want of memory.
+pub(crate) fn other_paths(
+    alloc: Global,
+    paths: &[String],
+    path: &str,
+) -> Result<Vec<String>, Fault>
+    ensures ok { IfOk result (λ others. map (λ w. string_bytes w) others.items ≡ other_paths path.now (map (λ w. string_bytes w) paths.now)) }
+    ensures err { IfErr result (λ fault. fault ≡ Fault.NoMemory) }
+{
+    let mut others = Vec::new(alloc);
+    for other in paths {
+        if other.as_str() != path {
+            others.push(String::from_str(alloc, other)?)?;
+        }
+    }
+    Ok(others)
+}
+
+/// Whether a command's name is that of `peer`.
+pub(crate) fn is_peer(name: &str) -> bool
+    ensures { result ≡ bytes_eq name.now (codes "peer") }
+{
+    name == "peer"
+}

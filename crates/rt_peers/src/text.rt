@@ -1,0 +1,97 @@
+// The text of a site, and what is asked of the widget that commands.
+ghost use Rattle.std.specs.Prelude.{◌≡◌, ◌≤◌, IfOk, IfErr};
+ghost use Rattle.rt_stamps.specs.declared.limits.TheConstants.{MOST_CELLS};
+ghost use Rattle.rt_stamps.specs.Outcomes.{Answers};
+ghost use Rattle.rt_peers.specs.State.{new_text};
+ghost use Rattle.rt_peers.specs.Step.{step};
+
+mod exchange;
+mod marking;
+mod peers;
+mod undoing;
+
+use crate::reply::Reply;
+use crate::viewer::Viewer;
+use rt_recorder::Recorder;
+use rt_requests::Request;
+use rt_stamps::{Fault, Site};
+use std::alloc::Global;
+use std::marker::Model;
+
+/// A site's document as one of its widgets shows it, with what it recorded of its edits.
+pub(crate) struct EditedText {
+    alloc: Global,
+    viewer: Viewer,
+    recorder: Recorder,
+}
+
+// Written out, so that where a text is let go is one step for the site, and not one for each field of
+// each field.
+impl Drop for EditedText {
+    fn drop(self) {
+        let EditedText {
+            alloc: _,
+            viewer: _,
+            recorder: _,
+        } = self;
+    }
+}
+
+impl Model for EditedText {
+    ghost use Rattle.rt_recorder.specs.Settled.{IsSettled};
+    ghost use Rattle.rt_editing.specs.Edited.{Edited, edited};
+
+    ghost Value = { Edited };
+
+    ghost view = { λ s. edited s.viewer s.recorder };
+
+    ghost invariant = { λ s. IsSettled s.viewer s.recorder };
+}
+
+impl EditedText {
+    /// That of a new site with one widget, with at most `limit` cells, the final newline and tombstones included.
+    pub(crate) fn new(alloc: Global, site: Site, limit: usize) -> Result<EditedText, Fault>
+        requires { (1 ≤ limit) × (limit ≤ MOST_CELLS) }
+        ensures ok { IfOk result (λ text. text ≡ new_text site.number limit) }
+        ensures err { IfErr result (λ fault. fault ≡ Fault.NoMemory) }
+    {
+        let viewer = Viewer::new(alloc, site, limit)?;
+        let recorder = Recorder::new(alloc)?;
+        Ok(EditedText {
+            alloc,
+            viewer,
+            recorder,
+        })
+    }
+
+    /// What is asked of the widget. Refused by the request's own faults, or for want of memory; then
+    /// all is as it was.
+    pub(crate) fn request(&mut self, request: &Request<'_>) -> Result<Reply, Fault>
+        ensures { Answers (step self.old request.now) self.old result self.new }
+    {
+        match request {
+            Request::Insert { index, texts } => self
+                .viewer
+                .insert(&mut self.recorder, index, texts),
+            Request::Delete { indices } => self.viewer.delete(&mut self.recorder, indices),
+            Request::Replace { from, to, texts } => {
+                self.viewer.replace(&mut self.recorder, from, to, texts)
+            }
+            Request::Get { indices } => self.viewer.get(indices),
+            Request::Index { index } => self.viewer.index(index),
+            Request::Compare {
+                first,
+                comparison,
+                second,
+            } => self.viewer.compare(first, *comparison, second),
+            Request::Count { measures, from, to } => self.viewer.count(measures, from, to),
+            Request::Search(request) => self.viewer.search(request),
+            Request::Dump { kinds, from, to } => self.viewer.dump(*kinds, from, to),
+            Request::Mark(request) => self.mark(request),
+            Request::Tag(request) => self.tag(request),
+            Request::Edit(request) => self.edit(*request),
+            Request::Configure { settings } => self.configure(*settings),
+            Request::Cget { option } => self.cget(*option),
+        }
+    }
+}
