@@ -7,7 +7,7 @@ use Rattle.std.proofs.lemmas.List.Elements.{All-append, All-cons, All-filter, Al
 use Rattle.std.proofs.lemmas.Option.{slice_get-get_or, slice_get-map, get_or_from_slice_get}
 use Rattle.rt_tags.specs.Tags.{HaveNoRepeats, is_listed}
 use Rattle.rt_tags.specs.States.{Write, TagStates, AreDistinct, Interns, IsByName, IsNew, IsState, IsTag, KeepsIds, above, below, is_kept, is_on, is_settled, name_at, names_on, numbered, says_on, state_at, write_of, written}
-use Rattle.rt_tags.specs.Kept.{AreKept, HaveNames, IsKept, IsNext, IsTable, is_on_side, all_seen, entry_of, is_entry_kept, seen, state_seen, states_seen, tags_on}
+use Rattle.rt_tags.specs.Kept.{AreKept, HaveNames, IsKept, IsNext, IsSorted, IsTable, is_on_side, all_seen, entry_of, is_entry_kept, seen, state_seen, states_seen, tags_on}
 use Rattle.rt_tags.specs.declared.states.Entry.{Entry}
 use Rattle.rt_tags.specs.declared.states.State.{State}
 use Rattle.rt_tags.proofs.Entries.{found_seen, not_written, written_seen, named, on_named, on_seen, seen_stays}
@@ -122,6 +122,9 @@ module _ (names : List (List ℕ)) (keys : List State) (h : IsTable names keys) 
 
   pub named_there : HaveNames (length names) s.entries.items
   named_there = is_kept_there.named
+
+  pub sorted_there : IsSorted names s.entries.items
+  sorted_there = record { named = named_there; by_name = is_kept_there.by_name }
 
   found : (tag : ℕ) → tag < length names → option_map (seen names) (entry_of tag s.entries.items) ≡ write_of (get_or names tag []) (state_at (table_of names keys) id)
   found tag k = found_seen names tag s.entries.items h.kept.names_differ k (named (length names) s.entries.items named_there) ∙ ap (write_of (get_or names tag [])) (sym state_there)

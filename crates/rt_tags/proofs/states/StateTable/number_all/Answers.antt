@@ -1,12 +1,34 @@
-use Rattle.std.proofs.Common.{◌<◌, ◌∙◌, ◌++◌, ◌∷◌, [], All, ap, arith, length, map, string_bytes, subst, sym, take}
-use Rattle.std.proofs.lemmas.List.{map-append, map_more}
+use Rattle.std.proofs.Common.{◌<◌, ◌∙◌, ◌++◌, ◌∷◌, [], All, ap, arith, length, map, refl, string_bytes, subst, sym, take}
+use Rattle.std.proofs.lemmas.List.{map-append, map_more, take_all}
+use Rattle.std.proofs.lemmas.Result.{err_from_is_err_and}
 use Rattle.rt_tags.specs.States.{TagStates, IsTag, all_numbered, name_at}
 use Rattle.rt_tags.specs.Tags.{with_name}
 use Rattle.rt_tags.proofs.Listing.{given_more, keeps_both, names_stay, numbered_more}
 use Rattle.rt_tags.proofs.states.StateTable.number_all.Goals as goal
 
-pub returns-in_err-push-clause-ids : goal.returns-in_err-push-clause-ids
-returns-in_err-push-clause-ids c = keeps_both c.args.self.now c.loop-name.self c.number.new.self c.loop-name.invariant.ids c.number.ensures.ids
+pub returns-in_err-tag : goal.returns-in_err-tag
+returns-in_err-tag c =
+    let (y, is, gives) = err_from_is_err_and c.from_residual.result c.from_residual.ensures.1 in
+    rw (is, gives) (record {
+      given = tt;
+      tags = tt;
+      names = tt;
+      states = ap (λ (t : TagStates). t.states) c.in_err-tag.ensures.err ∙ c.loop-name.invariant.states;
+      fault = c.in_err-tag.ensures.fault;
+      ids = keeps_both c.args.self.now c.loop-name.self c.number.new.self c.loop-name.invariant.ids c.number.ensures.ids;
+    })
+
+pub returns-in_err-push : goal.returns-in_err-push
+returns-in_err-push c =
+    let (y, is, gives) = err_from_is_err_and c.from_residual-in_err-push.result c.from_residual-in_err-push.ensures.1 in
+    rw (is, gives) (record {
+      given = tt;
+      tags = tt;
+      names = tt;
+      states = ap (λ (t : TagStates). t.states) c.in_ok-tag.ensures.ok ∙ c.loop-name.invariant.states;
+      fault = refl;
+      ids = keeps_both c.args.self.now c.loop-name.self c.number.new.self c.loop-name.invariant.ids c.number.ensures.ids;
+    })
 
 pub loop-name-preserved : goal.loop-name-preserved
 loop-name-preserved c =
@@ -31,3 +53,11 @@ loop-name-preserved c =
       states = ap (λ (t : TagStates). t.states) c.in_ok-tag.ensures.ok ∙ c.loop-name.invariant.states;
       ids = keeps_both c.args.self.now old new c.loop-name.invariant.ids ids;
     }
+
+pub returns-clause-tags : goal.returns-clause-tags
+returns-clause-tags c = c.loop-name.invariant.tags ∙ ap (λ v. map (λ s. string_bytes s) v) (take_all c.loop-name.name-index c.args.names.now c.loop-name-test.false)
+
+pub returns-clause-names : goal.returns-clause-names
+returns-clause-names c =
+    c.loop-name.invariant.names
+    ∙ ap (λ v. (all_numbered (map (λ s. string_bytes s) v) c.args.self.now).names) (take_all c.loop-name.name-index c.args.names.now c.loop-name-test.false)

@@ -1,11 +1,13 @@
-use Rattle.std.proofs.Common.{◌≡◌, ◌∙◌, ap, sym, subst, ℕ, [], true, Result, Ok, map, string_bytes}
+use Rattle.std.proofs.Common.{◌≡◌, ◌∙◌, ap, arith, sym, subst, ℕ, [], true, Result, Ok, length, map, string_bytes}
+use Rattle.std.proofs.lemmas.Grind.{common_steps}
+use Rattle.std.proofs.lemmas.List.{length-map}
 use Rattle.std.proofs.lemmas.Option.{get_or_from_slice_get, slice_get_within}
 use Rattle.rt_stamps.specs.declared.fault.Fault.{Fault}
-use Rattle.rt_tags.specs.Kept.{IsNext, entry_of, is_entry_kept, state_seen, states_seen}
+use Rattle.rt_tags.specs.Kept.{HaveNames, IsNext, entry_of, is_entry_kept, state_seen, states_seen}
 use Rattle.rt_tags.specs.Seen.{names_of}
 use Rattle.rt_tags.specs.States.{TagStates, Interns, IsTag, is_settled, state_at, write_at, written}
 use Rattle.rt_tags.specs.declared.states.Entry.{Entry}
-use Rattle.rt_tags.proofs.Keeping.{keeps_interned, next_kept, next_seen, settled_there, stays_interned, table_more, table_of}
+use Rattle.rt_tags.proofs.Keeping.{keeps_interned, named_there, next_kept, next_seen, settled_there, stays_interned, table_more, table_of}
 use Rattle.rt_tags.proofs.Places.{clash}
 use Rattle.rt_tags.proofs.states.StateTable.with.Goals as goal
 
@@ -87,3 +89,16 @@ pub returns-in-None-clause-state : goal.returns-in-None-clause-state
 returns-in-None-clause-state c =
     let w = written (write_at c.args.self.now c.args.tag c.args.writer c.args.on) (state_at c.args.self.now c.args.state) in
     get_or_from_slice_get c.args.self.now.states c.args.state w [] (returns-in-None-clause-interned c).0
+
+pub state_of-old-requires : goal.state_of-old-requires
+state_of-old-requires c = grind (arith, common_steps)
+
+pub next_state-requires-clause-tag : goal.next_state-requires-clause-tag
+next_state-requires-clause-tag c = grind (arith, common_steps)
+
+pub next_state-requires-clause-named : goal.next_state-requires-clause-named
+next_state-requires-clause-named c =
+    let names = c.self.inside.names.keys in
+    let old = c.state_of-old.result.now in
+    subst (λ n. HaveNames n old.entries.items) (length-map names (λ s. string_bytes s) ∙ ap (λ v. length v) (sym c.as_slice.ensures.keys))
+    (named_there (names_of c.self.inside.names) c.self.inside.states.keys c.self.invariant c.args.state old c.state_of-old.ensures)
