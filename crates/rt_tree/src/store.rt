@@ -18,9 +18,7 @@ pub struct TreeStore {
 // field of each field.
 impl Drop for TreeStore {
     fn drop(self) {
-        let TreeStore {
-            tree: _,
-        } = self;
+        let TreeStore { tree: _ } = self;
     }
 }
 
