@@ -1,5 +1,5 @@
 #!/usr/bin/env python3
-"""Random scripts, answered by the built program and by a plain model of the widget: a list of characters
+"""Random scripts, answered by the built program and by a plain model of the widget and of its peers: a list of characters
 with their tags and stamps, a table of marks, the list of tags, and the undo stacks. Then sites, which edit by
 scripts of their own and receive one another's files, late, repeated and cut; their model reads all operations of
 a site again after each, and after each operation of an undo (docs/REPLICATION.md).
@@ -14,7 +14,7 @@ import tempfile
 
 from modelled.chance import Chance
 from modelled.groups import Group
-from modelled.sites import Site
+from modelled.peers import Peers
 from modelled.widget import spelled
 
 ROOT = os.path.dirname(os.path.dirname(os.path.abspath(__file__)))
@@ -40,19 +40,21 @@ def main():
     # the launcher may have to build the program first, and says so on standard error
     subprocess.run([PROGRAM, "--version"], capture_output=True, check=True)
     for number in range(SCRIPTS):
-        site = Site(1)
-        commands = [chance.begin(), *(chance.command() for _ in range(chance.randrange(1, 80)))]
-        script = "".join(" ".join([".t", *map(spelled, c)]) + "\n" for c in commands)
-        wants = [site.answer(c) for c in commands]
+        site = Peers(1)
+        # every other script has one widget alone, the others several
+        line = chance.line if number % 2 else lambda: [".t", *chance.command()]
+        lines = [[".t", *chance.begin()], *(line() for _ in range(chance.randrange(1, 80)))]
+        script = "".join(" ".join(map(spelled, words)) + "\n" for words in lines)
+        wants = [site.reply_to(words) for words in lines]
         done = subprocess.run([PROGRAM, "run", "--site", "1"], input=script.encode(), capture_output=True, timeout=120)
-        lines = done.stdout.decode().split("\n")[:-1]
-        good = done.returncode == 0 and done.stderr == b"" and lines == wants
+        replies = done.stdout.decode().split("\n")[:-1]
+        good = done.returncode == 0 and done.stderr == b"" and replies == wants
         passed, failed = passed + good, failed + (not good)
         if not good:
-            at = next((i for i, (a, b) in enumerate(zip(lines, wants)) if a != b), len(lines))
+            at = next((i for i, (a, b) in enumerate(zip(replies, wants)) if a != b), len(replies))
             print(f"failed: script {number}, line {at + 1}")
             print("".join(script.splitlines(True)[:at + 1]), end="")
-            print(f"  got  {lines[at] if at < len(lines) else None!r}\n  want {wants[at] if at < len(wants) else None!r}")
+            print(f"  got  {replies[at] if at < len(replies) else None!r}\n  want {wants[at] if at < len(wants) else None!r}")
     whole, broken = play_groups(chance)
     passed, failed = passed + whole, failed + broken
     print(f"{passed} passed, {failed} failed")

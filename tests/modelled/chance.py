@@ -59,6 +59,21 @@ class Chance(random.Random):
         """Most scripts begin with the undo mechanism on."""
         return ["configure", "-undo", "1" if self.random() < .7 else "0"]
 
+    def path(self):
+        return self.choice([".t", ".t", ".t", ".p", ".p", ".q", ".x" if self.random() < .1 else ".t"])
+
+    def peers(self):
+        """A line about the widgets of a site, without a path before it where it is `destroy`."""
+        if self.random() < .3:
+            return ["destroy", self.path(), *([self.path()] if self.random() < .05 else [])]
+        if self.random() < .4:
+            return [self.path(), "peer", "names", *(["x"] if self.random() < .05 else [])]
+        return [self.path(), "peer", "create", self.choice([self.path(), self.path(), "." if self.random() < .1 else ".p", "t" if self.random() < .1 else ".q"]),
+                *(self.options() if self.random() < .2 else [])]
+
+    def line(self):
+        return self.peers() if self.random() < .1 else [self.path(), *self.command()]
+
     def command(self):
         kind = self.choice(["insert", "insert", "insert", "delete", "delete", "get", "index", "index", "compare", "count", "mark", "mark", "tag", "tag", "tag", "tag", "tag", "replace", "search", "search", "dump", "dump", "edit", "edit", "edit", "edit", "edit", "configure", "cget"])
         if kind == "edit":

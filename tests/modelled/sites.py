@@ -3,7 +3,7 @@
 import collections
 
 from modelled.undo import Action, Undo
-from modelled.widget import BAD_COMMAND, BAD_OPTION, NOT_YET, NOTHING_TO_REDO, NOTHING_TO_UNDO, TRUNCATED, Refused, Widget
+from modelled.widget import BAD_COMMAND, BAD_OPTION, NOT_YET, NOTHING_TO_REDO, NOTHING_TO_UNDO, TRUNCATED, Refused, Widget, shared
 
 # an operation: its count, site and prev; for an Insert the stamp that it goes after, the text and its tags; for a Delete the
 # stamps; for a Tag whether it is on, its name and the stamps
@@ -124,19 +124,19 @@ class Site(Widget):
     # own edits
 
     def has_inserted(self, p, new, tags):
-        op = self.make(Insert, self.stamps[p - 1] if p else ROOT_STAMP, new, tags - {"sel"})
+        op = self.make(Insert, self.stamps[p - 1] if p else ROOT_STAMP, new, shared(tags))
         self.stamps[p:p] = made(op)
         self.put_in += made(op)
 
     def shown_at(self, places):
         """What is visible at places: stamps, characters and shared tags."""
-        return [(self.stamps[p], self.text[p], self.tags[p] - {"sel"}) for p in places]
+        return [(self.stamps[p], self.text[p], shared(self.tags[p])) for p in places]
 
     def is_removing(self, gone, is_cleared):
         self.taken_away += self.shown_at(gone)
         if gone:
             self.make(Delete, [self.stamps[p] for p in gone])
-        for tag in sorted(self.tags[-1] - {"sel"}, key=str.encode) if is_cleared else []:
+        for tag in sorted(shared(self.tags[-1]), key=str.encode) if is_cleared else []:
             self.make(Tag, [FINAL_STAMP], False, tag)
         self.stamps = [here for p, here in enumerate(self.stamps) if p not in set(gone)]
 
@@ -218,11 +218,11 @@ class Site(Widget):
 
     def take(self, op):
         """Shows a history with one more operation."""
-        selected = {here for here, tags in zip(self.stamps, self.tags) if "sel" in tags}
+        own = {here: tags - shared(tags) for here, tags in zip(self.stamps, self.tags)}
         before, self.ops = self.stamps, [*self.ops, op]
         read = reading(self.ops)
         self.stamps, self.text = [here for here, _, _ in read], "".join(char for _, char, _ in read)
-        self.tags = [tags | {"sel"} if here in selected else tags for here, _, tags in read]
+        self.tags = [tags | own.get(here, frozenset()) for here, _, tags in read]
         if isinstance(op, Insert):
             self.marks_inserted(self.stamps.index(stamp(op)), len(op.text))
             self.listed(sorted(op.tags, key=str.encode))
@@ -266,4 +266,4 @@ class Site(Widget):
 
     def is_sound(self):
         """Whether the widget shows what its operations say."""
-        return reading(self.ops) == [(here, char, tags - {"sel"}) for here, char, tags in zip(self.stamps, self.text, self.tags)]
+        return reading(self.ops) == [(here, char, shared(tags)) for here, char, tags in zip(self.stamps, self.text, self.tags)]

@@ -22,6 +22,11 @@ SEARCH_SWITCHES = ("-forwards", "-backwards", "-exact", "-nocase", "-all", "-ove
 DUMP_SWITCHES = ("-all", "-mark", "-tag", "-text")
 
 
+def shared(tags):
+    """The tags that aren't a widget's own, as `sel` is; that of another widget is `sel` with its path."""
+    return frozenset(tag for tag in tags if tag != "sel" and isinstance(tag, str))
+
+
 def is_word(c):
     return c == "_" or c.isalpha() or c.isdecimal()
 
@@ -92,6 +97,8 @@ class Widget:
         self.tags = [frozenset()]
         self.names = ["sel"]
         self.marks = {"insert": [0, "right"], "current": [0, "right"]}
+        # the own marks of the other widgets, by their paths and names
+        self.others = {}
 
     # places
 
@@ -217,18 +224,18 @@ class Widget:
             tags = frozenset(names)
         self.text = self.text[:p] + new + self.text[p:]
         self.tags[p:p] = [tags] * len(new)
-        self.listed(sorted(tags, key=str.encode))
+        self.listed(sorted(shared(tags), key=str.encode))
         self.marks_inserted(p, len(new))
         self.has_inserted(p, new, tags)
         return p + len(new)
 
     def marks_inserted(self, p, n):
-        for mark in self.marks.values():
+        for mark in [*self.marks.values(), *self.others.values()]:
             if mark[0] > p or mark[0] == p and mark[1] == "right":
                 mark[0] += n
 
     def marks_removed(self, gone):
-        for mark in self.marks.values():
+        for mark in [*self.marks.values(), *self.others.values()]:
             mark[0] = sum(p not in gone for p in range(mark[0]))
 
     def lists(self, words):

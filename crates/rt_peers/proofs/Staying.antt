@@ -1,5 +1,5 @@
 -- The widgets of a site stay as many as they are, whatever is asked of one of them.
-use Rattle.std.proofs.Common.{◌≡◌, ◌∙◌, ℕ, suc, Bool, true, false, cond, List, [], ◌∷◌, Option, None, Some, Ok, Err, Result, ap, inl, inr, length, map, refl, subst, sym}
+use Rattle.std.proofs.Common.{◌≡◌, ◌∙◌, ℕ, suc, Bool, true, false, cond, List, [], ◌∷◌, Option, None, Some, Ok, Err, Result, ap, inl, inr, length, map, refl, sym}
 use Rattle.std.specs.Prelude.{flat_map}
 use Rattle.std.specs.Fmt.{signed_decimal}
 use Rattle.std.specs.Option.{option_map_or}
@@ -28,7 +28,6 @@ use Rattle.rt_tags.specs.Tags.{lowered, raised, sel}
 use Rattle.rt_dump.specs.Dumping.{dumped}
 use Rattle.rt_edits.specs.declared.range.Range.{Range}
 use Rattle.rt_edits.specs.Insertions.{Piece}
-use Rattle.rt_edits.specs.Removals.{is_covered}
 use Rattle.rt_searchcmd.specs.SearchCommand.{searched}
 use Rattle.rt_store.specs.Shown.{TaggedCell}
 use Rattle.rt_tagcmd.specs.MarkCommands.{set_at, with_gravity}
@@ -38,7 +37,6 @@ use Rattle.rt_text.specs.Accepted.{answer_of}
 use Rattle.rt_text.specs.Commands.{compared, counted, deleted, got, got_list, got_one, inserted, insertion_place, position_of_index, replaced, with_pieces_at, with_range_replaced, with_tag_in, with_tags_deleted, without_ranges}
 use Rattle.rt_text.specs.Index.{place_at_index}
 use Rattle.rt_text.specs.Ranges.{ranges_of}
-use Rattle.rt_text.specs.Reversions.{view_reverted}
 use Rattle.rt_text.specs.Widgets.{Own, Viewed, own_mark_of, widget_of, with_marks, with_selections, with_tags}
 use Rattle.rt_undo.specs.declared.action.Kind.{Kind}
 use Rattle.rt_undo.specs.declared.action.Kind.TheVariants as kinds

@@ -1,6 +1,6 @@
 -- Words and steps.
 use Rattle.std.proofs.Common.{◌≡◌, ◌≤◌, ◌<◌, inl, inr, Ok, Err, Result, get_or, ◌∙◌, ap, sym, List, [], ◌∷◌, map, length, refl, subst, arith, String, Global, string_bytes}
-use Rattle.std.specs.Prelude.{◌⊎◌, IfOk, IfErr}
+use Rattle.std.specs.Prelude.{IfOk, IfErr}
 use Rattle.rt_stamps.specs.declared.fault.Fault.{Fault}
 use Rattle.rt_stamps.specs.declared.fault.Fault.TheVariants.{NoMemory}
 use Rattle.rt_stamps.specs.Outcomes.{Answers, Refuses}

@@ -1,6 +1,6 @@
 -- What a request to a widget does to the text as that widget shows it: the reply and the text after it, or why it is refused. Which
 -- words ask for what stands in rt_requests (`Asks`).
-use Rattle.std.specs.Prelude.{◌&&◌, List, [], map, flat_map, Bool, is_some, unwrap_or, Ok, Err, if◌then◌else◌}
+use Rattle.std.specs.Prelude.{◌&&◌, [], map, flat_map, Bool, is_some, unwrap_or, Ok, Err, if◌then◌else◌}
 use Rattle.std.specs.Fmt.{signed_decimal}
 use Rattle.rt_stamps.specs.Places.{text_of_position}
 use Rattle.rt_requests.specs.declared.options.Settings.{Settings}

@@ -23,11 +23,7 @@ pub(crate) fn place_of(paths: &[String], path: &str) -> Option<usize>
 }
 
 /// Copies of the paths but one. Want of memory.
-pub(crate) fn other_paths(
-    alloc: Global,
-    paths: &[String],
-    path: &str,
-) -> Result<Vec<String>, Fault>
+pub(crate) fn other_paths(alloc: Global, paths: &[String], path: &str) -> Result<Vec<String>, Fault>
     ensures ok { IfOk result (λ others. map (λ w. string_bytes w) others.items ≡ other_paths path.now (map (λ w. string_bytes w) paths.now)) }
     ensures err { IfErr result (λ fault. fault ≡ Fault.NoMemory) }
 {

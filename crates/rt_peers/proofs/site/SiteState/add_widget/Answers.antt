@@ -1,7 +1,7 @@
 use Rattle.std.proofs.Common.{◌≡◌, ◌∙◌, ◌++◌, ◌∷◌, [], List, None, String, Global, ap, map, string_bytes, subst, sym}
 use Rattle.std.proofs.lemmas.List.{map-append}
 use Rattle.rt_text.specs.Widgets.{Viewed}
-use Rattle.rt_peers.specs.Peers.{HavePaths, view_with_one}
+use Rattle.rt_peers.specs.Peers.{HavePaths}
 use Rattle.rt_peers.specs.State.{State, place_of}
 use Rattle.rt_peers.proofs.PeerLaws.{one_more_path}
 use Rattle.rt_peers.proofs.site.SiteState.add_widget.Goals as goal
@@ -14,7 +14,7 @@ invariant_of-self-2 c =
     let new = c.args.path.now in
     let none : place_of new (map f old) ≡ None = subst (λ (s : State). place_of new s.paths ≡ None) (sym c.self.view_is) c.requires in
     let items : map f c.push_reserved.new.self.items ≡ map f old ++ new ∷ [] =
-        ap (map f) (c.push_reserved.ensures.items ∙ ap (λ l. l ++ c.in_ok-path.path ∷ []) c.in_ok-reserve.ensures.items) ∙ map-append f old (c.in_ok-path.path ∷ [])
-        ∙ ap (λ x. map f old ++ x ∷ []) c.in_ok-path.ensures.ok in
+    ap (map f) (c.push_reserved.ensures.items ∙ ap (λ l. l ++ c.in_ok-path.path ∷ []) c.in_ok-reserve.ensures.items) ∙ map-append f old (c.in_ok-path.path ∷ [])
+    ∙ ap (λ x. map f old ++ x ∷ []) c.in_ok-path.ensures.ok in
     subst (λ l. HavePaths l c.add_widget.new.self.view) (sym items)
     (subst (λ (v : Viewed). HavePaths (map f old ++ new ∷ []) v) (sym (ap (λ t. t.view) c.in_ok-add_widget.ensures.ok)) (one_more_path (map f old) view new c.self.invariant none))

@@ -1,4 +1,4 @@
-use Rattle.std.proofs.Common.{◌≡◌, ◌∙◌, ℕ, None, Option, Some, ap, inr, refl, subst, sym}
+use Rattle.std.proofs.Common.{◌≡◌, ◌∙◌, ℕ, Option, ap, inr, refl, subst, sym}
 use Rattle.rt_stamps.specs.Outcomes.{Answers}
 use Rattle.rt_peers.specs.SiteStep.{step_by}
 use Rattle.rt_peers.specs.State.{place_of}

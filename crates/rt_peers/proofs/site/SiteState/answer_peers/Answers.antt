@@ -1,4 +1,4 @@
-use Rattle.std.proofs.Common.{◌≡◌, ◌∙◌, Bool, true, false, Err, Result, ap, cond, inr, not, refl, sym}
+use Rattle.std.proofs.Common.{◌≡◌, ◌∙◌, false, Err, ap, cond, inr, refl}
 use Rattle.std.specs.Prelude.{is_some}
 use Rattle.rt_stamps.specs.declared.fault.Fault.TheVariants.{NoWidget}
 use Rattle.rt_peers.specs.PeerStep.{peer_step}

@@ -1,4 +1,4 @@
-use Rattle.std.proofs.Common.{◌≡◌, ◌∙◌, ℕ, None, Option, Some, ap, inr, map, refl, string_bytes, subst, sym}
+use Rattle.std.proofs.Common.{◌≡◌, ◌∙◌, ℕ, None, Some, ap, inr, map, refl, string_bytes, subst}
 use Rattle.rt_peers.specs.SiteStep.{CommandGives}
 use Rattle.rt_peers.specs.State.{place_of}
 use Rattle.rt_peers.proofs.PeerLaws.{place_in}

@@ -1,11 +1,11 @@
-use Rattle.std.proofs.Common.{◌≡◌, ◌∙◌, ◌<◌, ℕ, nat_lt, true, List, None, Some, Ok, Result, String, Global, ap, arith, cond, length, map, refl, string_bytes, subst, sym}
+use Rattle.std.proofs.Common.{◌≡◌, ◌∙◌, ◌<◌, ℕ, nat_lt, true, List, None, Some, Ok, ap, arith, cond, length, map, refl, string_bytes, subst, sym}
 use Rattle.std.specs.List.{remove}
 use Rattle.std.proofs.lemmas.Bool.Decides.{nat_tests}
 use Rattle.rt_stamps.specs.declared.fault.Fault.TheVariants.{LastWidget}
 use Rattle.rt_stamps.specs.Outcomes.{unless}
 use Rattle.rt_stamps.specs.Words.{Word}
 use Rattle.rt_text.specs.Widgets.{Viewed}
-use Rattle.rt_peers.specs.Peers.{HavePaths, view_without, without_widget}
+use Rattle.rt_peers.specs.Peers.{HavePaths, without_widget}
 use Rattle.rt_peers.specs.PeerStep.{destroyed, destroyed_at}
 use Rattle.rt_peers.specs.State.{State, place_of}
 use Rattle.rt_peers.proofs.PeerLaws.{number_of_strings, path_gone, place_in, place_within, strings_without}
@@ -40,8 +40,8 @@ returns-clause-ok c =
     let state : State = record { paths = paths_in c; text = c.self.inside.text } in
     let items : map (λ w. string_bytes w) c.remove.new.self.items ≡ remove (paths_in c) place = ap (map (λ w. string_bytes w)) c.remove.ensures.items ∙ strings_without c.self.inside.paths.items place in
     let left : without_widget place state ≡ record { paths = map (λ w. string_bytes w) c.remove.new.self.items; text = c.remove_widget.new.self } =
-        λ i. record { paths = sym items i; text = sym c.remove_widget.ensures i } in
+    λ i. record { paths = sym items i; text = sym c.remove_widget.ensures i } in
     let gone : destroyed c.args.path.now state ≡ Ok (without_widget place state) =
-        ap (λ o. destroyed_at o state) (found c) ∙ ap (λ b. unless (cond b None (Some LastWidget)) (without_widget place state)) (counted _ (several c)) in
+    ap (λ o. destroyed_at o state) (found c) ∙ ap (λ b. unless (cond b None (Some LastWidget)) (without_widget place state)) (counted _ (several c)) in
     let all : destroyed c.args.path.now state ≡ Ok (record { paths = map (λ w. string_bytes w) c.remove.new.self.items; text = c.remove_widget.new.self }) = gone ∙ ap (λ s. Ok s) left in
     subst (λ (s : State). destroyed c.args.path.now s ≡ Ok (record { paths = map (λ w. string_bytes w) c.remove.new.self.items; text = c.remove_widget.new.self })) c.self.view_is all

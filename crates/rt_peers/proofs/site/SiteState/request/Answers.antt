@@ -1,10 +1,7 @@
-use Rattle.std.proofs.Common.{◌≡◌, ◌∙◌, ◌<◌, Ok, Err, List, Result, String, Global, ap, arith, length, map, string_bytes, subst, sym}
-use Rattle.rt_stamps.specs.declared.fault.Fault.{Fault}
+use Rattle.std.proofs.Common.{◌∙◌, ap, arith, length, map, string_bytes, subst, sym}
 use Rattle.rt_stamps.specs.Outcomes.{Answers}
-use Rattle.rt_stamps.specs.Words.{Word}
 use Rattle.rt_editing.specs.Edited.{Edited}
-use Rattle.rt_text.specs.Widgets.{Viewed}
-use Rattle.rt_peers.specs.Peers.{HavePaths, text_led, widgets_of}
+use Rattle.rt_peers.specs.Peers.{text_led, widgets_of}
 use Rattle.rt_peers.specs.State.{State}
 use Rattle.rt_peers.specs.SiteStep.{by_widget}
 use Rattle.rt_peers.specs.Step.{step}
@@ -33,9 +30,9 @@ returns c =
     let place = c.args.place in
     let result = c.request-reply.result in
     let answers : Answers (step (text_led place state.text) c.args.request.now) (text_led place state.text) result c.request-reply.new.self =
-        subst (λ (t : Edited). Answers (step t c.args.request.now) t result c.request-reply.new.self) c.lead.ensures c.request-reply.ensures in
+    subst (λ (t : Edited). Answers (step t c.args.request.now) t result c.request-reply.new.self) c.lead.ensures c.request-reply.ensures in
     let led : Answers (by_widget place state (λ text. step text c.args.request.now)) state result (record state { text = text_led place c.request-reply.new.self }) =
-        by_led place state (λ text. step text c.args.request.now) result c.request-reply.new.self answers in
+    by_led place state (λ text. step text c.args.request.now) result c.request-reply.new.self answers in
     let there : Answers (by_widget place state (λ text. step text c.args.request.now)) state result (record { paths = paths; text = c.lead-2.new.self }) =
-        subst (λ (t : Edited). Answers (by_widget place state (λ text. step text c.args.request.now)) state result (record { paths = paths; text = t })) (sym c.lead-2.ensures) led in
+    subst (λ (t : Edited). Answers (by_widget place state (λ text. step text c.args.request.now)) state result (record { paths = paths; text = t })) (sym c.lead-2.ensures) led in
     subst (λ (s : State). Answers (by_widget place s (λ text. step text c.args.request.now)) s result (record { paths = paths; text = c.lead-2.new.self })) c.self.view_is there
