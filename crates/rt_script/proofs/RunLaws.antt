@@ -1,5 +1,5 @@
 -- Runs of lines, one after the other.
-use Rattle.std.proofs.Common.{IfErr, ◌≢◌, zero, suc, ◌==◌, ◌≡◌, inl, inr, ℕ, ◌+◌, ◌-◌, min, ◌<◌, ◌≤◌, ◌&&◌, not, Bool, true, false, cond, length, take, drop, get_or, take-append-drop, map, Some, None, List, [], ◌∷◌, ◌++◌, refl, sym, ◌∙◌, ap, subst, Option, Result, Ok, Err, append_assoc, append-nil, arith, nat_le}
+use Rattle.std.proofs.Common.{IfErr, OnOk, ◌≢◌, zero, suc, ◌==◌, ◌≡◌, inl, inr, ℕ, ◌+◌, ◌-◌, min, ◌<◌, ◌≤◌, ◌&&◌, not, Bool, true, false, cond, length, take, drop, get_or, take-append-drop, map, Some, None, List, [], ◌∷◌, ◌++◌, refl, sym, ◌∙◌, ap, subst, Option, Result, Ok, Err, append_assoc, append-nil, arith, nat_le}
 use Rattle.std.proofs.lemmas.List.{take_more, take_all, take_min, take_rest, get_or-drop, length-take, length-drop}
 use Rattle.std.proofs.Math.Seq.{take-add, take-append-add}
 use Rattle.std.specs.List.{prefix_len}
@@ -13,7 +13,7 @@ use Rattle.std.specs.Str.{IsUtf8, is_utf8}
 use Rattle.std.proofs.lemmas.Str.{IsUtf8-from_is_utf8, is_utf8-from_IsUtf8}
 use Rattle.rt_stamps.specs.declared.limits.TheConstants.{MOST_LINE_BYTES}
 use Rattle.rt_stamps.specs.declared.fault.Fault.{Fault}
-use Rattle.rt_stamps.specs.declared.fault.Fault.TheVariants.{WriteFault}
+use Rattle.rt_stamps.specs.declared.fault.Fault.TheVariants.{NoMemory, WriteFault}
 use Rattle.rt_stamps.specs.Lines.{cut, lines_of, without_return, is_readable, is_silent, answered, complete_of, rest_of, last_of}
 use Rattle.rt_stamps.specs.Words.{Word}
 use Rattle.rt_stamps.proofs.Writes.{appends_then}
@@ -65,6 +65,15 @@ unwritten_then gives old mid new a b c ls ms h k = record {
 }
 
 -- a run stops before further lines
+front_longer : {S : Type 0} (gives : S → List Word → Answer → S → Type 0) (old new : S) (a b : Option (List ℕ)) (ls ms : List (List ℕ)) → RanFront gives old new a b ls → RanFront gives old new a b (ls ++ ms)
+front_longer gives old new a b ls ms h = record {
+  run = h.run;
+  line = h.line;
+  more = h.more ++ ms;
+  split = rw h.split (append_assoc h.run (h.line ∷ h.more) ms);
+  ran = h.ran;
+}
+
 pub unwritten_longer : {S : Type 0} (gives : S → List Word → Answer → S → Type 0) (old new : S) (a b : Option (List ℕ)) (ls ms : List (List ℕ)) → RanUnwritten gives old new a b ls → RanUnwritten gives old new a b (ls ++ ms)
 unwritten_longer gives old new a b ls ms h = record {
   run = h.run;
@@ -186,23 +195,45 @@ pub last_some : (rest : List ℕ) → kept rest ≢ [] → last_of rest ≡ rest
 last_some [] n = absurd (n refl)
 last_some (c ∷ rest) n = refl
 
--- a newline completes the line of which a front was kept
-newline_line : {S : Type 0} (gives : S → List Word → Answer → S → Type 0) (old new : S) (a b : Option (List ℕ)) (xs pending line : List ℕ) (r : Result (Unit {0}) Fault)
-    → RanLine gives old new a b line r → line ≡ without_return pending → pending ≡ kept (rest_of xs) → RanLine gives old new a b (without_return (rest_of xs)) r
-newline_line gives old new a b xs pending line r h e k = line_kept gives old new a b (rest_of xs) r (subst (λ l. RanLine gives old new a b l r) (e ∙ ap without_return k) h)
+-- lines were run after others
+pub lines_then : {S : Type 0} (gives : S → List Word → Answer → S → Type 0) (old mid new : S) (a b c : Option (List ℕ)) (e f g : ℕ) (done lines all : List (List ℕ)) (r : Result (Unit {0}) Fault)
+    → Ran gives old mid a b done → f ≡ e → RanLines gives mid new b c f g lines all r → RanLines gives old new a c e g (done ++ lines) (done ++ all) r
+lines_then gives old mid new a b c e f g done lines all (Ok x) h same k = (ran_then gives old mid new a b c done lines h k.0, k.1 ∙ same)
+lines_then gives old mid new a b c e f g done lines all (Err x) h same (inl k) = inl (k.0, front_then gives old mid new a b c done all h k.1, k.2 ∙ same)
+lines_then gives old mid new a b c e f g done lines all (Err x) h same (inr k) = inr (k.0, unwritten_then gives old mid new a b c done lines h k.1, k.2 ∙ ap (λ m. m + 1) same)
 
-pub ran_newline : {S : Type 0} (gives : S → List Word → Answer → S → Type 0) (old mid new : S) (a b c : Option (List ℕ)) (xs ys pending line : List ℕ)
-    → Ran gives old mid a b (complete_of xs) → RanLine gives mid new b c line (Ok tt) → line ≡ without_return pending → pending ≡ kept (rest_of xs) → ys ≡ xs ++ 10 ∷ [] → Ran gives old new a c (complete_of ys)
-ran_newline gives old mid new a b c xs ys pending line h k e p f =
-    let one = ran_line gives mid new b c (without_return (rest_of xs)) (newline_line gives mid new b c xs pending line (Ok tt) k e p) in
-    rw (f, complete_newline xs) (ran_then gives old mid new a b c (complete_of xs) (without_return (rest_of xs) ∷ []) h one)
+-- a run stops before further lines
+lines_longer : {S : Type 0} (gives : S → List Word → Answer → S → Type 0) (old new : S) (a b : Option (List ℕ)) (f g : ℕ) (lines all more others : List (List ℕ)) (fault : Fault)
+    → RanLines gives old new a b f g lines all (Err fault) → RanLines gives old new a b f g (lines ++ more) (all ++ others) (Err fault)
+lines_longer gives old new a b f g lines all more others fault (inl k) = inl (k.0, front_longer gives old new a b all others k.1, k.2)
+lines_longer gives old new a b f g lines all more others fault (inr k) = inr (k.0, unwritten_longer gives old new a b lines more k.1, k.2)
 
-pub unwritten_newline : {S : Type 0} (gives : S → List Word → Answer → S → Type 0) (old mid new : S) (a b c : Option (List ℕ)) (xs ys all more pending line : List ℕ) (fault : Fault)
-    → Ran gives old mid a b (complete_of xs) → RanLine gives mid new b c line (Err fault) → line ≡ without_return pending → pending ≡ kept (rest_of xs) → ys ≡ xs ++ 10 ∷ [] → all ≡ ys ++ more → RanUnwritten gives old new a c (complete_of all)
-unwritten_newline gives old mid new a b c xs ys all more pending line fault h k e p f g =
-    let one = unwritten_line gives mid new b c (without_return (rest_of xs)) fault (newline_line gives mid new b c xs pending line (Err fault) k e p) in
-    let here : RanUnwritten gives old new a c (complete_of ys) = rw (f, complete_newline xs) (unwritten_then gives old mid new a b c (complete_of xs) (without_return (rest_of xs) ∷ []) h one) in
-    rw (g, complete_append ys more) (unwritten_longer gives old new a c (complete_of ys) (complete_of (rest_of ys ++ more)) here)
+-- one line was run
+pub one_line : {S : Type 0} (gives : S → List Word → Answer → S → Type 0) (old new : S) (a b : Option (List ℕ)) (f g : ℕ) (line : List ℕ) (r : Result (Unit {0}) Fault)
+    → RanLine gives old new a b line r → IfErr r (λ fault. fault ≡ WriteFault) → g ≡ f + failures_of r → RanLines gives old new a b f g (line ∷ []) (line ∷ []) r
+one_line gives old new a b f g line (Ok x) h w n = (ran_line gives old new a b line h, omega arith)
+one_line gives old new a b f g line (Err x) h w n = inr (w, unwritten_line gives old new a b line x h, n)
+
+-- it could not be stored
+pub unstored_line : {S : Type 0} (gives : S → List Word → Answer → S → Type 0) (s : S) (a : Option (List ℕ)) (f : ℕ) (line : List ℕ) (fault : Fault) → fault ≡ NoMemory → RanLines gives s s a a f f (line ∷ []) (line ∷ []) (Err fault)
+unstored_line gives s a f line fault is = inl (is, record { run = []; line = line; more = []; split = refl; ran = ran_none gives s a }, refl)
+
+-- it was run as it came, since nothing of it was kept before
+pub whole_line : {S : Type 0} (gives : S → List Word → Answer → S → Type 0) (old new : S) (a b : Option (List ℕ)) (f g : ℕ) (front bytes pending line : List ℕ) (r : Result (Unit {0}) Fault)
+    → pending ≡ kept front → pending ≡ [] → line ≡ without_return bytes → RanLine gives old new a b line r → IfErr r (λ fault. fault ≡ WriteFault) → g ≡ f + failures_of r
+    → RanLines gives old new a b f g (without_return (front ++ bytes) ∷ []) (without_return (front ++ bytes) ∷ []) r
+whole_line gives old new a b f g front bytes pending line r is none e h w n =
+    let blank : front ≡ [] = take_none MOST_KEPT_BYTES front (omega arith) (sym is ∙ none) in
+    let same : line ≡ without_return (front ++ bytes) = e ∙ ap (λ v. without_return (v ++ bytes)) (sym blank) in
+    one_line gives old new a b f g (without_return (front ++ bytes)) r (subst (λ l. RanLine gives old new a b l r) same h) w n
+
+-- it was run as what is kept of it
+pub kept_line : {S : Type 0} (gives : S → List Word → Answer → S → Type 0) (old new : S) (a b : Option (List ℕ)) (f g : ℕ) (front bytes before pending line : List ℕ) (r : Result (Unit {0}) Fault)
+    → before ≡ kept front → pending ≡ kept (before ++ bytes) → line ≡ without_return pending → RanLine gives old new a b line r → IfErr r (λ fault. fault ≡ WriteFault) → g ≡ f + failures_of r
+    → RanLines gives old new a b f g (without_return (front ++ bytes) ∷ []) (without_return (front ++ bytes) ∷ []) r
+kept_line gives old new a b f g front bytes before pending line r is k e h w n =
+    let all : pending ≡ kept (front ++ bytes) = k ∙ ap (λ v. kept (v ++ bytes)) is ∙ kept_longer front bytes in
+    one_line gives old new a b f g (without_return (front ++ bytes)) r (line_kept gives old new a b (front ++ bytes) r (subst (λ l. RanLine gives old new a b l r) (e ∙ ap without_return all) h)) w n
 
 -- a byte of a line could not be stored: a line begins after those that were run
 lines_some : (rest : List ℕ) → rest ≢ [] → (line : List ℕ) × (more : List (List ℕ)) × (lines_of rest ≡ line ∷ more)
@@ -282,6 +313,56 @@ kept_front old new p xs i n e h k =
     h ∙ ap (λ m. kept (old ++ take m (drop i xs))) count ∙ ap (λ v. kept (v ++ front)) k ∙ kept_longer before front
     ∙ ap kept (sym (ap rest_of (bytes_front p xs i n e) ∙ rest_front (p ++ take i xs) (drop i xs)))
 
+-- a newline completes the line that goes on with them
+pub complete_line : (p xs : List ℕ) (i n : ℕ) → n ≡ line_at xs i → i + n < length xs
+    → complete_of (p ++ take (i + n + 1) xs) ≡ complete_of (p ++ take i xs) ++ without_return (rest_of (p ++ take i xs) ++ take (i + n - i) (drop i xs)) ∷ []
+complete_line p xs i n e more =
+    let count : i + n - i ≡ line_at xs i = omega (arith, e) in
+    let before = p ++ take i xs in
+    let left = drop i xs in
+    let front = take (line_at xs i) left in
+    ap complete_of (bytes_newline p xs (i + n) more (newline_at xs i n e more)) ∙ complete_newline (p ++ take (i + n) xs)
+    ∙ ap (λ v. complete_of v ++ without_return (rest_of v) ∷ []) (bytes_front p xs i n e)
+    ∙ ap (λ v. v ++ without_return (rest_of (before ++ front)) ∷ []) (complete_front before left)
+    ∙ ap (λ v. complete_of before ++ without_return v ∷ []) (rest_front before left)
+    ∙ ap (λ m. complete_of before ++ without_return (rest_of before ++ take m left) ∷ []) (sym count)
+
+pub ran_more : {S : Type 0} (gives : S → List Word → Answer → S → Type 0) (old mid new : S) (a b c : Option (List ℕ)) (p xs : List ℕ) (i n : ℕ) → n ≡ line_at xs i → i + n < length xs
+    → Ran gives old mid a b (complete_of (p ++ take i xs)) → Ran gives mid new b c (without_return (rest_of (p ++ take i xs) ++ take (i + n - i) (drop i xs)) ∷ [])
+    → Ran gives old new a c (complete_of (p ++ take (i + n + 1) xs))
+ran_more gives old mid new a b c p xs i n e more h k =
+    subst (λ v. Ran gives old new a c v) (sym (complete_line p xs i n e more))
+    (ran_then gives old mid new a b c (complete_of (p ++ take i xs)) (without_return (rest_of (p ++ take i xs) ++ take (i + n - i) (drop i xs)) ∷ []) h k)
+
+pub stopped_lines : {S : Type 0} (gives : S → List Word → Answer → S → Type 0) (old mid new : S) (a b c : Option (List ℕ)) (e f g : ℕ) (p xs : List ℕ) (i n : ℕ) (fault : Fault) → n ≡ line_at xs i → i + n < length xs
+    → Ran gives old mid a b (complete_of (p ++ take i xs)) → f ≡ e
+    → (let line = without_return (rest_of (p ++ take i xs) ++ take (i + n - i) (drop i xs)) in RanLines gives mid new b c f g (line ∷ []) (line ∷ []) (Err fault))
+    → RanLines gives old new a c e g (complete_of (p ++ xs)) (lines_of (p ++ xs)) (Err fault)
+stopped_lines gives old mid new a b c e f g p xs i n fault at more h same k =
+    let here = complete_line p xs i n at more in
+    let begun = p ++ take (i + n + 1) xs in
+    let left = drop (i + n + 1) xs in
+    let done = complete_of (p ++ take i xs) in
+    let line = without_return (rest_of (p ++ take i xs) ++ take (i + n - i) (drop i xs)) in
+    let next = complete_of (rest_of begun ++ left) in
+    let others = lines_of (rest_of begun ++ left) in
+    let ran = lines_longer gives old new a c e g (done ++ line ∷ []) (done ++ line ∷ []) next others fault (lines_then gives old mid new a b c e f g done (line ∷ []) (line ∷ []) (Err fault) h same k) in
+    let complete : complete_of (p ++ xs) ≡ (done ++ line ∷ []) ++ next = ap complete_of (bytes_all p xs (i + n + 1)) ∙ complete_append begun left ∙ ap (λ v. v ++ next) here in
+    let lines : lines_of (p ++ xs) ≡ (done ++ line ∷ []) ++ others = ap lines_of (bytes_all p xs (i + n + 1)) ∙ lines_append begun left ∙ ap (λ v. v ++ others) here in
+    subst (λ v. RanLines gives old new a c e g v (lines_of (p ++ xs)) (Err fault)) (sym complete) (subst (λ v. RanLines gives old new a c e g ((done ++ line ∷ []) ++ next) v (Err fault)) (sym lines) ran)
+
+-- the piece ends, and what is left of it is kept
+pub kept_lines : {S : Type 0} (gives : S → List Word → Answer → S → Type 0) (old new : S) (a b : Option (List ℕ)) (f g : ℕ) (p xs : List ℕ) (i n : ℕ) (r : Result (Unit {0}) Fault) → n ≡ line_at xs i → i + n ≡ length xs → i < length xs
+    → IfErr r (λ fault. fault ≡ NoMemory) → Ran gives old new a b (complete_of (p ++ take i xs)) → g ≡ f → RanLines gives old new a b f g (complete_of (p ++ xs)) (lines_of (p ++ xs)) r
+kept_lines gives old new a b f g p xs i n (Ok x) e all some w h same =
+    (subst (λ v. Ran gives old new a b (complete_of (p ++ v))) (take_all (i + n) xs (omega (arith, all))) (ran_front gives old new a b p xs i n e h), same)
+kept_lines gives old new a b f g p xs i n (Err x) e all some w h same = inl (w, front_unstored gives old new a b (p ++ take i xs) (p ++ xs) (drop i xs) h (bytes_all p xs i) (drop_some xs i some), same)
+
+pub kept_rest : (old new p xs : List ℕ) (i n : ℕ) (r : Result (Unit {0}) Fault) → n ≡ line_at xs i → i + n ≡ length xs → OnOk r (new ≡ kept (old ++ take (i + n - i) (drop i xs)))
+    → old ≡ kept (rest_of (p ++ take i xs)) → OnOk r (new ≡ kept (rest_of (p ++ xs)))
+kept_rest old new p xs i n (Ok x) e all h k = kept_front old new p xs i n e h k ∙ ap (λ v. kept (rest_of (p ++ v))) (take_all (i + n) xs (omega (arith, all)))
+kept_rest old new p xs i n (Err x) e all h k = tt
+
 -- nothing is kept after a newline
 pub kept_newline : (xs ys : List ℕ) → ys ≡ xs ++ 10 ∷ [] → [] ≡ kept (rest_of ys)
 kept_newline xs ys f = ap kept (sym (ap rest_of f ∙ rest_newline xs))
@@ -305,9 +386,13 @@ unreadable_text line n = go (nat_le (length line) MOST_LINE_BYTES) (is_utf8 line
 -- the last line of a script was run
 pub ran_last : {S : Type 0} (gives : S → List Word → Answer → S → Type 0) (old new : S) (a b : Option (List ℕ)) (f g : ℕ) (rest : List ℕ) (r : Result (Unit {0}) Fault)
     → RanLine gives old new a b (kept rest) r → kept rest ≢ [] → IfErr r (λ fault. fault ≡ WriteFault) → g ≡ f + failures_of r → RanLines gives old new a b f g (last_of rest) (last_of rest) r
-ran_last gives old new a b f g rest (Ok x) h n w e = rw (last_some rest n) (ran_line gives old new a b rest (last_kept gives old new a b rest (Ok x) h), omega arith)
-ran_last gives old new a b f g rest (Err x) h n w e = rw (last_some rest n) (inr (w, unwritten_line gives old new a b rest x (last_kept gives old new a b rest (Err x) h), e))
+ran_last gives old new a b f g rest r h n w e = rw (last_some rest n) (one_line gives old new a b f g rest r (last_kept gives old new a b rest r h) w e)
 
 pub length_none : (bytes : List ℕ) → length bytes ≡ 0 → bytes ≡ []
 length_none [] e = refl
 length_none (c ∷ bytes) e = absurd (omega arith)
+
+-- what holds anyway holds of a success
+pub on_any : (r : Result (Unit {0}) Fault) (P : Type 0) → P → OnOk r P
+on_any (Ok x) P h = h
+on_any (Err x) P h = tt

@@ -8,7 +8,7 @@ ghost use Rattle.rt_script.specs.Pieces.{is_inner, kept, RanLine, RanLines};
 ghost use Rattle.rt_script.specs.Replies.{reply_line};
 ghost use Rattle.rt_script.specs.Run.{LineGives, Ends};
 
-use crate::reply::reply_line;
+use crate::reply::{push_bare, reply_line};
 use crate::{Answer, Commands};
 use rt_stamps::limits::{MOST_BYTES, MOST_LINE_BYTES, MOST_READS, PIECE_BYTES};
 use rt_stamps::std_ends::{Count, Writer};
@@ -142,21 +142,21 @@ fn answer_line<C: Commands>(
 
 // The line of an answer, in memory that has no byte yet.
 fn rendered<A: Ledger, B: Ledger>(
-    empty: Vec<u8>,
+    mut line: Vec<u8>,
     answer: &Answer,
     writes: Blank,
     failures: Blank,
 ) -> Option<Vec<u8>>
-    requires empty { empty.items ≡ [] }
+    requires empty { line.items ≡ [] }
     requires writes { (writes.name ≡ A.name) × (writes.parts ≡ A.parts) × (0 < A.parts) }
     requires failures { (failures.name ≡ B.name) × (failures.parts ≡ B.parts) × (0 < B.parts) }
     ensures { IfSome result (λ line. line.items ≡ reply_line answer.now) }
 {
-    let mut line = Writer::new(
-        empty,
-        Count::<A>::begin(writes),
-        Count::<B>::begin(failures),
-    );
+    if push_bare(answer, &mut line).is_some() {
+        return Some(line);
+    }
+    line.clear();
+    let mut line = Writer::new(line, Count::<A>::begin(writes), Count::<B>::begin(failures));
     match reply_line(answer, &mut line) {
         Ok(()) => Some(line.into_inner()),
         Err(_) => None,
@@ -221,6 +221,30 @@ fn keep(pending: &mut Vec<u8>, bytes: &[u8]) -> Result<(), Fault>
     Ok(())
 }
 
+// Runs the line that some bytes end. What is pending was kept of its front, if it has one before them.
+fn end_line<C: Commands, W: Sink>(
+    alloc: Global,
+    memory: &mut Memory,
+    site: &mut C,
+    pending: &mut Vec<u8>,
+    bytes: &[u8],
+    out: &mut W,
+) -> Result<(), Fault>
+    requires { length pending.old.items ≤ MOST_KEPT_BYTES }
+    ensures ran { (front : List ℕ) → pending.old.items ≡ kept front → let line = without_return (front ++ bytes.now) in
+        RanLines C.gives (C.state site.old) (C.state site.new) (W.contents out.old) (W.contents out.new) (W.failures out.old)
+        (W.failures out.new) (line ∷ []) (line ∷ []) result }
+    ensures rest { OnOk result (pending.new.items ≡ []) }
+{
+    if pending.is_empty() {
+        return run_line(alloc, memory, site, without_return(bytes), out);
+    }
+    keep(pending, bytes)?;
+    run_line(alloc, memory, site, without_return(pending), out)?;
+    pending.clear();
+    Ok(())
+}
+
 // Runs the lines that a piece of the script completes. What is pending was kept of the line that
 // the piece goes on with.
 fn feed<C: Commands, W: Sink>(
@@ -241,12 +265,10 @@ fn feed<C: Commands, W: Sink>(
     let mut start = 0;
     while start < piece.len() {
         let end = start + line_len(&piece[start..]);
-        keep(pending, &piece[start..end])?;
         if end == piece.len() {
-            return Ok(());
+            return keep(pending, &piece[start..end]);
         }
-        run_line(alloc, memory, site, without_return(pending), out)?;
-        pending.clear();
+        end_line(alloc, memory, site, pending, &piece[start..end], out)?;
         start = end + 1;
     }
     Ok(())

@@ -1,9 +1,10 @@
 // The lines of answers, written.
-ghost use Rattle.std.specs.Prelude.{◌≡◌, ◌+◌, ◌<◌, ◌∷◌, ◌++◌, [], IfErr, codes, flat_map, string_bytes};
+ghost use Rattle.std.specs.Prelude.{◌≡◌, ◌+◌, ◌<◌, ◌∷◌, ◌++◌, [], IfErr, IfSome, codes, flat_map, string_bytes};
 ghost use Rattle.std.specs.Fmt.{decimal};
+ghost use Rattle.std.specs.List.{list_any};
 ghost use Rattle.rt_show.specs.Shown.{spaced};
 ghost use Rattle.rt_stamps.specs.Source.{failures_of};
-ghost use Rattle.rt_stamps.specs.Words.{text_of_word};
+ghost use Rattle.rt_stamps.specs.Words.{needs_quotes, text_of_word};
 ghost use Rattle.rt_stamps.specs.Written.{Wrote};
 ghost use Rattle.rt_script.specs.Replies.{text_of_answer, text_of_received, text_of_refusal, reply_line};
 
@@ -120,4 +121,58 @@ fn write_spaced<W: Sink>(word: &str, out: &mut W) -> Result<(), Fault>
 {
     write_all(out, b" ")?;
     write_word(word, out)
+}
+
+// Puts the line of an answer behind bytes: of a reply whose words are written bare, where there is memory for them.
+pub(crate) fn push_bare(answer: &Answer, line: &mut Vec<u8>) -> Option<()>
+    ensures { IfSome result (λ _. line.new.items ≡ line.old.items ++ reply_line answer.now) }
+{
+    match answer {
+        Answer::Replied(reply) => push_reply(&reply.words, line),
+        _ => None,
+    }
+}
+
+fn push_reply(words: &[String], line: &mut Vec<u8>) -> Option<()>
+    ensures { IfSome result (λ _. line.new.items ≡ line.old.items ++ ((61 ∷ flat_map (λ w. 32 ∷ text_of_word (string_bytes w)) words.now) ++ (10 ∷ []))) }
+{
+    line.push(b'=').ok()?;
+    push_words(words, line)?;
+    line.push(b'\n').ok()
+}
+
+fn push_words(words: &[String], line: &mut Vec<u8>) -> Option<()>
+    ensures { IfSome result (λ _. line.new.items ≡ line.old.items ++ flat_map (λ w. 32 ∷ text_of_word (string_bytes w)) words.now) }
+{
+    for word in words {
+        push_word(word, line)?;
+    }
+    Some(())
+}
+
+fn push_word(word: &str, line: &mut Vec<u8>) -> Option<()>
+    ensures { IfSome result (λ _. line.new.items ≡ line.old.items ++ (32 ∷ text_of_word word.now)) }
+{
+    let bytes = word.as_bytes();
+    if bytes.is_empty() || has_quoted(bytes) {
+        return None;
+    }
+    line.push(b' ').ok()?;
+    line.extend_from_slice(bytes).ok()
+}
+
+// Whether a word that isn't empty is written in quotes.
+fn has_quoted(word: &[u8]) -> bool
+    ensures { result ≡ list_any needs_quotes word.now }
+{
+    word.iter().any(|byte| needs_quotes(*byte))
+}
+
+fn needs_quotes(byte: u8) -> bool
+    ensures { result ≡ needs_quotes byte }
+{
+    matches!(
+        byte,
+        b' ' | b'\t' | b'\n' | b'\r' | b'"' | b'\\' | b'{' | b'}'
+    )
 }
