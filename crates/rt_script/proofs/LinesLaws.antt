@@ -1,8 +1,10 @@
 -- The lines of a script that goes on.
-use Rattle.std.proofs.Common.{◌≡◌, ◌≢◌, ℕ, ◌+◌, suc, arith, take, append_assoc, append-nil, List, [], ◌∷◌, ◌++◌, Bool, true, false, cond, refl, sym, ◌∙◌, ap, ne_eqb, eqb, map}
+use Rattle.std.proofs.Common.{◌≡◌, ◌≢◌, ℕ, ◌+◌, ◌==◌, suc, not, length, get_or, arith, take, append_assoc, append-nil, List, [], ◌∷◌, ◌++◌, Bool, true, false, cond, refl, sym, ◌∙◌, ap, ne_eqb, eqb, map}
 use Rattle.std.proofs.lemmas.List.{map-append}
 use Rattle.std.specs.List.{prefix_len}
 use Rattle.std.proofs.lemmas.Bool.{false≢true}
+use Rattle.std.proofs.lemmas.List.Sums.{prefix_len_is}
+use Rattle.memchr.specs.Find.{NoneBefore, Nowhere, Passes, is_byte}
 use Rattle.rt_stamps.specs.Lines.{cut, before_all, without_return, complete_of, rest_of}
 use Rattle.rt_script.specs.Pieces.{is_inner}
 
@@ -141,3 +143,14 @@ pub without_return_other : (line : List ℕ) → ((front : List ℕ) → line �
 without_return_other [] h = refl
 without_return_other (c ∷ []) h = one_other c (λ e. h [] (ap (λ b. b ∷ []) e))
 without_return_other (c ∷ d ∷ line) h = ap (λ l. c ∷ l) (without_return_other (d ∷ line) (λ front e. h (c ∷ front) (ap (λ l. c ∷ l) e)))
+
+-- where a search finds the first newline
+inner_other : (b : Bool) → (b ≡ true → ⊥) → not b ≡ true
+inner_other true h = absurd (h refl)
+inner_other false h = refl
+
+pub newline_first : (xs : List ℕ) (k : ℕ) → NoneBefore (Passes (is_byte 10) xs) 0 (length xs) k × Passes (is_byte 10) xs k → k ≡ prefix_len is_inner xs
+newline_first xs k h = sym (prefix_len_is is_inner xs k 0 (omega (arith, h.0.high)) (λ j below. inner_other (get_or xs j 0 == 10) (h.0.before j (omega arith) below)) (λ more. ap not h.1))
+
+pub newline_nowhere : (xs : List ℕ) → Nowhere (Passes (is_byte 10) xs) 0 (length xs) → length xs ≡ prefix_len is_inner xs
+newline_nowhere xs h = sym (prefix_len_is is_inner xs (length xs) 0 (omega arith) (λ j below. inner_other (get_or xs j 0 == 10) (h j (omega arith) below)) (λ more. absurd (omega (arith, more))))

@@ -10,6 +10,7 @@ ghost use Rattle.rt_script.specs.Run.{LineGives, Ends};
 
 use crate::reply::{push_bare, reply_line};
 use crate::{Answer, Commands};
+use memchr::memchr;
 use rt_stamps::limits::{MOST_BYTES, MOST_LINE_BYTES, MOST_READS, PIECE_BYTES};
 use rt_stamps::std_ends::{Count, Writer};
 use rt_stamps::{Fault, Sink, Source, is_blank, read_piece, write_all};
@@ -207,7 +208,10 @@ fn run_line<C: Commands, W: Sink>(
 fn line_len(bytes: &[u8]) -> usize
     ensures { result ≡ prefix_len is_inner bytes.now }
 {
-    bytes.iter().take_while(|byte| **byte != b'\n').count()
+    match memchr(b'\n', bytes) {
+        Some(len) => len,
+        None => bytes.len(),
+    }
 }
 
 // Keeps bytes of a line that isn't complete, as far as the line isn't too long already.

@@ -168,11 +168,13 @@ fn has_quoted(word: &[u8]) -> bool
     word.iter().any(|byte| needs_quotes(*byte))
 }
 
+// Most letters and all digits lie between the quote and the backslash.
 fn needs_quotes(byte: u8) -> bool
     ensures { result ≡ needs_quotes byte }
 {
-    matches!(
-        byte,
-        b' ' | b'\t' | b'\n' | b'\r' | b'"' | b'\\' | b'{' | b'}'
-    )
+    (byte <= b'"' || byte >= b'\\')
+        && matches!(
+            byte,
+            b' ' | b'\t' | b'\n' | b'\r' | b'"' | b'\\' | b'{' | b'}'
+        )
 }
