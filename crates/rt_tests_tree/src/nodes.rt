@@ -28,23 +28,33 @@ fn is<const CAP: usize>(
     *mem.head(id) == header && mem.len(id) == place
 }
 
-#[test]
-fn the_listed_example(rt: HostRuntime) -> Result<(), Fault> {
-    let mut mem: NodeMem<char, char, 4> = NodeMem::new(rt.alloc());
+// How many nodes the listed calls make, and whether both are as listed after each step.
+fn listed(alloc: Global) -> Result<(usize, bool, bool, bool), Fault> {
+    let mut mem: NodeMem<char, char, 4> = NodeMem::new(alloc);
     mem.reserve(2)?;
     let a = mem.make('a');
     let b = mem.make('b');
-    assert_eq!(rt; mem.nodes(), 2);
+    let nodes = mem.nodes();
     mem.insert_at(a, 0, 'x');
     mem.insert_at(a, 1, 'y');
     mem.insert_at(b, 0, 'z');
     mem.move_tail(a, 1, b);
-    assert!(rt; is(&mem, a, 'a', "x") && is(&mem, b, 'b', "zy"));
+    let moved = is(&mem, a, 'a', "x") && is(&mem, b, 'b', "zy");
     mem.insert_at(a, 0, 'w');
-    assert!(rt; is(&mem, a, 'a', "wx") && is(&mem, b, 'b', "zy"));
+    let inserted = is(&mem, a, 'a', "wx") && is(&mem, b, 'b', "zy");
     *mem.head_mut(b) = 'c';
     *mem.entry_mut(b, 1) = 'v';
-    assert!(rt; is(&mem, a, 'a', "wx") && is(&mem, b, 'c', "zv"));
+    let changed = is(&mem, a, 'a', "wx") && is(&mem, b, 'c', "zv");
+    Ok((nodes, moved, inserted, changed))
+}
+
+#[test]
+fn the_listed_example(rt: HostRuntime) -> Result<(), Fault> {
+    let (nodes, moved, inserted, changed) = listed(rt.alloc())?;
+    assert_eq!(rt; nodes, 2);
+    assert!(rt; moved);
+    assert!(rt; inserted);
+    assert!(rt; changed);
     Ok(())
 }
 
@@ -66,12 +76,18 @@ fn entries_of_no_bytes_and_nodes_of_no_room(rt: HostRuntime) -> Result<(), Fault
     Ok(())
 }
 
-// Each clone counts: the count falls by one where one is dropped.
-#[test]
-fn drops_headers_and_entries_once(rt: HostRuntime) -> Result<(), Fault> {
-    let header = Rc::new(rt.alloc(), 0)?;
-    let entry = Rc::new(rt.alloc(), 0)?;
-    let mut mem: NodeMem<Rc<u32>, Rc<u32>, 4> = NodeMem::new(rt.alloc());
+// The counts of a header and of an entry.
+fn counts(header: &Rc<u32>, entry: &Rc<u32>) -> (usize, usize) {
+    (Rc::strong_count(header), Rc::strong_count(entry))
+}
+
+// Puts clones in a memory, and then others in place of two of them: the counts after each.
+fn counts_in(
+    mem: &mut NodeMem<Rc<u32>, Rc<u32>, 4>,
+    header: &Rc<u32>,
+    entry: &Rc<u32>,
+    alloc: Global,
+) -> Result<((usize, usize), (usize, usize)), Fault> {
     mem.reserve(3)?;
     let a = mem.make(header.clone()?);
     let b = mem.make(header.clone()?);
@@ -80,13 +96,24 @@ fn drops_headers_and_entries_once(rt: HostRuntime) -> Result<(), Fault> {
     mem.insert_at(a, 1, entry.clone()?);
     mem.move_tail(a, 1, b);
     mem.reserve(8)?;
-    assert_eq!(rt; Rc::strong_count(&header), 3);
-    assert_eq!(rt; Rc::strong_count(&entry), 4);
-    *mem.head_mut(a) = Rc::new(rt.alloc(), 1)?;
-    *mem.entry_mut(b, 1) = Rc::new(rt.alloc(), 1)?;
-    assert_eq!(rt; Rc::strong_count(&header), 2);
-    assert_eq!(rt; Rc::strong_count(&entry), 3);
+    let filled = counts(header, entry);
+    *mem.head_mut(a) = Rc::new(alloc, 1)?;
+    *mem.entry_mut(b, 1) = Rc::new(alloc, 1)?;
+    Ok((filled, counts(header, entry)))
+}
+
+// Each clone counts: the count falls by one where one is dropped.
+#[test]
+fn drops_headers_and_entries_once(rt: HostRuntime) -> Result<(), Fault> {
+    let header = Rc::new(rt.alloc(), 0)?;
+    let entry = Rc::new(rt.alloc(), 0)?;
+    let mut mem: NodeMem<Rc<u32>, Rc<u32>, 4> = NodeMem::new(rt.alloc());
+    let (filled, changed) = counts_in(&mut mem, &header, &entry, rt.alloc())?;
     drop(mem);
+    assert_eq!(rt; filled.0, 3);
+    assert_eq!(rt; filled.1, 4);
+    assert_eq!(rt; changed.0, 2);
+    assert_eq!(rt; changed.1, 3);
     assert_eq!(rt; Rc::strong_count(&header), 1);
     assert_eq!(rt; Rc::strong_count(&entry), 1);
     Ok(())
@@ -174,6 +201,64 @@ impl Both {
         Ok(())
     }
 
+    fn set_header(&mut self, a: NodeId, value: u64) -> Result<(), Fault> {
+        if a.index >= self.made {
+            return Err(Fault::BadIndex);
+        }
+        *self.mem.head_mut(a) = value;
+        node_of(&mut self.map, a)?.header = value;
+        Ok(())
+    }
+
+    fn set_entry(&mut self, a: NodeId, place: usize, value: u64) -> Result<(), Fault> {
+        if a.index >= self.made || place >= self.mem.len(a) {
+            return Err(Fault::BadIndex);
+        }
+        *self.mem.entry_mut(a, place) = value;
+        if let Some(entry) = node_of(&mut self.map, a)?.entries.get_mut(place) {
+            *entry = value;
+        }
+        Ok(())
+    }
+
+    // Moves what stands from a place on, where it has room.
+    fn move_tail(&mut self, a: NodeId, kept: usize, b: NodeId) -> Result<(), Fault> {
+        if a.index >= self.made || b.index >= self.made || a.index == b.index {
+            return Err(Fault::BadIndex);
+        }
+        let long = self.mem.len(a);
+        if kept > long {
+            return Err(Fault::BadIndex);
+        }
+        if self.mem.len(b) + (long - kept) <= 4 {
+            self.mem.move_tail(a, kept, b);
+            return self.move_in_map(a, kept, b);
+        }
+        Ok(())
+    }
+
+    fn move_in_map(&mut self, a: NodeId, kept: usize, b: NodeId) -> Result<(), Fault> {
+        let mut tail = Vec::new(self.alloc);
+        for entry in node_of(&mut self.map, a)?.entries.iter().skip(kept) {
+            tail.push(*entry)?;
+        }
+        node_of(&mut self.map, a)?.entries.truncate(kept);
+        node_of(&mut self.map, b)?.entries.append(&mut tail)?;
+        Ok(())
+    }
+
+    fn insert(&mut self, a: NodeId, place: usize, value: u64) -> Result<(), Fault> {
+        if a.index >= self.made || self.mem.len(a) >= 4 || place > self.mem.len(a) {
+            return Err(Fault::BadIndex);
+        }
+        self.mem.insert_at(a, place, value);
+        let entries = &mut node_of(&mut self.map, a)?.entries;
+        if place <= entries.len() {
+            entries.insert(place, value)?;
+        }
+        Ok(())
+    }
+
     // One call that looks random, on nodes that are there.
     fn call(&mut self, dice: &mut Dice) -> Result<(), Fault> {
         let value = dice.throw(1000);
@@ -188,40 +273,12 @@ impl Both {
         };
         let long = self.mem.len(a);
         match dice.throw(5) {
-            0 => {
-                *self.mem.head_mut(a) = value;
-                node_of(&mut self.map, a)?.header = value;
-            }
-            1 if long > 0 => {
-                let place = dice.place(long);
-                *self.mem.entry_mut(a, place) = value;
-                if let Some(entry) = node_of(&mut self.map, a)?.entries.get_mut(place) {
-                    *entry = value;
-                }
-            }
-            2 if a.index != b.index => {
-                let kept = dice.place(long + 1);
-                if self.mem.len(b) + (long - kept) <= 4 {
-                    self.mem.move_tail(a, kept, b);
-                    let mut tail = Vec::new(self.alloc);
-                    for entry in node_of(&mut self.map, a)?.entries.iter().skip(kept) {
-                        tail.push(*entry)?;
-                    }
-                    node_of(&mut self.map, a)?.entries.truncate(kept);
-                    node_of(&mut self.map, b)?.entries.append(&mut tail)?;
-                }
-            }
-            _ if long < 4 => {
-                let place = dice.place(long + 1);
-                self.mem.insert_at(a, place, value);
-                let entries = &mut node_of(&mut self.map, a)?.entries;
-                if place <= entries.len() {
-                    entries.insert(place, value)?;
-                }
-            }
-            _ => {}
+            0 => self.set_header(a, value),
+            1 if long > 0 => self.set_entry(a, dice.place(long), value),
+            2 if a.index != b.index => self.move_tail(a, dice.place(long + 1), b),
+            _ if long < 4 => self.insert(a, dice.place(long + 1), value),
+            _ => Ok(()),
         }
-        Ok(())
     }
 
     // Whether the memory is the map.
