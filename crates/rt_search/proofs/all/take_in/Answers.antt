@@ -1,4 +1,5 @@
 use Rattle.std.proofs.Common.{◌≡◌, ◌+◌, ◌-◌, ◌<◌, ◌≤◌, ◌∷◌, ◌++◌, [], ℕ, List, Bool, length, refl, sym, ap, subst, ◌∙◌, arith, true, false}
+use Rattle.std.proofs.lemmas.Result.{err_from_is_err_and}
 use Rattle.rt_store.specs.Cells.{text_of}
 use Rattle.rt_search.specs.Ends.{EndsDecide}
 use Rattle.rt_search.specs.Searches.{is_match, is_taken, ordered_places}
@@ -82,3 +83,13 @@ returns-clause-ok g c =
 pub returns-clause-before : goal.returns-clause-before
 returns-clause-before g c =
     taking_first c.args.search.direction c.args.stretch (length c.args.pattern.now) c.args.taken.now.items c.loop-index.index c.loop-index.taken.items c.loop-index.invariant.taking
+
+pub returns-in_err-push-clause-ok : goal.returns-in_err-push-clause-ok
+returns-in_err-push-clause-ok g c =
+    let (y, is, gives) = err_from_is_err_and c.from_residual.result c.from_residual.ensures.1 in
+    rw is tt
+
+pub returns-in_err-push-clause-err : goal.returns-in_err-push-clause-err
+returns-in_err-push-clause-err g c =
+    let (y, is, gives) = err_from_is_err_and c.from_residual.result c.from_residual.ensures.1 in
+    rw (is, gives) refl

@@ -1,4 +1,5 @@
-use Rattle.std.proofs.Common.{◌≡◌, ◌<◌, ◌≤◌, length, Some, ◌-◌, refl, sym, ap, ◌∙◌, arith, true}
+use Rattle.std.proofs.Common.{◌≡◌, ◌<◌, ◌≤◌, length, Some, ◌-◌, refl, sym, ap, ◌∙◌, arith, false, true}
+use Rattle.std.proofs.lemmas.List.Elements.{filter_more}
 use Rattle.rt_store.specs.Cells.{text_of}
 use Rattle.rt_search.specs.Searches.{is_match, ordered_places}
 use Rattle.rt_search.proofs.Finding.{found, found_none, length_text, tested}
@@ -28,3 +29,20 @@ returns g c =
     let many : length places ≡ c.args.stretch.to - c.args.stretch.from = length_ordered c.args.search.direction c.args.stretch in
     let over : length places ≤ c.loop-index.index = omega arith in
     sym (found_none (is_match c.args.search c.args.pattern.now text c.args.stretch) places c.loop-index.index over c.loop-index.invariant.none)
+
+pub loop-index-preserved : goal.loop-index-preserved
+loop-index-preserved g c =
+    let text = text_of (g.S.TextStore.list c.args.store.now) in
+    let test = is_match c.args.search c.args.pattern.now text c.args.stretch in
+    let places = ordered_places c.args.search.direction c.args.stretch in
+    let index = c.loop-index.index in
+    let many : length places ≡ c.args.stretch.to - c.args.stretch.from = length_ordered c.args.search.direction c.args.stretch in
+    let within : index < length places = omega arith in
+    let below : c.args.stretch.to ≤ c.visible.result = omega arith in
+    let no : test c.nth-place.result ≡ false =
+    tested c.args.search c.args.pattern.now text c.args.stretch c.nth-place.result c.last_end-end.result c.visible.result c.is_match.result false
+    c.nth-place.ensures.to below (length_text (g.S.TextStore.list c.args.store.now) c.visible.result c.visible.ensures) c.last_end-end.ensures.first c.last_end-end.ensures.strict c.is_match.ensures.value c.if-is_match.false in
+    record {
+      reads = c.is_match.ensures.reads;
+      none = rw (filter_more test places index c.nth-place.result within, ← c.nth-place.ensures.place, no, c.loop-index.invariant.none) refl;
+    }
