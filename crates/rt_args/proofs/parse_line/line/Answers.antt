@@ -1,4 +1,5 @@
 use Rattle.std.proofs.Common.{◌≡◌, ◌∙◌, ap, subst, sym, refl, map, true, []}
+use Rattle.std.proofs.lemmas.Result.{err_from_is_err_and}
 use Rattle.clap.specs.Kinds.{HasKind}
 use Rattle.clap.specs.Words.{fault_of, is_simple, is_simple_and_free, subcommand_of}
 use Rattle.clap.proofs.OnLiterals.{clap_on_literals}
@@ -36,3 +37,18 @@ returns-clause-takes c =
     let app_is = c.in_ok-command.ensures.0 in
     let taken = subst (λ a. fault_of a words ≡ []) app_is (c.in_ok-matches.ensures.kinds (ap is_simple_and_free app_is ∙ is_free)) in
     if_ok (fault_of peertext words ≡ []) c.line_in.result taken
+
+pub returns-in_err-command : goal.returns-in_err-command
+returns-in_err-command c =
+    let (y, is, gives) = err_from_is_err_and c.from_residual.result c.from_residual.ensures.1 in
+    rw (is, gives) (record { line = tt; takes = tt; refuses = tt })
+
+pub returns-in_err-matches-clause-line : goal.returns-in_err-matches-clause-line
+returns-in_err-matches-clause-line c =
+    let (y, is, gives) = err_from_is_err_and c.from_residual-in_err-matches.result c.from_residual-in_err-matches.ensures.1 in
+    rw is tt
+
+pub returns-in_err-matches-clause-takes : goal.returns-in_err-matches-clause-takes
+returns-in_err-matches-clause-takes c =
+    let (y, is, gives) = err_from_is_err_and c.from_residual-in_err-matches.result c.from_residual-in_err-matches.ensures.1 in
+    rw is tt
