@@ -1,5 +1,6 @@
-use Rattle.std.proofs.Common.{◌≡◌, ◌≤◌, ◌<◌, ◌∙◌, ℕ, arith, ap, subst, inr, refl, length, get_or, max, cond, ◌==◌}
+use Rattle.std.proofs.Common.{◌≡◌, ◌≤◌, ◌<◌, ◌∙◌, ℕ, arith, ap, subst, inr, refl, length, get_or, max, cond, ◌==◌, inl}
 use Rattle.std.proofs.lemmas.List.{get_or_read, take_all}
+use Rattle.std.proofs.lemmas.Result.{err_from_is_err_and}
 use Rattle.rt_oplog.specs.Operations.{last_count}
 use Rattle.rt_oplog.specs.Ends.{end_in}
 use Rattle.rt_oplog.specs.Kept.{nothing, op_at, IsKept}
@@ -47,3 +48,8 @@ loop-place-preserved c =
 
 pub returns : goal.returns
 returns c = subst (λ xs. IsKept c.args.ops.now xs c.loop-place.ends.ends.items) (take_all _ _ (omega arith)) c.loop-place.invariant
+
+pub returns-in_err-reserve : goal.returns-in_err-reserve
+returns-in_err-reserve c =
+    let (y, is, gives) = err_from_is_err_and c.from_residual.result c.from_residual.ensures.1 in
+    rw (is, gives) (inl refl)

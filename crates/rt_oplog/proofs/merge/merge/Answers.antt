@@ -2,6 +2,7 @@ use Rattle.std.proofs.Common.{◌≡◌, ◌≤◌, ◌<◌, ◌⊎◌, ◌∙�
 use Rattle.std.specs.List.{AllByRecursion}
 use Rattle.rt_stamps.specs.Stamps.{is_before}
 use Rattle.rt_stamps.proofs.Writes.{slice_rest}
+use Rattle.std.proofs.lemmas.Result.{err_from_is_err_and}
 use Rattle.rt_oplog.specs.Operations.{stamp_of}
 use Rattle.rt_oplog.specs.Logs.{same_operation, IsFalling}
 use Rattle.rt_oplog.specs.Kept.{op_at, newest_first}
@@ -136,3 +137,28 @@ returns c =
     let places = rw (slice_rest j theirs, one) at c.in_ok-take_rest.ensures.order in
     let empty : (length mine ≤ i) ⊎ (length theirs ≤ j) = elim c.loop-left-test.branch [ then-loop-left-test+else-right-theirs w ↦ inr (omega arith) | else-loop-left-test w ↦ inl (omega arith) ] in
     rw (all, places) (ends c.args.ops.now.items c.args.more.now mine theirs c.loop-left.ops.items c.loop-left.more c.loop-left.order.items i j c.loop-left.invariant c.requires.mine empty)
+
+pub returns-in_err-push : goal.returns-in_err-push
+returns-in_err-push c =
+    let (y, is, gives) = err_from_is_err_and c.from_residual.result c.from_residual.ensures.1 in
+    rw (is, gives) (inl refl)
+
+pub returns-in_err-take_over : goal.returns-in_err-take_over
+returns-in_err-take_over c =
+    let (y, is, gives) = err_from_is_err_and c.from_residual-in_err-take_over.result c.from_residual-in_err-take_over.ensures.1 in
+    rw (is, gives) (inl c.in_err-take_over.ensures.fault)
+
+pub returns-in_err-push-2 : goal.returns-in_err-push-2
+returns-in_err-push-2 c =
+    let (y, is, gives) = err_from_is_err_and c.from_residual-in_err-push-2.result c.from_residual-in_err-push-2.ensures.1 in
+    rw (is, gives) (inl refl)
+
+pub returns-in_err-extend_from_slice : goal.returns-in_err-extend_from_slice
+returns-in_err-extend_from_slice c =
+    let (y, is, gives) = err_from_is_err_and c.from_residual-in_err-extend_from_slice.result c.from_residual-in_err-extend_from_slice.ensures.1 in
+    rw (is, gives) (inl refl)
+
+pub returns-in_err-take_rest : goal.returns-in_err-take_rest
+returns-in_err-take_rest c =
+    let (y, is, gives) = err_from_is_err_and c.from_residual-in_err-take_rest.result c.from_residual-in_err-take_rest.ensures.1 in
+    rw (is, gives) (inl c.in_err-take_rest.ensures.fault)

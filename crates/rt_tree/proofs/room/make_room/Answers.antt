@@ -1,8 +1,10 @@
-use Rattle.std.proofs.Common.{length, arith, ap, ◌∙◌}
+use Rattle.std.proofs.Common.{length, arith, ap, ◌∙◌, refl, ◌≡◌}
+use Rattle.std.proofs.lemmas.List.{length-drop, length-take}
+use Rattle.rt_nodes.specs.Nodes.{entries}
 use Rattle.rt_tree.specs.Changes.{bare}
 use Rattle.rt_tree.proofs.Around.{below_top}
 use Rattle.rt_tree.proofs.Fills.{filled_split}
-use Rattle.rt_tree.proofs.Rooms.{second_place, some_above}
+use Rattle.rt_tree.proofs.Rooms.{first_place, second_place, some_above}
 use Rattle.rt_tree.proofs.Spare.{spare_node}
 use Rattle.rt_tree.proofs.room.make_room.Goals as goal
 
@@ -51,3 +53,80 @@ returns-then-i-half-clause-room c = let hv = c.split-new.ensures.halves in omega
 
 pub returns-else-i-half-clause-room : goal.returns-else-i-half-clause-room
 returns-else-i-half-clause-room c = let hv = c.split-new.ensures.halves in omega (arith, c.make_way.ensures.room, c.split-new.ensures.room, hv.new, hv.longer)
+
+pub returns-then-len-lt16 : goal.returns-then-len-lt16
+returns-then-len-lt16 c = record {
+  tree = c.requires.tree;
+  exact = c.requires.exact;
+  filled = c.requires.filled;
+  runs = refl;
+  leaf = c.requires.leaf;
+  within = c.requires.within;
+  leaf_room = omega (arith, c.len.ensures.value, c.if-len-lt16.true);
+  place = refl;
+  room = refl;
+}
+
+pub returns-then-i-half-clause-tree : goal.returns-then-i-half-clause-tree
+returns-then-i-half-clause-tree c = c.split-new.ensures.tree
+
+pub returns-then-i-half-clause-exact : goal.returns-then-i-half-clause-exact
+returns-then-i-half-clause-exact c = c.split-new.ensures.exact
+
+pub returns-then-i-half-clause-runs : goal.returns-then-i-half-clause-runs
+returns-then-i-half-clause-runs c = c.split-new.ensures.runs ∙ c.make_way.ensures.runs
+
+pub returns-then-i-half-clause-leaf : goal.returns-then-i-half-clause-leaf
+returns-then-i-half-clause-leaf c =
+    let hv = c.split-new.ensures.halves in let lt = c.make_way.ensures.leaf in
+    (omega (arith, lt.0, hv.new, hv.longer), hv.levels c.args.leaf.index (omega (arith, lt.0, hv.new)) ∙ lt.1)
+
+pub returns-then-i-half-clause-within : goal.returns-then-i-half-clause-within
+returns-then-i-half-clause-within c = omega (arith, c.len-half.ensures.value, c.if-i-half.true)
+
+pub returns-then-i-half-clause-leaf_room : goal.returns-then-i-half-clause-leaf_room
+returns-then-i-half-clause-leaf_room c =
+    let e = c.make_way.ensures in
+    let full : length (entries c.make_way.new.mem c.args.leaf.index) ≡ 16 = ap length e.same ∙ omega (arith, c.len.ensures.value, c.len.ensures.fits) in
+    omega (arith, full, simp length-take at (ap length c.split-new.ensures.halves.first))
+
+pub returns-then-i-half-clause-place : goal.returns-then-i-half-clause-place
+returns-then-i-half-clause-place c =
+    let m1 = c.make_way.new.mem in let m2 = c.split-new.new.mem in
+    let x = c.args.leaf.index in let h = c.args.height in
+    let hv = c.split-new.ensures.halves in let st = c.split-new.ensures.still in
+    let lt = c.make_way.ensures.leaf in
+    let it = first_place m1 m2 h c.args.root.index x c.split-new.result.index c.split-new.ensures.tree c.split-new.ensures.exact (omega (arith, lt.0, hv.new, hv.longer)) lt.1 (hv.levels x (omega (arith, lt.0, hv.new)) ∙ lt.1) st in
+    omega (arith, it, ap length c.make_way.ensures.ahead)
+
+pub returns-else-i-half-clause-tree : goal.returns-else-i-half-clause-tree
+returns-else-i-half-clause-tree c = c.split-new.ensures.tree
+
+pub returns-else-i-half-clause-exact : goal.returns-else-i-half-clause-exact
+returns-else-i-half-clause-exact c = c.split-new.ensures.exact
+
+pub returns-else-i-half-clause-runs : goal.returns-else-i-half-clause-runs
+returns-else-i-half-clause-runs c = c.split-new.ensures.runs ∙ c.make_way.ensures.runs
+
+pub returns-else-i-half-clause-within : goal.returns-else-i-half-clause-within
+returns-else-i-half-clause-within c =
+    let e = c.make_way.ensures in
+    let hv = c.split-new.ensures.halves in
+    let same = ap length e.same in
+    let full : length (entries c.make_way.new.mem c.args.leaf.index) ≡ 16 = same ∙ omega (arith, c.len.ensures.value, c.len.ensures.fits) in
+    omega (arith, full, same, c.requires.within, c.len-half.ensures.value, simp length-take at (ap length hv.first), simp length-drop at (ap length hv.second))
+
+pub returns-else-i-half-clause-leaf_room : goal.returns-else-i-half-clause-leaf_room
+returns-else-i-half-clause-leaf_room c =
+    let e = c.make_way.ensures in
+    let full : length (entries c.make_way.new.mem c.args.leaf.index) ≡ 16 = ap length e.same ∙ omega (arith, c.len.ensures.value, c.len.ensures.fits) in
+    omega (arith, full, simp length-drop at (ap length c.split-new.ensures.halves.second))
+
+pub split-new-requires-clause-tree : goal.split-new-requires-clause-tree
+split-new-requires-clause-tree c = c.make_way.ensures.tree
+
+pub split-new-requires-clause-exact : goal.split-new-requires-clause-exact
+split-new-requires-clause-exact c = c.make_way.ensures.exact
+
+pub split-new-requires-clause-few : goal.split-new-requires-clause-few
+split-new-requires-clause-few c = rw c.make_way.ensures.runs c.requires.few
