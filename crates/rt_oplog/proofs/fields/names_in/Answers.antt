@@ -1,6 +1,7 @@
-use Rattle.std.proofs.Common.{map, string_bytes, Global, ◌∙◌}
+use Rattle.std.proofs.Common.{map, string_bytes, Global, ◌∙◌, arith}
 use Rattle.std.proofs.lemmas.List.{length-map}
 use Rattle.std.proofs.lemmas.Result.{err_from_is_err_and}
+use Rattle.std.proofs.lemmas.Grind.{common_steps}
 use Rattle.rt_oplog.proofs.Parts.{refused_as, names_end}
 use Rattle.rt_oplog.proofs.fields.names_in.Goals as goal
 
@@ -10,3 +11,6 @@ returns-in_err-tag c =
     let done = map (string_bytes {Z = Global}) c.loop.tags.items in
     rw (p.1, p.2) (refused_as c.in_err-tag.field-0.0 (names_end c.args.bytes.now c.loop.left.now done c.loop.counter c.args.count
     (length-map c.loop.tags.items (string_bytes {Z = Global}) ∙ c.loop.invariant.count) c.loop-test.true c.loop.invariant.bytes) c.in_err-tag.ensures)
+
+pub loop-preserved : goal.loop-preserved
+loop-preserved c = grind (arith, common_steps)

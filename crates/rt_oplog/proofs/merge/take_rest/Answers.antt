@@ -1,5 +1,6 @@
 use Rattle.std.proofs.Common.{◌≡◌, ◌+◌, ◌<◌, ◌++◌, ◌∷◌, [], ◌∙◌, ap, sym, refl, arith, length, map, take, get_or, append-nil, append_assoc, length-append, add-one}
 use Rattle.std.specs.List.{range_with_len}
+use Rattle.std.proofs.lemmas.List.{take_all}
 use Rattle.rt_oplog.specs.Kept.{op_at}
 use Rattle.rt_oplog.proofs.Kept.{rest_start, rest_first, rest_stays, row_step, row_length, range_last}
 use Rattle.std.proofs.lemmas.Result.{err_from_is_err_and}
@@ -39,3 +40,12 @@ pub returns-in_err-take_over : goal.returns-in_err-take_over
 returns-in_err-take_over c =
     let (y, is, gives) = err_from_is_err_and c.from_residual.result c.from_residual.ensures.1 in
     rw (is, gives) (record { ops = tt; order = tt; fault = c.in_err-take_over.ensures.fault })
+
+pub returns : goal.returns
+returns c =
+    let all = take_all c.loop-place.place-index c.args.places.now c.loop-place-test.false in
+    record {
+      ops = c.loop-place.invariant.ops ∙ ap (λ xs. c.args.ops.now.items ++ map (op_at c.args.more.now) xs) all;
+      order = c.loop-place.invariant.order ∙ ap (λ n. c.args.order.now.items ++ range_with_len (length c.args.ops.now.items) n) (omega arith);
+      fault = tt;
+    }

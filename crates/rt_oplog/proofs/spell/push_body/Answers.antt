@@ -1,5 +1,12 @@
+use Rattle.std.proofs.Common.{refl}
+use Rattle.std.proofs.lemmas.Result.{err_from_is_err_and}
 use Rattle.rt_oplog.proofs.Lengths.{names_fit}
 use Rattle.rt_oplog.proofs.spell.push_body.Goals as goal
 
 pub push_tags-requires-clause-names : goal.push_tags-requires-clause-names
 push_tags-requires-clause-names c = rw c.deref.ensures.value (names_fit c.in-Insert.after c.in-Insert.tags.items c.in-Insert.text (rw c.in-Insert.is at c.requires))
+
+pub returns-in_err-push-in-Tag : goal.returns-in_err-push-in-Tag
+returns-in_err-push-in-Tag c =
+    let (y, is, gives) = err_from_is_err_and c.from_residual-in_err-push-in-Tag.result c.from_residual-in_err-push-in-Tag.ensures.1 in
+    rw (is, gives) (record { ok = tt; fits = tt; fault = refl })

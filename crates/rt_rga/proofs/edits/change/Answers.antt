@@ -1,5 +1,6 @@
-use Rattle.std.proofs.Common.{◌≡◌, ◌∙◌, ◌+◌, [], ap, sym, subst, arith, length, map}
+use Rattle.std.proofs.Common.{◌≡◌, ◌∙◌, ◌+◌, [], ap, refl, sym, subst, arith, length, map}
 use Rattle.std.specs.Prelude.{string_bytes}
+use Rattle.std.proofs.lemmas.Result.{err_from_is_err_and}
 use Rattle.rt_stamps.specs.declared.stamp.TheConstants.{FINAL, ROOT}
 use Rattle.rt_stamps.specs.declared.stamp.Stamp.{Stamp}
 use Rattle.rt_oplog.specs.Edits.{body_of}
@@ -68,3 +69,36 @@ returns-in_ok-_tag-in-Tag-clause-replica g c =
     c.requires.replica body c.requires.continues c.in_ok-_tag-in-Tag.ensures.given
     (c.in_ok-_tag-in-Tag.ensures.cells
     ∙ (λ i. map (written_in_any (c.deref-in-Tag.ensures.value i) (record { name = c.deref-in-Tag-2.ensures i; writer = c.stamp-in-Tag.ensures i; on = c.in-Tag.on })) (map (shown c.args.states.now) (g.S.TextStore.list c.args.store.now))))
+
+pub returns-in_err-_state-in-Insert : goal.returns-in_err-_state-in-Insert
+returns-in_err-_state-in-Insert g c =
+    let (y, is, gives) = err_from_is_err_and c.from_residual.result c.from_residual.ensures.1 in
+    rw (is, gives) (record {
+      replica = tt;
+      cells = tt;
+      ids = c.insert_cells.ensures.ids;
+      same = c.in_err-_state-in-Insert.ensures.err;
+      fault = c.in_err-_state-in-Insert.ensures.fault;
+    })
+
+pub returns-in_err-reserve-in-Delete : goal.returns-in_err-reserve-in-Delete
+returns-in_err-reserve-in-Delete g c =
+    let (y, is, gives) = err_from_is_err_and c.from_residual-in_err-reserve-in-Delete.result c.from_residual-in_err-reserve-in-Delete.ensures.1 in
+    rw (is, gives) (record {
+      replica = tt;
+      cells = tt;
+      ids = record { tags = λ tag h. (h, refl); states = λ state h. (h, refl) };
+      same = c.in_err-reserve-in-Delete.ensures.same;
+      fault = c.in_err-reserve-in-Delete.ensures.err;
+    })
+
+pub returns-in_err-_tag-in-Tag : goal.returns-in_err-_tag-in-Tag
+returns-in_err-_tag-in-Tag g c =
+    let (y, is, gives) = err_from_is_err_and c.from_residual-in_err-_tag-in-Tag.result c.from_residual-in_err-_tag-in-Tag.ensures.1 in
+    rw (is, gives) (record {
+      replica = tt;
+      cells = tt;
+      ids = c.tag_cells.ensures.ids;
+      same = c.in_err-_tag-in-Tag.ensures.err;
+      fault = c.in_err-_tag-in-Tag.ensures.fault;
+    })
