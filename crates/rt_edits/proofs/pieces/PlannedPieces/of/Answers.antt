@@ -1,9 +1,10 @@
 use Rattle.std.proofs.Common.{ℕ, ◌∙◌, ◌++◌, ◌<◌, ◌≤◌, [], ap, arith, length, map, subst, sym, take}
 use Rattle.std.specs.Str.{chars}
+use Rattle.std.proofs.lemmas.List.{take_all}
 use Rattle.std.proofs.lemmas.Result.{err_from_is_err_and}
 use Rattle.rt_stamps.specs.declared.limits.TheConstants.{GREATEST_COUNT, MOST_CHARACTERS}
 use Rattle.rt_oplog.specs.Edits.{body_of}
-use Rattle.rt_edits.specs.InsertionDrafts.{text_drafts}
+use Rattle.rt_edits.specs.InsertionDrafts.{pieces_drafts, text_drafts}
 use Rattle.rt_edits.specs.Insertions.{Insertion, shared_names, with_pieces}
 use Rattle.rt_edits.specs.PlannedPieces.{AreSoFar}
 use Rattle.rt_edits.proofs.PieceLaws.{drafts_further, none_so_far, pieces_more, spent_early}
@@ -22,18 +23,23 @@ loop-piece-init c =
 pub add_listed-requires : goal.add_listed-requires
 add_listed-requires c = c.loop-piece.invariant.within
 
-pub returns-in_err-add_listed-clause-err : goal.returns-in_err-add_listed-clause-err
-returns-in_err-add_listed-clause-err c =
+pub returns-in_err-add_listed : goal.returns-in_err-add_listed
+returns-in_err-add_listed c =
     let p = err_from_is_err_and c.from_residual.result c.from_residual.ensures.1 in
     let site = c.args.site.number in
     let pieces = c.args.pieces.now in
     let i = c.loop-piece.piece-index in
     let piece = c.piece-item.result in
     let within : i < length pieces = omega arith in
-    rw (p.1, p.2) (spent
-    (λ h sel others tags. spent_early site pieces i piece (record { cells = []; count = c.args.count; sel = sel; others = others; tags = tags }) c.loop-piece.all.texts.count GREATEST_COUNT within c.piece-item.is
-    (c.loop-piece.invariant.so_far sel others tags).count h)
-    c.in_err-add_listed.ensures.err)
+    rw (p.1, p.2) (record {
+      drafts = tt;
+      so_far = tt;
+      within = tt;
+      err = spent
+          (λ h sel others tags. spent_early site pieces i piece (record { cells = []; count = c.args.count; sel = sel; others = others; tags = tags }) c.loop-piece.all.texts.count GREATEST_COUNT within c.piece-item.is
+          (c.loop-piece.invariant.so_far sel others tags).count h)
+          c.in_err-add_listed.ensures.err;
+    })
 
 pub loop-piece-preserved : goal.loop-piece-preserved
 loop-piece-preserved c =
@@ -57,4 +63,20 @@ loop-piece-preserved c =
           subst (AreSoFar after sel tags c.add_listed.new.self) (sym (pieces_more site pieces i piece start within c.piece-item.is))
           (e.so_far after sel tags (with_pieces site (take i pieces) start) (c.loop-piece.invariant.so_far sel others tags));
       within = e.within;
+    }
+
+pub returns : goal.returns
+returns c =
+    let site = c.args.site.number in
+    let after = c.args.after in
+    let whole = take_all c.loop-piece.piece-index c.args.pieces.now c.loop-piece-test.false in
+    record {
+      drafts = λ sel others tags.
+          let start : Insertion = record { cells = []; count = c.args.count; sel = sel; others = others; tags = tags } in
+          c.loop-piece.invariant.drafts sel others tags ∙ ap (λ pieces. pieces_drafts MOST_CHARACTERS site after pieces start) whole;
+      so_far = λ sel others tags.
+          let start : Insertion = record { cells = []; count = c.args.count; sel = sel; others = others; tags = tags } in
+          subst (λ pieces. AreSoFar after sel tags c.loop-piece.all (with_pieces site pieces start)) whole (c.loop-piece.invariant.so_far sel others tags);
+      within = c.loop-piece.invariant.within;
+      err = tt;
     }
