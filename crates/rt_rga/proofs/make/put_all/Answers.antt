@@ -1,5 +1,5 @@
 use Rattle.std.proofs.Common.{◌≡◌, ℕ, ◌+◌, ◌∙◌, ◌∷◌, List, ap, arith, drop, length, subst, sym}
-use Rattle.std.proofs.lemmas.List.{length-drop}
+use Rattle.std.proofs.lemmas.List.{drop_all, length-drop}
 use Rattle.std.proofs.lemmas.List.Elements.{All-drop}
 use Rattle.rt_oplog.specs.Operations.{Operation, stamp_of}
 use Rattle.rt_store.specs.declared.cell.Cell.{Cell}
@@ -32,3 +32,24 @@ loop-op-preserved g c =
       room = (omega (arith, c.put-left.ensures.room.0, before.room.0, used, rest), omega (arith, c.put-left.ensures.room.1, before.room.1, cuts));
       spent = omega (arith, c.put-left.ensures.room.1, before.spent, cuts);
     }
+
+pub put-left-requires-clause-put : goal.put-left-requires-clause-put
+put-left-requires-clause-put g c =
+    let i = c.loop-op.op-index in
+    let op : Operation = c.op-item.result in
+    let left : drop i c.args.ops.now ≡ op ∷ drop (i + 1) c.args.ops.now = ops_left c.args.ops.now i op c.loop-op-test.true c.op-item.is in
+    (subst (λ (ops : List Operation). CanAllBePut ops c.loop-op.left.now (g.S.TextStore.list c.loop-op.store)) left c.loop-op.invariant.put).0
+
+pub put-left-requires-clause-states : goal.put-left-requires-clause-states
+put-left-requires-clause-states g c = c.loop-op.invariant.states
+
+pub put-left-requires-clause-given : goal.put-left-requires-clause-given
+put-left-requires-clause-given g c = c.loop-op.invariant.given
+
+pub returns-clause-list : goal.returns-clause-list
+returns-clause-list g c =
+    let none = drop_all c.loop-op.op-index c.args.ops.now c.loop-op-test.false in
+    sym (ap (λ (ops : List Operation). kept_after ops c.loop-op.left.now (g.S.TextStore.list c.loop-op.store)) none) ∙ c.loop-op.invariant.list
+
+pub returns-clause-room : goal.returns-clause-room
+returns-clause-room g c = omega (arith, c.loop-op.invariant.spent, ap cuts_of (drop_all c.loop-op.op-index c.args.ops.now c.loop-op-test.false))
