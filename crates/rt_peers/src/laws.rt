@@ -9,7 +9,8 @@ use crate::SiteState;
 /// their calls were, in whatever order, with repeats and refusals between.
 pub fn sites_agree(one: &SiteState, other: &SiteState)
     ensures cells { HaveSame one.now.text.view.doc.log other.now.text.view.doc.log → one.now.text.view.doc.cells ≡ other.now.text.view.doc.cells }
-    ensures text { HaveSame one.now.text.view.doc.log other.now.text.view.doc.log → tagged_text one.now.text.view.doc.cells ≡ tagged_text other.now.text.view.doc.cells }
+    ensures text { HaveSame one.now.text.view.doc.log other.now.text.view.doc.log
+        → tagged_text one.now.text.view.doc.cells ≡ tagged_text other.now.text.view.doc.cells }
 {
     let _ = one.log();
     let _ = other.log();

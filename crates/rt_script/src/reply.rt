@@ -134,7 +134,8 @@ pub(crate) fn push_bare(answer: &Answer, line: &mut Vec<u8>) -> Option<()>
 }
 
 fn push_reply(words: &[String], line: &mut Vec<u8>) -> Option<()>
-    ensures { IfSome result (λ _. line.new.items ≡ line.old.items ++ ((61 ∷ flat_map (λ w. 32 ∷ text_of_word (string_bytes w)) words.now) ++ (10 ∷ []))) }
+    ensures { IfSome result (λ _. line.new.items
+        ≡ line.old.items ++ ((61 ∷ flat_map (λ w. 32 ∷ text_of_word (string_bytes w)) words.now) ++ (10 ∷ []))) }
 {
     line.push(b'=').ok()?;
     push_words(words, line)?;
