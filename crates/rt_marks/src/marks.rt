@@ -16,10 +16,17 @@ use std::marker::Model;
 /// `inserted` and `removed` read each mark a few times. `unset_all` is binary searches for each name
 /// and goes through two lists of numbers once. Every other call but `names` is binary searches and
 /// the shift of numbers in these lists.
-#[derive(Drop)]
 pub struct Marks {
     alloc: Global,
     table: Table,
+}
+
+// Written out, so that where it is let go is one step for the crates above, and not one for each
+// field of each field.
+impl Drop for Marks {
+    fn drop(self) {
+        let Marks { alloc: _, table: _ } = self;
+    }
 }
 
 impl Model for Marks {

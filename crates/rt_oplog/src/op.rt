@@ -35,12 +35,24 @@ pub enum Edit {
 
 /// What a site did, as it tells the others. Its names, tags, text and spans always keep the rules
 /// of the file format; what its stamps have to keep `check` tells.
-#[derive(Drop)]
 pub struct Op {
     count: u64,
     prev: u64,
     site: u16,
     edit: Edit,
+}
+
+// Written out, so that where it is let go is one step for the crates above, and not one for each
+// field of each field.
+impl Drop for Op {
+    fn drop(self) {
+        let Op {
+            count: _,
+            prev: _,
+            site: _,
+            edit: _,
+        } = self;
+    }
 }
 
 impl Model for Op {

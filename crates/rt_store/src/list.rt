@@ -13,10 +13,17 @@ use rt_tags::{StateId, StateTable, TagId};
 use std::alloc::Global;
 
 /// The cells in a plain vector: each call is linear in their number.
-#[derive(Drop)]
 pub struct ListStore {
     cells: Vec<Cell<StateId>>,
     ghost ends: { EndsFinal cells.items },
+}
+
+// Written out, so that where it is let go is one step for the crates above, and not one for each
+// field of each field.
+impl Drop for ListStore {
+    fn drop(self) {
+        let ListStore { cells: _ } = self;
+    }
 }
 
 impl ListStore {

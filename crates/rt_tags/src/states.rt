@@ -278,11 +278,22 @@ fn listed(alloc: Global, writer: Stamp, tags: &[TagId]) -> Result<Vec<Entry>, Al
 
 /// Tags by number and tag states of characters by id. Contracts see the names in the order of their
 /// numbers and the states in the order of their ids: each name has one number and each state one id.
-#[derive(Drop)]
 pub struct StateTable {
     alloc: Global,
     names: IndexSet<String>,
     states: IndexSet<State>,
+}
+
+// Written out, so that where it is let go is one step for the crates above, and not one for each
+// field of each field.
+impl Drop for StateTable {
+    fn drop(self) {
+        let StateTable {
+            alloc: _,
+            names: _,
+            states: _,
+        } = self;
+    }
 }
 
 impl Model for StateTable {

@@ -12,7 +12,6 @@ use std::marker::Model;
 /// The tags that a site lists. Contracts see the names in the order of their priority, lowest first,
 /// and beside them which names are ready: to list one of these takes no memory. A name that was
 /// listed or prepared once is ready for good.
-#[derive(Drop)]
 pub struct TagTable {
     alloc: Global,
     // the names that are ready: first those that are listed, lowest priority first
@@ -20,6 +19,19 @@ pub struct TagTable {
     listed: usize,
     // one for each name, for the use of `forget_all`, which takes no memory
     marks: Vec<bool>,
+}
+
+// Written out, so that where it is let go is one step for the crates above, and not one for each
+// field of each field.
+impl Drop for TagTable {
+    fn drop(self) {
+        let TagTable {
+            alloc: _,
+            names: _,
+            listed: _,
+            marks: _,
+        } = self;
+    }
 }
 
 impl Model for TagTable {

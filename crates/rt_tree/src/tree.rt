@@ -28,7 +28,6 @@ use std::alloc::Global;
 use std::marker::Model;
 
 /// The cells of a text in the runs of a counted B-tree.
-#[derive(Drop)]
 pub struct Tree {
     mem: Mem,
     root: NodeId,
@@ -42,6 +41,23 @@ pub struct Tree {
     // What there is room for.
     spare_cells: usize,
     spare_cuts: usize,
+}
+
+// Written out, so that where it is let go is one step for the crates above, and not one for each
+// field of each field.
+impl Drop for Tree {
+    fn drop(self) {
+        let Tree {
+            mem: _,
+            root: _,
+            text: _,
+            runs: _,
+            newest: _,
+            homes: _,
+            spare_cells: _,
+            spare_cuts: _,
+        } = self;
+    }
 }
 
 impl Model for Tree {

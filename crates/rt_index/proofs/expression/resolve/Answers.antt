@@ -1,4 +1,4 @@
-use Rattle.std.proofs.Common.{◌∙◌, ap, sym, List, ℕ, Ok, Some}
+use Rattle.std.proofs.Common.{◌∙◌, ap, sym, Ok, Some}
 use Rattle.std.proofs.lemmas.Result.{err_from_is_err_and}
 use Rattle.rt_index.specs.Index.{index_of, moved_from}
 use Rattle.rt_index.specs.Values.{all_moved}

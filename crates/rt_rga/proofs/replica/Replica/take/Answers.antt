@@ -1,5 +1,6 @@
 use Rattle.std.proofs.Common.{◌≡◌, ◌∙◌, ◌+◌, ◌≤◌, ℕ, List, ap, arith, length, max, refl, subst, sym}
 use Rattle.std.proofs.lemmas.List.{length-map}
+use Rattle.std.proofs.lemmas.Result.{err_from_is_err_and}
 use Rattle.rt_oplog.specs.Logs.{with_operation}
 use Rattle.rt_oplog.specs.Operations.{Operation}
 use Rattle.rt_store.specs.declared.cell.Cell.{Cell}
@@ -11,9 +12,12 @@ use Rattle.rt_rga.specs.Taken.{IsChange}
 use Rattle.rt_rga.proofs.Listing.{keeps_both}
 use Rattle.rt_rga.proofs.Pushing.{taken_in}
 use Rattle.rt_rga.proofs.Replicas.{replica_distinct}
-use Rattle.rt_rga.proofs.Within.{change_shown, final_spared, on_err, placed_by, same_value, within_later, within_more}
+use Rattle.rt_rga.proofs.Within.{change_shown, final_spared, placed_by, same_value, within_later, within_more}
 use Rattle.rt_store.specs.Shown.{shown, TaggedCell}
 use Rattle.rt_rga.proofs.replica.Replica.take.Goals as goal
+
+itself : (t : TagStates) → KeepsIds t t
+itself t = record { tags = λ tag h. (h, refl); states = λ state h. (h, refl) }
 
 pub describe-requires-clause-placed : goal.describe-requires-clause-placed
 describe-requires-clause-placed g c =
@@ -50,15 +54,6 @@ invariant_of-self-in_err-told g c =
     let kept : List (Cell ℕ) = g.S.TextStore.list v.store in
     within_later log c.reserve.new.self.operations v.states c.describe.new.states kept kept v.clock v.limit c.reserve.ensures.same refl c.describe.ensures.ids c.self.invariant
 
-pub returns-in_err-told-clause-same : goal.returns-in_err-told-clause-same
-returns-in_err-told-clause-same g c =
-    let v = c.self.inside in
-    let log = v.log.operations in
-    let kept : List (Cell ℕ) = g.S.TextStore.list v.store in
-    on_err c.from_residual-in_err-told.result
-    (same_value log c.reserve.new.self.operations v.states c.describe.new.states kept kept v.site.number v.limit c.reserve.ensures.same refl c.describe.ensures.ids c.self.invariant.replica.states
-    ∙ ap (λ (a : ReplicaValue). record a { table = c.describe.new.states }) c.self.view_is)
-
 pub change-requires-clause-replica : goal.change-requires-clause-replica
 change-requires-clause-replica g c =
     let v = c.self.inside in
@@ -73,24 +68,6 @@ invariant_of-self-in_err-change g c =
     let kept : List (Cell ℕ) = g.S.TextStore.list v.store in
     let ids : KeepsIds v.states c.change.new.states = keeps_both v.states c.describe.new.states c.change.new.states c.describe.ensures.ids c.change.ensures.ids in
     within_later log c.reserve.new.self.operations v.states c.change.new.states kept (g.S.TextStore.list c.change.new.store) v.clock v.limit c.reserve.ensures.same c.in_err-change.ensures.same ids c.self.invariant
-
-pub returns-in_err-change-clause-same : goal.returns-in_err-change-clause-same
-returns-in_err-change-clause-same g c =
-    let v = c.self.inside in
-    let log = v.log.operations in
-    let kept : List (Cell ℕ) = g.S.TextStore.list v.store in
-    let ids : KeepsIds v.states c.change.new.states = keeps_both v.states c.describe.new.states c.change.new.states c.describe.ensures.ids c.change.ensures.ids in
-    on_err c.from_residual-in_err-change.result
-    (same_value log c.reserve.new.self.operations v.states c.change.new.states kept (g.S.TextStore.list c.change.new.store) v.site.number v.limit c.reserve.ensures.same c.in_err-change.ensures.same ids c.self.invariant.replica.states
-    ∙ ap (λ (a : ReplicaValue). record a { table = c.change.new.states }) c.self.view_is)
-
-pub returns-in_err-change-clause-ids : goal.returns-in_err-change-clause-ids
-returns-in_err-change-clause-ids g c =
-    let v = c.self.inside in
-    let log = v.log.operations in
-    let kept : List (Cell ℕ) = g.S.TextStore.list v.store in
-    let ids : KeepsIds v.states c.change.new.states = keeps_both v.states c.describe.new.states c.change.new.states c.describe.ensures.ids c.change.ensures.ids in
-    subst (λ (t : TagStates). KeepsIds t c.change.new.states) (ap (λ (a : ReplicaValue). a.table) c.self.view_is) ids
 
 pub invariant_of-self-2 : goal.invariant_of-self-2
 invariant_of-self-2 g c =
@@ -141,3 +118,72 @@ returns-clause-ids g c =
     let kept : List (Cell ℕ) = g.S.TextStore.list v.store in
     let ids : KeepsIds v.states c.change.new.states = keeps_both v.states c.describe.new.states c.change.new.states c.describe.ensures.ids c.change.ensures.ids in
     subst (λ (t : TagStates). KeepsIds t c.change.new.states) (ap (λ (a : ReplicaValue). a.table) c.self.view_is) ids
+
+pub invariant_of-self : goal.invariant_of-self
+invariant_of-self g c =
+    let v = c.self.inside in
+    let kept : List (Cell ℕ) = g.S.TextStore.list v.store in
+    within_later v.log.operations c.reserve.new.self.operations v.states v.states kept kept v.clock v.limit c.reserve.ensures.same refl (itself v.states) c.self.invariant
+
+pub returns-in_err-reserve : goal.returns-in_err-reserve
+returns-in_err-reserve g c =
+    let (y, is, gives) = err_from_is_err_and c.from_residual.result c.from_residual.ensures.1 in
+    let v = c.self.inside in
+    let kept : List (Cell ℕ) = g.S.TextStore.list v.store in
+    let ids : KeepsIds v.states v.states = itself v.states in
+    rw (is, gives) (record {
+      log = tt;
+      change = tt;
+      same = same_value v.log.operations c.reserve.new.self.operations v.states v.states kept kept v.site.number v.limit c.reserve.ensures.same refl ids c.self.invariant.replica.states
+          ∙ ap (λ (a : ReplicaValue). record a { table = v.states }) c.self.view_is;
+      site = ap (λ (a : ReplicaValue). a.site) c.self.view_is;
+      limit = ap (λ (a : ReplicaValue). a.limit) c.self.view_is;
+      ids = subst (λ (t : TagStates). KeepsIds t v.states) (ap (λ (a : ReplicaValue). a.table) c.self.view_is) ids;
+      fault = c.in_err-reserve.ensures.fault;
+    })
+
+pub returns-in_err-told : goal.returns-in_err-told
+returns-in_err-told g c =
+    let (y, is, gives) = err_from_is_err_and c.from_residual-in_err-told.result c.from_residual-in_err-told.ensures.1 in
+    let v = c.self.inside in
+    let kept : List (Cell ℕ) = g.S.TextStore.list v.store in
+    let ids : KeepsIds v.states c.describe.new.states = c.describe.ensures.ids in
+    rw (is, gives) (record {
+      log = tt;
+      change = tt;
+      same = same_value v.log.operations c.reserve.new.self.operations v.states c.describe.new.states kept kept v.site.number v.limit c.reserve.ensures.same refl ids c.self.invariant.replica.states
+          ∙ ap (λ (a : ReplicaValue). record a { table = c.describe.new.states }) c.self.view_is;
+      site = ap (λ (a : ReplicaValue). a.site) c.self.view_is;
+      limit = ap (λ (a : ReplicaValue). a.limit) c.self.view_is;
+      ids = subst (λ (t : TagStates). KeepsIds t c.describe.new.states) (ap (λ (a : ReplicaValue). a.table) c.self.view_is) ids;
+      fault = c.in_err-told.ensures.fault;
+    })
+
+pub returns-in_err-change : goal.returns-in_err-change
+returns-in_err-change g c =
+    let (y, is, gives) = err_from_is_err_and c.from_residual-in_err-change.result c.from_residual-in_err-change.ensures.1 in
+    let v = c.self.inside in
+    let kept : List (Cell ℕ) = g.S.TextStore.list v.store in
+    let ids : KeepsIds v.states c.change.new.states = keeps_both v.states c.describe.new.states c.change.new.states c.describe.ensures.ids c.change.ensures.ids in
+    rw (is, gives) (record {
+      log = tt;
+      change = tt;
+      same = same_value v.log.operations c.reserve.new.self.operations v.states c.change.new.states kept (g.S.TextStore.list c.change.new.store) v.site.number v.limit c.reserve.ensures.same c.in_err-change.ensures.same ids c.self.invariant.replica.states
+          ∙ ap (λ (a : ReplicaValue). record a { table = c.change.new.states }) c.self.view_is;
+      site = ap (λ (a : ReplicaValue). a.site) c.self.view_is;
+      limit = ap (λ (a : ReplicaValue). a.limit) c.self.view_is;
+      ids = subst (λ (t : TagStates). KeepsIds t c.change.new.states) (ap (λ (a : ReplicaValue). a.table) c.self.view_is) ids;
+      fault = c.in_err-change.ensures.fault;
+    })
+
+pub returns-clause-same : goal.returns-clause-same
+returns-clause-same g c = tt
+
+pub returns-clause-site : goal.returns-clause-site
+returns-clause-site g c = ap (λ (a : ReplicaValue). a.site) c.self.view_is
+
+pub returns-clause-limit : goal.returns-clause-limit
+returns-clause-limit g c = ap (λ (a : ReplicaValue). a.limit) c.self.view_is
+
+pub returns-clause-fault : goal.returns-clause-fault
+returns-clause-fault g c = tt
