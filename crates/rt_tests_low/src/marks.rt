@@ -39,10 +39,8 @@ impl Names {
 // Of two marks at a place text goes between them, after the left one and before the right one.
 #[test]
 fn gravity_decides(rt: HostRuntime) -> Result<(), Fail> {
-    let mut marks = Marks::new(rt.alloc());
-    marks.set("l", 1)?;
-    marks.set("r", 1)?;
-    marks.set_gravity("l", Gravity::Left)?;
+    let mut held = Names::of(rt.alloc(), &[("l", 1), ("r", 1)], &["l"])?;
+    let marks = &mut held.marks;
     marks.inserted(1, 2);
     assert_eq!(rt; marks.place("l"), Some(1));
     assert_eq!(rt; marks.place("r"), Some(3));
@@ -130,12 +128,9 @@ fn one_place(rt: HostRuntime) -> Result<(), Fail> {
 // A removal brings the marks of several gaps into one, where gravity and name decide.
 #[test]
 fn gaps_become_one(rt: HostRuntime) -> Result<(), Fail> {
-    let mut marks = Marks::new(rt.alloc());
-    marks.set("first", 2)?;
-    marks.set("second", 4)?;
-    marks.set("third", 5)?;
-    marks.set("behind", 9)?;
-    marks.set_gravity("third", Gravity::Left)?;
+    let places = [("first", 2), ("second", 4), ("third", 5), ("behind", 9)];
+    let mut held = Names::of(rt.alloc(), &places, &["third"])?;
+    let marks = &mut held.marks;
     marks.removed(2, 3);
     assert_eq!(rt; marks.first_at(0), Some("third"));
     assert_eq!(rt; marks.next("third"), Some("first"));

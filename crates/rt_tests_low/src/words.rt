@@ -2,6 +2,7 @@
 use rt_stamps::Fault;
 use rt_words::words::{list_words, words};
 use std::alloc::Global;
+use std::process::Abort;
 use std::test::Fail;
 
 // A bar before each word.
@@ -12,6 +13,18 @@ fn barred(alloc: Global, words: &[String]) -> Result<String, Fault> {
         text.push_str(word)?;
     }
     Ok(text)
+}
+
+// Stops a test where the words of a text are others than those wanted, each behind a bar.
+fn assert_words(
+    rt: &impl Abort,
+    alloc: Global,
+    found: &[String],
+    text: &str,
+    want: &str,
+) -> Result<(), Fault> {
+    assert_eq!(rt; barred(alloc, found)?.as_str(), want, "in {text:?}");
+    Ok(())
 }
 
 #[test]
@@ -27,8 +40,7 @@ fn bare_words(rt: HostRuntime) -> Result<(), Fail> {
         ("#a \r", "|#a|\r"),
         ("é\u{a0}ü \u{1f600}", "|é\u{a0}ü|\u{1f600}"),
     ] {
-        let found = words(rt.alloc(), line)?;
-        assert_eq!(rt; barred(rt.alloc(), &found)?.as_str(), want, "in {line:?}");
+        assert_words(&rt, rt.alloc(), &words(rt.alloc(), line)?, line, want)?;
     }
     Ok(())
 }
@@ -46,8 +58,7 @@ fn quoted_words(rt: HostRuntime) -> Result<(), Fail> {
         ("\"é ü\\n\u{1f600}\" é", "|é ü\n\u{1f600}|é"),
         ("\"a\r} { b\"", "|a\r} { b"),
     ] {
-        let found = words(rt.alloc(), line)?;
-        assert_eq!(rt; barred(rt.alloc(), &found)?.as_str(), want, "in {line:?}");
+        assert_words(&rt, rt.alloc(), &words(rt.alloc(), line)?, line, want)?;
     }
     Ok(())
 }
@@ -64,8 +75,7 @@ fn braced_words(rt: HostRuntime) -> Result<(), Fail> {
         ("{ \"a } ", "| \"a "),
         ("{é {\u{1f600}}}", "|é {\u{1f600}}"),
     ] {
-        let found = words(rt.alloc(), line)?;
-        assert_eq!(rt; barred(rt.alloc(), &found)?.as_str(), want, "in {line:?}");
+        assert_words(&rt, rt.alloc(), &words(rt.alloc(), line)?, line, want)?;
     }
     Ok(())
 }
@@ -84,8 +94,7 @@ fn lines_of_replies(rt: HostRuntime) -> Result<(), Fail> {
         ("= \"\\t\\r\" \"\\\"\\\\\"", "|=|\t\r|\"\\"),
         ("= é#$[ \u{1f600}", "|=|é#$[|\u{1f600}"),
     ] {
-        let found = words(rt.alloc(), line)?;
-        assert_eq!(rt; barred(rt.alloc(), &found)?.as_str(), want, "in {line:?}");
+        assert_words(&rt, rt.alloc(), &words(rt.alloc(), line)?, line, want)?;
     }
     Ok(())
 }
@@ -104,8 +113,7 @@ fn lists(rt: HostRuntime) -> Result<(), Fail> {
         ("\"\"\n{}\n\"\"", "|||"),
         ("a\rb\u{a0}c", "|a\rb\u{a0}c"),
     ] {
-        let found = list_words(rt.alloc(), list)?;
-        assert_eq!(rt; barred(rt.alloc(), &found)?.as_str(), want, "in {list:?}");
+        assert_words(&rt, rt.alloc(), &list_words(rt.alloc(), list)?, list, want)?;
     }
     Ok(())
 }
