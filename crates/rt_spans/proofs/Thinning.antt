@@ -5,7 +5,7 @@ use Rattle.std.proofs.lemmas.List.{take-append-drop}
 use Rattle.std.proofs.lemmas.List.Concat.{flat_map-append}
 use Rattle.rt_spans.specs.declared.entry.Entry.{Entry}
 use Rattle.rt_spans.specs.declared.block.Block.{Block}
-use Rattle.rt_spans.specs.Spans.{AreRisingFrom, Has, PaintsOver, Thinned, ThinsOut, key, value_at, value_from}
+use Rattle.rt_spans.specs.Spans.{AreRisingFrom, Has, PaintsOver, Thinned, ThinsOut, key, value_at, value_from, held}
 use Rattle.rt_spans.specs.Blocks.{Each, PartsAt, PartsBelow, head_key, in_block, in_blocks}
 use Rattle.rt_spans.specs.Room.{debt}
 use Rattle.rt_spans.proofs.Ranks.{is_le, is_lt}
@@ -22,12 +22,12 @@ value_skip : {V : Type 0} (before other : Option V) (s low k : ℕ) (ys : List (
 value_skip before other s low k [] h m l = absurd m
 value_skip before other s low k (y ∷ ys) h m l =
     let first : key y ≤ s = omega (arith, l, none_below (key y) k (y ∷ ys) (omega arith, h.1) m) in
-    ap (λ v. cond v (value_from y.value s ys) before) (is_le (key y) s first) ∙ sym (ap (λ v. cond v (value_from y.value s ys) other) (is_le (key y) s first))
+    ap (λ v. cond v (value_from (held y) s ys) before) (is_le (key y) s first) ∙ sym (ap (λ v. cond v (value_from (held y) s ys) other) (is_le (key y) s first))
 
 value_over : {V : Type 0} (before : Option V) (s low k : ℕ) (xs ys : List (Entry V)) → AreRisingFrom low (xs ++ ys) → Has k ys → k ≤ s → value_from before s (xs ++ ys) ≡ value_from None s ys
 value_over before s low k [] ys h m l = value_skip before None s low k ys h m l
 value_over before s low k (x ∷ xs) ys h m l =
-    ap (λ v. cond v (value_from x.value s (xs ++ ys)) before) (is_le (key x) s (omega (arith, l, none_below (key x + 1) k (xs ++ ys) h.1 (has_back k xs ys m)))) ∙ value_over x.value s (key x + 1) k xs ys h.1 m l
+    ap (λ v. cond v (value_from (held x) s (xs ++ ys)) before) (is_le (key x) s (omega (arith, l, none_below (key x + 1) k (xs ++ ys) h.1 (has_back k xs ys m)))) ∙ value_over (held x) s (key x + 1) k xs ys h.1 m l
 
 rising_thinned : {V : Type 0} (low : ℕ) (xs gone ys : List (Entry V)) → AreRisingFrom low (xs ++ (gone ++ ys)) → AreRisingFrom low (xs ++ ys)
 rising_thinned low [] gone ys h = skip key low gone ys h
