@@ -1,3 +1,4 @@
+pub mod Chosen
 pub mod Lines
 pub mod Ordered
 pub mod Places

@@ -1,12 +1,13 @@
 // Laws of the definitions, each the contract of a function that does nothing.
-ghost use Rattle.std.specs.Prelude.{◌≡◌, ℕ, ◌<◌, ◌≤◌, List, Some, length, map};
+ghost use Rattle.std.specs.Prelude.{◌≡◌, ℕ, ◌+◌, ◌<◌, ◌≤◌, List, Ok, Some, length, map};
 ghost use Rattle.rt_stamps.specs.Places.{EndsWithNewline};
 ghost use Rattle.rt_stamps.specs.declared.stamp.Stamp.{Stamp};
 ghost use Rattle.rt_store.specs.declared.cell.Cell.{Cell};
-ghost use Rattle.rt_store.specs.Cells.{EndsFinal, map_state, visible_of};
+ghost use Rattle.rt_store.specs.Cells.{AreDistinct, EndsFinal, map_state, visible_of};
 ghost use Rattle.rt_views.specs.declared.choice.Choice.{Choice};
 ghost use Rattle.rt_views.specs.declared.limits.Limits.{Limits};
-ghost use Rattle.rt_views.specs.Choices.{limits_chosen};
+ghost use Rattle.rt_views.specs.declared.choice.Choice.TheVariants.{Line};
+ghost use Rattle.rt_views.specs.Choices.{end_asked, limits_chosen};
 ghost use Rattle.rt_views.specs.Limits.{first_line, last_line, line_behind, no_limits};
 ghost use Rattle.rt_views.specs.Ordered.{IsStart};
 ghost use Rattle.rt_views.specs.Stretches.{shown_part, stretch_of};
@@ -36,4 +37,13 @@ pub fn limits_without_states<S, T>()
 pub fn ordered_limits<T>()
     ensures { (cells : List (Cell T)) (limits : Limits) (stamp : Stamp) (position : ℕ) → EndsFinal cells → IsStart cells limits stamp position
         → line_behind cells stamp ≡ Some (first_line cells limits) }
+{}
+
+/// The lines that a command asks for are those that its limits show: up to the last one asked for, from the first one
+/// where it is named.
+pub fn chosen_lines<T>()
+    ensures first { (cells : List (Cell T)) (line : ℕ) (end : Choice) (limits chosen : Limits) → AreDistinct cells
+        → limits_chosen cells (Line line) end limits ≡ Ok chosen → first_line cells chosen ≡ line }
+    ensures last { (cells : List (Cell T)) (start end : Choice) (limits chosen : Limits) → AreDistinct cells
+        → limits_chosen cells start end limits ≡ Ok chosen → last_line cells chosen + 1 ≡ end_asked cells limits end }
 {}
