@@ -4,12 +4,13 @@ ghost use Rattle.rt_undo.specs.Actions.{group_of};
 ghost use Rattle.rt_revert.specs.Plans.{AreGiven, named_group};
 ghost use Rattle.rt_revert.specs.ReversionLaws.{AreSound};
 
-use crate::planning::typing;
+use crate::planning::{cutting, typing};
 use rt_stamps::{Fault, Site};
 use rt_store::ListStore;
 use rt_tags::StateTable;
 use rt_text::{OwnMark, Piece, Reverted, View};
 use rt_undo::Action;
+use rt_views::Choice;
 use std::alloc::Global;
 use std::marker::Model;
 use std::process::Abort;
@@ -44,6 +45,35 @@ impl Page {
         let mut page = Page { view };
         page.insert_bold(alloc, "ab")?;
         Ok(page)
+    }
+
+    // A page with the characters a, b, c and d, each on a line of its own, and a second widget, which shows the second
+    // line and the third; so does the first one, up to the text's end.
+    fn lined(alloc: Global) -> Result<Page, Fail> {
+        let site = Site::new(1).ok_or("a site")?;
+        let store = ListStore::new(alloc)?;
+        let mut view = View::new(alloc, store, site, 1_000)?;
+        view.insert("1.0", &[], "a\nb\nc\nd")?;
+        view.add_peer(Choice::Line(2), Choice::Line(4))?;
+        view.set_lines(Choice::Line(2), Choice::Kept)?;
+        Ok(Page { view })
+    }
+
+    fn delete(&mut self, alloc: Global, index: &str) -> Result<(), Fault> {
+        let mut indices = Vec::new(alloc);
+        indices.push(String::from_str(alloc, index)?)?;
+        self.view.delete(&indices)
+    }
+
+    // Lets the other widget command.
+    fn exchange(&mut self) {
+        if self.view.others() == 1 {
+            self.view.exchange(0);
+        }
+    }
+
+    fn numbers(&self) -> (Option<usize>, Option<usize>) {
+        (self.view.start_number(), self.view.end_number())
     }
 
     fn insert_bold(&mut self, alloc: Global, text: &str) -> Result<(), Fault> {
@@ -102,5 +132,27 @@ fn typing_is_undone_and_redone(rt: HostRuntime) -> Result<(), Fail> {
     assert_eq!(rt; page.next_bold(), Some(0));
     assert_eq!(rt; page.next_plain(), Some(2));
     assert_eq!(rt; redone.returns.len(), 2);
+    Ok(())
+}
+
+// The newline before what two widgets show is removed, and comes back under another stamp: the limits of both follow it.
+#[test]
+fn limits_follow_a_newline(rt: HostRuntime) -> Result<(), Fail> {
+    let mut page = Page::lined(rt.alloc())?;
+    let mut kept = StateTable::new(rt.alloc())?;
+    assert_eq!(rt; page.numbers(), (Some(2), None));
+    page.exchange();
+    assert_eq!(rt; page.numbers(), (Some(2), Some(4)));
+    assert_eq!(rt; page.insert_place(), 2);
+    page.exchange();
+    page.delete(rt.alloc(), "1.1")?;
+    assert_eq!(rt; page.numbers(), (Some(1), None));
+    let group = cutting(rt.alloc(), 8)?;
+    let undone = page.revert(rt.alloc(), &group, &mut kept)?;
+    assert_eq!(rt; undone.returns.len(), 1);
+    assert_eq!(rt; page.text()?.as_str(), "a\nb\nc\nd\n");
+    assert_eq!(rt; page.numbers(), (Some(2), None));
+    page.exchange();
+    assert_eq!(rt; page.numbers(), (Some(2), Some(4)));
     Ok(())
 }

@@ -31,6 +31,12 @@ still_selected [] own = refl
 still_selected (Gone ranges ∷ changes) own = still_selected changes (own_left (is_covered ranges.items) own)
 still_selected (Inserted place ∷ changes) own = still_selected changes (own_inserted place 1 own)
 
+-- as do its limits
+pub still_limited : (changes : List TextChange) (own : Own) → (own_after changes own).limits ≡ own.limits
+still_limited [] own = refl
+still_limited (Gone ranges ∷ changes) own = still_limited changes (own_left (is_covered ranges.items) own)
+still_limited (Inserted place ∷ changes) own = still_limited changes (own_inserted place 1 own)
+
 -- ROOM FOR PLACES
 
 left_within : (removed : ℕ → Bool) (p : ℕ) → place_left removed p ≤ p

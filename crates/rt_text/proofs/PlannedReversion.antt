@@ -20,11 +20,11 @@ use Rattle.rt_revert.specs.PlannedGroups.{IsPlanOf}
 use Rattle.rt_revert.specs.Plans.{IsOf}
 use Rattle.rt_revert.specs.Reverting.{reversion}
 use Rattle.rt_revert.specs.ReversionLaws.{AreSound}
-use Rattle.rt_text.specs.Changes.{own_after}
+use Rattle.rt_text.specs.Changes.{limits_after, own_after, own_renamed}
 use Rattle.rt_text.specs.Reversions.{own_reverted, reversion_check}
 use Rattle.rt_text.specs.Widgets.{IsOwnOf, Own}
 use Rattle.rt_text.proofs.AcceptedDocument.{all_under, names_are}
-use Rattle.rt_text.proofs.ChangedMarks.{current_alone, insert_alone, still_selected}
+use Rattle.rt_text.proofs.ChangedMarks.{current_alone, insert_alone, still_limited, still_selected}
 use Rattle.rt_text.proofs.RevertedDocument.{IsReverted, head_or, only, own_stands, spent_check}
 
 -- why a group isn't planned
@@ -72,13 +72,13 @@ module _ (states table : TagStates) (store : List (Cell ℕ)) (number count : �
     fits = p.fits (only flat m) (only_is m);
   }
 
-  -- the changes move a widget's own marks as the group that is reverted does
-  pub own_moved : (own : Own) → own_after plan.changes.items own ≡ own_reverted flat group own
+  -- the changes move a widget's own marks, and what came back its limits, as the group that is reverted does
+  pub own_moved : (own : Own) → own_renamed plan.returns.items (own_after plan.changes.items own) ≡ own_reverted flat group own
   own_moved own =
       let changes = plan.changes.items in
       let insert : (own_after changes own).insert ≡ (own_reverted flat group own).insert = ap (head_or own.insert) (sym (insert_alone changes own) ∙ (only_planned own.insert).marks) in
       let current : (own_after changes own).current ≡ (own_reverted flat group own).current = ap (head_or own.current) (sym (current_alone changes own) ∙ (only_planned own.current).marks) in
-      λ k. record { insert = insert k; current = current k; sel = still_selected changes own k }
+      λ k. record { insert = insert k; current = current k; sel = still_selected changes own k; limits = limits_after (planned.returns k) (still_limited changes own k) }
 
   -- and they stand in the text that is left
   pub own_left_in : (own : Own) → IsOwnOf (length (text_of flat.cells)) own → IsOwnOf (length (text_of (reversion flat group).doc.cells)) (own_reverted flat group own)

@@ -5,6 +5,7 @@ pub mod Comparisons
 pub mod Distances
 pub mod Index
 pub mod Kept
+pub mod Limited
 pub mod Parts
 pub mod Proper
 pub mod Ranges

@@ -8,12 +8,13 @@ use Rattle.rt_edits.specs.Selected.{room_in, stamps_in}
 use Rattle.rt_text.specs.declared.parts.Parts.{Parts}
 use Rattle.rt_text.specs.Widgets.{Own}
 
--- a widget's own marks and the stamps of the characters that it has selected
+-- a widget's own marks, the stamps of the characters that it has selected, and its limits
 abbrev pub own_in : Parts → Own
 own_in parts = record {
   insert = record { name = codes "insert"; place = parts.insert.place; gravity = parts.insert.gravity };
   current = record { name = codes "current"; place = parts.current.place; gravity = parts.current.gravity };
   sel = stamps_in parts.selection;
+  limits = parts.limits;
 }
 
 -- each widget that has both neighbours selected has room for the characters between them

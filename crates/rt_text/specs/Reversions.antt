@@ -7,6 +7,7 @@ use Rattle.rt_stamps.specs.Words.{Word}
 use Rattle.rt_edits.specs.Flat.{Flat}
 use Rattle.rt_undo.specs.Actions.{Action}
 use Rattle.rt_revert.specs.Reverting.{reversion, reverted}
+use Rattle.rt_text.specs.Changes.{limits_after}
 use Rattle.rt_text.specs.Commands.{cell_check, clock_check}
 use Rattle.rt_text.specs.Widgets.{Own, Viewed, each_widget}
 
@@ -14,9 +15,14 @@ use Rattle.rt_text.specs.Widgets.{Own, Viewed, each_widget}
 abbrev pub mark_reverted : Flat → List (Action (List Word)) → Mark → Mark
 mark_reverted flat group m = unwrap_or (slice_get (reversion (record flat { marks = m ∷ [] }) group).doc.marks 0) m
 
--- the own marks of each widget move with the text as all marks do; what is selected stays so, and no character that comes back is selected
+-- The own marks of each widget move with the text as all marks do, and its limits follow the newlines that come back; what is selected
+-- stays so, and no character that comes back is selected.
 abbrev pub own_reverted : Flat → List (Action (List Word)) → Own → Own
-own_reverted flat group own = record own { insert = mark_reverted flat group own.insert; current = mark_reverted flat group own.current }
+own_reverted flat group own = record own {
+  insert = mark_reverted flat group own.insert;
+  current = mark_reverted flat group own.current;
+  limits = limits_after (reversion flat group).returns own.limits;
+}
 
 abbrev pub view_reverted : Viewed → List (Action (List Word)) → Viewed
 view_reverted view group = each_widget (own_reverted view.doc group) (record view { doc = reverted view.doc group })

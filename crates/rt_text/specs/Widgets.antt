@@ -18,27 +18,35 @@ use Rattle.rt_edits.specs.Deletions.{places_from}
 use Rattle.rt_edits.specs.Flat.{Flat}
 use Rattle.rt_store.specs.Shown.{TaggedCell}
 use Rattle.rt_store.specs.Spans.{is_among}
+use Rattle.rt_views.specs.declared.limits.Limits.{Limits}
+use Rattle.rt_views.specs.Limits.{no_limits}
 
 -- OWN MARKS
 
--- what is a widget's own: the insertion cursor, the mark that follows the mouse (Tk text manual, "Marks"), and the stamps of
--- the characters that are selected (the tag `sel`); those of removed characters may stay among them
+-- what is a widget's own: the insertion cursor, the mark that follows the mouse (Tk text manual, "Marks"), the stamps of the
+-- characters that are selected (the tag `sel`), those of removed characters perhaps among them, and which lines it shows
 pub record Own : Type 0 where
   pub insert : Mark
   pub current : Mark
   pub sel : List Stamp
+  pub limits : Limits
 
 abbrev pub own_name : OwnMark → List ℕ
 own_name Insert = codes "insert"
 own_name Current = codes "current"
 
--- a new widget's own marks stand at the beginning, with right gravity, and nothing is selected
-abbrev pub new_own : Own
-new_own = record {
-  insert = record { name = codes "insert"; place = 0; gravity = Right };
-  current = record { name = codes "current"; place = 0; gravity = Right };
+-- a new widget's own marks stand where what it shows begins, with right gravity, and nothing is selected
+abbrev pub own_at : ℕ → Limits → Own
+own_at begin limits = record {
+  insert = record { name = codes "insert"; place = begin; gravity = Right };
+  current = record { name = codes "current"; place = begin; gravity = Right };
   sel = [];
+  limits = limits;
 }
+
+-- the first widget shows all lines
+abbrev pub new_own : Own
+new_own = own_at 0 no_limits
 
 -- the own mark that a name names
 abbrev pub own_mark_of : List ℕ → Option OwnMark

@@ -1,15 +1,15 @@
-// Marks after changes of the text.
+// Marks after changes of the text, and limits after newlines came back.
 ghost use Rattle.std.specs.Prelude.{◌≡◌, ◌+◌, ◌≤◌, length};
 ghost use Rattle.std.specs.List.{AllByRecursion};
 ghost use Rattle.rt_marks.specs.Marks.{Each};
 ghost use Rattle.rt_revert.specs.Plans.{IsChange, marks_after, marks_changed};
-ghost use Rattle.rt_text.specs.Changes.{own_after, own_changed};
+ghost use Rattle.rt_text.specs.Changes.{own_after, own_changed, own_renamed};
 ghost use Rattle.rt_text.specs.Parts.{own_in};
 
 use crate::moving::move_back;
 use crate::parts::Parts;
 use rt_marks::Marks;
-use rt_revert::TextChange;
+use rt_revert::{Return, TextChange};
 
 // Moves the marks of a site for a change of the text. It takes no memory.
 fn move_for(marks: &mut Marks, change: &TextChange)
@@ -48,8 +48,8 @@ impl Parts {
         }
     }
 
-    /// Moves its marks for changes of the text, one after the other.
-    pub(crate) fn change_all(&mut self, changes: &[TextChange])
+    // Moves its marks for changes of the text, one after the other.
+    fn change_all(&mut self, changes: &[TextChange])
         requires changes { AllByRecursion IsChange changes.now }
         requires insert { self.old.insert.place + length changes.now ≤ usize.MAX }
         requires current { self.old.current.place + length changes.now ≤ usize.MAX }
@@ -58,5 +58,26 @@ impl Parts {
         for change in changes {
             self.change(change);
         }
+    }
+
+    // Has its limits follow characters that came back. It takes no memory.
+    fn rename(&mut self, returns: &[Return])
+        ensures { own_in self.new ≡ own_renamed returns.now (own_in self.old) }
+    {
+        for r in returns {
+            self.limits = self.limits.renamed(r.former, r.newer);
+        }
+    }
+
+    /// Moves its marks for changes of the text, one after the other, and has its limits follow the
+    /// characters that came back.
+    pub(crate) fn revert(&mut self, changes: &[TextChange], returns: &[Return])
+        requires changes { AllByRecursion IsChange changes.now }
+        requires insert { self.old.insert.place + length changes.now ≤ usize.MAX }
+        requires current { self.old.current.place + length changes.now ≤ usize.MAX }
+        ensures { own_in self.new ≡ own_renamed returns.now (own_after changes.now (own_in self.old)) }
+    {
+        self.change_all(changes);
+        self.rename(returns);
     }
 }

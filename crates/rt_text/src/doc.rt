@@ -13,6 +13,7 @@ ghost use Rattle.rt_rga.specs.Histories.{IsHistory, greatest_last_count};
 
 mod accepting;
 mod editing;
+mod limiting;
 mod marking;
 mod reading;
 mod replacing;

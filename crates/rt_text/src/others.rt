@@ -7,13 +7,13 @@ ghost use Rattle.rt_edits.specs.Selections.{unselected};
 ghost use Rattle.rt_revert.specs.Plans.{IsChange};
 ghost use Rattle.rt_rga.specs.Taken.{AreFallingRuns, is_in_runs};
 ghost use Rattle.rt_store.specs.Spans.{is_among};
-ghost use Rattle.rt_text.specs.Changes.{own_after};
+ghost use Rattle.rt_text.specs.Changes.{own_after, own_renamed};
 ghost use Rattle.rt_text.specs.Parts.{own_in, selected_with};
 ghost use Rattle.rt_text.specs.Widgets.{own_inserted, own_left, reselected};
 
 use crate::parts::Parts;
 use rt_edits::Range;
-use rt_revert::TextChange;
+use rt_revert::{Return, TextChange};
 use rt_rga::Change;
 use rt_stamps::{Fault, Stamp};
 
@@ -88,14 +88,15 @@ pub(crate) fn follow_each(others: &mut [Parts], change: &Change)
     }
 }
 
-/// Moves the marks of each for changes of the text, one after the other.
-pub(crate) fn change_each(others: &mut [Parts], changes: &[TextChange])
+/// Moves the marks of each for changes of the text, one after the other, and has its limits follow the
+/// characters that came back.
+pub(crate) fn revert_each(others: &mut [Parts], changes: &[TextChange], returns: &[Return])
     requires changes { AllByRecursion IsChange changes.now }
     requires fits { All (λ parts. (parts.insert.place + length changes.now ≤ usize.MAX)
         × (parts.current.place + length changes.now ≤ usize.MAX)) others.old }
-    ensures { map own_in others.new ≡ map (own_after changes.now) (map own_in others.old) }
+    ensures { map own_in others.new ≡ map (λ own. own_renamed returns.now (own_after changes.now own)) (map own_in others.old) }
 {
     for i in 0..others.len() {
-        others[i].change_all(changes);
+        others[i].revert(changes, returns);
     }
 }

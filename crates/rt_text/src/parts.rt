@@ -4,12 +4,13 @@ ghost use Rattle.rt_edits.specs.Selected.{room_in, stamps_in};
 ghost use Rattle.rt_edits.specs.Selections.{unselected};
 ghost use Rattle.rt_store.specs.Spans.{is_among};
 ghost use Rattle.rt_text.specs.Parts.{own_in, selected_with};
-ghost use Rattle.rt_text.specs.Widgets.{new_own, own_inserted, own_removed, reselected};
+ghost use Rattle.rt_text.specs.Widgets.{new_own, own_at, own_inserted, own_removed, reselected};
 
 use rt_edits::Selection;
 use rt_marks::Gravity;
 use rt_marks::place::{place_inserted, place_removed};
 use rt_stamps::{Fault, Stamp};
+use rt_views::Limits;
 use std::alloc::Global;
 
 /// A mark without its name.
@@ -19,28 +20,38 @@ pub(crate) struct Gap {
     pub gravity: Gravity,
 }
 
-/// What is a widget's own: its marks `insert` and `current`, and the characters that it has selected.
+/// What is a widget's own: its marks `insert` and `current`, the characters that it has selected, and the
+/// limits of what it shows.
 #[derive(Drop)]
 pub(crate) struct Parts {
     pub insert: Gap,
     pub current: Gap,
     pub selection: Selection,
+    pub limits: Limits,
 }
 
 impl Parts {
-    /// Those of a new widget: its marks stand at the beginning with right gravity, and it has selected
-    /// nothing. They take no memory.
+    /// Those of a new widget that shows all lines: its marks stand at the beginning with right gravity,
+    /// and it has selected nothing. They take no memory.
     pub(crate) fn new(alloc: Global) -> Parts
         ensures { own_in result ≡ new_own }
     {
+        Parts::at(alloc, 0, Limits::none())
+    }
+
+    /// Those of a new widget with limits, whose marks stand where what it shows begins.
+    pub(crate) fn at(alloc: Global, begin: usize, limits: Limits) -> Parts
+        ensures { own_in result ≡ own_at begin limits }
+    {
         let start = Gap {
-            place: 0,
+            place: begin,
             gravity: Gravity::Right,
         };
         Parts {
             insert: start,
             current: start,
             selection: Selection::new(alloc),
+            limits,
         }
     }
 

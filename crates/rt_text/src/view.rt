@@ -9,6 +9,7 @@ ghost use Rattle.rt_text.specs.Widgets.{IsOwnOf, new_own};
 mod accepting;
 mod editing;
 mod lending;
+mod limiting;
 mod losing;
 mod marking;
 mod reading;

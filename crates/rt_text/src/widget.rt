@@ -7,7 +7,7 @@ ghost use Rattle.rt_edits.specs.Selections.{selection_with};
 ghost use Rattle.rt_store.specs.Cells.{visible_of};
 ghost use Rattle.rt_revert.specs.Plans.{IsChange};
 ghost use Rattle.rt_rga.specs.Taken.{AreFallingRuns, is_in_runs};
-ghost use Rattle.rt_text.specs.Changes.{own_after};
+ghost use Rattle.rt_text.specs.Changes.{own_after, own_renamed};
 ghost use Rattle.rt_text.specs.Parts.{own_in};
 ghost use Rattle.rt_text.specs.Widgets.{new_own, own_mark, own_set, own_with_gravity, own_inserted, own_left};
 
@@ -15,17 +15,19 @@ use crate::OwnMark;
 use crate::parts::Parts;
 use rt_edits::{Range, Selection, listing};
 use rt_marks::Gravity;
-use rt_revert::TextChange;
+use rt_revert::{Return, TextChange};
 use rt_rga::Change;
 use rt_stamps::Fault;
 use rt_store::TextStore;
+use rt_views::Limits;
 use std::alloc::Global;
 use std::marker::Model;
 use std::mem::swap;
 
-/// A widget: its marks `insert` and `current`, and the characters that it has selected, which no
-/// other widget sees. Contracts see the two marks and the stamps of those characters. The text that
-/// they stand in is a document's, and each edit of it moves the marks.
+/// A widget: its marks `insert` and `current`, the characters that it has selected, which no other
+/// widget sees, and the limits of the lines that it shows. Contracts see the two marks, the stamps of
+/// those characters, and the limits. The text that they stand in is a document's, and each edit of it
+/// moves the marks.
 pub struct Widget {
     pub(crate) parts: Parts,
 }
@@ -48,14 +50,28 @@ impl Model for Widget {
 }
 
 impl Widget {
-    /// A new widget, whose marks stand at the beginning with right gravity and which has selected
-    /// nothing. It takes no memory.
+    /// A new widget, whose marks stand at the beginning with right gravity, which has selected nothing,
+    /// and shows all lines. It takes no memory.
     pub fn new(alloc: Global) -> Widget
         ensures { result ≡ new_own }
     {
         Widget {
             parts: Parts::new(alloc),
         }
+    }
+
+    /// The limits of what it shows.
+    pub fn limits(&self) -> Limits
+        ensures { result ≡ self.now.limits }
+    {
+        self.parts.limits
+    }
+
+    /// Sets the limits of what it shows.
+    pub(crate) fn set_limits(&mut self, limits: Limits)
+        ensures { self.new ≡ record self.old { limits = limits } }
+    {
+        self.parts.limits = limits;
     }
 
     /// The place of one of its marks.
@@ -153,14 +169,15 @@ impl Widget {
         self.parts.follow(change);
     }
 
-    /// Moves its marks for changes of the text, one after the other.
-    pub(crate) fn change_all(&mut self, changes: &[TextChange])
+    /// Moves its marks for changes of the text, one after the other, and has its limits follow the
+    /// characters that came back.
+    pub(crate) fn revert(&mut self, changes: &[TextChange], returns: &[Return])
         requires changes { AllByRecursion IsChange changes.now }
         requires insert { self.old.insert.place + length changes.now ≤ usize.MAX }
         requires current { self.old.current.place + length changes.now ≤ usize.MAX }
-        ensures { self.new ≡ own_after changes.now self.old }
+        ensures { self.new ≡ own_renamed returns.now (own_after changes.now self.old) }
     {
-        self.parts.change_all(changes);
+        self.parts.revert(changes, returns);
     }
 
     /// Exchanges it for the parts of another.

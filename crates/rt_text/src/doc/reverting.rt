@@ -13,7 +13,7 @@ ghost use Rattle.rt_text.specs.Widgets.{IsOwnOf};
 
 use super::Doc;
 use crate::changing::move_for_all;
-use crate::others::change_each;
+use crate::others::revert_each;
 use crate::parts::Parts;
 use crate::preparing::{list_tags, prepare_tags};
 use crate::{Reverted, Widget};
@@ -62,8 +62,8 @@ impl<S: TextStore> Doc<S> {
         prepare_tags(&mut self.tags, &plan.names)?;
         let _made = self.replica.make(plan.drafts)?;
         move_for_all(&mut self.marks, &plan.changes);
-        widget.change_all(&plan.changes);
-        change_each(others, &plan.changes);
+        widget.revert(&plan.changes, &plan.returns);
+        revert_each(others, &plan.changes, &plan.returns);
         list_tags(&mut self.tags, &plan.names);
         Ok(Reverted {
             returns: plan.returns,

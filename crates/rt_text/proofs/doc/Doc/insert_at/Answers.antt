@@ -269,7 +269,7 @@ returns-clause-ok g c =
     c.add.ensures ∙ (λ i. with_stamps (c.deref.ensures.value i) (c.make_room.ensures.selection i)) ∙ ap (with_stamps c.in_ok-plan.plan.selected.items) sel ∙ plans.sel in
     let own_after : c.inserted-2.new.self ≡ record (own_inserted c.args.place (length new.cells) own) { sel = new.sel } =
     c.inserted-2.ensures
-    ∙ (λ i. record { insert = mark_inserted c.args.place (plans.characters i) own_now.insert; current = mark_inserted c.args.place (plans.characters i) own_now.current; sel = stamps i })
+    ∙ (λ i. record { insert = mark_inserted c.args.place (plans.characters i) own_now.insert; current = mark_inserted c.args.place (plans.characters i) own_now.current; sel = stamps i; limits = own_now.limits })
     ∙ ap (λ (o : Own). record (own_inserted c.args.place (length new.cells) o) { sel = new.sel }) c.widget.view_is in
     let others_after : map own_in c.insert_each.new.others ≡ with_selections new.others (map (own_inserted c.args.place (length new.cells)) others) =
     c.insert_each.ensures ∙ ap (map (own_inserted c.args.place c.in_ok-plan.plan.characters)) (c.select_between.ensures ∙ ap (map (selecting c.in_ok-plan.plan.between)) c.make_room.ensures.others)
@@ -347,7 +347,7 @@ returns-clause-own g c =
     c.add.ensures ∙ (λ i. with_stamps (c.deref.ensures.value i) (c.make_room.ensures.selection i)) ∙ ap (with_stamps c.in_ok-plan.plan.selected.items) sel ∙ plans.sel in
     let own_after : c.inserted-2.new.self ≡ record (own_inserted c.args.place (length new.cells) own) { sel = new.sel } =
     c.inserted-2.ensures
-    ∙ (λ i. record { insert = mark_inserted c.args.place (plans.characters i) own_now.insert; current = mark_inserted c.args.place (plans.characters i) own_now.current; sel = stamps i })
+    ∙ (λ i. record { insert = mark_inserted c.args.place (plans.characters i) own_now.insert; current = mark_inserted c.args.place (plans.characters i) own_now.current; sel = stamps i; limits = own_now.limits })
     ∙ ap (λ (o : Own). record (own_inserted c.args.place (length new.cells) o) { sel = new.sel }) c.widget.view_is in
     let is = own_made flat own others c.args.place pieces rest c.kept.ensures.history c.kept.ensures.document c.requires.pieces listed c.requires.own in
     subst (λ (p : _). p) (λ i. IsOwnOf (length (text_of (sym doc i).cells)) (sym own_after i)) is

@@ -19,7 +19,7 @@ use Rattle.rt_revert.specs.Plans.{IsChange, IsOf, marks_after, named_group}
 use Rattle.rt_revert.specs.Reverting.{reversion, reverted}
 use Rattle.rt_revert.specs.ReversionLaws.{AreSound}
 use Rattle.rt_revert.proofs.Steps.{reversion_sound}
-use Rattle.rt_text.specs.Changes.{own_after}
+use Rattle.rt_text.specs.Changes.{own_after, own_renamed}
 use Rattle.rt_text.specs.Kept.{IsDoc}
 use Rattle.rt_text.specs.Reversions.{own_reverted, reversion_check}
 use Rattle.rt_text.specs.Parts.{own_in}
@@ -156,12 +156,12 @@ move_for_all-requires-clause-fits g c =
     let few : length c.deref-2.result.now ≤ 2 ^ 63 = omega (arith, ap length changes, plan.changes.ok.0, plan.changes.ok.1, plan.changes.small) in
     site_fits n (length c.deref-2.result.now) (2 ^ 64 - 1) c.self.inside.marks (omega (arith, within, few)) c.self.invariant.placed
 
-pub change_all-requires-clause-changes : goal.change_all-requires-clause-changes
-change_all-requires-clause-changes g c =
+pub revert-requires-clause-changes : goal.revert-requires-clause-changes
+revert-requires-clause-changes g c =
     subst (AllByRecursion IsChange) (sym c.deref-3.ensures.value) c.in_ok-plan.ensures.changes
 
-pub change_all-requires-clause-insert : goal.change_all-requires-clause-insert
-change_all-requires-clause-insert g c =
+pub revert-requires-clause-insert : goal.revert-requires-clause-insert
+revert-requires-clause-insert g c =
     let flat = c.args.self.now in
     let group = named_group c.args.kept.now (group_of c.args.group.now) in
     let states = c.kept.result.1.now in
@@ -179,8 +179,8 @@ change_all-requires-clause-insert g c =
     let few : length c.deref-3.result.now ≤ 2 ^ 63 = omega (arith, ap length changes, plan.changes.ok.0, plan.changes.ok.1, plan.changes.small) in
     omega (arith, text, within, few, c.requires.own.0)
 
-pub change_all-requires-clause-current : goal.change_all-requires-clause-current
-change_all-requires-clause-current g c =
+pub revert-requires-clause-current : goal.revert-requires-clause-current
+revert-requires-clause-current g c =
     let flat = c.args.self.now in
     let group = named_group c.args.kept.now (group_of c.args.group.now) in
     let states = c.kept.result.1.now in
@@ -198,12 +198,12 @@ change_all-requires-clause-current g c =
     let few : length c.deref-3.result.now ≤ 2 ^ 63 = omega (arith, ap length changes, plan.changes.ok.0, plan.changes.ok.1, plan.changes.small) in
     omega (arith, text, within, few, c.requires.own.1)
 
-pub change_each-requires-clause-changes : goal.change_each-requires-clause-changes
-change_each-requires-clause-changes g c =
-    subst (AllByRecursion IsChange) (sym c.deref-4.ensures.value) c.in_ok-plan.ensures.changes
+pub revert_each-requires-clause-changes : goal.revert_each-requires-clause-changes
+revert_each-requires-clause-changes g c =
+    subst (AllByRecursion IsChange) (sym c.deref-5.ensures.value) c.in_ok-plan.ensures.changes
 
-pub change_each-requires-clause-fits : goal.change_each-requires-clause-fits
-change_each-requires-clause-fits g c =
+pub revert_each-requires-clause-fits : goal.revert_each-requires-clause-fits
+revert_each-requires-clause-fits g c =
     let flat = c.args.self.now in
     let group = named_group c.args.kept.now (group_of c.args.group.now) in
     let states = c.kept.result.1.now in
@@ -217,13 +217,13 @@ change_each-requires-clause-fits g c =
     let text : n ≡ length (text_of flat.cells) = ap (λ (f : Flat). length (text_of f.cells)) c.self.view_is in
     let cells : length flat.cells ≡ length store = ap length (sym c.kept.ensures.cells) ∙ length-map store (shown states) in
     let within : n ≤ MOST_CELLS = omega (arith, text, cells, text_within flat.cells, c.kept.ensures.few, c.kept.ensures.most) in
-    let changes : c.deref-4.result.now ≡ plan.changes.items = c.deref-4.ensures.value in
-    let few : length c.deref-4.result.now ≤ 2 ^ 63 = omega (arith, ap length changes, plan.changes.ok.0, plan.changes.ok.1, plan.changes.small) in
-    each_room (length (text_of flat.cells)) (length c.deref-4.result.now) (2 ^ 64 - 1) c.args.others.now (omega (arith, text, within, few)) c.requires.others
+    let changes : c.deref-5.result.now ≡ plan.changes.items = c.deref-5.ensures.value in
+    let few : length c.deref-5.result.now ≤ 2 ^ 63 = omega (arith, ap length changes, plan.changes.ok.0, plan.changes.ok.1, plan.changes.small) in
+    each_room (length (text_of flat.cells)) (length c.deref-5.result.now) (2 ^ 64 - 1) c.args.others.now (omega (arith, text, within, few)) c.requires.others
 
 pub list_tags-requires-clause-names : goal.list_tags-requires-clause-names
 list_tags-requires-clause-names g c =
-    subst (All (λ w. IsName (string_bytes w))) (sym c.deref-5.ensures.value) (names_planned c.in_ok-plan.plan c.in_ok-plan.ensures.names)
+    subst (All (λ w. IsName (string_bytes w))) (sym c.deref-7.ensures.value) (names_planned c.in_ok-plan.plan c.in_ok-plan.ensures.names)
 
 pub invariant_of-self-2 : goal.invariant_of-self-2
 invariant_of-self-2 g c =
@@ -255,7 +255,7 @@ invariant_of-self-2 g c =
     (c.make.ensures.site ∙ ap (λ (f : Flat). f.site) c.self.view_is) (c.make.ensures.limit ∙ ap (λ (f : Flat). f.limit) c.self.view_is) in
     let marks : c.move_for_all.new.marks ≡ left.marks = c.move_for_all.ensures ∙ (λ k. marks_after (c.deref-2.ensures.value k) (c.self.view_is k).marks) ∙ plans.marks in
     let tags : c.list_tags.new.table.names ≡ left.tags =
-    c.list_tags.ensures ∙ (λ k. all_listed (map (λ w. string_bytes w) (c.deref-5.ensures.value k)) (c.prepare_tags.ensures.names k)) ∙ ap (λ (f : Flat). all_listed (map (λ w. string_bytes w) plan.names.items) f.tags) c.self.view_is ∙ plans.tags in
+    c.list_tags.ensures ∙ (λ k. all_listed (map (λ w. string_bytes w) (c.deref-7.ensures.value k)) (c.prepare_tags.ensures.names k)) ∙ ap (λ (f : Flat). all_listed (map (λ w. string_bytes w) plan.names.items) f.tags) c.self.view_is ∙ plans.tags in
     let kept : IsDoc flat.cells flat.marks flat.tags = subst (λ (f : Flat). IsDoc f.cells f.marks f.tags) c.self.view_is c.self.invariant in
     subst (λ (x : _). x) (λ k. IsDoc (sym doc k).cells (sym marks k) (sym tags k)) (left_kept flat group i kept)
 
@@ -289,7 +289,7 @@ returns-clause-doc g c =
     (c.make.ensures.site ∙ ap (λ (f : Flat). f.site) c.self.view_is) (c.make.ensures.limit ∙ ap (λ (f : Flat). f.limit) c.self.view_is) in
     let marks : c.move_for_all.new.marks ≡ left.marks = c.move_for_all.ensures ∙ (λ k. marks_after (c.deref-2.ensures.value k) (c.self.view_is k).marks) ∙ plans.marks in
     let tags : c.list_tags.new.table.names ≡ left.tags =
-    c.list_tags.ensures ∙ (λ k. all_listed (map (λ w. string_bytes w) (c.deref-5.ensures.value k)) (c.prepare_tags.ensures.names k)) ∙ ap (λ (f : Flat). all_listed (map (λ w. string_bytes w) plan.names.items) f.tags) c.self.view_is ∙ plans.tags in
+    c.list_tags.ensures ∙ (λ k. all_listed (map (λ w. string_bytes w) (c.deref-7.ensures.value k)) (c.prepare_tags.ensures.names k)) ∙ ap (λ (f : Flat). all_listed (map (λ w. string_bytes w) plan.names.items) f.tags) c.self.view_is ∙ plans.tags in
     (λ k. seen c.make.new.self (marks k) (tags k)) ∙ doc
 
 pub returns-clause-widget : goal.returns-clause-widget
@@ -317,8 +317,8 @@ returns-clause-widget g c =
     let plans = planned states table store number many flat group plan p in
     let i = reverts states table store number many flat group plan p in
     let own = c.args.widget.now in
-    let moved : c.change_all.new.self ≡ own_reverted flat group own =
-    c.change_all.ensures ∙ (λ k. own_after (c.deref-3.ensures.value k) own) ∙ own_moved states table store number many flat group plan p own in
+    let moved : c.revert.new.self ≡ own_reverted flat group own =
+    c.revert.ensures ∙ (λ k. own_renamed (c.deref-4.ensures.value k) (own_after (c.deref-3.ensures.value k) own)) ∙ own_moved states table store number many flat group plan p own in
     moved
 
 pub returns-clause-peers : goal.returns-clause-peers
@@ -346,7 +346,7 @@ returns-clause-peers g c =
     let plans = planned states table store number many flat group plan p in
     let i = reverts states table store number many flat group plan p in
     let others = map own_in c.args.others.now in
-    c.change_each.ensures ∙ (λ k. map (own_after (c.deref-4.ensures.value k)) others) ∙ (λ k. map (λ own. own_moved states table store number many flat group plan p own k) others)
+    c.revert_each.ensures ∙ (λ k. map (λ own. own_renamed (c.deref-6.ensures.value k) (own_after (c.deref-5.ensures.value k) own)) others) ∙ (λ k. map (λ own. own_moved states table store number many flat group plan p own k) others)
 
 pub returns-clause-checked : goal.returns-clause-checked
 returns-clause-checked g c =
@@ -481,8 +481,8 @@ returns-clause-own g c =
     left_seen flat group i c.make.new.self (c.in_ok-_made.ensures.log ∙ (λ k. with_drafts (c.self.view_is k).site (plans.drafts k) (c.self.view_is k).log)) c.in_ok-_made.ensures.cells
     (c.make.ensures.site ∙ ap (λ (f : Flat). f.site) c.self.view_is) (c.make.ensures.limit ∙ ap (λ (f : Flat). f.limit) c.self.view_is) in
     let own = c.args.widget.now in
-    let moved : c.change_all.new.self ≡ own_reverted flat group own =
-    c.change_all.ensures ∙ (λ k. own_after (c.deref-3.ensures.value k) own) ∙ own_moved states table store number many flat group plan p own in
+    let moved : c.revert.new.self ≡ own_reverted flat group own =
+    c.revert.ensures ∙ (λ k. own_renamed (c.deref-4.ensures.value k) (own_after (c.deref-3.ensures.value k) own)) ∙ own_moved states table store number many flat group plan p own in
     subst (λ (x : _). x) (λ k. IsOwnOf (length (text_of (sym doc k).cells)) (sym moved k)) (own_left_in states table store number many flat group plan p own c.requires.own)
 
 pub returns-clause-others : goal.returns-clause-others
@@ -514,8 +514,8 @@ returns-clause-others g c =
     left_seen flat group i c.make.new.self (c.in_ok-_made.ensures.log ∙ (λ k. with_drafts (c.self.view_is k).site (plans.drafts k) (c.self.view_is k).log)) c.in_ok-_made.ensures.cells
     (c.make.ensures.site ∙ ap (λ (f : Flat). f.site) c.self.view_is) (c.make.ensures.limit ∙ ap (λ (f : Flat). f.limit) c.self.view_is) in
     let others = map own_in c.args.others.now in
-    let moved : map own_in c.change_each.new.others ≡ map (own_reverted flat group) others =
-    c.change_each.ensures ∙ (λ k. map (own_after (c.deref-4.ensures.value k)) others) ∙ (λ k. map (λ own. own_moved states table store number many flat group plan p own k) others) in
+    let moved : map own_in c.revert_each.new.others ≡ map (own_reverted flat group) others =
+    c.revert_each.ensures ∙ (λ k. map (λ own. own_renamed (c.deref-6.ensures.value k) (own_after (c.deref-5.ensures.value k) own)) others) ∙ (λ k. map (λ own. own_moved states table store number many flat group plan p own k) others) in
     subst (λ (x : _). x) (λ k. AllByRecursion (IsOwnOf (length (text_of (sym doc k).cells))) (sym moved k))
     (each_by (IsOwnOf (length (text_of flat.cells))) (IsOwnOf (length (text_of (reverted flat group).cells))) (own_reverted flat group)
     (λ own stands. own_left_in states table store number many flat group plan p own stands) others c.requires.others)

@@ -1,14 +1,14 @@
 use Rattle.std.proofs.Common.{◌≡◌, get_or, ap, ◌<◌, ◌∙◌, arith, length}
 use Rattle.std.proofs.lemmas.List.{length-set}
-use Rattle.rt_text.specs.Changes.{own_after}
+use Rattle.rt_text.specs.Changes.{own_after, own_renamed}
 use Rattle.rt_text.specs.declared.parts.Parts.{Parts}
 use Rattle.rt_edits.proofs.SelectionLaws.{done_more, rest_more}
 use Rattle.rt_text.specs.Parts.{own_in}
 use Rattle.rt_text.proofs.PeerLaws.{rest_same}
-use Rattle.rt_text.proofs.others.change_each.Goals as goal
+use Rattle.rt_text.proofs.others.revert_each.Goals as goal
 
-pub change_all-requires-clause-insert : goal.change_all-requires-clause-insert
-change_all-requires-clause-insert c =
+pub revert-requires-clause-insert : goal.revert-requires-clause-insert
+revert-requires-clause-insert c =
     let xs = c.args.others.now in
     let ys = c.loop-i.others in
     let i = c.loop-i.i in
@@ -19,8 +19,8 @@ change_all-requires-clause-insert c =
     let same : (get_or ys i d).insert.place ≡ (get_or xs i d).insert.place = ap (λ (p : Parts). p.insert.place) (rest_same xs ys i d lt known.len known.rest) in
     omega (arith, here.0, same)
 
-pub change_all-requires-clause-current : goal.change_all-requires-clause-current
-change_all-requires-clause-current c =
+pub revert-requires-clause-current : goal.revert-requires-clause-current
+revert-requires-clause-current c =
     let xs = c.args.others.now in
     let ys = c.loop-i.others in
     let i = c.loop-i.i in
@@ -37,11 +37,11 @@ loop-i-preserved c =
     let ys = c.loop-i.others in
     let i = c.loop-i.i in
     let d = c.index-others-i.result in
-    let x = c.change_all.new.self in
+    let x = c.revert.new.self in
     let known = c.loop-i.invariant in
     let lt : i < length xs = omega (arith, c.loop-i-test.true) in
     record {
-      done = done_more own_in xs ys i d lt known.len known.rest (own_after c.args.changes.now) x known.done c.change_all.ensures;
+      done = done_more own_in xs ys i d lt known.len known.rest (λ own. own_renamed c.args.returns.now (own_after c.args.changes.now own)) x known.done c.revert.ensures;
       rest = rest_more own_in xs ys i d lt known.len known.rest x;
       len = length-set ys i x ∙ known.len;
     }

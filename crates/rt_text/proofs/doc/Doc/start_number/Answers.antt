@@ -1,0 +1,16 @@
+use Rattle.std.proofs.Common.{◌∙◌, ap, arith, sym}
+use Rattle.std.specs.Prelude.{option_map}
+use Rattle.rt_tags.specs.States.{state_at}
+use Rattle.rt_views.specs.Limits.{start_number}
+use Rattle.rt_views.proofs.Shown.{first_shown}
+use Rattle.rt_text.proofs.doc.Doc.start_number.Goals as goal
+
+pub start_number-requires : goal.start_number-requires
+start_number-requires g c = omega (arith, c.kept.ensures.few, c.kept.ensures.most)
+
+pub returns : goal.returns
+returns g c =
+    let kept = g.S.TextStore.list c.kept.result.0.now in
+    let limits = c.args.limits in
+    c.start_number.ensures ∙ ap (λ line. option_map (λ _. line) limits.start) (sym (first_shown (state_at c.kept.result.1.now) kept limits))
+    ∙ ap (λ cells. start_number cells limits) c.kept.ensures.cells

@@ -1,0 +1,55 @@
+// The limits of what a widget shows.
+ghost use Rattle.std.specs.Prelude.{◌≡◌, Ok, Err, IfErr, OnErr, OnOk};
+ghost use Rattle.rt_stamps.specs.Outcomes.{Refuses};
+ghost use Rattle.rt_text.specs.Limited.{limited, with_peer};
+ghost use Rattle.rt_views.specs.Limits.{end_number, start_number};
+
+use super::View;
+use crate::parts::Parts;
+use rt_stamps::Fault;
+use rt_store::TextStore;
+use rt_views::Choice;
+
+impl<S: TextStore> View<S> {
+    /// Sets which lines the widget shows, by lines of the whole text (`configure` with `-startline` and
+    /// `-endline`): from the first one named up to before the other. A limit that isn't named keeps its
+    /// newline. `BadView` where there are no such lines, and then nothing changes. It takes no memory.
+    pub fn set_lines(&mut self, start: Choice, end: Choice) -> Result<(), Fault>
+        ensures ok { OnOk result (limited self.old start end ≡ Ok self.new) }
+        ensures err { IfErr result (λ fault. limited self.old start end ≡ Err fault) }
+        ensures unchanged { OnErr result (self.new ≡ self.old) }
+    {
+        let limits = self.doc.limits_chosen(self.widget.limits(), start, end)?;
+        self.widget.set_limits(limits);
+        Ok(())
+    }
+
+    /// Adds a new widget behind the others (`peer create`), which shows the lines that are asked for, and
+    /// else those that this widget shows. Its marks stand at the first place that it shows. `BadView` where
+    /// there are no such lines, or want of memory, and then nothing changes.
+    pub fn add_peer(&mut self, start: Choice, end: Choice) -> Result<(), Fault>
+        ensures ok { OnOk result (with_peer self.old start end ≡ Ok self.new) }
+        ensures err { IfErr result (Refuses (with_peer self.old start end)) }
+        ensures unchanged { OnErr result (self.new ≡ self.old) }
+    {
+        let limits = self.doc.limits_chosen(self.widget.limits(), start, end)?;
+        let begin = self.doc.stretch(limits).begin;
+        Ok(self.others.push(Parts::at(self.alloc, begin, limits))?)
+    }
+
+    /// The line of the whole text that the widget shows first; none without a limit there (`cget
+    /// -startline`).
+    pub fn start_number(&self) -> Option<usize>
+        ensures { result ≡ start_number self.now.doc.cells self.now.own.limits }
+    {
+        self.doc.start_number(self.widget.limits())
+    }
+
+    /// The line of the whole text behind the last one that the widget shows; none without a limit there
+    /// (`cget -endline`).
+    pub fn end_number(&self) -> Option<usize>
+        ensures { result ≡ end_number self.now.doc.cells self.now.own.limits }
+    {
+        self.doc.end_number(self.widget.limits())
+    }
+}
