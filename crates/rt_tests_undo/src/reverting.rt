@@ -116,23 +116,52 @@ impl Page {
     }
 }
 
+// What a page shows, and where its insertion cursor stands.
+fn assert_shows(rt: &impl Abort, page: &Page, text: &str, place: usize) -> Result<(), Fault> {
+    assert_eq!(rt; page.text()?.as_str(), text);
+    assert_eq!(rt; page.insert_place(), place);
+    Ok(())
+}
+
+// `ab` has the tag, and nothing else.
+fn assert_bold(rt: &impl Abort, page: &Page) {
+    assert_eq!(rt; page.next_bold(), Some(0));
+    assert_eq!(rt; page.next_plain(), Some(2));
+}
+
 // What was typed goes, and comes back with its tag; the insertion cursor stands behind it again.
 #[test]
 fn typing_is_undone_and_redone(rt: HostRuntime) -> Result<(), Fail> {
     let mut page = Page::typed(rt.alloc())?;
     let mut kept = StateTable::new(rt.alloc())?;
-    let group = typing(rt.alloc())?;
-    let undone = page.revert(rt.alloc(), &group, &mut kept)?;
-    assert_eq!(rt; page.text()?.as_str(), "\n");
-    assert_eq!(rt; page.insert_place(), 0);
+    let undone = page.revert(rt.alloc(), &typing(rt.alloc())?, &mut kept)?;
+    assert_shows(&rt, &page, "\n", 0)?;
     assert_eq!(rt; undone.returns.len(), 0);
     let redone = page.revert(rt.alloc(), &undone.actions, &mut kept)?;
-    assert_eq!(rt; page.text()?.as_str(), "ab\n");
-    assert_eq!(rt; page.insert_place(), 2);
-    assert_eq!(rt; page.next_bold(), Some(0));
-    assert_eq!(rt; page.next_plain(), Some(2));
     assert_eq!(rt; redone.returns.len(), 2);
+    assert_shows(&rt, &page, "ab\n", 2)?;
+    assert_bold(&rt, &page);
     Ok(())
+}
+
+// Which lines the widget that commands shows, and which the other one.
+fn assert_lines(
+    rt: &impl Abort,
+    page: &mut Page,
+    own: (Option<usize>, Option<usize>),
+    other: (Option<usize>, Option<usize>),
+) {
+    assert_eq!(rt; page.numbers(), own);
+    page.exchange();
+    assert_eq!(rt; page.numbers(), other);
+    page.exchange();
+}
+
+// The other widget's insertion cursor stands where it begins.
+fn assert_begin(rt: &impl Abort, page: &mut Page) {
+    page.exchange();
+    assert_eq!(rt; page.insert_place(), 2);
+    page.exchange();
 }
 
 // The newline before what two widgets show is removed, and comes back under another stamp: the limits of both follow it.
@@ -140,19 +169,13 @@ fn typing_is_undone_and_redone(rt: HostRuntime) -> Result<(), Fail> {
 fn limits_follow_a_newline(rt: HostRuntime) -> Result<(), Fail> {
     let mut page = Page::lined(rt.alloc())?;
     let mut kept = StateTable::new(rt.alloc())?;
-    assert_eq!(rt; page.numbers(), (Some(2), None));
-    page.exchange();
-    assert_eq!(rt; page.numbers(), (Some(2), Some(4)));
-    assert_eq!(rt; page.insert_place(), 2);
-    page.exchange();
+    assert_lines(&rt, &mut page, (Some(2), None), (Some(2), Some(4)));
+    assert_begin(&rt, &mut page);
     page.delete(rt.alloc(), "1.1")?;
     assert_eq!(rt; page.numbers(), (Some(1), None));
-    let group = cutting(rt.alloc(), 8)?;
-    let undone = page.revert(rt.alloc(), &group, &mut kept)?;
+    let undone = page.revert(rt.alloc(), &cutting(rt.alloc(), 8)?, &mut kept)?;
     assert_eq!(rt; undone.returns.len(), 1);
     assert_eq!(rt; page.text()?.as_str(), "a\nb\nc\nd\n");
-    assert_eq!(rt; page.numbers(), (Some(2), None));
-    page.exchange();
-    assert_eq!(rt; page.numbers(), (Some(2), Some(4)));
+    assert_lines(&rt, &mut page, (Some(2), None), (Some(2), Some(4)));
     Ok(())
 }
