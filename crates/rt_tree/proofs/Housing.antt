@@ -241,6 +241,15 @@ joined_holders a b left right old new j was is stamp =
     let s = bits_joined a b stamp (joint_true a b j) in
     omega (arith, o, n, s)
 
+-- where both have leaves, so has the second
+pub joined_placed : (leaves : Shown NodeId) (a b : Run) → are_joint a b ≡ true → IsPlaced leaves (joined a b) → IsPlaced leaves b
+joined_placed leaves a b j placed stamp h =
+    split (has (joined a b) stamp) (λ t. placed stamp t) (λ f.
+    let s = bits_joined a b stamp (joint_true a b j) in
+    let none = no_bit (has (joined a b) stamp) f in
+    let one = is_bit (has b stamp) h in
+    absurd (omega (arith, s, none, one)))
+
 -- WHERE A STAMP IS
 
 none_begin : (stamp : Stamp) (rs : List Run) → holders stamp rs ≡ 0 → AllByRecursion (BeginsAt stamp) rs

@@ -119,3 +119,10 @@ module _ (m : Memory) (root : ℕ) (t : IsTree m root) (leaf entry offset at : �
     was = at_spot;
     is = is;
   }
+
+-- a run that stands in place of another leaves as many
+pub replaced_length : (old new : List Run) (at : ℕ) (run : Run) → IsReplacedAt old new at run → length new ≡ length old
+replaced_length old new at run rep =
+    let is = ap (λ (l : List Run). length l) rep.is ∙ length-append rep.was.left (run ∷ rep.was.right) in
+    let was = ap (λ (l : List Run). length l) rep.was.here ∙ length-append rep.was.left (rep.before ∷ rep.was.right) in
+    omega (arith, is, was)

@@ -13,7 +13,7 @@ ghost use Rattle.rt_tree.specs.Trees.{HasNodes};
 use crate::find::{cells_of, has, seek, sum_of};
 use crate::homes::Homes;
 use crate::node::{Measure, Mem, Run};
-use crate::put::{put, replace};
+use crate::put::{found_at, put, replace_at};
 use rt_nodes::NodeId;
 use rt_stamps::Stamp;
 
@@ -67,12 +67,13 @@ pub(crate) fn cut(mem: &mut Mem, root: NodeId, at: usize) -> Change
     if at == sum_of(mem, root).cells as usize {
         return Change { root, more: 0 };
     }
-    let found = seek(mem, root, Measure::Cells, at);
+    let found = found_at(mem, root, at);
     let offset = found.spot.offset;
     if offset == 0 {
         return Change { root, more: 0 };
     }
-    replace(mem, root, at, back_of(found.run, offset as u32));
+    let back = back_of(found.run, offset as u32);
+    replace_at(mem, root, found.spot, back);
     let front = front_of(found.run, offset as u32);
     let root = put(mem, root, at - offset, front);
     Change { root, more: 1 }

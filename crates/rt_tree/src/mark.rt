@@ -13,10 +13,10 @@ ghost use Rattle.rt_tree.specs.Sums.{counts_of};
 ghost use Rattle.rt_tree.specs.Trees.{HasNodes};
 
 use crate::cut::{Change, part};
-use crate::find::{cells_of, seek};
+use crate::find::cells_of;
 use crate::homes::Homes;
-use crate::node::{Measure, Mem, Run};
-use crate::put::replace;
+use crate::node::{Mem, Run};
+use crate::put::{found_at, replace_at};
 use rt_nodes::NodeId;
 use rt_stamps::{Span, Stamp};
 use rt_tags::StateId;
@@ -54,9 +54,9 @@ fn mark_run(mem: &mut Mem, root: NodeId, at: usize, span: Span, mark: &Mark) -> 
     ensures run { IsChangedAt (tree_runs mem.old root.index) (tree_runs mem.new root.index) at (run_in span mark.now) result }
     ensures room { length mem.new.heads + mem.new.room ≡ length mem.old.heads + mem.old.room }
 {
-    let found = seek(mem, root, Measure::Cells, at);
+    let found = found_at(mem, root, at);
     if is_first_in(span, &found.run) {
-        replace(mem, root, at, marked(found.run, mark));
+        replace_at(mem, root, found.spot, marked(found.run, mark));
     }
     found.run.len
 }

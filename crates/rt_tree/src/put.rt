@@ -1,5 +1,5 @@
 // Runs put in, and put in place of others.
-ghost use Rattle.std.specs.Prelude.{◌≡◌, ◌+◌, ◌*◌, ◌<◌, ◌≤◌, ◌^◌, insert, length, true};
+ghost use Rattle.std.specs.Prelude.{◌≡◌, ℕ, ◌+◌, ◌*◌, ◌<◌, ◌≤◌, ◌^◌, insert, length, true};
 ghost use Rattle.rt_nodes.specs.Nodes.{entries};
 ghost use Rattle.rt_tree.specs.declared.node.Measure.TheVariants.{Cells};
 ghost use Rattle.rt_tree.specs.declared.node.Run.{Run};
@@ -9,7 +9,7 @@ ghost use Rattle.rt_tree.specs.Shape.{IsShape, IsTree, ahead, level_of, runs, tr
 ghost use Rattle.rt_tree.specs.Sharing.{AreKnown};
 ghost use Rattle.rt_tree.specs.Sums.{AreFew, amount, counts_of, counts_of_run, plus};
 ghost use Rattle.rt_tree.specs.Trees.{HasNodes};
-ghost use Rattle.rt_tree.specs.Walks.{IsPutAt, IsReplacedAt, IsSpot};
+ghost use Rattle.rt_tree.specs.Walks.{IsPutAt, IsReplacedAt, IsSpot, StandsAt};
 
 use crate::change::{put_run, set_run};
 use crate::homes::Homes;
@@ -17,7 +17,7 @@ use crate::looks::Counted;
 use crate::node::{Measure, Mem, Run};
 use crate::room::{make_room, top_room};
 use crate::settle::level_of;
-use crate::walk::{Spot, descend_by};
+use crate::walk::{Found, Spot, descend_by};
 use rt_nodes::NodeId;
 
 // Puts a run in at a place of a leaf, the root having room.
@@ -43,6 +43,21 @@ fn insert_run(mem: &mut Mem, root: NodeId, height: u32, leaf: NodeId, i: usize, 
     put_run(mem, root, height, place.leaf, place.entry, run);
 }
 
+// The run that has the cell at a position, with the spot where it stands.
+pub(crate) fn found_at(mem: &Mem, root: NodeId, at: usize) -> Found
+    requires tree { IsTree mem.now root.index }
+    requires few { AreFew (counts_of (tree_runs mem.now root.index)) }
+    requires within { at < (counts_of (tree_runs mem.now root.index)).cells }
+    ensures spot { IsSpot mem.now root.index Cells at result.spot.leaf.index result.spot.entry result.spot.offset result.run }
+    ensures run { StandsAt Cells (tree_runs mem.now root.index) result.run result.before result.spot.offset at }
+{
+    crate::find::height(mem, root);
+    let mut looks = 0;
+    let looks = &mut looks;
+    let mut sight = Counted { mem, looks };
+    descend_by(&mut sight, root, Measure::Cells, at)
+}
+
 // The spot of the cell at a position.
 fn spot_of(mem: &Mem, root: NodeId, at: usize) -> Spot
     requires tree { IsTree mem.now root.index }
@@ -50,11 +65,7 @@ fn spot_of(mem: &Mem, root: NodeId, at: usize) -> Spot
     requires within { at < (counts_of (tree_runs mem.now root.index)).cells }
     ensures { (run : Run) × IsSpot mem.now root.index Cells at result.leaf.index result.entry result.offset run }
 {
-    crate::find::height(mem, root);
-    let mut looks = 0;
-    let looks = &mut looks;
-    let mut sight = Counted { mem, looks };
-    descend_by(&mut sight, root, Measure::Cells, at).spot
+    found_at(mem, root, at).spot
 }
 
 // Puts a run in before the one that has the cell at a position. The root may now be another node.
@@ -110,17 +121,16 @@ pub(crate) fn put_home(
     root
 }
 
-// Puts a run in place of the one that has the cell at a position.
-pub(crate) fn replace(mem: &mut Mem, root: NodeId, at: usize, run: Run)
+// Puts a run in place of the one at a spot.
+pub(crate) fn replace_at(mem: &mut Mem, root: NodeId, spot: Spot, run: Run)
     requires tree { IsTree mem.old root.index }
-    requires within { at < (counts_of (tree_runs mem.old root.index)).cells }
+    requires spot { (at : ℕ) × (before : Run) × IsSpot mem.old root.index Cells at spot.leaf.index spot.entry spot.offset before }
     requires few { AreFew (plus (counts_of_run run) (counts_of (tree_runs mem.old root.index))) }
     ensures tree { IsTree mem.new root.index }
-    ensures runs { IsReplacedAt (tree_runs mem.old root.index) (tree_runs mem.new root.index) at run }
-    ensures height { level_of mem.new root.index ≡ level_of mem.old root.index }
+    ensures runs { (at : ℕ) (before : Run) → IsSpot mem.old root.index Cells at spot.leaf.index spot.entry spot.offset before
+        → IsReplacedAt (tree_runs mem.old root.index) (tree_runs mem.new root.index) at run }
     ensures room { (mem.new.room ≡ mem.old.room) × (length mem.new.heads ≡ length mem.old.heads) }
 {
     let height = level_of(mem, root);
-    let spot = spot_of(mem, root, at);
     set_run(mem, root, height, spot.leaf, spot.entry, run);
 }

@@ -16,7 +16,7 @@ use crate::cut::{Change, cut_home};
 use crate::find::{cells_of, first_stamp, has, seek};
 use crate::homes::Homes;
 use crate::node::{Measure, Mem, Run};
-use crate::put::{put_home, replace};
+use crate::put::{found_at, put_home, replace_at};
 use rt_nodes::NodeId;
 use rt_store::Cell;
 use rt_tags::StateId;
@@ -363,7 +363,7 @@ fn extend(
     if at == 0 || cells.is_empty() {
         return 0;
     }
-    let found = seek(mem, root, Measure::Cells, at - 1);
+    let found = found_at(mem, root, at - 1);
     let run = run_of(text, cells);
     if found.spot.offset + 1 < found.run.len as usize || !are_joint(&found.run, &run) {
         return 0;
@@ -373,13 +373,8 @@ fn extend(
         return 0;
     }
     let whole = joined(found.run, run);
-    replace(mem, root, at - 1, whole);
-    homes.enter(&run, found.spot.leaf, is_new);
-    homes.hint(
-        &whole,
-        found.spot.leaf,
-        keep + (cells.len() - run.len as usize),
-    );
+    replace_at(mem, root, found.spot, whole);
+    homes.enter(&whole, found.spot.leaf, is_new);
     run.len as usize
 }
 

@@ -9,26 +9,29 @@ use Rattle.rt_tree.proofs.Cutting.{few_all}
 use Rattle.rt_tree.proofs.Marking.{changed_in, changed_out, marked_few}
 use Rattle.rt_tree.proofs.mark.mark_run.Goals as goal
 
-pub seek-found-requires-clause-few : goal.seek-found-requires-clause-few
-seek-found-requires-clause-few c = few_all (tree_runs c.args.mem.now c.args.root.index) c.requires.kept c.requires.few
+pub found_at-found-requires-clause-few : goal.found_at-found-requires-clause-few
+found_at-found-requires-clause-few c = few_all (tree_runs c.args.mem.now c.args.root.index) c.requires.kept c.requires.few
 
-pub replace-requires-clause-few : goal.replace-requires-clause-few
-replace-requires-clause-few c =
+pub replace_at-requires-clause-few : goal.replace_at-requires-clause-few
+replace_at-requires-clause-few c =
     let old = tree_runs c.args.mem.now c.args.root.index in
-    let f = c.seek-found.result in
+    let f = c.found_at-found.result in
     subst (λ (r : Run). AreFew (plus (counts_of_run r) (counts_of old))) (sym c.marked.ensures)
-    (marked_few c.args.mark.now old f.run f.before f.spot.offset c.args.at c.requires.kept c.requires.few c.seek-found.ensures)
+    (marked_few c.args.mark.now old f.run f.before f.spot.offset c.args.at c.requires.kept c.requires.few c.found_at-found.ensures.run)
 
 pub returns-then-is_first_in-clause-run : goal.returns-then-is_first_in-clause-run
 returns-then-is_first_in-clause-run c =
-    let old = tree_runs c.args.mem.now c.args.root.index in let new = tree_runs c.replace.new.mem c.args.root.index in
-    let f = c.seek-found.result in
+    let old = tree_runs c.args.mem.now c.args.root.index in let new = tree_runs c.replace_at.new.mem c.args.root.index in
+    let f = c.found_at-found.result in
     let in_it : is_in_span c.args.span (first_stamp f.run) ≡ true = sym c.is_first_in.ensures ∙ c.if-is_first_in.true in
-    changed_in c.args.span c.args.mark.now old f.run f.before f.spot.offset c.args.at new c.requires.kept c.seek-found.ensures in_it (subst (λ (r : Run). IsReplacedAt old new c.args.at r) c.marked.ensures c.replace.ensures.runs)
+    changed_in c.args.span c.args.mark.now old f.run f.before f.spot.offset c.args.at new c.requires.kept c.found_at-found.ensures.run in_it (subst (λ (r : Run). IsReplacedAt old new c.args.at r) c.marked.ensures (c.replace_at.ensures.runs c.args.at f.run c.found_at-found.ensures.spot))
 
 pub returns-else-is_first_in-clause-run : goal.returns-else-is_first_in-clause-run
 returns-else-is_first_in-clause-run c =
     let old = tree_runs c.args.mem.now c.args.root.index in
-    let f = c.seek-found.result in
+    let f = c.found_at-found.result in
     let out : is_in_span c.args.span (first_stamp f.run) ≡ false = sym c.is_first_in.ensures ∙ c.if-is_first_in.false in
-    changed_out c.args.span c.args.mark.now old f.run f.before f.spot.offset c.args.at c.seek-found.ensures out
+    changed_out c.args.span c.args.mark.now old f.run f.before f.spot.offset c.args.at c.found_at-found.ensures.run out
+
+pub replace_at-requires-clause-spot : goal.replace_at-requires-clause-spot
+replace_at-requires-clause-spot c = (c.args.at, c.found_at-found.result.run, c.found_at-found.ensures.spot)

@@ -1,17 +1,19 @@
 use Rattle.std.proofs.Common.{◌+◌, ◌-◌, ◌∙◌, ap, sym, subst, arith}
 use Rattle.rt_tree.specs.declared.node.Run.{Run}
+use Rattle.rt_tree.specs.Homes.{IsPlaced}
 use Rattle.rt_tree.specs.Shape.{tree_runs}
 use Rattle.rt_tree.specs.Stretches.{AreKept}
 use Rattle.rt_tree.specs.Sums.{AreFew, counts_of, counts_of_run, plus}
 use Rattle.rt_tree.specs.Walks.{IsReplacedAt}
 use Rattle.rt_tree.proofs.Cutting.{few_all, few_with}
-use Rattle.rt_tree.proofs.Housing.{home_more, joined_holders, keeps_more, placed_more, unknown_new}
+use Rattle.rt_tree.proofs.Housing.{home_more, joined_holders, joined_placed, unknown_new}
 use Rattle.rt_tree.proofs.Edges.{counts_mid}
+use Rattle.rt_tree.proofs.Puts.{replaced_length}
 use Rattle.rt_tree.proofs.Splicing.{extended, extended_apart, new_is}
 use Rattle.rt_tree.proofs.splice.extend.Goals as goal
 
-pub seek-found-requires-clause-few : goal.seek-found-requires-clause-few
-seek-found-requires-clause-few c =
+pub found_at-found-requires-clause-few : goal.found_at-found-requires-clause-few
+found_at-found-requires-clause-few c =
     let old = tree_runs c.args.mem.now c.args.root.index in
     let kept : AreKept old = record { text = c.args.text.now; short = c.requires.short; runs = c.requires.kept } in
     few_all old kept (omega (arith, c.requires.few))
@@ -27,7 +29,7 @@ is_new-is_new-requires c = c.run_of-run.ensures.run.counts
 
 pub is_barred-requires-clause-sum : goal.is_barred-requires-clause-sum
 is_barred-requires-clause-sum c =
-    let st = c.seek-found.ensures in let run = c.seek-found.result.run in
+    let st = c.found_at-found.ensures.run in let run = c.found_at-found.result.run in
     let w = ap (λ l. (counts_of l).cells) st.here ∙ counts_mid st.left run st.right in
     let low = c.run_of-run.ensures.stretch.within in
     omega (arith, w, low, c.requires.few)
@@ -39,7 +41,7 @@ pub is_barred-requires-clause-joint : goal.is_barred-requires-clause-joint
 is_barred-requires-clause-joint c = sym c.are_joint.ensures ∙ c.if-not-are_joint.false
 
 pub is_barred-requires-clause-among : goal.is_barred-requires-clause-among
-is_barred-requires-clause-among c = let st = c.seek-found.ensures in record { left = st.left; right = st.right; here = st.here }
+is_barred-requires-clause-among c = let st = c.found_at-found.ensures.run in record { left = st.left; right = st.right; here = st.here }
 
 pub is_barred-requires-clause-once : goal.is_barred-requires-clause-once
 is_barred-requires-clause-once c = λ new. (c.requires.home (c.is_new-is_new.ensures.sure new)).once
@@ -51,42 +53,46 @@ is_barred-requires-clause-new c =
 
 pub joined-whole-requires : goal.joined-whole-requires
 joined-whole-requires c =
-    let st = c.seek-found.ensures in let run = c.seek-found.result.run in
+    let st = c.found_at-found.ensures.run in let run = c.found_at-found.result.run in
     let w = ap (λ l. (counts_of l).cells) st.here ∙ counts_mid st.left run st.right in
     let low = c.run_of-run.ensures.stretch.within in
     omega (arith, w, low, c.requires.few)
 
 pub returns-clause-home : goal.returns-clause-home
 returns-clause-home c =
-    let old = tree_runs c.args.mem.now c.args.root.index in let new = tree_runs c.replace.new.mem c.args.root.index in
-    let st = c.seek-found.ensures in let f = c.seek-found.result in let b = c.run_of-run.result in
-    let rep = subst (λ (r : Run). IsReplacedAt old new (c.args.at - 1) r) c.joined-whole.ensures c.replace.ensures.runs in
+    let old = tree_runs c.args.mem.now c.args.root.index in let new = tree_runs c.replace_at.new.mem c.args.root.index in
+    let st = c.found_at-found.ensures.run in let f = c.found_at-found.result in let b = c.run_of-run.result in
+    let rep = subst (λ (r : Run). IsReplacedAt old new (c.args.at - 1) r) c.joined-whole.ensures (c.replace_at.ensures.runs (c.args.at - 1) c.found_at-found.result.run c.found_at-found.ensures.spot) in
     let joint = sym c.are_joint.ensures ∙ c.if-not-are_joint.false in
     let is = new_is c.args.text.now old c.args.at c.args.cells.now c.requires.kept f.run b f.before f.spot.offset st (let z = c.if-at-eq0.false in omega (arith, z)) (let l = c.if-found.false in let i = st.inside in omega (arith, l, i)) c.run_of-run.ensures joint new rep in
-    let leaves = c.args.homes.now.leaves in let then = c.enter.new.self.leaves in let after = c.hint.new.self.leaves in
-    let e = c.enter.ensures in let n = c.hint.ensures in let i = c.is_new-is_new.ensures in
+    let leaves = c.args.homes.now.leaves in let after = c.enter.new.self.leaves in
+    let e = c.enter.ensures in let i = c.is_new-is_new.ensures in
     λ sure.
-    let then_sure = sym n.sure ∙ sure in
-    let new_there = e.sure then_sure in
+    let new_there = e.sure sure in
     let home = c.requires.home (i.sure new_there) in
     home_more leaves after b old new (joined_holders f.run b st.left st.right old new joint st.here is) home
     (unknown_new leaves c.args.newest b old (record { text = c.args.text.now; kept = c.requires.kept; upto = c.requires.upto }) home (i.unknown new_there))
-    (placed_more then after b (e.placed then_sure) n.keeps)
-    (keeps_more leaves then after e.keeps n.keeps)
+    (joined_placed after f.run b joint (subst (IsPlaced after) c.joined-whole.ensures (e.placed sure)))
+    e.keeps
+
+pub returns-clause-left : goal.returns-clause-left
+returns-clause-left c =
+    let some = c.run_of-run.ensures.run.some in let within = c.run_of-run.ensures.stretch.within in
+    omega (arith, some, within, c.enter.ensures.left, c.requires.left)
 
 pub returns-clause-apart : goal.returns-clause-apart
 returns-clause-apart c =
-    let old = tree_runs c.args.mem.now c.args.root.index in let new = tree_runs c.replace.new.mem c.args.root.index in
-    let st = c.seek-found.ensures in let f = c.seek-found.result in let b = c.run_of-run.result in
-    let rep = subst (λ (r : Run). IsReplacedAt old new (c.args.at - 1) r) c.joined-whole.ensures c.replace.ensures.runs in
+    let old = tree_runs c.args.mem.now c.args.root.index in let new = tree_runs c.replace_at.new.mem c.args.root.index in
+    let st = c.found_at-found.ensures.run in let f = c.found_at-found.result in let b = c.run_of-run.result in
+    let rep = subst (λ (r : Run). IsReplacedAt old new (c.args.at - 1) r) c.joined-whole.ensures (c.replace_at.ensures.runs (c.args.at - 1) c.found_at-found.result.run c.found_at-found.ensures.spot) in
     let none = sym c.is_barred.ensures ∙ c.if-is_barred.false in
     extended_apart c.args.text.now old c.args.at c.args.cells.now c.requires.kept f.run b f.before f.spot.offset st (let z = c.if-at-eq0.false in omega (arith, z)) (let l = c.if-found.false in let i = st.inside in omega (arith, l, i)) c.run_of-run.ensures (sym c.are_joint.ensures ∙ c.if-not-are_joint.false) new rep c.requires.apart none
 
-pub replace-requires-clause-few : goal.replace-requires-clause-few
-replace-requires-clause-few c =
+pub replace_at-requires-clause-few : goal.replace_at-requires-clause-few
+replace_at-requires-clause-few c =
     let old = tree_runs c.args.mem.now c.args.root.index in
     let kept : AreKept old = record { text = c.args.text.now; short = c.requires.short; runs = c.requires.kept } in
-    let st = c.seek-found.ensures in let run = c.seek-found.result.run in let b = c.run_of-run.result in
+    let st = c.found_at-found.ensures.run in let run = c.found_at-found.result.run in let b = c.run_of-run.result in
     let w = ap (λ l. (counts_of l).cells) st.here ∙ counts_mid st.left run st.right in
     let low = c.run_of-run.ensures.stretch.within in let some = c.run_of-run.ensures.run.some in
     subst (λ (r : Run). AreFew (plus (counts_of_run r) (counts_of old))) (sym c.joined-whole.ensures)
@@ -94,7 +100,15 @@ replace-requires-clause-few c =
 
 pub returns-clause-cells : goal.returns-clause-cells
 returns-clause-cells c =
-    let old = tree_runs c.args.mem.now c.args.root.index in let new = tree_runs c.replace.new.mem c.args.root.index in
-    let st = c.seek-found.ensures in let f = c.seek-found.result in let b = c.run_of-run.result in
-    let rep = subst (λ (r : Run). IsReplacedAt old new (c.args.at - 1) r) c.joined-whole.ensures c.replace.ensures.runs in
+    let old = tree_runs c.args.mem.now c.args.root.index in let new = tree_runs c.replace_at.new.mem c.args.root.index in
+    let st = c.found_at-found.ensures.run in let f = c.found_at-found.result in let b = c.run_of-run.result in
+    let rep = subst (λ (r : Run). IsReplacedAt old new (c.args.at - 1) r) c.joined-whole.ensures (c.replace_at.ensures.runs (c.args.at - 1) c.found_at-found.result.run c.found_at-found.ensures.spot) in
     extended c.args.text.now old c.args.at c.args.cells.now c.requires.kept f.run b f.before f.spot.offset st (let z = c.if-at-eq0.false in omega (arith, z)) (let l = c.if-found.false in let i = st.inside in omega (arith, l, i)) c.run_of-run.ensures (sym c.are_joint.ensures ∙ c.if-not-are_joint.false) new rep
+
+pub replace_at-requires-clause-spot : goal.replace_at-requires-clause-spot
+replace_at-requires-clause-spot c = (c.args.at - 1, c.found_at-found.result.run, c.found_at-found.ensures.spot)
+
+pub returns-clause-runs : goal.returns-clause-runs
+returns-clause-runs c =
+    let old = tree_runs c.args.mem.now c.args.root.index in let new = tree_runs c.replace_at.new.mem c.args.root.index in
+    replaced_length old new (c.args.at - 1) c.joined-whole.result (c.replace_at.ensures.runs (c.args.at - 1) c.found_at-found.result.run c.found_at-found.ensures.spot)
