@@ -125,10 +125,11 @@ fn inside(mem: &Mem, root: NodeId, stamp: Stamp, homes: &Homes) -> Option<usize>
     ensures { MatchOption result (AllByRecursion (BeginsAt stamp) (tree_runs mem.now root.index))
         (λ at. IsInside (tree_runs mem.now root.index) stamp at) }
 {
-    if homes.is_nowhere(stamp) {
+    let leaf = homes.leaf_of(stamp);
+    if homes.is_nowhere(leaf) {
         return None;
     }
-    if let Some(home) = homes.locate(mem, root, stamp) {
+    if let Some(home) = homes.locate(mem, root, leaf, stamp) {
         return home.inside(stamp);
     }
     inside_by_walk(mem, root, stamp)

@@ -141,15 +141,28 @@ impl Homes {
         Ok(())
     }
 
-    // Whether no cell has a stamp, as far as is known.
-    pub(crate) fn is_nowhere(&self, stamp: Stamp) -> bool
-        ensures { result ≡ true → (self.now.sure ≡ true) × (value_of self.now.leaves stamp ≡ None) }
+    // The leaf of a stamp, if it has one.
+    pub(crate) fn leaf_of(&self, stamp: Stamp) -> Option<NodeId>
+        ensures { result ≡ value_of self.now.leaves stamp }
     {
-        self.sure && self.leaves.get(stamp).is_none()
+        self.leaves.get(stamp)
     }
 
-    // The run that has a stamp, if it is where it was put and no other has it.
-    pub(crate) fn locate(&self, mem: &Mem, root: NodeId, stamp: Stamp) -> Option<Home>
+    // Whether no cell has a stamp, as far as is known, that has this leaf or none.
+    pub(crate) fn is_nowhere(&self, leaf: Option<NodeId>) -> bool
+        ensures { result ≡ true → (self.now.sure ≡ true) × (leaf ≡ None) }
+    {
+        self.sure && leaf.is_none()
+    }
+
+    // The run of a leaf that has a stamp, if there is one and no other run has it.
+    pub(crate) fn locate(
+        &self,
+        mem: &Mem,
+        root: NodeId,
+        leaf: Option<NodeId>,
+        stamp: Stamp,
+    ) -> Option<Home>
         requires tree { IsTree mem.now root.index }
         requires few { AreFew (counts_of (tree_runs mem.now root.index)) }
         ensures sure { IfSome result (λ _. self.now.sure ≡ true) }
@@ -159,7 +172,7 @@ impl Homes {
         if !self.sure {
             return None;
         }
-        home_in(mem, root, self.leaves.get(stamp)?, stamp)
+        home_in(mem, root, leaf?, stamp)
     }
 
     // Whether no stamp of a run has a leaf.

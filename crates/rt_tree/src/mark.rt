@@ -100,10 +100,11 @@ fn mark_at(
 {
     let site = span.site;
     let stamp = Stamp { count, site };
-    if homes.is_nowhere(stamp) {
+    let leaf = homes.leaf_of(stamp);
+    if homes.is_nowhere(leaf) {
         return count.checked_add(1);
     }
-    let home = homes.locate(mem, root, stamp)?;
+    let home = homes.locate(mem, root, leaf, stamp)?;
     if home.run.first != count {
         return None;
     }

@@ -297,10 +297,11 @@ impl Tree {
     pub fn position_of(&self, stamp: Stamp) -> Option<usize>
         ensures { result ≡ position_of self.now.cells stamp }
     {
-        if self.homes.is_nowhere(stamp) {
+        let leaf = self.homes.leaf_of(stamp);
+        if self.homes.is_nowhere(leaf) {
             return None;
         }
-        if let Some(home) = self.homes.locate(&self.mem, self.root, stamp) {
+        if let Some(home) = self.homes.locate(&self.mem, self.root, leaf, stamp) {
             return Some(home.position(stamp));
         }
         self.seek_stamp(stamp)

@@ -1,4 +1,4 @@
-use Rattle.std.proofs.Common.{ℕ, Option, subst, sym}
+use Rattle.std.proofs.Common.{ℕ, Option, subst, sym, ◌∙◌}
 use Rattle.std.specs.Prelude.{MatchOption}
 use Rattle.std.specs.List.{AllByRecursion}
 use Rattle.rt_tree.specs.Sharing.{BeginsAt, IsInside}
@@ -10,7 +10,7 @@ use Rattle.rt_tree.proofs.cut.inside.Goals as goal
 pub returns-then-is_nowhere : goal.returns-then-is_nowhere
 returns-then-is_nowhere c =
     let none = c.is_nowhere.ensures c.if-is_nowhere.true in
-    nowhere_begins c.args.homes.now.leaves c.args.stamp (tree_runs c.args.mem.now c.args.root.index) (c.requires.home none.0) none.1
+    nowhere_begins c.args.homes.now.leaves c.args.stamp (tree_runs c.args.mem.now c.args.root.index) (c.requires.home none.0) (sym c.leaf_of-leaf.ensures ∙ none.1)
 
 pub locate-requires-clause-few : goal.locate-requires-clause-few
 locate-requires-clause-few c = few_all (tree_runs c.args.mem.now c.args.root.index) c.requires.kept c.requires.few

@@ -1,4 +1,4 @@
-use Rattle.std.proofs.Common.{◌≡◌, ℕ, ◌+◌, ◌^◌, ◌<◌, Option, Some, None, arith, sym, subst}
+use Rattle.std.proofs.Common.{◌≡◌, ℕ, ◌+◌, ◌^◌, ◌<◌, Option, Some, None, arith, sym, subst, ◌∙◌}
 use Rattle.std.specs.Prelude.{IfSome}
 use Rattle.std.specs.Option.{SomeIff}
 use Rattle.rt_tree.specs.Homes.{MarksOn}
@@ -18,7 +18,7 @@ pub returns-then-is_nowhere-clause-some : goal.returns-then-is_nowhere-clause-so
 returns-then-is_nowhere-clause-some c =
     let all = tree_runs c.args.mem.now c.args.root.index in
     let none = c.is_nowhere.ensures c.if-is_nowhere.true in
-    let on = nowhere_on c.args.span c.args.mark.now c.args.count all (have_cells c.requires.kept.text all c.requires.kept.runs) ((c.requires.home none.0).known _ none.1) in
+    let on = nowhere_on c.args.span c.args.mark.now c.args.count all (have_cells c.requires.kept.text all c.requires.kept.runs) ((c.requires.home none.0).known _ (sym c.leaf_of-leaf.ensures ∙ none.1)) in
     some_on c.checked_add.result _ (c.args.count + 1) (λ next. MarksOn c.args.span c.args.mark.now c.args.count next all all) c.checked_add.ensures on
 
 pub locate-requires-clause-few : goal.locate-requires-clause-few

@@ -1,4 +1,4 @@
-use Rattle.std.proofs.Common.{Some, ap, ◌∙◌}
+use Rattle.std.proofs.Common.{Some, ap, ◌∙◌, sym}
 use Rattle.rt_store.specs.Cells.{position_of}
 use Rattle.rt_tree.specs.Shape.{tree_runs}
 use Rattle.rt_tree.specs.Trees.{Shown}
@@ -13,7 +13,7 @@ pub returns-then-is_nowhere : goal.returns-then-is_nowhere
 returns-then-is_nowhere c =
     let s = c.self.inside in
     let none = c.is_nowhere.ensures c.if-is_nowhere.true in
-    is_nowhere s.text.items (tree_runs s.mem s.root.index) s.homes.leaves c.args.stamp c.self.invariant.0.kept (c.self.invariant.1.1.1.0 none.0) none.1
+    is_nowhere s.text.items (tree_runs s.mem s.root.index) s.homes.leaves c.args.stamp c.self.invariant.0.kept (c.self.invariant.1.1.1.0 none.0) (sym c.leaf_of-leaf.ensures ∙ none.1)
     ∙ ap (λ (x : Shown). position_of x.cells c.args.stamp) c.self.view_is
 
 pub returns-in-Some : goal.returns-in-Some
