@@ -33,6 +33,16 @@ pub(crate) struct Homes {
     ghost fits: { left ≤ leaves.room },
 }
 
+/// How many spans are given a leaf for new cells and cuts: one for each cell, which is a run perhaps. When a leaf is cut in two,
+/// the runs of one half are told again; those that were put in or told before take no room then, but for the parts of a run
+/// that was cut: three for each cut, and some for runs that were cut before.
+pub(crate) fn spans_for(cells: usize, cuts: usize) -> usize
+    ensures { cells ≤ result }
+{
+    let parts = cuts.saturating_mul(3);
+    cells.saturating_add(parts).saturating_add(24)
+}
+
 // A run, and what the runs before it count.
 #[derive(Clone, Copy)]
 pub(crate) struct Home {

@@ -13,7 +13,7 @@ ghost use Rattle.rt_tree.specs.Trees.{final_run};
 
 use crate::copy::copy;
 use crate::find::{cell_in, find, has, height, seek, sum_of};
-use crate::homes::Homes;
+use crate::homes::{Homes, spans_for};
 use crate::mark::{Mark, mark_span};
 use crate::node::{Entry, Head, Measure, Mem, Run};
 use crate::skip::{is_low, passed};
@@ -91,16 +91,6 @@ fn final_run() -> Run
         gone: false,
         newline: true,
     }
-}
-
-// How many spans are given a leaf for new cells and cuts: one for each cell, which is a run perhaps. When a leaf is cut in two,
-// the runs of one half are told again; those that were put in or told before take no room then, but for the parts of a run
-// that was cut: three for each cut, and some for runs that were cut before.
-fn spans_for(cells: usize, cuts: usize) -> usize
-    ensures { cells ≤ result }
-{
-    let parts = cuts.saturating_mul(3);
-    cells.saturating_add(parts).saturating_add(24)
 }
 
 // How many of the first cells of a run are visible.
