@@ -14,7 +14,6 @@ use Rattle.rt_oplog.specs.Operations.{stamps_in}
 use Rattle.rt_store.specs.declared.cell.Cell.{Cell}
 use Rattle.rt_store.specs.Spans.{is_among}
 use Rattle.rt_tags.specs.States.{TagStates}
-use Rattle.rt_edits.specs.Flat.{Flat}
 use Rattle.rt_undo.specs.declared.action.Action.{Action as KeptAction}
 use Rattle.rt_undo.specs.declared.action.RemovedSpan.{RemovedSpan}
 use Rattle.rt_undo.specs.Actions.{Action, Removed, action_of, group_of, removed_in}
@@ -22,9 +21,11 @@ use Rattle.rt_undo.specs.Renames.{now_of}
 use Rattle.rt_revert.specs.declared.plan.Return.{Return}
 use Rattle.rt_revert.specs.declared.progress.Progress.{Progress}
 use Rattle.rt_revert.specs.Plans.{AreGiven, RemovedAreGiven, named_action, named_group, named_removed}
+use Rattle.rt_revert.specs.Portions.{Has, HasAction, Portion}
 use Rattle.rt_revert.specs.Progress.{IsGoing, IsSoFar}
 use Rattle.rt_revert.specs.Reverting.{Reversion, stamp_after, still_visible, with_gone, with_returns, with_reverted}
 use Rattle.rt_revert.specs.ReversionLaws.{AreSound, IsSound}
+use Rattle.rt_revert.proofs.Had.{all_after_had}
 use Rattle.rt_revert.proofs.Stamps.{all_apart}
 use Rattle.rt_revert.proofs.Steps.{returns_grow}
 
@@ -35,38 +36,42 @@ stamps_after table plan ss g = ap (λ f. map f ss) (λ i s. g.now s i)
 pub stays : (table : TagStates) (plan : Progress) (ss : List Stamp) → IsGoing table plan → is_among ss FINAL ≡ false → is_among (map (now_of plan.renames) ss) FINAL ≡ false
 stays table plan ss g n = ap (λ l. is_among l FINAL) (stamps_after table plan ss g) ∙ all_apart plan.returns.items ss g.apart n
 
-module _ (table : TagStates) (number : ℕ) (old : List (Cell ℕ)) (before : Progress) (flat : Flat) (r : Reversion) (action : KeptAction) (stamps : List Stamp) where
+module _ (table : TagStates) (number : ℕ) (old : List (Cell ℕ)) (before : Progress) (part : Portion) (r : Reversion) (action : KeptAction) (stamps : List Stamp) where
   abbrev removed : List (Removed (List Word))
   removed = map (named_removed table) (removed_in action.removed.items)
 
   abbrev end : Reversion
   end = with_reverted (named_action table (action_of action)) r
 
-  theirs : IsSoFar table number old before flat r → stamps ≡ map (stamp_after before.returns.items) (stamps_in action.inserted.items) → stamps ≡ map (stamp_after r.returns) (stamps_in action.inserted.items)
+  theirs : IsSoFar table number old before part r → stamps ≡ map (stamp_after before.returns.items) (stamps_in action.inserted.items) → stamps ≡ map (stamp_after r.returns) (stamps_in action.inserted.items)
   theirs h e = e ∙ ap (λ l. map (stamp_after l) (stamps_in action.inserted.items)) (sym h.returns)
 
-  back_count : IsSoFar table number old before flat r → stamps ≡ map (stamp_after before.returns.items) (stamps_in action.inserted.items)
+  -- the working copy has the characters that go
+  pub gone_had : IsSoFar table number old before part r → stamps ≡ map (stamp_after before.returns.items) (stamps_in action.inserted.items) → HasAction part (action_of action) → Has part stamps
+  gone_had h e had = subst (Has part) (sym (theirs h e)) (all_after_had part r.returns (stamps_in action.inserted.items) h.within.back had.0)
+
+  back_count : IsSoFar table number old before part r → stamps ≡ map (stamp_after before.returns.items) (stamps_in action.inserted.items)
       → (with_returns removed (with_gone stamps r)).doc.count ≡ end.doc.count
   back_count h e = ap (λ ss. (with_returns removed (with_gone ss r)).doc.count) (theirs h e)
 
-  pub early_back : IsSoFar table number old before flat r → stamps ≡ map (stamp_after before.returns.items) (stamps_in action.inserted.items)
+  pub early_back : IsSoFar table number old before part r → stamps ≡ map (stamp_after before.returns.items) (stamps_in action.inserted.items)
       → GREATEST_COUNT < (with_returns removed (with_gone stamps r)).doc.count → GREATEST_COUNT < end.doc.count
   early_back h e k = subst (λ (n : ℕ). GREATEST_COUNT < n) (back_count h e) k
 
-  pub early_gone : IsSoFar table number old before flat r → stamps ≡ map (stamp_after before.returns.items) (stamps_in action.inserted.items)
+  pub early_gone : IsSoFar table number old before part r → stamps ≡ map (stamp_after before.returns.items) (stamps_in action.inserted.items)
       → GREATEST_COUNT < (with_gone stamps r).doc.count → GREATEST_COUNT < end.doc.count
   early_gone h e k =
       let over : GREATEST_COUNT < (with_returns removed (with_gone stamps r)).doc.count = omega (arith, k, returns_grow removed (with_gone stamps r)) in
       early_back h e over
 
   pub acted : (new : List (Cell ℕ)) (late : Progress) (acts : Vec KeptAction Global) (ins : Vec Span Global) (rem : Vec RemovedSpan Global)
-      → IsSoFar table number old before flat r → stamps ≡ map (stamp_after before.returns.items) (stamps_in action.inserted.items)
-      → IsSoFar table number new late flat (with_returns removed (with_gone stamps r))
+      → IsSoFar table number old before part r → stamps ≡ map (stamp_after before.returns.items) (stamps_in action.inserted.items)
+      → IsSoFar table number new late part (with_returns removed (with_gone stamps r))
       → late.actions ≡ before.actions
       → acts.items ≡ late.actions.items ++ record { number = action.number; kind = action.kind; inserted = ins; removed = rem } ∷ []
       → stamps_in ins.items ≡ map (λ (x : Return). x.newer) (drop (length before.returns.items) late.returns.items)
       → map (named_removed table) (removed_in rem.items) ≡ still_visible stamps r.doc.cells
-      → IsSoFar table number new (record late { actions = acts }) flat end
+      → IsSoFar table number new (record late { actions = acts }) part end
   acted new late acts ins rem h e k same pushed inserted gone =
       let made : KeptAction = record { number = action.number; kind = action.kind; inserted = ins; removed = rem } in
       let back : Reversion = with_returns removed (with_gone stamps r) in
@@ -79,19 +84,28 @@ module _ (table : TagStates) (number : ℕ) (old : List (Cell ℕ)) (before : Pr
       ∙ sym (map-append (named_action table) (group_of late.actions.items) (action_of made ∷ []))
       ∙ ap (map (named_action table)) (sym (map-append action_of late.actions.items (made ∷ [])))
       ∙ ap (λ l. named_group table (group_of l)) (sym pushed) in
-      let ours : IsSoFar table number new (record late { actions = acts }) flat (record back {
+      let ours : IsSoFar table number new (record late { actions = acts }) part (record back {
         actions = r.actions ++ entry (map (λ (x : Return). x.newer) (drop (length r.returns) back.returns)) (still_visible stamps r.doc.cells) ∷ [];
       }) = record {
         cells = k.cells;
+        within = record {
+          newer = k.within.newer;
+          back = k.within.back;
+          offsets = k.within.offsets;
+          distinct = k.within.distinct;
+          older = k.within.older;
+          length = k.within.length;
+        };
         site = k.site;
         count = k.count;
         drafts = k.drafts;
         returns = k.returns;
         actions = actions;
+        changes = k.changes;
         marks = k.marks;
         tags = k.tags;
       } in
-      subst (λ (ss : List Stamp). IsSoFar table number new (record late { actions = acts }) flat (record (with_returns removed (with_gone ss r)) {
+      subst (λ (ss : List Stamp). IsSoFar table number new (record late { actions = acts }) part (record (with_returns removed (with_gone ss r)) {
         actions = r.actions ++ entry (map (λ (x : Return). x.newer) (drop (length r.returns) (with_returns removed (with_gone ss r)).returns)) (still_visible ss r.doc.cells) ∷ [];
       })) (theirs h e) ours
 

@@ -1,15 +1,15 @@
 -- Cells that look alike: what reverting asks of them is the same.
 use Rattle.std.proofs.Common.{◌≡◌, ◌∙◌, ℕ, zero, suc, ◌+◌, Bool, true, false, List, [], ◌∷◌, ◌++◌, cond, drop, length, map, refl, sym, ap, take, Option, Some, None}
-use Rattle.std.specs.Prelude.{option_and_then, option_map}
+use Rattle.std.specs.Prelude.{option_and_then, option_map, unwrap_or}
 use Rattle.rt_stamps.specs.declared.limits.TheConstants.{MOST_SPANS}
 use Rattle.rt_stamps.specs.declared.stamp.Stamp.{Stamp}
 use Rattle.rt_stamps.specs.Stamps.{is_same}
 use Rattle.rt_stamps.specs.Words.{Word}
 use Rattle.rt_oplog.specs.Operations.{Delete}
 use Rattle.rt_store.specs.declared.cell.Cell.{Cell}
-use Rattle.rt_store.specs.Cells.{after_element, cell_of, map_state, visible_before, visible_of}
+use Rattle.rt_store.specs.Cells.{after_element, cell_of, map_state, position_of, stamps_of, visible_before, visible_of}
 use Rattle.rt_store.specs.Shown.{TaggedCell}
-use Rattle.rt_store.proofs.Shown.{after_shown, length_shown, map_append, visible_shown}
+use Rattle.rt_store.proofs.Shown.{after_shown, length_shown, map_append, position_shown, stamps_shown, visible_shown}
 use Rattle.rt_tags.specs.States.{names_on}
 use Rattle.rt_edits.specs.Flat.{put_after}
 use Rattle.rt_edits.specs.NamedSpans.{parts_of, spans_in}
@@ -17,6 +17,7 @@ use Rattle.rt_edits.specs.RemovalDrafts.{removal_drafts}
 use Rattle.rt_edits.specs.Removals.{cells_at, gone_at, stamps_at}
 use Rattle.rt_edits.proofs.Shown.{cells_at_shown, stamps_at_shown}
 use Rattle.rt_undo.specs.Actions.{Removed}
+use Rattle.rt_revert.specs.Portions.{place_in}
 use Rattle.rt_revert.specs.Progress.{LookAlike, with_names}
 use Rattle.rt_revert.specs.Reverting.{are_at, as_removed, gone_cell_of, still_visible}
 use Rattle.rt_revert.proofs.TakenBack.{still_is}
@@ -31,9 +32,9 @@ pub alike_stamps_at : (places : ℕ → Bool) (xs ys : List TaggedCell) → Look
 alike_stamps_at places xs ys h =
     sym (stamps_at_shown names_on places 0 xs) ∙ ap (λ (l : List (Cell (List Word))). stamps_at places 0 l) h.names ∙ stamps_at_shown names_on places 0 ys
 
-pub same_drafts : {S T : Type 0} (places : ℕ → Bool) (xs : List (Cell S)) (ys : List (Cell T)) → stamps_at places 0 xs ≡ stamps_at places 0 ys
-    → removal_drafts MOST_SPANS places xs ≡ removal_drafts MOST_SPANS places ys
-same_drafts places xs ys e = ap (λ ss. map (λ spans. Delete spans) (parts_of MOST_SPANS (spans_in ss))) e
+pub same_drafts : {S T : Type 0} (here there : ℕ → Bool) (xs : List (Cell S)) (ys : List (Cell T)) → stamps_at here 0 xs ≡ stamps_at there 0 ys
+    → removal_drafts MOST_SPANS here xs ≡ removal_drafts MOST_SPANS there ys
+same_drafts here there xs ys e = ap (λ ss. map (λ spans. Delete spans) (parts_of MOST_SPANS (spans_in ss))) e
 
 -- a cell with names as a character that is removed
 abbrev named_as : Cell (List Word) → Removed (List Word)
@@ -107,6 +108,17 @@ place_shown f cells left = before_shown f cells (after_element (map (map_state f
 pub alike_place : (xs ys : List TaggedCell) (left : Stamp) → LookAlike xs ys → visible_before xs (after_element xs left) ≡ visible_before ys (after_element ys left)
 alike_place xs ys left h =
     sym (place_shown names_on xs left) ∙ ap (λ (l : List (Cell (List Word))). visible_before l (after_element l left)) h.names ∙ place_shown names_on ys left
+
+pub place_in_shown : {S T : Type 0} (f : S → T) (cells : List (Cell S)) (s : Stamp) → place_in (map (map_state f) cells) s ≡ place_in cells s
+place_in_shown f cells s =
+    ap (λ o. unwrap_or (option_map (visible_before (map (map_state f) cells)) o) 0) (position_shown f cells s)
+    ∙ ap (λ (v : ℕ → ℕ). unwrap_or (option_map v (position_of cells s)) 0) (λ i n. before_shown f cells n i)
+
+pub alike_place_in : (xs ys : List TaggedCell) (s : Stamp) → LookAlike xs ys → place_in xs s ≡ place_in ys s
+alike_place_in xs ys s h = sym (place_in_shown names_on xs s) ∙ ap (λ (l : List (Cell (List Word))). place_in l s) h.names ∙ place_in_shown names_on ys s
+
+pub alike_stamps : (xs ys : List TaggedCell) → LookAlike xs ys → stamps_of xs ≡ stamps_of ys
+alike_stamps xs ys h = sym (stamps_shown names_on xs) ∙ ap (λ (l : List (Cell (List Word))). stamps_of l) h.names ∙ stamps_shown names_on ys
 
 -- the character of a stamp's cell, if it is gone
 find_step : {S T : Type 0} (f : S → T) (b : Bool) (c : Cell S) (o : Option (Cell T)) (p : Option (Cell S)) → o ≡ option_map (map_state f) p

@@ -1,8 +1,8 @@
 -- A working copy looks like the text that it was made of.
-use Rattle.std.proofs.Common.{◌≡◌, ◌∙◌, ℕ, zero, suc, ◌+◌, ◌-◌, List, [], ◌∷◌, ◌++◌, length, map, refl, sym, ap, subst, arith, take, Some}
+use Rattle.std.proofs.Common.{◌≡◌, ◌∙◌, ℕ, zero, suc, ◌+◌, ◌-◌, List, [], ◌∷◌, ◌++◌, length, map, refl, sym, ap, arith, take, Some}
 use Rattle.std.specs.Prelude.{option_map, slice_get}
 use Rattle.std.proofs.lemmas.List.{map-append}
-use Rattle.std.proofs.lemmas.List.Elements.{All-append, All-cons, All-tail}
+use Rattle.std.proofs.lemmas.List.Elements.{All-append}
 use Rattle.rt_stamps.specs.declared.stamp.TheConstants.{ROOT}
 use Rattle.rt_stamps.specs.Words.{Word}
 use Rattle.rt_store.specs.declared.cell.Cell.{Cell}
@@ -14,8 +14,9 @@ use Rattle.rt_store.proofs.Shown.{length_shown, shown_later, stamps_shown}
 use Rattle.rt_tags.specs.States.{IsByName, IsState, KeepsIds, TagStates, Write, names_on, state_at}
 use Rattle.rt_tags.specs.Writers.{listed_by, state_after}
 use Rattle.rt_edits.proofs.LastNames.{after_rising}
-use Rattle.rt_revert.specs.Plans.{AreUpTo, IsUpTo}
+use Rattle.rt_revert.specs.Plans.{AreUpTo}
 use Rattle.rt_revert.specs.Progress.{LookAlike, with_names}
+use Rattle.rt_revert.proofs.Counted.{up_to_stamps}
 use Rattle.rt_revert.proofs.Returned.{state_rises}
 
 -- THE NAMES OF A LIST
@@ -32,7 +33,7 @@ same_names state words h e =
 
 -- ONE CELL MORE
 
-taken : {X : Type 0} (xs : List X) (i : ℕ) (x : X) → slice_get xs i ≡ Some x → take (i + 1) xs ≡ take i xs ++ x ∷ []
+pub taken : {X : Type 0} (xs : List X) (i : ℕ) (x : X) → slice_get xs i ≡ Some x → take (i + 1) xs ≡ take i xs ++ x ∷ []
 taken [] i x e = absurd (cc e)
 taken (y ∷ xs) zero x e = let same : y ≡ x = cc e in ap (λ z. z ∷ []) same
 taken (y ∷ xs) (suc i) x e =
@@ -73,15 +74,6 @@ same_stamps kept states xs ys h =
 pub same_length : (kept states : TagStates) (xs ys : List (Cell ℕ)) → LookAlike (map (shown kept) xs) (map (shown states) ys) → length xs ≡ length ys
 same_length kept states xs ys h =
     sym (length_shown names_on (map (shown kept) xs) ∙ length_shown (state_at kept) xs) ∙ ap length h.names ∙ length_shown names_on (map (shown states) ys) ∙ length_shown (state_at states) ys
-
-up_to_stamps : (count : ℕ) (xs ys : List (Cell ℕ)) → stamps_of xs ≡ stamps_of ys → AreUpTo count ys → AreUpTo count xs
-up_to_stamps count [] ys e h = λ k d lt. absurd (omega arith)
-up_to_stamps count (x ∷ xs) [] e h = absurd (cc e)
-up_to_stamps count (x ∷ xs) (y ∷ ys) e h =
-    let first : x.stamp ≡ y.stamp = cc e in
-    let others : stamps_of xs ≡ stamps_of ys = cc e in
-    let P : Cell ℕ → Type 0 = λ cell. IsUpTo count cell.stamp in
-    All-cons P x xs (subst (IsUpTo count) (sym first) (h 0 y (omega arith))) (up_to_stamps count xs ys others (All-tail P y ys h))
 
 pub same_up_to : (kept states : TagStates) (count : ℕ) (xs ys : List (Cell ℕ)) → LookAlike (map (shown kept) xs) (map (shown states) ys) → AreUpTo count ys → AreUpTo count xs
 same_up_to kept states count xs ys h k = up_to_stamps count xs ys (same_stamps kept states xs ys h) k

@@ -1,18 +1,28 @@
 -- A whole group, from the working copy to the plan.
-use Rattle.std.proofs.Common.{◌≡◌, ◌∙◌, ℕ, ◌≤◌, false, List, [], ◌∷◌, length, map, refl, sym, ap, subst, arith}
-use Rattle.std.specs.Prelude.{string_bytes}
+use Rattle.std.proofs.Common.{◌≡◌, ◌∙◌, ℕ, ◌-◌, ◌≤◌, ◌||◌, Bool, true, cond, false, List, [], ◌∷◌, ◌++◌, length, map, refl, sym, ap, subst, arith}
+use Rattle.std.specs.Prelude.{nat_lt, string_bytes}
+use Rattle.std.proofs.lemmas.Bool.{or_left, or_right}
+use Rattle.std.proofs.lemmas.Bool.Decides.{nat_tests}
+use Rattle.std.proofs.lemmas.List.Elements.{All-tail}
+use Rattle.std.proofs.lemmas.List.Folds.{list_any-append}
 use Rattle.std.specs.List.{AllByRecursion, IsDistinct, list_all}
 use Rattle.rt_stamps.specs.declared.limits.TheConstants.{GREATEST_COUNT, MOST_CELLS}
 use Rattle.rt_stamps.specs.declared.stamp.Stamp.{Stamp}
+use Rattle.rt_stamps.specs.declared.stamp.TheConstants.{FINAL}
 use Rattle.rt_stamps.specs.Stamps.{is_same}
+use Rattle.rt_stamps.proofs.Order.{same_refl, same_sym}
 use Rattle.rt_stamps.specs.Words.{Word}
 use Rattle.rt_oplog.specs.Edits.{body_of}
 use Rattle.rt_oplog.specs.Rules.{is_name}
 use Rattle.rt_store.specs.declared.cell.Cell.{Cell}
-use Rattle.rt_store.specs.Cells.{AreDistinct}
+use Rattle.rt_store.specs.Cells.{AreDistinct, EndsFinal, stamps_of}
 use Rattle.rt_store.specs.Shown.{TaggedCell, shown}
+use Rattle.rt_store.specs.Spans.{is_among}
 use Rattle.rt_store.specs.Tagged.{AreStates}
-use Rattle.rt_tags.specs.States.{KeepsIds, TagStates, names_on}
+use Rattle.rt_store.proofs.Distinct.{split}
+use Rattle.rt_store.proofs.Shown.{length_shown, stamps_shown}
+use Rattle.rt_spans.specs.Shown.{Shown}
+use Rattle.rt_tags.specs.States.{KeepsIds, TagStates, names_on, state_at}
 use Rattle.rt_edits.specs.Flat.{Flat}
 use Rattle.rt_edits.specs.Insertions.{all_listed}
 use Rattle.rt_undo.specs.declared.action.Action.{Action as KeptAction}
@@ -20,11 +30,17 @@ use Rattle.rt_undo.specs.Actions.{Action, Removed, group_of, with_stamp}
 use Rattle.rt_undo.specs.Renames.{is_moved, now_of}
 use Rattle.rt_undo.specs.Undo.{with_stamps_in}
 use Rattle.rt_revert.specs.declared.progress.Progress.{Progress}
-use Rattle.rt_revert.specs.Plans.{AreGiven, AreUpTo, IsChange, IsOf, RemovedAreGiven, marks_after, named_group, named_removed}
+use Rattle.rt_revert.specs.Named.{is_named, named_by, named_in}
+use Rattle.rt_revert.specs.Plans.{AreGiven, AreUpTo, IsChange, IsOf, IsUpTo, RemovedAreGiven, marks_after, named_group, named_removed}
+use Rattle.rt_revert.specs.Portions.{AreSmall, Has, HasGroup, HasRemoved, Portion, offset_of, only, place_in}
 use Rattle.rt_revert.specs.Progress.{IsCopy, IsGoing, IsOther, IsSoFar, LookAlike}
 use Rattle.rt_revert.specs.Reverting.{Reversion, as_it_is, stamp_after}
 use Rattle.rt_revert.specs.ReversionLaws.{AreSound}
-use Rattle.rt_revert.proofs.Copied.{same_length, same_stamps, same_up_to}
+use Rattle.rt_revert.proofs.Alike.{alike_place_in, alike_stamps, place_in_shown}
+use Rattle.rt_revert.proofs.Counted.{later_cells, up_to_stamps}
+use Rattle.rt_revert.proofs.Only.{only_distinct, only_fewer, only_final, only_shown, only_up_to}
+use Rattle.rt_revert.proofs.PortionLaws.{only_among, place_law}
+use Rattle.rt_revert.proofs.Copied.{same_end, same_length, same_stamps, same_up_to}
 
 -- THE GROUP BY ANOTHER TABLE
 
@@ -71,7 +87,7 @@ group_given table f (a ∷ group) h = (given_stamped table f a.removed h.0, grou
 -- THE BEGINNING
 
 -- nothing was reverted yet
-pub record IsNew (count : ℕ) (plan : Progress) : Type 0 where
+pub record IsNew (count all : ℕ) (known : Shown ℕ) (plan : Progress) : Type 0 where
   pub drafts : plan.texts.drafts.items ≡ []
   pub greatest : plan.texts.count ≡ count
   pub now : (stamp : Stamp) → now_of plan.renames stamp ≡ stamp
@@ -80,46 +96,154 @@ pub record IsNew (count : ℕ) (plan : Progress) : Type 0 where
   pub changes : plan.changes.items ≡ []
   pub returns : plan.returns.items ≡ []
   pub actions : plan.actions.items ≡ []
+  pub offsets : plan.offsets ≡ known
+  pub cells : plan.cells ≡ all
 
-module _ (kept states : TagStates) (copy store : List (Cell ℕ)) (number count : ℕ) (plan : Progress) where
-  pub new_copy : IsNew count plan → LookAlike (map (shown kept) copy) (map (shown states) store) → AreStates kept copy → AreDistinct store → length store ≤ MOST_CELLS → AreUpTo count store
-      → IsCopy kept copy plan.texts.count
-  new_copy n alike st d few older = record {
-    states = st;
-    distinct = subst (IsDistinct is_same) (sym (same_stamps kept states copy store alike)) d;
-    few = omega (arith, same_length kept states copy store alike, few);
-    older = subst (λ (m : ℕ). AreUpTo m copy) (sym n.greatest) (same_up_to kept states count copy store alike older);
+-- what the working copy of a group has: the cells that the group names, and all newer ones
+abbrev pub has_of : ℕ → List (Action ℕ) → Stamp → Bool
+has_of count group s = is_named group s || nat_lt count s.count
+
+abbrev pub portion_of : Flat → List (Action ℕ) → Portion
+portion_of flat group = record { doc = flat; has = has_of flat.count group }
+
+-- nothing is newer at first
+only_named : (count : ℕ) (group : List (Action ℕ)) (cells : List (Cell ℕ)) → AreUpTo count cells → only (has_of count group) cells ≡ only (is_named group) cells
+only_named count group [] h = refl
+only_named count group (c ∷ cs) h =
+    let rest = only_named count group cs (All-tail (λ (cell : Cell ℕ). IsUpTo count cell.stamp) c cs h) in
+    let same : has_of count group c.stamp ≡ is_named group c.stamp = split (is_same c.stamp FINAL)
+    (λ e.
+    let named : is_named group c.stamp ≡ true = or_left (is_same FINAL c.stamp) _ (same_sym FINAL c.stamp ∙ e) in
+    or_left (is_named group c.stamp) _ named ∙ sym named)
+    (λ e.
+    let le : c.stamp.count ≤ count = h 0 c (omega arith) e in
+    let none : nat_lt count c.stamp.count ≡ false = grind (arith, nat_tests) in
+    ap (λ b. is_named group c.stamp || b) none ∙ or_nothing (is_named group c.stamp)) in
+    λ i. cond (same i) (c ∷ rest i) (rest i)
+  where
+    or_nothing : (b : Bool) → (b || false) ≡ b
+    or_nothing true = refl
+    or_nothing false = refl
+
+-- how a group begins: the working copy looks like the cells that the group names, and their offsets are known
+pub record IsBegun (kept states : TagStates) (copy store : List (Cell ℕ)) (count : ℕ) (offsets : Shown ℕ) (group : List (Action ℕ)) (plan : Progress) : Type 0 where
+  pub new : IsNew count (length store) offsets plan
+  pub alike : LookAlike (map (shown kept) copy) (map (shown states) (only (is_named group) store))
+  pub given : AreStates kept copy
+  pub distinct : AreDistinct store
+  pub few : length store ≤ MOST_CELLS
+  pub older : AreUpTo count store
+  pub bounded : count ≤ GREATEST_COUNT
+  pub small : AreSmall offsets
+  pub at : (s : Stamp) → is_among (stamps_of copy) s ≡ true → offset_of offsets s ≡ place_in store s - place_in copy s
+
+-- what the working copy begins with
+pub ready_cells : (kept states : TagStates) (store : List (Cell ℕ)) (group : List (Action ℕ)) (cells : List (Cell ℕ)) → EndsFinal store
+    → LookAlike (map (shown kept) cells) (map (shown states) (only (is_named group) store)) → length store ≤ MOST_CELLS → (length cells ≤ MOST_CELLS) × EndsFinal cells
+ready_cells kept states store group cells ends alike few =
+    let named = only (is_named group) store in (
+      omega (arith, same_length kept states cells named alike, only_fewer (is_named group) store, few),
+      same_end kept states cells named alike (only_final (is_named group) store (or_left (is_same FINAL FINAL) (is_among (named_in group) FINAL) (same_refl FINAL)) ends),
+    )
+
+pub older_named : (kept states : TagStates) (copy store : List (Cell ℕ)) (count : ℕ) (group : List (Action ℕ)) → LookAlike (map (shown kept) copy) (map (shown states) (only (is_named group) store))
+    → AreUpTo count store → count ≤ GREATEST_COUNT → AreUpTo GREATEST_COUNT copy
+older_named kept states copy store count group alike older le =
+    later_cells count GREATEST_COUNT copy le (same_up_to kept states count copy (only (is_named group) store) alike (only_up_to (is_named group) count store older))
+
+-- it has what the group names
+among_append : (xs ys : List Stamp) (s : Stamp) → is_among (xs ++ ys) s ≡ (is_among xs s || is_among ys s)
+among_append xs ys s = list_any-append (λ t. is_same t s) xs ys
+
+has_stamps : (part : Portion) (ss : List Stamp) → ((s : Stamp) → is_among ss s ≡ true → part.has s ≡ true) → Has part ss
+has_stamps part [] h = tt
+has_stamps part (s ∷ ss) h = (h s (or_left (is_same s s) _ (same_refl s)), has_stamps part ss (λ t e. h t (or_right (is_same s t) _ e)))
+
+has_removed : (part : Portion) (removed : List (Removed ℕ)) → ((s : Stamp) → is_among (map (λ (r : Removed ℕ). r.stamp) removed) s ≡ true → part.has s ≡ true) → HasRemoved part removed
+has_removed part [] h = tt
+has_removed part (r ∷ removed) h = (h r.stamp (or_left (is_same r.stamp r.stamp) _ (same_refl r.stamp)), has_removed part removed (λ t e. h t (or_right (is_same r.stamp t) _ e)))
+
+has_group : (part : Portion) (group : List (Action ℕ)) → ((s : Stamp) → is_among (named_in group) s ≡ true → part.has s ≡ true) → HasGroup part group
+has_group part [] h = tt
+has_group part (a ∷ group) h =
+    let mine : (s : Stamp) → is_among (named_by a) s ≡ true → part.has s ≡ true = λ s e. h s (among_append (named_by a) (named_in group) s ∙ or_left (is_among (named_by a) s) _ e) in (
+      (
+        has_stamps part a.inserted (λ s e. mine s (among_append a.inserted (map (λ (r : Removed ℕ). r.stamp) a.removed) s ∙ or_left (is_among a.inserted s) _ e)),
+        has_removed part a.removed (λ s e. mine s (among_append a.inserted (map (λ (r : Removed ℕ). r.stamp) a.removed) s ∙ or_right (is_among a.inserted s) _ e)),
+      ),
+      has_group part group (λ s e. h s (among_append (named_by a) (named_in group) s ∙ or_right (is_among (named_by a) s) _ e)),
+    )
+
+pub group_had : (flat : Flat) (group : List (Action ℕ)) → HasGroup (portion_of flat group) group
+group_had flat group = has_group (portion_of flat group) group (λ s e. or_left (is_named group s) _ (or_right (is_same FINAL s) _ e))
+
+module _ (kept states : TagStates) (copy store : List (Cell ℕ)) (number count : ℕ) (offsets : Shown ℕ) (group : List (Action ℕ)) (plan : Progress) where
+  abbrev named : List (Cell ℕ)
+  named = only (is_named group) store
+
+  pub begun_copy : IsBegun kept states copy store count offsets group plan → IsCopy kept copy plan.texts.count
+  begun_copy b = record {
+    states = b.given;
+    distinct = subst (IsDistinct is_same) (sym (same_stamps kept states copy named b.alike)) (only_distinct (is_named group) store b.distinct);
+    few = omega (arith, same_length kept states copy named b.alike, only_fewer (is_named group) store, b.few);
+    older = subst (λ (m : ℕ). AreUpTo m copy) (sym b.new.greatest) (same_up_to kept states count copy named b.alike (only_up_to (is_named group) count store b.older));
   }
 
-  pub new_going : IsNew count plan → count ≤ GREATEST_COUNT → IsGoing kept plan
-  new_going n le = record {
-    count = omega (arith, n.greatest, le);
-    moved = λ s e. absurd (let f = n.moved s in cc (e, f));
-    now = λ s. n.now s ∙ ap (λ l. stamp_after l s) (sym n.returns);
-    apart = subst (AllByRecursion IsOther) (sym n.returns) tt;
-    changes = subst (AllByRecursion IsChange) (sym n.changes) tt;
-    names = ap (λ l. list_all is_name (map (λ w. string_bytes w) l)) n.names;
-    given = subst (λ l. AreGiven kept (group_of l)) (sym n.actions) tt;
-  }
+  pub begun_going : IsBegun kept states copy store count offsets group plan → IsGoing kept plan
+  begun_going b =
+      let n = b.new in
+      record {
+        count = omega (arith, n.greatest, b.bounded);
+        moved = λ s e. absurd (let f = n.moved s in cc (e, f));
+        now = λ s. n.now s ∙ ap (λ l. stamp_after l s) (sym n.returns);
+        apart = subst (AllByRecursion IsOther) (sym n.returns) tt;
+        names = ap (λ l. list_all is_name (map (λ w. string_bytes w) l)) n.names;
+        given = subst (λ l. AreGiven kept (group_of l)) (sym n.actions) tt;
+        offsets = subst AreSmall (sym n.offsets) b.small;
+        few = omega (arith, n.cells, b.few);
+      }
 
-  pub new_so_far : IsNew count plan → LookAlike (map (shown kept) copy) (map (shown states) store) → (flat : Flat) → IsOf states store number count flat → IsSoFar kept number copy plan flat (as_it_is flat)
-  new_so_far n alike flat of = record {
-    cells = subst (λ (l : List TaggedCell). LookAlike (map (shown kept) copy) l) (sym of.cells) alike;
-    site = of.site;
-    count = of.count ∙ sym n.greatest;
-    drafts = ap (map body_of) (sym n.drafts);
-    returns = sym n.returns;
-    actions = ap (λ l. named_group kept (group_of l)) (sym n.actions);
-    marks = ap (λ l. marks_after l flat.marks) (sym n.changes);
-    tags = ap (λ l. all_listed (map (λ w. string_bytes w) l) flat.tags) (sym n.names);
-  }
+  pub begun_so_far : IsBegun kept states copy store count offsets group plan → (flat : Flat) → IsOf states store number count flat
+      → IsSoFar kept number copy plan (portion_of flat group) (as_it_is flat)
+  begun_so_far b flat of =
+      let n = b.new in
+      let has = has_of flat.count group in
+      let stamps : stamps_of flat.cells ≡ stamps_of store = ap stamps_of of.cells ∙ stamps_shown (state_at states) store in
+      let ours : only has flat.cells ≡ map (shown states) named =
+      ap (only has) of.cells ∙ only_shown has (state_at states) store
+      ∙ ap (map (shown states)) (ap (λ m. only (has_of m group) store) of.count ∙ only_named count group store b.older) in
+      let like : LookAlike (map (shown kept) copy) (only has flat.cells) = subst (λ (l : List TaggedCell). LookAlike (map (shown kept) copy) l) (sym ours) b.alike in
+      record {
+        cells = like;
+        within = record {
+          newer = λ s lt. or_right (is_named group s) _ (let more : nat_lt flat.count s.count ≡ true = grind (arith, nat_tests, lt, of.count, n.greatest) in more);
+          back = tt;
+          offsets = λ s h a.
+              let there : is_among (stamps_of copy) s ≡ true =
+              ap (λ l. is_among l s) (sym (stamps_shown (state_at kept) copy) ∙ alike_stamps (map (shown kept) copy) (only has flat.cells) like) ∙ only_among has flat.cells s h ∙ a in
+              let whole : place_in flat.cells s ≡ place_in store s = ap (λ (l : List TaggedCell). place_in l s) of.cells ∙ place_in_shown (state_at states) store s in
+              let part : place_in copy s ≡ place_in (only has flat.cells) s = sym (place_in_shown (state_at kept) copy s) ∙ alike_place_in (map (shown kept) copy) (only has flat.cells) s like in
+              omega (arith, ap (λ m. offset_of m s) n.offsets, b.at s there, whole, part, place_law has flat.cells s h a);
+          distinct = subst (IsDistinct is_same) (sym stamps) b.distinct;
+          older = subst (λ (m : ℕ). AreUpTo m flat.cells) (sym n.greatest) (up_to_stamps count flat.cells store stamps b.older);
+          length = ap length of.cells ∙ length_shown (state_at states) store ∙ sym n.cells;
+        };
+        site = of.site;
+        count = of.count ∙ sym n.greatest;
+        drafts = ap (map body_of) (sym n.drafts);
+        returns = sym n.returns;
+        actions = ap (λ l. named_group kept (group_of l)) (sym n.actions);
+        changes = subst (AllByRecursion IsChange) (sym n.changes) tt;
+        marks = ap (λ l. marks_after l flat.marks) (sym n.changes);
+        tags = ap (λ l. all_listed (map (λ w. string_bytes w) l) flat.tags) (sym n.names);
+      }
 
 -- THE END
 
 -- the group for the other stack
-pub ended_group : (table : TagStates) (number : ℕ) (copy : List (Cell ℕ)) (plan : Progress) (flat : Flat) (r : Reversion) (actions : List KeptAction) → IsGoing table plan → IsSoFar table number copy plan flat r
+pub ended_group : (table : TagStates) (number : ℕ) (copy : List (Cell ℕ)) (plan : Progress) (part : Portion) (r : Reversion) (actions : List KeptAction) → IsGoing table plan → IsSoFar table number copy plan part r
     → group_of actions ≡ with_stamps_in (now_of plan.renames) (group_of plan.actions.items) → named_group table (group_of actions) ≡ with_stamps_in (stamp_after r.returns) r.actions
-ended_group table number copy plan flat r actions g s e =
+ended_group table number copy plan part r actions g s e =
     let f : now_of plan.renames ≡ stamp_after r.returns = (λ i stamp. g.now stamp i) ∙ ap stamp_after (sym s.returns) in
     ap (named_group table) e ∙ stamped_group table (now_of plan.renames) (group_of plan.actions.items)
     ∙ (λ i. with_stamps_in {T = List Word} (f i) (sym s.actions i))

@@ -7,11 +7,11 @@ use Rattle.rt_stamps.specs.Words.{Word}
 use Rattle.rt_oplog.specs.Operations.{stamps_from}
 use Rattle.rt_store.specs.declared.cell.Cell.{Cell}
 use Rattle.rt_tags.specs.States.{TagStates}
-use Rattle.rt_edits.specs.Flat.{Flat}
 use Rattle.rt_undo.specs.declared.action.RemovedSpan.{RemovedSpan}
 use Rattle.rt_undo.specs.Actions.{Action, Removed, removed_in, removed_of, removed_with}
 use Rattle.rt_revert.specs.declared.progress.Progress.{Progress}
 use Rattle.rt_revert.specs.Plans.{named_removed}
+use Rattle.rt_revert.specs.Portions.{Portion}
 use Rattle.rt_revert.specs.Progress.{IsSoFar, Reaches}
 use Rattle.rt_revert.specs.Reverting.{Reversion, with_each_reverted, with_return, with_returns, with_reverted}
 use Rattle.rt_revert.proofs.Rest.{next_left, none_left}
@@ -56,44 +56,44 @@ returns_append : (xs ys : List (Removed (List Word))) (r : Reversion) → with_r
 returns_append [] ys r = refl
 returns_append (x ∷ xs) ys r = returns_append xs ys (with_return x r)
 
-module _ (table : TagStates) (number : ℕ) (old : List (Cell ℕ)) (before : Progress) (flat : Flat) (rest xs more : List (Removed (List Word))) (end : Reversion) where
-  pub reach_step : (new : List (Cell ℕ)) (after : Progress) → rest ≡ xs ++ more → Reaches table number old before flat (with_returns rest) end
-      → ((r : Reversion) → IsSoFar table number old before flat r → IsSoFar table number new after flat (with_returns xs r)) → Reaches table number new after flat (with_returns more) end
+module _ (table : TagStates) (number : ℕ) (old : List (Cell ℕ)) (before : Progress) (part : Portion) (rest xs more : List (Removed (List Word))) (end : Reversion) where
+  pub reach_step : (new : List (Cell ℕ)) (after : Progress) → rest ≡ xs ++ more → Reaches table number old before part (with_returns rest) end
+      → ((r : Reversion) → IsSoFar table number old before part r → IsSoFar table number new after part (with_returns xs r)) → Reaches table number new after part (with_returns more) end
   reach_step new after e h f = record {
     so_far = with_returns xs h.so_far;
     stands = f h.so_far h.stands;
     leads = sym (returns_append xs more h.so_far) ∙ ap (λ l. with_returns l h.so_far) (sym e) ∙ h.leads;
   }
 
-  pub reach_early : rest ≡ xs ++ more → Reaches table number old before flat (with_returns rest) end
-      → ((r : Reversion) → IsSoFar table number old before flat r → GREATEST_COUNT < (with_returns xs r).doc.count) → GREATEST_COUNT < end.doc.count
+  pub reach_early : rest ≡ xs ++ more → Reaches table number old before part (with_returns rest) end
+      → ((r : Reversion) → IsSoFar table number old before part r → GREATEST_COUNT < (with_returns xs r).doc.count) → GREATEST_COUNT < end.doc.count
   reach_early e h f =
       let last : with_returns more (with_returns xs h.so_far) ≡ end = sym (returns_append xs more h.so_far) ∙ ap (λ l. with_returns l h.so_far) (sym e) ∙ h.leads in
       let over : GREATEST_COUNT < (with_returns more (with_returns xs h.so_far)).doc.count = omega (arith, f h.so_far h.stands, returns_grow more (with_returns xs h.so_far)) in
       subst (λ (r : Reversion). GREATEST_COUNT < r.doc.count) last over
 
-pub reach_end : (table : TagStates) (number : ℕ) (old : List (Cell ℕ)) (before : Progress) (flat : Flat) (rest : List (Removed (List Word))) (end : Reversion) → rest ≡ []
-    → Reaches table number old before flat (with_returns rest) end → IsSoFar table number old before flat end
-reach_end table number old before flat rest end e h = subst (IsSoFar table number old before flat) (sym (ap (λ l. with_returns l h.so_far) e) ∙ h.leads) h.stands
+pub reach_end : (table : TagStates) (number : ℕ) (old : List (Cell ℕ)) (before : Progress) (part : Portion) (rest : List (Removed (List Word))) (end : Reversion) → rest ≡ []
+    → Reaches table number old before part (with_returns rest) end → IsSoFar table number old before part end
+reach_end table number old before part rest end e h = subst (IsSoFar table number old before part) (sym (ap (λ l. with_returns l h.so_far) e) ∙ h.leads) h.stands
 
 -- ACTIONS
 
-module _ (table : TagStates) (number : ℕ) (old : List (Cell ℕ)) (before : Progress) (flat : Flat) (rest more : List (Action (List Word))) (action : Action (List Word)) (end : Reversion) where
-  pub group_step : (new : List (Cell ℕ)) (after : Progress) → rest ≡ action ∷ more → Reaches table number old before flat (with_each_reverted rest) end
-      → ((r : Reversion) → IsSoFar table number old before flat r → IsSoFar table number new after flat (with_reverted action r)) → Reaches table number new after flat (with_each_reverted more) end
+module _ (table : TagStates) (number : ℕ) (old : List (Cell ℕ)) (before : Progress) (part : Portion) (rest more : List (Action (List Word))) (action : Action (List Word)) (end : Reversion) where
+  pub group_step : (new : List (Cell ℕ)) (after : Progress) → rest ≡ action ∷ more → Reaches table number old before part (with_each_reverted rest) end
+      → ((r : Reversion) → IsSoFar table number old before part r → IsSoFar table number new after part (with_reverted action r)) → Reaches table number new after part (with_each_reverted more) end
   group_step new after e h f = record {
     so_far = with_reverted action h.so_far;
     stands = f h.so_far h.stands;
     leads = ap (λ l. with_each_reverted l h.so_far) (sym e) ∙ h.leads;
   }
 
-  pub group_early : rest ≡ action ∷ more → Reaches table number old before flat (with_each_reverted rest) end
-      → ((r : Reversion) → IsSoFar table number old before flat r → GREATEST_COUNT < (with_reverted action r).doc.count) → GREATEST_COUNT < end.doc.count
+  pub group_early : rest ≡ action ∷ more → Reaches table number old before part (with_each_reverted rest) end
+      → ((r : Reversion) → IsSoFar table number old before part r → GREATEST_COUNT < (with_reverted action r).doc.count) → GREATEST_COUNT < end.doc.count
   group_early e h f =
       let last : with_each_reverted more (with_reverted action h.so_far) ≡ end = ap (λ l. with_each_reverted l h.so_far) (sym e) ∙ h.leads in
       let over : GREATEST_COUNT < (with_each_reverted more (with_reverted action h.so_far)).doc.count = omega (arith, f h.so_far h.stands, all_grow more (with_reverted action h.so_far)) in
       subst (λ (r : Reversion). GREATEST_COUNT < r.doc.count) last over
 
-pub group_end : (table : TagStates) (number : ℕ) (old : List (Cell ℕ)) (before : Progress) (flat : Flat) (rest : List (Action (List Word))) (end : Reversion) → rest ≡ []
-    → Reaches table number old before flat (with_each_reverted rest) end → IsSoFar table number old before flat end
-group_end table number old before flat rest end e h = subst (IsSoFar table number old before flat) (sym (ap (λ l. with_each_reverted l h.so_far) e) ∙ h.leads) h.stands
+pub group_end : (table : TagStates) (number : ℕ) (old : List (Cell ℕ)) (before : Progress) (part : Portion) (rest : List (Action (List Word))) (end : Reversion) → rest ≡ []
+    → Reaches table number old before part (with_each_reverted rest) end → IsSoFar table number old before part end
+group_end table number old before part rest end e h = subst (IsSoFar table number old before part) (sym (ap (λ l. with_each_reverted l h.so_far) e) ∙ h.leads) h.stands

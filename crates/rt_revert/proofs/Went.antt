@@ -1,11 +1,14 @@
 -- Characters go from the working copy of a text as they do from the document.
-use Rattle.std.proofs.Common.{All, ◌≡◌, ◌∙◌, ℕ, ◌+◌, ◌≤◌, Bool, true, false, List, [], ◌∷◌, ◌++◌, ◌||◌, cond, filter, get_or, length, map, refl, sym, ap, subst, arith}
+use Rattle.std.proofs.Common.{◌<◌, ◌⊎◌, inl, inr, None, Some, ◌≡◌, ◌∙◌, ℕ, ◌+◌, ◌≤◌, Bool, true, false, List, [], ◌∷◌, ◌++◌, ◌||◌, cond, filter, get_or, length, map, refl, sym, ap, subst, arith}
 use Rattle.std.proofs.lemmas.Bool.{or_from}
 use Rattle.std.proofs.lemmas.List.{length-map, map-append}
 use Rattle.std.proofs.lemmas.List.Elements.{All-map}
 use Rattle.std.proofs.lemmas.List.Folds.{list_any-append}
+use Rattle.std.proofs.lemmas.Option.{slice_get_cases}
+use Rattle.std.specs.declared.alloc.Global.{Global}
+use Rattle.std.specs.declared.vec.Vec.{Vec}
 use Rattle.std.specs.List.{AllByRecursion, IsDistinct, list_all}
-use Rattle.std.specs.Prelude.{string_bytes}
+use Rattle.std.specs.Prelude.{option_map, slice_get, string_bytes, unwrap_or}
 use Rattle.rt_oplog.specs.Rules.{is_name}
 use Rattle.rt_stamps.specs.declared.limits.TheConstants.{GREATEST_COUNT, MOST_CELLS, MOST_SPANS}
 use Rattle.rt_stamps.specs.declared.stamp.Span.{Span}
@@ -27,7 +30,6 @@ use Rattle.rt_tags.proofs.Sorted.{every_append}
 use Rattle.rt_rga.proofs.RemovedPlaces.{fewer}
 use Rattle.rt_rga.proofs.Writes.{spans_name}
 use Rattle.rt_edits.specs.declared.range.Range.{Range}
-use Rattle.rt_edits.specs.Flat.{Flat}
 use Rattle.rt_edits.specs.Insertions.{all_listed}
 use Rattle.rt_edits.specs.NamedSpans.{parts_for, parts_of, spans_in}
 use Rattle.rt_edits.specs.RemovalDrafts.{removal_drafts}
@@ -44,9 +46,14 @@ use Rattle.rt_revert.specs.declared.plan.TextChange.{TextChange}
 use Rattle.rt_revert.specs.declared.plan.TextChange.TheVariants.{Removed as Gone}
 use Rattle.rt_revert.specs.declared.progress.Progress.{Progress}
 use Rattle.rt_revert.specs.Plans.{AreGiven, AreUpTo, IsChange, IsUpTo, marks_after, marks_changed, named_group, named_removed}
+use Rattle.rt_revert.specs.Portions.{AreSmall, Has, Portion, offset_of, only, place_in, whole_ranges}
 use Rattle.rt_revert.specs.Progress.{IsCopy, IsGoing, IsOther, IsSoFar, LookAlike, spans_of}
 use Rattle.rt_revert.specs.Reverting.{Reversion, are_at, as_removed, stamp_after, still_visible, with_gone}
-use Rattle.rt_revert.proofs.Alike.{alike_at, alike_gone, alike_stamps_at, alike_still, gone_at_shown, same_drafts}
+use Rattle.rt_revert.proofs.Alike.{alike_at, alike_gone, alike_place_in, alike_stamps_at, alike_still, gone_at_shown, place_in_shown, same_drafts}
+use Rattle.rt_revert.proofs.Counted.{later_cells, up_to_stamps}
+use Rattle.rt_revert.proofs.Had.{had_all}
+use Rattle.rt_revert.proofs.PortionGone.{AreHad, ends_within, gone_stamps, lost_named, lost_stamps, map_same, one, only_gone, others_gone, placed_all, singles, singles_covered, singles_order, stamps_only, still_only}
+use Rattle.rt_revert.proofs.PortionLaws.{place_law}
 use Rattle.rt_revert.proofs.TakenBack.{still_is}
 use Rattle.rt_revert.proofs.WorkCells.{at_shown}
 
@@ -131,23 +138,25 @@ after_more [] change marks = refl
 after_more (c ∷ changes) change marks = after_more changes change (marks_changed c marks)
 
 -- what was taken out of a working copy
-pub record Took (table : TagStates) (stamps : List Stamp) (old new : List (Cell ℕ)) (before after : Progress) (losses : Losses) : Type 0 where
+pub record Took (table : TagStates) (stamps : List Stamp) (old new : List (Cell ℕ)) (before after : Progress) (losses : Losses) (whole : Vec Range Global) : Type 0 where
   pub list : new ≡ map (gone_in_any (spans_of losses.removed.items)) old
   pub removed : map (named_removed table) (removed_in losses.removed.items) ≡ still_visible stamps (map (shown table) old)
   pub drafts : map body_of losses.drafts.items ≡ removal_drafts MOST_SPANS (are_at stamps old) old
   pub places : (place : ℕ) → is_covered losses.places.items place ≡ are_at stamps old place
-  pub order : AreInOrder 0 losses.places.items
-  pub within : All (λ (range : Range). range.to ≤ length (visible_of old)) losses.places.items
+  pub covered : (place : ℕ) → is_covered whole.items place ≡ is_covered (whole_ranges before.offsets old (stamps_at (is_covered losses.places.items) 0 old)) place
+  pub order : AreInOrder 0 (whole_ranges before.offsets old (stamps_at (is_covered losses.places.items) 0 old)) → AreInOrder 0 whole.items
   pub new_drafts : after.texts.drafts.items ≡ before.texts.drafts.items ++ losses.drafts.items
   pub count : after.texts.count ≡ before.texts.count + length losses.drafts.items
   pub most : after.texts.count ≤ GREATEST_COUNT
-  pub changes : after.changes.items ≡ before.changes.items ++ Gone losses.places ∷ []
+  pub changes : after.changes.items ≡ before.changes.items ++ Gone whole ∷ []
   pub renames : after.renames ≡ before.renames
   pub names : after.names ≡ before.names
   pub returns : after.returns ≡ before.returns
   pub actions : after.actions ≡ before.actions
+  pub offsets : after.offsets ≡ before.offsets
+  pub cells : after.cells ≡ before.cells
 
-module _ (table : TagStates) (stamps : List Stamp) (old new : List (Cell ℕ)) (before after : Progress) (losses : Losses) where
+module _ (table : TagStates) (stamps : List Stamp) (old new : List (Cell ℕ)) (before after : Progress) (losses : Losses) (whole : Vec Range Global) where
   abbrev places : ℕ → Bool
   places = are_at stamps old
 
@@ -163,7 +172,7 @@ module _ (table : TagStates) (stamps : List Stamp) (old new : List (Cell ℕ)) (
       ∙ ap (λ l. is_among l s) (sym (named_stamps table (removed_in losses.removed.items)) ∙ ap (map stamp_in) (e ∙ still_is stamps all)
       ∙ removed_stamps (are_at stamps all) 0 all ∙ ap (λ (p : ℕ → Bool). stamps_at p 0 all) shown_places ∙ stamps_at_shown (state_at table) places 0 old)
 
-  went : Took table stamps old new before after losses → IsDistinct is_same (stamps_of old) → new ≡ gone_at places 0 old
+  went : Took table stamps old new before after losses whole → IsDistinct is_same (stamps_of old) → new ≡ gone_at places 0 old
   went h d = h.list ∙ gone_from_spans places old (spans_of losses.removed.items) d (named_spans h.removed)
 
   same_gone : (spans : List Span) (c : Cell ℕ) → (gone_in_any spans c).stamp ≡ c.stamp
@@ -174,7 +183,7 @@ module _ (table : TagStates) (stamps : List Stamp) (old new : List (Cell ℕ)) (
       All-map (λ (cell : Cell ℕ). IsUpTo more cell.stamp) (gone_in_any spans) cells
       (λ k d lt. subst (IsUpTo more) (sym (same_gone spans (get_or cells k d))) (λ e. omega (arith, h k d lt e, le)))
 
-  pub took_copy : Took table stamps old new before after losses → IsCopy table old before.texts.count → IsCopy table new after.texts.count
+  pub took_copy : Took table stamps old new before after losses whole → IsCopy table old before.texts.count → IsCopy table new after.texts.count
   took_copy h k =
       let spans = spans_of losses.removed.items in
       subst (λ cells. IsCopy table cells after.texts.count) (sym h.list) (record {
@@ -184,56 +193,105 @@ module _ (table : TagStates) (stamps : List Stamp) (old new : List (Cell ℕ)) (
         older = later spans old before.texts.count after.texts.count (omega (arith, h.count)) k.older;
       })
 
-  change : Took table stamps old new before after losses → length old ≤ MOST_CELLS → IsChange (Gone losses.places)
-  change h few = (h.order, λ k d lt. omega (arith, h.within k d lt, fewer old, few))
-
-  pub took_going : Took table stamps old new before after losses → length old ≤ MOST_CELLS → IsGoing table before → IsGoing table after
-  took_going h few k = record {
+  pub took_going : Took table stamps old new before after losses whole → IsGoing table before → IsGoing table after
+  took_going h k = record {
     count = h.most;
     moved = λ s e. omega (arith, h.count, k.moved s (ap (λ m. is_moved m s) (sym h.renames) ∙ e));
     now = λ s. ap (λ m. now_of m s) h.renames ∙ k.now s ∙ ap (λ v. stamp_after v.items s) (sym h.returns);
     apart = subst (λ v. AllByRecursion IsOther v.items) (sym h.returns) k.apart;
-    changes = subst (AllByRecursion IsChange) (sym h.changes) (every_append IsChange before.changes.items (Gone losses.places ∷ []) k.changes (change h few, tt));
     names = subst (λ v. list_all is_name (map (λ w. string_bytes w) v.items) ≡ true) (sym h.names) k.names;
     given = subst (λ v. AreGiven table (group_of v.items)) (sym h.actions) k.given;
+    offsets = subst AreSmall (sym h.offsets) k.offsets;
+    few = omega (arith, h.cells, k.few);
   }
 
+  -- the characters that go are those that go from the whole text
+  named : (part : Portion) (r : Reversion) → AreHad part.has stamps → LookAlike all (only part.has r.doc.cells) → stamps_at (are_at stamps r.doc.cells) 0 r.doc.cells ≡ stamps_at places 0 old
+  named part r had k =
+      let ours = only part.has r.doc.cells in
+      sym (stamps_only part.has stamps r.doc.cells had)
+      ∙ ap (λ (p : ℕ → Bool). stamps_at p 0 ours) (sym (alike_at stamps all ours k))
+      ∙ sym (alike_stamps_at (are_at stamps all) all ours k)
+      ∙ stamps_at_shown (state_at table) (are_at stamps all) 0 old
+      ∙ ap (λ (p : ℕ → Bool). stamps_at p 0 old) shown_places
+
   -- the counts of the operations
-  pub lost_count : (number : ℕ) (flat : Flat) (r : Reversion) → map body_of losses.drafts.items ≡ removal_drafts MOST_SPANS places old → IsDistinct is_same (stamps_of old)
-      → IsSoFar table number old before flat r → (with_gone stamps r).doc.count ≡ before.texts.count + length losses.drafts.items
-  lost_count number flat r e d s =
-      let theirs = are_at stamps r.doc.cells in
-      let same : stamps_at places 0 old ≡ stamps_at theirs 0 r.doc.cells =
-      sym (stamps_at_shown (state_at table) places 0 old) ∙ alike_stamps_at places all r.doc.cells s.cells
-      ∙ ap (λ (p : ℕ → Bool). stamps_at p 0 r.doc.cells) (sym shown_places ∙ alike_at stamps all r.doc.cells s.cells) in
-      let counted : length losses.drafts.items ≡ operations_for (span_count (stamps_at theirs 0 r.doc.cells)) =
-      sym (length-map losses.drafts.items body_of) ∙ ap length e ∙ drafts_counted places old d ∙ ap (λ ss. operations_for (span_count ss)) same in
+  pub lost_count : (number : ℕ) (part : Portion) (r : Reversion) → map body_of losses.drafts.items ≡ removal_drafts MOST_SPANS places old → IsDistinct is_same (stamps_of old)
+      → Has part stamps → IsSoFar table number old before part r → (with_gone stamps r).doc.count ≡ before.texts.count + length losses.drafts.items
+  lost_count number part r e d had s =
+      let same = named part r (had_all part stamps had) s.cells in
+      let counted : length losses.drafts.items ≡ operations_for (span_count (stamps_at (are_at stamps r.doc.cells) 0 r.doc.cells)) =
+      sym (length-map losses.drafts.items body_of) ∙ ap length e ∙ drafts_counted places old d ∙ ap (λ ss. operations_for (span_count ss)) (sym same) in
       (λ i. s.count i + sym counted i)
 
-  pub took_still : (number : ℕ) (flat : Flat) (r : Reversion) → map (named_removed table) (removed_in losses.removed.items) ≡ still_visible stamps all
-      → IsSoFar table number old before flat r → map (named_removed table) (removed_in losses.removed.items) ≡ still_visible stamps r.doc.cells
-  took_still number flat r e s = e ∙ alike_still stamps all r.doc.cells s.cells
+  pub took_still : (number : ℕ) (part : Portion) (r : Reversion) → map (named_removed table) (removed_in losses.removed.items) ≡ still_visible stamps all
+      → Has part stamps → IsSoFar table number old before part r → map (named_removed table) (removed_in losses.removed.items) ≡ still_visible stamps r.doc.cells
+  took_still number part r e had s =
+      e ∙ alike_still stamps all (only part.has r.doc.cells) s.cells ∙ still_only part.has stamps r.doc.cells (had_all part stamps had)
 
-  pub took_so_far : Took table stamps old new before after losses → IsDistinct is_same (stamps_of old) → (number : ℕ) (flat : Flat) (r : Reversion)
-      → IsSoFar table number old before flat r → IsSoFar table number new after flat (with_gone stamps r)
-  took_so_far h d number flat r s =
-      let theirs = are_at stamps r.doc.cells in
-      let same : places ≡ theirs = sym shown_places ∙ alike_at stamps all r.doc.cells s.cells in
-      let stamps_same : stamps_at theirs 0 r.doc.cells ≡ stamps_at theirs 0 old = sym (alike_stamps_at theirs all r.doc.cells s.cells) ∙ stamps_at_shown (state_at table) theirs 0 old in
-      let covered : is_covered losses.places.items ≡ theirs = (λ i place. h.places place i) ∙ same in
-      let cells : map (shown table) new ≡ gone_at theirs 0 all =
+  -- where they stand in the whole text
+  ranges_are : (number : ℕ) (part : Portion) (r : Reversion) → Took table stamps old new before after losses whole → AreHad part.has stamps → IsSoFar table number old before part r
+      → whole_ranges before.offsets old (stamps_at (is_covered losses.places.items) 0 old) ≡ singles (are_at stamps r.doc.cells) 0 r.doc.cells
+  ranges_are number part r h had s =
+      let cells = r.doc.cells in
+      let theirs = are_at stamps cells in
+      let chosen : stamps_at (is_covered losses.places.items) 0 old ≡ stamps_at theirs 0 cells =
+      ap (λ (p : ℕ → Bool). stamps_at p 0 old) (λ i place. h.places place i) ∙ sym (named part r had s.cells) in
+      ap (whole_ranges before.offsets old) chosen
+      ∙ map_same (λ t. one (place_in old t + offset_of before.offsets t)) (λ t. one (place_in cells t)) (stamps_at theirs 0 cells) (λ t k.
+      let n = lost_named stamps cells t (ap (λ l. is_among l t) (sym (lost_stamps stamps cells)) ∙ k) in
+      let has : part.has t ≡ true = had t n.0 in
+      let ours : place_in old t ≡ place_in (only part.has cells) t = sym (place_in_shown (state_at table) old t) ∙ alike_place_in all (only part.has cells) t s.cells in
+      let at : place_in old t + offset_of before.offsets t ≡ place_in cells t = omega (arith, ours, s.within.offsets t has n.1, place_law part.has cells t has n.1) in
+      ap one at)
+      ∙ placed_all theirs cells s.within.distinct
+
+  -- a place where one of them stands is one of the text
+  at_within : (cells : List TaggedCell) (place : ℕ) → are_at stamps cells place ≡ true → place < length cells
+  at_within cells place e = by (slice_get_cases (visible_of cells) place).1
+    where
+      by : ((x : TaggedCell) × (place < length (visible_of cells)) × (slice_get (visible_of cells) place ≡ Some x) × (get_or (visible_of cells) place x ≡ x))
+          ⊎ ((length (visible_of cells) ≤ place) × (slice_get (visible_of cells) place ≡ None)) → place < length cells
+      by (inl x) = omega (arith, x.1, fewer cells)
+      by (inr x) = absurd (let n : are_at stamps cells place ≡ false = ap (λ o. unwrap_or (option_map (λ (cell : TaggedCell). is_among stamps cell.stamp) o) false) x.1 in cc (n, e))
+
+  pub took_so_far : Took table stamps old new before after losses whole → IsDistinct is_same (stamps_of old) → before.cells ≤ MOST_CELLS → (number : ℕ) (part : Portion) (r : Reversion)
+      → Has part stamps → IsSoFar table number old before part r → IsSoFar table number new after part (with_gone stamps r)
+  took_so_far h d few number part r has s =
+      let had = had_all part stamps has in
+      let cells = r.doc.cells in
+      let ours = only part.has cells in
+      let theirs = are_at stamps cells in
+      let left = gone_at theirs 0 cells in
+      let same : places ≡ are_at stamps ours = sym shown_places ∙ alike_at stamps all ours s.cells in
+      let ranges = ranges_are number part r h had s in
+      let covers : (place : ℕ) → is_covered whole.items place ≡ theirs place =
+      λ place. h.covered place ∙ ap (λ l. is_covered l place) ranges ∙ singles_covered stamps cells place in
+      let ordered : AreInOrder 0 whole.items = h.order (subst (AreInOrder 0) (sym ranges) (singles_order theirs 0 0 cells (omega arith))) in
+      let change : IsChange (Gone whole) =
+      (ordered, ends_within whole.items 0 MOST_CELLS ordered (λ place e. omega (arith, at_within cells place (sym (covers place) ∙ e), s.within.length, few))) in
+      let copied : map (shown table) new ≡ gone_at (are_at stamps ours) 0 all =
       ap (map (shown table)) (went h d) ∙ sym (gone_at_shown (state_at table) places 0 old) ∙ ap (λ (p : ℕ → Bool). gone_at p 0 all) same in
+      let stays : stamps_of left ≡ stamps_of cells = gone_stamps stamps cells in
       record {
-        cells = subst (λ l. LookAlike l (gone_at theirs 0 r.doc.cells)) (sym cells) (alike_gone theirs all r.doc.cells s.cells);
+        cells = subst (λ (l : List TaggedCell). LookAlike (map (shown table) new) l) (sym (only_gone part.has stamps cells))
+            (subst (λ (l : List TaggedCell). LookAlike l (gone_at (are_at stamps ours) 0 ours)) (sym copied) (alike_gone (are_at stamps ours) all ours s.cells));
+        within = record {
+          newer = λ t lt. s.within.newer t (omega (arith, h.count, lt));
+          back = s.within.back;
+          offsets = λ t k a. ap (λ m. offset_of m t) h.offsets ∙ s.within.offsets t k (ap (λ l. is_among l t) (sym stays) ∙ a) ∙ sym (others_gone part.has stamps cells t had);
+          distinct = subst (IsDistinct is_same) (sym stays) s.within.distinct;
+          older = up_to_stamps after.texts.count left cells stays (later_cells before.texts.count after.texts.count cells (omega (arith, h.count)) s.within.older);
+          length = sym (length-map left (λ (c : TaggedCell). c.stamp)) ∙ ap length stays ∙ length-map cells (λ (c : TaggedCell). c.stamp) ∙ s.within.length ∙ sym h.cells;
+        };
         site = s.site;
-        count = lost_count number flat r h.drafts d s ∙ sym h.count;
-        drafts = (λ i. s.drafts i ++ same_drafts theirs r.doc.cells old stamps_same i)
-            ∙ ap (λ (p : ℕ → Bool). map body_of before.texts.drafts.items ++ removal_drafts MOST_SPANS p old) (sym same)
-            ∙ ap (λ l. map body_of before.texts.drafts.items ++ l) (sym h.drafts)
+        count = lost_count number part r h.drafts d has s ∙ sym h.count;
+        drafts = (λ i. s.drafts i ++ (same_drafts theirs places cells old (named part r had s.cells) ∙ sym h.drafts) i)
             ∙ sym (map-append body_of before.texts.drafts.items losses.drafts.items) ∙ ap (map body_of) (sym h.new_drafts);
         returns = s.returns ∙ ap (λ v. v.items) (sym h.returns);
         actions = s.actions ∙ ap (λ v. named_group table (group_of v.items)) (sym h.actions);
-        marks = ap (marks_left theirs) s.marks ∙ ap (λ (p : ℕ → Bool). marks_left p (marks_after before.changes.items flat.marks)) (sym covered)
-            ∙ sym (after_more before.changes.items (Gone losses.places) flat.marks) ∙ ap (λ l. marks_after l flat.marks) (sym h.changes);
-        tags = s.tags ∙ ap (λ v. all_listed (map (λ w. string_bytes w) v.items) flat.tags) (sym h.names);
+        changes = subst (AllByRecursion IsChange) (sym h.changes) (every_append IsChange before.changes.items (Gone whole ∷ []) s.changes (change, tt));
+        marks = ap (marks_left theirs) s.marks ∙ ap (λ (p : ℕ → Bool). marks_left p (marks_after before.changes.items part.doc.marks)) (λ i place. sym (covers place) i)
+            ∙ sym (after_more before.changes.items (Gone whole) part.doc.marks) ∙ ap (λ l. marks_after l part.doc.marks) (sym h.changes);
+        tags = s.tags ∙ ap (λ v. all_listed (map (λ w. string_bytes w) v.items) part.doc.tags) (sym h.names);
       }

@@ -1,8 +1,10 @@
 pub mod Examples
 pub mod Keeping
+pub mod Named
 pub mod Planning
 pub mod PlannedGroups
 pub mod Plans
+pub mod Portions
 pub mod Progress
 pub mod ReversionLaws
 pub mod Reverting

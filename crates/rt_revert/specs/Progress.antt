@@ -1,5 +1,5 @@
 -- What reverting actions has come to, in the working copy of a text and beside it.
-use Rattle.std.specs.Prelude.{◌≡◌, ℕ, ◌≤◌, List, true, false, length, map, string_bytes}
+use Rattle.std.specs.Prelude.{◌≡◌, ℕ, ◌<◌, ◌≤◌, List, true, false, length, map, string_bytes}
 use Rattle.std.specs.List.{AllByRecursion, list_all}
 use Rattle.rt_stamps.specs.declared.limits.TheConstants.{GREATEST_COUNT, MOST_CELLS}
 use Rattle.rt_stamps.specs.declared.stamp.Span.{Span}
@@ -14,7 +14,6 @@ use Rattle.rt_store.specs.Cells.{AreDistinct, map_state}
 use Rattle.rt_store.specs.Shown.{TaggedCell, shown}
 use Rattle.rt_store.specs.Tagged.{AreStates}
 use Rattle.rt_tags.specs.States.{TagStates, names_on}
-use Rattle.rt_edits.specs.Flat.{Flat}
 use Rattle.rt_edits.specs.Insertions.{all_listed}
 use Rattle.rt_undo.specs.declared.action.RemovedSpan.{RemovedSpan}
 use Rattle.rt_undo.specs.Actions.{group_of}
@@ -22,6 +21,7 @@ use Rattle.rt_undo.specs.Renames.{is_moved, now_of}
 use Rattle.rt_revert.specs.declared.plan.Return.{Return}
 use Rattle.rt_revert.specs.declared.progress.Progress.{Progress}
 use Rattle.rt_revert.specs.Plans.{AreGiven, AreUpTo, IsChange, marks_after, named_group}
+use Rattle.rt_revert.specs.Portions.{AreOffsets, AreSmall, Portion, only}
 use Rattle.rt_revert.specs.Reverting.{Reversion, stamp_after}
 
 -- cells with the names of their tags; cells that look alike have the same ones
@@ -52,23 +52,36 @@ pub record IsGoing (table : TagStates) (plan : Progress) : Type 0 where
   pub moved : (s : Stamp) → is_moved plan.renames s ≡ true → s.count ≤ plan.texts.count
   pub now : (s : Stamp) → now_of plan.renames s ≡ stamp_after plan.returns.items s
   pub apart : AllByRecursion IsOther plan.returns.items
-  pub changes : AllByRecursion IsChange plan.changes.items
   pub names : list_all is_name (map (λ w. string_bytes w) plan.names.items) ≡ true
   pub given : AreGiven table (group_of plan.actions.items)
+  pub offsets : AreSmall plan.offsets
+  pub few : plan.cells ≤ MOST_CELLS
+
+-- The working copy has some of the document's cells, and all that are newer; the plan knows how many others stand before each.
+pub record IsWithin (plan : Progress) (part : Portion) (r : Reversion) : Type 0 where
+  pub newer : (s : Stamp) → plan.texts.count < s.count → part.has s ≡ true
+  pub back : AllByRecursion (λ (x : Return). part.has x.newer ≡ true) r.returns
+  pub offsets : AreOffsets plan.offsets part.has r.doc.cells
+  pub distinct : AreDistinct r.doc.cells
+  pub older : AreUpTo plan.texts.count r.doc.cells
+  pub length : length r.doc.cells ≡ plan.cells
 
 -- both are what a reversion in a document of a site has come to
-pub record IsSoFar (table : TagStates) (number : ℕ) (copy : List (Cell ℕ)) (plan : Progress) (flat : Flat) (r : Reversion) : Type 0 where
-  pub cells : LookAlike (map (shown table) copy) r.doc.cells
+pub record IsSoFar (table : TagStates) (number : ℕ) (copy : List (Cell ℕ)) (plan : Progress) (part : Portion) (r : Reversion) : Type 0 where
+  pub cells : LookAlike (map (shown table) copy) (only part.has r.doc.cells)
+  pub within : IsWithin plan part r
   pub site : r.doc.site ≡ number
   pub count : r.doc.count ≡ plan.texts.count
   pub drafts : r.drafts ≡ map body_of plan.texts.drafts.items
   pub returns : r.returns ≡ plan.returns.items
   pub actions : r.actions ≡ named_group table (group_of plan.actions.items)
-  pub marks : r.doc.marks ≡ marks_after plan.changes.items flat.marks
-  pub tags : r.doc.tags ≡ all_listed (map (λ w. string_bytes w) plan.names.items) flat.tags
+  pub changes : AllByRecursion IsChange plan.changes.items
+  pub marks : r.doc.marks ≡ marks_after plan.changes.items part.doc.marks
+  pub tags : r.doc.tags ≡ all_listed (map (λ w. string_bytes w) plan.names.items) part.doc.tags
 
 -- they are, and what is left to do leads to an end
-pub record Reaches (table : TagStates) (number : ℕ) (copy : List (Cell ℕ)) (plan : Progress) (flat : Flat) (rest : Reversion → Reversion) (end : Reversion) : Type 0 where
+pub record Reaches (table : TagStates) (number : ℕ) (copy : List (Cell ℕ)) (plan : Progress) (part : Portion) (rest : Reversion → Reversion) (end : Reversion)
+    : Type 0 where
   pub so_far : Reversion
-  pub stands : IsSoFar table number copy plan flat so_far
+  pub stands : IsSoFar table number copy plan part so_far
   pub leads : rest so_far ≡ end

@@ -1,11 +1,13 @@
 // A working copy of a text.
-ghost use Rattle.std.specs.Prelude.{◌≡◌, ℕ, ◌+◌, ◌<◌, ◌≤◌, ◌∷◌, [], All, IfErr, IfOk, IfSome, OnOk, length, map, take};
+ghost use Rattle.std.specs.Prelude.{◌≡◌, ℕ, ◌<◌, ◌≤◌, ◌∷◌, [], List, All, IfErr, IfOk, IfSome, OnOk, length, map};
 ghost use Rattle.rt_stamps.specs.declared.limits.TheConstants.{MOST_CELLS};
+ghost use Rattle.rt_store.specs.declared.cell.Cell.{Cell};
 ghost use Rattle.rt_store.specs.Cells.{EndsFinal, final_cell};
 ghost use Rattle.rt_store.specs.Shown.{shown};
 ghost use Rattle.rt_store.specs.Tagged.{AreStates};
 ghost use Rattle.rt_tags.specs.States.{IsState, KeepsIds, names_on, state_at};
 ghost use Rattle.rt_revert.specs.Keeping.{AreAlike};
+ghost use Rattle.rt_revert.specs.Named.{AreAt};
 ghost use Rattle.rt_revert.specs.Progress.{LookAlike};
 
 use crate::returning::names_of;
@@ -64,23 +66,27 @@ pub fn alike_state(
     }
 }
 
-// The cells of a store, with states of another table in which the same tags are on. Want of memory.
-fn kept_cells<S: TextStore>(
+/// The cells of a store at some positions, with states of another table in which the same tags are on.
+/// Want of memory.
+pub(crate) fn kept_cells<S: TextStore>(
     alloc: Global,
     store: &S,
     states: &StateTable,
+    positions: &[usize],
     kept: &mut StateTable,
 ) -> Result<Vec<Cell<StateId>>, Fault>
     requires states { AreStates states.now (S.list store.now) }
+    requires within { All (λ position. position < length (S.list store.now)) positions.now }
     ensures states { IfOk result (λ cells. AreStates kept.new cells.items) }
-    ensures alike { IfOk result (λ cells. LookAlike (map (shown kept.new) cells.items) (map (shown states.now) (S.list store.now))) }
+    ensures alike { IfOk result (λ cells. (named : List (Cell ℕ)) → AreAt (S.list store.now) positions.now named
+        → LookAlike (map (shown kept.new) cells.items) (map (shown states.now) named)) }
     ensures ids { KeepsIds kept.old kept.new }
     ensures err { IfErr result (λ fault. fault ≡ Fault.NoMemory) }
 {
     let mut cells = Vec::new(alloc);
     let mut known = None;
-    for position in 0..store.cells() {
-        let cell = store.nth(position);
+    for position in positions {
+        let cell = store.nth(*position);
         let alike = alike_state(alloc, states, cell.state, known, kept)?;
         let state = alike.own;
         cells.push(Cell { state, ..cell })?;
@@ -90,7 +96,7 @@ fn kept_cells<S: TextStore>(
 }
 
 /// Fills an empty store with cells, the last of which is the final newline. Want of memory.
-fn fill<C: TextStore>(
+pub(crate) fn fill<C: TextStore>(
     kept: &StateTable,
     copy: &mut C,
     cells: Vec<Cell<StateId>>,
@@ -117,25 +123,4 @@ fn fill<C: TextStore>(
     copy.set_state(kept, newline, state);
     copy.splice(kept, 0, &front);
     Ok(())
-}
-
-/// A working copy of a store's cells in an empty store, with states of a table in which the same tags
-/// are on. Want of memory.
-pub(crate) fn copied<S: TextStore, C: TextStore>(
-    alloc: Global,
-    store: &S,
-    states: &StateTable,
-    kept: &mut StateTable,
-    copy: &mut C,
-) -> Result<(), Fault>
-    requires empty { C.list copy.old ≡ final_cell ∷ [] }
-    requires states { AreStates states.now (S.list store.now) }
-    requires few { length (S.list store.now) ≤ MOST_CELLS }
-    ensures states { OnOk result (AreStates kept.new (C.list copy.new)) }
-    ensures alike { OnOk result (LookAlike (map (shown kept.new) (C.list copy.new)) (map (shown states.now) (S.list store.now))) }
-    ensures ids { KeepsIds kept.old kept.new }
-    ensures err { IfErr result (λ fault. fault ≡ Fault.NoMemory) }
-{
-    let cells = kept_cells(alloc, store, states, kept)?;
-    fill(kept, copy, cells)
 }

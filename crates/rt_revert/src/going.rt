@@ -5,13 +5,14 @@ ghost use Rattle.rt_stamps.specs.declared.stamp.TheConstants.{FINAL};
 ghost use Rattle.rt_oplog.specs.Operations.{stamps_in};
 ghost use Rattle.rt_store.specs.Spans.{gone_in_any, is_among, is_in_spans};
 ghost use Rattle.rt_store.specs.Tagged.{AreStates};
-ghost use Rattle.rt_edits.specs.Flat.{Flat};
 ghost use Rattle.rt_undo.specs.Actions.{removed_in};
 ghost use Rattle.rt_revert.specs.Plans.{RemovedAreGiven, named_removed};
+ghost use Rattle.rt_revert.specs.Portions.{Has, Portion};
 ghost use Rattle.rt_revert.specs.Progress.{IsCopy, IsGoing, IsSoFar, spans_of};
 ghost use Rattle.rt_revert.specs.Reverting.{Reversion, still_visible, with_gone};
 
 use crate::losses::planned_losses;
+use crate::offsets::whole_places;
 use crate::progress::Progress;
 use rt_stamps::{Fault, Span};
 use rt_store::TextStore;
@@ -54,17 +55,21 @@ pub(crate) fn take_out<S: TextStore>(
     ensures going { OnOk result (IsGoing kept.now plan.new) }
     ensures returns { OnOk result (plan.new.returns ≡ plan.old.returns) }
     ensures actions { OnOk result (plan.new.actions ≡ plan.old.actions) }
-    ensures so_far { OnOk result ((number : ℕ) (flat : Flat) (r : Reversion) → IsSoFar kept.now number (S.list copy.old) plan.old flat r
-        → IsSoFar kept.now number (S.list copy.new) plan.new flat (with_gone (stamps_in spans.now) r)) }
-    ensures removed { IfOk result (λ removed. (number : ℕ) (flat : Flat) (r : Reversion) → IsSoFar kept.now number (S.list copy.old) plan.old flat r
+    ensures so_far { OnOk result ((number : ℕ) (part : Portion) (r : Reversion) → Has part (stamps_in spans.now)
+        → IsSoFar kept.now number (S.list copy.old) plan.old part r
+        → IsSoFar kept.now number (S.list copy.new) plan.new part (with_gone (stamps_in spans.now) r)) }
+    ensures removed { IfOk result (λ removed. (number : ℕ) (part : Portion) (r : Reversion) → Has part (stamps_in spans.now)
+        → IsSoFar kept.now number (S.list copy.old) plan.old part r
         → map (named_removed kept.now) (removed_in removed.items) ≡ still_visible (stamps_in spans.now) r.doc.cells) }
     ensures given { IfOk result (λ removed. RemovedAreGiven kept.now (removed_in removed.items)) }
     ensures err { IfErr result (λ fault. (fault ≡ Fault.NoMemory) ⊎ ((fault ≡ Fault.ClockSpent)
-        × ((number : ℕ) (flat : Flat) (r : Reversion) → IsSoFar kept.now number (S.list copy.old) plan.old flat r
+        × ((number : ℕ) (part : Portion) (r : Reversion) → Has part (stamps_in spans.now)
+        → IsSoFar kept.now number (S.list copy.old) plan.old part r
         → GREATEST_COUNT < (with_gone (stamps_in spans.now) r).doc.count))) }
 {
     let losses = planned_losses(alloc, &*copy, kept, spans)?;
+    let whole = whole_places(alloc, &*copy, &plan.offsets, &losses.places)?;
     make_gone(copy, kept, &losses.removed)?;
-    plan.lose(losses.places, losses.drafts)?;
+    plan.lose(whole, losses.drafts)?;
     Ok(losses.removed)
 }

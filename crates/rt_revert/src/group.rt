@@ -13,7 +13,9 @@ ghost use Rattle.rt_revert.specs.Plans.{AreGiven, AreUpTo, IsChange, IsOf, named
 ghost use Rattle.rt_revert.specs.Reverting.{reversion};
 ghost use Rattle.rt_revert.specs.ReversionLaws.{AreSound};
 
-use crate::copying::copied;
+use crate::copying::{fill, kept_cells};
+use crate::named::named_positions;
+use crate::offsets::offsets_of;
 use crate::plan::Reversal;
 use crate::progress::Progress;
 use crate::reverting::revert_all;
@@ -26,9 +28,9 @@ use std::alloc::Global;
 /// Plans that a group is reverted, the last action first, and changes nothing of the document. The group
 /// is by the stamps of now, and `count` is the document's greatest count. The tags of removed characters
 /// are states of `kept`, a table of the undo stacks' own: it gets the states that the plan needs, also
-/// where that is refused. `ClockSpent`, or want of memory, as also where a copy of the text, in which the
-/// actions are reverted, grows past the most cells. The copy is a plain list, so the cost goes by the
-/// cells of the text for each character of the group: `planned_reversion_in` takes a better store.
+/// where that is refused. `ClockSpent`, or want of memory, as also where the text would grow past the
+/// most cells. The actions are reverted in a working copy of the cells that they name; it is a plain
+/// list, so the cost goes by the square of their number: `planned_reversion_in` takes a better store.
 pub fn planned_reversion<S: TextStore>(
     alloc: Global,
     store: &S,
@@ -61,7 +63,8 @@ pub fn planned_reversion<S: TextStore>(
     planned_reversion_in(alloc, store, states, copy, site, count, group, kept)
 }
 
-/// The same, with an empty store for the copy of the text.
+/// The same, with an empty store for the working copy. The cost goes by the characters that the group
+/// names, in the calls of both stores, and by a sort; not by the cells of the text.
 pub fn planned_reversion_in<S: TextStore, C: TextStore>(
     alloc: Global,
     store: &S,
@@ -93,8 +96,11 @@ pub fn planned_reversion_in<S: TextStore, C: TextStore>(
         → GREATEST_COUNT < (reversion flat (named_group kept.old (group_of group.now))).doc.count))) }
 {
     let mut work = copy;
-    copied(alloc, store, states, kept, &mut work)?;
-    let mut plan = Progress::new(alloc, count);
+    let positions = named_positions(alloc, store, site, count, group)?;
+    let cells = kept_cells(alloc, store, states, &positions, kept)?;
+    fill(kept, &mut work, cells)?;
+    let offsets = offsets_of(alloc, store, &work)?;
+    let mut plan = Progress::new(alloc, count, store.cells(), offsets);
     revert_all(alloc, site, kept, &mut work, group, &mut plan)?;
     let reversal = plan.done(alloc)?;
     Ok(reversal)

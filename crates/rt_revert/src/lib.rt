@@ -9,6 +9,8 @@ pub mod group;
 pub mod laws;
 pub mod losses;
 pub mod lost;
+mod named;
+mod offsets;
 pub mod plan;
 mod progress;
 mod returning;

@@ -1,6 +1,6 @@
 // What reverting actions has come to.
-ghost use Rattle.std.specs.Prelude.{◌≡◌, ℕ, ◌⊎◌, ◌+◌, ◌<◌, ◌≤◌, ◌++◌, ◌∷◌, [], ◌||◌, false, IfErr, IfOk, OnOk, length, map, string_bytes};
-ghost use Rattle.rt_stamps.specs.declared.limits.TheConstants.{GREATEST_COUNT, MOST_CHARACTERS};
+ghost use Rattle.std.specs.Prelude.{◌≡◌, ℕ, ◌⊎◌, ◌+◌, ◌<◌, ◌≤◌, ◌++◌, ◌∷◌, [], ◌||◌, false, if◌then◌else◌, IfErr, IfOk, OnOk, length, map, string_bytes};
+ghost use Rattle.rt_stamps.specs.declared.limits.TheConstants.{GREATEST_COUNT, MOST_CELLS, MOST_CHARACTERS};
 ghost use Rattle.rt_stamps.specs.declared.stamp.Stamp.{Stamp};
 ghost use Rattle.rt_stamps.specs.Stamps.{is_same};
 ghost use Rattle.rt_oplog.specs.Edits.{body_of};
@@ -9,19 +9,23 @@ ghost use Rattle.rt_edits.specs.Insertions.{counts_for};
 ghost use Rattle.rt_undo.specs.Actions.{group_of};
 ghost use Rattle.rt_undo.specs.Renames.{is_moved, now_of, replaced};
 ghost use Rattle.rt_undo.specs.Undo.{with_stamps_in};
+ghost use Rattle.rt_revert.specs.Portions.{AreSmall, offset_behind, offset_of};
 
+use crate::offsets::{offset_behind, span_of};
 use crate::plan::{Return, Reversal, TextChange};
 use rt_edits::Range;
 use rt_edits::inserts::Inserts;
 use rt_rga::Draft;
-use rt_stamps::limits::GREATEST_COUNT;
+use rt_spans::SpanMap;
+use rt_stamps::limits::{GREATEST_COUNT, MOST_CELLS};
 use rt_stamps::{Fault, ROOT, Site, Span, Stamp};
 use rt_undo::{Action, Renames, group_now};
 use std::alloc::Global;
 
 /// What reverting actions has come to: the operations with the greatest count, the stamps that
 /// characters have now, the tags that operations put on them, the changes of the text, the characters
-/// that came back, and the reverted actions.
+/// that came back, and the reverted actions; the offsets of the cells of the working copy, and how many
+/// cells the whole text has.
 #[derive(Drop)]
 pub(crate) struct Progress {
     pub texts: Inserts,
@@ -30,11 +34,13 @@ pub(crate) struct Progress {
     pub changes: Vec<TextChange>,
     pub returns: Vec<Return>,
     pub actions: Vec<Action>,
+    pub offsets: SpanMap<usize>,
+    pub cells: usize,
 }
 
 impl Progress {
     /// Nothing was reverted yet.
-    pub(crate) fn new(alloc: Global, count: u64) -> Progress
+    pub(crate) fn new(alloc: Global, count: u64, cells: usize, offsets: SpanMap<usize>) -> Progress
         ensures drafts { result.texts.drafts.items ≡ [] }
         ensures count { result.texts.count ≡ count }
         ensures now { (stamp : Stamp) → now_of result.renames stamp ≡ stamp }
@@ -43,6 +49,8 @@ impl Progress {
         ensures changes { result.changes.items ≡ [] }
         ensures returns { result.returns.items ≡ [] }
         ensures actions { result.actions.items ≡ [] }
+        ensures offsets { result.offsets ≡ offsets }
+        ensures cells { result.cells ≡ cells }
     {
         Progress {
             texts: Inserts {
@@ -56,6 +64,8 @@ impl Progress {
             changes: Vec::new(alloc),
             returns: Vec::new(alloc),
             actions: Vec::new(alloc),
+            offsets,
+            cells,
         }
     }
 
@@ -70,6 +80,8 @@ impl Progress {
         ensures names { OnOk result (self.new.names ≡ self.old.names) }
         ensures returns { OnOk result (self.new.returns ≡ self.old.returns) }
         ensures actions { OnOk result (self.new.actions ≡ self.old.actions) }
+        ensures offsets { OnOk result (self.new.offsets ≡ self.old.offsets) }
+        ensures cells { OnOk result (self.new.cells ≡ self.old.cells) }
         ensures err { IfErr result (λ fault. (fault ≡ Fault.NoMemory)
             ⊎ ((fault ≡ Fault.ClockSpent) × (GREATEST_COUNT < self.old.texts.count + length drafts.items))) }
     {
@@ -103,6 +115,8 @@ impl Progress {
         ensures names { OnOk result (self.new.names ≡ self.old.names) }
         ensures returns { OnOk result (self.new.returns ≡ self.old.returns) }
         ensures actions { OnOk result (self.new.actions ≡ self.old.actions) }
+        ensures offsets { OnOk result (self.new.offsets ≡ self.old.offsets) }
+        ensures cells { OnOk result (self.new.cells ≡ self.old.cells) }
         ensures err { IfErr result (λ fault. (fault ≡ Fault.NoMemory) ⊎ ((fault ≡ Fault.ClockSpent)
             × (GREATEST_COUNT < self.old.texts.count + counts_for (map (λ w. string_bytes w) names.now) (ch ∷ [])))) }
     {
@@ -110,7 +124,8 @@ impl Progress {
         self.texts.push_text(alloc, site, names, &[ch])
     }
 
-    /// A character came back at a place, with some tags. Want of memory.
+    /// A character came back at a place of the working copy, with some tags. Want of memory, as also
+    /// where the whole text would have more than the most cells.
     pub(crate) fn come_back(
         &mut self,
         former: Stamp,
@@ -122,19 +137,32 @@ impl Progress {
         requires bound { newer.count ≤ GREATEST_COUNT }
         requires still { is_moved self.old.renames former ≡ false }
         requires fresh { is_moved self.old.renames newer ≡ false }
+        requires place { place ≤ MOST_CELLS }
+        requires offsets { AreSmall self.old.offsets }
         ensures now { OnOk result ((s : Stamp) → now_of self.new.renames s ≡ replaced former newer (now_of self.old.renames s)) }
         ensures moved { OnOk result ((s : Stamp) → is_moved self.new.renames s ≡ (is_same s former || is_moved self.old.renames s)) }
         ensures returns { OnOk result (self.new.returns.items ≡ self.old.returns.items ++ record { former = former; newer = newer } ∷ []) }
-        ensures changes { OnOk result (self.new.changes.items ≡ self.old.changes.items ++ TextChange.Inserted place ∷ []) }
+        ensures changes { OnOk result (self.new.changes.items
+            ≡ self.old.changes.items ++ TextChange.Inserted (place + offset_behind self.old.offsets former) ∷ []) }
         ensures names { OnOk result (self.new.names.items ≡ self.old.names.items ++ names.items) }
         ensures texts { OnOk result (self.new.texts ≡ self.old.texts) }
         ensures actions { OnOk result (self.new.actions ≡ self.old.actions) }
+        ensures offsets { OnOk result ((s : Stamp) → offset_of self.new.offsets s
+            ≡ (if is_same s newer then offset_behind self.old.offsets former else offset_of self.old.offsets s)) }
+        ensures cells { OnOk result (self.new.cells ≡ self.old.cells + 1) }
+        ensures few { OnOk result (self.new.cells ≤ MOST_CELLS) }
         ensures err { IfErr result (λ fault. fault ≡ Fault.NoMemory) }
     {
+        if self.cells >= MOST_CELLS {
+            return Err(Fault::NoMemory);
+        }
+        let offset = offset_behind(&self.offsets, former);
+        let whole = place + offset;
         self.renames.reserve(1)?;
+        self.offsets.reserve(1)?;
         let mut more = names;
         self.names.append(&mut more)?;
-        self.changes.push(TextChange::Inserted(place))?;
+        self.changes.push(TextChange::Inserted(whole))?;
         self.returns.push(Return { former, newer })?;
         let span = Span {
             site: former.site,
@@ -142,6 +170,8 @@ impl Progress {
             last: former.count,
         };
         self.renames.rename(span, newer);
+        self.offsets.set(span_of(newer), offset);
+        self.cells += 1;
         Ok(())
     }
 
@@ -161,6 +191,8 @@ impl Progress {
             changes,
             returns,
             actions,
+            offsets: _,
+            cells: _,
         } = self;
         let Inserts {
             drafts,

@@ -9,10 +9,11 @@ ghost use Rattle.rt_store.specs.Spans.{is_among};
 ghost use Rattle.rt_store.specs.Tagged.{AreStates};
 ghost use Rattle.rt_tags.specs.States.{IsState, names_on, state_at};
 ghost use Rattle.rt_edits.specs.DraftLaws.{AreTagNames};
-ghost use Rattle.rt_edits.specs.Flat.{Flat, put_after};
+ghost use Rattle.rt_edits.specs.Flat.{put_after};
 ghost use Rattle.rt_undo.specs.Actions.{removed_in, removed_of, removed_with};
 ghost use Rattle.rt_undo.specs.Renames.{is_moved};
 ghost use Rattle.rt_revert.specs.Plans.{RemovedAreGiven, named_removed};
+ghost use Rattle.rt_revert.specs.Portions.{HasRemoved, Portion};
 ghost use Rattle.rt_revert.specs.Progress.{IsCopy, IsGoing, IsSoFar};
 ghost use Rattle.rt_revert.specs.Reverting.{Reversion, gone_cell_of, with_character, with_return, with_returns};
 ghost use Rattle.rt_revert.specs.ReversionLaws.{MayReturn};
@@ -89,10 +90,12 @@ fn put_back<S: TextStore>(
     ensures copy { OnOk result (IsCopy kept.now (S.list copy.new) plan.new.texts.count) }
     ensures going { OnOk result (IsGoing kept.now plan.new) }
     ensures actions { OnOk result (plan.new.actions ≡ plan.old.actions) }
-    ensures so_far { OnOk result ((flat : Flat) (r : Reversion) → IsSoFar kept.now site.number (S.list copy.old) plan.old flat r
-        → IsSoFar kept.now site.number (S.list copy.new) plan.new flat (with_character cell.stamp (names_on (state_at kept.now cell.state)) cell.ch r)) }
+    ensures so_far { OnOk result ((part : Portion) (r : Reversion) → part.has cell.stamp ≡ true
+        → IsSoFar kept.now site.number (S.list copy.old) plan.old part r
+        → IsSoFar kept.now site.number (S.list copy.new) plan.new part (with_character cell.stamp (names_on (state_at kept.now cell.state)) cell.ch r)) }
     ensures err { IfErr result (λ fault. (fault ≡ Fault.NoMemory) ⊎ ((fault ≡ Fault.ClockSpent)
-        × ((flat : Flat) (r : Reversion) → IsSoFar kept.now site.number (S.list copy.old) plan.old flat r
+        × ((part : Portion) (r : Reversion) → part.has cell.stamp ≡ true
+        → IsSoFar kept.now site.number (S.list copy.old) plan.old part r
         → GREATEST_COUNT < (with_character cell.stamp (names_on (state_at kept.now cell.state)) cell.ch r).doc.count))) }
 {
     kept.order();
@@ -143,10 +146,12 @@ fn bring_back<S: TextStore>(
     ensures copy { OnOk result (IsCopy kept.now (S.list copy.new) plan.new.texts.count) }
     ensures going { OnOk result (IsGoing kept.now plan.new) }
     ensures actions { OnOk result (plan.new.actions ≡ plan.old.actions) }
-    ensures so_far { OnOk result ((flat : Flat) (r : Reversion) → IsSoFar kept.now site.number (S.list copy.old) plan.old flat r
-        → IsSoFar kept.now site.number (S.list copy.new) plan.new flat (with_return (named_removed kept.now (removed_with removed.1 removed.0)) r)) }
+    ensures so_far { OnOk result ((part : Portion) (r : Reversion) → part.has removed.0 ≡ true
+        → IsSoFar kept.now site.number (S.list copy.old) plan.old part r
+        → IsSoFar kept.now site.number (S.list copy.new) plan.new part (with_return (named_removed kept.now (removed_with removed.1 removed.0)) r)) }
     ensures err { IfErr result (λ fault. (fault ≡ Fault.NoMemory) ⊎ ((fault ≡ Fault.ClockSpent)
-        × ((flat : Flat) (r : Reversion) → IsSoFar kept.now site.number (S.list copy.old) plan.old flat r
+        × ((part : Portion) (r : Reversion) → part.has removed.0 ≡ true
+        → IsSoFar kept.now site.number (S.list copy.old) plan.old part r
         → GREATEST_COUNT < (with_return (named_removed kept.now (removed_with removed.1 removed.0)) r).doc.count))) }
 {
     let (recorded, state) = removed;
@@ -176,10 +181,12 @@ fn bring_span_back<S: TextStore>(
     ensures copy { OnOk result (IsCopy kept.now (S.list copy.new) plan.new.texts.count) }
     ensures going { OnOk result (IsGoing kept.now plan.new) }
     ensures actions { OnOk result (plan.new.actions ≡ plan.old.actions) }
-    ensures so_far { OnOk result ((flat : Flat) (r : Reversion) → IsSoFar kept.now site.number (S.list copy.old) plan.old flat r
-        → IsSoFar kept.now site.number (S.list copy.new) plan.new flat (with_returns (map (named_removed kept.now) (removed_of part)) r)) }
+    ensures so_far { OnOk result ((portion : Portion) (r : Reversion) → HasRemoved portion (removed_of part)
+        → IsSoFar kept.now site.number (S.list copy.old) plan.old portion r
+        → IsSoFar kept.now site.number (S.list copy.new) plan.new portion (with_returns (map (named_removed kept.now) (removed_of part)) r)) }
     ensures err { IfErr result (λ fault. (fault ≡ Fault.NoMemory) ⊎ ((fault ≡ Fault.ClockSpent)
-        × ((flat : Flat) (r : Reversion) → IsSoFar kept.now site.number (S.list copy.old) plan.old flat r
+        × ((portion : Portion) (r : Reversion) → HasRemoved portion (removed_of part)
+        → IsSoFar kept.now site.number (S.list copy.old) plan.old portion r
         → GREATEST_COUNT < (with_returns (map (named_removed kept.now) (removed_of part)) r).doc.count))) }
 {
     let span = part.span;
@@ -210,10 +217,12 @@ pub(crate) fn bring_all_back<S: TextStore>(
     ensures copy { OnOk result (IsCopy kept.now (S.list copy.new) plan.new.texts.count) }
     ensures going { OnOk result (IsGoing kept.now plan.new) }
     ensures actions { OnOk result (plan.new.actions ≡ plan.old.actions) }
-    ensures so_far { OnOk result ((flat : Flat) (r : Reversion) → IsSoFar kept.now site.number (S.list copy.old) plan.old flat r
-        → IsSoFar kept.now site.number (S.list copy.new) plan.new flat (with_returns (map (named_removed kept.now) (removed_in removed.now)) r)) }
+    ensures so_far { OnOk result ((part : Portion) (r : Reversion) → HasRemoved part (removed_in removed.now)
+        → IsSoFar kept.now site.number (S.list copy.old) plan.old part r
+        → IsSoFar kept.now site.number (S.list copy.new) plan.new part (with_returns (map (named_removed kept.now) (removed_in removed.now)) r)) }
     ensures err { IfErr result (λ fault. (fault ≡ Fault.NoMemory) ⊎ ((fault ≡ Fault.ClockSpent)
-        × ((flat : Flat) (r : Reversion) → IsSoFar kept.now site.number (S.list copy.old) plan.old flat r
+        × ((part : Portion) (r : Reversion) → HasRemoved part (removed_in removed.now)
+        → IsSoFar kept.now site.number (S.list copy.old) plan.old part r
         → GREATEST_COUNT < (with_returns (map (named_removed kept.now) (removed_in removed.now)) r).doc.count))) }
 {
     for part in removed {

@@ -2,9 +2,9 @@
 ghost use Rattle.std.specs.Prelude.{◌≡◌, ◌⊎◌, ◌<◌, IfErr, IfOk, OnOk, drop, map, reverse};
 ghost use Rattle.rt_stamps.specs.declared.limits.TheConstants.{GREATEST_COUNT};
 ghost use Rattle.rt_oplog.specs.Operations.{stamps_in};
-ghost use Rattle.rt_edits.specs.Flat.{Flat};
 ghost use Rattle.rt_undo.specs.Actions.{action_of, group_of, removed_in};
 ghost use Rattle.rt_revert.specs.Plans.{AreGiven, RemovedAreGiven, named_action, named_group};
+ghost use Rattle.rt_revert.specs.Portions.{HasAction, HasGroup, Portion};
 ghost use Rattle.rt_revert.specs.Progress.{IsCopy, IsGoing, IsSoFar};
 ghost use Rattle.rt_revert.specs.Reverting.{Reversion, with_each_reverted, with_reverted};
 ghost use Rattle.rt_revert.specs.ReversionLaws.{AreSound, IsSound};
@@ -53,10 +53,12 @@ fn revert<S: TextStore>(
     requires sound { IsSound (named_action kept.now (action_of action.now)) }
     ensures copy { OnOk result (IsCopy kept.now (S.list copy.new) plan.new.texts.count) }
     ensures going { OnOk result (IsGoing kept.now plan.new) }
-    ensures so_far { OnOk result ((flat : Flat) (r : Reversion) → IsSoFar kept.now site.number (S.list copy.old) plan.old flat r
-        → IsSoFar kept.now site.number (S.list copy.new) plan.new flat (with_reverted (named_action kept.now (action_of action.now)) r)) }
+    ensures so_far { OnOk result ((part : Portion) (r : Reversion) → HasAction part (action_of action.now)
+        → IsSoFar kept.now site.number (S.list copy.old) plan.old part r
+        → IsSoFar kept.now site.number (S.list copy.new) plan.new part (with_reverted (named_action kept.now (action_of action.now)) r)) }
     ensures err { IfErr result (λ fault. (fault ≡ Fault.NoMemory) ⊎ ((fault ≡ Fault.ClockSpent)
-        × ((flat : Flat) (r : Reversion) → IsSoFar kept.now site.number (S.list copy.old) plan.old flat r
+        × ((part : Portion) (r : Reversion) → HasAction part (action_of action.now)
+        → IsSoFar kept.now site.number (S.list copy.old) plan.old part r
         → GREATEST_COUNT < (with_reverted (named_action kept.now (action_of action.now)) r).doc.count))) }
 {
     let spans = spans_now(alloc, &plan.renames, &action.inserted)?;
@@ -87,10 +89,12 @@ pub(crate) fn revert_all<S: TextStore>(
     requires given { AreGiven kept.now (group_of group.now) }
     requires sound { AreSound (named_group kept.now (group_of group.now)) }
     ensures going { OnOk result (IsGoing kept.now plan.new) }
-    ensures so_far { OnOk result ((flat : Flat) (r : Reversion) → IsSoFar kept.now site.number (S.list copy.old) plan.old flat r
-        → IsSoFar kept.now site.number (S.list copy.new) plan.new flat (with_each_reverted (reverse (named_group kept.now (group_of group.now))) r)) }
+    ensures so_far { OnOk result ((part : Portion) (r : Reversion) → HasGroup part (group_of group.now)
+        → IsSoFar kept.now site.number (S.list copy.old) plan.old part r
+        → IsSoFar kept.now site.number (S.list copy.new) plan.new part (with_each_reverted (reverse (named_group kept.now (group_of group.now))) r)) }
     ensures err { IfErr result (λ fault. (fault ≡ Fault.NoMemory) ⊎ ((fault ≡ Fault.ClockSpent)
-        × ((flat : Flat) (r : Reversion) → IsSoFar kept.now site.number (S.list copy.old) plan.old flat r
+        × ((part : Portion) (r : Reversion) → HasGroup part (group_of group.now)
+        → IsSoFar kept.now site.number (S.list copy.old) plan.old part r
         → GREATEST_COUNT < (with_each_reverted (reverse (named_group kept.now (group_of group.now))) r).doc.count))) }
 {
     let mut left = group.len();

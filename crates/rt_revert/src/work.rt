@@ -1,8 +1,9 @@
 // The places of characters that are named by their stamps.
-ghost use Rattle.std.specs.Prelude.{◌≡◌, ℕ, ◌≤◌, ◌<◌, ◌||◌, All, IfOk, IfErr, IfSome, OnOk, Some, length};
+ghost use Rattle.std.specs.Prelude.{◌≡◌, ℕ, ◌*◌, ◌≤◌, ◌<◌, ◌++◌, ◌||◌, List, All, IfOk, IfErr, IfSome, OnOk, Some, length};
 ghost use Rattle.rt_stamps.specs.declared.limits.TheConstants.{MOST_CELLS};
 ghost use Rattle.rt_oplog.specs.Operations.{stamps_in, stamps_of_span};
 ghost use Rattle.rt_store.specs.Cells.{AreDistinct, visible_of};
+ghost use Rattle.rt_edits.specs.declared.range.Range.{Range};
 ghost use Rattle.rt_edits.specs.Removals.{AreInOrder, is_covered};
 ghost use Rattle.rt_revert.specs.Planning.{is_behind, range_at, ranges_of, visible_place};
 ghost use Rattle.rt_revert.specs.Reverting.{are_at};
@@ -31,10 +32,12 @@ fn is_behind(range: Range, place: usize) -> bool
     range.from <= range.to && range.to == place
 }
 
-// Adds a place to ranges, to the last one where it is the one behind it.
-fn push_place(ranges: &mut Vec<Range>, place: usize) -> Result<(), Fault>
-    requires { place < MOST_CELLS }
+/// Adds a place to ranges, to the last one where it is the one behind it.
+pub(crate) fn push_place(ranges: &mut Vec<Range>, place: usize) -> Result<(), Fault>
+    requires { place ≤ 2 * MOST_CELLS }
     ensures ok { OnOk result ((at : ℕ) → is_covered ranges.new.items at ≡ (is_covered ranges.old.items at || is_covered (range_at (Some place)) at)) }
+    ensures order { OnOk result ((more : List Range) → AreInOrder 0 (ranges.old.items ++ range_at (Some place) ++ more)
+        → AreInOrder 0 (ranges.new.items ++ more)) }
     ensures err { IfErr result (λ fault. fault ≡ Fault.NoMemory) }
 {
     let mut range = Range {

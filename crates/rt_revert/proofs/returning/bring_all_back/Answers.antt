@@ -7,6 +7,7 @@ use Rattle.rt_undo.specs.Actions.{Removed, removed_in, removed_of}
 use Rattle.rt_revert.specs.Plans.{named_removed}
 use Rattle.rt_revert.specs.Reverting.{with_returns}
 use Rattle.rt_revert.specs.ReversionLaws.{MayReturn}
+use Rattle.rt_revert.proofs.Had.{part_had}
 use Rattle.rt_revert.proofs.Reaching.{every_parts, named_left, reach_early, reach_step, spans_left}
 use Rattle.rt_revert.proofs.returning.bring_all_back.Goals as goal
 
@@ -31,9 +32,9 @@ returns-in_err-bring_span_back-clause-err g c =
     let i = c.loop-part.part-index in
     let removed = c.args.removed.now in
     rw (p.1, p.2) (spent
-    (λ k flat r s. reach_early table c.args.site.number (g.S.TextStore.list c.loop-part.copy) c.loop-part.plan flat (map (named_removed table) (removed_in (drop i removed)))
+    (λ k part r had s. reach_early table c.args.site.number (g.S.TextStore.list c.loop-part.copy) c.loop-part.plan part (map (named_removed table) (removed_in (drop i removed)))
     (map (named_removed table) (removed_of c.part-item.result)) (map (named_removed table) (removed_in (drop (i + 1) removed))) (with_returns (map (named_removed table) (removed_in removed)) r)
-    (named_left table removed i c.part-item.result c.loop-part-test.true c.part-item.is) (c.loop-part.invariant.so_far flat r s) (k flat))
+    (named_left table removed i c.part-item.result c.loop-part-test.true c.part-item.is) (c.loop-part.invariant.so_far part r had s) (λ q. k part q (part_had part removed i c.part-item.result c.loop-part-test.true c.part-item.is had)))
     c.in_err-bring_span_back.ensures.err)
 
 pub loop-part-preserved : goal.loop-part-preserved
@@ -52,7 +53,8 @@ loop-part-preserved g c =
       given = (every_parts P (removed_of c.part-item.result) (removed_in (drop (i + 1) removed))
           (subst (AllByRecursion P) (spans_left removed i c.part-item.result c.loop-part-test.true c.part-item.is) c.loop-part.invariant.given)).1;
       may = (every_parts MayReturn here rest (subst (AllByRecursion MayReturn) step c.loop-part.invariant.may)).1;
-      so_far = λ flat r s. reach_step table c.args.site.number (g.S.TextStore.list c.loop-part.copy) c.loop-part.plan flat (map (named_removed table) (removed_in (drop i removed)))
+      so_far = λ part r had s. reach_step table c.args.site.number (g.S.TextStore.list c.loop-part.copy) c.loop-part.plan part (map (named_removed table) (removed_in (drop i removed)))
           here rest (with_returns (map (named_removed table) (removed_in removed)) r)
-          (g.S.TextStore.list c.bring_span_back.new.copy) c.bring_span_back.new.plan step (c.loop-part.invariant.so_far flat r s) (c.in_ok-bring_span_back.ensures.so_far flat);
+          (g.S.TextStore.list c.bring_span_back.new.copy) c.bring_span_back.new.plan step (c.loop-part.invariant.so_far part r had s)
+          (λ q. c.in_ok-bring_span_back.ensures.so_far part q (part_had part removed i c.part-item.result c.loop-part-test.true c.part-item.is had));
     }

@@ -14,7 +14,7 @@ use Rattle.rt_revert.specs.Plans.{named_removed}
 use Rattle.rt_revert.specs.Progress.{IsSoFar}
 use Rattle.rt_revert.specs.Reverting.{Reversion, gone_cell_of}
 use Rattle.rt_revert.proofs.PlacesFound.{found_stamp}
-use Rattle.rt_revert.proofs.Returned.{return_is}
+use Rattle.rt_revert.proofs.Returned.{return_is, stamp_had}
 use Rattle.rt_revert.proofs.Stamps.{after_apart, gone_found}
 use Rattle.rt_revert.proofs.returning.bring_back.Goals as goal
 
@@ -45,8 +45,9 @@ returns-in-Some-clause-so_far g c =
     let now = sym (c.requires.going.now c.args.removed.0) ∙ sym c.now-stamp.ensures.now ∙ sym stamp in
     let found = ap (gone_cell_of cells) stamp ∙ sym c.in-Some.ensures in
     on_ok_weaker c.put_back.result
-    (λ h flat r s. subst (IsSoFar table c.args.site.number (g.S.TextStore.list c.put_back.new.copy) c.put_back.new.plan flat)
-    (sym (return_is table c.args.site.number cells plan flat r removed c.in-Some.old.stamp (Some c.in-Some.old) s now found)) (h flat r s))
+    (λ h part r had s. subst (IsSoFar table c.args.site.number (g.S.TextStore.list c.put_back.new.copy) c.put_back.new.plan part)
+    (sym (return_is table c.args.site.number cells plan part r removed c.in-Some.old.stamp (Some c.in-Some.old) had s now found))
+    (h part r (stamp_had table c.args.site.number cells plan part r c.args.removed.0 c.in-Some.old.stamp had s now) s))
     c.put_back.ensures.so_far
 
 pub returns-in-Some-clause-err : goal.returns-in-Some-clause-err
@@ -59,15 +60,16 @@ returns-in-Some-clause-err g c =
     let now = sym (c.requires.going.now c.args.removed.0) ∙ sym c.now-stamp.ensures.now ∙ sym stamp in
     let found = ap (gone_cell_of cells) stamp ∙ sym c.in-Some.ensures in
     IfErr-weaker c.put_back.result _ _
-    (λ fault. spent (λ k flat r s. subst (λ (q : Reversion). GREATEST_COUNT < q.doc.count)
-    (sym (return_is table c.args.site.number cells plan flat r removed c.in-Some.old.stamp (Some c.in-Some.old) s now found)) (k flat r s)))
+    (λ fault. spent (λ k part r had s. subst (λ (q : Reversion). GREATEST_COUNT < q.doc.count)
+    (sym (return_is table c.args.site.number cells plan part r removed c.in-Some.old.stamp (Some c.in-Some.old) had s now found))
+    (k part r (stamp_had table c.args.site.number cells plan part r c.args.removed.0 c.in-Some.old.stamp had s now) s)))
     c.put_back.ensures.err
 
 pub returns-in-None-clause-so_far : goal.returns-in-None-clause-so_far
-returns-in-None-clause-so_far g c flat r s =
+returns-in-None-clause-so_far g c part r had s =
     let cells = g.S.TextStore.list c.args.copy.now in
     let table = c.args.kept.now in
     let plan = c.args.plan.now in
     let removed = named_removed table (removed_with c.args.removed.1 c.args.removed.0) in
     let now = sym (c.requires.going.now c.args.removed.0) ∙ sym c.now-stamp.ensures.now in
-    subst (IsSoFar table c.args.site.number cells plan flat) (sym (return_is table c.args.site.number cells plan flat r removed c.now-stamp.result None s now (sym c.in-None.ensures))) s
+    subst (IsSoFar table c.args.site.number cells plan part) (sym (return_is table c.args.site.number cells plan part r removed c.now-stamp.result None had s now (sym c.in-None.ensures))) s

@@ -1,16 +1,20 @@
-use Rattle.std.proofs.Common.{◌≡◌, ◌∙◌, ◌+◌, ◌++◌, ◌||◌, [], ◌∷◌, ap, arith, map, subst, sym}
+use Rattle.std.proofs.Common.{◌≡◌, ◌∙◌, ◌+◌, ◌++◌, ◌||◌, [], ◌∷◌, ap, arith, cond, length-take, map, subst, sym, take}
 use Rattle.std.specs.Prelude.{string_bytes}
 use Rattle.std.proofs.lemmas.List.{map-append}
 use Rattle.rt_stamps.specs.declared.limits.TheConstants.{MOST_CHARACTERS}
 use Rattle.rt_stamps.specs.declared.stamp.Stamp.{Stamp}
 use Rattle.rt_stamps.specs.Stamps.{is_same}
 use Rattle.rt_oplog.specs.Edits.{body_of}
+use Rattle.rt_store.specs.Cells.{after_element}
+use Rattle.rt_rga.proofs.RemovedPlaces.{fewer}
 use Rattle.rt_tags.specs.States.{state_at}
 use Rattle.rt_edits.specs.InsertionDrafts.{text_drafts}
 use Rattle.rt_edits.specs.Insertions.{counts_for}
 use Rattle.rt_undo.specs.Renames.{is_moved, now_of, replaced}
 use Rattle.rt_revert.specs.declared.plan.TextChange.TheVariants.{Inserted}
-use Rattle.rt_revert.proofs.Returned.{Came, IsThere, came_copy, came_going, came_so_far, fresh, goes_directly, new_of, state_rises, unmoved, up_to, where_it_goes}
+use Rattle.rt_revert.specs.Portions.{AreSmall, offset_behind, offset_of}
+use Rattle.rt_revert.proofs.Counted.{up_to}
+use Rattle.rt_revert.proofs.Returned.{Came, IsThere, came_copy, came_going, came_so_far, fresh, goes_directly, new_of, state_rises, unmoved, where_it_goes}
 use Rattle.rt_revert.proofs.returning.put_back.Goals as goal
 
 pub put_in-requires-clause-placed : goal.put_in-requires-clause-placed
@@ -47,6 +51,15 @@ come_back-requires-clause-fresh g c =
     let newer : Stamp = record { count = c.args.plan.now.texts.count + 1; site = c.number.result } in
     ap (λ m. is_moved m newer) c.in_ok-write.ensures.renames ∙ unmoved c.args.kept.now c.args.plan.now newer c.requires.going (omega arith)
 
+pub come_back-requires-clause-place : goal.come_back-requires-clause-place
+come_back-requires-clause-place g c =
+    let old = g.S.TextStore.list c.args.copy.now in
+    let at = after_element old c.args.cell.stamp in
+    omega (arith, c.in_ok-place.ensures.place, fewer (take at old), length-take at old, c.requires.copy.few)
+
+pub come_back-requires-clause-offsets : goal.come_back-requires-clause-offsets
+come_back-requires-clause-offsets g c = subst AreSmall (sym c.in_ok-write.ensures.offsets) c.requires.going.offsets
+
 pub returns-clause-copy : goal.returns-clause-copy
 returns-clause-copy g c =
     let old = g.S.TextStore.list c.args.copy.now in
@@ -82,10 +95,13 @@ returns-clause-copy g c =
       now = λ s. back.now s ∙ ap (λ m. replaced cell.stamp (new_of site before cell).stamp (now_of m s)) wrote.renames;
       moved = λ s. back.moved s ∙ ap (λ m. is_same s cell.stamp || is_moved m s) wrote.renames;
       returns = back.returns ∙ ap (λ v. v.items ++ record { former = cell.stamp; newer = (new_of site before cell).stamp } ∷ []) wrote.returns;
-      changes = back.changes ∙ ap (λ v. v.items ++ Inserted place ∷ []) wrote.changes;
+      changes = back.changes ∙ (λ i. (wrote.changes i).items ++ Inserted (place + offset_behind (wrote.offsets i) cell.stamp) ∷ []);
       names = ap (map (λ w. string_bytes w)) (back.names ∙ ap (λ v. v.items ++ c.in_ok-names.names.items) wrote.names)
           ∙ map-append (λ w. string_bytes w) before.names.items c.in_ok-names.names.items;
       actions = back.actions ∙ wrote.actions;
+      offsets = λ s. back.offsets s ∙ ap (λ m. cond (is_same s (new_of site before cell).stamp) (offset_behind m cell.stamp) (offset_of m s)) wrote.offsets;
+      cells = back.cells ∙ ap (λ n. n + 1) wrote.cells;
+      most_cells = back.few;
     }) in
     came_copy c.args.site.number table old new before after cell place words came there c.requires.copy
 
@@ -124,10 +140,13 @@ returns-clause-going g c =
       now = λ s. back.now s ∙ ap (λ m. replaced cell.stamp (new_of site before cell).stamp (now_of m s)) wrote.renames;
       moved = λ s. back.moved s ∙ ap (λ m. is_same s cell.stamp || is_moved m s) wrote.renames;
       returns = back.returns ∙ ap (λ v. v.items ++ record { former = cell.stamp; newer = (new_of site before cell).stamp } ∷ []) wrote.returns;
-      changes = back.changes ∙ ap (λ v. v.items ++ Inserted place ∷ []) wrote.changes;
+      changes = back.changes ∙ (λ i. (wrote.changes i).items ++ Inserted (place + offset_behind (wrote.offsets i) cell.stamp) ∷ []);
       names = ap (map (λ w. string_bytes w)) (back.names ∙ ap (λ v. v.items ++ c.in_ok-names.names.items) wrote.names)
           ∙ map-append (λ w. string_bytes w) before.names.items c.in_ok-names.names.items;
       actions = back.actions ∙ wrote.actions;
+      offsets = λ s. back.offsets s ∙ ap (λ m. cond (is_same s (new_of site before cell).stamp) (offset_behind m cell.stamp) (offset_of m s)) wrote.offsets;
+      cells = back.cells ∙ ap (λ n. n + 1) wrote.cells;
+      most_cells = back.few;
     }) in
     came_going c.args.site.number table old new before after cell place words came there c.requires.copy c.requires.going
 
@@ -166,9 +185,12 @@ returns-clause-so_far g c =
       now = λ s. back.now s ∙ ap (λ m. replaced cell.stamp (new_of site before cell).stamp (now_of m s)) wrote.renames;
       moved = λ s. back.moved s ∙ ap (λ m. is_same s cell.stamp || is_moved m s) wrote.renames;
       returns = back.returns ∙ ap (λ v. v.items ++ record { former = cell.stamp; newer = (new_of site before cell).stamp } ∷ []) wrote.returns;
-      changes = back.changes ∙ ap (λ v. v.items ++ Inserted place ∷ []) wrote.changes;
+      changes = back.changes ∙ (λ i. (wrote.changes i).items ++ Inserted (place + offset_behind (wrote.offsets i) cell.stamp) ∷ []);
       names = ap (map (λ w. string_bytes w)) (back.names ∙ ap (λ v. v.items ++ c.in_ok-names.names.items) wrote.names)
           ∙ map-append (λ w. string_bytes w) before.names.items c.in_ok-names.names.items;
       actions = back.actions ∙ wrote.actions;
+      offsets = λ s. back.offsets s ∙ ap (λ m. cond (is_same s (new_of site before cell).stamp) (offset_behind m cell.stamp) (offset_of m s)) wrote.offsets;
+      cells = back.cells ∙ ap (λ n. n + 1) wrote.cells;
+      most_cells = back.few;
     }) in
-    came_so_far c.args.site.number table old new before after cell place words came there
+    came_so_far c.args.site.number table old new before after cell place words came there c.requires.going.few

@@ -1,4 +1,4 @@
-use Rattle.std.proofs.Common.{◌≡◌, ◌∙◌, ◌<◌, List, ap, drop, map, subst}
+use Rattle.std.proofs.Common.{◌≡◌, ◌∙◌, ◌<◌, List, ap, drop, map, subst, sym}
 use Rattle.std.proofs.lemmas.Result.{err_from_is_err_and}
 use Rattle.rt_stamps.specs.declared.limits.TheConstants.{GREATEST_COUNT}
 use Rattle.rt_stamps.specs.declared.stamp.TheConstants.{FINAL}
@@ -10,9 +10,10 @@ use Rattle.rt_undo.specs.Actions.{removed_in}
 use Rattle.rt_undo.specs.Renames.{now_of}
 use Rattle.rt_revert.specs.declared.plan.Return.{Return}
 use Rattle.rt_revert.specs.Plans.{named_removed}
+use Rattle.rt_revert.specs.Portions.{Has, HasRemoved}
 use Rattle.rt_revert.specs.Progress.{IsSoFar}
 use Rattle.rt_revert.specs.Reverting.{stamp_after, with_gone, with_returns}
-use Rattle.rt_revert.proofs.Acted.{acted, early_back, early_gone, stamps_after, stays}
+use Rattle.rt_revert.proofs.Acted.{acted, early_back, early_gone, gone_had, stamps_after, stays}
 use Rattle.rt_revert.proofs.reverting.revert.Goals as goal
 
 pub take_out-requires-clause-stays : goal.take_out-requires-clause-stays
@@ -32,7 +33,7 @@ returns-in_err-removed-clause-err g c =
     ap stamps_in c.deref-2.ensures.value ∙ c.in_ok-spans.ensures.ok ∙ ap (λ l. map (now_of before.renames) (stamps_in l)) c.deref.ensures.value
     ∙ stamps_after table before (stamps_in action.inserted.items) c.requires.going in
     rw (p.1, p.2) (spent
-    (λ k flat r s. early_gone table c.args.site.number (g.S.TextStore.list c.args.copy.now) before flat r action stamps s stamps_are (k c.args.site.number flat r s))
+    (λ k part r had s. early_gone table c.args.site.number (g.S.TextStore.list c.args.copy.now) before part r action stamps s stamps_are (k c.args.site.number part r (gone_had table c.args.site.number (g.S.TextStore.list c.args.copy.now) before part r action stamps s stamps_are had) s))
     c.in_err-removed.ensures.err)
 
 pub returns-in_err-bring_all_back-clause-err : goal.returns-in_err-bring_all_back-clause-err
@@ -46,13 +47,14 @@ returns-in_err-bring_all_back-clause-err g c =
     ap stamps_in c.deref-2.ensures.value ∙ c.in_ok-spans.ensures.ok ∙ ap (λ l. map (now_of before.renames) (stamps_in l)) c.deref.ensures.value
     ∙ stamps_after table before (stamps_in action.inserted.items) c.requires.going in
     rw (p.1, p.2) (spent
-    (λ k flat r s. early_back table c.args.site.number (g.S.TextStore.list c.args.copy.now) before flat r action stamps s stamps_are
+    (λ k part r had s. early_back table c.args.site.number (g.S.TextStore.list c.args.copy.now) before part r action stamps s stamps_are
     (subst (λ (l : List RemovedSpan). GREATEST_COUNT < (with_returns (map (named_removed table) (removed_in l)) (with_gone stamps r)).doc.count) c.deref-3.ensures.value
-    (k flat (with_gone stamps r) (c.in_ok-removed.ensures.so_far c.args.site.number flat r s))))
+    (k part (with_gone stamps r) (subst (λ (l : List RemovedSpan). HasRemoved part (removed_in l)) (sym c.deref-3.ensures.value) had.1)
+    (c.in_ok-removed.ensures.so_far c.args.site.number part r (gone_had table c.args.site.number (g.S.TextStore.list c.args.copy.now) before part r action stamps s stamps_are had) s))))
     c.in_err-bring_all_back.ensures.err)
 
 pub returns-clause-so_far : goal.returns-clause-so_far
-returns-clause-so_far g c flat r s =
+returns-clause-so_far g c part r had s =
     let table = c.args.kept.now in
     let number = c.args.site.number in
     let before = c.args.plan.now in
@@ -63,10 +65,12 @@ returns-clause-so_far g c flat r s =
     ∙ stamps_after table before (stamps_in action.inserted.items) c.requires.going in
     let new = g.S.TextStore.list c.bring_all_back.new.copy in
     let late = c.bring_all_back.new.plan in
-    acted table number (g.S.TextStore.list c.args.copy.now) before flat r action stamps new late c.push.new.self c.in_ok-inserted.inserted c.in_ok-removed.removed s stamps_are
-    (subst (λ (l : List RemovedSpan). IsSoFar table number new late flat (with_returns (map (named_removed table) (removed_in l)) (with_gone stamps r))) c.deref-3.ensures.value
-    (c.in_ok-bring_all_back.ensures.so_far flat (with_gone stamps r) (c.in_ok-removed.ensures.so_far number flat r s)))
+    let has : Has part stamps = gone_had table number (g.S.TextStore.list c.args.copy.now) before part r action stamps s stamps_are had in
+    acted table number (g.S.TextStore.list c.args.copy.now) before part r action stamps new late c.push.new.self c.in_ok-inserted.inserted c.in_ok-removed.removed s stamps_are
+    (subst (λ (l : List RemovedSpan). IsSoFar table number new late part (with_returns (map (named_removed table) (removed_in l)) (with_gone stamps r))) c.deref-3.ensures.value
+    (c.in_ok-bring_all_back.ensures.so_far part (with_gone stamps r) (subst (λ (l : List RemovedSpan). HasRemoved part (removed_in l)) (sym c.deref-3.ensures.value) had.1)
+    (c.in_ok-removed.ensures.so_far number part r has s)))
     (c.in_ok-bring_all_back.ensures.actions ∙ c.in_ok-removed.ensures.actions)
     c.in_ok-push.ensures.items
     (c.in_ok-inserted.ensures.ok ∙ ap (map (λ (x : Return). x.newer)) (c.since.ensures ∙ (λ i. drop ((c.len-before.ensures ∙ c.args.plan.now.returns.ok.0) i) (c.deref-4.ensures.value i))))
-    (c.in_ok-removed.ensures.removed number flat r s)
+    (c.in_ok-removed.ensures.removed number part r has s)

@@ -6,6 +6,7 @@ use Rattle.rt_undo.specs.Actions.{action_of, group_of}
 use Rattle.rt_revert.specs.Plans.{named_action, named_group}
 use Rattle.rt_revert.specs.Reverting.{with_each_reverted}
 use Rattle.rt_revert.proofs.Acted.{action_given, action_sound, group_left}
+use Rattle.rt_revert.proofs.Had.{action_had}
 use Rattle.rt_revert.proofs.Reaching.{group_early, group_step}
 use Rattle.rt_revert.proofs.reverting.revert_all.Goals as goal
 
@@ -31,9 +32,10 @@ loop-left-preserved g c =
       within = omega (arith, less);
       copy = c.in_ok-revert.ensures.copy;
       going = c.in_ok-revert.ensures.going;
-      so_far = λ flat r s. group_step table c.args.site.number (g.S.TextStore.list c.loop-left.copy) c.loop-left.plan flat (reverse (named_group table (group_of (take left group))))
+      so_far = λ part r had s. group_step table c.args.site.number (g.S.TextStore.list c.loop-left.copy) c.loop-left.plan part (reverse (named_group table (group_of (take left group))))
           (reverse (named_group table (group_of (take (left - 1) group)))) (named_action table (action_of action)) (with_each_reverted (reverse (named_group table (group_of group))) r)
-          (g.S.TextStore.list c.revert.new.copy) c.revert.new.plan step (c.loop-left.invariant.so_far flat r s) (c.in_ok-revert.ensures.so_far flat);
+          (g.S.TextStore.list c.revert.new.copy) c.revert.new.plan step (c.loop-left.invariant.so_far part r had s)
+          (λ q. c.in_ok-revert.ensures.so_far part q (action_had part group (left - 1) action less c.index-group-left.is had));
     }
 
 pub returns-in_err-revert-clause-err : goal.returns-in_err-revert-clause-err
@@ -48,7 +50,7 @@ returns-in_err-revert-clause-err g c =
     let step : reverse (named_group table (group_of (take left group))) ≡ named_action table (action_of action) ∷ reverse (named_group table (group_of (take (left - 1) group))) =
     ap (λ n. reverse (named_group table (group_of (take n group)))) one ∙ group_left table group (left - 1) action less c.index-group-left.is in
     rw (p.1, p.2) (spent
-    (λ k flat r s. group_early table c.args.site.number (g.S.TextStore.list c.loop-left.copy) c.loop-left.plan flat (reverse (named_group table (group_of (take left group))))
+    (λ k part r had s. group_early table c.args.site.number (g.S.TextStore.list c.loop-left.copy) c.loop-left.plan part (reverse (named_group table (group_of (take left group))))
     (reverse (named_group table (group_of (take (left - 1) group)))) (named_action table (action_of action)) (with_each_reverted (reverse (named_group table (group_of group))) r)
-    step (c.loop-left.invariant.so_far flat r s) (k flat))
+    step (c.loop-left.invariant.so_far part r had s) (λ q. k part q (action_had part group (left - 1) action less c.index-group-left.is had)))
     c.in_err-revert.ensures.err)
