@@ -11,6 +11,7 @@ mod sorting;
 pub mod states;
 pub mod table;
 pub mod toggles;
+mod writes;
 
 pub use states::{Entry, StateId, StateTable, TagId};
 pub use table::TagTable;

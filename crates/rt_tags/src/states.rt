@@ -6,12 +6,13 @@ ghost use Rattle.std.specs.declared.cmp.Ordering.TheVariants.{Less};
 ghost use Rattle.std.specs.Str.{bytes_eq};
 ghost use Rattle.rt_stamps.specs.Names.{name_order};
 ghost use Rattle.rt_tags.specs.Tags.{is_listed};
-ghost use Rattle.rt_tags.specs.Kept.{HaveNames, IsKept, IsNext, AreKept, IsSorted, all_on, all_seen, is_entry_kept, entries_written, entry_of, if_of, is_on_side, state_seen, states_seen, tags_on};
+ghost use Rattle.rt_tags.specs.Kept.{HaveNames, IsKept, IsNext, AreKept, IsSorted, all_seen, is_entry_kept, entries_written, entry_of, if_of, is_on_side, state_seen, states_seen, tags_on};
 ghost use Rattle.rt_tags.specs.States.{AreNumbered, HaveOneNumber, Interns, IsByName, IsState, IsTag, KeepsIds, all_numbered, is_on, is_settled, name_at, names_on, numbered, state_at, write_at, writes_at, written};
 ghost use Rattle.rt_tags.specs.Writers.{listed_by, state_after};
 ghost use Rattle.rt_stamps.specs.declared.stamp.TheConstants.{ROOT};
 ghost use Rattle.indexmap.specs.IndexSet.{index_set_len};
 
+use crate::writes::listed;
 use crate::{names, sorting};
 use indexmap::IndexSet;
 use rt_stamps::{Fault, ROOT, Stamp};
@@ -259,21 +260,6 @@ fn state_after(
     let entries = sorting::merged(alloc, names, &state.entries, &new)?;
     let on = tags_on(alloc, &entries)?;
     Ok(State { entries, on })
-}
-
-// Writes that put tags on, under one writer.
-fn listed(alloc: Global, writer: Stamp, tags: &[TagId]) -> Result<Vec<Entry>, AllocError>
-    ensures { IfOk result (λ v. v.items ≡ all_on writer tags.now) }
-{
-    let mut writes = Vec::with_capacity(alloc, tags.len())?;
-    for tag in tags {
-        writes.push(Entry {
-            tag: *tag,
-            writer,
-            on: true,
-        })?;
-    }
-    Ok(writes)
 }
 
 /// Tags by number and tag states of characters by id. Contracts see the names in the order of their

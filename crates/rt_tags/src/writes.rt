@@ -1,0 +1,22 @@
+// Writes of several tags at once.
+ghost use Rattle.std.specs.Prelude.{◌≡◌, IfOk};
+ghost use Rattle.rt_tags.specs.Kept.{all_on};
+
+use crate::states::{Entry, TagId};
+use rt_stamps::Stamp;
+use std::alloc::{AllocError, Global};
+
+/// Writes that put tags on, under one writer.
+pub(crate) fn listed(alloc: Global, writer: Stamp, tags: &[TagId]) -> Result<Vec<Entry>, AllocError>
+    ensures { IfOk result (λ v. v.items ≡ all_on writer tags.now) }
+{
+    let mut writes = Vec::with_capacity(alloc, tags.len())?;
+    for tag in tags {
+        writes.push(Entry {
+            tag: *tag,
+            writer,
+            on: true,
+        })?;
+    }
+    Ok(writes)
+}
