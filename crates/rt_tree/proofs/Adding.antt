@@ -1,6 +1,7 @@
 -- Laws of totals.
 use Rattle.std.proofs.Common.{◌≡◌, ℕ, zero, suc, ◌<◌, ◌≤◌, ◌⊎◌, inl, inr, Bool, true, false, if◌then◌else◌, List, [], ◌∷◌, ◌++◌, length, get_or, take, drop, refl, sym, ap, ◌∙◌, arith, subst}
 use Rattle.std.specs.List.{AllByRecursion}
+use Rattle.std.proofs.lemmas.Bool.{true≢false}
 use Rattle.std.proofs.lemmas.Bool.Decides.{nat_tests}
 use Rattle.std.proofs.lemmas.List.{take-append-drop}
 use Rattle.rt_stamps.specs.declared.stamp.Stamp.{Stamp}
@@ -10,11 +11,11 @@ use Rattle.rt_tree.specs.declared.node.Counts.{Counts}
 use Rattle.rt_tree.specs.declared.node.Entry.{Entry}
 use Rattle.rt_tree.specs.declared.node.Run.{Run}
 use Rattle.rt_tree.specs.declared.node.Totals.{Totals}
-use Rattle.rt_tree.specs.Changes.{IsRight, adds_up, entry_totals, join, least_of, links, strip}
+use Rattle.rt_tree.specs.Changes.{HasGrown, IsRight, adds_up, entry_totals, join, least_of, links, strip}
 use Rattle.rt_tree.specs.Shape.{Memory, all_below, below}
 use Rattle.rt_tree.specs.Runs.{first_stamp}
-use Rattle.rt_tree.specs.Sums.{AreFew, least_first, lesser, totals_of}
-use Rattle.rt_tree.proofs.Measures.{counts-append, none-plus, plus_assoc}
+use Rattle.rt_tree.specs.Sums.{AreFew, least_first, lesser, plus, totals_of}
+use Rattle.rt_tree.proofs.Measures.{counts-append, none-plus, plus_assoc, plus_comm}
 
 cases : (b : Bool) → (b ≡ true) ⊎ (b ≡ false)
 cases true = inl refl
@@ -40,6 +41,23 @@ lesser_assoc x y z = elim (cases (is_before y x)) [
     | inr q ↦ ap (λ w. lesser w z) (lesser_no x y p) ∙ lesser_no x z (not_before z y x q p) ∙ sym (ap (lesser x) (lesser_no y z q) ∙ lesser_no x y p)
   ]
 ]
+
+lesser_comm : (x y : Stamp) → lesser x y ≡ lesser y x
+lesser_comm x y = elim (cases (is_before y x)) [
+  | inl p ↦ elim (cases (is_before x y)) [
+    | inl q ↦ absurd (true≢false (sym (before_trans x y x q p) ∙ before_irrefl x))
+    | inr q ↦ lesser_yes x y p ∙ sym (lesser_no y x q)
+  ]
+  | inr p ↦ elim (cases (is_before x y)) [
+    | inl q ↦ lesser_no x y p ∙ sym (lesser_yes y x q)
+    | inr q ↦ lesser_no x y p ∙ same_of x y p q ∙ sym (lesser_no y x q)
+  ]
+] where
+  same_of : (x y : Stamp) → is_before y x ≡ false → is_before x y ≡ false → x ≡ y
+  same_of x y p q = elim (cases (is_same x y)) [
+    | inl s ↦ same_from_true x y s
+    | inr s ↦ absurd (true≢false (sym (before_total x y q s) ∙ p))
+  ]
 
 abbrev top : Stamp
 top = least_first []
@@ -82,6 +100,16 @@ same_totals a b l c = ap (λ s. make s a.counts) l ∙ ap (λ x. make (least_of 
 
 pub join_assoc : (a b c : Totals) → join (join a b) c ≡ join a (join b c)
 join_assoc a b c = same_totals (join (join a b) c) (join a (join b c)) (lesser_assoc (least_of a) (least_of b) (least_of c)) (plus_assoc a.counts b.counts c.counts)
+
+pub join_comm : (a b : Totals) → join a b ≡ join b a
+join_comm a b = same_totals (join a b) (join b a) (lesser_comm (least_of a) (least_of b)) (plus_comm a.counts b.counts)
+
+-- what makes totals of others that have grown
+pub grown : (before after : Totals) (counts : Counts) → HasGrown before after → plus counts before.counts ≡ after.counts
+    → join (make (least_of before) counts) before ≡ after
+grown before after counts grows sum =
+    let same : lesser (least_of before) (least_of before) ≡ least_of before = lesser_no _ _ (before_irrefl (least_of before)) in
+    same_totals (join (make (least_of before) counts) before) after (same ∙ grows.least) sum
 
 pub totals-append : (a b : List Run) → totals_of (a ++ b) ≡ join (totals_of a) (totals_of b)
 totals-append a b = same_totals (totals_of (a ++ b)) (join (totals_of a) (totals_of b)) (firsts a b) (counts-append a b) where

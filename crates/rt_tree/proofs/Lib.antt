@@ -14,6 +14,7 @@ mod Bares
 mod Exact
 mod Frame
 mod Raise
+mod Lacking
 mod NewLeaf
 mod Halves
 mod Cuts

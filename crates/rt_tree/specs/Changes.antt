@@ -65,6 +65,18 @@ AreExact m = (id : ℕ) → id < length m.heads → AllByRecursion (IsLocal m) (
 abbrev pub AreExactBut : ℕ → Memory → Type 0
 AreExactBut but m = (id : ℕ) → id < length m.heads → AllByRecursion (λ e. count_of but (strip e ∷ []) ≡ 0 → IsLocal m e) (entries m id)
 
+-- totals have the same least stamp as others had, and no count that is less
+pub record HasGrown (before after : Totals) : Type 0 where
+  pub least : least_of before ≡ least_of after
+  pub cells : before.counts.cells ≤ after.counts.cells
+  pub visible : before.counts.visible ≤ after.counts.visible
+  pub newlines : before.counts.newlines ≤ after.counts.newlines
+
+-- what is kept for a node in an entry lacks these totals of what the node's own entries add up to
+abbrev pub Lacks : ℕ → Totals → Memory → Type 0
+Lacks node more m = (id : ℕ) → id < length m.heads → (id ≡ node → ⊥)
+    → AllByRecursion (λ e. 0 < count_of node (strip e ∷ []) → adds_up (entries m node) ≡ join more (entry_totals e)) (entries m id)
+
 -- an entry's totals are those of its runs
 abbrev pub IsRight : Memory → ℕ → Entry → Type 0
 IsRight s k e = entry_totals e ≡ totals_of (below s k (strip e))

@@ -7,7 +7,8 @@ ghost use Rattle.rt_tree.specs.Shape.{IsShape, ahead, all_below, behind, level_o
 ghost use Rattle.rt_tree.specs.Sums.{AreFew, counts_of};
 
 use crate::node::{Entry, Mem, Run};
-use crate::settle::{set_entry, settle};
+use crate::settle::{add_above, set_entry, settle_by};
+use crate::totals::{entry_totals, growth};
 use rt_nodes::NodeId;
 
 // Puts another run in place of one.
@@ -26,8 +27,12 @@ pub(crate) fn set_run(mem: &mut Mem, root: NodeId, height: u32, leaf: NodeId, i:
     ensures runs { runs (bare mem.new) height root.index ≡ ahead (bare mem.old) height leaf.index
         ++ (all_below (bare mem.old) 0 (links (slice_set (entries mem.old leaf.index) i (Here run))) ++ behind (bare mem.old) height leaf.index) }
 {
-    set_entry(mem, leaf, i, Entry::Here(run));
-    settle(mem, root, height, leaf);
+    let new = Entry::Here(run);
+    let before = entry_totals(mem.entry(leaf, i));
+    let after = entry_totals(&new);
+    let grown = growth(before, after);
+    set_entry(mem, leaf, i, new);
+    settle_by(mem, root, height, leaf, grown);
 }
 
 // Puts a run into a leaf that has room.
@@ -47,6 +52,8 @@ pub(crate) fn put_run(mem: &mut Mem, root: NodeId, height: u32, leaf: NodeId, i:
         ++ (all_below (bare mem.old) 0 (links (insert (entries mem.old leaf.index) i (Here run))) ++ behind (bare mem.old) height leaf.index) }
     ensures room { (mem.new.room ≡ mem.old.room) × (length mem.new.heads ≡ length mem.old.heads) }
 {
-    mem.insert_at(leaf, i, Entry::Here(run));
-    settle(mem, root, height, leaf);
+    let new = Entry::Here(run);
+    let more = entry_totals(&new);
+    mem.insert_at(leaf, i, new);
+    add_above(mem, root, height, leaf, more);
 }

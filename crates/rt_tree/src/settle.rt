@@ -1,14 +1,15 @@
 // Totals put right from a node upwards.
 ghost use Rattle.std.specs.Prelude.{◌≡◌, ◌<◌, length, slice_index_or};
+ghost use Rattle.std.specs.Option.{ForSome};
 ghost use Rattle.rt_nodes.specs.Nodes.{IsNode, entries, with_entry};
 ghost use Rattle.rt_tree.specs.declared.node.Entry.{Entry};
 ghost use Rattle.rt_tree.specs.declared.node.Entry.TheVariants.{Down};
-ghost use Rattle.rt_tree.specs.Changes.{AreExact, AreExactBut, bare, blank, strip};
+ghost use Rattle.rt_tree.specs.Changes.{AreExact, AreExactBut, Lacks, bare, blank, strip};
 ghost use Rattle.rt_tree.specs.Shape.{IsShape, count_of, level_of, parent_of, runs};
 ghost use Rattle.rt_tree.specs.Sums.{AreFew, counts_of};
 
-use crate::node::{Entry, Mem};
-use crate::totals::adds_up;
+use crate::node::{Entry, Mem, Totals};
+use crate::totals::{adds_up, entry_totals, join};
 use crate::up::is_node;
 use rt_nodes::NodeId;
 
@@ -51,7 +52,7 @@ pub(crate) fn slot_of(mem: &Mem, parent: NodeId, id: NodeId) -> usize
 }
 
 // Puts right the totals above a node whose entries have changed.
-pub(crate) fn settle(mem: &mut Mem, root: NodeId, height: u32, from: NodeId)
+fn settle(mem: &mut Mem, root: NodeId, height: u32, from: NodeId)
     requires tree { IsShape (bare mem.old) height root.index }
     requires from { from.index < length mem.old.heads }
     requires exact { AreExactBut from.index mem.old }
@@ -68,5 +69,50 @@ pub(crate) fn settle(mem: &mut Mem, root: NodeId, height: u32, from: NodeId)
         set_entry(mem, parent, slot, Entry::Down(node, totals));
         node = parent;
         level += 1;
+    }
+}
+
+// Puts right the totals above a node whose entries have come to so much more.
+pub(crate) fn add_above(mem: &mut Mem, root: NodeId, height: u32, from: NodeId, more: Totals)
+    requires tree { IsShape (bare mem.old) height root.index }
+    requires from { from.index < length mem.old.heads }
+    requires exact { AreExactBut from.index mem.old }
+    requires more { Lacks from.index more mem.old }
+    requires few { AreFew (counts_of (runs (bare mem.old) height root.index)) }
+    ensures same { bare mem.new ≡ bare mem.old }
+    ensures exact { AreExact mem.new }
+{
+    let mut node = from;
+    let mut level = level_of(mem, from);
+    while level < height {
+        let parent = parent_of(mem, node);
+        let slot = slot_of(mem, parent, node);
+        let old = entry_totals(mem.entry(parent, slot));
+        let totals = join(more, old);
+        set_entry(mem, parent, slot, Entry::Down(node, totals));
+        node = parent;
+        level += 1;
+    }
+}
+
+// Puts right the totals above a node whose entries have changed: by what they have come to more, where that is told.
+pub(crate) fn settle_by(
+    mem: &mut Mem,
+    root: NodeId,
+    height: u32,
+    from: NodeId,
+    grown: Option<Totals>,
+)
+    requires tree { IsShape (bare mem.old) height root.index }
+    requires from { from.index < length mem.old.heads }
+    requires exact { AreExactBut from.index mem.old }
+    requires grown { ForSome grown (λ more. Lacks from.index more mem.old) }
+    requires few { AreFew (counts_of (runs (bare mem.old) height root.index)) }
+    ensures same { bare mem.new ≡ bare mem.old }
+    ensures exact { AreExact mem.new }
+{
+    match grown {
+        Some(more) => add_above(mem, root, height, from, more),
+        None => settle(mem, root, height, from),
     }
 }

@@ -1,10 +1,10 @@
 // Sums of totals.
-ghost use Rattle.std.specs.Prelude.{◌≡◌, ◌≤◌, [], ◌∷◌};
+ghost use Rattle.std.specs.Prelude.{◌≡◌, ◌≤◌, [], ◌∷◌, IfSome, true};
 ghost use Rattle.rt_nodes.specs.Nodes.{IsNode, entries};
-ghost use Rattle.rt_tree.specs.Changes.{adds_up, entry_totals, join, least_of};
+ghost use Rattle.rt_tree.specs.Changes.{HasGrown, adds_up, entry_totals, join, least_of};
 ghost use Rattle.rt_tree.specs.Sums.{AreFew, lesser, plus, totals_of};
 
-use crate::node::{Entry, Mem, Run, Totals};
+use crate::node::{Counts, Entry, Mem, Run, Totals};
 use crate::sums::{counts_of_run, no_counts, plus};
 use rt_nodes::NodeId;
 use rt_stamps::Stamp;
@@ -36,7 +36,7 @@ fn lesser(a: Stamp, b: Stamp) -> Stamp
     if b < a { b } else { a }
 }
 
-fn join(a: Totals, b: Totals) -> Totals
+pub(crate) fn join(a: Totals, b: Totals) -> Totals
     requires { AreFew (plus a.counts b.counts) }
     ensures { result ≡ join a b }
 {
@@ -63,13 +63,47 @@ fn totals_of(run: Run) -> Totals
     }
 }
 
-fn entry_totals(entry: &Entry) -> Totals
+pub(crate) fn entry_totals(entry: &Entry) -> Totals
     ensures { result ≡ entry_totals entry.now }
 {
     match entry {
         Entry::Down(_, totals) => *totals,
         Entry::Here(run) => totals_of(*run),
     }
+}
+
+// Whether totals have the same least stamp as others had, and no count that is less.
+fn has_grown(before: Totals, after: Totals) -> bool
+    ensures { result ≡ true → HasGrown before after }
+{
+    before.least_count == after.least_count
+        && before.least_site == after.least_site
+        && before.counts.cells <= after.counts.cells
+        && before.counts.visible <= after.counts.visible
+        && before.counts.newlines <= after.counts.newlines
+}
+
+// What has to be joined to totals to make others of them.
+fn difference(before: Totals, after: Totals) -> Totals
+    requires { HasGrown before after }
+    ensures { join result before ≡ after }
+{
+    let counts = Counts {
+        cells: after.counts.cells - before.counts.cells,
+        visible: after.counts.visible - before.counts.visible,
+        newlines: after.counts.newlines - before.counts.newlines,
+    };
+    Totals { counts, ..before }
+}
+
+// What has to be joined to totals to make others of them, where they have only grown.
+pub(crate) fn growth(before: Totals, after: Totals) -> Option<Totals>
+    ensures { IfSome result (λ more. join more before ≡ after) }
+{
+    if !has_grown(before, after) {
+        return None;
+    }
+    Some(difference(before, after))
 }
 
 // What the entries of a node add up to.
