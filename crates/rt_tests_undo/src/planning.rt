@@ -161,19 +161,18 @@ fn planned_in(
     planned_reversion_in(alloc, &store, &states, copy, site, count, group, &mut kept)
 }
 
-// How many operations, changes, characters that came back and actions a plan has.
-fn assert_counts(rt: &impl Abort, plan: &Reversal, want: [usize; 4]) {
-    let found = [
-        plan.drafts.len(),
-        plan.changes.len(),
-        plan.returns.len(),
-        plan.actions.len(),
-    ];
-    assert_eq!(rt; found, want);
+// What was typed goes by one operation, and nothing comes back.
+fn assert_deletion(rt: &impl Abort, plan: &Reversal) {
+    assert_eq!(rt; plan.drafts.len(), 1);
+    assert!(rt; matches!(&plan.drafts[0], Draft::Delete { .. }));
+    assert_eq!(rt; plan.changes.len(), 1);
+    assert!(rt; matches!(&plan.changes[0], TextChange::Removed(_)));
+    assert_eq!(rt; plan.returns.len(), 0);
 }
 
-// The first action took away the `ab`.
+// The one action took away the `ab`.
 fn assert_cut(rt: &impl Abort, plan: &Reversal) {
+    assert_eq!(rt; plan.actions.len(), 1);
     assert_eq!(rt; plan.actions[0].inserted.len(), 0);
     assert_eq!(rt; plan.actions[0].removed.len(), 1);
     assert_eq!(rt; plan.actions[0].removed[0].span, span(1, 2));
@@ -185,23 +184,24 @@ fn typing_is_reverted(rt: HostRuntime) -> Result<(), Fail> {
     let site = Site::new(1).ok_or("a site")?;
     let group = typing(rt.alloc())?;
     let plan = planned(rt.alloc(), site, false, 2, &group)?;
-    assert_counts(&rt, &plan, [1, 1, 0, 1]);
-    assert!(rt; matches!(&plan.drafts[0], Draft::Delete { .. }));
-    assert!(rt; matches!(&plan.changes[0], TextChange::Removed(_)));
+    assert_deletion(&rt, &plan);
     assert_cut(&rt, &plan);
     Ok(())
 }
 
 // The `b` comes back under another stamp.
 fn assert_return(rt: &impl Abort, plan: &Reversal) {
+    assert_eq!(rt; plan.drafts.len(), 2);
     assert!(rt; matches!(&plan.drafts[0], Draft::Insert { .. }));
     assert!(rt; matches!(&plan.drafts[1], Draft::Delete { .. }));
+    assert_eq!(rt; plan.returns.len(), 1);
     assert_eq!(rt; plan.returns[0].former, Stamp { count: 2, site: 1 });
     assert_eq!(rt; plan.returns[0].newer, Stamp { count: 4, site: 1 });
 }
 
-// The first action put it in, and the second one took both away.
+// One action put it in, and the other took both away.
 fn assert_actions(rt: &impl Abort, plan: &Reversal) {
+    assert_eq!(rt; plan.actions.len(), 2);
     assert_eq!(rt; plan.actions[0].inserted.len(), 1);
     assert_eq!(rt; plan.actions[0].inserted[0], span(4, 4));
     assert_eq!(rt; plan.actions[1].removed.len(), 2);
@@ -211,7 +211,6 @@ fn assert_actions(rt: &impl Abort, plan: &Reversal) {
 
 // The `b` comes back, and goes again with the `a`.
 fn assert_both(rt: &impl Abort, plan: &Reversal) {
-    assert_counts(rt, plan, [2, 3, 1, 2]);
     assert_return(rt, plan);
     assert_actions(rt, plan);
 }
