@@ -39,8 +39,10 @@ impl Names {
 // Of two marks at a place text goes between them, after the left one and before the right one.
 #[test]
 fn gravity_decides(rt: HostRuntime) -> Result<(), Fail> {
-    let mut held = Names::of(rt.alloc(), &[("l", 1), ("r", 1)], &["l"])?;
-    let marks = &mut held.marks;
+    let mut marks = Marks::new(rt.alloc());
+    marks.set("l", 1)?;
+    marks.set("r", 1)?;
+    marks.set_gravity("l", Gravity::Left)?;
     marks.inserted(1, 2);
     assert_eq!(rt; marks.place("l"), Some(1));
     assert_eq!(rt; marks.place("r"), Some(3));
