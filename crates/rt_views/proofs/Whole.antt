@@ -1,7 +1,7 @@
 -- What is shown is whole lines.
 use Rattle.std.proofs.Common.{◌≡◌, ℕ, zero, suc, ◌+◌, ◌-◌, ◌<◌, ◌≤◌, List, [], ◌∷◌, ◌++◌, length, take, drop, map, refl, sym, ap, subst, ◌∙◌, arith}
 use Rattle.std.specs.Prelude.{Some, slice_get}
-use Rattle.std.proofs.lemmas.List.{length-map, take-map, drop-map}
+use Rattle.std.proofs.lemmas.List.{length-map}
 use Rattle.rt_stamps.specs.Places.{EndsWithNewline, after_newlines, line_end, line_start, newlines}
 use Rattle.rt_store.specs.declared.cell.Cell.{Cell}
 use Rattle.rt_store.specs.Cells.{EndsFinal, text_of, visible_of}
@@ -9,6 +9,7 @@ use Rattle.rt_views.specs.declared.limits.Limits.{Limits}
 use Rattle.rt_views.specs.declared.stretch.Stretch.{Stretch}
 use Rattle.rt_views.specs.Limits.{first_line, last_line, no_limits}
 use Rattle.rt_views.specs.Stretches.{part, shown_part, stretch_of}
+use Rattle.rt_views.proofs.Parts.{get_drop, part_map}
 use Rattle.rt_views.proofs.Lines.{after_all, after_within, end_is, ends_with, lines_some, starts_below}
 use Rattle.rt_views.proofs.Places.{ends_text, first_line_within, last_line_within}
 
@@ -35,15 +36,6 @@ stretch_whole cells h =
     λ i. record { begin = begin i; end = all i }
 
 -- PARTS
-
-part_map : {A B : Type 0} (f : A → B) (stretch : Stretch) (xs : List A) → map f (part stretch xs) ≡ part stretch (map f xs)
-part_map f stretch xs =
-    sym (take-map f (stretch.end - stretch.begin) (drop stretch.begin xs)) ∙ ap (take (stretch.end - stretch.begin)) (sym (drop-map f stretch.begin xs))
-
-get_drop : {A : Type 0} (xs : List A) (b n : ℕ) → slice_get (drop b xs) n ≡ slice_get xs (b + n)
-get_drop xs zero n = let e : 0 + n ≡ n = omega arith in ap (slice_get xs) (sym e)
-get_drop [] (suc b) n = refl
-get_drop (x ∷ xs) (suc b) n = let e : suc b + n ≡ suc (b + n) = omega arith in get_drop xs b n ∙ ap (slice_get (x ∷ xs)) (sym e)
 
 take_last : {A : Type 0} (xs : List A) (n : ℕ) (x : A) → slice_get xs n ≡ Some x → take (suc n) xs ≡ take n xs ++ x ∷ []
 take_last [] n x h = let bad : ⊥ = cc in absurd bad

@@ -1,5 +1,5 @@
 // The limits of what a widget shows.
-ghost use Rattle.std.specs.Prelude.{◌≡◌, ℕ, ◌+◌, ◌-◌, ◌≤◌, ◌<◌, length, option_and_then, slice_get, Some};
+ghost use Rattle.std.specs.Prelude.{◌≡◌, ℕ, ◌+◌, ◌-◌, ◌≤◌, ◌<◌, ◌&&◌, is_none, length, option_and_then, slice_get, Some};
 ghost use Rattle.rt_stamps.specs.declared.limits.TheConstants.{MOST_CELLS};
 ghost use Rattle.rt_stamps.specs.Places.{line_end, newlines};
 ghost use Rattle.rt_store.specs.Cells.{text_of, visible_of};
@@ -62,6 +62,13 @@ impl Limits {
         }
     }
 
+    // Whether there is no limit.
+    fn are_none(self) -> bool
+        ensures { result ≡ (is_none self.start && is_none self.end) }
+    {
+        self.start.is_none() && self.end.is_none()
+    }
+
     // The line that holds the place of the newline at the end, if there is one.
     fn line_at_end<S: TextStore>(self, store: &S) -> Option<usize>
         ensures { result ≡ option_and_then (line_at (S.list store.now)) self.end }
@@ -106,6 +113,12 @@ impl Limits {
         ensures within { result.end ≤ length (visible_of (S.list store.now)) }
         ensures newline { slice_get (text_of (S.list store.now)) (result.end - 1) ≡ Some 10 }
     {
+        if self.are_none() {
+            return Stretch {
+                begin: 0,
+                end: store.visible(),
+            };
+        }
         let last = self.last_line(store);
         let first = self.first_line(store, last);
         Stretch {
