@@ -16,3 +16,6 @@ is_clash-requires-clause-other c =
     let sound = c.requires.log.sound (op_at ops place) (at_has ops order c.loop-place.place-index 0 c.loop-place-test.true) in
     let last = sound_last (op_at ops place) sound in
     rw read last
+
+pub is_clash-requires-clause-one : goal.is_clash-requires-clause-one
+is_clash-requires-clause-one c = sound_last c.args.op.now c.requires.sound

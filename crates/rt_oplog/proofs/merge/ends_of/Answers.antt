@@ -53,3 +53,6 @@ pub returns-in_err-reserve : goal.returns-in_err-reserve
 returns-in_err-reserve c =
     let (y, is, gives) = err_from_is_err_and c.from_residual.result c.from_residual.ensures.1 in
     rw (is, gives) (inl refl)
+
+pub bounds-ops-place : goal.bounds-ops-place
+bounds-ops-place c = within_at (length c.args.ops.now) c.loop-place.place-index c.args.order.now c.loop-place-test.true c.requires.within

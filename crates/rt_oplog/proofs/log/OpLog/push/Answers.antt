@@ -1,4 +1,4 @@
-use Rattle.std.proofs.Common.{◌≡◌, ◌∷◌, ℕ, List, false, inl, refl, sym, ap, ◌∙◌, length, Result, Ok, Err, arith}
+use Rattle.std.proofs.Common.{◌≡◌, ◌∷◌, ℕ, List, false, inl, refl, sym, ap, ◌∙◌, length, Result, Ok, Err, arith, ◌≤◌, inr, suc, true, true≢false, zero}
 use Rattle.std.proofs.lemmas.Result.{err_from_is_err_and}
 use Rattle.std.specs.List.{insert, list_any}
 use Rattle.rt_stamps.specs.declared.fault.Fault.{Fault}
@@ -6,7 +6,7 @@ use Rattle.rt_oplog.specs.Operations.{Operation, stamp_of, has_bad_stamp, soundn
 use Rattle.rt_oplog.specs.Logs.{holds, clash, known_end, pushed}
 use Rattle.rt_oplog.specs.Ends.{end_in}
 use Rattle.rt_oplog.specs.Kept.{newest_first, leading}
-use Rattle.rt_oplog.proofs.Pushes.{push_bad, sound_if_ok, push_new}
+use Rattle.rt_oplog.proofs.Pushes.{push_bad, sound_if_ok, push_new, push_clash, push_held}
 use Rattle.rt_oplog.proofs.Places.{is_earlier, kept_with, kept_seen}
 use Rattle.rt_oplog.proofs.log.OpLog.push.Goals as goal
 
@@ -51,3 +51,24 @@ returns c =
       ap (pushed op) (sym seen) ∙ push_new op set sound new free ∙ ap wrap (rw (c.push_reserved.ensures.items, put) (sym now)),
       omega (arith, kept, one, c.insert.ensures.room, c.push_reserved.ensures.len, c.push_reserved.ensures.capacity, c.raise.ensures.capacity, c.raise.ensures.len),
     )
+
+-- what can't give one more has no room
+none_left : (room : ℕ) → (1 ≤ room → false ≡ true) → room ≡ 0
+none_left zero h = refl
+none_left (suc n) h = absurd (true≢false (sym (h (omega arith))))
+
+pub returns-in_err-reserve : goal.returns-in_err-reserve
+returns-in_err-reserve c =
+    let (y, is, gives) = err_from_is_err_and c.from_residual-in_err-reserve.result c.from_residual-in_err-reserve.ensures.1 in
+    rw (is, gives) (c.in_err-reserve.ensures.same, c.in_err-reserve.ensures.kept, inr (c.in_err-reserve.ensures.fault, none_left c.args.self.now.room c.in_err-reserve.ensures.there))
+
+pub returns-then-contains : goal.returns-then-contains
+returns-then-contains c =
+    let sound : has_bad_stamp c.args.op ≡ false = sound_if_ok c.args.op c.in_ok-check.field-0 (sym c.in_ok-check.ensures) in
+    (push_held c.args.op c.args.self.now.operations sound (sym c.contains.ensures ∙ c.if-contains.true), omega arith)
+
+pub returns-then-clashes : goal.returns-then-clashes
+returns-then-clashes c =
+    let sound : has_bad_stamp c.args.op ≡ false = sound_if_ok c.args.op c.in_ok-check.field-0 (sym c.in_ok-check.ensures) in
+    let new = sym c.contains.ensures ∙ c.if-contains.false in
+    (refl, omega arith, inl (push_clash c.args.op c.args.self.now.operations sound new (sym c.clashes.ensures ∙ c.if-clashes.true)))
