@@ -1,12 +1,13 @@
-use Rattle.std.proofs.Common.{◌≡◌, ◌++◌, ◌∷◌, [], ◌∙◌, subst, sym, ap}
+use Rattle.std.proofs.Common.{◌≡◌, ◌++◌, ◌∷◌, [], ◌∙◌, subst, sym, ap, refl, false, true≢false}
 use Rattle.std.proofs.lemmas.Option.{get_or_from_slice_get, slice_get_within}
 use Rattle.rt_tags.specs.Kept.{IsTable}
 use Rattle.rt_tags.specs.Seen.{names_of}
 use Rattle.rt_tags.specs.States.{TagStates, IsTag, KeepsIds, name_at, numbered}
-use Rattle.rt_tags.specs.Tags.{HaveNoRepeats}
+use Rattle.rt_tags.specs.Tags.{HaveNoRepeats, is_listed}
 use Rattle.rt_tags.proofs.Keeping.{keeps_numbered, numbered_new, stands_last, table_longer, table_of}
 use Rattle.rt_tags.proofs.Places.{at_within, got}
 use Rattle.rt_tags.proofs.Sets.{len_names}
+use Rattle.std.proofs.lemmas.Result.{err_from_is_err_and}
 use Rattle.rt_tags.proofs.states.StateTable.number.Goals as goal
 
 pub returns-in-Some-clause-tag : goal.returns-in-Some-clause-tag
@@ -45,3 +46,51 @@ returns-in_ok-make_room-in-None-clause-ok c =
 
 pub returns-in_ok-make_room-in-None-clause-ids : goal.returns-in_ok-make_room-in-None-clause-ids
 returns-in_ok-make_room-in-None-clause-ids c = subst (KeepsIds c.args.self.now) (sym (returns-in_ok-make_room-in-None-clause-ok c)) (keeps_numbered c.args.name.now c.args.self.now)
+
+itself : (t : TagStates) → KeepsIds t t
+itself t = record { tags = λ tag h. (h, refl); states = λ state h. (h, refl) }
+
+pub invariant_of-self : goal.invariant_of-self
+invariant_of-self c = rw c.make_room.ensures.names c.self.invariant
+
+pub returns-in-Some-clause-err : goal.returns-in-Some-clause-err
+returns-in-Some-clause-err c = tt
+
+pub returns-in-Some-clause-fault : goal.returns-in-Some-clause-fault
+returns-in-Some-clause-fault c = tt
+
+pub returns-in-Some-clause-ids : goal.returns-in-Some-clause-ids
+returns-in-Some-clause-ids c = itself c.args.self.now
+
+pub returns-in-Some-clause-memory : goal.returns-in-Some-clause-memory
+returns-in-Some-clause-memory c = λ h. refl
+
+pub returns-in_err-name-in-None : goal.returns-in_err-name-in-None
+returns-in_err-name-in-None c =
+    let (y, is, gives) = err_from_is_err_and c.from_residual.result c.from_residual.ensures.1 in
+    let new = subst (λ (t : TagStates). is_listed c.args.name.now t.names ≡ false) c.self.view_is (sym c.in-None.ensures.found) in
+    rw (is, gives) (record { given = tt; tag = tt; ok = tt; err = refl; memory = λ h. absurd (true≢false (sym h ∙ new)); fault = refl; ids = itself c.args.self.now })
+
+pub returns-in_err-make_room-in-None : goal.returns-in_err-make_room-in-None
+returns-in_err-make_room-in-None c =
+    let (y, is, gives) = err_from_is_err_and c.from_residual-in_err-make_room-in-None.result c.from_residual-in_err-make_room-in-None.ensures.1 in
+    let new = subst (λ (t : TagStates). is_listed c.args.name.now t.names ≡ false) c.self.view_is (sym c.in-None.ensures.found) in
+    let same = ap (λ v. table_of v c.self.inside.states.keys) c.make_room.ensures.names ∙ c.self.view_is in
+    rw (is, gives) (record {
+      given = tt;
+      tag = tt;
+      ok = tt;
+      err = same;
+      memory = λ h. absurd (true≢false (sym h ∙ new));
+      fault = refl;
+      ids = subst (KeepsIds c.args.self.now) (sym same) (itself c.args.self.now);
+    })
+
+pub returns-in_ok-make_room-in-None-clause-err : goal.returns-in_ok-make_room-in-None-clause-err
+returns-in_ok-make_room-in-None-clause-err c = tt
+
+pub returns-in_ok-make_room-in-None-clause-fault : goal.returns-in_ok-make_room-in-None-clause-fault
+returns-in_ok-make_room-in-None-clause-fault c = tt
+
+pub returns-in_ok-make_room-in-None-clause-memory : goal.returns-in_ok-make_room-in-None-clause-memory
+returns-in_ok-make_room-in-None-clause-memory c = λ h. refl

@@ -1,10 +1,10 @@
-use Rattle.std.proofs.Common.{◌≡◌, ◌∙◌, [], All, ap, length, map, string_bytes, subst, sym}
-use Rattle.std.proofs.lemmas.Result.{IfOk-weaker}
+use Rattle.std.proofs.Common.{◌≡◌, ◌∙◌, [], All, ap, length, map, string_bytes, subst, sym, refl}
+use Rattle.std.proofs.lemmas.Result.{IfOk-weaker, err_from_is_err_and}
 use Rattle.rt_tags.specs.Kept.{all_on}
 use Rattle.rt_tags.specs.States.{Interns, IsTag, state_at, writes_at}
 use Rattle.rt_tags.specs.Writers.{listed_by, state_after}
 use Rattle.rt_tags.specs.declared.states.Entry.{Entry}
-use Rattle.rt_tags.proofs.Listing.{listed_writes, on_given}
+use Rattle.rt_tags.proofs.Listing.{listed_writes, on_given, keeps_both}
 use Rattle.rt_tags.proofs.states.StateTable.state_of_list.Goals as goal
 
 pub with_all-requires-clause-tags : goal.with_all-requires-clause-tags
@@ -32,3 +32,22 @@ returns-clause-interned c =
     IfOk-weaker c.with_all.result (λ id. Interns (state_after (state_at table 0) (writes_at table c.deref-2.result.now)) table.states id new.states) (λ id. Interns (state_after [] (listed_by c.args.writer names)) c.args.self.now.states id new.states)
     (λ id h. subst (λ v. Interns (state_after [] (listed_by c.args.writer names)) v id new.states) c.number_all.ensures.states (subst (λ v. Interns v table.states id new.states) made h))
     c.with_all.ensures.interned
+
+pub returns-in_err-tags : goal.returns-in_err-tags
+returns-in_err-tags c =
+    let (y, is, gives) = err_from_is_err_and c.from_residual.result c.from_residual.ensures.1 in
+    rw (is, gives) (record { given = tt; state = tt; interned = tt; names = tt; err = c.number_all.ensures.states; fault = c.in_err-tags.ensures.fault; ids = c.number_all.ensures.ids })
+
+pub returns-in_err-writes : goal.returns-in_err-writes
+returns-in_err-writes c =
+    let (y, is, gives) = err_from_is_err_and c.from_residual-in_err-writes.result c.from_residual-in_err-writes.ensures.1 in
+    rw (is, gives) (record { given = tt; state = tt; interned = tt; names = tt; err = c.number_all.ensures.states; fault = refl; ids = c.number_all.ensures.ids })
+
+pub returns-clause-given : goal.returns-clause-given
+returns-clause-given c = c.with_all.ensures.given
+
+pub returns-clause-fault : goal.returns-clause-fault
+returns-clause-fault c = c.with_all.ensures.fault
+
+pub returns-clause-ids : goal.returns-clause-ids
+returns-clause-ids c = keeps_both c.args.self.now c.number_all.new.self c.with_all.new.self c.number_all.ensures.ids c.with_all.ensures.ids

@@ -1,14 +1,15 @@
-use Rattle.std.proofs.Common.{◌≡◌, ◌∙◌, ap, arith, sym, subst, ℕ, [], true, Result, Ok, length, map, string_bytes}
+use Rattle.std.proofs.Common.{◌≡◌, ◌∙◌, ap, arith, sym, subst, ℕ, [], true, Result, Ok, length, map, string_bytes, refl}
 use Rattle.std.proofs.lemmas.Grind.{common_steps}
 use Rattle.std.proofs.lemmas.List.{length-map}
 use Rattle.std.proofs.lemmas.Option.{get_or_from_slice_get, slice_get_within}
 use Rattle.rt_stamps.specs.declared.fault.Fault.{Fault}
 use Rattle.rt_tags.specs.Kept.{HaveNames, IsNext, entry_of, is_entry_kept, state_seen, states_seen}
 use Rattle.rt_tags.specs.Seen.{names_of}
-use Rattle.rt_tags.specs.States.{TagStates, Interns, IsTag, is_settled, state_at, write_at, written}
+use Rattle.rt_tags.specs.States.{TagStates, Interns, IsTag, is_settled, state_at, write_at, written, KeepsIds}
 use Rattle.rt_tags.specs.declared.states.Entry.{Entry}
 use Rattle.rt_tags.proofs.Keeping.{keeps_interned, named_there, next_kept, next_seen, settled_there, stays_interned, table_more, table_of}
 use Rattle.rt_tags.proofs.Places.{clash}
+use Rattle.std.proofs.lemmas.Result.{err_from_is_err_and}
 use Rattle.rt_tags.proofs.states.StateTable.with.Goals as goal
 
 pub returns-in_err-new-clause-same : goal.returns-in_err-new-clause-same
@@ -102,3 +103,100 @@ next_state-requires-clause-named c =
     let old = c.state_of-old.result.now in
     subst (λ n. HaveNames n old.entries.items) (length-map names (λ s. string_bytes s) ∙ ap (λ v. length v) (sym c.as_slice.ensures.keys))
     (named_there (names_of c.self.inside.names) c.self.inside.states.keys c.self.invariant c.args.state old c.state_of-old.ensures)
+
+itself : (t : TagStates) → KeepsIds t t
+itself t = record { tags = λ tag h. (h, refl); states = λ state h. (h, refl) }
+
+pub returns-in_err-new-clause-given : goal.returns-in_err-new-clause-given
+returns-in_err-new-clause-given c =
+    let p = err_from_is_err_and c.from_residual.result c.from_residual.ensures.1 in
+    rw p.1 tt
+
+pub returns-in_err-new-clause-state : goal.returns-in_err-new-clause-state
+returns-in_err-new-clause-state c =
+    let p = err_from_is_err_and c.from_residual.result c.from_residual.ensures.1 in
+    rw p.1 tt
+
+pub returns-in_err-new-clause-interned : goal.returns-in_err-new-clause-interned
+returns-in_err-new-clause-interned c =
+    let p = err_from_is_err_and c.from_residual.result c.from_residual.ensures.1 in
+    rw p.1 tt
+
+pub returns-in_err-new-clause-err : goal.returns-in_err-new-clause-err
+returns-in_err-new-clause-err c =
+    let p = err_from_is_err_and c.from_residual.result c.from_residual.ensures.1 in
+    rw p.1 refl
+
+pub returns-in_err-new-clause-fault : goal.returns-in_err-new-clause-fault
+returns-in_err-new-clause-fault c =
+    let p = err_from_is_err_and c.from_residual.result c.from_residual.ensures.1 in
+    rw (p.1, p.2) refl
+
+pub returns-in_err-new-clause-names : goal.returns-in_err-new-clause-names
+returns-in_err-new-clause-names c = refl
+
+pub returns-in_err-new-clause-ids : goal.returns-in_err-new-clause-ids
+returns-in_err-new-clause-ids c = itself c.args.self.now
+
+pub invariant_of-self : goal.invariant_of-self
+invariant_of-self c = rw c.in_err-place-in-Some.ensures.err c.self.invariant
+
+pub returns-in_err-place-in-Some-clause-given : goal.returns-in_err-place-in-Some-clause-given
+returns-in_err-place-in-Some-clause-given c =
+    let p = err_from_is_err_and c.from_residual-in_err-place-in-Some.result c.from_residual-in_err-place-in-Some.ensures.1 in
+    rw p.1 tt
+
+pub returns-in_err-place-in-Some-clause-state : goal.returns-in_err-place-in-Some-clause-state
+returns-in_err-place-in-Some-clause-state c =
+    let p = err_from_is_err_and c.from_residual-in_err-place-in-Some.result c.from_residual-in_err-place-in-Some.ensures.1 in
+    rw p.1 tt
+
+pub returns-in_err-place-in-Some-clause-interned : goal.returns-in_err-place-in-Some-clause-interned
+returns-in_err-place-in-Some-clause-interned c =
+    let p = err_from_is_err_and c.from_residual-in_err-place-in-Some.result c.from_residual-in_err-place-in-Some.ensures.1 in
+    rw p.1 tt
+
+pub returns-in_err-place-in-Some-clause-err : goal.returns-in_err-place-in-Some-clause-err
+returns-in_err-place-in-Some-clause-err c =
+    let p = err_from_is_err_and c.from_residual-in_err-place-in-Some.result c.from_residual-in_err-place-in-Some.ensures.1 in
+    rw p.1 (ap (table_of (names_of c.self.inside.names)) c.in_err-place-in-Some.ensures.err ∙ c.self.view_is)
+
+pub returns-in_err-place-in-Some-clause-fault : goal.returns-in_err-place-in-Some-clause-fault
+returns-in_err-place-in-Some-clause-fault c =
+    let p = err_from_is_err_and c.from_residual-in_err-place-in-Some.result c.from_residual-in_err-place-in-Some.ensures.1 in
+    rw (p.1, p.2) c.in_err-place-in-Some.ensures.fault
+
+pub returns-in_err-place-in-Some-clause-names : goal.returns-in_err-place-in-Some-clause-names
+returns-in_err-place-in-Some-clause-names c = ap (λ (t : TagStates). t.names) c.self.view_is
+
+pub returns-in_err-place-in-Some-clause-ids : goal.returns-in_err-place-in-Some-clause-ids
+returns-in_err-place-in-Some-clause-ids c =
+    let same = ap (table_of (names_of c.self.inside.names)) c.in_err-place-in-Some.ensures.err ∙ c.self.view_is in
+    subst (KeepsIds c.args.self.now) (sym same) (itself c.args.self.now)
+
+pub returns-in-None-clause-err : goal.returns-in-None-clause-err
+returns-in-None-clause-err c = tt
+
+pub returns-in-None-clause-fault : goal.returns-in-None-clause-fault
+returns-in-None-clause-fault c = tt
+
+pub returns-in-None-clause-given : goal.returns-in-None-clause-given
+returns-in-None-clause-given c = c.requires.state
+
+pub returns-in-None-clause-ids : goal.returns-in-None-clause-ids
+returns-in-None-clause-ids c = itself c.args.self.now
+
+pub returns-in-None-clause-names : goal.returns-in-None-clause-names
+returns-in-None-clause-names c = refl
+
+pub returns-in-None-clause-same : goal.returns-in-None-clause-same
+returns-in-None-clause-same c = λ h. refl
+
+pub returns-in_ok-place-in-Some-clause-err : goal.returns-in_ok-place-in-Some-clause-err
+returns-in_ok-place-in-Some-clause-err c = tt
+
+pub returns-in_ok-place-in-Some-clause-fault : goal.returns-in_ok-place-in-Some-clause-fault
+returns-in_ok-place-in-Some-clause-fault c = tt
+
+pub returns-in_ok-place-in-Some-clause-names : goal.returns-in_ok-place-in-Some-clause-names
+returns-in_ok-place-in-Some-clause-names c = ap (λ (t : TagStates). t.names) c.self.view_is

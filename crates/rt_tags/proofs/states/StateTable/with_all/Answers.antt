@@ -1,11 +1,12 @@
-use Rattle.std.proofs.Common.{◌≡◌, ◌∙◌, [], ap, arith, map, string_bytes, subst, sym}
+use Rattle.std.proofs.Common.{◌≡◌, ◌∙◌, [], ap, arith, map, string_bytes, subst, sym, refl}
 use Rattle.std.proofs.lemmas.Grind.{common_steps}
 use Rattle.std.proofs.lemmas.Option.{get_or_from_slice_get, slice_get_within}
 use Rattle.rt_tags.specs.Kept.{IsKept, IsSorted, all_seen, state_seen, states_seen}
 use Rattle.rt_tags.specs.Seen.{names_of}
-use Rattle.rt_tags.specs.States.{TagStates, Interns, state_at, writes_at}
+use Rattle.rt_tags.specs.States.{TagStates, Interns, state_at, writes_at, KeepsIds}
 use Rattle.rt_tags.specs.Writers.{state_after}
 use Rattle.rt_tags.proofs.Keeping.{keeps_interned, sorted_there, state_there, table_more, table_of}
+use Rattle.std.proofs.lemmas.Result.{err_from_is_err_and}
 use Rattle.rt_tags.proofs.states.StateTable.with_all.Goals as goal
 
 pub returns-clause-interned : goal.returns-clause-interned
@@ -54,3 +55,37 @@ pub returns-clause-ids : goal.returns-clause-ids
 returns-clause-ids c =
     let made = state_after (state_at c.args.self.now c.args.state) (writes_at c.args.self.now c.args.writes.now) in
     keeps_interned made c.args.self.now (table_of (names_of c.self.inside.names) c.intern.new.states.keys) c.in_ok-place.place (ap (λ (t : TagStates). t.names) c.self.view_is) (returns-clause-interned c)
+
+itself : (t : TagStates) → KeepsIds t t
+itself t = record { tags = λ tag h. (h, refl); states = λ state h. (h, refl) }
+
+pub invariant_of-self : goal.invariant_of-self
+invariant_of-self c = rw c.in_err-place.ensures.err c.self.invariant
+
+pub returns-clause-err : goal.returns-clause-err
+returns-clause-err c = tt
+
+pub returns-clause-fault : goal.returns-clause-fault
+returns-clause-fault c = tt
+
+pub returns-clause-names : goal.returns-clause-names
+returns-clause-names c = ap (λ (t : TagStates). t.names) c.self.view_is
+
+pub returns-in_err-new : goal.returns-in_err-new
+returns-in_err-new c =
+    let (y, is, gives) = err_from_is_err_and c.from_residual.result c.from_residual.ensures.1 in
+    rw (is, gives) (record { given = tt; state = tt; interned = tt; names = refl; err = refl; fault = refl; ids = itself c.args.self.now })
+
+pub returns-in_err-place : goal.returns-in_err-place
+returns-in_err-place c =
+    let (y, is, gives) = err_from_is_err_and c.from_residual-in_err-place.result c.from_residual-in_err-place.ensures.1 in
+    let same = ap (table_of (names_of c.self.inside.names)) c.in_err-place.ensures.err ∙ c.self.view_is in
+    rw (is, gives) (record {
+      given = tt;
+      state = tt;
+      interned = tt;
+      names = ap (λ (t : TagStates). t.names) c.self.view_is;
+      err = same;
+      fault = c.in_err-place.ensures.fault;
+      ids = subst (KeepsIds c.args.self.now) (sym same) (itself c.args.self.now);
+    })
