@@ -41,3 +41,9 @@ returns-clause-filled c =
 pub returns-clause-room : goal.returns-clause-room
 returns-clause-room c =
     (ap (λ (b : Memory). b.room) c.settle.ensures.same ∙ ap (λ (b : Memory). b.room) c.insert_at.ensures, ap (λ (b : Memory). length b.heads) c.settle.ensures.same ∙ ap (λ (b : Memory). length b.heads) c.insert_at.ensures)
+
+pub returns-clause-exact : goal.returns-clause-exact
+returns-clause-exact c = c.settle.ensures.exact
+
+pub settle-requires-clause-from : goal.settle-requires-clause-from
+settle-requires-clause-from c = rw c.insert_at.ensures c.requires.leaf.0

@@ -42,3 +42,9 @@ pub returns-clause-bare : goal.returns-clause-bare
 returns-clause-bare c =
     let m = c.args.mem.now in let x = c.args.leaf.index in
     c.settle.ensures.same ∙ ap (λ (n : Memory). bare n) c.set_entry.ensures ∙ bare_with m x (set (entries m x) c.args.i (Here c.args.run))
+
+pub returns-clause-exact : goal.returns-clause-exact
+returns-clause-exact c = c.settle.ensures.exact
+
+pub settle-requires-clause-from : goal.settle-requires-clause-from
+settle-requires-clause-from c = rw c.set_entry.ensures c.requires.leaf.0

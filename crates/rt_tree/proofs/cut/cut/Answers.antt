@@ -1,4 +1,4 @@
-use Rattle.std.proofs.Common.{◌≡◌, ℕ, ◌-◌, ◌<◌, List, ◌∷◌, arith, sym, ap, ◌∙◌, subst}
+use Rattle.std.proofs.Common.{◌≡◌, ℕ, ◌-◌, ◌<◌, List, ◌∷◌, arith, sym, ap, ◌∙◌, subst, refl}
 use Rattle.rt_nodes.specs.Nodes.{entries}
 use Rattle.rt_tree.specs.declared.node.Counts.{Counts}
 use Rattle.rt_tree.specs.declared.node.Run.{Run}
@@ -123,3 +123,36 @@ returns-clause-parts c =
     let mid = tree_runs c.replace.new.mem r in let rep = subst (λ (x : Run). IsReplacedAt old mid c.args.at x) c.back_of.ensures c.replace.ensures.runs in
     let new = tree_runs c.put-root.new.mem c.put-root.result.index in let put = subst (λ (x : Run). IsPutAt mid new (c.args.at - o) x) c.front_of-front.ensures c.put-root.ensures.runs in
     new_parts old mid f.run f.before o c.args.at st some rep new put
+
+pub returns-clause-more : goal.returns-clause-more
+returns-clause-more c = omega arith
+
+pub returns-clause-tree : goal.returns-clause-tree
+returns-clause-tree c = c.put-root.ensures.tree
+
+pub returns-then-at-sum_of-clause-more : goal.returns-then-at-sum_of-clause-more
+returns-then-at-sum_of-clause-more c = omega arith
+
+pub returns-then-at-sum_of-clause-room : goal.returns-then-at-sum_of-clause-room
+returns-then-at-sum_of-clause-room c = refl
+
+pub returns-then-at-sum_of-clause-runs : goal.returns-then-at-sum_of-clause-runs
+returns-then-at-sum_of-clause-runs c = omega arith
+
+pub returns-then-at-sum_of-clause-tree : goal.returns-then-at-sum_of-clause-tree
+returns-then-at-sum_of-clause-tree c = c.requires.tree
+
+pub returns-then-offset-eq0-clause-more : goal.returns-then-offset-eq0-clause-more
+returns-then-offset-eq0-clause-more c = omega arith
+
+pub returns-then-offset-eq0-clause-room : goal.returns-then-offset-eq0-clause-room
+returns-then-offset-eq0-clause-room c = refl
+
+pub returns-then-offset-eq0-clause-runs : goal.returns-then-offset-eq0-clause-runs
+returns-then-offset-eq0-clause-runs c = omega arith
+
+pub returns-then-offset-eq0-clause-tree : goal.returns-then-offset-eq0-clause-tree
+returns-then-offset-eq0-clause-tree c = c.requires.tree
+
+pub seek-found-requires-clause-tree : goal.seek-found-requires-clause-tree
+seek-found-requires-clause-tree c = c.requires.tree

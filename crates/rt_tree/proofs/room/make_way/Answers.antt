@@ -8,6 +8,7 @@ use Rattle.rt_tree.proofs.Fills.{filled_split}
 use Rattle.rt_tree.proofs.Raise.{length-rows}
 use Rattle.rt_tree.proofs.Spare.{spare_node}
 use Rattle.rt_tree.proofs.Splits.{parent_in}
+use Rattle.rt_tree.specs.Sums.{AreFew, counts_of}
 use Rattle.rt_tree.proofs.room.make_way.Goals as goal
 
 pub loop-level-init : goal.loop-level-init
@@ -130,3 +131,70 @@ loop-level-preserved-then-len-ge16 c =
       roomy = roomy_split m c.split.new.mem h r n c.split.result.index k x i.tree hv i.leaf.0 i.leaf.1 (omega (arith, i.low)) c.above-node.ensures (omega (arith, c.len.ensures.value, c.len.ensures.fits));
       room = i.room;
     }
+
+pub above-node-requires : goal.above-node-requires
+above-node-requires c =
+    let i = c.loop-level.invariant in
+    record { tree = i.tree; node = i.leaf.0; levels = omega (arith, i.leaf.1, i.low) }
+
+pub loop-level-preserved : goal.loop-level-preserved
+loop-level-preserved c =
+    let m = c.loop-level.mem in let i = c.loop-level.invariant in
+    let few : length (entries m c.above-node.result.index) < 16 = omega (arith, c.len.ensures.value, c.if-len-ge16.false) in
+    record {
+      low = omega (arith, i.low);
+      tree = i.tree;
+      exact = i.exact;
+      filled = i.filled;
+      spent = i.spent;
+      high = λ z. omega (arith, c.loop-level-test.true);
+      same = i.same;
+      ahead_is = i.ahead_is;
+      runs_are = i.runs_are;
+      leaf = i.leaf;
+      roomy = subst (λ y. length (entries m y) < 16) c.above-node.ensures few;
+      room = i.room;
+    }
+
+pub loop-level-smaller : goal.loop-level-smaller
+loop-level-smaller c = omega (arith, c.loop-level-test.true)
+
+pub loop-level-smaller-then-len-ge16 : goal.loop-level-smaller-then-len-ge16
+loop-level-smaller-then-len-ge16 c = omega (arith, c.loop-level-test.true)
+
+pub overflow_sub-next : goal.overflow_sub-next
+overflow_sub-next c = omega (arith, c.loop-level-test.true)
+
+pub returns : goal.returns
+returns c =
+    let m = c.loop-level.mem in let i = c.loop-level.invariant in
+    record {
+      tree = i.tree;
+      exact = i.exact;
+      filled = i.filled;
+      runs = i.runs_are;
+      leaf = i.leaf;
+      same = i.same;
+      ahead = i.ahead_is;
+      way = λ z. let one : c.loop-level.level ≡ 1 = omega (arith, c.loop-level-test.false, i.high z) in
+          subst (λ k. length (entries m (above (bare m) k c.args.leaf.index)) < 16) one i.roomy;
+      room = i.spent;
+    }
+
+pub split-requires-clause-exact : goal.split-requires-clause-exact
+split-requires-clause-exact c = c.loop-level.invariant.exact
+
+pub split-requires-clause-few : goal.split-requires-clause-few
+split-requires-clause-few c = subst (λ rs. AreFew (counts_of rs)) (sym c.loop-level.invariant.runs_are) c.requires.few
+
+pub split-requires-clause-parent : goal.split-requires-clause-parent
+split-requires-clause-parent c = c.parent_of-parent.ensures
+
+pub split-requires-clause-slot : goal.split-requires-clause-slot
+split-requires-clause-slot c = c.slot_of-slot.ensures.is
+
+pub split-requires-clause-tree : goal.split-requires-clause-tree
+split-requires-clause-tree c = c.loop-level.invariant.tree
+
+pub split-requires-clause-within : goal.split-requires-clause-within
+split-requires-clause-within c = c.slot_of-slot.ensures.within

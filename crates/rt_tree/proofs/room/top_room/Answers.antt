@@ -43,3 +43,50 @@ split-requires-clause-room c =
 
 pub returns-clause-room : goal.returns-clause-room
 returns-clause-room c = let hv = c.split.ensures.halves in let g = c.grow-top.ensures.grown in omega (arith, c.grow-top.ensures.room, c.split.ensures.room, hv.new, hv.longer, g.new, g.longer)
+
+pub grow-top-requires-clause-exact : goal.grow-top-requires-clause-exact
+grow-top-requires-clause-exact c = c.requires.exact
+
+pub grow-top-requires-clause-few : goal.grow-top-requires-clause-few
+grow-top-requires-clause-few c = c.requires.few
+
+pub grow-top-requires-clause-height : goal.grow-top-requires-clause-height
+grow-top-requires-clause-height c = c.requires.height
+
+pub grow-top-requires-clause-tree : goal.grow-top-requires-clause-tree
+grow-top-requires-clause-tree c = c.requires.tree
+
+pub overflow_add-height : goal.overflow_add-height
+overflow_add-height c = omega (arith, c.requires.height)
+
+pub overflow_add-result : goal.overflow_add-result
+overflow_add-result c = omega (arith, c.requires.height)
+
+pub returns-clause-exact : goal.returns-clause-exact
+returns-clause-exact c = c.split.ensures.exact
+
+pub returns-clause-height : goal.returns-clause-height
+returns-clause-height c = omega arith
+
+pub returns-clause-runs : goal.returns-clause-runs
+returns-clause-runs c = c.split.ensures.runs ∙ c.grow-top.ensures.runs
+
+pub returns-clause-tree : goal.returns-clause-tree
+returns-clause-tree c = c.split.ensures.tree
+
+pub returns-then-len-lt16 : goal.returns-then-len-lt16
+returns-then-len-lt16 c = record {
+  tree = c.requires.tree;
+  exact = c.requires.exact;
+  filled = c.requires.filled;
+  runs = refl;
+  roomy = omega (arith, c.len.ensures.value, c.if-len-lt16.true);
+  height = omega arith;
+  room = refl;
+}
+
+pub split-requires-clause-exact : goal.split-requires-clause-exact
+split-requires-clause-exact c = c.grow-top.ensures.exact
+
+pub split-requires-clause-tree : goal.split-requires-clause-tree
+split-requires-clause-tree c = c.grow-top.ensures.tree

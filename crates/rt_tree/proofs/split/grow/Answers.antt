@@ -1,8 +1,9 @@
 -- The answers of grow.
-use Rattle.std.proofs.Common.{ap}
+use Rattle.std.proofs.Common.{ap, arith}
 use Rattle.rt_tree.specs.Shape.{Memory}
 use Rattle.rt_tree.proofs.NewRoot.{grown, new_root_tree, new_root_exact, new_root_runs}
 use Rattle.rt_tree.proofs.Splits.{small-sum}
+use Rattle.rt_tree.proofs.Raise.{length-rows}
 use Rattle.rt_tree.proofs.split.grow.Goals as goal
 
 pub adds_up-totals-requires-clause-few : goal.adds_up-totals-requires-clause-few
@@ -19,3 +20,12 @@ returns-clause-runs c = new_root_runs c.args.mem.now c.make-new.new.self c.inser
 
 pub returns-clause-grown : goal.returns-clause-grown
 returns-clause-grown c = grown c.args.mem.now c.make-new.new.self c.insert_at.new.self c.set_parent.new.mem c.args.height c.args.root c.make-new.result c.adds_up-totals.result c.requires.tree c.requires.exact c.make-new.ensures.id.0 c.make-new.ensures.id.1 (ap (λ (x : Memory). x.heads) c.make-new.ensures.node) (ap (λ (x : Memory). x.rows) c.make-new.ensures.node) c.adds_up-totals.ensures c.insert_at.ensures c.set_parent.ensures
+
+pub adds_up-totals-requires-clause-node : goal.adds_up-totals-requires-clause-node
+adds_up-totals-requires-clause-node c = (c.requires.tree.root_is, omega (arith, c.requires.tree.root_is, c.requires.tree.same, length-rows c.args.mem.now))
+
+pub overflow_add-level : goal.overflow_add-level
+overflow_add-level c = omega (arith, c.requires.height)
+
+pub returns-clause-room : goal.returns-clause-room
+returns-clause-room c = rw (c.set_parent.ensures, c.insert_at.ensures, c.make-new.ensures.node) (omega (arith, c.requires.room))

@@ -1,8 +1,9 @@
-use Rattle.std.proofs.Common.{◌+◌, ◌/◌, length, take, drop, arith, ap, refl}
+use Rattle.std.proofs.Common.{◌+◌, ◌/◌, length, take, drop, arith, ap, refl, ◌<◌}
 use Rattle.rt_nodes.specs.Nodes.{entries}
 use Rattle.rt_tree.proofs.Adding.{small-is}
 use Rattle.rt_tree.proofs.Splits.{split_kept, split_still, split_halves, split_wider, kids-in, small-front, small-back}
 use Rattle.rt_tree.specs.Changes.{adds_up}
+use Rattle.rt_tree.proofs.Raise.{length-rows}
 use Rattle.rt_tree.proofs.split.split.Goals as goal
 
 pub halve-new-requires-clause-kids : goal.halve-new-requires-clause-kids
@@ -45,3 +46,26 @@ pub returns-clause-still : goal.returns-clause-still
 returns-clause-still c =
     let it = split_still c.args.mem.now c.halve-new.new.mem c.set_entry.new.mem c.insert_at.new.self c.args.height c.args.root.index c.args.node c.halve-new.result c.args.parent (length (entries c.args.mem.now c.args.node.index) / 2) c.args.slot (c.args.slot + 1) c.adds_up-front.result c.adds_up-back.result c.requires.tree c.requires.exact c.requires.node c.requires.parent c.requires.within c.requires.slot c.halve-new.ensures (omega arith) c.adds_up-front.ensures c.adds_up-back.ensures c.set_entry.ensures c.insert_at.ensures in
     it
+
+pub adds_up-back-requires-clause-node : goal.adds_up-back-requires-clause-node
+adds_up-back-requires-clause-node c =
+    let h = c.halve-new.ensures in
+    (omega (arith, h.longer), omega (arith, h.longer, h.same))
+
+pub adds_up-front-requires-clause-node : goal.adds_up-front-requires-clause-node
+adds_up-front-requires-clause-node c =
+    let h = c.halve-new.ensures in
+    let is : c.args.node.index < length c.halve-new.new.mem.heads = omega (arith, h.longer, h.new, c.requires.node.0) in
+    (is, omega (arith, is, h.same))
+
+pub halve-new-requires-clause-node : goal.halve-new-requires-clause-node
+halve-new-requires-clause-node c = (c.requires.node.0, omega (arith, c.requires.node.0, c.requires.tree.same, length-rows c.args.mem.now))
+
+pub halve-new-requires-clause-room : goal.halve-new-requires-clause-room
+halve-new-requires-clause-room c = c.requires.room
+
+pub halve-new-requires-clause-same : goal.halve-new-requires-clause-same
+halve-new-requires-clause-same c = omega (arith, c.requires.tree.same, length-rows c.args.mem.now)
+
+pub returns-clause-room : goal.returns-clause-room
+returns-clause-room c = rw (c.insert_at.ensures, c.set_entry.ensures) c.halve-new.ensures.room

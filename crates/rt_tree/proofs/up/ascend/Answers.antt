@@ -1,6 +1,6 @@
-use Rattle.std.proofs.Common.{◌≡◌, ℕ, refl, arith, sym, ap, ◌∙◌, subst}
+use Rattle.std.proofs.Common.{◌≡◌, ℕ, refl, arith, sym, ap, ◌∙◌, subst, ◌<◌, length}
 use Rattle.rt_nodes.specs.Nodes.{entries}
-use Rattle.rt_tree.specs.Shape.{IsTree, Memory, left_of, level_of, parent_of, runs_before, sum_of}
+use Rattle.rt_tree.specs.Shape.{IsTree, Memory, left_of, level_of, parent_of, runs_before, sum_of, count_of}
 use Rattle.rt_tree.specs.Sums.{AreFew, counts_of, plus}
 use Rattle.rt_tree.proofs.Rising.{Rising, arrives, few-above, few-before, few-own, goes_up, sets_out}
 use Rattle.rt_tree.proofs.Stands.{parted}
@@ -88,3 +88,65 @@ returns-clause-stands g c run here =
     let same = c.first_counts-before.ensures.same in
     let end = arrives (g.L.Looks.nodes c.first_counts-before.new.looks) root (subst (λ n. IsTree n root) (sym same) c.requires.tree) leaf c.args.entry c.loop-node.node.index c.loop-node.before c.loop-node.invariant.rising c.loop-node-test.false in
     parted m root c.requires.tree leaf c.args.entry run c.loop-node.before c.requires.leaf.0.0 c.requires.leaf.1 here (end ∙ ap (λ n. counts_of (runs_before n root leaf c.args.entry)) same)
+
+pub counts_with_left-before-requires-clause-child : goal.counts_with_left-before-requires-clause-child
+counts_with_left-before-requires-clause-child g c =
+    let root = c.args.root.index in
+    let old = c.loop-node.invariant in
+    let m = g.L.Looks.nodes c.first_counts-before.new.looks in
+    let id = c.loop-node.node.index in
+    let tree = subst (λ n. IsTree n root) (sym c.first_counts-before.ensures.same) c.requires.tree in
+    let known = tree.shape.known id old.rising.is c.loop-node-test.true in
+    let parent : c.parent-parent.result.index ≡ parent_of m id = c.parent-parent.ensures ∙ ap (λ n. parent_of n id) old.same in
+    let once : 0 < count_of id (entries m (parent_of m id)) = omega (arith, known.once) in
+    let P : ℕ → Type 0 = λ p. 0 < count_of id (entries m p) in
+    let Q : Memory → Type 0 = λ n. 0 < count_of id (entries n c.parent-parent.result.index) in
+    subst Q (sym old.same) (subst P (sym parent) once)
+
+pub counts_with_left-before-requires-clause-parent : goal.counts_with_left-before-requires-clause-parent
+counts_with_left-before-requires-clause-parent g c =
+    let root = c.args.root.index in
+    let old = c.loop-node.invariant in
+    let m = g.L.Looks.nodes c.first_counts-before.new.looks in
+    let id = c.loop-node.node.index in
+    let tree = subst (λ n. IsTree n root) (sym c.first_counts-before.ensures.same) c.requires.tree in
+    let known = tree.shape.known id old.rising.is c.loop-node-test.true in
+    let parent : c.parent-parent.result.index ≡ parent_of m id = c.parent-parent.ensures ∙ ap (λ n. parent_of n id) old.same in
+    let is : c.parent-parent.result.index < length m.heads = subst (λ p. p < length m.heads) (sym parent) known.is in
+    let Q : Memory → Type 0 = λ n. (c.parent-parent.result.index < length n.heads) × (c.parent-parent.result.index < length n.rows) in
+    subst Q (sym old.same) (is, omega (arith, is, tree.shape.same))
+
+pub first_counts-before-requires-clause-node : goal.first_counts-before-requires-clause-node
+first_counts-before-requires-clause-node g c = c.requires.leaf.0
+
+pub first_counts-before-requires-clause-room : goal.first_counts-before-requires-clause-room
+first_counts-before-requires-clause-room g c = omega (arith, c.requires.room)
+
+pub first_counts-before-requires-clause-within : goal.first_counts-before-requires-clause-within
+first_counts-before-requires-clause-within g c = c.requires.within
+
+pub loop-node-smaller : goal.loop-node-smaller
+loop-node-smaller g c =
+    let root = c.args.root.index in
+    let old = c.loop-node.invariant in
+    let m = g.L.Looks.nodes c.first_counts-before.new.looks in
+    let id = c.loop-node.node.index in
+    let tree = subst (λ n. IsTree n root) (sym c.first_counts-before.ensures.same) c.requires.tree in
+    let known = tree.shape.known id old.rising.is c.loop-node-test.true in
+    let parent : c.parent-parent.result.index ≡ parent_of m id = c.parent-parent.ensures ∙ ap (λ n. parent_of n id) old.same in
+    let most = tree.shape.low (parent_of m id) known.is in
+    omega (arith, ap (level_of m) parent, known.up, most)
+
+pub returns-clause-before : goal.returns-clause-before
+returns-clause-before g c =
+    let root = c.args.root.index in
+    let leaf = c.args.leaf.index in
+    let same = c.first_counts-before.ensures.same in
+    let end = arrives (g.L.Looks.nodes c.first_counts-before.new.looks) root (subst (λ n. IsTree n root) (sym same) c.requires.tree) leaf c.args.entry c.loop-node.node.index c.loop-node.before c.loop-node.invariant.rising c.loop-node-test.false in
+    end ∙ ap (λ n. counts_of (runs_before n root leaf c.args.entry)) same
+
+pub returns-clause-lent : goal.returns-clause-lent
+returns-clause-lent g c = c.loop-node.invariant.lent ∙ c.first_counts-before.ensures.lent
+
+pub returns-clause-same : goal.returns-clause-same
+returns-clause-same g c = c.loop-node.invariant.same ∙ c.first_counts-before.ensures.same
