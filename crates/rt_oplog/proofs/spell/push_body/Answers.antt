@@ -10,3 +10,18 @@ pub returns-in_err-push-in-Tag : goal.returns-in_err-push-in-Tag
 returns-in_err-push-in-Tag c =
     let (y, is, gives) = err_from_is_err_and c.from_residual-in_err-push-in-Tag.result c.from_residual-in_err-push-in-Tag.ensures.1 in
     rw (is, gives) (record { ok = tt; fits = tt; fault = refl })
+
+pub returns-in_err-push_stamp-in-Insert : goal.returns-in_err-push_stamp-in-Insert
+returns-in_err-push_stamp-in-Insert c =
+    let (y, is, gives) = err_from_is_err_and c.from_residual.result c.from_residual.ensures.1 in
+    rw (is, gives) (record { ok = tt; fits = tt; fault = c.in_err-push_stamp-in-Insert.ensures.fault })
+
+pub returns-in_err-push_tags-in-Insert : goal.returns-in_err-push_tags-in-Insert
+returns-in_err-push_tags-in-Insert c =
+    let (y, is, gives) = err_from_is_err_and c.from_residual-in_err-push_tags-in-Insert.result c.from_residual-in_err-push_tags-in-Insert.ensures.1 in
+    rw (is, gives) (record { ok = tt; fits = tt; fault = c.in_err-push_tags-in-Insert.ensures.fault })
+
+pub returns-in_err-push_name-in-Tag : goal.returns-in_err-push_name-in-Tag
+returns-in_err-push_name-in-Tag c =
+    let (y, is, gives) = err_from_is_err_and c.from_residual-in_err-push_name-in-Tag.result c.from_residual-in_err-push_name-in-Tag.ensures.1 in
+    rw (is, gives) (record { ok = tt; fits = tt; fault = c.in_err-push_name-in-Tag.ensures.fault })
