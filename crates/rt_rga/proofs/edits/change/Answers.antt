@@ -15,6 +15,7 @@ use Rattle.rt_rga.proofs.Final.{final_stays}
 use Rattle.rt_rga.proofs.Replicas.{replica_delete, replica_distinct, replica_insert, replica_placed, replica_tag}
 use Rattle.rt_store.specs.Shown.{shown}
 use Rattle.rt_store.specs.Spans.{gone_in_any, is_in_spans}
+use Rattle.rt_tags.specs.States.{KeepsIds, TagStates}
 use Rattle.rt_rga.proofs.edits.change.Goals as goal
 
 pub insert_cells-requires-clause-placed : goal.insert_cells-requires-clause-placed
@@ -102,3 +103,45 @@ returns-in_err-_tag-in-Tag g c =
       same = c.in_err-_tag-in-Tag.ensures.err;
       fault = c.in_err-_tag-in-Tag.ensures.fault;
     })
+
+itself : (t : TagStates) → KeepsIds t t
+itself t = record { tags = λ tag h. (h, refl); states = λ state h. (h, refl) }
+
+pub insert_cells-requires-clause-states : goal.insert_cells-requires-clause-states
+insert_cells-requires-clause-states g c = c.requires.replica.states
+
+pub returns-in_ok-_state-in-Insert-clause-fault : goal.returns-in_ok-_state-in-Insert-clause-fault
+returns-in_ok-_state-in-Insert-clause-fault g c = tt
+
+pub returns-in_ok-_state-in-Insert-clause-ids : goal.returns-in_ok-_state-in-Insert-clause-ids
+returns-in_ok-_state-in-Insert-clause-ids g c = c.insert_cells.ensures.ids
+
+pub returns-in_ok-_state-in-Insert-clause-same : goal.returns-in_ok-_state-in-Insert-clause-same
+returns-in_ok-_state-in-Insert-clause-same g c = tt
+
+pub returns-in_ok-_tag-in-Tag-clause-fault : goal.returns-in_ok-_tag-in-Tag-clause-fault
+returns-in_ok-_tag-in-Tag-clause-fault g c = tt
+
+pub returns-in_ok-_tag-in-Tag-clause-ids : goal.returns-in_ok-_tag-in-Tag-clause-ids
+returns-in_ok-_tag-in-Tag-clause-ids g c = c.tag_cells.ensures.ids
+
+pub returns-in_ok-_tag-in-Tag-clause-same : goal.returns-in_ok-_tag-in-Tag-clause-same
+returns-in_ok-_tag-in-Tag-clause-same g c = tt
+
+pub returns-in_ok-reserve-in-Delete-clause-fault : goal.returns-in_ok-reserve-in-Delete-clause-fault
+returns-in_ok-reserve-in-Delete-clause-fault g c = tt
+
+pub returns-in_ok-reserve-in-Delete-clause-ids : goal.returns-in_ok-reserve-in-Delete-clause-ids
+returns-in_ok-reserve-in-Delete-clause-ids g c = itself c.args.states.now
+
+pub returns-in_ok-reserve-in-Delete-clause-same : goal.returns-in_ok-reserve-in-Delete-clause-same
+returns-in_ok-reserve-in-Delete-clause-same g c = tt
+
+pub set_all_gone-requires-clause-states : goal.set_all_gone-requires-clause-states
+set_all_gone-requires-clause-states g c = rw c.in_ok-reserve-in-Delete.ensures.same c.requires.replica.states
+
+pub tag_cells-requires-clause-few : goal.tag_cells-requires-clause-few
+tag_cells-requires-clause-few g c = omega (arith, c.requires.room)
+
+pub tag_cells-requires-clause-states : goal.tag_cells-requires-clause-states
+tag_cells-requires-clause-states g c = c.requires.replica.states
