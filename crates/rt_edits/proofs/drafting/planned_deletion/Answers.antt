@@ -20,6 +20,7 @@ use Rattle.rt_edits.specs.TagDrafts.{newline_drafts}
 use Rattle.rt_edits.proofs.GoneLaws.{some_visible}
 use Rattle.rt_edits.proofs.PlaceLaws.{places_from_start}
 use Rattle.rt_edits.proofs.Shown.{stamps_at_shown}
+use Rattle.std.proofs.lemmas.Result.{err_from_is_err_and}
 use Rattle.rt_edits.proofs.drafting.planned_deletion.Goals as goal
 use Rattle.rt_edits.proofs.drafting.planned_deletion.Goals.{then-held+in_ok-push_newline, else-held}
 
@@ -79,3 +80,18 @@ returns-clause-drafts g c = λ flat h.
           (λ i. map body_of (w.drafts-is i).items) ∙ deleted ∙ sym (append-nil deletes)
           ∙ ap (λ b. deletes ++ tags (cond b (Some (0 + last)) None)) (sym w.if-held.false ∙ held)
     ]
+
+pub returns-in_err-removed : goal.returns-in_err-removed
+returns-in_err-removed g c =
+    let (y, is, gives) = err_from_is_err_and c.from_residual.result c.from_residual.ensures.1 in
+    rw (is, gives) (record { drafts = tt; places = tt; order = tt; before = tt; held = tt; err = c.in_err-removed.ensures.err })
+
+pub returns-in_err-drafts : goal.returns-in_err-drafts
+returns-in_err-drafts g c =
+    let (y, is, gives) = err_from_is_err_and c.from_residual-in_err-drafts.result c.from_residual-in_err-drafts.ensures.1 in
+    rw (is, gives) (record { drafts = tt; places = tt; order = tt; before = tt; held = tt; err = c.in_err-drafts.ensures.err })
+
+pub returns-in_err-push_newline : goal.returns-in_err-push_newline
+returns-in_err-push_newline g c =
+    let (y, is, gives) = err_from_is_err_and c.from_residual-in_err-push_newline.result c.from_residual-in_err-push_newline.ensures.1 in
+    rw (is, gives) (record { drafts = tt; places = tt; order = tt; before = tt; held = tt; err = c.in_err-push_newline.ensures.err })

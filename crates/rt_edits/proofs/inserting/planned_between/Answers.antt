@@ -52,3 +52,33 @@ returns-clause-plans c = λ sel others tags same.
     subst (λ o. Plans plan sel o tags all) (pieces_others site c.args.pieces.now start)
     (c.in_ok-between.ensures.plans plan c.element_of.result sel tags so_far same (c.in_ok-all.ensures.so_far sel others tags) c.element_of.ensures
     (record { characters = c.len-characters.ensures ∙ new.texts.stamps.ok.0; selected = refl; names = refl; others = refl }))
+
+pub returns-in_err-all-clause-drafts : goal.returns-in_err-all-clause-drafts
+returns-in_err-all-clause-drafts c =
+    let p = err_from_is_err_and c.from_residual.result c.from_residual.ensures.1 in
+    rw p.1 tt
+
+pub returns-in_err-all-clause-plans : goal.returns-in_err-all-clause-plans
+returns-in_err-all-clause-plans c =
+    let p = err_from_is_err_and c.from_residual.result c.from_residual.ensures.1 in
+    rw p.1 tt
+
+pub returns-in_err-all-clause-alone : goal.returns-in_err-all-clause-alone
+returns-in_err-all-clause-alone c =
+    let p = err_from_is_err_and c.from_residual.result c.from_residual.ensures.1 in
+    rw p.1 tt
+
+pub returns-in_err-between-clause-drafts : goal.returns-in_err-between-clause-drafts
+returns-in_err-between-clause-drafts c =
+    let p = err_from_is_err_and c.from_residual-in_err-between.result c.from_residual-in_err-between.ensures.1 in
+    rw p.1 tt
+
+pub returns-in_err-between-clause-plans : goal.returns-in_err-between-clause-plans
+returns-in_err-between-clause-plans c =
+    let p = err_from_is_err_and c.from_residual-in_err-between.result c.from_residual-in_err-between.ensures.1 in
+    rw p.1 tt
+
+pub returns-in_err-between-clause-alone : goal.returns-in_err-between-clause-alone
+returns-in_err-between-clause-alone c =
+    let p = err_from_is_err_and c.from_residual-in_err-between.result c.from_residual-in_err-between.ensures.1 in
+    rw p.1 tt

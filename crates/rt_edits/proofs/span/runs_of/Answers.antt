@@ -1,8 +1,9 @@
-use Rattle.std.proofs.Common.{◌∙◌, ◌+◌, ◌++◌, ap, arith, drop, length, sym}
+use Rattle.std.proofs.Common.{◌∙◌, ◌+◌, ◌++◌, ap, arith, drop, length, sym, refl}
 use Rattle.std.specs.List.{list_all}
 use Rattle.rt_store.specs.Spans.{each_next, is_span, is_clear_of, is_in_spans}
 use Rattle.rt_edits.specs.NamedSpans.{attached, runs}
 use Rattle.rt_edits.proofs.SpanLaws.{extended_more, begun_more, runs_end, held_runs, counted_runs, forward_runs, clear_runs}
+use Rattle.std.proofs.lemmas.Result.{err_from_is_err_and}
 use Rattle.rt_edits.proofs.span.runs_of.Goals as goal
 use Rattle.rt_edits.proofs.span.runs_of.Goals.{then-is_next, else-is_next+in_ok-push}
 
@@ -43,3 +44,13 @@ pub returns-clause-clear : goal.returns-clause-clear
 returns-clause-clear c =
     let all = runs_end c.push-2.new.self.items c.loop-stamp.spans.items c.loop-stamp.span c.in-Some.others.now c.args.stamps.now c.loop-stamp.stamp-index c.in_ok-push-2.ensures.items (omega arith) c.loop-stamp.invariant in
     ap (each_next is_clear_of) all ∙ clear_runs c.args.stamps.now c.requires
+
+pub returns-in_err-push : goal.returns-in_err-push
+returns-in_err-push c =
+    let (y, is, gives) = err_from_is_err_and c.from_residual.result c.from_residual.ensures.1 in
+    rw (is, gives) (record { ok = tt; same = tt; count = tt; forward = tt; clear = tt; err = refl })
+
+pub returns-in_err-push-2 : goal.returns-in_err-push-2
+returns-in_err-push-2 c =
+    let (y, is, gives) = err_from_is_err_and c.from_residual-in_err-push-2.result c.from_residual-in_err-push-2.ensures.1 in
+    rw (is, gives) (record { ok = tt; same = tt; count = tt; forward = tt; clear = tt; err = refl })

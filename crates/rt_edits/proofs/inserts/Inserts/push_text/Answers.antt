@@ -1,4 +1,4 @@
-use Rattle.std.proofs.Common.{◌≡◌, ℕ, ◌∙◌, ◌≤◌, ◌+◌, ◌-◌, ◌++◌, ap, arith, inr, length, map, sym, refl}
+use Rattle.std.proofs.Common.{◌≡◌, ℕ, ◌∙◌, ◌≤◌, ◌+◌, ◌-◌, ◌++◌, ap, arith, inr, length, map, sym, refl, inl}
 use Rattle.std.specs.Prelude.{string_bytes}
 use Rattle.std.proofs.lemmas.Result.{err_from_is_err_and}
 use Rattle.rt_stamps.specs.declared.limits.TheConstants.{GREATEST_COUNT, MOST_CHARACTERS, MOST_TAGS}
@@ -76,3 +76,33 @@ loop-rest-preserved c =
           ∙ sym (behind_more site old.count old.behind names rest part more h is_part is_more)
           ∙ c.loop-rest.invariant.behind;
     }
+
+pub returns-in_err-last_count-clause-drafts : goal.returns-in_err-last_count-clause-drafts
+returns-in_err-last_count-clause-drafts c =
+    let p = err_from_is_err_and c.from_residual.result c.from_residual.ensures.1 in
+    rw p.1 tt
+
+pub returns-in_err-last_count-clause-stamps : goal.returns-in_err-last_count-clause-stamps
+returns-in_err-last_count-clause-stamps c =
+    let p = err_from_is_err_and c.from_residual.result c.from_residual.ensures.1 in
+    rw p.1 tt
+
+pub returns-in_err-last_count-clause-count : goal.returns-in_err-last_count-clause-count
+returns-in_err-last_count-clause-count c =
+    let p = err_from_is_err_and c.from_residual.result c.from_residual.ensures.1 in
+    rw p.1 tt
+
+pub returns-in_err-last_count-clause-within : goal.returns-in_err-last_count-clause-within
+returns-in_err-last_count-clause-within c =
+    let p = err_from_is_err_and c.from_residual.result c.from_residual.ensures.1 in
+    rw p.1 tt
+
+pub returns-in_err-last_count-clause-behind : goal.returns-in_err-last_count-clause-behind
+returns-in_err-last_count-clause-behind c =
+    let p = err_from_is_err_and c.from_residual.result c.from_residual.ensures.1 in
+    rw p.1 tt
+
+pub returns-in_err-push_part : goal.returns-in_err-push_part
+returns-in_err-push_part c =
+    let (y, is, gives) = err_from_is_err_and c.from_residual-in_err-push_part.result c.from_residual-in_err-push_part.ensures.1 in
+    rw (is, gives) (record { drafts = tt; stamps = tt; count = tt; within = tt; behind = tt; err = inl c.in_err-push_part.ensures.err })

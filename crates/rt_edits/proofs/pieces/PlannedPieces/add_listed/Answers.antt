@@ -1,4 +1,4 @@
-use Rattle.std.proofs.Common.{◌≡◌, ◌∙◌, ◌+◌, ◌≤◌, ◌++◌, [], Some, ap, sym, map, length}
+use Rattle.std.proofs.Common.{◌≡◌, ◌∙◌, ◌+◌, ◌≤◌, ◌++◌, [], Some, ap, sym, map, length, inl}
 use Rattle.std.specs.Prelude.{string_bytes}
 use Rattle.std.specs.Str.{chars}
 use Rattle.rt_tags.specs.Tags.{is_listed, sel}
@@ -10,6 +10,7 @@ use Rattle.rt_edits.specs.Insertions.{counts_for, selected_if, shared_names, tag
 use Rattle.rt_edits.specs.Selections.{with_stamps}
 use Rattle.rt_edits.proofs.PieceLaws.{added_listed, no_drafts, none_in, none_listed}
 use Rattle.rt_edits.proofs.PlanLaws.{some_in}
+use Rattle.std.proofs.lemmas.Result.{err_from_is_err_and}
 use Rattle.rt_edits.proofs.pieces.PlannedPieces.add_listed.Goals as goal
 
 pub returns-then-is_empty-clause-drafts : goal.returns-then-is_empty-clause-drafts
@@ -50,3 +51,33 @@ returns-clause-so_far c = λ after selection listed so_far h.
     ∙ (λ i. selected_if ((c.names_sel.ensures ∙ ap (is_listed sel) c.tags-2.ensures) i) (stamps i) (with_stamps (c.add_text.ensures.selected i).items selection)))
     (ap Some named)
     h
+
+pub returns-in_err-text : goal.returns-in_err-text
+returns-in_err-text c =
+    let (y, is, gives) = err_from_is_err_and c.from_residual.result c.from_residual.ensures.1 in
+    rw (is, gives) (record { drafts = tt; so_far = tt; within = tt; err = inl c.in_err-text.ensures.err })
+
+pub returns-in_err-names : goal.returns-in_err-names
+returns-in_err-names c =
+    let (y, is, gives) = err_from_is_err_and c.from_residual-in_err-names.result c.from_residual-in_err-names.ensures.1 in
+    rw (is, gives) (record { drafts = tt; so_far = tt; within = tt; err = inl c.in_err-names.ensures.err })
+
+pub returns-in_err-select : goal.returns-in_err-select
+returns-in_err-select c =
+    let (y, is, gives) = err_from_is_err_and c.from_residual-in_err-select.result c.from_residual-in_err-select.ensures.1 in
+    rw (is, gives) (record { drafts = tt; so_far = tt; within = tt; err = inl c.in_err-select.ensures.err })
+
+pub returns-in_err-stamps-clause-drafts : goal.returns-in_err-stamps-clause-drafts
+returns-in_err-stamps-clause-drafts c =
+    let p = err_from_is_err_and c.from_residual-in_err-stamps.result c.from_residual-in_err-stamps.ensures.1 in
+    rw p.1 tt
+
+pub returns-in_err-stamps-clause-so_far : goal.returns-in_err-stamps-clause-so_far
+returns-in_err-stamps-clause-so_far c =
+    let p = err_from_is_err_and c.from_residual-in_err-stamps.result c.from_residual-in_err-stamps.ensures.1 in
+    rw p.1 tt
+
+pub returns-in_err-stamps-clause-within : goal.returns-in_err-stamps-clause-within
+returns-in_err-stamps-clause-within c =
+    let p = err_from_is_err_and c.from_residual-in_err-stamps.result c.from_residual-in_err-stamps.ensures.1 in
+    rw p.1 tt

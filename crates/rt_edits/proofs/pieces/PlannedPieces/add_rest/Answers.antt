@@ -116,3 +116,13 @@ returns-clause-plans c = λ plan after listed so_far h a p.
     ∙ (λ i. selected_if (flag i) ((c.deref-3.ensures.value ∙ stamps) i) (with_stamps (c.add_text.ensures.selected i).items selection)))
     p.names
     (λ other. ap (λ o. selected_between o other) p.others ∙ (λ i. selected_if (sym (both other) i) (stamps i) other))
+
+pub returns-in_err-stamps-clause-drafts : goal.returns-in_err-stamps-clause-drafts
+returns-in_err-stamps-clause-drafts c =
+    let p = err_from_is_err_and c.from_residual-in_err-stamps.result c.from_residual-in_err-stamps.ensures.1 in
+    rw p.1 tt
+
+pub returns-in_err-stamps-clause-plans : goal.returns-in_err-stamps-clause-plans
+returns-in_err-stamps-clause-plans c =
+    let p = err_from_is_err_and c.from_residual-in_err-stamps.result c.from_residual-in_err-stamps.ensures.1 in
+    rw p.1 tt
