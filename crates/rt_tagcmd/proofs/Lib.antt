@@ -7,4 +7,5 @@ pub mod RangeWalks
 pub mod Runs
 pub mod TagChecks
 pub mod TagFinds
+pub mod TagOrders
 pub mod TagRangeLaws

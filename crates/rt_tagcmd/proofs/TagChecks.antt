@@ -6,17 +6,17 @@ use Rattle.rt_stamps.specs.Outcomes.{Refuses, first_of, unless}
 
 -- CHECKS IN TURN
 
-both_none : (xs ys : List (Option Fault)) → first_of xs ≡ None → first_of ys ≡ None → first_of (xs ++ ys) ≡ None
+pub both_none : (xs ys : List (Option Fault)) → first_of xs ≡ None → first_of ys ≡ None → first_of (xs ++ ys) ≡ None
 both_none [] ys h k = k
 both_none (None ∷ xs) ys h k = both_none xs ys h k
 both_none (Some f ∷ xs) ys h k = h
 
-first_some : (xs ys : List (Option Fault)) (fault : Fault) → first_of xs ≡ Some fault → first_of (xs ++ ys) ≡ Some fault
+pub first_some : (xs ys : List (Option Fault)) (fault : Fault) → first_of xs ≡ Some fault → first_of (xs ++ ys) ≡ Some fault
 first_some [] ys fault h = let bad : ⊥ = cc in absurd bad
 first_some (None ∷ xs) ys fault h = first_some xs ys fault h
 first_some (Some f ∷ xs) ys fault h = h
 
-second_some : (xs ys : List (Option Fault)) (fault : Fault) → first_of xs ≡ None → first_of ys ≡ Some fault → first_of (xs ++ ys) ≡ Some fault
+pub second_some : (xs ys : List (Option Fault)) (fault : Fault) → first_of xs ≡ None → first_of ys ≡ Some fault → first_of (xs ++ ys) ≡ Some fault
 second_some [] ys fault h k = k
 second_some (None ∷ xs) ys fault h k = second_some xs ys fault h k
 second_some (Some f ∷ xs) ys fault h k = let bad : ⊥ = cc in absurd bad

@@ -1,4 +1,4 @@
-use Rattle.std.proofs.Common.{◌≡◌, ◌∙◌, ◌++◌, ap, sym, subst, map}
+use Rattle.std.proofs.Common.{◌≡◌, ◌∙◌, ◌++◌, ap, sym, subst, map, refl}
 use Rattle.rt_edits.specs.Flat.{Flat}
 use Rattle.rt_marks.specs.Marks.{AreInOrder, with_mark}
 use Rattle.rt_marks.specs.Seen.{spotted}
@@ -7,6 +7,7 @@ use Rattle.rt_tagcmd.specs.Looking.{edge}
 use Rattle.rt_tagcmd.specs.MarkLists.{marks_left}
 use Rattle.rt_tagcmd.proofs.LookingLaws.{all_named, no_current, shown_marks}
 use Rattle.rt_tagcmd.proofs.MarkListLaws.{all_in_order, left_first}
+use Rattle.std.proofs.lemmas.Result.{err_from_is_err_and}
 use Rattle.rt_tagcmd.proofs.mark_list.marks_between.Goals as goal
 
 pub next_before-requires-clause-other : goal.next_before-requires-clause-other
@@ -29,3 +30,8 @@ loop-spot-init g c =
     let marks = shown_marks view c.doc.result.now c.doc.ensures c.marks-marks.ensures.site c.own_spot-insert.ensures.name c.own_spot-current.ensures.name in
     left_first c.args.from c.args.behind (marks_of view) (all_named view marks)
     ∙ ap (λ v. map spotted v ++ marks_left c.args.behind (edge c.args.from) (marks_of view)) (sym c.new-spots.ensures.items)
+
+pub returns-in_err-push : goal.returns-in_err-push
+returns-in_err-push g c =
+    let (y, is, gives) = err_from_is_err_and c.from_residual.result c.from_residual.ensures.1 in
+    rw (is, gives) (record { ok = tt; err = refl })
