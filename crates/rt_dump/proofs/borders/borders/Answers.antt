@@ -1,10 +1,11 @@
-use Rattle.std.proofs.Common.{◌≡◌, ◌∙◌, ◌++◌, ap, map, sym, flat_map}
+use Rattle.std.proofs.Common.{◌≡◌, ◌∙◌, ◌++◌, ap, map, sym, flat_map, refl}
 use Rattle.std.specs.Prelude.{string_bytes}
 use Rattle.std.proofs.lemmas.List.{take_all}
 use Rattle.rt_edits.specs.Flat.{Flat}
 use Rattle.rt_dump.specs.Dumping.{ends_of, starts_of}
 use Rattle.rt_dump.specs.Stretches.{within}
 use Rattle.rt_dump.proofs.Pushing.{flat_over}
+use Rattle.std.proofs.lemmas.Result.{err_from_is_err_and}
 use Rattle.rt_dump.proofs.borders.borders.Goals as goal
 
 pub returns-clause-ok : goal.returns-clause-ok
@@ -17,3 +18,18 @@ returns-clause-ok g c =
     let ends = ap (λ v. within s (flat_map (λ w. ends_of view (string_bytes w)) v)) all ∙ ap (within s) (sym (flat_over (ends_of view) (λ w. string_bytes w) names) ∙ ap (flat_map (ends_of view)) tags) in
     let starts = ap (λ v. within s (flat_map (λ w. starts_of view (string_bytes w)) v)) all ∙ ap (within s) (sym (flat_over (starts_of view) (λ w. string_bytes w) names) ∙ ap (flat_map (starts_of view)) tags) in
     c.in_ok-append.ensures.items ∙ (λ i. (c.loop-name.invariant.ends ∙ ends) i ++ (c.loop-name.invariant.starts ∙ starts) i)
+
+pub returns-in_err-names : goal.returns-in_err-names
+returns-in_err-names g c =
+    let (y, is, gives) = err_from_is_err_and c.from_residual.result c.from_residual.ensures.1 in
+    rw (is, gives) (record { ok = tt; err = c.in_err-names.ensures.fault })
+
+pub returns-in_err-push_tag : goal.returns-in_err-push_tag
+returns-in_err-push_tag g c =
+    let (y, is, gives) = err_from_is_err_and c.from_residual-in_err-push_tag.result c.from_residual-in_err-push_tag.ensures.1 in
+    rw (is, gives) (record { ok = tt; err = c.in_err-push_tag.ensures.err })
+
+pub returns-in_err-append : goal.returns-in_err-append
+returns-in_err-append g c =
+    let (y, is, gives) = err_from_is_err_and c.from_residual-in_err-append.result c.from_residual-in_err-append.ensures.1 in
+    rw (is, gives) (record { ok = tt; err = refl })

@@ -1,4 +1,4 @@
-use Rattle.std.proofs.Common.{◌≡◌, ◌∙◌, ◌≤◌, Bool, true, List, None, length, ap, arith, subst, sym}
+use Rattle.std.proofs.Common.{◌≡◌, ◌∙◌, ◌≤◌, Bool, true, List, None, length, ap, arith, subst, sym, refl}
 use Rattle.std.specs.List.{AllByRecursion}
 use Rattle.rt_stamps.specs.declared.stamp.Stamp.{Stamp}
 use Rattle.rt_rga.specs.Cells.{cells_of}
@@ -21,6 +21,7 @@ use Rattle.rt_recorder.proofs.Named.{history_kept, history_stays}
 use Rattle.rt_recorder.proofs.Settling.{if_both, if_checked, on_both, told}
 use Rattle.rt_recorder.proofs.Told.{IsReturned}
 use Rattle.rt_recorder.proofs.recorder.Recorder.revert.Given.{Over}
+use Rattle.std.proofs.lemmas.Result.{err_from_is_err_and}
 use Rattle.rt_recorder.proofs.recorder.Recorder.revert.Goals as goal
 
 -- what the reversion tells, where it is made
@@ -115,3 +116,133 @@ returns-clause-history g c =
     ap (named_history table) c.reserve.ensures.history
     ∙ history_kept s.table table c.revert.ensures.ids s.stacks.history c.self.invariant.given
     ∙ ap (λ (v : Recording). v.history) c.self.view_is
+
+pub returns-in_err-most-clause-view : goal.returns-in_err-most-clause-view
+returns-in_err-most-clause-view g c =
+    let p = err_from_is_err_and c.from_residual.result c.from_residual.ensures.1 in
+    rw p.1 tt
+
+pub returns-in_err-most-clause-checked : goal.returns-in_err-most-clause-checked
+returns-in_err-most-clause-checked g c =
+    let p = err_from_is_err_and c.from_residual.result c.from_residual.ensures.1 in
+    rw p.1 tt
+
+pub returns-in_err-most-clause-returns : goal.returns-in_err-most-clause-returns
+returns-in_err-most-clause-returns g c =
+    let p = err_from_is_err_and c.from_residual.result c.from_residual.ensures.1 in
+    rw p.1 tt
+
+pub returns-in_err-most-clause-first_times : goal.returns-in_err-most-clause-first_times
+returns-in_err-most-clause-first_times g c =
+    let p = err_from_is_err_and c.from_residual.result c.from_residual.ensures.1 in
+    rw p.1 tt
+
+pub returns-in_err-most-clause-others : goal.returns-in_err-most-clause-others
+returns-in_err-most-clause-others g c =
+    let p = err_from_is_err_and c.from_residual.result c.from_residual.ensures.1 in
+    rw p.1 tt
+
+pub returns-in_err-most-clause-actions : goal.returns-in_err-most-clause-actions
+returns-in_err-most-clause-actions g c =
+    let p = err_from_is_err_and c.from_residual.result c.from_residual.ensures.1 in
+    rw p.1 tt
+
+pub returns-in_err-most-clause-given : goal.returns-in_err-most-clause-given
+returns-in_err-most-clause-given g c =
+    let p = err_from_is_err_and c.from_residual.result c.from_residual.ensures.1 in
+    rw p.1 tt
+
+pub returns-in_err-most-clause-sound : goal.returns-in_err-most-clause-sound
+returns-in_err-most-clause-sound g c =
+    let p = err_from_is_err_and c.from_residual.result c.from_residual.ensures.1 in
+    rw p.1 tt
+
+pub returns-in_err-most-clause-stay : goal.returns-in_err-most-clause-stay
+returns-in_err-most-clause-stay g c =
+    let p = err_from_is_err_and c.from_residual.result c.from_residual.ensures.1 in
+    rw p.1 tt
+
+pub returns-in_err-most-clause-gone : goal.returns-in_err-most-clause-gone
+returns-in_err-most-clause-gone g c =
+    let p = err_from_is_err_and c.from_residual.result c.from_residual.ensures.1 in
+    rw p.1 tt
+
+pub returns-in_err-most-clause-ready : goal.returns-in_err-most-clause-ready
+returns-in_err-most-clause-ready g c =
+    let p = err_from_is_err_and c.from_residual.result c.from_residual.ensures.1 in
+    rw p.1 tt
+
+pub returns-in_err-most-clause-room : goal.returns-in_err-most-clause-room
+returns-in_err-most-clause-room g c =
+    let p = err_from_is_err_and c.from_residual.result c.from_residual.ensures.1 in
+    rw p.1 tt
+
+pub returns-in_err-most-clause-unchanged : goal.returns-in_err-most-clause-unchanged
+returns-in_err-most-clause-unchanged g c =
+    let p = err_from_is_err_and c.from_residual.result c.from_residual.ensures.1 in
+    rw p.1 refl
+
+pub returns-in_err-reserve-clause-view : goal.returns-in_err-reserve-clause-view
+returns-in_err-reserve-clause-view g c =
+    let p = err_from_is_err_and c.from_residual-in_err-reserve.result c.from_residual-in_err-reserve.ensures.1 in
+    rw p.1 tt
+
+pub returns-in_err-reserve-clause-checked : goal.returns-in_err-reserve-clause-checked
+returns-in_err-reserve-clause-checked g c =
+    let p = err_from_is_err_and c.from_residual-in_err-reserve.result c.from_residual-in_err-reserve.ensures.1 in
+    rw p.1 tt
+
+pub returns-in_err-reserve-clause-returns : goal.returns-in_err-reserve-clause-returns
+returns-in_err-reserve-clause-returns g c =
+    let p = err_from_is_err_and c.from_residual-in_err-reserve.result c.from_residual-in_err-reserve.ensures.1 in
+    rw p.1 tt
+
+pub returns-in_err-reserve-clause-first_times : goal.returns-in_err-reserve-clause-first_times
+returns-in_err-reserve-clause-first_times g c =
+    let p = err_from_is_err_and c.from_residual-in_err-reserve.result c.from_residual-in_err-reserve.ensures.1 in
+    rw p.1 tt
+
+pub returns-in_err-reserve-clause-others : goal.returns-in_err-reserve-clause-others
+returns-in_err-reserve-clause-others g c =
+    let p = err_from_is_err_and c.from_residual-in_err-reserve.result c.from_residual-in_err-reserve.ensures.1 in
+    rw p.1 tt
+
+pub returns-in_err-reserve-clause-actions : goal.returns-in_err-reserve-clause-actions
+returns-in_err-reserve-clause-actions g c =
+    let p = err_from_is_err_and c.from_residual-in_err-reserve.result c.from_residual-in_err-reserve.ensures.1 in
+    rw p.1 tt
+
+pub returns-in_err-reserve-clause-given : goal.returns-in_err-reserve-clause-given
+returns-in_err-reserve-clause-given g c =
+    let p = err_from_is_err_and c.from_residual-in_err-reserve.result c.from_residual-in_err-reserve.ensures.1 in
+    rw p.1 tt
+
+pub returns-in_err-reserve-clause-sound : goal.returns-in_err-reserve-clause-sound
+returns-in_err-reserve-clause-sound g c =
+    let p = err_from_is_err_and c.from_residual-in_err-reserve.result c.from_residual-in_err-reserve.ensures.1 in
+    rw p.1 tt
+
+pub returns-in_err-reserve-clause-stay : goal.returns-in_err-reserve-clause-stay
+returns-in_err-reserve-clause-stay g c =
+    let p = err_from_is_err_and c.from_residual-in_err-reserve.result c.from_residual-in_err-reserve.ensures.1 in
+    rw p.1 tt
+
+pub returns-in_err-reserve-clause-gone : goal.returns-in_err-reserve-clause-gone
+returns-in_err-reserve-clause-gone g c =
+    let p = err_from_is_err_and c.from_residual-in_err-reserve.result c.from_residual-in_err-reserve.ensures.1 in
+    rw p.1 tt
+
+pub returns-in_err-reserve-clause-ready : goal.returns-in_err-reserve-clause-ready
+returns-in_err-reserve-clause-ready g c =
+    let p = err_from_is_err_and c.from_residual-in_err-reserve.result c.from_residual-in_err-reserve.ensures.1 in
+    rw p.1 tt
+
+pub returns-in_err-reserve-clause-room : goal.returns-in_err-reserve-clause-room
+returns-in_err-reserve-clause-room g c =
+    let p = err_from_is_err_and c.from_residual-in_err-reserve.result c.from_residual-in_err-reserve.ensures.1 in
+    rw p.1 tt
+
+pub returns-in_err-reserve-clause-unchanged : goal.returns-in_err-reserve-clause-unchanged
+returns-in_err-reserve-clause-unchanged g c =
+    let p = err_from_is_err_and c.from_residual-in_err-reserve.result c.from_residual-in_err-reserve.ensures.1 in
+    rw p.1 refl
