@@ -1,6 +1,5 @@
 // The selected characters of a widget.
-ghost use Rattle.std.specs.Prelude.{◌≡◌, ◌+◌, ◌<◌, ◌≤◌, ◌&&◌, not, true, [], ◌∷◌, All, IfOk, IfErr, OnOk, length, map};
-ghost use Rattle.rt_edits.specs.Insertions.{selected_if};
+ghost use Rattle.std.specs.Prelude.{◌≡◌, ◌+◌, ◌<◌, ◌≤◌, not, [], ◌∷◌, IfOk, IfErr, OnOk, length};
 ghost use Rattle.rt_edits.specs.Selected.{stamps_in, room_in};
 ghost use Rattle.rt_edits.specs.Selections.{with_stamp, with_stamps, unselected};
 ghost use Rattle.rt_store.specs.Spans.{is_among};
@@ -92,74 +91,5 @@ impl Selection {
         ensures room { room_in self.old ≤ room_in self.new }
     {
         self.stamps.retain(|other| is_another(stamp, *other));
-    }
-
-    // Whether both characters are selected.
-    fn has_both(&self, left: Stamp, right: Stamp) -> bool
-        ensures { result ≡ (is_among (stamps_in self.now) left && is_among (stamps_in self.now) right) }
-    {
-        self.has(left) && self.has(right)
-    }
-
-    // Makes room for more stamps where both characters are selected.
-    fn reserve_if(&mut self, left: Stamp, right: Stamp, more: usize) -> Result<(), Fault>
-        ensures same { stamps_in self.new ≡ stamps_in self.old }
-        ensures room { OnOk result ((is_among (stamps_in self.new) left && is_among (stamps_in self.new) right) ≡ true → more ≤ room_in self.new) }
-        ensures err { IfErr result (λ fault. fault ≡ Fault.NoMemory) }
-    {
-        if self.has_both(left, right) {
-            self.reserve(more)?;
-        }
-        Ok(())
-    }
-
-    // Selects characters where both others are selected, within the room that there is.
-    fn add_if(&mut self, left: Stamp, right: Stamp, stamps: &[Stamp])
-        requires { (is_among (stamps_in self.old) left && is_among (stamps_in self.old) right) ≡ true → length stamps.now ≤ room_in self.old }
-        ensures { stamps_in self.new ≡ selected_if (is_among (stamps_in self.old) left
-            && is_among (stamps_in self.old) right) stamps.now (stamps_in self.old) }
-    {
-        if self.has_both(left, right) {
-            self.add(stamps);
-        }
-    }
-}
-
-/// Makes room for more stamps in each selection that has two characters.
-pub fn reserve_between(
-    selections: &mut [Selection],
-    left: Stamp,
-    right: Stamp,
-    more: usize,
-) -> Result<(), Fault>
-    ensures same { map stamps_in selections.new ≡ map stamps_in selections.old }
-    ensures room { OnOk result (All (λ selection. (is_among (stamps_in selection) left && is_among (stamps_in selection) right) ≡ true
-        → more ≤ room_in selection) selections.new) }
-    ensures err { IfErr result (λ fault. fault ≡ Fault.NoMemory) }
-{
-    for i in 0..selections.len() {
-        selections[i].reserve_if(left, right, more)?;
-    }
-    Ok(())
-}
-
-/// Selects characters in each selection that has two others, within the room that there is.
-pub fn add_between(selections: &mut [Selection], left: Stamp, right: Stamp, stamps: &[Stamp])
-    requires { All (λ selection. (is_among (stamps_in selection) left && is_among (stamps_in selection) right) ≡ true
-        → length stamps.now ≤ room_in selection) selections.old }
-    ensures { map stamps_in selections.new ≡ map (λ selection. selected_if (is_among selection left
-        && is_among selection right) stamps.now selection) (map stamps_in selections.old) }
-{
-    for i in 0..selections.len() {
-        selections[i].add_if(left, right, stamps);
-    }
-}
-
-/// Takes a character out of each selection. It takes no memory.
-pub fn remove_from_each(selections: &mut [Selection], stamp: Stamp)
-    ensures { map stamps_in selections.new ≡ map (unselected (stamp ∷ [])) (map stamps_in selections.old) }
-{
-    for i in 0..selections.len() {
-        selections[i].remove_one(stamp);
     }
 }

@@ -1,6 +1,5 @@
 // Selected characters.
 use rt_edits::Selection;
-use rt_edits::selection::{add_between, remove_from_each, reserve_between};
 use rt_stamps::Stamp;
 use std::process::Abort;
 use std::test::Fail;
@@ -37,23 +36,5 @@ fn stamps_of_a_selection(rt: HostRuntime) -> Result<(), Fail> {
     selection.remove_one(stamp(2));
     has_exactly(&rt, &selection, [false, false, false, false, true]);
     has_exactly(&rt, &other, [true, false, true, true, false]);
-    Ok(())
-}
-
-// New characters are selected where both neighbours are.
-#[test]
-fn between_selected_neighbours(rt: HostRuntime) -> Result<(), Fail> {
-    let alloc = rt.alloc();
-    let (left, right) = (stamp(1), stamp(4));
-    let both = Selection::of(alloc, &[left, right])?;
-    let one = Selection::of(alloc, &[left])?;
-    let mut selections = [both, one];
-    reserve_between(&mut selections, left, right, 2)?;
-    add_between(&mut selections, left, right, &[stamp(2), stamp(3)]);
-    has_exactly(&rt, &selections[0], [true, true, true, true, false]);
-    has_exactly(&rt, &selections[1], [true, false, false, false, false]);
-    remove_from_each(&mut selections, left);
-    has_exactly(&rt, &selections[0], [false, true, true, true, false]);
-    has_exactly(&rt, &selections[1], [false, false, false, false, false]);
     Ok(())
 }
