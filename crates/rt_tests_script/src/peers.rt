@@ -93,6 +93,19 @@ pub(crate) const OWN_PARTS: &[&[(&str, &str)]] = &[
         (".p mark unset m", "="),
         (".t index m", "! 2 BadIndex"),
     ],
+    // New characters are selected where both neighbours are.
+    &[
+        (".t insert 1.0 abcd", "="),
+        (".t peer create .p", "= .p"),
+        (".p tag add sel 1.0 1.2", "="),
+        (".t insert 1.1 XY", "="),
+        (".p tag ranges sel", "= 1.0 1.4"),
+        (".t tag ranges sel", "="),
+        (".t insert 1.4 Z", "="),
+        (".p tag ranges sel", "= 1.0 1.4"),
+        (".t delete 1.0", "="),
+        (".p tag ranges sel", "= 1.0 1.3"),
+    ],
 ];
 
 // What all widgets share.
