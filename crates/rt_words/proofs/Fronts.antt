@@ -1,5 +1,6 @@
 -- Fronts of texts.
-use Rattle.std.proofs.Common.{◌≡◌, ℕ, ◌+◌, suc, List, [], ◌∷◌, ◌++◌, take, drop, sym, ◌∙◌, ap, arith, take-append-drop}
+use Rattle.std.proofs.Common.{◌≡◌, ℕ, ◌+◌, ◌<◌, suc, Bool, true, List, [], ◌∷◌, ◌++◌, take, drop, length, get_or, refl, sym, ◌∙◌, ap, arith, take-append-drop}
+use Rattle.std.specs.List.{prefix_len}
 use Rattle.rt_words.specs.FirstWord.{BeginsWith}
 
 pub heads : (c d : ℕ) (x y : List ℕ) → c ∷ x ≡ d ∷ y → (c ≡ d) × (x ≡ y)
@@ -14,3 +15,8 @@ begins (d ∷ text) c h = ap (λ z. z ∷ text) h.1
 
 pub whole_twice : (text : List ℕ) (m n : ℕ) → take m text ++ drop m text ≡ take n text ++ drop n text
 whole_twice text m n = take-append-drop m text ∙ sym (take-append-drop n text)
+
+-- the characters of a kind that a text begins with, where the first is known to be one
+pub past_first : (p : ℕ → Bool) (text : List ℕ) → 0 < length text → p (get_or text 0 0) ≡ true → 1 + prefix_len p (drop 1 text) ≡ prefix_len p text
+past_first p [] l h = absurd (omega arith)
+past_first p (c ∷ text) l h = rw h refl

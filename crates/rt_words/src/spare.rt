@@ -5,9 +5,10 @@ ghost use Rattle.rt_words.specs.declared.spare.TheConstants.{MOST_WORDS};
 use std::alloc::Global;
 use std::marker::Model;
 
-// How many words' memory is kept, and how many bytes of each at most.
-const MOST_WORDS: usize = 16;
+/// How many words' memory is kept at most.
+pub const MOST_WORDS: usize = 16;
 
+// And how many bytes of each.
 const MOST_WORD_BYTES: usize = 64;
 
 // The memory of a word grows to twice what it had at most, or to what it needs: that of the words of

@@ -226,7 +226,7 @@ fn bare_word(separators: Separators, text: &str, word: &mut String) -> Result<us
     ensures ok { IfOk result (λ len. IsFirstWord (separates separators) text.now len (string_bytes word.new)) }
     ensures fault { IfErr result (λ fault. fault ≡ Fault.NoMemory) }
 {
-    let len = bare_len(separators, text.as_bytes());
+    let len = dark_len(separators, text.as_bytes());
     word.push_str(&text[..len])?;
     Ok(len)
 }
@@ -256,6 +256,15 @@ fn bare_len(separators: Separators, text: &[u8]) -> usize
         Separators::OfLine => text.iter().take_while(|c| is_dark(**c)).count(),
         Separators::OfList => text.iter().take_while(|c| !is_list_blank(**c)).count(),
     }
+}
+
+// The same, of a text that begins with no separator: its first character needs no look.
+fn dark_len(separators: Separators, text: &[u8]) -> usize
+    requires some { 0 < length text.now }
+    requires dark { separates separators (slice_index text.now 0) ≡ false }
+    ensures { result ≡ prefix_len (λ c. not (separates separators c)) text.now }
+{
+    1 + bare_len(separators, &text[1..])
 }
 
 // How many characters a text has before its first quote or backslash.
