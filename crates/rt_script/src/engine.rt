@@ -4,6 +4,7 @@ ghost use Rattle.std.specs.List.{list_all, prefix_len};
 ghost use Rattle.rt_stamps.specs.Lines.{cut, without_return, is_blank, is_readable, is_silent, complete_of, rest_of, last_of, lines_of};
 ghost use Rattle.rt_stamps.specs.Source.{failures_of};
 ghost use Rattle.rt_stamps.specs.Written.{Wrote};
+ghost use Rattle.rt_words.specs.declared.spare.TheConstants.{MOST_WORDS};
 ghost use Rattle.rt_script.specs.Pieces.{is_inner, kept, RanLine, RanLines};
 ghost use Rattle.rt_script.specs.Replies.{reply_line};
 ghost use Rattle.rt_script.specs.Run.{LineGives, Ends};
@@ -17,7 +18,7 @@ use rt_stamps::{Fault, Sink, Source, is_blank, read_piece, write_all};
 use rt_words::Spare;
 use rt_words::words::words_in;
 use std::alloc::Global;
-use std::marker::Brand;
+use std::marker::{Brand, Model};
 use std::sync::ledger::{Blank, Ledger};
 use std::{mem, str};
 
@@ -38,11 +39,24 @@ const MOST_KEPT_BYTES: usize = MOST_LINE_BYTES + 2;
 // How many bytes of memory are kept for the lines of answers.
 const MOST_ANSWER_BYTES: usize = 4_096;
 
-// Memory that is kept from line to line: of words, and of an answer's line. What is kept shows nowhere.
+// Memory that is kept from line to line: of at most `MOST_WORDS` words, and of an answer's line. What is kept shows
+// nowhere.
 #[derive(Drop)]
 struct Memory {
     words: Spare,
     answer: Vec<u8>,
+}
+
+impl Model for Memory {
+    ghost use Rattle.std.specs.Prelude.{ℕ, ◌≤◌};
+    ghost use Rattle.rt_words.specs.declared.spare.TheConstants.{MOST_WORDS};
+
+    ghost Value = { ℕ };
+
+    // how many words' memory is kept
+    ghost view = { λ s. s.words };
+
+    ghost invariant = { λ s. s.words ≤ MOST_WORDS };
 }
 
 impl Memory {
@@ -109,7 +123,8 @@ fn is_silent(line: &[u8]) -> bool
 
 // What the words of a line are answered.
 fn answer_text<C: Commands>(alloc: Global, spare: &mut Spare, site: &mut C, text: &str) -> Answer
-    ensures { is_readable text.now ≡ true → LineGives C.gives (C.state site.old) text.now result (C.state site.new) }
+    ensures gives { is_readable text.now ≡ true → LineGives C.gives (C.state site.old) text.now result (C.state site.new) }
+    ensures few { spare.new ≤ MOST_WORDS }
 {
     let answer = match words_in(alloc, spare, text) {
         Ok(words) => site.run_words(words),
@@ -126,9 +141,11 @@ fn answer_line<C: Commands>(
     site: &mut C,
     line: &[u8],
 ) -> Option<Answer>
+    requires { spare.old ≤ MOST_WORDS }
     ensures answered { IfSome result (λ answer. (is_readable line.now && is_silent line.now ≡ false)
         × LineGives C.gives (C.state site.old) line.now answer (C.state site.new)) }
     ensures silent { result ≡ None → (is_readable line.now && is_silent line.now ≡ true) × (C.state site.new ≡ C.state site.old) }
+    ensures few { spare.new ≤ MOST_WORDS }
 {
     let text = match readable(line) {
         Some(text) => text,
