@@ -55,22 +55,34 @@ fn send(from: &SiteState, to: &mut SiteState) -> Result<(), Fault> {
     }
 }
 
+// Each edits what both had.
+fn edit_apart(alloc: Global, anna: &mut SiteState, ben: &mut SiteState) -> Result<(), Fault> {
+    insert(alloc, anna, "1.0", "buy ")?;
+    delete(alloc, ben, "1.6", "1.end")?;
+    insert(alloc, ben, "1.end", "butter")
+}
+
+// Each gives the other its operations.
+fn exchange(anna: &mut SiteState, ben: &mut SiteState) -> Result<(), Fault> {
+    send(anna, ben)?;
+    send(ben, anna)
+}
+
+// Prints what each has.
+fn show(rt: &HostRuntime, anna: &mut SiteState, ben: &mut SiteState) -> anyhow::Result<()> {
+    println!(rt; "Anna has: {}", line(rt.alloc(), anna)?)?;
+    println!(rt; "Ben has: {}", line(rt.alloc(), ben)?)?;
+    Ok(())
+}
+
 fn main(rt: HostRuntime) -> anyhow::Result<()> {
     let alloc = rt.alloc();
     let mut anna = new_site(alloc, 1)?;
     let mut ben = new_site(alloc, 2)?;
     insert(alloc, &mut anna, "1.0", "milk, bread")?;
     send(&anna, &mut ben)?;
-
-    insert(alloc, &mut anna, "1.0", "buy ")?;
-    delete(alloc, &mut ben, "1.6", "1.end")?;
-    insert(alloc, &mut ben, "1.end", "butter")?;
-    println!(rt; "Anna has: {}", line(alloc, &mut anna)?)?;
-    println!(rt; "Ben has: {}", line(alloc, &mut ben)?)?;
-
-    send(&anna, &mut ben)?;
-    send(&ben, &mut anna)?;
-    println!(rt; "Anna has: {}", line(alloc, &mut anna)?)?;
-    println!(rt; "Ben has: {}", line(alloc, &mut ben)?)?;
-    Ok(())
+    edit_apart(alloc, &mut anna, &mut ben)?;
+    show(&rt, &mut anna, &mut ben)?;
+    exchange(&mut anna, &mut ben)?;
+    show(&rt, &mut anna, &mut ben)
 }
