@@ -7,14 +7,16 @@ ghost use Rattle.rt_store.specs.Tagged.{AreStates};
 ghost use Rattle.rt_edits.specs.Listed.{AreListed};
 ghost use Rattle.rt_store.specs.Shown.{shown};
 
-use crate::characters::{last_with, next_with};
+use crate::characters::{last_within, next_within};
 use crate::{OwnMark, Widget};
 use rt_index::Ground;
 use rt_marks::Marks;
 use rt_store::TextStore;
 use rt_tags::{StateTable, TagTable};
+use rt_views::Stretch;
 
-/// A widget with the text, the marks and the tags of its site.
+/// A widget with the text, the marks and the tags of its site, the stretch of the text that it shows, and
+/// the line of the whole text where that begins.
 #[derive(Drop)]
 pub(crate) struct WidgetGround<'a, S: TextStore> {
     pub store: &'a S,
@@ -22,6 +24,8 @@ pub(crate) struct WidgetGround<'a, S: TextStore> {
     pub states: &'a StateTable,
     pub tags: &'a TagTable,
     pub widget: &'a Widget,
+    pub stretch: Stretch,
+    pub first: usize,
     ghost given: { AreStates states.now (S.list store.now) },
     ghost listed: { AreListed tags.now.names (map (shown states.now) (S.list store.now)) },
     ghost text: { text_of (map (shown states.now) (S.list store.now)) ≡ text_of (S.list store.now) },
@@ -39,36 +43,41 @@ impl<'a, S: TextStore> Ground for WidgetGround<'a, S> {
     ghost use Rattle.std.specs.Prelude.{map};
     ghost use Rattle.rt_store.specs.Shown.{shown};
 
-    ghost widget = { λ g. widget_over (map (shown g.states.now) (S.list g.store.now)) g.marks.now g.tags.now.names g.widget.now };
+    ghost widget = { λ g. widget_over g.stretch (map (shown g.states.now) (S.list g.store.now)) g.marks.now g.tags.now.names g.widget.now };
 
     fn len(&self) -> usize {
-        self.store.visible()
+        self.stretch.end - self.stretch.begin
     }
 
     fn lines(&self) -> usize {
-        self.store.lines()
+        self.store.line_of(self.stretch.end - 1) - self.first + 1
     }
 
     fn char_at(&self, place: usize) -> char {
-        self.store.char_at(place)
+        self.store.char_at(self.stretch.begin + place)
     }
 
     fn characters(&self, place: usize, buffer: &mut [char]) -> usize {
-        self.store.characters(place, buffer)
+        let count = buffer.len().min(self.len().saturating_sub(place));
+        self.store.characters(
+            self.stretch.begin.saturating_add(place),
+            &mut buffer[..count],
+        )
     }
 
     fn line_start(&self, line: usize) -> usize {
-        self.store.line_start(line)
+        self.store.line_start(line + self.first - 1) - self.stretch.begin
     }
 
     fn line_of(&self, place: usize) -> usize {
-        self.store.line_of(place)
+        self.store.line_of(self.stretch.begin + place) - self.first + 1
     }
 
     fn mark(&self, name: &str) -> Option<usize> {
         match OwnMark::of(name) {
-            Some(which) => Some(self.widget.place(which)),
-            None => self.marks.place(name),
+            Some(OwnMark::Insert) => Some(self.stretch.cursor(self.widget.place(OwnMark::Insert))),
+            Some(which) => Some(self.stretch.place(self.widget.place(which))),
+            None => Some(self.stretch.place(self.marks.place(name)?)),
         }
     }
 
@@ -81,12 +90,13 @@ impl<'a, S: TextStore> Ground for WidgetGround<'a, S> {
             return None;
         }
         let widget = self.widget;
-        next_with(
+        next_within(
             self.store,
             self.states,
             &widget.parts.selection,
             name,
             true,
+            self.stretch,
             0,
         )
     }
@@ -96,7 +106,13 @@ impl<'a, S: TextStore> Ground for WidgetGround<'a, S> {
             return None;
         }
         let widget = self.widget;
-        let last = last_with(self.store, self.states, &widget.parts.selection, name)?;
+        let last = last_within(
+            self.store,
+            self.states,
+            &widget.parts.selection,
+            name,
+            self.stretch,
+        )?;
         Some(last + 1)
     }
 

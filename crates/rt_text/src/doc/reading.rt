@@ -4,13 +4,15 @@ ghost use Rattle.rt_stamps.specs.Places.{position_at};
 ghost use Rattle.rt_store.specs.Cells.{text_of};
 ghost use Rattle.rt_store.specs.Shown.{shown};
 ghost use Rattle.rt_text.specs.Widgets.{IsOwnOf};
+ghost use Rattle.rt_views.specs.Stretches.{part, stretch_of};
 
 use super::Doc;
 use crate::Widget;
 use crate::ground::WidgetGround;
-use crate::index::position_at;
+use crate::index::position_within;
 use rt_stamps::{Position, Site};
 use rt_store::TextStore;
+use rt_views::Limits;
 
 impl<S: TextStore> Doc<S> {
     // What index expressions see of the document on a widget.
@@ -20,14 +22,18 @@ impl<S: TextStore> Doc<S> {
         ensures marks { result.marks.now ≡ self.now.marks }
         ensures tags { result.tags.now.names ≡ self.now.tags }
         ensures own { result.widget.now ≡ widget.now }
+        ensures stretch { result.stretch ≡ stretch_of self.now.cells widget.now.limits }
     {
         let (store, states) = self.kept();
+        let stretch = widget.limits().stretch(store);
         WidgetGround {
             store,
             marks: &self.marks,
             states,
             tags: &self.tags,
             widget,
+            stretch,
+            first: store.line_of(stretch.begin),
         }
     }
 
@@ -61,12 +67,12 @@ impl<S: TextStore> Doc<S> {
         store.visible()
     }
 
-    /// The line and the character of a place, which is at most the text's end.
-    pub fn position(&self, place: usize) -> Position
-        requires { place ≤ length (text_of self.now.cells) }
-        ensures { result ≡ position_at (text_of self.now.cells) place }
+    // The line and the character of a place of what stands between limits, which is at most its end.
+    pub(crate) fn position(&self, limits: Limits, place: usize) -> Position
+        requires { place ≤ length (part (stretch_of self.now.cells limits) (text_of self.now.cells)) }
+        ensures { result ≡ position_at (part (stretch_of self.now.cells limits) (text_of self.now.cells)) place }
     {
         let (store, _) = self.kept();
-        position_at(store, place)
+        position_within(store, limits.stretch(store), place)
     }
 }
