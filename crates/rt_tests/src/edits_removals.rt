@@ -3,6 +3,8 @@ use crate::store::Text;
 use rt_edits::Range;
 use rt_edits::removal::removed_ranges;
 use rt_stamps::Fault;
+use rt_store::TextStore;
+use rt_views::Stretch;
 use std::alloc::Global;
 use std::process::Abort;
 use std::test::Fail;
@@ -30,7 +32,12 @@ fn removes(
     ranges: &[Range],
     removed: &[Range],
 ) -> Result<(), Fail> {
-    let found = removed_ranges(alloc, &text_of(alloc, text)?.store, ranges)?;
+    let text_of = text_of(alloc, text)?;
+    let all = Stretch {
+        begin: 0,
+        end: text_of.store.visible(),
+    };
+    let found = removed_ranges(alloc, &text_of.store, all, ranges)?;
     assert_eq!(rt; found.as_slice(), removed, "in {text}");
     Ok(())
 }

@@ -11,6 +11,8 @@ mod edits_removals;
 #[cfg(test)]
 mod edits_selections;
 #[cfg(test)]
+mod limited;
+#[cfg(test)]
 mod rga_make;
 #[cfg(test)]
 mod rga_orders;

@@ -7,15 +7,17 @@ ghost use Rattle.rt_text.specs.Commands.{cell_check, clock_check, with_pieces_at
 ghost use Rattle.rt_edits.specs.DeletionLaws.{IsPiece};
 ghost use Rattle.rt_text.specs.Parts.{own_in};
 ghost use Rattle.std.specs.List.{AllByRecursion};
+ghost use Rattle.rt_views.specs.Stretches.{shown_part};
 
 use super::Doc;
 use crate::Widget;
 use crate::moving::{move_back, unselect_last};
+use crate::neighbours::{left_of, shows_both, stamp_or_root};
 use crate::others::{insert_each, leave_each};
 use crate::parts::Parts;
 use crate::preparing::{list_tags, make_room, select_between};
 use rt_edits::drafting::planned_deletion;
-use rt_edits::inserting::planned_insertion;
+use rt_edits::inserting::planned_between;
 use rt_edits::{Piece, Range};
 use rt_stamps::Fault;
 use rt_store::TextStore;
@@ -30,7 +32,7 @@ impl<S: TextStore> Doc<S> {
         pieces: &[Piece],
         rest: &str,
     ) -> Result<(), Fault>
-        requires place { place < length (visible_of self.old.cells) }
+        requires place { place < length (shown_part self.old.cells widget.old.limits) }
         requires pieces { All IsPiece pieces.now }
         requires own { IsOwnOf (length (text_of self.old.cells)) widget.old }
         requires others { AllByRecursion (IsOwnOf (length (text_of self.old.cells))) (map own_in others.old) }
@@ -48,17 +50,34 @@ impl<S: TextStore> Doc<S> {
         let site = self.replica.site();
         let count = self.replica.clock().seen();
         let (store, states) = self.kept();
-        let selection = &widget.parts.selection;
-        let plan = planned_insertion(
-            self.alloc, store, states, site, count, selection, place, pieces, rest,
+        let limits = widget.limits();
+        let at = limits.stretch(store).begin + place;
+        let behind = left_of(store, at);
+        let left = if place == 0 { None } else { behind };
+        let right = if shows_both(store, &[], limits, at, pieces) {
+            Some(store.cell_at(at))
+        } else {
+            None
+        };
+        let plan = planned_between(
+            self.alloc,
+            states,
+            site,
+            count,
+            &widget.parts.selection,
+            stamp_or_root(behind),
+            left,
+            right,
+            pieces,
+            rest,
         )?;
         make_room(&mut self.tags, &mut widget.parts.selection, others, &plan)?;
         let _made = self.replica.make(plan.drafts)?;
-        self.marks.inserted(place, plan.characters);
+        self.marks.inserted(at, plan.characters);
         widget.parts.selection.add(&plan.selected);
-        widget.inserted(place, plan.characters);
+        widget.inserted(at, plan.characters);
         select_between(others, &plan.between);
-        insert_each(others, place, plan.characters);
+        insert_each(others, at, plan.characters);
         list_tags(&mut self.tags, &plan.names);
         Ok(())
     }
@@ -82,12 +101,14 @@ impl<S: TextStore> Doc<S> {
         ensures others { AllByRecursion (IsOwnOf (length (text_of self.new.cells))) (map own_in others.new) }
     {
         let (store, states) = self.kept();
-        let deletion = planned_deletion(self.alloc, store, states, ranges)?;
+        let stretch = widget.limits().stretch(store);
+        let last = store.cell_at(stretch.end - 1).stamp;
+        let deletion = planned_deletion(self.alloc, store, states, stretch, ranges)?;
         let _made = self.replica.make(deletion.drafts)?;
         move_back(&mut self.marks, &deletion.removed);
         widget.leave(&deletion.removed);
         leave_each(others, &deletion.removed);
-        unselect_last(deletion.held, widget, others);
+        unselect_last(deletion.held, last, widget, others);
         Ok(())
     }
 }

@@ -15,6 +15,7 @@ ghost use Rattle.std.specs.List.{AllByRecursion};
 use super::Doc;
 use crate::Widget;
 use crate::moving::{move_back, unselect};
+use crate::neighbours::{shows_both, stamp_or_root};
 use crate::others::{insert_each, leave_each};
 use crate::parts::Parts;
 use crate::preparing::{list_tags, make_room, select_between};
@@ -75,18 +76,26 @@ impl<S: TextStore> Doc<S> {
         let site = self.replica.site();
         let count = self.replica.clock().seen();
         let (store, states) = self.kept();
-        let mut deletion = planned_deletion(self.alloc, store, states, &[range])?;
+        let limits = widget.limits();
+        let stretch = limits.stretch(store);
+        let mut deletion = planned_deletion(self.alloc, store, states, stretch, &[range])?;
         let count = count_after(count, deletion.drafts.len())?;
-        let last = place_after(&deletion.removed, store.visible() - 1);
-        let place = range.from.min(last);
-        let left = left_after(store, &deletion.removed, place);
-        let right = right_after(store, &deletion.removed, deletion.held, place);
+        let last = place_after(&deletion.removed, stretch.end - 1);
+        let at = stretch.begin.saturating_add(range.from).min(last);
+        let behind = left_after(store, &deletion.removed, at);
+        let left = if at == stretch.begin { None } else { behind };
+        let right = if shows_both(store, &deletion.removed, limits, at, pieces) {
+            right_after(store, &deletion.removed, deletion.held, at)
+        } else {
+            None
+        };
         let mut plan = planned_between(
             self.alloc,
             states,
             site,
             count,
             &widget.parts.selection,
+            stamp_or_root(behind),
             left,
             right,
             pieces,
@@ -96,7 +105,7 @@ impl<S: TextStore> Doc<S> {
         Ok(Replacement {
             removed: deletion.removed,
             held: deletion.held,
-            place,
+            place: at - stretch.begin,
             drafts: deletion.drafts,
             plan,
         })
@@ -125,20 +134,23 @@ impl<S: TextStore> Doc<S> {
         ensures own { IsOwnOf (length (text_of self.new.cells)) widget.new }
         ensures others { AllByRecursion (IsOwnOf (length (text_of self.new.cells))) (map own_in others.new) }
     {
-        let _ = self.kept();
+        let (store, _) = self.kept();
+        let stretch = widget.limits().stretch(store);
+        let last = store.cell_at(stretch.end - 1).stamp;
         let planned = self.planned_replacement(widget, range, pieces, rest)?;
+        let at = stretch.begin + planned.place;
         let plan = planned.plan;
         make_room(&mut self.tags, &mut widget.parts.selection, others, &plan)?;
         let _made = self.replica.make(planned.drafts)?;
-        unselect(planned.held, &mut widget.parts.selection, others);
+        unselect(planned.held, last, &mut widget.parts.selection, others);
         widget.parts.selection.add(&plan.selected);
         select_between(others, &plan.between);
         move_back(&mut self.marks, &planned.removed);
         widget.leave(&planned.removed);
         leave_each(others, &planned.removed);
-        self.marks.inserted(planned.place, plan.characters);
-        widget.inserted(planned.place, plan.characters);
-        insert_each(others, planned.place, plan.characters);
+        self.marks.inserted(at, plan.characters);
+        widget.inserted(at, plan.characters);
+        insert_each(others, at, plan.characters);
         list_tags(&mut self.tags, &plan.names);
         Ok(())
     }

@@ -25,7 +25,7 @@ impl<S: TextStore> View<S> {
     {
         check_names(pieces)?;
         let place = self.place(index)?;
-        let place = place.min(self.doc.visible() - 1);
+        let place = place.min(self.visible() - 1);
         self.doc
             .insert_at(&mut self.widget, &mut self.others, place, pieces, rest)
     }
