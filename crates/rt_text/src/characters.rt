@@ -1,7 +1,7 @@
 // The tags of characters on a widget.
 ghost use Rattle.std.specs.Prelude.{◌≡◌, ◌≤◌, length, take, true, false, not, if◌then◌else◌};
 ghost use Rattle.rt_store.specs.Cells.{visible_of};
-ghost use Rattle.rt_store.specs.Tagged.{AreStates, last_place, next_place};
+ghost use Rattle.rt_store.specs.Tagged.{last_place, next_place};
 ghost use Rattle.rt_tags.specs.States.{IsState};
 ghost use Rattle.rt_edits.specs.Selected.{stamps_in};
 ghost use Rattle.rt_store.specs.Spans.{is_among};
@@ -86,7 +86,7 @@ fn next_with<S: TextStore>(
     on: bool,
     place: usize,
 ) -> Option<usize>
-    requires { AreStates states.now (S.list store.now) }
+    requires { S.agrees store.now states.now }
     ensures { result ≡ next_place (λ cell. if on then is_tagged_in (stamps_in selection.now) name.now (shown states.now cell) else not
         (is_tagged_in (stamps_in selection.now) name.now (shown states.now cell))) (visible_of (S.list store.now)) place }
 {
@@ -110,7 +110,7 @@ pub(crate) fn next_within<S: TextStore>(
     stretch: Stretch,
     place: usize,
 ) -> Option<usize>
-    requires states { AreStates states.now (S.list store.now) }
+    requires states { S.agrees store.now states.now }
     requires stretch { stretch.end ≤ length (visible_of (S.list store.now)) }
     ensures { result ≡ next_place (λ cell. if on then is_tagged_in (stamps_in selection.now) name.now (shown states.now cell) else not
         (is_tagged_in (stamps_in selection.now) name.now (shown states.now cell))) (part stretch (visible_of (S.list store.now))) place }
@@ -147,7 +147,7 @@ fn last_before<S: TextStore>(
     name: &str,
     end: usize,
 ) -> Option<usize>
-    requires states { AreStates states.now (S.list store.now) }
+    requires states { S.agrees store.now states.now }
     requires end { end ≤ length (visible_of (S.list store.now)) }
     ensures { result ≡ last_place (λ cell. is_tagged_in (stamps_in selection.now) name.now (shown states.now cell)) (take end (visible_of (S.list store.now))) }
 {
@@ -168,7 +168,7 @@ pub(crate) fn last_within<S: TextStore>(
     name: &str,
     stretch: Stretch,
 ) -> Option<usize>
-    requires states { AreStates states.now (S.list store.now) }
+    requires states { S.agrees store.now states.now }
     requires stretch { stretch.end ≤ length (visible_of (S.list store.now)) }
     ensures { result ≡ last_place (λ cell. is_tagged_in (stamps_in selection.now) name.now (shown states.now cell))
         (part stretch (visible_of (S.list store.now))) }

@@ -4,13 +4,12 @@ ghost use Rattle.rt_marks.specs.Marks.{IsName, named};
 ghost use Rattle.rt_stamps.specs.declared.limits.TheConstants.{MOST_CELLS};
 ghost use Rattle.rt_stamps.specs.Places.{line_of};
 ghost use Rattle.rt_store.specs.Cells.{text_of};
-ghost use Rattle.rt_store.specs.Tagged.{AreStates};
 ghost use Rattle.rt_edits.specs.Listed.{AreListed};
 ghost use Rattle.rt_store.specs.Shown.{shown};
 ghost use Rattle.rt_text.specs.Lines.{AreLines};
 
 use crate::characters::{last_within, next_within};
-use crate::{OwnMark, Widget};
+use crate::{Doc, OwnMark, Widget};
 use rt_index::Ground;
 use rt_marks::Marks;
 use rt_store::TextStore;
@@ -21,6 +20,7 @@ use rt_views::Stretch;
 /// the line of the whole text where that begins.
 #[derive(Drop)]
 pub(crate) struct WidgetGround<'a, S: TextStore> {
+    pub doc: &'a Doc<S>,
     pub store: &'a S,
     pub marks: &'a Marks,
     pub states: &'a StateTable,
@@ -28,7 +28,7 @@ pub(crate) struct WidgetGround<'a, S: TextStore> {
     pub widget: &'a Widget,
     pub stretch: Stretch,
     pub first: usize,
-    ghost given: { AreStates states.now (S.list store.now) },
+    ghost same: { doc.now.cells ≡ map (shown states.now) (S.list store.now) },
     ghost listed: { AreListed tags.now.names (map (shown states.now) (S.list store.now)) },
     ghost text: { text_of (map (shown states.now) (S.list store.now)) ≡ text_of (S.list store.now) },
     ghost few: { length (text_of (map (shown states.now) (S.list store.now))) ≤ MOST_CELLS },
@@ -90,9 +90,10 @@ impl<'a, S: TextStore> Ground for WidgetGround<'a, S> {
             return None;
         }
         let widget = self.widget;
+        let (store, states) = self.doc.kept();
         next_within(
-            self.store,
-            self.states,
+            store,
+            states,
             &widget.parts.selection,
             name,
             true,
@@ -106,9 +107,10 @@ impl<'a, S: TextStore> Ground for WidgetGround<'a, S> {
             return None;
         }
         let widget = self.widget;
+        let (store, states) = self.doc.kept();
         let last = last_within(
-            self.store,
-            self.states,
+            store,
+            states,
             &widget.parts.selection,
             name,
             self.stretch,

@@ -41,6 +41,7 @@ impl<S: TextStore> Doc<S> {
         let (store, states) = self.kept();
         let stretch = widget.limits().stretch(store);
         WidgetGround {
+            doc: self,
             store,
             marks: &self.marks,
             states,

@@ -34,7 +34,7 @@ invariant_of-result g c =
     let ends = g.met.S.TextStore.ends c.kept.result.0.now in
     let stretch = c.stretch-stretch.result in
     record {
-      given = c.kept.ensures.states;
+      same = sym c.kept.ensures.cells;
       listed = subst (λ (seen : List TaggedCell). AreListed c.self.inside.tags.names seen) cells c.self.invariant.listed;
       text = text;
       few = omega (arith, many, text_within kept, c.kept.ensures.most, c.kept.ensures.few);
