@@ -8,6 +8,7 @@ pub mod Deletions
 pub mod ExchangeLaws
 pub mod FollowingLaws
 pub mod InsertedDocument
+pub mod InsertedSides
 pub mod KeptDocument
 pub mod LimitedDeletions
 pub mod LimitedTags

@@ -3,7 +3,7 @@ use Rattle.std.proofs.Common.{◌≡◌, ◌≢◌, ℕ, zero, suc, ◌+◌, ◌
 use Rattle.std.proofs.lemmas.Bool.Decides.{nat_tests}
 use Rattle.std.specs.Prelude.{Some, slice_get, nat_lt}
 use Rattle.std.specs.List.{list_any}
-use Rattle.rt_text.specs.Neighbours.{ends_with_newline}
+use Rattle.rt_text.specs.Neighbours.{ends_behind, ends_with_newline}
 use Rattle.rt_stamps.specs.Places.{EndsWithNewline, is_newline, newlines, after_newlines, line_of, line_start, line_end}
 
 -- NEWLINES
@@ -122,6 +122,15 @@ last_counted c [] = by (is_newline c)
     by true = refl
     by false = refl
 last_counted c (d ∷ new) = next_count (is_newline c) (newlines (d ∷ new)) (newlines (take (length new) (d ∷ new))) (cond (ends_with_newline (d ∷ new)) 1 0) (last_counted d new)
+
+-- whether they end with one is told by the last of them
+pub ends_push : (before : Bool) (text : List ℕ) (c : ℕ) → ends_behind before (text ++ c ∷ []) ≡ is_newline c
+ends_push before [] c = refl
+ends_push before (d ∷ text) c = ends_push (is_newline d) text c
+
+pub ends_append : (before : Bool) (xs ys : List ℕ) → ends_behind before (xs ++ ys) ≡ ends_behind (ends_behind before xs) ys
+ends_append before [] ys = refl
+ends_append before (c ∷ xs) ys = ends_append (is_newline c) xs ys
 
 -- there is one where they have one
 pub some_counted : (new : List ℕ) → nat_lt 0 (newlines new) ≡ list_any is_newline new

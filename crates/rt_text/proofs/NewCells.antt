@@ -1,5 +1,5 @@
 -- The cells of new text: they are visible, and their stamps are new.
-use Rattle.std.proofs.Common.{◌≡◌, ℕ, zero, suc, ◌+◌, ◌<◌, ◌≤◌, List, [], ◌∷◌, ◌++◌, true, false, length, map, flat_map, take, drop, refl, sym, ap, subst, ◌∙◌, arith, append-nil, append_assoc}
+use Rattle.std.proofs.Common.{◌≡◌, ℕ, zero, suc, ◌+◌, ◌<◌, ◌≤◌, List, [], ◌∷◌, ◌++◌, true, false, cond, not, length, map, flat_map, take, drop, refl, sym, ap, subst, ◌∙◌, arith, append-nil, append_assoc}
 use Rattle.std.specs.List.{AllByRecursion}
 use Rattle.std.specs.Str.{chars}
 use Rattle.std.proofs.lemmas.Bool.{or_from}
@@ -21,7 +21,7 @@ use Rattle.rt_text.specs.Neighbours.{pieces_text}
 -- a cell is visible, and its stamp is of a site and has a count behind another
 pub record IsNew (count site : ℕ) (cell : TaggedCell) : Type 0 where
   pub above : count < cell.stamp.count
-  pub site : cell.stamp.site ≡ site
+  pub from : cell.stamp.site ≡ site
   pub there : cell.gone ≡ false
 
 abbrev pub AreNew : ℕ → ℕ → List TaggedCell → Type 0
@@ -33,7 +33,7 @@ both_new count site (x ∷ xs) ys h k = (h.0, both_new count site xs ys h.1 k)
 
 from_new : (count site n : ℕ) (state : List Write) (text : List ℕ) → count < n → AreNew count site (cells_from n site state text)
 from_new count site n state [] h = tt
-from_new count site n state (c ∷ text) h = (record { above = h; site = refl; there = refl }, from_new count site (n + 1) state text (omega arith))
+from_new count site n state (c ∷ text) h = (record { above = h; from = refl; there = refl }, from_new count site (n + 1) state text (omega arith))
 
 inserts_new : (inserts site count start : ℕ) (names : List Word) (text : List ℕ) → start ≤ count → AreNew start site (cells_of_inserts inserts site count names text)
 inserts_new zero site count start names text h = tt
@@ -76,7 +76,7 @@ pieces_are site (piece ∷ pieces) so_far =
 -- they are all visible
 pub all_there : (count site : ℕ) (cells : List TaggedCell) → AreNew count site cells → visible_of cells ≡ cells
 all_there count site [] h = refl
-all_there count site (x ∷ xs) h = rw h.0.there (ap (λ l. x ∷ l) (all_there count site xs h.1))
+all_there count site (x ∷ xs) h = ap (λ b. cond (not b) (x ∷ visible_of xs) (visible_of xs)) h.0.there ∙ ap (λ l. x ∷ l) (all_there count site xs h.1)
 
 pub there_counted : (count site : ℕ) (cells : List TaggedCell) → AreNew count site cells → length (text_of cells) ≡ length cells
 there_counted count site cells h = length-map (visible_of cells) (λ (cell : TaggedCell). cell.ch) ∙ ap length (all_there count site cells h)
@@ -87,5 +87,5 @@ pub none_new : {T : Type 0} (count site : ℕ) (cells : List (Cell T)) (new : Li
 none_new count site cells [] s below real h k = refl
 none_new count site cells (x ∷ new) s below real h k =
     let apart : is_among (stamps_of cells) x.stamp ≡ false =
-    ap (λ n. is_among (stamps_of cells) (record { count = x.stamp.count; site = n })) h.0.site ∙ new_apart count x.stamp.count site cells below h.0.above real in
+    ap (λ n. is_among (stamps_of cells) (record { count = x.stamp.count; site = n })) h.0.from ∙ new_apart count x.stamp.count site cells below h.0.above real in
     or_from _ (is_among (stamps_of new) s) (differs x.stamp s (stamps_of cells) apart k) (none_new count site cells new s below real h.1 k)

@@ -3,9 +3,9 @@ use Rattle.std.proofs.Common.{◌≡◌, ℕ, zero, suc, ◌+◌, ◌-◌, ◌<�
 use Rattle.std.specs.Prelude.{IfSome, is_some, nat_le, nat_lt, option_and_then, option_map, slice_get, unwrap_or}
 use Rattle.std.specs.List.{IsDistinct}
 use Rattle.std.proofs.lemmas.Bool.{and_parts, le-ltb, lt-ltb}
-use Rattle.std.proofs.lemmas.List.{length-map, slice_get-map}
+use Rattle.std.proofs.lemmas.List.{length-map}
 use Rattle.std.proofs.lemmas.Map.Keys.{IsDistinct-head, IsDistinct-tail}
-use Rattle.std.proofs.lemmas.Option.{slice_get_cases}
+use Rattle.std.proofs.lemmas.Option.{slice_get-map, slice_get_cases}
 use Rattle.rt_stamps.specs.declared.stamp.Stamp.{Stamp}
 use Rattle.rt_stamps.specs.declared.stamp.TheConstants.{ROOT}
 use Rattle.rt_stamps.specs.Places.{EndsWithNewline, is_newline, line_end, line_of, line_start, newlines}
@@ -129,7 +129,7 @@ pub record ArePut (cells new : List TaggedCell) (count site at : ℕ) : Type 0 w
   pub distinct : IsDistinct is_same (ROOT ∷ stamps_of cells)
   pub below : AreBelowNext count cells
   pub real : 1 ≤ site
-  pub new : AreNew count site new
+  pub fresh : AreNew count site new
   pub within : at < length (text_of cells)
 
 module _ (cells new : List TaggedCell) (count site at : ℕ) (put : ArePut cells new count site at) where
@@ -149,19 +149,19 @@ module _ (cells new : List TaggedCell) (count site at : ℕ) (put : ArePut cells
   text_put = text_inserted cells new at put.distinct put.within
 
   size : length (visible_of new) ≡ k
-  size = ap length (all_there count site new put.new)
+  size = ap length (all_there count site new put.fresh)
 
   place_put : (limit : Option Stamp) → is_newline_of cells limit ≡ true → option_and_then (place_of cells') limit ≡ option_map (moved_by at k) (option_and_then (place_of cells) limit)
   place_put None h = refl
   place_put (Some s) h =
-      let none = none_new count site cells new s put.below put.real put.new (newline_among cells s h) in
+      let none = none_new count site cells new s put.below put.real put.fresh (newline_among cells s h) in
       place_moved (take (after_element cells (left_of cells at)) cells) new (drop (after_element cells (left_of cells at)) cells) s at k cut.seen size none (cut.before s)
       ∙ ap (λ (l : List TaggedCell). option_map (moved_by at k) (place_of l s)) (take-append-drop (after_element cells (left_of cells at)) cells)
 
   gone_put : (limit : Option Stamp) → is_newline_of cells limit ≡ true → gone_by cells' limit ≡ gone_by cells limit
   gone_put None h = refl
   gone_put (Some s) h =
-      let none = none_new count site cells new s put.below put.real put.new (newline_among cells s h) in
+      let none = none_new count site cells new s put.below put.real put.fresh (newline_among cells s h) in
       ap (λ (o : Option TaggedCell). unwrap_or (option_map (λ cell. cell.gone) o) false)
       (cell_more (take (after_element cells (left_of cells at)) cells) new (drop (after_element cells (left_of cells at)) cells) s none
       ∙ ap (λ (l : List TaggedCell). cell_of l s) (take-append-drop (after_element cells (left_of cells at)) cells))
@@ -177,7 +177,7 @@ module _ (cells new : List TaggedCell) (count site at : ℕ) (put : ArePut cells
       let q = option_and_then (place_of cells) limits.end in
       let gone = gone_by cells limits.start in
       let both = and_parts (is_newline_of cells limits.start) (is_newline_of cells limits.end) valid in
-      let many : length u ≡ k = there_counted count site new put.new in
+      let many : length u ≡ k = there_counted count site new put.fresh in
       let ends = ends_text cells put.ends in
       let last : last_line cells' limits ≡ last_at (put_in at u t) (option_map (moved_by at (length u)) q) =
       last_by cells' limits ∙ (λ i. last_at (text_put i) (place_put limits.end both.1 i)) ∙ ap (λ x. last_at (put_in at u t) (option_map (moved_by at x) q)) (sym many) in

@@ -1,8 +1,7 @@
 // The neighbours of text that is inserted, as a widget shows them.
-ghost use Rattle.std.specs.Prelude.{◌≡◌, ◌≤◌, ◌&&◌, ◌||◌, Bool, not, length, option_and_then, option_map, unwrap_or};
+ghost use Rattle.std.specs.Prelude.{◌≡◌, ◌==◌, ◌≤◌, ◌<◌, ◌||◌, [], None, not, length, option_map, slice_get, unwrap_or, if◌then◌else◌};
 ghost use Rattle.std.specs.List.{list_any};
 ghost use Rattle.std.specs.Str.{chars};
-ghost use Rattle.rt_marks.specs.Marks.{place_left};
 ghost use Rattle.rt_stamps.specs.declared.stamp.TheConstants.{ROOT};
 ghost use Rattle.rt_stamps.specs.Places.{is_newline};
 ghost use Rattle.rt_store.specs.Cells.{visible_of};
@@ -30,8 +29,8 @@ pub(crate) fn left_of<S: TextStore>(store: &S, place: usize) -> Option<Cell<Stat
 }
 
 /// The element behind which text goes that has a left neighbour, or none.
-pub(crate) fn stamp_or_root(left: Option<Cell<StateId>>) -> Stamp
-    ensures { result ≡ unwrap_or (option_map (λ cell. cell.stamp) left) ROOT }
+pub(crate) fn stamp_or_root(left: &Option<Cell<StateId>>) -> Stamp
+    ensures { result ≡ unwrap_or (option_map (λ cell. cell.stamp) left.now) ROOT }
 {
     match left {
         Some(cell) => cell.stamp,
@@ -145,4 +144,35 @@ pub(crate) fn shows_both<S: TextStore>(
     let begins_there = is_behind(at, start) && end_with_newline(pieces);
     let ends_there = is_ahead(at, end) && have_newline(pieces);
     !begins_there && !ends_there
+}
+
+/// The cell before a place of what is shown, of which the one before it in the text is known: none before the first
+/// place.
+pub(crate) fn shown_before(
+    place: usize,
+    behind: Option<Cell<StateId>>,
+) -> Option<Cell<StateId>>
+    ensures { result ≡ (if place == 0 then None else behind) }
+{
+    if place == 0 { None } else { behind }
+}
+
+/// The cell at a place, if both its sides are shown behind pieces that stand before it.
+pub(crate) fn shown_at<S: TextStore>(
+    store: &S,
+    limits: Limits,
+    at: usize,
+    pieces: &[Piece],
+) -> Option<Cell<StateId>>
+    requires { at < length (visible_of (S.list store.now)) }
+    ensures { result ≡ (if not (are_newlines (S.list store.now) limits)
+        || are_sides_shown (limit_left (is_covered []) (S.list store.now) limits.start)
+        (limit_left (is_covered []) (S.list store.now) limits.end) at (pieces_text pieces.now)
+        then slice_get (visible_of (S.list store.now)) at else None) }
+{
+    if shows_both(store, &[], limits, at, pieces) {
+        Some(store.cell_at(at))
+    } else {
+        None
+    }
 }
