@@ -56,13 +56,6 @@ by_late_checks view index pieces rest found place h e p =
     ∙ ap (λ o. unless o (at_index view pieces rest (Ok found))) (first_none (map name_check (names_in pieces)) (None ∷ late_checks view.doc (at_index view pieces rest (Ok found))) h)
     ∙ ap (λ n. unless (first_of (late_checks view.doc (with_pieces_at view n pieces rest))) (with_pieces_at view n pieces rest)) (sym p)
 
-abbrev pub start_of : Flat → Own → List Own → Insertion
-start_of flat own others = record { cells = []; count = flat.count; sel = own.sel; others = selections_of others; tags = flat.tags }
-
-abbrev pub insertion_in : Flat → Own → List Own → ℕ → List Piece → Word → Insertion
-insertion_in flat own others place pieces rest =
-    insertion_of flat.site (left_neighbour (visible_of flat.cells) place) (right_neighbour (visible_of flat.cells) place) pieces rest (start_of flat own others)
-
 -- WHAT STAYS
 
 pub visible_same : (table : TagStates) (kept : List (Cell ℕ)) (cells : List TaggedCell) → map (shown table) kept ≡ cells → length (visible_of kept) ≡ length (visible_of cells)

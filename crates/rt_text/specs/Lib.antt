@@ -7,6 +7,7 @@ pub mod Index
 pub mod Kept
 pub mod Limited
 pub mod Lines
+pub mod Neighbours
 pub mod Parts
 pub mod Proper
 pub mod Ranges

@@ -12,7 +12,7 @@ ghost use Rattle.rt_views.specs.Stretches.{shown_part};
 use super::Doc;
 use crate::Widget;
 use crate::moving::{move_back, unselect_last};
-use crate::neighbours::{left_of, shows_both, stamp_or_root};
+use crate::neighbours::{left_of, shown_at, shown_before, stamp_or_root};
 use crate::others::{insert_each, leave_each};
 use crate::parts::Parts;
 use crate::preparing::{list_tags, make_room, select_between};
@@ -50,22 +50,18 @@ impl<S: TextStore> Doc<S> {
         let site = self.replica.site();
         let count = self.replica.clock().seen();
         let (store, states) = self.kept();
-        let limits = widget.limits();
-        let at = limits.stretch(store).begin + place;
+        let at = widget.limits().stretch(store).begin + place;
         let behind = left_of(store, at);
-        let left = if place == 0 { None } else { behind };
-        let right = if shows_both(store, &[], limits, at, pieces) {
-            Some(store.cell_at(at))
-        } else {
-            None
-        };
+        let after = stamp_or_root(&behind);
+        let left = shown_before(place, behind);
+        let right = shown_at(store, widget.limits(), at, pieces);
         let plan = planned_between(
             self.alloc,
             states,
             site,
             count,
             &widget.parts.selection,
-            stamp_or_root(behind),
+            after,
             left,
             right,
             pieces,
