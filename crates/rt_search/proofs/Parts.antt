@@ -12,18 +12,22 @@ take_less (suc n) zero xs h = absurd (omega arith)
 take_less (suc n) (suc m) [] h = refl
 take_less (suc n) (suc m) (x ∷ xs) h = ap (λ v. x ∷ v) (take_less n m xs (omega arith))
 
+of_none : {A : Type 0} (k : ℕ) → ◌≡◌ {A = List A} [] (take k [])
+of_none zero = refl
+of_none (suc k) = refl
+
 pub drop_take : {A : Type 0} (p n : ℕ) (xs : List A) → drop p (take n xs) ≡ take (n - p) (drop p xs)
-drop_take zero n xs = refl
-drop_take (suc p) zero [] = refl
-drop_take (suc p) zero (x ∷ xs) = drop_take p zero xs
-drop_take (suc p) (suc n) [] = refl
-drop_take (suc p) (suc n) (x ∷ xs) = drop_take p n xs
+drop_take zero n xs = let e : n ≡ n - 0 = omega arith in ap (λ k. take k xs) e
+drop_take (suc p) zero [] = let e : 0 ≡ 0 - suc p = omega arith in ap (λ k. take k []) e
+drop_take (suc p) zero (x ∷ xs) = let e : 0 ≡ 0 - suc p = omega arith in ap (λ k. take k (drop p xs)) e
+drop_take (suc p) (suc n) [] = of_none (suc n - suc p)
+drop_take (suc p) (suc n) (x ∷ xs) = let e : n - p ≡ suc n - suc p = omega arith in drop_take p n xs ∙ ap (λ k. take k (drop p xs)) e
 
 drop_both : {A : Type 0} (a b : ℕ) (xs : List A) → drop b (drop a xs) ≡ drop (a + b) xs
-drop_both zero b xs = refl
-drop_both (suc a) zero [] = refl
-drop_both (suc a) (suc b) [] = refl
-drop_both (suc a) b (x ∷ xs) = drop_both a b xs
+drop_both zero b xs = let e : b ≡ 0 + b = omega arith in ap (λ k. drop k xs) e
+drop_both (suc a) zero [] = let e : suc (a + 0) ≡ suc a + 0 = omega arith in ap (λ k. drop k []) e
+drop_both (suc a) (suc b) [] = let e : suc (a + suc b) ≡ suc a + suc b = omega arith in ap (λ k. drop k []) e
+drop_both (suc a) b (x ∷ xs) = let e : suc (a + b) ≡ suc a + b = omega arith in drop_both a b xs ∙ ap (λ k. drop k (x ∷ xs)) e
 
 -- what a part has from a place on
 pub part_from : {A : Type 0} (stretch : Stretch) (place n : ℕ) (xs : List A) → stretch.begin + place + n ≤ stretch.end
@@ -41,10 +45,13 @@ more_by false n m d h = h
 
 -- newlines before a place, and from there up to another
 newlines_on : (b p : ℕ) (t : List ℕ) → newlines (take (b + p) t) ≡ newlines (take b t) + newlines (take p (drop b t))
-newlines_on zero p t = refl
-newlines_on (suc b) zero [] = refl
-newlines_on (suc b) (suc p) [] = refl
-newlines_on (suc b) p (c ∷ t) = more_by (is_newline c) _ _ _ (newlines_on b p t)
+newlines_on zero p t = let e : 0 + p ≡ p = omega arith in rw e (omega arith)
+newlines_on (suc b) p [] = let e : suc b + p ≡ suc (b + p) = omega arith in rw e (nothing p)
+  where
+    nothing : (p : ℕ) → 0 ≡ 0 + newlines (take p [])
+    nothing zero = refl
+    nothing (suc p) = refl
+newlines_on (suc b) p (c ∷ t) = let e : suc b + p ≡ suc (b + p) = omega arith in rw e (more_by (is_newline c) _ _ _ (newlines_on b p t))
 
 pub newlines_in : (stretch : Stretch) (p : ℕ) (t : List ℕ) → stretch.begin + p ≤ stretch.end
     → newlines (take (stretch.begin + p) t) ≡ newlines (take stretch.begin t) + newlines (take p (part stretch t))
@@ -65,10 +72,13 @@ none_there b p t h =
     ap (λ k. after_newlines k (drop b t)) none
 
 behind : (b p : ℕ) (t : List ℕ) → after_newlines (newlines (take (b + p) t)) t - b ≡ after_newlines (newlines (take p (drop b t))) (drop b t)
-behind zero p t = omega arith
-behind (suc b) zero [] = refl
-behind (suc b) (suc p) [] = refl
-behind (suc b) p (c ∷ t) = behind_by c b (newlines (take (b + p) t)) _ t (is_newline c) refl (behind b p t) (none_there b p t)
+behind zero p t = let e : 0 + p ≡ p = omega arith in rw e (omega arith)
+behind (suc b) p [] = let e : suc b + p ≡ suc (b + p) = omega arith in rw e (nothing p)
+  where
+    nothing : (p : ℕ) → 0 - suc b ≡ after_newlines (newlines (take p [])) []
+    nothing zero = omega arith
+    nothing (suc p) = omega arith
+behind (suc b) p (c ∷ t) = let e : suc b + p ≡ suc (b + p) = omega arith in rw e (behind_by c b (newlines (take (b + p) t)) _ t (is_newline c) refl (behind b p t) (none_there b p t))
 
 -- a part that has a place has the newlines before it
 kept_by : (c n k : ℕ) (t : List ℕ) (b : Bool) → is_newline c ≡ b → after_newlines k (take n t) ≡ after_newlines k t

@@ -60,9 +60,10 @@ impl<'a, S: TextStore> Part<'a, S> {
         ensures characters { take result buffer.new ≡ take result (drop place self.now) }
         ensures rest { drop result buffer.new ≡ drop result buffer.old }
     {
-        let count = buffer.len().min(self.len() - place);
+        let stretch = self.stretch;
+        let count = buffer.len().min(stretch.end - stretch.begin - place);
         self.store
-            .characters(self.stretch.begin + place, &mut buffer[..count])
+            .characters(stretch.begin + place, &mut buffer[..count])
     }
 
     /// The line of a character, and the place where that line begins.
@@ -71,9 +72,9 @@ impl<'a, S: TextStore> Part<'a, S> {
         ensures line { result.0 ≡ line_of self.now place }
         ensures start { result.1 ≡ line_start self.now (line_of self.now place) }
     {
-        let begin = self.stretch.begin;
-        let line = self.store.line_of(begin + place);
-        let start = self.store.line_start(line).saturating_sub(begin);
-        (line - self.store.line_of(begin) + 1, start)
+        let stretch = self.stretch;
+        let line = self.store.line_of(stretch.begin + place);
+        let start = self.store.line_start(line).saturating_sub(stretch.begin);
+        (line - self.store.line_of(stretch.begin) + 1, start)
     }
 }

@@ -7,9 +7,9 @@ returns-clause-stands g c =
     let text = c.args.text.now in
     record {
       within = omega arith;
-      line = c.line_at.ensures.line;
-      start = c.line_at.ensures.start;
-      few = omega (arith, c.line_at.ensures.line, lines_few text c.args.place);
-      before = omega (arith, c.line_at.ensures.start, line_starts text c.args.place);
+      line = c.line_at-line.ensures.line;
+      start = c.line_at-line.ensures.start;
+      few = omega (arith, c.line_at-line.ensures.line, lines_few text c.args.place);
+      before = omega (arith, c.line_at-line.ensures.start, line_starts text c.args.place);
       shows = c.new.ensures text;
     }
