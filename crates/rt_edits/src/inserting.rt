@@ -1,14 +1,11 @@
 // What an insertion comes to, as the operations that it makes.
-ghost use Rattle.std.specs.Prelude.{◌≡◌, ◌⊎◌, ◌<◌, ◌≤◌, [], List, None, IfOk, IfErr, IfSome, length, map, option_map, unwrap_or};
+ghost use Rattle.std.specs.Prelude.{◌≡◌, ◌⊎◌, ◌<◌, ◌≤◌, [], List, None, IfOk, IfErr, IfSome, length, map, option_map};
 ghost use Rattle.rt_stamps.specs.declared.limits.TheConstants.{GREATEST_COUNT, MOST_CHARACTERS};
 ghost use Rattle.rt_stamps.specs.declared.stamp.Stamp.{Stamp};
 ghost use Rattle.rt_stamps.specs.Words.{Word};
 ghost use Rattle.rt_oplog.specs.Edits.{body_of};
-ghost use Rattle.rt_store.specs.Cells.{visible_of};
-ghost use Rattle.rt_store.specs.Shown.{shown, TaggedCell};
-ghost use Rattle.rt_store.specs.Tagged.{AreStates};
+ghost use Rattle.rt_store.specs.Shown.{shown};
 ghost use Rattle.rt_tags.specs.States.{IsState};
-ghost use Rattle.rt_edits.specs.Flat.{left_of};
 ghost use Rattle.rt_edits.specs.InsertionDrafts.{insertion_drafts};
 ghost use Rattle.rt_edits.specs.InsertionPlans.{Plans};
 ghost use Rattle.rt_edits.specs.Insertions.{insertion_of};
@@ -44,9 +41,10 @@ pub struct Plan {
 }
 
 /// The plan of pieces, and then characters without a list, behind an element and between two neighbours,
-/// with the counts after one. Without a right neighbour, or without a left one and pieces, the characters
-/// without a list get no tags, and are nowhere selected; without a right one the selection may be any.
-/// `ClockSpent` where the counts would pass `GREATEST_COUNT`, or want of memory.
+/// with the counts after one. The element is the left neighbour's where there is one. Without a right
+/// neighbour, or without a left one and pieces, the characters without a list get no tags, and are
+/// nowhere selected; without a right one the selection may be any. `ClockSpent` where the counts would
+/// pass `GREATEST_COUNT`, or want of memory.
 pub fn planned_between(
     alloc: Global,
     states: &StateTable,
@@ -61,6 +59,7 @@ pub fn planned_between(
 ) -> Result<Plan, Fault>
     requires left { IfSome left (λ cell. IsState states.now cell.state) }
     requires right { IfSome right (λ cell. IsState states.now cell.state) }
+    requires after { IfSome left (λ cell. after ≡ cell.stamp) }
     requires count { count ≤ GREATEST_COUNT }
     ensures drafts { IfOk result (λ plan. (sel : List Stamp) (others : List (List Stamp)) (tags : List Word)
         → IfSome right (λ cell. sel ≡ stamps_in selection.now) → map body_of plan.drafts.items
