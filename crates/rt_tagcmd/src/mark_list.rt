@@ -5,6 +5,7 @@ ghost use Rattle.rt_tagcmd.specs.MarkLists.{marks_from, marks_left};
 ghost use Rattle.rt_text.specs.Widgets.{marks_of};
 
 use crate::nearest::first_after;
+use crate::seen::order;
 use rt_marks::{Gravity, Spot};
 use rt_stamps::Fault;
 use rt_store::TextStore;
@@ -21,6 +22,7 @@ fn next_before<'a, S: TextStore>(
         ≡ spotted spot ∷ marks_left behind (spotted spot) (marks_of view.now)) }
     ensures none { result ≡ None → marks_left behind (spotted here.now) (marks_of view.now) ≡ [] }
 {
+    order(view);
     let spot = first_after(view, here)?;
     if spot.place < behind {
         Some(spot)
@@ -41,6 +43,7 @@ pub fn marks_between<'a, S: TextStore>(
     ensures ok { IfOk result (λ spots. map spotted spots.items ≡ marks_from from behind (marks_of view.now)) }
     ensures err { IfErr result (λ fault. fault ≡ Fault.NoMemory) }
 {
+    order(view);
     let mut spots = Vec::new(alloc);
     let mut here = Spot {
         place: from,

@@ -6,7 +6,8 @@ ghost use Rattle.rt_tagcmd.specs.Looking.{looked_from};
 ghost use Rattle.rt_tagcmd.specs.MarkCommands.{mark_next, mark_previous, name_of};
 ghost use Rattle.rt_text.specs.Widgets.{mark_of};
 
-use crate::nearest::{first_after, last_before, own_spot, seen};
+use crate::nearest::{first_after, last_before};
+use crate::seen::{order, own_spot, seen};
 use rt_index::is_fixed;
 use rt_marks::{Gravity, Spot};
 use rt_stamps::Fault;
@@ -17,6 +18,7 @@ use rt_text::{OwnMark, View};
 fn spot_of<'a, S: TextStore>(view: &'a View<S>, name: &str) -> Option<Spot<'a>>
     ensures { option_map spotted result ≡ mark_of view.now name.now }
 {
+    order(view);
     match OwnMark::of(name) {
         Some(which) => Some(own_spot(view, which)),
         None => Some(seen(view.stretch(), view.doc().marks().find(name)?)),
@@ -56,6 +58,7 @@ pub fn mark_next<'a, S: TextStore>(view: &'a View<S>, word: &str) -> Result<Opti
     ensures ok { IfOk result (λ name. mark_next view.now word.now ≡ Ok (option_copied name)) }
     ensures err { IfErr result (Refuses (mark_next view.now word.now)) }
 {
+    order(view);
     let here = look(view, word)?;
     Ok(name_of(first_after(view, &here)))
 }
@@ -71,6 +74,7 @@ pub fn mark_previous<'a, S: TextStore>(
     ensures ok { IfOk result (λ name. mark_previous view.now word.now ≡ Ok (option_copied name)) }
     ensures err { IfErr result (Refuses (mark_previous view.now word.now)) }
 {
+    order(view);
     let here = look(view, word)?;
     Ok(name_of(last_before(view, &here)))
 }

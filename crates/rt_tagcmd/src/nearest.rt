@@ -1,44 +1,15 @@
-// The marks of a widget about a spot: those of its site, at their places among the characters that it shows, and its own two.
+// The marks of a widget about a spot: those of its site as the widget sees them, and its own two.
 ghost use Rattle.std.specs.Prelude.{◌≡◌, ◌≤◌, ◌<◌, ◌==◌, ◌&&◌, [], List, find, length, map, option_map};
 ghost use Rattle.rt_marks.specs.Marks.{AreInOrder, Each, Mark, comes_before, find_last, in_order, with_mark};
 ghost use Rattle.rt_marks.specs.Seen.{spotted};
 ghost use Rattle.rt_store.specs.Cells.{text_of};
-ghost use Rattle.rt_text.specs.Widgets.{mark_seen, marks_of, marks_shown, own_mark, own_name, own_shown, stretch_by};
+ghost use Rattle.rt_text.specs.Widgets.{mark_seen, marks_of, marks_shown, stretch_by};
 
+use crate::seen::{order, own_spot, seen};
 use rt_marks::{Gravity, Marks, Spot};
 use rt_store::TextStore;
 use rt_text::{OwnMark, View};
 use rt_views::Stretch;
-
-/// Where a widget's own mark stands among the characters that it shows.
-pub(crate) fn own_spot<S: TextStore>(view: &View<S>, which: OwnMark) -> Spot<'static>
-    ensures spot { spotted result ≡ own_mark which (own_shown view.now) }
-    ensures name { (own_mark which (own_shown view.now)).name ≡ own_name which }
-{
-    let widget = view.widget();
-    let stretch = view.stretch();
-    let place = widget.place(which);
-    Spot {
-        place: match which {
-            OwnMark::Insert => stretch.cursor(place),
-            OwnMark::Current => stretch.place(place),
-        },
-        gravity: widget.gravity(which),
-        name: which.name(),
-    }
-}
-
-/// A mark at its place among the characters of a stretch.
-pub(crate) fn seen<'a>(stretch: Stretch, mark: Spot<'a>) -> Spot<'a>
-    requires { stretch.begin ≤ stretch.end }
-    ensures { spotted result ≡ mark_seen stretch (spotted mark.entry) }
-{
-    Spot {
-        place: stretch.place(mark.place),
-        gravity: mark.gravity,
-        name: mark.name,
-    }
-}
 
 /// The first mark after a spot, of the one that was found and one more.
 fn nearer_after<'a>(here: &Spot<'_>, found: Option<Spot<'a>>, own: Spot<'a>) -> Option<Spot<'a>>
@@ -124,6 +95,8 @@ fn first_shown<'a, S: TextStore>(view: &'a View<S>, here: &Spot<'_>) -> Option<S
     ensures { option_map spotted result ≡ find (comes_before (spotted here.now)) (marks_shown view.now) }
 {
     let marks = view.doc().marks();
+    marks.order();
+    let _ = view.store();
     if shows_all(view) {
         marks.first_after(here)
     } else {
@@ -136,6 +109,8 @@ fn last_shown<'a, S: TextStore>(view: &'a View<S>, here: &Spot<'_>) -> Option<Sp
     ensures { option_map spotted result ≡ find_last (λ m. comes_before m (spotted here.now)) (marks_shown view.now) }
 {
     let marks = view.doc().marks();
+    marks.order();
+    let _ = view.store();
     if shows_all(view) {
         marks.last_until(here)
     } else {
@@ -147,6 +122,7 @@ fn last_shown<'a, S: TextStore>(view: &'a View<S>, here: &Spot<'_>) -> Option<Sp
 pub(crate) fn first_after<'a, S: TextStore>(view: &'a View<S>, here: &Spot<'_>) -> Option<Spot<'a>>
     ensures { option_map spotted result ≡ find (comes_before (spotted here.now)) (marks_of view.now) }
 {
+    order(view);
     let found = nearer_after(
         here,
         first_shown(view, here),
@@ -159,6 +135,7 @@ pub(crate) fn first_after<'a, S: TextStore>(view: &'a View<S>, here: &Spot<'_>) 
 pub(crate) fn last_before<'a, S: TextStore>(view: &'a View<S>, here: &Spot<'_>) -> Option<Spot<'a>>
     ensures { option_map spotted result ≡ find_last (λ m. comes_before m (spotted here.now)) (marks_of view.now) }
 {
+    order(view);
     let found = nearer_before(
         here,
         last_shown(view, here),
