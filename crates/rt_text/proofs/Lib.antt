@@ -5,6 +5,7 @@ pub mod ChangedMarks
 pub mod Checks
 pub mod DeletionLaws
 pub mod Deletions
+pub mod Differences
 pub mod ExchangeLaws
 pub mod FollowingLaws
 pub mod InsertedDocument
@@ -13,6 +14,8 @@ pub mod ListedText
 pub mod MadeDocument
 pub mod MarkLaws
 pub mod MovingLaws
+pub mod PartLines
+pub mod PartPlaces
 pub mod PeerLaws
 pub mod PlannedReplacement
 pub mod PlannedReversion

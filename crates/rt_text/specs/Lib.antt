@@ -6,6 +6,7 @@ pub mod Distances
 pub mod Index
 pub mod Kept
 pub mod Limited
+pub mod Lines
 pub mod Parts
 pub mod Proper
 pub mod Ranges

@@ -1,11 +1,13 @@
 // What index expressions see of a widget.
-ghost use Rattle.std.specs.Prelude.{◌≡◌, ℕ, ◌≤◌, List, Some, IsSome, map, option_map, length};
+ghost use Rattle.std.specs.Prelude.{◌≡◌, ℕ, ◌≤◌, List, IsSome, map, length};
 ghost use Rattle.rt_marks.specs.Marks.{IsName, named};
 ghost use Rattle.rt_stamps.specs.declared.limits.TheConstants.{MOST_CELLS};
+ghost use Rattle.rt_stamps.specs.Places.{line_of};
 ghost use Rattle.rt_store.specs.Cells.{text_of};
 ghost use Rattle.rt_store.specs.Tagged.{AreStates};
 ghost use Rattle.rt_edits.specs.Listed.{AreListed};
 ghost use Rattle.rt_store.specs.Shown.{shown};
+ghost use Rattle.rt_text.specs.Lines.{AreLines};
 
 use crate::characters::{last_within, next_within};
 use crate::{OwnMark, Widget};
@@ -30,10 +32,8 @@ pub(crate) struct WidgetGround<'a, S: TextStore> {
     ghost listed: { AreListed tags.now.names (map (shown states.now) (S.list store.now)) },
     ghost text: { text_of (map (shown states.now) (S.list store.now)) ≡ text_of (S.list store.now) },
     ghost few: { length (text_of (map (shown states.now) (S.list store.now))) ≤ MOST_CELLS },
-    ghost insert: { widget.now.insert.place ≤ length (text_of (map (shown states.now) (S.list store.now))) },
-    ghost current: { widget.now.current.place ≤ length (text_of (map (shown states.now) (S.list store.now))) },
-    ghost within: { (name : List ℕ) (place : ℕ) → option_map (λ m. m.place) (named name marks.now) ≡ Some place → place
-        ≤ length (text_of (map (shown states.now) (S.list store.now))) },
+    ghost lines: { AreLines (text_of (map (shown states.now) (S.list store.now))) stretch },
+    ghost begins: { first ≡ line_of (text_of (map (shown states.now) (S.list store.now))) stretch.begin },
     ghost names: { (name : List ℕ) → IsSome (named name marks.now) → IsName name },
 }
 
@@ -116,6 +116,6 @@ impl<'a, S: TextStore> Ground for WidgetGround<'a, S> {
         Some(last + 1)
     }
 
-    ghost proper = { λ g. proper_over (S.list g.store.now) (map (shown g.states.now) (S.list g.store.now)) g.marks.now g.tags.now.names g.widget.now
-        (S.ends g.store.now) g.text g.few g.insert g.current g.within g.names g.listed };
+    ghost proper = { λ g. proper_over g.stretch (map (shown g.states.now) (S.list g.store.now)) g.marks.now g.tags.now.names g.widget.now
+        g.lines g.few g.names g.listed };
 }

@@ -2,9 +2,10 @@
 ghost use Rattle.std.specs.Prelude.{◌≡◌, ◌≤◌, length, Ok, IfOk, IfErr};
 ghost use Rattle.rt_index.specs.Index.{index_of};
 ghost use Rattle.rt_stamps.specs.Outcomes.{Refuses};
-ghost use Rattle.rt_stamps.specs.Places.{line_of, line_start, position_at};
+ghost use Rattle.rt_stamps.specs.Places.{position_at};
 ghost use Rattle.rt_views.specs.Stretches.{part};
 ghost use Rattle.rt_store.specs.Cells.{text_of};
+ghost use Rattle.rt_text.specs.Lines.{AreLines};
 
 use rt_index::{Ground, parse, resolve};
 use rt_stamps::{Fault, Position};
@@ -40,10 +41,9 @@ fn position_at<S: TextStore>(store: &S, place: usize) -> Position
     }
 }
 
-/// The position of a place of a stretch of the text that begins with a line, which is at most the stretch's end.
+/// The position of a place of a stretch of whole lines of the text, which is at most the stretch's end.
 pub(crate) fn position_within<S: TextStore>(store: &S, stretch: Stretch, place: usize) -> Position
-    requires begin { stretch.begin ≡ line_start (text_of (S.list store.now)) (line_of (text_of (S.list store.now)) stretch.begin) }
-    requires end { stretch.end ≤ length (text_of (S.list store.now)) }
+    requires lines { AreLines (text_of (S.list store.now)) stretch }
     requires place { place ≤ length (part stretch (text_of (S.list store.now))) }
     ensures { result ≡ position_at (part stretch (text_of (S.list store.now))) place }
 {

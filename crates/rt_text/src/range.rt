@@ -1,6 +1,6 @@
 // Ranges of places.
 ghost use Rattle.rt_views.specs.Stretches.{part};
-ghost use Rattle.std.specs.Prelude.{◌≡◌, ◌<◌, ◌≤◌, ◌⊎◌, ◌++◌, All, IfOk, IfErr, OnOk, map, length, string_bytes, encode_utf8_all};
+ghost use Rattle.std.specs.Prelude.{◌≡◌, ◌≤◌, ◌⊎◌, ◌++◌, All, IfOk, IfErr, OnOk, map, length, string_bytes, encode_utf8_all};
 ghost use Rattle.rt_stamps.specs.declared.limits.TheConstants.{MOST_CELLS};
 ghost use Rattle.rt_stamps.specs.Outcomes.{first_of};
 ghost use Rattle.rt_store.specs.Cells.{text_of};
@@ -113,7 +113,6 @@ pub(crate) fn shown_between<S: TextStore>(
     from: usize,
     to: usize,
 ) -> Result<String, Fault>
-    requires { (stretch.begin < stretch.end) × (stretch.end ≤ length (text_of (S.list store.now))) }
     ensures ok { IfOk result (λ text. string_bytes text
         ≡ encode_utf8_all (text_between (part stretch (text_of (S.list store.now))) from to)) }
     ensures err { IfErr result (λ fault. fault ≡ Fault.NoMemory) }
@@ -130,7 +129,7 @@ pub(crate) fn texts_of<S: TextStore>(
     stretch: Stretch,
     ranges: &[Range],
 ) -> Result<Vec<String>, Fault>
-    requires { (stretch.begin < stretch.end) × (stretch.end ≤ length (text_of (S.list store.now))) }
+    requires { (stretch.begin ≤ stretch.end) × (stretch.end ≤ length (text_of (S.list store.now))) }
     ensures ok { IfOk result (λ texts. map (λ w. string_bytes w) texts.items ≡ texts_of (part stretch (text_of (S.list store.now))) ranges.now) }
     ensures err { IfErr result (λ fault. fault ≡ Fault.NoMemory) }
 {

@@ -75,8 +75,7 @@ impl<S: TextStore> View<S> {
         ensures err { IfErr result (Refuses (got_one self.now index.now)) }
     {
         let place = self.place(index)?;
-        let (store, _) = self.doc.kept();
-        let stretch = self.widget.limits().stretch(store);
+        let (store, stretch) = self.doc.between(self.widget.limits());
         shown_between(self.alloc, store, stretch, place, place.saturating_add(1))
     }
 
@@ -88,8 +87,7 @@ impl<S: TextStore> View<S> {
     {
         let start = self.place(from)?;
         let end = self.place(to)?;
-        let (store, _) = self.doc.kept();
-        let stretch = self.widget.limits().stretch(store);
+        let (store, stretch) = self.doc.between(self.widget.limits());
         shown_between(self.alloc, store, stretch, start, end)
     }
 
@@ -101,8 +99,7 @@ impl<S: TextStore> View<S> {
         ensures err { IfErr result (Refuses (got_list self.now (map (λ w. string_bytes w) indices.now))) }
     {
         let ranges = self.ranges(indices)?;
-        let (store, _) = self.doc.kept();
-        let stretch = self.widget.limits().stretch(store);
+        let (store, stretch) = self.doc.between(self.widget.limits());
         texts_of(self.alloc, store, stretch, &ranges)
     }
 
@@ -136,8 +133,8 @@ impl<S: TextStore> View<S> {
     {
         let start = self.place(from)?;
         let end = self.place(to)?;
-        let (store, _) = self.doc.kept();
-        let begin = self.widget.limits().stretch(store).begin;
+        let (store, stretch) = self.doc.between(self.widget.limits());
+        let begin = stretch.begin;
         distances_of(self.alloc, store, begin + start, begin + end, measures)
     }
 }
