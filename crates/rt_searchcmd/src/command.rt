@@ -16,7 +16,7 @@ use rt_text::View;
 use std::alloc::Global;
 
 /// The text that a widget shows.
-fn shown<S: TextStore>(view: &View<S>) -> Part<'_, S>
+pub fn shown<S: TextStore>(view: &View<S>) -> Part<'_, S>
     ensures { result ≡ text_shown view.now }
 {
     Part::of(view.store(), view.stretch())
