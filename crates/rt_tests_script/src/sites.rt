@@ -2,8 +2,11 @@
 ghost use Rattle.std.specs.Prelude.{◌≡◌, ◌<◌, ◌≤◌};
 ghost use Rattle.rt_script.specs.Site.{AreWithin};
 
+use crate::limits::{
+    LIMIT_OPTIONS, LIMITED_MARKS, LIMITED_SEARCHES, LIMITED_TAGS, LIMITED_TEXT, MOVING_LIMITS,
+};
 use crate::marks::{INDICES, MARK_ORDER, MARK_PLACES, MARK_WORDS};
-use crate::peers::{OWN_PARTS, PEERS, SHARED_PARTS};
+use crate::peers::{OWN_PARTS, PEER_COMMANDS, PEERS, SHARED_PARTS};
 use crate::replacements::{DUMPS, FULL_SITE, REPLACEMENTS};
 use crate::searches::SEARCHES;
 use crate::tags::{TAG_COMMANDS, TAG_REFUSALS, TAG_WRITES, TAGGED_TEXT};
@@ -252,6 +255,41 @@ fn scripts_of_flags(rt: HostRuntime) -> Result<(), Fail> {
 #[test]
 fn scripts_of_peers(rt: HostRuntime) -> Result<(), Fail> {
     answer_all(&rt, rt.alloc(), PEERS)
+}
+
+#[test]
+fn scripts_of_limit_options(rt: HostRuntime) -> Result<(), Fail> {
+    answer_all(&rt, rt.alloc(), LIMIT_OPTIONS)
+}
+
+#[test]
+fn scripts_of_moving_limits(rt: HostRuntime) -> Result<(), Fail> {
+    answer_all(&rt, rt.alloc(), MOVING_LIMITS)
+}
+
+#[test]
+fn scripts_of_limited_text(rt: HostRuntime) -> Result<(), Fail> {
+    answer_all(&rt, rt.alloc(), LIMITED_TEXT)
+}
+
+#[test]
+fn scripts_of_limited_searches(rt: HostRuntime) -> Result<(), Fail> {
+    answer_all(&rt, rt.alloc(), LIMITED_SEARCHES)
+}
+
+#[test]
+fn scripts_of_limited_tags(rt: HostRuntime) -> Result<(), Fail> {
+    answer_all(&rt, rt.alloc(), LIMITED_TAGS)
+}
+
+#[test]
+fn scripts_of_limited_marks(rt: HostRuntime) -> Result<(), Fail> {
+    answer_all(&rt, rt.alloc(), LIMITED_MARKS)
+}
+
+#[test]
+fn scripts_of_peer_commands(rt: HostRuntime) -> Result<(), Fail> {
+    answer_all(&rt, rt.alloc(), PEER_COMMANDS)
 }
 
 #[test]
