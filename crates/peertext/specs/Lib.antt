@@ -1,4 +1,3 @@
-pub mod Endings
 pub mod Files
 pub mod Readers
 pub mod Runs

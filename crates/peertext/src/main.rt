@@ -9,16 +9,15 @@ ghost use Rattle.rt_stamps.specs.declared.limits.TheConstants.{MOST_BYTES};
 ghost use Rattle.rt_script.specs.Site.{AreWithin};
 ghost use Rattle.peertext.specs.Readers.{ReadsFresh, JoinsFresh, ShowsFresh};
 
-mod ending;
 mod files;
 mod run;
 
-use ending::{
+use files::{LazyFile, write_whole};
+use rt_args::{Line, LineFault, line};
+use rt_endings::ending::{
     Failure, file_failure, first_failure, join_failure, log_failure, run_failure, show_failure,
     status, write_failure,
 };
-use files::{LazyFile, write_whole};
-use rt_args::{Line, LineFault, line};
 use rt_oplog::read_whole;
 use rt_script::{JoinFault, SiteState, join_files, show_file};
 use rt_stamps::std_ends::{Count, Reader, Writer};
