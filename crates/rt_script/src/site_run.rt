@@ -2,9 +2,9 @@
 ghost use Rattle.std.specs.Prelude.{◌≡◌, ◌≤◌, None, Some, MatchResult, length};
 ghost use Rattle.rt_stamps.specs.declared.limits.TheConstants.{MOST_BYTES};
 ghost use Rattle.rt_script.specs.Site.{AreWithin, named_files};
-ghost use Rattle.peertext.specs.Runs.{Begins, RunsScript, TellsLog, WithinBytes};
+ghost use Rattle.rt_script.specs.SiteRun.{Begins, RunsScript, TellsLog, WithinBytes};
 
-use rt_script::{Ended, SiteState, run};
+use crate::{Ended, SiteState, run};
 use rt_stamps::limits::MOST_CELLS;
 use rt_stamps::{Fault, Sink, Site, Source};
 use std::alloc::Global;
