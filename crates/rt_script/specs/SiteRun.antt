@@ -1,6 +1,5 @@
 -- The run of a script by a site: how the site begins, and what there is of it at the end.
 use Rattle.std.specs.Prelude.{◌≡◌, ◌⊎◌, ◌≤◌, ℕ, Bool, true, false, List, length, Option, Some, None, Result, MatchResult, IfOk, IfErr, Vec, reverse, ⊤}
-use Rattle.std.specs.List.{All}
 use Rattle.std.specs.Borrow.{Bor}
 use Rattle.std.specs.declared.alloc.Global.{Global}
 use Rattle.rt_stamps.specs.declared.fault.Fault.{Fault}
