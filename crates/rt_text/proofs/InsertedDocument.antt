@@ -138,33 +138,33 @@ module _ (flat : Flat) (own : Own) (others : List Own) (place : ℕ) (pieces : L
   abbrev a : Stamp
   a = left_of flat.cells at
 
-  abbrev start : Insertion
-  start = none_inserted seen
+  abbrev none_yet : Insertion
+  none_yet = none_inserted seen
 
   -- MAKING IT
 
-  begins : All IsPiece pieces → IsUtf8 rest → IsInsertion flat.site flat.log a l r pieces rest start
+  begins : All IsPiece pieces → IsUtf8 rest → IsInsertion flat.site flat.log a l r pieces rest none_yet
   begins are utf8 =
-      let here = may_begin flat.site flat.log flat at r pieces rest start is.history is.document (at_text flat own others place is) (pieces_are pieces are) utf8 refl refl in
-      let there = may_begin flat.site flat.log flat (near seen place) r pieces rest start is.history is.document (near_within flat own others place is) (pieces_are pieces are) utf8 refl refl in
+      let here = may_begin flat.site flat.log flat at r pieces rest none_yet is.history is.document (at_text flat own others place is) (pieces_are pieces are) utf8 refl refl in
+      let there = may_begin flat.site flat.log flat (near seen place) r pieces rest none_yet is.history is.document (near_within flat own others place is) (pieces_are pieces are) utf8 refl refl in
       record {
         element = here.element;
         listed = here.listed;
-        unlisted = subst (λ (o : Option TaggedCell). IsText (tags_between (last_of o (with_pieces flat.site pieces start).cells) r) (chars rest)) (sym (left_there flat own others place is)) there.unlisted;
+        unlisted = subst (λ (o : Option TaggedCell). IsText (tags_between (last_of o (with_pieces flat.site pieces none_yet).cells) r) (chars rest)) (sym (left_there flat own others place is)) there.unlisted;
         none = here.none;
         count = here.count;
       }
 
   pub may_make : All IsPiece pieces → IsUtf8 rest → MayBeMade flat.site flat.log (made_drafts flat own others place pieces rest)
-  may_make are utf8 = insertion_may flat.site flat.log a l r pieces rest start (begins are utf8)
+  may_make are utf8 = insertion_may flat.site flat.log a l r pieces rest none_yet (begins are utf8)
 
   pub refused_made : refusal_of flat.limit (made_drafts flat own others place pieces rest) flat.log
       ≡ first_of (clock_check (made_new flat own others place pieces rest).count ∷ cell_check flat.limit (length (made_flat flat own others place pieces rest).cells) ∷ [])
   refused_made =
       let new = made_new flat own others place pieces rest in
-      let chars = insertion_length flat.site a l r pieces rest start in
+      let chars = insertion_length flat.site a l r pieces rest none_yet in
       refusal_is flat.limit (made_drafts flat own others place pieces rest) flat.log new.count (length (put_after flat.cells a new.cells))
-      (sym (all_count_on flat.site (made_drafts flat own others place pieces rest) flat.log) ∙ insertion_counted flat.site flat.log a l r pieces rest start is.document.count)
+      (sym (all_count_on flat.site (made_drafts flat own others place pieces rest) flat.log) ∙ insertion_counted flat.site flat.log a l r pieces rest none_yet is.document.count)
       (omega (arith, chars, put_length flat.cells a new.cells, ap (λ (cells : List TaggedCell). length cells) is.document.cells))
 
   pub refused_as : refusal_of flat.limit (made_drafts flat own others place pieces rest) flat.log ≡ first_of (late_checks flat (with_pieces_at seen place pieces rest))
@@ -173,7 +173,7 @@ module _ (flat : Flat) (own : Own) (others : List Own) (place : ℕ) (pieces : L
   pub made_is : All IsPiece pieces → IsUtf8 rest → (made_new flat own others place pieces rest).count ≤ GREATEST_COUNT
       → IsDocument flat.site (with_drafts flat.site (made_drafts flat own others place pieces rest) flat.log) (made_flat flat own others place pieces rest)
   made_is are utf8 fits =
-      let done = insertion_made flat.site flat.log a l r pieces rest start is.real is.history (begins are utf8) fits in record {
+      let done = insertion_made flat.site flat.log a l r pieces rest none_yet is.real is.history (begins are utf8) fits in record {
         cells = ap (λ (cells : List TaggedCell). put_after cells a (made_new flat own others place pieces rest).cells) is.document.cells ∙ sym done.cells;
         site = refl;
         count = sym done.count;
@@ -185,7 +185,7 @@ module _ (flat : Flat) (own : Own) (others : List Own) (place : ℕ) (pieces : L
   lists names listed =
       let sorted : All (λ (c : TaggedCell). IsByName c.state) flat.cells =
       subst (All (λ (c : TaggedCell). IsByName c.state)) (sym is.document.cells) (all_states flat.log is.history IsByName (λ s. state_sorted [] (writes_on flat.log s) tt)) in
-      insertion_lists flat.site l r pieces rest start names
+      insertion_lists flat.site l r pieces rest none_yet names
       (subst (λ (o : Option TaggedCell). IfSome o (IsAmong flat.tags)) (sym (left_there flat own others place is)) (left_among flat.cells flat.tags (near seen place) listed sorted))
       (record { cells = All-nil (IsAmong flat.tags); names = listed.names })
 
@@ -199,7 +199,7 @@ module _ (flat : Flat) (own : Own) (others : List Own) (place : ℕ) (pieces : L
       let all = lists (pieces_named pieces are) kept.listed in
       let more : AreListed (made_new flat own others place pieces rest).tags flat.cells =
       listed_more flat.tags (made_new flat own others place pieces rest).tags flat.cells
-      (λ n e. insertion_tags flat.site l r pieces rest start n e) all.names kept.listed in record {
+      (λ n e. insertion_tags flat.site l r pieces rest none_yet n e) all.names kept.listed in record {
         placed = subst (λ (n : ℕ). AreSiteMarks n (made_flat flat own others place pieces rest).marks) (sym (text_more are kept.listed)) (site_inserted (length (text_of flat.cells)) at (length (made_new flat own others place pieces rest).cells) flat.marks kept.placed);
         listed = listed_put (made_new flat own others place pieces rest).tags flat.cells a (made_new flat own others place pieces rest).cells more all.cells;
       }

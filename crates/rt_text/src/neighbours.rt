@@ -1,15 +1,19 @@
 // The neighbours of text that is inserted, as a widget shows them.
-ghost use Rattle.std.specs.Prelude.{◌≡◌, ◌==◌, ◌≤◌, ◌<◌, ◌||◌, [], None, not, length, option_map, slice_get, unwrap_or, if◌then◌else◌};
+ghost use Rattle.std.specs.Prelude.{◌≡◌, ◌==◌, ◌≤◌, ◌<◌, ◌||◌, [], All, IfSome, None, not, length, option_map, slice_get, unwrap_or, if◌then◌else◌};
 ghost use Rattle.std.specs.List.{list_any};
 ghost use Rattle.std.specs.Str.{chars};
+ghost use Rattle.rt_marks.specs.Marks.{place_left};
+ghost use Rattle.rt_stamps.specs.declared.limits.TheConstants.{MOST_CELLS};
 ghost use Rattle.rt_stamps.specs.declared.stamp.TheConstants.{ROOT};
 ghost use Rattle.rt_stamps.specs.Places.{is_newline};
 ghost use Rattle.rt_store.specs.Cells.{visible_of};
-ghost use Rattle.rt_edits.specs.Insertions.{left_neighbour};
-ghost use Rattle.rt_edits.specs.Removals.{AreInOrder, is_covered};
+ghost use Rattle.rt_store.specs.Tagged.{AreStates};
+ghost use Rattle.rt_tags.specs.States.{IsState, TagStates};
+ghost use Rattle.rt_edits.specs.Insertions.{left_neighbour, right_neighbour};
+ghost use Rattle.rt_edits.specs.Removals.{AreInOrder, gone_at, is_covered};
 ghost use Rattle.rt_text.specs.Neighbours.{are_newlines, are_sides_shown, ends_behind, ends_with_newline, is_ahead, is_behind, is_newline_of, limit_left, pieces_text};
 
-use crate::staying::place_after;
+use crate::staying::{place_after, right_after};
 use rt_edits::{Piece, Range};
 use rt_stamps::{ROOT, Stamp};
 use rt_store::{Cell, TextStore};
@@ -172,6 +176,33 @@ pub(crate) fn shown_at<S: TextStore>(
 {
     if shows_both(store, &[], limits, at, pieces) {
         Some(store.cell_at(at))
+    } else {
+        None
+    }
+}
+
+/// The cell that comes to stand at a place when ranges are removed, if both its sides are shown behind pieces that
+/// stand before it; none where the ranges hold the last newline that is shown.
+pub(crate) fn shown_after<S: TextStore>(
+    store: &S,
+    removed: &[Range],
+    held: bool,
+    limits: Limits,
+    at: usize,
+    pieces: &[Piece],
+) -> Option<Cell<StateId>>
+    requires order { AreInOrder 0 removed.now }
+    requires place { at < place_left (is_covered removed.now) (length (visible_of (S.list store.now))) }
+    requires within { All (λ range. range.to ≤ length (visible_of (S.list store.now))) removed.now }
+    requires few { length (visible_of (S.list store.now)) ≤ MOST_CELLS }
+    ensures is { result ≡ (if not (are_newlines (S.list store.now) limits)
+        || are_sides_shown (limit_left (is_covered removed.now) (S.list store.now) limits.start)
+        (limit_left (is_covered removed.now) (S.list store.now) limits.end) at (pieces_text pieces.now)
+        then (if held then None else right_neighbour (visible_of (gone_at (is_covered removed.now) 0 (S.list store.now))) at) else None) }
+    ensures given { (table : TagStates) → AreStates table (S.list store.now) → IfSome result (λ cell. IsState table cell.state) }
+{
+    if shows_both(store, removed, limits, at, pieces) {
+        right_after(store, removed, held, at)
     } else {
         None
     }

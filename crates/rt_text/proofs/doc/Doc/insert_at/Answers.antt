@@ -1,4 +1,4 @@
-use Rattle.std.proofs.Common.{◌≡◌, ℕ, suc, ◌∙◌, ◌<◌, ◌≤◌, ◌+◌, ◌^◌, ◌-◌, All, ◌⊎◌, [], ◌∷◌, Some, ap, arith, inl, inr, length, map, refl, string_bytes, subst, sym, Option}
+use Rattle.std.proofs.Common.{◌≡◌, ℕ, suc, ◌∙◌, ◌<◌, ◌≤◌, ◌+◌, ◌^◌, ◌-◌, All, ◌⊎◌, [], ◌∷◌, Some, ap, arith, inl, inr, length, map, refl, string_bytes, subst, sym, List, Option}
 use Rattle.std.specs.List.{AllByRecursion}
 use Rattle.std.specs.Prelude.{IfSome, nat_eq, option_map, slice_get}
 use Rattle.std.proofs.lemmas.List.{length-map}
@@ -13,11 +13,13 @@ use Rattle.rt_stamps.specs.Outcomes.{first_of}
 use Rattle.rt_store.specs.declared.cell.Cell.{Cell}
 use Rattle.rt_store.specs.Cells.{text_of, visible_of}
 use Rattle.rt_store.specs.Shown.{TaggedCell, shown}
-use Rattle.rt_tags.specs.States.{IsState}
+use Rattle.rt_tags.specs.States.{TagStates}
 use Rattle.rt_tags.specs.Tags.{IsName}
+use Rattle.rt_rga.specs.Histories.{IsHistory}
 use Rattle.rt_rga.specs.Drafts.{with_drafts}
 use Rattle.rt_rga.specs.Made.{refusal_of}
 use Rattle.rt_rga.specs.Requests.{MayBeMade}
+use Rattle.rt_edits.specs.DraftLaws.{IsDocument}
 use Rattle.rt_edits.specs.Flat.{Flat, logged}
 use Rattle.rt_edits.specs.InsertionPlans.{Plans}
 use Rattle.rt_edits.specs.Insertions.{Insertion, all_listed}
@@ -27,11 +29,12 @@ use Rattle.rt_edits.specs.Selections.{with_stamps}
 use Rattle.rt_edits.proofs.PlaceLaws.{length_text, text_within}
 use Rattle.rt_edits.proofs.RestLaws.{left_given}
 use Rattle.rt_views.specs.declared.stretch.Stretch.{Stretch}
-use Rattle.rt_views.specs.Stretches.{stretch_of}
+use Rattle.rt_views.specs.declared.limits.Limits.{Limits}
+use Rattle.rt_views.specs.Stretches.{shown_part, stretch_of}
 use Rattle.rt_text.specs.Commands.{cell_check, clock_check, with_pieces_at}
 use Rattle.rt_text.specs.Kept.{IsDoc}
 use Rattle.rt_text.specs.Parts.{own_in}
-use Rattle.rt_text.specs.Widgets.{IsOwnOf, Own, in_text, own_inserted, selections_of, shown_by, with_selections}
+use Rattle.rt_text.specs.Widgets.{IsOwnOf, Own, Viewed, in_text, own_inserted, selections_of, shown_by, with_selections}
 use Rattle.rt_text.proofs.InsertedDocument.{all_fit, drafts_are, kept_made, made_drafts, made_flat, made_is, made_new, may_make, names_given, new_is, others_made, own_made, plans_are, put_made, refused_as, refused_made}
 use Rattle.rt_text.proofs.InsertedSides.{IsPlace, any_some, at_visible, element_is, found, given_if, given_not}
 use Rattle.rt_text.proofs.KeptDocument.{clock_spent}
@@ -47,118 +50,45 @@ which : {F X : Type 0} {r checked : X} {fault memory : F} {some none : X} → (r
 which (inl e) s = inr (sym s ∙ e)
 which (inr p) s = inl p.0
 
-pub left_of-behind-requires : goal.left_of-behind-requires
-left_of-behind-requires g c =
-    let flat = c.args.self.now in
-    let own = c.args.widget.now in
-    let others = map own_in c.args.others.now in
-    let table = c.kept.result.1.now in
-    let kept = g.S.TextStore.list c.kept.result.0.now in
-    let place = c.args.place in
-    let is : IsPlace flat own others place = record {
-      history = c.kept.ensures.history;
-      document = c.kept.ensures.document;
-      real = c.kept.ensures.site;
-      within = subst (λ n. place < n) (sym (length-map (shown_by (viewed flat own others)) (λ (cell : TaggedCell). cell.ch))) c.requires.place;
-    } in
-    let same : c.stretch.result ≡ stretch_of flat.cells own.limits = c.stretch.ensures.value ∙ ap (stretch_of kept) c.limits.ensures ∙ stretch_kept table kept flat.cells own.limits c.kept.ensures.cells in
-    omega (arith, ap (λ (x : Stretch). x.begin + place) same, at_visible flat own others place is, visible_same table kept flat.cells c.kept.ensures.cells)
+place_is : (flat : Flat) (own : Own) (others : List Own) (place : ℕ) → IsHistory flat.log → IsDocument flat.site flat.log flat → 0 < flat.site → place < length (shown_part flat.cells own.limits) → IsPlace flat own others place
+place_is flat own others place h doc real l = record {
+  history = h;
+  document = doc;
+  real = real;
+  within = subst (λ n. place < n) (sym (length-map (shown_part flat.cells own.limits) (λ (cell : TaggedCell). cell.ch))) l;
+}
 
-pub shown_at-right-requires : goal.shown_at-right-requires
-shown_at-right-requires g c =
-    let flat = c.args.self.now in
-    let own = c.args.widget.now in
-    let others = map own_in c.args.others.now in
-    let table = c.kept.result.1.now in
-    let kept = g.S.TextStore.list c.kept.result.0.now in
-    let place = c.args.place in
-    let is : IsPlace flat own others place = record {
-      history = c.kept.ensures.history;
-      document = c.kept.ensures.document;
-      real = c.kept.ensures.site;
-      within = subst (λ n. place < n) (sym (length-map (shown_by (viewed flat own others)) (λ (cell : TaggedCell). cell.ch))) c.requires.place;
-    } in
-    let same : c.stretch.result ≡ stretch_of flat.cells own.limits = c.stretch.ensures.value ∙ ap (stretch_of kept) c.limits.ensures ∙ stretch_kept table kept flat.cells own.limits c.kept.ensures.cells in
-    omega (arith, ap (λ (x : Stretch). x.begin + place) same, at_visible flat own others place is, visible_same table kept flat.cells c.kept.ensures.cells)
+-- counts that are too great are refused first
+spent : (flat : Flat) (edited : List Own → Viewed) (others : List Own) (fault : Fault) → (fault ≡ NoMemory) ⊎ ((fault ≡ ClockSpent) × ((o : List Own) → GREATEST_COUNT < (edited o).doc.count))
+    → (fault ≡ NoMemory) ⊎ (first_of (late_checks flat (edited others)) ≡ Some fault)
+spent flat edited others fault (inl e) = inl e
+spent flat edited others fault (inr p) =
+    let view = edited others in
+    inr (ap (λ (o : Option Fault). first_of (o ∷ cell_check flat.limit (length view.doc.cells) ∷ [])) (clock_spent view.doc.count (p.1 others)) ∙ ap (λ (x : Fault). Some x) (sym p.0))
+
+pub returns-in_err-plan-clause-err : goal.returns-in_err-plan-clause-err
+returns-in_err-plan-clause-err g c =
+    let p = err_from_is_err_and c.from_residual.result c.from_residual.ensures.1 in
+    rw (p.1, p.2)
+    (spent c.args.self.now (λ (o : List Own). with_pieces_at (record { doc = c.args.self.now; own = c.args.widget.now; others = o }) c.args.place c.args.pieces.now c.args.rest.now)
+    (map own_in c.args.others.now) c.in_err-plan.field-0.0 c.in_err-plan.ensures.err)
+
+-- the place in the text, as the code finds it
+at_is : (table : TagStates) (kept : List (Cell ℕ)) (flat : Flat) (own : Own) (others : List Own) (place : ℕ) (limits : Limits) (stretch : Stretch) → map (shown table) kept ≡ flat.cells → limits ≡ own.limits → stretch ≡ stretch_of kept limits
+    → stretch.begin + place ≡ in_text (viewed flat own others) place
+at_is table kept flat own others place limits stretch e l s = ap (λ (y : Stretch). y.begin + place) (s ∙ ap (stretch_of kept) l ∙ stretch_kept table kept flat.cells own.limits e)
 
 pub overflow_add-at : goal.overflow_add-at
 overflow_add-at g c =
     let flat = c.args.self.now in
     let own = c.args.widget.now in
     let others = map own_in c.args.others.now in
-    let table = c.kept.result.1.now in
-    let kept = g.S.TextStore.list c.kept.result.0.now in
     let place = c.args.place in
-    let is : IsPlace flat own others place = record {
-      history = c.kept.ensures.history;
-      document = c.kept.ensures.document;
-      real = c.kept.ensures.site;
-      within = subst (λ n. place < n) (sym (length-map (shown_by (viewed flat own others)) (λ (cell : TaggedCell). cell.ch))) c.requires.place;
-    } in
-    let same : c.stretch.result ≡ stretch_of flat.cells own.limits = c.stretch.ensures.value ∙ ap (stretch_of kept) c.limits.ensures ∙ stretch_kept table kept flat.cells own.limits c.kept.ensures.cells in
-    omega (arith, ap (λ (x : Stretch). x.begin + place) same, at_visible flat own others place is, visible_same table kept flat.cells c.kept.ensures.cells, text_within kept, length_text kept, c.kept.ensures.few, c.kept.ensures.most)
-
-pub planned_between-requires-clause-left : goal.planned_between-requires-clause-left
-planned_between-requires-clause-left g c =
     let table = c.kept.result.1.now in
     let kept = g.S.TextStore.list c.kept.result.0.now in
-    let P : Cell _ → Type 0 = λ cell. IsState table cell.state in
-    given_not P (nat_eq c.args.place 0) c.left_of-behind.result c.shown_before-left.result c.shown_before-left.ensures
-    (subst (λ o. IfSome o P) (sym c.left_of-behind.ensures) (left_given table kept (c.stretch.result.begin + c.args.place) c.kept.ensures.states))
-
-pub planned_between-requires-clause-right : goal.planned_between-requires-clause-right
-planned_between-requires-clause-right g c =
-    let table = c.kept.result.1.now in
-    let kept = g.S.TextStore.list c.kept.result.0.now in
-    let at = c.stretch.result.begin + c.args.place in
-    given_if (λ cell. IsState table cell.state) _ (slice_get (visible_of kept) at) c.shown_at-right.result c.shown_at-right.ensures (left_given table kept (suc at) c.kept.ensures.states)
-
-pub planned_between-requires-clause-after : goal.planned_between-requires-clause-after
-planned_between-requires-clause-after g c =
-    subst (λ (s : Stamp). IfSome c.shown_before-left.result (λ cell. s ≡ cell.stamp)) (sym c.stamp_or_root-after.ensures)
-    (element_is c.shown_before-left.result c.left_of-behind.result c.args.place c.shown_before-left.ensures)
-
--- counts that are too great are refused first
-spent : (n cells limit : ℕ) (fault : Fault) → (fault ≡ NoMemory) ⊎ ((fault ≡ ClockSpent) × (GREATEST_COUNT < n)) → (fault ≡ NoMemory) ⊎ (first_of (clock_check n ∷ cell_check limit cells ∷ []) ≡ Some fault)
-spent n cells limit fault (inl e) = inl e
-spent n cells limit fault (inr p) = inr (ap (λ (o : Option Fault). first_of (o ∷ cell_check limit cells ∷ [])) (clock_spent n p.1) ∙ ap (λ (x : Fault). Some x) (sym p.0))
-
-too_great : {A B C : Type 0} → (B → C) → A ⊎ B → A ⊎ C
-too_great f (inl a) = inl a
-too_great f (inr b) = inr (f b)
-
-pub returns-in_err-plan-clause-err : goal.returns-in_err-plan-clause-err
-returns-in_err-plan-clause-err g c =
-    let flat = c.args.self.now in
-    let own = c.args.widget.now in
-    let others = map own_in c.args.others.now in
-    let pieces = c.args.pieces.now in
-    let rest = c.args.rest.now in
-    let site : c.site-site.result.number ≡ flat.site = c.site-site.ensures ∙ ap (λ (f : Flat). f.site) c.self.view_is in
-    let count : c.seen-count.result ≡ flat.count = c.seen-count.ensures.value ∙ c.clock.ensures ∙ ap (λ (f : Flat). f.count) c.self.view_is in
-    let sel : stamps_in c.widget.inside.parts.selection ≡ own.sel = ap (λ (o : Own). o.sel) c.widget.view_is in
-    let table = c.kept.result.1.now in
-    let kept = g.S.TextStore.list c.kept.result.0.now in
-    let place = c.args.place in
-    let is : IsPlace flat own others place = record {
-      history = c.kept.ensures.history;
-      document = c.kept.ensures.document;
-      real = c.kept.ensures.site;
-      within = subst (λ n. place < n) (sym (length-map (shown_by (viewed flat own others)) (λ (cell : TaggedCell). cell.ch))) c.requires.place;
-    } in
-    let f = found table kept flat own others place pieces c.limits-2.result c.stretch.result c.left_of-behind.result c.shown_before-left.result c.shown_at-right.result c.stamp_or_root-after.result c.kept.ensures.cells is
-    c.limits-2.ensures (c.stretch.ensures.value ∙ ap (stretch_of kept) (c.limits.ensures ∙ sym c.limits-2.ensures)) c.left_of-behind.ensures c.shown_before-left.ensures c.shown_at-right.ensures c.stamp_or_root-after.ensures in
-    let left = option_map (shown table) c.shown_before-left.result in
-    let right = option_map (shown table) c.shown_at-right.result in
-    let at = c.stretch.result.begin + place in
-    let point = in_text (viewed flat own others) place in
-    let stamps_now = stamps_in c.widget.inside.parts.selection in
-    let any = any_some c.shown_at-right.result (stamps_now ≡ stamps_now) refl in
-    let p = err_from_is_err_and c.from_residual.result c.from_residual.ensures.1 in
-    let same = new_is flat own others place pieces rest c.site-site.result.number c.seen-count.result stamps_now at c.stamp_or_root-after.result left right site count sel f in
-    rw (p.1, p.2)
-    (spent (made_new flat own others place pieces rest).count (length (made_flat flat own others place pieces rest).cells) flat.limit c.in_err-plan.field-0.0
-    (too_great (λ q. (q.0, subst (λ (x : Insertion). GREATEST_COUNT < x.count) same (q.1 stamps_now (selections_of others) flat.tags any))) c.in_err-plan.ensures.err))
+    let is = place_is flat own others place c.kept.ensures.history c.kept.ensures.document c.kept.ensures.site c.requires.place in
+    omega (arith, at_is table kept flat own others place c.limits.result c.stretch.result c.kept.ensures.cells c.limits.ensures c.stretch.ensures.value, at_visible flat own others place is,
+    visible_same table kept flat.cells c.kept.ensures.cells, text_within kept, length_text kept, c.kept.ensures.few, c.kept.ensures.most)
 
 pub make_room-requires : goal.make_room-requires
 make_room-requires g c =
@@ -167,29 +97,10 @@ make_room-requires g c =
     let others = map own_in c.args.others.now in
     let pieces = c.args.pieces.now in
     let rest = c.args.rest.now in
-    let site : c.site-site.result.number ≡ flat.site = c.site-site.ensures ∙ ap (λ (f : Flat). f.site) c.self.view_is in
-    let count : c.seen-count.result ≡ flat.count = c.seen-count.ensures.value ∙ c.clock.ensures ∙ ap (λ (f : Flat). f.count) c.self.view_is in
-    let sel : stamps_in c.widget.inside.parts.selection ≡ own.sel = ap (λ (o : Own). o.sel) c.widget.view_is in
-    let table = c.kept.result.1.now in
-    let kept = g.S.TextStore.list c.kept.result.0.now in
     let place = c.args.place in
-    let is : IsPlace flat own others place = record {
-      history = c.kept.ensures.history;
-      document = c.kept.ensures.document;
-      real = c.kept.ensures.site;
-      within = subst (λ n. place < n) (sym (length-map (shown_by (viewed flat own others)) (λ (cell : TaggedCell). cell.ch))) c.requires.place;
-    } in
-    let f = found table kept flat own others place pieces c.limits-2.result c.stretch.result c.left_of-behind.result c.shown_before-left.result c.shown_at-right.result c.stamp_or_root-after.result c.kept.ensures.cells is
-    c.limits-2.ensures (c.stretch.ensures.value ∙ ap (stretch_of kept) (c.limits.ensures ∙ sym c.limits-2.ensures)) c.left_of-behind.ensures c.shown_before-left.ensures c.shown_at-right.ensures c.stamp_or_root-after.ensures in
-    let left = option_map (shown table) c.shown_before-left.result in
-    let right = option_map (shown table) c.shown_at-right.result in
-    let at = c.stretch.result.begin + place in
-    let point = in_text (viewed flat own others) place in
-    let stamps_now = stamps_in c.widget.inside.parts.selection in
-    let any = any_some c.shown_at-right.result (stamps_now ≡ stamps_now) refl in
+    let is = place_is flat own others place c.kept.ensures.history c.kept.ensures.document c.kept.ensures.site c.requires.place in
     let plans : Plans c.in_ok-plan.plan own.sel (selections_of others) flat.tags (made_new flat own others place pieces rest) =
-    plans_are flat own others place pieces rest c.site-site.result.number c.seen-count.result stamps_now at c.stamp_or_root-after.result left right site count sel f c.in_ok-plan.plan
-    (c.in_ok-plan.ensures.plans stamps_now (selections_of others) flat.tags any) in
+    c.in_ok-plan.ensures.plans others in
     let listed : AreListed flat.tags flat.cells = subst (λ (f : Flat). AreListed f.tags f.cells) c.self.view_is c.self.invariant.listed in
     names_given flat own others place pieces rest is c.in_ok-plan.plan plans c.requires.pieces listed
 
@@ -200,29 +111,10 @@ make-requires g c =
     let others = map own_in c.args.others.now in
     let pieces = c.args.pieces.now in
     let rest = c.args.rest.now in
-    let site : c.site-site.result.number ≡ flat.site = c.site-site.ensures ∙ ap (λ (f : Flat). f.site) c.self.view_is in
-    let count : c.seen-count.result ≡ flat.count = c.seen-count.ensures.value ∙ c.clock.ensures ∙ ap (λ (f : Flat). f.count) c.self.view_is in
-    let sel : stamps_in c.widget.inside.parts.selection ≡ own.sel = ap (λ (o : Own). o.sel) c.widget.view_is in
-    let table = c.kept.result.1.now in
-    let kept = g.S.TextStore.list c.kept.result.0.now in
     let place = c.args.place in
-    let is : IsPlace flat own others place = record {
-      history = c.kept.ensures.history;
-      document = c.kept.ensures.document;
-      real = c.kept.ensures.site;
-      within = subst (λ n. place < n) (sym (length-map (shown_by (viewed flat own others)) (λ (cell : TaggedCell). cell.ch))) c.requires.place;
-    } in
-    let f = found table kept flat own others place pieces c.limits-2.result c.stretch.result c.left_of-behind.result c.shown_before-left.result c.shown_at-right.result c.stamp_or_root-after.result c.kept.ensures.cells is
-    c.limits-2.ensures (c.stretch.ensures.value ∙ ap (stretch_of kept) (c.limits.ensures ∙ sym c.limits-2.ensures)) c.left_of-behind.ensures c.shown_before-left.ensures c.shown_at-right.ensures c.stamp_or_root-after.ensures in
-    let left = option_map (shown table) c.shown_before-left.result in
-    let right = option_map (shown table) c.shown_at-right.result in
-    let at = c.stretch.result.begin + place in
-    let point = in_text (viewed flat own others) place in
-    let stamps_now = stamps_in c.widget.inside.parts.selection in
-    let any = any_some c.shown_at-right.result (stamps_now ≡ stamps_now) refl in
+    let is = place_is flat own others place c.kept.ensures.history c.kept.ensures.document c.kept.ensures.site c.requires.place in
     let drafts : map body_of c.in_ok-plan.plan.drafts.items ≡ made_drafts flat own others place pieces rest =
-    drafts_are flat own others place pieces rest c.site-site.result.number c.seen-count.result stamps_now at c.stamp_or_root-after.result left right site count sel f (map body_of c.in_ok-plan.plan.drafts.items)
-    (c.in_ok-plan.ensures.drafts stamps_now (selections_of others) flat.tags any) in
+    c.in_ok-plan.ensures.drafts others in
     let may : MayBeMade flat.site flat.log (made_drafts flat own others place pieces rest) =
     may_make flat own others place pieces rest is c.requires.pieces c.utf8.rest in
     subst (λ (p : _). p) (λ i. MayBeMade (sym c.self.view_is i).site (sym c.self.view_is i).log (sym drafts i)) may
@@ -234,29 +126,10 @@ returns-in_err-_made-clause-err g c =
     let others = map own_in c.args.others.now in
     let pieces = c.args.pieces.now in
     let rest = c.args.rest.now in
-    let site : c.site-site.result.number ≡ flat.site = c.site-site.ensures ∙ ap (λ (f : Flat). f.site) c.self.view_is in
-    let count : c.seen-count.result ≡ flat.count = c.seen-count.ensures.value ∙ c.clock.ensures ∙ ap (λ (f : Flat). f.count) c.self.view_is in
-    let sel : stamps_in c.widget.inside.parts.selection ≡ own.sel = ap (λ (o : Own). o.sel) c.widget.view_is in
-    let table = c.kept.result.1.now in
-    let kept = g.S.TextStore.list c.kept.result.0.now in
     let place = c.args.place in
-    let is : IsPlace flat own others place = record {
-      history = c.kept.ensures.history;
-      document = c.kept.ensures.document;
-      real = c.kept.ensures.site;
-      within = subst (λ n. place < n) (sym (length-map (shown_by (viewed flat own others)) (λ (cell : TaggedCell). cell.ch))) c.requires.place;
-    } in
-    let f = found table kept flat own others place pieces c.limits-2.result c.stretch.result c.left_of-behind.result c.shown_before-left.result c.shown_at-right.result c.stamp_or_root-after.result c.kept.ensures.cells is
-    c.limits-2.ensures (c.stretch.ensures.value ∙ ap (stretch_of kept) (c.limits.ensures ∙ sym c.limits-2.ensures)) c.left_of-behind.ensures c.shown_before-left.ensures c.shown_at-right.ensures c.stamp_or_root-after.ensures in
-    let left = option_map (shown table) c.shown_before-left.result in
-    let right = option_map (shown table) c.shown_at-right.result in
-    let at = c.stretch.result.begin + place in
-    let point = in_text (viewed flat own others) place in
-    let stamps_now = stamps_in c.widget.inside.parts.selection in
-    let any = any_some c.shown_at-right.result (stamps_now ≡ stamps_now) refl in
+    let is = place_is flat own others place c.kept.ensures.history c.kept.ensures.document c.kept.ensures.site c.requires.place in
     let drafts : map body_of c.in_ok-plan.plan.drafts.items ≡ made_drafts flat own others place pieces rest =
-    drafts_are flat own others place pieces rest c.site-site.result.number c.seen-count.result stamps_now at c.stamp_or_root-after.result left right site count sel f (map body_of c.in_ok-plan.plan.drafts.items)
-    (c.in_ok-plan.ensures.drafts stamps_now (selections_of others) flat.tags any) in
+    c.in_ok-plan.ensures.drafts others in
     let p = err_from_is_err_and c.from_residual-in_err-_made.result c.from_residual-in_err-_made.ensures.1 in
     let same : refusal_of c.self.inside.replica.limit (map body_of c.in_ok-plan.plan.drafts.items) c.self.inside.replica.log ≡ first_of (late_checks flat (with_pieces_at (viewed flat own others) place pieces rest)) =
     (λ i. refusal_of (c.self.view_is i).limit (drafts i) (c.self.view_is i).log) ∙ refused_as flat own others place pieces rest is in
@@ -269,32 +142,12 @@ inserted-requires g c =
     let others = map own_in c.args.others.now in
     let pieces = c.args.pieces.now in
     let rest = c.args.rest.now in
-    let site : c.site-site.result.number ≡ flat.site = c.site-site.ensures ∙ ap (λ (f : Flat). f.site) c.self.view_is in
-    let count : c.seen-count.result ≡ flat.count = c.seen-count.ensures.value ∙ c.clock.ensures ∙ ap (λ (f : Flat). f.count) c.self.view_is in
-    let sel : stamps_in c.widget.inside.parts.selection ≡ own.sel = ap (λ (o : Own). o.sel) c.widget.view_is in
-    let table = c.kept.result.1.now in
-    let kept = g.S.TextStore.list c.kept.result.0.now in
     let place = c.args.place in
-    let is : IsPlace flat own others place = record {
-      history = c.kept.ensures.history;
-      document = c.kept.ensures.document;
-      real = c.kept.ensures.site;
-      within = subst (λ n. place < n) (sym (length-map (shown_by (viewed flat own others)) (λ (cell : TaggedCell). cell.ch))) c.requires.place;
-    } in
-    let f = found table kept flat own others place pieces c.limits-2.result c.stretch.result c.left_of-behind.result c.shown_before-left.result c.shown_at-right.result c.stamp_or_root-after.result c.kept.ensures.cells is
-    c.limits-2.ensures (c.stretch.ensures.value ∙ ap (stretch_of kept) (c.limits.ensures ∙ sym c.limits-2.ensures)) c.left_of-behind.ensures c.shown_before-left.ensures c.shown_at-right.ensures c.stamp_or_root-after.ensures in
-    let left = option_map (shown table) c.shown_before-left.result in
-    let right = option_map (shown table) c.shown_at-right.result in
-    let at = c.stretch.result.begin + place in
-    let point = in_text (viewed flat own others) place in
-    let stamps_now = stamps_in c.widget.inside.parts.selection in
-    let any = any_some c.shown_at-right.result (stamps_now ≡ stamps_now) refl in
+    let is = place_is flat own others place c.kept.ensures.history c.kept.ensures.document c.kept.ensures.site c.requires.place in
     let drafts : map body_of c.in_ok-plan.plan.drafts.items ≡ made_drafts flat own others place pieces rest =
-    drafts_are flat own others place pieces rest c.site-site.result.number c.seen-count.result stamps_now at c.stamp_or_root-after.result left right site count sel f (map body_of c.in_ok-plan.plan.drafts.items)
-    (c.in_ok-plan.ensures.drafts stamps_now (selections_of others) flat.tags any) in
+    c.in_ok-plan.ensures.drafts others in
     let plans : Plans c.in_ok-plan.plan own.sel (selections_of others) flat.tags (made_new flat own others place pieces rest) =
-    plans_are flat own others place pieces rest c.site-site.result.number c.seen-count.result stamps_now at c.stamp_or_root-after.result left right site count sel f c.in_ok-plan.plan
-    (c.in_ok-plan.ensures.plans stamps_now (selections_of others) flat.tags any) in
+    c.in_ok-plan.ensures.plans others in
     let fit = all_fit flat own others place pieces rest is
     (sym (λ i. refusal_of (c.self.view_is i).limit (drafts i) (c.self.view_is i).log) ∙ c.in_ok-_made.ensures.fits) in
     let characters : c.in_ok-plan.plan.characters ≡ length (made_new flat own others place pieces rest).cells = plans.characters in
@@ -309,32 +162,12 @@ inserted-requires-2-clause-insert g c =
     let others = map own_in c.args.others.now in
     let pieces = c.args.pieces.now in
     let rest = c.args.rest.now in
-    let site : c.site-site.result.number ≡ flat.site = c.site-site.ensures ∙ ap (λ (f : Flat). f.site) c.self.view_is in
-    let count : c.seen-count.result ≡ flat.count = c.seen-count.ensures.value ∙ c.clock.ensures ∙ ap (λ (f : Flat). f.count) c.self.view_is in
-    let sel : stamps_in c.widget.inside.parts.selection ≡ own.sel = ap (λ (o : Own). o.sel) c.widget.view_is in
-    let table = c.kept.result.1.now in
-    let kept = g.S.TextStore.list c.kept.result.0.now in
     let place = c.args.place in
-    let is : IsPlace flat own others place = record {
-      history = c.kept.ensures.history;
-      document = c.kept.ensures.document;
-      real = c.kept.ensures.site;
-      within = subst (λ n. place < n) (sym (length-map (shown_by (viewed flat own others)) (λ (cell : TaggedCell). cell.ch))) c.requires.place;
-    } in
-    let f = found table kept flat own others place pieces c.limits-2.result c.stretch.result c.left_of-behind.result c.shown_before-left.result c.shown_at-right.result c.stamp_or_root-after.result c.kept.ensures.cells is
-    c.limits-2.ensures (c.stretch.ensures.value ∙ ap (stretch_of kept) (c.limits.ensures ∙ sym c.limits-2.ensures)) c.left_of-behind.ensures c.shown_before-left.ensures c.shown_at-right.ensures c.stamp_or_root-after.ensures in
-    let left = option_map (shown table) c.shown_before-left.result in
-    let right = option_map (shown table) c.shown_at-right.result in
-    let at = c.stretch.result.begin + place in
-    let point = in_text (viewed flat own others) place in
-    let stamps_now = stamps_in c.widget.inside.parts.selection in
-    let any = any_some c.shown_at-right.result (stamps_now ≡ stamps_now) refl in
+    let is = place_is flat own others place c.kept.ensures.history c.kept.ensures.document c.kept.ensures.site c.requires.place in
     let drafts : map body_of c.in_ok-plan.plan.drafts.items ≡ made_drafts flat own others place pieces rest =
-    drafts_are flat own others place pieces rest c.site-site.result.number c.seen-count.result stamps_now at c.stamp_or_root-after.result left right site count sel f (map body_of c.in_ok-plan.plan.drafts.items)
-    (c.in_ok-plan.ensures.drafts stamps_now (selections_of others) flat.tags any) in
+    c.in_ok-plan.ensures.drafts others in
     let plans : Plans c.in_ok-plan.plan own.sel (selections_of others) flat.tags (made_new flat own others place pieces rest) =
-    plans_are flat own others place pieces rest c.site-site.result.number c.seen-count.result stamps_now at c.stamp_or_root-after.result left right site count sel f c.in_ok-plan.plan
-    (c.in_ok-plan.ensures.plans stamps_now (selections_of others) flat.tags any) in
+    c.in_ok-plan.ensures.plans others in
     let fit = all_fit flat own others place pieces rest is
     (sym (λ i. refusal_of (c.self.view_is i).limit (drafts i) (c.self.view_is i).log) ∙ c.in_ok-_made.ensures.fits) in
     let characters : c.in_ok-plan.plan.characters ≡ length (made_new flat own others place pieces rest).cells = plans.characters in
@@ -350,32 +183,12 @@ inserted-requires-2-clause-current g c =
     let others = map own_in c.args.others.now in
     let pieces = c.args.pieces.now in
     let rest = c.args.rest.now in
-    let site : c.site-site.result.number ≡ flat.site = c.site-site.ensures ∙ ap (λ (f : Flat). f.site) c.self.view_is in
-    let count : c.seen-count.result ≡ flat.count = c.seen-count.ensures.value ∙ c.clock.ensures ∙ ap (λ (f : Flat). f.count) c.self.view_is in
-    let sel : stamps_in c.widget.inside.parts.selection ≡ own.sel = ap (λ (o : Own). o.sel) c.widget.view_is in
-    let table = c.kept.result.1.now in
-    let kept = g.S.TextStore.list c.kept.result.0.now in
     let place = c.args.place in
-    let is : IsPlace flat own others place = record {
-      history = c.kept.ensures.history;
-      document = c.kept.ensures.document;
-      real = c.kept.ensures.site;
-      within = subst (λ n. place < n) (sym (length-map (shown_by (viewed flat own others)) (λ (cell : TaggedCell). cell.ch))) c.requires.place;
-    } in
-    let f = found table kept flat own others place pieces c.limits-2.result c.stretch.result c.left_of-behind.result c.shown_before-left.result c.shown_at-right.result c.stamp_or_root-after.result c.kept.ensures.cells is
-    c.limits-2.ensures (c.stretch.ensures.value ∙ ap (stretch_of kept) (c.limits.ensures ∙ sym c.limits-2.ensures)) c.left_of-behind.ensures c.shown_before-left.ensures c.shown_at-right.ensures c.stamp_or_root-after.ensures in
-    let left = option_map (shown table) c.shown_before-left.result in
-    let right = option_map (shown table) c.shown_at-right.result in
-    let at = c.stretch.result.begin + place in
-    let point = in_text (viewed flat own others) place in
-    let stamps_now = stamps_in c.widget.inside.parts.selection in
-    let any = any_some c.shown_at-right.result (stamps_now ≡ stamps_now) refl in
+    let is = place_is flat own others place c.kept.ensures.history c.kept.ensures.document c.kept.ensures.site c.requires.place in
     let drafts : map body_of c.in_ok-plan.plan.drafts.items ≡ made_drafts flat own others place pieces rest =
-    drafts_are flat own others place pieces rest c.site-site.result.number c.seen-count.result stamps_now at c.stamp_or_root-after.result left right site count sel f (map body_of c.in_ok-plan.plan.drafts.items)
-    (c.in_ok-plan.ensures.drafts stamps_now (selections_of others) flat.tags any) in
+    c.in_ok-plan.ensures.drafts others in
     let plans : Plans c.in_ok-plan.plan own.sel (selections_of others) flat.tags (made_new flat own others place pieces rest) =
-    plans_are flat own others place pieces rest c.site-site.result.number c.seen-count.result stamps_now at c.stamp_or_root-after.result left right site count sel f c.in_ok-plan.plan
-    (c.in_ok-plan.ensures.plans stamps_now (selections_of others) flat.tags any) in
+    c.in_ok-plan.ensures.plans others in
     let fit = all_fit flat own others place pieces rest is
     (sym (λ i. refusal_of (c.self.view_is i).limit (drafts i) (c.self.view_is i).log) ∙ c.in_ok-_made.ensures.fits) in
     let characters : c.in_ok-plan.plan.characters ≡ length (made_new flat own others place pieces rest).cells = plans.characters in
@@ -391,32 +204,12 @@ insert_each-requires g c =
     let others = map own_in c.args.others.now in
     let pieces = c.args.pieces.now in
     let rest = c.args.rest.now in
-    let site : c.site-site.result.number ≡ flat.site = c.site-site.ensures ∙ ap (λ (f : Flat). f.site) c.self.view_is in
-    let count : c.seen-count.result ≡ flat.count = c.seen-count.ensures.value ∙ c.clock.ensures ∙ ap (λ (f : Flat). f.count) c.self.view_is in
-    let sel : stamps_in c.widget.inside.parts.selection ≡ own.sel = ap (λ (o : Own). o.sel) c.widget.view_is in
-    let table = c.kept.result.1.now in
-    let kept = g.S.TextStore.list c.kept.result.0.now in
     let place = c.args.place in
-    let is : IsPlace flat own others place = record {
-      history = c.kept.ensures.history;
-      document = c.kept.ensures.document;
-      real = c.kept.ensures.site;
-      within = subst (λ n. place < n) (sym (length-map (shown_by (viewed flat own others)) (λ (cell : TaggedCell). cell.ch))) c.requires.place;
-    } in
-    let f = found table kept flat own others place pieces c.limits-2.result c.stretch.result c.left_of-behind.result c.shown_before-left.result c.shown_at-right.result c.stamp_or_root-after.result c.kept.ensures.cells is
-    c.limits-2.ensures (c.stretch.ensures.value ∙ ap (stretch_of kept) (c.limits.ensures ∙ sym c.limits-2.ensures)) c.left_of-behind.ensures c.shown_before-left.ensures c.shown_at-right.ensures c.stamp_or_root-after.ensures in
-    let left = option_map (shown table) c.shown_before-left.result in
-    let right = option_map (shown table) c.shown_at-right.result in
-    let at = c.stretch.result.begin + place in
-    let point = in_text (viewed flat own others) place in
-    let stamps_now = stamps_in c.widget.inside.parts.selection in
-    let any = any_some c.shown_at-right.result (stamps_now ≡ stamps_now) refl in
+    let is = place_is flat own others place c.kept.ensures.history c.kept.ensures.document c.kept.ensures.site c.requires.place in
     let drafts : map body_of c.in_ok-plan.plan.drafts.items ≡ made_drafts flat own others place pieces rest =
-    drafts_are flat own others place pieces rest c.site-site.result.number c.seen-count.result stamps_now at c.stamp_or_root-after.result left right site count sel f (map body_of c.in_ok-plan.plan.drafts.items)
-    (c.in_ok-plan.ensures.drafts stamps_now (selections_of others) flat.tags any) in
+    c.in_ok-plan.ensures.drafts others in
     let plans : Plans c.in_ok-plan.plan own.sel (selections_of others) flat.tags (made_new flat own others place pieces rest) =
-    plans_are flat own others place pieces rest c.site-site.result.number c.seen-count.result stamps_now at c.stamp_or_root-after.result left right site count sel f c.in_ok-plan.plan
-    (c.in_ok-plan.ensures.plans stamps_now (selections_of others) flat.tags any) in
+    c.in_ok-plan.ensures.plans others in
     let fit = all_fit flat own others place pieces rest is
     (sym (λ i. refusal_of (c.self.view_is i).limit (drafts i) (c.self.view_is i).log) ∙ c.in_ok-_made.ensures.fits) in
     let characters : c.in_ok-plan.plan.characters ≡ length (made_new flat own others place pieces rest).cells = plans.characters in
@@ -435,29 +228,10 @@ list_tags-requires-clause-names g c =
     let others = map own_in c.args.others.now in
     let pieces = c.args.pieces.now in
     let rest = c.args.rest.now in
-    let site : c.site-site.result.number ≡ flat.site = c.site-site.ensures ∙ ap (λ (f : Flat). f.site) c.self.view_is in
-    let count : c.seen-count.result ≡ flat.count = c.seen-count.ensures.value ∙ c.clock.ensures ∙ ap (λ (f : Flat). f.count) c.self.view_is in
-    let sel : stamps_in c.widget.inside.parts.selection ≡ own.sel = ap (λ (o : Own). o.sel) c.widget.view_is in
-    let table = c.kept.result.1.now in
-    let kept = g.S.TextStore.list c.kept.result.0.now in
     let place = c.args.place in
-    let is : IsPlace flat own others place = record {
-      history = c.kept.ensures.history;
-      document = c.kept.ensures.document;
-      real = c.kept.ensures.site;
-      within = subst (λ n. place < n) (sym (length-map (shown_by (viewed flat own others)) (λ (cell : TaggedCell). cell.ch))) c.requires.place;
-    } in
-    let f = found table kept flat own others place pieces c.limits-2.result c.stretch.result c.left_of-behind.result c.shown_before-left.result c.shown_at-right.result c.stamp_or_root-after.result c.kept.ensures.cells is
-    c.limits-2.ensures (c.stretch.ensures.value ∙ ap (stretch_of kept) (c.limits.ensures ∙ sym c.limits-2.ensures)) c.left_of-behind.ensures c.shown_before-left.ensures c.shown_at-right.ensures c.stamp_or_root-after.ensures in
-    let left = option_map (shown table) c.shown_before-left.result in
-    let right = option_map (shown table) c.shown_at-right.result in
-    let at = c.stretch.result.begin + place in
-    let point = in_text (viewed flat own others) place in
-    let stamps_now = stamps_in c.widget.inside.parts.selection in
-    let any = any_some c.shown_at-right.result (stamps_now ≡ stamps_now) refl in
+    let is = place_is flat own others place c.kept.ensures.history c.kept.ensures.document c.kept.ensures.site c.requires.place in
     let plans : Plans c.in_ok-plan.plan own.sel (selections_of others) flat.tags (made_new flat own others place pieces rest) =
-    plans_are flat own others place pieces rest c.site-site.result.number c.seen-count.result stamps_now at c.stamp_or_root-after.result left right site count sel f c.in_ok-plan.plan
-    (c.in_ok-plan.ensures.plans stamps_now (selections_of others) flat.tags any) in
+    c.in_ok-plan.ensures.plans others in
     let listed : AreListed flat.tags flat.cells = subst (λ (f : Flat). AreListed f.tags f.cells) c.self.view_is c.self.invariant.listed in
     subst (All (λ w. IsName (string_bytes w))) (sym c.deref-2.ensures.value)
     (names_given flat own others place pieces rest is c.in_ok-plan.plan plans c.requires.pieces listed)
@@ -469,32 +243,16 @@ invariant_of-self-2 g c =
     let others = map own_in c.args.others.now in
     let pieces = c.args.pieces.now in
     let rest = c.args.rest.now in
-    let site : c.site-site.result.number ≡ flat.site = c.site-site.ensures ∙ ap (λ (f : Flat). f.site) c.self.view_is in
-    let count : c.seen-count.result ≡ flat.count = c.seen-count.ensures.value ∙ c.clock.ensures ∙ ap (λ (f : Flat). f.count) c.self.view_is in
-    let sel : stamps_in c.widget.inside.parts.selection ≡ own.sel = ap (λ (o : Own). o.sel) c.widget.view_is in
-    let table = c.kept.result.1.now in
-    let kept = g.S.TextStore.list c.kept.result.0.now in
     let place = c.args.place in
-    let is : IsPlace flat own others place = record {
-      history = c.kept.ensures.history;
-      document = c.kept.ensures.document;
-      real = c.kept.ensures.site;
-      within = subst (λ n. place < n) (sym (length-map (shown_by (viewed flat own others)) (λ (cell : TaggedCell). cell.ch))) c.requires.place;
-    } in
-    let f = found table kept flat own others place pieces c.limits-2.result c.stretch.result c.left_of-behind.result c.shown_before-left.result c.shown_at-right.result c.stamp_or_root-after.result c.kept.ensures.cells is
-    c.limits-2.ensures (c.stretch.ensures.value ∙ ap (stretch_of kept) (c.limits.ensures ∙ sym c.limits-2.ensures)) c.left_of-behind.ensures c.shown_before-left.ensures c.shown_at-right.ensures c.stamp_or_root-after.ensures in
-    let left = option_map (shown table) c.shown_before-left.result in
-    let right = option_map (shown table) c.shown_at-right.result in
     let at = c.stretch.result.begin + place in
     let point = in_text (viewed flat own others) place in
-    let stamps_now = stamps_in c.widget.inside.parts.selection in
-    let any = any_some c.shown_at-right.result (stamps_now ≡ stamps_now) refl in
+    let here : at ≡ point =
+    at_is c.kept.result.1.now (g.S.TextStore.list c.kept.result.0.now) flat own others place c.limits.result c.stretch.result c.kept.ensures.cells c.limits.ensures c.stretch.ensures.value in
+    let is = place_is flat own others place c.kept.ensures.history c.kept.ensures.document c.kept.ensures.site c.requires.place in
     let drafts : map body_of c.in_ok-plan.plan.drafts.items ≡ made_drafts flat own others place pieces rest =
-    drafts_are flat own others place pieces rest c.site-site.result.number c.seen-count.result stamps_now at c.stamp_or_root-after.result left right site count sel f (map body_of c.in_ok-plan.plan.drafts.items)
-    (c.in_ok-plan.ensures.drafts stamps_now (selections_of others) flat.tags any) in
+    c.in_ok-plan.ensures.drafts others in
     let plans : Plans c.in_ok-plan.plan own.sel (selections_of others) flat.tags (made_new flat own others place pieces rest) =
-    plans_are flat own others place pieces rest c.site-site.result.number c.seen-count.result stamps_now at c.stamp_or_root-after.result left right site count sel f c.in_ok-plan.plan
-    (c.in_ok-plan.ensures.plans stamps_now (selections_of others) flat.tags any) in
+    c.in_ok-plan.ensures.plans others in
     let fit = all_fit flat own others place pieces rest is
     (sym (λ i. refusal_of (c.self.view_is i).limit (drafts i) (c.self.view_is i).log) ∙ c.in_ok-_made.ensures.fits) in
     let new = made_new flat own others place pieces rest in
@@ -504,7 +262,7 @@ invariant_of-self-2 g c =
     let made = made_is flat own others place pieces rest is c.requires.pieces c.utf8.rest fit.0 in
     let doc : seen c.make.new.self edited.marks edited.tags ≡ logged flat bodies edited =
     seen_made flat edited bodies c.make.new.self log c.in_ok-_made.ensures.cells (c.make.ensures.site ∙ ap (λ (f : Flat). f.site) c.self.view_is) (c.make.ensures.limit ∙ ap (λ (f : Flat). f.limit) c.self.view_is) refl made in
-    let marks : c.inserted.new.self ≡ edited.marks = c.inserted.ensures ∙ (λ i. marks_inserted (f.here i) (plans.characters i) (c.self.view_is i).marks) in
+    let marks : c.inserted.new.self ≡ edited.marks = c.inserted.ensures ∙ (λ i. marks_inserted (here i) (plans.characters i) (c.self.view_is i).marks) in
     let tags : c.list_tags.new.table.names ≡ edited.tags =
     c.list_tags.ensures ∙ (λ i. all_listed (map (λ w. string_bytes w) (c.deref-2.ensures.value i)) (c.make_room.ensures.tags i)) ∙ ap (λ (f : Flat). all_listed (map (λ w. string_bytes w) c.in_ok-plan.plan.names.items) f.tags) c.self.view_is ∙ plans.tags in
     let kept = kept_made flat own others place pieces rest is c.requires.pieces (subst (λ (f : Flat). IsDoc f.cells f.marks f.tags) c.self.view_is c.self.invariant) in
@@ -517,32 +275,16 @@ returns-clause-ok g c =
     let others = map own_in c.args.others.now in
     let pieces = c.args.pieces.now in
     let rest = c.args.rest.now in
-    let site : c.site-site.result.number ≡ flat.site = c.site-site.ensures ∙ ap (λ (f : Flat). f.site) c.self.view_is in
-    let count : c.seen-count.result ≡ flat.count = c.seen-count.ensures.value ∙ c.clock.ensures ∙ ap (λ (f : Flat). f.count) c.self.view_is in
-    let sel : stamps_in c.widget.inside.parts.selection ≡ own.sel = ap (λ (o : Own). o.sel) c.widget.view_is in
-    let table = c.kept.result.1.now in
-    let kept = g.S.TextStore.list c.kept.result.0.now in
     let place = c.args.place in
-    let is : IsPlace flat own others place = record {
-      history = c.kept.ensures.history;
-      document = c.kept.ensures.document;
-      real = c.kept.ensures.site;
-      within = subst (λ n. place < n) (sym (length-map (shown_by (viewed flat own others)) (λ (cell : TaggedCell). cell.ch))) c.requires.place;
-    } in
-    let f = found table kept flat own others place pieces c.limits-2.result c.stretch.result c.left_of-behind.result c.shown_before-left.result c.shown_at-right.result c.stamp_or_root-after.result c.kept.ensures.cells is
-    c.limits-2.ensures (c.stretch.ensures.value ∙ ap (stretch_of kept) (c.limits.ensures ∙ sym c.limits-2.ensures)) c.left_of-behind.ensures c.shown_before-left.ensures c.shown_at-right.ensures c.stamp_or_root-after.ensures in
-    let left = option_map (shown table) c.shown_before-left.result in
-    let right = option_map (shown table) c.shown_at-right.result in
     let at = c.stretch.result.begin + place in
     let point = in_text (viewed flat own others) place in
-    let stamps_now = stamps_in c.widget.inside.parts.selection in
-    let any = any_some c.shown_at-right.result (stamps_now ≡ stamps_now) refl in
+    let here : at ≡ point =
+    at_is c.kept.result.1.now (g.S.TextStore.list c.kept.result.0.now) flat own others place c.limits.result c.stretch.result c.kept.ensures.cells c.limits.ensures c.stretch.ensures.value in
+    let is = place_is flat own others place c.kept.ensures.history c.kept.ensures.document c.kept.ensures.site c.requires.place in
     let drafts : map body_of c.in_ok-plan.plan.drafts.items ≡ made_drafts flat own others place pieces rest =
-    drafts_are flat own others place pieces rest c.site-site.result.number c.seen-count.result stamps_now at c.stamp_or_root-after.result left right site count sel f (map body_of c.in_ok-plan.plan.drafts.items)
-    (c.in_ok-plan.ensures.drafts stamps_now (selections_of others) flat.tags any) in
+    c.in_ok-plan.ensures.drafts others in
     let plans : Plans c.in_ok-plan.plan own.sel (selections_of others) flat.tags (made_new flat own others place pieces rest) =
-    plans_are flat own others place pieces rest c.site-site.result.number c.seen-count.result stamps_now at c.stamp_or_root-after.result left right site count sel f c.in_ok-plan.plan
-    (c.in_ok-plan.ensures.plans stamps_now (selections_of others) flat.tags any) in
+    c.in_ok-plan.ensures.plans others in
     let fit = all_fit flat own others place pieces rest is
     (sym (λ i. refusal_of (c.self.view_is i).limit (drafts i) (c.self.view_is i).log) ∙ c.in_ok-_made.ensures.fits) in
     let new = made_new flat own others place pieces rest in
@@ -552,19 +294,20 @@ returns-clause-ok g c =
     let made = made_is flat own others place pieces rest is c.requires.pieces c.utf8.rest fit.0 in
     let doc : seen c.make.new.self edited.marks edited.tags ≡ logged flat bodies edited =
     seen_made flat edited bodies c.make.new.self log c.in_ok-_made.ensures.cells (c.make.ensures.site ∙ ap (λ (f : Flat). f.site) c.self.view_is) (c.make.ensures.limit ∙ ap (λ (f : Flat). f.limit) c.self.view_is) refl made in
-    let marks : c.inserted.new.self ≡ edited.marks = c.inserted.ensures ∙ (λ i. marks_inserted (f.here i) (plans.characters i) (c.self.view_is i).marks) in
+    let marks : c.inserted.new.self ≡ edited.marks = c.inserted.ensures ∙ (λ i. marks_inserted (here i) (plans.characters i) (c.self.view_is i).marks) in
     let tags : c.list_tags.new.table.names ≡ edited.tags =
     c.list_tags.ensures ∙ (λ i. all_listed (map (λ w. string_bytes w) (c.deref-2.ensures.value i)) (c.make_room.ensures.tags i)) ∙ ap (λ (f : Flat). all_listed (map (λ w. string_bytes w) c.in_ok-plan.plan.names.items) f.tags) c.self.view_is ∙ plans.tags in
+    let sel : stamps_in c.widget.inside.parts.selection ≡ own.sel = ap (λ (o : Own). o.sel) c.widget.view_is in
     let own_now : Own = own_in c.widget.inside.parts in
     let stamps : stamps_in c.add.new.self ≡ new.sel =
     c.add.ensures ∙ (λ i. with_stamps (c.deref.ensures.value i) (c.make_room.ensures.selection i)) ∙ ap (with_stamps c.in_ok-plan.plan.selected.items) sel ∙ plans.sel in
     let own_after : c.inserted-2.new.self ≡ record (own_inserted point (length new.cells) own) { sel = new.sel } =
     c.inserted-2.ensures
-    ∙ (λ i. record { insert = mark_inserted (f.here i) (plans.characters i) own_now.insert; current = mark_inserted (f.here i) (plans.characters i) own_now.current; sel = stamps i; limits = own_now.limits })
+    ∙ (λ i. record { insert = mark_inserted (here i) (plans.characters i) own_now.insert; current = mark_inserted (here i) (plans.characters i) own_now.current; sel = stamps i; limits = own_now.limits })
     ∙ ap (λ (o : Own). record (own_inserted point (length new.cells) o) { sel = new.sel }) c.widget.view_is in
     let others_after : map own_in c.insert_each.new.others ≡ with_selections new.others (map (own_inserted point (length new.cells)) others) =
     c.insert_each.ensures ∙ ap (map (own_inserted at c.in_ok-plan.plan.characters)) (c.select_between.ensures ∙ ap (map (selecting c.in_ok-plan.plan.between)) c.make_room.ensures.others)
-    ∙ (λ i. map (own_inserted (f.here i) (plans.characters i)) (map (selecting c.in_ok-plan.plan.between) others)) ∙ put_each point (length new.cells) c.in_ok-plan.plan.between others
+    ∙ (λ i. map (own_inserted (here i) (plans.characters i)) (map (selecting c.in_ok-plan.plan.between) others)) ∙ put_each point (length new.cells) c.in_ok-plan.plan.between others
     ∙ ap (λ l. with_selections l (map (own_inserted point (length new.cells)) others)) plans.others in
     (λ i. record { doc = seen c.make.new.self (marks i) (tags i); own = own_after i; others = others_after i })
     ∙ ap (λ (f : Flat). record { doc = f; own = record (own_inserted point (length new.cells) own) { sel = new.sel }; others = with_selections new.others (map (own_inserted point (length new.cells)) others) }) doc
@@ -577,32 +320,16 @@ returns-clause-checked g c =
     let others = map own_in c.args.others.now in
     let pieces = c.args.pieces.now in
     let rest = c.args.rest.now in
-    let site : c.site-site.result.number ≡ flat.site = c.site-site.ensures ∙ ap (λ (f : Flat). f.site) c.self.view_is in
-    let count : c.seen-count.result ≡ flat.count = c.seen-count.ensures.value ∙ c.clock.ensures ∙ ap (λ (f : Flat). f.count) c.self.view_is in
-    let sel : stamps_in c.widget.inside.parts.selection ≡ own.sel = ap (λ (o : Own). o.sel) c.widget.view_is in
-    let table = c.kept.result.1.now in
-    let kept = g.S.TextStore.list c.kept.result.0.now in
     let place = c.args.place in
-    let is : IsPlace flat own others place = record {
-      history = c.kept.ensures.history;
-      document = c.kept.ensures.document;
-      real = c.kept.ensures.site;
-      within = subst (λ n. place < n) (sym (length-map (shown_by (viewed flat own others)) (λ (cell : TaggedCell). cell.ch))) c.requires.place;
-    } in
-    let f = found table kept flat own others place pieces c.limits-2.result c.stretch.result c.left_of-behind.result c.shown_before-left.result c.shown_at-right.result c.stamp_or_root-after.result c.kept.ensures.cells is
-    c.limits-2.ensures (c.stretch.ensures.value ∙ ap (stretch_of kept) (c.limits.ensures ∙ sym c.limits-2.ensures)) c.left_of-behind.ensures c.shown_before-left.ensures c.shown_at-right.ensures c.stamp_or_root-after.ensures in
-    let left = option_map (shown table) c.shown_before-left.result in
-    let right = option_map (shown table) c.shown_at-right.result in
     let at = c.stretch.result.begin + place in
     let point = in_text (viewed flat own others) place in
-    let stamps_now = stamps_in c.widget.inside.parts.selection in
-    let any = any_some c.shown_at-right.result (stamps_now ≡ stamps_now) refl in
+    let here : at ≡ point =
+    at_is c.kept.result.1.now (g.S.TextStore.list c.kept.result.0.now) flat own others place c.limits.result c.stretch.result c.kept.ensures.cells c.limits.ensures c.stretch.ensures.value in
+    let is = place_is flat own others place c.kept.ensures.history c.kept.ensures.document c.kept.ensures.site c.requires.place in
     let drafts : map body_of c.in_ok-plan.plan.drafts.items ≡ made_drafts flat own others place pieces rest =
-    drafts_are flat own others place pieces rest c.site-site.result.number c.seen-count.result stamps_now at c.stamp_or_root-after.result left right site count sel f (map body_of c.in_ok-plan.plan.drafts.items)
-    (c.in_ok-plan.ensures.drafts stamps_now (selections_of others) flat.tags any) in
+    c.in_ok-plan.ensures.drafts others in
     let plans : Plans c.in_ok-plan.plan own.sel (selections_of others) flat.tags (made_new flat own others place pieces rest) =
-    plans_are flat own others place pieces rest c.site-site.result.number c.seen-count.result stamps_now at c.stamp_or_root-after.result left right site count sel f c.in_ok-plan.plan
-    (c.in_ok-plan.ensures.plans stamps_now (selections_of others) flat.tags any) in
+    c.in_ok-plan.ensures.plans others in
     let fit = all_fit flat own others place pieces rest is
     (sym (λ i. refusal_of (c.self.view_is i).limit (drafts i) (c.self.view_is i).log) ∙ c.in_ok-_made.ensures.fits) in
     let new = made_new flat own others place pieces rest in
@@ -612,7 +339,7 @@ returns-clause-checked g c =
     let made = made_is flat own others place pieces rest is c.requires.pieces c.utf8.rest fit.0 in
     let doc : seen c.make.new.self edited.marks edited.tags ≡ logged flat bodies edited =
     seen_made flat edited bodies c.make.new.self log c.in_ok-_made.ensures.cells (c.make.ensures.site ∙ ap (λ (f : Flat). f.site) c.self.view_is) (c.make.ensures.limit ∙ ap (λ (f : Flat). f.limit) c.self.view_is) refl made in
-    let marks : c.inserted.new.self ≡ edited.marks = c.inserted.ensures ∙ (λ i. marks_inserted (f.here i) (plans.characters i) (c.self.view_is i).marks) in
+    let marks : c.inserted.new.self ≡ edited.marks = c.inserted.ensures ∙ (λ i. marks_inserted (here i) (plans.characters i) (c.self.view_is i).marks) in
     let tags : c.list_tags.new.table.names ≡ edited.tags =
     c.list_tags.ensures ∙ (λ i. all_listed (map (λ w. string_bytes w) (c.deref-2.ensures.value i)) (c.make_room.ensures.tags i)) ∙ ap (λ (f : Flat). all_listed (map (λ w. string_bytes w) c.in_ok-plan.plan.names.items) f.tags) c.self.view_is ∙ plans.tags in
     (λ i. first_of (late_checks flat (record { doc = doc i; own = own; others = others })))
@@ -626,32 +353,16 @@ returns-clause-own g c =
     let others = map own_in c.args.others.now in
     let pieces = c.args.pieces.now in
     let rest = c.args.rest.now in
-    let site : c.site-site.result.number ≡ flat.site = c.site-site.ensures ∙ ap (λ (f : Flat). f.site) c.self.view_is in
-    let count : c.seen-count.result ≡ flat.count = c.seen-count.ensures.value ∙ c.clock.ensures ∙ ap (λ (f : Flat). f.count) c.self.view_is in
-    let sel : stamps_in c.widget.inside.parts.selection ≡ own.sel = ap (λ (o : Own). o.sel) c.widget.view_is in
-    let table = c.kept.result.1.now in
-    let kept = g.S.TextStore.list c.kept.result.0.now in
     let place = c.args.place in
-    let is : IsPlace flat own others place = record {
-      history = c.kept.ensures.history;
-      document = c.kept.ensures.document;
-      real = c.kept.ensures.site;
-      within = subst (λ n. place < n) (sym (length-map (shown_by (viewed flat own others)) (λ (cell : TaggedCell). cell.ch))) c.requires.place;
-    } in
-    let f = found table kept flat own others place pieces c.limits-2.result c.stretch.result c.left_of-behind.result c.shown_before-left.result c.shown_at-right.result c.stamp_or_root-after.result c.kept.ensures.cells is
-    c.limits-2.ensures (c.stretch.ensures.value ∙ ap (stretch_of kept) (c.limits.ensures ∙ sym c.limits-2.ensures)) c.left_of-behind.ensures c.shown_before-left.ensures c.shown_at-right.ensures c.stamp_or_root-after.ensures in
-    let left = option_map (shown table) c.shown_before-left.result in
-    let right = option_map (shown table) c.shown_at-right.result in
     let at = c.stretch.result.begin + place in
     let point = in_text (viewed flat own others) place in
-    let stamps_now = stamps_in c.widget.inside.parts.selection in
-    let any = any_some c.shown_at-right.result (stamps_now ≡ stamps_now) refl in
+    let here : at ≡ point =
+    at_is c.kept.result.1.now (g.S.TextStore.list c.kept.result.0.now) flat own others place c.limits.result c.stretch.result c.kept.ensures.cells c.limits.ensures c.stretch.ensures.value in
+    let is = place_is flat own others place c.kept.ensures.history c.kept.ensures.document c.kept.ensures.site c.requires.place in
     let drafts : map body_of c.in_ok-plan.plan.drafts.items ≡ made_drafts flat own others place pieces rest =
-    drafts_are flat own others place pieces rest c.site-site.result.number c.seen-count.result stamps_now at c.stamp_or_root-after.result left right site count sel f (map body_of c.in_ok-plan.plan.drafts.items)
-    (c.in_ok-plan.ensures.drafts stamps_now (selections_of others) flat.tags any) in
+    c.in_ok-plan.ensures.drafts others in
     let plans : Plans c.in_ok-plan.plan own.sel (selections_of others) flat.tags (made_new flat own others place pieces rest) =
-    plans_are flat own others place pieces rest c.site-site.result.number c.seen-count.result stamps_now at c.stamp_or_root-after.result left right site count sel f c.in_ok-plan.plan
-    (c.in_ok-plan.ensures.plans stamps_now (selections_of others) flat.tags any) in
+    c.in_ok-plan.ensures.plans others in
     let fit = all_fit flat own others place pieces rest is
     (sym (λ i. refusal_of (c.self.view_is i).limit (drafts i) (c.self.view_is i).log) ∙ c.in_ok-_made.ensures.fits) in
     let listed : AreListed flat.tags flat.cells = subst (λ (f : Flat). AreListed f.tags f.cells) c.self.view_is c.self.invariant.listed in
@@ -662,15 +373,16 @@ returns-clause-own g c =
     let made = made_is flat own others place pieces rest is c.requires.pieces c.utf8.rest fit.0 in
     let doc : seen c.make.new.self edited.marks edited.tags ≡ logged flat bodies edited =
     seen_made flat edited bodies c.make.new.self log c.in_ok-_made.ensures.cells (c.make.ensures.site ∙ ap (λ (f : Flat). f.site) c.self.view_is) (c.make.ensures.limit ∙ ap (λ (f : Flat). f.limit) c.self.view_is) refl made in
-    let marks : c.inserted.new.self ≡ edited.marks = c.inserted.ensures ∙ (λ i. marks_inserted (f.here i) (plans.characters i) (c.self.view_is i).marks) in
+    let marks : c.inserted.new.self ≡ edited.marks = c.inserted.ensures ∙ (λ i. marks_inserted (here i) (plans.characters i) (c.self.view_is i).marks) in
     let tags : c.list_tags.new.table.names ≡ edited.tags =
     c.list_tags.ensures ∙ (λ i. all_listed (map (λ w. string_bytes w) (c.deref-2.ensures.value i)) (c.make_room.ensures.tags i)) ∙ ap (λ (f : Flat). all_listed (map (λ w. string_bytes w) c.in_ok-plan.plan.names.items) f.tags) c.self.view_is ∙ plans.tags in
+    let sel : stamps_in c.widget.inside.parts.selection ≡ own.sel = ap (λ (o : Own). o.sel) c.widget.view_is in
     let own_now : Own = own_in c.widget.inside.parts in
     let stamps : stamps_in c.add.new.self ≡ new.sel =
     c.add.ensures ∙ (λ i. with_stamps (c.deref.ensures.value i) (c.make_room.ensures.selection i)) ∙ ap (with_stamps c.in_ok-plan.plan.selected.items) sel ∙ plans.sel in
     let own_after : c.inserted-2.new.self ≡ record (own_inserted point (length new.cells) own) { sel = new.sel } =
     c.inserted-2.ensures
-    ∙ (λ i. record { insert = mark_inserted (f.here i) (plans.characters i) own_now.insert; current = mark_inserted (f.here i) (plans.characters i) own_now.current; sel = stamps i; limits = own_now.limits })
+    ∙ (λ i. record { insert = mark_inserted (here i) (plans.characters i) own_now.insert; current = mark_inserted (here i) (plans.characters i) own_now.current; sel = stamps i; limits = own_now.limits })
     ∙ ap (λ (o : Own). record (own_inserted point (length new.cells) o) { sel = new.sel }) c.widget.view_is in
     let is = own_made flat own others place pieces rest is c.requires.pieces listed c.requires.own in
     subst (λ (p : _). p) (λ i. IsOwnOf (length (text_of (sym doc i).cells)) (sym own_after i)) is
@@ -682,32 +394,16 @@ returns-clause-others g c =
     let others = map own_in c.args.others.now in
     let pieces = c.args.pieces.now in
     let rest = c.args.rest.now in
-    let site : c.site-site.result.number ≡ flat.site = c.site-site.ensures ∙ ap (λ (f : Flat). f.site) c.self.view_is in
-    let count : c.seen-count.result ≡ flat.count = c.seen-count.ensures.value ∙ c.clock.ensures ∙ ap (λ (f : Flat). f.count) c.self.view_is in
-    let sel : stamps_in c.widget.inside.parts.selection ≡ own.sel = ap (λ (o : Own). o.sel) c.widget.view_is in
-    let table = c.kept.result.1.now in
-    let kept = g.S.TextStore.list c.kept.result.0.now in
     let place = c.args.place in
-    let is : IsPlace flat own others place = record {
-      history = c.kept.ensures.history;
-      document = c.kept.ensures.document;
-      real = c.kept.ensures.site;
-      within = subst (λ n. place < n) (sym (length-map (shown_by (viewed flat own others)) (λ (cell : TaggedCell). cell.ch))) c.requires.place;
-    } in
-    let f = found table kept flat own others place pieces c.limits-2.result c.stretch.result c.left_of-behind.result c.shown_before-left.result c.shown_at-right.result c.stamp_or_root-after.result c.kept.ensures.cells is
-    c.limits-2.ensures (c.stretch.ensures.value ∙ ap (stretch_of kept) (c.limits.ensures ∙ sym c.limits-2.ensures)) c.left_of-behind.ensures c.shown_before-left.ensures c.shown_at-right.ensures c.stamp_or_root-after.ensures in
-    let left = option_map (shown table) c.shown_before-left.result in
-    let right = option_map (shown table) c.shown_at-right.result in
     let at = c.stretch.result.begin + place in
     let point = in_text (viewed flat own others) place in
-    let stamps_now = stamps_in c.widget.inside.parts.selection in
-    let any = any_some c.shown_at-right.result (stamps_now ≡ stamps_now) refl in
+    let here : at ≡ point =
+    at_is c.kept.result.1.now (g.S.TextStore.list c.kept.result.0.now) flat own others place c.limits.result c.stretch.result c.kept.ensures.cells c.limits.ensures c.stretch.ensures.value in
+    let is = place_is flat own others place c.kept.ensures.history c.kept.ensures.document c.kept.ensures.site c.requires.place in
     let drafts : map body_of c.in_ok-plan.plan.drafts.items ≡ made_drafts flat own others place pieces rest =
-    drafts_are flat own others place pieces rest c.site-site.result.number c.seen-count.result stamps_now at c.stamp_or_root-after.result left right site count sel f (map body_of c.in_ok-plan.plan.drafts.items)
-    (c.in_ok-plan.ensures.drafts stamps_now (selections_of others) flat.tags any) in
+    c.in_ok-plan.ensures.drafts others in
     let plans : Plans c.in_ok-plan.plan own.sel (selections_of others) flat.tags (made_new flat own others place pieces rest) =
-    plans_are flat own others place pieces rest c.site-site.result.number c.seen-count.result stamps_now at c.stamp_or_root-after.result left right site count sel f c.in_ok-plan.plan
-    (c.in_ok-plan.ensures.plans stamps_now (selections_of others) flat.tags any) in
+    c.in_ok-plan.ensures.plans others in
     let fit = all_fit flat own others place pieces rest is
     (sym (λ i. refusal_of (c.self.view_is i).limit (drafts i) (c.self.view_is i).log) ∙ c.in_ok-_made.ensures.fits) in
     let listed : AreListed flat.tags flat.cells = subst (λ (f : Flat). AreListed f.tags f.cells) c.self.view_is c.self.invariant.listed in
@@ -718,12 +414,12 @@ returns-clause-others g c =
     let made = made_is flat own others place pieces rest is c.requires.pieces c.utf8.rest fit.0 in
     let doc : seen c.make.new.self edited.marks edited.tags ≡ logged flat bodies edited =
     seen_made flat edited bodies c.make.new.self log c.in_ok-_made.ensures.cells (c.make.ensures.site ∙ ap (λ (f : Flat). f.site) c.self.view_is) (c.make.ensures.limit ∙ ap (λ (f : Flat). f.limit) c.self.view_is) refl made in
-    let marks : c.inserted.new.self ≡ edited.marks = c.inserted.ensures ∙ (λ i. marks_inserted (f.here i) (plans.characters i) (c.self.view_is i).marks) in
+    let marks : c.inserted.new.self ≡ edited.marks = c.inserted.ensures ∙ (λ i. marks_inserted (here i) (plans.characters i) (c.self.view_is i).marks) in
     let tags : c.list_tags.new.table.names ≡ edited.tags =
     c.list_tags.ensures ∙ (λ i. all_listed (map (λ w. string_bytes w) (c.deref-2.ensures.value i)) (c.make_room.ensures.tags i)) ∙ ap (λ (f : Flat). all_listed (map (λ w. string_bytes w) c.in_ok-plan.plan.names.items) f.tags) c.self.view_is ∙ plans.tags in
     let others_after : map own_in c.insert_each.new.others ≡ with_selections new.others (map (own_inserted point (length new.cells)) others) =
     c.insert_each.ensures ∙ ap (map (own_inserted at c.in_ok-plan.plan.characters)) (c.select_between.ensures ∙ ap (map (selecting c.in_ok-plan.plan.between)) c.make_room.ensures.others)
-    ∙ (λ i. map (own_inserted (f.here i) (plans.characters i)) (map (selecting c.in_ok-plan.plan.between) others)) ∙ put_each point (length new.cells) c.in_ok-plan.plan.between others
+    ∙ (λ i. map (own_inserted (here i) (plans.characters i)) (map (selecting c.in_ok-plan.plan.between) others)) ∙ put_each point (length new.cells) c.in_ok-plan.plan.between others
     ∙ ap (λ l. with_selections l (map (own_inserted point (length new.cells)) others)) plans.others in
     let are = others_made flat own others place pieces rest is c.requires.pieces listed c.requires.others in
     subst (λ (p : _). p) (λ i. AllByRecursion (IsOwnOf (length (text_of (sym doc i).cells))) (sym others_after i)) are
