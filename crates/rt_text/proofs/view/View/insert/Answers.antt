@@ -4,7 +4,7 @@ use Rattle.std.proofs.Common.{List, ◌≡◌, ◌∙◌, ◌⊎◌, ◌-◌, �
 use Rattle.std.specs.Prelude.{IfErr}
 use Rattle.std.specs.Vec.{with_items}
 use Rattle.std.proofs.lemmas.List.{length-map, with_items_is}
-use Rattle.std.proofs.lemmas.Result.{err_from_is_err_and}
+use Rattle.std.proofs.lemmas.Result.{err_from_is_err_and, on_err_weaker}
 use Rattle.rt_stamps.specs.declared.fault.Fault.TheVariants.{NoMemory}
 use Rattle.rt_stamps.specs.Outcomes.{first_of}
 use Rattle.rt_store.specs.Cells.{text_of}
@@ -72,3 +72,12 @@ returns-clause-err g c =
     c.min-place.ensures ∙ ap (λ n. min c.in_ok-place.place (n - 1)) (shown_size view c.stretch-stretch.result c.stretch-stretch.ensures.value c.stretch-stretch.ensures.within) in
     all_refused view index pieces rest c.in_ok-place.place at c.insert_at.result c.in_ok-check_names.ensures.ok c.in_ok-place.ensures.ok place
     (subst (λ (v : Viewed). IfErr c.insert_at.result (λ fault. (fault ≡ NoMemory) ⊎ (first_of (late_checks v.doc (with_pieces_at v at pieces rest)) ≡ Some fault))) same c.insert_at.ensures.err)
+
+pub returns-clause-unchanged : goal.returns-clause-unchanged
+returns-clause-unchanged g c =
+    let same : viewed c.self.inside.doc c.self.inside.widget (map own_in c.deref_mut.result.now) ≡ c.args.self.now =
+    ap (λ l. viewed c.self.inside.doc c.self.inside.widget (map own_in l)) c.deref_mut.ensures.value ∙ c.self.view_is in
+    let back : (with_items c.self.inside.others c.insert_at.new.others).items ≡ c.insert_at.new.others = with_items_is c.self.inside.others c.insert_at.new.others (omega (arith, c.insert_at.auto.others, c.deref_mut.ensures.len)) in
+    on_err_weaker c.insert_at.result
+    (λ kept. ap (λ l. viewed c.insert_at.new.self c.insert_at.new.widget (map own_in l)) back ∙ (λ i. viewed (kept.0 i) (kept.1 i) (kept.2 i)) ∙ same)
+    c.insert_at.ensures.unchanged
