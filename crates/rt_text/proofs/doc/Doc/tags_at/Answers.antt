@@ -15,8 +15,8 @@ cell_at-cell-requires g c =
     c.stretch.ensures.within c.requires in
     omega (arith, at.0, c.stretch.ensures.within)
 
-pub overflow_add-cell : goal.overflow_add-cell
-overflow_add-cell g c =
+pub overflow_add-stretch : goal.overflow_add-stretch
+overflow_add-stretch g c =
     let kept = g.S.TextStore.list c.kept.result.0.now in
     let at = place_kept c.kept.result.1.now kept c.args.self.now.cells c.limits.result c.stretch.result c.args.widget.now c.args.place c.kept.ensures.cells c.stretch.ensures.value c.limits.ensures
     c.stretch.ensures.within c.requires in
