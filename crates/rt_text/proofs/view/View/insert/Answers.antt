@@ -1,7 +1,7 @@
 use Rattle.std.specs.List.{AllByRecursion}
 use Rattle.rt_text.specs.declared.parts.Parts.{Parts}
 use Rattle.std.proofs.Common.{List, ◌≡◌, ◌∙◌, ◌⊎◌, ◌-◌, ◌<◌, Some, ap, arith, inr, length, map, min, subst, sym}
-use Rattle.std.specs.Prelude.{IfErr}
+use Rattle.std.specs.Prelude.{IfErr, OnErr, Result, Ok, Err}
 use Rattle.std.specs.Vec.{with_items}
 use Rattle.std.proofs.lemmas.List.{length-map, with_items_is}
 use Rattle.std.proofs.lemmas.Result.{err_from_is_err_and}
@@ -72,3 +72,14 @@ returns-clause-err g c =
     c.min-place.ensures ∙ ap (λ n. min c.in_ok-place.place (n - 1)) (shown_size view c.stretch-stretch.result c.stretch-stretch.ensures.value c.stretch-stretch.ensures.within) in
     all_refused view index pieces rest c.in_ok-place.place at c.insert_at.result c.in_ok-check_names.ensures.ok c.in_ok-place.ensures.ok place
     (subst (λ (v : Viewed). IfErr c.insert_at.result (λ fault. (fault ≡ NoMemory) ⊎ (first_of (late_checks v.doc (with_pieces_at v at pieces rest)) ≡ Some fault))) same c.insert_at.ensures.err)
+
+still : {T E A B : Type 0} (r : Result T E) → (A → B) → OnErr r A → OnErr r B
+still (Ok x) f h = tt
+still (Err e) f h = f h
+
+pub returns-clause-unchanged : goal.returns-clause-unchanged
+returns-clause-unchanged g c =
+    let back : (with_items c.self.inside.others c.insert_at.new.others).items ≡ c.insert_at.new.others = with_items_is c.self.inside.others c.insert_at.new.others (omega (arith, c.insert_at.auto.others, c.deref_mut.ensures.len)) in
+    still c.insert_at.result
+    (λ h. (λ i. viewed (h.0 i) (h.1 i) ((ap (map own_in) back ∙ h.2 ∙ ap (map own_in) c.deref_mut.ensures.value) i)) ∙ c.self.view_is)
+    c.insert_at.ensures.unchanged
