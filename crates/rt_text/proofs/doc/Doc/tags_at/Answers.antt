@@ -1,6 +1,6 @@
 use Rattle.std.proofs.Common.{◌≡◌, ◌∙◌, ℕ, ◌+◌, ◌-◌, ◌<◌, List, ap, arith, length, map, subst, sym}
-use Rattle.std.specs.Prelude.{option_map, slice_get, drop, string_bytes, Some}
-use Rattle.std.proofs.lemmas.List.{length-drop, length-take}
+use Rattle.std.specs.Prelude.{option_map, slice_get, drop, string_bytes}
+use Rattle.std.proofs.lemmas.List.{length-take}
 use Rattle.rt_store.specs.Cells.{visible_of}
 use Rattle.rt_edits.specs.Flat.{Flat}
 use Rattle.rt_edits.specs.Selected.{stamps_in}
