@@ -152,10 +152,7 @@ pub(crate) fn shows_both<S: TextStore>(
 
 /// The cell before a place of what is shown, of which the one before it in the text is known: none before the first
 /// place.
-pub(crate) fn shown_before(
-    place: usize,
-    behind: Option<Cell<StateId>>,
-) -> Option<Cell<StateId>>
+pub(crate) fn shown_before(place: usize, behind: Option<Cell<StateId>>) -> Option<Cell<StateId>>
     ensures { result ≡ (if place == 0 then None else behind) }
 {
     if place == 0 { None } else { behind }

@@ -87,8 +87,16 @@ overflow_add-at g c =
     let table = c.kept.result.1.now in
     let kept = g.S.TextStore.list c.kept.result.0.now in
     let is = place_is flat own others place c.kept.ensures.history c.kept.ensures.document c.kept.ensures.site c.requires.place in
-    omega (arith, at_is table kept flat own others place c.limits.result c.stretch.result c.kept.ensures.cells c.limits.ensures c.stretch.ensures.value, at_visible flat own others place is,
-    visible_same table kept flat.cells c.kept.ensures.cells, text_within kept, length_text kept, c.kept.ensures.few, c.kept.ensures.most)
+    omega (
+      arith,
+      at_is table kept flat own others place c.limits.result c.stretch.result c.kept.ensures.cells c.limits.ensures c.stretch.ensures.value,
+      at_visible flat own others place is,
+      visible_same table kept flat.cells c.kept.ensures.cells,
+      text_within kept,
+      length_text kept,
+      c.kept.ensures.few,
+      c.kept.ensures.most,
+    )
 
 pub make_room-requires : goal.make_room-requires
 make_room-requires g c =

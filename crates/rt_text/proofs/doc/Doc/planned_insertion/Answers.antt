@@ -201,15 +201,15 @@ returns-clause-err g c =
     (λ fault h. either (λ q. (
       q.0,
       λ others.
-    let is : IsPlace flat own others place = record {
-      history = c.kept.ensures.history;
-      document = c.kept.ensures.document;
-      real = c.kept.ensures.site;
-      within = subst (λ n. place < n) (sym (length-map (shown_by (viewed flat own others)) (λ (cell : TaggedCell). cell.ch))) c.requires;
-    } in
-    let f = found table kept flat own others place pieces c.limits-2.result c.stretch.result c.left_of-behind.result c.shown_before-left.result c.shown_at-right.result c.stamp_or_root-after.result c.kept.ensures.cells is
-    c.limits-2.ensures (c.stretch.ensures.value ∙ ap (stretch_of kept) (c.limits.ensures ∙ sym c.limits-2.ensures)) c.left_of-behind.ensures c.shown_before-left.ensures c.shown_at-right.ensures c.stamp_or_root-after.ensures in
-    subst (λ (x : Insertion). GREATEST_COUNT < x.count)
+          let is : IsPlace flat own others place = record {
+            history = c.kept.ensures.history;
+            document = c.kept.ensures.document;
+            real = c.kept.ensures.site;
+            within = subst (λ n. place < n) (sym (length-map (shown_by (viewed flat own others)) (λ (cell : TaggedCell). cell.ch))) c.requires;
+          } in
+          let f = found table kept flat own others place pieces c.limits-2.result c.stretch.result c.left_of-behind.result c.shown_before-left.result c.shown_at-right.result c.stamp_or_root-after.result c.kept.ensures.cells is
+          c.limits-2.ensures (c.stretch.ensures.value ∙ ap (stretch_of kept) (c.limits.ensures ∙ sym c.limits-2.ensures)) c.left_of-behind.ensures c.shown_before-left.ensures c.shown_at-right.ensures c.stamp_or_root-after.ensures in
+          subst (λ (x : Insertion). GREATEST_COUNT < x.count)
           (new_is flat own others place pieces rest c.site-site.result.number c.seen-count.result stamps_now at c.stamp_or_root-after.result left right site count sel f)
           (q.1 stamps_now (selections_of others) flat.tags any),
     )) h)

@@ -51,8 +51,8 @@ returns-clause-ok g c =
     let tags = c.args.self.now.tags in
     ap (λ s. option_map (tags_on own tags) (slice_get (part s (visible_of cells)) c.args.place)) (sym is)
     ∙ tags_in_part table kept cells stretch (stamps_in c.widget.inside.parts.selection) own tags (map (λ w. string_bytes w) c.in_ok-names.names.items) (map (λ w. string_bytes w) c.keep_tags_on.new.names.items)
-        c.args.place c.cell_at-cell.result here c.kept.ensures.cells (ap (λ (o : Own). o.sel) c.widget.view_is) c.cell_at-cell.ensures (c.in_ok-names.ensures.names ∙ ap (λ (f : Flat). f.tags) c.self.view_is)
-        c.keep_tags_on.ensures
+    c.args.place c.cell_at-cell.result here c.kept.ensures.cells (ap (λ (o : Own). o.sel) c.widget.view_is) c.cell_at-cell.ensures (c.in_ok-names.ensures.names ∙ ap (λ (f : Flat). f.tags) c.self.view_is)
+    c.keep_tags_on.ensures
 
 pub keep_tags_on-requires : goal.keep_tags_on-requires
 keep_tags_on-requires g c =
