@@ -11,6 +11,7 @@ pub mod FollowingLaws
 pub mod InsertedDocument
 pub mod InsertedSides
 pub mod KeptDocument
+pub mod LeftBeginnings
 pub mod LimitedDeletions
 pub mod LimitedTags
 pub mod LineCounts

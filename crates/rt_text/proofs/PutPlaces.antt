@@ -13,10 +13,10 @@ use Rattle.rt_text.proofs.NeighbourLines.{moved_by}
 
 -- ONE CELL MORE
 
-abbrev further : Bool → ℕ → ℕ
+abbrev pub further : Bool → ℕ → ℕ
 further gone place = cond gone place (suc place)
 
-place_cons : {T : Type 0} (x : Cell T) (xs : List (Cell T)) (s : Stamp) → place_of (x ∷ xs) s ≡ cond (is_same x.stamp s) (Some 0) (option_map (further x.gone) (place_of xs s))
+pub place_cons : {T : Type 0} (x : Cell T) (xs : List (Cell T)) (s : Stamp) → place_of (x ∷ xs) s ≡ cond (is_same x.stamp s) (Some 0) (option_map (further x.gone) (place_of xs s))
 place_cons {T} x xs s = ap (option_map (visible_before (x ∷ xs))) (position_cons (λ (cell : Cell T). is_same cell.stamp s) x xs) ∙ by (is_same x.stamp s) (position_of xs s)
   where
     counted : (b : Bool) (v : List (Cell T)) → length (cond (not b) (x ∷ v) v) ≡ further b (length v)
