@@ -1,7 +1,7 @@
 // The tags of characters on a widget.
 ghost use Rattle.std.specs.Prelude.{◌≡◌, true, false, not, if◌then◌else◌};
 ghost use Rattle.rt_store.specs.Cells.{visible_of};
-ghost use Rattle.rt_store.specs.Tagged.{AreStates, last_place, next_place};
+ghost use Rattle.rt_store.specs.Tagged.{last_place, next_place};
 ghost use Rattle.rt_tags.specs.States.{IsState};
 ghost use Rattle.rt_edits.specs.Selected.{stamps_in};
 ghost use Rattle.rt_store.specs.Spans.{is_among};
@@ -84,7 +84,7 @@ pub(crate) fn next_with<S: TextStore>(
     on: bool,
     place: usize,
 ) -> Option<usize>
-    requires { AreStates states.now (S.list store.now) }
+    requires { S.agrees store.now states.now }
     ensures { result ≡ next_place (λ cell. if on then is_tagged_in (stamps_in selection.now) name.now (shown states.now cell) else not
         (is_tagged_in (stamps_in selection.now) name.now (shown states.now cell))) (visible_of (S.list store.now)) place }
 {
@@ -119,7 +119,7 @@ pub(crate) fn last_with<S: TextStore>(
     selection: &Selection,
     name: &str,
 ) -> Option<usize>
-    requires { AreStates states.now (S.list store.now) }
+    requires { S.agrees store.now states.now }
     ensures { result ≡ last_place (λ cell. is_tagged_in (stamps_in selection.now) name.now (shown states.now cell)) (visible_of (S.list store.now)) }
 {
     if name == "sel" {

@@ -3,12 +3,11 @@ ghost use Rattle.std.specs.Prelude.{◌≡◌, ℕ, ◌≤◌, List, Some, IsSom
 ghost use Rattle.rt_marks.specs.Marks.{IsName, named};
 ghost use Rattle.rt_stamps.specs.declared.limits.TheConstants.{MOST_CELLS};
 ghost use Rattle.rt_store.specs.Cells.{text_of};
-ghost use Rattle.rt_store.specs.Tagged.{AreStates};
 ghost use Rattle.rt_edits.specs.Listed.{AreListed};
 ghost use Rattle.rt_store.specs.Shown.{shown};
 
 use crate::characters::{last_with, next_with};
-use crate::{OwnMark, Widget};
+use crate::{Doc, OwnMark, Widget};
 use rt_index::Ground;
 use rt_marks::Marks;
 use rt_store::TextStore;
@@ -17,12 +16,13 @@ use rt_tags::{StateTable, TagTable};
 /// A widget with the text, the marks and the tags of its site.
 #[derive(Drop)]
 pub(crate) struct WidgetGround<'a, S: TextStore> {
+    pub doc: &'a Doc<S>,
     pub store: &'a S,
     pub marks: &'a Marks,
     pub states: &'a StateTable,
     pub tags: &'a TagTable,
     pub widget: &'a Widget,
-    ghost given: { AreStates states.now (S.list store.now) },
+    ghost same: { doc.now.cells ≡ map (shown states.now) (S.list store.now) },
     ghost listed: { AreListed tags.now.names (map (shown states.now) (S.list store.now)) },
     ghost text: { text_of (map (shown states.now) (S.list store.now)) ≡ text_of (S.list store.now) },
     ghost few: { length (text_of (map (shown states.now) (S.list store.now))) ≤ MOST_CELLS },
@@ -81,14 +81,8 @@ impl<'a, S: TextStore> Ground for WidgetGround<'a, S> {
             return None;
         }
         let widget = self.widget;
-        next_with(
-            self.store,
-            self.states,
-            &widget.parts.selection,
-            name,
-            true,
-            0,
-        )
+        let (store, states) = self.doc.kept();
+        next_with(store, states, &widget.parts.selection, name, true, 0)
     }
 
     fn tag_last(&self, name: &str) -> Option<usize> {
@@ -96,7 +90,8 @@ impl<'a, S: TextStore> Ground for WidgetGround<'a, S> {
             return None;
         }
         let widget = self.widget;
-        let last = last_with(self.store, self.states, &widget.parts.selection, name)?;
+        let (store, states) = self.doc.kept();
+        let last = last_with(store, states, &widget.parts.selection, name)?;
         Some(last + 1)
     }
 

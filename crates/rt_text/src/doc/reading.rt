@@ -23,6 +23,7 @@ impl<S: TextStore> Doc<S> {
     {
         let (store, states) = self.kept();
         WidgetGround {
+            doc: self,
             store,
             marks: &self.marks,
             states,

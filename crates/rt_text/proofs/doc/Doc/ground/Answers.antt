@@ -21,7 +21,7 @@ invariant_of-result g c =
     let cells : c.self.inside.replica.cells ≡ seen = ap (λ (f : Flat). f.cells) c.self.view_is ∙ sym c.kept.ensures.cells in
     let placed : AreSiteMarks n c.self.inside.marks = subst (λ (seen : List TaggedCell). AreSiteMarks (length (text_of seen)) c.self.inside.marks) cells c.self.invariant.placed in
     record {
-      given = c.kept.ensures.states;
+      same = sym c.kept.ensures.cells;
       listed = subst (λ (seen : List TaggedCell). AreListed c.self.inside.tags.names seen) cells c.self.invariant.listed;
       text = text;
       few = omega (arith, many, text_within kept, c.kept.ensures.most, c.kept.ensures.few);
