@@ -1,6 +1,5 @@
 -- The run of a script by a site: how the site begins, and what there is of it at the end.
 use Rattle.std.specs.Prelude.{◌≡◌, ◌⊎◌, ◌≤◌, ℕ, Bool, true, false, List, length, Option, Some, None, Result, MatchResult, IfOk, IfErr, Vec, reverse, ⊤}
-use Rattle.std.specs.List.{All}
 use Rattle.std.specs.Borrow.{Bor}
 use Rattle.std.specs.declared.alloc.Global.{Global}
 use Rattle.rt_stamps.specs.declared.fault.Fault.{Fault}
@@ -13,7 +12,7 @@ use Rattle.rt_script.specs.State.{State, new_state}
 use Rattle.rt_script.specs.Site.{NamedFile, SiteGives}
 use Rattle.rt_script.specs.SiteStep.{SiteReceives}
 use Rattle.rt_exchange.specs.declared.receiving.Received.{Received}
-use Rattle.peertext.specs.declared.run.Outcome.{Outcome}
+use Rattle.rt_script.specs.declared.site_run.Outcome.{Outcome}
 
 -- A site begins as a new one, which has room for all cells there may be; or with all that it receives of a log.
 abbrev pub BeginsWith : ℕ → Option (Bor (List ℕ)) → State → Type 0

@@ -8,7 +8,7 @@ use Rattle.rt_stamps.specs.Fault.{number_of, text_of}
 use Rattle.rt_stamps.specs.declared.fault.Fault.{Fault}
 use Rattle.rt_stamps.specs.declared.fault.Fault.TheVariants.{NoMemory, WriteFault}
 use Rattle.rt_files.specs.declared.join.JoinFault.{JoinFault}
-use Rattle.peertext.specs.declared.ending.Failure.{Failure}
+use Rattle.rt_endings.specs.declared.ending.Failure.{Failure}
 
 -- 1 where the program failed: a refused command is a reply, and no failure
 abbrev pub status_of : Option Failure → ℕ

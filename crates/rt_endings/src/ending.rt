@@ -1,8 +1,8 @@
 // How the program ends.
 ghost use Rattle.std.specs.Prelude.{◌≡◌};
-ghost use Rattle.peertext.specs.Endings.{status_of, has_offset, is_of_file, file_failure, run_failure, log_failure, first_failure, join_failure, show_failure, write_failure};
+ghost use Rattle.rt_endings.specs.Endings.{status_of, has_offset, is_of_file, file_failure, run_failure, log_failure, first_failure, join_failure, show_failure, write_failure};
 
-use rt_script::JoinFault;
+use rt_files::JoinFault;
 use rt_stamps::Fault;
 use std::fmt;
 use std::io::ErrorKind;
@@ -144,7 +144,7 @@ pub fn write_failure<'a>(kind: ErrorKind, path: &'a str) -> Failure<'a>
 /// `peertext: notes.ops: 33 BadRecord at 44` where a file is at fault.
 impl fmt::Display for Failure<'_> {
     ghost use Rattle.std.specs.Prelude.{Some};
-    ghost use Rattle.peertext.specs.Endings.{error_line};
+    ghost use Rattle.rt_endings.specs.Endings.{error_line};
 
     ghost output = { λ failure. Some (error_line failure) };
 

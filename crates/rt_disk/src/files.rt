@@ -1,6 +1,6 @@
-// Files as the program reads and writes them.
+// Files as they are opened and written.
 ghost use Rattle.std.specs.Prelude.{◌≡◌, None};
-ghost use Rattle.peertext.specs.Files.{is_held};
+ghost use Rattle.rt_disk.specs.Held.{is_held};
 
 use std::fs::{self, File, Files, Metadata, OpenFile, OpenOptions};
 use std::io::{self, ErrorKind, Read, Write};
@@ -178,11 +178,7 @@ fn is_protected<R: Files>(rt: &R, path: &str) -> bool {
 /// them as a whole or stays as it was: they are written beside it, with its mode, and then take its
 /// name. They are written in place where no file can be made beside it, or none can take its name,
 /// and so are a link, a device and a pipe.
-pub(crate) fn write_whole<R: Files + AllocGlobal>(
-    rt: &R,
-    path: &str,
-    bytes: &[u8],
-) -> io::Result<()> {
+pub fn write_whole<R: Files + AllocGlobal>(rt: &R, path: &str, bytes: &[u8]) -> io::Result<()> {
     if is_protected(rt, path) {
         return Err(io::Error::from(ErrorKind::PermissionDenied));
     }

@@ -1,10 +1,10 @@
 // The run of a script by a site.
-ghost use Rattle.std.specs.Prelude.{◌≡◌, ◌≤◌, length};
+ghost use Rattle.std.specs.Prelude.{◌≡◌, ◌≤◌, None, Some, MatchResult, length};
 ghost use Rattle.rt_stamps.specs.declared.limits.TheConstants.{MOST_BYTES};
 ghost use Rattle.rt_script.specs.Site.{AreWithin, named_files};
-ghost use Rattle.peertext.specs.Runs.{Begins, RunsScript, TellsLog, WithinBytes};
+ghost use Rattle.rt_script.specs.SiteRun.{Begins, RunsScript, TellsLog, WithinBytes};
 
-use rt_script::{Ended, SiteState, run};
+use crate::{Ended, SiteState, run};
 use rt_stamps::limits::MOST_CELLS;
 use rt_stamps::{Fault, Sink, Site, Source};
 use std::alloc::Global;
@@ -18,6 +18,17 @@ pub struct Outcome {
     pub log: Option<Result<Vec<u8>, Fault>>,
 }
 
+// The site that received a log, or why not all of that was received.
+fn unless_refused(site: SiteState, found: Option<(Fault, u64)>) -> Result<SiteState, (Fault, u64)>
+    ensures { MatchResult result (λ same. (same ≡ site) × (found ≡ None)) (λ fault. found ≡ Some fault) }
+{
+    if let Some(found) = found {
+        drop(site);
+        return Err(found);
+    }
+    Ok(site)
+}
+
 /// A new site, with all that it receives of a log's file. The log's first fault, with its offset, or
 /// want of memory.
 pub fn begun(alloc: Global, site: Site, log: Option<&[u8]>) -> Result<SiteState, (Fault, u64)>
@@ -28,13 +39,13 @@ pub fn begun(alloc: Global, site: Site, log: Option<&[u8]>) -> Result<SiteState,
         Ok(state) => state,
         Err(fault) => return Err((fault, 0)),
     };
-    if let Some(log) = log {
-        if let Some(found) = state.receive(log).fault {
-            drop(state);
-            return Err(found);
+    match log {
+        Some(log) => {
+            let received = state.receive(log);
+            unless_refused(state, received.fault)
         }
+        None => Ok(state),
     }
-    Ok(state)
 }
 
 // The file of a site's log where it is wanted.
