@@ -5,7 +5,7 @@ ghost use Rattle.rt_revert.specs.Plans.{AreGiven, named_group};
 ghost use Rattle.rt_revert.specs.ReversionLaws.{AreSound};
 
 use crate::checks::same;
-use crate::planning::{cutting, typing};
+use crate::undo_planning::{cutting, typing};
 use rt_stamps::{Fault, Site};
 use rt_store::ListStore;
 use rt_tags::StateTable;
@@ -165,15 +165,21 @@ fn assert_begin(rt: &impl Abort, page: &mut Page) {
     page.exchange();
 }
 
-// The newline before what two widgets show is removed, and comes back under another stamp: the limits of both follow it.
+// A page whose second line two widgets show from its beginning on, when the newline before it is removed.
+fn without_a_newline(rt: &impl Abort, alloc: Global) -> Result<Page, Fail> {
+    let mut page = Page::lined(alloc)?;
+    assert_lines(rt, &mut page, (Some(2), None), (Some(2), Some(4)));
+    assert_begin(rt, &mut page);
+    page.delete(alloc, "1.1")?;
+    same(rt, page.numbers(), (Some(1), None));
+    Ok(page)
+}
+
+// The newline comes back under another stamp: the limits of both widgets follow it.
 #[test]
 fn limits_follow_a_newline(rt: HostRuntime) -> Result<(), Fail> {
-    let mut page = Page::lined(rt.alloc())?;
+    let mut page = without_a_newline(&rt, rt.alloc())?;
     let mut kept = StateTable::new(rt.alloc())?;
-    assert_lines(&rt, &mut page, (Some(2), None), (Some(2), Some(4)));
-    assert_begin(&rt, &mut page);
-    page.delete(rt.alloc(), "1.1")?;
-    same(&rt, page.numbers(), (Some(1), None));
     let undone = page.revert(rt.alloc(), &cutting(rt.alloc(), 8)?, &mut kept)?;
     same(&rt, undone.returns.len(), 1);
     same(&rt, page.text()?.as_str(), "a\nb\nc\nd\n");
