@@ -5,6 +5,8 @@
 #[cfg(test)]
 mod accepting;
 #[cfg(test)]
+mod checks;
+#[cfg(test)]
 mod edit_logs;
 #[cfg(test)]
 mod edits_removals;
@@ -26,6 +28,10 @@ mod show;
 mod store;
 #[cfg(test)]
 mod text;
+#[cfg(test)]
+mod undo_planning;
+#[cfg(test)]
+mod undo_reverting;
 #[cfg(test)]
 mod views;
 #[cfg(test)]

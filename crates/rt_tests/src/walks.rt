@@ -1,4 +1,5 @@
 // Places of a text as lines and characters.
+use crate::checks::same;
 use crate::edits_removals::text_of;
 use rt_search::{Case, Direction, Limits, Overlaps, Part, Search, find_all, positions};
 use rt_stamps::{Fault, Position};
@@ -48,10 +49,10 @@ fn stands(
     places: &[(usize, usize)],
 ) -> Result<(), Fail> {
     let found = found(alloc, TEXT, wanted, direction, start)?;
-    assert_eq!(rt; found.len(), places.len());
+    same(rt, found.len(), places.len());
     for (position, (line, character)) in found.iter().zip(places) {
-        assert_eq!(rt; position.line, *line);
-        assert_eq!(rt; position.character, *character);
+        same(rt, position.line, *line);
+        same(rt, position.character, *character);
     }
     Ok(())
 }

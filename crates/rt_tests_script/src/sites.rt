@@ -2,6 +2,7 @@
 ghost use Rattle.std.specs.Prelude.{◌≡◌, ◌<◌, ◌≤◌};
 ghost use Rattle.rt_script.specs.Site.{AreWithin};
 
+use crate::checks::same;
 use crate::limits::{
     LIMIT_OPTIONS, LIMITED_MARKS, LIMITED_SEARCHES, LIMITED_TAGS, LIMITED_TEXT, MOVING_LIMITS,
 };
@@ -140,7 +141,7 @@ pub(crate) fn answered(
     };
     let (text, ended) = run_of(alloc, state, files, pieces, None);
     assert_eq!(rt; text.as_slice(), replies.as_bytes(), "{lines}");
-    assert_eq!(rt; ended.fault, None);
+    same(rt, ended.fault, None);
     Ok(ended.site)
 }
 
@@ -157,27 +158,16 @@ fn answer_all(rt: &impl Abort, alloc: Global, table: &[Script]) -> Result<(), Fa
 
 #[test]
 fn scripts_of_texts(rt: HostRuntime) -> Result<(), Fail> {
-    answer_all(&rt, rt.alloc(), TEXTS)
-}
-
-#[test]
-fn scripts_of_deletions(rt: HostRuntime) -> Result<(), Fail> {
-    answer_all(&rt, rt.alloc(), DELETIONS)
-}
-
-#[test]
-fn scripts_of_ranges(rt: HostRuntime) -> Result<(), Fail> {
+    answer_all(&rt, rt.alloc(), TEXTS)?;
+    answer_all(&rt, rt.alloc(), DELETIONS)?;
     answer_all(&rt, rt.alloc(), RANGES)
 }
 
 #[test]
-fn scripts_of_searches(rt: HostRuntime) -> Result<(), Fail> {
-    answer_all(&rt, rt.alloc(), SEARCHES)
-}
-
-#[test]
-fn scripts_of_replacements(rt: HostRuntime) -> Result<(), Fail> {
-    answer_all(&rt, rt.alloc(), REPLACEMENTS)
+fn scripts_of_searches_and_replacements(rt: HostRuntime) -> Result<(), Fail> {
+    answer_all(&rt, rt.alloc(), SEARCHES)?;
+    answer_all(&rt, rt.alloc(), REPLACEMENTS)?;
+    answer_all(&rt, rt.alloc(), DUMPS)
 }
 
 #[test]
@@ -188,67 +178,26 @@ fn a_full_site_replaces_nothing(rt: HostRuntime) -> Result<(), Fail> {
 }
 
 #[test]
-fn scripts_of_dumps(rt: HostRuntime) -> Result<(), Fail> {
-    answer_all(&rt, rt.alloc(), DUMPS)
-}
-
-#[test]
-fn scripts_of_indices(rt: HostRuntime) -> Result<(), Fail> {
-    answer_all(&rt, rt.alloc(), INDICES)
-}
-
-#[test]
-fn scripts_of_mark_words(rt: HostRuntime) -> Result<(), Fail> {
-    answer_all(&rt, rt.alloc(), MARK_WORDS)
-}
-
-#[test]
-fn scripts_of_mark_order(rt: HostRuntime) -> Result<(), Fail> {
-    answer_all(&rt, rt.alloc(), MARK_ORDER)
-}
-
-#[test]
-fn scripts_of_mark_places(rt: HostRuntime) -> Result<(), Fail> {
+fn scripts_of_indices_and_marks(rt: HostRuntime) -> Result<(), Fail> {
+    answer_all(&rt, rt.alloc(), INDICES)?;
+    answer_all(&rt, rt.alloc(), MARK_WORDS)?;
+    answer_all(&rt, rt.alloc(), MARK_ORDER)?;
     answer_all(&rt, rt.alloc(), MARK_PLACES)
 }
 
 #[test]
-fn scripts_of_tag_refusals(rt: HostRuntime) -> Result<(), Fail> {
-    answer_all(&rt, rt.alloc(), TAG_REFUSALS)
-}
-
-#[test]
-fn scripts_of_tag_commands(rt: HostRuntime) -> Result<(), Fail> {
-    answer_all(&rt, rt.alloc(), TAG_COMMANDS)
-}
-
-#[test]
-fn scripts_of_tag_writes(rt: HostRuntime) -> Result<(), Fail> {
-    answer_all(&rt, rt.alloc(), TAG_WRITES)
-}
-
-#[test]
-fn scripts_of_tagged_text(rt: HostRuntime) -> Result<(), Fail> {
+fn scripts_of_tags(rt: HostRuntime) -> Result<(), Fail> {
+    answer_all(&rt, rt.alloc(), TAG_REFUSALS)?;
+    answer_all(&rt, rt.alloc(), TAG_COMMANDS)?;
+    answer_all(&rt, rt.alloc(), TAG_WRITES)?;
     answer_all(&rt, rt.alloc(), TAGGED_TEXT)
 }
 
 #[test]
 fn scripts_of_undoing(rt: HostRuntime) -> Result<(), Fail> {
-    answer_all(&rt, rt.alloc(), UNDOING)
-}
-
-#[test]
-fn scripts_of_coming_back(rt: HostRuntime) -> Result<(), Fail> {
-    answer_all(&rt, rt.alloc(), COMING_BACK)
-}
-
-#[test]
-fn scripts_of_grouping(rt: HostRuntime) -> Result<(), Fail> {
-    answer_all(&rt, rt.alloc(), GROUPING)
-}
-
-#[test]
-fn scripts_of_flags(rt: HostRuntime) -> Result<(), Fail> {
+    answer_all(&rt, rt.alloc(), UNDOING)?;
+    answer_all(&rt, rt.alloc(), COMING_BACK)?;
+    answer_all(&rt, rt.alloc(), GROUPING)?;
     answer_all(&rt, rt.alloc(), FLAGS)
 }
 

@@ -4,7 +4,8 @@ ghost use Rattle.rt_undo.specs.Actions.{group_of};
 ghost use Rattle.rt_revert.specs.Plans.{AreGiven, named_group};
 ghost use Rattle.rt_revert.specs.ReversionLaws.{AreSound};
 
-use crate::planning::{cutting, typing};
+use crate::checks::same;
+use crate::undo_planning::{cutting, typing};
 use rt_stamps::{Fault, Site};
 use rt_store::ListStore;
 use rt_tags::StateTable;
@@ -118,15 +119,15 @@ impl Page {
 
 // What a page shows, and where its insertion cursor stands.
 fn assert_shows(rt: &impl Abort, page: &Page, text: &str, place: usize) -> Result<(), Fault> {
-    assert_eq!(rt; page.text()?.as_str(), text);
-    assert_eq!(rt; page.insert_place(), place);
+    same(rt, page.text()?.as_str(), text);
+    same(rt, page.insert_place(), place);
     Ok(())
 }
 
 // `ab` has the tag, and nothing else.
 fn assert_bold(rt: &impl Abort, page: &Page) {
-    assert_eq!(rt; page.next_bold(), Some(0));
-    assert_eq!(rt; page.next_plain(), Some(2));
+    same(rt, page.next_bold(), Some(0));
+    same(rt, page.next_plain(), Some(2));
 }
 
 // What was typed goes, and comes back with its tag; the insertion cursor stands behind it again.
@@ -136,9 +137,9 @@ fn typing_is_undone_and_redone(rt: HostRuntime) -> Result<(), Fail> {
     let mut kept = StateTable::new(rt.alloc())?;
     let undone = page.revert(rt.alloc(), &typing(rt.alloc())?, &mut kept)?;
     assert_shows(&rt, &page, "\n", 0)?;
-    assert_eq!(rt; undone.returns.len(), 0);
+    same(&rt, undone.returns.len(), 0);
     let redone = page.revert(rt.alloc(), &undone.actions, &mut kept)?;
-    assert_eq!(rt; redone.returns.len(), 2);
+    same(&rt, redone.returns.len(), 2);
     assert_shows(&rt, &page, "ab\n", 2)?;
     assert_bold(&rt, &page);
     Ok(())
@@ -151,31 +152,37 @@ fn assert_lines(
     own: (Option<usize>, Option<usize>),
     other: (Option<usize>, Option<usize>),
 ) {
-    assert_eq!(rt; page.numbers(), own);
+    same(rt, page.numbers(), own);
     page.exchange();
-    assert_eq!(rt; page.numbers(), other);
+    same(rt, page.numbers(), other);
     page.exchange();
 }
 
 // The other widget's insertion cursor stands where it begins.
 fn assert_begin(rt: &impl Abort, page: &mut Page) {
     page.exchange();
-    assert_eq!(rt; page.insert_place(), 2);
+    same(rt, page.insert_place(), 2);
     page.exchange();
 }
 
-// The newline before what two widgets show is removed, and comes back under another stamp: the limits of both follow it.
+// A page whose second line two widgets show from its beginning on, when the newline before it is removed.
+fn without_a_newline(rt: &impl Abort, alloc: Global) -> Result<Page, Fail> {
+    let mut page = Page::lined(alloc)?;
+    assert_lines(rt, &mut page, (Some(2), None), (Some(2), Some(4)));
+    assert_begin(rt, &mut page);
+    page.delete(alloc, "1.1")?;
+    same(rt, page.numbers(), (Some(1), None));
+    Ok(page)
+}
+
+// The newline comes back under another stamp: the limits of both widgets follow it.
 #[test]
 fn limits_follow_a_newline(rt: HostRuntime) -> Result<(), Fail> {
-    let mut page = Page::lined(rt.alloc())?;
+    let mut page = without_a_newline(&rt, rt.alloc())?;
     let mut kept = StateTable::new(rt.alloc())?;
-    assert_lines(&rt, &mut page, (Some(2), None), (Some(2), Some(4)));
-    assert_begin(&rt, &mut page);
-    page.delete(rt.alloc(), "1.1")?;
-    assert_eq!(rt; page.numbers(), (Some(1), None));
     let undone = page.revert(rt.alloc(), &cutting(rt.alloc(), 8)?, &mut kept)?;
-    assert_eq!(rt; undone.returns.len(), 1);
-    assert_eq!(rt; page.text()?.as_str(), "a\nb\nc\nd\n");
+    same(&rt, undone.returns.len(), 1);
+    same(&rt, page.text()?.as_str(), "a\nb\nc\nd\n");
     assert_lines(&rt, &mut page, (Some(2), None), (Some(2), Some(4)));
     Ok(())
 }

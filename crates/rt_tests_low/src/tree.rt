@@ -4,6 +4,7 @@ ghost use Rattle.rt_store.specs.ListStore.{cells_of};
 ghost use Rattle.rt_store.specs.Tagged.{AreStates};
 ghost use Rattle.rt_tags.specs.States.{IsState};
 
+use crate::checks::same;
 use rt_stamps::{Fault, ROOT, Span, Stamp};
 use rt_store::{Cell, FINAL_CELL, ListStore, TextStore};
 use rt_tags::{StateId, StateTable};
@@ -15,13 +16,13 @@ use std::test::Fail;
 #[test]
 fn a_new_tree(rt: HostRuntime) -> Result<(), Fail> {
     let tree = Tree::new(rt.alloc())?;
-    assert_eq!(rt; (tree.cells(), tree.visible(), tree.lines()), (1, 1, 1));
-    assert_eq!(rt; (tree.runs(), tree.height()), (1, 1));
-    assert_eq!(rt; tree.nth(0), FINAL_CELL);
-    assert_eq!(rt; tree.cell_at(0), FINAL_CELL);
-    assert_eq!(rt; tree.char_at(0), '\n');
-    assert_eq!(rt; tree.line_start(1), 0);
-    assert_eq!(rt; (tree.line_of(0), tree.line_of(1)), (1, 2));
+    same(&rt, (tree.cells(), tree.visible(), tree.lines()), (1, 1, 1));
+    same(&rt, (tree.runs(), tree.height()), (1, 1));
+    same(&rt, tree.nth(0), FINAL_CELL);
+    same(&rt, tree.cell_at(0), FINAL_CELL);
+    same(&rt, tree.char_at(0), '\n');
+    same(&rt, tree.line_start(1), 0);
+    same(&rt, (tree.line_of(0), tree.line_of(1)), (1, 2));
     Ok(())
 }
 
@@ -30,8 +31,8 @@ fn a_new_tree(rt: HostRuntime) -> Result<(), Fail> {
 fn looks_are_counted(rt: HostRuntime) -> Result<(), Fail> {
     let tree = Tree::new(rt.alloc())?;
     let mut looks = 5;
-    assert_eq!(rt; tree.find(0, &mut looks), FINAL_CELL);
-    assert_eq!(rt; looks, 6);
+    same(&rt, tree.find(0, &mut looks), FINAL_CELL);
+    same(&rt, looks, 6);
     Ok(())
 }
 
@@ -217,7 +218,7 @@ fn room(rt: HostRuntime) -> Result<(), Fail> {
     let mut tree = Tree::new(rt.alloc())?;
     tree.reserve(1000, 50)?;
     tree.reserve(10, 60)?;
-    assert_eq!(rt; (tree.cells(), tree.runs(), tree.height()), (1, 1, 1));
+    same(&rt, (tree.cells(), tree.runs(), tree.height()), (1, 1, 1));
     Ok(())
 }
 
@@ -229,11 +230,11 @@ fn typing(rt: HostRuntime) -> Result<(), Fail> {
     both.put(1, 2, 1, 'b')?;
     both.put(2, 3, 1, '\n')?;
     assert!(rt; both.same());
-    assert_eq!(rt; both.tree.runs(), 2);
+    same(&rt, both.tree.runs(), 2);
     both.put(3, 4, 1, 'c')?;
     both.put(1, 5, 2, 'x')?;
     assert!(rt; both.same());
-    assert_eq!(rt; both.tree.runs(), 5);
+    same(&rt, both.tree.runs(), 5);
     Ok(())
 }
 
@@ -242,12 +243,12 @@ fn typing(rt: HostRuntime) -> Result<(), Fail> {
 fn pasting(rt: HostRuntime) -> Result<(), Fail> {
     let mut both = Both::new(rt.alloc())?;
     both.paste(0, 1, 1, ['a', 'b', 'c'])?;
-    assert_eq!(rt; both.tree.runs(), 2);
+    same(&rt, both.tree.runs(), 2);
     both.paste(3, 4, 1, ['\n', 'd', 'e'])?;
-    assert_eq!(rt; both.tree.runs(), 3);
+    same(&rt, both.tree.runs(), 3);
     both.paste(2, 1, 2, ['\n', '\n', 'f'])?;
     assert!(rt; both.same());
-    assert_eq!(rt; both.tree.runs(), 7);
+    same(&rt, both.tree.runs(), 7);
     Ok(())
 }
 
@@ -258,13 +259,13 @@ fn stamps_twice(rt: HostRuntime) -> Result<(), Fail> {
     both.paste(0, 1, 1, ['a', 'b', 'c'])?;
     both.paste(1, 2, 1, ['d', 'e', 'f'])?;
     assert!(rt; both.same());
-    assert_eq!(rt; both.tree.runs(), 6);
+    same(&rt, both.tree.runs(), 6);
     both.paste(0, 7, 1, ['g', 'h', 'i'])?;
     both.put(3, 10, 1, 'j')?;
-    assert_eq!(rt; both.tree.runs(), 7);
+    same(&rt, both.tree.runs(), 7);
     both.remove(span(1, 2, 2))?;
     assert!(rt; both.same());
-    assert_eq!(rt; both.tree.runs(), 8);
+    same(&rt, both.tree.runs(), 8);
     both.tag(span(1, 3, 8))?;
     assert!(rt; both.same());
     assert!(rt; both.same_by_stamps());
@@ -279,9 +280,9 @@ fn marking(rt: HostRuntime) -> Result<(), Fail> {
     both.paste(3, 4, 1, ['\n', 'd', 'e'])?;
     both.remove(span(1, 2, 5))?;
     assert!(rt; both.same());
-    assert_eq!(rt; both.tree.runs(), 5);
+    same(&rt, both.tree.runs(), 5);
     both.tag(span(1, 3, 6))?;
-    assert_eq!(rt; both.tree.runs(), 6);
+    same(&rt, both.tree.runs(), 6);
     both.tag(span(0, 1, 1))?;
     assert!(rt; both.same());
     assert!(rt; both.same_by_stamps());

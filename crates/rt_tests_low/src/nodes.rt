@@ -2,6 +2,7 @@
 ghost use Rattle.std.specs.Prelude.{◌≡◌, ◌+◌, ◌<◌, ◌≤◌, length};
 ghost use Rattle.rt_nodes.specs.Nodes.{IsNode, entries};
 
+use crate::checks::same;
 use rt_nodes::{NodeId, NodeMem};
 use rt_stamps::Fault;
 use std::alloc::Global;
@@ -51,7 +52,7 @@ fn listed(alloc: Global) -> Result<(usize, bool, bool, bool), Fault> {
 #[test]
 fn the_listed_example(rt: HostRuntime) -> Result<(), Fault> {
     let (nodes, moved, inserted, changed) = listed(rt.alloc())?;
-    assert_eq!(rt; nodes, 2);
+    same(&rt, nodes, 2);
     assert!(rt; moved);
     assert!(rt; inserted);
     assert!(rt; changed);
@@ -110,12 +111,12 @@ fn drops_headers_and_entries_once(rt: HostRuntime) -> Result<(), Fault> {
     let mut mem: NodeMem<Rc<u32>, Rc<u32>, 4> = NodeMem::new(rt.alloc());
     let (filled, changed) = counts_in(&mut mem, &header, &entry, rt.alloc())?;
     drop(mem);
-    assert_eq!(rt; filled.0, 3);
-    assert_eq!(rt; filled.1, 4);
-    assert_eq!(rt; changed.0, 2);
-    assert_eq!(rt; changed.1, 3);
-    assert_eq!(rt; Rc::strong_count(&header), 1);
-    assert_eq!(rt; Rc::strong_count(&entry), 1);
+    same(&rt, filled.0, 3);
+    same(&rt, filled.1, 4);
+    same(&rt, changed.0, 2);
+    same(&rt, changed.1, 3);
+    same(&rt, Rc::strong_count(&header), 1);
+    same(&rt, Rc::strong_count(&entry), 1);
     Ok(())
 }
 

@@ -13,7 +13,6 @@ use std::alloc::Global;
 use std::test::Fail;
 
 // Puts cells in at a place that a number gives. A call that is out of bounds answers `NoMemory`.
-#[tactic(auto, using(rt_store::proofs::GivenStates::spliced_states))]
 fn put<S: TextStore>(
     store: &mut S,
     states: &StateTable,
@@ -21,8 +20,8 @@ fn put<S: TextStore>(
     cells: &[Cell<StateId>],
 ) -> Result<(), Fault>
     requires cells { AreStates states.now cells.now }
-    requires given { AreStates states.now (S.list store.old) }
-    ensures { AreStates states.now (S.list store.new) }
+    requires given { S.agrees store.old states.now }
+    ensures { S.agrees store.new states.now }
 {
     let all = store.cells();
     if all == 0 || all > 2000 || cells.len() > 9 {
@@ -34,10 +33,9 @@ fn put<S: TextStore>(
 }
 
 // Makes the cells of a span gone.
-#[tactic(auto, using(rt_store::proofs::GivenStates::gone_states))]
 fn remove<S: TextStore>(store: &mut S, states: &StateTable, span: Span) -> Result<(), Fault>
-    requires given { AreStates states.now (S.list store.old) }
-    ensures { AreStates states.now (S.list store.new) }
+    requires given { S.agrees store.old states.now }
+    ensures { S.agrees store.new states.now }
 {
     if store.cells() > 2000 || span.site == 0 {
         return Err(Fault::NoMemory);
@@ -48,7 +46,6 @@ fn remove<S: TextStore>(store: &mut S, states: &StateTable, span: Span) -> Resul
 }
 
 // Puts the cells of a span in a state.
-#[tactic(auto, using(rt_store::proofs::GivenStates::put_states))]
 fn mark<S: TextStore>(
     store: &mut S,
     states: &StateTable,
@@ -56,8 +53,8 @@ fn mark<S: TextStore>(
     state: StateId,
 ) -> Result<(), Fault>
     requires state { IsState states.now state }
-    requires given { AreStates states.now (S.list store.old) }
-    ensures { AreStates states.now (S.list store.new) }
+    requires given { S.agrees store.old states.now }
+    ensures { S.agrees store.new states.now }
 {
     if store.cells() > 2000 {
         return Err(Fault::NoMemory);
@@ -88,8 +85,8 @@ fn same_cells<A: TextStore, B: TextStore>(a: &A, b: &B) -> bool {
 // Whether two stores find the same places of a tag.
 fn same_tags<A: TextStore, B: TextStore>(a: &A, b: &B, states: &StateTable, tag: TagId) -> bool
     requires tag { IsTag states.now tag }
-    requires a { AreStates states.now (A.list a.now) }
-    requires b { AreStates states.now (B.list b.now) }
+    requires a { A.agrees a.now states.now }
+    requires b { B.agrees b.now states.now }
 {
     for place in 0..=a.visible().min(2000) {
         if a.next_tagged(states, tag, place) != b.next_tagged(states, tag, place)

@@ -7,6 +7,7 @@ ghost use Rattle.rt_undo.specs.Actions.{group_of};
 ghost use Rattle.rt_revert.specs.Plans.{AreGiven, named_group};
 ghost use Rattle.rt_revert.specs.ReversionLaws.{AreSound};
 
+use crate::checks::{same, same_len};
 use rt_revert::{Reversal, TextChange, planned_reversion, planned_reversion_in};
 use rt_rga::Draft;
 use rt_stamps::{Fault, Site, Span, Stamp};
@@ -163,19 +164,19 @@ fn planned_in(
 
 // What was typed goes by one operation, and nothing comes back.
 fn assert_deletion(rt: &impl Abort, plan: &Reversal) {
-    assert_eq!(rt; plan.drafts.len(), 1);
+    same_len(rt, plan.drafts.len(), 1);
     assert!(rt; matches!(&plan.drafts[0], Draft::Delete { .. }));
-    assert_eq!(rt; plan.changes.len(), 1);
+    same_len(rt, plan.changes.len(), 1);
     assert!(rt; matches!(&plan.changes[0], TextChange::Removed(_)));
-    assert_eq!(rt; plan.returns.len(), 0);
+    same_len(rt, plan.returns.len(), 0);
 }
 
 // The one action took away the `ab`.
 fn assert_cut(rt: &impl Abort, plan: &Reversal) {
-    assert_eq!(rt; plan.actions.len(), 1);
-    assert_eq!(rt; plan.actions[0].inserted.len(), 0);
-    assert_eq!(rt; plan.actions[0].removed.len(), 1);
-    assert_eq!(rt; plan.actions[0].removed[0].span, span(1, 2));
+    same_len(rt, plan.actions.len(), 1);
+    same_len(rt, plan.actions[0].inserted.len(), 0);
+    same_len(rt, plan.actions[0].removed.len(), 1);
+    same(rt, plan.actions[0].removed[0].span, span(1, 2));
 }
 
 // What was typed goes.
@@ -191,22 +192,22 @@ fn typing_is_reverted(rt: HostRuntime) -> Result<(), Fail> {
 
 // The `b` comes back under another stamp.
 fn assert_return(rt: &impl Abort, plan: &Reversal) {
-    assert_eq!(rt; plan.drafts.len(), 2);
+    same_len(rt, plan.drafts.len(), 2);
     assert!(rt; matches!(&plan.drafts[0], Draft::Insert { .. }));
     assert!(rt; matches!(&plan.drafts[1], Draft::Delete { .. }));
-    assert_eq!(rt; plan.returns.len(), 1);
-    assert_eq!(rt; plan.returns[0].former, Stamp { count: 2, site: 1 });
-    assert_eq!(rt; plan.returns[0].newer, Stamp { count: 4, site: 1 });
+    same_len(rt, plan.returns.len(), 1);
+    same(rt, plan.returns[0].former, Stamp { count: 2, site: 1 });
+    same(rt, plan.returns[0].newer, Stamp { count: 4, site: 1 });
 }
 
 // One action put it in, and the other took both away.
 fn assert_actions(rt: &impl Abort, plan: &Reversal) {
-    assert_eq!(rt; plan.actions.len(), 2);
-    assert_eq!(rt; plan.actions[0].inserted.len(), 1);
-    assert_eq!(rt; plan.actions[0].inserted[0], span(4, 4));
-    assert_eq!(rt; plan.actions[1].removed.len(), 2);
-    assert_eq!(rt; plan.actions[1].removed[0].span, span(1, 1));
-    assert_eq!(rt; plan.actions[1].removed[1].span, span(4, 4));
+    same_len(rt, plan.actions.len(), 2);
+    same_len(rt, plan.actions[0].inserted.len(), 1);
+    same(rt, plan.actions[0].inserted[0], span(4, 4));
+    same_len(rt, plan.actions[1].removed.len(), 2);
+    same(rt, plan.actions[1].removed[0].span, span(1, 1));
+    same(rt, plan.actions[1].removed[1].span, span(4, 4));
 }
 
 // The `b` comes back, and goes again with the `a`.
@@ -233,8 +234,8 @@ fn what_is_visible_does_not_come_back(rt: HostRuntime) -> Result<(), Fail> {
     let site = Site::new(1).ok_or("a site")?;
     let group = typing_and_cutting(rt.alloc())?;
     let plan = planned(rt.alloc(), site, false, 3, &group)?;
-    assert_eq!(rt; plan.drafts.len(), 1);
+    same_len(&rt, plan.drafts.len(), 1);
     assert!(rt; matches!(&plan.drafts[0], Draft::Delete { .. }));
-    assert_eq!(rt; plan.returns.len(), 0);
+    same_len(&rt, plan.returns.len(), 0);
     Ok(())
 }
