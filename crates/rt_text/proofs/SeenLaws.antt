@@ -22,8 +22,7 @@ use Rattle.rt_text.specs.Widgets.{Own, Viewed, is_tagged, is_tagged_in, length_s
 use Rattle.rt_views.specs.declared.stretch.Stretch.{Stretch}
 use Rattle.rt_views.specs.Stretches.{part, seen_place, stretch_of}
 use Rattle.rt_views.specs.declared.limits.Limits.{Limits}
-use Rattle.rt_views.proofs.Parts.{part_get, part_length, part_map}
-use Rattle.rt_views.proofs.Shown.{stretch_shown}
+use Rattle.rt_views.proofs.Parts.{part_length, part_map}
 use Rattle.rt_edits.specs.Flat.{Flat}
 use Rattle.rt_store.proofs.Shown.{visible_shown, visible_at_shown, next_map, last_map}
 
@@ -59,19 +58,6 @@ tags_found table kept cells stamps own tags names found place cell e s h n k =
     ∙ ap (option_map (tags_on own tags)) (visible_at_shown (state_at table) kept place ∙ ap (option_map (map_state (state_at table))) h)
     ∙ (λ i. Some (filter (λ name. is_tagged_in (sym s i) name (shown table cell)) (sym n i)))
     ∙ ap (λ l. Some l) (sym k)
-
--- of a part
-pub tags_in_part : (table : TagStates) (kept : List (Cell ℕ)) (cells : List TaggedCell) (stretch : Stretch) (stamps : List Stamp) (own : Own) (tags names found : List Word) (place : ℕ) (cell : Cell ℕ)
-    → place < stretch.end - stretch.begin → map (shown table) kept ≡ cells → stamps ≡ own.sel → slice_get (visible_of kept) (stretch.begin + place) ≡ Some cell → names ≡ tags
-    → found ≡ filter (λ name. is_tagged_in stamps name (shown table cell)) names
-    → option_map (tags_on own tags) (slice_get (part stretch (visible_of cells)) place) ≡ Some found
-tags_in_part table kept cells stretch stamps own tags names found place cell within e s h n k =
-    ap (option_map (tags_on own tags)) (part_get stretch (visible_of cells) place within) ∙ tags_found table kept cells stamps own tags names found (stretch.begin + place) cell e s h n k
-
--- the stretch of a store is that of the document
-pub stretch_found : (table : TagStates) (kept : List (Cell ℕ)) (cells : List TaggedCell) (limits : Limits) (own : Own) (stretch : Stretch) → map (shown table) kept ≡ cells → limits ≡ own.limits
-    → stretch ≡ stretch_of kept limits → stretch ≡ stretch_of cells own.limits
-stretch_found table kept cells limits own stretch e l s = s ∙ sym (stretch_shown (state_at table) kept limits) ∙ (λ i. stretch_of (e i) (l i))
 
 -- ENDS
 
