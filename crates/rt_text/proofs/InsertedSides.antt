@@ -51,11 +51,11 @@ use Rattle.rt_text.proofs.ViewLaws.{viewed}
 pub document_final : (flat : Flat) → IsHistory flat.log → IsDocument flat.site flat.log flat → EndsFinal flat.cells
 document_final flat h doc = subst EndsFinal (sym doc.cells) (ends_final flat.log h)
 
-document_distinct : (flat : Flat) → IsHistory flat.log → IsDocument flat.site flat.log flat → IsDistinct is_same (ROOT ∷ stamps_of flat.cells)
+pub document_distinct : (flat : Flat) → IsHistory flat.log → IsDocument flat.site flat.log flat → IsDistinct is_same (ROOT ∷ stamps_of flat.cells)
 document_distinct flat h doc =
     subst (λ (l : List TaggedCell). IsDistinct is_same (ROOT ∷ stamps_of l)) (sym doc.cells) (distinct_more ROOT (stamps_of _) (root_absent flat.log h) (cells_distinct flat.log h))
 
-document_below : (flat : Flat) → IsHistory flat.log → IsDocument flat.site flat.log flat → AreBelowNext flat.count flat.cells
+pub document_below : (flat : Flat) → IsHistory flat.log → IsDocument flat.site flat.log flat → AreBelowNext flat.count flat.cells
 document_below flat h doc = subst (λ (p : _). p) (λ i. AreBelowNext (sym doc.count i) (sym doc.cells i)) (cells_older flat.log h)
 
 -- PLACES OF WHAT IS SHOWN
@@ -159,7 +159,7 @@ given_not P b o x e h = subst (λ (y : Option (Cell ℕ)). IfSome y P) (sym e) (
 
 -- WHETHER BOTH SIDES ARE SHOWN
 
-newline_shown : {S T : Type 0} (f : S → T) (cells : List (Cell S)) (s : Stamp)
+pub newline_shown : {S T : Type 0} (f : S → T) (cells : List (Cell S)) (s : Stamp)
     → unwrap_or (option_map (λ (cell : Cell T). is_newline cell.ch) (cell_of (map (map_state f) cells) s)) false ≡ unwrap_or (option_map (λ (cell : Cell S). is_newline cell.ch) (cell_of cells s)) false
 newline_shown f [] s = refl
 newline_shown {S} {T} f (x ∷ xs) s = by (is_same x.stamp s) (newline_shown f xs s)
@@ -170,7 +170,7 @@ newline_shown {S} {T} f (x ∷ xs) s = by (is_same x.stamp s) (newline_shown f x
     by true h = refl
     by false h = h
 
-limit_shown : (table : TagStates) (kept : List (Cell ℕ)) (limit : Option Stamp) → is_newline_of (map (shown table) kept) limit ≡ is_newline_of kept limit
+pub limit_shown : (table : TagStates) (kept : List (Cell ℕ)) (limit : Option Stamp) → is_newline_of (map (shown table) kept) limit ≡ is_newline_of kept limit
 limit_shown table kept None = refl
 limit_shown table kept (Some s) = newline_shown (state_at table) kept s
 

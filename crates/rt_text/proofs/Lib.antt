@@ -11,7 +11,9 @@ pub mod FollowingLaws
 pub mod InsertedDocument
 pub mod InsertedSides
 pub mod KeptDocument
-pub mod LeftBeginnings
+pub mod LeftDocument
+pub mod LeftLines
+pub mod LeftPlaces
 pub mod LimitedDeletions
 pub mod LimitedTags
 pub mod LineCounts

@@ -8,7 +8,7 @@ use Rattle.rt_stamps.specs.Places.{EndsWithNewline, is_newline, newlines, after_
 
 -- NEWLINES
 
-next_count : (b : Bool) (n m k : ℕ) → n ≡ m + k → cond b (n + 1) n ≡ cond b (m + 1) m + k
+pub next_count : (b : Bool) (n m k : ℕ) → n ≡ m + k → cond b (n + 1) n ≡ cond b (m + 1) m + k
 next_count true n m k h = omega arith
 next_count false n m k h = h
 

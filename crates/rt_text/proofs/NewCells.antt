@@ -35,7 +35,7 @@ from_new : (count site n : ℕ) (state : List Write) (text : List ℕ) → count
 from_new count site n state [] h = tt
 from_new count site n state (c ∷ text) h = (record { above = h; from = refl; there = refl }, from_new count site (n + 1) state text (omega arith))
 
-inserts_new : (inserts site count start : ℕ) (names : List Word) (text : List ℕ) → start ≤ count → AreNew start site (cells_of_inserts inserts site count names text)
+pub inserts_new : (inserts site count start : ℕ) (names : List Word) (text : List ℕ) → start ≤ count → AreNew start site (cells_of_inserts inserts site count names text)
 inserts_new zero site count start names text h = tt
 inserts_new (suc inserts) site count start names text h =
     let part = take MOST_CHARACTERS text in

@@ -148,13 +148,13 @@ place_moved {T} xs new ys s at k a n h before =
 -- BEHIND A VISIBLE CELL
 
 -- a visible cell at its place
-record IsSeen {T : Type 0} (cells : List (Cell T)) (p : ℕ) (x : Cell T) : Type 0 where
-  position : ℕ
-  is : slice_get cells position ≡ Some x
-  before : visible_before cells position ≡ p
-  there : x.gone ≡ false
+pub record IsSeen {T : Type 0} (cells : List (Cell T)) (p : ℕ) (x : Cell T) : Type 0 where
+  pub position : ℕ
+  pub is : slice_get cells position ≡ Some x
+  pub before : visible_before cells position ≡ p
+  pub there : x.gone ≡ false
 
-seen_at : {T : Type 0} (cells : List (Cell T)) (p : ℕ) (x : Cell T) → slice_get (visible_of cells) p ≡ Some x → IsSeen cells p x
+pub seen_at : {T : Type 0} (cells : List (Cell T)) (p : ℕ) (x : Cell T) → slice_get (visible_of cells) p ≡ Some x → IsSeen cells p x
 seen_at [] p x h = let bad : ⊥ = cc in absurd bad
 seen_at {T} (y ∷ ys) p x h = by y.gone refl p h (λ q k. seen_at ys q x k)
   where

@@ -9,7 +9,7 @@ use Rattle.rt_stamps.specs.Outcomes.{first_of}
 use Rattle.rt_stamps.specs.Words.{Word}
 use Rattle.rt_marks.specs.Marks.{marks_left}
 use Rattle.rt_oplog.specs.Operations.{Body, Operation}
-use Rattle.rt_store.specs.Cells.{EndsFinal, text_of, visible_of}
+use Rattle.rt_store.specs.Cells.{text_of}
 use Rattle.rt_store.specs.Shown.{TaggedCell}
 use Rattle.std.proofs.lemmas.List.{length-map}
 use Rattle.rt_rga.specs.Cells.{cells_of}
@@ -19,7 +19,6 @@ use Rattle.rt_rga.specs.Kept.{ReplicaValue}
 use Rattle.rt_rga.specs.Made.{refusal_of}
 use Rattle.rt_rga.specs.Requests.{MayBeMade, characters_in_all, last_count_after}
 use Rattle.rt_rga.proofs.Appending.{characters_append, count_append, drafts_append, may_append}
-use Rattle.rt_rga.proofs.Final.{ends_final}
 use Rattle.rt_rga.proofs.Requests.{all_count_on}
 use Rattle.rt_edits.specs.declared.inserting.Plan.{Plan}
 use Rattle.rt_edits.specs.declared.range.Range.{Range}
@@ -38,14 +37,12 @@ use Rattle.rt_tags.specs.Tags.{IsName}
 use Rattle.rt_text.specs.Commands.{cell_check, clock_check, with_pieces_at, with_range_replaced, without_ranges}
 use Rattle.rt_text.specs.Kept.{IsDoc}
 use Rattle.rt_text.specs.Replacements.{left_by, loss_at}
-use Rattle.rt_views.proofs.Parts.{part_length}
-use Rattle.rt_views.proofs.Whole.{stretch_some, stretch_within}
-use Rattle.rt_views.specs.Stretches.{part}
-use Rattle.rt_text.specs.Widgets.{AreSiteMarks, IsOwnOf, Own, Viewed, begin_of, in_text, last_newline, length_shown, own_inserted, selections_of, stretch_by, with_selections}
+use Rattle.rt_views.specs.declared.stretch.Stretch.{Stretch}
+use Rattle.rt_text.specs.Widgets.{AreSiteMarks, IsOwnOf, Own, Viewed, begin_of, in_text, last_newline, length_shown, own_inserted, selections_of, with_selections}
 use Rattle.rt_text.proofs.DeletionLaws.{deletion_listed}
 use Rattle.rt_text.proofs.InsertedDocument.{all_fit, kept_made, made_drafts, made_flat, made_is, made_new, may_make, names_given, others_made, own_made, put_made, refused_as}
 use Rattle.rt_text.proofs.InsertedSides.{IsPlace, at_text}
-use Rattle.rt_text.proofs.LeftBeginnings.{begin_left_of}
+use Rattle.rt_text.proofs.LeftDocument.{begin_low, length_left, stretch_left}
 use Rattle.rt_text.proofs.LimitedDeletions.{deletion_length, deletion_others, deletion_own, deletion_placed, deletion_rest, spared}
 use Rattle.rt_text.proofs.MadeDocument.{seen, seen_made}
 use Rattle.rt_text.proofs.PutLaws.{late_checks}
@@ -132,15 +129,11 @@ module _ (flat : Flat) (own : Own) (others : List Own) (range : Range) (h : IsHi
 
   -- the widget shows some of it
   pub rest_shown : 0 < length_shown rest_of
-  rest_shown =
-      let ends : EndsFinal rest_of.doc.cells = subst EndsFinal (sym rest_document.cells) (ends_final rest_of.doc.log rest_history) in
-      let stretch = stretch_by rest_of in
-      let size = part_length stretch (visible_of rest_of.doc.cells) (stretch_within rest_of.doc.cells own.limits ends) in
-      omega (arith, size, stretch_some rest_of.doc.cells own.limits ends, length-map (part stretch (visible_of rest_of.doc.cells)) (λ (c : TaggedCell). c.ch))
+  rest_shown = omega (arith, length_left flat own others range h doc, begin_low flat own others range h doc)
 
   -- and that begins where it began
   pub rest_begin : begin_of rest_of ≡ begin_of (viewed flat own others)
-  rest_begin = begin_left_of flat own.limits (range ∷ []) h doc
+  rest_begin = ap (λ (y : Stretch). y.begin) (stretch_left flat own others range h doc)
 
   -- the log of both in turn
   pub both_logged : (more : List Body) → with_drafts flat.site (deletes ++ more) flat.log ≡ with_drafts rest_of.doc.site more rest_of.doc.log

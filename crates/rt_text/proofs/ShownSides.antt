@@ -36,7 +36,7 @@ use Rattle.rt_text.proofs.PutPlaces.{IsCut, cell_more, cut_behind, cut_none, pla
 -- A LIMIT THAT IS A NEWLINE
 
 -- whether it is gone
-abbrev gone_by : List TaggedCell → Option Stamp → Bool
+abbrev pub gone_by : List TaggedCell → Option Stamp → Bool
 gone_by cells None = false
 gone_by cells (Some stamp) = is_gone cells stamp
 
@@ -75,18 +75,18 @@ place_below cells (Some s) h = by (place_of cells s) refl
 
 -- LINES BY LIMITS
 
-last_by : (cells : List TaggedCell) (limits : Limits) → last_line cells limits ≡ last_at (text_of cells) (option_and_then (place_of cells) limits.end)
+pub last_by : (cells : List TaggedCell) (limits : Limits) → last_line cells limits ≡ last_at (text_of cells) (option_and_then (place_of cells) limits.end)
 last_by cells limits = by limits.end
   where
     by : (o : Option Stamp) → unwrap_or (option_and_then (line_at cells) o) (newlines (text_of cells)) ≡ last_at (text_of cells) (option_and_then (place_of cells) o)
     by None = refl
     by (Some s) = refl
 
-start_by : (cells : List TaggedCell) (limit : Option Stamp) → unwrap_or (option_and_then (line_behind cells) limit) 1 ≡ start_at (text_of cells) (option_and_then (place_of cells) limit) (gone_by cells limit)
+pub start_by : (cells : List TaggedCell) (limit : Option Stamp) → unwrap_or (option_and_then (line_behind cells) limit) 1 ≡ start_at (text_of cells) (option_and_then (place_of cells) limit) (gone_by cells limit)
 start_by cells None = refl
 start_by cells (Some s) = refl
 
-first_by : (cells : List TaggedCell) (limits : Limits)
+pub first_by : (cells : List TaggedCell) (limits : Limits)
     → first_line cells limits ≡ first_at (text_of cells) (option_and_then (place_of cells) limits.start) (gone_by cells limits.start) (last_at (text_of cells) (option_and_then (place_of cells) limits.end))
 first_by cells limits = λ i. min (start_by cells limits.start i) (last_by cells limits i)
 
