@@ -108,13 +108,7 @@ impl<'a, S: TextStore> Ground for WidgetGround<'a, S> {
         }
         let widget = self.widget;
         let (store, states) = self.doc.kept();
-        let last = last_within(
-            store,
-            states,
-            &widget.parts.selection,
-            name,
-            self.stretch,
-        )?;
+        let last = last_within(store, states, &widget.parts.selection, name, self.stretch)?;
         Some(last + 1)
     }
 
