@@ -1,23 +1,22 @@
 -- What the deletion of a replacement leaves, where the widget that commands shows a stretch of the text.
-use Rattle.std.proofs.Common.{◌≡◌, ◌∙◌, ℕ, suc, ◌+◌, ◌-◌, ◌<◌, ◌≤◌, ◌&&◌, ◌++◌, Bool, true, false, cond, List, [], ◌∷◌, length, map, min, Option, None, Some, refl, sym, ap, arith, subst}
-use Rattle.std.specs.Prelude.{is_some, nat_le, nat_lt, option_map, unwrap_or}
+use Rattle.std.proofs.Common.{◌≡◌, ◌∙◌, ℕ, suc, ◌+◌, ◌-◌, ◌<◌, ◌≤◌, ◌&&◌, Bool, true, false, cond, List, [], ◌∷◌, length, map, min, refl, sym, ap, arith}
+use Rattle.std.specs.Prelude.{nat_le, nat_lt}
 use Rattle.std.proofs.lemmas.Bool.Decides.{nat_tests}
 use Rattle.std.proofs.lemmas.List.{length-map}
 use Rattle.rt_marks.specs.Marks.{place_left}
 use Rattle.rt_marks.proofs.Leaving.{place_rising}
-use Rattle.rt_stamps.specs.declared.limits.TheConstants.{GREATEST_COUNT, MOST_SPANS}
+use Rattle.rt_stamps.specs.declared.limits.TheConstants.{GREATEST_COUNT}
 use Rattle.rt_stamps.specs.declared.stamp.Stamp.{Stamp}
 use Rattle.rt_stamps.specs.Words.{Word}
 use Rattle.rt_store.specs.declared.cell.Cell.{Cell}
 use Rattle.rt_store.specs.Cells.{EndsFinal, map_state, text_of, visible_of}
 use Rattle.rt_store.specs.Shown.{TaggedCell}
 use Rattle.rt_tags.specs.States.{names_on}
-use Rattle.rt_rga.specs.Drafts.{with_drafts}
 use Rattle.rt_rga.specs.Histories.{IsHistory}
 use Rattle.rt_edits.specs.declared.range.Range.{Range}
-use Rattle.rt_edits.specs.Deletions.{Loss, delete_drafts, without_places, without_text}
+use Rattle.rt_edits.specs.Deletions.{Loss, without_places, without_text}
 use Rattle.rt_edits.specs.DraftLaws.{IsDocument}
-use Rattle.rt_edits.specs.Flat.{Flat, logged}
+use Rattle.rt_edits.specs.Flat.{Flat}
 use Rattle.rt_edits.specs.Removals.{gone_at, is_removed}
 use Rattle.rt_edits.specs.TagWrites.{bared, tagged, with_tag}
 use Rattle.rt_edits.proofs.DeletionDraftLaws.{loss_history, loss_made}
@@ -27,7 +26,6 @@ use Rattle.rt_edits.proofs.StateChanges.{ChangesState}
 use Rattle.rt_views.specs.declared.limits.Limits.{Limits}
 use Rattle.rt_views.specs.declared.stretch.Stretch.{Stretch}
 use Rattle.rt_views.specs.Stretches.{part, stretch_of}
-use Rattle.rt_views.proofs.Parts.{part_length}
 use Rattle.rt_views.proofs.Shown.{stretch_shown}
 use Rattle.rt_views.proofs.Whole.{stretch_some, stretch_within}
 use Rattle.rt_text.specs.Replacements.{left_by}

@@ -1,29 +1,26 @@
 -- Where cells stand in what is left of a document, and the stretch that a widget then shows.
-use Rattle.std.proofs.Common.{◌≡◌, ℕ, zero, suc, ◌+◌, ◌-◌, ◌<◌, ◌≤◌, ◌&&◌, ◌||◌, List, [], ◌∷◌, Bool, true, false, cond, length, map, refl, sym, ap, subst, ◌∙◌, arith, min, take, Option, None, Some}
-use Rattle.std.specs.Prelude.{IfSome, is_some, nat_le, nat_lt, option_and_then, option_map, slice_get, unwrap_or}
-use Rattle.std.proofs.lemmas.Bool.Decides.{nat_tests}
-use Rattle.std.proofs.lemmas.List.{length-map}
+use Rattle.std.proofs.Common.{◌≡◌, ℕ, suc, ◌+◌, ◌-◌, ◌<◌, ◌||◌, List, [], ◌∷◌, Bool, true, false, cond, refl, sym, ap, ◌∙◌, arith, min, take, Option, None, Some}
+use Rattle.std.specs.Prelude.{IfSome, option_and_then, option_map, slice_get, unwrap_or}
 use Rattle.std.proofs.lemmas.Option.{slice_get-map}
 use Rattle.rt_marks.specs.Marks.{place_left}
 use Rattle.rt_stamps.specs.declared.stamp.Stamp.{Stamp}
 use Rattle.rt_stamps.specs.Places.{is_newline, line_end, line_start, newlines}
 use Rattle.rt_stamps.specs.Stamps.{is_same}
 use Rattle.rt_store.specs.declared.cell.Cell.{Cell}
-use Rattle.rt_store.specs.Cells.{EndsFinal, cell_of, map_state, text_of, visible_of}
+use Rattle.rt_store.specs.Cells.{EndsFinal, cell_of, text_of, visible_of}
 use Rattle.rt_store.specs.Shown.{TaggedCell}
-use Rattle.rt_edits.specs.Removals.{gone_at, is_removed}
+use Rattle.rt_edits.specs.Removals.{gone_at}
 use Rattle.rt_edits.proofs.RemovedText.{text_left}
 use Rattle.rt_views.specs.declared.limits.Limits.{Limits}
-use Rattle.rt_views.specs.declared.stretch.Stretch.{Stretch}
 use Rattle.rt_views.specs.Limits.{first_line, is_gone, last_line, place_of}
 use Rattle.rt_views.specs.Stretches.{stretch_of}
 use Rattle.rt_views.proofs.Places.{ends_text, first_line_within, last_line_within}
 use Rattle.rt_text.specs.Neighbours.{is_newline_of}
 use Rattle.rt_text.proofs.LeftLines.{AreInside, begin_left, end_left, first_left, kept_from, kept_whole, last_left}
 use Rattle.rt_text.proofs.MarkLaws.{length_gone}
-use Rattle.rt_text.proofs.NeighbourLines.{first_at, last_at, start_at}
+use Rattle.rt_text.proofs.NeighbourLines.{last_at, start_at}
 use Rattle.rt_text.proofs.PutPlaces.{further, place_cons}
-use Rattle.rt_text.proofs.ShownSides.{first_by, gone_by, last_by, start_by}
+use Rattle.rt_text.proofs.ShownSides.{gone_by, last_by, start_by}
 use Rattle.rt_text.proofs.StayingPlaces.{stays_at}
 
 -- PLACES

@@ -4,7 +4,6 @@ use Rattle.std.specs.Prelude.{IfSome, is_some, nat_eq, option_map, option_and_th
 use Rattle.std.specs.List.{AllByRecursion, IsDistinct}
 use Rattle.std.proofs.lemmas.Bool.{and_from, and_parts, or_from, or_left, or_right}
 use Rattle.std.proofs.lemmas.Bool.Decides.{nat_tests}
-use Rattle.std.proofs.lemmas.List.{length-append, length-map}
 use Rattle.std.proofs.lemmas.List.Elements.{filter-append}
 use Rattle.std.proofs.lemmas.Option.{get_or_from_slice_get, slice_get_cases, slice_get_within}
 use Rattle.rt_marks.specs.Marks.{place_left}
@@ -15,10 +14,10 @@ use Rattle.rt_stamps.specs.Stamps.{is_same}
 use Rattle.rt_stamps.specs.Words.{Word}
 use Rattle.rt_stamps.proofs.Order.{same_refl, same_sym}
 use Rattle.rt_oplog.specs.Operations.{Body, Delete, last_of}
-use Rattle.rt_store.specs.Cells.{AreDistinct, stamps_of, text_of, visible_of}
+use Rattle.rt_store.specs.Cells.{AreDistinct, stamps_of, visible_of}
 use Rattle.rt_store.specs.Shown.{TaggedCell}
 use Rattle.rt_store.specs.Spans.{is_among}
-use Rattle.rt_store.specs.Written.{AreBelowNext, IsWritten}
+use Rattle.rt_store.specs.Written.{IsWritten}
 use Rattle.rt_store.proofs.Distinct.{first_apart, others_distinct, split}
 use Rattle.rt_tags.specs.States.{IsByName, names_on}
 use Rattle.rt_rga.specs.Cells.{writes_on}
@@ -34,7 +33,7 @@ use Rattle.rt_edits.specs.Flat.{Flat, left_of}
 use Rattle.rt_edits.specs.Insertions.{Insertion, Piece, insertion_of, left_neighbour, right_neighbour, with_pieces}
 use Rattle.rt_edits.specs.InsertionDrafts.{insertion_drafts}
 use Rattle.rt_edits.specs.RemovalDrafts.{removal_drafts}
-use Rattle.rt_edits.specs.Removals.{gone_at, is_covered, is_in, is_removed}
+use Rattle.rt_edits.specs.Removals.{is_covered, is_in}
 use Rattle.rt_edits.specs.Selections.{unselected}
 use Rattle.rt_edits.specs.TagDrafts.{newline_drafts}
 use Rattle.rt_edits.specs.TagWrites.{bared}
@@ -43,16 +42,16 @@ use Rattle.rt_edits.proofs.PieceDraftLaws.{apart_front}
 use Rattle.rt_views.specs.declared.limits.Limits.{Limits}
 use Rattle.rt_views.specs.declared.stretch.Stretch.{Stretch}
 use Rattle.rt_views.specs.Limits.{place_of}
-use Rattle.rt_views.specs.Stretches.{part, stretch_of}
+use Rattle.rt_views.specs.Stretches.{part}
 use Rattle.rt_text.specs.Commands.{none_inserted, right_behind, stretch_with}
 use Rattle.rt_text.specs.Neighbours.{are_newlines, are_sides_shown, pieces_text}
-use Rattle.rt_text.specs.Replacements.{drafts_at, insertion_at, left_by}
+use Rattle.rt_text.specs.Replacements.{drafts_at, insertion_at}
 use Rattle.rt_text.specs.Widgets.{Own, Viewed, in_text, last_newline, selections_of, shown_by}
 use Rattle.rt_text.proofs.BareNewline.{IsBare, all_bare, bare_drafts, bare_insertion}
 use Rattle.rt_text.proofs.InsertedDocument.{drafts_are, new_is}
 use Rattle.rt_text.proofs.InsertedSides.{IsFound, IsPlace, IsRight, are_shown, document_below, left_there, right_is, right_there}
-use Rattle.rt_text.proofs.LeftDocument.{at_is, at_low, end_stays, begin_low, is_place, last_place, left, loss, size, some, stretch, within}
-use Rattle.rt_text.proofs.LimitedDeletions.{loss_of, widget_left}
+use Rattle.rt_text.proofs.LeftDocument.{at_is, end_stays, is_place, last_place, left, loss, size, some, stretch, within}
+use Rattle.rt_text.proofs.LimitedDeletions.{widget_left}
 use Rattle.rt_text.proofs.MadeDocument.{document_written}
 use Rattle.rt_text.proofs.NewCells.{AreNew, none_new}
 use Rattle.rt_text.proofs.PutPlaces.{IsSeen, among_append, seen_at}
@@ -307,7 +306,6 @@ module _ (flat : Flat) (own : Own) (others : List Own) (range : Range) (h : IsHi
 
     seen_left : IsSeen gone.cells end_place last_cell.0
     seen_left = seen_at gone.cells end_place last_cell.0 (stays_at lost.places flat.cells (shows.end - 1) end_place (end_stays flat own others range h doc) refl ∙ last_cell.1)
-
 
     split_left : gone.cells ≡ take seen_left.position gone.cells ++ last_cell.0 ∷ drop (suc seen_left.position) gone.cells
     split_left = split_at gone.cells seen_left.position last_cell.0 seen_left.is

@@ -1,9 +1,8 @@
-use Rattle.std.proofs.Common.{◌≡◌, ◌∙◌, ◌⊎◌, ◌+◌, ◌-◌, ◌<◌, ◌≤◌, ◌||◌, All, ℕ, [], ◌∷◌, cond, not, Bool, true, false, None, Option, length, ap, arith, inl, inr, refl, subst, sym}
-use Rattle.std.specs.Prelude.{IfSome, is_some, nat_eq, option_map, unwrap_or}
+use Rattle.std.proofs.Common.{◌≡◌, ◌∙◌, ◌⊎◌, ◌+◌, ◌-◌, ◌<◌, ◌≤◌, ◌||◌, All, [], ◌∷◌, cond, not, None, length, ap, arith, inl, inr, refl, subst, sym}
+use Rattle.std.specs.Prelude.{IfSome, is_some, nat_eq}
 use Rattle.std.proofs.lemmas.Result.{err_from_is_err_and}
 use Rattle.rt_stamps.specs.declared.limits.TheConstants.{GREATEST_COUNT}
 use Rattle.rt_stamps.specs.declared.stamp.Stamp.{Stamp}
-use Rattle.rt_stamps.specs.declared.stamp.TheConstants.{ROOT}
 use Rattle.rt_marks.specs.Marks.{place_left}
 use Rattle.rt_store.specs.declared.cell.Cell.{Cell}
 use Rattle.rt_store.specs.Cells.{visible_of}
@@ -13,7 +12,6 @@ use Rattle.rt_edits.specs.Flat.{Flat}
 use Rattle.rt_edits.specs.Insertions.{left_neighbour, right_neighbour}
 use Rattle.rt_edits.specs.Removals.{gone_at, is_covered}
 use Rattle.rt_edits.specs.Selected.{stamps_in}
-use Rattle.rt_edits.proofs.PlaceLaws.{length_text}
 use Rattle.rt_views.specs.Stretches.{stretch_of}
 use Rattle.rt_text.specs.Neighbours.{are_newlines, are_sides_shown, limit_left, pieces_text}
 use Rattle.rt_text.specs.Widgets.{Own}
