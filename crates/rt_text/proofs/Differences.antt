@@ -1,6 +1,6 @@
 -- Distances between places of a part of a text.
 use Rattle.std.proofs.Common.{◌≡◌, ℕ, ◌+◌, ◌-◌, ◌≤◌, List, [], ◌∷◌, map, refl, ◌∙◌, arith}
-use Rattle.std.specs.Prelude.{ℤ, pos, ◌-ℤ◌}
+use Rattle.std.specs.Prelude.{pos, ◌-ℤ◌}
 use Rattle.std.proofs.lemmas.Int.{ints}
 use Rattle.rt_requests.specs.declared.measure.Measure.{Measure}
 use Rattle.rt_requests.specs.declared.measure.Measure.TheVariants.{Chars, Indices, Lines}

@@ -33,12 +33,12 @@ use Rattle.rt_edits.proofs.RestLaws.{element_shown, left_shown}
 use Rattle.rt_views.specs.declared.limits.Limits.{Limits}
 use Rattle.rt_views.specs.declared.stretch.Stretch.{Stretch}
 use Rattle.rt_views.specs.Limits.{no_limits, place_of}
-use Rattle.rt_views.specs.Stretches.{part, stretch_of}
+use Rattle.rt_views.specs.Stretches.{stretch_of}
 use Rattle.rt_views.proofs.Parts.{part_get}
 use Rattle.rt_views.proofs.Shown.{place_shown}
-use Rattle.rt_views.proofs.Whole.{stretch_some, stretch_whole, stretch_within}
+use Rattle.rt_views.proofs.Whole.{stretch_whole, stretch_within}
 use Rattle.rt_text.specs.Commands.{none_inserted, right_behind}
-use Rattle.rt_text.specs.Neighbours.{are_newlines, are_sides_shown, ends_with_newline, is_ahead, is_behind, is_newline_of, limit_left, limits_in, pieces_text}
+use Rattle.rt_text.specs.Neighbours.{are_newlines, are_sides_shown, is_ahead, is_behind, is_newline_of, limit_left, limits_in, pieces_text}
 use Rattle.rt_text.specs.Widgets.{Own, Viewed, in_text, length_shown, shown_by}
 use Rattle.rt_text.proofs.LimitedDeletions.{stretch_kept}
 use Rattle.rt_text.proofs.LimitedTags.{shown_length}

@@ -1,5 +1,5 @@
 -- What a deletion leaves of a document, where the widget that commands shows a stretch of it.
-use Rattle.std.proofs.Common.{◌≡◌, ℕ, ◌+◌, ◌-◌, ◌<◌, ◌≤◌, List, [], ◌∷◌, Bool, cond, false, length, map, refl, sym, ◌∙◌, ap, arith, subst, None, Some}
+use Rattle.std.proofs.Common.{◌≡◌, ℕ, ◌-◌, ◌<◌, ◌≤◌, List, [], ◌∷◌, Bool, cond, false, length, map, refl, sym, ◌∙◌, ap, arith, subst, None, Some}
 use Rattle.std.specs.Prelude.{is_some, option_map, slice_get, unwrap_or}
 use Rattle.std.specs.List.{AllByRecursion}
 use Rattle.std.proofs.lemmas.List.{length-map}
@@ -39,7 +39,7 @@ use Rattle.rt_views.specs.Stretches.{part, stretch_of}
 use Rattle.rt_views.proofs.Parts.{part_length, part_map}
 use Rattle.rt_views.proofs.Shown.{stretch_shown}
 use Rattle.rt_views.proofs.Whole.{stretch_some, stretch_within}
-use Rattle.rt_text.specs.Widgets.{Own, AreSiteMarks, IsOwnOf, Viewed, last_newline, own_left, reselected}
+use Rattle.rt_text.specs.Widgets.{Own, AreSiteMarks, IsOwnOf, last_newline, own_left, reselected}
 use Rattle.rt_text.specs.Commands.{clock_check, without_ranges}
 use Rattle.rt_text.proofs.MadeDocument.{seen, seen_made, counts_alone, clock_fits}
 use Rattle.rt_text.proofs.ViewLaws.{viewed}

@@ -1,10 +1,10 @@
 -- Lines of a text, by the newlines before a place, and of the same text with more characters at a place.
-use Rattle.std.proofs.Common.{◌≡◌, ◌≢◌, ℕ, zero, suc, ◌+◌, ◌-◌, ◌<◌, ◌≤◌, ◌||◌, List, [], ◌∷◌, ◌++◌, Bool, true, false, cond, not, length, take, drop, refl, sym, ap, subst, ◌∙◌, arith, length-append, append_assoc}
+use Rattle.std.proofs.Common.{◌≡◌, ℕ, zero, suc, ◌+◌, ◌<◌, ◌≤◌, ◌||◌, List, [], ◌∷◌, ◌++◌, Bool, true, false, cond, length, take, drop, refl, ap, ◌∙◌, arith, length-append}
 use Rattle.std.proofs.lemmas.Bool.Decides.{nat_tests}
 use Rattle.std.specs.Prelude.{Some, slice_get, nat_lt}
 use Rattle.std.specs.List.{list_any}
 use Rattle.rt_text.specs.Neighbours.{ends_behind, ends_with_newline}
-use Rattle.rt_stamps.specs.Places.{EndsWithNewline, is_newline, newlines, after_newlines, line_of, line_start, line_end}
+use Rattle.rt_stamps.specs.Places.{is_newline, newlines, after_newlines}
 
 -- NEWLINES
 

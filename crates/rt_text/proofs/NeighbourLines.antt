@@ -1,11 +1,10 @@
 -- Which lines between two places are shown once more characters stand at a place, and whether both sides of the end of these are.
-use Rattle.std.proofs.Common.{◌≡◌, ℕ, zero, suc, ◌+◌, ◌-◌, ◌<◌, ◌≤◌, ◌&&◌, ◌⊎◌, inl, inr, List, [], ◌∷◌, ◌++◌, Bool, true, false, cond, not, min, length, take, drop, refl, sym, ap, subst, ◌∙◌, arith, Option, None, Some, append_assoc, length-append}
+use Rattle.std.proofs.Common.{◌≡◌, ℕ, zero, suc, ◌+◌, ◌-◌, ◌<◌, ◌≤◌, ◌&&◌, ◌⊎◌, inl, inr, List, [], ◌∷◌, ◌++◌, Bool, true, false, cond, not, min, length, take, drop, refl, sym, ap, ◌∙◌, arith, Option, None, Some, append_assoc, length-append}
 use Rattle.std.proofs.lemmas.Bool.{cases_lt, le-ltb, lt-ltb, le-leb, lt-leb}
 use Rattle.std.proofs.lemmas.Bool.Decides.{nat_tests}
 use Rattle.std.proofs.lemmas.List.{take_all}
 use Rattle.std.specs.Prelude.{IfSome, nat_le, nat_lt, option_map, slice_get, unwrap_or}
 use Rattle.rt_stamps.specs.Places.{EndsWithNewline, after_newlines, line_end, line_of, line_start, newlines}
-use Rattle.rt_store.proofs.Distinct.{split}
 use Rattle.rt_views.proofs.Lines.{end_is, line_within, lines_some}
 use Rattle.rt_text.specs.Neighbours.{are_sides_shown, ends_with_newline, is_ahead, is_behind}
 use Rattle.rt_text.proofs.LineCounts.{behind_few, counts_more, counts_rise, few_behind, last_counted, some_counted, put_among, put_before, put_behind, put_in, put_length}

@@ -1,5 +1,5 @@
 -- The cells of new text: they are visible, and their stamps are new.
-use Rattle.std.proofs.Common.{◌≡◌, ℕ, zero, suc, ◌+◌, ◌<◌, ◌≤◌, List, [], ◌∷◌, ◌++◌, true, false, cond, not, length, map, flat_map, take, drop, refl, sym, ap, subst, ◌∙◌, arith, append-nil, append_assoc}
+use Rattle.std.proofs.Common.{◌≡◌, ℕ, zero, suc, ◌+◌, ◌<◌, ◌≤◌, List, [], ◌∷◌, ◌++◌, true, false, cond, not, length, take, drop, refl, sym, ap, ◌∙◌, arith, append-nil, append_assoc}
 use Rattle.std.specs.List.{AllByRecursion}
 use Rattle.std.specs.Str.{chars}
 use Rattle.std.proofs.lemmas.Bool.{or_from}
@@ -14,7 +14,7 @@ use Rattle.rt_store.specs.Spans.{is_among}
 use Rattle.rt_store.specs.Written.{AreBelowNext}
 use Rattle.rt_store.proofs.Distinct.{differs, new_apart}
 use Rattle.rt_tags.specs.States.{Write}
-use Rattle.rt_edits.specs.Insertions.{Insertion, Piece, cells_of_inserts, counts_for, further_tags, inserts_for, new_state, shared_names, tagged_cells, with_listed, with_pieces}
+use Rattle.rt_edits.specs.Insertions.{Insertion, Piece, cells_of_inserts, further_tags, inserts_for, new_state, shared_names, tagged_cells, with_listed, with_pieces}
 use Rattle.rt_edits.proofs.InsertedText.{text_append, text_tagged}
 use Rattle.rt_text.specs.Neighbours.{pieces_text}
 

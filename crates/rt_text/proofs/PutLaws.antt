@@ -16,8 +16,8 @@ use Rattle.rt_stamps.specs.Names.{name_check}
 use Rattle.rt_text.specs.Commands.{cell_check, clock_check, inserted, names_in, with_pieces_at}
 use Rattle.rt_edits.specs.Flat.{Flat, put_after}
 use Rattle.rt_store.specs.Shown.{TaggedCell, shown}
-use Rattle.rt_edits.specs.Insertions.{Insertion, Piece, insertion_of, left_neighbour, right_neighbour}
-use Rattle.rt_text.specs.Widgets.{Own, Viewed, length_shown, selections_of, widget_of}
+use Rattle.rt_edits.specs.Insertions.{Piece}
+use Rattle.rt_text.specs.Widgets.{Viewed, length_shown, widget_of}
 use Rattle.rt_text.proofs.ReadyLaws.{first_none, first_some}
 use Rattle.rt_store.proofs.Shown.{text_shown, visible_shown}
 

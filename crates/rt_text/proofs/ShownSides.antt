@@ -1,33 +1,28 @@
 -- What a widget shows once new cells stand behind a visible one.
-use Rattle.std.proofs.Common.{◌≡◌, ℕ, zero, suc, ◌+◌, ◌-◌, ◌<◌, ◌≤◌, ◌&&◌, ◌||◌, ◌⊎◌, inl, inr, List, [], ◌∷◌, ◌++◌, Bool, true, false, cond, min, not, length, take, drop, map, refl, sym, ap, subst, ◌∙◌, arith, Option, None, Some, take-append-drop, get_or}
-use Rattle.std.specs.Prelude.{IfSome, is_some, nat_le, nat_lt, option_and_then, option_map, slice_get, unwrap_or}
+use Rattle.std.proofs.Common.{◌≡◌, ℕ, zero, suc, ◌+◌, ◌<◌, ◌≤◌, ◌&&◌, ◌||◌, ◌⊎◌, inl, inr, List, [], ◌∷◌, Bool, true, false, cond, min, length, take, drop, refl, sym, ap, subst, ◌∙◌, arith, Option, None, Some, take-append-drop, get_or}
+use Rattle.std.specs.Prelude.{IfSome, is_some, nat_lt, option_and_then, option_map, slice_get, unwrap_or}
 use Rattle.std.specs.List.{IsDistinct}
-use Rattle.std.proofs.lemmas.Bool.{and_parts, le-ltb, lt-ltb}
+use Rattle.std.proofs.lemmas.Bool.{and_parts}
 use Rattle.std.proofs.lemmas.List.{length-map}
-use Rattle.std.proofs.lemmas.Map.Keys.{IsDistinct-head, IsDistinct-tail}
 use Rattle.std.proofs.lemmas.Option.{slice_get-map, slice_get_cases}
 use Rattle.rt_stamps.specs.declared.stamp.Stamp.{Stamp}
 use Rattle.rt_stamps.specs.declared.stamp.TheConstants.{ROOT}
-use Rattle.rt_stamps.specs.Places.{EndsWithNewline, is_newline, line_end, line_of, line_start, newlines}
+use Rattle.rt_stamps.specs.Places.{is_newline, line_end, line_start, newlines}
 use Rattle.rt_stamps.specs.Stamps.{is_same}
-use Rattle.rt_stamps.proofs.Order.{same_sym}
-use Rattle.rt_store.specs.declared.cell.Cell.{Cell}
 use Rattle.rt_store.specs.Cells.{EndsFinal, after_element, cell_of, position_of, stamps_of, text_of, visible_of}
 use Rattle.rt_store.specs.Shown.{TaggedCell}
 use Rattle.rt_store.specs.Spans.{is_among}
 use Rattle.rt_store.specs.Written.{AreBelowNext}
-use Rattle.rt_store.proofs.Distinct.{first_apart, others_distinct, split}
+use Rattle.rt_store.proofs.Distinct.{first_apart, others_distinct}
 use Rattle.rt_store.proofs.Finding.{place_found, stamp_held}
 use Rattle.rt_rga.proofs.PlacesAt.{position_at}
 use Rattle.rt_edits.specs.Flat.{left_of, put_after}
 use Rattle.rt_edits.proofs.InsertedText.{text_inserted}
 use Rattle.rt_views.specs.declared.limits.Limits.{Limits}
-use Rattle.rt_views.specs.Limits.{first_line, is_gone, last_line, line_at, line_behind, no_limits, place_of}
+use Rattle.rt_views.specs.Limits.{first_line, is_gone, last_line, line_at, line_behind, place_of}
 use Rattle.rt_views.specs.Stretches.{stretch_of}
-use Rattle.rt_views.proofs.Lines.{end_is}
 use Rattle.rt_views.proofs.Places.{ends_text, place_of_within}
-use Rattle.rt_views.proofs.Whole.{stretch_whole}
-use Rattle.rt_text.specs.Neighbours.{are_newlines, are_sides_shown, is_newline_of, limits_in}
+use Rattle.rt_text.specs.Neighbours.{are_newlines, are_sides_shown, is_newline_of}
 use Rattle.rt_text.proofs.LineCounts.{put_in}
 use Rattle.rt_text.proofs.NeighbourLines.{both_sides, first_at, last_at, moved_by, start_at}
 use Rattle.rt_text.proofs.NewCells.{AreNew, all_there, none_new, there_counted}

@@ -9,7 +9,7 @@ use Rattle.rt_edits.specs.Deletions.{Loss, delete_drafts, loss_in}
 use Rattle.rt_edits.specs.Flat.{left_of}
 use Rattle.rt_edits.specs.InsertionDrafts.{insertion_drafts}
 use Rattle.rt_edits.specs.InsertionPlans.{Plans}
-use Rattle.rt_edits.specs.Insertions.{Insertion, Piece, insertion_of, left_neighbour, right_neighbour}
+use Rattle.rt_edits.specs.Insertions.{Insertion, Piece, insertion_of, left_neighbour}
 use Rattle.rt_text.specs.declared.doc.replacing.Replacement.{Replacement}
 use Rattle.rt_text.specs.Commands.{none_inserted, right_behind, without_ranges}
 use Rattle.rt_text.specs.Widgets.{Viewed, begin_of, in_text, length_shown, selections_of, shown_by, text_shown}

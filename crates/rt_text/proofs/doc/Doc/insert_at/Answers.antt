@@ -1,6 +1,5 @@
-use Rattle.std.proofs.Common.{◌≡◌, ℕ, suc, ◌∙◌, ◌<◌, ◌≤◌, ◌+◌, ◌^◌, ◌-◌, All, ◌⊎◌, [], ◌∷◌, Some, ap, arith, inl, inr, length, map, refl, string_bytes, subst, sym, List, Option}
+use Rattle.std.proofs.Common.{◌≡◌, ℕ, ◌∙◌, ◌<◌, ◌≤◌, ◌+◌, ◌^◌, ◌-◌, All, ◌⊎◌, [], ◌∷◌, Some, ap, arith, inl, inr, length, map, refl, string_bytes, subst, sym, List, Option}
 use Rattle.std.specs.List.{AllByRecursion}
-use Rattle.std.specs.Prelude.{IfSome, nat_eq, option_map, slice_get}
 use Rattle.std.proofs.lemmas.List.{length-map}
 use Rattle.std.proofs.lemmas.Result.{err_from_is_err_and}
 use Rattle.rt_marks.specs.Marks.{mark_inserted, marks_inserted}
@@ -8,10 +7,9 @@ use Rattle.rt_oplog.specs.Edits.{body_of}
 use Rattle.rt_stamps.specs.declared.fault.Fault.{Fault}
 use Rattle.rt_stamps.specs.declared.fault.Fault.TheVariants.{ClockSpent, NoMemory}
 use Rattle.rt_stamps.specs.declared.limits.TheConstants.{GREATEST_COUNT}
-use Rattle.rt_stamps.specs.declared.stamp.Stamp.{Stamp}
 use Rattle.rt_stamps.specs.Outcomes.{first_of}
 use Rattle.rt_store.specs.declared.cell.Cell.{Cell}
-use Rattle.rt_store.specs.Cells.{text_of, visible_of}
+use Rattle.rt_store.specs.Cells.{text_of}
 use Rattle.rt_store.specs.Shown.{TaggedCell, shown}
 use Rattle.rt_tags.specs.States.{TagStates}
 use Rattle.rt_tags.specs.Tags.{IsName}
@@ -22,21 +20,20 @@ use Rattle.rt_rga.specs.Requests.{MayBeMade}
 use Rattle.rt_edits.specs.DraftLaws.{IsDocument}
 use Rattle.rt_edits.specs.Flat.{Flat, logged}
 use Rattle.rt_edits.specs.InsertionPlans.{Plans}
-use Rattle.rt_edits.specs.Insertions.{Insertion, all_listed}
+use Rattle.rt_edits.specs.Insertions.{all_listed}
 use Rattle.rt_edits.specs.Listed.{AreListed}
 use Rattle.rt_edits.specs.Selected.{stamps_in}
 use Rattle.rt_edits.specs.Selections.{with_stamps}
 use Rattle.rt_edits.proofs.PlaceLaws.{length_text, text_within}
-use Rattle.rt_edits.proofs.RestLaws.{left_given}
 use Rattle.rt_views.specs.declared.stretch.Stretch.{Stretch}
 use Rattle.rt_views.specs.declared.limits.Limits.{Limits}
 use Rattle.rt_views.specs.Stretches.{shown_part, stretch_of}
-use Rattle.rt_text.specs.Commands.{cell_check, clock_check, with_pieces_at}
+use Rattle.rt_text.specs.Commands.{cell_check, with_pieces_at}
 use Rattle.rt_text.specs.Kept.{IsDoc}
 use Rattle.rt_text.specs.Parts.{own_in}
-use Rattle.rt_text.specs.Widgets.{IsOwnOf, Own, Viewed, in_text, own_inserted, selections_of, shown_by, with_selections}
-use Rattle.rt_text.proofs.InsertedDocument.{all_fit, drafts_are, kept_made, made_drafts, made_flat, made_is, made_new, may_make, names_given, new_is, others_made, own_made, plans_are, put_made, refused_as, refused_made}
-use Rattle.rt_text.proofs.InsertedSides.{IsPlace, any_some, at_visible, element_is, found, given_if, given_not}
+use Rattle.rt_text.specs.Widgets.{IsOwnOf, Own, Viewed, in_text, own_inserted, selections_of, with_selections}
+use Rattle.rt_text.proofs.InsertedDocument.{all_fit, kept_made, made_drafts, made_flat, made_is, made_new, may_make, names_given, others_made, own_made, put_made, refused_as, refused_made}
+use Rattle.rt_text.proofs.InsertedSides.{IsPlace, at_visible}
 use Rattle.rt_text.proofs.KeptDocument.{clock_spent}
 use Rattle.rt_text.proofs.LimitedDeletions.{stretch_kept}
 use Rattle.rt_text.proofs.MadeDocument.{seen, seen_made}

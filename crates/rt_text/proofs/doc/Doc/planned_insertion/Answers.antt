@@ -1,45 +1,26 @@
-use Rattle.std.proofs.Common.{◌≡◌, ℕ, suc, ◌∙◌, ◌<◌, ◌≤◌, ◌+◌, ◌^◌, ◌-◌, All, ◌⊎◌, [], ◌∷◌, Some, ap, arith, inl, inr, length, map, refl, string_bytes, subst, sym, List, Option}
-use Rattle.std.specs.List.{AllByRecursion}
+use Rattle.std.proofs.Common.{◌≡◌, suc, ◌∙◌, ◌<◌, ◌+◌, ◌⊎◌, [], ap, arith, inl, inr, map, refl, subst, sym, List}
 use Rattle.std.specs.Prelude.{IfSome, nat_eq, option_map, slice_get}
 use Rattle.std.proofs.lemmas.List.{length-map}
 use Rattle.std.proofs.lemmas.Result.{IfErr-weaker, IfOk-weaker}
-use Rattle.rt_marks.specs.Marks.{mark_inserted, marks_inserted}
 use Rattle.rt_oplog.specs.Edits.{body_of}
-use Rattle.rt_stamps.specs.declared.fault.Fault.{Fault}
-use Rattle.rt_stamps.specs.declared.fault.Fault.TheVariants.{ClockSpent, NoMemory}
 use Rattle.rt_stamps.specs.declared.limits.TheConstants.{GREATEST_COUNT}
 use Rattle.rt_stamps.specs.declared.stamp.Stamp.{Stamp}
-use Rattle.rt_stamps.specs.Outcomes.{first_of}
 use Rattle.rt_store.specs.declared.cell.Cell.{Cell}
-use Rattle.rt_store.specs.Cells.{text_of, visible_of}
+use Rattle.rt_store.specs.Cells.{visible_of}
 use Rattle.rt_store.specs.Shown.{TaggedCell, shown}
 use Rattle.rt_tags.specs.States.{IsState}
-use Rattle.rt_tags.specs.Tags.{IsName}
-use Rattle.rt_rga.specs.Drafts.{with_drafts}
-use Rattle.rt_rga.specs.Made.{refusal_of}
-use Rattle.rt_rga.specs.Requests.{MayBeMade}
-use Rattle.rt_edits.specs.Flat.{Flat, logged}
-use Rattle.rt_edits.specs.InsertionPlans.{Plans}
-use Rattle.rt_edits.specs.Insertions.{Insertion, all_listed}
-use Rattle.rt_edits.specs.Listed.{AreListed}
+use Rattle.rt_edits.specs.Flat.{Flat}
+use Rattle.rt_edits.specs.Insertions.{Insertion}
 use Rattle.rt_edits.specs.Selected.{stamps_in}
-use Rattle.rt_edits.specs.Selections.{with_stamps}
 use Rattle.rt_edits.proofs.PlaceLaws.{length_text, text_within}
 use Rattle.rt_edits.proofs.RestLaws.{left_given}
 use Rattle.rt_views.specs.declared.stretch.Stretch.{Stretch}
 use Rattle.rt_views.specs.Stretches.{stretch_of}
-use Rattle.rt_text.specs.Commands.{cell_check, clock_check, with_pieces_at}
-use Rattle.rt_text.specs.Kept.{IsDoc}
-use Rattle.rt_text.specs.Parts.{own_in}
-use Rattle.rt_text.specs.Widgets.{IsOwnOf, Own, in_text, own_inserted, selections_of, shown_by, with_selections}
-use Rattle.rt_text.proofs.InsertedDocument.{all_fit, drafts_are, kept_made, made_drafts, made_flat, made_is, made_new, may_make, names_given, new_is, others_made, own_made, plans_are, put_made, refused_as, refused_made}
+use Rattle.rt_text.specs.Widgets.{Own, selections_of, shown_by}
+use Rattle.rt_text.proofs.InsertedDocument.{drafts_are, new_is, plans_are}
 use Rattle.rt_text.proofs.InsertedSides.{IsPlace, any_some, at_visible, element_is, found, given_if, given_not}
-use Rattle.rt_text.proofs.KeptDocument.{clock_spent}
 use Rattle.rt_text.proofs.LimitedDeletions.{stretch_kept}
-use Rattle.rt_text.proofs.MadeDocument.{seen, seen_made}
-use Rattle.rt_text.proofs.MarkLaws.{site_fits}
-use Rattle.rt_text.proofs.PeerLaws.{each_by, each_room, put_each, selecting}
-use Rattle.rt_text.proofs.PutLaws.{late_checks, visible_same}
+use Rattle.rt_text.proofs.PutLaws.{visible_same}
 use Rattle.rt_text.proofs.ViewLaws.{viewed}
 use Rattle.rt_text.proofs.doc.Doc.planned_insertion.Goals as goal
 

@@ -1,6 +1,5 @@
-use Rattle.std.proofs.Common.{◌≡◌, ◌∙◌, ◌+◌, ap, arith, length, map}
+use Rattle.std.proofs.Common.{◌∙◌, ◌+◌, ap, arith, map}
 use Rattle.std.specs.Prelude.{option_map, string_bytes}
-use Rattle.rt_store.specs.Cells.{visible_of}
 use Rattle.rt_edits.specs.Flat.{Flat}
 use Rattle.rt_edits.specs.Selected.{stamps_in}
 use Rattle.rt_edits.proofs.PlaceLaws.{length_text, text_within}
