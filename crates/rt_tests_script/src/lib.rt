@@ -8,6 +8,8 @@ mod exchange;
 #[cfg(test)]
 mod files;
 #[cfg(test)]
+mod limit_borders;
+#[cfg(test)]
 mod limits;
 #[cfg(test)]
 mod lines;
