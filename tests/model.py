@@ -15,7 +15,7 @@ import tempfile
 from modelled.chance import Chance
 from modelled.groups import Group
 from modelled.peers import Peers
-from modelled.widget import spelled
+from modelled.words import spelled
 
 ROOT = os.path.dirname(os.path.dirname(os.path.abspath(__file__)))
 PROGRAM = os.path.abspath(sys.argv[1]) if len(sys.argv) > 1 else os.path.join(ROOT, "peertext")
@@ -28,7 +28,9 @@ def play_groups(chance):
     passed = failed = 0
     for group in range(GROUPS):
         with tempfile.TemporaryDirectory() as folder:
-            good = Group(PROGRAM, chance, folder, chance.randrange(2, 5)).play()
+            # every other group has several widgets on its sites, of every three two have limits
+            chance.has_limits = group % 3 > 0
+            good = Group(PROGRAM, chance, folder, chance.randrange(2, 5), group % 2 == 0).play()
         passed, failed = passed + good, failed + (not good)
         if not good:
             print(f"failed: group {group}")
@@ -56,7 +58,6 @@ def main():
             print(f"failed: script {number}, line {at + 1}")
             print("".join(script.splitlines(True)[:at + 1]), end="")
             print(f"  got  {replies[at] if at < len(replies) else None!r}\n  want {wants[at] if at < len(wants) else None!r}")
-    chance.has_limits = False
     whole, broken = play_groups(chance)
     passed, failed = passed + whole, failed + broken
     print(f"{passed} passed, {failed} failed")

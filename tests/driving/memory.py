@@ -7,7 +7,7 @@ import tempfile
 from driving.program import BUILT, ROOT, SITE, check
 from driving.samples import AB, AB_LINE, FILES, HEAD, OLD, TAKE_B, Y, contents, put
 from modelled.sites import Site, spelling
-from modelled.widget import words_of
+from modelled.words import words_of
 
 
 def failing_library(folder):

@@ -1,7 +1,7 @@
 """Random commands, some of whose words are wrong."""
 import random
 
-from modelled.widget import spelled
+from modelled.words import spelled
 
 
 class Chance(random.Random):

@@ -2,15 +2,16 @@
 import os
 import subprocess
 
+from modelled.peers import Peers
 from modelled.sites import Site, spelling, stamp
-from modelled.widget import BAD_COMMAND, NO_FILE, spelled
+from modelled.words import BAD_COMMAND, NO_FILE, spelled
 
 
 class Group:
     """Sites with their files, in a folder. A file is a list of operations in stamp order, and how many bytes there are of it."""
 
-    def __init__(self, program, chance, folder, count):
-        self.program, self.chance, self.folder = program, chance, folder
+    def __init__(self, program, chance, folder, count, has_peers):
+        self.program, self.chance, self.folder, self.has_peers = program, chance, folder, has_peers
         self.logs = {site: [] for site in chance.sample([1, 2, 3, 7, 65535], count)}
         self.files = {}
 
@@ -39,17 +40,17 @@ class Group:
             elif self.chance.random() < .02:
                 found.append(self.chance.choice([["receive"], ["receive", "none"], ["receive", "a", "b"]]))
             else:
-                found.append([".t", *self.chance.command()])
+                found.append(self.chance.line() if self.has_peers else [".t", *self.chance.command()])
         return found
 
     def run(self, site, script, names):
         """Whether the program answers a script of a site as the model does, and leaves the same log."""
-        model, wants = Site(site), []
+        model, wants = Peers(site), []
         if self.logs[site]:
             model.receive((sorted(self.logs[site], key=stamp), len(spelling(self.logs[site]))))
         for words in script:
-            if words[0] == ".t":
-                wants.append(model.answer(words[1:]))
+            if words[0] != "receive":
+                wants.append(model.reply_to(words))
             elif len(words) != 2:
                 wants.append(BAD_COMMAND)
             else:

@@ -4,7 +4,8 @@ what it says is that of a text which is these lines, and its edits stay within t
 import contextlib
 
 from modelled.sites import Site, cells, truth
-from modelled.widget import BAD_COMMAND, BAD_NAME, BAD_OPTION, Refused, Widget, spelled
+from modelled.widget import Widget
+from modelled.words import BAD_COMMAND, BAD_NAME, BAD_OPTION, Refused, spelled
 
 NO_WIDGET, WIDGET_EXISTS, LAST_WIDGET, BAD_VIEW = "! 5 NoWidget", "! 6 WidgetExists", "! 16 LastWidget", "! 15 BadView"
 OWN_MARKS = ("insert", "current")

@@ -3,7 +3,8 @@
 import collections
 
 from modelled.undo import Action, Undo
-from modelled.widget import BAD_COMMAND, BAD_OPTION, NOT_YET, NOTHING_TO_REDO, NOTHING_TO_UNDO, TRUNCATED, Refused, Widget, shared
+from modelled.widget import Widget, shared
+from modelled.words import BAD_COMMAND, BAD_OPTION, NOT_YET, NOTHING_TO_REDO, NOTHING_TO_UNDO, TRUNCATED, Refused
 
 # an operation: its count, site and prev; for an Insert the stamp that it goes after, the text and its tags; for a Delete the
 # stamps; for a Tag whether it is on, its name and the stamps
