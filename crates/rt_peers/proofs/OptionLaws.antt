@@ -1,12 +1,13 @@
 -- Limits and new widgets leave the document and the other widgets as they are.
-use Rattle.std.proofs.Common.{◌≡◌, ◌∙◌, ◌+◌, List, [], ◌∷◌, Ok, Err, Result, ap, arith, length, refl, subst, sym, true}
+use Rattle.std.proofs.Common.{◌≡◌, ◌∙◌, ◌+◌, ◌<◌, ◌++◌, ℕ, List, [], ◌∷◌, None, Some, Ok, Err, Result, ap, arith, cond, false, inl, inr, length, refl, subst, sym, true}
+use Rattle.std.specs.Prelude.{IfErr, OnErr, OnOk, is_some}
 use Rattle.std.proofs.lemmas.List.{length-append}
 use Rattle.rt_edits.specs.Flat.{Flat}
 use Rattle.rt_stamps.specs.declared.fault.Fault.{Fault}
-use Rattle.rt_stamps.specs.Outcomes.{Answers}
+use Rattle.rt_stamps.specs.declared.fault.Fault.TheVariants.{WidgetExists}
+use Rattle.rt_stamps.specs.Outcomes.{Answers, Refuses}
 use Rattle.rt_stamps.specs.Words.{Word}
 use Rattle.rt_requests.specs.declared.options.Settings.{Settings}
-use Rattle.rt_peer_requests.specs.declared.options.NamedOption.{NamedOption}
 use Rattle.rt_peer_requests.specs.declared.settings.WidgetSettings.{WidgetSettings}
 use Rattle.rt_editing.specs.Edited.{Edited}
 use Rattle.rt_recorder.specs.Recordings.{Recording}
@@ -16,15 +17,17 @@ use Rattle.rt_text.specs.Widgets.{Viewed}
 use Rattle.rt_views.specs.declared.choice.Choice.{Choice}
 use Rattle.rt_views.specs.declared.limits.Limits.{Limits}
 use Rattle.rt_views.specs.Choices.{limits_chosen}
-use Rattle.rt_peers.specs.Options.{choice_of, option_step, settings_step, text_configured}
-use Rattle.rt_peers.specs.Peers.{widgets_of}
-use Rattle.rt_peers.specs.PeerStep.{text_with_peer}
-use Rattle.rt_peers.specs.ViewStep.{Outcome, changed_step}
+use Rattle.rt_peers.specs.Options.{choice_of, settings_step, text_configured}
+use Rattle.rt_peers.specs.Peers.{text_led, widgets_of, with_widget}
+use Rattle.rt_peers.specs.PeerStep.{created, path_check, text_with_peer}
+use Rattle.rt_peers.specs.State.{State, place_of}
+use Rattle.rt_peers.specs.ViewStep.{Outcome, as_outcome, changed_step, one_word}
+use Rattle.rt_peers.proofs.PeerLaws.{led_number, text_back}
 use Rattle.rt_peers.proofs.Staying.{Stay}
 
 -- WHAT A VIEW IS LEFT
 
-view_in : Result Viewed Fault → Viewed → Viewed
+abbrev view_in : Result Viewed Fault → Viewed → Viewed
 view_in (Ok view) none = view
 view_in (Err fault) none = none
 
@@ -57,7 +60,7 @@ settled_still view new recording same h = record {
 
 -- AS MANY WIDGETS
 
-text_in : Result Edited Fault → Edited → Edited
+abbrev text_in : Result Edited Fault → Edited → Edited
 text_in (Ok text) none = text
 text_in (Err fault) none = none
 
@@ -71,7 +74,7 @@ text_one_more text new settings h =
     let end = choice_of settings.end_line in
     (one_more text.view new.view start end (configured_is text new settings.shared (with_peer text.view start end) h)).1
 
-outcome_in : Outcome Edited → Edited → Edited
+abbrev outcome_in : Outcome Edited → Edited → Edited
 outcome_in (Ok answer) none = answer.1
 outcome_in (Err fault) none = none
 
@@ -87,6 +90,55 @@ settings_stay old settings (Ok words) new h =
     sym (ap length (limited_leaves old.view new.view start end said).1)
 settings_stay old settings (Err fault) new h = ap (λ (t : Edited). length t.view.others) h.0
 
-pub option_stays : (old : Edited) (option : NamedOption) (result : Result (List Word) Fault) (new : Edited) → Answers (option_step old option) old result new → Stay old.view new.view
-option_stays old option (Ok words) new h = ap (λ (o : Outcome Edited). length (outcome_in o old).view.others) (sym h)
-option_stays old option (Err fault) new h = ap (λ (t : Edited). length t.view.others) h.0
+-- ONE MORE WIDGET, which one that commands in the place of the first makes
+
+pub there_still : {T : Type 0} (place : ℕ) (old led made : Edited) (settings : WidgetSettings) (result : Result T Fault) → led ≡ text_led place old
+    → OnOk result (text_with_peer led settings ≡ Ok made) → OnErr result (made ≡ led) → place < length (widgets_of old.view) → place < length (widgets_of made.view)
+there_still place old led made settings (Ok value) is ok unchanged there =
+    let more = text_one_more led made settings ok in
+    let led = ap (λ t. length (widgets_of t.view)) is ∙ led_number old.view place in
+    omega (arith, more, led, there)
+there_still place old led made settings (Err fault) is ok unchanged there =
+    let same = ap (λ t. length (widgets_of t.view)) (unchanged ∙ is) ∙ led_number old.view place in
+    omega (arith, same, there)
+
+pub made_by_led : {T : Type 0} (place : ℕ) (old led made new : Edited) (settings : WidgetSettings) (result : Result T Fault) → led ≡ text_led place old → new ≡ text_led place made
+    → OnOk result (text_with_peer led settings ≡ Ok made) → OnOk result (text_with_peer (text_led place old) settings ≡ Ok (text_led place new))
+made_by_led place old led made new settings (Ok value) is back ok =
+    let to : made ≡ text_led place new = sym (ap (text_led place) back ∙ text_back made place) in
+    subst (λ (t : Edited). text_with_peer t settings ≡ Ok (text_led place new)) is (ok ∙ ap (λ t. Ok t) to)
+made_by_led place old led made new settings (Err fault) is back ok = tt
+
+pub refused_by_led : {T : Type 0} (place : ℕ) (old led : Edited) (settings : WidgetSettings) (result : Result T Fault) → led ≡ text_led place old
+    → IfErr result (Refuses (text_with_peer led settings)) → IfErr result (Refuses (text_with_peer (text_led place old) settings))
+refused_by_led place old led settings result is err = subst (λ (t : Edited). IfErr result (Refuses (text_with_peer t settings))) is err
+
+pub unchanged_by_led : {T : Type 0} (place : ℕ) (old led made new : Edited) (result : Result T Fault) → led ≡ text_led place old → new ≡ text_led place made → OnErr result (made ≡ led)
+    → OnErr result (new ≡ old)
+unchanged_by_led place old led made new (Ok value) is back unchanged = tt
+unchanged_by_led place old led made new (Err fault) is back unchanged = back ∙ ap (text_led place) (unchanged ∙ is) ∙ text_back old place
+
+pub led_one_more : (place : ℕ) (old new : Edited) (settings : WidgetSettings) → text_with_peer (text_led place old) settings ≡ Ok (text_led place new)
+    → length (widgets_of new.view) ≡ length (widgets_of old.view) + 1
+led_one_more place old new settings said =
+    let more = text_one_more (text_led place old) (text_led place new) settings said in
+    let before = led_number old.view place in
+    let after = led_number new.view place in
+    omega (arith, more, before, after)
+
+pub created_as : (place : ℕ) (path : Word) (state new : State) (settings : WidgetSettings) → is_some (place_of path state.paths) ≡ false
+    → text_with_peer (text_led place state.text) settings ≡ Ok (text_led place new.text) → new.paths ≡ state.paths ++ path ∷ []
+    → created place path state settings (path_check path state.paths) ≡ Ok (one_word path, new)
+created_as place path state new settings free said paths =
+    let one : List Word = one_word path in
+    ap (λ b. created place path state settings (cond b (Some WidgetExists) None)) free
+    ∙ ap (as_outcome (λ text. (one_word path, with_widget place path state text))) said
+    ∙ (λ i. Ok (one, record { paths = sym paths i; text = text_back new.text place i }))
+
+pub created_refused : (place : ℕ) (path : Word) (state : State) (settings : WidgetSettings) (fault : Fault) → is_some (place_of path state.paths) ≡ false
+    → Refuses (text_with_peer (text_led place state.text) settings) fault → Refuses (created place path state settings (path_check path state.paths)) fault
+created_refused place path state settings fault free (inl e) = inl e
+created_refused place path state settings fault free (inr e) = inr (
+  ap (λ b. created place path state settings (cond b (Some WidgetExists) None)) free
+  ∙ ap (as_outcome (λ text. (one_word path, with_widget place path state text))) e
+)

@@ -1,9 +1,8 @@
 // What is asked of the widgets of a site.
-ghost use Rattle.std.specs.Prelude.{◌≡◌, ◌<◌, [], None, Ok, Err, IfOk, IfErr, OnErr, OnOk, length, map, string_bytes};
-ghost use Rattle.rt_editing.specs.Edited.{Edited};
+ghost use Rattle.std.specs.Prelude.{◌≡◌, ◌∷◌, ◌++◌, ◌<◌, [], None, Ok, Err, IfOk, IfErr, OnErr, OnOk, length, map, string_bytes};
 ghost use Rattle.rt_stamps.specs.Outcomes.{Answers, Refuses};
 ghost use Rattle.rt_peer_requests.specs.PeerWords.{asked_of_peers};
-ghost use Rattle.rt_peers.specs.Peers.{text_led, with_widget};
+ghost use Rattle.rt_peers.specs.Peers.{text_led};
 ghost use Rattle.rt_peers.specs.PeerStep.{created, destroyed, other_paths, path_check, peer_outcome, peer_step, text_with_peer};
 ghost use Rattle.rt_peers.specs.SiteStep.{peer_step_at};
 ghost use Rattle.rt_peers.specs.State.{place_of};
@@ -26,17 +25,14 @@ impl SiteState {
     ) -> Result<(), Fault>
         requires place { place < length self.old.paths }
         requires free { place_of path.now self.old.paths ≡ None }
-        ensures ok { OnOk result ((text : Edited) × (text_with_peer (text_led place self.old.text) settings.now ≡ Ok text)
-            × (self.new ≡ with_widget place path.now self.old text)) }
+        ensures ok { OnOk result (text_with_peer (text_led place self.old.text) settings.now ≡ Ok (text_led place self.new.text)) }
+        ensures path { OnOk result (self.new.paths ≡ self.old.paths ++ path.now ∷ []) }
         ensures err { IfErr result (Refuses (text_with_peer (text_led place self.old.text) settings.now)) }
         ensures unchanged { OnErr result (self.new ≡ self.old) }
     {
         let path = String::from_str(self.alloc, path)?;
         self.paths.reserve(1)?;
-        self.text.lead(place);
-        let added = self.text.add_peer(settings);
-        self.text.lead(place);
-        added?;
+        self.text.add_peer(place, settings)?;
         self.paths.push_reserved(path);
         Ok(())
     }

@@ -18,8 +18,9 @@ impl EditedText {
         self.viewer.lead(place);
     }
 
-    /// Adds a new widget behind the others, with options. `BadView`, or want of memory, and then nothing changes.
-    pub(crate) fn add_peer(&mut self, settings: &WidgetSettings) -> Result<(), Fault>
+    // Adds a new widget behind the others, which the first one makes, with options. `BadView`, or want of memory, and then
+    // nothing changes.
+    fn add_peer_of_first(&mut self, settings: &WidgetSettings) -> Result<(), Fault>
         ensures ok { OnOk result (text_with_peer self.old settings.now ≡ Ok self.new) }
         ensures err { IfErr result (Refuses (text_with_peer self.old settings.now)) }
         ensures unchanged { OnErr result (self.new ≡ self.old) }
@@ -29,6 +30,20 @@ impl EditedText {
         self.viewer.add_peer(start, end)?;
         self.set_options(settings.shared);
         Ok(())
+    }
+
+    /// Adds a new widget behind the others, which the one at a place makes, with options. `BadView`, or want of memory, and
+    /// then nothing changes.
+    pub(crate) fn add_peer(&mut self, place: usize, settings: &WidgetSettings) -> Result<(), Fault>
+        requires { place < length (widgets_of self.old.view) }
+        ensures ok { OnOk result (text_with_peer (text_led place self.old) settings.now ≡ Ok (text_led place self.new)) }
+        ensures err { IfErr result (Refuses (text_with_peer (text_led place self.old) settings.now)) }
+        ensures unchanged { OnErr result (self.new ≡ self.old) }
+    {
+        self.lead(place);
+        let added = self.add_peer_of_first(settings);
+        self.lead(place);
+        added
     }
 
     /// Takes the widget at a place out, which isn't the only one. It takes no memory.

@@ -1,8 +1,10 @@
-use Rattle.std.proofs.Common.{◌≡◌, ◌∙◌, true, None, Some, ap, cond, inr, refl, sym}
+use Rattle.std.proofs.Common.{◌≡◌, ◌∙◌, ◌++◌, [], ◌∷◌, List, ℕ, Bool, true, false, None, Ok, Some, ap, cond, inr, refl, sym}
 use Rattle.std.specs.Prelude.{is_some}
 use Rattle.rt_stamps.specs.declared.fault.Fault.TheVariants.{WidgetExists}
+use Rattle.rt_stamps.specs.Words.{Word}
 use Rattle.rt_peers.specs.PeerStep.{created}
 use Rattle.rt_peers.specs.State.{State, place_of}
+use Rattle.rt_peers.proofs.OptionLaws.{created_as}
 use Rattle.rt_peers.proofs.PeerLaws.{place_in}
 use Rattle.rt_peers.proofs.site.SiteState.create.Goals as goal
 
@@ -12,3 +14,16 @@ returns-then-is_some c =
     let found : is_some (place_of c.args.path.now c.args.self.now.paths) ≡ true =
     ap (λ p. is_some (place_of p c.args.self.now.paths)) (sym c.text.ensures) ∙ ap is_some at ∙ sym c.is_some.ensures ∙ c.if-is_some.true in
     (refl, inr (ap (λ b. created c.args.place c.args.path.now c.args.self.now c.args.settings.now (cond b (Some WidgetExists) None)) found))
+
+pub returns : goal.returns
+returns c =
+    let path = c.args.path.now in
+    let old = c.args.self.now in
+    let at : place_of c.text.result.now old.paths ≡ c.place_of.result = place_in c.text.result.now c.deref.result.now c.self.inside.paths.items old.paths c.place_of.result c.place_of.ensures c.deref.ensures.value (ap (λ s. s.paths) c.self.view_is) in
+    let free : is_some (place_of path old.paths) ≡ false =
+    ap (λ p. is_some (place_of p old.paths)) (sym c.text.ensures) ∙ ap is_some at ∙ sym c.is_some.ensures ∙ c.if-is_some.false in
+    let ok = c.in_ok-add_widget.ensures in
+    let paths = ok.path ∙ ap (λ p. old.paths ++ p ∷ []) c.text-3.ensures in
+    let made = created_as c.args.place path old c.add_widget.new.self c.args.settings.now free ok.ok paths in
+    let same : path ∷ [] ≡ c.in_ok-reply.reply = sym (c.in_ok-reply.ensures.ok ∙ ap (λ w. w ∷ []) (c.in_ok-from_str.ensures.ok ∙ c.text-2.ensures)) in
+    made ∙ ap (λ (r : List Word). Ok (r, c.add_widget.new.self)) same
