@@ -140,6 +140,14 @@ taken_sound places place (cell ∷ cells) h spared = by cell.gone (places place)
     )
     by false false here next s = next s
 
+pub lost_sound : (view : Viewed) (ranges : List Range) → IsOfLog view.doc → AllByRecursion MayReturn (map as_removed (lost_in view ranges))
+lost_sound view ranges kept =
+    let flat = view.doc in
+    let places = (loss_in (text_shown view) (begin_of view) ranges).places in
+    let names : AllByRecursion HasNames flat.cells = subst (AllByRecursion HasNames) (sym kept.cells) (recursion_from_All HasNames (cells_of flat.log) (cells_have_names flat.log kept.history)) in
+    let spared = spares_last (text_of flat.cells) (text_of flat.cells) 0 ranges (omega arith) in
+    let here : is_among (stamps_at places 0 (cells_of flat.log)) FINAL ≡ false = last_spared flat.log places kept.history (subst (λ (cells : List TaggedCell). places (length (text_of cells) - 1) ≡ false) kept.cells spared) in
+    taken_sound places 0 flat.cells names (subst (λ (cells : List TaggedCell). is_among (stamps_at places 0 cells) FINAL ≡ false) (sym kept.cells) here)
 
 pub action_sound : (kind : Kind) (site before after : ℕ) (removed : List (Removed (List Word))) → 0 < site → AllByRecursion MayReturn removed → IsSound (made kind (counts_between site before after) removed)
 action_sound kind site before after removed h k = record { inserted = counts_spare_final site before after h; removed = k }

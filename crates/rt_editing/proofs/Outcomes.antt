@@ -40,10 +40,32 @@ none_first (Some fault) checks h = absurd (cc h)
 
 -- EDITS
 
+put_grows : (view : Viewed) (place : ℕ) (pieces : List Piece) (rest : Word) → Grows view.doc.log (with_pieces_at view place pieces rest).doc.log
+put_grows view place pieces rest =
+    grows_drafts view.doc.site
+    (insertion_drafts MOST_CHARACTERS view.doc.site (left_of view.doc.cells (in_text view place)) (left_neighbour (shown_by view) place) (right_neighbour (shown_by view) place) pieces rest
+    (record { cells = []; count = view.doc.count; sel = view.own.sel; others = selections_of view.others; tags = view.doc.tags })) view.doc.log
 
+without_grows : (view : Viewed) (ranges : List Range) → Grows view.doc.log (without_ranges view ranges).doc.log
+without_grows view ranges = grows_drafts view.doc.site (delete_drafts MOST_SPANS view.doc (loss_in (text_shown view) (begin_of view) ranges)) view.doc.log
 
+pub grows_inserted : (view new : Viewed) (index : Word) (pieces : List Piece) (rest : Word) → inserted view index pieces rest ≡ Ok new → Grows view.doc.log new.doc.log
+grows_inserted view new index pieces rest h =
+    let place = insertion_place (widget_of view) index in
+    subst (λ (v : Viewed). Grows view.doc.log v.doc.log) (given _ (with_pieces_at view place pieces rest) new h) (put_grows view place pieces rest)
 
+pub grows_deleted : (view new : Viewed) (indices : List Word) → deleted view indices ≡ Ok new → Grows view.doc.log new.doc.log
+grows_deleted view new indices h =
+    let ranges = ranges_of (map (place_at_index (widget_of view)) indices) in
+    subst (λ (v : Viewed). Grows view.doc.log v.doc.log) (given _ (without_ranges view ranges) new h) (without_grows view ranges)
 
+pub grows_replaced : (view new : Viewed) (from to : Word) (pieces : List Piece) (rest : Word) → replaced view from to pieces rest ≡ Ok new → Grows view.doc.log new.doc.log
+grows_replaced view new from to pieces rest h =
+    let range : Range = record { from = place_at_index (widget_of view) from; to = place_at_index (widget_of view) to } in
+    let left = without_ranges view (range ∷ []) in
+    let place = min range.from (length_shown left - 1) in
+    subst (λ (v : Viewed). Grows view.doc.log v.doc.log) (given _ (with_range_replaced view range pieces rest) new h)
+    (grows_by view.doc.log left.doc.log (with_pieces_at left place pieces rest).doc.log (without_grows view (range ∷ [])) (put_grows left place pieces rest))
 
 -- the indices of a replacement that is made
 pub both_indices : (view new : Viewed) (from to : Word) (pieces : List Piece) (rest : Word) → replaced view from to pieces rest ≡ Ok new

@@ -34,7 +34,11 @@ pub fn insert<S: TextStore>(
     ensures unchanged { OnErr result (edited view.new recorder.new ≡ edited view.old recorder.old) }
     ensures settled { IsSettled view.new recorder.new }
 {
-    Err(Fault::NoMemory)
+    let before = Before::of(view);
+    prepare_insertion(view, recorder)?;
+    view.insert(index, pieces, rest)?;
+    note(view, recorder, Kind::Insert, before);
+    Ok(())
 }
 
 /// `delete INDEX ?INDEX ...?` (Tk text manual), as `View::delete` does it, with the action that it is for
@@ -50,7 +54,11 @@ pub fn delete<S: TextStore>(
     ensures unchanged { OnErr result (edited view.new recorder.new ≡ edited view.old recorder.old) }
     ensures settled { IsSettled view.new recorder.new }
 {
-    Err(Fault::NoMemory)
+    let before = Before::of(view);
+    prepare_deletion(view, recorder, indices)?;
+    view.delete(indices)?;
+    note(view, recorder, Kind::Delete, before);
+    Ok(())
 }
 
 /// `replace INDEX INDEX CHARS ?TAGLIST CHARS TAGLIST ...?` (Tk text manual), as `View::replace` does it:
@@ -69,7 +77,11 @@ pub fn replace<S: TextStore>(
     ensures unchanged { OnErr result (edited view.new recorder.new ≡ edited view.old recorder.old) }
     ensures settled { IsSettled view.new recorder.new }
 {
-    Err(Fault::NoMemory)
+    let before = Before::of(view);
+    prepare_replacement(view, recorder, from, to)?;
+    view.replace(from, to, pieces, rest)?;
+    note(view, recorder, Kind::Replace, before);
+    Ok(())
 }
 
 /// Accepts an operation of any site, as `View::accept` does: it is never recorded, and forces the modified

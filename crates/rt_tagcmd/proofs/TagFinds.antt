@@ -80,3 +80,8 @@ not_on name tags cell u h =
     (λ t. absurd (clash _ (h t) u))
     (λ f. f)
 
+pub unlisted : (view : Viewed) (name : Word) → AreListed view.doc.tags view.doc.cells → is_listed name view.doc.tags ≡ false → tagged_ranges view name ≡ []
+unlisted view name h u =
+    none_passes (is_tagged view.own name) 0 (shown_by view)
+    (λ k d l. let cell = get_or (shown_by view) k d in
+    cond-false (bytes_eq name sel) (is_among view.own.sel cell.stamp) (is_on name cell.state) (not_sel name view.doc.tags h.sel u) ∙ not_on name view.doc.tags cell u (h.each k d l name))

@@ -44,7 +44,9 @@ pub fn tag_ranges<S: TextStore>(
     ensures err { IfErr result (Refuses (tag_ranges view.now name.now)) }
 {
     check_name(name)?;
-    Err(Fault::NoMemory)
+    let _tags = view.doc().tags();
+    let ranges = ranges(alloc, view, name)?;
+    range_ends(alloc, view, &ranges)
 }
 
 // The places of an index and perhaps another one, or of an index and a place where that isn't given.
