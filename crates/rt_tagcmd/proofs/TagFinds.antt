@@ -1,10 +1,10 @@
 -- The ranges of a tag stand in the text, and a tag that isn't listed has none.
-use Rattle.std.proofs.Common.{◌≡◌, ℕ, ◌+◌, ◌<◌, ◌≤◌, List, [], ◌∷◌, length, get_or, reverse, All, true, false, refl, sym, ◌∙◌, Bool, subst, arith, Some}
+use Rattle.std.proofs.Common.{◌≡◌, ℕ, ◌+◌, ◌-◌, ◌<◌, ◌≤◌, List, [], ◌∷◌, length, drop, get_or, reverse, All, true, false, refl, sym, ◌∙◌, Bool, subst, arith, Some}
 use Rattle.std.specs.Prelude.{find, option_to_list}
 use Rattle.std.specs.Str.{bytes_eq}
 use Rattle.std.proofs.lemmas.Bool.{cond-true, cond-false}
 use Rattle.std.proofs.lemmas.List.{length-map, reverse-append}
-use Rattle.std.proofs.lemmas.List.Elements.{All-append, All-cons, All-nil, All-head, All-tail}
+use Rattle.std.proofs.lemmas.List.Elements.{All-append, All-cons, All-drop, All-head, All-nil, All-tail, All-take}
 use Rattle.rt_marks.proofs.InOrder.{split}
 use Rattle.rt_marks.proofs.Names.{clash, same_name}
 use Rattle.rt_stamps.specs.Words.{Word}
@@ -14,7 +14,10 @@ use Rattle.rt_edits.specs.declared.range.Range.{Range}
 use Rattle.rt_store.specs.Shown.{TaggedCell}
 use Rattle.rt_edits.specs.Listed.{AreListed}
 use Rattle.rt_store.specs.Spans.{is_among}
-use Rattle.rt_text.specs.Widgets.{Viewed, is_tagged, length_shown, shown_by}
+use Rattle.rt_store.specs.Cells.{visible_of}
+use Rattle.rt_text.specs.Widgets.{Viewed, is_tagged, length_shown, shown_by, stretch_by}
+use Rattle.rt_views.specs.Stretches.{part}
+use Rattle.rt_views.specs.declared.stretch.Stretch.{Stretch}
 use Rattle.rt_tagcmd.specs.TagCommands.{tagged_ranges}
 use Rattle.rt_tagcmd.specs.TagRanges.{IsMaximal, begins_between, ranges_from, passing_ranges, next_range, previous_range}
 use Rattle.rt_tagcmd.proofs.TagRangeLaws.{each_maximal}
@@ -74,14 +77,24 @@ not_sel name tags s u =
     (λ t. absurd (clash _ (subst (λ v. is_listed v tags ≡ true) (sym (same_name name sel t)) s) u))
     (λ f. f)
 
-not_on : (name : Word) (tags : List Word) (cell : TaggedCell) → is_listed name tags ≡ false → (is_on name cell.state ≡ true → is_listed name tags ≡ true) → is_on name cell.state ≡ false
+-- each shared tag of a character is listed
+abbrev HasListed : List Word → TaggedCell → Type 0
+HasListed tags cell = (name : Word) → is_on name cell.state ≡ true → is_listed name tags ≡ true
+
+-- what is so of all characters is so of those of a stretch
+part_all : {A : Type 0} (P : A → Type 0) (stretch : Stretch) (xs : List A) → All P xs → All P (part stretch xs)
+part_all P stretch xs h = All-take P (stretch.end - stretch.begin) (drop stretch.begin xs) (All-drop P stretch.begin xs h)
+
+not_on : (name : Word) (tags : List Word) (cell : TaggedCell) → is_listed name tags ≡ false → HasListed tags cell → is_on name cell.state ≡ false
 not_on name tags cell u h =
     split (is_on name cell.state)
-    (λ t. absurd (clash _ (h t) u))
+    (λ t. absurd (clash _ (h name t) u))
     (λ f. f)
 
 pub unlisted : (view : Viewed) (name : Word) → AreListed view.doc.tags view.doc.cells → is_listed name view.doc.tags ≡ false → tagged_ranges view name ≡ []
 unlisted view name h u =
+    let tags = view.doc.tags in
+    let shown : All (HasListed tags) (shown_by view) = part_all (HasListed tags) (stretch_by view) (visible_of view.doc.cells) h.each in
     none_passes (is_tagged view.own name) 0 (shown_by view)
     (λ k d l. let cell = get_or (shown_by view) k d in
-    cond-false (bytes_eq name sel) (is_among view.own.sel cell.stamp) (is_on name cell.state) (not_sel name view.doc.tags h.sel u) ∙ not_on name view.doc.tags cell u (h.each k d l name))
+    cond-false (bytes_eq name sel) (is_among view.own.sel cell.stamp) (is_on name cell.state) (not_sel name tags h.sel u) ∙ not_on name tags cell u (shown k d l))
