@@ -1,5 +1,5 @@
 -- What an edit's action names: characters that never came back under other stamps, no final newline, and tags as operations list them.
-use Rattle.std.proofs.Common.{◌≡◌, ◌∙◌, ℕ, zero, suc, ◌+◌, ◌-◌, ◌<◌, Bool, true, false, ◌||◌, List, [], ◌∷◌, cond, map, length, ap, arith, refl, subst, sym}
+use Rattle.std.proofs.Common.{◌≡◌, ◌∙◌, ℕ, zero, suc, ◌+◌, ◌-◌, ◌<◌, Bool, true, false, ◌||◌, List, [], ◌∷◌, cond, map, ap, arith, refl, subst, sym}
 use Rattle.std.specs.List.{AllByRecursion}
 use Rattle.std.proofs.lemmas.Bool.{or_from}
 use Rattle.std.proofs.lemmas.Bool.Decides.{nat_tests}
@@ -19,11 +19,10 @@ use Rattle.rt_rga.specs.Reading.{Character, reading}
 use Rattle.rt_rga.proofs.Corollaries.{character_count}
 use Rattle.rt_rga.proofs.Skipping.{split}
 use Rattle.rt_edits.specs.declared.range.Range.{Range}
-use Rattle.rt_edits.specs.DraftLaws.{AreTagNames}
+use Rattle.rt_edits.specs.DraftLaws.{AreTagNames, IsDocument, SparesLast}
 use Rattle.rt_edits.specs.Deletions.{loss_in}
 use Rattle.rt_edits.specs.Flat.{Flat}
 use Rattle.rt_edits.specs.Removals.{cells_at, stamps_at}
-use Rattle.rt_edits.proofs.DeletionDraftLaws.{spares_last}
 use Rattle.rt_edits.proofs.RemovalDraftLaws.{last_spared}
 use Rattle.rt_edits.proofs.TagNames.{cells_have_names}
 use Rattle.rt_revert.specs.Reverting.{as_removed}
@@ -32,6 +31,7 @@ use Rattle.rt_recorder.specs.Recordings.{HasStayed, made}
 use Rattle.rt_recorder.specs.Settled.{is_gone as has_gone}
 use Rattle.rt_text.specs.Commands.{lost_in}
 use Rattle.rt_text.specs.Widgets.{Viewed, begin_of, text_shown}
+use Rattle.rt_text.proofs.LimitedDeletions.{spared}
 use Rattle.rt_undo.specs.declared.action.Kind.{Kind}
 use Rattle.rt_undo.specs.Actions.{Removed}
 use Rattle.rt_editing.specs.Edits.{action_of, counts_between}
@@ -145,8 +145,10 @@ lost_sound view ranges kept =
     let flat = view.doc in
     let places = (loss_in (text_shown view) (begin_of view) ranges).places in
     let names : AllByRecursion HasNames flat.cells = subst (AllByRecursion HasNames) (sym kept.cells) (recursion_from_All HasNames (cells_of flat.log) (cells_have_names flat.log kept.history)) in
-    let spared = spares_last (text_of flat.cells) (text_of flat.cells) 0 ranges (omega arith) in
-    let here : is_among (stamps_at places 0 (cells_of flat.log)) FINAL ≡ false = last_spared flat.log places kept.history (subst (λ (cells : List TaggedCell). places (length (text_of cells) - 1) ≡ false) kept.cells spared) in
+    let document : IsDocument flat.site flat.log flat = record { cells = kept.cells; site = refl; count = kept.count } in
+    let stays : SparesLast places (text_of flat.cells) = spared flat view.own.limits ranges kept.history document in
+    let here : is_among (stamps_at places 0 (cells_of flat.log)) FINAL ≡ false =
+    last_spared flat.log places kept.history (subst (λ (cells : List TaggedCell). SparesLast places (text_of cells)) kept.cells stays) in
     taken_sound places 0 flat.cells names (subst (λ (cells : List TaggedCell). is_among (stamps_at places 0 cells) FINAL ≡ false) (sym kept.cells) here)
 
 pub action_sound : (kind : Kind) (site before after : ℕ) (removed : List (Removed (List Word))) → 0 < site → AllByRecursion MayReturn removed → IsSound (made kind (counts_between site before after) removed)

@@ -11,12 +11,12 @@ use Rattle.rt_edits.specs.declared.range.Range.{Range}
 use Rattle.rt_edits.specs.Deletions.{delete_drafts, loss_in}
 use Rattle.rt_edits.specs.Flat.{left_of}
 use Rattle.rt_edits.specs.InsertionDrafts.{insertion_drafts}
-use Rattle.rt_edits.specs.Insertions.{Piece, left_neighbour, right_neighbour}
+use Rattle.rt_edits.specs.Insertions.{Piece, left_neighbour}
 use Rattle.rt_text.specs.Accepted.{view_after}
-use Rattle.rt_text.specs.Commands.{deleted, inserted, insertion_place, names_in, replaced, with_pieces_at, with_range_replaced, without_ranges}
+use Rattle.rt_text.specs.Commands.{deleted, inserted, insertion_place, names_in, none_inserted, replaced, right_behind, with_pieces_at, with_range_replaced, without_ranges}
 use Rattle.rt_text.specs.Index.{index_check, place_at_index}
 use Rattle.rt_text.specs.Ranges.{ranges_of}
-use Rattle.rt_text.specs.Widgets.{Viewed, begin_of, in_text, length_shown, selections_of, shown_by, text_shown, widget_of}
+use Rattle.rt_text.specs.Widgets.{Viewed, begin_of, in_text, length_shown, shown_by, text_shown, widget_of}
 use Rattle.rt_editing.proofs.Growing.{Grows, grows_by, grows_drafts, grows_same, grows_with}
 
 -- CHECKS
@@ -43,8 +43,8 @@ none_first (Some fault) checks h = absurd (cc h)
 put_grows : (view : Viewed) (place : ℕ) (pieces : List Piece) (rest : Word) → Grows view.doc.log (with_pieces_at view place pieces rest).doc.log
 put_grows view place pieces rest =
     grows_drafts view.doc.site
-    (insertion_drafts MOST_CHARACTERS view.doc.site (left_of view.doc.cells (in_text view place)) (left_neighbour (shown_by view) place) (right_neighbour (shown_by view) place) pieces rest
-    (record { cells = []; count = view.doc.count; sel = view.own.sel; others = selections_of view.others; tags = view.doc.tags })) view.doc.log
+    (insertion_drafts MOST_CHARACTERS view.doc.site (left_of view.doc.cells (in_text view place)) (left_neighbour (shown_by view) place) (right_behind view place pieces) pieces rest (none_inserted view))
+    view.doc.log
 
 without_grows : (view : Viewed) (ranges : List Range) → Grows view.doc.log (without_ranges view ranges).doc.log
 without_grows view ranges = grows_drafts view.doc.site (delete_drafts MOST_SPANS view.doc (loss_in (text_shown view) (begin_of view) ranges)) view.doc.log
