@@ -1,7 +1,13 @@
+use Rattle.std.proofs.Common.{subst, sym}
+use Rattle.rt_recorder.specs.Settled.{IsSettled}
+use Rattle.rt_text.specs.Widgets.{Viewed}
 use Rattle.rt_peers.proofs.OptionLaws.{limited_leaves, settled_still}
 use Rattle.rt_peers.proofs.text.EditedText.set.Goals as goal
 
 pub invariant_of-self : goal.invariant_of-self
-invariant_of-self c =
+invariant_of-self c = subst (λ (v : Viewed). IsSettled v c.self.inside.recorder) (sym c.in_err-set_lines.ensures.unchanged) c.self.invariant
+
+pub invariant_of-self-2 : goal.invariant_of-self-2
+invariant_of-self-2 c =
     let leaves = limited_leaves c.self.inside.viewer c.set_lines.new.self c.choice_of-start.result c.choice_of-end.result c.in_ok-set_lines.ensures.ok in
     settled_still c.self.inside.viewer c.set_lines.new.self c.self.inside.recorder leaves.0 c.self.invariant
