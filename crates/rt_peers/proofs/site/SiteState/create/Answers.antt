@@ -1,10 +1,12 @@
-use Rattle.std.proofs.Common.{◌≡◌, ◌∙◌, ◌++◌, [], ◌∷◌, List, ℕ, Bool, true, false, None, Ok, Some, ap, cond, inr, refl, sym}
+use Rattle.std.proofs.Common.{◌≡◌, ◌∙◌, ◌++◌, [], ◌∷◌, List, ℕ, Bool, true, false, None, Ok, Some, ap, cond, inr, refl, subst, sym}
 use Rattle.std.specs.Prelude.{is_some}
+use Rattle.std.proofs.lemmas.Result.{err_from_is_err_and}
 use Rattle.rt_stamps.specs.declared.fault.Fault.TheVariants.{WidgetExists}
+use Rattle.rt_stamps.specs.Outcomes.{Refuses}
 use Rattle.rt_stamps.specs.Words.{Word}
-use Rattle.rt_peers.specs.PeerStep.{created}
+use Rattle.rt_peers.specs.PeerStep.{created, path_check}
 use Rattle.rt_peers.specs.State.{State, place_of}
-use Rattle.rt_peers.proofs.OptionLaws.{created_as}
+use Rattle.rt_peers.proofs.OptionLaws.{created_as, created_refused}
 use Rattle.rt_peers.proofs.PeerLaws.{place_in}
 use Rattle.rt_peers.proofs.site.SiteState.create.Goals as goal
 
@@ -14,6 +16,17 @@ returns-then-is_some c =
     let found : is_some (place_of c.args.path.now c.args.self.now.paths) ≡ true =
     ap (λ p. is_some (place_of p c.args.self.now.paths)) (sym c.text.ensures) ∙ ap is_some at ∙ sym c.is_some.ensures ∙ c.if-is_some.true in
     (refl, inr (ap (λ b. created c.args.place c.args.path.now c.args.self.now c.args.settings.now (cond b (Some WidgetExists) None)) found))
+
+pub returns-in_err-add_widget : goal.returns-in_err-add_widget
+returns-in_err-add_widget c =
+    let path = c.args.path.now in
+    let old = c.args.self.now in
+    let at : place_of c.text.result.now old.paths ≡ c.place_of.result = place_in c.text.result.now c.deref.result.now c.self.inside.paths.items old.paths c.place_of.result c.place_of.ensures c.deref.ensures.value (ap (λ s. s.paths) c.self.view_is) in
+    let free : is_some (place_of path old.paths) ≡ false =
+    ap (λ p. is_some (place_of p old.paths)) (sym c.text.ensures) ∙ ap is_some at ∙ sym c.is_some.ensures ∙ c.if-is_some.false in
+    let p = err_from_is_err_and c.from_residual-in_err-add_widget.result c.from_residual-in_err-add_widget.ensures.1 in
+    let refused = created_refused c.args.place path old c.args.settings.now c.in_err-add_widget.field-0.0 free c.in_err-add_widget.ensures.err in
+    rw p.1 (c.in_err-add_widget.ensures.unchanged, subst (Refuses (created c.args.place path old c.args.settings.now (path_check path old.paths))) (sym p.2) refused)
 
 pub returns : goal.returns
 returns c =
