@@ -3,6 +3,7 @@ ghost use Rattle.std.specs.Prelude.{◌≡◌, ◌≤◌, IfOk, OnOk};
 ghost use Rattle.rt_script.specs.Site.{AreWithin};
 
 use crate::checks::same;
+use crate::samples::{LEAVES_SEVEN, LEAVES_SIX};
 use crate::sites::{Script, answered, new_site};
 use rt_samples::files::{
     AFTER_DELETE, AFTER_ITSELF, CUT, DELETE_FINAL, DELETE_SECOND, INSERT_AB, INSERT_B, INSERT_LAST,
@@ -94,6 +95,9 @@ pub(crate) fn receive_all(
         ("empty", b""),
         ("magic", b"XGATEXT1"),
         ("version", b"RGATEXT9"),
+        ("front", &INSERT_AB[..43]),
+        ("leaves_six", LEAVES_SIX),
+        ("leaves_seven", LEAVES_SEVEN),
     ];
     for (number, script) in table {
         let _log = session(rt, alloc, *number, files, &[*script])?;
@@ -222,6 +226,7 @@ const RECEIVED: &[(u16, Script<'static>)] = &[
             ("receive ab", "= 1 0"),
             ("receive ab", "= 0 1"),
             (".t get 1.0 end", r#"= "ab\n""#),
+            ("receive front", "! 32 Truncated at 8 new 0 repeat 0"),
         ],
     ),
     (
@@ -355,6 +360,75 @@ fn marks_and_tags_follow(rt: HostRuntime) -> Result<(), Fail> {
     receive_all(&rt, rt.alloc(), MOVED)
 }
 
+// Counts that run out: of deletions, and of the tags that the last newline loses, each of which takes one behind that of its
+// deletion. Where the clock can't go as far as the last of these, all is as it was.
+const SPENT: &[(u16, Script<'static>)] = &[
+    (
+        1,
+        &[
+            ("receive leaves_six", "= 1 0"),
+            (".t insert 1.0 hello", "="),
+            (".t delete 1.2 1.2", "="),
+            (".t get 1.0 end", r#"= "hello\n""#),
+            (".t delete 1.0 1.1 1.3 1.4", "="),
+            (".t get 1.0 end", r#"= "elo\n""#),
+            (".t delete 1.0 1.1 1.3 1.4", "! 17 ClockSpent"),
+            (".t get 1.0 end", r#"= "elo\n""#),
+            (".t delete 1.2 1.2", "="),
+            (".t get 1.0 end", r#"= "elo\n""#),
+            (".t delete 1.0 one", "! 2 BadIndex"),
+            (".t get 1.0 end", r#"= "elo\n""#),
+        ],
+    ),
+    (
+        1,
+        &[
+            ("receive leaves_seven", "= 1 0"),
+            (".t peer create .p", "= .p"),
+            (".t peer create .q", "= .q"),
+            (".t insert 1.0 ab", "="),
+            (".p tag add sel 1.0 1.1 1.2 end", "="),
+            (".t tag add t 1.0 end", "="),
+            (".t tag add u 1.0 end", "="),
+            (".t tag add sel 1.2 end", "="),
+            (".t delete 1.1 end", "="),
+            (".t get 1.0 end", r#"= "a\n""#),
+            (".t tag ranges t", "= 1.0 1.1"),
+            (".t tag ranges u", "= 1.0 1.1"),
+            (".t tag ranges sel", "="),
+            (".p tag ranges sel", "= 1.0 1.1"),
+            (".q tag ranges sel", "="),
+            (".t insert 1.0 c", "! 17 ClockSpent"),
+        ],
+    ),
+    (
+        1,
+        &[
+            ("receive leaves_six", "= 1 0"),
+            (".t peer create .p", "= .p"),
+            (".t peer create .q", "= .q"),
+            (".t insert 1.0 ab", "="),
+            (".p tag add sel 1.0 1.1 1.2 end", "="),
+            (".t tag add t 1.0 end", "="),
+            (".t tag add u 1.0 end", "="),
+            (".t tag add sel 1.2 end", "="),
+            (".t delete 1.1 end", "! 17 ClockSpent"),
+            (".t get 1.0 end", r#"= "ab\n""#),
+            (".t tag ranges t", "= 1.0 2.0"),
+            (".t tag ranges u", "= 1.0 2.0"),
+            (".t tag ranges sel", "= 1.2 2.0"),
+            (".p tag ranges sel", "= 1.0 1.1 1.2 2.0"),
+            (".q tag ranges sel", "="),
+            (".t insert 1.0 cd", "="),
+        ],
+    ),
+];
+
+#[test]
+fn counts_that_are_spent(rt: HostRuntime) -> Result<(), Fail> {
+    receive_all(&rt, rt.alloc(), SPENT)
+}
+
 #[test]
 fn files_of_logs(rt: HostRuntime) -> Result<(), Fail> {
     let alloc = rt.alloc();
@@ -377,16 +451,41 @@ const BEFORE_LONG: &[u8] =
 const AFTER_LONG: &[u8] =
     b"\0\0\0\x1f\x01\0\0\0\0\0\x01\0\0\0\x01\0\0\0\0\0\0\xff\xff\0\0\0\0\0\0\xff\xff\0\x01\0x";
 
-// A second site receives a text of two operations.
-#[test]
-fn a_text_of_two_operations(rt: HostRuntime) -> Result<(), Fail> {
-    let alloc = rt.alloc();
+// The file.
+fn long_file(alloc: Global) -> Result<Vec<u8>, AllocError> {
     let mut file = Vec::new(alloc);
     file.extend_from_slice(BEFORE_LONG)?;
     for _ in 0..65_535usize {
         file.push(b'x')?;
     }
     file.extend_from_slice(AFTER_LONG)?;
+    Ok(file)
+}
+
+// The line by which they are typed.
+fn long_line(alloc: Global) -> Result<String, AllocError> {
+    let mut line = String::from_str(alloc, ".t insert 1.0 ")?;
+    for _ in 0..65_536usize {
+        line.push('x')?;
+    }
+    Ok(line)
+}
+
+#[test]
+fn a_text_makes_two_operations(rt: HostRuntime) -> Result<(), Fail> {
+    let line = long_line(rt.alloc())?;
+    let typed = [(line.as_str(), "=")];
+    let log = session(&rt, rt.alloc(), 1, &[], &[&typed])?;
+    let file = long_file(rt.alloc())?;
+    same(&rt, log.as_slice(), file.as_slice());
+    Ok(())
+}
+
+// A second site receives a text of two operations.
+#[test]
+fn a_text_of_two_operations(rt: HostRuntime) -> Result<(), Fail> {
+    let alloc = rt.alloc();
+    let file = long_file(alloc)?;
     same(&rt, file.len(), 65_612);
     let received = [
         ("receive long", "= 2 0"),

@@ -4,21 +4,37 @@
 #[cfg(test)]
 mod checks;
 #[cfg(test)]
+mod commands;
+#[cfg(test)]
 mod exchange;
 #[cfg(test)]
+mod expressions;
+#[cfg(test)]
 mod files;
+#[cfg(test)]
+mod found;
+#[cfg(test)]
+mod fronts;
 #[cfg(test)]
 mod limits;
 #[cfg(test)]
 mod lines;
 #[cfg(test)]
+mod logs;
+#[cfg(test)]
+mod many;
+#[cfg(test)]
 mod marks;
+#[cfg(test)]
+mod options;
 #[cfg(test)]
 mod peers;
 #[cfg(test)]
 mod replacements;
 #[cfg(test)]
 mod replies;
+#[cfg(test)]
+mod samples;
 #[cfg(test)]
 mod searches;
 #[cfg(test)]
@@ -31,3 +47,5 @@ mod texts;
 mod undoing;
 #[cfg(test)]
 mod undoing_sites;
+#[cfg(test)]
+mod widgets;

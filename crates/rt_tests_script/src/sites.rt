@@ -3,16 +3,21 @@ ghost use Rattle.std.specs.Prelude.{◌≡◌, ◌<◌, ◌≤◌};
 ghost use Rattle.rt_script.specs.Site.{AreWithin};
 
 use crate::checks::same;
+use crate::commands::{BAD_COMMANDS, BAD_OPTIONS, COMMANDS, MARKS_AND_TAGS, SEARCHES_AND_DUMPS};
+use crate::expressions::{BASES, MODIFIERS, NO_PLACES};
+use crate::found::{FOUND, SEARCH_WORDS};
 use crate::limits::{
     LIMIT_OPTIONS, LIMITED_MARKS, LIMITED_SEARCHES, LIMITED_TAGS, LIMITED_TEXT, MOVING_LIMITS,
 };
 use crate::marks::{INDICES, MARK_ORDER, MARK_PLACES, MARK_WORDS};
+use crate::options::{LIMIT_WORDS, OPTIONS, PEER_WORDS};
 use crate::peers::{OWN_PARTS, PEER_COMMANDS, PEERS, SHARED_PARTS};
 use crate::replacements::{DUMPS, FULL_SITE, REPLACEMENTS};
 use crate::searches::SEARCHES;
 use crate::tags::{TAG_COMMANDS, TAG_REFUSALS, TAG_WRITES, TAGGED_TEXT};
 use crate::texts::{DELETIONS, RANGES, TEXTS};
 use crate::undoing::{COMING_BACK, FLAGS, GROUPING, UNDOING, UNDOING_FULL};
+use crate::widgets::{MARKS_IN_ORDER, REMOVALS, SELECTIONS, TAGGED_UNDO};
 use rt_samples::{Output, Pieces};
 use rt_script::{Ended, SiteState, run};
 use rt_stamps::limits::MOST_CELLS;
@@ -120,6 +125,29 @@ fn replies_of(alloc: Global, script: Script, count: usize) -> Result<String, All
     Ok(replies)
 }
 
+/// Runs lines on a site that may receive files, in pieces of a size, looks at its reply lines, and gives the site back.
+pub(crate) fn gives(
+    rt: &impl Abort,
+    alloc: Global,
+    state: SiteState,
+    files: &[(String, Vec<u8>)],
+    lines: &str,
+    replies: &str,
+    size: usize,
+) -> Result<SiteState, Fail>
+    requires { AreWithin files.now }
+{
+    let pieces = Pieces {
+        bytes: lines.as_bytes(),
+        size,
+        until_failure: None,
+    };
+    let (text, ended) = run_of(alloc, state, files, pieces, None);
+    assert_eq!(rt; text.as_slice(), replies.as_bytes(), "{lines}");
+    same(rt, ended.fault, None);
+    Ok(ended.site)
+}
+
 /// Runs a script on a site that may receive files, in pieces of a size, looks at its replies, and gives
 /// the site back. In pieces of one byte the last line has no newline.
 pub(crate) fn answered(
@@ -134,15 +162,7 @@ pub(crate) fn answered(
 {
     let lines = lines_of(alloc, script, size > 1)?;
     let replies = replies_of(alloc, script, script.len())?;
-    let pieces = Pieces {
-        bytes: lines.as_bytes(),
-        size,
-        until_failure: None,
-    };
-    let (text, ended) = run_of(alloc, state, files, pieces, None);
-    assert_eq!(rt; text.as_slice(), replies.as_bytes(), "{lines}");
-    same(rt, ended.fault, None);
-    Ok(ended.site)
+    gives(rt, alloc, state, files, &lines, &replies, size)
 }
 
 // Runs each script of a table on a new site, in pieces of three sizes.
@@ -249,6 +269,91 @@ fn scripts_of_own_parts(rt: HostRuntime) -> Result<(), Fail> {
 #[test]
 fn scripts_of_shared_parts(rt: HostRuntime) -> Result<(), Fail> {
     answer_all(&rt, rt.alloc(), SHARED_PARTS)
+}
+
+#[test]
+fn scripts_of_expressions_of_places(rt: HostRuntime) -> Result<(), Fail> {
+    answer_all(&rt, rt.alloc(), BASES)
+}
+
+#[test]
+fn scripts_of_expressions_with_modifiers(rt: HostRuntime) -> Result<(), Fail> {
+    answer_all(&rt, rt.alloc(), MODIFIERS)
+}
+
+#[test]
+fn scripts_of_expressions_without_places(rt: HostRuntime) -> Result<(), Fail> {
+    answer_all(&rt, rt.alloc(), NO_PLACES)
+}
+
+#[test]
+fn scripts_of_places_that_are_found(rt: HostRuntime) -> Result<(), Fail> {
+    answer_all(&rt, rt.alloc(), FOUND)
+}
+
+#[test]
+fn scripts_of_words_of_searches(rt: HostRuntime) -> Result<(), Fail> {
+    answer_all(&rt, rt.alloc(), SEARCH_WORDS)
+}
+
+#[test]
+fn scripts_of_commands(rt: HostRuntime) -> Result<(), Fail> {
+    answer_all(&rt, rt.alloc(), COMMANDS)
+}
+
+#[test]
+fn scripts_of_searches_and_dumps(rt: HostRuntime) -> Result<(), Fail> {
+    answer_all(&rt, rt.alloc(), SEARCHES_AND_DUMPS)
+}
+
+#[test]
+fn scripts_of_marks_and_tags(rt: HostRuntime) -> Result<(), Fail> {
+    answer_all(&rt, rt.alloc(), MARKS_AND_TAGS)
+}
+
+#[test]
+fn scripts_of_bad_commands(rt: HostRuntime) -> Result<(), Fail> {
+    answer_all(&rt, rt.alloc(), BAD_COMMANDS)
+}
+
+#[test]
+fn scripts_of_bad_options(rt: HostRuntime) -> Result<(), Fail> {
+    answer_all(&rt, rt.alloc(), BAD_OPTIONS)
+}
+
+#[test]
+fn scripts_of_options(rt: HostRuntime) -> Result<(), Fail> {
+    answer_all(&rt, rt.alloc(), OPTIONS)
+}
+
+#[test]
+fn scripts_of_peer_words(rt: HostRuntime) -> Result<(), Fail> {
+    answer_all(&rt, rt.alloc(), PEER_WORDS)
+}
+
+#[test]
+fn scripts_of_limit_words(rt: HostRuntime) -> Result<(), Fail> {
+    answer_all(&rt, rt.alloc(), LIMIT_WORDS)
+}
+
+#[test]
+fn scripts_of_selections(rt: HostRuntime) -> Result<(), Fail> {
+    answer_all(&rt, rt.alloc(), SELECTIONS)
+}
+
+#[test]
+fn scripts_of_marks_in_order(rt: HostRuntime) -> Result<(), Fail> {
+    answer_all(&rt, rt.alloc(), MARKS_IN_ORDER)
+}
+
+#[test]
+fn scripts_of_tagged_undo(rt: HostRuntime) -> Result<(), Fail> {
+    answer_all(&rt, rt.alloc(), TAGGED_UNDO)
+}
+
+#[test]
+fn scripts_of_removals(rt: HostRuntime) -> Result<(), Fail> {
+    answer_all(&rt, rt.alloc(), REMOVALS)
 }
 
 #[test]
