@@ -69,7 +69,8 @@ fn join_in<A: Ledger, B: Ledger, C: Ledger, D: Ledger>(
     join_files(alloc, &mut one, &mut other)
 }
 
-fn joined(alloc: Global, one: Pieces, other: Pieces) -> Result<Vec<u8>, JoinFault> {
+/// The bytes of the join of two files.
+pub(crate) fn joined(alloc: Global, one: Pieces, other: Pieces) -> Result<Vec<u8>, JoinFault> {
     join_in::<Brand, Brand, Brand, Brand>(
         alloc,
         one,
@@ -126,8 +127,8 @@ fn show_in<A: Ledger, B: Ledger, C: Ledger, D: Ledger>(
     (bytes, fault)
 }
 
-// What is shown of a file, where the write of a number fails.
-fn shown(
+/// What is shown of a file, where the write of a number fails.
+pub(crate) fn shown(
     alloc: Global,
     source: Pieces,
     until_failure: Option<usize>,

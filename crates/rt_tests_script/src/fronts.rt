@@ -1,5 +1,8 @@
 // Files that are cut, can't be read to their end, or break a rule of their records, as they are shown.
-use crate::files::{AB, FIRST_TAGGED, SECOND_GOES, followed, in_pieces, is_shown, text_of};
+use crate::checks::same;
+use crate::files::{
+    AB, FIRST_TAGGED, SECOND_GOES, followed, in_pieces, is_shown, joined, shown, text_of,
+};
 use rt_samples::Pieces;
 use rt_samples::files::{DELETE_SECOND, INSERT_AB, TAG_FIRST};
 use rt_stamps::Fault;
@@ -138,5 +141,67 @@ fn records_rise(rt: HostRuntime) -> Result<(), Fail> {
     let twice = followed(rt.alloc(), INSERT_AB, INSERT_AB)?;
     let text = text_of(rt.alloc(), &[AB])?;
     assert!(rt; is_shown(rt.alloc(), in_pieces(&twice, 4096), &text, BAD));
+    Ok(())
+}
+
+// Where the record that begins at an offset ends, by its length field.
+fn end_of_record(bytes: &[u8], offset: usize) -> usize {
+    let mut length = 0;
+    for byte in bytes.iter().skip(offset).take(4) {
+        length = length % 65_536 * 256 + usize::from(*byte);
+    }
+    offset % 65_536 + 4 + length % 16_777_216
+}
+
+// Where the record begins that is at fault, behind so many that are shown, where a byte of the file was changed.
+fn begin_of_fault(bytes: &[u8], place: usize, shown: usize) -> usize {
+    if shown == 0 && place < 8 {
+        return 0;
+    }
+    let mut offset = 8;
+    for _ in 0..shown {
+        offset = end_of_record(bytes, offset);
+    }
+    offset
+}
+
+// A damaged file is told where a record begins, or gives a log that is written as the same bytes, if it has one.
+fn is_told(rt: &impl Abort, alloc: Global, changed: &[u8], place: usize) {
+    let (lines, fault) = shown(alloc, in_pieces(changed, 4096), None);
+    match fault {
+        Some((_, offset)) => {
+            let records = lines.iter().filter(|byte| **byte == b'\n').count();
+            same(rt, offset, begin_of_fault(changed, place, records) as u64);
+        }
+        None => is_written(rt, alloc, changed),
+    }
+}
+
+fn is_written(rt: &impl Abort, alloc: Global, bytes: &[u8]) {
+    match joined(alloc, in_pieces(bytes, 4096), in_pieces(bytes, 4096)) {
+        Ok(written) => same(rt, written.as_slice(), bytes),
+        Err(why) => assert!(rt; matches!(why.fault, Fault::BadStamp | Fault::Conflict)),
+    }
+}
+
+// A byte of a file is changed in each way.
+fn byte_changes(rt: &impl Abort, alloc: Global, bytes: &[u8], place: usize) -> Result<(), Fail> {
+    let mut changed = Vec::from_slice(alloc, bytes)?;
+    for change in 1..=255u8 {
+        if let (Some(there), Some(byte)) = (changed.get_mut(place), bytes.get(place)) {
+            *there = *byte ^ change;
+        }
+        is_told(rt, alloc, &changed, place);
+    }
+    Ok(())
+}
+
+#[test]
+fn single_changed_bytes(rt: HostRuntime) -> Result<(), Fail> {
+    for bytes in [DELETE_SECOND, TAG_FIRST] {
+        for place in 0..bytes.len() {
+            byte_changes(&rt, rt.alloc(), bytes, place)?;
+        }
+    }
     Ok(())
 }

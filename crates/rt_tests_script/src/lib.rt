@@ -40,6 +40,8 @@ mod searches;
 #[cfg(test)]
 mod sites;
 #[cfg(test)]
+mod spent;
+#[cfg(test)]
 mod tags;
 #[cfg(test)]
 mod texts;

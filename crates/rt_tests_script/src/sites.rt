@@ -166,7 +166,7 @@ pub(crate) fn answered(
 }
 
 // Runs each script of a table on a new site, in pieces of three sizes.
-fn answer_all(rt: &impl Abort, alloc: Global, table: &[Script]) -> Result<(), Fail> {
+pub(crate) fn answer_all(rt: &impl Abort, alloc: Global, table: &[Script]) -> Result<(), Fail> {
     for script in table {
         for size in [1, 3, 4096] {
             let state = new_site(alloc, 1, MOST_CELLS)?;
