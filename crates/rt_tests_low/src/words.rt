@@ -61,11 +61,6 @@ const BARE_WORDS: Rows = &[
     ("é\u{a0}ü \u{1f600}", "|é\u{a0}ü|\u{1f600}"),
 ];
 
-#[test]
-fn bare_words(rt: HostRuntime) -> Result<(), Fail> {
-    lines(&rt, rt.alloc(), BARE_WORDS)
-}
-
 const QUOTED_WORDS: Rows = &[
     ("\"\"", "|"),
     ("\"\" a \"\"", "||a|"),
@@ -78,11 +73,6 @@ const QUOTED_WORDS: Rows = &[
     ("\"a\r} { b\"", "|a\r} { b"),
 ];
 
-#[test]
-fn quoted_words(rt: HostRuntime) -> Result<(), Fail> {
-    lines(&rt, rt.alloc(), QUOTED_WORDS)
-}
-
 const BRACED_WORDS: Rows = &[
     ("{}", "|"),
     ("{} {} a", "|||a"),
@@ -93,11 +83,6 @@ const BRACED_WORDS: Rows = &[
     ("{ \"a } ", "| \"a "),
     ("{é {\u{1f600}}}", "|é {\u{1f600}}"),
 ];
-
-#[test]
-fn braced_words(rt: HostRuntime) -> Result<(), Fail> {
-    lines(&rt, rt.alloc(), BRACED_WORDS)
-}
 
 // The words of replies, and the bytes that the lines of answers have for them.
 const LINES_OF_REPLIES: Rows = &[
@@ -112,11 +97,6 @@ const LINES_OF_REPLIES: Rows = &[
     ("= é#$[ \u{1f600}", "|=|é#$[|\u{1f600}"),
 ];
 
-#[test]
-fn lines_of_replies(rt: HostRuntime) -> Result<(), Fail> {
-    lines(&rt, rt.alloc(), LINES_OF_REPLIES)
-}
-
 // Newlines stand between the words of a list; within quotes and braces they are the word's.
 const LISTS: Rows = &[
     ("", ""),
@@ -129,11 +109,6 @@ const LISTS: Rows = &[
     ("\"\"\n{}\n\"\"", "|||"),
     ("a\rb\u{a0}c", "|a\rb\u{a0}c"),
 ];
-
-#[test]
-fn words_of_lists(rt: HostRuntime) -> Result<(), Fail> {
-    lists(&rt, rt.alloc(), LISTS)
-}
 
 // A newline that stands bare in a line is a character of its word.
 const NEWLINES_IN_LINES: Rows = &[
@@ -152,16 +127,6 @@ const NEWLINES_IN_LISTS: Rows = &[
     ("{a}\nb", "|a|b"),
 ];
 
-#[test]
-fn newlines_in_lines(rt: HostRuntime) -> Result<(), Fail> {
-    lines(&rt, rt.alloc(), NEWLINES_IN_LINES)
-}
-
-#[test]
-fn newlines_in_lists(rt: HostRuntime) -> Result<(), Fail> {
-    lists(&rt, rt.alloc(), NEWLINES_IN_LISTS)
-}
-
 const REFUSED_LISTS: Rows = &[
     ("\"", "refused"),
     ("{", "refused"),
@@ -173,11 +138,6 @@ const REFUSED_LISTS: Rows = &[
     ("\"a\n", "refused"),
     ("{}\n}{\n{", "refused"),
 ];
-
-#[test]
-fn refused_lists(rt: HostRuntime) -> Result<(), Fail> {
-    lists(&rt, rt.alloc(), REFUSED_LISTS)
-}
 
 const REFUSED_LINES: Rows = &[
     ("\"", "refused"),
@@ -206,6 +166,22 @@ const REFUSED_LINES: Rows = &[
 ];
 
 #[test]
-fn refused_lines(rt: HostRuntime) -> Result<(), Fail> {
+fn words_of_lines(rt: HostRuntime) -> Result<(), Fail> {
+    lines(&rt, rt.alloc(), BARE_WORDS)?;
+    lines(&rt, rt.alloc(), QUOTED_WORDS)?;
+    lines(&rt, rt.alloc(), BRACED_WORDS)?;
+    lines(&rt, rt.alloc(), LINES_OF_REPLIES)
+}
+
+#[test]
+fn lines_that_are_refused(rt: HostRuntime) -> Result<(), Fail> {
+    lines(&rt, rt.alloc(), NEWLINES_IN_LINES)?;
     lines(&rt, rt.alloc(), REFUSED_LINES)
+}
+
+#[test]
+fn words_of_lists(rt: HostRuntime) -> Result<(), Fail> {
+    lists(&rt, rt.alloc(), LISTS)?;
+    lists(&rt, rt.alloc(), NEWLINES_IN_LISTS)?;
+    lists(&rt, rt.alloc(), REFUSED_LISTS)
 }

@@ -222,138 +222,66 @@ fn scripts_of_undoing(rt: HostRuntime) -> Result<(), Fail> {
 }
 
 #[test]
-fn scripts_of_peers(rt: HostRuntime) -> Result<(), Fail> {
-    answer_all(&rt, rt.alloc(), PEERS)
-}
-
-#[test]
-fn scripts_of_limit_options(rt: HostRuntime) -> Result<(), Fail> {
-    answer_all(&rt, rt.alloc(), LIMIT_OPTIONS)
-}
-
-#[test]
-fn scripts_of_moving_limits(rt: HostRuntime) -> Result<(), Fail> {
-    answer_all(&rt, rt.alloc(), MOVING_LIMITS)
-}
-
-#[test]
-fn scripts_of_limited_text(rt: HostRuntime) -> Result<(), Fail> {
-    answer_all(&rt, rt.alloc(), LIMITED_TEXT)
-}
-
-#[test]
-fn scripts_of_limited_searches(rt: HostRuntime) -> Result<(), Fail> {
-    answer_all(&rt, rt.alloc(), LIMITED_SEARCHES)
-}
-
-#[test]
-fn scripts_of_limited_tags(rt: HostRuntime) -> Result<(), Fail> {
-    answer_all(&rt, rt.alloc(), LIMITED_TAGS)
-}
-
-#[test]
-fn scripts_of_limited_marks(rt: HostRuntime) -> Result<(), Fail> {
-    answer_all(&rt, rt.alloc(), LIMITED_MARKS)
-}
-
-#[test]
-fn scripts_of_peer_commands(rt: HostRuntime) -> Result<(), Fail> {
-    answer_all(&rt, rt.alloc(), PEER_COMMANDS)
-}
-
-#[test]
-fn scripts_of_own_parts(rt: HostRuntime) -> Result<(), Fail> {
-    answer_all(&rt, rt.alloc(), OWN_PARTS)
-}
-
-#[test]
-fn scripts_of_shared_parts(rt: HostRuntime) -> Result<(), Fail> {
-    answer_all(&rt, rt.alloc(), SHARED_PARTS)
-}
-
-#[test]
-fn scripts_of_expressions_of_places(rt: HostRuntime) -> Result<(), Fail> {
-    answer_all(&rt, rt.alloc(), BASES)
-}
-
-#[test]
-fn scripts_of_expressions_with_modifiers(rt: HostRuntime) -> Result<(), Fail> {
-    answer_all(&rt, rt.alloc(), MODIFIERS)
-}
-
-#[test]
-fn scripts_of_expressions_without_places(rt: HostRuntime) -> Result<(), Fail> {
+fn scripts_of_expressions(rt: HostRuntime) -> Result<(), Fail> {
+    answer_all(&rt, rt.alloc(), BASES)?;
+    answer_all(&rt, rt.alloc(), MODIFIERS)?;
     answer_all(&rt, rt.alloc(), NO_PLACES)
 }
 
 #[test]
-fn scripts_of_places_that_are_found(rt: HostRuntime) -> Result<(), Fail> {
-    answer_all(&rt, rt.alloc(), FOUND)
-}
-
-#[test]
-fn scripts_of_words_of_searches(rt: HostRuntime) -> Result<(), Fail> {
+fn scripts_of_searches(rt: HostRuntime) -> Result<(), Fail> {
+    answer_all(&rt, rt.alloc(), FOUND)?;
     answer_all(&rt, rt.alloc(), SEARCH_WORDS)
 }
 
 #[test]
 fn scripts_of_commands(rt: HostRuntime) -> Result<(), Fail> {
-    answer_all(&rt, rt.alloc(), COMMANDS)
-}
-
-#[test]
-fn scripts_of_searches_and_dumps(rt: HostRuntime) -> Result<(), Fail> {
-    answer_all(&rt, rt.alloc(), SEARCHES_AND_DUMPS)
-}
-
-#[test]
-fn scripts_of_marks_and_tags(rt: HostRuntime) -> Result<(), Fail> {
+    answer_all(&rt, rt.alloc(), COMMANDS)?;
+    answer_all(&rt, rt.alloc(), SEARCHES_AND_DUMPS)?;
     answer_all(&rt, rt.alloc(), MARKS_AND_TAGS)
 }
 
 #[test]
-fn scripts_of_bad_commands(rt: HostRuntime) -> Result<(), Fail> {
-    answer_all(&rt, rt.alloc(), BAD_COMMANDS)
-}
-
-#[test]
-fn scripts_of_bad_options(rt: HostRuntime) -> Result<(), Fail> {
+fn scripts_of_words_that_are_refused(rt: HostRuntime) -> Result<(), Fail> {
+    answer_all(&rt, rt.alloc(), BAD_COMMANDS)?;
     answer_all(&rt, rt.alloc(), BAD_OPTIONS)
 }
 
 #[test]
 fn scripts_of_options(rt: HostRuntime) -> Result<(), Fail> {
-    answer_all(&rt, rt.alloc(), OPTIONS)
-}
-
-#[test]
-fn scripts_of_peer_words(rt: HostRuntime) -> Result<(), Fail> {
-    answer_all(&rt, rt.alloc(), PEER_WORDS)
-}
-
-#[test]
-fn scripts_of_limit_words(rt: HostRuntime) -> Result<(), Fail> {
+    answer_all(&rt, rt.alloc(), OPTIONS)?;
+    answer_all(&rt, rt.alloc(), PEER_WORDS)?;
     answer_all(&rt, rt.alloc(), LIMIT_WORDS)
 }
 
 #[test]
-fn scripts_of_selections(rt: HostRuntime) -> Result<(), Fail> {
-    answer_all(&rt, rt.alloc(), SELECTIONS)
-}
-
-#[test]
-fn scripts_of_marks_in_order(rt: HostRuntime) -> Result<(), Fail> {
-    answer_all(&rt, rt.alloc(), MARKS_IN_ORDER)
-}
-
-#[test]
-fn scripts_of_tagged_undo(rt: HostRuntime) -> Result<(), Fail> {
-    answer_all(&rt, rt.alloc(), TAGGED_UNDO)
-}
-
-#[test]
-fn scripts_of_removals(rt: HostRuntime) -> Result<(), Fail> {
+fn scripts_of_widgets(rt: HostRuntime) -> Result<(), Fail> {
+    answer_all(&rt, rt.alloc(), SELECTIONS)?;
+    answer_all(&rt, rt.alloc(), MARKS_IN_ORDER)?;
+    answer_all(&rt, rt.alloc(), TAGGED_UNDO)?;
     answer_all(&rt, rt.alloc(), REMOVALS)
+}
+
+#[test]
+fn scripts_of_peers(rt: HostRuntime) -> Result<(), Fail> {
+    answer_all(&rt, rt.alloc(), PEERS)?;
+    answer_all(&rt, rt.alloc(), PEER_COMMANDS)?;
+    answer_all(&rt, rt.alloc(), OWN_PARTS)?;
+    answer_all(&rt, rt.alloc(), SHARED_PARTS)
+}
+
+#[test]
+fn scripts_of_limits(rt: HostRuntime) -> Result<(), Fail> {
+    answer_all(&rt, rt.alloc(), LIMIT_OPTIONS)?;
+    answer_all(&rt, rt.alloc(), MOVING_LIMITS)?;
+    answer_all(&rt, rt.alloc(), LIMITED_TEXT)
+}
+
+#[test]
+fn scripts_of_limited_commands(rt: HostRuntime) -> Result<(), Fail> {
+    answer_all(&rt, rt.alloc(), LIMITED_SEARCHES)?;
+    answer_all(&rt, rt.alloc(), LIMITED_TAGS)?;
+    answer_all(&rt, rt.alloc(), LIMITED_MARKS)
 }
 
 #[test]
