@@ -3,7 +3,7 @@ ghost use Rattle.std.specs.Prelude.{◌≡◌, ◌≤◌, IfOk, OnOk};
 ghost use Rattle.rt_script.specs.Site.{AreWithin};
 
 use crate::checks::same;
-use crate::samples::{LEAVES_SEVEN, LEAVES_SIX};
+use crate::samples::{INSERT_BEFORE_LAST, LEAVES_SEVEN, LEAVES_SIX};
 use crate::sites::{Script, answered, new_site};
 use rt_samples::files::{
     AFTER_DELETE, AFTER_ITSELF, CUT, DELETE_FINAL, DELETE_SECOND, INSERT_AB, INSERT_B, INSERT_LAST,
@@ -96,6 +96,7 @@ pub(crate) fn receive_all(
         ("magic", b"XGATEXT1"),
         ("version", b"RGATEXT9"),
         ("front", &INSERT_AB[..43]),
+        ("before_last", INSERT_BEFORE_LAST),
         ("leaves_six", LEAVES_SIX),
         ("leaves_seven", LEAVES_SEVEN),
     ];

@@ -38,6 +38,8 @@ mod samples;
 #[cfg(test)]
 mod searches;
 #[cfg(test)]
+mod seen;
+#[cfg(test)]
 mod sites;
 #[cfg(test)]
 mod spent;

@@ -14,6 +14,7 @@ use crate::options::{LIMIT_WORDS, OPTIONS, PEER_WORDS};
 use crate::peers::{OWN_PARTS, PEER_COMMANDS, PEERS, SHARED_PARTS};
 use crate::replacements::{DUMPS, FULL_SITE, REPLACEMENTS};
 use crate::searches::SEARCHES;
+use crate::seen::SEEN;
 use crate::tags::{TAG_COMMANDS, TAG_REFUSALS, TAG_WRITES, TAGGED_TEXT};
 use crate::texts::{DELETIONS, RANGES, TEXTS};
 use crate::undoing::{COMING_BACK, FLAGS, GROUPING, UNDOING, UNDOING_FULL};
@@ -274,6 +275,7 @@ fn scripts_of_peers(rt: HostRuntime) -> Result<(), Fail> {
 fn scripts_of_limits(rt: HostRuntime) -> Result<(), Fail> {
     answer_all(&rt, rt.alloc(), LIMIT_OPTIONS)?;
     answer_all(&rt, rt.alloc(), MOVING_LIMITS)?;
+    answer_all(&rt, rt.alloc(), SEEN)?;
     answer_all(&rt, rt.alloc(), LIMITED_TEXT)
 }
 
@@ -295,6 +297,8 @@ const FULL: Script<'static> = &[
     (".t insert 1.0 abc", "! 18 TextFull"),
     (".t insert 1.0 ab", "="),
     (".t insert 1.0 c", "! 18 TextFull"),
+    (".t insert 1.0 ab", "! 18 TextFull"),
+    (".t insert 1.0 x", "! 18 TextFull"),
     (".t get 1.0 end", r#"= "ab\n""#),
 ];
 

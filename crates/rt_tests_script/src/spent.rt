@@ -9,6 +9,14 @@ const SPENT: &[(u16, Script<'static>)] = &[
     (
         1,
         &[
+            ("receive before_last", "= 1 0"),
+            (".t insert 1.0 ab", "! 17 ClockSpent"),
+            (".t get 1.0 end", r#"= "z\n""#),
+        ],
+    ),
+    (
+        1,
+        &[
             ("receive leaves_six", "= 1 0"),
             (".t insert 1.0 hello", "="),
             (".t delete 1.2 1.2", "="),
