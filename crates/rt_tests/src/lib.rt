@@ -2,8 +2,6 @@
 #![tactic(auto)]
 
 #[cfg(test)]
-mod accepting;
-#[cfg(test)]
 mod checks;
 #[cfg(test)]
 mod edits;

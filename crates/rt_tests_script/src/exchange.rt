@@ -33,8 +33,8 @@ fn add_file(
     Ok(())
 }
 
-// Files as they are handed in.
-fn given(alloc: Global, files: &[(&str, &[u8])]) -> Result<Vec<(String, Vec<u8>)>, Fail>
+/// Files as they are handed in.
+pub(crate) fn given(alloc: Global, files: &[(&str, &[u8])]) -> Result<Vec<(String, Vec<u8>)>, Fail>
     ensures { IfOk result (λ files. AreWithin files.items) }
 {
     let mut given = Vec::new(alloc);
