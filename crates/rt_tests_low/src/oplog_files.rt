@@ -6,6 +6,7 @@ use rt_oplog::{OpLog, Reading, read_bytes, read_whole, write_file};
 use rt_samples::files::{DELETE_SECOND, INSERT_AB};
 use rt_samples::{Output, Pieces};
 use rt_stamps::Fault;
+use rt_stamps::limits::MOST_BYTES;
 use rt_stamps::std_ends::{Count, Reader, Writer};
 use std::alloc::Global;
 use std::marker::Brand;
@@ -73,6 +74,9 @@ fn write_bytes(
 
 // A log of the operations of a file.
 fn log_of(alloc: Global, bytes: &[u8]) -> Result<OpLog, Fault> {
+    if bytes.len() > MOST_BYTES {
+        return Err(Fault::ReadFault);
+    }
     let Reading { ops, .. } = read_bytes(alloc, bytes)?;
     OpLog::from_ops(alloc, ops).map_err(|refused| refused.fault)
 }

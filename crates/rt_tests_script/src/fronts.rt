@@ -153,13 +153,13 @@ fn end_of_record(bytes: &[u8], offset: usize) -> usize {
     offset % 65_536 + 4 + length % 16_777_216
 }
 
-// Where the record begins that is at fault, behind so many that are shown, where a byte of the file was changed.
-fn begin_of_fault(bytes: &[u8], place: usize, shown: usize) -> usize {
-    if shown == 0 && place < 8 {
+// Where the record begins that is at fault, behind so many that are whole, where a byte of the file was changed.
+fn begin_of_fault(bytes: &[u8], place: usize, records: usize) -> usize {
+    if records == 0 && place < 8 {
         return 0;
     }
     let mut offset = 8;
-    for _ in 0..shown {
+    for _ in 0..records {
         offset = end_of_record(bytes, offset);
     }
     offset
