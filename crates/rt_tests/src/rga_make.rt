@@ -83,44 +83,6 @@ fn characters(alloc: Global, text: &[char]) -> Result<Text, Fault>
     Ok(Text::new(Vec::from_slice(alloc, text)?))
 }
 
-/// Types `ab`.
-fn typed(alloc: Global) -> Result<Vec<Draft>, Fault>
-    ensures { IfOk result (λ drafts. map body_of drafts.items ≡ Insert (record { count = 0; site = 0 }) [] (97 ∷ 98 ∷ []) ∷ []) }
-{
-    let mut drafts = Vec::new(alloc);
-    drafts.push(Draft::Insert {
-        after: ROOT,
-        tags: Vec::new(alloc),
-        text: characters(alloc, &['a', 'b'])?,
-    })?;
-    Ok(drafts)
-}
-
-// Types `ab` at the beginning, whatever the log has.
-fn type_ab(own: &mut Own) -> Result<Vec<Op>, Fault> {
-    let drafts = typed(own.alloc)?;
-    own.replica.make(drafts)
-}
-
-/// Types `x`.
-fn typed_one(alloc: Global) -> Result<Vec<Draft>, Fault>
-    ensures { IfOk result (λ drafts. map body_of drafts.items ≡ Insert (record { count = 0; site = 0 }) [] (120 ∷ []) ∷ []) }
-{
-    let mut drafts = Vec::new(alloc);
-    drafts.push(Draft::Insert {
-        after: ROOT,
-        tags: Vec::new(alloc),
-        text: Text::of('x'),
-    })?;
-    Ok(drafts)
-}
-
-// Types `x` at the beginning, whatever the log has.
-fn type_one(own: &mut Own) -> Result<Vec<Op>, Fault> {
-    let drafts = typed_one(own.alloc)?;
-    own.replica.make(drafts)
-}
-
 fn name(alloc: Global, of: &str) -> Result<String, Fault>
     ensures { IfOk result (λ name. string_bytes name ≡ of.now) }
 {
@@ -184,24 +146,6 @@ fn make_several(own: &mut Own) -> Result<Vec<Op>, Fault>
     own.replica.make(drafts)
 }
 
-// How many operations a replica has, and what it shows.
-fn has(rt: &impl Abort, own: &Own, ops: usize, text: &str) -> Result<(), Fail> {
-    same(rt, own.replica.log().len(), ops);
-    same(rt, own.shown()?.as_str(), text);
-    Ok(())
-}
-
-#[test]
-fn one_draft(rt: HostRuntime) -> Result<(), Fail> {
-    let mut own = Own::new(rt.alloc(), 3)?;
-    let ops = type_ab(&mut own)?;
-    same(&rt, ops.len(), 1);
-    has(&rt, &own, 1, "ab\n")?;
-    same(&rt, type_ab(&mut own).err(), Some(Fault::TextFull));
-    same(&rt, type_one(&mut own).err(), Some(Fault::TextFull));
-    has(&rt, &own, 1, "ab\n")
-}
-
 /// A tag, and the first place from one up that has it.
 type Tagged = (&'static str, usize, Option<usize>);
 
@@ -263,22 +207,5 @@ fn what_goes_of_an_insertion(rt: HostRuntime) -> Result<(), Fail> {
     same_len(&rt, losses.removed.len(), 2);
     same(&rt, losses.removed[0].span, span(1, 1, 1));
     same(&rt, losses.removed[1].span, span(1, 3, 3));
-    Ok(())
-}
-
-const MOST: u64 = (1 << 48) - 1;
-
-#[test]
-fn counts_that_are_spent(rt: HostRuntime) -> Result<(), Fail> {
-    let mut own = Own::new(rt.alloc(), 9)?;
-    let last = Stamp {
-        count: MOST - 1,
-        site: 2,
-    };
-    let text = Vec::from_slice(rt.alloc(), &['z'])?;
-    let op = Op::insert(last, 0, ROOT, Vec::new(rt.alloc()), text)?;
-    assert!(rt; matches!(own.replica.accept(op)?, Taken::New(_)));
-    same(&rt, type_ab(&mut own).err(), Some(Fault::ClockSpent));
-    same(&rt, own.shown()?.as_str(), "z\n");
     Ok(())
 }

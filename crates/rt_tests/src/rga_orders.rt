@@ -41,7 +41,7 @@ fn span(named: (u16, u64, u64)) -> Span {
     Span { site, first, last }
 }
 
-pub(crate) fn op(alloc: Global, made: Made) -> Result<Op, Fault> {
+fn op(alloc: Global, made: Made) -> Result<Op, Fault> {
     let (count, site, prev, does) = made;
     let at = Stamp { count, site };
     let tag = String::from_str(alloc, "t")?;
@@ -72,7 +72,7 @@ pub(crate) enum Said {
     Refused(Fault),
 }
 
-pub(crate) fn told(taken: Taken) -> Said {
+fn told(taken: Taken) -> Said {
     match taken {
         Taken::New(change) => Said::New(change.place, change.inserted, change.lists.len()),
         Taken::Repeat => Said::Repeat,
@@ -271,18 +271,11 @@ fn come_out(rt: &impl Abort, alloc: Global, rows: &[Row]) -> Result<(), Fail> {
     Ok(())
 }
 
+// Insertions at one place, one beside a removed character, tags by two sites.
 #[test]
-fn insertions_at_one_place(rt: HostRuntime) -> Result<(), Fail> {
-    come_out(&rt, rt.alloc(), AT_ONE_PLACE)
-}
-
-#[test]
-fn an_insertion_beside_a_removed_character(rt: HostRuntime) -> Result<(), Fail> {
-    come_out(&rt, rt.alloc(), BESIDE_A_TOMBSTONE)
-}
-
-#[test]
-fn tags_by_two_sites(rt: HostRuntime) -> Result<(), Fail> {
+fn each_order(rt: HostRuntime) -> Result<(), Fail> {
+    come_out(&rt, rt.alloc(), AT_ONE_PLACE)?;
+    come_out(&rt, rt.alloc(), BESIDE_A_TOMBSTONE)?;
     come_out(&rt, rt.alloc(), TAGS)?;
     come_out(&rt, rt.alloc(), LATER_TAGS)
 }
@@ -410,16 +403,8 @@ fn removals(rt: HostRuntime) -> Result<(), Fail> {
 }
 
 #[test]
-fn changes(rt: HostRuntime) -> Result<(), Fail> {
-    answers(&rt, rt.alloc(), 100, CHANGES)
-}
-
-#[test]
-fn refusals(rt: HostRuntime) -> Result<(), Fail> {
-    answers(&rt, rt.alloc(), 3, REFUSALS)
-}
-
-#[test]
-fn spans_of_very_many_stamps(rt: HostRuntime) -> Result<(), Fail> {
+fn changes_and_refusals(rt: HostRuntime) -> Result<(), Fail> {
+    answers(&rt, rt.alloc(), 100, CHANGES)?;
+    answers(&rt, rt.alloc(), 3, REFUSALS)?;
     answers(&rt, rt.alloc(), 100, LONG_SPANS)
 }

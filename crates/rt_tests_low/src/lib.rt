@@ -9,8 +9,6 @@ mod clock;
 #[cfg(test)]
 mod command_lines;
 #[cfg(test)]
-mod index;
-#[cfg(test)]
 mod marks;
 #[cfg(test)]
 mod nodes;
@@ -18,14 +16,6 @@ mod nodes;
 mod oplog_files;
 #[cfg(test)]
 mod oplog_logs;
-#[cfg(test)]
-mod option_requests;
-#[cfg(test)]
-mod peer_requests;
-#[cfg(test)]
-mod requests;
-#[cfg(test)]
-mod search;
 #[cfg(test)]
 mod spans;
 #[cfg(test)]

@@ -6,7 +6,6 @@ use crate::checks::same;
 use rt_nodes::{NodeId, NodeMem};
 use rt_stamps::Fault;
 use std::alloc::Global;
-use std::collections::BTreeMap;
 use std::rc::Rc;
 use std::test::*;
 
@@ -127,15 +126,26 @@ struct Node {
     entries: Vec<u64>,
 }
 
-// A memory, and beside it the map that it should be.
-#[derive(Drop)]
+// A memory, and beside it the nodes that it should have.
 struct Both {
     mem: NodeMem<u64, u64, 4>,
-    map: BTreeMap<u32, Node>,
+    nodes: Vec<Node>,
     made: u32,
     alloc: Global,
     ghost heads_made: { length mem.heads ≡ made },
     ghost rows_made: { length mem.rows ≡ made },
+}
+
+// Written out, so that each way out of a test lets both go in one step of its proof.
+impl Drop for Both {
+    fn drop(self) {
+        let Both {
+            mem: _,
+            nodes: _,
+            made: _,
+            alloc: _,
+        } = self;
+    }
 }
 
 // Numbers that look random.
@@ -172,19 +182,11 @@ impl Dice {
     }
 }
 
-// The node of an id.
-fn node_of(map: &mut BTreeMap<u32, Node>, id: NodeId) -> Result<&mut Node, Fault> {
-    match map.get_mut(&id.index) {
-        Some(node) => Ok(node),
-        None => Err(Fault::BadIndex),
-    }
-}
-
 impl Both {
     fn new(alloc: Global) -> Both {
         Both {
             mem: NodeMem::new(alloc),
-            map: BTreeMap::new(alloc),
+            nodes: Vec::new(alloc),
             made: 0,
             alloc,
         }
@@ -196,7 +198,7 @@ impl Both {
         }
         self.mem.reserve(1)?;
         let entries = Vec::new(self.alloc);
-        self.map.insert(self.made, Node { header, entries })?;
+        self.nodes.push(Node { header, entries })?;
         let _ = self.mem.make(header);
         self.made += 1;
         Ok(())
@@ -207,7 +209,9 @@ impl Both {
             return Err(Fault::BadIndex);
         }
         *self.mem.head_mut(a) = value;
-        node_of(&mut self.map, a)?.header = value;
+        if let Some(node) = self.nodes.get_mut(a.index as usize) {
+            node.header = value;
+        }
         Ok(())
     }
 
@@ -216,9 +220,7 @@ impl Both {
             return Err(Fault::BadIndex);
         }
         *self.mem.entry_mut(a, place) = value;
-        if let Some(entry) = node_of(&mut self.map, a)?.entries.get_mut(place) {
-            *entry = value;
-        }
+        set_in(&mut self.nodes, a, place, value);
         Ok(())
     }
 
@@ -233,18 +235,8 @@ impl Both {
         }
         if self.mem.len(b) + (long - kept) <= 4 {
             self.mem.move_tail(a, kept, b);
-            return self.move_in_map(a, kept, b);
+            return move_in(self.alloc, &mut self.nodes, a, kept, b);
         }
-        Ok(())
-    }
-
-    fn move_in_map(&mut self, a: NodeId, kept: usize, b: NodeId) -> Result<(), Fault> {
-        let mut tail = Vec::new(self.alloc);
-        for entry in node_of(&mut self.map, a)?.entries.iter().skip(kept) {
-            tail.push(*entry)?;
-        }
-        node_of(&mut self.map, a)?.entries.truncate(kept);
-        node_of(&mut self.map, b)?.entries.append(&mut tail)?;
         Ok(())
     }
 
@@ -253,11 +245,7 @@ impl Both {
             return Err(Fault::BadIndex);
         }
         self.mem.insert_at(a, place, value);
-        let entries = &mut node_of(&mut self.map, a)?.entries;
-        if place <= entries.len() {
-            entries.insert(place, value)?;
-        }
-        Ok(())
+        insert_in(&mut self.nodes, a, place, value)
     }
 
     // One call that looks random, on nodes that are there.
@@ -282,28 +270,77 @@ impl Both {
         }
     }
 
-    // Whether the memory is the map.
+    // Whether the memory has the nodes.
     fn is_same(&self) -> bool {
-        for index in 0..self.made {
-            let id = NodeId { index };
-            let Some(node) = self.map.get(&index) else {
-                return false;
-            };
-            if *self.mem.head(id) != node.header || self.mem.len(id) != node.entries.len() {
+        let mut index = 0u32;
+        for node in &self.nodes {
+            if index >= self.made || !self.has(NodeId { index }, node) {
                 return false;
             }
-            for place in 0..node.entries.len() {
-                if *self.mem.entry(id, place) != node.entries[place] {
-                    return false;
-                }
+            index += 1;
+        }
+        index == self.made
+    }
+
+    // Whether the memory has a node of an id.
+    fn has(&self, id: NodeId, node: &Node) -> bool {
+        if id.index >= self.made
+            || *self.mem.head(id) != node.header
+            || self.mem.len(id) != node.entries.len()
+        {
+            return false;
+        }
+        for place in 0..node.entries.len() {
+            if *self.mem.entry(id, place) != node.entries[place] {
+                return false;
             }
         }
-        self.map.len() == self.made as usize
+        true
     }
 }
 
+// Sets an entry of a node.
+fn set_in(nodes: &mut [Node], a: NodeId, place: usize, value: u64) {
+    if let Some(node) = nodes.get_mut(a.index as usize) {
+        if let Some(entry) = node.entries.get_mut(place) {
+            *entry = value;
+        }
+    }
+}
+
+// Puts an entry into a node.
+fn insert_in(nodes: &mut [Node], a: NodeId, place: usize, value: u64) -> Result<(), Fault> {
+    if let Some(node) = nodes.get_mut(a.index as usize) {
+        if place <= node.entries.len() {
+            node.entries.insert(place, value)?;
+        }
+    }
+    Ok(())
+}
+
+// Moves the entries of a node from a place on to another one.
+fn move_in(
+    alloc: Global,
+    nodes: &mut [Node],
+    a: NodeId,
+    kept: usize,
+    b: NodeId,
+) -> Result<(), Fault> {
+    let mut tail = Vec::new(alloc);
+    if let Some(node) = nodes.get_mut(a.index as usize) {
+        for entry in node.entries.iter().skip(kept) {
+            tail.push(*entry)?;
+        }
+        node.entries.truncate(kept);
+    }
+    if let Some(node) = nodes.get_mut(b.index as usize) {
+        node.entries.append(&mut tail)?;
+    }
+    Ok(())
+}
+
 #[test]
-fn random_calls_against_a_map(rt: HostRuntime) -> Result<(), Fault> {
+fn random_calls(rt: HostRuntime) -> Result<(), Fault> {
     let mut both = Both::new(rt.alloc());
     let mut dice = Dice { state: 1 };
     for i in 0..5000 {

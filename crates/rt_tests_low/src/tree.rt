@@ -10,6 +10,7 @@ use rt_store::{Cell, FINAL_CELL, ListStore, TextStore};
 use rt_tags::{StateId, StateTable};
 use rt_tree::Tree;
 use std::alloc::Global;
+use std::process::Abort;
 use std::test::Fail;
 
 // The final newline alone: one run in one leaf.
@@ -222,72 +223,105 @@ fn room(rt: HostRuntime) -> Result<(), Fail> {
     Ok(())
 }
 
-// What is typed on makes its run longer; cells that don't follow make another.
-#[test]
-fn typing(rt: HostRuntime) -> Result<(), Fail> {
-    let mut both = Both::new(rt.alloc())?;
-    both.put(0, 1, 1, 'a')?;
-    both.put(1, 2, 1, 'b')?;
-    both.put(2, 3, 1, '\n')?;
-    assert!(rt; both.same());
-    same(&rt, both.tree.runs(), 2);
-    both.put(3, 4, 1, 'c')?;
-    both.put(1, 5, 2, 'x')?;
-    assert!(rt; both.same());
-    same(&rt, both.tree.runs(), 5);
-    Ok(())
+/// What is done to both: a character at a place with its count and site, three of these, and spans (site, first and last
+/// count) that become gone or get the tag.
+#[derive(Clone, Copy)]
+enum Step {
+    Put(usize, u64, u16, char),
+    Paste(usize, u64, u16, [char; 3]),
+    Remove(u16, u64, u64),
+    Tag(u16, u64, u64),
 }
 
-// A stretch that is pasted is one run, or more where a newline ends one.
-#[test]
-fn pasting(rt: HostRuntime) -> Result<(), Fail> {
-    let mut both = Both::new(rt.alloc())?;
-    both.paste(0, 1, 1, ['a', 'b', 'c'])?;
-    same(&rt, both.tree.runs(), 2);
-    both.paste(3, 4, 1, ['\n', 'd', 'e'])?;
-    same(&rt, both.tree.runs(), 3);
-    both.paste(2, 1, 2, ['\n', '\n', 'f'])?;
-    assert!(rt; both.same());
-    same(&rt, both.tree.runs(), 7);
-    Ok(())
+impl Both {
+    fn take(&mut self, step: Step) -> Result<(), Fault> {
+        match step {
+            Step::Put(at, count, site, ch) => self.put(at, count, site, ch),
+            Step::Paste(at, count, site, text) => self.paste(at, count, site, text),
+            Step::Remove(site, first, last) => self.remove(span(site, first, last)),
+            Step::Tag(site, first, last) => self.tag(span(site, first, last)),
+        }
+    }
 }
 
-// A stamp that is there already: its cells come in as runs of one cell, and are marked with the others.
-#[test]
-fn stamps_twice(rt: HostRuntime) -> Result<(), Fail> {
-    let mut both = Both::new(rt.alloc())?;
-    both.paste(0, 1, 1, ['a', 'b', 'c'])?;
-    both.paste(1, 2, 1, ['d', 'e', 'f'])?;
-    assert!(rt; both.same());
-    same(&rt, both.tree.runs(), 6);
-    both.paste(0, 7, 1, ['g', 'h', 'i'])?;
-    both.put(3, 10, 1, 'j')?;
-    same(&rt, both.tree.runs(), 7);
-    both.remove(span(1, 2, 2))?;
-    assert!(rt; both.same());
-    same(&rt, both.tree.runs(), 8);
-    both.tag(span(1, 3, 8))?;
-    assert!(rt; both.same());
-    assert!(rt; both.same_by_stamps());
-    Ok(())
-}
+/// Steps, and how many runs there are then, where that is told.
+type Row = (&'static [Step], Option<usize>);
 
-// Cells that become gone, or get a tag.
-#[test]
-fn marking(rt: HostRuntime) -> Result<(), Fail> {
-    let mut both = Both::new(rt.alloc())?;
-    both.paste(0, 1, 1, ['a', 'b', 'c'])?;
-    both.paste(3, 4, 1, ['\n', 'd', 'e'])?;
-    both.remove(span(1, 2, 5))?;
-    assert!(rt; both.same());
-    same(&rt, both.tree.runs(), 5);
-    both.tag(span(1, 3, 6))?;
-    same(&rt, both.tree.runs(), 6);
-    both.tag(span(0, 1, 1))?;
-    assert!(rt; both.same());
+// Stops a test where there are other runs after steps, or both differ.
+fn comes_out(rt: &impl Abort, alloc: Global, rows: &[Row]) -> Result<(), Fail> {
+    let mut both = Both::new(alloc)?;
+    for (steps, runs) in rows {
+        for step in *steps {
+            both.take(*step)?;
+        }
+        assert!(rt; both.same());
+        assert!(rt; runs.is_none() || *runs == Some(both.tree.runs()));
+    }
     assert!(rt; both.same_by_stamps());
     for place in 0..5 {
         assert!(rt; both.same_characters(place));
+    }
+    Ok(())
+}
+
+// What is typed on makes its run longer; cells that don't follow make another.
+const TYPED: &[Row] = &[
+    (
+        &[
+            Step::Put(0, 1, 1, 'a'),
+            Step::Put(1, 2, 1, 'b'),
+            Step::Put(2, 3, 1, '\n'),
+        ],
+        Some(2),
+    ),
+    (&[Step::Put(3, 4, 1, 'c'), Step::Put(1, 5, 2, 'x')], Some(5)),
+];
+
+// A stretch that is pasted is one run, or more where a newline ends one.
+const PASTED: &[Row] = &[
+    (&[Step::Paste(0, 1, 1, ['a', 'b', 'c'])], Some(2)),
+    (&[Step::Paste(3, 4, 1, ['\n', 'd', 'e'])], Some(3)),
+    (&[Step::Paste(2, 1, 2, ['\n', '\n', 'f'])], Some(7)),
+];
+
+// A stamp that is there already: its cells come in as runs of one cell, and are marked with the others.
+const TWICE: &[Row] = &[
+    (
+        &[
+            Step::Paste(0, 1, 1, ['a', 'b', 'c']),
+            Step::Paste(1, 2, 1, ['d', 'e', 'f']),
+        ],
+        Some(6),
+    ),
+    (
+        &[
+            Step::Paste(0, 7, 1, ['g', 'h', 'i']),
+            Step::Put(3, 10, 1, 'j'),
+        ],
+        Some(7),
+    ),
+    (&[Step::Remove(1, 2, 2)], Some(8)),
+    (&[Step::Tag(1, 3, 8)], None),
+];
+
+// Cells that become gone, or get a tag.
+const MARKED: &[Row] = &[
+    (
+        &[
+            Step::Paste(0, 1, 1, ['a', 'b', 'c']),
+            Step::Paste(3, 4, 1, ['\n', 'd', 'e']),
+            Step::Remove(1, 2, 5),
+        ],
+        Some(5),
+    ),
+    (&[Step::Tag(1, 3, 6)], Some(6)),
+    (&[Step::Tag(0, 1, 1)], None),
+];
+
+#[test]
+fn runs_of_cells(rt: HostRuntime) -> Result<(), Fail> {
+    for rows in [TYPED, PASTED, TWICE, MARKED] {
+        comes_out(&rt, rt.alloc(), rows)?;
     }
     Ok(())
 }

@@ -1,5 +1,5 @@
 // The words of lines and of lists.
-use crate::checks::{same, same_in};
+use crate::checks::same_in;
 use rt_stamps::Fault;
 use rt_words::words::{list_words, words};
 use std::alloc::Global;
@@ -16,27 +16,40 @@ fn barred(alloc: Global, words: &[String]) -> Result<String, Fault> {
     Ok(text)
 }
 
-// Stops a test where the words of a text are others than those wanted, each behind a bar.
-fn assert_words(
-    rt: &impl Abort,
-    alloc: Global,
-    found: &[String],
-    text: &str,
-    want: &str,
-) -> Result<(), Fault> {
-    same_in(rt, barred(alloc, found)?.as_str(), want, text);
-    Ok(())
+// A bar before each word, or that there are none.
+fn told(alloc: Global, found: Result<Vec<String>, Fault>) -> Result<String, Fault> {
+    match found {
+        Ok(list) => barred(alloc, &list),
+        Err(Fault::BadQuoting) => String::from_str(alloc, "refused").map_err(Fault::from),
+        Err(fault) => Err(fault),
+    }
 }
 
-// The words of each line of a table.
-fn line_by_line(rt: &impl Abort, alloc: Global, rows: &[(&str, &str)]) -> Result<(), Fail> {
+/// Texts, each with its words behind bars.
+type Rows = &'static [(&'static str, &'static str)];
+
+// Stops a test where the words of a line are others than those wanted.
+fn lines(rt: &impl Abort, alloc: Global, rows: Rows) -> Result<(), Fail> {
     for (line, want) in rows {
-        assert_words(rt, alloc, &words(alloc, line)?, line, want)?;
+        same_in(rt, told(alloc, words(alloc, line))?.as_str(), *want, line);
     }
     Ok(())
 }
 
-const BARE_WORDS: &[(&str, &str)] = &[
+// The same of lists.
+fn lists(rt: &impl Abort, alloc: Global, rows: Rows) -> Result<(), Fail> {
+    for (list, want) in rows {
+        same_in(
+            rt,
+            told(alloc, list_words(alloc, list))?.as_str(),
+            *want,
+            list,
+        );
+    }
+    Ok(())
+}
+
+const BARE_WORDS: Rows = &[
     ("", ""),
     (" \t ", ""),
     ("a", "|a"),
@@ -48,12 +61,7 @@ const BARE_WORDS: &[(&str, &str)] = &[
     ("é\u{a0}ü \u{1f600}", "|é\u{a0}ü|\u{1f600}"),
 ];
 
-#[test]
-fn bare_words(rt: HostRuntime) -> Result<(), Fail> {
-    line_by_line(&rt, rt.alloc(), BARE_WORDS)
-}
-
-const QUOTED_WORDS: &[(&str, &str)] = &[
+const QUOTED_WORDS: Rows = &[
     ("\"\"", "|"),
     ("\"\" a \"\"", "||a|"),
     ("\"a b\"", "|a b"),
@@ -65,12 +73,7 @@ const QUOTED_WORDS: &[(&str, &str)] = &[
     ("\"a\r} { b\"", "|a\r} { b"),
 ];
 
-#[test]
-fn quoted_words(rt: HostRuntime) -> Result<(), Fail> {
-    line_by_line(&rt, rt.alloc(), QUOTED_WORDS)
-}
-
-const BRACED_WORDS: &[(&str, &str)] = &[
+const BRACED_WORDS: Rows = &[
     ("{}", "|"),
     ("{} {} a", "|||a"),
     ("{a b}", "|a b"),
@@ -81,13 +84,8 @@ const BRACED_WORDS: &[(&str, &str)] = &[
     ("{é {\u{1f600}}}", "|é {\u{1f600}}"),
 ];
 
-#[test]
-fn braced_words(rt: HostRuntime) -> Result<(), Fail> {
-    line_by_line(&rt, rt.alloc(), BRACED_WORDS)
-}
-
 // The words of replies, and the bytes that the lines of answers have for them.
-const LINES_OF_REPLIES: &[(&str, &str)] = &[
+const LINES_OF_REPLIES: Rows = &[
     ("=", "|="),
     ("= 2.0", "|=|2.0"),
     ("= \"hello\\n\"", "|=|hello\n"),
@@ -99,13 +97,8 @@ const LINES_OF_REPLIES: &[(&str, &str)] = &[
     ("= é#$[ \u{1f600}", "|=|é#$[|\u{1f600}"),
 ];
 
-#[test]
-fn lines_of_replies(rt: HostRuntime) -> Result<(), Fail> {
-    line_by_line(&rt, rt.alloc(), LINES_OF_REPLIES)
-}
-
 // Newlines stand between the words of a list; within quotes and braces they are the word's.
-const LISTS: &[(&str, &str)] = &[
+const LISTS: Rows = &[
     ("", ""),
     (" \t\n \n", ""),
     ("a", "|a"),
@@ -117,95 +110,78 @@ const LISTS: &[(&str, &str)] = &[
     ("a\rb\u{a0}c", "|a\rb\u{a0}c"),
 ];
 
-#[test]
-fn lists(rt: HostRuntime) -> Result<(), Fail> {
-    for (list, want) in LISTS {
-        assert_words(&rt, rt.alloc(), &list_words(rt.alloc(), list)?, list, want)?;
-    }
-    Ok(())
-}
-
 // A newline that stands bare in a line is a character of its word.
-const NEWLINES: &[(&str, &str, &str)] = &[
-    ("a\nb", "|a\nb", "|a|b"),
-    ("\n", "|\n", ""),
-    ("a \n b", "|a|\n|b", "|a|b"),
-    ("a\n{b", "|a\n{b", "refused"),
-    ("{a}\nb", "refused", "|a|b"),
+const NEWLINES_IN_LINES: Rows = &[
+    ("a\nb", "|a\nb"),
+    ("\n", "|\n"),
+    ("a \n b", "|a|\n|b"),
+    ("a\n{b", "|a\n{b"),
+    ("{a}\nb", "refused"),
+];
+
+const NEWLINES_IN_LISTS: Rows = &[
+    ("a\nb", "|a|b"),
+    ("\n", ""),
+    ("a \n b", "|a|b"),
+    ("a\n{b", "refused"),
+    ("{a}\nb", "|a|b"),
+];
+
+const REFUSED_LISTS: Rows = &[
+    ("\"", "refused"),
+    ("{", "refused"),
+    ("a\n\"b", "refused"),
+    ("\"a\"b", "refused"),
+    ("{a}b\n", "refused"),
+    ("a\n{b\n", "refused"),
+    ("\"\\\n\"", "refused"),
+    ("\"a\n", "refused"),
+    ("{}\n}{\n{", "refused"),
+];
+
+const REFUSED_LINES: Rows = &[
+    ("\"", "refused"),
+    ("\"a", "refused"),
+    ("a \"b", "refused"),
+    ("\"a\\", "refused"),
+    ("\"a\\\"", "refused"),
+    ("\"a\"b", "refused"),
+    ("\"a\"\"b\"", "refused"),
+    ("\"\"{}", "refused"),
+    ("\"\\x\"", "refused"),
+    ("\"\\", "refused"),
+    ("\"\\ \"", "refused"),
+    ("\"\\é\"", "refused"),
+    ("\"a\"\u{a0}", "refused"),
+    ("{", "refused"),
+    ("{a", "refused"),
+    ("{a{b}", "refused"),
+    ("{a}b", "refused"),
+    ("{a}}", "refused"),
+    ("{}{}", "refused"),
+    ("{}\"\"", "refused"),
+    ("a \t{b", "refused"),
+    ("a {b} \"c\\q\"", "refused"),
+    ("{a\\}}", "refused"),
 ];
 
 #[test]
-fn newlines(rt: HostRuntime) -> Result<(), Fail> {
-    for (text, of_line, of_list) in NEWLINES {
-        let line = told(rt.alloc(), words(rt.alloc(), text))?;
-        same(&rt, line.as_str(), *of_line);
-        let list = told(rt.alloc(), list_words(rt.alloc(), text))?;
-        same(&rt, list.as_str(), *of_list);
-    }
-    Ok(())
+fn words_of_lines(rt: HostRuntime) -> Result<(), Fail> {
+    lines(&rt, rt.alloc(), BARE_WORDS)?;
+    lines(&rt, rt.alloc(), QUOTED_WORDS)?;
+    lines(&rt, rt.alloc(), BRACED_WORDS)?;
+    lines(&rt, rt.alloc(), LINES_OF_REPLIES)
 }
-
-// A bar before each word, or that there are none.
-fn told(alloc: Global, found: Result<Vec<String>, Fault>) -> Result<String, Fault> {
-    match found {
-        Ok(list) => barred(alloc, &list),
-        Err(Fault::BadQuoting) => String::from_str(alloc, "refused").map_err(Fault::from),
-        Err(fault) => Err(fault),
-    }
-}
-
-const REFUSED_LISTS: &[&str] = &[
-    "\"",
-    "{",
-    "a\n\"b",
-    "\"a\"b",
-    "{a}b\n",
-    "a\n{b\n",
-    "\"\\\n\"",
-    "\"a\n",
-    "{}\n}{\n{",
-];
 
 #[test]
-fn refused_lists(rt: HostRuntime) -> Result<(), Fail> {
-    for list in REFUSED_LISTS {
-        let refused = list_words(rt.alloc(), list).err();
-        same_in(&rt, refused, Some(Fault::BadQuoting), list);
-    }
-    Ok(())
+fn lines_that_are_refused(rt: HostRuntime) -> Result<(), Fail> {
+    lines(&rt, rt.alloc(), NEWLINES_IN_LINES)?;
+    lines(&rt, rt.alloc(), REFUSED_LINES)
 }
 
-const REFUSED_LINES: &[&str] = &[
-    "\"",
-    "\"a",
-    "a \"b",
-    "\"a\\",
-    "\"a\\\"",
-    "\"a\"b",
-    "\"a\"\"b\"",
-    "\"\"{}",
-    "\"\\x\"",
-    "\"\\",
-    "\"\\ \"",
-    "\"\\é\"",
-    "\"a\"\u{a0}",
-    "{",
-    "{a",
-    "{a{b}",
-    "{a}b",
-    "{a}}",
-    "{}{}",
-    "{}\"\"",
-    "a \t{b",
-    "a {b} \"c\\q\"",
-    "{a\\}}",
-];
-
 #[test]
-fn refused_lines(rt: HostRuntime) -> Result<(), Fail> {
-    for line in REFUSED_LINES {
-        let refused = words(rt.alloc(), line).err();
-        same_in(&rt, refused, Some(Fault::BadQuoting), line);
-    }
-    Ok(())
+fn words_of_lists(rt: HostRuntime) -> Result<(), Fail> {
+    lists(&rt, rt.alloc(), LISTS)?;
+    lists(&rt, rt.alloc(), NEWLINES_IN_LISTS)?;
+    lists(&rt, rt.alloc(), REFUSED_LISTS)
 }

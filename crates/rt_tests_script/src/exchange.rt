@@ -3,6 +3,7 @@ ghost use Rattle.std.specs.Prelude.{◌≡◌, ◌≤◌, IfOk, OnOk};
 ghost use Rattle.rt_script.specs.Site.{AreWithin};
 
 use crate::checks::same;
+use crate::samples::{INSERT_BEFORE_LAST, LEAVES_SEVEN, LEAVES_SIX};
 use crate::sites::{Script, answered, new_site};
 use rt_samples::files::{
     AFTER_DELETE, AFTER_ITSELF, CUT, DELETE_FINAL, DELETE_SECOND, INSERT_AB, INSERT_B, INSERT_LAST,
@@ -32,8 +33,8 @@ fn add_file(
     Ok(())
 }
 
-// Files as they are handed in.
-fn given(alloc: Global, files: &[(&str, &[u8])]) -> Result<Vec<(String, Vec<u8>)>, Fail>
+/// Files as they are handed in.
+pub(crate) fn given(alloc: Global, files: &[(&str, &[u8])]) -> Result<Vec<(String, Vec<u8>)>, Fail>
     ensures { IfOk result (λ files. AreWithin files.items) }
 {
     let mut given = Vec::new(alloc);
@@ -94,6 +95,10 @@ pub(crate) fn receive_all(
         ("empty", b""),
         ("magic", b"XGATEXT1"),
         ("version", b"RGATEXT9"),
+        ("front", &INSERT_AB[..43]),
+        ("before_last", INSERT_BEFORE_LAST),
+        ("leaves_six", LEAVES_SIX),
+        ("leaves_seven", LEAVES_SEVEN),
     ];
     for (number, script) in table {
         let _log = session(rt, alloc, *number, files, &[*script])?;
@@ -222,6 +227,7 @@ const RECEIVED: &[(u16, Script<'static>)] = &[
             ("receive ab", "= 1 0"),
             ("receive ab", "= 0 1"),
             (".t get 1.0 end", r#"= "ab\n""#),
+            ("receive front", "! 32 Truncated at 8 new 0 repeat 0"),
         ],
     ),
     (
@@ -377,16 +383,41 @@ const BEFORE_LONG: &[u8] =
 const AFTER_LONG: &[u8] =
     b"\0\0\0\x1f\x01\0\0\0\0\0\x01\0\0\0\x01\0\0\0\0\0\0\xff\xff\0\0\0\0\0\0\xff\xff\0\x01\0x";
 
-// A second site receives a text of two operations.
-#[test]
-fn a_text_of_two_operations(rt: HostRuntime) -> Result<(), Fail> {
-    let alloc = rt.alloc();
+// The file.
+fn long_file(alloc: Global) -> Result<Vec<u8>, AllocError> {
     let mut file = Vec::new(alloc);
     file.extend_from_slice(BEFORE_LONG)?;
     for _ in 0..65_535usize {
         file.push(b'x')?;
     }
     file.extend_from_slice(AFTER_LONG)?;
+    Ok(file)
+}
+
+// The line by which they are typed.
+fn long_line(alloc: Global) -> Result<String, AllocError> {
+    let mut line = String::from_str(alloc, ".t insert 1.0 ")?;
+    for _ in 0..65_536usize {
+        line.push('x')?;
+    }
+    Ok(line)
+}
+
+#[test]
+fn a_text_makes_two_operations(rt: HostRuntime) -> Result<(), Fail> {
+    let line = long_line(rt.alloc())?;
+    let typed = [(line.as_str(), "=")];
+    let log = session(&rt, rt.alloc(), 1, &[], &[&typed])?;
+    let file = long_file(rt.alloc())?;
+    same(&rt, log.as_slice(), file.as_slice());
+    Ok(())
+}
+
+// A second site receives a text of two operations.
+#[test]
+fn a_text_of_two_operations(rt: HostRuntime) -> Result<(), Fail> {
+    let alloc = rt.alloc();
+    let file = long_file(alloc)?;
     same(&rt, file.len(), 65_612);
     let received = [
         ("receive long", "= 2 0"),

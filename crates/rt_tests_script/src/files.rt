@@ -1,6 +1,7 @@
 // Files of operations, joined and shown.
 ghost use Rattle.std.specs.Prelude.{◌≡◌, ◌<◌};
 
+use crate::samples::{DELETE_AND_TAG, INSERT_ACCENTS, INSERT_QUOTED};
 use rt_samples::files::{
     AFTER_ITSELF, CUT, DELETE_FINAL, DELETE_SECOND, INSERT_AB, INSERT_B, INSERT_LAST, INSERT_Y,
     SHORT_LENGTH, TAG_FIRST,
@@ -23,7 +24,8 @@ fn whole(bytes: &[u8]) -> Pieces<'_> {
     }
 }
 
-fn in_pieces(bytes: &[u8], size: usize) -> Pieces<'_> {
+/// A file that is read in pieces of a size.
+pub(crate) fn in_pieces(bytes: &[u8], size: usize) -> Pieces<'_> {
     Pieces {
         bytes,
         size,
@@ -67,7 +69,8 @@ fn join_in<A: Ledger, B: Ledger, C: Ledger, D: Ledger>(
     join_files(alloc, &mut one, &mut other)
 }
 
-fn joined(alloc: Global, one: Pieces, other: Pieces) -> Result<Vec<u8>, JoinFault> {
+/// The bytes of the join of two files.
+pub(crate) fn joined(alloc: Global, one: Pieces, other: Pieces) -> Result<Vec<u8>, JoinFault> {
     join_in::<Brand, Brand, Brand, Brand>(
         alloc,
         one,
@@ -124,8 +127,8 @@ fn show_in<A: Ledger, B: Ledger, C: Ledger, D: Ledger>(
     (bytes, fault)
 }
 
-// What is shown of a file, where the write of a number fails.
-fn shown(
+/// What is shown of a file, where the write of a number fails.
+pub(crate) fn shown(
     alloc: Global,
     source: Pieces,
     until_failure: Option<usize>,
@@ -155,7 +158,13 @@ pub(crate) fn text_of(alloc: Global, lines: &[&str]) -> Result<String, AllocErro
     Ok(text)
 }
 
-fn is_shown(alloc: Global, source: Pieces, text: &str, fault: Option<(Fault, u64)>) -> bool {
+/// Whether these lines and this fault are shown of a file.
+pub(crate) fn is_shown(
+    alloc: Global,
+    source: Pieces,
+    text: &str,
+    fault: Option<(Fault, u64)>,
+) -> bool {
     let (bytes, found) = shown(alloc, source, None);
     bytes.as_slice() == text.as_bytes() && found == fault
 }
@@ -170,8 +179,8 @@ fn changed(alloc: Global, bytes: &[u8], place: usize, byte: u8) -> Result<Vec<u8
     Ok(copy)
 }
 
-// A file, and the records of another behind its own.
-fn followed(alloc: Global, bytes: &[u8], more: &[u8]) -> Result<Vec<u8>, Fail> {
+/// A file, and the records of another behind its own.
+pub(crate) fn followed(alloc: Global, bytes: &[u8], more: &[u8]) -> Result<Vec<u8>, Fail> {
     let mut copy = Vec::new(alloc);
     copy.extend_from_slice(bytes)?;
     copy.extend_from_slice(more.get(8..).unwrap_or(b""))?;
@@ -184,7 +193,7 @@ type Joined<'a> = (&'a [u8], &'a [u8], &'a [u8]);
 // Each file is read whole and in pieces.
 fn all_give(rt: &impl Abort, alloc: Global, rows: &[Joined]) {
     for (one, other, wanted) in rows {
-        for size in [1, 7, 4096] {
+        for size in [1, 2, 3, 5, 7, 100, 4096] {
             assert!(rt; gives(alloc, in_pieces(*one, size), whole(*other), *wanted));
             assert!(rt; gives(alloc, whole(*one), in_pieces(*other, size), *wanted));
         }
@@ -196,6 +205,10 @@ const JOINED: &[Joined<'static>] = &[
     (b"RGATEXT1", INSERT_AB, INSERT_AB),
     (INSERT_AB, b"RGATEXT1", INSERT_AB),
     (INSERT_AB, INSERT_AB, INSERT_AB),
+    (DELETE_SECOND, DELETE_SECOND, DELETE_SECOND),
+    (INSERT_Y, INSERT_Y, INSERT_Y),
+    (INSERT_LAST, INSERT_LAST, INSERT_LAST),
+    (TAG_FIRST, TAG_FIRST, TAG_FIRST),
     (INSERT_AB, DELETE_SECOND, DELETE_SECOND),
     (DELETE_FINAL, DELETE_FINAL, DELETE_FINAL),
 ];
@@ -230,6 +243,7 @@ fn are_refused(rt: &impl Abort, alloc: Global, rows: &[Refused]) {
 
 const REFUSED: &[Refused<'static>] = &[
     (INSERT_B, INSERT_AB, (0, Fault::Conflict, 0)),
+    (INSERT_AB, INSERT_B, (0, Fault::Conflict, 0)),
     (DELETE_SECOND, TAG_FIRST, (0, Fault::Conflict, 0)),
     (AFTER_ITSELF, INSERT_AB, (1, Fault::BadStamp, 8)),
     (INSERT_AB, AFTER_ITSELF, (2, Fault::BadStamp, 8)),
@@ -295,15 +309,25 @@ fn failed_reads_of_a_join(rt: HostRuntime) -> Result<(), Fail> {
     Ok(())
 }
 
-const AB: &str = "insert 1.1 prev 0 after 0.0 text ab tags";
+pub(crate) const AB: &str = "insert 1.1 prev 0 after 0.0 text ab tags";
 
-const SECOND_GOES: &str = "delete 3.1 prev 2 spans 1:2-2";
+pub(crate) const SECOND_GOES: &str = "delete 3.1 prev 2 spans 1:2-2";
 
-const FIRST_TAGGED: &str = "tag 3.1 prev 2 on t spans 1:1-1";
+pub(crate) const FIRST_TAGGED: &str = "tag 3.1 prev 2 on t spans 1:1-1";
 
 const LAST: &str = "insert 281474976710655.9 prev 0 after 0.0 text z tags";
 
 const UNSOUND: &str = "insert 1.1 prev 0 after 1.1 text a tags";
+
+const Y: &str = "insert 3.2 prev 0 after 1.1 text Y tags";
+
+const FINAL_GOES: &str = "delete 1.1 prev 0 spans 0:1-1";
+
+const QUOTED: &str = "insert 5.2 prev 0 after 4.3 text \"é\\n\\\"\u{1f600}\" tags a \"x y\"";
+
+const ACCENTS: &str = "insert 5.2 prev 0 after 0.0 text é# tags é";
+
+const UNTAGGED: &str = "tag 9.1 prev 2 off \"a b\" spans 0:1-1 7:3-65536";
 
 /// A file, the lines of its operations, and its fault.
 type Shown = (&'static [u8], &'static [&'static str], Option<(Fault, u64)>);
@@ -314,10 +338,26 @@ const SHOWN: &[Shown] = &[
     (DELETE_SECOND, &[AB, SECOND_GOES], None),
     (TAG_FIRST, &[AB, FIRST_TAGGED], None),
     (INSERT_LAST, &[LAST], None),
+    (INSERT_Y, &[Y], None),
     (AFTER_ITSELF, &[UNSOUND], None),
+    (DELETE_FINAL, &[FINAL_GOES], None),
+    (INSERT_QUOTED, &[QUOTED], None),
+    (INSERT_ACCENTS, &[ACCENTS], None),
+    (DELETE_AND_TAG, &[SECOND_GOES, UNTAGGED], None),
     (CUT, &[AB], Some((Fault::Truncated, 44))),
     (SHORT_LENGTH, &[], Some((Fault::BadRecord, 8))),
+    (b"", &[], Some((Fault::Truncated, 0))),
+    (b"RGATEXT", &[], Some((Fault::Truncated, 0))),
+    (b"X", &[], Some((Fault::BadMagic, 0))),
+    (b"XGATEXT1", &[], Some((Fault::BadMagic, 0))),
+    (b"RGATEXX1", &[], Some((Fault::BadMagic, 0))),
     (b"RGATEXT9", &[], Some((Fault::BadVersion, 0))),
+    (b"RGATEXT1\0\0\0\x13\x04", &[], Some((Fault::Truncated, 8))),
+    (
+        b"RGATEXT1\x00\x20\x00\x01\x01",
+        &[],
+        Some((Fault::BadRecord, 8)),
+    ),
 ];
 
 #[test]

@@ -4,19 +4,35 @@
 #[cfg(test)]
 mod calls;
 #[cfg(test)]
+mod accepting;
+#[cfg(test)]
 mod checks;
 #[cfg(test)]
+mod commands;
+#[cfg(test)]
 mod exchange;
+#[cfg(test)]
+mod expressions;
 #[cfg(test)]
 mod files;
 #[cfg(test)]
 mod limit_borders;
 #[cfg(test)]
+mod found;
+#[cfg(test)]
+mod fronts;
+#[cfg(test)]
 mod limits;
 #[cfg(test)]
 mod lines;
 #[cfg(test)]
+mod logs;
+#[cfg(test)]
+mod many;
+#[cfg(test)]
 mod marks;
+#[cfg(test)]
+mod options;
 #[cfg(test)]
 mod peers;
 #[cfg(test)]
@@ -24,9 +40,15 @@ mod replacements;
 #[cfg(test)]
 mod replies;
 #[cfg(test)]
+mod samples;
+#[cfg(test)]
 mod searches;
 #[cfg(test)]
+mod seen;
+#[cfg(test)]
 mod sites;
+#[cfg(test)]
+mod spent;
 #[cfg(test)]
 mod tags;
 #[cfg(test)]
@@ -35,3 +57,5 @@ mod texts;
 mod undoing;
 #[cfg(test)]
 mod undoing_sites;
+#[cfg(test)]
+mod widgets;

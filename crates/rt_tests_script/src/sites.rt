@@ -3,16 +3,22 @@ ghost use Rattle.std.specs.Prelude.{◌≡◌, ◌<◌, ◌≤◌};
 ghost use Rattle.rt_script.specs.Site.{AreWithin};
 
 use crate::checks::same;
+use crate::commands::{BAD_COMMANDS, BAD_OPTIONS, COMMANDS, MARKS_AND_TAGS, SEARCHES_AND_DUMPS};
+use crate::expressions::{BASES, MODIFIERS, NO_PLACES};
+use crate::found::{FOUND, SEARCH_WORDS};
 use crate::limits::{
     LIMIT_OPTIONS, LIMITED_MARKS, LIMITED_SEARCHES, LIMITED_TAGS, LIMITED_TEXT, MOVING_LIMITS,
 };
 use crate::marks::{INDICES, MARK_ORDER, MARK_PLACES, MARK_WORDS};
+use crate::options::{LIMIT_WORDS, OPTIONS, PEER_WORDS};
 use crate::peers::{OWN_PARTS, PEER_COMMANDS, PEERS, SHARED_PARTS};
 use crate::replacements::{DUMPS, FULL_SITE, REPLACEMENTS};
 use crate::searches::SEARCHES;
+use crate::seen::SEEN;
 use crate::tags::{TAG_COMMANDS, TAG_REFUSALS, TAG_WRITES, TAGGED_TEXT};
 use crate::texts::{DELETIONS, RANGES, TEXTS};
 use crate::undoing::{COMING_BACK, FLAGS, GROUPING, UNDOING, UNDOING_FULL};
+use crate::widgets::{MARKS_IN_ORDER, REMOVALS, SELECTIONS, TAGGED_UNDO};
 use rt_samples::{Output, Pieces};
 use rt_script::{Ended, SiteState, run};
 use rt_stamps::limits::MOST_CELLS;
@@ -120,6 +126,29 @@ fn replies_of(alloc: Global, script: Script, count: usize) -> Result<String, All
     Ok(replies)
 }
 
+/// Runs lines on a site that may receive files, in pieces of a size, looks at its reply lines, and gives the site back.
+pub(crate) fn gives(
+    rt: &impl Abort,
+    alloc: Global,
+    state: SiteState,
+    files: &[(String, Vec<u8>)],
+    lines: &str,
+    replies: &str,
+    size: usize,
+) -> Result<SiteState, Fail>
+    requires { AreWithin files.now }
+{
+    let pieces = Pieces {
+        bytes: lines.as_bytes(),
+        size,
+        until_failure: None,
+    };
+    let (text, ended) = run_of(alloc, state, files, pieces, None);
+    assert_eq!(rt; text.as_slice(), replies.as_bytes(), "{lines}");
+    same(rt, ended.fault, None);
+    Ok(ended.site)
+}
+
 /// Runs a script on a site that may receive files, in pieces of a size, looks at its replies, and gives
 /// the site back. In pieces of one byte the last line has no newline.
 pub(crate) fn answered(
@@ -134,15 +163,7 @@ pub(crate) fn answered(
 {
     let lines = lines_of(alloc, script, size > 1)?;
     let replies = replies_of(alloc, script, script.len())?;
-    let pieces = Pieces {
-        bytes: lines.as_bytes(),
-        size,
-        until_failure: None,
-    };
-    let (text, ended) = run_of(alloc, state, files, pieces, None);
-    assert_eq!(rt; text.as_slice(), replies.as_bytes(), "{lines}");
-    same(rt, ended.fault, None);
-    Ok(ended.site)
+    gives(rt, alloc, state, files, &lines, &replies, size)
 }
 
 // Runs each script of a table on a new site, in pieces of three sizes.
@@ -202,53 +223,67 @@ fn scripts_of_undoing(rt: HostRuntime) -> Result<(), Fail> {
 }
 
 #[test]
+fn scripts_of_expressions(rt: HostRuntime) -> Result<(), Fail> {
+    answer_all(&rt, rt.alloc(), BASES)?;
+    answer_all(&rt, rt.alloc(), MODIFIERS)?;
+    answer_all(&rt, rt.alloc(), NO_PLACES)
+}
+
+#[test]
+fn scripts_of_searches(rt: HostRuntime) -> Result<(), Fail> {
+    answer_all(&rt, rt.alloc(), FOUND)?;
+    answer_all(&rt, rt.alloc(), SEARCH_WORDS)
+}
+
+#[test]
+fn scripts_of_commands(rt: HostRuntime) -> Result<(), Fail> {
+    answer_all(&rt, rt.alloc(), COMMANDS)?;
+    answer_all(&rt, rt.alloc(), SEARCHES_AND_DUMPS)?;
+    answer_all(&rt, rt.alloc(), MARKS_AND_TAGS)
+}
+
+#[test]
+fn scripts_of_words_that_are_refused(rt: HostRuntime) -> Result<(), Fail> {
+    answer_all(&rt, rt.alloc(), BAD_COMMANDS)?;
+    answer_all(&rt, rt.alloc(), BAD_OPTIONS)
+}
+
+#[test]
+fn scripts_of_options(rt: HostRuntime) -> Result<(), Fail> {
+    answer_all(&rt, rt.alloc(), OPTIONS)?;
+    answer_all(&rt, rt.alloc(), PEER_WORDS)?;
+    answer_all(&rt, rt.alloc(), LIMIT_WORDS)
+}
+
+#[test]
+fn scripts_of_widgets(rt: HostRuntime) -> Result<(), Fail> {
+    answer_all(&rt, rt.alloc(), SELECTIONS)?;
+    answer_all(&rt, rt.alloc(), MARKS_IN_ORDER)?;
+    answer_all(&rt, rt.alloc(), TAGGED_UNDO)?;
+    answer_all(&rt, rt.alloc(), REMOVALS)
+}
+
+#[test]
 fn scripts_of_peers(rt: HostRuntime) -> Result<(), Fail> {
-    answer_all(&rt, rt.alloc(), PEERS)
+    answer_all(&rt, rt.alloc(), PEERS)?;
+    answer_all(&rt, rt.alloc(), PEER_COMMANDS)?;
+    answer_all(&rt, rt.alloc(), OWN_PARTS)?;
+    answer_all(&rt, rt.alloc(), SHARED_PARTS)
 }
 
 #[test]
-fn scripts_of_limit_options(rt: HostRuntime) -> Result<(), Fail> {
-    answer_all(&rt, rt.alloc(), LIMIT_OPTIONS)
-}
-
-#[test]
-fn scripts_of_moving_limits(rt: HostRuntime) -> Result<(), Fail> {
-    answer_all(&rt, rt.alloc(), MOVING_LIMITS)
-}
-
-#[test]
-fn scripts_of_limited_text(rt: HostRuntime) -> Result<(), Fail> {
+fn scripts_of_limits(rt: HostRuntime) -> Result<(), Fail> {
+    answer_all(&rt, rt.alloc(), LIMIT_OPTIONS)?;
+    answer_all(&rt, rt.alloc(), MOVING_LIMITS)?;
+    answer_all(&rt, rt.alloc(), SEEN)?;
     answer_all(&rt, rt.alloc(), LIMITED_TEXT)
 }
 
 #[test]
-fn scripts_of_limited_searches(rt: HostRuntime) -> Result<(), Fail> {
-    answer_all(&rt, rt.alloc(), LIMITED_SEARCHES)
-}
-
-#[test]
-fn scripts_of_limited_tags(rt: HostRuntime) -> Result<(), Fail> {
-    answer_all(&rt, rt.alloc(), LIMITED_TAGS)
-}
-
-#[test]
-fn scripts_of_limited_marks(rt: HostRuntime) -> Result<(), Fail> {
+fn scripts_of_limited_commands(rt: HostRuntime) -> Result<(), Fail> {
+    answer_all(&rt, rt.alloc(), LIMITED_SEARCHES)?;
+    answer_all(&rt, rt.alloc(), LIMITED_TAGS)?;
     answer_all(&rt, rt.alloc(), LIMITED_MARKS)
-}
-
-#[test]
-fn scripts_of_peer_commands(rt: HostRuntime) -> Result<(), Fail> {
-    answer_all(&rt, rt.alloc(), PEER_COMMANDS)
-}
-
-#[test]
-fn scripts_of_own_parts(rt: HostRuntime) -> Result<(), Fail> {
-    answer_all(&rt, rt.alloc(), OWN_PARTS)
-}
-
-#[test]
-fn scripts_of_shared_parts(rt: HostRuntime) -> Result<(), Fail> {
-    answer_all(&rt, rt.alloc(), SHARED_PARTS)
 }
 
 #[test]
@@ -262,6 +297,8 @@ const FULL: Script<'static> = &[
     (".t insert 1.0 abc", "! 18 TextFull"),
     (".t insert 1.0 ab", "="),
     (".t insert 1.0 c", "! 18 TextFull"),
+    (".t insert 1.0 ab", "! 18 TextFull"),
+    (".t insert 1.0 x", "! 18 TextFull"),
     (".t get 1.0 end", r#"= "ab\n""#),
 ];
 

@@ -1,6 +1,11 @@
-// Selected characters.
+// Selected characters, and a removal of nothing. What removals take is told by scripts (rt_tests_script).
+use crate::checks::same;
+use crate::store::Text;
 use rt_edits::Selection;
+use rt_edits::removal::removed_ranges;
 use rt_stamps::Stamp;
+use rt_store::TextStore;
+use rt_views::Stretch;
 use std::process::Abort;
 use std::test::Fail;
 
@@ -36,5 +41,18 @@ fn stamps_of_a_selection(rt: HostRuntime) -> Result<(), Fail> {
     selection.remove_one(stamp(2));
     has_exactly(&rt, &selection, [false, false, false, false, true]);
     has_exactly(&rt, &other, [true, false, true, true, false]);
+    Ok(())
+}
+
+// A removal of no ranges takes nothing.
+#[test]
+fn no_ranges(rt: HostRuntime) -> Result<(), Fail> {
+    let text = Text::of(rt.alloc(), &[(2, 'b', false), (1, 'a', false)])?;
+    let all = Stretch {
+        begin: 0,
+        end: text.store.visible(),
+    };
+    let removed = removed_ranges(rt.alloc(), &text.store, all, &[])?;
+    same(&rt, removed.len(), 0);
     Ok(())
 }

@@ -1,7 +1,0 @@
-use Rattle.rt_tests.proofs.show.lines_of.Given as goal
-
-abbrev pub ghosts-written-A-Ledger : goal.ghosts-written-A-Ledger
-ghosts-written-A-Ledger a = record { name = a.writes.name; parts = a.writes.parts }
-
-abbrev pub ghosts-written-B-Ledger : goal.ghosts-written-B-Ledger
-ghosts-written-B-Ledger a = record { name = a.failures.name; parts = a.failures.parts }
