@@ -2,9 +2,9 @@
 #![tactic(auto)]
 
 #[cfg(test)]
-mod calls;
-#[cfg(test)]
 mod accepting;
+#[cfg(test)]
+mod calls;
 #[cfg(test)]
 mod checks;
 #[cfg(test)]
@@ -16,11 +16,11 @@ mod expressions;
 #[cfg(test)]
 mod files;
 #[cfg(test)]
-mod limit_borders;
-#[cfg(test)]
 mod found;
 #[cfg(test)]
 mod fronts;
+#[cfg(test)]
+mod limit_borders;
 #[cfg(test)]
 mod limits;
 #[cfg(test)]
