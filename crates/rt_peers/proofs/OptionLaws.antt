@@ -139,6 +139,6 @@ pub created_refused : (place : ℕ) (path : Word) (state : State) (settings : Wi
     → Refuses (text_with_peer (text_led place state.text) settings) fault → Refuses (created place path state settings (path_check path state.paths)) fault
 created_refused place path state settings fault free (inl e) = inl e
 created_refused place path state settings fault free (inr e) = inr (
-  ap (λ b. created place path state settings (cond b (Some WidgetExists) None)) free
-  ∙ ap (as_outcome (λ text. (one_word path, with_widget place path state text))) e
-)
+    ap (λ b. created place path state settings (cond b (Some WidgetExists) None)) free
+    ∙ ap (as_outcome (λ text. (one_word path, with_widget place path state text))) e
+    )

@@ -35,3 +35,24 @@ pub(crate) fn other_paths(alloc: Global, paths: &[String], path: &str) -> Result
     }
     Ok(others)
 }
+
+/// Whether a command's name is `peer`.
+pub(crate) fn is_peer(name: &str) -> bool
+    ensures { result ≡ bytes_eq name.now (codes "peer") }
+{
+    name == "peer"
+}
+
+/// Whether a command's name is `configure`.
+pub(crate) fn is_configure(name: &str) -> bool
+    ensures { result ≡ bytes_eq name.now (codes "configure") }
+{
+    name == "configure"
+}
+
+/// Whether a command's name is `cget`.
+pub(crate) fn is_cget(name: &str) -> bool
+    ensures { result ≡ bytes_eq name.now (codes "cget") }
+{
+    name == "cget"
+}

@@ -1,9 +1,9 @@
 // A site, and what is asked of its widgets.
-ghost use Rattle.std.specs.Prelude.{◌≡◌, ◌<◌, ◌≤◌, IfOk, IfErr, length, map, string_bytes};
+ghost use Rattle.std.specs.Prelude.{◌≡◌, ◌∷◌, ◌<◌, ◌≤◌, IfOk, IfErr, length, map, string_bytes};
 ghost use Rattle.rt_stamps.specs.declared.limits.TheConstants.{MOST_CELLS};
 ghost use Rattle.rt_stamps.specs.Outcomes.{Answers};
 ghost use Rattle.rt_peers.specs.Peers.{HavePaths};
-ghost use Rattle.rt_peers.specs.SiteStep.{CommandGives, Gives, WidgetGives, by_widget, step_at};
+ghost use Rattle.rt_peers.specs.SiteStep.{AskingGives, CommandGives, Gives, OwnGives, WidgetGives, by_widget, step_at};
 ghost use Rattle.rt_peers.specs.State.{new_state};
 ghost use Rattle.rt_peers.specs.Step.{step};
 
@@ -11,7 +11,7 @@ mod exchange;
 mod options;
 mod peers;
 
-use crate::paths::place_of;
+use crate::paths::{is_cget, is_configure, is_peer, place_of};
 use crate::reply::Reply;
 use crate::text::EditedText;
 use rt_requests::Request;
@@ -104,6 +104,42 @@ impl SiteState {
         self.request(place, &request)
     }
 
+    // NAME WORDS of the widget at a place, which is neither `peer` nor `configure`.
+    fn run_asking(
+        &mut self,
+        place: usize,
+        words: &[String],
+        name: &str,
+        rest: &[String],
+    ) -> Result<Reply, Fault>
+        requires place { place < length self.old.paths }
+        requires words { map (λ w. string_bytes w) words.now ≡ name.now ∷ map (λ w. string_bytes w) rest.now }
+        ensures { AskingGives place name.now (map (λ w. string_bytes w) rest.now) self.old result self.new }
+    {
+        if is_cget(name) {
+            return self.run_cget(place, rest);
+        }
+        self.run_words(place, words)
+    }
+
+    // NAME WORDS of the widget at a place, which isn't `peer`.
+    fn run_own(
+        &mut self,
+        place: usize,
+        words: &[String],
+        name: &str,
+        rest: &[String],
+    ) -> Result<Reply, Fault>
+        requires place { place < length self.old.paths }
+        requires words { map (λ w. string_bytes w) words.now ≡ name.now ∷ map (λ w. string_bytes w) rest.now }
+        ensures { OwnGives place name.now (map (λ w. string_bytes w) rest.now) self.old result self.new }
+    {
+        if is_configure(name) {
+            return self.run_configure(place, rest);
+        }
+        self.run_asking(place, words, name, rest)
+    }
+
     // COMMAND WORDS of the widget of a path, which is the one at a place.
     fn run(&mut self, path: &str, place: usize, words: &[String]) -> Result<Reply, Fault>
         requires { place < length self.old.paths }
@@ -112,12 +148,10 @@ impl SiteState {
         let Some((name, rest)) = words.split_first() else {
             return self.run_words(place, words);
         };
-        match name.as_str() {
-            "peer" => self.run_peer(path, place, rest),
-            "configure" => self.run_configure(place, rest),
-            "cget" => self.run_cget(place, rest),
-            _ => self.run_words(place, words),
+        if is_peer(name) {
+            return self.run_peer(path, place, rest);
         }
+        self.run_own(place, words, name, rest)
     }
 
     /// `PATH COMMAND WORDS` (Tk text manual): runs a command of the widget of a path. Refused by the
