@@ -1,7 +1,7 @@
 // Commands of a widget that shows some lines of a text. Each of the characters a, b, c and d stands on a line of its own.
 use rt_edits::Range;
 use rt_requests::Measure;
-use rt_stamps::{Fault, Position, Site};
+use rt_stamps::{Fault, Position, Site, check_name};
 use rt_store::ListStore;
 use rt_text::{OwnMark, Piece, View};
 use rt_views::Choice;
@@ -97,6 +97,7 @@ impl Page {
     }
 
     fn tag(&mut self, name: &str, from: usize, to: usize) -> Result<(), Fault> {
+        check_name(name)?;
         self.view.write_tag(true, name, &[Range { from, to }])
     }
 }
