@@ -43,12 +43,14 @@ fn stamps_of_a_selection(rt: HostRuntime) -> Result<(), Fail> {
 
 // A removal of no ranges takes nothing.
 #[test]
+#[tactic(auto, using(rt_edits::proofs::PlaceLaws::length_text))]
 fn no_ranges(rt: HostRuntime) -> Result<(), Fail> {
     let text = Text::of(rt.alloc(), &[(2, 'b', false), (1, 'a', false)])?;
-    let all = Stretch {
-        begin: 0,
-        end: text.store.visible(),
-    };
+    let end = text.store.visible();
+    if end == 0 {
+        return Err(Fail::from("no last newline"));
+    }
+    let all = Stretch { begin: 0, end };
     let removed = removed_ranges(rt.alloc(), &text.store, all, &[])?;
     same(&rt, removed.len(), 0);
     Ok(())
