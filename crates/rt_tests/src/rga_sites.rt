@@ -299,33 +299,44 @@ fn kept(alloc: Global, peer: &Peer) -> Result<String, Fail> {
     Ok(text)
 }
 
-// Whatever comes of some steps by chance: once each site was offered all, each has the plain reading.
-fn agree(rt: &impl Abort, alloc: Global, seed: u64) -> Result<(), Fail> {
-    let mut sites = Sites::new(alloc)?;
+// Some steps by chance: the operations that were made.
+fn played(rt: &impl Abort, alloc: Global, sites: &mut Sites, seed: u64) -> Result<Vec<Made>, Fail> {
     let mut all = Vec::new(alloc);
     let mut dice = Dice { seen: seed };
     for _ in 0..300 {
         if dice.below(4) == 0 {
-            make(rt, &mut sites, &mut all, &mut dice)?;
+            make(rt, sites, &mut all, &mut dice)?;
         } else {
-            offer(rt, &mut sites, &all, &mut dice);
+            offer(rt, sites, &all, &mut dice);
         }
     }
-    let wanted = plain_reading(alloc, &all)?;
-    for place in 0..3 {
-        let peer = sites.pick(place);
-        for made in &all {
-            assert!(rt; !matches!(peer.offer(*made), Said::Refused(_)));
-        }
-        same(rt, kept(alloc, peer)?.as_str(), wanted.as_str());
+    Ok(all)
+}
+
+// Once a site was offered all operations, it has their plain reading.
+fn agrees(
+    rt: &impl Abort,
+    alloc: Global,
+    peer: &mut Peer,
+    all: &[Made],
+    wanted: &str,
+) -> Result<(), Fail> {
+    for made in all {
+        assert!(rt; !matches!(peer.offer(*made), Said::Refused(_)));
     }
+    same(rt, kept(alloc, peer)?.as_str(), wanted);
     Ok(())
 }
 
 #[test]
 fn sites_agree_with_the_plain_reading(rt: HostRuntime) -> Result<(), Fail> {
     for seed in 1..4 {
-        agree(&rt, rt.alloc(), seed)?;
+        let mut sites = Sites::new(rt.alloc())?;
+        let all = played(&rt, rt.alloc(), &mut sites, seed)?;
+        let wanted = plain_reading(rt.alloc(), &all)?;
+        for place in 0..3 {
+            agrees(&rt, rt.alloc(), sites.pick(place), &all, wanted.as_str())?;
+        }
     }
     Ok(())
 }

@@ -102,16 +102,6 @@ pub(crate) fn typing(alloc: Global) -> Result<Vec<Action>, Fault>
     Ok(group)
 }
 
-// The second character was removed.
-pub(crate) fn cutting(alloc: Global, number: u64) -> Result<Vec<Action>, Fault>
-    ensures given { IfOk result (λ group. AreGiven (record { names = []; states = [] ∷ [] }) (group_of group.items)) }
-    ensures sound { IfOk result (λ group. AreSound (named_group (record { names = []; states = [] ∷ [] }) (group_of group.items))) }
-{
-    let mut group = Vec::new(alloc);
-    group.push(cut(alloc, number, 2, 2)?)?;
-    Ok(group)
-}
-
 // `ab` was typed, and `b` removed.
 fn typing_and_cutting(alloc: Global) -> Result<Vec<Action>, Fault>
     ensures given { IfOk result (λ group. AreGiven (record { names = []; states = [] ∷ [] }) (group_of group.items)) }

@@ -5,7 +5,7 @@ ghost use Rattle.rt_revert.specs.Plans.{AreGiven, named_group};
 ghost use Rattle.rt_revert.specs.ReversionLaws.{AreSound};
 
 use crate::checks::same;
-use crate::undo_planning::{cutting, typing};
+use crate::undo_planning::typing;
 use rt_stamps::{Fault, Site};
 use rt_store::ListStore;
 use rt_tags::StateTable;
@@ -53,12 +53,6 @@ impl Page {
         self.view.insert("1.0", &pieces, "")
     }
 
-    fn delete(&mut self, alloc: Global, index: &str) -> Result<(), Fault> {
-        let mut indices = Vec::new(alloc);
-        indices.push(String::from_str(alloc, index)?)?;
-        self.view.delete(&indices)
-    }
-
     fn revert(
         &mut self,
         alloc: Global,
@@ -103,18 +97,5 @@ fn typing_is_undone_and_redone(rt: HostRuntime) -> Result<(), Fail> {
     page.shows(&rt, "ab\n", 2)?;
     same(&rt, page.tagged(), (Some(0), Some(2)));
     same(&rt, (undone.returns.len(), redone.returns.len()), (0, 2));
-    Ok(())
-}
-
-// A newline comes back under another stamp.
-#[test]
-fn a_newline_comes_back(rt: HostRuntime) -> Result<(), Fail> {
-    let mut page = Page::new(rt.alloc())?;
-    page.view.insert("1.0", &[], "a\nb\nc\nd")?;
-    page.delete(rt.alloc(), "1.1")?;
-    let mut kept = StateTable::new(rt.alloc())?;
-    let undone = page.revert(rt.alloc(), &cutting(rt.alloc(), 8)?, &mut kept)?;
-    same(&rt, undone.returns.len(), 1);
-    page.shows(&rt, "a\nb\nc\nd\n", 7)?;
     Ok(())
 }

@@ -72,12 +72,18 @@ fn write_bytes(
     write_in::<Brand, Brand>(alloc, log, out, Blank::new(1), Blank::new(1))
 }
 
+// What is read of a file.
+fn reading_of(alloc: Global, bytes: &[u8]) -> Result<Reading, Fault> {
+    if bytes.len() <= MOST_BYTES {
+        read_bytes(alloc, bytes)
+    } else {
+        Err(Fault::ReadFault)
+    }
+}
+
 // A log of the operations of a file.
 fn log_of(alloc: Global, bytes: &[u8]) -> Result<OpLog, Fault> {
-    if bytes.len() > MOST_BYTES {
-        return Err(Fault::ReadFault);
-    }
-    let Reading { ops, .. } = read_bytes(alloc, bytes)?;
+    let Reading { ops, .. } = reading_of(alloc, bytes)?;
     OpLog::from_ops(alloc, ops).map_err(|refused| refused.fault)
 }
 

@@ -3,35 +3,90 @@ ghost use Rattle.std.specs.Prelude.{◌+◌, ◌^◌, ◌<◌, ◌≤◌};
 
 use crate::checks::same;
 use rt_spans::SpanMap;
-use rt_stamps::{Span, Stamp};
+use rt_stamps::{Fault, Span, Stamp};
+use std::alloc::Global;
 use std::process::Abort;
 use std::test::Fail;
 
+/// Spans of site 1 with their values, which are set; such spans that get another value without room, and whether they do;
+/// counts and their values then.
+type Case = (
+    &'static [(u64, u64, char)],
+    &'static [(u64, u64, char, bool)],
+    &'static [(u64, Option<char>)],
+);
+
+// A span of site 1.
+fn span(first: u64, last: u64) -> Span
+    ensures order { result.first ≤ result.last }
+    ensures bound { result.last < 2 ^ 32 }
+{
+    let first = first.min(1000);
+    Span {
+        site: 1,
+        first,
+        last: last.min(1000).max(first),
+    }
+}
+
+// The map of spans that are set.
+fn set_of(alloc: Global, sets: &[(u64, u64, char)]) -> Result<SpanMap<char>, Fault> {
+    let mut map = SpanMap::new(alloc);
+    for (first, last, value) in sets {
+        map.reserve(1)?;
+        map.set(span(*first, *last), *value);
+    }
+    Ok(map)
+}
+
+// Stops a test where other spans get a value without room than those that are told.
+fn repaint(rt: &impl Abort, map: &mut SpanMap<char>, spans: &[(u64, u64, char, bool)]) {
+    for (first, last, value, wanted) in spans {
+        same(rt, map.repaint(span(*first, *last), *value), *wanted);
+    }
+}
+
+// A span within another; a span that was set gets another value without room, and one that begins or ends elsewhere doesn't.
+const CASES: &[Case] = &[
+    (
+        &[(1, 5, 'a'), (3, 3, 'b')],
+        &[],
+        &[(2, Some('a')), (3, Some('b')), (4, Some('a')), (6, None)],
+    ),
+    (
+        &[(1, 5, 'a'), (6, 9, 'b')],
+        &[(6, 9, 'c', true), (1, 3, 'd', false), (2, 5, 'd', false)],
+        &[(5, Some('a')), (6, Some('c')), (9, Some('c'))],
+    ),
+    (
+        &[(1, 5, 'a'), (6, 9, 'b')],
+        &[
+            (6, 9, 'c', true),
+            (1, 3, 'd', false),
+            (2, 5, 'd', false),
+            (1, 9, 'e', true),
+            (6, 9, 'f', false),
+        ],
+        &[(1, Some('e')), (6, Some('e')), (10, None)],
+    ),
+];
+
 #[test]
-fn one_span_within_another(rt: HostRuntime) -> Result<(), Fail> {
-    let mut map = SpanMap::new(rt.alloc());
-    map.reserve(2)?;
-    let long = Span {
-        site: 1,
-        first: 1,
-        last: 5,
-    };
-    map.set(long, 'a');
-    let short = Span {
-        site: 1,
-        first: 3,
-        last: 3,
-    };
-    map.set(short, 'b');
-    let wanted = [
-        (2, 1, Some('a')),
-        (3, 1, Some('b')),
-        (4, 1, Some('a')),
-        (6, 1, None),
-        (3, 2, None),
-    ];
-    for (count, site, value) in wanted {
-        assert_eq!(rt; map.get(Stamp { count, site }), value, "at {count}");
+fn spans_set_and_set_again(rt: HostRuntime) -> Result<(), Fail> {
+    for (sets, spans, values) in CASES {
+        let mut map = set_of(rt.alloc(), *sets)?;
+        repaint(&rt, &mut map, *spans);
+        for (count, value) in *values {
+            same(
+                &rt,
+                map.get(Stamp {
+                    count: *count,
+                    site: 1,
+                }),
+                *value,
+            );
+        }
+        same(&rt, map.get(Stamp { count: 3, site: 2 }), None);
     }
     Ok(())
 }
@@ -113,44 +168,4 @@ fn random_calls(rt: HostRuntime) -> Result<(), Fail> {
         set_some(&rt, &mut map, &mut sets, &mut random)?;
     }
     Ok(())
-}
-
-// A span that was set gets another value without room; one that begins or ends elsewhere doesn't.
-#[test]
-fn set_again_without_room(rt: HostRuntime) -> Result<(), Fail> {
-    let mut map = SpanMap::new(rt.alloc());
-    map.reserve(2)?;
-    let front = Span {
-        site: 1,
-        first: 1,
-        last: 5,
-    };
-    let back = Span {
-        site: 1,
-        first: 6,
-        last: 9,
-    };
-    map.set(front, 'a');
-    map.set(back, 'b');
-    assert!(rt; map.repaint(back, 'c'));
-    assert!(rt; !map.repaint(Span { last: 3, ..front }, 'd'));
-    assert!(rt; !map.repaint(Span { first: 2, ..front }, 'd'));
-    same(
-        &rt,
-        (value(&map, 5), value(&map, 6), value(&map, 9)),
-        (Some('a'), Some('c'), Some('c')),
-    );
-    assert!(rt; map.repaint(Span { last: 9, ..front }, 'e'));
-    same(
-        &rt,
-        (value(&map, 1), value(&map, 6), value(&map, 10)),
-        (Some('e'), Some('e'), None),
-    );
-    assert!(rt; !map.repaint(back, 'f'));
-    Ok(())
-}
-
-// The value of a count of site 1.
-fn value(map: &SpanMap<char>, count: u64) -> Option<char> {
-    map.get(Stamp { count, site: 1 })
 }

@@ -14,7 +14,7 @@ use crate::options::{LIMIT_WORDS, OPTIONS, PEER_WORDS};
 use crate::peers::{OWN_PARTS, PEER_COMMANDS, PEERS, SHARED_PARTS};
 use crate::replacements::{DUMPS, FULL_SITE, REPLACEMENTS};
 use crate::searches::SEARCHES;
-use crate::seen::SEEN;
+use crate::seen::{SEEN, WITHIN_LINES};
 use crate::tags::{TAG_COMMANDS, TAG_REFUSALS, TAG_WRITES, TAGGED_TEXT};
 use crate::texts::{DELETIONS, RANGES, TEXTS};
 use crate::undoing::{COMING_BACK, FLAGS, GROUPING, UNDOING, UNDOING_FULL};
@@ -281,6 +281,7 @@ fn scripts_of_limits(rt: HostRuntime) -> Result<(), Fail> {
 
 #[test]
 fn scripts_of_limited_commands(rt: HostRuntime) -> Result<(), Fail> {
+    answer_all(&rt, rt.alloc(), WITHIN_LINES)?;
     answer_all(&rt, rt.alloc(), LIMITED_SEARCHES)?;
     answer_all(&rt, rt.alloc(), LIMITED_TAGS)?;
     answer_all(&rt, rt.alloc(), LIMITED_MARKS)
