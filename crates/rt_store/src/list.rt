@@ -298,12 +298,22 @@ fn previous_place(
 }
 
 impl TextStore for ListStore {
+    ghost use Rattle.std.specs.Prelude.{get_or};
+
     ghost list = { λ s. s.cells.items };
 
     // A plain vector has no runs to cut.
     ghost room = { λ s. record { cells = vec_capacity s.cells - vec_len s.cells; cuts = 2 ^ 64 } };
 
+    ghost agrees = { λ s table. AreStates table s.cells.items };
+
     ghost ends = { λ s. s.ends };
+
+    ghost given = { λ s table given. given };
+
+    ghost grows = { λ s old new keeps given k d j. (keeps.states (get_or s.cells.items k d).state (given k d j)).0 };
+
+    ghost fresh = { λ s table is given. rw is given };
 
     fn reserve(&mut self, cells: usize, _cuts: usize) -> Result<(), Fault> {
         Ok(self.cells.reserve(cells)?)

@@ -1,19 +1,20 @@
 // What keeps the cells of a text.
-ghost use Rattle.std.specs.Prelude.{◌≡◌, ℕ, ◌+◌, ◌-◌, min, ◌<◌, ◌≤◌, List, ◌++◌, true, false, map, take, drop, length, OnOk, OnErr, IfErr, slice_get, option_map};
+ghost use Rattle.std.specs.Prelude.{◌≡◌, ◌∷◌, [], ℕ, ◌+◌, ◌-◌, min, ◌<◌, ◌≤◌, List, ◌++◌, true, false, map, take, drop, length, OnOk, OnErr, IfErr, slice_get, option_map};
 ghost use Rattle.rt_stamps.specs.Places.{newlines, line_of, line_start};
 ghost use Rattle.rt_stamps.specs.Stamps.{is_before};
 ghost use Rattle.rt_stamps.specs.declared.limits.TheConstants.{MOST_CELLS};
 ghost use Rattle.rt_store.specs.declared.cell.Cell.{Cell};
-ghost use Rattle.rt_store.specs.Cells.{visible_of, text_of, EndsFinal, cell_of, position_of, visible_before, StandsBefore, skip_from, is_in_span, gone_in, state_in, Room, HasRoom, Spends};
+ghost use Rattle.rt_store.specs.Cells.{final_cell, visible_of, text_of, EndsFinal, cell_of, position_of, visible_before, StandsBefore, skip_from, is_in_span, gone_in, state_in, Room, HasRoom, Spends};
 ghost use Rattle.rt_store.specs.Tagged.{AreStates, next_tagged, next_untagged, previous_tagged};
-ghost use Rattle.rt_tags.specs.States.{IsState, IsTag};
+ghost use Rattle.rt_tags.specs.States.{IsState, IsTag, KeepsIds, TagStates};
 
 use crate::Cell;
 use rt_stamps::{FINAL, Fault, Span, Stamp};
 use rt_tags::{StateId, StateTable, TagId};
 
 /// Keeps the cells of a text, seen as a list that ends with the final newline. Positions count all
-/// cells from 0, places the visible ones. The states of cells are those of the table that is lent.
+/// cells from 0, places the visible ones. The states of cells are those of the table that is lent: a store may keep
+/// counts of tags by it, so it is always the same table, which may have given further ids since.
 pub trait TextStore: Drop {
     /// The cells, gone ones too.
     ghost list: { Self → List (Cell ℕ) };
@@ -21,12 +22,16 @@ pub trait TextStore: Drop {
     /// What there is room for.
     ghost room: { Self → Room };
 
+    /// What the store keeps of its cells' tags is right by a table of states.
+    ghost agrees: { Self → TagStates → Type 0 };
+
     /// Makes room for new cells and for cuts of runs, and keeps what was there. `NoMemory` changes nothing.
     fn reserve(&mut self, cells: usize, cuts: usize) -> Result<(), Fault>
         requires { length (list self.old) + cells ≤ MOST_CELLS }
         ensures same { list self.new ≡ list self.old }
         ensures ok { OnOk result (HasRoom (room self.new) cells cuts) }
         ensures kept { HasRoom (room self.new) (room self.old).cells (room self.old).cuts }
+        ensures agrees { (table : TagStates) → agrees self.old table → agrees self.new table }
         ensures unchanged { OnErr result (room self.new ≡ room self.old) }
         ensures err { IfErr result (λ fault. fault ≡ Fault.NoMemory) };
 
@@ -94,47 +99,59 @@ pub trait TextStore: Drop {
     /// what the states of cells mean. Takes no memory.
     fn next_tagged(&self, states: &StateTable, tag: TagId, place: usize) -> Option<usize>
         requires tag { IsTag states.now tag }
-        requires states { AreStates states.now (list self.now) }
+        requires states { agrees self.now states.now }
         ensures { result ≡ next_tagged states.now tag (list self.now) place };
 
     /// The least place from one up whose character hasn't a tag; none if there is none. Takes no memory.
     fn next_untagged(&self, states: &StateTable, tag: TagId, place: usize) -> Option<usize>
         requires tag { IsTag states.now tag }
-        requires states { AreStates states.now (list self.now) }
+        requires states { agrees self.now states.now }
         ensures { result ≡ next_untagged states.now tag (list self.now) place };
 
     /// The greatest place below one whose character has a tag; none if there is none. Takes no memory.
     fn previous_tagged(&self, states: &StateTable, tag: TagId, place: usize) -> Option<usize>
         requires tag { IsTag states.now tag }
-        requires states { AreStates states.now (list self.now) }
+        requires states { agrees self.now states.now }
         ensures { result ≡ previous_tagged states.now tag (list self.now) place };
 
     /// Puts new cells before the one at a position. Takes no memory.
     fn splice(&mut self, states: &StateTable, at: usize, cells: &[Cell<StateId>])
         requires within { at < length (list self.old) }
-        requires states { AreStates states.now (list self.old) }
+        requires states { agrees self.old states.now }
         requires new { AreStates states.now cells.now }
         requires room { HasRoom (room self.old) (length cells.now) 1 }
         ensures list { list self.new ≡ take at (list self.old) ++ cells.now ++ drop at (list self.old) }
-        ensures room { Spends (room self.old) (room self.new) (length cells.now) 1 };
+        ensures room { Spends (room self.old) (room self.new) (length cells.now) 1 }
+        ensures states { agrees self.new states.now };
 
     /// Makes the cells of a span of stamps gone; the final newline never is. Takes no memory.
     fn set_gone(&mut self, states: &StateTable, span: Span)
         requires stays { is_in_span span FINAL ≡ false }
-        requires states { AreStates states.now (list self.old) }
+        requires states { agrees self.old states.now }
         requires room { HasRoom (room self.old) 0 2 }
         ensures list { list self.new ≡ map (gone_in span) (list self.old) }
-        ensures room { Spends (room self.old) (room self.new) 0 2 };
+        ensures room { Spends (room self.old) (room self.new) 0 2 }
+        ensures states { agrees self.new states.now };
 
     /// Puts the cells of a span of stamps in a state: gone ones too, and the final newline too. Takes
     /// no memory.
     fn set_state(&mut self, states: &StateTable, span: Span, state: StateId)
         requires state { IsState states.now state }
-        requires states { AreStates states.now (list self.old) }
+        requires states { agrees self.old states.now }
         requires room { HasRoom (room self.old) 0 2 }
         ensures list { list self.new ≡ map (state_in span state) (list self.old) }
-        ensures room { Spends (room self.old) (room self.new) 0 2 };
+        ensures room { Spends (room self.old) (room self.new) 0 2 }
+        ensures states { agrees self.new states.now };
 
     /// The last cell is the final newline, in any state.
     ghost ends: { (s : Self) → EndsFinal (list s) };
+
+    /// The states of cells are those of each table that the store agrees with.
+    ghost given: { (s : Self) (table : TagStates) → agrees s table → AreStates table (list s) };
+
+    /// A table that gives further ids keeps what the store agrees with.
+    ghost grows: { (s : Self) (old new : TagStates) → KeepsIds old new → agrees s old → agrees s new };
+
+    /// A store of the final newline alone agrees with each table that has its state.
+    ghost fresh: { (s : Self) (table : TagStates) → list s ≡ final_cell ∷ [] → AreStates table (final_cell ∷ []) → agrees s table };
 }
