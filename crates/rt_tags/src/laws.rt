@@ -5,7 +5,7 @@ ghost use Rattle.std.specs.Str.{bytes_eq};
 ghost use Rattle.rt_stamps.specs.declared.stamp.Stamp.{Stamp};
 ghost use Rattle.rt_stamps.specs.declared.stamp.TheConstants.{ROOT};
 ghost use Rattle.rt_stamps.specs.Stamps.{is_before, is_same};
-ghost use Rattle.rt_tags.specs.States.{AreNumbered, HaveOneNumber, IsByName, IsState, KeepsIds, TagStates, Write, is_on, names_on, write_of, written};
+ghost use Rattle.rt_tags.specs.States.{IsByName, IsState, KeepsIds, TagStates, Write, is_on, names_on, write_of, written};
 ghost use Rattle.rt_tags.specs.declared.toggles.TagCount.{TagCount};
 ghost use Rattle.rt_tags.specs.Borders.{AreToggles, border, borders, either, first, last};
 ghost use Rattle.rt_tags.specs.Tags.{HaveNoRepeats, is_listed};
@@ -56,6 +56,6 @@ pub fn joined_stretches<A>()
 
 /// What are the toggles of a stretch by one table, are they by each later one that keeps its ids.
 pub fn kept_toggles()
-    ensures { (old new : TagStates) (states : List ℕ) (t : TagCounts) → KeepsIds old new → AreNumbered old → HaveOneNumber new
-        → AllByRecursion (IsState old) states → AreToggles old states t → AreToggles new states t }
+    ensures { (old new : TagStates) (states : List ℕ) (t : TagCounts) → KeepsIds old new → AllByRecursion (IsState old) states
+        → AreToggles old states t → AreToggles new states t }
 {}
