@@ -1,5 +1,5 @@
 -- Borders of a stretch that stands between two others.
-use Rattle.std.proofs.Common.{◌≡◌, ℕ, ◌+◌, ◌≤◌, Bool, List, [], ◌∷◌, ◌++◌, refl, sym, ap, ◌∙◌, arith, Option, None, Some}
+use Rattle.std.proofs.Common.{◌≡◌, ◌+◌, ◌≤◌, Bool, List, ◌++◌, refl, sym, ap, ◌∙◌, arith, Option, None, Some}
 use Rattle.rt_tags.specs.Borders.{border, borders, either, first, last, one_or_none}
 use Rattle.rt_tags.proofs.Bordering.{first_of, joined}
 

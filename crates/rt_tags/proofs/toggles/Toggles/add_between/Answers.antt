@@ -1,6 +1,6 @@
-use Rattle.std.proofs.Common.{◌≡◌, ◌∙◌, ◌+◌, ℕ, ap, arith, sym}
+use Rattle.std.proofs.Common.{◌∙◌, ap, arith, sym}
 use Rattle.std.proofs.lemmas.Bool.Decides.{Decides-eqb}
-use Rattle.rt_tags.specs.Borders.{beyond, is_tagged}
+use Rattle.rt_tags.specs.Borders.{is_tagged}
 use Rattle.rt_tags.proofs.Beyond.{same_none}
 use Rattle.rt_tags.proofs.toggles.Toggles.add_between.Goals as goal
 

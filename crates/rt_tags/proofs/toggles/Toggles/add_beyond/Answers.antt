@@ -1,4 +1,4 @@
-use Rattle.std.proofs.Common.{◌≡◌, ◌∙◌, ◌+◌, ◌==◌, ℕ, ap, arith, cond, drop, length, refl, subst, sym, false}
+use Rattle.std.proofs.Common.{◌≡◌, ◌∙◌, ◌+◌, ap, arith, drop, length, refl, subst, sym}
 use Rattle.std.proofs.lemmas.List.{drop_all}
 use Rattle.rt_tags.specs.Borders.{HasRoomForAll, beyond, is_tagged}
 use Rattle.rt_tags.specs.States.{IsTag, name_at, state_at}
