@@ -49,3 +49,8 @@ mod Buffers
 mod Tagging
 mod Housing
 mod Meeting
+mod Reaching
+mod Nearing
+mod Summing
+mod Paths
+mod Ending

@@ -1,6 +1,7 @@
 // A tree as the store of a text.
 ghost use Rattle.std.specs.Prelude.{◌≡◌, ◌∷◌, [], IfOk, IfErr};
 ghost use Rattle.rt_store.specs.Cells.{EndsFinal, final_cell};
+ghost use Rattle.rt_store.specs.Tagged.{AreStates};
 
 use crate::Tree;
 use rt_stamps::{Fault, Span, Stamp};
@@ -36,11 +37,21 @@ impl TreeStore {
 }
 
 impl TextStore for TreeStore {
+    ghost use Rattle.std.specs.Prelude.{get_or};
+
     ghost list = { λ s. s.tree.cells };
 
     ghost room = { λ s. s.tree.room };
 
+    ghost agrees = { λ s table. AreStates table s.tree.cells };
+
     ghost ends = { λ s. s.ends };
+
+    ghost given = { λ s table given. given };
+
+    ghost grows = { λ s old new keeps given k d j. (keeps.states (get_or s.tree.cells k d).state (given k d j)).0 };
+
+    ghost fresh = { λ s table is given. rw is given };
 
     fn reserve(&mut self, cells: usize, cuts: usize) -> Result<(), Fault> {
         self.tree.reserve(cells, cuts)

@@ -1,0 +1,73 @@
+-- What is kept for each node of the tags on the characters below it.
+use Rattle.std.specs.Prelude.{◌≡◌, ℕ, zero, suc, ◌+◌, ◌<◌, ◌≤◌, List, [], ◌∷◌, ◌++◌, length, slice_index_or, take, drop, Bool, not, Option, None, if◌then◌else◌}
+use Rattle.std.specs.List.{AllByRecursion}
+use Rattle.rt_tags.specs.Borders.{AreToggles, first, is_tagged, last, one_or_none}
+use Rattle.rt_tags.specs.States.{TagStates}
+use Rattle.rt_tree.specs.declared.node.Entry.{Entry}
+use Rattle.rt_tree.specs.declared.node.Entry.TheVariants.{Down, Here}
+use Rattle.rt_tree.specs.declared.node.Run.{Run}
+use Rattle.rt_tree.specs.declared.summary.Summary.{Summary}
+use Rattle.rt_nodes.specs.Nodes.{entries}
+use Rattle.rt_tree.specs.Changes.{above}
+use Rattle.rt_tree.specs.Shape.{Memory, all_below, below, left_of, level_of, right_of, runs}
+
+-- the states of runs that are visible
+abbrev pub shown_states : List Run → List ℕ
+shown_states [] = []
+shown_states (r ∷ rs) = if r.gone then shown_states rs else r.state ∷ shown_states rs
+
+-- the first and the last of states, and how many borders each tag has between characters of these states
+pub record IsSummary (table : TagStates) (states : List ℕ) (s : Summary) : Type 0 where
+  pub first : s.first ≡ first states
+  pub last : s.last ≡ last states
+  pub counts : AreToggles table states s.counts
+
+abbrev pub no_summary : Summary
+no_summary = record { first = None; last = None; counts = record { counts = []; capacity = 0 } }
+
+-- what is kept for a node
+abbrev pub summary_of : List Summary → ℕ → Summary
+summary_of sums id = slice_index_or sums id no_summary
+
+-- each node's summary is that of the runs below it, whatever stands around these
+abbrev pub AreSummed : TagStates → Memory → List Summary → Type 0
+AreSummed table m sums = (id : ℕ) → id < length m.heads → IsSummary table (shown_states (runs m (level_of m id) id)) (summary_of sums id)
+
+-- there are summaries for all nodes, spare ones too, each with memory for so many tags
+pub record HaveRoom (m : Memory) (sums : List Summary) (tags : ℕ) : Type 0 where
+  pub nodes : length m.heads + m.room ≤ length sums
+  pub memory : AllByRecursion (λ s. tags ≤ s.counts.capacity) sums
+
+-- of an entry's node the first and the last state are told
+abbrev pub HasEnds : Memory → ℕ → List Summary → Entry → Type 0
+HasEnds m k sums (Here r) = Unit {0}
+HasEnds m k sums (Down c t) =
+    (c.index < length sums) × ((summary_of sums c.index).first ≡ first (shown_states (below m k (Down c t))))
+    × ((summary_of sums c.index).last ≡ last (shown_states (below m k (Down c t))))
+
+-- the runs below the node so many levels above a leaf that stand before the leaf's, and those that stand behind
+abbrev pub left_in : Memory → ℕ → ℕ → List Run
+left_in m zero leaf = []
+left_in m (suc j) leaf = all_below m (suc j) (left_of (above m j leaf) (entries m (above m (suc j) leaf))) ++ left_in m j leaf
+
+abbrev pub right_in : Memory → ℕ → ℕ → List Run
+right_in m zero leaf = []
+right_in m (suc j) leaf = right_in m j leaf ++ all_below m (suc j) (right_of (above m j leaf) (entries m (above m (suc j) leaf)))
+
+-- the states that show before an entry of a leaf, below the node so many levels above, and behind it
+abbrev pub shown_before : Memory → ℕ → ℕ → ℕ → List ℕ
+shown_before m j leaf i = shown_states (left_in m j leaf ++ all_below m 0 (take i (entries m leaf)))
+
+abbrev pub shown_behind : Memory → ℕ → ℕ → ℕ → List ℕ
+shown_behind m j leaf i = shown_states (all_below m 0 (drop (suc i) (entries m leaf)) ++ right_in m j leaf)
+
+-- An entry of a leaf shows another state now than summaries tell, which have another, or none, in its place; other nodes' summaries are
+-- right.
+pub record AreSummedBut (table : TagStates) (m : Memory) (sums : List Summary) (height leaf i : ℕ) (old : Option ℕ) : Type 0 where
+  pub path : (j : ℕ) → j ≤ height → IsSummary table (shown_before m j leaf i ++ (one_or_none old ++ shown_behind m j leaf i)) (summary_of sums (above m j leaf))
+  pub others : (id : ℕ) → id < length m.heads → ((j : ℕ) → j ≤ height → id ≡ above m j leaf → ⊥)
+      → IsSummary table (shown_states (runs m (level_of m id) id)) (summary_of sums id)
+
+-- a tag is on in a state, or it isn't, as is asked
+abbrev pub tagged_as : TagStates → ℕ → Bool → ℕ → Bool
+tagged_as table tag on state = if on then is_tagged table tag state else not (is_tagged table tag state)
