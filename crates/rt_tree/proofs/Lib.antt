@@ -54,3 +54,4 @@ mod Nearing
 mod Summing
 mod Paths
 mod Ending
+mod Arriving

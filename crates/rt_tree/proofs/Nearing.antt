@@ -1,5 +1,5 @@
 -- The entries of a node, as a character is reached in their runs.
-use Rattle.std.proofs.Common.{◌≡◌, ℕ, zero, suc, ◌+◌, ◌-◌, ◌<◌, ◌≤◌, Bool, true, List, [], ◌∷◌, ◌++◌, length, take, drop, get_or, refl, sym, ap, ◌∙◌, arith, subst}
+use Rattle.std.proofs.Common.{◌≡◌, ℕ, zero, suc, ◌+◌, ◌-◌, ◌<◌, ◌≤◌, Bool, false, true, List, [], ◌∷◌, ◌++◌, length, take, drop, get_or, refl, sym, ap, ◌∙◌, arith, subst}
 use Rattle.std.specs.Prelude.{IfSome}
 use Rattle.std.specs.List.{AllByRecursion}
 use Rattle.std.proofs.lemmas.List.{append-nil, take_more}
@@ -66,7 +66,7 @@ module _ (m : Memory) (root : ℕ) (t : IsTree m root) (id : ℕ) (known : id < 
       pub is : c.index < length m.heads
       pub level : level_of m id ≡ suc (level_of m c.index)
       pub same : below m k e ≡ runs m (level_of m c.index) c.index
-      pub given : AllByRecursion (IsState table) (shown_states (runs m (level_of m c.index) c.index))
+      pub states : AllByRecursion (IsState table) (shown_states (runs m (level_of m c.index) c.index))
       pub few : visible (runs m (level_of m c.index) c.index) ≤ visible (runs m k id)
       pub summed : IsSummary table (shown_states (below m k e)) (summary_of sums c.index)
       pub first : IfSome (summary_of sums c.index).first (IsState table)
@@ -81,7 +81,7 @@ module _ (m : Memory) (root : ℕ) (t : IsTree m root) (id : ℕ) (known : id < 
           is = d.is;
           level = d.level;
           same = same;
-          given = subst (λ rs. AllByRecursion (IsState table) (shown_states rs)) same given-entry;
+          states = subst (λ rs. AllByRecursion (IsState table) (shown_states rs)) same given-entry;
           few = omega (arith, few, fits-entry);
           summed = summed;
           first = first_given table (shown_states (below m k e)) (summary_of sums c.index) given-entry summed;

@@ -87,10 +87,10 @@ module _ (test : ℕ → Bool) where
       let i = reached-far (from - own r) rs (omega (arith, l)) in
       omega (arith, g, i)
 
-  none_gone : (from : ℕ) (r : Run) → r.gone ≡ true → is_here test from r ≡ false
+  pub none_gone : (from : ℕ) (r : Run) → r.gone ≡ true → is_here test from r ≡ false
   none_gone from r e = beyond_it from r (let z : own r ≡ 0 = (rw e refl) in omega (arith, z))
 
-  none_passes : (from : ℕ) (r : Run) → test r.state ≡ false → is_here test from r ≡ false
+  pub none_passes : (from : ℕ) (r : Run) → test r.state ≡ false → is_here test from r ≡ false
   none_passes from r e = grind (arith, nat_tests)
 
   step : (from : ℕ) (r : Run) (rs : List Run) → is_here test from r ≡ false → reached test (from - own r) rs ≡ visible rs → reached test from (r ∷ rs) ≡ visible (r ∷ rs)

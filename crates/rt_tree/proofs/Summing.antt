@@ -1,12 +1,12 @@
 -- Summaries of stretches that are joined.
-use Rattle.std.proofs.Common.{◌≡◌, ℕ, ◌+◌, ◌<◌, ◌≤◌, List, [], ◌∷◌, ◌++◌, length, refl, sym, ap, ◌∙◌, arith, Option, Some, None, true, false, true≢false, if◌then◌else◌}
+use Rattle.std.proofs.Common.{◌≡◌, ℕ, ◌+◌, ◌<◌, ◌≤◌, Bool, List, [], ◌∷◌, ◌++◌, length, length-append, refl, sym, ap, subst, ◌∙◌, arith, Option, Some, None, true, false, true≢false, if◌then◌else◌}
 use Rattle.std.specs.Prelude.{is_some, nat_lt}
 use Rattle.std.proofs.lemmas.Bool.{ltb-true, ltb-false}
 use Rattle.rt_store.proofs.Distinct.{split}
-use Rattle.rt_tags.specs.Borders.{AreToggles, border, either, first, is_tagged, last, one_or_none}
+use Rattle.rt_tags.specs.Borders.{AreToggles, border, borders, either, first, is_tagged, last, one_or_none}
 use Rattle.rt_tags.specs.States.{IsTag, TagStates}
 use Rattle.rt_tags.specs.Toggles.{TagCounts, count_of}
-use Rattle.rt_tags.proofs.Bordering.{first_of, joined, last_of}
+use Rattle.rt_tags.proofs.Bordering.{few, first_of, joined, last_of}
 use Rattle.rt_tags.proofs.Spreading.{fewer, replaced}
 use Rattle.rt_tree.specs.declared.summary.Summary.{Summary}
 use Rattle.rt_tree.specs.Summaries.{IsSummary}
@@ -117,3 +117,74 @@ module _ (table : TagStates) (xs ys : List ℕ) (old new : Option ℕ) (a b : Su
             omega (arith, c, p, w);
       };
     }
+
+-- neighbours are those that are told
+pub at_ends : (table : TagStates) (xs ys : List ℕ) (before after o : Option ℕ) (t : TagCounts) → last xs ≡ before → first ys ≡ after
+    → AreToggles table (one_or_none before ++ (one_or_none o ++ one_or_none after)) t → AreToggles table (one_or_none (last xs) ++ (one_or_none o ++ one_or_none (first ys))) t
+at_ends table xs ys before after o t e f h =
+    subst (λ p. AreToggles table (one_or_none p ++ (one_or_none o ++ one_or_none (first ys))) t) (sym e)
+    (subst (λ n. AreToggles table (one_or_none before ++ (one_or_none o ++ one_or_none n)) t) (sym f) h)
+
+-- no more toggles than characters
+pub few_toggles : (table : TagStates) (states : List ℕ) (t : TagCounts) → AreToggles table states t → (tag : ℕ) → count_of tag t ≤ length states
+few_toggles table states t are tag = split (nat_lt tag (length table.names))
+    (λ y. let e = are.given tag (ltb-true _ _ y) in let f = few (is_tagged table tag) states in omega (arith, e, f))
+    (λ n. let e = are.others tag (ltb-false _ _ n) in omega (arith, e))
+
+one_long : (o : Option ℕ) → length (one_or_none o) ≤ 1
+one_long None = omega arith
+one_long (Some x) = omega arith
+
+pub length_spread : (xs ys : List ℕ) (o : Option ℕ) → length (xs ++ (one_or_none o ++ ys)) ≤ length xs + length ys + 1
+length_spread xs ys o =
+    let a = length-append xs (one_or_none o ++ ys) in
+    let b = length-append (one_or_none o) ys in
+    let c = one_long o in
+    omega (arith, a, b, c)
+
+pub length_three : (p v n : Option ℕ) → length (one_or_none p ++ (one_or_none v ++ one_or_none n)) ≤ 3
+length_three p v n =
+    let a = length_spread (one_or_none p) (one_or_none n) v in
+    let b = one_long p in
+    let c = one_long n in
+    omega (arith, a, b, c)
+
+-- A STATE BETWEEN ITS NEIGHBOURS
+
+-- the borders that a state, or none, makes between its neighbours
+pub three : (test : ℕ → Bool) (p v n : Option ℕ) → borders test (one_or_none p ++ (one_or_none v ++ one_or_none n)) ≡ (if is_some v then border test p v + border test v n else border test p n)
+three test None None None = refl
+three test None None (Some z) = refl
+three test None (Some y) None = refl
+three test None (Some y) (Some z) = omega arith
+three test (Some x) None None = refl
+three test (Some x) None (Some z) = omega arith
+three test (Some x) (Some y) None = omega arith
+three test (Some x) (Some y) (Some z) = omega arith
+
+module _ (table : TagStates) (p v n : Option ℕ) (none one two : TagCounts) (empty : (tag : ℕ) → count_of tag none ≡ 0) where
+  -- counted by one border, where there is no state
+  pub around_none : is_some v ≡ false → ((tag : ℕ) → IsTag table tag → count_of tag one ≡ count_of tag none + border (is_tagged table tag) p n) → ((tag : ℕ) → length table.names ≤ tag → count_of tag one ≡ count_of tag none)
+      → AreToggles table (one_or_none p ++ (one_or_none v ++ one_or_none n)) one
+  around_none off given others = record {
+    given = λ tag h.
+        let g = given tag h in
+        let z = empty tag in
+        let t = three (is_tagged table tag) p v n ∙ ap (λ b. if b then border (is_tagged table tag) p v + border (is_tagged table tag) v n else border (is_tagged table tag) p n) off in
+        omega (arith, g, z, t);
+    others = λ tag far. others tag far ∙ empty tag;
+  }
+
+  -- and by two, where there is one
+  pub around_some : is_some v ≡ true → ((tag : ℕ) → IsTag table tag → count_of tag one ≡ count_of tag none + border (is_tagged table tag) p v) → ((tag : ℕ) → length table.names ≤ tag → count_of tag one ≡ count_of tag none)
+      → ((tag : ℕ) → IsTag table tag → count_of tag two ≡ count_of tag one + border (is_tagged table tag) v n) → ((tag : ℕ) → length table.names ≤ tag → count_of tag two ≡ count_of tag one)
+      → AreToggles table (one_or_none p ++ (one_or_none v ++ one_or_none n)) two
+  around_some on given others given_two others_two = record {
+    given = λ tag h.
+        let g = given tag h in
+        let k = given_two tag h in
+        let z = empty tag in
+        let t = three (is_tagged table tag) p v n ∙ ap (λ b. if b then border (is_tagged table tag) p v + border (is_tagged table tag) v n else border (is_tagged table tag) p n) on in
+        omega (arith, g, k, z, t);
+    others = λ tag far. others_two tag far ∙ others tag far ∙ empty tag;
+  }

@@ -1,5 +1,5 @@
 -- What is kept for each node of the tags on the characters below it.
-use Rattle.std.specs.Prelude.{◌≡◌, ℕ, zero, suc, ◌+◌, ◌<◌, ◌≤◌, List, [], ◌∷◌, ◌++◌, length, slice_index_or, take, drop, Bool, not, Option, None, if◌then◌else◌}
+use Rattle.std.specs.Prelude.{◌≡◌, ℕ, zero, suc, ◌+◌, ◌^◌, ◌<◌, ◌≤◌, List, [], ◌∷◌, ◌++◌, length, slice_index_or, take, drop, Bool, not, Option, None, if◌then◌else◌}
 use Rattle.std.specs.List.{AllByRecursion}
 use Rattle.rt_tags.specs.Borders.{AreToggles, first, is_tagged, last, one_or_none}
 use Rattle.rt_tags.specs.States.{TagStates}
@@ -44,6 +44,15 @@ HasEnds m k sums (Here r) = Unit {0}
 HasEnds m k sums (Down c t) =
     (c.index < length sums) × ((summary_of sums c.index).first ≡ first (shown_states (below m k (Down c t))))
     × ((summary_of sums c.index).last ≡ last (shown_states (below m k (Down c t))))
+
+-- a summary is that of a stretch in which a state, or none, has such neighbours, if any
+pub record WasAround (table : TagStates) (s : Summary) (before after old : Option ℕ) : Type 0 where
+  pub left : List ℕ
+  pub right : List ℕ
+  pub ends : last left ≡ before
+  pub begins : first right ≡ after
+  pub short : length left + length right + 4 < 2 ^ 32
+  pub is : IsSummary table (left ++ (one_or_none old ++ right)) s
 
 -- the runs below the node so many levels above a leaf that stand before the leaf's, and those that stand behind
 abbrev pub left_in : Memory → ℕ → ℕ → List Run

@@ -1,7 +1,7 @@
 // What is kept for a node of the tags on the characters below it.
 ghost use Rattle.std.specs.Prelude.{◌≡◌, ◌++◌, ℕ, ◌+◌, ◌<◌, ◌≤◌, ◌^◌, List, IfSome, false, if◌then◌else◌, is_some, length, true};
 ghost use Rattle.std.specs.List.{AllByRecursion};
-ghost use Rattle.rt_tags.specs.Borders.{HasRoomForAll, either};
+ghost use Rattle.rt_tags.specs.Borders.{AreToggles, HasRoomForAll, either, one_or_none};
 ghost use Rattle.rt_tags.specs.States.{IsState, IsTag};
 ghost use Rattle.rt_tags.specs.Toggles.{HasRoomFor, count_of, more_tags};
 ghost use Rattle.rt_tree.specs.Summaries.{IsSummary, tagged_as};
@@ -17,13 +17,10 @@ pub struct Summary {
 }
 
 // The first of two states, if there is one.
-fn either(one: Option<StateId>, other: Option<StateId>) -> Option<StateId>
-    ensures { result ≡ either one other }
+fn either(one: &Option<StateId>, other: &Option<StateId>) -> Option<StateId>
+    ensures { result ≡ either one.now other.now }
 {
-    match one {
-        Some(state) => Some(state),
-        None => other,
-    }
+    if one.is_some() { *one } else { *other }
 }
 
 impl Summary {
@@ -42,8 +39,8 @@ impl Summary {
         self.counts.counts();
         other.counts.counts();
         self.counts.add_all(&other.counts);
-        self.first = either(self.first, other.first);
-        self.last = either(other.last, self.last);
+        self.first = either(&self.first, &other.first);
+        self.last = either(&other.last, &self.last);
     }
 }
 
@@ -94,8 +91,8 @@ impl Summary {
     // these made with the old one and make with the new one.
     pub(crate) fn replace(
         &mut self,
-        around: Around,
-        new: Option<StateId>,
+        around: &Around,
+        new: &Option<StateId>,
         minus: &Toggles,
         plus: &Toggles,
     )
@@ -103,17 +100,42 @@ impl Summary {
         requires few { (tag : ℕ) → count_of tag self.old.counts + count_of tag plus.now < 2 ^ 32 }
         requires less { (tag : ℕ) → count_of tag minus.now ≤ count_of tag self.old.counts }
         ensures counts { (tag : ℕ) → count_of tag self.new.counts + count_of tag minus.now ≡ count_of tag self.old.counts + count_of tag plus.now }
-        ensures first { self.new.first ≡ (if is_some around.before then self.old.first else either new around.after) }
-        ensures last { self.new.last ≡ (if is_some around.after then self.old.last else either new around.before) }
+        ensures first { self.new.first ≡ (if is_some around.now.before then self.old.first else either new.now around.now.after) }
+        ensures last { self.new.last ≡ (if is_some around.now.after then self.old.last else either new.now around.now.before) }
         ensures capacity { self.new.counts.capacity ≡ self.old.counts.capacity }
     {
         self.counts.add_all(plus);
         self.counts.take_all(minus);
+        let first = either(new, &around.after);
         if around.before.is_none() {
-            self.first = either(new, around.after);
+            self.first = first;
         }
+        let last = either(new, &around.before);
         if around.after.is_none() {
-            self.last = either(new, around.before);
+            self.last = last;
         }
     }
+}
+
+// The toggles of a state, or of none, between its neighbours.
+pub(crate) fn count_around(
+    toggles: &mut Toggles,
+    states: &StateTable,
+    around: &Around,
+    own: &Option<StateId>,
+)
+    requires before { IfSome around.now.before (IsState states.now) }
+    requires own { IfSome own.now (IsState states.now) }
+    requires after { IfSome around.now.after (IsState states.now) }
+    requires room { length states.now.names ≤ toggles.old.capacity }
+    ensures toggles { AreToggles states.now (one_or_none around.now.before ++ (one_or_none own.now ++ one_or_none around.now.after)) toggles.new }
+    ensures capacity { toggles.new.capacity ≡ toggles.old.capacity }
+{
+    toggles.clear();
+    if own.is_none() {
+        toggles.add_border(states, around.before, around.after);
+        return;
+    }
+    toggles.add_border(states, around.before, *own);
+    toggles.add_border(states, *own, around.after);
 }
