@@ -55,3 +55,5 @@ mod Summing
 mod Paths
 mod Ending
 mod Arriving
+mod Noting
+mod Baring

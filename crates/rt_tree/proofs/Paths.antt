@@ -19,15 +19,15 @@ use Rattle.rt_tree.proofs.Exact.{each-both}
 use Rattle.rt_tree.proofs.Reaching.{shown-append}
 use Rattle.rt_tree.proofs.Frame.{after, apart, each-back, each-front, flat-same, flat-zero, frame, new-at, no, same-at, side-one}
 
-apart_five : (l f m k r : List Run) → l ++ ((f ++ (m ++ k)) ++ r) ≡ (l ++ f) ++ (m ++ (k ++ r))
+pub apart_five : (l f m k r : List Run) → l ++ ((f ++ (m ++ k)) ++ r) ≡ (l ++ f) ++ (m ++ (k ++ r))
 apart_five l f m k r = simp append_assoc
 
-drop_past : (a : List Entry) (e : Entry) (b : List Entry) → drop (suc (length a)) (a ++ e ∷ b) ≡ b
+pub drop_past : (a : List Entry) (e : Entry) (b : List Entry) → drop (suc (length a)) (a ++ e ∷ b) ≡ b
 drop_past [] e b = refl
 drop_past (x ∷ a) e b = drop_past a e b
 
 module _ (s : Memory) (height root : ℕ) (t : IsShape s height root) (x : ℕ) (xis : x < length s.heads) (low : level_of s x ≡ 0) where
-  at : (j : ℕ) → j ≤ height → (above s j x < length s.heads) × (level_of s (above s j x) ≡ j)
+  pub at : (j : ℕ) → j ≤ height → (above s j x < length s.heads) × (level_of s (above s j x) ≡ j)
   at j le = let a = above-is s height root t j x xis (omega (arith, low, le)) in (a.0, a.1 ∙ (let e : level_of s x + j ≡ j = omega (arith, low) in e))
 
   -- a node above the leaf has the leaf's runs among its own

@@ -2,7 +2,7 @@
 use Rattle.std.specs.Prelude.{◌≡◌, ℕ, zero, suc, ◌+◌, ◌^◌, ◌<◌, ◌≤◌, List, [], ◌∷◌, ◌++◌, length, slice_index_or, take, drop, Bool, not, Option, None, if◌then◌else◌}
 use Rattle.std.specs.List.{AllByRecursion}
 use Rattle.rt_tags.specs.Borders.{AreToggles, first, is_tagged, last, one_or_none}
-use Rattle.rt_tags.specs.States.{TagStates}
+use Rattle.rt_tags.specs.States.{IsState, TagStates}
 use Rattle.rt_tree.specs.declared.node.Entry.{Entry}
 use Rattle.rt_tree.specs.declared.node.Entry.TheVariants.{Down, Here}
 use Rattle.rt_tree.specs.declared.node.Run.{Run}
@@ -69,6 +69,12 @@ shown_before m j leaf i = shown_states (left_in m j leaf ++ all_below m 0 (take 
 
 abbrev pub shown_behind : Memory → ℕ → ℕ → ℕ → List ℕ
 shown_behind m j leaf i = shown_states (all_below m 0 (drop (suc i) (entries m leaf)) ++ right_in m j leaf)
+
+-- What stands beside an entry of a leaf, below each node above, are states that were given out, and not too many.
+pub record AreBeside (table : TagStates) (m : Memory) (height leaf i : ℕ) : Type 0 where
+  pub before : (j : ℕ) → j ≤ height → AllByRecursion (IsState table) (shown_before m j leaf i)
+  pub behind : (j : ℕ) → j ≤ height → AllByRecursion (IsState table) (shown_behind m j leaf i)
+  pub short : (j : ℕ) → j ≤ height → length (shown_before m j leaf i) + length (shown_behind m j leaf i) + 4 < 2 ^ 32
 
 -- An entry of a leaf shows another state now than summaries tell, which have another, or none, in its place; other nodes' summaries are
 -- right.

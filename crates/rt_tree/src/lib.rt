@@ -9,6 +9,7 @@ mod homes;
 pub mod looks;
 mod mark;
 pub mod node;
+mod note;
 mod put;
 mod reach;
 mod room;
