@@ -57,3 +57,5 @@ mod Ending
 mod Arriving
 mod Noting
 mod Baring
+mod Returning
+mod Gathering

@@ -16,7 +16,7 @@ use Rattle.rt_tree.specs.declared.summary.Summary.{Summary}
 use Rattle.rt_tree.specs.Reaches.{reached}
 use Rattle.rt_tree.specs.Shape.{Memory, IsExact, IsTree, all_below, below, entry_counts, level_of, runs, sum_of}
 use Rattle.rt_tree.specs.Summaries.{AreSummed, IsSummary, shown_states, summary_of}
-use Rattle.rt_tree.specs.Sums.{counts_of, plus, totals_of}
+use Rattle.rt_tree.specs.Sums.{AreFew, counts_of, plus, totals_of}
 use Rattle.rt_tree.proofs.Down.{down, each-at, sum-front}
 use Rattle.rt_tree.proofs.Measures.{counts-append, counts-exact, sum-more}
 use Rattle.rt_tree.proofs.Passes.{each-append, parts-at}
@@ -47,11 +47,20 @@ module _ (m : Memory) (root : ℕ) (t : IsTree m root) (id : ℕ) (known : id < 
   fits-entry : visible front + (visible (below m k e) + visible back) ≡ visible (runs m k id)
   fits-entry = ap (λ (c : Counts). c.visible) (sym (ap counts_of cut ∙ counts-append front (below m k e ++ back) ∙ ap (plus (counts_of front)) (counts-append (below m k e) back)))
 
+  -- its runs count no more than all of the node's
+  pub few-entry : AreFew (counts_of (runs m k id)) → AreFew (counts_of (below m k e))
+  few-entry few =
+      let sum = ap counts_of cut ∙ counts-append front (below m k e ++ back) ∙ ap (plus (counts_of front)) (counts-append (below m k e) back) in
+      part (counts_of front) (counts_of (below m k e)) (counts_of back) (subst AreFew sum few)
+    where
+      part : (a b c : Counts) → AreFew (plus a (plus b c)) → AreFew b
+      part a b c f = record { cells = omega (arith, f.cells); visible = omega (arith, f.visible); newlines = omega (arith, f.newlines) }
+
   module _ (table : TagStates) (given : AllByRecursion (IsState table) (shown_states (runs m k id))) where
     pub given-entry : AllByRecursion (IsState table) (shown_states (below m k e))
     given-entry =
         let parts : shown_states (runs m k id) ≡ shown_states front ++ (shown_states (below m k e) ++ shown_states back) =
-            ap shown_states cut ∙ shown-append front (below m k e ++ back) ∙ ap (λ l. shown_states front ++ l) (shown-append (below m k e) back) in
+        ap shown_states cut ∙ shown-append front (below m k e ++ back) ∙ ap (λ l. shown_states front ++ l) (shown-append (below m k e) back) in
         let rest = (each-append (IsState table) (shown_states front) (shown_states (below m k e) ++ shown_states back) (subst (AllByRecursion (IsState table)) parts given)).1 in
         (each-append (IsState table) (shown_states (below m k e)) (shown_states back) rest).0
 

@@ -1,6 +1,6 @@
 -- Summaries that are put right from a leaf up.
-use Rattle.std.proofs.Common.{◌≡◌, ◌≢◌, ℕ, zero, suc, ◌+◌, ◌<◌, ◌≤◌, List, [], ◌∷◌, ◌++◌, length, take, drop, get_or, refl, sym, ap, ◌∙◌, arith, subst, append_assoc, Option, inl, inr}
-use Rattle.std.specs.Prelude.{nat_lt}
+use Rattle.std.proofs.Common.{◌≡◌, ◌≢◌, ℕ, zero, suc, ◌+◌, ◌<◌, ◌≤◌, List, [], ◌∷◌, ◌++◌, length, take, drop, get_or, refl, sym, ap, ◌∙◌, arith, subst, append-nil, append_assoc, Option, None, Some, inl, inr}
+use Rattle.std.specs.Prelude.{IfSome, nat_lt}
 use Rattle.std.proofs.lemmas.Bool.{cases_eq, ltb-false, ltb-true}
 use Rattle.rt_store.proofs.Distinct.{split}
 use Rattle.std.specs.List.{AllByRecursion}
@@ -32,6 +32,19 @@ leads (Down c ts) id h = let g : c ≡ record { index = id } = cc in ap (λ n. n
 abbrev pub AreRightBelow : Memory → TagStates → List Summary → ℕ → Type 0
 AreRightBelow m table sums k = (c : ℕ) → c < length m.heads → level_of m c < k → IsSummary table (shown_states (runs m (level_of m c) c)) (summary_of sums c)
 
+-- the last and the first of states are some of them
+pub last_all : (P : ℕ → Type 0) (xs : List ℕ) → AllByRecursion P xs → IfSome (last xs) P
+last_all P [] all = tt
+last_all P (y ∷ xs) all = by (last xs) (last_all P xs all.1)
+  where
+    by : (o : Option ℕ) → IfSome o P → IfSome (either o (Some y)) P
+    by None h = all.0
+    by (Some z) h = h
+
+pub first_all : (P : ℕ → Type 0) (xs : List ℕ) → AllByRecursion P xs → IfSome (first xs) P
+first_all P [] all = tt
+first_all P (y ∷ xs) all = all.0
+
 module _ (m : Memory) (height root : ℕ) (t : IsShape m height root) where
   -- so the entries of a node of that level tell their ends
   pub ends_of : (table : TagStates) (sums : List Summary) (k id : ℕ) → length m.heads ≤ length sums → id < length m.heads → level_of m id ≡ k → AreRightBelow m table sums k → AllByRecursion (HasEnds m k sums) (entries m id)
@@ -47,6 +60,14 @@ module _ (m : Memory) (height root : ℕ) (t : IsShape m height root) where
           (omega (arith, f.is, many), s.first, s.last)
 
   module _ (x : ℕ) (xis : x < length m.heads) (low : level_of m x ≡ 0) (i : ℕ) where
+    -- AT THE LEAF
+
+    pub last_first : (k : ℕ) → k ≡ 0 → last (shown_states (all_below m k (take i (entries m x)))) ≡ last (shown_before m 0 x i)
+    last_first k z = ap (λ n. last (shown_states (all_below m n (take i (entries m x))))) z
+
+    pub first_first : (k n : ℕ) → k ≡ 0 → n ≡ suc i → first (shown_states (all_below m k (drop n (entries m x)))) ≡ first (shown_behind m 0 x i)
+    first_first k n z e = (λ h. first (shown_states (all_below m (z h) (drop (e h) (entries m x))))) ∙ ap (λ rs. first (shown_states rs)) (sym (append-nil (all_below m 0 (drop (suc i) (entries m x)))))
+
     -- ONE LEVEL UP
 
     module _ (j : ℕ) (le : suc j ≤ height) where
@@ -97,6 +118,29 @@ module _ (m : Memory) (height root : ℕ) (t : IsShape m height root) where
           (λ k. either (was k) (first (shown_states (all_below m (suc j) (right k)))))
           ∙ sym (ap first behind_up ∙ first_of (shown_behind m j x i) (shown_states (all_below m (suc j) (right_of id es))))
 
+    -- the same of nodes that are those
+    module _ (j : ℕ) (le : suc j ≤ height) (p child : ℕ) (p_is : p ≡ above m (suc j) x) (child_is : child ≡ above m j x) where
+      pub above_is : (p < length m.heads) × (level_of m p ≡ suc j)
+      above_is = let n = at m height root t x xis low (suc j) le in subst (λ q. (q < length m.heads) × (level_of m q ≡ suc j)) (sym p_is) n
+
+      abbrev LastIs : ℕ → ℕ → Type 0
+      LastIs q d = (slot : ℕ) (e : Entry) (before : Option ℕ) → slot < length (entries m q) → e ≡ get_or (entries m q) slot e → strip e ≡ kid d → before ≡ last (shown_before m j x i)
+          → either before (last (shown_states (all_below m (level_of m q) (take slot (entries m q))))) ≡ last (shown_before m (suc j) x i)
+
+      pub last_is : LastIs p child
+      last_is = subst (λ q. LastIs q child) (sym p_is) (subst (λ d. LastIs (above m (suc j) x) d) (sym child_is)
+          (λ slot e before lt here to was. ap (λ n. either before (last (shown_states (all_below m n (take slot (entries m (above m (suc j) x))))))) (at m height root t x xis low (suc j) le).1
+          ∙ last_up j le slot before was (left_stands j le slot e lt here to)))
+
+      abbrev FirstIs : ℕ → ℕ → Type 0
+      FirstIs q d = (slot : ℕ) (e : Entry) (after : Option ℕ) → slot < length (entries m q) → e ≡ get_or (entries m q) slot e → strip e ≡ kid d → after ≡ first (shown_behind m j x i)
+          → either after (first (shown_states (all_below m (level_of m q) (drop (slot + 1) (entries m q))))) ≡ first (shown_behind m (suc j) x i)
+
+      pub first_is : FirstIs p child
+      first_is = subst (λ q. FirstIs q child) (sym p_is) (subst (λ d. FirstIs (above m (suc j) x) d) (sym child_is)
+          (λ slot e after lt here to was. ap (λ n. either after (first (shown_states (all_below m n (drop (slot + 1) (entries m (above m (suc j) x))))))) (at m height root t x xis low (suc j) le).1
+          ∙ first_up j le slot after was (right_stands j le slot e lt here to)))
+
     -- WHAT A NODE ABOVE SHOWS NOW
 
     pub shows_now : (e : Entry) (new : Option ℕ) → i < length (entries m x) → e ≡ get_or (entries m x) i e → shown_states (below m 0 e) ≡ one_or_none new
@@ -122,10 +166,10 @@ module _ (m : Memory) (height root : ℕ) (t : IsShape m height root) where
           → AreRightBelow m table new_sums (suc j)
       right_up j le right rest others own c is lower = elim (cases_eq c (above m j x)) [
         | inl same ↦ let n = at m height root t x xis low j le in subst (λ d. IsSummary table (shown_states (runs m (level_of m d) d)) (summary_of new_sums d)) (sym same)
-        (subst (λ k. IsSummary table (shown_states (runs m k (above m j x))) (summary_of new_sums (above m j x))) (sym n.1) own)
+            (subst (λ k. IsSummary table (shown_states (runs m k (above m j x))) (summary_of new_sums (above m j x))) (sym n.1) own)
         | inr ne ↦ subst (IsSummary table (shown_states (runs m (level_of m c) c))) (sym (others c ne)) (split (nat_lt (level_of m c) j)
-        (λ y. right c is (ltb-true _ _ y))
-        (λ n. let high : j ≤ level_of m c = ltb-false _ _ n in
-        subst (IsSummary table (shown_states (runs m (level_of m c) c))) (sym (rest c is high))
-        (but.others c is (λ k kle same. ne (same ∙ ap (λ n. above m n x) (let g = ap (level_of m) same ∙ (at m height root t x xis low k kle).1 in omega (arith, g, high, lower)))))))
+            (λ y. right c is (ltb-true _ _ y))
+            (λ n. let high : j ≤ level_of m c = ltb-false _ _ n in
+            subst (IsSummary table (shown_states (runs m (level_of m c) c))) (sym (rest c is high))
+            (but.others c is (λ k kle same. ne (same ∙ ap (λ n. above m n x) (let g = ap (level_of m) same ∙ (at m height root t x xis low k kle).1 in omega (arith, g, high, lower)))))))
       ]

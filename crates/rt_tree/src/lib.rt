@@ -1,6 +1,7 @@
 //! The cells of a text in a counted B-tree of runs.
 #![tactic(auto)]
 
+mod back;
 mod change;
 mod copy;
 mod cut;

@@ -6,8 +6,8 @@ use Rattle.rt_tree.specs.Summaries.{shown_before, shown_behind, summary_of}
 use Rattle.rt_tree.proofs.Noting.{AreRightBelow}
 use Rattle.rt_tree.proofs.note.note.Given as goal
 
-abbrev pub invariant-loop-node : goal.invariant-loop-node
-invariant-loop-node l = record {
+abbrev pub invariant-loop-level : goal.invariant-loop-level
+invariant-loop-level l = record {
   low : l.level ≤ l.height;
   at : l.node.index ≡ above l.mem l.level l.fn.leaf.index;
   before : l.around.before ≡ last (shown_before l.mem l.level l.fn.leaf.index l.fn.i);
@@ -20,5 +20,5 @@ invariant-loop-node l = record {
   plus : l.plus.capacity ≡ l.fn.plus.capacity;
 }
 
-abbrev pub decreases-loop-node : goal.decreases-loop-node
-decreases-loop-node l = l.height - l.level
+abbrev pub decreases-loop-level : goal.decreases-loop-level
+decreases-loop-level l = l.height - l.level
