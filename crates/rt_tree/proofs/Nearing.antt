@@ -41,7 +41,7 @@ module _ (m : Memory) (root : ℕ) (t : IsTree m root) (id : ℕ) (known : id < 
   pub visible-entry : (entry_counts e).visible ≡ visible (below m k e)
   visible-entry = ap (λ (c : Counts). c.visible) (counts-exact m k e (each-at (IsExact m k) es i e (t.totals id known) lt here))
 
-  visible-front : (sum_of (take i es)).visible ≡ visible front
+  pub visible-front : (sum_of (take i es)).visible ≡ visible front
   visible-front = ap (λ (c : Counts). c.visible) (sum-front m root t id i known)
 
   fits-entry : visible front + (visible (below m k e) + visible back) ≡ visible (runs m k id)

@@ -14,15 +14,17 @@ use Rattle.rt_tree.specs.declared.node.Entry.{Entry}
 use Rattle.rt_tree.specs.declared.node.Entry.TheVariants.{Down, Here}
 use Rattle.rt_tree.specs.declared.node.Run.{Run}
 use Rattle.rt_tree.specs.declared.summary.Summary.{Summary}
-use Rattle.rt_tree.specs.Changes.{above, kid, strip}
-use Rattle.rt_tree.specs.Shape.{Fits, IsShape, Memory, all_below, below, left_of, level_of, parent_of, right_of, runs}
+use Rattle.rt_tree.specs.Changes.{above, bare, kid, strip}
+use Rattle.rt_tree.specs.Shape.{Fits, IsShape, Memory, all_below, below, count_of, left_of, level_of, parent_of, right_of, runs}
 use Rattle.rt_tree.specs.Summaries.{AreSummedBut, HasEnds, IsSummary, left_in, right_in, shown_before, shown_behind, shown_states, summary_of}
 use Rattle.rt_tree.proofs.Around.{below_top, leads_to, node, take-left}
+use Rattle.rt_tree.proofs.Bares.{bare-entries}
 use Rattle.rt_tree.proofs.Exact.{each-all}
 use Rattle.rt_tree.proofs.Frame.{apart}
 use Rattle.rt_tree.proofs.Passes.{parts-at}
 use Rattle.rt_tree.proofs.Paths.{apart_five, at, drop_past, path}
 use Rattle.rt_tree.proofs.Reaching.{shown-append}
+use Rattle.rt_tree.proofs.Wholes.{count-bare}
 
 pub leads : (e : Entry) (id : ℕ) → strip e ≡ kid id → leads_to e id
 leads (Here r) id h = absurd (cc)
@@ -31,6 +33,12 @@ leads (Down c ts) id h = let g : c ≡ record { index = id } = cc in ap (λ n. n
 -- summaries are right below a level
 abbrev pub AreRightBelow : Memory → TagStates → List Summary → ℕ → Type 0
 AreRightBelow m table sums k = (c : ℕ) → c < length m.heads → level_of m c < k → IsSummary table (shown_states (runs m (level_of m c) c)) (summary_of sums c)
+
+-- what a node above an entry had, whose summary is still the first one
+pub was_is : (table : TagStates) (m : Memory) (first_sums sums : List Summary) (height x i : ℕ) (old : Option ℕ) → AreSummedBut table m first_sums height x i old
+    → (j p : ℕ) → j ≤ height → p ≡ above m j x → summary_of sums p ≡ summary_of first_sums p → IsSummary table (shown_before m j x i ++ (one_or_none old ++ shown_behind m j x i)) (summary_of sums p)
+was_is table m first_sums sums height x i old but j p le p_is same =
+    subst (IsSummary table (shown_before m j x i ++ (one_or_none old ++ shown_behind m j x i))) (ap (summary_of first_sums) (sym p_is) ∙ sym same) (but.path j le)
 
 -- the last and the first of states are some of them
 pub last_all : (P : ℕ → Type 0) (xs : List ℕ) → AllByRecursion P xs → IfSome (last xs) P
@@ -122,6 +130,20 @@ module _ (m : Memory) (height root : ℕ) (t : IsShape m height root) where
     module _ (j : ℕ) (le : suc j ≤ height) (p child : ℕ) (p_is : p ≡ above m (suc j) x) (child_is : child ≡ above m j x) where
       pub above_is : (p < length m.heads) × (level_of m p ≡ suc j)
       above_is = let n = at m height root t x xis low (suc j) le in subst (λ q. (q < length m.heads) × (level_of m q ≡ suc j)) (sym p_is) n
+
+      pub is_node : (p < length m.heads) × (p < length m.rows)
+      is_node = (above_is.0, subst (λ n. p < n) t.same above_is.0)
+
+      pub child_at : (child < length m.heads) × (level_of m child ≡ j)
+      child_at = let n = at m height root t x xis low j (omega (arith, le)) in subst (λ d. (d < length m.heads) × (level_of m d ≡ j)) (sym child_is) n
+
+      pub stands_in : 0 < count_of child (entries (bare m) p)
+      stands_in =
+          let kn = t.known child child_at.0 (below_top m height root t child child_at.0 (omega (arith, child_at.1, le))) in
+          let up : parent_of m child ≡ p = ap (parent_of m) child_is ∙ sym p_is in
+          let once = ap (λ q. count_of child (entries m q)) (sym up) ∙ kn.once in
+          let same = ap (count_of child) (bare-entries m p) ∙ count-bare m child (entries m p) in
+          omega (arith, once, same)
 
       abbrev LastIs : ℕ → ℕ → Type 0
       LastIs q d = (slot : ℕ) (e : Entry) (before : Option ℕ) → slot < length (entries m q) → e ≡ get_or (entries m q) slot e → strip e ≡ kid d → before ≡ last (shown_before m j x i)
