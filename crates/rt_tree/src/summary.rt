@@ -1,8 +1,8 @@
 // What is kept for a node of the tags on the characters below it.
-ghost use Rattle.std.specs.Prelude.{◌≡◌, ◌++◌, ℕ, ◌+◌, ◌<◌, ◌≤◌, ◌^◌, List, IfSome, false, if◌then◌else◌, is_some, length, true};
+ghost use Rattle.std.specs.Prelude.{◌≡◌, ◌++◌, ◌∷◌, [], ℕ, ◌+◌, ◌<◌, ◌≤◌, ◌^◌, List, IfSome, false, if◌then◌else◌, is_some, length, true};
 ghost use Rattle.std.specs.List.{AllByRecursion};
 ghost use Rattle.rt_tags.specs.Borders.{AreToggles, HasRoomForAll, either, one_or_none};
-ghost use Rattle.rt_tags.specs.States.{IsState, IsTag};
+ghost use Rattle.rt_tags.specs.States.{IsState, IsTag, TagStates};
 ghost use Rattle.rt_tags.specs.Toggles.{HasRoomFor, count_of, more_tags};
 ghost use Rattle.rt_tree.specs.Summaries.{IsSummary, tagged_as};
 
@@ -24,6 +24,30 @@ fn either(one: &Option<StateId>, other: &Option<StateId>) -> Option<StateId>
 }
 
 impl Summary {
+    // There is no character.
+    pub(crate) fn clear(&mut self)
+        ensures empty { (table : TagStates) → IsSummary table [] self.new }
+        ensures capacity { self.new.counts.capacity ≡ self.old.counts.capacity }
+    {
+        self.first = None;
+        self.last = None;
+        self.counts.clear();
+    }
+
+    // A visible run in a state stands behind.
+    pub(crate) fn push(&mut self, states: &StateTable, state: StateId)
+        requires last { IfSome self.old.last (IsState states.now) }
+        requires state { IsState states.now state }
+        requires room { HasRoomForAll states.now self.old.counts }
+        requires few { (tag : ℕ) → count_of tag self.old.counts + 2 < 2 ^ 32 }
+        ensures pushed { (xs : List ℕ) → IsSummary states.now xs self.old → IsSummary states.now (xs ++ state ∷ []) self.new }
+        ensures capacity { self.new.counts.capacity ≡ self.old.counts.capacity }
+    {
+        self.counts.add_border(states, self.last, Some(state));
+        self.first = either(&self.first, &Some(state));
+        self.last = Some(state);
+    }
+
     // The characters of another stretch stand behind those that there are.
     pub(crate) fn join(&mut self, states: &StateTable, other: &Summary)
         requires last { IfSome self.old.last (IsState states.now) }
