@@ -1,5 +1,5 @@
 -- The places of characters that are reached.
-use Rattle.std.proofs.Common.{◌≡◌, ℕ, zero, suc, ◌+◌, ◌-◌, ◌<◌, ◌≤◌, Bool, true, false, List, [], ◌∷◌, ◌++◌, length, length-append, drop, refl, sym, ap, ◌∙◌, arith, subst, Option, Some, None, option_map, if◌then◌else◌}
+use Rattle.std.proofs.Common.{◌≡◌, ℕ, zero, ◌+◌, ◌-◌, ◌<◌, ◌≤◌, Bool, true, false, List, [], ◌∷◌, ◌++◌, length, drop, refl, sym, ap, ◌∙◌, arith, Option, Some, None, option_map, if◌then◌else◌}
 use Rattle.std.specs.Prelude.{nat_lt, position}
 use Rattle.std.specs.List.{AllByRecursion}
 use Rattle.std.proofs.Math.Seq.{drop-append-add}
@@ -41,26 +41,26 @@ module _ (text : List ℕ) (f : ℕ → Bool) where
   abbrev pub passes : Cell ℕ → Bool
   passes cell = f cell.state
 
-  abbrev shown_cells : List Run → List (Cell ℕ)
+  abbrev pub shown_cells : List Run → List (Cell ℕ)
   shown_cells rs = visible_of (cells_of text rs)
 
   -- behind other characters
   shifted : (a b : List (Cell ℕ)) (k : ℕ) → next_place passes (a ++ b) (length a + k) ≡ option_map (λ x. length a + x) (next_place passes b k)
   shifted a b k = ap (λ l. option_map (λ x. length a + k + x) (position passes l)) (drop-append-add a b k) ∙ two_steps (length a) k (position passes (drop k b))
 
-  gone_cells : (r : Run) (rs : List Run) → r.gone ≡ true → shown_cells (r ∷ rs) ≡ shown_cells rs
+  pub gone_cells : (r : Run) (rs : List Run) → r.gone ≡ true → shown_cells (r ∷ rs) ≡ shown_cells rs
   gone_cells r rs g = visible-append (run_cells text r) (cells_of text rs) ∙ ap (λ l. l ++ shown_cells rs) (gone_run text r g)
 
-  run_and_more : (r : Run) (rs : List Run) → r.gone ≡ false → shown_cells (r ∷ rs) ≡ run_cells text r ++ shown_cells rs
+  pub run_and_more : (r : Run) (rs : List Run) → r.gone ≡ false → shown_cells (r ∷ rs) ≡ run_cells text r ++ shown_cells rs
   run_and_more r rs s = visible-append (run_cells text r) (cells_of text rs) ∙ ap (λ l. l ++ shown_cells rs) (shown_run text r s)
 
-  own_gone : (r : Run) → r.gone ≡ true → own r ≡ zero
+  pub own_gone : (r : Run) → r.gone ≡ true → own r ≡ zero
   own_gone r g = rw g refl
 
-  own_shown : (r : Run) → r.gone ≡ false → own r ≡ r.len
+  pub own_shown : (r : Run) → r.gone ≡ false → own r ≡ r.len
   own_shown r s = rw s refl
 
-  states_of : (r : Run) → AllByRecursion (λ (c : Cell ℕ). c.state ≡ r.state) (run_cells text r)
+  pub states_of : (r : Run) → AllByRecursion (λ (c : Cell ℕ). c.state ≡ r.state) (run_cells text r)
   states_of r = row_states r.gone r.first r.site r.state (characters text r)
 
   is_there : (place : ℕ) (r : Run) → place < own r → f r.state ≡ true → is_here f place r ≡ true

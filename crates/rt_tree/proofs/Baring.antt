@@ -6,7 +6,7 @@ use Rattle.rt_tags.specs.States.{TagStates}
 use Rattle.rt_tree.specs.declared.node.Entry.{Entry}
 use Rattle.rt_tree.specs.declared.summary.Summary.{Summary}
 use Rattle.rt_tree.specs.Changes.{above, bare, links, strip}
-use Rattle.rt_tree.specs.Shape.{Memory, all_below, left_of, level_of, parent_of, right_of, runs}
+use Rattle.rt_tree.specs.Shape.{Memory, all_below, left_of, level_of, parent_of, right_of}
 use Rattle.rt_tree.specs.Summaries.{AreSummed, AreSummedBut, IsSummary, left_in, right_in, shown_before, shown_behind, shown_states, summary_of}
 use Rattle.rt_tree.proofs.Bares.{bare-entries}
 use Rattle.rt_tree.proofs.Wholes.{below-bare, flat-bare, left-bare, right-bare, runs-bare}

@@ -4,12 +4,9 @@ use Rattle.std.specs.Prelude.{is_some}
 use Rattle.std.specs.List.{AllByRecursion}
 use Rattle.std.proofs.lemmas.List.{append-nil, drop_more, take_more}
 use Rattle.std.proofs.lemmas.List.Concat.{flat_map-append}
-use Rattle.rt_nodes.specs.declared.memory.NodeId.{NodeId}
 use Rattle.rt_tags.specs.Borders.{either, first, last}
 use Rattle.rt_tags.proofs.Bordering.{first_of, last_of}
 use Rattle.rt_tree.specs.declared.node.Entry.{Entry}
-use Rattle.rt_tree.specs.declared.node.Entry.TheVariants.{Down}
-use Rattle.rt_tree.specs.declared.node.Totals.{Totals}
 use Rattle.rt_tree.specs.declared.summary.Summary.{Summary}
 use Rattle.rt_tree.specs.Shape.{Memory, all_below, below}
 use Rattle.rt_tree.specs.Summaries.{HasEnds, shown_states}
@@ -31,7 +28,7 @@ module _ (m : Memory) (k : ℕ) (es : List Entry) (i : ℕ) (e : Entry) (lt : i 
   abbrev own : List ℕ
   own = shown_states (below m k e)
 
-  up_to : shown (take (i + 1) es) ≡ shown (take i es) ++ own
+  pub up_to : shown (take (i + 1) es) ≡ shown (take i es) ++ own
   up_to =
       ap shown (take_more es i e lt)
       ∙ ap shown_states (flat_map-append (below m k) (take i es) (get_or es i e ∷ [])

@@ -1,8 +1,8 @@
 -- Summaries made from a node's entries.
-use Rattle.std.proofs.Common.{◌≡◌, ℕ, ◌+◌, ◌<◌, ◌≤◌, List, [], ◌∷◌, ◌++◌, length, refl, sym, ap, ◌∙◌, arith, Option, Some, None}
-use Rattle.rt_tags.specs.Borders.{AreToggles, border, either, first, is_tagged, last}
+use Rattle.std.proofs.Common.{◌≡◌, ℕ, ◌+◌, ◌≤◌, List, [], ◌∷◌, ◌++◌, length, sym, ap, ◌∙◌, arith, Some}
+use Rattle.rt_tags.specs.Borders.{border, either, is_tagged, last}
 use Rattle.rt_tags.specs.States.{IsTag, TagStates}
-use Rattle.rt_tags.specs.Toggles.{TagCounts, count_of}
+use Rattle.rt_tags.specs.Toggles.{count_of}
 use Rattle.rt_tags.proofs.Bordering.{first_of, joined, last_of}
 use Rattle.rt_tree.specs.declared.summary.Summary.{Summary}
 use Rattle.rt_tree.specs.Summaries.{IsSummary}

@@ -59,3 +59,10 @@ mod Noting
 mod Baring
 mod Returning
 mod Gathering
+mod Preceding
+mod Collecting
+mod Telling
+mod Besides
+mod Replacing
+mod Regrowing
+mod Parting

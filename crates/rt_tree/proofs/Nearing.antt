@@ -1,5 +1,5 @@
 -- The entries of a node, as a character is reached in their runs.
-use Rattle.std.proofs.Common.{◌≡◌, ℕ, zero, suc, ◌+◌, ◌-◌, ◌<◌, ◌≤◌, Bool, false, true, List, [], ◌∷◌, ◌++◌, length, take, drop, get_or, refl, sym, ap, ◌∙◌, arith, subst}
+use Rattle.std.proofs.Common.{◌≡◌, ℕ, suc, ◌+◌, ◌-◌, ◌<◌, ◌≤◌, Bool, false, List, [], ◌∷◌, ◌++◌, length, take, drop, get_or, sym, ap, ◌∙◌, arith, subst}
 use Rattle.std.specs.Prelude.{IfSome}
 use Rattle.std.specs.List.{AllByRecursion}
 use Rattle.std.proofs.lemmas.List.{append-nil, take_more}
@@ -16,7 +16,7 @@ use Rattle.rt_tree.specs.declared.summary.Summary.{Summary}
 use Rattle.rt_tree.specs.Reaches.{reached}
 use Rattle.rt_tree.specs.Shape.{Memory, IsExact, IsTree, all_below, below, entry_counts, level_of, runs, sum_of}
 use Rattle.rt_tree.specs.Summaries.{AreSummed, IsSummary, shown_states, summary_of}
-use Rattle.rt_tree.specs.Sums.{AreFew, counts_of, plus, totals_of}
+use Rattle.rt_tree.specs.Sums.{AreFew, counts_of, plus}
 use Rattle.rt_tree.proofs.Down.{down, each-at, sum-front}
 use Rattle.rt_tree.proofs.Measures.{counts-append, counts-exact, sum-more}
 use Rattle.rt_tree.proofs.Passes.{each-append, parts-at}

@@ -12,7 +12,6 @@ use Rattle.rt_tags.specs.States.{TagStates}
 use Rattle.rt_tags.proofs.Bordering.{first_of, last_of}
 use Rattle.rt_tree.specs.declared.node.Entry.{Entry}
 use Rattle.rt_tree.specs.declared.node.Entry.TheVariants.{Down, Here}
-use Rattle.rt_tree.specs.declared.node.Run.{Run}
 use Rattle.rt_tree.specs.declared.summary.Summary.{Summary}
 use Rattle.rt_tree.specs.Changes.{above, bare, kid, strip}
 use Rattle.rt_tree.specs.Shape.{Fits, IsShape, Memory, all_below, below, count_of, left_of, level_of, parent_of, right_of, runs}
@@ -103,12 +102,12 @@ module _ (m : Memory) (height root : ℕ) (t : IsShape m height root) where
           let more : slot + 1 ≡ suc (length (left_of id es)) = omega (arith, long) in
           ap (λ n. drop n es) more ∙ ap (drop (suc (length (left_of id es)))) ap'.cut ∙ drop_past (left_of id es) (Down (node id) ap'.totals) (right_of id es)
 
-      before_up : shown_before m (suc j) x i ≡ shown_states (all_below m (suc j) (left_of id es)) ++ shown_before m j x i
+      pub before_up : shown_before m (suc j) x i ≡ shown_states (all_below m (suc j) (left_of id es)) ++ shown_before m j x i
       before_up =
           ap shown_states (append_assoc (all_below m (suc j) (left_of id es)) (left_in m j x) (all_below m 0 (take i (entries m x))))
           ∙ shown-append (all_below m (suc j) (left_of id es)) (left_in m j x ++ all_below m 0 (take i (entries m x)))
 
-      behind_up : shown_behind m (suc j) x i ≡ shown_behind m j x i ++ shown_states (all_below m (suc j) (right_of id es))
+      pub behind_up : shown_behind m (suc j) x i ≡ shown_behind m j x i ++ shown_states (all_below m (suc j) (right_of id es))
       behind_up =
           ap shown_states (sym (append_assoc (all_below m 0 (drop (suc i) (entries m x))) (right_in m j x) (all_below m (suc j) (right_of id es))))
           ∙ shown-append (all_below m 0 (drop (suc i) (entries m x)) ++ right_in m j x) (all_below m (suc j) (right_of id es))

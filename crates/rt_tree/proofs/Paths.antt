@@ -8,7 +8,7 @@ use Rattle.rt_tree.specs.declared.node.Entry.{Entry}
 use Rattle.rt_tree.specs.declared.node.Entry.TheVariants.{Down}
 use Rattle.rt_tree.specs.declared.node.Run.{Run}
 use Rattle.rt_tree.specs.Changes.{above}
-use Rattle.rt_tree.specs.Shape.{Fits, IsShape, Memory, all_below, below, count_of, left_of, level_of, parent_of, right_of, runs}
+use Rattle.rt_tree.specs.Shape.{Fits, IsShape, Memory, all_below, below, count_of, left_of, level_of, right_of, runs}
 use Rattle.rt_tags.specs.Borders.{one_or_none}
 use Rattle.rt_tags.specs.States.{TagStates}
 use Rattle.rt_tree.specs.declared.summary.Summary.{Summary}

@@ -1,10 +1,10 @@
 -- Characters that are reached.
-use Rattle.std.proofs.Common.{◌≡◌, ℕ, ◌+◌, ◌-◌, ◌<◌, ◌≤◌, not, Bool, true, false, List, [], ◌∷◌, ◌++◌, refl, sym, ap, subst, ◌∙◌, arith, Option, Some, None}
-use Rattle.std.specs.Prelude.{nat_lt, IfSome}
+use Rattle.std.proofs.Common.{◌≡◌, ℕ, ◌+◌, ◌-◌, ◌<◌, ◌≤◌, not, Bool, true, false, List, [], ◌∷◌, ◌++◌, refl, sym, ap, subst, ◌∙◌, arith}
+use Rattle.std.specs.Prelude.{IfSome}
 use Rattle.std.specs.List.{AllByRecursion}
 use Rattle.std.proofs.lemmas.Bool.Decides.{nat_tests}
 use Rattle.rt_store.proofs.Distinct.{split}
-use Rattle.rt_tags.specs.Borders.{borders, first, is_tagged}
+use Rattle.rt_tags.specs.Borders.{borders, is_tagged}
 use Rattle.rt_tags.specs.States.{IsState, IsTag, TagStates}
 use Rattle.rt_tags.specs.Toggles.{count_of}
 use Rattle.rt_tags.proofs.Bordering.{all_alike}

@@ -1,8 +1,7 @@
 -- Characters that are reached from behind.
-use Rattle.std.proofs.Common.{◌≡◌, ℕ, zero, suc, ◌+◌, ◌-◌, ◌<◌, ◌≤◌, Bool, true, false, List, [], ◌∷◌, ◌++◌, length, take, drop, get_or, refl, sym, ap, subst, ◌∙◌, arith, if◌then◌else◌}
+use Rattle.std.proofs.Common.{◌≡◌, ℕ, zero, ◌+◌, ◌-◌, ◌<◌, ◌≤◌, Bool, true, false, List, [], ◌∷◌, ◌++◌, length, take, get_or, refl, sym, ap, subst, ◌∙◌, arith, if◌then◌else◌}
 use Rattle.std.specs.Prelude.{min, nat_lt}
 use Rattle.std.specs.List.{AllByRecursion}
-use Rattle.std.proofs.Math.Nat.{min-eq_left, min-eq_right}
 use Rattle.std.proofs.lemmas.Bool.{le-ltb, lt-ltb, ltb-false, ltb-true}
 use Rattle.std.proofs.lemmas.Bool.Decides.{nat_tests}
 use Rattle.std.proofs.lemmas.List.{append-nil, take_more}
@@ -15,10 +14,10 @@ use Rattle.rt_tree.specs.Shape.{Memory, all_below, below}
 use Rattle.rt_tree.specs.Summaries.{shown_states}
 use Rattle.rt_tree.proofs.Reaching.{own, shown_gone, shown_here, visible}
 
-later_yes : (n later front : ℕ) → 0 < later → later_or n later front ≡ n + later
+pub later_yes : (n later front : ℕ) → 0 < later → later_or n later front ≡ n + later
 later_yes n later front l = ap (λ b. if b then n + later else front) (lt-ltb 0 later l)
 
-later_no : (n later front : ℕ) → later ≡ 0 → later_or n later front ≡ front
+pub later_no : (n later front : ℕ) → later ≡ 0 → later_or n later front ≡ front
 later_no n later front z = ap (λ b. if b then n + later else front) (le-ltb 0 later (omega (arith, z)))
 
 nest : (n k later front here : ℕ) → later_or n (later_or k later front) here ≡ later_or (n + k) later (later_or n front here)
@@ -32,7 +31,7 @@ nest n k later front here = split (nat_lt 0 later)
     ap (λ x. later_or n x here) (later_no k later front z) ∙ sym (later_no (n + k) later (later_or n front here) z))
 
 module _ (test : ℕ → Bool) where
-  abbrev mine : ℕ → Run → ℕ
+  abbrev pub mine : ℕ → Run → ℕ
   mine upto r = if test r.state then min upto (own r) else 0
 
   -- what is behind comes first
@@ -70,7 +69,7 @@ module _ (test : ℕ → Bool) where
   mine-none : (upto : ℕ) (r : Run) → test r.state ≡ false → mine upto r ≡ zero
   mine-none upto r e = ap (λ b. if b then min upto (own r) else 0) e
 
-  mine-gone : (upto : ℕ) (r : Run) → r.gone ≡ true → mine upto r ≡ zero
+  pub mine-gone : (upto : ℕ) (r : Run) → r.gone ≡ true → mine upto r ≡ zero
   mine-gone upto r e = let z : own r ≡ zero = (rw e refl) in let m = mine-le upto r in omega (arith, z, m)
 
   -- runs in none of whose states it is

@@ -41,7 +41,7 @@ all_drop Q zero cs all = all
 all_drop Q (suc k) [] all = tt
 all_drop Q (suc k) (c ∷ cs) all = all_drop Q k cs all.1
 
-all_take : (Q : Cell ℕ → Type 0) (k : ℕ) (cs : List (Cell ℕ)) → AllByRecursion Q cs → AllByRecursion Q (take k cs)
+pub all_take : (Q : Cell ℕ → Type 0) (k : ℕ) (cs : List (Cell ℕ)) → AllByRecursion Q cs → AllByRecursion Q (take k cs)
 all_take Q zero cs all = tt
 all_take Q (suc k) [] all = tt
 all_take Q (suc k) (c ∷ cs) all = (all.0, all_take Q k cs all.1)
@@ -67,7 +67,7 @@ module _ (test : Cell ℕ → Bool) where
       let more : drop (at + 1) cs ≡ a ++ rest = ap (λ i. drop i cs) up ∙ drop_more cs at c (a ++ rest) h in
       next_on test cs at c (a ++ rest) h all.0 ∙ next_past cs a rest (at + 1) n more (omega (arith, e)) all.1
 
-  none_last : (a : List (Cell ℕ)) → AllByRecursion (λ c. test c ≡ false) a → last_place test a ≡ None
+  pub none_last : (a : List (Cell ℕ)) → AllByRecursion (λ c. test c ≡ false) a → last_place test a ≡ None
   none_last [] all = refl
   none_last (c ∷ a) all = rw (none_last a all.1, all.0) refl
 

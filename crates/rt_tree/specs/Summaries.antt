@@ -7,6 +7,7 @@ use Rattle.rt_tree.specs.declared.node.Entry.{Entry}
 use Rattle.rt_tree.specs.declared.node.Entry.TheVariants.{Down, Here}
 use Rattle.rt_tree.specs.declared.node.Run.{Run}
 use Rattle.rt_tree.specs.declared.summary.Summary.{Summary}
+use Rattle.rt_tree.specs.declared.summed.Summaries.{Summaries}
 use Rattle.rt_nodes.specs.Nodes.{entries}
 use Rattle.rt_tree.specs.Changes.{above}
 use Rattle.rt_tree.specs.Shape.{Memory, all_below, below, left_of, level_of, right_of, runs}
@@ -33,10 +34,22 @@ summary_of sums id = slice_index_or sums id no_summary
 abbrev pub AreSummed : TagStates → Memory → List Summary → Type 0
 AreSummed table m sums = (id : ℕ) → id < length m.heads → IsSummary table (shown_states (runs m (level_of m id) id)) (summary_of sums id)
 
--- there are summaries for all nodes, spare ones too, each with memory for so many tags
-pub record HaveRoom (m : Memory) (sums : List Summary) (tags : ℕ) : Type 0 where
-  pub nodes : length m.heads + m.room ≤ length sums
-  pub memory : AllByRecursion (λ s. tags ≤ s.counts.capacity) sums
+-- how many tags there is memory for in a node's summary
+abbrev pub room_at : List Summary → ℕ → ℕ
+room_at sums id = (summary_of sums id).counts.capacity
+
+-- there is memory for counts of so many tags wherever some are kept
+pub record HaveMemory (s : Summaries) : Type 0 where
+  pub each : (id : ℕ) → id < length s.each.items → s.tags ≤ room_at s.each.items id
+  pub minus : s.tags ≤ s.minus.capacity
+  pub plus : s.tags ≤ s.plus.capacity
+  pub spare : s.tags ≤ s.spare.counts.capacity
+
+-- a summary tells what another told, whatever memory they have
+pub record TellsAs (old new : Summary) : Type 0 where
+  pub first : new.first ≡ old.first
+  pub last : new.last ≡ old.last
+  pub counts : new.counts.counts ≡ old.counts.counts
 
 -- of an entry's node the first and the last state are told
 abbrev pub HasEnds : Memory → ℕ → List Summary → Entry → Type 0
@@ -44,6 +57,11 @@ HasEnds m k sums (Here r) = Unit {0}
 HasEnds m k sums (Down c t) =
     (c.index < length sums) × ((summary_of sums c.index).first ≡ first (shown_states (below m k (Down c t))))
     × ((summary_of sums c.index).last ≡ last (shown_states (below m k (Down c t))))
+
+-- of an entry's node there is a summary, which is that of the runs below it
+abbrev pub HasSummary : TagStates → Memory → ℕ → List Summary → Entry → Type 0
+HasSummary table m k sums (Here r) = Unit {0}
+HasSummary table m k sums (Down c t) = (c.index < length sums) × IsSummary table (shown_states (below m k (Down c t))) (summary_of sums c.index)
 
 -- a summary is that of a stretch in which a state, or none, has such neighbours, if any
 pub record WasAround (table : TagStates) (s : Summary) (before after old : Option ℕ) : Type 0 where

@@ -1,12 +1,15 @@
 // The last character before a place that has a tag.
-ghost use Rattle.std.specs.Prelude.{◌≡◌, ◌<◌, ◌≤◌, ◌^◌, List, [], ◌∷◌, IfSome, false, true, length, slice_index_or};
+ghost use Rattle.std.specs.Prelude.{◌≡◌, ℕ, ◌<◌, ◌≤◌, ◌^◌, List, [], ◌∷◌, IfSome, false, true, length, slice_index_or};
 ghost use Rattle.std.specs.List.{AllByRecursion};
 ghost use Rattle.rt_nodes.specs.Nodes.{IsNode, entries};
 ghost use Rattle.rt_tags.specs.States.{IsState, IsTag};
 ghost use Rattle.rt_tree.specs.declared.node.Entry.{Entry};
 ghost use Rattle.rt_tree.specs.declared.node.Run.{Run};
+ghost use Rattle.rt_store.specs.Cells.{visible_of};
+ghost use Rattle.rt_store.specs.Tagged.{previous_place, tag_is};
 ghost use Rattle.rt_tree.specs.Reaches.{reached_back};
-ghost use Rattle.rt_tree.specs.Shape.{IsTree, below, level_of, runs};
+ghost use Rattle.rt_tree.specs.Runs.{IsRun, cells_of};
+ghost use Rattle.rt_tree.specs.Shape.{IsTree, below, level_of, runs, tree_runs};
 ghost use Rattle.rt_tree.specs.Summaries.{AreSummed, IsSummary, shown_states, tagged_as};
 ghost use Rattle.rt_tree.specs.Sums.{AreFew, counts_of};
 
@@ -112,4 +115,26 @@ pub(crate) fn reached_back(
         }
     }
     0
+}
+
+// The greatest place below one whose character is looked for.
+pub(crate) fn previous_place(
+    mem: &Mem,
+    sums: &[Summary],
+    states: &StateTable,
+    wanted: &Wanted,
+    root: NodeId,
+    place: usize,
+) -> Option<usize>
+    requires tree { IsTree mem.now root.index }
+    requires sums { AreSummed states.now mem.now sums.now }
+    requires many { length mem.now.heads ≤ length sums.now }
+    requires tag { IsTag states.now wanted.now.tag }
+    requires given { AllByRecursion (IsState states.now) (shown_states (tree_runs mem.now root.index)) }
+    requires few { AreFew (counts_of (tree_runs mem.now root.index)) }
+    ensures { (text : List ℕ) → AllByRecursion (IsRun text) (tree_runs mem.now root.index)
+        → result ≡ previous_place (tag_is states.now wanted.now.tag wanted.now.on) (visible_of (cells_of text (tree_runs mem.now root.index))) place }
+{
+    let found = reached_back(mem, sums, states, wanted, root, root, place);
+    if found > 0 { Some(found - 1) } else { None }
 }

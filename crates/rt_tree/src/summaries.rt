@@ -14,7 +14,7 @@ use rt_nodes::NodeId;
 use rt_tags::{StateId, StateTable, Toggles};
 
 // The state that a run shows, if it is visible.
-fn shown_state(run: &Run) -> Option<StateId>
+pub(crate) fn shown_state(run: &Run) -> Option<StateId>
     ensures first { result ≡ first (shown_states (run.now ∷ [])) }
     ensures last { result ≡ last (shown_states (run.now ∷ [])) }
 {

@@ -1,4 +1,4 @@
-use Rattle.std.proofs.Common.{◌≡◌, ◌∙◌, ap, arith}
+use Rattle.std.proofs.Common.{◌∙◌, ap}
 use Rattle.rt_tree.specs.Reaches.{reached_back}
 use Rattle.rt_tree.specs.Summaries.{shown_states, tagged_as}
 use Rattle.rt_tree.proofs.Returning.{back-none, back-zero}

@@ -1,4 +1,4 @@
-use Rattle.std.proofs.Common.{◌≡◌, ◌∙◌, arith, sym}
+use Rattle.std.proofs.Common.{◌∙◌, arith, sym}
 use Rattle.rt_tree.specs.Summaries.{shown_states, tagged_as}
 use Rattle.rt_tree.proofs.Reaching.{reached-far, reached-none}
 use Rattle.rt_tree.proofs.reach.is_past.Goals as goal

@@ -1,4 +1,4 @@
-use Rattle.std.proofs.Common.{◌≡◌, ℕ, ◌<◌, ◌∙◌, arith, get_or, length, sym}
+use Rattle.std.proofs.Common.{ℕ, ◌<◌, ◌∙◌, arith, get_or, length, sym}
 use Rattle.rt_nodes.specs.Nodes.{entries}
 use Rattle.rt_tree.specs.Changes.{kid}
 use Rattle.rt_tree.specs.Shape.{level_of}

@@ -1,4 +1,4 @@
-use Rattle.std.proofs.Common.{◌≡◌, ◌∙◌, ◌+◌, ◌++◌, length, ap, arith, if◌then◌else◌, subst, sym, get_or-set_same}
+use Rattle.std.proofs.Common.{◌∙◌, ◌+◌, ◌++◌, length, ap, arith, if◌then◌else◌, subst, sym, get_or-set_same}
 use Rattle.std.specs.Prelude.{is_some}
 use Rattle.rt_tags.specs.Borders.{either, one_or_none}
 use Rattle.rt_tags.specs.Toggles.{AreFrom, HasRoomFor, count_of, more_tags}

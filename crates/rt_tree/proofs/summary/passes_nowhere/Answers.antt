@@ -1,4 +1,4 @@
-use Rattle.std.proofs.Common.{◌≡◌, ◌∙◌, ap, arith, sym}
+use Rattle.std.proofs.Common.{◌∙◌, sym}
 use Rattle.rt_tree.proofs.Reaching.{told}
 use Rattle.rt_tree.proofs.Skipping.{low_is}
 use Rattle.rt_tree.proofs.summary.passes_nowhere.Goals as goal

@@ -1,4 +1,4 @@
-use Rattle.std.proofs.Common.{◌≡◌, ◌≤◌, ◌∙◌, ℕ, arith, length, subst, sym}
+use Rattle.std.proofs.Common.{◌≡◌, ◌≤◌, ◌∙◌, ℕ, arith, length, subst}
 use Rattle.rt_tags.specs.Toggles.{AreFrom, count_of}
 use Rattle.rt_tags.proofs.Together.{together}
 use Rattle.rt_tree.proofs.Summing.{joined_summary}
