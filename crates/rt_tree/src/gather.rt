@@ -46,8 +46,10 @@ fn add_entry(
     requires given { AllByRecursion (IsState states.now) (shown_states (runs mem.now (level_of mem.now node.index) node.index)) }
     requires few { length (shown_states (runs mem.now (level_of mem.now node.index) node.index)) + 2 < 2 ^ 32 }
     requires room { length states.now.names ≤ summary.old.counts.capacity }
-    requires before { IsSummary states.now (shown_states (all_below mem.now (level_of mem.now node.index) (take i (entries mem.now node.index)))) summary.old }
-    ensures added { IsSummary states.now (shown_states (all_below mem.now (level_of mem.now node.index) (take (i + 1) (entries mem.now node.index)))) summary.new }
+    requires before { IsSummary states.now (shown_states (all_below mem.now (level_of mem.now node.index) (take i (entries mem.now node.index))))
+        summary.old }
+    ensures added { IsSummary states.now (shown_states (all_below mem.now (level_of mem.now node.index) (take (i + 1) (entries mem.now node.index))))
+        summary.new }
     ensures capacity { summary.new.counts.capacity ≡ summary.old.counts.capacity }
 {
     match *mem.entry(node, i) {

@@ -103,7 +103,8 @@ pub(crate) fn replace_run(
     requires given { AllByRecursion (IsState states.now) (shown_states (ahead (bare mem.old) height leaf.index
         ++ (all_below (bare mem.old) 0 (links (slice_set (entries mem.old leaf.index) i (Here run))) ++ behind (bare mem.old) height leaf.index))) }
     requires short { length (shown_states (ahead (bare mem.old) height leaf.index
-        ++ (all_below (bare mem.old) 0 (links (slice_set (entries mem.old leaf.index) i (Here run))) ++ behind (bare mem.old) height leaf.index))) + 4 < 2 ^ 32 }
+        ++ (all_below (bare mem.old) 0 (links (slice_set (entries mem.old leaf.index) i (Here run)))
+        ++ behind (bare mem.old) height leaf.index))) + 4 < 2 ^ 32 }
     ensures tree { IsShape (bare mem.new) height root.index }
     ensures exact { AreExact mem.new }
     ensures filled { AreFilled mem.new root.index }
@@ -147,7 +148,8 @@ pub(crate) fn insert_run(
     requires given { AllByRecursion (IsState states.now) (shown_states (ahead (bare mem.old) height leaf.index
         ++ (all_below (bare mem.old) 0 (links (insert (entries mem.old leaf.index) i (Here run))) ++ behind (bare mem.old) height leaf.index))) }
     requires short { length (shown_states (ahead (bare mem.old) height leaf.index
-        ++ (all_below (bare mem.old) 0 (links (insert (entries mem.old leaf.index) i (Here run))) ++ behind (bare mem.old) height leaf.index))) + 4 < 2 ^ 32 }
+        ++ (all_below (bare mem.old) 0 (links (insert (entries mem.old leaf.index) i (Here run)))
+        ++ behind (bare mem.old) height leaf.index))) + 4 < 2 ^ 32 }
     ensures tree { IsShape (bare mem.new) height root.index }
     ensures exact { AreExact mem.new }
     ensures filled { AreFilled mem.new root.index }
