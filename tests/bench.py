@@ -17,6 +17,9 @@ the processor, the least of three runs where these are short; with PERCENT, so m
 Then the memory of the editing session over its visible characters, at most 200 bytes. Some twenty minutes on a busy machine.
 tests/bench.py steps [PROGRAM [COMMANDS]]: counts the instructions of a command in 4,000 and in 8,000, by callgrind too. It is wrong
 where they differ by more than a tenth.
+tests/bench.py tags [PROGRAM [COUNT]]: times so many look-ups and writes of tags from random places, at a text of 40,000 characters with
+10,000 ranges of twenty tags and at four times that, in microseconds each (tests/bench/tagged.py); 20,000 of them if no number is given. It is
+wrong where they take more than 1.5 times as long at four times the size.
 tests/bench.py instructions [PROGRAM [LINES]]: counts the instructions that a line takes, by valgrind's callgrind: those of 4,000
 lines less those of 2,000, if no number is given, which are the same each time.
 """
@@ -33,7 +36,8 @@ import time
 ROOT = os.path.dirname(os.path.dirname(os.path.abspath(__file__)))
 sys.path.insert(0, os.path.join(ROOT, "tests", "bench"))
 import growth as cases
-MODES = ("lists", "spans", "nodes", "replica", "tree", "instructions", "growth", "steps")
+import tagged
+MODES = ("lists", "spans", "nodes", "replica", "tree", "instructions", "growth", "steps", "tags")
 MODE = sys.argv[1] if sys.argv[1:2] and sys.argv[1] in MODES else ""
 WORDS = sys.argv[2:] if MODE else sys.argv[1:]
 PROGRAM = WORDS[0] if WORDS else os.path.join(ROOT, "crates", "peertext", "out", "peertext")
@@ -296,6 +300,21 @@ def steps():
     return 1 if wrong else 0
 
 
+def tags():
+    """The cases of tests/bench/tagged.py at a size and at four times that."""
+    count = int(WORDS[1]) if len(WORDS) > 1 else 20_000
+    with tempfile.TemporaryDirectory() as folder:
+        os.chdir(folder)
+        sizes = (tagged.SIZE, 4 * tagged.SIZE)
+        texts = [list(tagged.text(size)) for size in sizes]
+        made = [least(text, ()) for text in texts]
+        for name, case in tagged.CASES:
+            each = [(least(text + case(size, count), ()) - start) / count * 1e6 for size, text, start in zip(sizes, texts, made)]
+            print(f"{name:20} {each[0]:8.1f} us at {sizes[0]:,} characters {each[1]:8.1f} us at {sizes[1]:,}", flush=True)
+            expect(name, each[1] <= 1.5 * each[0])
+    return 1 if wrong else 0
+
+
 if __name__ == "__main__":
     parts = {"instructions": instructions, "lists": lists, "spans": spans, "nodes": nodes, "replica": replica, "tree": tree}
-    sys.exit({**parts, "growth": grown, "steps": steps, "": main}[MODE]())
+    sys.exit({**parts, "growth": grown, "steps": steps, "tags": tags, "": main}[MODE]())

@@ -41,8 +41,9 @@ def main():
     subprocess.run([PROGRAM, "--version"], capture_output=True, check=True)
     for number in range(SCRIPTS):
         site = Peers(1)
-        # every other script has one widget alone, the others several
+        # every other script has one widget alone, the others several; of every three two have limits
         line = chance.line if number % 2 else lambda: [".t", *chance.command()]
+        chance.has_limits = number % 3 > 0
         lines = [[".t", *chance.begin()], *(line() for _ in range(chance.randrange(1, 80)))]
         script = "".join(" ".join(map(spelled, words)) + "\n" for words in lines)
         wants = [site.reply_to(words) for words in lines]
@@ -55,6 +56,7 @@ def main():
             print(f"failed: script {number}, line {at + 1}")
             print("".join(script.splitlines(True)[:at + 1]), end="")
             print(f"  got  {replies[at] if at < len(replies) else None!r}\n  want {wants[at] if at < len(wants) else None!r}")
+    chance.has_limits = False
     whole, broken = play_groups(chance)
     passed, failed = passed + whole, failed + broken
     print(f"{passed} passed, {failed} failed")

@@ -5,6 +5,9 @@ from modelled.widget import spelled
 
 
 class Chance(random.Random):
+    # whether limits of what widgets show are set
+    has_limits = False
+
     def text(self):
         return "".join(self.choice("ab_1 \n-é日") for _ in range(self.randrange(9)))
 
@@ -52,8 +55,14 @@ class Chance(random.Random):
             return [action, self.truth()]
         return [action, *(["1"] if self.random() < .02 else [])]
 
+    def limit(self):
+        return [self.choice(["-startline", "-endline"]), self.choice(["", "1", "2", "2", "3", "3", "4", "5", "0", "99" if self.random() < .1 else "2", "+1" if self.random() < .1 else "3"])]
+
+    def option(self):
+        return [self.choice(["-undo", "-autoseparators", "-font" if self.random() < .05 else "-autoseparators"]), self.truth()]
+
     def options(self):
-        return [w for _ in range(self.choice([1, 1, 1, 2, 3])) for w in (self.choice(["-undo", "-autoseparators", "-font" if self.random() < .05 else "-autoseparators"]), self.truth())]
+        return [w for _ in range(self.choice([1, 1, 1, 2, 3])) for w in (self.limit() if self.has_limits and self.random() < .7 else self.option())]
 
     def begin(self):
         """Most scripts begin with the undo mechanism on."""
@@ -81,7 +90,7 @@ class Chance(random.Random):
         if kind == "configure":
             return [kind, *(self.options() if self.random() < .5 else ["-undo", "1"])][:99 if self.random() < .95 else 2]
         if kind == "cget":
-            return [kind, self.choice(["-undo", "-autoseparators", "-font" if self.random() < .1 else "-undo"])]
+            return [kind, self.choice([*(["-startline", "-endline"] if self.has_limits else []), "-undo", "-autoseparators", "-font" if self.random() < .1 else "-undo"])]
         if kind == "insert":
             return [kind, self.word(), *self.texts()]
         if kind == "replace":

@@ -1,16 +1,120 @@
 """The plain model of the widgets of a site. The one that commands has its own marks and its selection under their names;
-those of the others stand aside, marked by their paths, and take part in each edit."""
-from modelled.sites import Site
-from modelled.widget import BAD_COMMAND, BAD_NAME, Refused, spelled
+those of the others stand aside, marked by their paths, and take part in each edit. A widget may show some lines alone: then
+what it says is that of a text which is these lines, and its edits stay within them."""
+import contextlib
 
-NO_WIDGET, WIDGET_EXISTS, LAST_WIDGET = "! 5 NoWidget", "! 6 WidgetExists", "! 16 LastWidget"
+from modelled.sites import Site, cells, truth
+from modelled.widget import BAD_COMMAND, BAD_NAME, BAD_OPTION, Refused, Widget, spelled
+
+NO_WIDGET, WIDGET_EXISTS, LAST_WIDGET, BAD_VIEW = "! 5 NoWidget", "! 6 WidgetExists", "! 16 LastWidget", "! 15 BadView"
 OWN_MARKS = ("insert", "current")
+# the commands that change nothing
+READING = ("get", "index", "compare", "count", "search", "dump")
+READING_ACTIONS = {"mark": ("next", "previous"), "tag": ("names", "ranges", "nextrange", "prevrange")}
+
+
+def line_asked(word):
+    """What a limit is set to: no line, or one by its number."""
+    if word and not (word.isascii() and word.isdigit()):
+        raise Refused(BAD_OPTION)
+    return int(word) if word else None
 
 
 class Peers(Site):
     def __init__(self, site):
         super().__init__(site)
         self.paths, self.leader = [".t"], ".t"
+        # of each widget the stamps of the newlines before its first line and of its last one
+        self.limits, self.is_apart = {".t": (None, None)}, False
+
+    # what a widget shows
+
+    def line_of_stamp(self, stamp):
+        """The line that holds the place of a newline, and whether that is gone."""
+        place = 0
+        for here, _, is_visible, _ in cells(self.ops):
+            if here == stamp:
+                return self.line(place), not is_visible
+            place += is_visible
+
+    def shown_lines(self, path):
+        start, end = self.limits[path]
+        last = self.line_of_stamp(end)[0] if end else self.lines()
+        first = 1
+        if start:
+            line, is_gone = self.line_of_stamp(start)
+            first = line if is_gone else line + 1
+        return min(first, last), last
+
+    def begin(self):
+        return 0 if self.is_apart else self.start(self.shown_lines(self.leader)[0])
+
+    def end(self):
+        return len(self.text) if self.is_apart else self.start(self.shown_lines(self.leader)[1] + 1)
+
+    @contextlib.contextmanager
+    def shown(self):
+        """The lines that are shown, as if they were the whole text."""
+        whole, a, b = (self.text, self.tags, self.marks), self.begin(), self.end()
+        self.marks = {name: [max(a, min(p, b - (name == "insert"))) - a, gravity] for name, (p, gravity) in self.marks.items()}
+        self.text, self.tags, self.is_apart = self.text[a:b], self.tags[a:b], True
+        try:
+            yield
+        finally:
+            (self.text, self.tags, self.marks), self.is_apart = whole, False
+
+    def index(self, word):
+        """The place of an index in the whole text, or among the lines that are shown while these are apart."""
+        if self.is_apart:
+            return super().index(word)
+        with self.shown():
+            place = super().index(word)
+        return self.begin() + place
+
+    # limits
+
+    def settings(self, words):
+        pairs = list(zip(words[::2], words[1::2]))
+        if not {option for option, _ in pairs} <= {"-undo", "-autoseparators", "-startline", "-endline"}:
+            raise Refused(BAD_OPTION)
+        return {option: line_asked(word) if "line" in option else truth(word) for option, word in pairs}
+
+    def limits_set(self, settings):
+        """The limits of the widget that commands, with those that are named."""
+        (first, last), lines, (start, end) = self.shown_lines(self.leader), self.lines(), self.limits[self.leader]
+        if "-startline" in settings:
+            first = 1 if settings["-startline"] is None else settings["-startline"]
+        behind = last + 1
+        if "-endline" in settings:
+            behind = lines + 1 if settings["-endline"] is None else settings["-endline"]
+        if not 1 <= first < behind <= lines + 1:
+            raise Refused(BAD_VIEW)
+        if "-startline" in settings:
+            start = self.stamps[self.start(first) - 1] if first > 1 else None
+        if "-endline" in settings:
+            end = self.stamps[self.start(behind) - 1] if behind <= lines else None
+        return start, end
+
+    def set_options(self, settings):
+        self.limits[self.leader] = self.limits_set(settings)
+        super().set_options(settings)
+
+    def cget(self, words):
+        if words == ["-startline"] or words == ["-endline"]:
+            first, last = self.shown_lines(self.leader)
+            start, end = self.limits[self.leader]
+            if words == ["-startline"]:
+                return [str(first) if start else ""]
+            return [str(last + 1) if end else ""]
+        return super().cget(words)
+
+    def revert(self, action):
+        reverted, renamed = super().revert(action)
+        for old, new in renamed:
+            self.limits = {path: tuple(new if stamp == old else stamp for stamp in limits) for path, limits in self.limits.items()}
+        return reverted, renamed
+
+    # the widgets
 
     def lead(self, path):
         """The widget of a path commands from here on."""
@@ -24,23 +128,19 @@ class Peers(Site):
         self.leader = path
 
     def create(self, words):
-        path, settings = words[0], words[1:]
-        if len(settings) % 2:
+        path, words = words[0], words[1:]
+        if len(words) % 2:
             raise Refused(BAD_COMMAND)
-        if settings:
-            before = self.undo.is_on, self.undo.separates
-            self.configure(settings)
-        try:
-            if not path.startswith(".") or path == ".":
-                raise Refused(BAD_NAME)
-            if path in self.paths:
-                raise Refused(WIDGET_EXISTS)
-        except Refused:
-            if settings:
-                self.undo.is_on, self.undo.separates = before
-            raise
+        settings = self.settings(words)
+        if not path.startswith(".") or path == ".":
+            raise Refused(BAD_NAME)
+        if path in self.paths:
+            raise Refused(WIDGET_EXISTS)
+        self.limits[path] = self.limits_set(settings)
+        Site.set_options(self, settings)
         self.paths.append(path)
-        self.others.update({(path, name): [0, "right"] for name in OWN_MARKS})
+        begin = self.start(self.shown_lines(path)[0])
+        self.others.update({(path, name): [begin, "right"] for name in OWN_MARKS})
         return [path]
 
     def peer(self, words):
@@ -59,6 +159,7 @@ class Peers(Site):
         if self.paths == [path]:
             raise Refused(LAST_WIDGET)
         self.paths.remove(path)
+        del self.limits[path]
         self.lead(self.paths[0])
         for name in OWN_MARKS:
             del self.others[path, name]
@@ -66,7 +167,12 @@ class Peers(Site):
         return []
 
     def command(self, name, words):
-        return self.peer(words) if name == "peer" else super().command(name, words)
+        if name == "peer":
+            return self.peer(words)
+        if name in READING or words and words[0] in READING_ACTIONS.get(name, ()):
+            with self.shown():
+                return Widget.command(self, name, words)
+        return super().command(name, words)
 
     def reply_to(self, words):
         """The reply line to a line of a script."""

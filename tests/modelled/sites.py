@@ -132,12 +132,13 @@ class Site(Widget):
         """What is visible at places: stamps, characters and shared tags."""
         return [(self.stamps[p], self.text[p], shared(self.tags[p])) for p in places]
 
-    def is_removing(self, gone, is_cleared):
+    def is_removing(self, gone, cleared):
         self.taken_away += self.shown_at(gone)
         if gone:
             self.make(Delete, [self.stamps[p] for p in gone])
-        for tag in sorted(shared(self.tags[-1]), key=str.encode) if is_cleared else []:
-            self.make(Tag, [FINAL_STAMP], False, tag)
+        for p in cleared:
+            for tag in sorted(shared(self.tags[p]), key=str.encode):
+                self.make(Tag, [self.stamps[p]], False, tag)
         self.stamps = [here for p, here in enumerate(self.stamps) if p not in set(gone)]
 
     def is_tagging(self, name, places, on):
@@ -184,14 +185,18 @@ class Site(Widget):
     def configure(self, words):
         if not words or len(words) % 2:
             raise Refused(BAD_COMMAND)
+        self.set_options(self.settings(words))
+        return []
+
+    def settings(self, words):
+        """What pairs of words set options to; of several values of one the last counts."""
         if not set(words[::2]) <= {"-undo", "-autoseparators"}:
             raise Refused(BAD_OPTION)
-        for option, value in [(option, truth(word)) for option, word in zip(words[::2], words[1::2])]:
-            if option == "-undo":
-                self.undo.is_on = value
-            else:
-                self.undo.separates = value
-        return []
+        return {option: truth(word) for option, word in zip(words[::2], words[1::2])}
+
+    def set_options(self, settings):
+        self.undo.is_on = settings.get("-undo", self.undo.is_on)
+        self.undo.separates = settings.get("-autoseparators", self.undo.separates)
 
     def cget(self, words):
         if len(words) != 1:

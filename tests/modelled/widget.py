@@ -100,6 +100,14 @@ class Widget:
         # the own marks of the other widgets, by their paths and names
         self.others = {}
 
+    # what the widget shows of the text: the places from one up to before another
+
+    def begin(self):
+        return 0
+
+    def end(self):
+        return len(self.text)
+
     # places
 
     def lines(self):
@@ -199,13 +207,13 @@ class Widget:
 
     # edits
 
-    # what a site makes operations of: characters put in, characters taken away (and the last newline's tags, if it is
-    # cleared), a tag put on characters or taken off
+    # what a site makes operations of: characters put in, characters taken away (and the tags of the last newline that is shown,
+    # where it is cleared), a tag put on characters or taken off
 
     def has_inserted(self, p, new, tags):
         pass
 
-    def is_removing(self, gone, is_cleared):
+    def is_removing(self, gone, cleared):
         pass
 
     def is_tagging(self, name, places, on):
@@ -219,7 +227,7 @@ class Widget:
         if not new:
             return p
         if names is None:
-            tags = self.tags[p - 1] & self.tags[p] if p else frozenset()
+            tags = self.tags[p - 1] & self.tags[p] if self.begin() < p < self.end() else frozenset()
         else:
             tags = frozenset(names)
         self.text = self.text[:p] + new + self.text[p:]
@@ -246,7 +254,7 @@ class Widget:
 
     def put(self, p, words, lists):
         """Texts in pairs with their lists, the last perhaps without one."""
-        p = min(p, len(self.text) - 1)
+        p = min(p, self.end() - 1)
         for i, new in enumerate(words[::2]):
             p = self.insert(p, new, lists[i] if i < len(lists) else None)
 
@@ -276,23 +284,23 @@ class Widget:
         self.remove(self.pairs(words))
 
     def remove(self, ranges):
-        n, merged = len(self.text), []
+        n, merged = self.end(), []
         for a, b in sorted((a, min(b, n)) for a, b in ranges if a < min(b, n)):
             if merged and a <= merged[-1][1]:
                 merged[-1][1] = max(b, merged[-1][1])
             else:
                 merged.append([a, b])
-        gone, is_cleared = set(), False
+        gone, cleared = set(), []
         for a, b in merged:
             gone |= set(range(a, b))
             if b == n:
                 gone.discard(n - 1)
-                is_cleared = True
-                if a > 0 and self.text[a - 1] == "\n":
+                cleared = [n - 1]
+                if a > self.begin() and self.text[a - 1] == "\n":
                     gone.add(a - 1)
-        self.is_removing(sorted(gone), is_cleared)
-        if is_cleared:
-            self.tags[n - 1] = frozenset()
+        self.is_removing(sorted(gone), cleared)
+        for p in cleared:
+            self.tags[p] = frozenset()
         self.marks_removed(gone)
         self.text = "".join(c for p, c in enumerate(self.text) if p not in gone)
         self.tags = [tags for p, tags in enumerate(self.tags) if p not in gone]
@@ -340,7 +348,7 @@ class Widget:
                 self.names.insert(at, words[0])
             return []
         if action in ("add", "remove"):
-            covered = sorted({p for a, b in self.pairs(words[1:]) for p in range(a, min(b, n))})
+            covered = sorted({p for a, b in self.pairs(words[1:]) for p in range(a, min(b, self.end()))})
             self.is_tagging(words[0], [p for p in covered if (words[0] in self.tags[p]) != (action == "add")], action == "add")
             for p in covered:
                 self.tags[p] = self.tags[p] | {words[0]} if action == "add" else self.tags[p] - {words[0]}
@@ -390,7 +398,7 @@ class Widget:
         if action == "set":
             p = self.index(words[1])
             if words[0] == "insert":
-                p = min(p, len(self.text) - 1)
+                p = min(p, self.end() - 1)
             self.marks.setdefault(words[0], [0, "right"])[0] = p
             return []
         if action == "unset":

@@ -15,6 +15,7 @@ use crate::sorting::sort;
 use crate::stretch::Stretch;
 use crate::texts::texts_in;
 use rt_requests::Kinds;
+use rt_searchcmd::shown;
 use rt_stamps::Fault;
 use rt_store::TextStore;
 use rt_text::View;
@@ -100,7 +101,7 @@ fn gathered<S: TextStore>(
     let mut all = others_in(alloc, view, kinds, stretch_of(view, from, to))?;
     sort(&mut all)?;
     if kinds.text {
-        let mut texts = texts_in(alloc, view.store(), &all, from, to)?;
+        let mut texts = texts_in(alloc, &shown(view), &all, from, to)?;
         all.append(&mut texts)?;
         sort(&mut all)?;
     }

@@ -5,11 +5,11 @@ ghost use Rattle.std.specs.List.Sorted.{IsNonDecreasingBy};
 ghost use Rattle.rt_dump.specs.Elements.{ends_text, placed, stands_at, text_values};
 ghost use Rattle.rt_dump.specs.Stretches.{EndsWhere};
 ghost use Rattle.rt_stamps.specs.Places.{is_newline};
-ghost use Rattle.rt_store.specs.Cells.{text_of};
 ghost use Rattle.rt_text.specs.Ranges.{text_between};
 
 use crate::Key;
 use crate::placed::Placed;
+use rt_search::Part;
 use rt_stamps::Fault;
 use rt_store::TextStore;
 use std::alloc::Global;
@@ -94,18 +94,18 @@ pub(crate) fn values_of(
 /// The characters from a place up to before another.
 fn characters<S: TextStore>(
     alloc: Global,
-    store: &S,
+    text: &Part<'_, S>,
     from: usize,
     to: usize,
 ) -> Result<Vec<char>, Fault>
     requires from { from ≤ to }
-    requires to { to ≤ length (text_of (S.list store.now)) }
-    ensures ok { IfOk result (λ chars. chars.items ≡ text_between (text_of (S.list store.now)) from to) }
+    requires to { to ≤ length text.now }
+    ensures ok { IfOk result (λ chars. chars.items ≡ text_between text.now from to) }
     ensures size { IfOk result (λ chars. from + length chars.items ≡ to) }
     ensures err { IfErr result (λ fault. fault ≡ Fault.NoMemory) }
 {
     let mut chars = vec![in alloc; '\0'; to - from]?;
-    store.characters(from, &mut chars);
+    text.characters(from, &mut chars);
     Ok(chars)
 }
 
@@ -113,19 +113,19 @@ fn characters<S: TextStore>(
 /// characters are read once, in one piece. `NoMemory` is its only fault.
 pub(crate) fn texts_in<S: TextStore>(
     alloc: Global,
-    store: &S,
+    text: &Part<'_, S>,
     others: &[Placed],
     from: usize,
     to: usize,
 ) -> Result<Vec<Placed>, Fault>
     requires rise { IsNonDecreasingBy (λ e. e.place) others.now }
-    requires to { to ≤ length (text_of (S.list store.now)) }
-    ensures ok { IfOk result (λ values. values.items ≡ text_values (text_of (S.list store.now)) others.now from to) }
+    requires to { to ≤ length text.now }
+    ensures ok { IfOk result (λ values. values.items ≡ text_values text.now others.now from to) }
     ensures err { IfErr result (λ fault. fault ≡ Fault.NoMemory) }
 {
     if to <= from {
         return Ok(Vec::new(alloc));
     }
-    let chars = characters(alloc, store, from, to)?;
+    let chars = characters(alloc, text, from, to)?;
     values_of(alloc, &chars, from, to, others)
 }

@@ -42,6 +42,7 @@ pub mod SpanLaws
 pub mod SparingLaws
 pub mod StampLaws
 pub mod StateChanges
+pub mod StretchLaws
 pub mod TagDocuments
 pub mod TagDraftLaws
 pub mod TagEffects

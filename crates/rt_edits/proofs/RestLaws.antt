@@ -77,11 +77,11 @@ among_last stamps x [] right after = refl
 among_last stamps x (y ∷ ys) right after = among_last stamps y ys right after
 
 pub are_both : (after : Stamp) (selection : List Stamp) (listed : List Word) (pieces : PlannedPieces) (so_far : Insertion) (table : TagStates) (left : Option (Cell ℕ)) (right : TaggedCell) (stamps : List Stamp) → AreSoFar after selection listed pieces so_far
-    → after ≡ unwrap_or (option_map (λ cell. cell.stamp) left) ROOT → (is_some pieces.last || is_some left) ≡ true
+    → IfSome left (λ cell. after ≡ cell.stamp) → (is_some pieces.last || is_some left) ≡ true
     → are_among stamps (last_of (option_map (shown table) left) so_far.cells) (Some right) ≡ (is_among stamps pieces.texts.behind && is_among stamps right.stamp)
 are_both after selection listed pieces so_far table left right stamps h a e = by so_far.cells h.last ∙ ap (λ s. is_among stamps s && is_among stamps right.stamp) (sym h.element)
   where
-    first : (o : Option (Cell ℕ)) → is_some o ≡ true → after ≡ unwrap_or (option_map (λ cell. cell.stamp) o) ROOT
+    first : (o : Option (Cell ℕ)) → is_some o ≡ true → IfSome o (λ cell. after ≡ cell.stamp)
         → are_among stamps (option_map (shown table) o) (Some right) ≡ (is_among stamps after && is_among stamps right.stamp)
     first None k b = absurd (cc k)
     first (Some x) k b = ap (λ s. is_among stamps s && is_among stamps right.stamp) (sym b)

@@ -13,6 +13,10 @@ abbrev pub AreApart : ℕ → List Range → Type 0
 AreApart place [] = ⊤
 AreApart place (range ∷ ranges) = (place ≤ range.from) × (range.from < range.to) × AreApart (range.to + 1) ranges
 
+-- a range of a stretch as one of the text, in which the stretch begins at a place
+abbrev pub range_from : ℕ → Range → Range
+range_from begin range = record { from = begin + range.from; to = begin + range.to }
+
 -- a line other than the first begins at a place
 abbrev pub begins_line : List ℕ → ℕ → Bool
 begins_line text place = nat_lt 0 place && is_newline_at text (place - 1)

@@ -8,6 +8,7 @@ ghost use Rattle.rt_store.specs.Tagged.{AreStates};
 ghost use Rattle.rt_store.specs.Written.{AreWritten};
 ghost use Rattle.rt_tags.specs.States.{names_on};
 ghost use Rattle.rt_tags.specs.Tags.{IsName, is_listed};
+ghost use Rattle.rt_views.specs.Stretches.{part};
 ghost use Rattle.rt_edits.specs.Deletions.{delete_drafts, loss_in};
 ghost use Rattle.rt_edits.specs.Flat.{Flat};
 ghost use Rattle.rt_edits.specs.Listed.{AreListed};
@@ -25,6 +26,7 @@ use rt_rga::Draft;
 use rt_stamps::Fault;
 use rt_store::{Cell, TextStore};
 use rt_tags::{StateId, StateTable, TagTable};
+use rt_views::Stretch;
 use std::alloc::Global;
 
 /// What a deletion comes to: the ranges of places that go, whether it holds the last newline, and its
@@ -92,29 +94,32 @@ fn push_newline<S: TextStore>(
     Ok(())
 }
 
-/// Plans the deletion of ranges of the whole text, in any order and of any length: the Deletes of their
-/// characters, and where they hold the last newline, a Tag for each of its shared tags. Want of memory.
+/// Plans the deletion of ranges of a stretch of the text, in any order and of any length: the Deletes of
+/// their characters, and where they hold the stretch's last newline, a Tag for each of its shared tags.
+/// Want of memory.
 pub fn planned_deletion<S: TextStore>(
     alloc: Global,
     store: &S,
     states: &StateTable,
+    stretch: Stretch,
     ranges: &[Range],
 ) -> Result<Deletion, Fault>
+    requires stretch { (stretch.begin < stretch.end) × (stretch.end ≤ length (text_of (S.list store.now))) }
     requires distinct { AreDistinct (S.list store.now) }
     requires states { AreStates states.now (S.list store.now) }
     ensures drafts { IfOk result (λ d. (flat : Flat) → flat.cells ≡ map (shown states.now) (S.list store.now)
-        → map body_of d.drafts.items ≡ delete_drafts MOST_SPANS flat (loss_in (text_of (S.list store.now)) 0 ranges.now)) }
+        → map body_of d.drafts.items ≡ delete_drafts MOST_SPANS flat (loss_in (part stretch (text_of (S.list store.now))) stretch.begin ranges.now)) }
     ensures places { IfOk result (λ d. (place : ℕ)
-        → is_covered d.removed.items place ≡ (loss_in (text_of (S.list store.now)) 0 ranges.now).places place) }
+        → is_covered d.removed.items place ≡ (loss_in (part stretch (text_of (S.list store.now))) stretch.begin ranges.now).places place) }
     ensures order { IfOk result (λ d. AreInOrder 0 d.removed.items) }
-    ensures before { IfOk result (λ d. All (λ range. range.to < length (text_of (S.list store.now))) d.removed.items) }
-    ensures held { IfOk result (λ d. d.held ≡ is_some (loss_in (text_of (S.list store.now)) 0 ranges.now).newline) }
+    ensures before { IfOk result (λ d. All (λ range. range.to < stretch.end) d.removed.items) }
+    ensures held { IfOk result (λ d. d.held ≡ is_some (loss_in (part stretch (text_of (S.list store.now))) stretch.begin ranges.now).newline) }
     ensures err { IfErr result (λ fault. fault ≡ Fault.NoMemory) }
 {
-    let removed = removed_ranges(alloc, store, ranges)?;
+    let removed = removed_ranges(alloc, store, stretch, ranges)?;
     let mut drafts = removals(alloc, store, &removed)?;
-    let last = store.visible() - 1;
-    let held = holds(ranges, last);
+    let last = stretch.end - 1;
+    let held = holds(ranges, last - stretch.begin);
     if held {
         push_newline(alloc, store, states, last, &mut drafts)?;
     }

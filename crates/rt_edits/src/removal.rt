@@ -1,12 +1,15 @@
 // The places that a removal takes, as ranges in the text's order.
-ghost use Rattle.std.specs.Prelude.{◌≡◌, ℕ, ◌<◌, ◌≤◌, ◌&&◌, nat_lt, true, ◌∷◌, All, IfOk, IfErr, length};
+ghost use Rattle.std.specs.Prelude.{◌≡◌, ℕ, ◌<◌, ◌≤◌, ◌&&◌, nat_lt, true, ◌∷◌, ◌+◌, ◌-◌, All, IfOk, IfErr, length, map};
 ghost use Rattle.rt_store.specs.Cells.{text_of, visible_of};
-ghost use Rattle.rt_edits.specs.Merging.{AreRising, AreApart, begins_line, spared};
+ghost use Rattle.rt_views.specs.Stretches.{part};
+ghost use Rattle.rt_edits.specs.Deletions.{places_from};
+ghost use Rattle.rt_edits.specs.Merging.{AreRising, AreApart, begins_line, range_from, spared};
 ghost use Rattle.rt_edits.specs.Removals.{is_covered, is_removed, AreInOrder};
 
 use crate::Range;
 use rt_stamps::Fault;
 use rt_store::TextStore;
+use rt_views::Stretch;
 use std::alloc::Global;
 
 // The ranges up to an end, without those that are empty then.
@@ -74,23 +77,25 @@ fn merged(alloc: Global, sorted: &[Range]) -> Result<Vec<Range>, Fault>
     }
 }
 
-// A line other than the first begins at a place.
-fn begins_line<S: TextStore>(store: &S, place: usize) -> bool
-    requires { place ≤ length (text_of (S.list store.now)) }
-    ensures { result ≡ begins_line (text_of (S.list store.now)) place }
+// A line of a stretch other than its first begins at a place.
+fn begins_line<S: TextStore>(store: &S, stretch: Stretch, place: usize) -> bool
+    requires stretch { stretch.end ≤ length (text_of (S.list store.now)) }
+    requires place { place ≤ length (part stretch (text_of (S.list store.now))) }
+    ensures { result ≡ begins_line (part stretch (text_of (S.list store.now))) place }
 {
-    place > 0 && store.char_at(place - 1) == '\n'
+    place > 0 && store.char_at(stretch.begin + place - 1) == '\n'
 }
 
-// The last range without the last newline, but with the newline before it where it takes whole lines.
-fn spared<S: TextStore>(store: &S, last: Range) -> Range
-    requires { (last.from < last.to) × (last.to ≤ length (text_of (S.list store.now))) }
-    ensures { result ≡ spared (text_of (S.list store.now)) last }
+// The last range of a stretch without the last newline, but with the newline before it where it takes whole lines.
+fn spared<S: TextStore>(store: &S, stretch: Stretch, last: Range) -> Range
+    requires stretch { stretch.end ≤ length (text_of (S.list store.now)) }
+    requires last { (last.from < last.to) × (last.to ≤ length (part stretch (text_of (S.list store.now)))) }
+    ensures { result ≡ spared (part stretch (text_of (S.list store.now))) last }
 {
-    if last.to < store.visible() {
+    if last.to < stretch.end - stretch.begin {
         return last;
     }
-    let from = if begins_line(store, last.from) {
+    let from = if begins_line(store, stretch, last.from) {
         last.from - 1
     } else {
         last.from
@@ -101,39 +106,70 @@ fn spared<S: TextStore>(store: &S, last: Range) -> Range
     }
 }
 
-// Merged ranges, the last newline spared.
-fn sparing<S: TextStore>(store: &S, mut merged: Vec<Range>) -> Vec<Range>
+// Merged ranges of a stretch, the last newline spared.
+fn sparing<S: TextStore>(store: &S, stretch: Stretch, mut merged: Vec<Range>) -> Vec<Range>
+    requires stretch { stretch.end ≤ length (text_of (S.list store.now)) }
     requires apart { AreApart 0 merged.items }
-    requires within { (place : ℕ) → is_covered merged.items place ≡ true → place < length (text_of (S.list store.now)) }
+    requires within { (place : ℕ) → is_covered merged.items place ≡ true → place < length (part stretch (text_of (S.list store.now))) }
     ensures order { AreInOrder 0 result.items }
-    ensures within { All (λ range. range.to < length (text_of (S.list store.now))) result.items }
-    ensures places { (place : ℕ) → is_covered result.items place ≡ is_removed (text_of (S.list store.now)) merged.items place }
+    ensures within { All (λ range. range.to < length (part stretch (text_of (S.list store.now)))) result.items }
+    ensures places { (place : ℕ) → is_covered result.items place ≡ is_removed (part stretch (text_of (S.list store.now))) merged.items place }
 {
     let Some(last) = merged.pop() else {
         return merged;
     };
-    let last = spared(store, last);
+    let last = spared(store, stretch, last);
     if last.from < last.to {
         merged.push_reserved(last);
     }
     merged
 }
 
-/// The places that a removal of ranges takes, as ranges in the text's order: the ranges may come in
-/// any order, overlap, be empty, and pass the text's end. Want of memory.
+// Ranges of a stretch as those of the whole text, in which it begins at a place.
+fn moved_on(begin: usize, mut ranges: Vec<Range>) -> Vec<Range>
+    requires { All (λ range. (begin + range.from ≤ usize.MAX) × (begin + range.to ≤ usize.MAX)) ranges.items }
+    ensures { result.items ≡ map (range_from begin) ranges.items }
+{
+    for i in 0..ranges.len() {
+        ranges[i] = ranges[i].moved_on(begin);
+    }
+    ranges
+}
+
+/// The places that a removal of ranges takes of a stretch of the text, as ranges of the whole text, in
+/// its order: the ranges are of the stretch, and may come in any order, overlap, be empty, and pass its
+/// end. Want of memory.
 pub fn removed_ranges<S: TextStore>(
     alloc: Global,
     store: &S,
+    stretch: Stretch,
     ranges: &[Range],
 ) -> Result<Vec<Range>, Fault>
+    requires { (stretch.begin < stretch.end) × (stretch.end ≤ length (text_of (S.list store.now))) }
     ensures ok { IfOk result (λ removed. AreInOrder 0 removed.items) }
-    ensures within { IfOk result (λ removed. All (λ range. range.to < length (text_of (S.list store.now))) removed.items) }
-    ensures places { IfOk result (λ removed. (place : ℕ) → is_covered removed.items place ≡ is_removed (text_of (S.list store.now)) ranges.now place) }
+    ensures within { IfOk result (λ removed. All (λ range. range.to < stretch.end) removed.items) }
+    ensures places { IfOk result (λ removed. (place : ℕ) → is_covered removed.items place
+        ≡ places_from stretch.begin (is_removed (part stretch (text_of (S.list store.now))) ranges.now) place) }
     ensures err { IfErr result (λ fault. fault ≡ Fault.NoMemory) }
 {
-    let sorted = sorted_before(alloc, ranges, store.visible())?;
+    let sorted = sorted_before(alloc, ranges, stretch.end - stretch.begin)?;
     let merged = merged(alloc, &sorted)?;
-    Ok(sparing(store, merged))
+    Ok(moved_on(stretch.begin, sparing(store, stretch, merged)))
+}
+
+/// The places of a stretch of a text in ranges, as ranges of the whole text, in its order: the ranges
+/// are of the stretch, and may come in any order, overlap, be empty, and pass its end. Want of memory.
+pub fn ranges_shown(alloc: Global, stretch: Stretch, ranges: &[Range]) -> Result<Vec<Range>, Fault>
+    requires { stretch.begin ≤ stretch.end }
+    ensures order { IfOk result (λ shown. AreInOrder 0 shown.items) }
+    ensures within { IfOk result (λ shown. All (λ range. range.to ≤ stretch.end) shown.items) }
+    ensures places { IfOk result (λ shown. (place : ℕ) → is_covered shown.items place
+        ≡ places_from stretch.begin (λ p. nat_lt p (stretch.end - stretch.begin) && is_covered ranges.now p) place) }
+    ensures err { IfErr result (λ fault. fault ≡ Fault.NoMemory) }
+{
+    let sorted = sorted_before(alloc, ranges, stretch.end - stretch.begin)?;
+    let merged = merged(alloc, &sorted)?;
+    Ok(moved_on(stretch.begin, merged))
 }
 
 /// The places of a text in ranges, as ranges in the text's order: the ranges may come in any order,

@@ -1,9 +1,8 @@
 // Text without a list, behind the pieces that are planned.
-ghost use Rattle.std.specs.Prelude.{◌≡◌, ◌⊎◌, ◌+◌, ◌<◌, ◌≤◌, ◌++◌, ◌&&◌, ◌||◌, [], IfOk, IfErr, IfSome, OnOk, List, None, Some, filter, is_some, length, map, option_map, string_bytes, unwrap_or};
+ghost use Rattle.std.specs.Prelude.{◌≡◌, ◌⊎◌, ◌+◌, ◌<◌, ◌≤◌, ◌++◌, ◌&&◌, ◌||◌, [], IfOk, IfErr, IfSome, OnOk, List, None, Some, filter, is_some, length, map, option_map, string_bytes};
 ghost use Rattle.std.specs.Str.{chars};
 ghost use Rattle.rt_stamps.specs.declared.limits.TheConstants.{GREATEST_COUNT, MOST_CHARACTERS};
 ghost use Rattle.rt_stamps.specs.declared.stamp.Stamp.{Stamp};
-ghost use Rattle.rt_stamps.specs.declared.stamp.TheConstants.{ROOT};
 ghost use Rattle.rt_stamps.specs.Words.{Word};
 ghost use Rattle.rt_oplog.specs.Edits.{body_of};
 ghost use Rattle.rt_store.specs.Shown.{TaggedCell, shown};
@@ -159,7 +158,7 @@ impl PlannedPieces {
             (tags_between (last_of (option_map (shown states.now) left) so_far.cells) (Some (shown states.now right))) (chars rest.now)) }
         ensures plans { IfOk result (λ between. (plan : Plan) (after : Stamp) (listed : List Word) (so_far : Insertion)
             → AreSoFar after (stamps_in selection.now) listed self.old so_far
-            → after ≡ unwrap_or (option_map (λ cell. cell.stamp) left) ROOT → ArePlanned plan self.new between
+            → IfSome left (λ cell. after ≡ cell.stamp) → ArePlanned plan self.new between
             → Plans plan (stamps_in selection.now) so_far.others listed (with_unlisted site.number
             (last_of (option_map (shown states.now) left) so_far.cells) (Some (shown states.now right)) (chars rest.now) so_far)) }
         ensures err { IfErr result (λ fault. (fault ≡ Fault.NoMemory) ⊎ ((fault ≡ Fault.ClockSpent)
@@ -210,7 +209,7 @@ impl PlannedPieces {
             (tags_between (last_of (option_map (shown states.now) left) so_far.cells) (option_map (shown states.now) right)) (chars rest.now)) }
         ensures plans { IfOk result (λ between. (plan : Plan) (after : Stamp) (sel : List Stamp) (listed : List Word) (so_far : Insertion)
             → IfSome right (λ cell. sel ≡ stamps_in selection.now) → AreSoFar after sel listed self.old so_far
-            → after ≡ unwrap_or (option_map (λ cell. cell.stamp) left) ROOT → ArePlanned plan self.new between
+            → IfSome left (λ cell. after ≡ cell.stamp) → ArePlanned plan self.new between
             → Plans plan sel so_far.others listed (with_unlisted site.number
             (last_of (option_map (shown states.now) left) so_far.cells) (option_map (shown states.now) right) (chars rest.now) so_far)) }
         ensures alone { IfOk result (λ between. right ≡ None → between ≡ None) }

@@ -13,8 +13,8 @@ use Rattle.rt_stamps.specs.Outcomes.{Answers, Refuses}
 use Rattle.rt_stamps.specs.Words.{Word}
 use Rattle.rt_store.proofs.Shown.{position_map}
 use Rattle.rt_editing.specs.Edited.{Edited}
-use Rattle.rt_text.specs.Widgets.{Own, Viewed, new_own}
-use Rattle.rt_peers.specs.Peers.{HavePaths, text_led, view_led, view_with_one, view_without, widgets_of}
+use Rattle.rt_text.specs.Widgets.{Own, Viewed}
+use Rattle.rt_peers.specs.Peers.{HavePaths, text_led, view_led, view_without, widgets_of}
 use Rattle.rt_peers.specs.SiteStep.{by_widget}
 use Rattle.rt_peers.specs.State.{State, new_view, place_of}
 use Rattle.rt_peers.specs.ViewStep.{Outcome, as_outcome}
@@ -114,10 +114,11 @@ pub first_path : (paths : List Word) (view : Viewed) (path : Word) (site limit :
 unfolding IsDistinct
 first_path paths view path site limit e f = record { each = ap length e ∙ sym (ap (λ v. length (widgets_of v)) f); differ = subst (IsDistinct bytes_eq) (sym e) (tt, tt) }
 
-pub one_more_path : (paths : List Word) (view : Viewed) (path : Word) → HavePaths paths view → place_of path paths ≡ None → HavePaths (paths ++ path ∷ []) (view_with_one view)
-one_more_path paths view path h none =
-    let new = reached (position_or_len (λ other. bytes_eq other path) paths) (length paths) (none_first _ _ none) in
-    record { each = omega (arith, h.each, length-append paths (path ∷ []), length-append view.others (new_own ∷ [])); differ = IsDistinct-push nat_list_eq_equiv paths path h.differ (lacks path paths new) }
+pub one_more_path : (paths : List Word) (view new : Viewed) (path : Word) → HavePaths paths view → place_of path paths ≡ None → length (widgets_of new) ≡ length (widgets_of view) + 1
+    → HavePaths (paths ++ path ∷ []) new
+one_more_path paths view new path h none more =
+    let last = reached (position_or_len (λ other. bytes_eq other path) paths) (length paths) (none_first _ _ none) in
+    record { each = omega (arith, h.each, length-append paths (path ∷ []), more); differ = IsDistinct-push nat_list_eq_equiv paths path h.differ (lacks path paths last) }
 
 all_without : (P : Word → Type 0) (paths : List Word) (place : ℕ) → AllByRecursion P paths → AllByRecursion P (remove paths place)
 all_without P [] zero h = tt

@@ -1,3 +1,4 @@
+pub mod Options
 pub mod PeerStep
 pub mod Peers
 pub mod SiteStep
@@ -9,8 +10,10 @@ pub use Rattle.rt_stamps.specs.Places
 pub use Rattle.rt_stamps.specs.Words
 pub use Rattle.rt_edits.specs.Flat
 pub use Rattle.rt_peer_requests.specs.PeerWords
+pub use Rattle.rt_peer_requests.specs.SettingWords
 pub use Rattle.rt_text.specs.Index
 pub use Rattle.rt_text.specs.Commands
+pub use Rattle.rt_text.specs.Limited
 pub use Rattle.rt_editing.specs.Edited
 pub use Rattle.rt_editing.specs.Edits
 pub use Rattle.rt_editing.specs.Reverts

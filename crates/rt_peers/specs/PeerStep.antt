@@ -1,52 +1,52 @@
 -- What is asked of the widgets of a site by a command of one of them, and by the line `destroy PATH` (Tk text manual, "PEER
 -- WIDGETS"): the reply and the site after it, or why it is refused.
-use Rattle.std.specs.Prelude.{ℕ, ◌||◌, Bool, not, nat_lt, List, [], ◌∷◌, filter, length, Option, Some, None, is_some, Result, Ok, Err, if◌then◌else◌}
+use Rattle.std.specs.Prelude.{ℕ, not, nat_lt, List, filter, length, Option, Some, None, Result, Ok, Err, if◌then◌else◌}
 use Rattle.std.specs.Str.{bytes_eq}
 use Rattle.rt_stamps.specs.declared.fault.Fault.{Fault}
-use Rattle.rt_stamps.specs.declared.fault.Fault.TheVariants.{BadOption, LastWidget, NoWidget, WidgetExists}
-use Rattle.rt_stamps.specs.Outcomes.{first_of, unless}
+use Rattle.rt_stamps.specs.declared.fault.Fault.TheVariants.{LastWidget, NoWidget, WidgetExists}
+use Rattle.rt_stamps.specs.Outcomes.{unless}
 use Rattle.rt_stamps.specs.Words.{Word}
-use Rattle.rt_requests.specs.declared.options.Settings.{Settings}
 use Rattle.rt_peer_requests.specs.declared.peers.PeerRequest.{PeerRequest}
 use Rattle.rt_peer_requests.specs.declared.peers.PeerRequest.TheVariants.{Create, Names}
 use Rattle.rt_peer_requests.specs.declared.settings.WidgetSettings.{WidgetSettings}
 use Rattle.rt_peer_requests.specs.PeerWords.{AskedOfPeers}
+use Rattle.rt_editing.specs.Edited.{Edited}
+use Rattle.rt_text.specs.Limited.{with_peer}
 use Rattle.rt_peers.specs.State.{State, is_widget, place_of}
-use Rattle.rt_peers.specs.Step.{configured}
-use Rattle.rt_peers.specs.ViewStep.{Outcome, one_word}
-use Rattle.rt_peers.specs.Peers.{with_widget, without_widget}
+use Rattle.rt_peers.specs.Options.{choice_of, text_configured}
+use Rattle.rt_peers.specs.ViewStep.{Outcome, as_outcome, one_word}
+use Rattle.rt_peers.specs.Peers.{text_led, with_widget, without_widget}
 
 -- `peer create PATH ?OPTION VALUE ...?`
-
--- the limits of what a widget shows are options that aren't there yet
-abbrev pub sets_limit : WidgetSettings → Bool
-sets_limit settings = is_some settings.start_line || is_some settings.end_line
-
-abbrev pub limit_check : WidgetSettings → Option Fault
-limit_check settings = if sets_limit settings then Some BadOption else None
 
 -- no two widgets have one path
 abbrev pub path_check : Word → List Word → Option Fault
 path_check path paths = if is_widget path paths then Some WidgetExists else None
 
--- one more widget, by whose options those of the site are set
-abbrev pub with_peer : Word → Settings → State → State
-with_peer path settings state = let new = with_widget path state in record new { text = configured new.text settings }
+-- one more widget of a text, the last one: it shows the lines that are asked for, and else those of the widget that commands; the
+-- shared options are set too
+abbrev pub text_with_peer : Edited → WidgetSettings → Result Edited Fault
+text_with_peer text settings = text_configured text settings.shared (with_peer text.view (choice_of settings.start_line) (choice_of settings.end_line))
+
+-- it is made by the widget at a place
+abbrev pub created : ℕ → Word → State → WidgetSettings → Option Fault → Outcome State
+created place path state settings (Some fault) = Err fault
+created place path state settings None =
+    as_outcome (λ text. (one_word path, with_widget place path state text)) (text_with_peer (text_led place state.text) settings)
 
 -- `peer names`: the paths of the other widgets, in the order in which they were made
 abbrev pub other_paths : Word → List Word → List Word
 other_paths path paths = filter (λ other. not (bytes_eq other path)) paths
 
--- what is asked of the peers of the widget of a path
-abbrev pub peer_step : Word → State → PeerRequest → Outcome State
-peer_step path state (Create new settings) =
-    unless (first_of (limit_check settings ∷ path_check new state.paths ∷ [])) (one_word new, with_peer new settings.shared state)
-peer_step path state Names = Ok (other_paths path state.paths, state)
+-- what is asked of the peers of the widget of a path, which is the one at a place
+abbrev pub peer_step : Word → ℕ → State → PeerRequest → Outcome State
+peer_step path place state (Create new settings) = created place new state settings (path_check new state.paths)
+peer_step path place state Names = Ok (other_paths path state.paths, state)
 
 -- words that ask for something of peers, or that are refused
-abbrev pub peer_outcome : Word → State → AskedOfPeers → Outcome State
-peer_outcome path state (Ok request) = peer_step path state request
-peer_outcome path state (Err fault) = Err fault
+abbrev pub peer_outcome : Word → ℕ → State → AskedOfPeers → Outcome State
+peer_outcome path place state (Ok request) = peer_step path place state request
+peer_outcome path place state (Err fault) = Err fault
 
 -- `destroy PATH`
 

@@ -5,7 +5,7 @@ use Rattle.std.specs.List.{IsDistinct, remove}
 use Rattle.std.specs.Str.{bytes_eq}
 use Rattle.rt_stamps.specs.Words.{Word}
 use Rattle.rt_editing.specs.Edited.{Edited}
-use Rattle.rt_text.specs.Widgets.{Own, Viewed, new_own}
+use Rattle.rt_text.specs.Widgets.{Own, Viewed}
 use Rattle.rt_peers.specs.State.{State}
 
 -- what is each widget's own, the first one's first
@@ -24,12 +24,9 @@ view_led place view = record view { own = get_or (widgets_of view) place view.ow
 abbrev pub text_led : ℕ → Edited → Edited
 text_led place text = record text { view = view_led place text.view }
 
--- one more widget, the last one: its marks stand at the beginning, and it has nothing selected
-abbrev pub view_with_one : Viewed → Viewed
-view_with_one view = record view { others = view.others ++ new_own ∷ [] }
-
-abbrev pub with_widget : Word → State → State
-with_widget path state = record { paths = state.paths ++ path ∷ []; text = record state.text { view = view_with_one state.text.view } }
+-- a site with one more path, the last one, where the widget at a place left the text with one more widget
+abbrev pub with_widget : ℕ → Word → State → Edited → State
+with_widget place path state text = record { paths = state.paths ++ path ∷ []; text = text_led place text }
 
 -- the widget at a place is no longer there; the others stay in their order
 abbrev pub view_without : ℕ → Viewed → Viewed

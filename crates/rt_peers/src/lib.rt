@@ -1,6 +1,7 @@
 //! Sites: their state, and what is asked of their widgets.
 #![tactic(auto)]
 
+mod choices;
 pub mod laws;
 mod paths;
 mod pieces;

@@ -35,10 +35,3 @@ pub(crate) fn other_paths(alloc: Global, paths: &[String], path: &str) -> Result
     }
     Ok(others)
 }
-
-/// Whether a command's name is that of `peer`.
-pub(crate) fn is_peer(name: &str) -> bool
-    ensures { result ≡ bytes_eq name.now (codes "peer") }
-{
-    name == "peer"
-}

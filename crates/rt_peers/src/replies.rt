@@ -2,6 +2,7 @@
 ghost use Rattle.std.specs.Prelude.{◌≡◌, ◌∷◌, [], map, string_bytes, IfOk, IfErr};
 ghost use Rattle.std.specs.Fmt.{signed_decimal};
 ghost use Rattle.rt_stamps.specs.Places.{text_of_position};
+ghost use Rattle.rt_peers.specs.Options.{number_word};
 ghost use Rattle.rt_peers.specs.ViewStep.{one_word, text_of_bool};
 
 use crate::reply::Reply;
@@ -38,6 +39,20 @@ pub(crate) fn truth(alloc: Global, holds: bool) -> Result<Reply, Fault>
 {
     let text = if holds { "1" } else { "0" };
     one_word(alloc, String::from_str(alloc, text)?)
+}
+
+// A reply of a number, or of the empty word without one.
+pub(crate) fn number_reply(alloc: Global, number: Option<usize>) -> Result<Reply, Fault>
+    ensures ok { IfOk result (λ reply. reply ≡ one_word (number_word number)) }
+    ensures err { IfErr result (λ fault. fault ≡ Fault.NoMemory) }
+{
+    match number {
+        Some(number) => {
+            let mut digits = Buffer::new();
+            one_word(alloc, String::from_str(alloc, digits.format(number))?)
+        }
+        None => one_word(alloc, String::new(alloc)),
+    }
 }
 
 // A reply of numbers.

@@ -8,9 +8,10 @@ ghost use Rattle.rt_peers.specs.State.{new_state};
 ghost use Rattle.rt_peers.specs.Step.{step};
 
 mod exchange;
+mod options;
 mod peers;
 
-use crate::paths::{is_peer, place_of};
+use crate::paths::place_of;
 use crate::reply::Reply;
 use crate::text::EditedText;
 use rt_requests::Request;
@@ -111,15 +112,18 @@ impl SiteState {
         let Some((name, rest)) = words.split_first() else {
             return self.run_words(place, words);
         };
-        if is_peer(name) {
-            return self.run_peer(path, rest);
+        match name.as_str() {
+            "peer" => self.run_peer(path, place, rest),
+            "configure" => self.run_configure(place, rest),
+            "cget" => self.run_cget(place, rest),
+            _ => self.run_words(place, words),
         }
-        self.run_words(place, words)
     }
 
     /// `PATH COMMAND WORDS` (Tk text manual): runs a command of the widget of a path. Refused by the
-    /// first of `NoWidget`, the faults of the words (`PeerRequest::of` behind `peer`, `Request::of`) and
-    /// of the request, and want of memory in place of any; then the site is as it was.
+    /// first of `NoWidget`, the faults of the words (`PeerRequest::of` behind `peer`, `WidgetSettings::of` behind
+    /// `configure`, `named_option` behind `cget`, `Request::of`) and of the request, and want of memory in place of any;
+    /// then the site is as it was.
     pub fn command(&mut self, path: &str, words: &[String]) -> Result<Reply, Fault>
         ensures { Gives path.now (map (λ w. string_bytes w) words.now) self.old result self.new }
     {

@@ -7,6 +7,7 @@ ghost use Rattle.rt_peers.specs.Step.{step};
 
 mod exchange;
 mod marking;
+mod options;
 mod peers;
 mod undoing;
 

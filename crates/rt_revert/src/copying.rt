@@ -106,6 +106,7 @@ pub(crate) fn fill<C: TextStore>(
     requires few { length cells.items ≤ MOST_CELLS }
     requires ends { EndsFinal cells.items }
     ensures list { OnOk result (C.list copy.new ≡ cells.items) }
+    ensures agrees { OnOk result (C.agrees copy.new kept.now) }
     ensures err { IfErr result (λ fault. fault ≡ Fault.NoMemory) }
 {
     kept.order();

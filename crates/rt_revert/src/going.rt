@@ -4,7 +4,6 @@ ghost use Rattle.rt_stamps.specs.declared.limits.TheConstants.{GREATEST_COUNT, M
 ghost use Rattle.rt_stamps.specs.declared.stamp.TheConstants.{FINAL};
 ghost use Rattle.rt_oplog.specs.Operations.{stamps_in};
 ghost use Rattle.rt_store.specs.Spans.{gone_in_any, is_among, is_in_spans};
-ghost use Rattle.rt_store.specs.Tagged.{AreStates};
 ghost use Rattle.rt_undo.specs.Actions.{removed_in};
 ghost use Rattle.rt_revert.specs.Plans.{RemovedAreGiven, named_removed};
 ghost use Rattle.rt_revert.specs.Portions.{Has, Portion};
@@ -26,10 +25,11 @@ fn make_gone<S: TextStore>(
     kept: &StateTable,
     removed: &[RemovedSpan],
 ) -> Result<(), Fault>
-    requires states { AreStates kept.now (S.list copy.old) }
+    requires agrees { S.agrees copy.old kept.now }
     requires few { length (S.list copy.old) ≤ MOST_CELLS }
     requires stays { is_in_spans (spans_of removed.now) FINAL ≡ false }
     ensures list { OnOk result (S.list copy.new ≡ map (gone_in_any (spans_of removed.now)) (S.list copy.old)) }
+    ensures agrees { OnOk result (S.agrees copy.new kept.now) }
     ensures err { IfErr result (λ fault. fault ≡ Fault.NoMemory) }
 {
     for part in removed {
@@ -49,9 +49,11 @@ pub(crate) fn take_out<S: TextStore>(
     plan: &mut Progress,
 ) -> Result<Vec<RemovedSpan>, Fault>
     requires copy { IsCopy kept.now (S.list copy.old) plan.old.texts.count }
+    requires agrees { S.agrees copy.old kept.now }
     requires going { IsGoing kept.now plan.old }
     requires stays { is_among (stamps_in spans.now) FINAL ≡ false }
     ensures copy { OnOk result (IsCopy kept.now (S.list copy.new) plan.new.texts.count) }
+    ensures agrees { OnOk result (S.agrees copy.new kept.now) }
     ensures going { OnOk result (IsGoing kept.now plan.new) }
     ensures returns { OnOk result (plan.new.returns ≡ plan.old.returns) }
     ensures actions { OnOk result (plan.new.actions ≡ plan.old.actions) }

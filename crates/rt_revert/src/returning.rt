@@ -6,7 +6,6 @@ ghost use Rattle.rt_stamps.specs.declared.stamp.TheConstants.{FINAL};
 ghost use Rattle.rt_stamps.specs.Stamps.{is_same};
 ghost use Rattle.rt_store.specs.Cells.{IsPlaced, after_element, skip_from, stamps_of, visible_before};
 ghost use Rattle.rt_store.specs.Spans.{is_among};
-ghost use Rattle.rt_store.specs.Tagged.{AreStates};
 ghost use Rattle.rt_tags.specs.States.{IsState, names_on, state_at};
 ghost use Rattle.rt_edits.specs.DraftLaws.{AreTagNames};
 ghost use Rattle.rt_edits.specs.Flat.{put_after};
@@ -51,11 +50,12 @@ fn put_in<S: TextStore>(
     cell: Cell<StateId>,
 ) -> Result<usize, Fault>
     requires state { IsState kept.now cell.state }
-    requires states { AreStates kept.now (S.list copy.old) }
+    requires agrees { S.agrees copy.old kept.now }
     requires placed { IsPlaced (S.list copy.old) left cell.stamp }
     requires directly { skip_from (S.list copy.old) left cell.stamp ≡ after_element (S.list copy.old) left }
     requires fresh { is_among (stamps_of (S.list copy.old)) cell.stamp ≡ false }
     ensures list { OnOk result (S.list copy.new ≡ put_after (S.list copy.old) left (cell ∷ [])) }
+    ensures agrees { OnOk result (S.agrees copy.new kept.now) }
     ensures few { OnOk result (length (S.list copy.new) ≤ MOST_CELLS) }
     ensures place { IfOk result (λ place. place ≡ visible_before (S.list copy.old) (after_element (S.list copy.old) left)) }
     ensures err { IfErr result (λ fault. fault ≡ Fault.NoMemory) }
@@ -81,6 +81,7 @@ fn put_back<S: TextStore>(
     plan: &mut Progress,
 ) -> Result<(), Fault>
     requires copy { IsCopy kept.now (S.list copy.old) plan.old.texts.count }
+    requires agrees { S.agrees copy.old kept.now }
     requires going { IsGoing kept.now plan.old }
     requires state { IsState kept.now cell.state }
     requires names { AreTagNames (names_on (state_at kept.now cell.state)) }
@@ -88,6 +89,7 @@ fn put_back<S: TextStore>(
     requires other { is_same cell.stamp FINAL ≡ false }
     requires still { is_moved plan.old.renames cell.stamp ≡ false }
     ensures copy { OnOk result (IsCopy kept.now (S.list copy.new) plan.new.texts.count) }
+    ensures agrees { OnOk result (S.agrees copy.new kept.now) }
     ensures going { OnOk result (IsGoing kept.now plan.new) }
     ensures actions { OnOk result (plan.new.actions ≡ plan.old.actions) }
     ensures so_far { OnOk result ((part : Portion) (r : Reversion) → part.has cell.stamp ≡ true
@@ -140,10 +142,12 @@ fn bring_back<S: TextStore>(
     plan: &mut Progress,
 ) -> Result<(), Fault>
     requires copy { IsCopy kept.now (S.list copy.old) plan.old.texts.count }
+    requires agrees { S.agrees copy.old kept.now }
     requires going { IsGoing kept.now plan.old }
     requires state { IsState kept.now removed.1 }
     requires may { MayReturn (named_removed kept.now (removed_with removed.1 removed.0)) }
     ensures copy { OnOk result (IsCopy kept.now (S.list copy.new) plan.new.texts.count) }
+    ensures agrees { OnOk result (S.agrees copy.new kept.now) }
     ensures going { OnOk result (IsGoing kept.now plan.new) }
     ensures actions { OnOk result (plan.new.actions ≡ plan.old.actions) }
     ensures so_far { OnOk result ((part : Portion) (r : Reversion) → part.has removed.0 ≡ true
@@ -175,10 +179,12 @@ fn bring_span_back<S: TextStore>(
     plan: &mut Progress,
 ) -> Result<(), Fault>
     requires copy { IsCopy kept.now (S.list copy.old) plan.old.texts.count }
+    requires agrees { S.agrees copy.old kept.now }
     requires going { IsGoing kept.now plan.old }
     requires given { RemovedAreGiven kept.now (removed_of part) }
     requires may { AllByRecursion MayReturn (map (named_removed kept.now) (removed_of part)) }
     ensures copy { OnOk result (IsCopy kept.now (S.list copy.new) plan.new.texts.count) }
+    ensures agrees { OnOk result (S.agrees copy.new kept.now) }
     ensures going { OnOk result (IsGoing kept.now plan.new) }
     ensures actions { OnOk result (plan.new.actions ≡ plan.old.actions) }
     ensures so_far { OnOk result ((portion : Portion) (r : Reversion) → HasRemoved portion (removed_of part)
@@ -211,10 +217,12 @@ pub(crate) fn bring_all_back<S: TextStore>(
     plan: &mut Progress,
 ) -> Result<(), Fault>
     requires copy { IsCopy kept.now (S.list copy.old) plan.old.texts.count }
+    requires agrees { S.agrees copy.old kept.now }
     requires going { IsGoing kept.now plan.old }
     requires given { RemovedAreGiven kept.now (removed_in removed.now) }
     requires may { AllByRecursion MayReturn (map (named_removed kept.now) (removed_in removed.now)) }
     ensures copy { OnOk result (IsCopy kept.now (S.list copy.new) plan.new.texts.count) }
+    ensures agrees { OnOk result (S.agrees copy.new kept.now) }
     ensures going { OnOk result (IsGoing kept.now plan.new) }
     ensures actions { OnOk result (plan.new.actions ≡ plan.old.actions) }
     ensures so_far { OnOk result ((part : Portion) (r : Reversion) → HasRemoved part (removed_in removed.now)

@@ -48,10 +48,12 @@ fn revert<S: TextStore>(
     plan: &mut Progress,
 ) -> Result<(), Fault>
     requires copy { IsCopy kept.now (S.list copy.old) plan.old.texts.count }
+    requires agrees { S.agrees copy.old kept.now }
     requires going { IsGoing kept.now plan.old }
     requires given { RemovedAreGiven kept.now (removed_in action.now.removed.items) }
     requires sound { IsSound (named_action kept.now (action_of action.now)) }
     ensures copy { OnOk result (IsCopy kept.now (S.list copy.new) plan.new.texts.count) }
+    ensures agrees { OnOk result (S.agrees copy.new kept.now) }
     ensures going { OnOk result (IsGoing kept.now plan.new) }
     ensures so_far { OnOk result ((part : Portion) (r : Reversion) → HasAction part (action_of action.now)
         → IsSoFar kept.now site.number (S.list copy.old) plan.old part r
@@ -85,6 +87,7 @@ pub(crate) fn revert_all<S: TextStore>(
     plan: &mut Progress,
 ) -> Result<(), Fault>
     requires copy { IsCopy kept.now (S.list copy.old) plan.old.texts.count }
+    requires agrees { S.agrees copy.old kept.now }
     requires going { IsGoing kept.now plan.old }
     requires given { AreGiven kept.now (group_of group.now) }
     requires sound { AreSound (named_group kept.now (group_of group.now)) }

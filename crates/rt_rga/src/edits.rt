@@ -4,7 +4,6 @@ ghost use Rattle.rt_stamps.specs.declared.limits.TheConstants.{GREATEST_COUNT, M
 ghost use Rattle.rt_stamps.specs.declared.stamp.TheConstants.{FINAL, ROOT as ROOT_STAMP};
 ghost use Rattle.rt_oplog.specs.Logs.{with_operation};
 ghost use Rattle.rt_store.specs.Cells.{cells_from, final_cell, HasRoom, IsPlaced, put_at, Spends};
-ghost use Rattle.rt_store.specs.Tagged.{AreStates};
 ghost use Rattle.rt_tags.specs.States.{IsState, KeepsIds, state_at};
 ghost use Rattle.rt_tags.specs.Writers.{listed_by, state_after};
 ghost use Rattle.rt_rga.specs.Cells.{cells_of};
@@ -52,11 +51,12 @@ pub(crate) fn new_cells(
 
 /// Makes the cells of spans gone; the final newline is in none of them. Takes no memory.
 pub(crate) fn set_all_gone<S: TextStore>(store: &mut S, states: &StateTable, spans: &[Span])
-    requires states { AreStates states.now (S.list store.old) }
+    requires states { S.agrees store.old states.now }
     requires stays { is_in_spans spans.now FINAL ≡ false }
     requires room { HasRoom (S.room store.old) 0 (2 * length spans.now) }
     ensures list { S.list store.new ≡ map (gone_in_any spans.now) (S.list store.old) }
     ensures room { Spends (S.room store.old) (S.room store.new) 0 (2 * length spans.now) }
+    ensures states { S.agrees store.new states.now }
 {
     for span in spans {
         store.set_gone(states, *span);
@@ -75,12 +75,13 @@ pub(crate) fn insert_cells<S: TextStore>(
 ) -> Result<StateId, Fault>
     requires placed { IsPlaced (S.list store.old) after stamp }
     requires counts { stamp.count + length text.now ≤ GREATEST_COUNT + 1 }
-    requires states { AreStates states.old (S.list store.old) }
+    requires states { S.agrees store.old states.old }
     requires room { length (S.list store.old) + length text.now ≤ MOST_CELLS }
     ensures given { IfOk result (IsState states.new) }
     ensures state { IfOk result (λ id. state_at states.new id ≡ state_after [] (listed_by ROOT_STAMP (map (λ tag. string_bytes tag) tags.now))) }
     ensures list { IfOk result (λ id. S.list store.new
         ≡ put_at (skip_from (S.list store.old) after stamp) (cells_from stamp.count stamp.site id text.now) (S.list store.old)) }
+    ensures agrees { S.agrees store.new states.new }
     ensures ids { KeepsIds states.old states.new }
     ensures err { OnErr result (S.list store.new ≡ S.list store.old) }
     ensures fault { IfErr result (λ fault. fault ≡ Fault.NoMemory) }
@@ -103,10 +104,12 @@ pub(crate) fn change<S: TextStore>(
     op: &Op,
 ) -> Result<(), Fault>
     requires replica { IsReplica log.now.operations states.old (S.list store.old) }
+    requires agrees { S.agrees store.old states.old }
     requires continues { Continues log.now.operations op.now }
     requires room { length (S.list store.old) + length (inserted op.now) ≤ MOST_CELLS }
     ensures replica { OnOk result (IsReplica (with_operation op.now log.now.operations) states.new (S.list store.new)) }
     ensures cells { OnOk result (length (S.list store.new) ≡ length (S.list store.old) + length (inserted op.now)) }
+    ensures agrees { S.agrees store.new states.new }
     ensures ids { KeepsIds states.old states.new }
     ensures same { OnErr result (S.list store.new ≡ S.list store.old) }
     ensures fault { IfErr result (λ fault. fault ≡ Fault.NoMemory) }

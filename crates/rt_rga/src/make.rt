@@ -9,7 +9,7 @@ ghost use Rattle.rt_oplog.specs.Rules.{keeps_rules};
 ghost use Rattle.rt_store.specs.Cells.{HasRoom, Spends};
 ghost use Rattle.rt_store.specs.Shown.{shown};
 ghost use Rattle.rt_store.specs.Tagged.{AreStates};
-ghost use Rattle.rt_tags.specs.States.{KeepsIds};
+ghost use Rattle.rt_tags.specs.States.{KeepsIds, TagStates};
 ghost use Rattle.rt_rga.specs.Drafts.{with_operations};
 ghost use Rattle.rt_rga.specs.Histories.{IsHistory, greatest_last_count};
 ghost use Rattle.rt_rga.specs.Making.{AreNewest, CanAllBePut, CanBePut, ContinueInTurn, cuts_by, cuts_of, fresh_by, fresh_cells, kept_after, operations_from, put_by_kept, refusal_from};
@@ -192,12 +192,13 @@ fn put<'a, S: TextStore>(
     op: &Op,
 ) -> &'a [Cell<StateId>]
     requires put { CanBePut (stamp_of op.now) op.now.body new.now (S.list store.old) }
-    requires states { AreStates states.now (S.list store.old) }
+    requires states { S.agrees store.old states.now }
     requires given { AreStates states.now new.now }
     requires room { HasRoom (S.room store.old) (characters_in op.now.body) (cuts_by op.now.body) }
     ensures list { S.list store.new ≡ put_by_kept (stamp_of op.now) op.now.body new.now (S.list store.old) }
     ensures left { result.now ≡ drop (characters_in op.now.body) new.now }
     ensures room { Spends (S.room store.old) (S.room store.new) (characters_in op.now.body) (cuts_by op.now.body) }
+    ensures states { S.agrees store.new states.now }
 {
     match op.edit() {
         Edit::Insert {
@@ -230,11 +231,12 @@ pub(crate) fn put_all<S: TextStore>(
     ops: &[Op],
 )
     requires put { CanAllBePut ops.now new.now (S.list store.old) }
-    requires states { AreStates states.now (S.list store.old) }
+    requires states { S.agrees store.old states.now }
     requires given { AreStates states.now new.now }
     requires room { HasRoom (S.room store.old) (length new.now) (cuts_of ops.now) }
     ensures list { S.list store.new ≡ kept_after ops.now new.now (S.list store.old) }
     ensures room { (S.room store.old).cuts ≤ (S.room store.new).cuts + cuts_of ops.now }
+    ensures states { S.agrees store.new states.now }
 {
     let mut left = new;
     for op in ops {
@@ -286,6 +288,7 @@ fn make_room<S: TextStore>(
     requires { length (S.list store.old) + cells ≤ MOST_CELLS }
     ensures room { OnOk result (HasRoom (S.room store.new) cells (cuts_of ops.now + 2 * runs)) }
     ensures same { S.list store.new ≡ S.list store.old }
+    ensures agrees { (table : TagStates) → S.agrees store.old table → S.agrees store.new table }
     ensures fault { IfErr result (λ fault. fault ≡ Fault.NoMemory) }
 {
     match cuts(ops, runs) {
@@ -346,11 +349,13 @@ pub(crate) fn change_all<S: TextStore>(
     ops: &[Op],
 ) -> Result<(), Fault>
     requires replica { IsReplica log.now.operations states.old (S.list store.old) }
+    requires agrees { S.agrees store.old states.old }
     requires continues { ContinueInTurn log.now.operations ops.now }
     requires newest { AreNewest log.now.operations ops.now }
     requires room { length (S.list store.old) + length (fresh_cells ops.now) ≤ MOST_CELLS }
     ensures replica { OnOk result (IsReplica (with_operations ops.now log.now.operations) states.new (S.list store.new)) }
     ensures cells { OnOk result (length (S.list store.new) ≡ length (S.list store.old) + length (fresh_cells ops.now)) }
+    ensures agrees { S.agrees store.new states.new }
     ensures ids { KeepsIds states.old states.new }
     ensures same { OnErr result (S.list store.new ≡ S.list store.old) }
     ensures fault { IfErr result (λ fault. fault ≡ Fault.NoMemory) }

@@ -71,7 +71,7 @@ impl<S: TextStore> Model for Replica<S> {
       limit = r.limit;
     } };
 
-    ghost invariant = { λ r. IsWithin r.log.operations r.states (S.list r.store) r.clock r.limit };
+    ghost invariant = { λ r. IsWithin r.log.operations r.states (S.list r.store) r.clock r.limit × S.agrees r.store r.states };
 }
 
 impl<S: TextStore> Replica<S> {
@@ -133,6 +133,7 @@ impl<S: TextStore> Replica<S> {
         ensures kept { map (shown self.now.table) (S.list result.now) ≡ self.now.cells }
         ensures cells { self.now.cells ≡ cells_of self.now.log }
         ensures states { AreStates self.now.table (S.list result.now) }
+        ensures agrees { S.agrees result.now self.now.table }
         ensures few { length (S.list result.now) ≤ self.now.limit }
         ensures most { self.now.limit ≤ MOST_CELLS }
     {

@@ -144,10 +144,11 @@ pub(crate) fn state_runs(alloc: Global, cells: &[Cell<StateId>]) -> Result<Vec<S
 /// Puts the cells of runs in their states. From the last run to the first: so a cell that two runs
 /// have gets the state of the first one. Takes no memory.
 pub(crate) fn put_states<S: TextStore>(store: &mut S, states: &StateTable, runs: &[StateRun])
-    requires states { AreStates states.now (S.list store.old) }
+    requires states { S.agrees store.old states.now }
     requires runs { All (λ run. IsState states.now run.state) runs.now }
     requires room { HasRoom (S.room store.old) 0 (2 * length runs.now) }
     ensures list { S.list store.new ≡ map (put_back_in_any runs.now) (S.list store.old) }
+    ensures states { S.agrees store.new states.now }
 {
     for behind in 0..runs.len() {
         let run = runs[runs.len() - 1 - behind];
@@ -166,12 +167,13 @@ pub(crate) fn tag_cells<S: TextStore>(
     writer: Stamp,
     on: bool,
 ) -> Result<TagId, Fault>
-    requires states { AreStates states.old (S.list store.old) }
+    requires states { S.agrees store.old states.old }
     requires distinct { AreDistinct (S.list store.old) }
     requires few { length (S.list store.old) ≤ MOST_CELLS }
     ensures cells { OnOk result (map (shown states.new) (S.list store.new)
         ≡ map (written_in_any spans.now (record { name = name.now; writer = writer; on = on })) (map (shown states.old) (S.list store.old))) }
     ensures given { OnOk result (AreStates states.new (S.list store.new)) }
+    ensures agrees { S.agrees store.new states.new }
     ensures tag { IfOk result (IsTag states.new) }
     ensures name { IfOk result (λ tag. name_at states.new tag ≡ name.now) }
     ensures ids { KeepsIds states.old states.new }

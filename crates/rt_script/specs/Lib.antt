@@ -2,6 +2,7 @@ pub mod Pieces
 pub mod Replies
 pub mod Run
 pub mod Site
+pub mod SiteRun
 pub use Rattle.rt_peers.specs.PeerStep
 pub use Rattle.rt_peers.specs.SiteStep
 pub use Rattle.rt_peers.specs.State

@@ -8,6 +8,7 @@ pub mod laws;
 pub mod reply;
 pub mod scripts;
 pub mod site_lines;
+pub mod site_run;
 
 pub use answer::Answer;
 pub use commands::Commands;
@@ -18,3 +19,4 @@ pub use rt_peers::{Received, Reply, SiteState};
 pub use rt_words::words;
 pub use scripts::run;
 pub use site_lines::Session;
+pub use site_run::{Outcome, begun, run_site};

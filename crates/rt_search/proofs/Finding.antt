@@ -2,9 +2,7 @@
 use Rattle.std.proofs.Common.{◌≡◌, ◌+◌, ◌<◌, ◌≤◌, ◌∷◌, ◌++◌, [], ℕ, zero, suc, Bool, true, false, ◌&&◌, List, length, get_or, take, arith, sym, ap, ◌∙◌, refl, nat_le}
 use Rattle.std.specs.Prelude.{slice_get, filter, flat_map, Option, Some, None, option_to_list}
 use Rattle.std.proofs.lemmas.Bool.Decides.{nat_tests}
-use Rattle.std.proofs.lemmas.List.{length-map, take_all}
-use Rattle.rt_store.specs.declared.cell.Cell.{Cell}
-use Rattle.rt_store.specs.Cells.{text_of, visible_of}
+use Rattle.std.proofs.lemmas.List.{take_all}
 use Rattle.std.proofs.lemmas.List.Elements.{filter_more}
 use Rattle.rt_search.specs.declared.search.Case.{Case}
 use Rattle.rt_search.specs.declared.search.Limits.{Limits}
@@ -80,6 +78,3 @@ pub tested : (search : Search) (pattern text : List ℕ) (stretch : Stretch) (pl
 tested search pattern text stretch place end visible r b h k e f g q w =
     let within : place ≤ length text = omega arith in
     sym (same_test search.case search.limits pattern text stretch place end within (λ x. f x ∙ e) g) ∙ sym q ∙ w
-
-pub length_text : {T : Type 0} (cells : List (Cell T)) (n : ℕ) → n ≡ length (visible_of cells) → n ≡ length (text_of cells)
-length_text cells n e = simp length-map e

@@ -4,5 +4,6 @@ pub mod Folding
 pub mod Lines
 pub mod Nearest
 pub mod Orders
+pub mod Parts
 pub mod Standing
 pub mod Within

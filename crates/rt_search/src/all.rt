@@ -1,11 +1,11 @@
 // All matches of a pattern.
 ghost use Rattle.std.specs.Prelude.{◌≡◌, ◌≤◌, ◌<◌, [], ℕ, IfOk, IfErr, OnOk, IfSome, fold, length};
-ghost use Rattle.rt_store.specs.Cells.{text_of, visible_of};
 ghost use Rattle.rt_search.specs.Ends.{EndsDecide, FirstDecides, IsBefore, overlaps_one};
 ghost use Rattle.rt_search.specs.Searches.{all_matches, is_taken, matches_in, overlap, with_match};
 
 use crate::find::{last_end, stretches};
 use crate::matching::Reader;
+use crate::part::Part;
 use crate::search::{Overlaps, Search, Stretch};
 use rt_stamps::Fault;
 use rt_store::TextStore;
@@ -49,25 +49,25 @@ fn is_taken(overlaps: Overlaps, length: usize, taken: &[usize], place: usize) ->
 /// Takes the matches of a stretch.
 fn take_in<S: TextStore>(
     taken: &mut Vec<usize>,
-    store: &S,
+    text: &Part<'_, S>,
     pattern: &[char],
     search: Search,
     overlaps: Overlaps,
     stretch: Stretch,
 ) -> Result<(), Fault>
-    requires stretch { stretch.to ≤ length (visible_of (S.list store.now)) }
+    requires stretch { stretch.to ≤ length text.now }
     requires taken { (place : ℕ) → stretch.from ≤ place → place < stretch.to → FirstDecides (length pattern.now) taken.old.items place }
     ensures ok { OnOk result (taken.new.items
-        ≡ fold (with_match overlaps (length pattern.now)) taken.old.items (matches_in search pattern.now (text_of (S.list store.now)) stretch)) }
+        ≡ fold (with_match overlaps (length pattern.now)) taken.old.items (matches_in search pattern.now text.now stretch)) }
     ensures before { taken.old.items ≡ [] → (place : ℕ) → IsBefore search.direction stretch place
         → FirstDecides (length pattern.now) taken.new.items place }
     ensures err { IfErr result (λ fault. fault ≡ Fault.NoMemory) }
 {
-    let end = last_end(search.limits, stretch, store.visible());
+    let end = last_end(search.limits, stretch, text.len());
     let mut reader = Reader::new();
     for index in 0..stretch.len() {
         let place = stretch.nth(search.direction, index);
-        if reader.is_match(store, search.case, pattern, place, end)
+        if reader.is_match(text, search.case, pattern, place, end)
             && is_taken(overlaps, pattern.len(), taken, place)
         {
             taken.push(place)?;
@@ -81,23 +81,23 @@ fn take_in<S: TextStore>(
 /// `find_first` does where nothing is found. `NoMemory` where the list can't grow.
 pub fn find_all<S: TextStore>(
     alloc: Global,
-    store: &S,
+    text: &Part<'_, S>,
     pattern: &[char],
     search: Search,
     overlaps: Overlaps,
     start: usize,
     stop: Option<usize>,
 ) -> Result<Vec<usize>, Fault>
-    requires start { start ≤ length (visible_of (S.list store.now)) }
-    requires stop { IfSome stop (λ place. place ≤ length (visible_of (S.list store.now))) }
-    ensures ok { IfOk result (λ found. found.items ≡ all_matches overlaps search pattern.now (text_of (S.list store.now)) start stop) }
+    requires start { start ≤ length text.now }
+    requires stop { IfSome stop (λ place. place ≤ length text.now) }
+    ensures ok { IfOk result (λ found. found.items ≡ all_matches overlaps search pattern.now text.now start stop) }
     ensures err { IfErr result (λ fault. fault ≡ Fault.NoMemory) }
 {
-    let (near, far) = stretches(search.direction, start, stop, store.visible());
+    let (near, far) = stretches(search.direction, start, stop, text.len());
     let mut taken = Vec::new(alloc);
-    take_in(&mut taken, store, pattern, search, overlaps, near)?;
+    take_in(&mut taken, text, pattern, search, overlaps, near)?;
     if let Some(far) = far {
-        take_in(&mut taken, store, pattern, search, overlaps, far)?;
+        take_in(&mut taken, text, pattern, search, overlaps, far)?;
     }
     Ok(taken)
 }

@@ -1,10 +1,10 @@
 // The matches of a pattern.
 ghost use Rattle.std.specs.Prelude.{◌≡◌, ℕ, ◌<◌, ◌≤◌, ◌∷◌, IfSome, length, option_to_list, slice_get};
-ghost use Rattle.rt_store.specs.Cells.{text_of, visible_of};
 ghost use Rattle.rt_search.specs.Ends.{IsBefore};
 ghost use Rattle.rt_search.specs.Searches.{first_match, matches_in, stretches};
 
 use crate::matching::Reader;
+use crate::part::Part;
 use crate::search::{Direction, Limits, Search, Stretch};
 use rt_store::TextStore;
 
@@ -60,19 +60,19 @@ pub(crate) fn last_end(limits: Limits, stretch: Stretch, end: usize) -> usize
 
 /// The first match in a stretch.
 fn first_in<S: TextStore>(
-    store: &S,
+    text: &Part<'_, S>,
     pattern: &[char],
     search: Search,
     stretch: Stretch,
 ) -> Option<usize>
-    requires { stretch.to ≤ length (visible_of (S.list store.now)) }
-    ensures { result ≡ slice_get (matches_in search pattern.now (text_of (S.list store.now)) stretch) 0 }
+    requires { stretch.to ≤ length text.now }
+    ensures { result ≡ slice_get (matches_in search pattern.now text.now stretch) 0 }
 {
-    let end = last_end(search.limits, stretch, store.visible());
+    let end = last_end(search.limits, stretch, text.len());
     let mut reader = Reader::new();
     for index in 0..stretch.len() {
         let place = stretch.nth(search.direction, index);
-        if reader.is_match(store, search.case, pattern, place, end) {
+        if reader.is_match(text, search.case, pattern, place, end) {
             return Some(place);
         }
     }
@@ -84,22 +84,22 @@ fn first_in<S: TextStore>(
 /// once, in pieces, and each match that begins is compared until it fails: at worst, where the pattern nearly stands
 /// at each place, that is a comparison for each place and each character of the pattern. Takes no memory.
 pub fn find_first<S: TextStore>(
-    store: &S,
+    text: &Part<'_, S>,
     pattern: &[char],
     search: Search,
     start: usize,
     stop: Option<usize>,
 ) -> Option<usize>
-    requires start { start ≤ length (visible_of (S.list store.now)) }
-    requires stop { IfSome stop (λ place. place ≤ length (visible_of (S.list store.now))) }
-    ensures { result ≡ first_match search pattern.now (text_of (S.list store.now)) start stop }
+    requires start { start ≤ length text.now }
+    requires stop { IfSome stop (λ place. place ≤ length text.now) }
+    ensures { result ≡ first_match search pattern.now text.now start stop }
 {
-    let (near, far) = stretches(search.direction, start, stop, store.visible());
-    if let Some(place) = first_in(store, pattern, search, near) {
+    let (near, far) = stretches(search.direction, start, stop, text.len());
+    if let Some(place) = first_in(text, pattern, search, near) {
         return Some(place);
     }
     match far {
-        Some(far) => first_in(store, pattern, search, far),
+        Some(far) => first_in(text, pattern, search, far),
         None => None,
     }
 }

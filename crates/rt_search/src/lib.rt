@@ -5,11 +5,13 @@ pub mod all;
 pub mod find;
 pub mod laws;
 mod matching;
+pub mod part;
 pub mod search;
 pub mod walk;
 mod window;
 
 pub use all::find_all;
 pub use find::find_first;
+pub use part::Part;
 pub use search::{Case, Direction, Limits, Overlaps, Search};
 pub use walk::positions;

@@ -1,9 +1,9 @@
 // Whether the pattern stands at a place.
 ghost use Rattle.std.specs.Prelude.{◌≡◌, ◌+◌, ◌^◌, ◌<◌, ◌≤◌, ◌&&◌, ℕ, List, Some, length, nat_le, slice_get};
-ghost use Rattle.rt_store.specs.Cells.{text_of};
 ghost use Rattle.rt_search.specs.Searches.{stands_at};
 ghost use Rattle.rt_search.specs.Windows.{Reads};
 
+use crate::part::Part;
 use crate::search::{Case, agree};
 use crate::window::Window;
 use rt_store::TextStore;
@@ -28,40 +28,40 @@ impl Reader {
     }
 
     /// The character of a match after so many others, which begins at a place.
-    fn character<S: TextStore>(&mut self, store: &S, place: usize, index: usize) -> char
-        requires place { place + index < length (text_of (S.list store.now)) }
+    fn character<S: TextStore>(&mut self, text: &Part<'_, S>, place: usize, index: usize) -> char
+        requires place { place + index < length text.now }
         requires fits { place + index < 2 ^ 64 }
-        requires reads { Reads (text_of (S.list store.now)) self.old }
-        ensures value { slice_get (text_of (S.list store.now)) (place + index) ≡ Some result }
-        ensures reads { Reads (text_of (S.list store.now)) self.new }
+        requires reads { Reads text.now self.old }
+        ensures value { slice_get text.now (place + index) ≡ Some result }
+        ensures reads { Reads text.now self.new }
     {
         if index == 0 || self.here.has(place + index) {
-            self.here.at(store, place + index)
+            self.here.at(text, place + index)
         } else {
-            self.ahead.at(store, place + index)
+            self.ahead.at(text, place + index)
         }
     }
 
     /// Whether the pattern stands at a place and ends at `end` or before.
     pub(crate) fn is_match<S: TextStore>(
         &mut self,
-        store: &S,
+        text: &Part<'_, S>,
         case: Case,
         pattern: &[char],
         place: usize,
         end: usize,
     ) -> bool
         requires place { place ≤ end }
-        requires end { end ≤ length (text_of (S.list store.now)) }
-        requires reads { Reads (text_of (S.list store.now)) self.old }
-        ensures value { result ≡ (stands_at case pattern.now (text_of (S.list store.now)) place && nat_le (place + length pattern.now) end) }
-        ensures reads { Reads (text_of (S.list store.now)) self.new }
+        requires end { end ≤ length text.now }
+        requires reads { Reads text.now self.old }
+        ensures value { result ≡ (stands_at case pattern.now text.now place && nat_le (place + length pattern.now) end) }
+        ensures reads { Reads text.now self.new }
     {
         if pattern.len() > end - place {
             return false;
         }
         for (index, wanted) in pattern.iter().enumerate() {
-            if !agree(case, *wanted, self.character(store, place, index)) {
+            if !agree(case, *wanted, self.character(text, place, index)) {
                 return false;
             }
         }

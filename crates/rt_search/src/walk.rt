@@ -1,9 +1,9 @@
 // The lines and characters of places of a text.
 ghost use Rattle.std.specs.Prelude.{◌≡◌, ◌+◌, ◌-◌, ◌^◌, ◌<◌, ◌≤◌, All, IfOk, IfErr, length, map};
 ghost use Rattle.rt_stamps.specs.Places.{position_at};
-ghost use Rattle.rt_store.specs.Cells.{text_of};
 ghost use Rattle.rt_search.specs.Walks.{Stands};
 
+use crate::part::Part;
 use crate::window::Window;
 use rt_stamps::{Fault, Position};
 use rt_store::TextStore;
@@ -20,29 +20,29 @@ pub struct Walk {
 
 impl Walk {
     /// One that stands at a character.
-    fn at<S: TextStore>(store: &S, place: usize) -> Walk
-        requires { place < length (text_of (S.list store.now)) }
-        ensures stands { Stands (text_of (S.list store.now)) result }
+    fn at<S: TextStore>(text: &Part<'_, S>, place: usize) -> Walk
+        requires { place < length text.now }
+        ensures stands { Stands text.now result }
         ensures place { result.place ≡ place }
     {
-        let line = store.line_of(place);
+        let (line, start) = text.line_at(place);
         Walk {
             place,
             line,
-            start: store.line_start(line),
+            start,
             window: Window::new(),
         }
     }
 
     /// Goes to the next character, where there is one.
-    fn step<S: TextStore>(&mut self, store: &S)
-        requires stands { Stands (text_of (S.list store.now)) self.old }
-        requires within { self.old.place + 1 < length (text_of (S.list store.now)) }
-        requires fits { length (text_of (S.list store.now)) < 2 ^ 64 }
-        ensures stands { Stands (text_of (S.list store.now)) self.new }
+    fn step<S: TextStore>(&mut self, text: &Part<'_, S>)
+        requires stands { Stands text.now self.old }
+        requires within { self.old.place + 1 < length text.now }
+        requires fits { length text.now < 2 ^ 64 }
+        ensures stands { Stands text.now self.new }
         ensures place { self.new.place ≡ self.old.place + 1 }
     {
-        let character = self.window.at(store, self.place);
+        let character = self.window.at(text, self.place);
         self.place += 1;
         if character == '\n' {
             self.line += 1;
@@ -51,16 +51,16 @@ impl Walk {
     }
 
     /// Goes on to a later character.
-    fn go_to<S: TextStore>(&mut self, store: &S, place: usize)
-        requires stands { Stands (text_of (S.list store.now)) self.old }
+    fn go_to<S: TextStore>(&mut self, text: &Part<'_, S>, place: usize)
+        requires stands { Stands text.now self.old }
         requires later { self.old.place ≤ place }
-        requires within { place < length (text_of (S.list store.now)) }
-        requires fits { length (text_of (S.list store.now)) < 2 ^ 64 }
-        ensures stands { Stands (text_of (S.list store.now)) self.new }
+        requires within { place < length text.now }
+        requires fits { length text.now < 2 ^ 64 }
+        ensures stands { Stands text.now self.new }
         ensures place { self.new.place ≡ place }
     {
         while self.place < place {
-            self.step(store);
+            self.step(text);
         }
     }
 
@@ -81,24 +81,24 @@ impl Walk {
 /// rise cost one pass from the first to the last of them. `NoMemory` where the list can't grow.
 pub fn positions<S: TextStore>(
     alloc: Global,
-    store: &S,
+    text: &Part<'_, S>,
     places: &[usize],
 ) -> Result<Vec<Position>, Fault>
-    requires { All (λ place. place < length (text_of (S.list store.now))) places.now }
-    ensures ok { IfOk result (λ positions. positions.items ≡ map (position_at (text_of (S.list store.now))) places.now) }
+    requires { All (λ place. place < length text.now) places.now }
+    ensures ok { IfOk result (λ positions. positions.items ≡ map (position_at text.now) places.now) }
     ensures err { IfErr result (λ fault. fault ≡ Fault.NoMemory) }
 {
     let mut positions = Vec::new(alloc);
     let Some(first) = places.first() else {
         return Ok(positions);
     };
-    let _ = store.visible();
-    let mut walk = Walk::at(store, *first);
+    let _ = text.len();
+    let mut walk = Walk::at(text, *first);
     for place in places {
         if *place < walk.place {
-            walk = Walk::at(store, *place);
+            walk = Walk::at(text, *place);
         } else {
-            walk.go_to(store, *place);
+            walk.go_to(text, *place);
         }
         positions.push(walk.position())?;
     }

@@ -1,8 +1,8 @@
 // The stretch of a text's characters that was read last.
 ghost use Rattle.std.specs.Prelude.{◌≡◌, ℕ, List, ◌+◌, ◌<◌, ◌≤◌, ◌↔◌, IsTrue, Some, length, slice_get};
-ghost use Rattle.rt_store.specs.Cells.{text_of};
 ghost use Rattle.rt_search.specs.Windows.{Shows};
 
+use crate::part::Part;
 use rt_store::TextStore;
 
 /// How many characters a window holds.
@@ -37,11 +37,11 @@ impl Window {
 
     /// The character at a place, which the window is moved to if it doesn't show it: up so that it begins there,
     /// down so that it ends there.
-    pub(crate) fn at<S: TextStore>(&mut self, store: &S, place: usize) -> char
-        requires place { place < length (text_of (S.list store.now)) }
-        requires shows { Shows (text_of (S.list store.now)) self.old }
-        ensures value { slice_get (text_of (S.list store.now)) place ≡ Some result }
-        ensures shows { Shows (text_of (S.list store.now)) self.new }
+    pub(crate) fn at<S: TextStore>(&mut self, text: &Part<'_, S>, place: usize) -> char
+        requires place { place < length text.now }
+        requires shows { Shows text.now self.old }
+        ensures value { slice_get text.now place ≡ Some result }
+        ensures shows { Shows text.now self.new }
     {
         if !self.has(place) {
             let start = if place < self.start {
@@ -50,7 +50,7 @@ impl Window {
                 place
             };
             self.start = start;
-            self.len = store.characters(start, &mut self.chars);
+            self.len = text.characters(start, &mut self.chars);
         }
         self.chars[place - self.start]
     }

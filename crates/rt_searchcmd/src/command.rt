@@ -9,11 +9,18 @@ ghost use Rattle.rt_text.specs.Index.{index_check, place_at_index};
 ghost use Rattle.rt_text.specs.Widgets.{length_shown, text_shown, widget_of};
 
 use rt_requests::{SearchRequest, Wanted, Word};
-use rt_search::{Direction, Overlaps, Search, find_all, find_first, positions};
+use rt_search::{Direction, Overlaps, Part, Search, find_all, find_first, positions};
 use rt_stamps::{Fault, Position};
 use rt_store::TextStore;
 use rt_text::View;
 use std::alloc::Global;
+
+/// The text that a widget shows.
+pub fn shown<S: TextStore>(view: &View<S>) -> Part<'_, S>
+    ensures { result ≡ text_shown view.now }
+{
+    Part::of(view.store(), view.stretch())
+}
 
 /// The characters of a pattern.
 fn characters_of(alloc: Global, pattern: &str) -> Result<Vec<char>, Fault>
@@ -64,7 +71,7 @@ fn one_found<S: TextStore>(
     ensures err { IfErr result (λ fault. fault ≡ Fault.NoMemory) }
 {
     let mut found = Vec::new(alloc);
-    if let Some(place) = find_first(view.store(), pattern, search, start, stop) {
+    if let Some(place) = find_first(&shown(view), pattern, search, start, stop) {
         found.push(view.position(place))?;
     }
     Ok(found)
@@ -81,11 +88,12 @@ fn positions_along<S: TextStore>(
     ensures ok { IfOk result (λ found. found.items ≡ map (position_at (text_shown view.now)) places.items) }
     ensures err { IfErr result (λ fault. fault ≡ Fault.NoMemory) }
 {
+    let text = shown(view);
     match direction {
-        Direction::Forwards => positions(alloc, view.store(), &places),
+        Direction::Forwards => positions(alloc, &text, &places),
         Direction::Backwards => {
             places.reverse();
-            let mut found = positions(alloc, view.store(), &places)?;
+            let mut found = positions(alloc, &text, &places)?;
             found.reverse();
             Ok(found)
         }
@@ -108,7 +116,8 @@ fn each_found<S: TextStore>(
         ≡ map (position_at (text_shown view.now)) (all_matches overlaps search pattern.now (text_shown view.now) start stop)) }
     ensures err { IfErr result (λ fault. fault ≡ Fault.NoMemory) }
 {
-    let places = find_all(alloc, view.store(), pattern, search, overlaps, start, stop)?;
+    let text = shown(view);
+    let places = find_all(alloc, &text, pattern, search, overlaps, start, stop)?;
     positions_along(alloc, view, search.direction, places)
 }
 

@@ -3,4 +3,4 @@
 
 pub mod command;
 
-pub use command::search;
+pub use command::{search, shown};

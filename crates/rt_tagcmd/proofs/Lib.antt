@@ -5,7 +5,9 @@ pub mod LookingLaws
 pub mod MarkListLaws
 pub mod RangeWalks
 pub mod Runs
+pub mod ShownMarks
 pub mod TagChecks
 pub mod TagFinds
 pub mod TagOrders
 pub mod TagRangeLaws
+pub mod Walking

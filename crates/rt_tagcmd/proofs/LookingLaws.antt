@@ -102,46 +102,6 @@ first_from_edge place marks h = find_same (λ m. nat_le place m.place) (comes_be
 last_from_edge : (place : ℕ) (marks : List Mark) → last_mark_before place marks ≡ find_last (λ m. comes_before m (edge place)) marks
 last_from_edge place marks = last_same (λ m. nat_lt m.place place) (λ m. comes_before m (edge place)) marks (λ m. sym (edge_last place m))
 
--- THE MARKS OF A WIDGET
-
--- no mark of the site has an own mark's name
-pub none_own : (n : ℕ) (q : List ℕ) (marks : List Mark) → AreSiteMarks n marks → is_own q ≡ true → named q marks ≡ None
-none_own n q [] h t = refl
-none_own n q (m ∷ marks) h t =
-    let more = none_own n q marks h.1 t in
-    split (is_named q m)
-    (λ s. absurd (clash _ (subst (λ v. is_own v ≡ true) (sym (same_name m.name q s)) t) h.0.2))
-    (λ f. none_cons q m marks f more)
-
-site_names : (n : ℕ) (marks : List Mark) → AreSiteMarks n marks → Each (λ m. IsName m.name) marks
-site_names n [] h = tt
-site_names n (m ∷ marks) h = (h.0.1, site_names n marks h.1)
-
-turned : (a b : List ℕ) → bytes_eq a b ≡ bytes_eq b a
-turned a b =
-    split (bytes_eq a b)
-    (λ t. t ∙ sym ((bytes_eq-Decides b a).1 (sym (same_name a b t))))
-    (λ f. f ∙ split (bytes_eq b a) (λ s. absurd (clash _ ((bytes_eq-Decides a b).1 (sym (same_name b a s))) f)) (λ g. sym g))
-
--- the names of own marks are two
-pub apart : (own : Own) → own.insert.name ≡ codes "insert" → own.current.name ≡ codes "current" → is_named own.insert.name own.current ≡ false
-apart own a b = (λ i. bytes_eq (b i) (a i))
-
-pub named_all : (own : Own) (marks : List Mark) (q : List ℕ) → own.insert.name ≡ codes "insert" → own.current.name ≡ codes "current" → named (codes "insert") marks ≡ None → named (codes "current") marks ≡ None → named q (with_mark own.insert (with_mark own.current marks)) ≡ mark_among own marks q
-named_all own marks q a b na nb =
-    let none : named own.current.name marks ≡ None = ap (λ v. named v marks) b ∙ nb in
-    let both : named own.insert.name (with_mark own.current marks) ≡ None =
-    named_with own.insert.name own.current marks none ∙ none_cons own.insert.name own.current marks (apart own a b) (ap (λ v. named v marks) a ∙ na) in
-    named_with q own.insert (with_mark own.current marks) both
-    ∙ ap (λ v. cond (is_named q own.insert) (Some own.insert) v) (named_with q own.current marks none)
-    ∙ (λ i. cond ((turned own.insert.name q ∙ ap (bytes_eq q) a) i) (Some own.insert) (cond ((turned own.current.name q ∙ ap (bytes_eq q) b) i) (Some own.current) (named q marks)))
-    ∙ by (bytes_eq q (codes "insert")) (bytes_eq q (codes "current")) (named q marks)
-  where
-    by : (insert current : Bool) (other : Option Mark) → cond insert (Some own.insert) (cond current (Some own.current) other) ≡ own_or (cond insert (Some Insert) (cond current (Some Current) None)) own other
-    by true current other = refl
-    by false true other = refl
-    by false false other = refl
-
 -- WHAT IS FOUND
 
 abbrev pub found_from : (Mark → Option Word) → Result Mark Fault → Result (Option Word) Fault
@@ -160,48 +120,23 @@ first_test : (a b : Bool) → (a && b) ≡ true → a ≡ true
 first_test true b h = refl
 first_test false b h = h
 
--- what is so of a document and a widget on it
-pub record AreMarks (view : Viewed) : Type 0 where
-  pub site : AreSiteMarks (length (text_of view.doc.cells)) view.doc.marks
-  pub insert : view.own.insert.name ≡ codes "insert"
-  pub current : view.own.current.name ≡ codes "current"
-
-pub shown_marks : (view : Viewed) (doc : Flat) → doc ≡ view.doc → AreSiteMarks (length (text_of doc.cells)) doc.marks → view.own.insert.name ≡ codes "insert" → view.own.current.name ≡ codes "current" → AreMarks view
-shown_marks view doc e h a b = record { site = subst (λ (d : Flat). AreSiteMarks (length (text_of d.cells)) d.marks) e h; insert = a; current = b }
-
-named_among : (view : Viewed) (word : Word) → AreMarks view → named word (marks_of view) ≡ mark_of view word
-named_among view word h = named_all view.own view.doc.marks word h.insert h.current (none_own _ (codes "insert") view.doc.marks h.site refl) (none_own _ (codes "current") view.doc.marks h.site refl)
-
-own_named : (name : List ℕ) (q : List ℕ) → name ≡ q → IsName q → IsName name
-own_named name q e h = subst IsName (sym e) h
-
-pub all_named : (view : Viewed) → AreMarks view → Each (λ m. IsName m.name) (marks_of view)
-all_named view h =
-    each_with (λ m. IsName m.name) view.own.insert (with_mark view.own.current view.doc.marks) (own_named view.own.insert.name (codes "insert") h.insert (omega arith, omega arith))
-    (each_with (λ m. IsName m.name) view.own.current view.doc.marks (own_named view.own.current.name (codes "current") h.current (omega arith, omega arith)) (site_names _ view.doc.marks h.site))
-
-pub next_found : (view : Viewed) (word : Word) → AreMarks view → mark_next view word ≡ found_from (λ m. name_of (find (comes_before m) (marks_of view))) (looked_from view word)
-next_found view word h =
+pub next_found : (view : Viewed) (word : Word) → ((name : List ℕ) → named name (marks_of view) ≡ mark_of view name) → Each (λ m. IsName m.name) (marks_of view) → mark_next view word ≡ found_from (λ m. name_of (find (comes_before m) (marks_of view))) (looked_from view word)
+next_found view word among names =
     let marks = marks_of view in
     either_way (names_mark view word) (mark_of view word) (index_of (widget_of view) word) (name_of (mark_after word marks)) (λ p. name_of (first_mark_at p marks)) (λ m. name_of (find (comes_before m) marks))
     (λ t. first_test _ _ t)
-    (λ x e. ap (λ o. name_of (option_and_then (λ m. find (comes_before m) marks) o)) (named_among view word h ∙ e))
-    (λ p. ap name_of (first_from_edge p marks (all_named view h)))
+    (λ x e. ap (λ o. name_of (option_and_then (λ m. find (comes_before m) marks) o)) (among word ∙ e))
+    (λ p. ap name_of (first_from_edge p marks names))
 
-pub previous_found : (view : Viewed) (word : Word) → AreMarks view → mark_previous view word ≡ found_from (λ m. name_of (find_last (λ x. comes_before x m) (marks_of view))) (looked_from view word)
-previous_found view word h =
+pub previous_found : (view : Viewed) (word : Word) → ((name : List ℕ) → named name (marks_of view) ≡ mark_of view name) → Each (λ m. IsName m.name) (marks_of view) → mark_previous view word ≡ found_from (λ m. name_of (find_last (λ x. comes_before x m) (marks_of view))) (looked_from view word)
+previous_found view word among names =
     let marks = marks_of view in
     either_way (names_mark view word) (mark_of view word) (index_of (widget_of view) word) (name_of (mark_before word marks)) (λ p. name_of (last_mark_before p marks)) (λ m. name_of (find_last (λ x. comes_before x m) marks))
     (λ t. first_test _ _ t)
-    (λ x e. ap (λ o. name_of (option_and_then (λ m. find_last (λ x. comes_before x m) marks) o)) (named_among view word h ∙ e))
+    (λ x e. ap (λ o. name_of (option_and_then (λ m. find_last (λ x. comes_before x m) marks) o)) (among word ∙ e))
     (λ p. ap name_of (last_from_edge p marks))
 
 -- a refusal of the look is the command's
 pub refused_from : (outcome : Result (Option Word) Fault) (looked : Result Mark Fault) (find_from : Mark → Option Word) (fault found : Fault) → outcome ≡ found_from find_from looked → Refuses looked found → fault ≡ found → Refuses outcome fault
 refused_from outcome looked f fault found e (inl n) s = inl (s ∙ n)
 refused_from outcome looked f fault found e (inr r) s = inr (e ∙ ap (found_from f) r ∙ ap (λ x. Err x) (sym s))
-
--- no mark of the site is named as `current`
-pub no_current : (view : Viewed) (doc : Flat) (now : List Mark) (current : Mark) → AreMarks view → now ≡ doc.marks → doc ≡ view.doc → current ≡ view.own.current → named current.name now ≡ None
-no_current view doc now current h e d c =
-    (λ i. named (c i).name ((e ∙ ap (λ (f : Flat). f.marks) d) i)) ∙ ap (λ v. named v view.doc.marks) h.current ∙ none_own _ (codes "current") view.doc.marks h.site refl

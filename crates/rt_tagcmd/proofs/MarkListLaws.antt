@@ -12,7 +12,7 @@ use Rattle.rt_marks.proofs.Order.{before_asym, before_irrefl, before_trans}
 use Rattle.rt_text.specs.Widgets.{Viewed, marks_of}
 use Rattle.rt_tagcmd.specs.Looking.{edge}
 use Rattle.rt_tagcmd.specs.MarkLists.{marks_from, marks_left}
-use Rattle.rt_tagcmd.proofs.LookingLaws.{AreMarks, apart, edge_first, none_own}
+use Rattle.rt_tagcmd.proofs.LookingLaws.{edge_first}
 
 -- ONE AFTER ANOTHER
 
@@ -124,14 +124,3 @@ left_first from b (x ∷ marks) h =
         → cond (c && nat_lt x.place b) (x ∷ marks_from from b marks) (marks_from from b marks) ≡ filter (λ m. nat_lt m.place b) (cond c (x ∷ after (edge from) marks) (after (edge from) marks))
     by true e = ap (λ v. cond (nat_lt x.place b) (x ∷ v) v) e
     by false e = e
-
--- ALL MARKS
-
-pub all_in_order : (view : Viewed) → AreMarks view → AreInOrder view.doc.marks → AreInOrder (marks_of view)
-all_in_order view h o =
-    let own = view.own in
-    let marks = view.doc.marks in
-    let none : named own.current.name marks ≡ None = ap (λ v. named v marks) h.current ∙ none_own _ (codes "current") marks h.site refl in
-    let both : named own.insert.name (with_mark own.current marks) ≡ None =
-    named_with own.insert.name own.current marks none ∙ none_cons own.insert.name own.current marks (apart own h.insert h.current) (ap (λ v. named v marks) h.insert ∙ none_own _ (codes "insert") marks h.site refl) in
-    ordered_with own.insert (with_mark own.current marks) both (ordered_with own.current marks none o)

@@ -8,6 +8,7 @@ pub mod mark_name;
 pub mod mark_order;
 mod name;
 mod nearest;
+mod seen;
 pub mod tag;
 pub mod tag_find;
 pub mod tag_range;

@@ -3,6 +3,7 @@ ghost use Rattle.std.specs.Prelude.{◌≡◌, Ok, Err, IfErr, OnOk, OnErr, map,
 ghost use Rattle.rt_stamps.specs.Outcomes.{Refuses};
 ghost use Rattle.rt_tagcmd.specs.MarkCommands.{mark_set, mark_unset, mark_gravity, mark_gravity_set};
 
+use crate::seen::order;
 use rt_marks::Gravity;
 use rt_stamps::{Fault, check_name, check_names};
 use rt_store::TextStore;
@@ -46,6 +47,7 @@ pub fn mark_gravity<S: TextStore>(view: &View<S>, name: &str) -> Result<Gravity,
     ensures { result ≡ mark_gravity view.now name.now }
 {
     check_name(name)?;
+    order(view);
     match OwnMark::of(name) {
         Some(which) => Ok(view.widget().gravity(which)),
         None => view.doc().marks().gravity(name).ok_or(Fault::NoMark),
@@ -64,6 +66,7 @@ pub fn set_mark_gravity<S: TextStore>(
     ensures unchanged { OnErr result (view.new ≡ view.old) }
 {
     check_name(name)?;
+    order(view);
     match OwnMark::of(name) {
         Some(which) => {
             view.set_own_gravity(which, gravity);

@@ -4,35 +4,24 @@ ghost use Rattle.rt_marks.specs.Seen.{spotted};
 ghost use Rattle.rt_stamps.specs.Outcomes.{Refuses};
 ghost use Rattle.rt_tagcmd.specs.Looking.{looked_from};
 ghost use Rattle.rt_tagcmd.specs.MarkCommands.{mark_next, mark_previous, name_of};
-ghost use Rattle.rt_text.specs.Widgets.{mark_of, own_mark, own_name, own_shown};
+ghost use Rattle.rt_text.specs.Widgets.{mark_of};
 
 use crate::nearest::{first_after, last_before};
+use crate::seen::{order, own_spot, seen};
 use rt_index::is_fixed;
 use rt_marks::{Gravity, Spot};
 use rt_stamps::Fault;
 use rt_store::TextStore;
 use rt_text::{OwnMark, View};
 
-/// Where a widget's own mark stands.
-pub(crate) fn own_spot<S: TextStore>(view: &View<S>, which: OwnMark) -> Spot<'static>
-    ensures spot { spotted result ≡ own_mark which (own_shown view.now) }
-    ensures name { (own_mark which (own_shown view.now)).name ≡ own_name which }
-{
-    let widget = view.widget();
-    Spot {
-        place: widget.place(which),
-        gravity: widget.gravity(which),
-        name: which.name(),
-    }
-}
-
-/// Where the mark of a name stands, an own one or one of the site.
+/// Where the mark of a name stands among the characters that the widget shows, an own one or one of the site.
 fn spot_of<'a, S: TextStore>(view: &'a View<S>, name: &str) -> Option<Spot<'a>>
     ensures { option_map spotted result ≡ mark_of view.now name.now }
 {
+    order(view);
     match OwnMark::of(name) {
         Some(which) => Some(own_spot(view, which)),
-        None => view.doc().marks().find(name),
+        None => Some(seen(view.stretch(), view.doc().marks().find(name)?)),
     }
 }
 
@@ -69,11 +58,9 @@ pub fn mark_next<'a, S: TextStore>(view: &'a View<S>, word: &str) -> Result<Opti
     ensures ok { IfOk result (λ name. mark_next view.now word.now ≡ Ok (option_copied name)) }
     ensures err { IfErr result (Refuses (mark_next view.now word.now)) }
 {
-    let marks = view.doc().marks();
-    let insert = own_spot(view, OwnMark::Insert);
-    let current = own_spot(view, OwnMark::Current);
+    order(view);
     let here = look(view, word)?;
-    Ok(name_of(first_after(marks, insert, current, &here)))
+    Ok(name_of(first_after(view, &here)))
 }
 
 /// `mark previous WORD` (Tk text manual): the name of the mark before the one that the word names, in
@@ -87,9 +74,7 @@ pub fn mark_previous<'a, S: TextStore>(
     ensures ok { IfOk result (λ name. mark_previous view.now word.now ≡ Ok (option_copied name)) }
     ensures err { IfErr result (Refuses (mark_previous view.now word.now)) }
 {
-    let marks = view.doc().marks();
-    let insert = own_spot(view, OwnMark::Insert);
-    let current = own_spot(view, OwnMark::Current);
+    order(view);
     let here = look(view, word)?;
-    Ok(name_of(last_before(marks, insert, current, &here)))
+    Ok(name_of(last_before(view, &here)))
 }

@@ -1,9 +1,15 @@
-// The marks about a spot, among those of a site and the two of a widget.
-ghost use Rattle.std.specs.Prelude.{◌≡◌, List, None, find, option_map};
-ghost use Rattle.rt_marks.specs.Marks.{AreInOrder, Mark, comes_before, find_last, named, with_mark};
+// The marks of a widget about a spot: those of its site as the widget sees them, and its own two.
+ghost use Rattle.std.specs.Prelude.{◌≡◌, ◌≤◌, ◌<◌, ◌==◌, ◌&&◌, [], List, find, length, map, option_map};
+ghost use Rattle.rt_marks.specs.Marks.{AreInOrder, Each, Mark, comes_before, find_last, in_order, with_mark};
 ghost use Rattle.rt_marks.specs.Seen.{spotted};
+ghost use Rattle.rt_store.specs.Cells.{text_of};
+ghost use Rattle.rt_text.specs.Widgets.{mark_seen, marks_of, marks_shown, stretch_by};
 
-use rt_marks::{Marks, Spot};
+use crate::seen::{order, own_spot, seen};
+use rt_marks::{Gravity, Marks, Spot};
+use rt_store::TextStore;
+use rt_text::{OwnMark, View};
+use rt_views::Stretch;
 
 /// The first mark after a spot, of the one that was found and one more.
 fn nearer_after<'a>(here: &Spot<'_>, found: Option<Spot<'a>>, own: Spot<'a>) -> Option<Spot<'a>>
@@ -33,34 +39,107 @@ fn nearer_before<'a>(here: &Spot<'_>, found: Option<Spot<'a>>, own: Spot<'a>) ->
     }
 }
 
-/// The first mark after a spot, of the marks of a site and two more.
-pub(crate) fn first_after<'a>(
-    marks: &'a Marks,
-    insert: Spot<'a>,
-    current: Spot<'a>,
-    here: &Spot<'_>,
-) -> Option<Spot<'a>>
-    requires { named (spotted current).name marks.now ≡ None }
-    ensures { option_map spotted result ≡ find (comes_before (spotted here.now))
-        (with_mark (spotted insert.entry) (with_mark (spotted current.entry) marks.now)) }
+/// A spot behind all marks of a text.
+fn behind_all() -> Spot<'static>
+    ensures { spotted result ≡ record { name = []; place = usize.MAX; gravity = Gravity.Right } }
 {
-    marks.order();
-    let found = nearer_after(here, marks.first_after(here), current);
-    nearer_after(here, found, insert)
+    Spot {
+        place: usize::MAX,
+        gravity: Gravity::Right,
+        name: "",
+    }
 }
 
-/// The last mark before a spot, of the marks of a site and two more.
-pub(crate) fn last_before<'a>(
-    marks: &'a Marks,
-    insert: Spot<'a>,
-    current: Spot<'a>,
-    here: &Spot<'_>,
-) -> Option<Spot<'a>>
-    requires { named (spotted current).name marks.now ≡ None }
-    ensures { option_map spotted result ≡ find_last
-        (λ m. comes_before m (spotted here.now)) (with_mark (spotted insert.entry) (with_mark (spotted current.entry) marks.now)) }
+/// The first mark after a spot, of marks at their places among the characters of a stretch: each of them is looked at.
+fn first_seen<'a>(marks: &'a Marks, stretch: Stretch, here: &Spot<'_>) -> Option<Spot<'a>>
+    requires order { stretch.begin ≤ stretch.end }
+    requires within { Each (λ m. m.place < usize.MAX) marks.now }
+    ensures { option_map spotted result ≡ find (comes_before (spotted here.now)) (in_order (map (mark_seen stretch) marks.now)) }
 {
     marks.order();
-    let found = nearer_before(here, marks.last_until(here), current);
-    nearer_before(here, found, insert)
+    let mut found = None;
+    let mut last = behind_all();
+    while let Some(mark) = marks.last_until(&last) {
+        found = nearer_after(here, found, seen(stretch, mark));
+        last = mark;
+    }
+    found
+}
+
+/// The last mark before a spot, of marks at their places among the characters of a stretch: each of them is looked at.
+fn last_seen<'a>(marks: &'a Marks, stretch: Stretch, here: &Spot<'_>) -> Option<Spot<'a>>
+    requires order { stretch.begin ≤ stretch.end }
+    requires within { Each (λ m. m.place < usize.MAX) marks.now }
+    ensures { option_map spotted result ≡ find_last (λ m. comes_before m (spotted here.now)) (in_order (map (mark_seen stretch) marks.now)) }
+{
+    marks.order();
+    let mut found = None;
+    let mut last = behind_all();
+    while let Some(mark) = marks.last_until(&last) {
+        found = nearer_before(here, found, seen(stretch, mark));
+        last = mark;
+    }
+    found
+}
+
+/// Whether a widget shows all of the text.
+fn shows_all<S: TextStore>(view: &View<S>) -> bool
+    ensures { result ≡ (stretch_by view.now).begin == 0 && (stretch_by view.now).end == length (text_of view.now.doc.cells) }
+{
+    let stretch = view.stretch();
+    stretch.begin == 0 && stretch.end == view.doc().visible()
+}
+
+/// The first mark of the site after a spot, as the widget sees them: a binary search where it shows all of the text.
+fn first_shown<'a, S: TextStore>(view: &'a View<S>, here: &Spot<'_>) -> Option<Spot<'a>>
+    ensures { option_map spotted result ≡ find (comes_before (spotted here.now)) (marks_shown view.now) }
+{
+    let marks = view.doc().marks();
+    marks.order();
+    let _ = view.store();
+    if shows_all(view) {
+        marks.first_after(here)
+    } else {
+        first_seen(marks, view.stretch(), here)
+    }
+}
+
+/// The last mark of the site before a spot, as the widget sees them: a binary search where it shows all of the text.
+fn last_shown<'a, S: TextStore>(view: &'a View<S>, here: &Spot<'_>) -> Option<Spot<'a>>
+    ensures { option_map spotted result ≡ find_last (λ m. comes_before m (spotted here.now)) (marks_shown view.now) }
+{
+    let marks = view.doc().marks();
+    marks.order();
+    let _ = view.store();
+    if shows_all(view) {
+        marks.last_until(here)
+    } else {
+        last_seen(marks, view.stretch(), here)
+    }
+}
+
+/// The first mark of a widget after a spot.
+pub(crate) fn first_after<'a, S: TextStore>(view: &'a View<S>, here: &Spot<'_>) -> Option<Spot<'a>>
+    ensures { option_map spotted result ≡ find (comes_before (spotted here.now)) (marks_of view.now) }
+{
+    order(view);
+    let found = nearer_after(
+        here,
+        first_shown(view, here),
+        own_spot(view, OwnMark::Current),
+    );
+    nearer_after(here, found, own_spot(view, OwnMark::Insert))
+}
+
+/// The last mark of a widget before a spot.
+pub(crate) fn last_before<'a, S: TextStore>(view: &'a View<S>, here: &Spot<'_>) -> Option<Spot<'a>>
+    ensures { option_map spotted result ≡ find_last (λ m. comes_before m (spotted here.now)) (marks_of view.now) }
+{
+    order(view);
+    let found = nearer_before(
+        here,
+        last_shown(view, here),
+        own_spot(view, OwnMark::Current),
+    );
+    nearer_before(here, found, own_spot(view, OwnMark::Insert))
 }

@@ -45,10 +45,10 @@ impl TagId {
     }
 }
 
-/// A state's id in a table, for good.
+/// A state's id in a table, for good. It has 32 bits, so that what is kept of a run of characters stays small.
 #[derive(Clone, Copy, Debug, PartialEq, Eq, Hash)]
 pub struct StateId {
-    place: usize,
+    place: u32,
 }
 
 impl Model for StateId {
@@ -197,19 +197,22 @@ fn state_of(states: &IndexSet<State>, id: StateId) -> &State
     requires { id < index_set_len states.now }
     ensures { slice_get states.now.keys id ≡ Some result.now }
 {
-    states.get_index(id.place).unwrap()
+    states.get_index(id.place as usize).unwrap()
 }
 
-// Keeps a state, if the same one isn't kept, and answers its place.
-fn intern(states: &mut IndexSet<State>, state: State) -> Result<usize, Fault>
+// Keeps a state, if the same one isn't kept, and answers its place. Places have 32 bits.
+fn intern(states: &mut IndexSet<State>, state: State) -> Result<u32, Fault>
     ensures kept { OnOk result ((names : List (List ℕ)) → AreKept names states.old.keys → IsKept names state → AreKept names states.new.keys) }
     ensures interned { IfOk result (λ place. (names : List (List ℕ)) → AreKept names states.old.keys
         → IsKept names state → Interns (state_seen names state) (states_seen names states.old.keys) place (states_seen names states.new.keys)) }
     ensures err { OnErr result (states.new.keys ≡ states.old.keys) }
     ensures fault { IfErr result (λ fault. fault ≡ Fault.NoMemory) }
 {
+    if states.len() > u32::MAX as usize {
+        return Err(Fault::NoMemory);
+    }
     let (place, _) = states.insert_full(state)?;
-    Ok(place)
+    Ok(place as u32)
 }
 
 // Whether the entries have one of a tag whose writer isn't less.

@@ -1,4 +1,5 @@
 // Operations of other sites, as a document and its widget take them.
+use crate::checks::same;
 use crate::rga_orders::{Does, Made, Said, op, told};
 use rt_marks::Gravity;
 use rt_stamps::{Fault, Site};
@@ -136,13 +137,13 @@ fn marked(alloc: Global, limit: usize) -> Result<Page, Fail> {
 fn comes_out(rt: &impl Abort, page: &mut Page, case: Case) -> Result<(), Fail> {
     let (offers, places, visible, listed) = case;
     for (made, wanted) in offers {
-        assert_eq!(rt; page.offer(*made), *wanted);
+        same(rt, page.offer(*made), *wanted);
     }
     for ((name, _), place) in MARKS.iter().zip(places) {
-        assert_eq!(rt; page.place(name), Some(*place));
+        same(rt, page.place(name), Some(*place));
     }
-    assert_eq!(rt; page.view.visible(), visible);
-    assert_eq!(rt; page.view.doc().tags().has("t"), listed);
+    same(rt, page.view.visible(), visible);
+    same(rt, page.view.doc().tags().has("t"), listed);
     Ok(())
 }
 

@@ -1,6 +1,7 @@
 // The operations that the editing commands of a document make.
 ghost use Rattle.std.specs.Prelude.{◌≡◌, ◌<◌};
 
+use crate::checks::same;
 use crate::show::lines_of;
 use rt_edits::{Piece, Range};
 use rt_stamps::{Fault, Site};
@@ -199,7 +200,7 @@ fn operations_of_66_tags(rt: HostRuntime) -> Result<(), Fail> {
     let mut page = Page::new(rt.alloc())?;
     let (pieces, lines) = many_tags(rt.alloc())?;
     page.insert("1.0", &pieces, "")?;
-    assert_eq!(rt; page.lines(0)?.as_slice(), lines.as_bytes());
+    same(&rt, page.lines(0)?.as_slice(), lines.as_bytes());
     Ok(())
 }
 
@@ -212,8 +213,8 @@ fn operations_of_65536_characters(rt: HostRuntime) -> Result<(), Fail> {
         text.push('z')?;
     }
     page.insert("1.0", &[], text.as_str())?;
-    assert_eq!(rt; page.view.doc().log().known(1), 65_536);
+    same(&rt, page.view.doc().log().known(1), 65_536);
     let second = "insert 65536.1 prev 65535 after 65535.1 text z tags\n";
-    assert_eq!(rt; page.lines(1)?.as_slice(), second.as_bytes());
+    same(&rt, page.lines(1)?.as_slice(), second.as_bytes());
     Ok(())
 }

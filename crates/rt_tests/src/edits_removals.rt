@@ -3,13 +3,11 @@ use crate::store::Text;
 use rt_edits::Range;
 use rt_edits::removal::removed_ranges;
 use rt_stamps::Fault;
+use rt_store::TextStore;
+use rt_views::Stretch;
 use std::alloc::Global;
 use std::process::Abort;
 use std::test::Fail;
-
-fn range(from: usize, to: usize) -> Range {
-    Range { from, to }
-}
 
 // Some characters before the last newline.
 pub(crate) fn text_of(alloc: Global, characters: &str) -> Result<Text, Fault> {
@@ -22,55 +20,77 @@ pub(crate) fn text_of(alloc: Global, characters: &str) -> Result<Text, Fault> {
     Ok(text)
 }
 
-// Ranges of some characters and the last newline, and what a removal takes.
-fn removes(
-    rt: &impl Abort,
-    alloc: Global,
-    text: &str,
-    ranges: &[Range],
-    removed: &[Range],
-) -> Result<(), Fail> {
-    let found = removed_ranges(alloc, &text_of(alloc, text)?.store, ranges)?;
-    assert_eq!(rt; found.as_slice(), removed, "in {text}");
+/// A text before the last newline, ranges of it, and those that a removal takes.
+type Row = (
+    &'static str,
+    &'static [(usize, usize)],
+    &'static [(usize, usize)],
+);
+
+fn ranges_of(alloc: Global, pairs: &[(usize, usize)]) -> Result<Vec<Range>, Fault> {
+    let mut ranges = Vec::new(alloc);
+    for (from, to) in pairs {
+        ranges.push(Range {
+            from: *from,
+            to: *to,
+        })?;
+    }
+    Ok(ranges)
+}
+
+// Stops a test where a removal takes other ranges than a row says.
+fn removes(rt: &impl Abort, alloc: Global, rows: &[Row]) -> Result<(), Fail> {
+    for (text, ranges, removed) in rows {
+        let text_and_newline = text_of(alloc, text)?;
+        let ranges = ranges_of(alloc, *ranges)?;
+        let all = Stretch {
+            begin: 0,
+            end: text_and_newline.store.visible(),
+        };
+        let found = removed_ranges(alloc, &text_and_newline.store, all, &ranges)?;
+        let wanted = ranges_of(alloc, *removed)?;
+        assert_eq!(rt; found.as_slice(), wanted.as_slice(), "in {text}");
+    }
     Ok(())
 }
 
+const MERGED: &[Row] = &[
+    ("hello", &[(1, 2), (0, 4), (2, 3), (3, 5)], &[(0, 5)]),
+    ("hello", &[(0, 2), (1, 3)], &[(0, 3)]),
+    ("hello", &[(2, 3), (0, 2)], &[(0, 3)]),
+    ("hello", &[(3, 4), (0, 1)], &[(0, 1), (3, 4)]),
+    ("hello", &[(4, 1), (2, 2), (6, 7)], &[]),
+    ("hello", &[], &[]),
+];
+
 #[test]
 fn merges_ranges(rt: HostRuntime) -> Result<(), Fail> {
-    let alloc = rt.alloc();
-    let nested = [range(1, 2), range(0, 4), range(2, 3), range(3, 5)];
-    removes(&rt, alloc, "hello", &nested, &[range(0, 5)])?;
-    let overlapping = [range(0, 2), range(1, 3)];
-    removes(&rt, alloc, "hello", &overlapping, &[range(0, 3)])?;
-    let touching = [range(2, 3), range(0, 2)];
-    removes(&rt, alloc, "hello", &touching, &[range(0, 3)])?;
-    let apart = [range(3, 4), range(0, 1)];
-    removes(&rt, alloc, "hello", &apart, &[range(0, 1), range(3, 4)])?;
-    let none = [range(4, 1), range(2, 2), range(6, 7)];
-    removes(&rt, alloc, "hello", &none, &[])?;
-    removes(&rt, alloc, "hello", &[], &[])
+    removes(&rt, rt.alloc(), MERGED)
 }
+
+const AT_THE_END: &[Row] = &[
+    ("", &[(0, 1)], &[]),
+    ("hello", &[(5, 6)], &[]),
+    ("hello", &[(3, 7)], &[(3, 5)]),
+    ("a\nbc", &[(0, 5)], &[(0, 4)]),
+];
 
 #[test]
 fn spares_the_last_newline(rt: HostRuntime) -> Result<(), Fail> {
-    let alloc = rt.alloc();
-    removes(&rt, alloc, "", &[range(0, 1)], &[])?;
-    removes(&rt, alloc, "hello", &[range(5, 6)], &[])?;
-    removes(&rt, alloc, "hello", &[range(3, 7)], &[range(3, 5)])?;
-    removes(&rt, alloc, "a\nbc", &[range(0, 5)], &[range(0, 4)])
+    removes(&rt, rt.alloc(), AT_THE_END)
 }
+
+const WHOLE_LINES: &[Row] = &[
+    ("a\n", &[(2, 3)], &[(1, 2)]),
+    ("a\nbc", &[(3, 5)], &[(3, 4)]),
+    ("a\nbc", &[(2, 4)], &[(2, 4)]),
+    ("a\nbc", &[(2, 5)], &[(1, 4)]),
+    ("a\nbc", &[(2, 3), (3, 5)], &[(1, 4)]),
+    ("a\nbc", &[(1, 2), (2, 5)], &[(1, 4)]),
+    ("a\nbc", &[(0, 1), (2, 5)], &[(0, 1), (1, 4)]),
+];
 
 #[test]
 fn leaves_no_empty_line(rt: HostRuntime) -> Result<(), Fail> {
-    let alloc = rt.alloc();
-    removes(&rt, alloc, "a\n", &[range(2, 3)], &[range(1, 2)])?;
-    removes(&rt, alloc, "a\nbc", &[range(3, 5)], &[range(3, 4)])?;
-    removes(&rt, alloc, "a\nbc", &[range(2, 4)], &[range(2, 4)])?;
-    removes(&rt, alloc, "a\nbc", &[range(2, 5)], &[range(1, 4)])?;
-    let touching = [range(2, 3), range(3, 5)];
-    removes(&rt, alloc, "a\nbc", &touching, &[range(1, 4)])?;
-    let middle = [range(1, 2), range(2, 5)];
-    removes(&rt, alloc, "a\nbc", &middle, &[range(1, 4)])?;
-    let first = [range(0, 1), range(2, 5)];
-    removes(&rt, alloc, "a\nbc", &first, &[range(0, 1), range(1, 4)])
+    removes(&rt, rt.alloc(), WHOLE_LINES)
 }

@@ -5,11 +5,15 @@
 #[cfg(test)]
 mod accepting;
 #[cfg(test)]
+mod checks;
+#[cfg(test)]
 mod edit_logs;
 #[cfg(test)]
 mod edits_removals;
 #[cfg(test)]
 mod edits_selections;
+#[cfg(test)]
+mod limited;
 #[cfg(test)]
 mod rga_make;
 #[cfg(test)]
@@ -24,6 +28,10 @@ mod show;
 mod store;
 #[cfg(test)]
 mod text;
+#[cfg(test)]
+mod undo_planning;
+#[cfg(test)]
+mod undo_reverting;
 #[cfg(test)]
 mod views;
 #[cfg(test)]

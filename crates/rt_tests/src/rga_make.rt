@@ -6,6 +6,7 @@ ghost use Rattle.rt_oplog.specs.Edits.{body_of};
 ghost use Rattle.rt_oplog.specs.Operations.{Delete, Insert, Tag};
 ghost use Rattle.rt_rga.specs.Requests.{MayBeMade};
 
+use crate::checks::{same, same_len};
 use rt_oplog::{Op, Text};
 use rt_revert::Losses;
 use rt_revert::losses::planned_losses;
@@ -183,28 +184,42 @@ fn make_several(own: &mut Own) -> Result<Vec<Op>, Fault>
     own.replica.make(drafts)
 }
 
+// How many operations a replica has, and what it shows.
+fn has(rt: &impl Abort, own: &Own, ops: usize, text: &str) -> Result<(), Fail> {
+    same(rt, own.replica.log().len(), ops);
+    same(rt, own.shown()?.as_str(), text);
+    Ok(())
+}
+
 #[test]
 fn one_draft(rt: HostRuntime) -> Result<(), Fail> {
     let mut own = Own::new(rt.alloc(), 3)?;
     let ops = type_ab(&mut own)?;
-    assert_eq!(rt; ops.len(), 1);
-    assert_eq!(rt; own.shown()?.as_str(), "ab\n");
-    assert_eq!(rt; type_ab(&mut own).err(), Some(Fault::TextFull));
-    assert_eq!(rt; type_one(&mut own).err(), Some(Fault::TextFull));
-    assert_eq!(rt; own.replica.log().len(), 1);
-    assert_eq!(rt; own.shown()?.as_str(), "ab\n");
-    Ok(())
+    same(&rt, ops.len(), 1);
+    has(&rt, &own, 1, "ab\n")?;
+    same(&rt, type_ab(&mut own).err(), Some(Fault::TextFull));
+    same(&rt, type_one(&mut own).err(), Some(Fault::TextFull));
+    has(&rt, &own, 1, "ab\n")
 }
+
+/// A tag, and the first place from one up that has it.
+type Tagged = (&'static str, usize, Option<usize>);
+
+const TAGGED: &[Tagged] = &[
+    ("t", 0, None),
+    ("u", 0, Some(0)),
+    ("u", 1, Some(1)),
+    ("u", 2, None),
+];
 
 // What a text shows after several drafts.
 fn assert_several(rt: &impl Abort, own: &Own) -> Result<(), Fail> {
-    assert_eq!(rt; own.shown()?.as_str(), "ac\n");
-    assert_eq!(rt; own.tagged("t", 0), None);
-    assert_eq!(rt; own.tagged("u", 0), Some(0));
-    assert_eq!(rt; own.tagged("u", 1), Some(1));
-    assert_eq!(rt; own.tagged("u", 2), None);
-    assert_eq!(rt; own.replica.log().len(), 5);
-    assert_eq!(rt; own.replica.store().cells(), 4);
+    same(rt, own.shown()?.as_str(), "ac\n");
+    for (name, place, wanted) in TAGGED {
+        same(rt, own.tagged(name, *place), *wanted);
+    }
+    same(rt, own.replica.log().len(), 5);
+    same(rt, own.replica.store().cells(), 4);
     Ok(())
 }
 
@@ -213,14 +228,16 @@ fn several_drafts(rt: HostRuntime) -> Result<(), Fail> {
     let mut own = Own::new(rt.alloc(), 4)?;
     let ops = make_several(&mut own)?;
     assert_several(&rt, &own)?;
-    assert_eq!(rt; ops.len(), 5);
-    assert_eq!(rt;
+    same_len(&rt, ops.len(), 5);
+    same(
+        &rt,
         (ops[1].stamp(), ops[1].prev()),
-        (Stamp { count: 3, site: 1 }, 2)
+        (Stamp { count: 3, site: 1 }, 2),
     );
-    assert_eq!(rt;
+    same(
+        &rt,
         (ops[4].stamp(), ops[4].prev()),
-        (Stamp { count: 6, site: 1 }, 5)
+        (Stamp { count: 6, site: 1 }, 5),
     );
     let mut other = Own::new(rt.alloc(), 4)?;
     for op in ops {
@@ -242,10 +259,10 @@ fn what_goes_of_an_insertion(rt: HostRuntime) -> Result<(), Fail> {
     let _ops = make_several(&mut own)?;
     let spans = [span(1, 3, 3), span(1, 2, 2), span(1, 1, 1)];
     let losses = losses_of(&own, &spans)?;
-    assert_eq!(rt; losses.drafts.len(), 1);
-    assert_eq!(rt; losses.removed.len(), 2);
-    assert_eq!(rt; losses.removed[0].span, span(1, 1, 1));
-    assert_eq!(rt; losses.removed[1].span, span(1, 3, 3));
+    same(&rt, losses.drafts.len(), 1);
+    same_len(&rt, losses.removed.len(), 2);
+    same(&rt, losses.removed[0].span, span(1, 1, 1));
+    same(&rt, losses.removed[1].span, span(1, 3, 3));
     Ok(())
 }
 
@@ -261,7 +278,7 @@ fn counts_that_are_spent(rt: HostRuntime) -> Result<(), Fail> {
     let text = Vec::from_slice(rt.alloc(), &['z'])?;
     let op = Op::insert(last, 0, ROOT, Vec::new(rt.alloc()), text)?;
     assert!(rt; matches!(own.replica.accept(op)?, Taken::New(_)));
-    assert_eq!(rt; type_ab(&mut own).err(), Some(Fault::ClockSpent));
-    assert_eq!(rt; own.shown()?.as_str(), "z\n");
+    same(&rt, type_ab(&mut own).err(), Some(Fault::ClockSpent));
+    same(&rt, own.shown()?.as_str(), "z\n");
     Ok(())
 }

@@ -1,4 +1,5 @@
 // Operations of a few sites, offered in each order that is allowed, each twice.
+use crate::checks::same;
 use rt_oplog::Op;
 use rt_rga::{Change, PlaceRun, Replica, Taken};
 use rt_stamps::{Fault, Site, Span, Stamp};
@@ -254,7 +255,7 @@ fn offer_twice(rt: &impl Abort, peer: &mut Peer, all: &[Made]) {
     for made in all {
         let first = peer.offer(*made);
         assert!(rt; matches!(first, Said::New(_, _, _)), "{first:?}");
-        assert_eq!(rt; peer.offer(*made), Said::Repeat);
+        same(rt, peer.offer(*made), Said::Repeat);
     }
 }
 
@@ -262,10 +263,10 @@ fn come_out(rt: &impl Abort, alloc: Global, rows: &[Row]) -> Result<(), Fail> {
     for (all, text, cells, tagged, untagged) in rows {
         let mut peer = Peer::new(alloc, 100)?;
         offer_twice(rt, &mut peer, all);
-        assert_eq!(rt; peer.text()?.as_str(), *text);
-        assert_eq!(rt; peer.replica.store().cells(), *cells);
-        assert_eq!(rt; peer.tagged_from(0), *tagged);
-        assert_eq!(rt; peer.untagged(), *untagged);
+        same(rt, peer.text()?.as_str(), *text);
+        same(rt, peer.replica.store().cells(), *cells);
+        same(rt, peer.tagged_from(0), *tagged);
+        same(rt, peer.untagged(), *untagged);
     }
     Ok(())
 }
@@ -295,7 +296,7 @@ fn answers(
 ) -> Result<(), Fail> {
     let mut peer = Peer::new(alloc, limit)?;
     for (made, wanted) in rows {
-        assert_eq!(rt; peer.offer(*made), *wanted);
+        same(rt, peer.offer(*made), *wanted);
     }
     Ok(())
 }
@@ -402,9 +403,9 @@ const REMOVALS: &[Removal] = &[
 fn removals(rt: HostRuntime) -> Result<(), Fail> {
     let mut peer = Peer::new(rt.alloc(), 100)?;
     for (made, runs) in REMOVALS {
-        assert_eq!(rt; peer.takes_away(*made)?.as_slice(), *runs);
+        same(&rt, peer.takes_away(*made)?.as_slice(), *runs);
     }
-    assert_eq!(rt; peer.text()?.as_str(), "Xf\n");
+    same(&rt, peer.text()?.as_str(), "Xf\n");
     Ok(())
 }
 

@@ -1,4 +1,5 @@
 // Random histories of three sites, delivered in random orders, against a plain reading of them.
+use crate::checks::same;
 use crate::rga_orders::{Does, Made, Peer, Said};
 use rt_stamps::{FINAL, Fault, Stamp};
 use rt_store::TextStore;
@@ -316,7 +317,7 @@ fn agree(rt: &impl Abort, alloc: Global, seed: u64) -> Result<(), Fail> {
         for made in &all {
             assert!(rt; !matches!(peer.offer(*made), Said::Refused(_)));
         }
-        assert_eq!(rt; kept(alloc, peer)?.as_str(), wanted.as_str());
+        same(rt, kept(alloc, peer)?.as_str(), wanted.as_str());
     }
     Ok(())
 }

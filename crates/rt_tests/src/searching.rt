@@ -1,4 +1,5 @@
 // What the command `search` of a widget answers.
+use crate::checks::same;
 use crate::edit_logs::{Page, words};
 use rt_requests::Request;
 use rt_searchcmd::search;
@@ -30,15 +31,15 @@ fn gives(rt: &impl Abort, alloc: Global, page: &Page, row: &Row) {
     let (asked, wanted) = row;
     match (found(alloc, page, asked), wanted) {
         (Ok(found), Ok(wanted)) => {
-            assert_eq!(rt; found.len(), wanted.len());
+            same(rt, found.len(), wanted.len());
             for (position, (line, character)) in found.iter().zip(*wanted) {
-                assert_eq!(rt; position.line, *line);
-                assert_eq!(rt; position.character, *character);
+                same(rt, position.line, *line);
+                same(rt, position.character, *character);
             }
         }
         (Ok(_), Err(_)) => panic!(rt; "words that should be refused"),
         (Err(fault), Ok(_)) => panic!(rt; "refused: {fault:?}"),
-        (Err(fault), Err(wanted)) => assert_eq!(rt; fault, *wanted),
+        (Err(fault), Err(wanted)) => same(rt, fault, *wanted),
     }
 }
 

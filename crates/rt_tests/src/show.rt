@@ -1,6 +1,7 @@
 // The lines of a few operations.
 ghost use Rattle.std.specs.Prelude.{◌≡◌, ◌<◌};
 
+use crate::checks::same;
 use rt_oplog::{Op, read_bytes};
 use rt_samples::files::{DELETE_SECOND, INSERT_AB, INSERT_LAST, TAG_FIRST};
 use rt_show::write_lines;
@@ -82,7 +83,7 @@ tag 9.1 prev 2 off \"a b\" spans 0:1-1 7:3-65536
 #[test]
 fn lines_of_operations(rt: HostRuntime) -> Result<(), Fail> {
     let lines = lines_of(rt.alloc(), &made(rt.alloc())?)?;
-    assert_eq!(rt; lines.as_slice(), LINES_OF_MADE.as_bytes());
+    same(&rt, lines.as_slice(), LINES_OF_MADE.as_bytes());
     Ok(())
 }
 

@@ -4,10 +4,12 @@ ghost use Rattle.rt_store.specs.ListStore.{cells_of};
 ghost use Rattle.rt_store.specs.Tagged.{AreStates};
 ghost use Rattle.rt_tags.specs.States.{IsState, IsTag};
 
+use crate::checks::{same, same_len};
 use rt_stamps::{FINAL, Fault, ROOT, Span, Stamp};
 use rt_store::{Cell, FINAL_CELL, ListStore, TextStore};
 use rt_tags::{StateId, StateTable, TagId};
 use std::alloc::Global;
+use std::process::Abort;
 use std::test::Fail;
 
 /// A short text, and a tag that some of its characters have.
@@ -46,6 +48,15 @@ impl Text {
             tag,
             tagged,
         })
+    }
+
+    /// A text of some characters, the last one first: their counts, and whether they have the tag.
+    pub(crate) fn of(alloc: Global, backwards: &[(u64, char, bool)]) -> Result<Text, Fault> {
+        let mut text = Text::new(alloc)?;
+        for (count, ch, is_tagged) in backwards {
+            text.put(*count, *ch, *is_tagged)?;
+        }
+        Ok(text)
     }
 
     /// Puts a character in front of the others.
@@ -96,45 +107,66 @@ impl Text {
         Ok(())
     }
 
-    // From a place, the next one that has the tag, the next one that hasn't it, and the previous one
-    // that has it.
-    fn near(&self, place: usize) -> (Option<usize>, Option<usize>, Option<usize>) {
+    // Puts the tag on the characters of some counts of a site.
+    fn tag_counts(&mut self, site: u16, first: u64, last: u64) -> Result<(), Fault> {
+        self.tag(Span { site, first, last })
+    }
+
+    fn near(&self, place: usize) -> Near {
         let next = self.store.next_tagged(&self.states, self.tag, place);
         let next_plain = self.store.next_untagged(&self.states, self.tag, place);
         let previous = self.store.previous_tagged(&self.states, self.tag, place);
         (next, next_plain, previous)
     }
+
+    // Stops a test where others are near the places than those that are told.
+    fn are_near(&self, rt: &impl Abort, rows: &[(usize, Near)]) {
+        for (place, wanted) in rows {
+            assert_eq!(rt; self.near(*place), *wanted, "from {place}");
+        }
+    }
 }
+
+/// From a place, the next one that has the tag, the next one that hasn't it, and the previous one that
+/// has it.
+type Near = (Option<usize>, Option<usize>, Option<usize>);
 
 #[test]
 fn nearest_places(rt: HostRuntime) -> Result<(), Fail> {
-    let mut text = Text::new(rt.alloc())?;
-    assert_eq!(rt; text.near(0), (None, Some(0), None));
-    text.put(4, 'c', false)?;
-    text.put(3, 'b', true)?;
-    text.put(2, 'a', false)?;
-    assert_eq!(rt; text.near(0), (Some(1), Some(0), None));
-    assert_eq!(rt; text.near(1), (Some(1), Some(2), None));
-    assert_eq!(rt; text.near(2), (None, Some(2), Some(1)));
-    assert_eq!(rt; text.near(4), (None, None, Some(1)));
-    assert_eq!(rt; text.near(usize::MAX), (None, None, Some(1)));
-    text.tag(Span {
-        site: 1,
-        first: 4,
-        last: 9,
-    })?;
-    assert_eq!(rt; text.near(1), (Some(1), Some(3), None));
-    assert_eq!(rt; text.near(2), (Some(2), Some(3), Some(1)));
+    let mut text = Text::of(
+        rt.alloc(),
+        &[(4, 'c', false), (3, 'b', true), (2, 'a', false)],
+    )?;
+    text.are_near(
+        &rt,
+        &[
+            (0, (Some(1), Some(0), None)),
+            (1, (Some(1), Some(2), None)),
+            (2, (None, Some(2), Some(1))),
+            (4, (None, None, Some(1))),
+            (usize::MAX, (None, None, Some(1))),
+        ],
+    );
+    text.tag_counts(1, 4, 9)?;
+    let tagged = [
+        (1, (Some(1), Some(3), None)),
+        (2, (Some(2), Some(3), Some(1))),
+    ];
+    text.are_near(&rt, &tagged);
     text.remove(3)?;
-    assert_eq!(rt; text.near(0), (Some(1), Some(0), None));
-    assert_eq!(rt; text.near(2), (None, Some(2), Some(1)));
-    text.tag(Span {
-        site: 0,
-        first: 1,
-        last: 1,
-    })?;
-    assert_eq!(rt; text.near(2), (Some(2), None, Some(1)));
-    assert_eq!(rt; text.near(3), (None, None, Some(2)));
+    let removed = [(0, (Some(1), Some(0), None)), (2, (None, Some(2), Some(1)))];
+    text.are_near(&rt, &removed);
+    text.tag_counts(0, 1, 1)?;
+    let last = [(2, (Some(2), None, Some(1))), (3, (None, None, Some(2)))];
+    text.are_near(&rt, &last);
+    Ok(())
+}
+
+// No character has a tag on a new text.
+#[test]
+fn nothing_is_near(rt: HostRuntime) -> Result<(), Fail> {
+    let text = Text::new(rt.alloc())?;
+    text.are_near(&rt, &[(0, (None, Some(0), None))]);
     Ok(())
 }
 
@@ -161,39 +193,51 @@ fn past_greater_stamps(rt: HostRuntime) -> Result<(), Fail> {
     store.splice(&states, 0, &[cell(2, 1, 'b')]);
     store.splice(&states, 0, &[cell(1, 1, 'a')]);
     let a = Stamp { count: 1, site: 1 };
-    assert_eq!(rt; store.after_skip(a, Stamp { count: 3, site: 2 }), 1);
+    same(&rt, store.after_skip(a, Stamp { count: 3, site: 2 }), 1);
     store.splice(&states, 1, &[cell(3, 2, 'Y')]);
-    assert_eq!(rt; store.after_skip(a, Stamp { count: 3, site: 1 }), 2);
-    assert_eq!(rt; store.visible(), 4);
-    assert_eq!(rt; store.lines(), 1);
+    same(&rt, store.after_skip(a, Stamp { count: 3, site: 1 }), 2);
+    same(&rt, store.visible(), 4);
+    same(&rt, store.lines(), 1);
     Ok(())
 }
 
-// A stamp finds its cell, gone or not, and its place; room that was there stays.
+// The stamps of `b` and `c`, and one of no cell.
+const B: Stamp = Stamp { count: 2, site: 1 };
+
+const C: Stamp = Stamp { count: 3, site: 1 };
+
+const OTHER: Stamp = Stamp { count: 3, site: 2 };
+
+// The text `abc`, whose `b` is gone.
+fn without_b(alloc: Global) -> Result<Text, Fault> {
+    let mut text = Text::of(alloc, &[(3, 'c', false), (2, 'b', true), (1, 'a', false)])?;
+    text.remove(2)?;
+    Ok(text)
+}
+
+// A stamp finds its cell, gone or not; room that was there stays.
 #[test]
 fn cells_of_stamps(rt: HostRuntime) -> Result<(), Fail> {
-    let mut text = Text::new(rt.alloc())?;
-    text.put(3, 'c', false)?;
-    text.put(2, 'b', true)?;
-    text.put(1, 'a', false)?;
-    text.remove(2)?;
+    let text = without_b(rt.alloc())?;
     let store = &text.store;
-    let b = Stamp { count: 2, site: 1 };
-    let c = Stamp { count: 3, site: 1 };
-    let other = Stamp { count: 3, site: 2 };
-    assert_eq!(rt;
-        store.cell_of(b).map(|cell| (cell.ch, cell.gone)),
-        Some(('b', true))
-    );
-    assert_eq!(rt; store.cell_of(c), Some(cell(3, 1, 'c')));
-    assert_eq!(rt; store.cell_of(FINAL), Some(FINAL_CELL));
-    assert_eq!(rt; store.cell_of(other), None);
-    assert_eq!(rt; store.place_of(b), Some(1));
-    assert_eq!(rt; store.place_of(c), Some(1));
-    assert_eq!(rt; store.place_of(FINAL), Some(2));
-    assert_eq!(rt; store.place_of(other), None);
-    assert_eq!(rt; store.cells(), 4);
-    assert_eq!(rt; store.nth(2), cell(3, 1, 'c'));
-    assert_eq!(rt; store.nth(3), FINAL_CELL);
+    let found = store.cell_of(B).map(|cell| (cell.ch, cell.gone));
+    same(&rt, found, Some(('b', true)));
+    same(&rt, store.cell_of(C), Some(cell(3, 1, 'c')));
+    same(&rt, store.cell_of(FINAL), Some(FINAL_CELL));
+    same(&rt, store.cell_of(OTHER), None);
+    Ok(())
+}
+
+// A stamp finds its place, and a position its cell.
+#[test]
+fn places_of_stamps(rt: HostRuntime) -> Result<(), Fail> {
+    let text = without_b(rt.alloc())?;
+    let store = &text.store;
+    for (stamp, place) in [(B, Some(1)), (C, Some(1)), (FINAL, Some(2)), (OTHER, None)] {
+        same(&rt, store.place_of(stamp), place);
+    }
+    same_len(&rt, store.cells(), 4);
+    same(&rt, store.nth(2), cell(3, 1, 'c'));
+    same(&rt, store.nth(3), FINAL_CELL);
     Ok(())
 }

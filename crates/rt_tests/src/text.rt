@@ -2,6 +2,7 @@
 ghost use Rattle.std.specs.Prelude.{◌≡◌};
 ghost use Rattle.rt_tags.specs.Tags.{IsName};
 
+use crate::checks::same;
 use rt_edits::{Piece, Range};
 use rt_marks::Gravity;
 use rt_oplog::Op;
@@ -61,6 +62,14 @@ impl Page {
     fn select_in(&mut self, other: usize, ranges: &[Range]) -> Result<(), Fault> {
         self.exchange(other);
         self.view.write_tag(true, "sel", ranges)?;
+        self.exchange(other);
+        Ok(())
+    }
+
+    // Sets a mark of another widget.
+    fn set_in(&mut self, other: usize, name: &str, index: &str) -> Result<(), Fault> {
+        self.exchange(other);
+        self.set(name, index)?;
         self.exchange(other);
         Ok(())
     }
@@ -183,7 +192,7 @@ fn words(alloc: Global, words: &[&str]) -> Result<Vec<String>, Fail> {
     Ok(all)
 }
 
-// Where the marks stand whose numbers are even, and the others.
+// Where the marks stand whose numbers are even, and the others. The last even one is before the first odd one.
 fn stand_in_turn(
     rt: &impl Abort,
     alloc: Global,
@@ -196,6 +205,7 @@ fn stand_in_turn(
         let character = if i % 2 == 0 { even } else { odd };
         assert_eq!(rt; page.index(name.as_str()), at(1, character), "at {name}");
     }
+    same(rt, page.next("m98"), Some("m01"));
     Ok(())
 }
 
@@ -221,12 +231,10 @@ fn a_hundred_marks_in_one_gap(rt: HostRuntime) -> Result<(), Fail> {
     set_a_hundred(alloc, &mut page, "1.5")?;
     page.insert("1.5", "abc")?;
     stand_in_turn(&rt, alloc, &page, 5, 8)?;
-    assert_eq!(rt; page.next("m98"), Some("m01"));
     let ranges = ["1.9", "1.11", "1.1", "1.3", "1.4", "1.9"];
     delete_at(alloc, &mut page, &ranges)?;
     stand_in_turn(&rt, alloc, &page, 2, 2)?;
-    assert_eq!(rt; page.next("m98"), Some("m01"));
-    assert_eq!(rt; page.get("1.0", "end")?.as_str(), "0389\n");
+    same(&rt, page.get("1.0", "end")?.as_str(), "0389\n");
     Ok(())
 }
 
@@ -309,8 +317,8 @@ fn ranges_of_a_tag(rt: HostRuntime) -> Result<(), Fail> {
     ];
     page.write_tag(true, "t", &ranges)?;
     tagged(&rt, &page, &[("t", 0, 0, 3)]);
-    assert_eq!(rt; page.next_tagged("t", 3), Some(5));
-    assert_eq!(rt; page.next_untagged("t", 5), None);
+    same(&rt, page.next_tagged("t", 3), Some(5));
+    same(&rt, page.next_untagged("t", 5), None);
     page.write_tag(false, "t", &[Range { from: 6, to: 100 }])?;
     tagged(&rt, &page, &[("t", 3, 5, 6)]);
     Ok(())
@@ -320,22 +328,28 @@ fn stamp(count: u64) -> Stamp {
     Stamp { count, site: 1 }
 }
 
-// New text without a list is selected in each widget that has both neighbours; `sel` in a list
-// selects in the widget that commands alone.
-#[test]
-fn selected_in_other_widgets(rt: HostRuntime) -> Result<(), Fail> {
-    let alloc = rt.alloc();
-    let listed = [piece(alloc, "Z", &["sel"])?];
+// A page with `aXb`: of two other widgets one had the `a` and the `b` selected before the `X` was typed, the
+// other the `a`.
+fn page_of_selections(alloc: Global) -> Result<Page, Fail> {
     let mut page = Page::beside(alloc)?;
     page.insert("1.0", "ab")?;
     page.select_in(0, &[Range { from: 0, to: 2 }])?;
     page.select_in(1, &[Range { from: 0, to: 1 }])?;
     page.insert("1.1", "X")?;
-    assert_eq!(rt; page.selected(stamp(3)), (true, false));
-    assert_eq!(rt; page.next_tagged("sel", 0), None);
+    Ok(page)
+}
+
+// New text without a list is selected in each widget that has both neighbours; `sel` in a list
+// selects in the widget that commands alone.
+#[test]
+fn selected_in_other_widgets(rt: HostRuntime) -> Result<(), Fail> {
+    let listed = [piece(rt.alloc(), "Z", &["sel"])?];
+    let mut page = page_of_selections(rt.alloc())?;
+    same(&rt, page.selected(stamp(3)), (true, false));
+    same(&rt, page.next_tagged("sel", 0), None);
     page.insert_pieces("1.1", &listed)?;
-    assert_eq!(rt; page.selected(stamp(3)), (true, false));
-    assert_eq!(rt; page.selected(stamp(4)), (false, false));
+    same(&rt, page.selected(stamp(3)), (true, false));
+    same(&rt, page.selected(stamp(4)), (false, false));
     tagged(&rt, &page, &[("sel", 0, 1, 2)]);
     Ok(())
 }
@@ -365,21 +379,50 @@ fn page_of_counts(alloc: Global, counts: u64) -> Result<Page, Fail> {
     Ok(page)
 }
 
+/// Deletions in turn, what is answered to each, and the text then.
+type Deletions<'a> = &'a [(&'a [&'a str], Result<(), Fault>, &'a str)];
+
+fn deletes(rt: &impl Abort, alloc: Global, page: &mut Page, rows: Deletions) -> Result<(), Fail> {
+    for (indices, wanted, text) in rows {
+        let indices = words(alloc, *indices)?;
+        same(rt, page.delete(&indices), *wanted);
+        same(rt, page.get("1.0", "end")?.as_str(), *text);
+    }
+    Ok(())
+}
+
+const DOWN_TO_THE_END: &[&str] = &["1.1", "end"];
+
+// The last newline has no tag, and is nowhere selected; the first character still is in one of the other widgets.
+fn has_no_tags(rt: &impl Abort, page: &mut Page, first: Stamp) {
+    tagged(rt, page, &[("t", 0, 0, 1), ("u", 0, 0, 1)]);
+    same(rt, page.next_tagged("sel", 0), None);
+    same(rt, page.selected(FINAL), (false, false));
+    same(rt, page.selected(first), (true, false));
+}
+
 // Where a deletion holds the last newline, it stays, and loses its tags. It is nowhere selected then.
 #[test]
 fn the_last_newline_loses_its_tags(rt: HostRuntime) -> Result<(), Fail> {
     let alloc = rt.alloc();
-    let down_to_the_end = words(alloc, &["1.1", "end"])?;
     let mut page = page_with_tags(alloc)?;
-    assert_eq!(rt; page.delete(&down_to_the_end), Ok(()));
-    assert_eq!(rt; page.get("1.0", "end")?.as_str(), "a\n");
-    tagged(&rt, &page, &[("t", 0, 0, 1), ("u", 0, 0, 1)]);
-    assert_eq!(rt; page.next_tagged("sel", 0), None);
-    assert_eq!(rt; page.selected(FINAL), (false, false));
-    assert_eq!(rt; page.selected(stamp(1)), (true, false));
+    deletes(&rt, alloc, &mut page, &[(DOWN_TO_THE_END, Ok(()), "a\n")])?;
+    has_no_tags(&rt, &mut page, stamp(1));
     assert!(rt; page.has_tag("t") && page.has_tag("u"));
     Ok(())
 }
+
+const DELETIONS: Deletions<'static> = &[
+    (&["1.2", "1.2"], Ok(()), "hello\n"),
+    (&["1.0", "1.1", "1.3", "1.4"], Ok(()), "elo\n"),
+    (
+        &["1.0", "1.1", "1.3", "1.4"],
+        Err(Fault::ClockSpent),
+        "elo\n",
+    ),
+    (&["1.2", "1.2"], Ok(()), "elo\n"),
+    (&["1.0", "one"], Err(Fault::BadIndex), "elo\n"),
+];
 
 #[test]
 fn deletes_with_the_last_count(rt: HostRuntime) -> Result<(), Fail> {
@@ -387,33 +430,17 @@ fn deletes_with_the_last_count(rt: HostRuntime) -> Result<(), Fail> {
     let mut page = Page::new(alloc)?;
     page.leave_counts(alloc, 6)?;
     page.insert("1.0", "hello")?;
-    let nothing = words(alloc, &["1.2", "1.2"])?;
-    let two = words(alloc, &["1.0", "1.1", "1.3", "1.4"])?;
-    let unread = words(alloc, &["1.0", "one"])?;
-    assert_eq!(rt; page.delete(&nothing), Ok(()));
-    assert_eq!(rt; page.delete(&two), Ok(()));
-    assert_eq!(rt; page.get("1.0", "end")?.as_str(), "elo\n");
-    assert_eq!(rt; page.delete(&two), Err(Fault::ClockSpent));
-    assert_eq!(rt; page.get("1.0", "end")?.as_str(), "elo\n");
-    assert_eq!(rt; page.delete(&nothing), Ok(()));
-    assert_eq!(rt; page.delete(&unread), Err(Fault::BadIndex));
-    Ok(())
+    deletes(&rt, alloc, &mut page, DELETIONS)
 }
 
 // Each tag that the last newline loses takes a count behind that of the deletion.
 #[test]
 fn counts_of_the_last_newline(rt: HostRuntime) -> Result<(), Fail> {
     let alloc = rt.alloc();
-    let down_to_the_end = words(alloc, &["1.1", "end"])?;
     let mut page = page_of_counts(alloc, 3)?;
-    assert_eq!(rt; page.delete(&down_to_the_end), Ok(()));
-    assert_eq!(rt; page.get("1.0", "end")?.as_str(), "a\n");
-    tagged(&rt, &page, &[("t", 0, 0, 1), ("u", 0, 0, 1)]);
-    assert_eq!(rt; page.next_tagged("sel", 0), None);
-    assert_eq!(rt; page.selected(FINAL), (false, false));
-    let first = stamp(GREATEST_COUNT.saturating_sub(6));
-    assert_eq!(rt; page.selected(first), (true, false));
-    assert_eq!(rt; page.insert("1.0", "c"), Err(Fault::ClockSpent));
+    deletes(&rt, alloc, &mut page, &[(DOWN_TO_THE_END, Ok(()), "a\n")])?;
+    has_no_tags(&rt, &mut page, stamp(GREATEST_COUNT.saturating_sub(6)));
+    same(&rt, page.insert("1.0", "c"), Err(Fault::ClockSpent));
     Ok(())
 }
 
@@ -421,15 +448,14 @@ fn counts_of_the_last_newline(rt: HostRuntime) -> Result<(), Fail> {
 #[test]
 fn too_few_counts_for_the_last_newline(rt: HostRuntime) -> Result<(), Fail> {
     let alloc = rt.alloc();
-    let down_to_the_end = words(alloc, &["1.1", "end"])?;
     let mut page = page_of_counts(alloc, 2)?;
-    assert_eq!(rt; page.delete(&down_to_the_end), Err(Fault::ClockSpent));
-    assert_eq!(rt; page.get("1.0", "end")?.as_str(), "ab\n");
-    assert_eq!(rt; page.next_untagged("t", 0), None);
-    assert_eq!(rt; page.next_untagged("u", 0), None);
-    assert_eq!(rt; page.next_tagged("sel", 0), Some(2));
-    assert_eq!(rt; page.selected(FINAL), (true, false));
-    assert_eq!(rt; page.insert("1.0", "cd"), Ok(()));
+    let refused = (DOWN_TO_THE_END, Err(Fault::ClockSpent), "ab\n");
+    deletes(&rt, alloc, &mut page, &[refused])?;
+    same(&rt, page.next_untagged("t", 0), None);
+    same(&rt, page.next_untagged("u", 0), None);
+    same(&rt, page.next_tagged("sel", 0), Some(2));
+    same(&rt, page.selected(FINAL), (true, false));
+    same(&rt, page.insert("1.0", "cd"), Ok(()));
     Ok(())
 }
 
@@ -439,25 +465,28 @@ fn cursors(page: &mut Page) -> (usize, usize, usize) {
     (own, page.cursor_in(0), page.cursor_in(1))
 }
 
+// A page with `abcdef`, where two of three widgets set their insertion cursors.
+fn page_of_cursors(rt: &impl Abort, alloc: Global) -> Result<Page, Fail> {
+    let mut page = Page::beside(alloc)?;
+    page.insert("1.0", "abcdef")?;
+    same(rt, cursors(&mut page), (6, 6, 6));
+    page.set("insert", "1.1")?;
+    page.set_in(0, "insert", "1.4")?;
+    same(rt, cursors(&mut page), (1, 4, 6));
+    Ok(page)
+}
+
 // The insertion cursor of each widget moves with every edit; one that is set leaves the others.
 #[test]
 fn marks_of_other_widgets(rt: HostRuntime) -> Result<(), Fail> {
-    let alloc = rt.alloc();
-    let mut page = Page::beside(alloc)?;
-    page.insert("1.0", "abcdef")?;
-    assert_eq!(rt; cursors(&mut page), (6, 6, 6));
-    page.set("insert", "1.1")?;
-    page.exchange(0);
-    page.set("insert", "1.4")?;
-    page.exchange(0);
-    assert_eq!(rt; cursors(&mut page), (1, 4, 6));
+    let mut page = page_of_cursors(&rt, rt.alloc())?;
     page.insert("1.2", "XY")?;
-    assert_eq!(rt; cursors(&mut page), (1, 6, 8));
-    delete_at(alloc, &mut page, &["1.0", "1.3"])?;
-    assert_eq!(rt; cursors(&mut page), (0, 3, 5));
+    same(&rt, cursors(&mut page), (1, 6, 8));
+    delete_at(rt.alloc(), &mut page, &["1.0", "1.3"])?;
+    same(&rt, cursors(&mut page), (0, 3, 5));
     page.view.replace("1.2", "1.4", &[], "pqr")?;
-    assert_eq!(rt; cursors(&mut page), (0, 5, 6));
+    same(&rt, cursors(&mut page), (0, 5, 6));
     page.exchange(1);
-    assert_eq!(rt; cursors(&mut page), (6, 5, 0));
+    same(&rt, cursors(&mut page), (6, 5, 0));
     Ok(())
 }

@@ -1,6 +1,7 @@
 // Places of a text as lines and characters.
+use crate::checks::same;
 use crate::edits_removals::text_of;
-use rt_search::{Case, Direction, Limits, Overlaps, Search, find_all, positions};
+use rt_search::{Case, Direction, Limits, Overlaps, Part, Search, find_all, positions};
 use rt_stamps::{Fault, Position};
 use rt_store::TextStore;
 use std::alloc::Global;
@@ -15,8 +16,9 @@ fn found(
     direction: Direction,
     start: usize,
 ) -> Result<Vec<Position>, Fault> {
-    let text = text_of(alloc, text)?;
-    let start = start.min(text.store.visible());
+    let made = text_of(alloc, text)?;
+    let text = Part::whole(&made.store);
+    let start = start.min(text.len());
     let search = Search {
         direction,
         case: Case::Exact,
@@ -24,14 +26,14 @@ fn found(
     };
     let places = find_all(
         alloc,
-        &text.store,
+        &text,
         &[wanted],
         search,
         Overlaps::Taken,
         start,
         None,
     )?;
-    positions(alloc, &text.store, &places)
+    positions(alloc, &text, &places)
 }
 
 // Four lines, the second of them empty.
@@ -47,10 +49,10 @@ fn stands(
     places: &[(usize, usize)],
 ) -> Result<(), Fail> {
     let found = found(alloc, TEXT, wanted, direction, start)?;
-    assert_eq!(rt; found.len(), places.len());
+    same(rt, found.len(), places.len());
     for (position, (line, character)) in found.iter().zip(places) {
-        assert_eq!(rt; position.line, *line);
-        assert_eq!(rt; position.character, *character);
+        same(rt, position.line, *line);
+        same(rt, position.character, *character);
     }
     Ok(())
 }

@@ -44,84 +44,88 @@ fn answer(alloc: Global, text: &str) -> Result<Result<String, u8>, Fail> {
     })
 }
 
+/// A command line, and what it asks for, or the status with which it is refused.
+type Row = (&'static str, Result<&'static str, u8>);
+
+const LINES: &[Row] = &[
+    ("peertext run --site 7", Ok("run 7")),
+    ("peertext run --site 1", Ok("run 1")),
+    ("peertext run --site=65535", Ok("run 65535")),
+    ("peertext run --site 7 --log a", Ok("run 7 log a")),
+    ("peertext run --out a --site 7", Ok("run 7 out a")),
+    (
+        "peertext run --site 7 --log a --out b",
+        Ok("run 7 log a out b"),
+    ),
+    (
+        "peertext run --out=b --site=7 --log=a c",
+        Ok("run 7 log a out b c"),
+    ),
+    (
+        "peertext run a --site 7 b --log l c --out o a",
+        Ok("run 7 log l out o a b c a"),
+    ),
+    (
+        "peertext run --site 7 -- --log a --",
+        Ok("run 7 --log a --"),
+    ),
+    (
+        "peertext run --site 7 a -- -b --out=c",
+        Ok("run 7 a -b --out=c"),
+    ),
+    (
+        "peertext run --site 7 --log same --out same same",
+        Ok("run 7 log same out same same"),
+    ),
+    ("peertext run --site 7 --log= more", Ok("run 7 log  more")),
+    ("peertext run --site 7 run join", Ok("run 7 run join")),
+    ("peertext run --site 7 -", Ok("run 7 -")),
+    ("peertext join a b c", Ok("join a b c")),
+    ("peertext join -- -a b -c", Ok("join -a b -c")),
+    ("peertext join run join show", Ok("join run join show")),
+    ("peertext show show", Ok("show show")),
+    ("peertext join a b", Err(2)),
+    ("peertext join a b c d", Err(2)),
+    ("peertext join -a b c", Err(2)),
+    ("peertext show", Err(2)),
+    ("peertext show a b", Err(2)),
+    ("peertext show --site 7", Err(2)),
+    ("peertext run --site 0", Err(2)),
+    ("peertext run --site 65536", Err(2)),
+    ("peertext run --site x", Err(2)),
+    ("peertext run --site -7", Err(2)),
+    ("peertext run --site", Err(2)),
+    ("peertext run", Err(2)),
+    ("peertext run --site 7 --site 7", Err(2)),
+    ("peertext run --site 7 --slow", Err(2)),
+    ("peertext run --site 7 --log", Err(2)),
+    ("peertext run --site 7 --out", Err(2)),
+    ("peertext run --site 7 --log --out b", Err(2)),
+    ("peertext run --site 7 --log a --log a", Err(2)),
+    ("peertext run --site 7 --out a b --out=c", Err(2)),
+    ("peertext run --site 7 a --site 7", Err(2)),
+    ("peertext run --log a --out b c", Err(2)),
+    ("peertext run --site 7 -b", Err(2)),
+    ("peertext run a -- --site 7", Err(2)),
+    ("peertext join --log a b c d", Err(2)),
+    ("peertext show --out a b", Err(2)),
+    ("peertext walk --site 7", Err(2)),
+    ("peertext --site 7", Err(2)),
+    ("peertext", Err(2)),
+    ("peertext --help", Err(0)),
+    ("peertext run --help", Err(0)),
+    ("peertext join --help", Err(0)),
+    ("peertext show -h", Err(0)),
+    ("peertext --version", Err(0)),
+];
+
 #[test]
 fn reads_command_lines(rt: HostRuntime) -> Result<(), Fail> {
-    let table = [
-        ("peertext run --site 7", Ok("run 7")),
-        ("peertext run --site 1", Ok("run 1")),
-        ("peertext run --site=65535", Ok("run 65535")),
-        ("peertext run --site 7 --log a", Ok("run 7 log a")),
-        ("peertext run --out a --site 7", Ok("run 7 out a")),
-        (
-            "peertext run --site 7 --log a --out b",
-            Ok("run 7 log a out b"),
-        ),
-        (
-            "peertext run --out=b --site=7 --log=a c",
-            Ok("run 7 log a out b c"),
-        ),
-        (
-            "peertext run a --site 7 b --log l c --out o a",
-            Ok("run 7 log l out o a b c a"),
-        ),
-        (
-            "peertext run --site 7 -- --log a --",
-            Ok("run 7 --log a --"),
-        ),
-        (
-            "peertext run --site 7 a -- -b --out=c",
-            Ok("run 7 a -b --out=c"),
-        ),
-        (
-            "peertext run --site 7 --log same --out same same",
-            Ok("run 7 log same out same same"),
-        ),
-        ("peertext run --site 7 --log= more", Ok("run 7 log  more")),
-        ("peertext run --site 7 run join", Ok("run 7 run join")),
-        ("peertext run --site 7 -", Ok("run 7 -")),
-        ("peertext join a b c", Ok("join a b c")),
-        ("peertext join -- -a b -c", Ok("join -a b -c")),
-        ("peertext join run join show", Ok("join run join show")),
-        ("peertext show show", Ok("show show")),
-        ("peertext join a b", Err(2)),
-        ("peertext join a b c d", Err(2)),
-        ("peertext join -a b c", Err(2)),
-        ("peertext show", Err(2)),
-        ("peertext show a b", Err(2)),
-        ("peertext show --site 7", Err(2)),
-        ("peertext run --site 0", Err(2)),
-        ("peertext run --site 65536", Err(2)),
-        ("peertext run --site x", Err(2)),
-        ("peertext run --site -7", Err(2)),
-        ("peertext run --site", Err(2)),
-        ("peertext run", Err(2)),
-        ("peertext run --site 7 --site 7", Err(2)),
-        ("peertext run --site 7 --slow", Err(2)),
-        ("peertext run --site 7 --log", Err(2)),
-        ("peertext run --site 7 --out", Err(2)),
-        ("peertext run --site 7 --log --out b", Err(2)),
-        ("peertext run --site 7 --log a --log a", Err(2)),
-        ("peertext run --site 7 --out a b --out=c", Err(2)),
-        ("peertext run --site 7 a --site 7", Err(2)),
-        ("peertext run --log a --out b c", Err(2)),
-        ("peertext run --site 7 -b", Err(2)),
-        ("peertext run a -- --site 7", Err(2)),
-        ("peertext join --log a b c d", Err(2)),
-        ("peertext show --out a b", Err(2)),
-        ("peertext walk --site 7", Err(2)),
-        ("peertext --site 7", Err(2)),
-        ("peertext", Err(2)),
-        ("peertext --help", Err(0)),
-        ("peertext run --help", Err(0)),
-        ("peertext join --help", Err(0)),
-        ("peertext show -h", Err(0)),
-        ("peertext --version", Err(0)),
-    ];
-    for (text, wanted) in table {
+    for (text, wanted) in LINES {
         let got = answer(rt.alloc(), text)?;
         let same = match (&got, wanted) {
-            (Ok(got), Ok(wanted)) => got.as_str() == wanted,
-            (Err(got), Err(wanted)) => *got == wanted,
+            (Ok(got), Ok(wanted)) => got.as_str() == *wanted,
+            (Err(got), Err(wanted)) => *got == *wanted,
             _ => false,
         };
         assert!(rt; same, "{text}");

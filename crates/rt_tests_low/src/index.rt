@@ -4,6 +4,7 @@ ghost use Rattle.std.specs.Prelude.{◌≡◌, ◌-◌, count_by, drop, length, 
 ghost use Rattle.rt_stamps.specs.Places.{is_newline};
 ghost use Rattle.rt_tests_low.specs.Page.{page_text};
 
+use crate::checks::same;
 use rt_index::{Ground, is_fixed, parse, resolve};
 use rt_stamps::Fault;
 use std::alloc::{AllocError, Global};
@@ -281,11 +282,11 @@ fn words_and_places(rt: HostRuntime) {
     let page = Page::new(rt.alloc()).expect(&rt, "memory");
     for (word, place) in PLACES {
         let expr = parse(rt.alloc(), word).expect(&rt, "an expression");
-        assert_eq!(rt; resolve(&expr, &page), Ok(place));
+        same(&rt, resolve(&expr, &page), Ok(place));
     }
     for (word, fault) in NOWHERE {
         let expr = parse(rt.alloc(), word).expect(&rt, "an expression");
-        assert_eq!(rt; resolve(&expr, &page), Err(fault));
+        same(&rt, resolve(&expr, &page), Err(fault));
     }
 }
 

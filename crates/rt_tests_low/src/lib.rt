@@ -1,6 +1,9 @@
-//! Tests of the crates from rt_oplog and rt_search down, and of rt_args, by what is public of them. The library itself is empty.
+//! Tests of the crates from rt_oplog, rt_tree and rt_search down, and of rt_args, by what is public of them. The library
+//! itself is empty.
 #![tactic(auto)]
 
+#[cfg(test)]
+mod checks;
 #[cfg(test)]
 mod clock;
 #[cfg(test)]
@@ -9,6 +12,8 @@ mod command_lines;
 mod index;
 #[cfg(test)]
 mod marks;
+#[cfg(test)]
+mod nodes;
 #[cfg(test)]
 mod oplog_files;
 #[cfg(test)]
@@ -24,11 +29,15 @@ mod search;
 #[cfg(test)]
 mod spans;
 #[cfg(test)]
+mod stores;
+#[cfg(test)]
 mod tags_states;
 #[cfg(test)]
 mod tags_table;
 #[cfg(test)]
 mod tags_toggles;
+#[cfg(test)]
+mod tree;
 #[cfg(test)]
 mod undo;
 #[cfg(test)]

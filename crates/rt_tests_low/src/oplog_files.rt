@@ -1,6 +1,7 @@
 // Files of a few operations.
 ghost use Rattle.std.specs.Prelude.{◌≡◌, ◌<◌};
 
+use crate::checks::same;
 use rt_oplog::{Edit, OpLog, Reading, join, read_file, read_whole, write_file};
 use rt_samples::files::{
     AFTER_ITSELF, DELETE_FINAL, DELETE_SECOND, INSERT_AB, INSERT_B, INSERT_LAST, INSERT_Y,
@@ -132,12 +133,12 @@ fn files_are_written_back(rt: HostRuntime) -> Result<(), Fail> {
     for (bytes, count) in files {
         for size in [1, 2, 3, 5, 7, 100] {
             let reading = read_pieces(alloc, *bytes, size, None)?;
-            assert_eq!(rt; reading.ops.len(), *count);
-            assert_eq!(rt; reading.fault, None);
+            same(&rt, reading.ops.len(), *count);
+            same(&rt, reading.fault, None);
             let log = log_of(alloc, reading)?;
             let (written, fault) = write_bytes(alloc, &log, None);
-            assert_eq!(rt; fault, None);
-            assert_eq!(rt; written.as_slice(), *bytes);
+            same(&rt, fault, None);
+            same(&rt, written.as_slice(), *bytes);
         }
     }
     Ok(())
@@ -148,7 +149,7 @@ fn all_bytes_are_read(rt: HostRuntime) -> Result<(), Fail> {
     let alloc = rt.alloc();
     for size in [1, 7, 4096] {
         let bytes = read_all(alloc, INSERT_AB, size, None)?;
-        assert_eq!(rt; bytes.as_slice(), INSERT_AB);
+        same(&rt, bytes.as_slice(), INSERT_AB);
     }
     assert!(rt; read_all(alloc, b"", 4096, None)?.is_empty());
     for failure in [0, 1, 7] {
@@ -176,12 +177,15 @@ fn files_are_joined(rt: HostRuntime) -> Result<(), Fail> {
     let alloc = rt.alloc();
     let mut both = Vec::from_slice(alloc, INSERT_AB)?;
     both.extend_from_slice(&INSERT_Y[8..])?;
-    let written = joined_bytes(alloc, INSERT_AB, INSERT_Y)?;
-    assert_eq!(rt; written.as_slice(), both.as_slice());
-    let written = joined_bytes(alloc, INSERT_Y, INSERT_AB)?;
-    assert_eq!(rt; written.as_slice(), both.as_slice());
-    let written = joined_bytes(alloc, INSERT_AB, INSERT_AB)?;
-    assert_eq!(rt; written.as_slice(), INSERT_AB);
+    let rows: [(&[u8], &[u8], &[u8]); 3] = [
+        (INSERT_AB, INSERT_Y, &both),
+        (INSERT_Y, INSERT_AB, &both),
+        (INSERT_AB, INSERT_AB, INSERT_AB),
+    ];
+    for (one, other, wanted) in rows {
+        let written = joined_bytes(alloc, one, other)?;
+        same(&rt, written.as_slice(), wanted);
+    }
     assert!(rt;
         matches!(
             joined_bytes(alloc, INSERT_AB, INSERT_B),
@@ -215,14 +219,14 @@ fn is_delete_of_second(edit: &Edit) -> bool {
 #[test]
 fn operations_and_offsets(rt: HostRuntime) -> Result<(), Fail> {
     let reading = read_bytes(rt.alloc(), DELETE_SECOND)?;
-    assert_eq!(rt; reading.offsets.as_slice(), [8, 44].as_slice());
+    same(&rt, reading.offsets.as_slice(), [8, 44].as_slice());
     match reading.ops.as_slice() {
         [insert, delete] => {
-            assert_eq!(rt; insert.stamp(), Stamp { count: 1, site: 1 });
-            assert_eq!(rt; insert.prev(), 0);
+            same(&rt, insert.stamp(), Stamp { count: 1, site: 1 });
+            same(&rt, insert.prev(), 0);
             assert!(rt; is_insert_of_ab(insert.edit()));
-            assert_eq!(rt; delete.stamp(), Stamp { count: 3, site: 1 });
-            assert_eq!(rt; delete.prev(), 2);
+            same(&rt, delete.stamp(), Stamp { count: 3, site: 1 });
+            same(&rt, delete.prev(), 2);
             assert!(rt; is_delete_of_second(delete.edit()));
         }
         _ => assert!(rt; false),
@@ -234,14 +238,14 @@ fn operations_and_offsets(rt: HostRuntime) -> Result<(), Fail> {
 fn stamps_are_checked_later(rt: HostRuntime) -> Result<(), Fail> {
     let alloc = rt.alloc();
     let itself = read_bytes(alloc, AFTER_ITSELF)?;
-    assert_eq!(rt; itself.fault, None);
+    same(&rt, itself.fault, None);
     for op in &itself.ops {
         assert!(rt; matches!(op.check(), Err(Fault::BadStamp)));
     }
-    assert_eq!(rt; itself.ops.len(), 1);
+    same(&rt, itself.ops.len(), 1);
     let last = read_bytes(alloc, DELETE_FINAL)?;
-    assert_eq!(rt; last.fault, None);
-    assert_eq!(rt; last.ops.len(), 1);
+    same(&rt, last.fault, None);
+    same(&rt, last.ops.len(), 1);
     let mut log = log_of(alloc, read_bytes(alloc, INSERT_AB)?)?;
     for op in read_bytes(alloc, INSERT_B)?.ops {
         assert!(rt; matches!(log.push(op), Err(Fault::Conflict)));
@@ -265,7 +269,7 @@ fn faults_of_files(rt: HostRuntime) -> Result<(), Fail> {
     for (bytes, fault, offset) in files {
         let reading = read_bytes(rt.alloc(), *bytes)?;
         assert!(rt; reading.ops.is_empty());
-        assert_eq!(rt; reading.fault, Some((*fault, *offset)));
+        same(&rt, reading.fault, Some((*fault, *offset)));
     }
     Ok(())
 }
@@ -275,8 +279,8 @@ fn records_rise(rt: HostRuntime) -> Result<(), Fail> {
     let mut bytes = Vec::from_slice(rt.alloc(), INSERT_AB)?;
     bytes.extend_from_slice(&INSERT_AB[8..])?;
     let reading = read_bytes(rt.alloc(), &bytes)?;
-    assert_eq!(rt; reading.ops.len(), 1);
-    assert_eq!(rt; reading.fault, Some((Fault::BadRecord, 44)));
+    same(&rt, reading.ops.len(), 1);
+    same(&rt, reading.fault, Some((Fault::BadRecord, 44)));
     Ok(())
 }
 
@@ -311,12 +315,12 @@ fn spans_are_sorted_and_clear(rt: HostRuntime) -> Result<(), Fail> {
         (THIRD_OF_ONE, FIRST_OF_ONE),
     ] {
         let reading = read_spans(rt.alloc(), one, other)?;
-        assert_eq!(rt; reading.ops.len(), 1);
-        assert_eq!(rt; reading.fault, Some((Fault::BadRecord, 44)));
+        same(&rt, reading.ops.len(), 1);
+        same(&rt, reading.fault, Some((Fault::BadRecord, 44)));
     }
     let reading = read_spans(rt.alloc(), FIRST_OF_ONE, THIRD_OF_ONE)?;
-    assert_eq!(rt; reading.ops.len(), 2);
-    assert_eq!(rt; reading.fault, None);
+    same(&rt, reading.ops.len(), 2);
+    same(&rt, reading.fault, None);
     Ok(())
 }
 
@@ -341,8 +345,8 @@ fn fronts_in_pieces(rt: HostRuntime) -> Result<(), Fail> {
             for size in 1..bytes.len() + 1 {
                 let reading = read_pieces(rt.alloc(), &bytes[..len], size, None)?;
                 let count = usize::from(len >= 44) + usize::from(len == bytes.len());
-                assert_eq!(rt; reading.ops.len(), count);
-                assert_eq!(rt; reading.fault, fault_of_front(len, bytes.len()));
+                same(&rt, reading.ops.len(), count);
+                same(&rt, reading.fault, fault_of_front(len, bytes.len()));
             }
         }
     }
@@ -353,7 +357,7 @@ fn fronts_in_pieces(rt: HostRuntime) -> Result<(), Fail> {
 fn a_failed_read(rt: HostRuntime) -> Result<(), Fail> {
     for reads in 0..89 {
         let reading = read_pieces(rt.alloc(), DELETE_SECOND, 1, Some(reads))?;
-        assert_eq!(rt; reading.ops.len(), usize::from(reads >= 44));
+        same(&rt, reading.ops.len(), usize::from(reads >= 44));
         let offset = if reads < 8 {
             0
         } else if reads < 44 {
@@ -361,7 +365,7 @@ fn a_failed_read(rt: HostRuntime) -> Result<(), Fail> {
         } else {
             44
         };
-        assert_eq!(rt; reading.fault, Some((Fault::ReadFault, offset)));
+        same(&rt, reading.fault, Some((Fault::ReadFault, offset)));
     }
     Ok(())
 }
@@ -372,8 +376,8 @@ fn a_failed_write(rt: HostRuntime) -> Result<(), Fail> {
     let log = log_of(alloc, read_bytes(alloc, DELETE_SECOND)?)?;
     for (writes, len) in [(0, 0), (1, 8), (2, 44)] {
         let (written, fault) = write_bytes(alloc, &log, Some(writes));
-        assert_eq!(rt; fault, Some(Fault::WriteFault));
-        assert_eq!(rt; written.len(), len);
+        same(&rt, fault, Some(Fault::WriteFault));
+        same(&rt, written.len(), len);
         assert!(rt; DELETE_SECOND.starts_with(&written));
     }
     Ok(())
@@ -399,11 +403,12 @@ fn with_change(alloc: Global, bytes: &[u8], place: usize, change: u8) -> Result<
 #[test]
 fn files_in_memory(rt: HostRuntime) -> Result<(), Fail> {
     let whole = rt_oplog::read_bytes(rt.alloc(), INSERT_AB)?;
-    assert_eq!(rt; (whole.ops.len(), whole.fault), (1, None));
+    same(&rt, (whole.ops.len(), whole.fault), (1, None));
     let cut = rt_oplog::read_bytes(rt.alloc(), &INSERT_AB[..43])?;
-    assert_eq!(rt;
+    same(
+        &rt,
         (cut.ops.len(), cut.fault),
-        (0, Some((Fault::Truncated, 8)))
+        (0, Some((Fault::Truncated, 8))),
     );
     Ok(())
 }
@@ -423,12 +428,12 @@ fn single_changed_bytes(rt: HostRuntime) -> Result<(), Fail> {
                             None if place < 8 => 0,
                             None => 8,
                         };
-                        assert_eq!(rt; offset, begins);
+                        same(&rt, offset, begins);
                     }
                     None => match log_of(alloc, reading) {
                         Ok(log) => {
                             let (written, _) = write_bytes(alloc, &log, None);
-                            assert_eq!(rt; written.as_slice(), changed.as_slice());
+                            same(&rt, written.as_slice(), changed.as_slice());
                         }
                         Err(fault) => {
                             assert!(rt; matches!(fault, Fault::BadStamp | Fault::Conflict));

@@ -1,4 +1,5 @@
 // Logs of a few operations.
+use crate::checks::same;
 use rt_oplog::{Op, OpLog, join};
 use rt_stamps::{Fault, ROOT, Stamp};
 use std::alloc::Global;
@@ -96,9 +97,9 @@ impl Log {
         ops: &[One],
         known: (u64, u64),
     ) -> Result<(), Fail> {
-        assert_eq!(rt; self.log.len(), ops.len());
-        assert_eq!(rt; self.log.in_order()?.len(), ops.len());
-        assert_eq!(rt; (self.log.known(1), self.log.known(2)), known);
+        same(rt, self.log.len(), ops.len());
+        same(rt, self.log.in_order()?.len(), ops.len());
+        same(rt, (self.log.known(1), self.log.known(2)), known);
         for (place, one) in ops.iter().enumerate() {
             assert!(rt; self.has(alloc, place, *one)?, "at {place}");
         }
@@ -143,12 +144,12 @@ const PUSHED: [(&[(One, Option<Fault>)], &[One], (u64, u64)); 4] = [
 #[test]
 fn takes_operations_in_turn(rt: HostRuntime) -> Result<(), Fail> {
     let alloc = rt.alloc();
-    assert_eq!(rt; op(alloc, One::Own)?.check(), Err(Fault::BadStamp));
+    same(&rt, op(alloc, One::Own)?.check(), Err(Fault::BadStamp));
     for (pushes, ops, known) in PUSHED {
         let mut log = Log::of(alloc, &[])?;
         log.log.reserve(2)?;
         for (one, fault) in pushes {
-            assert_eq!(rt; log.push(alloc, *one).err(), *fault);
+            same(&rt, log.push(alloc, *one).err(), *fault);
         }
         log.is(&rt, alloc, ops, known)?;
     }
@@ -191,7 +192,7 @@ fn refuses_operations_that_have_no_log(rt: HostRuntime) -> Result<(), Fail> {
         (&[One::Own, One::Ab, One::B], (Fault::BadStamp, 0)),
     ];
     for (given, why) in refused {
-        assert_eq!(rt; made(alloc, given)?.err(), Some(why));
+        same(&rt, made(alloc, given)?.err(), Some(why));
     }
     Ok(())
 }
@@ -222,7 +223,7 @@ fn joins_no_clash(rt: HostRuntime) -> Result<(), Fail> {
     let clashes: [(&[One], &[One]); 2] = [(&[One::Y, One::Ab], &[One::B]), (AB, &[One::Z])];
     for (one, other) in clashes {
         let joined = Log::of(alloc, one)?.joined(Log::of(alloc, other)?);
-        assert_eq!(rt; joined.err(), Some(Fault::Conflict));
+        same(&rt, joined.err(), Some(Fault::Conflict));
     }
     Ok(())
 }

@@ -2,7 +2,7 @@
 ghost use Rattle.rt_store.specs.ListStore.{cells_of};
 ghost use Rattle.rt_store.specs.Tagged.{AreStates};
 
-use rt_search::{Case, Direction, Limits, Overlaps, Search, find_all, find_first};
+use rt_search::{Case, Direction, Limits, Overlaps, Part, Search, find_all, find_first};
 use rt_stamps::{FINAL, Fault};
 use rt_store::{Cell, ListStore, TextStore};
 use rt_tags::{StateId, StateTable};
@@ -75,8 +75,9 @@ impl Page {
             return Err("places of the text".into());
         }
         let pattern: Vec<char> = pattern.chars().collect(alloc)?;
-        let first = find_first(&self.store, &pattern, search, start, stop);
-        let all = find_all(alloc, &self.store, &pattern, search, overlaps, start, stop)?;
+        let text = Part::whole(&self.store);
+        let first = find_first(&text, &pattern, search, start, stop);
+        let all = find_all(alloc, &text, &pattern, search, overlaps, start, stop)?;
         Ok((first, all))
     }
 }

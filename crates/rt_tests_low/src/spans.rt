@@ -1,6 +1,7 @@
 // Spans set one over the other, and random calls against a plain list of what was set.
 ghost use Rattle.std.specs.Prelude.{◌+◌, ◌^◌, ◌<◌, ◌≤◌};
 
+use crate::checks::same;
 use rt_spans::SpanMap;
 use rt_stamps::{Span, Stamp};
 use std::process::Abort;
@@ -96,7 +97,7 @@ fn set_some(
                 count: random.below(5600),
                 site: 1 + random.below(2) as u16,
             };
-            assert_eq!(rt; map.get(stamp), last_set(sets, stamp));
+            same(rt, map.get(stamp), last_set(sets, stamp));
         }
     }
     Ok(())
@@ -134,14 +135,16 @@ fn set_again_without_room(rt: HostRuntime) -> Result<(), Fail> {
     assert!(rt; map.repaint(back, 'c'));
     assert!(rt; !map.repaint(Span { last: 3, ..front }, 'd'));
     assert!(rt; !map.repaint(Span { first: 2, ..front }, 'd'));
-    assert_eq!(rt;
+    same(
+        &rt,
         (value(&map, 5), value(&map, 6), value(&map, 9)),
-        (Some('a'), Some('c'), Some('c'))
+        (Some('a'), Some('c'), Some('c')),
     );
     assert!(rt; map.repaint(Span { last: 9, ..front }, 'e'));
-    assert_eq!(rt;
+    same(
+        &rt,
         (value(&map, 1), value(&map, 6), value(&map, 10)),
-        (Some('e'), Some('e'), None)
+        (Some('e'), Some('e'), None),
     );
     assert!(rt; !map.repaint(back, 'f'));
     Ok(())

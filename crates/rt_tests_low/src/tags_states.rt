@@ -1,9 +1,11 @@
 // States of tags.
 ghost use Rattle.rt_tags.specs.States.{IsState, IsTag};
 
+use crate::checks::{same, same_len};
 use rt_stamps::{Fault, ROOT, Stamp};
 use rt_tags::{Entry, StateId, StateTable, TagId};
 use std::alloc::Global;
+use std::process::Abort;
 use std::test::Fail;
 
 // A tag that is written on characters of one state.
@@ -114,31 +116,50 @@ impl Typing {
     }
 }
 
+/// A write on one more character: its stamp, whether it puts the tag on, and whether the state is that
+/// before the write, and that of the last character.
+type Write = (u64, u16, bool, (bool, bool));
+
+// Writes the tag on characters in turn.
+fn all_write(rt: &impl Abort, typing: &mut Typing, writes: &[Write]) -> Result<(), Fail> {
+    for (count, site, on, wanted) in writes {
+        same(rt, typing.write(*count, *site, *on)?, *wanted);
+    }
+    Ok(())
+}
+
 // The greatest stamp decides, whichever write comes last.
 #[test]
 fn greatest_write(rt: HostRuntime) -> Result<(), Fail> {
     let mut typing = Typing::new(rt.alloc(), "t")?;
     assert!(rt; !typing.has());
-    assert_eq!(rt; typing.write(3, 2, false)?, (false, false));
+    all_write(&rt, &mut typing, &[(3, 2, false, (false, false))])?;
     assert!(rt; !typing.has());
-    assert_eq!(rt; typing.tags(), 0);
+    same(&rt, typing.tags(), 0);
     typing.go_on();
-    assert_eq!(rt; typing.write(3, 1, true)?, (true, true));
-    assert_eq!(rt; typing.write(4, 1, true)?, (false, false));
+    let writes = [(3, 1, true, (true, true)), (4, 1, true, (false, false))];
+    all_write(&rt, &mut typing, &writes)?;
     assert!(rt; typing.has());
-    assert_eq!(rt; typing.tags(), 1);
+    same(&rt, typing.tags(), 1);
     typing.go_on();
-    assert_eq!(rt; typing.write(4, 1, false)?, (true, true));
-    Ok(())
+    all_write(&rt, &mut typing, &[(4, 1, false, (true, true))])
 }
 
 // A thousand characters that are typed singly under one list share one state.
 #[test]
 fn typed_singly(rt: HostRuntime) -> Result<(), Fail> {
     let mut typing = Typing::new(rt.alloc(), "t")?;
-    assert_eq!(rt; typing.write(ROOT.count, ROOT.site, true)?, (false, false));
+    same(
+        &rt,
+        typing.write(ROOT.count, ROOT.site, true)?,
+        (false, false),
+    );
     for _ in 1..1000 {
-        assert_eq!(rt; typing.write(ROOT.count, ROOT.site, true)?, (false, true));
+        same(
+            &rt,
+            typing.write(ROOT.count, ROOT.site, true)?,
+            (false, true),
+        );
     }
     Ok(())
 }
@@ -148,9 +169,9 @@ fn typed_singly(rt: HostRuntime) -> Result<(), Fail> {
 fn many_writes(rt: HostRuntime) -> Result<(), Fail> {
     let mut typing = Typing::new(rt.alloc(), "t")?;
     for count in 2..102 {
-        assert_eq!(rt; typing.write(count, 1, count % 2 == 0)?, (false, false));
+        same(&rt, typing.write(count, 1, count % 2 == 0)?, (false, false));
         for _ in 1..1000 {
-            assert_eq!(rt; typing.write(count, 1, count % 2 == 0)?, (false, true));
+            same(&rt, typing.write(count, 1, count % 2 == 0)?, (false, true));
         }
         typing.go_on();
     }
@@ -161,14 +182,14 @@ fn many_writes(rt: HostRuntime) -> Result<(), Fail> {
 #[test]
 fn numbers(rt: HostRuntime) -> Result<(), Fail> {
     let mut table = StateTable::new(rt.alloc())?;
-    assert_eq!(rt; table.known("b"), None);
+    same(&rt, table.known("b"), None);
     let b = table.number("b")?;
     let a = table.number("a")?;
     assert_ne!(rt; a, b);
-    assert_eq!(rt; table.number("b")?, b);
-    assert_eq!(rt; table.known("b"), Some(b));
-    assert_eq!(rt; table.name(b), "b");
-    assert_eq!(rt; table.name(a), "a");
+    same(&rt, table.number("b")?, b);
+    same(&rt, table.known("b"), Some(b));
+    same(&rt, table.name(b), "b");
+    same(&rt, table.name(a), "a");
     Ok(())
 }
 
@@ -186,7 +207,7 @@ fn by_name(rt: HostRuntime) -> Result<(), Fail> {
     let _ = typing.write_more("b", true)?;
     assert_ne!(rt; first, typing.after);
     let second = typing.write_more("c", false)?;
-    assert_eq!(rt; first, second);
+    same(&rt, first, second);
     Ok(())
 }
 
@@ -202,7 +223,7 @@ fn at_once(rt: HostRuntime) -> Result<(), Fail> {
         names.push(String::from_str(alloc, name)?)?;
     }
     let listed = typing.list(&names)?;
-    assert_eq!(rt; listed, singly);
+    same(&rt, listed, singly);
     assert!(rt; typing.lists(&["a", "b"]));
     Ok(())
 }
@@ -226,8 +247,8 @@ fn in_order(rt: HostRuntime) -> Result<(), Fail> {
     let b = table.number("b")?;
     let a = table.number("a")?;
     let sorted = table.in_order(&[b, a, b])?;
-    assert_eq!(rt; sorted.len(), 2);
-    assert_eq!(rt; sorted[0], a);
-    assert_eq!(rt; sorted[1], b);
+    same_len(&rt, sorted.len(), 2);
+    same(&rt, sorted[0], a);
+    same(&rt, sorted[1], b);
     Ok(())
 }

@@ -1,4 +1,5 @@
 // Tags by their priority.
+use crate::checks::same;
 use rt_stamps::Fault;
 use rt_tags::TagTable;
 use std::test::Fail;
@@ -84,7 +85,7 @@ const REFUSED: [(Call, Fault); 6] = [
 fn refusals(rt: HostRuntime) -> Result<(), Fail> {
     let mut table = TagTable::new(rt.alloc())?;
     for (call, fault) in REFUSED {
-        assert_eq!(rt; make(&mut table, call), Err(fault));
+        same(&rt, make(&mut table, call), Err(fault));
         assert!(rt; lists(&table, &["sel"])?);
     }
     Ok(())

@@ -2,6 +2,7 @@
 ghost use Rattle.std.specs.Prelude.{ℕ, ◌<◌, ◌≤◌};
 ghost use Rattle.rt_tags.specs.Toggles.{count_of};
 
+use crate::checks::{same, same_len};
 use rt_stamps::Fault;
 use rt_tags::{StateTable, TagCount, TagId, Toggles};
 use std::alloc::Global;
@@ -32,22 +33,23 @@ impl Both {
     fn compare(&self, rt: &impl Abort) {
         let mut place = 0;
         for (tag, count) in &self.plain {
-            assert_eq!(rt; self.toggles.of(*tag), *count);
+            same(rt, self.toggles.of(*tag), *count);
             if *count > 0 {
                 let counts = self.toggles.counts();
                 assert!(rt; place < counts.len());
-                assert_eq!(rt;
+                same(
+                    rt,
                     counts[place],
                     TagCount {
                         tag: *tag,
-                        count: *count
-                    }
+                        count: *count,
+                    },
                 );
                 place += 1;
             }
         }
-        assert_eq!(rt; self.toggles.counts().len(), place);
-        assert_eq!(rt; self.toggles.is_empty(), place == 0);
+        same(rt, self.toggles.counts().len(), place);
+        same(rt, self.toggles.is_empty(), place == 0);
     }
 
     fn add(&mut self, rt: &impl Abort, place: usize, n: u32) -> Result<(), Fail> {
@@ -96,7 +98,7 @@ fn there_and_back(
     toggles.reserve(other.counts().len())?;
     toggles.add_all(other);
     for (tag, count) in plain {
-        assert_eq!(rt; toggles.of(*tag), count.wrapping_add(other.of(*tag)));
+        same(rt, toggles.of(*tag), count.wrapping_add(other.of(*tag)));
     }
     toggles.take_all(other);
     Ok(())
@@ -120,38 +122,45 @@ fn below(seed: &mut u64, limit: u64) -> u64
     (*seed >> 33) % limit
 }
 
-// One call after the other, with room for two tags that is made once.
-#[test]
-fn each_call(rt: HostRuntime) -> Result<(), Fail> {
-    let tags = six(rt.alloc())?;
-    assert_eq!(rt; tags.len(), 6);
-    let (low, high) = (tags[1], tags[4]);
-    let mut toggles = Toggles::new(rt.alloc());
+// Toggles of two tags, with room that is made once.
+fn filled(rt: &impl Abort, alloc: Global, low: TagId, high: TagId) -> Result<Toggles, Fail> {
+    let mut toggles = Toggles::new(alloc);
     assert!(rt; toggles.is_empty());
     toggles.reserve(2)?;
     toggles.add(high, 5);
     toggles.add(low, 1);
-    assert_eq!(rt; toggles.counts().len(), 2);
-    assert_eq!(rt; toggles.counts()[0], TagCount { tag: low, count: 1 });
-    assert_eq!(rt;
-        toggles.counts()[1],
-        TagCount {
-            tag: high,
-            count: 5
-        }
-    );
-    assert_eq!(rt; toggles.of(high), 5);
-    assert_eq!(rt; toggles.of(tags[2]), 0);
+    same_len(rt, toggles.counts().len(), 2);
+    same(rt, toggles.counts()[0], TagCount { tag: low, count: 1 });
+    let second = TagCount {
+        tag: high,
+        count: 5,
+    };
+    same(rt, toggles.counts()[1], second);
+    Ok(toggles)
+}
+
+// Toggles are taken, where a tag has so many.
+fn take_some(toggles: &mut Toggles, tag: TagId, n: u32) {
+    if toggles.of(tag) >= n {
+        toggles.take(tag, n);
+    }
+}
+
+// One call after the other.
+#[test]
+fn each_call(rt: HostRuntime) -> Result<(), Fail> {
+    let tags = six(rt.alloc())?;
+    same_len(&rt, tags.len(), 6);
+    let (low, high) = (tags[1], tags[4]);
+    let mut toggles = filled(&rt, rt.alloc(), low, high)?;
+    same(&rt, toggles.of(high), 5);
+    same(&rt, toggles.of(tags[2]), 0);
     assert!(rt; !toggles.is_empty());
-    if toggles.of(high) >= 2 {
-        toggles.take(high, 2);
-    }
-    assert_eq!(rt; toggles.of(high), 3);
-    if toggles.of(low) >= 1 {
-        toggles.take(low, 1);
-    }
-    assert_eq!(rt; toggles.of(low), 0);
-    assert_eq!(rt; toggles.counts().len(), 1);
+    take_some(&mut toggles, high, 2);
+    same(&rt, toggles.of(high), 3);
+    take_some(&mut toggles, low, 1);
+    same(&rt, toggles.of(low), 0);
+    same(&rt, toggles.counts().len(), 1);
     toggles.clear();
     assert!(rt; toggles.is_empty());
     Ok(())

@@ -4,6 +4,7 @@ ghost use Rattle.rt_stamps.specs.declared.stamp.Stamp.{Stamp};
 ghost use Rattle.rt_undo.specs.Renames.{is_moved};
 ghost use Rattle.rt_undo.specs.Undo.{added, next_redo, next_undo, no_history, redo_done, undo_done};
 
+use crate::checks::same;
 use rt_stamps::{Fault, Span, Stamp};
 use rt_tags::StateId;
 use rt_undo::{Action, Kind, RemovedSpan, Stacks};
@@ -87,10 +88,10 @@ fn nothing_and_one_action(rt: HostRuntime) -> Result<(), Fail> {
     assert!(rt; matches!(stacks.redo(), Err(Fault::NothingToRedo)));
     record(&mut stacks, typed(rt.alloc(), 1, 1)?)?;
     let group = stacks.undo()?;
-    assert_eq!(rt; group.len(), 1);
+    same(&rt, group.len(), 1);
     record(&mut stacks, cut(rt.alloc(), 2, 1, 1)?)?;
     let group = stacks.undo()?;
-    assert_eq!(rt; group.len(), 1);
+    same(&rt, group.len(), 1);
     Ok(())
 }
 
@@ -121,7 +122,7 @@ fn spans_in(group: &[Action]) -> usize {
 fn spans_of_a_long_action(rt: HostRuntime) -> Result<(), Fail> {
     let mut stacks = Stacks::new(rt.alloc());
     record(&mut stacks, typed(rt.alloc(), 1, 1000)?)?;
-    assert_eq!(rt; spans_in(&stacks.undo()?), 1);
+    same(&rt, spans_in(&stacks.undo()?), 1);
     stacks.reserve(1)?;
     let former = Stamp {
         count: 500,
@@ -132,6 +133,6 @@ fn spans_of_a_long_action(rt: HostRuntime) -> Result<(), Fail> {
         site: 1,
     };
     stacks.replaced(former, new);
-    assert_eq!(rt; spans_in(&stacks.undo()?), 3);
+    same(&rt, spans_in(&stacks.undo()?), 3);
     Ok(())
 }

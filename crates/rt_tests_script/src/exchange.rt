@@ -2,6 +2,7 @@
 ghost use Rattle.std.specs.Prelude.{◌≡◌, ◌≤◌, IfOk, OnOk};
 ghost use Rattle.rt_script.specs.Site.{AreWithin};
 
+use crate::checks::same;
 use crate::sites::{Script, answered, new_site};
 use rt_samples::files::{
     AFTER_DELETE, AFTER_ITSELF, CUT, DELETE_FINAL, DELETE_SECOND, INSERT_AB, INSERT_B, INSERT_LAST,
@@ -148,71 +149,70 @@ pub(crate) fn exchange(rt: &impl Abort, alloc: Global, case: &Case) -> Result<()
     ];
     for (number, scripts) in others {
         let equal = session(rt, alloc, number, files, &scripts)?;
-        assert_eq!(rt; equal.as_slice(), log.as_slice());
+        same(rt, equal.as_slice(), log.as_slice());
     }
     Ok(())
 }
 
-#[test]
-fn later_text_goes_before(rt: HostRuntime) -> Result<(), Fail> {
-    let case = Case {
-        first: &[(".t insert 1.0 ab", "=")],
-        one: &[(".t insert 1.1 XX", "=")],
-        other: &[(".t insert 1.1 Y", "=")],
-        receives_one: &[("receive one", "= 1 1"), ("receive one", "= 0 2")],
-        receives_other: &[("receive other", "= 1 1"), ("receive other", "= 0 2")],
-        after: &[(".t get 1.0 end", r#"= "aYXXb\n""#)],
-    };
-    exchange(&rt, rt.alloc(), &case)
-}
+const LATER_TEXT_GOES_BEFORE: Case = Case {
+    first: &[(".t insert 1.0 ab", "=")],
+    one: &[(".t insert 1.1 XX", "=")],
+    other: &[(".t insert 1.1 Y", "=")],
+    receives_one: &[("receive one", "= 1 1"), ("receive one", "= 0 2")],
+    receives_other: &[("receive other", "= 1 1"), ("receive other", "= 0 2")],
+    after: &[(".t get 1.0 end", r#"= "aYXXb\n""#)],
+};
+
+const REMOVED_BESIDE_NEW: Case = Case {
+    first: &[(".t insert 1.0 ab", "=")],
+    one: &[(".t delete 1.1", "=")],
+    other: &[(".t insert 1.2 Z", "=")],
+    receives_one: &[("receive one", "= 1 1"), ("receive one", "= 0 2")],
+    receives_other: &[("receive other", "= 1 1"), ("receive other", "= 0 2")],
+    after: &[(".t get 1.0 end", r#"= "aZ\n""#)],
+};
+
+const THE_GREATEST_TAG_OPERATION_DECIDES: Case = Case {
+    first: &[(".t insert 1.0 ab t", "=")],
+    one: &[(".t tag remove t 1.0", "="), (".t tag add t 1.0", "=")],
+    other: &[
+        (".t tag names", "= sel t"),
+        (".t tag ranges t", "= 1.0 1.2"),
+        (".t tag remove t 1.0", "="),
+    ],
+    receives_one: &[("receive one", "= 2 1"), ("receive one", "= 0 3")],
+    receives_other: &[("receive other", "= 1 1"), ("receive other", "= 0 2")],
+    after: &[
+        (".t tag ranges t", "= 1.0 1.2"),
+        (".t tag names", "= sel t"),
+    ],
+};
+
+const A_LATER_REMOVAL_OF_A_TAG: Case = Case {
+    first: &[(".t insert 1.0 ab t", "=")],
+    one: &[(".t tag remove t 1.0", "="), (".t tag add t 1.0", "=")],
+    other: &[(".t insert end q", "="), (".t tag remove t 1.0", "=")],
+    receives_one: &[("receive one", "= 2 1"), ("receive one", "= 0 3")],
+    receives_other: &[("receive other", "= 2 1"), ("receive other", "= 0 3")],
+    after: &[
+        (".t tag ranges t", "= 1.1 1.2"),
+        (".t get 1.0 end", r#"= "abq\n""#),
+    ],
+};
+
+const EXCHANGED: &[Case] = &[
+    LATER_TEXT_GOES_BEFORE,
+    REMOVED_BESIDE_NEW,
+    THE_GREATEST_TAG_OPERATION_DECIDES,
+    A_LATER_REMOVAL_OF_A_TAG,
+];
 
 #[test]
-fn removed_beside_new(rt: HostRuntime) -> Result<(), Fail> {
-    let case = Case {
-        first: &[(".t insert 1.0 ab", "=")],
-        one: &[(".t delete 1.1", "=")],
-        other: &[(".t insert 1.2 Z", "=")],
-        receives_one: &[("receive one", "= 1 1"), ("receive one", "= 0 2")],
-        receives_other: &[("receive other", "= 1 1"), ("receive other", "= 0 2")],
-        after: &[(".t get 1.0 end", r#"= "aZ\n""#)],
-    };
-    exchange(&rt, rt.alloc(), &case)
-}
-
-#[test]
-fn the_greatest_tag_operation_decides(rt: HostRuntime) -> Result<(), Fail> {
-    let case = Case {
-        first: &[(".t insert 1.0 ab t", "=")],
-        one: &[(".t tag remove t 1.0", "="), (".t tag add t 1.0", "=")],
-        other: &[
-            (".t tag names", "= sel t"),
-            (".t tag ranges t", "= 1.0 1.2"),
-            (".t tag remove t 1.0", "="),
-        ],
-        receives_one: &[("receive one", "= 2 1"), ("receive one", "= 0 3")],
-        receives_other: &[("receive other", "= 1 1"), ("receive other", "= 0 2")],
-        after: &[
-            (".t tag ranges t", "= 1.0 1.2"),
-            (".t tag names", "= sel t"),
-        ],
-    };
-    exchange(&rt, rt.alloc(), &case)
-}
-
-#[test]
-fn a_later_removal_of_a_tag(rt: HostRuntime) -> Result<(), Fail> {
-    let case = Case {
-        first: &[(".t insert 1.0 ab t", "=")],
-        one: &[(".t tag remove t 1.0", "="), (".t tag add t 1.0", "=")],
-        other: &[(".t insert end q", "="), (".t tag remove t 1.0", "=")],
-        receives_one: &[("receive one", "= 2 1"), ("receive one", "= 0 3")],
-        receives_other: &[("receive other", "= 2 1"), ("receive other", "= 0 3")],
-        after: &[
-            (".t tag ranges t", "= 1.1 1.2"),
-            (".t get 1.0 end", r#"= "abq\n""#),
-        ],
-    };
-    exchange(&rt, rt.alloc(), &case)
+fn files_are_exchanged(rt: HostRuntime) -> Result<(), Fail> {
+    for case in EXCHANGED {
+        exchange(&rt, rt.alloc(), case)?;
+    }
+    Ok(())
 }
 
 const RECEIVED: &[(u16, Script<'static>)] = &[
@@ -361,11 +361,11 @@ fn files_of_logs(rt: HostRuntime) -> Result<(), Fail> {
     let typed = [(".t insert 1.0 ab", "=")];
     let deleted = [(".t delete 1.1", "=")];
     let file = session(&rt, alloc, 1, &[], &[&typed])?;
-    assert_eq!(rt; file.as_slice(), INSERT_AB);
+    same(&rt, file.as_slice(), INSERT_AB);
     let file = session(&rt, alloc, 1, &[], &[&typed, &deleted])?;
-    assert_eq!(rt; file.as_slice(), DELETE_SECOND);
+    same(&rt, file.as_slice(), DELETE_SECOND);
     let file = session(&rt, alloc, 1, &[], &[])?;
-    assert_eq!(rt; file.as_slice(), b"RGATEXT1".as_slice());
+    same(&rt, file.as_slice(), b"RGATEXT1".as_slice());
     Ok(())
 }
 
@@ -387,7 +387,7 @@ fn a_text_of_two_operations(rt: HostRuntime) -> Result<(), Fail> {
         file.push(b'x')?;
     }
     file.extend_from_slice(AFTER_LONG)?;
-    assert_eq!(rt; file.len(), 65_612);
+    same(&rt, file.len(), 65_612);
     let received = [
         ("receive long", "= 2 0"),
         (".t index 1.end", "= 1.65536"),
@@ -395,6 +395,6 @@ fn a_text_of_two_operations(rt: HostRuntime) -> Result<(), Fail> {
         ("receive long", "= 0 2"),
     ];
     let equal = session(&rt, alloc, 2, &[("long", &file)], &[&received])?;
-    assert_eq!(rt; equal.as_slice(), file.as_slice());
+    same(&rt, equal.as_slice(), file.as_slice());
     Ok(())
 }

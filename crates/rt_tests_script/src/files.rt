@@ -11,6 +11,7 @@ use rt_stamps::Fault;
 use rt_stamps::std_ends::{Count, Reader, Writer};
 use std::alloc::{AllocError, Global};
 use std::marker::Brand;
+use std::process::Abort;
 use std::sync::ledger::{Blank, Ledger};
 use std::test::Fail;
 
@@ -177,63 +178,86 @@ fn followed(alloc: Global, bytes: &[u8], more: &[u8]) -> Result<Vec<u8>, Fail> {
     Ok(copy)
 }
 
-#[test]
-fn files_are_joined(rt: HostRuntime) -> Result<(), Fail> {
-    let alloc = rt.alloc();
-    let both = followed(alloc, INSERT_AB, INSERT_Y)?;
-    let two = followed(alloc, DELETE_SECOND, INSERT_Y)?;
-    let table: &[(&[u8], &[u8], &[u8])] = &[
-        (b"RGATEXT1", b"RGATEXT1", b"RGATEXT1"),
-        (b"RGATEXT1", INSERT_AB, INSERT_AB),
-        (INSERT_AB, b"RGATEXT1", INSERT_AB),
-        (INSERT_AB, INSERT_AB, INSERT_AB),
-        (INSERT_AB, INSERT_Y, &both),
-        (INSERT_Y, INSERT_AB, &both),
-        (INSERT_AB, DELETE_SECOND, DELETE_SECOND),
-        (INSERT_Y, DELETE_SECOND, &two),
-        (DELETE_FINAL, DELETE_FINAL, DELETE_FINAL),
-    ];
-    for (one, other, wanted) in table {
+/// Two files, and their join.
+type Joined<'a> = (&'a [u8], &'a [u8], &'a [u8]);
+
+// Each file is read whole and in pieces.
+fn all_give(rt: &impl Abort, alloc: Global, rows: &[Joined]) {
+    for (one, other, wanted) in rows {
         for size in [1, 7, 4096] {
             assert!(rt; gives(alloc, in_pieces(*one, size), whole(*other), *wanted));
             assert!(rt; gives(alloc, whole(*one), in_pieces(*other, size), *wanted));
         }
     }
+}
+
+const JOINED: &[Joined<'static>] = &[
+    (b"RGATEXT1", b"RGATEXT1", b"RGATEXT1"),
+    (b"RGATEXT1", INSERT_AB, INSERT_AB),
+    (INSERT_AB, b"RGATEXT1", INSERT_AB),
+    (INSERT_AB, INSERT_AB, INSERT_AB),
+    (INSERT_AB, DELETE_SECOND, DELETE_SECOND),
+    (DELETE_FINAL, DELETE_FINAL, DELETE_FINAL),
+];
+
+#[test]
+fn files_are_joined(rt: HostRuntime) -> Result<(), Fail> {
+    let alloc = rt.alloc();
+    all_give(&rt, alloc, JOINED);
+    let both = followed(alloc, INSERT_AB, INSERT_Y)?;
+    let two = followed(alloc, DELETE_SECOND, INSERT_Y)?;
+    let rows: &[Joined] = &[
+        (INSERT_AB, INSERT_Y, &both),
+        (INSERT_Y, INSERT_AB, &both),
+        (INSERT_Y, DELETE_SECOND, &two),
+    ];
+    all_give(&rt, alloc, rows);
     Ok(())
 }
 
-#[test]
-fn joins_are_refused(rt: HostRuntime) -> Result<(), Fail> {
-    let alloc = rt.alloc();
-    let clash = changed(alloc, DELETE_SECOND, 66, 1)?;
-    let unsound = changed(alloc, DELETE_SECOND, 66, 3)?;
-    let mut clash_and_cut = changed(alloc, &clash, 66, 1)?;
-    clash_and_cut.push(0)?;
-    let table: &[(&[u8], &[u8], (u8, Fault, u64))] = &[
-        (INSERT_B, INSERT_AB, (0, Fault::Conflict, 0)),
-        (DELETE_SECOND, TAG_FIRST, (0, Fault::Conflict, 0)),
-        (AFTER_ITSELF, INSERT_AB, (1, Fault::BadStamp, 8)),
-        (INSERT_AB, AFTER_ITSELF, (2, Fault::BadStamp, 8)),
-        (SHORT_LENGTH, AFTER_ITSELF, (1, Fault::BadRecord, 8)),
-        (AFTER_ITSELF, SHORT_LENGTH, (1, Fault::BadStamp, 8)),
-        (INSERT_B, SHORT_LENGTH, (2, Fault::BadRecord, 8)),
-        (b"", INSERT_AB, (1, Fault::Truncated, 0)),
-        (INSERT_AB, b"", (2, Fault::Truncated, 0)),
-        (b"XGATEXT1", INSERT_AB, (1, Fault::BadMagic, 0)),
-        (INSERT_AB, b"RGATEXT9", (2, Fault::BadVersion, 0)),
-        (&clash, INSERT_AB, (1, Fault::Conflict, 44)),
-        (INSERT_AB, &clash, (2, Fault::Conflict, 44)),
-        (&unsound, INSERT_AB, (1, Fault::BadStamp, 44)),
-        (&clash_and_cut, INSERT_AB, (1, Fault::Conflict, 44)),
-        (CUT, INSERT_AB, (1, Fault::Truncated, 44)),
-    ];
-    for (one, other, wanted) in table {
+/// Two files, and which of them has which fault at which offset.
+type Refused<'a> = (&'a [u8], &'a [u8], (u8, Fault, u64));
+
+fn are_refused(rt: &impl Abort, alloc: Global, rows: &[Refused]) {
+    for (one, other, wanted) in rows {
         assert!(rt;
             refused(alloc, whole(*one), whole(*other), *wanted),
             "{}",
             wanted.1
         );
     }
+}
+
+const REFUSED: &[Refused<'static>] = &[
+    (INSERT_B, INSERT_AB, (0, Fault::Conflict, 0)),
+    (DELETE_SECOND, TAG_FIRST, (0, Fault::Conflict, 0)),
+    (AFTER_ITSELF, INSERT_AB, (1, Fault::BadStamp, 8)),
+    (INSERT_AB, AFTER_ITSELF, (2, Fault::BadStamp, 8)),
+    (SHORT_LENGTH, AFTER_ITSELF, (1, Fault::BadRecord, 8)),
+    (AFTER_ITSELF, SHORT_LENGTH, (1, Fault::BadStamp, 8)),
+    (INSERT_B, SHORT_LENGTH, (2, Fault::BadRecord, 8)),
+    (b"", INSERT_AB, (1, Fault::Truncated, 0)),
+    (INSERT_AB, b"", (2, Fault::Truncated, 0)),
+    (b"XGATEXT1", INSERT_AB, (1, Fault::BadMagic, 0)),
+    (INSERT_AB, b"RGATEXT9", (2, Fault::BadVersion, 0)),
+    (CUT, INSERT_AB, (1, Fault::Truncated, 44)),
+];
+
+#[test]
+fn joins_are_refused(rt: HostRuntime) -> Result<(), Fail> {
+    let alloc = rt.alloc();
+    are_refused(&rt, alloc, REFUSED);
+    let clash = changed(alloc, DELETE_SECOND, 66, 1)?;
+    let unsound = changed(alloc, DELETE_SECOND, 66, 3)?;
+    let mut clash_and_cut = changed(alloc, &clash, 66, 1)?;
+    clash_and_cut.push(0)?;
+    let rows: &[Refused] = &[
+        (&clash, INSERT_AB, (1, Fault::Conflict, 44)),
+        (INSERT_AB, &clash, (2, Fault::Conflict, 44)),
+        (&unsound, INSERT_AB, (1, Fault::BadStamp, 44)),
+        (&clash_and_cut, INSERT_AB, (1, Fault::Conflict, 44)),
+    ];
+    are_refused(&rt, alloc, rows);
     Ok(())
 }
 

@@ -1,6 +1,7 @@
 // Bytes, cut into lines by the engine alone.
 ghost use Rattle.std.specs.Prelude.{◌≡◌, ◌<◌};
 
+use crate::checks::same;
 use crate::files::text_of;
 use rt_samples::Pieces;
 use rt_script::engine::run_lines;
@@ -112,8 +113,8 @@ fn pieces_of_any_size(rt: HostRuntime) -> Result<(), Fail> {
         let replies = text_of(rt.alloc(), *replies)?;
         for size in 1..5 {
             let (text, fault) = output_of(rt.alloc(), *script, size);
-            assert_eq!(rt; text.as_slice(), replies.as_bytes());
-            assert_eq!(rt; fault, None);
+            same(&rt, text.as_slice(), replies.as_bytes());
+            same(&rt, fault, None);
         }
     }
     Ok(())
@@ -149,7 +150,7 @@ fn long_lines(rt: HostRuntime) -> Result<(), Fail> {
                 assert!(rt; text.ends_with(tail.as_bytes()), "{end:?}");
             }
         }
-        assert_eq!(rt; fault, None);
+        same(&rt, fault, None);
     }
     Ok(())
 }

@@ -93,6 +93,17 @@ pub(crate) const OWN_PARTS: &[&[(&str, &str)]] = &[
         (".p mark unset m", "="),
         (".t index m", "! 2 BadIndex"),
     ],
+    // A list that has `sel` selects in the widget that commands alone.
+    &[
+        (".t peer create .p", "= .p"),
+        (".p insert 1.0 abc sel", "="),
+        (".p tag ranges sel", "= 1.0 1.3"),
+        (".t tag ranges sel", "="),
+        (r#".t insert 1.1 X "t sel""#, "="),
+        (".t tag ranges sel", "= 1.1 1.2"),
+        (".p tag ranges sel", "= 1.0 1.1 1.2 1.4"),
+        (".p tag ranges t", "= 1.1 1.2"),
+    ],
     // New characters are selected where both neighbours are.
     &[
         (".t insert 1.0 abcd", "="),
@@ -105,6 +116,49 @@ pub(crate) const OWN_PARTS: &[&[(&str, &str)]] = &[
         (".p tag ranges sel", "= 1.0 1.4"),
         (".t delete 1.0", "="),
         (".p tag ranges sel", "= 1.0 1.3"),
+    ],
+];
+
+// Each command of a widget that another one made, which shows the same text.
+pub(crate) const PEER_COMMANDS: &[&[(&str, &str)]] = &[
+    &[
+        (".t peer create .p", "= .p"),
+        (".p insert end hello", "="),
+        (".p index end", "= 2.0"),
+        (".t get 1.0 end", r#"= "hello\n""#),
+        (".p compare 1.0 < end", "= 1"),
+        (".p count -chars 1.0 end", "= 6"),
+        (".p tag add t 1.1 1.3", "="),
+        (".p mark set m 1.2", "="),
+        (
+            ".t dump 1.0 1.4",
+            "= text h 1.0 tagon t 1.1 text e 1.1 mark m 1.2 text l 1.2 tagoff t 1.3 text l 1.3",
+        ),
+        (".p dump -tag 1.0 end", "= tagon t 1.1 tagoff t 1.3"),
+        (".p replace 1.1 1.3 EY", "="),
+        (".t get 1.0 1.end", "= hEYlo"),
+        (".p search l 1.0", "= 1.3"),
+        (".p delete 1.0 end", "="),
+        (".t get 1.0 end", r#"= "\n""#),
+    ],
+    &[
+        (".t insert 1.0 abcabc", "="),
+        (".t peer create .p", "= .p"),
+        (".p search -all abc 1.4", "= 1.0 1.3"),
+        (".p mark set l 1.1", "="),
+        (".p mark gravity l left", "="),
+        (".t insert 1.1 XY", "="),
+        (".p index l", "= 1.1"),
+        (".p mark next 1.1", "= l"),
+        (".t mark previous end", "= insert"),
+        (".p tag add t 1.2 1.4", "="),
+        (".p tag nextrange t 1.0", "= 1.2 1.4"),
+        (".t tag ranges t", "= 1.2 1.4"),
+        (".p tag raise q", "! 7 NoTag"),
+        (".p mark gravity q", "! 8 NoMark"),
+        (".p frob", "! 4 BadCommand"),
+        (".p cget -font", "! 9 BadOption"),
+        (".p edit undo", "="),
     ],
 ];
 

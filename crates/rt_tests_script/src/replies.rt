@@ -1,6 +1,7 @@
 // The lines of answers.
 ghost use Rattle.std.specs.Prelude.{◌≡◌, ◌<◌};
 
+use crate::checks::same;
 use rt_script::{Answer, Reply, reply_line};
 use rt_stamps::Fault;
 use rt_stamps::std_ends::{Count, Writer};
@@ -55,9 +56,9 @@ const WRITTEN: &[(&[&str], &str)] = &[
 fn lines_of_answers(rt: HostRuntime) -> Result<(), Fail> {
     for (words, want) in WRITTEN {
         let line = line_of(rt.alloc(), &reply_of(rt.alloc(), *words)?)?;
-        assert_eq!(rt; line.as_slice(), want.as_bytes());
+        same(&rt, line.as_slice(), want.as_bytes());
     }
     let refusal = line_of(rt.alloc(), &Answer::from(Err(Fault::BadQuoting)))?;
-    assert_eq!(rt; refusal.as_slice(), b"! 19 BadQuoting\n".as_slice());
+    same(&rt, refusal.as_slice(), b"! 19 BadQuoting\n".as_slice());
     Ok(())
 }

@@ -2,8 +2,12 @@
 ghost use Rattle.std.specs.Prelude.{◌≡◌, ◌<◌, ◌≤◌};
 ghost use Rattle.rt_script.specs.Site.{AreWithin};
 
+use crate::checks::same;
+use crate::limits::{
+    LIMIT_OPTIONS, LIMITED_MARKS, LIMITED_SEARCHES, LIMITED_TAGS, LIMITED_TEXT, MOVING_LIMITS,
+};
 use crate::marks::{INDICES, MARK_ORDER, MARK_PLACES, MARK_WORDS};
-use crate::peers::{OWN_PARTS, PEERS, SHARED_PARTS};
+use crate::peers::{OWN_PARTS, PEER_COMMANDS, PEERS, SHARED_PARTS};
 use crate::replacements::{DUMPS, FULL_SITE, REPLACEMENTS};
 use crate::searches::SEARCHES;
 use crate::tags::{TAG_COMMANDS, TAG_REFUSALS, TAG_WRITES, TAGGED_TEXT};
@@ -137,7 +141,7 @@ pub(crate) fn answered(
     };
     let (text, ended) = run_of(alloc, state, files, pieces, None);
     assert_eq!(rt; text.as_slice(), replies.as_bytes(), "{lines}");
-    assert_eq!(rt; ended.fault, None);
+    same(rt, ended.fault, None);
     Ok(ended.site)
 }
 
@@ -154,27 +158,16 @@ fn answer_all(rt: &impl Abort, alloc: Global, table: &[Script]) -> Result<(), Fa
 
 #[test]
 fn scripts_of_texts(rt: HostRuntime) -> Result<(), Fail> {
-    answer_all(&rt, rt.alloc(), TEXTS)
-}
-
-#[test]
-fn scripts_of_deletions(rt: HostRuntime) -> Result<(), Fail> {
-    answer_all(&rt, rt.alloc(), DELETIONS)
-}
-
-#[test]
-fn scripts_of_ranges(rt: HostRuntime) -> Result<(), Fail> {
+    answer_all(&rt, rt.alloc(), TEXTS)?;
+    answer_all(&rt, rt.alloc(), DELETIONS)?;
     answer_all(&rt, rt.alloc(), RANGES)
 }
 
 #[test]
-fn scripts_of_searches(rt: HostRuntime) -> Result<(), Fail> {
-    answer_all(&rt, rt.alloc(), SEARCHES)
-}
-
-#[test]
-fn scripts_of_replacements(rt: HostRuntime) -> Result<(), Fail> {
-    answer_all(&rt, rt.alloc(), REPLACEMENTS)
+fn scripts_of_searches_and_replacements(rt: HostRuntime) -> Result<(), Fail> {
+    answer_all(&rt, rt.alloc(), SEARCHES)?;
+    answer_all(&rt, rt.alloc(), REPLACEMENTS)?;
+    answer_all(&rt, rt.alloc(), DUMPS)
 }
 
 #[test]
@@ -185,73 +178,67 @@ fn a_full_site_replaces_nothing(rt: HostRuntime) -> Result<(), Fail> {
 }
 
 #[test]
-fn scripts_of_dumps(rt: HostRuntime) -> Result<(), Fail> {
-    answer_all(&rt, rt.alloc(), DUMPS)
-}
-
-#[test]
-fn scripts_of_indices(rt: HostRuntime) -> Result<(), Fail> {
-    answer_all(&rt, rt.alloc(), INDICES)
-}
-
-#[test]
-fn scripts_of_mark_words(rt: HostRuntime) -> Result<(), Fail> {
-    answer_all(&rt, rt.alloc(), MARK_WORDS)
-}
-
-#[test]
-fn scripts_of_mark_order(rt: HostRuntime) -> Result<(), Fail> {
-    answer_all(&rt, rt.alloc(), MARK_ORDER)
-}
-
-#[test]
-fn scripts_of_mark_places(rt: HostRuntime) -> Result<(), Fail> {
+fn scripts_of_indices_and_marks(rt: HostRuntime) -> Result<(), Fail> {
+    answer_all(&rt, rt.alloc(), INDICES)?;
+    answer_all(&rt, rt.alloc(), MARK_WORDS)?;
+    answer_all(&rt, rt.alloc(), MARK_ORDER)?;
     answer_all(&rt, rt.alloc(), MARK_PLACES)
 }
 
 #[test]
-fn scripts_of_tag_refusals(rt: HostRuntime) -> Result<(), Fail> {
-    answer_all(&rt, rt.alloc(), TAG_REFUSALS)
-}
-
-#[test]
-fn scripts_of_tag_commands(rt: HostRuntime) -> Result<(), Fail> {
-    answer_all(&rt, rt.alloc(), TAG_COMMANDS)
-}
-
-#[test]
-fn scripts_of_tag_writes(rt: HostRuntime) -> Result<(), Fail> {
-    answer_all(&rt, rt.alloc(), TAG_WRITES)
-}
-
-#[test]
-fn scripts_of_tagged_text(rt: HostRuntime) -> Result<(), Fail> {
+fn scripts_of_tags(rt: HostRuntime) -> Result<(), Fail> {
+    answer_all(&rt, rt.alloc(), TAG_REFUSALS)?;
+    answer_all(&rt, rt.alloc(), TAG_COMMANDS)?;
+    answer_all(&rt, rt.alloc(), TAG_WRITES)?;
     answer_all(&rt, rt.alloc(), TAGGED_TEXT)
 }
 
 #[test]
 fn scripts_of_undoing(rt: HostRuntime) -> Result<(), Fail> {
-    answer_all(&rt, rt.alloc(), UNDOING)
-}
-
-#[test]
-fn scripts_of_coming_back(rt: HostRuntime) -> Result<(), Fail> {
-    answer_all(&rt, rt.alloc(), COMING_BACK)
-}
-
-#[test]
-fn scripts_of_grouping(rt: HostRuntime) -> Result<(), Fail> {
-    answer_all(&rt, rt.alloc(), GROUPING)
-}
-
-#[test]
-fn scripts_of_flags(rt: HostRuntime) -> Result<(), Fail> {
+    answer_all(&rt, rt.alloc(), UNDOING)?;
+    answer_all(&rt, rt.alloc(), COMING_BACK)?;
+    answer_all(&rt, rt.alloc(), GROUPING)?;
     answer_all(&rt, rt.alloc(), FLAGS)
 }
 
 #[test]
 fn scripts_of_peers(rt: HostRuntime) -> Result<(), Fail> {
     answer_all(&rt, rt.alloc(), PEERS)
+}
+
+#[test]
+fn scripts_of_limit_options(rt: HostRuntime) -> Result<(), Fail> {
+    answer_all(&rt, rt.alloc(), LIMIT_OPTIONS)
+}
+
+#[test]
+fn scripts_of_moving_limits(rt: HostRuntime) -> Result<(), Fail> {
+    answer_all(&rt, rt.alloc(), MOVING_LIMITS)
+}
+
+#[test]
+fn scripts_of_limited_text(rt: HostRuntime) -> Result<(), Fail> {
+    answer_all(&rt, rt.alloc(), LIMITED_TEXT)
+}
+
+#[test]
+fn scripts_of_limited_searches(rt: HostRuntime) -> Result<(), Fail> {
+    answer_all(&rt, rt.alloc(), LIMITED_SEARCHES)
+}
+
+#[test]
+fn scripts_of_limited_tags(rt: HostRuntime) -> Result<(), Fail> {
+    answer_all(&rt, rt.alloc(), LIMITED_TAGS)
+}
+
+#[test]
+fn scripts_of_limited_marks(rt: HostRuntime) -> Result<(), Fail> {
+    answer_all(&rt, rt.alloc(), LIMITED_MARKS)
+}
+
+#[test]
+fn scripts_of_peer_commands(rt: HostRuntime) -> Result<(), Fail> {
+    answer_all(&rt, rt.alloc(), PEER_COMMANDS)
 }
 
 #[test]

@@ -1,4 +1,5 @@
 // Undo at sites that receive files, and exchange theirs.
+use crate::checks::same;
 use crate::exchange::{Case, HOLDS_FIRST, exchange, receive_all, session};
 use crate::sites::Script;
 use std::alloc::Global;
@@ -26,109 +27,110 @@ fn undo_among(rt: &impl Abort, alloc: Global, case: &Undoing) -> Result<(), Fail
     let files: &[(&str, &[u8])] = &[("first", &first), ("one", &log)];
     let scripts = [HOLDS_FIRST, case.other, case.receives_one, case.after];
     let equal = session(rt, alloc, 2, files, &scripts)?;
-    assert_eq!(rt; equal.as_slice(), log.as_slice());
+    same(rt, equal.as_slice(), log.as_slice());
     Ok(())
 }
 
-#[test]
-fn undo_beside_a_received_character(rt: HostRuntime) -> Result<(), Fail> {
-    let case = Undoing {
-        first: &[(".t configure -undo 1", "="), (".t insert 1.0 abc", "=")],
-        other: &[(".t insert 1.1 X", "=")],
-        one: &[
-            (".t delete 1.1", "="),
-            ("receive other", "= 1 1"),
-            (".t get 1.0 end", r#"= "aXc\n""#),
-            (".t edit undo", "="),
-            (".t get 1.0 end", r#"= "aXbc\n""#),
-            (".t edit undo", "="),
-            (".t get 1.0 end", r#"= "X\n""#),
-            (".t edit undo", "! 12 NothingToUndo"),
-            (".t edit redo", "="),
-        ],
-        receives_one: &[("receive one", "= 6 2")],
-        after: &[(".t get 1.0 end", r#"= "aXbc\n""#)],
-    };
-    undo_among(&rt, rt.alloc(), &case)
-}
+const UNDO_BESIDE_A_RECEIVED_CHARACTER: Undoing = Undoing {
+    first: &[(".t configure -undo 1", "="), (".t insert 1.0 abc", "=")],
+    other: &[(".t insert 1.1 X", "=")],
+    one: &[
+        (".t delete 1.1", "="),
+        ("receive other", "= 1 1"),
+        (".t get 1.0 end", r#"= "aXc\n""#),
+        (".t edit undo", "="),
+        (".t get 1.0 end", r#"= "aXbc\n""#),
+        (".t edit undo", "="),
+        (".t get 1.0 end", r#"= "X\n""#),
+        (".t edit undo", "! 12 NothingToUndo"),
+        (".t edit redo", "="),
+    ],
+    receives_one: &[("receive one", "= 6 2")],
+    after: &[(".t get 1.0 end", r#"= "aXbc\n""#)],
+};
+
+const UNDO_OF_A_REMOVAL_AROUND_NEW_TEXT: Undoing = Undoing {
+    first: &[(".t configure -undo 1", "="), (".t insert 1.0 abcd t", "=")],
+    other: &[(".t insert 1.2 YY u", "=")],
+    one: &[
+        (".t delete 1.1 1.3", "="),
+        ("receive other", "= 1 1"),
+        (".t get 1.0 end", r#"= "aYYd\n""#),
+        (".t edit undo", "="),
+    ],
+    receives_one: &[("receive one", "= 3 2")],
+    after: &[
+        (".t get 1.0 end", r#"= "abYYcd\n""#),
+        (".t tag ranges t", "= 1.0 1.2 1.4 1.6"),
+        (".t tag ranges u", "= 1.2 1.4"),
+    ],
+};
+
+const UNDO_OF_WHAT_ANOTHER_SITE_REMOVED: Undoing = Undoing {
+    first: &[(".t configure -undo 1", "="), (".t insert 1.0 abc", "=")],
+    other: &[(".t delete 1.0 end", "=")],
+    one: &[
+        ("receive other", "= 1 1"),
+        (".t get 1.0 end", r#"= "\n""#),
+        (".t edit undo", "="),
+        (".t edit canundo", "= 0"),
+        (".t edit canredo", "= 1"),
+        (".t edit redo", "="),
+        (".t edit canundo", "= 1"),
+        (".t edit canredo", "= 0"),
+    ],
+    receives_one: &[("receive one", "= 0 2")],
+    after: &[(".t get 1.0 end", r#"= "\n""#)],
+};
+
+const REDO_OF_WHAT_WAS_LEFT: Undoing = Undoing {
+    first: &[(".t configure -undo 1", "="), (".t insert 1.0 abc", "=")],
+    other: &[(".t delete 1.1", "=")],
+    one: &[
+        ("receive other", "= 1 1"),
+        (".t edit undo", "="),
+        (".t get 1.0 end", r#"= "\n""#),
+        (".t edit redo", "="),
+    ],
+    receives_one: &[("receive one", "= 3 2")],
+    after: &[(".t get 1.0 end", r#"= "ac\n""#)],
+};
+
+const UNDONE_BESIDE_FILES: &[Undoing] = &[
+    UNDO_BESIDE_A_RECEIVED_CHARACTER,
+    UNDO_OF_A_REMOVAL_AROUND_NEW_TEXT,
+    UNDO_OF_WHAT_ANOTHER_SITE_REMOVED,
+    REDO_OF_WHAT_WAS_LEFT,
+];
 
 #[test]
-fn undo_of_a_removal_around_new_text(rt: HostRuntime) -> Result<(), Fail> {
-    let case = Undoing {
-        first: &[(".t configure -undo 1", "="), (".t insert 1.0 abcd t", "=")],
-        other: &[(".t insert 1.2 YY u", "=")],
-        one: &[
-            (".t delete 1.1 1.3", "="),
-            ("receive other", "= 1 1"),
-            (".t get 1.0 end", r#"= "aYYd\n""#),
-            (".t edit undo", "="),
-        ],
-        receives_one: &[("receive one", "= 3 2")],
-        after: &[
-            (".t get 1.0 end", r#"= "abYYcd\n""#),
-            (".t tag ranges t", "= 1.0 1.2 1.4 1.6"),
-            (".t tag ranges u", "= 1.2 1.4"),
-        ],
-    };
-    undo_among(&rt, rt.alloc(), &case)
+fn undo_beside_received_files(rt: HostRuntime) -> Result<(), Fail> {
+    for case in UNDONE_BESIDE_FILES {
+        undo_among(&rt, rt.alloc(), case)?;
+    }
+    Ok(())
 }
 
-#[test]
-fn undo_of_what_another_site_removed(rt: HostRuntime) -> Result<(), Fail> {
-    let case = Undoing {
-        first: &[(".t configure -undo 1", "="), (".t insert 1.0 abc", "=")],
-        other: &[(".t delete 1.0 end", "=")],
-        one: &[
-            ("receive other", "= 1 1"),
-            (".t get 1.0 end", r#"= "\n""#),
-            (".t edit undo", "="),
-            (".t edit canundo", "= 0"),
-            (".t edit canredo", "= 1"),
-            (".t edit redo", "="),
-            (".t edit canundo", "= 1"),
-            (".t edit canredo", "= 0"),
-        ],
-        receives_one: &[("receive one", "= 0 2")],
-        after: &[(".t get 1.0 end", r#"= "\n""#)],
-    };
-    undo_among(&rt, rt.alloc(), &case)
-}
-
-#[test]
-fn redo_of_what_was_left(rt: HostRuntime) -> Result<(), Fail> {
-    let case = Undoing {
-        first: &[(".t configure -undo 1", "="), (".t insert 1.0 abc", "=")],
-        other: &[(".t delete 1.1", "=")],
-        one: &[
-            ("receive other", "= 1 1"),
-            (".t edit undo", "="),
-            (".t get 1.0 end", r#"= "\n""#),
-            (".t edit redo", "="),
-        ],
-        receives_one: &[("receive one", "= 3 2")],
-        after: &[(".t get 1.0 end", r#"= "ac\n""#)],
-    };
-    undo_among(&rt, rt.alloc(), &case)
-}
+const UNDONE: Script<'static> = &[
+    (".t configure -undo 1", "="),
+    (".t delete 1.1", "="),
+    (".t edit undo", "="),
+    (".t get 1.0 end", r#"= "abc\n""#),
+];
 
 // One character that two sites removed and brought back is there twice.
+const ONE_REMOVAL_UNDONE_AT_TWO_SITES: Case = Case {
+    first: &[(".t insert 1.0 abc", "=")],
+    one: UNDONE,
+    other: UNDONE,
+    receives_one: &[("receive one", "= 2 1")],
+    receives_other: &[("receive other", "= 2 1")],
+    after: &[(".t get 1.0 end", r#"= "abbc\n""#)],
+};
+
 #[test]
 fn one_removal_undone_at_two_sites(rt: HostRuntime) -> Result<(), Fail> {
-    let undone: Script<'static> = &[
-        (".t configure -undo 1", "="),
-        (".t delete 1.1", "="),
-        (".t edit undo", "="),
-        (".t get 1.0 end", r#"= "abc\n""#),
-    ];
-    let case = Case {
-        first: &[(".t insert 1.0 abc", "=")],
-        one: undone,
-        other: undone,
-        receives_one: &[("receive one", "= 2 1")],
-        receives_other: &[("receive other", "= 2 1")],
-        after: &[(".t get 1.0 end", r#"= "abbc\n""#)],
-    };
-    exchange(&rt, rt.alloc(), &case)
+    exchange(&rt, rt.alloc(), &ONE_REMOVAL_UNDONE_AT_TWO_SITES)
 }
 
 // What is received is never recorded, and forces the flag where it changes which characters are visible.

@@ -1,17 +1,14 @@
--- The last newline without its tags, and text that is inserted before it.
-use Rattle.std.proofs.Common.{◌≡◌, ℕ, zero, suc, ◌+◌, ◌<◌, ◌≤◌, ◌&&◌, ◌||◌, List, [], ◌∷◌, ◌++◌, Bool, true, false, cond, inl, inr, length, take, drop, map, filter, refl, sym, ap, ◌∙◌, subst, arith, Option, None, Some}
+-- A newline without its tags, and text that is inserted before it.
+use Rattle.std.proofs.Common.{◌≡◌, ℕ, ◌+◌, ◌≤◌, ◌&&◌, ◌||◌, List, [], ◌∷◌, ◌++◌, Bool, true, false, cond, inl, inr, length, map, filter, refl, sym, ap, ◌∙◌, subst, arith, Option, None, Some}
 use Rattle.std.specs.List.{AllByRecursion}
 use Rattle.std.specs.Str.{bytes_eq, chars}
 use Rattle.std.proofs.lemmas.Bool.{or_from, or_parts}
-use Rattle.std.proofs.lemmas.Bool.Decides.{nat_tests}
-use Rattle.std.proofs.lemmas.List.Folds.{list_any-append}
 use Rattle.rt_stamps.specs.declared.limits.TheConstants.{MOST_CHARACTERS}
 use Rattle.rt_stamps.specs.declared.stamp.Stamp.{Stamp}
-use Rattle.rt_stamps.specs.declared.stamp.TheConstants.{FINAL}
 use Rattle.rt_stamps.specs.Stamps.{is_same}
 use Rattle.rt_stamps.specs.Words.{Word}
-use Rattle.rt_stamps.proofs.Order.{same_sym}
-use Rattle.rt_store.specs.Cells.{cells_from, stamps_of}
+use Rattle.rt_stamps.proofs.Order.{same_refl, same_sym}
+use Rattle.rt_store.specs.Cells.{stamps_of}
 use Rattle.rt_store.specs.Shown.{TaggedCell}
 use Rattle.rt_store.specs.Spans.{is_among}
 use Rattle.rt_store.specs.Written.{IsWritten}
@@ -23,37 +20,35 @@ use Rattle.rt_tags.proofs.Commuting.{on_is_listed}
 use Rattle.rt_tags.proofs.Places.{same_name}
 use Rattle.rt_edits.specs.Flat.{Flat}
 use Rattle.rt_edits.specs.InsertionDrafts.{behind, insertion_drafts, pieces_drafts, text_drafts}
-use Rattle.rt_edits.specs.Insertions.{Insertion, Piece, all_listed, are_among, cells_of_inserts, counts_for, further_tags, inserts_for, insertion_of, last_of, new_state, selected_if, shared_names, tagged_cells, tags_between, with_listed, with_pieces, with_unlisted}
+use Rattle.rt_edits.specs.Insertions.{Insertion, Piece, all_listed, are_among, counts_for, inserts_for, insertion_of, last_of, selected_if, shared_names, tagged_cells, tags_between, with_listed, with_pieces, with_unlisted}
 use Rattle.rt_edits.specs.TagWrites.{bared, tag_write, tagged, with_tag}
 use Rattle.rt_edits.proofs.PlanLaws.{among_with}
 use Rattle.rt_edits.proofs.Putting.{tagged_state}
 use Rattle.rt_edits.proofs.RestLaws.{pieces_others}
 use Rattle.rt_edits.proofs.TagEffects.{elsewhere, says, stamp_kept}
 use Rattle.rt_edits.proofs.WriterLaws.{operation_within, written_known, written_on}
+use Rattle.rt_text.proofs.NewCells.{AreNew, inserts_new}
 
--- ONE TAG TAKEN OFF THE LAST CELL
+-- ONE TAG TAKEN OFF A CELL
 
-abbrev pub end : List Stamp
-end = FINAL ∷ []
-
-module _ (site count : ℕ) (name : Word) where
+module _ (stamp : Stamp) (site count : ℕ) (name : Word) where
   abbrev off : TaggedCell → TaggedCell
-  off cell = tagged site count name false end cell
+  off cell = tagged site count name false (stamp ∷ []) cell
 
-  -- the cells before it stay
-  front_stays : (front : List TaggedCell) → is_among (stamps_of front) FINAL ≡ false → map off front ≡ front
-  front_stays [] h = refl
-  front_stays (c ∷ cs) h =
-      let p = or_parts (is_same c.stamp FINAL) (is_among (stamps_of cs) FINAL) h in
-      let other : is_same FINAL c.stamp ≡ false = same_sym FINAL c.stamp ∙ p.0 in
-      λ i. elsewhere site count name false end c (ap (λ b. b || false) other) i ∷ front_stays cs p.1 i
+  -- the other cells stay
+  others_stay : (cells : List TaggedCell) → is_among (stamps_of cells) stamp ≡ false → map off cells ≡ cells
+  others_stay [] h = refl
+  others_stay (c ∷ cs) h =
+      let p = or_parts (is_same c.stamp stamp) (is_among (stamps_of cs) stamp) h in
+      let other : is_same stamp c.stamp ≡ false = same_sym stamp c.stamp ∙ p.0 in
+      λ i. elsewhere site count name false (stamp ∷ []) c (ap (λ b. b || false) other) i ∷ others_stay cs p.1 i
 
   -- what was off stays off
   off_before : (cell : TaggedCell) (q : Word) → is_on q (off cell).state ≡ true → is_on q cell.state ≡ true
-  off_before cell q h = by (is_among end cell.stamp) h
+  off_before cell q h = by (is_among (stamp ∷ []) cell.stamp) h
     where
       w : Write
-      w = tag_write site count name false end cell.stamp
+      w = tag_write site count name false (stamp ∷ []) cell.stamp
 
       from : is_on q (written w cell.state) ≡ true → is_on q cell.state ≡ true
       from k = elim (written_on q w cell.state k) [ inl on ↦ on | inr p ↦ absurd (cc (p.1)) ]
@@ -64,10 +59,10 @@ module _ (site count : ℕ) (name : Word) where
 
 -- ALL ITS TAGS
 
--- the last cell, tags being taken off it
-record IsBared (names : List Word) (front : List TaggedCell) (last : TaggedCell) (cells : List TaggedCell) (new : TaggedCell) : Type 0 where
-  is : cells ≡ front ++ new ∷ []
-  stamp : new.stamp ≡ FINAL
+-- a cell between others, tags being taken off it
+record IsBared (names : List Word) (front : List TaggedCell) (last : TaggedCell) (rest cells : List TaggedCell) (new : TaggedCell) : Type 0 where
+  is : cells ≡ front ++ new ∷ rest
+  stamp : new.stamp ≡ last.stamp
   gone : new.gone ≡ last.gone
   before : (q : Word) → is_on q new.state ≡ true → is_on q last.state ≡ true
   off : (q : Word) → is_listed q names ≡ true → is_on q new.state ≡ false
@@ -76,63 +71,67 @@ not_on : (b : Bool) → (b ≡ true → ⊥) → b ≡ false
 not_on true h = absurd (h refl)
 not_on false h = refl
 
-bares : (names : List Word) (flat : Flat) (front : List TaggedCell) (last : TaggedCell) → flat.cells ≡ front ++ last ∷ [] → last.stamp ≡ FINAL → is_among (stamps_of front) FINAL ≡ false → IsWritten flat.count last.state
-    → (new : TaggedCell) × IsBared names front last (bared flat FINAL names).cells new
-bares [] flat front last e s apart known = (last, record { is = e; stamp = s; gone = refl; before = λ q h. h; off = λ q h. absurd (cc h) })
-bares (name ∷ names) flat front last e s apart known =
-    let site = flat.site in
-    let count = flat.count in
-    let next : Flat = with_tag flat name false end in
-    let new : TaggedCell = off site count name last in
-    let there : is_among end last.stamp ≡ true = ap (is_among end) s in
-    let change = tagged_state site count name false end last in
-    let cells : next.cells ≡ front ++ new ∷ [] =
-    ap (map (off site count name)) e ∙ map_append (off site count name) front (last ∷ []) ∙ ap (λ l. l ++ new ∷ []) (front_stays site count name front apart) in
-    let known_next : IsWritten next.count new.state = known_after there in
-    let rest = bares names next front new cells (stamp_kept site count name false end last ∙ s) apart known_next in (
-      rest.0,
-      record {
-        is = rest.1.is;
-        stamp = rest.1.stamp;
-        gone = rest.1.gone ∙ ap (λ (c : TaggedCell). c.gone) change;
-        before = λ q h. off_before site count name last q (rest.1.before q h);
-        off = λ q h. split (is_listed q names)
-            (λ t. rest.1.off q t)
-            (λ f. let same : q ≡ name = same_name q name (first (bytes_eq q name) (is_listed q names) h f) in
-            not_on (is_on q rest.0.state) (λ on.
-            let still : is_on q new.state ≡ true = rest.1.before q on in
-            let gone : is_on q new.state ≡ false = ap (λ n. is_on n new.state) same ∙ says site count name false end last known there in
-            cc (still, gone)));
-      },
-    )
-  where
-    first : (a b : Bool) → (a || b) ≡ true → b ≡ false → a ≡ true
-    first true b h k = refl
-    first false b h k = absurd (cc (h, k))
+module _ (stamp : Stamp) (front rest : List TaggedCell) (apart : is_among (stamps_of front) stamp ≡ false) (later : is_among (stamps_of rest) stamp ≡ false) where
+  bares : (names : List Word) (flat : Flat) (last : TaggedCell) → flat.cells ≡ front ++ last ∷ rest → last.stamp ≡ stamp → IsWritten flat.count last.state
+      → (new : TaggedCell) × IsBared names front last rest (bared flat stamp names).cells new
+  bares [] flat last e s known = (last, record { is = e; stamp = refl; gone = refl; before = λ q h. h; off = λ q h. absurd (cc h) })
+  bares (name ∷ names) flat last e s known =
+      let site = flat.site in
+      let count = flat.count in
+      let next : Flat = with_tag flat name false (stamp ∷ []) in
+      let new : TaggedCell = off stamp site count name last in
+      let there : is_among (stamp ∷ []) last.stamp ≡ true = ap (λ x. is_same stamp x || false) s ∙ ap (λ b. b || false) (same_refl stamp) in
+      let change = tagged_state site count name false (stamp ∷ []) last in
+      let cells : next.cells ≡ front ++ new ∷ rest =
+      ap (map (off stamp site count name)) e ∙ map_append (off stamp site count name) front (last ∷ rest)
+      ∙ (λ i. others_stay stamp site count name front apart i ++ new ∷ others_stay stamp site count name rest later i) in
+      let known_next : IsWritten next.count new.state = known_after flat name last there known in
+      let kept = stamp_kept site count name false (stamp ∷ []) last in
+      let rest_is = bares names next new cells (kept ∙ s) known_next in (
+        rest_is.0,
+        record {
+          is = rest_is.1.is;
+          stamp = rest_is.1.stamp ∙ kept;
+          gone = rest_is.1.gone ∙ ap (λ (c : TaggedCell). c.gone) change;
+          before = λ q h. off_before stamp site count name last q (rest_is.1.before q h);
+          off = λ q h. split (is_listed q names)
+              (λ t. rest_is.1.off q t)
+              (λ f. let same : q ≡ name = same_name q name (first (bytes_eq q name) (is_listed q names) h f) in
+              not_on (is_on q rest_is.0.state) (λ on.
+              let still : is_on q new.state ≡ true = rest_is.1.before q on in
+              let gone : is_on q new.state ≡ false = ap (λ n. is_on n new.state) same ∙ says site count name false (stamp ∷ []) last known there in
+              cc (still, gone)));
+        },
+      )
+    where
+      first : (a b : Bool) → (a || b) ≡ true → b ≡ false → a ≡ true
+      first true b h k = refl
+      first false b h k = absurd (cc (h, k))
 
-    known_after : is_among end last.stamp ≡ true → IsWritten (with_tag flat name false end).count (tagged flat.site flat.count name false end last).state
-    known_after there =
-        let w : Write = tag_write flat.site flat.count name false end last.stamp in
-        let within : w.writer.count ≤ (with_tag flat name false end).count = operation_within flat.count end last.stamp there in
-        let here : (tagged flat.site flat.count name false end last).state ≡ written w last.state = ap (λ b. (cond b (record last { state = written w last.state }) last).state) there in
-        subst (IsWritten (with_tag flat name false end).count) (sym here) (written_known flat.count (with_tag flat name false end).count w last.state (omega arith) within known)
+      known_after : (flat : Flat) (name : Word) (last : TaggedCell) → is_among (stamp ∷ []) last.stamp ≡ true → IsWritten flat.count last.state
+          → IsWritten (with_tag flat name false (stamp ∷ [])).count (tagged flat.site flat.count name false (stamp ∷ []) last).state
+      known_after flat name last there known =
+          let w : Write = tag_write flat.site flat.count name false (stamp ∷ []) last.stamp in
+          let within : w.writer.count ≤ (with_tag flat name false (stamp ∷ [])).count = operation_within flat.count (stamp ∷ []) last.stamp there in
+          let here : (tagged flat.site flat.count name false (stamp ∷ []) last).state ≡ written w last.state = ap (λ b. (cond b (record last { state = written w last.state }) last).state) there in
+          subst (IsWritten (with_tag flat name false (stamp ∷ [])).count) (sym here) (written_known flat.count (with_tag flat name false (stamp ∷ [])).count w last.state (omega arith) within known)
 
--- the last newline, bare of all tags
-pub record IsBare (front : List TaggedCell) (cells : List TaggedCell) (new : TaggedCell) : Type 0 where
-  pub is : cells ≡ front ++ new ∷ []
-  pub stamp : new.stamp ≡ FINAL
-  pub gone : new.gone ≡ false
+-- a cell between others, bare of all tags
+pub record IsBare (front : List TaggedCell) (last : TaggedCell) (rest cells : List TaggedCell) (new : TaggedCell) : Type 0 where
+  pub is : cells ≡ front ++ new ∷ rest
+  pub stamp : new.stamp ≡ last.stamp
+  pub gone : new.gone ≡ last.gone
   pub off : (q : Word) → is_on q new.state ≡ false
 
-pub all_bare : (flat : Flat) (front : List TaggedCell) (last : TaggedCell) → flat.cells ≡ front ++ last ∷ [] → last.stamp ≡ FINAL → last.gone ≡ false → is_among (stamps_of front) FINAL ≡ false → IsWritten flat.count last.state
-    → IsByName last.state → (new : TaggedCell) × IsBare front (bared flat FINAL (names_on last.state)).cells new
-all_bare flat front last e s g apart known by_name =
-    let w = bares (names_on last.state) flat front last e s apart known in (
+pub all_bare : (flat : Flat) (front : List TaggedCell) (last : TaggedCell) (rest : List TaggedCell) → flat.cells ≡ front ++ last ∷ rest → is_among (stamps_of front) last.stamp ≡ false → is_among (stamps_of rest) last.stamp ≡ false
+    → IsWritten flat.count last.state → IsByName last.state → (new : TaggedCell) × IsBare front last rest (bared flat last.stamp (names_on last.state)).cells new
+all_bare flat front last rest e apart behind known by_name =
+    let w = bares last.stamp front rest apart behind (names_on last.state) flat last e refl known in (
       w.0,
       record {
         is = w.1.is;
         stamp = w.1.stamp;
-        gone = w.1.gone ∙ g;
+        gone = w.1.gone;
         off = λ q. not_on (is_on q w.0.state) (λ on.
             let was : is_listed q (names_on last.state) ≡ true = sym (on_is_listed q last.state by_name) ∙ w.1.before q on in
             let no : is_on q w.0.state ≡ false = w.1.off q was in
@@ -159,38 +158,27 @@ bare_among (Some left) right stamps h = by (is_among stamps left.stamp) (is_amon
     by true b k = k
     by false b k = refl
 
+none_selected : (stamp : Stamp) (b : Bool) (stamps selection : List Stamp) → is_among stamps stamp ≡ false → is_among selection stamp ≡ false → is_among (selected_if b stamps selection) stamp ≡ false
+none_selected stamp true stamps selection h k = among_with stamps selection stamp ∙ or_from (is_among selection stamp) (is_among stamps stamp) k h
+none_selected stamp false stamps selection h k = k
+
 -- no new character has its stamp
-none_from : (site count : ℕ) (state : List Write) (text : List ℕ) → 0 < site → is_among (stamps_of (cells_from count site state text)) FINAL ≡ false
-none_from site count state [] h = refl
-none_from site count state (c ∷ text) h = or_from _ _ (apart site count h) (none_from site (count + 1) state text h)
-  where
-    apart : (site count : ℕ) → 0 < site → is_same (record { count = count; site = site }) FINAL ≡ false
-    apart site count h = grind (arith, nat_tests, h)
+module _ (stamp : Stamp) (site start : ℕ) (free : (new : List TaggedCell) → AreNew start site new → is_among (stamps_of new) stamp ≡ false) where
+  none_listed : (names : List Word) (text : List ℕ) (so_far : Insertion) → start ≤ so_far.count → is_among so_far.sel stamp ≡ false
+      → (start ≤ (with_listed site names text so_far).count) × (is_among (with_listed site names text so_far).sel stamp ≡ false)
+  none_listed names [] so_far h k = (h, k)
+  none_listed names (c ∷ text) so_far h k =
+      let shared = shared_names names in
+      let new = tagged_cells site so_far.count shared (c ∷ text) in (
+        omega (arith, h),
+        none_selected stamp (is_listed sel names) (stamps_of new) so_far.sel (free new (inserts_new (inserts_for (length (c ∷ text))) site so_far.count start shared (c ∷ text) h)) k,
+      )
 
-none_in_inserts : (inserts site count : ℕ) (names : List Word) (text : List ℕ) → 0 < site → is_among (stamps_of (cells_of_inserts inserts site count names text)) FINAL ≡ false
-none_in_inserts zero site count names text h = refl
-none_in_inserts (suc inserts) site count names text h =
-    let part = take MOST_CHARACTERS text in
-    let last = count + length part in
-    let first = cells_from (count + 1) site (new_state site last names) part in
-    let rest = cells_of_inserts inserts site (last + length (further_tags names)) names (drop MOST_CHARACTERS text) in
-    ap (λ l. is_among l FINAL) (map_append (λ (c : TaggedCell). c.stamp) first rest)
-    ∙ list_any-append (λ s. is_same s FINAL) (stamps_of first) (stamps_of rest)
-    ∙ or_from _ _ (none_from site (count + 1) (new_state site last names) part h) (none_in_inserts inserts site (last + length (further_tags names)) names (drop MOST_CHARACTERS text) h)
-
-none_selected : (b : Bool) (stamps selection : List Stamp) → is_among stamps FINAL ≡ false → is_among selection FINAL ≡ false → is_among (selected_if b stamps selection) FINAL ≡ false
-none_selected true stamps selection h k = among_with stamps selection FINAL ∙ or_from (is_among selection FINAL) (is_among stamps FINAL) k h
-none_selected false stamps selection h k = k
-
-none_listed : (site : ℕ) (names : List Word) (text : List ℕ) (so_far : Insertion) → 0 < site → is_among so_far.sel FINAL ≡ false → is_among (with_listed site names text so_far).sel FINAL ≡ false
-none_listed site names [] so_far h k = k
-none_listed site names (c ∷ text) so_far h k =
-    let shared = shared_names names in
-    none_selected (is_listed sel names) (stamps_of (tagged_cells site so_far.count shared (c ∷ text))) so_far.sel (none_in_inserts (inserts_for (length (c ∷ text))) site so_far.count shared (c ∷ text) h) k
-
-none_after : (site : ℕ) (pieces : List Piece) (so_far : Insertion) → 0 < site → is_among so_far.sel FINAL ≡ false → is_among (with_pieces site pieces so_far).sel FINAL ≡ false
-none_after site [] so_far h k = k
-none_after site (piece ∷ pieces) so_far h k = none_after site pieces (with_listed site piece.tags (chars piece.text) so_far) h (none_listed site piece.tags (chars piece.text) so_far h k)
+  none_after : (pieces : List Piece) (so_far : Insertion) → start ≤ so_far.count → is_among so_far.sel stamp ≡ false → is_among (with_pieces site pieces so_far).sel stamp ≡ false
+  none_after [] so_far h k = k
+  none_after (piece ∷ pieces) so_far h k =
+      let next = none_listed piece.tags (chars piece.text) so_far h k in
+      none_after pieces (with_listed site piece.tags (chars piece.text) so_far) next.0 next.1
 
 same_others : (left : Option TaggedCell) (right : TaggedCell) (stamps : List Stamp) (others : List (List Stamp)) → AllByRecursion (λ selection. is_among selection right.stamp ≡ false) others
     → map (λ selection. selected_if (are_among selection left (Some right)) stamps selection) others ≡ map (λ selection. selected_if (are_among selection left None) stamps selection) others
@@ -213,13 +201,14 @@ same_unlisted site left right (c ∷ text) so_far off s o =
     }
 
 -- the insertion is as one without a right neighbour
-pub bare_insertion : (site : ℕ) (left : Option TaggedCell) (right : TaggedCell) (pieces : List Piece) (rest : Word) (start : Insertion) → 0 < site → right.stamp ≡ FINAL → ((q : Word) → is_on q right.state ≡ false)
-    → is_among start.sel FINAL ≡ false → AllByRecursion (λ selection. is_among selection FINAL ≡ false) start.others
+pub bare_insertion : (site : ℕ) (left : Option TaggedCell) (right : TaggedCell) (pieces : List Piece) (rest : Word) (start : Insertion)
+    → ((new : List TaggedCell) → AreNew start.count site new → is_among (stamps_of new) right.stamp ≡ false) → ((q : Word) → is_on q right.state ≡ false)
+    → is_among start.sel right.stamp ≡ false → AllByRecursion (λ selection. is_among selection right.stamp ≡ false) start.others
     → insertion_of site left None pieces rest start ≡ insertion_of site left (Some right) pieces rest start
-bare_insertion site left right pieces rest start p s off k o =
+bare_insertion site left right pieces rest start free off k o =
     let listed = with_pieces site pieces start in
-    same_unlisted site (last_of left listed.cells) right (chars rest) listed off (ap (is_among listed.sel) s ∙ none_after site pieces start p k)
-    (subst (λ f. AllByRecursion (λ selection. is_among selection f ≡ false) listed.others) (sym s) (subst (AllByRecursion (λ selection. is_among selection FINAL ≡ false)) (sym (pieces_others site pieces start)) o))
+    same_unlisted site (last_of left listed.cells) right (chars rest) listed off (none_after right.stamp site start.count free pieces start (omega arith) k)
+    (subst (AllByRecursion (λ selection. is_among selection right.stamp ≡ false)) (sym (pieces_others site pieces start)) o)
 
 -- and so are its operations
 pub bare_drafts : (site : ℕ) (after : Stamp) (left : Option TaggedCell) (right : TaggedCell) (pieces : List Piece) (rest : Word) (start : Insertion) → ((q : Word) → is_on q right.state ≡ false)

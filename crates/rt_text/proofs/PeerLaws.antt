@@ -1,5 +1,5 @@
 -- The other widgets of a site, each by the rule of its marks and of what it has selected.
-use Rattle.std.proofs.Common.{◌≡◌, ℕ, ◌+◌, ◌<◌, ◌≤◌, Bool, false, cond, All, List, [], ◌∷◌, Option, None, length, map, drop, get_or, refl, ap, subst, sym, arith}
+use Rattle.std.proofs.Common.{◌≡◌, ℕ, ◌+◌, ◌<◌, ◌≤◌, Bool, All, List, [], ◌∷◌, Option, None, length, map, drop, get_or, refl, ap, arith}
 use Rattle.std.specs.List.{AllByRecursion}
 use Rattle.std.proofs.lemmas.List.Elements.{All-cons, All-nil}
 use Rattle.rt_stamps.specs.declared.stamp.Stamp.{Stamp}

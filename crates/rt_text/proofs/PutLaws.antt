@@ -16,8 +16,8 @@ use Rattle.rt_stamps.specs.Names.{name_check}
 use Rattle.rt_text.specs.Commands.{cell_check, clock_check, inserted, names_in, with_pieces_at}
 use Rattle.rt_edits.specs.Flat.{Flat, put_after}
 use Rattle.rt_store.specs.Shown.{TaggedCell, shown}
-use Rattle.rt_edits.specs.Insertions.{Insertion, Piece, insertion_of, left_neighbour, right_neighbour}
-use Rattle.rt_text.specs.Widgets.{Own, Viewed, length_shown, selections_of, widget_of}
+use Rattle.rt_edits.specs.Insertions.{Piece}
+use Rattle.rt_text.specs.Widgets.{Viewed, length_shown, widget_of}
 use Rattle.rt_text.proofs.ReadyLaws.{first_none, first_some}
 use Rattle.rt_store.proofs.Shown.{text_shown, visible_shown}
 
@@ -55,13 +55,6 @@ by_late_checks view index pieces rest found place h e p =
     ap (by_index view pieces rest) e
     ∙ ap (λ o. unless o (at_index view pieces rest (Ok found))) (first_none (map name_check (names_in pieces)) (None ∷ late_checks view.doc (at_index view pieces rest (Ok found))) h)
     ∙ ap (λ n. unless (first_of (late_checks view.doc (with_pieces_at view n pieces rest))) (with_pieces_at view n pieces rest)) (sym p)
-
-abbrev pub start_of : Flat → Own → List Own → Insertion
-start_of flat own others = record { cells = []; count = flat.count; sel = own.sel; others = selections_of others; tags = flat.tags }
-
-abbrev pub insertion_in : Flat → Own → List Own → ℕ → List Piece → Word → Insertion
-insertion_in flat own others place pieces rest =
-    insertion_of flat.site (left_neighbour (visible_of flat.cells) place) (right_neighbour (visible_of flat.cells) place) pieces rest (start_of flat own others)
 
 -- WHAT STAYS
 

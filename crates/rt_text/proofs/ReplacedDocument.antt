@@ -12,14 +12,13 @@ use Rattle.rt_oplog.specs.Operations.{Body, Operation}
 use Rattle.rt_store.specs.Cells.{text_of}
 use Rattle.rt_store.specs.Shown.{TaggedCell}
 use Rattle.std.proofs.lemmas.List.{length-map}
-use Rattle.rt_rga.specs.Cells.{cell_in, cells_of}
+use Rattle.rt_rga.specs.Cells.{cells_of}
 use Rattle.rt_rga.specs.Drafts.{with_drafts}
-use Rattle.rt_rga.specs.Histories.{IsHistory, final_character, greatest_last_count}
+use Rattle.rt_rga.specs.Histories.{IsHistory, greatest_last_count}
 use Rattle.rt_rga.specs.Kept.{ReplicaValue}
 use Rattle.rt_rga.specs.Made.{refusal_of}
 use Rattle.rt_rga.specs.Requests.{MayBeMade, characters_in_all, last_count_after}
 use Rattle.rt_rga.proofs.Appending.{characters_append, count_append, drafts_append, may_append}
-use Rattle.rt_rga.proofs.Final.{cells_last}
 use Rattle.rt_rga.proofs.Requests.{all_count_on}
 use Rattle.rt_edits.specs.declared.inserting.Plan.{Plan}
 use Rattle.rt_edits.specs.declared.range.Range.{Range}
@@ -31,20 +30,23 @@ use Rattle.rt_edits.specs.InsertionPlans.{Plans}
 use Rattle.rt_edits.specs.Insertions.{Insertion, Piece}
 use Rattle.rt_edits.specs.Listed.{AreListed}
 use Rattle.rt_edits.proofs.FoundLaws.{left_stamps}
-use Rattle.rt_edits.proofs.NewlineDrafts.{document_ends, length_ends}
 use Rattle.rt_edits.proofs.CharacterCounts.{loss_inserts_none}
-use Rattle.rt_edits.proofs.DeletionDraftLaws.{loss_history, loss_made, loss_may, spares_last}
+use Rattle.rt_edits.proofs.DeletionDraftLaws.{loss_history, loss_made, loss_may}
 use Rattle.rt_edits.proofs.PlaceLaws.{text_within}
 use Rattle.rt_tags.specs.Tags.{IsName}
 use Rattle.rt_text.specs.Commands.{cell_check, clock_check, with_pieces_at, with_range_replaced, without_ranges}
 use Rattle.rt_text.specs.Kept.{IsDoc}
 use Rattle.rt_text.specs.Replacements.{left_by, loss_at}
-use Rattle.rt_text.specs.Widgets.{AreSiteMarks, IsOwnOf, Own, Viewed, length_shown, own_inserted, selections_of, with_selections}
+use Rattle.rt_views.specs.declared.stretch.Stretch.{Stretch}
+use Rattle.rt_text.specs.Widgets.{AreSiteMarks, IsOwnOf, Own, Viewed, begin_of, in_text, last_newline, length_shown, own_inserted, selections_of, with_selections}
 use Rattle.rt_text.proofs.DeletionLaws.{deletion_listed}
-use Rattle.rt_text.proofs.Deletions.{deletion_others, deletion_own, deletion_placed, deletion_rest}
 use Rattle.rt_text.proofs.InsertedDocument.{all_fit, kept_made, made_drafts, made_flat, made_is, made_new, may_make, names_given, others_made, own_made, put_made, refused_as}
+use Rattle.rt_text.proofs.InsertedSides.{IsPlace, at_text}
+use Rattle.rt_text.proofs.LeftDocument.{begin_low, length_left, stretch_left}
+use Rattle.rt_text.proofs.LimitedDeletions.{deletion_length, deletion_others, deletion_own, deletion_placed, deletion_rest, spared}
 use Rattle.rt_text.proofs.MadeDocument.{seen, seen_made}
 use Rattle.rt_text.proofs.PutLaws.{late_checks}
+use Rattle.rt_text.proofs.StayingPlaces.{left_small}
 use Rattle.rt_text.proofs.ViewLaws.{viewed}
 
 abbrev refusal_by : ℕ → ℕ → ℕ → Option Fault
@@ -61,72 +63,77 @@ refused_behind limit site deletes more log none same =
     λ i. refusal_by limit (count i) (cells i)
 
 module _ (flat : Flat) (own : Own) (others : List Own) (range : Range) (h : IsHistory flat.log) (doc : IsDocument flat.site flat.log flat) (real : 0 < flat.site)
-    (fits : (without_text flat (loss_at flat range)).count ≤ GREATEST_COUNT) where
+    (fits : (without_text flat (loss_at (viewed flat own others) range)).count ≤ GREATEST_COUNT) where
   abbrev deletes : List Body
-  deletes = delete_drafts MOST_SPANS flat (loss_at flat range)
+  deletes = delete_drafts MOST_SPANS flat (loss_at (viewed flat own others) range)
 
   abbrev pub rest_of : Viewed
   rest_of = without_ranges (viewed flat own others) (range ∷ [])
 
   pub rest_site : rest_of.doc.site ≡ flat.site
-  rest_site = ap (λ (f : Flat). f.site) (deletion_rest flat (range ∷ []))
+  rest_site = ap (λ (f : Flat). f.site) (deletion_rest flat own.limits (range ∷ []))
 
   pub rest_limit : rest_of.doc.limit ≡ flat.limit
-  rest_limit = ap (λ (f : Flat). f.limit) (deletion_rest flat (range ∷ []))
+  rest_limit = ap (λ (f : Flat). f.limit) (deletion_rest flat own.limits (range ∷ []))
 
   pub rest_tags : rest_of.doc.tags ≡ flat.tags
-  rest_tags = ap (λ (f : Flat). f.tags) (deletion_rest flat (range ∷ []))
+  rest_tags = ap (λ (f : Flat). f.tags) (deletion_rest flat own.limits (range ∷ []))
 
-  pub rest_marks : rest_of.doc.marks ≡ marks_left (loss_at flat range).places flat.marks
-  rest_marks = ap (λ (f : Flat). f.marks) (deletion_rest flat (range ∷ []))
+  pub rest_marks : rest_of.doc.marks ≡ marks_left (loss_at (viewed flat own others) range).places flat.marks
+  rest_marks = ap (λ (f : Flat). f.marks) (deletion_rest flat own.limits (range ∷ []))
 
-  spared : SparesLast (loss_at flat range).places (text_of flat.cells)
-  spared = spares_last (text_of flat.cells) (text_of flat.cells) 0 (range ∷ []) (omega arith)
+  last_spared : SparesLast (loss_at (viewed flat own others) range).places (text_of flat.cells)
+  last_spared = spared flat own.limits (range ∷ []) h doc
 
   -- what is left is a document of the larger log
   pub rest_history : IsHistory rest_of.doc.log
-  rest_history = loss_history flat.site flat.log flat (loss_at flat range) real h doc spared fits
+  rest_history = loss_history flat.site flat.log flat (loss_at (viewed flat own others) range) real h doc last_spared fits
 
   pub rest_document : IsDocument rest_of.doc.site rest_of.doc.log rest_of.doc
   rest_document =
-      let d = loss_made flat.site flat.log flat (loss_at flat range) real h doc spared fits in
+      let d = loss_made flat.site flat.log flat (loss_at (viewed flat own others) range) real h doc last_spared fits in
       record { cells = d.cells; site = refl; count = d.count }
 
   pub rest_real : 0 < rest_of.doc.site
   rest_real = subst (λ n. 0 < n) (sym rest_site) real
 
   pub rest_listed : AreListed flat.tags flat.cells → AreListed rest_of.doc.tags rest_of.doc.cells
-  rest_listed listed = subst (λ tags. AreListed tags rest_of.doc.cells) (sym rest_tags) (deletion_listed flat (loss_at flat range) flat.tags listed)
+  rest_listed listed = subst (λ tags. AreListed tags rest_of.doc.cells) (sym rest_tags) (deletion_listed flat (loss_at (viewed flat own others) range) flat.tags listed)
 
   pub rest_kept : IsDoc flat.cells flat.marks flat.tags → IsDoc rest_of.doc.cells rest_of.doc.marks rest_of.doc.tags
   rest_kept kept = record {
-    placed = deletion_placed flat (range ∷ []) rest_of.doc.marks (loss_at flat range).places (λ p. refl) rest_marks kept.placed;
+    placed = deletion_placed flat own.limits (range ∷ []) rest_of.doc.marks (loss_at (viewed flat own others) range).places (λ p. refl) rest_marks kept.placed;
     listed = rest_listed kept.listed;
   }
 
   pub rest_own : IsOwnOf (length (text_of flat.cells)) own → IsOwnOf (length (text_of rest_of.doc.cells)) rest_of.own
-  rest_own is = deletion_own flat (range ∷ []) own (loss_at flat range).places (λ p. refl) is
+  rest_own is = deletion_own flat own.limits (range ∷ []) h doc own (loss_at (viewed flat own others) range).places (λ p. refl) is
 
   pub rest_others : AllByRecursion (IsOwnOf (length (text_of flat.cells))) others → AllByRecursion (IsOwnOf (length (text_of rest_of.doc.cells))) rest_of.others
-  rest_others h = deletion_others flat (range ∷ []) others (loss_at flat range).places (is_some (loss_at flat range).newline) (λ p. refl) h
+  rest_others all =
+      deletion_others flat own.limits (range ∷ []) h doc others (loss_at (viewed flat own others) range).places (last_newline (viewed flat own others)) (is_some (loss_at (viewed flat own others) range).newline)
+      (λ p. refl) all
 
   -- both in turn may be made
   pub both_may : (more : List Body) → MayBeMade rest_of.doc.site rest_of.doc.log more → MayBeMade flat.site flat.log (deletes ++ more)
   both_may more may =
-      may_append flat.site deletes more flat.log (loss_may flat.site flat.log flat (loss_at flat range) h doc spared) (subst (λ n. MayBeMade n rest_of.doc.log more) rest_site may)
+      may_append flat.site deletes more flat.log (loss_may flat.site flat.log flat (loss_at (viewed flat own others) range) h doc last_spared) (subst (λ n. MayBeMade n rest_of.doc.log more) rest_site may)
 
   -- no cell is dropped
   rest_cells : length (cells_of rest_of.doc.log) ≡ length (cells_of flat.log)
   rest_cells =
-      let loss = loss_at flat range in
+      let loss = loss_at (viewed flat own others) range in
       let kept : length rest_of.doc.cells ≡ length flat.cells =
       sym (length-map rest_of.doc.cells (λ (c : TaggedCell). c.stamp)) ∙ ap length (left_stamps flat loss) ∙ length-map flat.cells (λ (c : TaggedCell). c.stamp) in
       ap length (sym rest_document.cells) ∙ kept ∙ ap length doc.cells
 
-  pub rest_some : 0 < length (text_of rest_of.doc.cells)
-  rest_some =
-      let ends = document_ends rest_of.doc.site rest_of.doc.log rest_of.doc rest_history rest_document in
-      omega (arith, length_ends rest_of.doc (cells_last rest_of.doc.log rest_history).0 (cell_in rest_of.doc.log final_character) ends)
+  -- the widget shows some of it
+  pub rest_shown : 0 < length_shown rest_of
+  rest_shown = omega (arith, length_left flat own others range h doc, begin_low flat own others range h doc)
+
+  -- and that begins where it began
+  pub rest_begin : begin_of rest_of ≡ begin_of (viewed flat own others)
+  rest_begin = ap (λ (y : Stretch). y.begin) (stretch_left flat own others range h doc)
 
   -- the log of both in turn
   pub both_logged : (more : List Body) → with_drafts flat.site (deletes ++ more) flat.log ≡ with_drafts rest_of.doc.site more rest_of.doc.log
@@ -134,7 +141,7 @@ module _ (flat : Flat) (own : Own) (others : List Own) (range : Range) (h : IsHi
 
   pub both_refused : (more : List Body) → refusal_of flat.limit (deletes ++ more) flat.log ≡ refusal_of rest_of.doc.limit more rest_of.doc.log
   both_refused more =
-      refused_behind flat.limit flat.site deletes more flat.log (loss_inserts_none flat (loss_at flat range)) rest_cells
+      refused_behind flat.limit flat.site deletes more flat.log (loss_inserts_none flat (loss_at (viewed flat own others) range)) rest_cells
       ∙ ap (λ n. refusal_of n more rest_of.doc.log) (sym rest_limit)
 
 -- THE WHOLE REPLACEMENT
@@ -144,7 +151,7 @@ pub record IsReplacement (flat : Flat) (own : Own) (others : List Own) (range : 
   pub history : IsHistory flat.log
   pub document : IsDocument flat.site flat.log flat
   pub real : 0 < flat.site
-  pub fits : (without_text flat (loss_at flat range)).count ≤ GREATEST_COUNT
+  pub fits : (without_text flat (loss_at (viewed flat own others) range)).count ≤ GREATEST_COUNT
   pub at : place ≡ min range.from (length_shown (left_by (viewed flat own others) range) - 1)
   pub texts : All IsPiece pieces
   pub utf8 : IsUtf8 rest
@@ -164,7 +171,7 @@ module _ (flat : Flat) (own : Own) (others : List Own) (range : Range) (place : 
   more_flat = made_flat left.doc left.own left.others place pieces rest
 
   abbrev all_drafts : List Body
-  all_drafts = delete_drafts MOST_SPANS flat (loss_at flat range) ++ more_drafts
+  all_drafts = delete_drafts MOST_SPANS flat (loss_at (viewed flat own others) range) ++ more_drafts
 
   abbrev edited : Viewed
   edited = with_range_replaced (viewed flat own others) range pieces rest
@@ -175,30 +182,46 @@ module _ (flat : Flat) (own : Own) (others : List Own) (range : Range) (place : 
   document_left : IsDocument left.doc.site left.doc.log left.doc
   document_left = rest_document flat own others range i.history i.document i.real i.fits
 
-  within : place < length (text_of left.doc.cells)
-  within = omega (arith, i.at, rest_some flat own others range i.history i.document i.real i.fits)
+  pub left_is : IsPlace left.doc left.own left.others place
+  left_is = record {
+    history = history_left;
+    document = document_left;
+    real = rest_real flat own others range i.history i.document i.real i.fits;
+    within = omega (arith, i.at, rest_shown flat own others range i.history i.document i.real i.fits);
+  }
+
+  -- the place of the text that the deletion leaves
+  abbrev pub point : ℕ
+  point = in_text left place
+
+  pub point_is : begin_of (viewed flat own others) + place ≡ point
+  point_is = ap (λ n. n + place) (sym (rest_begin flat own others range i.history i.document i.real i.fits))
+
+  pub point_within : point < length (text_of flat.cells)
+  point_within =
+      omega (arith, at_text left.doc left.own left.others place left_is, deletion_length flat own.limits (range ∷ []), left_small (loss_at (viewed flat own others) range).places (length (text_of flat.cells)))
 
   pub replaced_is : edited ≡ record {
     doc = logged left.doc more_drafts more_flat;
-    own = record (own_inserted place (length more_new.cells) left.own) { sel = more_new.sel };
-    others = with_selections more_new.others (map (own_inserted place (length more_new.cells)) left.others);
+    own = record (own_inserted point (length more_new.cells) left.own) { sel = more_new.sel };
+    others = with_selections more_new.others (map (own_inserted point (length more_new.cells)) left.others);
   }
   replaced_is = ap (λ p. with_pieces_at left p pieces rest) (sym i.at) ∙ put_made left.doc left.own left.others place pieces rest
 
   pub all_may : MayBeMade flat.site flat.log all_drafts
-  all_may = both_may flat own others range i.history i.document i.real i.fits more_drafts (may_make left.doc left.own left.others place pieces rest history_left document_left within i.texts i.utf8)
+  all_may = both_may flat own others range i.history i.document i.real i.fits more_drafts (may_make left.doc left.own left.others place pieces rest left_is i.texts i.utf8)
 
   pub all_refused : refusal_of flat.limit all_drafts flat.log ≡ first_of (late_checks flat edited)
   all_refused =
       both_refused flat own others range i.history i.document i.real i.fits more_drafts
-      ∙ refused_as left.doc left.own left.others place pieces rest history_left document_left
+      ∙ refused_as left.doc left.own left.others place pieces rest left_is
       ∙ (λ k. first_of (clock_check (with_pieces_at left (i.at k) pieces rest).doc.count
       ∷ cell_check (rest_limit flat own others range i.history i.document i.real i.fits k) (length (with_pieces_at left (i.at k) pieces rest).doc.cells) ∷ []))
 
   -- where nothing is refused there is room for all
   pub both_room : refusal_of flat.limit all_drafts flat.log ≡ None → (more_new.count ≤ GREATEST_COUNT) × (length left.doc.cells + length more_new.cells ≤ flat.limit)
   both_room none =
-      let fit = all_fit left.doc left.own left.others place pieces rest history_left document_left (sym (both_refused flat own others range i.history i.document i.real i.fits more_drafts) ∙ none) in
+      let fit = all_fit left.doc left.own left.others place pieces rest left_is (sym (both_refused flat own others range i.history i.document i.real i.fits more_drafts) ∙ none) in
       (fit.0, omega (arith, fit.1, rest_limit flat own others range i.history i.document i.real i.fits))
 
   -- and the marks can move for the characters
@@ -216,31 +239,31 @@ module _ (flat : Flat) (own : Own) (others : List Own) (range : Range) (place : 
 
   pub given_names : (plan : Plan) → Plans plan left.own.sel (selections_of left.others) left.doc.tags more_new → IsDoc flat.cells flat.marks flat.tags → All (λ w. IsName (string_bytes w)) plan.names.items
   given_names plan plans kept =
-      names_given left.doc left.own left.others place pieces rest history_left document_left plan plans i.texts (rest_listed flat own others range i.history i.document i.real i.fits kept.listed)
+      names_given left.doc left.own left.others place pieces rest left_is plan plans i.texts (rest_listed flat own others range i.history i.document i.real i.fits kept.listed)
 
   -- what the replica has then made
   pub replacement_seen : (new : ReplicaValue) → refusal_of flat.limit all_drafts flat.log ≡ None → new.log ≡ with_drafts flat.site all_drafts flat.log → new.cells ≡ cells_of new.log → new.site ≡ flat.site → new.limit ≡ flat.limit
       → seen new more_flat.marks more_flat.tags ≡ logged left.doc more_drafts more_flat
   replacement_seen new none log cells site limit =
-      let made = made_is left.doc left.own left.others place pieces rest history_left document_left (rest_real flat own others range i.history i.document i.real i.fits) within i.texts i.utf8 (both_room none).0 in
+      let made = made_is left.doc left.own left.others place pieces rest left_is i.texts i.utf8 (both_room none).0 in
       seen_made left.doc more_flat more_drafts new (log ∙ both_logged flat own others range i.history i.document i.real i.fits more_drafts) cells
       (site ∙ sym (rest_site flat own others range i.history i.document i.real i.fits)) (limit ∙ sym (rest_limit flat own others range i.history i.document i.real i.fits)) refl made
 
   pub kept_after : IsDoc flat.cells flat.marks flat.tags → IsDoc more_flat.cells more_flat.marks more_flat.tags
-  kept_after kept = kept_made left.doc left.own left.others place pieces rest history_left document_left i.texts (rest_kept flat own others range i.history i.document i.real i.fits kept)
+  kept_after kept = kept_made left.doc left.own left.others place pieces rest left_is i.texts (rest_kept flat own others range i.history i.document i.real i.fits kept)
 
   pub own_after : IsDoc flat.cells flat.marks flat.tags → IsOwnOf (length (text_of flat.cells)) own
-      → IsOwnOf (length (text_of more_flat.cells)) (record (own_inserted place (length more_new.cells) left.own) { sel = more_new.sel })
+      → IsOwnOf (length (text_of more_flat.cells)) (record (own_inserted point (length more_new.cells) left.own) { sel = more_new.sel })
   own_after kept is =
-      own_made left.doc left.own left.others place pieces rest history_left document_left i.texts (rest_listed flat own others range i.history i.document i.real i.fits kept.listed) (own_left_in is)
+      own_made left.doc left.own left.others place pieces rest left_is i.texts (rest_listed flat own others range i.history i.document i.real i.fits kept.listed) (own_left_in is)
 
   pub others_after : IsDoc flat.cells flat.marks flat.tags → AllByRecursion (IsOwnOf (length (text_of flat.cells))) others
-      → AllByRecursion (IsOwnOf (length (text_of more_flat.cells))) (with_selections more_new.others (map (own_inserted place (length more_new.cells)) left.others))
+      → AllByRecursion (IsOwnOf (length (text_of more_flat.cells))) (with_selections more_new.others (map (own_inserted point (length more_new.cells)) left.others))
   others_after kept h =
-      others_made left.doc left.own left.others place pieces rest history_left document_left i.texts (rest_listed flat own others range i.history i.document i.real i.fits kept.listed) (others_left_in h)
+      others_made left.doc left.own left.others place pieces rest left_is i.texts (rest_listed flat own others range i.history i.document i.real i.fits kept.listed) (others_left_in h)
 
   pub tags_left_are : left.doc.tags ≡ flat.tags
   tags_left_are = rest_tags flat own others range i.history i.document i.real i.fits
 
-  pub marks_left_are : left.doc.marks ≡ marks_left (loss_at flat range).places flat.marks
+  pub marks_left_are : left.doc.marks ≡ marks_left (loss_at (viewed flat own others) range).places flat.marks
   marks_left_are = rest_marks flat own others range i.history i.document i.real i.fits

@@ -1,55 +1,61 @@
 -- What the deletion of a replacement leaves, as its insertion finds it.
-use Rattle.std.proofs.Common.{◌≡◌, ◌∙◌, ℕ, zero, suc, ◌+◌, ◌-◌, ◌<◌, ◌≤◌, ◌||◌, ◌++◌, Bool, true, false, cond, not, All, List, [], ◌∷◌, length, map, min, Option, None, Some, refl, sym, ap, arith, subst, nat_lt, nat_le}
-use Rattle.std.specs.Prelude.{IfSome, is_some, option_map, option_and_then, slice_get, unwrap_or}
-use Rattle.std.specs.List.{AllByRecursion}
-use Rattle.std.proofs.lemmas.Bool.{and_from, and_parts, or_from, or_left}
+use Rattle.std.proofs.Common.{◌≡◌, ◌∙◌, ℕ, zero, suc, ◌+◌, ◌-◌, ◌<◌, ◌≤◌, ◌&&◌, ◌||◌, ◌++◌, ◌⊎◌, inl, inr, Bool, true, false, cond, not, All, List, [], ◌∷◌, length, map, min, take, drop, Option, None, Some, refl, sym, ap, arith, subst, nat_lt, nat_le, get_or}
+use Rattle.std.specs.Prelude.{IfSome, is_some, nat_eq, option_map, option_and_then, slice_get, unwrap_or}
+use Rattle.std.specs.List.{AllByRecursion, IsDistinct}
+use Rattle.std.proofs.lemmas.Bool.{and_from, and_parts, or_from, or_left, or_right}
 use Rattle.std.proofs.lemmas.Bool.Decides.{nat_tests}
-use Rattle.std.proofs.lemmas.List.{length-append}
 use Rattle.std.proofs.lemmas.List.Elements.{filter-append}
-use Rattle.std.proofs.Math.Seq.{get_or-append_seam}
+use Rattle.std.proofs.lemmas.Option.{get_or_from_slice_get, slice_get_cases, slice_get_within}
 use Rattle.rt_marks.specs.Marks.{place_left}
-use Rattle.rt_stamps.specs.declared.limits.TheConstants.{MOST_CHARACTERS, MOST_SPANS}
+use Rattle.rt_stamps.specs.declared.limits.TheConstants.{GREATEST_COUNT, MOST_CHARACTERS, MOST_SPANS}
 use Rattle.rt_stamps.specs.declared.stamp.Stamp.{Stamp}
 use Rattle.rt_stamps.specs.declared.stamp.TheConstants.{FINAL, ROOT}
 use Rattle.rt_stamps.specs.Stamps.{is_same}
 use Rattle.rt_stamps.specs.Words.{Word}
-use Rattle.rt_stamps.proofs.Order.{same_sym}
+use Rattle.rt_stamps.proofs.Order.{same_refl, same_sym}
 use Rattle.rt_oplog.specs.Operations.{Body, Delete, last_of}
-use Rattle.rt_store.specs.Cells.{AreDistinct, stamps_of, text_of, visible_of}
+use Rattle.rt_store.specs.Cells.{AreDistinct, stamps_of, visible_of}
 use Rattle.rt_store.specs.Shown.{TaggedCell}
 use Rattle.rt_store.specs.Spans.{is_among}
 use Rattle.rt_store.specs.Written.{IsWritten}
-use Rattle.rt_store.proofs.Distinct.{split}
+use Rattle.rt_store.proofs.Distinct.{first_apart, others_distinct, split}
 use Rattle.rt_tags.specs.States.{IsByName, names_on}
-use Rattle.rt_rga.specs.Cells.{cell_in, writes_on}
-use Rattle.rt_rga.specs.Histories.{IsHistory, final_character, greatest_last_count}
+use Rattle.rt_rga.specs.Cells.{writes_on}
+use Rattle.rt_rga.specs.Histories.{IsHistory, greatest_last_count}
 use Rattle.rt_rga.specs.Requests.{last_count_after}
 use Rattle.rt_rga.proofs.Corollaries.{all_states, cells_distinct}
-use Rattle.rt_rga.proofs.Final.{cells_last}
 use Rattle.rt_rga.proofs.Requests.{all_count_on}
 use Rattle.rt_rga.proofs.Writes.{state_sorted}
 use Rattle.rt_edits.specs.declared.range.Range.{Range}
-use Rattle.rt_edits.specs.Deletions.{Loss, delete_drafts, loss_in, newline_of, without_places, without_text}
-use Rattle.rt_edits.specs.DraftLaws.{IsDocument, SparesLast}
+use Rattle.rt_edits.specs.Deletions.{Loss, delete_drafts, newline_of, without_places, without_text}
+use Rattle.rt_edits.specs.DraftLaws.{IsDocument}
 use Rattle.rt_edits.specs.Flat.{Flat, left_of}
-use Rattle.rt_edits.specs.Insertions.{Insertion, Piece, insertion_of, left_neighbour, right_neighbour}
+use Rattle.rt_edits.specs.Insertions.{Insertion, Piece, insertion_of, left_neighbour, right_neighbour, with_pieces}
 use Rattle.rt_edits.specs.InsertionDrafts.{insertion_drafts}
 use Rattle.rt_edits.specs.RemovalDrafts.{removal_drafts}
-use Rattle.rt_edits.specs.Removals.{gone_at, is_covered, is_in, is_removed}
+use Rattle.rt_edits.specs.Removals.{is_covered, is_in}
 use Rattle.rt_edits.specs.Selections.{unselected}
 use Rattle.rt_edits.specs.TagDrafts.{newline_drafts}
 use Rattle.rt_edits.specs.TagWrites.{bared}
-use Rattle.rt_edits.proofs.DeletionDraftLaws.{loss_counted, spares_last, stamps_gone, still_ends}
-use Rattle.rt_edits.proofs.NewlineDrafts.{EndsAs, document_ends, length_ends}
+use Rattle.rt_edits.proofs.DeletionDraftLaws.{loss_counted, stamps_gone}
 use Rattle.rt_edits.proofs.PieceDraftLaws.{apart_front}
-use Rattle.rt_text.specs.Commands.{without_ranges}
-use Rattle.rt_text.specs.Replacements.{drafts_at, insertion_at, loss_at, none_inserted}
-use Rattle.rt_text.specs.Widgets.{Own, Viewed, length_shown, selections_of}
+use Rattle.rt_views.specs.declared.limits.Limits.{Limits}
+use Rattle.rt_views.specs.declared.stretch.Stretch.{Stretch}
+use Rattle.rt_views.specs.Limits.{place_of}
+use Rattle.rt_views.specs.Stretches.{part}
+use Rattle.rt_text.specs.Commands.{none_inserted, right_behind, stretch_with}
+use Rattle.rt_text.specs.Neighbours.{are_newlines, are_sides_shown, pieces_text}
+use Rattle.rt_text.specs.Replacements.{drafts_at, insertion_at}
+use Rattle.rt_text.specs.Widgets.{Own, Viewed, in_text, last_newline, selections_of, shown_by}
 use Rattle.rt_text.proofs.BareNewline.{IsBare, all_bare, bare_drafts, bare_insertion}
-use Rattle.rt_text.proofs.Deletions.{deletion_length, deletion_rest, widget_left}
-use Rattle.rt_text.proofs.MarkLaws.{length_gone}
+use Rattle.rt_text.proofs.InsertedDocument.{drafts_are, new_is}
+use Rattle.rt_text.proofs.InsertedSides.{IsFound, IsPlace, IsRight, are_shown, document_below, left_there, right_is, right_there}
+use Rattle.rt_text.proofs.LeftDocument.{at_is, end_stays, is_place, last_place, left, loss, size, some, stretch, within}
+use Rattle.rt_text.proofs.LimitedDeletions.{widget_left}
 use Rattle.rt_text.proofs.MadeDocument.{document_written}
-use Rattle.rt_text.proofs.StayingPlaces.{left_small}
+use Rattle.rt_text.proofs.NewCells.{AreNew, none_new}
+use Rattle.rt_text.proofs.PutPlaces.{IsSeen, among_append, seen_at}
+use Rattle.rt_text.proofs.StayingPlaces.{left_small, stays_at}
 use Rattle.rt_text.proofs.ViewLaws.{viewed}
 
 -- COUNTS
@@ -99,32 +105,6 @@ left_all removed from (suc m) h f = split (nat_le from m)
     (λ e. let same : from ≡ suc m = grind (arith, nat_tests, h, e) in
     subst (λ n. place_left removed (suc m) ≤ n) (sym same) (left_small removed (suc m)))
 
-removed_in : (text : List ℕ) (range : Range) (p : ℕ) → p + 1 < length text → is_in range p ≡ true → is_removed text (range ∷ []) p ≡ true
-removed_in text range p h k = and_from (nat_lt (p + 1) (length text)) _ (grind (arith, nat_tests, h)) (or_left _ _ (or_left _ _ k))
-
--- a range that holds the last newline begins no earlier than this comes to stand
-pub held_last : (text : List ℕ) (range : Range) → is_some (loss_in text 0 (range ∷ [])).newline ≡ true → 0 < length text
-    → place_left (loss_in text 0 (range ∷ [])).places (length text - 1) ≤ range.from
-held_last text range h some =
-    let last = length text - 1 in
-    let within : is_in range last ≡ true = covered (is_in range last) (by (is_covered (range ∷ []) last) h) in
-    let p = and_parts (nat_le range.from last) (nat_lt last range.to) within in
-    let begun : range.from ≤ last = grind (arith, nat_tests, p.0) in
-    left_all (loss_in text 0 (range ∷ [])).places range.from last begun
-    (λ q a b.
-    let to : last < range.to = grind (arith, nat_tests, p.1) in
-    let here : is_in range q ≡ true = and_from (nat_le range.from q) (nat_lt q range.to) (grind (arith, nat_tests, a)) (grind (arith, nat_tests, b, to)) in
-    let start : q - 0 ≡ q = omega arith in
-    and_from (nat_le 0 q) _ (grind (arith, nat_tests)) (ap (is_removed text (range ∷ [])) start ∙ removed_in text range q (omega (arith, b, some)) here))
-  where
-    by : (b : Bool) → is_some (cond b (Some (0 + (length text - 1))) None) ≡ true → b ≡ true
-    by true k = refl
-    by false k = absurd (cc k)
-
-    covered : (b : Bool) → (b || false) ≡ true → b ≡ true
-    covered true k = refl
-    covered false k = absurd (cc k)
-
 -- NEIGHBOURS
 
 slice_front : {X : Type 0} (xs ys : List X) (q : ℕ) → q < length xs → slice_get (xs ++ ys) q ≡ slice_get xs q
@@ -136,32 +116,49 @@ slice_seam : {X : Type 0} (xs : List X) (y : X) (ys : List X) → slice_get (xs 
 slice_seam [] y ys = refl
 slice_seam (x ∷ xs) y ys = slice_seam xs y ys
 
-left_front : (xs : List TaggedCell) (x : TaggedCell) (p : ℕ) → p ≤ length xs → left_neighbour (xs ++ x ∷ []) p ≡ left_neighbour xs p
-left_front xs x zero h = refl
-left_front xs x (suc q) h = slice_front xs (x ∷ []) q (omega (arith, h))
+left_front : (xs ys : List TaggedCell) (p : ℕ) → p ≤ length xs → left_neighbour (xs ++ ys) p ≡ left_neighbour xs p
+left_front xs ys zero h = refl
+left_front xs ys (suc q) h = slice_front xs ys q (omega (arith, h))
 
-visible_end : (front : List TaggedCell) (last : TaggedCell) → last.gone ≡ false → visible_of (front ++ last ∷ []) ≡ visible_of front ++ last ∷ []
-visible_end front last g = filter-append (λ (c : TaggedCell). not c.gone) front (last ∷ []) ∙ ap (λ b. visible_of front ++ cond (not b) (last ∷ []) []) g
+visible_middle : (front : List TaggedCell) (cell : TaggedCell) (rest : List TaggedCell) → cell.gone ≡ false → visible_of (front ++ cell ∷ rest) ≡ visible_of front ++ cell ∷ visible_of rest
+visible_middle front cell rest g = filter-append (λ (c : TaggedCell). not c.gone) front (cell ∷ rest) ∙ ap (λ b. visible_of front ++ cond (not b) (cell ∷ visible_of rest) (visible_of rest)) g
+
+split_at : {X : Type 0} (xs : List X) (n : ℕ) (x : X) → slice_get xs n ≡ Some x → xs ≡ take n xs ++ x ∷ drop (suc n) xs
+split_at [] n x h = let bad : ⊥ = cc in absurd bad
+split_at (y ∷ ys) zero x h = let e : y ≡ x = cc in ap (λ z. z ∷ ys) e
+split_at (y ∷ ys) (suc n) x h = ap (λ l. y ∷ l) (split_at ys n x h)
+
+apart_rest : (front : List TaggedCell) (x : TaggedCell) (rest : List TaggedCell) → AreDistinct (front ++ x ∷ rest) → is_among (stamps_of rest) x.stamp ≡ false
+apart_rest [] x rest d = first_apart x.stamp (stamps_of rest) d
+apart_rest (y ∷ ys) x rest d = apart_rest ys x rest (others_distinct y.stamp (stamps_of (ys ++ x ∷ rest)) d)
 
 -- the element behind which text goes, by the left neighbour
 pub element_left : (cells : List TaggedCell) (p : ℕ) → left_of cells p ≡ unwrap_or (option_map (λ cell. cell.stamp) (left_neighbour (visible_of cells) p)) ROOT
 element_left cells zero = refl
 element_left cells (suc p) = refl
 
+-- the left neighbour that is shown, by that of the text
+left_side : (flat : Flat) (own : Own) (others : List Own) (place : ℕ) (before : Option TaggedCell) → IsPlace flat own others place → before ≡ left_neighbour (visible_of flat.cells) (in_text (viewed flat own others) place)
+    → cond (nat_eq place 0) None before ≡ left_neighbour (shown_by (viewed flat own others)) place
+left_side flat own others zero before is e = refl
+left_side flat own others (suc p) before is e =
+    let later : nat_eq (suc p) 0 ≡ false = grind (arith, nat_tests) in
+    ap (λ b. cond b None before) later ∙ e ∙ sym (left_there flat own others (suc p) is)
+
 -- SELECTIONS
 
-none_kept : (sel : List Stamp) → is_among (unselected (FINAL ∷ []) sel) FINAL ≡ false
-none_kept [] = refl
-none_kept (s ∷ sel) = by (is_same FINAL s) refl (none_kept sel)
+none_kept : (stamp : Stamp) (sel : List Stamp) → is_among (unselected (stamp ∷ []) sel) stamp ≡ false
+none_kept stamp [] = refl
+none_kept stamp (s ∷ sel) = by (is_same stamp s) refl (none_kept stamp sel)
   where
-    by : (b : Bool) → is_same FINAL s ≡ b → is_among (unselected (FINAL ∷ []) sel) FINAL ≡ false
-        → is_among (cond (not (b || false)) (s ∷ unselected (FINAL ∷ []) sel) (unselected (FINAL ∷ []) sel)) FINAL ≡ false
+    by : (b : Bool) → is_same stamp s ≡ b → is_among (unselected (stamp ∷ []) sel) stamp ≡ false
+        → is_among (cond (not (b || false)) (s ∷ unselected (stamp ∷ []) sel) (unselected (stamp ∷ []) sel)) stamp ≡ false
     by true e rest = rest
-    by false e rest = or_from (is_same s FINAL) _ (same_sym s FINAL ∙ e) rest
+    by false e rest = or_from (is_same s stamp) _ (same_sym s stamp ∙ e) rest
 
-none_each : (removed : ℕ → Bool) (others : List Own) → AllByRecursion (λ selection. is_among selection FINAL ≡ false) (selections_of (map (widget_left removed true) others))
-none_each removed [] = tt
-none_each removed (own ∷ others) = (none_kept own.sel, none_each removed others)
+none_each : (removed : ℕ → Bool) (stamp : Stamp) (others : List Own) → AllByRecursion (λ selection. is_among selection stamp ≡ false) (selections_of (map (widget_left removed stamp true) others))
+none_each removed stamp [] = tt
+none_each removed stamp (own ∷ others) = (none_kept stamp own.sel, none_each removed stamp others)
 
 pub of_any : {X : Type 0} (o : Option X) (P : Type 0) → P → IfSome o (λ x. P)
 of_any None P h = tt
@@ -169,161 +166,227 @@ of_any (Some x) P h = h
 
 -- WHAT THE DELETION LEAVES
 
-module _ (flat : Flat) (own : Own) (others : List Own) (range : Range) where
-  abbrev loss : Loss
-  loss = loss_at flat range
+-- both sides of a place behind pieces are shown, by the cells that are left
+abbrev pub shown_in : List TaggedCell → Limits → ℕ → List Piece → Bool
+shown_in cells limits at pieces =
+    not (are_newlines cells limits) || are_sides_shown (option_and_then (place_of cells) limits.start) (option_and_then (place_of cells) limits.end) at (pieces_text pieces)
+
+module _ (flat : Flat) (own : Own) (others : List Own) (range : Range) (h : IsHistory flat.log) (doc : IsDocument flat.site flat.log flat) where
+  abbrev lost : Loss
+  lost = loss flat own others range h doc
+
+  abbrev shows : Stretch
+  shows = stretch flat own others range h doc
+
+  abbrev after_all : Viewed
+  after_all = left flat own others range h doc
+
+  abbrev end_place : ℕ
+  end_place = last_place flat own others range h doc
 
   abbrev pub gone : Flat
-  gone = without_places flat loss.places
+  gone = without_places flat lost.places
 
-  abbrev pub left : Viewed
-  left = without_ranges (viewed flat own others) (range ∷ [])
+  abbrev shown_text : List ℕ
+  shown_text = map (λ cell. cell.ch) (part shows (visible_of flat.cells))
+
+  -- a range that holds the last newline begins no earlier than this comes to stand
+  held_last : is_some lost.newline ≡ true → end_place ≤ shows.begin + range.from
+  held_last e =
+      let last = length shown_text - 1 in
+      let n = size flat own others range h doc in
+      let one = some flat own others range h doc in
+      let inside : is_in range last ≡ true = covered (is_in range last) (by (is_covered (range ∷ []) last) e) in
+      let p = and_parts (nat_le range.from last) (nat_lt last range.to) inside in
+      let begun : range.from ≤ last = grind (arith, nat_tests, p.0) in
+      let to : last < range.to = grind (arith, nat_tests, p.1) in
+      left_all lost.places (shows.begin + range.from) (shows.end - 1) (omega (arith, begun, n, one))
+      (λ q a b.
+      let low : nat_le shows.begin q ≡ true = le shows.begin q (omega (arith, a)) in
+      let less : nat_lt (q - shows.begin + 1) (length shown_text) ≡ true = lt (q - shows.begin + 1) (length shown_text) (omega (arith, a, b, n, one)) in
+      let here : is_in range (q - shows.begin) ≡ true =
+      and_from (nat_le range.from (q - shows.begin)) (nat_lt (q - shows.begin) range.to) (le range.from (q - shows.begin) (omega (arith, a))) (lt (q - shows.begin) range.to (omega (arith, a, b, n, one, to))) in
+      and_from (nat_le shows.begin q) _ low (and_from (nat_lt (q - shows.begin + 1) (length shown_text)) _ less (or_left _ _ (or_left _ _ here))))
+    where
+      le : (a b : ℕ) → a ≤ b → nat_le a b ≡ true
+      le a b l = grind (arith, nat_tests, l)
+
+      lt : (a b : ℕ) → a < b → nat_lt a b ≡ true
+      lt a b l = grind (arith, nat_tests, l)
+
+      by : (b : Bool) → is_some (cond b (Some (shows.begin + (length shown_text - 1))) None) ≡ true → b ≡ true
+      by true k = refl
+      by false k = absurd (cc k)
+
+      covered : (b : Bool) → (b || false) ≡ true → b ≡ true
+      covered true k = refl
+      covered false k = absurd (cc k)
 
   -- where the last newline isn't held, the removal alone
-  left_plain : is_some loss.newline ≡ false → without_text flat loss ≡ gone
-  left_plain e = by loss.newline e
+  left_plain : is_some lost.newline ≡ false → without_text flat lost ≡ gone
+  left_plain e = by lost.newline e
     where
       by : (o : Option ℕ) → is_some o ≡ false → unwrap_or (option_map (λ (cell : TaggedCell). bared gone cell.stamp (names_on cell.state)) (option_and_then (slice_get (visible_of flat.cells)) o)) gone ≡ gone
       by None k = refl
       by (Some p) k = absurd (cc k)
 
-  pub sel_kept : is_some loss.newline ≡ false → left.own.sel ≡ own.sel
-  sel_kept e = ap (λ b. cond b (unselected (FINAL ∷ []) own.sel) own.sel) e
+  pub sel_kept : is_some lost.newline ≡ false → after_all.own.sel ≡ own.sel
+  sel_kept e = ap (λ b. cond b (unselected (last_newline (viewed flat own others) ∷ []) own.sel) own.sel) e
 
   -- the insertion, by neighbours
   abbrev inserting : List Piece → Word → Option TaggedCell → Option TaggedCell → Insertion
-  inserting pieces rest l r = insertion_of left.doc.site l r pieces rest (none_inserted left)
+  inserting pieces rest l r = insertion_of after_all.doc.site l r pieces rest (none_inserted after_all)
 
-  abbrev drafting : List Piece → Word → Option TaggedCell → Option TaggedCell → List Body
-  drafting pieces rest l r = insertion_drafts MOST_CHARACTERS left.doc.site (unwrap_or (option_map (λ (cell : TaggedCell). cell.stamp) l) ROOT) l r pieces rest (none_inserted left)
+  abbrev drafting : List Piece → Word → Stamp → Option TaggedCell → Option TaggedCell → List Body
+  drafting pieces rest after l r = insertion_drafts MOST_CHARACTERS after_all.doc.site after l r pieces rest (none_inserted after_all)
 
-  -- the same insertion, and the same operations, as between two neighbours
-  pub record IsBetween (pieces : List Piece) (rest : Word) (place : ℕ) (l r : Option TaggedCell) : Type 0 where
-    pub insertion : inserting pieces rest l r ≡ insertion_at left place pieces rest
-    pub drafts : drafting pieces rest l r ≡ drafts_at left place pieces rest
+  -- the same insertion, and the same operations, as at a place
+  pub record IsBetween (pieces : List Piece) (rest : Word) (place : ℕ) (after : Stamp) (l r : Option TaggedCell) : Type 0 where
+    pub insertion : inserting pieces rest l r ≡ insertion_at after_all place pieces rest
+    pub drafts : drafting pieces rest after l r ≡ drafts_at after_all place pieces rest
 
-  -- by the neighbours that the deletion leaves
-  between_by : (pieces : List Piece) (rest : Word) (place : ℕ) (l r : Option TaggedCell) → l ≡ left_neighbour (visible_of left.doc.cells) place → r ≡ right_neighbour (visible_of left.doc.cells) place
-      → IsBetween pieces rest place l r
-  between_by pieces rest place l r e f = record {
-    insertion = λ i. inserting pieces rest (e i) (f i);
-    drafts = (λ i. drafting pieces rest (e i) (f i))
-        ∙ ap (λ s. insertion_drafts MOST_CHARACTERS left.doc.site s (left_neighbour (visible_of left.doc.cells) place) (right_neighbour (visible_of left.doc.cells) place) pieces rest (none_inserted left))
-        (sym (element_left left.doc.cells place));
-  }
+  module _ (real : 0 < flat.site) (fits : (without_text flat lost).count ≤ GREATEST_COUNT) (pieces : List Piece) (rest : Word) (at : ℕ) (here : at ≡ min (shows.begin + range.from) end_place) where
+    abbrev place : ℕ
+    place = at - shows.begin
 
-  between_plain : (pieces : List Piece) (rest : Word) (place : ℕ) (l r : Option TaggedCell) → is_some loss.newline ≡ false → l ≡ left_neighbour (visible_of gone.cells) place
-      → r ≡ right_neighbour (visible_of gone.cells) place → IsBetween pieces rest place l r
-  between_plain pieces rest place l r e a b =
-      let same : gone.cells ≡ left.doc.cells = ap (λ (f : Flat). f.cells) (sym (left_plain e)) in
-      between_by pieces rest place l r (a ∙ ap (λ (cells : List TaggedCell). left_neighbour (visible_of cells) place) same) (b ∙ ap (λ (cells : List TaggedCell). right_neighbour (visible_of cells) place) same)
+    is : IsPlace after_all.doc after_all.own after_all.others place
+    is = is_place flat own others range h doc at here real fits
 
-  module _ (h : IsHistory flat.log) (doc : IsDocument flat.site flat.log flat) where
-    spared : SparesLast loss.places (text_of flat.cells)
-    spared = spares_last (text_of flat.cells) (text_of flat.cells) 0 (range ∷ []) (omega arith)
+    in_left : in_text after_all place ≡ at
+    in_left = at_is flat own others range h doc at here
 
-    abbrev front : List TaggedCell
-    front = (cells_last flat.log h).0
+    between_plain : (before : Option TaggedCell) (after : Stamp) (l r : Option TaggedCell) → is_some lost.newline ≡ false → before ≡ left_neighbour (visible_of gone.cells) at → l ≡ cond (nat_eq place 0) None before
+        → after ≡ unwrap_or (option_map (λ cell. cell.stamp) before) ROOT → r ≡ cond (shown_in gone.cells own.limits at pieces) (right_neighbour (visible_of gone.cells) at) None → IsBetween pieces rest place after l r
+    between_plain before after l r e a b c d =
+        let same : gone.cells ≡ after_all.doc.cells = ap (λ (f : Flat). f.cells) (sym (left_plain e)) in
+        let near : before ≡ left_neighbour (visible_of after_all.doc.cells) (in_text after_all place) = a ∙ (λ i. left_neighbour (visible_of (same i)) (sym in_left i)) in
+        let next : r ≡ cond (are_shown after_all.doc after_all.own.limits (in_text after_all place) pieces) (right_neighbour (shown_by after_all) place) None =
+        d ∙ (λ i. cond (shown_in (same i) own.limits (sym in_left i) pieces) (slice_get (visible_of (same i)) (sym in_left i)) None)
+        ∙ ap (λ o. cond (are_shown after_all.doc after_all.own.limits (in_text after_all place) pieces) o None) (sym (right_there after_all.doc after_all.own after_all.others place is)) in
+        let found : IsFound after_all.doc after_all.own after_all.others place pieces at after l r = record {
+          here = sym in_left;
+          element = c ∙ ap (λ o. unwrap_or (option_map (λ (cell : TaggedCell). cell.stamp) o) ROOT) near ∙ sym (element_left after_all.doc.cells (in_text after_all place));
+          before = b ∙ left_side after_all.doc after_all.own after_all.others place before is near;
+          next = subst (IsRight after_all.doc after_all.own after_all.others place pieces) (sym next) (right_is after_all.doc after_all.own after_all.others place pieces is);
+        } in
+        record {
+          insertion = new_is after_all.doc after_all.own after_all.others place pieces rest after_all.doc.site after_all.doc.count after_all.own.sel at after l r refl refl refl found;
+          drafts = drafts_are after_all.doc after_all.own after_all.others place pieces rest after_all.doc.site after_all.doc.count after_all.own.sel at after l r refl refl refl found (drafting pieces rest after l r) refl;
+        }
 
-    abbrev last : TaggedCell
-    last = cell_in flat.log final_character
+    -- THE LAST NEWLINE, WHERE IT IS HELD
 
-    ends : EndsAs flat front last
-    ends = document_ends flat.site flat.log flat h doc
+    abbrev newest : Stamp
+    newest = last_newline (viewed flat own others)
 
-    abbrev front_left : List TaggedCell
-    front_left = gone_at loss.places 0 front
-
-    ends_left : EndsAs gone front_left last
-    ends_left = still_ends flat loss.places front last ends spared
-
-    pub some_text : 0 < length (text_of flat.cells)
-    some_text = omega (arith, length_ends flat front last ends)
-
-    of_last : (P : TaggedCell → Type 0) → All P flat.cells → P last
-    of_last P all =
-        let here : All P (front ++ last ∷ []) = subst (All P) ends.is all in
-        subst P (get_or-append_seam front last [] last) (here (length front) last (omega (arith, length-append front (last ∷ []))))
-
-    newline_is : is_some loss.newline ≡ true → newline_of flat loss ≡ Some last
-    newline_is e = by (is_covered (range ∷ []) (length (text_of flat.cells) - 1)) e ∙ at
+    last_cell : (cell : TaggedCell) × (slice_get (visible_of flat.cells) (shows.end - 1) ≡ Some cell)
+    last_cell = by (slice_get_cases (visible_of flat.cells) (shows.end - 1)).1
       where
-        by : (b : Bool) → is_some (cond b (Some (0 + (length (text_of flat.cells) - 1))) None) ≡ true
-            → option_and_then (slice_get (visible_of flat.cells)) (cond b (Some (0 + (length (text_of flat.cells) - 1))) None) ≡ slice_get (visible_of flat.cells) (0 + (length (text_of flat.cells) - 1))
+        by : ((x : TaggedCell) × (shows.end - 1 < length (visible_of flat.cells)) × (slice_get (visible_of flat.cells) (shows.end - 1) ≡ Some x) × (get_or (visible_of flat.cells) (shows.end - 1) x ≡ x))
+            ⊎ ((length (visible_of flat.cells) ≤ shows.end - 1) × (slice_get (visible_of flat.cells) (shows.end - 1) ≡ None)) → (cell : TaggedCell) × (slice_get (visible_of flat.cells) (shows.end - 1) ≡ Some cell)
+        by (inl w) = (w.0, w.2)
+        by (inr w) = absurd (omega (arith, w.0, within flat own others range h doc, some flat own others range h doc))
+
+    newest_is : newest ≡ last_cell.0.stamp
+    newest_is = ap (λ o. unwrap_or (option_map (λ (c : TaggedCell). c.stamp) o) FINAL) last_cell.1
+
+    left_held : is_some lost.newline ≡ true → without_text flat lost ≡ bared gone last_cell.0.stamp (names_on last_cell.0.state)
+    left_held e =
+        ap (λ o. unwrap_or (option_map (λ (cell : TaggedCell). bared gone cell.stamp (names_on cell.state)) o) gone) (by (is_covered (range ∷ []) (length shown_text - 1)) e ∙ there)
+      where
+        by : (b : Bool) → is_some (cond b (Some (shows.begin + (length shown_text - 1))) None) ≡ true
+            → option_and_then (slice_get (visible_of flat.cells)) (cond b (Some (shows.begin + (length shown_text - 1))) None) ≡ slice_get (visible_of flat.cells) (shows.begin + (length shown_text - 1))
         by true k = refl
         by false k = absurd (cc k)
 
-        at : slice_get (visible_of flat.cells) (0 + (length (text_of flat.cells) - 1)) ≡ Some last
-        at =
-            let n : 0 + (length (text_of flat.cells) - 1) ≡ length (visible_of front) = omega (arith, length_ends flat front last ends) in
-            ap (slice_get (visible_of flat.cells)) n ∙ ap (λ (cells : List TaggedCell). slice_get (visible_of cells) (length (visible_of front))) ends.is
-            ∙ ap (λ l. slice_get l (length (visible_of front))) (visible_end front last ends.gone) ∙ slice_seam (visible_of front) last []
+        there : slice_get (visible_of flat.cells) (shows.begin + (length shown_text - 1)) ≡ Some last_cell.0
+        there =
+            let n : shows.begin + (length shown_text - 1) ≡ shows.end - 1 = omega (arith, size flat own others range h doc, some flat own others range h doc) in
+            ap (slice_get (visible_of flat.cells)) n ∙ last_cell.1
 
-    left_held : is_some loss.newline ≡ true → without_text flat loss ≡ bared gone FINAL (names_on last.state)
-    left_held e =
-        ap (λ o. unwrap_or (option_map (λ (cell : TaggedCell). bared gone cell.stamp (names_on cell.state)) o) gone) (newline_is e)
-        ∙ ap (λ s. bared gone s (names_on last.state)) ends.stamp
+    seen_left : IsSeen gone.cells end_place last_cell.0
+    seen_left = seen_at gone.cells end_place last_cell.0 (stays_at lost.places flat.cells (shows.end - 1) end_place (end_stays flat own others range h doc) refl ∙ last_cell.1)
 
-    bare : (new : TaggedCell) × IsBare front_left (bared gone FINAL (names_on last.state)).cells new
+    split_left : gone.cells ≡ take seen_left.position gone.cells ++ last_cell.0 ∷ drop (suc seen_left.position) gone.cells
+    split_left = split_at gone.cells seen_left.position last_cell.0 seen_left.is
+
+    of_last : (P : TaggedCell → Type 0) → All P flat.cells → P last_cell.0
+    of_last P all =
+        let s = seen_at flat.cells (shows.end - 1) last_cell.0 last_cell.1 in
+        subst P (get_or_from_slice_get flat.cells s.position last_cell.0 last_cell.0 s.is) (all s.position last_cell.0 (slice_get_within flat.cells s.position last_cell.0 s.is))
+
+    bare : (new : TaggedCell) × IsBare (take seen_left.position gone.cells) last_cell.0 (drop (suc seen_left.position) gone.cells) (bared gone last_cell.0.stamp (names_on last_cell.0.state)).cells new
     bare =
-        let distinct : AreDistinct (front ++ last ∷ []) = subst AreDistinct (sym doc.cells ∙ ends.is) (cells_distinct flat.log h) in
-        let apart : is_among (stamps_of front_left) FINAL ≡ false =
-        ap (λ l. is_among l FINAL) (stamps_gone loss.places 0 front) ∙ ap (is_among (stamps_of front)) (sym ends.stamp) ∙ apart_front front last [] distinct in
-        let was : IsWritten flat.count last.state = of_last (λ c. IsWritten flat.count c.state) (document_written flat h doc) in
-        let known : IsWritten gone.count last.state = λ name w e. let l = was name w e in omega (arith, l) in
+        let first = take seen_left.position gone.cells in
+        let later = drop (suc seen_left.position) gone.cells in
+        let cell = last_cell.0 in
+        let all : AreDistinct flat.cells = subst AreDistinct (sym doc.cells) (cells_distinct flat.log h) in
+        let distinct : AreDistinct (first ++ cell ∷ later) = subst (IsDistinct is_same) (sym (stamps_gone lost.places 0 flat.cells) ∙ ap (λ (l : List TaggedCell). stamps_of l) split_left) all in
+        let was : IsWritten flat.count cell.state = of_last (λ c. IsWritten flat.count c.state) (document_written flat h doc) in
+        let known : IsWritten gone.count cell.state = λ name w e. let l = was name w e in omega (arith, l) in
         let sorted : All (λ (c : TaggedCell). IsByName c.state) flat.cells =
         subst (All (λ (c : TaggedCell). IsByName c.state)) (sym doc.cells) (all_states flat.log h IsByName (λ s. state_sorted [] (writes_on flat.log s) tt)) in
-        all_bare gone front_left last ends_left.is ends_left.stamp ends_left.gone apart known (of_last (λ c. IsByName c.state) sorted)
+        all_bare gone first cell later split_left (apart_front first cell later distinct) (apart_rest first cell later distinct) known (of_last (λ c. IsByName c.state) sorted)
 
-    between_bare : (pieces : List Piece) (rest : Word) (place : ℕ) (l r : Option TaggedCell) → is_some loss.newline ≡ true → 0 < flat.site → place ≡ length (visible_of front_left)
-        → l ≡ left_neighbour (visible_of gone.cells) place → r ≡ None → IsBetween pieces rest place l r
-    between_bare pieces rest place l r e real at a b =
+    -- whether the right neighbour is shown behind the pieces
+    abbrev flag : Bool
+    flag =
+        nat_lt (stretch_with after_all place pieces).begin (in_text after_all place + length (with_pieces after_all.doc.site pieces (none_inserted after_all)).cells)
+        && nat_lt (in_text after_all place + length (with_pieces after_all.doc.site pieces (none_inserted after_all)).cells) (stretch_with after_all place pieces).end
+
+    between_held : (before : Option TaggedCell) (after : Stamp) (l r : Option TaggedCell) → is_some lost.newline ≡ true → before ≡ left_neighbour (visible_of gone.cells) at → l ≡ cond (nat_eq place 0) None before
+        → after ≡ unwrap_or (option_map (λ cell. cell.stamp) before) ROOT → r ≡ None → IsBetween pieces rest place after l r
+    between_held before after l r e a b c d =
+        let first = take seen_left.position gone.cells in
+        let later = drop (suc seen_left.position) gone.cells in
+        let cell = last_cell.0 in
         let new = bare.0 in
-        let cells : left.doc.cells ≡ front_left ++ new ∷ [] = ap (λ (f : Flat). f.cells) (left_held e) ∙ bare.1.is in
-        let seen : visible_of left.doc.cells ≡ visible_of front_left ++ new ∷ [] = ap (λ (l : List TaggedCell). visible_of l) cells ∙ visible_end front_left new bare.1.gone in
-        let was : visible_of gone.cells ≡ visible_of front_left ++ last ∷ [] = ap (λ (l : List TaggedCell). visible_of l) ends_left.is ∙ visible_end front_left last ends_left.gone in
-        let few : place ≤ length (visible_of front_left) = omega (arith, at) in
-        let same_left : l ≡ left_neighbour (visible_of left.doc.cells) place =
-        a ∙ ap (λ v. left_neighbour v place) was ∙ left_front (visible_of front_left) last place few ∙ sym (ap (λ v. left_neighbour v place) seen ∙ left_front (visible_of front_left) new place few) in
-        let same_right : Some new ≡ right_neighbour (visible_of left.doc.cells) place =
-        sym (ap (λ v. slice_get v place) seen ∙ ap (slice_get (visible_of front_left ++ new ∷ [])) at ∙ slice_seam (visible_of front_left) new []) in
-        let whole = between_by pieces rest place l (Some new) same_left same_right in
-        let positive : 0 < left.doc.site = subst (λ n. 0 < n) (sym site_left) real in
-        let sel : is_among left.own.sel FINAL ≡ false = ap (λ b. is_among (cond b (unselected (FINAL ∷ []) own.sel) own.sel) FINAL) e ∙ none_kept own.sel in
-        let all : AllByRecursion (λ selection. is_among selection FINAL ≡ false) (selections_of left.others) =
-        subst (λ f. AllByRecursion (λ selection. is_among selection FINAL ≡ false) (selections_of (map (widget_left loss.places f) others))) (sym e) (none_each loss.places others) in
+        let low = held_last e in
+        let where_at : at ≡ end_place = omega (arith, here, low) in
+        let count : length (visible_of first) ≡ at = seen_left.before ∙ sym where_at in
+        let few : at ≤ length (visible_of first) = omega (arith, count) in
+        let cells : after_all.doc.cells ≡ first ++ new ∷ later = ap (λ (f : Flat). f.cells) (left_held e) ∙ bare.1.is in
+        let seen : visible_of after_all.doc.cells ≡ visible_of first ++ new ∷ visible_of later = ap (λ (x : List TaggedCell). visible_of x) cells ∙ visible_middle first new later (bare.1.gone ∙ seen_left.there) in
+        let was : visible_of gone.cells ≡ visible_of first ++ cell ∷ visible_of later = ap (λ (x : List TaggedCell). visible_of x) split_left ∙ visible_middle first cell later seen_left.there in
+        let near : before ≡ left_neighbour (visible_of after_all.doc.cells) (in_text after_all place) =
+        a ∙ ap (λ v. left_neighbour v at) was ∙ left_front (visible_of first) (cell ∷ visible_of later) at few
+        ∙ sym (ap (λ v. left_neighbour v at) seen ∙ left_front (visible_of first) (new ∷ visible_of later) at few) ∙ ap (left_neighbour (visible_of after_all.doc.cells)) (sym in_left) in
+        let left_is : l ≡ left_neighbour (shown_by after_all) place = b ∙ left_side after_all.doc after_all.own after_all.others place before is near in
+        let element : after ≡ left_of after_all.doc.cells (in_text after_all place) =
+        c ∙ ap (λ o. unwrap_or (option_map (λ (x : TaggedCell). x.stamp) o) ROOT) near ∙ sym (element_left after_all.doc.cells (in_text after_all place)) in
+        let right_new : right_neighbour (shown_by after_all) place ≡ Some new =
+        right_there after_all.doc after_all.own after_all.others place is ∙ ap (slice_get (visible_of after_all.doc.cells)) in_left ∙ ap (λ v. slice_get v at) seen
+        ∙ ap (slice_get (visible_of first ++ new ∷ visible_of later)) (sym count) ∙ slice_seam (visible_of first) new (visible_of later) in
+        let stamp_is : new.stamp ≡ newest = bare.1.stamp ∙ sym newest_is in
+        let among : is_among (stamps_of after_all.doc.cells) new.stamp ≡ true =
+        ap (λ (x : List TaggedCell). is_among (stamps_of x) new.stamp) cells ∙ among_append first (new ∷ later) new.stamp
+        ∙ or_right (is_among (stamps_of first) new.stamp) _ (or_left (is_same new.stamp new.stamp) _ (same_refl new.stamp)) in
+        let free : (x : List TaggedCell) → AreNew after_all.doc.count after_all.doc.site x → is_among (stamps_of x) new.stamp ≡ false =
+        λ x fresh. none_new after_all.doc.count after_all.doc.site after_all.doc.cells x new.stamp (document_below after_all.doc is.history is.document) (omega (arith, is.real)) fresh among in
+        let sel : is_among after_all.own.sel new.stamp ≡ false =
+        ap (λ f. is_among (cond f (unselected (newest ∷ []) own.sel) own.sel) new.stamp) e ∙ ap (is_among (unselected (newest ∷ []) own.sel)) stamp_is ∙ none_kept newest own.sel in
+        let all : AllByRecursion (λ selection. is_among selection new.stamp ≡ false) (selections_of after_all.others) =
+        subst (λ f. AllByRecursion (λ selection. is_among selection new.stamp ≡ false) (selections_of (map (widget_left lost.places newest f) others))) (sym e)
+        (subst (λ s. AllByRecursion (λ selection. is_among selection s ≡ false) (selections_of (map (widget_left lost.places newest true) others))) (sym stamp_is) (none_each lost.places newest others)) in
         record {
-          insertion = ap (inserting pieces rest l) b ∙ bare_insertion left.doc.site l new pieces rest (none_inserted left) positive bare.1.stamp bare.1.off sel all ∙ whole.insertion;
-          drafts = ap (drafting pieces rest l) b
-              ∙ bare_drafts left.doc.site (unwrap_or (option_map (λ (cell : TaggedCell). cell.stamp) l) ROOT) l new pieces rest (none_inserted left) bare.1.off ∙ whole.drafts;
+          insertion = ap (inserting pieces rest l) d
+              ∙ either flag None (Some new) (inserting pieces rest l) (bare_insertion after_all.doc.site l new pieces rest (none_inserted after_all) free bare.1.off sel all)
+              ∙ ap (λ o. inserting pieces rest l (cond flag o None)) (sym right_new) ∙ ap (λ o. inserting pieces rest o (right_behind after_all place pieces)) left_is;
+          drafts = ap (drafting pieces rest after l) d
+              ∙ either flag None (Some new) (drafting pieces rest after l) (bare_drafts after_all.doc.site after l new pieces rest (none_inserted after_all) bare.1.off)
+              ∙ ap (λ o. drafting pieces rest after l (cond flag o None)) (sym right_new) ∙ (λ i. drafting pieces rest (element i) (left_is i) (right_behind after_all place pieces));
         }
       where
-        site_left : left.doc.site ≡ flat.site
-        site_left = ap (λ (f : Flat). f.site) (deletion_rest flat (range ∷ []))
-
-    -- how many characters are left before the last newline
-    pub last_left : length (visible_of front_left) ≡ place_left loss.places (length (text_of flat.cells) - 1)
-    last_left =
-        let n = length (text_of flat.cells) in
-        let all : length (text_of gone.cells) ≡ place_left loss.places n = length_gone loss.places flat.cells in
-        let next : suc (n - 1) ≡ n = omega (arith, some_text) in
-        let one : place_left loss.places (suc (n - 1)) ≡ place_left loss.places (n - 1) + 1 = ap (λ b. place_left loss.places (n - 1) + cond b 0 1) spared in
-        omega (arith, all, length_ends gone front_left last ends_left, ap (place_left loss.places) next, one)
-
-    pub shown_left : length_shown left - 1 ≡ place_left loss.places (length (text_of flat.cells) - 1)
-    shown_left =
-        let n = length (text_of flat.cells) in
-        let all : length (text_of left.doc.cells) ≡ place_left loss.places n = deletion_length flat (range ∷ []) in
-        let next : suc (n - 1) ≡ n = omega (arith, some_text) in
-        let one : place_left loss.places (suc (n - 1)) ≡ place_left loss.places (n - 1) + 1 = ap (λ b. place_left loss.places (n - 1) + cond b 0 1) spared in
-        omega (arith, all, ap (place_left loss.places) next, one)
+        either : {X Y : Type 0} (b : Bool) (x y : X) (f : X → Y) → f x ≡ f y → f x ≡ f (cond b y x)
+        either true x y f k = k
+        either false x y f k = refl
 
     -- the neighbours that a plan finds make the insertion into what the deletion leaves
-    pub is_between : (pieces : List Piece) (rest : Word) (place : ℕ) (held : Bool) (l r : Option TaggedCell) → 0 < flat.site → held ≡ is_some loss.newline
-        → place ≡ min range.from (place_left loss.places (length (text_of flat.cells) - 1)) → l ≡ left_neighbour (visible_of gone.cells) place
-        → r ≡ cond held None (right_neighbour (visible_of gone.cells) place) → IsBetween pieces rest place l r
-    is_between pieces rest place true l r real e at a b =
-        let some : is_some loss.newline ≡ true = sym e in
-        let low = held_last (text_of flat.cells) range some some_text in
-        between_bare pieces rest place l r some real (at ∙ (let m : min range.from (place_left loss.places (length (text_of flat.cells) - 1)) ≡ place_left loss.places (length (text_of flat.cells) - 1) = omega (arith, low) in m) ∙ sym last_left) a b
-    is_between pieces rest place false l r real e at a b = between_plain pieces rest place l r (sym e) a b
+    pub is_between : (held : Bool) (before : Option TaggedCell) (after : Stamp) (l r : Option TaggedCell) → held ≡ is_some lost.newline → before ≡ left_neighbour (visible_of gone.cells) at → l ≡ cond (nat_eq place 0) None before
+        → after ≡ unwrap_or (option_map (λ cell. cell.stamp) before) ROOT → r ≡ cond (shown_in gone.cells own.limits at pieces) (cond held None (right_neighbour (visible_of gone.cells) at)) None → IsBetween pieces rest place after l r
+    is_between true before after l r k a b c d = between_held before after l r (sym k) a b c (d ∙ none (shown_in gone.cells own.limits at pieces))
+      where
+        none : (b : Bool) → cond {A = Option TaggedCell} b None None ≡ None
+        none true = refl
+        none false = refl
+    is_between false before after l r k a b c d = between_plain before after l r (sym k) a b c d

@@ -1,5 +1,5 @@
 -- The commands on a text.
-use Rattle.std.specs.Prelude.{ℕ, ◌+◌, ◌-◌, ℤ, List, [], ◌∷◌, ◌++◌, length, map, flat_map, min, nat_lt, Bool, Option, Some, None, is_some, Result, if◌then◌else◌, encode_utf8_all}
+use Rattle.std.specs.Prelude.{ℕ, ◌+◌, ◌-◌, ℤ, List, [], ◌∷◌, ◌++◌, length, map, flat_map, min, nat_lt, ◌&&◌, Bool, Option, Some, None, is_some, Result, if◌then◌else◌, encode_utf8_all}
 use Rattle.std.specs.Str.{bytes_eq}
 use Rattle.rt_index.specs.Widget.{Widget}
 use Rattle.rt_marks.specs.Marks.{marks_inserted}
@@ -18,17 +18,20 @@ use Rattle.rt_edits.specs.declared.range.Range.{Range}
 use Rattle.rt_edits.specs.Deletions.{delete_drafts, loss_in, without_text}
 use Rattle.rt_edits.specs.Flat.{left_of, logged, put_after}
 use Rattle.rt_edits.specs.InsertionDrafts.{insertion_drafts}
-use Rattle.rt_edits.specs.Insertions.{Insertion, Piece, insertion_of, left_neighbour, right_neighbour}
+use Rattle.rt_edits.specs.Insertions.{Insertion, Piece, insertion_of, left_neighbour, right_neighbour, with_pieces}
 use Rattle.rt_requests.specs.declared.comparison.Comparison.{Comparison}
 use Rattle.rt_requests.specs.declared.measure.Measure.{Measure}
 use Rattle.rt_text.specs.Comparisons.{holds_of}
 use Rattle.rt_text.specs.Distances.{or_indices, distance_of}
+use Rattle.rt_text.specs.Neighbours.{limits_in}
 use Rattle.rt_text.specs.Index.{index_check, place_at_index}
 use Rattle.rt_text.specs.Ranges.{text_between, texts_of, ranges_of}
 use Rattle.rt_edits.specs.Removals.{cells_at, is_covered, stamps_at}
 use Rattle.rt_edits.specs.Selections.{unselected, selection_with}
 use Rattle.rt_edits.specs.TagDrafts.{deletion_drafts, tag_drafts_at}
 use Rattle.rt_edits.specs.TagWrites.{listed_if, with_tag_at, without_tags}
+use Rattle.rt_views.specs.declared.stretch.Stretch.{Stretch}
+use Rattle.rt_views.specs.Stretches.{stretch_of}
 use Rattle.rt_text.specs.Widgets.{Viewed, begin_of, each_widget, in_text, last_newline, length_shown, own_inserted, own_left, places_in_text, reselected, selections_of, shown_by, text_shown, widget_of, with_selections}
 
 -- CHECKS
@@ -53,6 +56,25 @@ insertion_place w word = min (place_at_index w word) (length w.text - 1)
 
 -- EDITS
 
+-- nothing is inserted yet
+abbrev pub none_inserted : Viewed → Insertion
+none_inserted view = record { cells = []; count = view.doc.count; sel = view.own.sel; others = selections_of view.others; tags = view.doc.tags }
+
+-- the stretch that the widget shows once the pieces stand before the character at a place: where the newline of a limit is gone, one
+-- of theirs may be the nearer; the limits are those of the text as it was
+abbrev pub stretch_with : Viewed → ℕ → List Piece → Stretch
+stretch_with view place pieces =
+    let flat = view.doc in
+    let new = with_pieces flat.site pieces (none_inserted view) in
+    stretch_of (put_after flat.cells (left_of flat.cells (in_text view place)) new.cells) (limits_in flat.cells view.own.limits)
+
+-- the right neighbour of characters without a list, behind the pieces: none where the widget then no longer shows both neighbours
+abbrev pub right_behind : Viewed → ℕ → List Piece → Option TaggedCell
+right_behind view place pieces =
+    let stretch = stretch_with view place pieces in
+    let behind = in_text view place + length (with_pieces view.doc.site pieces (none_inserted view)).cells in
+    if nat_lt stretch.begin behind && nat_lt behind stretch.end then right_neighbour (shown_by view) place else None
+
 -- pieces of text, and then characters without a list, before the character at a place: their cells stand directly after that of
 -- the visible left neighbour, and all marks move for them, those of each widget too
 abbrev pub with_pieces_at : Viewed → ℕ → List Piece → Word → Viewed
@@ -60,9 +82,9 @@ with_pieces_at view place pieces rest =
     let flat = view.doc in
     let at = in_text view place in
     let left = left_neighbour (shown_by view) place in
-    let right = right_neighbour (shown_by view) place in
+    let right = right_behind view place pieces in
     let after = left_of flat.cells at in
-    let start : Insertion = record { cells = []; count = flat.count; sel = view.own.sel; others = selections_of view.others; tags = flat.tags } in
+    let start = none_inserted view in
     let new = insertion_of flat.site left right pieces rest start in
     let moved = each_widget (own_inserted at (length new.cells)) view in
     record {

@@ -6,6 +6,8 @@ pub mod Distances
 pub mod Index
 pub mod Kept
 pub mod Limited
+pub mod Lines
+pub mod Neighbours
 pub mod Parts
 pub mod Proper
 pub mod Ranges

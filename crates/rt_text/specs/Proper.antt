@@ -1,23 +1,24 @@
 -- What is so of every widget, as index expressions see it.
-use Rattle.std.proofs.Common.{◌≡◌, ℕ, suc, ◌+◌, ◌<◌, ◌≤◌, List, [], ◌∷◌, Bool, true, false, cond, not, Option, Some, None, length, drop, refl, sym, subst, arith}
-use Rattle.std.specs.Prelude.{codes, IsSome, option_map, option_and_then, nat_lt}
+use Rattle.std.proofs.Common.{◌≡◌, ◌∙◌, ℕ, zero, suc, ◌+◌, ◌-◌, ◌<◌, ◌≤◌, List, [], ◌∷◌, ◌++◌, Bool, true, false, cond, not, Option, Some, None, length, map, take, drop, refl, sym, ap, arith}
+use Rattle.std.specs.Prelude.{codes, IsSome, option_map, option_and_then, nat_lt, slice_get}
 use Rattle.std.specs.List.{position_or_len}
 use Rattle.std.specs.Str.{bytes_eq}
-use Rattle.std.proofs.lemmas.List.{length-drop, length-map}
+use Rattle.std.proofs.lemmas.List.{length-drop, length-map, length-take}
 use Rattle.rt_index.specs.Widget.{Ends, IsProper, IsName}
-use Rattle.rt_marks.specs.Marks.{Mark, named}
+use Rattle.rt_marks.specs.Marks.{Mark, is_named, named}
 use Rattle.rt_stamps.specs.declared.limits.TheConstants.{MOST_CELLS}
 use Rattle.rt_stamps.specs.Words.{Word}
-use Rattle.rt_store.specs.declared.cell.Cell.{Cell}
-use Rattle.rt_store.specs.Cells.{EndsFinal, text_of, visible_of}
+use Rattle.rt_store.specs.Cells.{text_of, visible_of}
 use Rattle.rt_store.specs.Tagged.{last_with, last_place, next_place}
 use Rattle.rt_tags.specs.Tags.{sel, is_listed}
 use Rattle.rt_store.specs.Shown.{TaggedCell}
 use Rattle.rt_edits.specs.Listed.{AreListed, listed_name, named_as}
-use Rattle.rt_edits.specs.Texts.{ends_text}
 use Rattle.rt_stamps.specs.Places.{EndsWithNewline}
 use Rattle.rt_text.specs.declared.own_mark.OwnMark.TheVariants.{Insert, Current}
-use Rattle.rt_text.specs.Widgets.{Own, own_or, ends_of, is_tagged, widget_over}
+use Rattle.rt_text.specs.Lines.{AreLines}
+use Rattle.rt_text.specs.Widgets.{Own, own_or, own_seen, mark_seen, ends_of, is_tagged, widget_over}
+use Rattle.rt_views.specs.declared.stretch.Stretch.{Stretch}
+use Rattle.rt_views.specs.Stretches.{part, seen_cursor, seen_place}
 
 -- MARKS
 
@@ -101,25 +102,82 @@ some_tag : (b : Bool) (ends : Option Ends) → b ≡ true → IsSome (tag_by b e
 some_tag true ends h = refl
 some_tag false ends h = h
 
--- a store's text with marks in it, own marks in it, and listed tags
-pub proper_over : (kept : List (Cell ℕ)) (cells : List TaggedCell) (marks : List Mark) (tags : List Word) (own : Own) → EndsFinal kept → text_of cells ≡ text_of kept → length (text_of cells) ≤ MOST_CELLS
-    → own.insert.place ≤ length (text_of cells) → own.current.place ≤ length (text_of cells)
-    → ((name : List ℕ) (place : ℕ) → option_map (λ (m : Mark). m.place) (named name marks) ≡ Some place → place ≤ length (text_of cells))
-    → ((name : List ℕ) → IsSome (named name marks) → IsName name) → AreListed tags cells
-    → IsProper (widget_over cells marks tags own)
-proper_over kept cells marks tags own ends text few insert current within names listed =
-    let n = length (text_of cells) in
-    let chars : List TaggedCell = visible_of cells in
-    let same : n ≡ length chars = length-map chars (λ (cell : TaggedCell). cell.ch) in
+-- MARKS OF A STRETCH
+
+seen_within : (stretch : Stretch) (place : ℕ) → stretch.begin ≤ stretch.end → seen_place stretch place ≤ stretch.end - stretch.begin
+seen_within stretch place h = omega arith
+
+cursor_within : (stretch : Stretch) (place : ℕ) → seen_cursor stretch place ≤ stretch.end - stretch.begin
+cursor_within stretch place = omega arith
+
+one_seen : (n : ℕ) (b : Bool) (m : Mark) (o : Option Mark) → m.place ≤ n → ((place : ℕ) → place_in o ≡ Some place → place ≤ n) → (place : ℕ) → place_in (cond b (Some m) o) ≡ Some place → place ≤ n
+one_seen n true m o h k place e = let q : m.place ≡ place = cc in omega arith
+one_seen n false m o h k place e = k place e
+
+-- each is seen in the stretch
+all_seen : (stretch : Stretch) (name : List ℕ) (marks : List Mark) → stretch.begin ≤ stretch.end → (place : ℕ) → place_in (named name (map (mark_seen stretch) marks)) ≡ Some place → place ≤ stretch.end - stretch.begin
+all_seen stretch name [] h place e = let bad : ⊥ = cc in absurd bad
+all_seen stretch name (m ∷ marks) h place e =
+    one_seen (stretch.end - stretch.begin) (is_named name m) (mark_seen stretch m) (named name (map (mark_seen stretch) marks)) (seen_within stretch m.place h) (all_seen stretch name marks h) place e
+
+one_there : (b : Bool) (m n : Mark) (o p : Option Mark) → (IsSome o → IsSome p) → IsSome (cond b (Some m) o) → IsSome (cond b (Some n) p)
+one_there true m n o p h k = k
+one_there false m n o p h k = h k
+
+-- and has the name that it has
+names_seen : (stretch : Stretch) (name : List ℕ) (marks : List Mark) → IsSome (named name (map (mark_seen stretch) marks)) → IsSome (named name marks)
+names_seen stretch name [] h = h
+names_seen stretch name (m ∷ marks) h =
+    one_there (is_named name m) (mark_seen stretch m) m (named name (map (mark_seen stretch) marks)) (named name marks) (names_seen stretch name marks) h
+
+-- A TEXT'S PART
+
+get_drop : (xs : List ℕ) (b n : ℕ) → slice_get (drop b xs) n ≡ slice_get xs (b + n)
+get_drop xs zero n = let e : 0 + n ≡ n = omega arith in ap (slice_get xs) (sym e)
+get_drop [] (suc b) n = refl
+get_drop (x ∷ xs) (suc b) n = let e : suc b + n ≡ suc (b + n) = omega arith in get_drop xs b n ∙ ap (slice_get (x ∷ xs)) (sym e)
+
+take_last : (xs : List ℕ) (n x : ℕ) → slice_get xs n ≡ Some x → take (suc n) xs ≡ take n xs ++ x ∷ []
+take_last [] n x h = let bad : ⊥ = cc in absurd bad
+take_last (y ∷ ys) zero x h = let e : y ≡ x = cc in ap (λ z. z ∷ []) e
+take_last (y ∷ ys) (suc n) x h = ap (λ l. y ∷ l) (take_last ys n x h)
+
+-- lines end with a newline
+lines_end : (t : List ℕ) (stretch : Stretch) → AreLines t stretch → EndsWithNewline (part stretch t)
+lines_end t stretch lines =
+    let b = stretch.begin in
+    let n = stretch.end - b - 1 in
+    let at : b + n ≡ stretch.end - 1 = omega (arith, lines.some) in
+    let size : stretch.end - b ≡ suc n = omega (arith, lines.some) in
+    (take n (drop b t), ap (λ k. take k (drop b t)) size ∙ take_last (drop b t) n 10 (get_drop t b n ∙ ap (slice_get t) at ∙ lines.newline))
+
+-- whole lines, marks seen in them, and listed tags
+pub proper_over : (stretch : Stretch) (cells : List TaggedCell) (marks : List Mark) (tags : List Word) (own : Own) → AreLines (text_of cells) stretch
+    → length (text_of cells) ≤ MOST_CELLS → ((name : List ℕ) → IsSome (named name marks) → IsName name) → AreListed tags cells → IsProper (widget_over stretch cells marks tags own)
+proper_over stretch cells marks tags own lines few names listed =
+    let size = stretch.end - stretch.begin in
+    let n = length (part stretch (text_of cells)) in
+    let chars : List TaggedCell = part stretch (visible_of cells) in
+    let whole : length (text_of cells) ≡ length (visible_of cells) = length-map (visible_of cells) (λ (cell : TaggedCell). cell.ch) in
+    let long : n ≡ size = omega (arith, lines.some, lines.within, length-take size (drop stretch.begin (text_of cells)), length-drop stretch.begin (text_of cells)) in
+    let same : length chars ≡ size = omega (arith, whole, lines.some, lines.within, length-take size (drop stretch.begin (visible_of cells)), length-drop stretch.begin (visible_of cells)) in
+    let seen : Own = own_seen stretch own in
+    let found : List ℕ → Option Mark = λ name. named name (map (mark_seen stretch) marks) in
+    let order : stretch.begin ≤ stretch.end = omega (arith, lines.some) in
     record {
-      newline = subst EndsWithNewline (sym text) (ends_text kept ends);
-      bounded = few;
-      marks_within = λ name place e. place_within n (bytes_eq name (codes "insert")) (bytes_eq name (codes "current")) own (named name marks) insert current (λ p q. within name p q) place e;
+      newline = lines_end (text_of cells) stretch lines;
+      bounded = omega (arith, long, lines.within, few);
+      marks_within = λ name place e. omega (
+        arith,
+        long,
+        place_within size (bytes_eq name (codes "insert")) (bytes_eq name (codes "current")) seen (found name)
+            (cursor_within stretch own.insert.place) (seen_within stretch own.current.place order) (all_seen stretch name marks order) place e,
+      );
       first_within = λ name place e. first_by n (is_listed name tags) (next_place (is_tagged own name) chars 0) (last_place (is_tagged own name) chars)
-          (λ p q. omega (arith, next_within (is_tagged own name) chars p q)) place e;
+          (λ p q. omega (arith, long, same, next_within (is_tagged own name) chars p q)) place e;
       last_within = λ name place e. last_by n (is_listed name tags) (next_place (is_tagged own name) chars 0) (last_place (is_tagged own name) chars)
-          (λ p q. omega (arith, last_within (is_tagged own name) chars p q)) place e;
-      mark_names = λ name h. mark_named name (bytes_eq name (codes "insert")) (bytes_eq name (codes "current")) own (named name marks) refl refl (names name) h;
+          (λ p q. omega (arith, long, same, last_within (is_tagged own name) chars p q)) place e;
+      mark_names = λ name h. mark_named name (bytes_eq name (codes "insert")) (bytes_eq name (codes "current")) seen (found name) refl refl (λ s. names name (names_seen stretch name marks s)) h;
       tag_names = λ name h. listed_name name tags listed.names (is_tag (is_listed name tags) (ends_of (is_tagged own name) chars) h);
       insert = refl;
       current = refl;

@@ -4,34 +4,29 @@ use Rattle.rt_stamps.specs.declared.limits.TheConstants.{MOST_CHARACTERS, MOST_S
 use Rattle.rt_stamps.specs.Words.{Word}
 use Rattle.rt_oplog.specs.Edits.{body_of}
 use Rattle.rt_oplog.specs.Operations.{Body}
-use Rattle.rt_store.specs.Cells.{text_of}
 use Rattle.rt_edits.specs.declared.range.Range.{Range}
 use Rattle.rt_edits.specs.Deletions.{Loss, delete_drafts, loss_in}
-use Rattle.rt_edits.specs.Flat.{Flat, left_of}
+use Rattle.rt_edits.specs.Flat.{left_of}
 use Rattle.rt_edits.specs.InsertionDrafts.{insertion_drafts}
 use Rattle.rt_edits.specs.InsertionPlans.{Plans}
-use Rattle.rt_edits.specs.Insertions.{Insertion, Piece, insertion_of, left_neighbour, right_neighbour}
+use Rattle.rt_edits.specs.Insertions.{Insertion, Piece, insertion_of, left_neighbour}
 use Rattle.rt_text.specs.declared.doc.replacing.Replacement.{Replacement}
-use Rattle.rt_text.specs.Commands.{without_ranges}
-use Rattle.rt_text.specs.Widgets.{Viewed, length_shown, selections_of, shown_by}
+use Rattle.rt_text.specs.Commands.{none_inserted, right_behind, without_ranges}
+use Rattle.rt_text.specs.Widgets.{Viewed, begin_of, in_text, length_shown, selections_of, shown_by, text_shown}
 
 -- what the deletion of a range takes
-abbrev pub loss_at : Flat → Range → Loss
-loss_at flat range = loss_in (text_of flat.cells) 0 (range ∷ [])
-
--- nothing is inserted yet
-abbrev pub none_inserted : Viewed → Insertion
-none_inserted view = record { cells = []; count = view.doc.count; sel = view.own.sel; others = selections_of view.others; tags = view.doc.tags }
+abbrev pub loss_at : Viewed → Range → Loss
+loss_at view range = loss_in (text_shown view) (begin_of view) (range ∷ [])
 
 -- an insertion before the character at a place, and its operations
 abbrev pub insertion_at : Viewed → ℕ → List Piece → Word → Insertion
 insertion_at view place pieces rest =
-    insertion_of view.doc.site (left_neighbour (shown_by view) place) (right_neighbour (shown_by view) place) pieces rest (none_inserted view)
+    insertion_of view.doc.site (left_neighbour (shown_by view) place) (right_behind view place pieces) pieces rest (none_inserted view)
 
 abbrev pub drafts_at : Viewed → ℕ → List Piece → Word → List Body
 drafts_at view place pieces rest =
-    insertion_drafts MOST_CHARACTERS view.doc.site (left_of view.doc.cells place) (left_neighbour (shown_by view) place)
-    (right_neighbour (shown_by view) place) pieces rest (none_inserted view)
+    insertion_drafts MOST_CHARACTERS view.doc.site (left_of view.doc.cells (in_text view place)) (left_neighbour (shown_by view) place)
+    (right_behind view place pieces) pieces rest (none_inserted view)
 
 -- what the deletion of a range leaves
 abbrev pub left_by : Viewed → Range → Viewed
@@ -41,6 +36,6 @@ left_by view range = without_ranges view (range ∷ [])
 -- the insertion comes to.
 pub record PlansReplacement (view : Viewed) (range : Range) (pieces : List Piece) (rest : Word) (r : Replacement) : Type 0 where
   pub place : r.place ≡ min range.from (length_shown (left_by view range) - 1)
-  pub drafts : map body_of r.drafts.items ≡ delete_drafts MOST_SPANS view.doc (loss_at view.doc range) ++ drafts_at (left_by view range) r.place pieces rest
+  pub drafts : map body_of r.drafts.items ≡ delete_drafts MOST_SPANS view.doc (loss_at view range) ++ drafts_at (left_by view range) r.place pieces rest
   pub plan : Plans r.plan (left_by view range).own.sel (selections_of (left_by view range).others) (left_by view range).doc.tags
       (insertion_at (left_by view range) r.place pieces rest)

@@ -1,10 +1,10 @@
 -- A widget: its own marks, and what index expressions see of it.
-use Rattle.std.specs.Prelude.{◌≡◌, ℕ, ◌+◌, ◌-◌, ◌<◌, ◌≤◌, Bool, false, List, [], ◌∷◌, length, map, min, filter, Option, Some, None, is_some, option_map, option_and_then, if◌then◌else◌, codes}
+use Rattle.std.specs.Prelude.{◌≡◌, ℕ, ◌+◌, ◌-◌, ◌<◌, ◌≤◌, ◌&&◌, nat_lt, Bool, false, List, [], ◌∷◌, length, map, min, filter, Option, Some, None, is_some, option_map, option_and_then, slice_get, unwrap_or, if◌then◌else◌, codes}
 use Rattle.std.specs.Str.{bytes_eq}
 use Rattle.rt_index.specs.Widget.{Widget, Ends}
 use Rattle.rt_marks.specs.declared.gravity.Gravity.{Gravity}
 use Rattle.rt_marks.specs.declared.gravity.Gravity.TheVariants.{Right}
-use Rattle.rt_marks.specs.Marks.{Mark, Each, IsName, named, with_mark, mark_inserted, mark_removed, mark_left}
+use Rattle.rt_marks.specs.Marks.{Mark, Each, IsName, named, in_order, with_mark, mark_inserted, mark_removed, mark_left}
 use Rattle.rt_stamps.specs.declared.stamp.Stamp.{Stamp}
 use Rattle.rt_stamps.specs.declared.stamp.TheConstants.{FINAL}
 use Rattle.rt_stamps.specs.Words.{Word}
@@ -19,7 +19,9 @@ use Rattle.rt_edits.specs.Flat.{Flat}
 use Rattle.rt_store.specs.Shown.{TaggedCell}
 use Rattle.rt_store.specs.Spans.{is_among}
 use Rattle.rt_views.specs.declared.limits.Limits.{Limits}
+use Rattle.rt_views.specs.declared.stretch.Stretch.{Stretch}
 use Rattle.rt_views.specs.Limits.{no_limits}
+use Rattle.rt_views.specs.Stretches.{part, seen_cursor, seen_place, stretch_of}
 
 -- OWN MARKS
 
@@ -145,17 +147,21 @@ with_selections (selection ∷ selections) (own ∷ widgets) = record own { sel 
 
 -- The words by which commands speak of a widget's text: each command works as if what the widget shows were the whole text.
 
--- the characters that it shows, a newline last: all of the text
+-- the places of the text that it shows: all of them where the widget has no limits
+abbrev pub stretch_by : Viewed → Stretch
+stretch_by view = stretch_of view.doc.cells view.own.limits
+
+-- the characters that stand there, a newline last
 abbrev pub shown_by : Viewed → List TaggedCell
-shown_by view = visible_of view.doc.cells
+shown_by view = part (stretch_by view) (visible_of view.doc.cells)
 
 -- the place in the whole text where they begin
 abbrev pub begin_of : Viewed → ℕ
-begin_of view = 0
+begin_of view = (stretch_by view).begin
 
 -- the stamp of the last of them
 abbrev pub last_newline : Viewed → Stamp
-last_newline view = FINAL
+last_newline view = unwrap_or (option_map (λ cell. cell.stamp) (slice_get (visible_of view.doc.cells) ((stretch_by view).end - 1))) FINAL
 
 -- their code points, and how many they are
 abbrev pub text_shown : Viewed → List ℕ
@@ -164,12 +170,21 @@ text_shown view = map (λ cell. cell.ch) (shown_by view)
 abbrev pub length_shown : Viewed → ℕ
 length_shown view = length (text_shown view)
 
--- the site's marks and the widget's own, by their places among them
+-- a mark at its place among the characters of a stretch: one that stands outside at the nearer end
+abbrev pub mark_seen : Stretch → Mark → Mark
+mark_seen stretch m = record m { place = seen_place stretch m.place }
+
+-- own marks likewise, the insertion cursor never behind the last newline
+abbrev pub own_seen : Stretch → Own → Own
+own_seen stretch own =
+    record own { insert = record own.insert { place = seen_cursor stretch own.insert.place }; current = mark_seen stretch own.current }
+
+-- the site's marks, in order, and the widget's own, by their places among the characters that it shows
 abbrev pub marks_shown : Viewed → List Mark
-marks_shown view = view.doc.marks
+marks_shown view = in_order (map (mark_seen (stretch_by view)) view.doc.marks)
 
 abbrev pub own_shown : Viewed → Own
-own_shown view = view.own
+own_shown view = own_seen (stretch_by view) view.own
 
 -- other marks of the site, or another order of its tags
 abbrev pub with_marks : Viewed → List Mark → Viewed
@@ -184,7 +199,7 @@ in_text view place = begin_of view + place
 
 -- the places of the whole text that pass a test of places among them
 abbrev pub places_in_text : Viewed → (ℕ → Bool) → ℕ → Bool
-places_in_text view test = places_from (begin_of view) test
+places_in_text view test = places_from (begin_of view) (λ place. nat_lt place (length_shown view) && test place)
 
 abbrev pub mark_of : Viewed → List ℕ → Option Mark
 mark_of view name = mark_among (own_shown view) (marks_shown view) name
@@ -217,12 +232,12 @@ tag_ends own characters tags name = if is_listed name tags then Some (ends_of (i
 
 -- WHAT INDEX EXPRESSIONS SEE
 
--- characters, the places of marks among them, and the tags of a widget
-abbrev pub widget_over : List TaggedCell → List Mark → List Word → Own → Widget
-widget_over cells marks tags own = record {
-  text = text_of cells;
-  marks = λ name. option_map (λ m. m.place) (mark_among own marks name);
-  tags = tag_ends own (visible_of cells) tags;
+-- the characters of a stretch, the places of marks among them, and the tags of a widget
+abbrev pub widget_over : Stretch → List TaggedCell → List Mark → List Word → Own → Widget
+widget_over stretch cells marks tags own = record {
+  text = part stretch (text_of cells);
+  marks = λ name. option_map (λ m. m.place) (mark_among (own_seen stretch own) (map (mark_seen stretch) marks) name);
+  tags = tag_ends own (part stretch (visible_of cells)) tags;
 }
 
 abbrev pub widget_of : Viewed → Widget

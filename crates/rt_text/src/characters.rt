@@ -1,17 +1,19 @@
 // The tags of characters on a widget.
-ghost use Rattle.std.specs.Prelude.{◌≡◌, true, false, not, if◌then◌else◌};
+ghost use Rattle.std.specs.Prelude.{◌≡◌, ◌≤◌, length, take, true, false, not, if◌then◌else◌};
 ghost use Rattle.rt_store.specs.Cells.{visible_of};
-ghost use Rattle.rt_store.specs.Tagged.{AreStates, last_place, next_place};
+ghost use Rattle.rt_store.specs.Tagged.{last_place, next_place};
 ghost use Rattle.rt_tags.specs.States.{IsState};
 ghost use Rattle.rt_edits.specs.Selected.{stamps_in};
 ghost use Rattle.rt_store.specs.Spans.{is_among};
 ghost use Rattle.rt_text.specs.Widgets.{is_tagged_in};
 ghost use Rattle.rt_store.specs.Shown.{shown};
+ghost use Rattle.rt_views.specs.Stretches.{part};
 
 use rt_edits::Selection;
 use rt_stamps::Stamp;
 use rt_store::{Cell, TextStore};
 use rt_tags::{StateId, StateTable};
+use rt_views::Stretch;
 
 /// Whether a tag is on the character of a cell: `sel` where the character is selected.
 pub(crate) fn cell_has(
@@ -75,8 +77,8 @@ fn next_without<S: TextStore>(store: &S, on: bool, place: usize) -> Option<usize
     }
 }
 
-/// The least place from one up whose character has a tag, or hasn't it, as is asked.
-pub(crate) fn next_with<S: TextStore>(
+// The least place from one up whose character has a tag, or hasn't it, as is asked.
+fn next_with<S: TextStore>(
     store: &S,
     states: &StateTable,
     selection: &Selection,
@@ -84,7 +86,7 @@ pub(crate) fn next_with<S: TextStore>(
     on: bool,
     place: usize,
 ) -> Option<usize>
-    requires { AreStates states.now (S.list store.now) }
+    requires { S.agrees store.now states.now }
     ensures { result ≡ next_place (λ cell. if on then is_tagged_in (stamps_in selection.now) name.now (shown states.now cell) else not
         (is_tagged_in (stamps_in selection.now) name.now (shown states.now cell))) (visible_of (S.list store.now)) place }
 {
@@ -98,11 +100,36 @@ pub(crate) fn next_with<S: TextStore>(
     }
 }
 
-// The greatest place whose character is selected.
-fn last_selected<S: TextStore>(store: &S, selection: &Selection) -> Option<usize>
-    ensures { result ≡ last_place (λ cell. is_among (stamps_in selection.now) cell.stamp) (visible_of (S.list store.now)) }
+/// The same of a stretch of the text, and of places in it.
+pub(crate) fn next_within<S: TextStore>(
+    store: &S,
+    states: &StateTable,
+    selection: &Selection,
+    name: &str,
+    on: bool,
+    stretch: Stretch,
+    place: usize,
+) -> Option<usize>
+    requires states { S.agrees store.now states.now }
+    requires stretch { stretch.end ≤ length (visible_of (S.list store.now)) }
+    ensures { result ≡ next_place (λ cell. if on then is_tagged_in (stamps_in selection.now) name.now (shown states.now cell) else not
+        (is_tagged_in (stamps_in selection.now) name.now (shown states.now cell))) (part stretch (visible_of (S.list store.now))) place }
 {
-    let mut at = store.visible();
+    let from = stretch.begin.saturating_add(place);
+    let at = next_with(store, states, selection, name, on, from)?;
+    if at < stretch.end {
+        Some(at - stretch.begin)
+    } else {
+        None
+    }
+}
+
+// The greatest place before one whose character is selected.
+fn last_selected<S: TextStore>(store: &S, selection: &Selection, end: usize) -> Option<usize>
+    requires { end ≤ length (visible_of (S.list store.now)) }
+    ensures { result ≡ last_place (λ cell. is_among (stamps_in selection.now) cell.stamp) (take end (visible_of (S.list store.now))) }
+{
+    let mut at = end;
     while at > 0 {
         at -= 1;
         if selection.has(store.cell_at(at).stamp) {
@@ -112,21 +139,40 @@ fn last_selected<S: TextStore>(store: &S, selection: &Selection) -> Option<usize
     None
 }
 
-/// The greatest place whose character has a tag.
-pub(crate) fn last_with<S: TextStore>(
+// The greatest place before one whose character has a tag.
+fn last_before<S: TextStore>(
     store: &S,
     states: &StateTable,
     selection: &Selection,
     name: &str,
+    end: usize,
 ) -> Option<usize>
-    requires { AreStates states.now (S.list store.now) }
-    ensures { result ≡ last_place (λ cell. is_tagged_in (stamps_in selection.now) name.now (shown states.now cell)) (visible_of (S.list store.now)) }
+    requires states { S.agrees store.now states.now }
+    requires end { end ≤ length (visible_of (S.list store.now)) }
+    ensures { result ≡ last_place (λ cell. is_tagged_in (stamps_in selection.now) name.now (shown states.now cell)) (take end (visible_of (S.list store.now))) }
 {
     if name == "sel" {
-        return last_selected(store, selection);
+        return last_selected(store, selection, end);
     }
     match states.known(name) {
-        Some(tag) => store.previous_tagged(states, tag, store.visible()),
+        Some(tag) => store.previous_tagged(states, tag, end),
         None => None,
     }
+}
+
+/// The greatest place of a stretch of the text whose character has a tag, as one in it.
+pub(crate) fn last_within<S: TextStore>(
+    store: &S,
+    states: &StateTable,
+    selection: &Selection,
+    name: &str,
+    stretch: Stretch,
+) -> Option<usize>
+    requires states { S.agrees store.now states.now }
+    requires stretch { stretch.end ≤ length (visible_of (S.list store.now)) }
+    ensures { result ≡ last_place (λ cell. is_tagged_in (stamps_in selection.now) name.now (shown states.now cell))
+        (part stretch (visible_of (S.list store.now))) }
+{
+    let at = last_before(store, states, selection, name, stretch.end)?;
+    at.checked_sub(stretch.begin)
 }

@@ -122,6 +122,7 @@ impl<S: TextStore> Doc<S> {
     pub(crate) fn kept(&self) -> (&S, &StateTable)
         ensures cells { map (shown result.1.now) (S.list result.0.now) ≡ self.now.cells }
         ensures states { AreStates result.1.now (S.list result.0.now) }
+        ensures agrees { S.agrees result.0.now result.1.now }
         ensures distinct { AreDistinct (S.list result.0.now) }
         ensures few { length (S.list result.0.now) ≤ self.now.limit }
         ensures most { self.now.limit ≤ MOST_CELLS }

@@ -1,35 +1,39 @@
 // What index expressions see of a widget.
-ghost use Rattle.std.specs.Prelude.{◌≡◌, ℕ, ◌≤◌, List, Some, IsSome, map, option_map, length};
+ghost use Rattle.std.specs.Prelude.{◌≡◌, ℕ, ◌≤◌, List, IsSome, map, length};
 ghost use Rattle.rt_marks.specs.Marks.{IsName, named};
 ghost use Rattle.rt_stamps.specs.declared.limits.TheConstants.{MOST_CELLS};
+ghost use Rattle.rt_stamps.specs.Places.{line_of};
 ghost use Rattle.rt_store.specs.Cells.{text_of};
-ghost use Rattle.rt_store.specs.Tagged.{AreStates};
 ghost use Rattle.rt_edits.specs.Listed.{AreListed};
 ghost use Rattle.rt_store.specs.Shown.{shown};
+ghost use Rattle.rt_text.specs.Lines.{AreLines};
 
-use crate::characters::{last_with, next_with};
-use crate::{OwnMark, Widget};
+use crate::characters::{last_within, next_within};
+use crate::{Doc, OwnMark, Widget};
 use rt_index::Ground;
 use rt_marks::Marks;
 use rt_store::TextStore;
 use rt_tags::{StateTable, TagTable};
+use rt_views::Stretch;
 
-/// A widget with the text, the marks and the tags of its site.
+/// A widget with the text, the marks and the tags of its site, the stretch of the text that it shows, and
+/// the line of the whole text where that begins.
 #[derive(Drop)]
 pub(crate) struct WidgetGround<'a, S: TextStore> {
+    pub doc: &'a Doc<S>,
     pub store: &'a S,
     pub marks: &'a Marks,
     pub states: &'a StateTable,
     pub tags: &'a TagTable,
     pub widget: &'a Widget,
-    ghost given: { AreStates states.now (S.list store.now) },
+    pub stretch: Stretch,
+    pub first: usize,
+    ghost same: { doc.now.cells ≡ map (shown states.now) (S.list store.now) },
     ghost listed: { AreListed tags.now.names (map (shown states.now) (S.list store.now)) },
     ghost text: { text_of (map (shown states.now) (S.list store.now)) ≡ text_of (S.list store.now) },
     ghost few: { length (text_of (map (shown states.now) (S.list store.now))) ≤ MOST_CELLS },
-    ghost insert: { widget.now.insert.place ≤ length (text_of (map (shown states.now) (S.list store.now))) },
-    ghost current: { widget.now.current.place ≤ length (text_of (map (shown states.now) (S.list store.now))) },
-    ghost within: { (name : List ℕ) (place : ℕ) → option_map (λ m. m.place) (named name marks.now) ≡ Some place → place
-        ≤ length (text_of (map (shown states.now) (S.list store.now))) },
+    ghost lines: { AreLines (text_of (map (shown states.now) (S.list store.now))) stretch },
+    ghost begins: { first ≡ line_of (text_of (map (shown states.now) (S.list store.now))) stretch.begin },
     ghost names: { (name : List ℕ) → IsSome (named name marks.now) → IsName name },
 }
 
@@ -39,36 +43,41 @@ impl<'a, S: TextStore> Ground for WidgetGround<'a, S> {
     ghost use Rattle.std.specs.Prelude.{map};
     ghost use Rattle.rt_store.specs.Shown.{shown};
 
-    ghost widget = { λ g. widget_over (map (shown g.states.now) (S.list g.store.now)) g.marks.now g.tags.now.names g.widget.now };
+    ghost widget = { λ g. widget_over g.stretch (map (shown g.states.now) (S.list g.store.now)) g.marks.now g.tags.now.names g.widget.now };
 
     fn len(&self) -> usize {
-        self.store.visible()
+        self.stretch.end - self.stretch.begin
     }
 
     fn lines(&self) -> usize {
-        self.store.lines()
+        self.store.line_of(self.stretch.end - 1) - self.first + 1
     }
 
     fn char_at(&self, place: usize) -> char {
-        self.store.char_at(place)
+        self.store.char_at(self.stretch.begin + place)
     }
 
     fn characters(&self, place: usize, buffer: &mut [char]) -> usize {
-        self.store.characters(place, buffer)
+        let count = buffer.len().min(self.len().saturating_sub(place));
+        self.store.characters(
+            self.stretch.begin.saturating_add(place),
+            &mut buffer[..count],
+        )
     }
 
     fn line_start(&self, line: usize) -> usize {
-        self.store.line_start(line)
+        self.store.line_start(line + self.first - 1) - self.stretch.begin
     }
 
     fn line_of(&self, place: usize) -> usize {
-        self.store.line_of(place)
+        self.store.line_of(self.stretch.begin + place) - self.first + 1
     }
 
     fn mark(&self, name: &str) -> Option<usize> {
         match OwnMark::of(name) {
-            Some(which) => Some(self.widget.place(which)),
-            None => self.marks.place(name),
+            Some(OwnMark::Insert) => Some(self.stretch.cursor(self.widget.place(OwnMark::Insert))),
+            Some(which) => Some(self.stretch.place(self.widget.place(which))),
+            None => Some(self.stretch.place(self.marks.place(name)?)),
         }
     }
 
@@ -81,12 +90,14 @@ impl<'a, S: TextStore> Ground for WidgetGround<'a, S> {
             return None;
         }
         let widget = self.widget;
-        next_with(
-            self.store,
-            self.states,
+        let (store, states) = self.doc.kept();
+        next_within(
+            store,
+            states,
             &widget.parts.selection,
             name,
             true,
+            self.stretch,
             0,
         )
     }
@@ -96,10 +107,11 @@ impl<'a, S: TextStore> Ground for WidgetGround<'a, S> {
             return None;
         }
         let widget = self.widget;
-        let last = last_with(self.store, self.states, &widget.parts.selection, name)?;
+        let (store, states) = self.doc.kept();
+        let last = last_within(store, states, &widget.parts.selection, name, self.stretch)?;
         Some(last + 1)
     }
 
-    ghost proper = { λ g. proper_over (S.list g.store.now) (map (shown g.states.now) (S.list g.store.now)) g.marks.now g.tags.now.names g.widget.now
-        (S.ends g.store.now) g.text g.few g.insert g.current g.within g.names g.listed };
+    ghost proper = { λ g. proper_over g.stretch (map (shown g.states.now) (S.list g.store.now)) g.marks.now g.tags.now.names g.widget.now
+        g.lines g.few g.names g.listed };
 }

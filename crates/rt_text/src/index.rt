@@ -3,11 +3,14 @@ ghost use Rattle.std.specs.Prelude.{◌≡◌, ◌≤◌, length, Ok, IfOk, IfEr
 ghost use Rattle.rt_index.specs.Index.{index_of};
 ghost use Rattle.rt_stamps.specs.Outcomes.{Refuses};
 ghost use Rattle.rt_stamps.specs.Places.{position_at};
+ghost use Rattle.rt_views.specs.Stretches.{part};
 ghost use Rattle.rt_store.specs.Cells.{text_of};
+ghost use Rattle.rt_text.specs.Lines.{AreLines};
 
 use rt_index::{Ground, parse, resolve};
 use rt_stamps::{Fault, Position};
 use rt_store::TextStore;
+use rt_views::Stretch;
 use std::alloc::Global;
 
 /// The place that a word names.
@@ -23,8 +26,8 @@ pub(crate) fn place_of<G: Ground>(alloc: Global, ground: &G, word: &str) -> Resu
     resolve(&expr, ground)
 }
 
-/// The position of a place, which is at most the text's end.
-pub(crate) fn position_at<S: TextStore>(store: &S, place: usize) -> Position
+// The position of a place, which is at most the text's end.
+fn position_at<S: TextStore>(store: &S, place: usize) -> Position
     requires { place ≤ length (text_of (S.list store.now)) }
     ensures { result ≡ position_at (text_of (S.list store.now)) place }
 {
@@ -35,5 +38,18 @@ pub(crate) fn position_at<S: TextStore>(store: &S, place: usize) -> Position
     Position {
         line,
         character: place - store.line_start(line),
+    }
+}
+
+/// The position of a place of a stretch of whole lines of the text, which is at most the stretch's end.
+pub(crate) fn position_within<S: TextStore>(store: &S, stretch: Stretch, place: usize) -> Position
+    requires lines { AreLines (text_of (S.list store.now)) stretch }
+    requires place { place ≤ length (part stretch (text_of (S.list store.now))) }
+    ensures { result ≡ position_at (part stretch (text_of (S.list store.now))) place }
+{
+    let position = position_at(store, stretch.begin + place);
+    Position {
+        line: position.line - (store.line_of(stretch.begin) - 1),
+        character: position.character,
     }
 }

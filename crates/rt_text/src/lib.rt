@@ -10,6 +10,7 @@ mod following;
 mod ground;
 pub mod index;
 mod moving;
+mod neighbours;
 mod others;
 pub mod own_mark;
 mod parts;

@@ -12,7 +12,7 @@ use crate::others::remove_from_each;
 use crate::parts::Parts;
 use rt_edits::{Range, Selection};
 use rt_marks::Marks;
-use rt_stamps::FINAL;
+use rt_stamps::Stamp;
 
 /// Moves the marks of a site for ranges that are removed. The last range goes first, so that the places
 /// of the others still count. It takes no memory.
@@ -46,24 +46,24 @@ impl Parts {
 
 /// Takes the last newline out of a widget's selection and out of those of others, where a deletion
 /// holds it. It takes no memory.
-pub(crate) fn unselect(held: bool, selection: &mut Selection, others: &mut [Parts])
-    ensures sel { stamps_in selection.new ≡ (if held then unselected (FINAL ∷ []) (stamps_in selection.old) else stamps_in selection.old) }
+pub(crate) fn unselect(held: bool, last: Stamp, selection: &mut Selection, others: &mut [Parts])
+    ensures sel { stamps_in selection.new ≡ (if held then unselected (last ∷ []) (stamps_in selection.old) else stamps_in selection.old) }
     ensures others { map own_in others.new
-        ≡ map (reselected (λ sel. if held then unselected (FINAL ∷ []) sel else sel)) (map own_in others.old) }
+        ≡ map (reselected (λ sel. if held then unselected (last ∷ []) sel else sel)) (map own_in others.old) }
     ensures room { room_in selection.old ≤ room_in selection.new }
     ensures kept { held ≡ false → others.new ≡ others.old }
 {
     if held {
-        selection.remove_one(FINAL);
-        remove_from_each(others, FINAL);
+        selection.remove_one(last);
+        remove_from_each(others, last);
     }
 }
 
 /// The same of a widget.
-pub(crate) fn unselect_last(held: bool, widget: &mut Widget, others: &mut [Parts])
-    ensures own { widget.new ≡ record widget.old { sel = if held then unselected (FINAL ∷ []) widget.old.sel else widget.old.sel } }
+pub(crate) fn unselect_last(held: bool, last: Stamp, widget: &mut Widget, others: &mut [Parts])
+    ensures own { widget.new ≡ record widget.old { sel = if held then unselected (last ∷ []) widget.old.sel else widget.old.sel } }
     ensures others { map own_in others.new
-        ≡ map (reselected (λ sel. if held then unselected (FINAL ∷ []) sel else sel)) (map own_in others.old) }
+        ≡ map (reselected (λ sel. if held then unselected (last ∷ []) sel else sel)) (map own_in others.old) }
 {
-    unselect(held, &mut widget.parts.selection, others);
+    unselect(held, last, &mut widget.parts.selection, others);
 }

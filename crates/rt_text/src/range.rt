@@ -1,4 +1,5 @@
 // Ranges of places.
+ghost use Rattle.rt_views.specs.Stretches.{part};
 ghost use Rattle.std.specs.Prelude.{◌≡◌, ◌≤◌, ◌⊎◌, ◌++◌, All, IfOk, IfErr, OnOk, map, length, string_bytes, encode_utf8_all};
 ghost use Rattle.rt_stamps.specs.declared.limits.TheConstants.{MOST_CELLS};
 ghost use Rattle.rt_stamps.specs.Outcomes.{first_of};
@@ -11,6 +12,7 @@ use rt_edits::Range;
 use rt_index::Ground;
 use rt_stamps::Fault;
 use rt_store::TextStore;
+use rt_views::Stretch;
 use std::alloc::Global;
 
 // How many characters are read at a time.
@@ -81,8 +83,8 @@ fn push_all(text: &mut String, characters: &[char]) -> Result<(), Fault>
     Ok(())
 }
 
-/// The text of a store from a place up to before another, read stretch by stretch.
-pub(crate) fn text_between<S: TextStore>(
+// The text of a store from a place up to before another, read stretch by stretch.
+fn text_between<S: TextStore>(
     alloc: Global,
     store: &S,
     from: usize,
@@ -103,20 +105,39 @@ pub(crate) fn text_between<S: TextStore>(
     Ok(text)
 }
 
-/// The texts of ranges that aren't empty.
+/// The text of a stretch from a place of it up to before another.
+pub(crate) fn shown_between<S: TextStore>(
+    alloc: Global,
+    store: &S,
+    stretch: Stretch,
+    from: usize,
+    to: usize,
+) -> Result<String, Fault>
+    ensures ok { IfOk result (λ text. string_bytes text
+        ≡ encode_utf8_all (text_between (part stretch (text_of (S.list store.now))) from to)) }
+    ensures err { IfErr result (λ fault. fault ≡ Fault.NoMemory) }
+{
+    let begin = stretch.begin.saturating_add(from);
+    let end = stretch.begin.saturating_add(to).min(stretch.end);
+    text_between(alloc, store, begin, end)
+}
+
+/// The texts of ranges of a stretch that aren't empty.
 pub(crate) fn texts_of<S: TextStore>(
     alloc: Global,
     store: &S,
+    stretch: Stretch,
     ranges: &[Range],
 ) -> Result<Vec<String>, Fault>
-    ensures ok { IfOk result (λ texts. map (λ w. string_bytes w) texts.items ≡ texts_of (text_of (S.list store.now)) ranges.now) }
+    requires { (stretch.begin ≤ stretch.end) × (stretch.end ≤ length (text_of (S.list store.now))) }
+    ensures ok { IfOk result (λ texts. map (λ w. string_bytes w) texts.items ≡ texts_of (part stretch (text_of (S.list store.now))) ranges.now) }
     ensures err { IfErr result (λ fault. fault ≡ Fault.NoMemory) }
 {
     let mut texts = Vec::new(alloc);
-    let visible = store.visible();
+    let visible = stretch.end - stretch.begin;
     for range in ranges {
         if range.from < range.to.min(visible) {
-            texts.push(text_between(alloc, store, range.from, range.to)?)?;
+            texts.push(shown_between(alloc, store, stretch, range.from, range.to)?)?;
         }
     }
     Ok(texts)

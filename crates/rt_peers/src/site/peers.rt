@@ -1,12 +1,12 @@
 // What is asked of the widgets of a site.
-ghost use Rattle.std.specs.Prelude.{◌≡◌, ◌∷◌, [], None, Ok, Err, IfOk, IfErr, OnErr, OnOk, map, string_bytes};
-ghost use Rattle.rt_stamps.specs.Outcomes.{Answers, first_of, unless};
+ghost use Rattle.std.specs.Prelude.{◌≡◌, ◌<◌, [], None, Ok, Err, IfOk, IfErr, OnErr, OnOk, length, map, string_bytes};
+ghost use Rattle.rt_editing.specs.Edited.{Edited};
+ghost use Rattle.rt_stamps.specs.Outcomes.{Answers, Refuses};
 ghost use Rattle.rt_peer_requests.specs.PeerWords.{asked_of_peers};
-ghost use Rattle.rt_peers.specs.Peers.{with_widget};
-ghost use Rattle.rt_peers.specs.PeerStep.{destroyed, limit_check, other_paths, path_check, peer_outcome, peer_step, sets_limit, with_peer};
+ghost use Rattle.rt_peers.specs.Peers.{text_led, with_widget};
+ghost use Rattle.rt_peers.specs.PeerStep.{created, destroyed, other_paths, path_check, peer_outcome, peer_step, text_with_peer};
 ghost use Rattle.rt_peers.specs.SiteStep.{peer_step_at};
 ghost use Rattle.rt_peers.specs.State.{place_of};
-ghost use Rattle.rt_peers.specs.ViewStep.{one_word};
 
 use super::SiteState;
 use crate::paths::{other_paths, place_of};
@@ -15,43 +15,47 @@ use crate::reply::Reply;
 use rt_peer_requests::{Path, PeerRequest, WidgetSettings};
 use rt_stamps::Fault;
 
-// Whether a limit is set of what a widget shows.
-fn has_limit(settings: &WidgetSettings) -> bool
-    ensures { result ≡ sets_limit settings.now }
-{
-    settings.start_line.is_some() || settings.end_line.is_some()
-}
-
 impl SiteState {
-    // Adds a new widget of a path that no widget has, which is the last one. Want of memory; then the
-    // site is as it was.
-    fn add_widget(&mut self, path: &str) -> Result<(), Fault>
-        requires { place_of path.now self.old.paths ≡ None }
-        ensures ok { OnOk result (self.new ≡ with_widget path.now self.old) }
-        ensures err { IfErr result (λ fault. fault ≡ Fault.NoMemory) }
+    // Adds a new widget of a path that no widget has, which is the last one: the widget at a place makes it, with
+    // options. `BadView`, or want of memory; then the site is as it was.
+    fn add_widget(
+        &mut self,
+        place: usize,
+        path: &str,
+        settings: &WidgetSettings,
+    ) -> Result<(), Fault>
+        requires place { place < length self.old.paths }
+        requires free { place_of path.now self.old.paths ≡ None }
+        ensures ok { OnOk result ((text : Edited) × (text_with_peer (text_led place self.old.text) settings.now ≡ Ok text)
+            × (self.new ≡ with_widget place path.now self.old text)) }
+        ensures err { IfErr result (Refuses (text_with_peer (text_led place self.old.text) settings.now)) }
         ensures unchanged { OnErr result (self.new ≡ self.old) }
     {
         let path = String::from_str(self.alloc, path)?;
         self.paths.reserve(1)?;
-        self.text.add_widget()?;
+        self.text.lead(place);
+        let added = self.text.add_peer(settings);
+        self.text.lead(place);
+        added?;
         self.paths.push_reserved(path);
         Ok(())
     }
 
-    // `peer create`: a new widget, by whose options those of the site are set.
-    fn create(&mut self, path: &Path<'_>, settings: &WidgetSettings) -> Result<Reply, Fault>
-        ensures { Answers (unless (first_of (limit_check settings.now ∷ path_check path.now self.old.paths ∷ []))
-            (one_word path.now, with_peer path.now settings.now.shared self.old)) self.old result self.new }
+    // `peer create`: the widget at a place makes a new one, with options.
+    fn create(
+        &mut self,
+        place: usize,
+        path: &Path<'_>,
+        settings: &WidgetSettings,
+    ) -> Result<Reply, Fault>
+        requires { place < length self.old.paths }
+        ensures { Answers (created place path.now self.old settings.now (path_check path.now self.old.paths)) self.old result self.new }
     {
-        if has_limit(settings) {
-            return Err(Fault::BadOption);
-        }
         if place_of(&self.paths, path.text()).is_some() {
             return Err(Fault::WidgetExists);
         }
         let reply = one_word(self.alloc, String::from_str(self.alloc, path.text())?)?;
-        self.add_widget(path.text())?;
-        self.text.set_options(settings.shared);
+        self.add_widget(place, path.text(), settings)?;
         Ok(reply)
     }
 
@@ -63,37 +67,43 @@ impl SiteState {
         Ok(Reply { words })
     }
 
-    // What is asked of the peers of the widget of a path.
-    fn peers(&mut self, path: &str, request: &PeerRequest<'_>) -> Result<Reply, Fault>
-        ensures { Answers (peer_step path.now self.old request.now) self.old result self.new }
+    // What is asked of the peers of the widget of a path, which is the one at a place.
+    fn peers(&mut self, path: &str, place: usize, request: &PeerRequest<'_>) -> Result<Reply, Fault>
+        requires { place < length self.old.paths }
+        ensures { Answers (peer_step path.now place self.old request.now) self.old result self.new }
     {
         match request {
             PeerRequest::Create {
                 path: new,
                 settings,
-            } => self.create(new, settings),
+            } => self.create(place, new, settings),
             PeerRequest::Names => self.peer_names(path),
         }
     }
 
     // The words behind `peer`, of a command of the widget of a path.
-    pub(super) fn run_peer(&mut self, path: &str, words: &[String]) -> Result<Reply, Fault>
-        ensures { Answers (peer_outcome path.now self.old (asked_of_peers (map (λ w. string_bytes w) words.now))) self.old result self.new }
+    pub(super) fn run_peer(
+        &mut self,
+        path: &str,
+        place: usize,
+        words: &[String],
+    ) -> Result<Reply, Fault>
+        requires { place < length self.old.paths }
+        ensures { Answers (peer_outcome path.now place self.old (asked_of_peers (map (λ w. string_bytes w) words.now))) self.old result self.new }
     {
         let request = PeerRequest::of(words)?;
-        self.peers(path, &request)
+        self.peers(path, place, &request)
     }
 
-    /// What is asked of the peers of the widget of a path. Refused by the first of `NoWidget`,
-    /// `BadOption`, since limits of what a widget shows aren't there yet, and `WidgetExists`, or for want
-    /// of memory; then the site is as it was.
+    /// What is asked of the peers of the widget of a path. Refused by the first of `NoWidget`, `WidgetExists` and
+    /// `BadView`, or for want of memory; then the site is as it was.
     pub fn answer_peers(&mut self, path: &str, request: &PeerRequest<'_>) -> Result<Reply, Fault>
         ensures { Answers (peer_step_at path.now self.old request.now) self.old result self.new }
     {
-        if place_of(&self.paths, path).is_none() {
+        let Some(place) = place_of(&self.paths, path) else {
             return Err(Fault::NoWidget);
-        }
-        self.peers(path, request)
+        };
+        self.peers(path, place, request)
     }
 
     /// `destroy PATH`: the widget of a path is no longer there. It has no words in its reply, and takes

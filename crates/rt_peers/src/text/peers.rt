@@ -1,8 +1,12 @@
 // The widgets that show the text.
-ghost use Rattle.std.specs.Prelude.{◌≡◌, ◌<◌, IfErr, OnErr, OnOk, length};
-ghost use Rattle.rt_peers.specs.Peers.{text_led, view_with_one, view_without, widgets_of};
+ghost use Rattle.std.specs.Prelude.{◌≡◌, ◌<◌, Ok, IfErr, OnErr, OnOk, length};
+ghost use Rattle.rt_stamps.specs.Outcomes.{Refuses};
+ghost use Rattle.rt_peers.specs.Peers.{text_led, view_without, widgets_of};
+ghost use Rattle.rt_peers.specs.PeerStep.{text_with_peer};
 
 use super::EditedText;
+use crate::choices::choice_of;
+use rt_peer_requests::WidgetSettings;
 use rt_stamps::Fault;
 
 impl EditedText {
@@ -14,13 +18,17 @@ impl EditedText {
         self.viewer.lead(place);
     }
 
-    /// Adds a new widget behind the others. Want of memory, and then nothing changes.
-    pub(crate) fn add_widget(&mut self) -> Result<(), Fault>
-        ensures ok { OnOk result (self.new ≡ record self.old { view = view_with_one self.old.view }) }
-        ensures err { IfErr result (λ fault. fault ≡ Fault.NoMemory) }
+    /// Adds a new widget behind the others, with options. `BadView`, or want of memory, and then nothing changes.
+    pub(crate) fn add_peer(&mut self, settings: &WidgetSettings) -> Result<(), Fault>
+        ensures ok { OnOk result (text_with_peer self.old settings.now ≡ Ok self.new) }
+        ensures err { IfErr result (Refuses (text_with_peer self.old settings.now)) }
         ensures unchanged { OnErr result (self.new ≡ self.old) }
     {
-        self.viewer.add_widget()
+        let start = choice_of(settings.start_line);
+        let end = choice_of(settings.end_line);
+        self.viewer.add_peer(start, end)?;
+        self.set_options(settings.shared);
+        Ok(())
     }
 
     /// Takes the widget at a place out, which isn't the only one. It takes no memory.

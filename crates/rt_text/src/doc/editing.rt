@@ -1,26 +1,70 @@
 // Insertions and removals.
-ghost use Rattle.std.specs.Prelude.{◌≡◌, ◌⊎◌, All, ◌<◌, ◌∷◌, [], None, Some, IfErr, OnOk, OnErr, length, map};
+ghost use Rattle.std.specs.Prelude.{◌≡◌, ◌⊎◌, All, List, ◌<◌, ◌∷◌, [], None, Some, IfErr, IfOk, OnOk, OnErr, length, map};
+ghost use Rattle.rt_oplog.specs.Edits.{body_of};
+ghost use Rattle.rt_stamps.specs.declared.limits.TheConstants.{GREATEST_COUNT};
+ghost use Rattle.rt_edits.specs.InsertionPlans.{Plans};
+ghost use Rattle.rt_text.specs.Replacements.{drafts_at, insertion_at};
 ghost use Rattle.rt_stamps.specs.Outcomes.{first_of};
 ghost use Rattle.rt_store.specs.Cells.{text_of, visible_of};
-ghost use Rattle.rt_text.specs.Widgets.{IsOwnOf, Viewed};
+ghost use Rattle.rt_text.specs.Widgets.{IsOwnOf, Own, Viewed, selections_of};
 ghost use Rattle.rt_text.specs.Commands.{cell_check, clock_check, with_pieces_at, without_ranges};
 ghost use Rattle.rt_edits.specs.DeletionLaws.{IsPiece};
 ghost use Rattle.rt_text.specs.Parts.{own_in};
 ghost use Rattle.std.specs.List.{AllByRecursion};
+ghost use Rattle.rt_views.specs.Stretches.{shown_part};
 
 use super::Doc;
 use crate::Widget;
 use crate::moving::{move_back, unselect_last};
+use crate::neighbours::{left_of, shown_at, shown_before, stamp_or_root};
 use crate::others::{insert_each, leave_each};
 use crate::parts::Parts;
 use crate::preparing::{list_tags, make_room, select_between};
 use rt_edits::drafting::planned_deletion;
-use rt_edits::inserting::planned_insertion;
+use rt_edits::inserting::{Plan, planned_between};
 use rt_edits::{Piece, Range};
 use rt_stamps::Fault;
 use rt_store::TextStore;
 
 impl<S: TextStore> Doc<S> {
+    // Plans pieces of text and characters without a list before the character at a place of what is shown.
+    fn planned_insertion(
+        &self,
+        widget: &Widget,
+        place: usize,
+        pieces: &[Piece],
+        rest: &str,
+    ) -> Result<Plan, Fault>
+        requires { place < length (shown_part self.now.cells widget.now.limits) }
+        ensures drafts { IfOk result (λ plan. (others : List Own)
+            → map body_of plan.drafts.items ≡ drafts_at (record { doc = self.now; own = widget.now; others = others }) place pieces.now rest.now) }
+        ensures plans { IfOk result (λ plan. (others : List Own) → Plans plan widget.now.sel (selections_of others) self.now.tags
+            (insertion_at (record { doc = self.now; own = widget.now; others = others }) place pieces.now rest.now)) }
+        ensures err { IfErr result (λ fault. (fault ≡ Fault.NoMemory) ⊎ ((fault ≡ Fault.ClockSpent) × ((others : List Own) → GREATEST_COUNT
+            < (with_pieces_at (record { doc = self.now; own = widget.now; others = others }) place pieces.now rest.now).doc.count))) }
+    {
+        let site = self.replica.site();
+        let count = self.replica.clock().seen();
+        let (store, states) = self.kept();
+        let at = widget.limits().stretch(store).begin + place;
+        let behind = left_of(store, at);
+        let after = stamp_or_root(&behind);
+        let left = shown_before(place, behind);
+        let right = shown_at(store, widget.limits(), at, pieces);
+        planned_between(
+            self.alloc,
+            states,
+            site,
+            count,
+            &widget.parts.selection,
+            after,
+            left,
+            right,
+            pieces,
+            rest,
+        )
+    }
+
     // Puts pieces of text and characters without a list before the character at a place.
     pub(crate) fn insert_at(
         &mut self,
@@ -30,7 +74,7 @@ impl<S: TextStore> Doc<S> {
         pieces: &[Piece],
         rest: &str,
     ) -> Result<(), Fault>
-        requires place { place < length (visible_of self.old.cells) }
+        requires place { place < length (shown_part self.old.cells widget.old.limits) }
         requires pieces { All IsPiece pieces.now }
         requires own { IsOwnOf (length (text_of self.old.cells)) widget.old }
         requires others { AllByRecursion (IsOwnOf (length (text_of self.old.cells))) (map own_in others.old) }
@@ -45,20 +89,16 @@ impl<S: TextStore> Doc<S> {
         ensures own { IsOwnOf (length (text_of self.new.cells)) widget.new }
         ensures others { AllByRecursion (IsOwnOf (length (text_of self.new.cells))) (map own_in others.new) }
     {
-        let site = self.replica.site();
-        let count = self.replica.clock().seen();
-        let (store, states) = self.kept();
-        let selection = &widget.parts.selection;
-        let plan = planned_insertion(
-            self.alloc, store, states, site, count, selection, place, pieces, rest,
-        )?;
+        let plan = self.planned_insertion(widget, place, pieces, rest)?;
+        let (store, _) = self.kept();
+        let at = widget.limits().stretch(store).begin + place;
         make_room(&mut self.tags, &mut widget.parts.selection, others, &plan)?;
         let _made = self.replica.make(plan.drafts)?;
-        self.marks.inserted(place, plan.characters);
+        self.marks.inserted(at, plan.characters);
         widget.parts.selection.add(&plan.selected);
-        widget.inserted(place, plan.characters);
+        widget.inserted(at, plan.characters);
         select_between(others, &plan.between);
-        insert_each(others, place, plan.characters);
+        insert_each(others, at, plan.characters);
         list_tags(&mut self.tags, &plan.names);
         Ok(())
     }
@@ -82,12 +122,14 @@ impl<S: TextStore> Doc<S> {
         ensures others { AllByRecursion (IsOwnOf (length (text_of self.new.cells))) (map own_in others.new) }
     {
         let (store, states) = self.kept();
-        let deletion = planned_deletion(self.alloc, store, states, ranges)?;
+        let stretch = widget.limits().stretch(store);
+        let last = store.cell_at(stretch.end - 1).stamp;
+        let deletion = planned_deletion(self.alloc, store, states, stretch, ranges)?;
         let _made = self.replica.make(deletion.drafts)?;
         move_back(&mut self.marks, &deletion.removed);
         widget.leave(&deletion.removed);
         leave_each(others, &deletion.removed);
-        unselect_last(deletion.held, widget, others);
+        unselect_last(deletion.held, last, widget, others);
         Ok(())
     }
 }

@@ -3,31 +3,52 @@ ghost use Rattle.std.specs.Prelude.{◌≡◌, ◌≤◌, length, map};
 ghost use Rattle.rt_stamps.specs.Places.{position_at};
 ghost use Rattle.rt_store.specs.Cells.{text_of};
 ghost use Rattle.rt_store.specs.Shown.{shown};
-ghost use Rattle.rt_text.specs.Widgets.{IsOwnOf};
+ghost use Rattle.rt_marks.specs.Marks.{HaveOwnNames};
+ghost use Rattle.rt_stamps.specs.declared.limits.TheConstants.{MOST_CELLS};
+ghost use Rattle.rt_text.specs.Lines.{AreLines};
+ghost use Rattle.rt_views.specs.Stretches.{part, stretch_of};
 
 use super::Doc;
 use crate::Widget;
 use crate::ground::WidgetGround;
-use crate::index::position_at;
+use crate::index::position_within;
 use rt_stamps::{Position, Site};
 use rt_store::TextStore;
+use rt_views::{Limits, Stretch};
 
 impl<S: TextStore> Doc<S> {
+    // The store, and the stretch of its text between limits.
+    pub(crate) fn between(&self, limits: Limits) -> (&S, Stretch)
+        ensures text { text_of (S.list result.0.now) ≡ text_of self.now.cells }
+        ensures stretch { result.1 ≡ stretch_of self.now.cells limits }
+        ensures lines { AreLines (text_of (S.list result.0.now)) result.1 }
+        ensures few { length (S.list result.0.now) ≤ MOST_CELLS }
+    {
+        let (store, _) = self.kept();
+        (store, limits.stretch(store))
+    }
+
     // What index expressions see of the document on a widget.
     pub(crate) fn ground<'a>(&'a self, widget: &'a Widget) -> WidgetGround<'a, S>
-        requires { IsOwnOf (length (text_of self.now.cells)) widget.now }
         ensures cells { map (shown result.states.now) (S.list result.store.now) ≡ self.now.cells }
         ensures marks { result.marks.now ≡ self.now.marks }
         ensures tags { result.tags.now.names ≡ self.now.tags }
         ensures own { result.widget.now ≡ widget.now }
+        ensures stretch { result.stretch ≡ stretch_of self.now.cells widget.now.limits }
+        ensures names { HaveOwnNames self.now.marks }
     {
+        self.marks.order();
         let (store, states) = self.kept();
+        let stretch = widget.limits().stretch(store);
         WidgetGround {
+            doc: self,
             store,
             marks: &self.marks,
             states,
             tags: &self.tags,
             widget,
+            stretch,
+            first: store.line_of(stretch.begin),
         }
     }
 
@@ -61,12 +82,12 @@ impl<S: TextStore> Doc<S> {
         store.visible()
     }
 
-    /// The line and the character of a place, which is at most the text's end.
-    pub fn position(&self, place: usize) -> Position
-        requires { place ≤ length (text_of self.now.cells) }
-        ensures { result ≡ position_at (text_of self.now.cells) place }
+    // The line and the character of a place of what stands between limits, which is at most its end.
+    pub(crate) fn position(&self, limits: Limits, place: usize) -> Position
+        requires { place ≤ length (part (stretch_of self.now.cells limits) (text_of self.now.cells)) }
+        ensures { result ≡ position_at (part (stretch_of self.now.cells limits) (text_of self.now.cells)) place }
     {
-        let (store, _) = self.kept();
-        position_at(store, place)
+        let (store, stretch) = self.between(limits);
+        position_within(store, stretch, place)
     }
 }

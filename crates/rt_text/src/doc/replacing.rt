@@ -15,10 +15,11 @@ ghost use Rattle.std.specs.List.{AllByRecursion};
 use super::Doc;
 use crate::Widget;
 use crate::moving::{move_back, unselect};
+use crate::neighbours::{shown_after, shown_before, stamp_or_root};
 use crate::others::{insert_each, leave_each};
 use crate::parts::Parts;
 use crate::preparing::{list_tags, make_room, select_between};
-use crate::staying::{left_after, place_after, right_after};
+use crate::staying::{left_after, place_after};
 use rt_edits::drafting::planned_deletion;
 use rt_edits::inserting::{Plan, planned_between};
 use rt_edits::{Piece, Range};
@@ -64,29 +65,37 @@ impl<S: TextStore> Doc<S> {
     ) -> Result<Replacement, Fault>
         ensures plans { IfOk result (λ r. (others : List Own)
             → PlansReplacement (record { doc = self.now; own = widget.now; others = others }) range pieces.now rest.now r) }
-        ensures removed { IfOk result (λ r. (place : ℕ) → is_covered r.removed.items place ≡ (loss_at self.now range).places place) }
+        ensures removed { let view : Viewed = record { doc = self.now; own = widget.now; others = [] } in
+            IfOk result (λ r. (place : ℕ) → is_covered r.removed.items place ≡ (loss_at view range).places place) }
         ensures order { IfOk result (λ r. AreInOrder 0 r.removed.items) }
-        ensures held { IfOk result (λ r. r.held ≡ is_some (loss_at self.now range).newline) }
+        ensures held { let view : Viewed = record { doc = self.now; own = widget.now; others = [] } in
+            IfOk result (λ r. r.held ≡ is_some (loss_at view range).newline) }
         ensures alone { IfOk result (λ r. r.held ≡ true → r.plan.between ≡ None) }
-        ensures fits { IfOk result (λ r. (without_text self.now (loss_at self.now range)).count ≤ GREATEST_COUNT) }
+        ensures fits { let view : Viewed = record { doc = self.now; own = widget.now; others = [] } in
+            IfOk result (λ r. (without_text self.now (loss_at view range)).count ≤ GREATEST_COUNT) }
         ensures err { IfErr result (λ fault. (fault ≡ Fault.NoMemory) ⊎ ((fault ≡ Fault.ClockSpent) × ((others : List Own) → GREATEST_COUNT
             < (with_range_replaced (record { doc = self.now; own = widget.now; others = others }) range pieces.now rest.now).doc.count))) }
     {
         let site = self.replica.site();
         let count = self.replica.clock().seen();
         let (store, states) = self.kept();
-        let mut deletion = planned_deletion(self.alloc, store, states, &[range])?;
+        let stretch = widget.limits().stretch(store);
+        let mut deletion = planned_deletion(self.alloc, store, states, stretch, &[range])?;
         let count = count_after(count, deletion.drafts.len())?;
-        let last = place_after(&deletion.removed, store.visible() - 1);
-        let place = range.from.min(last);
-        let left = left_after(store, &deletion.removed, place);
-        let right = right_after(store, &deletion.removed, deletion.held, place);
+        let removed = &deletion.removed;
+        let last = place_after(removed, stretch.end - 1);
+        let at = stretch.begin.saturating_add(range.from).min(last);
+        let behind = left_after(store, removed, at);
+        let after = stamp_or_root(&behind);
+        let left = shown_before(at - stretch.begin, behind);
+        let right = shown_after(store, removed, deletion.held, widget.limits(), at, pieces);
         let mut plan = planned_between(
             self.alloc,
             states,
             site,
             count,
             &widget.parts.selection,
+            after,
             left,
             right,
             pieces,
@@ -96,7 +105,7 @@ impl<S: TextStore> Doc<S> {
         Ok(Replacement {
             removed: deletion.removed,
             held: deletion.held,
-            place,
+            place: at - stretch.begin,
             drafts: deletion.drafts,
             plan,
         })
@@ -125,20 +134,23 @@ impl<S: TextStore> Doc<S> {
         ensures own { IsOwnOf (length (text_of self.new.cells)) widget.new }
         ensures others { AllByRecursion (IsOwnOf (length (text_of self.new.cells))) (map own_in others.new) }
     {
-        let _ = self.kept();
+        let (store, _) = self.kept();
+        let stretch = widget.limits().stretch(store);
+        let last = store.cell_at(stretch.end - 1).stamp;
         let planned = self.planned_replacement(widget, range, pieces, rest)?;
+        let at = stretch.begin + planned.place;
         let plan = planned.plan;
         make_room(&mut self.tags, &mut widget.parts.selection, others, &plan)?;
         let _made = self.replica.make(planned.drafts)?;
-        unselect(planned.held, &mut widget.parts.selection, others);
+        unselect(planned.held, last, &mut widget.parts.selection, others);
         widget.parts.selection.add(&plan.selected);
         select_between(others, &plan.between);
         move_back(&mut self.marks, &planned.removed);
         widget.leave(&planned.removed);
         leave_each(others, &planned.removed);
-        self.marks.inserted(planned.place, plan.characters);
-        widget.inserted(planned.place, plan.characters);
-        insert_each(others, planned.place, plan.characters);
+        self.marks.inserted(at, plan.characters);
+        widget.inserted(at, plan.characters);
+        insert_each(others, at, plan.characters);
         list_tags(&mut self.tags, &plan.names);
         Ok(())
     }

@@ -17,10 +17,11 @@ ghost use Rattle.rt_edits.specs.Listed.{AreListed};
 ghost use Rattle.rt_edits.specs.Selected.{stamps_in};
 ghost use Rattle.rt_store.specs.Shown.{shown};
 ghost use Rattle.rt_store.specs.Written.{AreWritten};
+ghost use Rattle.rt_views.specs.Stretches.{shown_part};
 
 use super::Doc;
 use crate::Widget;
-use crate::characters::{cell_has, next_with};
+use crate::characters::{cell_has, next_within};
 use rt_edits::drafting::{planned_tag, planned_tag_deletion};
 use rt_edits::listing::{forget_all, list_if, prepare_if};
 use rt_edits::{Range, Selection};
@@ -66,31 +67,35 @@ impl<S: TextStore> Doc<S> {
     /// The least place from one up whose character has a tag on the widget; none if there is none. It
     /// takes no memory.
     pub(crate) fn next_tagged(&self, widget: &Widget, name: &str, place: usize) -> Option<usize>
-        ensures { result ≡ next_place (is_tagged widget.now name.now) (visible_of self.now.cells) place }
+        ensures { result ≡ next_place (is_tagged widget.now name.now) (shown_part self.now.cells widget.now.limits) place }
     {
         let (store, states) = self.kept();
-        next_with(store, states, &widget.parts.selection, name, true, place)
+        let stretch = widget.limits().stretch(store);
+        let selection = &widget.parts.selection;
+        next_within(store, states, selection, name, true, stretch, place)
     }
 
     /// The least place from one up whose character hasn't a tag on the widget; none if there is none.
     /// It takes no memory.
     pub(crate) fn next_untagged(&self, widget: &Widget, name: &str, place: usize) -> Option<usize>
-        ensures { result ≡ next_place (λ cell. not (is_tagged widget.now name.now cell)) (visible_of self.now.cells) place }
+        ensures { result ≡ next_place (λ cell. not (is_tagged widget.now name.now cell)) (shown_part self.now.cells widget.now.limits) place }
     {
         let (store, states) = self.kept();
-        next_with(store, states, &widget.parts.selection, name, false, place)
+        let stretch = widget.limits().stretch(store);
+        let selection = &widget.parts.selection;
+        next_within(store, states, selection, name, false, stretch, place)
     }
 
     /// The listed tags of the character at a place on a widget, lowest priority first (Tk text manual,
     /// "tag names"). Want of memory.
     pub(crate) fn tags_at(&self, widget: &Widget, place: usize) -> Result<Vec<String>, Fault>
-        requires { place < length (visible_of self.now.cells) }
-        ensures ok { IfOk result (λ names. option_map (tags_on widget.now self.now.tags) (slice_get (visible_of self.now.cells) place)
+        requires { place < length (shown_part self.now.cells widget.now.limits) }
+        ensures ok { IfOk result (λ names. option_map (tags_on widget.now self.now.tags) (slice_get (shown_part self.now.cells widget.now.limits) place)
             ≡ Some (map (λ w. string_bytes w) names.items)) }
         ensures err { IfErr result (λ fault. fault ≡ Fault.NoMemory) }
     {
         let (store, states) = self.kept();
-        let cell = store.cell_at(place);
+        let cell = store.cell_at(widget.limits().stretch(store).begin + place);
         let mut names = self.tags.names()?;
         keep_tags_on(states, &widget.parts.selection, cell, &mut names);
         Ok(names)

@@ -25,7 +25,8 @@ impl<S: TextStore> View<S> {
     {
         check_names(pieces)?;
         let place = self.place(index)?;
-        let place = place.min(self.doc.visible() - 1);
+        let stretch = self.stretch();
+        let place = place.min(stretch.end - stretch.begin - 1);
         self.doc
             .insert_at(&mut self.widget, &mut self.others, place, pieces, rest)
     }

@@ -22,7 +22,8 @@ impl<S: TextStore> View<S> {
         ensures err { IfErr result (λ fault. fault ≡ Fault.NoMemory) }
     {
         let (store, states) = self.doc.kept();
-        let removed = removed_ranges(self.alloc, store, ranges)?;
+        let stretch = self.widget.limits().stretch(store);
+        let removed = removed_ranges(self.alloc, store, stretch, ranges)?;
         let cells = cells_in(self.alloc, store, &removed)?;
         Ok((cells, states))
     }

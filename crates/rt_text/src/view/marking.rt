@@ -16,9 +16,11 @@ impl<S: TextStore> View<S> {
         requires { place ≤ length_shown self.old }
         ensures { self.new ≡ record self.old { own = own_set which (in_text self.old (own_place which (length_shown self.old) place)) self.old.own } }
     {
+        let stretch = self.stretch();
+        let last = stretch.end - 1;
         let place = match which {
-            OwnMark::Insert => place.min(self.doc.visible() - 1),
-            OwnMark::Current => place,
+            OwnMark::Insert => (stretch.begin + place).min(last),
+            OwnMark::Current => stretch.begin + place,
         };
         self.widget.set(which, place);
     }
@@ -42,7 +44,8 @@ impl<S: TextStore> View<S> {
         ensures memory { result ≡ Err Fault.NoMemory → named name.now self.old.doc.marks ≡ None }
         ensures fault { IfErr result (λ fault. (fault ≡ Fault.BadName) ⊎ (fault ≡ Fault.NoMemory)) }
     {
-        self.doc.set_mark(name, place)
+        let begin = self.stretch().begin;
+        self.doc.set_mark(name, begin + place)
     }
 
     /// Takes marks of the site away ("mark unset"). Names without a mark are passed over. It takes no

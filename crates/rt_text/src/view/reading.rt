@@ -1,22 +1,24 @@
 // What a widget says of the text that it shows: places, positions, ranges, texts, comparisons and distances.
-ghost use Rattle.std.specs.Prelude.{◌≡◌, ◌⊎◌, ◌≤◌, Ok, None, Some, IfOk, IfErr, map, string_bytes};
+ghost use Rattle.std.specs.Prelude.{◌≡◌, ◌⊎◌, ◌<◌, ◌≤◌, length, Ok, None, Some, IfOk, IfErr, map, string_bytes};
 ghost use Rattle.rt_index.specs.Index.{index_of};
 ghost use Rattle.rt_stamps.specs.Outcomes.{first_of, Refuses};
 ghost use Rattle.rt_stamps.specs.Places.{position_at};
 ghost use Rattle.rt_text.specs.Index.{index_check, place_at_index};
 ghost use Rattle.rt_text.specs.Ranges.{ranges_of};
-ghost use Rattle.rt_text.specs.Widgets.{length_shown, text_shown, widget_of};
+ghost use Rattle.rt_store.specs.Cells.{text_of};
+ghost use Rattle.rt_text.specs.Widgets.{length_shown, stretch_by, text_shown, widget_of};
 ghost use Rattle.rt_text.specs.Commands.{got_one, got, got_list, position_of_index, compared, counted};
 
 use super::View;
 use crate::comparison::holds;
 use crate::distance::distances_of;
-use crate::index::{place_of, position_at};
-use crate::range::{ranges_at, text_between, texts_of};
+use crate::index::place_of;
+use crate::range::{ranges_at, shown_between, texts_of};
 use rt_edits::Range;
 use rt_requests::{Comparison, Measure};
 use rt_stamps::{Fault, Position};
 use rt_store::TextStore;
+use rt_views::Stretch;
 
 impl<S: TextStore> View<S> {
     /// The place of an index, from 0 to the number of characters (Tk text manual, "Indices").
@@ -29,11 +31,21 @@ impl<S: TextStore> View<S> {
         place_of(self.alloc, &self.doc.ground(&self.widget), index)
     }
 
+    /// The places of the text that the widget shows: all of them where it has no limits.
+    pub fn stretch(&self) -> Stretch
+        ensures value { result ≡ stretch_by self.now }
+        ensures some { result.begin < result.end }
+        ensures within { result.end ≤ length (text_of self.now.doc.cells) }
+    {
+        self.doc.stretch(self.widget.limits())
+    }
+
     /// How many characters the widget shows, its last newline included.
     pub fn visible(&self) -> usize
         ensures { result ≡ length_shown self.now }
     {
-        self.doc.visible()
+        let stretch = self.stretch();
+        stretch.end - stretch.begin
     }
 
     /// The line and the character of a place, which is at most the text's end.
@@ -41,7 +53,7 @@ impl<S: TextStore> View<S> {
         requires { place ≤ length_shown self.now }
         ensures { result ≡ position_at (text_shown self.now) place }
     {
-        self.doc.position(place)
+        self.doc.position(self.widget.limits(), place)
     }
 
     /// The ranges that indices name in pairs (Tk text manual): a last index without another is one
@@ -63,8 +75,8 @@ impl<S: TextStore> View<S> {
         ensures err { IfErr result (Refuses (got_one self.now index.now)) }
     {
         let place = self.place(index)?;
-        let (store, _) = self.doc.kept();
-        text_between(self.alloc, store, place, place.saturating_add(1))
+        let (store, stretch) = self.doc.between(self.widget.limits());
+        shown_between(self.alloc, store, stretch, place, place.saturating_add(1))
     }
 
     /// `get INDEX INDEX` (Tk text manual): the characters from the first index up to before the
@@ -75,8 +87,8 @@ impl<S: TextStore> View<S> {
     {
         let start = self.place(from)?;
         let end = self.place(to)?;
-        let (store, _) = self.doc.kept();
-        text_between(self.alloc, store, start, end)
+        let (store, stretch) = self.doc.between(self.widget.limits());
+        shown_between(self.alloc, store, stretch, start, end)
     }
 
     /// `get INDEX INDEX INDEX ...` (Tk text manual): of the ranges that the indices name in pairs,
@@ -87,8 +99,8 @@ impl<S: TextStore> View<S> {
         ensures err { IfErr result (Refuses (got_list self.now (map (λ w. string_bytes w) indices.now))) }
     {
         let ranges = self.ranges(indices)?;
-        let (store, _) = self.doc.kept();
-        texts_of(self.alloc, store, &ranges)
+        let (store, stretch) = self.doc.between(self.widget.limits());
+        texts_of(self.alloc, store, stretch, &ranges)
     }
 
     /// `index INDEX` (Tk text manual): the line and the character of the index. `BadIndex`,
@@ -98,8 +110,7 @@ impl<S: TextStore> View<S> {
         ensures err { IfErr result (Refuses (position_of_index self.now index.now)) }
     {
         let place = self.place(index)?;
-        let (store, _) = self.doc.kept();
-        Ok(position_at(store, place))
+        Ok(self.doc.position(self.widget.limits(), place))
     }
 
     /// `compare INDEX OPERATOR INDEX` (Tk text manual): whether the comparison holds of the two
@@ -122,7 +133,8 @@ impl<S: TextStore> View<S> {
     {
         let start = self.place(from)?;
         let end = self.place(to)?;
-        let (store, _) = self.doc.kept();
-        distances_of(self.alloc, store, start, end, measures)
+        let (store, stretch) = self.doc.between(self.widget.limits());
+        let begin = stretch.begin;
+        distances_of(self.alloc, store, begin + start, begin + end, measures)
     }
 }

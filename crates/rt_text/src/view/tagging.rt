@@ -7,7 +7,7 @@ ghost use Rattle.rt_text.specs.Widgets.{is_tagged, shown_by, tags_on, with_tags}
 
 use super::View;
 use rt_edits::Range;
-use rt_edits::removal::ranges_within;
+use rt_edits::removal::ranges_shown;
 use rt_stamps::Fault;
 use rt_store::TextStore;
 
@@ -51,7 +51,8 @@ impl<S: TextStore> View<S> {
         ensures unchanged { OnErr result (self.new ≡ self.old) }
     {
         let (store, _) = self.doc.kept();
-        let ranges = ranges_within(self.alloc, store, ranges)?;
+        let stretch = self.widget.limits().stretch(store);
+        let ranges = ranges_shown(self.alloc, stretch, ranges)?;
         if name == "sel" {
             return self.widget.select(self.alloc, store, &ranges, on);
         }

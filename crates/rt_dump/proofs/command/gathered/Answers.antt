@@ -21,7 +21,7 @@ returns-clause-ok g c =
       | then-kinds+in_ok-texts+in_ok-append+in_ok-sort-2 w ↦
           (λ i. (w.all-is i).items)
           ∙ texts_dumped n from to (text_shown view) others c.in_ok-all.all.items c.sort.new.elements.items w.in_ok-texts.texts.items w.sort-then-kinds.new.elements.items first sorted
-          (w.in_ok-texts.ensures.ok ∙ (λ i. text_values (w.store.ensures.text i) (w.deref.ensures.value i) from to))
+          (w.in_ok-texts.ensures.ok ∙ (λ i. text_values (w.shown.ensures i) (w.deref.ensures.value i) from to))
           (subst (λ v. IsSortOf v w.sort-then-kinds.new.elements.items) w.in_ok-append.ensures.items w.in_ok-sort-2.ensures.ok)
           ∙ (λ i. by_place (places_between n from to) (others ++ if_asked (sym w.if-kinds.true i) texts))
       | else-kinds w ↦

@@ -23,7 +23,7 @@ returns-in_err-between-clause-err c =
     let so_far = with_pieces site c.args.pieces.now start in
     let left = last_of (option_map (shown t) c.args.left) so_far.cells in
     subst (λ (n : ℕ). GREATEST_COUNT < n) (sym (unlisted_count site left (option_map (shown t) c.args.right) (chars c.args.rest.now) so_far))
-    (k c.element_of.result sel tags so_far same (c.in_ok-all.ensures.so_far sel others tags)))
+    (k c.args.after sel tags so_far same (c.in_ok-all.ensures.so_far sel others tags)))
     c.in_err-between.ensures.err)
 
 pub returns-clause-drafts : goal.returns-clause-drafts
@@ -32,13 +32,12 @@ returns-clause-drafts c = λ sel others tags same.
     let site = c.args.site.number in
     let start : Insertion = record { cells = []; count = c.args.count; sel = sel; others = others; tags = tags } in
     let so_far = with_pieces site c.args.pieces.now start in
-    let after = c.element_of.result in
+    let after = c.args.after in
     let left = option_map (shown t) c.args.left in
     let right = option_map (shown t) c.args.right in
     c.in_ok-between.ensures.drafts after sel tags so_far same (c.in_ok-all.ensures.so_far sel others tags)
     ∙ ap (λ l. l ++ text_drafts MOST_CHARACTERS site so_far.count (behind after so_far.cells) (tags_between (last_of left so_far.cells) right) (chars c.args.rest.now))
     (c.in_ok-all.ensures.drafts sel others tags)
-    ∙ ap (λ s. insertion_drafts MOST_CHARACTERS site s left right c.args.pieces.now c.args.rest.now start) c.element_of.ensures
 
 pub returns-clause-plans : goal.returns-clause-plans
 returns-clause-plans c = λ sel others tags same.
@@ -50,7 +49,7 @@ returns-clause-plans c = λ sel others tags same.
     let plan : Plan = record { drafts = new.texts.drafts; characters = c.len-characters.result; selected = new.selected; names = new.names; between = c.in_ok-between.between } in
     let all = with_unlisted site (last_of (option_map (shown t) c.args.left) so_far.cells) (option_map (shown t) c.args.right) (chars c.args.rest.now) so_far in
     subst (λ o. Plans plan sel o tags all) (pieces_others site c.args.pieces.now start)
-    (c.in_ok-between.ensures.plans plan c.element_of.result sel tags so_far same (c.in_ok-all.ensures.so_far sel others tags) c.element_of.ensures
+    (c.in_ok-between.ensures.plans plan c.args.after sel tags so_far same (c.in_ok-all.ensures.so_far sel others tags) c.requires.after
     (record { characters = c.len-characters.ensures ∙ new.texts.stamps.ok.0; selected = refl; names = refl; others = refl }))
 
 pub returns-in_err-all-clause-drafts : goal.returns-in_err-all-clause-drafts

@@ -48,6 +48,7 @@ loop-part-preserved g c =
     let step : map (named_removed table) (removed_in (drop i removed)) ≡ here ++ rest = named_left table removed i c.part-item.result c.loop-part-test.true c.part-item.is in
     record {
       copy = c.in_ok-bring_span_back.ensures.copy;
+      agrees = c.in_ok-bring_span_back.ensures.agrees;
       going = c.in_ok-bring_span_back.ensures.going;
       actions = c.in_ok-bring_span_back.ensures.actions ∙ c.loop-part.invariant.actions;
       given = (every_parts P (removed_of c.part-item.result) (removed_in (drop (i + 1) removed))

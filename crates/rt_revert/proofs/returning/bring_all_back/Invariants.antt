@@ -11,6 +11,7 @@ use Rattle.rt_revert.proofs.returning.bring_all_back.Given as goal
 abbrev pub invariant-loop-part : goal.invariant-loop-part
 invariant-loop-part g l = record {
   copy : IsCopy l.kept (g.S.TextStore.list l.copy) l.plan.texts.count;
+  agrees : g.S.TextStore.agrees l.copy l.kept;
   going : IsGoing l.kept l.plan;
   actions : l.plan.actions ≡ l.initial.plan.actions;
   given : RemovedAreGiven l.kept (removed_in (drop l.part-index l.removed));

@@ -40,6 +40,7 @@ loop-count-preserved g c =
     let step : rest_of table state span.site span.last count ≡ one ∷ rest_of table state span.site span.last (count + 1) = rest_step table state span.site span.last count (omega arith) in
     record {
       copy = c.in_ok-bring_back.ensures.copy;
+      agrees = c.in_ok-bring_back.ensures.agrees;
       going = c.in_ok-bring_back.ensures.going;
       actions = c.in_ok-bring_back.ensures.actions ∙ c.loop-count.invariant.actions;
       may = (subst (AllByRecursion MayReturn) step c.loop-count.invariant.may).1;

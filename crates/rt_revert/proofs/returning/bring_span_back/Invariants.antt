@@ -12,6 +12,7 @@ use Rattle.rt_revert.proofs.returning.bring_span_back.Given as goal
 abbrev pub invariant-loop-count : goal.invariant-loop-count
 invariant-loop-count g l = record {
   copy : IsCopy l.kept (g.S.TextStore.list l.copy) l.plan.texts.count;
+  agrees : g.S.TextStore.agrees l.copy l.kept;
   going : IsGoing l.kept l.plan;
   actions : l.plan.actions ≡ l.initial.plan.actions;
   may : AllByRecursion MayReturn (map (named_removed l.kept) (map (removed_with l.state) (stamps_from l.span.site l.count (l.span.last + 1 - l.count))));

@@ -17,3 +17,6 @@ returns-clause-place g c =
     c.unwrap_or.ensures
     ∙ ap (λ o. unwrap_or o 0) (c.place_of.ensures ∙ ap (λ (l : List (Cell ℕ)). option_map (visible_before l) (position_of l cell.stamp)) same)
     ∙ new_place old left cell (omega (arith, c.requires.placed.stands.1)) c.requires.fresh
+
+pub splice-requires-clause-states : goal.splice-requires-clause-states
+splice-requires-clause-states g c = c.reserve.ensures.agrees c.args.kept.now c.requires.agrees

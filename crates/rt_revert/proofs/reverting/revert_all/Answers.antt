@@ -31,6 +31,7 @@ loop-left-preserved g c =
     record {
       within = omega (arith, less);
       copy = c.in_ok-revert.ensures.copy;
+      agrees = c.in_ok-revert.ensures.agrees;
       going = c.in_ok-revert.ensures.going;
       so_far = λ part r had s. group_step table c.args.site.number (g.S.TextStore.list c.loop-left.copy) c.loop-left.plan part (reverse (named_group table (group_of (take left group))))
           (reverse (named_group table (group_of (take (left - 1) group)))) (named_action table (action_of action)) (with_each_reverted (reverse (named_group table (group_of group))) r)

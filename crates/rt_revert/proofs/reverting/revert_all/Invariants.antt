@@ -11,6 +11,7 @@ abbrev pub invariant-loop-left : goal.invariant-loop-left
 invariant-loop-left g l = record {
   within : l.left ≤ length l.group;
   copy : IsCopy l.kept (g.S.TextStore.list l.copy) l.plan.texts.count;
+  agrees : g.S.TextStore.agrees l.copy l.kept;
   going : IsGoing l.kept l.plan;
   so_far : (part : Portion) (r : Reversion) → HasGroup part (group_of l.group) → IsSoFar l.kept l.site.number (g.S.TextStore.list l.initial.copy) l.initial.plan part r
       → Reaches l.kept l.site.number (g.S.TextStore.list l.copy) l.plan part

@@ -77,6 +77,7 @@ returns-in_err-_state-in-Insert g c =
     rw (is, gives) (record {
       replica = tt;
       cells = tt;
+      agrees = c.insert_cells.ensures.agrees;
       ids = c.insert_cells.ensures.ids;
       same = c.in_err-_state-in-Insert.ensures.err;
       fault = c.in_err-_state-in-Insert.ensures.fault;
@@ -88,6 +89,7 @@ returns-in_err-reserve-in-Delete g c =
     rw (is, gives) (record {
       replica = tt;
       cells = tt;
+      agrees = c.reserve.ensures.agrees c.args.states.now c.requires.agrees;
       ids = record { tags = λ tag h. (h, refl); states = λ state h. (h, refl) };
       same = c.in_err-reserve-in-Delete.ensures.same;
       fault = c.in_err-reserve-in-Delete.ensures.err;
@@ -99,6 +101,7 @@ returns-in_err-_tag-in-Tag g c =
     rw (is, gives) (record {
       replica = tt;
       cells = tt;
+      agrees = c.tag_cells.ensures.agrees;
       ids = c.tag_cells.ensures.ids;
       same = c.in_err-_tag-in-Tag.ensures.err;
       fault = c.in_err-_tag-in-Tag.ensures.fault;
@@ -108,7 +111,7 @@ itself : (t : TagStates) → KeepsIds t t
 itself t = record { tags = λ tag h. (h, refl); states = λ state h. (h, refl) }
 
 pub insert_cells-requires-clause-states : goal.insert_cells-requires-clause-states
-insert_cells-requires-clause-states g c = c.requires.replica.states
+insert_cells-requires-clause-states g c = c.requires.agrees
 
 pub returns-in_ok-_state-in-Insert-clause-fault : goal.returns-in_ok-_state-in-Insert-clause-fault
 returns-in_ok-_state-in-Insert-clause-fault g c = tt
@@ -138,10 +141,19 @@ pub returns-in_ok-reserve-in-Delete-clause-same : goal.returns-in_ok-reserve-in-
 returns-in_ok-reserve-in-Delete-clause-same g c = tt
 
 pub set_all_gone-requires-clause-states : goal.set_all_gone-requires-clause-states
-set_all_gone-requires-clause-states g c = rw c.in_ok-reserve-in-Delete.ensures.same c.requires.replica.states
+set_all_gone-requires-clause-states g c = c.reserve.ensures.agrees c.args.states.now c.requires.agrees
 
 pub tag_cells-requires-clause-few : goal.tag_cells-requires-clause-few
 tag_cells-requires-clause-few g c = omega (arith, c.requires.room)
 
 pub tag_cells-requires-clause-states : goal.tag_cells-requires-clause-states
-tag_cells-requires-clause-states g c = c.requires.replica.states
+tag_cells-requires-clause-states g c = c.requires.agrees
+
+pub returns-in_ok-_state-in-Insert-clause-agrees : goal.returns-in_ok-_state-in-Insert-clause-agrees
+returns-in_ok-_state-in-Insert-clause-agrees g c = c.insert_cells.ensures.agrees
+
+pub returns-in_ok-reserve-in-Delete-clause-agrees : goal.returns-in_ok-reserve-in-Delete-clause-agrees
+returns-in_ok-reserve-in-Delete-clause-agrees g c = c.set_all_gone.ensures.states
+
+pub returns-in_ok-_tag-in-Tag-clause-agrees : goal.returns-in_ok-_tag-in-Tag-clause-agrees
+returns-in_ok-_tag-in-Tag-clause-agrees g c = c.tag_cells.ensures.agrees

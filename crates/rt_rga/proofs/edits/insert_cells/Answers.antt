@@ -1,6 +1,5 @@
 use Rattle.std.proofs.Common.{◌∙◌, ap, sym, subst, arith, length, refl}
 use Rattle.rt_store.specs.Tagged.{AreStates}
-use Rattle.rt_store.proofs.GivenStates.{kept_states}
 use Rattle.rt_rga.proofs.Replicas.{all_from_states}
 use Rattle.rt_store.proofs.Places.{length_from}
 use Rattle.std.proofs.lemmas.Result.{err_from_is_err_and}
@@ -11,8 +10,7 @@ reserve-requires g c = omega (arith, c.requires.room, c.len.ensures, ap length c
 
 pub splice-requires-clause-states : goal.splice-requires-clause-states
 splice-requires-clause-states g c =
-    subst (AreStates c.state_of_list.new.self) (sym c.in_ok-reserve.ensures.same)
-    (kept_states c.args.states.now c.state_of_list.new.self (g.S.TextStore.list c.args.store.now) c.state_of_list.ensures.ids c.requires.states)
+    c.reserve.ensures.agrees c.state_of_list.new.self (g.met.S.TextStore.grows c.args.store.now c.args.states.now c.state_of_list.new.self c.state_of_list.ensures.ids c.requires.states)
 
 pub splice-requires-clause-new : goal.splice-requires-clause-new
 splice-requires-clause-new g c =
@@ -22,14 +20,14 @@ splice-requires-clause-new g c =
 pub returns-in_err-state : goal.returns-in_err-state
 returns-in_err-state g c =
     let (y, is, gives) = err_from_is_err_and c.from_residual.result c.from_residual.ensures.1 in
-    rw (is, gives) (record { given = tt; state = tt; list = tt; ids = c.state_of_list.ensures.ids; err = refl; fault = c.in_err-state.ensures.fault })
+    rw (is, gives) (record { given = tt; state = tt; list = tt; agrees = g.met.S.TextStore.grows c.args.store.now c.args.states.now c.state_of_list.new.self c.state_of_list.ensures.ids c.requires.states; ids = c.state_of_list.ensures.ids; err = refl; fault = c.in_err-state.ensures.fault })
 
 pub returns-in_err-cells : goal.returns-in_err-cells
 returns-in_err-cells g c =
     let (y, is, gives) = err_from_is_err_and c.from_residual-in_err-cells.result c.from_residual-in_err-cells.ensures.1 in
-    rw (is, gives) (record { given = tt; state = tt; list = tt; ids = c.state_of_list.ensures.ids; err = refl; fault = c.in_err-cells.ensures.fault })
+    rw (is, gives) (record { given = tt; state = tt; list = tt; agrees = g.met.S.TextStore.grows c.args.store.now c.args.states.now c.state_of_list.new.self c.state_of_list.ensures.ids c.requires.states; ids = c.state_of_list.ensures.ids; err = refl; fault = c.in_err-cells.ensures.fault })
 
 pub returns-in_err-reserve : goal.returns-in_err-reserve
 returns-in_err-reserve g c =
     let (y, is, gives) = err_from_is_err_and c.from_residual-in_err-reserve.result c.from_residual-in_err-reserve.ensures.1 in
-    rw (is, gives) (record { given = tt; state = tt; list = tt; ids = c.state_of_list.ensures.ids; err = c.reserve.ensures.same; fault = c.in_err-reserve.ensures.err })
+    rw (is, gives) (record { given = tt; state = tt; list = tt; agrees = c.reserve.ensures.agrees c.state_of_list.new.self (g.met.S.TextStore.grows c.args.store.now c.args.states.now c.state_of_list.new.self c.state_of_list.ensures.ids c.requires.states); ids = c.state_of_list.ensures.ids; err = c.reserve.ensures.same; fault = c.in_err-reserve.ensures.err })

@@ -1,7 +1,5 @@
-use Rattle.std.proofs.Common.{◌∙◌, ◌+◌, ap, arith, drop, map, subst, sym}
+use Rattle.std.proofs.Common.{◌∙◌, ◌+◌, ap, arith, drop, map, sym}
 use Rattle.std.proofs.lemmas.List.{drop_all}
-use Rattle.rt_store.specs.Tagged.{AreStates}
-use Rattle.rt_store.proofs.GivenStates.{gone_states}
 use Rattle.rt_store.proofs.Gone.{gone_more_at, gone_none}
 use Rattle.rt_store.specs.Spans.{gone_in_any}
 use Rattle.rt_rga.proofs.edits.set_all_gone.Goals as goal
@@ -12,7 +10,7 @@ loop-span-preserved g c =
     let i = c.loop-span.span-index in
     record {
       list = ap (map (gone_in_any (drop (i + 1) spans))) c.set_gone.ensures.list ∙ gone_more_at (g.S.TextStore.list c.loop-span.store) spans i _ c.loop-span-test.true ∙ c.loop-span.invariant.list;
-      states = subst (AreStates c.args.states.now) (sym c.set_gone.ensures.list) (gone_states c.args.states.now _ (g.S.TextStore.list c.loop-span.store) c.loop-span.invariant.states);
+      states = c.set_gone.ensures.states;
       room = (omega arith, omega (arith, c.set_gone.ensures.room.1, c.loop-span.invariant.room.1));
       spent = (omega (arith, c.set_gone.ensures.room.0, c.loop-span.invariant.spent.0), omega (arith, c.set_gone.ensures.room.1, c.loop-span.invariant.spent.1));
     }
@@ -24,4 +22,5 @@ returns g c =
     record {
       list = sym (gone_none cells) ∙ ap (λ l. map (gone_in_any l) cells) (sym (drop_all c.loop-span.span-index spans (omega arith))) ∙ c.loop-span.invariant.list;
       room = (omega (arith, c.loop-span.invariant.spent.0), omega (arith, c.loop-span.invariant.spent.1));
+      states = c.loop-span.invariant.states;
     }

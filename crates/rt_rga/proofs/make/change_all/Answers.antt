@@ -6,7 +6,7 @@ use Rattle.rt_store.specs.Tagged.{AreStates}
 use Rattle.rt_rga.specs.Batches.{CountsRise}
 use Rattle.rt_rga.specs.Making.{CanAllBePut, kept_after}
 use Rattle.rt_rga.specs.Runs.{put_back_in_any}
-use Rattle.rt_rga.proofs.Batching.{ComesOut, batch_counts, batch_kept, batch_length, batch_placed, batch_states}
+use Rattle.rt_rga.proofs.Batching.{ComesOut, batch_counts, batch_kept, batch_length, batch_placed}
 use Rattle.rt_rga.proofs.Fresh.{all_back, all_front, fresh_counts, fresh_distinct, fresh_states}
 use Rattle.std.proofs.lemmas.Result.{err_from_is_err_and}
 use Rattle.rt_rga.proofs.Listing.{keeps_both}
@@ -42,11 +42,7 @@ put_all-requires-clause-put g c =
     subst (λ (p : _). p) (λ j. CanAllBePut ops (sym c.deref-2.ensures.value j) (sym c.in_ok-make_room.ensures.same j)) can
 
 pub put_states-requires-clause-states : goal.put_states-requires-clause-states
-put_states-requires-clause-states g c =
-    let kept : List (Cell ℕ) = g.S.TextStore.list c.args.store.now in
-    let ops : List Operation = c.args.ops.now in
-    let put = batch_states ops c.args.states.now c.fresh.new.states c.planned_states.new.states kept c.in_ok-new.new.items c.fresh.ensures.ids c.planned_states.ensures.ids c.requires.replica.states c.in_ok-new.ensures.given in
-    subst (AreStates c.planned_states.new.states) (sym (c.put_all.ensures.list ∙ (λ j. kept_after ops (c.deref-2.ensures.value j) (c.in_ok-make_room.ensures.same j)))) put
+put_states-requires-clause-states g c = c.put_all.ensures.states
 
 pub returns-clause-replica : goal.returns-clause-replica
 returns-clause-replica g c =
@@ -72,24 +68,23 @@ returns-clause-cells g c =
 pub returns-in_err-new : goal.returns-in_err-new
 returns-in_err-new g c =
     let (y, is, gives) = err_from_is_err_and c.from_residual.result c.from_residual.ensures.1 in
-    rw (is, gives) (record { replica = tt; cells = tt; ids = c.fresh.ensures.ids; same = refl; fault = c.in_err-new.ensures.fault })
+    rw (is, gives) (record { replica = tt; cells = tt; agrees = g.met.S.TextStore.grows c.args.store.now c.args.states.now c.fresh.new.states c.fresh.ensures.ids c.requires.agrees; ids = c.fresh.ensures.ids; same = refl; fault = c.in_err-new.ensures.fault })
 
 pub returns-in_err-runs : goal.returns-in_err-runs
 returns-in_err-runs g c =
     let (y, is, gives) = err_from_is_err_and c.from_residual-in_err-runs.result c.from_residual-in_err-runs.ensures.1 in
-    rw (is, gives) (record { replica = tt; cells = tt; ids = keeps_both c.args.states.now c.fresh.new.states c.planned_states.new.states c.fresh.ensures.ids c.planned_states.ensures.ids; same = refl; fault = c.in_err-runs.ensures.fault })
+    rw (is, gives) (record { replica = tt; cells = tt; agrees = g.met.S.TextStore.grows c.args.store.now c.args.states.now c.planned_states.new.states (keeps_both c.args.states.now c.fresh.new.states c.planned_states.new.states c.fresh.ensures.ids c.planned_states.ensures.ids) c.requires.agrees; ids = keeps_both c.args.states.now c.fresh.new.states c.planned_states.new.states c.fresh.ensures.ids c.planned_states.ensures.ids; same = refl; fault = c.in_err-runs.ensures.fault })
 
 pub returns-in_err-make_room : goal.returns-in_err-make_room
 returns-in_err-make_room g c =
     let (y, is, gives) = err_from_is_err_and c.from_residual-in_err-make_room.result c.from_residual-in_err-make_room.ensures.1 in
-    rw (is, gives) (record { replica = tt; cells = tt; ids = keeps_both c.args.states.now c.fresh.new.states c.planned_states.new.states c.fresh.ensures.ids c.planned_states.ensures.ids; same = c.make_room.ensures.same; fault = c.in_err-make_room.ensures.fault })
+    rw (is, gives) (record { replica = tt; cells = tt; agrees = c.make_room.ensures.agrees c.planned_states.new.states (g.met.S.TextStore.grows c.args.store.now c.args.states.now c.planned_states.new.states (keeps_both c.args.states.now c.fresh.new.states c.planned_states.new.states c.fresh.ensures.ids c.planned_states.ensures.ids) c.requires.agrees); ids = keeps_both c.args.states.now c.fresh.new.states c.planned_states.new.states c.fresh.ensures.ids c.planned_states.ensures.ids; same = c.make_room.ensures.same; fault = c.in_err-make_room.ensures.fault })
 
 pub put_all-requires-clause-states : goal.put_all-requires-clause-states
 put_all-requires-clause-states g c =
-    let kept : List (Cell ℕ) = g.S.TextStore.list c.args.store.now in
     let new = c.planned_states.new.states in
     let ids = keeps_both c.args.states.now c.fresh.new.states new c.fresh.ensures.ids c.planned_states.ensures.ids in
-    subst (AreStates new) (sym c.in_ok-make_room.ensures.same) (kept_states c.args.states.now new kept ids c.requires.replica.states)
+    c.make_room.ensures.agrees new (g.met.S.TextStore.grows c.args.store.now c.args.states.now new ids c.requires.agrees)
 
 pub put_all-requires-clause-given : goal.put_all-requires-clause-given
 put_all-requires-clause-given g c =
@@ -111,3 +106,6 @@ put_all-requires-clause-room g c =
 pub put_states-requires-clause-room : goal.put_states-requires-clause-room
 put_states-requires-clause-room g c =
     (omega arith, omega (arith, c.put_all.ensures.room, c.in_ok-make_room.ensures.room.1, c.len-2.ensures, ap length c.deref-3.ensures.value))
+
+pub returns-clause-agrees : goal.returns-clause-agrees
+returns-clause-agrees g c = c.put_states.ensures.states

@@ -1,14 +1,13 @@
 use Rattle.std.proofs.Common.{◌≡◌, ℕ, ◌+◌, ◌∙◌, ◌∷◌, List, ap, arith, drop, length, subst, sym}
 use Rattle.std.proofs.lemmas.List.{drop_all, length-drop}
 use Rattle.std.proofs.lemmas.List.Elements.{All-drop}
-use Rattle.rt_oplog.specs.Operations.{Operation, stamp_of}
+use Rattle.rt_oplog.specs.Operations.{Operation}
 use Rattle.rt_store.specs.declared.cell.Cell.{Cell}
 use Rattle.rt_store.specs.Tagged.{AreStates}
 use Rattle.rt_tags.specs.States.{IsState}
 use Rattle.rt_rga.specs.Making.{CanAllBePut, cuts_of, kept_after}
 use Rattle.rt_rga.specs.Requests.{characters_in}
 use Rattle.rt_rga.proofs.Making.{ops_left}
-use Rattle.rt_rga.proofs.Putting.{put_given}
 use Rattle.rt_rga.proofs.make.put_all.Goals as goal
 
 pub loop-op-preserved : goal.loop-op-preserved
@@ -27,7 +26,7 @@ loop-op-preserved g c =
     record {
       list = (λ j. kept_after (drop (i + 1) c.args.ops.now) (c.put-left.ensures.left j) (c.put-left.ensures.list j)) ∙ ap (λ (ops : List Operation). kept_after ops new kept) (sym left) ∙ before.list;
       put = subst (λ (p : _). p) (λ j. CanAllBePut (drop (i + 1) c.args.ops.now) (sym c.put-left.ensures.left j) (sym c.put-left.ensures.list j)) can.1;
-      states = subst (AreStates states) (sym c.put-left.ensures.list) (put_given states (stamp_of op) op.body new kept before.states before.given);
+      states = c.put-left.ensures.states;
       given = subst (AreStates states) (sym c.put-left.ensures.left) (All-drop (λ (cell : Cell ℕ). IsState states cell.state) (characters_in op.body) new before.given);
       room = (omega (arith, c.put-left.ensures.room.0, before.room.0, used, rest), omega (arith, c.put-left.ensures.room.1, before.room.1, cuts));
       spent = omega (arith, c.put-left.ensures.room.1, before.spent, cuts);
@@ -53,3 +52,6 @@ returns-clause-list g c =
 
 pub returns-clause-room : goal.returns-clause-room
 returns-clause-room g c = omega (arith, c.loop-op.invariant.spent, ap cuts_of (drop_all c.loop-op.op-index c.args.ops.now c.loop-op-test.false))
+
+pub returns-clause-states : goal.returns-clause-states
+returns-clause-states g c = c.loop-op.invariant.states

@@ -8,7 +8,7 @@ abbrev pub invariant-loop-op : goal.invariant-loop-op
 invariant-loop-op g l = record {
   list : kept_after (drop l.op-index l.ops) l.left (g.S.TextStore.list l.store) ≡ kept_after l.ops l.new (g.S.TextStore.list l.initial.store);
   put : CanAllBePut (drop l.op-index l.ops) l.left (g.S.TextStore.list l.store);
-  states : AreStates l.states (g.S.TextStore.list l.store);
+  states : g.S.TextStore.agrees l.store l.states;
   given : AreStates l.states l.left;
   room : HasRoom (g.S.TextStore.room l.store) (length l.left) (cuts_of (drop l.op-index l.ops));
   spent : (g.S.TextStore.room l.initial.store).cuts + cuts_of (drop l.op-index l.ops) ≤ (g.S.TextStore.room l.store).cuts + cuts_of l.ops;

@@ -1,11 +1,10 @@
 use Rattle.std.proofs.Common.{◌≡◌, ◌∙◌, ◌-◌, ap, arith, drop, length, map, sym, subst}
 use Rattle.std.proofs.lemmas.List.{drop_all}
-use Rattle.rt_store.specs.Tagged.{AreStates}
 use Rattle.rt_store.specs.Cells.{state_in}
 use Rattle.rt_tags.specs.States.{IsState}
 use Rattle.rt_rga.specs.declared.tagging.StateRun.{StateRun}
 use Rattle.rt_rga.specs.Runs.{put_back_in_any}
-use Rattle.rt_rga.proofs.StateRuns.{put_more, put_none, states_put}
+use Rattle.rt_rga.proofs.StateRuns.{put_more, put_none}
 use Rattle.rt_rga.proofs.tagging.put_states.Goals as goal
 
 pub set_state-requires-clause-state : goal.set_state-requires-clause-state
@@ -28,17 +27,14 @@ loop-behind-preserved g c =
     let runs = c.args.runs.now in
     let behind = c.loop-behind.behind in
     let run = c.index-runs-runs.result in
-    let given : IsState c.args.states.now run.state =
-    subst (λ (r : StateRun). IsState c.args.states.now r.state) (sym c.index-runs-runs.is) (c.requires.runs (length runs - 1 - behind) run (omega arith)) in
     record {
       list = c.set_state.ensures.list ∙ (λ i. map (state_in (c.index-runs-runs.is i).span (c.index-runs-runs.is i).state) (c.loop-behind.invariant.list i))
           ∙ put_more runs before behind run c.loop-behind-test.true;
-      states = subst (AreStates c.args.states.now) (sym c.set_state.ensures.list)
-          (states_put c.args.states.now run.span run.state (g.S.TextStore.list c.loop-behind.store) given c.loop-behind.invariant.states);
+      states = c.set_state.ensures.states;
       room = (omega arith, omega (arith, c.set_state.ensures.room.1, c.loop-behind.invariant.room.1));
     }
 
 pub returns : goal.returns
 returns g c =
     let all : length c.args.runs.now - c.loop-behind.behind ≡ 0 = omega arith in
-    record { list = c.loop-behind.invariant.list ∙ ap (λ n. map (put_back_in_any (drop n c.args.runs.now)) (g.S.TextStore.list c.args.store.now)) all }
+    record { list = c.loop-behind.invariant.list ∙ ap (λ n. map (put_back_in_any (drop n c.args.runs.now)) (g.S.TextStore.list c.args.store.now)) all; states = c.loop-behind.invariant.states }

@@ -1,10 +1,9 @@
 use Rattle.std.proofs.Common.{◌≡◌, ◌+◌, ◌-◌, ◌<◌, ◌≤◌, ◌∷◌, ◌++◌, [], ℕ, List, Bool, length, refl, sym, ap, subst, ◌∙◌, arith, true, false}
 use Rattle.std.proofs.lemmas.Result.{err_from_is_err_and}
-use Rattle.rt_store.specs.Cells.{text_of}
 use Rattle.rt_search.specs.Ends.{EndsDecide}
 use Rattle.rt_search.specs.Searches.{is_match, is_taken, ordered_places}
 use Rattle.rt_search.proofs.Ending.{Taking, at_left, taking_ends, taking_first, taking_none, taking_push, taking_skip}
-use Rattle.rt_search.proofs.Finding.{length_text, tested}
+use Rattle.rt_search.proofs.Finding.{tested}
 use Rattle.rt_search.proofs.Folding.{all_taken, at_place, passed, took, unmatched}
 use Rattle.rt_search.proofs.Orders.{length_ordered}
 use Rattle.rt_search.proofs.all.take_in.Goals as goal
@@ -12,7 +11,7 @@ use Rattle.rt_search.proofs.all.take_in.Goals.{then-is_match+then-is_taken+in_ok
 
 pub loop-index-init : goal.loop-index-init
 loop-index-init g c = record {
-  reads = c.new-reader.ensures (text_of (g.S.TextStore.list c.args.store.now));
+  reads = c.new-reader.ensures c.args.text.now;
   taken = refl;
   taking = taking_none c.args.search.direction c.args.stretch (length c.args.pattern.now) c.args.taken.now.items;
 }
@@ -28,7 +27,7 @@ is_taken-requires g c =
 
 pub loop-index-preserved : goal.loop-index-preserved
 loop-index-preserved g c =
-    let text = text_of (g.S.TextStore.list c.args.store.now) in
+    let text = c.args.text.now in
     let m = length c.args.pattern.now in
     let place = c.nth-place.result in
     let index = c.loop-index.index in
@@ -41,11 +40,11 @@ loop-index-preserved g c =
     let many : length places ≡ s.to - s.from = length_ordered d s in
     let inside : index < s.to - s.from = omega arith in
     let within : index < length places = omega arith in
-    let below : s.to ≤ c.visible.result = omega arith in
+    let below : s.to ≤ c.len.result = omega arith in
     let here = at_place d s index place inside c.nth-place.ensures.place in
     let told = λ (b : Bool) (e : c.is_match.result ≡ b).
-    tested c.args.search c.args.pattern.now text s place c.last_end-end.result c.visible.result c.is_match.result b c.nth-place.ensures.to below
-    (length_text (g.S.TextStore.list c.args.store.now) c.visible.result c.visible.ensures) c.last_end-end.ensures.first c.last_end-end.ensures.strict c.is_match.ensures.value e in
+    tested c.args.search c.args.pattern.now text s place c.last_end-end.result c.len.result c.is_match.result b c.nth-place.ensures.to below
+    c.len.ensures c.last_end-end.ensures.first c.last_end-end.ensures.strict c.is_match.ensures.value e in
     elim c.if-is_match.branch [
       | then-is_match+then-is_taken+in_ok-push w ↦
           let yes : is_taken c.args.overlaps m taken place ≡ true =
@@ -77,7 +76,7 @@ returns-clause-ok g c =
     let places = ordered_places c.args.search.direction c.args.stretch in
     let many : length places ≡ c.args.stretch.to - c.args.stretch.from = length_ordered c.args.search.direction c.args.stretch in
     let over : length places ≤ c.loop-index.index = omega arith in
-    all_taken c.args.overlaps (length c.args.pattern.now) (is_match c.args.search c.args.pattern.now (text_of (g.S.TextStore.list c.args.store.now)) c.args.stretch) places
+    all_taken c.args.overlaps (length c.args.pattern.now) (is_match c.args.search c.args.pattern.now c.args.text.now c.args.stretch) places
     c.loop-index.index c.args.taken.now.items c.loop-index.taken.items over c.loop-index.invariant.taken
 
 pub returns-clause-before : goal.returns-clause-before

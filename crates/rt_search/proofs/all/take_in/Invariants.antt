@@ -1,6 +1,5 @@
 use Rattle.std.proofs.Common.{◌≡◌, length, take}
 use Rattle.std.specs.Prelude.{filter, fold}
-use Rattle.rt_store.specs.Cells.{text_of}
 use Rattle.rt_search.specs.Searches.{is_match, ordered_places, with_match}
 use Rattle.rt_search.specs.Windows.{Reads}
 use Rattle.rt_search.proofs.Ending.{Taking}
@@ -8,8 +7,8 @@ use Rattle.rt_search.proofs.all.take_in.Given as goal
 
 abbrev pub invariant-loop-index : goal.invariant-loop-index
 invariant-loop-index g l = record {
-  reads : Reads (text_of (g.S.TextStore.list l.store)) l.reader;
+  reads : Reads l.text l.reader;
   taken : l.taken.items ≡ fold (with_match l.overlaps (length l.pattern)) l.initial.taken.items
-      (filter (is_match l.search l.pattern (text_of (g.S.TextStore.list l.store)) l.stretch) (take l.index (ordered_places l.search.direction l.stretch)));
+      (filter (is_match l.search l.pattern l.text l.stretch) (take l.index (ordered_places l.search.direction l.stretch)));
   taking : Taking l.search.direction l.stretch (length l.pattern) l.initial.taken.items l.index l.taken.items;
 }

@@ -1,10 +1,8 @@
 use Rattle.std.proofs.Common.{◌≡◌, ◌∷◌, ◌++◌, ◌∙◌, [], ℕ, List, Option, None, Some, ap, append-nil, length, refl, sym}
 use Rattle.std.specs.Prelude.{flat_map, option_to_list, slice_get}
-use Rattle.rt_store.specs.Cells.{text_of}
 use Rattle.rt_search.specs.Searches.{matches, matches_in, stretches}
 use Rattle.rt_search.specs.declared.search.Search.{Search}
 use Rattle.rt_search.specs.declared.search.Stretch.{Stretch}
-use Rattle.rt_search.proofs.Finding.{length_text}
 use Rattle.rt_search.proofs.find.find_first.Goals as goal
 
 -- what stands first of two lists
@@ -42,15 +40,15 @@ module _ (search : Search) (pattern text : List ℕ) (start : ℕ) (stop : Optio
 
 pub returns-in-Some : goal.returns-in-Some
 returns-in-Some g c =
-    found_near c.args.search c.args.pattern.now (text_of (g.S.TextStore.list c.args.store.now)) c.args.start c.args.stop c.visible.result c.stretches-far.result.0 c.stretches-far.result.1
-    c.stretches-far.ensures.value (length_text (g.S.TextStore.list c.args.store.now) c.visible.result c.visible.ensures) c.in-Some.place c.in-Some.ensures
+    found_near c.args.search c.args.pattern.now c.args.text.now c.args.start c.args.stop c.len.result c.stretches-far.result.0 c.stretches-far.result.1
+    c.stretches-far.ensures.value c.len.ensures c.in-Some.place c.in-Some.ensures
 
 pub returns-in-Some-far : goal.returns-in-Some-far
 returns-in-Some-far g c =
-    found_far c.args.search c.args.pattern.now (text_of (g.S.TextStore.list c.args.store.now)) c.args.start c.args.stop c.visible.result c.stretches-far.result.0 c.stretches-far.result.1
-    c.stretches-far.ensures.value (length_text (g.S.TextStore.list c.args.store.now) c.visible.result c.visible.ensures) c.in-Some-far.far c.first_in-in-Some-far.result c.in-Some-far.is c.in_default.ensures c.first_in-in-Some-far.ensures
+    found_far c.args.search c.args.pattern.now c.args.text.now c.args.start c.args.stop c.len.result c.stretches-far.result.0 c.stretches-far.result.1
+    c.stretches-far.ensures.value c.len.ensures c.in-Some-far.far c.first_in-in-Some-far.result c.in-Some-far.is c.in_default.ensures c.first_in-in-Some-far.ensures
 
 pub returns-in-None : goal.returns-in-None
 returns-in-None g c =
-    found_none c.args.search c.args.pattern.now (text_of (g.S.TextStore.list c.args.store.now)) c.args.start c.args.stop c.visible.result c.stretches-far.result.0 c.stretches-far.result.1
-    c.stretches-far.ensures.value (length_text (g.S.TextStore.list c.args.store.now) c.visible.result c.visible.ensures) c.in-None.is c.in_default.ensures
+    found_none c.args.search c.args.pattern.now c.args.text.now c.args.start c.args.stop c.len.result c.stretches-far.result.0 c.stretches-far.result.1
+    c.stretches-far.ensures.value c.len.ensures c.in-None.is c.in_default.ensures

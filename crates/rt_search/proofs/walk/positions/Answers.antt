@@ -3,7 +3,6 @@ use Rattle.std.proofs.lemmas.List.{map_more, take_all}
 use Rattle.std.proofs.lemmas.Result.{err_from_is_err_and}
 use Rattle.rt_stamps.specs.Places.{position_at}
 use Rattle.rt_stamps.specs.declared.position.Position.{Position}
-use Rattle.rt_store.specs.Cells.{text_of}
 use Rattle.rt_search.specs.Walks.{Stands}
 use Rattle.rt_search.specs.declared.walk.Walk.{Walk}
 use Rattle.rt_search.proofs.walk.positions.Goals as goal
@@ -14,7 +13,7 @@ position_of text walk s = λ j. record { line = s.line j; character = walk.place
 
 pub position-requires : goal.position-requires
 position-requires g c =
-    let text = text_of (g.S.TextStore.list c.args.store.now) in
+    let text = c.args.text.now in
     let stands : Stands text c.if-place-walk.walk = elim c.if-place-walk.branch [
       | then-place-walk w ↦ subst (λ walk. Stands text walk) (sym w.walk-is) w.at-walk-then-place-walk.ensures.stands
       | else-place-walk w ↦ subst (λ walk. Stands text walk) (sym w.walk-is) w.go_to.ensures.stands
@@ -28,7 +27,7 @@ returns-in_err-push g c =
 
 pub loop-place-preserved : goal.loop-place-preserved
 loop-place-preserved g c =
-    let text = text_of (g.S.TextStore.list c.args.store.now) in
+    let text = c.args.text.now in
     let places = c.args.places.now in
     let index = c.loop-place.place-index in
     let stands : Stands text c.if-place-walk.walk = elim c.if-place-walk.branch [
@@ -50,4 +49,4 @@ loop-place-preserved g c =
 pub returns-clause-ok : goal.returns-clause-ok
 returns-clause-ok g c =
     c.loop-place.invariant.positions
-    ∙ ap (map (position_at (text_of (g.S.TextStore.list c.args.store.now)))) (take_all c.loop-place.place-index c.args.places.now c.loop-place-test.false)
+    ∙ ap (map (position_at c.args.text.now)) (take_all c.loop-place.place-index c.args.places.now c.loop-place-test.false)

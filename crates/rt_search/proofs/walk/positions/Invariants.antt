@@ -1,11 +1,10 @@
 use Rattle.std.proofs.Common.{◌≡◌, ◌<◌, length, map, take}
 use Rattle.rt_stamps.specs.Places.{position_at}
-use Rattle.rt_store.specs.Cells.{text_of}
 use Rattle.rt_search.specs.Walks.{Stands}
 use Rattle.rt_search.proofs.walk.positions.Given as goal
 
 abbrev pub invariant-loop-place : goal.invariant-loop-place
 invariant-loop-place g l = record {
-  stands : Stands (text_of (g.S.TextStore.list l.store)) l.walk;
-  positions : l.positions.items ≡ map (position_at (text_of (g.S.TextStore.list l.store))) (take l.place-index l.places);
+  stands : Stands l.text l.walk;
+  positions : l.positions.items ≡ map (position_at l.text) (take l.place-index l.places);
 }

@@ -9,4 +9,4 @@ returns-clause-ok g c =
     let places = c.args.places.items in
     let f = position_at (text_shown c.args.view.now) in
     let turned : c.deref-in-Backwards.result.now ≡ reverse places = c.deref-in-Backwards.ensures.value ∙ c.reverse.ensures.items in
-    rw (c.reverse-in-Backwards.ensures.items, c.in_ok-found-in-Backwards.ensures.ok, c.store-in-Backwards.ensures.text, turned) (turned_twice f places)
+    rw (c.reverse-in-Backwards.ensures.items, c.in_ok-found-in-Backwards.ensures.ok, c.shown-text.ensures, turned) (turned_twice f places)

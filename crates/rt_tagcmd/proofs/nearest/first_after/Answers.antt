@@ -1,11 +1,16 @@
-use Rattle.rt_marks.specs.Marks.{with_mark}
+use Rattle.std.proofs.Common.{◌≡◌, ◌∙◌, ap, find, option_map}
+use Rattle.rt_marks.specs.Marks.{Mark, comes_before, find_last, with_mark}
 use Rattle.rt_marks.specs.Seen.{spotted}
-use Rattle.rt_marks.proofs.Names.{ordered_with}
+use Rattle.rt_text.specs.Widgets.{marks_shown, own_shown}
 use Rattle.rt_tagcmd.proofs.nearest.first_after.Goals as goal
 
 pub returns : goal.returns
-returns c =
-    let marks = c.args.marks.now in
-    let current = spotted c.args.current in
-    c.nearer_after.ensures (with_mark current marks) (ordered_with current marks c.requires c.order.ensures.in_order)
-    (c.nearer_after-found.ensures marks c.order.ensures.in_order c.first_after.ensures)
+returns g c =
+    let view = c.args.view.now in
+    let shown = marks_shown view in
+    let own = own_shown view in
+    let found : option_map spotted c.nearer_after-found.result ≡ find (comes_before (spotted c.args.here.now)) (with_mark own.current shown) =
+    c.nearer_after-found.ensures shown c.order.ensures.site.1 c.first_shown.ensures
+    ∙ ap (λ (x : Mark). find (comes_before (spotted c.args.here.now)) (with_mark x shown)) c.own_spot.ensures in
+    c.nearer_after.ensures (with_mark own.current shown) c.order.ensures.site.0 found
+    ∙ ap (λ (x : Mark). find (comes_before (spotted c.args.here.now)) (with_mark x (with_mark own.current shown))) c.own_spot-2.ensures

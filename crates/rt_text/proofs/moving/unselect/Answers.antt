@@ -1,10 +1,14 @@
-use Rattle.std.proofs.Common.{◌∙◌, ap, map, sym}
+use Rattle.std.proofs.Common.{◌≡◌, List, [], ◌∷◌, ◌∙◌, ap, cond, map, refl, sym}
+use Rattle.rt_edits.specs.Selections.{unselected}
 use Rattle.rt_text.specs.Parts.{own_in}
-use Rattle.rt_text.specs.Widgets.{reselected}
-use Rattle.rt_text.proofs.Deletions.{last_off, map_same}
+use Rattle.rt_text.specs.Widgets.{Own, reselected}
 use Rattle.rt_text.proofs.moving.unselect.Goals as goal
+
+selected_still : (others : List Own) → map (reselected (λ sel. sel)) others ≡ others
+selected_still [] = refl
+selected_still (own ∷ others) = ap (λ l. own ∷ l) (selected_still others)
 
 pub returns-else-held-clause-others : goal.returns-else-held-clause-others
 returns-else-held-clause-others c =
     let others = map own_in c.args.others.now in
-    sym (map_same others) ∙ ap (λ b. map (reselected (last_off b)) others) (sym c.if-held.false)
+    sym (selected_still others) ∙ ap (λ b. map (reselected (λ sel. cond b (unselected (c.args.last ∷ []) sel) sel)) others) (sym c.if-held.false)

@@ -1,4 +1,4 @@
-use Rattle.std.proofs.Common.{◌≡◌, ◌≤◌, ◌&&◌, subst, sym, true, ap, ◌<◌, ◌∙◌, arith, length}
+use Rattle.std.proofs.Common.{◌≡◌, ◌≤◌, ◌&&◌, subst, sym, true, ◌<◌, ◌∙◌, arith, length}
 use Rattle.std.proofs.lemmas.List.{length-set}
 use Rattle.rt_edits.specs.Insertions.{selected_if}
 use Rattle.rt_edits.specs.Selected.{room_in, stamps_in}

@@ -1,14 +1,18 @@
 use Rattle.std.proofs.Common.{arith}
 use Rattle.std.proofs.lemmas.Grind.{common_steps}
-use Rattle.rt_edits.proofs.PlaceLaws.{length_text}
+use Rattle.rt_store.specs.Cells.{text_of}
+use Rattle.rt_views.proofs.Parts.{part_length}
 use Rattle.rt_text.proofs.RangeLaws.{texts_some, texts_none}
 use Rattle.rt_text.proofs.range.texts_of.Goals as goal
-use Rattle.rt_text.proofs.range.texts_of.Goals.{then-range-min+in_ok-text_between+in_ok-push, else-range-min}
+use Rattle.rt_text.proofs.range.texts_of.Goals.{then-range-min+in_ok-shown_between+in_ok-push, else-range-min}
+
+pub overflow_sub-visible : goal.overflow_sub-visible
+overflow_sub-visible g c = omega (arith, c.requires.0)
 
 pub loop-range-preserved : goal.loop-range-preserved
 loop-range-preserved g c =
-    let n = length_text (g.S.TextStore.list c.args.store.now) in
+    let n = part_length c.args.stretch (text_of (g.S.TextStore.list c.args.store.now)) c.requires.1 in
     elim c.if-range-min.branch [
-      | then-range-min+in_ok-text_between+in_ok-push w ↦ grind (arith, common_steps, texts_some)
+      | then-range-min+in_ok-shown_between+in_ok-push w ↦ grind (arith, common_steps, texts_some)
       | else-range-min w ↦ grind (arith, common_steps, texts_none)
     ]

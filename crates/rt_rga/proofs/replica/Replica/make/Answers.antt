@@ -28,12 +28,12 @@ make_all-requires-clause-continues g c =
     let bodies : List Body = map body_of c.args.drafts.items in
     let seen : v.log.operations ≡ now.log = ap (λ (a : ReplicaValue). a.log) c.self.view_is in
     let site : c.number-site.result ≡ now.site = c.number-site.ensures.value ∙ ap (λ (a : ReplicaValue). a.site) c.self.view_is in
-    let last : c.seen.result ≡ greatest_last_count now.log = c.seen.ensures.value ∙ c.self.invariant.seen ∙ ap greatest_last_count seen in
+    let last : c.seen.result ≡ greatest_last_count now.log = c.seen.ensures.value ∙ c.self.invariant.0.seen ∙ ap greatest_last_count seen in
     let prev : c.known.result ≡ known_end now.log now.site = c.known.ensures ∙ (λ i. known_end (seen i) (site i)) in
-    let cells : c.cells.result ≡ length (cells_of now.log) = c.cells.ensures ∙ sym (length-map kept (shown v.states)) ∙ ap length c.self.invariant.replica.cells ∙ ap (λ (ops : List Operation). length (cells_of ops)) seen in
+    let cells : c.cells.result ≡ length (cells_of now.log) = c.cells.ensures ∙ sym (length-map kept (shown v.states)) ∙ ap length c.self.invariant.0.replica.cells ∙ ap (λ (ops : List Operation). length (cells_of ops)) seen in
     let limit : v.limit ≡ now.limit = ap (λ (a : ReplicaValue). a.limit) c.self.view_is in
     let fits : refusal_of now.limit bodies now.log ≡ None =
-    sym (refusal_is c.seen.result _ now.limit c.cells.result bodies now.log last cells (omega (arith, limit, c.self.invariant.cells, c.cells.ensures))) ∙ c.in_ok-ops.ensures.fits in
+    sym (refusal_is c.seen.result _ now.limit c.cells.result bodies now.log last cells (omega (arith, limit, c.self.invariant.0.cells, c.cells.ensures))) ∙ c.in_ok-ops.ensures.fits in
     (ready now.site now.limit bodies now.log c.in_ok-ops.ops.items (omega (arith, site, c.number-site.ensures.positive)) c.requires fits
     (c.in_ok-ops.ensures.ops ∙ made_of c.number-site.result now.site c.seen.result c.known.result bodies now.log site last prev)).continues
 
@@ -45,12 +45,12 @@ make_all-requires-clause-newest g c =
     let bodies : List Body = map body_of c.args.drafts.items in
     let seen : v.log.operations ≡ now.log = ap (λ (a : ReplicaValue). a.log) c.self.view_is in
     let site : c.number-site.result ≡ now.site = c.number-site.ensures.value ∙ ap (λ (a : ReplicaValue). a.site) c.self.view_is in
-    let last : c.seen.result ≡ greatest_last_count now.log = c.seen.ensures.value ∙ c.self.invariant.seen ∙ ap greatest_last_count seen in
+    let last : c.seen.result ≡ greatest_last_count now.log = c.seen.ensures.value ∙ c.self.invariant.0.seen ∙ ap greatest_last_count seen in
     let prev : c.known.result ≡ known_end now.log now.site = c.known.ensures ∙ (λ i. known_end (seen i) (site i)) in
-    let cells : c.cells.result ≡ length (cells_of now.log) = c.cells.ensures ∙ sym (length-map kept (shown v.states)) ∙ ap length c.self.invariant.replica.cells ∙ ap (λ (ops : List Operation). length (cells_of ops)) seen in
+    let cells : c.cells.result ≡ length (cells_of now.log) = c.cells.ensures ∙ sym (length-map kept (shown v.states)) ∙ ap length c.self.invariant.0.replica.cells ∙ ap (λ (ops : List Operation). length (cells_of ops)) seen in
     let limit : v.limit ≡ now.limit = ap (λ (a : ReplicaValue). a.limit) c.self.view_is in
     let fits : refusal_of now.limit bodies now.log ≡ None =
-    sym (refusal_is c.seen.result _ now.limit c.cells.result bodies now.log last cells (omega (arith, limit, c.self.invariant.cells, c.cells.ensures))) ∙ c.in_ok-ops.ensures.fits in
+    sym (refusal_is c.seen.result _ now.limit c.cells.result bodies now.log last cells (omega (arith, limit, c.self.invariant.0.cells, c.cells.ensures))) ∙ c.in_ok-ops.ensures.fits in
     (ready now.site now.limit bodies now.log c.in_ok-ops.ops.items (omega (arith, site, c.number-site.ensures.positive)) c.requires fits
     (c.in_ok-ops.ensures.ops ∙ made_of c.number-site.result now.site c.seen.result c.known.result bodies now.log site last prev)).newest
 
@@ -62,15 +62,15 @@ make_all-requires-clause-room g c =
     let bodies : List Body = map body_of c.args.drafts.items in
     let seen : v.log.operations ≡ now.log = ap (λ (a : ReplicaValue). a.log) c.self.view_is in
     let site : c.number-site.result ≡ now.site = c.number-site.ensures.value ∙ ap (λ (a : ReplicaValue). a.site) c.self.view_is in
-    let last : c.seen.result ≡ greatest_last_count now.log = c.seen.ensures.value ∙ c.self.invariant.seen ∙ ap greatest_last_count seen in
+    let last : c.seen.result ≡ greatest_last_count now.log = c.seen.ensures.value ∙ c.self.invariant.0.seen ∙ ap greatest_last_count seen in
     let prev : c.known.result ≡ known_end now.log now.site = c.known.ensures ∙ (λ i. known_end (seen i) (site i)) in
-    let cells : c.cells.result ≡ length (cells_of now.log) = c.cells.ensures ∙ sym (length-map kept (shown v.states)) ∙ ap length c.self.invariant.replica.cells ∙ ap (λ (ops : List Operation). length (cells_of ops)) seen in
+    let cells : c.cells.result ≡ length (cells_of now.log) = c.cells.ensures ∙ sym (length-map kept (shown v.states)) ∙ ap length c.self.invariant.0.replica.cells ∙ ap (λ (ops : List Operation). length (cells_of ops)) seen in
     let limit : v.limit ≡ now.limit = ap (λ (a : ReplicaValue). a.limit) c.self.view_is in
     let fits : refusal_of now.limit bodies now.log ≡ None =
-    sym (refusal_is c.seen.result _ now.limit c.cells.result bodies now.log last cells (omega (arith, limit, c.self.invariant.cells, c.cells.ensures))) ∙ c.in_ok-ops.ensures.fits in
+    sym (refusal_is c.seen.result _ now.limit c.cells.result bodies now.log last cells (omega (arith, limit, c.self.invariant.0.cells, c.cells.ensures))) ∙ c.in_ok-ops.ensures.fits in
     let room = (ready now.site now.limit bodies now.log c.in_ok-ops.ops.items (omega (arith, site, c.number-site.ensures.positive)) c.requires fits
     (c.in_ok-ops.ensures.ops ∙ made_of c.number-site.result now.site c.seen.result c.known.result bodies now.log site last prev)).room in
-    let many : length now.cells ≡ length (cells_of now.log) = sym (ap (λ (a : ReplicaValue). length a.cells) c.self.view_is) ∙ ap (λ (xs : List TaggedCell). length xs) c.self.invariant.replica.cells ∙ ap (λ (ops : List Operation). length (cells_of ops)) seen in
+    let many : length now.cells ≡ length (cells_of now.log) = sym (ap (λ (a : ReplicaValue). length a.cells) c.self.view_is) ∙ ap (λ (xs : List TaggedCell). length xs) c.self.invariant.0.replica.cells ∙ ap (λ (ops : List Operation). length (cells_of ops)) seen in
     omega (arith, room, many)
 
 pub returns-clause-made : goal.returns-clause-made
@@ -80,7 +80,7 @@ returns-clause-made g c =
     let bodies : List Body = map body_of c.args.drafts.items in
     let seen : v.log.operations ≡ now.log = ap (λ (a : ReplicaValue). a.log) c.self.view_is in
     let site : c.number-site.result ≡ now.site = c.number-site.ensures.value ∙ ap (λ (a : ReplicaValue). a.site) c.self.view_is in
-    let last : c.seen.result ≡ greatest_last_count now.log = c.seen.ensures.value ∙ c.self.invariant.seen ∙ ap greatest_last_count seen in
+    let last : c.seen.result ≡ greatest_last_count now.log = c.seen.ensures.value ∙ c.self.invariant.0.seen ∙ ap greatest_last_count seen in
     let prev : c.known.result ≡ known_end now.log now.site = c.known.ensures ∙ (λ i. known_end (seen i) (site i)) in
     c.in_ok-ops.ensures.copies ∙ made_of c.number-site.result now.site c.seen.result c.known.result bodies now.log site last prev
 
@@ -91,7 +91,7 @@ returns-clause-log g c =
     let bodies : List Body = map body_of c.args.drafts.items in
     let seen : v.log.operations ≡ now.log = ap (λ (a : ReplicaValue). a.log) c.self.view_is in
     let site : c.number-site.result ≡ now.site = c.number-site.ensures.value ∙ ap (λ (a : ReplicaValue). a.site) c.self.view_is in
-    let last : c.seen.result ≡ greatest_last_count now.log = c.seen.ensures.value ∙ c.self.invariant.seen ∙ ap greatest_last_count seen in
+    let last : c.seen.result ≡ greatest_last_count now.log = c.seen.ensures.value ∙ c.self.invariant.0.seen ∙ ap greatest_last_count seen in
     let prev : c.known.result ≡ known_end now.log now.site = c.known.ensures ∙ (λ i. known_end (seen i) (site i)) in
     c.in_ok-make_all.ensures.log
     ∙ ap (λ (ops : List Operation). with_operations ops now.log) (c.in_ok-ops.ensures.ops ∙ made_of c.number-site.result now.site c.seen.result c.known.result bodies now.log site last prev)
@@ -100,7 +100,7 @@ itself : (t : TagStates) → KeepsIds t t
 itself t = record { tags = λ tag h. (h, refl); states = λ state h. (h, refl) }
 
 pub overflow_sub-self-inside : goal.overflow_sub-self-inside
-overflow_sub-self-inside g c = omega (arith, c.self.invariant.cells, c.cells.ensures)
+overflow_sub-self-inside g c = omega (arith, c.self.invariant.0.cells, c.cells.ensures)
 
 pub prepared-requires-clause-last : goal.prepared-requires-clause-last
 prepared-requires-clause-last g c = c.seen.ensures.greatest
@@ -115,10 +115,10 @@ returns-clause-fits g c =
     let kept : List (Cell ℕ) = g.S.TextStore.list v.store in
     let bodies : List Body = map body_of c.args.drafts.items in
     let seen : v.log.operations ≡ now.log = ap (λ (a : ReplicaValue). a.log) c.self.view_is in
-    let last : c.seen.result ≡ greatest_last_count now.log = c.seen.ensures.value ∙ c.self.invariant.seen ∙ ap greatest_last_count seen in
-    let cells : c.cells.result ≡ length (cells_of now.log) = c.cells.ensures ∙ sym (length-map kept (shown v.states)) ∙ ap length c.self.invariant.replica.cells ∙ ap (λ (ops : List Operation). length (cells_of ops)) seen in
+    let last : c.seen.result ≡ greatest_last_count now.log = c.seen.ensures.value ∙ c.self.invariant.0.seen ∙ ap greatest_last_count seen in
+    let cells : c.cells.result ≡ length (cells_of now.log) = c.cells.ensures ∙ sym (length-map kept (shown v.states)) ∙ ap length c.self.invariant.0.replica.cells ∙ ap (λ (ops : List Operation). length (cells_of ops)) seen in
     let limit : v.limit ≡ now.limit = ap (λ (a : ReplicaValue). a.limit) c.self.view_is in
-    let told = refusal_is c.seen.result _ now.limit c.cells.result bodies now.log last cells (omega (arith, limit, c.self.invariant.cells, c.cells.ensures)) in
+    let told = refusal_is c.seen.result _ now.limit c.cells.result bodies now.log last cells (omega (arith, limit, c.self.invariant.0.cells, c.cells.ensures)) in
     let fits : refusal_of now.limit bodies now.log ≡ None = sym told ∙ c.in_ok-ops.ensures.fits in
     fits
 
@@ -132,10 +132,10 @@ returns-clause-kept g c = λ no.
     let kept : List (Cell ℕ) = g.S.TextStore.list v.store in
     let bodies : List Body = map body_of c.args.drafts.items in
     let seen : v.log.operations ≡ now.log = ap (λ (a : ReplicaValue). a.log) c.self.view_is in
-    let last : c.seen.result ≡ greatest_last_count now.log = c.seen.ensures.value ∙ c.self.invariant.seen ∙ ap greatest_last_count seen in
-    let cells : c.cells.result ≡ length (cells_of now.log) = c.cells.ensures ∙ sym (length-map kept (shown v.states)) ∙ ap length c.self.invariant.replica.cells ∙ ap (λ (ops : List Operation). length (cells_of ops)) seen in
+    let last : c.seen.result ≡ greatest_last_count now.log = c.seen.ensures.value ∙ c.self.invariant.0.seen ∙ ap greatest_last_count seen in
+    let cells : c.cells.result ≡ length (cells_of now.log) = c.cells.ensures ∙ sym (length-map kept (shown v.states)) ∙ ap length c.self.invariant.0.replica.cells ∙ ap (λ (ops : List Operation). length (cells_of ops)) seen in
     let limit : v.limit ≡ now.limit = ap (λ (a : ReplicaValue). a.limit) c.self.view_is in
-    let told = refusal_is c.seen.result _ now.limit c.cells.result bodies now.log last cells (omega (arith, limit, c.self.invariant.cells, c.cells.ensures)) in
+    let told = refusal_is c.seen.result _ now.limit c.cells.result bodies now.log last cells (omega (arith, limit, c.self.invariant.0.cells, c.cells.ensures)) in
     let fits : refusal_of now.limit bodies now.log ≡ None = sym told ∙ c.in_ok-ops.ensures.fits in
     absurd (no fits)
 
@@ -159,10 +159,10 @@ returns-in_err-ops g c =
     let kept : List (Cell ℕ) = g.S.TextStore.list v.store in
     let bodies : List Body = map body_of c.args.drafts.items in
     let seen : v.log.operations ≡ now.log = ap (λ (a : ReplicaValue). a.log) c.self.view_is in
-    let last : c.seen.result ≡ greatest_last_count now.log = c.seen.ensures.value ∙ c.self.invariant.seen ∙ ap greatest_last_count seen in
-    let cells : c.cells.result ≡ length (cells_of now.log) = c.cells.ensures ∙ sym (length-map kept (shown v.states)) ∙ ap length c.self.invariant.replica.cells ∙ ap (λ (ops : List Operation). length (cells_of ops)) seen in
+    let last : c.seen.result ≡ greatest_last_count now.log = c.seen.ensures.value ∙ c.self.invariant.0.seen ∙ ap greatest_last_count seen in
+    let cells : c.cells.result ≡ length (cells_of now.log) = c.cells.ensures ∙ sym (length-map kept (shown v.states)) ∙ ap length c.self.invariant.0.replica.cells ∙ ap (λ (ops : List Operation). length (cells_of ops)) seen in
     let limit : v.limit ≡ now.limit = ap (λ (a : ReplicaValue). a.limit) c.self.view_is in
-    let told = refusal_is c.seen.result _ now.limit c.cells.result bodies now.log last cells (omega (arith, limit, c.self.invariant.cells, c.cells.ensures)) in
+    let told = refusal_is c.seen.result _ now.limit c.cells.result bodies now.log last cells (omega (arith, limit, c.self.invariant.0.cells, c.cells.ensures)) in
     let fault : Fault = c.in_err-ops.field-0.0 in
     let P : Option Fault → Type 0 = λ r. (r ≡ Some fault) ⊎ ((fault ≡ NoMemory) × (r ≡ None)) in
     rw (is, gives) (record {
@@ -186,10 +186,10 @@ returns-in_err-make_all g c =
     let kept : List (Cell ℕ) = g.S.TextStore.list v.store in
     let bodies : List Body = map body_of c.args.drafts.items in
     let seen : v.log.operations ≡ now.log = ap (λ (a : ReplicaValue). a.log) c.self.view_is in
-    let last : c.seen.result ≡ greatest_last_count now.log = c.seen.ensures.value ∙ c.self.invariant.seen ∙ ap greatest_last_count seen in
-    let cells : c.cells.result ≡ length (cells_of now.log) = c.cells.ensures ∙ sym (length-map kept (shown v.states)) ∙ ap length c.self.invariant.replica.cells ∙ ap (λ (ops : List Operation). length (cells_of ops)) seen in
+    let last : c.seen.result ≡ greatest_last_count now.log = c.seen.ensures.value ∙ c.self.invariant.0.seen ∙ ap greatest_last_count seen in
+    let cells : c.cells.result ≡ length (cells_of now.log) = c.cells.ensures ∙ sym (length-map kept (shown v.states)) ∙ ap length c.self.invariant.0.replica.cells ∙ ap (λ (ops : List Operation). length (cells_of ops)) seen in
     let limit : v.limit ≡ now.limit = ap (λ (a : ReplicaValue). a.limit) c.self.view_is in
-    let told = refusal_is c.seen.result _ now.limit c.cells.result bodies now.log last cells (omega (arith, limit, c.self.invariant.cells, c.cells.ensures)) in
+    let told = refusal_is c.seen.result _ now.limit c.cells.result bodies now.log last cells (omega (arith, limit, c.self.invariant.0.cells, c.cells.ensures)) in
     let fits : refusal_of now.limit bodies now.log ≡ None = sym told ∙ c.in_ok-ops.ensures.fits in
     rw (is, gives) (record {
       made = tt;

@@ -14,13 +14,13 @@ pub invariant_of-self-in_err-change_all : goal.invariant_of-self-in_err-change_a
 invariant_of-self-in_err-change_all g c =
     let v = c.self.inside in
     let kept : List (Cell ℕ) = g.S.TextStore.list v.store in
-    within_later v.log.operations c.reserve.new.self.operations v.states c.change_all.new.states kept (g.S.TextStore.list c.change_all.new.store) v.clock v.limit c.reserve.ensures.same c.in_err-change_all.ensures.same c.change_all.ensures.ids c.self.invariant
+    (within_later v.log.operations c.reserve.new.self.operations v.states c.change_all.new.states kept (g.S.TextStore.list c.change_all.new.store) v.clock v.limit c.reserve.ensures.same c.in_err-change_all.ensures.same c.change_all.ensures.ids c.self.invariant.0, c.change_all.ensures.agrees)
 
 pub invariant_of-self : goal.invariant_of-self
 invariant_of-self g c =
     let v = c.self.inside in
     let kept : List (Cell ℕ) = g.S.TextStore.list v.store in
-    within_later v.log.operations c.reserve.new.self.operations v.states v.states kept kept v.clock v.limit c.reserve.ensures.same refl (itself v.states) c.self.invariant
+    (within_later v.log.operations c.reserve.new.self.operations v.states v.states kept kept v.clock v.limit c.reserve.ensures.same refl (itself v.states) c.self.invariant.0, c.self.invariant.1)
 
 pub returns-in_err-reserve : goal.returns-in_err-reserve
 returns-in_err-reserve g c =
@@ -31,7 +31,7 @@ returns-in_err-reserve g c =
     rw (is, gives) (record {
       log = tt;
       cells = tt;
-      same = same_value v.log.operations c.reserve.new.self.operations v.states v.states kept kept v.site.number v.limit c.reserve.ensures.same refl ids c.self.invariant.replica.states
+      same = same_value v.log.operations c.reserve.new.self.operations v.states v.states kept kept v.site.number v.limit c.reserve.ensures.same refl ids c.self.invariant.0.replica.states
           ∙ ap (λ (a : ReplicaValue). record a { table = v.states }) c.self.view_is;
       site = ap (λ (a : ReplicaValue). a.site) c.self.view_is;
       limit = ap (λ (a : ReplicaValue). a.limit) c.self.view_is;
@@ -48,7 +48,7 @@ returns-in_err-change_all g c =
     rw (is, gives) (record {
       log = tt;
       cells = tt;
-      same = same_value v.log.operations c.reserve.new.self.operations v.states c.change_all.new.states kept (g.S.TextStore.list c.change_all.new.store) v.site.number v.limit c.reserve.ensures.same c.in_err-change_all.ensures.same ids c.self.invariant.replica.states
+      same = same_value v.log.operations c.reserve.new.self.operations v.states c.change_all.new.states kept (g.S.TextStore.list c.change_all.new.store) v.site.number v.limit c.reserve.ensures.same c.in_err-change_all.ensures.same ids c.self.invariant.0.replica.states
           ∙ ap (λ (a : ReplicaValue). record a { table = c.change_all.new.states }) c.self.view_is;
       site = ap (λ (a : ReplicaValue). a.site) c.self.view_is;
       limit = ap (λ (a : ReplicaValue). a.limit) c.self.view_is;
@@ -73,3 +73,6 @@ returns-clause-ids g c = subst (λ (t : TagStates). KeepsIds t c.change_all.new.
 
 pub returns-clause-fault : goal.returns-clause-fault
 returns-clause-fault g c = tt
+
+pub change_all-requires-clause-agrees : goal.change_all-requires-clause-agrees
+change_all-requires-clause-agrees g c = c.self.invariant.1

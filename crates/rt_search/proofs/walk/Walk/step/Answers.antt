@@ -1,6 +1,5 @@
 use Rattle.std.proofs.Common.{◌≡◌, ◌+◌, ◌<◌, ◌∙◌, length, get_or, arith, ap, sym}
 use Rattle.std.proofs.lemmas.Option.{get_or_from_slice_get}
-use Rattle.rt_store.specs.Cells.{text_of}
 use Rattle.rt_search.proofs.Lines.{line_next, line_same, start_next, start_same}
 use Rattle.rt_search.proofs.walk.Walk.step.Goals as goal
 
@@ -9,7 +8,7 @@ overflow_add-self-then-character-eq10 g c = omega (arith, c.requires.stands.few)
 
 pub returns-then-character-eq10-clause-stands : goal.returns-then-character-eq10-clause-stands
 returns-then-character-eq10-clause-stands g c =
-    let text = text_of (g.S.TextStore.list c.args.store.now) in
+    let text = c.args.text.now in
     let p = c.args.self.now.place in
     let here : get_or text p 0 ≡ c.at-character.result = get_or_from_slice_get text p c.at-character.result 0 c.at-character.ensures.value in
     let inside : p < length text = omega arith in
@@ -25,7 +24,7 @@ returns-then-character-eq10-clause-stands g c =
 
 pub returns-else-character-eq10-clause-stands : goal.returns-else-character-eq10-clause-stands
 returns-else-character-eq10-clause-stands g c =
-    let text = text_of (g.S.TextStore.list c.args.store.now) in
+    let text = c.args.text.now in
     let p = c.args.self.now.place in
     let here : get_or text p 0 ≡ c.at-character.result = get_or_from_slice_get text p c.at-character.result 0 c.at-character.ensures.value in
     let inside : p < length text = omega arith in

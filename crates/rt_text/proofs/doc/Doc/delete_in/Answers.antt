@@ -6,24 +6,24 @@ use Rattle.std.proofs.lemmas.Result.{err_from_is_err_and}
 use Rattle.rt_stamps.specs.declared.limits.TheConstants.{MOST_SPANS}
 use Rattle.rt_marks.specs.Marks.{Mark, marks_left}
 use Rattle.rt_oplog.specs.Edits.{body_of}
-use Rattle.rt_store.specs.declared.cell.Cell.{Cell}
 use Rattle.rt_store.specs.Cells.{text_of}
 use Rattle.rt_store.specs.Shown.{TaggedCell, shown}
-use Rattle.rt_store.proofs.Shown.{text_shown}
-use Rattle.rt_tags.specs.States.{TagStates, state_at}
 use Rattle.rt_rga.specs.Drafts.{with_drafts}
 use Rattle.rt_rga.specs.Kept.{ReplicaValue}
 use Rattle.rt_rga.specs.Made.{refusal_of}
 use Rattle.rt_rga.specs.Requests.{MayBeMade}
 use Rattle.rt_edits.specs.declared.range.Range.{Range}
-use Rattle.rt_edits.specs.Deletions.{delete_drafts, loss_in, without_text}
+use Rattle.rt_edits.specs.Deletions.{Loss, delete_drafts, loss_in, without_text}
 use Rattle.rt_edits.specs.Flat.{Flat, logged}
 use Rattle.rt_edits.specs.Listed.{AreListed}
 use Rattle.rt_edits.specs.Removals.{is_covered}
 use Rattle.rt_text.specs.Commands.{clock_check}
 use Rattle.rt_text.specs.Parts.{own_in}
-use Rattle.rt_text.specs.Widgets.{IsOwnOf, AreSiteMarks, own_left, reselected}
-use Rattle.rt_text.proofs.Deletions.{deletion_edited, deletion_may, deletion_others, deletion_own, deletion_placed, deletion_refusal, deletion_seen, last_off, loss_of, widget_left}
+use Rattle.rt_stamps.specs.declared.stamp.Stamp.{Stamp}
+use Rattle.rt_views.specs.Stretches.{part, stretch_of}
+use Rattle.rt_text.specs.Widgets.{AreSiteMarks, IsOwnOf, Own, last_newline, own_left, reselected}
+use Rattle.rt_text.proofs.LimitedDeletions.{deletion_edited, deletion_may, deletion_others, deletion_own, deletion_placed, deletion_refusal, deletion_seen, last_gone, last_kept, loss_kept, loss_of, widget_left}
+use Rattle.rt_text.proofs.ViewLaws.{viewed}
 use Rattle.rt_text.proofs.DeletionLaws.{deletion_listed}
 use Rattle.rt_text.proofs.MadeDocument.{seen}
 use Rattle.rt_text.proofs.PeerLaws.{leave_then}
@@ -34,96 +34,108 @@ which : {F X : Type 0} {r checked : X} {fault memory : F} {some none : X} → (r
 which (inl e) s = inr (sym s ∙ e)
 which (inr p) s = inl p.0
 
--- the text, as cells are shown
-same_text : (table : TagStates) (kept : List (Cell ℕ)) (flat : Flat) → map (shown table) kept ≡ flat.cells → text_of kept ≡ text_of flat.cells
-same_text table kept flat h = sym (text_shown (state_at table) kept) ∙ ap text_of h
-
 pub make-requires : goal.make-requires
 make-requires g c =
     let flat = c.args.self.now in
-    let drafts : map body_of c.in_ok-deletion.deletion.drafts.items ≡ delete_drafts MOST_SPANS flat (loss_of flat c.args.ranges.now) =
-    c.in_ok-deletion.ensures.drafts flat (sym c.kept.ensures.cells) ∙ ap (λ t. delete_drafts MOST_SPANS flat (loss_in t 0 c.args.ranges.now)) (same_text c.kept.result.1.now (g.S.TextStore.list c.kept.result.0.now) flat c.kept.ensures.cells) in
+    let drafts : map body_of c.in_ok-deletion.deletion.drafts.items ≡ delete_drafts MOST_SPANS flat (loss_of flat c.args.widget.now.limits c.args.ranges.now) =
+    c.in_ok-deletion.ensures.drafts flat (sym c.kept.ensures.cells)
+    ∙ ap (delete_drafts MOST_SPANS flat)
+    (loss_kept c.kept.result.1.now (g.S.TextStore.list c.kept.result.0.now) flat c.args.widget.now.limits c.stretch-stretch.result c.args.ranges.now c.kept.ensures.cells
+    (c.stretch-stretch.ensures.value ∙ ap (stretch_of (g.S.TextStore.list c.kept.result.0.now)) c.limits.ensures)) in
     subst (λ (f : Flat). MayBeMade f.site f.log (map body_of c.in_ok-deletion.deletion.drafts.items)) (sym c.self.view_is)
-    (subst (MayBeMade flat.site flat.log) (sym drafts) (deletion_may flat c.args.ranges.now c.kept.ensures.history c.kept.ensures.document))
+    (subst (MayBeMade flat.site flat.log) (sym drafts) (deletion_may flat c.args.widget.now.limits c.args.ranges.now c.kept.ensures.history c.kept.ensures.document))
 
 pub returns-in_err-_made-clause-err : goal.returns-in_err-_made-clause-err
 returns-in_err-_made-clause-err g c =
     let flat = c.args.self.now in
     let ranges = c.args.ranges.now in
-    let drafts : map body_of c.in_ok-deletion.deletion.drafts.items ≡ delete_drafts MOST_SPANS flat (loss_of flat ranges) =
-    c.in_ok-deletion.ensures.drafts flat (sym c.kept.ensures.cells) ∙ ap (λ t. delete_drafts MOST_SPANS flat (loss_in t 0 ranges)) (same_text c.kept.result.1.now (g.S.TextStore.list c.kept.result.0.now) flat c.kept.ensures.cells) in
+    let limits = c.args.widget.now.limits in
+    let drafts : map body_of c.in_ok-deletion.deletion.drafts.items ≡ delete_drafts MOST_SPANS flat (loss_of flat limits ranges) =
+    c.in_ok-deletion.ensures.drafts flat (sym c.kept.ensures.cells)
+    ∙ ap (delete_drafts MOST_SPANS flat)
+    (loss_kept c.kept.result.1.now (g.S.TextStore.list c.kept.result.0.now) flat limits c.stretch-stretch.result ranges c.kept.ensures.cells
+    (c.stretch-stretch.ensures.value ∙ ap (stretch_of (g.S.TextStore.list c.kept.result.0.now)) c.limits.ensures)) in
     let few : length flat.cells ≤ flat.limit = omega (arith, c.kept.ensures.few, ap length c.kept.ensures.cells, length-map (g.S.TextStore.list c.kept.result.0.now) (shown c.kept.result.1.now)) in
     let bodies = map body_of c.in_ok-deletion.deletion.drafts.items in
-    let refusal : refusal_of c.self.inside.replica.limit bodies c.self.inside.replica.log ≡ clock_check (without_text flat (loss_of flat ranges)).count =
-    ap (λ (f : Flat). refusal_of f.limit bodies f.log) c.self.view_is ∙ ap (λ l. refusal_of flat.limit l flat.log) drafts ∙ deletion_refusal flat ranges c.kept.ensures.history c.kept.ensures.document few in
+    let refusal : refusal_of c.self.inside.replica.limit bodies c.self.inside.replica.log ≡ clock_check (without_text flat (loss_of flat limits ranges)).count =
+    ap (λ (f : Flat). refusal_of f.limit bodies f.log) c.self.view_is ∙ ap (λ l. refusal_of flat.limit l flat.log) drafts ∙ deletion_refusal flat limits ranges c.kept.ensures.history c.kept.ensures.document few in
     let p = err_from_is_err_and c.from_residual-in_err-_made.result c.from_residual-in_err-_made.ensures.1 in
     rw (p.1, p.2) (which c.in_err-_made.ensures.refused refusal)
 
 -- what the deletion has made, in the words of its laws
-record Made (flat : Flat) (ranges : List Range) (new : ReplicaValue) (marks : List Mark) (removed : ℕ → Bool) (held : Bool) : Type 0 where
-  doc : seen new marks flat.tags ≡ logged flat (delete_drafts MOST_SPANS flat (loss_of flat ranges)) (without_text flat (loss_of flat ranges))
-  places : (p : ℕ) → removed p ≡ (loss_of flat ranges).places p
+record Made (flat : Flat) (own : Own) (others : List Own) (ranges : List Range) (new : ReplicaValue) (marks : List Mark) (removed : ℕ → Bool) (last : Stamp) (held : Bool) : Type 0 where
+  doc : seen new marks flat.tags ≡ logged flat (delete_drafts MOST_SPANS flat (loss_of flat own.limits ranges)) (without_text flat (loss_of flat own.limits ranges))
+  places : (p : ℕ) → removed p ≡ (loss_of flat own.limits ranges).places p
   moved : marks ≡ marks_left removed flat.marks
-  last : held ≡ is_some (loss_of flat ranges).newline
-  fits : clock_check (without_text flat (loss_of flat ranges)).count ≡ None
+  newest : last ≡ last_newline (viewed flat own others)
+  holds : held ≡ is_some (loss_of flat own.limits ranges).newline
+  fits : clock_check (without_text flat (loss_of flat own.limits ranges)).count ≡ None
 
 made : (g : Over) (c : goal.After-drop-deletion-2 g)
-    → Made c.args.self.now c.args.ranges.now c.make.new.self c.move_back.new.marks (is_covered c.in_ok-deletion.deletion.removed.items) c.in_ok-deletion.deletion.held
+    → Made c.args.self.now c.args.widget.now (map own_in c.args.others.now) c.args.ranges.now c.make.new.self c.move_back.new.marks (is_covered c.in_ok-deletion.deletion.removed.items) c.cell_at.result.stamp c.in_ok-deletion.deletion.held
 made g c =
     let flat = c.args.self.now in
     let ranges = c.args.ranges.now in
+    let limits = c.args.widget.now.limits in
     let d = c.in_ok-deletion.deletion in
     let kept = g.S.TextStore.list c.kept.result.0.now in
     let history = c.kept.ensures.history in
     let document = c.kept.ensures.document in
-    let drafts : map body_of d.drafts.items ≡ delete_drafts MOST_SPANS flat (loss_of flat ranges) =
-    c.in_ok-deletion.ensures.drafts flat (sym c.kept.ensures.cells) ∙ ap (λ t. delete_drafts MOST_SPANS flat (loss_in t 0 ranges)) (same_text c.kept.result.1.now (g.S.TextStore.list c.kept.result.0.now) flat c.kept.ensures.cells) in
+    let drafts : map body_of d.drafts.items ≡ delete_drafts MOST_SPANS flat (loss_of flat limits ranges) =
+    c.in_ok-deletion.ensures.drafts flat (sym c.kept.ensures.cells)
+    ∙ ap (delete_drafts MOST_SPANS flat)
+    (loss_kept c.kept.result.1.now (g.S.TextStore.list c.kept.result.0.now) flat limits c.stretch-stretch.result ranges c.kept.ensures.cells
+    (c.stretch-stretch.ensures.value ∙ ap (stretch_of (g.S.TextStore.list c.kept.result.0.now)) c.limits.ensures)) in
     let few : length flat.cells ≤ flat.limit = omega (arith, c.kept.ensures.few, ap length c.kept.ensures.cells, length-map kept (shown c.kept.result.1.now)) in
     let view = c.self.view_is in
     let bodies = map body_of d.drafts.items in
-    let fits : refusal_of flat.limit (delete_drafts MOST_SPANS flat (loss_of flat ranges)) flat.log ≡ None =
+    let fits : refusal_of flat.limit (delete_drafts MOST_SPANS flat (loss_of flat limits ranges)) flat.log ≡ None =
     ap (λ l. refusal_of flat.limit l flat.log) (sym drafts) ∙ ap (λ (f : Flat). refusal_of f.limit bodies f.log) (sym view) ∙ c.in_ok-_made.ensures.fits in
-    let log : c.make.new.self.log ≡ with_drafts flat.site (delete_drafts MOST_SPANS flat (loss_of flat ranges)) flat.log =
+    let log : c.make.new.self.log ≡ with_drafts flat.site (delete_drafts MOST_SPANS flat (loss_of flat limits ranges)) flat.log =
     c.in_ok-_made.ensures.log ∙ ap (λ (f : Flat). with_drafts f.site bodies f.log) view ∙ ap (λ l. with_drafts flat.site l flat.log) drafts in
-    let text : text_of kept ≡ text_of flat.cells = same_text c.kept.result.1.now kept flat c.kept.ensures.cells in
-    let places : (p : ℕ) → is_covered d.removed.items p ≡ (loss_of flat ranges).places p = λ p. c.in_ok-deletion.ensures.places p ∙ ap (λ t. (loss_in t 0 ranges).places p) text in
+    let stretch : c.stretch-stretch.result ≡ stretch_of kept limits = c.stretch-stretch.ensures.value ∙ ap (stretch_of kept) c.limits.ensures in
+    let loss : loss_in (part c.stretch-stretch.result (text_of kept)) c.stretch-stretch.result.begin ranges ≡ loss_of flat limits ranges =
+    loss_kept c.kept.result.1.now kept flat limits c.stretch-stretch.result ranges c.kept.ensures.cells stretch in
+    let places : (p : ℕ) → is_covered d.removed.items p ≡ (loss_of flat limits ranges).places p = λ p. c.in_ok-deletion.ensures.places p ∙ ap (λ (l : Loss). l.places p) loss in
     let moved : c.move_back.new.marks ≡ marks_left (is_covered d.removed.items) flat.marks =
     c.move_back.ensures ∙ ap (λ l. marks_left (is_covered l) c.self.inside.marks) c.deref.ensures.value ∙ ap (λ (f : Flat). marks_left (is_covered d.removed.items) f.marks) view in
     let site : c.make.new.self.site ≡ flat.site = c.make.ensures.site ∙ ap (λ (f : Flat). f.site) view in
     let limit : c.make.new.self.limit ≡ flat.limit = c.make.ensures.limit ∙ ap (λ (f : Flat). f.limit) view in
     record {
-      doc = deletion_seen flat ranges history document c.kept.ensures.site c.make.new.self c.move_back.new.marks (is_covered d.removed.items) log c.in_ok-_made.ensures.cells site limit fits few places moved;
+      doc = deletion_seen flat limits ranges history document c.kept.ensures.site c.make.new.self c.move_back.new.marks (is_covered d.removed.items) log c.in_ok-_made.ensures.cells site limit fits few places moved;
       places = places;
       moved = moved;
-      last = c.in_ok-deletion.ensures.held ∙ ap (λ t. is_some (loss_in t 0 ranges).newline) text;
-      fits = sym (deletion_refusal flat ranges history document few) ∙ fits;
+      holds = c.in_ok-deletion.ensures.held ∙ ap (λ (l : Loss). is_some l.newline) loss;
+      newest = last_kept c.kept.result.1.now kept flat c.args.widget.now (map own_in c.args.others.now) c.stretch-stretch.result c.cell_at.result c.kept.ensures.cells stretch c.cell_at.ensures;
+      fits = sym (deletion_refusal flat limits ranges history document few) ∙ fits;
     }
 
 pub invariant_of-self-2 : goal.invariant_of-self-2
 invariant_of-self-2 g c =
     let flat = c.args.self.now in
     let ranges = c.args.ranges.now in
+    let limits = c.args.widget.now.limits in
     let m = made g c in
-    let cells : c.make.new.self.cells ≡ (without_text flat (loss_of flat ranges)).cells = ap (λ (f : Flat). f.cells) m.doc in record {
+    let cells : c.make.new.self.cells ≡ (without_text flat (loss_of flat limits ranges)).cells = ap (λ (f : Flat). f.cells) m.doc in record {
       placed = subst (λ (l : List TaggedCell). AreSiteMarks (length (text_of l)) c.move_back.new.marks) (sym cells)
-          (deletion_placed flat ranges c.move_back.new.marks (is_covered c.in_ok-deletion.deletion.removed.items) m.places m.moved
+          (deletion_placed flat limits ranges c.move_back.new.marks (is_covered c.in_ok-deletion.deletion.removed.items) m.places m.moved
           (subst (λ (f : Flat). AreSiteMarks (length (text_of f.cells)) f.marks) c.self.view_is c.self.invariant.placed));
       listed = subst (λ (l : List TaggedCell). AreListed c.self.inside.tags.names l) (sym cells)
-          (deletion_listed flat (loss_of flat ranges) c.self.inside.tags.names (subst (λ (f : Flat). AreListed c.self.inside.tags.names f.cells) c.self.view_is c.self.invariant.listed));
+          (deletion_listed flat (loss_of flat limits ranges) c.self.inside.tags.names (subst (λ (f : Flat). AreListed c.self.inside.tags.names f.cells) c.self.view_is c.self.invariant.listed));
     }
 
-widget : (g : Over) (c : goal.After-drop-deletion-2 g) → c.unselect_last.new.widget ≡ widget_left (is_covered c.in_ok-deletion.deletion.removed.items) c.in_ok-deletion.deletion.held c.args.widget.now
+widget : (g : Over) (c : goal.After-drop-deletion-2 g) → c.unselect_last.new.widget ≡ widget_left (is_covered c.in_ok-deletion.deletion.removed.items) c.cell_at.result.stamp c.in_ok-deletion.deletion.held c.args.widget.now
 widget g c =
     let held = c.in_ok-deletion.deletion.held in
-    c.unselect_last.ensures.own ∙ ap (reselected (last_off held)) (c.leave.ensures ∙ ap (λ l. own_left (is_covered l) c.args.widget.now) c.deref-2.ensures.value)
+    c.unselect_last.ensures.own ∙ ap (reselected (last_gone c.cell_at.result.stamp held)) (c.leave.ensures ∙ ap (λ l. own_left (is_covered l) c.args.widget.now) c.deref-2.ensures.value)
 
 others_left : (g : Over) (c : goal.After-drop-deletion-2 g)
-    → map own_in c.unselect_last.new.others ≡ map (widget_left (is_covered c.in_ok-deletion.deletion.removed.items) c.in_ok-deletion.deletion.held) (map own_in c.args.others.now)
+    → map own_in c.unselect_last.new.others ≡ map (widget_left (is_covered c.in_ok-deletion.deletion.removed.items) c.cell_at.result.stamp c.in_ok-deletion.deletion.held) (map own_in c.args.others.now)
 others_left g c =
     let held = c.in_ok-deletion.deletion.held in
     let removed = is_covered c.in_ok-deletion.deletion.removed.items in
     let others = map own_in c.args.others.now in
-    c.unselect_last.ensures.others ∙ ap (map (reselected (last_off held))) (c.leave_each.ensures ∙ ap (λ l. map (own_left (is_covered l)) others) c.deref-3.ensures.value) ∙ leave_then removed (last_off held) others
+    c.unselect_last.ensures.others ∙ ap (map (reselected (last_gone c.cell_at.result.stamp held))) (c.leave_each.ensures ∙ ap (λ l. map (own_left (is_covered l)) others) c.deref-3.ensures.value) ∙ leave_then removed (last_gone c.cell_at.result.stamp held) others
 
 pub returns-clause-ok : goal.returns-clause-ok
 returns-clause-ok g c =
@@ -131,11 +143,12 @@ returns-clause-ok g c =
     let own = c.args.widget.now in
     let others = map own_in c.args.others.now in
     let ranges = c.args.ranges.now in
+    let limits = c.args.widget.now.limits in
     let d = c.in_ok-deletion.deletion in
     let m = made g c in
     let doc : Flat = seen c.make.new.self c.move_back.new.marks c.self.inside.tags.names in
     let same : doc ≡ seen c.make.new.self c.move_back.new.marks flat.tags = ap (λ (f : Flat). seen c.make.new.self c.move_back.new.marks f.tags) c.self.view_is in
-    deletion_edited flat ranges doc own others (is_covered d.removed.items) d.held (same ∙ m.doc) m.places m.last
+    deletion_edited flat own others ranges doc (is_covered d.removed.items) c.cell_at.result.stamp d.held (same ∙ m.doc) m.places m.newest m.holds
     ∙ (λ i. record { doc = doc; own = sym (widget g c) i; others = sym (others_left g c) i })
 
 pub returns-clause-checked : goal.returns-clause-checked
@@ -147,19 +160,21 @@ pub returns-clause-own : goal.returns-clause-own
 returns-clause-own g c =
     let flat = c.args.self.now in
     let ranges = c.args.ranges.now in
+    let limits = c.args.widget.now.limits in
     let d = c.in_ok-deletion.deletion in
     let m = made g c in
-    let cells : c.make.new.self.cells ≡ (without_text flat (loss_of flat ranges)).cells = ap (λ (f : Flat). f.cells) m.doc in
+    let cells : c.make.new.self.cells ≡ (without_text flat (loss_of flat limits ranges)).cells = ap (λ (f : Flat). f.cells) m.doc in
     subst (λ (l : List TaggedCell). IsOwnOf (length (text_of l)) c.unselect_last.new.widget) (sym cells)
-    (subst (IsOwnOf (length (text_of (without_text flat (loss_of flat ranges)).cells))) (sym (widget g c)) (deletion_own flat ranges c.args.widget.now (is_covered d.removed.items) m.places c.requires.own))
+    (subst (IsOwnOf (length (text_of (without_text flat (loss_of flat limits ranges)).cells))) (sym (widget g c)) (deletion_own flat limits ranges c.kept.ensures.history c.kept.ensures.document c.args.widget.now (is_covered d.removed.items) m.places c.requires.own))
 
 pub returns-clause-others : goal.returns-clause-others
 returns-clause-others g c =
     let flat = c.args.self.now in
     let ranges = c.args.ranges.now in
+    let limits = c.args.widget.now.limits in
     let d = c.in_ok-deletion.deletion in
     let m = made g c in
-    let cells : c.make.new.self.cells ≡ (without_text flat (loss_of flat ranges)).cells = ap (λ (f : Flat). f.cells) m.doc in
+    let cells : c.make.new.self.cells ≡ (without_text flat (loss_of flat limits ranges)).cells = ap (λ (f : Flat). f.cells) m.doc in
     subst (λ (l : List TaggedCell). AllByRecursion (IsOwnOf (length (text_of l))) (map own_in c.unselect_last.new.others)) (sym cells)
-    (subst (AllByRecursion (IsOwnOf (length (text_of (without_text flat (loss_of flat ranges)).cells)))) (sym (others_left g c))
-    (deletion_others flat ranges (map own_in c.args.others.now) (is_covered d.removed.items) d.held m.places c.requires.others))
+    (subst (AllByRecursion (IsOwnOf (length (text_of (without_text flat (loss_of flat limits ranges)).cells)))) (sym (others_left g c))
+    (deletion_others flat limits ranges c.kept.ensures.history c.kept.ensures.document (map own_in c.args.others.now) (is_covered d.removed.items) c.cell_at.result.stamp d.held m.places c.requires.others))

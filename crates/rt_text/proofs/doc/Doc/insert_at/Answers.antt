@@ -1,14 +1,23 @@
-use Rattle.std.proofs.Common.{◌≡◌, ◌∙◌, ◌<◌, ◌≤◌, ◌+◌, ◌^◌, ◌-◌, All, ◌⊎◌, ap, arith, inl, inr, length, map, refl, string_bytes, subst, sym}
+use Rattle.std.proofs.Common.{◌≡◌, ℕ, ◌∙◌, ◌<◌, ◌≤◌, ◌+◌, ◌^◌, ◌-◌, All, ◌⊎◌, [], ◌∷◌, Some, ap, arith, inl, inr, length, map, refl, string_bytes, subst, sym, List, Option}
 use Rattle.std.specs.List.{AllByRecursion}
+use Rattle.std.proofs.lemmas.List.{length-map}
 use Rattle.std.proofs.lemmas.Result.{err_from_is_err_and}
 use Rattle.rt_marks.specs.Marks.{mark_inserted, marks_inserted}
 use Rattle.rt_oplog.specs.Edits.{body_of}
+use Rattle.rt_stamps.specs.declared.fault.Fault.{Fault}
+use Rattle.rt_stamps.specs.declared.fault.Fault.TheVariants.{ClockSpent, NoMemory}
+use Rattle.rt_stamps.specs.declared.limits.TheConstants.{GREATEST_COUNT}
 use Rattle.rt_stamps.specs.Outcomes.{first_of}
+use Rattle.rt_store.specs.declared.cell.Cell.{Cell}
 use Rattle.rt_store.specs.Cells.{text_of}
+use Rattle.rt_store.specs.Shown.{TaggedCell, shown}
+use Rattle.rt_tags.specs.States.{TagStates}
 use Rattle.rt_tags.specs.Tags.{IsName}
+use Rattle.rt_rga.specs.Histories.{IsHistory}
 use Rattle.rt_rga.specs.Drafts.{with_drafts}
 use Rattle.rt_rga.specs.Made.{refusal_of}
 use Rattle.rt_rga.specs.Requests.{MayBeMade}
+use Rattle.rt_edits.specs.DraftLaws.{IsDocument}
 use Rattle.rt_edits.specs.Flat.{Flat, logged}
 use Rattle.rt_edits.specs.InsertionPlans.{Plans}
 use Rattle.rt_edits.specs.Insertions.{all_listed}
@@ -16,11 +25,17 @@ use Rattle.rt_edits.specs.Listed.{AreListed}
 use Rattle.rt_edits.specs.Selected.{stamps_in}
 use Rattle.rt_edits.specs.Selections.{with_stamps}
 use Rattle.rt_edits.proofs.PlaceLaws.{length_text, text_within}
-use Rattle.rt_text.specs.Commands.{with_pieces_at}
+use Rattle.rt_views.specs.declared.stretch.Stretch.{Stretch}
+use Rattle.rt_views.specs.declared.limits.Limits.{Limits}
+use Rattle.rt_views.specs.Stretches.{shown_part, stretch_of}
+use Rattle.rt_text.specs.Commands.{cell_check, with_pieces_at}
 use Rattle.rt_text.specs.Kept.{IsDoc}
 use Rattle.rt_text.specs.Parts.{own_in}
-use Rattle.rt_text.specs.Widgets.{IsOwnOf, Own, own_inserted, selections_of, with_selections}
-use Rattle.rt_text.proofs.InsertedDocument.{all_fit, drafts_are, kept_made, made_drafts, made_flat, made_is, made_new, may_make, names_given, others_made, own_made, plans_are, put_made, refused_as, refused_made}
+use Rattle.rt_text.specs.Widgets.{IsOwnOf, Own, Viewed, in_text, own_inserted, selections_of, with_selections}
+use Rattle.rt_text.proofs.InsertedDocument.{all_fit, kept_made, made_drafts, made_flat, made_is, made_new, may_make, names_given, others_made, own_made, put_made, refused_as, refused_made}
+use Rattle.rt_text.proofs.InsertedSides.{IsPlace, at_visible}
+use Rattle.rt_text.proofs.KeptDocument.{clock_spent}
+use Rattle.rt_text.proofs.LimitedDeletions.{stretch_kept}
 use Rattle.rt_text.proofs.MadeDocument.{seen, seen_made}
 use Rattle.rt_text.proofs.MarkLaws.{site_fits}
 use Rattle.rt_text.proofs.PeerLaws.{each_by, each_room, put_each, selecting}
@@ -32,9 +47,53 @@ which : {F X : Type 0} {r checked : X} {fault memory : F} {some none : X} → (r
 which (inl e) s = inr (sym s ∙ e)
 which (inr p) s = inl p.0
 
-pub planned_insertion-requires-clause-place : goal.planned_insertion-requires-clause-place
-planned_insertion-requires-clause-place g c =
-    subst (λ n. c.args.place < n) (sym (visible_same c.kept.result.1.now (g.S.TextStore.list c.kept.result.0.now) c.args.self.now.cells c.kept.ensures.cells)) c.requires.place
+place_is : (flat : Flat) (own : Own) (others : List Own) (place : ℕ) → IsHistory flat.log → IsDocument flat.site flat.log flat → 0 < flat.site → place < length (shown_part flat.cells own.limits) → IsPlace flat own others place
+place_is flat own others place h doc real l = record {
+  history = h;
+  document = doc;
+  real = real;
+  within = subst (λ n. place < n) (sym (length-map (shown_part flat.cells own.limits) (λ (cell : TaggedCell). cell.ch))) l;
+}
+
+-- counts that are too great are refused first
+spent : (flat : Flat) (edited : List Own → Viewed) (others : List Own) (fault : Fault) → (fault ≡ NoMemory) ⊎ ((fault ≡ ClockSpent) × ((o : List Own) → GREATEST_COUNT < (edited o).doc.count))
+    → (fault ≡ NoMemory) ⊎ (first_of (late_checks flat (edited others)) ≡ Some fault)
+spent flat edited others fault (inl e) = inl e
+spent flat edited others fault (inr p) =
+    let view = edited others in
+    inr (ap (λ (o : Option Fault). first_of (o ∷ cell_check flat.limit (length view.doc.cells) ∷ [])) (clock_spent view.doc.count (p.1 others)) ∙ ap (λ (x : Fault). Some x) (sym p.0))
+
+pub returns-in_err-plan-clause-err : goal.returns-in_err-plan-clause-err
+returns-in_err-plan-clause-err g c =
+    let p = err_from_is_err_and c.from_residual.result c.from_residual.ensures.1 in
+    rw (p.1, p.2)
+    (spent c.args.self.now (λ (o : List Own). with_pieces_at (record { doc = c.args.self.now; own = c.args.widget.now; others = o }) c.args.place c.args.pieces.now c.args.rest.now)
+    (map own_in c.args.others.now) c.in_err-plan.field-0.0 c.in_err-plan.ensures.err)
+
+-- the place in the text, as the code finds it
+at_is : (table : TagStates) (kept : List (Cell ℕ)) (flat : Flat) (own : Own) (others : List Own) (place : ℕ) (limits : Limits) (stretch : Stretch) → map (shown table) kept ≡ flat.cells → limits ≡ own.limits → stretch ≡ stretch_of kept limits
+    → stretch.begin + place ≡ in_text (viewed flat own others) place
+at_is table kept flat own others place limits stretch e l s = ap (λ (y : Stretch). y.begin + place) (s ∙ ap (stretch_of kept) l ∙ stretch_kept table kept flat.cells own.limits e)
+
+pub overflow_add-at : goal.overflow_add-at
+overflow_add-at g c =
+    let flat = c.args.self.now in
+    let own = c.args.widget.now in
+    let others = map own_in c.args.others.now in
+    let place = c.args.place in
+    let table = c.kept.result.1.now in
+    let kept = g.S.TextStore.list c.kept.result.0.now in
+    let is = place_is flat own others place c.kept.ensures.history c.kept.ensures.document c.kept.ensures.site c.requires.place in
+    omega (
+      arith,
+      at_is table kept flat own others place c.limits.result c.stretch.result c.kept.ensures.cells c.limits.ensures c.stretch.ensures.value,
+      at_visible flat own others place is,
+      visible_same table kept flat.cells c.kept.ensures.cells,
+      text_within kept,
+      length_text kept,
+      c.kept.ensures.few,
+      c.kept.ensures.most,
+    )
 
 pub make_room-requires : goal.make_room-requires
 make_room-requires g c =
@@ -43,14 +102,12 @@ make_room-requires g c =
     let others = map own_in c.args.others.now in
     let pieces = c.args.pieces.now in
     let rest = c.args.rest.now in
-    let site : c.site-site.result.number ≡ flat.site = c.site-site.ensures ∙ ap (λ (f : Flat). f.site) c.self.view_is in
-    let count : c.seen-count.result ≡ flat.count = c.seen-count.ensures.value ∙ c.clock.ensures ∙ ap (λ (f : Flat). f.count) c.self.view_is in
-    let sel : stamps_in c.widget.inside.parts.selection ≡ own.sel = ap (λ (o : Own). o.sel) c.widget.view_is in
-    let plans : Plans c.in_ok-plan.plan own.sel (selections_of others) flat.tags (made_new flat own others c.args.place pieces rest) =
-    plans_are flat own others c.args.place pieces rest c.in_ok-plan.plan c.site-site.result.number c.seen-count.result (stamps_in c.widget.inside.parts.selection) site count sel
-    (c.in_ok-plan.ensures.plans flat.cells (selections_of others) flat.tags (sym c.kept.ensures.cells)) in
+    let place = c.args.place in
+    let is = place_is flat own others place c.kept.ensures.history c.kept.ensures.document c.kept.ensures.site c.requires.place in
+    let plans : Plans c.in_ok-plan.plan own.sel (selections_of others) flat.tags (made_new flat own others place pieces rest) =
+    c.in_ok-plan.ensures.plans others in
     let listed : AreListed flat.tags flat.cells = subst (λ (f : Flat). AreListed f.tags f.cells) c.self.view_is c.self.invariant.listed in
-    names_given flat own others c.args.place pieces rest c.kept.ensures.history c.kept.ensures.document c.in_ok-plan.plan plans c.requires.pieces listed
+    names_given flat own others place pieces rest is c.in_ok-plan.plan plans c.requires.pieces listed
 
 pub make-requires : goal.make-requires
 make-requires g c =
@@ -59,15 +116,12 @@ make-requires g c =
     let others = map own_in c.args.others.now in
     let pieces = c.args.pieces.now in
     let rest = c.args.rest.now in
-    let site : c.site-site.result.number ≡ flat.site = c.site-site.ensures ∙ ap (λ (f : Flat). f.site) c.self.view_is in
-    let count : c.seen-count.result ≡ flat.count = c.seen-count.ensures.value ∙ c.clock.ensures ∙ ap (λ (f : Flat). f.count) c.self.view_is in
-    let sel : stamps_in c.widget.inside.parts.selection ≡ own.sel = ap (λ (o : Own). o.sel) c.widget.view_is in
-    let drafts : map body_of c.in_ok-plan.plan.drafts.items ≡ made_drafts flat own others c.args.place pieces rest =
-    drafts_are flat own others c.args.place pieces rest c.site-site.result.number c.seen-count.result (stamps_in c.widget.inside.parts.selection) (map body_of c.in_ok-plan.plan.drafts.items) site count sel
-    (c.in_ok-plan.ensures.drafts flat.cells (selections_of others) flat.tags (sym c.kept.ensures.cells)) in
-    let within : c.args.place < length (text_of flat.cells) = omega (arith, length_text flat.cells, c.requires.place) in
-    let may : MayBeMade flat.site flat.log (made_drafts flat own others c.args.place pieces rest) =
-    may_make flat own others c.args.place pieces rest c.kept.ensures.history c.kept.ensures.document within c.requires.pieces c.utf8.rest in
+    let place = c.args.place in
+    let is = place_is flat own others place c.kept.ensures.history c.kept.ensures.document c.kept.ensures.site c.requires.place in
+    let drafts : map body_of c.in_ok-plan.plan.drafts.items ≡ made_drafts flat own others place pieces rest =
+    c.in_ok-plan.ensures.drafts others in
+    let may : MayBeMade flat.site flat.log (made_drafts flat own others place pieces rest) =
+    may_make flat own others place pieces rest is c.requires.pieces c.utf8.rest in
     subst (λ (p : _). p) (λ i. MayBeMade (sym c.self.view_is i).site (sym c.self.view_is i).log (sym drafts i)) may
 
 pub returns-in_err-_made-clause-err : goal.returns-in_err-_made-clause-err
@@ -77,15 +131,13 @@ returns-in_err-_made-clause-err g c =
     let others = map own_in c.args.others.now in
     let pieces = c.args.pieces.now in
     let rest = c.args.rest.now in
-    let site : c.site-site.result.number ≡ flat.site = c.site-site.ensures ∙ ap (λ (f : Flat). f.site) c.self.view_is in
-    let count : c.seen-count.result ≡ flat.count = c.seen-count.ensures.value ∙ c.clock.ensures ∙ ap (λ (f : Flat). f.count) c.self.view_is in
-    let sel : stamps_in c.widget.inside.parts.selection ≡ own.sel = ap (λ (o : Own). o.sel) c.widget.view_is in
-    let drafts : map body_of c.in_ok-plan.plan.drafts.items ≡ made_drafts flat own others c.args.place pieces rest =
-    drafts_are flat own others c.args.place pieces rest c.site-site.result.number c.seen-count.result (stamps_in c.widget.inside.parts.selection) (map body_of c.in_ok-plan.plan.drafts.items) site count sel
-    (c.in_ok-plan.ensures.drafts flat.cells (selections_of others) flat.tags (sym c.kept.ensures.cells)) in
+    let place = c.args.place in
+    let is = place_is flat own others place c.kept.ensures.history c.kept.ensures.document c.kept.ensures.site c.requires.place in
+    let drafts : map body_of c.in_ok-plan.plan.drafts.items ≡ made_drafts flat own others place pieces rest =
+    c.in_ok-plan.ensures.drafts others in
     let p = err_from_is_err_and c.from_residual-in_err-_made.result c.from_residual-in_err-_made.ensures.1 in
-    let same : refusal_of c.self.inside.replica.limit (map body_of c.in_ok-plan.plan.drafts.items) c.self.inside.replica.log ≡ first_of (late_checks flat (with_pieces_at (viewed flat own others) c.args.place pieces rest)) =
-    (λ i. refusal_of (c.self.view_is i).limit (drafts i) (c.self.view_is i).log) ∙ refused_as flat own others c.args.place pieces rest c.kept.ensures.history c.kept.ensures.document in
+    let same : refusal_of c.self.inside.replica.limit (map body_of c.in_ok-plan.plan.drafts.items) c.self.inside.replica.log ≡ first_of (late_checks flat (with_pieces_at (viewed flat own others) place pieces rest)) =
+    (λ i. refusal_of (c.self.view_is i).limit (drafts i) (c.self.view_is i).log) ∙ refused_as flat own others place pieces rest is in
     rw (p.1, p.2) (which c.in_err-_made.ensures.refused same)
 
 pub inserted-requires : goal.inserted-requires
@@ -95,18 +147,15 @@ inserted-requires g c =
     let others = map own_in c.args.others.now in
     let pieces = c.args.pieces.now in
     let rest = c.args.rest.now in
-    let site : c.site-site.result.number ≡ flat.site = c.site-site.ensures ∙ ap (λ (f : Flat). f.site) c.self.view_is in
-    let count : c.seen-count.result ≡ flat.count = c.seen-count.ensures.value ∙ c.clock.ensures ∙ ap (λ (f : Flat). f.count) c.self.view_is in
-    let sel : stamps_in c.widget.inside.parts.selection ≡ own.sel = ap (λ (o : Own). o.sel) c.widget.view_is in
-    let drafts : map body_of c.in_ok-plan.plan.drafts.items ≡ made_drafts flat own others c.args.place pieces rest =
-    drafts_are flat own others c.args.place pieces rest c.site-site.result.number c.seen-count.result (stamps_in c.widget.inside.parts.selection) (map body_of c.in_ok-plan.plan.drafts.items) site count sel
-    (c.in_ok-plan.ensures.drafts flat.cells (selections_of others) flat.tags (sym c.kept.ensures.cells)) in
-    let plans : Plans c.in_ok-plan.plan own.sel (selections_of others) flat.tags (made_new flat own others c.args.place pieces rest) =
-    plans_are flat own others c.args.place pieces rest c.in_ok-plan.plan c.site-site.result.number c.seen-count.result (stamps_in c.widget.inside.parts.selection) site count sel
-    (c.in_ok-plan.ensures.plans flat.cells (selections_of others) flat.tags (sym c.kept.ensures.cells)) in
-    let fit = all_fit flat own others c.args.place pieces rest c.kept.ensures.history c.kept.ensures.document
+    let place = c.args.place in
+    let is = place_is flat own others place c.kept.ensures.history c.kept.ensures.document c.kept.ensures.site c.requires.place in
+    let drafts : map body_of c.in_ok-plan.plan.drafts.items ≡ made_drafts flat own others place pieces rest =
+    c.in_ok-plan.ensures.drafts others in
+    let plans : Plans c.in_ok-plan.plan own.sel (selections_of others) flat.tags (made_new flat own others place pieces rest) =
+    c.in_ok-plan.ensures.plans others in
+    let fit = all_fit flat own others place pieces rest is
     (sym (λ i. refusal_of (c.self.view_is i).limit (drafts i) (c.self.view_is i).log) ∙ c.in_ok-_made.ensures.fits) in
-    let characters : c.in_ok-plan.plan.characters ≡ length (made_new flat own others c.args.place pieces rest).cells = plans.characters in
+    let characters : c.in_ok-plan.plan.characters ≡ length (made_new flat own others place pieces rest).cells = plans.characters in
     let many : length (text_of c.self.inside.replica.cells) ≡ length (text_of flat.cells) = ap (λ (f : Flat). length (text_of f.cells)) c.self.view_is in
     let few : length (text_of flat.cells) + c.in_ok-plan.plan.characters ≤ 2 ^ 64 - 1 = omega (arith, fit.1, characters, text_within flat.cells, c.kept.ensures.most) in
     record { fits = site_fits (length (text_of c.self.inside.replica.cells)) c.in_ok-plan.plan.characters (2 ^ 64 - 1) c.self.inside.marks (omega (arith, many, few)) c.self.invariant.placed }
@@ -118,18 +167,15 @@ inserted-requires-2-clause-insert g c =
     let others = map own_in c.args.others.now in
     let pieces = c.args.pieces.now in
     let rest = c.args.rest.now in
-    let site : c.site-site.result.number ≡ flat.site = c.site-site.ensures ∙ ap (λ (f : Flat). f.site) c.self.view_is in
-    let count : c.seen-count.result ≡ flat.count = c.seen-count.ensures.value ∙ c.clock.ensures ∙ ap (λ (f : Flat). f.count) c.self.view_is in
-    let sel : stamps_in c.widget.inside.parts.selection ≡ own.sel = ap (λ (o : Own). o.sel) c.widget.view_is in
-    let drafts : map body_of c.in_ok-plan.plan.drafts.items ≡ made_drafts flat own others c.args.place pieces rest =
-    drafts_are flat own others c.args.place pieces rest c.site-site.result.number c.seen-count.result (stamps_in c.widget.inside.parts.selection) (map body_of c.in_ok-plan.plan.drafts.items) site count sel
-    (c.in_ok-plan.ensures.drafts flat.cells (selections_of others) flat.tags (sym c.kept.ensures.cells)) in
-    let plans : Plans c.in_ok-plan.plan own.sel (selections_of others) flat.tags (made_new flat own others c.args.place pieces rest) =
-    plans_are flat own others c.args.place pieces rest c.in_ok-plan.plan c.site-site.result.number c.seen-count.result (stamps_in c.widget.inside.parts.selection) site count sel
-    (c.in_ok-plan.ensures.plans flat.cells (selections_of others) flat.tags (sym c.kept.ensures.cells)) in
-    let fit = all_fit flat own others c.args.place pieces rest c.kept.ensures.history c.kept.ensures.document
+    let place = c.args.place in
+    let is = place_is flat own others place c.kept.ensures.history c.kept.ensures.document c.kept.ensures.site c.requires.place in
+    let drafts : map body_of c.in_ok-plan.plan.drafts.items ≡ made_drafts flat own others place pieces rest =
+    c.in_ok-plan.ensures.drafts others in
+    let plans : Plans c.in_ok-plan.plan own.sel (selections_of others) flat.tags (made_new flat own others place pieces rest) =
+    c.in_ok-plan.ensures.plans others in
+    let fit = all_fit flat own others place pieces rest is
     (sym (λ i. refusal_of (c.self.view_is i).limit (drafts i) (c.self.view_is i).log) ∙ c.in_ok-_made.ensures.fits) in
-    let characters : c.in_ok-plan.plan.characters ≡ length (made_new flat own others c.args.place pieces rest).cells = plans.characters in
+    let characters : c.in_ok-plan.plan.characters ≡ length (made_new flat own others place pieces rest).cells = plans.characters in
     let many : length (text_of c.self.inside.replica.cells) ≡ length (text_of flat.cells) = ap (λ (f : Flat). length (text_of f.cells)) c.self.view_is in
     let few : length (text_of flat.cells) + c.in_ok-plan.plan.characters ≤ 2 ^ 64 - 1 = omega (arith, fit.1, characters, text_within flat.cells, c.kept.ensures.most) in
     let place : c.widget.inside.parts.insert.place ≡ own.insert.place = ap (λ (o : Own). o.insert.place) c.widget.view_is in
@@ -142,18 +188,15 @@ inserted-requires-2-clause-current g c =
     let others = map own_in c.args.others.now in
     let pieces = c.args.pieces.now in
     let rest = c.args.rest.now in
-    let site : c.site-site.result.number ≡ flat.site = c.site-site.ensures ∙ ap (λ (f : Flat). f.site) c.self.view_is in
-    let count : c.seen-count.result ≡ flat.count = c.seen-count.ensures.value ∙ c.clock.ensures ∙ ap (λ (f : Flat). f.count) c.self.view_is in
-    let sel : stamps_in c.widget.inside.parts.selection ≡ own.sel = ap (λ (o : Own). o.sel) c.widget.view_is in
-    let drafts : map body_of c.in_ok-plan.plan.drafts.items ≡ made_drafts flat own others c.args.place pieces rest =
-    drafts_are flat own others c.args.place pieces rest c.site-site.result.number c.seen-count.result (stamps_in c.widget.inside.parts.selection) (map body_of c.in_ok-plan.plan.drafts.items) site count sel
-    (c.in_ok-plan.ensures.drafts flat.cells (selections_of others) flat.tags (sym c.kept.ensures.cells)) in
-    let plans : Plans c.in_ok-plan.plan own.sel (selections_of others) flat.tags (made_new flat own others c.args.place pieces rest) =
-    plans_are flat own others c.args.place pieces rest c.in_ok-plan.plan c.site-site.result.number c.seen-count.result (stamps_in c.widget.inside.parts.selection) site count sel
-    (c.in_ok-plan.ensures.plans flat.cells (selections_of others) flat.tags (sym c.kept.ensures.cells)) in
-    let fit = all_fit flat own others c.args.place pieces rest c.kept.ensures.history c.kept.ensures.document
+    let place = c.args.place in
+    let is = place_is flat own others place c.kept.ensures.history c.kept.ensures.document c.kept.ensures.site c.requires.place in
+    let drafts : map body_of c.in_ok-plan.plan.drafts.items ≡ made_drafts flat own others place pieces rest =
+    c.in_ok-plan.ensures.drafts others in
+    let plans : Plans c.in_ok-plan.plan own.sel (selections_of others) flat.tags (made_new flat own others place pieces rest) =
+    c.in_ok-plan.ensures.plans others in
+    let fit = all_fit flat own others place pieces rest is
     (sym (λ i. refusal_of (c.self.view_is i).limit (drafts i) (c.self.view_is i).log) ∙ c.in_ok-_made.ensures.fits) in
-    let characters : c.in_ok-plan.plan.characters ≡ length (made_new flat own others c.args.place pieces rest).cells = plans.characters in
+    let characters : c.in_ok-plan.plan.characters ≡ length (made_new flat own others place pieces rest).cells = plans.characters in
     let many : length (text_of c.self.inside.replica.cells) ≡ length (text_of flat.cells) = ap (λ (f : Flat). length (text_of f.cells)) c.self.view_is in
     let few : length (text_of flat.cells) + c.in_ok-plan.plan.characters ≤ 2 ^ 64 - 1 = omega (arith, fit.1, characters, text_within flat.cells, c.kept.ensures.most) in
     let place : c.widget.inside.parts.current.place ≡ own.current.place = ap (λ (o : Own). o.current.place) c.widget.view_is in
@@ -166,18 +209,15 @@ insert_each-requires g c =
     let others = map own_in c.args.others.now in
     let pieces = c.args.pieces.now in
     let rest = c.args.rest.now in
-    let site : c.site-site.result.number ≡ flat.site = c.site-site.ensures ∙ ap (λ (f : Flat). f.site) c.self.view_is in
-    let count : c.seen-count.result ≡ flat.count = c.seen-count.ensures.value ∙ c.clock.ensures ∙ ap (λ (f : Flat). f.count) c.self.view_is in
-    let sel : stamps_in c.widget.inside.parts.selection ≡ own.sel = ap (λ (o : Own). o.sel) c.widget.view_is in
-    let drafts : map body_of c.in_ok-plan.plan.drafts.items ≡ made_drafts flat own others c.args.place pieces rest =
-    drafts_are flat own others c.args.place pieces rest c.site-site.result.number c.seen-count.result (stamps_in c.widget.inside.parts.selection) (map body_of c.in_ok-plan.plan.drafts.items) site count sel
-    (c.in_ok-plan.ensures.drafts flat.cells (selections_of others) flat.tags (sym c.kept.ensures.cells)) in
-    let plans : Plans c.in_ok-plan.plan own.sel (selections_of others) flat.tags (made_new flat own others c.args.place pieces rest) =
-    plans_are flat own others c.args.place pieces rest c.in_ok-plan.plan c.site-site.result.number c.seen-count.result (stamps_in c.widget.inside.parts.selection) site count sel
-    (c.in_ok-plan.ensures.plans flat.cells (selections_of others) flat.tags (sym c.kept.ensures.cells)) in
-    let fit = all_fit flat own others c.args.place pieces rest c.kept.ensures.history c.kept.ensures.document
+    let place = c.args.place in
+    let is = place_is flat own others place c.kept.ensures.history c.kept.ensures.document c.kept.ensures.site c.requires.place in
+    let drafts : map body_of c.in_ok-plan.plan.drafts.items ≡ made_drafts flat own others place pieces rest =
+    c.in_ok-plan.ensures.drafts others in
+    let plans : Plans c.in_ok-plan.plan own.sel (selections_of others) flat.tags (made_new flat own others place pieces rest) =
+    c.in_ok-plan.ensures.plans others in
+    let fit = all_fit flat own others place pieces rest is
     (sym (λ i. refusal_of (c.self.view_is i).limit (drafts i) (c.self.view_is i).log) ∙ c.in_ok-_made.ensures.fits) in
-    let characters : c.in_ok-plan.plan.characters ≡ length (made_new flat own others c.args.place pieces rest).cells = plans.characters in
+    let characters : c.in_ok-plan.plan.characters ≡ length (made_new flat own others place pieces rest).cells = plans.characters in
     let many : length (text_of c.self.inside.replica.cells) ≡ length (text_of flat.cells) = ap (λ (f : Flat). length (text_of f.cells)) c.self.view_is in
     let few : length (text_of flat.cells) + c.in_ok-plan.plan.characters ≤ 2 ^ 64 - 1 = omega (arith, fit.1, characters, text_within flat.cells, c.kept.ensures.most) in
     let between = c.in_ok-plan.plan.between in
@@ -193,15 +233,13 @@ list_tags-requires-clause-names g c =
     let others = map own_in c.args.others.now in
     let pieces = c.args.pieces.now in
     let rest = c.args.rest.now in
-    let site : c.site-site.result.number ≡ flat.site = c.site-site.ensures ∙ ap (λ (f : Flat). f.site) c.self.view_is in
-    let count : c.seen-count.result ≡ flat.count = c.seen-count.ensures.value ∙ c.clock.ensures ∙ ap (λ (f : Flat). f.count) c.self.view_is in
-    let sel : stamps_in c.widget.inside.parts.selection ≡ own.sel = ap (λ (o : Own). o.sel) c.widget.view_is in
-    let plans : Plans c.in_ok-plan.plan own.sel (selections_of others) flat.tags (made_new flat own others c.args.place pieces rest) =
-    plans_are flat own others c.args.place pieces rest c.in_ok-plan.plan c.site-site.result.number c.seen-count.result (stamps_in c.widget.inside.parts.selection) site count sel
-    (c.in_ok-plan.ensures.plans flat.cells (selections_of others) flat.tags (sym c.kept.ensures.cells)) in
+    let place = c.args.place in
+    let is = place_is flat own others place c.kept.ensures.history c.kept.ensures.document c.kept.ensures.site c.requires.place in
+    let plans : Plans c.in_ok-plan.plan own.sel (selections_of others) flat.tags (made_new flat own others place pieces rest) =
+    c.in_ok-plan.ensures.plans others in
     let listed : AreListed flat.tags flat.cells = subst (λ (f : Flat). AreListed f.tags f.cells) c.self.view_is c.self.invariant.listed in
     subst (All (λ w. IsName (string_bytes w))) (sym c.deref-2.ensures.value)
-    (names_given flat own others c.args.place pieces rest c.kept.ensures.history c.kept.ensures.document c.in_ok-plan.plan plans c.requires.pieces listed)
+    (names_given flat own others place pieces rest is c.in_ok-plan.plan plans c.requires.pieces listed)
 
 pub invariant_of-self-2 : goal.invariant_of-self-2
 invariant_of-self-2 g c =
@@ -210,29 +248,29 @@ invariant_of-self-2 g c =
     let others = map own_in c.args.others.now in
     let pieces = c.args.pieces.now in
     let rest = c.args.rest.now in
-    let site : c.site-site.result.number ≡ flat.site = c.site-site.ensures ∙ ap (λ (f : Flat). f.site) c.self.view_is in
-    let count : c.seen-count.result ≡ flat.count = c.seen-count.ensures.value ∙ c.clock.ensures ∙ ap (λ (f : Flat). f.count) c.self.view_is in
-    let sel : stamps_in c.widget.inside.parts.selection ≡ own.sel = ap (λ (o : Own). o.sel) c.widget.view_is in
-    let drafts : map body_of c.in_ok-plan.plan.drafts.items ≡ made_drafts flat own others c.args.place pieces rest =
-    drafts_are flat own others c.args.place pieces rest c.site-site.result.number c.seen-count.result (stamps_in c.widget.inside.parts.selection) (map body_of c.in_ok-plan.plan.drafts.items) site count sel
-    (c.in_ok-plan.ensures.drafts flat.cells (selections_of others) flat.tags (sym c.kept.ensures.cells)) in
-    let plans : Plans c.in_ok-plan.plan own.sel (selections_of others) flat.tags (made_new flat own others c.args.place pieces rest) =
-    plans_are flat own others c.args.place pieces rest c.in_ok-plan.plan c.site-site.result.number c.seen-count.result (stamps_in c.widget.inside.parts.selection) site count sel
-    (c.in_ok-plan.ensures.plans flat.cells (selections_of others) flat.tags (sym c.kept.ensures.cells)) in
-    let fit = all_fit flat own others c.args.place pieces rest c.kept.ensures.history c.kept.ensures.document
+    let place = c.args.place in
+    let at = c.stretch.result.begin + place in
+    let point = in_text (viewed flat own others) place in
+    let here : at ≡ point =
+    at_is c.kept.result.1.now (g.S.TextStore.list c.kept.result.0.now) flat own others place c.limits.result c.stretch.result c.kept.ensures.cells c.limits.ensures c.stretch.ensures.value in
+    let is = place_is flat own others place c.kept.ensures.history c.kept.ensures.document c.kept.ensures.site c.requires.place in
+    let drafts : map body_of c.in_ok-plan.plan.drafts.items ≡ made_drafts flat own others place pieces rest =
+    c.in_ok-plan.ensures.drafts others in
+    let plans : Plans c.in_ok-plan.plan own.sel (selections_of others) flat.tags (made_new flat own others place pieces rest) =
+    c.in_ok-plan.ensures.plans others in
+    let fit = all_fit flat own others place pieces rest is
     (sym (λ i. refusal_of (c.self.view_is i).limit (drafts i) (c.self.view_is i).log) ∙ c.in_ok-_made.ensures.fits) in
-    let within : c.args.place < length (text_of flat.cells) = omega (arith, length_text flat.cells, c.requires.place) in
-    let new = made_new flat own others c.args.place pieces rest in
-    let edited = made_flat flat own others c.args.place pieces rest in
-    let bodies = made_drafts flat own others c.args.place pieces rest in
+    let new = made_new flat own others place pieces rest in
+    let edited = made_flat flat own others place pieces rest in
+    let bodies = made_drafts flat own others place pieces rest in
     let log : c.make.new.self.log ≡ with_drafts flat.site bodies flat.log = c.in_ok-_made.ensures.log ∙ (λ i. with_drafts (c.self.view_is i).site (drafts i) (c.self.view_is i).log) in
-    let made = made_is flat own others c.args.place pieces rest c.kept.ensures.history c.kept.ensures.document (omega (arith, site, c.site-site.result.positive)) within c.requires.pieces c.utf8.rest fit.0 in
+    let made = made_is flat own others place pieces rest is c.requires.pieces c.utf8.rest fit.0 in
     let doc : seen c.make.new.self edited.marks edited.tags ≡ logged flat bodies edited =
     seen_made flat edited bodies c.make.new.self log c.in_ok-_made.ensures.cells (c.make.ensures.site ∙ ap (λ (f : Flat). f.site) c.self.view_is) (c.make.ensures.limit ∙ ap (λ (f : Flat). f.limit) c.self.view_is) refl made in
-    let marks : c.inserted.new.self ≡ edited.marks = c.inserted.ensures ∙ (λ i. marks_inserted c.args.place (plans.characters i) (c.self.view_is i).marks) in
+    let marks : c.inserted.new.self ≡ edited.marks = c.inserted.ensures ∙ (λ i. marks_inserted (here i) (plans.characters i) (c.self.view_is i).marks) in
     let tags : c.list_tags.new.table.names ≡ edited.tags =
     c.list_tags.ensures ∙ (λ i. all_listed (map (λ w. string_bytes w) (c.deref-2.ensures.value i)) (c.make_room.ensures.tags i)) ∙ ap (λ (f : Flat). all_listed (map (λ w. string_bytes w) c.in_ok-plan.plan.names.items) f.tags) c.self.view_is ∙ plans.tags in
-    let kept = kept_made flat own others c.args.place pieces rest c.kept.ensures.history c.kept.ensures.document c.requires.pieces (subst (λ (f : Flat). IsDoc f.cells f.marks f.tags) c.self.view_is c.self.invariant) in
+    let kept = kept_made flat own others place pieces rest is c.requires.pieces (subst (λ (f : Flat). IsDoc f.cells f.marks f.tags) c.self.view_is c.self.invariant) in
     subst (λ (p : _). p) (λ i. IsDoc (sym doc i).cells (sym marks i) (sym tags i)) kept
 
 pub returns-clause-ok : goal.returns-clause-ok
@@ -242,42 +280,43 @@ returns-clause-ok g c =
     let others = map own_in c.args.others.now in
     let pieces = c.args.pieces.now in
     let rest = c.args.rest.now in
-    let site : c.site-site.result.number ≡ flat.site = c.site-site.ensures ∙ ap (λ (f : Flat). f.site) c.self.view_is in
-    let count : c.seen-count.result ≡ flat.count = c.seen-count.ensures.value ∙ c.clock.ensures ∙ ap (λ (f : Flat). f.count) c.self.view_is in
-    let sel : stamps_in c.widget.inside.parts.selection ≡ own.sel = ap (λ (o : Own). o.sel) c.widget.view_is in
-    let drafts : map body_of c.in_ok-plan.plan.drafts.items ≡ made_drafts flat own others c.args.place pieces rest =
-    drafts_are flat own others c.args.place pieces rest c.site-site.result.number c.seen-count.result (stamps_in c.widget.inside.parts.selection) (map body_of c.in_ok-plan.plan.drafts.items) site count sel
-    (c.in_ok-plan.ensures.drafts flat.cells (selections_of others) flat.tags (sym c.kept.ensures.cells)) in
-    let plans : Plans c.in_ok-plan.plan own.sel (selections_of others) flat.tags (made_new flat own others c.args.place pieces rest) =
-    plans_are flat own others c.args.place pieces rest c.in_ok-plan.plan c.site-site.result.number c.seen-count.result (stamps_in c.widget.inside.parts.selection) site count sel
-    (c.in_ok-plan.ensures.plans flat.cells (selections_of others) flat.tags (sym c.kept.ensures.cells)) in
-    let fit = all_fit flat own others c.args.place pieces rest c.kept.ensures.history c.kept.ensures.document
+    let place = c.args.place in
+    let at = c.stretch.result.begin + place in
+    let point = in_text (viewed flat own others) place in
+    let here : at ≡ point =
+    at_is c.kept.result.1.now (g.S.TextStore.list c.kept.result.0.now) flat own others place c.limits.result c.stretch.result c.kept.ensures.cells c.limits.ensures c.stretch.ensures.value in
+    let is = place_is flat own others place c.kept.ensures.history c.kept.ensures.document c.kept.ensures.site c.requires.place in
+    let drafts : map body_of c.in_ok-plan.plan.drafts.items ≡ made_drafts flat own others place pieces rest =
+    c.in_ok-plan.ensures.drafts others in
+    let plans : Plans c.in_ok-plan.plan own.sel (selections_of others) flat.tags (made_new flat own others place pieces rest) =
+    c.in_ok-plan.ensures.plans others in
+    let fit = all_fit flat own others place pieces rest is
     (sym (λ i. refusal_of (c.self.view_is i).limit (drafts i) (c.self.view_is i).log) ∙ c.in_ok-_made.ensures.fits) in
-    let within : c.args.place < length (text_of flat.cells) = omega (arith, length_text flat.cells, c.requires.place) in
-    let new = made_new flat own others c.args.place pieces rest in
-    let edited = made_flat flat own others c.args.place pieces rest in
-    let bodies = made_drafts flat own others c.args.place pieces rest in
+    let new = made_new flat own others place pieces rest in
+    let edited = made_flat flat own others place pieces rest in
+    let bodies = made_drafts flat own others place pieces rest in
     let log : c.make.new.self.log ≡ with_drafts flat.site bodies flat.log = c.in_ok-_made.ensures.log ∙ (λ i. with_drafts (c.self.view_is i).site (drafts i) (c.self.view_is i).log) in
-    let made = made_is flat own others c.args.place pieces rest c.kept.ensures.history c.kept.ensures.document (omega (arith, site, c.site-site.result.positive)) within c.requires.pieces c.utf8.rest fit.0 in
+    let made = made_is flat own others place pieces rest is c.requires.pieces c.utf8.rest fit.0 in
     let doc : seen c.make.new.self edited.marks edited.tags ≡ logged flat bodies edited =
     seen_made flat edited bodies c.make.new.self log c.in_ok-_made.ensures.cells (c.make.ensures.site ∙ ap (λ (f : Flat). f.site) c.self.view_is) (c.make.ensures.limit ∙ ap (λ (f : Flat). f.limit) c.self.view_is) refl made in
-    let marks : c.inserted.new.self ≡ edited.marks = c.inserted.ensures ∙ (λ i. marks_inserted c.args.place (plans.characters i) (c.self.view_is i).marks) in
+    let marks : c.inserted.new.self ≡ edited.marks = c.inserted.ensures ∙ (λ i. marks_inserted (here i) (plans.characters i) (c.self.view_is i).marks) in
     let tags : c.list_tags.new.table.names ≡ edited.tags =
     c.list_tags.ensures ∙ (λ i. all_listed (map (λ w. string_bytes w) (c.deref-2.ensures.value i)) (c.make_room.ensures.tags i)) ∙ ap (λ (f : Flat). all_listed (map (λ w. string_bytes w) c.in_ok-plan.plan.names.items) f.tags) c.self.view_is ∙ plans.tags in
+    let sel : stamps_in c.widget.inside.parts.selection ≡ own.sel = ap (λ (o : Own). o.sel) c.widget.view_is in
     let own_now : Own = own_in c.widget.inside.parts in
     let stamps : stamps_in c.add.new.self ≡ new.sel =
     c.add.ensures ∙ (λ i. with_stamps (c.deref.ensures.value i) (c.make_room.ensures.selection i)) ∙ ap (with_stamps c.in_ok-plan.plan.selected.items) sel ∙ plans.sel in
-    let own_after : c.inserted-2.new.self ≡ record (own_inserted c.args.place (length new.cells) own) { sel = new.sel } =
+    let own_after : c.inserted-2.new.self ≡ record (own_inserted point (length new.cells) own) { sel = new.sel } =
     c.inserted-2.ensures
-    ∙ (λ i. record { insert = mark_inserted c.args.place (plans.characters i) own_now.insert; current = mark_inserted c.args.place (plans.characters i) own_now.current; sel = stamps i; limits = own_now.limits })
-    ∙ ap (λ (o : Own). record (own_inserted c.args.place (length new.cells) o) { sel = new.sel }) c.widget.view_is in
-    let others_after : map own_in c.insert_each.new.others ≡ with_selections new.others (map (own_inserted c.args.place (length new.cells)) others) =
-    c.insert_each.ensures ∙ ap (map (own_inserted c.args.place c.in_ok-plan.plan.characters)) (c.select_between.ensures ∙ ap (map (selecting c.in_ok-plan.plan.between)) c.make_room.ensures.others)
-    ∙ ap (λ n. map (own_inserted c.args.place n) (map (selecting c.in_ok-plan.plan.between) others)) plans.characters ∙ put_each c.args.place (length new.cells) c.in_ok-plan.plan.between others
-    ∙ ap (λ l. with_selections l (map (own_inserted c.args.place (length new.cells)) others)) plans.others in
+    ∙ (λ i. record { insert = mark_inserted (here i) (plans.characters i) own_now.insert; current = mark_inserted (here i) (plans.characters i) own_now.current; sel = stamps i; limits = own_now.limits })
+    ∙ ap (λ (o : Own). record (own_inserted point (length new.cells) o) { sel = new.sel }) c.widget.view_is in
+    let others_after : map own_in c.insert_each.new.others ≡ with_selections new.others (map (own_inserted point (length new.cells)) others) =
+    c.insert_each.ensures ∙ ap (map (own_inserted at c.in_ok-plan.plan.characters)) (c.select_between.ensures ∙ ap (map (selecting c.in_ok-plan.plan.between)) c.make_room.ensures.others)
+    ∙ (λ i. map (own_inserted (here i) (plans.characters i)) (map (selecting c.in_ok-plan.plan.between) others)) ∙ put_each point (length new.cells) c.in_ok-plan.plan.between others
+    ∙ ap (λ l. with_selections l (map (own_inserted point (length new.cells)) others)) plans.others in
     (λ i. record { doc = seen c.make.new.self (marks i) (tags i); own = own_after i; others = others_after i })
-    ∙ ap (λ (f : Flat). record { doc = f; own = record (own_inserted c.args.place (length new.cells) own) { sel = new.sel }; others = with_selections new.others (map (own_inserted c.args.place (length new.cells)) others) }) doc
-    ∙ sym (put_made flat own others c.args.place pieces rest)
+    ∙ ap (λ (f : Flat). record { doc = f; own = record (own_inserted point (length new.cells) own) { sel = new.sel }; others = with_selections new.others (map (own_inserted point (length new.cells)) others) }) doc
+    ∙ sym (put_made flat own others place pieces rest)
 
 pub returns-clause-checked : goal.returns-clause-checked
 returns-clause-checked g c =
@@ -286,30 +325,30 @@ returns-clause-checked g c =
     let others = map own_in c.args.others.now in
     let pieces = c.args.pieces.now in
     let rest = c.args.rest.now in
-    let site : c.site-site.result.number ≡ flat.site = c.site-site.ensures ∙ ap (λ (f : Flat). f.site) c.self.view_is in
-    let count : c.seen-count.result ≡ flat.count = c.seen-count.ensures.value ∙ c.clock.ensures ∙ ap (λ (f : Flat). f.count) c.self.view_is in
-    let sel : stamps_in c.widget.inside.parts.selection ≡ own.sel = ap (λ (o : Own). o.sel) c.widget.view_is in
-    let drafts : map body_of c.in_ok-plan.plan.drafts.items ≡ made_drafts flat own others c.args.place pieces rest =
-    drafts_are flat own others c.args.place pieces rest c.site-site.result.number c.seen-count.result (stamps_in c.widget.inside.parts.selection) (map body_of c.in_ok-plan.plan.drafts.items) site count sel
-    (c.in_ok-plan.ensures.drafts flat.cells (selections_of others) flat.tags (sym c.kept.ensures.cells)) in
-    let plans : Plans c.in_ok-plan.plan own.sel (selections_of others) flat.tags (made_new flat own others c.args.place pieces rest) =
-    plans_are flat own others c.args.place pieces rest c.in_ok-plan.plan c.site-site.result.number c.seen-count.result (stamps_in c.widget.inside.parts.selection) site count sel
-    (c.in_ok-plan.ensures.plans flat.cells (selections_of others) flat.tags (sym c.kept.ensures.cells)) in
-    let fit = all_fit flat own others c.args.place pieces rest c.kept.ensures.history c.kept.ensures.document
+    let place = c.args.place in
+    let at = c.stretch.result.begin + place in
+    let point = in_text (viewed flat own others) place in
+    let here : at ≡ point =
+    at_is c.kept.result.1.now (g.S.TextStore.list c.kept.result.0.now) flat own others place c.limits.result c.stretch.result c.kept.ensures.cells c.limits.ensures c.stretch.ensures.value in
+    let is = place_is flat own others place c.kept.ensures.history c.kept.ensures.document c.kept.ensures.site c.requires.place in
+    let drafts : map body_of c.in_ok-plan.plan.drafts.items ≡ made_drafts flat own others place pieces rest =
+    c.in_ok-plan.ensures.drafts others in
+    let plans : Plans c.in_ok-plan.plan own.sel (selections_of others) flat.tags (made_new flat own others place pieces rest) =
+    c.in_ok-plan.ensures.plans others in
+    let fit = all_fit flat own others place pieces rest is
     (sym (λ i. refusal_of (c.self.view_is i).limit (drafts i) (c.self.view_is i).log) ∙ c.in_ok-_made.ensures.fits) in
-    let within : c.args.place < length (text_of flat.cells) = omega (arith, length_text flat.cells, c.requires.place) in
-    let new = made_new flat own others c.args.place pieces rest in
-    let edited = made_flat flat own others c.args.place pieces rest in
-    let bodies = made_drafts flat own others c.args.place pieces rest in
+    let new = made_new flat own others place pieces rest in
+    let edited = made_flat flat own others place pieces rest in
+    let bodies = made_drafts flat own others place pieces rest in
     let log : c.make.new.self.log ≡ with_drafts flat.site bodies flat.log = c.in_ok-_made.ensures.log ∙ (λ i. with_drafts (c.self.view_is i).site (drafts i) (c.self.view_is i).log) in
-    let made = made_is flat own others c.args.place pieces rest c.kept.ensures.history c.kept.ensures.document (omega (arith, site, c.site-site.result.positive)) within c.requires.pieces c.utf8.rest fit.0 in
+    let made = made_is flat own others place pieces rest is c.requires.pieces c.utf8.rest fit.0 in
     let doc : seen c.make.new.self edited.marks edited.tags ≡ logged flat bodies edited =
     seen_made flat edited bodies c.make.new.self log c.in_ok-_made.ensures.cells (c.make.ensures.site ∙ ap (λ (f : Flat). f.site) c.self.view_is) (c.make.ensures.limit ∙ ap (λ (f : Flat). f.limit) c.self.view_is) refl made in
-    let marks : c.inserted.new.self ≡ edited.marks = c.inserted.ensures ∙ (λ i. marks_inserted c.args.place (plans.characters i) (c.self.view_is i).marks) in
+    let marks : c.inserted.new.self ≡ edited.marks = c.inserted.ensures ∙ (λ i. marks_inserted (here i) (plans.characters i) (c.self.view_is i).marks) in
     let tags : c.list_tags.new.table.names ≡ edited.tags =
     c.list_tags.ensures ∙ (λ i. all_listed (map (λ w. string_bytes w) (c.deref-2.ensures.value i)) (c.make_room.ensures.tags i)) ∙ ap (λ (f : Flat). all_listed (map (λ w. string_bytes w) c.in_ok-plan.plan.names.items) f.tags) c.self.view_is ∙ plans.tags in
     (λ i. first_of (late_checks flat (record { doc = doc i; own = own; others = others })))
-    ∙ sym (refused_made flat own others c.args.place pieces rest c.kept.ensures.history c.kept.ensures.document)
+    ∙ sym (refused_made flat own others place pieces rest is)
     ∙ sym (λ i. refusal_of (c.self.view_is i).limit (drafts i) (c.self.view_is i).log) ∙ c.in_ok-_made.ensures.fits
 
 pub returns-clause-own : goal.returns-clause-own
@@ -319,37 +358,38 @@ returns-clause-own g c =
     let others = map own_in c.args.others.now in
     let pieces = c.args.pieces.now in
     let rest = c.args.rest.now in
-    let site : c.site-site.result.number ≡ flat.site = c.site-site.ensures ∙ ap (λ (f : Flat). f.site) c.self.view_is in
-    let count : c.seen-count.result ≡ flat.count = c.seen-count.ensures.value ∙ c.clock.ensures ∙ ap (λ (f : Flat). f.count) c.self.view_is in
-    let sel : stamps_in c.widget.inside.parts.selection ≡ own.sel = ap (λ (o : Own). o.sel) c.widget.view_is in
-    let drafts : map body_of c.in_ok-plan.plan.drafts.items ≡ made_drafts flat own others c.args.place pieces rest =
-    drafts_are flat own others c.args.place pieces rest c.site-site.result.number c.seen-count.result (stamps_in c.widget.inside.parts.selection) (map body_of c.in_ok-plan.plan.drafts.items) site count sel
-    (c.in_ok-plan.ensures.drafts flat.cells (selections_of others) flat.tags (sym c.kept.ensures.cells)) in
-    let plans : Plans c.in_ok-plan.plan own.sel (selections_of others) flat.tags (made_new flat own others c.args.place pieces rest) =
-    plans_are flat own others c.args.place pieces rest c.in_ok-plan.plan c.site-site.result.number c.seen-count.result (stamps_in c.widget.inside.parts.selection) site count sel
-    (c.in_ok-plan.ensures.plans flat.cells (selections_of others) flat.tags (sym c.kept.ensures.cells)) in
-    let fit = all_fit flat own others c.args.place pieces rest c.kept.ensures.history c.kept.ensures.document
+    let place = c.args.place in
+    let at = c.stretch.result.begin + place in
+    let point = in_text (viewed flat own others) place in
+    let here : at ≡ point =
+    at_is c.kept.result.1.now (g.S.TextStore.list c.kept.result.0.now) flat own others place c.limits.result c.stretch.result c.kept.ensures.cells c.limits.ensures c.stretch.ensures.value in
+    let is = place_is flat own others place c.kept.ensures.history c.kept.ensures.document c.kept.ensures.site c.requires.place in
+    let drafts : map body_of c.in_ok-plan.plan.drafts.items ≡ made_drafts flat own others place pieces rest =
+    c.in_ok-plan.ensures.drafts others in
+    let plans : Plans c.in_ok-plan.plan own.sel (selections_of others) flat.tags (made_new flat own others place pieces rest) =
+    c.in_ok-plan.ensures.plans others in
+    let fit = all_fit flat own others place pieces rest is
     (sym (λ i. refusal_of (c.self.view_is i).limit (drafts i) (c.self.view_is i).log) ∙ c.in_ok-_made.ensures.fits) in
-    let within : c.args.place < length (text_of flat.cells) = omega (arith, length_text flat.cells, c.requires.place) in
     let listed : AreListed flat.tags flat.cells = subst (λ (f : Flat). AreListed f.tags f.cells) c.self.view_is c.self.invariant.listed in
-    let new = made_new flat own others c.args.place pieces rest in
-    let edited = made_flat flat own others c.args.place pieces rest in
-    let bodies = made_drafts flat own others c.args.place pieces rest in
+    let new = made_new flat own others place pieces rest in
+    let edited = made_flat flat own others place pieces rest in
+    let bodies = made_drafts flat own others place pieces rest in
     let log : c.make.new.self.log ≡ with_drafts flat.site bodies flat.log = c.in_ok-_made.ensures.log ∙ (λ i. with_drafts (c.self.view_is i).site (drafts i) (c.self.view_is i).log) in
-    let made = made_is flat own others c.args.place pieces rest c.kept.ensures.history c.kept.ensures.document (omega (arith, site, c.site-site.result.positive)) within c.requires.pieces c.utf8.rest fit.0 in
+    let made = made_is flat own others place pieces rest is c.requires.pieces c.utf8.rest fit.0 in
     let doc : seen c.make.new.self edited.marks edited.tags ≡ logged flat bodies edited =
     seen_made flat edited bodies c.make.new.self log c.in_ok-_made.ensures.cells (c.make.ensures.site ∙ ap (λ (f : Flat). f.site) c.self.view_is) (c.make.ensures.limit ∙ ap (λ (f : Flat). f.limit) c.self.view_is) refl made in
-    let marks : c.inserted.new.self ≡ edited.marks = c.inserted.ensures ∙ (λ i. marks_inserted c.args.place (plans.characters i) (c.self.view_is i).marks) in
+    let marks : c.inserted.new.self ≡ edited.marks = c.inserted.ensures ∙ (λ i. marks_inserted (here i) (plans.characters i) (c.self.view_is i).marks) in
     let tags : c.list_tags.new.table.names ≡ edited.tags =
     c.list_tags.ensures ∙ (λ i. all_listed (map (λ w. string_bytes w) (c.deref-2.ensures.value i)) (c.make_room.ensures.tags i)) ∙ ap (λ (f : Flat). all_listed (map (λ w. string_bytes w) c.in_ok-plan.plan.names.items) f.tags) c.self.view_is ∙ plans.tags in
+    let sel : stamps_in c.widget.inside.parts.selection ≡ own.sel = ap (λ (o : Own). o.sel) c.widget.view_is in
     let own_now : Own = own_in c.widget.inside.parts in
     let stamps : stamps_in c.add.new.self ≡ new.sel =
     c.add.ensures ∙ (λ i. with_stamps (c.deref.ensures.value i) (c.make_room.ensures.selection i)) ∙ ap (with_stamps c.in_ok-plan.plan.selected.items) sel ∙ plans.sel in
-    let own_after : c.inserted-2.new.self ≡ record (own_inserted c.args.place (length new.cells) own) { sel = new.sel } =
+    let own_after : c.inserted-2.new.self ≡ record (own_inserted point (length new.cells) own) { sel = new.sel } =
     c.inserted-2.ensures
-    ∙ (λ i. record { insert = mark_inserted c.args.place (plans.characters i) own_now.insert; current = mark_inserted c.args.place (plans.characters i) own_now.current; sel = stamps i; limits = own_now.limits })
-    ∙ ap (λ (o : Own). record (own_inserted c.args.place (length new.cells) o) { sel = new.sel }) c.widget.view_is in
-    let is = own_made flat own others c.args.place pieces rest c.kept.ensures.history c.kept.ensures.document c.requires.pieces listed c.requires.own in
+    ∙ (λ i. record { insert = mark_inserted (here i) (plans.characters i) own_now.insert; current = mark_inserted (here i) (plans.characters i) own_now.current; sel = stamps i; limits = own_now.limits })
+    ∙ ap (λ (o : Own). record (own_inserted point (length new.cells) o) { sel = new.sel }) c.widget.view_is in
+    let is = own_made flat own others place pieces rest is c.requires.pieces listed c.requires.own in
     subst (λ (p : _). p) (λ i. IsOwnOf (length (text_of (sym doc i).cells)) (sym own_after i)) is
 
 pub returns-clause-others : goal.returns-clause-others
@@ -359,32 +399,32 @@ returns-clause-others g c =
     let others = map own_in c.args.others.now in
     let pieces = c.args.pieces.now in
     let rest = c.args.rest.now in
-    let site : c.site-site.result.number ≡ flat.site = c.site-site.ensures ∙ ap (λ (f : Flat). f.site) c.self.view_is in
-    let count : c.seen-count.result ≡ flat.count = c.seen-count.ensures.value ∙ c.clock.ensures ∙ ap (λ (f : Flat). f.count) c.self.view_is in
-    let sel : stamps_in c.widget.inside.parts.selection ≡ own.sel = ap (λ (o : Own). o.sel) c.widget.view_is in
-    let drafts : map body_of c.in_ok-plan.plan.drafts.items ≡ made_drafts flat own others c.args.place pieces rest =
-    drafts_are flat own others c.args.place pieces rest c.site-site.result.number c.seen-count.result (stamps_in c.widget.inside.parts.selection) (map body_of c.in_ok-plan.plan.drafts.items) site count sel
-    (c.in_ok-plan.ensures.drafts flat.cells (selections_of others) flat.tags (sym c.kept.ensures.cells)) in
-    let plans : Plans c.in_ok-plan.plan own.sel (selections_of others) flat.tags (made_new flat own others c.args.place pieces rest) =
-    plans_are flat own others c.args.place pieces rest c.in_ok-plan.plan c.site-site.result.number c.seen-count.result (stamps_in c.widget.inside.parts.selection) site count sel
-    (c.in_ok-plan.ensures.plans flat.cells (selections_of others) flat.tags (sym c.kept.ensures.cells)) in
-    let fit = all_fit flat own others c.args.place pieces rest c.kept.ensures.history c.kept.ensures.document
+    let place = c.args.place in
+    let at = c.stretch.result.begin + place in
+    let point = in_text (viewed flat own others) place in
+    let here : at ≡ point =
+    at_is c.kept.result.1.now (g.S.TextStore.list c.kept.result.0.now) flat own others place c.limits.result c.stretch.result c.kept.ensures.cells c.limits.ensures c.stretch.ensures.value in
+    let is = place_is flat own others place c.kept.ensures.history c.kept.ensures.document c.kept.ensures.site c.requires.place in
+    let drafts : map body_of c.in_ok-plan.plan.drafts.items ≡ made_drafts flat own others place pieces rest =
+    c.in_ok-plan.ensures.drafts others in
+    let plans : Plans c.in_ok-plan.plan own.sel (selections_of others) flat.tags (made_new flat own others place pieces rest) =
+    c.in_ok-plan.ensures.plans others in
+    let fit = all_fit flat own others place pieces rest is
     (sym (λ i. refusal_of (c.self.view_is i).limit (drafts i) (c.self.view_is i).log) ∙ c.in_ok-_made.ensures.fits) in
-    let within : c.args.place < length (text_of flat.cells) = omega (arith, length_text flat.cells, c.requires.place) in
     let listed : AreListed flat.tags flat.cells = subst (λ (f : Flat). AreListed f.tags f.cells) c.self.view_is c.self.invariant.listed in
-    let new = made_new flat own others c.args.place pieces rest in
-    let edited = made_flat flat own others c.args.place pieces rest in
-    let bodies = made_drafts flat own others c.args.place pieces rest in
+    let new = made_new flat own others place pieces rest in
+    let edited = made_flat flat own others place pieces rest in
+    let bodies = made_drafts flat own others place pieces rest in
     let log : c.make.new.self.log ≡ with_drafts flat.site bodies flat.log = c.in_ok-_made.ensures.log ∙ (λ i. with_drafts (c.self.view_is i).site (drafts i) (c.self.view_is i).log) in
-    let made = made_is flat own others c.args.place pieces rest c.kept.ensures.history c.kept.ensures.document (omega (arith, site, c.site-site.result.positive)) within c.requires.pieces c.utf8.rest fit.0 in
+    let made = made_is flat own others place pieces rest is c.requires.pieces c.utf8.rest fit.0 in
     let doc : seen c.make.new.self edited.marks edited.tags ≡ logged flat bodies edited =
     seen_made flat edited bodies c.make.new.self log c.in_ok-_made.ensures.cells (c.make.ensures.site ∙ ap (λ (f : Flat). f.site) c.self.view_is) (c.make.ensures.limit ∙ ap (λ (f : Flat). f.limit) c.self.view_is) refl made in
-    let marks : c.inserted.new.self ≡ edited.marks = c.inserted.ensures ∙ (λ i. marks_inserted c.args.place (plans.characters i) (c.self.view_is i).marks) in
+    let marks : c.inserted.new.self ≡ edited.marks = c.inserted.ensures ∙ (λ i. marks_inserted (here i) (plans.characters i) (c.self.view_is i).marks) in
     let tags : c.list_tags.new.table.names ≡ edited.tags =
     c.list_tags.ensures ∙ (λ i. all_listed (map (λ w. string_bytes w) (c.deref-2.ensures.value i)) (c.make_room.ensures.tags i)) ∙ ap (λ (f : Flat). all_listed (map (λ w. string_bytes w) c.in_ok-plan.plan.names.items) f.tags) c.self.view_is ∙ plans.tags in
-    let others_after : map own_in c.insert_each.new.others ≡ with_selections new.others (map (own_inserted c.args.place (length new.cells)) others) =
-    c.insert_each.ensures ∙ ap (map (own_inserted c.args.place c.in_ok-plan.plan.characters)) (c.select_between.ensures ∙ ap (map (selecting c.in_ok-plan.plan.between)) c.make_room.ensures.others)
-    ∙ ap (λ n. map (own_inserted c.args.place n) (map (selecting c.in_ok-plan.plan.between) others)) plans.characters ∙ put_each c.args.place (length new.cells) c.in_ok-plan.plan.between others
-    ∙ ap (λ l. with_selections l (map (own_inserted c.args.place (length new.cells)) others)) plans.others in
-    let are = others_made flat own others c.args.place pieces rest c.kept.ensures.history c.kept.ensures.document c.requires.pieces listed c.requires.others in
+    let others_after : map own_in c.insert_each.new.others ≡ with_selections new.others (map (own_inserted point (length new.cells)) others) =
+    c.insert_each.ensures ∙ ap (map (own_inserted at c.in_ok-plan.plan.characters)) (c.select_between.ensures ∙ ap (map (selecting c.in_ok-plan.plan.between)) c.make_room.ensures.others)
+    ∙ (λ i. map (own_inserted (here i) (plans.characters i)) (map (selecting c.in_ok-plan.plan.between) others)) ∙ put_each point (length new.cells) c.in_ok-plan.plan.between others
+    ∙ ap (λ l. with_selections l (map (own_inserted point (length new.cells)) others)) plans.others in
+    let are = others_made flat own others place pieces rest is c.requires.pieces listed c.requires.others in
     subst (λ (p : _). p) (λ i. AllByRecursion (IsOwnOf (length (text_of (sym doc i).cells))) (sym others_after i)) are

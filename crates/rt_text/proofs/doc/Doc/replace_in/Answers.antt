@@ -1,5 +1,6 @@
 use Rattle.std.proofs.Common.{[], ◌∷◌, ◌<◌, Option, Some, ◌≡◌, ◌∙◌, ◌⊎◌, ◌≤◌, ◌+◌, ◌^◌, ◌-◌, ◌++◌, ℕ, All, List, None, ap, arith, inl, inr, length, map, string_bytes, subst, sym}
 use Rattle.std.specs.List.{AllByRecursion}
+use Rattle.std.proofs.lemmas.List.{length-map}
 use Rattle.std.proofs.lemmas.Result.{err_from_is_err_and}
 use Rattle.rt_marks.specs.Marks.{Mark, marks_inserted, marks_left}
 use Rattle.rt_oplog.specs.Edits.{body_of}
@@ -8,7 +9,10 @@ use Rattle.rt_stamps.specs.declared.fault.Fault.TheVariants.{ClockSpent, NoMemor
 use Rattle.rt_stamps.specs.declared.limits.TheConstants.{GREATEST_COUNT, MOST_SPANS}
 use Rattle.rt_stamps.specs.Outcomes.{first_of}
 use Rattle.rt_stamps.specs.Words.{Word}
+use Rattle.rt_store.specs.declared.cell.Cell.{Cell}
 use Rattle.rt_store.specs.Cells.{text_of}
+use Rattle.rt_store.specs.Shown.{shown}
+use Rattle.rt_tags.specs.States.{TagStates}
 use Rattle.rt_tags.specs.Tags.{IsName}
 use Rattle.rt_rga.specs.Drafts.{with_drafts}
 use Rattle.rt_rga.specs.Kept.{ReplicaValue}
@@ -21,18 +25,22 @@ use Rattle.rt_edits.specs.Insertions.{Piece, all_listed}
 use Rattle.rt_edits.specs.Removals.{is_covered}
 use Rattle.rt_edits.specs.Selected.{stamps_in}
 use Rattle.rt_edits.specs.Selections.{with_stamps}
+use Rattle.rt_edits.proofs.PlaceLaws.{text_within}
+use Rattle.rt_views.specs.declared.limits.Limits.{Limits}
+use Rattle.rt_views.specs.declared.stretch.Stretch.{Stretch}
+use Rattle.rt_views.specs.Stretches.{stretch_of}
 use Rattle.rt_text.specs.Commands.{cell_check, with_range_replaced}
 use Rattle.rt_text.specs.Kept.{IsDoc}
 use Rattle.rt_text.specs.Replacements.{left_by, loss_at}
 use Rattle.rt_text.specs.Parts.{own_in}
-use Rattle.rt_text.specs.Widgets.{AreSiteMarks, IsOwnOf, Own, Viewed, own_inserted, own_left, with_selections, reselected}
-use Rattle.rt_text.proofs.Deletions.{last_off, widget_left}
+use Rattle.rt_text.specs.Widgets.{AreSiteMarks, IsOwnOf, Own, Viewed, begin_of, last_newline, own_inserted, own_left, with_selections, reselected}
 use Rattle.rt_text.proofs.KeptDocument.{clock_spent}
+use Rattle.rt_text.proofs.LimitedDeletions.{last_gone, last_kept, stretch_kept, widget_left}
 use Rattle.rt_text.proofs.MadeDocument.{seen}
 use Rattle.rt_text.proofs.MarkLaws.{site_fits}
 use Rattle.rt_text.proofs.PeerLaws.{each_by, each_room, leave_last, put_each, selecting}
 use Rattle.rt_text.proofs.PutLaws.{late_checks}
-use Rattle.rt_text.proofs.ReplacedDocument.{IsReplacement, all_may, all_refused, characters_fit, given_names, kept_after, marks_left_are, marks_left_in, more_drafts, more_flat, more_new, others_after, others_left_in, own_after, own_left_in, replaced_is, replacement_seen, tags_left_are}
+use Rattle.rt_text.proofs.ReplacedDocument.{IsReplacement, all_may, all_refused, characters_fit, given_names, kept_after, marks_left_are, marks_left_in, more_drafts, more_flat, more_new, others_after, others_left_in, own_after, own_left_in, point, point_is, point_within, replaced_is, replacement_seen, tags_left_are}
 use Rattle.rt_text.proofs.ViewLaws.{viewed}
 use Rattle.rt_text.proofs.doc.Doc.replace_in.Given.{Over}
 use Rattle.rt_text.proofs.doc.Doc.replace_in.Goals as goal
@@ -55,6 +63,36 @@ returns-in_err-planned-clause-err g c =
     rw (p.1, p.2)
     (spent c.args.self.now (λ (o : List Own). with_range_replaced (record { doc = c.args.self.now; own = c.args.widget.now; others = o }) c.args.range c.args.pieces.now c.args.rest.now)
     (map own_in c.args.others.now) c.in_err-planned.field-0.0 c.in_err-planned.ensures.err)
+
+-- the place in the text, as the code finds it
+at_is : (table : TagStates) (kept : List (Cell ℕ)) (flat : Flat) (own : Own) (others : List Own) (place : ℕ) (limits : Limits) (stretch : Stretch) → map (shown table) kept ≡ flat.cells → limits ≡ own.limits → stretch ≡ stretch_of kept limits
+    → stretch.begin + place ≡ begin_of (viewed flat own others) + place
+at_is table kept flat own others place limits stretch e l s = ap (λ (y : Stretch). y.begin + place) (s ∙ ap (stretch_of kept) l ∙ stretch_kept table kept flat.cells own.limits e)
+
+pub overflow_add-at : goal.overflow_add-at
+overflow_add-at g c =
+    let flat = c.args.self.now in
+    let own = c.args.widget.now in
+    let others = map own_in c.args.others.now in
+    let pieces = c.args.pieces.now in
+    let rest = c.args.rest.now in
+    let r = c.in_ok-planned.planned in
+    let plans = c.in_ok-planned.ensures.plans others in
+    let i : IsReplacement flat own others c.args.range r.place pieces rest = record {
+      history = c.kept.ensures.history;
+      document = c.kept.ensures.document;
+      real = c.kept.ensures.site;
+      fits = c.in_ok-planned.ensures.fits;
+      at = plans.place;
+      texts = c.requires.pieces;
+      utf8 = c.utf8.rest;
+    } in
+    let kept = g.S.TextStore.list c.kept.result.0.now in
+    let here : c.stretch-stretch.result.begin + r.place ≡ point flat own others c.args.range r.place pieces rest i =
+    at_is c.kept.result.1.now (g.S.TextStore.list c.kept.result.0.now) flat own others r.place c.limits.result c.stretch-stretch.result c.kept.ensures.cells c.limits.ensures c.stretch-stretch.ensures.value
+    ∙ point_is flat own others c.args.range r.place pieces rest i in
+    let few : length flat.cells ≤ flat.limit = omega (arith, c.kept.ensures.few, ap length c.kept.ensures.cells, length-map kept (shown c.kept.result.1.now)) in
+    omega (arith, here, point_within flat own others c.args.range r.place pieces rest i, text_within flat.cells, few, c.kept.ensures.most)
 
 pub make_room-requires : goal.make_room-requires
 make_room-requires g c =
@@ -229,11 +267,14 @@ insert_each-requires g c =
     let left = left_by (viewed flat own others) c.args.range in
     let few : length (text_of left.doc.cells) + r.plan.characters ≤ 2 ^ 64 - 1 =
     omega (arith, characters_fit flat own others c.args.range r.place pieces rest i none c.kept.ensures.most, plans.plan.characters) in
+    let newest : c.cell_at.result.stamp ≡ last_newline (viewed flat own others) =
+    last_kept c.kept.result.1.now (g.S.TextStore.list c.kept.result.0.now) flat own others c.stretch-stretch.result c.cell_at.result c.kept.ensures.cells
+    (c.stretch-stretch.ensures.value ∙ ap (stretch_of (g.S.TextStore.list c.kept.result.0.now)) c.limits.ensures) c.cell_at.ensures in
     let peers : map own_in c.leave_each.new.others ≡ map (selecting r.plan.between) left.others =
     c.leave_each.ensures ∙ ap (λ rs. map (own_left (is_covered rs)) (map own_in c.select_between.new.others)) c.deref-4.ensures.value
-    ∙ ap (map (own_left (is_covered r.removed.items))) (c.select_between.ensures ∙ ap (map (selecting r.plan.between)) (c.unselect.ensures.others ∙ ap (map (reselected (last_off r.held))) c.make_room.ensures.others))
-    ∙ leave_last (is_covered r.removed.items) (last_off r.held) r.plan.between others
-    ∙ (λ k. map (selecting r.plan.between) (map (widget_left (λ p. c.in_ok-planned.ensures.removed p k) (c.in_ok-planned.ensures.held k)) others)) in
+    ∙ ap (map (own_left (is_covered r.removed.items))) (c.select_between.ensures ∙ ap (map (selecting r.plan.between)) (c.unselect.ensures.others ∙ ap (map (reselected (last_gone c.cell_at.result.stamp r.held))) c.make_room.ensures.others))
+    ∙ leave_last (is_covered r.removed.items) (last_gone c.cell_at.result.stamp r.held) r.plan.between others
+    ∙ (λ k. map (selecting r.plan.between) (map (widget_left (λ p. c.in_ok-planned.ensures.removed p k) (newest k) (c.in_ok-planned.ensures.held k)) others)) in
     let n = length (text_of left.doc.cells) in
     each_room n r.plan.characters (2 ^ 64 - 1) c.leave_each.new.others few
     (subst (AllByRecursion (IsOwnOf n)) (sym peers)
@@ -265,15 +306,15 @@ record Done (flat : Flat) (own : Own) (others : List Own) (range : Range) (place
     (peers : List Own) : Type 0 where
   is : IsReplacement flat own others range place pieces rest
   kept : IsDoc flat.cells flat.marks flat.tags
-  none : refusal_of flat.limit (delete_drafts MOST_SPANS flat (loss_at flat range) ++ more_drafts flat own others range place pieces rest is) flat.log ≡ None
+  none : refusal_of flat.limit (delete_drafts MOST_SPANS flat (loss_at (viewed flat own others) range) ++ more_drafts flat own others range place pieces rest is) flat.log ≡ None
   marks_is : marks ≡ (more_flat flat own others range place pieces rest is).marks
   tags_is : tags ≡ (more_flat flat own others range place pieces rest is).tags
   doc : seen new (more_flat flat own others range place pieces rest is).marks (more_flat flat own others range place pieces rest is).tags
       ≡ logged (left_by (viewed flat own others) range).doc (more_drafts flat own others range place pieces rest is) (more_flat flat own others range place pieces rest is)
   own_is : widget
-      ≡ record (own_inserted place (length (more_new flat own others range place pieces rest is).cells) (left_by (viewed flat own others) range).own) { sel = (more_new flat own others range place pieces rest is).sel }
+      ≡ record (own_inserted (point flat own others range place pieces rest is) (length (more_new flat own others range place pieces rest is).cells) (left_by (viewed flat own others) range).own) { sel = (more_new flat own others range place pieces rest is).sel }
   others_are : peers ≡ with_selections (more_new flat own others range place pieces rest is).others
-      (map (own_inserted place (length (more_new flat own others range place pieces rest is).cells)) (left_by (viewed flat own others) range).others)
+      (map (own_inserted (point flat own others range place pieces rest is) (length (more_new flat own others range place pieces rest is).cells)) (left_by (viewed flat own others) range).others)
 
 done : (g : Over) (c : goal.After-drop-planned-2 g)
     → Done c.args.self.now c.args.widget.now (map own_in c.args.others.now) c.args.range c.in_ok-planned.planned.place c.args.pieces.now c.args.rest.now c.make.new.self c.inserted.new.self c.list_tags.new.table.names
@@ -301,37 +342,45 @@ done g c =
     let moved : c.move_back.new.marks ≡ left.doc.marks =
     c.move_back.ensures ∙ ap (λ l. marks_left (is_covered l) c.self.inside.marks) c.deref-2.ensures.value
     ∙ (λ k. marks_left (λ p. c.in_ok-planned.ensures.removed p k) (c.self.view_is k).marks) ∙ sym (marks_left_are flat own others c.args.range r.place pieces rest i) in
+    let at = c.stretch-stretch.result.begin + r.place in
+    let place = point flat own others c.args.range r.place pieces rest i in
     let own_now : Own = own_in c.widget.inside.parts in
     let new = more_new flat own others c.args.range r.place pieces rest i in
     let selected = r.plan.selected.items in
     let names = map (λ w. string_bytes w) r.plan.names.items in
     let sel : stamps_in c.widget.inside.parts.selection ≡ own.sel = ap (λ (o : Own). o.sel) c.widget.view_is in
+    let newest : c.cell_at.result.stamp ≡ last_newline (viewed flat own others) =
+    last_kept c.kept.result.1.now (g.S.TextStore.list c.kept.result.0.now) flat own others c.stretch-stretch.result c.cell_at.result c.kept.ensures.cells
+    (c.stretch-stretch.ensures.value ∙ ap (stretch_of (g.S.TextStore.list c.kept.result.0.now)) c.limits.ensures) c.cell_at.ensures in
+    let here : c.stretch-stretch.result.begin + r.place ≡ point flat own others c.args.range r.place pieces rest i =
+    at_is c.kept.result.1.now (g.S.TextStore.list c.kept.result.0.now) flat own others r.place c.limits.result c.stretch-stretch.result c.kept.ensures.cells c.limits.ensures c.stretch-stretch.ensures.value
+    ∙ point_is flat own others c.args.range r.place pieces rest i in
     let held = c.in_ok-planned.ensures.held in
     let stamps : stamps_in c.add.new.self ≡ new.sel =
-    c.add.ensures ∙ (λ k. with_stamps (c.deref.ensures.value k) (c.unselect.ensures.sel k)) ∙ ap (λ s. with_stamps selected (last_off r.held s)) (c.make_room.ensures.selection ∙ sel)
-    ∙ ap (λ b. with_stamps selected (last_off b own.sel)) held ∙ plans.plan.sel in
-    let own_moved : c.leave.new.self ≡ own_left (loss_at flat c.args.range).places (record own { sel = new.sel }) =
+    c.add.ensures ∙ (λ k. with_stamps (c.deref.ensures.value k) (c.unselect.ensures.sel k)) ∙ ap (λ s. with_stamps selected (last_gone c.cell_at.result.stamp r.held s)) (c.make_room.ensures.selection ∙ sel)
+    ∙ (λ k. with_stamps selected (last_gone (newest k) (held k) own.sel)) ∙ plans.plan.sel in
+    let own_moved : c.leave.new.self ≡ own_left (loss_at (viewed flat own others) c.args.range).places (record own { sel = new.sel }) =
     c.leave.ensures ∙ ap (λ rs. own_left (is_covered rs) (record own_now { sel = stamps_in c.add.new.self })) c.deref-3.ensures.value
     ∙ (λ k. own_left (λ p. c.in_ok-planned.ensures.removed p k) (record (c.widget.view_is k) { sel = stamps k })) in
     let peers : map own_in c.leave_each.new.others ≡ map (selecting r.plan.between) left.others =
     c.leave_each.ensures ∙ ap (λ rs. map (own_left (is_covered rs)) (map own_in c.select_between.new.others)) c.deref-4.ensures.value
-    ∙ ap (map (own_left (is_covered r.removed.items))) (c.select_between.ensures ∙ ap (map (selecting r.plan.between)) (c.unselect.ensures.others ∙ ap (map (reselected (last_off r.held))) c.make_room.ensures.others))
-    ∙ leave_last (is_covered r.removed.items) (last_off r.held) r.plan.between others
-    ∙ (λ k. map (selecting r.plan.between) (map (widget_left (λ p. c.in_ok-planned.ensures.removed p k) (c.in_ok-planned.ensures.held k)) others)) in
+    ∙ ap (map (own_left (is_covered r.removed.items))) (c.select_between.ensures ∙ ap (map (selecting r.plan.between)) (c.unselect.ensures.others ∙ ap (map (reselected (last_gone c.cell_at.result.stamp r.held))) c.make_room.ensures.others))
+    ∙ leave_last (is_covered r.removed.items) (last_gone c.cell_at.result.stamp r.held) r.plan.between others
+    ∙ (λ k. map (selecting r.plan.between) (map (widget_left (λ p. c.in_ok-planned.ensures.removed p k) (newest k) (c.in_ok-planned.ensures.held k)) others)) in
     record {
       is = i;
       kept = kept;
       none = none;
-      marks_is = c.inserted.ensures ∙ (λ k. marks_inserted r.place (plans.plan.characters k) (moved k));
+      marks_is = c.inserted.ensures ∙ (λ k. marks_inserted (here k) (plans.plan.characters k) (moved k));
       tags_is = c.list_tags.ensures ∙ (λ k. all_listed (map (λ w. string_bytes w) (c.deref-5.ensures.value k)) (c.make_room.ensures.tags k)) ∙ ap (λ (f : Flat). all_listed names f.tags) c.self.view_is
           ∙ ap (all_listed names) (sym (tags_left_are flat own others c.args.range r.place pieces rest i)) ∙ plans.plan.tags;
       doc = replacement_seen flat own others c.args.range r.place pieces rest i c.make.new.self none
           (c.in_ok-_made.ensures.log ∙ (λ k. with_drafts (c.self.view_is k).site (plans.drafts k) (c.self.view_is k).log)) c.in_ok-_made.ensures.cells
           (c.make.ensures.site ∙ ap (λ (f : Flat). f.site) c.self.view_is) (c.make.ensures.limit ∙ ap (λ (f : Flat). f.limit) c.self.view_is);
-      own_is = c.inserted-2.ensures ∙ (λ k. own_inserted r.place (plans.plan.characters k) (own_moved k));
-      others_are = c.insert_each.ensures ∙ ap (map (own_inserted r.place r.plan.characters)) peers
-          ∙ ap (λ n. map (own_inserted r.place n) (map (selecting r.plan.between) left.others)) plans.plan.characters ∙ put_each r.place (length new.cells) r.plan.between left.others
-          ∙ ap (λ l. with_selections l (map (own_inserted r.place (length new.cells)) left.others)) plans.plan.others;
+      own_is = c.inserted-2.ensures ∙ (λ k. own_inserted (here k) (plans.plan.characters k) (own_moved k));
+      others_are = c.insert_each.ensures ∙ ap (map (own_inserted at r.plan.characters)) peers
+          ∙ (λ k. map (own_inserted (here k) (plans.plan.characters k)) (map (selecting r.plan.between) left.others)) ∙ put_each place (length new.cells) r.plan.between left.others
+          ∙ ap (λ l. with_selections l (map (own_inserted place (length new.cells)) left.others)) plans.plan.others;
     }
 
 pub invariant_of-self-2 : goal.invariant_of-self-2
@@ -358,8 +407,8 @@ returns-clause-ok g c =
     (λ k. record { doc = seen c.make.new.self (d.marks_is k) (d.tags_is k); own = d.own_is k; others = d.others_are k })
     ∙ ap (λ (f : Flat). record {
       doc = f;
-      own = record (own_inserted place (length new.cells) (left_by (viewed flat own others) c.args.range).own) { sel = new.sel };
-      others = with_selections new.others (map (own_inserted place (length new.cells)) (left_by (viewed flat own others) c.args.range).others);
+      own = record (own_inserted (point flat own others c.args.range place pieces rest d.is) (length new.cells) (left_by (viewed flat own others) c.args.range).own) { sel = new.sel };
+      others = with_selections new.others (map (own_inserted (point flat own others c.args.range place pieces rest d.is) (length new.cells)) (left_by (viewed flat own others) c.args.range).others);
     }) d.doc
     ∙ sym (replaced_is flat own others c.args.range place pieces rest d.is)
 

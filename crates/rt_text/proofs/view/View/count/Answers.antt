@@ -1,32 +1,60 @@
-use Rattle.std.proofs.Common.{◌≡◌, ◌∙◌, arith, length, sym, ap, Ok, map}
+use Rattle.std.proofs.Common.{◌≡◌, ◌∙◌, ◌-◌, ◌≤◌, arith, length, sym, ap, Ok, map}
 use Rattle.std.proofs.lemmas.Result.{IfOk-weaker}
 use Rattle.rt_store.specs.Cells.{text_of}
-use Rattle.rt_tags.specs.States.{state_at}
 use Rattle.rt_text.specs.Distances.{distance_of, or_indices}
-use Rattle.rt_text.specs.Widgets.{Viewed, widget_of}
+use Rattle.rt_text.specs.Parts.{own_in}
+use Rattle.rt_text.specs.Widgets.{text_shown, widget_of}
 use Rattle.rt_text.proofs.Checks.{two_given}
-use Rattle.rt_store.proofs.Shown.{text_shown}
+use Rattle.rt_text.proofs.Differences.{distances_in_part}
+use Rattle.rt_text.proofs.SeenLaws.{store_seen}
+use Rattle.rt_edits.proofs.PlaceLaws.{text_within}
+use Rattle.rt_views.proofs.Parts.{part_length}
+use Rattle.rt_views.specs.Stretches.{part}
 use Rattle.rt_text.proofs.view.View.count.Goals as goal
+
+pub overflow_add-begin : goal.overflow_add-begin
+overflow_add-begin g c =
+    let view = c.args.self.now in
+    let store = g.S.TextStore.list c.between.result.0.now in
+    let text : part c.between.result.1 (text_of store) ≡ text_shown view =
+    store_seen view c.self.inside.doc c.self.inside.widget (map own_in c.self.inside.others.items) c.limits.result c.between.result.1 (text_of store) c.self.view_is c.limits.ensures c.between.ensures.stretch c.between.ensures.text in
+    let long = part_length c.between.result.1 (text_of store) c.between.ensures.lines.within in
+    omega (arith, long, ap length text, c.in_ok-start.ensures.within, c.between.ensures.lines.within, c.between.ensures.lines.some, text_within store, c.between.ensures.few)
+
+pub overflow_add-begin-2 : goal.overflow_add-begin-2
+overflow_add-begin-2 g c =
+    let view = c.args.self.now in
+    let store = g.S.TextStore.list c.between.result.0.now in
+    let text : part c.between.result.1 (text_of store) ≡ text_shown view =
+    store_seen view c.self.inside.doc c.self.inside.widget (map own_in c.self.inside.others.items) c.limits.result c.between.result.1 (text_of store) c.self.view_is c.limits.ensures c.between.ensures.stretch c.between.ensures.text in
+    let long = part_length c.between.result.1 (text_of store) c.between.ensures.lines.within in
+    omega (arith, long, ap length text, c.in_ok-end.ensures.within, c.between.ensures.lines.within, c.between.ensures.lines.some, text_within store, c.between.ensures.few)
 
 pub distances_of-requires-clause-places : goal.distances_of-requires-clause-places
 distances_of-requires-clause-places g c =
     let view = c.args.self.now in
-    let flat = view.doc in
-    let kept = g.S.TextStore.list c.kept.result.0.now in
-    let text : text_of kept ≡ text_of flat.cells = sym (text_shown (state_at c.kept.result.1.now) kept) ∙ ap text_of c.kept.ensures.cells ∙ ap (λ (v : Viewed). text_of v.doc.cells) c.self.view_is in
-    let same : length (text_of kept) ≡ length (text_of flat.cells) = ap length text in
-    (omega (arith, same, c.in_ok-start.ensures.within), omega (arith, same, c.in_ok-end.ensures.within))
+    let store = g.S.TextStore.list c.between.result.0.now in
+    let text : part c.between.result.1 (text_of store) ≡ text_shown view =
+    store_seen view c.self.inside.doc c.self.inside.widget (map own_in c.self.inside.others.items) c.limits.result c.between.result.1 (text_of store) c.self.view_is c.limits.ensures c.between.ensures.stretch c.between.ensures.text in
+    let long = part_length c.between.result.1 (text_of store) c.between.ensures.lines.within in (
+      omega (arith, long, ap length text, c.in_ok-start.ensures.within, c.between.ensures.lines.within, c.between.ensures.lines.some),
+      omega (arith, long, ap length text, c.in_ok-end.ensures.within, c.between.ensures.lines.within, c.between.ensures.lines.some),
+    )
 
 pub returns-clause-ok : goal.returns-clause-ok
 returns-clause-ok g c =
     let view = c.args.self.now in
-    let flat = view.doc in
     let measures = c.args.measures.now in
     let start = c.in_ok-start.start in
     let end = c.in_ok-end.end in
-    let kept = g.S.TextStore.list c.kept.result.0.now in
-    let text : text_of kept ≡ text_of flat.cells = sym (text_shown (state_at c.kept.result.1.now) kept) ∙ ap text_of c.kept.ensures.cells ∙ ap (λ (v : Viewed). text_of v.doc.cells) c.self.view_is in
+    let stretch = c.between.result.1 in
+    let store = g.S.TextStore.list c.between.result.0.now in
+    let text : part c.between.result.1 (text_of store) ≡ text_shown view =
+    store_seen view c.self.inside.doc c.self.inside.widget (map own_in c.self.inside.others.items) c.limits.result c.between.result.1 (text_of store) c.self.view_is c.limits.ensures c.between.ensures.stretch c.between.ensures.text in
+    let long = part_length stretch (text_of store) c.between.ensures.lines.within in
+    let one : start ≤ stretch.end - stretch.begin = omega (arith, long, ap length text, c.in_ok-start.ensures.within) in
+    let two : end ≤ stretch.end - stretch.begin = omega (arith, long, ap length text, c.in_ok-end.ensures.within) in
     IfOk-weaker c.distances_of.result _ _
-    (λ distances h. two_given (widget_of view) c.args.from.now c.args.to.now (λ a b. map (distance_of (text_of flat.cells) a b) (or_indices measures)) start end c.in_ok-start.ensures.ok c.in_ok-end.ensures.ok
+    (λ distances h. two_given (widget_of view) c.args.from.now c.args.to.now (λ a b. map (distance_of (text_shown view) a b) (or_indices measures)) start end c.in_ok-start.ensures.ok c.in_ok-end.ensures.ok
     ∙ (λ i. Ok (map (distance_of (sym text i) start end) (or_indices measures)))
-    ∙ ap (λ v. Ok v) (sym h)) c.distances_of.ensures.ok
+    ∙ ap (λ v. Ok v) (sym (distances_in_part (text_of store) stretch c.between.ensures.lines start end one two (or_indices measures)) ∙ sym h)) c.distances_of.ensures.ok

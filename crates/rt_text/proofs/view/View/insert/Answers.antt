@@ -1,16 +1,18 @@
 use Rattle.std.specs.List.{AllByRecursion}
 use Rattle.rt_text.specs.declared.parts.Parts.{Parts}
-use Rattle.std.proofs.Common.{List, ◌≡◌, ◌∙◌, ◌⊎◌, ◌-◌, Some, ap, arith, inr, length, map, min, subst, sym}
+use Rattle.std.proofs.Common.{List, ◌≡◌, ◌∙◌, ◌⊎◌, ◌-◌, ◌<◌, Some, ap, arith, inr, length, map, min, subst, sym}
 use Rattle.std.specs.Prelude.{IfErr}
 use Rattle.std.specs.Vec.{with_items}
-use Rattle.std.proofs.lemmas.List.{with_items_is}
-use Rattle.std.proofs.lemmas.Result.{err_from_is_err_and}
+use Rattle.std.proofs.lemmas.List.{length-map, with_items_is}
+use Rattle.std.proofs.lemmas.Result.{err_from_is_err_and, on_err_weaker}
 use Rattle.rt_stamps.specs.declared.fault.Fault.TheVariants.{NoMemory}
 use Rattle.rt_stamps.specs.Outcomes.{first_of}
 use Rattle.rt_store.specs.Cells.{text_of}
 use Rattle.rt_text.specs.Parts.{own_in}
 use Rattle.rt_text.specs.Commands.{with_pieces_at}
-use Rattle.rt_text.specs.Widgets.{IsOwnOf, Viewed, length_shown}
+use Rattle.rt_store.specs.Shown.{TaggedCell}
+use Rattle.rt_text.specs.Widgets.{IsOwnOf, Viewed, length_shown, shown_by}
+use Rattle.rt_text.proofs.LimitedTags.{shown_size}
 use Rattle.rt_text.proofs.PutLaws.{all_refused, both_done, done_by, either, late_checks, refused_index, refused_name}
 use Rattle.rt_text.proofs.ViewLaws.{viewed}
 use Rattle.rt_text.proofs.view.View.insert.Goals as goal
@@ -26,6 +28,14 @@ returns-in_err-place-clause-err g c =
     rw (p.1, p.2)
     (either (refused_index c.args.self.now c.args.index.now c.args.pieces.now c.args.rest.now c.in_err-place.field-0.0 c.in_ok-check_names.ensures.ok) c.in_err-place.ensures.err)
 
+pub insert_at-requires-clause-place : goal.insert_at-requires-clause-place
+insert_at-requires-clause-place g c =
+    let view = c.args.self.now in
+    let stretch = c.stretch-stretch.result in
+    let size = shown_size view stretch c.stretch-stretch.ensures.value c.stretch-stretch.ensures.within in
+    subst (λ (v : Viewed). c.min-place.result < length (shown_by v)) (sym c.self.view_is)
+    (omega (arith, size, length-map (shown_by view) (λ (cell : TaggedCell). cell.ch), c.min-place.ensures, c.stretch-stretch.ensures.some))
+
 pub insert_at-requires-clause-others : goal.insert_at-requires-clause-others
 insert_at-requires-clause-others g c =
     subst (λ (l : List Parts). AllByRecursion (IsOwnOf (length (text_of c.self.inside.doc.cells))) (map own_in l)) (sym c.deref_mut.ensures.value) c.self.invariant.1
@@ -39,8 +49,8 @@ returns-clause-ok g c =
     let same : viewed c.self.inside.doc c.self.inside.widget (map own_in c.deref_mut.result.now) ≡ view =
     ap (λ l. viewed c.self.inside.doc c.self.inside.widget (map own_in l)) c.deref_mut.ensures.value ∙ c.self.view_is in
     let at = c.min-place.result in
-    let many : length (text_of c.self.inside.doc.cells) ≡ length_shown view = ap (λ (v : Viewed). length_shown v) c.self.view_is in
-    let place : at ≡ min c.in_ok-place.place (length_shown view - 1) = c.min-place.ensures ∙ ap (λ n. min c.in_ok-place.place (n - 1)) (c.visible.ensures ∙ many) in
+    let place : at ≡ min c.in_ok-place.place (length_shown view - 1) =
+    c.min-place.ensures ∙ ap (λ n. min c.in_ok-place.place (n - 1)) (shown_size view c.stretch-stretch.result c.stretch-stretch.ensures.value c.stretch-stretch.ensures.within) in
     let back : (with_items c.self.inside.others c.insert_at.new.others).items ≡ c.insert_at.new.others = with_items_is c.self.inside.others c.insert_at.new.others (omega (arith, c.insert_at.auto.others, c.deref_mut.ensures.len)) in
     let edited : Viewed = viewed c.insert_at.new.self c.insert_at.new.widget (map own_in (with_items c.self.inside.others c.insert_at.new.others).items) in
     both_done c.insert_at.result
@@ -58,7 +68,16 @@ returns-clause-err g c =
     let same : viewed c.self.inside.doc c.self.inside.widget (map own_in c.deref_mut.result.now) ≡ view =
     ap (λ l. viewed c.self.inside.doc c.self.inside.widget (map own_in l)) c.deref_mut.ensures.value ∙ c.self.view_is in
     let at = c.min-place.result in
-    let many : length (text_of c.self.inside.doc.cells) ≡ length_shown view = ap (λ (v : Viewed). length_shown v) c.self.view_is in
-    let place : at ≡ min c.in_ok-place.place (length_shown view - 1) = c.min-place.ensures ∙ ap (λ n. min c.in_ok-place.place (n - 1)) (c.visible.ensures ∙ many) in
+    let place : at ≡ min c.in_ok-place.place (length_shown view - 1) =
+    c.min-place.ensures ∙ ap (λ n. min c.in_ok-place.place (n - 1)) (shown_size view c.stretch-stretch.result c.stretch-stretch.ensures.value c.stretch-stretch.ensures.within) in
     all_refused view index pieces rest c.in_ok-place.place at c.insert_at.result c.in_ok-check_names.ensures.ok c.in_ok-place.ensures.ok place
     (subst (λ (v : Viewed). IfErr c.insert_at.result (λ fault. (fault ≡ NoMemory) ⊎ (first_of (late_checks v.doc (with_pieces_at v at pieces rest)) ≡ Some fault))) same c.insert_at.ensures.err)
+
+pub returns-clause-unchanged : goal.returns-clause-unchanged
+returns-clause-unchanged g c =
+    let same : viewed c.self.inside.doc c.self.inside.widget (map own_in c.deref_mut.result.now) ≡ c.args.self.now =
+    ap (λ l. viewed c.self.inside.doc c.self.inside.widget (map own_in l)) c.deref_mut.ensures.value ∙ c.self.view_is in
+    let back : (with_items c.self.inside.others c.insert_at.new.others).items ≡ c.insert_at.new.others = with_items_is c.self.inside.others c.insert_at.new.others (omega (arith, c.insert_at.auto.others, c.deref_mut.ensures.len)) in
+    on_err_weaker c.insert_at.result
+    (λ kept. ap (λ l. viewed c.insert_at.new.self c.insert_at.new.widget (map own_in l)) back ∙ (λ i. viewed (kept.0 i) (kept.1 i) (kept.2 i)) ∙ same)
+    c.insert_at.ensures.unchanged

@@ -1,15 +1,14 @@
 use Rattle.std.proofs.Common.{◌≡◌, ◌∙◌, ℕ, Bool, ap, map, subst, sym}
-use Rattle.rt_store.specs.Cells.{text_of}
 use Rattle.rt_store.specs.Shown.{shown}
 use Rattle.rt_store.specs.Tagged.{AreStates}
-use Rattle.rt_store.proofs.Shown.{text_shown}
 use Rattle.rt_tags.specs.States.{IsState, state_at}
-use Rattle.rt_edits.specs.Deletions.{loss_in}
-use Rattle.rt_edits.specs.Removals.{cells_at, is_covered, is_removed}
-use Rattle.rt_edits.proofs.PlaceLaws.{places_from_start}
+use Rattle.rt_edits.specs.Deletions.{Loss}
+use Rattle.rt_edits.specs.Removals.{cells_at, is_covered}
 use Rattle.rt_edits.proofs.Putting.{all_at}
 use Rattle.rt_edits.proofs.Shown.{cells_at_shown}
+use Rattle.rt_views.specs.Stretches.{stretch_of}
 use Rattle.rt_text.specs.Widgets.{Viewed}
+use Rattle.rt_text.proofs.LimitedDeletions.{loss_kept, loss_of}
 use Rattle.rt_text.proofs.view.View.lost.Goals as goal
 
 pub returns-clause-cells : goal.returns-clause-cells
@@ -19,11 +18,12 @@ returns-clause-cells g c =
     let kept = g.S.TextStore.list c.kept.result.0.now in
     let table = c.kept.result.1.now in
     let cells : map (shown table) kept ≡ view.doc.cells = c.kept.ensures.cells ∙ ap (λ (v : Viewed). v.doc.cells) c.self.view_is in
-    let text : text_of kept ≡ text_of view.doc.cells = sym (text_shown (state_at table) kept) ∙ ap text_of cells in
+    let limits = view.own.limits in
+    let stretch : c.stretch-stretch.result ≡ stretch_of kept limits = c.stretch-stretch.ensures.value ∙ ap (stretch_of kept) (c.limits.ensures ∙ ap (λ (v : Viewed). v.own.limits) c.self.view_is) in
     let removed : ℕ → Bool = is_covered c.in_ok-removed.removed.items in
-    let lost : ℕ → Bool = (loss_in (text_of view.doc.cells) 0 ranges).places in
-    let same : (place : ℕ) → removed place ≡ lost place = λ place. c.in_ok-removed.ensures.places place
-    ∙ ap (λ t. is_removed t ranges place) text ∙ sym (places_from_start (is_removed (text_of view.doc.cells) ranges) place) in
+    let lost : ℕ → Bool = (loss_of view.doc limits ranges).places in
+    let same : (place : ℕ) → removed place ≡ lost place =
+    λ place. c.in_ok-removed.ensures.places place ∙ ap (λ (l : Loss). l.places place) (loss_kept table kept view.doc limits c.stretch-stretch.result ranges cells stretch) in
     ap (map (shown table)) (c.in_ok-cells.ensures.ok ∙ ap (λ r. cells_at (is_covered r) 0 kept) c.deref.ensures.value)
     ∙ sym (cells_at_shown (state_at table) removed 0 kept) ∙ ap (cells_at removed 0) cells ∙ (λ i. cells_at (λ place. same place i) 0 view.doc.cells)
 

@@ -8,26 +8,26 @@ use Rattle.rt_text.specs.Parts.{own_in}
 use Rattle.rt_text.specs.Index.{index_check, place_at_index}
 use Rattle.rt_text.specs.Ranges.{ranges_of}
 use Rattle.rt_text.specs.Widgets.{widget_of}
-use Rattle.rt_text.proofs.ViewLaws.{ground_whole, viewed}
+use Rattle.rt_text.proofs.SeenLaws.{ground_shown}
 use Rattle.rt_text.proofs.view.View.ranges.Goals as goal
 
 pub returns-clause-ok : goal.returns-clause-ok
 returns-clause-ok g c =
     let kept = g.S.TextStore.list c.ground.result.store.now in
-    let same = ground_whole (viewed c.self.inside.doc c.self.inside.widget (map own_in c.self.inside.others.items)) (map (shown c.ground.result.states.now) kept) c.ground.result.marks.now c.ground.result.tags.now.names c.ground.result.widget.now
-    c.ground.ensures.cells c.ground.ensures.marks c.ground.ensures.tags c.ground.ensures.own ∙ ap widget_of c.self.view_is in
+    let same = ground_shown (record { doc = c.self.inside.doc; own = c.self.inside.widget; others = map own_in c.self.inside.others.items }) c.ground.result.stretch (map (shown c.ground.result.states.now) kept) c.ground.result.marks.now c.ground.result.tags.now.names
+    c.ground.result.widget.now c.ground.ensures.stretch c.ground.ensures.cells c.ground.ensures.marks c.ground.ensures.tags c.ground.ensures.own c.ground.ensures.names ∙ ap widget_of c.self.view_is in
     subst (λ (w : Widget). IfOk c.ranges_at.result (λ ranges. ranges.items ≡ ranges_of (map (place_at_index w) (map (λ s. string_bytes s) c.args.indices.now)))) same c.ranges_at.ensures.ok
 
 pub returns-clause-checked : goal.returns-clause-checked
 returns-clause-checked g c =
     let kept = g.S.TextStore.list c.ground.result.store.now in
-    let same = ground_whole (viewed c.self.inside.doc c.self.inside.widget (map own_in c.self.inside.others.items)) (map (shown c.ground.result.states.now) kept) c.ground.result.marks.now c.ground.result.tags.now.names c.ground.result.widget.now
-    c.ground.ensures.cells c.ground.ensures.marks c.ground.ensures.tags c.ground.ensures.own ∙ ap widget_of c.self.view_is in
+    let same = ground_shown (record { doc = c.self.inside.doc; own = c.self.inside.widget; others = map own_in c.self.inside.others.items }) c.ground.result.stretch (map (shown c.ground.result.states.now) kept) c.ground.result.marks.now c.ground.result.tags.now.names
+    c.ground.result.widget.now c.ground.ensures.stretch c.ground.ensures.cells c.ground.ensures.marks c.ground.ensures.tags c.ground.ensures.own c.ground.ensures.names ∙ ap widget_of c.self.view_is in
     subst (λ (w : Widget). IfOk c.ranges_at.result (λ ranges. first_of (map (index_check w) (map (λ s. string_bytes s) c.args.indices.now)) ≡ None)) same c.ranges_at.ensures.checked
 
 pub returns-clause-err : goal.returns-clause-err
 returns-clause-err g c =
     let kept = g.S.TextStore.list c.ground.result.store.now in
-    let same = ground_whole (viewed c.self.inside.doc c.self.inside.widget (map own_in c.self.inside.others.items)) (map (shown c.ground.result.states.now) kept) c.ground.result.marks.now c.ground.result.tags.now.names c.ground.result.widget.now
-    c.ground.ensures.cells c.ground.ensures.marks c.ground.ensures.tags c.ground.ensures.own ∙ ap widget_of c.self.view_is in
+    let same = ground_shown (record { doc = c.self.inside.doc; own = c.self.inside.widget; others = map own_in c.self.inside.others.items }) c.ground.result.stretch (map (shown c.ground.result.states.now) kept) c.ground.result.marks.now c.ground.result.tags.now.names
+    c.ground.result.widget.now c.ground.ensures.stretch c.ground.ensures.cells c.ground.ensures.marks c.ground.ensures.tags c.ground.ensures.own c.ground.ensures.names ∙ ap widget_of c.self.view_is in
     subst (λ (w : Widget). IfErr c.ranges_at.result (λ fault. (fault ≡ NoMemory) ⊎ (first_of (map (index_check w) (map (λ s. string_bytes s) c.args.indices.now)) ≡ Some fault))) same c.ranges_at.ensures.err

@@ -4,7 +4,7 @@ use Rattle.std.proofs.Common.{List, length, ◌≡◌, ◌∙◌, ◌⊎◌, Som
 use Rattle.std.specs.Prelude.{IfErr}
 use Rattle.std.specs.Vec.{with_items}
 use Rattle.std.proofs.lemmas.List.{with_items_is}
-use Rattle.std.proofs.lemmas.Result.{err_from_is_err_and}
+use Rattle.std.proofs.lemmas.Result.{err_from_is_err_and, on_err_weaker}
 use Rattle.rt_stamps.specs.declared.fault.Fault.TheVariants.{NoMemory}
 use Rattle.rt_stamps.specs.Outcomes.{first_of}
 use Rattle.rt_edits.specs.declared.range.Range.{Range}
@@ -79,3 +79,13 @@ returns-clause-err g c =
     (subst (λ (r : Range). IfErr c.replace_in.result (λ fault. (fault ≡ NoMemory)
     ⊎ (first_of (late_checks c.self.inside.doc (with_range_replaced (viewed c.self.inside.doc c.self.inside.widget (map own_in c.deref_mut.result.now)) r pieces rest)) ≡ Some fault)))
     c.in_ok-range.ensures.ok c.replace_in.ensures.err))
+
+pub returns-clause-unchanged : goal.returns-clause-unchanged
+returns-clause-unchanged g c =
+    let same : viewed c.self.inside.doc c.self.inside.widget (map own_in c.deref_mut.result.now) ≡ c.args.self.now =
+    ap (λ l. viewed c.self.inside.doc c.self.inside.widget (map own_in l)) c.deref_mut.ensures.value ∙ c.self.view_is in
+    let back : (with_items c.self.inside.others c.replace_in.new.others).items ≡ c.replace_in.new.others =
+    with_items_is c.self.inside.others c.replace_in.new.others (omega (arith, c.replace_in.auto.others, c.deref_mut.ensures.len)) in
+    on_err_weaker c.replace_in.result
+    (λ kept. ap (λ l. viewed c.replace_in.new.self c.replace_in.new.widget (map own_in l)) back ∙ (λ i. viewed (kept.0 i) (kept.1 i) (kept.2 i)) ∙ same)
+    c.replace_in.ensures.unchanged

@@ -1,6 +1,5 @@
-use Rattle.std.proofs.Common.{◌≡◌, ◌≤◌, ◌∙◌, ◌&&◌, All, List, Some, ap, false, inl, inr, length, map, subst, sym, true}
+use Rattle.std.proofs.Common.{◌≡◌, ℕ, ◌≤◌, ◌∙◌, All, Some, ap, arith, false, inl, inr, length, map, subst, sym, true}
 use Rattle.std.specs.List.{AllByRecursion}
-use Rattle.std.specs.Prelude.{nat_lt}
 use Rattle.std.specs.Str.{bytes_eq}
 use Rattle.std.proofs.lemmas.Result.{IfErr-weaker, on_ok_weaker}
 use Rattle.rt_stamps.specs.declared.limits.TheConstants.{GREATEST_COUNT}
@@ -10,18 +9,25 @@ use Rattle.rt_tags.specs.Tags.{sel}
 use Rattle.rt_edits.specs.declared.range.Range.{Range}
 use Rattle.rt_edits.specs.Flat.{Flat}
 use Rattle.rt_edits.specs.Removals.{is_covered, stamps_at}
-use Rattle.rt_text.specs.Parts.{own_in}
 use Rattle.rt_edits.specs.Selections.{selection_with}
 use Rattle.rt_edits.specs.TagWrites.{with_tag_at}
+use Rattle.rt_edits.proofs.TagPlaces.{listed_count, listed_text, tag_text}
+use Rattle.rt_views.specs.Stretches.{stretch_of}
+use Rattle.rt_text.specs.Parts.{own_in}
 use Rattle.rt_text.specs.Commands.{clock_check, with_tag_in}
-use Rattle.rt_text.specs.Widgets.{IsOwnOf, Own, Viewed}
+use Rattle.rt_text.specs.Widgets.{IsOwnOf, Own, Viewed, places_in_text}
 use Rattle.rt_text.proofs.Deletions.{both_ok}
-use Rattle.rt_text.proofs.KeptDocument.{alike_within, as_visible, clock_fine, clock_spent, either_way, stamps_alike}
-use Rattle.rt_text.proofs.TaggedDocument.{written_alike}
-use Rattle.rt_text.proofs.ViewLaws.{tag_own, tag_shared, viewed}
-use Rattle.rt_edits.proofs.StateChanges.{AreAlike}
-use Rattle.rt_edits.proofs.TagPlaces.{listed_count, listed_text, tag_alike, tag_text}
+use Rattle.rt_text.proofs.KeptDocument.{as_visible, clock_fine, clock_spent, either_way}
+use Rattle.rt_text.proofs.LimitedDeletions.{stretch_kept}
+use Rattle.rt_text.proofs.LimitedTags.{places_are, stamps_kept, tag_own, tag_shared, up_to_end}
+use Rattle.rt_text.proofs.ViewLaws.{viewed}
 use Rattle.rt_text.proofs.view.View.write_tag.Goals as goal
+
+pub select-requires-clause-within : goal.select-requires-clause-within
+select-requires-clause-within g c =
+    let n = length (visible_of (g.S.TextStore.list c.kept.result.0.now)) in
+    subst (All (λ (range : Range). range.to ≤ n)) (sym c.deref.ensures.value)
+    (up_to_end n c.stretch-stretch.result.end c.in_ok-ranges.ranges.items c.stretch-stretch.ensures.within c.in_ok-ranges.ensures.within)
 
 pub returns-then-eq-clause-ok : goal.returns-then-eq-clause-ok
 returns-then-eq-clause-ok g c =
@@ -30,26 +36,31 @@ returns-then-eq-clause-ok g c =
     let on = c.args.on in
     let name = c.args.name.now in
     let cells = g.S.TextStore.list c.kept.result.0.now in
+    let table = c.kept.result.1.now in
+    let ranges = c.args.ranges.now in
     let within = is_covered c.deref.result.now in
-    let ranges = is_covered c.args.ranges.now in
+    let stretch : c.stretch-stretch.result ≡ stretch_of old.cells c.self.inside.widget.limits =
+    c.stretch-stretch.ensures.value ∙ ap (stretch_of cells) c.limits.ensures ∙ stretch_kept table cells old.cells c.self.inside.widget.limits c.kept.ensures.cells in
+    let few : c.stretch-stretch.result.end ≤ length (visible_of old.cells) = omega (arith, c.stretch-stretch.ensures.within, as_visible table cells old c.kept.ensures.cells) in
+    let places : (p : ℕ) → within p ≡ places_in_text view (is_covered ranges) p =
+    places_are view ranges c.stretch-stretch.result within stretch few (λ p. ap (λ l. is_covered l p) c.deref.ensures.value ∙ c.in_ok-ranges.ensures.places p) in
     let named : bytes_eq name sel ≡ true = sym c.eq.ensures ∙ c.if-eq.true in
-    let alike : AreAlike within ranges 0 (length (visible_of cells)) =
-    alike_within (length (visible_of cells)) within ranges (λ q. ap (λ l. is_covered l q) c.deref.ensures.value ∙ c.in_ok-ranges.ensures.places q) in
-    let found : stamps_at within 0 cells ≡ stamps_at ranges 0 old.cells = stamps_alike c.kept.result.1.now cells old within ranges c.kept.ensures.cells alike in
-    let few : old.count ≤ GREATEST_COUNT = subst (λ n. n ≤ GREATEST_COUNT) (sym c.kept.ensures.document.count) (greatest_bound old.log c.kept.ensures.history) in
+    let found : stamps_at within 0 cells ≡ stamps_at within 0 old.cells = stamps_kept table cells old.cells within c.kept.ensures.cells in
+    let fits : old.count ≤ GREATEST_COUNT = subst (λ n. n ≤ GREATEST_COUNT) (sym c.kept.ensures.document.count) (greatest_bound old.log c.kept.ensures.history) in
     on_ok_weaker c.select.result
     (λ e. (
-      ap (λ (v : Viewed). with_tag_in v on name c.args.ranges.now) (sym c.self.view_is) ∙ tag_own view on name c.args.ranges.now named
+      ap (λ (v : Viewed). with_tag_in v on name ranges) (sym c.self.view_is) ∙ tag_own view on name ranges within places named
           ∙ ap (λ l. record view { own = record view.own { sel = selection_with on l view.own.sel } }) (sym found)
           ∙ ap (λ (w : Own). record view { own = w }) (sym e),
-      clock_fine old.count few,
+      clock_fine old.count fits,
     )) c.select.ensures.ok
 
 pub write_shared-requires-clause-within : goal.write_shared-requires-clause-within
 write_shared-requires-clause-within g c =
     let cells = g.S.TextStore.list c.kept.result.0.now in
-    subst (λ (l : List Range). All (λ (range : Range). range.to ≤ length (visible_of c.self.inside.doc.cells)) l) (sym c.deref-2.ensures.value)
-    (subst (λ n. All (λ (range : Range). range.to ≤ n) c.in_ok-ranges.ranges.items) (sym (as_visible c.kept.result.1.now cells c.self.inside.doc c.kept.ensures.cells)) c.in_ok-ranges.ensures.within)
+    let n = length (visible_of c.self.inside.doc.cells) in
+    let few : c.stretch-stretch.result.end ≤ n = omega (arith, c.stretch-stretch.ensures.within, as_visible c.kept.result.1.now cells c.self.inside.doc c.kept.ensures.cells) in
+    subst (All (λ (range : Range). range.to ≤ n)) (sym c.deref-2.ensures.value) (up_to_end n c.stretch-stretch.result.end c.in_ok-ranges.ranges.items few c.in_ok-ranges.ensures.within)
 
 pub invariant_of-self-2 : goal.invariant_of-self-2
 invariant_of-self-2 g c =
@@ -68,17 +79,19 @@ returns-clause-ok g c =
     let on = c.args.on in
     let name = c.args.name.now in
     let cells = g.S.TextStore.list c.kept.result.0.now in
+    let table = c.kept.result.1.now in
+    let ranges = c.args.ranges.now in
     let within = is_covered c.deref-2.result.now in
-    let ranges = is_covered c.args.ranges.now in
-    let n : length (visible_of old.cells) ≡ length (visible_of cells) = as_visible c.kept.result.1.now cells old c.kept.ensures.cells in
-    let alike : AreAlike within ranges 0 (length (visible_of old.cells)) =
-    alike_within (length (visible_of old.cells)) within ranges (λ q. ap (λ l. is_covered l q) c.deref-2.ensures.value ∙ c.in_ok-ranges.ensures.places q ∙ ap (λ k. nat_lt q k && ranges q) (sym n)) in
+    let stretch : c.stretch-stretch.result ≡ stretch_of old.cells c.self.inside.widget.limits =
+    c.stretch-stretch.ensures.value ∙ ap (stretch_of cells) c.limits.ensures ∙ stretch_kept table cells old.cells c.self.inside.widget.limits c.kept.ensures.cells in
+    let few : c.stretch-stretch.result.end ≤ length (visible_of old.cells) = omega (arith, c.stretch-stretch.ensures.within, as_visible table cells old c.kept.ensures.cells) in
+    let places : (p : ℕ) → within p ≡ places_in_text view (is_covered ranges) p =
+    places_are view ranges c.stretch-stretch.result within stretch few (λ p. ap (λ l. is_covered l p) c.deref-2.ensures.value ∙ c.in_ok-ranges.ensures.places p) in
     let named : bytes_eq name sel ≡ false = sym c.eq.ensures ∙ c.if-eq.false in
     both_ok c.write_shared.result
-    (λ e few. (
-      ap (λ (v : Viewed). with_tag_in v on name c.args.ranges.now) (sym c.self.view_is) ∙ tag_shared view on name c.args.ranges.now named
-          ∙ ap (λ (f : Flat). record view { doc = f }) (sym (written_alike old within ranges on name alike) ∙ sym e),
-      clock_fine c.write_shared.new.self.count few,
+    (λ e fits. (
+      ap (λ (v : Viewed). with_tag_in v on name ranges) (sym c.self.view_is) ∙ tag_shared view on name ranges within places named ∙ ap (λ (f : Flat). record view { doc = f }) (sym e),
+      clock_fine c.write_shared.new.self.count fits,
     ))
     c.write_shared.ensures.ok c.write_shared.ensures.within
 
@@ -89,17 +102,20 @@ returns-clause-err g c =
     let on = c.args.on in
     let name = c.args.name.now in
     let cells = g.S.TextStore.list c.kept.result.0.now in
+    let table = c.kept.result.1.now in
+    let ranges = c.args.ranges.now in
     let within = is_covered c.deref-2.result.now in
-    let ranges = is_covered c.args.ranges.now in
-    let n : length (visible_of old.cells) ≡ length (visible_of cells) = as_visible c.kept.result.1.now cells old c.kept.ensures.cells in
-    let alike : AreAlike within ranges 0 (length (visible_of old.cells)) =
-    alike_within (length (visible_of old.cells)) within ranges (λ q. ap (λ l. is_covered l q) c.deref-2.ensures.value ∙ c.in_ok-ranges.ensures.places q ∙ ap (λ k. nat_lt q k && ranges q) (sym n)) in
+    let stretch : c.stretch-stretch.result ≡ stretch_of old.cells c.self.inside.widget.limits =
+    c.stretch-stretch.ensures.value ∙ ap (stretch_of cells) c.limits.ensures ∙ stretch_kept table cells old.cells c.self.inside.widget.limits c.kept.ensures.cells in
+    let few : c.stretch-stretch.result.end ≤ length (visible_of old.cells) = omega (arith, c.stretch-stretch.ensures.within, as_visible table cells old c.kept.ensures.cells) in
+    let places : (p : ℕ) → within p ≡ places_in_text view (is_covered ranges) p =
+    places_are view ranges c.stretch-stretch.result within stretch few (λ p. ap (λ l. is_covered l p) c.deref-2.ensures.value ∙ c.in_ok-ranges.ensures.places p) in
     let named : bytes_eq name sel ≡ false = sym c.eq.ensures ∙ c.if-eq.false in
-    let same = ap (λ (v : Viewed). with_tag_in v on name c.args.ranges.now) (sym c.self.view_is) ∙ tag_shared view on name c.args.ranges.now named in
+    let same = ap (λ (v : Viewed). with_tag_in v on name ranges) (sym c.self.view_is) ∙ tag_shared view on name ranges within places named in
     IfErr-weaker c.write_shared.result _ _
     (λ fault h. elim h [
       | inl e ↦ inl e
       | inr p ↦ inr (ap (λ (x : Viewed). clock_check x.doc.count) same
-          ∙ ap clock_check (listed_count on name (with_tag_at old ranges on name) ∙ ap (λ (f : Flat). f.count) (sym (tag_alike old within ranges on name alike)))
+          ∙ ap clock_check (listed_count on name (with_tag_at old within on name))
           ∙ clock_spent (with_tag_at old within on name).count p.1 ∙ ap (λ x. Some x) (sym p.0))
     ]) c.write_shared.ensures.err

@@ -1,4 +1,0 @@
-pub mod Endings
-pub mod Files
-pub mod Readers
-pub mod Runs

@@ -1,0 +1,2 @@
+pub mod Endings
+pub use Rattle.rt_stamps.specs.Fault

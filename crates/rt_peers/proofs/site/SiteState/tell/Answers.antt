@@ -1,0 +1,38 @@
+use Rattle.std.proofs.Common.{◌∙◌, ap, arith, length, map, string_bytes, subst, sym}
+use Rattle.rt_stamps.specs.Outcomes.{Answers}
+use Rattle.rt_editing.specs.Edited.{Edited}
+use Rattle.rt_peers.specs.Peers.{text_led, widgets_of}
+use Rattle.rt_peers.specs.State.{State}
+use Rattle.rt_peers.specs.SiteStep.{by_widget}
+use Rattle.rt_peers.specs.Options.{option_step}
+use Rattle.rt_peers.proofs.OptionLaws.{option_stays}
+use Rattle.rt_peers.proofs.PeerLaws.{by_led, led_number}
+use Rattle.rt_peers.proofs.site.SiteState.tell.Goals as goal
+
+pub lead-requires-2 : goal.lead-requires-2
+lead-requires-2 c =
+    let stays = option_stays c.lead.new.self c.args.option c.tell-reply.result c.tell-reply.new.self c.tell-reply.ensures in
+    let led = ap (λ t. length (widgets_of t.view)) c.lead.ensures ∙ led_number c.self.inside.text.view c.args.place in
+    let paths = ap (λ s. length s.paths) c.self.view_is in
+    omega (arith, stays, led, paths, c.self.invariant.each, c.requires)
+
+pub invariant_of-self : goal.invariant_of-self
+invariant_of-self c =
+    let stays = option_stays c.lead.new.self c.args.option c.tell-reply.result c.tell-reply.new.self c.tell-reply.ensures in
+    let led = ap (λ t. length (widgets_of t.view)) c.lead.ensures ∙ led_number c.self.inside.text.view c.args.place in
+    let back = ap (λ t. length (widgets_of t.view)) c.lead-2.ensures ∙ led_number c.tell-reply.new.self.view c.args.place in
+    record { each = omega (arith, stays, led, back, c.self.invariant.each); differ = c.self.invariant.differ }
+
+pub returns : goal.returns
+returns c =
+    let paths = map (λ w. string_bytes w) c.self.inside.paths.items in
+    let state : State = record { paths = paths; text = c.self.inside.text } in
+    let place = c.args.place in
+    let result = c.tell-reply.result in
+    let answers : Answers (option_step (text_led place state.text) c.args.option) (text_led place state.text) result c.tell-reply.new.self =
+    subst (λ (t : Edited). Answers (option_step t c.args.option) t result c.tell-reply.new.self) c.lead.ensures c.tell-reply.ensures in
+    let led : Answers (by_widget place state (λ text. option_step text c.args.option)) state result (record state { text = text_led place c.tell-reply.new.self }) =
+    by_led place state (λ text. option_step text c.args.option) result c.tell-reply.new.self answers in
+    let there : Answers (by_widget place state (λ text. option_step text c.args.option)) state result (record { paths = paths; text = c.lead-2.new.self }) =
+    subst (λ (t : Edited). Answers (by_widget place state (λ text. option_step text c.args.option)) state result (record { paths = paths; text = t })) (sym c.lead-2.ensures) led in
+    subst (λ (s : State). Answers (by_widget place s (λ text. option_step text c.args.option)) s result (record { paths = paths; text = c.lead-2.new.self })) c.self.view_is there

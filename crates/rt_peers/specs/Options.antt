@@ -1,0 +1,69 @@
+-- The options of a widget (Tk text manual, "WIDGET-SPECIFIC OPTIONS"): those that all widgets of a site share, and the limits of
+-- what this one shows. What sets them, and what they tell.
+use Rattle.std.specs.Prelude.{ℕ, ◌-◌, ◌^◌, [], Option, Some, None, Result, Ok, Err}
+use Rattle.std.specs.Fmt.{decimal}
+use Rattle.rt_stamps.specs.declared.fault.Fault.{Fault}
+use Rattle.rt_stamps.specs.Words.{Word}
+use Rattle.rt_requests.specs.declared.options.Settings.{Settings}
+use Rattle.rt_peer_requests.specs.declared.limits.Limit.{Limit}
+use Rattle.rt_peer_requests.specs.declared.limits.Limit.TheVariants as limits
+use Rattle.rt_peer_requests.specs.declared.options.NamedOption.{NamedOption}
+use Rattle.rt_peer_requests.specs.declared.options.NamedOption.TheVariants.{Shared, StartLine, EndLine}
+use Rattle.rt_peer_requests.specs.declared.settings.WidgetSettings.{WidgetSettings}
+use Rattle.rt_peer_requests.specs.SettingWords.{AskedOfSettings}
+use Rattle.rt_editing.specs.Edited.{Edited}
+use Rattle.rt_text.specs.Limited.{limited}
+use Rattle.rt_text.specs.Widgets.{Viewed}
+use Rattle.rt_views.specs.declared.choice.Choice.{Choice}
+use Rattle.rt_views.specs.declared.choice.Choice.TheVariants.{Kept, Away, Line}
+use Rattle.rt_views.specs.Limits.{end_number, start_number}
+use Rattle.rt_peers.specs.Step.{configured, option_value}
+use Rattle.rt_peers.specs.ViewStep.{Outcome, changed_step, one_word, text_of_bool}
+
+-- SETTING
+
+-- the line that a limit asks for; one whose number isn't kept is that of the greatest number that is, which no text has either
+abbrev pub choice_of : Option Limit → Choice
+choice_of None = Kept
+choice_of (Some limits.Absent) = Away
+choice_of (Some (limits.Line number)) = Line number
+choice_of (Some limits.PastEveryLine) = Line (2 ^ 64 - 1)
+
+-- where what a widget shows can be set, the shared options are set too
+abbrev pub text_configured : Edited → Settings → Result Viewed Fault → Result Edited Fault
+text_configured text settings (Ok view) = Ok (record (configured text settings) { view = view })
+text_configured text settings (Err fault) = Err fault
+
+-- configure OPTION VALUE ?OPTION VALUE ...?
+abbrev pub text_set : Edited → WidgetSettings → Result Edited Fault
+text_set text settings = text_configured text settings.shared (limited text.view (choice_of settings.start_line) (choice_of settings.end_line))
+
+abbrev pub settings_step : Edited → WidgetSettings → Outcome Edited
+settings_step text settings = changed_step (text_set text settings)
+
+-- words that set options, or that are refused
+abbrev pub settings_outcome : Edited → AskedOfSettings → Outcome Edited
+settings_outcome text (Ok settings) = settings_step text settings
+settings_outcome text (Err fault) = Err fault
+
+-- TELLING
+
+-- a number of a line, and the empty word without one
+abbrev pub number_word : Option ℕ → Word
+number_word None = []
+number_word (Some number) = decimal number
+
+-- what an option is set to: a limit to the line that it has by now
+abbrev pub option_word : Edited → NamedOption → Word
+option_word text (Shared option) = text_of_bool (option_value text option)
+option_word text StartLine = number_word (start_number text.view.doc.cells text.view.own.limits)
+option_word text EndLine = number_word (end_number text.view.doc.cells text.view.own.limits)
+
+-- cget OPTION
+abbrev pub option_step : Edited → NamedOption → Outcome Edited
+option_step text option = Ok (one_word (option_word text option), text)
+
+-- a word that names an option, or that is refused
+abbrev pub option_outcome : Edited → Result NamedOption Fault → Outcome Edited
+option_outcome text (Ok option) = option_step text option
+option_outcome text (Err fault) = Err fault

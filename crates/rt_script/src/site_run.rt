@@ -1,0 +1,80 @@
+// The run of a script by a site.
+ghost use Rattle.std.specs.Prelude.{◌≡◌, ◌≤◌, None, Some, MatchResult, length};
+ghost use Rattle.rt_stamps.specs.declared.limits.TheConstants.{MOST_BYTES};
+ghost use Rattle.rt_script.specs.Site.{AreWithin, named_files};
+ghost use Rattle.rt_script.specs.SiteRun.{Begins, RunsScript, TellsLog, WithinBytes};
+
+use crate::{Ended, SiteState, run};
+use rt_stamps::limits::MOST_CELLS;
+use rt_stamps::{Fault, Sink, Site, Source};
+use std::alloc::Global;
+
+/// How the run of a script ended, and what there is of the site's log then.
+#[derive(Drop)]
+pub struct Outcome {
+    /// Why the run ended before the script did.
+    pub fault: Option<Fault>,
+    /// The file of the site's log where it was asked for, or want of memory.
+    pub log: Option<Result<Vec<u8>, Fault>>,
+}
+
+// The site that received a log, or why not all of that was received.
+fn unless_refused(site: SiteState, found: Option<(Fault, u64)>) -> Result<SiteState, (Fault, u64)>
+    ensures { MatchResult result (λ same. (same ≡ site) × (found ≡ None)) (λ fault. found ≡ Some fault) }
+{
+    if let Some(found) = found {
+        drop(site);
+        return Err(found);
+    }
+    Ok(site)
+}
+
+/// A new site, with all that it receives of a log's file. The log's first fault, with its offset, or
+/// want of memory.
+pub fn begun(alloc: Global, site: Site, log: Option<&[u8]>) -> Result<SiteState, (Fault, u64)>
+    requires { WithinBytes log }
+    ensures { Begins site.number log.entry result }
+{
+    let mut state = match SiteState::new(alloc, site, MOST_CELLS) {
+        Ok(state) => state,
+        Err(fault) => return Err((fault, 0)),
+    };
+    match log {
+        Some(log) => {
+            let received = state.receive(log);
+            unless_refused(state, received.fault)
+        }
+        None => Ok(state),
+    }
+}
+
+// The file of a site's log where it is wanted.
+fn log_of(site: &SiteState, is_wanted: bool) -> Option<Result<Vec<u8>, Fault>>
+    ensures { TellsLog is_wanted site.now result }
+{
+    if is_wanted { Some(site.export()) } else { None }
+}
+
+/// Runs a script by a site, and then makes the file of its log if that is wanted, however the run
+/// ended.
+pub fn run_site<R: Source, W: Sink>(
+    alloc: Global,
+    site: SiteState,
+    files: &[(String, Vec<u8>)],
+    wants_log: bool,
+    script: &mut R,
+    out: &mut W,
+) -> Outcome
+    requires { AreWithin files.now }
+    ensures { RunsScript (named_files files.now) site wants_log
+        (record { calls = R.calls script.old; failures = R.failures script.old; bytes = R.remaining script.old })
+        (record { calls = R.calls script.new; failures = R.failures script.new; bytes = R.remaining script.new })
+        (record { calls = W.calls out.old; failures = W.failures out.old; bytes = W.contents out.old })
+        (record { calls = W.calls out.new; failures = W.failures out.new; bytes = W.contents out.new })
+        result }
+{
+    let Ended { site, fault } = run(alloc, site, script, files, out);
+    let log = log_of(&site, wants_log);
+    drop(site);
+    Outcome { fault, log }
+}

@@ -1,0 +1,245 @@
+// One text in two stores, by the calls that every store has.
+ghost use Rattle.std.specs.Prelude.{◌≡◌, false};
+ghost use Rattle.rt_store.specs.ListStore.{cells_of};
+ghost use Rattle.rt_store.specs.Tagged.{AreStates};
+ghost use Rattle.rt_tags.specs.States.{IsState, IsTag};
+ghost use Rattle.rt_tree.specs.Stores.{cells_of as tree_cells};
+
+use rt_stamps::{Fault, ROOT, Span, Stamp};
+use rt_store::{Cell, ListStore, TextStore};
+use rt_tags::{StateId, StateTable, TagId};
+use rt_tree::TreeStore;
+use std::alloc::Global;
+use std::test::Fail;
+
+// Puts cells in at a place that a number gives. A call that is out of bounds answers `NoMemory`.
+fn put<S: TextStore>(
+    store: &mut S,
+    states: &StateTable,
+    random: usize,
+    cells: &[Cell<StateId>],
+) -> Result<(), Fault>
+    requires cells { AreStates states.now cells.now }
+    requires given { S.agrees store.old states.now }
+    ensures { S.agrees store.new states.now }
+{
+    let all = store.cells();
+    if all == 0 || all > 2000 || cells.len() > 9 {
+        return Err(Fault::NoMemory);
+    }
+    store.reserve(cells.len(), 1)?;
+    store.splice(states, random % all, cells);
+    Ok(())
+}
+
+// Makes the cells of a span gone.
+fn remove<S: TextStore>(store: &mut S, states: &StateTable, span: Span) -> Result<(), Fault>
+    requires given { S.agrees store.old states.now }
+    ensures { S.agrees store.new states.now }
+{
+    if store.cells() > 2000 || span.site == 0 {
+        return Err(Fault::NoMemory);
+    }
+    store.reserve(0, 2)?;
+    store.set_gone(states, span);
+    Ok(())
+}
+
+// Puts the cells of a span in a state.
+fn mark<S: TextStore>(
+    store: &mut S,
+    states: &StateTable,
+    span: Span,
+    state: StateId,
+) -> Result<(), Fault>
+    requires state { IsState states.now state }
+    requires given { S.agrees store.old states.now }
+    ensures { S.agrees store.new states.now }
+{
+    if store.cells() > 2000 {
+        return Err(Fault::NoMemory);
+    }
+    store.reserve(0, 2)?;
+    store.set_state(states, span, state);
+    Ok(())
+}
+
+// Whether two stores have the same cells, and find the same by stamps.
+fn same_cells<A: TextStore, B: TextStore>(a: &A, b: &B) -> bool {
+    let cells = a.cells();
+    if b.cells() != cells || b.visible() != a.visible() || b.lines() != a.lines() {
+        return false;
+    }
+    for at in 0..cells {
+        let cell = a.nth(at);
+        if b.nth(at) != cell
+            || a.cell_of(cell.stamp) != b.cell_of(cell.stamp)
+            || a.place_of(cell.stamp) != b.place_of(cell.stamp)
+        {
+            return false;
+        }
+    }
+    true
+}
+
+// Whether two stores find the same places of a tag.
+fn same_tags<A: TextStore, B: TextStore>(a: &A, b: &B, states: &StateTable, tag: TagId) -> bool
+    requires tag { IsTag states.now tag }
+    requires a { A.agrees a.now states.now }
+    requires b { B.agrees b.now states.now }
+{
+    for place in 0..=a.visible().min(2000) {
+        if a.next_tagged(states, tag, place) != b.next_tagged(states, tag, place)
+            || a.next_untagged(states, tag, place) != b.next_untagged(states, tag, place)
+            || a.previous_tagged(states, tag, place) != b.previous_tagged(states, tag, place)
+        {
+            return false;
+        }
+    }
+    true
+}
+
+// A cell in a state.
+fn cell(count: u64, site: u16, ch: char, state: StateId) -> Cell<StateId>
+    ensures { result ≡ record { stamp = record { count = count; site = site }; ch = ch; gone = false; state = state } }
+{
+    Cell {
+        stamp: Stamp { count, site },
+        ch,
+        gone: false,
+        state,
+    }
+}
+
+// Both stores, and the table of their states.
+struct Pair {
+    states: StateTable,
+    tag: TagId,
+    tagged: StateId,
+    list: ListStore,
+    tree: TreeStore,
+    ghost tag_given: { IsTag states tag },
+    ghost tagged_given: { IsState states tagged },
+    ghost list_given: { AreStates states (cells_of list) },
+    ghost tree_given: { AreStates states (tree_cells tree) },
+}
+
+// Written out, so that each way out of a test lets the stores go in one step of its proof.
+impl Drop for Pair {
+    fn drop(self) {
+        let Pair {
+            states: _,
+            tag: _,
+            tagged: _,
+            list: _,
+            tree: _,
+        } = self;
+    }
+}
+
+impl Pair {
+    #[tactic(auto, using(rt_store::proofs::GivenStates::one_state))]
+    fn new(alloc: Global) -> Result<Pair, Fault> {
+        let mut states = StateTable::new(alloc)?;
+        let tag = states.number("t")?;
+        let tagged = states.with(StateId::EMPTY, tag, ROOT, true)?;
+        let list = ListStore::new(alloc)?;
+        let tree = TreeStore::new(alloc)?;
+        Ok(Pair {
+            states,
+            tag,
+            tagged,
+            list,
+            tree,
+        })
+    }
+
+    fn put(&mut self, random: usize, cells: &[Cell<StateId>]) -> Result<(), Fault>
+        requires { AreStates self.old.states cells.now }
+        ensures states { self.new.states ≡ self.old.states }
+        ensures tagged { self.new.tagged ≡ self.old.tagged }
+    {
+        put(&mut self.list, &self.states, random, cells)?;
+        put(&mut self.tree, &self.states, random, cells)
+    }
+
+    // A new cell.
+    #[tactic(auto, using(rt_store::proofs::GivenStates::one_state))]
+    fn one(&mut self, random: usize, count: u64, site: u16, ch: char) -> Result<(), Fault> {
+        let new = cell(count, site, ch, self.tagged);
+        self.put(random, &[new])
+    }
+
+    // Some new cells, of counts that follow one another.
+    fn some(&mut self, random: usize, count: u64, site: u16) -> Result<(), Fault> {
+        if count > 1000 {
+            return Err(Fault::NoMemory);
+        }
+        let state = self.tagged;
+        let a = cell(count, site, 'a', state);
+        let b = cell(count + 1, site, 'b', state);
+        let c = cell(count + 2, site, '\n', state);
+        let d = cell(count + 3, site, 'd', state);
+        self.put(random, &[a, b, c, d])
+    }
+
+    // Some new cells, two of which have one stamp.
+    fn twice(&mut self, random: usize, count: u64, site: u16) -> Result<(), Fault> {
+        if count > 1000 {
+            return Err(Fault::NoMemory);
+        }
+        let state = self.tagged;
+        let a = cell(count, site, 'e', state);
+        let b = cell(count + 1, site, 'f', state);
+        let c = cell(count, site, 'g', state);
+        let d = cell(count + 1, site, 'h', state);
+        self.put(random, &[a, b, c, d])
+    }
+
+    fn remove(&mut self, span: Span) -> Result<(), Fault> {
+        remove(&mut self.list, &self.states, span)?;
+        remove(&mut self.tree, &self.states, span)
+    }
+
+    fn mark(&mut self, span: Span, on: bool) -> Result<(), Fault> {
+        let state = if on { self.tagged } else { StateId::EMPTY };
+        mark(&mut self.list, &self.states, span, state)?;
+        mark(&mut self.tree, &self.states, span, state)
+    }
+
+    fn is_same(&self) -> bool {
+        same_cells(&self.list, &self.tree)
+            && same_tags(&self.list, &self.tree, &self.states, self.tag)
+    }
+
+    // One call that a number gives. Stamps are few, so that many stand twice.
+    fn turn(&mut self, random: usize, more: usize) -> Result<(), Fault> {
+        let site = 1 + (more % 3) as u16;
+        let first = 1 + (more / 3 % 90) as u64;
+        let last = first + (more / 300 % 20) as u64;
+        let span = Span { site, first, last };
+        match random % 8 {
+            0 => self.remove(span),
+            1 | 2 => self.mark(span, true),
+            3 | 4 => self.mark(span, false),
+            5 => self.one(random / 8, first, site, '\n'),
+            6 => self.twice(random / 8, first, site),
+            _ => self.some(random / 8, first, site),
+        }
+    }
+}
+
+// A series of pseudo-random calls: after each, both stores have the same cells and give the same answers.
+#[test]
+fn a_series_of_calls(rt: HostRuntime) -> Result<(), Fail> {
+    let mut pair = Pair::new(rt.alloc())?;
+    let mut seed: u32 = 11;
+    for _ in 0..150 {
+        seed = seed.wrapping_mul(1_664_525).wrapping_add(1_013_904_223);
+        let random = (seed / 65_536) as usize;
+        seed = seed.wrapping_mul(1_664_525).wrapping_add(1_013_904_223);
+        pair.turn(random, (seed / 65_536) as usize)?;
+        assert!(rt; pair.is_same());
+    }
+    Ok(())
+}

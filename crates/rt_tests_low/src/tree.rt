@@ -1,0 +1,350 @@
+// The cells of texts in a tree, beside those in a list.
+ghost use Rattle.std.specs.Prelude.{◌≡◌, false};
+ghost use Rattle.rt_store.specs.ListStore.{cells_of};
+ghost use Rattle.rt_store.specs.Tagged.{AreStates};
+ghost use Rattle.rt_tags.specs.States.{IsState};
+
+use crate::checks::same;
+use rt_stamps::{Fault, ROOT, Span, Stamp};
+use rt_store::{Cell, FINAL_CELL, ListStore, TextStore};
+use rt_tags::{StateId, StateTable};
+use rt_tree::Tree;
+use std::alloc::Global;
+use std::test::Fail;
+
+// The final newline alone: one run in one leaf.
+#[test]
+fn a_new_tree(rt: HostRuntime) -> Result<(), Fail> {
+    let tree = Tree::new(rt.alloc())?;
+    same(&rt, (tree.cells(), tree.visible(), tree.lines()), (1, 1, 1));
+    same(&rt, (tree.runs(), tree.height()), (1, 1));
+    same(&rt, tree.nth(0), FINAL_CELL);
+    same(&rt, tree.cell_at(0), FINAL_CELL);
+    same(&rt, tree.char_at(0), '\n');
+    same(&rt, tree.line_start(1), 0);
+    same(&rt, (tree.line_of(0), tree.line_of(1)), (1, 2));
+    Ok(())
+}
+
+// A look at the only entry is counted.
+#[test]
+fn looks_are_counted(rt: HostRuntime) -> Result<(), Fail> {
+    let tree = Tree::new(rt.alloc())?;
+    let mut looks = 5;
+    same(&rt, tree.find(0, &mut looks), FINAL_CELL);
+    same(&rt, looks, 6);
+    Ok(())
+}
+
+// The cell of a character without tags.
+fn plain(count: u64, site: u16, ch: char) -> Cell<StateId>
+    ensures { result ≡ record { stamp = record { count = count; site = site }; ch = ch; gone = false; state = 0 } }
+{
+    Cell {
+        stamp: Stamp { count, site },
+        ch,
+        gone: false,
+        state: StateId::EMPTY,
+    }
+}
+
+// The counts of a site from a first one to a last one.
+fn span(site: u16, first: u64, last: u64) -> Span
+    ensures { result ≡ record { site = site; first = first; last = last } }
+{
+    Span { site, first, last }
+}
+
+/// One text in a list and in a tree. A call that is out of bounds answers `NoMemory`.
+struct Both {
+    states: StateTable,
+    tagged: StateId,
+    list: ListStore,
+    tree: Tree,
+    ghost tagged_given: { IsState states tagged },
+    ghost cells_given: { AreStates states (cells_of list) },
+}
+
+// Written out, so that each way out of a test lets a text go in one step of its proof.
+impl Drop for Both {
+    fn drop(self) {
+        let Both {
+            states: _,
+            tagged: _,
+            list: _,
+            tree: _,
+        } = self;
+    }
+}
+
+impl Both {
+    #[tactic(auto, using(rt_store::proofs::GivenStates::one_state))]
+    fn new(alloc: Global) -> Result<Both, Fault> {
+        let mut states = StateTable::new(alloc)?;
+        let tag = states.number("t")?;
+        let tagged = states.with(StateId::EMPTY, tag, ROOT, true)?;
+        let list = ListStore::new(alloc)?;
+        let tree = Tree::new(alloc)?;
+        Ok(Both {
+            states,
+            tagged,
+            list,
+            tree,
+        })
+    }
+
+    // A character, in the list.
+    #[tactic(auto, using(rt_store::proofs::GivenStates::spliced_states, rt_store::proofs::GivenStates::one_state))]
+    fn list_one(&mut self, at: usize, count: u64, site: u16, ch: char) -> Result<(), Fault> {
+        if self.list.cells() > 1000 || at >= self.list.cells() {
+            return Err(Fault::NoMemory);
+        }
+        self.list.reserve(1, 1)?;
+        self.list
+            .splice(&self.states, at, &[plain(count, site, ch)]);
+        Ok(())
+    }
+
+    // New cells, in the tree.
+    fn grow(&mut self, at: usize, cells: &[Cell<StateId>]) -> Result<(), Fault> {
+        if at >= self.tree.cells() {
+            return Err(Fault::NoMemory);
+        }
+        self.tree.reserve(cells.len(), 1)?;
+        self.tree.splice(at, cells);
+        Ok(())
+    }
+
+    // A character.
+    fn put(&mut self, at: usize, count: u64, site: u16, ch: char) -> Result<(), Fault> {
+        self.list_one(at, count, site, ch)?;
+        self.grow(at, &[plain(count, site, ch)])
+    }
+
+    // Three characters of one site, in the tree at once.
+    fn paste(&mut self, at: usize, count: u64, site: u16, text: [char; 3]) -> Result<(), Fault> {
+        if at > 1000 || count > 1_000_000 {
+            return Err(Fault::NoMemory);
+        }
+        let [a, b, c] = text;
+        self.list_one(at, count, site, a)?;
+        self.list_one(at + 1, count + 1, site, b)?;
+        self.list_one(at + 2, count + 2, site, c)?;
+        let a = plain(count, site, a);
+        let b = plain(count + 1, site, b);
+        let c = plain(count + 2, site, c);
+        self.grow(at, &[a, b, c])
+    }
+
+    // The cells of a span become gone; the final newline never does.
+    #[tactic(auto, using(rt_store::proofs::GivenStates::gone_states))]
+    fn remove(&mut self, span: Span) -> Result<(), Fault> {
+        if self.list.cells() > 1000 || span.site == 0 {
+            return Err(Fault::NoMemory);
+        }
+        self.list.reserve(0, 2)?;
+        self.list.set_gone(&self.states, span);
+        self.tree.reserve(0, 2)?;
+        self.tree.set_gone(span);
+        Ok(())
+    }
+
+    // The cells of a span get the tag.
+    #[tactic(auto, using(rt_store::proofs::GivenStates::put_states))]
+    fn tag(&mut self, span: Span) -> Result<(), Fault> {
+        if self.list.cells() > 1000 {
+            return Err(Fault::NoMemory);
+        }
+        self.list.reserve(0, 2)?;
+        self.list.set_state(&self.states, span, self.tagged);
+        self.tree.reserve(0, 2)?;
+        self.tree.set_state(span, self.tagged);
+        Ok(())
+    }
+
+    // Whether both have the same cells, and as many visible ones and lines.
+    fn same(&self) -> bool {
+        let cells = self.list.cells();
+        if self.tree.cells() != cells
+            || self.tree.visible() != self.list.visible()
+            || self.tree.lines() != self.list.lines()
+        {
+            return false;
+        }
+        for at in 0..cells {
+            if self.tree.nth(at) != self.list.nth(at) {
+                return false;
+            }
+        }
+        true
+    }
+
+    // Whether both find the same cell and the same place for the stamp of each cell, and none for one of no cell.
+    fn same_by_stamps(&self) -> bool {
+        for at in 0..self.list.cells() {
+            if !self.same_at(self.list.nth(at).stamp) {
+                return false;
+            }
+        }
+        self.same_at(ROOT)
+    }
+
+    // Whether both find the same cell and the same place for a stamp.
+    fn same_at(&self, stamp: Stamp) -> bool {
+        self.tree.cell_of(stamp) == self.list.cell_of(stamp)
+            && self.tree.place_of(stamp) == self.list.place_of(stamp)
+    }
+
+    // Whether both put the same characters into a buffer, and leave the rest of it.
+    fn same_characters(&self, place: usize) -> bool {
+        let mut ours = ['-'; 4];
+        let mut theirs = ['-'; 4];
+        self.tree.characters(place, &mut ours) == self.list.characters(place, &mut theirs)
+            && ours == theirs
+    }
+
+    // Whether both put a new stamp's cell at the same position, at the very beginning of the text.
+    fn same_skip(&self, new: Stamp) -> bool {
+        if self.tree.cells() == 0 || self.list.cells() == 0 || new.count < 2 {
+            return false;
+        }
+        self.tree.after_skip(ROOT, new) == self.list.after_skip(ROOT, new)
+    }
+}
+
+// With ample memory room is made, and kept.
+#[test]
+fn room(rt: HostRuntime) -> Result<(), Fail> {
+    let mut tree = Tree::new(rt.alloc())?;
+    tree.reserve(1000, 50)?;
+    tree.reserve(10, 60)?;
+    same(&rt, (tree.cells(), tree.runs(), tree.height()), (1, 1, 1));
+    Ok(())
+}
+
+// What is typed on makes its run longer; cells that don't follow make another.
+#[test]
+fn typing(rt: HostRuntime) -> Result<(), Fail> {
+    let mut both = Both::new(rt.alloc())?;
+    both.put(0, 1, 1, 'a')?;
+    both.put(1, 2, 1, 'b')?;
+    both.put(2, 3, 1, '\n')?;
+    assert!(rt; both.same());
+    same(&rt, both.tree.runs(), 2);
+    both.put(3, 4, 1, 'c')?;
+    both.put(1, 5, 2, 'x')?;
+    assert!(rt; both.same());
+    same(&rt, both.tree.runs(), 5);
+    Ok(())
+}
+
+// A stretch that is pasted is one run, or more where a newline ends one.
+#[test]
+fn pasting(rt: HostRuntime) -> Result<(), Fail> {
+    let mut both = Both::new(rt.alloc())?;
+    both.paste(0, 1, 1, ['a', 'b', 'c'])?;
+    same(&rt, both.tree.runs(), 2);
+    both.paste(3, 4, 1, ['\n', 'd', 'e'])?;
+    same(&rt, both.tree.runs(), 3);
+    both.paste(2, 1, 2, ['\n', '\n', 'f'])?;
+    assert!(rt; both.same());
+    same(&rt, both.tree.runs(), 7);
+    Ok(())
+}
+
+// A stamp that is there already: its cells come in as runs of one cell, and are marked with the others.
+#[test]
+fn stamps_twice(rt: HostRuntime) -> Result<(), Fail> {
+    let mut both = Both::new(rt.alloc())?;
+    both.paste(0, 1, 1, ['a', 'b', 'c'])?;
+    both.paste(1, 2, 1, ['d', 'e', 'f'])?;
+    assert!(rt; both.same());
+    same(&rt, both.tree.runs(), 6);
+    both.paste(0, 7, 1, ['g', 'h', 'i'])?;
+    both.put(3, 10, 1, 'j')?;
+    same(&rt, both.tree.runs(), 7);
+    both.remove(span(1, 2, 2))?;
+    assert!(rt; both.same());
+    same(&rt, both.tree.runs(), 8);
+    both.tag(span(1, 3, 8))?;
+    assert!(rt; both.same());
+    assert!(rt; both.same_by_stamps());
+    Ok(())
+}
+
+// Cells that become gone, or get a tag.
+#[test]
+fn marking(rt: HostRuntime) -> Result<(), Fail> {
+    let mut both = Both::new(rt.alloc())?;
+    both.paste(0, 1, 1, ['a', 'b', 'c'])?;
+    both.paste(3, 4, 1, ['\n', 'd', 'e'])?;
+    both.remove(span(1, 2, 5))?;
+    assert!(rt; both.same());
+    same(&rt, both.tree.runs(), 5);
+    both.tag(span(1, 3, 6))?;
+    same(&rt, both.tree.runs(), 6);
+    both.tag(span(0, 1, 1))?;
+    assert!(rt; both.same());
+    assert!(rt; both.same_by_stamps());
+    for place in 0..5 {
+        assert!(rt; both.same_characters(place));
+    }
+    Ok(())
+}
+
+impl Both {
+    // One call at a place that a number gives; each round has counts of its own.
+    fn turn(&mut self, random: usize, round: u64) -> Result<(), Fault> {
+        let cells = self.tree.cells();
+        if cells == 0 || round > 1000 {
+            return Err(Fault::NoMemory);
+        }
+        let at = random / 8 % cells;
+        let stamp = self.tree.nth(at).stamp;
+        let last = stamp.count.saturating_add((random / 1024 % 9) as u64);
+        let near = span(stamp.site, stamp.count, last);
+        let count = 1 + 3 * round;
+        match random % 8 {
+            0 if stamp.site > 0 => self.remove(near),
+            1 => self.tag(near),
+            2 => self.put(at, count, 3, '\n'),
+            3 => self.paste(at, count, 1, ['a', '\n', 'b']),
+            4 => self.paste(at, count, 2, ['c', 'd', '\n']),
+            _ => self.paste(cells - 1, count, 1, ['e', 'f', 'g']),
+        }
+    }
+}
+
+// A series of calls at pseudo-random places: after each, both stores have the same cells. At the end they find the same by stamps,
+// though runs have moved to other leaves and were cut.
+#[test]
+fn a_random_series(rt: HostRuntime) -> Result<(), Fail> {
+    let mut both = Both::new(rt.alloc())?;
+    let mut seed: u32 = 7;
+    for round in 0..200 {
+        seed = seed.wrapping_mul(1_664_525).wrapping_add(1_013_904_223);
+        both.turn((seed / 65_536) as usize, round)?;
+        assert!(rt; both.same());
+    }
+    assert!(rt; both.tree.height() > 1);
+    assert!(rt; both.same_by_stamps());
+    Ok(())
+}
+
+// A new stamp goes past the greater ones behind its left element, over many runs, and both stores agree where.
+#[test]
+fn skipping(rt: HostRuntime) -> Result<(), Fail> {
+    let mut both = Both::new(rt.alloc())?;
+    for round in 0..300 {
+        both.put(0, 1000 - round, 1, 'a')?;
+    }
+    assert!(rt; both.tree.height() > 1);
+    for count in 0..30 {
+        let new = Stamp {
+            count: 695 + 10 * count,
+            site: 2,
+        };
+        assert!(rt; both.same_skip(new));
+    }
+    Ok(())
+}

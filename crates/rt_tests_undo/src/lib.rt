@@ -1,8 +1,0 @@
-//! Tests of undo, of rt_revert's planner and of a view, by what is public of them. The library itself is
-//! empty.
-#![tactic(auto)]
-
-#[cfg(test)]
-mod planning;
-#[cfg(test)]
-mod reverting;

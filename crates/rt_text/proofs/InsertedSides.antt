@@ -1,0 +1,395 @@
+-- The neighbours of text that is inserted into what a widget shows.
+use Rattle.std.proofs.Common.{◌≡◌, ◌∙◌, ℕ, zero, suc, ◌+◌, ◌-◌, ◌<◌, ◌≤◌, ◌&&◌, ◌||◌, ◌++◌, ◌⊎◌, inl, inr, Bool, true, false, cond, not, List, [], ◌∷◌, length, map, take, drop, Option, None, Some, refl, sym, ap, arith, subst, append-nil, take-append-drop}
+use Rattle.std.specs.Prelude.{IfSome, nat_eq, nat_lt, option_and_then, option_map, slice_get, unwrap_or}
+use Rattle.std.specs.List.{IsDistinct}
+use Rattle.std.specs.Str.{chars}
+use Rattle.std.proofs.lemmas.Bool.{lt-ltb}
+use Rattle.std.proofs.lemmas.Bool.Decides.{nat_tests}
+use Rattle.std.proofs.lemmas.List.{length-map}
+use Rattle.rt_marks.specs.Marks.{place_left}
+use Rattle.rt_marks.proofs.Leaving.{place_kept}
+use Rattle.rt_stamps.specs.declared.limits.TheConstants.{MOST_CHARACTERS}
+use Rattle.rt_stamps.specs.declared.stamp.Stamp.{Stamp}
+use Rattle.rt_stamps.specs.declared.stamp.TheConstants.{ROOT}
+use Rattle.rt_stamps.specs.Places.{is_newline}
+use Rattle.rt_stamps.specs.Stamps.{is_same}
+use Rattle.rt_stamps.specs.Words.{Word}
+use Rattle.rt_store.specs.declared.cell.Cell.{Cell}
+use Rattle.rt_store.specs.Cells.{EndsFinal, after_element, cell_of, map_state, stamps_of, text_of, visible_of}
+use Rattle.rt_store.specs.Shown.{TaggedCell, shown}
+use Rattle.rt_store.specs.Written.{AreBelowNext}
+use Rattle.rt_store.proofs.Distinct.{distinct_more, split}
+use Rattle.rt_store.proofs.Shown.{visible_at_shown}
+use Rattle.rt_tags.specs.States.{TagStates, state_at}
+use Rattle.rt_rga.specs.Histories.{IsHistory}
+use Rattle.rt_rga.proofs.Corollaries.{cells_distinct, cells_older, root_absent}
+use Rattle.rt_rga.proofs.Final.{ends_final}
+use Rattle.rt_edits.specs.DraftLaws.{IsDocument}
+use Rattle.rt_edits.specs.Flat.{Flat, left_of, put_after}
+use Rattle.rt_edits.specs.InsertionDrafts.{behind, insertion_drafts, pieces_drafts, text_drafts}
+use Rattle.rt_edits.specs.Insertions.{Insertion, Piece, insertion_of, last_of, left_neighbour, right_neighbour, tags_between, with_pieces, with_unlisted}
+use Rattle.rt_edits.specs.Removals.{is_covered}
+use Rattle.rt_edits.proofs.RestLaws.{element_shown, left_shown}
+use Rattle.rt_views.specs.declared.limits.Limits.{Limits}
+use Rattle.rt_views.specs.declared.stretch.Stretch.{Stretch}
+use Rattle.rt_views.specs.Limits.{no_limits, place_of}
+use Rattle.rt_views.specs.Stretches.{stretch_of}
+use Rattle.rt_views.proofs.Parts.{part_get}
+use Rattle.rt_views.proofs.Shown.{place_shown}
+use Rattle.rt_views.proofs.Whole.{stretch_whole, stretch_within}
+use Rattle.rt_text.specs.Commands.{none_inserted, right_behind}
+use Rattle.rt_text.specs.Neighbours.{are_newlines, are_sides_shown, is_ahead, is_behind, is_newline_of, limit_left, limits_in, pieces_text}
+use Rattle.rt_text.specs.Widgets.{Own, Viewed, in_text, length_shown, shown_by}
+use Rattle.rt_text.proofs.LimitedDeletions.{stretch_kept}
+use Rattle.rt_text.proofs.LimitedTags.{shown_length}
+use Rattle.rt_text.proofs.NewCells.{AreNew, pieces_are, pieces_new}
+use Rattle.rt_text.proofs.ShownSides.{ArePut, sides_put}
+use Rattle.rt_text.proofs.ViewLaws.{viewed}
+
+-- A DOCUMENT'S CELLS
+
+pub document_final : (flat : Flat) → IsHistory flat.log → IsDocument flat.site flat.log flat → EndsFinal flat.cells
+document_final flat h doc = subst EndsFinal (sym doc.cells) (ends_final flat.log h)
+
+pub document_distinct : (flat : Flat) → IsHistory flat.log → IsDocument flat.site flat.log flat → IsDistinct is_same (ROOT ∷ stamps_of flat.cells)
+document_distinct flat h doc =
+    subst (λ (l : List TaggedCell). IsDistinct is_same (ROOT ∷ stamps_of l)) (sym doc.cells) (distinct_more ROOT (stamps_of _) (root_absent flat.log h) (cells_distinct flat.log h))
+
+pub document_below : (flat : Flat) → IsHistory flat.log → IsDocument flat.site flat.log flat → AreBelowNext flat.count flat.cells
+document_below flat h doc = subst (λ (p : _). p) (λ i. AreBelowNext (sym doc.count i) (sym doc.cells i)) (cells_older flat.log h)
+
+-- PLACES OF WHAT IS SHOWN
+
+-- a place among the characters that are shown is one of the text
+pub record IsPlace (flat : Flat) (own : Own) (others : List Own) (place : ℕ) : Type 0 where
+  pub history : IsHistory flat.log
+  pub document : IsDocument flat.site flat.log flat
+  pub real : 0 < flat.site
+  pub within : place < length_shown (viewed flat own others)
+
+module _ (flat : Flat) (own : Own) (others : List Own) (place : ℕ) (is : IsPlace flat own others place) where
+  abbrev view : Viewed
+  view = viewed flat own others
+
+  abbrev stretch : Stretch
+  stretch = stretch_of flat.cells own.limits
+
+  final : EndsFinal flat.cells
+  final = document_final flat is.history is.document
+
+  size : length_shown view ≡ stretch.end - stretch.begin
+  size = shown_length flat.cells stretch (stretch_within flat.cells own.limits final)
+
+  pub at_low : stretch.begin ≤ in_text view place
+  at_low = omega arith
+
+  pub at_high : in_text view place < stretch.end
+  at_high = omega (arith, size, is.within)
+
+  pub at_visible : in_text view place < length (visible_of flat.cells)
+  at_visible = omega (arith, at_high, stretch_within flat.cells own.limits final)
+
+  pub at_text : in_text view place < length (text_of flat.cells)
+  at_text = omega (arith, at_visible, length-map (visible_of flat.cells) (λ (cell : TaggedCell). cell.ch))
+
+  -- the neighbours that are shown are those of the text
+  pub right_there : right_neighbour (shown_by view) place ≡ slice_get (visible_of flat.cells) (in_text view place)
+  right_there = part_get stretch (visible_of flat.cells) place (omega (arith, size, is.within))
+
+-- the place in the text that has the left neighbour which is shown: its beginning where there is none
+abbrev pub near : Viewed → ℕ → ℕ
+near _ zero = 0
+near view (suc place) = in_text view (suc place)
+
+pub left_there : (flat : Flat) (own : Own) (others : List Own) (place : ℕ) → IsPlace flat own others place
+    → left_neighbour (shown_by (viewed flat own others)) place ≡ left_neighbour (visible_of flat.cells) (near (viewed flat own others) place)
+left_there flat own others zero is = refl
+left_there flat own others (suc p) is =
+    let view : Viewed = viewed flat own others in
+    let stretch : Stretch = stretch_of flat.cells own.limits in
+    let size : length_shown view ≡ stretch.end - stretch.begin = shown_length flat.cells stretch (stretch_within flat.cells own.limits (document_final flat is.history is.document)) in
+    let next : stretch.begin + suc p ≡ suc (stretch.begin + p) = omega arith in
+    part_get stretch (visible_of flat.cells) p (omega (arith, size, is.within)) ∙ sym (ap (left_neighbour (visible_of flat.cells)) next)
+
+pub near_within : (flat : Flat) (own : Own) (others : List Own) (place : ℕ) → IsPlace flat own others place → near (viewed flat own others) place < length (text_of flat.cells)
+near_within flat own others zero is = omega (arith, at_text flat own others zero is)
+near_within flat own others (suc p) is = at_text flat own others (suc p) is
+
+-- NEIGHBOURS THAT ARE KEPT
+
+-- what the code finds before the place, as shown
+pub left_found : (table : TagStates) (kept : List (Cell ℕ)) (flat : Flat) (own : Own) (others : List Own) (place at : ℕ) (behind left : Option (Cell ℕ)) → map (shown table) kept ≡ flat.cells → IsPlace flat own others place
+    → at ≡ in_text (viewed flat own others) place → behind ≡ left_neighbour (visible_of kept) at → left ≡ cond (nat_eq place 0) None behind
+    → option_map (shown table) left ≡ left_neighbour (shown_by (viewed flat own others)) place
+left_found table kept flat own others zero at before left e is a b l = ap (option_map (shown table)) l
+left_found table kept flat own others (suc p) at before left e is a b l =
+    let later : nat_eq (suc p) 0 ≡ false = grind (arith, nat_tests) in
+    ap (option_map (shown table)) (l ∙ ap (λ x. cond x None before) later ∙ b) ∙ left_shown table kept at ∙ (λ i. left_neighbour (visible_of (e i)) (a i)) ∙ sym (left_there flat own others (suc p) is)
+
+-- the element behind which text goes is that of the left neighbour, where one is shown
+pub element_is : (left behind : Option (Cell ℕ)) (place : ℕ) → left ≡ cond (nat_eq place 0) None behind → IfSome left (λ cell. unwrap_or (option_map (λ c. c.stamp) behind) ROOT ≡ cell.stamp)
+element_is left behind place l =
+    subst (λ (o : Option (Cell ℕ)). IfSome o (λ cell. unwrap_or (option_map (λ (c : Cell ℕ). c.stamp) behind) ROOT ≡ cell.stamp)) (sym l) (by (nat_eq place 0) behind)
+  where
+    by : (b : Bool) (o : Option (Cell ℕ)) → IfSome (cond b None o) (λ cell. unwrap_or (option_map (λ (c : Cell ℕ). c.stamp) o) ROOT ≡ cell.stamp)
+    by true o = tt
+    by false None = tt
+    by false (Some cell) = refl
+
+-- and of the text's left neighbour in any case
+pub element_found : (table : TagStates) (kept : List (Cell ℕ)) (flat : Flat) (at place : ℕ) (behind : Option (Cell ℕ)) → map (shown table) kept ≡ flat.cells → at ≡ place → behind ≡ left_neighbour (visible_of kept) at
+    → unwrap_or (option_map (λ c. c.stamp) behind) ROOT ≡ left_of flat.cells place
+element_found table kept flat at place behind e a b =
+    ap (λ o. unwrap_or (option_map (λ (c : Cell ℕ). c.stamp) o) ROOT) b ∙ element_shown table kept at ∙ (λ i. left_of (e i) (a i))
+
+-- states that were given out
+pub given_if : (P : Cell ℕ → Type 0) (b : Bool) (o x : Option (Cell ℕ)) → x ≡ cond b o None → IfSome o P → IfSome x P
+given_if P b o x e h = subst (λ (y : Option (Cell ℕ)). IfSome y P) (sym e) (by b)
+  where
+    by : (b : Bool) → IfSome (cond b o None) P
+    by true = h
+    by false = tt
+
+pub given_not : (P : Cell ℕ → Type 0) (b : Bool) (o x : Option (Cell ℕ)) → x ≡ cond b None o → IfSome o P → IfSome x P
+given_not P b o x e h = subst (λ (y : Option (Cell ℕ)). IfSome y P) (sym e) (by b)
+  where
+    by : (b : Bool) → IfSome (cond b None o) P
+    by true = tt
+    by false = h
+
+-- WHETHER BOTH SIDES ARE SHOWN
+
+pub newline_shown : {S T : Type 0} (f : S → T) (cells : List (Cell S)) (s : Stamp)
+    → unwrap_or (option_map (λ (cell : Cell T). is_newline cell.ch) (cell_of (map (map_state f) cells) s)) false ≡ unwrap_or (option_map (λ (cell : Cell S). is_newline cell.ch) (cell_of cells s)) false
+newline_shown f [] s = refl
+newline_shown {S} {T} f (x ∷ xs) s = by (is_same x.stamp s) (newline_shown f xs s)
+  where
+    by : (b : Bool) → unwrap_or (option_map (λ (cell : Cell T). is_newline cell.ch) (cell_of (map (map_state f) xs) s)) false ≡ unwrap_or (option_map (λ (cell : Cell S). is_newline cell.ch) (cell_of xs s)) false
+        → unwrap_or (option_map (λ (cell : Cell T). is_newline cell.ch) (cond b (Some (map_state f x)) (cell_of (map (map_state f) xs) s))) false
+        ≡ unwrap_or (option_map (λ (cell : Cell S). is_newline cell.ch) (cond b (Some x) (cell_of xs s))) false
+    by true h = refl
+    by false h = h
+
+pub limit_shown : (table : TagStates) (kept : List (Cell ℕ)) (limit : Option Stamp) → is_newline_of (map (shown table) kept) limit ≡ is_newline_of kept limit
+limit_shown table kept None = refl
+limit_shown table kept (Some s) = newline_shown (state_at table) kept s
+
+pub limits_kept : (table : TagStates) (kept : List (Cell ℕ)) (cells : List TaggedCell) (limits : Limits) → map (shown table) kept ≡ cells → are_newlines kept limits ≡ are_newlines cells limits
+limits_kept table kept cells limits e = (λ i. sym (limit_shown table kept limits.start) i && sym (limit_shown table kept limits.end) i) ∙ ap (λ (l : List TaggedCell). are_newlines l limits) e
+
+pub place_kept_of : (table : TagStates) (kept : List (Cell ℕ)) (cells : List TaggedCell) (limit : Option Stamp) → map (shown table) kept ≡ cells → option_and_then (place_of kept) limit ≡ option_and_then (place_of cells) limit
+place_kept_of table kept cells None e = refl
+place_kept_of table kept cells (Some s) e = sym (place_shown (state_at table) kept s) ∙ ap (λ (l : List TaggedCell). place_of l s) e
+
+-- where nothing is removed
+none_left : {T : Type 0} (cells : List (Cell T)) (limit : Option Stamp) → limit_left (is_covered []) cells limit ≡ option_and_then (place_of cells) limit
+none_left {T} cells limit = by (option_and_then (place_of cells) limit)
+  where
+    by : (o : Option ℕ) → option_map (place_left (is_covered [])) o ≡ o
+    by None = refl
+    by (Some p) = ap Some (place_kept (is_covered []) (λ q. refl) p)
+
+-- both sides are shown, by the document's cells
+abbrev pub are_shown : Flat → Limits → ℕ → List Piece → Bool
+are_shown flat limits at pieces =
+    not (are_newlines flat.cells limits) || are_sides_shown (option_and_then (place_of flat.cells) limits.start) (option_and_then (place_of flat.cells) limits.end) at (pieces_text pieces)
+
+pub shown_kept : (table : TagStates) (kept : List (Cell ℕ)) (flat : Flat) (limits : Limits) (at place : ℕ) (pieces : List Piece) → map (shown table) kept ≡ flat.cells → at ≡ place
+    → (not (are_newlines kept limits) || are_sides_shown (limit_left (is_covered []) kept limits.start) (limit_left (is_covered []) kept limits.end) at (pieces_text pieces)) ≡ are_shown flat limits place pieces
+shown_kept table kept flat limits at place pieces e a =
+    λ i. not (limits_kept table kept flat.cells limits e i)
+    || are_sides_shown ((none_left kept limits.start ∙ place_kept_of table kept flat.cells limits.start e) i) ((none_left kept limits.end ∙ place_kept_of table kept flat.cells limits.end e) i) (a i) (pieces_text pieces)
+
+-- what the code finds at the place, as shown
+pub right_found : (table : TagStates) (kept : List (Cell ℕ)) (flat : Flat) (own : Own) (others : List Own) (place at : ℕ) (pieces : List Piece) (b : Bool) (right : Option (Cell ℕ)) → map (shown table) kept ≡ flat.cells → IsPlace flat own others place
+    → at ≡ in_text (viewed flat own others) place → b ≡ are_shown flat own.limits (in_text (viewed flat own others) place) pieces → right ≡ cond b (slice_get (visible_of kept) at) None
+    → option_map (shown table) right ≡ cond (are_shown flat own.limits (in_text (viewed flat own others) place) pieces) (right_neighbour (shown_by (viewed flat own others)) place) None
+right_found table kept flat own others place at pieces b right e is a s r =
+    let there : option_map (shown table) (slice_get (visible_of kept) at) ≡ right_neighbour (shown_by (viewed flat own others)) place =
+    sym (visible_at_shown (state_at table) kept at) ∙ (λ i. slice_get (visible_of (e i)) (a i)) ∙ sym (right_there flat own others place is) in
+    ap (option_map (shown table)) r ∙ inside b (slice_get (visible_of kept) at) ∙ (λ i. cond (s i) (there i) None)
+  where
+    inside : (b : Bool) (o : Option (Cell ℕ)) → option_map (shown table) (cond b o None) ≡ cond b (option_map (shown table) o) None
+    inside true o = refl
+    inside false o = refl
+
+-- THE RIGHT NEIGHBOUR BEHIND THE PIECES
+
+none_put : (cells : List TaggedCell) (left : Stamp) → put_after cells left [] ≡ cells
+none_put cells left =
+    let n = after_element cells left in
+    ap (λ (l : List TaggedCell). l ++ drop n cells) (append-nil (take n cells)) ∙ take-append-drop n cells
+
+no_sides : (start end : Option ℕ) (at : ℕ) → are_sides_shown start end at [] ≡ true
+no_sides start end at = by (is_behind at start) (is_ahead at end)
+  where
+    by : (b d : Bool) → (not (b && false) && not (d && false)) ≡ true
+    by true true = refl
+    by true false = refl
+    by false true = refl
+    by false false = refl
+
+shown_any : (b c : Bool) → c ≡ true → (not b || c) ≡ true
+shown_any true c h = h
+shown_any false c h = refl
+
+both_less : (a b c : ℕ) → a < b → b < c → (nat_lt a b && nat_lt b c) ≡ true
+both_less a b c h k = (λ i. lt-ltb a b h i && lt-ltb b c k i)
+
+-- what the limits that the text knows show has all that the widget shows
+record AreWide (flat : Flat) (own : Own) (limits : Limits) : Type 0 where
+  begin : (stretch_of flat.cells limits).begin ≤ (stretch_of flat.cells own.limits).begin
+  end : (stretch_of flat.cells own.limits).end ≤ (stretch_of flat.cells limits).end
+
+whole_wide : (flat : Flat) (own : Own) → EndsFinal flat.cells → AreWide flat own no_limits
+whole_wide flat own h =
+    let whole = stretch_whole flat.cells h in
+    record {
+      begin = omega (arith, ap (λ (x : Stretch). x.begin) whole);
+      end = omega (arith, ap (λ (x : Stretch). x.end) whole, stretch_within flat.cells own.limits h);
+    }
+
+known_wide : (flat : Flat) (own : Own) → EndsFinal flat.cells → AreWide flat own (limits_in flat.cells own.limits)
+known_wide flat own h = by (are_newlines flat.cells own.limits)
+  where
+    by : (b : Bool) → AreWide flat own (cond b own.limits no_limits)
+    by true = record { begin = omega arith; end = omega arith }
+    by false = whole_wide flat own h
+
+put_at : (flat : Flat) (own : Own) (others : List Own) (place : ℕ) (new : List TaggedCell) → IsPlace flat own others place → AreNew flat.count flat.site new
+    → ArePut flat.cells new flat.count flat.site (in_text (viewed flat own others) place)
+put_at flat own others place new is fresh = record {
+  ends = document_final flat is.history is.document;
+  distinct = document_distinct flat is.history is.document;
+  below = document_below flat is.history is.document;
+  real = omega (arith, is.real);
+  fresh = fresh;
+  within = at_text flat own others place is;
+}
+
+-- both sides of the end of some new cells
+abbrev sides_of : Flat → ℕ → List TaggedCell → Limits → Bool
+sides_of flat at new limits =
+    let stretch = stretch_of (put_after flat.cells (left_of flat.cells at) new) limits in
+    nat_lt stretch.begin (at + length new) && nat_lt (at + length new) stretch.end
+
+sides_by : (flat : Flat) (own : Own) (others : List Own) (place : ℕ) → IsPlace flat own others place → (new : List TaggedCell) (text : List ℕ) → text_of new ≡ text → AreNew flat.count flat.site new
+    → let at = in_text (viewed flat own others) place in
+    ((left_neighbour (shown_by (viewed flat own others)) place ≡ None) × (new ≡ []))
+    ⊎ ((not (are_newlines flat.cells own.limits) || are_sides_shown (option_and_then (place_of flat.cells) own.limits.start) (option_and_then (place_of flat.cells) own.limits.end) at text)
+    ≡ sides_of flat at new (limits_in flat.cells own.limits))
+sides_by flat own others zero is [] text t fresh = inl (refl, refl)
+sides_by flat own others (suc p) is [] text t fresh =
+    let at = in_text (viewed flat own others) (suc p) in
+    let start = option_and_then (place_of flat.cells) own.limits.start in
+    let end = option_and_then (place_of flat.cells) own.limits.end in
+    let valid = are_newlines flat.cells own.limits in
+    let limits : Limits = limits_in flat.cells own.limits in
+    let final = document_final flat is.history is.document in
+    let wide = known_wide flat own final in
+    let shown : (not valid || are_sides_shown start end at text) ≡ true = ap (λ x. not valid || are_sides_shown start end at x) (sym t) ∙ shown_any valid (are_sides_shown start end at []) (no_sides start end at) in
+    let low : (stretch_of flat.cells limits).begin < at + 0 = omega (arith, wide.begin) in
+    let high : at + 0 < (stretch_of flat.cells limits).end = omega (arith, wide.end, at_high flat own others (suc p) is) in
+    let sides : sides_of flat at [] limits ≡ true =
+    ap (λ (l : List TaggedCell). nat_lt (stretch_of l limits).begin (at + 0) && nat_lt (at + 0) (stretch_of l limits).end) (none_put flat.cells (left_of flat.cells at))
+    ∙ both_less (stretch_of flat.cells limits).begin (at + 0) (stretch_of flat.cells limits).end low high in
+    inr (shown ∙ sym sides)
+sides_by flat own others place is (x ∷ xs) text t fresh =
+    let at = in_text (viewed flat own others) place in
+    let new : List TaggedCell = x ∷ xs in
+    let start = option_and_then (place_of flat.cells) own.limits.start in
+    let end = option_and_then (place_of flat.cells) own.limits.end in
+    let put = put_at flat own others place new is fresh in
+    let final = document_final flat is.history is.document in
+    let whole = whole_wide flat own final in
+    let low = at_low flat own others place is in
+    let high = at_high flat own others place is in
+    inr (split (are_newlines flat.cells own.limits)
+    (λ e.
+    ap (λ b. not b || are_sides_shown start end at text) e ∙ ap (are_sides_shown start end at) (sym t)
+    ∙ sym (sides_put flat.cells new flat.count flat.site at put own.limits e (omega arith) low high)
+    ∙ ap (λ b. sides_of flat at new (cond b own.limits no_limits)) (sym e))
+    (λ e.
+    ap (λ b. not b || are_sides_shown start end at text) e
+    ∙ sym (sides_put flat.cells new flat.count flat.site at put no_limits refl (omega arith) (omega (arith, whole.begin, low)) (omega (arith, whole.end, high)))
+    ∙ ap (λ b. sides_of flat at new (cond b own.limits no_limits)) (sym e)))
+
+-- Behind pieces that have characters, and behind a left neighbour, the right one is that which is shown, if both sides are. Without
+-- either it doesn't matter.
+abbrev pub IsRight : Flat → Own → List Own → ℕ → List Piece → Option TaggedCell → Type 0
+IsRight flat own others place pieces right =
+    ((left_neighbour (shown_by (viewed flat own others)) place ≡ None) × ((with_pieces flat.site pieces (none_inserted (viewed flat own others))).cells ≡ []))
+    ⊎ (right ≡ right_behind (viewed flat own others) place pieces)
+
+pub right_is : (flat : Flat) (own : Own) (others : List Own) (place : ℕ) (pieces : List Piece) → IsPlace flat own others place
+    → IsRight flat own others place pieces (cond (are_shown flat own.limits (in_text (viewed flat own others) place) pieces) (right_neighbour (shown_by (viewed flat own others)) place) None)
+right_is flat own others place pieces is =
+    let view : Viewed = viewed flat own others in
+    let new : List TaggedCell = (with_pieces flat.site pieces (none_inserted view)).cells in
+    let text : text_of new ≡ pieces_text pieces = pieces_are flat.site pieces (none_inserted view) in
+    let fresh : AreNew flat.count flat.site new = pieces_new flat.site flat.count pieces (none_inserted view) (omega arith) tt in
+    by (sides_by flat own others place is new (pieces_text pieces) text fresh)
+  where
+    by : ((left_neighbour (shown_by (viewed flat own others)) place ≡ None) × ((with_pieces flat.site pieces (none_inserted (viewed flat own others))).cells ≡ []))
+        ⊎ (are_shown flat own.limits (in_text (viewed flat own others) place) pieces
+        ≡ sides_of flat (in_text (viewed flat own others) place) (with_pieces flat.site pieces (none_inserted (viewed flat own others))).cells (limits_in flat.cells own.limits))
+        → IsRight flat own others place pieces (cond (are_shown flat own.limits (in_text (viewed flat own others) place) pieces) (right_neighbour (shown_by (viewed flat own others)) place) None)
+    by (inl w) = inl w
+    by (inr e) = inr (ap (λ b. cond b (right_neighbour (shown_by (viewed flat own others)) place) None) e)
+
+-- what the code finds beside the place
+pub record IsFound (flat : Flat) (own : Own) (others : List Own) (place : ℕ) (pieces : List Piece) (at : ℕ) (after : Stamp) (left right : Option TaggedCell) : Type 0 where
+  pub here : at ≡ in_text (viewed flat own others) place
+  pub element : after ≡ left_of flat.cells (in_text (viewed flat own others) place)
+  pub before : left ≡ left_neighbour (shown_by (viewed flat own others)) place
+  pub next : IsRight flat own others place pieces right
+
+pub found : (table : TagStates) (kept : List (Cell ℕ)) (flat : Flat) (own : Own) (others : List Own) (place : ℕ) (pieces : List Piece) (limits : Limits) (stretch : Stretch) (before left right : Option (Cell ℕ)) (after : Stamp)
+    → map (shown table) kept ≡ flat.cells → IsPlace flat own others place → limits ≡ own.limits → stretch ≡ stretch_of kept limits
+    → before ≡ left_neighbour (visible_of kept) (stretch.begin + place) → left ≡ cond (nat_eq place 0) None before
+    → right ≡ cond (not (are_newlines kept limits) || are_sides_shown (limit_left (is_covered []) kept limits.start) (limit_left (is_covered []) kept limits.end) (stretch.begin + place) (pieces_text pieces))
+    (slice_get (visible_of kept) (stretch.begin + place)) None
+    → after ≡ unwrap_or (option_map (λ cell. cell.stamp) before) ROOT
+    → IsFound flat own others place pieces (stretch.begin + place) after (option_map (shown table) left) (option_map (shown table) right)
+found table kept flat own others place pieces limits stretch before left right after e is l s b x r a =
+    let at = stretch.begin + place in
+    let here : at ≡ in_text (viewed flat own others) place = ap (λ (y : Stretch). y.begin + place) (s ∙ ap (stretch_of kept) l ∙ stretch_kept table kept flat.cells own.limits e) in
+    let flag = ap (λ (y : Limits). not (are_newlines kept y) || are_sides_shown (limit_left (is_covered []) kept y.start) (limit_left (is_covered []) kept y.end) at (pieces_text pieces)) l
+    ∙ shown_kept table kept flat own.limits at (in_text (viewed flat own others) place) pieces e here in
+    record {
+      here = here;
+      element = a ∙ element_found table kept flat at (in_text (viewed flat own others) place) before e here b;
+      before = left_found table kept flat own others place at before left e is here b x;
+      next = subst (IsRight flat own others place pieces) (sym (right_found table kept flat own others place at pieces _ right e is here flag r)) (right_is flat own others place pieces is);
+    }
+
+pub any_some : {X : Type 0} (o : Option X) (P : Type 0) → P → IfSome o (λ _. P)
+any_some None P p = tt
+any_some (Some x) P p = p
+
+-- WHERE IT DOESN'T MATTER
+
+unlisted_any : (site : ℕ) (left r s : Option TaggedCell) (text : List ℕ) (so_far : Insertion) → left ≡ None → with_unlisted site left r text so_far ≡ with_unlisted site left s text so_far
+unlisted_any site left r s [] so_far e = refl
+unlisted_any site left r s (c ∷ text) so_far e = ap (λ o. with_unlisted site o r (c ∷ text) so_far) e ∙ sym (ap (λ o. with_unlisted site o s (c ∷ text) so_far) e)
+
+no_last : (left : Option TaggedCell) (cells : List TaggedCell) → left ≡ None → cells ≡ [] → last_of left cells ≡ None
+no_last left cells e h = λ i. last_of (e i) (h i)
+
+pub right_any : (site : ℕ) (left r s : Option TaggedCell) (pieces : List Piece) (rest : Word) (start : Insertion) → ((left ≡ None) × ((with_pieces site pieces start).cells ≡ [])) ⊎ (r ≡ s)
+    → insertion_of site left r pieces rest start ≡ insertion_of site left s pieces rest start
+right_any site left r s pieces rest start (inl w) =
+    let listed = with_pieces site pieces start in
+    unlisted_any site (last_of left listed.cells) r s (chars rest) listed (no_last left listed.cells w.0 w.1)
+right_any site left r s pieces rest start (inr e) = ap (λ o. insertion_of site left o pieces rest start) e
+
+pub drafts_any : (site : ℕ) (after : Stamp) (left r s : Option TaggedCell) (pieces : List Piece) (rest : Word) (start : Insertion) → ((left ≡ None) × ((with_pieces site pieces start).cells ≡ [])) ⊎ (r ≡ s)
+    → insertion_drafts MOST_CHARACTERS site after left r pieces rest start ≡ insertion_drafts MOST_CHARACTERS site after left s pieces rest start
+drafts_any site after left r s pieces rest start (inl w) =
+    let listed = with_pieces site pieces start in
+    ap (λ names. pieces_drafts MOST_CHARACTERS site after pieces start ++ text_drafts MOST_CHARACTERS site listed.count (behind after listed.cells) names (chars rest))
+    (none (last_of left listed.cells) (no_last left listed.cells w.0 w.1))
+  where
+    none : (o : Option TaggedCell) → o ≡ None → tags_between o r ≡ tags_between o s
+    none o e = ap (λ x. tags_between x r) e ∙ sym (ap (λ x. tags_between x s) e)
+drafts_any site after left r s pieces rest start (inr e) = ap (λ o. insertion_drafts MOST_CHARACTERS site after left o pieces rest start) e

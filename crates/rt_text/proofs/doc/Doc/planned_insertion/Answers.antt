@@ -1,0 +1,197 @@
+use Rattle.std.proofs.Common.{◌≡◌, suc, ◌∙◌, ◌<◌, ◌+◌, ◌⊎◌, [], ap, arith, inl, inr, map, refl, subst, sym, List}
+use Rattle.std.specs.Prelude.{IfSome, nat_eq, option_map, slice_get}
+use Rattle.std.proofs.lemmas.List.{length-map}
+use Rattle.std.proofs.lemmas.Result.{IfErr-weaker, IfOk-weaker}
+use Rattle.rt_oplog.specs.Edits.{body_of}
+use Rattle.rt_stamps.specs.declared.limits.TheConstants.{GREATEST_COUNT}
+use Rattle.rt_stamps.specs.declared.stamp.Stamp.{Stamp}
+use Rattle.rt_store.specs.declared.cell.Cell.{Cell}
+use Rattle.rt_store.specs.Cells.{visible_of}
+use Rattle.rt_store.specs.Shown.{TaggedCell, shown}
+use Rattle.rt_tags.specs.States.{IsState}
+use Rattle.rt_edits.specs.Flat.{Flat}
+use Rattle.rt_edits.specs.Insertions.{Insertion}
+use Rattle.rt_edits.specs.Selected.{stamps_in}
+use Rattle.rt_edits.proofs.PlaceLaws.{length_text, text_within}
+use Rattle.rt_edits.proofs.RestLaws.{left_given}
+use Rattle.rt_views.specs.declared.stretch.Stretch.{Stretch}
+use Rattle.rt_views.specs.Stretches.{stretch_of}
+use Rattle.rt_text.specs.Widgets.{Own, selections_of, shown_by}
+use Rattle.rt_text.proofs.InsertedDocument.{drafts_are, new_is, plans_are}
+use Rattle.rt_text.proofs.InsertedSides.{IsPlace, any_some, at_visible, element_is, found, given_if, given_not}
+use Rattle.rt_text.proofs.LimitedDeletions.{stretch_kept}
+use Rattle.rt_text.proofs.PutLaws.{visible_same}
+use Rattle.rt_text.proofs.ViewLaws.{viewed}
+use Rattle.rt_text.proofs.doc.Doc.planned_insertion.Goals as goal
+
+pub left_of-behind-requires : goal.left_of-behind-requires
+left_of-behind-requires g c =
+    let flat = c.args.self.now in
+    let own = c.args.widget.now in
+    let others : List Own = [] in
+    let table = c.kept.result.1.now in
+    let kept = g.S.TextStore.list c.kept.result.0.now in
+    let place = c.args.place in
+    let is : IsPlace flat own others place = record {
+      history = c.kept.ensures.history;
+      document = c.kept.ensures.document;
+      real = c.kept.ensures.site;
+      within = subst (λ n. place < n) (sym (length-map (shown_by (viewed flat own others)) (λ (cell : TaggedCell). cell.ch))) c.requires;
+    } in
+    let same : c.stretch.result ≡ stretch_of flat.cells own.limits = c.stretch.ensures.value ∙ ap (stretch_of kept) c.limits.ensures ∙ stretch_kept table kept flat.cells own.limits c.kept.ensures.cells in
+    omega (arith, ap (λ (x : Stretch). x.begin + place) same, at_visible flat own others place is, visible_same table kept flat.cells c.kept.ensures.cells)
+
+pub shown_at-right-requires : goal.shown_at-right-requires
+shown_at-right-requires g c =
+    let flat = c.args.self.now in
+    let own = c.args.widget.now in
+    let others : List Own = [] in
+    let table = c.kept.result.1.now in
+    let kept = g.S.TextStore.list c.kept.result.0.now in
+    let place = c.args.place in
+    let is : IsPlace flat own others place = record {
+      history = c.kept.ensures.history;
+      document = c.kept.ensures.document;
+      real = c.kept.ensures.site;
+      within = subst (λ n. place < n) (sym (length-map (shown_by (viewed flat own others)) (λ (cell : TaggedCell). cell.ch))) c.requires;
+    } in
+    let same : c.stretch.result ≡ stretch_of flat.cells own.limits = c.stretch.ensures.value ∙ ap (stretch_of kept) c.limits.ensures ∙ stretch_kept table kept flat.cells own.limits c.kept.ensures.cells in
+    omega (arith, ap (λ (x : Stretch). x.begin + place) same, at_visible flat own others place is, visible_same table kept flat.cells c.kept.ensures.cells)
+
+pub overflow_add-at : goal.overflow_add-at
+overflow_add-at g c =
+    let flat = c.args.self.now in
+    let own = c.args.widget.now in
+    let others : List Own = [] in
+    let table = c.kept.result.1.now in
+    let kept = g.S.TextStore.list c.kept.result.0.now in
+    let place = c.args.place in
+    let is : IsPlace flat own others place = record {
+      history = c.kept.ensures.history;
+      document = c.kept.ensures.document;
+      real = c.kept.ensures.site;
+      within = subst (λ n. place < n) (sym (length-map (shown_by (viewed flat own others)) (λ (cell : TaggedCell). cell.ch))) c.requires;
+    } in
+    let same : c.stretch.result ≡ stretch_of flat.cells own.limits = c.stretch.ensures.value ∙ ap (stretch_of kept) c.limits.ensures ∙ stretch_kept table kept flat.cells own.limits c.kept.ensures.cells in
+    omega (arith, ap (λ (x : Stretch). x.begin + place) same, at_visible flat own others place is, visible_same table kept flat.cells c.kept.ensures.cells, text_within kept, length_text kept, c.kept.ensures.few, c.kept.ensures.most)
+
+pub planned_between-requires-clause-left : goal.planned_between-requires-clause-left
+planned_between-requires-clause-left g c =
+    let table = c.kept.result.1.now in
+    let kept = g.S.TextStore.list c.kept.result.0.now in
+    let P : Cell _ → Type 0 = λ cell. IsState table cell.state in
+    given_not P (nat_eq c.args.place 0) c.left_of-behind.result c.shown_before-left.result c.shown_before-left.ensures
+    (subst (λ o. IfSome o P) (sym c.left_of-behind.ensures) (left_given table kept (c.stretch.result.begin + c.args.place) c.kept.ensures.states))
+
+pub planned_between-requires-clause-right : goal.planned_between-requires-clause-right
+planned_between-requires-clause-right g c =
+    let table = c.kept.result.1.now in
+    let kept = g.S.TextStore.list c.kept.result.0.now in
+    let at = c.stretch.result.begin + c.args.place in
+    given_if (λ cell. IsState table cell.state) _ (slice_get (visible_of kept) at) c.shown_at-right.result c.shown_at-right.ensures (left_given table kept (suc at) c.kept.ensures.states)
+
+pub planned_between-requires-clause-after : goal.planned_between-requires-clause-after
+planned_between-requires-clause-after g c =
+    subst (λ (s : Stamp). IfSome c.shown_before-left.result (λ cell. s ≡ cell.stamp)) (sym c.stamp_or_root-after.ensures)
+    (element_is c.shown_before-left.result c.left_of-behind.result c.args.place c.shown_before-left.ensures)
+
+either : {A B C : Type 0} → (B → C) → A ⊎ B → A ⊎ C
+either f (inl a) = inl a
+either f (inr b) = inr (f b)
+
+pub returns-clause-drafts : goal.returns-clause-drafts
+returns-clause-drafts g c =
+    let flat = c.args.self.now in
+    let own = c.args.widget.now in
+    let pieces = c.args.pieces.now in
+    let rest = c.args.rest.now in
+    let site : c.site-site.result.number ≡ flat.site = c.site-site.ensures ∙ ap (λ (f : Flat). f.site) c.self.view_is in
+    let count : c.seen-count.result ≡ flat.count = c.seen-count.ensures.value ∙ c.clock.ensures ∙ ap (λ (f : Flat). f.count) c.self.view_is in
+    let sel : stamps_in c.widget.inside.parts.selection ≡ own.sel = ap (λ (o : Own). o.sel) c.widget.view_is in
+    let table = c.kept.result.1.now in
+    let kept = g.S.TextStore.list c.kept.result.0.now in
+    let place = c.args.place in
+    let left = option_map (shown table) c.shown_before-left.result in
+    let right = option_map (shown table) c.shown_at-right.result in
+    let at = c.stretch.result.begin + place in
+    let stamps_now = stamps_in c.widget.inside.parts.selection in
+    let any = any_some c.shown_at-right.result (stamps_now ≡ stamps_now) refl in
+    IfOk-weaker c.planned_between.result _ _
+    (λ plan h others.
+    let is : IsPlace flat own others place = record {
+      history = c.kept.ensures.history;
+      document = c.kept.ensures.document;
+      real = c.kept.ensures.site;
+      within = subst (λ n. place < n) (sym (length-map (shown_by (viewed flat own others)) (λ (cell : TaggedCell). cell.ch))) c.requires;
+    } in
+    let f = found table kept flat own others place pieces c.limits-2.result c.stretch.result c.left_of-behind.result c.shown_before-left.result c.shown_at-right.result c.stamp_or_root-after.result c.kept.ensures.cells is
+    c.limits-2.ensures (c.stretch.ensures.value ∙ ap (stretch_of kept) (c.limits.ensures ∙ sym c.limits-2.ensures)) c.left_of-behind.ensures c.shown_before-left.ensures c.shown_at-right.ensures c.stamp_or_root-after.ensures in
+    drafts_are flat own others place pieces rest c.site-site.result.number c.seen-count.result stamps_now at c.stamp_or_root-after.result left right site count sel f (map body_of plan.drafts.items)
+    (h stamps_now (selections_of others) flat.tags any))
+    c.planned_between.ensures.drafts
+
+pub returns-clause-plans : goal.returns-clause-plans
+returns-clause-plans g c =
+    let flat = c.args.self.now in
+    let own = c.args.widget.now in
+    let pieces = c.args.pieces.now in
+    let rest = c.args.rest.now in
+    let site : c.site-site.result.number ≡ flat.site = c.site-site.ensures ∙ ap (λ (f : Flat). f.site) c.self.view_is in
+    let count : c.seen-count.result ≡ flat.count = c.seen-count.ensures.value ∙ c.clock.ensures ∙ ap (λ (f : Flat). f.count) c.self.view_is in
+    let sel : stamps_in c.widget.inside.parts.selection ≡ own.sel = ap (λ (o : Own). o.sel) c.widget.view_is in
+    let table = c.kept.result.1.now in
+    let kept = g.S.TextStore.list c.kept.result.0.now in
+    let place = c.args.place in
+    let left = option_map (shown table) c.shown_before-left.result in
+    let right = option_map (shown table) c.shown_at-right.result in
+    let at = c.stretch.result.begin + place in
+    let stamps_now = stamps_in c.widget.inside.parts.selection in
+    let any = any_some c.shown_at-right.result (stamps_now ≡ stamps_now) refl in
+    IfOk-weaker c.planned_between.result _ _
+    (λ plan h others.
+    let is : IsPlace flat own others place = record {
+      history = c.kept.ensures.history;
+      document = c.kept.ensures.document;
+      real = c.kept.ensures.site;
+      within = subst (λ n. place < n) (sym (length-map (shown_by (viewed flat own others)) (λ (cell : TaggedCell). cell.ch))) c.requires;
+    } in
+    let f = found table kept flat own others place pieces c.limits-2.result c.stretch.result c.left_of-behind.result c.shown_before-left.result c.shown_at-right.result c.stamp_or_root-after.result c.kept.ensures.cells is
+    c.limits-2.ensures (c.stretch.ensures.value ∙ ap (stretch_of kept) (c.limits.ensures ∙ sym c.limits-2.ensures)) c.left_of-behind.ensures c.shown_before-left.ensures c.shown_at-right.ensures c.stamp_or_root-after.ensures in
+    plans_are flat own others place pieces rest c.site-site.result.number c.seen-count.result stamps_now at c.stamp_or_root-after.result left right site count sel f plan
+    (h stamps_now (selections_of others) flat.tags any))
+    c.planned_between.ensures.plans
+
+pub returns-clause-err : goal.returns-clause-err
+returns-clause-err g c =
+    let flat = c.args.self.now in
+    let own = c.args.widget.now in
+    let pieces = c.args.pieces.now in
+    let rest = c.args.rest.now in
+    let site : c.site-site.result.number ≡ flat.site = c.site-site.ensures ∙ ap (λ (f : Flat). f.site) c.self.view_is in
+    let count : c.seen-count.result ≡ flat.count = c.seen-count.ensures.value ∙ c.clock.ensures ∙ ap (λ (f : Flat). f.count) c.self.view_is in
+    let sel : stamps_in c.widget.inside.parts.selection ≡ own.sel = ap (λ (o : Own). o.sel) c.widget.view_is in
+    let table = c.kept.result.1.now in
+    let kept = g.S.TextStore.list c.kept.result.0.now in
+    let place = c.args.place in
+    let left = option_map (shown table) c.shown_before-left.result in
+    let right = option_map (shown table) c.shown_at-right.result in
+    let at = c.stretch.result.begin + place in
+    let stamps_now = stamps_in c.widget.inside.parts.selection in
+    let any = any_some c.shown_at-right.result (stamps_now ≡ stamps_now) refl in
+    IfErr-weaker c.planned_between.result _ _
+    (λ fault h. either (λ q. (
+      q.0,
+      λ others.
+          let is : IsPlace flat own others place = record {
+            history = c.kept.ensures.history;
+            document = c.kept.ensures.document;
+            real = c.kept.ensures.site;
+            within = subst (λ n. place < n) (sym (length-map (shown_by (viewed flat own others)) (λ (cell : TaggedCell). cell.ch))) c.requires;
+          } in
+          let f = found table kept flat own others place pieces c.limits-2.result c.stretch.result c.left_of-behind.result c.shown_before-left.result c.shown_at-right.result c.stamp_or_root-after.result c.kept.ensures.cells is
+          c.limits-2.ensures (c.stretch.ensures.value ∙ ap (stretch_of kept) (c.limits.ensures ∙ sym c.limits-2.ensures)) c.left_of-behind.ensures c.shown_before-left.ensures c.shown_at-right.ensures c.stamp_or_root-after.ensures in
+          subst (λ (x : Insertion). GREATEST_COUNT < x.count)
+          (new_is flat own others place pieces rest c.site-site.result.number c.seen-count.result stamps_now at c.stamp_or_root-after.result left right site count sel f)
+          (q.1 stamps_now (selections_of others) flat.tags any),
+    )) h)
+    c.planned_between.ensures.err

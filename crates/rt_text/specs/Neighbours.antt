@@ -1,0 +1,58 @@
+-- What a widget still shows beside new characters, by the places of the newlines that limit it.
+use Rattle.std.specs.Prelude.{ℕ, ◌&&◌, not, nat_le, nat_lt, Bool, true, false, List, [], ◌∷◌, flat_map, Option, None, Some, option_and_then, option_map, unwrap_or, if◌then◌else◌}
+use Rattle.std.specs.List.{list_any}
+use Rattle.std.specs.Str.{chars}
+use Rattle.rt_marks.specs.Marks.{place_left}
+use Rattle.rt_stamps.specs.declared.stamp.Stamp.{Stamp}
+use Rattle.rt_stamps.specs.Places.{is_newline}
+use Rattle.rt_store.specs.declared.cell.Cell.{Cell}
+use Rattle.rt_store.specs.Cells.{cell_of}
+use Rattle.rt_edits.specs.Insertions.{Piece}
+use Rattle.rt_views.specs.declared.limits.Limits.{Limits}
+use Rattle.rt_views.specs.Limits.{no_limits, place_of}
+
+-- LIMITS OF A TEXT
+
+-- a limit is none, or a newline of the text, gone or not
+abbrev pub is_newline_of : {T : Type 0} → List (Cell T) → Option Stamp → Bool
+is_newline_of cells None = true
+is_newline_of cells (Some stamp) = unwrap_or (option_map (λ cell. is_newline cell.ch) (cell_of cells stamp)) false
+
+abbrev pub are_newlines : {T : Type 0} → List (Cell T) → Limits → Bool
+are_newlines cells limits = is_newline_of cells limits.start && is_newline_of cells limits.end
+
+-- the limits that a text knows: stamps of anything else limit nothing
+abbrev pub limits_in : {T : Type 0} → List (Cell T) → Limits → Limits
+limits_in cells limits = if are_newlines cells limits then limits else no_limits
+
+-- the place of a limit's newline in what is left of the text
+abbrev pub limit_left : {T : Type 0} → (ℕ → Bool) → List (Cell T) → Option Stamp → Option ℕ
+limit_left removed cells limit = option_map (place_left removed) (option_and_then (place_of cells) limit)
+
+-- NEW CHARACTERS
+
+-- the characters of pieces
+abbrev pub pieces_text : List Piece → List ℕ
+pieces_text pieces = flat_map (λ piece. chars piece.text) pieces
+
+-- whether the last of some characters is a newline, behind others of which that is known
+abbrev pub ends_behind : Bool → List ℕ → Bool
+ends_behind before [] = before
+ends_behind before (c ∷ text) = ends_behind (is_newline c) text
+
+abbrev pub ends_with_newline : List ℕ → Bool
+ends_with_newline text = ends_behind false text
+
+-- a newline stands at a place or behind it, and before it
+abbrev pub is_behind : ℕ → Option ℕ → Bool
+is_behind at None = false
+is_behind at (Some place) = nat_le at place
+
+abbrev pub is_ahead : ℕ → Option ℕ → Bool
+is_ahead at None = false
+is_ahead at (Some place) = nat_lt place at
+
+-- Both sides of the end of new characters at a place are shown, but where these end with a newline and that of the limit at the start
+-- stands behind them, and where they have a newline and that of the limit at the end stands before them.
+abbrev pub are_sides_shown : Option ℕ → Option ℕ → ℕ → List ℕ → Bool
+are_sides_shown start end at new = not (is_behind at start && ends_with_newline new) && not (is_ahead at end && list_any is_newline new)
