@@ -66,3 +66,5 @@ mod Besides
 mod Replacing
 mod Regrowing
 mod Parting
+mod Told
+mod Showing

@@ -31,10 +31,13 @@ module _ (m : Memory) (height root : ℕ) (t : IsShape m height root) (id : ℕ)
       ∙ ap (λ l. shown_states (ahead m depth id) ++ l) (shown-append (runs m (level_of m id) id) (behind m depth id))
 
   -- the states that show below a node are some of all
+  pub node_all : (P : ℕ → Type 0) → AllByRecursion P (shown_states (runs m height root)) → AllByRecursion P own
+  node_all P all =
+      let rest = (each-append P (shown_states (ahead m depth id)) (own ++ shown_states (behind m depth id)) (subst (AllByRecursion P) own_part all)).1 in
+      (each-append P own (shown_states (behind m depth id)) rest).0
+
   pub node_given : (table : TagStates) → AllByRecursion (IsState table) (shown_states (runs m height root)) → AllByRecursion (IsState table) own
-  node_given table all =
-      let rest = (each-append (IsState table) (shown_states (ahead m depth id)) (own ++ shown_states (behind m depth id)) (subst (AllByRecursion (IsState table)) own_part all)).1 in
-      (each-append (IsState table) own (shown_states (behind m depth id)) rest).0
+  node_given table all = node_all (IsState table) all
 
   pub node_short : length own ≤ length (shown_states (runs m height root))
   node_short =

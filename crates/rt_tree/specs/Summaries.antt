@@ -51,6 +51,10 @@ pub record TellsAs (old new : Summary) : Type 0 where
   pub last : new.last ≡ old.last
   pub counts : new.counts.counts ≡ old.counts.counts
 
+-- a summary without its memory
+abbrev pub without_room : Summary → Summary
+without_room s = record { first = s.first; last = s.last; counts = record { counts = s.counts.counts; capacity = 0 } }
+
 -- of an entry's node the first and the last state are told
 abbrev pub HasEnds : Memory → ℕ → List Summary → Entry → Type 0
 HasEnds m k sums (Here r) = Unit {0}
@@ -104,3 +108,12 @@ pub record AreSummedBut (table : TagStates) (m : Memory) (sums : List Summary) (
 -- a tag is on in a state, or it isn't, as is asked
 abbrev pub tagged_as : TagStates → ℕ → Bool → ℕ → Bool
 tagged_as table tag on state = if on then is_tagged table tag state else not (is_tagged table tag state)
+
+-- The summaries of nodes are right by a table that gave out the states of the runs below the root; there are some for spare nodes too, and
+-- memory for counts of all tags that the table gave out.
+pub record AreTold (table : TagStates) (m : Memory) (s : Summaries) (rs : List Run) : Type 0 where
+  pub each : AreSummed table m s.each.items
+  pub many : length m.heads + m.room ≤ length s.each.items
+  pub memory : HaveMemory s
+  pub tags : length table.names ≤ s.tags
+  pub given : AllByRecursion (λ r. IsState table r.state) rs

@@ -26,7 +26,6 @@ mod summaries;
 pub mod summary;
 mod summed;
 mod sums;
-mod tagged;
 mod totals;
 pub mod tree;
 pub mod up;

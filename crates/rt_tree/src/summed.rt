@@ -1,11 +1,11 @@
 // The summaries of all nodes, and the memory that they are changed in.
-ghost use Rattle.std.specs.Prelude.{◌≡◌, ℕ, ◌+◌, ◌<◌, ◌≤◌, [], IfErr, IsOk, OnErr, OnOk, length, vec_len};
+ghost use Rattle.std.specs.Prelude.{◌≡◌, ℕ, ◌+◌, ◌<◌, ◌≤◌, [], ◌∷◌, IfErr, IfOk, IsOk, OnErr, OnOk, length, vec_len};
 ghost use Rattle.rt_tags.specs.States.{TagStates};
 ghost use Rattle.rt_tree.specs.Summaries.{HaveMemory, IsSummary, TellsAs, room_at, summary_of};
 
 use crate::summary::Summary;
 use rt_stamps::Fault;
-use rt_tags::Toggles;
+use rt_tags::{StateId, Toggles};
 use std::alloc::Global;
 
 /// A summary for each node by its number, spare nodes too, and what they are changed with.
@@ -41,6 +41,17 @@ fn no_summary(heap: Global) -> Summary
     Summary {
         first: None,
         last: None,
+        counts: Toggles::new(heap),
+    }
+}
+
+// One visible run.
+fn one_run(heap: Global, state: StateId) -> Summary
+    ensures { (table : TagStates) → IsSummary table (state ∷ []) result }
+{
+    Summary {
+        first: Some(state),
+        last: Some(state),
         counts: Toggles::new(heap),
     }
 }
@@ -95,6 +106,19 @@ impl Summaries {
             tags: 0,
             heap,
         }
+    }
+
+    // One node with one visible run, and memory for no tag.
+    pub(crate) fn of_one(heap: Global, state: StateId) -> Result<Summaries, Fault>
+        ensures one { IfOk result (λ sums. length sums.each.items ≡ 1) }
+        ensures is { IfOk result (λ sums. (table : TagStates) → IsSummary table (state ∷ []) (summary_of sums.each.items 0)) }
+        ensures memory { IfOk result HaveMemory }
+        ensures tags { IfOk result (λ sums. sums.tags ≡ 0) }
+        ensures fault { IfErr result (λ fault. fault ≡ Fault.NoMemory) }
+    {
+        let mut sums = Summaries::new(heap);
+        sums.each.push(one_run(heap, state))?;
+        Ok(sums)
     }
 
     // Memory for counts of so many tags, or of twice as many as before: to go through all summaries then costs little for each tag.
