@@ -12,13 +12,15 @@ use Rattle.rt_tags.specs.States.{IsState, IsTag, KeepsIds, TagStates}
 use Rattle.rt_tags.specs.Toggles.{count_of}
 use Rattle.rt_tags.proofs.Places.{split}
 use Rattle.rt_tags.proofs.Retelling.{retold}
+use Rattle.rt_nodes.specs.declared.memory.NodeId.{NodeId}
+use Rattle.rt_tree.specs.declared.node.Entry.TheVariants.{Here}
 use Rattle.rt_tree.specs.declared.node.Run.{Run}
 use Rattle.rt_tree.specs.declared.summary.Summary.{Summary}
 use Rattle.rt_tree.specs.declared.summed.Summaries.{Summaries}
 use Rattle.rt_tree.specs.Runs.{IsRun, cells_of, characters, run_cells, with_gone}
 use Rattle.rt_tree.specs.Shape.{IsShape, IsTree, Memory, level_of, runs, tree_runs}
 use Rattle.rt_tree.specs.Summaries.{AreSummed, AreTold, IsSummary, TellsAs, shown_states, summary_of, without_room}
-use Rattle.rt_tree.specs.Trees.{Agrees, AreRight, HasOwn, HaveSummaries, IsKept, Shown, Stretch, shown, stretch_of, stretches_of}
+use Rattle.rt_tree.specs.Trees.{Agrees, AreRight, HasOwn, HaveSummaries, IsKept, Shown, Stretch, final_run, shown, stretch_of, stretches_of}
 use Rattle.rt_tree.proofs.CellLaws.{characters_length}
 use Rattle.rt_tree.proofs.Exact.{each-all}
 use Rattle.rt_tree.proofs.Parting.{node_all}
@@ -62,6 +64,12 @@ states_given table text rs all = All-from_recursion (λ (c : Cell ℕ). IsState 
 
 -- SUMMARIES AND STRETCHES
 
+abbrev IsStretch : TagStates → Stretch → Type 0
+IsStretch table x = IsSummary table x.states x.summary
+
+abbrev AreEach : TagStates → List Stretch → Type 0
+AreEach table xs = AllByRecursion (IsStretch table) xs
+
 tells_less : (s : Summary) → TellsAs s (without_room s)
 tells_less s = record { first = refl; last = refl; counts = refl }
 
@@ -69,15 +77,15 @@ tells_more : (s : Summary) → TellsAs (without_room s) s
 tells_more s = record { first = refl; last = refl; counts = refl }
 
 module _ (table : TagStates) (m : Memory) (sums : List Summary) where
-  right_to : (n : ℕ) → n ≤ length m.heads → AreSummed table m sums → AreRight table (stretches_of m sums n)
+  right_to : (n : ℕ) → n ≤ length m.heads → AreSummed table m sums → AreEach table (stretches_of m sums n)
   right_to zero le are = tt
   right_to (suc n) le are =
       (still_summary table _ (summary_of sums n) (without_room (summary_of sums n)) (tells_less (summary_of sums n)) (are n (omega (arith, le))), right_to n (omega (arith, le)) are)
 
   pub right_from : AreSummed table m sums → AreRight table (stretches_of m sums (length m.heads))
-  right_from are = right_to (length m.heads) (omega arith) are
+  right_from are = All-from_recursion (IsStretch table) (stretches_of m sums (length m.heads)) (right_to (length m.heads) (omega arith) are)
 
-  summed_to : (n : ℕ) → AreRight table (stretches_of m sums n) → (id : ℕ) → id < n → IsSummary table (shown_states (runs m (level_of m id) id)) (summary_of sums id)
+  summed_to : (n : ℕ) → AreEach table (stretches_of m sums n) → (id : ℕ) → id < n → IsSummary table (shown_states (runs m (level_of m id) id)) (summary_of sums id)
   summed_to zero right id lt = absurd (omega (arith, lt))
   summed_to (suc n) right id lt = elim (cases_eq id n) [
     | inl same ↦ subst (λ i. IsSummary table (shown_states (runs m (level_of m i) i)) (summary_of sums i)) (sym same)
@@ -86,7 +94,7 @@ module _ (table : TagStates) (m : Memory) (sums : List Summary) where
   ]
 
   pub summed_from : AreRight table (stretches_of m sums (length m.heads)) → AreSummed table m sums
-  summed_from right id is = summed_to (length m.heads) right id is
+  summed_from right id is = summed_to (length m.heads) (recursion_from_All (IsStretch table) (stretches_of m sums (length m.heads)) right) id is
 
 -- the same, where nodes have the same runs and summaries tell the same
 pub stretches_same : (m m' : Memory) (sums sums' : List Summary) (n : ℕ) → ((id : ℕ) → runs m' (level_of m' id) id ≡ runs m (level_of m id) id) → ((id : ℕ) → id < n → TellsAs (summary_of sums id) (summary_of sums' id)) → stretches_of m' sums' n ≡ stretches_of m sums n
@@ -109,17 +117,17 @@ module _ (m : Memory) (root : ℕ) (text : List ℕ) (n : ℕ) (kept : IsKept m 
   abbrev cells : List (Cell ℕ)
   cells = cells_of text (tree_runs m root)
 
-  abbrev Here : ℕ → Type 0
-  Here state = Contains (map (λ (c : Cell ℕ). c.state) cells) state
+  abbrev There : ℕ → Type 0
+  There state = Contains (map (λ (c : Cell ℕ). c.state) cells) state
 
-  all_here : AllByRecursion Here (shown_states (tree_runs m root))
+  all_here : AllByRecursion There (shown_states (tree_runs m root))
   all_here =
       let states = map (λ (c : Cell ℕ). c.state) cells in
-      some_shown Here (tree_runs m root) (runs_have Here text (tree_runs m root) kept.kept (each_map Here (λ (c : Cell ℕ). c.state) cells (recursion_from_All Here states (All-contains_itself states))))
+      some_shown There (tree_runs m root) (runs_have There text (tree_runs m root) kept.kept (each_map There (λ (c : Cell ℕ). c.state) cells (recursion_from_All There states (All-contains_itself states))))
 
-  own_to : (k : ℕ) → k ≤ length m.heads → AllByRecursion (λ (x : Stretch). AllByRecursion Here x.states) (stretches_of m sums k)
+  own_to : (k : ℕ) → k ≤ length m.heads → AllByRecursion (λ (x : Stretch). AllByRecursion There x.states) (stretches_of m sums k)
   own_to zero le = tt
-  own_to (suc k) le = (node_all m (level_of m root) root kept.tree.shape k (omega (arith, le)) Here all_here, own_to k (omega (arith, le)))
+  own_to (suc k) le = (node_all m (level_of m root) root kept.tree.shape k (omega (arith, le)) There all_here, own_to k (omega (arith, le)))
 
   pub own_states : HasOwn (shown m root text sums room)
   own_states = own_to (length m.heads) (omega arith)
@@ -134,7 +142,7 @@ own_have P s own all =
     each-all (λ (x : Stretch). AllByRecursion (Contains states) x.states) (λ (x : Stretch). AllByRecursion P x.states)
     (λ x h. each-all (Contains states) P (λ state there. All-contains P states state each there) x.states h) s.stretches own
 
-same_border : (a b : Bool) → a ≡ b → (if a then (if b then 0 else 1) else (if b then 1 else 0)) ≡ 0
+same_border : (a b : Bool) → a ≡ b → ◌≡◌ {A = ℕ} (if a then (if b then 0 else 1) else (if b then 1 else 0)) 0
 same_border true true e = refl
 same_border false false e = refl
 same_border true false e = absurd (true≢false e)
@@ -143,7 +151,10 @@ same_border false true e = absurd (true≢false (sym e))
 no_borders : (test : ℕ → Bool) (xs : List ℕ) → AllByRecursion (λ x. x ≡ 0) xs → borders test xs ≡ 0
 no_borders test [] all = refl
 no_borders test (x ∷ []) all = refl
-no_borders test (x ∷ y ∷ xs) all = ap (λ n. n + borders test (y ∷ xs)) (same_border (test x) (test y) (ap test (all.0 ∙ sym all.1.0))) ∙ no_borders test (y ∷ xs) all.1
+no_borders test (x ∷ y ∷ xs) all =
+    let rest = no_borders test (y ∷ xs) all.1 in
+    let none : 0 + borders test (y ∷ xs) ≡ 0 = omega (arith, rest) in
+    ap (λ n. n + borders test (y ∷ xs)) (same_border (test x) (test y) (ap test (all.0 ∙ sym all.1.0))) ∙ none
 
 -- of characters in one state no tag has borders, whatever the table
 fresh_summary : (old table : TagStates) (states : List ℕ) (s : Summary) → AllByRecursion (λ x. x ≡ 0) states → IsSummary old states s → IsSummary table states s
@@ -153,20 +164,22 @@ fresh_summary old table states s all is =
     (λ more. is.counts.others tag (ltb-false _ _ more)) in
     record { first = is.first; last = is.last; counts = record { given = λ tag h. none tag ∙ sym (no_borders (is_tagged table tag) states all); others = λ tag far. none tag } }
 
-fresh_each : (old table : TagStates) (xs : List Stretch) → AllByRecursion (λ (x : Stretch). AllByRecursion (λ y. y ≡ 0) x.states) xs → AreRight old xs → AreRight table xs
+fresh_each : (old table : TagStates) (xs : List Stretch) → AllByRecursion (λ (x : Stretch). AllByRecursion (λ y. y ≡ 0) x.states) xs → AreEach old xs → AreEach table xs
 fresh_each old table [] all right = tt
 fresh_each old table (x ∷ xs) all right = (fresh_summary old table x.states x.summary all.0 right.0, fresh_each old table xs all.1 right.1)
 
 pub fresh_right : (old table : TagStates) (s : Shown) → HasOwn s → AreRight old s.stretches → s.cells ≡ final_cell ∷ [] → AreRight table s.stretches
-fresh_right old table s own right is = fresh_each old table s.stretches (own_have (λ x. x ≡ 0) s own (subst (AllByRecursion (λ (c : Cell ℕ). c.state ≡ 0)) (sym is) (refl, tt))) right
+fresh_right old table s own right is =
+    All-from_recursion (IsStretch table) s.stretches (fresh_each old table s.stretches (own_have (λ x. x ≡ 0) s own (subst (AllByRecursion (λ (c : Cell ℕ). c.state ≡ 0)) (sym is) (refl, tt))) (recursion_from_All (IsStretch old) s.stretches right))
 
 -- a later table has no other summaries
-later_each : (old new : TagStates) → KeepsIds old new → (xs : List Stretch) → AllByRecursion (λ (x : Stretch). AllByRecursion (IsState old) x.states) xs → AreRight old xs → AreRight new xs
+later_each : (old new : TagStates) → KeepsIds old new → (xs : List Stretch) → AllByRecursion (λ (x : Stretch). AllByRecursion (IsState old) x.states) xs → AreEach old xs → AreEach new xs
 later_each old new keeps [] all right = tt
 later_each old new keeps (x ∷ xs) all right = (record { first = right.0.first; last = right.0.last; counts = retold old new x.states x.summary.counts keeps all.0 right.0.counts }, later_each old new keeps xs all.1 right.1)
 
 pub later_right : (old new : TagStates) (s : Shown) → KeepsIds old new → HasOwn s → AreStates old s.cells → AreRight old s.stretches → AreRight new s.stretches
-later_right old new s keeps own given right = later_each old new keeps s.stretches (own_have (IsState old) s own (recursion_from_All (λ (c : Cell ℕ). IsState old c.state) s.cells given)) right
+later_right old new s keeps own given right =
+    All-from_recursion (IsStretch new) s.stretches (later_each old new keeps s.stretches (own_have (IsState old) s own (recursion_from_All (λ (c : Cell ℕ). IsState old c.state) s.cells given)) (recursion_from_All (IsStretch old) s.stretches right))
 
 pub later_agrees : (old new : TagStates) (s : Shown) → KeepsIds old new → HasOwn s → Agrees old s → Agrees new s
 later_agrees old new s keeps own agrees = record { given = kept_states old new s.cells keeps agrees.given; right = later_right old new s keeps own agrees.given agrees.right }
@@ -194,3 +207,17 @@ kept_told m root text n kept sums tags have table few room now is agrees = recor
 pub told_agrees : (m : Memory) (root : ℕ) (text : List ℕ) (sums : Summaries) (table : TagStates) (room : Room) (now : Shown) → shown m root text sums.each.items room ≡ now → AreTold table m sums (tree_runs m root) → Agrees table now
 told_agrees m root text sums table room now is told =
     subst (Agrees table) is (record { given = states_given table text (tree_runs m root) told.given; right = right_from table m sums.each.items told.each })
+
+pub room_agrees : (table : TagStates) (s : Shown) (room : Room) → Agrees table s → Agrees table (record s { room = room })
+room_agrees table s room agrees = record { given = agrees.given; right = agrees.right }
+
+-- A TREE OF THE FINAL NEWLINE ALONE
+
+first_summed : (table : TagStates) (parent : NodeId) (n : ℕ) (sums : List Summary) → IsSummary table (0 ∷ []) (summary_of sums 0) → AreSummed table (record { heads = record { parent = parent; level = 0 } ∷ []; rows = (Here final_run ∷ []) ∷ []; room = n }) sums
+first_summed table parent n sums is zero lt = is
+first_summed table parent n sums is (suc id) lt = absurd (omega (arith, lt))
+
+pub first_right : (table : TagStates) (m : Memory) (parent : NodeId) (n : ℕ) (sums : List Summary) → m ≡ record { heads = record { parent = parent; level = 0 } ∷ []; rows = (Here final_run ∷ []) ∷ []; room = n } → IsSummary table (0 ∷ []) (summary_of sums 0) → AreRight table (stretches_of m sums (length m.heads))
+first_right table m parent n sums same is =
+    let first : Memory = record { heads = record { parent = parent; level = 0 } ∷ []; rows = (Here final_run ∷ []) ∷ []; room = n } in
+    subst (λ (x : Memory). AreRight table (stretches_of x sums (length x.heads))) (sym same) (right_from table first sums (first_summed table parent n sums is))

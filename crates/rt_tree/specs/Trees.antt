@@ -1,6 +1,6 @@
 -- What a tree shows, and how it is kept.
 use Rattle.std.specs.Prelude.{◌≡◌, ℕ, zero, suc, ◌+◌, ◌*◌, ◌≤◌, false, true, List, [], ◌∷◌, length, map}
-use Rattle.std.specs.List.{AllByRecursion, Contains}
+use Rattle.std.specs.List.{All, AllByRecursion, Contains}
 use Rattle.rt_stamps.specs.declared.limits.TheConstants.{MOST_CELLS}
 use Rattle.rt_stamps.specs.declared.stamp.TheConstants.{FINAL}
 use Rattle.rt_store.specs.declared.cell.Cell.{Cell}
@@ -49,7 +49,7 @@ shown m root text sums room = record {
 
 -- what is kept for nodes is right by a table of states
 abbrev pub AreRight : TagStates → List Stretch → Type 0
-AreRight table stretches = AllByRecursion (λ x. IsSummary table x.states x.summary) stretches
+AreRight table stretches = All (λ x. IsSummary table x.states x.summary) stretches
 
 -- the cells' states were given out by a table, and what is kept for nodes is right by it
 pub record Agrees (table : TagStates) (s : Shown) : Type 0 where

@@ -97,6 +97,7 @@ impl Summaries {
     pub(crate) fn new(heap: Global) -> Summaries
         ensures nodes { result.each.items ≡ [] }
         ensures memory { HaveMemory result }
+        ensures tags { result.tags ≡ 0 }
     {
         Summaries {
             each: Vec::new(heap),

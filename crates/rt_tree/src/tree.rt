@@ -143,7 +143,9 @@ impl Tree {
     /// What is kept for nodes is kept of their cells.
     pub fn own(&self)
         ensures { HasOwn self.now }
-    {}
+    {
+        let _ = &self.mem;
+    }
 
     /// How many levels of nodes there are: 1 where the root is a leaf. A tree of many levels has many runs.
     pub fn height(&self) -> usize

@@ -1,7 +1,8 @@
-use Rattle.std.proofs.Common.{arith, ap, ◌∙◌}
+use Rattle.std.proofs.Common.{arith, length, ap, subst, sym, ◌∙◌}
 use Rattle.rt_store.specs.Cells.{visible_of}
 use Rattle.rt_store.specs.Tagged.{next_place, tag_is}
 use Rattle.rt_tree.specs.Shape.{tree_runs}
+use Rattle.rt_tree.specs.Summaries.{AreSummed}
 use Rattle.rt_tree.specs.Trees.{Shown}
 use Rattle.rt_tree.proofs.Kept.{few_runs}
 use Rattle.rt_tree.proofs.Showing.{kept_given, kept_summed}
@@ -14,10 +15,11 @@ next_place-requires-clause-tree c = c.self.invariant.0.tree
 pub next_place-requires-clause-sums : goal.next_place-requires-clause-sums
 next_place-requires-clause-sums c =
     let s = c.self.inside in
-    kept_summed s.mem s.root.index s.text.items s.sums.each.items c.args.states.now _ c.args.self.now c.self.view_is c.requires.agrees
+    subst (AreSummed c.args.states.now s.mem) (sym c.deref.ensures.value)
+    (kept_summed s.mem s.root.index s.text.items s.sums.each.items c.args.states.now _ c.args.self.now c.self.view_is c.requires.agrees)
 
 pub next_place-requires-clause-many : goal.next_place-requires-clause-many
-next_place-requires-clause-many c = let h = c.self.invariant.1.1.1.1.1.many in omega (arith, h)
+next_place-requires-clause-many c = let h = c.self.invariant.1.1.1.1.1.many in let same = ap length c.deref.ensures.value in omega (arith, h, same)
 
 pub next_place-requires-clause-given : goal.next_place-requires-clause-given
 next_place-requires-clause-given c =

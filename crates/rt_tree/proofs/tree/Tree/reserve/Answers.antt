@@ -1,4 +1,4 @@
-use Rattle.std.proofs.Common.{ℕ, ◌≡◌, ◌+◌, ◌-◌, ◌/◌, ◌^◌, ◌<◌, ◌≤◌, max, List, Option, length, arith, sym, ap, ◌∙◌, subst}
+use Rattle.std.proofs.Common.{ℕ, ◌≡◌, ◌+◌, ◌-◌, ◌/◌, ◌^◌, ◌<◌, ◌≤◌, max, List, Option, Result, Ok, Err, OnErr, length, arith, sym, ap, ◌∙◌, subst}
 use Rattle.std.specs.Option.{SomeIff}
 use Rattle.rt_store.specs.Cells.{Room}
 use Rattle.rt_tree.specs.Homes.{AreHome}
@@ -78,3 +78,28 @@ returns-clause-same c =
     let h = c.self.invariant.1.1.1.1.1.many in
     now_shown s.mem _ s.root.index s.text.items _ s.sums.each.items c.reserve-3.new.self.each.items room c.reserve-4.new.self c.in_ok-reserve-2.ensures.items c.in_ok-reserve-4.ensures.room (omega (arith, h)) c.in_ok-reserve-3.ensures.same
     ∙ ap (λ (v : Shown). record v { room = room }) c.self.view_is
+
+always : {A E : Type 0} (r : Result A E) (P : Type 0) → P → OnErr r P
+always (Ok x) P p = tt
+always (Err e) P p = p
+
+pub returns-in_err-reserve-3-clause-unchanged : goal.returns-in_err-reserve-3-clause-unchanged
+returns-in_err-reserve-3-clause-unchanged c =
+    let s = c.self.inside in
+    let room : Room = record { cells = s.spare_cells; cuts = s.spare_cuts; tags = s.spare_tags } in
+    let h = c.self.invariant.1.1.1.1.1.many in
+    always c.from_residual-in_err-reserve-3.result _
+    (ap (λ (t : List ℕ). shown s.mem s.root.index t c.reserve-3.new.self.each.items room) c.in_ok-reserve-2.ensures.items
+    ∙ sums_shown s.mem s.root.index s.text.items s.sums.each.items c.reserve-3.new.self.each.items room (omega (arith, h)) c.in_err-reserve-3.ensures.same
+    ∙ c.self.view_is)
+
+pub returns-in_err-reserve-4-clause-unchanged : goal.returns-in_err-reserve-4-clause-unchanged
+returns-in_err-reserve-4-clause-unchanged c =
+    let s = c.self.inside in
+    let room : Room = record { cells = s.spare_cells; cuts = s.spare_cuts; tags = s.spare_tags } in
+    let h = c.self.invariant.1.1.1.1.1.many in
+    always c.from_residual-in_err-reserve-4.result _
+    (ap (λ (m : Memory). shown m s.root.index c.reserve-2.new.self.items c.reserve-3.new.self.each.items room) c.in_err-reserve-4.ensures.refused
+    ∙ ap (λ (t : List ℕ). shown s.mem s.root.index t c.reserve-3.new.self.each.items room) c.in_ok-reserve-2.ensures.items
+    ∙ sums_shown s.mem s.root.index s.text.items s.sums.each.items c.reserve-3.new.self.each.items room (omega (arith, h)) c.in_ok-reserve-3.ensures.same
+    ∙ c.self.view_is)
