@@ -113,7 +113,7 @@ each_map P f (x ∷ xs) all = (all.0, each_map P f xs all.1)
 cell_states : List (Cell ℕ) → List ℕ
 cell_states cells = map (λ (c : Cell ℕ). c.state) cells
 
-module _ (m : Memory) (root : ℕ) (text : List ℕ) (n : ℕ) (kept : IsKept m root text n) (sums : List Summary) (room : Room) where
+module _ (m : Memory) (root : ℕ) (text : List ℕ) (tree : IsTree m root) (kept : AllByRecursion (IsRun text) (tree_runs m root)) (sums : List Summary) (room : Room) where
   abbrev cells : List (Cell ℕ)
   cells = cells_of text (tree_runs m root)
 
@@ -123,11 +123,11 @@ module _ (m : Memory) (root : ℕ) (text : List ℕ) (n : ℕ) (kept : IsKept m 
   all_here : AllByRecursion There (shown_states (tree_runs m root))
   all_here =
       let states = map (λ (c : Cell ℕ). c.state) cells in
-      some_shown There (tree_runs m root) (runs_have There text (tree_runs m root) kept.kept (each_map There (λ (c : Cell ℕ). c.state) cells (recursion_from_All There states (All-contains_itself states))))
+      some_shown There (tree_runs m root) (runs_have There text (tree_runs m root) kept (each_map There (λ (c : Cell ℕ). c.state) cells (recursion_from_All There states (All-contains_itself states))))
 
   own_to : (k : ℕ) → k ≤ length m.heads → AllByRecursion (λ (x : Stretch). AllByRecursion There x.states) (stretches_of m sums k)
   own_to zero le = tt
-  own_to (suc k) le = (node_all m (level_of m root) root kept.tree.shape k (omega (arith, le)) There all_here, own_to k (omega (arith, le)))
+  own_to (suc k) le = (node_all m (level_of m root) root tree.shape k (omega (arith, le)) There all_here, own_to k (omega (arith, le)))
 
   pub own_states : HasOwn (shown m root text sums room)
   own_states = own_to (length m.heads) (omega arith)
@@ -208,8 +208,16 @@ pub told_agrees : (m : Memory) (root : ℕ) (text : List ℕ) (sums : Summaries)
 told_agrees m root text sums table room now is told =
     subst (Agrees table) is (record { given = states_given table text (tree_runs m root) told.given; right = right_from table m sums.each.items told.each })
 
-pub room_agrees : (table : TagStates) (s : Shown) (room : Room) → Agrees table s → Agrees table (record s { room = room })
-room_agrees table s room agrees = record { given = agrees.given; right = agrees.right }
+-- trees that differ in their room alone
+pub record SameTree (s t : Shown) : Type 0 where
+  pub cells : t.cells ≡ s.cells
+  pub stretches : t.stretches ≡ s.stretches
+
+pub same_tree : (table : TagStates) (s t : Shown) → SameTree s t → Agrees table s → Agrees table t
+same_tree table s t same agrees = record { given = subst (AreStates table) (sym same.cells) agrees.given; right = subst (AreRight table) (sym same.stretches) agrees.right }
+
+pub same_back : (table : TagStates) (s t : Shown) → SameTree s t → Agrees table t → Agrees table s
+same_back table s t same agrees = record { given = subst (AreStates table) same.cells agrees.given; right = subst (AreRight table) same.stretches agrees.right }
 
 -- A TREE OF THE FINAL NEWLINE ALONE
 

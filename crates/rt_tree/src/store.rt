@@ -36,7 +36,6 @@ impl TreeStore {
         ensures err { IfErr result (λ fault. fault ≡ Fault.NoMemory) }
     {
         let tree = Tree::new(alloc)?;
-        tree.own();
         Ok(TreeStore { tree })
     }
 }
@@ -59,9 +58,7 @@ impl TextStore for TreeStore {
     ghost fresh = { λ s table is given. s.fresh table is given };
 
     fn reserve(&mut self, cells: usize, cuts: usize, tags: usize) -> Result<(), Fault> {
-        let result = self.tree.reserve(cells, cuts, tags);
-        self.tree.own();
-        result
+        self.tree.reserve(cells, cuts, tags)
     }
 
     fn cells(&self) -> usize {
@@ -126,16 +123,13 @@ impl TextStore for TreeStore {
 
     fn splice(&mut self, states: &StateTable, at: usize, cells: &[Cell<StateId>]) {
         self.tree.splice(states, at, cells);
-        self.tree.own();
     }
 
     fn set_gone(&mut self, states: &StateTable, span: Span) {
         self.tree.set_gone(states, span);
-        self.tree.own();
     }
 
     fn set_state(&mut self, states: &StateTable, span: Span, state: StateId) {
         self.tree.set_state(states, span, state);
-        self.tree.own();
     }
 }

@@ -113,6 +113,7 @@ impl Tree {
         ensures height { IfOk result (λ tree. tree.height ≡ 1) }
         ensures room { IfOk result (λ tree. tree.room ≡ record { cells = 0; cuts = 0; tags = 0 }) }
         ensures right { IfOk result (λ tree. (table : TagStates) → AreRight table tree.stretches) }
+        ensures own { IfOk result HasOwn }
         ensures err { IfErr result (λ fault. fault ≡ Fault.NoMemory) }
     {
         let mut text = Vec::with_capacity(alloc, 1)?;
@@ -138,13 +139,6 @@ impl Tree {
             spare_tags: 0,
             sums,
         })
-    }
-
-    /// What is kept for nodes is kept of their cells.
-    pub fn own(&self)
-        ensures { HasOwn self.now }
-    {
-        let _ = &self.mem;
     }
 
     /// How many levels of nodes there are: 1 where the root is a leaf. A tree of many levels has many runs.

@@ -6,7 +6,7 @@ ghost use Rattle.rt_tags.specs.States.{IsState};
 ghost use Rattle.rt_tree.specs.Additions.{stretches};
 ghost use Rattle.rt_tree.specs.Sharing.{cell_in};
 ghost use Rattle.rt_tree.specs.Stretches.{IsGiven};
-ghost use Rattle.rt_tree.specs.Trees.{Agrees};
+ghost use Rattle.rt_tree.specs.Trees.{Agrees, HasOwn};
 
 use super::Tree;
 use crate::homes::spans_for;
@@ -60,6 +60,7 @@ impl Tree {
         ensures runs { self.new.runs ≤ self.old.runs + 2 }
         ensures room { Spends self.old.room self.new.room 0 2 }
         ensures agrees { Agrees states.now self.new }
+        ensures own { HasOwn self.new }
     {
         let keep = self.spare_cells;
         let change = mark_span(
@@ -85,6 +86,7 @@ impl Tree {
         ensures runs { self.new.runs ≤ self.old.runs + 2 }
         ensures room { Spends self.old.room self.new.room 0 2 }
         ensures agrees { Agrees states.now self.new }
+        ensures own { HasOwn self.new }
     {
         self.apply(states, span, Mark::Gone);
     }
@@ -99,6 +101,7 @@ impl Tree {
         ensures runs { self.new.runs ≤ self.old.runs + 2 }
         ensures room { Spends self.old.room self.new.room 0 2 }
         ensures agrees { Agrees states.now self.new }
+        ensures own { HasOwn self.new }
     {
         self.apply(states, span, Mark::State(state));
     }
@@ -116,6 +119,7 @@ impl Tree {
         ensures runs { AreDistinct self.new.cells → self.new.runs ≤ self.old.runs + stretches cells.now + 1 }
         ensures room { Spends self.old.room self.new.room (length cells.now) 1 }
         ensures agrees { Agrees states.now self.new }
+        ensures own { HasOwn self.new }
     {
         push_characters(&mut self.text, cells);
         let keep = self.spare_cells - cells.len();

@@ -6,7 +6,7 @@ use Rattle.rt_tree.specs.Trees.{Shown}
 use Rattle.rt_tree.proofs.Cutting.{runs_few}
 use Rattle.rt_tree.proofs.Marking.{span_count}
 use Rattle.rt_tree.proofs.Newest.{upto_marked}
-use Rattle.rt_tree.proofs.Showing.{kept_told, right_from, states_given}
+use Rattle.rt_tree.proofs.Showing.{kept_told, own_states, right_from, states_given}
 use Rattle.rt_tree.proofs.tree.Tree.apply.Goals as goal
 
 pub overflow_add-self : goal.overflow_add-self
@@ -49,3 +49,8 @@ pub returns-clause-agrees : goal.returns-clause-agrees
 returns-clause-agrees c =
     let e = c.mark_span-change.ensures in let table = c.args.states.now in let m = c.mark_span-change.new.mem in
     record { given = states_given table c.self.inside.text.items (tree_runs m c.mark_span-change.result.root.index) e.told.given; right = right_from table m c.mark_span-change.new.sums.each.items e.told.each }
+
+pub returns-clause-own : goal.returns-clause-own
+returns-clause-own c =
+    let s = c.self.inside in let e = c.mark_span-change.ensures in
+    own_states c.mark_span-change.new.mem c.mark_span-change.result.root.index s.text.items e.tree (e.cells s.text.items c.self.invariant.0.kept).kept c.mark_span-change.new.sums.each.items c.args.self.now.room

@@ -2,6 +2,7 @@ use Rattle.std.proofs.Common.{◌≡◌, ℕ, [], ◌∷◌, insert, length, max
 use Rattle.rt_nodes.specs.Nodes.{entries, no_nodes, with_entries, with_node, with_room}
 use Rattle.rt_tree.specs.declared.node.Entry.{Entry}
 use Rattle.rt_tree.specs.declared.node.Entry.TheVariants.{Here}
+use Rattle.rt_tree.specs.declared.node.Head.{Head}
 use Rattle.rt_tree.specs.declared.node.Run.{Run}
 use Rattle.rt_tree.specs.Shape.{Memory}
 use Rattle.rt_tree.specs.Trees.{final_run}
@@ -11,7 +12,7 @@ use Rattle.rt_tree.proofs.tree.Tree.new.Goals as goal
 pub returns-clause-right : goal.returns-clause-right
 returns-clause-right c table =
     let k = max c.new-mem.result.room 1 in
-    let head = record { parent = record { index = 0 }; level = 0 } in
+    let head : Head = record { parent = record { index = 0 }; level = 0 } in
     let had : c.reserve.new.self ≡ with_room no_nodes k = c.in_ok-reserve.ensures.room ∙ ap (λ (x : Memory). with_room x k) c.new-mem.ensures in
     let made : c.make-root.new.self ≡ with_node (with_room no_nodes k) head = c.make-root.ensures.node ∙ ap (λ (x : Memory). with_node x head) had in
     let root : c.make-root.result.index ≡ 0 = c.make-root.ensures.id.0 ∙ ap (λ (x : Memory). length x.heads) had in

@@ -11,7 +11,7 @@ use Rattle.rt_tree.proofs.Kept.{shows}
 use Rattle.rt_tree.proofs.Newest.{upto_more, upto_put}
 use Rattle.rt_tree.proofs.Shared.{distinct_once}
 use Rattle.rt_tree.proofs.Splicing.{longer_cells, longer_count, longer_ends, longer_kept, longer_shown, longer_text}
-use Rattle.rt_tree.proofs.Showing.{kept_told, right_from, states_given}
+use Rattle.rt_tree.proofs.Showing.{kept_told, own_states, right_from, states_given}
 use Rattle.rt_tree.proofs.tree.Tree.splice.Goals as goal
 
 pub put_cells-change-requires-clause-kept : goal.put_cells-change-requires-clause-kept
@@ -108,3 +108,10 @@ pub returns-clause-agrees : goal.returns-clause-agrees
 returns-clause-agrees c =
     let e = c.put_cells-change.ensures in let table = c.args.states.now in let m = c.put_cells-change.new.mem in
     record { given = states_given table c.push_characters.new.text.items (tree_runs m c.put_cells-change.result.root.index) e.told.given; right = right_from table m c.put_cells-change.new.sums.each.items e.told.each }
+
+pub returns-clause-own : goal.returns-clause-own
+returns-clause-own c =
+    let e = c.put_cells-change.ensures in
+    let old = tree_runs c.self.inside.mem c.self.inside.root.index in let new = tree_runs c.put_cells-change.new.mem c.put_cells-change.result.root.index in
+    let is = subst (λ (t : List ℕ). AreChanged old new t (put_at c.args.at c.args.cells.now)) c.deref.ensures.value e.cells in
+    own_states c.put_cells-change.new.mem c.put_cells-change.result.root.index c.push_characters.new.text.items e.tree is.kept c.put_cells-change.new.sums.each.items c.args.self.now.room
