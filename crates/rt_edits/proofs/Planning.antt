@@ -21,12 +21,6 @@ use Rattle.rt_edits.specs.Insertions.{cells_of_inserts, counts_for, further_tags
 
 -- A TABLE THAT KEEPS ITS IDS
 
-pub keeps_further : (t u v : TagStates) → KeepsIds t u → KeepsIds u v → KeepsIds t v
-keeps_further t u v h k = record {
-  tags = λ tag p. let q = h.tags tag p in let r = k.tags tag q.0 in (r.0, r.1 ∙ q.1);
-  states = λ state p. let q = h.states state p in let r = k.states state q.0 in (r.0, r.1 ∙ q.1);
-}
-
 -- old tags have the names that they had
 pub names_kept : (old new : TagStates) (tags : List ℕ) → KeepsIds old new → All (IsTag old) tags → map (name_at new) tags ≡ map (name_at old) tags
 names_kept old new [] keeps h = refl

@@ -115,7 +115,7 @@ pub(crate) fn fill<C: TextStore>(
         unreachable!()
     };
     let state = last.state;
-    copy.reserve(front.len(), 3)?;
+    copy.reserve(front.len(), 3, kept.tags())?;
     let newline = Span {
         site: FINAL.site,
         first: FINAL.count,

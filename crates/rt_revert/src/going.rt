@@ -33,7 +33,7 @@ fn make_gone<S: TextStore>(
     ensures err { IfErr result (λ fault. fault ≡ Fault.NoMemory) }
 {
     for part in removed {
-        copy.reserve(0, 2)?;
+        copy.reserve(0, 2, kept.tags())?;
         copy.set_gone(kept, part.span);
     }
     Ok(())

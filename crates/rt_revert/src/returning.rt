@@ -65,7 +65,7 @@ fn put_in<S: TextStore>(
     }
     let stamp = cell.stamp;
     let at = copy.after_skip(left, stamp);
-    copy.reserve(1, 1)?;
+    copy.reserve(1, 1, kept.tags())?;
     let new = [cell];
     copy.splice(kept, at, &new);
     Ok(copy.place_of(stamp).unwrap_or(0))

@@ -17,7 +17,6 @@ pub mod Histories
 pub mod Joining
 pub mod Later
 pub mod Limits
-pub mod Listing
 pub mod Making
 pub mod Merging
 pub mod Orders

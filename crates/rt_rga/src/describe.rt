@@ -77,7 +77,7 @@ fn removed<S: TextStore>(alloc: Global, store: &S, op: &Op) -> Result<Vec<PlaceR
 }
 
 /// The numbers of names. Want of memory.
-#[tactic(auto, using(crate::proofs::Listing::keeps_both))]
+#[tactic(auto, using(rt_tags::proofs::Listing::keeps_both))]
 fn numbers(alloc: Global, states: &mut StateTable, names: &[String]) -> Result<Vec<TagId>, Fault>
     ensures names { IfOk result (λ tags. map (name_at states.new) tags.items ≡ map (λ name. string_bytes name) names.now) }
     ensures given { IfOk result (λ tags. All (IsTag states.new) tags.items) }

@@ -53,7 +53,7 @@ pub(crate) fn new_cells(
 pub(crate) fn set_all_gone<S: TextStore>(store: &mut S, states: &StateTable, spans: &[Span])
     requires states { S.agrees store.old states.now }
     requires stays { is_in_spans spans.now FINAL ≡ false }
-    requires room { HasRoom (S.room store.old) 0 (2 * length spans.now) }
+    requires room { HasRoom (S.room store.old) 0 (2 * length spans.now) (length states.now.names) }
     ensures list { S.list store.new ≡ map (gone_in_any spans.now) (S.list store.old) }
     ensures room { Spends (S.room store.old) (S.room store.new) 0 (2 * length spans.now) }
     ensures states { S.agrees store.new states.now }
@@ -88,7 +88,7 @@ pub(crate) fn insert_cells<S: TextStore>(
 {
     let state = states.state_of_list(ROOT, tags)?;
     let cells = new_cells(alloc, stamp, state, text)?;
-    store.reserve(cells.len(), 1)?;
+    store.reserve(cells.len(), 1, states.tags())?;
     let at = store.after_skip(after, stamp);
     store.splice(states, at, &cells);
     Ok(state)
@@ -127,7 +127,7 @@ pub(crate) fn change<S: TextStore>(
             )?;
         }
         Edit::Delete { spans } => {
-            store.reserve(0, 2 * spans.len())?;
+            store.reserve(0, 2 * spans.len(), states.tags())?;
             set_all_gone(store, states, spans);
         }
         Edit::Tag { on, name, spans } => {

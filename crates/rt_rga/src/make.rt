@@ -137,7 +137,7 @@ pub(crate) fn copied(alloc: Global, ops: &[Op]) -> Result<Vec<Op>, Fault>
 }
 
 /// The cells of the characters that operations insert. Want of memory.
-#[tactic(auto, using(crate::proofs::Listing::keeps_both))]
+#[tactic(auto, using(rt_tags::proofs::Listing::keeps_both))]
 pub(crate) fn fresh(
     alloc: Global,
     states: &mut StateTable,
@@ -194,7 +194,7 @@ fn put<'a, S: TextStore>(
     requires put { CanBePut (stamp_of op.now) op.now.body new.now (S.list store.old) }
     requires states { S.agrees store.old states.now }
     requires given { AreStates states.now new.now }
-    requires room { HasRoom (S.room store.old) (characters_in op.now.body) (cuts_by op.now.body) }
+    requires room { HasRoom (S.room store.old) (characters_in op.now.body) (cuts_by op.now.body) (length states.now.names) }
     ensures list { S.list store.new ≡ put_by_kept (stamp_of op.now) op.now.body new.now (S.list store.old) }
     ensures left { result.now ≡ drop (characters_in op.now.body) new.now }
     ensures room { Spends (S.room store.old) (S.room store.new) (characters_in op.now.body) (cuts_by op.now.body) }
@@ -233,9 +233,10 @@ pub(crate) fn put_all<S: TextStore>(
     requires put { CanAllBePut ops.now new.now (S.list store.old) }
     requires states { S.agrees store.old states.now }
     requires given { AreStates states.now new.now }
-    requires room { HasRoom (S.room store.old) (length new.now) (cuts_of ops.now) }
+    requires room { HasRoom (S.room store.old) (length new.now) (cuts_of ops.now) (length states.now.names) }
     ensures list { S.list store.new ≡ kept_after ops.now new.now (S.list store.old) }
     ensures room { (S.room store.old).cuts ≤ (S.room store.new).cuts + cuts_of ops.now }
+    ensures tags { (S.room store.old).tags ≤ (S.room store.new).tags }
     ensures states { S.agrees store.new states.now }
 {
     let mut left = new;
@@ -277,22 +278,23 @@ fn cuts_in(edit: &Edit) -> Option<usize>
     }
 }
 
-/// Makes room in a store for operations with so many new cells and so many runs of states. Want of
+/// Makes room in a store for operations with so many new cells and so many runs of states of a table. Want of
 /// memory.
 fn make_room<S: TextStore>(
     store: &mut S,
+    states: &StateTable,
     cells: usize,
     ops: &[Op],
     runs: usize,
 ) -> Result<(), Fault>
     requires { length (S.list store.old) + cells ≤ MOST_CELLS }
-    ensures room { OnOk result (HasRoom (S.room store.new) cells (cuts_of ops.now + 2 * runs)) }
+    ensures room { OnOk result (HasRoom (S.room store.new) cells (cuts_of ops.now + 2 * runs) (length states.now.names)) }
     ensures same { S.list store.new ≡ S.list store.old }
     ensures agrees { (table : TagStates) → S.agrees store.old table → S.agrees store.new table }
     ensures fault { IfErr result (λ fault. fault ≡ Fault.NoMemory) }
 {
     match cuts(ops, runs) {
-        Some(cuts) => store.reserve(cells, cuts),
+        Some(cuts) => store.reserve(cells, cuts, states.tags()),
         None => Err(Fault::NoMemory),
     }
 }
@@ -340,7 +342,7 @@ pub(crate) fn prepared(
 
 /// Changes what is kept of a log as operations do that are newer than it, each of which continues it
 /// with those before. Want of memory, and then the cells stay.
-#[tactic(auto, using(crate::proofs::Listing::keeps_both))]
+#[tactic(auto, using(rt_tags::proofs::Listing::keeps_both))]
 pub(crate) fn change_all<S: TextStore>(
     alloc: Global,
     store: &mut S,
@@ -362,7 +364,7 @@ pub(crate) fn change_all<S: TextStore>(
 {
     let new = fresh(alloc, states, ops)?;
     let runs = planned_states(alloc, store, states, &new, ops)?;
-    make_room(store, new.len(), ops, runs.len())?;
+    make_room(store, states, new.len(), ops, runs.len())?;
     put_all(store, states, &new, ops);
     put_states(store, states, &runs);
     Ok(())

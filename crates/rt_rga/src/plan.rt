@@ -83,7 +83,7 @@ fn push_named(states: &mut StateTable, op: &Op, named: &mut Vec<Named>) -> Resul
 }
 
 /// What operations write by Tags, the oldest first. Want of memory.
-#[tactic(auto, using(crate::proofs::Listing::keeps_both))]
+#[tactic(auto, using(rt_tags::proofs::Listing::keeps_both))]
 fn named_writes(alloc: Global, states: &mut StateTable, ops: &[Op]) -> Result<Vec<Named>, Fault>
     ensures writes { IfOk result (λ named. (state : List Write) (stamp : StampOf) → state_after state (writes_at states.new (entries_on named.items stamp))
         ≡ state_after state (tag_writes ops.now stamp)) }
@@ -188,7 +188,7 @@ fn written_cell<S: TextStore>(
 
 /// Copies of the cells that writes are on, in their states after these: of new cells, and of those of
 /// a store. Want of memory.
-#[tactic(auto, using(crate::proofs::Listing::keeps_both))]
+#[tactic(auto, using(rt_tags::proofs::Listing::keeps_both))]
 fn written_cells<S: TextStore>(
     alloc: Global,
     store: &S,
@@ -215,7 +215,7 @@ fn written_cells<S: TextStore>(
 
 /// The states that cells come into by the Tags among operations, as runs: cells of a store, and new
 /// ones by rising counts. Each cell comes into one new state, and none on the way is kept. Want of memory.
-#[tactic(auto, using(crate::proofs::Listing::keeps_both))]
+#[tactic(auto, using(rt_tags::proofs::Listing::keeps_both))]
 pub(crate) fn planned_states<S: TextStore>(
     alloc: Global,
     store: &S,

@@ -68,7 +68,7 @@ pub(crate) fn named_cells<S: TextStore>(
 }
 
 /// Cells with one more write of a tag. Want of memory.
-#[tactic(auto, using(crate::proofs::Listing::keeps_both))]
+#[tactic(auto, using(rt_tags::proofs::Listing::keeps_both))]
 fn written_cells(
     alloc: Global,
     states: &mut StateTable,
@@ -146,7 +146,7 @@ pub(crate) fn state_runs(alloc: Global, cells: &[Cell<StateId>]) -> Result<Vec<S
 pub(crate) fn put_states<S: TextStore>(store: &mut S, states: &StateTable, runs: &[StateRun])
     requires states { S.agrees store.old states.now }
     requires runs { All (λ run. IsState states.now run.state) runs.now }
-    requires room { HasRoom (S.room store.old) 0 (2 * length runs.now) }
+    requires room { HasRoom (S.room store.old) 0 (2 * length runs.now) (length states.now.names) }
     ensures list { S.list store.new ≡ map (put_back_in_any runs.now) (S.list store.old) }
     ensures states { S.agrees store.new states.now }
 {
@@ -157,7 +157,7 @@ pub(crate) fn put_states<S: TextStore>(store: &mut S, states: &StateTable, runs:
 }
 
 /// Writes a tag on the cells of spans, and tells its number. Want of memory, and then the cells stay.
-#[tactic(auto, using(crate::proofs::Listing::keeps_both))]
+#[tactic(auto, using(rt_tags::proofs::Listing::keeps_both))]
 pub(crate) fn tag_cells<S: TextStore>(
     alloc: Global,
     store: &mut S,
@@ -184,7 +184,7 @@ pub(crate) fn tag_cells<S: TextStore>(
     let tag = states.number(name)?;
     let cells = written_cells(alloc, states, &named, tag, writer, on)?;
     let runs = state_runs(alloc, &cells)?;
-    store.reserve(0, 2 * runs.len())?;
+    store.reserve(0, 2 * runs.len(), states.tags())?;
     put_states(store, states, &runs);
     Ok(tag)
 }

@@ -97,15 +97,16 @@ state_in span state cell = if is_in_span span cell.stamp then with_state state c
 
 -- ROOM
 
--- how many new cells and how many cuts of runs there is room for
+-- how many new cells and how many cuts of runs there is room for, and for how many tags of a table of states
 pub record Room : Type 0 where
   pub cells : ℕ
   pub cuts : ℕ
+  pub tags : ℕ
 
 -- there is room for so many
-abbrev pub HasRoom : Room → ℕ → ℕ → Type 0
-HasRoom room cells cuts = (cells ≤ room.cells) × (cuts ≤ room.cuts)
+abbrev pub HasRoom : Room → ℕ → ℕ → ℕ → Type 0
+HasRoom room cells cuts tags = (cells ≤ room.cells) × (cuts ≤ room.cuts) × (tags ≤ room.tags)
 
--- at most so much room was spent
+-- at most so much room was spent, and none of that for tags
 abbrev pub Spends : Room → Room → ℕ → ℕ → Type 0
-Spends old new cells cuts = (old.cells ≤ new.cells + cells) × (old.cuts ≤ new.cuts + cuts)
+Spends old new cells cuts = (old.cells ≤ new.cells + cells) × (old.cuts ≤ new.cuts + cuts) × (old.tags ≤ new.tags)

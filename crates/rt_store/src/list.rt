@@ -302,8 +302,8 @@ impl TextStore for ListStore {
 
     ghost list = { λ s. s.cells.items };
 
-    // A plain vector has no runs to cut.
-    ghost room = { λ s. record { cells = vec_capacity s.cells - vec_len s.cells; cuts = 2 ^ 64 } };
+    // A plain vector has no runs to cut, and keeps no counts of tags.
+    ghost room = { λ s. record { cells = vec_capacity s.cells - vec_len s.cells; cuts = 2 ^ 64; tags = 2 ^ 64 } };
 
     ghost agrees = { λ s table. AreStates table s.cells.items };
 
@@ -315,7 +315,7 @@ impl TextStore for ListStore {
 
     ghost fresh = { λ s table is given. rw is given };
 
-    fn reserve(&mut self, cells: usize, _cuts: usize) -> Result<(), Fault> {
+    fn reserve(&mut self, cells: usize, _cuts: usize, _tags: usize) -> Result<(), Fault> {
         Ok(self.cells.reserve(cells)?)
     }
 

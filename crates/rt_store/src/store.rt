@@ -14,7 +14,8 @@ use rt_tags::{StateId, StateTable, TagId};
 
 /// Keeps the cells of a text, seen as a list that ends with the final newline. Positions count all
 /// cells from 0, places the visible ones. The states of cells are those of the table that is lent: a store may keep
-/// counts of tags by it, so it is always the same table, which may have given further ids since.
+/// counts of tags by it, so it is always the same table, which may have given further ids since. A change asks for
+/// room for all tags that the table has given out by then.
 pub trait TextStore: Drop {
     /// The cells, gone ones too.
     ghost list: { Self → List (Cell ℕ) };
@@ -25,12 +26,13 @@ pub trait TextStore: Drop {
     /// What the store keeps of its cells' tags is right by a table of states.
     ghost agrees: { Self → TagStates → Type 0 };
 
-    /// Makes room for new cells and for cuts of runs, and keeps what was there. `NoMemory` changes nothing.
-    fn reserve(&mut self, cells: usize, cuts: usize) -> Result<(), Fault>
+    /// Makes room for new cells, for cuts of runs, and for a table that has given out so many tags; keeps what was
+    /// there. `NoMemory` changes nothing.
+    fn reserve(&mut self, cells: usize, cuts: usize, tags: usize) -> Result<(), Fault>
         requires { length (list self.old) + cells ≤ MOST_CELLS }
         ensures same { list self.new ≡ list self.old }
-        ensures ok { OnOk result (HasRoom (room self.new) cells cuts) }
-        ensures kept { HasRoom (room self.new) (room self.old).cells (room self.old).cuts }
+        ensures ok { OnOk result (HasRoom (room self.new) cells cuts tags) }
+        ensures kept { HasRoom (room self.new) (room self.old).cells (room self.old).cuts (room self.old).tags }
         ensures agrees { (table : TagStates) → agrees self.old table → agrees self.new table }
         ensures unchanged { OnErr result (room self.new ≡ room self.old) }
         ensures err { IfErr result (λ fault. fault ≡ Fault.NoMemory) };
@@ -119,7 +121,7 @@ pub trait TextStore: Drop {
         requires within { at < length (list self.old) }
         requires states { agrees self.old states.now }
         requires new { AreStates states.now cells.now }
-        requires room { HasRoom (room self.old) (length cells.now) 1 }
+        requires room { HasRoom (room self.old) (length cells.now) 1 (length states.now.names) }
         ensures list { list self.new ≡ take at (list self.old) ++ cells.now ++ drop at (list self.old) }
         ensures room { Spends (room self.old) (room self.new) (length cells.now) 1 }
         ensures states { agrees self.new states.now };
@@ -128,7 +130,7 @@ pub trait TextStore: Drop {
     fn set_gone(&mut self, states: &StateTable, span: Span)
         requires stays { is_in_span span FINAL ≡ false }
         requires states { agrees self.old states.now }
-        requires room { HasRoom (room self.old) 0 2 }
+        requires room { HasRoom (room self.old) 0 2 (length states.now.names) }
         ensures list { list self.new ≡ map (gone_in span) (list self.old) }
         ensures room { Spends (room self.old) (room self.new) 0 2 }
         ensures states { agrees self.new states.now };
@@ -138,7 +140,7 @@ pub trait TextStore: Drop {
     fn set_state(&mut self, states: &StateTable, span: Span, state: StateId)
         requires state { IsState states.now state }
         requires states { agrees self.old states.now }
-        requires room { HasRoom (room self.old) 0 2 }
+        requires room { HasRoom (room self.old) 0 2 (length states.now.names) }
         ensures list { list self.new ≡ map (state_in span state) (list self.old) }
         ensures room { Spends (room self.old) (room self.new) 0 2 }
         ensures states { agrees self.new states.now };

@@ -207,7 +207,7 @@ none_left (c ∷ cs) h none = let own : c.count ≡ count_in c.tag (c ∷ cs) = 
 -- ONE BY ONE
 
 -- whether a tag has no count
-abbrev lacks : List TagCount → TagCount → ℕ
+abbrev pub lacks : List TagCount → TagCount → ℕ
 lacks cs c = cond (count_in c.tag cs == 0) 1 0
 
 -- the count that is added next

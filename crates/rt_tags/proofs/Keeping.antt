@@ -1,12 +1,12 @@
 -- Names and states as a table keeps them, and what is seen of it.
-use Rattle.std.proofs.Common.{◌≡◌, inl, inr, ℕ, zero, suc, ◌<◌, List, [], ◌∷◌, ◌++◌, map, filter, length, get_or, slice_get, true, false, cond, refl, sym, ap, subst, ◌∙◌, arith, Option, Some, None, option_map, append-nil}
+use Rattle.std.proofs.Common.{◌≡◌, inl, inr, ℕ, zero, suc, ◌<◌, List, [], ◌∷◌, ◌++◌, map, filter, length, get_or, slice_get, true, false, cond, refl, sym, ap, subst, ◌∙◌, arith, Option, Some, None, option_map}
 use Rattle.std.specs.List.{All, AllByRecursion}
 use Rattle.std.specs.declared.cmp.Ordering.TheVariants.{Less, Greater}
 use Rattle.std.proofs.lemmas.List.{length-append}
 use Rattle.std.proofs.lemmas.List.Elements.{All-append, All-cons, All-filter, All-from_recursion, All-nil, All-weaker}
 use Rattle.std.proofs.lemmas.Option.{slice_get-get_or, slice_get-map, get_or_from_slice_get}
 use Rattle.rt_tags.specs.Tags.{HaveNoRepeats, is_listed}
-use Rattle.rt_tags.specs.States.{Write, TagStates, AreDistinct, Interns, IsByName, IsNew, IsState, IsTag, KeepsIds, above, below, is_kept, is_on, is_settled, name_at, names_on, numbered, says_on, state_at, write_of, written}
+use Rattle.rt_tags.specs.States.{Write, TagStates, AreDistinct, AreNumbered, Interns, IsByName, IsNew, IsState, IsTag, KeepsIds, above, below, is_kept, is_on, is_settled, name_at, names_on, numbered, says_on, state_at, write_of, written}
 use Rattle.rt_tags.specs.Kept.{AreKept, HaveNames, IsKept, IsNext, IsSorted, IsTable, is_on_side, all_seen, entry_of, is_entry_kept, seen, state_seen, states_seen, tags_on}
 use Rattle.rt_tags.specs.declared.states.Entry.{Entry}
 use Rattle.rt_tags.specs.declared.states.State.{State}
@@ -90,26 +90,39 @@ stays_at d [] more i h = absurd (omega (arith, h))
 stays_at d (x ∷ xs) more zero h = refl
 stays_at d (x ∷ xs) more (suc i) h = stays_at d xs more i (omega (arith, h))
 
-keeps_longer : (t : TagStates) (names : List (List ℕ)) (states : List (List Write)) → KeepsIds t (record { names = t.names ++ names; states = t.states ++ states })
-keeps_longer t names states = record {
-  tags = λ i h. (omega (arith, h, length-append t.names names), stays_at [] t.names names i h);
-  states = λ i h. (omega (arith, h, length-append t.states states), stays_at [] t.states states i h);
+-- a state more
+keeps_longer : (t : TagStates) (s : List Write) → KeepsIds t (record { names = t.names; states = t.states ++ s ∷ [] })
+keeps_longer t s = record {
+  tags = λ i h. (h, refl);
+  states = λ i h. (omega (arith, h, length-append t.states (s ∷ [])), stays_at [] t.states (s ∷ []) i h);
+  later = λ tag state more given there. absurd (omega (arith, more, given));
 }
 
 pub keeps_itself : (t : TagStates) → KeepsIds t t
-keeps_itself t = record { tags = λ i h. (h, refl); states = λ i h. (h, refl) }
+keeps_itself t = record { tags = λ i h. (h, refl); states = λ i h. (h, refl); later = λ tag state more given there. absurd (omega (arith, more, given)) }
 
-pub keeps_numbered : (name : List ℕ) (t : TagStates) → KeepsIds t (numbered name t)
-keeps_numbered name t =
+-- a name more, that is on in no state
+keeps_named : (name : List ℕ) (t : TagStates) → ((state : ℕ) → is_on name (state_at t state) ≡ false) → KeepsIds t (record t { names = t.names ++ name ∷ [] })
+keeps_named name t off = record {
+  tags = λ i h. (omega (arith, h, length-append t.names (name ∷ [])), stays_at [] t.names (name ∷ []) i h);
+  states = λ i h. (h, refl);
+  later = λ tag state more given there.
+      let last : tag ≡ length t.names = omega (arith, more, given, length-append t.names (name ∷ [])) in
+      let is : name_at (record t { names = t.names ++ name ∷ [] }) tag ≡ name = ap (name_at (record t { names = t.names ++ name ∷ [] })) last ∙ get_or_from_slice_get (t.names ++ name ∷ []) (length t.names) name [] (last_name t.names name) in
+      ap (λ n. is_on n (state_at t state)) is ∙ off state;
+}
+
+pub keeps_numbered : (name : List ℕ) (t : TagStates) → AreNumbered t → KeepsIds t (numbered name t)
+keeps_numbered name t numbered_all =
     split (is_listed name t.names)
     (λ h. subst (λ b. KeepsIds t (record t { names = cond b t.names (t.names ++ name ∷ []) })) (sym h) (keeps_itself t))
     (λ h. subst (λ b. KeepsIds t (record t { names = cond b t.names (t.names ++ name ∷ []) })) (sym h)
-    (subst (λ v. KeepsIds t (record { names = t.names ++ name ∷ []; states = v })) (append-nil t.states) (keeps_longer t (name ∷ []) [])))
+    (keeps_named name t (λ state. numbered_all name state h)))
 
 pub keeps_interned : (s : List Write) (t u : TagStates) (id : ℕ) → u.names ≡ t.names → Interns s t.states id u.states → KeepsIds t u
 keeps_interned s t u id n (at, inl e) = subst (KeepsIds t) (λ j. record { names = sym n j; states = sym e j }) (keeps_itself t)
 keeps_interned s t u id n (at, inr e) =
-    subst (KeepsIds t) (λ j. record { names = (append-nil t.names ∙ sym n) j; states = sym e.0 j }) (keeps_longer t [] (s ∷ []))
+    subst (KeepsIds t) (λ j. record { names = sym n j; states = sym e.0 j }) (keeps_longer t s)
 
 -- WHAT IS SEEN OF A STATE
 

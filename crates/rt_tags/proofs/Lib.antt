@@ -1,3 +1,4 @@
+pub mod Beyond
 pub mod Bordering
 pub mod Commuting
 pub mod CountLaws
@@ -15,4 +16,6 @@ pub mod Places
 pub mod Retelling
 pub mod Sets
 pub mod Sorted
+pub mod Spreading
 pub mod Tables
+pub mod Together

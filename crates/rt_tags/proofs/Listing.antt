@@ -1,16 +1,24 @@
 -- Names that get numbers, one after the other, and writes that put them on.
-use Rattle.std.proofs.Common.{◌≡◌, ℕ, ◌<◌, List, [], ◌∷◌, ◌++◌, All, map, refl, ap, ◌∙◌, true}
+use Rattle.std.proofs.Common.{◌≡◌, ℕ, ◌<◌, nat_lt, List, [], ◌∷◌, ◌++◌, All, length, map, refl, ap, ◌∙◌, true}
+use Rattle.std.proofs.lemmas.Bool.{ltb-true, ltb-false}
 use Rattle.std.proofs.lemmas.List.Elements.{All-append, All-cons, All-head, All-nil, All-tail, All-weaker}
 use Rattle.rt_stamps.specs.declared.stamp.Stamp.{Stamp}
-use Rattle.rt_tags.specs.States.{TagStates, IsTag, KeepsIds, all_numbered, name_at, numbered, writes_at}
+use Rattle.rt_tags.specs.States.{TagStates, IsTag, KeepsIds, all_numbered, is_on, name_at, numbered, state_at, writes_at}
 use Rattle.rt_tags.specs.Writers.{listed_by}
 use Rattle.rt_tags.specs.Kept.{all_on}
 use Rattle.rt_tags.specs.declared.states.Entry.{Entry}
+use Rattle.rt_tags.proofs.Places.{split}
 
 pub keeps_both : (a b c : TagStates) → KeepsIds a b → KeepsIds b c → KeepsIds a c
 keeps_both a b c h k = record {
   tags = λ i l. let x = h.tags i l in let y = k.tags i x.0 in (y.0, y.1 ∙ x.1);
   states = λ i l. let x = h.states i l in let y = k.states i x.0 in (y.0, y.1 ∙ x.1);
+  later = λ tag state more given there.
+      let mid = h.states state there in
+      split (nat_lt tag (length b.names))
+      (λ t. let own : tag < length b.names = ltb-true _ _ t in
+      ap (λ n. is_on n (state_at c state)) (k.tags tag own).1 ∙ ap (is_on (name_at b tag)) (k.states state mid.0).1 ∙ h.later tag state more own there)
+      (λ f. k.later tag state (ltb-false _ _ f) given mid.0);
 }
 
 pub names_stay : (old new : TagStates) → KeepsIds old new → (tags : List ℕ) → All (IsTag old) tags → map (name_at new) tags ≡ map (name_at old) tags

@@ -19,6 +19,11 @@ abbrev pub last : {A : Type 0} → List A → Option A
 last [] = None
 last (x ∷ xs) = either (last xs) (Some x)
 
+-- the element, if there is one
+abbrev pub one_or_none : {A : Type 0} → Option A → List A
+one_or_none None = []
+one_or_none (Some x) = x ∷ []
+
 -- how many borders are between two neighbours; none where there is no neighbour
 abbrev pub border : {A : Type 0} → (A → Bool) → Option A → Option A → ℕ
 border test None other = 0
@@ -33,6 +38,15 @@ borders test (x ∷ xs) = border test (Some x) (first xs) + borders test xs
 -- a tag is on in a state that was given out
 abbrev pub is_tagged : TagStates → ℕ → ℕ → Bool
 is_tagged table tag state = is_on (name_at table tag) (state_at table state)
+
+-- counts are of tags that were given out, and there is memory for a count of each of these
+pub record HasRoomForAll (table : TagStates) (t : TagCounts) : Type 0 where
+  pub room : length table.names ≤ t.capacity
+  pub others : (tag : ℕ) → length table.names ≤ tag → count_of tag t ≡ 0
+
+-- one where a tag is on here and not there
+abbrev pub beyond : Bool → Bool → ℕ
+beyond here there = if here then (if there then 0 else 1) else 0
 
 -- Counts are the toggles of a stretch, seen as the states of its visible characters: of each tag that was given out as many as it
 -- has borders between characters with the tag and characters without it, and of no other any.

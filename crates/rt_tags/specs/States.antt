@@ -1,6 +1,6 @@
 -- States of characters: for each tag that was written on a character, the write with the greatest stamp. A name is seen as the
 -- list of its bytes.
-use Rattle.std.specs.Prelude.{◌≡◌, ◌⊎◌, ℕ, ◌<◌, List, [], ◌∷◌, ◌++◌, Bool, false, not, length, map, filter, Option, Some, None, slice_get, slice_index_or, if◌then◌else◌}
+use Rattle.std.specs.Prelude.{◌≡◌, ◌⊎◌, ℕ, ◌<◌, ◌≤◌, List, [], ◌∷◌, ◌++◌, Bool, false, not, length, map, filter, Option, Some, None, slice_get, slice_index_or, if◌then◌else◌}
 use Rattle.std.specs.List.{AllByRecursion}
 use Rattle.std.specs.Ordering.{is_lt, is_gt}
 use Rattle.std.specs.Str.{bytes_eq}
@@ -121,7 +121,8 @@ AreDistinct (s ∷ states) = IsNew s states × AreDistinct states
 abbrev pub Interns : List Write → List (List Write) → ℕ → List (List Write) → Type 0
 Interns state old id new = (slice_get new id ≡ Some state) × ((new ≡ old) ⊎ ((new ≡ old ++ state ∷ []) × IsNew state old))
 
--- the tags and states that were given out keep their meaning
+-- the tags and states that were given out keep their meaning, and a tag that was given out later is on in none of these states
 pub record KeepsIds (old new : TagStates) : Type 0 where
   pub tags : (tag : ℕ) → IsTag old tag → IsTag new tag × (name_at new tag ≡ name_at old tag)
   pub states : (state : ℕ) → IsState old state → IsState new state × (state_at new state ≡ state_at old state)
+  pub later : (tag state : ℕ) → length old.names ≤ tag → IsTag new tag → IsState old state → is_on (name_at new tag) (state_at new state) ≡ false

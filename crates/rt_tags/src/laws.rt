@@ -5,11 +5,11 @@ ghost use Rattle.std.specs.Str.{bytes_eq};
 ghost use Rattle.rt_stamps.specs.declared.stamp.Stamp.{Stamp};
 ghost use Rattle.rt_stamps.specs.declared.stamp.TheConstants.{ROOT};
 ghost use Rattle.rt_stamps.specs.Stamps.{is_before, is_same};
-ghost use Rattle.rt_tags.specs.States.{AreNumbered, HaveOneNumber, IsByName, IsState, KeepsIds, TagStates, Write, is_on, names_on, write_of, written};
+ghost use Rattle.rt_tags.specs.States.{IsByName, IsState, KeepsIds, TagStates, Write, is_on, names_on, write_of, written};
 ghost use Rattle.rt_tags.specs.declared.toggles.TagCount.{TagCount};
-ghost use Rattle.rt_tags.specs.Borders.{AreToggles, border, borders, either, first, last};
+ghost use Rattle.rt_tags.specs.Borders.{AreToggles, border, borders, either, first, last, one_or_none};
 ghost use Rattle.rt_tags.specs.Tags.{HaveNoRepeats, is_listed};
-ghost use Rattle.rt_tags.specs.Toggles.{AreFrom, TagCounts, count_in};
+ghost use Rattle.rt_tags.specs.Toggles.{AreFrom, TagCounts, count_in, more_tags};
 ghost use Rattle.rt_tags.specs.Writers.{is_shared, listed_by, state_after};
 
 /// A state has one write of each tag and is known by them, and writes may come in any order, unless
@@ -34,11 +34,14 @@ pub fn deciding_writes()
 {}
 
 /// Tags in order are known by the count of each tag. If each tag that has a count here has one there,
-/// there are no more of them here.
+/// there are no more of them here. Two lists have no more tags together than were given out, if they
+/// have counts of these alone.
 pub fn tag_counts()
     ensures known { (cs ds : List TagCount) → AreFrom 0 cs → AreFrom 0 ds → ((tag : ℕ) → count_in tag cs ≡ count_in tag ds) → cs ≡ ds }
     ensures within { (cs ds : List TagCount) → AreFrom 0 cs → AreFrom 0 ds
         → ((tag : ℕ) → 0 < count_in tag cs → 0 < count_in tag ds) → length cs ≤ length ds }
+    ensures together { (n : ℕ) (cs ds : List TagCount) → AreFrom 0 cs → AreFrom 0 ds → ((tag : ℕ) → n ≤ tag → count_in tag cs ≡ 0)
+        → ((tag : ℕ) → n ≤ tag → count_in tag ds ≡ 0) → length ds + more_tags cs ds ≤ n }
 {}
 
 /// The borders of two stretches that are joined are those of both, and the one between them: so what a
@@ -54,8 +57,20 @@ pub fn joined_stretches<A>()
     ensures few { (test : A → Bool) (xs : List A) → borders test xs ≤ length xs }
 {}
 
+/// Where a part of a stretch is replaced, only the borders change that its own elements and its two
+/// neighbours make.
+pub fn replaced_stretches<A>()
+    ensures spread { (test : A → Bool) (xs mid ys : List A) → borders test (xs ++ (mid ++ ys))
+        ≡ borders test xs + (borders test (one_or_none (last xs) ++ (mid ++ one_or_none (first ys))) + borders test ys) }
+    ensures replaced { (test : A → Bool) (xs old new ys : List A)
+        → borders test (xs ++ (new ++ ys)) + borders test (one_or_none (last xs) ++ (old ++ one_or_none (first ys)))
+        ≡ borders test (xs ++ (old ++ ys)) + borders test (one_or_none (last xs) ++ (new ++ one_or_none (first ys))) }
+    ensures fewer { (test : A → Bool) (xs mid ys : List A)
+        → borders test (one_or_none (last xs) ++ (mid ++ one_or_none (first ys))) ≤ borders test (xs ++ (mid ++ ys)) }
+{}
+
 /// What are the toggles of a stretch by one table, are they by each later one that keeps its ids.
 pub fn kept_toggles()
-    ensures { (old new : TagStates) (states : List ℕ) (t : TagCounts) → KeepsIds old new → AreNumbered old → HaveOneNumber new
-        → AllByRecursion (IsState old) states → AreToggles old states t → AreToggles new states t }
+    ensures { (old new : TagStates) (states : List ℕ) (t : TagCounts) → KeepsIds old new → AllByRecursion (IsState old) states
+        → AreToggles old states t → AreToggles new states t }
 {}

@@ -4,6 +4,7 @@
 //! `specs/Toggles.antt` and `specs/Borders.antt`.
 #![tactic(auto)]
 
+mod borders;
 mod forgetting;
 pub mod laws;
 mod names;

@@ -12,7 +12,7 @@ ghost use Rattle.rt_tags.specs.Writers.{listed_by, state_after};
 ghost use Rattle.rt_stamps.specs.declared.stamp.TheConstants.{ROOT};
 ghost use Rattle.indexmap.specs.IndexSet.{index_set_len};
 
-use crate::writes::listed;
+use crate::writes::{listed, tags_on};
 use crate::{names, sorting};
 use indexmap::IndexSet;
 use rt_stamps::{Fault, ROOT, Stamp};
@@ -158,19 +158,6 @@ fn add_side(
         }
     }
     Ok(())
-}
-
-// The tags that are on.
-fn tags_on(alloc: Global, entries: &[Entry]) -> Result<Vec<TagId>, AllocError>
-    ensures { IfOk result (λ v. v.items ≡ tags_on entries.now) }
-{
-    let mut on = Vec::new(alloc);
-    for entry in entries {
-        if entry.on {
-            on.push(entry.tag)?;
-        }
-    }
-    Ok(on)
 }
 
 // The entries after one more, which takes the place of the one of its tag.
@@ -351,6 +338,13 @@ impl StateTable {
             Some(place) => Some(TagId { place }),
             None => None,
         }
+    }
+
+    /// How many tags were given out: the numbers below it.
+    pub fn tags(&self) -> usize
+        ensures { result ≡ length self.now.names }
+    {
+        self.names.len()
     }
 
     /// The name of a number.

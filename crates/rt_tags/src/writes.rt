@@ -1,6 +1,6 @@
-// Writes of several tags at once.
+// Writes of several tags at once, and the tags that writes put on.
 ghost use Rattle.std.specs.Prelude.{◌≡◌, IfOk};
-ghost use Rattle.rt_tags.specs.Kept.{all_on};
+ghost use Rattle.rt_tags.specs.Kept.{all_on, tags_on};
 
 use crate::states::{Entry, TagId};
 use rt_stamps::Stamp;
@@ -19,4 +19,17 @@ pub(crate) fn listed(alloc: Global, writer: Stamp, tags: &[TagId]) -> Result<Vec
         })?;
     }
     Ok(writes)
+}
+
+/// The tags that are on.
+pub(crate) fn tags_on(alloc: Global, entries: &[Entry]) -> Result<Vec<TagId>, AllocError>
+    ensures { IfOk result (λ v. v.items ≡ tags_on entries.now) }
+{
+    let mut on = Vec::new(alloc);
+    for entry in entries {
+        if entry.on {
+            on.push(entry.tag)?;
+        }
+    }
+    Ok(on)
 }

@@ -12,7 +12,7 @@ use Rattle.rt_tree.proofs.Around.{node, count-append}
 use Rattle.rt_tree.proofs.Bares.{bare-entries}
 use Rattle.rt_tree.proofs.Exact.{each-both, each-links, fits-entries}
 use Rattle.rt_tree.proofs.Frame.{each-front, each-back, each-append, each-zero, other_child, no}
-use Rattle.rt_tree.proofs.Halves.{split_tree, split_runs, split_first, split_second, split_below, not-in, not-own, ponce, plevel, pis, counted_self}
+use Rattle.rt_tree.proofs.Halves.{split_other, split_tree, split_runs, split_first, split_second, split_below, not-in, not-own, ponce, plevel, pis, counted_self}
 use Rattle.rt_tree.proofs.Adding.{join_assoc, adds-append}
 use Rattle.rt_tree.proofs.Raise.{length-rows}
 use Rattle.std.specs.List.{AllByRecursion}
@@ -47,6 +47,10 @@ module _ (m m' : Memory) (height root : ℕ) (t : IsShape (bare m) height root) 
 
   pub cut_runs : runs (bare m') height root ≡ runs (bare m) height root
   cut_runs = split_runs (bare m) (bare m') height root t n q p (links front) (links back) (links left) (links right) nis nroot up split
+
+  -- each other node has the runs that it had
+  pub cut_other : (c : ℕ) → c < q → (c ≡ n → ⊥) → runs (bare m') (level_of (bare m) c) c ≡ runs (bare m) (level_of (bare m) c) c
+  cut_other = split_other (bare m) (bare m') height root t n q p (links front) (links back) (links left) (links right) nis nroot up split
 
   lvl : level_of (bare m) p ≡ suc (level_of (bare m) n)
   lvl = plevel (bare m) (bare m') height root t n q p (links front) (links back) (links left) (links right) nis nroot up split

@@ -97,7 +97,7 @@ module _ (s : Memory) (height root : ℕ) (t : IsShape s height root) (x : ℕ) 
       ∙ flat-same (below after (suc k)) (below s (suc k)) (entries s c)
       (each-all (Fits s c (suc k)) (λ l. below after (suc k) l ≡ below s (suc k) l) (λ l f. link-one k c off (λ d dis dat doff. frame k d dis dat doff) l f) (entries s c) fits)
 
-  side-one : (i id p q : ℕ) → q ≡ suc (level_of s x + i) → id ≡ above s i x → (l : Entry) → Fits s p q l → count_of id (l ∷ []) ≡ 0 → below after q l ≡ below s q l
+  pub side-one : (i id p q : ℕ) → q ≡ suc (level_of s x + i) → id ≡ above s i x → (l : Entry) → Fits s p q l → count_of id (l ∷ []) ≡ 0 → below after q l ≡ below s q l
   side-one i id p zero at top l f z = absurd (omega arith)
   side-one i id p (suc k) at top (Here r) f z = refl
   side-one i id p (suc k) at top (Down c ts) f z = frame k c.index f.is f.level (λ j e same. let h : j ≡ i = omega arith in other_child id c z (same ∙ ap (λ n. above s n x) h ∙ sym top))

@@ -38,7 +38,7 @@ module _ (m m' : Memory) (height root q : ℕ) (t : IsShape (bare m) height root
   fits-at : (id j : ℕ) → id < q → level_of (bare m) id ≡ j → AllByRecursion (Fits (bare m) id j) (entries (bare m) id)
   fits-at id j lt at = subst (λ k. AllByRecursion (Fits (bare m) id k) (entries (bare m) id)) at (t.fits id (omega (arith, g.new)))
 
-  same-runs : (j c : ℕ) → c < q → level_of (bare m) c ≡ j → runs s' j c ≡ runs (bare m) j c
+  pub same-runs : (j c : ℕ) → c < q → level_of (bare m) c ≡ j → runs s' j c ≡ runs (bare m) j c
   same-runs zero c lt at = ap (all_below s' zero) (same-at c lt) ∙ flat-same (below s' zero) (below (bare m) zero) (entries (bare m) c) (each-all (Fits (bare m) c zero) (λ l. below s' zero l ≡ below (bare m) zero l) (λ l f. zero-link l) (entries (bare m) c) (fits-at c zero lt at))
   same-runs (suc j) c lt at = ap (all_below s' (suc j)) (same-at c lt) ∙ flat-same (below s' (suc j)) (below (bare m) (suc j)) (entries (bare m) c) (each-all (Fits (bare m) c (suc j)) (λ l. below s' (suc j) l ≡ below (bare m) (suc j) l) (λ l f. link-same j (λ d dl da. same-runs j d dl da) c l f) (entries (bare m) c) (fits-at c (suc j) lt at))
 

@@ -306,6 +306,10 @@ module _ (s s' : Memory) (height root : ℕ) (t : IsShape s height root) (n q p 
         links,
       )
 
+  -- each other node has the runs that it had
+  pub split_other : (c : ℕ) → c < q → (c ≡ n → ⊥) → runs s' (level_of s c) c ≡ runs s (level_of s c) c
+  split_other c lt nn = (both (level_of s c)).0 c lt refl nn
+
   -- with the same runs
   pub split_runs : runs s' height root ≡ runs s height root
   split_runs = (both height).0 root (omega (arith, t.root_is, sp.new)) t.top (λ e. nroot (sym e))

@@ -7,6 +7,7 @@ use Rattle.rt_store.specs.Cells.{Room, text_of, visible_of}
 use Rattle.rt_stamps.specs.Places.{newlines}
 use Rattle.rt_tree.specs.declared.node.Counts.{Counts}
 use Rattle.rt_tree.specs.declared.node.Run.{Run}
+use Rattle.rt_tree.specs.declared.summary.Summary.{Summary}
 use Rattle.rt_tree.specs.Runs.{IsRun, characters, run_cells}
 use Rattle.rt_tree.specs.Shape.{Memory, sum_of, tree_runs}
 use Rattle.rt_tree.specs.Sums.{AreFew, counts_of}
@@ -49,8 +50,8 @@ module _ (m : Memory) (root : ℕ) (text : List ℕ) (n : ℕ) (kept : IsKept m 
     pub visible : length (visible_of now.cells) ≡ (counts_of (tree_runs m root)).visible
     pub newlines : newlines (text_of now.cells) ≡ (counts_of (tree_runs m root)).newlines
 
-  pub shows : {room : Room} (now : Shown) → shown m root text room ≡ now → Shows now
-  shows now is =
+  pub shows : (sums : List Summary) {room : Room} (now : Shown) → shown m root text sums room ≡ now → Shows now
+  shows sums now is =
       let c = counted text (tree_runs m root) kept.kept in
       subst Shows is (record { cells = c.cells; visible = c.visible; newlines = c.newlines })
 

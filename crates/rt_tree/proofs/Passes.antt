@@ -18,7 +18,7 @@ use Rattle.rt_tree.proofs.Down.{down, each-at, sum-front}
 use Rattle.rt_tree.proofs.Measures.{counts-append, counts-exact, sum-more}
 use Rattle.rt_tree.proofs.Passing.{cells, passed-append, passed-front, passed-le, passed-whole}
 
-parts-at : {X : Type 0} (xs : List X) (i : ℕ) (x : X) → i < length xs → x ≡ get_or xs i x → xs ≡ take i xs ++ x ∷ drop (suc i) xs
+pub parts-at : {X : Type 0} (xs : List X) (i : ℕ) (x : X) → i < length xs → x ≡ get_or xs i x → xs ≡ take i xs ++ x ∷ drop (suc i) xs
 parts-at [] i x lt is = absurd (omega (arith, lt))
 parts-at (y ∷ xs) zero x lt is = ap (λ z. z ∷ xs) (sym is)
 parts-at (y ∷ xs) (suc i) x lt is = ap (λ zs. y ∷ zs) (parts-at xs i x (omega (arith, lt)) is)

@@ -1,18 +1,24 @@
 -- A tree in a memory that has more room, and the nodes that some runs ask for.
-use Rattle.std.proofs.Common.{◌≡◌, ℕ, zero, suc, ◌+◌, ◌-◌, ◌*◌, ◌/◌, ◌≤◌, max, List, [], ◌∷◌, ◌++◌, length, refl, sym, ap, ◌∙◌, arith, subst}
-use Rattle.std.proofs.Math.Nat.{le-max_right}
+use Rattle.std.proofs.Common.{◌≡◌, ◌<◌, nat_lt, ℕ, zero, suc, ◌+◌, ◌-◌, ◌*◌, ◌/◌, ◌≤◌, max, List, [], ◌∷◌, ◌++◌, length, refl, sym, ap, ◌∙◌, arith, subst}
+use Rattle.std.proofs.Math.Nat.{le-max_right, max-eq_right, max_comm}
+use Rattle.std.proofs.lemmas.Bool.{ltb-false, ltb-true}
 use Rattle.std.specs.List.{AllByRecursion}
 use Rattle.rt_nodes.specs.Nodes.{entries, with_room}
+use Rattle.rt_tags.proofs.Places.{split}
 use Rattle.rt_tree.specs.declared.node.Entry.{Entry}
 use Rattle.rt_tree.specs.declared.node.Entry.TheVariants.{Down, Here}
 use Rattle.rt_stamps.specs.declared.limits.TheConstants.{MOST_CELLS}
 use Rattle.rt_store.specs.Cells.{Room}
 use Rattle.rt_tree.specs.declared.node.Run.{Run}
+use Rattle.rt_tree.specs.declared.summary.Summary.{Summary}
 use Rattle.rt_tree.specs.Runs.{IsRun, cells_of}
-use Rattle.rt_tree.specs.Shape.{Fits, IsExact, IsTree, Memory, all_below, below, level_of, tree_runs}
+use Rattle.rt_tree.specs.Shape.{Fits, IsExact, IsTree, Memory, all_below, below, level_of, runs, tree_runs}
 use Rattle.rt_tree.specs.Sharing.{AreApart}
 use Rattle.rt_tree.specs.Sums.{counts_of, totals_of}
-use Rattle.rt_tree.specs.Trees.{HasNodes, IsKept, shown}
+use Rattle.rt_tree.specs.Summaries.{TellsAs, summary_of}
+use Rattle.rt_tree.specs.Trees.{HasNodes, IsKept, Stretch, shown, stretches_of}
+use Rattle.rt_tree.proofs.Showing.{stretches_same}
+use Rattle.rt_tree.proofs.Telling.{tells_same}
 
 module _ (m : Memory) (n : ℕ) where
   abbrev more : Memory
@@ -60,6 +66,12 @@ module _ (m : Memory) (n : ℕ) where
     totals = λ id is. all-exact (level_of m id) (entries m id) (t.totals id is);
   }
 
+  node_room : (id : ℕ) → runs more (level_of more id) id ≡ runs m (level_of m id) id
+  node_room id = flat-room (level_of m id) (below-room (level_of m id)) (entries m id)
+
+  pub stretches_room : (sums : List Summary) → stretches_of more sums (length m.heads) ≡ stretches_of m sums (length m.heads)
+  stretches_room sums = stretches_same m more sums sums (length m.heads) node_room (λ id lt. tells_same (summary_of sums id))
+
   pub runs_room : (root : ℕ) → tree_runs more root ≡ tree_runs m root
   runs_room root = flat-room (level_of m root) (below-room (level_of m root)) (entries m root)
 
@@ -85,11 +97,26 @@ module _ (m : Memory) (n : ℕ) (root : ℕ) (text : List ℕ) (runs : ℕ) (m' 
         all = k.all ∙ ap (λ (l : List Run). (counts_of l).cells) same;
       }
 
-module _ (m : Memory) (n : ℕ) (root : ℕ) (text : List ℕ) (room : Room) (m' : Memory) (is : m' ≡ with_room m n) where
-  pub room_shown : shown m' root text room ≡ shown m root text room
+module _ (m : Memory) (n : ℕ) (root : ℕ) (text : List ℕ) (sums : List Summary) (room : Room) (m' : Memory) (is : m' ≡ with_room m n) where
+  pub room_shown : shown m' root text sums room ≡ shown m root text sums room
   room_shown =
-      ap (λ (x : Memory). shown x root text room) is
-      ∙ ap (λ (l : List Run). record { cells = cells_of text l; runs = length l; height = level_of m root + 1; room = room }) (runs_room m n root)
+      ap (λ (x : Memory). shown x root text sums room) is
+      ∙ ap (λ (l : List Run). record { cells = cells_of text l; runs = length l; height = level_of m root + 1; room = room; stretches = stretches_of (with_room m n) sums (length m.heads) }) (runs_room m n root)
+      ∙ ap (λ (l : List Stretch). record { cells = cells_of text (tree_runs m root); runs = length (tree_runs m root); height = level_of m root + 1; room = room; stretches = l }) (stretches_room m n sums)
+
+-- the same where summaries tell the same
+pub sums_shown : (m : Memory) (root : ℕ) (text : List ℕ) (sums sums' : List Summary) (room : Room) → length m.heads ≤ length sums → ((id : ℕ) → id < length sums → TellsAs (summary_of sums id) (summary_of sums' id)) → shown m root text sums' room ≡ shown m root text sums room
+sums_shown m root text sums sums' room many tells =
+    ap (λ (l : List Stretch). record { cells = cells_of text (tree_runs m root); runs = length (tree_runs m root); height = level_of m root + 1; room = room; stretches = l })
+    (stretches_same m m sums sums' (length m.heads) (λ id. refl) (λ id lt. tells id (omega (arith, lt, many))))
+
+-- there are summaries for as many nodes
+pub room_sums : (heads had nodes many : ℕ) → heads + had ≤ many → nodes ≤ many → heads + max had (nodes - heads) ≤ many
+room_sums heads had nodes many was enough =
+    let asked = nodes - heads in
+    split (nat_lt had asked)
+    (λ less. let e : max had asked ≡ asked = max-eq_right (let l = ltb-true _ _ less in omega (arith, l)) in omega (arith, e, was, enough))
+    (λ more. let e : max had asked ≡ had = max_comm had asked ∙ max-eq_right (ltb-false _ _ more) in omega (arith, e, was))
 
 pub room_nodes : (m : Memory) (root runs cells cuts asked : ℕ) (m' : Memory) → m' ≡ with_room m (max m.room asked) → runs ≡ length (tree_runs m root) → asked ≡ (runs + cells + cuts) / 7 + 1 - length m.heads → HasNodes m' (length (tree_runs m' root) + cells + cuts)
 room_nodes m root runs cells cuts asked m' is counted wants =

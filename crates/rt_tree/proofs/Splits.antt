@@ -13,7 +13,7 @@ use Rattle.rt_tree.specs.Changes.{links, bare, IsHalved, IsCut, AreHalves, AreSt
 use Rattle.rt_tree.specs.Shape.{level_of, parent_of, head_at, runs, Memory, count_of, IsShape}
 use Rattle.rt_tree.proofs.Around.{node}
 use Rattle.rt_tree.proofs.Bares.{bare-entries}
-use Rattle.rt_tree.proofs.Cuts.{cut_tree, cut_exact, cut_runs, cut_still}
+use Rattle.rt_tree.proofs.Cuts.{cut_other, cut_tree, cut_exact, cut_runs, cut_still}
 use Rattle.rt_tree.proofs.Exact.{exact-sum}
 use Rattle.rt_tree.proofs.Halves.{child-of, cases_zero}
 use Rattle.rt_tree.proofs.Raise.{small-node, no_level, length-rows}
@@ -159,6 +159,17 @@ split_still m m1 m2 m3 height root n q p k slot after f b t exact ns up within a
     let front = take k (entries m n.index) in let back = drop k (entries m n.index) in
     let left = take slot (entries m p.index) in let right = drop (suc slot) (entries m p.index) in
     cut_still m m3 height root t exact n.index q.index p.index front back left right e ns.0 ns.1 up cut
+
+pub split_others : (m m1 m2 m3 : Memory) (height root : ℕ) (n q p : NodeId) (k slot after : ℕ) (f b : Totals) → IsShape (bare m) height root → AreExact m → (n.index < length m.heads) × (n.index ≡ root → ⊥) → p.index ≡ parent_of (bare m) n.index → slot < length (entries m p.index) → ((e : Entry) → e ≡ get_or (entries m p.index) slot e → (strip e) ≡ Down n blank) → IsHalved m m1 n.index q.index p.index k → after ≡ suc slot → f ≡ adds_up (entries m1 n.index) → b ≡ adds_up (entries m1 q.index) → m2 ≡ with_entry m1 p.index slot (entry_down n f) → m3 ≡ with_entries m2 p.index (insert (entries m2 p.index) after (entry_down q b)) → (c : ℕ) → c < q.index → (c ≡ n.index → ⊥) → runs (bare m3) (level_of (bare m) c) c ≡ runs (bare m) (level_of (bare m) c) c
+split_others m m1 m2 m3 height root n q p k slot after f b t exact ns up within at hv next fs bs is2 is3 =
+    let pi = parent_in m height root t n.index p.index ns.0 ns.1 up in
+    let d = entry_down n f in
+    let e = get_or (entries m p.index) slot d in
+    let here : e ≡ get_or (entries m p.index) slot e = get_or_default (entries m p.index) slot d e within in
+    let cut = cut_of m m1 m2 m3 n q p k slot after e f b hv ns.0 pi.0 pi.2 (t.same ∙ length-rows m) within here (at e here) next fs bs is2 is3 in
+    let front = take k (entries m n.index) in let back = drop k (entries m n.index) in
+    let left = take slot (entries m p.index) in let right = drop (suc slot) (entries m p.index) in
+    cut_other m m3 height root t exact n.index q.index p.index front back left right e ns.0 ns.1 up cut
 
 halves_of : (m m' : Memory) (height root n q p k : ℕ) (left right : List Entry) (e : Entry) → IsShape (bare m) height root → n < length m.heads → IsCut m m' n q p (take k (entries m n)) (drop k (entries m n)) left right e → k ≡ length (entries m n) / 2 → AreHalves m m' n q
 halves_of m m' height root n q p k left right e t nis cut is = record {

@@ -34,7 +34,7 @@ module _ (m : Memory) where
   count-bare id (Here r ∷ es) = count-bare id es
   count-bare id (Down c t ∷ es) = omega (arith, count-bare id es)
 
-  left-bare : (id : ℕ) (es : List Entry) → left_of id (links es) ≡ links (left_of id es)
+  pub left-bare : (id : ℕ) (es : List Entry) → left_of id (links es) ≡ links (left_of id es)
   left-bare id [] = refl
   left-bare id (Here r ∷ es) = ap (λ l. Here r ∷ l) (left-bare id es)
   left-bare id (Down c t ∷ es) = elim (cases_eq c.index id) [
@@ -42,7 +42,7 @@ module _ (m : Memory) where
     | inr ne ↦ test_other c.index id [] (Down c blank ∷ left_of id (links es)) ne ∙ ap (λ l. Down c blank ∷ l) (left-bare id es) ∙ sym (ap links (test_other c.index id [] (Down c t ∷ left_of id es) ne))
   ]
 
-  right-bare : (id : ℕ) (es : List Entry) → right_of id (links es) ≡ links (right_of id es)
+  pub right-bare : (id : ℕ) (es : List Entry) → right_of id (links es) ≡ links (right_of id es)
   right-bare id [] = refl
   right-bare id (Here r ∷ es) = right-bare id es
   right-bare id (Down c t ∷ es) = elim (cases_eq c.index id) [

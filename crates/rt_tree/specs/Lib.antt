@@ -10,6 +10,8 @@ pub mod Stores
 pub mod Changes
 pub mod Skips
 pub mod Homes
+pub mod Summaries
+pub mod Reaches
 pub use Rattle.rt_nodes.specs.Nodes
 pub use Rattle.rt_stamps.specs.Places
 pub use Rattle.rt_stamps.specs.Stamps

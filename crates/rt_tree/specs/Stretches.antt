@@ -4,6 +4,7 @@ use Rattle.std.specs.List.{AllByRecursion}
 use Rattle.rt_stamps.specs.declared.limits.TheConstants.{MOST_CELLS}
 use Rattle.rt_store.specs.declared.cell.Cell.{Cell}
 use Rattle.rt_store.specs.Cells.{with_state}
+use Rattle.rt_tags.specs.States.{IsState, TagStates}
 use Rattle.rt_tree.specs.declared.node.Run.{Run}
 use Rattle.rt_tree.specs.declared.mark.Mark.{Mark}
 use Rattle.rt_tree.specs.declared.mark.Mark.TheVariants.{Gone, State}
@@ -21,6 +22,11 @@ marked_cell (State state) cell = with_state state cell
 abbrev pub marked_run : Mark → Run → Run
 marked_run Gone r = record r { gone = true }
 marked_run (State state) r = record r { state = state }
+
+-- the state that a mark gives was given out
+abbrev pub IsGiven : TagStates → Mark → Type 0
+IsGiven table Gone = Unit {0}
+IsGiven table (State state) = IsState table state
 
 -- how many cells runs have
 abbrev pub lengths : List Run → List ℕ

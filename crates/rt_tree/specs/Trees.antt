@@ -1,26 +1,70 @@
 -- What a tree shows, and how it is kept.
-use Rattle.std.specs.Prelude.{◌≡◌, ℕ, ◌+◌, ◌*◌, ◌≤◌, false, true, List, length}
-use Rattle.std.specs.List.{AllByRecursion}
+use Rattle.std.specs.Prelude.{◌≡◌, ℕ, zero, suc, ◌+◌, ◌*◌, ◌≤◌, false, true, List, [], ◌∷◌, length, map}
+use Rattle.std.specs.List.{All, AllByRecursion, Contains}
 use Rattle.rt_stamps.specs.declared.limits.TheConstants.{MOST_CELLS}
 use Rattle.rt_stamps.specs.declared.stamp.TheConstants.{FINAL}
 use Rattle.rt_store.specs.declared.cell.Cell.{Cell}
 use Rattle.rt_store.specs.Cells.{Room}
+use Rattle.rt_store.specs.Tagged.{AreStates}
+use Rattle.rt_tags.specs.States.{TagStates}
 use Rattle.rt_tree.specs.declared.node.Run.{Run}
+use Rattle.rt_tree.specs.declared.summary.Summary.{Summary}
+use Rattle.rt_tree.specs.declared.summed.Summaries.{Summaries}
 use Rattle.rt_tree.specs.Runs.{IsRun, cells_of}
-use Rattle.rt_tree.specs.Shape.{IsTree, Memory, level_of, tree_runs}
+use Rattle.rt_tree.specs.Shape.{IsTree, Memory, level_of, runs, tree_runs}
 use Rattle.rt_tree.specs.Sharing.{AreApart}
+use Rattle.rt_tree.specs.Summaries.{HaveMemory, IsSummary, shown_states, summary_of, without_room}
 use Rattle.rt_tree.specs.Sums.{counts_of}
 
--- the cells in order, how many runs they are kept in, how many levels of nodes there are, and what there is room for
+-- what is kept for a node: the states of the visible runs below it, and their summary
+pub record Stretch : Type 0 where
+  pub states : List ℕ
+  pub summary : Summary
+
+-- the cells in order, how many runs they are kept in, how many levels of nodes there are, what there is room for, and what is kept for
+-- each node
 pub record Shown : Type 0 where
   pub cells : List (Cell ℕ)
   pub runs : ℕ
   pub height : ℕ
   pub room : Room
+  pub stretches : List Stretch
 
-abbrev pub shown : Memory → ℕ → List ℕ → Room → Shown
-shown m root text room =
-    record { cells = cells_of text (tree_runs m root); runs = length (tree_runs m root); height = level_of m root + 1; room = room }
+abbrev pub stretch_of : Memory → List Summary → ℕ → Stretch
+stretch_of m sums id = record { states = shown_states (runs m (level_of m id) id); summary = without_room (summary_of sums id) }
+
+-- what is kept for the first so many nodes
+abbrev pub stretches_of : Memory → List Summary → ℕ → List Stretch
+stretches_of m sums zero = []
+stretches_of m sums (suc n) = stretch_of m sums n ∷ stretches_of m sums n
+
+abbrev pub shown : Memory → ℕ → List ℕ → List Summary → Room → Shown
+shown m root text sums room = record {
+  cells = cells_of text (tree_runs m root);
+  runs = length (tree_runs m root);
+  height = level_of m root + 1;
+  room = room;
+  stretches = stretches_of m sums (length m.heads);
+}
+
+-- what is kept for nodes is right by a table of states
+abbrev pub AreRight : TagStates → List Stretch → Type 0
+AreRight table stretches = All (λ x. IsSummary table x.states x.summary) stretches
+
+-- the cells' states were given out by a table, and what is kept for nodes is right by it
+pub record Agrees (table : TagStates) (s : Shown) : Type 0 where
+  pub given : AreStates table s.cells
+  pub right : AreRight table s.stretches
+
+-- the states of stretches are states of cells
+abbrev pub HasOwn : Shown → Type 0
+HasOwn s = AllByRecursion (λ x. AllByRecursion (Contains (map (λ c. c.state) s.cells)) x.states) s.stretches
+
+-- there are summaries of spare nodes too, and memory for counts of so many tags
+pub record HaveSummaries (m : Memory) (s : Summaries) (most : ℕ) : Type 0 where
+  pub many : length m.heads + m.room ≤ length s.each.items
+  pub memory : HaveMemory s
+  pub tags : most ≤ s.tags
 
 -- the nodes are a tree, whose runs stand in the text and share it, have no more cells than a text may have, and share no stamp if they
 -- have more than one cell

@@ -48,6 +48,7 @@ pub(crate) fn put_run(mem: &mut Mem, root: NodeId, height: u32, leaf: NodeId, i:
     ensures tree { IsShape (bare mem.new) height root.index }
     ensures exact { AreExact mem.new }
     ensures filled { AreFilled mem.new root.index }
+    ensures bare { bare mem.new ≡ with_entries (bare mem.old) leaf.index (links (insert (entries mem.old leaf.index) i (Here run))) }
     ensures runs { runs (bare mem.new) height root.index ≡ ahead (bare mem.old) height leaf.index
         ++ (all_below (bare mem.old) 0 (links (insert (entries mem.old leaf.index) i (Here run))) ++ behind (bare mem.old) height leaf.index) }
     ensures room { (mem.new.room ≡ mem.old.room) × (length mem.new.heads ≡ length mem.old.heads) }

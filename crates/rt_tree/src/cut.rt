@@ -7,6 +7,7 @@ ghost use Rattle.rt_tree.specs.Runs.{has};
 ghost use Rattle.rt_tree.specs.Shape.{IsTree, tree_runs};
 ghost use Rattle.rt_tree.specs.Sharing.{AreApart, AreParts, BeginsAt, IsInside, IsRecut};
 ghost use Rattle.rt_tree.specs.Stretches.{AreKept, IsEdge, back_of, front_of, lengths};
+ghost use Rattle.rt_tree.specs.Summaries.{AreTold};
 ghost use Rattle.rt_tree.specs.Sums.{counts_of};
 ghost use Rattle.rt_tree.specs.Trees.{HasNodes};
 
@@ -14,8 +15,10 @@ use crate::find::{cells_of, has, seek, sum_of};
 use crate::homes::Homes;
 use crate::node::{Measure, Mem, Run};
 use crate::put::{found_at, put, replace_at};
+use crate::summed::Summaries;
 use rt_nodes::NodeId;
 use rt_stamps::Stamp;
+use rt_tags::StateTable;
 
 // The root after a change, and how many runs were put in.
 #[derive(Clone, Copy)]
@@ -50,12 +53,19 @@ fn back_of(run: Run, count: u32) -> Run
 }
 
 // Sees to it that a run begins or ends at a position.
-pub(crate) fn cut(mem: &mut Mem, root: NodeId, at: usize) -> Change
+pub(crate) fn cut(
+    mem: &mut Mem,
+    sums: &mut Summaries,
+    states: &StateTable,
+    root: NodeId,
+    at: usize,
+) -> Change
     requires tree { IsTree mem.old root.index }
     requires kept { AreKept (tree_runs mem.old root.index) }
     requires few { (counts_of (tree_runs mem.old root.index)).cells ≤ MOST_CELLS }
     requires within { at ≤ (counts_of (tree_runs mem.old root.index)).cells }
     requires room { HasNodes mem.old (length (tree_runs mem.old root.index)) }
+    requires told { AreTold states.now mem.old sums.old (tree_runs mem.old root.index) }
     ensures tree { IsTree mem.new result.root.index }
     ensures recut { IsRecut (tree_runs mem.old root.index) (tree_runs mem.new result.root.index) }
     ensures edge { IsEdge (lengths (tree_runs mem.new result.root.index)) at }
@@ -63,6 +73,8 @@ pub(crate) fn cut(mem: &mut Mem, root: NodeId, at: usize) -> Change
     ensures runs { length (tree_runs mem.new result.root.index) ≡ length (tree_runs mem.old root.index) + result.more }
     ensures more { result.more ≤ 1 }
     ensures room { length mem.new.heads + mem.new.room ≡ length mem.old.heads + mem.old.room }
+    ensures told { AreTold states.now mem.new sums.new (tree_runs mem.new result.root.index) }
+    ensures tags { sums.new.tags ≡ sums.old.tags }
 {
     if at == sum_of(mem, root).cells as usize {
         return Change { root, more: 0 };
@@ -73,15 +85,17 @@ pub(crate) fn cut(mem: &mut Mem, root: NodeId, at: usize) -> Change
         return Change { root, more: 0 };
     }
     let back = back_of(found.run, offset as u32);
-    replace_at(mem, root, found.spot, back);
+    replace_at(mem, sums, states, root, found.spot, back);
     let front = front_of(found.run, offset as u32);
-    let root = put(mem, root, at - offset, front);
+    let root = put(mem, sums, states, root, at - offset, front);
     Change { root, more: 1 }
 }
 
 // The same, and tells where the stamps are of runs that are in another leaf now.
 pub(crate) fn cut_home(
     mem: &mut Mem,
+    sums: &mut Summaries,
+    states: &StateTable,
     root: NodeId,
     at: usize,
     homes: &mut Homes,
@@ -93,6 +107,7 @@ pub(crate) fn cut_home(
     requires within { at ≤ (counts_of (tree_runs mem.old root.index)).cells }
     requires room { HasNodes mem.old (length (tree_runs mem.old root.index)) }
     requires home { homes.old.sure ≡ true → AreHome homes.old.leaves (tree_runs mem.old root.index) }
+    requires told { AreTold states.now mem.old sums.old (tree_runs mem.old root.index) }
     ensures tree { IsTree mem.new result.root.index }
     ensures recut { IsRecut (tree_runs mem.old root.index) (tree_runs mem.new result.root.index) }
     ensures edge { IsEdge (lengths (tree_runs mem.new result.root.index)) at }
@@ -102,9 +117,11 @@ pub(crate) fn cut_home(
     ensures room { length mem.new.heads + mem.new.room ≡ length mem.old.heads + mem.old.room }
     ensures home { homes.new.sure ≡ true → AreHome homes.new.leaves (tree_runs mem.new result.root.index) }
     ensures left { keep ≤ homes.old.left → keep ≤ homes.new.left }
+    ensures told { AreTold states.now mem.new sums.new (tree_runs mem.new result.root.index) }
+    ensures tags { sums.new.tags ≡ sums.old.tags }
 {
     let nodes = mem.nodes();
-    let change = cut(mem, root, at);
+    let change = cut(mem, sums, states, root, at);
     homes.note_new(mem, nodes, keep);
     change
 }
@@ -158,6 +175,8 @@ fn inside_by_walk(mem: &Mem, root: NodeId, stamp: Stamp) -> Option<usize>
 // Sees to it that each run which has a stamp begins with it: of more than one cell only one run can have it.
 pub(crate) fn part(
     mem: &mut Mem,
+    sums: &mut Summaries,
+    states: &StateTable,
     root: NodeId,
     stamp: Stamp,
     homes: &mut Homes,
@@ -169,6 +188,7 @@ pub(crate) fn part(
     requires apart { AreApart (tree_runs mem.old root.index) }
     requires few { (counts_of (tree_runs mem.old root.index)).cells ≤ MOST_CELLS }
     requires room { HasNodes mem.old (length (tree_runs mem.old root.index)) }
+    requires told { AreTold states.now mem.old sums.old (tree_runs mem.old root.index) }
     ensures home { homes.new.sure ≡ true → AreHome homes.new.leaves (tree_runs mem.new result.root.index) }
     ensures left { keep ≤ homes.old.left → keep ≤ homes.new.left }
     ensures tree { IsTree mem.new result.root.index }
@@ -177,9 +197,11 @@ pub(crate) fn part(
     ensures runs { length (tree_runs mem.new result.root.index) ≡ length (tree_runs mem.old root.index) + result.more }
     ensures more { result.more ≤ 1 }
     ensures room { length mem.new.heads + mem.new.room ≡ length mem.old.heads + mem.old.room }
+    ensures told { AreTold states.now mem.new sums.new (tree_runs mem.new result.root.index) }
+    ensures tags { sums.new.tags ≡ sums.old.tags }
 {
     match inside(mem, root, stamp, homes) {
         None => Change { root, more: 0 },
-        Some(at) => cut_home(mem, root, at, homes, keep),
+        Some(at) => cut_home(mem, sums, states, root, at, homes, keep),
     }
 }

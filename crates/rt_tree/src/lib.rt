@@ -1,23 +1,31 @@
 //! The cells of a text in a counted B-tree of runs.
 #![tactic(auto)]
 
+mod back;
 mod change;
 mod copy;
 mod cut;
 mod find;
+mod gather;
 mod homes;
 pub mod looks;
 mod mark;
 pub mod node;
+mod note;
 mod put;
+mod reach;
+mod regrow;
+mod resum;
 mod room;
 mod settle;
 mod skip;
 mod splice;
 mod split;
 pub mod store;
+mod summaries;
+pub mod summary;
+mod summed;
 mod sums;
-mod tagged;
 mod totals;
 pub mod tree;
 pub mod up;

@@ -8,7 +8,8 @@ ghost use Rattle.rt_tree.specs.Homes.{AreHome, MarksOn, run_to};
 ghost use Rattle.rt_tree.specs.Runs.{IsRun, first_stamp};
 ghost use Rattle.rt_tree.specs.Shape.{IsTree, tree_runs};
 ghost use Rattle.rt_tree.specs.Sharing.{AreApart, BeginsAt, IsChangedAt, IsRecut, cell_in, run_in};
-ghost use Rattle.rt_tree.specs.Stretches.{AreChanged, AreKept, marked_run};
+ghost use Rattle.rt_tree.specs.Stretches.{AreChanged, AreKept, IsGiven, marked_run};
+ghost use Rattle.rt_tree.specs.Summaries.{AreTold};
 ghost use Rattle.rt_tree.specs.Sums.{counts_of};
 ghost use Rattle.rt_tree.specs.Trees.{HasNodes};
 
@@ -17,9 +18,10 @@ use crate::find::cells_of;
 use crate::homes::Homes;
 use crate::node::{Mem, Run};
 use crate::put::{found_at, replace_at};
+use crate::summed::Summaries;
 use rt_nodes::NodeId;
 use rt_stamps::{Span, Stamp};
-use rt_tags::StateId;
+use rt_tags::{StateId, StateTable};
 
 /// What cells become.
 #[derive(Clone, Copy, Debug, PartialEq, Eq)]
@@ -45,35 +47,58 @@ fn is_first_in(span: Span, run: &Run) -> bool
 }
 
 // Marks the run that has the cell at a position, if its first stamp is in a span, and tells how many cells the run has.
-fn mark_run(mem: &mut Mem, root: NodeId, at: usize, span: Span, mark: &Mark) -> u32
+fn mark_run(
+    mem: &mut Mem,
+    sums: &mut Summaries,
+    states: &StateTable,
+    root: NodeId,
+    at: usize,
+    span: Span,
+    mark: &Mark,
+) -> u32
     requires tree { IsTree mem.old root.index }
     requires kept { AreKept (tree_runs mem.old root.index) }
     requires few { (counts_of (tree_runs mem.old root.index)).cells ≤ MOST_CELLS }
     requires within { at < (counts_of (tree_runs mem.old root.index)).cells }
+    requires told { AreTold states.now mem.old sums.old (tree_runs mem.old root.index) }
+    requires mark { IsGiven states.now mark.now }
     ensures tree { IsTree mem.new root.index }
     ensures run { IsChangedAt (tree_runs mem.old root.index) (tree_runs mem.new root.index) at (run_in span mark.now) result }
     ensures room { length mem.new.heads + mem.new.room ≡ length mem.old.heads + mem.old.room }
+    ensures told { AreTold states.now mem.new sums.new (tree_runs mem.new root.index) }
+    ensures tags { sums.new.tags ≡ sums.old.tags }
 {
     let found = found_at(mem, root, at);
     if is_first_in(span, &found.run) {
-        replace_at(mem, root, found.spot, marked(found.run, mark));
+        replace_at(mem, sums, states, root, found.spot, marked(found.run, mark));
     }
     found.run.len
 }
 
 // Marks each run whose first stamp is in a span, by a walk from run to run.
-fn mark_runs(mem: &mut Mem, root: NodeId, span: Span, mark: &Mark)
+fn mark_runs(
+    mem: &mut Mem,
+    sums: &mut Summaries,
+    states: &StateTable,
+    root: NodeId,
+    span: Span,
+    mark: &Mark,
+)
     requires tree { IsTree mem.old root.index }
     requires kept { AreKept (tree_runs mem.old root.index) }
     requires few { (counts_of (tree_runs mem.old root.index)).cells ≤ MOST_CELLS }
+    requires told { AreTold states.now mem.old sums.old (tree_runs mem.old root.index) }
+    requires mark { IsGiven states.now mark.now }
     ensures tree { IsTree mem.new root.index }
     ensures runs { tree_runs mem.new root.index ≡ map (run_in span mark.now) (tree_runs mem.old root.index) }
     ensures room { length mem.new.heads + mem.new.room ≡ length mem.old.heads + mem.old.room }
+    ensures told { AreTold states.now mem.new sums.new (tree_runs mem.new root.index) }
+    ensures tags { sums.new.tags ≡ sums.old.tags }
 {
     let all = cells_of(mem, root);
     let mut at = 0;
     while at < all {
-        let len = mark_run(mem, root, at, span, mark);
+        let len = mark_run(mem, sums, states, root, at, span, mark);
         at += len as usize;
     }
 }
@@ -82,6 +107,8 @@ fn mark_runs(mem: &mut Mem, root: NodeId, span: Span, mark: &Mark)
 // is the next one.
 fn mark_at(
     mem: &mut Mem,
+    sums: &mut Summaries,
+    states: &StateTable,
     root: NodeId,
     span: Span,
     count: u64,
@@ -93,10 +120,14 @@ fn mark_at(
     requires kept { AreKept (tree_runs mem.old root.index) }
     requires few { (counts_of (tree_runs mem.old root.index)).cells ≤ MOST_CELLS }
     requires home { homes.now.sure ≡ true → AreHome homes.now.leaves (tree_runs mem.old root.index) }
+    requires told { AreTold states.now mem.old sums.old (tree_runs mem.old root.index) }
+    requires mark { IsGiven states.now mark.now }
     ensures tree { IsTree mem.new root.index }
     ensures none { result ≡ None → tree_runs mem.new root.index ≡ tree_runs mem.old root.index }
     ensures some { IfSome result (λ next. MarksOn span mark.now count next (tree_runs mem.old root.index) (tree_runs mem.new root.index)) }
     ensures room { length mem.new.heads + mem.new.room ≡ length mem.old.heads + mem.old.room }
+    ensures told { AreTold states.now mem.new sums.new (tree_runs mem.new root.index) }
+    ensures tags { sums.new.tags ≡ sums.old.tags }
 {
     let site = span.site;
     let stamp = Stamp { count, site };
@@ -109,28 +140,48 @@ fn mark_at(
         return None;
     }
     let next = count.checked_add(home.run.len as u64)?;
-    mark_run(mem, root, home.before.cells as usize, span, mark);
+    mark_run(
+        mem,
+        sums,
+        states,
+        root,
+        home.before.cells as usize,
+        span,
+        mark,
+    );
     Some(next)
 }
 
 // Marks runs whose first stamp is in a span, by its stamps and their leaves, and tells whether all were found. A long span has
 // more stamps than there are cells, and isn't tried.
-fn mark_by_homes(mem: &mut Mem, root: NodeId, span: Span, mark: &Mark, homes: &Homes) -> bool
+fn mark_by_homes(
+    mem: &mut Mem,
+    sums: &mut Summaries,
+    states: &StateTable,
+    root: NodeId,
+    span: Span,
+    mark: &Mark,
+    homes: &Homes,
+) -> bool
     requires tree { IsTree mem.old root.index }
     requires kept { AreKept (tree_runs mem.old root.index) }
     requires few { (counts_of (tree_runs mem.old root.index)).cells ≤ MOST_CELLS }
     requires home { homes.now.sure ≡ true → AreHome homes.now.leaves (tree_runs mem.old root.index) }
+    requires told { AreTold states.now mem.old sums.old (tree_runs mem.old root.index) }
+    requires mark { IsGiven states.now mark.now }
     ensures tree { IsTree mem.new root.index }
     ensures part { (count : ℕ) × (tree_runs mem.new root.index ≡ map (run_to span count mark.now) (tree_runs mem.old root.index)) }
     ensures all { result ≡ true → tree_runs mem.new root.index ≡ map (run_in span mark.now) (tree_runs mem.old root.index) }
     ensures room { length mem.new.heads + mem.new.room ≡ length mem.old.heads + mem.old.room }
+    ensures told { AreTold states.now mem.new sums.new (tree_runs mem.new root.index) }
+    ensures tags { sums.new.tags ≡ sums.old.tags }
 {
     if span.last.saturating_sub(span.first) > cells_of(mem, root) as u64 {
         return false;
     }
     let mut count = span.first;
     while count <= span.last {
-        match mark_at(mem, root, span, count, mark, homes) {
+        match mark_at(mem, sums, states, root, span, count, mark, homes) {
             None => return false,
             Some(next) => count = next,
         }
@@ -139,29 +190,50 @@ fn mark_by_homes(mem: &mut Mem, root: NodeId, span: Span, mark: &Mark, homes: &H
 }
 
 // Marks each run whose first stamp is in a span.
-fn mark_all(mem: &mut Mem, root: NodeId, span: Span, mark: &Mark, homes: &Homes)
+fn mark_all(
+    mem: &mut Mem,
+    sums: &mut Summaries,
+    states: &StateTable,
+    root: NodeId,
+    span: Span,
+    mark: &Mark,
+    homes: &Homes,
+)
     requires tree { IsTree mem.old root.index }
     requires kept { AreKept (tree_runs mem.old root.index) }
     requires few { (counts_of (tree_runs mem.old root.index)).cells ≤ MOST_CELLS }
     requires home { homes.now.sure ≡ true → AreHome homes.now.leaves (tree_runs mem.old root.index) }
+    requires told { AreTold states.now mem.old sums.old (tree_runs mem.old root.index) }
+    requires mark { IsGiven states.now mark.now }
     ensures tree { IsTree mem.new root.index }
     ensures runs { tree_runs mem.new root.index ≡ map (run_in span mark.now) (tree_runs mem.old root.index) }
     ensures room { length mem.new.heads + mem.new.room ≡ length mem.old.heads + mem.old.room }
+    ensures told { AreTold states.now mem.new sums.new (tree_runs mem.new root.index) }
+    ensures tags { sums.new.tags ≡ sums.old.tags }
 {
-    if mark_by_homes(mem, root, span, mark, homes) {
+    if mark_by_homes(mem, sums, states, root, span, mark, homes) {
         return;
     }
-    mark_runs(mem, root, span, mark);
+    mark_runs(mem, sums, states, root, span, mark);
 }
 
 // Sees to it that each run which has the stamp behind a span begins with it.
-fn part_behind(mem: &mut Mem, root: NodeId, span: Span, homes: &mut Homes, keep: usize) -> Change
+fn part_behind(
+    mem: &mut Mem,
+    sums: &mut Summaries,
+    states: &StateTable,
+    root: NodeId,
+    span: Span,
+    homes: &mut Homes,
+    keep: usize,
+) -> Change
     requires home { homes.old.sure ≡ true → AreHome homes.old.leaves (tree_runs mem.old root.index) }
     requires tree { IsTree mem.old root.index }
     requires kept { AreKept (tree_runs mem.old root.index) }
     requires apart { AreApart (tree_runs mem.old root.index) }
     requires few { (counts_of (tree_runs mem.old root.index)).cells ≤ MOST_CELLS }
     requires room { HasNodes mem.old (length (tree_runs mem.old root.index)) }
+    requires told { AreTold states.now mem.old sums.old (tree_runs mem.old root.index) }
     ensures home { homes.new.sure ≡ true → AreHome homes.new.leaves (tree_runs mem.new result.root.index) }
     ensures left { keep ≤ homes.old.left → keep ≤ homes.new.left }
     ensures tree { IsTree mem.new result.root.index }
@@ -170,12 +242,14 @@ fn part_behind(mem: &mut Mem, root: NodeId, span: Span, homes: &mut Homes, keep:
     ensures runs { length (tree_runs mem.new result.root.index) ≡ length (tree_runs mem.old root.index) + result.more }
     ensures more { result.more ≤ 1 }
     ensures room { length mem.new.heads + mem.new.room ≡ length mem.old.heads + mem.old.room }
+    ensures told { AreTold states.now mem.new sums.new (tree_runs mem.new result.root.index) }
+    ensures tags { sums.new.tags ≡ sums.old.tags }
 {
     match span.last.checked_add(1) {
         None => Change { root, more: 0 },
         Some(count) => {
             let site = span.site;
-            part(mem, root, Stamp { count, site }, homes, keep)
+            part(mem, sums, states, root, Stamp { count, site }, homes, keep)
         }
     }
 }
@@ -183,6 +257,8 @@ fn part_behind(mem: &mut Mem, root: NodeId, span: Span, homes: &mut Homes, keep:
 // Marks the cells of a span of stamps, in two runs more at most.
 pub(crate) fn mark_span(
     mem: &mut Mem,
+    sums: &mut Summaries,
+    states: &StateTable,
     root: NodeId,
     span: Span,
     mark: Mark,
@@ -195,6 +271,8 @@ pub(crate) fn mark_span(
     requires apart { AreApart (tree_runs mem.old root.index) }
     requires few { (counts_of (tree_runs mem.old root.index)).cells ≤ MOST_CELLS }
     requires room { HasNodes mem.old (length (tree_runs mem.old root.index) + 1) }
+    requires told { AreTold states.now mem.old sums.old (tree_runs mem.old root.index) }
+    requires mark { IsGiven states.now mark }
     ensures home { homes.new.sure ≡ true → AreHome homes.new.leaves (tree_runs mem.new result.root.index) }
     ensures left { keep ≤ homes.old.left → keep ≤ homes.new.left }
     ensures tree { IsTree mem.new result.root.index }
@@ -204,14 +282,16 @@ pub(crate) fn mark_span(
     ensures runs { length (tree_runs mem.new result.root.index) ≡ length (tree_runs mem.old root.index) + result.more }
     ensures more { result.more ≤ 2 }
     ensures room { length mem.new.heads + mem.new.room ≡ length mem.old.heads + mem.old.room }
+    ensures told { AreTold states.now mem.new sums.new (tree_runs mem.new result.root.index) }
+    ensures tags { sums.new.tags ≡ sums.old.tags }
 {
     let begin = Stamp {
         count: span.first,
         site: span.site,
     };
-    let first = part(mem, root, begin, homes, keep);
-    let second = part_behind(mem, first.root, span, homes, keep);
-    mark_all(mem, second.root, span, &mark, homes);
+    let first = part(mem, sums, states, root, begin, homes, keep);
+    let second = part_behind(mem, sums, states, first.root, span, homes, keep);
+    mark_all(mem, sums, states, second.root, span, &mark, homes);
     Change {
         root: second.root,
         more: first.more + second.more,

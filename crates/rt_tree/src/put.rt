@@ -1,27 +1,40 @@
 // Runs put in, and put in place of others.
 ghost use Rattle.std.specs.Prelude.{◌≡◌, ℕ, ◌+◌, ◌*◌, ◌<◌, ◌≤◌, ◌^◌, insert, length, true};
 ghost use Rattle.rt_nodes.specs.Nodes.{entries};
+ghost use Rattle.rt_tags.specs.States.{IsState};
 ghost use Rattle.rt_tree.specs.declared.node.Measure.TheVariants.{Cells};
 ghost use Rattle.rt_tree.specs.declared.node.Run.{Run};
 ghost use Rattle.rt_tree.specs.Changes.{AreExact, AreFilled, bare};
 ghost use Rattle.rt_tree.specs.Homes.{AreHome};
 ghost use Rattle.rt_tree.specs.Shape.{IsShape, IsTree, ahead, level_of, runs, tree_runs};
 ghost use Rattle.rt_tree.specs.Sharing.{AreKnown};
+ghost use Rattle.rt_tree.specs.Summaries.{AreTold};
 ghost use Rattle.rt_tree.specs.Sums.{AreFew, amount, counts_of, counts_of_run, plus};
 ghost use Rattle.rt_tree.specs.Trees.{HasNodes};
 ghost use Rattle.rt_tree.specs.Walks.{IsPutAt, IsReplacedAt, IsSpot, StandsAt};
 
-use crate::change::{put_run, set_run};
 use crate::homes::Homes;
 use crate::looks::Counted;
 use crate::node::{Measure, Mem, Run};
+use crate::resum::{insert_run, replace_run};
 use crate::room::{make_room, top_room};
 use crate::settle::level_of;
+use crate::summed::Summaries;
 use crate::walk::{Found, Spot, descend_by};
 use rt_nodes::NodeId;
+use rt_tags::StateTable;
 
 // Puts a run in at a place of a leaf, the root having room.
-fn insert_run(mem: &mut Mem, root: NodeId, height: u32, leaf: NodeId, i: usize, run: Run)
+fn insert_at(
+    mem: &mut Mem,
+    sums: &mut Summaries,
+    states: &StateTable,
+    root: NodeId,
+    height: u32,
+    leaf: NodeId,
+    i: usize,
+    run: Run,
+)
     requires tree { IsShape (bare mem.old) height root.index }
     requires exact { AreExact mem.old }
     requires filled { AreFilled mem.old root.index }
@@ -32,15 +45,29 @@ fn insert_run(mem: &mut Mem, root: NodeId, height: u32, leaf: NodeId, i: usize, 
     requires room { HasNodes mem.old (length (runs (bare mem.old) height root.index)) }
     requires still_few { AreFew (counts_of
         (insert (runs (bare mem.old) height root.index) (length (ahead (bare mem.old) height leaf.index) + i) run)) }
+    requires told { AreTold states.now mem.old sums.old (runs (bare mem.old) height root.index) }
+    requires short { length (runs (bare mem.old) height root.index) + 5 < 2 ^ 32 }
+    requires state { IsState states.now run.state }
     ensures tree { IsShape (bare mem.new) height root.index }
     ensures exact { AreExact mem.new }
     ensures filled { AreFilled mem.new root.index }
     ensures runs { runs (bare mem.new) height root.index
         ≡ insert (runs (bare mem.old) height root.index) (length (ahead (bare mem.old) height leaf.index) + i) run }
     ensures room { length mem.new.heads + mem.new.room ≡ length mem.old.heads + mem.old.room }
+    ensures told { AreTold states.now mem.new sums.new (runs (bare mem.new) height root.index) }
+    ensures tags { sums.new.tags ≡ sums.old.tags }
 {
-    let place = make_room(mem, root, height, leaf, i);
-    put_run(mem, root, height, place.leaf, place.entry, run);
+    let place = make_room(mem, sums, states, root, height, leaf, i);
+    insert_run(
+        mem,
+        sums,
+        states,
+        root,
+        height,
+        place.leaf,
+        place.entry,
+        run,
+    );
 }
 
 // The run that has the cell at a position, with the spot where it stands.
@@ -69,20 +96,34 @@ fn spot_of(mem: &Mem, root: NodeId, at: usize) -> Spot
 }
 
 // Puts a run in before the one that has the cell at a position. The root may now be another node.
-pub(crate) fn put(mem: &mut Mem, root: NodeId, at: usize, run: Run) -> NodeId
+pub(crate) fn put(
+    mem: &mut Mem,
+    sums: &mut Summaries,
+    states: &StateTable,
+    root: NodeId,
+    at: usize,
+    run: Run,
+) -> NodeId
     requires tree { IsTree mem.old root.index }
     requires within { at < (counts_of (tree_runs mem.old root.index)).cells }
     requires few { AreFew (plus (counts_of_run run) (counts_of (tree_runs mem.old root.index))) }
     requires height { level_of mem.old root.index + 1 < 2 ^ 32 }
     requires room { HasNodes mem.old (length (tree_runs mem.old root.index)) }
+    requires told { AreTold states.now mem.old sums.old (tree_runs mem.old root.index) }
+    requires short { length (tree_runs mem.old root.index) + 5 < 2 ^ 32 }
+    requires state { IsState states.now run.state }
     ensures tree { IsTree mem.new result.index }
     ensures runs { IsPutAt (tree_runs mem.old root.index) (tree_runs mem.new result.index) at run }
     ensures room { length mem.new.heads + mem.new.room ≡ length mem.old.heads + mem.old.room }
+    ensures told { AreTold states.now mem.new sums.new (tree_runs mem.new result.index) }
+    ensures tags { sums.new.tags ≡ sums.old.tags }
 {
     let height = level_of(mem, root);
-    let top = top_room(mem, root, height);
+    let top = top_room(mem, sums, states, root, height);
     let spot = spot_of(mem, top.root, at);
-    insert_run(mem, top.root, top.height, spot.leaf, spot.entry, run);
+    insert_at(
+        mem, sums, states, top.root, top.height, spot.leaf, spot.entry, run,
+    );
     top.root
 }
 
@@ -90,6 +131,8 @@ pub(crate) fn put(mem: &mut Mem, root: NodeId, at: usize, run: Run) -> NodeId
 // than `newest`; so many spans can be given a leaf later.
 pub(crate) fn put_home(
     mem: &mut Mem,
+    sums: &mut Summaries,
+    states: &StateTable,
     root: NodeId,
     at: usize,
     run: Run,
@@ -106,31 +149,48 @@ pub(crate) fn put_home(
     requires known { AreKnown newest (tree_runs mem.old root.index) }
     requires home { homes.old.sure ≡ true → AreHome homes.old.leaves (tree_runs mem.old root.index) }
     requires left { keep < homes.old.left }
+    requires told { AreTold states.now mem.old sums.old (tree_runs mem.old root.index) }
+    requires short { length (tree_runs mem.old root.index) + 5 < 2 ^ 32 }
+    requires state { IsState states.now run.state }
     ensures tree { IsTree mem.new result.index }
     ensures runs { IsPutAt (tree_runs mem.old root.index) (tree_runs mem.new result.index) at run }
     ensures room { length mem.new.heads + mem.new.room ≡ length mem.old.heads + mem.old.room }
     ensures home { homes.new.sure ≡ true → AreHome homes.new.leaves (tree_runs mem.new result.index) }
     ensures left { keep ≤ homes.new.left }
+    ensures told { AreTold states.now mem.new sums.new (tree_runs mem.new result.index) }
+    ensures tags { sums.new.tags ≡ sums.old.tags }
 {
     let spot = spot_of(mem, root, at);
     let is_new = homes.is_new(newest, &run);
     let nodes = mem.nodes();
-    let root = put(mem, root, at, run);
+    let root = put(mem, sums, states, root, at, run);
     homes.enter(&run, spot.leaf, is_new);
     homes.note_new(mem, nodes, keep);
     root
 }
 
 // Puts a run in place of the one at a spot.
-pub(crate) fn replace_at(mem: &mut Mem, root: NodeId, spot: Spot, run: Run)
+pub(crate) fn replace_at(
+    mem: &mut Mem,
+    sums: &mut Summaries,
+    states: &StateTable,
+    root: NodeId,
+    spot: Spot,
+    run: Run,
+)
     requires tree { IsTree mem.old root.index }
     requires spot { (at : ℕ) × (before : Run) × IsSpot mem.old root.index Cells at spot.leaf.index spot.entry spot.offset before }
     requires few { AreFew (plus (counts_of_run run) (counts_of (tree_runs mem.old root.index))) }
+    requires told { AreTold states.now mem.old sums.old (tree_runs mem.old root.index) }
+    requires short { length (tree_runs mem.old root.index) + 5 < 2 ^ 32 }
+    requires state { IsState states.now run.state }
     ensures tree { IsTree mem.new root.index }
     ensures runs { (at : ℕ) (before : Run) → IsSpot mem.old root.index Cells at spot.leaf.index spot.entry spot.offset before
         → IsReplacedAt (tree_runs mem.old root.index) (tree_runs mem.new root.index) at run }
     ensures room { (mem.new.room ≡ mem.old.room) × (length mem.new.heads ≡ length mem.old.heads) }
+    ensures told { AreTold states.now mem.new sums.new (tree_runs mem.new root.index) }
+    ensures tags { sums.new.tags ≡ sums.old.tags }
 {
     let height = level_of(mem, root);
-    set_run(mem, root, height, spot.leaf, spot.entry, run);
+    replace_run(mem, sums, states, root, height, spot.leaf, spot.entry, run);
 }

@@ -3,13 +3,16 @@ ghost use Rattle.std.specs.Prelude.{◌≡◌, ℕ, ◌+◌, ◌-◌, ◌<◌, �
 ghost use Rattle.rt_nodes.specs.Nodes.{entries};
 ghost use Rattle.rt_tree.specs.Changes.{AreExact, AreFilled, above, bare};
 ghost use Rattle.rt_tree.specs.Shape.{IsShape, ahead, level_of, parent_of, runs};
+ghost use Rattle.rt_tree.specs.Summaries.{AreTold};
 ghost use Rattle.rt_tree.specs.Sums.{AreFew, counts_of};
 ghost use Rattle.rt_tree.specs.Trees.{HasNodes};
 
 use crate::node::Mem;
+use crate::regrow::{add_root, cut_node};
 use crate::settle::{parent_of, slot_of};
-use crate::split::{grow, split};
+use crate::summed::Summaries;
 use rt_nodes::NodeId;
+use rt_tags::StateTable;
 
 // The node so many levels above a node.
 fn above(mem: &Mem, root: NodeId, height: u32, node: NodeId, levels: u32) -> NodeId
@@ -33,7 +36,14 @@ pub(crate) struct Place {
 }
 
 // Sees to it that the node above a leaf has room, the root having some.
-fn make_way(mem: &mut Mem, root: NodeId, height: u32, leaf: NodeId)
+fn make_way(
+    mem: &mut Mem,
+    sums: &mut Summaries,
+    states: &StateTable,
+    root: NodeId,
+    height: u32,
+    leaf: NodeId,
+)
     requires tree { IsShape (bare mem.old) height root.index }
     requires exact { AreExact mem.old }
     requires filled { AreFilled mem.old root.index }
@@ -41,6 +51,8 @@ fn make_way(mem: &mut Mem, root: NodeId, height: u32, leaf: NodeId)
     requires leaf { (leaf.index < length mem.old.heads) × (level_of (bare mem.old) leaf.index ≡ 0) }
     requires root_room { length (entries mem.old root.index) < 16 }
     requires room { HasNodes mem.old (length (runs (bare mem.old) height root.index)) }
+    requires told { AreTold states.now mem.old sums.old (runs (bare mem.old) height root.index) }
+    requires short { length (runs (bare mem.old) height root.index) + 5 < 2 ^ 32 }
     ensures tree { IsShape (bare mem.new) height root.index }
     ensures exact { AreExact mem.new }
     ensures filled { AreFilled mem.new root.index }
@@ -50,6 +62,8 @@ fn make_way(mem: &mut Mem, root: NodeId, height: u32, leaf: NodeId)
     ensures ahead { ahead (bare mem.new) height leaf.index ≡ ahead (bare mem.old) height leaf.index }
     ensures way { 0 < height → length (entries mem.new (parent_of (bare mem.new) leaf.index)) < 16 }
     ensures room { length mem.new.heads + mem.new.room ≡ length mem.old.heads + mem.old.room }
+    ensures told { AreTold states.now mem.new sums.new (runs (bare mem.new) height root.index) }
+    ensures tags { sums.new.tags ≡ sums.old.tags }
 {
     let mut level = height;
     while level > 1 {
@@ -58,14 +72,22 @@ fn make_way(mem: &mut Mem, root: NodeId, height: u32, leaf: NodeId)
         if mem.len(node) >= 16 {
             let parent = parent_of(mem, node);
             let slot = slot_of(mem, parent, node);
-            split(mem, root, height, node, parent, slot);
+            cut_node(mem, sums, states, root, height, node, parent, slot);
         }
         level = next;
     }
 }
 
 // Sees to it that a place's leaf has room, the root having some; the place may now be in a new leaf.
-pub(crate) fn make_room(mem: &mut Mem, root: NodeId, height: u32, leaf: NodeId, i: usize) -> Place
+pub(crate) fn make_room(
+    mem: &mut Mem,
+    sums: &mut Summaries,
+    states: &StateTable,
+    root: NodeId,
+    height: u32,
+    leaf: NodeId,
+    i: usize,
+) -> Place
     requires tree { IsShape (bare mem.old) height root.index }
     requires exact { AreExact mem.old }
     requires filled { AreFilled mem.old root.index }
@@ -74,6 +96,8 @@ pub(crate) fn make_room(mem: &mut Mem, root: NodeId, height: u32, leaf: NodeId, 
     requires within { i ≤ length (entries mem.old leaf.index) }
     requires root_room { length (entries mem.old root.index) < 16 }
     requires room { HasNodes mem.old (length (runs (bare mem.old) height root.index)) }
+    requires told { AreTold states.now mem.old sums.old (runs (bare mem.old) height root.index) }
+    requires short { length (runs (bare mem.old) height root.index) + 5 < 2 ^ 32 }
     ensures tree { IsShape (bare mem.new) height root.index }
     ensures exact { AreExact mem.new }
     ensures filled { AreFilled mem.new root.index }
@@ -83,14 +107,16 @@ pub(crate) fn make_room(mem: &mut Mem, root: NodeId, height: u32, leaf: NodeId, 
     ensures leaf_room { length (entries mem.new result.leaf.index) < 16 }
     ensures place { length (ahead (bare mem.new) height result.leaf.index) + result.entry ≡ length (ahead (bare mem.old) height leaf.index) + i }
     ensures room { length mem.new.heads + mem.new.room ≡ length mem.old.heads + mem.old.room }
+    ensures told { AreTold states.now mem.new sums.new (runs (bare mem.new) height root.index) }
+    ensures tags { sums.new.tags ≡ sums.old.tags }
 {
     if mem.len(leaf) < 16 {
         return Place { leaf, entry: i };
     }
-    make_way(mem, root, height, leaf);
+    make_way(mem, sums, states, root, height, leaf);
     let parent = parent_of(mem, leaf);
     let slot = slot_of(mem, parent, leaf);
-    let new = split(mem, root, height, leaf, parent, slot);
+    let new = cut_node(mem, sums, states, root, height, leaf, parent, slot);
     let half = mem.len(leaf);
     if i <= half {
         Place { leaf, entry: i }
@@ -110,13 +136,21 @@ pub(crate) struct Top {
 }
 
 // Sees to it that the root has room.
-pub(crate) fn top_room(mem: &mut Mem, root: NodeId, height: u32) -> Top
+pub(crate) fn top_room(
+    mem: &mut Mem,
+    sums: &mut Summaries,
+    states: &StateTable,
+    root: NodeId,
+    height: u32,
+) -> Top
     requires tree { IsShape (bare mem.old) height root.index }
     requires exact { AreExact mem.old }
     requires filled { AreFilled mem.old root.index }
     requires few { AreFew (counts_of (runs (bare mem.old) height root.index)) }
     requires height { height + 1 < 2 ^ 32 }
     requires room { HasNodes mem.old (length (runs (bare mem.old) height root.index)) }
+    requires told { AreTold states.now mem.old sums.old (runs (bare mem.old) height root.index) }
+    requires short { length (runs (bare mem.old) height root.index) + 5 < 2 ^ 32 }
     ensures tree { IsShape (bare mem.new) result.height result.root.index }
     ensures exact { AreExact mem.new }
     ensures filled { AreFilled mem.new result.root.index }
@@ -124,12 +158,14 @@ pub(crate) fn top_room(mem: &mut Mem, root: NodeId, height: u32) -> Top
     ensures roomy { length (entries mem.new result.root.index) < 16 }
     ensures height { result.height ≤ height + 1 }
     ensures room { length mem.new.heads + mem.new.room ≡ length mem.old.heads + mem.old.room }
+    ensures told { AreTold states.now mem.new sums.new (runs (bare mem.new) result.height result.root.index) }
+    ensures tags { sums.new.tags ≡ sums.old.tags }
 {
     if mem.len(root) < 16 {
         return Top { root, height };
     }
-    let top = grow(mem, root, height);
-    split(mem, top, height + 1, root, top, 0);
+    let top = add_root(mem, sums, states, root, height);
+    cut_node(mem, sums, states, top, height + 1, root, top, 0);
     Top {
         root: top,
         height: height + 1,

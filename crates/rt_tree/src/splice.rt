@@ -3,12 +3,14 @@ ghost use Rattle.std.specs.Prelude.{◌≡◌, ◌+◌, ◌<◌, ◌≤◌, ◌^
 ghost use Rattle.std.specs.List.{AllByRecursion, list_any};
 ghost use Rattle.rt_stamps.specs.declared.limits.TheConstants.{MOST_CELLS};
 ghost use Rattle.rt_store.specs.Cells.{put_at};
+ghost use Rattle.rt_store.specs.Tagged.{AreStates};
 ghost use Rattle.rt_tree.specs.Additions.{are_joint, EndsWith, IsFrontOf, IsRunOf, IsStretch, follows, joined, run_from, stretches};
 ghost use Rattle.rt_tree.specs.Homes.{AreHome, AreOnceEach, IsAmong, IsNew};
 ghost use Rattle.rt_tree.specs.Runs.{IsRun, cells_of};
 ghost use Rattle.rt_tree.specs.Shape.{IsTree, tree_runs};
 ghost use Rattle.rt_tree.specs.Sharing.{AreApart, AreKnown, AreOnce, AreUpTo, is_shared_by};
 ghost use Rattle.rt_tree.specs.Stretches.{AreChanged, AreKept, IsEdge, lengths};
+ghost use Rattle.rt_tree.specs.Summaries.{AreTold};
 ghost use Rattle.rt_tree.specs.Sums.{counts_of};
 ghost use Rattle.rt_tree.specs.Trees.{HasNodes};
 
@@ -17,9 +19,10 @@ use crate::find::{cells_of, first_stamp, has, seek};
 use crate::homes::Homes;
 use crate::node::{Measure, Mem, Run};
 use crate::put::{found_at, put_home, replace_at};
+use crate::summed::Summaries;
 use rt_nodes::NodeId;
 use rt_store::Cell;
-use rt_tags::StateId;
+use rt_tags::{StateId, StateTable};
 
 // Whether a cell goes on where another ends.
 fn follows(before: Cell<StateId>, cell: Cell<StateId>) -> bool
@@ -224,6 +227,8 @@ fn choose(
 // Puts cells in before a position at which a run begins.
 fn put_runs(
     mem: &mut Mem,
+    sums: &mut Summaries,
+    states: &StateTable,
     root: NodeId,
     text: &[char],
     at: usize,
@@ -244,6 +249,8 @@ fn put_runs(
     requires within { at < (counts_of (tree_runs mem.old root.index)).cells }
     requires edge { IsEdge (lengths (tree_runs mem.old root.index)) at }
     requires room { HasNodes mem.old (length (tree_runs mem.old root.index) + length cells.now) }
+    requires told { AreTold states.now mem.old sums.old (tree_runs mem.old root.index) }
+    requires states { AreStates states.now cells.now }
     ensures tree { IsTree mem.new result.root.index }
     ensures cells { AreChanged (tree_runs mem.old root.index) (tree_runs mem.new result.root.index) text.now (put_at at cells.now) }
     ensures apart { AreApart (tree_runs mem.new result.root.index) }
@@ -253,6 +260,8 @@ fn put_runs(
     ensures home { homes.new.sure ≡ true → AreHome homes.new.leaves (tree_runs mem.new result.root.index) }
     ensures left { keep ≤ homes.new.left }
     ensures room { length mem.new.heads + mem.new.room ≡ length mem.old.heads + mem.old.room }
+    ensures told { AreTold states.now mem.new sums.new (tree_runs mem.new result.root.index) }
+    ensures tags { sums.new.tags ≡ sums.old.tags }
 {
     let mut root = root;
     let mut done = 0;
@@ -263,7 +272,17 @@ fn put_runs(
         let next = choose(mem, root, text, cells, done, lone, newest, homes);
         let to = done + next.run.len as usize;
         let left = keep + (cells.len() - to);
-        root = put_home(mem, root, at + done, next.run, homes, newest, left);
+        root = put_home(
+            mem,
+            sums,
+            states,
+            root,
+            at + done,
+            next.run,
+            homes,
+            newest,
+            left,
+        );
         newest = newest_of(newest, &cells[done..to]);
         done = to;
         lone = next.lone;
@@ -333,6 +352,8 @@ fn is_barred(mem: &Mem, root: NodeId, newest: u64, before: Run, run: Run, is_new
 // Lets the run that ends at a position go on with the first of new cells, if these follow it, and tells how many they are.
 fn extend(
     mem: &mut Mem,
+    sums: &mut Summaries,
+    states: &StateTable,
     root: NodeId,
     text: &[char],
     at: usize,
@@ -351,6 +372,8 @@ fn extend(
     requires short { length text.now ≤ MOST_CELLS }
     requires few { (counts_of (tree_runs mem.old root.index)).cells + length cells.now ≤ MOST_CELLS }
     requires within { at < (counts_of (tree_runs mem.old root.index)).cells }
+    requires told { AreTold states.now mem.old sums.old (tree_runs mem.old root.index) }
+    requires states { AreStates states.now cells.now }
     ensures tree { IsTree mem.new root.index }
     ensures within { result ≤ length cells.now }
     ensures cells { AreChanged (tree_runs mem.old root.index) (tree_runs mem.new root.index) text.now (put_at at (take result cells.now)) }
@@ -359,6 +382,8 @@ fn extend(
     ensures home { homes.new.sure ≡ true → AreHome homes.new.leaves (tree_runs mem.new root.index) }
     ensures left { keep + (length cells.now - result) ≤ homes.new.left }
     ensures room { length mem.new.heads + mem.new.room ≡ length mem.old.heads + mem.old.room }
+    ensures told { AreTold states.now mem.new sums.new (tree_runs mem.new root.index) }
+    ensures tags { sums.new.tags ≡ sums.old.tags }
 {
     if at == 0 || cells.is_empty() {
         return 0;
@@ -373,7 +398,7 @@ fn extend(
         return 0;
     }
     let whole = joined(found.run, run);
-    replace_at(mem, root, found.spot, whole);
+    replace_at(mem, sums, states, root, found.spot, whole);
     homes.enter(&whole, found.spot.leaf, is_new);
     run.len as usize
 }
@@ -381,6 +406,8 @@ fn extend(
 // Puts cells in at a position; their characters are the last of the text.
 pub(crate) fn put_cells(
     mem: &mut Mem,
+    sums: &mut Summaries,
+    states: &StateTable,
     root: NodeId,
     text: &[char],
     at: usize,
@@ -400,6 +427,8 @@ pub(crate) fn put_cells(
     requires few { (counts_of (tree_runs mem.old root.index)).cells + length cells.now ≤ MOST_CELLS }
     requires within { at < (counts_of (tree_runs mem.old root.index)).cells }
     requires room { HasNodes mem.old (length (tree_runs mem.old root.index) + length cells.now + 1) }
+    requires told { AreTold states.now mem.old sums.old (tree_runs mem.old root.index) }
+    requires states { AreStates states.now cells.now }
     ensures tree { IsTree mem.new result.root.index }
     ensures cells { AreChanged (tree_runs mem.old root.index) (tree_runs mem.new result.root.index) text.now (put_at at cells.now) }
     ensures apart { AreApart (tree_runs mem.new result.root.index) }
@@ -409,15 +438,30 @@ pub(crate) fn put_cells(
     ensures home { homes.new.sure ≡ true → AreHome homes.new.leaves (tree_runs mem.new result.root.index) }
     ensures left { keep ≤ homes.new.left }
     ensures room { length mem.new.heads + mem.new.room ≡ length mem.old.heads + mem.old.room }
+    ensures told { AreTold states.now mem.new sums.new (tree_runs mem.new result.root.index) }
+    ensures tags { sums.new.tags ≡ sums.old.tags }
 {
-    let done = extend(mem, root, text, at, cells, newest, homes, keep);
+    let done = extend(
+        mem, sums, states, root, text, at, cells, newest, homes, keep,
+    );
     if done == cells.len() {
         return Change { root, more: 0 };
     }
     let rest = &cells[done..];
-    let first = cut_home(mem, root, at + done, homes, keep + rest.len());
+    let first = cut_home(mem, sums, states, root, at + done, homes, keep + rest.len());
     let newest = newest_of(newest, &cells[..done]);
-    let then = put_runs(mem, first.root, text, at + done, rest, newest, homes, keep);
+    let then = put_runs(
+        mem,
+        sums,
+        states,
+        first.root,
+        text,
+        at + done,
+        rest,
+        newest,
+        homes,
+        keep,
+    );
     Change {
         root: then.root,
         more: first.more + then.more,

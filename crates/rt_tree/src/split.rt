@@ -76,6 +76,8 @@ pub(crate) fn split(
     ensures wider { length (entries mem.new parent.index) ≡ length (entries mem.old parent.index) + 1 }
     ensures halves { AreHalves mem.old mem.new node.index result.index }
     ensures still { AreStill mem.old mem.new height node.index result.index }
+    ensures others { (id : ℕ) → id < length mem.old.heads → id ≢ node.index
+        → runs (bare mem.new) (level_of (bare mem.old) id) id ≡ runs (bare mem.old) (level_of (bare mem.old) id) id }
 {
     let new = halve(mem, node, parent);
     let front = adds_up(mem, node);

@@ -2,6 +2,8 @@
 ghost use Rattle.std.specs.Prelude.{◌≡◌, ◌∷◌, [], IfOk, IfErr};
 ghost use Rattle.rt_store.specs.Cells.{EndsFinal, final_cell};
 ghost use Rattle.rt_store.specs.Tagged.{AreStates};
+ghost use Rattle.rt_tags.specs.States.{KeepsIds, TagStates};
+ghost use Rattle.rt_tree.specs.Trees.{Agrees};
 
 use crate::Tree;
 use rt_stamps::{Fault, Span, Stamp};
@@ -13,6 +15,8 @@ use std::alloc::Global;
 pub struct TreeStore {
     tree: Tree,
     ghost ends: { EndsFinal tree.cells },
+    ghost later: { (old new : TagStates) → KeepsIds old new → Agrees old tree → Agrees new tree },
+    ghost fresh: { (table : TagStates) → tree.cells ≡ final_cell ∷ [] → AreStates table (final_cell ∷ []) → Agrees table tree },
 }
 
 // Written out, so that where it is let go is one step for the crates above, and not one for each
@@ -37,24 +41,24 @@ impl TreeStore {
 }
 
 impl TextStore for TreeStore {
-    ghost use Rattle.std.specs.Prelude.{get_or};
+    ghost use Rattle.rt_tree.specs.Trees.{Agrees};
 
     ghost list = { λ s. s.tree.cells };
 
     ghost room = { λ s. s.tree.room };
 
-    ghost agrees = { λ s table. AreStates table s.tree.cells };
+    ghost agrees = { λ s table. Agrees table s.tree };
 
     ghost ends = { λ s. s.ends };
 
-    ghost given = { λ s table given. given };
+    ghost given = { λ s table agrees. agrees.given };
 
-    ghost grows = { λ s old new keeps given k d j. (keeps.states (get_or s.tree.cells k d).state (given k d j)).0 };
+    ghost grows = { λ s old new keeps agrees. s.later old new keeps agrees };
 
-    ghost fresh = { λ s table is given. rw is given };
+    ghost fresh = { λ s table is given. s.fresh table is given };
 
-    fn reserve(&mut self, cells: usize, cuts: usize) -> Result<(), Fault> {
-        self.tree.reserve(cells, cuts)
+    fn reserve(&mut self, cells: usize, cuts: usize, tags: usize) -> Result<(), Fault> {
+        self.tree.reserve(cells, cuts, tags)
     }
 
     fn cells(&self) -> usize {
@@ -117,15 +121,15 @@ impl TextStore for TreeStore {
         self.tree.previous_tagged(states, tag, place)
     }
 
-    fn splice(&mut self, _states: &StateTable, at: usize, cells: &[Cell<StateId>]) {
-        self.tree.splice(at, cells);
+    fn splice(&mut self, states: &StateTable, at: usize, cells: &[Cell<StateId>]) {
+        self.tree.splice(states, at, cells);
     }
 
-    fn set_gone(&mut self, _states: &StateTable, span: Span) {
-        self.tree.set_gone(span);
+    fn set_gone(&mut self, states: &StateTable, span: Span) {
+        self.tree.set_gone(states, span);
     }
 
-    fn set_state(&mut self, _states: &StateTable, span: Span, state: StateId) {
-        self.tree.set_state(span, state);
+    fn set_state(&mut self, states: &StateTable, span: Span, state: StateId) {
+        self.tree.set_state(states, span, state);
     }
 }

@@ -1,29 +1,26 @@
 // The cells of a text in a tree.
 ghost use Rattle.std.specs.Prelude.{◌≡◌, ◌+◌, ◌-◌, ◌*◌, ◌<◌, ◌≤◌, ◌^◌, [], ◌∷◌, length, map, min, take, drop, take_while, slice_get};
-ghost use Rattle.std.specs.Prelude.{option_map, if◌then◌else◌, Some, IfOk, IfErr, IsOk, OnOk, OnErr};
+ghost use Rattle.std.specs.Prelude.{option_map, if◌then◌else◌, Some, IfOk, IfErr};
 ghost use Rattle.rt_stamps.specs.Places.{line_of, line_start, newlines};
 ghost use Rattle.rt_stamps.specs.Stamps.{is_before};
-ghost use Rattle.rt_store.specs.Cells.{AreDistinct, HasRoom, Spends, StandsBefore, after_element, cell_of, position_of, skip_from, visible_before};
-ghost use Rattle.rt_store.specs.Cells.{final_cell, gone_in, put_at, state_in, text_of, visible_of};
-ghost use Rattle.rt_store.specs.Tagged.{AreStates, next_place, next_tagged, next_untagged, previous_tagged, tag_is};
-ghost use Rattle.rt_tags.specs.States.{IsTag};
-ghost use Rattle.rt_tree.specs.Additions.{stretches};
-ghost use Rattle.rt_tree.specs.Sharing.{cell_in};
-ghost use Rattle.rt_tree.specs.Trees.{final_run};
+ghost use Rattle.rt_store.specs.Cells.{StandsBefore, after_element, cell_of, final_cell, position_of, skip_from, text_of};
+ghost use Rattle.rt_store.specs.Cells.{visible_before, visible_of};
+ghost use Rattle.rt_tags.specs.States.{TagStates};
+ghost use Rattle.rt_tree.specs.Trees.{AreRight, HasOwn, final_run};
+
+mod changing;
+mod tagging;
 
 use crate::copy::copy;
 use crate::find::{cell_in, find, has, height, seek, sum_of};
-use crate::homes::{Homes, spans_for};
-use crate::mark::{Mark, mark_span};
+use crate::homes::Homes;
 use crate::node::{Entry, Head, Measure, Mem, Run};
 use crate::skip::{is_low, passed};
-use crate::splice::{newest_of, push_characters, put_cells};
-use crate::tagged::tag_is;
+use crate::summed::Summaries;
 use rt_nodes::{NodeId, NodeMem};
-use rt_stamps::limits::MOST_CELLS;
-use rt_stamps::{FINAL, Fault, ROOT, Span, Stamp};
+use rt_stamps::{FINAL, Fault, ROOT, Stamp};
 use rt_store::Cell;
-use rt_tags::{StateId, StateTable, TagId};
+use rt_tags::StateId;
 use std::alloc::Global;
 use std::marker::Model;
 
@@ -41,6 +38,9 @@ pub struct Tree {
     // What there is room for.
     spare_cells: usize,
     spare_cuts: usize,
+    spare_tags: usize,
+    // What is kept for each node of the tags below it.
+    sums: Summaries,
 }
 
 // Written out, so that where it is let go is one step for the crates above, and not one for each
@@ -56,6 +56,8 @@ impl Drop for Tree {
             homes: _,
             spare_cells: _,
             spare_cuts: _,
+            spare_tags: _,
+            sums: _,
         } = self;
     }
 }
@@ -66,16 +68,19 @@ impl Model for Tree {
     ghost use Rattle.rt_tree.specs.Runs.{cells_of};
     ghost use Rattle.rt_tree.specs.Shape.{tree_runs};
     ghost use Rattle.rt_tree.specs.Sharing.{AreUpTo};
-    ghost use Rattle.rt_tree.specs.Trees.{IsKept, IsRoomy, Shown, shown};
+    ghost use Rattle.rt_tree.specs.Trees.{HaveSummaries, IsKept, IsRoomy, Shown, shown};
 
     ghost Value = { Shown };
 
-    ghost view = { λ t. shown t.mem t.root.index t.text.items (record { cells = t.spare_cells; cuts = t.spare_cuts }) };
+    ghost view = { λ t. shown t.mem t.root.index t.text.items t.sums.each.items
+        (record { cells = t.spare_cells; cuts = t.spare_cuts; tags = t.spare_tags }) };
 
     ghost invariant = { λ t. IsKept t.mem t.root.index t.text.items t.runs
-        × (IsRoomy t.mem t.root.index t.text.items (vec_capacity t.text) (record { cells = t.spare_cells; cuts = t.spare_cuts })
+        × (IsRoomy t.mem t.root.index t.text.items (vec_capacity t.text)
+        (record { cells = t.spare_cells; cuts = t.spare_cuts; tags = t.spare_tags })
         × (AreUpTo t.newest (cells_of t.text.items (tree_runs t.mem t.root.index))
-        × ((t.homes.sure ≡ true → AreHome t.homes.leaves (tree_runs t.mem t.root.index)) × (t.spare_cells ≤ t.homes.left)))) };
+        × ((t.homes.sure ≡ true → AreHome t.homes.leaves (tree_runs t.mem t.root.index)) × ((t.spare_cells ≤ t.homes.left)
+        × HaveSummaries t.mem t.sums t.spare_tags)))) };
 }
 
 // The run of the final newline, as it is at first.
@@ -106,7 +111,9 @@ impl Tree {
         ensures cells { IfOk result (λ tree. tree.cells ≡ final_cell ∷ []) }
         ensures runs { IfOk result (λ tree. tree.runs ≡ 1) }
         ensures height { IfOk result (λ tree. tree.height ≡ 1) }
-        ensures room { IfOk result (λ tree. tree.room ≡ record { cells = 0; cuts = 0 }) }
+        ensures room { IfOk result (λ tree. tree.room ≡ record { cells = 0; cuts = 0; tags = 0 }) }
+        ensures right { IfOk result (λ tree. (table : TagStates) → AreRight table tree.stretches) }
+        ensures own { IfOk result HasOwn }
         ensures err { IfErr result (λ fault. fault ≡ Fault.NoMemory) }
     {
         let mut text = Vec::with_capacity(alloc, 1)?;
@@ -119,6 +126,7 @@ impl Tree {
         });
         mem.insert_at(root, 0, Entry::Here(final_run()));
         let homes = Homes::new(alloc, root)?;
+        let sums = Summaries::of_one(alloc, StateId::EMPTY)?;
         Ok(Tree {
             mem,
             root,
@@ -128,6 +136,8 @@ impl Tree {
             homes,
             spare_cells: 0,
             spare_cuts: 0,
+            spare_tags: 0,
+            sums,
         })
     }
 
@@ -344,153 +354,5 @@ impl Tree {
     {
         let after = self.after_element(left);
         self.skip(after, new)
-    }
-
-    // The least place from one up whose character has a tag, or hasn't it, by a walk from run to run.
-    fn next_place(&self, states: &StateTable, tag: TagId, on: bool, place: usize) -> Option<usize>
-        requires tag { IsTag states.now tag }
-        requires states { AreStates states.now self.now.cells }
-        ensures { result ≡ next_place (tag_is states.now tag on) (visible_of self.now.cells) place }
-    {
-        let all = self.visible();
-        let mut at = place;
-        while at < all {
-            let found = seek(&self.mem, self.root, Measure::Visible, at);
-            if tag_is(states, tag, on, &found.run) {
-                return Some(at);
-            }
-            at += found.run.len as usize - found.spot.offset;
-        }
-        None
-    }
-
-    /// The least place from one up whose character has a tag; none if there is none.
-    pub fn next_tagged(&self, states: &StateTable, tag: TagId, place: usize) -> Option<usize>
-        requires tag { IsTag states.now tag }
-        requires states { AreStates states.now self.now.cells }
-        ensures { result ≡ next_tagged states.now tag self.now.cells place }
-    {
-        self.next_place(states, tag, true, place)
-    }
-
-    /// The least place from one up whose character hasn't a tag; none if there is none.
-    pub fn next_untagged(&self, states: &StateTable, tag: TagId, place: usize) -> Option<usize>
-        requires tag { IsTag states.now tag }
-        requires states { AreStates states.now self.now.cells }
-        ensures { result ≡ next_untagged states.now tag self.now.cells place }
-    {
-        self.next_place(states, tag, false, place)
-    }
-
-    /// The greatest place below one whose character has a tag; none if there is none.
-    pub fn previous_tagged(&self, states: &StateTable, tag: TagId, place: usize) -> Option<usize>
-        requires tag { IsTag states.now tag }
-        requires states { AreStates states.now self.now.cells }
-        ensures { result ≡ previous_tagged states.now tag self.now.cells place }
-    {
-        let mut at = place.min(self.visible());
-        while at > 0 {
-            let found = seek(&self.mem, self.root, Measure::Visible, at - 1);
-            if tag_is(states, tag, true, &found.run) {
-                return Some(at - 1);
-            }
-            at -= found.spot.offset + 1;
-        }
-        None
-    }
-
-    /// Makes room for new cells and for cuts of runs, and keeps what was there. `NoMemory` changes
-    /// nothing; it is also the answer where the cells would be too many, or nodes without number.
-    pub fn reserve(&mut self, cells: usize, cuts: usize) -> Result<(), Fault>
-        ensures same { OnOk result (self.new ≡ record self.old { room = self.new.room }) }
-        ensures ok { OnOk result (HasRoom self.new.room cells cuts) }
-        ensures kept { HasRoom self.new.room self.old.room.cells self.old.room.cuts }
-        ensures unchanged { OnErr result (self.new ≡ self.old) }
-        ensures err { IfErr result (λ fault. fault ≡ Fault.NoMemory) }
-        ensures roomy { HasRoom self.old.room cells cuts → IsOk result }
-    {
-        if cells <= self.spare_cells && cuts <= self.spare_cuts {
-            return Ok(());
-        }
-        let cells = cells.max(self.spare_cells);
-        let cuts = cuts.max(self.spare_cuts);
-        if cells > MOST_CELLS - self.text.len() {
-            return Err(Fault::NoMemory);
-        }
-        let runs = (self.runs + cells)
-            .checked_add(cuts)
-            .ok_or(Fault::NoMemory)?;
-        let nodes = runs / 7 + 1;
-        self.homes.reserve(spans_for(cells, cuts))?;
-        self.text.reserve(cells)?;
-        self.mem.reserve(nodes.saturating_sub(self.mem.nodes()))?;
-        self.spare_cells = cells;
-        self.spare_cuts = cuts;
-        Ok(())
-    }
-
-    // Marks the cells of a span.
-    fn apply(&mut self, span: Span, mark: Mark)
-        requires room { HasRoom self.old.room 0 2 }
-        ensures cells { self.new.cells ≡ map (cell_in span mark) self.old.cells }
-        ensures runs { self.new.runs ≤ self.old.runs + 2 }
-        ensures room { Spends self.old.room self.new.room 0 2 }
-    {
-        let keep = self.spare_cells;
-        let change = mark_span(&mut self.mem, self.root, span, mark, &mut self.homes, keep);
-        self.root = change.root;
-        self.runs += change.more;
-        self.spare_cuts -= 2;
-    }
-
-    /// Makes the cells of a span of stamps gone, in two runs more at most. Takes no memory.
-    pub fn set_gone(&mut self, span: Span)
-        requires room { HasRoom self.old.room 0 2 }
-        ensures cells { self.new.cells ≡ map (gone_in span) self.old.cells }
-        ensures runs { self.new.runs ≤ self.old.runs + 2 }
-        ensures room { Spends self.old.room self.new.room 0 2 }
-    {
-        self.apply(span, Mark::Gone);
-    }
-
-    /// Puts the cells of a span of stamps in a state, gone ones too, in two runs more at most. Takes
-    /// no memory.
-    pub fn set_state(&mut self, span: Span, state: StateId)
-        requires room { HasRoom self.old.room 0 2 }
-        ensures cells { self.new.cells ≡ map (state_in span state) self.old.cells }
-        ensures runs { self.new.runs ≤ self.old.runs + 2 }
-        ensures room { Spends self.old.room self.new.room 0 2 }
-    {
-        self.apply(span, Mark::State(state));
-    }
-
-    /// Puts new cells in before the one at a position. A run that they go on with gets longer; each
-    /// other stretch of them becomes a run, or each of its cells one, if a stamp of it is there
-    /// already. Takes no memory.
-    pub fn splice(&mut self, at: usize, cells: &[Cell<StateId>])
-        requires within { at < length self.old.cells }
-        requires room { HasRoom self.old.room (length cells.now) 1 }
-        ensures cells { self.new.cells ≡ put_at at cells.now self.old.cells }
-        ensures most { self.new.runs ≤ self.old.runs + length cells.now + 1 }
-        ensures runs { AreDistinct self.new.cells → self.new.runs ≤ self.old.runs + stretches cells.now + 1 }
-        ensures room { Spends self.old.room self.new.room (length cells.now) 1 }
-    {
-        push_characters(&mut self.text, cells);
-        let keep = self.spare_cells - cells.len();
-        let change = put_cells(
-            &mut self.mem,
-            self.root,
-            &self.text,
-            at,
-            cells,
-            self.newest,
-            &mut self.homes,
-            keep,
-        );
-        self.newest = newest_of(self.newest, cells);
-        self.root = change.root;
-        self.runs += change.more;
-        self.spare_cells -= cells.len();
-        self.spare_cuts -= 1;
     }
 }

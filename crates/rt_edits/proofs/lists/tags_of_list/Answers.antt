@@ -3,11 +3,12 @@ use Rattle.std.specs.Prelude.{string_bytes}
 use Rattle.std.specs.Str.{bytes_eq}
 use Rattle.rt_stamps.specs.Words.{Word}
 use Rattle.rt_tags.specs.Tags.{sel}
-use Rattle.rt_edits.proofs.Planning.{keeps_further, filtered_more}
+use Rattle.rt_tags.proofs.Listing.{keeps_both}
+use Rattle.rt_edits.proofs.Planning.{filtered_more}
 use Rattle.rt_edits.proofs.lists.tags_of_list.Goals as goal
 
 pub returns-in_err-push_tag-clause-ids : goal.returns-in_err-push_tag-clause-ids
-returns-in_err-push_tag-clause-ids c = keeps_further c.args.states.now c.loop-name.states c.push_tag.new.states c.loop-name.invariant.ids c.push_tag.ensures.ids
+returns-in_err-push_tag-clause-ids c = keeps_both c.args.states.now c.loop-name.states c.push_tag.new.states c.loop-name.invariant.ids c.push_tag.ensures.ids
 
 pub loop-name-preserved : goal.loop-name-preserved
 loop-name-preserved c =
@@ -18,5 +19,5 @@ loop-name-preserved c =
           ∙ (λ j. c.loop-name.invariant.tags j ++ filter test (c.deref.ensures j ∷ []))
           ∙ sym (filtered_more test (λ w. string_bytes w) c.args.names.now c.loop-name.name-index c.name-item.result within c.name-item.is);
       given = c.in_ok-push_tag.ensures.given;
-      ids = keeps_further c.args.states.now c.loop-name.states c.push_tag.new.states c.loop-name.invariant.ids c.push_tag.ensures.ids;
+      ids = keeps_both c.args.states.now c.loop-name.states c.push_tag.new.states c.loop-name.invariant.ids c.push_tag.ensures.ids;
     }

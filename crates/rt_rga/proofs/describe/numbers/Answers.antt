@@ -1,7 +1,7 @@
 use Rattle.std.proofs.Common.{◌∙◌, ap, map, subst, sym, All, refl}
 use Rattle.std.specs.Prelude.{string_bytes}
 use Rattle.rt_tags.specs.States.{IsTag, name_at}
-use Rattle.rt_rga.proofs.Listing.{keeps_both}
+use Rattle.rt_tags.proofs.Listing.{keeps_both}
 use Rattle.rt_rga.proofs.PlacesAt.{names_more, tags_more}
 use Rattle.std.proofs.lemmas.Result.{err_from_is_err_and}
 use Rattle.std.proofs.lemmas.List.{take_all}

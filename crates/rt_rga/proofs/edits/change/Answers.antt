@@ -16,6 +16,7 @@ use Rattle.rt_rga.proofs.Replicas.{replica_delete, replica_distinct, replica_ins
 use Rattle.rt_store.specs.Shown.{shown}
 use Rattle.rt_store.specs.Spans.{gone_in_any, is_in_spans}
 use Rattle.rt_tags.specs.States.{KeepsIds, TagStates}
+use Rattle.rt_tags.proofs.Keeping.{keeps_itself}
 use Rattle.rt_rga.proofs.edits.change.Goals as goal
 
 pub insert_cells-requires-clause-placed : goal.insert_cells-requires-clause-placed
@@ -90,7 +91,7 @@ returns-in_err-reserve-in-Delete g c =
       replica = tt;
       cells = tt;
       agrees = c.reserve.ensures.agrees c.args.states.now c.requires.agrees;
-      ids = record { tags = λ tag h. (h, refl); states = λ state h. (h, refl) };
+      ids = keeps_itself c.args.states.now;
       same = c.in_err-reserve-in-Delete.ensures.same;
       fault = c.in_err-reserve-in-Delete.ensures.err;
     })
@@ -106,9 +107,6 @@ returns-in_err-_tag-in-Tag g c =
       same = c.in_err-_tag-in-Tag.ensures.err;
       fault = c.in_err-_tag-in-Tag.ensures.fault;
     })
-
-itself : (t : TagStates) → KeepsIds t t
-itself t = record { tags = λ tag h. (h, refl); states = λ state h. (h, refl) }
 
 pub insert_cells-requires-clause-states : goal.insert_cells-requires-clause-states
 insert_cells-requires-clause-states g c = c.requires.agrees
@@ -135,7 +133,7 @@ pub returns-in_ok-reserve-in-Delete-clause-fault : goal.returns-in_ok-reserve-in
 returns-in_ok-reserve-in-Delete-clause-fault g c = tt
 
 pub returns-in_ok-reserve-in-Delete-clause-ids : goal.returns-in_ok-reserve-in-Delete-clause-ids
-returns-in_ok-reserve-in-Delete-clause-ids g c = itself c.args.states.now
+returns-in_ok-reserve-in-Delete-clause-ids g c = keeps_itself c.args.states.now
 
 pub returns-in_ok-reserve-in-Delete-clause-same : goal.returns-in_ok-reserve-in-Delete-clause-same
 returns-in_ok-reserve-in-Delete-clause-same g c = tt

@@ -11,8 +11,8 @@ loop-span-preserved g c =
     record {
       list = ap (map (gone_in_any (drop (i + 1) spans))) c.set_gone.ensures.list ∙ gone_more_at (g.S.TextStore.list c.loop-span.store) spans i _ c.loop-span-test.true ∙ c.loop-span.invariant.list;
       states = c.set_gone.ensures.states;
-      room = (omega arith, omega (arith, c.set_gone.ensures.room.1, c.loop-span.invariant.room.1));
-      spent = (omega (arith, c.set_gone.ensures.room.0, c.loop-span.invariant.spent.0), omega (arith, c.set_gone.ensures.room.1, c.loop-span.invariant.spent.1));
+      room = (omega arith, omega (arith, c.set_gone.ensures.room.1, c.loop-span.invariant.room.1), omega (arith, c.set_gone.ensures.room.2, c.loop-span.invariant.room.2));
+      spent = (omega (arith, c.set_gone.ensures.room.0, c.loop-span.invariant.spent.0), omega (arith, c.set_gone.ensures.room.1, c.loop-span.invariant.spent.1), omega (arith, c.set_gone.ensures.room.2, c.loop-span.invariant.spent.2));
     }
 
 pub returns : goal.returns
@@ -21,6 +21,6 @@ returns g c =
     let cells = g.S.TextStore.list c.loop-span.store in
     record {
       list = sym (gone_none cells) ∙ ap (λ l. map (gone_in_any l) cells) (sym (drop_all c.loop-span.span-index spans (omega arith))) ∙ c.loop-span.invariant.list;
-      room = (omega (arith, c.loop-span.invariant.spent.0), omega (arith, c.loop-span.invariant.spent.1));
+      room = (omega (arith, c.loop-span.invariant.spent.0), omega (arith, c.loop-span.invariant.spent.1), c.loop-span.invariant.spent.2);
       states = c.loop-span.invariant.states;
     }

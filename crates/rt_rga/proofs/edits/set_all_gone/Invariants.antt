@@ -7,6 +7,6 @@ abbrev pub invariant-loop-span : goal.invariant-loop-span
 invariant-loop-span g l = record {
   list : map (gone_in_any (drop l.span-index l.spans)) (g.S.TextStore.list l.store) ≡ map (gone_in_any l.spans) (g.S.TextStore.list l.initial.store);
   states : g.S.TextStore.agrees l.store l.states;
-  room : HasRoom (g.S.TextStore.room l.store) 0 (2 * (length l.spans - l.span-index));
+  room : HasRoom (g.S.TextStore.room l.store) 0 (2 * (length l.spans - l.span-index)) (length l.states.names);
   spent : Spends (g.S.TextStore.room l.initial.store) (g.S.TextStore.room l.store) 0 (2 * l.span-index);
 }

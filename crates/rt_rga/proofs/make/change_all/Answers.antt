@@ -9,7 +9,7 @@ use Rattle.rt_rga.specs.Runs.{put_back_in_any}
 use Rattle.rt_rga.proofs.Batching.{ComesOut, batch_counts, batch_kept, batch_length, batch_placed}
 use Rattle.rt_rga.proofs.Fresh.{all_back, all_front, fresh_counts, fresh_distinct, fresh_states}
 use Rattle.std.proofs.lemmas.Result.{err_from_is_err_and}
-use Rattle.rt_rga.proofs.Listing.{keeps_both}
+use Rattle.rt_tags.proofs.Listing.{keeps_both}
 use Rattle.rt_store.proofs.GivenStates.{kept_states}
 use Rattle.rt_tags.specs.States.{IsState}
 use Rattle.rt_rga.specs.declared.tagging.StateRun.{StateRun}
@@ -101,11 +101,11 @@ returns-clause-ids g c = keeps_both c.args.states.now c.fresh.new.states c.plann
 pub put_all-requires-clause-room : goal.put_all-requires-clause-room
 put_all-requires-clause-room g c =
     let room = c.in_ok-make_room.ensures.room in
-    (omega (arith, room.0, c.len.ensures, ap length c.deref-2.ensures.value), omega (arith, room.1))
+    (omega (arith, room.0, c.len.ensures, ap length c.deref-2.ensures.value), omega (arith, room.1), room.2)
 
 pub put_states-requires-clause-room : goal.put_states-requires-clause-room
 put_states-requires-clause-room g c =
-    (omega arith, omega (arith, c.put_all.ensures.room, c.in_ok-make_room.ensures.room.1, c.len-2.ensures, ap length c.deref-3.ensures.value))
+    (omega arith, omega (arith, c.put_all.ensures.room, c.in_ok-make_room.ensures.room.1, c.len-2.ensures, ap length c.deref-3.ensures.value), omega (arith, c.put_all.ensures.tags, c.in_ok-make_room.ensures.room.2))
 
 pub returns-clause-agrees : goal.returns-clause-agrees
 returns-clause-agrees g c = c.put_states.ensures.states

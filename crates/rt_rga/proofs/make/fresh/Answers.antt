@@ -3,7 +3,7 @@ use Rattle.std.specs.List.{AllByRecursion}
 use Rattle.rt_stamps.specs.declared.limits.TheConstants.{GREATEST_COUNT}
 use Rattle.rt_oplog.specs.Operations.{Operation, last_count}
 use Rattle.rt_store.specs.Shown.{shown}
-use Rattle.rt_rga.proofs.Listing.{keeps_both}
+use Rattle.rt_tags.proofs.Listing.{keeps_both}
 use Rattle.rt_rga.proofs.Making.{fresh_left, ops_left}
 use Rattle.std.proofs.lemmas.Result.{err_from_is_err_and}
 use Rattle.std.proofs.lemmas.List.{drop_all}

@@ -28,8 +28,9 @@ loop-op-preserved g c =
       put = subst (λ (p : _). p) (λ j. CanAllBePut (drop (i + 1) c.args.ops.now) (sym c.put-left.ensures.left j) (sym c.put-left.ensures.list j)) can.1;
       states = c.put-left.ensures.states;
       given = subst (AreStates states) (sym c.put-left.ensures.left) (All-drop (λ (cell : Cell ℕ). IsState states cell.state) (characters_in op.body) new before.given);
-      room = (omega (arith, c.put-left.ensures.room.0, before.room.0, used, rest), omega (arith, c.put-left.ensures.room.1, before.room.1, cuts));
+      room = (omega (arith, c.put-left.ensures.room.0, before.room.0, used, rest), omega (arith, c.put-left.ensures.room.1, before.room.1, cuts), omega (arith, c.put-left.ensures.room.2, before.room.2));
       spent = omega (arith, c.put-left.ensures.room.1, before.spent, cuts);
+      tags = omega (arith, c.put-left.ensures.room.2, before.tags);
     }
 
 pub put-left-requires-clause-put : goal.put-left-requires-clause-put

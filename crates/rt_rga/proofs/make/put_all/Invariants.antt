@@ -10,6 +10,7 @@ invariant-loop-op g l = record {
   put : CanAllBePut (drop l.op-index l.ops) l.left (g.S.TextStore.list l.store);
   states : g.S.TextStore.agrees l.store l.states;
   given : AreStates l.states l.left;
-  room : HasRoom (g.S.TextStore.room l.store) (length l.left) (cuts_of (drop l.op-index l.ops));
+  room : HasRoom (g.S.TextStore.room l.store) (length l.left) (cuts_of (drop l.op-index l.ops)) (length l.states.names);
   spent : (g.S.TextStore.room l.initial.store).cuts + cuts_of (drop l.op-index l.ops) ≤ (g.S.TextStore.room l.store).cuts + cuts_of l.ops;
+  tags : (g.S.TextStore.room l.initial.store).tags ≤ (g.S.TextStore.room l.store).tags;
 }

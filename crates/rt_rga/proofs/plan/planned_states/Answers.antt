@@ -9,7 +9,7 @@ use Rattle.rt_rga.specs.Batches.{after_tags, entries_on}
 use Rattle.rt_rga.specs.Runs.{put_back, put_back_in_any}
 use Rattle.rt_rga.proofs.PlannedStates.{all_planned}
 use Rattle.std.proofs.lemmas.Result.{err_from_is_err_and}
-use Rattle.rt_rga.proofs.Listing.{keeps_both}
+use Rattle.rt_tags.proofs.Listing.{keeps_both}
 use Rattle.rt_rga.proofs.plan.planned_states.Goals as goal
 
 pub written_cells-requires-clause-tags : goal.written_cells-requires-clause-tags

@@ -2,7 +2,7 @@ use Rattle.std.proofs.Common.{◌++◌, ◌+◌, ℕ, All, List, subst, sym}
 use Rattle.rt_store.specs.declared.cell.Cell.{Cell}
 use Rattle.rt_store.proofs.GivenStates.{kept_states}
 use Rattle.rt_rga.specs.Batches.{HasEntries}
-use Rattle.rt_rga.proofs.Listing.{keeps_both}
+use Rattle.rt_tags.proofs.Listing.{keeps_both}
 use Rattle.rt_rga.proofs.PlannedEntries.{tags_kept}
 use Rattle.rt_rga.proofs.PlannedStates.{AreCopied, copied_more, found_by, written_more}
 use Rattle.std.proofs.lemmas.Result.{err_from_is_err_and}

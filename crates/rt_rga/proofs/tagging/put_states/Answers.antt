@@ -18,7 +18,7 @@ loop-behind-init g c =
     record {
       list = sym (put_none cells) ∙ ap (λ l. map (put_back_in_any l) cells) (sym (drop_all (length runs - 0) runs (omega arith)));
       states = c.requires.states;
-      room = (omega arith, omega (arith, c.requires.room.1));
+      room = (omega arith, omega (arith, c.requires.room.1), c.requires.room.2);
     }
 
 pub loop-behind-preserved : goal.loop-behind-preserved
@@ -31,7 +31,7 @@ loop-behind-preserved g c =
       list = c.set_state.ensures.list ∙ (λ i. map (state_in (c.index-runs-runs.is i).span (c.index-runs-runs.is i).state) (c.loop-behind.invariant.list i))
           ∙ put_more runs before behind run c.loop-behind-test.true;
       states = c.set_state.ensures.states;
-      room = (omega arith, omega (arith, c.set_state.ensures.room.1, c.loop-behind.invariant.room.1));
+      room = (omega arith, omega (arith, c.set_state.ensures.room.1, c.loop-behind.invariant.room.1), omega (arith, c.set_state.ensures.room.2, c.loop-behind.invariant.room.2));
     }
 
 pub returns : goal.returns

@@ -7,5 +7,5 @@ abbrev pub invariant-loop-behind : goal.invariant-loop-behind
 invariant-loop-behind g l = record {
   list : g.S.TextStore.list l.store ≡ map (put_back_in_any (drop (length l.runs - l.behind) l.runs)) (g.S.TextStore.list l.initial.store);
   states : g.S.TextStore.agrees l.store l.states;
-  room : HasRoom (g.S.TextStore.room l.store) 0 (2 * (length l.runs - l.behind));
+  room : HasRoom (g.S.TextStore.room l.store) 0 (2 * (length l.runs - l.behind)) (length l.states.names);
 }

@@ -5,8 +5,9 @@ use Rattle.rt_store.specs.Shown.{shown}
 use Rattle.rt_store.specs.Tagged.{AreStates}
 use Rattle.rt_store.proofs.GivenStates.{kept_states}
 use Rattle.rt_tags.specs.States.{IsState, KeepsIds, Write}
+use Rattle.rt_tags.proofs.Keeping.{keeps_itself}
 use Rattle.rt_rga.specs.Runs.{cells_found, put_back, put_back_in_any, with_write}
-use Rattle.rt_rga.proofs.Listing.{keeps_both}
+use Rattle.rt_tags.proofs.Listing.{keeps_both}
 use Rattle.rt_rga.proofs.TagWrites.{found_states, put_states_given, tagged_cells}
 use Rattle.rt_store.proofs.Shown.{shown_later}
 use Rattle.std.proofs.lemmas.Result.{err_from_is_err_and}
@@ -68,7 +69,7 @@ returns-clause-given g c =
 pub returns-in_err-named : goal.returns-in_err-named
 returns-in_err-named g c =
     let (y, is, gives) = err_from_is_err_and c.from_residual.result c.from_residual.ensures.1 in
-    rw (is, gives) (record { cells = tt; given = tt; agrees = c.requires.states; tag = tt; name = tt; ids = record { tags = λ tag i. (i, refl); states = λ state i. (i, refl) }; err = refl; fault = c.in_err-named.ensures.fault })
+    rw (is, gives) (record { cells = tt; given = tt; agrees = c.requires.states; tag = tt; name = tt; ids = keeps_itself c.args.states.now; err = refl; fault = c.in_err-named.ensures.fault })
 
 pub returns-in_err-tag : goal.returns-in_err-tag
 returns-in_err-tag g c =
@@ -109,7 +110,7 @@ pub returns-clause-ids : goal.returns-clause-ids
 returns-clause-ids g c = keeps_both c.args.states.now c.number.new.self c.written_cells.new.states c.number.ensures.ids c.written_cells.ensures.ids
 
 pub put_states-requires-clause-room : goal.put_states-requires-clause-room
-put_states-requires-clause-room g c = (omega arith, omega (arith, c.in_ok-reserve.ensures.ok.1, c.len.ensures, ap length c.deref-3.ensures.value))
+put_states-requires-clause-room g c = (omega arith, omega (arith, c.in_ok-reserve.ensures.ok.1, c.len.ensures, ap length c.deref-3.ensures.value), omega (arith, c.in_ok-reserve.ensures.ok.2, c.tags.ensures))
 
 pub returns-clause-agrees : goal.returns-clause-agrees
 returns-clause-agrees g c = c.put_states.ensures.states

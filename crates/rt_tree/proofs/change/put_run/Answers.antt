@@ -6,7 +6,7 @@ use Rattle.rt_tree.specs.Changes.{AreExact, Lacks, bare}
 use Rattle.rt_tree.specs.Shape.{IsShape, Memory, level_of, runs}
 use Rattle.rt_tree.specs.Sums.{AreFew, counts_of, totals_of}
 use Rattle.rt_tree.proofs.Fills.{filled_leaf}
-use Rattle.rt_tree.proofs.NewLeaf.{Changed, IsLeafEntry, changed, each-insert, leaf-entries}
+use Rattle.rt_tree.proofs.NewLeaf.{Changed, IsLeafEntry, bare_with, changed, each-insert, leaf-entries}
 use Rattle.rt_tree.proofs.Lacking.{adds-insert, leaf-lacks}
 use Rattle.rt_tree.proofs.Raise.{length-rows}
 use Rattle.rt_tree.proofs.change.put_run.Goals as goal
@@ -55,3 +55,8 @@ add_above-requires-clause-more c =
     let es = insert (entries m x) c.args.i (Here c.args.run) in
     subst (λ more. Lacks x more c.insert_at.new.self) (sym c.entry_totals-more.ensures)
     (leaf-lacks m c.insert_at.new.self c.args.height c.args.root.index c.requires.tree c.requires.exact x (totals_of (c.args.run ∷ [])) es c.requires.leaf.0 c.insert_at.ensures (adds-insert (entries m x) c.args.i (Here c.args.run)))
+
+pub returns-clause-bare : goal.returns-clause-bare
+returns-clause-bare c =
+    let m = c.args.mem.now in let x = c.args.leaf.index in
+    c.add_above.ensures.same ∙ ap (λ (n : Memory). bare n) c.insert_at.ensures ∙ bare_with m x (insert (entries m x) c.args.i (Here c.args.run))

@@ -11,6 +11,8 @@ use Rattle.rt_tree.proofs.Cutting.{few_all, few_with, low_tree, mid_cells, mid_k
 use Rattle.rt_tree.proofs.Down.{sum-node}
 use Rattle.rt_tree.proofs.Edges.{counts_mid, edge_end, edge_there}
 use Rattle.rt_tree.proofs.Puts.{replaced_length}
+use Rattle.rt_tags.specs.States.{IsState}
+use Rattle.rt_tree.proofs.Told.{given_there, short_kept}
 use Rattle.rt_tree.proofs.cut.cut.Goals as goal
 
 root_sum : (m : Memory) (root : ℕ) → IsTree m root → sum_of (entries m root) ≡ counts_of (tree_runs m root)
@@ -127,3 +129,29 @@ put-root-requires-clause-room c =
     let old = tree_runs c.args.mem.now c.args.root.index in let mid = tree_runs c.replace_at.new.mem c.args.root.index in
     let same = replaced_length old mid c.args.at c.back_of-back.result (c.replace_at.ensures.runs c.args.at c.found_at-found.result.run c.found_at-found.ensures.spot) in
     omega (arith, same, c.replace_at.ensures.room.0, c.replace_at.ensures.room.1, c.requires.room)
+
+pub replace_at-requires-clause-short : goal.replace_at-requires-clause-short
+replace_at-requires-clause-short c = short_kept (tree_runs c.args.mem.now c.args.root.index) c.requires.kept c.requires.few
+
+pub replace_at-requires-clause-state : goal.replace_at-requires-clause-state
+replace_at-requires-clause-state c =
+    let old = tree_runs c.args.mem.now c.args.root.index in let st = c.found_at-found.ensures.run in let table = c.args.states.now in
+    subst (λ (x : Run). IsState table x.state) (sym c.back_of-back.ensures) (given_there table old st.left st.right c.found_at-found.result.run st.here c.requires.told.given)
+
+pub put-root-requires-clause-told : goal.put-root-requires-clause-told
+put-root-requires-clause-told c = c.replace_at.ensures.told
+
+pub put-root-requires-clause-short : goal.put-root-requires-clause-short
+put-root-requires-clause-short c =
+    let old = tree_runs c.args.mem.now c.args.root.index in let mid = tree_runs c.replace_at.new.mem c.args.root.index in
+    let same = replaced_length old mid c.args.at c.back_of-back.result (c.replace_at.ensures.runs c.args.at c.found_at-found.result.run c.found_at-found.ensures.spot) in
+    let few = short_kept old c.requires.kept c.requires.few in
+    omega (arith, same, few)
+
+pub put-root-requires-clause-state : goal.put-root-requires-clause-state
+put-root-requires-clause-state c =
+    let old = tree_runs c.args.mem.now c.args.root.index in let st = c.found_at-found.ensures.run in let table = c.args.states.now in
+    subst (λ (x : Run). IsState table x.state) (sym c.front_of-front.ensures) (given_there table old st.left st.right c.found_at-found.result.run st.here c.requires.told.given)
+
+pub returns-clause-tags : goal.returns-clause-tags
+returns-clause-tags c = c.put-root.ensures.tags ∙ c.replace_at.ensures.tags

@@ -13,6 +13,8 @@ loop-count-init c = record {
   tree = c.requires.tree;
   marks = at_first c.args.span c.args.mark.now (tree_runs c.args.mem.now c.args.root.index);
   room = refl;
+  told = c.requires.told;
+  tags = refl;
 }
 
 pub mark_at-requires-clause-kept : goal.mark_at-requires-clause-kept
@@ -34,6 +36,8 @@ loop-count-preserved c =
       tree = c.mark_at.ensures.tree;
       marks = m.marks (tree_runs c.args.mem.now c.args.root.index) i.marks;
       room = c.mark_at.ensures.room ∙ i.room;
+      told = c.mark_at.ensures.told;
+      tags = c.mark_at.ensures.tags ∙ i.tags;
     }
 
 pub loop-count-smaller : goal.loop-count-smaller
@@ -51,3 +55,15 @@ returns-clause-part c = (c.loop-count.count, c.loop-count.invariant.marks)
 pub returns-clause-all : goal.returns-clause-all
 returns-clause-all c =
     λ _. c.loop-count.invariant.marks ∙ at_last c.args.span c.args.mark.now c.loop-count.count (tree_runs c.args.mem.now c.args.root.index) (let t = c.loop-count-test.false in omega (arith, t))
+
+pub mark_at-requires-clause-told : goal.mark_at-requires-clause-told
+mark_at-requires-clause-told c = c.loop-count.invariant.told
+
+pub returns-in-None-clause-tags : goal.returns-in-None-clause-tags
+returns-in-None-clause-tags c = c.mark_at.ensures.tags ∙ c.loop-count.invariant.tags
+
+pub returns-clause-told : goal.returns-clause-told
+returns-clause-told c = c.loop-count.invariant.told
+
+pub returns-clause-tags : goal.returns-clause-tags
+returns-clause-tags c = c.loop-count.invariant.tags

@@ -1,6 +1,7 @@
 use Rattle.std.proofs.Common.{◌≡◌, ◌≤◌, ◌+◌, ◌-◌, length, map}
 use Rattle.rt_tree.specs.Homes.{run_to}
 use Rattle.rt_tree.specs.Shape.{IsTree, tree_runs}
+use Rattle.rt_tree.specs.Summaries.{AreTold}
 use Rattle.rt_tree.proofs.mark.mark_by_homes.Given as goal
 
 abbrev pub invariant-loop-count : goal.invariant-loop-count
@@ -9,6 +10,8 @@ invariant-loop-count l = record {
   tree : IsTree l.mem l.root.index;
   marks : tree_runs l.mem l.root.index ≡ map (run_to l.span l.count l.mark) (tree_runs l.initial.mem l.root.index);
   room : length l.mem.heads + l.mem.room ≡ length l.initial.mem.heads + l.initial.mem.room;
+  told : AreTold l.states l.mem l.sums (tree_runs l.mem l.root.index);
+  tags : l.sums.tags ≡ l.initial.sums.tags;
 }
 
 abbrev pub decreases-loop-count : goal.decreases-loop-count

@@ -7,6 +7,8 @@ use Rattle.rt_tree.specs.Sums.{AreFew, counts_of, counts_of_run, plus}
 use Rattle.rt_tree.specs.Walks.{IsReplacedAt}
 use Rattle.rt_tree.proofs.Cutting.{few_all}
 use Rattle.rt_tree.proofs.Marking.{changed_in, changed_out, marked_few}
+use Rattle.rt_tags.specs.States.{IsState}
+use Rattle.rt_tree.proofs.Told.{given_there, marked_given, short_kept}
 use Rattle.rt_tree.proofs.mark.mark_run.Goals as goal
 
 pub found_at-found-requires-clause-few : goal.found_at-found-requires-clause-few
@@ -35,3 +37,12 @@ returns-else-is_first_in-clause-run c =
 
 pub replace_at-requires-clause-spot : goal.replace_at-requires-clause-spot
 replace_at-requires-clause-spot c = (c.args.at, c.found_at-found.result.run, c.found_at-found.ensures.spot)
+
+pub replace_at-requires-clause-short : goal.replace_at-requires-clause-short
+replace_at-requires-clause-short c = short_kept (tree_runs c.args.mem.now c.args.root.index) c.requires.kept c.requires.few
+
+pub replace_at-requires-clause-state : goal.replace_at-requires-clause-state
+replace_at-requires-clause-state c =
+    let old = tree_runs c.args.mem.now c.args.root.index in let st = c.found_at-found.ensures.run in let table = c.args.states.now in
+    let f = c.found_at-found.result in
+    subst (λ (x : Run). IsState table x.state) (sym c.marked.ensures) (marked_given table c.args.mark.now f.run c.requires.mark (given_there table old st.left st.right f.run st.here c.requires.told.given))

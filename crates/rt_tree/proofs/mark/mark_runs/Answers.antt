@@ -8,7 +8,7 @@ pub cells_of-all-requires-clause-few : goal.cells_of-all-requires-clause-few
 cells_of-all-requires-clause-few c = few_all (tree_runs c.args.mem.now c.args.root.index) c.requires.kept c.requires.few
 
 pub loop-at-init : goal.loop-at-init
-loop-at-init c = record { tree = c.requires.tree; marked = none_marked c.args.span c.args.mark.now (tree_runs c.args.mem.now c.args.root.index); room = refl }
+loop-at-init c = record { tree = c.requires.tree; marked = none_marked c.args.span c.args.mark.now (tree_runs c.args.mem.now c.args.root.index); room = refl; told = c.requires.told; tags = refl }
 
 pub mark_run-len-requires-clause-tree : goal.mark_run-len-requires-clause-tree
 mark_run-len-requires-clause-tree c = c.loop-at.invariant.tree
@@ -44,6 +44,8 @@ loop-at-preserved c =
       tree = c.mark_run-len.ensures.tree;
       marked = more_marked c.args.span c.args.mark.now old now c.loop-at.at c.requires.kept c.requires.few c.loop-at.invariant.marked (tree_runs c.mark_run-len.new.mem c.args.root.index) c.mark_run-len.result c.mark_run-len.ensures.run;
       room = c.mark_run-len.ensures.room ∙ c.loop-at.invariant.room;
+      told = c.mark_run-len.ensures.told;
+      tags = c.mark_run-len.ensures.tags ∙ c.loop-at.invariant.tags;
     }
 
 pub loop-at-smaller : goal.loop-at-smaller
@@ -64,3 +66,12 @@ returns-clause-runs c =
 
 pub returns-clause-room : goal.returns-clause-room
 returns-clause-room c = c.loop-at.invariant.room
+
+pub mark_run-len-requires-clause-told : goal.mark_run-len-requires-clause-told
+mark_run-len-requires-clause-told c = c.loop-at.invariant.told
+
+pub returns-clause-told : goal.returns-clause-told
+returns-clause-told c = c.loop-at.invariant.told
+
+pub returns-clause-tags : goal.returns-clause-tags
+returns-clause-tags c = c.loop-at.invariant.tags

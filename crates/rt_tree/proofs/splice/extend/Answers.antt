@@ -10,6 +10,8 @@ use Rattle.rt_tree.proofs.Housing.{home_more, joined_holders, joined_placed, unk
 use Rattle.rt_tree.proofs.Edges.{counts_mid}
 use Rattle.rt_tree.proofs.Puts.{replaced_length}
 use Rattle.rt_tree.proofs.Splicing.{extended, extended_apart, new_is}
+use Rattle.rt_tags.specs.States.{IsState}
+use Rattle.rt_tree.proofs.Told.{given_there, short_kept}
 use Rattle.rt_tree.proofs.splice.extend.Goals as goal
 
 pub found_at-found-requires-clause-few : goal.found_at-found-requires-clause-few
@@ -112,3 +114,14 @@ pub returns-clause-runs : goal.returns-clause-runs
 returns-clause-runs c =
     let old = tree_runs c.args.mem.now c.args.root.index in let new = tree_runs c.replace_at.new.mem c.args.root.index in
     replaced_length old new (c.args.at - 1) c.joined-whole.result (c.replace_at.ensures.runs (c.args.at - 1) c.found_at-found.result.run c.found_at-found.ensures.spot)
+
+pub replace_at-requires-clause-short : goal.replace_at-requires-clause-short
+replace_at-requires-clause-short c =
+    let old = tree_runs c.args.mem.now c.args.root.index in
+    let few = c.requires.few in
+    short_kept old (record { text = c.args.text.now; short = c.requires.short; runs = c.requires.kept }) (omega (arith, few))
+
+pub replace_at-requires-clause-state : goal.replace_at-requires-clause-state
+replace_at-requires-clause-state c =
+    let old = tree_runs c.args.mem.now c.args.root.index in let st = c.found_at-found.ensures.run in let table = c.args.states.now in
+    subst (λ (x : Run). IsState table x.state) (sym c.joined-whole.ensures) (given_there table old st.left st.right c.found_at-found.result.run st.here c.requires.told.given)

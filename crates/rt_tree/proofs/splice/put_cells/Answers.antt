@@ -1,5 +1,6 @@
 use Rattle.std.proofs.Common.{◌+◌, ◌-◌, ◌≤◌, ℕ, List, take, drop, length, arith, ap, ◌∙◌, sym, subst}
 use Rattle.std.proofs.lemmas.List.{length-drop, take_all}
+use Rattle.std.proofs.lemmas.List.Elements.{All-drop}
 use Rattle.rt_store.specs.declared.cell.Cell.{Cell}
 use Rattle.rt_store.specs.Cells.{put_at}
 use Rattle.rt_tree.specs.Additions.{EndsWith, stretches}
@@ -10,6 +11,8 @@ use Rattle.rt_tree.proofs.Newest.{upto_more, upto_put}
 use Rattle.rt_tree.specs.Stretches.{AreChanged}
 use Rattle.rt_tree.proofs.Following.{stretches_drop}
 use Rattle.rt_tree.proofs.Splicing.{cut_count, ends_later, put_count, put_twice, rest_is, rest_once}
+use Rattle.rt_store.specs.Tagged.{AreStates}
+use Rattle.rt_tags.specs.States.{IsState}
 use Rattle.rt_tree.proofs.splice.put_cells.Goals as goal
 
 pub cut_home-first-requires-clause-few : goal.cut_home-first-requires-clause-few
@@ -124,3 +127,18 @@ put_runs-then-requires-clause-left c =
     let l = ap length (rest_is c.extend-done.result c.args.cells.now c.extend-done.ensures.within) ∙ length-drop c.extend-done.result c.args.cells.now in
     let x = c.extend-done.ensures.left in let y = c.cut_home-first.ensures.left in
     omega (arith, l, x, y (omega (arith, l, x)))
+
+pub cut_home-first-requires-clause-told : goal.cut_home-first-requires-clause-told
+cut_home-first-requires-clause-told c = c.extend-done.ensures.told
+
+pub put_runs-then-requires-clause-told : goal.put_runs-then-requires-clause-told
+put_runs-then-requires-clause-told c = c.cut_home-first.ensures.told
+
+pub put_runs-then-requires-clause-states : goal.put_runs-then-requires-clause-states
+put_runs-then-requires-clause-states c =
+    let table = c.args.states.now in let k = c.extend-done.result in let cells = c.args.cells.now in
+    let p : Cell ℕ → Type 0 = λ x. IsState table x.state in
+    subst (AreStates table) (sym (rest_is k cells c.extend-done.ensures.within)) (All-drop p k cells c.requires.states)
+
+pub returns-clause-tags : goal.returns-clause-tags
+returns-clause-tags c = c.put_runs-then.ensures.tags ∙ c.cut_home-first.ensures.tags ∙ c.extend-done.ensures.tags

@@ -1,10 +1,14 @@
-use Rattle.std.proofs.Common.{refl, arith, ◌∙◌, ◌≡◌, ◌+◌, ◌-◌, take, drop, subst}
+use Rattle.std.proofs.Common.{ℕ, refl, arith, ◌∙◌, ◌≡◌, ◌+◌, ◌-◌, take, drop, subst}
 use Rattle.std.proofs.lemmas.List.{length-drop}
+use Rattle.std.proofs.lemmas.List.Elements.{All-drop}
 use Rattle.rt_tree.specs.Runs.{cells_of}
 use Rattle.rt_tree.specs.Shape.{tree_runs}
 use Rattle.rt_tree.specs.Sharing.{AreUpTo}
 use Rattle.rt_tree.proofs.Newest.{upto_next}
 use Rattle.rt_tree.proofs.Splicing.{all_spliced, fewer_cells, more_spliced, none_spliced, spliced_few, spliced_low, spliced_runs, spliced_with, spliced_within}
+use Rattle.rt_store.specs.declared.cell.Cell.{Cell}
+use Rattle.rt_tags.specs.States.{IsState}
+use Rattle.rt_tree.proofs.Told.{front_given, short_kept}
 use Rattle.rt_tree.proofs.splice.put_runs.Goals as goal
 
 pub loop-done-init : goal.loop-done-init
@@ -13,6 +17,8 @@ loop-done-init c = record {
   spliced = none_spliced c.args.text.now (tree_runs c.args.mem.now c.args.root.index) c.args.at c.args.cells.now c.requires.kept c.requires.edge c.requires.apart;
   upto = c.requires.upto;
   room = refl;
+  told = c.requires.told;
+  tags = refl;
   home = c.requires.home;
   left = let r = c.requires.left in omega (arith, r);
 }
@@ -54,6 +60,8 @@ loop-done-preserved c =
       spliced = then_spliced;
       upto = upto_next l.newest m c.args.at l.done len c.args.cells.now (cells_of c.args.text.now old) (cells_of c.args.text.now now) (cells_of c.args.text.now new) c.newest_of-newest.ensures.least l.invariant.spliced.changed.cells then_spliced.changed.cells l.invariant.upto more;
       room = p.room ∙ l.invariant.room;
+      told = p.told;
+      tags = p.tags ∙ l.invariant.tags;
       home = p.home;
       left = p.left;
     }
@@ -137,3 +145,24 @@ returns-clause-home c = c.loop-done.invariant.home
 
 pub returns-clause-left : goal.returns-clause-left
 returns-clause-left c = let i = c.loop-done.invariant.left in omega (arith, i)
+
+pub put_home-root-requires-clause-told : goal.put_home-root-requires-clause-told
+put_home-root-requires-clause-told c = c.loop-done.invariant.told
+
+pub put_home-root-requires-clause-short : goal.put_home-root-requires-clause-short
+put_home-root-requires-clause-short c =
+    let r = c.requires in let l = c.loop-done in let old = tree_runs c.args.mem.now c.args.root.index in
+    short_kept (tree_runs l.mem l.root.index) (record { text = c.args.text.now; short = r.short; runs = l.invariant.spliced.changed.kept })
+    (spliced_few c.args.text.now old (tree_runs l.mem l.root.index) c.args.at l.done l.more l.lone c.args.cells.now r.kept r.short r.few r.within l.invariant.spliced)
+
+pub put_home-root-requires-clause-state : goal.put_home-root-requires-clause-state
+put_home-root-requires-clause-state c =
+    let l = c.loop-done in let table = c.args.states.now in
+    let p : Cell ℕ → Type 0 = λ x. IsState table x.state in
+    front_given table c.args.text.now (drop l.done c.args.cells.now) c.choose-next.result.run c.choose-next.ensures.run (All-drop p l.done c.args.cells.now c.requires.states)
+
+pub returns-clause-told : goal.returns-clause-told
+returns-clause-told c = c.loop-done.invariant.told
+
+pub returns-clause-tags : goal.returns-clause-tags
+returns-clause-tags c = c.loop-done.invariant.tags

@@ -3,6 +3,7 @@ use Rattle.rt_tree.specs.Runs.{cells_of}
 use Rattle.rt_tree.specs.Homes.{AreHome}
 use Rattle.rt_tree.specs.Shape.{IsTree, tree_runs}
 use Rattle.rt_tree.specs.Sharing.{AreUpTo}
+use Rattle.rt_tree.specs.Summaries.{AreTold}
 use Rattle.rt_tree.proofs.Splicing.{IsSpliced}
 use Rattle.rt_tree.proofs.splice.put_runs.Given as goal
 
@@ -12,6 +13,8 @@ invariant-loop-done l = record {
   spliced : IsSpliced l.text (tree_runs l.initial.mem l.initial.root.index) (tree_runs l.mem l.root.index) l.at l.done l.more l.lone l.cells;
   upto : AreUpTo l.newest (cells_of l.text (tree_runs l.mem l.root.index));
   room : length l.mem.heads + l.mem.room ≡ length l.initial.mem.heads + l.initial.mem.room;
+  told : AreTold l.states l.mem l.sums (tree_runs l.mem l.root.index);
+  tags : l.sums.tags ≡ l.initial.sums.tags;
   home : l.homes.sure ≡ true → AreHome l.homes.leaves (tree_runs l.mem l.root.index);
   left : l.keep + (length l.cells - l.done) ≤ l.homes.left;
 }

@@ -1,7 +1,7 @@
 use Rattle.std.proofs.Common.{◌+◌, ◌/◌, length, take, drop, arith, ap, refl, ◌<◌}
 use Rattle.rt_nodes.specs.Nodes.{entries}
 use Rattle.rt_tree.proofs.Adding.{small-is}
-use Rattle.rt_tree.proofs.Splits.{split_kept, split_still, split_halves, split_wider, kids-in, small-front, small-back}
+use Rattle.rt_tree.proofs.Splits.{split_kept, split_others, split_still, split_halves, split_wider, kids-in, small-front, small-back}
 use Rattle.rt_tree.specs.Changes.{adds_up}
 use Rattle.rt_tree.proofs.Raise.{length-rows}
 use Rattle.rt_tree.proofs.split.split.Goals as goal
@@ -46,6 +46,11 @@ pub returns-clause-still : goal.returns-clause-still
 returns-clause-still c =
     let it = split_still c.args.mem.now c.halve-new.new.mem c.set_entry.new.mem c.insert_at.new.self c.args.height c.args.root.index c.args.node c.halve-new.result c.args.parent (length (entries c.args.mem.now c.args.node.index) / 2) c.args.slot (c.args.slot + 1) c.adds_up-front.result c.adds_up-back.result c.requires.tree c.requires.exact c.requires.node c.requires.parent c.requires.within c.requires.slot c.halve-new.ensures (omega arith) c.adds_up-front.ensures c.adds_up-back.ensures c.set_entry.ensures c.insert_at.ensures in
     it
+
+pub returns-clause-others : goal.returns-clause-others
+returns-clause-others c id is ne =
+    split_others c.args.mem.now c.halve-new.new.mem c.set_entry.new.mem c.insert_at.new.self c.args.height c.args.root.index c.args.node c.halve-new.result c.args.parent (length (entries c.args.mem.now c.args.node.index) / 2) c.args.slot (c.args.slot + 1) c.adds_up-front.result c.adds_up-back.result c.requires.tree c.requires.exact c.requires.node c.requires.parent c.requires.within c.requires.slot c.halve-new.ensures (omega arith) c.adds_up-front.ensures c.adds_up-back.ensures c.set_entry.ensures c.insert_at.ensures id
+    (omega (arith, is, c.halve-new.ensures.new)) ne
 
 pub adds_up-back-requires-clause-node : goal.adds_up-back-requires-clause-node
 adds_up-back-requires-clause-node c =

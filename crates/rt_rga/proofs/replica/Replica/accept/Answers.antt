@@ -8,6 +8,7 @@ use Rattle.rt_rga.proofs.Within.{cells_by, continues_new}
 use Rattle.rt_store.specs.Shown.{TaggedCell}
 use Rattle.std.proofs.lemmas.Result.{err_from_is_err_and}
 use Rattle.rt_tags.specs.States.{KeepsIds, TagStates}
+use Rattle.rt_tags.proofs.Keeping.{keeps_itself}
 use Rattle.rt_rga.proofs.replica.Replica.accept.Goals as goal
 
 pub answer_within-requires-clause-cells : goal.answer_within-requires-clause-cells
@@ -30,9 +31,6 @@ take-requires-clause-room g c =
     let cells : length c.args.self.now.cells ≡ length (cells_of log) = sym (ap (λ (a : ReplicaValue). length a.cells) c.self.view_is) ∙ ap (λ (cs : List TaggedCell). length cs) c.self.invariant.0.replica.cells in
     omega (arith, room, cells, ap (λ (a : ReplicaValue). a.limit) c.self.view_is)
 
-itself : (t : TagStates) → KeepsIds t t
-itself t = record { tags = λ tag h. (h, refl); states = λ state h. (h, refl) }
-
 pub answer_within-requires-clause-within : goal.answer_within-requires-clause-within
 answer_within-requires-clause-within g c = omega (arith, c.self.invariant.0.cells)
 
@@ -51,7 +49,7 @@ returns-in-Repeat g c =
       kept = λ no. refl;
       site = refl;
       limit = refl;
-      ids = itself now.table;
+      ids = keeps_itself now.table;
     }
 
 pub returns-in_err-answer_within : goal.returns-in_err-answer_within
@@ -68,7 +66,7 @@ returns-in_err-answer_within g c =
       kept = λ no. refl;
       site = refl;
       limit = refl;
-      ids = itself now.table;
+      ids = keeps_itself now.table;
     })
 
 pub returns-in_err-take-in-New : goal.returns-in_err-take-in-New

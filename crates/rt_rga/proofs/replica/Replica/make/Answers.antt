@@ -15,6 +15,7 @@ use Rattle.std.proofs.lemmas.Result.{err_from_is_err_and}
 use Rattle.rt_stamps.specs.declared.fault.Fault.{Fault}
 use Rattle.rt_stamps.specs.declared.fault.Fault.TheVariants.{NoMemory}
 use Rattle.rt_tags.specs.States.{KeepsIds, TagStates}
+use Rattle.rt_tags.proofs.Keeping.{keeps_itself}
 use Rattle.rt_rga.proofs.replica.Replica.make.Goals as goal
 
 pub prepared-requires-clause-rules : goal.prepared-requires-clause-rules
@@ -96,9 +97,6 @@ returns-clause-log g c =
     c.in_ok-make_all.ensures.log
     ∙ ap (λ (ops : List Operation). with_operations ops now.log) (c.in_ok-ops.ensures.ops ∙ made_of c.number-site.result now.site c.seen.result c.known.result bodies now.log site last prev)
 
-itself : (t : TagStates) → KeepsIds t t
-itself t = record { tags = λ tag h. (h, refl); states = λ state h. (h, refl) }
-
 pub overflow_sub-self-inside : goal.overflow_sub-self-inside
 overflow_sub-self-inside g c = omega (arith, c.self.invariant.0.cells, c.cells.ensures)
 
@@ -175,7 +173,7 @@ returns-in_err-ops g c =
       kept = λ no. refl;
       site = refl;
       limit = refl;
-      ids = itself c.args.self.now.table;
+      ids = keeps_itself c.args.self.now.table;
     })
 
 pub returns-in_err-make_all : goal.returns-in_err-make_all

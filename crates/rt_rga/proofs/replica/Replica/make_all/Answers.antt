@@ -2,13 +2,11 @@ use Rattle.std.proofs.Common.{◌∙◌, ℕ, List, ap, refl, subst}
 use Rattle.std.proofs.lemmas.Result.{err_from_is_err_and}
 use Rattle.rt_store.specs.declared.cell.Cell.{Cell}
 use Rattle.rt_tags.specs.States.{KeepsIds, TagStates}
+use Rattle.rt_tags.proofs.Keeping.{keeps_itself}
 use Rattle.rt_rga.specs.Drafts.{with_operations}
 use Rattle.rt_rga.specs.Kept.{ReplicaValue}
 use Rattle.rt_rga.proofs.Within.{same_value, within_later}
 use Rattle.rt_rga.proofs.replica.Replica.make_all.Goals as goal
-
-itself : (t : TagStates) → KeepsIds t t
-itself t = record { tags = λ tag h. (h, refl); states = λ state h. (h, refl) }
 
 pub invariant_of-self-in_err-change_all : goal.invariant_of-self-in_err-change_all
 invariant_of-self-in_err-change_all g c =
@@ -20,14 +18,14 @@ pub invariant_of-self : goal.invariant_of-self
 invariant_of-self g c =
     let v = c.self.inside in
     let kept : List (Cell ℕ) = g.S.TextStore.list v.store in
-    (within_later v.log.operations c.reserve.new.self.operations v.states v.states kept kept v.clock v.limit c.reserve.ensures.same refl (itself v.states) c.self.invariant.0, c.self.invariant.1)
+    (within_later v.log.operations c.reserve.new.self.operations v.states v.states kept kept v.clock v.limit c.reserve.ensures.same refl (keeps_itself v.states) c.self.invariant.0, c.self.invariant.1)
 
 pub returns-in_err-reserve : goal.returns-in_err-reserve
 returns-in_err-reserve g c =
     let (y, is, gives) = err_from_is_err_and c.from_residual.result c.from_residual.ensures.1 in
     let v = c.self.inside in
     let kept : List (Cell ℕ) = g.S.TextStore.list v.store in
-    let ids : KeepsIds v.states v.states = itself v.states in
+    let ids : KeepsIds v.states v.states = keeps_itself v.states in
     rw (is, gives) (record {
       log = tt;
       cells = tt;

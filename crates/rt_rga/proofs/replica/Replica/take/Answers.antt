@@ -5,19 +5,17 @@ use Rattle.rt_oplog.specs.Logs.{with_operation}
 use Rattle.rt_oplog.specs.Operations.{Operation}
 use Rattle.rt_store.specs.declared.cell.Cell.{Cell}
 use Rattle.rt_tags.specs.States.{KeepsIds, TagStates}
+use Rattle.rt_tags.proofs.Keeping.{keeps_itself}
 use Rattle.rt_rga.specs.Histories.{Continues, IsHistory, inserted}
 use Rattle.rt_rga.specs.Kept.{ReplicaValue}
 use Rattle.rt_rga.specs.Replicas.{IsReplica}
 use Rattle.rt_rga.specs.Taken.{IsChange}
-use Rattle.rt_rga.proofs.Listing.{keeps_both}
+use Rattle.rt_tags.proofs.Listing.{keeps_both}
 use Rattle.rt_rga.proofs.Pushing.{taken_in}
 use Rattle.rt_rga.proofs.Replicas.{replica_distinct}
 use Rattle.rt_rga.proofs.Within.{change_shown, final_spared, placed_by, same_value, within_later, within_more}
 use Rattle.rt_store.specs.Shown.{shown, TaggedCell}
 use Rattle.rt_rga.proofs.replica.Replica.take.Goals as goal
-
-itself : (t : TagStates) → KeepsIds t t
-itself t = record { tags = λ tag h. (h, refl); states = λ state h. (h, refl) }
 
 pub describe-requires-clause-placed : goal.describe-requires-clause-placed
 describe-requires-clause-placed g c =
@@ -125,14 +123,14 @@ pub invariant_of-self : goal.invariant_of-self
 invariant_of-self g c =
     let v = c.self.inside in
     let kept : List (Cell ℕ) = g.S.TextStore.list v.store in
-    (within_later v.log.operations c.reserve.new.self.operations v.states v.states kept kept v.clock v.limit c.reserve.ensures.same refl (itself v.states) c.self.invariant.0, c.self.invariant.1)
+    (within_later v.log.operations c.reserve.new.self.operations v.states v.states kept kept v.clock v.limit c.reserve.ensures.same refl (keeps_itself v.states) c.self.invariant.0, c.self.invariant.1)
 
 pub returns-in_err-reserve : goal.returns-in_err-reserve
 returns-in_err-reserve g c =
     let (y, is, gives) = err_from_is_err_and c.from_residual.result c.from_residual.ensures.1 in
     let v = c.self.inside in
     let kept : List (Cell ℕ) = g.S.TextStore.list v.store in
-    let ids : KeepsIds v.states v.states = itself v.states in
+    let ids : KeepsIds v.states v.states = keeps_itself v.states in
     rw (is, gives) (record {
       log = tt;
       change = tt;

@@ -2,9 +2,9 @@ use Rattle.std.proofs.Common.{◌≡◌, ◌++◌, ◌∷◌, [], ◌∙◌, sub
 use Rattle.std.proofs.lemmas.Option.{get_or_from_slice_get, slice_get_within}
 use Rattle.rt_tags.specs.Kept.{IsTable}
 use Rattle.rt_tags.specs.Seen.{names_of}
-use Rattle.rt_tags.specs.States.{TagStates, IsTag, KeepsIds, name_at, numbered}
+use Rattle.rt_tags.specs.States.{TagStates, AreNumbered, IsTag, KeepsIds, name_at, numbered}
 use Rattle.rt_tags.specs.Tags.{HaveNoRepeats, is_listed}
-use Rattle.rt_tags.proofs.Keeping.{keeps_numbered, numbered_new, stands_last, table_longer, table_of}
+use Rattle.rt_tags.proofs.Keeping.{keeps_itself, keeps_numbered, nowhere_on, numbered_new, stands_last, table_longer, table_of}
 use Rattle.rt_tags.proofs.Places.{at_within, got}
 use Rattle.rt_tags.proofs.Sets.{len_names}
 use Rattle.std.proofs.lemmas.Result.{err_from_is_err_and}
@@ -45,10 +45,10 @@ returns-in_ok-make_room-in-None-clause-ok c =
     ∙ ap (numbered c.args.name.now) c.self.view_is
 
 pub returns-in_ok-make_room-in-None-clause-ids : goal.returns-in_ok-make_room-in-None-clause-ids
-returns-in_ok-make_room-in-None-clause-ids c = subst (KeepsIds c.args.self.now) (sym (returns-in_ok-make_room-in-None-clause-ok c)) (keeps_numbered c.args.name.now c.args.self.now)
-
-itself : (t : TagStates) → KeepsIds t t
-itself t = record { tags = λ tag h. (h, refl); states = λ state h. (h, refl) }
+returns-in_ok-make_room-in-None-clause-ids c =
+    let numbers = subst (λ (t : TagStates). AreNumbered t) c.self.view_is
+    (λ name state new. nowhere_on name (names_of c.self.inside.names) c.self.inside.states.keys state new c.self.invariant.kept.each) in
+    subst (KeepsIds c.args.self.now) (sym (returns-in_ok-make_room-in-None-clause-ok c)) (keeps_numbered c.args.name.now c.args.self.now numbers)
 
 pub invariant_of-self : goal.invariant_of-self
 invariant_of-self c = rw c.make_room.ensures.names c.self.invariant
@@ -60,7 +60,7 @@ pub returns-in-Some-clause-fault : goal.returns-in-Some-clause-fault
 returns-in-Some-clause-fault c = tt
 
 pub returns-in-Some-clause-ids : goal.returns-in-Some-clause-ids
-returns-in-Some-clause-ids c = itself c.args.self.now
+returns-in-Some-clause-ids c = keeps_itself c.args.self.now
 
 pub returns-in-Some-clause-memory : goal.returns-in-Some-clause-memory
 returns-in-Some-clause-memory c = λ h. refl
@@ -69,7 +69,7 @@ pub returns-in_err-name-in-None : goal.returns-in_err-name-in-None
 returns-in_err-name-in-None c =
     let (y, is, gives) = err_from_is_err_and c.from_residual.result c.from_residual.ensures.1 in
     let new = subst (λ (t : TagStates). is_listed c.args.name.now t.names ≡ false) c.self.view_is (sym c.in-None.ensures.found) in
-    rw (is, gives) (record { given = tt; tag = tt; ok = tt; err = refl; memory = λ h. absurd (true≢false (sym h ∙ new)); fault = refl; ids = itself c.args.self.now })
+    rw (is, gives) (record { given = tt; tag = tt; ok = tt; err = refl; memory = λ h. absurd (true≢false (sym h ∙ new)); fault = refl; ids = keeps_itself c.args.self.now })
 
 pub returns-in_err-make_room-in-None : goal.returns-in_err-make_room-in-None
 returns-in_err-make_room-in-None c =
@@ -83,7 +83,7 @@ returns-in_err-make_room-in-None c =
       err = same;
       memory = λ h. absurd (true≢false (sym h ∙ new));
       fault = refl;
-      ids = subst (KeepsIds c.args.self.now) (sym same) (itself c.args.self.now);
+      ids = subst (KeepsIds c.args.self.now) (sym same) (keeps_itself c.args.self.now);
     })
 
 pub returns-in_ok-make_room-in-None-clause-err : goal.returns-in_ok-make_room-in-None-clause-err

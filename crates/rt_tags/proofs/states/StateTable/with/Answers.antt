@@ -7,7 +7,7 @@ use Rattle.rt_tags.specs.Kept.{HaveNames, IsNext, entry_of, is_entry_kept, state
 use Rattle.rt_tags.specs.Seen.{names_of}
 use Rattle.rt_tags.specs.States.{TagStates, Interns, IsTag, is_settled, state_at, write_at, written, KeepsIds}
 use Rattle.rt_tags.specs.declared.states.Entry.{Entry}
-use Rattle.rt_tags.proofs.Keeping.{keeps_interned, named_there, next_kept, next_seen, settled_there, stays_interned, table_more, table_of}
+use Rattle.rt_tags.proofs.Keeping.{keeps_interned, keeps_itself, named_there, next_kept, next_seen, settled_there, stays_interned, table_more, table_of}
 use Rattle.rt_tags.proofs.Places.{clash}
 use Rattle.std.proofs.lemmas.Result.{err_from_is_err_and}
 use Rattle.rt_tags.proofs.states.StateTable.with.Goals as goal
@@ -104,9 +104,6 @@ next_state-requires-clause-named c =
     subst (λ n. HaveNames n old.entries.items) (length-map names (λ s. string_bytes s) ∙ ap (λ v. length v) (sym c.as_slice.ensures.keys))
     (named_there (names_of c.self.inside.names) c.self.inside.states.keys c.self.invariant c.args.state old c.state_of-old.ensures)
 
-itself : (t : TagStates) → KeepsIds t t
-itself t = record { tags = λ tag h. (h, refl); states = λ state h. (h, refl) }
-
 pub returns-in_err-new-clause-given : goal.returns-in_err-new-clause-given
 returns-in_err-new-clause-given c =
     let p = err_from_is_err_and c.from_residual.result c.from_residual.ensures.1 in
@@ -136,7 +133,7 @@ pub returns-in_err-new-clause-names : goal.returns-in_err-new-clause-names
 returns-in_err-new-clause-names c = refl
 
 pub returns-in_err-new-clause-ids : goal.returns-in_err-new-clause-ids
-returns-in_err-new-clause-ids c = itself c.args.self.now
+returns-in_err-new-clause-ids c = keeps_itself c.args.self.now
 
 pub invariant_of-self : goal.invariant_of-self
 invariant_of-self c = rw c.in_err-place-in-Some.ensures.err c.self.invariant
@@ -172,7 +169,7 @@ returns-in_err-place-in-Some-clause-names c = ap (λ (t : TagStates). t.names) c
 pub returns-in_err-place-in-Some-clause-ids : goal.returns-in_err-place-in-Some-clause-ids
 returns-in_err-place-in-Some-clause-ids c =
     let same = ap (table_of (names_of c.self.inside.names)) c.in_err-place-in-Some.ensures.err ∙ c.self.view_is in
-    subst (KeepsIds c.args.self.now) (sym same) (itself c.args.self.now)
+    subst (KeepsIds c.args.self.now) (sym same) (keeps_itself c.args.self.now)
 
 pub returns-in-None-clause-err : goal.returns-in-None-clause-err
 returns-in-None-clause-err c = tt
@@ -184,7 +181,7 @@ pub returns-in-None-clause-given : goal.returns-in-None-clause-given
 returns-in-None-clause-given c = c.requires.state
 
 pub returns-in-None-clause-ids : goal.returns-in-None-clause-ids
-returns-in-None-clause-ids c = itself c.args.self.now
+returns-in-None-clause-ids c = keeps_itself c.args.self.now
 
 pub returns-in-None-clause-names : goal.returns-in-None-clause-names
 returns-in-None-clause-names c = refl

@@ -5,7 +5,7 @@ use Rattle.rt_tags.specs.Kept.{IsKept, IsSorted, all_seen, state_seen, states_se
 use Rattle.rt_tags.specs.Seen.{names_of}
 use Rattle.rt_tags.specs.States.{TagStates, Interns, state_at, writes_at, KeepsIds}
 use Rattle.rt_tags.specs.Writers.{state_after}
-use Rattle.rt_tags.proofs.Keeping.{keeps_interned, sorted_there, state_there, table_more, table_of}
+use Rattle.rt_tags.proofs.Keeping.{keeps_interned, keeps_itself, sorted_there, state_there, table_more, table_of}
 use Rattle.std.proofs.lemmas.Result.{err_from_is_err_and}
 use Rattle.rt_tags.proofs.states.StateTable.with_all.Goals as goal
 
@@ -56,9 +56,6 @@ returns-clause-ids c =
     let made = state_after (state_at c.args.self.now c.args.state) (writes_at c.args.self.now c.args.writes.now) in
     keeps_interned made c.args.self.now (table_of (names_of c.self.inside.names) c.intern.new.states.keys) c.in_ok-place.place (ap (λ (t : TagStates). t.names) c.self.view_is) (returns-clause-interned c)
 
-itself : (t : TagStates) → KeepsIds t t
-itself t = record { tags = λ tag h. (h, refl); states = λ state h. (h, refl) }
-
 pub invariant_of-self : goal.invariant_of-self
 invariant_of-self c = rw c.in_err-place.ensures.err c.self.invariant
 
@@ -74,7 +71,7 @@ returns-clause-names c = ap (λ (t : TagStates). t.names) c.self.view_is
 pub returns-in_err-new : goal.returns-in_err-new
 returns-in_err-new c =
     let (y, is, gives) = err_from_is_err_and c.from_residual.result c.from_residual.ensures.1 in
-    rw (is, gives) (record { given = tt; state = tt; interned = tt; names = refl; err = refl; fault = refl; ids = itself c.args.self.now })
+    rw (is, gives) (record { given = tt; state = tt; interned = tt; names = refl; err = refl; fault = refl; ids = keeps_itself c.args.self.now })
 
 pub returns-in_err-place : goal.returns-in_err-place
 returns-in_err-place c =
@@ -87,5 +84,5 @@ returns-in_err-place c =
       names = ap (λ (t : TagStates). t.names) c.self.view_is;
       err = same;
       fault = c.in_err-place.ensures.fault;
-      ids = subst (KeepsIds c.args.self.now) (sym same) (itself c.args.self.now);
+      ids = subst (KeepsIds c.args.self.now) (sym same) (keeps_itself c.args.self.now);
     })

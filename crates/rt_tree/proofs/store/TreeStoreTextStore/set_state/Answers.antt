@@ -1,7 +1,10 @@
-use Rattle.std.proofs.Common.{sym, subst}
-use Rattle.rt_store.specs.Tagged.{AreStates}
-use Rattle.rt_store.proofs.GivenStates.{put_states}
+use Rattle.rt_tree.proofs.Showing.{fresh_agrees, later_agrees}
 use Rattle.rt_tree.proofs.store.TreeStoreTextStore.set_state.Goals as goal
 
-pub returns-clause-states : goal.returns-clause-states
-returns-clause-states c = subst (AreStates c.args._states.now) (sym c.set_state.ensures.cells) (put_states c.args._states.now c.args.span c.args.state c.args.self.now.tree.cells c.requires.state c.requires.states)
+pub invariant_of-self-clause-later : goal.invariant_of-self-clause-later
+invariant_of-self-clause-later c old new keeps agrees = later_agrees old new c.set_state.new.self keeps c.set_state.ensures.own agrees
+
+pub invariant_of-self-clause-fresh : goal.invariant_of-self-clause-fresh
+invariant_of-self-clause-fresh c table is given =
+    let e = c.set_state.ensures in
+    fresh_agrees c.args.states.now table c.set_state.new.self e.own e.agrees.right is given

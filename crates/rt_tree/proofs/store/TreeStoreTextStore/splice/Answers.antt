@@ -1,10 +1,10 @@
-use Rattle.std.proofs.Common.{◌∙◌, take, drop, sym, subst, append_assoc}
-use Rattle.rt_store.specs.Tagged.{AreStates}
-use Rattle.rt_store.proofs.GivenStates.{spliced_states}
+use Rattle.rt_tree.proofs.Showing.{fresh_agrees, later_agrees}
 use Rattle.rt_tree.proofs.store.TreeStoreTextStore.splice.Goals as goal
 
-pub returns-clause-states : goal.returns-clause-states
-returns-clause-states c =
-    let at = c.args.at in
-    let cells = c.args.self.now.tree.cells in
-    subst (AreStates c.args._states.now) (append_assoc (take at cells) c.args.cells.now (drop at cells) ∙ sym c.splice.ensures.cells) (spliced_states c.args._states.now at cells c.args.cells.now c.requires.states c.requires.new)
+pub invariant_of-self-clause-later : goal.invariant_of-self-clause-later
+invariant_of-self-clause-later c old new keeps agrees = later_agrees old new c.splice.new.self keeps c.splice.ensures.own agrees
+
+pub invariant_of-self-clause-fresh : goal.invariant_of-self-clause-fresh
+invariant_of-self-clause-fresh c table is given =
+    let e = c.splice.ensures in
+    fresh_agrees c.args.states.now table c.splice.new.self e.own e.agrees.right is given

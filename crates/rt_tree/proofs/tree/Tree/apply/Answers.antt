@@ -6,6 +6,7 @@ use Rattle.rt_tree.specs.Trees.{Shown}
 use Rattle.rt_tree.proofs.Cutting.{runs_few}
 use Rattle.rt_tree.proofs.Marking.{span_count}
 use Rattle.rt_tree.proofs.Newest.{upto_marked}
+use Rattle.rt_tree.proofs.Showing.{kept_told, own_states, right_from, states_given}
 use Rattle.rt_tree.proofs.tree.Tree.apply.Goals as goal
 
 pub overflow_add-self : goal.overflow_add-self
@@ -27,7 +28,7 @@ invariant_of-self c =
         record { nodes = omega (arith, r.nodes, e.runs, e.more, e.room, cuts, c.requires.room.1); holds = r.holds; few = r.few },
         (
           subst (AreUpTo s.newest) (sym is.cells) (upto_marked s.newest c.args.span c.args.mark (cells_of s.text.items old) c.self.invariant.1.1.0),
-          (e.home, e.left c.self.invariant.1.1.1.1),
+          (e.home, (e.left c.self.invariant.1.1.1.1.0, record { many = e.told.many; memory = e.told.memory; tags = let h = c.self.invariant.1.1.1.1.1.tags in omega (arith, h, e.tags) })),
         ),
       ),
     )
@@ -37,3 +38,19 @@ returns-clause-cells c =
     let s = c.self.inside in let k = c.self.invariant.0 in
     let is = c.mark_span-change.ensures.cells s.text.items k.kept in
     is.cells ∙ ap (λ (v : Shown). map (cell_in c.args.span c.args.mark) v.cells) c.self.view_is
+
+pub mark_span-change-requires-clause-told : goal.mark_span-change-requires-clause-told
+mark_span-change-requires-clause-told c =
+    let s = c.self.inside in
+    let tags = ap (λ (v : Shown). v.room.tags) c.self.view_is in
+    kept_told s.mem s.root.index s.text.items s.runs c.self.invariant.0 s.sums s.spare_tags c.self.invariant.1.1.1.1.1 c.args.states.now (omega (arith, tags, c.requires.room.2)) _ c.args.self.now c.self.view_is c.requires.agrees
+
+pub returns-clause-agrees : goal.returns-clause-agrees
+returns-clause-agrees c =
+    let e = c.mark_span-change.ensures in let table = c.args.states.now in let m = c.mark_span-change.new.mem in
+    record { given = states_given table c.self.inside.text.items (tree_runs m c.mark_span-change.result.root.index) e.told.given; right = right_from table m c.mark_span-change.new.sums.each.items e.told.each }
+
+pub returns-clause-own : goal.returns-clause-own
+returns-clause-own c =
+    let s = c.self.inside in let e = c.mark_span-change.ensures in
+    own_states c.mark_span-change.new.mem c.mark_span-change.result.root.index s.text.items e.tree (e.cells s.text.items c.self.invariant.0.kept).kept c.mark_span-change.new.sums.each.items c.args.self.now.room

@@ -13,7 +13,7 @@ find-found-requires-clause-few c = let s = c.self.inside in few_runs s.mem s.roo
 pub find-found-requires-clause-within : goal.find-found-requires-clause-within
 find-found-requires-clause-within c =
     let s = c.self.inside in
-    let h = shows s.mem s.root.index s.text.items s.runs c.self.invariant.0 c.args.self.now c.self.view_is in
+    let h = shows s.mem s.root.index s.text.items s.runs c.self.invariant.0 s.sums.each.items c.args.self.now c.self.view_is in
     omega (arith, h.visible, c.requires.within)
 
 pub cell_in-requires-clause-run : goal.cell_in-requires-clause-run

@@ -19,7 +19,7 @@ seek-found-requires-clause-few c = let s = c.self.inside in few_runs s.mem s.roo
 pub seek-found-requires-clause-within : goal.seek-found-requires-clause-within
 seek-found-requires-clause-within c =
     let s = c.self.inside in
-    let h = shows s.mem s.root.index s.text.items s.runs c.self.invariant.0 c.args.self.now c.self.view_is in
+    let h = shows s.mem s.root.index s.text.items s.runs c.self.invariant.0 s.sums.each.items c.args.self.now c.self.view_is in
     let v = ap (λ (x : Counts). x.visible) (c.sum_of-all.ensures ∙ sum_root s.mem s.root.index s.text.items s.runs c.self.invariant.0) in
     omega (arith, h.visible, c.requires, v, c.if-place-all.false)
 
@@ -33,7 +33,7 @@ returns c =
 pub returns-then-place-all : goal.returns-then-place-all
 returns-then-place-all c =
     let s = c.self.inside in
-    let h = shows s.mem s.root.index s.text.items s.runs c.self.invariant.0 c.args.self.now c.self.view_is in
+    let h = shows s.mem s.root.index s.text.items s.runs c.self.invariant.0 s.sums.each.items c.args.self.now c.self.view_is in
     let all = c.sum_of-all.ensures ∙ sum_root s.mem s.root.index s.text.items s.runs c.self.invariant.0 in
     let v = ap (λ (x : Counts). x.visible) all in
     let n = ap (λ (x : Counts). x.newlines) all in

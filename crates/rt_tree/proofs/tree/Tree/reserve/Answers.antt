@@ -1,13 +1,16 @@
-use Rattle.std.proofs.Common.{ℕ, ◌≡◌, ◌+◌, ◌^◌, ◌<◌, List, Option, length, arith, sym, ap, ◌∙◌, subst}
+use Rattle.std.proofs.Common.{ℕ, ◌≡◌, ◌+◌, ◌-◌, ◌/◌, ◌^◌, ◌<◌, ◌≤◌, max, List, Option, Result, Ok, Err, OnErr, length, arith, sym, ap, ◌∙◌, subst}
 use Rattle.std.specs.Option.{SomeIff}
 use Rattle.rt_store.specs.Cells.{Room}
 use Rattle.rt_tree.specs.Homes.{AreHome}
-use Rattle.rt_tree.specs.Shape.{tree_runs}
+use Rattle.rt_nodes.specs.Nodes.{with_room}
+use Rattle.rt_tree.specs.declared.summary.Summary.{Summary}
+use Rattle.rt_tree.specs.Shape.{Memory, tree_runs}
+use Rattle.rt_tree.specs.Summaries.{TellsAs, summary_of}
 use Rattle.rt_tree.specs.Sharing.{AreUpTo}
 use Rattle.rt_tree.specs.Trees.{IsKept, Shown, shown}
 use Rattle.rt_tree.proofs.Cutting.{runs_few}
 use Rattle.rt_tree.proofs.Housing.{home_keeps}
-use Rattle.rt_tree.proofs.Roomier.{room_kept, room_nodes, room_runs, room_shown}
+use Rattle.rt_tree.proofs.Roomier.{room_kept, room_nodes, room_runs, room_shown, room_sums, sums_shown}
 use Rattle.rt_tree.proofs.tree.Tree.reserve.Goals as goal
 
 pub overflow_add-self-inside : goal.overflow_add-self-inside
@@ -21,7 +24,7 @@ pub invariant_of-self-2 : goal.invariant_of-self-2
 invariant_of-self-2 c =
     let s = c.self.inside in let k = c.self.invariant.0 in
     let m = s.mem in let root = s.root.index in
-    let e = c.in_ok-reserve-3.ensures.room in
+    let e = c.in_ok-reserve-4.ensures.room in
     let text = c.in_ok-reserve-2.ensures.items in
     let holds = c.in_ok-reserve-2.ensures.ok in
     let low = c.if-cells-len.false in
@@ -31,27 +34,72 @@ invariant_of-self-2 c =
     let a = s.text.ok.0 in
     let b = c.reserve-2.new.self.ok.0 in
     let ask : c.in_ok-runs.runs ≡ s.runs + c.max-cells.result + c.max-cuts.result = (subst (λ (o : Option ℕ). SomeIff o (s.runs + c.max-cells.result + c.max-cuts.result < 2 ^ 64) (s.runs + c.max-cells.result + c.max-cuts.result)) c.in_ok-runs.ensures.ok_part c.checked_add.ensures).1 in
-    let room : Room = record { cells = c.max-cells.result; cuts = c.max-cuts.result } in
-    let same = ap (λ (t : List ℕ). shown c.reserve-3.new.self root t room) text ∙ room_shown m _ root s.text.items room c.reserve-3.new.self e in
-    let nodes = room_nodes m root s.runs c.max-cells.result c.max-cuts.result c.saturating_sub.result c.reserve-3.new.self e k.counted (omega (arith, ask, c.saturating_sub.ensures, c.nodes.ensures)) in (
-      subst (λ t. IsKept c.reserve-3.new.self root t s.runs) (sym text) (room_kept m _ root s.text.items s.runs c.reserve-3.new.self e k),
+    let room : Room = record { cells = c.max-cells.result; cuts = c.max-cuts.result; tags = c.max-tags.result } in
+    let sums = c.reserve-3.new.self in
+    let got = c.in_ok-reserve-3.ensures in
+    let same = ap (λ (t : List ℕ). shown c.reserve-4.new.self root t sums.each.items room) text ∙ room_shown m _ root s.text.items sums.each.items room c.reserve-4.new.self e in
+    let nodes = room_nodes m root s.runs c.max-cells.result c.max-cuts.result c.saturating_sub.result c.reserve-4.new.self e k.counted (omega (arith, ask, c.saturating_sub.ensures, c.nodes.ensures)) in (
+      subst (λ t. IsKept c.reserve-4.new.self root t s.runs) (sym text) (room_kept m _ root s.text.items s.runs c.reserve-4.new.self e k),
       (
         record { nodes = nodes; holds = omega (arith, holds, b); few = omega (arith, len, a, low, c.len.ensures) },
         (
           subst (AreUpTo s.newest) (sym (ap (λ (v : Shown). v.cells) same)) c.self.invariant.1.1.0,
           (
-            (λ sure. subst (AreHome leaves) (sym (room_runs m _ root s.text.items s.runs c.reserve-3.new.self e))
+            (λ sure. subst (AreHome leaves) (sym (room_runs m _ root s.text.items s.runs c.reserve-4.new.self e))
                 (home_keeps s.homes.leaves leaves (tree_runs m root) (λ stamp none. sym (c.in_ok-reserve.ensures.leaves stamp) ∙ none) (c.self.invariant.1.1.1.0 (sym c.in_ok-reserve.ensures.sure ∙ sure)))),
-            omega (arith, spans, all),
+            (
+              omega (arith, spans, all),
+              record {
+                many = (
+                    let h = c.self.invariant.1.1.1.1.1.many in
+                    let asked : c.saturating_sub.result ≡ c.in_ok-runs.runs / 7 + 1 - length m.heads = omega (arith, c.saturating_sub.ensures, c.nodes.ensures) in
+                    let heads = ap (λ (x : Memory). length x.heads) e in
+                    let wide = ap (λ (x : Memory). x.room) e ∙ ap (max m.room) asked in
+                    let low = room_sums (length m.heads) m.room (c.in_ok-runs.runs / 7 + 1) (length sums.each.items) (omega (arith, h, got.kept_nodes)) got.nodes in
+                    omega (arith, heads, wide, low));
+                memory = got.memory;
+                tags = got.tags;
+              },
+            ),
           ),
         ),
       ),
     )
 
+-- what is shown once there is room
+now_shown : (m : Memory) (n root : ℕ) (text text' : List ℕ) (sums sums' : List Summary) (room : Room) (m' : Memory) → text' ≡ text → m' ≡ with_room m n → length m.heads ≤ length sums → ((id : ℕ) → id < length sums → TellsAs (summary_of sums id) (summary_of sums' id)) → shown m' root text' sums' room ≡ shown m root text sums room
+now_shown m n root text text' sums sums' room m' same is many tells =
+    ap (λ (t : List ℕ). shown m' root t sums' room) same ∙ room_shown m n root text sums' room m' is ∙ sums_shown m root text sums sums' room many tells
+
 pub returns-clause-same : goal.returns-clause-same
 returns-clause-same c =
     let s = c.self.inside in
-    let room : Room = record { cells = c.max-cells.result; cuts = c.max-cuts.result } in
-    ap (λ (t : List ℕ). shown c.reserve-3.new.self s.root.index t room) c.in_ok-reserve-2.ensures.items
-    ∙ room_shown s.mem _ s.root.index s.text.items room c.reserve-3.new.self c.in_ok-reserve-3.ensures.room
+    let room : Room = record { cells = c.max-cells.result; cuts = c.max-cuts.result; tags = c.max-tags.result } in
+    let h = c.self.invariant.1.1.1.1.1.many in
+    now_shown s.mem _ s.root.index s.text.items _ s.sums.each.items c.reserve-3.new.self.each.items room c.reserve-4.new.self c.in_ok-reserve-2.ensures.items c.in_ok-reserve-4.ensures.room (omega (arith, h)) c.in_ok-reserve-3.ensures.same
     ∙ ap (λ (v : Shown). record v { room = room }) c.self.view_is
+
+always : {A E : Type 0} (r : Result A E) (P : Type 0) → P → OnErr r P
+always (Ok x) P p = tt
+always (Err e) P p = p
+
+pub returns-in_err-reserve-3-clause-unchanged : goal.returns-in_err-reserve-3-clause-unchanged
+returns-in_err-reserve-3-clause-unchanged c =
+    let s = c.self.inside in
+    let room : Room = record { cells = s.spare_cells; cuts = s.spare_cuts; tags = s.spare_tags } in
+    let h = c.self.invariant.1.1.1.1.1.many in
+    always c.from_residual-in_err-reserve-3.result _
+    (ap (λ (t : List ℕ). shown s.mem s.root.index t c.reserve-3.new.self.each.items room) c.in_ok-reserve-2.ensures.items
+    ∙ sums_shown s.mem s.root.index s.text.items s.sums.each.items c.reserve-3.new.self.each.items room (omega (arith, h)) c.in_err-reserve-3.ensures.same
+    ∙ c.self.view_is)
+
+pub returns-in_err-reserve-4-clause-unchanged : goal.returns-in_err-reserve-4-clause-unchanged
+returns-in_err-reserve-4-clause-unchanged c =
+    let s = c.self.inside in
+    let room : Room = record { cells = s.spare_cells; cuts = s.spare_cuts; tags = s.spare_tags } in
+    let h = c.self.invariant.1.1.1.1.1.many in
+    always c.from_residual-in_err-reserve-4.result _
+    (ap (λ (m : Memory). shown m s.root.index c.reserve-2.new.self.items c.reserve-3.new.self.each.items room) c.in_err-reserve-4.ensures.refused
+    ∙ ap (λ (t : List ℕ). shown s.mem s.root.index t c.reserve-3.new.self.each.items room) c.in_ok-reserve-2.ensures.items
+    ∙ sums_shown s.mem s.root.index s.text.items s.sums.each.items c.reserve-3.new.self.each.items room (omega (arith, h)) c.in_ok-reserve-3.ensures.same
+    ∙ c.self.view_is)

@@ -11,7 +11,7 @@ use Rattle.rt_tree.proofs.tree.Tree.skip.Goals as goal
 pub overflow_add-position : goal.overflow_add-position
 overflow_add-position c =
     let s = c.self.inside in
-    let h = shows s.mem s.root.index s.text.items s.runs c.self.invariant.0 c.args.self.now c.self.view_is in
+    let h = shows s.mem s.root.index s.text.items s.runs c.self.invariant.0 s.sums.each.items c.args.self.now c.self.view_is in
     omega (arith, h.cells, c.requires, c.self.invariant.0.few)
 
 pub passed-requires-clause-node : goal.passed-requires-clause-node

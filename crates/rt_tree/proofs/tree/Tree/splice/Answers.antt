@@ -11,6 +11,7 @@ use Rattle.rt_tree.proofs.Kept.{shows}
 use Rattle.rt_tree.proofs.Newest.{upto_more, upto_put}
 use Rattle.rt_tree.proofs.Shared.{distinct_once}
 use Rattle.rt_tree.proofs.Splicing.{longer_cells, longer_count, longer_ends, longer_kept, longer_shown, longer_text}
+use Rattle.rt_tree.proofs.Showing.{kept_told, own_states, right_from, states_given}
 use Rattle.rt_tree.proofs.tree.Tree.splice.Goals as goal
 
 pub put_cells-change-requires-clause-kept : goal.put_cells-change-requires-clause-kept
@@ -32,7 +33,7 @@ put_cells-change-requires-clause-last c =
 pub put_cells-change-requires-clause-within : goal.put_cells-change-requires-clause-within
 put_cells-change-requires-clause-within c =
     let s = c.self.inside in
-    let h = shows s.mem s.root.index s.text.items s.runs c.self.invariant.0 c.args.self.now c.self.view_is in
+    let h = shows s.mem s.root.index s.text.items s.runs c.self.invariant.0 s.sums.each.items c.args.self.now c.self.view_is in
     let w = c.requires.within in let n = h.cells in
     omega (arith, n, w)
 
@@ -54,7 +55,7 @@ invariant_of-self c =
     let more = c.push_characters.ensures.items in
     let is = subst (λ (t : List ℕ). AreChanged old new t (put_at c.args.at added)) c.deref.ensures.value e.cells in
     let shown_cells = longer_shown s.text.items text old added k.kept more new c.args.at is in
-    let h = shows s.mem s.root.index s.text.items s.runs k c.args.self.now c.self.view_is in
+    let h = shows s.mem s.root.index s.text.items s.runs k s.sums.each.items c.args.self.now c.self.view_is in
     let w = c.requires.within in let hc = h.cells in
     let n = longer_count s.text.items text old added k.kept more new c.args.at is (omega (arith, hc, w)) in
     let l = longer_text s.text.items text old added k.kept more in
@@ -68,7 +69,7 @@ invariant_of-self c =
         record { nodes = omega (arith, rn, er, em, eo, cells, cuts, ra, rb); holds = omega (arith, rh, l, cap, cells, ra); few = omega (arith, rf, l, cells, ra) },
         (
           subst (AreUpTo c.newest_of-self-inside.result) (sym shown_cells) (upto_put c.newest_of-self-inside.result c.args.at added (cells_of s.text.items old) (upto_more s.newest c.newest_of-self-inside.result (cells_of s.text.items old) c.newest_of-self-inside.ensures.least c.self.invariant.1.1.0) c.newest_of-self-inside.ensures.cells),
-          (e.home, e.left),
+          (e.home, (e.left, record { many = e.told.many; memory = e.told.memory; tags = let h = c.self.invariant.1.1.1.1.1.tags in omega (arith, h, e.tags) })),
         ),
       ),
     )
@@ -96,3 +97,21 @@ returns-clause-runs c =
     let grown = sym (longer_cells s.text.items c.push_characters.new.text.items old added k.kept c.push_characters.ensures.items) ∙ ap (λ (t : List ℕ). cells_of t old) (sym c.deref.ensures.value) in
     let m = e.more (subst (λ (x : List (Cell ℕ)). AreOnce x added) grown o) in
     omega (arith, m, n, er)
+
+pub put_cells-change-requires-clause-told : goal.put_cells-change-requires-clause-told
+put_cells-change-requires-clause-told c =
+    let s = c.self.inside in
+    let tags = ap (λ (v : Shown). v.room.tags) c.self.view_is in
+    kept_told s.mem s.root.index s.text.items s.runs c.self.invariant.0 s.sums s.spare_tags c.self.invariant.1.1.1.1.1 c.args.states.now (omega (arith, tags, c.requires.room.2)) _ c.args.self.now c.self.view_is c.requires.agrees
+
+pub returns-clause-agrees : goal.returns-clause-agrees
+returns-clause-agrees c =
+    let e = c.put_cells-change.ensures in let table = c.args.states.now in let m = c.put_cells-change.new.mem in
+    record { given = states_given table c.push_characters.new.text.items (tree_runs m c.put_cells-change.result.root.index) e.told.given; right = right_from table m c.put_cells-change.new.sums.each.items e.told.each }
+
+pub returns-clause-own : goal.returns-clause-own
+returns-clause-own c =
+    let e = c.put_cells-change.ensures in
+    let old = tree_runs c.self.inside.mem c.self.inside.root.index in let new = tree_runs c.put_cells-change.new.mem c.put_cells-change.result.root.index in
+    let is = subst (λ (t : List ℕ). AreChanged old new t (put_at c.args.at c.args.cells.now)) c.deref.ensures.value e.cells in
+    own_states c.put_cells-change.new.mem c.put_cells-change.result.root.index c.push_characters.new.text.items e.tree is.kept c.put_cells-change.new.sums.each.items c.args.self.now.room

@@ -9,5 +9,5 @@ sum_of-requires-clause-few c = let s = c.self.inside in few_root s.mem s.root.in
 pub returns : goal.returns
 returns c =
     let s = c.self.inside in
-    let h = shows s.mem s.root.index s.text.items s.runs c.self.invariant.0 c.args.self.now c.self.view_is in
+    let h = shows s.mem s.root.index s.text.items s.runs c.self.invariant.0 s.sums.each.items c.args.self.now c.self.view_is in
     ap (λ (x : Counts). x.visible) (c.sum_of.ensures ∙ sum_root s.mem s.root.index s.text.items s.runs c.self.invariant.0) ∙ sym h.visible

@@ -12,7 +12,7 @@ seek-found-requires-clause-few c = let s = c.self.inside in few_runs s.mem s.roo
 pub seek-found-requires-clause-within : goal.seek-found-requires-clause-within
 seek-found-requires-clause-within c =
     let s = c.self.inside in
-    let h = shows s.mem s.root.index s.text.items s.runs c.self.invariant.0 c.args.self.now c.self.view_is in
+    let h = shows s.mem s.root.index s.text.items s.runs c.self.invariant.0 s.sums.each.items c.args.self.now c.self.view_is in
     omega (arith, h.cells, c.requires)
 
 pub returns : goal.returns

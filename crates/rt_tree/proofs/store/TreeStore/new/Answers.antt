@@ -1,0 +1,10 @@
+use Rattle.std.proofs.Common.{sym, subst}
+use Rattle.rt_store.specs.Tagged.{AreStates}
+use Rattle.rt_tree.proofs.Showing.{later_agrees}
+use Rattle.rt_tree.proofs.store.TreeStore.new.Goals as goal
+
+pub invariant_of-result-clause-later : goal.invariant_of-result-clause-later
+invariant_of-result-clause-later c old new keeps agrees = later_agrees old new c.in_ok-tree.tree keeps c.in_ok-tree.ensures.own agrees
+
+pub invariant_of-result-clause-fresh : goal.invariant_of-result-clause-fresh
+invariant_of-result-clause-fresh c table is given = record { given = subst (AreStates table) (sym is) given; right = c.in_ok-tree.ensures.right table }

@@ -1,0 +1,66 @@
+// Summaries put right from a leaf up.
+ghost use Rattle.std.specs.Prelude.{◌≡◌, ℕ, ◌<◌, ◌≤◌, IfSome, length, slice_index_or};
+ghost use Rattle.rt_nodes.specs.Nodes.{entries};
+ghost use Rattle.rt_tags.specs.Borders.{one_or_none};
+ghost use Rattle.rt_tags.specs.States.{IsState};
+ghost use Rattle.rt_tree.specs.declared.node.Entry.{Entry};
+ghost use Rattle.rt_tree.specs.Shape.{IsShape, below, level_of};
+ghost use Rattle.rt_tree.specs.Summaries.{AreBeside, AreSummed, AreSummedBut, shown_states, summary_of};
+
+use crate::node::Mem;
+use crate::settle::{parent_of, slot_of};
+use crate::summaries::{replace_at, widened};
+use crate::summary::{Around, Summary};
+use rt_nodes::NodeId;
+use rt_tags::{StateId, StateTable, Toggles};
+
+// An entry of a leaf shows another state now, or none: puts right the summaries of the nodes above it.
+pub(crate) fn note(
+    each: &mut [Summary],
+    minus: &mut Toggles,
+    plus: &mut Toggles,
+    states: &StateTable,
+    mem: &Mem,
+    root: NodeId,
+    height: u32,
+    leaf: NodeId,
+    i: usize,
+    old: &Option<StateId>,
+    new: &Option<StateId>,
+)
+    requires tree { IsShape mem.now height root.index }
+    requires leaf { (leaf.index < length mem.now.heads) × (level_of mem.now leaf.index ≡ 0) }
+    requires within { i < length (entries mem.now leaf.index) }
+    requires many { length mem.now.heads ≤ length each.old }
+    requires old { IfSome old.now (IsState states.now) }
+    requires new { IfSome new.now (IsState states.now) }
+    requires shows { (e : Entry) → e ≡ slice_index_or (entries mem.now leaf.index) i e → shown_states (below mem.now 0 e) ≡ one_or_none new.now }
+    requires beside { AreBeside states.now mem.now height leaf.index i }
+    requires but { AreSummedBut states.now mem.now each.old height leaf.index i old.now }
+    requires minus { length states.now.names ≤ minus.old.capacity }
+    requires plus { length states.now.names ≤ plus.old.capacity }
+    requires memory { (id : ℕ) → id < length mem.now.heads → length states.now.names ≤ (summary_of each.old id).counts.capacity }
+    ensures summed { AreSummed states.now mem.now each.new }
+    ensures many { length each.new ≡ length each.old }
+    ensures memory { (id : ℕ) → (summary_of each.new id).counts.capacity ≡ (summary_of each.old id).counts.capacity }
+    ensures minus { minus.new.capacity ≡ minus.old.capacity }
+    ensures plus { plus.new.capacity ≡ plus.old.capacity }
+{
+    let nobody = Around {
+        before: None,
+        after: None,
+    };
+    let mut around = widened(each, mem, leaf, i, &nobody);
+    replace_at(each, minus, plus, states, leaf, &around, old, new);
+    let mut node = leaf;
+    let mut level = 0;
+    while level < height {
+        let parent = parent_of(mem, node);
+        let slot = slot_of(mem, parent, node);
+        let wider = widened(each, mem, parent, slot, &around);
+        replace_at(each, minus, plus, states, parent, &wider, old, new);
+        around = wider;
+        node = parent;
+        level += 1;
+    }
+}

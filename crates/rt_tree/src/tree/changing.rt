@@ -1,0 +1,144 @@
+// Changes of a tree's cells, and room for them.
+ghost use Rattle.std.specs.Prelude.{◌≡◌, ◌+◌, ◌<◌, ◌≤◌, IfErr, IsOk, OnErr, OnOk, length, map};
+ghost use Rattle.rt_store.specs.Cells.{AreDistinct, HasRoom, Spends, gone_in, put_at, state_in};
+ghost use Rattle.rt_store.specs.Tagged.{AreStates};
+ghost use Rattle.rt_tags.specs.States.{IsState};
+ghost use Rattle.rt_tree.specs.Additions.{stretches};
+ghost use Rattle.rt_tree.specs.Sharing.{cell_in};
+ghost use Rattle.rt_tree.specs.Stretches.{IsGiven};
+ghost use Rattle.rt_tree.specs.Trees.{Agrees, HasOwn};
+
+use super::Tree;
+use crate::homes::spans_for;
+use crate::mark::{Mark, mark_span};
+use crate::splice::{newest_of, push_characters, put_cells};
+use rt_stamps::limits::MOST_CELLS;
+use rt_stamps::{Fault, Span};
+use rt_store::Cell;
+use rt_tags::{StateId, StateTable};
+
+impl Tree {
+    /// Makes room for new cells, for cuts of runs, and for counts of so many tags, and keeps what was there. `NoMemory` changes
+    /// nothing; it is also the answer where the cells would be too many, or nodes without number.
+    pub fn reserve(&mut self, cells: usize, cuts: usize, tags: usize) -> Result<(), Fault>
+        ensures same { OnOk result (self.new ≡ record self.old { room = self.new.room }) }
+        ensures ok { OnOk result (HasRoom self.new.room cells cuts tags) }
+        ensures kept { HasRoom self.new.room self.old.room.cells self.old.room.cuts self.old.room.tags }
+        ensures unchanged { OnErr result (self.new ≡ self.old) }
+        ensures err { IfErr result (λ fault. fault ≡ Fault.NoMemory) }
+        ensures roomy { HasRoom self.old.room cells cuts tags → IsOk result }
+    {
+        if cells <= self.spare_cells && cuts <= self.spare_cuts && tags <= self.spare_tags {
+            return Ok(());
+        }
+        let cells = cells.max(self.spare_cells);
+        let cuts = cuts.max(self.spare_cuts);
+        let tags = tags.max(self.spare_tags);
+        if cells > MOST_CELLS - self.text.len() {
+            return Err(Fault::NoMemory);
+        }
+        let runs = (self.runs + cells)
+            .checked_add(cuts)
+            .ok_or(Fault::NoMemory)?;
+        let nodes = runs / 7 + 1;
+        self.homes.reserve(spans_for(cells, cuts))?;
+        self.text.reserve(cells)?;
+        self.sums.reserve(nodes, tags)?;
+        self.mem.reserve(nodes.saturating_sub(self.mem.nodes()))?;
+        self.spare_cells = cells;
+        self.spare_cuts = cuts;
+        self.spare_tags = tags;
+        Ok(())
+    }
+
+    // Marks the cells of a span.
+    fn apply(&mut self, states: &StateTable, span: Span, mark: Mark)
+        requires room { HasRoom self.old.room 0 2 (length states.now.names) }
+        requires mark { IsGiven states.now mark }
+        requires agrees { Agrees states.now self.old }
+        ensures cells { self.new.cells ≡ map (cell_in span mark) self.old.cells }
+        ensures runs { self.new.runs ≤ self.old.runs + 2 }
+        ensures room { Spends self.old.room self.new.room 0 2 }
+        ensures agrees { Agrees states.now self.new }
+        ensures own { HasOwn self.new }
+    {
+        let keep = self.spare_cells;
+        let change = mark_span(
+            &mut self.mem,
+            &mut self.sums,
+            states,
+            self.root,
+            span,
+            mark,
+            &mut self.homes,
+            keep,
+        );
+        self.root = change.root;
+        self.runs += change.more;
+        self.spare_cuts -= 2;
+    }
+
+    /// Makes the cells of a span of stamps gone, in two runs more at most. Takes no memory.
+    pub fn set_gone(&mut self, states: &StateTable, span: Span)
+        requires room { HasRoom self.old.room 0 2 (length states.now.names) }
+        requires agrees { Agrees states.now self.old }
+        ensures cells { self.new.cells ≡ map (gone_in span) self.old.cells }
+        ensures runs { self.new.runs ≤ self.old.runs + 2 }
+        ensures room { Spends self.old.room self.new.room 0 2 }
+        ensures agrees { Agrees states.now self.new }
+        ensures own { HasOwn self.new }
+    {
+        self.apply(states, span, Mark::Gone);
+    }
+
+    /// Puts the cells of a span of stamps in a state, gone ones too, in two runs more at most. Takes
+    /// no memory.
+    pub fn set_state(&mut self, states: &StateTable, span: Span, state: StateId)
+        requires room { HasRoom self.old.room 0 2 (length states.now.names) }
+        requires state { IsState states.now state }
+        requires agrees { Agrees states.now self.old }
+        ensures cells { self.new.cells ≡ map (state_in span state) self.old.cells }
+        ensures runs { self.new.runs ≤ self.old.runs + 2 }
+        ensures room { Spends self.old.room self.new.room 0 2 }
+        ensures agrees { Agrees states.now self.new }
+        ensures own { HasOwn self.new }
+    {
+        self.apply(states, span, Mark::State(state));
+    }
+
+    /// Puts new cells in before the one at a position. A run that they go on with gets longer; each
+    /// other stretch of them becomes a run, or each of its cells one, if a stamp of it is there
+    /// already. Takes no memory.
+    pub fn splice(&mut self, states: &StateTable, at: usize, cells: &[Cell<StateId>])
+        requires within { at < length self.old.cells }
+        requires room { HasRoom self.old.room (length cells.now) 1 (length states.now.names) }
+        requires states { AreStates states.now cells.now }
+        requires agrees { Agrees states.now self.old }
+        ensures cells { self.new.cells ≡ put_at at cells.now self.old.cells }
+        ensures most { self.new.runs ≤ self.old.runs + length cells.now + 1 }
+        ensures runs { AreDistinct self.new.cells → self.new.runs ≤ self.old.runs + stretches cells.now + 1 }
+        ensures room { Spends self.old.room self.new.room (length cells.now) 1 }
+        ensures agrees { Agrees states.now self.new }
+        ensures own { HasOwn self.new }
+    {
+        push_characters(&mut self.text, cells);
+        let keep = self.spare_cells - cells.len();
+        let change = put_cells(
+            &mut self.mem,
+            &mut self.sums,
+            states,
+            self.root,
+            &self.text,
+            at,
+            cells,
+            self.newest,
+            &mut self.homes,
+            keep,
+        );
+        self.newest = newest_of(self.newest, cells);
+        self.root = change.root;
+        self.runs += change.more;
+        self.spare_cells -= cells.len();
+        self.spare_cuts -= 1;
+    }
+}
