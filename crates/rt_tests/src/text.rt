@@ -10,6 +10,7 @@ use rt_stamps::limits::GREATEST_COUNT;
 use rt_stamps::{FINAL, Fault, Position, Site, Span, Stamp};
 use rt_store::ListStore;
 use rt_text::{OwnMark, View};
+use rt_views::Choice;
 use std::alloc::Global;
 use std::marker::Model;
 use std::process::Abort;
@@ -46,8 +47,8 @@ impl Page {
     // A page whose site has two other widgets.
     fn beside(alloc: Global) -> Result<Page, Fail> {
         let mut page = Page::new(alloc)?;
-        page.view.add_widget()?;
-        page.view.add_widget()?;
+        page.view.add_peer(Choice::Kept, Choice::Kept)?;
+        page.view.add_peer(Choice::Kept, Choice::Kept)?;
         Ok(page)
     }
 
