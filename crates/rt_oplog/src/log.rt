@@ -126,7 +126,8 @@ fn push_place(ops: &[Op], order: &mut Order, ends: &mut Ends, place: usize) -> R
     requires place { place < length ops.now }
     requires kept { IsKept ops.now order.old.items ends.old.ends.items }
     ensures { MatchResult result
-        (λ _. IsKept ops.now order.new.items ends.new.ends.items × (pushed (op_at ops.now place) (newest_first ops.now order.old.items) ≡ Ok (newest_first ops.now order.new.items)))
+        (λ _. IsKept ops.now order.new.items ends.new.ends.items
+            × (pushed (op_at ops.now place) (newest_first ops.now order.old.items) ≡ Ok (newest_first ops.now order.new.items)))
         (λ fault. (fault ≡ NoMemory) ⊎ (pushed (op_at ops.now place) (newest_first ops.now order.old.items) ≡ Err fault)) }
 {
     let op = &ops[place];

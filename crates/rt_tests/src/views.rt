@@ -2,11 +2,9 @@
 // tell it.
 use crate::checks::same;
 use crate::store::Text;
-use rt_marks::Gravity;
 use rt_stamps::{Fault, Stamp};
 use rt_store::TextStore;
-use rt_views::change::place_after_all;
-use rt_views::{Limits, Stretch, TextChange};
+use rt_views::{Limits, Stretch};
 use std::alloc::Global;
 use std::test::Fail;
 
@@ -74,10 +72,4 @@ fn places_that_are_seen(rt: HostRuntime) {
     same(&rt, (stretch.place(3), stretch.cursor(3)), (1, 1));
     same(&rt, (stretch.place(6), stretch.cursor(6)), (4, 3));
     same(&rt, (stretch.place(8), stretch.cursor(8)), (4, 3));
-    let changes = [
-        TextChange::Inserted { place: 1, count: 2 },
-        TextChange::Removed { place: 0, count: 2 },
-    ];
-    same(&rt, place_after_all(&changes, 1, Gravity::Left), 0);
-    same(&rt, place_after_all(&changes, 1, Gravity::Right), 1);
 }

@@ -110,16 +110,6 @@ impl<S: TextStore> View<S> {
         self.others.len()
     }
 
-    /// Adds a new widget behind the others, whose marks stand at the text's beginning. Want of memory, and
-    /// then nothing changes.
-    pub fn add_widget(&mut self) -> Result<(), Fault>
-        ensures ok { OnOk result (self.new ≡ record self.old { others = self.old.others ++ new_own ∷ [] }) }
-        ensures err { IfErr result (λ fault. fault ≡ Fault.NoMemory) }
-        ensures unchanged { OnErr result (self.new ≡ self.old) }
-    {
-        Ok(self.others.push(Parts::new(self.alloc))?)
-    }
-
     /// Lets one of the other widgets command: the one that commanded takes its place among the others. It
     /// takes no memory.
     pub fn exchange(&mut self, other: usize)

@@ -1,8 +1,6 @@
 pub mod Choices
-pub mod Following
 pub mod Limits
 pub mod Ordered
 pub mod Stretches
-pub use Rattle.rt_marks.specs.Marks
 pub use Rattle.rt_stamps.specs.Places
 pub use Rattle.rt_store.specs.Cells

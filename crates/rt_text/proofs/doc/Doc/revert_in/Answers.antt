@@ -38,24 +38,16 @@ which (inr p) s = inl p.0
 pub planned_reversion_in-requires-clause-older : goal.planned_reversion_in-requires-clause-older
 planned_reversion_in-requires-clause-older g c =
     let flat = c.args.self.now in
-    let group = named_group c.args.kept.now (group_of c.args.group.now) in
     let states = c.kept.result.1.now in
     let store = g.S.TextStore.list c.kept.result.0.now in
-    let number = c.site-site.result.number in
     let many = c.seen-count.result in
-    let site : number ≡ flat.site = c.site-site.ensures ∙ ap (λ (f : Flat). f.site) c.self.view_is in
     let count : many ≡ flat.count = c.seen-count.ensures.value ∙ c.clock.ensures ∙ ap (λ (f : Flat). f.count) c.self.view_is in
     store_older states store flat many c.kept.ensures.cells c.kept.ensures.history c.kept.ensures.document count
 
 pub planned_reversion_in-requires-clause-count : goal.planned_reversion_in-requires-clause-count
 planned_reversion_in-requires-clause-count g c =
     let flat = c.args.self.now in
-    let group = named_group c.args.kept.now (group_of c.args.group.now) in
-    let states = c.kept.result.1.now in
-    let store = g.S.TextStore.list c.kept.result.0.now in
-    let number = c.site-site.result.number in
     let many = c.seen-count.result in
-    let site : number ≡ flat.site = c.site-site.ensures ∙ ap (λ (f : Flat). f.site) c.self.view_is in
     let count : many ≡ flat.count = c.seen-count.ensures.value ∙ c.clock.ensures ∙ ap (λ (f : Flat). f.count) c.self.view_is in
     let most = greatest_bound flat.log c.kept.ensures.history in
     omega (arith, count, c.kept.ensures.document.count, most)
@@ -140,13 +132,8 @@ move_for_all-requires-clause-changes g c =
 pub move_for_all-requires-clause-fits : goal.move_for_all-requires-clause-fits
 move_for_all-requires-clause-fits g c =
     let flat = c.args.self.now in
-    let group = named_group c.args.kept.now (group_of c.args.group.now) in
     let states = c.kept.result.1.now in
     let store = g.S.TextStore.list c.kept.result.0.now in
-    let number = c.site-site.result.number in
-    let many = c.seen-count.result in
-    let site : number ≡ flat.site = c.site-site.ensures ∙ ap (λ (f : Flat). f.site) c.self.view_is in
-    let count : many ≡ flat.count = c.seen-count.ensures.value ∙ c.clock.ensures ∙ ap (λ (f : Flat). f.count) c.self.view_is in
     let plan = c.in_ok-plan.plan in
     let n = length (text_of c.self.inside.replica.cells) in
     let text : n ≡ length (text_of flat.cells) = ap (λ (f : Flat). length (text_of f.cells)) c.self.view_is in
@@ -163,13 +150,8 @@ revert-requires-clause-changes g c =
 pub revert-requires-clause-insert : goal.revert-requires-clause-insert
 revert-requires-clause-insert g c =
     let flat = c.args.self.now in
-    let group = named_group c.args.kept.now (group_of c.args.group.now) in
     let states = c.kept.result.1.now in
     let store = g.S.TextStore.list c.kept.result.0.now in
-    let number = c.site-site.result.number in
-    let many = c.seen-count.result in
-    let site : number ≡ flat.site = c.site-site.ensures ∙ ap (λ (f : Flat). f.site) c.self.view_is in
-    let count : many ≡ flat.count = c.seen-count.ensures.value ∙ c.clock.ensures ∙ ap (λ (f : Flat). f.count) c.self.view_is in
     let plan = c.in_ok-plan.plan in
     let n = length (text_of c.self.inside.replica.cells) in
     let text : n ≡ length (text_of flat.cells) = ap (λ (f : Flat). length (text_of f.cells)) c.self.view_is in
@@ -182,13 +164,8 @@ revert-requires-clause-insert g c =
 pub revert-requires-clause-current : goal.revert-requires-clause-current
 revert-requires-clause-current g c =
     let flat = c.args.self.now in
-    let group = named_group c.args.kept.now (group_of c.args.group.now) in
     let states = c.kept.result.1.now in
     let store = g.S.TextStore.list c.kept.result.0.now in
-    let number = c.site-site.result.number in
-    let many = c.seen-count.result in
-    let site : number ≡ flat.site = c.site-site.ensures ∙ ap (λ (f : Flat). f.site) c.self.view_is in
-    let count : many ≡ flat.count = c.seen-count.ensures.value ∙ c.clock.ensures ∙ ap (λ (f : Flat). f.count) c.self.view_is in
     let plan = c.in_ok-plan.plan in
     let n = length (text_of c.self.inside.replica.cells) in
     let text : n ≡ length (text_of flat.cells) = ap (λ (f : Flat). length (text_of f.cells)) c.self.view_is in
@@ -205,13 +182,8 @@ revert_each-requires-clause-changes g c =
 pub revert_each-requires-clause-fits : goal.revert_each-requires-clause-fits
 revert_each-requires-clause-fits g c =
     let flat = c.args.self.now in
-    let group = named_group c.args.kept.now (group_of c.args.group.now) in
     let states = c.kept.result.1.now in
     let store = g.S.TextStore.list c.kept.result.0.now in
-    let number = c.site-site.result.number in
-    let many = c.seen-count.result in
-    let site : number ≡ flat.site = c.site-site.ensures ∙ ap (λ (f : Flat). f.site) c.self.view_is in
-    let count : many ≡ flat.count = c.seen-count.ensures.value ∙ c.clock.ensures ∙ ap (λ (f : Flat). f.count) c.self.view_is in
     let plan = c.in_ok-plan.plan in
     let n = length (text_of c.self.inside.replica.cells) in
     let text : n ≡ length (text_of flat.cells) = ap (λ (f : Flat). length (text_of f.cells)) c.self.view_is in
@@ -314,8 +286,6 @@ returns-clause-widget g c =
       plans = c.in_ok-plan.ensures.plan;
       fits = c.in_ok-plan.ensures.fits;
     } in
-    let plans = planned states table store number many flat group plan p in
-    let i = reverts states table store number many flat group plan p in
     let own = c.args.widget.now in
     let moved : c.revert.new.self ≡ own_reverted flat group own =
     c.revert.ensures ∙ (λ k. own_renamed (c.deref-4.ensures.value k) (own_after (c.deref-3.ensures.value k) own)) ∙ own_moved states table store number many flat group plan p own in
@@ -343,8 +313,6 @@ returns-clause-peers g c =
       plans = c.in_ok-plan.ensures.plan;
       fits = c.in_ok-plan.ensures.fits;
     } in
-    let plans = planned states table store number many flat group plan p in
-    let i = reverts states table store number many flat group plan p in
     let others = map own_in c.args.others.now in
     c.revert_each.ensures ∙ (λ k. map (λ own. own_renamed (c.deref-6.ensures.value k) (own_after (c.deref-5.ensures.value k) own)) others) ∙ (λ k. map (λ own. own_moved states table store number many flat group plan p own k) others)
 
@@ -397,7 +365,6 @@ returns-clause-returns g c =
       fits = c.in_ok-plan.ensures.fits;
     } in
     let plans = planned states table store number many flat group plan p in
-    let i = reverts states table store number many flat group plan p in
     plans.returns
 
 pub returns-clause-actions : goal.returns-clause-actions
@@ -423,7 +390,6 @@ returns-clause-actions g c =
       fits = c.in_ok-plan.ensures.fits;
     } in
     let plans = planned states table store number many flat group plan p in
-    let i = reverts states table store number many flat group plan p in
     plans.actions
 
 pub returns-clause-sound : goal.returns-clause-sound
