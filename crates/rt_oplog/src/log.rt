@@ -127,7 +127,7 @@ fn push_place(ops: &[Op], order: &mut Order, ends: &mut Ends, place: usize) -> R
     requires kept { IsKept ops.now order.old.items ends.old.ends.items }
     ensures { MatchResult result
         (λ _. IsKept ops.now order.new.items ends.new.ends.items
-            × (pushed (op_at ops.now place) (newest_first ops.now order.old.items) ≡ Ok (newest_first ops.now order.new.items)))
+        × (pushed (op_at ops.now place) (newest_first ops.now order.old.items) ≡ Ok (newest_first ops.now order.new.items)))
         (λ fault. (fault ≡ NoMemory) ⊎ (pushed (op_at ops.now place) (newest_first ops.now order.old.items) ≡ Err fault)) }
 {
     let op = &ops[place];
