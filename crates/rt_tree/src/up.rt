@@ -28,7 +28,7 @@ fn first_counts<L: Looks>(looks: &mut L, node: NodeId, count: usize) -> Counts
         if index == count {
             return counts;
         }
-        counts = plus(counts, entry_counts(&looks.look(node, index)));
+        counts = plus(counts, entry_counts(&looks.look(node, index, None).entry));
     }
     counts
 }
@@ -46,7 +46,7 @@ fn counts_with_left<L: Looks>(looks: &mut L, parent: NodeId, node: NodeId, more:
 {
     let mut counts = more;
     for index in 0..looks.len(parent) {
-        let entry = looks.look(parent, index);
+        let entry = looks.look(parent, index, None).entry;
         if is_node(&entry, node) {
             return counts;
         }

@@ -55,7 +55,7 @@ fn entry_at<L: Looks>(looks: &mut L, node: NodeId, by: Measure, place: usize, ah
     let mut rest = place;
     let mut before = ahead;
     for index in 0..looks.len(node) {
-        let entry = looks.look(node, index);
+        let entry = looks.look(node, index, None).entry;
         let counts = entry_counts(&entry);
         if rest < amount(by, counts) {
             return Step {

@@ -10,7 +10,7 @@ pub plus-before-requires : goal.plus-before-requires
 plus-before-requires g c =
     let es = entries (g.L.Looks.nodes c.args.looks.now) c.args.node.index in
     let i = c.loop-index.index in
-    let e = c.look-entry.result in
+    let e = c.look-entry.result.entry in
     let here : e ≡ get_or es i e = c.look-entry.ensures.tells ∙ ap (λ m. get_or (entries m c.args.node.index) i e) c.loop-index.invariant.same in
     let few = few-more c.args.ahead es i e (omega (arith, c.len-index-end.ensures.value, c.loop-index-test.true)) here c.requires.few in
     let P : Counts → Type 0 = λ x. AreFew (plus (plus c.args.ahead (sum_of (take i es))) x) in
@@ -21,7 +21,7 @@ pub loop-index-preserved : goal.loop-index-preserved
 loop-index-preserved g c =
     let es = entries (g.L.Looks.nodes c.args.looks.now) c.args.node.index in
     let i = c.loop-index.index in
-    let e = c.look-entry.result in
+    let e = c.look-entry.result.entry in
     let old = c.loop-index.invariant in
     let front = sum_of (take i es) in
     let here : e ≡ get_or es i e = c.look-entry.ensures.tells ∙ ap (λ m. get_or (entries m c.args.node.index) i e) old.same in
