@@ -38,6 +38,7 @@ loop-index-preserved g c =
       sum = c.plus-counts.ensures ∙ ap (λ x. plus x c.entry_counts.result) old.sum ∙ ap (plus (plus c.args.more front)) c.entry_counts.ensures ∙ plus_assoc c.args.more front (entry_counts e) ∙ ap (plus c.args.more) (sym more);
       cost = omega (arith, c.look-entry.ensures.counts, old.cost);
       same = c.look-entry.ensures.same ∙ old.same;
+      kept = c.look-entry.ensures.kept ∙ old.kept;
       lent = c.look-entry.ensures.lent ∙ old.lent;
     }
 

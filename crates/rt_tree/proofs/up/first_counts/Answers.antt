@@ -32,5 +32,6 @@ loop-index-preserved g c =
       sum = c.plus-counts.ensures ∙ ap (λ x. plus x c.entry_counts.result) old.sum ∙ ap (plus (sum_of (take i es))) c.entry_counts.ensures ∙ sym more;
       cost = omega (arith, c.look.ensures.counts, old.cost);
       same = c.look.ensures.same ∙ old.same;
+      kept = c.look.ensures.kept ∙ old.kept;
       lent = c.look.ensures.lent ∙ old.lent;
     }

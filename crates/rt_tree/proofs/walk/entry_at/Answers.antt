@@ -34,5 +34,6 @@ loop-index-preserved g c =
       before = c.plus-before.ensures ∙ ap (λ y. plus y c.entry_counts-counts.result) old.before ∙ ap (plus (plus c.args.ahead front)) c.entry_counts-counts.ensures ∙ plus_assoc c.args.ahead front (entry_counts e) ∙ ap (plus c.args.ahead) (sym more);
       cost = omega (arith, c.look-entry.ensures.counts, old.cost);
       same = c.look-entry.ensures.same ∙ old.same;
+      kept = c.look-entry.ensures.kept ∙ old.kept;
       lent = c.look-entry.ensures.lent ∙ old.lent;
     }
