@@ -1,8 +1,8 @@
 -- What a search through looks finds, and what it costs.
-use Rattle.std.proofs.Common.{◌≡◌, ℕ, zero, suc, ◌+◌, ◌-◌, ◌*◌, ◌<◌, ◌≤◌, ◌==◌, ◌||◌, not, Bool, true, false, List, [], ◌∷◌, length, get_or, refl, sym, ap, subst, ◌∙◌, arith, if◌then◌else◌}
+use Rattle.std.proofs.Common.{◌≡◌, ℕ, zero, suc, ◌+◌, ◌-◌, ◌*◌, ◌<◌, ◌≤◌, ◌==◌, not, Bool, true, false, List, [], ◌∷◌, length, get_or, refl, sym, ap, subst, ◌∙◌, arith, if◌then◌else◌}
 use Rattle.std.specs.Prelude.{IfSome, nat_lt}
 use Rattle.std.specs.List.{AllByRecursion}
-use Rattle.std.proofs.lemmas.Bool.{le-ltb, lt-ltb, ltb-false, ltb-true}
+use Rattle.std.proofs.lemmas.Bool.{le-ltb, ltb-false, ltb-true}
 use Rattle.std.proofs.lemmas.Bool.Decides.{nat_tests}
 use Rattle.rt_nodes.specs.Nodes.{entries}
 use Rattle.rt_store.proofs.Distinct.{split}
@@ -85,7 +85,7 @@ module _ (test : ℕ → Bool) where
 
 -- AN ENTRY OF A NODE
 
-pub entry_is : (m : Memory) (id i : ℕ) (e : Entry) → i < length (entries m id) → e ≡ get_or (entries m id) i e → entry_at m id i ≡ e
+entry_is : (m : Memory) (id i : ℕ) (e : Entry) → i < length (entries m id) → e ≡ get_or (entries m id) i e → entry_at m id i ≡ e
 entry_is m id i e lt here = get-any (entries m id) i _ e lt ∙ sym here
 
 pub runs_are : (m : Memory) (id i : ℕ) (e : Entry) → i < length (entries m id) → e ≡ get_or (entries m id) i e → runs_at m id i ≡ below m (level_of m id) e
@@ -93,20 +93,16 @@ runs_are m id i e lt here = ap (below m (level_of m id)) (entry_is m id i e lt h
 
 -- WHAT IT COSTS
 
-pub most_start : (from level : ℕ) → from ≡ 0 → most_below from level ≡ 16 * level
+most_start : (from level : ℕ) → from ≡ 0 → most_below from level ≡ 16 * level
 most_start from level e = rw e refl
 
 later_one : (from : ℕ) → 0 < from → (from == 0) ≡ false
 later_one from l = grind (arith, nat_tests)
 
-pub most_later : (from level : ℕ) → 0 < from → most_below from level ≡ 32 * level
+most_later : (from level : ℕ) → 0 < from → most_below from level ≡ 32 * level
 most_later from level l = ap (λ b. if b then 16 * level else 32 * level) (later_one from l)
 
-pub most_least : (from level : ℕ) → 16 * level ≤ most_below from level
-most_least zero level = omega arith
-most_least (suc from) level = let h = most_later (suc from) level (omega arith) in omega (arith, h)
-
-pub most_most : (from level : ℕ) → most_below from level ≤ 32 * level
+most_most : (from level : ℕ) → most_below from level ≤ 32 * level
 most_most zero level = omega arith
 most_most (suc from) level = let h = most_later (suc from) level (omega arith) in omega (arith, h)
 

@@ -18,14 +18,14 @@ use Rattle.rt_tree.specs.declared.reach.Reach.{Reach}
 use Rattle.rt_tree.specs.declared.summary.Summary.{Summary}
 use Rattle.rt_tree.specs.Reaches.{reached}
 use Rattle.rt_tree.specs.Seeks.{IsReached, Tells, borders_in, entry_at, first_in, runs_at}
-use Rattle.rt_tree.specs.Shape.{IsTree, Memory, all_below, below, entry_counts, level_of, runs, sum_of}
+use Rattle.rt_tree.specs.Shape.{IsTree, Memory, all_below, entry_counts, level_of, runs, sum_of}
 use Rattle.rt_tree.specs.Skips.{HasCells}
 use Rattle.rt_tree.specs.Summaries.{AreSummed, IsSummary, shown_states, summary_of}
 use Rattle.rt_tree.proofs.Down.{sum-node}
 use Rattle.rt_tree.proofs.Measures.{sum-more}
 use Rattle.rt_tree.proofs.Nearing.{counted, fits-entry, goes_further, near, stops_here, visible-entry, visible-front}
 use Rattle.rt_tree.proofs.Passes.{get-any, some-entry}
-use Rattle.rt_tree.proofs.Reaching.{reached-le, visible}
+use Rattle.rt_tree.proofs.Reaching.{visible}
 use Rattle.rt_tree.proofs.Seeking.{reaches_none, runs_are}
 
 pub zero_is : (n : ℕ) → (n == 0) ≡ true → n ≡ 0

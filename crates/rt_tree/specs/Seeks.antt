@@ -1,5 +1,5 @@
 -- What a look tells of a tag, and what a search for a tag costs.
-use Rattle.std.specs.Prelude.{◌≡◌, ℕ, ◌+◌, ◌*◌, ◌==◌, nat_lt, Bool, if◌then◌else◌, List, [], Option, Some, None, slice_index_or}
+use Rattle.std.specs.Prelude.{◌≡◌, ℕ, ◌*◌, ◌==◌, nat_lt, Bool, if◌then◌else◌, List, [], Option, Some, None, slice_index_or}
 use Rattle.rt_nodes.specs.Nodes.{entries}
 use Rattle.rt_tags.specs.Toggles.{count_of}
 use Rattle.rt_tree.specs.declared.node.Entry.{Entry}

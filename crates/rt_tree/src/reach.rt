@@ -140,6 +140,7 @@ fn entry_reached<L: Looks>(
                     found: false,
                 };
             }
+            // From its first character on, the look told that there is one.
             let below = reached(looks, states, wanted, root, child, from);
             Reach {
                 place: below.place,

@@ -1,4 +1,4 @@
-use Rattle.std.proofs.Common.{◌≡◌, ◌+◌, ◌<◌, ◌∙◌, arith, false, length, refl, suc, sym, ap, subst}
+use Rattle.std.proofs.Common.{◌≡◌, ◌+◌, ◌-◌, ◌<◌, ◌∙◌, arith, false, length, refl, suc, sym, ap, subst}
 use Rattle.std.proofs.lemmas.Bool.{true≢false}
 use Rattle.std.specs.List.{AllByRecursion}
 use Rattle.rt_nodes.specs.Nodes.{entries}
@@ -11,7 +11,7 @@ use Rattle.rt_tree.specs.Skips.{HasCells}
 use Rattle.rt_tree.specs.Summaries.{AreSummed, shown_states, summary_of, tagged_as}
 use Rattle.rt_tree.proofs.Nearing.{given-run}
 use Rattle.rt_tree.proofs.Reaching.{visible}
-use Rattle.rt_tree.proofs.Seeking.{most_down, reaches_none, spends}
+use Rattle.rt_tree.proofs.Seeking.{enough, most_down, reaches_none, spends}
 use Rattle.rt_tree.proofs.Sighting.{all-at, fits-at, found-at, further-at, more-at, not_at_start, nowhere-at, sees, some-at}
 use Rattle.rt_tree.proofs.reach.+reached.Goals as goal
 
@@ -188,6 +188,41 @@ entry_reached-returns-else-below-clause-far g t c le =
     absurd (true≢false (sym (c.is_past.ensures.far (omega (arith, d.counted, le))) ∙ c.if-is_past.false))
 
 -- A NODE
+
+pub reached-entry_reached-here-requires : goal.reached-entry_reached-here-requires
+reached-entry_reached-here-requires g t c κs within =
+    let a = c.args in
+    let m = g.L.Looks.nodes a.looks.now in
+    let sums = g.L.Looks.summaries a.looks.now in
+    let id = a.node.index in
+    let l = c.loop-i in
+    let n = g.L.Looks.nodes l.looks in
+    let back = sym l.invariant.same in
+    let lvl : level_of n id ≡ level_of m id = ap (λ x. level_of x id) l.invariant.same in
+    let lt : l.i < length (entries m id) = omega (arith, c.len-i-end.ensures.value, c.loop-i-test.true) in
+    let share = enough (level_of m id) a.from l.done (g.L.Looks.looked a.looks.now) l.i (g.L.Looks.looked l.looks) l.invariant.spent (omega (arith, c.len-i-end.ensures.fits, c.loop-i-test.true)) in
+    let from_is = ap (λ x. most_below x (level_of n id)) c.saturating_sub.ensures in
+    let level_is = ap (most_below (a.from - l.done)) lvl in
+    let IsThere : Memory → Type 0 = λ x. (id < length x.heads) × (id < length x.rows) in
+    (omega (arith, lvl, c.decreases), (within, (subst (λ x. IsTree x a.root.index) back c.requires.tree,
+    (subst (AreSummed a.states.now n) (sym l.invariant.kept) (subst (λ x. AreSummed a.states.now x sums) back c.requires.sums), (c.requires.tag,
+    (subst IsThere back c.requires.node, (subst (λ x. l.i < length (entries x id)) back lt,
+    (subst (λ x. AllByRecursion (IsState a.states.now) (shown_states (runs x (level_of x id) id))) back c.requires.given,
+    (subst (λ x. visible (runs x (level_of x id) id) < 4294967296) back c.requires.few,
+    omega (arith, share, from_is, level_is, c.requires.room))))))))))
+
+pub reached-returns-then-here-clause-cost : goal.reached-returns-then-here-clause-cost
+reached-returns-then-here-clause-cost g t c =
+    let a = c.args in
+    let m = g.L.Looks.nodes a.looks.now in
+    let id = a.node.index in
+    let l = c.loop-i in
+    let n = g.L.Looks.nodes l.looks in
+    let r = c.entry_reached-here in
+    let share = enough (level_of m id) a.from l.done (g.L.Looks.looked a.looks.now) l.i (g.L.Looks.looked l.looks) l.invariant.spent (omega (arith, c.len-i-end.ensures.fits, c.loop-i-test.true)) in
+    let from_is = ap (λ x. most_below x (level_of n id)) c.saturating_sub.ensures in
+    let level_is = ap (λ x. most_below (a.from - l.done) (level_of x id)) l.invariant.same in
+    omega (arith, share, from_is, level_is, r.ensures.cost)
 
 pub reached-overflow_add-done : goal.reached-overflow_add-done
 reached-overflow_add-done g t c =
