@@ -5,7 +5,6 @@ ghost use Rattle.rt_nodes.specs.Nodes.{IsNode, entries};
 ghost use Rattle.rt_store.specs.Cells.{visible_of};
 ghost use Rattle.rt_store.specs.Tagged.{next_place, tag_is};
 ghost use Rattle.rt_tags.specs.States.{IsState, IsTag};
-ghost use Rattle.rt_tags.specs.Toggles.{count_of};
 ghost use Rattle.rt_tree.specs.declared.node.Run.{Run};
 ghost use Rattle.rt_tree.specs.declared.summary.Summary.{Summary};
 ghost use Rattle.rt_tree.specs.Reaches.{reached};
@@ -78,13 +77,7 @@ fn has_none(states: &StateTable, wanted: &Wanted, seen: &Sight) -> bool
 
 // Whether none of a node's characters from so many on is looked for, as their number and a look at its entry told. From the first
 // one on, there is one if this doesn't say so.
-fn is_past(
-    states: &StateTable,
-    wanted: &Wanted,
-    visible: usize,
-    seen: &Sight,
-    from: usize,
-) -> bool
+fn is_past(states: &StateTable, wanted: &Wanted, visible: usize, seen: &Sight, from: usize) -> bool
     requires tag { IsTag states.now wanted.now.tag }
     requires state { IfSome seen.now.first (IsState states.now) }
     ensures past { (rs : List Run) (s : Summary) → IsSummary states.now (shown_states rs) s → Tells wanted.now.tag seen.now.borders seen.now.first s
@@ -170,7 +163,7 @@ pub(crate) fn reached<L: Looks>(
     requires room { L.looked looks.old + (16 + most_below from (level_of (L.nodes looks.old) node.index)) < 2 ^ 64 }
     ensures place { AllByRecursion HasCells (runs (L.nodes looks.old) (level_of (L.nodes looks.old) node.index) node.index)
         → IsReached (tagged_as states.now wanted.now.tag wanted.now.on) from
-            (runs (L.nodes looks.old) (level_of (L.nodes looks.old) node.index) node.index) result }
+        (runs (L.nodes looks.old) (level_of (L.nodes looks.old) node.index) node.index) result }
     ensures whole { result.found ≡ false
         → result.place ≡ (counts_of (runs (L.nodes looks.old) (level_of (L.nodes looks.old) node.index) node.index)).visible }
     ensures inside { result.place ≤ (counts_of (runs (L.nodes looks.old) (level_of (L.nodes looks.old) node.index) node.index)).visible }
@@ -182,7 +175,15 @@ pub(crate) fn reached<L: Looks>(
 {
     let mut done = 0;
     for i in 0..looks.len(node) {
-        let here = entry_reached(looks, states, wanted, root, node, i, from.saturating_sub(done));
+        let here = entry_reached(
+            looks,
+            states,
+            wanted,
+            root,
+            node,
+            i,
+            from.saturating_sub(done),
+        );
         done += here.place;
         if here.found {
             return Reach {

@@ -1,5 +1,5 @@
 // The next character that has a tag.
-ghost use Rattle.std.specs.Prelude.{◌≡◌, ℕ, ◌+◌, ◌*◌, ◌<◌, ◌≤◌, ◌^◌, List, length};
+ghost use Rattle.std.specs.Prelude.{◌≡◌, ℕ, ◌+◌, ◌*◌, ◌<◌, ◌≤◌, ◌^◌, List};
 ghost use Rattle.std.specs.List.{AllByRecursion};
 ghost use Rattle.rt_store.specs.Tagged.{next_tagged};
 ghost use Rattle.rt_tags.specs.States.{IsState, IsTag};

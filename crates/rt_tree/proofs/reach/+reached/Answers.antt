@@ -74,12 +74,31 @@ entry_reached-reached-below-requires g t c κs within =
     let lvl : level_of n child ≡ level_of m child = ap (λ x. level_of x child) s.ensures.same in
     let room = most_down a.from (level_of n child) (level_of m a.node.index) (d.level ∙ ap suc (sym lvl)) in
     let IsThere : Memory → Type 0 = λ x. (child < length x.heads) × (child < length x.rows) in
-    let summed = subst (λ x. AreSummed a.states.now x sums) back c.requires.sums in
-    (omega (arith, lvl, d.level, c.decreases), (within, (subst (λ x. IsTree x a.root.index) back c.requires.tree, (subst (AreSummed a.states.now n) (sym s.ensures.kept) summed, (c.requires.tag,
-    (subst IsThere back (d.is, subst (λ x. child < x) c.requires.tree.shape.same d.is),
-    (subst (λ x. AllByRecursion (IsState a.states.now) (shown_states (runs x (level_of x child) child))) back d.states,
-    (subst (λ x. visible (runs x (level_of x child) child) < 4294967296) back (omega (arith, d.few, c.requires.few)),
-    omega (arith, room, s.ensures.counts, c.requires.room)))))))))
+    let summed = subst (λ x. AreSummed a.states.now x sums) back c.requires.sums in (
+      omega (arith, lvl, d.level, c.decreases),
+      (
+        within,
+        (
+          subst (λ x. IsTree x a.root.index) back c.requires.tree,
+          (
+            subst (AreSummed a.states.now n) (sym s.ensures.kept) summed,
+            (
+              c.requires.tag,
+              (
+                subst IsThere back (d.is, subst (λ x. child < x) c.requires.tree.shape.same d.is),
+                (
+                  subst (λ x. AllByRecursion (IsState a.states.now) (shown_states (runs x (level_of x child) child))) back d.states,
+                  (
+                    subst (λ x. visible (runs x (level_of x child) child) < 4294967296) back (omega (arith, d.few, c.requires.few)),
+                    omega (arith, room, s.ensures.counts, c.requires.room),
+                  ),
+                ),
+              ),
+            ),
+          ),
+        ),
+      ),
+    )
 
 pub entry_reached-returns-then-below-clause-place :
     goal.entry_reached-returns-then-below-clause-place
@@ -203,13 +222,34 @@ reached-entry_reached-here-requires g t c κs within =
     let share = enough (level_of m id) a.from l.done (g.L.Looks.looked a.looks.now) l.i (g.L.Looks.looked l.looks) l.invariant.spent (omega (arith, c.len-i-end.ensures.fits, c.loop-i-test.true)) in
     let from_is = ap (λ x. most_below x (level_of n id)) c.saturating_sub.ensures in
     let level_is = ap (most_below (a.from - l.done)) lvl in
-    let IsThere : Memory → Type 0 = λ x. (id < length x.heads) × (id < length x.rows) in
-    (omega (arith, lvl, c.decreases), (within, (subst (λ x. IsTree x a.root.index) back c.requires.tree,
-    (subst (AreSummed a.states.now n) (sym l.invariant.kept) (subst (λ x. AreSummed a.states.now x sums) back c.requires.sums), (c.requires.tag,
-    (subst IsThere back c.requires.node, (subst (λ x. l.i < length (entries x id)) back lt,
-    (subst (λ x. AllByRecursion (IsState a.states.now) (shown_states (runs x (level_of x id) id))) back c.requires.given,
-    (subst (λ x. visible (runs x (level_of x id) id) < 4294967296) back c.requires.few,
-    omega (arith, share, from_is, level_is, c.requires.room))))))))))
+    let IsThere : Memory → Type 0 = λ x. (id < length x.heads) × (id < length x.rows) in (
+      omega (arith, lvl, c.decreases),
+      (
+        within,
+        (
+          subst (λ x. IsTree x a.root.index) back c.requires.tree,
+          (
+            subst (AreSummed a.states.now n) (sym l.invariant.kept) (subst (λ x. AreSummed a.states.now x sums) back c.requires.sums),
+            (
+              c.requires.tag,
+              (
+                subst IsThere back c.requires.node,
+                (
+                  subst (λ x. l.i < length (entries x id)) back lt,
+                  (
+                    subst (λ x. AllByRecursion (IsState a.states.now) (shown_states (runs x (level_of x id) id))) back c.requires.given,
+                    (
+                      subst (λ x. visible (runs x (level_of x id) id) < 4294967296) back c.requires.few,
+                      omega (arith, share, from_is, level_is, c.requires.room),
+                    ),
+                  ),
+                ),
+              ),
+            ),
+          ),
+        ),
+      ),
+    )
 
 pub reached-returns-then-here-clause-cost : goal.reached-returns-then-here-clause-cost
 reached-returns-then-here-clause-cost g t c =
