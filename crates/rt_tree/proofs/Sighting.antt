@@ -17,8 +17,9 @@ use Rattle.rt_tree.specs.declared.node.Totals.{Totals}
 use Rattle.rt_tree.specs.declared.reach.Reach.{Reach}
 use Rattle.rt_tree.specs.declared.summary.Summary.{Summary}
 use Rattle.rt_tree.specs.Reaches.{reached}
-use Rattle.rt_tree.specs.Seeks.{IsReached, Tells, borders_in, entry_at, first_in, runs_at}
+use Rattle.rt_tree.specs.Seeks.{IsReached, Tells, entry_at, runs_at}
 use Rattle.rt_tree.specs.Shape.{IsTree, Memory, all_below, entry_counts, level_of, runs, sum_of}
+use Rattle.rt_tree.specs.Sights.{borders_in, first_in}
 use Rattle.rt_tree.specs.Skips.{HasCells}
 use Rattle.rt_tree.specs.Summaries.{AreSummed, IsSummary, shown_states, summary_of}
 use Rattle.rt_tree.proofs.Down.{sum-node}

@@ -1,29 +1,15 @@
--- What a look tells of a tag, and what a search for a tag costs.
-use Rattle.std.specs.Prelude.{◌≡◌, ℕ, ◌*◌, ◌==◌, nat_lt, Bool, if◌then◌else◌, List, [], Option, Some, None, slice_index_or}
+-- How far a search for a tag goes, and what it costs. No public clause cites this module.
+use Rattle.std.specs.Prelude.{◌≡◌, ℕ, ◌*◌, ◌==◌, nat_lt, Bool, if◌then◌else◌, List, [], Option, slice_index_or}
 use Rattle.rt_nodes.specs.Nodes.{entries}
 use Rattle.rt_tags.specs.Toggles.{count_of}
 use Rattle.rt_tree.specs.declared.node.Entry.{Entry}
-use Rattle.rt_tree.specs.declared.node.Entry.TheVariants.{Down, Here}
+use Rattle.rt_tree.specs.declared.node.Entry.TheVariants.{Down}
 use Rattle.rt_tree.specs.declared.node.Run.{Run}
 use Rattle.rt_tree.specs.declared.reach.Reach.{Reach}
 use Rattle.rt_tree.specs.declared.summary.Summary.{Summary}
 use Rattle.rt_tree.specs.Reaches.{reached}
 use Rattle.rt_tree.specs.Shape.{Memory, below, level_of}
-use Rattle.rt_tree.specs.Summaries.{summary_of}
 use Rattle.rt_tree.specs.Sums.{counts_of, totals_of}
-
--- of an entry that is a node is told how many borders a tag has between the visible characters below, as is kept; of a run, which has
--- one state, and where no tag is asked for, there is none
-abbrev pub borders_in : List Summary → Option ℕ → Entry → ℕ
-borders_in sums None e = 0
-borders_in sums (Some tag) (Here r) = 0
-borders_in sums (Some tag) (Down c t) = count_of tag (summary_of sums c.index).counts
-
--- and the state of the first of these characters
-abbrev pub first_in : List Summary → Option ℕ → Entry → Option ℕ
-first_in sums None e = None
-first_in sums (Some tag) (Here r) = None
-first_in sums (Some tag) (Down c t) = (summary_of sums c.index).first
 
 -- a tag's number of borders and a first state are those that are kept
 pub record Tells (tag number : ℕ) (state : Option ℕ) (s : Summary) : Type 0 where

@@ -1,12 +1,13 @@
 // The sight of nodes that walks have.
-ghost use Rattle.std.specs.Prelude.{◌≡◌, ℕ, ◌+◌, ◌<◌, ◌≤◌, ◌^◌, List, [], None, length, slice_index_or};
+ghost use Rattle.std.specs.Prelude.{◌≡◌, ℕ, ◌+◌, ◌<◌, ◌≤◌, ◌^◌, List, [], None, Some, if◌then◌else◌, length, slice_index_or};
 ghost use Rattle.std.specs.Borrow.{GName};
 ghost use Rattle.rt_nodes.specs.Nodes.{IsNode, entries};
+ghost use Rattle.rt_tree.specs.declared.node.Entry.TheVariants.{Here};
 ghost use Rattle.rt_tree.specs.declared.summary.Summary.{Summary};
-ghost use Rattle.rt_tree.specs.Seeks.{borders_in, first_in};
 ghost use Rattle.rt_tree.specs.Shape.{Memory, parent_of};
+ghost use Rattle.rt_tree.specs.Sights.{borders_in, first_in};
 
-use crate::node::{Entry, Mem};
+use crate::node::{Entry, Mem, Run};
 use crate::summary::Summary;
 use rt_nodes::NodeId;
 use rt_tags::{StateId, TagId};
@@ -88,6 +89,20 @@ fn plain(entry: Entry) -> Sight
     }
 }
 
+// What is told of a run: it has one state.
+fn told_of_run(run: Run) -> Sight
+    ensures entry { result.entry ≡ Here run }
+    ensures borders { result.borders ≡ 0 }
+    ensures first { result.first ≡ (if run.gone then None else Some run.state) }
+{
+    let first = if run.gone { None } else { Some(run.state) };
+    Sight {
+        entry: Entry::Here(run),
+        borders: 0,
+        first,
+    }
+}
+
 // What is told of an entry, by what is kept for nodes of tags.
 fn told(entry: Entry, sums: &[Summary], tag: Option<TagId>) -> Sight
     ensures entry { result.entry ≡ entry }
@@ -100,7 +115,7 @@ fn told(entry: Entry, sums: &[Summary], tag: Option<TagId>) -> Sight
     };
     let child = match entry {
         Entry::Down(child, _) => child,
-        Entry::Here(_) => return plain(entry),
+        Entry::Here(run) => return told_of_run(run),
     };
     match sums.get(child.index as usize) {
         Some(sum) => Sight {
