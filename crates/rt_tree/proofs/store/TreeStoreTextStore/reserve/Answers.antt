@@ -12,8 +12,8 @@ pub invariant_of-self : goal.invariant_of-self
 invariant_of-self c =
     let old = c.args.self.now in let tree = c.reserve.new.self in let e = c.reserve.ensures in
     let same : SameTree old.tree tree = either c.reserve.result _ _ (SameTree old.tree tree) e.same e.unchanged
-        (λ s. record { cells = ap (λ (v : Shown). v.cells) s; stretches = ap (λ (v : Shown). v.stretches) s })
-        (λ s. record { cells = ap (λ (v : Shown). v.cells) s; stretches = ap (λ (v : Shown). v.stretches) s }) in
+    (λ s. record { cells = ap (λ (v : Shown). v.cells) s; stretches = ap (λ (v : Shown). v.stretches) s })
+    (λ s. record { cells = ap (λ (v : Shown). v.cells) s; stretches = ap (λ (v : Shown). v.stretches) s }) in
     record {
       ends = subst EndsFinal (sym same.cells) old.ends;
       later = λ a b keeps agrees. same_tree b old.tree tree same (old.later a b keeps (same_back a old.tree tree same agrees));
