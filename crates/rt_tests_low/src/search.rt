@@ -40,7 +40,7 @@ impl Page {
         if self.store.cells() > 1000 {
             return Err(Fault::NoMemory);
         }
-        self.store.reserve(1, 1)?;
+        self.store.reserve(1, 1, self.states.tags())?;
         let cell = Cell {
             stamp: FINAL,
             ch,

@@ -27,7 +27,7 @@ fn put<S: TextStore>(
     if all == 0 || all > 2000 || cells.len() > 9 {
         return Err(Fault::NoMemory);
     }
-    store.reserve(cells.len(), 1)?;
+    store.reserve(cells.len(), 1, states.tags())?;
     store.splice(states, random % all, cells);
     Ok(())
 }
@@ -40,7 +40,7 @@ fn remove<S: TextStore>(store: &mut S, states: &StateTable, span: Span) -> Resul
     if store.cells() > 2000 || span.site == 0 {
         return Err(Fault::NoMemory);
     }
-    store.reserve(0, 2)?;
+    store.reserve(0, 2, states.tags())?;
     store.set_gone(states, span);
     Ok(())
 }
@@ -59,7 +59,7 @@ fn mark<S: TextStore>(
     if store.cells() > 2000 {
         return Err(Fault::NoMemory);
     }
-    store.reserve(0, 2)?;
+    store.reserve(0, 2, states.tags())?;
     store.set_state(states, span, state);
     Ok(())
 }

@@ -99,7 +99,7 @@ impl Both {
         if self.list.cells() > 1000 || at >= self.list.cells() {
             return Err(Fault::NoMemory);
         }
-        self.list.reserve(1, 1)?;
+        self.list.reserve(1, 1, self.states.tags())?;
         self.list
             .splice(&self.states, at, &[plain(count, site, ch)]);
         Ok(())
@@ -142,7 +142,7 @@ impl Both {
         if self.list.cells() > 1000 || span.site == 0 {
             return Err(Fault::NoMemory);
         }
-        self.list.reserve(0, 2)?;
+        self.list.reserve(0, 2, self.states.tags())?;
         self.list.set_gone(&self.states, span);
         self.tree.reserve(0, 2)?;
         self.tree.set_gone(span);
@@ -155,7 +155,7 @@ impl Both {
         if self.list.cells() > 1000 {
             return Err(Fault::NoMemory);
         }
-        self.list.reserve(0, 2)?;
+        self.list.reserve(0, 2, self.states.tags())?;
         self.list.set_state(&self.states, span, self.tagged);
         self.tree.reserve(0, 2)?;
         self.tree.set_state(span, self.tagged);
