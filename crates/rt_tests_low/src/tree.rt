@@ -3,12 +3,13 @@ ghost use Rattle.std.specs.Prelude.{◌≡◌, false};
 ghost use Rattle.rt_store.specs.ListStore.{cells_of};
 ghost use Rattle.rt_store.specs.Tagged.{AreStates};
 ghost use Rattle.rt_tags.specs.States.{IsState};
+ghost use Rattle.rt_tree.specs.Stores.{AgreesWith};
 
 use crate::checks::same;
 use rt_stamps::{Fault, ROOT, Span, Stamp};
 use rt_store::{Cell, FINAL_CELL, ListStore, TextStore};
 use rt_tags::{StateId, StateTable};
-use rt_tree::Tree;
+use rt_tree::{Tree, TreeStore};
 use std::alloc::Global;
 use std::test::Fail;
 
@@ -60,9 +61,10 @@ struct Both {
     states: StateTable,
     tagged: StateId,
     list: ListStore,
-    tree: Tree,
+    tree: TreeStore,
     ghost tagged_given: { IsState states tagged },
     ghost cells_given: { AreStates states (cells_of list) },
+    ghost tree_given: { AgreesWith states tree },
 }
 
 // Written out, so that each way out of a test lets a text go in one step of its proof.
@@ -84,7 +86,7 @@ impl Both {
         let tag = states.number("t")?;
         let tagged = states.with(StateId::EMPTY, tag, ROOT, true)?;
         let list = ListStore::new(alloc)?;
-        let tree = Tree::new(alloc)?;
+        let tree = TreeStore::new(alloc)?;
         Ok(Both {
             states,
             tagged,
@@ -106,12 +108,14 @@ impl Both {
     }
 
     // New cells, in the tree.
-    fn grow(&mut self, at: usize, cells: &[Cell<StateId>]) -> Result<(), Fault> {
-        if at >= self.tree.cells() {
+    fn grow(&mut self, at: usize, cells: &[Cell<StateId>]) -> Result<(), Fault>
+        requires { AreStates self.old.states cells.now }
+    {
+        if at >= self.tree.cells() || self.tree.cells() > 2000 || cells.len() > 9 {
             return Err(Fault::NoMemory);
         }
-        self.tree.reserve(cells.len(), 1)?;
-        self.tree.splice(at, cells);
+        self.tree.reserve(cells.len(), 1, self.states.tags())?;
+        self.tree.splice(&self.states, at, cells);
         Ok(())
     }
 
@@ -139,26 +143,26 @@ impl Both {
     // The cells of a span become gone; the final newline never does.
     #[tactic(auto, using(rt_store::proofs::GivenStates::gone_states))]
     fn remove(&mut self, span: Span) -> Result<(), Fault> {
-        if self.list.cells() > 1000 || span.site == 0 {
+        if self.list.cells() > 1000 || self.tree.cells() > 2000 || span.site == 0 {
             return Err(Fault::NoMemory);
         }
         self.list.reserve(0, 2, self.states.tags())?;
         self.list.set_gone(&self.states, span);
-        self.tree.reserve(0, 2)?;
-        self.tree.set_gone(span);
+        self.tree.reserve(0, 2, self.states.tags())?;
+        self.tree.set_gone(&self.states, span);
         Ok(())
     }
 
     // The cells of a span get the tag.
     #[tactic(auto, using(rt_store::proofs::GivenStates::put_states))]
     fn tag(&mut self, span: Span) -> Result<(), Fault> {
-        if self.list.cells() > 1000 {
+        if self.list.cells() > 1000 || self.tree.cells() > 2000 {
             return Err(Fault::NoMemory);
         }
         self.list.reserve(0, 2, self.states.tags())?;
         self.list.set_state(&self.states, span, self.tagged);
-        self.tree.reserve(0, 2)?;
-        self.tree.set_state(span, self.tagged);
+        self.tree.reserve(0, 2, self.states.tags())?;
+        self.tree.set_state(&self.states, span, self.tagged);
         Ok(())
     }
 
@@ -216,8 +220,8 @@ impl Both {
 #[test]
 fn room(rt: HostRuntime) -> Result<(), Fail> {
     let mut tree = Tree::new(rt.alloc())?;
-    tree.reserve(1000, 50)?;
-    tree.reserve(10, 60)?;
+    tree.reserve(1000, 50, 3)?;
+    tree.reserve(10, 60, 2)?;
     same(&rt, (tree.cells(), tree.runs(), tree.height()), (1, 1, 1));
     Ok(())
 }
@@ -230,11 +234,11 @@ fn typing(rt: HostRuntime) -> Result<(), Fail> {
     both.put(1, 2, 1, 'b')?;
     both.put(2, 3, 1, '\n')?;
     assert!(rt; both.same());
-    same(&rt, both.tree.runs(), 2);
+    same(&rt, both.tree.tree().runs(), 2);
     both.put(3, 4, 1, 'c')?;
     both.put(1, 5, 2, 'x')?;
     assert!(rt; both.same());
-    same(&rt, both.tree.runs(), 5);
+    same(&rt, both.tree.tree().runs(), 5);
     Ok(())
 }
 
@@ -243,12 +247,12 @@ fn typing(rt: HostRuntime) -> Result<(), Fail> {
 fn pasting(rt: HostRuntime) -> Result<(), Fail> {
     let mut both = Both::new(rt.alloc())?;
     both.paste(0, 1, 1, ['a', 'b', 'c'])?;
-    same(&rt, both.tree.runs(), 2);
+    same(&rt, both.tree.tree().runs(), 2);
     both.paste(3, 4, 1, ['\n', 'd', 'e'])?;
-    same(&rt, both.tree.runs(), 3);
+    same(&rt, both.tree.tree().runs(), 3);
     both.paste(2, 1, 2, ['\n', '\n', 'f'])?;
     assert!(rt; both.same());
-    same(&rt, both.tree.runs(), 7);
+    same(&rt, both.tree.tree().runs(), 7);
     Ok(())
 }
 
@@ -259,13 +263,13 @@ fn stamps_twice(rt: HostRuntime) -> Result<(), Fail> {
     both.paste(0, 1, 1, ['a', 'b', 'c'])?;
     both.paste(1, 2, 1, ['d', 'e', 'f'])?;
     assert!(rt; both.same());
-    same(&rt, both.tree.runs(), 6);
+    same(&rt, both.tree.tree().runs(), 6);
     both.paste(0, 7, 1, ['g', 'h', 'i'])?;
     both.put(3, 10, 1, 'j')?;
-    same(&rt, both.tree.runs(), 7);
+    same(&rt, both.tree.tree().runs(), 7);
     both.remove(span(1, 2, 2))?;
     assert!(rt; both.same());
-    same(&rt, both.tree.runs(), 8);
+    same(&rt, both.tree.tree().runs(), 8);
     both.tag(span(1, 3, 8))?;
     assert!(rt; both.same());
     assert!(rt; both.same_by_stamps());
@@ -280,9 +284,9 @@ fn marking(rt: HostRuntime) -> Result<(), Fail> {
     both.paste(3, 4, 1, ['\n', 'd', 'e'])?;
     both.remove(span(1, 2, 5))?;
     assert!(rt; both.same());
-    same(&rt, both.tree.runs(), 5);
+    same(&rt, both.tree.tree().runs(), 5);
     both.tag(span(1, 3, 6))?;
-    same(&rt, both.tree.runs(), 6);
+    same(&rt, both.tree.tree().runs(), 6);
     both.tag(span(0, 1, 1))?;
     assert!(rt; both.same());
     assert!(rt; both.same_by_stamps());
@@ -326,7 +330,7 @@ fn a_random_series(rt: HostRuntime) -> Result<(), Fail> {
         both.turn((seed / 65_536) as usize, round)?;
         assert!(rt; both.same());
     }
-    assert!(rt; both.tree.height() > 1);
+    assert!(rt; both.tree.tree().height() > 1);
     assert!(rt; both.same_by_stamps());
     Ok(())
 }
@@ -338,7 +342,7 @@ fn skipping(rt: HostRuntime) -> Result<(), Fail> {
     for round in 0..300 {
         both.put(0, 1000 - round, 1, 'a')?;
     }
-    assert!(rt; both.tree.height() > 1);
+    assert!(rt; both.tree.tree().height() > 1);
     for count in 0..30 {
         let new = Stamp {
             count: 695 + 10 * count,

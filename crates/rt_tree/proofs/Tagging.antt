@@ -1,23 +1,11 @@
 -- Characters that a test lets through, and stretches without one.
-use Rattle.std.proofs.Common.{◌≡◌, ℕ, zero, suc, ◌+◌, ◌-◌, ◌<◌, ◌≤◌, Bool, true, false, List, [], ◌∷◌, ◌++◌, length, length-append, map, take, drop, refl, sym, ap, ◌∙◌, arith, subst, Some, None}
-use Rattle.std.specs.Prelude.{min, nat_le}
-use Rattle.std.specs.List.{All, AllByRecursion}
-use Rattle.std.proofs.Math.Nat.{min-eq_left, min-eq_right}
-use Rattle.std.proofs.lemmas.Bool.Decides.{nat_tests}
-use Rattle.std.proofs.Math.Seq.{drop-append-add}
-use Rattle.std.proofs.lemmas.List.{drop-append-le, drop_all, length-drop, take-append-le, take_at, take_all}
+use Rattle.std.proofs.Common.{◌≡◌, ℕ, zero, suc, ◌+◌, ◌<◌, Bool, false, List, [], ◌∷◌, ◌++◌, length, map, take, drop, refl, ap, ◌∙◌, arith, None}
+use Rattle.std.specs.List.{AllByRecursion}
 use Rattle.rt_store.specs.declared.cell.Cell.{Cell}
-use Rattle.rt_store.specs.Cells.{cells_from, visible_of}
-use Rattle.rt_store.specs.Tagged.{AreStates, last_place, last_with, next_place, previous_place}
-use Rattle.rt_store.proofs.Nearest.{drop_more, next_here, next_none, next_on, previous_here}
-use Rattle.rt_store.proofs.Distinct.{split}
-use Rattle.rt_tags.specs.States.{IsState, TagStates}
-use Rattle.rt_tree.specs.declared.node.Counts.{Counts}
-use Rattle.rt_tree.specs.declared.node.Measure.TheVariants.{Visible}
-use Rattle.rt_tree.specs.declared.node.Run.{Run}
-use Rattle.rt_tree.specs.Runs.{IsRun, cells_of, characters, run_cells, with_gone}
-use Rattle.rt_tree.specs.Walks.{StandsAt}
-use Rattle.rt_tree.proofs.CellLaws.{cells_around, counted_left, is_run, run_length, visible_around, visible_run}
+use Rattle.rt_store.specs.Cells.{cells_from}
+use Rattle.rt_store.specs.Tagged.{last_place, next_place}
+use Rattle.rt_store.proofs.Nearest.{drop_more, next_on}
+use Rattle.rt_tree.specs.Runs.{with_gone}
 
 -- the cells of a run are in one state
 pub row_states : (gone : Bool) (count site state : ℕ) (text : List ℕ) → AllByRecursion (λ (c : Cell ℕ). c.state ≡ state) (map (with_gone gone) (cells_from count site state text))

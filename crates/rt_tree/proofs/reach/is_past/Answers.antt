@@ -2,7 +2,7 @@ use Rattle.std.proofs.Common.{◌∙◌, ◌<◌, arith, subst, sym}
 use Rattle.std.proofs.lemmas.Bool.{true≢false}
 use Rattle.rt_tree.specs.Reaches.{reached}
 use Rattle.rt_tree.specs.Summaries.{shown_states, tagged_as}
-use Rattle.rt_tree.proofs.Reaching.{reached-far, reached-none, visible}
+use Rattle.rt_tree.proofs.Reaching.{reached-far, reached-none}
 use Rattle.rt_tree.proofs.Seeking.{is_there}
 use Rattle.rt_tree.proofs.reach.is_past.Goals as goal
 

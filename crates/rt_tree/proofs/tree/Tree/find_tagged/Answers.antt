@@ -1,4 +1,4 @@
-use Rattle.std.proofs.Common.{arith, length, ap, subst, sym, ◌∙◌}
+use Rattle.std.proofs.Common.{arith, ap, subst, sym, ◌∙◌}
 use Rattle.rt_store.specs.Tagged.{next_tagged}
 use Rattle.rt_tree.specs.Shape.{tree_runs}
 use Rattle.rt_tree.specs.Summaries.{AreSummed}
