@@ -65,7 +65,7 @@ impl Text {
         if self.store.cells() > 100 {
             return Err(Fault::NoMemory);
         }
-        self.store.reserve(1, 1)?;
+        self.store.reserve(1, 1, self.states.tags())?;
         let cell = Cell {
             stamp: Stamp { count, site: 1 },
             ch,
@@ -86,7 +86,7 @@ impl Text {
         if self.store.cells() > 100 {
             return Err(Fault::NoMemory);
         }
-        self.store.reserve(0, 2)?;
+        self.store.reserve(0, 2, self.states.tags())?;
         self.store.set_state(&self.states, span, self.tagged);
         Ok(())
     }
@@ -97,7 +97,7 @@ impl Text {
         if self.store.cells() > 100 {
             return Err(Fault::NoMemory);
         }
-        self.store.reserve(0, 2)?;
+        self.store.reserve(0, 2, self.states.tags())?;
         let span = Span {
             site: 1,
             first: count,
@@ -189,7 +189,7 @@ fn past_greater_stamps(rt: HostRuntime) -> Result<(), Fail> {
     let states = StateTable::new(rt.alloc())?;
     states.order();
     let mut store = ListStore::new(rt.alloc())?;
-    store.reserve(3, 3)?;
+    store.reserve(3, 3, states.tags())?;
     store.splice(&states, 0, &[cell(2, 1, 'b')]);
     store.splice(&states, 0, &[cell(1, 1, 'a')]);
     let a = Stamp { count: 1, site: 1 };

@@ -39,7 +39,7 @@ fn text(alloc: Global, states: &StateTable, gone: bool) -> Result<ListStore, Fau
         ∷ record { stamp = record { count = 2; site = 1 }; ch = 98; gone = gone; state = 0 } ∷ final_cell ∷ []) }
 {
     let mut store = ListStore::new(alloc)?;
-    store.reserve(2, 2)?;
+    store.reserve(2, 2, states.tags())?;
     store.splice(states, 0, &[cell(2, 'b', gone)]);
     store.splice(states, 0, &[cell(1, 'a', false)]);
     Ok(store)

@@ -3,7 +3,7 @@ ghost use Rattle.std.specs.Prelude.{◌≡◌, false};
 ghost use Rattle.rt_store.specs.ListStore.{cells_of};
 ghost use Rattle.rt_store.specs.Tagged.{AreStates};
 ghost use Rattle.rt_tags.specs.States.{IsState, IsTag};
-ghost use Rattle.rt_tree.specs.Stores.{cells_of as tree_cells};
+ghost use Rattle.rt_tree.specs.Stores.{AgreesWith};
 
 use rt_stamps::{Fault, ROOT, Span, Stamp};
 use rt_store::{Cell, ListStore, TextStore};
@@ -27,7 +27,7 @@ fn put<S: TextStore>(
     if all == 0 || all > 2000 || cells.len() > 9 {
         return Err(Fault::NoMemory);
     }
-    store.reserve(cells.len(), 1)?;
+    store.reserve(cells.len(), 1, states.tags())?;
     store.splice(states, random % all, cells);
     Ok(())
 }
@@ -40,7 +40,7 @@ fn remove<S: TextStore>(store: &mut S, states: &StateTable, span: Span) -> Resul
     if store.cells() > 2000 || span.site == 0 {
         return Err(Fault::NoMemory);
     }
-    store.reserve(0, 2)?;
+    store.reserve(0, 2, states.tags())?;
     store.set_gone(states, span);
     Ok(())
 }
@@ -59,7 +59,7 @@ fn mark<S: TextStore>(
     if store.cells() > 2000 {
         return Err(Fault::NoMemory);
     }
-    store.reserve(0, 2)?;
+    store.reserve(0, 2, states.tags())?;
     store.set_state(states, span, state);
     Ok(())
 }
@@ -121,7 +121,7 @@ struct Pair {
     ghost tag_given: { IsTag states tag },
     ghost tagged_given: { IsState states tagged },
     ghost list_given: { AreStates states (cells_of list) },
-    ghost tree_given: { AreStates states (tree_cells tree) },
+    ghost tree_given: { AgreesWith states tree },
 }
 
 // Written out, so that each way out of a test lets the stores go in one step of its proof.
@@ -212,6 +212,15 @@ impl Pair {
             && same_tags(&self.list, &self.tree, &self.states, self.tag)
     }
 
+    // Whether a search by looks finds the same tagged place as the list.
+    fn is_found(&self, place: usize) -> bool {
+        let tree = self.tree.tree();
+        tree.height();
+        let mut looks = 0;
+        tree.find_tagged(&self.states, self.tag, place, &mut looks)
+            == self.list.next_tagged(&self.states, self.tag, place)
+    }
+
     // One call that a number gives. Stamps are few, so that many stand twice.
     fn turn(&mut self, random: usize, more: usize) -> Result<(), Fault> {
         let site = 1 + (more % 3) as u16;
@@ -240,6 +249,9 @@ fn a_series_of_calls(rt: HostRuntime) -> Result<(), Fail> {
         seed = seed.wrapping_mul(1_664_525).wrapping_add(1_013_904_223);
         pair.turn(random, (seed / 65_536) as usize)?;
         assert!(rt; pair.is_same());
+    }
+    for place in 0..40 {
+        assert!(rt; pair.is_found(place));
     }
     Ok(())
 }

@@ -3,12 +3,13 @@ ghost use Rattle.std.specs.Prelude.{◌≡◌, false};
 ghost use Rattle.rt_store.specs.ListStore.{cells_of};
 ghost use Rattle.rt_store.specs.Tagged.{AreStates};
 ghost use Rattle.rt_tags.specs.States.{IsState};
+ghost use Rattle.rt_tree.specs.Stores.{AgreesWith};
 
 use crate::checks::same;
 use rt_stamps::{Fault, ROOT, Span, Stamp};
 use rt_store::{Cell, FINAL_CELL, ListStore, TextStore};
 use rt_tags::{StateId, StateTable};
-use rt_tree::Tree;
+use rt_tree::{Tree, TreeStore};
 use std::alloc::Global;
 use std::process::Abort;
 use std::test::Fail;
@@ -61,9 +62,10 @@ struct Both {
     states: StateTable,
     tagged: StateId,
     list: ListStore,
-    tree: Tree,
+    tree: TreeStore,
     ghost tagged_given: { IsState states tagged },
     ghost cells_given: { AreStates states (cells_of list) },
+    ghost tree_given: { AgreesWith states tree },
 }
 
 // Written out, so that each way out of a test lets a text go in one step of its proof.
@@ -85,7 +87,7 @@ impl Both {
         let tag = states.number("t")?;
         let tagged = states.with(StateId::EMPTY, tag, ROOT, true)?;
         let list = ListStore::new(alloc)?;
-        let tree = Tree::new(alloc)?;
+        let tree = TreeStore::new(alloc)?;
         Ok(Both {
             states,
             tagged,
@@ -100,19 +102,21 @@ impl Both {
         if self.list.cells() > 1000 || at >= self.list.cells() {
             return Err(Fault::NoMemory);
         }
-        self.list.reserve(1, 1)?;
+        self.list.reserve(1, 1, self.states.tags())?;
         self.list
             .splice(&self.states, at, &[plain(count, site, ch)]);
         Ok(())
     }
 
     // New cells, in the tree.
-    fn grow(&mut self, at: usize, cells: &[Cell<StateId>]) -> Result<(), Fault> {
-        if at >= self.tree.cells() {
+    fn grow(&mut self, at: usize, cells: &[Cell<StateId>]) -> Result<(), Fault>
+        requires { AreStates self.old.states cells.now }
+    {
+        if at >= self.tree.cells() || self.tree.cells() > 2000 || cells.len() > 9 {
             return Err(Fault::NoMemory);
         }
-        self.tree.reserve(cells.len(), 1)?;
-        self.tree.splice(at, cells);
+        self.tree.reserve(cells.len(), 1, self.states.tags())?;
+        self.tree.splice(&self.states, at, cells);
         Ok(())
     }
 
@@ -140,26 +144,26 @@ impl Both {
     // The cells of a span become gone; the final newline never does.
     #[tactic(auto, using(rt_store::proofs::GivenStates::gone_states))]
     fn remove(&mut self, span: Span) -> Result<(), Fault> {
-        if self.list.cells() > 1000 || span.site == 0 {
+        if self.list.cells() > 1000 || self.tree.cells() > 2000 || span.site == 0 {
             return Err(Fault::NoMemory);
         }
-        self.list.reserve(0, 2)?;
+        self.list.reserve(0, 2, self.states.tags())?;
         self.list.set_gone(&self.states, span);
-        self.tree.reserve(0, 2)?;
-        self.tree.set_gone(span);
+        self.tree.reserve(0, 2, self.states.tags())?;
+        self.tree.set_gone(&self.states, span);
         Ok(())
     }
 
     // The cells of a span get the tag.
     #[tactic(auto, using(rt_store::proofs::GivenStates::put_states))]
     fn tag(&mut self, span: Span) -> Result<(), Fault> {
-        if self.list.cells() > 1000 {
+        if self.list.cells() > 1000 || self.tree.cells() > 2000 {
             return Err(Fault::NoMemory);
         }
-        self.list.reserve(0, 2)?;
+        self.list.reserve(0, 2, self.states.tags())?;
         self.list.set_state(&self.states, span, self.tagged);
-        self.tree.reserve(0, 2)?;
-        self.tree.set_state(span, self.tagged);
+        self.tree.reserve(0, 2, self.states.tags())?;
+        self.tree.set_state(&self.states, span, self.tagged);
         Ok(())
     }
 
@@ -217,12 +221,13 @@ impl Both {
 #[test]
 fn room(rt: HostRuntime) -> Result<(), Fail> {
     let mut tree = Tree::new(rt.alloc())?;
-    tree.reserve(1000, 50)?;
-    tree.reserve(10, 60)?;
+    tree.reserve(1000, 50, 3)?;
+    tree.reserve(10, 60, 2)?;
     same(&rt, (tree.cells(), tree.runs(), tree.height()), (1, 1, 1));
     Ok(())
 }
 
+<<<<<<< HEAD
 /// What is done to both: a character at a place with its count and site, three of these, and spans (site, first and last
 /// count) that become gone or get the tag.
 #[derive(Clone, Copy)]
@@ -257,6 +262,71 @@ fn comes_out(rt: &impl Abort, alloc: Global, rows: &[Row]) -> Result<(), Fail> {
         assert!(rt; both.same());
         assert!(rt; runs.is_none() || *runs == Some(both.tree.runs()));
     }
+=======
+// What is typed on makes its run longer; cells that don't follow make another.
+#[test]
+fn typing(rt: HostRuntime) -> Result<(), Fail> {
+    let mut both = Both::new(rt.alloc())?;
+    both.put(0, 1, 1, 'a')?;
+    both.put(1, 2, 1, 'b')?;
+    both.put(2, 3, 1, '\n')?;
+    assert!(rt; both.same());
+    same(&rt, both.tree.tree().runs(), 2);
+    both.put(3, 4, 1, 'c')?;
+    both.put(1, 5, 2, 'x')?;
+    assert!(rt; both.same());
+    same(&rt, both.tree.tree().runs(), 5);
+    Ok(())
+}
+
+// A stretch that is pasted is one run, or more where a newline ends one.
+#[test]
+fn pasting(rt: HostRuntime) -> Result<(), Fail> {
+    let mut both = Both::new(rt.alloc())?;
+    both.paste(0, 1, 1, ['a', 'b', 'c'])?;
+    same(&rt, both.tree.tree().runs(), 2);
+    both.paste(3, 4, 1, ['\n', 'd', 'e'])?;
+    same(&rt, both.tree.tree().runs(), 3);
+    both.paste(2, 1, 2, ['\n', '\n', 'f'])?;
+    assert!(rt; both.same());
+    same(&rt, both.tree.tree().runs(), 7);
+    Ok(())
+}
+
+// A stamp that is there already: its cells come in as runs of one cell, and are marked with the others.
+#[test]
+fn stamps_twice(rt: HostRuntime) -> Result<(), Fail> {
+    let mut both = Both::new(rt.alloc())?;
+    both.paste(0, 1, 1, ['a', 'b', 'c'])?;
+    both.paste(1, 2, 1, ['d', 'e', 'f'])?;
+    assert!(rt; both.same());
+    same(&rt, both.tree.tree().runs(), 6);
+    both.paste(0, 7, 1, ['g', 'h', 'i'])?;
+    both.put(3, 10, 1, 'j')?;
+    same(&rt, both.tree.tree().runs(), 7);
+    both.remove(span(1, 2, 2))?;
+    assert!(rt; both.same());
+    same(&rt, both.tree.tree().runs(), 8);
+    both.tag(span(1, 3, 8))?;
+    assert!(rt; both.same());
+    assert!(rt; both.same_by_stamps());
+    Ok(())
+}
+
+// Cells that become gone, or get a tag.
+#[test]
+fn marking(rt: HostRuntime) -> Result<(), Fail> {
+    let mut both = Both::new(rt.alloc())?;
+    both.paste(0, 1, 1, ['a', 'b', 'c'])?;
+    both.paste(3, 4, 1, ['\n', 'd', 'e'])?;
+    both.remove(span(1, 2, 5))?;
+    assert!(rt; both.same());
+    same(&rt, both.tree.tree().runs(), 5);
+    both.tag(span(1, 3, 6))?;
+    same(&rt, both.tree.tree().runs(), 6);
+    both.tag(span(0, 1, 1))?;
+    assert!(rt; both.same());
+>>>>>>> a712b226ddcd2346c6edb6babaa89d3085e96b34
     assert!(rt; both.same_by_stamps());
     for place in 0..5 {
         assert!(rt; both.same_characters(place));
@@ -360,7 +430,7 @@ fn a_random_series(rt: HostRuntime) -> Result<(), Fail> {
         both.turn((seed / 65_536) as usize, round)?;
         assert!(rt; both.same());
     }
-    assert!(rt; both.tree.height() > 1);
+    assert!(rt; both.tree.tree().height() > 1);
     assert!(rt; both.same_by_stamps());
     Ok(())
 }
@@ -372,7 +442,7 @@ fn skipping(rt: HostRuntime) -> Result<(), Fail> {
     for round in 0..300 {
         both.put(0, 1000 - round, 1, 'a')?;
     }
-    assert!(rt; both.tree.height() > 1);
+    assert!(rt; both.tree.tree().height() > 1);
     for count in 0..30 {
         let new = Stamp {
             count: 695 + 10 * count,

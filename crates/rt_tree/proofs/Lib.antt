@@ -51,6 +51,8 @@ mod Housing
 mod Meeting
 mod Reaching
 mod Nearing
+mod Seeking
+mod Sighting
 mod Summing
 mod Paths
 mod Ending

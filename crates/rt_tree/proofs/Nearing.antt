@@ -44,7 +44,7 @@ module _ (m : Memory) (root : ℕ) (t : IsTree m root) (id : ℕ) (known : id < 
   pub visible-front : (sum_of (take i es)).visible ≡ visible front
   visible-front = ap (λ (c : Counts). c.visible) (sum-front m root t id i known)
 
-  fits-entry : visible front + (visible (below m k e) + visible back) ≡ visible (runs m k id)
+  pub fits-entry : visible front + (visible (below m k e) + visible back) ≡ visible (runs m k id)
   fits-entry = ap (λ (c : Counts). c.visible) (sym (ap counts_of cut ∙ counts-append front (below m k e ++ back) ∙ ap (plus (counts_of front)) (counts-append (below m k e) back)))
 
   -- its runs count no more than all of the node's

@@ -1,6 +1,6 @@
 -- What is shown of nodes' summaries.
 use Rattle.std.proofs.Common.{◌≡◌, Bool, true, false, true≢false, if◌then◌else◌, nat_lt, ℕ, zero, suc, ◌+◌, ◌<◌, ◌≤◌, List, [], ◌∷◌, ◌++◌, length, map, refl, sym, ap, ◌∙◌, arith, subst, inl, inr}
-use Rattle.std.specs.List.{All, AllByRecursion, Contains}
+use Rattle.std.specs.List.{AllByRecursion, Contains}
 use Rattle.std.proofs.lemmas.Bool.{cases_eq, ltb-false, ltb-true}
 use Rattle.std.proofs.lemmas.List.Elements.{All-contains, All-contains_itself, All-from_recursion, All-map, recursion_from_All}
 use Rattle.rt_store.specs.declared.cell.Cell.{Cell}
@@ -8,7 +8,7 @@ use Rattle.rt_store.specs.Cells.{Room, cells_from, final_cell}
 use Rattle.rt_store.specs.Tagged.{AreStates}
 use Rattle.rt_store.proofs.GivenStates.{kept_states}
 use Rattle.rt_tags.specs.Borders.{borders, is_tagged}
-use Rattle.rt_tags.specs.States.{IsState, IsTag, KeepsIds, TagStates}
+use Rattle.rt_tags.specs.States.{IsState, KeepsIds, TagStates}
 use Rattle.rt_tags.specs.Toggles.{count_of}
 use Rattle.rt_tags.proofs.Places.{split}
 use Rattle.rt_tags.proofs.Retelling.{retold}
@@ -18,15 +18,15 @@ use Rattle.rt_tree.specs.declared.node.Run.{Run}
 use Rattle.rt_tree.specs.declared.summary.Summary.{Summary}
 use Rattle.rt_tree.specs.declared.summed.Summaries.{Summaries}
 use Rattle.rt_tree.specs.Runs.{IsRun, cells_of, characters, run_cells, with_gone}
-use Rattle.rt_tree.specs.Shape.{IsShape, IsTree, Memory, level_of, runs, tree_runs}
+use Rattle.rt_tree.specs.Shape.{IsTree, Memory, level_of, runs, tree_runs}
 use Rattle.rt_tree.specs.Summaries.{AreSummed, AreTold, IsSummary, TellsAs, shown_states, summary_of, without_room}
-use Rattle.rt_tree.specs.Trees.{Agrees, AreRight, HasOwn, HaveSummaries, IsKept, Shown, Stretch, final_run, shown, stretch_of, stretches_of}
+use Rattle.rt_tree.specs.Trees.{Agrees, AreRight, HasOwn, HaveSummaries, IsKept, Shown, Stretch, final_run, shown, stretches_of}
 use Rattle.rt_tree.proofs.CellLaws.{characters_length}
 use Rattle.rt_tree.proofs.Exact.{each-all}
 use Rattle.rt_tree.proofs.Parting.{node_all}
 use Rattle.rt_tree.proofs.Passes.{each-append}
 use Rattle.rt_tree.proofs.Told.{some_shown}
-use Rattle.rt_tree.proofs.Telling.{still_summary, tells_same}
+use Rattle.rt_tree.proofs.Telling.{still_summary}
 
 -- STATES OF CELLS AND OF RUNS
 

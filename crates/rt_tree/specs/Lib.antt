@@ -12,6 +12,8 @@ pub mod Skips
 pub mod Homes
 pub mod Summaries
 pub mod Reaches
+pub mod Sights
+pub mod Seeks
 pub use Rattle.rt_nodes.specs.Nodes
 pub use Rattle.rt_stamps.specs.Places
 pub use Rattle.rt_stamps.specs.Stamps

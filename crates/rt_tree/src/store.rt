@@ -28,15 +28,23 @@ impl Drop for TreeStore {
 }
 
 impl TreeStore {
-    ghost use Rattle.rt_tree.specs.Stores.{cells_of};
+    ghost use Rattle.rt_tree.specs.Stores.{AgreesWith, cells_of};
 
     /// A store of the final newline alone.
     pub fn new(alloc: Global) -> Result<TreeStore, Fault>
         ensures ok { IfOk result (λ store. cells_of store ≡ final_cell ∷ []) }
+        ensures agrees { IfOk result (λ store. (table : TagStates) → AreStates table (final_cell ∷ []) → AgreesWith table store) }
         ensures err { IfErr result (λ fault. fault ≡ Fault.NoMemory) }
     {
         let tree = Tree::new(alloc)?;
         Ok(TreeStore { tree })
+    }
+
+    /// The tree, with its height, its runs, and searches by looks.
+    pub fn tree(&self) -> &Tree
+        ensures { result.now ≡ self.now.tree }
+    {
+        &self.tree
     }
 }
 

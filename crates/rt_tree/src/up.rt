@@ -21,6 +21,7 @@ fn first_counts<L: Looks>(looks: &mut L, node: NodeId, count: usize) -> Counts
     ensures value { result ≡ sum_of (take count (entries (L.nodes looks.old) node.index)) }
     ensures cost { L.looked looks.new ≤ L.looked looks.old + 16 }
     ensures same { L.nodes looks.new ≡ L.nodes looks.old }
+    ensures kept { L.summaries looks.new ≡ L.summaries looks.old }
     ensures lent { L.counter looks.new ≡ L.counter looks.old }
 {
     let mut counts = no_counts();
@@ -28,7 +29,7 @@ fn first_counts<L: Looks>(looks: &mut L, node: NodeId, count: usize) -> Counts
         if index == count {
             return counts;
         }
-        counts = plus(counts, entry_counts(&looks.look(node, index)));
+        counts = plus(counts, entry_counts(&looks.look(node, index, None).entry));
     }
     counts
 }
@@ -42,11 +43,12 @@ fn counts_with_left<L: Looks>(looks: &mut L, parent: NodeId, node: NodeId, more:
     ensures value { result ≡ plus more (sum_of (left_of node.index (entries (L.nodes looks.old) parent.index))) }
     ensures cost { L.looked looks.new ≤ L.looked looks.old + 16 }
     ensures same { L.nodes looks.new ≡ L.nodes looks.old }
+    ensures kept { L.summaries looks.new ≡ L.summaries looks.old }
     ensures lent { L.counter looks.new ≡ L.counter looks.old }
 {
     let mut counts = more;
     for index in 0..looks.len(parent) {
-        let entry = looks.look(parent, index);
+        let entry = looks.look(parent, index, None).entry;
         if is_node(&entry, node) {
             return counts;
         }
@@ -68,6 +70,7 @@ pub fn ascend<L: Looks>(looks: &mut L, root: NodeId, leaf: NodeId, entry: usize)
         → IsBehind (tree_runs (L.nodes looks.old) root.index) run result }
     ensures cost { L.looked looks.new ≤ L.looked looks.old + 16 * (level_of (L.nodes looks.old) root.index + 1) }
     ensures same { L.nodes looks.new ≡ L.nodes looks.old }
+    ensures kept { L.summaries looks.new ≡ L.summaries looks.old }
     ensures lent { L.counter looks.new ≡ L.counter looks.old }
 {
     let mut node = leaf;

@@ -50,12 +50,13 @@ fn entry_at<L: Looks>(looks: &mut L, node: NodeId, by: Measure, place: usize, ah
     ensures inside { result.rest < amount by (entry_counts result.entry) }
     ensures cost { L.looked looks.new ≤ L.looked looks.old + 16 }
     ensures same { L.nodes looks.new ≡ L.nodes looks.old }
+    ensures kept { L.summaries looks.new ≡ L.summaries looks.old }
     ensures lent { L.counter looks.new ≡ L.counter looks.old }
 {
     let mut rest = place;
     let mut before = ahead;
     for index in 0..looks.len(node) {
-        let entry = looks.look(node, index);
+        let entry = looks.look(node, index, None).entry;
         let counts = entry_counts(&entry);
         if rest < amount(by, counts) {
             return Step {
@@ -96,6 +97,7 @@ pub(crate) fn descend_by<L: Looks>(looks: &mut L, root: NodeId, by: Measure, pla
     ensures before { result.before ≡ counts_of (runs_before (L.nodes looks.old) root.index result.spot.leaf.index result.spot.entry) }
     ensures cost { L.looked looks.new ≤ L.looked looks.old + 16 * (level_of (L.nodes looks.old) root.index + 1) }
     ensures same { L.nodes looks.new ≡ L.nodes looks.old }
+    ensures kept { L.summaries looks.new ≡ L.summaries looks.old }
     ensures lent { L.counter looks.new ≡ L.counter looks.old }
 {
     let mut node = root;
@@ -128,6 +130,7 @@ pub fn descend<L: Looks>(looks: &mut L, root: NodeId, place: usize) -> Spot
     ensures spot { (run : Run) × IsSpot (L.nodes looks.old) root.index Visible place result.leaf.index result.entry result.offset run }
     ensures cost { L.looked looks.new ≤ L.looked looks.old + 16 * (level_of (L.nodes looks.old) root.index + 1) }
     ensures same { L.nodes looks.new ≡ L.nodes looks.old }
+    ensures kept { L.summaries looks.new ≡ L.summaries looks.old }
     ensures lent { L.counter looks.new ≡ L.counter looks.old }
 {
     descend_by(looks, root, Measure::Visible, place).spot

@@ -1,5 +1,5 @@
 // The nearest characters that have a tag, or haven't it.
-ghost use Rattle.std.specs.Prelude.{◌≡◌};
+ghost use Rattle.std.specs.Prelude.{◌≡◌, ◌+◌, ◌*◌, ◌<◌, ◌≤◌, ◌^◌};
 ghost use Rattle.rt_store.specs.Cells.{visible_of};
 ghost use Rattle.rt_store.specs.Tagged.{next_place, next_tagged, next_untagged, previous_tagged, tag_is};
 ghost use Rattle.rt_tags.specs.States.{IsTag};
@@ -8,6 +8,7 @@ ghost use Rattle.rt_tree.specs.Trees.{Agrees};
 use super::Tree;
 use crate::back::previous_place;
 use crate::reach::{Wanted, next_place};
+use crate::seeks::find_tagged;
 use rt_tags::{StateTable, TagId};
 
 impl Tree {
@@ -35,6 +36,31 @@ impl Tree {
         ensures { result ≡ next_tagged states.now tag self.now.cells place }
     {
         self.next_wanted(states, tag, true, place)
+    }
+
+    /// The same place, with at most thirty-two looks a level added to the counter.
+    pub fn find_tagged(
+        &self,
+        states: &StateTable,
+        tag: TagId,
+        place: usize,
+        looks: &mut u64,
+    ) -> Option<usize>
+        requires tag { IsTag states.now tag }
+        requires agrees { Agrees states.now self.now }
+        requires room { looks.old + 32 * self.now.height < 2 ^ 64 }
+        ensures place { result ≡ next_tagged states.now tag self.now.cells place }
+        ensures cost { looks.new ≤ looks.old + 32 * self.now.height }
+    {
+        find_tagged(
+            &self.mem,
+            &self.sums.each,
+            states,
+            self.root,
+            tag,
+            place,
+            looks,
+        )
     }
 
     /// The least place from one up whose character hasn't a tag; none if there is none. It looks into two nodes a level at most.

@@ -21,6 +21,7 @@ loop-node-init g c =
       rising = subst R (sym same) (sets_out (g.L.Looks.nodes c.args.looks.now) c.args.root.index c.requires.tree leaf c.args.entry c.requires.leaf.0.0 c.requires.leaf.1 first.result first.ensures.value);
       cost = omega arith;
       same = refl;
+      kept = refl;
       lent = refl;
     }
 
@@ -70,6 +71,7 @@ loop-node-preserved g c =
       rising = subst (λ p. Rising m root leaf c.args.entry p next.result) (sym parent) (goes_up m root tree leaf c.args.entry id c.loop-node.before next.result old.rising c.loop-node-test.true left);
       cost = omega (arith, next.ensures.cost, old.cost, up, known.up);
       same = next.ensures.same ∙ old.same;
+      kept = next.ensures.kept ∙ old.kept;
       lent = next.ensures.lent ∙ old.lent;
     }
 
@@ -144,6 +146,9 @@ returns-clause-before g c =
     let same = c.first_counts-before.ensures.same in
     let end = arrives (g.L.Looks.nodes c.first_counts-before.new.looks) root (subst (λ n. IsTree n root) (sym same) c.requires.tree) leaf c.args.entry c.loop-node.node.index c.loop-node.before c.loop-node.invariant.rising c.loop-node-test.false in
     end ∙ ap (λ n. counts_of (runs_before n root leaf c.args.entry)) same
+
+pub returns-clause-kept : goal.returns-clause-kept
+returns-clause-kept g c = c.loop-node.invariant.kept ∙ c.first_counts-before.ensures.kept
 
 pub returns-clause-lent : goal.returns-clause-lent
 returns-clause-lent g c = c.loop-node.invariant.lent ∙ c.first_counts-before.ensures.lent

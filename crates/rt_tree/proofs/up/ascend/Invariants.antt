@@ -10,6 +10,7 @@ invariant-loop-node g l =
       rising : Rising m l.root.index l.fn.leaf.index l.fn.entry l.node.index l.before;
       cost : g.L.Looks.looked l.looks ≤ g.L.Looks.looked l.initial.looks + 16 * level_of m l.node.index;
       same : g.L.Looks.nodes l.looks ≡ m;
+      kept : g.L.Looks.summaries l.looks ≡ g.L.Looks.summaries l.initial.looks;
       lent : g.L.Looks.counter l.looks ≡ g.L.Looks.counter l.initial.looks;
     }
 

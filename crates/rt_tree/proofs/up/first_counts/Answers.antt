@@ -11,7 +11,7 @@ pub plus-counts-requires : goal.plus-counts-requires
 plus-counts-requires g c =
     let es = entries (g.L.Looks.nodes c.args.looks.now) c.args.node.index in
     let i = c.loop-index.index in
-    let e = c.look.result in
+    let e = c.look.result.entry in
     let old = c.loop-index.invariant in
     let here : e ≡ get_or es i e = c.look.ensures.tells ∙ ap (λ m. get_or (entries m c.args.node.index) i e) old.same in
     let few = few-first es i c.args.count e (omega (arith, old.low, c.if-index-count.false)) (omega (arith, c.len-index-end.ensures.value, c.loop-index-test.true)) here c.requires.few in
@@ -23,7 +23,7 @@ pub loop-index-preserved : goal.loop-index-preserved
 loop-index-preserved g c =
     let es = entries (g.L.Looks.nodes c.args.looks.now) c.args.node.index in
     let i = c.loop-index.index in
-    let e = c.look.result in
+    let e = c.look.result.entry in
     let old = c.loop-index.invariant in
     let here : e ≡ get_or es i e = c.look.ensures.tells ∙ ap (λ m. get_or (entries m c.args.node.index) i e) old.same in
     let more = sum-more es i e (omega (arith, c.len-index-end.ensures.value, c.loop-index-test.true)) here in
@@ -32,5 +32,6 @@ loop-index-preserved g c =
       sum = c.plus-counts.ensures ∙ ap (λ x. plus x c.entry_counts.result) old.sum ∙ ap (plus (sum_of (take i es))) c.entry_counts.ensures ∙ sym more;
       cost = omega (arith, c.look.ensures.counts, old.cost);
       same = c.look.ensures.same ∙ old.same;
+      kept = c.look.ensures.kept ∙ old.kept;
       lent = c.look.ensures.lent ∙ old.lent;
     }

@@ -48,6 +48,7 @@ loop-child-preserved g c =
       going = goes_down m c.args.root.index c.requires.tree c.args.by c.args.place l.node.index l.rest l.before e.result.index e.result.entry e.result.rest e.result.before c.in-Down.child c.in-Down.field-1 l.invariant.going into c.in-Down.is;
       cost = omega (arith, low, l.invariant.cost, s.cost, l.invariant.going.low);
       same = s.same ∙ l.invariant.same;
+      kept = s.kept ∙ l.invariant.kept;
       lent = s.lent ∙ l.invariant.lent;
     }
 

@@ -10,6 +10,7 @@ invariant-loop-child g l =
       going : Going m l.fn.root.index l.by l.fn.place l.node.index l.rest l.before;
       cost : g.L.Looks.looked l.looks ≤ g.L.Looks.looked l.initial.looks + 16 * (level_of m l.fn.root.index - level_of m l.node.index);
       same : g.L.Looks.nodes l.looks ≡ m;
+      kept : g.L.Looks.summaries l.looks ≡ g.L.Looks.summaries l.initial.looks;
       lent : g.L.Looks.counter l.looks ≡ g.L.Looks.counter l.initial.looks;
     }
 

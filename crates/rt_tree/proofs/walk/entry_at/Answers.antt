@@ -10,7 +10,7 @@ pub plus-before-requires : goal.plus-before-requires
 plus-before-requires g c =
     let es = entries (g.L.Looks.nodes c.args.looks.now) c.args.node.index in
     let i = c.loop-index.index in
-    let e = c.look-entry.result in
+    let e = c.look-entry.result.entry in
     let here : e ≡ get_or es i e = c.look-entry.ensures.tells ∙ ap (λ m. get_or (entries m c.args.node.index) i e) c.loop-index.invariant.same in
     let few = few-more c.args.ahead es i e (omega (arith, c.len-index-end.ensures.value, c.loop-index-test.true)) here c.requires.few in
     let P : Counts → Type 0 = λ x. AreFew (plus (plus c.args.ahead (sum_of (take i es))) x) in
@@ -21,7 +21,7 @@ pub loop-index-preserved : goal.loop-index-preserved
 loop-index-preserved g c =
     let es = entries (g.L.Looks.nodes c.args.looks.now) c.args.node.index in
     let i = c.loop-index.index in
-    let e = c.look-entry.result in
+    let e = c.look-entry.result.entry in
     let old = c.loop-index.invariant in
     let front = sum_of (take i es) in
     let here : e ≡ get_or es i e = c.look-entry.ensures.tells ∙ ap (λ m. get_or (entries m c.args.node.index) i e) old.same in
@@ -34,5 +34,6 @@ loop-index-preserved g c =
       before = c.plus-before.ensures ∙ ap (λ y. plus y c.entry_counts-counts.result) old.before ∙ ap (plus (plus c.args.ahead front)) c.entry_counts-counts.ensures ∙ plus_assoc c.args.ahead front (entry_counts e) ∙ ap (plus c.args.ahead) (sym more);
       cost = omega (arith, c.look-entry.ensures.counts, old.cost);
       same = c.look-entry.ensures.same ∙ old.same;
+      kept = c.look-entry.ensures.kept ∙ old.kept;
       lent = c.look-entry.ensures.lent ∙ old.lent;
     }

@@ -13,5 +13,6 @@ invariant-loop-index g l =
       before : l.before ≡ plus l.fn.ahead front;
       cost : g.L.Looks.looked l.looks ≡ g.L.Looks.looked l.initial.looks + l.index;
       same : nodes l.looks ≡ nodes l.initial.looks;
+      kept : g.L.Looks.summaries l.looks ≡ g.L.Looks.summaries l.initial.looks;
       lent : g.L.Looks.counter l.looks ≡ g.L.Looks.counter l.initial.looks;
     }

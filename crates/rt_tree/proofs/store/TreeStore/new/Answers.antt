@@ -8,3 +8,6 @@ invariant_of-result-clause-later c old new keeps agrees = later_agrees old new c
 
 pub invariant_of-result-clause-fresh : goal.invariant_of-result-clause-fresh
 invariant_of-result-clause-fresh c table is given = record { given = subst (AreStates table) (sym is) given; right = c.in_ok-tree.ensures.right table }
+
+pub returns-clause-agrees : goal.returns-clause-agrees
+returns-clause-agrees c table given = record { given = subst (AreStates table) (sym c.in_ok-tree.ensures.cells) given; right = c.in_ok-tree.ensures.right table }

@@ -1,6 +1,6 @@
-use Rattle.std.proofs.Common.{◌≡◌, Result, Ok, Err, OnErr, OnOk, ap, subst, sym, ◌∙◌}
+use Rattle.std.proofs.Common.{Result, Ok, Err, OnErr, OnOk, ap, subst, sym, ◌∙◌}
 use Rattle.rt_store.specs.Cells.{EndsFinal}
-use Rattle.rt_tree.specs.Trees.{Agrees, Shown}
+use Rattle.rt_tree.specs.Trees.{Shown}
 use Rattle.rt_tree.proofs.Showing.{SameTree, same_back, same_tree}
 use Rattle.rt_tree.proofs.store.TreeStoreTextStore.reserve.Goals as goal
 

@@ -1,6 +1,5 @@
-use Rattle.std.proofs.Common.{◌≡◌, ℕ, [], ◌∷◌, insert, length, max, ◌-◌, ap, sym, ◌∙◌}
+use Rattle.std.proofs.Common.{◌≡◌, insert, length, max, ◌-◌, ap, ◌∙◌}
 use Rattle.rt_nodes.specs.Nodes.{entries, no_nodes, with_entries, with_node, with_room}
-use Rattle.rt_tree.specs.declared.node.Entry.{Entry}
 use Rattle.rt_tree.specs.declared.node.Entry.TheVariants.{Here}
 use Rattle.rt_tree.specs.declared.node.Head.{Head}
 use Rattle.rt_tree.specs.declared.node.Run.{Run}
