@@ -227,7 +227,6 @@ fn room(rt: HostRuntime) -> Result<(), Fail> {
     Ok(())
 }
 
-<<<<<<< HEAD
 /// What is done to both: a character at a place with its count and site, three of these, and spans (site, first and last
 /// count) that become gone or get the tag.
 #[derive(Clone, Copy)]
@@ -260,73 +259,8 @@ fn comes_out(rt: &impl Abort, alloc: Global, rows: &[Row]) -> Result<(), Fail> {
             both.take(*step)?;
         }
         assert!(rt; both.same());
-        assert!(rt; runs.is_none() || *runs == Some(both.tree.runs()));
+        assert!(rt; runs.is_none() || *runs == Some(both.tree.tree().runs()));
     }
-=======
-// What is typed on makes its run longer; cells that don't follow make another.
-#[test]
-fn typing(rt: HostRuntime) -> Result<(), Fail> {
-    let mut both = Both::new(rt.alloc())?;
-    both.put(0, 1, 1, 'a')?;
-    both.put(1, 2, 1, 'b')?;
-    both.put(2, 3, 1, '\n')?;
-    assert!(rt; both.same());
-    same(&rt, both.tree.tree().runs(), 2);
-    both.put(3, 4, 1, 'c')?;
-    both.put(1, 5, 2, 'x')?;
-    assert!(rt; both.same());
-    same(&rt, both.tree.tree().runs(), 5);
-    Ok(())
-}
-
-// A stretch that is pasted is one run, or more where a newline ends one.
-#[test]
-fn pasting(rt: HostRuntime) -> Result<(), Fail> {
-    let mut both = Both::new(rt.alloc())?;
-    both.paste(0, 1, 1, ['a', 'b', 'c'])?;
-    same(&rt, both.tree.tree().runs(), 2);
-    both.paste(3, 4, 1, ['\n', 'd', 'e'])?;
-    same(&rt, both.tree.tree().runs(), 3);
-    both.paste(2, 1, 2, ['\n', '\n', 'f'])?;
-    assert!(rt; both.same());
-    same(&rt, both.tree.tree().runs(), 7);
-    Ok(())
-}
-
-// A stamp that is there already: its cells come in as runs of one cell, and are marked with the others.
-#[test]
-fn stamps_twice(rt: HostRuntime) -> Result<(), Fail> {
-    let mut both = Both::new(rt.alloc())?;
-    both.paste(0, 1, 1, ['a', 'b', 'c'])?;
-    both.paste(1, 2, 1, ['d', 'e', 'f'])?;
-    assert!(rt; both.same());
-    same(&rt, both.tree.tree().runs(), 6);
-    both.paste(0, 7, 1, ['g', 'h', 'i'])?;
-    both.put(3, 10, 1, 'j')?;
-    same(&rt, both.tree.tree().runs(), 7);
-    both.remove(span(1, 2, 2))?;
-    assert!(rt; both.same());
-    same(&rt, both.tree.tree().runs(), 8);
-    both.tag(span(1, 3, 8))?;
-    assert!(rt; both.same());
-    assert!(rt; both.same_by_stamps());
-    Ok(())
-}
-
-// Cells that become gone, or get a tag.
-#[test]
-fn marking(rt: HostRuntime) -> Result<(), Fail> {
-    let mut both = Both::new(rt.alloc())?;
-    both.paste(0, 1, 1, ['a', 'b', 'c'])?;
-    both.paste(3, 4, 1, ['\n', 'd', 'e'])?;
-    both.remove(span(1, 2, 5))?;
-    assert!(rt; both.same());
-    same(&rt, both.tree.tree().runs(), 5);
-    both.tag(span(1, 3, 6))?;
-    same(&rt, both.tree.tree().runs(), 6);
-    both.tag(span(0, 1, 1))?;
-    assert!(rt; both.same());
->>>>>>> a712b226ddcd2346c6edb6babaa89d3085e96b34
     assert!(rt; both.same_by_stamps());
     for place in 0..5 {
         assert!(rt; both.same_characters(place));
