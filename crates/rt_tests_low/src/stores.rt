@@ -13,7 +13,7 @@ use std::alloc::Global;
 use std::test::Fail;
 
 // Puts cells in at a place that a number gives. A call that is out of bounds answers `NoMemory`.
-fn put<S: TextStore>(
+pub(crate) fn put<S: TextStore>(
     store: &mut S,
     states: &StateTable,
     random: usize,
@@ -33,7 +33,11 @@ fn put<S: TextStore>(
 }
 
 // Makes the cells of a span gone.
-fn remove<S: TextStore>(store: &mut S, states: &StateTable, span: Span) -> Result<(), Fault>
+pub(crate) fn remove<S: TextStore>(
+    store: &mut S,
+    states: &StateTable,
+    span: Span,
+) -> Result<(), Fault>
     requires given { S.agrees store.old states.now }
     ensures { S.agrees store.new states.now }
 {
@@ -46,7 +50,7 @@ fn remove<S: TextStore>(store: &mut S, states: &StateTable, span: Span) -> Resul
 }
 
 // Puts the cells of a span in a state.
-fn mark<S: TextStore>(
+pub(crate) fn mark<S: TextStore>(
     store: &mut S,
     states: &StateTable,
     span: Span,

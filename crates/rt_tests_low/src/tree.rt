@@ -6,6 +6,7 @@ ghost use Rattle.rt_tags.specs.States.{IsState};
 ghost use Rattle.rt_tree.specs.Stores.{AgreesWith};
 
 use crate::checks::same;
+use crate::stores::{mark, put, remove};
 use rt_stamps::{Fault, ROOT, Span, Stamp};
 use rt_store::{Cell, FINAL_CELL, ListStore, TextStore};
 use rt_tags::{StateId, StateTable};
@@ -97,33 +98,31 @@ impl Both {
     }
 
     // A character, in the list.
-    #[tactic(auto, using(rt_store::proofs::GivenStates::spliced_states, rt_store::proofs::GivenStates::one_state))]
+    #[tactic(auto, using(rt_store::proofs::GivenStates::one_state))]
     fn list_one(&mut self, at: usize, count: u64, site: u16, ch: char) -> Result<(), Fault> {
-        if self.list.cells() > 1000 || at >= self.list.cells() {
+        if at >= self.list.cells() {
             return Err(Fault::NoMemory);
         }
-        self.list.reserve(1, 1, self.states.tags())?;
-        self.list
-            .splice(&self.states, at, &[plain(count, site, ch)]);
-        Ok(())
+        let new = plain(count, site, ch);
+        put(&mut self.list, &self.states, at, &[new])
     }
 
     // New cells, in the tree.
     fn grow(&mut self, at: usize, cells: &[Cell<StateId>]) -> Result<(), Fault>
         requires { AreStates self.old.states cells.now }
     {
-        if at >= self.tree.cells() || self.tree.cells() > 2000 || cells.len() > 9 {
+        if at >= self.tree.cells() {
             return Err(Fault::NoMemory);
         }
-        self.tree.reserve(cells.len(), 1, self.states.tags())?;
-        self.tree.splice(&self.states, at, cells);
-        Ok(())
+        put(&mut self.tree, &self.states, at, cells)
     }
 
     // A character.
+    #[tactic(auto, using(rt_store::proofs::GivenStates::one_state))]
     fn put(&mut self, at: usize, count: u64, site: u16, ch: char) -> Result<(), Fault> {
         self.list_one(at, count, site, ch)?;
-        self.grow(at, &[plain(count, site, ch)])
+        let new = plain(count, site, ch);
+        self.grow(at, &[new])
     }
 
     // Three characters of one site, in the tree at once.
@@ -142,29 +141,15 @@ impl Both {
     }
 
     // The cells of a span become gone; the final newline never does.
-    #[tactic(auto, using(rt_store::proofs::GivenStates::gone_states))]
     fn remove(&mut self, span: Span) -> Result<(), Fault> {
-        if self.list.cells() > 1000 || self.tree.cells() > 2000 || span.site == 0 {
-            return Err(Fault::NoMemory);
-        }
-        self.list.reserve(0, 2, self.states.tags())?;
-        self.list.set_gone(&self.states, span);
-        self.tree.reserve(0, 2, self.states.tags())?;
-        self.tree.set_gone(&self.states, span);
-        Ok(())
+        remove(&mut self.list, &self.states, span)?;
+        remove(&mut self.tree, &self.states, span)
     }
 
     // The cells of a span get the tag.
-    #[tactic(auto, using(rt_store::proofs::GivenStates::put_states))]
     fn tag(&mut self, span: Span) -> Result<(), Fault> {
-        if self.list.cells() > 1000 || self.tree.cells() > 2000 {
-            return Err(Fault::NoMemory);
-        }
-        self.list.reserve(0, 2, self.states.tags())?;
-        self.list.set_state(&self.states, span, self.tagged);
-        self.tree.reserve(0, 2, self.states.tags())?;
-        self.tree.set_state(&self.states, span, self.tagged);
-        Ok(())
+        mark(&mut self.list, &self.states, span, self.tagged)?;
+        mark(&mut self.tree, &self.states, span, self.tagged)
     }
 
     // Whether both have the same cells, and as many visible ones and lines.
