@@ -9,8 +9,6 @@ mod clock;
 #[cfg(test)]
 mod command_lines;
 #[cfg(test)]
-mod looks;
-#[cfg(test)]
 mod marks;
 #[cfg(test)]
 mod nodes;
