@@ -9,6 +9,8 @@ mod clock;
 #[cfg(test)]
 mod command_lines;
 #[cfg(test)]
+mod looks;
+#[cfg(test)]
 mod marks;
 #[cfg(test)]
 mod nodes;
