@@ -117,8 +117,13 @@ impl Long {
     // Types a text so many times at the beginning.
     fn type_times(&mut self, text: &str, times: u16) -> Result<(), AllocError> {
         let line = format!(in self.alloc; ".t insert 1.0 {text}")?;
+        self.repeat(line.as_str(), times)
+    }
+
+    // The same line so many times.
+    fn repeat(&mut self, line: &str, times: u16) -> Result<(), AllocError> {
         for _ in 0..times {
-            self.add(line.as_str(), "=")?;
+            self.add(line, "=")?;
         }
         Ok(())
     }
@@ -184,5 +189,24 @@ fn a_text_of_several_windows(rt: HostRuntime) -> Result<(), Fail> {
     long.type_times("aaaaaaaaaaaaaaaaaaaaaaaaa", 24)?;
     long.add_all(WINDOWS)?;
     long.find_three_hundred()?;
+    long.runs(&rt)
+}
+
+const AROUND_MANY: Script<'static> = &[
+    (".t tag ranges t", "= 1.1000 1.1502"),
+    (".t tag nextrange t 1.1001", "="),
+    (".t tag prevrange t 1.1001", "= 1.1000 1.1502"),
+    (".t delete 1.0 1.1000", "="),
+    (".t tag ranges t", "= 1.0 1.502"),
+];
+
+// A tag on two of two thousand characters that were put in one by one, and then on 500 more that come between the two.
+#[test]
+fn a_tag_among_many_runs(rt: HostRuntime) -> Result<(), Fail> {
+    let mut long = Long::new(rt.alloc());
+    long.type_times("a", 2000)?;
+    long.add(".t tag add t 1.1000 1.1002", "=")?;
+    long.repeat(".t insert 1.1001 b", 500)?;
+    long.add_all(AROUND_MANY)?;
     long.runs(&rt)
 }
