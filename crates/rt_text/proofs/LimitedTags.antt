@@ -1,17 +1,17 @@
 -- Tags that are written on characters of what a widget shows.
-use Rattle.std.proofs.Common.{◌≡◌, ◌∙◌, ℕ, ◌-◌, ◌+◌, ◌<◌, ◌≤◌, ◌&&◌, All, Bool, true, false, cond, List, ap, arith, length, map, subst, sym}
+use Rattle.std.proofs.Common.{◌≡◌, ◌∙◌, ℕ, ◌-◌, ◌+◌, ◌<◌, ◌≤◌, ◌&&◌, All, Bool, true, false, cond, List, ap, arith, length, map, subst, sym, take}
 use Rattle.std.specs.Prelude.{nat_lt, slice_get}
 use Rattle.std.specs.Str.{bytes_eq}
 use Rattle.std.proofs.lemmas.Bool.{cond-false, cond-true}
-use Rattle.std.proofs.lemmas.List.{length-map}
+use Rattle.std.proofs.lemmas.List.{length-map, take-map}
 use Rattle.rt_stamps.specs.declared.limits.TheConstants.{MOST_SPANS}
 use Rattle.rt_stamps.specs.declared.stamp.Stamp.{Stamp}
 use Rattle.rt_stamps.specs.Words.{Word}
 use Rattle.rt_store.specs.declared.cell.Cell.{Cell}
 use Rattle.rt_store.specs.Cells.{text_of, visible_of}
 use Rattle.rt_store.specs.Shown.{TaggedCell, shown}
-use Rattle.rt_store.specs.Tagged.{next_place}
-use Rattle.rt_store.proofs.Shown.{next_map, visible_shown}
+use Rattle.rt_store.specs.Tagged.{last_place, next_place, previous_place}
+use Rattle.rt_store.proofs.Shown.{last_map, next_map, visible_shown}
 use Rattle.rt_tags.specs.States.{TagStates, state_at}
 use Rattle.rt_tags.specs.Tags.{sel}
 use Rattle.rt_edits.specs.declared.range.Range.{Range}
@@ -89,6 +89,17 @@ next_kept table kept cells limits stretch stamps own test place e s l n =
     sym (next_map (test stamps) (shown table) (part stretch (visible_of kept)) place)
     ∙ ap (λ xs. next_place (test stamps) xs place) (part_map (shown table) stretch (visible_of kept) ∙ ap (part stretch) (sym (visible_shown (state_at table) kept)))
     ∙ (λ i. next_place (test (n i)) (part (same i) (visible_of (e i))) place)
+
+-- the greatest one below a place
+pub previous_kept : (table : TagStates) (kept : List (Cell ℕ)) (cells : List TaggedCell) (limits : Limits) (stretch : Stretch) (stamps : List Stamp) (own : Own) (test : List Stamp → TaggedCell → Bool) (place : ℕ) → map (shown table) kept ≡ cells
+    → stretch ≡ stretch_of kept limits → limits ≡ own.limits → stamps ≡ own.sel
+    → previous_place (λ cell. test stamps (shown table cell)) (part stretch (visible_of kept)) place ≡ previous_place (test own.sel) (shown_part cells own.limits) place
+previous_kept table kept cells limits stretch stamps own test place e s l n =
+    let same : stretch ≡ stretch_of cells own.limits = s ∙ ap (stretch_of kept) l ∙ stretch_kept table kept cells own.limits e in
+    sym (last_map (test stamps) (shown table) (take place (part stretch (visible_of kept))))
+    ∙ ap (last_place (test stamps)) (sym (take-map (shown table) place (part stretch (visible_of kept))))
+    ∙ ap (λ xs. previous_place (test stamps) xs place) (part_map (shown table) stretch (visible_of kept) ∙ ap (part stretch) (sym (visible_shown (state_at table) kept)))
+    ∙ (λ i. previous_place (test (n i)) (part (same i) (visible_of (e i))) place)
 
 -- a place that is shown is one of the text
 pub place_kept : (table : TagStates) (kept : List (Cell ℕ)) (cells : List TaggedCell) (limits : Limits) (stretch : Stretch) (own : Own) (place : ℕ) → map (shown table) kept ≡ cells → stretch ≡ stretch_of kept limits → limits ≡ own.limits

@@ -4,7 +4,7 @@ use Rattle.std.specs.Prelude.{Option, Some, None, nat_le, nat_lt, option_map, op
 use Rattle.std.proofs.lemmas.Bool.{cases_lt, le-leb, le-ltb, lt-leb, lt-ltb}
 use Rattle.std.proofs.lemmas.Bool.Decides.{nat_tests}
 use Rattle.std.proofs.lemmas.List.{drop-drop}
-use Rattle.rt_store.specs.Tagged.{last_place, last_with, next_place}
+use Rattle.rt_store.specs.Tagged.{last_place, last_with, next_place, previous_place}
 use Rattle.rt_store.proofs.Nearest.{position_cons}
 use Rattle.rt_views.specs.declared.stretch.Stretch.{Stretch}
 use Rattle.rt_views.specs.Stretches.{part}
@@ -155,3 +155,17 @@ checked_behind begin at (Some x) h = ap Some h.1 ∙ ap (λ b. cond b (Some (at 
 
 pub last_in_part : {A : Type 0} (test : A → Bool) (stretch : Stretch) (xs : List A) → option_and_then (behind stretch.begin) (last_place test (take stretch.end xs)) ≡ last_place test (part stretch xs)
 last_in_part test stretch xs = last_behind test stretch.begin (take stretch.end xs) ∙ ap (last_place test) (sym (part_behind stretch xs))
+
+-- the front of a front
+take_front : {A : Type 0} (n m : ℕ) (xs : List A) → take n (take m xs) ≡ take (min n m) xs
+take_front zero m xs = let e : 0 ≡ min 0 m = omega arith in ap (λ k. take k xs) e
+take_front (suc n) zero xs = let e : 0 ≡ min (suc n) 0 = omega arith in ap (λ k. take k xs) e
+take_front (suc n) (suc m) [] = take_nothing (min (suc n) (suc m))
+take_front (suc n) (suc m) (x ∷ xs) = let e : suc (min n m) ≡ min (suc n) (suc m) = omega arith in ap (λ ys. x ∷ ys) (take_front n m xs) ∙ ap (λ k. take k (x ∷ xs)) e
+
+-- the last place before one of a part is that of the part that ends there, also where the place is past the greatest number
+pub last_before : {A : Type 0} (test : A → Bool) (stretch : Stretch) (xs : List A) (n from most end : ℕ) → from ≡ min (stretch.begin + n) most → stretch.end ≤ most → end ≡ min from stretch.end
+    → last_place test (part (record { begin = stretch.begin; end = end }) xs) ≡ previous_place test (part stretch xs) n
+last_before test stretch xs n from most end e few f =
+    let size : end - stretch.begin ≡ min n (stretch.end - stretch.begin) = omega (arith, e, few, f) in
+    ap (λ k. last_place test (take k (drop stretch.begin xs))) size ∙ ap (last_place test) (sym (take_front n (stretch.end - stretch.begin) (drop stretch.begin xs)))

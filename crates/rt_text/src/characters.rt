@@ -1,7 +1,7 @@
 // The tags of characters on a widget.
 ghost use Rattle.std.specs.Prelude.{◌≡◌, ◌≤◌, length, take, true, false, not, if◌then◌else◌};
 ghost use Rattle.rt_store.specs.Cells.{visible_of};
-ghost use Rattle.rt_store.specs.Tagged.{last_place, next_place};
+ghost use Rattle.rt_store.specs.Tagged.{last_place, next_place, previous_place};
 ghost use Rattle.rt_tags.specs.States.{IsState};
 ghost use Rattle.rt_edits.specs.Selected.{stamps_in};
 ghost use Rattle.rt_store.specs.Spans.{is_among};
@@ -175,4 +175,23 @@ pub(crate) fn last_within<S: TextStore>(
 {
     let at = last_before(store, states, selection, name, stretch.end)?;
     at.checked_sub(stretch.begin)
+}
+
+/// The greatest place of a stretch of the text below one whose character has a tag, as one in it.
+pub(crate) fn previous_within<S: TextStore>(
+    store: &S,
+    states: &StateTable,
+    selection: &Selection,
+    name: &str,
+    stretch: Stretch,
+    place: usize,
+) -> Option<usize>
+    requires states { S.agrees store.now states.now }
+    requires stretch { stretch.end ≤ length (visible_of (S.list store.now)) }
+    ensures { result ≡ previous_place (λ cell. is_tagged_in (stamps_in selection.now) name.now (shown states.now cell))
+        (part stretch (visible_of (S.list store.now))) place }
+{
+    let begin = stretch.begin;
+    let end = begin.saturating_add(place).min(stretch.end);
+    last_within(store, states, selection, name, Stretch { begin, end })
 }

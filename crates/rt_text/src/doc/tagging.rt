@@ -6,7 +6,7 @@ ghost use Rattle.rt_stamps.specs.declared.limits.TheConstants.{GREATEST_COUNT, M
 ghost use Rattle.rt_store.specs.Cells.{AreDistinct, text_of, visible_of};
 ghost use Rattle.rt_edits.specs.Removals.{is_covered, AreInOrder};
 ghost use Rattle.rt_text.specs.Widgets.{is_tagged, is_tagged_in, tags_on};
-ghost use Rattle.rt_store.specs.Tagged.{next_place};
+ghost use Rattle.rt_store.specs.Tagged.{next_place, previous_place};
 ghost use Rattle.rt_tags.specs.States.{IsState};
 ghost use Rattle.rt_tags.specs.Tags.{is_listed, is_place, lowered, raised, sel};
 ghost use Rattle.rt_edits.specs.Flat.{logged};
@@ -21,7 +21,7 @@ ghost use Rattle.rt_views.specs.Stretches.{shown_part};
 
 use super::Doc;
 use crate::Widget;
-use crate::characters::{cell_has, next_within};
+use crate::characters::{cell_has, next_within, previous_within};
 use rt_edits::drafting::{planned_tag, planned_tag_deletion};
 use rt_edits::listing::{forget_all, list_if, prepare_if};
 use rt_edits::{Range, Selection};
@@ -84,6 +84,17 @@ impl<S: TextStore> Doc<S> {
         let stretch = widget.limits().stretch(store);
         let selection = &widget.parts.selection;
         next_within(store, states, selection, name, false, stretch, place)
+    }
+
+    /// The greatest place below one whose character has a tag on the widget; none if there is none. It
+    /// takes no memory.
+    pub(crate) fn previous_tagged(&self, widget: &Widget, name: &str, place: usize) -> Option<usize>
+        ensures { result ≡ previous_place (is_tagged widget.now name.now) (shown_part self.now.cells widget.now.limits) place }
+    {
+        let (store, states) = self.kept();
+        let stretch = widget.limits().stretch(store);
+        let selection = &widget.parts.selection;
+        previous_within(store, states, selection, name, stretch, place)
     }
 
     /// The listed tags of the character at a place on a widget, lowest priority first (Tk text manual,

@@ -1,6 +1,6 @@
 // The tags of the text that a widget shows: which characters have them, and how they are put on and taken off.
 ghost use Rattle.std.specs.Prelude.{◌≡◌, ◌⊎◌, if◌then◌else◌, ◌<◌, ◌&&◌, Ok, Err, None, Some, IfOk, IfErr, OnOk, OnErr, length, map, not, option_copied, option_map, slice_get, string_bytes};
-ghost use Rattle.rt_store.specs.Tagged.{next_place};
+ghost use Rattle.rt_store.specs.Tagged.{next_place, previous_place};
 ghost use Rattle.rt_tags.specs.Tags.{IsName, is_listed, is_place, lowered, raised};
 ghost use Rattle.rt_text.specs.Commands.{clock_check, with_tag_in, with_tags_deleted};
 ghost use Rattle.rt_text.specs.Widgets.{is_tagged, shown_by, tags_on, with_tags};
@@ -26,6 +26,14 @@ impl<S: TextStore> View<S> {
         ensures { result ≡ next_place (λ cell. not (is_tagged self.now.own name.now cell)) (shown_by self.now) place }
     {
         self.doc.next_untagged(&self.widget, name, place)
+    }
+
+    /// The greatest place below one whose character has a tag; none if there is none. It takes no
+    /// memory.
+    pub fn previous_tagged(&self, name: &str, place: usize) -> Option<usize>
+        ensures { result ≡ previous_place (is_tagged self.now.own name.now) (shown_by self.now) place }
+    {
+        self.doc.previous_tagged(&self.widget, name, place)
     }
 
     /// The listed tags of the character at a place, lowest priority first (Tk text manual, "tag
