@@ -9,6 +9,7 @@ ghost use Rattle.rt_store.specs.Shown.{shown};
 ghost use Rattle.rt_text.specs.Lines.{AreLines};
 
 use crate::characters::{last_within, next_within};
+use crate::index::last_line;
 use crate::{Doc, OwnMark, Widget};
 use rt_index::Ground;
 use rt_marks::Marks;
@@ -50,7 +51,7 @@ impl<'a, S: TextStore> Ground for WidgetGround<'a, S> {
     }
 
     fn lines(&self) -> usize {
-        self.store.line_of(self.stretch.end - 1) - self.first + 1
+        last_line(self.store, self.stretch) - self.first + 1
     }
 
     fn char_at(&self, place: usize) -> char {

@@ -1,10 +1,10 @@
 // Indices of a widget.
-ghost use Rattle.std.specs.Prelude.{◌≡◌, ◌≤◌, length, Ok, IfOk, IfErr};
+ghost use Rattle.std.specs.Prelude.{◌≡◌, ◌-◌, ◌≤◌, length, Ok, IfOk, IfErr};
 ghost use Rattle.rt_index.specs.Index.{index_of};
 ghost use Rattle.rt_stamps.specs.Outcomes.{Refuses};
-ghost use Rattle.rt_stamps.specs.Places.{position_at};
+ghost use Rattle.rt_stamps.specs.Places.{line_of, position_at};
 ghost use Rattle.rt_views.specs.Stretches.{part};
-ghost use Rattle.rt_store.specs.Cells.{text_of};
+ghost use Rattle.rt_store.specs.Cells.{text_of, visible_of};
 ghost use Rattle.rt_text.specs.Lines.{AreLines};
 
 use rt_index::{Ground, parse, resolve};
@@ -41,6 +41,26 @@ fn position_at<S: TextStore>(store: &S, place: usize) -> Position
     }
 }
 
+/// The line of a place. For the first place nothing is looked up.
+pub(crate) fn line_at<S: TextStore>(store: &S, place: usize) -> usize
+    requires { place ≤ length (visible_of (S.list store.now)) }
+    ensures { result ≡ line_of (text_of (S.list store.now)) place }
+{
+    if place == 0 { 1 } else { store.line_of(place) }
+}
+
+/// The line of the last place of a stretch of whole lines. At the text's end it is the last one, with nothing looked up.
+pub(crate) fn last_line<S: TextStore>(store: &S, stretch: Stretch) -> usize
+    requires { AreLines (text_of (S.list store.now)) stretch }
+    ensures { result ≡ line_of (text_of (S.list store.now)) (stretch.end - 1) }
+{
+    if stretch.end == store.visible() {
+        store.lines()
+    } else {
+        store.line_of(stretch.end - 1)
+    }
+}
+
 /// The position of a place of a stretch of whole lines of the text, which is at most the stretch's end.
 pub(crate) fn position_within<S: TextStore>(store: &S, stretch: Stretch, place: usize) -> Position
     requires lines { AreLines (text_of (S.list store.now)) stretch }
@@ -49,7 +69,7 @@ pub(crate) fn position_within<S: TextStore>(store: &S, stretch: Stretch, place: 
 {
     let position = position_at(store, stretch.begin + place);
     Position {
-        line: position.line - (store.line_of(stretch.begin) - 1),
+        line: position.line - (line_at(store, stretch.begin) - 1),
         character: position.character,
     }
 }

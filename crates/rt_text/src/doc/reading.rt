@@ -11,7 +11,7 @@ ghost use Rattle.rt_views.specs.Stretches.{part, stretch_of};
 use super::Doc;
 use crate::Widget;
 use crate::ground::WidgetGround;
-use crate::index::position_within;
+use crate::index::{line_at, position_within};
 use rt_stamps::{Position, Site};
 use rt_store::TextStore;
 use rt_views::{Limits, Stretch};
@@ -48,7 +48,7 @@ impl<S: TextStore> Doc<S> {
             tags: &self.tags,
             widget,
             stretch,
-            first: store.line_of(stretch.begin),
+            first: line_at(store, stretch.begin),
         }
     }
 

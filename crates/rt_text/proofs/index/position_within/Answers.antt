@@ -15,8 +15,8 @@ position_at-position-requires g c =
     let cells = g.S.TextStore.list c.args.store.now in
     omega (arith, c.requires.lines.some, c.requires.lines.within, c.requires.place, length_in_part (text_of cells) c.args.stretch c.requires.lines)
 
-pub line_of-requires : goal.line_of-requires
-line_of-requires g c =
+pub line_at-requires : goal.line_at-requires
+line_at-requires g c =
     let cells = g.S.TextStore.list c.args.store.now in
     omega (arith, c.requires.lines.some, c.requires.lines.within, length_text cells)
 
@@ -27,13 +27,13 @@ overflow_sub-result-2 g c =
       arith,
       length_in_part t c.args.stretch c.requires.lines,
       c.requires.place,
-      c.line_of.ensures,
+      c.line_at.ensures,
       ap (λ (p : Position). p.line) c.position_at-position.ensures,
-      line_counted t c.args.stretch c.requires.lines c.args.place c.position_at-position.result.line c.line_of.result (omega (arith, length_in_part t c.args.stretch c.requires.lines, c.requires.place))
-          (ap (λ (p : Position). p.line) c.position_at-position.ensures) c.line_of.ensures,
+      line_counted t c.args.stretch c.requires.lines c.args.place c.position_at-position.result.line c.line_at.result (omega (arith, length_in_part t c.args.stretch c.requires.lines, c.requires.place))
+          (ap (λ (p : Position). p.line) c.position_at-position.ensures) c.line_at.ensures,
     )
 
 pub returns : goal.returns
 returns g c =
     let t = text_of (g.S.TextStore.list c.args.store.now) in
-    rw c.line_of.ensures (position_in_part t c.args.stretch c.requires.lines c.args.place c.position_at-position.result.line c.position_at-position.result.character c.requires.place c.position_at-position.ensures)
+    rw c.line_at.ensures (position_in_part t c.args.stretch c.requires.lines c.args.place c.position_at-position.result.line c.position_at-position.result.character c.requires.place c.position_at-position.ensures)

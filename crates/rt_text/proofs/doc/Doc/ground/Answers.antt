@@ -18,8 +18,8 @@ use Rattle.rt_text.proofs.doc.Doc.ground.Goals as goal
 pub stretch-stretch-requires : goal.stretch-stretch-requires
 stretch-stretch-requires g c = omega (arith, c.kept.ensures.few, c.kept.ensures.most)
 
-pub line_of-requires : goal.line_of-requires
-line_of-requires g c = omega (arith, c.stretch-stretch.ensures.some, c.stretch-stretch.ensures.within)
+pub line_at-requires : goal.line_at-requires
+line_at-requires g c = omega (arith, c.stretch-stretch.ensures.some, c.stretch-stretch.ensures.within)
 
 pub invariant_of-result : goal.invariant_of-result
 invariant_of-result g c =
@@ -39,7 +39,7 @@ invariant_of-result g c =
       text = text;
       few = omega (arith, many, text_within kept, c.kept.ensures.most, c.kept.ensures.few);
       lines = lines_of_limits kept limits stretch (text_of seen) ends c.stretch-stretch.ensures.value text;
-      begins = c.line_of.ensures ∙ ap (λ t. line_of t stretch.begin) (sym text);
+      begins = c.line_at.ensures ∙ ap (λ t. line_of t stretch.begin) (sym text);
       names = λ name h. site_named n c.self.inside.marks placed name h;
     }
 
