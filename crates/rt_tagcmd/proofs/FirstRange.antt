@@ -32,7 +32,7 @@ clash {A = A} test cs k = by_option (slice_get cs k)
     by_option None g h = let bad : ⊥ = cc in bad
     by_option (Some c) g h = by_test (test c) g h
 
-pub past_text : {A : Type 0} (test : A → Bool) (cs : List A) → Passes test cs (length cs) → ⊥
+past_text : {A : Type 0} (test : A → Bool) (cs : List A) → Passes test cs (length cs) → ⊥
 past_text test cs p = let l = passing_within test cs (length cs) p in omega arith
 
 up_to_next : {A : Type 0} (test : A → Bool) (cs : List A) (from : ℕ) (o : Option ℕ) → from ≤ length cs → o ≡ next_place (λ c. not (test c)) cs from → PassUpTo test cs from (unwrap_or o (length cs))

@@ -1,12 +1,12 @@
--- Walks over ranges in order: all of them, the next and the previous one, by the first range from a place on.
-use Rattle.std.proofs.Common.{◌≡◌, ℕ, ◌+◌, ◌<◌, ◌≤◌, ◌⊎◌, inl, inr, ◌&&◌, ◌++◌, List, [], ◌∷◌, length, append_assoc, reverse, All, Bool, true, false, cond, arith, refl, sym, ap, ◌∙◌, subst, Option, Some, None}
+-- Walks over ranges in order: all of them and the next one, by the first range from a place on; and from the last one back.
+use Rattle.std.proofs.Common.{◌≡◌, ℕ, ◌+◌, ◌<◌, ◌≤◌, ◌⊎◌, inl, inr, ◌++◌, List, [], ◌∷◌, length, append_assoc, reverse, All, Bool, true, false, cond, arith, refl, sym, ap, ◌∙◌, subst, Option, Some, None}
 use Rattle.std.specs.Prelude.{filter, find, nat_le, nat_lt}
 use Rattle.std.specs.Option.{option_or}
 use Rattle.std.proofs.lemmas.List.{append-nil, reverse-append}
 use Rattle.std.proofs.lemmas.List.Elements.{All-head, All-tail}
-use Rattle.std.proofs.lemmas.Bool.{le-leb, le-ltb, leb-true, lt-leb, lt-ltb, and_parts, cond-true, cond-false, and_left, and_right, and_from}
+use Rattle.std.proofs.lemmas.Bool.{le-leb, le-ltb, leb-true, lt-leb, lt-ltb, cond-true, cond-false, and_left, and_right, and_from}
 use Rattle.rt_edits.specs.declared.range.Range.{Range}
-use Rattle.rt_tagcmd.specs.TagRanges.{IsMaximal, begins_between, first_range_from, next_range, previous_range, passing_ranges}
+use Rattle.rt_tagcmd.specs.TagRanges.{IsMaximal, begins_between, first_range_from, next_range, passing_ranges}
 use Rattle.rt_store.specs.Tagged.{Passes}
 use Rattle.rt_tagcmd.proofs.Runs.{AreRuns, text_runs}
 use Rattle.rt_tagcmd.proofs.TagRangeLaws.{each_maximal}
@@ -182,7 +182,7 @@ is_next_range test cs from to r e l = next_found from to 0 (passing_ranges test 
 pub past_next_range : {A : Type 0} (test : A → Bool) (cs : List A) (from to : ℕ) (r : Range) → first_range_from from (passing_ranges test cs) ≡ Some r → to ≤ r.from → next_range from to (passing_ranges test cs) ≡ None
 past_next_range test cs from to r e l = next_past from to 0 (passing_ranges test cs) r (text_ascends test cs) e l
 
--- PREVIOUS
+-- FROM THE LAST ONE BACK
 
 find_both : (test : Range → Bool) (xs ys : List Range) → find test (xs ++ ys) ≡ option_or (find test xs) (find test ys)
 find_both test [] ys = refl

@@ -83,8 +83,8 @@ fn all_tagged<S: TextStore>(view: &View<S>, name: &str, from: usize, last: usize
     }
 }
 
-// A place that the range of a place that has a tag doesn't begin before, and twice as far from there at most: it is
-// looked for in steps that double.
+// A place that the range of another, which has the tag, doesn't begin before. It is looked for in steps that double, so
+// it isn't much farther away than where the range begins.
 fn begin_from<S: TextStore>(view: &View<S>, name: &str, place: usize) -> usize
     requires { Passes (is_tagged view.now.own name.now) (shown_by view.now) place }
     ensures within { result ≤ place }

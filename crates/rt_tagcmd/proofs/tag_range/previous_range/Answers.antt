@@ -23,4 +23,4 @@ tagged_up_to-end-requires g c =
 pub returns : goal.returns
 returns g c =
     sym (is_previous (is_tagged c.args.view.now.own c.args.name.now) (shown_by c.args.view.now) c.args.to c.args.from c.in_ok-last.last c.range_begin-begin.result c.tagged_up_to-end.result (sym c.in_ok-last.ensures) c.range_begin-begin.ensures c.tagged_up_to-end.ensures
-        c.if-begin-from.false)
+    c.if-begin-from.false)
