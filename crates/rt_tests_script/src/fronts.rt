@@ -6,7 +6,7 @@ use crate::files::{
 use rt_samples::Pieces;
 use rt_samples::files::{DELETE_SECOND, INSERT_AB, TAG_FIRST};
 use rt_stamps::Fault;
-use std::alloc::Global;
+use std::alloc::{AllocError, Global};
 use std::process::Abort;
 use std::test::Fail;
 
@@ -25,15 +25,22 @@ fn fault_of_front(len: usize, whole: usize) -> Option<(Fault, u64)> {
 }
 
 // The lines of the operations that the first so many bytes of such a file have.
-fn lines_of_front(alloc: Global, len: usize, whole: usize, second: &str) -> Result<String, Fail> {
-    let lines: &[&str] = if len < 44 {
-        &[]
-    } else if len < whole {
-        &[AB]
-    } else {
-        &[AB, second]
-    };
-    Ok(text_of(alloc, lines)?)
+fn lines_of_front(
+    alloc: Global,
+    len: usize,
+    whole: usize,
+    second: &str,
+) -> Result<String, AllocError> {
+    let mut lines = String::new(alloc);
+    if len >= 44 {
+        lines.push_str(AB)?;
+        lines.push('\n')?;
+    }
+    if len >= whole {
+        lines.push_str(second)?;
+        lines.push('\n')?;
+    }
+    Ok(lines)
 }
 
 // Each front of such a file, in pieces of each size.

@@ -6,9 +6,9 @@ use std::alloc::Global;
 use std::process::Abort;
 use std::test::Fail;
 
-// Stops a test where the log of a site that ran a script shows other lines.
-fn makes(rt: &impl Abort, alloc: Global, script: Script, lines: &[&str]) -> Result<(), Fail> {
-    let log = session(rt, alloc, 1, &[], &[script])?;
+// Stops a test where the log of a site that ran scripts shows other lines.
+fn makes(rt: &impl Abort, alloc: Global, scripts: &[Script], lines: &[&str]) -> Result<(), Fail> {
+    let log = session(rt, alloc, 1, &[], scripts)?;
     let text = text_of(alloc, lines)?;
     assert!(rt; is_shown(alloc, in_pieces(&log, 4096), &text, None));
     Ok(())
@@ -49,7 +49,7 @@ const OPERATIONS: &[&str] = &[
 
 #[test]
 fn operations_of_commands(rt: HostRuntime) -> Result<(), Fail> {
-    makes(&rt, rt.alloc(), COMMANDS, OPERATIONS)
+    makes(&rt, rt.alloc(), &[COMMANDS], OPERATIONS)
 }
 
 const MANY_TAGS: Script<'static> = &[(
@@ -66,5 +66,5 @@ const OPERATIONS_OF_MANY: &[&str] = &[
 // An Insert lists 64 tags.
 #[test]
 fn operations_of_66_tags(rt: HostRuntime) -> Result<(), Fail> {
-    makes(&rt, rt.alloc(), MANY_TAGS, OPERATIONS_OF_MANY)
+    makes(&rt, rt.alloc(), &[MANY_TAGS], OPERATIONS_OF_MANY)
 }
