@@ -2,7 +2,6 @@
 ghost use Rattle.rt_store.specs.ListStore.{cells_of};
 ghost use Rattle.rt_store.specs.Tagged.{AreStates};
 
-use crate::checks::same;
 use rt_search::{Case, Direction, Limits, Overlaps, Search, find_all, find_first};
 use rt_stamps::{FINAL, Fault};
 use rt_store::{Cell, ListStore, TextStore};
@@ -162,8 +161,8 @@ fn matches(rt: HostRuntime) -> Result<(), Fail> {
     for (text, pattern, search, places, wanted) in ROWS {
         let page = Page::of(rt.alloc(), text)?;
         let (first, all) = page.found(rt.alloc(), pattern, search, Overlaps::PassedOver, places)?;
-        same(&rt, first, wanted.first().copied());
-        same(&rt, all.as_slice(), wanted);
+        assert_eq!(rt; first, wanted.first().copied());
+        assert_eq!(rt; all.as_slice(), wanted);
     }
     Ok(())
 }
@@ -172,39 +171,32 @@ fn matches(rt: HostRuntime) -> Result<(), Fail> {
 fn overlapping_matches(rt: HostRuntime) -> Result<(), Fail> {
     let page = Page::of(rt.alloc(), "aaaa")?;
     let (_, forwards) = page.found(rt.alloc(), "aa", FORWARDS, Overlaps::Taken, (1, None))?;
-    same(&rt, forwards.as_slice(), [1, 2, 0].as_slice());
+    assert_eq!(rt; forwards.as_slice(), [1, 2, 0].as_slice());
     let (_, backwards) = page.found(rt.alloc(), "aa", BACKWARDS, Overlaps::Taken, (2, None))?;
-    same(&rt, backwards.as_slice(), [1, 0, 2].as_slice());
+    assert_eq!(rt; backwards.as_slice(), [1, 0, 2].as_slice());
     Ok(())
-}
-
-// The text `ab` behind 600 more `a`.
-fn long_page(alloc: Global) -> Result<Page, Fault> {
-    let mut page = Page::of(alloc, "ab")?;
-    for _ in 0..600 {
-        page.put('a')?;
-    }
-    Ok(page)
 }
 
 #[test]
 fn a_text_of_several_windows(rt: HostRuntime) -> Result<(), Fail> {
-    let page = long_page(rt.alloc())?;
+    let mut page = Page::of(rt.alloc(), "ab")?;
+    for _ in 0..600 {
+        page.put('a')?;
+    }
     let (first, all) = page.found(rt.alloc(), "aab", FORWARDS, Overlaps::Taken, (300, None))?;
-    same(&rt, first, Some(599));
-    same(&rt, all.len(), 1);
+    assert_eq!(rt; first, Some(599));
+    assert_eq!(rt; all.len(), 1);
     let (first, _) = page.found(rt.alloc(), "aab", BACKWARDS, Overlaps::Taken, (300, None))?;
-    same(&rt, first, Some(599));
-    Ok(())
-}
-
-#[test]
-fn matches_of_several_windows(rt: HostRuntime) -> Result<(), Fail> {
-    let page = long_page(rt.alloc())?;
-    let places = (603, None);
-    let (_, all) = page.found(rt.alloc(), "aa", BACKWARDS, Overlaps::PassedOver, places)?;
-    same(&rt, all.len(), 300);
-    same(&rt, all.first().copied(), Some(599));
-    same(&rt, all.last().copied(), Some(1));
+    assert_eq!(rt; first, Some(599));
+    let (_, all) = page.found(
+        rt.alloc(),
+        "aa",
+        BACKWARDS,
+        Overlaps::PassedOver,
+        (603, None),
+    )?;
+    assert_eq!(rt; all.len(), 300);
+    assert_eq!(rt; all.first().copied(), Some(599));
+    assert_eq!(rt; all.last().copied(), Some(1));
     Ok(())
 }
