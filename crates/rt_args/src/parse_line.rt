@@ -54,19 +54,36 @@ fn files_word<'a>(alloc: Global) -> Arg<'a>
         .help("A file of operations that the script may receive")
 }
 
+// `run` with its site alone.
+fn run_of_site<'a>(alloc: Global) -> Result<Command<'a>, AllocError>
+    ensures { IfOk result (IsCommand (with_rule (new_app (codes "run")) site_option)) }
+{
+    with_option(
+        Command::new(alloc, "run").about("Runs a script"),
+        site_option(alloc),
+    )
+}
+
+// `run` with its site and the log that it begins with.
+fn run_of_log<'a>(alloc: Global) -> Result<Command<'a>, AllocError>
+    ensures { IfOk result (IsCommand (with_rule (with_rule (new_app (codes "run")) site_option) (path_option (codes "log")))) }
+{
+    with_option(
+        run_of_site(alloc)?,
+        path_option(
+            alloc,
+            "log",
+            "The file of the log that the site begins with",
+        ),
+    )
+}
+
 fn run_options<'a>(alloc: Global) -> Result<Command<'a>, AllocError>
     ensures { IfOk result (IsCommand run_options) }
 {
-    let log = path_option(
-        alloc,
-        "log",
-        "The file of the log that the site begins with",
-    );
-    let out = path_option(alloc, "out", "The file that gets the log after the script");
-    let command = Command::new(alloc, "run").about("Runs a script");
     with_option(
-        with_option(with_option(command, site_option(alloc))?, log)?,
-        out,
+        run_of_log(alloc)?,
+        path_option(alloc, "out", "The file that gets the log after the script"),
     )
 }
 
@@ -85,13 +102,23 @@ fn file_word<'a>(alloc: Global, name: &'a str, help: &'a str) -> Arg<'a>
         .help(help)
 }
 
+// `join` with its first file alone.
+fn join_of_one<'a>(alloc: Global) -> Result<Command<'a>, AllocError>
+    ensures { IfOk result (IsCommand (with_rule (new_app (codes "join")) (file_word (codes "A")))) }
+{
+    with_option(
+        Command::new(alloc, "join").about("Joins two files of operations"),
+        file_word(alloc, "A", "A file of operations"),
+    )
+}
+
 fn join_of_two<'a>(alloc: Global) -> Result<Command<'a>, AllocError>
     ensures { IfOk result (IsCommand (with_rule (with_rule (new_app (codes "join")) (file_word (codes "A"))) (file_word (codes "B")))) }
 {
-    let first = file_word(alloc, "A", "A file of operations");
-    let second = file_word(alloc, "B", "Another file of operations");
-    let command = Command::new(alloc, "join").about("Joins two files of operations");
-    with_option(with_option(command, first)?, second)
+    with_option(
+        join_of_one(alloc)?,
+        file_word(alloc, "B", "Another file of operations"),
+    )
 }
 
 fn join_command<'a>(alloc: Global) -> Result<Command<'a>, AllocError>
@@ -122,13 +149,18 @@ fn program<'a>(alloc: Global) -> Command<'a>
         .disable_help_subcommand(true)
 }
 
+fn runs<'a>(alloc: Global) -> Result<Command<'a>, AllocError>
+    ensures { IfOk result (IsCommand (with_subcommand program run_command.top)) }
+{
+    let run = run_command(alloc)?;
+    with_command(program(alloc), run)
+}
+
 fn runs_and_joins<'a>(alloc: Global) -> Result<Command<'a>, AllocError>
     ensures { IfOk result (IsCommand (with_subcommand (with_subcommand program run_command.top) join_command.top)) }
 {
-    with_command(
-        with_command(program(alloc), run_command(alloc)?)?,
-        join_command(alloc)?,
-    )
+    let join = join_command(alloc)?;
+    with_command(runs(alloc)?, join)
 }
 
 fn command<'a>(alloc: Global) -> Result<Command<'a>, AllocError>
