@@ -149,7 +149,8 @@ fn last_before<S: TextStore>(
 ) -> Option<usize>
     requires states { S.agrees store.now states.now }
     requires end { end ≤ length (visible_of (S.list store.now)) }
-    ensures { result ≡ last_place (λ cell. is_tagged_in (stamps_in selection.now) name.now (shown states.now cell)) (take end (visible_of (S.list store.now))) }
+    ensures { result ≡ last_place (λ cell. is_tagged_in (stamps_in selection.now) name.now (shown states.now cell))
+        (take end (visible_of (S.list store.now))) }
 {
     if name == "sel" {
         return last_selected(store, selection, end);
