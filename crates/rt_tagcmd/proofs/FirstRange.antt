@@ -12,7 +12,7 @@ use Rattle.rt_tagcmd.proofs.TagRangeLaws.{each_maximal, is_max, passing_within, 
 
 -- WHERE PLACES PASS NO MORE
 
-opposite : {A : Type 0} (test : A → Bool) (cs : List A) (k : ℕ) → k < length cs → (Passes (λ c. not (test c)) cs k → ⊥) → Passes test cs k
+pub opposite : {A : Type 0} (test : A → Bool) (cs : List A) (k : ℕ) → k < length cs → (Passes (λ c. not (test c)) cs k → ⊥) → Passes test cs k
 opposite test [] k l n = absurd (omega arith)
 opposite test (c ∷ cs) zero l n = by_test (test c) n
   where
@@ -21,7 +21,7 @@ opposite test (c ∷ cs) zero l n = by_test (test c) n
     by_test false n = absurd (n refl)
 opposite test (c ∷ cs) (suc k) l n = opposite test cs k (omega arith) n
 
-clash : {A : Type 0} (test : A → Bool) (cs : List A) (k : ℕ) → Passes (λ c. not (test c)) cs k → Passes test cs k → ⊥
+pub clash : {A : Type 0} (test : A → Bool) (cs : List A) (k : ℕ) → Passes (λ c. not (test c)) cs k → Passes test cs k → ⊥
 clash {A = A} test cs k = by_option (slice_get cs k)
   where
     by_test : (t : Bool) → Some (not t) ≡ Some true → Some t ≡ Some true → ⊥

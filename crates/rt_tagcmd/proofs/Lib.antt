@@ -1,6 +1,7 @@
 pub mod About
 pub mod ByBytes
 pub mod FirstRange
+pub mod LastRange
 pub mod LookingLaws
 pub mod MarkListLaws
 pub mod RangeWalks

@@ -1,12 +1,12 @@
--- Walks over ranges in order: all of them, the next and the previous one, by the first range from a place on.
-use Rattle.std.proofs.Common.{◌≡◌, ℕ, ◌+◌, ◌<◌, ◌≤◌, ◌⊎◌, inl, inr, ◌&&◌, ◌++◌, List, [], ◌∷◌, length, append_assoc, reverse, All, Bool, true, false, cond, arith, refl, sym, ap, ◌∙◌, subst, Option, Some, None}
+-- Walks over ranges in order: all of them and the next one, by the first range from a place on; and from the last one back.
+use Rattle.std.proofs.Common.{◌≡◌, ℕ, ◌+◌, ◌<◌, ◌≤◌, ◌⊎◌, inl, inr, ◌++◌, List, [], ◌∷◌, length, append_assoc, reverse, All, Bool, true, false, cond, arith, refl, sym, ap, ◌∙◌, subst, Option, Some, None}
 use Rattle.std.specs.Prelude.{filter, find, nat_le, nat_lt}
 use Rattle.std.specs.Option.{option_or}
 use Rattle.std.proofs.lemmas.List.{append-nil, reverse-append}
 use Rattle.std.proofs.lemmas.List.Elements.{All-head, All-tail}
-use Rattle.std.proofs.lemmas.Bool.{le-leb, le-ltb, leb-true, lt-leb, lt-ltb, and_parts, cond-true, cond-false, and_left, and_right, and_from}
+use Rattle.std.proofs.lemmas.Bool.{le-leb, le-ltb, leb-true, lt-leb, lt-ltb, cond-true, cond-false, and_left, and_right, and_from}
 use Rattle.rt_edits.specs.declared.range.Range.{Range}
-use Rattle.rt_tagcmd.specs.TagRanges.{IsMaximal, begins_between, first_range_from, next_range, previous_range, passing_ranges}
+use Rattle.rt_tagcmd.specs.TagRanges.{IsMaximal, begins_between, first_range_from, next_range, passing_ranges}
 use Rattle.rt_store.specs.Tagged.{Passes}
 use Rattle.rt_tagcmd.proofs.Runs.{AreRuns, text_runs}
 use Rattle.rt_tagcmd.proofs.TagRangeLaws.{each_maximal}
@@ -133,13 +133,6 @@ goes_on test cs place r e =
     let full = holds.0.not_empty in
     (omega arith, holds.0.within)
 
-pub next_goes_on : {A : Type 0} (test : A → Bool) (cs : List A) (place to : ℕ) (r : Range) → next_range place to (passing_ranges test cs) ≡ Some r → (place < r.to) × (r.to ≤ length cs)
-next_goes_on test cs place to r e =
-    let holds = found_holds (IsMaximal test cs) (begins_between place to) (passing_ranges test cs) r (each_maximal test cs) e in
-    let from = leb-true place r.from (and_parts (nat_le place r.from) (nat_lt r.from to) holds.1).0 in
-    let full = holds.0.not_empty in
-    (omega arith, holds.0.within)
-
 -- NEXT
 
 -- a range that begins past the end, or before the beginning
@@ -189,7 +182,7 @@ is_next_range test cs from to r e l = next_found from to 0 (passing_ranges test 
 pub past_next_range : {A : Type 0} (test : A → Bool) (cs : List A) (from to : ℕ) (r : Range) → first_range_from from (passing_ranges test cs) ≡ Some r → to ≤ r.from → next_range from to (passing_ranges test cs) ≡ None
 past_next_range test cs from to r e l = next_past from to 0 (passing_ranges test cs) r (text_ascends test cs) e l
 
--- PREVIOUS
+-- FROM THE LAST ONE BACK
 
 find_both : (test : Range → Bool) (xs ys : List Range) → find test (xs ++ ys) ≡ option_or (find test xs) (find test ys)
 find_both test [] ys = refl
@@ -199,7 +192,7 @@ find_both test (x ∷ xs) ys = ap (cond (test x) (Some x)) (find_both test xs ys
     either_way true o = refl
     either_way false o = refl
 
-find_reversed : (test : Range → Bool) (x : Range) (rs : List Range) → find test (reverse (x ∷ rs)) ≡ option_or (find test (reverse rs)) (cond (test x) (Some x) None)
+pub find_reversed : (test : Range → Bool) (x : Range) (rs : List Range) → find test (reverse (x ∷ rs)) ≡ option_or (find test (reverse rs)) (cond (test x) (Some x) None)
 find_reversed test x rs = ap (find test) (reverse-append (x ∷ []) rs) ∙ find_both test (reverse rs) (x ∷ [])
 
 nothing_more : (o : Option Range) → option_or o None ≡ o
@@ -207,58 +200,8 @@ nothing_more None = refl
 nothing_more (Some r) = refl
 
 -- past a range that fails the test
-past_failing : (test : Range → Bool) (x : Range) (rs : List Range) → test x ≡ false → find test (reverse (x ∷ rs)) ≡ find test (reverse rs)
+pub past_failing : (test : Range → Bool) (x : Range) (rs : List Range) → test x ≡ false → find test (reverse (x ∷ rs)) ≡ find test (reverse rs)
 past_failing test x rs f = find_reversed test x rs ∙ ap (option_or (find test (reverse rs))) (cond-false (test x) (Some x) None f) ∙ nothing_more (find test (reverse rs))
 
-past_passing : (test : Range → Bool) (x : Range) (rs : List Range) → test x ≡ true → find test (reverse (x ∷ rs)) ≡ option_or (find test (reverse rs)) (Some x)
+pub past_passing : (test : Range → Bool) (x : Range) (rs : List Range) → test x ≡ true → find test (reverse (x ∷ rs)) ≡ option_or (find test (reverse rs)) (Some x)
 past_passing test x rs f = find_reversed test x rs ∙ ap (option_or (find test (reverse rs))) (cond-true (test x) (Some x) None f)
-
--- where all ranges begin behind both places, either gives the same
-same_previous : (from also to b : ℕ) (rs : List Range) → Ascend b rs → from ≤ b → also ≤ b → previous_range to from rs ≡ previous_range to also rs
-same_previous from also to b [] h l m = refl
-same_previous from also to b (x ∷ rs) h l m =
-    let begin = h.0 in
-    let full = h.1 in
-    find_reversed (begins_between from to) x rs
-    ∙ (λ i. option_or (same_previous from also to (x.to + 1) rs h.2 (omega arith) (omega arith) i) (cond (le-leb from x.from (omega arith) i && nat_lt x.from to) (Some x) None))
-    ∙ sym ((λ i. option_or (find (begins_between also to) (reverse rs)) (cond (le-leb also x.from (omega arith) i && nat_lt x.from to) (Some x) None)))
-    ∙ sym (find_reversed (begins_between also to) x rs)
-
-pub previous_none : (to place : ℕ) (rs : List Range) → next_range place to rs ≡ None → previous_range to place rs ≡ None
-previous_none to place [] e = refl
-previous_none to place (x ∷ rs) e = elim (found (begins_between place to) x rs None e) [
-  | inl f ↦ not_none x f.1
-  | inr f ↦ past_failing (begins_between place to) x rs f.0 ∙ previous_none to place rs f.1
-]
-
-previous_here : (to place b : ℕ) (x r : Range) (rs : List Range) → Ascend b (x ∷ rs) → begins_between place to x ≡ true → x ≡ r → previous_range to place (x ∷ rs) ≡ option_or (previous_range to r.to (x ∷ rs)) (Some r)
-previous_here to place b x r rs h f same =
-    let from = leb-true place x.from (and_parts (nat_le place x.from) (nat_lt x.from to) f).0 in
-    let full = h.1 in
-    past_passing (begins_between place to) x rs f
-    ∙ ap (λ o. option_or o (Some x)) (same_previous place x.to to (x.to + 1) rs h.2 (omega arith) (omega arith) ∙ sym (past_failing (begins_between x.to to) x rs (and_left (nat_le x.to x.from) (nat_lt x.from to) (lt-leb x.to x.from full))))
-    ∙ ap (λ y. option_or (previous_range to y.to (x ∷ rs)) (Some y)) same
-
-previous_on : (to place b : ℕ) (rs : List Range) (r : Range) → Ascend b rs → next_range place to rs ≡ Some r → previous_range to place rs ≡ option_or (previous_range to r.to rs) (Some r)
-previous_on to place b [] r h e = let bad : ⊥ = cc in absurd bad
-previous_on to place b (x ∷ rs) r h e = elim (found (begins_between place to) x rs (Some r) e) [
-  | inl f ↦ previous_here to place b x r rs h f.0 (same_some x r f.1)
-  | inr f ↦
-      let less = behind (begins_between place to) b x r rs h f.1 in
-      past_failing (begins_between place to) x rs f.0
-      ∙ previous_on to place (x.to + 1) rs r h.2 f.1
-      ∙ ap (λ o. option_or o (Some r)) (sym (past_failing (begins_between r.to to) x rs (and_left (nat_le r.to x.from) (nat_lt x.from to) (lt-leb r.to x.from less))))
-]
-
--- the last range before a place, from what a walk has found
-pub previous_more : {A : Type 0} (test : A → Bool) (cs : List A) (to place : ℕ) (r : Range) (last : Option Range) → next_range place to (passing_ranges test cs) ≡ Some r
-    → option_or (previous_range to place (passing_ranges test cs)) last ≡ option_or (previous_range to r.to (passing_ranges test cs)) (Some r)
-previous_more test cs to place r last e = ap (λ o. option_or o last) (previous_on to place 0 (passing_ranges test cs) r (text_ascends test cs) e) ∙ found_one (previous_range to r.to (passing_ranges test cs))
-  where
-    found_one : (o : Option Range) → option_or (option_or o (Some r)) last ≡ option_or o (Some r)
-    found_one None = refl
-    found_one (Some x) = refl
-
--- the walk's end
-pub previous_last : {A : Type 0} (test : A → Bool) (cs : List A) (to place : ℕ) (last : Option Range) → next_range place to (passing_ranges test cs) ≡ None → option_or (previous_range to place (passing_ranges test cs)) last ≡ last
-previous_last test cs to place last e = ap (λ o. option_or o last) (previous_none to place (passing_ranges test cs) e)

@@ -94,7 +94,7 @@ text_runs test cs = runs_of (Passes test cs) 0 test cs (record { into = λ k j e
 
 -- WHAT THEY ARE
 
-run_max : (P : ℕ → Type 0) (b : ℕ) (s : Range) → IsRun P b s → IsEdge P b → IsMax P s
+pub run_max : (P : ℕ → Type 0) (b : ℕ) (s : Range) → IsRun P b s → IsEdge P b → IsMax P s
 run_max P b s run edge = record { not_empty = run.not_empty; all = run.all; before = before; behind = run.behind }
   where
     from : b ≤ s.from
@@ -103,7 +103,7 @@ run_max P b s run edge = record { not_empty = run.not_empty; all = run.all; befo
     before : (k : ℕ) → k + 1 ≡ s.from → P k → ⊥
     before k e p = elim (cases_lt k b) [ inl l ↦ edge k (omega (arith, from)) p | inr l ↦ run.gap k l (omega arith) p ]
 
-edge_behind : (P : ℕ → Type 0) (b : ℕ) (s : Range) → IsRun P b s → IsEdge P (s.to + 1)
+pub edge_behind : (P : ℕ → Type 0) (b : ℕ) (s : Range) → IsRun P b s → IsEdge P (s.to + 1)
 edge_behind P b s run k e p = let same : k ≡ s.to = omega arith in run.behind (subst P same p)
 
 pub each_max : (P : ℕ → Type 0) (b : ℕ) (rs : List Range) → AreRuns P b rs → IsEdge P b → AllByRecursion (IsMax P) rs
@@ -160,7 +160,7 @@ past P b s r run m l =
       ]
     ]
 
-met : (P : ℕ → Type 0) (b : ℕ) (s r : Range) → IsRun P b s → IsMax P r → b ≤ r.from → (r ≡ s) ⊎ ((s.from < r.from) × (s.to + 1 ≤ r.from))
+pub met : (P : ℕ → Type 0) (b : ℕ) (s r : Range) → IsRun P b s → IsMax P r → b ≤ r.from → (r ≡ s) ⊎ ((s.from < r.from) × (s.to + 1 ≤ r.from))
 met P b s r run m l = elim (cases_order r.from s.from) [
   | inl e ↦ inl (let f = same_end P b s r run m e in λ i. record { from = e i; to = f i })
   | inr o ↦ elim o [ inl k ↦ absurd (run.gap r.from l k (m.all r.from (omega arith) m.not_empty)) | inr k ↦ inr (k, past P b s r run m k) ]

@@ -59,3 +59,17 @@ pub record IsClearFrom {A : Type 0} (test : A → Bool) (characters : List A) (p
   pub from : place ≤ clear
   pub begin_later : (range : Range) → IsMaximal test characters range → place ≤ range.from → clear ≤ range.from
   pub end_before : (range : Range) → IsMaximal test characters range → range.from < clear → range.to ≤ clear
+
+-- the characters from a place on pass, up to another and with that
+abbrev pub PassThrough : {A : Type 0} → (A → Bool) → List A → ℕ → ℕ → Type 0
+PassThrough test characters from last = (k : ℕ) → from ≤ k → k ≤ last → Passes test characters k
+
+-- the range that holds a place begins nowhere before another
+abbrev pub BeginFrom : {A : Type 0} → (A → Bool) → List A → ℕ → ℕ → Type 0
+BeginFrom test characters place least = (k : ℕ) → PassThrough test characters k place → least ≤ k
+
+-- the least place from which the characters pass through to another: the range that holds that one begins there
+pub record IsBegin {A : Type 0} (test : A → Bool) (characters : List A) (place begin : ℕ) : Type 0 where
+  pub within : begin ≤ place
+  pub passes : PassThrough test characters begin place
+  pub least : BeginFrom test characters place begin

@@ -1,7 +1,7 @@
 // The ranges of characters that have a tag.
 ghost use Rattle.std.specs.Prelude.{◌≡◌, ◌≤◌, Decides, IfOk, IfErr, length};
 ghost use Rattle.rt_store.specs.Tagged.{Passes};
-ghost use Rattle.rt_tagcmd.specs.TagRanges.{IsClearFrom, PassUpTo, first_range_from, next_range, passing_ranges, previous_range};
+ghost use Rattle.rt_tagcmd.specs.TagRanges.{BeginFrom, IsBegin, IsClearFrom, PassThrough, PassUpTo, first_range_from, next_range, passing_ranges, previous_range};
 ghost use Rattle.rt_text.specs.Widgets.{is_tagged, shown_by};
 
 use rt_stamps::Fault;
@@ -72,6 +72,54 @@ pub(crate) fn next_range<S: TextStore>(
     if range.from < to { Some(range) } else { None }
 }
 
+// Whether all characters from a place on have a tag, up to one that has it.
+fn all_tagged<S: TextStore>(view: &View<S>, name: &str, from: usize, last: usize) -> bool
+    requires { Passes (is_tagged view.now.own name.now) (shown_by view.now) last }
+    ensures { Decides result (PassThrough (is_tagged view.now.own name.now) (shown_by view.now) from last) }
+{
+    match view.next_untagged(name, from) {
+        Some(at) => last < at,
+        None => true,
+    }
+}
+
+// A place that the range of another, which has the tag, doesn't begin before. It is looked for in steps that double, so
+// it isn't much farther away than where the range begins.
+fn begin_from<S: TextStore>(view: &View<S>, name: &str, place: usize) -> usize
+    requires { Passes (is_tagged view.now.own name.now) (shown_by view.now) place }
+    ensures within { result ≤ place }
+    ensures begin { BeginFrom (is_tagged view.now.own name.now) (shown_by view.now) place result }
+{
+    let mut low = place;
+    let mut step: usize = 1;
+    while low > 0 {
+        low = low.saturating_sub(step);
+        if !all_tagged(view, name, low, place) {
+            return low + 1;
+        }
+        step = step.saturating_mul(2);
+    }
+    0
+}
+
+// Where the range begins that holds a place.
+fn range_begin<S: TextStore>(view: &View<S>, name: &str, place: usize) -> usize
+    requires { Passes (is_tagged view.now.own name.now) (shown_by view.now) place }
+    ensures { IsBegin (is_tagged view.now.own name.now) (shown_by view.now) place result }
+{
+    let mut low = begin_from(view, name, place);
+    let mut high = place;
+    while low < high {
+        let middle = low + (high - low) / 2;
+        if all_tagged(view, name, middle, place) {
+            high = middle;
+        } else {
+            low = middle + 1;
+        }
+    }
+    high
+}
+
 /// The last range of a tag that begins before one place, and at another or later.
 pub(crate) fn previous_range<S: TextStore>(
     view: &View<S>,
@@ -81,11 +129,14 @@ pub(crate) fn previous_range<S: TextStore>(
 ) -> Option<Range>
     ensures { result ≡ previous_range to from (passing_ranges (is_tagged view.now.own name.now) (shown_by view.now)) }
 {
-    let mut last = None;
-    let mut place = from;
-    while let Some(range) = next_range(view, name, place, to) {
-        last = Some(range);
-        place = range.to;
+    let last = view.previous_tagged(name, to)?;
+    let begin = range_begin(view, name, last);
+    if begin < from {
+        return None;
     }
-    last
+    let end = tagged_up_to(view, name, last);
+    Some(Range {
+        from: begin,
+        to: end,
+    })
 }

@@ -1,17 +1,26 @@
 use Rattle.std.proofs.Common.{sym, ◌∙◌, arith}
 use Rattle.rt_text.specs.Widgets.{is_tagged, shown_by}
-use Rattle.rt_tagcmd.proofs.RangeWalks.{next_goes_on, previous_last, previous_more}
+use Rattle.rt_store.proofs.Least.{greatest}
+use Rattle.rt_tagcmd.proofs.LastRange.{begins_earlier, is_previous, none_previous}
+use Rattle.rt_tagcmd.proofs.TagRangeLaws.{passing_within}
 use Rattle.rt_tagcmd.proofs.tag_range.previous_range.Goals as goal
 
-pub loop-range-smaller : goal.loop-range-smaller
-loop-range-smaller g c =
-    let far = next_goes_on (is_tagged c.args.view.now.own c.args.name.now) (shown_by c.args.view.now) c.loop-range.place c.args.to c.in-Some.range (sym c.in-Some.ensures) in
-    let behind = far.0 in
-    let within = far.1 in
+pub returns-in_err-last : goal.returns-in_err-last
+returns-in_err-last g c = c.from_residual.ensures ∙ sym (none_previous (is_tagged c.args.view.now.own c.args.name.now) (shown_by c.args.view.now) c.args.to c.args.from (sym c.in_err-last.ensures))
+
+pub range_begin-begin-requires : goal.range_begin-begin-requires
+range_begin-begin-requires g c = (greatest (is_tagged c.args.view.now.own c.args.name.now) (shown_by c.args.view.now) c.args.to c.in_ok-last.last (sym c.in_ok-last.ensures)).passes
+
+pub returns-then-begin-from : goal.returns-then-begin-from
+returns-then-begin-from g c = sym (begins_earlier (is_tagged c.args.view.now.own c.args.name.now) (shown_by c.args.view.now) c.args.to c.args.from c.in_ok-last.last c.range_begin-begin.result (sym c.in_ok-last.ensures) c.range_begin-begin.ensures c.if-begin-from.true)
+
+pub tagged_up_to-end-requires : goal.tagged_up_to-end-requires
+tagged_up_to-end-requires g c =
+    let last = greatest (is_tagged c.args.view.now.own c.args.name.now) (shown_by c.args.view.now) c.args.to c.in_ok-last.last (sym c.in_ok-last.ensures) in
+    let less = passing_within (is_tagged c.args.view.now.own c.args.name.now) (shown_by c.args.view.now) c.in_ok-last.last last.passes in
     omega arith
 
-pub loop-range-preserved : goal.loop-range-preserved
-loop-range-preserved g c = c.loop-range.invariant ∙ previous_more (is_tagged c.args.view.now.own c.args.name.now) (shown_by c.args.view.now) c.args.to c.loop-range.place c.in-Some.range c.loop-range.last (sym c.in-Some.ensures)
-
 pub returns : goal.returns
-returns g c = sym (c.loop-range.invariant ∙ previous_last (is_tagged c.args.view.now.own c.args.name.now) (shown_by c.args.view.now) c.args.to c.loop-range.place c.loop-range.last (sym c.in_default.ensures))
+returns g c =
+    sym (is_previous (is_tagged c.args.view.now.own c.args.name.now) (shown_by c.args.view.now) c.args.to c.args.from c.in_ok-last.last c.range_begin-begin.result c.tagged_up_to-end.result (sym c.in_ok-last.ensures) c.range_begin-begin.ensures c.tagged_up_to-end.ensures
+    c.if-begin-from.false)
