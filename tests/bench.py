@@ -208,7 +208,7 @@ def tree():
         subprocess.run(["rt", "run"], cwd=ours, stdout=subprocess.DEVNULL, check=True)
         program = os.path.join(ours, "out", "bench_tree")
         for store in ("tree", "list"):
-            for where in ("end", "random"):
+            for where in ("end", "random", "front"):
                 few, many = (counted(program, str(operations), store, where)[0] for operations in (4_000, 8_000))
                 print(f"{store:5} {where:7} {(many - few) / 4_000:10,.0f} instructions an operation", flush=True)
     return 0

@@ -2,7 +2,7 @@
 use Rattle.std.proofs.Common.{◌≡◌, ℕ, zero, suc, ◌+◌, ◌<◌, ◌≤◌, inl, inr, List, [], ◌∷◌, ◌++◌, length, get_or, take, drop, refl, sym, ap, subst, ◌∙◌, arith, append_assoc, set, ◌-◌, vec_len}
 use Rattle.rt_spans.specs.declared.entry.Entry.{Entry}
 use Rattle.rt_spans.specs.declared.block.Block.{Block}
-use Rattle.rt_spans.specs.Spans.{AreRisingBy, AreRisingFrom, EndsAt, Has, IsCut, IsEntryAt, IsNear, Painted, PaintsOver, Repainted, SetsOver, held, holding, key}
+use Rattle.rt_spans.specs.Spans.{AreRisingBy, AreRisingFrom, EndsAt, Has, IsCut, IsEntryAt, IsKeyAt, IsNear, Painted, PaintsOver, Repainted, SetsOver, held, holding, key}
 use Rattle.rt_spans.specs.Blocks.{IsNearIn, PartsAt, in_block, in_blocks, head_key}
 use Rattle.rt_spans.proofs.Rising.{behind, lower, skip}
 use Rattle.rt_spans.proofs.Values.{cut_out}
@@ -110,6 +110,12 @@ pub one_entry : {X : Type 0} (xs : List X) (i : ℕ) (a b : X) → a ≡ get_or 
 one_entry [] i a b p q l = absurd (omega (arith, l))
 one_entry (x ∷ xs) zero a b p q l = p ∙ sym q
 one_entry (x ∷ xs) (suc i) a b p q l = one_entry xs i a b p q (omega (arith, l))
+
+-- whatever stands for an element that is missing
+pub any_entry : {X : Type 0} (xs : List X) (i : ℕ) (a d : X) → a ≡ get_or xs i a → i < length xs → a ≡ get_or xs i d
+any_entry [] i a d p l = absurd (omega (arith, l))
+any_entry (x ∷ xs) zero a d p l = p
+any_entry (x ∷ xs) (suc i) a d p l = any_entry xs i a d p (omega (arith, l))
 
 get_more : {V : Type 0} (xs : List (Entry V)) (p : ℕ) (e : Entry V) (ys : List (Entry V)) (d : Entry V) → IsEntryAt xs p e → get_or (take p xs ++ e ∷ ys) p d ≡ e
 get_more [] zero e ys d h = absurd cc
@@ -220,3 +226,15 @@ near_in {V} first end bs place entry b h some within e next few inside n = recor
 
     same : (d : Block V) → d ≡ get_or bs (place - 1) d → b ≡ d
     same d is = one_entry bs (place - 1) b d e is (omega (arith, some, within))
+
+-- entries that begin and end where a span does
+key_there : {V : Type 0} (k : ℕ) (es : List (Entry V)) (i : ℕ) → i < length es → ((d : Entry V) → key (get_or es i d) ≡ k) → Has k es
+key_there k [] i l at = absurd (omega (arith, l))
+key_there k (e ∷ es) zero l at = inl (at e)
+key_there k (e ∷ es) (suc i) l at = inr (key_there k es i (omega (arith, l)) at)
+
+pub has_end : {V : Type 0} (k : ℕ) (b : Block V) (i : ℕ) → IsKeyAt k b.rest.items i → Has k (in_block b)
+has_end k b i at = inr (key_there k b.rest.items i at.0 at.1)
+
+pub has_begin : {V : Type 0} (first end : ℕ) (es : List (Entry V)) (place : ℕ) → IsNear first end es place → Has first es
+has_begin first end es place n = subst (λ v. Has first v) (sym n.is) (has_back first (take place es) (n.entry ∷ drop (suc place) es) (inl n.at))

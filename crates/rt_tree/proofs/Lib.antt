@@ -58,6 +58,7 @@ mod Paths
 mod Ending
 mod Arriving
 mod Noting
+mod Twice
 mod Baring
 mod Returning
 mod Gathering

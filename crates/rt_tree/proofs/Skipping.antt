@@ -1,16 +1,18 @@
 -- Where a new stamp goes, past the cells of runs.
-use Rattle.std.proofs.Common.{◌≡◌, ℕ, zero, suc, ◌+◌, ◌-◌, ◌<◌, ◌≤◌, not, Bool, true, false, List, [], ◌∷◌, ◌++◌, length, drop, map, refl, sym, ap, ◌∙◌, arith, Some, slice_get}
+use Rattle.std.proofs.Common.{◌≡◌, ℕ, zero, suc, ◌+◌, ◌-◌, ◌<◌, ◌≤◌, not, Bool, true, false, List, [], ◌∷◌, ◌++◌, length, drop, get_or, map, refl, sym, ap, ◌∙◌, arith, Some, slice_get}
 use Rattle.std.specs.Prelude.{nat_le, take_while}
 use Rattle.std.specs.List.{AllByRecursion}
 use Rattle.std.proofs.lemmas.Bool.Decides.{nat_tests}
+use Rattle.std.proofs.lemmas.Option.{slice_get-get_or}
 use Rattle.rt_stamps.specs.declared.stamp.Stamp.{Stamp}
 use Rattle.rt_stamps.specs.Stamps.{is_before}
 use Rattle.rt_store.specs.declared.cell.Cell.{Cell}
-use Rattle.rt_store.specs.Cells.{cells_from, stamps_of}
+use Rattle.rt_store.specs.Cells.{cells_from, final_cell, stamps_of}
 use Rattle.rt_store.proofs.Distinct.{split}
 use Rattle.rt_store.proofs.Places.{past, past_is}
 use Rattle.rt_tree.specs.declared.node.Run.{Run}
 use Rattle.rt_tree.specs.Runs.{IsRun, cells_of, characters, first_stamp, run_cells, with_gone}
+use Rattle.rt_tree.specs.Sharing.{AreUpTo}
 use Rattle.rt_tree.specs.Skips.{HasCells, passed, stops}
 use Rattle.rt_tree.proofs.CellLaws.{characters_length, get-right, run_length}
 use Rattle.rt_tree.proofs.Passing.{goes_on, stopped}
@@ -147,6 +149,21 @@ skip_none new cs at cell is h = let p = past_is new (drop at cs) in let z = none
     nothing e = cc
   none (c ∷ cs) zero is = let e : c ≡ cell = cc in stop-one new c.stamp (stamps_of cs) (ap (λ (x : Cell ℕ). is_before new x.stamp) e ∙ h)
   none (c ∷ cs) (suc at) is = none cs at is
+
+-- where no cell has so great a count, none is passed
+upto_at : (n : ℕ) (cs : List (Cell ℕ)) (at : ℕ) (d : Cell ℕ) → AreUpTo n cs → at < length cs → (get_or cs at d).stamp.count ≤ n
+upto_at n [] at d all lt = absurd (omega (arith, lt))
+upto_at n (c ∷ cs) zero d all lt = all.0
+upto_at n (c ∷ cs) (suc at) d all lt = upto_at n cs at d all.1 (omega (arith, lt))
+
+not_above : (a b : Stamp) → b.count < a.count → is_before a b ≡ false
+not_above a b lt = grind (arith, nat_tests)
+
+pub skip_newest : (new : Stamp) (n : ℕ) (cs : List (Cell ℕ)) (at : ℕ) → n < new.count → AreUpTo n cs → at < length cs
+    → at ≡ at + length (take_while (λ (c : Cell ℕ). is_before new c.stamp) (drop at cs))
+skip_newest new n cs at above all lt =
+    let low = upto_at n cs at final_cell all lt in
+    skip_none new cs at (get_or cs at final_cell) (slice_get-get_or cs at final_cell lt) (not_above new (get_or cs at final_cell).stamp (omega (arith, above, low)))
 
 -- runs have cells
 pub have_cells : (text : List ℕ) (rs : List Run) → AllByRecursion (IsRun text) rs → AllByRecursion HasCells rs

@@ -76,6 +76,9 @@ pub(crate) fn cut(
     ensures told { AreTold states.now mem.new sums.new (tree_runs mem.new result.root.index) }
     ensures tags { sums.new.tags ≡ sums.old.tags }
 {
+    if at == 0 {
+        return Change { root, more: 0 };
+    }
     if at == sum_of(mem, root).cells as usize {
         return Change { root, more: 0 };
     }
@@ -87,8 +90,11 @@ pub(crate) fn cut(
     let back = back_of(found.run, offset as u32);
     replace_at(mem, sums, states, root, found.spot, back);
     let front = front_of(found.run, offset as u32);
-    let root = put(mem, sums, states, root, at - offset, front);
-    Change { root, more: 1 }
+    let placed = put(mem, sums, states, root, at - offset, front);
+    Change {
+        root: placed.root,
+        more: 1,
+    }
 }
 
 // The same, and tells where the stamps are of runs that are in another leaf now.

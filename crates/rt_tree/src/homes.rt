@@ -10,11 +10,11 @@ ghost use Rattle.rt_tree.specs.Runs.{has};
 ghost use Rattle.rt_tree.specs.Shape.{IsTree, level_of, tree_runs};
 ghost use Rattle.rt_tree.specs.Sums.{AreFew, counts_of};
 ghost use Rattle.rt_tree.specs.Trees.{final_run};
-ghost use Rattle.rt_tree.specs.Walks.{IsBehind};
+ghost use Rattle.rt_tree.specs.Walks.{IsAfter};
 
 use crate::find::{has, height};
 use crate::looks::Counted;
-use crate::node::{Counts, Entry, Mem, Run};
+use crate::node::{Entry, Mem, Run};
 use crate::settle::level_of;
 use crate::up::ascend;
 use rt_nodes::NodeId;
@@ -43,28 +43,28 @@ pub(crate) fn spans_for(cells: usize, cuts: usize) -> usize
     cells.saturating_add(parts).saturating_add(24)
 }
 
-// A run, and what the runs before it count.
+// A run, and how many cells the runs before it have.
 #[derive(Clone, Copy)]
 pub(crate) struct Home {
     pub(crate) run: Run,
-    pub(crate) before: Counts,
+    pub(crate) before: u32,
 }
 
 impl Home {
     // The position of the cell of a stamp that the run has.
     pub(crate) fn position(self, stamp: Stamp) -> usize
         requires has { has self.run stamp ≡ true }
-        requires few { self.before.cells + self.run.len < 2 ^ 33 }
-        ensures { result ≡ self.before.cells + (stamp.count - self.run.first) }
+        requires few { self.before + self.run.len < 2 ^ 33 }
+        ensures { result ≡ self.before + (stamp.count - self.run.first) }
     {
-        self.before.cells as usize + (stamp.count - self.run.first) as usize
+        self.before as usize + (stamp.count - self.run.first) as usize
     }
 
     // The same, if the run doesn't begin with it.
     pub(crate) fn inside(self, stamp: Stamp) -> Option<usize>
         requires has { has self.run stamp ≡ true }
-        requires few { self.before.cells + self.run.len < 2 ^ 33 }
-        ensures { result ≡ (if nat_lt self.run.first stamp.count then Some (self.before.cells + (stamp.count - self.run.first)) else None) }
+        requires few { self.before + self.run.len < 2 ^ 33 }
+        ensures { result ≡ (if nat_lt self.run.first stamp.count then Some (self.before + (stamp.count - self.run.first)) else None) }
     {
         if self.run.first < stamp.count {
             Some(self.position(stamp))
@@ -176,7 +176,7 @@ impl Homes {
         requires tree { IsTree mem.now root.index }
         requires few { AreFew (counts_of (tree_runs mem.now root.index)) }
         ensures sure { IfSome result (λ _. self.now.sure ≡ true) }
-        ensures home { IfSome result (λ home. IsBehind (tree_runs mem.now root.index) home.run home.before) }
+        ensures home { IfSome result (λ home. IsAfter (tree_runs mem.now root.index) home.run home.before) }
         ensures has { IfSome result (λ home. has home.run stamp ≡ true) }
     {
         if !self.sure {
@@ -303,7 +303,7 @@ impl Homes {
 fn home_in(mem: &Mem, root: NodeId, leaf: NodeId, stamp: Stamp) -> Option<Home>
     requires tree { IsTree mem.now root.index }
     requires few { AreFew (counts_of (tree_runs mem.now root.index)) }
-    ensures home { IfSome result (λ home. IsBehind (tree_runs mem.now root.index) home.run home.before) }
+    ensures home { IfSome result (λ home. IsAfter (tree_runs mem.now root.index) home.run home.before) }
     ensures has { IfSome result (λ home. has home.run stamp ≡ true) }
 {
     if leaf.index as usize >= mem.nodes() || level_of(mem, leaf) > 0 {
@@ -319,7 +319,7 @@ fn home_at(mem: &Mem, root: NodeId, leaf: NodeId, entry: usize) -> Option<Home>
     requires few { AreFew (counts_of (tree_runs mem.now root.index)) }
     requires leaf { IsNode mem.now leaf.index × (level_of mem.now leaf.index ≡ 0) }
     requires within { entry < length (entries mem.now leaf.index) }
-    ensures home { IfSome result (λ home. IsBehind (tree_runs mem.now root.index) home.run home.before) }
+    ensures home { IfSome result (λ home. IsAfter (tree_runs mem.now root.index) home.run home.before) }
     ensures run { IfSome result (λ home. slice_get (entries mem.now leaf.index) entry ≡ Some (Here home.run)) }
 {
     match *mem.entry(leaf, entry) {
@@ -329,7 +329,7 @@ fn home_at(mem: &Mem, root: NodeId, leaf: NodeId, entry: usize) -> Option<Home>
             let mut looks = 0;
             let looks = &mut looks;
             let mut sight = Counted { mem, looks };
-            let before = ascend(&mut sight, root, leaf, entry);
+            let before = ascend(&mut sight, root, leaf, entry).cells;
             Some(Home { run, before })
         }
     }

@@ -1,5 +1,5 @@
 // Summaries put right from a leaf up.
-ghost use Rattle.std.specs.Prelude.{◌≡◌, ℕ, ◌<◌, ◌≤◌, IfSome, length, slice_index_or};
+ghost use Rattle.std.specs.Prelude.{◌≡◌, ◌⊎◌, ℕ, ◌<◌, ◌≤◌, IfSome, None, length, slice_index_or, true};
 ghost use Rattle.rt_nodes.specs.Nodes.{entries};
 ghost use Rattle.rt_tags.specs.Borders.{one_or_none};
 ghost use Rattle.rt_tags.specs.States.{IsState};
@@ -14,7 +14,16 @@ use crate::summary::{Around, Summary};
 use rt_nodes::NodeId;
 use rt_tags::{StateId, StateTable, Toggles};
 
-// An entry of a leaf shows another state now, or none: puts right the summaries of the nodes above it.
+// Whether no run showed a state before, and the one that shows one now has a neighbour in that state.
+fn is_beside(around: &Around, old: &Option<StateId>, new: &Option<StateId>) -> bool
+    ensures none { result ≡ true → old.now ≡ None }
+    ensures beside { result ≡ true → (around.now.before ≡ new.now) ⊎ (around.now.after ≡ new.now) }
+{
+    old.is_none() && (around.before == *new || around.after == *new)
+}
+
+// An entry of a leaf shows another state now, or none: puts right the summaries of the nodes above it. What comes in beside a
+// neighbour in the same state changes none.
 pub(crate) fn note(
     each: &mut [Summary],
     minus: &mut Toggles,
@@ -51,6 +60,9 @@ pub(crate) fn note(
         after: None,
     };
     let mut around = widened(each, mem, leaf, i, &nobody);
+    if is_beside(&around, old, new) {
+        return;
+    }
     replace_at(each, minus, plus, states, leaf, &around, old, new);
     let mut node = leaf;
     let mut level = 0;

@@ -24,7 +24,7 @@ use crate::walk::{Found, Spot, descend_by};
 use rt_nodes::NodeId;
 use rt_tags::StateTable;
 
-// Puts a run in at a place of a leaf, the root having room.
+// Puts a run in at a place of a leaf, the root having room, and tells the leaf where it now is.
 fn insert_at(
     mem: &mut Mem,
     sums: &mut Summaries,
@@ -34,7 +34,7 @@ fn insert_at(
     leaf: NodeId,
     i: usize,
     run: Run,
-)
+) -> NodeId
     requires tree { IsShape (bare mem.old) height root.index }
     requires exact { AreExact mem.old }
     requires filled { AreFilled mem.old root.index }
@@ -68,6 +68,7 @@ fn insert_at(
         place.entry,
         run,
     );
+    place.leaf
 }
 
 // The run that has the cell at a position, with the spot where it stands.
@@ -95,6 +96,13 @@ fn spot_of(mem: &Mem, root: NodeId, at: usize) -> Spot
     found_at(mem, root, at).spot
 }
 
+// The root after a run was put in, and the leaf that the run is in.
+#[derive(Clone, Copy)]
+pub(crate) struct Placed {
+    pub(crate) root: NodeId,
+    pub(crate) leaf: NodeId,
+}
+
 // Puts a run in before the one that has the cell at a position. The root may now be another node.
 pub(crate) fn put(
     mem: &mut Mem,
@@ -103,7 +111,7 @@ pub(crate) fn put(
     root: NodeId,
     at: usize,
     run: Run,
-) -> NodeId
+) -> Placed
     requires tree { IsTree mem.old root.index }
     requires within { at < (counts_of (tree_runs mem.old root.index)).cells }
     requires few { AreFew (plus (counts_of_run run) (counts_of (tree_runs mem.old root.index))) }
@@ -112,19 +120,22 @@ pub(crate) fn put(
     requires told { AreTold states.now mem.old sums.old (tree_runs mem.old root.index) }
     requires short { length (tree_runs mem.old root.index) + 5 < 2 ^ 32 }
     requires state { IsState states.now run.state }
-    ensures tree { IsTree mem.new result.index }
-    ensures runs { IsPutAt (tree_runs mem.old root.index) (tree_runs mem.new result.index) at run }
+    ensures tree { IsTree mem.new result.root.index }
+    ensures runs { IsPutAt (tree_runs mem.old root.index) (tree_runs mem.new result.root.index) at run }
     ensures room { length mem.new.heads + mem.new.room ≡ length mem.old.heads + mem.old.room }
-    ensures told { AreTold states.now mem.new sums.new (tree_runs mem.new result.index) }
+    ensures told { AreTold states.now mem.new sums.new (tree_runs mem.new result.root.index) }
     ensures tags { sums.new.tags ≡ sums.old.tags }
 {
     let height = level_of(mem, root);
     let top = top_room(mem, sums, states, root, height);
     let spot = spot_of(mem, top.root, at);
-    insert_at(
+    let leaf = insert_at(
         mem, sums, states, top.root, top.height, spot.leaf, spot.entry, run,
     );
-    top.root
+    Placed {
+        root: top.root,
+        leaf,
+    }
 }
 
 // Puts a run in before the one that has the cell at a position, and tells where its stamps are. No cell has a greater count
@@ -160,13 +171,12 @@ pub(crate) fn put_home(
     ensures told { AreTold states.now mem.new sums.new (tree_runs mem.new result.index) }
     ensures tags { sums.new.tags ≡ sums.old.tags }
 {
-    let spot = spot_of(mem, root, at);
     let is_new = homes.is_new(newest, &run);
     let nodes = mem.nodes();
-    let root = put(mem, sums, states, root, at, run);
-    homes.enter(&run, spot.leaf, is_new);
+    let placed = put(mem, sums, states, root, at, run);
+    homes.enter(&run, placed.leaf, is_new);
     homes.note_new(mem, nodes, keep);
-    root
+    placed.root
 }
 
 // Puts a run in place of the one at a spot.

@@ -35,7 +35,7 @@ pub(crate) fn set_entry(mem: &mut Mem, id: NodeId, i: usize, entry: Entry)
     *mem.entry_mut(id, i) = entry;
 }
 
-// Where a node stands in its parent.
+// Where a node stands in its parent. The last place is looked at first, as text is typed there.
 pub(crate) fn slot_of(mem: &Mem, parent: NodeId, id: NodeId) -> usize
     requires node { IsNode mem.now parent.index }
     requires stands { 0 < count_of id.index (entries (bare mem.now) parent.index) }
@@ -43,7 +43,11 @@ pub(crate) fn slot_of(mem: &Mem, parent: NodeId, id: NodeId) -> usize
     ensures few { result < 16 }
     ensures is { (e : Entry) → e ≡ slice_index_or (entries mem.now parent.index) result e → strip e ≡ Down id blank }
 {
-    for i in 0..mem.len(parent) {
+    let all = mem.len(parent);
+    if all > 0 && is_node(mem.entry(parent, all - 1), id) {
+        return all - 1;
+    }
+    for i in 0..all {
         if is_node(mem.entry(parent, i), id) {
             return i;
         }

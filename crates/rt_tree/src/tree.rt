@@ -264,11 +264,14 @@ impl Tree {
     }
 
     /// The first position from one on whose cell's stamp isn't greater than a new one, or the end. It
-    /// goes past whole subtrees with greater stamps alone.
+    /// goes past whole subtrees with greater stamps alone, and looks at no cell if none has so great a count.
     pub fn skip(&self, position: usize, new: Stamp) -> usize
         requires { position < length self.now.cells }
         ensures { result ≡ position + length (take_while (λ cell. is_before new cell.stamp) (drop position self.now.cells)) }
     {
+        if new.count > self.newest {
+            return position;
+        }
         let cell = self.nth(position);
         if is_low(cell.stamp, new) {
             return position;

@@ -17,6 +17,14 @@ use rt_stamps::{Fault, Span};
 use rt_store::Cell;
 use rt_tags::{StateId, StateTable};
 
+// So many, or 32 where that is more and `most` allows it: what is typed asks for room character by character.
+fn ahead(asked: usize, most: usize) -> usize
+    ensures enough { asked ≤ result }
+    ensures most { asked ≤ most → result ≤ most }
+{
+    asked.max(most.min(32))
+}
+
 impl Tree {
     /// Makes room for new cells, for cuts of runs, and for counts of so many tags, and keeps what was there. `NoMemory` changes
     /// nothing; it is also the answer where the cells would be too many, or nodes without number.
@@ -31,10 +39,11 @@ impl Tree {
         if cells <= self.spare_cells && cuts <= self.spare_cuts && tags <= self.spare_tags {
             return Ok(());
         }
-        let cells = cells.max(self.spare_cells);
-        let cuts = cuts.max(self.spare_cuts);
+        let left = MOST_CELLS - self.text.len();
+        let cells = ahead(cells.max(self.spare_cells), left);
+        let cuts = ahead(cuts.max(self.spare_cuts), usize::MAX);
         let tags = tags.max(self.spare_tags);
-        if cells > MOST_CELLS - self.text.len() {
+        if cells > left {
             return Err(Fault::NoMemory);
         }
         let runs = (self.runs + cells)

@@ -5,9 +5,12 @@ use Rattle.rt_spans.proofs.blocks.repaint.Goals as goal
 pub cover-requires-clause-later : goal.cover-requires-clause-later
 cover-requires-clause-later g c = rank_same_less _ _ _ _ refl (omega (arith, c.requires.order))
 
+pub stretch-requires-clause-later : goal.stretch-requires-clause-later
+stretch-requires-clause-later g c = rank_same_less _ _ _ _ refl (omega (arith, c.requires.order))
+
 pub returns-then-not-begins_at : goal.returns-then-not-begins_at
 returns-then-not-begins_at g c =
-    let first = rw c.as_slice.ensures.value at c.begins_at.ensures in
+    let first = rw c.as_slice-2.ensures.value at c.begins_at.ensures in
     record {
       borders = ((λ h. absurd (cc)), (λ p. sym c.if-not-begins_at.true ∙ first.1 p.0));
       painted = λ h. absurd (cc);
@@ -21,7 +24,7 @@ returns-then-not-begins_at g c =
 
 pub returns-then-not-begins_at-2 : goal.returns-then-not-begins_at-2
 returns-then-not-begins_at-2 g c =
-    let second = rw c.as_slice-2.ensures.value at c.begins_at-2.ensures in
+    let second = rw c.as_slice-3.ensures.value at c.begins_at-2.ensures in
     record {
       borders = ((λ h. absurd (cc)), (λ p. sym c.if-not-begins_at-2.true ∙ second.1 p.1));
       painted = λ h. absurd (cc);
@@ -34,15 +37,15 @@ returns-then-not-begins_at-2 g c =
     }
 
 pub cover-requires-clause-begins : goal.cover-requires-clause-begins
-cover-requires-clause-begins g c = (rw c.as_slice.ensures.value at c.begins_at.ensures).0 c.if-not-begins_at.false
+cover-requires-clause-begins g c = (rw c.as_slice-2.ensures.value at c.begins_at.ensures).0 c.if-not-begins_at.false
 
 pub cover-requires-clause-ends : goal.cover-requires-clause-ends
-cover-requires-clause-ends g c = (rw c.as_slice-2.ensures.value at c.begins_at-2.ensures).0 c.if-not-begins_at-2.false
+cover-requires-clause-ends g c = (rw c.as_slice-3.ensures.value at c.begins_at-2.ensures).0 c.if-not-begins_at-2.false
 
 pub returns : goal.returns
 returns g c =
-    let first = rw c.as_slice.ensures.value at c.begins_at.ensures in
-    let second = rw c.as_slice-2.ensures.value at c.begins_at-2.ensures in
+    let first = rw c.as_slice-2.ensures.value at c.begins_at.ensures in
+    let second = rw c.as_slice-3.ensures.value at c.begins_at-2.ensures in
     record {
       borders = ((λ _. (first.0 c.if-not-begins_at.false, second.0 c.if-not-begins_at-2.false)), (λ _. refl));
       painted = λ _. c.cover.ensures.painted;

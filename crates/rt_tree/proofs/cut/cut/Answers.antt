@@ -1,4 +1,4 @@
-use Rattle.std.proofs.Common.{◌≡◌, ℕ, ◌-◌, ◌<◌, List, ◌∷◌, arith, sym, ap, ◌∙◌, subst}
+use Rattle.std.proofs.Common.{◌≡◌, ℕ, ◌-◌, ◌<◌, List, [], ◌∷◌, arith, sym, ap, ◌∙◌, subst}
 use Rattle.rt_nodes.specs.Nodes.{entries}
 use Rattle.rt_tree.specs.declared.node.Counts.{Counts}
 use Rattle.rt_tree.specs.declared.node.Run.{Run}
@@ -22,6 +22,14 @@ pub sum_of-requires-clause-few : goal.sum_of-requires-clause-few
 sum_of-requires-clause-few c =
     let m = c.args.mem.now in let r = c.args.root.index in let old = tree_runs m r in
     subst AreFew (sym (root_sum m r c.requires.tree)) (few_all old c.requires.kept c.requires.few)
+
+pub returns-then-at-eq0-clause-edge : goal.returns-then-at-eq0-clause-edge
+returns-then-at-eq0-clause-edge c =
+    let old = tree_runs c.args.mem.now c.args.root.index in
+    edge_there [] old c.args.at (omega (arith, c.if-at-eq0.true))
+
+pub returns-then-at-eq0-clause-parts : goal.returns-then-at-eq0-clause-parts
+returns-then-at-eq0-clause-parts c = let old = tree_runs c.args.mem.now c.args.root.index in no_parts old old c.args.at (returns-then-at-eq0-clause-edge c)
 
 pub returns-then-at-sum_of-clause-edge : goal.returns-then-at-sum_of-clause-edge
 returns-then-at-sum_of-clause-edge c =
@@ -69,23 +77,23 @@ replace_at-requires-clause-few c =
     let w = ap (λ l. (counts_of l).cells) st.here ∙ counts_mid st.left f.run st.right in
     subst (λ (x : Run). AreFew (plus (counts_of_run x) (counts_of old))) (sym c.back_of-back.ensures) (few_with (back_of o f.run) old (omega (arith, st.inside)) (omega (arith, w, c.requires.few)) c.requires.kept c.requires.few)
 
-pub put-root-requires-clause-within : goal.put-root-requires-clause-within
-put-root-requires-clause-within c =
+pub put-placed-requires-clause-within : goal.put-placed-requires-clause-within
+put-placed-requires-clause-within c =
     let m = c.args.mem.now in let r = c.args.root.index in let old = tree_runs m r in
     let f = c.found_at-found.result in let o = f.spot.offset in let st = c.found_at-found.ensures.run in let some : 0 < o = omega (arith, c.if-offset-eq0.false) in
     let mid = tree_runs c.replace_at.new.mem r in let rep = subst (λ (x : Run). IsReplacedAt old mid c.args.at x) c.back_of-back.ensures (c.replace_at.ensures.runs c.args.at f.run c.found_at-found.ensures.spot) in
     mid_within old mid f.run f.before o c.args.at st some rep
 
-pub put-root-requires-clause-few : goal.put-root-requires-clause-few
-put-root-requires-clause-few c =
+pub put-placed-requires-clause-few : goal.put-placed-requires-clause-few
+put-placed-requires-clause-few c =
     let m = c.args.mem.now in let r = c.args.root.index in let old = tree_runs m r in
     let f = c.found_at-found.result in let o = f.spot.offset in let st = c.found_at-found.ensures.run in let some : 0 < o = omega (arith, c.if-offset-eq0.false) in
     let mid = tree_runs c.replace_at.new.mem r in let rep = subst (λ (x : Run). IsReplacedAt old mid c.args.at x) c.back_of-back.ensures (c.replace_at.ensures.runs c.args.at f.run c.found_at-found.ensures.spot) in
     let w = mid_cells old mid f.run f.before o c.args.at st some rep in
     subst (λ (x : Run). AreFew (plus (counts_of_run x) (counts_of mid))) (sym c.front_of-front.ensures) (few_with (front_of o f.run) mid some (omega (arith, w, c.requires.few)) (mid_kept old mid f.run f.before o c.args.at st some rep c.requires.kept) (omega (arith, w, c.requires.few)))
 
-pub put-root-requires-clause-height : goal.put-root-requires-clause-height
-put-root-requires-clause-height c =
+pub put-placed-requires-clause-height : goal.put-placed-requires-clause-height
+put-placed-requires-clause-height c =
     let m = c.args.mem.now in let r = c.args.root.index in let old = tree_runs m r in
     let f = c.found_at-found.result in let o = f.spot.offset in let st = c.found_at-found.ensures.run in let some : 0 < o = omega (arith, c.if-offset-eq0.false) in
     let mid = tree_runs c.replace_at.new.mem r in let rep = subst (λ (x : Run). IsReplacedAt old mid c.args.at x) c.back_of-back.ensures (c.replace_at.ensures.runs c.args.at f.run c.found_at-found.ensures.spot) in
@@ -97,7 +105,7 @@ returns-clause-recut c =
     let m = c.args.mem.now in let r = c.args.root.index in let old = tree_runs m r in
     let f = c.found_at-found.result in let o = f.spot.offset in let st = c.found_at-found.ensures.run in let some : 0 < o = omega (arith, c.if-offset-eq0.false) in
     let mid = tree_runs c.replace_at.new.mem r in let rep = subst (λ (x : Run). IsReplacedAt old mid c.args.at x) c.back_of-back.ensures (c.replace_at.ensures.runs c.args.at f.run c.found_at-found.ensures.spot) in
-    let new = tree_runs c.put-root.new.mem c.put-root.result.index in let put = subst (λ (x : Run). IsPutAt mid new (c.args.at - o) x) c.front_of-front.ensures c.put-root.ensures.runs in
+    let new = tree_runs c.put-placed.new.mem c.put-placed.result.root.index in let put = subst (λ (x : Run). IsPutAt mid new (c.args.at - o) x) c.front_of-front.ensures c.put-placed.ensures.runs in
     new_recut old mid f.run f.before o c.args.at st some rep new put
 
 pub returns-clause-edge : goal.returns-clause-edge
@@ -105,7 +113,7 @@ returns-clause-edge c =
     let m = c.args.mem.now in let r = c.args.root.index in let old = tree_runs m r in
     let f = c.found_at-found.result in let o = f.spot.offset in let st = c.found_at-found.ensures.run in let some : 0 < o = omega (arith, c.if-offset-eq0.false) in
     let mid = tree_runs c.replace_at.new.mem r in let rep = subst (λ (x : Run). IsReplacedAt old mid c.args.at x) c.back_of-back.ensures (c.replace_at.ensures.runs c.args.at f.run c.found_at-found.ensures.spot) in
-    let new = tree_runs c.put-root.new.mem c.put-root.result.index in let put = subst (λ (x : Run). IsPutAt mid new (c.args.at - o) x) c.front_of-front.ensures c.put-root.ensures.runs in
+    let new = tree_runs c.put-placed.new.mem c.put-placed.result.root.index in let put = subst (λ (x : Run). IsPutAt mid new (c.args.at - o) x) c.front_of-front.ensures c.put-placed.ensures.runs in
     new_edge old mid f.run f.before o c.args.at st some rep new put
 
 pub returns-clause-runs : goal.returns-clause-runs
@@ -113,7 +121,7 @@ returns-clause-runs c =
     let m = c.args.mem.now in let r = c.args.root.index in let old = tree_runs m r in
     let f = c.found_at-found.result in let o = f.spot.offset in let st = c.found_at-found.ensures.run in let some : 0 < o = omega (arith, c.if-offset-eq0.false) in
     let mid = tree_runs c.replace_at.new.mem r in let rep = subst (λ (x : Run). IsReplacedAt old mid c.args.at x) c.back_of-back.ensures (c.replace_at.ensures.runs c.args.at f.run c.found_at-found.ensures.spot) in
-    let new = tree_runs c.put-root.new.mem c.put-root.result.index in let put = subst (λ (x : Run). IsPutAt mid new (c.args.at - o) x) c.front_of-front.ensures c.put-root.ensures.runs in
+    let new = tree_runs c.put-placed.new.mem c.put-placed.result.root.index in let put = subst (λ (x : Run). IsPutAt mid new (c.args.at - o) x) c.front_of-front.ensures c.put-placed.ensures.runs in
     new_length old mid f.run f.before o c.args.at st some rep new put
 
 pub returns-clause-parts : goal.returns-clause-parts
@@ -121,11 +129,11 @@ returns-clause-parts c =
     let m = c.args.mem.now in let r = c.args.root.index in let old = tree_runs m r in
     let f = c.found_at-found.result in let o = f.spot.offset in let st = c.found_at-found.ensures.run in let some : 0 < o = omega (arith, c.if-offset-eq0.false) in
     let mid = tree_runs c.replace_at.new.mem r in let rep = subst (λ (x : Run). IsReplacedAt old mid c.args.at x) c.back_of-back.ensures (c.replace_at.ensures.runs c.args.at f.run c.found_at-found.ensures.spot) in
-    let new = tree_runs c.put-root.new.mem c.put-root.result.index in let put = subst (λ (x : Run). IsPutAt mid new (c.args.at - o) x) c.front_of-front.ensures c.put-root.ensures.runs in
+    let new = tree_runs c.put-placed.new.mem c.put-placed.result.root.index in let put = subst (λ (x : Run). IsPutAt mid new (c.args.at - o) x) c.front_of-front.ensures c.put-placed.ensures.runs in
     new_parts old mid f.run f.before o c.args.at st some rep new put
 
-pub put-root-requires-clause-room : goal.put-root-requires-clause-room
-put-root-requires-clause-room c =
+pub put-placed-requires-clause-room : goal.put-placed-requires-clause-room
+put-placed-requires-clause-room c =
     let old = tree_runs c.args.mem.now c.args.root.index in let mid = tree_runs c.replace_at.new.mem c.args.root.index in
     let same = replaced_length old mid c.args.at c.back_of-back.result (c.replace_at.ensures.runs c.args.at c.found_at-found.result.run c.found_at-found.ensures.spot) in
     omega (arith, same, c.replace_at.ensures.room.0, c.replace_at.ensures.room.1, c.requires.room)
@@ -138,20 +146,20 @@ replace_at-requires-clause-state c =
     let old = tree_runs c.args.mem.now c.args.root.index in let st = c.found_at-found.ensures.run in let table = c.args.states.now in
     subst (λ (x : Run). IsState table x.state) (sym c.back_of-back.ensures) (given_there table old st.left st.right c.found_at-found.result.run st.here c.requires.told.given)
 
-pub put-root-requires-clause-told : goal.put-root-requires-clause-told
-put-root-requires-clause-told c = c.replace_at.ensures.told
+pub put-placed-requires-clause-told : goal.put-placed-requires-clause-told
+put-placed-requires-clause-told c = c.replace_at.ensures.told
 
-pub put-root-requires-clause-short : goal.put-root-requires-clause-short
-put-root-requires-clause-short c =
+pub put-placed-requires-clause-short : goal.put-placed-requires-clause-short
+put-placed-requires-clause-short c =
     let old = tree_runs c.args.mem.now c.args.root.index in let mid = tree_runs c.replace_at.new.mem c.args.root.index in
     let same = replaced_length old mid c.args.at c.back_of-back.result (c.replace_at.ensures.runs c.args.at c.found_at-found.result.run c.found_at-found.ensures.spot) in
     let few = short_kept old c.requires.kept c.requires.few in
     omega (arith, same, few)
 
-pub put-root-requires-clause-state : goal.put-root-requires-clause-state
-put-root-requires-clause-state c =
+pub put-placed-requires-clause-state : goal.put-placed-requires-clause-state
+put-placed-requires-clause-state c =
     let old = tree_runs c.args.mem.now c.args.root.index in let st = c.found_at-found.ensures.run in let table = c.args.states.now in
     subst (λ (x : Run). IsState table x.state) (sym c.front_of-front.ensures) (given_there table old st.left st.right c.found_at-found.result.run st.here c.requires.told.given)
 
 pub returns-clause-tags : goal.returns-clause-tags
-returns-clause-tags c = c.put-root.ensures.tags ∙ c.replace_at.ensures.tags
+returns-clause-tags c = c.put-placed.ensures.tags ∙ c.replace_at.ensures.tags

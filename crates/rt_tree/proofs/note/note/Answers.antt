@@ -1,4 +1,4 @@
-use Rattle.std.proofs.Common.{◌≡◌, ◌≢◌, ℕ, suc, ◌+◌, ◌<◌, ◌≤◌, ◌∙◌, ap, arith, get_or, length, refl, subst, sym, inl, inr}
+use Rattle.std.proofs.Common.{◌≡◌, ◌≢◌, ◌⊎◌, ℕ, suc, ◌+◌, ◌<◌, ◌≤◌, ◌∙◌, ap, arith, get_or, length, refl, subst, sym, inl, inr}
 use Rattle.std.specs.Prelude.{IfSome}
 use Rattle.std.proofs.lemmas.Bool.{cases_eq}
 use Rattle.rt_nodes.specs.Nodes.{entries}
@@ -11,7 +11,22 @@ use Rattle.rt_tree.specs.Summaries.{IsSummary, shown_before, shown_behind, shown
 use Rattle.rt_tree.proofs.Noting.{AreRightBelow, above_is, ends_of, first_all, first_first, first_is, is_node, last_all, last_first, last_is, right_up, shows_now, stands_in, was_is}
 use Rattle.rt_tree.proofs.Passes.{get-any}
 use Rattle.rt_tree.proofs.Paths.{at}
+use Rattle.rt_tree.proofs.Twice.{summed_beside}
 use Rattle.rt_tree.proofs.note.note.Goals as goal
+
+pub returns-then-is_beside-clause-summed : goal.returns-then-is_beside-clause-summed
+returns-then-is_beside-clause-summed c =
+    let m = c.args.mem.now in
+    let x = c.args.leaf.index in
+    let i = c.args.i in
+    let e = c.widened-around.ensures.before ∙ last_first m c.args.height c.args.root.index c.requires.tree x c.requires.leaf.0 c.requires.leaf.1 i (level_of m x) c.requires.leaf.1 in
+    let f = c.widened-around.ensures.after ∙ first_first m c.args.height c.args.root.index c.requires.tree x c.requires.leaf.0 c.requires.leaf.1 i (level_of m x) (i + 1) c.requires.leaf.1 (omega arith) in
+    let own = get_or (entries m x) i (kid 0) in
+    let here = get-any (entries m x) i (kid 0) own c.requires.within in
+    let beside = c.is_beside.ensures.beside c.if-is_beside.true in
+    let side : (last (shown_before m 0 x i) ≡ c.args.new.now) ⊎ (first (shown_behind m 0 x i) ≡ c.args.new.now) = elim beside [ inl b ↦ inl (sym e ∙ b) | inr b ↦ inr (sym f ∙ b) ] in
+    summed_beside c.args.states.now m c.args.each.now c.args.height c.args.root.index x i c.requires.tree c.requires.leaf.0 c.requires.leaf.1 own c.args.old.now c.args.new.now c.requires.within here (c.requires.shows own here)
+    (c.is_beside.ensures.none c.if-is_beside.true) side c.requires.but
 
 pub widened-around-requires-clause-node : goal.widened-around-requires-clause-node
 widened-around-requires-clause-node c = (c.requires.leaf.0, subst (λ n. c.args.leaf.index < n) c.requires.tree.same c.requires.leaf.0)

@@ -39,24 +39,24 @@ spot_of-spot-requires-clause-within c =
     let o = opened m r c.level_of-height.result c.level_of-height.ensures m1 top.root.index top.height e.tree e.exact e.filled e.runs in
     subst (λ (l : List Run). c.args.at < (counts_of l).cells) (sym o.same) c.requires.within
 
-pub insert_at-requires-clause-few : goal.insert_at-requires-clause-few
-insert_at-requires-clause-few c =
+pub insert_at-leaf-requires-clause-few : goal.insert_at-leaf-requires-clause-few
+insert_at-leaf-requires-clause-few c =
     let m = c.args.mem.now in let r = c.args.root.index in let e = c.top_room-top.ensures in let top = c.top_room-top.result in let m1 = c.top_room-top.new.mem in
     let o = opened m r c.level_of-height.result c.level_of-height.ensures m1 top.root.index top.height e.tree e.exact e.filled e.runs in
     let same = ap (λ k. runs (bare m) k r) c.level_of-height.ensures ∙ runs-bare m (level_of m r) r in
     subst (λ (l : List Run). AreFew (counts_of l)) (sym (e.runs ∙ same)) (few-rest c.args.run (tree_runs m r) c.requires.few)
 
-pub insert_at-requires-clause-leaf : goal.insert_at-requires-clause-leaf
-insert_at-requires-clause-leaf c = let s = c.spot_of-spot.ensures.1 in (s.is, s.low)
+pub insert_at-leaf-requires-clause-leaf : goal.insert_at-leaf-requires-clause-leaf
+insert_at-leaf-requires-clause-leaf c = let s = c.spot_of-spot.ensures.1 in (s.is, s.low)
 
-pub insert_at-requires-clause-within : goal.insert_at-requires-clause-within
-insert_at-requires-clause-within c =
+pub insert_at-leaf-requires-clause-within : goal.insert_at-leaf-requires-clause-within
+insert_at-leaf-requires-clause-within c =
     let spot = c.spot_of-spot.result in
     let lt = spot_within c.top_room-top.new.mem c.top_room-top.result.root.index c.args.at spot.leaf.index spot.entry spot.offset c.spot_of-spot.ensures.0 c.spot_of-spot.ensures.1 in
     omega (arith, lt)
 
-pub insert_at-requires-clause-still_few : goal.insert_at-requires-clause-still_few
-insert_at-requires-clause-still_few c =
+pub insert_at-leaf-requires-clause-still_few : goal.insert_at-leaf-requires-clause-still_few
+insert_at-leaf-requires-clause-still_few c =
     let m = c.args.mem.now in let r = c.args.root.index in let e = c.top_room-top.ensures in let top = c.top_room-top.result in let m1 = c.top_room-top.new.mem in
     let o = opened m r c.level_of-height.result c.level_of-height.ensures m1 top.root.index top.height e.tree e.exact e.filled e.runs in
     let same = ap (λ k. runs (bare m) k r) c.level_of-height.ensures ∙ runs-bare m (level_of m r) r in
@@ -69,27 +69,27 @@ top_room-top-requires-clause-room c =
     let same = ap (λ k. runs (bare m) k r) c.level_of-height.ensures ∙ runs-bare m (level_of m r) r in
     omega (arith, ap length same, c.requires.room)
 
-pub insert_at-requires-clause-room : goal.insert_at-requires-clause-room
-insert_at-requires-clause-room c =
+pub insert_at-leaf-requires-clause-room : goal.insert_at-leaf-requires-clause-room
+insert_at-leaf-requires-clause-room c =
     let m = c.args.mem.now in let r = c.args.root.index in let e = c.top_room-top.ensures in
     let same = ap (λ k. runs (bare m) k r) c.level_of-height.ensures ∙ runs-bare m (level_of m r) r in
     omega (arith, ap length (e.runs ∙ same), e.room, c.requires.room)
 
 pub returns-clause-tree : goal.returns-clause-tree
 returns-clause-tree c =
-    let e = c.insert_at.ensures in
-    whole c.insert_at.new.mem c.top_room-top.result.height c.top_room-top.result.root.index e.tree e.exact e.filled
+    let e = c.insert_at-leaf.ensures in
+    whole c.insert_at-leaf.new.mem c.top_room-top.result.height c.top_room-top.result.root.index e.tree e.exact e.filled
 
 pub returns-clause-runs : goal.returns-clause-runs
 returns-clause-runs c =
     let m = c.args.mem.now in let r = c.args.root.index in let e = c.top_room-top.ensures in let top = c.top_room-top.result in let m1 = c.top_room-top.new.mem in
     let o = opened m r c.level_of-height.result c.level_of-height.ensures m1 top.root.index top.height e.tree e.exact e.filled e.runs in
-    let i = c.insert_at.ensures in
+    let i = c.insert_at-leaf.ensures in
     let spot = c.spot_of-spot.result in
     let N : ℕ → List Run → List Run = λ k l. insert l (length (ahead (bare m1) k spot.leaf.index) + spot.entry) c.args.run in
-    let new = whole_runs c.insert_at.new.mem top.height top.root.index i.tree i.exact i.filled ∙ i.runs ∙ ap (N top.height) (sym (whole_runs m1 top.height top.root.index e.tree e.exact e.filled)) ∙ ap (λ k. N k (tree_runs m1 top.root.index)) (sym e.tree.top) in
-    subst (λ (l : List Run). IsPutAt l (tree_runs c.insert_at.new.mem top.root.index) c.args.at c.args.run) o.same
-    (puts m1 top.root.index o.tree spot.leaf.index spot.entry spot.offset c.args.at c.spot_of-spot.ensures.0 c.args.run (tree_runs c.insert_at.new.mem top.root.index) c.spot_of-spot.ensures.1 new)
+    let new = whole_runs c.insert_at-leaf.new.mem top.height top.root.index i.tree i.exact i.filled ∙ i.runs ∙ ap (N top.height) (sym (whole_runs m1 top.height top.root.index e.tree e.exact e.filled)) ∙ ap (λ k. N k (tree_runs m1 top.root.index)) (sym e.tree.top) in
+    subst (λ (l : List Run). IsPutAt l (tree_runs c.insert_at-leaf.new.mem top.root.index) c.args.at c.args.run) o.same
+    (puts m1 top.root.index o.tree spot.leaf.index spot.entry spot.offset c.args.at c.spot_of-spot.ensures.0 c.args.run (tree_runs c.insert_at-leaf.new.mem top.root.index) c.spot_of-spot.ensures.1 new)
 
 pub top_room-top-requires-clause-told : goal.top_room-top-requires-clause-told
 top_room-top-requires-clause-told c =
@@ -103,19 +103,19 @@ top_room-top-requires-clause-short c =
     let same = ap length (ap (λ k. runs (bare m) k r) c.level_of-height.ensures ∙ runs-bare m (level_of m r) r) in
     omega (arith, same, c.requires.short)
 
-pub insert_at-requires-clause-told : goal.insert_at-requires-clause-told
-insert_at-requires-clause-told c = c.top_room-top.ensures.told
+pub insert_at-leaf-requires-clause-told : goal.insert_at-leaf-requires-clause-told
+insert_at-leaf-requires-clause-told c = c.top_room-top.ensures.told
 
-pub insert_at-requires-clause-short : goal.insert_at-requires-clause-short
-insert_at-requires-clause-short c =
+pub insert_at-leaf-requires-clause-short : goal.insert_at-leaf-requires-clause-short
+insert_at-leaf-requires-clause-short c =
     let m = c.args.mem.now in let r = c.args.root.index in
     let same = ap length (c.top_room-top.ensures.runs ∙ ap (λ k. runs (bare m) k r) c.level_of-height.ensures ∙ runs-bare m (level_of m r) r) in
     omega (arith, same, c.requires.short)
 
 pub returns-clause-told : goal.returns-clause-told
 returns-clause-told c =
-    let e = c.insert_at.ensures in let top = c.top_room-top.result in
-    subst (AreTold c.args.states.now c.insert_at.new.mem c.insert_at.new.sums) (sym (whole_runs c.insert_at.new.mem top.height top.root.index e.tree e.exact e.filled)) e.told
+    let e = c.insert_at-leaf.ensures in let top = c.top_room-top.result in
+    subst (AreTold c.args.states.now c.insert_at-leaf.new.mem c.insert_at-leaf.new.sums) (sym (whole_runs c.insert_at-leaf.new.mem top.height top.root.index e.tree e.exact e.filled)) e.told
 
 pub returns-clause-tags : goal.returns-clause-tags
-returns-clause-tags c = c.insert_at.ensures.tags ∙ c.top_room-top.ensures.tags
+returns-clause-tags c = c.insert_at-leaf.ensures.tags ∙ c.top_room-top.ensures.tags

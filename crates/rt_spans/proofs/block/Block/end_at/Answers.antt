@@ -38,3 +38,7 @@ returns-else-is_before-clause-ends g c =
     let until = c.has_until.ensures.until c.if-not-has_until.false c.index.result.now in
     let here = ap (λ (v : Entry g.row.V.Denot). key v) c.index.ensures in
     ends_there first _ self.head self.rest.items c.args.place c.index.result.now near (omega (arith, within)) c.index.ensures (omega (arith, until, here, more_when _ _ _ c.is_before.ensures c.if-is_before.false))
+
+pub returns-then-not-has_until-clause-kept : goal.returns-then-not-has_until-clause-kept
+returns-then-not-has_until-clause-kept g c =
+    λ at. absurd (omega (arith, c.has_until.ensures.later c.if-not-has_until.true c.entry_before.result (omega (arith, at.0)), at.1 c.entry_before.result))

@@ -17,7 +17,7 @@ pub overflow_add-self-inside : goal.overflow_add-self-inside
 overflow_add-self-inside c =
     let s = c.self.inside in let k = c.self.invariant.0 in
     let r = runs_few s.text.items (tree_runs s.mem s.root.index) k.kept in
-    let low = c.if-cells-len.false in
+    let low = c.if-cells-left.false in
     omega (arith, r, low, k.counted, k.few)
 
 pub invariant_of-self-2 : goal.invariant_of-self-2
@@ -27,21 +27,21 @@ invariant_of-self-2 c =
     let e = c.in_ok-reserve-4.ensures.room in
     let text = c.in_ok-reserve-2.ensures.items in
     let holds = c.in_ok-reserve-2.ensures.ok in
-    let low = c.if-cells-len.false in
+    let low = c.if-cells-left.false in
     let len = ap length text in
     let leaves = c.reserve.new.self.leaves in
     let spans = c.in_ok-reserve.ensures.ok in let all = c.spans_for.ensures in
     let a = s.text.ok.0 in
     let b = c.reserve-2.new.self.ok.0 in
-    let ask : c.in_ok-runs.runs ≡ s.runs + c.max-cells.result + c.max-cuts.result = (subst (λ (o : Option ℕ). SomeIff o (s.runs + c.max-cells.result + c.max-cuts.result < 2 ^ 64) (s.runs + c.max-cells.result + c.max-cuts.result)) c.in_ok-runs.ensures.ok_part c.checked_add.ensures).1 in
-    let room : Room = record { cells = c.max-cells.result; cuts = c.max-cuts.result; tags = c.max-tags.result } in
+    let ask : c.in_ok-runs.runs ≡ s.runs + c.ahead-cells.result + c.ahead-cuts.result = (subst (λ (o : Option ℕ). SomeIff o (s.runs + c.ahead-cells.result + c.ahead-cuts.result < 2 ^ 64) (s.runs + c.ahead-cells.result + c.ahead-cuts.result)) c.in_ok-runs.ensures.ok_part c.checked_add.ensures).1 in
+    let room : Room = record { cells = c.ahead-cells.result; cuts = c.ahead-cuts.result; tags = c.max-tags.result } in
     let sums = c.reserve-3.new.self in
     let got = c.in_ok-reserve-3.ensures in
     let same = ap (λ (t : List ℕ). shown c.reserve-4.new.self root t sums.each.items room) text ∙ room_shown m _ root s.text.items sums.each.items room c.reserve-4.new.self e in
-    let nodes = room_nodes m root s.runs c.max-cells.result c.max-cuts.result c.saturating_sub.result c.reserve-4.new.self e k.counted (omega (arith, ask, c.saturating_sub.ensures, c.nodes.ensures)) in (
+    let nodes = room_nodes m root s.runs c.ahead-cells.result c.ahead-cuts.result c.saturating_sub.result c.reserve-4.new.self e k.counted (omega (arith, ask, c.saturating_sub.ensures, c.nodes.ensures)) in (
       subst (λ t. IsKept c.reserve-4.new.self root t s.runs) (sym text) (room_kept m _ root s.text.items s.runs c.reserve-4.new.self e k),
       (
-        record { nodes = nodes; holds = omega (arith, holds, b); few = omega (arith, len, a, low, c.len.ensures) },
+        record { nodes = nodes; holds = omega (arith, holds, b); few = omega (arith, len, a, low, c.len-left.ensures) },
         (
           subst (AreUpTo s.newest) (sym (ap (λ (v : Shown). v.cells) same)) c.self.invariant.1.1.0,
           (
@@ -74,7 +74,7 @@ now_shown m n root text text' sums sums' room m' same is many tells =
 pub returns-clause-same : goal.returns-clause-same
 returns-clause-same c =
     let s = c.self.inside in
-    let room : Room = record { cells = c.max-cells.result; cuts = c.max-cuts.result; tags = c.max-tags.result } in
+    let room : Room = record { cells = c.ahead-cells.result; cuts = c.ahead-cuts.result; tags = c.max-tags.result } in
     let h = c.self.invariant.1.1.1.1.1.many in
     now_shown s.mem _ s.root.index s.text.items _ s.sums.each.items c.reserve-3.new.self.each.items room c.reserve-4.new.self c.in_ok-reserve-2.ensures.items c.in_ok-reserve-4.ensures.room (omega (arith, h)) c.in_ok-reserve-3.ensures.same
     ∙ ap (λ (v : Shown). record v { room = room }) c.self.view_is

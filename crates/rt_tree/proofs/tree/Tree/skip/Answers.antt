@@ -3,9 +3,10 @@ use Rattle.std.specs.Prelude.{take_while}
 use Rattle.rt_stamps.specs.Stamps.{is_before}
 use Rattle.rt_store.specs.declared.cell.Cell.{Cell}
 use Rattle.rt_tree.specs.Shape.{tree_runs}
+use Rattle.rt_tree.specs.Sharing.{AreUpTo}
 use Rattle.rt_tree.specs.Trees.{Shown}
 use Rattle.rt_tree.proofs.Kept.{shows}
-use Rattle.rt_tree.proofs.Skipping.{have_cells, high_is, low_is, skip_is, skip_none}
+use Rattle.rt_tree.proofs.Skipping.{have_cells, high_is, low_is, skip_is, skip_newest, skip_none}
 use Rattle.rt_tree.proofs.tree.Tree.skip.Goals as goal
 
 pub overflow_add-position : goal.overflow_add-position
@@ -25,6 +26,12 @@ passed-requires-clause-some c = let s = c.self.inside in have_cells s.text.items
 
 pub passed-requires-clause-few : goal.passed-requires-clause-few
 passed-requires-clause-few c = omega (arith, c.self.invariant.0.few)
+
+pub returns-then-new-self : goal.returns-then-new-self
+returns-then-new-self c =
+    let s = c.self.inside in
+    let upto = subst (AreUpTo s.newest) (ap (λ (x : Shown). x.cells) c.self.view_is) c.self.invariant.1.1.0 in
+    skip_newest c.args.new s.newest c.args.self.now.cells c.args.position (omega (arith, c.if-new-self.true)) upto c.requires
 
 pub returns-then-is_low : goal.returns-then-is_low
 returns-then-is_low c = skip_none c.args.new c.args.self.now.cells c.args.position c.nth-cell.result c.nth-cell.ensures (low_is (is_before c.args.new c.nth-cell.result.stamp) (sym c.is_low.ensures ∙ c.if-is_low.true))
