@@ -15,11 +15,11 @@ ghost use Rattle.rt_views.specs.Stretches.{shown_part};
 
 use super::Doc;
 use crate::Widget;
-use crate::moving::{move_back, unselect_last};
+use crate::inserting::{insert_all, select_all};
+use crate::moving::{leave_all, unselect_last};
 use crate::neighbours::{left_of, shown_at, shown_before, stamp_or_root};
-use crate::others::{insert_each, leave_each};
 use crate::parts::Parts;
-use crate::preparing::{list_tags, make_room, select_between};
+use crate::preparing::{list_tags, make_room};
 use rt_edits::drafting::planned_deletion;
 use rt_edits::inserting::{Plan, planned_between};
 use rt_edits::{Piece, Range};
@@ -94,11 +94,13 @@ impl<S: TextStore> Doc<S> {
         let at = widget.limits().stretch(store).begin + place;
         make_room(&mut self.tags, &mut widget.parts.selection, others, &plan)?;
         let _made = self.replica.make(plan.drafts)?;
-        self.marks.inserted(at, plan.characters);
-        widget.parts.selection.add(&plan.selected);
-        widget.inserted(at, plan.characters);
-        select_between(others, &plan.between);
-        insert_each(others, at, plan.characters);
+        select_all(
+            &mut widget.parts.selection,
+            others,
+            &plan.selected,
+            &plan.between,
+        );
+        insert_all(&mut self.marks, widget, others, at, plan.characters);
         list_tags(&mut self.tags, &plan.names);
         Ok(())
     }
@@ -126,9 +128,7 @@ impl<S: TextStore> Doc<S> {
         let last = store.cell_at(stretch.end - 1).stamp;
         let deletion = planned_deletion(self.alloc, store, states, stretch, ranges)?;
         let _made = self.replica.make(deletion.drafts)?;
-        move_back(&mut self.marks, &deletion.removed);
-        widget.leave(&deletion.removed);
-        leave_each(others, &deletion.removed);
+        leave_all(&mut self.marks, widget, others, &deletion.removed);
         unselect_last(deletion.held, last, widget, others);
         Ok(())
     }

@@ -14,11 +14,11 @@ ghost use Rattle.std.specs.List.{AllByRecursion};
 
 use super::Doc;
 use crate::Widget;
-use crate::moving::{move_back, unselect};
+use crate::inserting::{insert_all, select_all};
+use crate::moving::{leave_all, unselect};
 use crate::neighbours::{shown_after, shown_before, stamp_or_root};
-use crate::others::{insert_each, leave_each};
 use crate::parts::Parts;
-use crate::preparing::{list_tags, make_room, select_between};
+use crate::preparing::{list_tags, make_room};
 use crate::staying::{left_after, place_after};
 use rt_edits::drafting::planned_deletion;
 use rt_edits::inserting::{Plan, planned_between};
@@ -143,14 +143,14 @@ impl<S: TextStore> Doc<S> {
         make_room(&mut self.tags, &mut widget.parts.selection, others, &plan)?;
         let _made = self.replica.make(planned.drafts)?;
         unselect(planned.held, last, &mut widget.parts.selection, others);
-        widget.parts.selection.add(&plan.selected);
-        select_between(others, &plan.between);
-        move_back(&mut self.marks, &planned.removed);
-        widget.leave(&planned.removed);
-        leave_each(others, &planned.removed);
-        self.marks.inserted(at, plan.characters);
-        widget.inserted(at, plan.characters);
-        insert_each(others, at, plan.characters);
+        select_all(
+            &mut widget.parts.selection,
+            others,
+            &plan.selected,
+            &plan.between,
+        );
+        leave_all(&mut self.marks, widget, others, &planned.removed);
+        insert_all(&mut self.marks, widget, others, at, plan.characters);
         list_tags(&mut self.tags, &plan.names);
         Ok(())
     }

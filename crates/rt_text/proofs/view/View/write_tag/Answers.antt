@@ -1,7 +1,7 @@
-use Rattle.std.proofs.Common.{◌≡◌, ℕ, ◌≤◌, ◌∙◌, All, Some, ap, arith, false, inl, inr, length, map, subst, sym, true}
+use Rattle.std.proofs.Common.{◌≡◌, ℕ, ◌≤◌, ◌∙◌, All, Some, ap, arith, false, inl, inr, length, map, subst, sym, true, refl}
 use Rattle.std.specs.List.{AllByRecursion}
 use Rattle.std.specs.Str.{bytes_eq}
-use Rattle.std.proofs.lemmas.Result.{IfErr-weaker, on_ok_weaker}
+use Rattle.std.proofs.lemmas.Result.{IfErr-weaker, on_ok_weaker, err_from_is_err_and}
 use Rattle.rt_stamps.specs.declared.limits.TheConstants.{GREATEST_COUNT}
 use Rattle.rt_rga.proofs.Requests.{greatest_bound}
 use Rattle.rt_store.specs.Cells.{text_of, visible_of}
@@ -22,6 +22,11 @@ use Rattle.rt_text.proofs.LimitedDeletions.{stretch_kept}
 use Rattle.rt_text.proofs.LimitedTags.{places_are, stamps_kept, tag_own, tag_shared, up_to_end}
 use Rattle.rt_text.proofs.ViewLaws.{viewed}
 use Rattle.rt_text.proofs.view.View.write_tag.Goals as goal
+
+pub returns-in_err-ranges : goal.returns-in_err-ranges
+returns-in_err-ranges g c =
+    let p = err_from_is_err_and c.from_residual.result c.from_residual.ensures.1 in
+    rw (p.1, p.2) (record { ok = tt; err = inl c.in_err-ranges.ensures.err; unchanged = refl })
 
 pub select-requires-clause-within : goal.select-requires-clause-within
 select-requires-clause-within g c =
