@@ -17,7 +17,7 @@ use Rattle.rt_edits.specs.declared.range.Range.{Range}
 use Rattle.rt_edits.specs.Deletions.{Loss, delete_drafts, loss_in, without_text}
 use Rattle.rt_edits.specs.Flat.{Flat, logged}
 use Rattle.rt_edits.specs.Listed.{AreListed}
-use Rattle.rt_edits.specs.Removals.{is_covered}
+use Rattle.rt_edits.specs.Removals.{is_covered, AreInOrder}
 use Rattle.rt_text.specs.Commands.{clock_check}
 use Rattle.rt_text.specs.Parts.{own_in}
 use Rattle.rt_stamps.specs.declared.stamp.Stamp.{Stamp}
@@ -34,6 +34,21 @@ use Rattle.rt_text.proofs.doc.Doc.delete_in.Goals as goal
 which : {F X : Type 0} {r checked : X} {fault memory : F} {some none : X} → (r ≡ some) ⊎ ((fault ≡ memory) × (r ≡ none)) → r ≡ checked → (fault ≡ memory) ⊎ (checked ≡ some)
 which (inl e) s = inr (sym s ∙ e)
 which (inr p) s = inl p.0
+
+pub leave_all-requires : goal.leave_all-requires
+leave_all-requires g c = subst (AreInOrder 0) (sym c.deref.ensures.value) c.in_ok-deletion.ensures.order
+
+pub returns-clause-err : goal.returns-clause-err
+returns-clause-err g c = tt
+
+pub returns-clause-unchanged : goal.returns-clause-unchanged
+returns-clause-unchanged g c = tt
+
+pub planned_deletion-requires-clause-distinct : goal.planned_deletion-requires-clause-distinct
+planned_deletion-requires-clause-distinct g c = c.kept.ensures.distinct
+
+pub planned_deletion-requires-clause-states : goal.planned_deletion-requires-clause-states
+planned_deletion-requires-clause-states g c = c.kept.ensures.states
 
 pub make-requires : goal.make-requires
 make-requires g c =

@@ -26,6 +26,12 @@ use Rattle.rt_text.proofs.MadeDocument.{document_written, seen}
 use Rattle.rt_text.proofs.TaggedDocument.{deleted_makes, fits, kept_beside, left_of_deletion, makes_seen, of_site, refuses}
 use Rattle.rt_text.proofs.doc.Doc.delete_tags.Goals as goal
 
+pub returns-clause-err : goal.returns-clause-err
+returns-clause-err g c = tt
+
+pub returns-clause-unchanged : goal.returns-clause-unchanged
+returns-clause-unchanged g c = tt
+
 pub make-requires : goal.make-requires
 make-requires g c =
     let old = c.args.self.now in

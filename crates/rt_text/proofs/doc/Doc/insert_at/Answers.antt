@@ -45,9 +45,9 @@ use Rattle.rt_text.proofs.PutLaws.{late_checks, visible_same}
 use Rattle.rt_text.proofs.ViewLaws.{viewed}
 use Rattle.rt_text.proofs.doc.Doc.insert_at.Goals as goal
 
-which : {F X : Type 0} {r checked : X} {fault memory : F} {some none : X} → (r ≡ some) ⊎ ((fault ≡ memory) × (r ≡ none)) → r ≡ checked → (fault ≡ memory) ⊎ (checked ≡ some)
-which (inl e) s = inr (sym s ∙ e)
-which (inr p) s = inl p.0
+which : {X M : Type 0} {r checked some : X} → M ⊎ (r ≡ some) → r ≡ checked → M ⊎ (checked ≡ some)
+which (inl e) s = inl e
+which (inr e) s = inr (sym s ∙ e)
 
 place_is : (flat : Flat) (own : Own) (others : List Own) (place : ℕ) → IsHistory flat.log → IsDocument flat.site flat.log flat → 0 < flat.site → place < length (shown_part flat.cells own.limits) → IsPlace flat own others place
 place_is flat own others place h doc real l = record {
@@ -96,8 +96,8 @@ overflow_add-at g c =
     (at_is table kept flat own others place c.limits.result c.stretch.result c.kept.ensures.cells c.limits.ensures c.stretch.ensures.value)
     (at_visible flat own others place is) (visible_same table kept flat.cells c.kept.ensures.cells) (length_text kept) (text_within kept) c.kept.ensures.few c.kept.ensures.most
 
-pub make_room-requires : goal.make_room-requires
-make_room-requires g c =
+pub make_planned-requires-clause-names : goal.make_planned-requires-clause-names
+make_planned-requires-clause-names g c =
     let flat = c.args.self.now in
     let own = c.args.widget.now in
     let others = map own_in c.args.others.now in
@@ -110,29 +110,8 @@ make_room-requires g c =
     let listed : AreListed flat.tags flat.cells = subst (λ (f : Flat). AreListed f.tags f.cells) c.self.view_is c.self.invariant.listed in
     names_given flat own others place pieces rest is c.in_ok-plan.plan plans c.requires.pieces listed
 
-pub invariant_of-self : goal.invariant_of-self
-invariant_of-self g c = subst (IsDoc c.self.inside.replica.cells c.self.inside.marks) (sym c.make_room.ensures.tags) c.self.invariant
-
-pub returns-in_err-make_room : goal.returns-in_err-make_room
-returns-in_err-make_room g c =
-    let (y, is, gives) = err_from_is_err_and c.from_residual-in_err-make_room.result c.from_residual-in_err-make_room.ensures.1 in
-    let own_now : Own = own_in c.widget.inside.parts in
-    let doc : seen c.self.inside.replica c.self.inside.marks c.make_room.new.tags.names ≡ c.args.self.now =
-    ap (seen c.self.inside.replica c.self.inside.marks) c.make_room.ensures.tags ∙ c.self.view_is in
-    let own : record own_now { sel = stamps_in c.make_room.new.selection } ≡ c.args.widget.now =
-    ap (λ (s : List Stamp). record own_now { sel = s }) c.make_room.ensures.selection ∙ c.widget.view_is in
-    let others : map own_in c.make_room.new.others ≡ map own_in c.args.others.now = c.make_room.ensures.others in
-    rw (is, gives) (record {
-      ok = tt;
-      checked = tt;
-      err = inl c.in_err-make_room.ensures.err;
-      unchanged = (doc, own, others);
-      own = subst (λ (p : _). p) (λ i. IsOwnOf (length (text_of (sym doc i).cells)) (sym own i)) c.requires.own;
-      others = subst (λ (p : _). p) (λ i. AllByRecursion (IsOwnOf (length (text_of (sym doc i).cells))) (sym others i)) c.requires.others;
-    })
-
-pub make-requires : goal.make-requires
-make-requires g c =
+pub make_planned-requires-clause-may : goal.make_planned-requires-clause-may
+make_planned-requires-clause-may g c =
     let flat = c.args.self.now in
     let own = c.args.widget.now in
     let others = map own_in c.args.others.now in
@@ -140,18 +119,18 @@ make-requires g c =
     let rest = c.args.rest.now in
     let place = c.args.place in
     let is = place_is flat own others place c.kept.ensures.history c.kept.ensures.document c.kept.ensures.site c.requires.place in
-    let drafts : map body_of c.in_ok-plan.plan.drafts.items ≡ made_drafts flat own others place pieces rest =
-    c.in_ok-plan.ensures.drafts others in
+    let drafts : map body_of c.replace-drafts.result.items ≡ made_drafts flat own others place pieces rest =
+    ap (λ v. map body_of v.items) c.replace-drafts.ensures.value ∙ c.in_ok-plan.ensures.drafts others in
     let may : MayBeMade flat.site flat.log (made_drafts flat own others place pieces rest) =
     may_make flat own others place pieces rest is c.requires.pieces c.utf8.rest in
     subst (λ (p : _). p) (λ i. MayBeMade (sym c.self.view_is i).site (sym c.self.view_is i).log (sym drafts i)) may
 
-pub invariant_of-self-in_err-_made : goal.invariant_of-self-in_err-_made
-invariant_of-self-in_err-_made g c =
-    subst (λ (p : _). p) (λ k. IsDoc (sym c.in_err-_made.ensures.same k).cells c.self.inside.marks (sym c.make_room.ensures.tags k)) c.self.invariant
+pub invariant_of-self : goal.invariant_of-self
+invariant_of-self g c =
+    subst (λ (p : _). p) (λ k. IsDoc (sym c.in_err-make_planned.ensures.same k).cells c.self.inside.marks (sym c.make_planned.ensures.tags k)) c.self.invariant
 
-pub returns-in_err-_made : goal.returns-in_err-_made
-returns-in_err-_made g c =
+pub returns-in_err-make_planned : goal.returns-in_err-make_planned
+returns-in_err-make_planned g c =
     let flat = c.args.self.now in
     let own = c.args.widget.now in
     let others = map own_in c.args.others.now in
@@ -159,21 +138,21 @@ returns-in_err-_made g c =
     let rest = c.args.rest.now in
     let place = c.args.place in
     let is = place_is flat own others place c.kept.ensures.history c.kept.ensures.document c.kept.ensures.site c.requires.place in
-    let drafts : map body_of c.in_ok-plan.plan.drafts.items ≡ made_drafts flat own others place pieces rest =
-    c.in_ok-plan.ensures.drafts others in
-    let same : refusal_of c.self.inside.replica.limit (map body_of c.in_ok-plan.plan.drafts.items) c.self.inside.replica.log ≡ first_of (late_checks flat (with_pieces_at (viewed flat own others) place pieces rest)) =
+    let drafts : map body_of c.replace-drafts.result.items ≡ made_drafts flat own others place pieces rest =
+    ap (λ v. map body_of v.items) c.replace-drafts.ensures.value ∙ c.in_ok-plan.ensures.drafts others in
+    let same : refusal_of c.self.inside.replica.limit (map body_of c.replace-drafts.result.items) c.self.inside.replica.log ≡ first_of (late_checks flat (with_pieces_at (viewed flat own others) place pieces rest)) =
     (λ i. refusal_of (c.self.view_is i).limit (drafts i) (c.self.view_is i).log) ∙ refused_as flat own others place pieces rest is in
-    let (y, is, gives) = err_from_is_err_and c.from_residual-in_err-_made.result c.from_residual-in_err-_made.ensures.1 in
+    let (y, is, gives) = err_from_is_err_and c.from_residual-in_err-make_planned.result c.from_residual-in_err-make_planned.ensures.1 in
     let own_now : Own = own_in c.widget.inside.parts in
-    let doc : seen c.make.new.self c.self.inside.marks c.make_room.new.tags.names ≡ c.args.self.now =
-    (λ k. seen (c.in_err-_made.ensures.same k) c.self.inside.marks (c.make_room.ensures.tags k)) ∙ c.self.view_is in
-    let own_same : record own_now { sel = stamps_in c.make_room.new.selection } ≡ c.args.widget.now =
-    ap (λ (s : List Stamp). record own_now { sel = s }) c.make_room.ensures.selection ∙ c.widget.view_is in
-    let others_same : map own_in c.make_room.new.others ≡ map own_in c.args.others.now = c.make_room.ensures.others in
+    let doc : seen c.make_planned.new.replica c.self.inside.marks c.make_planned.new.tags.names ≡ c.args.self.now =
+    (λ k. seen (c.in_err-make_planned.ensures.same k) c.self.inside.marks (c.make_planned.ensures.tags k)) ∙ c.self.view_is in
+    let own_same : record own_now { sel = stamps_in c.make_planned.new.selection } ≡ c.args.widget.now =
+    ap (λ (s : List Stamp). record own_now { sel = s }) c.make_planned.ensures.selection ∙ c.widget.view_is in
+    let others_same : map own_in c.make_planned.new.others ≡ map own_in c.args.others.now = c.make_planned.ensures.others in
     rw (is, gives) (record {
       ok = tt;
       checked = tt;
-      err = which c.in_err-_made.ensures.refused same;
+      err = which c.in_err-make_planned.ensures.refused same;
       unchanged = (doc, own_same, others_same);
       own = subst (λ (p : _). p) (λ k. IsOwnOf (length (text_of (sym doc k).cells)) (sym own_same k)) c.requires.own;
       others = subst (λ (p : _). p) (λ k. AllByRecursion (IsOwnOf (length (text_of (sym doc k).cells))) (sym others_same k)) c.requires.others;
@@ -188,18 +167,18 @@ insert_all-requires g c =
     let rest = c.args.rest.now in
     let place = c.args.place in
     let is = place_is flat own others place c.kept.ensures.history c.kept.ensures.document c.kept.ensures.site c.requires.place in
-    let drafts : map body_of c.in_ok-plan.plan.drafts.items ≡ made_drafts flat own others place pieces rest =
-    c.in_ok-plan.ensures.drafts others in
+    let drafts : map body_of c.replace-drafts.result.items ≡ made_drafts flat own others place pieces rest =
+    ap (λ v. map body_of v.items) c.replace-drafts.ensures.value ∙ c.in_ok-plan.ensures.drafts others in
     let plans : Plans c.in_ok-plan.plan own.sel (selections_of others) flat.tags (made_new flat own others place pieces rest) =
     c.in_ok-plan.ensures.plans others in
     let fit = all_fit flat own others place pieces rest is
-    (sym (λ i. refusal_of (c.self.view_is i).limit (drafts i) (c.self.view_is i).log) ∙ c.in_ok-_made.ensures.fits) in
+    (sym (λ i. refusal_of (c.self.view_is i).limit (drafts i) (c.self.view_is i).log) ∙ c.in_ok-make_planned.ensures.fits) in
     let characters : c.in_ok-plan.plan.characters ≡ length (made_new flat own others place pieces rest).cells = plans.characters in
     let many : length (text_of c.self.inside.replica.cells) ≡ length (text_of flat.cells) = ap (λ (f : Flat). length (text_of f.cells)) c.self.view_is in
     let few : length (text_of flat.cells) + c.in_ok-plan.plan.characters ≤ 2 ^ 64 - 1 =
     grown_fits (length (text_of flat.cells)) (length flat.cells) (length (made_new flat own others place pieces rest).cells) c.in_ok-plan.plan.characters flat.limit fit.1 characters (text_within flat.cells) c.kept.ensures.most in
     let between = c.in_ok-plan.plan.between in
-    let now : map own_in c.select_all.new.others ≡ map (selecting between) others = c.select_all.ensures.others ∙ ap (map (selecting between)) c.make_room.ensures.others in
+    let now : map own_in c.select_all.new.others ≡ map (selecting between) others = c.select_all.ensures.others ∙ ap (map (selecting between)) c.make_planned.ensures.others in
     let n = length (text_of flat.cells) in
     record {
       marks = site_fits (length (text_of c.self.inside.replica.cells)) c.in_ok-plan.plan.characters (2 ^ 64 - 1) c.self.inside.marks (subst (λ n. n + c.in_ok-plan.plan.characters ≤ 2 ^ 64 - 1) (sym many) few) c.self.invariant.placed;
@@ -237,22 +216,22 @@ invariant_of-self-2 g c =
     let here : at ≡ point =
     at_is c.kept.result.1.now (g.S.TextStore.list c.kept.result.0.now) flat own others place c.limits.result c.stretch.result c.kept.ensures.cells c.limits.ensures c.stretch.ensures.value in
     let is = place_is flat own others place c.kept.ensures.history c.kept.ensures.document c.kept.ensures.site c.requires.place in
-    let drafts : map body_of c.in_ok-plan.plan.drafts.items ≡ made_drafts flat own others place pieces rest =
-    c.in_ok-plan.ensures.drafts others in
+    let drafts : map body_of c.replace-drafts.result.items ≡ made_drafts flat own others place pieces rest =
+    ap (λ v. map body_of v.items) c.replace-drafts.ensures.value ∙ c.in_ok-plan.ensures.drafts others in
     let plans : Plans c.in_ok-plan.plan own.sel (selections_of others) flat.tags (made_new flat own others place pieces rest) =
     c.in_ok-plan.ensures.plans others in
     let fit = all_fit flat own others place pieces rest is
-    (sym (λ i. refusal_of (c.self.view_is i).limit (drafts i) (c.self.view_is i).log) ∙ c.in_ok-_made.ensures.fits) in
+    (sym (λ i. refusal_of (c.self.view_is i).limit (drafts i) (c.self.view_is i).log) ∙ c.in_ok-make_planned.ensures.fits) in
     let new = made_new flat own others place pieces rest in
     let edited = made_flat flat own others place pieces rest in
     let bodies = made_drafts flat own others place pieces rest in
-    let log : c.make.new.self.log ≡ with_drafts flat.site bodies flat.log = c.in_ok-_made.ensures.log ∙ (λ i. with_drafts (c.self.view_is i).site (drafts i) (c.self.view_is i).log) in
+    let log : c.make_planned.new.replica.log ≡ with_drafts flat.site bodies flat.log = c.in_ok-make_planned.ensures.log ∙ (λ i. with_drafts (c.self.view_is i).site (drafts i) (c.self.view_is i).log) in
     let made = made_is flat own others place pieces rest is c.requires.pieces c.utf8.rest fit.0 in
-    let doc : seen c.make.new.self edited.marks edited.tags ≡ logged flat bodies edited =
-    seen_made flat edited bodies c.make.new.self log c.in_ok-_made.ensures.cells (c.make.ensures.site ∙ ap (λ (f : Flat). f.site) c.self.view_is) (c.make.ensures.limit ∙ ap (λ (f : Flat). f.limit) c.self.view_is) refl made in
+    let doc : seen c.make_planned.new.replica edited.marks edited.tags ≡ logged flat bodies edited =
+    seen_made flat edited bodies c.make_planned.new.replica log c.in_ok-make_planned.ensures.cells (c.make_planned.ensures.site ∙ ap (λ (f : Flat). f.site) c.self.view_is) (c.make_planned.ensures.limit ∙ ap (λ (f : Flat). f.limit) c.self.view_is) refl made in
     let marks : c.insert_all.new.marks ≡ edited.marks = c.insert_all.ensures.marks ∙ (λ i. marks_inserted (here i) (plans.characters i) (c.self.view_is i).marks) in
     let tags : c.list_tags.new.table.names ≡ edited.tags =
-    c.list_tags.ensures ∙ (λ i. all_listed (map (λ w. string_bytes w) (c.deref-2.ensures.value i)) (c.make_room.ensures.tags i)) ∙ ap (λ (f : Flat). all_listed (map (λ w. string_bytes w) c.in_ok-plan.plan.names.items) f.tags) c.self.view_is ∙ plans.tags in
+    c.list_tags.ensures ∙ (λ i. all_listed (map (λ w. string_bytes w) (c.deref-2.ensures.value i)) (c.make_planned.ensures.tags i)) ∙ ap (λ (f : Flat). all_listed (map (λ w. string_bytes w) c.in_ok-plan.plan.names.items) f.tags) c.self.view_is ∙ plans.tags in
     let kept = kept_made flat own others place pieces rest is c.requires.pieces (subst (λ (f : Flat). IsDoc f.cells f.marks f.tags) c.self.view_is c.self.invariant) in
     subst (λ (p : _). p) (λ i. IsDoc (sym doc i).cells (sym marks i) (sym tags i)) kept
 
@@ -269,42 +248,42 @@ returns g c =
     let here : at ≡ point =
     at_is c.kept.result.1.now (g.S.TextStore.list c.kept.result.0.now) flat own others place c.limits.result c.stretch.result c.kept.ensures.cells c.limits.ensures c.stretch.ensures.value in
     let is = place_is flat own others place c.kept.ensures.history c.kept.ensures.document c.kept.ensures.site c.requires.place in
-    let drafts : map body_of c.in_ok-plan.plan.drafts.items ≡ made_drafts flat own others place pieces rest =
-    c.in_ok-plan.ensures.drafts others in
+    let drafts : map body_of c.replace-drafts.result.items ≡ made_drafts flat own others place pieces rest =
+    ap (λ v. map body_of v.items) c.replace-drafts.ensures.value ∙ c.in_ok-plan.ensures.drafts others in
     let plans : Plans c.in_ok-plan.plan own.sel (selections_of others) flat.tags (made_new flat own others place pieces rest) =
     c.in_ok-plan.ensures.plans others in
     let fit = all_fit flat own others place pieces rest is
-    (sym (λ i. refusal_of (c.self.view_is i).limit (drafts i) (c.self.view_is i).log) ∙ c.in_ok-_made.ensures.fits) in
+    (sym (λ i. refusal_of (c.self.view_is i).limit (drafts i) (c.self.view_is i).log) ∙ c.in_ok-make_planned.ensures.fits) in
     let listed : AreListed flat.tags flat.cells = subst (λ (f : Flat). AreListed f.tags f.cells) c.self.view_is c.self.invariant.listed in
     let new = made_new flat own others place pieces rest in
     let edited = made_flat flat own others place pieces rest in
     let bodies = made_drafts flat own others place pieces rest in
-    let log : c.make.new.self.log ≡ with_drafts flat.site bodies flat.log = c.in_ok-_made.ensures.log ∙ (λ i. with_drafts (c.self.view_is i).site (drafts i) (c.self.view_is i).log) in
+    let log : c.make_planned.new.replica.log ≡ with_drafts flat.site bodies flat.log = c.in_ok-make_planned.ensures.log ∙ (λ i. with_drafts (c.self.view_is i).site (drafts i) (c.self.view_is i).log) in
     let made = made_is flat own others place pieces rest is c.requires.pieces c.utf8.rest fit.0 in
-    let doc : seen c.make.new.self edited.marks edited.tags ≡ logged flat bodies edited =
-    seen_made flat edited bodies c.make.new.self log c.in_ok-_made.ensures.cells (c.make.ensures.site ∙ ap (λ (f : Flat). f.site) c.self.view_is) (c.make.ensures.limit ∙ ap (λ (f : Flat). f.limit) c.self.view_is) refl made in
+    let doc : seen c.make_planned.new.replica edited.marks edited.tags ≡ logged flat bodies edited =
+    seen_made flat edited bodies c.make_planned.new.replica log c.in_ok-make_planned.ensures.cells (c.make_planned.ensures.site ∙ ap (λ (f : Flat). f.site) c.self.view_is) (c.make_planned.ensures.limit ∙ ap (λ (f : Flat). f.limit) c.self.view_is) refl made in
     let marks : c.insert_all.new.marks ≡ edited.marks = c.insert_all.ensures.marks ∙ (λ i. marks_inserted (here i) (plans.characters i) (c.self.view_is i).marks) in
     let tags : c.list_tags.new.table.names ≡ edited.tags =
-    c.list_tags.ensures ∙ (λ i. all_listed (map (λ w. string_bytes w) (c.deref-2.ensures.value i)) (c.make_room.ensures.tags i)) ∙ ap (λ (f : Flat). all_listed (map (λ w. string_bytes w) c.in_ok-plan.plan.names.items) f.tags) c.self.view_is ∙ plans.tags in
+    c.list_tags.ensures ∙ (λ i. all_listed (map (λ w. string_bytes w) (c.deref-2.ensures.value i)) (c.make_planned.ensures.tags i)) ∙ ap (λ (f : Flat). all_listed (map (λ w. string_bytes w) c.in_ok-plan.plan.names.items) f.tags) c.self.view_is ∙ plans.tags in
     let sel : stamps_in c.widget.inside.parts.selection ≡ own.sel = ap (λ (o : Own). o.sel) c.widget.view_is in
     let own_now : Own = own_in c.widget.inside.parts in
     let stamps : stamps_in c.select_all.new.selection ≡ new.sel =
-    c.select_all.ensures.selection ∙ (λ i. with_stamps (c.deref.ensures.value i) (c.make_room.ensures.selection i)) ∙ ap (with_stamps c.in_ok-plan.plan.selected.items) sel ∙ plans.sel in
+    c.select_all.ensures.selection ∙ (λ i. with_stamps (c.deref.ensures.value i) (c.make_planned.ensures.selection i)) ∙ ap (with_stamps c.in_ok-plan.plan.selected.items) sel ∙ plans.sel in
     let own_after : c.insert_all.new.widget ≡ record (own_inserted point (length new.cells) own) { sel = new.sel } =
     c.insert_all.ensures.own
     ∙ (λ i. record { insert = mark_inserted (here i) (plans.characters i) own_now.insert; current = mark_inserted (here i) (plans.characters i) own_now.current; sel = stamps i; limits = own_now.limits })
     ∙ ap (λ (o : Own). record (own_inserted point (length new.cells) o) { sel = new.sel }) c.widget.view_is in
     let others_after : map own_in c.insert_all.new.others ≡ with_selections new.others (map (own_inserted point (length new.cells)) others) =
-    c.insert_all.ensures.others ∙ ap (map (own_inserted at c.in_ok-plan.plan.characters)) (c.select_all.ensures.others ∙ ap (map (selecting c.in_ok-plan.plan.between)) c.make_room.ensures.others)
+    c.insert_all.ensures.others ∙ ap (map (own_inserted at c.in_ok-plan.plan.characters)) (c.select_all.ensures.others ∙ ap (map (selecting c.in_ok-plan.plan.between)) c.make_planned.ensures.others)
     ∙ (λ i. map (own_inserted (here i) (plans.characters i)) (map (selecting c.in_ok-plan.plan.between) others)) ∙ put_each point (length new.cells) c.in_ok-plan.plan.between others
     ∙ ap (λ l. with_selections l (map (own_inserted point (length new.cells)) others)) plans.others in
     record {
-      ok = (λ i. record { doc = seen c.make.new.self (marks i) (tags i); own = own_after i; others = others_after i })
+      ok = (λ i. record { doc = seen c.make_planned.new.replica (marks i) (tags i); own = own_after i; others = others_after i })
           ∙ ap (λ (f : Flat). record { doc = f; own = record (own_inserted point (length new.cells) own) { sel = new.sel }; others = with_selections new.others (map (own_inserted point (length new.cells)) others) }) doc
           ∙ sym (put_made flat own others place pieces rest);
       checked = (λ i. first_of (late_checks flat (record { doc = doc i; own = own; others = others })))
           ∙ sym (refused_made flat own others place pieces rest is)
-          ∙ sym (λ i. refusal_of (c.self.view_is i).limit (drafts i) (c.self.view_is i).log) ∙ c.in_ok-_made.ensures.fits;
+          ∙ sym (λ i. refusal_of (c.self.view_is i).limit (drafts i) (c.self.view_is i).log) ∙ c.in_ok-make_planned.ensures.fits;
       err = tt;
       unchanged = tt;
       own = subst (λ (p : _). p) (λ i. IsOwnOf (length (text_of (sym doc i).cells)) (sym own_after i)) (own_made flat own others place pieces rest is c.requires.pieces listed c.requires.own);
@@ -312,10 +291,10 @@ returns g c =
     }
 
 pub select_all-requires-clause-selected : goal.select_all-requires-clause-selected
-select_all-requires-clause-selected g c = subst (λ (l : List Stamp). length l ≤ room_in c.make_room.new.selection) (sym c.deref.ensures.value) c.in_ok-make_room.ensures.selects
+select_all-requires-clause-selected g c = subst (λ (l : List Stamp). length l ≤ room_in c.make_planned.new.selection) (sym c.deref.ensures.value) c.in_ok-make_planned.ensures.selects
 
 pub select_all-requires-clause-between : goal.select_all-requires-clause-between
-select_all-requires-clause-between g c = c.in_ok-make_room.ensures.between
+select_all-requires-clause-between g c = c.in_ok-make_planned.ensures.between
 
 pub list_tags-requires-clause-ready : goal.list_tags-requires-clause-ready
-list_tags-requires-clause-ready g c = subst (All (λ w. is_ready (string_bytes w) c.make_room.new.tags ≡ true)) (sym c.deref-2.ensures.value) c.in_ok-make_room.ensures.ready
+list_tags-requires-clause-ready g c = subst (All (λ w. is_ready (string_bytes w) c.make_planned.new.tags ≡ true)) (sym c.deref-2.ensures.value) c.in_ok-make_planned.ensures.ready

@@ -10,7 +10,7 @@ use Rattle.rt_tags.specs.States.{IsState}
 use Rattle.rt_edits.specs.Deletions.{Loss, without_text}
 use Rattle.rt_edits.specs.Flat.{Flat}
 use Rattle.rt_edits.specs.Insertions.{left_neighbour, right_neighbour}
-use Rattle.rt_edits.specs.Removals.{gone_at, is_covered}
+use Rattle.rt_edits.specs.Removals.{gone_at, is_covered, AreInOrder}
 use Rattle.rt_edits.specs.Selected.{stamps_in}
 use Rattle.rt_views.specs.Stretches.{stretch_of}
 use Rattle.rt_text.specs.Neighbours.{are_newlines, are_sides_shown, limit_left, pieces_text}
@@ -20,6 +20,24 @@ use Rattle.rt_text.proofs.LimitedDeletions.{loss_of}
 use Rattle.rt_text.proofs.PlannedReplacement.{IsBeside, IsKept, at_begin, at_flat, at_left, at_within, counted, counts_grow, drafts_are, few_visible, loss_is, none_held, plan_is, stretch_kept_within, too_great}
 use Rattle.rt_text.proofs.ViewLaws.{viewed}
 use Rattle.rt_text.proofs.doc.Doc.planned_replacement.Goals as goal
+
+pub planned_deletion-requires-clause-distinct : goal.planned_deletion-requires-clause-distinct
+planned_deletion-requires-clause-distinct g c = c.kept.ensures.distinct
+
+pub planned_deletion-requires-clause-states : goal.planned_deletion-requires-clause-states
+planned_deletion-requires-clause-states g c = c.kept.ensures.states
+
+pub left_after-behind-requires-clause-order : goal.left_after-behind-requires-clause-order
+left_after-behind-requires-clause-order g c = subst (AreInOrder 0) (sym c.deref-2.ensures.value) c.in_ok-deletion.ensures.order
+
+pub shown_after-right-requires-clause-order : goal.shown_after-right-requires-clause-order
+shown_after-right-requires-clause-order g c = subst (AreInOrder 0) (sym c.deref-3.ensures.value) c.in_ok-deletion.ensures.order
+
+pub place_after-last-requires : goal.place_after-last-requires
+place_after-last-requires g c = subst (AreInOrder 0) (sym c.deref.ensures.value) c.in_ok-deletion.ensures.order
+
+pub planned_between-requires-clause-count : goal.planned_between-requires-clause-count
+planned_between-requires-clause-count g c = c.in_ok-count.ensures.ok.1
 
 pub returns-in_err-deletion : goal.returns-in_err-deletion
 returns-in_err-deletion g c =
@@ -181,8 +199,8 @@ overflow_sub-at g c =
     let at = c.min-at.result in
     omega (arith, at_begin table kept flat own stretch is range removed places c.saturating_add.result c.place_after-last.result at c.saturating_add.ensures last c.min-at.ensures)
 
-pub overflow_sub-result : goal.overflow_sub-result
-overflow_sub-result g c =
+pub overflow_sub-both : goal.overflow_sub-both
+overflow_sub-both g c =
     let flat = c.args.self.now in
     let own = c.args.widget.now in
     let range = c.args.range in

@@ -49,9 +49,9 @@ use Rattle.rt_text.proofs.ViewLaws.{viewed}
 use Rattle.rt_text.proofs.doc.Doc.replace_in.Given.{Over}
 use Rattle.rt_text.proofs.doc.Doc.replace_in.Goals as goal
 
-which : {F X : Type 0} {r checked : X} {fault memory : F} {some none : X} → (r ≡ some) ⊎ ((fault ≡ memory) × (r ≡ none)) → r ≡ checked → (fault ≡ memory) ⊎ (checked ≡ some)
-which (inl e) s = inr (sym s ∙ e)
-which (inr p) s = inl p.0
+which : {X M : Type 0} {r checked some : X} → M ⊎ (r ≡ some) → r ≡ checked → M ⊎ (checked ≡ some)
+which (inl e) s = inl e
+which (inr e) s = inr (sym s ∙ e)
 
 -- counts that are too great are refused first
 spent : (flat : Flat) (edited : List Own → Viewed) (others : List Own) (fault : Fault) → (fault ≡ NoMemory) ⊎ ((fault ≡ ClockSpent) × ((o : List Own) → GREATEST_COUNT < (edited o).doc.count))
@@ -104,8 +104,8 @@ overflow_add-at g c =
     text_fits (c.stretch-stretch.result.begin + r.place) (point flat own others c.args.range r.place pieces rest i) (length (text_of flat.cells)) (length flat.cells) (length (map (shown c.kept.result.1.now) kept)) (length kept) flat.limit
     here (point_within flat own others c.args.range r.place pieces rest i) (text_within flat.cells) (ap length c.kept.ensures.cells) (length-map kept (shown c.kept.result.1.now)) c.kept.ensures.few c.kept.ensures.most
 
-pub make_room-requires : goal.make_room-requires
-make_room-requires g c =
+pub make_planned-requires-clause-names : goal.make_planned-requires-clause-names
+make_planned-requires-clause-names g c =
     let flat = c.args.self.now in
     let own = c.args.widget.now in
     let others = map own_in c.args.others.now in
@@ -125,29 +125,33 @@ make_room-requires g c =
     let kept : IsDoc flat.cells flat.marks flat.tags = subst (λ (f : Flat). IsDoc f.cells f.marks f.tags) c.self.view_is c.self.invariant in
     given_names flat own others c.args.range r.place pieces rest i r.plan plans.plan kept
 
+pub make_planned-requires-clause-may : goal.make_planned-requires-clause-may
+make_planned-requires-clause-may g c =
+    let flat = c.args.self.now in
+    let own = c.args.widget.now in
+    let others = map own_in c.args.others.now in
+    let pieces = c.args.pieces.now in
+    let rest = c.args.rest.now in
+    let r = c.in_ok-planned.planned in
+    let plans = c.in_ok-planned.ensures.plans others in
+    let drafts : map body_of c.replace-drafts.result.items ≡ map body_of r.drafts.items = ap (λ v. map body_of v.items) c.replace-drafts.ensures.value in
+    let i : IsReplacement flat own others c.args.range r.place pieces rest = record {
+      history = c.kept.ensures.history;
+      document = c.kept.ensures.document;
+      real = c.kept.ensures.site;
+      fits = c.in_ok-planned.ensures.fits;
+      at = plans.place;
+      texts = c.requires.pieces;
+      utf8 = c.utf8.rest;
+    } in
+    subst (λ (p : _). p) (λ k. MayBeMade (sym c.self.view_is k).site (sym c.self.view_is k).log (sym (drafts ∙ plans.drafts) k)) (all_may flat own others c.args.range r.place pieces rest i)
+
 pub invariant_of-self : goal.invariant_of-self
-invariant_of-self g c = subst (IsDoc c.self.inside.replica.cells c.self.inside.marks) (sym c.make_room.ensures.tags) c.self.invariant
+invariant_of-self g c =
+    subst (λ (p : _). p) (λ k. IsDoc (sym c.in_err-make_planned.ensures.same k).cells c.self.inside.marks (sym c.make_planned.ensures.tags k)) c.self.invariant
 
-pub returns-in_err-make_room : goal.returns-in_err-make_room
-returns-in_err-make_room g c =
-    let (y, is, gives) = err_from_is_err_and c.from_residual-in_err-make_room.result c.from_residual-in_err-make_room.ensures.1 in
-    let own_now : Own = own_in c.widget.inside.parts in
-    let doc : seen c.self.inside.replica c.self.inside.marks c.make_room.new.tags.names ≡ c.args.self.now =
-    ap (seen c.self.inside.replica c.self.inside.marks) c.make_room.ensures.tags ∙ c.self.view_is in
-    let own : record own_now { sel = stamps_in c.make_room.new.selection } ≡ c.args.widget.now =
-    ap (λ (s : List Stamp). record own_now { sel = s }) c.make_room.ensures.selection ∙ c.widget.view_is in
-    let others : map own_in c.make_room.new.others ≡ map own_in c.args.others.now = c.make_room.ensures.others in
-    rw (is, gives) (record {
-      ok = tt;
-      checked = tt;
-      err = inl c.in_err-make_room.ensures.err;
-      unchanged = (doc, own, others);
-      own = subst (λ (p : _). p) (λ i. IsOwnOf (length (text_of (sym doc i).cells)) (sym own i)) c.requires.own;
-      others = subst (λ (p : _). p) (λ i. AllByRecursion (IsOwnOf (length (text_of (sym doc i).cells))) (sym others i)) c.requires.others;
-    })
-
-pub make-requires : goal.make-requires
-make-requires g c =
+pub returns-in_err-make_planned : goal.returns-in_err-make_planned
+returns-in_err-make_planned g c =
     let flat = c.args.self.now in
     let own = c.args.widget.now in
     let others = map own_in c.args.others.now in
@@ -155,6 +159,7 @@ make-requires g c =
     let rest = c.args.rest.now in
     let r = c.in_ok-planned.planned in
     let plans = c.in_ok-planned.ensures.plans others in
+    let drafts : map body_of c.replace-drafts.result.items ≡ map body_of r.drafts.items = ap (λ v. map body_of v.items) c.replace-drafts.ensures.value in
     let i : IsReplacement flat own others c.args.range r.place pieces rest = record {
       history = c.kept.ensures.history;
       document = c.kept.ensures.document;
@@ -164,43 +169,19 @@ make-requires g c =
       texts = c.requires.pieces;
       utf8 = c.utf8.rest;
     } in
-    subst (λ (p : _). p) (λ k. MayBeMade (sym c.self.view_is k).site (sym c.self.view_is k).log (sym plans.drafts k)) (all_may flat own others c.args.range r.place pieces rest i)
-
-pub invariant_of-self-in_err-_made : goal.invariant_of-self-in_err-_made
-invariant_of-self-in_err-_made g c =
-    subst (λ (p : _). p) (λ k. IsDoc (sym c.in_err-_made.ensures.same k).cells c.self.inside.marks (sym c.make_room.ensures.tags k)) c.self.invariant
-
-pub returns-in_err-_made : goal.returns-in_err-_made
-returns-in_err-_made g c =
-    let flat = c.args.self.now in
-    let own = c.args.widget.now in
-    let others = map own_in c.args.others.now in
-    let pieces = c.args.pieces.now in
-    let rest = c.args.rest.now in
-    let r = c.in_ok-planned.planned in
-    let plans = c.in_ok-planned.ensures.plans others in
-    let i : IsReplacement flat own others c.args.range r.place pieces rest = record {
-      history = c.kept.ensures.history;
-      document = c.kept.ensures.document;
-      real = c.kept.ensures.site;
-      fits = c.in_ok-planned.ensures.fits;
-      at = plans.place;
-      texts = c.requires.pieces;
-      utf8 = c.utf8.rest;
-    } in
-    let same : refusal_of c.self.inside.replica.limit (map body_of r.drafts.items) c.self.inside.replica.log ≡ first_of (late_checks flat (with_range_replaced (viewed flat own others) c.args.range pieces rest)) =
-    (λ k. refusal_of (c.self.view_is k).limit (plans.drafts k) (c.self.view_is k).log) ∙ all_refused flat own others c.args.range r.place pieces rest i in
-    let (y, is, gives) = err_from_is_err_and c.from_residual-in_err-_made.result c.from_residual-in_err-_made.ensures.1 in
+    let same : refusal_of c.self.inside.replica.limit (map body_of c.replace-drafts.result.items) c.self.inside.replica.log ≡ first_of (late_checks flat (with_range_replaced (viewed flat own others) c.args.range pieces rest)) =
+    (λ k. refusal_of (c.self.view_is k).limit ((drafts ∙ plans.drafts) k) (c.self.view_is k).log) ∙ all_refused flat own others c.args.range r.place pieces rest i in
+    let (y, is, gives) = err_from_is_err_and c.from_residual-in_err-make_planned.result c.from_residual-in_err-make_planned.ensures.1 in
     let own_now : Own = own_in c.widget.inside.parts in
-    let doc : seen c.make.new.self c.self.inside.marks c.make_room.new.tags.names ≡ c.args.self.now =
-    (λ k. seen (c.in_err-_made.ensures.same k) c.self.inside.marks (c.make_room.ensures.tags k)) ∙ c.self.view_is in
-    let own_same : record own_now { sel = stamps_in c.make_room.new.selection } ≡ c.args.widget.now =
-    ap (λ (s : List Stamp). record own_now { sel = s }) c.make_room.ensures.selection ∙ c.widget.view_is in
-    let others_same : map own_in c.make_room.new.others ≡ map own_in c.args.others.now = c.make_room.ensures.others in
+    let doc : seen c.make_planned.new.replica c.self.inside.marks c.make_planned.new.tags.names ≡ c.args.self.now =
+    (λ k. seen (c.in_err-make_planned.ensures.same k) c.self.inside.marks (c.make_planned.ensures.tags k)) ∙ c.self.view_is in
+    let own_same : record own_now { sel = stamps_in c.make_planned.new.selection } ≡ c.args.widget.now =
+    ap (λ (s : List Stamp). record own_now { sel = s }) c.make_planned.ensures.selection ∙ c.widget.view_is in
+    let others_same : map own_in c.make_planned.new.others ≡ map own_in c.args.others.now = c.make_planned.ensures.others in
     rw (is, gives) (record {
       ok = tt;
       checked = tt;
-      err = which c.in_err-_made.ensures.refused same;
+      err = which c.in_err-make_planned.ensures.refused same;
       unchanged = (doc, own_same, others_same);
       own = subst (λ (p : _). p) (λ k. IsOwnOf (length (text_of (sym doc k).cells)) (sym own_same k)) c.requires.own;
       others = subst (λ (p : _). p) (λ k. AllByRecursion (IsOwnOf (length (text_of (sym doc k).cells))) (sym others_same k)) c.requires.others;
@@ -215,6 +196,7 @@ insert_all-requires g c =
     let rest = c.args.rest.now in
     let r = c.in_ok-planned.planned in
     let plans = c.in_ok-planned.ensures.plans others in
+    let drafts : map body_of c.replace-drafts.result.items ≡ map body_of r.drafts.items = ap (λ v. map body_of v.items) c.replace-drafts.ensures.value in
     let i : IsReplacement flat own others c.args.range r.place pieces rest = record {
       history = c.kept.ensures.history;
       document = c.kept.ensures.document;
@@ -224,7 +206,7 @@ insert_all-requires g c =
       texts = c.requires.pieces;
       utf8 = c.utf8.rest;
     } in
-    let none = sym (λ k. refusal_of (c.self.view_is k).limit (plans.drafts k) (c.self.view_is k).log) ∙ c.in_ok-_made.ensures.fits in
+    let none = sym (λ k. refusal_of (c.self.view_is k).limit ((drafts ∙ plans.drafts) k) (c.self.view_is k).log) ∙ c.in_ok-make_planned.ensures.fits in
     let left = left_by (viewed flat own others) c.args.range in
     let few : length (text_of left.doc.cells) + r.plan.characters ≤ 2 ^ 64 - 1 =
     subst (λ n. length (text_of left.doc.cells) + n ≤ 2 ^ 64 - 1) (sym plans.plan.characters) (characters_fit flat own others c.args.range r.place pieces rest i none c.kept.ensures.most) in
@@ -233,7 +215,7 @@ insert_all-requires g c =
     (c.stretch-stretch.ensures.value ∙ ap (stretch_of (g.S.TextStore.list c.kept.result.0.now)) c.limits.ensures) c.cell_at.ensures in
     let peers : map own_in c.leave_all.new.others ≡ map (selecting r.plan.between) left.others =
     c.leave_all.ensures.others ∙ ap (λ rs. map (own_left (is_covered rs)) (map own_in c.select_all.new.others)) c.deref-2.ensures.value
-    ∙ ap (map (own_left (is_covered r.removed.items))) (c.select_all.ensures.others ∙ ap (map (selecting r.plan.between)) (c.unselect.ensures.others ∙ ap (map (reselected (last_gone c.cell_at.result.stamp r.held))) c.make_room.ensures.others))
+    ∙ ap (map (own_left (is_covered r.removed.items))) (c.select_all.ensures.others ∙ ap (map (selecting r.plan.between)) (c.unselect.ensures.others ∙ ap (map (reselected (last_gone c.cell_at.result.stamp r.held))) c.make_planned.ensures.others))
     ∙ leave_last (is_covered r.removed.items) (last_gone c.cell_at.result.stamp r.held) r.plan.between others
     ∙ (λ k. map (selecting r.plan.between) (map (widget_left (λ p. c.in_ok-planned.ensures.removed p k) (newest k) (c.in_ok-planned.ensures.held k)) others)) in
     let n = length (text_of left.doc.cells) in
@@ -295,7 +277,7 @@ record Done (flat : Flat) (own : Own) (others : List Own) (range : Range) (place
       (map (own_inserted (point flat own others range place pieces rest is) (length (more_new flat own others range place pieces rest is).cells)) (left_by (viewed flat own others) range).others)
 
 done : (g : Over) (c : goal.After-drop-planned-2 g)
-    → Done c.args.self.now c.args.widget.now (map own_in c.args.others.now) c.args.range c.in_ok-planned.planned.place c.args.pieces.now c.args.rest.now c.make.new.self c.insert_all.new.marks c.list_tags.new.table.names
+    → Done c.args.self.now c.args.widget.now (map own_in c.args.others.now) c.args.range c.in_ok-planned.planned.place c.args.pieces.now c.args.rest.now c.make_planned.new.replica c.insert_all.new.marks c.list_tags.new.table.names
     c.insert_all.new.widget (map own_in c.insert_all.new.others)
 done g c =
     let flat = c.args.self.now in
@@ -305,6 +287,7 @@ done g c =
     let rest = c.args.rest.now in
     let r = c.in_ok-planned.planned in
     let plans = c.in_ok-planned.ensures.plans others in
+    let drafts : map body_of c.replace-drafts.result.items ≡ map body_of r.drafts.items = ap (λ v. map body_of v.items) c.replace-drafts.ensures.value in
     let i : IsReplacement flat own others c.args.range r.place pieces rest = record {
       history = c.kept.ensures.history;
       document = c.kept.ensures.document;
@@ -315,7 +298,7 @@ done g c =
       utf8 = c.utf8.rest;
     } in
     let kept : IsDoc flat.cells flat.marks flat.tags = subst (λ (f : Flat). IsDoc f.cells f.marks f.tags) c.self.view_is c.self.invariant in
-    let none = sym (λ k. refusal_of (c.self.view_is k).limit (plans.drafts k) (c.self.view_is k).log) ∙ c.in_ok-_made.ensures.fits in
+    let none = sym (λ k. refusal_of (c.self.view_is k).limit ((drafts ∙ plans.drafts) k) (c.self.view_is k).log) ∙ c.in_ok-make_planned.ensures.fits in
     let left = left_by (viewed flat own others) c.args.range in
     let moved : c.leave_all.new.marks ≡ left.doc.marks =
     c.leave_all.ensures.marks ∙ ap (λ l. marks_left (is_covered l) c.self.inside.marks) c.deref-2.ensures.value
@@ -335,14 +318,14 @@ done g c =
     ∙ point_is flat own others c.args.range r.place pieces rest i in
     let held = c.in_ok-planned.ensures.held in
     let stamps : stamps_in c.select_all.new.selection ≡ new.sel =
-    c.select_all.ensures.selection ∙ (λ k. with_stamps (c.deref.ensures.value k) (c.unselect.ensures.sel k)) ∙ ap (λ s. with_stamps selected (last_gone c.cell_at.result.stamp r.held s)) (c.make_room.ensures.selection ∙ sel)
+    c.select_all.ensures.selection ∙ (λ k. with_stamps (c.deref.ensures.value k) (c.unselect.ensures.sel k)) ∙ ap (λ s. with_stamps selected (last_gone c.cell_at.result.stamp r.held s)) (c.make_planned.ensures.selection ∙ sel)
     ∙ (λ k. with_stamps selected (last_gone (newest k) (held k) own.sel)) ∙ plans.plan.sel in
     let own_moved : c.leave_all.new.widget ≡ own_left (loss_at (viewed flat own others) c.args.range).places (record own { sel = new.sel }) =
     c.leave_all.ensures.own ∙ ap (λ rs. own_left (is_covered rs) (record own_now { sel = stamps_in c.select_all.new.selection })) c.deref-2.ensures.value
     ∙ (λ k. own_left (λ p. c.in_ok-planned.ensures.removed p k) (record (c.widget.view_is k) { sel = stamps k })) in
     let peers : map own_in c.leave_all.new.others ≡ map (selecting r.plan.between) left.others =
     c.leave_all.ensures.others ∙ ap (λ rs. map (own_left (is_covered rs)) (map own_in c.select_all.new.others)) c.deref-2.ensures.value
-    ∙ ap (map (own_left (is_covered r.removed.items))) (c.select_all.ensures.others ∙ ap (map (selecting r.plan.between)) (c.unselect.ensures.others ∙ ap (map (reselected (last_gone c.cell_at.result.stamp r.held))) c.make_room.ensures.others))
+    ∙ ap (map (own_left (is_covered r.removed.items))) (c.select_all.ensures.others ∙ ap (map (selecting r.plan.between)) (c.unselect.ensures.others ∙ ap (map (reselected (last_gone c.cell_at.result.stamp r.held))) c.make_planned.ensures.others))
     ∙ leave_last (is_covered r.removed.items) (last_gone c.cell_at.result.stamp r.held) r.plan.between others
     ∙ (λ k. map (selecting r.plan.between) (map (widget_left (λ p. c.in_ok-planned.ensures.removed p k) (newest k) (c.in_ok-planned.ensures.held k)) others)) in
     record {
@@ -350,11 +333,11 @@ done g c =
       kept = kept;
       none = none;
       marks_is = c.insert_all.ensures.marks ∙ (λ k. marks_inserted (here k) (plans.plan.characters k) (moved k));
-      tags_is = c.list_tags.ensures ∙ (λ k. all_listed (map (λ w. string_bytes w) (c.deref-3.ensures.value k)) (c.make_room.ensures.tags k)) ∙ ap (λ (f : Flat). all_listed names f.tags) c.self.view_is
+      tags_is = c.list_tags.ensures ∙ (λ k. all_listed (map (λ w. string_bytes w) (c.deref-3.ensures.value k)) (c.make_planned.ensures.tags k)) ∙ ap (λ (f : Flat). all_listed names f.tags) c.self.view_is
           ∙ ap (all_listed names) (sym (tags_left_are flat own others c.args.range r.place pieces rest i)) ∙ plans.plan.tags;
-      doc = replacement_seen flat own others c.args.range r.place pieces rest i c.make.new.self none
-          (c.in_ok-_made.ensures.log ∙ (λ k. with_drafts (c.self.view_is k).site (plans.drafts k) (c.self.view_is k).log)) c.in_ok-_made.ensures.cells
-          (c.make.ensures.site ∙ ap (λ (f : Flat). f.site) c.self.view_is) (c.make.ensures.limit ∙ ap (λ (f : Flat). f.limit) c.self.view_is);
+      doc = replacement_seen flat own others c.args.range r.place pieces rest i c.make_planned.new.replica none
+          (c.in_ok-make_planned.ensures.log ∙ (λ k. with_drafts (c.self.view_is k).site ((drafts ∙ plans.drafts) k) (c.self.view_is k).log)) c.in_ok-make_planned.ensures.cells
+          (c.make_planned.ensures.site ∙ ap (λ (f : Flat). f.site) c.self.view_is) (c.make_planned.ensures.limit ∙ ap (λ (f : Flat). f.limit) c.self.view_is);
       own_is = c.insert_all.ensures.own ∙ (λ k. own_inserted (here k) (plans.plan.characters k) (own_moved k));
       others_are = c.insert_all.ensures.others ∙ ap (map (own_inserted at r.plan.characters)) peers
           ∙ (λ k. map (own_inserted (here k) (plans.plan.characters k)) (map (selecting r.plan.between) left.others)) ∙ put_each place (length new.cells) r.plan.between left.others
@@ -382,18 +365,18 @@ more_room selected few old new same fits more = omega arith
 
 pub select_all-requires-clause-selected : goal.select_all-requires-clause-selected
 select_all-requires-clause-selected g c =
-    more_room c.deref.result.now (length c.in_ok-planned.planned.plan.selected.items) (room_in c.make_room.new.selection) (room_in c.unselect.new.selection)
-    (ap length c.deref.ensures.value) c.in_ok-make_room.ensures.selects c.unselect.ensures.room
+    more_room c.deref.result.now (length c.in_ok-planned.planned.plan.selected.items) (room_in c.make_planned.new.selection) (room_in c.unselect.new.selection)
+    (ap length c.deref.ensures.value) c.in_ok-make_planned.ensures.selects c.unselect.ensures.room
 
 pub select_all-requires-clause-between : goal.select_all-requires-clause-between
 select_all-requires-clause-between g c =
-    room_kept c.in_ok-planned.planned.held c.in_ok-planned.planned.plan.between c.make_room.new.others c.unselect.new.others c.in_ok-planned.ensures.alone c.unselect.ensures.kept c.in_ok-make_room.ensures.between
+    room_kept c.in_ok-planned.planned.held c.in_ok-planned.planned.plan.between c.make_planned.new.others c.unselect.new.others c.in_ok-planned.ensures.alone c.unselect.ensures.kept c.in_ok-make_planned.ensures.between
 
 pub leave_all-requires : goal.leave_all-requires
 leave_all-requires g c = subst (AreInOrder 0) (sym c.deref-2.ensures.value) c.in_ok-planned.ensures.order
 
 pub list_tags-requires-clause-ready : goal.list_tags-requires-clause-ready
-list_tags-requires-clause-ready g c = subst (All (λ w. is_ready (string_bytes w) c.make_room.new.tags ≡ true)) (sym c.deref-3.ensures.value) c.in_ok-make_room.ensures.ready
+list_tags-requires-clause-ready g c = subst (All (λ w. is_ready (string_bytes w) c.make_planned.new.tags ≡ true)) (sym c.deref-3.ensures.value) c.in_ok-make_planned.ensures.ready
 
 pub returns : goal.returns
 returns g c =
@@ -406,7 +389,7 @@ returns g c =
     let d = done g c in
     let new = more_new flat own others c.args.range place pieces rest d.is in
     record {
-      ok = (λ k. record { doc = seen c.make.new.self (d.marks_is k) (d.tags_is k); own = d.own_is k; others = d.others_are k })
+      ok = (λ k. record { doc = seen c.make_planned.new.replica (d.marks_is k) (d.tags_is k); own = d.own_is k; others = d.others_are k })
           ∙ ap (λ (f : Flat). record {
             doc = f;
             own = record (own_inserted (point flat own others c.args.range place pieces rest d.is) (length new.cells) (left_by (viewed flat own others) c.args.range).own) { sel = new.sel };

@@ -24,6 +24,15 @@ use Rattle.rt_text.proofs.MadeDocument.{clock_passed, seen}
 use Rattle.rt_text.proofs.TaggedDocument.{fits, kept_beside, makes_seen, of_site, refuses, tagged_at, tagged_makes}
 use Rattle.rt_text.proofs.doc.Doc.write_shared.Goals as goal
 
+pub returns-clause-err : goal.returns-clause-err
+returns-clause-err g c = tt
+
+pub returns-clause-unchanged : goal.returns-clause-unchanged
+returns-clause-unchanged g c = tt
+
+pub list_if-requires : goal.list_if-requires
+list_if-requires g c = record { name = c.requires.name; ready = c.in_ok-prepare_if.ensures.ready }
+
 pub planned_tag-requires-clause-within : goal.planned_tag-requires-clause-within
 planned_tag-requires-clause-within g c =
     subst (λ n. All (λ (range : Range). range.to ≤ n) c.args.ranges.now) (as_visible c.kept.result.1.now (g.S.TextStore.list c.kept.result.0.now) c.args.self.now c.kept.ensures.cells) c.requires.within
