@@ -4,7 +4,7 @@ use Rattle.rt_oplog.specs.Edits.{body_of}
 use Rattle.rt_oplog.specs.Logs.{with_operation}
 use Rattle.rt_rga.specs.Answers.{New, answer_within}
 use Rattle.rt_rga.specs.Histories.{IsHistory}
-use Rattle.rt_rga.specs.Taken.{lists_of}
+use Rattle.rt_rga.specs.Taken.{lists_of, told}
 use Rattle.rt_tags.specs.States.{name_at}
 use Rattle.rt_tags.specs.Tags.{IsName, is_ready}
 use Rattle.rt_edits.specs.Flat.{Flat}
@@ -19,6 +19,15 @@ use Rattle.rt_text.proofs.doc.Doc.accept.Goals as goal
 either : {A B C D : Type 0} → (A → C) → (B → D) → A ⊎ B → C ⊎ D
 either f h (inl a) = inl (f a)
 either f h (inr b) = inr (h b)
+
+pub returns-in-New-clause-refused : goal.returns-in-New-clause-refused
+returns-in-New-clause-refused g c = tt
+
+pub returns-in-New-clause-unchanged : goal.returns-in-New-clause-unchanged
+returns-in-New-clause-unchanged g c = tt
+
+pub returns-in-New-clause-answer : goal.returns-in-New-clause-answer
+returns-in-New-clause-answer g c = sym (ap (λ (f : Flat). answer_of f c.args.op) c.self.view_is) ∙ c.in_ok-taken.ensures.answer ∙ ap told c.in-New.is
 
 pub invariant_of-self : goal.invariant_of-self
 invariant_of-self g c = subst (IsDoc c.self.inside.replica.cells c.self.inside.marks) (sym c.prepare_lists.ensures.names) c.self.invariant

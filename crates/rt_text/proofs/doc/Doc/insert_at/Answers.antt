@@ -1,6 +1,6 @@
 use Rattle.rt_text.proofs.Room.{before_fits, grown_fits, mark_fits, visible_fits}
 use Rattle.rt_stamps.specs.declared.stamp.Stamp.{Stamp}
-use Rattle.std.proofs.Common.{◌≡◌, ℕ, ◌∙◌, ◌<◌, ◌≤◌, ◌+◌, ◌^◌, ◌-◌, All, ◌⊎◌, [], ◌∷◌, Some, ap, arith, inl, inr, length, map, refl, string_bytes, subst, sym, List, Option, true}
+use Rattle.std.proofs.Common.{◌≡◌, ℕ, ◌∙◌, ◌<◌, ◌≤◌, ◌+◌, ◌^◌, ◌-◌, All, ◌⊎◌, [], ◌∷◌, Some, ap, inl, inr, length, map, refl, string_bytes, subst, sym, List, Option, true}
 use Rattle.std.specs.List.{AllByRecursion}
 use Rattle.std.proofs.lemmas.List.{length-map}
 use Rattle.std.proofs.lemmas.Result.{err_from_is_err_and}

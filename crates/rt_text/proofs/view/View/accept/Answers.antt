@@ -1,3 +1,4 @@
+use Rattle.rt_rga.specs.Taken.{told}
 use Rattle.rt_text.proofs.ViewLaws.{viewed}
 use Rattle.std.proofs.lemmas.Result.{err_from_is_err_and}
 use Rattle.std.specs.List.{AllByRecursion}
@@ -19,6 +20,15 @@ use Rattle.rt_text.proofs.view.View.accept.Goals as goal
 either : {A B C D : Type 0} → (A → C) → (B → D) → A ⊎ B → C ⊎ D
 either f h (inl a) = inl (f a)
 either f h (inr b) = inr (h b)
+
+pub returns-in-New-clause-refused : goal.returns-in-New-clause-refused
+returns-in-New-clause-refused g c = tt
+
+pub returns-in-New-clause-unchanged : goal.returns-in-New-clause-unchanged
+returns-in-New-clause-unchanged g c = tt
+
+pub returns-in-New-clause-answer : goal.returns-in-New-clause-answer
+returns-in-New-clause-answer g c = sym (ap (λ (v : Viewed). answer_of v.doc c.args.op) c.self.view_is) ∙ c.in_ok-taken.ensures.answer ∙ ap told c.in-New.is
 
 pub returns-in_err-taken : goal.returns-in_err-taken
 returns-in_err-taken g c =
