@@ -37,6 +37,7 @@ pub mod ReplaceLaws
 pub mod ReplacedDocument
 pub mod Replacements
 pub mod RevertedDocument
+pub mod Room
 pub mod SeenLaws
 pub mod ShownSides
 pub mod StayingPlaces

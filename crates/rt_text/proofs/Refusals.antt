@@ -5,10 +5,10 @@ use Rattle.rt_stamps.specs.declared.fault.Fault.TheVariants.{NoMemory}
 use Rattle.rt_stamps.specs.Outcomes.{first_of, unless, Refuses}
 use Rattle.rt_stamps.specs.Words.{Word}
 use Rattle.rt_edits.specs.declared.range.Range.{Range}
-use Rattle.rt_text.specs.Commands.{clock_check, deleted, without_ranges}
+use Rattle.rt_text.specs.Commands.{clock_check, deleted, without_ranges, got_list}
 use Rattle.rt_text.specs.Index.{index_check, place_at_index}
-use Rattle.rt_text.specs.Ranges.{ranges_of}
-use Rattle.rt_text.specs.Widgets.{Viewed, widget_of}
+use Rattle.rt_text.specs.Ranges.{ranges_of, texts_of}
+use Rattle.rt_text.specs.Widgets.{Viewed, widget_of, text_shown}
 use Rattle.rt_text.proofs.Deletions.{deleted_by}
 
 module _ (view : Viewed) (indices : List Word) (ranges : List Range) (checked : first_of (map (index_check (widget_of view)) indices) ≡ None)
@@ -25,3 +25,8 @@ module _ (view : Viewed) (indices : List Word) (ranges : List Range) (checked : 
   pub deleted_refused : (fault : Fault) → (fault ≡ NoMemory) ⊎ (clock_check (without_ranges view ranges).doc.count ≡ Some fault) → Refuses (deleted view indices) fault
   deleted_refused fault (inl e) = inl e
   deleted_refused fault (inr e) = inr (deleted_of ∙ ap (λ o. unless o (without_ranges view ranges)) e)
+
+-- the texts of ranges whose indices are refused
+pub list_refused : (view : Viewed) (indices : List Word) (fault : Fault) → (fault ≡ NoMemory) ⊎ (first_of (map (index_check (widget_of view)) indices) ≡ Some fault) → Refuses (got_list view indices) fault
+list_refused view indices fault (inl e) = inl e
+list_refused view indices fault (inr e) = inr (ap (λ o. unless o (texts_of (text_shown view) (ranges_of (map (place_at_index (widget_of view)) indices)))) e)

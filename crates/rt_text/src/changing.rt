@@ -1,12 +1,14 @@
 // Marks after changes of the text, and limits after newlines came back.
-ghost use Rattle.std.specs.Prelude.{◌≡◌, ◌+◌, ◌≤◌, length};
+ghost use Rattle.std.specs.Prelude.{◌≡◌, ◌+◌, ◌≤◌, All, length, map};
 ghost use Rattle.std.specs.List.{AllByRecursion};
 ghost use Rattle.rt_marks.specs.Marks.{Each};
 ghost use Rattle.rt_revert.specs.Plans.{IsChange, marks_after, marks_changed};
 ghost use Rattle.rt_text.specs.Changes.{own_after, own_changed, own_renamed};
 ghost use Rattle.rt_text.specs.Parts.{own_in};
 
+use crate::Widget;
 use crate::moving::move_back;
+use crate::others::revert_each;
 use crate::parts::Parts;
 use rt_marks::Marks;
 use rt_revert::{Return, TextChange};
@@ -23,8 +25,8 @@ fn move_for(marks: &mut Marks, change: &TextChange)
     }
 }
 
-/// Moves the marks of a site for changes of the text, one after the other. It takes no memory.
-pub(crate) fn move_for_all(marks: &mut Marks, changes: &[TextChange])
+// Moves the marks of a site for changes of the text, one after the other. It takes no memory.
+fn move_for_all(marks: &mut Marks, changes: &[TextChange])
     requires changes { AllByRecursion IsChange changes.now }
     requires fits { Each (λ m. m.place + length changes.now ≤ usize.MAX) marks.old }
     ensures { marks.new ≡ marks_after changes.now marks.old }
@@ -80,4 +82,28 @@ impl Parts {
         self.change_all(changes);
         self.rename(returns);
     }
+}
+
+/// Moves the marks of a site, of a widget and of each other one for changes of the text, one after the other,
+/// and has the limits of the widgets follow the characters that came back. It takes no memory.
+pub(crate) fn revert_all(
+    marks: &mut Marks,
+    widget: &mut Widget,
+    others: &mut [Parts],
+    changes: &[TextChange],
+    returns: &[Return],
+)
+    requires changes { AllByRecursion IsChange changes.now }
+    requires marks { Each (λ m. m.place + length changes.now ≤ usize.MAX) marks.old }
+    requires insert { widget.old.insert.place + length changes.now ≤ usize.MAX }
+    requires current { widget.old.current.place + length changes.now ≤ usize.MAX }
+    requires others { All (λ parts. (parts.insert.place + length changes.now ≤ usize.MAX)
+        × (parts.current.place + length changes.now ≤ usize.MAX)) others.old }
+    ensures marks { marks.new ≡ marks_after changes.now marks.old }
+    ensures own { widget.new ≡ own_renamed returns.now (own_after changes.now widget.old) }
+    ensures others { map own_in others.new ≡ map (λ own. own_renamed returns.now (own_after changes.now own)) (map own_in others.old) }
+{
+    move_for_all(marks, changes);
+    widget.revert(changes, returns);
+    revert_each(others, changes, returns);
 }

@@ -29,6 +29,26 @@ fn distance_of<S: TextStore>(store: &S, from: usize, to: usize, measure: Measure
     }
 }
 
+// The distances from a place to another, one for each measure.
+fn distances_by<S: TextStore>(
+    alloc: Global,
+    store: &S,
+    from: usize,
+    to: usize,
+    measures: &[Measure],
+) -> Result<Vec<i64>, Fault>
+    requires cells { length (S.list store.now) ≤ MOST_CELLS }
+    requires places { (from ≤ length (text_of (S.list store.now))) × (to ≤ length (text_of (S.list store.now))) }
+    ensures ok { IfOk result (λ distances. distances.items ≡ map (distance_of (text_of (S.list store.now)) from to) measures.now) }
+    ensures err { IfErr result (λ fault. fault ≡ Fault.NoMemory) }
+{
+    let mut distances = Vec::new(alloc);
+    for measure in measures {
+        distances.push(distance_of(store, from, to, *measure))?;
+    }
+    Ok(distances)
+}
+
 /// The distances from a place to another, in indices where no measure is given.
 pub(crate) fn distances_of<S: TextStore>(
     alloc: Global,
@@ -42,12 +62,9 @@ pub(crate) fn distances_of<S: TextStore>(
     ensures ok { IfOk result (λ distances. distances.items ≡ map (distance_of (text_of (S.list store.now)) from to) (or_indices measures.now)) }
     ensures err { IfErr result (λ fault. fault ≡ Fault.NoMemory) }
 {
-    let mut distances = Vec::new(alloc);
     if measures.is_empty() {
-        distances.push(distance_of(store, from, to, Measure::Indices))?;
+        distances_by(alloc, store, from, to, &[Measure::Indices])
+    } else {
+        distances_by(alloc, store, from, to, measures)
     }
-    for measure in measures {
-        distances.push(distance_of(store, from, to, *measure))?;
-    }
-    Ok(distances)
 }

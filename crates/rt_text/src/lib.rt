@@ -9,6 +9,7 @@ pub mod doc;
 mod following;
 mod ground;
 pub mod index;
+mod inserting;
 mod moving;
 mod neighbours;
 mod others;

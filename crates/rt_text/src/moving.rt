@@ -8,7 +8,7 @@ ghost use Rattle.rt_text.specs.Parts.{own_in};
 ghost use Rattle.rt_text.specs.Widgets.{own_left, reselected};
 
 use crate::Widget;
-use crate::others::remove_from_each;
+use crate::others::{leave_each, remove_from_each};
 use crate::parts::Parts;
 use rt_edits::{Range, Selection};
 use rt_marks::Marks;
@@ -42,6 +42,23 @@ impl Parts {
             self.removed(range.from, range.to - range.from);
         }
     }
+}
+
+/// Moves the marks of a site, of a widget and of each other one for ranges that are removed. It takes no memory.
+pub(crate) fn leave_all(
+    marks: &mut Marks,
+    widget: &mut Widget,
+    others: &mut [Parts],
+    removed: &[Range],
+)
+    requires { AreInOrder 0 removed.now }
+    ensures marks { marks.new ≡ marks_left (is_covered removed.now) marks.old }
+    ensures own { widget.new ≡ own_left (is_covered removed.now) widget.old }
+    ensures others { map own_in others.new ≡ map (own_left (is_covered removed.now)) (map own_in others.old) }
+{
+    move_back(marks, removed);
+    widget.leave(removed);
+    leave_each(others, removed);
 }
 
 /// Takes the last newline out of a widget's selection and out of those of others, where a deletion

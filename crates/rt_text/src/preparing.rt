@@ -1,5 +1,5 @@
 // What an insertion needs, before anything changes.
-ghost use Rattle.std.specs.Prelude.{◌≡◌, ◌≤◌, All, IfErr, OnOk, None, Some, true, length, map, string_bytes};
+ghost use Rattle.std.specs.Prelude.{◌≡◌, ◌⊎◌, ◌≤◌, All, IfErr, OnErr, OnOk, None, Some, true, length, map, string_bytes};
 ghost use Rattle.rt_stamps.specs.Outcomes.{first_of};
 ghost use Rattle.rt_tags.specs.Tags.{IsName, is_ready};
 ghost use Rattle.rt_stamps.specs.Names.{name_check};
@@ -10,12 +10,19 @@ ghost use Rattle.rt_edits.specs.InsertionPlans.{selected_between};
 ghost use Rattle.rt_edits.specs.Selected.{room_in, stamps_in};
 ghost use Rattle.rt_text.specs.Widgets.{reselected};
 ghost use Rattle.rt_text.specs.Parts.{HaveRoomFor, own_in};
+ghost use Rattle.rt_oplog.specs.Edits.{body_of};
+ghost use Rattle.rt_rga.specs.Cells.{cells_of};
+ghost use Rattle.rt_rga.specs.Drafts.{with_drafts};
+ghost use Rattle.rt_rga.specs.Made.{refusal_of};
+ghost use Rattle.rt_rga.specs.Requests.{MayBeMade};
 
 use crate::others::{add_between, reserve_between};
 use crate::parts::Parts;
 use rt_edits::inserting::{Between, Plan};
 use rt_edits::{Piece, Selection};
+use rt_rga::{Draft, Replica};
 use rt_stamps::Fault;
+use rt_store::TextStore;
 use rt_tags::TagTable;
 
 /// Whether all names in the lists of pieces may be names of tags, or why not: then the pieces may be
@@ -79,8 +86,8 @@ pub(crate) fn select_between(others: &mut [Parts], between: &Option<Between>)
     }
 }
 
-/// Makes all room that a plan takes beside its operations': nothing else changes. Want of memory.
-pub(crate) fn make_room(
+// Makes all room that a plan takes beside its operations': nothing else changes. Want of memory.
+fn make_room(
     tags: &mut TagTable,
     selection: &mut Selection,
     others: &mut [Parts],
@@ -98,4 +105,36 @@ pub(crate) fn make_room(
     prepare_tags(tags, &plan.names)?;
     selection.reserve(plan.selected.len())?;
     reserve_others(others, &plan.between)
+}
+
+/// Has a replica make operations, once there is room for all else that a plan takes. Refused as the replica
+/// refuses them, or for want of memory, and then nothing changes but what ids the replica has.
+pub(crate) fn make_planned<S: TextStore>(
+    replica: &mut Replica<S>,
+    tags: &mut TagTable,
+    selection: &mut Selection,
+    others: &mut [Parts],
+    drafts: Vec<Draft>,
+    plan: &Plan,
+) -> Result<(), Fault>
+    requires names { All (λ w. IsName (string_bytes w)) plan.now.names.items }
+    requires may { MayBeMade replica.old.site replica.old.log (map body_of drafts.items) }
+    ensures fits { OnOk result (refusal_of replica.old.limit (map body_of drafts.items) replica.old.log ≡ None) }
+    ensures refused { IfErr result (λ fault. (fault ≡ Fault.NoMemory)
+        ⊎ (refusal_of replica.old.limit (map body_of drafts.items) replica.old.log ≡ Some fault)) }
+    ensures log { OnOk result (replica.new.log ≡ with_drafts replica.old.site (map body_of drafts.items) replica.old.log) }
+    ensures cells { OnOk result (replica.new.cells ≡ cells_of replica.new.log) }
+    ensures same { OnErr result (replica.new ≡ record replica.old { table = replica.new.table }) }
+    ensures site { replica.new.site ≡ replica.old.site }
+    ensures limit { replica.new.limit ≡ replica.old.limit }
+    ensures tags { tags.new.names ≡ tags.old.names }
+    ensures selection { stamps_in selection.new ≡ stamps_in selection.old }
+    ensures others { map own_in others.new ≡ map own_in others.old }
+    ensures ready { OnOk result (All (λ w. is_ready (string_bytes w) tags.new ≡ true) plan.now.names.items) }
+    ensures selects { OnOk result (length plan.now.selected.items ≤ room_in selection.new) }
+    ensures between { OnOk result (HaveRoomFor plan.now.between others.new) }
+{
+    make_room(tags, selection, others, plan)?;
+    let _made = replica.make(drafts)?;
+    Ok(())
 }

@@ -15,16 +15,29 @@ ghost use Rattle.rt_views.specs.Stretches.{shown_part};
 
 use super::Doc;
 use crate::Widget;
-use crate::moving::{move_back, unselect_last};
+use crate::inserting::{insert_all, select_all};
+use crate::moving::{leave_all, unselect_last};
 use crate::neighbours::{left_of, shown_at, shown_before, stamp_or_root};
-use crate::others::{insert_each, leave_each};
 use crate::parts::Parts;
-use crate::preparing::{list_tags, make_room, select_between};
+use crate::preparing::{list_tags, make_planned};
 use rt_edits::drafting::planned_deletion;
 use rt_edits::inserting::{Plan, planned_between};
 use rt_edits::{Piece, Range};
 use rt_stamps::Fault;
 use rt_store::TextStore;
+use std::mem::replace;
+
+// The plan of an insertion. What lets it go is written out, so that this is one step, and not one for each
+// field of each field.
+struct PlannedInsertion {
+    plan: Plan,
+}
+
+impl Drop for PlannedInsertion {
+    fn drop(self) {
+        let PlannedInsertion { plan: _ } = self;
+    }
+}
 
 impl<S: TextStore> Doc<S> {
     // Plans pieces of text and characters without a list before the character at a place of what is shown.
@@ -92,14 +105,24 @@ impl<S: TextStore> Doc<S> {
         let plan = self.planned_insertion(widget, place, pieces, rest)?;
         let (store, _) = self.kept();
         let at = widget.limits().stretch(store).begin + place;
-        make_room(&mut self.tags, &mut widget.parts.selection, others, &plan)?;
-        let _made = self.replica.make(plan.drafts)?;
-        self.marks.inserted(at, plan.characters);
-        widget.parts.selection.add(&plan.selected);
-        widget.inserted(at, plan.characters);
-        select_between(others, &plan.between);
-        insert_each(others, at, plan.characters);
-        list_tags(&mut self.tags, &plan.names);
+        let mut planned = PlannedInsertion { plan };
+        let drafts = replace(&mut planned.plan.drafts, Vec::new(self.alloc));
+        make_planned(
+            &mut self.replica,
+            &mut self.tags,
+            &mut widget.parts.selection,
+            others,
+            drafts,
+            &planned.plan,
+        )?;
+        select_all(
+            &mut widget.parts.selection,
+            others,
+            &planned.plan.selected,
+            &planned.plan.between,
+        );
+        insert_all(&mut self.marks, widget, others, at, planned.plan.characters);
+        list_tags(&mut self.tags, &planned.plan.names);
         Ok(())
     }
 
@@ -126,9 +149,7 @@ impl<S: TextStore> Doc<S> {
         let last = store.cell_at(stretch.end - 1).stamp;
         let deletion = planned_deletion(self.alloc, store, states, stretch, ranges)?;
         let _made = self.replica.make(deletion.drafts)?;
-        move_back(&mut self.marks, &deletion.removed);
-        widget.leave(&deletion.removed);
-        leave_each(others, &deletion.removed);
+        leave_all(&mut self.marks, widget, others, &deletion.removed);
         unselect_last(deletion.held, last, widget, others);
         Ok(())
     }

@@ -14,11 +14,11 @@ ghost use Rattle.std.specs.List.{AllByRecursion};
 
 use super::Doc;
 use crate::Widget;
-use crate::moving::{move_back, unselect};
+use crate::inserting::{insert_all, select_all};
+use crate::moving::{leave_all, unselect};
 use crate::neighbours::{shown_after, shown_before, stamp_or_root};
-use crate::others::{insert_each, leave_each};
 use crate::parts::Parts;
-use crate::preparing::{list_tags, make_room, select_between};
+use crate::preparing::{list_tags, make_planned};
 use crate::staying::{left_after, place_after};
 use rt_edits::drafting::planned_deletion;
 use rt_edits::inserting::{Plan, planned_between};
@@ -27,17 +27,30 @@ use rt_rga::Draft;
 use rt_stamps::Fault;
 use rt_stamps::limits::GREATEST_COUNT;
 use rt_store::TextStore;
+use std::mem::replace;
 
 /// What a replacement comes to: the ranges of places that go, and whether they hold the last newline; the
 /// place of the new text in what is left; the operations of the deletion and of the insertion in turn;
 /// and the plan of the new text beside these.
-#[derive(Drop)]
 pub(crate) struct Replacement {
     pub removed: Vec<Range>,
     pub held: bool,
     pub place: usize,
     pub drafts: Vec<Draft>,
     pub plan: Plan,
+}
+
+// Written out, so that where it is let go is one step, and not one for each field of each field.
+impl Drop for Replacement {
+    fn drop(self) {
+        let Replacement {
+            removed: _,
+            held: _,
+            place: _,
+            drafts: _,
+            plan: _,
+        } = self;
+    }
 }
 
 // The greatest count after operations of one count each, or why there are too few counts.
@@ -80,7 +93,7 @@ impl<S: TextStore> Doc<S> {
         let count = self.replica.clock().seen();
         let (store, states) = self.kept();
         let stretch = widget.limits().stretch(store);
-        let mut deletion = planned_deletion(self.alloc, store, states, stretch, &[range])?;
+        let deletion = planned_deletion(self.alloc, store, states, stretch, &[range])?;
         let count = count_after(count, deletion.drafts.len())?;
         let removed = &deletion.removed;
         let last = place_after(removed, stretch.end - 1);
@@ -89,7 +102,7 @@ impl<S: TextStore> Doc<S> {
         let after = stamp_or_root(&behind);
         let left = shown_before(at - stretch.begin, behind);
         let right = shown_after(store, removed, deletion.held, widget.limits(), at, pieces);
-        let mut plan = planned_between(
+        let plan = planned_between(
             self.alloc,
             states,
             site,
@@ -101,14 +114,15 @@ impl<S: TextStore> Doc<S> {
             pieces,
             rest,
         )?;
-        deletion.drafts.append(&mut plan.drafts)?;
-        Ok(Replacement {
+        let mut both = Replacement {
             removed: deletion.removed,
             held: deletion.held,
             place: at - stretch.begin,
             drafts: deletion.drafts,
             plan,
-        })
+        };
+        both.drafts.append(&mut both.plan.drafts)?;
+        Ok(both)
     }
 
     // Replaces the characters in a range by pieces of text and characters without a list.
@@ -137,21 +151,27 @@ impl<S: TextStore> Doc<S> {
         let (store, _) = self.kept();
         let stretch = widget.limits().stretch(store);
         let last = store.cell_at(stretch.end - 1).stamp;
-        let planned = self.planned_replacement(widget, range, pieces, rest)?;
+        let mut planned = self.planned_replacement(widget, range, pieces, rest)?;
         let at = stretch.begin + planned.place;
-        let plan = planned.plan;
-        make_room(&mut self.tags, &mut widget.parts.selection, others, &plan)?;
-        let _made = self.replica.make(planned.drafts)?;
+        let drafts = replace(&mut planned.drafts, Vec::new(self.alloc));
+        make_planned(
+            &mut self.replica,
+            &mut self.tags,
+            &mut widget.parts.selection,
+            others,
+            drafts,
+            &planned.plan,
+        )?;
         unselect(planned.held, last, &mut widget.parts.selection, others);
-        widget.parts.selection.add(&plan.selected);
-        select_between(others, &plan.between);
-        move_back(&mut self.marks, &planned.removed);
-        widget.leave(&planned.removed);
-        leave_each(others, &planned.removed);
-        self.marks.inserted(at, plan.characters);
-        widget.inserted(at, plan.characters);
-        insert_each(others, at, plan.characters);
-        list_tags(&mut self.tags, &plan.names);
+        select_all(
+            &mut widget.parts.selection,
+            others,
+            &planned.plan.selected,
+            &planned.plan.between,
+        );
+        leave_all(&mut self.marks, widget, others, &planned.removed);
+        insert_all(&mut self.marks, widget, others, at, planned.plan.characters);
+        list_tags(&mut self.tags, &planned.plan.names);
         Ok(())
     }
 }

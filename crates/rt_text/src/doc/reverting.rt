@@ -12,8 +12,7 @@ ghost use Rattle.rt_text.specs.Reversions.{own_reverted, reversion_check};
 ghost use Rattle.rt_text.specs.Widgets.{IsOwnOf};
 
 use super::Doc;
-use crate::changing::move_for_all;
-use crate::others::revert_each;
+use crate::changing::revert_all;
 use crate::parts::Parts;
 use crate::preparing::{list_tags, prepare_tags};
 use crate::{Reverted, Widget};
@@ -61,9 +60,13 @@ impl<S: TextStore> Doc<S> {
         let plan = planned_reversion_in(self.alloc, store, states, copy, site, count, group, kept)?;
         prepare_tags(&mut self.tags, &plan.names)?;
         let _made = self.replica.make(plan.drafts)?;
-        move_for_all(&mut self.marks, &plan.changes);
-        widget.revert(&plan.changes, &plan.returns);
-        revert_each(others, &plan.changes, &plan.returns);
+        revert_all(
+            &mut self.marks,
+            widget,
+            others,
+            &plan.changes,
+            &plan.returns,
+        );
         list_tags(&mut self.tags, &plan.names);
         Ok(Reverted {
             returns: plan.returns,

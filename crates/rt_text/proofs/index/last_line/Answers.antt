@@ -1,6 +1,6 @@
-use Rattle.std.proofs.Common.{◌≡◌, ◌∙◌, ◌+◌, ◌-◌, List, ℕ, suc, ap, arith, length, sym, take}
+use Rattle.std.proofs.Common.{◌≡◌, ◌∙◌, ◌-◌, List, ℕ, suc, ap, arith, length, sym, take}
 use Rattle.std.proofs.lemmas.List.{take_all}
-use Rattle.rt_stamps.specs.Places.{line_of, newlines}
+use Rattle.rt_stamps.specs.Places.{newlines}
 use Rattle.rt_store.specs.Cells.{text_of}
 use Rattle.rt_edits.proofs.PlaceLaws.{length_text}
 use Rattle.rt_text.proofs.LeftLines.{next_newline}

@@ -8,6 +8,9 @@ use Rattle.rt_text.specs.Parts.{own_in}
 use Rattle.rt_text.proofs.PeerLaws.{rest_same}
 use Rattle.rt_text.proofs.others.follow_each.Goals as goal
 
+pub follow-requires-clause-runs : goal.follow-requires-clause-runs
+follow-requires-clause-runs c = c.requires.runs
+
 pub follow-requires-clause-insert : goal.follow-requires-clause-insert
 follow-requires-clause-insert c =
     let xs = c.args.others.now in

@@ -1,3 +1,4 @@
+use Rattle.std.proofs.lemmas.Result.{err_from_is_err_and}
 use Rattle.std.proofs.Common.{◌≡◌, ◌<◌, ◌≤◌, ◌&&◌, ◌∙◌, All, arith, length, subst, true}
 use Rattle.std.proofs.lemmas.List.{length-set, take_all}
 use Rattle.rt_edits.specs.Selected.{stamps_in, room_in}
@@ -7,12 +8,17 @@ use Rattle.rt_text.specs.declared.parts.Parts.{Parts}
 use Rattle.rt_text.specs.Parts.{own_in}
 use Rattle.rt_text.proofs.others.reserve_between.Goals as goal
 
-pub returns-in_err-reserve_if-clause-same : goal.returns-in_err-reserve_if-clause-same
-returns-in_err-reserve_if-clause-same c =
+pub returns-in_err-reserve_if : goal.returns-in_err-reserve_if
+returns-in_err-reserve_if c =
     let ys = c.loop-i.others in
     let i = c.loop-i.i in
     let lt : i < length ys = omega (arith, c.loop-i-test.true, c.loop-i.invariant.len) in
-    same_set own_in ys i c.reserve_if.new.self c.index-others-i.result c.reserve_if.ensures.same lt ∙ c.loop-i.invariant.same
+    let p = err_from_is_err_and c.from_residual.result c.from_residual.ensures.1 in
+    rw (p.1, p.2) (record {
+      same = same_set own_in ys i c.reserve_if.new.self c.index-others-i.result c.reserve_if.ensures.same lt ∙ c.loop-i.invariant.same;
+      room = tt;
+      err = c.in_err-reserve_if.ensures.err;
+    })
 
 pub loop-i-preserved : goal.loop-i-preserved
 loop-i-preserved c =

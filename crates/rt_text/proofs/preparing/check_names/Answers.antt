@@ -9,12 +9,16 @@ use Rattle.rt_edits.specs.DeletionLaws.{IsPiece}
 use Rattle.rt_text.proofs.ReadyLaws.{names_bad, names_fine}
 use Rattle.rt_text.proofs.preparing.check_names.Goals as goal
 
-pub returns-in_err-check_names-clause-err : goal.returns-in_err-check_names-clause-err
-returns-in_err-check_names-clause-err c =
-    let p = err_from_is_err_and c.from_residual.result c.from_residual.ensures.1 in
+pub returns-in_err-check_names : goal.returns-in_err-check_names
+returns-in_err-check_names c =
     let within : c.loop-piece.piece-index < length c.args.pieces.now = omega arith in
-    rw (p.1, p.2) (sym c.loop-piece.invariant.checks ∙ names_bad c.args.pieces.now c.loop-piece.piece-index c.piece-item.result c.in_err-check_names.field-0.0 within c.piece-item.is
-    (ap (λ l. first_of (map name_check l)) (sym c.tags.ensures) ∙ some_found _ _ (sym c.check_names.ensures ∙ c.in_err-check_names.was)))
+    let p = err_from_is_err_and c.from_residual.result c.from_residual.ensures.1 in
+    rw (p.1, p.2) (record {
+      ok = tt;
+      pieces = tt;
+      err = sym c.loop-piece.invariant.checks ∙ names_bad c.args.pieces.now c.loop-piece.piece-index c.piece-item.result c.in_err-check_names.field-0.0 within c.piece-item.is
+          (ap (λ l. first_of (map name_check l)) (sym c.tags.ensures) ∙ some_found _ _ (sym c.check_names.ensures ∙ c.in_err-check_names.was));
+    })
 
 pub loop-piece-preserved : goal.loop-piece-preserved
 loop-piece-preserved c =

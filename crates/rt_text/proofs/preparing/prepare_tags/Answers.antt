@@ -5,12 +5,16 @@ use Rattle.rt_tags.specs.Tags.{IsName, is_ready}
 use Rattle.rt_text.proofs.ReadyLaws.{for_memory, named_here, ready_more}
 use Rattle.rt_text.proofs.preparing.prepare_tags.Goals as goal
 
-pub returns-in_err-prepare-clause-err : goal.returns-in_err-prepare-clause-err
-returns-in_err-prepare-clause-err c =
-    let p = err_from_is_err_and c.from_residual.result c.from_residual.ensures.1 in
+pub returns-in_err-prepare : goal.returns-in_err-prepare
+returns-in_err-prepare c =
     let within : c.loop-name.name-index < length c.args.names.now = omega arith in
-    rw (p.1, p.2) (for_memory c.deref.result.now c.prepare.result c.in_err-prepare.field-0.0 c.in_err-prepare.was c.in_err-prepare.ensures.fault c.prepare.ensures.bad_name
-    (named_here IsName (λ w. string_bytes w) c.args.names.now c.loop-name.name-index c.name-item.result c.deref.result.now within c.name-item.is c.deref.ensures c.requires))
+    let p = err_from_is_err_and c.from_residual.result c.from_residual.ensures.1 in
+    rw (p.1, p.2) (record {
+      names = c.prepare.ensures.names ∙ c.loop-name.invariant.names;
+      ready = tt;
+      err = for_memory c.deref.result.now c.prepare.result c.in_err-prepare.field-0.0 c.in_err-prepare.was c.in_err-prepare.ensures.fault c.prepare.ensures.bad_name
+          (named_here IsName (λ w. string_bytes w) c.args.names.now c.loop-name.name-index c.name-item.result c.deref.result.now within c.name-item.is c.deref.ensures c.requires);
+    })
 
 pub loop-name-preserved : goal.loop-name-preserved
 loop-name-preserved c =

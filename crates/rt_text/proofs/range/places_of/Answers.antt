@@ -1,4 +1,4 @@
-use Rattle.std.proofs.Common.{◌≡◌, ◌≤◌, ◌+◌, ◌++◌, ◌∷◌, [], ◌∙◌, ℕ, List, sym, ap, append_assoc, length, map, drop, All, Ok, string_bytes}
+use Rattle.std.proofs.Common.{◌≡◌, ◌≤◌, ◌+◌, ◌++◌, ◌∷◌, [], ◌∙◌, ℕ, List, sym, ap, append_assoc, length, map, drop, All, Ok, string_bytes, inl, refl}
 use Rattle.std.proofs.lemmas.List.Elements.{All-append, All-cons, All-nil}
 use Rattle.std.proofs.lemmas.Result.{err_from_is_err_and}
 use Rattle.rt_index.specs.Index.{index_of}
@@ -10,13 +10,23 @@ use Rattle.rt_text.proofs.range.places_of.Goals as goal
 one_within : (n p : ℕ) → p ≤ n → All (λ place. place ≤ n) (p ∷ [])
 one_within n p h = All-cons (λ place. place ≤ n) p [] h (All-nil (λ place. place ≤ n))
 
-pub returns-in_err-place_of-clause-err : goal.returns-in_err-place_of-clause-err
-returns-in_err-place_of-clause-err g c =
+pub returns-in_err-place_of : goal.returns-in_err-place_of
+returns-in_err-place_of g c =
     let w = g.G.Ground.widget c.args.ground.now in
     let word = c.index-item.result in
-    let p = err_from_is_err_and c.from_residual.result c.from_residual.ensures.1 in
     let found : Refuses (index_of w (string_bytes word)) c.in_err-place_of.field-0.0 = rw c.deref.ensures at c.in_err-place_of.ensures.err in
-    rw p.1 (checks_stop w c.args.indices.now c.loop-index.index-index word p.0 c.in_err-place_of.field-0.0 c.loop-index-test.true c.index-item.is found p.2 c.loop-index.invariant.checked)
+    let p = err_from_is_err_and c.from_residual.result c.from_residual.ensures.1 in
+    rw p.1 (record {
+      ok = tt;
+      checked = tt;
+      within = tt;
+      err = checks_stop w c.args.indices.now c.loop-index.index-index word p.0 c.in_err-place_of.field-0.0 c.loop-index-test.true c.index-item.is found p.2 c.loop-index.invariant.checked;
+    })
+
+pub returns-in_err-push : goal.returns-in_err-push
+returns-in_err-push g c =
+    let p = err_from_is_err_and c.from_residual-in_err-push.result c.from_residual-in_err-push.ensures.1 in
+    rw (p.1, p.2) (record { ok = tt; checked = tt; within = tt; err = inl refl })
 
 pub loop-index-preserved : goal.loop-index-preserved
 loop-index-preserved g c =

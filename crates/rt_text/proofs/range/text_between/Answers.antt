@@ -1,3 +1,4 @@
+use Rattle.std.proofs.lemmas.Result.{err_from_is_err_and}
 use Rattle.std.proofs.Common.{◌≡◌, ◌≤◌, ◌∙◌, ap, sym, arith, length, min, max, take}
 use Rattle.std.specs.Prelude.{encode_utf8_all, ◌++◌}
 use Rattle.rt_store.specs.Cells.{text_of}
@@ -5,6 +6,14 @@ use Rattle.rt_text.specs.Ranges.{text_between}
 use Rattle.rt_edits.proofs.PlaceLaws.{length_text}
 use Rattle.rt_text.proofs.TextLaws.{between_more, between_all}
 use Rattle.rt_text.proofs.range.text_between.Goals as goal
+
+pub returns-in_err-push_all : goal.returns-in_err-push_all
+returns-in_err-push_all g c =
+    let p = err_from_is_err_and c.from_residual.result c.from_residual.ensures.1 in
+    rw (p.1, p.2) (record { ok = tt; err = c.in_err-push_all.ensures.err })
+
+pub returns-clause-err : goal.returns-clause-err
+returns-clause-err g c = tt
 
 pub loop-place-preserved : goal.loop-place-preserved
 loop-place-preserved g c =

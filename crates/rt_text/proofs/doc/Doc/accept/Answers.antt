@@ -1,9 +1,10 @@
-use Rattle.std.proofs.Common.{◌≡◌, ◌∙◌, ◌^◌, ◌-◌, All, ap, length, map, subst, sym, true}
+use Rattle.std.proofs.lemmas.Result.{err_from_is_err_and}
+use Rattle.std.proofs.Common.{◌≡◌, ◌∙◌, ◌^◌, ◌-◌, All, ap, length, map, subst, sym, true, inl, inr, ◌⊎◌}
 use Rattle.rt_oplog.specs.Edits.{body_of}
 use Rattle.rt_oplog.specs.Logs.{with_operation}
-use Rattle.rt_rga.specs.Answers.{New}
+use Rattle.rt_rga.specs.Answers.{New, answer_within}
 use Rattle.rt_rga.specs.Histories.{IsHistory}
-use Rattle.rt_rga.specs.Taken.{lists_of}
+use Rattle.rt_rga.specs.Taken.{lists_of, told}
 use Rattle.rt_tags.specs.States.{name_at}
 use Rattle.rt_tags.specs.Tags.{IsName, is_ready}
 use Rattle.rt_edits.specs.Flat.{Flat}
@@ -14,6 +15,42 @@ use Rattle.rt_text.specs.Kept.{IsDoc}
 use Rattle.rt_text.proofs.AcceptedDocument.{accepted_fits, accepted_is, accepted_seen, all_under, answered_new, given_names, lists_named, seen_with}
 use Rattle.rt_text.proofs.MarkLaws.{site_fits}
 use Rattle.rt_text.proofs.doc.Doc.accept.Goals as goal
+
+either : {A B C D : Type 0} → (A → C) → (B → D) → A ⊎ B → C ⊎ D
+either f h (inl a) = inl (f a)
+either f h (inr b) = inr (h b)
+
+pub returns-in-New-clause-refused : goal.returns-in-New-clause-refused
+returns-in-New-clause-refused g c = tt
+
+pub returns-in-New-clause-unchanged : goal.returns-in-New-clause-unchanged
+returns-in-New-clause-unchanged g c = tt
+
+pub returns-in-New-clause-answer : goal.returns-in-New-clause-answer
+returns-in-New-clause-answer g c = sym (ap (λ (f : Flat). answer_of f c.args.op) c.self.view_is) ∙ c.in_ok-taken.ensures.answer ∙ ap told c.in-New.is
+
+pub invariant_of-self : goal.invariant_of-self
+invariant_of-self g c = subst (IsDoc c.self.inside.replica.cells c.self.inside.marks) (sym c.prepare_lists.ensures.names) c.self.invariant
+
+pub returns-in_err-prepare_lists : goal.returns-in_err-prepare_lists
+returns-in_err-prepare_lists g c =
+    let p = err_from_is_err_and c.from_residual.result c.from_residual.ensures.1 in
+    rw (p.1, p.2) (record { answer = tt; ok = tt; change = tt; refused = inr c.in_err-prepare_lists.ensures.err; unchanged = ap (seen_with c.self.inside.replica c.self.inside.marks) c.prepare_lists.ensures.names ∙ c.self.view_is })
+
+pub invariant_of-self-in_err-taken : goal.invariant_of-self-in_err-taken
+invariant_of-self-in_err-taken g c = subst (λ (p : _). p) (λ k. IsDoc (sym c.in_err-taken.ensures.same k).cells c.self.inside.marks (sym c.prepare_lists.ensures.names k)) c.self.invariant
+
+pub returns-in_err-taken : goal.returns-in_err-taken
+returns-in_err-taken g c =
+    let p = err_from_is_err_and c.from_residual-in_err-taken.result c.from_residual-in_err-taken.ensures.1 in
+    let same : answer_of c.args.self.now c.args.op ≡ answer_within c.self.inside.replica.limit c.args.op c.self.inside.replica.log = sym (ap (λ (f : Flat). answer_of f c.args.op) c.self.view_is) in
+    rw (p.1, p.2) (record {
+      answer = tt;
+      ok = tt;
+      change = tt;
+      refused = either (λ e. same ∙ e) (λ e. e.0) c.in_err-taken.ensures.refused;
+      unchanged = (λ k. seen_with (c.in_err-taken.ensures.same k) c.self.inside.marks (c.prepare_lists.ensures.names k)) ∙ c.self.view_is;
+    })
 
 pub follow-requires-clause-fits : goal.follow-requires-clause-fits
 follow-requires-clause-fits g c =

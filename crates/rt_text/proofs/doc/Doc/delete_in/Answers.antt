@@ -1,4 +1,5 @@
-use Rattle.std.proofs.Common.{◌≡◌, ◌≤◌, ◌∙◌, ◌⊎◌, ℕ, List, Bool, None, ap, arith, inl, inr, length, map, subst, sym}
+use Rattle.rt_text.specs.Kept.{IsDoc}
+use Rattle.std.proofs.Common.{◌≡◌, ◌≤◌, ◌∙◌, ◌⊎◌, ℕ, List, Bool, None, ap, arith, inl, inr, length, map, subst, sym, refl}
 use Rattle.std.specs.Prelude.{is_some}
 use Rattle.std.specs.List.{AllByRecursion}
 use Rattle.std.proofs.lemmas.List.{length-map}
@@ -16,7 +17,7 @@ use Rattle.rt_edits.specs.declared.range.Range.{Range}
 use Rattle.rt_edits.specs.Deletions.{Loss, delete_drafts, loss_in, without_text}
 use Rattle.rt_edits.specs.Flat.{Flat, logged}
 use Rattle.rt_edits.specs.Listed.{AreListed}
-use Rattle.rt_edits.specs.Removals.{is_covered}
+use Rattle.rt_edits.specs.Removals.{is_covered, AreInOrder}
 use Rattle.rt_text.specs.Commands.{clock_check}
 use Rattle.rt_text.specs.Parts.{own_in}
 use Rattle.rt_stamps.specs.declared.stamp.Stamp.{Stamp}
@@ -34,6 +35,21 @@ which : {F X : Type 0} {r checked : X} {fault memory : F} {some none : X} → (r
 which (inl e) s = inr (sym s ∙ e)
 which (inr p) s = inl p.0
 
+pub leave_all-requires : goal.leave_all-requires
+leave_all-requires g c = subst (AreInOrder 0) (sym c.deref.ensures.value) c.in_ok-deletion.ensures.order
+
+pub returns-clause-err : goal.returns-clause-err
+returns-clause-err g c = tt
+
+pub returns-clause-unchanged : goal.returns-clause-unchanged
+returns-clause-unchanged g c = tt
+
+pub planned_deletion-requires-clause-distinct : goal.planned_deletion-requires-clause-distinct
+planned_deletion-requires-clause-distinct g c = c.kept.ensures.distinct
+
+pub planned_deletion-requires-clause-states : goal.planned_deletion-requires-clause-states
+planned_deletion-requires-clause-states g c = c.kept.ensures.states
+
 pub make-requires : goal.make-requires
 make-requires g c =
     let flat = c.args.self.now in
@@ -45,8 +61,23 @@ make-requires g c =
     subst (λ (f : Flat). MayBeMade f.site f.log (map body_of c.in_ok-deletion.deletion.drafts.items)) (sym c.self.view_is)
     (subst (MayBeMade flat.site flat.log) (sym drafts) (deletion_may flat c.args.widget.now.limits c.args.ranges.now c.kept.ensures.history c.kept.ensures.document))
 
-pub returns-in_err-_made-clause-err : goal.returns-in_err-_made-clause-err
-returns-in_err-_made-clause-err g c =
+pub returns-in_err-deletion : goal.returns-in_err-deletion
+returns-in_err-deletion g c =
+    let (y, is, gives) = err_from_is_err_and c.from_residual.result c.from_residual.ensures.1 in
+    rw (is, gives) (record {
+      ok = tt;
+      checked = tt;
+      err = inl c.in_err-deletion.ensures.err;
+      unchanged = (refl, refl, refl);
+      own = c.requires.own;
+      others = c.requires.others;
+    })
+
+pub invariant_of-self : goal.invariant_of-self
+invariant_of-self g c = subst (λ (r : ReplicaValue). IsDoc r.cells c.self.inside.marks c.self.inside.tags.names) (sym c.in_err-_made.ensures.same) c.self.invariant
+
+pub returns-in_err-_made : goal.returns-in_err-_made
+returns-in_err-_made g c =
     let flat = c.args.self.now in
     let ranges = c.args.ranges.now in
     let limits = c.args.widget.now.limits in
@@ -59,8 +90,17 @@ returns-in_err-_made-clause-err g c =
     let bodies = map body_of c.in_ok-deletion.deletion.drafts.items in
     let refusal : refusal_of c.self.inside.replica.limit bodies c.self.inside.replica.log ≡ clock_check (without_text flat (loss_of flat limits ranges)).count =
     ap (λ (f : Flat). refusal_of f.limit bodies f.log) c.self.view_is ∙ ap (λ l. refusal_of flat.limit l flat.log) drafts ∙ deletion_refusal flat limits ranges c.kept.ensures.history c.kept.ensures.document few in
-    let p = err_from_is_err_and c.from_residual-in_err-_made.result c.from_residual-in_err-_made.ensures.1 in
-    rw (p.1, p.2) (which c.in_err-_made.ensures.refused refusal)
+    let (y, is, gives) = err_from_is_err_and c.from_residual-in_err-_made.result c.from_residual-in_err-_made.ensures.1 in
+    let doc : seen c.make.new.self c.self.inside.marks c.self.inside.tags.names ≡ flat =
+    (λ k. seen (c.in_err-_made.ensures.same k) c.self.inside.marks c.self.inside.tags.names) ∙ c.self.view_is in
+    rw (is, gives) (record {
+      ok = tt;
+      checked = tt;
+      err = which c.in_err-_made.ensures.refused refusal;
+      unchanged = (doc, refl, refl);
+      own = subst (λ (f : Flat). IsOwnOf (length (text_of f.cells)) c.args.widget.now) (sym doc) c.requires.own;
+      others = subst (λ (f : Flat). AllByRecursion (IsOwnOf (length (text_of f.cells))) (map own_in c.args.others.now)) (sym doc) c.requires.others;
+    })
 
 -- what the deletion has made, in the words of its laws
 record Made (flat : Flat) (own : Own) (others : List Own) (ranges : List Range) (new : ReplicaValue) (marks : List Mark) (removed : ℕ → Bool) (last : Stamp) (held : Bool) : Type 0 where
@@ -72,7 +112,7 @@ record Made (flat : Flat) (own : Own) (others : List Own) (ranges : List Range) 
   fits : clock_check (without_text flat (loss_of flat own.limits ranges)).count ≡ None
 
 made : (g : Over) (c : goal.After-drop-deletion-2 g)
-    → Made c.args.self.now c.args.widget.now (map own_in c.args.others.now) c.args.ranges.now c.make.new.self c.move_back.new.marks (is_covered c.in_ok-deletion.deletion.removed.items) c.cell_at.result.stamp c.in_ok-deletion.deletion.held
+    → Made c.args.self.now c.args.widget.now (map own_in c.args.others.now) c.args.ranges.now c.make.new.self c.leave_all.new.marks (is_covered c.in_ok-deletion.deletion.removed.items) c.cell_at.result.stamp c.in_ok-deletion.deletion.held
 made g c =
     let flat = c.args.self.now in
     let ranges = c.args.ranges.now in
@@ -97,12 +137,12 @@ made g c =
     let loss : loss_in (part c.stretch-stretch.result (text_of kept)) c.stretch-stretch.result.begin ranges ≡ loss_of flat limits ranges =
     loss_kept c.kept.result.1.now kept flat limits c.stretch-stretch.result ranges c.kept.ensures.cells stretch in
     let places : (p : ℕ) → is_covered d.removed.items p ≡ (loss_of flat limits ranges).places p = λ p. c.in_ok-deletion.ensures.places p ∙ ap (λ (l : Loss). l.places p) loss in
-    let moved : c.move_back.new.marks ≡ marks_left (is_covered d.removed.items) flat.marks =
-    c.move_back.ensures ∙ ap (λ l. marks_left (is_covered l) c.self.inside.marks) c.deref.ensures.value ∙ ap (λ (f : Flat). marks_left (is_covered d.removed.items) f.marks) view in
+    let moved : c.leave_all.new.marks ≡ marks_left (is_covered d.removed.items) flat.marks =
+    c.leave_all.ensures.marks ∙ ap (λ l. marks_left (is_covered l) c.self.inside.marks) c.deref.ensures.value ∙ ap (λ (f : Flat). marks_left (is_covered d.removed.items) f.marks) view in
     let site : c.make.new.self.site ≡ flat.site = c.make.ensures.site ∙ ap (λ (f : Flat). f.site) view in
     let limit : c.make.new.self.limit ≡ flat.limit = c.make.ensures.limit ∙ ap (λ (f : Flat). f.limit) view in
     record {
-      doc = deletion_seen flat limits ranges history document c.kept.ensures.site c.make.new.self c.move_back.new.marks (is_covered d.removed.items) log c.in_ok-_made.ensures.cells site limit fits few places moved;
+      doc = deletion_seen flat limits ranges history document c.kept.ensures.site c.make.new.self c.leave_all.new.marks (is_covered d.removed.items) log c.in_ok-_made.ensures.cells site limit fits few places moved;
       places = places;
       moved = moved;
       holds = c.in_ok-deletion.ensures.held ∙ ap (λ (l : Loss). is_some l.newline) loss;
@@ -117,8 +157,8 @@ invariant_of-self-2 g c =
     let limits = c.args.widget.now.limits in
     let m = made g c in
     let cells : c.make.new.self.cells ≡ (without_text flat (loss_of flat limits ranges)).cells = ap (λ (f : Flat). f.cells) m.doc in record {
-      placed = subst (λ (l : List TaggedCell). AreSiteMarks (length (text_of l)) c.move_back.new.marks) (sym cells)
-          (deletion_placed flat limits ranges c.move_back.new.marks (is_covered c.in_ok-deletion.deletion.removed.items) m.places m.moved
+      placed = subst (λ (l : List TaggedCell). AreSiteMarks (length (text_of l)) c.leave_all.new.marks) (sym cells)
+          (deletion_placed flat limits ranges c.leave_all.new.marks (is_covered c.in_ok-deletion.deletion.removed.items) m.places m.moved
           (subst (λ (f : Flat). AreSiteMarks (length (text_of f.cells)) f.marks) c.self.view_is c.self.invariant.placed));
       listed = subst (λ (l : List TaggedCell). AreListed c.self.inside.tags.names l) (sym cells)
           (deletion_listed flat (loss_of flat limits ranges) c.self.inside.tags.names (subst (λ (f : Flat). AreListed c.self.inside.tags.names f.cells) c.self.view_is c.self.invariant.listed));
@@ -127,7 +167,7 @@ invariant_of-self-2 g c =
 widget : (g : Over) (c : goal.After-drop-deletion-2 g) → c.unselect_last.new.widget ≡ widget_left (is_covered c.in_ok-deletion.deletion.removed.items) c.cell_at.result.stamp c.in_ok-deletion.deletion.held c.args.widget.now
 widget g c =
     let held = c.in_ok-deletion.deletion.held in
-    c.unselect_last.ensures.own ∙ ap (reselected (last_gone c.cell_at.result.stamp held)) (c.leave.ensures ∙ ap (λ l. own_left (is_covered l) c.args.widget.now) c.deref-2.ensures.value)
+    c.unselect_last.ensures.own ∙ ap (reselected (last_gone c.cell_at.result.stamp held)) (c.leave_all.ensures.own ∙ ap (λ l. own_left (is_covered l) c.args.widget.now) c.deref.ensures.value)
 
 others_left : (g : Over) (c : goal.After-drop-deletion-2 g)
     → map own_in c.unselect_last.new.others ≡ map (widget_left (is_covered c.in_ok-deletion.deletion.removed.items) c.cell_at.result.stamp c.in_ok-deletion.deletion.held) (map own_in c.args.others.now)
@@ -135,7 +175,7 @@ others_left g c =
     let held = c.in_ok-deletion.deletion.held in
     let removed = is_covered c.in_ok-deletion.deletion.removed.items in
     let others = map own_in c.args.others.now in
-    c.unselect_last.ensures.others ∙ ap (map (reselected (last_gone c.cell_at.result.stamp held))) (c.leave_each.ensures ∙ ap (λ l. map (own_left (is_covered l)) others) c.deref-3.ensures.value) ∙ leave_then removed (last_gone c.cell_at.result.stamp held) others
+    c.unselect_last.ensures.others ∙ ap (map (reselected (last_gone c.cell_at.result.stamp held))) (c.leave_all.ensures.others ∙ ap (λ l. map (own_left (is_covered l)) others) c.deref.ensures.value) ∙ leave_then removed (last_gone c.cell_at.result.stamp held) others
 
 pub returns-clause-ok : goal.returns-clause-ok
 returns-clause-ok g c =
@@ -146,8 +186,8 @@ returns-clause-ok g c =
     let limits = c.args.widget.now.limits in
     let d = c.in_ok-deletion.deletion in
     let m = made g c in
-    let doc : Flat = seen c.make.new.self c.move_back.new.marks c.self.inside.tags.names in
-    let same : doc ≡ seen c.make.new.self c.move_back.new.marks flat.tags = ap (λ (f : Flat). seen c.make.new.self c.move_back.new.marks f.tags) c.self.view_is in
+    let doc : Flat = seen c.make.new.self c.leave_all.new.marks c.self.inside.tags.names in
+    let same : doc ≡ seen c.make.new.self c.leave_all.new.marks flat.tags = ap (λ (f : Flat). seen c.make.new.self c.leave_all.new.marks f.tags) c.self.view_is in
     deletion_edited flat own others ranges doc (is_covered d.removed.items) c.cell_at.result.stamp d.held (same ∙ m.doc) m.places m.newest m.holds
     ∙ (λ i. record { doc = doc; own = sym (widget g c) i; others = sym (others_left g c) i })
 

@@ -1,4 +1,5 @@
-use Rattle.std.proofs.Common.{◌≡◌, ◌∙◌, ◌≤◌, ◌⊎◌, ℕ, List, None, Some, ap, length, map, string_bytes, subst, sym}
+use Rattle.rt_rga.specs.Kept.{ReplicaValue}
+use Rattle.std.proofs.Common.{◌≡◌, ◌∙◌, ◌≤◌, ◌⊎◌, ℕ, List, None, Some, ap, length, map, string_bytes, subst, sym, refl, inl}
 use Rattle.std.proofs.lemmas.Result.{err_from_is_err_and}
 use Rattle.rt_stamps.specs.declared.fault.Fault.TheVariants.{NoMemory}
 use Rattle.rt_stamps.specs.declared.limits.TheConstants.{GREATEST_COUNT, MOST_SPANS}
@@ -25,6 +26,12 @@ use Rattle.rt_text.proofs.MadeDocument.{document_written, seen}
 use Rattle.rt_text.proofs.TaggedDocument.{deleted_makes, fits, kept_beside, left_of_deletion, makes_seen, of_site, refuses}
 use Rattle.rt_text.proofs.doc.Doc.delete_tags.Goals as goal
 
+pub returns-clause-err : goal.returns-clause-err
+returns-clause-err g c = tt
+
+pub returns-clause-unchanged : goal.returns-clause-unchanged
+returns-clause-unchanged g c = tt
+
 pub make-requires : goal.make-requires
 make-requires g c =
     let old = c.args.self.now in
@@ -36,8 +43,16 @@ make-requires g c =
     subst (λ (l : List Body). MayBeMade c.self.inside.replica.site c.self.inside.replica.log l) (sym bodies)
     (subst (λ (f : Flat). MayBeMade f.site f.log drafts) (sym c.self.view_is) makes.may)
 
-pub returns-in_err-_made-clause-err : goal.returns-in_err-_made-clause-err
-returns-in_err-_made-clause-err g c =
+pub returns-in_err-drafts : goal.returns-in_err-drafts
+returns-in_err-drafts g c =
+    let (y, is, gives) = err_from_is_err_and c.from_residual.result c.from_residual.ensures.1 in
+    rw (is, gives) (record { ok = tt; checked = tt; err = inl c.in_err-drafts.ensures.err; unchanged = refl; text = refl })
+
+pub invariant_of-self : goal.invariant_of-self
+invariant_of-self g c = subst (λ (r : ReplicaValue). IsDoc r.cells c.self.inside.marks c.self.inside.tags.names) (sym c.in_err-_made.ensures.same) c.self.invariant
+
+pub returns-in_err-_made : goal.returns-in_err-_made
+returns-in_err-_made g c =
     let old = c.args.self.now in
     let names = map (λ w. string_bytes w) c.args.names.now in
     let drafts = deletion_drafts MOST_SPANS old names in
@@ -47,9 +62,16 @@ returns-in_err-_made-clause-err g c =
     let makes = deleted_makes old names of in
     let same : refusal_of c.self.inside.replica.limit (map body_of c.in_ok-drafts.drafts.items) c.self.inside.replica.log ≡ refusal_of old.limit drafts old.log =
     (λ i. refusal_of (c.self.view_is i).limit (bodies i) (c.self.view_is i).log) in
-    let p = err_from_is_err_and c.from_residual-in_err-_made.result c.from_residual-in_err-_made.ensures.1 in
-    rw (p.1, p.2)
-    (refuses old edited drafts makes c.in_err-_made.field-0.0 (subst (λ o. (o ≡ Some c.in_err-_made.field-0.0) ⊎ ((c.in_err-_made.field-0.0 ≡ NoMemory) × (o ≡ None))) same c.in_err-_made.ensures.refused))
+    let (y, is, gives) = err_from_is_err_and c.from_residual-in_err-_made.result c.from_residual-in_err-_made.ensures.1 in
+    let doc : seen c.make.new.self c.self.inside.marks c.self.inside.tags.names ≡ old =
+    (λ k. seen (c.in_err-_made.ensures.same k) c.self.inside.marks c.self.inside.tags.names) ∙ c.self.view_is in
+    rw (is, gives) (record {
+      ok = tt;
+      checked = tt;
+      err = refuses old edited drafts makes c.in_err-_made.field-0.0 (subst (λ o. (o ≡ Some c.in_err-_made.field-0.0) ⊎ ((c.in_err-_made.field-0.0 ≡ NoMemory) × (o ≡ None))) same c.in_err-_made.ensures.refused);
+      unchanged = doc;
+      text = ap (λ (f : Flat). text_of f.cells) doc;
+    })
 
 pub invariant_of-self-2 : goal.invariant_of-self-2
 invariant_of-self-2 g c =

@@ -1,4 +1,6 @@
-use Rattle.std.proofs.Common.{◌≡◌, ℕ, ◌∙◌, ◌<◌, ◌≤◌, ◌+◌, ◌^◌, ◌-◌, All, ◌⊎◌, [], ◌∷◌, Some, ap, arith, inl, inr, length, map, refl, string_bytes, subst, sym, List, Option}
+use Rattle.rt_text.proofs.Room.{before_fits, grown_fits, mark_fits, visible_fits}
+use Rattle.rt_stamps.specs.declared.stamp.Stamp.{Stamp}
+use Rattle.std.proofs.Common.{◌≡◌, ℕ, ◌∙◌, ◌<◌, ◌≤◌, ◌+◌, ◌^◌, ◌-◌, All, ◌⊎◌, [], ◌∷◌, Some, ap, inl, inr, length, map, refl, string_bytes, subst, sym, List, Option, true}
 use Rattle.std.specs.List.{AllByRecursion}
 use Rattle.std.proofs.lemmas.List.{length-map}
 use Rattle.std.proofs.lemmas.Result.{err_from_is_err_and}
@@ -9,10 +11,10 @@ use Rattle.rt_stamps.specs.declared.fault.Fault.TheVariants.{ClockSpent, NoMemor
 use Rattle.rt_stamps.specs.declared.limits.TheConstants.{GREATEST_COUNT}
 use Rattle.rt_stamps.specs.Outcomes.{first_of}
 use Rattle.rt_store.specs.declared.cell.Cell.{Cell}
-use Rattle.rt_store.specs.Cells.{text_of}
+use Rattle.rt_store.specs.Cells.{text_of, visible_of}
 use Rattle.rt_store.specs.Shown.{TaggedCell, shown}
 use Rattle.rt_tags.specs.States.{TagStates}
-use Rattle.rt_tags.specs.Tags.{IsName}
+use Rattle.rt_tags.specs.Tags.{IsName, is_ready}
 use Rattle.rt_rga.specs.Histories.{IsHistory}
 use Rattle.rt_rga.specs.Drafts.{with_drafts}
 use Rattle.rt_rga.specs.Made.{refusal_of}
@@ -22,7 +24,7 @@ use Rattle.rt_edits.specs.Flat.{Flat, logged}
 use Rattle.rt_edits.specs.InsertionPlans.{Plans}
 use Rattle.rt_edits.specs.Insertions.{all_listed}
 use Rattle.rt_edits.specs.Listed.{AreListed}
-use Rattle.rt_edits.specs.Selected.{stamps_in}
+use Rattle.rt_edits.specs.Selected.{stamps_in, room_in}
 use Rattle.rt_edits.specs.Selections.{with_stamps}
 use Rattle.rt_edits.proofs.PlaceLaws.{length_text, text_within}
 use Rattle.rt_views.specs.declared.stretch.Stretch.{Stretch}
@@ -43,9 +45,9 @@ use Rattle.rt_text.proofs.PutLaws.{late_checks, visible_same}
 use Rattle.rt_text.proofs.ViewLaws.{viewed}
 use Rattle.rt_text.proofs.doc.Doc.insert_at.Goals as goal
 
-which : {F X : Type 0} {r checked : X} {fault memory : F} {some none : X} → (r ≡ some) ⊎ ((fault ≡ memory) × (r ≡ none)) → r ≡ checked → (fault ≡ memory) ⊎ (checked ≡ some)
-which (inl e) s = inr (sym s ∙ e)
-which (inr p) s = inl p.0
+which : {X M : Type 0} {r checked some : X} → M ⊎ (r ≡ some) → r ≡ checked → M ⊎ (checked ≡ some)
+which (inl e) s = inl e
+which (inr e) s = inr (sym s ∙ e)
 
 place_is : (flat : Flat) (own : Own) (others : List Own) (place : ℕ) → IsHistory flat.log → IsDocument flat.site flat.log flat → 0 < flat.site → place < length (shown_part flat.cells own.limits) → IsPlace flat own others place
 place_is flat own others place h doc real l = record {
@@ -63,12 +65,18 @@ spent flat edited others fault (inr p) =
     let view = edited others in
     inr (ap (λ (o : Option Fault). first_of (o ∷ cell_check flat.limit (length view.doc.cells) ∷ [])) (clock_spent view.doc.count (p.1 others)) ∙ ap (λ (x : Fault). Some x) (sym p.0))
 
-pub returns-in_err-plan-clause-err : goal.returns-in_err-plan-clause-err
-returns-in_err-plan-clause-err g c =
-    let p = err_from_is_err_and c.from_residual.result c.from_residual.ensures.1 in
-    rw (p.1, p.2)
-    (spent c.args.self.now (λ (o : List Own). with_pieces_at (record { doc = c.args.self.now; own = c.args.widget.now; others = o }) c.args.place c.args.pieces.now c.args.rest.now)
-    (map own_in c.args.others.now) c.in_err-plan.field-0.0 c.in_err-plan.ensures.err)
+pub returns-in_err-plan : goal.returns-in_err-plan
+returns-in_err-plan g c =
+    let (y, is, gives) = err_from_is_err_and c.from_residual.result c.from_residual.ensures.1 in
+    rw (is, gives) (record {
+      ok = tt;
+      checked = tt;
+      err = spent c.args.self.now (λ (o : List Own). with_pieces_at (record { doc = c.args.self.now; own = c.args.widget.now; others = o }) c.args.place c.args.pieces.now c.args.rest.now)
+          (map own_in c.args.others.now) c.in_err-plan.field-0.0 c.in_err-plan.ensures.err;
+      unchanged = (refl, refl, refl);
+      own = c.requires.own;
+      others = c.requires.others;
+    })
 
 -- the place in the text, as the code finds it
 at_is : (table : TagStates) (kept : List (Cell ℕ)) (flat : Flat) (own : Own) (others : List Own) (place : ℕ) (limits : Limits) (stretch : Stretch) → map (shown table) kept ≡ flat.cells → limits ≡ own.limits → stretch ≡ stretch_of kept limits
@@ -84,19 +92,12 @@ overflow_add-at g c =
     let table = c.kept.result.1.now in
     let kept = g.S.TextStore.list c.kept.result.0.now in
     let is = place_is flat own others place c.kept.ensures.history c.kept.ensures.document c.kept.ensures.site c.requires.place in
-    omega (
-      arith,
-      at_is table kept flat own others place c.limits.result c.stretch.result c.kept.ensures.cells c.limits.ensures c.stretch.ensures.value,
-      at_visible flat own others place is,
-      visible_same table kept flat.cells c.kept.ensures.cells,
-      text_within kept,
-      length_text kept,
-      c.kept.ensures.few,
-      c.kept.ensures.most,
-    )
+    visible_fits (c.stretch.result.begin + place) (in_text (viewed flat own others) place) (length (visible_of flat.cells)) (length (visible_of kept)) (length (text_of kept)) (length kept) flat.limit
+    (at_is table kept flat own others place c.limits.result c.stretch.result c.kept.ensures.cells c.limits.ensures c.stretch.ensures.value)
+    (at_visible flat own others place is) (visible_same table kept flat.cells c.kept.ensures.cells) (length_text kept) (text_within kept) c.kept.ensures.few c.kept.ensures.most
 
-pub make_room-requires : goal.make_room-requires
-make_room-requires g c =
+pub make_planned-requires-clause-names : goal.make_planned-requires-clause-names
+make_planned-requires-clause-names g c =
     let flat = c.args.self.now in
     let own = c.args.widget.now in
     let others = map own_in c.args.others.now in
@@ -109,8 +110,8 @@ make_room-requires g c =
     let listed : AreListed flat.tags flat.cells = subst (λ (f : Flat). AreListed f.tags f.cells) c.self.view_is c.self.invariant.listed in
     names_given flat own others place pieces rest is c.in_ok-plan.plan plans c.requires.pieces listed
 
-pub make-requires : goal.make-requires
-make-requires g c =
+pub make_planned-requires-clause-may : goal.make_planned-requires-clause-may
+make_planned-requires-clause-may g c =
     let flat = c.args.self.now in
     let own = c.args.widget.now in
     let others = map own_in c.args.others.now in
@@ -118,14 +119,18 @@ make-requires g c =
     let rest = c.args.rest.now in
     let place = c.args.place in
     let is = place_is flat own others place c.kept.ensures.history c.kept.ensures.document c.kept.ensures.site c.requires.place in
-    let drafts : map body_of c.in_ok-plan.plan.drafts.items ≡ made_drafts flat own others place pieces rest =
-    c.in_ok-plan.ensures.drafts others in
+    let drafts : map body_of c.replace-drafts.result.items ≡ made_drafts flat own others place pieces rest =
+    ap (λ v. map body_of v.items) c.replace-drafts.ensures.value ∙ c.in_ok-plan.ensures.drafts others in
     let may : MayBeMade flat.site flat.log (made_drafts flat own others place pieces rest) =
     may_make flat own others place pieces rest is c.requires.pieces c.utf8.rest in
     subst (λ (p : _). p) (λ i. MayBeMade (sym c.self.view_is i).site (sym c.self.view_is i).log (sym drafts i)) may
 
-pub returns-in_err-_made-clause-err : goal.returns-in_err-_made-clause-err
-returns-in_err-_made-clause-err g c =
+pub invariant_of-self : goal.invariant_of-self
+invariant_of-self g c =
+    subst (λ (p : _). p) (λ k. IsDoc (sym c.in_err-make_planned.ensures.same k).cells c.self.inside.marks (sym c.make_planned.ensures.tags k)) c.self.invariant
+
+pub returns-in_err-make_planned : goal.returns-in_err-make_planned
+returns-in_err-make_planned g c =
     let flat = c.args.self.now in
     let own = c.args.widget.now in
     let others = map own_in c.args.others.now in
@@ -133,15 +138,28 @@ returns-in_err-_made-clause-err g c =
     let rest = c.args.rest.now in
     let place = c.args.place in
     let is = place_is flat own others place c.kept.ensures.history c.kept.ensures.document c.kept.ensures.site c.requires.place in
-    let drafts : map body_of c.in_ok-plan.plan.drafts.items ≡ made_drafts flat own others place pieces rest =
-    c.in_ok-plan.ensures.drafts others in
-    let p = err_from_is_err_and c.from_residual-in_err-_made.result c.from_residual-in_err-_made.ensures.1 in
-    let same : refusal_of c.self.inside.replica.limit (map body_of c.in_ok-plan.plan.drafts.items) c.self.inside.replica.log ≡ first_of (late_checks flat (with_pieces_at (viewed flat own others) place pieces rest)) =
+    let drafts : map body_of c.replace-drafts.result.items ≡ made_drafts flat own others place pieces rest =
+    ap (λ v. map body_of v.items) c.replace-drafts.ensures.value ∙ c.in_ok-plan.ensures.drafts others in
+    let same : refusal_of c.self.inside.replica.limit (map body_of c.replace-drafts.result.items) c.self.inside.replica.log ≡ first_of (late_checks flat (with_pieces_at (viewed flat own others) place pieces rest)) =
     (λ i. refusal_of (c.self.view_is i).limit (drafts i) (c.self.view_is i).log) ∙ refused_as flat own others place pieces rest is in
-    rw (p.1, p.2) (which c.in_err-_made.ensures.refused same)
+    let (y, is, gives) = err_from_is_err_and c.from_residual-in_err-make_planned.result c.from_residual-in_err-make_planned.ensures.1 in
+    let own_now : Own = own_in c.widget.inside.parts in
+    let doc : seen c.make_planned.new.replica c.self.inside.marks c.make_planned.new.tags.names ≡ c.args.self.now =
+    (λ k. seen (c.in_err-make_planned.ensures.same k) c.self.inside.marks (c.make_planned.ensures.tags k)) ∙ c.self.view_is in
+    let own_same : record own_now { sel = stamps_in c.make_planned.new.selection } ≡ c.args.widget.now =
+    ap (λ (s : List Stamp). record own_now { sel = s }) c.make_planned.ensures.selection ∙ c.widget.view_is in
+    let others_same : map own_in c.make_planned.new.others ≡ map own_in c.args.others.now = c.make_planned.ensures.others in
+    rw (is, gives) (record {
+      ok = tt;
+      checked = tt;
+      err = which c.in_err-make_planned.ensures.refused same;
+      unchanged = (doc, own_same, others_same);
+      own = subst (λ (p : _). p) (λ k. IsOwnOf (length (text_of (sym doc k).cells)) (sym own_same k)) c.requires.own;
+      others = subst (λ (p : _). p) (λ k. AllByRecursion (IsOwnOf (length (text_of (sym doc k).cells))) (sym others_same k)) c.requires.others;
+    })
 
-pub inserted-requires : goal.inserted-requires
-inserted-requires g c =
+pub insert_all-requires : goal.insert_all-requires
+insert_all-requires g c =
     let flat = c.args.self.now in
     let own = c.args.widget.now in
     let others = map own_in c.args.others.now in
@@ -149,82 +167,26 @@ inserted-requires g c =
     let rest = c.args.rest.now in
     let place = c.args.place in
     let is = place_is flat own others place c.kept.ensures.history c.kept.ensures.document c.kept.ensures.site c.requires.place in
-    let drafts : map body_of c.in_ok-plan.plan.drafts.items ≡ made_drafts flat own others place pieces rest =
-    c.in_ok-plan.ensures.drafts others in
+    let drafts : map body_of c.replace-drafts.result.items ≡ made_drafts flat own others place pieces rest =
+    ap (λ v. map body_of v.items) c.replace-drafts.ensures.value ∙ c.in_ok-plan.ensures.drafts others in
     let plans : Plans c.in_ok-plan.plan own.sel (selections_of others) flat.tags (made_new flat own others place pieces rest) =
     c.in_ok-plan.ensures.plans others in
     let fit = all_fit flat own others place pieces rest is
-    (sym (λ i. refusal_of (c.self.view_is i).limit (drafts i) (c.self.view_is i).log) ∙ c.in_ok-_made.ensures.fits) in
+    (sym (λ i. refusal_of (c.self.view_is i).limit (drafts i) (c.self.view_is i).log) ∙ c.in_ok-make_planned.ensures.fits) in
     let characters : c.in_ok-plan.plan.characters ≡ length (made_new flat own others place pieces rest).cells = plans.characters in
     let many : length (text_of c.self.inside.replica.cells) ≡ length (text_of flat.cells) = ap (λ (f : Flat). length (text_of f.cells)) c.self.view_is in
-    let few : length (text_of flat.cells) + c.in_ok-plan.plan.characters ≤ 2 ^ 64 - 1 = omega (arith, fit.1, characters, text_within flat.cells, c.kept.ensures.most) in
-    record { fits = site_fits (length (text_of c.self.inside.replica.cells)) c.in_ok-plan.plan.characters (2 ^ 64 - 1) c.self.inside.marks (omega (arith, many, few)) c.self.invariant.placed }
-
-pub inserted-requires-2-clause-insert : goal.inserted-requires-2-clause-insert
-inserted-requires-2-clause-insert g c =
-    let flat = c.args.self.now in
-    let own = c.args.widget.now in
-    let others = map own_in c.args.others.now in
-    let pieces = c.args.pieces.now in
-    let rest = c.args.rest.now in
-    let place = c.args.place in
-    let is = place_is flat own others place c.kept.ensures.history c.kept.ensures.document c.kept.ensures.site c.requires.place in
-    let drafts : map body_of c.in_ok-plan.plan.drafts.items ≡ made_drafts flat own others place pieces rest =
-    c.in_ok-plan.ensures.drafts others in
-    let plans : Plans c.in_ok-plan.plan own.sel (selections_of others) flat.tags (made_new flat own others place pieces rest) =
-    c.in_ok-plan.ensures.plans others in
-    let fit = all_fit flat own others place pieces rest is
-    (sym (λ i. refusal_of (c.self.view_is i).limit (drafts i) (c.self.view_is i).log) ∙ c.in_ok-_made.ensures.fits) in
-    let characters : c.in_ok-plan.plan.characters ≡ length (made_new flat own others place pieces rest).cells = plans.characters in
-    let many : length (text_of c.self.inside.replica.cells) ≡ length (text_of flat.cells) = ap (λ (f : Flat). length (text_of f.cells)) c.self.view_is in
-    let few : length (text_of flat.cells) + c.in_ok-plan.plan.characters ≤ 2 ^ 64 - 1 = omega (arith, fit.1, characters, text_within flat.cells, c.kept.ensures.most) in
-    let place : c.widget.inside.parts.insert.place ≡ own.insert.place = ap (λ (o : Own). o.insert.place) c.widget.view_is in
-    omega (arith, place, few, c.requires.own.0)
-
-pub inserted-requires-2-clause-current : goal.inserted-requires-2-clause-current
-inserted-requires-2-clause-current g c =
-    let flat = c.args.self.now in
-    let own = c.args.widget.now in
-    let others = map own_in c.args.others.now in
-    let pieces = c.args.pieces.now in
-    let rest = c.args.rest.now in
-    let place = c.args.place in
-    let is = place_is flat own others place c.kept.ensures.history c.kept.ensures.document c.kept.ensures.site c.requires.place in
-    let drafts : map body_of c.in_ok-plan.plan.drafts.items ≡ made_drafts flat own others place pieces rest =
-    c.in_ok-plan.ensures.drafts others in
-    let plans : Plans c.in_ok-plan.plan own.sel (selections_of others) flat.tags (made_new flat own others place pieces rest) =
-    c.in_ok-plan.ensures.plans others in
-    let fit = all_fit flat own others place pieces rest is
-    (sym (λ i. refusal_of (c.self.view_is i).limit (drafts i) (c.self.view_is i).log) ∙ c.in_ok-_made.ensures.fits) in
-    let characters : c.in_ok-plan.plan.characters ≡ length (made_new flat own others place pieces rest).cells = plans.characters in
-    let many : length (text_of c.self.inside.replica.cells) ≡ length (text_of flat.cells) = ap (λ (f : Flat). length (text_of f.cells)) c.self.view_is in
-    let few : length (text_of flat.cells) + c.in_ok-plan.plan.characters ≤ 2 ^ 64 - 1 = omega (arith, fit.1, characters, text_within flat.cells, c.kept.ensures.most) in
-    let place : c.widget.inside.parts.current.place ≡ own.current.place = ap (λ (o : Own). o.current.place) c.widget.view_is in
-    omega (arith, place, few, c.requires.own.1)
-
-pub insert_each-requires : goal.insert_each-requires
-insert_each-requires g c =
-    let flat = c.args.self.now in
-    let own = c.args.widget.now in
-    let others = map own_in c.args.others.now in
-    let pieces = c.args.pieces.now in
-    let rest = c.args.rest.now in
-    let place = c.args.place in
-    let is = place_is flat own others place c.kept.ensures.history c.kept.ensures.document c.kept.ensures.site c.requires.place in
-    let drafts : map body_of c.in_ok-plan.plan.drafts.items ≡ made_drafts flat own others place pieces rest =
-    c.in_ok-plan.ensures.drafts others in
-    let plans : Plans c.in_ok-plan.plan own.sel (selections_of others) flat.tags (made_new flat own others place pieces rest) =
-    c.in_ok-plan.ensures.plans others in
-    let fit = all_fit flat own others place pieces rest is
-    (sym (λ i. refusal_of (c.self.view_is i).limit (drafts i) (c.self.view_is i).log) ∙ c.in_ok-_made.ensures.fits) in
-    let characters : c.in_ok-plan.plan.characters ≡ length (made_new flat own others place pieces rest).cells = plans.characters in
-    let many : length (text_of c.self.inside.replica.cells) ≡ length (text_of flat.cells) = ap (λ (f : Flat). length (text_of f.cells)) c.self.view_is in
-    let few : length (text_of flat.cells) + c.in_ok-plan.plan.characters ≤ 2 ^ 64 - 1 = omega (arith, fit.1, characters, text_within flat.cells, c.kept.ensures.most) in
+    let few : length (text_of flat.cells) + c.in_ok-plan.plan.characters ≤ 2 ^ 64 - 1 =
+    grown_fits (length (text_of flat.cells)) (length flat.cells) (length (made_new flat own others place pieces rest).cells) c.in_ok-plan.plan.characters flat.limit fit.1 characters (text_within flat.cells) c.kept.ensures.most in
     let between = c.in_ok-plan.plan.between in
-    let now : map own_in c.select_between.new.others ≡ map (selecting between) others = c.select_between.ensures ∙ ap (map (selecting between)) c.make_room.ensures.others in
+    let now : map own_in c.select_all.new.others ≡ map (selecting between) others = c.select_all.ensures.others ∙ ap (map (selecting between)) c.make_planned.ensures.others in
     let n = length (text_of flat.cells) in
-    each_room n c.in_ok-plan.plan.characters (2 ^ 64 - 1) c.select_between.new.others few
-    (subst (AllByRecursion (IsOwnOf n)) (sym now) (each_by (IsOwnOf n) (IsOwnOf n) (selecting between) (λ other stands. stands) others c.requires.others))
+    record {
+      marks = site_fits (length (text_of c.self.inside.replica.cells)) c.in_ok-plan.plan.characters (2 ^ 64 - 1) c.self.inside.marks (subst (λ n. n + c.in_ok-plan.plan.characters ≤ 2 ^ 64 - 1) (sym many) few) c.self.invariant.placed;
+      insert = before_fits c.widget.inside.parts.insert.place own.insert.place (length (text_of flat.cells)) c.in_ok-plan.plan.characters (2 ^ 64 - 1) (ap (λ (o : Own). o.insert.place) c.widget.view_is) c.requires.own.0 few;
+      current = mark_fits c.widget.inside.parts.current.place own.current.place (length (text_of flat.cells)) c.in_ok-plan.plan.characters (2 ^ 64 - 1) (ap (λ (o : Own). o.current.place) c.widget.view_is) c.requires.own.1 few;
+      others = each_room n c.in_ok-plan.plan.characters (2 ^ 64 - 1) c.select_all.new.others few
+          (subst (AllByRecursion (IsOwnOf n)) (sym now) (each_by (IsOwnOf n) (IsOwnOf n) (selecting between) (λ other stands. stands) others c.requires.others));
+    }
 
 pub list_tags-requires-clause-names : goal.list_tags-requires-clause-names
 list_tags-requires-clause-names g c =
@@ -254,27 +216,27 @@ invariant_of-self-2 g c =
     let here : at ≡ point =
     at_is c.kept.result.1.now (g.S.TextStore.list c.kept.result.0.now) flat own others place c.limits.result c.stretch.result c.kept.ensures.cells c.limits.ensures c.stretch.ensures.value in
     let is = place_is flat own others place c.kept.ensures.history c.kept.ensures.document c.kept.ensures.site c.requires.place in
-    let drafts : map body_of c.in_ok-plan.plan.drafts.items ≡ made_drafts flat own others place pieces rest =
-    c.in_ok-plan.ensures.drafts others in
+    let drafts : map body_of c.replace-drafts.result.items ≡ made_drafts flat own others place pieces rest =
+    ap (λ v. map body_of v.items) c.replace-drafts.ensures.value ∙ c.in_ok-plan.ensures.drafts others in
     let plans : Plans c.in_ok-plan.plan own.sel (selections_of others) flat.tags (made_new flat own others place pieces rest) =
     c.in_ok-plan.ensures.plans others in
     let fit = all_fit flat own others place pieces rest is
-    (sym (λ i. refusal_of (c.self.view_is i).limit (drafts i) (c.self.view_is i).log) ∙ c.in_ok-_made.ensures.fits) in
+    (sym (λ i. refusal_of (c.self.view_is i).limit (drafts i) (c.self.view_is i).log) ∙ c.in_ok-make_planned.ensures.fits) in
     let new = made_new flat own others place pieces rest in
     let edited = made_flat flat own others place pieces rest in
     let bodies = made_drafts flat own others place pieces rest in
-    let log : c.make.new.self.log ≡ with_drafts flat.site bodies flat.log = c.in_ok-_made.ensures.log ∙ (λ i. with_drafts (c.self.view_is i).site (drafts i) (c.self.view_is i).log) in
+    let log : c.make_planned.new.replica.log ≡ with_drafts flat.site bodies flat.log = c.in_ok-make_planned.ensures.log ∙ (λ i. with_drafts (c.self.view_is i).site (drafts i) (c.self.view_is i).log) in
     let made = made_is flat own others place pieces rest is c.requires.pieces c.utf8.rest fit.0 in
-    let doc : seen c.make.new.self edited.marks edited.tags ≡ logged flat bodies edited =
-    seen_made flat edited bodies c.make.new.self log c.in_ok-_made.ensures.cells (c.make.ensures.site ∙ ap (λ (f : Flat). f.site) c.self.view_is) (c.make.ensures.limit ∙ ap (λ (f : Flat). f.limit) c.self.view_is) refl made in
-    let marks : c.inserted.new.self ≡ edited.marks = c.inserted.ensures ∙ (λ i. marks_inserted (here i) (plans.characters i) (c.self.view_is i).marks) in
+    let doc : seen c.make_planned.new.replica edited.marks edited.tags ≡ logged flat bodies edited =
+    seen_made flat edited bodies c.make_planned.new.replica log c.in_ok-make_planned.ensures.cells (c.make_planned.ensures.site ∙ ap (λ (f : Flat). f.site) c.self.view_is) (c.make_planned.ensures.limit ∙ ap (λ (f : Flat). f.limit) c.self.view_is) refl made in
+    let marks : c.insert_all.new.marks ≡ edited.marks = c.insert_all.ensures.marks ∙ (λ i. marks_inserted (here i) (plans.characters i) (c.self.view_is i).marks) in
     let tags : c.list_tags.new.table.names ≡ edited.tags =
-    c.list_tags.ensures ∙ (λ i. all_listed (map (λ w. string_bytes w) (c.deref-2.ensures.value i)) (c.make_room.ensures.tags i)) ∙ ap (λ (f : Flat). all_listed (map (λ w. string_bytes w) c.in_ok-plan.plan.names.items) f.tags) c.self.view_is ∙ plans.tags in
+    c.list_tags.ensures ∙ (λ i. all_listed (map (λ w. string_bytes w) (c.deref-2.ensures.value i)) (c.make_planned.ensures.tags i)) ∙ ap (λ (f : Flat). all_listed (map (λ w. string_bytes w) c.in_ok-plan.plan.names.items) f.tags) c.self.view_is ∙ plans.tags in
     let kept = kept_made flat own others place pieces rest is c.requires.pieces (subst (λ (f : Flat). IsDoc f.cells f.marks f.tags) c.self.view_is c.self.invariant) in
     subst (λ (p : _). p) (λ i. IsDoc (sym doc i).cells (sym marks i) (sym tags i)) kept
 
-pub returns-clause-ok : goal.returns-clause-ok
-returns-clause-ok g c =
+pub returns : goal.returns
+returns g c =
     let flat = c.args.self.now in
     let own = c.args.widget.now in
     let others = map own_in c.args.others.now in
@@ -286,145 +248,53 @@ returns-clause-ok g c =
     let here : at ≡ point =
     at_is c.kept.result.1.now (g.S.TextStore.list c.kept.result.0.now) flat own others place c.limits.result c.stretch.result c.kept.ensures.cells c.limits.ensures c.stretch.ensures.value in
     let is = place_is flat own others place c.kept.ensures.history c.kept.ensures.document c.kept.ensures.site c.requires.place in
-    let drafts : map body_of c.in_ok-plan.plan.drafts.items ≡ made_drafts flat own others place pieces rest =
-    c.in_ok-plan.ensures.drafts others in
+    let drafts : map body_of c.replace-drafts.result.items ≡ made_drafts flat own others place pieces rest =
+    ap (λ v. map body_of v.items) c.replace-drafts.ensures.value ∙ c.in_ok-plan.ensures.drafts others in
     let plans : Plans c.in_ok-plan.plan own.sel (selections_of others) flat.tags (made_new flat own others place pieces rest) =
     c.in_ok-plan.ensures.plans others in
     let fit = all_fit flat own others place pieces rest is
-    (sym (λ i. refusal_of (c.self.view_is i).limit (drafts i) (c.self.view_is i).log) ∙ c.in_ok-_made.ensures.fits) in
-    let new = made_new flat own others place pieces rest in
-    let edited = made_flat flat own others place pieces rest in
-    let bodies = made_drafts flat own others place pieces rest in
-    let log : c.make.new.self.log ≡ with_drafts flat.site bodies flat.log = c.in_ok-_made.ensures.log ∙ (λ i. with_drafts (c.self.view_is i).site (drafts i) (c.self.view_is i).log) in
-    let made = made_is flat own others place pieces rest is c.requires.pieces c.utf8.rest fit.0 in
-    let doc : seen c.make.new.self edited.marks edited.tags ≡ logged flat bodies edited =
-    seen_made flat edited bodies c.make.new.self log c.in_ok-_made.ensures.cells (c.make.ensures.site ∙ ap (λ (f : Flat). f.site) c.self.view_is) (c.make.ensures.limit ∙ ap (λ (f : Flat). f.limit) c.self.view_is) refl made in
-    let marks : c.inserted.new.self ≡ edited.marks = c.inserted.ensures ∙ (λ i. marks_inserted (here i) (plans.characters i) (c.self.view_is i).marks) in
-    let tags : c.list_tags.new.table.names ≡ edited.tags =
-    c.list_tags.ensures ∙ (λ i. all_listed (map (λ w. string_bytes w) (c.deref-2.ensures.value i)) (c.make_room.ensures.tags i)) ∙ ap (λ (f : Flat). all_listed (map (λ w. string_bytes w) c.in_ok-plan.plan.names.items) f.tags) c.self.view_is ∙ plans.tags in
-    let sel : stamps_in c.widget.inside.parts.selection ≡ own.sel = ap (λ (o : Own). o.sel) c.widget.view_is in
-    let own_now : Own = own_in c.widget.inside.parts in
-    let stamps : stamps_in c.add.new.self ≡ new.sel =
-    c.add.ensures ∙ (λ i. with_stamps (c.deref.ensures.value i) (c.make_room.ensures.selection i)) ∙ ap (with_stamps c.in_ok-plan.plan.selected.items) sel ∙ plans.sel in
-    let own_after : c.inserted-2.new.self ≡ record (own_inserted point (length new.cells) own) { sel = new.sel } =
-    c.inserted-2.ensures
-    ∙ (λ i. record { insert = mark_inserted (here i) (plans.characters i) own_now.insert; current = mark_inserted (here i) (plans.characters i) own_now.current; sel = stamps i; limits = own_now.limits })
-    ∙ ap (λ (o : Own). record (own_inserted point (length new.cells) o) { sel = new.sel }) c.widget.view_is in
-    let others_after : map own_in c.insert_each.new.others ≡ with_selections new.others (map (own_inserted point (length new.cells)) others) =
-    c.insert_each.ensures ∙ ap (map (own_inserted at c.in_ok-plan.plan.characters)) (c.select_between.ensures ∙ ap (map (selecting c.in_ok-plan.plan.between)) c.make_room.ensures.others)
-    ∙ (λ i. map (own_inserted (here i) (plans.characters i)) (map (selecting c.in_ok-plan.plan.between) others)) ∙ put_each point (length new.cells) c.in_ok-plan.plan.between others
-    ∙ ap (λ l. with_selections l (map (own_inserted point (length new.cells)) others)) plans.others in
-    (λ i. record { doc = seen c.make.new.self (marks i) (tags i); own = own_after i; others = others_after i })
-    ∙ ap (λ (f : Flat). record { doc = f; own = record (own_inserted point (length new.cells) own) { sel = new.sel }; others = with_selections new.others (map (own_inserted point (length new.cells)) others) }) doc
-    ∙ sym (put_made flat own others place pieces rest)
-
-pub returns-clause-checked : goal.returns-clause-checked
-returns-clause-checked g c =
-    let flat = c.args.self.now in
-    let own = c.args.widget.now in
-    let others = map own_in c.args.others.now in
-    let pieces = c.args.pieces.now in
-    let rest = c.args.rest.now in
-    let place = c.args.place in
-    let at = c.stretch.result.begin + place in
-    let point = in_text (viewed flat own others) place in
-    let here : at ≡ point =
-    at_is c.kept.result.1.now (g.S.TextStore.list c.kept.result.0.now) flat own others place c.limits.result c.stretch.result c.kept.ensures.cells c.limits.ensures c.stretch.ensures.value in
-    let is = place_is flat own others place c.kept.ensures.history c.kept.ensures.document c.kept.ensures.site c.requires.place in
-    let drafts : map body_of c.in_ok-plan.plan.drafts.items ≡ made_drafts flat own others place pieces rest =
-    c.in_ok-plan.ensures.drafts others in
-    let plans : Plans c.in_ok-plan.plan own.sel (selections_of others) flat.tags (made_new flat own others place pieces rest) =
-    c.in_ok-plan.ensures.plans others in
-    let fit = all_fit flat own others place pieces rest is
-    (sym (λ i. refusal_of (c.self.view_is i).limit (drafts i) (c.self.view_is i).log) ∙ c.in_ok-_made.ensures.fits) in
-    let new = made_new flat own others place pieces rest in
-    let edited = made_flat flat own others place pieces rest in
-    let bodies = made_drafts flat own others place pieces rest in
-    let log : c.make.new.self.log ≡ with_drafts flat.site bodies flat.log = c.in_ok-_made.ensures.log ∙ (λ i. with_drafts (c.self.view_is i).site (drafts i) (c.self.view_is i).log) in
-    let made = made_is flat own others place pieces rest is c.requires.pieces c.utf8.rest fit.0 in
-    let doc : seen c.make.new.self edited.marks edited.tags ≡ logged flat bodies edited =
-    seen_made flat edited bodies c.make.new.self log c.in_ok-_made.ensures.cells (c.make.ensures.site ∙ ap (λ (f : Flat). f.site) c.self.view_is) (c.make.ensures.limit ∙ ap (λ (f : Flat). f.limit) c.self.view_is) refl made in
-    let marks : c.inserted.new.self ≡ edited.marks = c.inserted.ensures ∙ (λ i. marks_inserted (here i) (plans.characters i) (c.self.view_is i).marks) in
-    let tags : c.list_tags.new.table.names ≡ edited.tags =
-    c.list_tags.ensures ∙ (λ i. all_listed (map (λ w. string_bytes w) (c.deref-2.ensures.value i)) (c.make_room.ensures.tags i)) ∙ ap (λ (f : Flat). all_listed (map (λ w. string_bytes w) c.in_ok-plan.plan.names.items) f.tags) c.self.view_is ∙ plans.tags in
-    (λ i. first_of (late_checks flat (record { doc = doc i; own = own; others = others })))
-    ∙ sym (refused_made flat own others place pieces rest is)
-    ∙ sym (λ i. refusal_of (c.self.view_is i).limit (drafts i) (c.self.view_is i).log) ∙ c.in_ok-_made.ensures.fits
-
-pub returns-clause-own : goal.returns-clause-own
-returns-clause-own g c =
-    let flat = c.args.self.now in
-    let own = c.args.widget.now in
-    let others = map own_in c.args.others.now in
-    let pieces = c.args.pieces.now in
-    let rest = c.args.rest.now in
-    let place = c.args.place in
-    let at = c.stretch.result.begin + place in
-    let point = in_text (viewed flat own others) place in
-    let here : at ≡ point =
-    at_is c.kept.result.1.now (g.S.TextStore.list c.kept.result.0.now) flat own others place c.limits.result c.stretch.result c.kept.ensures.cells c.limits.ensures c.stretch.ensures.value in
-    let is = place_is flat own others place c.kept.ensures.history c.kept.ensures.document c.kept.ensures.site c.requires.place in
-    let drafts : map body_of c.in_ok-plan.plan.drafts.items ≡ made_drafts flat own others place pieces rest =
-    c.in_ok-plan.ensures.drafts others in
-    let plans : Plans c.in_ok-plan.plan own.sel (selections_of others) flat.tags (made_new flat own others place pieces rest) =
-    c.in_ok-plan.ensures.plans others in
-    let fit = all_fit flat own others place pieces rest is
-    (sym (λ i. refusal_of (c.self.view_is i).limit (drafts i) (c.self.view_is i).log) ∙ c.in_ok-_made.ensures.fits) in
+    (sym (λ i. refusal_of (c.self.view_is i).limit (drafts i) (c.self.view_is i).log) ∙ c.in_ok-make_planned.ensures.fits) in
     let listed : AreListed flat.tags flat.cells = subst (λ (f : Flat). AreListed f.tags f.cells) c.self.view_is c.self.invariant.listed in
     let new = made_new flat own others place pieces rest in
     let edited = made_flat flat own others place pieces rest in
     let bodies = made_drafts flat own others place pieces rest in
-    let log : c.make.new.self.log ≡ with_drafts flat.site bodies flat.log = c.in_ok-_made.ensures.log ∙ (λ i. with_drafts (c.self.view_is i).site (drafts i) (c.self.view_is i).log) in
+    let log : c.make_planned.new.replica.log ≡ with_drafts flat.site bodies flat.log = c.in_ok-make_planned.ensures.log ∙ (λ i. with_drafts (c.self.view_is i).site (drafts i) (c.self.view_is i).log) in
     let made = made_is flat own others place pieces rest is c.requires.pieces c.utf8.rest fit.0 in
-    let doc : seen c.make.new.self edited.marks edited.tags ≡ logged flat bodies edited =
-    seen_made flat edited bodies c.make.new.self log c.in_ok-_made.ensures.cells (c.make.ensures.site ∙ ap (λ (f : Flat). f.site) c.self.view_is) (c.make.ensures.limit ∙ ap (λ (f : Flat). f.limit) c.self.view_is) refl made in
-    let marks : c.inserted.new.self ≡ edited.marks = c.inserted.ensures ∙ (λ i. marks_inserted (here i) (plans.characters i) (c.self.view_is i).marks) in
+    let doc : seen c.make_planned.new.replica edited.marks edited.tags ≡ logged flat bodies edited =
+    seen_made flat edited bodies c.make_planned.new.replica log c.in_ok-make_planned.ensures.cells (c.make_planned.ensures.site ∙ ap (λ (f : Flat). f.site) c.self.view_is) (c.make_planned.ensures.limit ∙ ap (λ (f : Flat). f.limit) c.self.view_is) refl made in
+    let marks : c.insert_all.new.marks ≡ edited.marks = c.insert_all.ensures.marks ∙ (λ i. marks_inserted (here i) (plans.characters i) (c.self.view_is i).marks) in
     let tags : c.list_tags.new.table.names ≡ edited.tags =
-    c.list_tags.ensures ∙ (λ i. all_listed (map (λ w. string_bytes w) (c.deref-2.ensures.value i)) (c.make_room.ensures.tags i)) ∙ ap (λ (f : Flat). all_listed (map (λ w. string_bytes w) c.in_ok-plan.plan.names.items) f.tags) c.self.view_is ∙ plans.tags in
+    c.list_tags.ensures ∙ (λ i. all_listed (map (λ w. string_bytes w) (c.deref-2.ensures.value i)) (c.make_planned.ensures.tags i)) ∙ ap (λ (f : Flat). all_listed (map (λ w. string_bytes w) c.in_ok-plan.plan.names.items) f.tags) c.self.view_is ∙ plans.tags in
     let sel : stamps_in c.widget.inside.parts.selection ≡ own.sel = ap (λ (o : Own). o.sel) c.widget.view_is in
     let own_now : Own = own_in c.widget.inside.parts in
-    let stamps : stamps_in c.add.new.self ≡ new.sel =
-    c.add.ensures ∙ (λ i. with_stamps (c.deref.ensures.value i) (c.make_room.ensures.selection i)) ∙ ap (with_stamps c.in_ok-plan.plan.selected.items) sel ∙ plans.sel in
-    let own_after : c.inserted-2.new.self ≡ record (own_inserted point (length new.cells) own) { sel = new.sel } =
-    c.inserted-2.ensures
+    let stamps : stamps_in c.select_all.new.selection ≡ new.sel =
+    c.select_all.ensures.selection ∙ (λ i. with_stamps (c.deref.ensures.value i) (c.make_planned.ensures.selection i)) ∙ ap (with_stamps c.in_ok-plan.plan.selected.items) sel ∙ plans.sel in
+    let own_after : c.insert_all.new.widget ≡ record (own_inserted point (length new.cells) own) { sel = new.sel } =
+    c.insert_all.ensures.own
     ∙ (λ i. record { insert = mark_inserted (here i) (plans.characters i) own_now.insert; current = mark_inserted (here i) (plans.characters i) own_now.current; sel = stamps i; limits = own_now.limits })
     ∙ ap (λ (o : Own). record (own_inserted point (length new.cells) o) { sel = new.sel }) c.widget.view_is in
-    let is = own_made flat own others place pieces rest is c.requires.pieces listed c.requires.own in
-    subst (λ (p : _). p) (λ i. IsOwnOf (length (text_of (sym doc i).cells)) (sym own_after i)) is
-
-pub returns-clause-others : goal.returns-clause-others
-returns-clause-others g c =
-    let flat = c.args.self.now in
-    let own = c.args.widget.now in
-    let others = map own_in c.args.others.now in
-    let pieces = c.args.pieces.now in
-    let rest = c.args.rest.now in
-    let place = c.args.place in
-    let at = c.stretch.result.begin + place in
-    let point = in_text (viewed flat own others) place in
-    let here : at ≡ point =
-    at_is c.kept.result.1.now (g.S.TextStore.list c.kept.result.0.now) flat own others place c.limits.result c.stretch.result c.kept.ensures.cells c.limits.ensures c.stretch.ensures.value in
-    let is = place_is flat own others place c.kept.ensures.history c.kept.ensures.document c.kept.ensures.site c.requires.place in
-    let drafts : map body_of c.in_ok-plan.plan.drafts.items ≡ made_drafts flat own others place pieces rest =
-    c.in_ok-plan.ensures.drafts others in
-    let plans : Plans c.in_ok-plan.plan own.sel (selections_of others) flat.tags (made_new flat own others place pieces rest) =
-    c.in_ok-plan.ensures.plans others in
-    let fit = all_fit flat own others place pieces rest is
-    (sym (λ i. refusal_of (c.self.view_is i).limit (drafts i) (c.self.view_is i).log) ∙ c.in_ok-_made.ensures.fits) in
-    let listed : AreListed flat.tags flat.cells = subst (λ (f : Flat). AreListed f.tags f.cells) c.self.view_is c.self.invariant.listed in
-    let new = made_new flat own others place pieces rest in
-    let edited = made_flat flat own others place pieces rest in
-    let bodies = made_drafts flat own others place pieces rest in
-    let log : c.make.new.self.log ≡ with_drafts flat.site bodies flat.log = c.in_ok-_made.ensures.log ∙ (λ i. with_drafts (c.self.view_is i).site (drafts i) (c.self.view_is i).log) in
-    let made = made_is flat own others place pieces rest is c.requires.pieces c.utf8.rest fit.0 in
-    let doc : seen c.make.new.self edited.marks edited.tags ≡ logged flat bodies edited =
-    seen_made flat edited bodies c.make.new.self log c.in_ok-_made.ensures.cells (c.make.ensures.site ∙ ap (λ (f : Flat). f.site) c.self.view_is) (c.make.ensures.limit ∙ ap (λ (f : Flat). f.limit) c.self.view_is) refl made in
-    let marks : c.inserted.new.self ≡ edited.marks = c.inserted.ensures ∙ (λ i. marks_inserted (here i) (plans.characters i) (c.self.view_is i).marks) in
-    let tags : c.list_tags.new.table.names ≡ edited.tags =
-    c.list_tags.ensures ∙ (λ i. all_listed (map (λ w. string_bytes w) (c.deref-2.ensures.value i)) (c.make_room.ensures.tags i)) ∙ ap (λ (f : Flat). all_listed (map (λ w. string_bytes w) c.in_ok-plan.plan.names.items) f.tags) c.self.view_is ∙ plans.tags in
-    let others_after : map own_in c.insert_each.new.others ≡ with_selections new.others (map (own_inserted point (length new.cells)) others) =
-    c.insert_each.ensures ∙ ap (map (own_inserted at c.in_ok-plan.plan.characters)) (c.select_between.ensures ∙ ap (map (selecting c.in_ok-plan.plan.between)) c.make_room.ensures.others)
+    let others_after : map own_in c.insert_all.new.others ≡ with_selections new.others (map (own_inserted point (length new.cells)) others) =
+    c.insert_all.ensures.others ∙ ap (map (own_inserted at c.in_ok-plan.plan.characters)) (c.select_all.ensures.others ∙ ap (map (selecting c.in_ok-plan.plan.between)) c.make_planned.ensures.others)
     ∙ (λ i. map (own_inserted (here i) (plans.characters i)) (map (selecting c.in_ok-plan.plan.between) others)) ∙ put_each point (length new.cells) c.in_ok-plan.plan.between others
     ∙ ap (λ l. with_selections l (map (own_inserted point (length new.cells)) others)) plans.others in
-    let are = others_made flat own others place pieces rest is c.requires.pieces listed c.requires.others in
-    subst (λ (p : _). p) (λ i. AllByRecursion (IsOwnOf (length (text_of (sym doc i).cells))) (sym others_after i)) are
+    record {
+      ok = (λ i. record { doc = seen c.make_planned.new.replica (marks i) (tags i); own = own_after i; others = others_after i })
+          ∙ ap (λ (f : Flat). record { doc = f; own = record (own_inserted point (length new.cells) own) { sel = new.sel }; others = with_selections new.others (map (own_inserted point (length new.cells)) others) }) doc
+          ∙ sym (put_made flat own others place pieces rest);
+      checked = (λ i. first_of (late_checks flat (record { doc = doc i; own = own; others = others })))
+          ∙ sym (refused_made flat own others place pieces rest is)
+          ∙ sym (λ i. refusal_of (c.self.view_is i).limit (drafts i) (c.self.view_is i).log) ∙ c.in_ok-make_planned.ensures.fits;
+      err = tt;
+      unchanged = tt;
+      own = subst (λ (p : _). p) (λ i. IsOwnOf (length (text_of (sym doc i).cells)) (sym own_after i)) (own_made flat own others place pieces rest is c.requires.pieces listed c.requires.own);
+      others = subst (λ (p : _). p) (λ i. AllByRecursion (IsOwnOf (length (text_of (sym doc i).cells))) (sym others_after i)) (others_made flat own others place pieces rest is c.requires.pieces listed c.requires.others);
+    }
+
+pub select_all-requires-clause-selected : goal.select_all-requires-clause-selected
+select_all-requires-clause-selected g c = subst (λ (l : List Stamp). length l ≤ room_in c.make_planned.new.selection) (sym c.deref.ensures.value) c.in_ok-make_planned.ensures.selects
+
+pub select_all-requires-clause-between : goal.select_all-requires-clause-between
+select_all-requires-clause-between g c = c.in_ok-make_planned.ensures.between
+
+pub list_tags-requires-clause-ready : goal.list_tags-requires-clause-ready
+list_tags-requires-clause-ready g c = subst (All (λ w. is_ready (string_bytes w) c.make_planned.new.tags ≡ true)) (sym c.deref-2.ensures.value) c.in_ok-make_planned.ensures.ready

@@ -10,7 +10,7 @@ use Rattle.rt_tags.specs.States.{IsState}
 use Rattle.rt_edits.specs.Deletions.{Loss, without_text}
 use Rattle.rt_edits.specs.Flat.{Flat}
 use Rattle.rt_edits.specs.Insertions.{left_neighbour, right_neighbour}
-use Rattle.rt_edits.specs.Removals.{gone_at, is_covered}
+use Rattle.rt_edits.specs.Removals.{gone_at, is_covered, AreInOrder}
 use Rattle.rt_edits.specs.Selected.{stamps_in}
 use Rattle.rt_views.specs.Stretches.{stretch_of}
 use Rattle.rt_text.specs.Neighbours.{are_newlines, are_sides_shown, limit_left, pieces_text}
@@ -21,8 +21,31 @@ use Rattle.rt_text.proofs.PlannedReplacement.{IsBeside, IsKept, at_begin, at_fla
 use Rattle.rt_text.proofs.ViewLaws.{viewed}
 use Rattle.rt_text.proofs.doc.Doc.planned_replacement.Goals as goal
 
-pub returns-in_err-count-clause-err : goal.returns-in_err-count-clause-err
-returns-in_err-count-clause-err g c =
+pub planned_deletion-requires-clause-distinct : goal.planned_deletion-requires-clause-distinct
+planned_deletion-requires-clause-distinct g c = c.kept.ensures.distinct
+
+pub planned_deletion-requires-clause-states : goal.planned_deletion-requires-clause-states
+planned_deletion-requires-clause-states g c = c.kept.ensures.states
+
+pub left_after-behind-requires-clause-order : goal.left_after-behind-requires-clause-order
+left_after-behind-requires-clause-order g c = subst (AreInOrder 0) (sym c.deref-2.ensures.value) c.in_ok-deletion.ensures.order
+
+pub shown_after-right-requires-clause-order : goal.shown_after-right-requires-clause-order
+shown_after-right-requires-clause-order g c = subst (AreInOrder 0) (sym c.deref-3.ensures.value) c.in_ok-deletion.ensures.order
+
+pub place_after-last-requires : goal.place_after-last-requires
+place_after-last-requires g c = subst (AreInOrder 0) (sym c.deref.ensures.value) c.in_ok-deletion.ensures.order
+
+pub planned_between-requires-clause-count : goal.planned_between-requires-clause-count
+planned_between-requires-clause-count g c = c.in_ok-count.ensures.ok.1
+
+pub returns-in_err-deletion : goal.returns-in_err-deletion
+returns-in_err-deletion g c =
+    let (y, same, gives) = err_from_is_err_and c.from_residual.result c.from_residual.ensures.1 in
+    rw (same, gives) (record { plans = tt; removed = tt; order = tt; held = tt; alone = tt; fits = tt; err = inl c.in_err-deletion.ensures.err })
+
+pub returns-in_err-count : goal.returns-in_err-count
+returns-in_err-count g c =
     let flat = c.args.self.now in
     let own = c.args.widget.now in
     let range = c.args.range in
@@ -43,12 +66,19 @@ returns-in_err-count-clause-err g c =
     let seen : c.seen-count.result ≡ flat.count = c.seen-count.ensures.value ∙ c.clock.ensures ∙ ap (λ (f : Flat). f.count) c.self.view_is in
     let made = c.in_ok-deletion.ensures.drafts flat (sym c.kept.ensures.cells) in
     let all : (without_text flat (loss_of flat own.limits (range ∷ []))).count ≡ flat.count + length d.drafts.items = counted table kept flat own stretch is range removed places d.drafts.items made in
-    let p = err_from_is_err_and c.from_residual-in_err-count.result c.from_residual-in_err-count.ensures.1 in
-    rw (p.1, p.2)
-    (inr (
-      c.in_err-count.ensures.err.0,
-      λ others. omega (arith, c.in_err-count.ensures.err.1, c.len.ensures, d.drafts.ok.0, seen, all, counts_grow (viewed flat own others) range c.args.pieces.now c.args.rest.now),
-    ))
+    let (y, same, gives) = err_from_is_err_and c.from_residual-in_err-count.result c.from_residual-in_err-count.ensures.1 in
+    rw (same, gives) (record {
+      plans = tt;
+      removed = tt;
+      order = tt;
+      held = tt;
+      alone = tt;
+      fits = tt;
+      err = inr (
+        c.in_err-count.ensures.err.0,
+        λ others. omega (arith, c.in_err-count.ensures.err.1, c.len.ensures, d.drafts.ok.0, seen, all, counts_grow (viewed flat own others) range c.args.pieces.now c.args.rest.now),
+      );
+    })
 
 pub left_after-behind-requires-clause-place : goal.left_after-behind-requires-clause-place
 left_after-behind-requires-clause-place g c =
@@ -169,8 +199,8 @@ overflow_sub-at g c =
     let at = c.min-at.result in
     omega (arith, at_begin table kept flat own stretch is range removed places c.saturating_add.result c.place_after-last.result at c.saturating_add.ensures last c.min-at.ensures)
 
-pub overflow_sub-result : goal.overflow_sub-result
-overflow_sub-result g c =
+pub overflow_sub-both : goal.overflow_sub-both
+overflow_sub-both g c =
     let flat = c.args.self.now in
     let own = c.args.widget.now in
     let range = c.args.range in
@@ -210,8 +240,8 @@ either : {A B C : Type 0} → (B → C) → A ⊎ B → A ⊎ C
 either f (inl a) = inl a
 either f (inr b) = inr (f b)
 
-pub returns-in_err-plan-clause-err : goal.returns-in_err-plan-clause-err
-returns-in_err-plan-clause-err g c =
+pub returns-in_err-plan : goal.returns-in_err-plan
+returns-in_err-plan g c =
     let flat = c.args.self.now in
     let own = c.args.widget.now in
     let range = c.args.range in
@@ -260,12 +290,30 @@ returns-in_err-plan-clause-err g c =
           ∙ ap (λ rs. cond (not (are_newlines kept limits) || are_sides_shown (limit_left (is_covered rs) kept limits.start) (limit_left (is_covered rs) kept limits.end) at (pieces_text pieces))
           (cond d.held None (right_neighbour (visible_of (gone_at (is_covered rs) 0 kept)) at)) None) c.deref-3.ensures.value;
     } in
-    let p = err_from_is_err_and c.from_residual-in_err-plan.result c.from_residual-in_err-plan.ensures.1 in
-    rw (p.1, p.2)
-    (either (λ q. (
-      q.0,
-      λ others. too_great table kept flat own stretch is range removed places others limits d.held place at pieces rest before after left right fits beside number c.in_ok-count.count selected site count sel GREATEST_COUNT q.1,
-    )) c.in_err-plan.ensures.err)
+    let (y, same, gives) = err_from_is_err_and c.from_residual-in_err-plan.result c.from_residual-in_err-plan.ensures.1 in
+    rw (same, gives) (record {
+      plans = tt;
+      removed = tt;
+      order = tt;
+      held = tt;
+      alone = tt;
+      fits = tt;
+      err = either (λ q. (
+        q.0,
+        λ others. too_great table kept flat own stretch is range removed places others limits d.held place at pieces rest before after left right fits beside number c.in_ok-count.count selected site count sel GREATEST_COUNT q.1,
+      )) c.in_err-plan.ensures.err;
+    })
+
+pub returns-in_err-append : goal.returns-in_err-append
+returns-in_err-append g c =
+    let (y, same, gives) = err_from_is_err_and c.from_residual-in_err-append.result c.from_residual-in_err-append.ensures.1 in
+    rw (same, gives) (record { plans = tt; removed = tt; order = tt; held = tt; alone = tt; fits = tt; err = inl refl })
+
+pub returns-clause-order : goal.returns-clause-order
+returns-clause-order g c = c.in_ok-deletion.ensures.order
+
+pub returns-clause-err : goal.returns-clause-err
+returns-clause-err g c = tt
 
 pub returns-clause-plans : goal.returns-clause-plans
 returns-clause-plans g c = λ others.

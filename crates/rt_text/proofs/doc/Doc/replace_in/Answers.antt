@@ -1,4 +1,8 @@
-use Rattle.std.proofs.Common.{[], ◌∷◌, ◌<◌, Option, Some, ◌≡◌, ◌∙◌, ◌⊎◌, ◌≤◌, ◌+◌, ◌^◌, ◌-◌, ◌++◌, ℕ, All, List, None, ap, arith, inl, inr, length, map, string_bytes, subst, sym}
+use Rattle.rt_text.specs.declared.parts.Parts.{Parts}
+use Rattle.rt_edits.specs.declared.inserting.Between.{Between}
+use Rattle.rt_text.proofs.Room.{before_fits, mark_fits, text_fits}
+use Rattle.rt_stamps.specs.declared.stamp.Stamp.{Stamp}
+use Rattle.std.proofs.Common.{[], ◌∷◌, ◌<◌, Option, Some, ◌≡◌, ◌∙◌, ◌⊎◌, ◌≤◌, ◌+◌, ◌^◌, ◌-◌, ◌++◌, ℕ, All, List, None, ap, arith, inl, inr, length, map, string_bytes, subst, sym, refl, Bool, true, false}
 use Rattle.std.specs.List.{AllByRecursion}
 use Rattle.std.proofs.lemmas.List.{length-map}
 use Rattle.std.proofs.lemmas.Result.{err_from_is_err_and}
@@ -13,7 +17,7 @@ use Rattle.rt_store.specs.declared.cell.Cell.{Cell}
 use Rattle.rt_store.specs.Cells.{text_of}
 use Rattle.rt_store.specs.Shown.{shown}
 use Rattle.rt_tags.specs.States.{TagStates}
-use Rattle.rt_tags.specs.Tags.{IsName}
+use Rattle.rt_tags.specs.Tags.{IsName, is_ready}
 use Rattle.rt_rga.specs.Drafts.{with_drafts}
 use Rattle.rt_rga.specs.Kept.{ReplicaValue}
 use Rattle.rt_rga.specs.Made.{refusal_of}
@@ -22,8 +26,8 @@ use Rattle.rt_edits.specs.declared.range.Range.{Range}
 use Rattle.rt_edits.specs.Deletions.{delete_drafts}
 use Rattle.rt_edits.specs.Flat.{Flat, logged}
 use Rattle.rt_edits.specs.Insertions.{Piece, all_listed}
-use Rattle.rt_edits.specs.Removals.{is_covered}
-use Rattle.rt_edits.specs.Selected.{stamps_in}
+use Rattle.rt_edits.specs.Removals.{is_covered, AreInOrder}
+use Rattle.rt_edits.specs.Selected.{stamps_in, room_in}
 use Rattle.rt_edits.specs.Selections.{with_stamps}
 use Rattle.rt_edits.proofs.PlaceLaws.{text_within}
 use Rattle.rt_views.specs.declared.limits.Limits.{Limits}
@@ -32,7 +36,7 @@ use Rattle.rt_views.specs.Stretches.{stretch_of}
 use Rattle.rt_text.specs.Commands.{cell_check, with_range_replaced}
 use Rattle.rt_text.specs.Kept.{IsDoc}
 use Rattle.rt_text.specs.Replacements.{left_by, loss_at}
-use Rattle.rt_text.specs.Parts.{own_in}
+use Rattle.rt_text.specs.Parts.{own_in, HaveRoomFor}
 use Rattle.rt_text.specs.Widgets.{AreSiteMarks, IsOwnOf, Own, Viewed, begin_of, last_newline, own_inserted, own_left, with_selections, reselected}
 use Rattle.rt_text.proofs.KeptDocument.{clock_spent}
 use Rattle.rt_text.proofs.LimitedDeletions.{last_gone, last_kept, stretch_kept, widget_left}
@@ -45,9 +49,9 @@ use Rattle.rt_text.proofs.ViewLaws.{viewed}
 use Rattle.rt_text.proofs.doc.Doc.replace_in.Given.{Over}
 use Rattle.rt_text.proofs.doc.Doc.replace_in.Goals as goal
 
-which : {F X : Type 0} {r checked : X} {fault memory : F} {some none : X} → (r ≡ some) ⊎ ((fault ≡ memory) × (r ≡ none)) → r ≡ checked → (fault ≡ memory) ⊎ (checked ≡ some)
-which (inl e) s = inr (sym s ∙ e)
-which (inr p) s = inl p.0
+which : {X M : Type 0} {r checked some : X} → M ⊎ (r ≡ some) → r ≡ checked → M ⊎ (checked ≡ some)
+which (inl e) s = inl e
+which (inr e) s = inr (sym s ∙ e)
 
 -- counts that are too great are refused first
 spent : (flat : Flat) (edited : List Own → Viewed) (others : List Own) (fault : Fault) → (fault ≡ NoMemory) ⊎ ((fault ≡ ClockSpent) × ((o : List Own) → GREATEST_COUNT < (edited o).doc.count))
@@ -57,12 +61,18 @@ spent flat edited others fault (inr p) =
     let view = edited others in
     inr (ap (λ (o : Option Fault). first_of (o ∷ cell_check flat.limit (length view.doc.cells) ∷ [])) (clock_spent view.doc.count (p.1 others)) ∙ ap (λ (x : Fault). Some x) (sym p.0))
 
-pub returns-in_err-planned-clause-err : goal.returns-in_err-planned-clause-err
-returns-in_err-planned-clause-err g c =
-    let p = err_from_is_err_and c.from_residual.result c.from_residual.ensures.1 in
-    rw (p.1, p.2)
-    (spent c.args.self.now (λ (o : List Own). with_range_replaced (record { doc = c.args.self.now; own = c.args.widget.now; others = o }) c.args.range c.args.pieces.now c.args.rest.now)
-    (map own_in c.args.others.now) c.in_err-planned.field-0.0 c.in_err-planned.ensures.err)
+pub returns-in_err-planned : goal.returns-in_err-planned
+returns-in_err-planned g c =
+    let (y, is, gives) = err_from_is_err_and c.from_residual.result c.from_residual.ensures.1 in
+    rw (is, gives) (record {
+      ok = tt;
+      checked = tt;
+      err = spent c.args.self.now (λ (o : List Own). with_range_replaced (record { doc = c.args.self.now; own = c.args.widget.now; others = o }) c.args.range c.args.pieces.now c.args.rest.now)
+          (map own_in c.args.others.now) c.in_err-planned.field-0.0 c.in_err-planned.ensures.err;
+      unchanged = (refl, refl, refl);
+      own = c.requires.own;
+      others = c.requires.others;
+    })
 
 -- the place in the text, as the code finds it
 at_is : (table : TagStates) (kept : List (Cell ℕ)) (flat : Flat) (own : Own) (others : List Own) (place : ℕ) (limits : Limits) (stretch : Stretch) → map (shown table) kept ≡ flat.cells → limits ≡ own.limits → stretch ≡ stretch_of kept limits
@@ -91,11 +101,11 @@ overflow_add-at g c =
     let here : c.stretch-stretch.result.begin + r.place ≡ point flat own others c.args.range r.place pieces rest i =
     at_is c.kept.result.1.now (g.S.TextStore.list c.kept.result.0.now) flat own others r.place c.limits.result c.stretch-stretch.result c.kept.ensures.cells c.limits.ensures c.stretch-stretch.ensures.value
     ∙ point_is flat own others c.args.range r.place pieces rest i in
-    let few : length flat.cells ≤ flat.limit = omega (arith, c.kept.ensures.few, ap length c.kept.ensures.cells, length-map kept (shown c.kept.result.1.now)) in
-    omega (arith, here, point_within flat own others c.args.range r.place pieces rest i, text_within flat.cells, few, c.kept.ensures.most)
+    text_fits (c.stretch-stretch.result.begin + r.place) (point flat own others c.args.range r.place pieces rest i) (length (text_of flat.cells)) (length flat.cells) (length (map (shown c.kept.result.1.now) kept)) (length kept) flat.limit
+    here (point_within flat own others c.args.range r.place pieces rest i) (text_within flat.cells) (ap length c.kept.ensures.cells) (length-map kept (shown c.kept.result.1.now)) c.kept.ensures.few c.kept.ensures.most
 
-pub make_room-requires : goal.make_room-requires
-make_room-requires g c =
+pub make_planned-requires-clause-names : goal.make_planned-requires-clause-names
+make_planned-requires-clause-names g c =
     let flat = c.args.self.now in
     let own = c.args.widget.now in
     let others = map own_in c.args.others.now in
@@ -115,8 +125,8 @@ make_room-requires g c =
     let kept : IsDoc flat.cells flat.marks flat.tags = subst (λ (f : Flat). IsDoc f.cells f.marks f.tags) c.self.view_is c.self.invariant in
     given_names flat own others c.args.range r.place pieces rest i r.plan plans.plan kept
 
-pub make-requires : goal.make-requires
-make-requires g c =
+pub make_planned-requires-clause-may : goal.make_planned-requires-clause-may
+make_planned-requires-clause-may g c =
     let flat = c.args.self.now in
     let own = c.args.widget.now in
     let others = map own_in c.args.others.now in
@@ -124,6 +134,7 @@ make-requires g c =
     let rest = c.args.rest.now in
     let r = c.in_ok-planned.planned in
     let plans = c.in_ok-planned.ensures.plans others in
+    let drafts : map body_of c.replace-drafts.result.items ≡ map body_of r.drafts.items = ap (λ v. map body_of v.items) c.replace-drafts.ensures.value in
     let i : IsReplacement flat own others c.args.range r.place pieces rest = record {
       history = c.kept.ensures.history;
       document = c.kept.ensures.document;
@@ -133,33 +144,14 @@ make-requires g c =
       texts = c.requires.pieces;
       utf8 = c.utf8.rest;
     } in
-    subst (λ (p : _). p) (λ k. MayBeMade (sym c.self.view_is k).site (sym c.self.view_is k).log (sym plans.drafts k)) (all_may flat own others c.args.range r.place pieces rest i)
+    subst (λ (p : _). p) (λ k. MayBeMade (sym c.self.view_is k).site (sym c.self.view_is k).log (sym (drafts ∙ plans.drafts) k)) (all_may flat own others c.args.range r.place pieces rest i)
 
-pub returns-in_err-_made-clause-err : goal.returns-in_err-_made-clause-err
-returns-in_err-_made-clause-err g c =
-    let flat = c.args.self.now in
-    let own = c.args.widget.now in
-    let others = map own_in c.args.others.now in
-    let pieces = c.args.pieces.now in
-    let rest = c.args.rest.now in
-    let r = c.in_ok-planned.planned in
-    let plans = c.in_ok-planned.ensures.plans others in
-    let i : IsReplacement flat own others c.args.range r.place pieces rest = record {
-      history = c.kept.ensures.history;
-      document = c.kept.ensures.document;
-      real = c.kept.ensures.site;
-      fits = c.in_ok-planned.ensures.fits;
-      at = plans.place;
-      texts = c.requires.pieces;
-      utf8 = c.utf8.rest;
-    } in
-    let p = err_from_is_err_and c.from_residual-in_err-_made.result c.from_residual-in_err-_made.ensures.1 in
-    let same : refusal_of c.self.inside.replica.limit (map body_of r.drafts.items) c.self.inside.replica.log ≡ first_of (late_checks flat (with_range_replaced (viewed flat own others) c.args.range pieces rest)) =
-    (λ k. refusal_of (c.self.view_is k).limit (plans.drafts k) (c.self.view_is k).log) ∙ all_refused flat own others c.args.range r.place pieces rest i in
-    rw (p.1, p.2) (which c.in_err-_made.ensures.refused same)
+pub invariant_of-self : goal.invariant_of-self
+invariant_of-self g c =
+    subst (λ (p : _). p) (λ k. IsDoc (sym c.in_err-make_planned.ensures.same k).cells c.self.inside.marks (sym c.make_planned.ensures.tags k)) c.self.invariant
 
-pub inserted-requires : goal.inserted-requires
-inserted-requires g c =
+pub returns-in_err-make_planned : goal.returns-in_err-make_planned
+returns-in_err-make_planned g c =
     let flat = c.args.self.now in
     let own = c.args.widget.now in
     let others = map own_in c.args.others.now in
@@ -167,6 +159,7 @@ inserted-requires g c =
     let rest = c.args.rest.now in
     let r = c.in_ok-planned.planned in
     let plans = c.in_ok-planned.ensures.plans others in
+    let drafts : map body_of c.replace-drafts.result.items ≡ map body_of r.drafts.items = ap (λ v. map body_of v.items) c.replace-drafts.ensures.value in
     let i : IsReplacement flat own others c.args.range r.place pieces rest = record {
       history = c.kept.ensures.history;
       document = c.kept.ensures.document;
@@ -176,49 +169,26 @@ inserted-requires g c =
       texts = c.requires.pieces;
       utf8 = c.utf8.rest;
     } in
-    let kept : IsDoc flat.cells flat.marks flat.tags = subst (λ (f : Flat). IsDoc f.cells f.marks f.tags) c.self.view_is c.self.invariant in
-    let none = sym (λ k. refusal_of (c.self.view_is k).limit (plans.drafts k) (c.self.view_is k).log) ∙ c.in_ok-_made.ensures.fits in
-    let left = left_by (viewed flat own others) c.args.range in
-    let few : length (text_of left.doc.cells) + r.plan.characters ≤ 2 ^ 64 - 1 =
-    omega (arith, characters_fit flat own others c.args.range r.place pieces rest i none c.kept.ensures.most, plans.plan.characters) in
-    let moved : c.move_back.new.marks ≡ left.doc.marks =
-    c.move_back.ensures ∙ ap (λ l. marks_left (is_covered l) c.self.inside.marks) c.deref-2.ensures.value
-    ∙ (λ k. marks_left (λ p. c.in_ok-planned.ensures.removed p k) (c.self.view_is k).marks) ∙ sym (marks_left_are flat own others c.args.range r.place pieces rest i) in
-    record {
-      fits = site_fits (length (text_of left.doc.cells)) r.plan.characters (2 ^ 64 - 1) c.move_back.new.marks few
-          (subst (AreSiteMarks (length (text_of left.doc.cells))) (sym moved) (marks_left_in flat own others c.args.range r.place pieces rest i kept));
-    }
-
-pub inserted-requires-2-clause-insert : goal.inserted-requires-2-clause-insert
-inserted-requires-2-clause-insert g c =
-    let flat = c.args.self.now in
-    let own = c.args.widget.now in
-    let others = map own_in c.args.others.now in
-    let pieces = c.args.pieces.now in
-    let rest = c.args.rest.now in
-    let r = c.in_ok-planned.planned in
-    let plans = c.in_ok-planned.ensures.plans others in
-    let i : IsReplacement flat own others c.args.range r.place pieces rest = record {
-      history = c.kept.ensures.history;
-      document = c.kept.ensures.document;
-      real = c.kept.ensures.site;
-      fits = c.in_ok-planned.ensures.fits;
-      at = plans.place;
-      texts = c.requires.pieces;
-      utf8 = c.utf8.rest;
-    } in
-    let none = sym (λ k. refusal_of (c.self.view_is k).limit (plans.drafts k) (c.self.view_is k).log) ∙ c.in_ok-_made.ensures.fits in
-    let left = left_by (viewed flat own others) c.args.range in
-    let few : length (text_of left.doc.cells) + r.plan.characters ≤ 2 ^ 64 - 1 =
-    omega (arith, characters_fit flat own others c.args.range r.place pieces rest i none c.kept.ensures.most, plans.plan.characters) in
+    let same : refusal_of c.self.inside.replica.limit (map body_of c.replace-drafts.result.items) c.self.inside.replica.log ≡ first_of (late_checks flat (with_range_replaced (viewed flat own others) c.args.range pieces rest)) =
+    (λ k. refusal_of (c.self.view_is k).limit ((drafts ∙ plans.drafts) k) (c.self.view_is k).log) ∙ all_refused flat own others c.args.range r.place pieces rest i in
+    let (y, is, gives) = err_from_is_err_and c.from_residual-in_err-make_planned.result c.from_residual-in_err-make_planned.ensures.1 in
     let own_now : Own = own_in c.widget.inside.parts in
-    let place : c.leave.new.self.insert.place ≡ left.own.insert.place =
-    ap (λ (o : Own). o.insert.place) c.leave.ensures ∙ ap (λ rs. (own_left (is_covered rs) own_now).insert.place) c.deref-3.ensures.value
-    ∙ (λ k. (own_left (λ p. c.in_ok-planned.ensures.removed p k) (c.widget.view_is k)).insert.place) in
-    omega (arith, place, few, (own_left_in flat own others c.args.range r.place pieces rest i c.requires.own).0)
+    let doc : seen c.make_planned.new.replica c.self.inside.marks c.make_planned.new.tags.names ≡ c.args.self.now =
+    (λ k. seen (c.in_err-make_planned.ensures.same k) c.self.inside.marks (c.make_planned.ensures.tags k)) ∙ c.self.view_is in
+    let own_same : record own_now { sel = stamps_in c.make_planned.new.selection } ≡ c.args.widget.now =
+    ap (λ (s : List Stamp). record own_now { sel = s }) c.make_planned.ensures.selection ∙ c.widget.view_is in
+    let others_same : map own_in c.make_planned.new.others ≡ map own_in c.args.others.now = c.make_planned.ensures.others in
+    rw (is, gives) (record {
+      ok = tt;
+      checked = tt;
+      err = which c.in_err-make_planned.ensures.refused same;
+      unchanged = (doc, own_same, others_same);
+      own = subst (λ (p : _). p) (λ k. IsOwnOf (length (text_of (sym doc k).cells)) (sym own_same k)) c.requires.own;
+      others = subst (λ (p : _). p) (λ k. AllByRecursion (IsOwnOf (length (text_of (sym doc k).cells))) (sym others_same k)) c.requires.others;
+    })
 
-pub inserted-requires-2-clause-current : goal.inserted-requires-2-clause-current
-inserted-requires-2-clause-current g c =
+pub insert_all-requires : goal.insert_all-requires
+insert_all-requires g c =
     let flat = c.args.self.now in
     let own = c.args.widget.now in
     let others = map own_in c.args.others.now in
@@ -226,6 +196,7 @@ inserted-requires-2-clause-current g c =
     let rest = c.args.rest.now in
     let r = c.in_ok-planned.planned in
     let plans = c.in_ok-planned.ensures.plans others in
+    let drafts : map body_of c.replace-drafts.result.items ≡ map body_of r.drafts.items = ap (λ v. map body_of v.items) c.replace-drafts.ensures.value in
     let i : IsReplacement flat own others c.args.range r.place pieces rest = record {
       history = c.kept.ensures.history;
       document = c.kept.ensures.document;
@@ -235,50 +206,39 @@ inserted-requires-2-clause-current g c =
       texts = c.requires.pieces;
       utf8 = c.utf8.rest;
     } in
-    let none = sym (λ k. refusal_of (c.self.view_is k).limit (plans.drafts k) (c.self.view_is k).log) ∙ c.in_ok-_made.ensures.fits in
+    let none = sym (λ k. refusal_of (c.self.view_is k).limit ((drafts ∙ plans.drafts) k) (c.self.view_is k).log) ∙ c.in_ok-make_planned.ensures.fits in
     let left = left_by (viewed flat own others) c.args.range in
     let few : length (text_of left.doc.cells) + r.plan.characters ≤ 2 ^ 64 - 1 =
-    omega (arith, characters_fit flat own others c.args.range r.place pieces rest i none c.kept.ensures.most, plans.plan.characters) in
-    let own_now : Own = own_in c.widget.inside.parts in
-    let place : c.leave.new.self.current.place ≡ left.own.current.place =
-    ap (λ (o : Own). o.current.place) c.leave.ensures ∙ ap (λ rs. (own_left (is_covered rs) own_now).current.place) c.deref-3.ensures.value
-    ∙ (λ k. (own_left (λ p. c.in_ok-planned.ensures.removed p k) (c.widget.view_is k)).current.place) in
-    omega (arith, place, few, (own_left_in flat own others c.args.range r.place pieces rest i c.requires.own).1)
-
-pub insert_each-requires : goal.insert_each-requires
-insert_each-requires g c =
-    let flat = c.args.self.now in
-    let own = c.args.widget.now in
-    let others = map own_in c.args.others.now in
-    let pieces = c.args.pieces.now in
-    let rest = c.args.rest.now in
-    let r = c.in_ok-planned.planned in
-    let plans = c.in_ok-planned.ensures.plans others in
-    let i : IsReplacement flat own others c.args.range r.place pieces rest = record {
-      history = c.kept.ensures.history;
-      document = c.kept.ensures.document;
-      real = c.kept.ensures.site;
-      fits = c.in_ok-planned.ensures.fits;
-      at = plans.place;
-      texts = c.requires.pieces;
-      utf8 = c.utf8.rest;
-    } in
-    let none = sym (λ k. refusal_of (c.self.view_is k).limit (plans.drafts k) (c.self.view_is k).log) ∙ c.in_ok-_made.ensures.fits in
-    let left = left_by (viewed flat own others) c.args.range in
-    let few : length (text_of left.doc.cells) + r.plan.characters ≤ 2 ^ 64 - 1 =
-    omega (arith, characters_fit flat own others c.args.range r.place pieces rest i none c.kept.ensures.most, plans.plan.characters) in
+    subst (λ n. length (text_of left.doc.cells) + n ≤ 2 ^ 64 - 1) (sym plans.plan.characters) (characters_fit flat own others c.args.range r.place pieces rest i none c.kept.ensures.most) in
     let newest : c.cell_at.result.stamp ≡ last_newline (viewed flat own others) =
     last_kept c.kept.result.1.now (g.S.TextStore.list c.kept.result.0.now) flat own others c.stretch-stretch.result c.cell_at.result c.kept.ensures.cells
     (c.stretch-stretch.ensures.value ∙ ap (stretch_of (g.S.TextStore.list c.kept.result.0.now)) c.limits.ensures) c.cell_at.ensures in
-    let peers : map own_in c.leave_each.new.others ≡ map (selecting r.plan.between) left.others =
-    c.leave_each.ensures ∙ ap (λ rs. map (own_left (is_covered rs)) (map own_in c.select_between.new.others)) c.deref-4.ensures.value
-    ∙ ap (map (own_left (is_covered r.removed.items))) (c.select_between.ensures ∙ ap (map (selecting r.plan.between)) (c.unselect.ensures.others ∙ ap (map (reselected (last_gone c.cell_at.result.stamp r.held))) c.make_room.ensures.others))
+    let peers : map own_in c.leave_all.new.others ≡ map (selecting r.plan.between) left.others =
+    c.leave_all.ensures.others ∙ ap (λ rs. map (own_left (is_covered rs)) (map own_in c.select_all.new.others)) c.deref-2.ensures.value
+    ∙ ap (map (own_left (is_covered r.removed.items))) (c.select_all.ensures.others ∙ ap (map (selecting r.plan.between)) (c.unselect.ensures.others ∙ ap (map (reselected (last_gone c.cell_at.result.stamp r.held))) c.make_planned.ensures.others))
     ∙ leave_last (is_covered r.removed.items) (last_gone c.cell_at.result.stamp r.held) r.plan.between others
     ∙ (λ k. map (selecting r.plan.between) (map (widget_left (λ p. c.in_ok-planned.ensures.removed p k) (newest k) (c.in_ok-planned.ensures.held k)) others)) in
     let n = length (text_of left.doc.cells) in
-    each_room n r.plan.characters (2 ^ 64 - 1) c.leave_each.new.others few
-    (subst (AllByRecursion (IsOwnOf n)) (sym peers)
-    (each_by (IsOwnOf n) (IsOwnOf n) (selecting r.plan.between) (λ other stands. stands) left.others (others_left_in flat own others c.args.range r.place pieces rest i c.requires.others)))
+    let kept : IsDoc flat.cells flat.marks flat.tags = subst (λ (f : Flat). IsDoc f.cells f.marks f.tags) c.self.view_is c.self.invariant in
+    let moved : c.leave_all.new.marks ≡ left.doc.marks =
+    c.leave_all.ensures.marks ∙ ap (λ l. marks_left (is_covered l) c.self.inside.marks) c.deref-2.ensures.value
+    ∙ (λ k. marks_left (λ p. c.in_ok-planned.ensures.removed p k) (c.self.view_is k).marks) ∙ sym (marks_left_are flat own others c.args.range r.place pieces rest i) in
+    let own_now : Own = own_in c.widget.inside.parts in
+    let insert : c.leave_all.new.widget.insert.place ≡ left.own.insert.place =
+    ap (λ (o : Own). o.insert.place) c.leave_all.ensures.own ∙ ap (λ rs. (own_left (is_covered rs) own_now).insert.place) c.deref-2.ensures.value
+    ∙ (λ k. (own_left (λ p. c.in_ok-planned.ensures.removed p k) (c.widget.view_is k)).insert.place) in
+    let current : c.leave_all.new.widget.current.place ≡ left.own.current.place =
+    ap (λ (o : Own). o.current.place) c.leave_all.ensures.own ∙ ap (λ rs. (own_left (is_covered rs) own_now).current.place) c.deref-2.ensures.value
+    ∙ (λ k. (own_left (λ p. c.in_ok-planned.ensures.removed p k) (c.widget.view_is k)).current.place) in
+    record {
+      marks = site_fits (length (text_of left.doc.cells)) r.plan.characters (2 ^ 64 - 1) c.leave_all.new.marks few
+          (subst (AreSiteMarks (length (text_of left.doc.cells))) (sym moved) (marks_left_in flat own others c.args.range r.place pieces rest i kept));
+      insert = before_fits c.leave_all.new.widget.insert.place left.own.insert.place (length (text_of left.doc.cells)) r.plan.characters (2 ^ 64 - 1) insert (own_left_in flat own others c.args.range r.place pieces rest i c.requires.own).0 few;
+      current = mark_fits c.leave_all.new.widget.current.place left.own.current.place (length (text_of left.doc.cells)) r.plan.characters (2 ^ 64 - 1) current (own_left_in flat own others c.args.range r.place pieces rest i c.requires.own).1 few;
+      others = each_room n r.plan.characters (2 ^ 64 - 1) c.leave_all.new.others few
+          (subst (AllByRecursion (IsOwnOf n)) (sym peers)
+          (each_by (IsOwnOf n) (IsOwnOf n) (selecting r.plan.between) (λ other stands. stands) left.others (others_left_in flat own others c.args.range r.place pieces rest i c.requires.others)));
+    }
 
 pub list_tags-requires-clause-names : goal.list_tags-requires-clause-names
 list_tags-requires-clause-names g c =
@@ -299,7 +259,7 @@ list_tags-requires-clause-names g c =
       utf8 = c.utf8.rest;
     } in
     let kept : IsDoc flat.cells flat.marks flat.tags = subst (λ (f : Flat). IsDoc f.cells f.marks f.tags) c.self.view_is c.self.invariant in
-    subst (All (λ w. IsName (string_bytes w))) (sym c.deref-5.ensures.value) (given_names flat own others c.args.range r.place pieces rest i r.plan plans.plan kept)
+    subst (All (λ w. IsName (string_bytes w))) (sym c.deref-3.ensures.value) (given_names flat own others c.args.range r.place pieces rest i r.plan plans.plan kept)
 
 -- what the replacement has made, in the words of its laws
 record Done (flat : Flat) (own : Own) (others : List Own) (range : Range) (place : ℕ) (pieces : List Piece) (rest : Word) (new : ReplicaValue) (marks : List Mark) (tags : List Word) (widget : Own)
@@ -317,8 +277,8 @@ record Done (flat : Flat) (own : Own) (others : List Own) (range : Range) (place
       (map (own_inserted (point flat own others range place pieces rest is) (length (more_new flat own others range place pieces rest is).cells)) (left_by (viewed flat own others) range).others)
 
 done : (g : Over) (c : goal.After-drop-planned-2 g)
-    → Done c.args.self.now c.args.widget.now (map own_in c.args.others.now) c.args.range c.in_ok-planned.planned.place c.args.pieces.now c.args.rest.now c.make.new.self c.inserted.new.self c.list_tags.new.table.names
-    c.inserted-2.new.self (map own_in c.insert_each.new.others)
+    → Done c.args.self.now c.args.widget.now (map own_in c.args.others.now) c.args.range c.in_ok-planned.planned.place c.args.pieces.now c.args.rest.now c.make_planned.new.replica c.insert_all.new.marks c.list_tags.new.table.names
+    c.insert_all.new.widget (map own_in c.insert_all.new.others)
 done g c =
     let flat = c.args.self.now in
     let own = c.args.widget.now in
@@ -327,6 +287,7 @@ done g c =
     let rest = c.args.rest.now in
     let r = c.in_ok-planned.planned in
     let plans = c.in_ok-planned.ensures.plans others in
+    let drafts : map body_of c.replace-drafts.result.items ≡ map body_of r.drafts.items = ap (λ v. map body_of v.items) c.replace-drafts.ensures.value in
     let i : IsReplacement flat own others c.args.range r.place pieces rest = record {
       history = c.kept.ensures.history;
       document = c.kept.ensures.document;
@@ -337,10 +298,10 @@ done g c =
       utf8 = c.utf8.rest;
     } in
     let kept : IsDoc flat.cells flat.marks flat.tags = subst (λ (f : Flat). IsDoc f.cells f.marks f.tags) c.self.view_is c.self.invariant in
-    let none = sym (λ k. refusal_of (c.self.view_is k).limit (plans.drafts k) (c.self.view_is k).log) ∙ c.in_ok-_made.ensures.fits in
+    let none = sym (λ k. refusal_of (c.self.view_is k).limit ((drafts ∙ plans.drafts) k) (c.self.view_is k).log) ∙ c.in_ok-make_planned.ensures.fits in
     let left = left_by (viewed flat own others) c.args.range in
-    let moved : c.move_back.new.marks ≡ left.doc.marks =
-    c.move_back.ensures ∙ ap (λ l. marks_left (is_covered l) c.self.inside.marks) c.deref-2.ensures.value
+    let moved : c.leave_all.new.marks ≡ left.doc.marks =
+    c.leave_all.ensures.marks ∙ ap (λ l. marks_left (is_covered l) c.self.inside.marks) c.deref-2.ensures.value
     ∙ (λ k. marks_left (λ p. c.in_ok-planned.ensures.removed p k) (c.self.view_is k).marks) ∙ sym (marks_left_are flat own others c.args.range r.place pieces rest i) in
     let at = c.stretch-stretch.result.begin + r.place in
     let place = point flat own others c.args.range r.place pieces rest i in
@@ -356,29 +317,29 @@ done g c =
     at_is c.kept.result.1.now (g.S.TextStore.list c.kept.result.0.now) flat own others r.place c.limits.result c.stretch-stretch.result c.kept.ensures.cells c.limits.ensures c.stretch-stretch.ensures.value
     ∙ point_is flat own others c.args.range r.place pieces rest i in
     let held = c.in_ok-planned.ensures.held in
-    let stamps : stamps_in c.add.new.self ≡ new.sel =
-    c.add.ensures ∙ (λ k. with_stamps (c.deref.ensures.value k) (c.unselect.ensures.sel k)) ∙ ap (λ s. with_stamps selected (last_gone c.cell_at.result.stamp r.held s)) (c.make_room.ensures.selection ∙ sel)
+    let stamps : stamps_in c.select_all.new.selection ≡ new.sel =
+    c.select_all.ensures.selection ∙ (λ k. with_stamps (c.deref.ensures.value k) (c.unselect.ensures.sel k)) ∙ ap (λ s. with_stamps selected (last_gone c.cell_at.result.stamp r.held s)) (c.make_planned.ensures.selection ∙ sel)
     ∙ (λ k. with_stamps selected (last_gone (newest k) (held k) own.sel)) ∙ plans.plan.sel in
-    let own_moved : c.leave.new.self ≡ own_left (loss_at (viewed flat own others) c.args.range).places (record own { sel = new.sel }) =
-    c.leave.ensures ∙ ap (λ rs. own_left (is_covered rs) (record own_now { sel = stamps_in c.add.new.self })) c.deref-3.ensures.value
+    let own_moved : c.leave_all.new.widget ≡ own_left (loss_at (viewed flat own others) c.args.range).places (record own { sel = new.sel }) =
+    c.leave_all.ensures.own ∙ ap (λ rs. own_left (is_covered rs) (record own_now { sel = stamps_in c.select_all.new.selection })) c.deref-2.ensures.value
     ∙ (λ k. own_left (λ p. c.in_ok-planned.ensures.removed p k) (record (c.widget.view_is k) { sel = stamps k })) in
-    let peers : map own_in c.leave_each.new.others ≡ map (selecting r.plan.between) left.others =
-    c.leave_each.ensures ∙ ap (λ rs. map (own_left (is_covered rs)) (map own_in c.select_between.new.others)) c.deref-4.ensures.value
-    ∙ ap (map (own_left (is_covered r.removed.items))) (c.select_between.ensures ∙ ap (map (selecting r.plan.between)) (c.unselect.ensures.others ∙ ap (map (reselected (last_gone c.cell_at.result.stamp r.held))) c.make_room.ensures.others))
+    let peers : map own_in c.leave_all.new.others ≡ map (selecting r.plan.between) left.others =
+    c.leave_all.ensures.others ∙ ap (λ rs. map (own_left (is_covered rs)) (map own_in c.select_all.new.others)) c.deref-2.ensures.value
+    ∙ ap (map (own_left (is_covered r.removed.items))) (c.select_all.ensures.others ∙ ap (map (selecting r.plan.between)) (c.unselect.ensures.others ∙ ap (map (reselected (last_gone c.cell_at.result.stamp r.held))) c.make_planned.ensures.others))
     ∙ leave_last (is_covered r.removed.items) (last_gone c.cell_at.result.stamp r.held) r.plan.between others
     ∙ (λ k. map (selecting r.plan.between) (map (widget_left (λ p. c.in_ok-planned.ensures.removed p k) (newest k) (c.in_ok-planned.ensures.held k)) others)) in
     record {
       is = i;
       kept = kept;
       none = none;
-      marks_is = c.inserted.ensures ∙ (λ k. marks_inserted (here k) (plans.plan.characters k) (moved k));
-      tags_is = c.list_tags.ensures ∙ (λ k. all_listed (map (λ w. string_bytes w) (c.deref-5.ensures.value k)) (c.make_room.ensures.tags k)) ∙ ap (λ (f : Flat). all_listed names f.tags) c.self.view_is
+      marks_is = c.insert_all.ensures.marks ∙ (λ k. marks_inserted (here k) (plans.plan.characters k) (moved k));
+      tags_is = c.list_tags.ensures ∙ (λ k. all_listed (map (λ w. string_bytes w) (c.deref-3.ensures.value k)) (c.make_planned.ensures.tags k)) ∙ ap (λ (f : Flat). all_listed names f.tags) c.self.view_is
           ∙ ap (all_listed names) (sym (tags_left_are flat own others c.args.range r.place pieces rest i)) ∙ plans.plan.tags;
-      doc = replacement_seen flat own others c.args.range r.place pieces rest i c.make.new.self none
-          (c.in_ok-_made.ensures.log ∙ (λ k. with_drafts (c.self.view_is k).site (plans.drafts k) (c.self.view_is k).log)) c.in_ok-_made.ensures.cells
-          (c.make.ensures.site ∙ ap (λ (f : Flat). f.site) c.self.view_is) (c.make.ensures.limit ∙ ap (λ (f : Flat). f.limit) c.self.view_is);
-      own_is = c.inserted-2.ensures ∙ (λ k. own_inserted (here k) (plans.plan.characters k) (own_moved k));
-      others_are = c.insert_each.ensures ∙ ap (map (own_inserted at r.plan.characters)) peers
+      doc = replacement_seen flat own others c.args.range r.place pieces rest i c.make_planned.new.replica none
+          (c.in_ok-make_planned.ensures.log ∙ (λ k. with_drafts (c.self.view_is k).site ((drafts ∙ plans.drafts) k) (c.self.view_is k).log)) c.in_ok-make_planned.ensures.cells
+          (c.make_planned.ensures.site ∙ ap (λ (f : Flat). f.site) c.self.view_is) (c.make_planned.ensures.limit ∙ ap (λ (f : Flat). f.limit) c.self.view_is);
+      own_is = c.insert_all.ensures.own ∙ (λ k. own_inserted (here k) (plans.plan.characters k) (own_moved k));
+      others_are = c.insert_all.ensures.others ∙ ap (map (own_inserted at r.plan.characters)) peers
           ∙ (λ k. map (own_inserted (here k) (plans.plan.characters k)) (map (selecting r.plan.between) left.others)) ∙ put_each place (length new.cells) r.plan.between left.others
           ∙ ap (λ l. with_selections l (map (own_inserted place (length new.cells)) left.others)) plans.plan.others;
     }
@@ -394,8 +355,31 @@ invariant_of-self-2 g c =
     let d = done g c in
     subst (λ (p : _). p) (λ k. IsDoc (sym d.doc k).cells (sym d.marks_is k) (sym d.tags_is k)) (kept_after flat own others c.args.range place pieces rest d.is d.kept)
 
-pub returns-clause-ok : goal.returns-clause-ok
-returns-clause-ok g c =
+-- where the last newline is held nothing is selected between two, and else no selection has changed
+room_kept : (held : Bool) (between : Option Between) (old new : List Parts) → (held ≡ true → between ≡ None) → (held ≡ false → new ≡ old) → HaveRoomFor between old → HaveRoomFor between new
+room_kept true between old new none same room = subst (λ (b : Option Between). HaveRoomFor b new) (sym (none refl)) tt
+room_kept false between old new none same room = subst (HaveRoomFor between) (sym (same refl)) room
+
+more_room : (selected : List Stamp) (few old new : ℕ) → length selected ≡ few → few ≤ old → old ≤ new → length selected ≤ new
+more_room selected few old new same fits more = omega arith
+
+pub select_all-requires-clause-selected : goal.select_all-requires-clause-selected
+select_all-requires-clause-selected g c =
+    more_room c.deref.result.now (length c.in_ok-planned.planned.plan.selected.items) (room_in c.make_planned.new.selection) (room_in c.unselect.new.selection)
+    (ap length c.deref.ensures.value) c.in_ok-make_planned.ensures.selects c.unselect.ensures.room
+
+pub select_all-requires-clause-between : goal.select_all-requires-clause-between
+select_all-requires-clause-between g c =
+    room_kept c.in_ok-planned.planned.held c.in_ok-planned.planned.plan.between c.make_planned.new.others c.unselect.new.others c.in_ok-planned.ensures.alone c.unselect.ensures.kept c.in_ok-make_planned.ensures.between
+
+pub leave_all-requires : goal.leave_all-requires
+leave_all-requires g c = subst (AreInOrder 0) (sym c.deref-2.ensures.value) c.in_ok-planned.ensures.order
+
+pub list_tags-requires-clause-ready : goal.list_tags-requires-clause-ready
+list_tags-requires-clause-ready g c = subst (All (λ w. is_ready (string_bytes w) c.make_planned.new.tags ≡ true)) (sym c.deref-3.ensures.value) c.in_ok-make_planned.ensures.ready
+
+pub returns : goal.returns
+returns g c =
     let flat = c.args.self.now in
     let own = c.args.widget.now in
     let others = map own_in c.args.others.now in
@@ -404,44 +388,18 @@ returns-clause-ok g c =
     let rest = c.args.rest.now in
     let d = done g c in
     let new = more_new flat own others c.args.range place pieces rest d.is in
-    (λ k. record { doc = seen c.make.new.self (d.marks_is k) (d.tags_is k); own = d.own_is k; others = d.others_are k })
-    ∙ ap (λ (f : Flat). record {
-      doc = f;
-      own = record (own_inserted (point flat own others c.args.range place pieces rest d.is) (length new.cells) (left_by (viewed flat own others) c.args.range).own) { sel = new.sel };
-      others = with_selections new.others (map (own_inserted (point flat own others c.args.range place pieces rest d.is) (length new.cells)) (left_by (viewed flat own others) c.args.range).others);
-    }) d.doc
-    ∙ sym (replaced_is flat own others c.args.range place pieces rest d.is)
-
-pub returns-clause-checked : goal.returns-clause-checked
-returns-clause-checked g c =
-    let flat = c.args.self.now in
-    let own = c.args.widget.now in
-    let others = map own_in c.args.others.now in
-    let place = c.in_ok-planned.planned.place in
-    let pieces = c.args.pieces.now in
-    let rest = c.args.rest.now in
-    let d = done g c in
-    (λ k. first_of (late_checks flat (record { doc = d.doc k; own = own; others = others }))) ∙ sym (ap (λ (v : Viewed). first_of (late_checks flat v)) (replaced_is flat own others c.args.range place pieces rest d.is))
-    ∙ sym (all_refused flat own others c.args.range place pieces rest d.is) ∙ d.none
-
-pub returns-clause-own : goal.returns-clause-own
-returns-clause-own g c =
-    let flat = c.args.self.now in
-    let own = c.args.widget.now in
-    let others = map own_in c.args.others.now in
-    let place = c.in_ok-planned.planned.place in
-    let pieces = c.args.pieces.now in
-    let rest = c.args.rest.now in
-    let d = done g c in
-    subst (λ (p : _). p) (λ k. IsOwnOf (length (text_of (sym d.doc k).cells)) (sym d.own_is k)) (own_after flat own others c.args.range place pieces rest d.is d.kept c.requires.own)
-
-pub returns-clause-others : goal.returns-clause-others
-returns-clause-others g c =
-    let flat = c.args.self.now in
-    let own = c.args.widget.now in
-    let others = map own_in c.args.others.now in
-    let place = c.in_ok-planned.planned.place in
-    let pieces = c.args.pieces.now in
-    let rest = c.args.rest.now in
-    let d = done g c in
-    subst (λ (p : _). p) (λ k. AllByRecursion (IsOwnOf (length (text_of (sym d.doc k).cells))) (sym d.others_are k)) (others_after flat own others c.args.range place pieces rest d.is d.kept c.requires.others)
+    record {
+      ok = (λ k. record { doc = seen c.make_planned.new.replica (d.marks_is k) (d.tags_is k); own = d.own_is k; others = d.others_are k })
+          ∙ ap (λ (f : Flat). record {
+            doc = f;
+            own = record (own_inserted (point flat own others c.args.range place pieces rest d.is) (length new.cells) (left_by (viewed flat own others) c.args.range).own) { sel = new.sel };
+            others = with_selections new.others (map (own_inserted (point flat own others c.args.range place pieces rest d.is) (length new.cells)) (left_by (viewed flat own others) c.args.range).others);
+          }) d.doc
+          ∙ sym (replaced_is flat own others c.args.range place pieces rest d.is);
+      checked = (λ k. first_of (late_checks flat (record { doc = d.doc k; own = own; others = others }))) ∙ sym (ap (λ (v : Viewed). first_of (late_checks flat v)) (replaced_is flat own others c.args.range place pieces rest d.is))
+          ∙ sym (all_refused flat own others c.args.range place pieces rest d.is) ∙ d.none;
+      err = tt;
+      unchanged = tt;
+      own = subst (λ (p : _). p) (λ k. IsOwnOf (length (text_of (sym d.doc k).cells)) (sym d.own_is k)) (own_after flat own others c.args.range place pieces rest d.is d.kept c.requires.own);
+      others = subst (λ (p : _). p) (λ k. AllByRecursion (IsOwnOf (length (text_of (sym d.doc k).cells))) (sym d.others_are k)) (others_after flat own others c.args.range place pieces rest d.is d.kept c.requires.others);
+    }

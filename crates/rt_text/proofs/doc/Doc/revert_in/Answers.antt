@@ -1,4 +1,4 @@
-use Rattle.std.proofs.Common.{◌≡◌, ◌∙◌, ◌⊎◌, ◌≤◌, ◌^◌, ◌-◌, All, ap, arith, inl, inr, length, map, string_bytes, subst, sym}
+use Rattle.std.proofs.Common.{◌≡◌, ◌∙◌, ◌⊎◌, ◌≤◌, ◌^◌, ◌-◌, All, ap, arith, inl, inr, length, map, string_bytes, subst, sym, refl, true}
 use Rattle.std.specs.List.{AllByRecursion}
 use Rattle.std.proofs.lemmas.List.{length-map}
 use Rattle.std.proofs.lemmas.Result.{err_from_is_err_and}
@@ -6,7 +6,7 @@ use Rattle.rt_oplog.specs.Edits.{body_of}
 use Rattle.rt_stamps.specs.declared.limits.TheConstants.{MOST_CELLS}
 use Rattle.rt_store.specs.Cells.{text_of}
 use Rattle.rt_store.specs.Shown.{shown}
-use Rattle.rt_tags.specs.Tags.{IsName}
+use Rattle.rt_tags.specs.Tags.{IsName, is_ready}
 use Rattle.rt_rga.specs.Drafts.{with_drafts}
 use Rattle.rt_rga.specs.Made.{refusal_of}
 use Rattle.rt_rga.specs.Requests.{MayBeMade}
@@ -52,8 +52,8 @@ planned_reversion_in-requires-clause-count g c =
     let most = greatest_bound flat.log c.kept.ensures.history in
     omega (arith, count, c.kept.ensures.document.count, most)
 
-pub returns-in_err-plan-clause-err : goal.returns-in_err-plan-clause-err
-returns-in_err-plan-clause-err g c =
+pub returns-in_err-plan : goal.returns-in_err-plan
+returns-in_err-plan g c =
     let flat = c.args.self.now in
     let group = named_group c.args.kept.now (group_of c.args.group.now) in
     let states = c.kept.result.1.now in
@@ -63,8 +63,22 @@ returns-in_err-plan-clause-err g c =
     let site : number ≡ flat.site = c.site-site.ensures ∙ ap (λ (f : Flat). f.site) c.self.view_is in
     let count : many ≡ flat.count = c.seen-count.ensures.value ∙ c.clock.ensures ∙ ap (λ (f : Flat). f.count) c.self.view_is in
     let is : IsOf states store number many flat = record { cells = sym c.kept.ensures.cells; site = sym site; count = sym count } in
-    let e = err_from_is_err_and c.from_residual.result c.from_residual.ensures.1 in
-    rw (e.1, e.2) (not_planned states store number many flat group c.in_err-plan.field-0.0 is c.in_err-plan.ensures.err)
+    let (y, same, gives) = err_from_is_err_and c.from_residual.result c.from_residual.ensures.1 in
+    rw (same, gives) (record {
+      doc = tt;
+      widget = tt;
+      peers = tt;
+      checked = tt;
+      returns = tt;
+      actions = tt;
+      given = tt;
+      sound = tt;
+      ids = c.planned_reversion_in.ensures.ids;
+      err = not_planned states store number many flat group c.in_err-plan.field-0.0 is c.in_err-plan.ensures.err;
+      unchanged = (refl, refl, refl);
+      own = c.requires.own;
+      others = c.requires.others;
+    })
 
 pub prepare_tags-requires : goal.prepare_tags-requires
 prepare_tags-requires g c =
@@ -96,8 +110,37 @@ make-requires g c =
     let i = reverts states table store number many flat group plan p in
     subst (λ (x : _). x) (λ k. MayBeMade (sym c.self.view_is k).site (sym c.self.view_is k).log (sym plans.drafts k)) (all_may flat group i)
 
-pub returns-in_err-_made-clause-err : goal.returns-in_err-_made-clause-err
-returns-in_err-_made-clause-err g c =
+pub invariant_of-self : goal.invariant_of-self
+invariant_of-self g c = subst (IsDoc c.self.inside.replica.cells c.self.inside.marks) (sym c.prepare_tags.ensures.names) c.self.invariant
+
+pub returns-in_err-prepare_tags : goal.returns-in_err-prepare_tags
+returns-in_err-prepare_tags g c =
+    let flat = c.args.self.now in
+    let (y, is, gives) = err_from_is_err_and c.from_residual-in_err-prepare_tags.result c.from_residual-in_err-prepare_tags.ensures.1 in
+    let doc : seen c.self.inside.replica c.self.inside.marks c.prepare_tags.new.table.names ≡ flat =
+    ap (seen c.self.inside.replica c.self.inside.marks) c.prepare_tags.ensures.names ∙ c.self.view_is in
+    rw (is, gives) (record {
+      doc = tt;
+      widget = tt;
+      peers = tt;
+      checked = tt;
+      returns = tt;
+      actions = tt;
+      given = tt;
+      sound = tt;
+      ids = c.planned_reversion_in.ensures.ids;
+      err = inl c.in_err-prepare_tags.ensures.err;
+      unchanged = (doc, refl, refl);
+      own = subst (λ (f : Flat). IsOwnOf (length (text_of f.cells)) c.args.widget.now) (sym doc) c.requires.own;
+      others = subst (λ (f : Flat). AllByRecursion (IsOwnOf (length (text_of f.cells))) (map own_in c.args.others.now)) (sym doc) c.requires.others;
+    })
+
+pub invariant_of-self-in_err-_made : goal.invariant_of-self-in_err-_made
+invariant_of-self-in_err-_made g c =
+    subst (λ (p : _). p) (λ k. IsDoc (sym c.in_err-_made.ensures.same k).cells c.self.inside.marks (sym c.prepare_tags.ensures.names k)) c.self.invariant
+
+pub returns-in_err-_made : goal.returns-in_err-_made
+returns-in_err-_made g c =
     let flat = c.args.self.now in
     let group = named_group c.args.kept.now (group_of c.args.group.now) in
     let states = c.kept.result.1.now in
@@ -120,17 +163,29 @@ returns-in_err-_made-clause-err g c =
     } in
     let plans = planned states table store number many flat group plan p in
     let i = reverts states table store number many flat group plan p in
-    let e = err_from_is_err_and c.from_residual-in_err-_made.result c.from_residual-in_err-_made.ensures.1 in
     let same : refusal_of c.self.inside.replica.limit (map body_of plan.drafts.items) c.self.inside.replica.log ≡ reversion_check flat group =
     (λ k. refusal_of (c.self.view_is k).limit (plans.drafts k) (c.self.view_is k).log) ∙ all_refused flat group i in
-    rw (e.1, e.2) (which c.in_err-_made.ensures.refused same)
+    let (y, is, gives) = err_from_is_err_and c.from_residual-in_err-_made.result c.from_residual-in_err-_made.ensures.1 in
+    let doc : seen c.make.new.self c.self.inside.marks c.prepare_tags.new.table.names ≡ flat =
+    (λ k. seen (c.in_err-_made.ensures.same k) c.self.inside.marks (c.prepare_tags.ensures.names k)) ∙ c.self.view_is in
+    rw (is, gives) (record {
+      doc = tt;
+      widget = tt;
+      peers = tt;
+      checked = tt;
+      returns = tt;
+      actions = tt;
+      given = tt;
+      sound = tt;
+      ids = c.planned_reversion_in.ensures.ids;
+      err = which c.in_err-_made.ensures.refused same;
+      unchanged = (doc, refl, refl);
+      own = subst (λ (f : Flat). IsOwnOf (length (text_of f.cells)) c.args.widget.now) (sym doc) c.requires.own;
+      others = subst (λ (f : Flat). AllByRecursion (IsOwnOf (length (text_of f.cells))) (map own_in c.args.others.now)) (sym doc) c.requires.others;
+    })
 
-pub move_for_all-requires-clause-changes : goal.move_for_all-requires-clause-changes
-move_for_all-requires-clause-changes g c =
-    subst (AllByRecursion IsChange) (sym c.deref-2.ensures.value) c.in_ok-plan.ensures.changes
-
-pub move_for_all-requires-clause-fits : goal.move_for_all-requires-clause-fits
-move_for_all-requires-clause-fits g c =
+pub revert_all-requires : goal.revert_all-requires
+revert_all-requires g c =
     let flat = c.args.self.now in
     let states = c.kept.result.1.now in
     let store = g.S.TextStore.list c.kept.result.0.now in
@@ -141,61 +196,17 @@ move_for_all-requires-clause-fits g c =
     let within : n ≤ MOST_CELLS = omega (arith, text, cells, text_within flat.cells, c.kept.ensures.few, c.kept.ensures.most) in
     let changes : c.deref-2.result.now ≡ plan.changes.items = c.deref-2.ensures.value in
     let few : length c.deref-2.result.now ≤ 2 ^ 63 = omega (arith, ap length changes, plan.changes.ok.0, plan.changes.ok.1, plan.changes.small) in
-    site_fits n (length c.deref-2.result.now) (2 ^ 64 - 1) c.self.inside.marks (omega (arith, within, few)) c.self.invariant.placed
-
-pub revert-requires-clause-changes : goal.revert-requires-clause-changes
-revert-requires-clause-changes g c =
-    subst (AllByRecursion IsChange) (sym c.deref-3.ensures.value) c.in_ok-plan.ensures.changes
-
-pub revert-requires-clause-insert : goal.revert-requires-clause-insert
-revert-requires-clause-insert g c =
-    let flat = c.args.self.now in
-    let states = c.kept.result.1.now in
-    let store = g.S.TextStore.list c.kept.result.0.now in
-    let plan = c.in_ok-plan.plan in
-    let n = length (text_of c.self.inside.replica.cells) in
-    let text : n ≡ length (text_of flat.cells) = ap (λ (f : Flat). length (text_of f.cells)) c.self.view_is in
-    let cells : length flat.cells ≡ length store = ap length (sym c.kept.ensures.cells) ∙ length-map store (shown states) in
-    let within : n ≤ MOST_CELLS = omega (arith, text, cells, text_within flat.cells, c.kept.ensures.few, c.kept.ensures.most) in
-    let changes : c.deref-3.result.now ≡ plan.changes.items = c.deref-3.ensures.value in
-    let few : length c.deref-3.result.now ≤ 2 ^ 63 = omega (arith, ap length changes, plan.changes.ok.0, plan.changes.ok.1, plan.changes.small) in
-    omega (arith, text, within, few, c.requires.own.0)
-
-pub revert-requires-clause-current : goal.revert-requires-clause-current
-revert-requires-clause-current g c =
-    let flat = c.args.self.now in
-    let states = c.kept.result.1.now in
-    let store = g.S.TextStore.list c.kept.result.0.now in
-    let plan = c.in_ok-plan.plan in
-    let n = length (text_of c.self.inside.replica.cells) in
-    let text : n ≡ length (text_of flat.cells) = ap (λ (f : Flat). length (text_of f.cells)) c.self.view_is in
-    let cells : length flat.cells ≡ length store = ap length (sym c.kept.ensures.cells) ∙ length-map store (shown states) in
-    let within : n ≤ MOST_CELLS = omega (arith, text, cells, text_within flat.cells, c.kept.ensures.few, c.kept.ensures.most) in
-    let changes : c.deref-3.result.now ≡ plan.changes.items = c.deref-3.ensures.value in
-    let few : length c.deref-3.result.now ≤ 2 ^ 63 = omega (arith, ap length changes, plan.changes.ok.0, plan.changes.ok.1, plan.changes.small) in
-    omega (arith, text, within, few, c.requires.own.1)
-
-pub revert_each-requires-clause-changes : goal.revert_each-requires-clause-changes
-revert_each-requires-clause-changes g c =
-    subst (AllByRecursion IsChange) (sym c.deref-5.ensures.value) c.in_ok-plan.ensures.changes
-
-pub revert_each-requires-clause-fits : goal.revert_each-requires-clause-fits
-revert_each-requires-clause-fits g c =
-    let flat = c.args.self.now in
-    let states = c.kept.result.1.now in
-    let store = g.S.TextStore.list c.kept.result.0.now in
-    let plan = c.in_ok-plan.plan in
-    let n = length (text_of c.self.inside.replica.cells) in
-    let text : n ≡ length (text_of flat.cells) = ap (λ (f : Flat). length (text_of f.cells)) c.self.view_is in
-    let cells : length flat.cells ≡ length store = ap length (sym c.kept.ensures.cells) ∙ length-map store (shown states) in
-    let within : n ≤ MOST_CELLS = omega (arith, text, cells, text_within flat.cells, c.kept.ensures.few, c.kept.ensures.most) in
-    let changes : c.deref-5.result.now ≡ plan.changes.items = c.deref-5.ensures.value in
-    let few : length c.deref-5.result.now ≤ 2 ^ 63 = omega (arith, ap length changes, plan.changes.ok.0, plan.changes.ok.1, plan.changes.small) in
-    each_room (length (text_of flat.cells)) (length c.deref-5.result.now) (2 ^ 64 - 1) c.args.others.now (omega (arith, text, within, few)) c.requires.others
+    record {
+      changes = subst (AllByRecursion IsChange) (sym c.deref-2.ensures.value) c.in_ok-plan.ensures.changes;
+      marks = site_fits n (length c.deref-2.result.now) (2 ^ 64 - 1) c.self.inside.marks (omega (arith, within, few)) c.self.invariant.placed;
+      insert = omega (arith, text, within, few, c.requires.own.0);
+      current = omega (arith, text, within, few, c.requires.own.1);
+      others = each_room (length (text_of flat.cells)) (length c.deref-2.result.now) (2 ^ 64 - 1) c.args.others.now (omega (arith, text, within, few)) c.requires.others;
+    }
 
 pub list_tags-requires-clause-names : goal.list_tags-requires-clause-names
 list_tags-requires-clause-names g c =
-    subst (All (λ w. IsName (string_bytes w))) (sym c.deref-7.ensures.value) (names_planned c.in_ok-plan.plan c.in_ok-plan.ensures.names)
+    subst (All (λ w. IsName (string_bytes w))) (sym c.deref-4.ensures.value) (names_planned c.in_ok-plan.plan c.in_ok-plan.ensures.names)
 
 pub invariant_of-self-2 : goal.invariant_of-self-2
 invariant_of-self-2 g c =
@@ -225,14 +236,14 @@ invariant_of-self-2 g c =
     let doc : seen c.make.new.self left.marks left.tags ≡ reverted flat group =
     left_seen flat group i c.make.new.self (c.in_ok-_made.ensures.log ∙ (λ k. with_drafts (c.self.view_is k).site (plans.drafts k) (c.self.view_is k).log)) c.in_ok-_made.ensures.cells
     (c.make.ensures.site ∙ ap (λ (f : Flat). f.site) c.self.view_is) (c.make.ensures.limit ∙ ap (λ (f : Flat). f.limit) c.self.view_is) in
-    let marks : c.move_for_all.new.marks ≡ left.marks = c.move_for_all.ensures ∙ (λ k. marks_after (c.deref-2.ensures.value k) (c.self.view_is k).marks) ∙ plans.marks in
+    let marks : c.revert_all.new.marks ≡ left.marks = c.revert_all.ensures.marks ∙ (λ k. marks_after (c.deref-2.ensures.value k) (c.self.view_is k).marks) ∙ plans.marks in
     let tags : c.list_tags.new.table.names ≡ left.tags =
-    c.list_tags.ensures ∙ (λ k. all_listed (map (λ w. string_bytes w) (c.deref-7.ensures.value k)) (c.prepare_tags.ensures.names k)) ∙ ap (λ (f : Flat). all_listed (map (λ w. string_bytes w) plan.names.items) f.tags) c.self.view_is ∙ plans.tags in
+    c.list_tags.ensures ∙ (λ k. all_listed (map (λ w. string_bytes w) (c.deref-4.ensures.value k)) (c.prepare_tags.ensures.names k)) ∙ ap (λ (f : Flat). all_listed (map (λ w. string_bytes w) plan.names.items) f.tags) c.self.view_is ∙ plans.tags in
     let kept : IsDoc flat.cells flat.marks flat.tags = subst (λ (f : Flat). IsDoc f.cells f.marks f.tags) c.self.view_is c.self.invariant in
     subst (λ (x : _). x) (λ k. IsDoc (sym doc k).cells (sym marks k) (sym tags k)) (left_kept flat group i kept)
 
-pub returns-clause-doc : goal.returns-clause-doc
-returns-clause-doc g c =
+pub returns : goal.returns
+returns g c =
     let flat = c.args.self.now in
     let group = named_group c.args.kept.now (group_of c.args.group.now) in
     let states = c.kept.result.1.now in
@@ -259,229 +270,33 @@ returns-clause-doc g c =
     let doc : seen c.make.new.self left.marks left.tags ≡ reverted flat group =
     left_seen flat group i c.make.new.self (c.in_ok-_made.ensures.log ∙ (λ k. with_drafts (c.self.view_is k).site (plans.drafts k) (c.self.view_is k).log)) c.in_ok-_made.ensures.cells
     (c.make.ensures.site ∙ ap (λ (f : Flat). f.site) c.self.view_is) (c.make.ensures.limit ∙ ap (λ (f : Flat). f.limit) c.self.view_is) in
-    let marks : c.move_for_all.new.marks ≡ left.marks = c.move_for_all.ensures ∙ (λ k. marks_after (c.deref-2.ensures.value k) (c.self.view_is k).marks) ∙ plans.marks in
+    let marks : c.revert_all.new.marks ≡ left.marks = c.revert_all.ensures.marks ∙ (λ k. marks_after (c.deref-2.ensures.value k) (c.self.view_is k).marks) ∙ plans.marks in
     let tags : c.list_tags.new.table.names ≡ left.tags =
-    c.list_tags.ensures ∙ (λ k. all_listed (map (λ w. string_bytes w) (c.deref-7.ensures.value k)) (c.prepare_tags.ensures.names k)) ∙ ap (λ (f : Flat). all_listed (map (λ w. string_bytes w) plan.names.items) f.tags) c.self.view_is ∙ plans.tags in
-    (λ k. seen c.make.new.self (marks k) (tags k)) ∙ doc
-
-pub returns-clause-widget : goal.returns-clause-widget
-returns-clause-widget g c =
-    let flat = c.args.self.now in
-    let group = named_group c.args.kept.now (group_of c.args.group.now) in
-    let states = c.kept.result.1.now in
-    let store = g.S.TextStore.list c.kept.result.0.now in
-    let number = c.site-site.result.number in
-    let many = c.seen-count.result in
-    let site : number ≡ flat.site = c.site-site.ensures ∙ ap (λ (f : Flat). f.site) c.self.view_is in
-    let count : many ≡ flat.count = c.seen-count.ensures.value ∙ c.clock.ensures ∙ ap (λ (f : Flat). f.count) c.self.view_is in
-    let is : IsOf states store number many flat = record { cells = sym c.kept.ensures.cells; site = sym site; count = sym count } in
-    let table = c.planned_reversion_in.new.kept in
-    let plan = c.in_ok-plan.plan in
-    let p : IsPlanned states table store number many flat group plan = record {
-      real = c.kept.ensures.site;
-      history = c.kept.ensures.history;
-      document = c.kept.ensures.document;
-      sound = c.requires.sound;
-      is = is;
-      plans = c.in_ok-plan.ensures.plan;
-      fits = c.in_ok-plan.ensures.fits;
-    } in
+    c.list_tags.ensures ∙ (λ k. all_listed (map (λ w. string_bytes w) (c.deref-4.ensures.value k)) (c.prepare_tags.ensures.names k)) ∙ ap (λ (f : Flat). all_listed (map (λ w. string_bytes w) plan.names.items) f.tags) c.self.view_is ∙ plans.tags in
     let own = c.args.widget.now in
-    let moved : c.revert.new.self ≡ own_reverted flat group own =
-    c.revert.ensures ∙ (λ k. own_renamed (c.deref-4.ensures.value k) (own_after (c.deref-3.ensures.value k) own)) ∙ own_moved states table store number many flat group plan p own in
-    moved
-
-pub returns-clause-peers : goal.returns-clause-peers
-returns-clause-peers g c =
-    let flat = c.args.self.now in
-    let group = named_group c.args.kept.now (group_of c.args.group.now) in
-    let states = c.kept.result.1.now in
-    let store = g.S.TextStore.list c.kept.result.0.now in
-    let number = c.site-site.result.number in
-    let many = c.seen-count.result in
-    let site : number ≡ flat.site = c.site-site.ensures ∙ ap (λ (f : Flat). f.site) c.self.view_is in
-    let count : many ≡ flat.count = c.seen-count.ensures.value ∙ c.clock.ensures ∙ ap (λ (f : Flat). f.count) c.self.view_is in
-    let is : IsOf states store number many flat = record { cells = sym c.kept.ensures.cells; site = sym site; count = sym count } in
-    let table = c.planned_reversion_in.new.kept in
-    let plan = c.in_ok-plan.plan in
-    let p : IsPlanned states table store number many flat group plan = record {
-      real = c.kept.ensures.site;
-      history = c.kept.ensures.history;
-      document = c.kept.ensures.document;
-      sound = c.requires.sound;
-      is = is;
-      plans = c.in_ok-plan.ensures.plan;
-      fits = c.in_ok-plan.ensures.fits;
-    } in
+    let own_moved_is : c.revert_all.new.widget ≡ own_reverted flat group own =
+    c.revert_all.ensures.own ∙ (λ k. own_renamed (c.deref-3.ensures.value k) (own_after (c.deref-2.ensures.value k) own)) ∙ own_moved states table store number many flat group plan p own in
     let others = map own_in c.args.others.now in
-    c.revert_each.ensures ∙ (λ k. map (λ own. own_renamed (c.deref-6.ensures.value k) (own_after (c.deref-5.ensures.value k) own)) others) ∙ (λ k. map (λ own. own_moved states table store number many flat group plan p own k) others)
+    let others_moved : map own_in c.revert_all.new.others ≡ map (own_reverted flat group) others =
+    c.revert_all.ensures.others ∙ (λ k. map (λ own. own_renamed (c.deref-3.ensures.value k) (own_after (c.deref-2.ensures.value k) own)) others) ∙ (λ k. map (λ own. own_moved states table store number many flat group plan p own k) others) in
+    record {
+      doc = (λ k. seen c.make.new.self (marks k) (tags k)) ∙ doc;
+      widget = own_moved_is;
+      peers = others_moved;
+      checked = sym (all_refused flat group i) ∙ sym (λ k. refusal_of (c.self.view_is k).limit (plans.drafts k) (c.self.view_is k).log) ∙ c.in_ok-_made.ensures.fits;
+      returns = plans.returns;
+      actions = plans.actions;
+      given = c.in_ok-plan.ensures.given;
+      sound = subst AreSound (sym plans.actions) (reversion_sound flat.site flat.log flat group i.real i.history i.document i.sound i.fits);
+      ids = c.planned_reversion_in.ensures.ids;
+      err = tt;
+      unchanged = tt;
+      own = subst (λ (x : _). x) (λ k. IsOwnOf (length (text_of (sym doc k).cells)) (sym own_moved_is k)) (own_left_in states table store number many flat group plan p own c.requires.own);
+      others = subst (λ (x : _). x) (λ k. AllByRecursion (IsOwnOf (length (text_of (sym doc k).cells))) (sym others_moved k))
+          (each_by (IsOwnOf (length (text_of flat.cells))) (IsOwnOf (length (text_of (reverted flat group).cells))) (own_reverted flat group)
+          (λ own stands. own_left_in states table store number many flat group plan p own stands) others c.requires.others);
+    }
 
-pub returns-clause-checked : goal.returns-clause-checked
-returns-clause-checked g c =
-    let flat = c.args.self.now in
-    let group = named_group c.args.kept.now (group_of c.args.group.now) in
-    let states = c.kept.result.1.now in
-    let store = g.S.TextStore.list c.kept.result.0.now in
-    let number = c.site-site.result.number in
-    let many = c.seen-count.result in
-    let site : number ≡ flat.site = c.site-site.ensures ∙ ap (λ (f : Flat). f.site) c.self.view_is in
-    let count : many ≡ flat.count = c.seen-count.ensures.value ∙ c.clock.ensures ∙ ap (λ (f : Flat). f.count) c.self.view_is in
-    let is : IsOf states store number many flat = record { cells = sym c.kept.ensures.cells; site = sym site; count = sym count } in
-    let table = c.planned_reversion_in.new.kept in
-    let plan = c.in_ok-plan.plan in
-    let p : IsPlanned states table store number many flat group plan = record {
-      real = c.kept.ensures.site;
-      history = c.kept.ensures.history;
-      document = c.kept.ensures.document;
-      sound = c.requires.sound;
-      is = is;
-      plans = c.in_ok-plan.ensures.plan;
-      fits = c.in_ok-plan.ensures.fits;
-    } in
-    let plans = planned states table store number many flat group plan p in
-    let i = reverts states table store number many flat group plan p in
-    sym (all_refused flat group i) ∙ sym (λ k. refusal_of (c.self.view_is k).limit (plans.drafts k) (c.self.view_is k).log) ∙ c.in_ok-_made.ensures.fits
-
-pub returns-clause-returns : goal.returns-clause-returns
-returns-clause-returns g c =
-    let flat = c.args.self.now in
-    let group = named_group c.args.kept.now (group_of c.args.group.now) in
-    let states = c.kept.result.1.now in
-    let store = g.S.TextStore.list c.kept.result.0.now in
-    let number = c.site-site.result.number in
-    let many = c.seen-count.result in
-    let site : number ≡ flat.site = c.site-site.ensures ∙ ap (λ (f : Flat). f.site) c.self.view_is in
-    let count : many ≡ flat.count = c.seen-count.ensures.value ∙ c.clock.ensures ∙ ap (λ (f : Flat). f.count) c.self.view_is in
-    let is : IsOf states store number many flat = record { cells = sym c.kept.ensures.cells; site = sym site; count = sym count } in
-    let table = c.planned_reversion_in.new.kept in
-    let plan = c.in_ok-plan.plan in
-    let p : IsPlanned states table store number many flat group plan = record {
-      real = c.kept.ensures.site;
-      history = c.kept.ensures.history;
-      document = c.kept.ensures.document;
-      sound = c.requires.sound;
-      is = is;
-      plans = c.in_ok-plan.ensures.plan;
-      fits = c.in_ok-plan.ensures.fits;
-    } in
-    let plans = planned states table store number many flat group plan p in
-    plans.returns
-
-pub returns-clause-actions : goal.returns-clause-actions
-returns-clause-actions g c =
-    let flat = c.args.self.now in
-    let group = named_group c.args.kept.now (group_of c.args.group.now) in
-    let states = c.kept.result.1.now in
-    let store = g.S.TextStore.list c.kept.result.0.now in
-    let number = c.site-site.result.number in
-    let many = c.seen-count.result in
-    let site : number ≡ flat.site = c.site-site.ensures ∙ ap (λ (f : Flat). f.site) c.self.view_is in
-    let count : many ≡ flat.count = c.seen-count.ensures.value ∙ c.clock.ensures ∙ ap (λ (f : Flat). f.count) c.self.view_is in
-    let is : IsOf states store number many flat = record { cells = sym c.kept.ensures.cells; site = sym site; count = sym count } in
-    let table = c.planned_reversion_in.new.kept in
-    let plan = c.in_ok-plan.plan in
-    let p : IsPlanned states table store number many flat group plan = record {
-      real = c.kept.ensures.site;
-      history = c.kept.ensures.history;
-      document = c.kept.ensures.document;
-      sound = c.requires.sound;
-      is = is;
-      plans = c.in_ok-plan.ensures.plan;
-      fits = c.in_ok-plan.ensures.fits;
-    } in
-    let plans = planned states table store number many flat group plan p in
-    plans.actions
-
-pub returns-clause-sound : goal.returns-clause-sound
-returns-clause-sound g c =
-    let flat = c.args.self.now in
-    let group = named_group c.args.kept.now (group_of c.args.group.now) in
-    let states = c.kept.result.1.now in
-    let store = g.S.TextStore.list c.kept.result.0.now in
-    let number = c.site-site.result.number in
-    let many = c.seen-count.result in
-    let site : number ≡ flat.site = c.site-site.ensures ∙ ap (λ (f : Flat). f.site) c.self.view_is in
-    let count : many ≡ flat.count = c.seen-count.ensures.value ∙ c.clock.ensures ∙ ap (λ (f : Flat). f.count) c.self.view_is in
-    let is : IsOf states store number many flat = record { cells = sym c.kept.ensures.cells; site = sym site; count = sym count } in
-    let table = c.planned_reversion_in.new.kept in
-    let plan = c.in_ok-plan.plan in
-    let p : IsPlanned states table store number many flat group plan = record {
-      real = c.kept.ensures.site;
-      history = c.kept.ensures.history;
-      document = c.kept.ensures.document;
-      sound = c.requires.sound;
-      is = is;
-      plans = c.in_ok-plan.ensures.plan;
-      fits = c.in_ok-plan.ensures.fits;
-    } in
-    let plans = planned states table store number many flat group plan p in
-    let i = reverts states table store number many flat group plan p in
-    subst AreSound (sym plans.actions) (reversion_sound flat.site flat.log flat group i.real i.history i.document i.sound i.fits)
-
-pub returns-clause-own : goal.returns-clause-own
-returns-clause-own g c =
-    let flat = c.args.self.now in
-    let group = named_group c.args.kept.now (group_of c.args.group.now) in
-    let states = c.kept.result.1.now in
-    let store = g.S.TextStore.list c.kept.result.0.now in
-    let number = c.site-site.result.number in
-    let many = c.seen-count.result in
-    let site : number ≡ flat.site = c.site-site.ensures ∙ ap (λ (f : Flat). f.site) c.self.view_is in
-    let count : many ≡ flat.count = c.seen-count.ensures.value ∙ c.clock.ensures ∙ ap (λ (f : Flat). f.count) c.self.view_is in
-    let is : IsOf states store number many flat = record { cells = sym c.kept.ensures.cells; site = sym site; count = sym count } in
-    let table = c.planned_reversion_in.new.kept in
-    let plan = c.in_ok-plan.plan in
-    let p : IsPlanned states table store number many flat group plan = record {
-      real = c.kept.ensures.site;
-      history = c.kept.ensures.history;
-      document = c.kept.ensures.document;
-      sound = c.requires.sound;
-      is = is;
-      plans = c.in_ok-plan.ensures.plan;
-      fits = c.in_ok-plan.ensures.fits;
-    } in
-    let plans = planned states table store number many flat group plan p in
-    let i = reverts states table store number many flat group plan p in
-    let left = (reversion flat group).doc in
-    let doc : seen c.make.new.self left.marks left.tags ≡ reverted flat group =
-    left_seen flat group i c.make.new.self (c.in_ok-_made.ensures.log ∙ (λ k. with_drafts (c.self.view_is k).site (plans.drafts k) (c.self.view_is k).log)) c.in_ok-_made.ensures.cells
-    (c.make.ensures.site ∙ ap (λ (f : Flat). f.site) c.self.view_is) (c.make.ensures.limit ∙ ap (λ (f : Flat). f.limit) c.self.view_is) in
-    let own = c.args.widget.now in
-    let moved : c.revert.new.self ≡ own_reverted flat group own =
-    c.revert.ensures ∙ (λ k. own_renamed (c.deref-4.ensures.value k) (own_after (c.deref-3.ensures.value k) own)) ∙ own_moved states table store number many flat group plan p own in
-    subst (λ (x : _). x) (λ k. IsOwnOf (length (text_of (sym doc k).cells)) (sym moved k)) (own_left_in states table store number many flat group plan p own c.requires.own)
-
-pub returns-clause-others : goal.returns-clause-others
-returns-clause-others g c =
-    let flat = c.args.self.now in
-    let group = named_group c.args.kept.now (group_of c.args.group.now) in
-    let states = c.kept.result.1.now in
-    let store = g.S.TextStore.list c.kept.result.0.now in
-    let number = c.site-site.result.number in
-    let many = c.seen-count.result in
-    let site : number ≡ flat.site = c.site-site.ensures ∙ ap (λ (f : Flat). f.site) c.self.view_is in
-    let count : many ≡ flat.count = c.seen-count.ensures.value ∙ c.clock.ensures ∙ ap (λ (f : Flat). f.count) c.self.view_is in
-    let is : IsOf states store number many flat = record { cells = sym c.kept.ensures.cells; site = sym site; count = sym count } in
-    let table = c.planned_reversion_in.new.kept in
-    let plan = c.in_ok-plan.plan in
-    let p : IsPlanned states table store number many flat group plan = record {
-      real = c.kept.ensures.site;
-      history = c.kept.ensures.history;
-      document = c.kept.ensures.document;
-      sound = c.requires.sound;
-      is = is;
-      plans = c.in_ok-plan.ensures.plan;
-      fits = c.in_ok-plan.ensures.fits;
-    } in
-    let plans = planned states table store number many flat group plan p in
-    let i = reverts states table store number many flat group plan p in
-    let left = (reversion flat group).doc in
-    let doc : seen c.make.new.self left.marks left.tags ≡ reverted flat group =
-    left_seen flat group i c.make.new.self (c.in_ok-_made.ensures.log ∙ (λ k. with_drafts (c.self.view_is k).site (plans.drafts k) (c.self.view_is k).log)) c.in_ok-_made.ensures.cells
-    (c.make.ensures.site ∙ ap (λ (f : Flat). f.site) c.self.view_is) (c.make.ensures.limit ∙ ap (λ (f : Flat). f.limit) c.self.view_is) in
-    let others = map own_in c.args.others.now in
-    let moved : map own_in c.revert_each.new.others ≡ map (own_reverted flat group) others =
-    c.revert_each.ensures ∙ (λ k. map (λ own. own_renamed (c.deref-6.ensures.value k) (own_after (c.deref-5.ensures.value k) own)) others) ∙ (λ k. map (λ own. own_moved states table store number many flat group plan p own k) others) in
-    subst (λ (x : _). x) (λ k. AllByRecursion (IsOwnOf (length (text_of (sym doc k).cells))) (sym moved k))
-    (each_by (IsOwnOf (length (text_of flat.cells))) (IsOwnOf (length (text_of (reverted flat group).cells))) (own_reverted flat group)
-    (λ own stands. own_left_in states table store number many flat group plan p own stands) others c.requires.others)
+pub list_tags-requires-clause-ready : goal.list_tags-requires-clause-ready
+list_tags-requires-clause-ready g c =
+    subst (All (λ w. is_ready (string_bytes w) c.prepare_tags.new.table ≡ true)) (c.deref.ensures.value ∙ sym c.deref-4.ensures.value) c.in_ok-prepare_tags.ensures.ready

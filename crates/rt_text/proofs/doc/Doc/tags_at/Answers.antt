@@ -1,3 +1,4 @@
+use Rattle.std.proofs.lemmas.Result.{err_from_is_err_and}
 use Rattle.std.proofs.Common.{◌∙◌, ◌+◌, ap, arith, map}
 use Rattle.std.specs.Prelude.{option_map, string_bytes}
 use Rattle.rt_edits.specs.Flat.{Flat}
@@ -7,6 +8,14 @@ use Rattle.rt_text.specs.Widgets.{Own, tags_on}
 use Rattle.rt_text.proofs.LimitedTags.{place_kept}
 use Rattle.rt_text.proofs.SeenLaws.{tags_found, visible_given}
 use Rattle.rt_text.proofs.doc.Doc.tags_at.Goals as goal
+
+pub returns-in_err-names : goal.returns-in_err-names
+returns-in_err-names g c =
+    let p = err_from_is_err_and c.from_residual.result c.from_residual.ensures.1 in
+    rw (p.1, p.2) (record { ok = tt; err = c.in_err-names.ensures.fault })
+
+pub returns-clause-err : goal.returns-clause-err
+returns-clause-err g c = tt
 
 pub cell_at-cell-requires : goal.cell_at-cell-requires
 cell_at-cell-requires g c =

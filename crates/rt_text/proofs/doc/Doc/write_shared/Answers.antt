@@ -24,6 +24,15 @@ use Rattle.rt_text.proofs.MadeDocument.{clock_passed, seen}
 use Rattle.rt_text.proofs.TaggedDocument.{fits, kept_beside, makes_seen, of_site, refuses, tagged_at, tagged_makes}
 use Rattle.rt_text.proofs.doc.Doc.write_shared.Goals as goal
 
+pub returns-clause-err : goal.returns-clause-err
+returns-clause-err g c = tt
+
+pub returns-clause-unchanged : goal.returns-clause-unchanged
+returns-clause-unchanged g c = tt
+
+pub list_if-requires : goal.list_if-requires
+list_if-requires g c = record { name = c.requires.name; ready = c.in_ok-prepare_if.ensures.ready }
+
 pub planned_tag-requires-clause-within : goal.planned_tag-requires-clause-within
 planned_tag-requires-clause-within g c =
     subst (λ n. All (λ (range : Range). range.to ≤ n) c.args.ranges.now) (as_visible c.kept.result.1.now (g.S.TextStore.list c.kept.result.0.now) c.args.self.now c.kept.ensures.cells) c.requires.within
@@ -39,8 +48,26 @@ make-requires g c =
     subst (λ (l : List Body). MayBeMade c.self.inside.replica.site c.self.inside.replica.log l) (sym bodies)
     (subst (λ (f : Flat). MayBeMade f.site f.log drafts) (sym c.self.view_is) makes.may)
 
-pub returns-in_err-_made-clause-err : goal.returns-in_err-_made-clause-err
-returns-in_err-_made-clause-err g c =
+pub returns-in_err-drafts : goal.returns-in_err-drafts
+returns-in_err-drafts g c =
+    let (y, is, gives) = err_from_is_err_and c.from_residual.result c.from_residual.ensures.1 in
+    rw (is, gives) (record { ok = tt; within = tt; err = inl c.in_err-drafts.ensures.err; unchanged = refl })
+
+pub invariant_of-self : goal.invariant_of-self
+invariant_of-self g c = subst (IsDoc c.self.inside.replica.cells c.self.inside.marks) (sym c.prepare_if.ensures.names) c.self.invariant
+
+pub returns-in_err-prepare_if : goal.returns-in_err-prepare_if
+returns-in_err-prepare_if g c =
+    let (y, is, gives) = err_from_is_err_and c.from_residual-in_err-prepare_if.result c.from_residual-in_err-prepare_if.ensures.1 in
+    let doc = ap (seen c.self.inside.replica c.self.inside.marks) c.prepare_if.ensures.names ∙ c.self.view_is in
+    rw (is, gives) (record { ok = tt; within = tt; err = inl c.in_err-prepare_if.ensures.err; unchanged = doc })
+
+pub invariant_of-self-in_err-_made : goal.invariant_of-self-in_err-_made
+invariant_of-self-in_err-_made g c =
+    subst (λ (p : _). p) (λ k. IsDoc (sym c.in_err-_made.ensures.same k).cells c.self.inside.marks (sym c.prepare_if.ensures.names k)) c.self.invariant
+
+pub returns-in_err-_made : goal.returns-in_err-_made
+returns-in_err-_made g c =
     let old = c.args.self.now in
     let on = c.args.on in
     let name = c.args.name.now in
@@ -52,12 +79,18 @@ returns-in_err-_made-clause-err g c =
     let makes = tagged_makes old places on name of (name_is name c.utf8.name c.requires.name c.requires.shared) in
     let same : refusal_of c.self.inside.replica.limit (map body_of c.in_ok-drafts.drafts.items) c.self.inside.replica.log ≡ refusal_of old.limit drafts old.log =
     (λ i. refusal_of (c.self.view_is i).limit (bodies i) (c.self.view_is i).log) in
-    let p = err_from_is_err_and c.from_residual-in_err-_made.result c.from_residual-in_err-_made.ensures.1 in
-    rw (p.1, p.2)
-    (elim (refuses old edited drafts makes c.in_err-_made.field-0.0 (subst (λ o. (o ≡ Some c.in_err-_made.field-0.0) ⊎ ((c.in_err-_made.field-0.0 ≡ NoMemory) × (o ≡ None))) same c.in_err-_made.ensures.refused)) [
-      | inl e ↦ inl e
-      | inr e ↦ inr (clock_passed edited.count c.in_err-_made.field-0.0 e)
-    ])
+    let (y, is, gives) = err_from_is_err_and c.from_residual-in_err-_made.result c.from_residual-in_err-_made.ensures.1 in
+    let doc : seen c.make.new.self c.self.inside.marks c.prepare_if.new.tags.names ≡ old =
+    (λ k. seen (c.in_err-_made.ensures.same k) c.self.inside.marks (c.prepare_if.ensures.names k)) ∙ c.self.view_is in
+    rw (is, gives) (record {
+      ok = tt;
+      within = tt;
+      err = elim (refuses old edited drafts makes c.in_err-_made.field-0.0 (subst (λ o. (o ≡ Some c.in_err-_made.field-0.0) ⊎ ((c.in_err-_made.field-0.0 ≡ NoMemory) × (o ≡ None))) same c.in_err-_made.ensures.refused)) [
+        | inl e ↦ inl e
+        | inr e ↦ inr (clock_passed edited.count c.in_err-_made.field-0.0 e)
+      ];
+      unchanged = doc;
+    })
 
 pub invariant_of-self-2 : goal.invariant_of-self-2
 invariant_of-self-2 g c =

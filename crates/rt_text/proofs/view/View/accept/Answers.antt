@@ -1,7 +1,10 @@
+use Rattle.rt_rga.specs.Taken.{told}
+use Rattle.rt_text.proofs.ViewLaws.{viewed}
+use Rattle.std.proofs.lemmas.Result.{err_from_is_err_and}
 use Rattle.std.specs.List.{AllByRecursion}
 use Rattle.std.specs.Vec.{with_items}
 use Rattle.std.proofs.lemmas.List.{with_items_is}
-use Rattle.std.proofs.Common.{List, ◌≡◌, ◌+◌, ◌≤◌, ◌-◌, ◌^◌, ◌∙◌, ap, arith, length, map, subst, sym}
+use Rattle.std.proofs.Common.{List, ◌≡◌, ◌+◌, ◌≤◌, ◌-◌, ◌^◌, ◌∙◌, ap, arith, length, map, subst, sym, inl, inr, ◌⊎◌}
 use Rattle.rt_oplog.specs.Logs.{with_operation}
 use Rattle.rt_rga.specs.Histories.{IsHistory}
 use Rattle.rt_store.specs.Cells.{text_of, visible_of}
@@ -13,6 +16,24 @@ use Rattle.rt_text.specs.Widgets.{IsOwnOf, Own, Viewed}
 use Rattle.rt_text.proofs.PeerLaws.{each_by, each_room}
 use Rattle.rt_text.proofs.AcceptedView.{own_seen, own_stands, view_change, view_fits, view_new}
 use Rattle.rt_text.proofs.view.View.accept.Goals as goal
+
+either : {A B C D : Type 0} → (A → C) → (B → D) → A ⊎ B → C ⊎ D
+either f h (inl a) = inl (f a)
+either f h (inr b) = inr (h b)
+
+pub returns-in-New-clause-refused : goal.returns-in-New-clause-refused
+returns-in-New-clause-refused g c = tt
+
+pub returns-in-New-clause-unchanged : goal.returns-in-New-clause-unchanged
+returns-in-New-clause-unchanged g c = tt
+
+pub returns-in-New-clause-answer : goal.returns-in-New-clause-answer
+returns-in-New-clause-answer g c = sym (ap (λ (v : Viewed). answer_of v.doc c.args.op) c.self.view_is) ∙ c.in_ok-taken.ensures.answer ∙ ap told c.in-New.is
+
+pub returns-in_err-taken : goal.returns-in_err-taken
+returns-in_err-taken g c =
+    let p = err_from_is_err_and c.from_residual.result c.from_residual.ensures.1 in
+    rw (p.1, p.2) (record { answer = tt; ok = tt; change = tt; refused = either (λ e. sym (ap (λ (v : Viewed). answer_of v.doc c.args.op) c.self.view_is) ∙ e) (λ e. e) c.in_err-taken.ensures.refused; unchanged = ap (λ (d : Flat). viewed d c.self.inside.widget (map own_in c.self.inside.others.items)) c.in_err-taken.ensures.unchanged ∙ c.self.view_is })
 
 pub follow-requires-clause-runs : goal.follow-requires-clause-runs
 follow-requires-clause-runs g c =

@@ -1,16 +1,29 @@
-use Rattle.std.proofs.Common.{◌≡◌, ◌∙◌, ◌-◌, ◌≤◌, arith, length, sym, ap, Ok, map}
-use Rattle.std.proofs.lemmas.Result.{IfOk-weaker}
+use Rattle.std.proofs.Common.{◌≡◌, ◌∙◌, ◌-◌, ◌≤◌, arith, length, sym, ap, Ok, map, inl}
+use Rattle.std.proofs.lemmas.Result.{IfOk-weaker, err_from_is_err_and, IfErr-weaker}
 use Rattle.rt_store.specs.Cells.{text_of}
 use Rattle.rt_text.specs.Distances.{distance_of, or_indices}
 use Rattle.rt_text.specs.Parts.{own_in}
 use Rattle.rt_text.specs.Widgets.{text_shown, widget_of}
-use Rattle.rt_text.proofs.Checks.{two_given}
+use Rattle.rt_text.proofs.Checks.{two_given, first_refused, second_refused}
 use Rattle.rt_text.proofs.Differences.{distances_in_part}
 use Rattle.rt_text.proofs.SeenLaws.{store_seen}
 use Rattle.rt_edits.proofs.PlaceLaws.{text_within}
 use Rattle.rt_views.proofs.Parts.{part_length}
 use Rattle.rt_views.specs.Stretches.{part}
 use Rattle.rt_text.proofs.view.View.count.Goals as goal
+
+pub returns-in_err-start : goal.returns-in_err-start
+returns-in_err-start g c =
+    let p = err_from_is_err_and c.from_residual.result c.from_residual.ensures.1 in
+    rw (p.1, p.2) (record { ok = tt; err = first_refused (widget_of c.args.self.now) c.args.from.now c.args.to.now (λ a b. map (distance_of (text_shown c.args.self.now) a b) (or_indices c.args.measures.now)) c.in_err-start.field-0.0 c.in_err-start.ensures.err })
+
+pub returns-in_err-end : goal.returns-in_err-end
+returns-in_err-end g c =
+    let p = err_from_is_err_and c.from_residual-in_err-end.result c.from_residual-in_err-end.ensures.1 in
+    rw (p.1, p.2) (record { ok = tt; err = second_refused (widget_of c.args.self.now) c.args.from.now c.args.to.now (λ a b. map (distance_of (text_shown c.args.self.now) a b) (or_indices c.args.measures.now)) c.in_ok-start.start c.in_err-end.field-0.0 c.in_ok-start.ensures.ok c.in_err-end.ensures.err })
+
+pub returns-clause-err : goal.returns-clause-err
+returns-clause-err g c = IfErr-weaker c.distances_of.result _ _ (λ fault h. inl h) c.distances_of.ensures.err
 
 pub overflow_add-begin : goal.overflow_add-begin
 overflow_add-begin g c =

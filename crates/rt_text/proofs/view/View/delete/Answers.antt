@@ -1,10 +1,10 @@
 use Rattle.std.specs.List.{AllByRecursion}
 use Rattle.rt_text.specs.declared.parts.Parts.{Parts}
-use Rattle.std.proofs.Common.{List, length, ◌≡◌, ◌∙◌, ◌⊎◌, Some, ap, arith, map, string_bytes, subst, sym}
+use Rattle.std.proofs.Common.{List, length, ◌≡◌, ◌∙◌, ◌⊎◌, Some, ap, arith, map, string_bytes, subst, sym, refl}
 use Rattle.std.specs.Prelude.{IfErr}
 use Rattle.std.specs.Vec.{with_items}
 use Rattle.std.proofs.lemmas.List.{with_items_is}
-use Rattle.std.proofs.lemmas.Result.{IfErr-weaker, err_from_is_err_and}
+use Rattle.std.proofs.lemmas.Result.{IfErr-weaker, err_from_is_err_and, on_err_weaker}
 use Rattle.rt_stamps.specs.declared.fault.Fault.TheVariants.{NoMemory}
 use Rattle.rt_store.specs.Cells.{text_of}
 use Rattle.rt_text.specs.Parts.{own_in}
@@ -15,10 +15,14 @@ use Rattle.rt_text.proofs.Refusals.{deleted_ok, deleted_refused}
 use Rattle.rt_text.proofs.ViewLaws.{viewed}
 use Rattle.rt_text.proofs.view.View.delete.Goals as goal
 
-pub returns-in_err-ranges-clause-err : goal.returns-in_err-ranges-clause-err
-returns-in_err-ranges-clause-err g c =
+pub returns-in_err-ranges : goal.returns-in_err-ranges
+returns-in_err-ranges g c =
     let p = err_from_is_err_and c.from_residual.result c.from_residual.ensures.1 in
-    rw p.1 (deleted_index c.args.self.now (map (λ w. string_bytes w) c.args.indices.now) p.0 c.in_err-ranges.field-0.0 c.in_err-ranges.ensures.err p.2)
+    rw p.1 (record {
+      ok = tt;
+      err = deleted_index c.args.self.now (map (λ w. string_bytes w) c.args.indices.now) p.0 c.in_err-ranges.field-0.0 c.in_err-ranges.ensures.err p.2;
+      unchanged = refl;
+    })
 
 pub delete_in-requires-clause-others : goal.delete_in-requires-clause-others
 delete_in-requires-clause-others g c =
@@ -48,3 +52,22 @@ returns-clause-err g c =
     ap (λ l. viewed c.self.inside.doc c.self.inside.widget (map own_in l)) c.deref_mut.ensures.value ∙ c.self.view_is in
     IfErr-weaker c.delete_in.result _ _ (λ fault h. deleted_refused view indices ranges c.in_ok-ranges.ensures.checked read fault h)
     (subst (λ (v : Viewed). IfErr c.delete_in.result (λ fault. (fault ≡ NoMemory) ⊎ (clock_check (without_ranges v ranges).doc.count ≡ Some fault))) same c.delete_in.ensures.err)
+
+pub invariant_of-self : goal.invariant_of-self
+invariant_of-self g c =
+    let back : (with_items c.self.inside.others c.delete_in.new.others).items ≡ c.delete_in.new.others =
+    with_items_is c.self.inside.others c.delete_in.new.others (omega (arith, c.delete_in.auto.others, c.deref_mut.ensures.len)) in
+    let n = length (text_of c.delete_in.new.self.cells) in
+    (c.delete_in.ensures.own, subst (λ (l : List Parts). AllByRecursion (IsOwnOf n) (map own_in l)) (sym back) c.delete_in.ensures.others)
+
+pub delete_in-requires-clause-own : goal.delete_in-requires-clause-own
+delete_in-requires-clause-own g c = c.self.invariant.0
+
+pub returns-clause-unchanged : goal.returns-clause-unchanged
+returns-clause-unchanged g c =
+    let same : viewed c.self.inside.doc c.self.inside.widget (map own_in c.deref_mut.result.now) ≡ c.args.self.now =
+    ap (λ l. viewed c.self.inside.doc c.self.inside.widget (map own_in l)) c.deref_mut.ensures.value ∙ c.self.view_is in
+    let back : (with_items c.self.inside.others c.delete_in.new.others).items ≡ c.delete_in.new.others = with_items_is c.self.inside.others c.delete_in.new.others (omega (arith, c.delete_in.auto.others, c.deref_mut.ensures.len)) in
+    on_err_weaker c.delete_in.result
+    (λ kept. ap (λ l. viewed c.delete_in.new.self c.delete_in.new.widget (map own_in l)) back ∙ (λ i. viewed (kept.0 i) (kept.1 i) (kept.2 i)) ∙ same)
+    c.delete_in.ensures.unchanged

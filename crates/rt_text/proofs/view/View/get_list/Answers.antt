@@ -1,6 +1,7 @@
-use Rattle.std.proofs.Common.{◌≡◌, ◌∙◌, arith, map, sym, ap, Ok}
+use Rattle.rt_text.proofs.Refusals.{list_refused}
+use Rattle.std.proofs.Common.{◌≡◌, ◌∙◌, arith, map, sym, ap, Ok, inl}
 use Rattle.std.specs.Prelude.{string_bytes}
-use Rattle.std.proofs.lemmas.Result.{IfOk-weaker}
+use Rattle.std.proofs.lemmas.Result.{IfOk-weaker, err_from_is_err_and, IfErr-weaker}
 use Rattle.rt_stamps.specs.Outcomes.{unless}
 use Rattle.rt_store.specs.Cells.{text_of}
 use Rattle.rt_text.specs.Index.{place_at_index}
@@ -10,6 +11,14 @@ use Rattle.rt_text.specs.Widgets.{text_shown, widget_of}
 use Rattle.rt_text.proofs.SeenLaws.{store_seen}
 use Rattle.rt_views.specs.Stretches.{part}
 use Rattle.rt_text.proofs.view.View.get_list.Goals as goal
+
+pub returns-in_err-ranges : goal.returns-in_err-ranges
+returns-in_err-ranges g c =
+    let p = err_from_is_err_and c.from_residual.result c.from_residual.ensures.1 in
+    rw (p.1, p.2) (record { ok = tt; err = list_refused c.args.self.now (map (λ w. string_bytes w) c.args.indices.now) c.in_err-ranges.field-0.0 c.in_err-ranges.ensures.err })
+
+pub returns-clause-err : goal.returns-clause-err
+returns-clause-err g c = IfErr-weaker c.texts_of.result _ _ (λ fault h. inl h) c.texts_of.ensures.err
 
 pub texts_of-requires : goal.texts_of-requires
 texts_of-requires g c = (omega (arith, c.between.ensures.lines.some), c.between.ensures.lines.within)

@@ -1,16 +1,24 @@
-use Rattle.std.proofs.Common.{◌≡◌, ◌+◌, ◌∙◌, arith, length, map, sym, ap, Ok}
+use Rattle.std.proofs.Common.{◌≡◌, ◌+◌, ◌∙◌, arith, length, map, sym, ap, Ok, inl}
 use Rattle.std.specs.Prelude.{encode_utf8_all}
-use Rattle.std.proofs.lemmas.Result.{IfOk-weaker}
+use Rattle.std.proofs.lemmas.Result.{IfOk-weaker, err_from_is_err_and, IfErr-weaker}
 use Rattle.rt_store.specs.Cells.{text_of}
 use Rattle.rt_text.specs.Parts.{own_in}
 use Rattle.rt_text.specs.Ranges.{text_between}
 use Rattle.rt_text.specs.Widgets.{text_shown, widget_of}
-use Rattle.rt_text.proofs.Checks.{one_given}
+use Rattle.rt_text.proofs.Checks.{one_given, one_refused}
 use Rattle.rt_text.proofs.SeenLaws.{store_seen}
 use Rattle.rt_edits.proofs.PlaceLaws.{text_within}
 use Rattle.rt_views.proofs.Parts.{part_length}
 use Rattle.rt_views.specs.Stretches.{part}
 use Rattle.rt_text.proofs.view.View.get_one.Goals as goal
+
+pub returns-in_err-place : goal.returns-in_err-place
+returns-in_err-place g c =
+    let p = err_from_is_err_and c.from_residual.result c.from_residual.ensures.1 in
+    rw (p.1, p.2) (record { ok = tt; err = one_refused (widget_of c.args.self.now) c.args.index.now (λ p. encode_utf8_all (text_between (text_shown c.args.self.now) p (p + 1))) c.in_err-place.field-0.0 c.in_err-place.ensures.err })
+
+pub returns-clause-err : goal.returns-clause-err
+returns-clause-err g c = IfErr-weaker c.shown_between.result _ _ (λ fault h. inl h) c.shown_between.ensures.err
 
 pub returns-clause-ok : goal.returns-clause-ok
 returns-clause-ok g c =

@@ -1,6 +1,6 @@
 use Rattle.std.specs.List.{AllByRecursion}
 use Rattle.rt_text.specs.declared.parts.Parts.{Parts}
-use Rattle.std.proofs.Common.{List, ◌≡◌, ◌∙◌, ◌⊎◌, ◌-◌, ◌<◌, Some, ap, arith, inr, length, map, min, subst, sym}
+use Rattle.std.proofs.Common.{List, ◌≡◌, ◌∙◌, ◌⊎◌, ◌-◌, ◌<◌, Some, ap, arith, inr, length, map, min, subst, sym, refl}
 use Rattle.std.specs.Prelude.{IfErr}
 use Rattle.std.specs.Vec.{with_items}
 use Rattle.std.proofs.lemmas.List.{length-map, with_items_is}
@@ -17,16 +17,23 @@ use Rattle.rt_text.proofs.PutLaws.{all_refused, both_done, done_by, either, late
 use Rattle.rt_text.proofs.ViewLaws.{viewed}
 use Rattle.rt_text.proofs.view.View.insert.Goals as goal
 
-pub returns-in_err-check_names-clause-err : goal.returns-in_err-check_names-clause-err
-returns-in_err-check_names-clause-err g c =
+pub returns-in_err-check_names : goal.returns-in_err-check_names
+returns-in_err-check_names g c =
     let p = err_from_is_err_and c.from_residual.result c.from_residual.ensures.1 in
-    rw (p.1, p.2) (inr (refused_name c.args.self.now c.args.index.now c.args.pieces.now c.args.rest.now c.in_err-check_names.field-0.0 c.in_err-check_names.ensures.err))
+    rw (p.1, p.2) (record {
+      ok = tt;
+      err = inr (refused_name c.args.self.now c.args.index.now c.args.pieces.now c.args.rest.now c.in_err-check_names.field-0.0 c.in_err-check_names.ensures.err);
+      unchanged = refl;
+    })
 
-pub returns-in_err-place-clause-err : goal.returns-in_err-place-clause-err
-returns-in_err-place-clause-err g c =
+pub returns-in_err-place : goal.returns-in_err-place
+returns-in_err-place g c =
     let p = err_from_is_err_and c.from_residual-in_err-place.result c.from_residual-in_err-place.ensures.1 in
-    rw (p.1, p.2)
-    (either (refused_index c.args.self.now c.args.index.now c.args.pieces.now c.args.rest.now c.in_err-place.field-0.0 c.in_ok-check_names.ensures.ok) c.in_err-place.ensures.err)
+    rw (p.1, p.2) (record {
+      ok = tt;
+      err = either (refused_index c.args.self.now c.args.index.now c.args.pieces.now c.args.rest.now c.in_err-place.field-0.0 c.in_ok-check_names.ensures.ok) c.in_err-place.ensures.err;
+      unchanged = refl;
+    })
 
 pub insert_at-requires-clause-place : goal.insert_at-requires-clause-place
 insert_at-requires-clause-place g c =
@@ -81,3 +88,16 @@ returns-clause-unchanged g c =
     on_err_weaker c.insert_at.result
     (λ kept. ap (λ l. viewed c.insert_at.new.self c.insert_at.new.widget (map own_in l)) back ∙ (λ i. viewed (kept.0 i) (kept.1 i) (kept.2 i)) ∙ same)
     c.insert_at.ensures.unchanged
+
+pub invariant_of-self : goal.invariant_of-self
+invariant_of-self g c =
+    let back : (with_items c.self.inside.others c.insert_at.new.others).items ≡ c.insert_at.new.others =
+    with_items_is c.self.inside.others c.insert_at.new.others (omega (arith, c.insert_at.auto.others, c.deref_mut.ensures.len)) in
+    let n = length (text_of c.insert_at.new.self.cells) in
+    (c.insert_at.ensures.own, subst (λ (l : List Parts). AllByRecursion (IsOwnOf n) (map own_in l)) (sym back) c.insert_at.ensures.others)
+
+pub insert_at-requires-clause-own : goal.insert_at-requires-clause-own
+insert_at-requires-clause-own g c = c.self.invariant.0
+
+pub insert_at-requires-clause-pieces : goal.insert_at-requires-clause-pieces
+insert_at-requires-clause-pieces g c = c.in_ok-check_names.ensures.pieces

@@ -1,3 +1,4 @@
+use Rattle.std.proofs.lemmas.Result.{err_from_is_err_and}
 use Rattle.std.proofs.Common.{◌≡◌, ◌∙◌, ℕ, Bool, ap, map, subst, sym}
 use Rattle.rt_store.specs.Shown.{shown}
 use Rattle.rt_store.specs.Tagged.{AreStates}
@@ -10,6 +11,19 @@ use Rattle.rt_views.specs.Stretches.{stretch_of}
 use Rattle.rt_text.specs.Widgets.{Viewed}
 use Rattle.rt_text.proofs.LimitedDeletions.{loss_kept, loss_of}
 use Rattle.rt_text.proofs.view.View.lost.Goals as goal
+
+pub returns-in_err-removed : goal.returns-in_err-removed
+returns-in_err-removed g c =
+    let p = err_from_is_err_and c.from_residual.result c.from_residual.ensures.1 in
+    rw (p.1, p.2) (record { cells = tt; states = tt; err = c.in_err-removed.ensures.err })
+
+pub returns-in_err-cells : goal.returns-in_err-cells
+returns-in_err-cells g c =
+    let p = err_from_is_err_and c.from_residual-in_err-cells.result c.from_residual-in_err-cells.ensures.1 in
+    rw (p.1, p.2) (record { cells = tt; states = tt; err = c.in_err-cells.ensures.err })
+
+pub returns-clause-err : goal.returns-clause-err
+returns-clause-err g c = tt
 
 pub returns-clause-cells : goal.returns-clause-cells
 returns-clause-cells g c =

@@ -1,6 +1,6 @@
 use Rattle.std.specs.List.{AllByRecursion}
 use Rattle.rt_text.specs.declared.parts.Parts.{Parts}
-use Rattle.std.proofs.Common.{List, length, ◌≡◌, ◌∙◌, ◌⊎◌, Some, ap, arith, inr, map, subst, sym}
+use Rattle.std.proofs.Common.{List, length, ◌≡◌, ◌∙◌, ◌⊎◌, Some, ap, arith, inr, map, subst, sym, refl}
 use Rattle.std.specs.Prelude.{IfErr}
 use Rattle.std.specs.Vec.{with_items}
 use Rattle.std.proofs.lemmas.List.{with_items_is}
@@ -17,30 +17,43 @@ use Rattle.rt_text.proofs.ReplaceLaws.{backwards, bad_from, bad_name, bad_to, do
 use Rattle.rt_text.proofs.ViewLaws.{viewed}
 use Rattle.rt_text.proofs.view.View.replace.Goals as goal
 
-pub returns-in_err-check_names-clause-err : goal.returns-in_err-check_names-clause-err
-returns-in_err-check_names-clause-err g c =
+pub returns-in_err-check_names : goal.returns-in_err-check_names
+returns-in_err-check_names g c =
     let p = err_from_is_err_and c.from_residual.result c.from_residual.ensures.1 in
-    rw (p.1, p.2) (inr (bad_name c.args.self.now c.args.pieces.now c.args.rest.now c.args.from.now c.args.to.now c.in_err-check_names.field-0.0 c.in_err-check_names.ensures.err))
+    rw (p.1, p.2) (record {
+      ok = tt;
+      err = inr (bad_name c.args.self.now c.args.pieces.now c.args.rest.now c.args.from.now c.args.to.now c.in_err-check_names.field-0.0 c.in_err-check_names.ensures.err);
+      unchanged = refl;
+    })
 
-pub returns-in_err-begin-clause-err : goal.returns-in_err-begin-clause-err
-returns-in_err-begin-clause-err g c =
+pub returns-in_err-begin : goal.returns-in_err-begin
+returns-in_err-begin g c =
     let p = err_from_is_err_and c.from_residual-in_err-begin.result c.from_residual-in_err-begin.ensures.1 in
-    rw (p.1, p.2)
-    (either (bad_from c.args.self.now c.args.pieces.now c.args.rest.now c.args.from.now c.args.to.now c.in_ok-check_names.ensures.ok c.in_err-begin.field-0.0) c.in_err-begin.ensures.err)
+    rw (p.1, p.2) (record {
+      ok = tt;
+      err = either (bad_from c.args.self.now c.args.pieces.now c.args.rest.now c.args.from.now c.args.to.now c.in_ok-check_names.ensures.ok c.in_err-begin.field-0.0) c.in_err-begin.ensures.err;
+      unchanged = refl;
+    })
 
-pub returns-in_err-end-clause-err : goal.returns-in_err-end-clause-err
-returns-in_err-end-clause-err g c =
+pub returns-in_err-end : goal.returns-in_err-end
+returns-in_err-end g c =
     let p = err_from_is_err_and c.from_residual-in_err-end.result c.from_residual-in_err-end.ensures.1 in
-    rw (p.1, p.2)
-    (either (bad_to c.args.self.now c.args.pieces.now c.args.rest.now c.args.from.now c.args.to.now c.in_ok-check_names.ensures.ok c.in_ok-begin.begin c.in_err-end.field-0.0 c.in_ok-begin.ensures.ok)
-    c.in_err-end.ensures.err)
+    rw (p.1, p.2) (record {
+      ok = tt;
+      err = either (bad_to c.args.self.now c.args.pieces.now c.args.rest.now c.args.from.now c.args.to.now c.in_ok-check_names.ensures.ok c.in_ok-begin.begin c.in_err-end.field-0.0 c.in_ok-begin.ensures.ok)
+          c.in_err-end.ensures.err;
+      unchanged = refl;
+    })
 
-pub returns-in_err-range-clause-err : goal.returns-in_err-range-clause-err
-returns-in_err-range-clause-err g c =
+pub returns-in_err-range : goal.returns-in_err-range
+returns-in_err-range g c =
     let p = err_from_is_err_and c.from_residual-in_err-range.result c.from_residual-in_err-range.ensures.1 in
-    rw (p.1, p.2)
-    (inr (backwards c.args.self.now c.args.pieces.now c.args.rest.now c.args.from.now c.args.to.now c.in_ok-check_names.ensures.ok c.in_ok-begin.begin c.in_ok-end.end
-    c.in_ok-begin.ensures.ok c.in_ok-end.ensures.ok c.in_err-range.field-0.0 c.in_err-range.ensures.err))
+    rw (p.1, p.2) (record {
+      ok = tt;
+      err = inr (backwards c.args.self.now c.args.pieces.now c.args.rest.now c.args.from.now c.args.to.now c.in_ok-check_names.ensures.ok c.in_ok-begin.begin c.in_ok-end.end
+          c.in_ok-begin.ensures.ok c.in_ok-end.ensures.ok c.in_err-range.field-0.0 c.in_err-range.ensures.err);
+      unchanged = refl;
+    })
 
 pub replace_in-requires-clause-others : goal.replace_in-requires-clause-others
 replace_in-requires-clause-others g c =
@@ -89,3 +102,16 @@ returns-clause-unchanged g c =
     on_err_weaker c.replace_in.result
     (λ kept. ap (λ l. viewed c.replace_in.new.self c.replace_in.new.widget (map own_in l)) back ∙ (λ i. viewed (kept.0 i) (kept.1 i) (kept.2 i)) ∙ same)
     c.replace_in.ensures.unchanged
+
+pub invariant_of-self : goal.invariant_of-self
+invariant_of-self g c =
+    let back : (with_items c.self.inside.others c.replace_in.new.others).items ≡ c.replace_in.new.others =
+    with_items_is c.self.inside.others c.replace_in.new.others (omega (arith, c.replace_in.auto.others, c.deref_mut.ensures.len)) in
+    let n = length (text_of c.replace_in.new.self.cells) in
+    (c.replace_in.ensures.own, subst (λ (l : List Parts). AllByRecursion (IsOwnOf n) (map own_in l)) (sym back) c.replace_in.ensures.others)
+
+pub replace_in-requires-clause-own : goal.replace_in-requires-clause-own
+replace_in-requires-clause-own g c = c.self.invariant.0
+
+pub replace_in-requires-clause-pieces : goal.replace_in-requires-clause-pieces
+replace_in-requires-clause-pieces g c = c.in_ok-check_names.ensures.pieces

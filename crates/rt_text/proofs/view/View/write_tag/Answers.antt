@@ -1,14 +1,14 @@
-use Rattle.std.proofs.Common.{◌≡◌, ℕ, ◌≤◌, ◌∙◌, All, Some, ap, arith, false, inl, inr, length, map, subst, sym, true}
+use Rattle.std.proofs.Common.{◌≡◌, ℕ, ◌≤◌, ◌∙◌, All, Some, ap, arith, false, inl, inr, length, map, subst, sym, true, refl}
 use Rattle.std.specs.List.{AllByRecursion}
 use Rattle.std.specs.Str.{bytes_eq}
-use Rattle.std.proofs.lemmas.Result.{IfErr-weaker, on_ok_weaker}
+use Rattle.std.proofs.lemmas.Result.{IfErr-weaker, on_ok_weaker, err_from_is_err_and, on_err_weaker}
 use Rattle.rt_stamps.specs.declared.limits.TheConstants.{GREATEST_COUNT}
 use Rattle.rt_rga.proofs.Requests.{greatest_bound}
 use Rattle.rt_store.specs.Cells.{text_of, visible_of}
 use Rattle.rt_tags.specs.Tags.{sel}
 use Rattle.rt_edits.specs.declared.range.Range.{Range}
 use Rattle.rt_edits.specs.Flat.{Flat}
-use Rattle.rt_edits.specs.Removals.{is_covered, stamps_at}
+use Rattle.rt_edits.specs.Removals.{is_covered, stamps_at, AreInOrder}
 use Rattle.rt_edits.specs.Selections.{selection_with}
 use Rattle.rt_edits.specs.TagWrites.{with_tag_at}
 use Rattle.rt_edits.proofs.TagPlaces.{listed_count, listed_text, tag_text}
@@ -22,6 +22,32 @@ use Rattle.rt_text.proofs.LimitedDeletions.{stretch_kept}
 use Rattle.rt_text.proofs.LimitedTags.{places_are, stamps_kept, tag_own, tag_shared, up_to_end}
 use Rattle.rt_text.proofs.ViewLaws.{viewed}
 use Rattle.rt_text.proofs.view.View.write_tag.Goals as goal
+
+pub returns-then-eq-clause-err : goal.returns-then-eq-clause-err
+returns-then-eq-clause-err g c = IfErr-weaker c.select.result _ _ (λ fault h. inl h) c.select.ensures.err
+
+pub returns-then-eq-clause-unchanged : goal.returns-then-eq-clause-unchanged
+returns-then-eq-clause-unchanged g c = on_err_weaker c.select.result (λ e. ap (λ (w : Own). viewed c.self.inside.doc w (map own_in c.self.inside.others.items)) e ∙ c.self.view_is) c.select.ensures.unchanged
+
+pub returns-clause-unchanged : goal.returns-clause-unchanged
+returns-clause-unchanged g c = on_err_weaker c.write_shared.result (λ e. ap (λ (f : Flat). viewed f c.self.inside.widget (map own_in c.self.inside.others.items)) e ∙ c.self.view_is) c.write_shared.ensures.unchanged
+
+pub select-requires-clause-order : goal.select-requires-clause-order
+select-requires-clause-order g c = subst (AreInOrder 0) (sym c.deref.ensures.value) c.in_ok-ranges.ensures.order
+
+pub write_shared-requires-clause-order : goal.write_shared-requires-clause-order
+write_shared-requires-clause-order g c = subst (AreInOrder 0) (sym c.deref-2.ensures.value) c.in_ok-ranges.ensures.order
+
+pub write_shared-requires-clause-name : goal.write_shared-requires-clause-name
+write_shared-requires-clause-name g c = c.requires
+
+pub write_shared-requires-clause-shared : goal.write_shared-requires-clause-shared
+write_shared-requires-clause-shared g c = sym c.eq.ensures ∙ c.if-eq.false
+
+pub returns-in_err-ranges : goal.returns-in_err-ranges
+returns-in_err-ranges g c =
+    let p = err_from_is_err_and c.from_residual.result c.from_residual.ensures.1 in
+    rw (p.1, p.2) (record { ok = tt; err = inl c.in_err-ranges.ensures.err; unchanged = refl })
 
 pub select-requires-clause-within : goal.select-requires-clause-within
 select-requires-clause-within g c =

@@ -1,0 +1,8 @@
+use Rattle.std.proofs.Common.{refl}
+use Rattle.std.proofs.lemmas.Result.{err_from_is_err_and}
+use Rattle.rt_text.proofs.distance.distances_by.Goals as goal
+
+pub returns-in_err-push : goal.returns-in_err-push
+returns-in_err-push g c =
+    let p = err_from_is_err_and c.from_residual.result c.from_residual.ensures.1 in
+    rw (p.1, p.2) (record { ok = tt; err = refl })

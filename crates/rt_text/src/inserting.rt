@@ -1,0 +1,56 @@
+// What text that was inserted does to marks and selections.
+ghost use Rattle.std.specs.Prelude.{◌≡◌, ◌+◌, ◌≤◌, All, length, map};
+ghost use Rattle.rt_marks.specs.Marks.{Each, marks_inserted};
+ghost use Rattle.rt_edits.specs.InsertionPlans.{selected_between};
+ghost use Rattle.rt_edits.specs.Selected.{room_in, stamps_in};
+ghost use Rattle.rt_edits.specs.Selections.{with_stamps};
+ghost use Rattle.rt_text.specs.Parts.{HaveRoomFor, own_in};
+ghost use Rattle.rt_text.specs.Widgets.{own_inserted, reselected};
+
+use crate::Widget;
+use crate::others::insert_each;
+use crate::parts::Parts;
+use crate::preparing::select_between;
+use rt_edits::Selection;
+use rt_edits::inserting::Between;
+use rt_marks::Marks;
+use rt_stamps::Stamp;
+
+/// Selects characters in a widget, and those between two others in the selections that have both. It takes
+/// no memory.
+pub(crate) fn select_all(
+    selection: &mut Selection,
+    others: &mut [Parts],
+    selected: &[Stamp],
+    between: &Option<Between>,
+)
+    requires selected { length selected.now ≤ room_in selection.old }
+    requires between { HaveRoomFor between.now others.old }
+    ensures selection { stamps_in selection.new ≡ with_stamps selected.now (stamps_in selection.old) }
+    ensures others { map own_in others.new ≡ map (reselected (selected_between between.now)) (map own_in others.old) }
+{
+    selection.add(selected);
+    select_between(others, between);
+}
+
+/// Moves the marks of a site, of a widget and of each other one for `n` characters that were inserted at a
+/// place. It takes no memory.
+pub(crate) fn insert_all(
+    marks: &mut Marks,
+    widget: &mut Widget,
+    others: &mut [Parts],
+    place: usize,
+    n: usize,
+)
+    requires marks { Each (λ m. m.place + n ≤ usize.MAX) marks.old }
+    requires insert { widget.old.insert.place + n ≤ usize.MAX }
+    requires current { widget.old.current.place + n ≤ usize.MAX }
+    requires others { All (λ parts. (parts.insert.place + n ≤ usize.MAX) × (parts.current.place + n ≤ usize.MAX)) others.old }
+    ensures marks { marks.new ≡ marks_inserted place n marks.old }
+    ensures own { widget.new ≡ own_inserted place n widget.old }
+    ensures others { map own_in others.new ≡ map (own_inserted place n) (map own_in others.old) }
+{
+    marks.inserted(place, n);
+    widget.inserted(place, n);
+    insert_each(others, place, n);
+}
