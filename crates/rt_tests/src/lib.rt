@@ -1,14 +1,10 @@
-//! Tests of the crates from rt_rga up to rt_text, and of texts, by what is public of them. The library itself is empty.
+//! Tests of the crates from rt_rga up to rt_revert, and of texts, by what is public of them. The library itself is empty.
 #![tactic(auto)]
 
 #[cfg(test)]
 mod checks;
 #[cfg(test)]
 mod edits;
-#[cfg(test)]
-mod limited;
-#[cfg(test)]
-mod rga_make;
 #[cfg(test)]
 mod rga_orders;
 #[cfg(test)]
@@ -17,8 +13,6 @@ mod rga_sites;
 mod store;
 #[cfg(test)]
 mod undo_planning;
-#[cfg(test)]
-mod undo_reverting;
 #[cfg(test)]
 mod views;
 #[cfg(test)]

@@ -41,25 +41,36 @@ fn span(named: (u16, u64, u64)) -> Span {
     Span { site, first, last }
 }
 
+fn insert(
+    alloc: Global,
+    at: Stamp,
+    prev: u64,
+    after: (u64, u16),
+    tags: Vec<String>,
+    text: &[char],
+) -> Result<Op, Fault> {
+    let text = Vec::from_slice(alloc, text)?;
+    Op::insert(at, prev, stamp(after), tags, text)
+}
+
 fn op(alloc: Global, made: Made) -> Result<Op, Fault> {
     let (count, site, prev, does) = made;
     let at = Stamp { count, site };
-    let tag = String::from_str(alloc, "t")?;
     match does {
-        Does::Inserts(after, text) => {
-            let text = Vec::from_slice(alloc, text)?;
-            Op::insert(at, prev, stamp(after), Vec::new(alloc), text)
-        }
+        Does::Inserts(after, text) => insert(alloc, at, prev, after, Vec::new(alloc), text),
         Does::InsertsTagged(after, text) => {
-            let text = Vec::from_slice(alloc, text)?;
-            Op::insert(at, prev, stamp(after), one(alloc, tag)?, text)
+            let tags = one(alloc, String::from_str(alloc, "t")?)?;
+            insert(alloc, at, prev, after, tags, text)
         }
         Does::Deletes(named) => Op::delete(at, prev, one(alloc, span(named))?),
         Does::DeletesBoth(named, other) => {
             let spans = Vec::from_slice(alloc, &[span(named), span(other)])?;
             Op::delete(at, prev, spans)
         }
-        Does::Tags(on, named) => Op::tag(at, prev, on, tag, one(alloc, span(named))?),
+        Does::Tags(on, named) => {
+            let spans = one(alloc, span(named))?;
+            Op::tag(at, prev, on, String::from_str(alloc, "t")?, spans)
+        }
     }
 }
 
@@ -70,6 +81,20 @@ pub(crate) enum Said {
     New(usize, usize, usize),
     Repeat,
     Refused(Fault),
+}
+
+impl Said {
+    pub(crate) fn is_new(self) -> bool {
+        matches!(self, Said::New(_, _, _))
+    }
+
+    // Why the operation was refused, if it was.
+    pub(crate) fn fault(self) -> Option<Fault> {
+        match self {
+            Said::Refused(fault) => Some(fault),
+            _ => None,
+        }
+    }
 }
 
 fn told(taken: Taken) -> Said {
@@ -128,30 +153,24 @@ impl Peer {
         }
     }
 
-    // The text.
-    fn text(&self) -> Result<String, Fail> {
+    // The text, with a star behind each character that has the tag `t`.
+    pub(crate) fn reading(&self) -> Result<String, Fail> {
         let store = self.replica.store();
         let mut text = String::new(self.alloc);
         for place in 0..store.visible() {
             text.push(store.char_at(place))?;
+            if self.tagged_from(place) == Some(place) {
+                text.push('*')?;
+            }
         }
         Ok(text)
     }
 
     // The first place from one up with the tag `t`.
-    pub(crate) fn tagged_from(&self, place: usize) -> Option<usize> {
+    fn tagged_from(&self, place: usize) -> Option<usize> {
         let states = self.replica.states();
         match states.known("t") {
             Some(tag) => self.replica.store().next_tagged(states, tag, place),
-            None => None,
-        }
-    }
-
-    // The first place without the tag `t`.
-    fn untagged(&self) -> Option<usize> {
-        let states = self.replica.states();
-        match states.known("t") {
-            Some(tag) => self.replica.store().next_untagged(states, tag, 0),
             None => None,
         }
     }
@@ -179,94 +198,49 @@ const Q: Made = (3, 2, 0, Does::Inserts((2, 1), &['q']));
 
 const OFF_LAST: Made = (4, 2, 3, Does::Tags(false, (1, 1, 1)));
 
-/// Operations in an order; then the text, how many cells there are, and the first places with the tag
-/// and without it.
-type Row = (
-    &'static [Made],
-    &'static str,
-    usize,
-    Option<usize>,
-    Option<usize>,
-);
+/// Operations in an order; then the text with a star behind each tagged character, and how many cells there are.
+type Row = (&'static [Made], &'static str, usize);
 
-const AT_ONE_PLACE: &[Row] = &[
-    (&[AB, XX, Y], "aYXXb\n", 6, None, None),
-    (&[AB, Y, XX], "aYXXb\n", 6, None, None),
-];
+const AT_ONE_PLACE: &[Row] = &[(&[AB, XX, Y], "aYXXb\n", 6), (&[AB, Y, XX], "aYXXb\n", 6)];
 
-const BESIDE_A_TOMBSTONE: &[Row] = &[
-    (&[AB, B_GOES, Z], "aZ\n", 4, None, None),
-    (&[AB, Z, B_GOES], "aZ\n", 4, None, None),
-];
+const BESIDE_A_TOMBSTONE: &[Row] = &[(&[AB, B_GOES, Z], "aZ\n", 4), (&[AB, Z, B_GOES], "aZ\n", 4)];
 
 const TAGS: &[Row] = &[
-    (&[TAGGED, OFF, ON, OFF_TOO], "ab\n", 3, Some(0), Some(2)),
-    (&[TAGGED, OFF, OFF_TOO, ON], "ab\n", 3, Some(0), Some(2)),
-    (&[TAGGED, OFF_TOO, OFF, ON], "ab\n", 3, Some(0), Some(2)),
+    (&[TAGGED, OFF, ON, OFF_TOO], "a*b*\n", 3),
+    (&[TAGGED, OFF, OFF_TOO, ON], "a*b*\n", 3),
+    (&[TAGGED, OFF_TOO, OFF, ON], "a*b*\n", 3),
 ];
 
 const LATER_TAGS: &[Row] = &[
-    (
-        &[TAGGED, OFF, ON, Q, OFF_LAST],
-        "abq\n",
-        4,
-        Some(1),
-        Some(0),
-    ),
-    (
-        &[TAGGED, OFF, Q, ON, OFF_LAST],
-        "abq\n",
-        4,
-        Some(1),
-        Some(0),
-    ),
-    (
-        &[TAGGED, OFF, Q, OFF_LAST, ON],
-        "abq\n",
-        4,
-        Some(1),
-        Some(0),
-    ),
-    (
-        &[TAGGED, Q, OFF, ON, OFF_LAST],
-        "abq\n",
-        4,
-        Some(1),
-        Some(0),
-    ),
-    (
-        &[TAGGED, Q, OFF, OFF_LAST, ON],
-        "abq\n",
-        4,
-        Some(1),
-        Some(0),
-    ),
-    (
-        &[TAGGED, Q, OFF_LAST, OFF, ON],
-        "abq\n",
-        4,
-        Some(1),
-        Some(0),
-    ),
+    (&[TAGGED, OFF, ON, Q, OFF_LAST], "ab*q\n", 4),
+    (&[TAGGED, OFF, Q, ON, OFF_LAST], "ab*q\n", 4),
+    (&[TAGGED, OFF, Q, OFF_LAST, ON], "ab*q\n", 4),
+    (&[TAGGED, Q, OFF, ON, OFF_LAST], "ab*q\n", 4),
+    (&[TAGGED, Q, OFF, OFF_LAST, ON], "ab*q\n", 4),
+    (&[TAGGED, Q, OFF_LAST, OFF, ON], "ab*q\n", 4),
 ];
 
 // Offers operations, each twice: it is new, and then a repeat.
 fn offer_twice(rt: &impl Abort, peer: &mut Peer, all: &[Made]) {
     for made in all {
-        let first = peer.offer(*made);
-        assert!(rt; matches!(first, Said::New(_, _, _)), "{first:?}");
-        same(rt, peer.offer(*made), Said::Repeat);
+        let is_new = peer.offer(*made).is_new();
+        same(rt, (is_new, peer.offer(*made)), (true, Said::Repeat));
     }
 }
 
+// Offers the operations of a row to a new replica, which shows what is told then.
+fn comes_out(rt: &impl Abort, alloc: Global, row: &Row) -> Result<(), Fail> {
+    let (all, text, cells) = *row;
+    let mut peer = Peer::new(alloc, 100)?;
+    offer_twice(rt, &mut peer, all);
+    same(rt, peer.reading()?.as_str(), text);
+    same(rt, peer.replica.store().cells(), cells);
+    Ok(())
+}
+
 fn come_out(rt: &impl Abort, alloc: Global, rows: &[Row]) -> Result<(), Fail> {
-    for (all, text, cells, tagged, untagged) in rows {
-        let mut peer = Peer::new(alloc, 100)?;
-        offer_twice(rt, &mut peer, all);
-        same(rt, peer.text()?.as_str(), *text);
-        same(rt, peer.replica.store().cells(), *cells);
-        same(rt, peer.tagged_from(0), *tagged);
-        same(rt, peer.untagged(), *untagged);
+    for row in rows {
+        comes_out(rt, alloc, row)?;
     }
     Ok(())
 }
@@ -274,10 +248,10 @@ fn come_out(rt: &impl Abort, alloc: Global, rows: &[Row]) -> Result<(), Fail> {
 // Insertions at one place, one beside a removed character, tags by two sites.
 #[test]
 fn each_order(rt: HostRuntime) -> Result<(), Fail> {
-    come_out(&rt, rt.alloc(), AT_ONE_PLACE)?;
-    come_out(&rt, rt.alloc(), BESIDE_A_TOMBSTONE)?;
-    come_out(&rt, rt.alloc(), TAGS)?;
-    come_out(&rt, rt.alloc(), LATER_TAGS)
+    for rows in [AT_ONE_PLACE, BESIDE_A_TOMBSTONE, TAGS, LATER_TAGS] {
+        come_out(&rt, rt.alloc(), rows)?;
+    }
+    Ok(())
 }
 
 // Operations that are offered in turn, and what is answered.
@@ -398,7 +372,7 @@ fn removals(rt: HostRuntime) -> Result<(), Fail> {
     for (made, runs) in REMOVALS {
         same(&rt, peer.takes_away(*made)?.as_slice(), *runs);
     }
-    same(&rt, peer.text()?.as_str(), "Xf\n");
+    same(&rt, peer.reading()?.as_str(), "Xf\n");
     Ok(())
 }
 

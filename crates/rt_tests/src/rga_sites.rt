@@ -1,6 +1,6 @@
 // Random histories of three sites, delivered in random orders, against a plain reading of them.
 use crate::checks::same;
-use crate::rga_orders::{Does, Made, Peer, Said};
+use crate::rga_orders::{Does, Made, Peer};
 use rt_stamps::{FINAL, Fault, Stamp};
 use rt_store::TextStore;
 use std::alloc::Global;
@@ -132,8 +132,7 @@ fn make(
     };
     let peer = sites.pick(place);
     let made = some_operation(peer, site, dice);
-    let said = peer.offer(made);
-    assert!(rt; matches!(said, Said::New(_, _, _)), "{said:?}");
+    same(rt, peer.offer(made).is_new(), true);
     all.push(made)?;
     Ok(())
 }
@@ -142,11 +141,8 @@ fn make(
 fn offer(rt: &impl Abort, sites: &mut Sites, all: &[Made], dice: &mut Dice) {
     let place = dice.below(3);
     if let Some(made) = all.get(dice.below(all.len())) {
-        let said = sites.pick(place).offer(*made);
-        assert!(rt;
-            !matches!(said, Said::Refused(fault) if fault != Fault::NotYet),
-            "{said:?}"
-        );
+        let fault = sites.pick(place).offer(*made).fault();
+        same(rt, fault.unwrap_or(Fault::NotYet), Fault::NotYet);
     }
 }
 
@@ -181,16 +177,21 @@ fn push_text(
     Ok(())
 }
 
+// What an operation inserts, and the element that it goes after.
+fn inserted(does: Does) -> Option<((u64, u16), &'static [char])> {
+    match does {
+        Does::Inserts(after, text) | Does::InsertsTagged(after, text) => Some((after, text)),
+        _ => None,
+    }
+}
+
 // The inserted characters and the final newline, by rising stamp.
 fn characters(alloc: Global, all: &[Made]) -> Result<Vec<Character>, Fail> {
     let mut characters = Vec::new(alloc);
     push_text(&['\n'], (1, 0), (0, 0), &mut characters)?;
     for (count, site, _, does) in all {
-        let first = (*count, *site);
-        match *does {
-            Does::Inserts(after, text) => push_text(text, first, after, &mut characters)?,
-            Does::InsertsTagged(after, text) => push_text(text, first, after, &mut characters)?,
-            _ => {}
+        if let Some((after, text)) = inserted(*does) {
+            push_text(text, (*count, *site), after, &mut characters)?;
         }
     }
     characters.sort_unstable_by_key(|character| character.stamp);
@@ -232,10 +233,14 @@ fn is_in(span: (u16, u64, u64), stamp: (u64, u16)) -> bool {
 
 // A Delete of some operations takes a character away.
 fn is_gone(all: &[Made], stamp: (u64, u16)) -> bool {
-    all.iter().any(|made| match made.3 {
-        Does::Deletes(span) => is_in(span, stamp),
-        _ => false,
-    })
+    for (_, _, _, does) in all {
+        if let Does::Deletes(span) = *does {
+            if is_in(span, stamp) {
+                return true;
+            }
+        }
+    }
+    false
 }
 
 // What an operation says of the tag on a character, if it says anything.
@@ -270,12 +275,10 @@ fn is_tagged(all: &[Made], stamp: (u64, u16)) -> bool {
     tagged
 }
 
-// The visible characters in their order, with a star behind each tagged one.
-fn plain_reading(alloc: Global, all: &[Made]) -> Result<String, Fail> {
-    let characters = characters(alloc, all)?;
-    let read = depth_first(alloc, &characters)?;
+// Those of some characters that no operation takes away, with a star behind each tagged one.
+fn visible(alloc: Global, all: &[Made], read: &[Character]) -> Result<String, Fail> {
     let mut text = String::new(alloc);
-    for character in &read {
+    for character in read {
         if !is_gone(all, character.stamp) {
             text.push(character.ch)?;
             if is_tagged(all, character.stamp) {
@@ -286,17 +289,10 @@ fn plain_reading(alloc: Global, all: &[Made]) -> Result<String, Fail> {
     Ok(text)
 }
 
-// The same of what a peer keeps.
-fn kept(alloc: Global, peer: &Peer) -> Result<String, Fail> {
-    let store = peer.replica.store();
-    let mut text = String::new(alloc);
-    for place in 0..store.visible() {
-        text.push(store.char_at(place))?;
-        if peer.tagged_from(place) == Some(place) {
-            text.push('*')?;
-        }
-    }
-    Ok(text)
+fn plain_reading(alloc: Global, all: &[Made]) -> Result<String, Fail> {
+    let characters = characters(alloc, all)?;
+    let read = depth_first(alloc, &characters)?;
+    visible(alloc, all, &read)
 }
 
 // Some steps by chance: the operations that were made.
@@ -314,29 +310,29 @@ fn played(rt: &impl Abort, alloc: Global, sites: &mut Sites, seed: u64) -> Resul
 }
 
 // Once a site was offered all operations, it has their plain reading.
-fn agrees(
-    rt: &impl Abort,
-    alloc: Global,
-    peer: &mut Peer,
-    all: &[Made],
-    wanted: &str,
-) -> Result<(), Fail> {
+fn agrees(rt: &impl Abort, peer: &mut Peer, all: &[Made], wanted: &str) -> Result<(), Fail> {
     for made in all {
-        assert!(rt; !matches!(peer.offer(*made), Said::Refused(_)));
+        same(rt, peer.offer(*made).fault(), None);
     }
-    same(rt, kept(alloc, peer)?.as_str(), wanted);
+    same(rt, peer.reading()?.as_str(), wanted);
+    Ok(())
+}
+
+// A history of three sites, which agree in the end.
+fn all_agree(rt: &impl Abort, alloc: Global, seed: u64) -> Result<(), Fail> {
+    let mut sites = Sites::new(alloc)?;
+    let all = played(rt, alloc, &mut sites, seed)?;
+    let wanted = plain_reading(alloc, &all)?;
+    for place in 0..3 {
+        agrees(rt, sites.pick(place), &all, &wanted)?;
+    }
     Ok(())
 }
 
 #[test]
 fn sites_agree_with_the_plain_reading(rt: HostRuntime) -> Result<(), Fail> {
     for seed in 1..4 {
-        let mut sites = Sites::new(rt.alloc())?;
-        let all = played(&rt, rt.alloc(), &mut sites, seed)?;
-        let wanted = plain_reading(rt.alloc(), &all)?;
-        for place in 0..3 {
-            agrees(&rt, rt.alloc(), sites.pick(place), &all, wanted.as_str())?;
-        }
+        all_agree(&rt, rt.alloc(), seed)?;
     }
     Ok(())
 }

@@ -80,13 +80,14 @@ impl Text {
         Ok(())
     }
 
-    // Puts the tag on the characters of a span.
+    // Puts the tag on the characters of some counts of a site.
     #[tactic(auto, using(rt_store::proofs::GivenStates::put_states))]
-    fn tag(&mut self, span: Span) -> Result<(), Fault> {
+    fn tag_counts(&mut self, site: u16, first: u64, last: u64) -> Result<(), Fault> {
         if self.store.cells() > 100 {
             return Err(Fault::NoMemory);
         }
         self.store.reserve(0, 2, self.states.tags())?;
+        let span = Span { site, first, last };
         self.store.set_state(&self.states, span, self.tagged);
         Ok(())
     }
@@ -107,11 +108,6 @@ impl Text {
         Ok(())
     }
 
-    // Puts the tag on the characters of some counts of a site.
-    fn tag_counts(&mut self, site: u16, first: u64, last: u64) -> Result<(), Fault> {
-        self.tag(Span { site, first, last })
-    }
-
     fn near(&self, place: usize) -> Near {
         let next = self.store.next_tagged(&self.states, self.tag, place);
         let next_plain = self.store.next_untagged(&self.states, self.tag, place);
@@ -122,7 +118,7 @@ impl Text {
     // Stops a test where others are near the places than those that are told.
     fn are_near(&self, rt: &impl Abort, rows: &[(usize, Near)]) {
         for (place, wanted) in rows {
-            assert_eq!(rt; self.near(*place), *wanted, "from {place}");
+            same(rt, (*place, self.near(*place)), (*place, *wanted));
         }
     }
 }
@@ -131,43 +127,45 @@ impl Text {
 /// has it.
 type Near = (Option<usize>, Option<usize>, Option<usize>);
 
+// Those of the text `abc`, whose `b` has the tag.
+const OF_B: &[(usize, Near)] = &[
+    (0, (Some(1), Some(0), None)),
+    (1, (Some(1), Some(2), None)),
+    (2, (None, Some(2), Some(1))),
+    (4, (None, None, Some(1))),
+    (usize::MAX, (None, None, Some(1))),
+];
+
+// Those when the `c` has it too.
+const OF_C: &[(usize, Near)] = &[
+    (1, (Some(1), Some(3), None)),
+    (2, (Some(2), Some(3), Some(1))),
+];
+
+// Those when the `b` is gone.
+const WITHOUT_B: &[(usize, Near)] = &[(0, (Some(1), Some(0), None)), (2, (None, Some(2), Some(1)))];
+
+// Those when the last newline has it too.
+const OF_THE_END: &[(usize, Near)] = &[(2, (Some(2), None, Some(1))), (3, (None, None, Some(2)))];
+
 #[test]
 fn nearest_places(rt: HostRuntime) -> Result<(), Fail> {
-    let mut text = Text::of(
-        rt.alloc(),
-        &[(4, 'c', false), (3, 'b', true), (2, 'a', false)],
-    )?;
-    text.are_near(
-        &rt,
-        &[
-            (0, (Some(1), Some(0), None)),
-            (1, (Some(1), Some(2), None)),
-            (2, (None, Some(2), Some(1))),
-            (4, (None, None, Some(1))),
-            (usize::MAX, (None, None, Some(1))),
-        ],
-    );
+    let mut text = abc(rt.alloc())?;
+    text.are_near(&rt, OF_B);
     text.tag_counts(1, 4, 9)?;
-    let tagged = [
-        (1, (Some(1), Some(3), None)),
-        (2, (Some(2), Some(3), Some(1))),
-    ];
-    text.are_near(&rt, &tagged);
+    text.are_near(&rt, OF_C);
     text.remove(3)?;
-    let removed = [(0, (Some(1), Some(0), None)), (2, (None, Some(2), Some(1)))];
-    text.are_near(&rt, &removed);
+    text.are_near(&rt, WITHOUT_B);
     text.tag_counts(0, 1, 1)?;
-    let last = [(2, (Some(2), None, Some(1))), (3, (None, None, Some(2)))];
-    text.are_near(&rt, &last);
+    text.are_near(&rt, OF_THE_END);
+    // no character has a tag on a new text
+    Text::new(rt.alloc())?.are_near(&rt, &[(0, (None, Some(0), None))]);
     Ok(())
 }
 
-// No character has a tag on a new text.
-#[test]
-fn nothing_is_near(rt: HostRuntime) -> Result<(), Fail> {
-    let text = Text::new(rt.alloc())?;
-    text.are_near(&rt, &[(0, (None, Some(0), None))]);
-    Ok(())
+// The text `abc`, whose `b` has the tag.
+fn abc(alloc: Global) -> Result<Text, Fault> {
+    Text::of(alloc, &[(4, 'c', false), (3, 'b', true), (2, 'a', false)])
 }
 
 // The cell of a character without tags.
@@ -202,42 +200,55 @@ fn past_greater_stamps(rt: HostRuntime) -> Result<(), Fail> {
 }
 
 // The stamps of `b` and `c`, and one of no cell.
-const B: Stamp = Stamp { count: 2, site: 1 };
+const B: Stamp = Stamp { count: 3, site: 1 };
 
-const C: Stamp = Stamp { count: 3, site: 1 };
+const C: Stamp = Stamp { count: 4, site: 1 };
 
-const OTHER: Stamp = Stamp { count: 3, site: 2 };
+const OTHER: Stamp = Stamp { count: 4, site: 2 };
 
-// The text `abc`, whose `b` is gone.
-fn without_b(alloc: Global) -> Result<Text, Fault> {
-    let mut text = Text::of(alloc, &[(3, 'c', false), (2, 'b', true), (1, 'a', false)])?;
-    text.remove(2)?;
-    Ok(text)
-}
+/// Stamps, and the places of their cells.
+const PLACES: &[(Stamp, Option<usize>)] = &[
+    (B, Some(1)),
+    (C, Some(1)),
+    (FINAL, Some(2)),
+    (OTHER, None),
+];
 
 // A stamp finds its cell, gone or not; room that was there stays.
-#[test]
-fn cells_of_stamps(rt: HostRuntime) -> Result<(), Fail> {
-    let text = without_b(rt.alloc())?;
+fn has_cells(rt: &impl Abort, text: &Text) {
     let store = &text.store;
-    let found = store.cell_of(B).map(|cell| (cell.ch, cell.gone));
-    same(&rt, found, Some(('b', true)));
-    same(&rt, store.cell_of(C), Some(cell(3, 1, 'c')));
-    same(&rt, store.cell_of(FINAL), Some(FINAL_CELL));
-    same(&rt, store.cell_of(OTHER), None);
-    Ok(())
+    let gone = Cell {
+        gone: true,
+        state: text.tagged,
+        ..cell(3, 1, 'b')
+    };
+    same(rt, store.cell_of(B), Some(gone));
+    same(rt, store.cell_of(C), Some(cell(4, 1, 'c')));
+    same(rt, store.cell_of(FINAL), Some(FINAL_CELL));
+    same(rt, store.cell_of(OTHER), None);
 }
 
-// A stamp finds its place, and a position its cell.
-#[test]
-fn places_of_stamps(rt: HostRuntime) -> Result<(), Fail> {
-    let text = without_b(rt.alloc())?;
-    let store = &text.store;
-    for (stamp, place) in [(B, Some(1)), (C, Some(1)), (FINAL, Some(2)), (OTHER, None)] {
-        same(&rt, store.place_of(stamp), place);
+// A stamp finds its place.
+fn has_places(rt: &impl Abort, text: &Text) {
+    for (stamp, place) in PLACES {
+        same(rt, text.store.place_of(*stamp), *place);
     }
-    same_len(&rt, store.cells(), 4);
-    same(&rt, store.nth(2), cell(3, 1, 'c'));
-    same(&rt, store.nth(3), FINAL_CELL);
+}
+
+// A position finds its cell.
+fn has_positions(rt: &impl Abort, text: &Text) {
+    same_len(rt, text.store.cells(), 4);
+    same(rt, text.store.nth(2), cell(4, 1, 'c'));
+    same(rt, text.store.nth(3), FINAL_CELL);
+}
+
+// Of the text `abc`, whose `b` is gone.
+#[test]
+fn cells_and_places(rt: HostRuntime) -> Result<(), Fail> {
+    let mut text = abc(rt.alloc())?;
+    text.remove(3)?;
+    has_cells(&rt, &text);
+    has_places(&rt, &text);
+    has_positions(&rt, &text);
     Ok(())
 }

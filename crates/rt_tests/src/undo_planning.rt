@@ -1,14 +1,15 @@
-// Plans of reverted groups, with ample memory.
-ghost use Rattle.std.specs.Prelude.{◌≡◌, ◌<◌, ◌≤◌, [], ◌∷◌, IfOk, false, length};
-ghost use Rattle.rt_stamps.specs.declared.limits.TheConstants.{GREATEST_COUNT};
+// Plans of a reverted group and of a reverted insertion, also over a text that no site has: a character that the group removed
+// is there. What an undo of a site plans is told by the operations that it makes (rt_tests_script).
+ghost use Rattle.std.specs.Prelude.{◌≡◌, ◌<◌, [], ◌∷◌, IfOk, false, length};
 ghost use Rattle.rt_store.specs.Cells.{final_cell};
 ghost use Rattle.rt_store.specs.ListStore.{cells_of};
 ghost use Rattle.rt_undo.specs.Actions.{group_of};
 ghost use Rattle.rt_revert.specs.Plans.{AreGiven, named_group};
 ghost use Rattle.rt_revert.specs.ReversionLaws.{AreSound};
 
-use crate::checks::{same, same_len};
-use rt_revert::{Reversal, TextChange, planned_reversion, planned_reversion_in};
+use crate::checks::same;
+use rt_revert::losses::planned_losses;
+use rt_revert::{Return, Reversal, planned_reversion};
 use rt_rga::Draft;
 use rt_stamps::{Fault, Site, Span, Stamp};
 use rt_store::{Cell, ListStore, TextStore};
@@ -92,16 +93,6 @@ fn cut(alloc: Global, number: u64, first: u64, last: u64) -> Result<Action, Faul
     })
 }
 
-// `ab` was typed.
-pub(crate) fn typing(alloc: Global) -> Result<Vec<Action>, Fault>
-    ensures given { IfOk result (λ group. AreGiven (record { names = []; states = [] ∷ [] }) (group_of group.items)) }
-    ensures sound { IfOk result (λ group. AreSound (named_group (record { names = []; states = [] ∷ [] }) (group_of group.items))) }
-{
-    let mut group = Vec::new(alloc);
-    group.push(typed(alloc, 1, 2)?)?;
-    Ok(group)
-}
-
 // `ab` was typed, and `b` removed.
 fn typing_and_cutting(alloc: Global) -> Result<Vec<Action>, Fault>
     ensures given { IfOk result (λ group. AreGiven (record { names = []; states = [] ∷ [] }) (group_of group.items)) }
@@ -113,119 +104,68 @@ fn typing_and_cutting(alloc: Global) -> Result<Vec<Action>, Fault>
     Ok(group)
 }
 
-// The plan of a group in `ab`, of which the `b` may be gone.
-fn planned(
-    alloc: Global,
-    site: Site,
-    gone: bool,
-    count: u64,
-    group: &[Action],
-) -> Result<Reversal, Fault>
-    requires least { 2 ≤ count }
-    requires count { count ≤ GREATEST_COUNT }
+// The plan of a group in `ab`, of which the `b` may be gone, by a site whose greatest count is 3.
+fn planned(alloc: Global, site: Site, gone: bool, group: &[Action]) -> Result<Reversal, Fault>
     requires given { AreGiven (record { names = []; states = [] ∷ [] }) (group_of group.now) }
     requires sound { AreSound (named_group (record { names = []; states = [] ∷ [] }) (group_of group.now)) }
 {
     let states = StateTable::new(alloc)?;
     let store = text(alloc, &states, gone)?;
     let mut kept = StateTable::new(alloc)?;
-    planned_reversion(alloc, &store, &states, site, count, group, &mut kept)
+    planned_reversion(alloc, &store, &states, site, 3, group, &mut kept)
 }
 
-// The same, with a store of the caller's for the copy.
-fn planned_in(
+// Which operations there are.
+fn operations(drafts: &[Draft]) -> &'static str {
+    match drafts {
+        [Draft::Delete { .. }] => "delete",
+        [Draft::Insert { .. }, Draft::Delete { .. }] => "insert, delete",
+        _ => "others",
+    }
+}
+
+// Stops a test where the reverted group makes other operations, or other characters come back.
+fn comes_back(
+    rt: &impl Abort,
     alloc: Global,
-    site: Site,
     gone: bool,
-    count: u64,
-    group: &[Action],
-) -> Result<Reversal, Fault>
-    requires least { 2 ≤ count }
-    requires count { count ≤ GREATEST_COUNT }
-    requires given { AreGiven (record { names = []; states = [] ∷ [] }) (group_of group.now) }
-    requires sound { AreSound (named_group (record { names = []; states = [] ∷ [] }) (group_of group.now)) }
-{
+    wanted: &str,
+    returns: &[Return],
+) -> Result<(), Fail> {
+    let site = Site::new(1).ok_or("a site")?;
+    let group = typing_and_cutting(alloc)?;
+    let plan = planned(alloc, site, gone, &group)?;
+    same(rt, operations(&plan.drafts), wanted);
+    same(rt, plan.returns.as_slice(), returns);
+    Ok(())
+}
+
+// Stops a test where others go of the characters of `ab`, of which the `b` is named first, and may be gone.
+fn goes(rt: &impl Abort, alloc: Global, gone: bool, wanted: Span) -> Result<(), Fault> {
     let states = StateTable::new(alloc)?;
     let store = text(alloc, &states, gone)?;
-    let mut kept = StateTable::new(alloc)?;
-    let copy = ListStore::new(alloc)?;
-    planned_reversion_in(alloc, &store, &states, copy, site, count, group, &mut kept)
-}
-
-// What was typed goes by one operation, and nothing comes back.
-fn assert_deletion(rt: &impl Abort, plan: &Reversal) {
-    same_len(rt, plan.drafts.len(), 1);
-    assert!(rt; matches!(&plan.drafts[0], Draft::Delete { .. }));
-    same_len(rt, plan.changes.len(), 1);
-    assert!(rt; matches!(&plan.changes[0], TextChange::Removed(_)));
-    same_len(rt, plan.returns.len(), 0);
-}
-
-// The one action took away the `ab`.
-fn assert_cut(rt: &impl Abort, plan: &Reversal) {
-    same_len(rt, plan.actions.len(), 1);
-    same_len(rt, plan.actions[0].inserted.len(), 0);
-    same_len(rt, plan.actions[0].removed.len(), 1);
-    same(rt, plan.actions[0].removed[0].span, span(1, 2));
-}
-
-// What was typed goes.
-#[test]
-fn typing_is_reverted(rt: HostRuntime) -> Result<(), Fail> {
-    let site = Site::new(1).ok_or("a site")?;
-    let group = typing(rt.alloc())?;
-    let plan = planned(rt.alloc(), site, false, 2, &group)?;
-    assert_deletion(&rt, &plan);
-    assert_cut(&rt, &plan);
+    let spans = [span(2, 2), span(1, 1)];
+    let losses = planned_losses(alloc, &store, &states, &spans)?;
+    let removed = RemovedSpan {
+        span: wanted,
+        state: StateId::EMPTY,
+    };
+    same(rt, losses.removed.as_slice(), [removed].as_slice());
+    same(rt, losses.drafts.len(), 1);
     Ok(())
 }
 
-// The `b` comes back under another stamp.
-fn assert_return(rt: &impl Abort, plan: &Reversal) {
-    same_len(rt, plan.drafts.len(), 2);
-    assert!(rt; matches!(&plan.drafts[0], Draft::Insert { .. }));
-    assert!(rt; matches!(&plan.drafts[1], Draft::Delete { .. }));
-    same_len(rt, plan.returns.len(), 1);
-    same(rt, plan.returns[0].former, Stamp { count: 2, site: 1 });
-    same(rt, plan.returns[0].newer, Stamp { count: 4, site: 1 });
-}
+const RETURNS: &[Return] = &[Return {
+    former: Stamp { count: 2, site: 1 },
+    newer: Stamp { count: 4, site: 1 },
+}];
 
-// One action put it in, and the other took both away.
-fn assert_actions(rt: &impl Abort, plan: &Reversal) {
-    same_len(rt, plan.actions.len(), 2);
-    same_len(rt, plan.actions[0].inserted.len(), 1);
-    same(rt, plan.actions[0].inserted[0], span(4, 4));
-    same_len(rt, plan.actions[1].removed.len(), 2);
-    same(rt, plan.actions[1].removed[0].span, span(1, 1));
-    same(rt, plan.actions[1].removed[1].span, span(4, 4));
-}
-
-// The `b` comes back, and goes again with the `a`.
-fn assert_both(rt: &impl Abort, plan: &Reversal) {
-    assert_return(rt, plan);
-    assert_actions(rt, plan);
-}
-
-// What was typed, and then removed in part.
+// A removed character that is gone comes back, under another stamp; one that is there doesn't.
 #[test]
-fn typing_and_cutting_is_reverted(rt: HostRuntime) -> Result<(), Fail> {
-    let site = Site::new(1).ok_or("a site")?;
-    let group = typing_and_cutting(rt.alloc())?;
-    let plan = planned(rt.alloc(), site, true, 3, &group)?;
-    assert_both(&rt, &plan);
-    let other = planned_in(rt.alloc(), site, true, 3, &group)?;
-    assert_both(&rt, &other);
-    Ok(())
-}
-
-// A removed character that is there doesn't come back.
-#[test]
-fn what_is_visible_does_not_come_back(rt: HostRuntime) -> Result<(), Fail> {
-    let site = Site::new(1).ok_or("a site")?;
-    let group = typing_and_cutting(rt.alloc())?;
-    let plan = planned(rt.alloc(), site, false, 3, &group)?;
-    same_len(&rt, plan.drafts.len(), 1);
-    assert!(rt; matches!(&plan.drafts[0], Draft::Delete { .. }));
-    same_len(&rt, plan.returns.len(), 0);
+fn what_comes_back_and_goes(rt: HostRuntime) -> Result<(), Fail> {
+    comes_back(&rt, rt.alloc(), true, "insert, delete", RETURNS)?;
+    comes_back(&rt, rt.alloc(), false, "delete", &[])?;
+    goes(&rt, rt.alloc(), true, span(1, 1))?;
+    goes(&rt, rt.alloc(), false, span(1, 2))?;
     Ok(())
 }

@@ -205,7 +205,27 @@ const A_LATER_REMOVAL_OF_A_TAG: Case = Case {
     ],
 };
 
+// Operations of each kind, on one tag and another.
+const EACH_KIND: Case = Case {
+    first: &[(".t insert 1.0 ab t", "=")],
+    one: &[
+        (".t insert 1.2 c", "="),
+        (".t tag add u 1.0 1.3", "="),
+        (".t tag remove t 1.0", "="),
+        (".t delete 1.1", "="),
+    ],
+    other: &[],
+    receives_one: &[("receive one", "= 4 1"), ("receive one", "= 0 5")],
+    receives_other: &[("receive other", "= 0 1")],
+    after: &[
+        (".t get 1.0 end", r#"= "ac\n""#),
+        (".t tag ranges t", "="),
+        (".t tag ranges u", "= 1.0 1.2"),
+    ],
+};
+
 const EXCHANGED: &[Case] = &[
+    EACH_KIND,
     LATER_TEXT_GOES_BEFORE,
     REMOVED_BESIDE_NEW,
     THE_GREATEST_TAG_OPERATION_DECIDES,

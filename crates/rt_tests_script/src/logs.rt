@@ -29,6 +29,27 @@ const COMMANDS: Script<'static> = &[
     (".t tag delete t u t", "="),
     (".t tag add t 1.0 9.9", "="),
     (".t delete 1.0 end", "="),
+    // What was typed goes, and comes back under new stamps.
+    (".t configure -undo 1 -autoseparators 0", "="),
+    (".t insert 1.0 ab bold", "="),
+    (".t edit undo", "="),
+    (".t edit redo", "="),
+    // What was removed in one group with its typing comes back behind its tombstone, and goes with the rest.
+    (".t delete 1.0 end", "="),
+    (".t edit reset", "="),
+    (".t insert 1.0 cd", "="),
+    (".t delete 1.1", "="),
+    (".t edit undo", "="),
+    (".t edit redo", "="),
+    // Of what was typed that goes which is still there, and it comes back alone.
+    (".t delete 1.0 end", "="),
+    (".t edit reset", "="),
+    (".t insert 1.0 efg", "="),
+    (".t configure -undo 0", "="),
+    (".t delete 1.1", "="),
+    (".t configure -undo 1", "="),
+    (".t edit undo", "="),
+    (".t edit redo", "="),
 ];
 
 const OPERATIONS: &[&str] = &[
@@ -45,6 +66,24 @@ const OPERATIONS: &[&str] = &[
     "tag 12.1 prev 11 on t spans 0:1-1 1:3-4 1:9-9",
     "delete 13.1 prev 12 spans 1:3-4 1:9-9",
     "tag 14.1 prev 13 off t spans 0:1-1",
+    "insert 15.1 prev 14 after 0.0 text ab tags bold",
+    "delete 17.1 prev 16 spans 1:15-16",
+    "insert 18.1 prev 17 after 15.1 text a tags bold",
+    "insert 19.1 prev 18 after 16.1 text b tags bold",
+    "delete 20.1 prev 19 spans 1:18-19",
+    "insert 21.1 prev 20 after 0.0 text cd tags",
+    "delete 23.1 prev 22 spans 1:22-22",
+    "insert 24.1 prev 23 after 22.1 text d tags",
+    "delete 25.1 prev 24 spans 1:21-21 1:24-24",
+    "insert 26.1 prev 25 after 21.1 text c tags",
+    "insert 27.1 prev 26 after 24.1 text d tags",
+    "delete 28.1 prev 27 spans 1:27-27",
+    "delete 29.1 prev 28 spans 1:26-26",
+    "insert 30.1 prev 29 after 0.0 text efg tags",
+    "delete 33.1 prev 32 spans 1:31-31",
+    "delete 34.1 prev 33 spans 1:30-30 1:32-32",
+    "insert 35.1 prev 34 after 30.1 text e tags",
+    "insert 36.1 prev 35 after 32.1 text g tags",
 ];
 
 #[test]
