@@ -17,6 +17,11 @@ edge_there [] [] at e = sym e
 edge_there [] (r ∷ b) at e = inl (sym e)
 edge_there (r ∷ a) b at e = inr (omega (arith, e), edge_there a b (at - r.len) (omega (arith, e)))
 
+-- a run ends behind its cells
+pub edge_behind : (a : List Run) (r : Run) (b : List Run) (at : ℕ) → (counts_of a).cells + r.len ≡ at → IsEdge (lengths (a ++ r ∷ b)) at
+edge_behind [] r b at e = inr (omega (arith, e), edge_there [] b (at - r.len) (omega (arith, e)))
+edge_behind (x ∷ a) r b at e = inr (omega (arith, e), edge_behind a r b (at - x.len) (omega (arith, e)))
+
 -- a run that has a position at which one begins or ends begins there
 pub edge_mid : (a : List Run) (r : Run) (b : List Run) (offset at : ℕ) → (counts_of a).cells + offset ≡ at → offset < r.len → IsEdge (lengths (a ++ r ∷ b)) at → offset ≡ 0
 edge_mid [] r b offset at e lt edge = elim edge [ inl z ↦ omega (arith, e, z) | inr w ↦ absurd (omega (arith, e, lt, w.0)) ]

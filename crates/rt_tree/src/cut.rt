@@ -97,13 +97,15 @@ pub(crate) fn cut(
     }
 }
 
-// The same, and tells where the stamps are of runs that are in another leaf now.
+// The same, and tells where the stamps are of runs that are in another leaf now. Nothing is done where a run is known to
+// begin or end there.
 pub(crate) fn cut_home(
     mem: &mut Mem,
     sums: &mut Summaries,
     states: &StateTable,
     root: NodeId,
     at: usize,
+    is_edge: bool,
     homes: &mut Homes,
     keep: usize,
 ) -> Change
@@ -113,6 +115,7 @@ pub(crate) fn cut_home(
     requires within { at ≤ (counts_of (tree_runs mem.old root.index)).cells }
     requires room { HasNodes mem.old (length (tree_runs mem.old root.index)) }
     requires home { homes.old.sure ≡ true → AreHome homes.old.leaves (tree_runs mem.old root.index) }
+    requires edge { is_edge ≡ true → IsEdge (lengths (tree_runs mem.old root.index)) at }
     requires told { AreTold states.now mem.old sums.old (tree_runs mem.old root.index) }
     ensures tree { IsTree mem.new result.root.index }
     ensures recut { IsRecut (tree_runs mem.old root.index) (tree_runs mem.new result.root.index) }
@@ -126,6 +129,9 @@ pub(crate) fn cut_home(
     ensures told { AreTold states.now mem.new sums.new (tree_runs mem.new result.root.index) }
     ensures tags { sums.new.tags ≡ sums.old.tags }
 {
+    if is_edge {
+        return Change { root, more: 0 };
+    }
     let nodes = mem.nodes();
     let change = cut(mem, sums, states, root, at);
     homes.note_new(mem, nodes, keep);
@@ -208,6 +214,6 @@ pub(crate) fn part(
 {
     match inside(mem, root, stamp, homes) {
         None => Change { root, more: 0 },
-        Some(at) => cut_home(mem, sums, states, root, at, homes, keep),
+        Some(at) => cut_home(mem, sums, states, root, at, false, homes, keep),
     }
 }

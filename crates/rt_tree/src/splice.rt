@@ -1,5 +1,5 @@
 // New cells put in.
-ghost use Rattle.std.specs.Prelude.{◌≡◌, ◌+◌, ◌<◌, ◌≤◌, ◌^◌, ◌∷◌, ◌++◌, ◌==◌, ◌&&◌, ◌-◌, false, true, nat_lt, if◌then◌else◌, drop, length, map, take, vec_capacity, vec_len};
+ghost use Rattle.std.specs.Prelude.{◌≡◌, ◌+◌, ◌<◌, ◌≤◌, ◌^◌, ◌∷◌, ◌++◌, ◌==◌, ◌&&◌, ◌-◌, false, true, nat_lt, if◌then◌else◌, drop, length, take};
 ghost use Rattle.std.specs.List.{AllByRecursion, list_any};
 ghost use Rattle.rt_stamps.specs.declared.limits.TheConstants.{MOST_CELLS};
 ghost use Rattle.rt_store.specs.Cells.{put_at};
@@ -349,6 +349,13 @@ fn is_barred(mem: &Mem, root: NodeId, newest: u64, before: Run, run: Run, is_new
     is_shared(mem, root, newest, &lengthened(before, run))
 }
 
+// How many cells a run went on with, and whether a run begins or ends behind them, as far as is known.
+#[derive(Clone, Copy)]
+struct Extended {
+    done: usize,
+    is_edge: bool,
+}
+
 // Lets the run that ends at a position go on with the first of new cells, if these follow it, and tells how many they are.
 fn extend(
     mem: &mut Mem,
@@ -361,7 +368,7 @@ fn extend(
     newest: u64,
     homes: &mut Homes,
     keep: usize,
-) -> usize
+) -> Extended
     requires home { homes.old.sure ≡ true → AreHome homes.old.leaves (tree_runs mem.old root.index) }
     requires left { keep + length cells.now ≤ homes.old.left }
     requires tree { IsTree mem.old root.index }
@@ -375,32 +382,45 @@ fn extend(
     requires told { AreTold states.now mem.old sums.old (tree_runs mem.old root.index) }
     requires states { AreStates states.now cells.now }
     ensures tree { IsTree mem.new root.index }
-    ensures within { result ≤ length cells.now }
-    ensures cells { AreChanged (tree_runs mem.old root.index) (tree_runs mem.new root.index) text.now (put_at at (take result cells.now)) }
+    ensures within { result.done ≤ length cells.now }
+    ensures cells { AreChanged (tree_runs mem.old root.index) (tree_runs mem.new root.index) text.now (put_at at (take result.done cells.now)) }
+    ensures edge { result.is_edge ≡ true → IsEdge (lengths (tree_runs mem.new root.index)) (at + result.done) }
     ensures apart { AreApart (tree_runs mem.new root.index) }
     ensures runs { length (tree_runs mem.new root.index) ≡ length (tree_runs mem.old root.index) }
     ensures home { homes.new.sure ≡ true → AreHome homes.new.leaves (tree_runs mem.new root.index) }
-    ensures left { keep + (length cells.now - result) ≤ homes.new.left }
+    ensures left { keep + (length cells.now - result.done) ≤ homes.new.left }
     ensures room { length mem.new.heads + mem.new.room ≡ length mem.old.heads + mem.old.room }
     ensures told { AreTold states.now mem.new sums.new (tree_runs mem.new root.index) }
     ensures tags { sums.new.tags ≡ sums.old.tags }
 {
     if at == 0 || cells.is_empty() {
-        return 0;
+        return Extended {
+            done: 0,
+            is_edge: at == 0,
+        };
     }
     let found = found_at(mem, root, at - 1);
     let run = run_of(text, cells);
     if found.spot.offset + 1 < found.run.len as usize || !are_joint(&found.run, &run) {
-        return 0;
+        return Extended {
+            done: 0,
+            is_edge: found.spot.offset + 1 == found.run.len as usize,
+        };
     }
     let is_new = homes.is_new(newest, &run);
     if is_barred(mem, root, newest, found.run, run, is_new) {
-        return 0;
+        return Extended {
+            done: 0,
+            is_edge: true,
+        };
     }
     let whole = joined(found.run, run);
     replace_at(mem, sums, states, root, found.spot, whole);
     homes.enter(&whole, found.spot.leaf, is_new);
-    run.len as usize
+    Extended {
+        done: run.len as usize,
+        is_edge: false,
+    }
 }
 
 // Puts cells in at a position; their characters are the last of the text.
@@ -441,14 +461,23 @@ pub(crate) fn put_cells(
     ensures told { AreTold states.now mem.new sums.new (tree_runs mem.new result.root.index) }
     ensures tags { sums.new.tags ≡ sums.old.tags }
 {
-    let done = extend(
+    let Extended { done, is_edge } = extend(
         mem, sums, states, root, text, at, cells, newest, homes, keep,
     );
     if done == cells.len() {
         return Change { root, more: 0 };
     }
     let rest = &cells[done..];
-    let first = cut_home(mem, sums, states, root, at + done, homes, keep + rest.len());
+    let first = cut_home(
+        mem,
+        sums,
+        states,
+        root,
+        at + done,
+        is_edge,
+        homes,
+        keep + rest.len(),
+    );
     let newest = newest_of(newest, &cells[..done]);
     let then = put_runs(
         mem,
@@ -465,16 +494,5 @@ pub(crate) fn put_cells(
     Change {
         root: then.root,
         more: first.more + then.more,
-    }
-}
-
-// Puts the characters of cells behind a text that has room for them.
-pub(crate) fn push_characters(text: &mut Vec<char>, cells: &[Cell<StateId>])
-    requires room { vec_len text.old + length cells.now ≤ vec_capacity text.old }
-    ensures items { text.new.items ≡ text.old.items ++ map (λ cell. cell.ch) cells.now }
-    ensures capacity { vec_capacity text.old ≤ vec_capacity text.new }
-{
-    for cell in cells {
-        text.push(cell.ch).unwrap();
     }
 }

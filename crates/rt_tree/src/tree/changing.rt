@@ -9,9 +9,10 @@ ghost use Rattle.rt_tree.specs.Stretches.{IsGiven};
 ghost use Rattle.rt_tree.specs.Trees.{Agrees, HasOwn};
 
 use super::Tree;
+use crate::copy::push_characters;
 use crate::homes::spans_for;
 use crate::mark::{Mark, mark_span};
-use crate::splice::{newest_of, push_characters, put_cells};
+use crate::splice::{newest_of, put_cells};
 use rt_stamps::limits::MOST_CELLS;
 use rt_stamps::{Fault, Span};
 use rt_store::Cell;

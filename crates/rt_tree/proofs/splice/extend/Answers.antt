@@ -1,18 +1,24 @@
-use Rattle.std.proofs.Common.{◌+◌, ◌-◌, ◌∙◌, ap, sym, subst, arith}
+use Rattle.std.proofs.Common.{◌≡◌, ℕ, ◌+◌, ◌-◌, ◌<◌, ◌∙◌, List, [], nat_eq, true, ap, sym, subst, arith}
+use Rattle.std.proofs.lemmas.Bool.Decides.{nat_tests}
+use Rattle.rt_tree.specs.declared.node.Counts.{Counts}
+use Rattle.rt_tree.specs.declared.node.Measure.TheVariants.{Cells}
 use Rattle.rt_tree.specs.declared.node.Run.{Run}
 use Rattle.rt_tree.specs.Homes.{IsPlaced}
 use Rattle.rt_tree.specs.Shape.{tree_runs}
-use Rattle.rt_tree.specs.Stretches.{AreKept}
+use Rattle.rt_tree.specs.Stretches.{AreKept, IsEdge, lengths}
 use Rattle.rt_tree.specs.Sums.{AreFew, counts_of, counts_of_run, plus}
-use Rattle.rt_tree.specs.Walks.{IsReplacedAt}
+use Rattle.rt_tree.specs.Walks.{IsReplacedAt, StandsAt}
 use Rattle.rt_tree.proofs.Cutting.{few_all, few_with}
 use Rattle.rt_tree.proofs.Housing.{home_more, joined_holders, joined_placed, unknown_new}
-use Rattle.rt_tree.proofs.Edges.{counts_mid}
+use Rattle.rt_tree.proofs.Edges.{counts_mid, edge_behind, edge_there}
 use Rattle.rt_tree.proofs.Puts.{replaced_length}
 use Rattle.rt_tree.proofs.Splicing.{extended, extended_apart, new_is}
 use Rattle.rt_tags.specs.States.{IsState}
 use Rattle.rt_tree.proofs.Told.{given_there, short_kept}
 use Rattle.rt_tree.proofs.splice.extend.Goals as goal
+
+nat_is : (a b : ℕ) → nat_eq a b ≡ true → a ≡ b
+nat_is a b is = grind (arith, nat_tests)
 
 pub found_at-found-requires-clause-few : goal.found_at-found-requires-clause-few
 found_at-found-requires-clause-few c =
@@ -125,3 +131,24 @@ pub replace_at-requires-clause-state : goal.replace_at-requires-clause-state
 replace_at-requires-clause-state c =
     let old = tree_runs c.args.mem.now c.args.root.index in let st = c.found_at-found.ensures.run in let table = c.args.states.now in
     subst (λ (x : Run). IsState table x.state) (sym c.joined-whole.ensures) (given_there table old st.left st.right c.found_at-found.result.run st.here c.requires.told.given)
+
+pub returns-then-at-eq0-clause-edge : goal.returns-then-at-eq0-clause-edge
+returns-then-at-eq0-clause-edge c =
+    let old = tree_runs c.args.mem.now c.args.root.index in
+    λ is. let zero : c.args.at ≡ 0 = nat_is c.args.at 0 is in edge_there [] old (c.args.at + 0) (omega (arith, zero))
+
+-- behind the run that was found
+ends : (all : List Run) (run : Run) (front : Counts) (offset at : ℕ) → StandsAt Cells all run front offset (at - 1) → 0 < at → offset + 1 ≡ run.len → IsEdge (lengths all) (at + 0)
+ends all run front offset at st some is =
+    let f = ap (λ (x : Counts). x.cells) st.before in
+    subst (λ (l : List Run). IsEdge (lengths l) (at + 0)) (sym st.here) (edge_behind st.left run st.right (at + 0) (omega (arith, f, st.at, some, is)))
+
+pub returns-then-found-clause-edge : goal.returns-then-found-clause-edge
+returns-then-found-clause-edge c =
+    let f = c.found_at-found.result in
+    λ is. ends (tree_runs c.args.mem.now c.args.root.index) f.run f.before f.spot.offset c.args.at c.found_at-found.ensures.run (omega (arith, c.if-at-eq0.false)) (nat_is (f.spot.offset + 1) f.run.len is)
+
+pub returns-then-is_barred-clause-edge : goal.returns-then-is_barred-clause-edge
+returns-then-is_barred-clause-edge c =
+    let f = c.found_at-found.result in let st = c.found_at-found.ensures.run in
+    λ _. ends (tree_runs c.args.mem.now c.args.root.index) f.run f.before f.spot.offset c.args.at st (omega (arith, c.if-at-eq0.false)) (let l = c.if-found.false in let i = st.inside in omega (arith, l, i))
