@@ -1,134 +1,167 @@
 // Command lines.
+use crate::checks::same_in;
 use rt_args::{Line, line};
-use rt_stamps::Site;
 use std::alloc::Global;
-use std::fmt::Write;
 use std::test::Fail;
 
-// The words of a run: the site, the log and OUT where they are given, and the files.
-fn run_text(
-    alloc: Global,
-    site: Site,
-    log: Option<String>,
-    out: Option<String>,
-    files: Vec<String>,
-) -> Result<String, Fail> {
-    let mut text = format!(in alloc; "run {}", site.number())?;
-    if let Some(log) = log {
-        write!(text, " log {log}")?;
-    }
-    if let Some(out) = out {
-        write!(text, " out {out}")?;
-    }
-    for file in &files {
-        write!(text, " {file}")?;
-    }
-    Ok(text)
+/// What a command line asks for, or the status with which it is refused.
+#[derive(Clone, Copy)]
+enum Asked {
+    /// A run by a site, with the log and OUT where they are given, and the files.
+    Run(u16, Option<&'static str>, Option<&'static str>, &'static [&'static str]),
+    Join(&'static str, &'static str, &'static str),
+    Show(&'static str),
+    Refused(u8),
 }
 
-// What a command line asks for, or the status with which it is refused.
-fn answer(alloc: Global, text: &str) -> Result<Result<String, u8>, Fail> {
-    let words: Vec<&str> = text.split(' ').collect(alloc)?;
-    Ok(match line(alloc, words.as_slice()) {
-        Ok(
+fn path(of: &Option<String>) -> Option<&str> {
+    match of {
+        Some(path) => Some(path.as_str()),
+        None => None,
+    }
+}
+
+fn are(files: &[String], wanted: &[&str]) -> bool {
+    if files.len() != wanted.len() {
+        return false;
+    }
+    for i in 0..wanted.len() {
+        if files[i].as_str() != wanted[i] {
+            return false;
+        }
+    }
+    true
+}
+
+// Whether a command line asks for what is wanted.
+fn asks(line: &Line, wanted: Asked) -> bool {
+    match (line, wanted) {
+        (
             Line::Run {
                 site,
                 log,
                 out,
                 files,
             },
-        ) => Ok(run_text(alloc, site, log, out, files)?),
-        Ok(Line::Join { a, b, out }) => Ok(format!(in alloc; "join {a} {b} {out}")?),
-        Ok(Line::Show { file }) => Ok(format!(in alloc; "show {file}")?),
-        Err(fault) => Err(fault.status()),
+            Asked::Run(number, its_log, its_out, its_files),
+        ) => {
+            (site.number(), path(log), path(out)) == (number, its_log, its_out)
+                && are(files, its_files)
+        }
+        (Line::Join { a, b, out }, Asked::Join(one, other, its_out)) => {
+            (a.as_str(), b.as_str(), out.as_str()) == (one, other, its_out)
+        }
+        (Line::Show { file }, Asked::Show(its_file)) => file.as_str() == its_file,
+        _ => false,
+    }
+}
+
+// Whether the words of a command line ask for what is wanted.
+fn is_read_as(alloc: Global, text: &str, wanted: Asked) -> Result<bool, Fail> {
+    let words: Vec<&str> = text.split(' ').collect(alloc)?;
+    Ok(match line(alloc, words.as_slice()) {
+        Ok(line) => asks(&line, wanted),
+        Err(fault) => matches!(wanted, Asked::Refused(status) if status == fault.status()),
     })
 }
 
-/// A command line, and what it asks for, or the status with which it is refused.
-type Row = (&'static str, Result<&'static str, u8>);
+/// A command line, and what it asks for.
+type Row = (&'static str, Asked);
 
 const LINES: &[Row] = &[
-    ("peertext run --site 7", Ok("run 7")),
-    ("peertext run --site 1", Ok("run 1")),
-    ("peertext run --site=65535", Ok("run 65535")),
-    ("peertext run --site 7 --log a", Ok("run 7 log a")),
-    ("peertext run --out a --site 7", Ok("run 7 out a")),
+    ("peertext run --site 7", Asked::Run(7, None, None, &[])),
+    ("peertext run --site 1", Asked::Run(1, None, None, &[])),
+    (
+        "peertext run --site=65535",
+        Asked::Run(65535, None, None, &[]),
+    ),
+    (
+        "peertext run --site 7 --log a",
+        Asked::Run(7, Some("a"), None, &[]),
+    ),
+    (
+        "peertext run --out a --site 7",
+        Asked::Run(7, None, Some("a"), &[]),
+    ),
     (
         "peertext run --site 7 --log a --out b",
-        Ok("run 7 log a out b"),
+        Asked::Run(7, Some("a"), Some("b"), &[]),
     ),
     (
         "peertext run --out=b --site=7 --log=a c",
-        Ok("run 7 log a out b c"),
+        Asked::Run(7, Some("a"), Some("b"), &["c"]),
     ),
     (
         "peertext run a --site 7 b --log l c --out o a",
-        Ok("run 7 log l out o a b c a"),
+        Asked::Run(7, Some("l"), Some("o"), &["a", "b", "c", "a"]),
     ),
     (
         "peertext run --site 7 -- --log a --",
-        Ok("run 7 --log a --"),
+        Asked::Run(7, None, None, &["--log", "a", "--"]),
     ),
     (
         "peertext run --site 7 a -- -b --out=c",
-        Ok("run 7 a -b --out=c"),
+        Asked::Run(7, None, None, &["a", "-b", "--out=c"]),
     ),
     (
         "peertext run --site 7 --log same --out same same",
-        Ok("run 7 log same out same same"),
+        Asked::Run(7, Some("same"), Some("same"), &["same"]),
     ),
-    ("peertext run --site 7 --log= more", Ok("run 7 log  more")),
-    ("peertext run --site 7 run join", Ok("run 7 run join")),
-    ("peertext run --site 7 -", Ok("run 7 -")),
-    ("peertext join a b c", Ok("join a b c")),
-    ("peertext join -- -a b -c", Ok("join -a b -c")),
-    ("peertext join run join show", Ok("join run join show")),
-    ("peertext show show", Ok("show show")),
-    ("peertext join a b", Err(2)),
-    ("peertext join a b c d", Err(2)),
-    ("peertext join -a b c", Err(2)),
-    ("peertext show", Err(2)),
-    ("peertext show a b", Err(2)),
-    ("peertext show --site 7", Err(2)),
-    ("peertext run --site 0", Err(2)),
-    ("peertext run --site 65536", Err(2)),
-    ("peertext run --site x", Err(2)),
-    ("peertext run --site -7", Err(2)),
-    ("peertext run --site", Err(2)),
-    ("peertext run", Err(2)),
-    ("peertext run --site 7 --site 7", Err(2)),
-    ("peertext run --site 7 --slow", Err(2)),
-    ("peertext run --site 7 --log", Err(2)),
-    ("peertext run --site 7 --out", Err(2)),
-    ("peertext run --site 7 --log --out b", Err(2)),
-    ("peertext run --site 7 --log a --log a", Err(2)),
-    ("peertext run --site 7 --out a b --out=c", Err(2)),
-    ("peertext run --site 7 a --site 7", Err(2)),
-    ("peertext run --log a --out b c", Err(2)),
-    ("peertext run --site 7 -b", Err(2)),
-    ("peertext run a -- --site 7", Err(2)),
-    ("peertext join --log a b c d", Err(2)),
-    ("peertext show --out a b", Err(2)),
-    ("peertext walk --site 7", Err(2)),
-    ("peertext --site 7", Err(2)),
-    ("peertext", Err(2)),
-    ("peertext --help", Err(0)),
-    ("peertext run --help", Err(0)),
-    ("peertext join --help", Err(0)),
-    ("peertext show -h", Err(0)),
-    ("peertext --version", Err(0)),
+    (
+        "peertext run --site 7 --log= more",
+        Asked::Run(7, Some(""), None, &["more"]),
+    ),
+    (
+        "peertext run --site 7 run join",
+        Asked::Run(7, None, None, &["run", "join"]),
+    ),
+    ("peertext run --site 7 -", Asked::Run(7, None, None, &["-"])),
+    ("peertext join a b c", Asked::Join("a", "b", "c")),
+    ("peertext join -- -a b -c", Asked::Join("-a", "b", "-c")),
+    (
+        "peertext join run join show",
+        Asked::Join("run", "join", "show"),
+    ),
+    ("peertext show show", Asked::Show("show")),
+    ("peertext join a b", Asked::Refused(2)),
+    ("peertext join a b c d", Asked::Refused(2)),
+    ("peertext join -a b c", Asked::Refused(2)),
+    ("peertext show", Asked::Refused(2)),
+    ("peertext show a b", Asked::Refused(2)),
+    ("peertext show --site 7", Asked::Refused(2)),
+    ("peertext run --site 0", Asked::Refused(2)),
+    ("peertext run --site 65536", Asked::Refused(2)),
+    ("peertext run --site x", Asked::Refused(2)),
+    ("peertext run --site -7", Asked::Refused(2)),
+    ("peertext run --site", Asked::Refused(2)),
+    ("peertext run", Asked::Refused(2)),
+    ("peertext run --site 7 --site 7", Asked::Refused(2)),
+    ("peertext run --site 7 --slow", Asked::Refused(2)),
+    ("peertext run --site 7 --log", Asked::Refused(2)),
+    ("peertext run --site 7 --out", Asked::Refused(2)),
+    ("peertext run --site 7 --log --out b", Asked::Refused(2)),
+    ("peertext run --site 7 --log a --log a", Asked::Refused(2)),
+    ("peertext run --site 7 --out a b --out=c", Asked::Refused(2)),
+    ("peertext run --site 7 a --site 7", Asked::Refused(2)),
+    ("peertext run --log a --out b c", Asked::Refused(2)),
+    ("peertext run --site 7 -b", Asked::Refused(2)),
+    ("peertext run a -- --site 7", Asked::Refused(2)),
+    ("peertext join --log a b c d", Asked::Refused(2)),
+    ("peertext show --out a b", Asked::Refused(2)),
+    ("peertext walk --site 7", Asked::Refused(2)),
+    ("peertext --site 7", Asked::Refused(2)),
+    ("peertext", Asked::Refused(2)),
+    ("peertext --help", Asked::Refused(0)),
+    ("peertext run --help", Asked::Refused(0)),
+    ("peertext join --help", Asked::Refused(0)),
+    ("peertext show -h", Asked::Refused(0)),
+    ("peertext --version", Asked::Refused(0)),
 ];
 
 #[test]
 fn reads_command_lines(rt: HostRuntime) -> Result<(), Fail> {
     for (text, wanted) in LINES {
-        let got = answer(rt.alloc(), text)?;
-        let same = match (&got, wanted) {
-            (Ok(got), Ok(wanted)) => got.as_str() == *wanted,
-            (Err(got), Err(wanted)) => *got == *wanted,
-            _ => false,
-        };
-        assert!(rt; same, "{text}");
+        same_in(&rt, is_read_as(rt.alloc(), text, *wanted)?, true, text);
     }
     Ok(())
 }

@@ -1,9 +1,10 @@
 // Marks of a few names: what rt_marks alone tells. Their order and their places are told by scripts (rt_tests_script).
-use crate::checks::{same, same_in};
+use crate::checks::same;
 use rt_marks::place::{place_inserted, place_removed};
 use rt_marks::{Gravity, Marks, Spot};
 use rt_stamps::Fault;
 use std::alloc::Global;
+use std::process::Abort;
 use std::test::Fail;
 
 /// Marks.
@@ -46,31 +47,41 @@ const ABOUT: &[Row] = &[
     (4, Gravity::Left, "", None, Some("c")),
 ];
 
+fn name_of(mark: Option<Spot<'_>>) -> Option<&str> {
+    match mark {
+        Some(spot) => Some(spot.name),
+        None => None,
+    }
+}
+
+// Stops a test where other marks stand about a spot.
+fn stand_about(rt: &impl Abort, marks: &Marks, row: &Row) {
+    let (place, gravity, name, after, before) = *row;
+    let here = Spot {
+        place,
+        gravity,
+        name,
+    };
+    same(rt, (name, name_of(marks.first_after(&here))), (name, after));
+    same(rt, (name, name_of(marks.last_until(&here))), (name, before));
+}
+
 #[test]
 fn about_a_spot(rt: HostRuntime) -> Result<(), Fail> {
     let names = three(rt.alloc())?;
-    for (place, gravity, name, after, before) in ABOUT {
-        let here = Spot {
-            place: *place,
-            gravity: *gravity,
-            name,
-        };
-        let found = names.marks.first_after(&here).map(|mark| mark.name);
-        same_in(&rt, found, *after, name);
-        let found = names.marks.last_until(&here).map(|mark| mark.name);
-        same_in(&rt, found, *before, name);
+    for row in ABOUT {
+        stand_about(&rt, &names.marks, row);
     }
+    no_marks(&rt, &names.marks);
     Ok(())
 }
 
-// No mark of a name.
-#[test]
-fn unknown_names(rt: HostRuntime) -> Result<(), Fail> {
-    let names = three(rt.alloc())?;
-    let marks = &names.marks;
-    assert!(rt; marks.find("q").is_none() && marks.next("q").is_none());
-    assert!(rt; marks.previous("z").is_none() && marks.next("c").is_none());
-    Ok(())
+// No mark of a name, none before the first one, and none after the last one.
+fn no_marks(rt: &impl Abort, marks: &Marks) {
+    same(rt, marks.find("q").is_none(), true);
+    same(rt, marks.next("q").is_none(), true);
+    same(rt, marks.previous("z").is_none(), true);
+    same(rt, marks.next("c").is_none(), true);
 }
 
 // A place that isn't a mark's moves by the same rule.

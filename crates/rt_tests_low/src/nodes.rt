@@ -48,31 +48,31 @@ fn listed(alloc: Global) -> Result<(usize, bool, bool, bool), Fault> {
     Ok((nodes, moved, inserted, changed))
 }
 
-#[test]
-fn the_listed_example(rt: HostRuntime) -> Result<(), Fault> {
-    let (nodes, moved, inserted, changed) = listed(rt.alloc())?;
-    same(&rt, nodes, 2);
-    assert!(rt; moved);
-    assert!(rt; inserted);
-    assert!(rt; changed);
-    Ok(())
-}
-
-// Blocks of no bytes.
-#[test]
-fn entries_of_no_bytes_and_nodes_of_no_room(rt: HostRuntime) -> Result<(), Fault> {
-    let mut small: NodeMem<char, (), 3> = NodeMem::new(rt.alloc());
+// How many entries of no bytes two nodes have.
+fn entries_of_no_bytes(alloc: Global) -> Result<(usize, usize), Fault> {
+    let mut small: NodeMem<char, (), 3> = NodeMem::new(alloc);
     small.reserve(2)?;
     let a = small.make('a');
     let b = small.make('b');
     small.insert_at(a, 0, ());
     small.insert_at(a, 1, ());
     small.move_tail(a, 1, b);
-    assert!(rt; small.len(a) == 1 && small.len(b) == 1);
-    let mut heads: NodeMem<char, char, 0> = NodeMem::new(rt.alloc());
+    Ok((small.len(a), small.len(b)))
+}
+
+// The header of a node of no room, and how many entries it has.
+fn node_of_no_room(alloc: Global) -> Result<(char, usize), Fault> {
+    let mut heads: NodeMem<char, char, 0> = NodeMem::new(alloc);
     heads.reserve(1)?;
     let c = heads.make('c');
-    assert!(rt; *heads.head(c) == 'c' && heads.len(c) == 0);
+    Ok((*heads.head(c), heads.len(c)))
+}
+
+#[test]
+fn the_examples(rt: HostRuntime) -> Result<(), Fault> {
+    same(&rt, listed(rt.alloc())?, (2, true, true, true));
+    same(&rt, entries_of_no_bytes(rt.alloc())?, (1, 1));
+    same(&rt, node_of_no_room(rt.alloc())?, ('c', 0));
     Ok(())
 }
 
@@ -108,14 +108,10 @@ fn drops_headers_and_entries_once(rt: HostRuntime) -> Result<(), Fault> {
     let header = Rc::new(rt.alloc(), 0)?;
     let entry = Rc::new(rt.alloc(), 0)?;
     let mut mem: NodeMem<Rc<u32>, Rc<u32>, 4> = NodeMem::new(rt.alloc());
-    let (filled, changed) = counts_in(&mut mem, &header, &entry, rt.alloc())?;
+    let found = counts_in(&mut mem, &header, &entry, rt.alloc())?;
     drop(mem);
-    same(&rt, filled.0, 3);
-    same(&rt, filled.1, 4);
-    same(&rt, changed.0, 2);
-    same(&rt, changed.1, 3);
-    same(&rt, Rc::strong_count(&header), 1);
-    same(&rt, Rc::strong_count(&entry), 1);
+    same(&rt, found, ((3, 4), (2, 3)));
+    same(&rt, counts(&header, &entry), (1, 1));
     Ok(())
 }
 
@@ -235,7 +231,7 @@ impl Both {
         }
         if self.mem.len(b) + (long - kept) <= 4 {
             self.mem.move_tail(a, kept, b);
-            return move_in(self.alloc, &mut self.nodes, a, kept, b);
+            return move_in(&mut self.nodes, a, kept, b);
         }
         Ok(())
     }
@@ -319,20 +315,14 @@ fn insert_in(nodes: &mut [Node], a: NodeId, place: usize, value: u64) -> Result<
 }
 
 // Moves the entries of a node from a place on to another one.
-fn move_in(
-    alloc: Global,
-    nodes: &mut [Node],
-    a: NodeId,
-    kept: usize,
-    b: NodeId,
-) -> Result<(), Fault> {
-    let mut tail = Vec::new(alloc);
-    if let Some(node) = nodes.get_mut(a.index as usize) {
-        for entry in node.entries.iter().skip(kept) {
-            tail.push(*entry)?;
-        }
-        node.entries.truncate(kept);
+fn move_in(nodes: &mut [Node], a: NodeId, kept: usize, b: NodeId) -> Result<(), Fault> {
+    let Some(node) = nodes.get_mut(a.index as usize) else {
+        return Ok(());
+    };
+    if kept > node.entries.len() {
+        return Ok(());
     }
+    let mut tail = node.entries.split_off(kept)?;
     if let Some(node) = nodes.get_mut(b.index as usize) {
         node.entries.append(&mut tail)?;
     }
@@ -345,7 +335,7 @@ fn random_calls(rt: HostRuntime) -> Result<(), Fault> {
     let mut dice = Dice { state: 1 };
     for i in 0..5000 {
         both.call(&mut dice)?;
-        assert!(rt; both.is_same(), "at {i}");
+        same(&rt, (i, both.is_same()), (i, true));
     }
     Ok(())
 }

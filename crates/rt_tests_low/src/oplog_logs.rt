@@ -97,11 +97,11 @@ impl Log {
         ops: &[One],
         known: (u64, u64),
     ) -> Result<(), Fail> {
-        same(rt, self.log.len(), ops.len());
-        same(rt, self.log.in_order()?.len(), ops.len());
+        let lens = (self.log.len(), self.log.in_order()?.len());
+        same(rt, lens, (ops.len(), ops.len()));
         same(rt, (self.log.known(1), self.log.known(2)), known);
         for (place, one) in ops.iter().enumerate() {
-            assert!(rt; self.has(alloc, place, *one)?, "at {place}");
+            same(rt, (place, self.has(alloc, place, *one)?), (place, true));
         }
         Ok(())
     }
@@ -115,9 +115,10 @@ const BOTH: &[One] = &[One::Ab, One::Y];
 
 const ALL: &[One] = &[One::Ab, One::Y, One::C];
 
-// Operations that are pushed in turn, each with its fault, the log then, and the counts that it knows
-// of the sites 1 and 2.
-const PUSHED: [(&[(One, Option<Fault>)], &[One], (u64, u64)); 4] = [
+/// Operations that are pushed in turn, each with its fault, the log then, and the counts that it knows of the sites 1 and 2.
+type Pushed = (&'static [(One, Option<Fault>)], &'static [One], (u64, u64));
+
+const PUSHED: &[Pushed] = &[
     (
         &[(One::Y, None), (One::Ab, None), (One::Ab, None)],
         BOTH,
@@ -141,89 +142,124 @@ const PUSHED: [(&[(One, Option<Fault>)], &[One], (u64, u64)); 4] = [
     ),
 ];
 
+// Pushes operations on a new log.
+fn push_all(rt: &impl Abort, alloc: Global, row: &Pushed) -> Result<(), Fail> {
+    let (pushes, ops, known) = *row;
+    let mut log = Log::of(alloc, &[])?;
+    log.log.reserve(2)?;
+    for (one, fault) in pushes {
+        same(rt, log.push(alloc, *one).err(), *fault);
+    }
+    log.is(rt, alloc, ops, known)
+}
+
 #[test]
 fn takes_operations_in_turn(rt: HostRuntime) -> Result<(), Fail> {
     let alloc = rt.alloc();
     same(&rt, op(alloc, One::Own)?.check(), Err(Fault::BadStamp));
-    for (pushes, ops, known) in PUSHED {
-        let mut log = Log::of(alloc, &[])?;
-        log.log.reserve(2)?;
-        for (one, fault) in pushes {
-            same(&rt, log.push(alloc, *one).err(), *fault);
-        }
-        log.is(&rt, alloc, ops, known)?;
+    for row in PUSHED {
+        push_all(&rt, alloc, row)?;
     }
     Ok(())
 }
 
-/// The log of operations at once, or the fault of the first that is refused, and its place.
-fn made(alloc: Global, ops: &[One]) -> Result<Result<Log, (Fault, usize)>, Fault> {
+/// Operations that are taken at once, the fault of the first that is refused, and its place, the log of those that none
+/// refuses, and the counts that it knows of the sites 1 and 2.
+type Made = (
+    &'static [One],
+    Option<(Fault, usize)>,
+    &'static [One],
+    (u64, u64),
+);
+
+const MADE: &[Made] = &[
+    (&[One::Y, One::Ab, One::Ab, One::C], None, ALL, (4, 3)),
+    (&[], None, &[], (0, 0)),
+    (
+        &[One::Y, One::Ab, One::B, One::C],
+        Some((Fault::Conflict, 2)),
+        &[],
+        (0, 0),
+    ),
+    (
+        &[One::Own, One::Ab, One::B],
+        Some((Fault::BadStamp, 0)),
+        &[],
+        (0, 0),
+    ),
+];
+
+// The log of operations at once, or an empty one with the fault of the first that is refused, and its place.
+fn made(alloc: Global, ops: &[One]) -> Result<(Log, Option<(Fault, usize)>), Fault> {
     let mut all = Vec::new(alloc);
     for one in ops {
         all.push(op(alloc, *one)?)?;
     }
-    Ok(match OpLog::from_ops(alloc, all) {
-        Ok(log) => Ok(Log { log }),
-        Err(refused) => Err((refused.fault, refused.place)),
-    })
+    match OpLog::from_ops(alloc, all) {
+        Ok(log) => Ok((Log { log }, None)),
+        Err(refused) => Ok((Log::of(alloc, &[])?, Some((refused.fault, refused.place)))),
+    }
 }
 
 #[test]
-fn takes_operations_as_they_stand(rt: HostRuntime) -> Result<(), Fail> {
-    let alloc = rt.alloc();
-    let taken: [(&[One], &[One], (u64, u64)); 2] = [
-        (&[One::Y, One::Ab, One::Ab, One::C], ALL, (4, 3)),
-        (&[], &[], (0, 0)),
-    ];
-    for (given, ops, known) in taken {
-        match made(alloc, given)? {
-            Ok(log) => log.is(&rt, alloc, ops, known)?,
-            Err(_) => assert!(rt; false, "refused"),
+fn takes_operations_at_once(rt: HostRuntime) -> Result<(), Fail> {
+    for (given, why, ops, known) in MADE {
+        let (log, refused) = made(rt.alloc(), *given)?;
+        same(&rt, refused, *why);
+        log.is(&rt, rt.alloc(), *ops, *known)?;
+    }
+    Ok(())
+}
+
+/// Two logs, why they aren't joined, and else their join, and the counts that it knows of the sites 1 and 2.
+type Joined = (
+    &'static [One],
+    &'static [One],
+    Option<Fault>,
+    &'static [One],
+    (u64, u64),
+);
+
+const JOINED: &[Joined] = &[
+    (AB, Y, None, BOTH, (2, 3)),
+    (Y, AB, None, BOTH, (2, 3)),
+    (BOTH, BOTH, None, BOTH, (2, 3)),
+    (&[], &[], None, &[], (0, 0)),
+    (
+        &[One::Y, One::Ab],
+        &[One::B],
+        Some(Fault::Conflict),
+        &[],
+        (0, 0),
+    ),
+    (AB, &[One::Z], Some(Fault::Conflict), &[], (0, 0)),
+];
+
+fn join_all(rt: &impl Abort, alloc: Global, row: &Joined) -> Result<(), Fail> {
+    let (one, other, why, ops, known) = *row;
+    match Log::of(alloc, one)?.joined(Log::of(alloc, other)?) {
+        Ok(log) => {
+            same(rt, None, why);
+            log.is(rt, alloc, ops, known)
+        }
+        Err(fault) => {
+            same(rt, Some(fault), why);
+            Ok(())
         }
     }
-    Ok(())
 }
 
-#[test]
-fn refuses_operations_that_have_no_log(rt: HostRuntime) -> Result<(), Fail> {
-    let alloc = rt.alloc();
-    let refused: [(&[One], (Fault, usize)); 2] = [
-        (&[One::Y, One::Ab, One::B, One::C], (Fault::Conflict, 2)),
-        (&[One::Own, One::Ab, One::B], (Fault::BadStamp, 0)),
-    ];
-    for (given, why) in refused {
-        same(&rt, made(alloc, given)?.err(), Some(why));
-    }
-    Ok(())
+// A join takes further operations.
+fn join_goes_on(rt: &impl Abort, alloc: Global) -> Result<(), Fail> {
+    let mut log = Log::of(alloc, AB)?.joined(Log::of(alloc, Y)?)?;
+    log.push(alloc, One::C)?;
+    log.is(rt, alloc, ALL, (4, 3))
 }
-
-// Two logs, their join, and the counts that it knows of the sites 1 and 2.
-const JOINED: [(&[One], &[One], &[One], (u64, u64)); 4] = [
-    (AB, Y, BOTH, (2, 3)),
-    (Y, AB, BOTH, (2, 3)),
-    (BOTH, BOTH, BOTH, (2, 3)),
-    (&[], &[], &[], (0, 0)),
-];
 
 #[test]
 fn joins(rt: HostRuntime) -> Result<(), Fail> {
-    let alloc = rt.alloc();
-    for (one, other, ops, known) in JOINED {
-        let log = Log::of(alloc, one)?.joined(Log::of(alloc, other)?)?;
-        log.is(&rt, alloc, ops, known)?;
+    for row in JOINED {
+        join_all(&rt, rt.alloc(), row)?;
     }
-    let mut log = Log::of(alloc, AB)?.joined(Log::of(alloc, Y)?)?;
-    log.push(alloc, One::C)?;
-    log.is(&rt, alloc, ALL, (4, 3))
-}
-
-#[test]
-fn joins_no_clash(rt: HostRuntime) -> Result<(), Fail> {
-    let alloc = rt.alloc();
-    let clashes: [(&[One], &[One]); 2] = [(&[One::Y, One::Ab], &[One::B]), (AB, &[One::Z])];
-    for (one, other) in clashes {
-        let joined = Log::of(alloc, one)?.joined(Log::of(alloc, other)?);
-        same(&rt, joined.err(), Some(Fault::Conflict));
-    }
-    Ok(())
+    join_goes_on(&rt, rt.alloc())
 }

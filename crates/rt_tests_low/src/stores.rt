@@ -1,10 +1,11 @@
-// One text in two stores, by the calls that every store has.
+// One text in two stores, a list and a tree, by the calls that every store has.
 ghost use Rattle.std.specs.Prelude.{◌≡◌, false};
 ghost use Rattle.rt_store.specs.ListStore.{cells_of};
 ghost use Rattle.rt_store.specs.Tagged.{AreStates};
 ghost use Rattle.rt_tags.specs.States.{IsState, IsTag};
 ghost use Rattle.rt_tree.specs.Stores.{AgreesWith};
 
+use crate::checks::same;
 use rt_stamps::{Fault, ROOT, Span, Stamp};
 use rt_store::{Cell, ListStore, TextStore};
 use rt_tags::{StateId, StateTable, TagId};
@@ -13,7 +14,7 @@ use std::alloc::Global;
 use std::test::Fail;
 
 // Puts cells in at a place that a number gives. A call that is out of bounds answers `NoMemory`.
-pub(crate) fn put<S: TextStore>(
+fn put<S: TextStore>(
     store: &mut S,
     states: &StateTable,
     random: usize,
@@ -33,11 +34,7 @@ pub(crate) fn put<S: TextStore>(
 }
 
 // Makes the cells of a span gone.
-pub(crate) fn remove<S: TextStore>(
-    store: &mut S,
-    states: &StateTable,
-    span: Span,
-) -> Result<(), Fault>
+fn remove<S: TextStore>(store: &mut S, states: &StateTable, span: Span) -> Result<(), Fault>
     requires given { S.agrees store.old states.now }
     ensures { S.agrees store.new states.now }
 {
@@ -50,7 +47,7 @@ pub(crate) fn remove<S: TextStore>(
 }
 
 // Puts the cells of a span in a state.
-pub(crate) fn mark<S: TextStore>(
+fn mark<S: TextStore>(
     store: &mut S,
     states: &StateTable,
     span: Span,
@@ -68,22 +65,33 @@ pub(crate) fn mark<S: TextStore>(
     Ok(())
 }
 
-// Whether two stores have the same cells, and find the same by stamps.
+// Whether two stores have the same cells.
 fn same_cells<A: TextStore, B: TextStore>(a: &A, b: &B) -> bool {
     let cells = a.cells();
     if b.cells() != cells || b.visible() != a.visible() || b.lines() != a.lines() {
         return false;
     }
     for at in 0..cells {
-        let cell = a.nth(at);
-        if b.nth(at) != cell
-            || a.cell_of(cell.stamp) != b.cell_of(cell.stamp)
-            || a.place_of(cell.stamp) != b.place_of(cell.stamp)
-        {
+        if b.nth(at) != a.nth(at) {
             return false;
         }
     }
     true
+}
+
+// Whether two stores find the same by a stamp.
+fn same_at<A: TextStore, B: TextStore>(a: &A, b: &B, stamp: Stamp) -> bool {
+    b.cell_of(stamp) == a.cell_of(stamp) && b.place_of(stamp) == a.place_of(stamp)
+}
+
+// Whether two stores find the same by the stamps of cells, and by one of no cell.
+fn same_stamps<A: TextStore, B: TextStore>(a: &A, b: &B) -> bool {
+    for at in 0..a.cells() {
+        if !same_at(a, b, a.nth(at).stamp) {
+            return false;
+        }
+    }
+    same_at(a, b, ROOT)
 }
 
 // Whether two stores find the same places of a tag.
@@ -115,8 +123,8 @@ fn cell(count: u64, site: u16, ch: char, state: StateId) -> Cell<StateId>
     }
 }
 
-// Both stores, and the table of their states.
-struct Pair {
+/// Both stores, and the table of their states. A call that is out of bounds answers `NoMemory`.
+pub(crate) struct Pair {
     states: StateTable,
     tag: TagId,
     tagged: StateId,
@@ -143,7 +151,7 @@ impl Drop for Pair {
 
 impl Pair {
     #[tactic(auto, using(rt_store::proofs::GivenStates::one_state))]
-    fn new(alloc: Global) -> Result<Pair, Fault> {
+    pub(crate) fn new(alloc: Global) -> Result<Pair, Fault> {
         let mut states = StateTable::new(alloc)?;
         let tag = states.number("t")?;
         let tagged = states.with(StateId::EMPTY, tag, ROOT, true)?;
@@ -167,11 +175,42 @@ impl Pair {
         put(&mut self.tree, &self.states, random, cells)
     }
 
-    // A new cell.
+    // A new cell with the tag.
     #[tactic(auto, using(rt_store::proofs::GivenStates::one_state))]
     fn one(&mut self, random: usize, count: u64, site: u16, ch: char) -> Result<(), Fault> {
         let new = cell(count, site, ch, self.tagged);
         self.put(random, &[new])
+    }
+
+    /// A new cell without tags.
+    #[tactic(auto, using(rt_store::proofs::GivenStates::one_state))]
+    pub(crate) fn plain(
+        &mut self,
+        at: usize,
+        count: u64,
+        site: u16,
+        ch: char,
+    ) -> Result<(), Fault> {
+        let new = cell(count, site, ch, StateId::EMPTY);
+        self.put(at, &[new])
+    }
+
+    /// Three new cells of one site without tags.
+    pub(crate) fn paste(
+        &mut self,
+        at: usize,
+        count: u64,
+        site: u16,
+        text: [char; 3],
+    ) -> Result<(), Fault> {
+        if count > 1_000_000 {
+            return Err(Fault::NoMemory);
+        }
+        let [a, b, c] = text;
+        let a = cell(count, site, a, StateId::EMPTY);
+        let b = cell(count + 1, site, b, StateId::EMPTY);
+        let c = cell(count + 2, site, c, StateId::EMPTY);
+        self.put(at, &[a, b, c])
     }
 
     // Some new cells, of counts that follow one another.
@@ -200,29 +239,79 @@ impl Pair {
         self.put(random, &[a, b, c, d])
     }
 
-    fn remove(&mut self, span: Span) -> Result<(), Fault> {
+    /// The cells of a span become gone.
+    pub(crate) fn remove(&mut self, span: Span) -> Result<(), Fault> {
         remove(&mut self.list, &self.states, span)?;
         remove(&mut self.tree, &self.states, span)
     }
 
-    fn mark(&mut self, span: Span, on: bool) -> Result<(), Fault> {
+    /// The cells of a span get the tag, or lose it.
+    pub(crate) fn mark(&mut self, span: Span, on: bool) -> Result<(), Fault> {
         let state = if on { self.tagged } else { StateId::EMPTY };
         mark(&mut self.list, &self.states, span, state)?;
         mark(&mut self.tree, &self.states, span, state)
     }
 
-    fn is_same(&self) -> bool {
+    /// Whether both have the same cells.
+    pub(crate) fn has_same_cells(&self) -> bool {
         same_cells(&self.list, &self.tree)
+    }
+
+    /// Whether both have the same cells, and find the same by stamps and by the tag.
+    pub(crate) fn is_same(&self) -> bool {
+        self.has_same_cells()
+            && same_stamps(&self.list, &self.tree)
             && same_tags(&self.list, &self.tree, &self.states, self.tag)
     }
 
-    // Whether a search by looks finds the same tagged place as the list.
-    fn is_found(&self, place: usize) -> bool {
+    /// Whether both put the same characters into a buffer from each of the first places on, and leave the rest of it.
+    pub(crate) fn same_characters(&self) -> bool {
+        for place in 0..5 {
+            let mut ours = ['-'; 4];
+            let mut theirs = ['-'; 4];
+            let count = self.tree.characters(place, &mut ours);
+            if count != self.list.characters(place, &mut theirs) || ours != theirs {
+                return false;
+            }
+        }
+        true
+    }
+
+    /// Whether both put a new stamp's cell at the same position, at the very beginning of the text.
+    pub(crate) fn same_skip(&self, new: Stamp) -> bool {
+        if self.tree.cells() == 0 || self.list.cells() == 0 || new.count < 2 {
+            return false;
+        }
+        self.tree.after_skip(ROOT, new) == self.list.after_skip(ROOT, new)
+    }
+
+    /// The next tagged place of the tree, and how many looks more a counter has then.
+    pub(crate) fn search(&self, place: usize, before: u32) -> (Option<usize>, u64) {
         let tree = self.tree.tree();
         tree.height();
-        let mut looks = 0;
-        tree.find_tagged(&self.states, self.tag, place, &mut looks)
-            == self.list.next_tagged(&self.states, self.tag, place)
+        let mut looks = before as u64;
+        let found = tree.find_tagged(&self.states, self.tag, place, &mut looks);
+        (found, looks.saturating_sub(before as u64))
+    }
+
+    /// The next tagged place of the list.
+    pub(crate) fn next_tagged(&self, place: usize) -> Option<usize> {
+        self.list.next_tagged(&self.states, self.tag, place)
+    }
+
+    /// How many runs the tree has, and how many levels.
+    pub(crate) fn shape(&self) -> (usize, usize) {
+        let tree = self.tree.tree();
+        (tree.runs(), tree.height())
+    }
+
+    /// How many cells there are, and the stamp of one of them.
+    pub(crate) fn some_stamp(&self, random: usize) -> (usize, Stamp) {
+        let cells = self.tree.cells();
+        if cells == 0 {
+            return (0, ROOT);
+        }
+        (cells, self.tree.nth(random % cells).stamp)
     }
 
     // One call that a number gives. Stamps are few, so that many stand twice.
@@ -242,6 +331,15 @@ impl Pair {
     }
 }
 
+/// 300 runs of one character of site 1 each, on several levels: they come in at the beginning, from a last count down.
+pub(crate) fn many_runs(alloc: Global, last: u64) -> Result<Pair, Fault> {
+    let mut pair = Pair::new(alloc)?;
+    for round in 0..300 {
+        pair.plain(0, last.saturating_sub(round), 1, 'a')?;
+    }
+    Ok(pair)
+}
+
 // A series of pseudo-random calls: after each, both stores have the same cells and give the same answers.
 #[test]
 fn a_series_of_calls(rt: HostRuntime) -> Result<(), Fail> {
@@ -255,7 +353,7 @@ fn a_series_of_calls(rt: HostRuntime) -> Result<(), Fail> {
         assert!(rt; pair.is_same());
     }
     for place in 0..40 {
-        assert!(rt; pair.is_found(place));
+        same(&rt, pair.search(place, 0).0, pair.next_tagged(place));
     }
     Ok(())
 }

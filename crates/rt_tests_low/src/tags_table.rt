@@ -41,52 +41,45 @@ fn make(table: &mut TagTable, call: Call) -> Result<(), Fault> {
     }
 }
 
-// Calls on a new table, each with the names that are listed after it, lowest priority first.
-const CALLS: [(Call, &[&str]); 15] = [
-    (Call::Ensure("t"), &["sel", "t"]),
-    (Call::Ensure("u"), &["sel", "t", "u"]),
-    (Call::Lower("u", None), &["u", "sel", "t"]),
-    (Call::Raise("u", Some("sel")), &["sel", "u", "t"]),
-    (Call::Prepare("v"), &["sel", "u", "t"]),
-    (Call::Ensure("u"), &["sel", "u", "t"]),
-    (Call::Ensure("v"), &["sel", "u", "t", "v"]),
-    (Call::Lower("v", Some("u")), &["sel", "v", "u", "t"]),
-    (Call::Raise("v", Some("v")), &["sel", "v", "u", "t"]),
-    (Call::Raise("sel", None), &["v", "u", "t", "sel"]),
-    (Call::Forget("u"), &["v", "t", "sel"]),
-    (Call::Forget("sel"), &["v", "t", "sel"]),
-    (Call::Ensure("w"), &["v", "t", "sel", "w"]),
-    (Call::Ensure("u"), &["v", "t", "sel", "w", "u"]),
-    (Call::Forget("u"), &["v", "t", "sel", "w"]),
+/// A call, what is answered, and the names that are listed after it, lowest priority first.
+type Row = (Call, Result<(), Fault>, &'static [&'static str]);
+
+// Calls on a new table: those that it refuses, and others.
+const CALLS: &[Row] = &[
+    (Call::Ensure(""), Err(Fault::BadName), &["sel"]),
+    (Call::Prepare(""), Err(Fault::BadName), &["sel"]),
+    (Call::Raise("a", None), Err(Fault::NoTag), &["sel"]),
+    (Call::Raise("sel", Some("a")), Err(Fault::NoTag), &["sel"]),
+    (Call::Lower("a", None), Err(Fault::NoTag), &["sel"]),
+    (Call::Lower("sel", Some("a")), Err(Fault::NoTag), &["sel"]),
+    (Call::Ensure("t"), Ok(()), &["sel", "t"]),
+    (Call::Ensure("u"), Ok(()), &["sel", "t", "u"]),
+    (Call::Lower("u", None), Ok(()), &["u", "sel", "t"]),
+    (Call::Raise("u", Some("sel")), Ok(()), &["sel", "u", "t"]),
+    (Call::Prepare("v"), Ok(()), &["sel", "u", "t"]),
+    (Call::Ensure("u"), Ok(()), &["sel", "u", "t"]),
+    (Call::Ensure("v"), Ok(()), &["sel", "u", "t", "v"]),
+    (Call::Lower("v", Some("u")), Ok(()), &["sel", "v", "u", "t"]),
+    (Call::Raise("v", Some("v")), Ok(()), &["sel", "v", "u", "t"]),
+    (Call::Raise("sel", None), Ok(()), &["v", "u", "t", "sel"]),
+    (Call::Forget("u"), Ok(()), &["v", "t", "sel"]),
+    (Call::Forget("sel"), Ok(()), &["v", "t", "sel"]),
+    (Call::Ensure("w"), Ok(()), &["v", "t", "sel", "w"]),
+    (Call::Ensure("u"), Ok(()), &["v", "t", "sel", "w", "u"]),
+    (Call::Forget("u"), Ok(()), &["v", "t", "sel", "w"]),
 ];
 
 #[test]
 fn priorities(rt: HostRuntime) -> Result<(), Fail> {
     let mut table = TagTable::new(rt.alloc())?;
-    for (call, wanted) in CALLS {
-        make(&mut table, call)?;
-        assert!(rt; lists(&table, wanted)?);
+    for (call, answer, wanted) in CALLS {
+        let answered = make(&mut table, *call);
+        same(
+            &rt,
+            (*wanted, answered, lists(&table, *wanted)?),
+            (*wanted, *answer, true),
+        );
     }
-    assert!(rt; !table.has("u"));
-    Ok(())
-}
-
-// Calls that a new table refuses.
-const REFUSED: [(Call, Fault); 6] = [
-    (Call::Ensure(""), Fault::BadName),
-    (Call::Prepare(""), Fault::BadName),
-    (Call::Raise("a", None), Fault::NoTag),
-    (Call::Raise("sel", Some("a")), Fault::NoTag),
-    (Call::Lower("a", None), Fault::NoTag),
-    (Call::Lower("sel", Some("a")), Fault::NoTag),
-];
-
-#[test]
-fn refusals(rt: HostRuntime) -> Result<(), Fail> {
-    let mut table = TagTable::new(rt.alloc())?;
-    for (call, fault) in REFUSED {
-        same(&rt, make(&mut table, call), Err(fault));
-        assert!(rt; lists(&table, &["sel"])?);
-    }
+    same(&rt, table.has("u"), false);
     Ok(())
 }

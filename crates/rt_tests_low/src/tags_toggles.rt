@@ -2,7 +2,7 @@
 ghost use Rattle.std.specs.Prelude.{ℕ, ◌<◌, ◌≤◌};
 ghost use Rattle.rt_tags.specs.Toggles.{count_of};
 
-use crate::checks::{same, same_len};
+use crate::checks::same;
 use rt_stamps::Fault;
 use rt_tags::{StateTable, TagCount, TagId, Toggles};
 use std::alloc::Global;
@@ -10,11 +10,20 @@ use std::process::Abort;
 use std::test::Fail;
 
 // Toggles, and beside them how many each tag has.
-#[derive(Drop)]
 struct Both {
     toggles: Toggles,
     plain: Vec<(TagId, u32)>,
     ghost few: { (tag : ℕ) → count_of tag toggles ≤ 1000 },
+}
+
+// Written out, so that each way out of a test lets both go in one step of its proof.
+impl Drop for Both {
+    fn drop(self) {
+        let Both {
+            toggles: _,
+            plain: _,
+        } = self;
+    }
 }
 
 impl Both {
@@ -35,17 +44,13 @@ impl Both {
         for (tag, count) in &self.plain {
             same(rt, self.toggles.of(*tag), *count);
             if *count > 0 {
-                let counts = self.toggles.counts();
-                assert!(rt; place < counts.len());
-                same(
-                    rt,
-                    counts[place],
-                    TagCount {
-                        tag: *tag,
-                        count: *count,
-                    },
-                );
-                place += 1;
+                let found = self.toggles.counts().get(place).copied();
+                let wanted = TagCount {
+                    tag: *tag,
+                    count: *count,
+                };
+                same(rt, found, Some(wanted));
+                place = place.saturating_add(1);
             }
         }
         same(rt, self.toggles.counts().len(), place);
@@ -122,71 +127,89 @@ fn below(seed: &mut u64, limit: u64) -> u64
     (*seed >> 33) % limit
 }
 
-// Toggles of two tags, with room that is made once.
-fn filled(rt: &impl Abort, alloc: Global, low: TagId, high: TagId) -> Result<Toggles, Fail> {
-    let mut toggles = Toggles::new(alloc);
-    assert!(rt; toggles.is_empty());
-    toggles.reserve(2)?;
-    toggles.add(high, 5);
-    toggles.add(low, 1);
-    same_len(rt, toggles.counts().len(), 2);
-    same(rt, toggles.counts()[0], TagCount { tag: low, count: 1 });
-    let second = TagCount {
-        tag: high,
-        count: 5,
-    };
-    same(rt, toggles.counts()[1], second);
-    Ok(toggles)
+/// A call on toggles.
+#[derive(Clone, Copy)]
+enum Call {
+    Clear,
+    /// The toggles of others are added, and taken off again.
+    Trade,
+    Add(u32),
+    Take(u32),
 }
 
-// Toggles are taken, where a tag has so many.
-fn take_some(toggles: &mut Toggles, tag: TagId, n: u32) {
-    if toggles.of(tag) >= n {
-        toggles.take(tag, n);
+impl Both {
+    // A call on the tag of a place; both say the same then.
+    fn call(
+        &mut self,
+        rt: &impl Abort,
+        others: &Both,
+        place: usize,
+        call: Call,
+    ) -> Result<(), Fail> {
+        match call {
+            Call::Clear => self.clear(),
+            Call::Trade => self.add_and_take(rt, others)?,
+            Call::Add(n) => self.add(rt, place, n)?,
+            Call::Take(n) => self.take(rt, place, n),
+        }
+        self.compare(rt);
+        Ok(())
     }
 }
 
-// One call after the other.
-#[test]
-fn each_call(rt: HostRuntime) -> Result<(), Fail> {
-    let tags = six(rt.alloc())?;
-    same_len(&rt, tags.len(), 6);
-    let (low, high) = (tags[1], tags[4]);
-    let mut toggles = filled(&rt, rt.alloc(), low, high)?;
-    same(&rt, toggles.of(high), 5);
-    same(&rt, toggles.of(tags[2]), 0);
-    assert!(rt; !toggles.is_empty());
-    take_some(&mut toggles, high, 2);
-    same(&rt, toggles.of(high), 3);
-    take_some(&mut toggles, low, 1);
-    same(&rt, toggles.of(low), 0);
-    same(&rt, toggles.counts().len(), 1);
-    toggles.clear();
-    assert!(rt; toggles.is_empty());
+// Each call, on toggles of two tags.
+const EACH_CALL: &[(usize, Call)] = &[
+    (4, Call::Add(5)),
+    (1, Call::Add(1)),
+    (4, Call::Take(2)),
+    (2, Call::Take(0)),
+    (1, Call::Take(1)),
+    (0, Call::Trade),
+    (0, Call::Clear),
+];
+
+fn each_call(rt: &impl Abort, some: &mut Both, others: &Both) -> Result<(), Fail> {
+    some.compare(rt);
+    for (place, call) in EACH_CALL {
+        some.call(rt, others, *place, *call)?;
+    }
     Ok(())
 }
 
-#[test]
-fn random_calls(rt: HostRuntime) -> Result<(), Fail> {
-    let tags = six(rt.alloc())?;
-    let mut some = Both::new(rt.alloc(), &tags)?;
-    let mut others = Both::new(rt.alloc(), &tags)?;
+fn random_call(seed: &mut u64) -> Call {
+    let n = below(seed, 5) as u32;
+    match below(seed, 20) {
+        0 => Call::Clear,
+        1..=5 => Call::Trade,
+        6..=12 => Call::Add(n),
+        _ => Call::Take(n),
+    }
+}
+
+// A call that looks random.
+fn turn(rt: &impl Abort, one: &mut Both, other: &Both, seed: &mut u64) -> Result<(), Fail> {
+    let place = below(seed, 6) as usize;
+    one.call(rt, other, place, random_call(seed))
+}
+
+fn random_calls(rt: &impl Abort, some: &mut Both, others: &mut Both) -> Result<(), Fail> {
     let mut seed = 11;
     for _ in 0..1500 {
-        let place = below(&mut seed, 6) as usize;
-        let n = below(&mut seed, 5) as u32;
-        match below(&mut seed, 40) {
-            0 => some.clear(),
-            1 => others.clear(),
-            2..=7 => some.add_and_take(&rt, &others)?,
-            8..=11 => others.add_and_take(&rt, &some)?,
-            12..=18 => some.add(&rt, place, n)?,
-            19..=25 => others.add(&rt, place, n)?,
-            26..=32 => some.take(&rt, place, n),
-            _ => others.take(&rt, place, n),
-        }
-        some.compare(&rt);
-        others.compare(&rt);
+        turn(rt, some, others, &mut seed)?;
+        turn(rt, others, some, &mut seed)?;
     }
     Ok(())
+}
+
+fn calls(rt: &impl Abort, alloc: Global, tags: &[TagId]) -> Result<(), Fail> {
+    let mut some = Both::new(alloc, tags)?;
+    let mut others = Both::new(alloc, tags)?;
+    each_call(rt, &mut some, &others)?;
+    random_calls(rt, &mut some, &mut others)
+}
+
+#[test]
+fn toggles_of_tags(rt: HostRuntime) -> Result<(), Fail> {
+    let tags = six(rt.alloc())?;
+    calls(&rt, rt.alloc(), &tags)
 }

@@ -1,4 +1,4 @@
-// Each call that takes memory, with ample memory.
+// The spans of an action. What is undone and redone, and the modified flag, are told by scripts (rt_tests_script).
 ghost use Rattle.std.specs.Prelude.{◌≡◌, false, true, is_some};
 ghost use Rattle.rt_stamps.specs.declared.stamp.Stamp.{Stamp};
 ghost use Rattle.rt_undo.specs.Renames.{is_moved};
@@ -6,10 +6,8 @@ ghost use Rattle.rt_undo.specs.Undo.{added, next_redo, next_undo, no_history, re
 
 use crate::checks::same;
 use rt_stamps::{Fault, Span, Stamp};
-use rt_tags::StateId;
-use rt_undo::{Action, Kind, RemovedSpan, Stacks};
+use rt_undo::{Action, Kind, Stacks};
 use std::alloc::Global;
-use std::process::Abort;
 use std::test::Fail;
 
 // Characters of consecutive counts are typed.
@@ -28,25 +26,6 @@ fn typed(alloc: Global, first: u64, last: u64) -> Result<Action, Fault> {
     })
 }
 
-// Those of some counts are removed, under no tags.
-fn cut(alloc: Global, number: u64, first: u64, last: u64) -> Result<Action, Fault> {
-    let mut removed = Vec::new(alloc);
-    removed.push(RemovedSpan {
-        span: Span {
-            site: 1,
-            first,
-            last,
-        },
-        state: StateId::EMPTY,
-    })?;
-    Ok(Action {
-        number,
-        kind: Kind::Delete,
-        inserted: Vec::new(alloc),
-        removed,
-    })
-}
-
 // One action is recorded, with room for two characters that come back.
 fn record(stacks: &mut Stacks, action: Action) -> Result<(), Fault>
     requires { (s : Stamp) → is_moved stacks.old.moves s ≡ false }
@@ -54,59 +33,6 @@ fn record(stacks: &mut Stacks, action: Action) -> Result<(), Fault>
 {
     stacks.reserve(2)?;
     stacks.add(action, true);
-    Ok(())
-}
-
-// The group to undo is reverted.
-fn revert(stacks: &mut Stacks, reverted: Vec<Action>) -> Result<(), Fault>
-    requires { (s : Stamp) → is_moved stacks.old.moves s ≡ false }
-    ensures moves { (s : Stamp) → is_moved stacks.new.moves s ≡ false }
-{
-    stacks.reserve(0)?;
-    if stacks.can_undo() {
-        stacks.undone(reverted);
-    }
-    Ok(())
-}
-
-// The group to redo is reverted.
-fn revert_again(stacks: &mut Stacks, reverted: Vec<Action>) -> Result<(), Fault>
-    requires { (s : Stamp) → is_moved stacks.old.moves s ≡ false }
-    ensures moves { (s : Stamp) → is_moved stacks.new.moves s ≡ false }
-{
-    stacks.reserve(0)?;
-    if stacks.can_redo() {
-        stacks.redone(reverted);
-    }
-    Ok(())
-}
-
-#[test]
-fn nothing_and_one_action(rt: HostRuntime) -> Result<(), Fail> {
-    let mut stacks = Stacks::new(rt.alloc());
-    assert!(rt; matches!(stacks.undo(), Err(Fault::NothingToUndo)));
-    assert!(rt; matches!(stacks.redo(), Err(Fault::NothingToRedo)));
-    record(&mut stacks, typed(rt.alloc(), 1, 1)?)?;
-    let group = stacks.undo()?;
-    same(&rt, group.len(), 1);
-    record(&mut stacks, cut(rt.alloc(), 2, 1, 1)?)?;
-    let group = stacks.undo()?;
-    same(&rt, group.len(), 1);
-    Ok(())
-}
-
-#[test]
-fn undo_and_redo(rt: HostRuntime) -> Result<(), Fail> {
-    let mut stacks = Stacks::new(rt.alloc());
-    record(&mut stacks, typed(rt.alloc(), 1, 1)?)?;
-    stacks.set_modified(false)?;
-    assert!(rt; !stacks.modified());
-    let group = stacks.undo()?;
-    revert(&mut stacks, group)?;
-    assert!(rt; stacks.modified() && stacks.can_redo());
-    let group = stacks.redo()?;
-    revert_again(&mut stacks, group)?;
-    assert!(rt; !stacks.modified() && stacks.can_undo());
     Ok(())
 }
 
@@ -118,6 +44,7 @@ fn spans_in(group: &[Action]) -> usize {
     }
 }
 
+// Where a character in the middle of a span comes back under another stamp, the span is cut in three.
 #[test]
 fn spans_of_a_long_action(rt: HostRuntime) -> Result<(), Fail> {
     let mut stacks = Stacks::new(rt.alloc());

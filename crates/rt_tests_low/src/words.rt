@@ -28,23 +28,15 @@ fn told(alloc: Global, found: Result<Vec<String>, Fault>) -> Result<String, Faul
 /// Texts, each with its words behind bars.
 type Rows = &'static [(&'static str, &'static str)];
 
-// Stops a test where the words of a line are others than those wanted.
-fn lines(rt: &impl Abort, alloc: Global, rows: Rows) -> Result<(), Fail> {
-    for (line, want) in rows {
-        same_in(rt, told(alloc, words(alloc, line))?.as_str(), *want, line);
-    }
-    Ok(())
-}
-
-// The same of lists.
-fn lists(rt: &impl Abort, alloc: Global, rows: Rows) -> Result<(), Fail> {
-    for (list, want) in rows {
-        same_in(
-            rt,
-            told(alloc, list_words(alloc, list))?.as_str(),
-            *want,
-            list,
-        );
+// Stops a test where the words of a line, or of a list, are others than those wanted.
+fn told_as(rt: &impl Abort, alloc: Global, is_list: bool, rows: Rows) -> Result<(), Fault> {
+    for (text, want) in rows {
+        let found = if is_list {
+            list_words(alloc, text)
+        } else {
+            words(alloc, text)
+        };
+        same_in(rt, told(alloc, found)?.as_str(), *want, text);
     }
     Ok(())
 }
@@ -165,23 +157,23 @@ const REFUSED_LINES: Rows = &[
     ("{a\\}}", "refused"),
 ];
 
-#[test]
-fn words_of_lines(rt: HostRuntime) -> Result<(), Fail> {
-    lines(&rt, rt.alloc(), BARE_WORDS)?;
-    lines(&rt, rt.alloc(), QUOTED_WORDS)?;
-    lines(&rt, rt.alloc(), BRACED_WORDS)?;
-    lines(&rt, rt.alloc(), LINES_OF_REPLIES)
-}
+/// Texts, and whether they are lists.
+const TABLES: &[(bool, Rows)] = &[
+    (false, BARE_WORDS),
+    (false, QUOTED_WORDS),
+    (false, BRACED_WORDS),
+    (false, LINES_OF_REPLIES),
+    (false, NEWLINES_IN_LINES),
+    (false, REFUSED_LINES),
+    (true, LISTS),
+    (true, NEWLINES_IN_LISTS),
+    (true, REFUSED_LISTS),
+];
 
 #[test]
-fn lines_that_are_refused(rt: HostRuntime) -> Result<(), Fail> {
-    lines(&rt, rt.alloc(), NEWLINES_IN_LINES)?;
-    lines(&rt, rt.alloc(), REFUSED_LINES)
-}
-
-#[test]
-fn words_of_lists(rt: HostRuntime) -> Result<(), Fail> {
-    lists(&rt, rt.alloc(), LISTS)?;
-    lists(&rt, rt.alloc(), NEWLINES_IN_LISTS)?;
-    lists(&rt, rt.alloc(), REFUSED_LISTS)
+fn words_of_lines_and_of_lists(rt: HostRuntime) -> Result<(), Fail> {
+    for (is_list, rows) in TABLES {
+        told_as(&rt, rt.alloc(), *is_list, *rows)?;
+    }
+    Ok(())
 }
