@@ -1,6 +1,7 @@
 -- Words and steps.
-use Rattle.std.proofs.Common.{◌≡◌, ◌≤◌, ◌<◌, inl, inr, Ok, Err, Result, get_or, ◌∙◌, ap, sym, List, [], ◌∷◌, map, length, refl, subst, arith, String, Global, string_bytes}
-use Rattle.std.specs.Prelude.{IfOk, IfErr}
+use Rattle.std.proofs.Common.{◌≡◌, ◌≤◌, ◌<◌, ◌+◌, ◌++◌, ℕ, suc, inl, inr, Ok, Err, Result, get_or, ◌∙◌, ap, sym, List, [], ◌∷◌, map, flat_map, drop, length, refl, subst, arith, String, Global, string_bytes, append_assoc, add-one, drop-cons}
+use Rattle.std.specs.Prelude.{IfOk, IfErr, MatchResult, OnErr, OnOk}
+use Rattle.std.proofs.lemmas.List.{map-append}
 use Rattle.rt_stamps.specs.declared.fault.Fault.{Fault}
 use Rattle.rt_stamps.specs.declared.fault.Fault.TheVariants.{NoMemory}
 use Rattle.rt_stamps.specs.Outcomes.{Answers, Refuses}
@@ -30,6 +31,22 @@ changed_refused {S} said meant fault found same r e = refused_by {T = S} {S = S}
 pub changed_to : {S : Type 0} (said meant : Result S Fault) (new : S) → said ≡ meant → said ≡ Ok new → changed_step meant ≡ Ok ([], new)
 changed_to {S} said meant new same e = ap (changed_step {S = S}) (sym same ∙ e)
 
+-- what a change answers that is refused by its outcome, or for want of memory
+pub changed_answers : {S T : Type 0} (old held new : S) (said meant : Result S Fault) (outcome : Result T Fault) (result : Result (List Word) Fault) → held ≡ old → said ≡ meant
+    → OnOk outcome (said ≡ Ok new) → IfErr outcome (Refuses said) → OnErr outcome (new ≡ held) → MatchResult outcome (λ _. result ≡ Ok []) (λ fault. result ≡ Err fault)
+    → Answers (changed_step meant) old result new
+changed_answers old held new said meant (Ok done) result kept same ok err unchanged is =
+    subst (λ (r : Result (List Word) Fault). Answers (changed_step meant) old r new) (sym is) (changed_to said meant new same ok)
+changed_answers old held new said meant (Err fault) result kept same ok err unchanged is =
+    subst (λ (r : Result (List Word) Fault). Answers (changed_step meant) old r new) (sym is) (unchanged ∙ kept, changed_refused said meant fault fault same err refl)
+
+-- one that is refused by its outcome alone
+pub changed_exactly : {S T : Type 0} (old held new : S) (said meant : Result S Fault) (outcome : Result T Fault) (result : Result (List Word) Fault) → held ≡ old → said ≡ meant
+    → OnOk outcome (said ≡ Ok new) → IfErr outcome (λ fault. said ≡ Err fault) → OnErr outcome (new ≡ held) → MatchResult outcome (λ _. result ≡ Ok []) (λ fault. result ≡ Err fault)
+    → Answers (changed_step meant) old result new
+changed_exactly old held new said meant (Ok done) result kept same ok err unchanged is = changed_answers {T = Word} old held new said meant (Ok []) result kept same ok tt tt is
+changed_exactly old held new said meant (Err fault) result kept same ok err unchanged is = changed_answers {T = Word} old held new said meant (Err fault) result kept same tt (inr err) unchanged is
+
 -- a reply that is refused, and one that is made, likewise
 pub refused_as : {T S : Type 0} (f : T → List Word) (state : S) (said meant : Result T Fault) (fault found : Fault) → said ≡ meant → Refuses said found → fault ≡ found
     → Refuses (told_step f state meant) fault
@@ -38,6 +55,31 @@ refused_as {T} {S} f state said meant fault found same r e = refused_by (λ v. (
 pub replied_as : {T S : Type 0} (f : T → List Word) (state : S) (said meant : Result T Fault) (value : T) (result : Result (List Word) Fault) → said ≡ meant → said ≡ Ok value
     → IfOk result (λ reply. reply ≡ f value) → IfErr result (λ fault. fault ≡ NoMemory) → Answers (told_step f state meant) state result state
 replied_as f state said meant value result same e ok err = replied_with state f meant value result (sym same ∙ e) ok err
+
+-- one more of a list that is gone over, by what is made of it
+pub one_more : {A B : Type 0} (f : A → B) (done new : List B) (made : B) (xs : List A) (i : ℕ) (x : A) → new ≡ done ++ made ∷ [] → made ≡ f x → i < length xs → x ≡ get_or xs i x
+    → done ++ map f (drop i xs) ≡ map f xs → new ++ map f (drop (i + 1) xs) ≡ map f xs
+one_more {A} f done new made xs i x pushed is_made h is before =
+    ap (λ l. l ++ map f (drop (i + 1) xs)) pushed
+    ∙ append_assoc done (made ∷ []) (map f (drop (i + 1) xs))
+    ∙ (λ j. done ++ (is_made j ∷ map f (drop (add-one i j) xs)))
+    ∙ ap (λ (l : List A). done ++ map f l) ((λ j. is j ∷ drop (suc i) xs) ∙ sym (drop-cons xs i x h)) ∙ before
+
+-- where a word is made of it
+pub one_more_word : {A : Type 0} (f : A → Word) (words new : List (String Global)) (word : String Global) (xs : List A) (i : ℕ) (x : A) → new ≡ words ++ word ∷ [] → string_bytes word ≡ f x
+    → i < length xs → x ≡ get_or xs i x → map (λ w. string_bytes w) words ++ map f (drop i xs) ≡ map f xs → map (λ w. string_bytes w) new ++ map f (drop (i + 1) xs) ≡ map f xs
+one_more_word f words new word xs i x pushed made h is before =
+    let b : String Global → Word = λ w. string_bytes w in
+    one_more f (map b words) (map b new) (b word) xs i x (ap (map b) pushed ∙ map-append b words (word ∷ [])) made h is before
+
+-- where several words are made of it
+pub one_more_of : {A : Type 0} (f : A → List Word) (done new : List Word) (xs : List A) (i : ℕ) (x : A) → new ≡ done ++ f x → i < length xs → x ≡ get_or xs i x
+    → done ++ flat_map f (drop i xs) ≡ flat_map f xs → new ++ flat_map f (drop (i + 1) xs) ≡ flat_map f xs
+one_more_of {A} f done new xs i x pushed h is before =
+    ap (λ l. l ++ flat_map f (drop (i + 1) xs)) pushed
+    ∙ append_assoc done (f x) (flat_map f (drop (i + 1) xs))
+    ∙ (λ j. done ++ (f x ++ flat_map f (drop (add-one i j) xs)))
+    ∙ ap (λ (l : List A). done ++ flat_map f l) ((λ j. is j ∷ drop (suc i) xs) ∙ sym (drop-cons xs i x h)) ∙ before
 
 -- words by their number
 pub single : (words : List (String Global)) (x : String Global) → 1 ≤ length words → length words < 2 → x ≡ get_or words 0 x → map (λ w. string_bytes w) words ≡ string_bytes x ∷ []

@@ -1,5 +1,5 @@
 // Replies of no word, one word, numbers and positions.
-ghost use Rattle.std.specs.Prelude.{◌≡◌, ◌∷◌, [], map, string_bytes, IfOk, IfErr};
+ghost use Rattle.std.specs.Prelude.{◌≡◌, ◌∷◌, [], Ok, Err, map, string_bytes, IfOk, IfErr, MatchResult};
 ghost use Rattle.std.specs.Fmt.{signed_decimal};
 ghost use Rattle.rt_stamps.specs.Places.{text_of_position};
 ghost use Rattle.rt_peers.specs.Options.{number_word};
@@ -19,6 +19,16 @@ pub(crate) fn no_words(alloc: Global) -> Reply
 {
     Reply {
         words: Vec::new(alloc),
+    }
+}
+
+// What a change answers: a reply without words, or why it was refused.
+pub(crate) fn changed(alloc: Global, outcome: Result<(), Fault>) -> Result<Reply, Fault>
+    ensures { MatchResult outcome (λ _. result ≡ Ok []) (λ fault. result ≡ Err fault) }
+{
+    match outcome {
+        Ok(()) => Ok(no_words(alloc)),
+        Err(fault) => Err(fault),
     }
 }
 

@@ -12,7 +12,7 @@ ghost use Rattle.rt_peers.specs.ViewStep.{as_piece, changed_step};
 
 use super::Viewer;
 use crate::pieces::owned;
-use crate::replies::no_words;
+use crate::replies::changed;
 use crate::reply::Reply;
 use rt_exchange::Received;
 use rt_recorder::Recorder;
@@ -35,8 +35,8 @@ impl Viewer {
     {
         let pieces = owned(self.alloc, texts.pieces())?;
         let view = &mut self.view;
-        rt_editing::insert(view, recorder, index.text(), &pieces, texts.rest())?;
-        Ok(no_words(self.alloc))
+        let inserted = rt_editing::insert(view, recorder, index.text(), &pieces, texts.rest());
+        changed(self.alloc, inserted)
     }
 
     // Texts with their tags, and a text without a list, in the place of the characters from one index up
@@ -55,15 +55,15 @@ impl Viewer {
     {
         let pieces = owned(self.alloc, texts.pieces())?;
         let view = &mut self.view;
-        rt_editing::replace(
+        let replaced = rt_editing::replace(
             view,
             recorder,
             from.text(),
             to.text(),
             &pieces,
             texts.rest(),
-        )?;
-        Ok(no_words(self.alloc))
+        );
+        changed(self.alloc, replaced)
     }
 
     // Without the characters in the ranges of some indices.
@@ -77,8 +77,8 @@ impl Viewer {
             (edited self.old recorder.old) result (edited self.new recorder.new) }
         ensures settled { IsSettled self.new recorder.new }
     {
-        rt_editing::delete(&mut self.view, recorder, indices.all())?;
-        Ok(no_words(self.alloc))
+        let deleted = rt_editing::delete(&mut self.view, recorder, indices.all());
+        changed(self.alloc, deleted)
     }
 
     // The last group of edits is undone.
@@ -89,8 +89,8 @@ impl Viewer {
         ensures settled { IsSettled self.new recorder.new }
     {
         let copy = TreeStore::new(self.alloc)?;
-        rt_editing::undo(&mut self.view, recorder, copy)?;
-        Ok(no_words(self.alloc))
+        let undone = rt_editing::undo(&mut self.view, recorder, copy);
+        changed(self.alloc, undone)
     }
 
     // The group that was undone last is done again.
@@ -101,8 +101,8 @@ impl Viewer {
         ensures settled { IsSettled self.new recorder.new }
     {
         let copy = TreeStore::new(self.alloc)?;
-        rt_editing::redo(&mut self.view, recorder, copy)?;
-        Ok(no_words(self.alloc))
+        let redone = rt_editing::redo(&mut self.view, recorder, copy);
+        changed(self.alloc, redone)
     }
 
     // The bytes of a file of operations are received.

@@ -7,7 +7,7 @@ ghost use Rattle.rt_tagcmd.specs.MarkCommands.{mark_set, mark_unset, mark_gravit
 ghost use Rattle.rt_peers.specs.ViewStep.{changed_step, mark_step, one_word, told_step, words_of};
 
 use super::Viewer;
-use crate::replies::{no_words, one_word};
+use crate::replies::{changed, no_words, one_word};
 use crate::reply::Reply;
 use rt_marks::Gravity;
 use rt_requests::{MarkRequest, Word, Words};
@@ -33,16 +33,16 @@ impl Viewer {
     fn set_mark(&mut self, name: &Word<'_>, index: &Word<'_>) -> Result<Reply, Fault>
         ensures { Answers (changed_step (mark_set self.old name.now index.now)) self.old result self.new }
     {
-        mark_set(&mut self.view, name.text(), index.text())?;
-        Ok(no_words(self.alloc))
+        let set = mark_set(&mut self.view, name.text(), index.text());
+        changed(self.alloc, set)
     }
 
     // Marks are no longer there.
     fn unset_marks(&mut self, names: &Words<'_>) -> Result<Reply, Fault>
         ensures { Answers (changed_step (mark_unset self.old (all_of names.now))) self.old result self.new }
     {
-        mark_unset(&mut self.view, names.all())?;
-        Ok(no_words(self.alloc))
+        let unset = mark_unset(&mut self.view, names.all());
+        changed(self.alloc, unset)
     }
 
     // The gravity of a mark.
@@ -57,8 +57,8 @@ impl Viewer {
     fn set_gravity(&mut self, name: &Word<'_>, gravity: Gravity) -> Result<Reply, Fault>
         ensures { Answers (changed_step (mark_gravity_set self.old name.now gravity)) self.old result self.new }
     {
-        set_mark_gravity(&mut self.view, name.text(), gravity)?;
-        Ok(no_words(self.alloc))
+        let set = set_mark_gravity(&mut self.view, name.text(), gravity);
+        changed(self.alloc, set)
     }
 
     // The names of all marks.

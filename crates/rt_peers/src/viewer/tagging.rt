@@ -7,7 +7,7 @@ ghost use Rattle.rt_tagcmd.specs.TagCommands.{tag_added, tag_removed, tags_delet
 ghost use Rattle.rt_peers.specs.ViewStep.{changed_step, tag_step, told_step};
 
 use super::Viewer;
-use crate::replies::{no_words, positions_reply};
+use crate::replies::{changed, positions_reply};
 use crate::reply::Reply;
 use rt_requests::{TagRequest, Word, Words};
 use rt_stamps::Fault;
@@ -31,40 +31,40 @@ impl Viewer {
     fn add_tag(&mut self, name: &Word<'_>, indices: &Words<'_>) -> Result<Reply, Fault>
         ensures { Answers (changed_step (tag_added self.old name.now (all_of indices.now))) self.old result self.new }
     {
-        tag_add(&mut self.view, name.text(), indices.all())?;
-        Ok(no_words(self.alloc))
+        let added = tag_add(&mut self.view, name.text(), indices.all());
+        changed(self.alloc, added)
     }
 
     // They lose a tag.
     fn remove_tag(&mut self, name: &Word<'_>, indices: &Words<'_>) -> Result<Reply, Fault>
         ensures { Answers (changed_step (tag_removed self.old name.now (all_of indices.now))) self.old result self.new }
     {
-        tag_remove(&mut self.view, name.text(), indices.all())?;
-        Ok(no_words(self.alloc))
+        let removed = tag_remove(&mut self.view, name.text(), indices.all());
+        changed(self.alloc, removed)
     }
 
     // Tags are no longer there.
     fn delete_tags(&mut self, names: &Words<'_>) -> Result<Reply, Fault>
         ensures { Answers (changed_step (tags_deleted self.old (all_of names.now))) self.old result self.new }
     {
-        tag_delete(&mut self.view, names.all())?;
-        Ok(no_words(self.alloc))
+        let deleted = tag_delete(&mut self.view, names.all());
+        changed(self.alloc, deleted)
     }
 
     // A tag is put just above another, or highest.
     fn raise(&mut self, name: &Word<'_>, above: &Option<Word<'_>>) -> Result<Reply, Fault>
         ensures { Answers (changed_step (tag_raised self.old name.now above.now)) self.old result self.new }
     {
-        tag_raise(&mut self.view, name.text(), text_of(above))?;
-        Ok(no_words(self.alloc))
+        let raised = tag_raise(&mut self.view, name.text(), text_of(above));
+        changed(self.alloc, raised)
     }
 
     // A tag is put just below another, or lowest.
     fn lower(&mut self, name: &Word<'_>, below: &Option<Word<'_>>) -> Result<Reply, Fault>
         ensures { Answers (changed_step (tag_lowered self.old name.now below.now)) self.old result self.new }
     {
-        tag_lower(&mut self.view, name.text(), text_of(below))?;
-        Ok(no_words(self.alloc))
+        let lowered = tag_lower(&mut self.view, name.text(), text_of(below));
+        changed(self.alloc, lowered)
     }
 
     // All listed tags.

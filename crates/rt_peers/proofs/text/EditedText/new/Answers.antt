@@ -21,3 +21,13 @@ invariant_of-result c =
       current = subst (λ (h : History (List Word)). AreSound h.current) (sym none) tt;
       undone = subst (λ (h : History (List Word)). AllByRecursion AreSound h.undone) (sym none) tt;
     }
+
+pub returns-in_err-viewer : goal.returns-in_err-viewer
+returns-in_err-viewer c =
+    let (y, is, gives) = err_from_is_err_and c.from_residual.result c.from_residual.ensures.1 in
+    rw (is, gives) (record { ok = tt; err = c.in_err-viewer.ensures.err })
+
+pub returns-in_err-recorder-clause-ok : goal.returns-in_err-recorder-clause-ok
+returns-in_err-recorder-clause-ok c =
+    let (y, is, gives) = err_from_is_err_and c.from_residual-in_err-recorder.result c.from_residual-in_err-recorder.ensures.1 in
+    rw is tt

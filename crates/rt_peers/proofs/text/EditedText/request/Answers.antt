@@ -8,7 +8,7 @@ use Rattle.rt_editing.specs.Edited.{Edited, edited}
 use Rattle.rt_editing.specs.Edits.{text_deleted, text_inserted, text_replaced}
 use Rattle.rt_searchcmd.specs.SearchCommand.{searched}
 use Rattle.rt_text.specs.Commands.{compared, counted, position_of_index}
-use Rattle.rt_peers.specs.ViewStep.{as_piece, changed_step, element_words, one_word, text_of_bool, told_step}
+use Rattle.rt_peers.specs.ViewStep.{as_piece, changed_step, element_words, get_step, one_word, text_of_bool, told_step}
 use Rattle.rt_peers.proofs.Steps.{told_to}
 use Rattle.rt_peers.proofs.text.EditedText.request.Goals as goal
 
@@ -56,3 +56,24 @@ returns-in-Dump c =
     rw c.in-Dump.is
     (told_to c.args.self.now c.self-in-Dump.inside.viewer c.self-in-Dump.inside.recorder c.self-in-Dump.view_is
     (λ view. told_step (flat_map element_words) view (dumped view c.in-Dump.kinds c.in-Dump.from c.in-Dump.to)) c.dump.result c.dump.ensures)
+
+pub returns-in-Get : goal.returns-in-Get
+returns-in-Get c =
+    rw c.in-Get.is
+    (told_to c.args.self.now c.self-in-Get.inside.viewer c.self-in-Get.inside.recorder c.self-in-Get.view_is
+    (λ view. get_step view (all_of c.in-Get.indices)) c.get.result c.get.ensures)
+
+pub returns-in-Mark : goal.returns-in-Mark
+returns-in-Mark c = rw c.in-Mark.is c.mark.ensures
+
+pub returns-in-Tag : goal.returns-in-Tag
+returns-in-Tag c = rw c.in-Tag.is c.tag.ensures
+
+pub returns-in-Edit : goal.returns-in-Edit
+returns-in-Edit c = rw c.in-Edit.is c.edit.ensures
+
+pub returns-in-Configure : goal.returns-in-Configure
+returns-in-Configure c = rw c.in-Configure.is c.configure.ensures
+
+pub returns-in-Cget : goal.returns-in-Cget
+returns-in-Cget c = rw c.in-Cget.is c.cget.ensures

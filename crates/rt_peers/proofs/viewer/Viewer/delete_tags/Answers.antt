@@ -1,13 +1,8 @@
-use Rattle.std.proofs.Common.{◌∙◌}
-use Rattle.std.proofs.lemmas.Result.{err_from_is_err_and}
 use Rattle.rt_tagcmd.specs.TagCommands.{tags_deleted}
-use Rattle.rt_peers.proofs.Steps.{changed_refused, changed_to}
+use Rattle.rt_peers.proofs.Steps.{changed_answers}
 use Rattle.rt_peers.proofs.viewer.Viewer.delete_tags.Goals as goal
 
-pub returns-in_err-tag_delete : goal.returns-in_err-tag_delete
-returns-in_err-tag_delete c =
-    let p = err_from_is_err_and c.from_residual.result c.from_residual.ensures.1 in
-    rw p.1 (c.in_err-tag_delete.ensures.unchanged ∙ c.self.view_is, changed_refused _ _ p.0 c.in_err-tag_delete.field-0.0 (λ i. tags_deleted (c.self.view_is i) (c.all.ensures i)) c.in_err-tag_delete.ensures.err p.2)
-
 pub returns : goal.returns
-returns c = rw c.no_words.ensures (changed_to _ _ _ (λ i. tags_deleted (c.self.view_is i) (c.all.ensures i)) c.in_ok-tag_delete.ensures.ok)
+returns c =
+    changed_answers c.args.self.now _ _ _ _ c.tag_delete-deleted.result c.changed.result c.self.view_is (λ i. tags_deleted (c.self.view_is i) (c.all.ensures i))
+    c.tag_delete-deleted.ensures.ok c.tag_delete-deleted.ensures.err c.tag_delete-deleted.ensures.unchanged c.changed.ensures

@@ -1,21 +1,26 @@
-use Rattle.std.proofs.Common.{◌∙◌, ap, map}
+use Rattle.std.proofs.Common.{◌∙◌, ap, map, inl, refl, subst, sym}
 use Rattle.std.proofs.lemmas.Result.{err_from_is_err_and}
+use Rattle.rt_recorder.specs.Settled.{IsSettled}
+use Rattle.rt_text.specs.Widgets.{Viewed}
 use Rattle.rt_editing.specs.Edited.{edited}
 use Rattle.rt_editing.specs.Edits.{text_inserted}
 use Rattle.rt_peers.specs.ViewStep.{as_piece}
-use Rattle.rt_peers.proofs.Steps.{changed_refused, changed_to}
+use Rattle.rt_peers.proofs.Steps.{changed_answers}
 use Rattle.rt_peers.proofs.viewer.Viewer.insert.Goals as goal
 
-pub returns-in_err-insert-clause-answers : goal.returns-in_err-insert-clause-answers
-returns-in_err-insert-clause-answers c =
-    let p = err_from_is_err_and c.from_residual-in_err-insert.result c.from_residual-in_err-insert.ensures.1 in
-    let pieces = c.deref.ensures.value ∙ c.in_ok-pieces.ensures.ok ∙ ap (map as_piece) c.pieces.ensures in
-    rw p.1 (
-      c.in_err-insert.ensures.unchanged ∙ (λ i. edited (c.self.view_is i) c.args.recorder.now),
-      changed_refused _ _ p.0 c.in_err-insert.field-0.0 (λ i. text_inserted (edited (c.self.view_is i) c.args.recorder.now) (c.text.ensures i) (pieces i) (c.rest.ensures i)) c.in_err-insert.ensures.err p.2,
-    )
+pub insert-inserted-requires : goal.insert-inserted-requires
+insert-inserted-requires c = subst (λ (v : Viewed). IsSettled v c.args.recorder.now) (sym c.self.view_is) c.requires
 
-pub returns-clause-answers : goal.returns-clause-answers
-returns-clause-answers c =
+pub returns-in_err-pieces : goal.returns-in_err-pieces
+returns-in_err-pieces c =
+    let (y, is, gives) = err_from_is_err_and c.from_residual.result c.from_residual.ensures.1 in
+    rw (is, gives) (record { answers = (refl, inl c.in_err-pieces.ensures.err); settled = c.requires })
+
+pub returns : goal.returns
+returns c =
     let pieces = c.deref.ensures.value ∙ c.in_ok-pieces.ensures.ok ∙ ap (map as_piece) c.pieces.ensures in
-    rw c.no_words.ensures (changed_to _ _ _ (λ i. text_inserted (edited (c.self.view_is i) c.args.recorder.now) (c.text.ensures i) (pieces i) (c.rest.ensures i)) c.in_ok-insert.ensures.ok)
+    record {
+      answers = changed_answers (edited c.args.self.now c.args.recorder.now) _ _ _ _ c.insert-inserted.result c.changed.result (λ i. edited (c.self.view_is i) c.args.recorder.now)
+          (λ i. text_inserted (edited (c.self.view_is i) c.args.recorder.now) (c.text.ensures i) (pieces i) (c.rest.ensures i)) c.insert-inserted.ensures.ok c.insert-inserted.ensures.err c.insert-inserted.ensures.unchanged c.changed.ensures;
+      settled = c.insert-inserted.ensures.settled;
+    }

@@ -1,0 +1,8 @@
+use Rattle.std.proofs.Common.{refl}
+use Rattle.std.proofs.lemmas.Result.{err_from_is_err_and}
+use Rattle.rt_peers.proofs.replies.truth.Goals as goal
+
+pub returns-in_err-from_str : goal.returns-in_err-from_str
+returns-in_err-from_str c =
+    let (y, is, gives) = err_from_is_err_and c.from_residual.result c.from_residual.ensures.1 in
+    rw (is, gives) (record { ok = tt; err = refl })
