@@ -1,13 +1,7 @@
 // Operations of other sites, as a site with marks takes them: files of one operation each, and the scripts that receive them.
-ghost use Rattle.std.specs.Prelude.{◌≤◌};
-ghost use Rattle.rt_script.specs.Site.{AreWithin};
-
-use crate::exchange::given;
-use crate::sites::{Script, answered, new_site};
+use crate::exchange::{Files, at_site};
+use crate::sites::Script;
 use rt_stamps::limits::MOST_CELLS;
-use std::alloc::Global;
-use std::process::Abort;
-use std::test::Fail;
 
 // Site 1 typed `abcd`.
 const ABCD: &[u8] = &[
@@ -76,7 +70,7 @@ const OF_NOTHING: &[u8] = &[
     0x00, 0x00, 0x00, 0x00, 0x05,
 ];
 
-const FILES: &[(&str, &[u8])] = &[
+const FILES: Files<'static> = &[
     ("abcd", ABCD),
     ("xy", XY),
     ("bc_go", BC_GO),
@@ -89,112 +83,98 @@ const FILES: &[(&str, &[u8])] = &[
 ];
 
 // Marks before the `c` of `abcd`, of each gravity.
-const MARKED: Script<'static> = &[
-    ("receive abcd", "= 1 0"),
-    (".t mark set left 1.2", "="),
-    (".t mark gravity left left", "="),
-    (".t mark set right 1.2", "="),
-    (".t mark gravity right right", "="),
-    (".t mark set insert 1.2", "="),
-    (".t mark gravity insert right", "="),
-    (".t mark set current 1.2", "="),
-    (".t mark gravity current left", "="),
-];
+const MARKED: Script = "
+receive abcd -> = 1 0
+.t mark set left 1.2 -> =
+.t mark gravity left left -> =
+.t mark set right 1.2 -> =
+.t mark gravity right right -> =
+.t mark set insert 1.2 -> =
+.t mark gravity insert right -> =
+.t mark set current 1.2 -> =
+.t mark gravity current left -> =
+";
 
 // What is received then, where the marks stand, how many characters there are, and whether the tag is listed.
-const RECEIVED: &[Script<'static>] = &[
-    &[
-        ("receive xy", "= 1 0"),
-        (".t index left", "= 1.2"),
-        (".t index right", "= 1.4"),
-        (".t index insert", "= 1.4"),
-        (".t index current", "= 1.2"),
-        (".t count 1.0 end", "= 7"),
-        (".t tag names", "= sel t"),
-    ],
-    &[
-        ("receive xy", "= 1 0"),
-        ("receive bc_go", "= 1 0"),
-        (".t index left", "= 1.1"),
-        (".t index right", "= 1.3"),
-        (".t index insert", "= 1.3"),
-        (".t index current", "= 1.1"),
-        (".t count 1.0 end", "= 5"),
-        (".t tag names", "= sel t"),
-    ],
-    &[
-        ("receive bc_go", "= 1 0"),
-        (".t index left", "= 1.1"),
-        (".t index right", "= 1.1"),
-        (".t index insert", "= 1.1"),
-        (".t index current", "= 1.1"),
-        (".t count 1.0 end", "= 3"),
-        (".t tag names", "= sel"),
-    ],
-    &[
-        ("receive on", "= 1 0"),
-        ("receive on", "= 0 1"),
-        (".t index left", "= 1.2"),
-        (".t index right", "= 1.2"),
-        (".t index insert", "= 1.2"),
-        (".t index current", "= 1.2"),
-        (".t count 1.0 end", "= 5"),
-        (".t tag names", "= sel t"),
-    ],
-    &[
-        ("receive off", "= 1 0"),
-        (".t index left", "= 1.2"),
-        (".t index right", "= 1.2"),
-        (".t index insert", "= 1.2"),
-        (".t index current", "= 1.2"),
-        (".t count 1.0 end", "= 5"),
-        (".t tag names", "= sel"),
-    ],
-    &[
-        ("receive abcd", "= 0 1"),
-        ("receive unsound", "! 34 BadStamp at 8 new 0 repeat 0"),
-        ("receive clashes", "! 35 Conflict at 8 new 0 repeat 0"),
-        ("receive behind_a_gap", "! 36 NotYet at 8 new 0 repeat 0"),
-        ("receive of_nothing", "! 37 BadTarget at 8 new 0 repeat 0"),
-        (".t index left", "= 1.2"),
-        (".t index right", "= 1.2"),
-        (".t index insert", "= 1.2"),
-        (".t index current", "= 1.2"),
-        (".t count 1.0 end", "= 5"),
-        (".t tag names", "= sel"),
-    ],
+const RECEIVED: &[Script] = &[
+    "
+receive xy -> = 1 0
+.t index left -> = 1.2
+.t index right -> = 1.4
+.t index insert -> = 1.4
+.t index current -> = 1.2
+.t count 1.0 end -> = 7
+.t tag names -> = sel t
+",
+    "
+receive xy -> = 1 0
+receive bc_go -> = 1 0
+.t index left -> = 1.1
+.t index right -> = 1.3
+.t index insert -> = 1.3
+.t index current -> = 1.1
+.t count 1.0 end -> = 5
+.t tag names -> = sel t
+",
+    "
+receive bc_go -> = 1 0
+.t index left -> = 1.1
+.t index right -> = 1.1
+.t index insert -> = 1.1
+.t index current -> = 1.1
+.t count 1.0 end -> = 3
+.t tag names -> = sel
+",
+    "
+receive on -> = 1 0
+receive on -> = 0 1
+.t index left -> = 1.2
+.t index right -> = 1.2
+.t index insert -> = 1.2
+.t index current -> = 1.2
+.t count 1.0 end -> = 5
+.t tag names -> = sel t
+",
+    "
+receive off -> = 1 0
+.t index left -> = 1.2
+.t index right -> = 1.2
+.t index insert -> = 1.2
+.t index current -> = 1.2
+.t count 1.0 end -> = 5
+.t tag names -> = sel
+",
+    "
+receive abcd -> = 0 1
+receive unsound -> ! 34 BadStamp at 8 new 0 repeat 0
+receive clashes -> ! 35 Conflict at 8 new 0 repeat 0
+receive behind_a_gap -> ! 36 NotYet at 8 new 0 repeat 0
+receive of_nothing -> ! 37 BadTarget at 8 new 0 repeat 0
+.t index left -> = 1.2
+.t index right -> = 1.2
+.t index insert -> = 1.2
+.t index current -> = 1.2
+.t count 1.0 end -> = 5
+.t tag names -> = sel
+",
 ];
 
-// Runs scripts on a new site of so many cells that may receive the files.
-fn receive_in(rt: &impl Abort, alloc: Global, limit: usize, script: Script) -> Result<(), Fail>
-    requires { (1 ≤ limit) × (limit ≤ MOST_CELLS) }
-{
-    let files = given(alloc, FILES)?;
-    let state = new_site(alloc, 9, limit)?;
-    let site = answered(rt, alloc, state, &files, MARKED, 4096)?;
-    let _site = answered(rt, alloc, site, &files, script, 4096)?;
-    Ok(())
-}
+// What is received into a text of six cells.
+const FULL: Script = "
+receive xy -> ! 18 TextFull at 8 new 0 repeat 0
+.t index left -> = 1.2
+.t index right -> = 1.2
+.t index insert -> = 1.2
+.t index current -> = 1.2
+.t count 1.0 end -> = 5
+.t tag names -> = sel
+";
 
 #[test]
-fn operations_of_other_sites(rt: HostRuntime) -> Result<(), Fail> {
+fn operations_of_other_sites(rt: HostRuntime) {
+    let alloc = rt.alloc();
     for script in RECEIVED {
-        receive_in(&rt, rt.alloc(), MOST_CELLS, *script)?;
+        let _site = at_site(&rt, alloc, 9, MOST_CELLS, FILES, &[MARKED, *script]);
     }
-    Ok(())
-}
-
-const FULL: Script<'static> = &[
-    ("receive xy", "! 18 TextFull at 8 new 0 repeat 0"),
-    (".t index left", "= 1.2"),
-    (".t index right", "= 1.2"),
-    (".t index insert", "= 1.2"),
-    (".t index current", "= 1.2"),
-    (".t count 1.0 end", "= 5"),
-    (".t tag names", "= sel"),
-];
-
-#[test]
-fn a_full_text(rt: HostRuntime) -> Result<(), Fail> {
-    receive_in(&rt, rt.alloc(), 6, FULL)
+    let _site = at_site(&rt, alloc, 9, 6, FILES, &[MARKED, FULL]);
 }

@@ -1,7 +1,10 @@
 // Files of operations, joined and shown.
 ghost use Rattle.std.specs.Prelude.{◌≡◌, ◌<◌};
 
-use crate::samples::{DELETE_AND_TAG, INSERT_ACCENTS, INSERT_QUOTED};
+use crate::samples::{
+    CLASHES, CLASHES_AND_CUT, DELETE_AND_INSERT, DELETE_AND_TAG, INSERT_ACCENTS, INSERT_BOTH,
+    INSERT_QUOTED, NOT_BEHIND,
+};
 use rt_samples::files::{
     AFTER_ITSELF, CUT, DELETE_FINAL, DELETE_SECOND, INSERT_AB, INSERT_B, INSERT_LAST, INSERT_Y,
     SHORT_LENGTH, TAG_FIRST,
@@ -10,19 +13,10 @@ use rt_samples::{Output, Pieces};
 use rt_script::{JoinFault, join_files, show_file};
 use rt_stamps::Fault;
 use rt_stamps::std_ends::{Count, Reader, Writer};
-use std::alloc::{AllocError, Global};
+use std::alloc::Global;
 use std::marker::Brand;
 use std::process::Abort;
 use std::sync::ledger::{Blank, Ledger};
-use std::test::Fail;
-
-fn whole(bytes: &[u8]) -> Pieces<'_> {
-    Pieces {
-        bytes,
-        size: 4096,
-        until_failure: None,
-    }
-}
 
 /// A file that is read in pieces of a size.
 pub(crate) fn in_pieces(bytes: &[u8], size: usize) -> Pieces<'_> {
@@ -30,15 +24,6 @@ pub(crate) fn in_pieces(bytes: &[u8], size: usize) -> Pieces<'_> {
         bytes,
         size,
         until_failure: None,
-    }
-}
-
-// What fails at its first read.
-fn unreadable<'a>() -> Pieces<'a> {
-    Pieces {
-        bytes: b"",
-        size: 4096,
-        until_failure: Some(0),
     }
 }
 
@@ -82,19 +67,20 @@ pub(crate) fn joined(alloc: Global, one: Pieces, other: Pieces) -> Result<Vec<u8
     )
 }
 
-// Whether two files are joined to these bytes.
-fn gives(alloc: Global, one: Pieces, other: Pieces, wanted: &[u8]) -> bool {
-    match joined(alloc, one, other) {
-        Ok(bytes) => bytes.as_slice() == wanted,
-        Err(_) => false,
-    }
-}
+/// The join of two files, or which of them has which fault at which offset.
+type Join = Result<&'static [u8], (u8, Fault, u64)>;
 
-// Whether two files are refused for this fault of this file at this offset.
-fn refused(alloc: Global, one: Pieces, other: Pieces, wanted: (u8, Fault, u64)) -> bool {
+// Whether that is what two files are joined to.
+fn is_joined(alloc: Global, one: Pieces, other: Pieces, wanted: &Join) -> bool {
     match joined(alloc, one, other) {
-        Ok(_) => false,
-        Err(why) => (why.file, why.fault, why.offset) == wanted,
+        Ok(bytes) => match wanted {
+            Ok(wanted) => bytes.as_slice() == *wanted,
+            Err(_) => false,
+        },
+        Err(why) => match wanted {
+            Ok(_) => false,
+            Err(wanted) => (why.file, why.fault, why.offset) == *wanted,
+        },
     }
 }
 
@@ -148,251 +134,253 @@ pub(crate) fn shown(
     )
 }
 
-/// Lines, each with its end.
-pub(crate) fn text_of(alloc: Global, lines: &[&str]) -> Result<String, AllocError> {
-    let mut text = String::new(alloc);
-    for line in lines {
-        text.push_str(line)?;
-        text.push('\n')?;
-    }
-    Ok(text)
-}
+/// The lines of a file's operations, which may begin on a line of their own, and its fault.
+pub(crate) type Shown = (&'static str, Option<(Fault, u64)>);
 
-/// Whether these lines and this fault are shown of a file.
-pub(crate) fn is_shown(
-    alloc: Global,
-    source: Pieces,
-    text: &str,
-    fault: Option<(Fault, u64)>,
-) -> bool {
+/// Stops a test where something else is shown of a file.
+pub(crate) fn shows(rt: &impl Abort, alloc: Global, source: Pieces, wanted: &Shown) {
+    let (len, size) = (source.bytes.len(), source.size);
+    let (lines, fault) = *wanted;
     let (bytes, found) = shown(alloc, source, None);
-    bytes.as_slice() == text.as_bytes() && found == fault
+    let is_shown = bytes.as_slice() == lines.trim_start().as_bytes() && found == fault;
+    assert!(rt;
+        is_shown,
+        "{len} bytes by {size}: {lines}{fault:?}, not {found:?}"
+    );
 }
 
-// A file with one of its bytes changed.
-fn changed(alloc: Global, bytes: &[u8], place: usize, byte: u8) -> Result<Vec<u8>, Fail> {
-    let mut copy = Vec::new(alloc);
-    copy.extend_from_slice(bytes)?;
-    if let Some(there) = copy.get_mut(place) {
-        *there = byte;
-    }
-    Ok(copy)
-}
+const SIZES: &[usize] = &[1, 2, 3, 5, 7, 100, 4096];
 
-/// A file, and the records of another behind its own.
-pub(crate) fn followed(alloc: Global, bytes: &[u8], more: &[u8]) -> Result<Vec<u8>, Fail> {
-    let mut copy = Vec::new(alloc);
-    copy.extend_from_slice(bytes)?;
-    copy.extend_from_slice(more.get(8..).unwrap_or(b""))?;
-    Ok(copy)
-}
+/// Two files, and what they are joined to.
+type Joined = (&'static [u8], &'static [u8], Join);
 
-/// Two files, and their join.
-type Joined<'a> = (&'a [u8], &'a [u8], &'a [u8]);
+const JOINED: &[Joined] = &[
+    (b"RGATEXT1", b"RGATEXT1", Ok(b"RGATEXT1")),
+    (b"RGATEXT1", INSERT_AB, Ok(INSERT_AB)),
+    (INSERT_AB, b"RGATEXT1", Ok(INSERT_AB)),
+    (INSERT_AB, INSERT_AB, Ok(INSERT_AB)),
+    (DELETE_SECOND, DELETE_SECOND, Ok(DELETE_SECOND)),
+    (INSERT_Y, INSERT_Y, Ok(INSERT_Y)),
+    (INSERT_LAST, INSERT_LAST, Ok(INSERT_LAST)),
+    (TAG_FIRST, TAG_FIRST, Ok(TAG_FIRST)),
+    (INSERT_AB, DELETE_SECOND, Ok(DELETE_SECOND)),
+    (DELETE_FINAL, DELETE_FINAL, Ok(DELETE_FINAL)),
+    (INSERT_AB, INSERT_Y, Ok(INSERT_BOTH)),
+    (INSERT_Y, INSERT_AB, Ok(INSERT_BOTH)),
+    (INSERT_Y, DELETE_SECOND, Ok(DELETE_AND_INSERT)),
+];
+
+const REFUSED: &[Joined] = &[
+    (INSERT_B, INSERT_AB, Err((0, Fault::Conflict, 0))),
+    (INSERT_AB, INSERT_B, Err((0, Fault::Conflict, 0))),
+    (DELETE_SECOND, TAG_FIRST, Err((0, Fault::Conflict, 0))),
+    (AFTER_ITSELF, INSERT_AB, Err((1, Fault::BadStamp, 8))),
+    (INSERT_AB, AFTER_ITSELF, Err((2, Fault::BadStamp, 8))),
+    (SHORT_LENGTH, AFTER_ITSELF, Err((1, Fault::BadRecord, 8))),
+    (AFTER_ITSELF, SHORT_LENGTH, Err((1, Fault::BadStamp, 8))),
+    (INSERT_B, SHORT_LENGTH, Err((2, Fault::BadRecord, 8))),
+    (b"", INSERT_AB, Err((1, Fault::Truncated, 0))),
+    (INSERT_AB, b"", Err((2, Fault::Truncated, 0))),
+    (b"XGATEXT1", INSERT_AB, Err((1, Fault::BadMagic, 0))),
+    (INSERT_AB, b"RGATEXT9", Err((2, Fault::BadVersion, 0))),
+    (CUT, INSERT_AB, Err((1, Fault::Truncated, 44))),
+    (CLASHES, INSERT_AB, Err((1, Fault::Conflict, 44))),
+    (INSERT_AB, CLASHES, Err((2, Fault::Conflict, 44))),
+    (NOT_BEHIND, INSERT_AB, Err((1, Fault::BadStamp, 44))),
+    (CLASHES_AND_CUT, INSERT_AB, Err((1, Fault::Conflict, 44))),
+];
 
 // Each file is read whole and in pieces.
-fn all_give(rt: &impl Abort, alloc: Global, rows: &[Joined]) {
-    for (one, other, wanted) in rows {
-        for size in [1, 2, 3, 5, 7, 100, 4096] {
-            assert!(rt; gives(alloc, in_pieces(*one, size), whole(*other), *wanted));
-            assert!(rt; gives(alloc, whole(*one), in_pieces(*other, size), *wanted));
+fn all_join(rt: &impl Abort, alloc: Global, rows: &[Joined]) {
+    for (row, (one, other, wanted)) in rows.iter().enumerate() {
+        for size in SIZES {
+            let is_one = is_joined(
+                alloc,
+                in_pieces(*one, *size),
+                in_pieces(*other, 4096),
+                wanted,
+            );
+            let is_other = is_joined(
+                alloc,
+                in_pieces(*one, 4096),
+                in_pieces(*other, *size),
+                wanted,
+            );
+            assert!(rt; is_one && is_other, "row {row} by {size}");
         }
     }
 }
 
-const JOINED: &[Joined<'static>] = &[
-    (b"RGATEXT1", b"RGATEXT1", b"RGATEXT1"),
-    (b"RGATEXT1", INSERT_AB, INSERT_AB),
-    (INSERT_AB, b"RGATEXT1", INSERT_AB),
-    (INSERT_AB, INSERT_AB, INSERT_AB),
-    (DELETE_SECOND, DELETE_SECOND, DELETE_SECOND),
-    (INSERT_Y, INSERT_Y, INSERT_Y),
-    (INSERT_LAST, INSERT_LAST, INSERT_LAST),
-    (TAG_FIRST, TAG_FIRST, TAG_FIRST),
-    (INSERT_AB, DELETE_SECOND, DELETE_SECOND),
-    (DELETE_FINAL, DELETE_FINAL, DELETE_FINAL),
+/// Two files, which read of the first fails, from which number on and below which the read of a byte of
+/// the second fails, and what they are joined to.
+type Unread = (
+    &'static [u8],
+    Option<usize>,
+    &'static [u8],
+    usize,
+    usize,
+    Join,
+);
+
+const UNREAD: &[Unread] = &[
+    (
+        INSERT_AB,
+        Some(0),
+        INSERT_AB,
+        100,
+        101,
+        Err((1, Fault::ReadFault, 0)),
+    ),
+    (INSERT_AB, None, b"", 0, 1, Err((2, Fault::ReadFault, 0))),
+    (AFTER_ITSELF, None, b"", 0, 1, Err((1, Fault::BadStamp, 8))),
+    (
+        INSERT_AB,
+        None,
+        DELETE_SECOND,
+        0,
+        8,
+        Err((2, Fault::ReadFault, 0)),
+    ),
+    (
+        INSERT_AB,
+        None,
+        DELETE_SECOND,
+        8,
+        44,
+        Err((2, Fault::ReadFault, 8)),
+    ),
+    (
+        INSERT_AB,
+        None,
+        DELETE_SECOND,
+        44,
+        89,
+        Err((2, Fault::ReadFault, 44)),
+    ),
+    (
+        INSERT_AB,
+        None,
+        DELETE_SECOND,
+        89,
+        90,
+        Err((2, Fault::ReadFault, 89)),
+    ),
+    (INSERT_AB, None, DELETE_SECOND, 90, 100, Ok(DELETE_SECOND)),
 ];
 
-#[test]
-fn files_are_joined(rt: HostRuntime) -> Result<(), Fail> {
-    let alloc = rt.alloc();
-    all_give(&rt, alloc, JOINED);
-    let both = followed(alloc, INSERT_AB, INSERT_Y)?;
-    let two = followed(alloc, DELETE_SECOND, INSERT_Y)?;
-    let rows: &[Joined] = &[
-        (INSERT_AB, INSERT_Y, &both),
-        (INSERT_Y, INSERT_AB, &both),
-        (INSERT_Y, DELETE_SECOND, &two),
-    ];
-    all_give(&rt, alloc, rows);
-    Ok(())
-}
-
-/// Two files, and which of them has which fault at which offset.
-type Refused<'a> = (&'a [u8], &'a [u8], (u8, Fault, u64));
-
-fn are_refused(rt: &impl Abort, alloc: Global, rows: &[Refused]) {
-    for (one, other, wanted) in rows {
+fn is_unread(rt: &impl Abort, alloc: Global, row: &Unread) {
+    let (one, until_failure, other, from, to, wanted) = row;
+    for number in *from..*to {
+        let first = Pieces {
+            bytes: *one,
+            size: 4096,
+            until_failure: *until_failure,
+        };
+        let second = Pieces {
+            bytes: *other,
+            size: 1,
+            until_failure: Some(number),
+        };
         assert!(rt;
-            refused(alloc, whole(*one), whole(*other), *wanted),
-            "{}",
-            wanted.1
+            is_joined(alloc, first, second, wanted),
+            "{until_failure:?} {number}"
         );
     }
 }
 
-const REFUSED: &[Refused<'static>] = &[
-    (INSERT_B, INSERT_AB, (0, Fault::Conflict, 0)),
-    (INSERT_AB, INSERT_B, (0, Fault::Conflict, 0)),
-    (DELETE_SECOND, TAG_FIRST, (0, Fault::Conflict, 0)),
-    (AFTER_ITSELF, INSERT_AB, (1, Fault::BadStamp, 8)),
-    (INSERT_AB, AFTER_ITSELF, (2, Fault::BadStamp, 8)),
-    (SHORT_LENGTH, AFTER_ITSELF, (1, Fault::BadRecord, 8)),
-    (AFTER_ITSELF, SHORT_LENGTH, (1, Fault::BadStamp, 8)),
-    (INSERT_B, SHORT_LENGTH, (2, Fault::BadRecord, 8)),
-    (b"", INSERT_AB, (1, Fault::Truncated, 0)),
-    (INSERT_AB, b"", (2, Fault::Truncated, 0)),
-    (b"XGATEXT1", INSERT_AB, (1, Fault::BadMagic, 0)),
-    (INSERT_AB, b"RGATEXT9", (2, Fault::BadVersion, 0)),
-    (CUT, INSERT_AB, (1, Fault::Truncated, 44)),
-];
-
 #[test]
-fn joins_are_refused(rt: HostRuntime) -> Result<(), Fail> {
+fn files_are_joined(rt: HostRuntime) {
     let alloc = rt.alloc();
-    are_refused(&rt, alloc, REFUSED);
-    let clash = changed(alloc, DELETE_SECOND, 66, 1)?;
-    let unsound = changed(alloc, DELETE_SECOND, 66, 3)?;
-    let mut clash_and_cut = changed(alloc, &clash, 66, 1)?;
-    clash_and_cut.push(0)?;
-    let rows: &[Refused] = &[
-        (&clash, INSERT_AB, (1, Fault::Conflict, 44)),
-        (INSERT_AB, &clash, (2, Fault::Conflict, 44)),
-        (&unsound, INSERT_AB, (1, Fault::BadStamp, 44)),
-        (&clash_and_cut, INSERT_AB, (1, Fault::Conflict, 44)),
-    ];
-    are_refused(&rt, alloc, rows);
-    Ok(())
-}
-
-#[test]
-fn failed_reads_of_a_join(rt: HostRuntime) -> Result<(), Fail> {
-    let alloc = rt.alloc();
-    let failed = (1, Fault::ReadFault, 0);
-    assert!(rt; refused(alloc, unreadable(), whole(INSERT_AB), failed));
-    let failed = (2, Fault::ReadFault, 0);
-    assert!(rt; refused(alloc, whole(INSERT_AB), unreadable(), failed));
-    let first = (1, Fault::BadStamp, 8);
-    assert!(rt; refused(alloc, whole(AFTER_ITSELF), unreadable(), first));
-    for number in 0..100 {
-        let cut = Pieces {
-            bytes: DELETE_SECOND,
-            size: 1,
-            until_failure: Some(number),
-        };
-        let offset = if number < 8 {
-            0
-        } else if number < 44 {
-            8
-        } else if number < 89 {
-            44
-        } else {
-            89
-        };
-        let is_told = if number < 90 {
-            refused(alloc, whole(INSERT_AB), cut, (2, Fault::ReadFault, offset))
-        } else {
-            gives(alloc, whole(INSERT_AB), cut, DELETE_SECOND)
-        };
-        assert!(rt; is_told, "{number}");
+    all_join(&rt, alloc, JOINED);
+    all_join(&rt, alloc, REFUSED);
+    for row in UNREAD {
+        is_unread(&rt, alloc, row);
     }
-    Ok(())
 }
 
-pub(crate) const AB: &str = "insert 1.1 prev 0 after 0.0 text ab tags";
+/// A file of one record, which inserts `ab`.
+pub(crate) const AB: &str = "insert 1.1 prev 0 after 0.0 text ab tags\n";
 
-pub(crate) const SECOND_GOES: &str = "delete 3.1 prev 2 spans 1:2-2";
+/// The second one is taken away behind it.
+pub(crate) const SECOND_GOES: &str = "
+insert 1.1 prev 0 after 0.0 text ab tags
+delete 3.1 prev 2 spans 1:2-2
+";
 
-pub(crate) const FIRST_TAGGED: &str = "tag 3.1 prev 2 on t spans 1:1-1";
+/// The first one is tagged behind it.
+pub(crate) const FIRST_TAGGED: &str = "
+insert 1.1 prev 0 after 0.0 text ab tags
+tag 3.1 prev 2 on t spans 1:1-1
+";
 
-const LAST: &str = "insert 281474976710655.9 prev 0 after 0.0 text z tags";
+const LAST: &str = "insert 281474976710655.9 prev 0 after 0.0 text z tags\n";
 
-const UNSOUND: &str = "insert 1.1 prev 0 after 1.1 text a tags";
+const UNSOUND: &str = "insert 1.1 prev 0 after 1.1 text a tags\n";
 
-const Y: &str = "insert 3.2 prev 0 after 1.1 text Y tags";
+const Y: &str = "insert 3.2 prev 0 after 1.1 text Y tags\n";
 
-const FINAL_GOES: &str = "delete 1.1 prev 0 spans 0:1-1";
+const FINAL_GOES: &str = "delete 1.1 prev 0 spans 0:1-1\n";
 
-const QUOTED: &str = "insert 5.2 prev 0 after 4.3 text \"é\\n\\\"\u{1f600}\" tags a \"x y\"";
+const QUOTED: &str = "insert 5.2 prev 0 after 4.3 text \"é\\n\\\"\u{1f600}\" tags a \"x y\"\n";
 
-const ACCENTS: &str = "insert 5.2 prev 0 after 0.0 text é# tags é";
+const ACCENTS: &str = "insert 5.2 prev 0 after 0.0 text é# tags é\n";
 
-const UNTAGGED: &str = "tag 9.1 prev 2 off \"a b\" spans 0:1-1 7:3-65536";
+const UNTAGGED: &str = r#"
+delete 3.1 prev 2 spans 1:2-2
+tag 9.1 prev 2 off "a b" spans 0:1-1 7:3-65536
+"#;
 
-/// A file, the lines of its operations, and its fault.
-type Shown = (&'static [u8], &'static [&'static str], Option<(Fault, u64)>);
-
-const SHOWN: &[Shown] = &[
-    (b"RGATEXT1", &[], None),
-    (INSERT_AB, &[AB], None),
-    (DELETE_SECOND, &[AB, SECOND_GOES], None),
-    (TAG_FIRST, &[AB, FIRST_TAGGED], None),
-    (INSERT_LAST, &[LAST], None),
-    (INSERT_Y, &[Y], None),
-    (AFTER_ITSELF, &[UNSOUND], None),
-    (DELETE_FINAL, &[FINAL_GOES], None),
-    (INSERT_QUOTED, &[QUOTED], None),
-    (INSERT_ACCENTS, &[ACCENTS], None),
-    (DELETE_AND_TAG, &[SECOND_GOES, UNTAGGED], None),
-    (CUT, &[AB], Some((Fault::Truncated, 44))),
-    (SHORT_LENGTH, &[], Some((Fault::BadRecord, 8))),
-    (b"", &[], Some((Fault::Truncated, 0))),
-    (b"RGATEXT", &[], Some((Fault::Truncated, 0))),
-    (b"X", &[], Some((Fault::BadMagic, 0))),
-    (b"XGATEXT1", &[], Some((Fault::BadMagic, 0))),
-    (b"RGATEXX1", &[], Some((Fault::BadMagic, 0))),
-    (b"RGATEXT9", &[], Some((Fault::BadVersion, 0))),
-    (b"RGATEXT1\0\0\0\x13\x04", &[], Some((Fault::Truncated, 8))),
+// Files, and what is shown of them.
+const SHOWN: &[(&[u8], Shown)] = &[
+    (b"RGATEXT1", ("", None)),
+    (INSERT_AB, (AB, None)),
+    (DELETE_SECOND, (SECOND_GOES, None)),
+    (TAG_FIRST, (FIRST_TAGGED, None)),
+    (INSERT_LAST, (LAST, None)),
+    (INSERT_Y, (Y, None)),
+    (AFTER_ITSELF, (UNSOUND, None)),
+    (DELETE_FINAL, (FINAL_GOES, None)),
+    (INSERT_QUOTED, (QUOTED, None)),
+    (INSERT_ACCENTS, (ACCENTS, None)),
+    (DELETE_AND_TAG, (UNTAGGED, None)),
+    (CUT, (AB, Some((Fault::Truncated, 44)))),
+    (SHORT_LENGTH, ("", Some((Fault::BadRecord, 8)))),
+    (b"", ("", Some((Fault::Truncated, 0)))),
+    (b"RGATEXT", ("", Some((Fault::Truncated, 0)))),
+    (b"X", ("", Some((Fault::BadMagic, 0)))),
+    (b"XGATEXT1", ("", Some((Fault::BadMagic, 0)))),
+    (b"RGATEXX1", ("", Some((Fault::BadMagic, 0)))),
+    (b"RGATEXT9", ("", Some((Fault::BadVersion, 0)))),
+    (b"RGATEXT1\0\0\0\x13\x04", ("", Some((Fault::Truncated, 8)))),
     (
         b"RGATEXT1\x00\x20\x00\x01\x01",
-        &[],
-        Some((Fault::BadRecord, 8)),
+        ("", Some((Fault::BadRecord, 8))),
     ),
 ];
 
-#[test]
-fn files_are_shown(rt: HostRuntime) -> Result<(), Fail> {
-    let alloc = rt.alloc();
-    for (bytes, lines, fault) in SHOWN {
-        let text = text_of(alloc, lines)?;
-        for size in [1, 7, 4096] {
-            assert!(rt;
-                is_shown(alloc, in_pieces(*bytes, size), &text, *fault),
-                "{text}"
-            );
-        }
+// A file is shown with a write failing, each in turn: a front of its lines, and in the end all of them.
+fn writes_fail(rt: &impl Abort, alloc: Global) {
+    let lines = SECOND_GOES.trim_start().as_bytes();
+    let mut is_whole = false;
+    for number in 0..100 {
+        let (bytes, fault) = shown(alloc, in_pieces(DELETE_SECOND, 4096), Some(number));
+        let is_cut = fault == Some((Fault::WriteFault, 0)) && !is_whole;
+        is_whole = fault.is_none() && bytes.len() == lines.len();
+        assert!(rt;
+            lines.starts_with(&bytes) && (is_cut || is_whole),
+            "{number}"
+        );
     }
-    let failed = Some((Fault::ReadFault, 0));
-    assert!(rt; is_shown(alloc, unreadable(), "", failed));
-    Ok(())
+    assert!(rt; is_whole);
 }
 
 #[test]
-fn failed_writes_of_lines(rt: HostRuntime) -> Result<(), Fail> {
+fn files_are_shown(rt: HostRuntime) {
     let alloc = rt.alloc();
-    let two = text_of(alloc, &[AB, SECOND_GOES])?;
-    let mut is_whole = false;
-    for number in 0..100 {
-        let (bytes, fault) = shown(alloc, whole(DELETE_SECOND), Some(number));
-        assert!(rt; two.as_bytes().starts_with(&bytes));
-        if fault.is_none() {
-            is_whole = true;
-            assert!(rt; bytes.as_slice() == two.as_bytes());
-        } else {
-            assert!(rt; !is_whole);
-            assert!(rt; fault == Some((Fault::WriteFault, 0)));
+    for (bytes, wanted) in SHOWN {
+        for size in SIZES {
+            shows(&rt, alloc, in_pieces(*bytes, *size), wanted);
         }
     }
-    assert!(rt; is_whole);
-    Ok(())
+    writes_fail(&rt, alloc);
 }

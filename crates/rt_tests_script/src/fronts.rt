@@ -1,104 +1,73 @@
 // Files that are cut, can't be read to their end, or break a rule of their records, as they are shown.
 use crate::checks::same;
-use crate::files::{
-    AB, FIRST_TAGGED, SECOND_GOES, followed, in_pieces, is_shown, joined, shown, text_of,
-};
+use crate::files::{AB, FIRST_TAGGED, SECOND_GOES, Shown, in_pieces, joined, shown, shows};
+use crate::samples::AB_TWICE;
 use rt_samples::Pieces;
 use rt_samples::files::{DELETE_SECOND, INSERT_AB, TAG_FIRST};
 use rt_stamps::Fault;
-use std::alloc::{AllocError, Global};
+use std::alloc::Global;
 use std::process::Abort;
-use std::test::Fail;
 
-// What is wrong with the first so many bytes of a file of two records, the first of which ends at 44.
-fn fault_of_front(len: usize, whole: usize) -> Option<(Fault, u64)> {
-    if len < 8 {
-        return Some((Fault::Truncated, 0));
-    }
-    if len == 8 || len == 44 || len == whole {
-        return None;
-    }
-    if len < 44 {
-        return Some((Fault::Truncated, 8));
-    }
-    Some((Fault::Truncated, 44))
-}
+/// A file, from which length on and below which its fronts are shown so.
+type Fronts = (&'static [u8], usize, usize, Shown);
 
-// The lines of the operations that the first so many bytes of such a file have.
-fn lines_of_front(
-    alloc: Global,
-    len: usize,
-    whole: usize,
-    second: &str,
-) -> Result<String, AllocError> {
-    let mut lines = String::new(alloc);
-    if len >= 44 {
-        lines.push_str(AB)?;
-        lines.push('\n')?;
-    }
-    if len >= whole {
-        lines.push_str(second)?;
-        lines.push('\n')?;
-    }
-    Ok(lines)
-}
+// Two records behind the eight bytes, the first of which ends at 44.
+const FRONTS: &[Fronts] = &[
+    (DELETE_SECOND, 0, 8, ("", Some((Fault::Truncated, 0)))),
+    (DELETE_SECOND, 8, 9, ("", None)),
+    (DELETE_SECOND, 9, 44, ("", Some((Fault::Truncated, 8)))),
+    (DELETE_SECOND, 44, 45, (AB, None)),
+    (DELETE_SECOND, 45, 89, (AB, Some((Fault::Truncated, 44)))),
+    (DELETE_SECOND, 89, 90, (SECOND_GOES, None)),
+    (TAG_FIRST, 0, 8, ("", Some((Fault::Truncated, 0)))),
+    (TAG_FIRST, 8, 9, ("", None)),
+    (TAG_FIRST, 9, 44, ("", Some((Fault::Truncated, 8)))),
+    (TAG_FIRST, 44, 45, (AB, None)),
+    (TAG_FIRST, 45, 92, (AB, Some((Fault::Truncated, 44)))),
+    (TAG_FIRST, 92, 93, (FIRST_TAGGED, None)),
+];
 
 // Each front of such a file, in pieces of each size.
-fn fronts_are_shown(
-    rt: &impl Abort,
-    alloc: Global,
-    bytes: &[u8],
-    second: &str,
-) -> Result<(), Fail> {
-    for len in 0..bytes.len() + 1 {
-        let text = lines_of_front(alloc, len, bytes.len(), second)?;
-        let fault = fault_of_front(len, bytes.len());
-        for size in 1..bytes.len() + 1 {
-            let front = in_pieces(&bytes[..len], size);
-            assert!(rt; is_shown(alloc, front, &text, fault), "{len} by {size}");
+fn fronts_are_shown(rt: &impl Abort, alloc: Global, row: &Fronts) {
+    let (bytes, from, to, wanted) = row;
+    for len in *from..*to {
+        let front = bytes.get(..len).expect(rt, "a front");
+        for size in 1..=bytes.len() {
+            shows(rt, alloc, in_pieces(front, size), wanted);
         }
     }
-    Ok(())
 }
 
-#[test]
-fn fronts_in_pieces(rt: HostRuntime) -> Result<(), Fail> {
-    fronts_are_shown(&rt, rt.alloc(), DELETE_SECOND, SECOND_GOES)?;
-    fronts_are_shown(&rt, rt.alloc(), TAG_FIRST, FIRST_TAGGED)
-}
+// The same with the number of the read of a byte that fails.
+const UNREAD: &[Fronts] = &[
+    (b"", 0, 1, ("", Some((Fault::ReadFault, 0)))),
+    (DELETE_SECOND, 0, 8, ("", Some((Fault::ReadFault, 0)))),
+    (DELETE_SECOND, 8, 44, ("", Some((Fault::ReadFault, 8)))),
+    (DELETE_SECOND, 44, 89, (AB, Some((Fault::ReadFault, 44)))),
+];
 
-// The offset that is told where a read of a number fails, byte by byte.
-fn offset_of_read(number: usize) -> u64 {
-    if number < 8 {
-        0
-    } else if number < 44 {
-        8
-    } else {
-        44
-    }
-}
-
-#[test]
-fn a_failed_read(rt: HostRuntime) -> Result<(), Fail> {
-    for number in 0..89 {
-        let text = lines_of_front(rt.alloc(), number, 89, "")?;
+fn reads_fail(rt: &impl Abort, alloc: Global, row: &Fronts) {
+    let (bytes, from, to, wanted) = row;
+    for number in *from..*to {
         let failing = Pieces {
-            bytes: DELETE_SECOND,
+            bytes: *bytes,
             size: 1,
             until_failure: Some(number),
         };
-        let fault = Some((Fault::ReadFault, offset_of_read(number)));
-        assert!(rt; is_shown(rt.alloc(), failing, &text, fault), "{number}");
+        shows(rt, alloc, failing, wanted);
     }
-    Ok(())
 }
 
-/// What stands behind a file of one record, the lines that are shown, and the fault.
-type Behind = (
-    &'static [&'static [u8]],
-    &'static [&'static str],
-    Option<(Fault, u64)>,
-);
+#[test]
+fn fronts_in_pieces(rt: HostRuntime) {
+    let alloc = rt.alloc();
+    for row in FRONTS {
+        fronts_are_shown(&rt, alloc, row);
+    }
+    for row in UNREAD {
+        reads_fail(&rt, alloc, row);
+    }
+}
 
 // The front of a record: site 1 took two spans away, after it had typed `ab`.
 const DELETE_OF_TWO: &[u8] = &[
@@ -113,42 +82,39 @@ const SECOND_OF_ONE: &[u8] = &[0, 1, 0, 0, 0, 0, 0, 0, 0, 2, 0, 0, 0, 0, 0, 0, 0
 
 const THIRD_OF_ONE: &[u8] = &[0, 1, 0, 0, 0, 0, 0, 0, 0, 3, 0, 0, 0, 0, 0, 0, 0, 3];
 
-const FIRST_AND_THIRD: &str = "delete 3.1 prev 2 spans 1:1-1 1:3-3";
+const FIRST_AND_THIRD: &str = "
+insert 1.1 prev 0 after 0.0 text ab tags
+delete 3.1 prev 2 spans 1:1-1 1:3-3
+";
 
-const BAD: Option<(Fault, u64)> = Some((Fault::BadRecord, 44));
+const BAD: Shown = (AB, Some((Fault::BadRecord, 44)));
 
-// Spans rise, with a count between two of one site.
-const SPANS: &[Behind] = &[
-    (&[DELETE_OF_TWO, SECOND_OF_ONE, FIRST_OF_ONE], &[AB], BAD),
-    (&[DELETE_OF_TWO, FIRST_OF_ONE, SECOND_OF_ONE], &[AB], BAD),
-    (&[DELETE_OF_TWO, FIRST_OF_ONE, FIRST_OF_ONE], &[AB], BAD),
-    (&[DELETE_OF_TWO, THIRD_OF_ONE, FIRST_OF_ONE], &[AB], BAD),
+// Parts of files, and what is shown of them: spans rise, with a count between two of one site, and so do records.
+const ORDERED: &[(&[&[u8]], Shown)] = &[
     (
-        &[DELETE_OF_TWO, FIRST_OF_ONE, THIRD_OF_ONE],
-        &[AB, FIRST_AND_THIRD],
-        None,
+        &[INSERT_AB, DELETE_OF_TWO, SECOND_OF_ONE, FIRST_OF_ONE],
+        BAD,
     ),
+    (
+        &[INSERT_AB, DELETE_OF_TWO, FIRST_OF_ONE, SECOND_OF_ONE],
+        BAD,
+    ),
+    (&[INSERT_AB, DELETE_OF_TWO, FIRST_OF_ONE, FIRST_OF_ONE], BAD),
+    (&[INSERT_AB, DELETE_OF_TWO, THIRD_OF_ONE, FIRST_OF_ONE], BAD),
+    (
+        &[INSERT_AB, DELETE_OF_TWO, FIRST_OF_ONE, THIRD_OF_ONE],
+        (FIRST_AND_THIRD, None),
+    ),
+    (&[AB_TWICE], BAD),
 ];
 
 #[test]
-fn spans_are_sorted_and_clear(rt: HostRuntime) -> Result<(), Fail> {
-    for (parts, lines, fault) in SPANS {
-        let mut bytes = Vec::from_slice(rt.alloc(), INSERT_AB)?;
-        for part in *parts {
-            bytes.extend_from_slice(*part)?;
-        }
-        let text = text_of(rt.alloc(), lines)?;
-        assert!(rt; is_shown(rt.alloc(), in_pieces(&bytes, 4096), &text, *fault));
+fn spans_and_records_rise(rt: HostRuntime) {
+    let alloc = rt.alloc();
+    for (parts, wanted) in ORDERED {
+        let bytes = parts.concat(alloc).expect(&rt, "memory");
+        shows(&rt, alloc, in_pieces(&bytes, 4096), wanted);
     }
-    Ok(())
-}
-
-#[test]
-fn records_rise(rt: HostRuntime) -> Result<(), Fail> {
-    let twice = followed(rt.alloc(), INSERT_AB, INSERT_AB)?;
-    let text = text_of(rt.alloc(), &[AB])?;
-    assert!(rt; is_shown(rt.alloc(), in_pieces(&twice, 4096), &text, BAD));
-    Ok(())
 }
 
 // Where the record that begins at an offset ends, by its length field.
@@ -192,23 +158,23 @@ fn is_written(rt: &impl Abort, alloc: Global, bytes: &[u8]) {
 }
 
 // A byte of a file is changed in each way.
-fn byte_changes(rt: &impl Abort, alloc: Global, bytes: &[u8], place: usize) -> Result<(), Fail> {
-    let mut changed = Vec::from_slice(alloc, bytes)?;
+fn byte_changes(rt: &impl Abort, alloc: Global, bytes: &[u8], place: usize) {
+    let mut changed = Vec::from_slice(alloc, bytes).expect(rt, "memory");
     for change in 1..=255u8 {
         if let (Some(there), Some(byte)) = (changed.get_mut(place), bytes.get(place)) {
             *there = *byte ^ change;
         }
         is_told(rt, alloc, &changed, place);
     }
-    Ok(())
 }
 
+const CHANGED: &[&[u8]] = &[DELETE_SECOND, TAG_FIRST];
+
 #[test]
-fn single_changed_bytes(rt: HostRuntime) -> Result<(), Fail> {
-    for bytes in [DELETE_SECOND, TAG_FIRST] {
+fn single_changed_bytes(rt: HostRuntime) {
+    for bytes in CHANGED {
         for place in 0..bytes.len() {
-            byte_changes(&rt, rt.alloc(), bytes, place)?;
+            byte_changes(&rt, rt.alloc(), *bytes, place);
         }
     }
-    Ok(())
 }

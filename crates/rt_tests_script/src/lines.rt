@@ -1,8 +1,6 @@
 // Bytes, cut into lines by the engine alone.
 ghost use Rattle.std.specs.Prelude.{◌≡◌, ◌<◌};
 
-use crate::checks::same;
-use crate::files::text_of;
 use rt_samples::Pieces;
 use rt_script::engine::run_lines;
 use rt_script::{Answer, Commands, Reply};
@@ -11,8 +9,8 @@ use rt_stamps::limits::MOST_LINE_BYTES;
 use rt_stamps::std_ends::{Count, Reader, Writer};
 use std::alloc::Global;
 use std::marker::Brand;
+use std::process::Abort;
 use std::sync::ledger::{Blank, Ledger};
-use std::test::Fail;
 
 // Answers each line with its own words.
 #[derive(Drop)]
@@ -86,71 +84,72 @@ fn output_of(alloc: Global, bytes: &[u8], size: usize) -> (Vec<u8>, Option<Fault
     )
 }
 
-// A line of so many letters, and its end.
-fn letters(alloc: Global, count: usize, end: &str) -> Result<Vec<u8>, Fault> {
-    let mut line = Vec::new(alloc);
-    line.resize(count, b'a')?;
-    line.extend_from_slice(end.as_bytes())?;
-    Ok(line)
+// Stops a test where other lines are answered in pieces of a size, or not all.
+fn answers(rt: &impl Abort, alloc: Global, script: &[u8], size: usize, replies: &[u8]) {
+    let (text, fault) = output_of(alloc, script, size);
+    let is_told = text.as_slice() == replies && fault.is_none();
+    assert!(rt;
+        is_told,
+        "{} bytes by {size}, {} of replies",
+        script.len(),
+        replies.len()
+    );
 }
-
-const BAD: &str = "! 19 BadQuoting";
 
 /// The bytes of a script, and its reply lines.
-const CUT_INTO_LINES: &[(&[u8], &[&str])] = &[
-    (b"", &[]),
-    (b"a b", &["= a b"]),
-    (b" a\tb \n\nc\n", &["= a b", "= c"]),
-    (b"a\r\nb\r\r\nc\r", &["= a", r#"= "b\r""#, r#"= "c\r""#]),
-    (b"\n \t\n\r\n#x\n #y\n\t", &["= #y"]),
-    (b"\"\nx\n\"", &[BAD, "= x", BAD]),
-    (b"\xff\n#\xff\nx", &[BAD, BAD, "= x"]),
+const CUT_INTO_LINES: &[(&[u8], &str)] = &[
+    (b"", ""),
+    (b"a b", "= a b\n"),
+    (b" a\tb \n\nc\n", "= a b\n= c\n"),
+    (b"a\r\nb\r\r\nc\r", "= a\n= \"b\\r\"\n= \"c\\r\"\n"),
+    (b"\n \t\n\r\n#x\n #y\n\t", "= #y\n"),
+    (b"\"\nx\n\"", "! 19 BadQuoting\n= x\n! 19 BadQuoting\n"),
+    (b"\xff\n#\xff\nx", "! 19 BadQuoting\n! 19 BadQuoting\n= x\n"),
 ];
 
-#[test]
-fn pieces_of_any_size(rt: HostRuntime) -> Result<(), Fail> {
-    for (script, replies) in CUT_INTO_LINES {
-        let replies = text_of(rt.alloc(), *replies)?;
-        for size in 1..5 {
-            let (text, fault) = output_of(rt.alloc(), *script, size);
-            same(&rt, text.as_slice(), replies.as_bytes());
-            same(&rt, fault, None);
-        }
-    }
-    Ok(())
+/// How many letters more than a line may have, how the script ends, whether the line is answered by itself,
+/// and how its reply lines end.
+type Long = (usize, &'static str, bool, &'static str);
+
+const LONG: &[Long] = &[
+    (0, "\nx\n", true, "\n= x\n"),
+    (0, "\r\nx", true, "\n= x\n"),
+    (0, "", true, "\n"),
+    (0, "\r\r\nx", false, "! 19 BadQuoting\n= x\n"),
+    (0, "\r", false, "! 19 BadQuoting\n"),
+    (1, "\nx\n", false, "! 19 BadQuoting\n= x\n"),
+    (1, "\r\nx\n", false, "! 19 BadQuoting\n= x\n"),
+    (1, "", false, "! 19 BadQuoting\n"),
+    (5000, "\nx", false, "! 19 BadQuoting\n= x\n"),
+];
+
+// So many letters between two texts.
+fn letters(rt: &impl Abort, alloc: Global, begin: &str, count: usize, end: &str) -> Vec<u8> {
+    let mut line = Vec::from_slice(alloc, begin.as_bytes()).expect(rt, "memory");
+    let len = line.len().saturating_add(count);
+    line.resize(len, b'a').expect(rt, "memory");
+    line.extend_from_slice(end.as_bytes()).expect(rt, "memory");
+    line
 }
 
-/// How many letters more than a line may have, how the script ends, and its reply lines, or none
-/// where the first is the line itself.
-const LONG: &[(usize, &str, Option<&[&str]>)] = &[
-    (0, "\nx\n", None),
-    (0, "\r\nx", None),
-    (0, "", None),
-    (0, "\r\r\nx", Some(&[BAD, "= x"])),
-    (0, "\r", Some(&[BAD])),
-    (1, "\nx\n", Some(&[BAD, "= x"])),
-    (1, "\r\nx\n", Some(&[BAD, "= x"])),
-    (1, "", Some(&[BAD])),
-    (5000, "\nx", Some(&[BAD, "= x"])),
-];
+fn is_long(rt: &impl Abort, alloc: Global, row: &Long) {
+    let (more, end, is_itself, last) = row;
+    let count = MOST_LINE_BYTES.saturating_add(*more);
+    let script = letters(rt, alloc, "", count, end);
+    let (begin, count) = if *is_itself { ("= ", count) } else { ("", 0) };
+    let replies = letters(rt, alloc, begin, count, last);
+    answers(rt, alloc, &script, 1000, &replies);
+}
 
 #[test]
-fn long_lines(rt: HostRuntime) -> Result<(), Fail> {
-    for (more, end, replies) in LONG {
-        let script = letters(rt.alloc(), MOST_LINE_BYTES.saturating_add(*more), end)?;
-        let (text, fault) = output_of(rt.alloc(), &script, 1000);
-        match replies {
-            Some(replies) => {
-                let replies = text_of(rt.alloc(), *replies)?;
-                assert_eq!(rt; text.as_slice(), replies.as_bytes(), "{more} {end:?}");
-            }
-            None => {
-                let tail = if end.is_empty() { "\n" } else { "\n= x\n" };
-                assert_eq!(rt; text.len(), MOST_LINE_BYTES + 2 + tail.len(), "{end:?}");
-                assert!(rt; text.ends_with(tail.as_bytes()), "{end:?}");
-            }
+fn lines_of_scripts(rt: HostRuntime) {
+    let alloc = rt.alloc();
+    for (script, replies) in CUT_INTO_LINES {
+        for size in 1..5 {
+            answers(&rt, alloc, *script, size, replies.as_bytes());
         }
-        same(&rt, fault, None);
     }
-    Ok(())
+    for row in LONG {
+        is_long(&rt, alloc, row);
+    }
 }

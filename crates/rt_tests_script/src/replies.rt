@@ -5,17 +5,18 @@ use crate::checks::same;
 use rt_script::{Answer, Reply, reply_line};
 use rt_stamps::Fault;
 use rt_stamps::std_ends::{Count, Writer};
-use std::alloc::{AllocError, Global};
+use std::alloc::Global;
 use std::marker::Brand;
+use std::process::Abort;
 use std::sync::ledger::{Blank, Ledger};
-use std::test::Fail;
 
-fn reply_of(alloc: Global, words: &[&str]) -> Result<Answer, AllocError> {
+fn reply_of(rt: &impl Abort, alloc: Global, words: &[&str]) -> Answer {
     let mut copies = Vec::new(alloc);
     for word in words {
-        copies.push(String::from_str(alloc, word)?)?;
+        let copy = String::from_str(alloc, word).expect(rt, "memory");
+        copies.push(copy).expect(rt, "memory");
     }
-    Ok(Answer::Replied(Reply { words: copies }))
+    Answer::Replied(Reply { words: copies })
 }
 
 fn written<A: Ledger, B: Ledger>(
@@ -52,13 +53,18 @@ const WRITTEN: &[(&[&str], &str)] = &[
     (&["é#$[", "\u{1f600}"], "= é#$[ \u{1f600}\n"),
 ];
 
+// Stops a test where the line of an answer is another.
+fn is_written(rt: &impl Abort, alloc: Global, answer: &Answer, wanted: &str) {
+    let line = line_of(alloc, answer).expect(rt, wanted);
+    same(rt, line.as_slice(), wanted.as_bytes());
+}
+
 #[test]
-fn lines_of_answers(rt: HostRuntime) -> Result<(), Fail> {
-    for (words, want) in WRITTEN {
-        let line = line_of(rt.alloc(), &reply_of(rt.alloc(), *words)?)?;
-        same(&rt, line.as_slice(), want.as_bytes());
+fn lines_of_answers(rt: HostRuntime) {
+    let alloc = rt.alloc();
+    for (words, wanted) in WRITTEN {
+        is_written(&rt, alloc, &reply_of(&rt, alloc, *words), wanted);
     }
-    let refusal = line_of(rt.alloc(), &Answer::from(Err(Fault::BadQuoting)))?;
-    same(&rt, refusal.as_slice(), b"! 19 BadQuoting\n".as_slice());
-    Ok(())
+    let refusal = Answer::from(Err(Fault::BadQuoting));
+    is_written(&rt, alloc, &refusal, "! 19 BadQuoting\n");
 }

@@ -24,14 +24,16 @@ use rt_script::{Ended, SiteState, run};
 use rt_stamps::limits::MOST_CELLS;
 use rt_stamps::std_ends::{Count, Reader, Writer};
 use rt_stamps::{Fault, Site};
-use std::alloc::{AllocError, Global};
+use std::alloc::Global;
 use std::marker::Brand;
 use std::process::Abort;
 use std::sync::ledger::{Blank, Ledger};
-use std::test::Fail;
 
-/// Lines, each with its reply line.
-pub(crate) type Script<'a> = &'a [(&'a str, &'a str)];
+/// A script: rows of a line and its reply line, as `.t index end -> = 2.0`.
+pub(crate) type Script = &'static str;
+
+/// Scripts, with an empty line between two.
+pub(crate) type Scripts = &'static str;
 
 // A run of a site over files, with its reply lines.
 fn output<A: Ledger, B: Ledger, C: Ledger, D: Ledger>(
@@ -92,42 +94,32 @@ fn run_of(
 }
 
 /// A new site of a number, with at most so many cells.
-pub(crate) fn new_site(alloc: Global, number: u16, limit: usize) -> Result<SiteState, Fault>
+pub(crate) fn new_site(rt: &impl Abort, alloc: Global, number: u16, limit: usize) -> SiteState
     requires { (1 ≤ limit) × (limit ≤ MOST_CELLS) }
 {
-    let Some(site) = Site::new(number) else {
-        return Err(Fault::BadStamp);
-    };
-    SiteState::new(alloc, site, limit)
+    let site = Site::new(number).expect(rt, "a number of a site");
+    SiteState::new(alloc, site, limit).expect(rt, "memory")
 }
 
-// The lines of a script, the last with or without its newline.
-fn lines_of(alloc: Global, script: Script, newline_at_end: bool) -> Result<String, AllocError> {
-    let mut lines = String::new(alloc);
-    for (line, _) in script {
-        if !lines.is_empty() {
-            lines.push('\n')?;
+// Adds a line and its end.
+fn add_line(rt: &impl Abort, lines: &mut String, line: &str) {
+    lines.push_str(line).expect(rt, "memory");
+    lines.push('\n').expect(rt, "memory");
+}
+
+// Adds the lines of rows to some, and the reply lines to others. Rows may stand between empty lines.
+fn add_rows(rt: &impl Abort, rows: &str, lines: &mut String, replies: &mut String) {
+    for row in rows.lines() {
+        if !row.is_empty() {
+            let (line, reply) = row.split_once(" -> ").expect(rt, row);
+            add_line(rt, lines, line);
+            add_line(rt, replies, reply);
         }
-        lines.push_str(line)?;
     }
-    if newline_at_end {
-        lines.push('\n')?;
-    }
-    Ok(lines)
 }
 
-// The reply lines of the first so many lines of a script.
-fn replies_of(alloc: Global, script: Script, count: usize) -> Result<String, AllocError> {
-    let mut replies = String::new(alloc);
-    for (_, reply) in script.iter().take(count) {
-        replies.push_str(reply)?;
-        replies.push('\n')?;
-    }
-    Ok(replies)
-}
-
-/// Runs lines on a site that may receive files, in pieces of a size, looks at its reply lines, and gives the site back.
-pub(crate) fn gives(
+// Runs lines on a site that may receive files, in pieces of a size, looks at its reply lines, and gives the site back.
+fn gives(
     rt: &impl Abort,
     alloc: Global,
     state: SiteState,
@@ -135,7 +127,7 @@ pub(crate) fn gives(
     lines: &str,
     replies: &str,
     size: usize,
-) -> Result<SiteState, Fail>
+) -> SiteState
     requires { AreWithin files.now }
 {
     let pieces = Pieces {
@@ -146,217 +138,166 @@ pub(crate) fn gives(
     let (text, ended) = run_of(alloc, state, files, pieces, None);
     assert_eq!(rt; text.as_slice(), replies.as_bytes(), "{lines}");
     same(rt, ended.fault, None);
-    Ok(ended.site)
+    ended.site
 }
 
-/// Runs a script on a site that may receive files, in pieces of a size, looks at its replies, and gives
-/// the site back. In pieces of one byte the last line has no newline.
+/// Runs scripts, one behind the other, on a site that may receive files, in pieces of a size, looks at its
+/// replies, and gives the site back. In pieces of one byte the last line has no newline.
 pub(crate) fn answered(
     rt: &impl Abort,
     alloc: Global,
     state: SiteState,
     files: &[(String, Vec<u8>)],
-    script: Script,
+    scripts: &[&str],
     size: usize,
-) -> Result<SiteState, Fail>
+) -> SiteState
     requires { AreWithin files.now }
 {
-    let lines = lines_of(alloc, script, size > 1)?;
-    let replies = replies_of(alloc, script, script.len())?;
-    gives(rt, alloc, state, files, &lines, &replies, size)
+    let rows = scripts.join(alloc, "\n").expect(rt, "memory");
+    let mut lines = String::new(alloc);
+    let mut replies = String::new(alloc);
+    add_rows(rt, rows.as_str(), &mut lines, &mut replies);
+    let text = if size > 1 {
+        lines.as_str()
+    } else {
+        lines.trim_end()
+    };
+    gives(rt, alloc, state, files, text, replies.as_str(), size)
 }
 
-// Runs each script of a table on a new site, in pieces of three sizes.
-pub(crate) fn answer_all(rt: &impl Abort, alloc: Global, table: &[Script]) -> Result<(), Fail> {
-    for script in table {
-        for size in [1, 3, 4096] {
-            let state = new_site(alloc, 1, MOST_CELLS)?;
-            let _site = answered(rt, alloc, state, &[], *script, size)?;
+const SIZES: &[usize] = &[1, 3, 4096];
+
+/// Runs each of some scripts on a new site, in pieces of three sizes.
+pub(crate) fn answer_all(rt: &impl Abort, alloc: Global, scripts: &str) {
+    for script in scripts.split("\n\n") {
+        for size in SIZES {
+            let state = new_site(rt, alloc, 1, MOST_CELLS);
+            let _site = answered(rt, alloc, state, &[], &[script], *size);
         }
     }
-    Ok(())
 }
 
 #[test]
-fn scripts_of_texts(rt: HostRuntime) -> Result<(), Fail> {
-    answer_all(&rt, rt.alloc(), TEXTS)?;
-    answer_all(&rt, rt.alloc(), DELETIONS)?;
-    answer_all(&rt, rt.alloc(), RANGES)
+fn scripts_of_one_widget(rt: HostRuntime) {
+    let alloc = rt.alloc();
+    answer_all(&rt, alloc, TEXTS);
+    answer_all(&rt, alloc, DELETIONS);
+    answer_all(&rt, alloc, RANGES);
+    answer_all(&rt, alloc, REPLACEMENTS);
+    answer_all(&rt, alloc, DUMPS);
+    answer_all(&rt, alloc, SEARCHES);
+    answer_all(&rt, alloc, FOUND);
+    answer_all(&rt, alloc, SEARCH_WORDS);
+    answer_all(&rt, alloc, INDICES);
+    answer_all(&rt, alloc, MARK_WORDS);
+    answer_all(&rt, alloc, MARK_ORDER);
+    answer_all(&rt, alloc, MARK_PLACES);
+    answer_all(&rt, alloc, BASES);
+    answer_all(&rt, alloc, MODIFIERS);
+    answer_all(&rt, alloc, NO_PLACES);
+    answer_all(&rt, alloc, TAG_REFUSALS);
+    answer_all(&rt, alloc, TAG_COMMANDS);
+    answer_all(&rt, alloc, TAG_WRITES);
+    answer_all(&rt, alloc, TAGGED_TEXT);
+    answer_all(&rt, alloc, UNDOING);
+    answer_all(&rt, alloc, COMING_BACK);
+    answer_all(&rt, alloc, GROUPING);
+    answer_all(&rt, alloc, FLAGS);
 }
 
 #[test]
-fn scripts_of_searches_and_replacements(rt: HostRuntime) -> Result<(), Fail> {
-    answer_all(&rt, rt.alloc(), SEARCHES)?;
-    answer_all(&rt, rt.alloc(), REPLACEMENTS)?;
-    answer_all(&rt, rt.alloc(), DUMPS)
+fn scripts_of_words_and_widgets(rt: HostRuntime) {
+    let alloc = rt.alloc();
+    answer_all(&rt, alloc, COMMANDS);
+    answer_all(&rt, alloc, SEARCHES_AND_DUMPS);
+    answer_all(&rt, alloc, MARKS_AND_TAGS);
+    answer_all(&rt, alloc, BAD_COMMANDS);
+    answer_all(&rt, alloc, BAD_OPTIONS);
+    answer_all(&rt, alloc, OPTIONS);
+    answer_all(&rt, alloc, PEER_WORDS);
+    answer_all(&rt, alloc, LIMIT_WORDS);
+    answer_all(&rt, alloc, SELECTIONS);
+    answer_all(&rt, alloc, MARKS_IN_ORDER);
+    answer_all(&rt, alloc, TAGGED_UNDO);
+    answer_all(&rt, alloc, REMOVALS);
+    answer_all(&rt, alloc, PEERS);
+    answer_all(&rt, alloc, PEER_COMMANDS);
+    answer_all(&rt, alloc, OWN_PARTS);
+    answer_all(&rt, alloc, SHARED_PARTS);
+    answer_all(&rt, alloc, LIMIT_OPTIONS);
+    answer_all(&rt, alloc, MOVING_LIMITS);
+    answer_all(&rt, alloc, SEEN);
+    answer_all(&rt, alloc, LIMITED_TEXT);
+    answer_all(&rt, alloc, WITHIN_LINES);
+    answer_all(&rt, alloc, LIMITED_SEARCHES);
+    answer_all(&rt, alloc, LIMITED_TAGS);
+    answer_all(&rt, alloc, LIMITED_MARKS);
 }
+
+const FULL: Script = r#"
+.t insert 1.0 abc -> ! 18 TextFull
+.t insert 1.0 ab -> =
+.t insert 1.0 c -> ! 18 TextFull
+.t insert 1.0 ab -> ! 18 TextFull
+.t insert 1.0 x -> ! 18 TextFull
+.t get 1.0 end -> = "ab\n"
+"#;
 
 #[test]
-fn a_full_site_replaces_nothing(rt: HostRuntime) -> Result<(), Fail> {
-    let state = new_site(rt.alloc(), 1, 4)?;
-    let _site = answered(&rt, rt.alloc(), state, &[], FULL_SITE, 4096)?;
-    Ok(())
+fn full_sites(rt: HostRuntime) {
+    let alloc = rt.alloc();
+    let state = new_site(&rt, alloc, 1, 4);
+    let _site = answered(&rt, alloc, state, &[], &[FULL_SITE], 4096);
+    let state = new_site(&rt, alloc, 1, 5);
+    let _site = answered(&rt, alloc, state, &[], &[UNDOING_FULL], 4096);
+    let state = new_site(&rt, alloc, 1, 3);
+    let _site = answered(&rt, alloc, state, &[], &[FULL], 7);
 }
 
-#[test]
-fn scripts_of_indices_and_marks(rt: HostRuntime) -> Result<(), Fail> {
-    answer_all(&rt, rt.alloc(), INDICES)?;
-    answer_all(&rt, rt.alloc(), MARK_WORDS)?;
-    answer_all(&rt, rt.alloc(), MARK_ORDER)?;
-    answer_all(&rt, rt.alloc(), MARK_PLACES)
-}
+// Four lines, and the reply lines of the first one, two, three, and of all.
+const LINES: &str = ".t insert 1.0 hello\n.t get 1.0 end\n.t index end\n.t index 1.end";
 
-#[test]
-fn scripts_of_tags(rt: HostRuntime) -> Result<(), Fail> {
-    answer_all(&rt, rt.alloc(), TAG_REFUSALS)?;
-    answer_all(&rt, rt.alloc(), TAG_COMMANDS)?;
-    answer_all(&rt, rt.alloc(), TAG_WRITES)?;
-    answer_all(&rt, rt.alloc(), TAGGED_TEXT)
-}
+const ONE: &str = "=\n";
 
-#[test]
-fn scripts_of_undoing(rt: HostRuntime) -> Result<(), Fail> {
-    answer_all(&rt, rt.alloc(), UNDOING)?;
-    answer_all(&rt, rt.alloc(), COMING_BACK)?;
-    answer_all(&rt, rt.alloc(), GROUPING)?;
-    answer_all(&rt, rt.alloc(), FLAGS)
-}
+const TWO: &str = "=\n= \"hello\\n\"\n";
 
-#[test]
-fn scripts_of_expressions(rt: HostRuntime) -> Result<(), Fail> {
-    answer_all(&rt, rt.alloc(), BASES)?;
-    answer_all(&rt, rt.alloc(), MODIFIERS)?;
-    answer_all(&rt, rt.alloc(), NO_PLACES)
-}
+const THREE: &str = "=\n= \"hello\\n\"\n= 2.0\n";
 
-#[test]
-fn scripts_of_searches(rt: HostRuntime) -> Result<(), Fail> {
-    answer_all(&rt, rt.alloc(), FOUND)?;
-    answer_all(&rt, rt.alloc(), SEARCH_WORDS)
-}
+const ALL: &str = "=\n= \"hello\\n\"\n= 2.0\n= 1.5\n";
 
-#[test]
-fn scripts_of_commands(rt: HostRuntime) -> Result<(), Fail> {
-    answer_all(&rt, rt.alloc(), COMMANDS)?;
-    answer_all(&rt, rt.alloc(), SEARCHES_AND_DUMPS)?;
-    answer_all(&rt, rt.alloc(), MARKS_AND_TAGS)
-}
-
-#[test]
-fn scripts_of_words_that_are_refused(rt: HostRuntime) -> Result<(), Fail> {
-    answer_all(&rt, rt.alloc(), BAD_COMMANDS)?;
-    answer_all(&rt, rt.alloc(), BAD_OPTIONS)
-}
-
-#[test]
-fn scripts_of_options(rt: HostRuntime) -> Result<(), Fail> {
-    answer_all(&rt, rt.alloc(), OPTIONS)?;
-    answer_all(&rt, rt.alloc(), PEER_WORDS)?;
-    answer_all(&rt, rt.alloc(), LIMIT_WORDS)
-}
-
-#[test]
-fn scripts_of_widgets(rt: HostRuntime) -> Result<(), Fail> {
-    answer_all(&rt, rt.alloc(), SELECTIONS)?;
-    answer_all(&rt, rt.alloc(), MARKS_IN_ORDER)?;
-    answer_all(&rt, rt.alloc(), TAGGED_UNDO)?;
-    answer_all(&rt, rt.alloc(), REMOVALS)
-}
-
-#[test]
-fn scripts_of_peers(rt: HostRuntime) -> Result<(), Fail> {
-    answer_all(&rt, rt.alloc(), PEERS)?;
-    answer_all(&rt, rt.alloc(), PEER_COMMANDS)?;
-    answer_all(&rt, rt.alloc(), OWN_PARTS)?;
-    answer_all(&rt, rt.alloc(), SHARED_PARTS)
-}
-
-#[test]
-fn scripts_of_limits(rt: HostRuntime) -> Result<(), Fail> {
-    answer_all(&rt, rt.alloc(), LIMIT_OPTIONS)?;
-    answer_all(&rt, rt.alloc(), MOVING_LIMITS)?;
-    answer_all(&rt, rt.alloc(), SEEN)?;
-    answer_all(&rt, rt.alloc(), LIMITED_TEXT)
-}
-
-#[test]
-fn scripts_of_limited_commands(rt: HostRuntime) -> Result<(), Fail> {
-    answer_all(&rt, rt.alloc(), WITHIN_LINES)?;
-    answer_all(&rt, rt.alloc(), LIMITED_SEARCHES)?;
-    answer_all(&rt, rt.alloc(), LIMITED_TAGS)?;
-    answer_all(&rt, rt.alloc(), LIMITED_MARKS)
-}
-
-#[test]
-fn a_full_site_brings_nothing_back(rt: HostRuntime) -> Result<(), Fail> {
-    let state = new_site(rt.alloc(), 1, 5)?;
-    let _site = answered(&rt, rt.alloc(), state, &[], UNDOING_FULL, 4096)?;
-    Ok(())
-}
-
-const FULL: Script<'static> = &[
-    (".t insert 1.0 abc", "! 18 TextFull"),
-    (".t insert 1.0 ab", "="),
-    (".t insert 1.0 c", "! 18 TextFull"),
-    (".t insert 1.0 ab", "! 18 TextFull"),
-    (".t insert 1.0 x", "! 18 TextFull"),
-    (".t get 1.0 end", r#"= "ab\n""#),
-];
-
-#[test]
-fn a_site_of_three_cells(rt: HostRuntime) -> Result<(), Fail> {
-    let state = new_site(rt.alloc(), 1, 3)?;
-    let _site = answered(&rt, rt.alloc(), state, &[], FULL, 7)?;
-    Ok(())
-}
-
-const SHORT: Script<'static> = &[
-    (".t insert 1.0 hello", "="),
-    (".t get 1.0 end", r#"= "hello\n""#),
-    (".t index end", "= 2.0"),
-    (".t index 1.end", "= 1.5"),
-];
-
-// The output of the short script, in pieces of 20 bytes, where the read or the write of a number fails.
-fn output_failing(
-    alloc: Global,
-    failing_read: Option<usize>,
-    failing_write: Option<usize>,
-) -> Result<(Vec<u8>, Option<Fault>), Fail> {
-    let lines = lines_of(alloc, SHORT, false)?;
-    let pieces = Pieces {
-        bytes: lines.as_bytes(),
-        size: 20,
-        until_failure: failing_read,
-    };
-    let state = new_site(alloc, 1, MOST_CELLS)?;
-    let (text, ended) = run_of(alloc, state, &[], pieces, failing_write);
-    Ok((text, ended.fault))
-}
-
-/// The numbers of a read and a write that fail, how many lines are answered, and what the run tells.
-type Failing = (Option<usize>, Option<usize>, usize, Option<Fault>);
+/// The numbers of a read and a write that fail, the reply lines, and what the run tells.
+type Failing = (Option<usize>, Option<usize>, &'static str, Option<Fault>);
 
 const FAILING: &[Failing] = &[
-    (Some(0), None, 0, Some(Fault::ReadFault)),
-    (Some(1), None, 1, Some(Fault::ReadFault)),
-    (Some(2), None, 2, Some(Fault::ReadFault)),
-    (Some(3), None, 3, Some(Fault::ReadFault)),
-    (Some(4), None, 3, Some(Fault::ReadFault)),
-    (None, Some(0), 0, Some(Fault::WriteFault)),
-    (None, Some(1), 1, Some(Fault::WriteFault)),
-    (None, Some(2), 2, Some(Fault::WriteFault)),
-    (None, Some(3), 3, Some(Fault::WriteFault)),
-    (None, Some(4), 4, None),
+    (Some(0), None, "", Some(Fault::ReadFault)),
+    (Some(1), None, ONE, Some(Fault::ReadFault)),
+    (Some(2), None, TWO, Some(Fault::ReadFault)),
+    (Some(3), None, THREE, Some(Fault::ReadFault)),
+    (Some(4), None, THREE, Some(Fault::ReadFault)),
+    (None, Some(0), "", Some(Fault::WriteFault)),
+    (None, Some(1), ONE, Some(Fault::WriteFault)),
+    (None, Some(2), TWO, Some(Fault::WriteFault)),
+    (None, Some(3), THREE, Some(Fault::WriteFault)),
+    (None, Some(4), ALL, None),
 ];
 
+// The lines are run in pieces of 20 bytes.
+fn fails(rt: &impl Abort, alloc: Global, row: &Failing) {
+    let (read, write, replies, told) = row;
+    let pieces = Pieces {
+        bytes: LINES.as_bytes(),
+        size: 20,
+        until_failure: *read,
+    };
+    let state = new_site(rt, alloc, 1, MOST_CELLS);
+    let (text, ended) = run_of(alloc, state, &[], pieces, *write);
+    let is_told = text.as_slice() == replies.as_bytes() && ended.fault == *told;
+    assert!(rt; is_told, "{read:?} {write:?}");
+}
+
 #[test]
-fn reads_and_writes_that_fail(rt: HostRuntime) -> Result<(), Fail> {
-    for (read, write, count, told) in FAILING {
-        let (text, fault) = output_failing(rt.alloc(), *read, *write)?;
-        let replies = replies_of(rt.alloc(), SHORT, *count)?;
-        assert_eq!(rt; text.as_slice(), replies.as_bytes(), "{count}");
-        assert_eq!(rt; fault, *told, "{count}");
+fn reads_and_writes_that_fail(rt: HostRuntime) {
+    for row in FAILING {
+        fails(&rt, rt.alloc(), row);
     }
-    Ok(())
 }
