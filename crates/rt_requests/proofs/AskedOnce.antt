@@ -1,7 +1,8 @@
 -- Words ask for one thing alone.
 use Rattle.std.proofs.Common.{◌≡◌, ◌∙◌, inl, inr, ℕ, Ok, List, [], ◌∷◌, Bool, true, false, ap, sym, subst, codes, bytes_eq}
 use Rattle.std.specs.Prelude.{MatchBool}
-use Rattle.rt_stamps.specs.Words.{Word, SpellsList}
+use Rattle.rt_stamps.specs.Words.{Word}
+use Rattle.rt_words.specs.Spelling.{SpellsList}
 use Rattle.rt_requests.specs.declared.request.Request.{Request}
 use Rattle.rt_requests.specs.declared.request.Request.TheVariants.{Insert, Replace}
 use Rattle.rt_requests.specs.Parts.{PieceValue, TextsValue}

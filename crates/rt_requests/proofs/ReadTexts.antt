@@ -1,7 +1,8 @@
 -- Words that are read as texts with their lists, one pair after the other.
 use Rattle.std.proofs.Common.{◌≡◌, ◌∙◌, ℕ, ◌≤◌, ◌-◌, List, [], ◌∷◌, ◌++◌, map, take, drop, get_or, length, refl, sym, ap, subst, arith, append_assoc, append-nil, String, Global, string_bytes}
 use Rattle.std.proofs.lemmas.List.{take_all}
-use Rattle.rt_stamps.specs.Words.{Word, SpellsList}
+use Rattle.rt_stamps.specs.Words.{Word}
+use Rattle.rt_words.specs.Spelling.{SpellsList}
 use Rattle.rt_requests.specs.Parts.{PieceValue}
 use Rattle.rt_requests.specs.Asking.{AreTexts}
 

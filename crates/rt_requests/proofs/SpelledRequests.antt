@@ -6,7 +6,8 @@ use Rattle.std.proofs.lemmas.Bool.{ne_eqb}
 use Rattle.std.proofs.Math.Seq.{take-append_seam, drop-append_seam}
 use Rattle.rt_marks.specs.declared.gravity.Gravity.TheVariants.{Left, Right}
 use Rattle.rt_marks.specs.Marks.{gravity_word}
-use Rattle.rt_stamps.specs.Words.{Word, EndsWord, IsBare, IsEscaped, IsSpelling, SpellsList, escape_of, is_list_blank, needs_quotes, text_of_word}
+use Rattle.rt_stamps.specs.Words.{Word}
+use Rattle.rt_words.proofs.WrittenWords.{listed, spaced_words}
 use Rattle.rt_words.proofs.BareWords.{both_false, both_true}
 use Rattle.rt_requests.specs.declared.comparison.Comparison.{Comparison}
 use Rattle.rt_requests.specs.declared.comparison.Comparison.TheVariants.{Less, LessOrEqual, Equal, GreaterOrEqual, Greater, NotEqual}
@@ -26,58 +27,16 @@ use Rattle.rt_requests.specs.Switches.{is_switch, kinds_of, measures_of, operato
 use Rattle.rt_requests.proofs.SpelledOptions.{edit_asked, edit_words, option_asked, settings_asked, settings_words}
 use Rattle.rt_requests.proofs.SpelledSearches.{any_search_asked, maybe_word, search_words}
 
--- LISTS OF TAGS
-
-not_needed : (c n : ℕ) → needs_quotes n ≡ true → needs_quotes c ≡ false → (c == n) ≡ false
-not_needed c n y h = ne_eqb c n (λ e. true≢false (sym y ∙ sym (ap needs_quotes e) ∙ h))
-
-no_blank : (c : ℕ) → needs_quotes c ≡ false → is_list_blank c ≡ false
-no_blank c h = rw (not_needed c 32 refl h, not_needed c 9 refl h, not_needed c 10 refl h) refl
-
-no_blanks : (word : List ℕ) → list_any needs_quotes word ≡ false → list_any is_list_blank word ≡ false
-no_blanks [] h = refl
-no_blanks (c ∷ word) h =
-    let p = both_false (needs_quotes c) (list_any needs_quotes word) h in rw (no_blank c p.0) (no_blanks word p.1)
-
-written_bare : (c : ℕ) (word : List ℕ) → list_any needs_quotes (c ∷ word) ≡ false → IsBare is_list_blank (c ∷ word)
-written_bare c word h =
-    let p = (both_false (needs_quotes c) (list_any needs_quotes word) h).0 in
-    (rw (not_needed c 34 refl p, not_needed c 123 refl p) refl, no_blanks (c ∷ word) h)
-
-written_escaped : (word : Word) → IsEscaped (flat_map escape_of word) word
-written_escaped [] = refl
-written_escaped (c ∷ word) = (escape_of c, flat_map escape_of word, refl, inl refl, written_escaped word)
-
-written_by : (b : Bool) (c : ℕ) (word : Word) → list_any needs_quotes (c ∷ word) ≡ b → list_any needs_quotes (c ∷ word) ≡ b → IsSpelling is_list_blank (text_of_word (c ∷ word)) (c ∷ word)
-written_by true c word e f = rw e (inr (inl (flat_map escape_of (c ∷ word), refl, written_escaped (c ∷ word))))
-written_by false c word e f = rw e (inl (written_bare c word f, refl))
-
-written : (word : Word) → IsSpelling is_list_blank (text_of_word word) word
-written [] = inr (inl ([], refl, refl))
-written (c ∷ word) = written_by (list_any needs_quotes (c ∷ word)) c word refl refl
-
--- words as a list has them
-abbrev list_of : List Word → List ℕ
-list_of words = flat_map (λ word. 32 ∷ text_of_word word) words
-
-spaced_ends : (words : List Word) → EndsWord is_list_blank (list_of words)
-spaced_ends [] = tt
-spaced_ends (word ∷ words) = refl
-
-spaced : (words : List Word) → SpellsList (list_of words) words
-spaced [] = refl
-spaced (word ∷ words) = (32 ∷ [], text_of_word word, list_of words, refl, refl, written word, spaced_ends words, spaced words)
-
 -- TEXTS
 
 -- texts with their lists, and the text without one
 abbrev texts_words : List PieceValue → Word → List Word
 texts_words [] rest = rest ∷ []
-texts_words (piece ∷ pieces) rest = piece.text ∷ list_of piece.tags ∷ texts_words pieces rest
+texts_words (piece ∷ pieces) rest = piece.text ∷ spaced_words piece.tags ∷ texts_words pieces rest
 
 are_texts : (pieces : List PieceValue) (rest : Word) → AreTexts (texts_words pieces rest) pieces rest
 are_texts [] rest = (refl, refl)
-are_texts (piece ∷ pieces) rest = (refl, spaced piece.tags, are_texts pieces rest)
+are_texts (piece ∷ pieces) rest = (refl, listed piece.tags, are_texts pieces rest)
 
 insert_asked : (index : Word) (pieces : List PieceValue) (rest : Word)
     → Asks (codes "insert" ∷ index ∷ texts_words pieces rest) (Ok (Insert index (record { pieces = pieces; rest = rest })))

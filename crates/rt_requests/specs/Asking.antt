@@ -5,7 +5,8 @@ use Rattle.std.specs.List.{prefix_len}
 use Rattle.std.specs.Str.{bytes_eq}
 use Rattle.rt_stamps.specs.declared.fault.Fault.{Fault}
 use Rattle.rt_stamps.specs.declared.fault.Fault.TheVariants.{BadCommand, BadOption, BadQuoting}
-use Rattle.rt_stamps.specs.Words.{Word, SpellsList}
+use Rattle.rt_stamps.specs.Words.{Word}
+use Rattle.rt_words.specs.Spelling.{SpellsList}
 use Rattle.rt_requests.specs.declared.request.Request.{Request}
 use Rattle.rt_requests.specs.declared.request.Request.TheVariants.{Insert, Delete, Replace, Get, Index, Compare, Count, Search, Dump, Mark, Tag, Edit, Configure, Cget}
 use Rattle.rt_requests.specs.EditWords.{asked_of_edits}

@@ -1,6 +1,6 @@
 // Insertions and removals.
 ghost use Rattle.std.specs.Prelude.{◌≡◌, ◌<◌, ◌⊎◌, [], ◌∷◌, Err, IfOk, IfErr, length, map, string_bytes};
-ghost use Rattle.rt_stamps.specs.Words.{SpellsList, IsBadlyQuotedList};
+ghost use Rattle.rt_words.specs.Spelling.{SpellsList, IsBadlyQuotedList};
 ghost use Rattle.rt_requests.specs.declared.request.Request.TheVariants.{Delete, Insert, Replace};
 ghost use Rattle.rt_requests.specs.Asking.{AreTexts, AreNoTexts, AsksInsert, AsksReplace, AsksTexts};
 ghost use Rattle.rt_requests.specs.Parts.{of_several};

@@ -6,7 +6,7 @@ use Rattle.std.proofs.lemmas.List.{length-take, length-append}
 use Rattle.rt_stamps.specs.declared.fault.Fault.{Fault}
 use Rattle.rt_stamps.specs.declared.fault.Fault.TheVariants.{NoMemory, ReadFault, WriteFault}
 use Rattle.rt_stamps.specs.declared.limits.TheConstants.{MOST_BYTES, MOST_READS}
-use Rattle.rt_stamps.specs.Lines.{cut, complete_of, rest_of, last_of, lines_of}
+use Rattle.rt_script.specs.Lines.{cut, complete_of, rest_of, last_of, lines_of}
 use Rattle.rt_stamps.specs.Words.{Word}
 use Rattle.rt_stamps.specs.Streams.{Stream}
 use Rattle.rt_script.specs.declared.answer.Answer.{Answer}

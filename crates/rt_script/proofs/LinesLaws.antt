@@ -5,7 +5,7 @@ use Rattle.std.specs.List.{prefix_len}
 use Rattle.std.proofs.lemmas.Bool.{false≢true}
 use Rattle.std.proofs.lemmas.List.Sums.{prefix_len_is}
 use Rattle.memchr.specs.Find.{NoneBefore, Nowhere, Passes, is_byte}
-use Rattle.rt_stamps.specs.Lines.{cut, before_all, without_return, complete_of, rest_of}
+use Rattle.rt_script.specs.Lines.{cut, before_all, without_return, complete_of, rest_of}
 use Rattle.rt_script.specs.Pieces.{is_inner}
 
 -- a newline ends the last line

@@ -14,7 +14,7 @@ use Rattle.std.proofs.lemmas.Str.{IsUtf8-from_is_utf8, is_utf8-from_IsUtf8}
 use Rattle.rt_stamps.specs.declared.limits.TheConstants.{MOST_LINE_BYTES}
 use Rattle.rt_stamps.specs.declared.fault.Fault.{Fault}
 use Rattle.rt_stamps.specs.declared.fault.Fault.TheVariants.{NoMemory, WriteFault}
-use Rattle.rt_stamps.specs.Lines.{cut, lines_of, without_return, is_readable, is_silent, answered, complete_of, rest_of, last_of}
+use Rattle.rt_script.specs.Lines.{cut, lines_of, without_return, is_readable, is_silent, answered, complete_of, rest_of, last_of}
 use Rattle.rt_stamps.specs.Words.{Word}
 use Rattle.rt_stamps.proofs.Writes.{appends_then}
 use Rattle.rt_script.specs.declared.answer.Answer.{Answer}

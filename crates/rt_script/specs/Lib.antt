@@ -1,3 +1,4 @@
+pub mod Lines
 pub mod Pieces
 pub mod Replies
 pub mod Run
@@ -8,7 +9,8 @@ pub use Rattle.rt_peers.specs.SiteStep
 pub use Rattle.rt_peers.specs.State
 pub use Rattle.rt_peers.specs.Step
 pub use Rattle.rt_stamps.specs.Fault
-pub use Rattle.rt_stamps.specs.Lines
+pub use Rattle.rt_words.specs.Spelling
+pub use Rattle.rt_words.specs.Writing
 pub use Rattle.rt_stamps.specs.Outcomes
 pub use Rattle.rt_stamps.specs.Places
 pub use Rattle.rt_stamps.specs.Words

@@ -3,7 +3,7 @@ use Rattle.std.specs.Prelude.{◌≡◌, ◌⊎◌, ℕ, ◌+◌, ◌==◌, ◌&
 use Rattle.std.specs.Io.KnownBytes.{Appends}
 use Rattle.rt_stamps.specs.declared.fault.Fault.{Fault}
 use Rattle.rt_stamps.specs.declared.fault.Fault.TheVariants.{NoMemory, WriteFault}
-use Rattle.rt_stamps.specs.Lines.{is_readable, is_silent}
+use Rattle.rt_script.specs.Lines.{is_readable, is_silent}
 use Rattle.rt_stamps.specs.Words.{Word}
 use Rattle.rt_stamps.specs.Written.{Wrote}
 use Rattle.rt_script.specs.declared.answer.Answer.{Answer}

@@ -4,9 +4,10 @@ use Rattle.std.specs.Io.KnownBytes.{Appends, Consumes, IsAtEnd}
 use Rattle.rt_stamps.specs.declared.limits.TheConstants.{MOST_BYTES, MOST_READS}
 use Rattle.rt_stamps.specs.declared.fault.Fault.{Fault}
 use Rattle.rt_stamps.specs.declared.fault.Fault.TheVariants.{NoMemory, BadQuoting, ReadFault, WriteFault}
-use Rattle.rt_stamps.specs.Lines.{is_readable, answered, complete_of, lines_of}
+use Rattle.rt_script.specs.Lines.{is_readable, answered, complete_of, lines_of}
 use Rattle.rt_stamps.specs.Streams.{Stream}
-use Rattle.rt_stamps.specs.Words.{Word, Spells, IsBadlyQuoted}
+use Rattle.rt_stamps.specs.Words.{Word}
+use Rattle.rt_words.specs.Spelling.{Spells, IsBadlyQuoted}
 use Rattle.rt_stamps.specs.Written.{AppendsPart}
 use Rattle.rt_script.specs.declared.answer.Answer.{Answer}
 use Rattle.rt_script.specs.declared.answer.Answer.TheVariants.{Refused}

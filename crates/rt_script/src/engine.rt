@@ -1,7 +1,8 @@
 // Runs of scripts.
 ghost use Rattle.std.specs.Prelude.{◌≡◌, ℕ, ◌+◌, ◌<◌, ◌≤◌, ◌&&◌, ◌∷◌, ◌++◌, [], true, false, List, length, IfOk, IfErr, OnOk, IfSome, MatchOption};
 ghost use Rattle.std.specs.List.{list_all, prefix_len};
-ghost use Rattle.rt_stamps.specs.Lines.{cut, without_return, is_blank, is_readable, is_silent, complete_of, rest_of, last_of, lines_of};
+ghost use Rattle.rt_script.specs.Lines.{cut, without_return, is_readable, is_silent, complete_of, rest_of, last_of, lines_of};
+ghost use Rattle.rt_words.specs.Spelling.{is_blank};
 ghost use Rattle.rt_stamps.specs.Source.{failures_of};
 ghost use Rattle.rt_stamps.specs.Written.{Wrote};
 ghost use Rattle.rt_words.specs.declared.spare.TheConstants.{MOST_WORDS};
@@ -14,8 +15,8 @@ use crate::{Answer, Commands};
 use memchr::memchr;
 use rt_stamps::limits::{MOST_BYTES, MOST_LINE_BYTES, MOST_READS, PIECE_BYTES};
 use rt_stamps::std_ends::{Count, Writer};
-use rt_stamps::{Fault, Sink, Source, is_blank, read_piece, write_all};
-use rt_words::Spare;
+use rt_stamps::{Fault, Sink, Source, read_piece, write_all};
+use rt_words::{Spare, is_blank};
 use rt_words::words::words_in;
 use std::alloc::Global;
 use std::marker::{Brand, Model};

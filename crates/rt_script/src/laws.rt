@@ -1,6 +1,7 @@
 // A law of the definitions, as the contract of a function that does nothing.
 ghost use Rattle.std.specs.Prelude.{◌≡◌, ◌∷◌, List, codes};
-ghost use Rattle.rt_stamps.specs.Words.{Word, Spells};
+ghost use Rattle.rt_stamps.specs.Words.{Word};
+ghost use Rattle.rt_words.specs.Spelling.{Spells};
 ghost use Rattle.rt_script.specs.declared.answer.Answer.TheVariants.{Replied};
 ghost use Rattle.rt_script.specs.Replies.{text_of_answer};
 

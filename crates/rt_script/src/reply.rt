@@ -4,14 +4,15 @@ ghost use Rattle.std.specs.Fmt.{decimal};
 ghost use Rattle.std.specs.List.{list_any};
 ghost use Rattle.rt_show.specs.Shown.{spaced};
 ghost use Rattle.rt_stamps.specs.Source.{failures_of};
-ghost use Rattle.rt_stamps.specs.Words.{needs_quotes, text_of_word};
+ghost use Rattle.rt_words.specs.Writing.{text_of_word};
 ghost use Rattle.rt_stamps.specs.Written.{Wrote};
 ghost use Rattle.rt_script.specs.Replies.{text_of_answer, text_of_received, text_of_refusal, reply_line};
 
 use crate::Answer;
 use rt_peers::Received;
 use rt_show::parts::{Part, write_parts};
-use rt_stamps::{Fault, Sink, write_all, write_word};
+use rt_stamps::{Fault, Sink, write_all};
+use rt_words::{has_quoted, write_word};
 
 /// Writes the line of an answer: `=` and the words of a reply, or `!` and a fault's number and
 /// name; of a file that was received how many of its operations were new and how many repeats, behind
@@ -160,22 +161,4 @@ fn push_word(word: &str, line: &mut Vec<u8>) -> Option<()>
     }
     line.push(b' ').ok()?;
     line.extend_from_slice(bytes).ok()
-}
-
-// Whether a word that isn't empty is written in quotes.
-fn has_quoted(word: &[u8]) -> bool
-    ensures { result ≡ list_any needs_quotes word.now }
-{
-    word.iter().any(|byte| needs_quotes(*byte))
-}
-
-// Most letters and all digits lie between the quote and the backslash.
-fn needs_quotes(byte: u8) -> bool
-    ensures { result ≡ needs_quotes byte }
-{
-    (byte <= b'"' || byte >= b'\\')
-        && matches!(
-            byte,
-            b' ' | b'\t' | b'\n' | b'\r' | b'"' | b'\\' | b'{' | b'}'
-        )
 }

@@ -5,7 +5,8 @@ use Rattle.std.specs.Fmt.{decimal}
 use Rattle.std.specs.Io.KnownBytes.{Appends}
 use Rattle.std.proofs.lemmas.Grind.{flat_map-append}
 use Rattle.std.proofs.lemmas.List.Folds.{flat_map-map}
-use Rattle.rt_stamps.specs.Words.{Word, text_of_word}
+use Rattle.rt_stamps.specs.Words.{Word}
+use Rattle.rt_words.specs.Writing.{text_of_word}
 use Rattle.rt_stamps.specs.Written.{AppendsPart, Wrote}
 use Rattle.rt_stamps.proofs.Writes.{flat_map_parts, part_longer, part_then, wrote_then}
 use Rattle.rt_oplog.specs.Operations.{Operation, stamp_of}

@@ -1,7 +1,7 @@
 -- What a part of a line is written as.
 use Rattle.std.specs.Prelude.{ℕ, List, encode_utf8_all}
 use Rattle.std.specs.Fmt.{decimal}
-use Rattle.rt_stamps.specs.Words.{text_of_word}
+use Rattle.rt_words.specs.Writing.{text_of_word}
 use Rattle.rt_show.specs.Shown.{text_of_stamp, text_of_span}
 use Rattle.rt_show.specs.declared.parts.Part.{Part}
 use Rattle.rt_show.specs.declared.parts.Part.TheVariants as parts

@@ -3,7 +3,8 @@ use Rattle.std.specs.Prelude.{ℕ, List, [], ◌∷◌, ◌++◌, map, flat_map,
 use Rattle.std.specs.Fmt.{decimal}
 use Rattle.rt_stamps.specs.declared.stamp.Span.{Span}
 use Rattle.rt_stamps.specs.declared.stamp.Stamp.{Stamp}
-use Rattle.rt_stamps.specs.Words.{Word, text_of_word}
+use Rattle.rt_stamps.specs.Words.{Word}
+use Rattle.rt_words.specs.Writing.{text_of_word}
 use Rattle.rt_oplog.specs.Operations.{Body, Insert, Delete, Tag, Operation, stamp_of}
 
 -- COUNT.SITE

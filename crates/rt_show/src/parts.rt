@@ -2,13 +2,14 @@
 ghost use Rattle.std.specs.Prelude.{◌≡◌, ◌+◌, ◌∷◌, ◌++◌, IfErr, flat_map, string_bytes};
 ghost use Rattle.std.specs.Fmt.{decimal};
 ghost use Rattle.rt_stamps.specs.Source.{failures_of};
-ghost use Rattle.rt_stamps.specs.Words.{text_of_word};
+ghost use Rattle.rt_words.specs.Writing.{text_of_word};
 ghost use Rattle.rt_stamps.specs.Written.{Wrote};
 ghost use Rattle.rt_show.specs.Parts.{text_of_part};
 ghost use Rattle.rt_show.specs.Shown.{text_of_stamp, text_of_span};
 
 use itoa::Buffer;
-use rt_stamps::{Fault, Sink, Span, Stamp, write_all, write_text, write_word};
+use rt_stamps::{Fault, Sink, Span, Stamp, write_all};
+use rt_words::{write_text, write_word};
 
 /// A word of a line.
 #[derive(Clone, Copy)]

@@ -1,4 +1,3 @@
 pub mod Names
 pub mod Order
-pub mod TextLaws
 pub mod Writes

@@ -1,6 +1,5 @@
 pub mod Clock
 pub mod Fault
-pub mod Lines
 pub mod Names
 pub mod Outcomes
 pub mod Places

@@ -1,5 +1,5 @@
 //! What every other crate speaks of: stamps of characters, fresh counts, faults, limits, and
-//! readers and writers. The definitions of places, lines and words stand in `specs/`.
+//! readers and writers. The definitions of places and names stand in `specs/`.
 #![tactic(auto)]
 
 pub mod clock;
@@ -11,7 +11,6 @@ pub mod position;
 pub mod source;
 pub mod stamp;
 pub mod std_ends;
-pub mod word;
 pub mod write;
 
 pub use clock::Clock;
@@ -20,5 +19,4 @@ pub use name::{check_name, check_names, is_name_length};
 pub use position::Position;
 pub use source::{Failed, Sink, Source, read_piece};
 pub use stamp::{FINAL, ROOT, Site, Span, Stamp};
-pub use word::{is_blank, write_text, write_word};
 pub use write::write_all;

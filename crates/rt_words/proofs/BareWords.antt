@@ -2,7 +2,7 @@
 use Rattle.std.proofs.Common.{◌≡◌, ℕ, ◌+◌, ◌<◌, ◌≢◌, ◌==◌, ◌||◌, ◌&&◌, not, cond, suc, List, [], ◌∷◌, ◌++◌, Bool, true, false, true≢false, length, take, drop, get_or, refl, sym, ◌∙◌, ap, subst, arith}
 use Rattle.std.specs.List.{list_any, prefix_len}
 use Rattle.std.proofs.lemmas.Bool.Decides.{nat_tests}
-use Rattle.rt_stamps.specs.Words.{EndsWord, IsBare}
+use Rattle.rt_words.specs.Spelling.{EndsWord, IsBare}
 use Rattle.rt_words.proofs.Fronts.{heads, one_more}
 
 -- no separator

@@ -4,7 +4,8 @@ use Rattle.std.proofs.lemmas.Bool.{cases_lt}
 use Rattle.std.proofs.lemmas.List.{take-append-le, take-append-drop, take_at, length-append, get_or_at}
 use Rattle.std.proofs.lemmas.List.Sums.{sum_by-append}
 use Rattle.std.proofs.Math.Seq.{take-append-add}
-use Rattle.rt_stamps.specs.Words.{Word, opening, closing, IsBalanced, IsBraced}
+use Rattle.rt_stamps.specs.Words.{Word}
+use Rattle.rt_words.specs.Spelling.{opening, closing, IsBalanced, IsBraced}
 use Rattle.rt_words.specs.FirstWord.{BeginsWith, ClosesAt, IsBracedFront, HasNoBracedFront}
 use Rattle.rt_words.proofs.Fronts.{heads, begins}
 

@@ -4,4 +4,6 @@ pub mod Fronts
 pub mod Quotes
 pub mod Separating
 pub mod Spelling
+pub mod TextLaws
 pub mod WordSteps
+pub mod WrittenWords

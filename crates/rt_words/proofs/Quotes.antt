@@ -7,7 +7,8 @@ use Rattle.std.proofs.lemmas.Str.{IsCharBoundary-before_ascii, IsCharBoundary-af
 use Rattle.std.proofs.lemmas.List.{take_more, drop_more, drop_all, length-drop, get_or-drop}
 use Rattle.std.proofs.Math.Seq.{take-add}
 use Rattle.std.proofs.lemmas.List.Sums.{prefix_len-le-length, prefix_len_stops}
-use Rattle.rt_stamps.specs.Words.{Word, escape_of, StandsFor, IsEscaped, IsQuoted}
+use Rattle.rt_stamps.specs.Words.{Word}
+use Rattle.rt_words.specs.Spelling.{escape_of, StandsFor, IsEscaped, IsQuoted}
 use Rattle.rt_words.specs.FirstWord.{BeginsWith, IsQuotedFront, HasNoQuotedFront, is_plain}
 use Rattle.rt_words.proofs.Fronts.{heads, one_more, whole_twice}
 

@@ -1,8 +1,8 @@
 -- What separates words is no quote and no brace, and stands as one byte.
 use Rattle.std.proofs.Common.{◌≡◌, ℕ, ◌<◌, Bool, true, false, refl, arith}
 use Rattle.std.proofs.lemmas.Bool.Decides.{nat_tests}
-use Rattle.rt_stamps.specs.Lines.{is_blank}
-use Rattle.rt_stamps.specs.Words.{is_list_blank}
+use Rattle.rt_words.specs.Spelling.{is_blank}
+use Rattle.rt_words.specs.Spelling.{is_list_blank}
 use Rattle.rt_words.specs.Separators.{separates}
 use Rattle.rt_words.specs.declared.words.Separators.{Separators}
 use Rattle.rt_words.specs.declared.words.Separators.TheVariants.{OfLine, OfList}

@@ -4,8 +4,9 @@ use Rattle.std.specs.List.{list_any, list_all, prefix_len}
 use Rattle.std.proofs.lemmas.Bool.{eqb-false}
 use Rattle.std.proofs.lemmas.List.{take_at, drop_at, length-take-le, length-append, append_cancel_left}
 use Rattle.std.proofs.lemmas.List.Sums.{prefix_len-le-length}
-use Rattle.rt_stamps.specs.Lines.{is_blank}
-use Rattle.rt_stamps.specs.Words.{Word, AreSeparators, EndsWord, IsQuoted, IsBraced, IsSpelling, Spells, SpellsBy, SpellsList, is_list_blank}
+use Rattle.rt_words.specs.Spelling.{is_blank}
+use Rattle.rt_stamps.specs.Words.{Word}
+use Rattle.rt_words.specs.Spelling.{AreSeparators, EndsWord, IsQuoted, IsBraced, IsSpelling, Spells, SpellsBy, SpellsList, is_list_blank}
 use Rattle.rt_words.specs.FirstWord.{IsFirstWord, HasNoFirstWord, BeginsWith, IsQuotedFront, HasNoQuotedFront, IsBracedFront, HasNoBracedFront}
 use Rattle.rt_words.proofs.BareWords.{is_dark, both_true, both_false, not_both, bare_dark, dark_once, bare_other, dark_ends, bare_front}
 use Rattle.rt_words.proofs.Fronts.{heads, one_more, begins, whole_twice}

@@ -5,7 +5,8 @@ use Rattle.std.specs.Str.{IsUtf8, IsCharBoundary}
 use Rattle.std.proofs.lemmas.Str.{IsCharBoundary-start, IsCharBoundary-before_ascii, IsCharBoundary-after_ascii}
 use Rattle.std.proofs.lemmas.List.{take_rest, drop-drop, drop_more, drop_all, get_or-drop, length-drop}
 use Rattle.std.proofs.lemmas.List.Sums.{prefix_len-le-length, prefix_len_passes, prefix_len_stops}
-use Rattle.rt_stamps.specs.Words.{Word, AreSeparators, EndsWord, SpellsBy}
+use Rattle.rt_stamps.specs.Words.{Word}
+use Rattle.rt_words.specs.Spelling.{AreSeparators, EndsWord, SpellsBy}
 use Rattle.rt_words.specs.FirstWord.{IsFirstWord, HasNoFirstWord}
 use Rattle.rt_words.proofs.Separating.{IsSeparating}
 use Rattle.rt_words.proofs.Spelling.{starts, spells_after_blanks, spells_past_blanks, spells_first, after_first, no_words}

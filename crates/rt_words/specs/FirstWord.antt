@@ -1,6 +1,7 @@
 -- The word at the front of a text, as it is read.
 use Rattle.std.specs.Prelude.{◌≡◌, ℕ, ◌<◌, ◌≤◌, ◌==◌, ◌||◌, List, take, drop, length, Bool, not, slice_index}
-use Rattle.rt_stamps.specs.Words.{Word, EndsWord, IsSpelling, IsQuoted, IsBraced, IsBalanced}
+use Rattle.rt_stamps.specs.Words.{Word}
+use Rattle.rt_words.specs.Spelling.{EndsWord, IsSpelling, IsQuoted, IsBraced, IsBalanced}
 
 -- so much of the front of a text spells a word, and a separator or nothing follows
 abbrev pub IsFirstWord : (ℕ → Bool) → List ℕ → ℕ → Word → Type 0

@@ -2,13 +2,13 @@
 ghost use Rattle.std.specs.Prelude.{◌≡◌, ◌≢◌, ◌⊎◌, ℕ, ◌<◌, ◌≤◌, ◌∷◌, [], IfOk, IfErr, MatchOption, MatchResult, OnOk, String, drop, map, not, false, length, slice_index, slice_index_or, string_bytes, take};
 ghost use Rattle.std.specs.declared.alloc.Global.{Global};
 ghost use Rattle.std.specs.List.{prefix_len};
-ghost use Rattle.rt_stamps.specs.Lines.{is_blank};
-ghost use Rattle.rt_stamps.specs.Words.{EndsWord, Spells, SpellsBy, SpellsList, IsBadlyQuoted, IsBadlyQuotedBy, IsBadlyQuotedList, escape_of, is_list_blank};
+ghost use Rattle.rt_words.specs.Spelling.{is_blank};
+ghost use Rattle.rt_words.specs.Spelling.{EndsWord, Spells, SpellsBy, SpellsList, IsBadlyQuoted, IsBadlyQuotedBy, IsBadlyQuotedList, escape_of, is_list_blank};
 ghost use Rattle.rt_words.specs.FirstWord.{BeginsWith, ClosesAt, IsFirstWord, HasNoFirstWord, IsQuotedFront, HasNoQuotedFront, IsBracedFront, HasNoBracedFront, is_plain};
 ghost use Rattle.rt_words.specs.Separators.{separates};
 
 use crate::Spare;
-use rt_stamps::{Fault, is_blank};
+use rt_stamps::Fault;
 use std::alloc::Global;
 
 /// The words of a line: bare, quoted or braced, with spaces and tabs between them. `BadQuoting`
@@ -47,6 +47,13 @@ pub fn list_words(alloc: Global, list: &str) -> Result<Vec<String>, Fault>
     let count = words_by(alloc, &mut words, Separators::OfList, list)?;
     words.truncate(count);
     Ok(words)
+}
+
+/// Whether a byte separates the words of a line: a space or a tab.
+pub fn is_blank(byte: u8) -> bool
+    ensures { result ≡ is_blank byte }
+{
+    matches!(byte, b' ' | b'\t')
 }
 
 // What separates words: spaces and tabs in a line, and newlines too in a list.

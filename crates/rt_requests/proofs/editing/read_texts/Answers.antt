@@ -1,5 +1,6 @@
 use Rattle.std.proofs.Common.{◌∙◌, List, map, string_bytes, subst}
-use Rattle.rt_stamps.specs.Words.{Word, SpellsList}
+use Rattle.rt_stamps.specs.Words.{Word}
+use Rattle.rt_words.specs.Spelling.{SpellsList}
 use Rattle.rt_requests.proofs.ReadTexts.{Reading, next, read_all, two_and_more}
 use Rattle.rt_requests.proofs.editing.read_texts.Goals as goal
 

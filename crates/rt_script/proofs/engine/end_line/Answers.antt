@@ -1,7 +1,7 @@
 use Rattle.std.proofs.Common.{◌≡◌, [], ap, ◌∙◌, arith}
 use Rattle.std.proofs.lemmas.Bool.Decides.{nat_tests}
 use Rattle.std.proofs.lemmas.Result.{err_from_is_err_and}
-use Rattle.rt_stamps.specs.Lines.{without_return}
+use Rattle.rt_script.specs.Lines.{without_return}
 use Rattle.rt_script.proofs.RunLaws.{kept_line, length_none, on_any, unstored_line, whole_line}
 use Rattle.rt_script.proofs.engine.end_line.Goals as goal
 

@@ -1,7 +1,7 @@
 use Rattle.std.proofs.Common.{ℕ, ◌+◌, ◌<◌, ◌++◌, take, length, ap, sym, refl, ◌∙◌, append-nil, arith}
 use Rattle.std.proofs.lemmas.List.{take_all}
 use Rattle.std.proofs.lemmas.Result.{err_from_is_err_and}
-use Rattle.rt_stamps.specs.Lines.{rest_of}
+use Rattle.rt_script.specs.Lines.{rest_of}
 use Rattle.rt_script.specs.Pieces.{kept}
 use Rattle.rt_script.proofs.LinesLaws.{complete_none}
 use Rattle.rt_script.proofs.RunLaws.{line_counted, line_within, newline_at, ran_start, ran_more, stopped_lines, kept_lines, kept_rest, bytes_newline, kept_newline}

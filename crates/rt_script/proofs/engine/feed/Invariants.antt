@@ -1,5 +1,5 @@
 use Rattle.std.proofs.Common.{◌≡◌, ◌≤◌, ◌-◌, ◌++◌, ℕ, List, [], take, length}
-use Rattle.rt_stamps.specs.Lines.{cut, complete_of, rest_of}
+use Rattle.rt_script.specs.Lines.{cut, complete_of, rest_of}
 use Rattle.rt_script.specs.declared.engine.TheConstants.{MOST_KEPT_BYTES}
 use Rattle.rt_script.specs.Pieces.{kept}
 use Rattle.rt_script.specs.Run.{Ran}

@@ -1,7 +1,7 @@
 use Rattle.std.proofs.Common.{Some, None, ◌∷◌, [], sym, ◌∙◌, ap}
 use Rattle.std.proofs.lemmas.Slice.Eq.{strip_suffix_is}
 use Rattle.std.proofs.lemmas.Bool.Decides.{Decides-eqb}
-use Rattle.rt_stamps.specs.Lines.{without_return}
+use Rattle.rt_script.specs.Lines.{without_return}
 use Rattle.rt_script.proofs.LinesLaws.{without_return_push, without_return_other}
 use Rattle.rt_script.proofs.engine.without_return.Goals as goal
 

@@ -1,6 +1,6 @@
 use Rattle.std.proofs.Common.{◌∷◌, string_bytes, ◌∙◌, ap, ◌+◌}
 use Rattle.std.proofs.lemmas.Result.{err_from_is_err_and}
-use Rattle.rt_stamps.specs.Words.{text_of_word}
+use Rattle.rt_words.specs.Writing.{text_of_word}
 use Rattle.rt_stamps.proofs.Writes.{part_longer, part_then, flat_map_parts}
 use Rattle.rt_script.proofs.reply.write_words.Goals as goal
 

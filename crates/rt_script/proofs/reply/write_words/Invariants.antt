@@ -1,6 +1,6 @@
 use Rattle.std.proofs.Common.{◌≡◌, take, flat_map, ◌∷◌, string_bytes}
 use Rattle.std.specs.Io.KnownBytes.{Appends}
-use Rattle.rt_stamps.specs.Words.{text_of_word}
+use Rattle.rt_words.specs.Writing.{text_of_word}
 use Rattle.rt_script.proofs.reply.write_words.Given as goal
 
 abbrev pub invariant-loop-word : goal.invariant-loop-word

@@ -1,7 +1,7 @@
 use Rattle.std.proofs.Common.{◌∷◌, [], codes, map, string_bytes}
 use Rattle.std.specs.Prelude.{encode_utf8_all}
 use Rattle.std.proofs.lemmas.Result.{err_from_is_err_and}
-use Rattle.rt_stamps.specs.Words.{text_of_word}
+use Rattle.rt_words.specs.Writing.{text_of_word}
 use Rattle.rt_show.specs.Shown.{text_of_stamp}
 use Rattle.rt_show.proofs.SpacedLaws.{names_wrote, words_part}
 use Rattle.rt_show.proofs.lines.write_insert.Goals as goal

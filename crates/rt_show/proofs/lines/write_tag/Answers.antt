@@ -1,7 +1,7 @@
 use Rattle.std.proofs.Common.{◌∷◌, [], codes, map}
 use Rattle.std.specs.Prelude.{if◌then◌else◌}
 use Rattle.std.proofs.lemmas.Result.{err_from_is_err_and}
-use Rattle.rt_stamps.specs.Words.{text_of_word}
+use Rattle.rt_words.specs.Writing.{text_of_word}
 use Rattle.rt_show.specs.Shown.{text_of_span}
 use Rattle.rt_show.proofs.SpacedLaws.{words_part, words_wrote}
 use Rattle.rt_show.proofs.lines.write_tag.Goals as goal

@@ -1,6 +1,6 @@
 use Rattle.std.proofs.Common.{◌≡◌, take, flat_map, ◌∷◌, string_bytes}
 use Rattle.std.specs.Io.KnownBytes.{Appends}
-use Rattle.rt_stamps.specs.Words.{text_of_word}
+use Rattle.rt_words.specs.Writing.{text_of_word}
 use Rattle.rt_show.proofs.parts.write_names.Given as goal
 
 abbrev pub invariant-loop-name : goal.invariant-loop-name

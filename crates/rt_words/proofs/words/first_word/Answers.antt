@@ -1,6 +1,6 @@
 use Rattle.std.proofs.Common.{◌≡◌, ◌∙◌, ◌<◌, ℕ, List, ap, sym, subst, drop, length, get_or}
 use Rattle.std.proofs.lemmas.Result.{err_from_is_err_and}
-use Rattle.rt_stamps.specs.Words.{EndsWord}
+use Rattle.rt_words.specs.Spelling.{EndsWord}
 use Rattle.rt_words.specs.FirstWord.{BeginsWith}
 use Rattle.rt_words.specs.Separators.{separates}
 use Rattle.rt_words.proofs.Separating.{separating}

@@ -1,7 +1,7 @@
 use Rattle.std.proofs.Common.{◌≡◌, take, flat_map}
 use Rattle.std.specs.Prelude.{encode_utf8}
 use Rattle.std.specs.Io.KnownBytes.{Appends}
-use Rattle.rt_stamps.proofs.word.write_bare_text.Given as goal
+use Rattle.rt_words.proofs.writing.write_bare_text.Given as goal
 
 abbrev pub invariant-loop-character : goal.invariant-loop-character
 invariant-loop-character g l = record {

@@ -1,8 +1,8 @@
 use Rattle.std.proofs.Common.{◌∙◌, ap, ◌+◌}
 use Rattle.std.proofs.lemmas.Result.{err_from_is_err_and}
-use Rattle.rt_stamps.specs.Words.{escape_of}
+use Rattle.rt_words.specs.Spelling.{escape_of}
 use Rattle.rt_stamps.proofs.Writes.{part_longer, part_then, flat_map_parts}
-use Rattle.rt_stamps.proofs.word.write_all_escaped.Goals as goal
+use Rattle.rt_words.proofs.writing.write_all_escaped.Goals as goal
 
 pub returns-in_err-write_escaped-clause-wrote : goal.returns-in_err-write_escaped-clause-wrote
 returns-in_err-write_escaped-clause-wrote g c =

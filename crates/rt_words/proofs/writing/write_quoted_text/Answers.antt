@@ -1,7 +1,7 @@
 use Rattle.std.proofs.Common.{◌∷◌, []}
 use Rattle.std.proofs.lemmas.Result.{err_from_is_err_and}
 use Rattle.rt_stamps.proofs.Writes.{part_longer}
-use Rattle.rt_stamps.proofs.word.write_quoted_text.Goals as goal
+use Rattle.rt_words.proofs.writing.write_quoted_text.Goals as goal
 
 pub returns-in_err-write_all-clause-wrote : goal.returns-in_err-write_all-clause-wrote
 returns-in_err-write_all-clause-wrote g c =

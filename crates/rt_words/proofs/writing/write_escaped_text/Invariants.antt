@@ -1,8 +1,8 @@
 use Rattle.std.proofs.Common.{◌≡◌, take, flat_map}
 use Rattle.std.specs.Prelude.{encode_utf8}
 use Rattle.std.specs.Io.KnownBytes.{Appends}
-use Rattle.rt_stamps.specs.Words.{escape_of}
-use Rattle.rt_stamps.proofs.word.write_escaped_text.Given as goal
+use Rattle.rt_words.specs.Spelling.{escape_of}
+use Rattle.rt_words.proofs.writing.write_escaped_text.Given as goal
 
 abbrev pub invariant-loop-character : goal.invariant-loop-character
 invariant-loop-character g l = record {

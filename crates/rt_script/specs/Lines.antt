@@ -3,6 +3,7 @@ use Rattle.std.specs.Prelude.{ℕ, ◌==◌, ◌&&◌, ◌||◌, not, nat_le, Li
 use Rattle.std.specs.List.{list_all}
 use Rattle.std.specs.Str.{is_utf8}
 use Rattle.rt_stamps.specs.declared.limits.TheConstants.{MOST_LINE_BYTES}
+use Rattle.rt_words.specs.Spelling.{is_blank}
 
 -- a byte before the lines that newlines end and before what follows them
 abbrev pub before_all : ℕ → List (List ℕ) → List ℕ → List (List ℕ) × List ℕ
@@ -36,10 +37,6 @@ last_of (c ∷ rest) = (c ∷ rest) ∷ []
 -- the lines of a script
 abbrev pub lines_of : List ℕ → List (List ℕ)
 lines_of bytes = complete_of bytes ++ last_of (rest_of bytes)
-
--- spaces and tabs separate words
-abbrev pub is_blank : ℕ → Bool
-is_blank c = (c == 32) || (c == 9)
 
 -- a line that isn't too long and is a text
 abbrev pub is_readable : List ℕ → Bool

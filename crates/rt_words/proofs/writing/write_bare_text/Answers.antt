@@ -2,7 +2,7 @@ use Rattle.std.proofs.Common.{◌∙◌, ap, ◌+◌}
 use Rattle.std.specs.Prelude.{encode_utf8}
 use Rattle.std.proofs.lemmas.Result.{err_from_is_err_and}
 use Rattle.rt_stamps.proofs.Writes.{part_longer, part_then, flat_map_parts}
-use Rattle.rt_stamps.proofs.word.write_bare_text.Goals as goal
+use Rattle.rt_words.proofs.writing.write_bare_text.Goals as goal
 
 pub returns-in_err-write_character-clause-wrote : goal.returns-in_err-write_character-clause-wrote
 returns-in_err-write_character-clause-wrote g c =

@@ -6,7 +6,8 @@ use Rattle.std.proofs.lemmas.Grind.{flat_map-append}
 use Rattle.std.proofs.lemmas.List.Folds.{list_any-append}
 use Rattle.std.proofs.lemmas.List.{nil_from_length}
 use Rattle.std.proofs.lemmas.Str.{length-le-encodes}
-use Rattle.rt_stamps.specs.Words.{escape_of, needs_quotes, text_of_word}
+use Rattle.rt_words.specs.Spelling.{escape_of}
+use Rattle.rt_words.specs.Writing.{needs_quotes, text_of_word}
 
 -- what the bytes of a text are made, each character's bytes are
 pub flat_map_encoded : (f : ℕ → List ℕ) (text : List ℕ) → flat_map f (encode_utf8_all text) ≡ flat_map (λ c. flat_map f (encode_utf8 c)) text

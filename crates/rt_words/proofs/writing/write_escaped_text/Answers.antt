@@ -1,9 +1,9 @@
 use Rattle.std.proofs.Common.{◌∙◌, ap, ◌+◌, flat_map}
 use Rattle.std.specs.Prelude.{encode_utf8}
 use Rattle.std.proofs.lemmas.Result.{err_from_is_err_and}
-use Rattle.rt_stamps.specs.Words.{escape_of}
+use Rattle.rt_words.specs.Spelling.{escape_of}
 use Rattle.rt_stamps.proofs.Writes.{part_longer, part_then, flat_map_parts}
-use Rattle.rt_stamps.proofs.word.write_escaped_text.Goals as goal
+use Rattle.rt_words.proofs.writing.write_escaped_text.Goals as goal
 
 pub returns-in_err-write_escaped_character-clause-wrote : goal.returns-in_err-write_escaped_character-clause-wrote
 returns-in_err-write_escaped_character-clause-wrote g c =

@@ -1,7 +1,7 @@
 use Rattle.std.proofs.Common.{arith}
 use Rattle.std.proofs.lemmas.Bool.Decides.{nat_tests}
-use Rattle.rt_stamps.proofs.TextLaws.{empty_text, quoted_text, bare_text}
-use Rattle.rt_stamps.proofs.word.write_text.Goals as goal
+use Rattle.rt_words.proofs.TextLaws.{empty_text, quoted_text, bare_text}
+use Rattle.rt_words.proofs.writing.write_text.Goals as goal
 
 pub returns-then-is_empty-clause-wrote : goal.returns-then-is_empty-clause-wrote
 returns-then-is_empty-clause-wrote g c = rw (empty_text c.args.text.now (grind (arith, nat_tests, c.is_empty.ensures))) c.write_all.ensures.wrote

@@ -1,7 +1,7 @@
 use Rattle.std.proofs.Common.{◌≡◌, take, flat_map}
 use Rattle.std.specs.Io.KnownBytes.{Appends}
-use Rattle.rt_stamps.specs.Words.{escape_of}
-use Rattle.rt_stamps.proofs.word.write_all_escaped.Given as goal
+use Rattle.rt_words.specs.Spelling.{escape_of}
+use Rattle.rt_words.proofs.writing.write_all_escaped.Given as goal
 
 abbrev pub invariant-loop-byte : goal.invariant-loop-byte
 invariant-loop-byte g l = record {

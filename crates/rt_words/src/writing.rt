@@ -1,19 +1,12 @@
 // Words, written.
 ghost use Rattle.std.specs.Prelude.{◌≡◌, ◌+◌, ◌<◌, ◌∷◌, ◌++◌, [], IfErr, flat_map, encode_utf8, encode_utf8_all};
 ghost use Rattle.std.specs.List.{list_any};
-ghost use Rattle.rt_stamps.specs.Lines.{is_blank};
 ghost use Rattle.rt_stamps.specs.Source.{failures_of};
-ghost use Rattle.rt_stamps.specs.Words.{escape_of, needs_quotes, text_of_word};
+ghost use Rattle.rt_words.specs.Spelling.{escape_of};
+ghost use Rattle.rt_words.specs.Writing.{needs_quotes, text_of_word};
 ghost use Rattle.rt_stamps.specs.Written.{Wrote};
 
-use crate::{Fault, Sink, write_all};
-
-/// Whether a byte separates the words of a line: a space or a tab.
-pub fn is_blank(byte: u8) -> bool
-    ensures { result ≡ is_blank byte }
-{
-    matches!(byte, b' ' | b'\t')
-}
+use rt_stamps::{Fault, Sink, write_all};
 
 /// Writes a word: bare, or in quotes where it is empty or has a space, a tab, a newline, a carriage
 /// return, a quote, a backslash or a brace. `WriteFault` where a write fails or takes nothing; a
@@ -31,19 +24,22 @@ pub fn write_word<W: Sink>(word: &str, out: &mut W) -> Result<(), Fault>
     }
 }
 
-fn has_quoted(word: &[u8]) -> bool
+/// Whether a word that isn't empty is written in quotes.
+pub fn has_quoted(word: &[u8]) -> bool
     ensures { result ≡ list_any needs_quotes word.now }
 {
     word.iter().any(|byte| needs_quotes(*byte))
 }
 
+// Most letters and all digits lie between the quote and the backslash.
 fn needs_quotes(byte: u8) -> bool
     ensures { result ≡ needs_quotes byte }
 {
-    matches!(
-        byte,
-        b' ' | b'\t' | b'\n' | b'\r' | b'"' | b'\\' | b'{' | b'}'
-    )
+    (byte <= b'"' || byte >= b'\\')
+        && matches!(
+            byte,
+            b' ' | b'\t' | b'\n' | b'\r' | b'"' | b'\\' | b'{' | b'}'
+        )
 }
 
 fn write_quoted<W: Sink>(word: &[u8], out: &mut W) -> Result<(), Fault>
