@@ -3,7 +3,7 @@ use Rattle.std.specs.Prelude.{ℕ, List, Option, Result, Vec}
 use Rattle.std.specs.declared.alloc.Global.{Global}
 use Rattle.rt_stamps.specs.declared.fault.Fault.{Fault}
 use Rattle.rt_stamps.specs.Streams.{Stream}
-use Rattle.rt_oplog.specs.Intake.{ReadsWhole}
+use Rattle.rt_ops.specs.Intake.{ReadsWhole}
 use Rattle.rt_files.specs.declared.join.JoinFault.{JoinFault}
 use Rattle.rt_files.specs.Files.{JoinsFiles, ShowsFile}
 

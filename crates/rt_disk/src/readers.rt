@@ -4,7 +4,7 @@ ghost use Rattle.rt_stamps.specs.declared.limits.TheConstants.{MOST_BYTES};
 ghost use Rattle.rt_disk.specs.Readers.{ReadsFresh, JoinsFresh, ShowsFresh};
 
 use rt_files::{JoinFault, join_files, show_file};
-use rt_oplog::read_whole;
+use rt_ops::read_whole;
 use rt_stamps::Fault;
 use rt_stamps::std_ends::{Count, Reader, Writer};
 use std::alloc::Global;

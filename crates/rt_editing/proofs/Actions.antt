@@ -8,7 +8,7 @@ use Rattle.rt_stamps.specs.declared.stamp.Stamp.{Stamp}
 use Rattle.rt_stamps.specs.declared.stamp.TheConstants.{FINAL}
 use Rattle.rt_stamps.specs.Stamps.{is_same}
 use Rattle.rt_stamps.specs.Words.{Word}
-use Rattle.rt_oplog.specs.Operations.{stamps_from, stamps_of_span}
+use Rattle.rt_ops.specs.Operations.{stamps_from, stamps_of_span}
 use Rattle.rt_store.specs.Cells.{text_of}
 use Rattle.rt_store.specs.Shown.{TaggedCell}
 use Rattle.rt_store.specs.Spans.{is_among}

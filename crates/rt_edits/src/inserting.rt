@@ -3,7 +3,7 @@ ghost use Rattle.std.specs.Prelude.{◌≡◌, ◌⊎◌, ◌<◌, ◌≤◌, []
 ghost use Rattle.rt_stamps.specs.declared.limits.TheConstants.{GREATEST_COUNT, MOST_CHARACTERS};
 ghost use Rattle.rt_stamps.specs.declared.stamp.Stamp.{Stamp};
 ghost use Rattle.rt_stamps.specs.Words.{Word};
-ghost use Rattle.rt_oplog.specs.Edits.{body_of};
+ghost use Rattle.rt_ops.specs.Edits.{body_of};
 ghost use Rattle.rt_store.specs.Shown.{shown};
 ghost use Rattle.rt_tags.specs.States.{IsState};
 ghost use Rattle.rt_edits.specs.InsertionDrafts.{insertion_drafts};

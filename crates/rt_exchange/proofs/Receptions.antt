@@ -4,7 +4,7 @@ use Rattle.std.proofs.Math.ListN.{get_or}
 use Rattle.std.proofs.lemmas.List.{drop_more}
 use Rattle.rt_stamps.specs.declared.fault.Fault.{Fault}
 use Rattle.rt_stamps.specs.declared.fault.Fault.TheVariants.{NoMemory}
-use Rattle.rt_oplog.specs.Operations.{Operation}
+use Rattle.rt_ops.specs.Operations.{Operation}
 use Rattle.rt_rga.specs.Answers.{Answer, New, Repeat, Refused}
 use Rattle.rt_text.specs.Accepted.{answer_of}
 use Rattle.rt_editing.specs.Edited.{Edited}

@@ -1,6 +1,6 @@
 pub mod Receiving
-pub use Rattle.rt_oplog.specs.File
-pub use Rattle.rt_oplog.specs.Reading
+pub use Rattle.rt_ops.specs.File
+pub use Rattle.rt_ops.specs.Reading
 pub use Rattle.rt_rga.specs.Answers
 pub use Rattle.rt_text.specs.Accepted
 pub use Rattle.rt_text.specs.Widgets

@@ -2,8 +2,8 @@
 use Rattle.std.specs.Prelude.{◌≡◌, ◌⊎◌, ℕ, ◌+◌, List, [], ◌∷◌, Option, Some}
 use Rattle.rt_stamps.specs.declared.fault.Fault.{Fault}
 use Rattle.rt_stamps.specs.declared.fault.Fault.TheVariants.{NoMemory}
-use Rattle.rt_oplog.specs.Operations.{Operation}
-use Rattle.rt_oplog.specs.Reading.{Reads}
+use Rattle.rt_ops.specs.Operations.{Operation}
+use Rattle.rt_ops.specs.Reading.{Reads}
 use Rattle.rt_rga.specs.Answers.{Answer, New, Repeat, Refused}
 use Rattle.rt_text.specs.Accepted.{answer_of}
 use Rattle.rt_editing.specs.Edited.{Edited}

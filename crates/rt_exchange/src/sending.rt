@@ -1,6 +1,6 @@
 // The file of a site's log.
 ghost use Rattle.std.specs.Prelude.{◌≡◌, ◌<◌, IfOk, IfErr, reverse};
-ghost use Rattle.rt_oplog.specs.File.{spelling};
+ghost use Rattle.rt_ops.specs.File.{spelling};
 
 use rt_oplog::{OpLog, write_file};
 use rt_stamps::Fault;

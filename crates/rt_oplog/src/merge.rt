@@ -3,7 +3,7 @@ ghost use Rattle.std.specs.Prelude.{◌≡◌, ℕ, ◌<◌, ◌⊎◌, [], ◌�
 ghost use Rattle.std.specs.List.{AllByRecursion, range_with_len};
 ghost use Rattle.rt_stamps.specs.declared.fault.Fault.TheVariants.{NoMemory, Conflict};
 ghost use Rattle.rt_stamps.specs.Stamps.{is_before};
-ghost use Rattle.rt_oplog.specs.Operations.{Operation, stamp_of, has_bad_stamp};
+ghost use Rattle.rt_ops.specs.Operations.{Operation, stamp_of, has_bad_stamp};
 ghost use Rattle.rt_oplog.specs.Logs.{HasClashOf, Has, IsLog, IsFalling, same_operation};
 ghost use Rattle.rt_oplog.specs.Kept.{op_at, newest_first, IsKept};
 ghost use Rattle.rt_oplog.specs.Merged.{IsMerged};

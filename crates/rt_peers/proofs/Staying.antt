@@ -13,7 +13,7 @@ use Rattle.rt_stamps.specs.Places.{text_of_position}
 use Rattle.rt_stamps.specs.Words.{Word}
 use Rattle.rt_marks.specs.declared.gravity.Gravity.{Gravity}
 use Rattle.rt_marks.specs.Marks.{without_all}
-use Rattle.rt_oplog.specs.Operations.{Operation}
+use Rattle.rt_ops.specs.Operations.{Operation}
 use Rattle.rt_rga.specs.Answers.{Answer, New, Repeat, Refused}
 use Rattle.rt_requests.specs.declared.request.EditRequest.{EditRequest}
 use Rattle.rt_requests.specs.declared.request.EditRequest.TheVariants as edits

@@ -6,7 +6,7 @@ use mathlib.Core.List.{reverse-cons}
 use Rattle.rt_stamps.specs.declared.stamp.Span.{Span}
 use Rattle.rt_stamps.specs.declared.stamp.Stamp.{Stamp}
 use Rattle.rt_stamps.specs.Words.{Word}
-use Rattle.rt_oplog.specs.Operations.{stamps_from, stamps_of_span}
+use Rattle.rt_ops.specs.Operations.{stamps_from, stamps_of_span}
 use Rattle.rt_store.specs.Shown.{TaggedCell}
 use Rattle.rt_tags.specs.States.{TagStates}
 use Rattle.rt_edits.specs.Flat.{Flat}

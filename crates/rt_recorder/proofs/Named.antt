@@ -7,7 +7,7 @@ use Rattle.std.specs.declared.alloc.Global.{Global}
 use Rattle.std.proofs.lemmas.List.{map-append}
 use Rattle.rt_stamps.specs.declared.stamp.Span.{Span}
 use Rattle.rt_stamps.specs.Words.{Word}
-use Rattle.rt_oplog.specs.Operations.{stamps_in, stamps_of_span}
+use Rattle.rt_ops.specs.Operations.{stamps_in, stamps_of_span}
 use Rattle.rt_tags.specs.States.{KeepsIds, TagStates, names_on}
 use Rattle.rt_undo.specs.declared.action.Kind.{Kind}
 use Rattle.rt_undo.specs.declared.renames.Move.{Move}

@@ -4,7 +4,7 @@ use Rattle.std.specs.List.{AllByRecursion}
 use Rattle.rt_stamps.specs.declared.stamp.Span.{Span}
 use Rattle.rt_stamps.specs.declared.stamp.Stamp.{Stamp}
 use Rattle.rt_stamps.specs.Words.{Word}
-use Rattle.rt_oplog.specs.Operations.{stamps_of_span}
+use Rattle.rt_ops.specs.Operations.{stamps_of_span}
 use Rattle.rt_tags.specs.States.{TagStates}
 use Rattle.rt_undo.specs.declared.action.Kind.{Kind}
 use Rattle.rt_undo.specs.declared.renames.Move.{Move}

@@ -1,6 +1,6 @@
 // How many characters may come back.
 ghost use Rattle.std.specs.Prelude.{◌≡◌, ◌+◌, ◌^◌, ◌<◌, length, IfErr, IfOk};
-ghost use Rattle.rt_oplog.specs.Operations.{stamps_of_span};
+ghost use Rattle.rt_ops.specs.Operations.{stamps_of_span};
 ghost use Rattle.rt_undo.specs.Actions.{group_of, removed_in};
 ghost use Rattle.rt_recorder.specs.Returns.{removed_count};
 

@@ -6,7 +6,7 @@ use Rattle.rt_stamps.specs.declared.fault.Fault.{Fault}
 use Rattle.rt_stamps.specs.declared.fault.Fault.TheVariants.{NoMemory}
 use Rattle.rt_stamps.specs.declared.limits.TheConstants.{MOST_BYTES, MOST_CELLS}
 use Rattle.rt_stamps.specs.Streams.{Stream}
-use Rattle.rt_oplog.specs.File.{spelling}
+use Rattle.rt_ops.specs.File.{spelling}
 use Rattle.rt_script.specs.Run.{Ends}
 use Rattle.rt_script.specs.State.{State, new_state}
 use Rattle.rt_script.specs.Site.{NamedFile, SiteGives}

@@ -9,7 +9,7 @@ use Rattle.rt_stamps.specs.Words.{Word}
 use Rattle.rt_words.specs.Writing.{text_of_word}
 use Rattle.rt_stamps.specs.Written.{AppendsPart, Wrote}
 use Rattle.rt_stamps.proofs.Writes.{flat_map_parts, part_longer, part_then, wrote_then}
-use Rattle.rt_oplog.specs.Operations.{Operation, stamp_of}
+use Rattle.rt_ops.specs.Operations.{Operation, stamp_of}
 use Rattle.rt_show.specs.Shown.{kind_of, line_of, spaced, text_of_stamp, words_of}
 
 -- a front of the first words was written

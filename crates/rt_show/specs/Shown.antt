@@ -5,7 +5,7 @@ use Rattle.rt_stamps.specs.declared.stamp.Span.{Span}
 use Rattle.rt_stamps.specs.declared.stamp.Stamp.{Stamp}
 use Rattle.rt_stamps.specs.Words.{Word}
 use Rattle.rt_words.specs.Writing.{text_of_word}
-use Rattle.rt_oplog.specs.Operations.{Body, Insert, Delete, Tag, Operation, stamp_of}
+use Rattle.rt_ops.specs.Operations.{Body, Insert, Delete, Tag, Operation, stamp_of}
 
 -- COUNT.SITE
 abbrev pub text_of_stamp : Stamp → List ℕ

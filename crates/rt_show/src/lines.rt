@@ -3,12 +3,12 @@ ghost use Rattle.std.specs.Prelude.{◌≡◌, ◌+◌, ◌∷◌, ◌++◌, [],
 ghost use Rattle.std.specs.Fmt.{decimal};
 ghost use Rattle.rt_stamps.specs.Source.{failures_of};
 ghost use Rattle.rt_stamps.specs.Written.{Wrote};
-ghost use Rattle.rt_oplog.specs.Edits.{body_of};
-ghost use Rattle.rt_oplog.specs.Operations.{Insert, Delete, Tag, stamp_of};
+ghost use Rattle.rt_ops.specs.Edits.{body_of};
+ghost use Rattle.rt_ops.specs.Operations.{Insert, Delete, Tag, stamp_of};
 ghost use Rattle.rt_show.specs.Shown.{kind_of, line_of, lines_of, spaced, text_of_stamp, words_of};
 
 use crate::parts::{Part, write_names, write_parts, write_spans};
-use rt_oplog::{Edit, Op};
+use rt_ops::{Edit, Op};
 use rt_stamps::{Fault, Sink, Span, Stamp, write_all};
 
 /// Writes the line of each operation, in their order. `WriteFault` where a write fails or takes

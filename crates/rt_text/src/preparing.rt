@@ -10,7 +10,7 @@ ghost use Rattle.rt_edits.specs.InsertionPlans.{selected_between};
 ghost use Rattle.rt_edits.specs.Selected.{room_in, stamps_in};
 ghost use Rattle.rt_text.specs.Widgets.{reselected};
 ghost use Rattle.rt_text.specs.Parts.{HaveRoomFor, own_in};
-ghost use Rattle.rt_oplog.specs.Edits.{body_of};
+ghost use Rattle.rt_ops.specs.Edits.{body_of};
 ghost use Rattle.rt_rga.specs.Cells.{cells_of};
 ghost use Rattle.rt_rga.specs.Drafts.{with_drafts};
 ghost use Rattle.rt_rga.specs.Made.{refusal_of};

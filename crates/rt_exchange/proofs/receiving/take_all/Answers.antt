@@ -1,6 +1,6 @@
 use Rattle.std.proofs.Common.{◌≡◌, ◌⊎◌, ◌∙◌, ◌<◌, List, ◌∷◌, Some, ap, arith, drop, length, slice_index_or, subst, sym}
 use Rattle.std.specs.Vec.Iter.{into_iter_items}
-use Rattle.rt_oplog.specs.Operations.{Operation}
+use Rattle.rt_ops.specs.Operations.{Operation}
 use Rattle.rt_rga.specs.Answers.{Answer, New, Repeat}
 use Rattle.rt_text.specs.Accepted.{answer_of}
 use Rattle.rt_editing.specs.Edited.{edited}

@@ -3,7 +3,7 @@ use Rattle.std.specs.Prelude.{is_some, option_map, string_bytes}
 use Rattle.std.specs.Str.{chars}
 use Rattle.std.proofs.lemmas.Result.{err_from_is_err_and}
 use Rattle.rt_stamps.specs.declared.limits.TheConstants.{GREATEST_COUNT, MOST_CHARACTERS}
-use Rattle.rt_oplog.specs.Edits.{body_of}
+use Rattle.rt_ops.specs.Edits.{body_of}
 use Rattle.rt_store.specs.Cells.{stamps_of}
 use Rattle.rt_store.specs.Shown.{shown}
 use Rattle.rt_store.specs.Spans.{is_among}

@@ -3,7 +3,7 @@ use Rattle.std.specs.Prelude.{IfSome, option_map}
 use Rattle.std.specs.Str.{chars}
 use Rattle.std.proofs.lemmas.Result.{IfErr-weaker, IfOk-weaker, err_from_is_err_and, on_ok_weaker}
 use Rattle.rt_stamps.specs.declared.limits.TheConstants.{GREATEST_COUNT, MOST_CHARACTERS}
-use Rattle.rt_oplog.specs.Edits.{body_of}
+use Rattle.rt_ops.specs.Edits.{body_of}
 use Rattle.rt_store.specs.Shown.{shown}
 use Rattle.rt_edits.specs.InsertionDrafts.{behind, text_drafts}
 use Rattle.rt_edits.specs.InsertionPlans.{Plans}

@@ -7,7 +7,7 @@ use Rattle.std.specs.List.{AllByRecursion}
 use Rattle.std.proofs.lemmas.List.{length-map}
 use Rattle.std.proofs.lemmas.Result.{err_from_is_err_and}
 use Rattle.rt_marks.specs.Marks.{Mark, marks_inserted, marks_left}
-use Rattle.rt_oplog.specs.Edits.{body_of}
+use Rattle.rt_ops.specs.Edits.{body_of}
 use Rattle.rt_stamps.specs.declared.fault.Fault.{Fault}
 use Rattle.rt_stamps.specs.declared.fault.Fault.TheVariants.{ClockSpent, NoMemory}
 use Rattle.rt_stamps.specs.declared.limits.TheConstants.{GREATEST_COUNT, MOST_SPANS}
