@@ -162,22 +162,6 @@ impl Op {
         Ok(Op::of(self.stamp(), self.prev, edit))
     }
 
-    /// An operation that takes no memory, to stand where another was taken out.
-    pub(crate) fn stand_in(alloc: Global) -> Op
-        ensures { result ≡ record { count = 0; site = 0; prev = 0; body = Insert ROOT [] (120 ∷ []) } }
-    {
-        Op {
-            count: 0,
-            prev: 0,
-            site: 0,
-            edit: Edit::Insert {
-                after: ROOT,
-                tags: Vec::new(alloc),
-                text: Text::of('x'),
-            },
-        }
-    }
-
     /// The first count, or the only one.
     pub fn count(&self) -> u64
         ensures { result ≡ self.now.count }
