@@ -17,7 +17,7 @@ use Rattle.rt_rga.specs.Reading.{Character, reading}
 use Rattle.rt_rga.proofs.Corollaries.{cells_have}
 use Rattle.rt_rga.proofs.Skipping.{split}
 use Rattle.rt_rga.proofs.Writes.{gone_with, not_gone}
-use Rattle.rt_recorder.specs.Settled.{is_gone as has_gone}
+use Rattle.rt_editing.specs.Settled.{is_gone as has_gone}
 
 -- LOGS
 

@@ -15,7 +15,7 @@ use Rattle.rt_undo.specs.declared.action.Kind.TheVariants.{Insert, Delete, Repla
 use Rattle.rt_undo.specs.Actions.{Action}
 use Rattle.rt_undo.specs.Undo.{History, added, forced_on}
 use Rattle.rt_revert.specs.Reverting.{as_removed}
-use Rattle.rt_recorder.specs.Recordings.{made}
+use Rattle.rt_editing.specs.Recordings.{made}
 use Rattle.rt_text.specs.Accepted.{view_after}
 use Rattle.rt_text.specs.Commands.{deleted, inserted, lost_in, replaced}
 use Rattle.rt_text.specs.Index.{place_at_index}

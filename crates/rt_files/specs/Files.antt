@@ -11,7 +11,7 @@ use Rattle.rt_ops.specs.Intake.{ReadsFile, LacksMemory}
 use Rattle.rt_oplog.specs.Logs.{joined}
 use Rattle.rt_ops.specs.Operations.{Operation}
 use Rattle.rt_oplog.specs.Outcomes.{IsFirstRefused, IsLogOf}
-use Rattle.rt_show.specs.Shown.{lines_of}
+use Rattle.rt_files.specs.Shown.{lines_of}
 use Rattle.rt_files.specs.declared.join.JoinFault.{JoinFault}
 
 -- a reading ended with no fault, or with this one at an offset

@@ -3,7 +3,7 @@ ghost use Rattle.std.specs.Prelude.{◌≡◌};
 ghost use Rattle.rt_files.specs.Files.{ShowsFile};
 
 use rt_oplog::read_file;
-use rt_show::write_lines;
+use crate::write_lines;
 use rt_stamps::{Fault, Sink, Source};
 use std::alloc::Global;
 

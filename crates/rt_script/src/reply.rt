@@ -2,7 +2,7 @@
 ghost use Rattle.std.specs.Prelude.{◌≡◌, ◌+◌, ◌<◌, ◌∷◌, ◌++◌, [], IfErr, IfSome, codes, flat_map, string_bytes};
 ghost use Rattle.std.specs.Fmt.{decimal};
 ghost use Rattle.std.specs.List.{list_any};
-ghost use Rattle.rt_show.specs.Shown.{spaced};
+ghost use Rattle.rt_files.specs.Shown.{spaced};
 ghost use Rattle.rt_stamps.specs.Source.{failures_of};
 ghost use Rattle.rt_words.specs.Writing.{text_of_word};
 ghost use Rattle.rt_stamps.specs.Written.{Wrote};
@@ -10,7 +10,7 @@ ghost use Rattle.rt_script.specs.Replies.{text_of_answer, text_of_received, text
 
 use crate::Answer;
 use rt_peers::Received;
-use rt_show::parts::{Part, write_parts};
+use rt_files::parts::{Part, write_parts};
 use rt_stamps::{Fault, Sink, write_all};
 use rt_words::{has_quoted, write_word};
 

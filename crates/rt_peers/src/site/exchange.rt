@@ -7,7 +7,7 @@ ghost use Rattle.rt_rga.specs.Histories.{IsHistory, greatest_last_count};
 ghost use Rattle.rt_peers.specs.SiteStep.{SiteReceives};
 
 use super::SiteState;
-use rt_exchange::{Received, export};
+use rt_editing::{Received, export};
 use rt_oplog::OpLog;
 use rt_stamps::Fault;
 
