@@ -8,11 +8,11 @@ ghost use Rattle.rt_text.specs.Accepted.{answer_of};
 ghost use Rattle.rt_editing.specs.Edited.{edited};
 ghost use Rattle.rt_editing.specs.Edits.{text_after, text_deleted, text_inserted, text_replaced};
 
+use crate::Recorder;
 use crate::before::Before;
 use crate::noting::{note, prepare_deletion, prepare_insertion, prepare_replacement};
 use rt_edits::Piece;
 use rt_oplog::Op;
-use crate::Recorder;
 use rt_rga::Taken;
 use rt_stamps::Fault;
 use rt_store::TextStore;

@@ -12,9 +12,9 @@ ghost use Rattle.rt_text.specs.Widgets.{widget_of};
 ghost use Rattle.rt_editing.specs.Edits.{counts_between, has_changed, lost_between, lost_from, noted_by};
 ghost use Rattle.rt_editing.specs.Noting.{IsOfLog, Keeps};
 
+use crate::Recorder;
 use crate::before::Before;
 use rt_edits::Range;
-use crate::Recorder;
 use rt_stamps::Fault;
 use rt_store::TextStore;
 use rt_text::View;

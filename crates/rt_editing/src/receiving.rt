@@ -7,9 +7,8 @@ ghost use Rattle.rt_editing.specs.Settled.{IsSettled};
 ghost use Rattle.rt_editing.specs.Edited.{edited};
 ghost use Rattle.rt_editing.specs.Receiving.{Offers, Receives, nothing_taken, one_more};
 
-use crate::accept;
+use crate::{Recorder, accept};
 use rt_oplog::{Op, read_bytes};
-use crate::Recorder;
 use rt_rga::Taken;
 use rt_stamps::Fault;
 use rt_store::TextStore;

@@ -9,9 +9,9 @@ ghost use Rattle.rt_oplog.specs.Logs.{HasClashOf, Has, IsLog, IsFalling, same_op
 ghost use Rattle.rt_oplog.specs.Kept.{op_at, newest_first, IsKept};
 ghost use Rattle.rt_oplog.specs.Merged.{IsMerged};
 
-use crate::{Edit, Op, Text};
 use crate::ends::Ends;
 use crate::same::is_same;
+use crate::{Edit, Op, Text};
 use rt_stamps::{FINAL, Fault, ROOT, Stamp};
 use std::alloc::Global;
 use std::mem;

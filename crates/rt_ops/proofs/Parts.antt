@@ -15,11 +15,11 @@ use Rattle.rt_stamps.specs.declared.fault.Fault.TheVariants.{NoMemory}
 use Rattle.rt_ops.specs.Operations.{Name, Body, Insert, Delete, Tag, Operation}
 use Rattle.rt_ops.specs.Rules.{keeps_rules, within_rules}
 use Rattle.rt_ops.specs.File.{number, stamp_bytes, span_bytes, spans_bytes, name_bytes, tags_bytes, flag, kind_of, body_bytes, content_of, StampFits, SpanFits, BodyFits, HasRecord}
-use Rattle.rt_ops.specs.Decoding.{Refuses, Decodes, DecodesFront, DecodesBody, NameFits, IsNameOf, AreNames, TagsFit, SpansFit, AreScalars}
+use Rattle.rt_ops.specs.Decoding.{RefusesBytes, Decodes, DecodesFront, DecodesBody, NameFits, IsNameOf, AreNames, TagsFit, SpansFit, AreScalars}
 use Rattle.rt_ops.proofs.Lengths.{stamp_length, spans_length, spans_flat, content_length}
 use Rattle.rt_ops.proofs.Spells.{spans_parts, tags_parts, names_go_on, same_stamp, same_tags, same_name, heads, IsSpelled, is_spelled, same_body, same_head}
 
-pub refused_as : (fault : Fault) {P Q : Type 0} → (P → Q) → Refuses fault P → Refuses fault Q
+pub refused_as : (fault : Fault) {P Q : Type 0} → (P → Q) → RefusesBytes fault P → RefusesBytes fault Q
 refused_as fault f (inl memory) = inl memory
 refused_as fault f (inr bad) = inr (bad.0, f bad.1)
 

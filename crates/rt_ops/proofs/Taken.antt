@@ -13,7 +13,7 @@ use Rattle.rt_stamps.specs.declared.fault.Fault.{Fault}
 use Rattle.rt_stamps.specs.declared.fault.Fault.TheVariants.{NoMemory, BadMagic, BadVersion, Truncated, BadRecord, ReadFault}
 use Rattle.rt_ops.specs.declared.intake.Bounds.{Bounds}
 use Rattle.rt_ops.specs.Operations.{Operation}
-use Rattle.rt_ops.specs.Decoding.{Refuses}
+use Rattle.rt_ops.specs.Decoding.{RefusesBytes}
 use Rattle.rt_ops.specs.File.{magic, number, content_of, record_of, HasRecord}
 use Rattle.rt_ops.specs.Rules.{is_within}
 use Rattle.rt_ops.specs.Reading.{file_name, head_fault, EndsEarly}
@@ -116,7 +116,7 @@ bad_content content n least most size none = record {
 
 -- why a record's bytes are refused
 pub not_decoded : (a b : Stream) (x y : Bounds) (content : List ℕ) (n : ℕ) (fault : Fault) → Takes a b x y (number w32 n ++ content) → FEWEST_RECORD_BYTES ≤ n → n ≤ MOST_RECORD_BYTES → length content ≡ n
-    → Refuses fault ((op : Operation) → HasRecord op → content ≡ content_of op → ⊥) → Fails a b x y fault
+    → RefusesBytes fault ((op : Operation) → HasRecord op → content ≡ content_of op → ⊥) → Fails a b x y fault
 not_decoded a b x y content n fault h least most size (inl memory) = (number w32 n ++ content, inl (memory, h))
 not_decoded a b x y content n fault h least most size (inr bad) = (number w32 n ++ content, inr (inr (inl (bad.0, h, bad_content content n least most size bad.1))))
 
@@ -151,7 +151,7 @@ cut_content a b c x y z n content h least most k lt =
     (number w32 n ++ content, inr (inl (refl, finishes_then a b c x y z (number w32 n) content h k, omega (arith, length-append (number w32 n) content, length_4 n), inr (n, content, refl, least, most, lt))))
 
 pub refused_content : (a b c : Stream) (x y z : Bounds) (n : ℕ) (content : List ℕ) (fault : Fault) → Takes a b x y (number w32 n) → FEWEST_RECORD_BYTES ≤ n → n ≤ MOST_RECORD_BYTES → Takes b c y z content → length content ≤ n → n ≤ length content
-    → Refuses fault ((op : Operation) → HasRecord op → content ≡ content_of op → ⊥) → Fails a c x z fault
+    → RefusesBytes fault ((op : Operation) → HasRecord op → content ≡ content_of op → ⊥) → Fails a c x z fault
 refused_content a b c x y z n content fault h least most k short long refuses =
     not_decoded a c x z content n fault (takes_then a b c x y z (number w32 n) content h k) least most (omega arith) refuses
 

@@ -11,20 +11,20 @@ use Rattle.rt_ops.specs.Rules.{keeps_rules}
 use Rattle.rt_ops.specs.File.{SpanFits, BodyFits, kind_of, body_bytes}
 
 -- want of memory, or BadRecord where something doesn't hold
-abbrev pub Refuses : Fault → Type 0 → Type 0
-Refuses fault Lacks = (fault ≡ NoMemory) ⊎ ((fault ≡ BadRecord) × Lacks)
+abbrev pub RefusesBytes : Fault → Type 0 → Type 0
+RefusesBytes fault Lacks = (fault ≡ NoMemory) ⊎ ((fault ≡ BadRecord) × Lacks)
 
 -- All of the bytes spell the value. They are refused only where they spell none.
 abbrev pub Decodes : {A X : Type 0} → (A → List ℕ) → (A → Type 0) → (X → A) → List ℕ → Result X Fault → Type 0
 Decodes {A} spelled Fits view bytes result = MatchResult result
     (λ x. Fits (view x) × (bytes ≡ spelled (view x)))
-    (λ fault. Refuses fault ((a : A) → Fits a → bytes ≡ spelled a → ⊥))
+    (λ fault. RefusesBytes fault ((a : A) → Fits a → bytes ≡ spelled a → ⊥))
 
 -- A front of the bytes spells the value, and the rest follows. They are refused only where no front spells one.
 abbrev pub DecodesFront : {A X : Type 0} → (A → List ℕ) → (A → Type 0) → (X → A) → (X → List ℕ) → List ℕ → Result X Fault → Type 0
 DecodesFront {A} spelled Fits view rest bytes result = MatchResult result
     (λ x. Fits (view x) × (bytes ≡ spelled (view x) ++ rest x))
-    (λ fault. Refuses fault ((a : A) (more : List ℕ) → Fits a → bytes ≡ spelled a ++ more → ⊥))
+    (λ fault. RefusesBytes fault ((a : A) (more : List ℕ) → Fits a → bytes ≡ spelled a ++ more → ⊥))
 
 -- a name whose length fits a byte, in UTF-8
 pub record NameFits (name : Name) : Type 0 where
@@ -47,7 +47,7 @@ AreScalars text = all_scalars text ≡ true
 abbrev pub DecodesBody : ℕ → Stamp → ℕ → List ℕ → Result Operation Fault → Type 0
 DecodesBody kind stamp prev bytes result = MatchResult result
     (λ op. BodyFits op.body × (keeps_rules op.body ≡ true) × (kind_of op.body ≡ kind) × (stamp_of op ≡ stamp) × (op.prev ≡ prev) × (bytes ≡ body_bytes op.body))
-    (λ fault. Refuses fault ((body : Body) → kind_of body ≡ kind → BodyFits body → keeps_rules body ≡ true → bytes ≡ body_bytes body → ⊥))
+    (λ fault. RefusesBytes fault ((body : Body) → kind_of body ≡ kind → BodyFits body → keeps_rules body ≡ true → bytes ≡ body_bytes body → ⊥))
 
 -- a name of so many bytes
 pub record IsNameOf (n : ℕ) (name : Name) : Type 0 where

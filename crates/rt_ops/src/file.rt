@@ -6,8 +6,8 @@ ghost use Rattle.rt_ops.specs.File.{magic};
 ghost use Rattle.rt_ops.specs.Intake.{GetsHead, ReadsFile, ReadsWhole, LacksMemory};
 ghost use Rattle.rt_ops.specs.Reading.{file_name, head_fault, may_follow};
 
-use crate::intake::{Bounds, gather, next_op};
 use crate::Op;
+use crate::intake::{Bounds, gather, next_op};
 use rt_stamps::limits::MOST_BYTES;
 use rt_stamps::{Fault, Source};
 use std::alloc::Global;

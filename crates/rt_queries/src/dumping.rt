@@ -7,15 +7,14 @@ ghost use Rattle.rt_stamps.specs.Outcomes.{Refuses, first_of};
 ghost use Rattle.rt_text.specs.Index.{index_check};
 ghost use Rattle.rt_text.specs.Widgets.{length_shown, text_shown, widget_of};
 
-use crate::Element;
 use crate::borders::borders;
 use crate::marks::push_marks;
 use crate::placed::Placed;
 use crate::sorting::sort;
 use crate::stretch::Stretch;
 use crate::texts::texts_in;
+use crate::{Element, shown};
 use rt_requests::Kinds;
-use crate::shown;
 use rt_stamps::Fault;
 use rt_store::TextStore;
 use rt_text::View;

@@ -9,8 +9,8 @@ ghost use Rattle.rt_stamps.specs.Written.{Wrote};
 ghost use Rattle.rt_script.specs.Replies.{text_of_answer, text_of_received, text_of_refusal, reply_line};
 
 use crate::Answer;
-use rt_peers::Received;
 use rt_files::parts::{Part, write_parts};
+use rt_peers::Received;
 use rt_stamps::{Fault, Sink, write_all};
 use rt_words::{has_quoted, write_word};
 

@@ -8,8 +8,8 @@ ghost use Rattle.rt_peers.specs.ViewStep.{told_step};
 use super::Viewer;
 use crate::replies::positions_reply;
 use crate::reply::Reply;
-use rt_requests::SearchRequest;
 use rt_queries::search;
+use rt_requests::SearchRequest;
 use rt_stamps::Fault;
 
 impl Viewer {

@@ -11,7 +11,7 @@ use Rattle.rt_edits.specs.declared.pieces.PlannedPieces.{PlannedPieces}
 use Rattle.rt_edits.specs.InsertionDrafts.{behind, text_drafts}
 use Rattle.rt_edits.specs.InsertionPlans.{selected_between}
 use Rattle.rt_edits.specs.Insertions.{are_among, counts_for, last_of, selected_if, tagged_cells, tags_between}
-use Rattle.rt_edits.specs.Selected.{stamps_in}
+use Rattle.rt_edits.specs.Selected.{selected_stamps}
 use Rattle.rt_edits.specs.Selections.{with_stamps}
 use Rattle.rt_edits.proofs.PieceLaws.{IsMoreText, no_drafts, none_in}
 use Rattle.rt_edits.proofs.PlanLaws.{some_in, spent}
@@ -29,7 +29,7 @@ pub returns-then-is_empty-clause-plans : goal.returns-then-is_empty-clause-plans
 returns-then-is_empty-clause-plans c = λ plan after listed so_far h a p.
     let t = c.args.states.now in
     let none : chars c.args.rest.now ≡ [] = sym c.in_ok-text.ensures.ok ∙ none_in c.in_ok-text.text.items c.in_ok-text.text.len c.is_empty.result c.in_ok-text.text.ok.0 c.is_empty.ensures c.if-is_empty.true in
-    plans_nothing plan after (stamps_in c.args.selection.now) listed c.args.self.now c.args.site.number (last_of (option_map (shown t) c.args.left) so_far.cells) (Some (shown t c.args.right)) (chars c.args.rest.now) so_far none h p
+    plans_nothing plan after (selected_stamps c.args.selection.now) listed c.args.self.now c.args.site.number (last_of (option_map (shown t) c.args.left) so_far.cells) (Some (shown t c.args.right)) (chars c.args.rest.now) so_far none h p
 
 pub returns-in_err-stamps-clause-err : goal.returns-in_err-stamps-clause-err
 returns-in_err-stamps-clause-err c =
@@ -49,7 +49,7 @@ returns-then-not-has_left-clause-plans c = λ plan after listed so_far h a p.
     let old = c.args.self.now in
     let new = c.add_text.new.self in
     let site = c.args.site.number in
-    let selection = stamps_in c.args.selection.now in
+    let selection = selected_stamps c.args.selection.now in
     let text = chars c.args.rest.now in
     let left = last_of (option_map (shown t) c.args.left) so_far.cells in
     let right = Some (shown t c.args.right) in
@@ -88,7 +88,7 @@ returns-clause-plans c = λ plan after listed so_far h a p.
     let old = c.args.self.now in
     let new = c.select.new.self in
     let site = c.args.site.number in
-    let selection = stamps_in c.args.selection.now in
+    let selection = selected_stamps c.args.selection.now in
     let text = chars c.args.rest.now in
     let left = last_of (option_map (shown t) c.args.left) so_far.cells in
     let right = Some (shown t c.args.right) in

@@ -1,12 +1,12 @@
-//! Two sites that edit one text by calls and exchange their operations in memory: then both hold the
-//! same text.
-#![tactic(auto)]
-
-use rt_peers::SiteState;
+// A program that embeds two sites, which edit one text by calls and exchange their operations in memory: then both hold
+// the same text.
+use crate::checks::same;
 use rt_requests::{Request, Texts, Word, Words};
+use rt_script::SiteState;
 use rt_stamps::limits::{MOST_BYTES, MOST_CELLS};
 use rt_stamps::{Fault, Site};
 use std::alloc::Global;
+use std::process::Abort;
 
 // A new site of a number from 1 to 65535.
 fn new_site(alloc: Global, number: u16) -> Result<SiteState, Fault> {
@@ -55,22 +55,32 @@ fn send(from: &SiteState, to: &mut SiteState) -> Result<(), Fault> {
     }
 }
 
-fn main(rt: HostRuntime) -> anyhow::Result<()> {
-    let alloc = rt.alloc();
+// Two sites with one text, which each changes by itself then.
+fn edited(alloc: Global) -> Result<[SiteState; 2], Fault> {
     let mut anna = new_site(alloc, 1)?;
     let mut ben = new_site(alloc, 2)?;
     insert(alloc, &mut anna, "1.0", "milk, bread")?;
     send(&anna, &mut ben)?;
-
     insert(alloc, &mut anna, "1.0", "buy ")?;
     delete(alloc, &mut ben, "1.6", "1.end")?;
     insert(alloc, &mut ben, "1.end", "butter")?;
-    println!(rt; "Anna has: {}", line(alloc, &mut anna)?)?;
-    println!(rt; "Ben has: {}", line(alloc, &mut ben)?)?;
+    Ok([anna, ben])
+}
 
-    send(&anna, &mut ben)?;
-    send(&ben, &mut anna)?;
-    println!(rt; "Anna has: {}", line(alloc, &mut anna)?)?;
-    println!(rt; "Ben has: {}", line(alloc, &mut ben)?)?;
-    Ok(())
+// Stops a test where a site's first line isn't what is wanted.
+fn has_line(rt: &impl Abort, alloc: Global, site: &mut SiteState, wanted: &str) {
+    let line = line(alloc, site).expect(rt, "memory");
+    same(rt, line.as_str(), wanted);
+}
+
+#[test]
+fn two_sites_within_a_program(rt: HostRuntime) {
+    let alloc = rt.alloc();
+    let [mut anna, mut ben] = edited(alloc).expect(&rt, "memory");
+    has_line(&rt, alloc, &mut anna, "buy milk, bread");
+    has_line(&rt, alloc, &mut ben, "milk, butter");
+    send(&anna, &mut ben).expect(&rt, "memory");
+    send(&ben, &mut anna).expect(&rt, "memory");
+    has_line(&rt, alloc, &mut anna, "buy milk, butter");
+    has_line(&rt, alloc, &mut ben, "buy milk, butter");
 }
