@@ -20,18 +20,18 @@ use rt_store::{Cell, TextStore};
 use rt_tags::{StateId, StateTable};
 use std::alloc::Global;
 
-/// Cells of new characters in one state, from a stamp on. Want of memory.
-pub(crate) fn new_cells(
-    alloc: Global,
+/// Adds cells of new characters in one state, from a stamp on. Want of memory.
+pub(crate) fn push_new(
+    cells: &mut Vec<Cell<StateId>>,
     first: Stamp,
     state: StateId,
     text: &[char],
-) -> Result<Vec<Cell<StateId>>, Fault>
+) -> Result<(), Fault>
     requires { first.count + length text.now ≤ GREATEST_COUNT + 1 }
-    ensures cells { IfOk result (λ cells. cells.items ≡ cells_from first.count first.site state text.now) }
+    ensures cells { OnOk result (cells.new.items ≡ cells.old.items ++ cells_from first.count first.site state text.now) }
     ensures fault { IfErr result (λ fault. fault ≡ Fault.NoMemory) }
 {
-    let mut cells = Vec::new(alloc);
+    cells.reserve(text.len())?;
     let mut count = first.count;
     for ch in text {
         let stamp = Stamp {
@@ -46,7 +46,7 @@ pub(crate) fn new_cells(
         })?;
         count += 1;
     }
-    Ok(cells)
+    Ok(())
 }
 
 /// Makes the cells of spans gone; the final newline is in none of them. Takes no memory.
@@ -87,7 +87,8 @@ pub(crate) fn insert_cells<S: TextStore>(
     ensures fault { IfErr result (λ fault. fault ≡ Fault.NoMemory) }
 {
     let state = states.state_of_list(ROOT, tags)?;
-    let cells = new_cells(alloc, stamp, state, text)?;
+    let mut cells = Vec::new(alloc);
+    push_new(&mut cells, stamp, state, text)?;
     store.reserve(cells.len(), 1, states.tags())?;
     let at = store.after_skip(after, stamp);
     store.splice(states, at, &cells);

@@ -17,7 +17,7 @@ ghost use Rattle.rt_rga.specs.Requests.{characters_in, characters_in_all, last_c
 ghost use Rattle.rt_rga.specs.Replicas.{IsReplica};
 
 use crate::Draft;
-use crate::edits::{new_cells, set_all_gone};
+use crate::edits::{push_new, set_all_gone};
 use crate::plan::planned_states;
 use crate::tagging::put_states;
 use rt_oplog::{Edit, Op, OpLog};
@@ -151,18 +151,13 @@ pub(crate) fn fresh(
 {
     let mut cells = Vec::new(alloc);
     for op in ops {
-        push_fresh(alloc, states, op, &mut cells)?;
+        push_fresh(states, op, &mut cells)?;
     }
     Ok(cells)
 }
 
 /// Adds the cells of the characters that an operation inserts. Want of memory.
-fn push_fresh(
-    alloc: Global,
-    states: &mut StateTable,
-    op: &Op,
-    cells: &mut Vec<Cell<StateId>>,
-) -> Result<(), Fault>
+fn push_fresh(states: &mut StateTable, op: &Op, cells: &mut Vec<Cell<StateId>>) -> Result<(), Fault>
     requires counts { last_count_of op.now ≤ GREATEST_COUNT }
     requires given { AreStates states.old cells.old.items }
     ensures cells { OnOk result (map (shown states.new) cells.new.items ≡ map (shown states.old) cells.old.items ++ fresh_by (stamp_of op.now) op.now.body) }
@@ -177,8 +172,7 @@ fn push_fresh(
     } = op.edit()
     {
         let state = states.state_of_list(ROOT, tags)?;
-        let new = new_cells(alloc, op.stamp(), state, text.characters())?;
-        cells.extend_from_slice(&new)?;
+        push_new(cells, op.stamp(), state, text.characters())?;
     }
     Ok(())
 }
@@ -314,9 +308,8 @@ pub(crate) fn push_all(log: &mut OpLog, clock: &mut Clock, ops: Vec<Op>)
     }
 }
 
-/// The operations of drafts twice: for the log, and for the caller. The counts follow a last one, and at
-/// most so many characters are inserted. `ClockSpent` where the counts don't fit, else `TextFull` where
-/// the characters don't, else want of memory.
+/// The operations of drafts. The counts follow a last one, and at most so many characters are inserted.
+/// `ClockSpent` where the counts don't fit, else `TextFull` where the characters don't, else want of memory.
 pub(crate) fn prepared(
     alloc: Global,
     site: u16,
@@ -324,20 +317,17 @@ pub(crate) fn prepared(
     prev: u64,
     left: usize,
     drafts: Vec<Draft>,
-) -> Result<(Vec<Op>, Vec<Op>), Fault>
+) -> Result<Vec<Op>, Fault>
     requires last { last ≤ GREATEST_COUNT }
     requires rules { All (λ draft. keeps_rules (body_of draft) ≡ true) drafts.items }
-    ensures ops { IfOk result (λ both. both.0.items ≡ operations_from site last prev (map body_of drafts.items)) }
-    ensures copies { IfOk result (λ both. both.1.items ≡ operations_from site last prev (map body_of drafts.items)) }
+    ensures ops { IfOk result (λ ops. ops.items ≡ operations_from site last prev (map body_of drafts.items)) }
     ensures fits { OnOk result (refusal_from last left (map body_of drafts.items) ≡ None) }
     ensures refused { IfErr result (λ fault. (refusal_from last left (map body_of drafts.items) ≡ Some fault)
         ⊎ ((fault ≡ Fault.NoMemory) × (refusal_from last left (map body_of drafts.items) ≡ None))) }
 {
     let _last = last_count(last, &drafts)?;
     check_room(left, &drafts)?;
-    let ops = stamped(alloc, site, last, prev, drafts)?;
-    let copies = copied(alloc, &ops)?;
-    Ok((ops, copies))
+    stamped(alloc, site, last, prev, drafts)
 }
 
 /// Changes what is kept of a log as operations do that are newer than it, each of which continues it

@@ -233,6 +233,9 @@ pub(crate) fn planned_states<S: TextStore>(
     ensures fault { IfErr result (λ fault. fault ≡ Fault.NoMemory) }
 {
     let mut named = named_writes(alloc, states, ops)?;
+    if named.is_empty() {
+        return Ok(Vec::new(alloc));
+    }
     put_in_order(&mut named)?;
     let copies = written_cells(alloc, store, states, new, &named)?;
     state_runs(alloc, &copies)

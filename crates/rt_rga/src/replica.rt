@@ -20,7 +20,7 @@ use crate::Draft;
 use crate::answer::{Offer, answer_within};
 use crate::describe::describe;
 use crate::edits::change;
-use crate::make::{change_all, prepared, push_all};
+use crate::make::{change_all, copied, prepared, push_all};
 use crate::taken::{Change, Taken};
 use rt_oplog::{Op, OpLog};
 use rt_stamps::{Clock, Fault, Site};
@@ -223,6 +223,28 @@ impl<S: TextStore> Replica<S> {
         Ok(())
     }
 
+    // The operations of drafts, which the log and the limit of cells have room for. The faults of `make`.
+    fn planned(&self, drafts: Vec<Draft>) -> Result<Vec<Op>, Fault>
+        requires { MayBeMade self.now.site self.now.log (map body_of drafts.items) }
+        ensures made { IfOk result (λ ops. ops.items ≡ operations_of self.now.site (map body_of drafts.items) self.now.log) }
+        ensures fits { OnOk result (refusal_of self.now.limit (map body_of drafts.items) self.now.log ≡ None) }
+        ensures refused { IfErr result (λ fault. (refusal_of self.now.limit (map body_of drafts.items) self.now.log
+            ≡ Some fault) ⊎ ((fault ≡ Fault.NoMemory) × (refusal_of self.now.limit (map body_of drafts.items) self.now.log ≡ None))) }
+        ensures continues { IfOk result (λ ops. ContinueInTurn self.now.log ops.items) }
+        ensures newest { IfOk result (λ ops. AreNewest self.now.log ops.items) }
+        ensures room { IfOk result (λ ops. length self.now.cells + length (fresh_cells ops.items) ≤ self.now.limit) }
+    {
+        let site = self.site.number();
+        prepared(
+            self.alloc,
+            site,
+            self.clock.seen(),
+            self.log.known(site),
+            self.limit - self.store.cells(),
+            drafts,
+        )
+    }
+
     /// Makes operations of the site's own, one of each draft, in order; all of them or none. Each draft
     /// keeps the rules of `Op` and names what is known, or what a draft before it inserts. The first
     /// count is one more than the greatest last count of the log, and the first `prev` the known end of
@@ -244,16 +266,28 @@ impl<S: TextStore> Replica<S> {
         ensures limit { self.new.limit ≡ self.old.limit }
         ensures ids { KeepsIds self.old.table self.new.table }
     {
-        let site = self.site.number();
-        let (ops, copies) = prepared(
-            self.alloc,
-            site,
-            self.clock.seen(),
-            self.log.known(site),
-            self.limit - self.store.cells(),
-            drafts,
-        )?;
+        let ops = self.planned(drafts)?;
+        let copies = copied(self.alloc, &ops)?;
         self.make_all(ops)?;
         Ok(copies)
+    }
+
+    /// Makes operations of the site's own, as `make` does, and answers no copies of them: for a caller who
+    /// reads them in the log, where they stand in order behind all that it had. Refused as `make` is.
+    pub fn commit(&mut self, drafts: Vec<Draft>) -> Result<(), Fault>
+        requires { MayBeMade self.old.site self.old.log (map body_of drafts.items) }
+        ensures fits { OnOk result (refusal_of self.old.limit (map body_of drafts.items) self.old.log ≡ None) }
+        ensures refused { IfErr result (λ fault. (refusal_of self.old.limit (map body_of drafts.items) self.old.log
+            ≡ Some fault) ⊎ ((fault ≡ Fault.NoMemory) × (refusal_of self.old.limit (map body_of drafts.items) self.old.log ≡ None))) }
+        ensures log { OnOk result (self.new.log ≡ with_drafts self.old.site (map body_of drafts.items) self.old.log) }
+        ensures cells { OnOk result (self.new.cells ≡ cells_of self.new.log) }
+        ensures same { OnErr result (self.new ≡ record self.old { table = self.new.table }) }
+        ensures kept { (refusal_of self.old.limit (map body_of drafts.items) self.old.log ≡ None → ⊥) → self.new ≡ self.old }
+        ensures site { self.new.site ≡ self.old.site }
+        ensures limit { self.new.limit ≡ self.old.limit }
+        ensures ids { KeepsIds self.old.table self.new.table }
+    {
+        let made = self.planned(drafts)?;
+        self.make_all(made)
     }
 }

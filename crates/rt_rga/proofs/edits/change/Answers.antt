@@ -1,4 +1,4 @@
-use Rattle.std.proofs.Common.{◌≡◌, ◌∙◌, ◌+◌, [], ap, refl, sym, subst, arith, length, map}
+use Rattle.std.proofs.Common.{◌≡◌, ◌∙◌, ◌+◌, [], ap, sym, subst, arith, length, map}
 use Rattle.std.specs.Prelude.{string_bytes}
 use Rattle.std.proofs.lemmas.Result.{err_from_is_err_and}
 use Rattle.rt_stamps.specs.declared.stamp.TheConstants.{FINAL, ROOT}
@@ -15,7 +15,6 @@ use Rattle.rt_rga.proofs.Final.{final_stays}
 use Rattle.rt_rga.proofs.Replicas.{replica_delete, replica_distinct, replica_insert, replica_placed, replica_tag}
 use Rattle.rt_store.specs.Shown.{shown}
 use Rattle.rt_store.specs.Spans.{gone_in_any, is_in_spans}
-use Rattle.rt_tags.specs.States.{KeepsIds, TagStates}
 use Rattle.rt_tags.proofs.Keeping.{keeps_itself}
 use Rattle.rt_rga.proofs.edits.change.Goals as goal
 

@@ -1,4 +1,6 @@
-use Rattle.std.proofs.Common.{◌∙◌, ap, sym, subst, arith, length, refl}
+use Rattle.std.proofs.Common.{◌∙◌, ◌++◌, ℕ, List, ap, sym, subst, arith, length, refl}
+use Rattle.rt_store.specs.declared.cell.Cell.{Cell}
+use Rattle.rt_store.specs.Cells.{cells_from}
 use Rattle.rt_store.specs.Tagged.{AreStates}
 use Rattle.rt_rga.proofs.Replicas.{all_from_states}
 use Rattle.rt_store.proofs.Places.{length_from}
@@ -6,7 +8,9 @@ use Rattle.std.proofs.lemmas.Result.{err_from_is_err_and}
 use Rattle.rt_rga.proofs.edits.insert_cells.Goals as goal
 
 pub reserve-requires : goal.reserve-requires
-reserve-requires g c = omega (arith, c.requires.room, c.len.ensures, ap length c.in_ok-cells.ensures.cells, length_from c.args.stamp.count c.args.stamp.site c.in_ok-state.state c.args.text.now)
+reserve-requires g c =
+    let cells = c.in_ok-push_new.ensures.cells ∙ ap (λ (cells : List (Cell ℕ)). cells ++ cells_from c.args.stamp.count c.args.stamp.site c.in_ok-state.state c.args.text.now) c.new-cells.ensures.items in
+    omega (arith, c.requires.room, c.len.ensures, ap length cells, length_from c.args.stamp.count c.args.stamp.site c.in_ok-state.state c.args.text.now)
 
 pub splice-requires-clause-states : goal.splice-requires-clause-states
 splice-requires-clause-states g c =
@@ -14,7 +18,8 @@ splice-requires-clause-states g c =
 
 pub splice-requires-clause-new : goal.splice-requires-clause-new
 splice-requires-clause-new g c =
-    subst (AreStates c.state_of_list.new.self) (sym (c.deref.ensures.value ∙ c.in_ok-cells.ensures.cells))
+    let cells = c.in_ok-push_new.ensures.cells ∙ ap (λ (cells : List (Cell ℕ)). cells ++ cells_from c.args.stamp.count c.args.stamp.site c.in_ok-state.state c.args.text.now) c.new-cells.ensures.items in
+    subst (AreStates c.state_of_list.new.self) (sym (c.deref.ensures.value ∙ cells))
     (all_from_states c.state_of_list.new.self c.args.stamp.count c.args.stamp.site c.in_ok-state.state c.args.text.now c.in_ok-state.ensures.given)
 
 pub returns-in_err-state : goal.returns-in_err-state
@@ -22,10 +27,10 @@ returns-in_err-state g c =
     let (y, is, gives) = err_from_is_err_and c.from_residual.result c.from_residual.ensures.1 in
     rw (is, gives) (record { given = tt; state = tt; list = tt; agrees = g.met.S.TextStore.grows c.args.store.now c.args.states.now c.state_of_list.new.self c.state_of_list.ensures.ids c.requires.states; ids = c.state_of_list.ensures.ids; err = refl; fault = c.in_err-state.ensures.fault })
 
-pub returns-in_err-cells : goal.returns-in_err-cells
-returns-in_err-cells g c =
-    let (y, is, gives) = err_from_is_err_and c.from_residual-in_err-cells.result c.from_residual-in_err-cells.ensures.1 in
-    rw (is, gives) (record { given = tt; state = tt; list = tt; agrees = g.met.S.TextStore.grows c.args.store.now c.args.states.now c.state_of_list.new.self c.state_of_list.ensures.ids c.requires.states; ids = c.state_of_list.ensures.ids; err = refl; fault = c.in_err-cells.ensures.fault })
+pub returns-in_err-push_new : goal.returns-in_err-push_new
+returns-in_err-push_new g c =
+    let (y, is, gives) = err_from_is_err_and c.from_residual-in_err-push_new.result c.from_residual-in_err-push_new.ensures.1 in
+    rw (is, gives) (record { given = tt; state = tt; list = tt; agrees = g.met.S.TextStore.grows c.args.store.now c.args.states.now c.state_of_list.new.self c.state_of_list.ensures.ids c.requires.states; ids = c.state_of_list.ensures.ids; err = refl; fault = c.in_err-push_new.ensures.fault })
 
 pub returns-in_err-reserve : goal.returns-in_err-reserve
 returns-in_err-reserve g c =

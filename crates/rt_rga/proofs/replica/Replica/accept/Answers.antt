@@ -7,7 +7,6 @@ use Rattle.rt_rga.specs.Kept.{ReplicaValue, said}
 use Rattle.rt_rga.proofs.Within.{cells_by, continues_new}
 use Rattle.rt_store.specs.Shown.{TaggedCell}
 use Rattle.std.proofs.lemmas.Result.{err_from_is_err_and}
-use Rattle.rt_tags.specs.States.{KeepsIds, TagStates}
 use Rattle.rt_tags.proofs.Keeping.{keeps_itself}
 use Rattle.rt_rga.proofs.replica.Replica.accept.Goals as goal
 

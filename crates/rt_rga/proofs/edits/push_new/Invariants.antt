@@ -1,9 +1,9 @@
 use Rattle.std.proofs.Common.{◌≡◌, ◌+◌, ◌++◌, drop}
 use Rattle.rt_store.specs.Cells.{cells_from}
-use Rattle.rt_rga.proofs.edits.new_cells.Given as goal
+use Rattle.rt_rga.proofs.edits.push_new.Given as goal
 
 abbrev pub invariant-loop-ch : goal.invariant-loop-ch
 invariant-loop-ch l = record {
-  cells : l.cells.items ++ cells_from l.count l.first.site l.state (drop l.ch-index l.text) ≡ cells_from l.first.count l.first.site l.state l.text;
+  cells : l.cells.items ++ cells_from l.count l.first.site l.state (drop l.ch-index l.text) ≡ l.fn.cells.items ++ cells_from l.first.count l.first.site l.state l.text;
   count : l.count ≡ l.first.count + l.ch-index;
 }
