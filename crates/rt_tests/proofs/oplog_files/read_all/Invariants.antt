@@ -1,4 +1,4 @@
-use Rattle.rt_tests_low.proofs.oplog_files.read_all.Given as goal
+use Rattle.rt_tests.proofs.oplog_files.read_all.Given as goal
 
 abbrev pub ghosts-read_whole_in-A-Ledger : goal.ghosts-read_whole_in-A-Ledger
 ghosts-read_whole_in-A-Ledger a = record { name = a.reads.name; parts = a.reads.parts }

@@ -1,4 +1,4 @@
-use Rattle.rt_tests_low.proofs.oplog_files.write_bytes.Given as goal
+use Rattle.rt_tests.proofs.oplog_files.write_bytes.Given as goal
 
 abbrev pub ghosts-write_in-A-Ledger : goal.ghosts-write_in-A-Ledger
 ghosts-write_in-A-Ledger a = record { name = a.writes.name; parts = a.writes.parts }

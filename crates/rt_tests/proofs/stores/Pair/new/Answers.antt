@@ -1,7 +1,7 @@
 use Rattle.std.proofs.Common.{arith}
 use Rattle.rt_store.specs.Cells.{final_cell}
 use Rattle.rt_store.proofs.GivenStates.{one_state}
-use Rattle.rt_tests_low.proofs.stores.Pair.new.Goals as goal
+use Rattle.rt_tests.proofs.stores.Pair.new.Goals as goal
 
 pub invariant_of-result-clause-tree_given : goal.invariant_of-result-clause-tree_given
 invariant_of-result-clause-tree_given c =
