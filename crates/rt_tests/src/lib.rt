@@ -1,4 +1,5 @@
-//! Tests of the crates from rt_rga up to rt_revert, and of texts, by what is public of them. The library itself is empty.
+//! Tests of the crates from rt_rga up to rt_revert, of stores and of words, by what is public of them. The library itself
+//! is empty.
 #![tactic(auto)]
 
 #[cfg(test)]
