@@ -1,4 +1,5 @@
-// Files of a few operations: what rt_oplog alone tells. Files that are joined and shown stand in rt_tests_script.
+// Files of a few operations: what rt_ops and rt_oplog alone tell. Files that are joined and shown stand in
+// rt_tests_script.
 ghost use Rattle.std.specs.Prelude.{◌≡◌, ◌<◌};
 
 use crate::checks::same;
