@@ -90,10 +90,10 @@ fn take_all<S: TextStore>(
 
 /// Receives the bytes of a file of operations: they are read, and offered to the document one after the
 /// other, each in the place of its record. What is new changes the text, moves all marks, and lists its
-/// tags; where it changes the visible text, it forces the modified flag. The first that is refused ends it, with its fault: `BadStamp`, `Conflict`, `NotYet`,
-/// `BadTarget`, `TextFull`; those before it stay accepted. Else the reading's own fault is told, if it
-/// has one: `BadMagic`, `BadVersion`, `Truncated`, `BadRecord`. `NoMemory` in place of any, at the offset
-/// 0 where the file found no memory.
+/// tags; where it changes the visible text, it forces the modified flag. The first that is refused ends
+/// it, with its fault: `BadStamp`, `Conflict`, `NotYet`, `BadTarget`, `TextFull`; those before it stay
+/// accepted. Else the reading's own fault is told, if it has one: `BadMagic`, `BadVersion`, `Truncated`,
+/// `BadRecord`. `NoMemory` in place of any, at the offset 0 where the file found no memory.
 pub fn receive<S: TextStore>(
     alloc: Global,
     view: &mut View<S>,

@@ -16,7 +16,8 @@ use rt_words::{has_quoted, write_word};
 
 /// Writes the line of an answer: `=` and the words of a reply, or `!` and a fault's number and
 /// name; of a file that was received how many of its operations were new and how many repeats, behind
-/// `=`, or behind its fault and the fault's offset. `WriteFault` where a write fails or takes nothing; a front of the line was then written.
+/// `=`, or behind its fault and the fault's offset. `WriteFault` where a write fails or takes nothing;
+/// a front of the line was then written.
 pub fn reply_line<W: Sink>(answer: &Answer, out: &mut W) -> Result<(), Fault>
     ensures wrote { Wrote (W.contents out.old) (W.contents out.new) result (reply_line answer.now) }
     ensures fault { IfErr result (λ fault. fault ≡ Fault.WriteFault) }
