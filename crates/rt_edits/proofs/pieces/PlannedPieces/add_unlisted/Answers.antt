@@ -1,7 +1,7 @@
-use Rattle.std.proofs.Common.{◌≡◌, ◌∙◌, ◌+◌, ◌++◌, ◌<◌, ◌⊎◌, [], None, Some, ap, map, subst, sym}
+use Rattle.std.proofs.Common.{◌≡◌, ◌∙◌, ◌+◌, ◌++◌, ◌<◌, Some, ap, map, subst, sym}
 use Rattle.std.specs.Prelude.{IfSome, option_map}
 use Rattle.std.specs.Str.{chars}
-use Rattle.std.proofs.lemmas.Result.{IfErr-weaker, IfOk-weaker, err_from_is_err_and, on_ok_weaker}
+use Rattle.std.proofs.lemmas.Result.{IfErr-weaker, IfOk-weaker, on_ok_weaker}
 use Rattle.rt_stamps.specs.declared.limits.TheConstants.{GREATEST_COUNT, MOST_CHARACTERS}
 use Rattle.rt_oplog.specs.Edits.{body_of}
 use Rattle.rt_store.specs.Shown.{shown}
@@ -10,7 +10,7 @@ use Rattle.rt_edits.specs.InsertionPlans.{Plans}
 use Rattle.rt_edits.specs.Insertions.{counts_for, last_of, tags_between, with_unlisted}
 use Rattle.rt_edits.specs.PlannedPieces.{AreSoFar}
 use Rattle.rt_edits.specs.Selected.{stamps_in}
-use Rattle.rt_edits.proofs.BareText.{bare_names, plans_bare}
+use Rattle.rt_edits.proofs.BareText.{plans_bare}
 use Rattle.rt_edits.proofs.PlanLaws.{spent}
 use Rattle.rt_edits.proofs.pieces.PlannedPieces.add_unlisted.Goals as goal
 
