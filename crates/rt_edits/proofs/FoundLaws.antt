@@ -1,5 +1,5 @@
 -- What edits find in the cells of a history, and in what a deletion leaves of them.
-use Rattle.std.proofs.Common.{◌≡◌, ℕ, zero, suc, ◌-◌, ◌<◌, inl, inr, List, [], ◌∷◌, ◌++◌, Bool, true, false, cond, not, ◌||◌, length, map, refl, sym, ◌∙◌, ap, subst, arith, Some, Option}
+use Rattle.std.proofs.Common.{◌≡◌, ℕ, zero, suc, ◌<◌, inl, inr, List, [], ◌∷◌, ◌++◌, true, false, cond, not, ◌||◌, length, map, refl, sym, ◌∙◌, ap, subst, arith, Some, Option}
 use Rattle.std.specs.Prelude.{option_map, slice_get, unwrap_or}
 use Rattle.std.specs.List.{IsDistinct}
 use Rattle.std.specs.Str.{IsUtf8, all_scalars, chars}

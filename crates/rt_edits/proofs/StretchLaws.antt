@@ -1,6 +1,6 @@
 -- Ranges of a stretch as those of the text.
-use Rattle.std.proofs.Common.{◌≡◌, ℕ, zero, suc, ◌+◌, ◌-◌, ◌<◌, ◌≤◌, ◌&&◌, ◌||◌, List, [], ◌∷◌, Bool, true, false, All, length, map, refl, sym, ap, ◌∙◌, arith}
-use Rattle.std.specs.Prelude.{nat_le, nat_lt}
+use Rattle.std.proofs.Common.{◌≡◌, ℕ, suc, ◌+◌, ◌-◌, ◌<◌, ◌≤◌, ◌||◌, List, [], ◌∷◌, true, false, All, map, refl, arith}
+use Rattle.std.specs.Prelude.{nat_le}
 use Rattle.std.proofs.lemmas.Bool.Decides.{nat_tests}
 use Rattle.std.proofs.lemmas.List.Elements.{All-cons, All-nil}
 use Rattle.rt_store.proofs.Distinct.{split}
@@ -8,7 +8,6 @@ use Rattle.rt_edits.specs.declared.range.Range.{Range}
 use Rattle.rt_edits.specs.Deletions.{places_from}
 use Rattle.rt_edits.specs.Merging.{range_from}
 use Rattle.rt_edits.specs.Removals.{AreInOrder, is_covered, is_in}
-use Rattle.rt_edits.proofs.StampLaws.{order_weaker}
 
 -- they stay in order
 pub moved_in_order : (begin low : ℕ) (ranges : List Range) → AreInOrder low ranges → AreInOrder (begin + low) (map (range_from begin) ranges)

@@ -11,7 +11,7 @@ use Rattle.std.proofs.lemmas.List.Elements.{All-from_recursion, recursion_from_A
 use Rattle.std.proofs.lemmas.Option.{slice_get_cases}
 use Rattle.rt_stamps.specs.declared.limits.TheConstants.{MOST_CHARACTERS, MOST_TAGS}
 use Rattle.rt_stamps.specs.declared.stamp.Stamp.{Stamp}
-use Rattle.rt_stamps.specs.declared.stamp.TheConstants.{FINAL, ROOT}
+use Rattle.rt_stamps.specs.declared.stamp.TheConstants.{ROOT}
 use Rattle.rt_stamps.specs.Names.{name_order}
 use Rattle.rt_stamps.specs.Words.{Word}
 use Rattle.rt_ops.specs.Operations.{Operation, Body, Insert, Delete, Tag, stamp_of}
@@ -24,8 +24,8 @@ use Rattle.rt_store.specs.Cells.{cells_from, visible_of}
 use Rattle.rt_store.specs.Shown.{TaggedCell}
 use Rattle.rt_store.specs.Spans.{each_next, is_among, is_in_spans}
 use Rattle.rt_store.proofs.Shown.{filter_map}
-use Rattle.rt_rga.specs.Cells.{cell_in, cells_of, writes_by, writes_on}
-use Rattle.rt_rga.specs.Histories.{IsHistory, characters_from, final_character}
+use Rattle.rt_rga.specs.Cells.{cells_of, writes_by, writes_on}
+use Rattle.rt_rga.specs.Histories.{IsHistory, characters_from}
 use Rattle.rt_rga.specs.Reading.{has_stamp}
 use Rattle.rt_rga.proofs.Corollaries.{all_states}
 use Rattle.rt_rga.proofs.Writes.{state_sorted}

@@ -1,10 +1,11 @@
 // Lists of tags, and the characters of a text.
-ghost use Rattle.std.specs.Prelude.{◌≡◌, ◌++◌, ◌∷◌, [], All, IfOk, IfErr, OnOk, false, length, map, filter, not, string_bytes};
+ghost use Rattle.std.specs.Prelude.{◌≡◌, ◌++◌, ◌∷◌, [], All, IfOk, IfErr, IfSome, OnOk, false, length, map, filter, not, string_bytes};
 ghost use Rattle.std.specs.Str.{bytes_eq, chars};
 ghost use Rattle.rt_tags.specs.States.{IsState, IsTag, KeepsIds, is_on, name_at, names_on, state_at};
 ghost use Rattle.rt_tags.specs.Tags.{is_listed, sel};
 ghost use Rattle.rt_edits.specs.Insertions.{shared_names};
 
+use rt_oplog::Text;
 use rt_stamps::Fault;
 use rt_tags::{StateId, StateTable, TagId};
 use std::alloc::Global;
@@ -84,13 +85,28 @@ pub(crate) fn tags_of_both(
     Ok(both)
 }
 
-/// The characters of a text.
-pub(crate) fn chars_of(alloc: Global, text: &str) -> Result<Vec<char>, Fault>
-    ensures ok { IfOk result (λ all. all.items ≡ chars text.now) }
+// The only character of a text, if it has one and no more.
+fn only_char(text: &str) -> Option<char>
+    ensures { IfSome result (λ ch. chars text.now ≡ ch ∷ []) }
+{
+    let mut characters = text.chars();
+    let first = characters.next()?;
+    match characters.next() {
+        Some(_) => None,
+        None => Some(first),
+    }
+}
+
+/// The characters of a text. A single one takes no memory.
+pub(crate) fn text_of(alloc: Global, text: &str) -> Result<Text, Fault>
+    ensures ok { IfOk result (λ all. all ≡ chars text.now) }
     ensures err { IfErr result (λ fault. fault ≡ Fault.NoMemory) }
 {
+    if let Some(ch) = only_char(text) {
+        return Ok(Text::of(ch));
+    }
     let all: Vec<char> = text.chars().collect(alloc)?;
-    Ok(all)
+    Ok(Text::new(all))
 }
 
 /// Whether a list names `sel`.

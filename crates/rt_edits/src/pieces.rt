@@ -14,7 +14,7 @@ ghost use Rattle.rt_edits.specs.Selections.{with_stamps};
 
 use crate::Piece;
 use crate::inserts::{Inserts, copied};
-use crate::lists::{chars_of, names_sel, shared_tags};
+use crate::lists::{names_sel, shared_tags, text_of};
 use rt_stamps::{Fault, Site, Stamp};
 use rt_tags::{StateTable, TagId};
 use std::alloc::Global;
@@ -44,6 +44,18 @@ fn shared_names(alloc: Global, names: &[String]) -> Result<Vec<String>, Fault>
     let mut states = StateTable::new(alloc)?;
     let tags = shared_tags(alloc, &mut states, names)?;
     names_of(alloc, &states, &tags)
+}
+
+/// Adds characters to those that are to be selected, where that is asked. Want of memory.
+pub(crate) fn select(selected: &mut Vec<Stamp>, asked: bool, stamps: &[Stamp]) -> Result<(), Fault>
+    ensures selected { OnOk result ((selection : List Stamp)
+        → with_stamps selected.new.items selection ≡ selected_if asked stamps.now (with_stamps selected.old.items selection)) }
+    ensures err { IfErr result (λ fault. fault ≡ Fault.NoMemory) }
+{
+    if asked {
+        selected.extend_from_slice(stamps)?;
+    }
+    Ok(())
 }
 
 /// Pieces of text as they are planned: their operations and characters, those that the commanding
@@ -80,22 +92,19 @@ impl PlannedPieces {
         }
     }
 
-    /// Adds a text with some tags, which are to be listed, and answers the stamps of its characters.
-    /// `ClockSpent`, or want of memory.
+    /// Adds a text with some tags, which are to be listed. `ClockSpent`, or want of memory.
     pub(crate) fn add_text(
         &mut self,
         alloc: Global,
         site: Site,
         names: &[String],
         text: &[char],
-    ) -> Result<Vec<Stamp>, Fault>
+    ) -> Result<(), Fault>
         requires { self.old.texts.count ≤ GREATEST_COUNT }
         ensures drafts { OnOk result (map body_of self.new.texts.drafts.items ≡ map body_of self.old.texts.drafts.items
             ++ text_drafts MOST_CHARACTERS site.number self.old.texts.count self.old.texts.behind (map (λ w. string_bytes w) names.now) text.now) }
         ensures stamps { OnOk result (self.new.texts.stamps.items ≡ self.old.texts.stamps.items
             ++ stamps_of (tagged_cells site.number self.old.texts.count (map (λ w. string_bytes w) names.now) text.now)) }
-        ensures new { IfOk result (λ stamps. stamps.items
-            ≡ stamps_of (tagged_cells site.number self.old.texts.count (map (λ w. string_bytes w) names.now) text.now)) }
         ensures count { OnOk result (self.new.texts.count ≡ self.old.texts.count + counts_for (map (λ w. string_bytes w) names.now) text.now) }
         ensures within { OnOk result (self.new.texts.count ≤ GREATEST_COUNT) }
         ensures behind { OnOk result (self.new.texts.behind ≡ behind self.old.texts.behind
@@ -107,23 +116,9 @@ impl PlannedPieces {
         ensures err { IfErr result (λ fault. (fault ≡ Fault.NoMemory) ⊎ ((fault ≡ Fault.ClockSpent)
             × (GREATEST_COUNT < self.old.texts.count + counts_for (map (λ w. string_bytes w) names.now) text.now))) }
     {
-        let before = self.texts.stamps.len();
         self.texts.push_text(alloc, site, names, text)?;
         let mut more = copied(alloc, names)?;
         self.names.append(&mut more)?;
-        Ok(Vec::from_slice(alloc, &self.texts.stamps[before..])?)
-    }
-
-    /// Selects characters, where that is asked. Want of memory.
-    pub(crate) fn select(&mut self, selected: bool, stamps: &[Stamp]) -> Result<(), Fault>
-        ensures selected { OnOk result ((selection : List Stamp)
-            → with_stamps self.new.selected.items selection ≡ selected_if selected stamps.now (with_stamps self.old.selected.items selection)) }
-        ensures same { self.new ≡ record self.old { selected = self.new.selected } }
-        ensures err { IfErr result (λ fault. fault ≡ Fault.NoMemory) }
-    {
-        if selected {
-            self.selected.extend_from_slice(stamps)?;
-        }
         Ok(())
     }
 
@@ -144,13 +139,15 @@ impl PlannedPieces {
         ensures err { IfErr result (λ fault. (fault ≡ Fault.NoMemory) ⊎ ((fault ≡ Fault.ClockSpent)
             × (GREATEST_COUNT < self.old.texts.count + counts_for (shared_names piece.now.tags) (chars piece.now.text)))) }
     {
-        let text = chars_of(alloc, piece.text())?;
-        if text.is_empty() {
+        let text = text_of(alloc, piece.text())?;
+        if text.characters().is_empty() {
             return Ok(());
         }
         let names = shared_names(alloc, piece.tags())?;
-        let stamps = self.add_text(alloc, site, &names, &text)?;
-        self.select(names_sel(piece.tags()), &stamps)?;
+        let before = self.texts.stamps.len();
+        self.add_text(alloc, site, &names, text.characters())?;
+        let chosen = names_sel(piece.tags());
+        select(&mut self.selected, chosen, &self.texts.stamps[before..])?;
         self.last = Some(names);
         Ok(())
     }

@@ -17,8 +17,8 @@ ghost use Rattle.rt_edits.specs.Selected.{selected_stamps};
 ghost use Rattle.rt_edits.specs.Selections.{with_stamps};
 
 use crate::inserting::Between;
-use crate::lists::{chars_of, tags_of_both};
-use crate::pieces::{PlannedPieces, names_of};
+use crate::lists::{tags_of_both, text_of};
+use crate::pieces::{PlannedPieces, names_of, select};
 use crate::{Piece, Selection};
 use rt_stamps::{Fault, Site, Stamp};
 use rt_store::Cell;
@@ -166,20 +166,22 @@ impl PlannedPieces {
             → GREATEST_COUNT < so_far.count + counts_for
             (tags_between (last_of (option_map (shown states.now) left) so_far.cells) (Some (shown states.now right))) (chars rest.now)))) }
     {
-        let text = chars_of(alloc, rest)?;
-        if text.is_empty() {
+        let text = text_of(alloc, rest)?;
+        if text.characters().is_empty() {
             return Ok(None);
         }
         let has_left = self.has_left(&left);
         let before = self.texts.behind;
         let after = right.stamp;
         let names = self.names_between(alloc, states, left, right)?;
-        let stamps = self.add_text(alloc, site, &names, &text)?;
+        let first = self.texts.stamps.len();
+        self.add_text(alloc, site, &names, text.characters())?;
         if !has_left {
             return Ok(None);
         }
-        let selected = self.selects_both(selection, before, after);
-        self.select(selected, &stamps)?;
+        let stamps = Vec::from_slice(alloc, &self.texts.stamps[first..])?;
+        let asked = self.selects_both(selection, before, after);
+        select(&mut self.selected, asked, &stamps)?;
         Ok(Some(Between {
             left: before,
             right: after,

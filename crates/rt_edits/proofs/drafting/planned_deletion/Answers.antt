@@ -13,7 +13,6 @@ use Rattle.rt_tags.specs.States.{TagStates, names_on, state_at}
 use Rattle.rt_views.specs.declared.stretch.Stretch.{Stretch}
 use Rattle.rt_views.specs.Stretches.{part}
 use Rattle.rt_views.proofs.Parts.{part_length}
-use Rattle.rt_edits.specs.declared.range.Range.{Range}
 use Rattle.rt_edits.specs.Deletions.{Loss, loss_in}
 use Rattle.rt_edits.specs.Flat.{Flat}
 use Rattle.rt_edits.specs.NamedSpans.{parts_of, spans_in}

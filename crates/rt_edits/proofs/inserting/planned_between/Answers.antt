@@ -1,13 +1,13 @@
-use Rattle.std.proofs.Common.{◌≡◌, ℕ, ◌∙◌, [], ◌+◌, ◌++◌, ◌<◌, List, Option, ap, refl, subst, sym}
+use Rattle.std.proofs.Common.{ℕ, ◌∙◌, [], ◌++◌, ◌<◌, ap, refl, subst, sym}
 use Rattle.std.specs.Prelude.{option_map}
 use Rattle.std.specs.Str.{chars}
 use Rattle.std.proofs.lemmas.Result.{err_from_is_err_and}
 use Rattle.rt_stamps.specs.declared.limits.TheConstants.{GREATEST_COUNT, MOST_CHARACTERS}
-use Rattle.rt_store.specs.Shown.{TaggedCell, shown}
+use Rattle.rt_store.specs.Shown.{shown}
 use Rattle.rt_edits.specs.declared.inserting.Plan.{Plan}
-use Rattle.rt_edits.specs.InsertionDrafts.{behind, insertion_drafts, text_drafts}
+use Rattle.rt_edits.specs.InsertionDrafts.{behind, text_drafts}
 use Rattle.rt_edits.specs.InsertionPlans.{Plans}
-use Rattle.rt_edits.specs.Insertions.{Insertion, counts_for, last_of, tags_between, with_pieces, with_unlisted}
+use Rattle.rt_edits.specs.Insertions.{Insertion, last_of, tags_between, with_pieces, with_unlisted}
 use Rattle.rt_edits.proofs.PlanLaws.{spent, unlisted_count}
 use Rattle.rt_edits.proofs.RestLaws.{pieces_others}
 use Rattle.rt_edits.proofs.inserting.planned_between.Goals as goal

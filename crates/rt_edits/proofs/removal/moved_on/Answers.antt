@@ -1,4 +1,4 @@
-use Rattle.std.proofs.Common.{◌≡◌, ◌<◌, ◌≤◌, ◌+◌, ◌∙◌, ap, arith, get_or, length, map, sym, take}
+use Rattle.std.proofs.Common.{◌≡◌, ◌<◌, ◌≤◌, ◌∙◌, ap, arith, get_or, length, map, sym, take}
 use Rattle.std.proofs.lemmas.List.{length-set, map-id, take_all}
 use Rattle.rt_edits.specs.declared.range.Range.{Range}
 use Rattle.rt_edits.specs.Merging.{range_from}

@@ -1,4 +1,4 @@
-use Rattle.std.proofs.Common.{◌≡◌, ◌∙◌, ◌&&◌, ◌+◌, ◌-◌, ◌<◌, ◌≤◌, ◌^◌, All, ap, arith, sym, length, map, subst}
+use Rattle.std.proofs.Common.{◌≡◌, ◌∙◌, ◌&&◌, ◌+◌, ◌-◌, ◌<◌, ◌^◌, All, ap, arith, sym, length, map, subst}
 use Rattle.std.specs.Prelude.{nat_lt}
 use Rattle.rt_store.specs.Cells.{text_of}
 use Rattle.rt_views.specs.Stretches.{part}
@@ -6,7 +6,7 @@ use Rattle.rt_views.proofs.Parts.{part_length}
 use Rattle.rt_edits.specs.declared.range.Range.{Range}
 use Rattle.rt_edits.specs.Deletions.{places_from}
 use Rattle.rt_edits.specs.Merging.{range_from}
-use Rattle.rt_edits.specs.Removals.{AreInOrder, is_covered, is_removed}
+use Rattle.rt_edits.specs.Removals.{AreInOrder, is_covered}
 use Rattle.rt_edits.proofs.SparingLaws.{removed_same}
 use Rattle.rt_edits.proofs.StampLaws.{order_weaker}
 use Rattle.rt_edits.proofs.StretchLaws.{all_weaker, moved_before, moved_covered, moved_fit, moved_in_order}

@@ -1,4 +1,4 @@
-use Rattle.std.proofs.Common.{◌≡◌, ◌∙◌, ◌+◌, ◌≤◌, ◌++◌, [], Some, ap, sym, map, length, inl}
+use Rattle.std.proofs.Common.{◌≡◌, refl, ◌∙◌, ◌+◌, ◌≤◌, ◌++◌, ◌-◌, drop, take, [], Some, ap, sym, map, length, inl}
 use Rattle.std.specs.Prelude.{string_bytes}
 use Rattle.std.specs.Str.{chars}
 use Rattle.rt_tags.specs.Tags.{is_listed, sel}
@@ -10,45 +10,47 @@ use Rattle.rt_edits.specs.Insertions.{counts_for, selected_if, shared_names, tag
 use Rattle.rt_edits.specs.Selections.{with_stamps}
 use Rattle.rt_edits.proofs.PieceLaws.{added_listed, no_drafts, none_in, none_listed}
 use Rattle.rt_edits.proofs.PlanLaws.{some_in}
+use Rattle.std.proofs.lemmas.List.{drop_at, take_rest}
 use Rattle.std.proofs.lemmas.Result.{err_from_is_err_and}
 use Rattle.rt_edits.proofs.pieces.PlannedPieces.add_listed.Goals as goal
 
 pub returns-then-is_empty-clause-drafts : goal.returns-then-is_empty-clause-drafts
 returns-then-is_empty-clause-drafts c =
-    let none : chars c.args.piece.now.text ≡ [] = ap chars (sym c.text.ensures) ∙ sym c.in_ok-text.ensures.ok ∙ none_in c.in_ok-text.text.items c.in_ok-text.text.len c.is_empty.result c.in_ok-text.text.ok.0 c.is_empty.ensures c.if-is_empty.true in
+    let none : chars c.args.piece.now.text ≡ [] = ap chars (sym c.text.ensures) ∙ sym c.in_ok-text.ensures.ok ∙ sym c.characters.ensures ∙ none_in c.characters.result.now (length c.characters.result.now) c.is_empty.result refl c.is_empty.ensures c.if-is_empty.true in
     no_drafts (map body_of c.args.self.now.texts.drafts.items) c.args.site.number c.args.self.now.texts.count c.args.self.now.texts.behind (shared_names c.args.piece.now.tags) (chars c.args.piece.now.text) none
 
 pub returns-then-is_empty-clause-so_far : goal.returns-then-is_empty-clause-so_far
 returns-then-is_empty-clause-so_far c = λ after selection listed so_far h.
-    let none : chars c.args.piece.now.text ≡ [] = ap chars (sym c.text.ensures) ∙ sym c.in_ok-text.ensures.ok ∙ none_in c.in_ok-text.text.items c.in_ok-text.text.len c.is_empty.result c.in_ok-text.text.ok.0 c.is_empty.ensures c.if-is_empty.true in
+    let none : chars c.args.piece.now.text ≡ [] = ap chars (sym c.text.ensures) ∙ sym c.in_ok-text.ensures.ok ∙ sym c.characters.ensures ∙ none_in c.characters.result.now (length c.characters.result.now) c.is_empty.result refl c.is_empty.ensures c.if-is_empty.true in
     none_listed after selection listed c.args.self.now c.args.site.number c.args.piece.now.tags (chars c.args.piece.now.text) so_far none h
 
 pub returns-clause-so_far : goal.returns-clause-so_far
 returns-clause-so_far c = λ after selection listed so_far h.
     let old = c.args.self.now in
-    let next : PlannedPieces = c.select.new.self in
-    let new : PlannedPieces = record { texts = next.texts; selected = next.selected; names = next.names; last = Some c.in_ok-names.names } in
+    let next : PlannedPieces = c.add_text.new.self in
+    let new : PlannedPieces = record { texts = next.texts; selected = c.select.new.selected; names = next.names; last = Some c.in_ok-names.names } in
     let site = c.args.site.number in
     let tags = c.args.piece.now.tags in
     let text = chars c.args.piece.now.text in
     let shared = shared_names tags in
-    let same = c.select.ensures.same in
-    let e = c.in_ok-stamps.ensures in
-    let text_is : c.deref-2.result.now ≡ text = c.deref-2.ensures.value ∙ c.in_ok-text.ensures.ok ∙ ap chars c.text.ensures in
+    let e = c.in_ok-add_text.ensures in
+    let text_is : c.characters-2.result.now ≡ text = c.characters-2.ensures ∙ c.in_ok-text.ensures.ok ∙ ap chars c.text.ensures in
     let named : map (λ w. string_bytes w) c.in_ok-names.names.items ≡ shared = c.in_ok-names.ensures.ok ∙ ap shared_names c.tags.ensures in
     let names_are : map (λ w. string_bytes w) c.deref.result.now ≡ shared = ap (map (λ w. string_bytes w)) c.deref.ensures.value ∙ named in
-    let some : 1 ≤ length text = some_in text c.in_ok-text.text.items c.in_ok-text.text.len c.is_empty.result c.in_ok-text.text.ok.0 (c.in_ok-text.ensures.ok ∙ ap chars c.text.ensures) c.is_empty.ensures c.if-is_empty.false in
-    let stamps : c.deref-3.result.now ≡ stamps_of (tagged_cells site old.texts.count shared text) =
-    c.deref-3.ensures.value ∙ e.new ∙ (λ i. stamps_of (tagged_cells site old.texts.count (names_are i) (text_is i))) in
+    let some : 1 ≤ length text = some_in text c.characters.result.now (length c.characters.result.now) c.is_empty.result refl (c.characters.ensures ∙ c.in_ok-text.ensures.ok ∙ ap chars c.text.ensures) c.is_empty.ensures c.if-is_empty.false in
+    let more = stamps_of (tagged_cells site old.texts.count shared text) in
+    let grown : next.texts.stamps.items ≡ old.texts.stamps.items ++ more = e.stamps ∙ (λ i. old.texts.stamps.items ++ stamps_of (tagged_cells site old.texts.count (names_are i) (text_is i))) in
+    let stamps : take (length c.deref-2.result.now - c.len-before.result) (drop c.len-before.result c.deref-2.result.now) ≡ more =
+    take_rest c.deref-2.result.now c.len-before.result ∙ ap (drop c.len-before.result) (c.deref-2.ensures.value ∙ grown) ∙ drop_at old.texts.stamps.items more c.len-before.result (sym (c.len-before.ensures ∙ old.texts.stamps.ok.0)) in
     added_listed after selection listed old new site tags text so_far some
     (record {
-      stamps = ap (λ (p : PlannedPieces). p.texts.stamps.items) same ∙ e.stamps ∙ (λ i. old.texts.stamps.items ++ stamps_of (tagged_cells site old.texts.count (names_are i) (text_is i)));
-      count = ap (λ (p : PlannedPieces). p.texts.count) same ∙ e.count ∙ (λ i. old.texts.count + counts_for (names_are i) (text_is i));
-      element = ap (λ (p : PlannedPieces). p.texts.behind) same ∙ e.behind ∙ (λ i. behind old.texts.behind (tagged_cells site old.texts.count (names_are i) (text_is i)));
-      tags = ap (λ (p : PlannedPieces). map (λ w. string_bytes w) p.names.items) same ∙ e.names ∙ (λ i. map (λ w. string_bytes w) old.names.items ++ names_are i);
+      stamps = grown;
+      count = e.count ∙ (λ i. old.texts.count + counts_for (names_are i) (text_is i));
+      element = e.behind ∙ (λ i. behind old.texts.behind (tagged_cells site old.texts.count (names_are i) (text_is i)));
+      tags = e.names ∙ (λ i. map (λ w. string_bytes w) old.names.items ++ names_are i);
     })
     (c.in_ok-select.ensures.selected selection
-    ∙ (λ i. selected_if ((c.names_sel.ensures ∙ ap (is_listed sel) c.tags-2.ensures) i) (stamps i) (with_stamps (c.add_text.ensures.selected i).items selection)))
+    ∙ (λ i. selected_if ((c.names_sel-chosen.ensures ∙ ap (is_listed sel) c.tags-2.ensures) i) (stamps i) (with_stamps (c.add_text.ensures.selected i).items selection)))
     (ap Some named)
     h
 
@@ -67,17 +69,17 @@ returns-in_err-select c =
     let (y, is, gives) = err_from_is_err_and c.from_residual-in_err-select.result c.from_residual-in_err-select.ensures.1 in
     rw (is, gives) (record { drafts = tt; so_far = tt; within = tt; err = inl c.in_err-select.ensures.err })
 
-pub returns-in_err-stamps-clause-drafts : goal.returns-in_err-stamps-clause-drafts
-returns-in_err-stamps-clause-drafts c =
-    let p = err_from_is_err_and c.from_residual-in_err-stamps.result c.from_residual-in_err-stamps.ensures.1 in
+pub returns-in_err-add_text-clause-drafts : goal.returns-in_err-add_text-clause-drafts
+returns-in_err-add_text-clause-drafts c =
+    let p = err_from_is_err_and c.from_residual-in_err-add_text.result c.from_residual-in_err-add_text.ensures.1 in
     rw p.1 tt
 
-pub returns-in_err-stamps-clause-so_far : goal.returns-in_err-stamps-clause-so_far
-returns-in_err-stamps-clause-so_far c =
-    let p = err_from_is_err_and c.from_residual-in_err-stamps.result c.from_residual-in_err-stamps.ensures.1 in
+pub returns-in_err-add_text-clause-so_far : goal.returns-in_err-add_text-clause-so_far
+returns-in_err-add_text-clause-so_far c =
+    let p = err_from_is_err_and c.from_residual-in_err-add_text.result c.from_residual-in_err-add_text.ensures.1 in
     rw p.1 tt
 
-pub returns-in_err-stamps-clause-within : goal.returns-in_err-stamps-clause-within
-returns-in_err-stamps-clause-within c =
-    let p = err_from_is_err_and c.from_residual-in_err-stamps.result c.from_residual-in_err-stamps.ensures.1 in
+pub returns-in_err-add_text-clause-within : goal.returns-in_err-add_text-clause-within
+returns-in_err-add_text-clause-within c =
+    let p = err_from_is_err_and c.from_residual-in_err-add_text.result c.from_residual-in_err-add_text.ensures.1 in
     rw p.1 tt

@@ -8,7 +8,6 @@ returns-in_err-push_text c =
     rw (p.1, p.2) (record {
       drafts = tt;
       stamps = tt;
-      new = tt;
       count = tt;
       within = tt;
       behind = tt;
@@ -24,7 +23,6 @@ returns-in_err-more c =
     rw (p.1, p.2) (record {
       drafts = tt;
       stamps = tt;
-      new = tt;
       count = tt;
       within = tt;
       behind = tt;
@@ -40,23 +38,6 @@ returns-in_err-append c =
     rw (p.1, p.2) (record {
       drafts = tt;
       stamps = tt;
-      new = tt;
-      count = tt;
-      within = tt;
-      behind = tt;
-      names = tt;
-      selected = refl;
-      last = refl;
-      err = inl refl;
-    })
-
-pub returns-in_err-from_slice : goal.returns-in_err-from_slice
-returns-in_err-from_slice c =
-    let p = err_from_is_err_and c.from_residual-in_err-from_slice.result c.from_residual-in_err-from_slice.ensures.1 in
-    rw (p.1, p.2) (record {
-      drafts = tt;
-      stamps = tt;
-      new = tt;
       count = tt;
       within = tt;
       behind = tt;

@@ -1,7 +1,7 @@
-use Rattle.std.proofs.Common.{◌≡◌, ◌∙◌, ◌+◌, ◌++◌, ◌<◌, ◌⊎◌, [], None, Some, ap, map, subst, sym}
+use Rattle.std.proofs.Common.{◌≡◌, ◌∙◌, ◌+◌, ◌++◌, ◌<◌, Some, ap, map, subst, sym}
 use Rattle.std.specs.Prelude.{IfSome, option_map}
 use Rattle.std.specs.Str.{chars}
-use Rattle.std.proofs.lemmas.Result.{IfErr-weaker, IfOk-weaker, err_from_is_err_and, on_ok_weaker}
+use Rattle.std.proofs.lemmas.Result.{IfErr-weaker, IfOk-weaker, on_ok_weaker}
 use Rattle.rt_stamps.specs.declared.limits.TheConstants.{GREATEST_COUNT, MOST_CHARACTERS}
 use Rattle.rt_ops.specs.Edits.{body_of}
 use Rattle.rt_store.specs.Shown.{shown}
@@ -9,8 +9,12 @@ use Rattle.rt_edits.specs.InsertionDrafts.{behind, text_drafts}
 use Rattle.rt_edits.specs.InsertionPlans.{Plans}
 use Rattle.rt_edits.specs.Insertions.{counts_for, last_of, tags_between, with_unlisted}
 use Rattle.rt_edits.specs.PlannedPieces.{AreSoFar}
+<<<<<<< HEAD
 use Rattle.rt_edits.specs.Selected.{selected_stamps}
 use Rattle.rt_edits.proofs.BareText.{bare_names, plans_bare}
+=======
+use Rattle.rt_edits.proofs.BareText.{plans_bare}
+>>>>>>> 270102a38d050f08928a37cfcab98c79b7a8a7ec
 use Rattle.rt_edits.proofs.PlanLaws.{spent}
 use Rattle.rt_edits.proofs.pieces.PlannedPieces.add_unlisted.Goals as goal
 

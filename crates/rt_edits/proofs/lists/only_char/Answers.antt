@@ -1,0 +1,18 @@
+use Rattle.std.proofs.Common.{◌≡◌, ◌∙◌, ℕ, List, [], ◌∷◌, ap, length, refl, sym}
+use Rattle.std.specs.Str.{chars}
+use Rattle.std.proofs.lemmas.Str.{chars_past_char}
+use Rattle.rt_edits.proofs.lists.only_char.Goals as goal
+
+nothing_left : (bytes : List ℕ) → length bytes ≡ 0 → bytes ≡ []
+nothing_left [] e = refl
+nothing_left (b ∷ bytes) e = absurd (cc e)
+
+no_characters : chars [] ≡ []
+unfolding chars
+no_characters = refl
+
+pub returns-in-None : goal.returns-in-None
+returns-in-None c =
+    let first = c.in_ok-first.first in
+    chars_past_char c.args.text.now _ first c.utf8.text (sym c.chars-characters.ensures.rest ∙ c.in_ok-first.ensures.steps.0)
+    ∙ ap (λ bytes. first ∷ chars bytes) (nothing_left _ c.in-None.ensures.steps.0.0) ∙ ap (λ more. first ∷ more) no_characters
