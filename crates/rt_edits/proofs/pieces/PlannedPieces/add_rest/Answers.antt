@@ -29,13 +29,8 @@ returns-then-is_empty-clause-drafts c = λ after listed so_far h.
 pub returns-then-is_empty-clause-plans : goal.returns-then-is_empty-clause-plans
 returns-then-is_empty-clause-plans c = λ plan after listed so_far h a p.
     let t = c.args.states.now in
-<<<<<<< HEAD
-    let none : chars c.args.rest.now ≡ [] = sym c.in_ok-text.ensures.ok ∙ none_in c.in_ok-text.text.items c.in_ok-text.text.len c.is_empty.result c.in_ok-text.text.ok.0 c.is_empty.ensures c.if-is_empty.true in
-    plans_nothing plan after (selected_stamps c.args.selection.now) listed c.args.self.now c.args.site.number (last_of (option_map (shown t) c.args.left) so_far.cells) (Some (shown t c.args.right)) (chars c.args.rest.now) so_far none h p
-=======
     let none : chars c.args.rest.now ≡ [] = sym c.in_ok-text.ensures.ok ∙ sym c.characters.ensures ∙ none_in c.characters.result.now (length c.characters.result.now) c.is_empty.result refl c.is_empty.ensures c.if-is_empty.true in
     plans_nothing plan after (selected_stamps c.args.selection.now) listed c.args.self.now c.args.site.number (last_of (option_map (shown t) c.args.left) so_far.cells) (Some (shown t c.args.right)) (chars c.args.rest.now) so_far none h p
->>>>>>> 270102a38d050f08928a37cfcab98c79b7a8a7ec
 
 pub returns-in_err-add_text-clause-err : goal.returns-in_err-add_text-clause-err
 returns-in_err-add_text-clause-err c =

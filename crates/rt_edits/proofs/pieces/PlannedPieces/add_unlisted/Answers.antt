@@ -9,12 +9,7 @@ use Rattle.rt_edits.specs.InsertionDrafts.{behind, text_drafts}
 use Rattle.rt_edits.specs.InsertionPlans.{Plans}
 use Rattle.rt_edits.specs.Insertions.{counts_for, last_of, tags_between, with_unlisted}
 use Rattle.rt_edits.specs.PlannedPieces.{AreSoFar}
-<<<<<<< HEAD
-use Rattle.rt_edits.specs.Selected.{selected_stamps}
-use Rattle.rt_edits.proofs.BareText.{bare_names, plans_bare}
-=======
 use Rattle.rt_edits.proofs.BareText.{plans_bare}
->>>>>>> 270102a38d050f08928a37cfcab98c79b7a8a7ec
 use Rattle.rt_edits.proofs.PlanLaws.{spent}
 use Rattle.rt_edits.proofs.pieces.PlannedPieces.add_unlisted.Goals as goal
 
