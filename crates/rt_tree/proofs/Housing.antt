@@ -110,6 +110,10 @@ keeps_more a b c f g stamp none = f stamp (g stamp none)
 pub placed_more : (b c : Shown NodeId) (run : Run) → IsPlaced b run → KeepsAll b c → IsPlaced c run
 placed_more b c run p g stamp h none = p stamp h (g stamp none)
 
+-- the cell of a stamp that a run has
+pub there_at : (all : List Run) (run : Run) (front : Counts) (stamp : Stamp) → IsBehind all run front → has run stamp ≡ true → StandsAt Cells all run front (stamp.count - run.first) (front.cells + (stamp.count - run.first))
+there_at all run front stamp is there = let w = has_within run stamp there in record { left = is.left; right = is.right; here = is.here; before = is.before; at = omega arith; inside = w }
+
 -- A RUN'S STAMPS AND THOSE OF ITS CELLS
 
 abbrev row : Bool → ℕ → ℕ → ℕ → List ℕ → List (Cell ℕ)

@@ -6,6 +6,7 @@ mod Going
 mod Rising
 mod Texts
 mod CellLaws
+mod Tallying
 mod Stands
 mod Kept
 mod Lines

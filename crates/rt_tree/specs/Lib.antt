@@ -1,5 +1,6 @@
 pub mod Runs
 pub mod Sums
+pub mod Tallies
 pub mod Shape
 pub mod Walks
 pub mod Stretches

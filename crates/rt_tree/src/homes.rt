@@ -6,20 +6,22 @@ ghost use Rattle.rt_tree.specs.declared.node.Entry.TheVariants.{Here};
 ghost use Rattle.rt_tree.specs.declared.node.Run.{Run};
 ghost use Rattle.rt_spans.specs.Shown.{value_of};
 ghost use Rattle.rt_tree.specs.Homes.{AreHome, AreUnknown, IsPlaced, IsSpanOf, IsUnknown, KeepsAll};
-ghost use Rattle.rt_tree.specs.Runs.{has};
+ghost use Rattle.rt_tree.specs.Runs.{IsRun, has, run_cells};
 ghost use Rattle.rt_tree.specs.Shape.{IsTree, level_of, tree_runs};
 ghost use Rattle.rt_tree.specs.Sums.{AreFew, counts_of};
 ghost use Rattle.rt_tree.specs.Trees.{final_run};
-ghost use Rattle.rt_tree.specs.Walks.{IsAfter};
+ghost use Rattle.rt_tree.specs.Walks.{IsBehind};
 
-use crate::find::{has, height};
+use crate::find::{cell_in, has, height};
 use crate::looks::Counted;
-use crate::node::{Entry, Mem, Run};
+use crate::node::{Counts, Entry, Mem, Run};
 use crate::settle::level_of;
 use crate::up::ascend;
 use rt_nodes::NodeId;
 use rt_spans::SpanMap;
 use rt_stamps::{FINAL, Fault, Span, Stamp};
+use rt_store::Cell;
+use rt_tags::StateId;
 use std::alloc::Global;
 
 /// Leaves by the stamps of their cells. A leaf is a guess: runs move to other leaves when nodes are cut in two.
@@ -43,28 +45,59 @@ pub(crate) fn spans_for(cells: usize, cuts: usize) -> usize
     cells.saturating_add(parts).saturating_add(24)
 }
 
-// A run, and how many cells the runs before it have.
+// A run, and what the runs before it count.
 #[derive(Clone, Copy)]
 pub(crate) struct Home {
     pub(crate) run: Run,
-    pub(crate) before: u32,
+    pub(crate) before: Counts,
 }
 
 impl Home {
+    // How far into the run the cell of a stamp is that it has.
+    pub(crate) fn offset(self, stamp: Stamp) -> usize
+        requires { has self.run stamp ≡ true }
+        ensures { result ≡ stamp.count - self.run.first }
+    {
+        (stamp.count - self.run.first) as usize
+    }
+
     // The position of the cell of a stamp that the run has.
     pub(crate) fn position(self, stamp: Stamp) -> usize
         requires has { has self.run stamp ≡ true }
-        requires few { self.before + self.run.len < 2 ^ 33 }
-        ensures { result ≡ self.before + (stamp.count - self.run.first) }
+        requires few { self.before.cells + self.run.len < 2 ^ 33 }
+        ensures { result ≡ self.before.cells + (stamp.count - self.run.first) }
     {
-        self.before as usize + (stamp.count - self.run.first) as usize
+        self.before.cells as usize + self.offset(stamp)
     }
 
-    // The same, if the run doesn't begin with it.
+    // How many visible cells stand before it.
+    pub(crate) fn place(self, stamp: Stamp) -> usize
+        requires has { has self.run stamp ≡ true }
+        requires few { self.before.visible + self.run.len < 2 ^ 33 }
+        ensures { result ≡ self.before.visible + (if self.run.gone then 0 else (stamp.count - self.run.first)) }
+    {
+        if self.run.gone {
+            self.before.visible as usize
+        } else {
+            self.before.visible as usize + self.offset(stamp)
+        }
+    }
+
+    // The cell itself.
+    pub(crate) fn cell(self, text: &[char], stamp: Stamp) -> Cell<StateId>
+        requires run { IsRun text.now self.run }
+        requires has { has self.run stamp ≡ true }
+        ensures { slice_get (run_cells text.now self.run) (stamp.count - self.run.first) ≡ Some result }
+    {
+        let offset = self.offset(stamp);
+        cell_in(text, &self.run, offset)
+    }
+
+    // The same position, if the run doesn't begin with it.
     pub(crate) fn inside(self, stamp: Stamp) -> Option<usize>
         requires has { has self.run stamp ≡ true }
-        requires few { self.before + self.run.len < 2 ^ 33 }
-        ensures { result ≡ (if nat_lt self.run.first stamp.count then Some (self.before + (stamp.count - self.run.first)) else None) }
+        requires few { self.before.cells + self.run.len < 2 ^ 33 }
+        ensures { result ≡ (if nat_lt self.run.first stamp.count then Some (self.before.cells + (stamp.count - self.run.first)) else None) }
     {
         if self.run.first < stamp.count {
             Some(self.position(stamp))
@@ -176,7 +209,7 @@ impl Homes {
         requires tree { IsTree mem.now root.index }
         requires few { AreFew (counts_of (tree_runs mem.now root.index)) }
         ensures sure { IfSome result (λ _. self.now.sure ≡ true) }
-        ensures home { IfSome result (λ home. IsAfter (tree_runs mem.now root.index) home.run home.before) }
+        ensures home { IfSome result (λ home. IsBehind (tree_runs mem.now root.index) home.run home.before) }
         ensures has { IfSome result (λ home. has home.run stamp ≡ true) }
     {
         if !self.sure {
@@ -303,7 +336,7 @@ impl Homes {
 fn home_in(mem: &Mem, root: NodeId, leaf: NodeId, stamp: Stamp) -> Option<Home>
     requires tree { IsTree mem.now root.index }
     requires few { AreFew (counts_of (tree_runs mem.now root.index)) }
-    ensures home { IfSome result (λ home. IsAfter (tree_runs mem.now root.index) home.run home.before) }
+    ensures home { IfSome result (λ home. IsBehind (tree_runs mem.now root.index) home.run home.before) }
     ensures has { IfSome result (λ home. has home.run stamp ≡ true) }
 {
     if leaf.index as usize >= mem.nodes() || level_of(mem, leaf) > 0 {
@@ -319,7 +352,7 @@ fn home_at(mem: &Mem, root: NodeId, leaf: NodeId, entry: usize) -> Option<Home>
     requires few { AreFew (counts_of (tree_runs mem.now root.index)) }
     requires leaf { IsNode mem.now leaf.index × (level_of mem.now leaf.index ≡ 0) }
     requires within { entry < length (entries mem.now leaf.index) }
-    ensures home { IfSome result (λ home. IsAfter (tree_runs mem.now root.index) home.run home.before) }
+    ensures home { IfSome result (λ home. IsBehind (tree_runs mem.now root.index) home.run home.before) }
     ensures run { IfSome result (λ home. slice_get (entries mem.now leaf.index) entry ≡ Some (Here home.run)) }
 {
     match *mem.entry(leaf, entry) {
@@ -329,7 +362,7 @@ fn home_at(mem: &Mem, root: NodeId, leaf: NodeId, entry: usize) -> Option<Home>
             let mut looks = 0;
             let looks = &mut looks;
             let mut sight = Counted { mem, looks };
-            let before = ascend(&mut sight, root, leaf, entry).cells;
+            let before = ascend(&mut sight, root, leaf, entry);
             Some(Home { run, before })
         }
     }

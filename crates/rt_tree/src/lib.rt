@@ -27,6 +27,7 @@ mod summaries;
 pub mod summary;
 mod summed;
 mod sums;
+mod tally;
 mod totals;
 pub mod tree;
 pub mod up;

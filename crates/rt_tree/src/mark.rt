@@ -140,7 +140,15 @@ fn mark_at(
         return None;
     }
     let next = count.checked_add(home.run.len as u64)?;
-    mark_run(mem, sums, states, root, home.before as usize, span, mark);
+    mark_run(
+        mem,
+        sums,
+        states,
+        root,
+        home.before.cells as usize,
+        span,
+        mark,
+    );
     Some(next)
 }
 

@@ -12,11 +12,12 @@ mod changing;
 mod tagging;
 
 use crate::copy::copy;
-use crate::find::{cell_in, find, has, height, seek, sum_of};
+use crate::find::{cell_in, find, has, height, seek};
 use crate::homes::Homes;
-use crate::node::{Entry, Head, Measure, Mem, Run};
+use crate::node::{Counts, Entry, Head, Measure, Mem, Run};
 use crate::skip::{is_low, passed};
 use crate::summed::Summaries;
+use crate::sums::counts_of_run;
 use rt_nodes::{NodeId, NodeMem};
 use rt_stamps::{FINAL, Fault, ROOT, Stamp};
 use rt_store::Cell;
@@ -31,6 +32,8 @@ pub struct Tree {
     // The characters of all runs, in the order in which they came.
     text: Vec<char>,
     runs: usize,
+    // How many cells, visible ones and newlines there are.
+    counts: Counts,
     // The greatest count that a cell has, or a greater one.
     newest: u64,
     // Where stamps are.
@@ -52,6 +55,7 @@ impl Drop for Tree {
             root: _,
             text: _,
             runs: _,
+            counts: _,
             newest: _,
             homes: _,
             spare_cells: _,
@@ -68,6 +72,7 @@ impl Model for Tree {
     ghost use Rattle.rt_tree.specs.Runs.{cells_of};
     ghost use Rattle.rt_tree.specs.Shape.{tree_runs};
     ghost use Rattle.rt_tree.specs.Sharing.{AreUpTo};
+    ghost use Rattle.rt_tree.specs.Tallies.{IsCountOf};
     ghost use Rattle.rt_tree.specs.Trees.{HaveSummaries, IsKept, IsRoomy, Shown, shown};
 
     ghost Value = { Shown };
@@ -80,7 +85,7 @@ impl Model for Tree {
         (record { cells = t.spare_cells; cuts = t.spare_cuts; tags = t.spare_tags })
         × (AreUpTo t.newest (cells_of t.text.items (tree_runs t.mem t.root.index))
         × ((t.homes.sure ≡ true → AreHome t.homes.leaves (tree_runs t.mem t.root.index)) × ((t.spare_cells ≤ t.homes.left)
-        × HaveSummaries t.mem t.sums t.spare_tags)))) };
+        × (HaveSummaries t.mem t.sums t.spare_tags × IsCountOf t.counts (cells_of t.text.items (tree_runs t.mem t.root.index))))))) };
 }
 
 // The run of the final newline, as it is at first.
@@ -132,6 +137,7 @@ impl Tree {
             root,
             text,
             runs: 1,
+            counts: counts_of_run(final_run()),
             newest: FINAL.count,
             homes,
             spare_cells: 0,
@@ -161,21 +167,21 @@ impl Tree {
     pub fn cells(&self) -> usize
         ensures { result ≡ length self.now.cells }
     {
-        sum_of(&self.mem, self.root).cells as usize
+        self.counts.cells as usize
     }
 
     /// How many of them are visible.
     pub fn visible(&self) -> usize
         ensures { result ≡ length (visible_of self.now.cells) }
     {
-        sum_of(&self.mem, self.root).visible as usize
+        self.counts.visible as usize
     }
 
     /// How many lines the text has.
     pub fn lines(&self) -> usize
         ensures { result ≡ newlines (text_of self.now.cells) }
     {
-        sum_of(&self.mem, self.root).newlines as usize
+        self.counts.newlines as usize
     }
 
     /// The cell at a position, gone or not.
@@ -255,7 +261,7 @@ impl Tree {
         requires { place ≤ length (visible_of self.now.cells) }
         ensures { result ≡ line_of (text_of self.now.cells) place }
     {
-        let all = sum_of(&self.mem, self.root);
+        let all = self.counts;
         if place == all.visible as usize {
             return all.newlines as usize + 1;
         }
@@ -314,7 +320,14 @@ impl Tree {
     pub fn cell_of(&self, stamp: Stamp) -> Option<Cell<StateId>>
         ensures { result ≡ cell_of self.now.cells stamp }
     {
-        let position = self.position_of(stamp)?;
+        let leaf = self.homes.leaf_of(stamp);
+        if self.homes.is_nowhere(leaf) {
+            return None;
+        }
+        if let Some(home) = self.homes.locate(&self.mem, self.root, leaf, stamp) {
+            return Some(home.cell(&self.text, stamp));
+        }
+        let position = self.seek_stamp(stamp)?;
         Some(self.nth(position))
     }
 
@@ -332,7 +345,14 @@ impl Tree {
     pub fn place_of(&self, stamp: Stamp) -> Option<usize>
         ensures { result ≡ option_map (visible_before self.now.cells) (position_of self.now.cells stamp) }
     {
-        let position = self.position_of(stamp)?;
+        let leaf = self.homes.leaf_of(stamp);
+        if self.homes.is_nowhere(leaf) {
+            return None;
+        }
+        if let Some(home) = self.homes.locate(&self.mem, self.root, leaf, stamp) {
+            return Some(home.place(stamp));
+        }
+        let position = self.seek_stamp(stamp)?;
         Some(self.visible_before(position))
     }
 

@@ -10,9 +10,11 @@ ghost use Rattle.rt_tree.specs.Trees.{Agrees, HasOwn};
 
 use super::Tree;
 use crate::copy::push_characters;
+use crate::find::sum_of;
 use crate::homes::spans_for;
 use crate::mark::{Mark, mark_span};
 use crate::splice::{newest_of, put_cells};
+use crate::tally::counts_with;
 use rt_stamps::limits::MOST_CELLS;
 use rt_stamps::{Fault, Span};
 use rt_store::Cell;
@@ -84,6 +86,7 @@ impl Tree {
             keep,
         );
         self.root = change.root;
+        self.counts = sum_of(&self.mem, self.root);
         self.runs += change.more;
         self.spare_cuts -= 2;
     }
@@ -146,6 +149,7 @@ impl Tree {
             keep,
         );
         self.newest = newest_of(self.newest, cells);
+        self.counts = counts_with(self.counts, cells);
         self.root = change.root;
         self.runs += change.more;
         self.spare_cells -= cells.len();

@@ -19,5 +19,4 @@ pub returns-in-Some : goal.returns-in-Some
 returns-in-Some c =
     let all = tree_runs c.args.mem.now c.args.root.index in let h = c.in-Some.home in let e = c.in-Some.ensures in
     subst (λ (o : Option ℕ). MatchOption o (AllByRecursion (BeginsAt c.args.stamp) all) (λ at. IsInside all c.args.stamp at)) (sym c.inside.ensures)
-    (subst (λ n. MatchOption (if nat_lt h.run.first c.args.stamp.count then Some (n + (c.args.stamp.count - h.run.first)) else None) (AllByRecursion (BeginsAt c.args.stamp) all) (λ at. IsInside all c.args.stamp at)) e.home.same
-    (home_inside all h.run e.home.front c.args.stamp (c.requires.home e.sure).once e.home.behind e.has))
+    (home_inside all h.run h.before c.args.stamp (c.requires.home e.sure).once e.home e.has)

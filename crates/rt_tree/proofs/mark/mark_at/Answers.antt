@@ -28,9 +28,9 @@ locate-requires-clause-few c = few_all (tree_runs c.args.mem.now c.args.root.ind
 pub mark_run-requires-clause-within : goal.mark_run-requires-clause-within
 mark_run-requires-clause-within c =
     let all = tree_runs c.args.mem.now c.args.root.index in let h = c.in_ok-home.home in let e = c.in_ok-home.ensures in
-    let b = behind_few all h.run e.home.front e.home.behind in
+    let b = behind_few all h.run h.before e.home in
     let w = has_within h.run _ e.has in
-    omega (arith, b, w, e.home.same)
+    omega (arith, b, w)
 
 pub returns-clause-some : goal.returns-clause-some
 returns-clause-some c =
@@ -40,7 +40,7 @@ returns-clause-some c =
     let first : h.run.first ≡ c.args.count = c.if-home-count.false in
     let i = in_it c.args.span c.args.count h.run c.requires.within.0 c.requires.within.1 e.has first in
     let w = has_within h.run _ e.has in
-    let on = found_on c.args.span c.args.mark.now c.args.count h.run i.0 first (omega (arith, w)) i.1 old new e.home.front c.mark_run.result home.once (have_cells c.requires.kept.text old c.requires.kept.runs) e.home.behind
-    (subst (λ n. IsChangedAt old new n (run_in c.args.span c.args.mark.now) c.mark_run.result) (sym e.home.same) c.mark_run.ensures.run) in
+    let on = found_on c.args.span c.args.mark.now c.args.count h.run i.0 first (omega (arith, w)) i.1 old new h.before c.mark_run.result home.once (have_cells c.requires.kept.text old c.requires.kept.runs) e.home
+    c.mark_run.ensures.run in
     let next : c.in_ok-next.next ≡ c.args.count + h.run.len = (subst (λ (o : Option ℕ). SomeIff o (c.args.count + h.run.len < 2 ^ 64) (c.args.count + h.run.len)) c.in_ok-next.was c.checked_add-2.ensures).1 in
     subst (λ n. MarksOn c.args.span c.args.mark.now c.args.count n old new) (sym next) on

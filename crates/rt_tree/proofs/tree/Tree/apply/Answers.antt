@@ -1,12 +1,13 @@
-use Rattle.std.proofs.Common.{arith, sym, ap, ◌∙◌, map, subst}
+use Rattle.std.proofs.Common.{◌+◌, arith, sym, ap, ◌∙◌, map, subst}
 use Rattle.rt_tree.specs.Runs.{cells_of}
 use Rattle.rt_tree.specs.Shape.{tree_runs}
 use Rattle.rt_tree.specs.Sharing.{AreUpTo, cell_in}
-use Rattle.rt_tree.specs.Trees.{Shown}
+use Rattle.rt_tree.specs.Trees.{IsKept, Shown}
 use Rattle.rt_tree.proofs.Cutting.{runs_few}
 use Rattle.rt_tree.proofs.Marking.{span_count}
 use Rattle.rt_tree.proofs.Newest.{upto_marked}
 use Rattle.rt_tree.proofs.Showing.{kept_told, own_states, right_from, states_given}
+use Rattle.rt_tree.proofs.Tallying.{counts_are, few_entries}
 use Rattle.rt_tree.proofs.tree.Tree.apply.Goals as goal
 
 pub overflow_add-self : goal.overflow_add-self
@@ -22,16 +23,36 @@ invariant_of-self c =
     let old = tree_runs s.mem s.root.index in let new = tree_runs c.mark_span-change.new.mem c.mark_span-change.result.root.index in
     let is = e.cells s.text.items k.kept in
     let same = span_count old new s.text.items (cell_in c.args.span c.args.mark) k.kept is in
-    let cuts = ap (λ (v : Shown). v.room.cuts) c.self.view_is in (
-      record { tree = e.tree; kept = is.kept; apart = e.apart; counted = omega (arith, k.counted, e.runs); few = omega (arith, same, k.few); all = omega (arith, same, k.all) },
+    let cuts = ap (λ (v : Shown). v.room.cuts) c.self.view_is in
+    let kept : IsKept c.mark_span-change.new.mem c.mark_span-change.result.root.index s.text.items (s.runs + c.mark_span-change.result.more) =
+    record { tree = e.tree; kept = is.kept; apart = e.apart; counted = omega (arith, k.counted, e.runs); few = omega (arith, same, k.few); all = omega (arith, same, k.all) } in (
+      kept,
       (
         record { nodes = omega (arith, r.nodes, e.runs, e.more, e.room, cuts, c.requires.room.1); holds = r.holds; few = r.few },
         (
           subst (AreUpTo s.newest) (sym is.cells) (upto_marked s.newest c.args.span c.args.mark (cells_of s.text.items old) c.self.invariant.1.1.0),
-          (e.home, (e.left c.self.invariant.1.1.1.1.0, record { many = e.told.many; memory = e.told.memory; tags = let h = c.self.invariant.1.1.1.1.1.tags in omega (arith, h, e.tags) })),
+          (
+            e.home,
+            (
+              e.left c.self.invariant.1.1.1.1.0,
+              (
+                record { many = e.told.many; memory = e.told.memory; tags = let h = c.self.invariant.1.1.1.1.1.0.tags in omega (arith, h, e.tags) },
+                counts_are c.mark_span-change.new.mem c.mark_span-change.result.root.index s.text.items (s.runs + c.mark_span-change.result.more) kept c.sum_of-self-inside.result c.sum_of-self-inside.ensures,
+              ),
+            ),
+          ),
         ),
       ),
     )
+
+pub sum_of-self-inside-requires-clause-few : goal.sum_of-self-inside-requires-clause-few
+sum_of-self-inside-requires-clause-few c =
+    let s = c.self.inside in let k = c.self.invariant.0 in
+    let e = c.mark_span-change.ensures in
+    let old = tree_runs s.mem s.root.index in let new = tree_runs c.mark_span-change.new.mem c.mark_span-change.result.root.index in
+    let is = e.cells s.text.items k.kept in
+    let same = span_count old new s.text.items (cell_in c.args.span c.args.mark) k.kept is in
+    few_entries c.mark_span-change.new.mem c.mark_span-change.result.root.index s.text.items e.tree is.kept (omega (arith, same, k.few))
 
 pub returns-clause-cells : goal.returns-clause-cells
 returns-clause-cells c =
@@ -43,7 +64,7 @@ pub mark_span-change-requires-clause-told : goal.mark_span-change-requires-claus
 mark_span-change-requires-clause-told c =
     let s = c.self.inside in
     let tags = ap (λ (v : Shown). v.room.tags) c.self.view_is in
-    kept_told s.mem s.root.index s.text.items s.runs c.self.invariant.0 s.sums s.spare_tags c.self.invariant.1.1.1.1.1 c.args.states.now (omega (arith, tags, c.requires.room.2)) _ c.args.self.now c.self.view_is c.requires.agrees
+    kept_told s.mem s.root.index s.text.items s.runs c.self.invariant.0 s.sums s.spare_tags c.self.invariant.1.1.1.1.1.0 c.args.states.now (omega (arith, tags, c.requires.room.2)) _ c.args.self.now c.self.view_is c.requires.agrees
 
 pub returns-clause-agrees : goal.returns-clause-agrees
 returns-clause-agrees c =

@@ -1,17 +1,14 @@
-use Rattle.std.proofs.Common.{◌+◌, ℕ, take, arith, sym, ap, ◌∙◌}
+use Rattle.std.proofs.Common.{◌+◌, ℕ, take, arith, sym, ap, ◌∙◌, subst}
 use Rattle.rt_stamps.specs.Places.{newlines}
 use Rattle.std.proofs.lemmas.List.{length-map, take_all}
 use Rattle.rt_store.specs.Cells.{text_of, visible_of}
 use Rattle.rt_store.specs.declared.cell.Cell.{Cell}
-use Rattle.rt_tree.specs.declared.node.Counts.{Counts}
 use Rattle.rt_tree.specs.Shape.{tree_runs}
+use Rattle.rt_tree.specs.Tallies.{IsCountOf}
 use Rattle.rt_tree.specs.Trees.{Shown}
-use Rattle.rt_tree.proofs.Kept.{few_root, few_runs, shows, sum_root}
+use Rattle.rt_tree.proofs.Kept.{few_runs, shows}
 use Rattle.rt_tree.proofs.Lines.{newlines_found}
 use Rattle.rt_tree.proofs.tree.Tree.line_of.Goals as goal
-
-pub sum_of-all-requires-clause-few : goal.sum_of-all-requires-clause-few
-sum_of-all-requires-clause-few c = let s = c.self.inside in few_root s.mem s.root.index s.text.items s.runs c.self.invariant.0
 
 pub seek-found-requires-clause-few : goal.seek-found-requires-clause-few
 seek-found-requires-clause-few c = let s = c.self.inside in few_runs s.mem s.root.index s.text.items s.runs c.self.invariant.0
@@ -20,8 +17,8 @@ pub seek-found-requires-clause-within : goal.seek-found-requires-clause-within
 seek-found-requires-clause-within c =
     let s = c.self.inside in
     let h = shows s.mem s.root.index s.text.items s.runs c.self.invariant.0 s.sums.each.items c.args.self.now c.self.view_is in
-    let v = ap (λ (x : Counts). x.visible) (c.sum_of-all.ensures ∙ sum_root s.mem s.root.index s.text.items s.runs c.self.invariant.0) in
-    omega (arith, h.visible, c.requires, v, c.if-place-all.false)
+    let k = subst (λ (x : Shown). IsCountOf s.counts x.cells) c.self.view_is c.self.invariant.1.1.1.1.1.1 in
+    omega (arith, h.visible, c.requires, k.visible, c.if-place-all.false)
 
 pub returns : goal.returns
 returns c =
@@ -33,11 +30,8 @@ returns c =
 pub returns-then-place-all : goal.returns-then-place-all
 returns-then-place-all c =
     let s = c.self.inside in
-    let h = shows s.mem s.root.index s.text.items s.runs c.self.invariant.0 s.sums.each.items c.args.self.now c.self.view_is in
-    let all = c.sum_of-all.ensures ∙ sum_root s.mem s.root.index s.text.items s.runs c.self.invariant.0 in
-    let v = ap (λ (x : Counts). x.visible) all in
-    let n = ap (λ (x : Counts). x.newlines) all in
+    let k = subst (λ (x : Shown). IsCountOf s.counts x.cells) c.self.view_is c.self.invariant.1.1.1.1.1.1 in
     let text = text_of c.args.self.now.cells in
     let long = length-map (visible_of c.args.self.now.cells) (λ (x : Cell ℕ). x.ch) in
-    let whole = ap newlines (take_all c.args.place text (omega (arith, long, h.visible, v, c.if-place-all.true))) in
-    omega (arith, whole, n, h.newlines)
+    let whole = ap newlines (take_all c.args.place text (omega (arith, long, k.visible, c.if-place-all.true))) in
+    omega (arith, whole, k.newlines)

@@ -19,7 +19,7 @@ next_place-requires-clause-sums c =
     (kept_summed s.mem s.root.index s.text.items s.sums.each.items c.args.states.now _ c.args.self.now c.self.view_is c.requires.agrees)
 
 pub next_place-requires-clause-many : goal.next_place-requires-clause-many
-next_place-requires-clause-many c = let h = c.self.invariant.1.1.1.1.1.many in let same = ap length c.deref.ensures.value in omega (arith, h, same)
+next_place-requires-clause-many c = let h = c.self.invariant.1.1.1.1.1.0.many in let same = ap length c.deref.ensures.value in omega (arith, h, same)
 
 pub next_place-requires-clause-given : goal.next_place-requires-clause-given
 next_place-requires-clause-given c =

@@ -20,6 +20,5 @@ pub returns-in-Some : goal.returns-in-Some
 returns-in-Some c =
     let s = c.self.inside in let h = c.in-Some.home in let e = c.in-Some.ensures in
     ap Some c.position.ensures
-    ∙ ap (λ n. Some (n + (c.args.stamp.count - h.run.first))) (sym e.home.same)
-    ∙ is_here s.text.items (tree_runs s.mem s.root.index) s.homes.leaves c.args.stamp c.self.invariant.0.kept (c.self.invariant.1.1.1.0 e.sure) h.run e.home.front e.home.behind e.has
+    ∙ is_here s.text.items (tree_runs s.mem s.root.index) s.homes.leaves c.args.stamp c.self.invariant.0.kept (c.self.invariant.1.1.1.0 e.sure) h.run h.before e.home e.has
     ∙ ap (λ (x : Shown). position_of x.cells c.args.stamp) c.self.view_is

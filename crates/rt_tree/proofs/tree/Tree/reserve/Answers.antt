@@ -7,6 +7,7 @@ use Rattle.rt_tree.specs.declared.summary.Summary.{Summary}
 use Rattle.rt_tree.specs.Shape.{Memory, tree_runs}
 use Rattle.rt_tree.specs.Summaries.{TellsAs, summary_of}
 use Rattle.rt_tree.specs.Sharing.{AreUpTo}
+use Rattle.rt_tree.specs.Tallies.{IsCountOf}
 use Rattle.rt_tree.specs.Trees.{IsKept, Shown, shown}
 use Rattle.rt_tree.proofs.Cutting.{runs_few}
 use Rattle.rt_tree.proofs.Housing.{home_keeps}
@@ -49,17 +50,20 @@ invariant_of-self-2 c =
                 (home_keeps s.homes.leaves leaves (tree_runs m root) (λ stamp none. sym (c.in_ok-reserve.ensures.leaves stamp) ∙ none) (c.self.invariant.1.1.1.0 (sym c.in_ok-reserve.ensures.sure ∙ sure)))),
             (
               omega (arith, spans, all),
-              record {
-                many = (
-                    let h = c.self.invariant.1.1.1.1.1.many in
-                    let asked : c.saturating_sub.result ≡ c.in_ok-runs.runs / 7 + 1 - length m.heads = omega (arith, c.saturating_sub.ensures, c.nodes.ensures) in
-                    let heads = ap (λ (x : Memory). length x.heads) e in
-                    let wide = ap (λ (x : Memory). x.room) e ∙ ap (max m.room) asked in
-                    let low = room_sums (length m.heads) m.room (c.in_ok-runs.runs / 7 + 1) (length sums.each.items) (omega (arith, h, got.kept_nodes)) got.nodes in
-                    omega (arith, heads, wide, low));
-                memory = got.memory;
-                tags = got.tags;
-              },
+              (
+                record {
+                  many = (
+                      let h = c.self.invariant.1.1.1.1.1.0.many in
+                      let asked : c.saturating_sub.result ≡ c.in_ok-runs.runs / 7 + 1 - length m.heads = omega (arith, c.saturating_sub.ensures, c.nodes.ensures) in
+                      let heads = ap (λ (x : Memory). length x.heads) e in
+                      let wide = ap (λ (x : Memory). x.room) e ∙ ap (max m.room) asked in
+                      let low = room_sums (length m.heads) m.room (c.in_ok-runs.runs / 7 + 1) (length sums.each.items) (omega (arith, h, got.kept_nodes)) got.nodes in
+                      omega (arith, heads, wide, low));
+                  memory = got.memory;
+                  tags = got.tags;
+                },
+                subst (IsCountOf s.counts) (sym (ap (λ (v : Shown). v.cells) same)) c.self.invariant.1.1.1.1.1.1,
+              ),
             ),
           ),
         ),
@@ -75,7 +79,7 @@ pub returns-clause-same : goal.returns-clause-same
 returns-clause-same c =
     let s = c.self.inside in
     let room : Room = record { cells = c.ahead-cells.result; cuts = c.ahead-cuts.result; tags = c.max-tags.result } in
-    let h = c.self.invariant.1.1.1.1.1.many in
+    let h = c.self.invariant.1.1.1.1.1.0.many in
     now_shown s.mem _ s.root.index s.text.items _ s.sums.each.items c.reserve-3.new.self.each.items room c.reserve-4.new.self c.in_ok-reserve-2.ensures.items c.in_ok-reserve-4.ensures.room (omega (arith, h)) c.in_ok-reserve-3.ensures.same
     ∙ ap (λ (v : Shown). record v { room = room }) c.self.view_is
 
@@ -87,7 +91,7 @@ pub returns-in_err-reserve-3-clause-unchanged : goal.returns-in_err-reserve-3-cl
 returns-in_err-reserve-3-clause-unchanged c =
     let s = c.self.inside in
     let room : Room = record { cells = s.spare_cells; cuts = s.spare_cuts; tags = s.spare_tags } in
-    let h = c.self.invariant.1.1.1.1.1.many in
+    let h = c.self.invariant.1.1.1.1.1.0.many in
     always c.from_residual-in_err-reserve-3.result _
     (ap (λ (t : List ℕ). shown s.mem s.root.index t c.reserve-3.new.self.each.items room) c.in_ok-reserve-2.ensures.items
     ∙ sums_shown s.mem s.root.index s.text.items s.sums.each.items c.reserve-3.new.self.each.items room (omega (arith, h)) c.in_err-reserve-3.ensures.same
@@ -97,7 +101,7 @@ pub returns-in_err-reserve-4-clause-unchanged : goal.returns-in_err-reserve-4-cl
 returns-in_err-reserve-4-clause-unchanged c =
     let s = c.self.inside in
     let room : Room = record { cells = s.spare_cells; cuts = s.spare_cuts; tags = s.spare_tags } in
-    let h = c.self.invariant.1.1.1.1.1.many in
+    let h = c.self.invariant.1.1.1.1.1.0.many in
     always c.from_residual-in_err-reserve-4.result _
     (ap (λ (m : Memory). shown m s.root.index c.reserve-2.new.self.items c.reserve-3.new.self.each.items room) c.in_err-reserve-4.ensures.refused
     ∙ ap (λ (t : List ℕ). shown s.mem s.root.index t c.reserve-3.new.self.each.items room) c.in_ok-reserve-2.ensures.items

@@ -5,14 +5,34 @@ use Rattle.rt_tree.specs.Runs.{cells_of}
 use Rattle.rt_tree.specs.Shape.{tree_runs}
 use Rattle.rt_tree.specs.Sharing.{AreOnce, AreUpTo}
 use Rattle.rt_tree.specs.Stretches.{AreChanged}
+use Rattle.rt_tree.specs.Tallies.{IsCountOf}
 use Rattle.rt_tree.specs.Trees.{Shown}
+use Rattle.rt_tree.proofs.CellLaws.{counted}
 use Rattle.rt_tree.proofs.Cutting.{runs_few}
 use Rattle.rt_tree.proofs.Kept.{shows}
 use Rattle.rt_tree.proofs.Newest.{upto_more, upto_put}
 use Rattle.rt_tree.proofs.Shared.{distinct_once}
 use Rattle.rt_tree.proofs.Splicing.{longer_cells, longer_count, longer_ends, longer_kept, longer_shown, longer_text}
 use Rattle.rt_tree.proofs.Showing.{kept_told, own_states, right_from, states_given}
+use Rattle.rt_tree.proofs.Tallying.{newlines_few, visible_few}
 use Rattle.rt_tree.proofs.tree.Tree.splice.Goals as goal
+
+pub counts_with-self-inside-requires-clause-few : goal.counts_with-self-inside-requires-clause-few
+counts_with-self-inside-requires-clause-few c =
+    let s = c.self.inside in let k = c.self.invariant.0 in let r = c.self.invariant.1.0 in
+    let n = counted s.text.items (tree_runs s.mem s.root.index) k.kept in
+    let i = c.self.invariant.1.1.1.1.1.1 in
+    let cells = ap (λ (v : Shown). v.room.cells) c.self.view_is in
+    let ka = k.all in let rf = r.few in let ra = c.requires.room.0 in
+    omega (arith, n.cells, i.cells, ka, rf, cells, ra)
+
+pub counts_with-self-inside-requires-clause-below : goal.counts_with-self-inside-requires-clause-below
+counts_with-self-inside-requires-clause-below c =
+    let s = c.self.inside in
+    let all = cells_of s.text.items (tree_runs s.mem s.root.index) in
+    let i = c.self.invariant.1.1.1.1.1.1 in
+    let v = visible_few all in let n = newlines_few all in
+    (omega (arith, i.cells, i.visible, v), omega (arith, i.cells, i.newlines, n))
 
 pub put_cells-change-requires-clause-kept : goal.put_cells-change-requires-clause-kept
 put_cells-change-requires-clause-kept c =
@@ -69,7 +89,16 @@ invariant_of-self c =
         record { nodes = omega (arith, rn, er, em, eo, cells, cuts, ra, rb); holds = omega (arith, rh, l, cap, cells, ra); few = omega (arith, rf, l, cells, ra) },
         (
           subst (AreUpTo c.newest_of-self-inside.result) (sym shown_cells) (upto_put c.newest_of-self-inside.result c.args.at added (cells_of s.text.items old) (upto_more s.newest c.newest_of-self-inside.result (cells_of s.text.items old) c.newest_of-self-inside.ensures.least c.self.invariant.1.1.0) c.newest_of-self-inside.ensures.cells),
-          (e.home, (e.left, record { many = e.told.many; memory = e.told.memory; tags = let h = c.self.invariant.1.1.1.1.1.tags in omega (arith, h, e.tags) })),
+          (
+            e.home,
+            (
+              e.left,
+              (
+                record { many = e.told.many; memory = e.told.memory; tags = let h = c.self.invariant.1.1.1.1.1.0.tags in omega (arith, h, e.tags) },
+                subst (IsCountOf c.counts_with-self-inside.result) (sym shown_cells) (c.counts_with-self-inside.ensures c.args.at (cells_of s.text.items old) c.self.invariant.1.1.1.1.1.1),
+              ),
+            ),
+          ),
         ),
       ),
     )
@@ -102,7 +131,7 @@ pub put_cells-change-requires-clause-told : goal.put_cells-change-requires-claus
 put_cells-change-requires-clause-told c =
     let s = c.self.inside in
     let tags = ap (λ (v : Shown). v.room.tags) c.self.view_is in
-    kept_told s.mem s.root.index s.text.items s.runs c.self.invariant.0 s.sums s.spare_tags c.self.invariant.1.1.1.1.1 c.args.states.now (omega (arith, tags, c.requires.room.2)) _ c.args.self.now c.self.view_is c.requires.agrees
+    kept_told s.mem s.root.index s.text.items s.runs c.self.invariant.0 s.sums s.spare_tags c.self.invariant.1.1.1.1.1.0 c.args.states.now (omega (arith, tags, c.requires.room.2)) _ c.args.self.now c.self.view_is c.requires.agrees
 
 pub returns-clause-agrees : goal.returns-clause-agrees
 returns-clause-agrees c =
