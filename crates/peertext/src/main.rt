@@ -9,11 +9,11 @@ ghost use Rattle.rt_stamps.specs.declared.limits.TheConstants.{MOST_BYTES};
 ghost use Rattle.rt_script.specs.Site.{AreWithin};
 
 use rt_args::{Line, LineFault, line};
-use rt_disk::{LazyFile, join_readers, read_bytes, show_lines, write_whole};
-use rt_endings::ending::{
+use rt_program::ending::{
     Failure, file_failure, first_failure, join_failure, log_failure, run_failure, show_failure,
     status, write_failure,
 };
+use rt_program::{LazyFile, join_readers, read_bytes, show_lines, write_whole};
 use rt_script::{JoinFault, Outcome, SiteState, begun, run_site};
 use rt_stamps::std_ends::{Count, Reader, Writer};
 use rt_stamps::{Fault, Site};

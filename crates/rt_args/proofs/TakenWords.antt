@@ -23,7 +23,7 @@ use Rattle.clap.specs.declared.builder.ValueParser.TheVariants.{Unsigned}
 use Rattle.clap.proofs.ValueTestLemmas.{accepts-Accepts}
 use Rattle.rt_args.specs.declared.command_line.LineFault.{LineFault}
 use Rattle.rt_args.specs.declared.command_line.LineFault.TheVariants.{NoMemory, Usage}
-use Rattle.rt_args.specs.CommandLine.{HasFile, HasSite, IsWhole, Refuses, fault_from, file_word, files_word, is_out_of_memory, path_option, peertext, run_command, site_option}
+use Rattle.rt_args.specs.CommandLine.{HasFile, HasSite, IsWhole, RefusesLine, fault_from, file_word, files_word, is_out_of_memory, path_option, peertext, run_command, site_option}
 use Rattle.rt_args.proofs.Walks.{Keeps, found_all, is_full, level_sound, no_kinds, some_kind}
 
 -- ---- the subcommands, as clap builds them
@@ -286,10 +286,10 @@ number_read G text None reads parses is_in =
 
 -- ---- refusals
 
-refuses_from : (words : List Text) (error : Error) → HasKind (fault_of peertext words) error → Refuses words (fault_from error)
+refuses_from : (words : List Text) (error : Error) → HasKind (fault_of peertext words) error → RefusesLine words (fault_from error)
 refuses_from words error has = go (is_out_of_memory (kind_of error)) refl
   where
-    go : (b : Bool) → is_out_of_memory (kind_of error) ≡ b → Refuses words (cond b NoMemory (Usage error))
+    go : (b : Bool) → is_out_of_memory (kind_of error) ≡ b → RefusesLine words (cond b NoMemory (Usage error))
     go true is = tt
     go false is = elim has [
       | inl memory ↦ absurd (true≢false (sym (ap is_out_of_memory memory) ∙ is))
@@ -298,6 +298,6 @@ refuses_from words error has = go (is_out_of_memory (kind_of error)) refl
 
 -- clap's error as a fault of the line
 pub refused_by : {T : Type 0} (words : List Text) (r : Result T LineFault) (error : Error) → IsErrAnd r (λ fault. fault ≡ fault_from error)
-    → HasKind (fault_of peertext words) error → IfErr r (Refuses words)
+    → HasKind (fault_of peertext words) error → IfErr r (RefusesLine words)
 refused_by words (Ok x) error is has = tt
-refused_by words (Err fault) error is has = subst (Refuses words) (sym is) (refuses_from words error has)
+refused_by words (Err fault) error is has = subst (RefusesLine words) (sym is) (refuses_from words error has)

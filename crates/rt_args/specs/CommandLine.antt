@@ -144,10 +144,10 @@ Takes words = fault_of peertext words ≡ []
 
 -- Clap's error is of a kind with which its reading of the words fails. Memory may be wanting whatever the words are. Words
 -- that were read are text.
-abbrev pub Refuses : List Text → LineFault → Type 0
-Refuses words (Usage error) = IsAmong (kind_of error) (fault_of peertext words)
-Refuses words NoText = ⊥
-Refuses words NoMemory = ⊤
+abbrev pub RefusesLine : List Text → LineFault → Type 0
+RefusesLine words (Usage error) = IsAmong (kind_of error) (fault_of peertext words)
+RefusesLine words NoText = ⊥
+RefusesLine words NoMemory = ⊤
 
 -- an argument has this rule, and is not global
 abbrev pub IsOption : Rule → Arg → Type 0

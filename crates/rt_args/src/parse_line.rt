@@ -2,7 +2,7 @@
 ghost use Rattle.std.specs.Prelude.{◌≡◌, ◌<◌, IfErr, IfOk, Some, codes, false, map, option_map, string_bytes};
 ghost use Rattle.clap.specs.Words.{app_of, found_of, new_app, rows_of, rule_of, subcommand_rows_of, with_rule, with_subcommand};
 ghost use Rattle.clap.specs.declared.builder.Command.TheViews.{out-Command as fields_of};
-ghost use Rattle.rt_args.specs.CommandLine.{HasFile, HasSite, HasValues, IsCommand, IsOption, IsWhole, LineIn, LineOf, Refuses, Takes, file_given, file_word, files_given, files_word, join_command, path_option, peertext, program, run_command, run_options, show_command, site_given, site_option, subcommand_name};
+ghost use Rattle.rt_args.specs.CommandLine.{HasFile, HasSite, HasValues, IsCommand, IsOption, IsWhole, LineIn, LineOf, RefusesLine, Takes, file_given, file_word, files_given, files_word, join_command, path_option, peertext, program, run_command, run_options, show_command, site_given, site_option, subcommand_name};
 ghost use Rattle.rt_args.specs.declared.command_line.LineFault.TheVariants.{NoMemory};
 
 use crate::{Line, LineFault};
@@ -249,7 +249,7 @@ fn line_in(alloc: Global, matches: &ArgMatches<'_>) -> Result<Line, LineFault>
 pub fn line(alloc: Global, words: &[&str]) -> Result<Line, LineFault>
     ensures line { IfOk result (LineOf (map (λ w. w.now) words.now)) }
     ensures takes { IfOk result (λ _. Takes (map (λ w. w.now) words.now)) }
-    ensures refuses { IfErr result (Refuses (map (λ w. w.now) words.now)) }
+    ensures refuses { IfErr result (RefusesLine (map (λ w. w.now) words.now)) }
 {
     let matches = command(alloc)?.try_get_matches_from(words)?;
     line_in(alloc, &matches)

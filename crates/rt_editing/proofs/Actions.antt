@@ -8,7 +8,7 @@ use Rattle.rt_stamps.specs.declared.stamp.Stamp.{Stamp}
 use Rattle.rt_stamps.specs.declared.stamp.TheConstants.{FINAL}
 use Rattle.rt_stamps.specs.Stamps.{is_same}
 use Rattle.rt_stamps.specs.Words.{Word}
-use Rattle.rt_oplog.specs.Operations.{stamps_from, stamps_of_span}
+use Rattle.rt_ops.specs.Operations.{stamps_from, stamps_of_span}
 use Rattle.rt_store.specs.Cells.{text_of}
 use Rattle.rt_store.specs.Shown.{TaggedCell}
 use Rattle.rt_store.specs.Spans.{is_among}
@@ -27,8 +27,8 @@ use Rattle.rt_edits.proofs.RemovalDraftLaws.{last_spared}
 use Rattle.rt_edits.proofs.TagNames.{cells_have_names}
 use Rattle.rt_revert.specs.Reverting.{as_removed}
 use Rattle.rt_revert.specs.ReversionLaws.{IsSound, MayReturn}
-use Rattle.rt_recorder.specs.Recordings.{HasStayed, made}
-use Rattle.rt_recorder.specs.Settled.{is_gone as has_gone}
+use Rattle.rt_editing.specs.Recordings.{HasStayed, made}
+use Rattle.rt_editing.specs.Settled.{is_gone as has_gone}
 use Rattle.rt_text.specs.Commands.{lost_in}
 use Rattle.rt_text.specs.Widgets.{Viewed, begin_of, text_shown}
 use Rattle.rt_text.proofs.LimitedDeletions.{spared}

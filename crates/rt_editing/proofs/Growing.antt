@@ -6,7 +6,7 @@ use Rattle.rt_stamps.specs.declared.stamp.Stamp.{Stamp}
 use Rattle.rt_stamps.specs.Stamps.{is_same}
 use Rattle.rt_stamps.proofs.Order.{same_from_true}
 use Rattle.rt_oplog.specs.Logs.{with_operation}
-use Rattle.rt_oplog.specs.Operations.{Body, Operation}
+use Rattle.rt_ops.specs.Operations.{Body, Operation}
 use Rattle.rt_store.specs.Cells.{stamps_of}
 use Rattle.rt_store.specs.Shown.{TaggedCell}
 use Rattle.rt_store.specs.Spans.{is_among}
@@ -17,7 +17,7 @@ use Rattle.rt_rga.specs.Reading.{Character, reading}
 use Rattle.rt_rga.proofs.Corollaries.{cells_have}
 use Rattle.rt_rga.proofs.Skipping.{split}
 use Rattle.rt_rga.proofs.Writes.{gone_with, not_gone}
-use Rattle.rt_recorder.specs.Settled.{is_gone as has_gone}
+use Rattle.rt_editing.specs.Settled.{is_gone as has_gone}
 
 -- LOGS
 

@@ -1,4 +1,13 @@
 pub mod Actions
+pub mod Counted
+pub mod Gone
 pub mod Growing
+pub mod Named
 pub mod Noted
 pub mod Outcomes
+pub mod Receptions
+pub mod Removals
+pub mod Renamed
+pub mod Settling
+pub mod Stayed
+pub mod Told

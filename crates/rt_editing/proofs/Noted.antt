@@ -10,8 +10,8 @@ use Rattle.rt_store.specs.Cells.{text_of}
 use Rattle.rt_store.specs.Shown.{TaggedCell}
 use Rattle.rt_revert.specs.Reverting.{as_removed}
 use Rattle.rt_revert.specs.ReversionLaws.{AreSound, IsSound}
-use Rattle.rt_recorder.specs.Recordings.{HasStayed, Recording, came_back, made}
-use Rattle.rt_recorder.specs.Settled.{IsSettled, is_gone}
+use Rattle.rt_editing.specs.Recordings.{HasStayed, Recording, came_back, made}
+use Rattle.rt_editing.specs.Settled.{IsSettled, is_gone}
 use Rattle.rt_edits.specs.declared.range.Range.{Range}
 use Rattle.rt_edits.specs.Deletions.{loss_in}
 use Rattle.rt_text.specs.Commands.{lost_in}

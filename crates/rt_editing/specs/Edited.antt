@@ -1,7 +1,7 @@
 -- A text and what its site recorded of its edits.
 use Rattle.std.specs.Prelude.{Bool, List}
 use Rattle.rt_stamps.specs.Words.{Word}
-use Rattle.rt_recorder.specs.Recordings.{Recording}
+use Rattle.rt_editing.specs.Recordings.{Recording}
 use Rattle.rt_text.specs.Widgets.{Viewed}
 use Rattle.rt_undo.specs.Undo.{History}
 

@@ -3,7 +3,7 @@ use Rattle.std.specs.Prelude.{ℕ, ◌+◌, ◌||◌, nat_lt, Bool, List, [], �
 use Rattle.rt_stamps.specs.declared.fault.Fault.{Fault}
 use Rattle.rt_stamps.specs.declared.stamp.Span.{Span}
 use Rattle.rt_stamps.specs.Words.{Word}
-use Rattle.rt_oplog.specs.Operations.{Operation}
+use Rattle.rt_ops.specs.Operations.{Operation}
 use Rattle.rt_store.specs.Cells.{text_of}
 use Rattle.rt_store.specs.Shown.{TaggedCell}
 use Rattle.rt_rga.specs.Answers.{Answer}
@@ -15,7 +15,7 @@ use Rattle.rt_undo.specs.declared.action.Kind.TheVariants.{Insert, Delete, Repla
 use Rattle.rt_undo.specs.Actions.{Action}
 use Rattle.rt_undo.specs.Undo.{History, added, forced_on}
 use Rattle.rt_revert.specs.Reverting.{as_removed}
-use Rattle.rt_recorder.specs.Recordings.{made}
+use Rattle.rt_editing.specs.Recordings.{made}
 use Rattle.rt_text.specs.Accepted.{view_after}
 use Rattle.rt_text.specs.Commands.{deleted, inserted, lost_in, replaced}
 use Rattle.rt_text.specs.Index.{place_at_index}

@@ -4,7 +4,7 @@ use Rattle.rt_stamps.specs.declared.stamp.Stamp.{Stamp}
 use Rattle.rt_rga.specs.Cells.{cells_of}
 use Rattle.rt_rga.specs.Histories.{IsHistory, greatest_last_count}
 use Rattle.rt_edits.specs.Flat.{Flat}
-use Rattle.rt_recorder.specs.Recordings.{Recording, came_back}
+use Rattle.rt_editing.specs.Recordings.{Recording, came_back}
 
 -- what is recorded stays while an action is prepared
 pub record Keeps (old new : Recording) : Type 0 where

@@ -2,7 +2,7 @@
 use Rattle.std.specs.Prelude.{List, Result, Ok, Err, if◌then◌else◌}
 use Rattle.rt_stamps.specs.declared.fault.Fault.{Fault}
 use Rattle.rt_stamps.specs.Words.{Word}
-use Rattle.rt_recorder.specs.Reversals.{redone, undone}
+use Rattle.rt_editing.specs.Reversals.{redone, undone}
 use Rattle.rt_text.specs.Widgets.{Viewed}
 use Rattle.rt_undo.specs.Undo.{History}
 use Rattle.rt_editing.specs.Edited.{Edited}

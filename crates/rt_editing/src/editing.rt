@@ -3,16 +3,16 @@ ghost use Rattle.std.specs.Prelude.{◌≡◌, ◌⊎◌, Ok, IfErr, IfOk, OnErr
 ghost use Rattle.rt_stamps.specs.Outcomes.{Refuses};
 ghost use Rattle.rt_rga.specs.Answers.{Refused};
 ghost use Rattle.rt_rga.specs.Taken.{told};
-ghost use Rattle.rt_recorder.specs.Settled.{IsSettled};
+ghost use Rattle.rt_editing.specs.Settled.{IsSettled};
 ghost use Rattle.rt_text.specs.Accepted.{answer_of};
 ghost use Rattle.rt_editing.specs.Edited.{edited};
 ghost use Rattle.rt_editing.specs.Edits.{text_after, text_deleted, text_inserted, text_replaced};
 
+use crate::Recorder;
 use crate::before::Before;
 use crate::noting::{note, prepare_deletion, prepare_insertion, prepare_replacement};
 use rt_edits::Piece;
 use rt_oplog::Op;
-use rt_recorder::Recorder;
 use rt_rga::Taken;
 use rt_stamps::Fault;
 use rt_store::TextStore;

@@ -5,16 +5,16 @@ ghost use Rattle.rt_stamps.specs.Outcomes.{Refuses};
 ghost use Rattle.rt_stamps.specs.Words.{Word};
 ghost use Rattle.rt_undo.specs.Actions.{Removed};
 ghost use Rattle.rt_revert.specs.Reverting.{as_removed};
-ghost use Rattle.rt_recorder.specs.Recordings.{HasStayed, came_back, made};
+ghost use Rattle.rt_editing.specs.Recordings.{HasStayed, came_back, made};
 ghost use Rattle.rt_text.specs.Commands.{deleted, lost_in};
 ghost use Rattle.rt_text.specs.Index.{index_check, place_at_index};
 ghost use Rattle.rt_text.specs.Widgets.{widget_of};
 ghost use Rattle.rt_editing.specs.Edits.{counts_between, has_changed, lost_between, lost_from, noted_by};
 ghost use Rattle.rt_editing.specs.Noting.{IsOfLog, Keeps};
 
+use crate::Recorder;
 use crate::before::Before;
 use rt_edits::Range;
-use rt_recorder::Recorder;
 use rt_stamps::Fault;
 use rt_store::TextStore;
 use rt_text::View;

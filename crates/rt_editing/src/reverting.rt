@@ -2,11 +2,11 @@
 ghost use Rattle.std.specs.Prelude.{◌≡◌, ◌∷◌, [], Ok, IfErr, OnErr, OnOk};
 ghost use Rattle.rt_stamps.specs.Outcomes.{Refuses};
 ghost use Rattle.rt_store.specs.Cells.{final_cell};
-ghost use Rattle.rt_recorder.specs.Settled.{IsSettled};
+ghost use Rattle.rt_editing.specs.Settled.{IsSettled};
 ghost use Rattle.rt_editing.specs.Edited.{edited};
 ghost use Rattle.rt_editing.specs.Reverts.{text_redone, text_undone};
 
-use rt_recorder::Recorder;
+use crate::Recorder;
 use rt_stamps::Fault;
 use rt_store::TextStore;
 use rt_text::View;

@@ -4,9 +4,9 @@ use Rattle.std.proofs.Math.Seq.{take-append_seam, drop-append_seam}
 use Rattle.std.proofs.lemmas.List.{length-take, nil_from_length}
 use Rattle.rt_stamps.specs.declared.limits.TheConstants.{MOST_SPANS}
 use Rattle.rt_stamps.specs.declared.stamp.Span.{Span}
-use Rattle.rt_oplog.specs.declared.op.Edit.{Edit}
-use Rattle.rt_oplog.specs.Edits.{body_of}
-use Rattle.rt_oplog.specs.Operations.{Body}
+use Rattle.rt_ops.specs.declared.op.Edit.{Edit}
+use Rattle.rt_ops.specs.Edits.{body_of}
+use Rattle.rt_ops.specs.Operations.{Body}
 use Rattle.rt_store.proofs.Shown.{map_append}
 use Rattle.rt_edits.specs.NamedSpans.{first_parts, parts_for, parts_of}
 

@@ -5,8 +5,8 @@ use Rattle.std.specs.Str.{bytes_eq}
 use Rattle.rt_stamps.specs.declared.limits.TheConstants.{GREATEST_COUNT, MOST_SPANS}
 use Rattle.rt_stamps.specs.Stamps.{is_same}
 use Rattle.rt_stamps.specs.Words.{Word}
-use Rattle.rt_oplog.specs.Operations.{Operation}
-use Rattle.rt_oplog.specs.Rules.{is_name}
+use Rattle.rt_ops.specs.Operations.{Operation}
+use Rattle.rt_ops.specs.Rules.{is_name}
 use Rattle.rt_tags.specs.States.{Write, is_on, says_on, write_of}
 use Rattle.rt_tags.specs.Tags.{sel, without}
 use Rattle.rt_tags.proofs.Places.{same_name}

@@ -9,7 +9,7 @@ use Rattle.rt_stamps.specs.declared.stamp.Stamp.{Stamp}
 use Rattle.rt_stamps.specs.Words.{Word}
 use Rattle.rt_store.specs.Cells.{stamps_of, visible_of}
 use Rattle.rt_store.specs.Shown.{TaggedCell}
-use Rattle.rt_oplog.specs.Operations.{Body}
+use Rattle.rt_ops.specs.Operations.{Body}
 use Rattle.rt_tags.specs.States.{Write, is_on, says_on, write_of}
 use Rattle.rt_tags.specs.Tags.{is_listed, sel, with_name, without}
 use Rattle.rt_tags.proofs.Places.{name_itself, same_name, split}

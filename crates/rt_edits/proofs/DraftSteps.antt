@@ -4,7 +4,7 @@ use Rattle.rt_stamps.specs.declared.stamp.Stamp.{Stamp}
 use Rattle.rt_stamps.specs.declared.stamp.TheConstants.{FINAL}
 use Rattle.rt_stamps.specs.Stamps.{is_same}
 use Rattle.rt_stamps.proofs.Order.{same_from_true, same_sym}
-use Rattle.rt_oplog.specs.Operations.{Operation, Body}
+use Rattle.rt_ops.specs.Operations.{Operation, Body}
 use Rattle.rt_oplog.specs.Logs.{with_operation}
 use Rattle.rt_store.specs.Cells.{stamps_of}
 use Rattle.rt_store.specs.Shown.{TaggedCell}

@@ -15,7 +15,7 @@ use Rattle.rt_stamps.specs.declared.stamp.TheConstants.{ROOT}
 use Rattle.rt_stamps.specs.Stamps.{is_same}
 use Rattle.rt_stamps.specs.Words.{Word}
 use Rattle.rt_stamps.proofs.Order.{same_refl}
-use Rattle.rt_oplog.specs.Operations.{Operation, Insert, Tag}
+use Rattle.rt_ops.specs.Operations.{Operation, Insert, Tag}
 use Rattle.rt_oplog.specs.Logs.{with_operation}
 use Rattle.rt_tags.specs.States.{Write, written}
 use Rattle.rt_tags.specs.Writers.{listed_by, state_after}

@@ -12,9 +12,9 @@ use Rattle.rt_stamps.specs.declared.stamp.Stamp.{Stamp}
 use Rattle.rt_stamps.specs.declared.stamp.TheConstants.{ROOT}
 use Rattle.rt_stamps.specs.Stamps.{is_same}
 use Rattle.rt_stamps.specs.Words.{Word}
-use Rattle.rt_oplog.specs.Operations.{Operation, Insert, Tag}
+use Rattle.rt_ops.specs.Operations.{Operation, Insert, Tag}
 use Rattle.rt_oplog.specs.Logs.{with_operation}
-use Rattle.rt_oplog.specs.Rules.{are_spans, are_tags, is_lesser_name, is_name, is_text, is_within}
+use Rattle.rt_ops.specs.Rules.{are_spans, are_tags, is_lesser_name, is_name, is_text, is_within}
 use Rattle.rt_store.specs.Cells.{is_in_span}
 use Rattle.rt_store.specs.Spans.{each_next, is_in_spans, is_span, next_stamp}
 use Rattle.rt_store.proofs.Distinct.{split}

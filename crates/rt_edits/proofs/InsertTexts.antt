@@ -5,7 +5,7 @@ use Rattle.std.proofs.lemmas.List.{length-map}
 use Rattle.rt_stamps.specs.declared.limits.TheConstants.{MOST_CHARACTERS, MOST_TAGS}
 use Rattle.rt_stamps.specs.declared.stamp.Stamp.{Stamp}
 use Rattle.rt_stamps.specs.Words.{Word}
-use Rattle.rt_oplog.specs.Operations.{Body, Insert}
+use Rattle.rt_ops.specs.Operations.{Body, Insert}
 use Rattle.rt_tags.specs.States.{Write}
 use Rattle.rt_store.specs.declared.cell.Cell.{Cell}
 use Rattle.rt_store.specs.Cells.{cells_from, stamps_of}

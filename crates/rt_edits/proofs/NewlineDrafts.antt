@@ -9,8 +9,8 @@ use Rattle.rt_stamps.specs.declared.stamp.TheConstants.{FINAL}
 use Rattle.rt_stamps.specs.Stamps.{is_same}
 use Rattle.rt_stamps.specs.Words.{Word}
 use Rattle.rt_stamps.proofs.Order.{same_from_true, same_refl}
-use Rattle.rt_oplog.specs.Operations.{Operation, Body, Tag}
-use Rattle.rt_oplog.specs.Rules.{is_name}
+use Rattle.rt_ops.specs.Operations.{Operation, Body, Tag}
+use Rattle.rt_ops.specs.Rules.{is_name}
 use Rattle.rt_tags.specs.States.{names_on}
 use Rattle.rt_store.specs.Cells.{stamps_of, text_of, visible_of}
 use Rattle.rt_store.specs.Shown.{TaggedCell}

@@ -8,7 +8,7 @@ use Rattle.std.proofs.lemmas.Bool.Decides.{nat_tests}
 use Rattle.rt_stamps.specs.declared.limits.TheConstants.{MOST_SPANS}
 use Rattle.rt_stamps.specs.declared.stamp.Stamp.{Stamp}
 use Rattle.rt_stamps.specs.Words.{Word}
-use Rattle.rt_oplog.specs.Operations.{Operation}
+use Rattle.rt_ops.specs.Operations.{Operation}
 use Rattle.rt_tags.specs.States.{Write, is_on, names_on, says_on, write_of, written}
 use Rattle.rt_tags.specs.Tags.{HaveNoRepeats, is_listed}
 use Rattle.rt_tags.proofs.Places.{name_itself, same_name}

@@ -12,7 +12,7 @@ use Rattle.rt_stamps.specs.declared.stamp.TheConstants.{ROOT}
 use Rattle.rt_stamps.specs.Stamps.{is_same}
 use Rattle.rt_stamps.specs.Words.{Word}
 use Rattle.rt_stamps.proofs.Order.{same_refl, same_sym}
-use Rattle.rt_oplog.specs.Operations.{Operation, Body, Insert}
+use Rattle.rt_ops.specs.Operations.{Operation, Body, Insert}
 use Rattle.rt_oplog.specs.Logs.{with_operation}
 use Rattle.rt_tags.specs.States.{Write}
 use Rattle.rt_store.specs.Cells.{AreDistinct, after_element, cells_from, is_in_span, stamps_of}

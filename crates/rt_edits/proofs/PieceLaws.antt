@@ -6,7 +6,7 @@ use Rattle.std.proofs.lemmas.List.{append-nil, take_more}
 use Rattle.rt_stamps.specs.declared.limits.TheConstants.{MOST_CHARACTERS}
 use Rattle.rt_stamps.specs.declared.stamp.Stamp.{Stamp}
 use Rattle.rt_stamps.specs.Words.{Word}
-use Rattle.rt_oplog.specs.Operations.{Body}
+use Rattle.rt_ops.specs.Operations.{Body}
 use Rattle.rt_tags.specs.Tags.{is_listed, sel}
 use Rattle.rt_store.specs.Cells.{stamps_of}
 use Rattle.rt_store.specs.Shown.{TaggedCell}

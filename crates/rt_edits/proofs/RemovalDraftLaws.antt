@@ -8,7 +8,7 @@ use Rattle.rt_stamps.specs.declared.stamp.Stamp.{Stamp}
 use Rattle.rt_stamps.specs.declared.stamp.TheConstants.{FINAL}
 use Rattle.rt_stamps.specs.Stamps.{is_same}
 use Rattle.rt_stamps.proofs.Order.{same_refl}
-use Rattle.rt_oplog.specs.Operations.{Operation, Body, Delete}
+use Rattle.rt_ops.specs.Operations.{Operation, Body, Delete}
 use Rattle.rt_oplog.specs.Logs.{with_operation}
 use Rattle.rt_store.specs.declared.cell.Cell.{Cell}
 use Rattle.rt_store.specs.Cells.{AreDistinct, gone_in, stamps_of, text_of, visible_of}

@@ -6,8 +6,8 @@ use Rattle.rt_stamps.specs.declared.limits.TheConstants.{GREATEST_COUNT, MOST_SP
 use Rattle.rt_stamps.specs.declared.stamp.Stamp.{Stamp}
 use Rattle.rt_stamps.specs.Stamps.{is_same}
 use Rattle.rt_stamps.specs.Words.{Word}
-use Rattle.rt_oplog.specs.Operations.{Operation}
-use Rattle.rt_oplog.specs.Rules.{is_name}
+use Rattle.rt_ops.specs.Operations.{Operation}
+use Rattle.rt_ops.specs.Rules.{is_name}
 use Rattle.rt_tags.specs.Tags.{sel, without}
 use Rattle.rt_store.specs.Cells.{AreDistinct, stamps_of}
 use Rattle.rt_store.specs.Shown.{TaggedCell}

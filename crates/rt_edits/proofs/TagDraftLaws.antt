@@ -12,9 +12,9 @@ use Rattle.rt_stamps.specs.declared.stamp.Stamp.{Stamp}
 use Rattle.rt_stamps.specs.declared.stamp.TheConstants.{FINAL}
 use Rattle.rt_stamps.specs.Stamps.{is_same}
 use Rattle.rt_stamps.specs.Words.{Word}
-use Rattle.rt_oplog.specs.Operations.{Operation, Body, Tag}
+use Rattle.rt_ops.specs.Operations.{Operation, Body, Tag}
 use Rattle.rt_oplog.specs.Logs.{with_operation}
-use Rattle.rt_oplog.specs.Rules.{is_name}
+use Rattle.rt_ops.specs.Rules.{is_name}
 use Rattle.rt_tags.specs.States.{Write, written}
 use Rattle.rt_store.specs.Cells.{is_in_span}
 use Rattle.rt_store.specs.Shown.{TaggedCell}

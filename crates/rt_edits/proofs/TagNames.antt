@@ -14,8 +14,8 @@ use Rattle.rt_stamps.specs.declared.stamp.Stamp.{Stamp}
 use Rattle.rt_stamps.specs.declared.stamp.TheConstants.{ROOT}
 use Rattle.rt_stamps.specs.Names.{name_order}
 use Rattle.rt_stamps.specs.Words.{Word}
-use Rattle.rt_oplog.specs.Operations.{Operation, Body, Insert, Delete, Tag, stamp_of}
-use Rattle.rt_oplog.specs.Rules.{are_tags, is_less, is_lesser_name, is_name, is_text, is_within, keeps_rules}
+use Rattle.rt_ops.specs.Operations.{Operation, Body, Insert, Delete, Tag, stamp_of}
+use Rattle.rt_ops.specs.Rules.{are_tags, is_less, is_lesser_name, is_name, is_text, is_within, keeps_rules}
 use Rattle.rt_tags.specs.States.{IsByName, Write, above, below, is_on, is_settled, names_on, written}
 use Rattle.rt_tags.specs.Tags.{sel}
 use Rattle.rt_tags.specs.Writers.{listed_by, state_after}

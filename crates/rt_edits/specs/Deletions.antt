@@ -1,7 +1,7 @@
 -- Deletion (Tk text manual, "delete"): the document without what it takes, and the operations that make it.
 use Rattle.std.specs.Prelude.{ℕ, ◌+◌, ◌-◌, ◌&&◌, nat_le, Bool, List, [], ◌++◌, length, Option, Some, None, option_and_then, option_map, slice_get, unwrap_or, if◌then◌else◌}
 use Rattle.rt_marks.specs.Marks.{marks_left}
-use Rattle.rt_oplog.specs.Operations.{Body}
+use Rattle.rt_ops.specs.Operations.{Body}
 use Rattle.rt_store.specs.Cells.{visible_of}
 use Rattle.rt_store.specs.Shown.{TaggedCell}
 use Rattle.rt_tags.specs.States.{names_on}

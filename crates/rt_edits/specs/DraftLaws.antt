@@ -7,8 +7,8 @@ use Rattle.rt_stamps.specs.declared.stamp.Stamp.{Stamp}
 use Rattle.rt_stamps.specs.declared.stamp.TheConstants.{ROOT}
 use Rattle.rt_stamps.specs.Stamps.{is_same}
 use Rattle.rt_stamps.specs.Words.{Word}
-use Rattle.rt_oplog.specs.Operations.{Operation}
-use Rattle.rt_oplog.specs.Rules.{each_next, is_lesser_name, is_name}
+use Rattle.rt_ops.specs.Operations.{Operation}
+use Rattle.rt_ops.specs.Rules.{each_next, is_lesser_name, is_name}
 use Rattle.rt_store.specs.Cells.{text_of, visible_of}
 use Rattle.rt_store.specs.Shown.{TaggedCell}
 use Rattle.rt_tags.specs.States.{names_on}

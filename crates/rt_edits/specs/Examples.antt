@@ -5,7 +5,7 @@ use Rattle.rt_store.specs.Shown.{TaggedCell}
 use Rattle.rt_stamps.specs.declared.limits.TheConstants.{GREATEST_COUNT, MOST_TAGS}
 use Rattle.rt_stamps.specs.declared.stamp.TheConstants.{FINAL, ROOT}
 use Rattle.rt_stamps.specs.Words.{Word}
-use Rattle.rt_oplog.specs.Operations.{Operation, Insert}
+use Rattle.rt_ops.specs.Operations.{Operation, Insert}
 use Rattle.rt_tags.specs.States.{names_on}
 use Rattle.rt_tags.specs.Tags.{sel}
 use Rattle.rt_tags.specs.Writers.{listed_by, state_after}

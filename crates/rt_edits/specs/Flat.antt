@@ -1,7 +1,7 @@
 -- A document as a flat list of cells.
 use Rattle.std.specs.Prelude.{ℕ, zero, suc, List, [], ◌∷◌, ◌++◌, take, drop, slice_get, unwrap_or, option_map}
 use Rattle.rt_marks.specs.Marks.{Mark}
-use Rattle.rt_oplog.specs.Operations.{Body, Operation}
+use Rattle.rt_ops.specs.Operations.{Body, Operation}
 use Rattle.rt_rga.specs.Drafts.{with_drafts}
 use Rattle.rt_stamps.specs.declared.stamp.Stamp.{Stamp}
 use Rattle.rt_stamps.specs.declared.stamp.TheConstants.{ROOT}

@@ -5,7 +5,7 @@ use Rattle.rt_stamps.specs.declared.limits.TheConstants.{MOST_TAGS}
 use Rattle.rt_stamps.specs.declared.stamp.Span.{Span}
 use Rattle.rt_stamps.specs.declared.stamp.Stamp.{Stamp}
 use Rattle.rt_stamps.specs.Words.{Word}
-use Rattle.rt_oplog.specs.Operations.{Body, Insert, Tag}
+use Rattle.rt_ops.specs.Operations.{Body, Insert, Tag}
 use Rattle.rt_store.specs.Shown.{TaggedCell}
 use Rattle.rt_edits.specs.Insertions.{Insertion, Piece, further_tags, last_of, shared_names, tags_between, with_listed, with_pieces}
 use Rattle.rt_edits.specs.NamedSpans.{parts_of}

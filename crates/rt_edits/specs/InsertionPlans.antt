@@ -7,7 +7,7 @@ use Rattle.rt_edits.specs.declared.inserting.Between.{Between}
 use Rattle.rt_edits.specs.declared.inserting.Plan.{Plan}
 use Rattle.rt_edits.specs.declared.selection.Selection.{Selection}
 use Rattle.rt_edits.specs.Insertions.{Insertion, all_listed, selected_if}
-use Rattle.rt_edits.specs.Selected.{room_in, stamps_in}
+use Rattle.rt_edits.specs.Selected.{room_in, selected_stamps}
 use Rattle.rt_edits.specs.Selections.{with_stamps}
 
 -- a selection that has both neighbours gets the characters between them
@@ -27,5 +27,5 @@ pub record Plans (plan : Plan) (selection : List Stamp) (selections : List (List
 abbrev pub HaveRoom : Option Between → List Selection → Type 0
 HaveRoom None others = Unit {0}
 HaveRoom (Some between) others =
-    All (λ selection. (is_among (stamps_in selection) between.left && is_among (stamps_in selection) between.right) ≡ true
+    All (λ selection. (is_among (selected_stamps selection) between.left && is_among (selected_stamps selection) between.right) ≡ true
     → length between.stamps.items ≤ room_in selection) others

@@ -1,6 +1,6 @@
 -- The operations that a removal makes.
 use Rattle.std.specs.Prelude.{ℕ, Bool, List, map}
-use Rattle.rt_oplog.specs.Operations.{Body, Delete}
+use Rattle.rt_ops.specs.Operations.{Body, Delete}
 use Rattle.rt_store.specs.declared.cell.Cell.{Cell}
 use Rattle.rt_edits.specs.NamedSpans.{parts_of, spans_in}
 use Rattle.rt_edits.specs.Removals.{stamps_at}

@@ -5,8 +5,8 @@ use Rattle.rt_stamps.specs.declared.stamp.Stamp.{Stamp}
 use Rattle.rt_edits.specs.declared.selection.Selection.{Selection}
 
 -- the stamps of the selected characters
-abbrev pub stamps_in : Selection → List Stamp
-stamps_in selection = selection.stamps.keys
+abbrev pub selected_stamps : Selection → List Stamp
+selected_stamps selection = selection.stamps.keys
 
 -- how many more stamps there is room for
 abbrev pub room_in : Selection → ℕ

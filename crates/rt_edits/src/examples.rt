@@ -3,7 +3,7 @@ ghost use Rattle.std.specs.Prelude.{◌≡◌, ◌==◌, false, true, [], ◌∷
 ghost use Rattle.rt_stamps.specs.declared.fault.Fault.TheVariants.{ClockSpent, TextFull};
 ghost use Rattle.rt_stamps.specs.declared.stamp.TheConstants.{FINAL, ROOT};
 ghost use Rattle.rt_stamps.specs.declared.limits.TheConstants.{MOST_CHARACTERS, MOST_SPANS};
-ghost use Rattle.rt_oplog.specs.Operations.{Delete, Insert, Tag};
+ghost use Rattle.rt_ops.specs.Operations.{Delete, Insert, Tag};
 ghost use Rattle.rt_store.specs.Cells.{text_of};
 ghost use Rattle.rt_rga.specs.Examples.{at, insert_ab, only_t, span};
 ghost use Rattle.rt_rga.specs.Made.{refusal_of};

@@ -3,13 +3,13 @@ ghost use Rattle.std.specs.Prelude.{◌≡◌, ◌⊎◌, ◌<◌, ◌≤◌, []
 ghost use Rattle.rt_stamps.specs.declared.limits.TheConstants.{GREATEST_COUNT, MOST_CHARACTERS};
 ghost use Rattle.rt_stamps.specs.declared.stamp.Stamp.{Stamp};
 ghost use Rattle.rt_stamps.specs.Words.{Word};
-ghost use Rattle.rt_oplog.specs.Edits.{body_of};
+ghost use Rattle.rt_ops.specs.Edits.{body_of};
 ghost use Rattle.rt_store.specs.Shown.{shown};
 ghost use Rattle.rt_tags.specs.States.{IsState};
 ghost use Rattle.rt_edits.specs.InsertionDrafts.{insertion_drafts};
 ghost use Rattle.rt_edits.specs.InsertionPlans.{Plans};
 ghost use Rattle.rt_edits.specs.Insertions.{insertion_of};
-ghost use Rattle.rt_edits.specs.Selected.{stamps_in};
+ghost use Rattle.rt_edits.specs.Selected.{selected_stamps};
 
 use crate::inserts::Inserts;
 use crate::pieces::PlannedPieces;
@@ -62,18 +62,18 @@ pub fn planned_between(
     requires after { IfSome left (λ cell. after ≡ cell.stamp) }
     requires count { count ≤ GREATEST_COUNT }
     ensures drafts { IfOk result (λ plan. (sel : List Stamp) (others : List (List Stamp)) (tags : List Word)
-        → IfSome right (λ cell. sel ≡ stamps_in selection.now) → map body_of plan.drafts.items
+        → IfSome right (λ cell. sel ≡ selected_stamps selection.now) → map body_of plan.drafts.items
         ≡ insertion_drafts MOST_CHARACTERS site.number after
         (option_map (shown states.now) left) (option_map (shown states.now) right) pieces.now rest.now
         (record { cells = []; count = count; sel = sel; others = others; tags = tags })) }
     ensures plans { IfOk result (λ plan. (sel : List Stamp) (others : List (List Stamp)) (tags : List Word)
-        → IfSome right (λ cell. sel ≡ stamps_in selection.now) → Plans plan sel others tags
+        → IfSome right (λ cell. sel ≡ selected_stamps selection.now) → Plans plan sel others tags
         (insertion_of site.number (option_map (shown states.now) left) (option_map (shown states.now) right) pieces.now rest.now
         (record { cells = []; count = count; sel = sel; others = others; tags = tags }))) }
     ensures alone { IfOk result (λ plan. right ≡ None → plan.between ≡ None) }
     ensures err { IfErr result (λ fault. (fault ≡ Fault.NoMemory)
         ⊎ ((fault ≡ Fault.ClockSpent) × ((sel : List Stamp) (others : List (List Stamp)) (tags : List Word)
-        → IfSome right (λ cell. sel ≡ stamps_in selection.now) → GREATEST_COUNT
+        → IfSome right (λ cell. sel ≡ selected_stamps selection.now) → GREATEST_COUNT
         < (insertion_of site.number (option_map (shown states.now) left) (option_map (shown states.now) right) pieces.now rest.now
         (record { cells = []; count = count; sel = sel; others = others; tags = tags })).count))) }
 {

@@ -1,8 +1,8 @@
 // The operations of one text with its tags.
 ghost use Rattle.std.specs.Prelude.{◌≡◌, ℕ, ◌⊎◌, ◌+◌, ◌-◌, ◌<◌, ◌≤◌, ◌++◌, ◌∷◌, [], IfOk, IfErr, OnOk, true, length, map, string_bytes, take, drop};
 ghost use Rattle.rt_stamps.specs.declared.limits.TheConstants.{GREATEST_COUNT, MOST_CHARACTERS, MOST_TAGS};
-ghost use Rattle.rt_oplog.specs.Edits.{body_of};
-ghost use Rattle.rt_oplog.specs.Operations.{Insert, Tag};
+ghost use Rattle.rt_ops.specs.Edits.{body_of};
+ghost use Rattle.rt_ops.specs.Operations.{Insert, Tag};
 ghost use Rattle.rt_store.specs.Cells.{cells_from, stamps_of};
 ghost use Rattle.rt_edits.specs.InsertionDrafts.{behind, tags_on, text_drafts};
 ghost use Rattle.rt_edits.specs.Insertions.{counts_for, further_tags, tagged_cells};

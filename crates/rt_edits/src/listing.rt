@@ -3,7 +3,7 @@ ghost use Rattle.std.specs.Prelude.{◌≡◌, ◌<◌, ◌≤◌, All, IfErr, O
 ghost use Rattle.rt_store.specs.Cells.{visible_of};
 ghost use Rattle.rt_tags.specs.Tags.{IsName, is_ready, with_name};
 ghost use Rattle.rt_edits.specs.Removals.{AreInOrder, is_covered, stamps_at};
-ghost use Rattle.rt_edits.specs.Selected.{stamps_in as selected_in};
+ghost use Rattle.rt_edits.specs.Selected.{selected_stamps};
 ghost use Rattle.rt_edits.specs.Selections.{selection_with};
 ghost use Rattle.rt_edits.specs.Names.{all_forgotten};
 
@@ -26,9 +26,9 @@ pub fn select<S: TextStore>(
 ) -> Result<(), Fault>
     requires order { AreInOrder 0 ranges.now }
     requires within { All (λ range. range.to ≤ length (visible_of (S.list store.now))) ranges.now }
-    ensures ok { OnOk result (selected_in selection.new
-        ≡ selection_with on (stamps_at (is_covered ranges.now) 0 (S.list store.now)) (selected_in selection.old)) }
-    ensures unchanged { OnErr result (selected_in selection.new ≡ selected_in selection.old) }
+    ensures ok { OnOk result (selected_stamps selection.new
+        ≡ selection_with on (stamps_at (is_covered ranges.now) 0 (S.list store.now)) (selected_stamps selection.old)) }
+    ensures unchanged { OnErr result (selected_stamps selection.new ≡ selected_stamps selection.old) }
     ensures err { IfErr result (λ fault. fault ≡ Fault.NoMemory) }
 {
     let stamps = stamps_in(alloc, store, ranges)?;

@@ -1,8 +1,8 @@
 // Spans cut for operations, each with at most as many as one may name.
 ghost use Rattle.std.specs.Prelude.{◌≡◌, ◌++◌, IfErr, OnOk, map};
 ghost use Rattle.rt_stamps.specs.declared.limits.TheConstants.{MOST_SPANS};
-ghost use Rattle.rt_oplog.specs.Edits.{body_of};
-ghost use Rattle.rt_oplog.specs.Operations.{Delete, Tag};
+ghost use Rattle.rt_ops.specs.Edits.{body_of};
+ghost use Rattle.rt_ops.specs.Operations.{Delete, Tag};
 ghost use Rattle.rt_edits.specs.NamedSpans.{parts_of};
 
 use rt_rga::Draft;

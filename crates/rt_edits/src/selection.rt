@@ -1,6 +1,6 @@
 // The selected characters of a widget.
 ghost use Rattle.std.specs.Prelude.{◌≡◌, ◌+◌, ◌<◌, ◌≤◌, not, [], ◌∷◌, IfOk, IfErr, OnOk, length};
-ghost use Rattle.rt_edits.specs.Selected.{stamps_in, room_in};
+ghost use Rattle.rt_edits.specs.Selected.{selected_stamps, room_in};
 ghost use Rattle.rt_edits.specs.Selections.{with_stamp, with_stamps, unselected};
 ghost use Rattle.rt_store.specs.Spans.{is_among};
 
@@ -25,7 +25,7 @@ pub struct Selection {
 impl Selection {
     /// Nothing is selected. It takes no memory.
     pub fn new(alloc: Global) -> Selection
-        ensures { stamps_in result ≡ [] }
+        ensures { selected_stamps result ≡ [] }
     {
         Selection {
             stamps: IndexSet::new(alloc),
@@ -34,7 +34,7 @@ impl Selection {
 
     /// The selection of some characters. `NoMemory` is its only fault.
     pub fn of(alloc: Global, stamps: &[Stamp]) -> Result<Selection, Fault>
-        ensures ok { IfOk result (λ selection. stamps_in selection ≡ with_stamps stamps.now []) }
+        ensures ok { IfOk result (λ selection. selected_stamps selection ≡ with_stamps stamps.now []) }
         ensures err { IfErr result (λ fault. fault ≡ Fault.NoMemory) }
     {
         let mut selection = Selection::new(alloc);
@@ -45,14 +45,14 @@ impl Selection {
 
     /// Whether the character of a stamp is selected.
     pub fn has(&self, stamp: Stamp) -> bool
-        ensures { result ≡ is_among (stamps_in self.now) stamp }
+        ensures { result ≡ is_among (selected_stamps self.now) stamp }
     {
         self.stamps.contains(&stamp)
     }
 
     /// Makes room for more stamps.
     pub fn reserve(&mut self, more: usize) -> Result<(), Fault>
-        ensures same { stamps_in self.new ≡ stamps_in self.old }
+        ensures same { selected_stamps self.new ≡ selected_stamps self.old }
         ensures room { OnOk result (more ≤ room_in self.new) }
         ensures err { IfErr result (λ fault. fault ≡ Fault.NoMemory) }
     {
@@ -62,7 +62,7 @@ impl Selection {
     // Selects a character, within the room that there is.
     fn add_one(&mut self, stamp: Stamp)
         requires { 0 < room_in self.old }
-        ensures stamps { stamps_in self.new ≡ with_stamp stamp (stamps_in self.old) }
+        ensures stamps { selected_stamps self.new ≡ with_stamp stamp (selected_stamps self.old) }
         ensures room { room_in self.old ≤ room_in self.new + 1 }
     {
         self.stamps.insert(stamp).unwrap();
@@ -71,7 +71,7 @@ impl Selection {
     /// Selects characters, within the room that there is.
     pub fn add(&mut self, stamps: &[Stamp])
         requires { length stamps.now ≤ room_in self.old }
-        ensures { stamps_in self.new ≡ with_stamps stamps.now (stamps_in self.old) }
+        ensures { selected_stamps self.new ≡ with_stamps stamps.now (selected_stamps self.old) }
     {
         for stamp in stamps {
             self.add_one(*stamp);
@@ -80,14 +80,14 @@ impl Selection {
 
     /// Takes out the characters of another selection. It takes no memory.
     pub fn remove(&mut self, other: &Selection)
-        ensures { stamps_in self.new ≡ unselected (stamps_in other.now) (stamps_in self.old) }
+        ensures { selected_stamps self.new ≡ unselected (selected_stamps other.now) (selected_stamps self.old) }
     {
         self.stamps.retain(|stamp| !other.has(*stamp));
     }
 
     /// Takes out a character. It takes no memory.
     pub fn remove_one(&mut self, stamp: Stamp)
-        ensures stamps { stamps_in self.new ≡ unselected (stamp ∷ []) (stamps_in self.old) }
+        ensures stamps { selected_stamps self.new ≡ unselected (stamp ∷ []) (selected_stamps self.old) }
         ensures room { room_in self.old ≤ room_in self.new }
     {
         self.stamps.retain(|other| is_another(stamp, *other));

@@ -4,7 +4,7 @@ ghost use Rattle.std.specs.Str.{chars};
 ghost use Rattle.rt_stamps.specs.declared.limits.TheConstants.{GREATEST_COUNT, MOST_CHARACTERS};
 ghost use Rattle.rt_stamps.specs.declared.stamp.Stamp.{Stamp};
 ghost use Rattle.rt_stamps.specs.Words.{Word};
-ghost use Rattle.rt_oplog.specs.Edits.{body_of};
+ghost use Rattle.rt_ops.specs.Edits.{body_of};
 ghost use Rattle.rt_store.specs.Shown.{TaggedCell, shown};
 ghost use Rattle.rt_store.specs.Spans.{is_among};
 ghost use Rattle.rt_tags.specs.States.{IsState, is_on, names_on, state_at};
@@ -13,7 +13,7 @@ ghost use Rattle.rt_edits.specs.InsertionDrafts.{behind, text_drafts};
 ghost use Rattle.rt_edits.specs.InsertionPlans.{Plans};
 ghost use Rattle.rt_edits.specs.Insertions.{Insertion, counts_for, last_of, tags_between, with_listed, with_unlisted};
 ghost use Rattle.rt_edits.specs.PlannedPieces.{ArePlanned, AreSoFar};
-ghost use Rattle.rt_edits.specs.Selected.{stamps_in};
+ghost use Rattle.rt_edits.specs.Selected.{selected_stamps};
 ghost use Rattle.rt_edits.specs.Selections.{with_stamps};
 
 use crate::inserting::Between;
@@ -110,15 +110,15 @@ impl PlannedPieces {
 
     // Whether two characters are both selected already, or after the insertion.
     fn selects_both(&self, selection: &Selection, left: Stamp, right: Stamp) -> bool
-        ensures both { result ≡ (is_among (with_stamps self.now.selected.items (stamps_in selection.now)) left
-            && is_among (with_stamps self.now.selected.items (stamps_in selection.now)) right) }
+        ensures both { result ≡ (is_among (with_stamps self.now.selected.items (selected_stamps selection.now)) left
+            && is_among (with_stamps self.now.selected.items (selected_stamps selection.now)) right) }
     {
         self.selects(selection, left) && self.selects(selection, right)
     }
 
     // Whether a character is selected already, or after the insertion.
     fn selects(&self, selection: &Selection, stamp: Stamp) -> bool
-        ensures { result ≡ is_among (with_stamps self.now.selected.items (stamps_in selection.now)) stamp }
+        ensures { result ≡ is_among (with_stamps self.now.selected.items (selected_stamps selection.now)) stamp }
     {
         selection.has(stamp) || self.selected.contains(&stamp)
     }
@@ -153,16 +153,16 @@ impl PlannedPieces {
         requires left { IfSome left (λ cell. IsState states.now cell.state) }
         requires right { IsState states.now right.state }
         ensures drafts { OnOk result ((after : Stamp) (listed : List Word) (so_far : Insertion)
-            → AreSoFar after (stamps_in selection.now) listed self.old so_far → map body_of self.new.texts.drafts.items
+            → AreSoFar after (selected_stamps selection.now) listed self.old so_far → map body_of self.new.texts.drafts.items
             ≡ map body_of self.old.texts.drafts.items ++ text_drafts MOST_CHARACTERS site.number so_far.count (behind after so_far.cells)
             (tags_between (last_of (option_map (shown states.now) left) so_far.cells) (Some (shown states.now right))) (chars rest.now)) }
         ensures plans { IfOk result (λ between. (plan : Plan) (after : Stamp) (listed : List Word) (so_far : Insertion)
-            → AreSoFar after (stamps_in selection.now) listed self.old so_far
+            → AreSoFar after (selected_stamps selection.now) listed self.old so_far
             → IfSome left (λ cell. after ≡ cell.stamp) → ArePlanned plan self.new between
-            → Plans plan (stamps_in selection.now) so_far.others listed (with_unlisted site.number
+            → Plans plan (selected_stamps selection.now) so_far.others listed (with_unlisted site.number
             (last_of (option_map (shown states.now) left) so_far.cells) (Some (shown states.now right)) (chars rest.now) so_far)) }
         ensures err { IfErr result (λ fault. (fault ≡ Fault.NoMemory) ⊎ ((fault ≡ Fault.ClockSpent)
-            × ((after : Stamp) (listed : List Word) (so_far : Insertion) → AreSoFar after (stamps_in selection.now) listed self.old so_far
+            × ((after : Stamp) (listed : List Word) (so_far : Insertion) → AreSoFar after (selected_stamps selection.now) listed self.old so_far
             → GREATEST_COUNT < so_far.count + counts_for
             (tags_between (last_of (option_map (shown states.now) left) so_far.cells) (Some (shown states.now right))) (chars rest.now)))) }
     {
@@ -205,19 +205,19 @@ impl PlannedPieces {
         requires left { IfSome left (λ cell. IsState states.now cell.state) }
         requires right { IfSome right (λ cell. IsState states.now cell.state) }
         ensures drafts { OnOk result ((after : Stamp) (sel : List Stamp) (listed : List Word) (so_far : Insertion)
-            → IfSome right (λ cell. sel ≡ stamps_in selection.now) → AreSoFar after sel listed self.old so_far
+            → IfSome right (λ cell. sel ≡ selected_stamps selection.now) → AreSoFar after sel listed self.old so_far
             → map body_of self.new.texts.drafts.items
             ≡ map body_of self.old.texts.drafts.items ++ text_drafts MOST_CHARACTERS site.number so_far.count (behind after so_far.cells)
             (tags_between (last_of (option_map (shown states.now) left) so_far.cells) (option_map (shown states.now) right)) (chars rest.now)) }
         ensures plans { IfOk result (λ between. (plan : Plan) (after : Stamp) (sel : List Stamp) (listed : List Word) (so_far : Insertion)
-            → IfSome right (λ cell. sel ≡ stamps_in selection.now) → AreSoFar after sel listed self.old so_far
+            → IfSome right (λ cell. sel ≡ selected_stamps selection.now) → AreSoFar after sel listed self.old so_far
             → IfSome left (λ cell. after ≡ cell.stamp) → ArePlanned plan self.new between
             → Plans plan sel so_far.others listed (with_unlisted site.number
             (last_of (option_map (shown states.now) left) so_far.cells) (option_map (shown states.now) right) (chars rest.now) so_far)) }
         ensures alone { IfOk result (λ between. right ≡ None → between ≡ None) }
         ensures err { IfErr result (λ fault. (fault ≡ Fault.NoMemory) ⊎ ((fault ≡ Fault.ClockSpent)
             × ((after : Stamp) (sel : List Stamp) (listed : List Word) (so_far : Insertion)
-            → IfSome right (λ cell. sel ≡ stamps_in selection.now) → AreSoFar after sel listed self.old so_far
+            → IfSome right (λ cell. sel ≡ selected_stamps selection.now) → AreSoFar after sel listed self.old so_far
             → GREATEST_COUNT < so_far.count + counts_for
             (tags_between (last_of (option_map (shown states.now) left) so_far.cells) (option_map (shown states.now) right)) (chars rest.now)))) }
     {

@@ -6,12 +6,12 @@ use Rattle.rt_stamps.specs.declared.fault.Fault.{Fault}
 use Rattle.rt_stamps.specs.declared.fault.Fault.TheVariants.{NoMemory, WriteFault}
 use Rattle.rt_stamps.specs.Streams.{Stream}
 use Rattle.rt_stamps.specs.Written.{AppendsPart}
-use Rattle.rt_oplog.specs.File.{spelling}
-use Rattle.rt_oplog.specs.Intake.{ReadsFile, LacksMemory}
+use Rattle.rt_ops.specs.File.{spelling}
+use Rattle.rt_ops.specs.Intake.{ReadsFile, LacksMemory}
 use Rattle.rt_oplog.specs.Logs.{joined}
-use Rattle.rt_oplog.specs.Operations.{Operation}
+use Rattle.rt_ops.specs.Operations.{Operation}
 use Rattle.rt_oplog.specs.Outcomes.{IsFirstRefused, IsLogOf}
-use Rattle.rt_show.specs.Shown.{lines_of}
+use Rattle.rt_files.specs.Shown.{lines_of}
 use Rattle.rt_files.specs.declared.join.JoinFault.{JoinFault}
 
 -- a reading ended with no fault, or with this one at an offset

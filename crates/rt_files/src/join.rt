@@ -1,9 +1,9 @@
 // The join of two files of operations.
 ghost use Rattle.std.specs.Prelude.{◌≡◌, ◌⊎◌, ℕ, ◌<◌, List, length, Ok, reverse, MatchResult};
 ghost use Rattle.rt_stamps.specs.declared.fault.Fault.TheVariants.{NoMemory};
-ghost use Rattle.rt_oplog.specs.File.{spelling};
+ghost use Rattle.rt_ops.specs.File.{spelling};
 ghost use Rattle.rt_oplog.specs.Logs.{joined};
-ghost use Rattle.rt_oplog.specs.Operations.{Operation};
+ghost use Rattle.rt_ops.specs.Operations.{Operation};
 ghost use Rattle.rt_oplog.specs.Outcomes.{IsLogOf};
 ghost use Rattle.rt_files.specs.Files.{IsRefused, FileGives, GivesNoLog, JoinsFiles, in_file, of_neither};
 

@@ -2,8 +2,8 @@
 ghost use Rattle.std.specs.Prelude.{◌≡◌};
 ghost use Rattle.rt_files.specs.Files.{ShowsFile};
 
+use crate::write_lines;
 use rt_oplog::read_file;
-use rt_show::write_lines;
 use rt_stamps::{Fault, Sink, Source};
 use std::alloc::Global;
 

@@ -18,7 +18,7 @@ use Rattle.rt_index.specs.Reading.{is_separator, token_length, fixed_of, positio
 use Rattle.rt_index.specs.Index.{moved_from, index_of, fixed_place}
 use Rattle.rt_stamps.specs.declared.position.Position.{Position}
 use Rattle.rt_stamps.specs.Places.{text_of_position}
-use Rattle.rt_index.specs.Widget.{Widget, IsProper}
+use Rattle.rt_index.specs.Widget.{IndexedWidget, IsProper}
 use Rattle.rt_stamps.specs.Places.{EndsWithNewline}
 use Rattle.rt_index.proofs.Digits.{own}
 use Rattle.rt_index.proofs.Places.{split, newlines_few, line_within, start_before, end_after}
@@ -162,7 +162,7 @@ printed_token line c h k =
 abbrev printed : Position → List ℕ
 printed p = decimal p.line ++ codes "." ++ decimal p.character
 
-printed_index : (w : Widget) (place : ℕ) → IsProper w → place ≤ length w.text → index_of w (printed (position_at w.text place)) ≡ Ok place
+printed_index : (w : IndexedWidget) (place : ℕ) → IsProper w → place ≤ length w.text → index_of w (printed (position_at w.text place)) ≡ Ok place
 printed_index w place proper h =
     let p = position_at w.text place in
     let word = printed p in
@@ -179,7 +179,7 @@ printed_index w place proper h =
     ∙ ap Ok (place_back w.text place proper.newline h)
 
 -- a position as it is written names its place
-pub written_index : (w : Widget) (place : ℕ) → IsProper w → place ≤ length w.text → index_of w (text_of_position (position_at w.text place)) ≡ Ok place
+pub written_index : (w : IndexedWidget) (place : ℕ) → IsProper w → place ≤ length w.text → index_of w (text_of_position (position_at w.text place)) ≡ Ok place
 written_index w place proper h =
     let p = position_at w.text place in
     let same : text_of_position p ≡ printed p = sym (append_assoc (decimal p.line) (codes ".") (decimal p.character)) in

@@ -20,7 +20,7 @@ use Rattle.rt_index.specs.declared.parts.Base.TheVariants.{AtPlace, Named}
 use Rattle.rt_index.specs.Index.{fixed_place, may_end, side_text, moved_from, index_of, word_index, IsHopeless, IsHopeful}
 use Rattle.rt_index.specs.Expression.{kept_modifier, kept_fixed, tag_after, longest_named, named_after, listed_place, marked_place, base_index, is_always_mark, is_possible, AreNames, IsParsed}
 use Rattle.rt_index.specs.Reading.{is_separator, token_length, fixed_of, modifiers_of}
-use Rattle.rt_index.specs.Widget.{Widget, Ends, IsProper, IsName}
+use Rattle.rt_index.specs.Widget.{IndexedWidget, TagEnds, IsProper, IsName}
 use Rattle.rt_index.proofs.Places.{split}
 use Rattle.rt_index.proofs.Spelling.{eq_of, lt_true, at_least, bytes_true}
 use Rattle.rt_index.proofs.Kept.{fixed_kept, fixed_within, moved_from_kept}
@@ -30,11 +30,11 @@ abbrev token_of : List ℕ → List ℕ
 token_of word = take (token_length word) word
 
 -- a position or `end`
-pub fixed_same : (w : Widget) (word : List ℕ) (fixed : Fixed) → fixed_of (token_of word) ≡ Some fixed
+pub fixed_same : (w : IndexedWidget) (word : List ℕ) (fixed : Fixed) → fixed_of (token_of word) ≡ Some fixed
     → index_of w word ≡ moved_from w.text (Ok (fixed_place w.text fixed)) (modifiers_of (drop (token_length word) word))
 fixed_same w word fixed e = ap (λ o. word_index w word (option_or (option_map (fixed_place w.text) o) (w.marks (token_of word)))) e
 
-by_marks : (w : Widget) (word : List ℕ) (o : Option ℕ) → fixed_of (token_of word) ≡ None → w.marks (token_of word) ≡ o → index_of w word ≡ word_index w word o
+by_marks : (w : IndexedWidget) (word : List ℕ) (o : Option ℕ) → fixed_of (token_of word) ≡ None → w.marks (token_of word) ≡ o → index_of w word ≡ word_index w word o
 by_marks w word o e m =
     ap (λ f. word_index w word (option_or (option_map (fixed_place w.text) f) (w.marks (token_of word)))) e ∙ ap (word_index w word) m
 
@@ -46,7 +46,7 @@ same_number : (n : ℕ) → (n == n) ≡ true
 same_number n = grind (arith, nat_tests)
 
 -- a mark or an end of a tag
-pub named_same : (w : Widget) (word : List ℕ) (tag : Option Tag) → fixed_of (token_of word) ≡ None → longest_named word (length word) ≡ tag
+pub named_same : (w : IndexedWidget) (word : List ℕ) (tag : Option Tag) → fixed_of (token_of word) ≡ None → longest_named word (length word) ≡ tag
     → index_of w word ≡ moved_from w.text (base_index w word (Named (token_length word) (named_after (token_length word) tag == token_length word) tag))
     (modifiers_of (drop (named_after (token_length word) tag) word))
 named_same w word None e t = by (w.marks (token_of word)) refl
@@ -118,7 +118,7 @@ marked_within n fits None other h k = k
 marked_within n true (Some p) other h k = h p refl
 marked_within n false (Some p) other h k = tt
 
-listed_within : (w : Widget) (name : List ℕ) (side : Side) (o : Option (Option Ends)) → IsProper w → w.tags name ≡ o → IfOk (listed_place side o) (λ p. p ≤ length w.text)
+listed_within : (w : IndexedWidget) (name : List ℕ) (side : Side) (o : Option (Option TagEnds)) → IsProper w → w.tags name ≡ o → IfOk (listed_place side o) (λ p. p ≤ length w.text)
 listed_within w name side None proper e = tt
 listed_within w name side (Some None) proper e = tt
 listed_within w name First (Some (Some ends)) proper e =
@@ -126,7 +126,7 @@ listed_within w name First (Some (Some ends)) proper e =
 listed_within w name Last (Some (Some ends)) proper e =
     proper.last_within name ends.last (ap (λ o. option_map (λ ends. ends.last) (option_and_then (λ ends. ends) o)) e)
 
-base_within : (w : Widget) (word : List ℕ) (base : Base) → IsProper w → IfOk (base_index w word base) (λ p. p ≤ length w.text)
+base_within : (w : IndexedWidget) (word : List ℕ) (base : Base) → IsProper w → IfOk (base_index w word base) (λ p. p ≤ length w.text)
 base_within w word (AtPlace fixed) proper = fixed_within w.text fixed
 base_within w word (Named token fits None) proper =
     marked_within (length w.text) fits (w.marks (take token word)) (Err BadIndex) (proper.marks_within (take token word)) tt
@@ -190,7 +190,7 @@ name_from name h = by (nat_le 1 (length name)) (nat_le (length name) MOST_NAME_B
     by true false ea eb h = cc
     by false b ea eb h = cc
 
-always_marked : (w : Widget) (name : List ℕ) → IsProper w → is_always_mark name ≡ true → IsSome (w.marks name)
+always_marked : (w : IndexedWidget) (name : List ℕ) → IsProper w → is_always_mark name ≡ true → IsSome (w.marks name)
 always_marked w name proper h = by (bytes_eq name (codes "insert")) (bytes_eq name (codes "current")) refl refl h
   where
     by : (a b : Bool) → bytes_eq name (codes "insert") ≡ a → bytes_eq name (codes "current") ≡ b → (a || b) ≡ true → IsSome (w.marks name)
@@ -231,7 +231,7 @@ hopeless_base word tag e t h = λ w proper.
     let rest = modifiers_of (drop (named_after (token_length word) tag) word) in
     named_same w word tag e t ∙ ap (λ b. moved_from w.text b rest) (nothing w proper tag t h) ∙ bad w.text rest
   where
-    nothing : (w : Widget) → IsProper w → (tag : Option Tag) → longest_named word (length word) ≡ tag
+    nothing : (w : IndexedWidget) → IsProper w → (tag : Option Tag) → longest_named word (length word) ≡ tag
         → is_possible (token_of word) (named_after (token_length word) tag == token_length word) tag ≡ false
         → base_index w word (Named (token_length word) (named_after (token_length word) tag == token_length word) tag) ≡ Err BadIndex
     nothing w proper None t h = by (w.marks (token_of word)) refl
@@ -250,7 +250,7 @@ hopeless_base word tag e t h = λ w proper.
         always true false k h = sym h
         always false b k h = cc
 
-        by : (o : Option ℕ) (l : Option (Option Ends)) → w.marks (token_of word) ≡ o → w.tags (take tag.name word) ≡ l
+        by : (o : Option ℕ) (l : Option (Option TagEnds)) → w.marks (token_of word) ≡ o → w.tags (take tag.name word) ≡ l
             → marked_place (tag_after tag == token_length word) o (listed_place tag.side l) ≡ Err BadIndex
         by (Some p) l m k =
             unfit (tag_after tag == token_length word) p
@@ -269,20 +269,20 @@ hopeless_base word tag e t h = λ w proper.
 abbrev at_start : Bool → Option ℕ
 at_start b = cond b (Some 0) None
 
-abbrev untagged : Bool → Option (Option Ends)
+abbrev untagged : Bool → Option (Option TagEnds)
 untagged b = cond b (Some None) None
 
-abbrev sample : List ℕ → List ℕ → Widget
+abbrev sample : List ℕ → List ℕ → IndexedWidget
 sample mark tag = record {
   text = 10 ∷ [];
   marks = λ name. at_start (bytes_eq name mark || is_always_mark name);
   tags = λ name. untagged (bytes_eq name tag || bytes_eq name (codes "sel"));
 }
 
-abbrev first_in : Option (Option Ends) → Option ℕ
+abbrev first_in : Option (Option TagEnds) → Option ℕ
 first_in o = option_map (λ ends. ends.first) (option_and_then (λ ends. ends) o)
 
-abbrev last_in : Option (Option Ends) → Option ℕ
+abbrev last_in : Option (Option TagEnds) → Option ℕ
 last_in o = option_map (λ ends. ends.last) (option_and_then (λ ends. ends) o)
 
 no_first : (b : Bool) (place : ℕ) → first_in (untagged b) ≡ Some place → place ≤ 1
@@ -358,7 +358,7 @@ hopeful_fixed word fixed ms e m =
       ok_not (index_of w word) _ (fixed_same w word fixed e ∙ ap (moved_from w.text (Ok (fixed_place w.text fixed))) m),
     )
 
-base_fits : (w : Widget) (word : List ℕ) (token : ℕ) (fits : Bool) (tag : Option Tag) (p : ℕ) → w.marks (take token word) ≡ Some p → fits ≡ true
+base_fits : (w : IndexedWidget) (word : List ℕ) (token : ℕ) (fits : Bool) (tag : Option Tag) (p : ℕ) → w.marks (take token word) ≡ Some p → fits ≡ true
     → base_index w word (Named token fits tag) ≡ Ok p
 base_fits w word token fits None p m f = ap (λ o. marked_place fits o (Err BadIndex)) m ∙ ap (λ b. cond b (Ok p) (Err BadIndex)) f
 base_fits w word token fits (Some tag) p m f =

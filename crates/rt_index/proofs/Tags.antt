@@ -17,7 +17,7 @@ use Rattle.rt_index.specs.declared.parts.Tag.{Tag}
 use Rattle.rt_index.specs.Index.{side_text, may_end, tag_of, tag_end, tag_place, longest_tag, tag_index, moved_from}
 use Rattle.rt_index.specs.Expression.{tag_after, longest_named, listed_place}
 use Rattle.rt_index.specs.Reading.{is_separator, token_length, modifiers_of}
-use Rattle.rt_index.specs.Widget.{Widget, Ends}
+use Rattle.rt_index.specs.Widget.{IndexedWidget, TagEnds}
 use Rattle.rt_index.proofs.Places.{split}
 use Rattle.rt_index.proofs.Spelling.{stops, at_least, lt_true}
 use Rattle.rt_index.proofs.Dots.{dotted, all_at}
@@ -171,7 +171,7 @@ found_at word (suc n) tag h e = by (may_end (drop (suc n) word)) (tag_of (take (
         subst P (sym s.after) (s, eb)
 
 -- what a tag's end says, listed or not
-abbrev pub named_index : Widget → List ℕ → Option Tag → Result ℕ Fault
+abbrev pub named_index : IndexedWidget → List ℕ → Option Tag → Result ℕ Fault
 named_index w word None = Err BadIndex
 named_index w word (Some tag) = moved_from w.text (listed_place tag.side (w.tags (take tag.name word))) (modifiers_of (drop (tag_after tag) word))
 
@@ -180,7 +180,7 @@ bad text None = refl
 bad text (Some ms) = refl
 
 -- a shorter end says nothing
-lower : (w : Widget) (word : List ℕ) (tag : Tag) (last n : ℕ) → Stands word tag last → n < last → tag_index w word (longest_tag w word n) ≡ Err BadIndex
+lower : (w : IndexedWidget) (word : List ℕ) (tag : Tag) (last n : ℕ) → Stands word tag last → n < last → tag_index w word (longest_tag w word n) ≡ Err BadIndex
 lower w word tag last zero s h = refl
 lower w word tag last (suc n) s h =
     by (may_end (drop (suc n) word)) (tag_end w (take (suc n) word)) refl (lower w word tag last n s (omega arith))
@@ -192,11 +192,11 @@ lower w word tag last (suc n) s h =
     by true (Some place) e ih = ap (moved_from w.text place) (blocked word tag last (suc n) s h e)
 
 -- the two searches say the same
-pub agree : (w : Widget) (word : List ℕ) (n : ℕ) → n ≤ length word → tag_index w word (longest_tag w word n) ≡ named_index w word (longest_named word n)
+pub agree : (w : IndexedWidget) (word : List ℕ) (n : ℕ) → n ≤ length word → tag_index w word (longest_tag w word n) ≡ named_index w word (longest_named word n)
 agree w word zero h = refl
 agree w word (suc n) h = by (may_end (drop (suc n) word)) (tag_of (take (suc n) word)) refl refl (agree w word n (omega arith))
   where
-    listed : (tag : Tag) (o : Option (Option Ends)) → Stands word tag (suc n) → w.tags (take tag.name word) ≡ o
+    listed : (tag : Tag) (o : Option (Option TagEnds)) → Stands word tag (suc n) → w.tags (take tag.name word) ≡ o
         → tag_index w word (option_or (option_map (λ place. (place, suc n)) (option_map (tag_place tag.side) o)) (longest_tag w word n))
         ≡ moved_from w.text (listed_place tag.side o) (modifiers_of (drop (tag_after tag) word))
     listed tag None s e = lower w word tag (suc n) n s (omega arith) ∙ sym (bad w.text (modifiers_of (drop (tag_after tag) word)))

@@ -14,7 +14,7 @@ use Rattle.rt_index.specs.declared.parts.Base.{Base}
 use Rattle.rt_index.specs.declared.parts.Base.TheVariants.{AtPlace, Named}
 use Rattle.rt_index.specs.declared.parts.TheConstants.{MOST}
 use Rattle.rt_index.specs.Index.{fixed_place, side_text, may_end, tag_of, tag_place, moved_from, index_of}
-use Rattle.rt_index.specs.Widget.{Widget, Ends, IsProper}
+use Rattle.rt_index.specs.Widget.{IndexedWidget, TagEnds, IsProper}
 
 -- a number as it is kept
 abbrev pub kept : ℕ → ℕ
@@ -49,7 +49,7 @@ named_after token None = token
 named_after token (Some tag) = tag_after tag
 
 -- where a tag begins or ends, if it is listed
-abbrev pub listed_place : Side → Option (Option Ends) → Result ℕ Fault
+abbrev pub listed_place : Side → Option (Option TagEnds) → Result ℕ Fault
 listed_place side None = Err BadIndex
 listed_place side (Some ends) = tag_place side ends
 
@@ -59,7 +59,7 @@ marked_place fits None otherwise = otherwise
 marked_place fits (Some place) otherwise = if fits then Ok place else Err BadIndex
 
 -- what a base says
-abbrev pub base_index : Widget → List ℕ → Base → Result ℕ Fault
+abbrev pub base_index : IndexedWidget → List ℕ → Base → Result ℕ Fault
 base_index w word (AtPlace fixed) = Ok (fixed_place w.text fixed)
 base_index w word (Named token fits None) = marked_place fits (w.marks (take token word)) (Err BadIndex)
 base_index w word (Named token fits (Some tag)) = marked_place fits (w.marks (take token word)) (listed_place tag.side (w.tags (take tag.name word)))
@@ -82,4 +82,4 @@ AreNames word (Named token fits (Some tag)) = IsCharBoundary word token × IsCha
 -- parts that say what the word says
 pub record IsParsed (word : List ℕ) (base : Base) (modifiers : List Modifier) : Type 0 where
   pub names : AreNames word base
-  pub same : (w : Widget) → IsProper w → index_of w word ≡ moved_from w.text (base_index w word base) (Some modifiers)
+  pub same : (w : IndexedWidget) → IsProper w → index_of w word ≡ moved_from w.text (base_index w word base) (Some modifiers)

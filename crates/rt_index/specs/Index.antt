@@ -12,7 +12,7 @@ use Rattle.rt_index.specs.declared.parts.Side.{Side}
 use Rattle.rt_index.specs.declared.parts.Side.TheVariants.{First, Last}
 use Rattle.rt_index.specs.Reading.{is_separator, token_length, fixed_of, modifiers_of}
 use Rattle.rt_index.specs.Values.{character_place, line_end_place, all_moved}
-use Rattle.rt_index.specs.Widget.{Widget, Ends, IsProper}
+use Rattle.rt_index.specs.Widget.{IndexedWidget, TagEnds, IsProper}
 
 -- the place of a position, or of `end`
 abbrev pub fixed_place : List ℕ → Fixed → ℕ
@@ -21,19 +21,19 @@ fixed_place text (LineEndOf line) = line_end_place text line
 fixed_place text End = length text
 
 -- the token of a word is tried as a position, then as `end`, then as a mark
-abbrev pub token_place : Widget → List ℕ → Option ℕ
+abbrev pub token_place : IndexedWidget → List ℕ → Option ℕ
 token_place w token = option_or (option_map (fixed_place w.text) (fixed_of token)) (w.marks token)
 
 abbrev pub side_text : Side → List ℕ
 side_text First = codes ".first"
 side_text Last = codes ".last"
 
-abbrev pub side_of : Side → Ends → ℕ
+abbrev pub side_of : Side → TagEnds → ℕ
 side_of First ends = ends.first
 side_of Last ends = ends.last
 
 -- where a listed tag begins or ends; NoneTagged where no character has it
-abbrev pub tag_place : Side → Option Ends → Result ℕ Fault
+abbrev pub tag_place : Side → Option TagEnds → Result ℕ Fault
 tag_place side None = Err NoneTagged
 tag_place side (Some ends) = Ok (side_of side ends)
 
@@ -45,7 +45,7 @@ tag_of text =
     else None
 
 -- the end of a listed tag that a text is
-abbrev pub tag_end : Widget → List ℕ → Option (Result ℕ Fault)
+abbrev pub tag_end : IndexedWidget → List ℕ → Option (Result ℕ Fault)
 tag_end w text = option_and_then (λ tag. option_map (tag_place tag.side) (w.tags (take tag.name text))) (tag_of text)
 
 -- whether a base may end before a text: at the word's end, a space, `+` or `-`
@@ -54,7 +54,7 @@ may_end [] = true
 may_end (c ∷ text) = is_separator c
 
 -- the end of a listed tag that is spelled by the longest front of the word, of at most n bytes, and how many bytes that has
-abbrev pub longest_tag : Widget → List ℕ → ℕ → Option (Result ℕ Fault × ℕ)
+abbrev pub longest_tag : IndexedWidget → List ℕ → ℕ → Option (Result ℕ Fault × ℕ)
 longest_tag w word zero = None
 longest_tag w word (suc n) =
     option_or
@@ -68,23 +68,23 @@ moved_from text (Err fault) (Some ms) = Err fault
 moved_from text (Ok place) (Some ms) = Ok (all_moved text place ms)
 
 -- with a tag as its base
-abbrev pub tag_index : Widget → List ℕ → Option (Result ℕ Fault × ℕ) → Result ℕ Fault
+abbrev pub tag_index : IndexedWidget → List ℕ → Option (Result ℕ Fault × ℕ) → Result ℕ Fault
 tag_index w word None = Err BadIndex
 tag_index w word (Some found) = moved_from w.text found.0 (modifiers_of (drop found.1 word))
 
 -- the place of a word whose token has a place, or none
-abbrev pub word_index : Widget → List ℕ → Option ℕ → Result ℕ Fault
+abbrev pub word_index : IndexedWidget → List ℕ → Option ℕ → Result ℕ Fault
 word_index w word (Some place) = moved_from w.text (Ok place) (modifiers_of (drop (token_length word) word))
 word_index w word None = tag_index w word (longest_tag w word (length word))
 
 -- the place of a word: by its token, and else by the longest front that is the end of a listed tag
-abbrev pub index_of : Widget → List ℕ → Result ℕ Fault
+abbrev pub index_of : IndexedWidget → List ℕ → Result ℕ Fault
 index_of w word = word_index w word (token_place w (take (token_length word) word))
 
 -- BadIndex whatever marks and tags there are
 abbrev pub IsHopeless : List ℕ → Type 0
-IsHopeless word = (w : Widget) → IsProper w → index_of w word ≡ Err BadIndex
+IsHopeless word = (w : IndexedWidget) → IsProper w → index_of w word ≡ Err BadIndex
 
 -- some widget has a place for it, or only lacks a character with its tag
 abbrev pub IsHopeful : List ℕ → Type 0
-IsHopeful word = (w : Widget) × IsProper w × (index_of w word ≢ Err BadIndex)
+IsHopeful word = (w : IndexedWidget) × IsProper w × (index_of w word ≢ Err BadIndex)

@@ -4,10 +4,10 @@ ghost use Rattle.rt_stamps.specs.Places.{newlines, line_of, line_start};
 
 /// A widget as index expressions see it. No call takes memory.
 pub trait Ground {
-    ghost use Rattle.rt_index.specs.Widget.{Widget, IsProper, tag_first, tag_last};
+    ghost use Rattle.rt_index.specs.Widget.{IndexedWidget, IsProper, tag_first, tag_last};
 
     /// Its characters, its marks and the ends of its tags.
-    ghost widget: { Self → Widget };
+    ghost widget: { Self → IndexedWidget };
 
     /// How many characters there are. The last is a newline.
     fn len(&self) -> usize

@@ -6,7 +6,7 @@ ghost use Rattle.rt_index.specs.declared.parts.Modifier.{Modifier};
 ghost use Rattle.rt_index.specs.Grammar.{IsFixed, AreModifiers};
 ghost use Rattle.rt_index.specs.Reading.{fixed_of, modifiers_of};
 ghost use Rattle.rt_index.specs.Index.{index_of};
-ghost use Rattle.rt_index.specs.Widget.{Widget, IsProper};
+ghost use Rattle.rt_index.specs.Widget.{IndexedWidget, IsProper};
 
 /// What is read from the left is what the grammar spells.
 pub fn grammar()
@@ -16,5 +16,5 @@ pub fn grammar()
 
 /// The `LINE.CHARACTER` that is written for a place names that place.
 pub fn printed_place()
-    ensures { (w : Widget) (place : ℕ) → IsProper w → place ≤ length w.text → index_of w (text_of_position (position_at w.text place)) ≡ Ok place }
+    ensures { (w : IndexedWidget) (place : ℕ) → IsProper w → place ≤ length w.text → index_of w (text_of_position (position_at w.text place)) ≡ Ok place }
 {}

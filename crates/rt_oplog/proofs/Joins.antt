@@ -5,7 +5,7 @@ use Rattle.std.specs.List.{list_any}
 use Rattle.rt_stamps.specs.declared.fault.Fault.{Fault}
 use Rattle.rt_stamps.specs.declared.fault.Fault.TheVariants.{Conflict}
 use Rattle.rt_stamps.specs.Stamps.{is_before, is_same}
-use Rattle.rt_oplog.specs.Operations.{Operation, stamp_of, last_count, has_bad_stamp}
+use Rattle.rt_ops.specs.Operations.{Operation, stamp_of, last_count, has_bad_stamp}
 use Rattle.rt_oplog.specs.Logs.{Has, same_operation, holds, reaches_into, clash, IsFalling, IsLog, with_operation, known_end, added, union, has_clash, IsUnion, HasClashOf, joined, joins}
 use Rattle.rt_oplog.proofs.Sets.{split, operation_true, clash_self, clash_sym, last_ge, apart, has_with, held_from, added_has, has_union, union_has, none_at, clash_in, clash_from, free_from, falling_with, same_set}
 

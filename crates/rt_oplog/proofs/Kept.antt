@@ -9,7 +9,7 @@ use Rattle.rt_stamps.specs.Stamps.{is_before}
 use Rattle.rt_stamps.proofs.Order.{before_irrefl}
 use Rattle.rt_oplog.specs.declared.ends.SiteEnd.{SiteEnd}
 use Rattle.rt_oplog.specs.Ends.{end_in}
-use Rattle.rt_oplog.specs.Operations.{Operation, stamp_of}
+use Rattle.rt_ops.specs.Operations.{Operation, stamp_of}
 use Rattle.rt_oplog.specs.Logs.{HasClashOf, Has, clash, IsFalling, IsLog, known_end, joined}
 use Rattle.rt_oplog.specs.Kept.{op_at, newest_first, leading, IsKept}
 use Rattle.rt_oplog.specs.Merged.{IsMerged}

@@ -5,7 +5,7 @@ use Rattle.std.proofs.lemmas.Option.{slice_get-get_or}
 use Rattle.std.specs.List.{list_any}
 use Rattle.rt_stamps.specs.declared.fault.Fault.{Fault}
 use Rattle.rt_stamps.specs.declared.fault.Fault.TheVariants.{NoMemory}
-use Rattle.rt_oplog.specs.Operations.{Operation, has_bad_stamp}
+use Rattle.rt_ops.specs.Operations.{Operation, has_bad_stamp}
 use Rattle.rt_oplog.specs.Logs.{Has, IsLog, holds, clash, with_operation, pushed}
 use Rattle.rt_oplog.specs.Kept.{nothing, op_at}
 use Rattle.rt_oplog.specs.Outcomes.{IsLogOf, MakesLog}

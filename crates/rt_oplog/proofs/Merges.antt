@@ -6,7 +6,7 @@ use Rattle.rt_stamps.specs.Stamps.{is_before}
 use Rattle.rt_stamps.proofs.Order.{before_trans, before_irrefl}
 use Rattle.rt_oplog.specs.declared.ends.SiteEnd.{SiteEnd}
 use Rattle.rt_oplog.specs.Ends.{end_in}
-use Rattle.rt_oplog.specs.Operations.{Operation, stamp_of, has_bad_stamp, last_count}
+use Rattle.rt_ops.specs.Operations.{Operation, stamp_of, has_bad_stamp, last_count}
 use Rattle.rt_oplog.specs.Logs.{HasClashOf, Has, same_operation, reaches_into, clash, IsFalling, IsLog, known_end}
 use Rattle.rt_oplog.specs.Kept.{op_at, newest_first, IsKept}
 use Rattle.rt_oplog.proofs.Sets.{split, operation_true, clash_self, clash_sym, member_before}

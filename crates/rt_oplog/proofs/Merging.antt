@@ -5,7 +5,7 @@ use Rattle.std.proofs.Math.Seq.{get_or-append_seam}
 use Rattle.std.specs.List.{AllByRecursion, range_with_len}
 use Rattle.rt_stamps.specs.Stamps.{is_before}
 use Rattle.rt_stamps.proofs.Order.{before_total}
-use Rattle.rt_oplog.specs.Operations.{Operation, stamp_of}
+use Rattle.rt_ops.specs.Operations.{Operation, stamp_of}
 use Rattle.rt_oplog.specs.Logs.{HasClashOf, same_operation, clash, IsFalling, IsLog}
 use Rattle.rt_oplog.specs.Kept.{nothing, op_at, newest_first}
 use Rattle.rt_oplog.specs.Merged.{IsMerged}

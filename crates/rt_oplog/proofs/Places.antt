@@ -11,7 +11,7 @@ use Rattle.rt_stamps.specs.Stamps.{is_before, is_same}
 use Rattle.rt_stamps.proofs.Order.{before_trans, differ}
 use Rattle.rt_oplog.specs.declared.ends.SiteEnd.{SiteEnd}
 use Rattle.rt_oplog.specs.Ends.{end_in}
-use Rattle.rt_oplog.specs.Operations.{Operation, stamp_of, has_bad_stamp}
+use Rattle.rt_ops.specs.Operations.{Operation, stamp_of, has_bad_stamp}
 use Rattle.rt_oplog.specs.Logs.{Has, same_operation, holds, clash, IsFalling, IsLog, with_operation, known_end}
 use Rattle.rt_oplog.specs.Kept.{nothing, op_at, newest_first, leading, IsKept}
 use Rattle.rt_oplog.proofs.Sets.{split, operation_true, none_from}

@@ -6,7 +6,7 @@ use Rattle.std.specs.List.{list_any}
 use Rattle.rt_stamps.specs.declared.limits.TheConstants.{GREATEST_COUNT}
 use Rattle.rt_stamps.specs.declared.fault.Fault.{Fault}
 use Rattle.rt_stamps.specs.declared.fault.Fault.TheVariants.{BadStamp, Conflict}
-use Rattle.rt_oplog.specs.Operations.{Operation, last_count, has_bad_stamp, soundness}
+use Rattle.rt_ops.specs.Operations.{Operation, last_count, has_bad_stamp, soundness}
 use Rattle.rt_oplog.specs.Logs.{holds, clash, with_operation, pushed}
 use Rattle.rt_oplog.proofs.Sets.{split}
 

@@ -7,16 +7,16 @@ use Rattle.std.proofs.lemmas.List.{reverse-append, take_all, take_more, length-r
 use Rattle.std.proofs.lemmas.Option.{slice_get_within, get_or_from_slice_get}
 use Rattle.rt_stamps.specs.declared.fault.Fault.{Fault}
 use Rattle.rt_stamps.specs.Stamps.{is_before}
-use Rattle.rt_oplog.specs.Operations.{Operation, stamp_of}
-use Rattle.rt_oplog.specs.Rules.{each_next}
-use Rattle.rt_oplog.specs.File.{spelling, HasRecord}
-use Rattle.rt_oplog.specs.Reading.{offsets_from, Reads}
+use Rattle.rt_ops.specs.Operations.{Operation, stamp_of}
+use Rattle.rt_ops.specs.Rules.{each_next}
+use Rattle.rt_ops.specs.File.{spelling, HasRecord}
+use Rattle.rt_ops.specs.Reading.{offsets_from, Reads}
 use Rattle.rt_oplog.specs.Logs.{Has, holds, clash, IsFalling, IsLog}
 use Rattle.rt_oplog.specs.Outcomes.{IsLogOf, IsFirstRefused}
 use Rattle.rt_oplog.proofs.Sets.{split, none_from, same_set, member_before}
 use Rattle.rt_oplog.proofs.Merges.{has_end, end_has}
-use Rattle.rt_oplog.proofs.Readings.{all_push, in_file_none}
-use Rattle.rt_oplog.proofs.Unique.{spelled_is_read}
+use Rattle.rt_ops.proofs.Readings.{all_push, in_file_none}
+use Rattle.rt_ops.proofs.Unique.{spelled_is_read}
 
 reverse_cons : (op : Operation) (older : List Operation) → reverse (op ∷ older) ≡ reverse older ++ op ∷ []
 reverse_cons op older = reverse-append (op ∷ []) older

@@ -9,7 +9,7 @@ use Rattle.rt_stamps.specs.declared.stamp.Span.{Span}
 use Rattle.rt_stamps.specs.declared.stamp.Stamp.{Stamp}
 use Rattle.rt_stamps.specs.Stamps.{is_before, is_same}
 use Rattle.rt_stamps.proofs.Order.{before_trans, before_irrefl, before_total, same_refl, same_from_true}
-use Rattle.rt_oplog.specs.Operations.{Name, Body, Insert, Delete, Tag, Operation, stamp_of, last_of, has_bad_stamp}
+use Rattle.rt_ops.specs.Operations.{Name, Body, Insert, Delete, Tag, Operation, stamp_of, last_of, has_bad_stamp}
 use Rattle.rt_oplog.specs.Logs.{Has, same_bool, same_span, same_body, same_operation, holds, reaches_into, clash, IsFalling, with_operation, added, union, has_clash}
 
 pub split : {A : Type 0} (b : Bool) → (b ≡ true → A) → (b ≡ false → A) → A

@@ -2,7 +2,7 @@
 use Rattle.std.specs.Prelude.{◌≡◌, ℕ, suc, ◌<◌, Bool, List, [], ◌∷◌, ◌++◌, length, slice_index_or, if◌then◌else◌}
 use Rattle.std.specs.List.{AllByRecursion}
 use Rattle.rt_oplog.specs.declared.ends.SiteEnd.{SiteEnd}
-use Rattle.rt_oplog.specs.Operations.{Operation, Delete}
+use Rattle.rt_ops.specs.Operations.{Operation, Delete}
 use Rattle.rt_oplog.specs.Logs.{IsLog, known_end}
 use Rattle.rt_oplog.specs.Ends.{end_in}
 

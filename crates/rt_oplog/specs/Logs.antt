@@ -8,7 +8,7 @@ use Rattle.rt_stamps.specs.declared.stamp.Span.{Span}
 use Rattle.rt_stamps.specs.declared.fault.Fault.{Fault}
 use Rattle.rt_stamps.specs.declared.fault.Fault.TheVariants.{BadStamp, Conflict}
 use Rattle.rt_stamps.specs.Stamps.{is_before, is_same}
-use Rattle.rt_oplog.specs.Operations.{Body, Insert, Delete, Tag, Operation, stamp_of, last_count, has_bad_stamp}
+use Rattle.rt_ops.specs.Operations.{Body, Insert, Delete, Tag, Operation, stamp_of, last_count, has_bad_stamp}
 
 -- the set has the operation
 abbrev pub Has : List Operation → Operation → Type 0

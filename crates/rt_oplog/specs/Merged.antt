@@ -1,7 +1,7 @@
 -- Two logs, merged.
 use Rattle.std.specs.Prelude.{◌↔◌, ℕ, ◌<◌, ◌⊎◌, List, length}
 use Rattle.std.specs.List.{AllByRecursion}
-use Rattle.rt_oplog.specs.Operations.{Operation}
+use Rattle.rt_ops.specs.Operations.{Operation}
 use Rattle.rt_oplog.specs.Logs.{Has, IsFalling}
 use Rattle.rt_oplog.specs.Kept.{newest_first}
 

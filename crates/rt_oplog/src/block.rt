@@ -2,7 +2,7 @@
 ghost use Rattle.std.specs.Prelude.{◌≡◌, ◌+◌, ◌-◌, ◌<◌, ◌≤◌, [], ◌∷◌, ◌++◌, length, slice_index_or, vec_len, vec_capacity};
 ghost use Rattle.std.specs.List.{insert};
 ghost use Rattle.rt_stamps.specs.Stamps.{is_before};
-ghost use Rattle.rt_oplog.specs.Operations.{stamp_of};
+ghost use Rattle.rt_ops.specs.Operations.{stamp_of};
 ghost use Rattle.rt_oplog.specs.Logs.{IsFalling};
 ghost use Rattle.rt_oplog.specs.Kept.{op_at, newest_first, leading};
 ghost use Rattle.rt_oplog.specs.Spares.{IsSpare};

@@ -3,7 +3,7 @@ ghost use Rattle.std.specs.Prelude.{◌≡◌, ◌+◌, ◌-◌, ◌<◌, ◌≤
 ghost use Rattle.std.specs.Bool.{OnTrue, OnFalse};
 ghost use Rattle.std.specs.List.{insert};
 ghost use Rattle.rt_stamps.specs.Stamps.{is_before};
-ghost use Rattle.rt_oplog.specs.Operations.{stamp_of};
+ghost use Rattle.rt_ops.specs.Operations.{stamp_of};
 ghost use Rattle.rt_oplog.specs.Logs.{IsFalling};
 ghost use Rattle.rt_oplog.specs.Kept.{op_at, newest_first, leading};
 ghost use Rattle.rt_oplog.specs.declared.block.Block.{Block};

@@ -3,7 +3,7 @@ ghost use Rattle.std.specs.Prelude.{◌≡◌, ℕ, ◌+◌, ◌-◌, ◌<◌, �
 ghost use Rattle.std.specs.List.{AllByRecursion, list_any};
 ghost use Rattle.rt_stamps.specs.declared.fault.Fault.TheVariants.{NoMemory};
 ghost use Rattle.rt_stamps.specs.Stamps.{is_before};
-ghost use Rattle.rt_oplog.specs.Operations.{stamp_of, has_bad_stamp};
+ghost use Rattle.rt_ops.specs.Operations.{stamp_of, has_bad_stamp};
 ghost use Rattle.rt_oplog.specs.Logs.{IsLog, IsFalling, holds, same_operation, clash, known_end, pushed};
 ghost use Rattle.rt_oplog.specs.Kept.{op_at, newest_first, IsKept};
 ghost use Rattle.rt_oplog.specs.Blocks.{in_blocks};

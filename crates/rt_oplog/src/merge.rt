@@ -3,15 +3,16 @@ ghost use Rattle.std.specs.Prelude.{◌≡◌, ℕ, ◌<◌, ◌⊎◌, [], ◌�
 ghost use Rattle.std.specs.List.{AllByRecursion, range_with_len};
 ghost use Rattle.rt_stamps.specs.declared.fault.Fault.TheVariants.{NoMemory, Conflict};
 ghost use Rattle.rt_stamps.specs.Stamps.{is_before};
-ghost use Rattle.rt_oplog.specs.Operations.{Operation, stamp_of, has_bad_stamp};
+ghost use Rattle.rt_stamps.specs.declared.stamp.TheConstants.{ROOT};
+ghost use Rattle.rt_ops.specs.Operations.{Insert, Operation, stamp_of, has_bad_stamp};
 ghost use Rattle.rt_oplog.specs.Logs.{HasClashOf, Has, IsLog, IsFalling, same_operation};
 ghost use Rattle.rt_oplog.specs.Kept.{op_at, newest_first, IsKept};
 ghost use Rattle.rt_oplog.specs.Merged.{IsMerged};
 
-use crate::Op;
 use crate::ends::Ends;
 use crate::same::is_same;
-use rt_stamps::{Fault, Stamp};
+use crate::{Edit, Op, Text};
+use rt_stamps::{FINAL, Fault, ROOT, Stamp};
 use std::alloc::Global;
 use std::mem;
 
@@ -49,6 +50,18 @@ fn exchange(ops: &mut [Op], place: usize, op: Op) -> Op
     mem::replace(&mut ops[place], op)
 }
 
+/// An operation that takes no memory, to stand where another was taken out.
+fn stand_in(alloc: Global) -> Op
+    ensures { result ≡ record { count = 1; site = 0; prev = 0; body = Insert ROOT [] (120 ∷ []) } }
+{
+    let edit = Edit::Insert {
+        after: ROOT,
+        tags: Vec::new(alloc),
+        text: Text::of('x'),
+    };
+    Op::of(FINAL, 0, edit)
+}
+
 /// Moves the operation of a place behind others, and names its new place.
 fn take_over(
     alloc: Global,
@@ -65,7 +78,7 @@ fn take_over(
     ensures fault { IfErr result (λ fault. fault ≡ NoMemory) }
 {
     order.push(ops.len())?;
-    let op = exchange(more, place, Op::stand_in(alloc));
+    let op = exchange(more, place, stand_in(alloc));
     ops.push(op)?;
     Ok(())
 }

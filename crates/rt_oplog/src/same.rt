@@ -3,8 +3,8 @@ ghost use Rattle.std.specs.Prelude.{◌≡◌, ℕ, ◌≤◌, false, map, strin
 ghost use Rattle.std.specs.Cmp.Lexicographic.{pointwise};
 ghost use Rattle.std.specs.Str.{bytes_eq};
 ghost use Rattle.rt_stamps.specs.declared.limits.TheConstants.{GREATEST_COUNT};
-ghost use Rattle.rt_oplog.specs.Operations.{last_count, has_bad_stamp};
-ghost use Rattle.rt_oplog.specs.Edits.{body_of};
+ghost use Rattle.rt_ops.specs.Operations.{last_count, has_bad_stamp};
+ghost use Rattle.rt_ops.specs.Edits.{body_of};
 ghost use Rattle.rt_oplog.specs.Logs.{same_span, same_body, same_operation, reaches_into, clash};
 
 use crate::{Edit, Op};

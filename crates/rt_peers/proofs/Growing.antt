@@ -26,8 +26,8 @@ use Rattle.rt_text.specs.Commands.{with_tag_in, with_tags_deleted}
 use Rattle.rt_text.specs.Index.{place_at_index}
 use Rattle.rt_text.specs.Ranges.{ranges_of}
 use Rattle.rt_text.specs.Widgets.{Viewed, own_mark_of, places_in_text, widget_of, with_marks, with_tags}
-use Rattle.rt_recorder.specs.Recordings.{Recording}
-use Rattle.rt_recorder.specs.Settled.{IsSettled}
+use Rattle.rt_editing.specs.Recordings.{Recording}
+use Rattle.rt_editing.specs.Settled.{IsSettled}
 use Rattle.rt_editing.specs.Noting.{IsOfLog}
 use Rattle.rt_editing.proofs.Growing.{Grows, grows_drafts, grows_same}
 use Rattle.rt_editing.proofs.Noted.{settled_same}

@@ -10,8 +10,8 @@ use Rattle.rt_stamps.specs.Words.{Word}
 use Rattle.rt_requests.specs.declared.options.Settings.{Settings}
 use Rattle.rt_peer_requests.specs.declared.settings.WidgetSettings.{WidgetSettings}
 use Rattle.rt_editing.specs.Edited.{Edited}
-use Rattle.rt_recorder.specs.Recordings.{Recording}
-use Rattle.rt_recorder.specs.Settled.{IsSettled, is_gone}
+use Rattle.rt_editing.specs.Recordings.{Recording}
+use Rattle.rt_editing.specs.Settled.{IsSettled, is_gone}
 use Rattle.rt_text.specs.Limited.{limited, new_peer, with_limits, with_new_peer, with_peer}
 use Rattle.rt_text.specs.Widgets.{Viewed}
 use Rattle.rt_views.specs.declared.choice.Choice.{Choice}

@@ -13,7 +13,7 @@ use Rattle.rt_stamps.specs.Places.{text_of_position}
 use Rattle.rt_stamps.specs.Words.{Word}
 use Rattle.rt_marks.specs.declared.gravity.Gravity.{Gravity}
 use Rattle.rt_marks.specs.Marks.{without_all}
-use Rattle.rt_oplog.specs.Operations.{Operation}
+use Rattle.rt_ops.specs.Operations.{Operation}
 use Rattle.rt_rga.specs.Answers.{Answer, New, Repeat, Refused}
 use Rattle.rt_requests.specs.declared.request.EditRequest.{EditRequest}
 use Rattle.rt_requests.specs.declared.request.EditRequest.TheVariants as edits
@@ -25,10 +25,10 @@ use Rattle.rt_requests.specs.declared.request.TagRequest.{TagRequest}
 use Rattle.rt_requests.specs.declared.request.TagRequest.TheVariants as tags
 use Rattle.rt_requests.specs.Parts.{all_of}
 use Rattle.rt_tags.specs.Tags.{lowered, raised, sel}
-use Rattle.rt_dump.specs.Dumping.{dumped}
+use Rattle.rt_queries.specs.Dumping.{dumped}
 use Rattle.rt_edits.specs.declared.range.Range.{Range}
 use Rattle.rt_edits.specs.Insertions.{Piece}
-use Rattle.rt_searchcmd.specs.SearchCommand.{searched}
+use Rattle.rt_queries.specs.SearchCommand.{searched}
 use Rattle.rt_store.specs.Shown.{TaggedCell}
 use Rattle.rt_tagcmd.specs.MarkCommands.{set_at, with_gravity}
 use Rattle.rt_tagcmd.specs.TagCommands.{tag_written}
@@ -42,13 +42,13 @@ use Rattle.rt_undo.specs.declared.action.Kind.{Kind}
 use Rattle.rt_undo.specs.declared.action.Kind.TheVariants as kinds
 use Rattle.rt_undo.specs.Actions.{Action}
 use Rattle.rt_undo.specs.Undo.{History, next_redo, next_undo, redo_done, undo_done}
-use Rattle.rt_recorder.specs.Reversals.{redone, reverted_by, undone}
+use Rattle.rt_editing.specs.Reversals.{redone, reverted_by, undone}
 use Rattle.rt_editing.specs.Edited.{Edited}
 use Rattle.rt_editing.specs.Edits.{lost_between, lost_from, recorded_edit, text_after, text_deleted, text_inserted, text_replaced}
 use Rattle.rt_editing.specs.Reverts.{text_redone, text_undone, with_history}
 use Rattle.rt_editing.proofs.Outcomes.{given}
-use Rattle.rt_exchange.specs.declared.receiving.Received.{Received}
-use Rattle.rt_exchange.specs.Receiving.{Offers, Receives}
+use Rattle.rt_editing.specs.declared.receiving.Received.{Received}
+use Rattle.rt_editing.specs.Receiving.{Offers, Receives}
 use Rattle.rt_peers.specs.Step.{edit_step, on_view, step}
 use Rattle.rt_peers.specs.ViewStep.{Outcome, as_piece, changed_step, element_words, get_step, mark_step, one_word, tag_step, text_of_bool, told_step}
 

@@ -9,7 +9,7 @@ use Rattle.rt_stamps.specs.Words.{Word}
 use Rattle.rt_text.specs.Commands.{got_list}
 use Rattle.rt_text.specs.Widgets.{Viewed}
 use Rattle.rt_editing.specs.Edited.{Edited, edited}
-use Rattle.rt_recorder.specs.Recordings.{Recording}
+use Rattle.rt_editing.specs.Recordings.{Recording}
 use Rattle.rt_peers.specs.Step.{on_view}
 use Rattle.rt_peers.specs.ViewStep.{Outcome, as_outcome, changed_step, get_step, told_step}
 

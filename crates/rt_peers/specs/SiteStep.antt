@@ -13,8 +13,8 @@ use Rattle.rt_peer_requests.specs.declared.settings.WidgetSettings.{WidgetSettin
 use Rattle.rt_peer_requests.specs.PeerWords.{asked_of_peers}
 use Rattle.rt_peer_requests.specs.SettingWords.{asked_named_option, asked_settings}
 use Rattle.rt_editing.specs.Edited.{Edited}
-use Rattle.rt_exchange.specs.declared.receiving.Received.{Received}
-use Rattle.rt_exchange.specs.Receiving.{Receives}
+use Rattle.rt_editing.specs.declared.receiving.Received.{Received}
+use Rattle.rt_editing.specs.Receiving.{Receives}
 use Rattle.rt_peers.specs.Options.{option_outcome, option_step, settings_outcome, settings_step}
 use Rattle.rt_peers.specs.PeerStep.{peer_outcome, peer_step}
 use Rattle.rt_peers.specs.State.{State, place_of}

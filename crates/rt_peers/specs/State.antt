@@ -4,7 +4,7 @@ use Rattle.std.specs.List.{position}
 use Rattle.std.specs.Str.{bytes_eq}
 use Rattle.rt_stamps.specs.Words.{Word}
 use Rattle.rt_oplog.specs.Logs.{Has}
-use Rattle.rt_oplog.specs.Operations.{Operation}
+use Rattle.rt_ops.specs.Operations.{Operation}
 use Rattle.rt_edits.specs.Flat.{new_flat}
 use Rattle.rt_editing.specs.Edited.{Edited}
 use Rattle.rt_text.specs.Widgets.{Viewed, new_own}

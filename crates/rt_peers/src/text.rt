@@ -13,7 +13,7 @@ mod undoing;
 
 use crate::reply::Reply;
 use crate::viewer::Viewer;
-use rt_recorder::Recorder;
+use rt_editing::Recorder;
 use rt_requests::Request;
 use rt_stamps::{Fault, Site};
 use std::alloc::Global;
@@ -39,7 +39,7 @@ impl Drop for EditedText {
 }
 
 impl Model for EditedText {
-    ghost use Rattle.rt_recorder.specs.Settled.{IsSettled};
+    ghost use Rattle.rt_editing.specs.Settled.{IsSettled};
     ghost use Rattle.rt_editing.specs.Edited.{Edited, edited};
 
     ghost Value = { Edited };

@@ -5,7 +5,7 @@ use Rattle.rt_stamps.specs.declared.limits.TheConstants.{MOST_SPANS}
 use Rattle.rt_stamps.specs.declared.stamp.Stamp.{Stamp}
 use Rattle.rt_stamps.specs.Stamps.{is_same}
 use Rattle.rt_stamps.specs.Words.{Word}
-use Rattle.rt_oplog.specs.Operations.{Delete}
+use Rattle.rt_ops.specs.Operations.{Delete}
 use Rattle.rt_store.specs.declared.cell.Cell.{Cell}
 use Rattle.rt_store.specs.Cells.{after_element, cell_of, map_state, position_of, stamps_of, visible_before, visible_of}
 use Rattle.rt_store.specs.Shown.{TaggedCell}

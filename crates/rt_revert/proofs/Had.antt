@@ -5,7 +5,7 @@ use Rattle.std.proofs.lemmas.Bool.Decides.{nat_tests}
 use Rattle.rt_stamps.specs.declared.stamp.Stamp.{Stamp}
 use Rattle.rt_stamps.specs.Stamps.{is_same}
 use Rattle.rt_stamps.proofs.Order.{same_from_true}
-use Rattle.rt_oplog.specs.Operations.{stamps_from}
+use Rattle.rt_ops.specs.Operations.{stamps_from}
 use Rattle.rt_store.specs.Spans.{is_among}
 use Rattle.rt_store.proofs.Distinct.{split}
 use Rattle.rt_undo.specs.declared.action.Action.{Action as KeptAction}

@@ -5,8 +5,8 @@ use Rattle.std.specs.List.{AllByRecursion}
 use Rattle.std.specs.Str.{all_scalars}
 use Rattle.rt_stamps.specs.declared.stamp.Stamp.{Stamp}
 use Rattle.rt_stamps.specs.Stamps.{is_same}
-use Rattle.rt_oplog.specs.Operations.{Operation, Body, Insert, Delete, Tag, stamp_of}
-use Rattle.rt_oplog.specs.Rules.{are_tags, is_text, keeps_rules}
+use Rattle.rt_ops.specs.Operations.{Operation, Body, Insert, Delete, Tag, stamp_of}
+use Rattle.rt_ops.specs.Rules.{are_tags, is_text, keeps_rules}
 use Rattle.rt_tags.proofs.Sorted.{every_append}
 use Rattle.rt_store.specs.Shown.{TaggedCell}
 use Rattle.rt_store.specs.Spans.{next_stamp}

@@ -5,7 +5,7 @@ use Rattle.std.proofs.lemmas.List.{drop_more}
 use Rattle.std.proofs.lemmas.List.Folds.{list_any-append}
 use Rattle.rt_stamps.specs.declared.stamp.Span.{Span}
 use Rattle.rt_stamps.specs.declared.stamp.Stamp.{Stamp}
-use Rattle.rt_oplog.specs.Operations.{stamps_from, stamps_in, stamps_of_span}
+use Rattle.rt_ops.specs.Operations.{stamps_from, stamps_in, stamps_of_span}
 use Rattle.rt_store.specs.declared.cell.Cell.{Cell}
 use Rattle.rt_edits.specs.declared.range.Range.{Range}
 use Rattle.rt_edits.specs.Removals.{AreInOrder, is_covered, is_in}

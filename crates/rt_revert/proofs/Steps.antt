@@ -11,7 +11,7 @@ use Rattle.rt_stamps.specs.declared.stamp.TheConstants.{FINAL}
 use Rattle.rt_stamps.specs.Stamps.{is_same}
 use Rattle.rt_stamps.specs.Words.{Word}
 use Rattle.rt_stamps.proofs.Order.{same_sym}
-use Rattle.rt_oplog.specs.Operations.{Operation}
+use Rattle.rt_ops.specs.Operations.{Operation}
 use Rattle.rt_tags.proofs.Sorted.{every_append}
 use Rattle.rt_store.specs.Cells.{cell_of, stamps_of}
 use Rattle.rt_store.specs.Shown.{TaggedCell}

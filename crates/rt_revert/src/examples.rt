@@ -1,6 +1,6 @@
 // Worked examples of the definitions, each a clause that computes.
 ghost use Rattle.std.specs.Prelude.{◌≡◌, [], ◌∷◌, codes, map};
-ghost use Rattle.rt_oplog.specs.Operations.{Delete, Insert};
+ghost use Rattle.rt_ops.specs.Operations.{Delete, Insert};
 ghost use Rattle.rt_store.specs.Cells.{text_of};
 ghost use Rattle.rt_rga.specs.Examples.{at, only_t, span};
 ghost use Rattle.rt_edits.specs.Examples.{tags_of_each};

@@ -2,7 +2,7 @@
 ghost use Rattle.std.specs.Prelude.{◌≡◌, ℕ, ◌≤◌, ◌⊎◌, ◌<◌, false, IfErr, IfOk, OnOk, length, map};
 ghost use Rattle.rt_stamps.specs.declared.limits.TheConstants.{GREATEST_COUNT, MOST_CELLS};
 ghost use Rattle.rt_stamps.specs.declared.stamp.TheConstants.{FINAL};
-ghost use Rattle.rt_oplog.specs.Operations.{stamps_in};
+ghost use Rattle.rt_ops.specs.Operations.{stamps_in};
 ghost use Rattle.rt_store.specs.Spans.{gone_in_any, is_among, is_in_spans};
 ghost use Rattle.rt_undo.specs.Actions.{removed_in};
 ghost use Rattle.rt_revert.specs.Plans.{RemovedAreGiven, named_removed};

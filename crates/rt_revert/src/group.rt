@@ -2,7 +2,7 @@
 ghost use Rattle.std.specs.Prelude.{◌≡◌, ◌≤◌, ◌<◌, ◌⊎◌, ◌∷◌, [], true, IfErr, IfOk, OnOk, length, map, string_bytes};
 ghost use Rattle.std.specs.List.{AllByRecursion, list_all};
 ghost use Rattle.rt_stamps.specs.declared.limits.TheConstants.{GREATEST_COUNT, MOST_CELLS};
-ghost use Rattle.rt_oplog.specs.Rules.{is_name};
+ghost use Rattle.rt_ops.specs.Rules.{is_name};
 ghost use Rattle.rt_store.specs.Cells.{AreDistinct, final_cell};
 ghost use Rattle.rt_store.specs.Tagged.{AreStates};
 ghost use Rattle.rt_tags.specs.States.{KeepsIds};

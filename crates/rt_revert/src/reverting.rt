@@ -1,7 +1,7 @@
 // Actions that are reverted in the working copy of a text.
 ghost use Rattle.std.specs.Prelude.{◌≡◌, ◌⊎◌, ◌<◌, IfErr, IfOk, OnOk, drop, map, reverse};
 ghost use Rattle.rt_stamps.specs.declared.limits.TheConstants.{GREATEST_COUNT};
-ghost use Rattle.rt_oplog.specs.Operations.{stamps_in};
+ghost use Rattle.rt_ops.specs.Operations.{stamps_in};
 ghost use Rattle.rt_undo.specs.Actions.{action_of, group_of, removed_in};
 ghost use Rattle.rt_revert.specs.Plans.{AreGiven, RemovedAreGiven, named_action, named_group};
 ghost use Rattle.rt_revert.specs.Portions.{HasAction, HasGroup, Portion};

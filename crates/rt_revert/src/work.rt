@@ -1,7 +1,7 @@
 // The places of characters that are named by their stamps.
 ghost use Rattle.std.specs.Prelude.{◌≡◌, ℕ, ◌*◌, ◌≤◌, ◌<◌, ◌++◌, ◌||◌, List, All, IfOk, IfErr, IfSome, OnOk, Some, length};
 ghost use Rattle.rt_stamps.specs.declared.limits.TheConstants.{MOST_CELLS};
-ghost use Rattle.rt_oplog.specs.Operations.{stamps_in, stamps_of_span};
+ghost use Rattle.rt_ops.specs.Operations.{stamps_in, stamps_of_span};
 ghost use Rattle.rt_store.specs.Cells.{AreDistinct, visible_of};
 ghost use Rattle.rt_edits.specs.declared.range.Range.{Range};
 ghost use Rattle.rt_edits.specs.Removals.{AreInOrder, is_covered};

@@ -5,9 +5,9 @@ use Rattle.std.proofs.lemmas.Bool.{cases_lt}
 use Rattle.std.specs.List.{AllByRecursion, list_any, list_all}
 use Rattle.rt_stamps.specs.declared.stamp.Stamp.{Stamp}
 use Rattle.rt_stamps.specs.declared.fault.Fault.TheVariants.{BadStamp, Conflict, NotYet, BadTarget}
-use Rattle.rt_oplog.specs.Operations.{Operation, Body, Insert, Delete, Tag, last_count, named, has_bad_stamp}
+use Rattle.rt_ops.specs.Operations.{Operation, Body, Insert, Delete, Tag, last_count, named, has_bad_stamp}
 use Rattle.rt_oplog.specs.Logs.{Has, IsFalling, IsLog, clash, holds, known_end, pushed, reaches_into, same_operation, with_operation}
-use Rattle.rt_oplog.specs.Rules.{keeps_rules}
+use Rattle.rt_ops.specs.Rules.{keeps_rules}
 use Rattle.rt_oplog.proofs.Sets.{any_at, any_from, clash_self, clash_sym, has_held, held_from, none_at as no_op_at, operation_sym, same_set}
 use Rattle.rt_rga.specs.Histories.{has_character, may_name, is_known, Continues, IsHistory}
 use Rattle.rt_rga.specs.Answers.{Answer, New, Repeat, Refused, can_never_be_known, answer_to, set_after, taken, all_taken}

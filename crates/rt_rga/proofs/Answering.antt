@@ -11,7 +11,7 @@ use Rattle.rt_stamps.specs.Stamps.{is_same}
 use Rattle.rt_stamps.proofs.Order.{same_sym, same_from_true}
 use Rattle.rt_stamps.specs.declared.fault.Fault.{Fault}
 use Rattle.rt_stamps.specs.declared.fault.Fault.TheVariants.{BadStamp}
-use Rattle.rt_oplog.specs.Operations.{Operation, Body, Insert, Delete, Tag, has_bad_stamp, soundness, stamps_from, stamps_of_span, stamps_in}
+use Rattle.rt_ops.specs.Operations.{Operation, Body, Insert, Delete, Tag, has_bad_stamp, soundness, stamps_from, stamps_of_span, stamps_in}
 use Rattle.rt_oplog.specs.Logs.{known_end}
 use Rattle.rt_store.specs.declared.cell.Cell.{Cell}
 use Rattle.rt_rga.specs.Histories.{has_character, is_known, may_name}

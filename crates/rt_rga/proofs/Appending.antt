@@ -1,6 +1,6 @@
 -- Drafts after drafts.
 use Rattle.std.proofs.Common.{◌≡◌, ◌↔◌, ℕ, ◌+◌, List, [], ◌∷◌, ◌++◌, refl, ap, arith}
-use Rattle.rt_oplog.specs.Operations.{Operation, Body}
+use Rattle.rt_ops.specs.Operations.{Operation, Body}
 use Rattle.rt_oplog.specs.Logs.{with_operation}
 use Rattle.rt_store.specs.Shown.{TaggedCell}
 use Rattle.rt_rga.specs.Drafts.{all_changed, next_operation, operations_of, with_drafts}

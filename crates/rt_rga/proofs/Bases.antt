@@ -2,7 +2,7 @@
 use Rattle.std.proofs.Common.{◌≡◌, ◌↔◌, ℕ, ◌<◌, ◌≤◌, Bool, true, false, inl, inr, sym, subst, ◌∙◌, arith, List, ◌&&◌, ◌==◌, nat_le}
 use Rattle.std.proofs.lemmas.Bool.Decides.{nat_tests}
 use Rattle.std.specs.List.{list_any}
-use Rattle.rt_oplog.specs.Operations.{Operation, last_count, named}
+use Rattle.rt_ops.specs.Operations.{Operation, last_count, named}
 use Rattle.rt_oplog.specs.Logs.{Has, clash, holds, reaches_into, same_operation}
 use Rattle.rt_oplog.proofs.Sets.{has_held, operation_true}
 use Rattle.rt_rga.specs.Reading.{has_stamp}

@@ -5,9 +5,9 @@ use Rattle.std.specs.List.{AllByRecursion, list_all}
 use Rattle.rt_stamps.specs.declared.stamp.Stamp.{Stamp}
 use Rattle.rt_stamps.specs.Stamps.{is_before}
 use Rattle.rt_rga.specs.Reading.{has_stamp}
-use Rattle.rt_oplog.specs.Operations.{Operation, stamp_of, last_count, named, has_bad_stamp}
+use Rattle.rt_ops.specs.Operations.{Operation, stamp_of, last_count, named, has_bad_stamp}
 use Rattle.rt_oplog.specs.Logs.{IsFalling, known_end}
-use Rattle.rt_oplog.specs.Rules.{keeps_rules}
+use Rattle.rt_ops.specs.Rules.{keeps_rules}
 use Rattle.rt_rga.specs.Histories.{inserted, has_character, is_known, IsHistory}
 use Rattle.rt_rga.specs.Sites.{of_site, last_count_of_newest, IsChain, IsHistoryBySites}
 use Rattle.rt_rga.proofs.Accepting.{falling}

@@ -2,7 +2,7 @@
 use Rattle.std.proofs.Common.{◌≡◌, ℕ, suc, ◌+◌, refl, ap, ◌∙◌, List, [], ◌∷◌, length}
 use Rattle.rt_stamps.specs.declared.stamp.Stamp.{Stamp}
 use Rattle.rt_store.specs.declared.cell.Cell.{Cell}
-use Rattle.rt_oplog.specs.Operations.{Operation, Insert, Name, stamp_of}
+use Rattle.rt_ops.specs.Operations.{Operation, Insert, Name, stamp_of}
 use Rattle.rt_store.proofs.Places.{length_from, length_put}
 use Rattle.rt_store.specs.Cells.{cells_from, put_at}
 use Rattle.rt_rga.specs.Histories.{characters_from, inserted, inserted_by}

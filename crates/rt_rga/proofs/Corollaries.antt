@@ -15,8 +15,8 @@ use Rattle.rt_stamps.proofs.Order.{differ, same_refl, same_sym, same_from_true}
 use Rattle.rt_tags.specs.States.{Write, above, below, is_settled, write_of, written}
 use Rattle.rt_tags.specs.Writers.{listed_by, state_after}
 use Rattle.rt_tags.proofs.Sorted.{every_append}
-use Rattle.rt_oplog.specs.Operations.{Operation, Body, Insert, Delete, Tag, Name, stamp_of}
-use Rattle.rt_oplog.specs.Rules.{is_name, keeps_rules}
+use Rattle.rt_ops.specs.Operations.{Operation, Body, Insert, Delete, Tag, Name, stamp_of}
+use Rattle.rt_ops.specs.Rules.{is_name, keeps_rules}
 use Rattle.rt_rga.specs.Reading.{Character, descendants, has_stamp, reading_by_stamp}
 use Rattle.rt_rga.proofs.Rooted.{IsAscending, IsTree}
 use Rattle.rt_rga.specs.Histories.{IsHistory, characters, characters_from, greatest_last_count, has_character, inserted}

@@ -6,7 +6,7 @@ use Rattle.rt_stamps.specs.declared.stamp.TheConstants.{ROOT}
 use Rattle.rt_stamps.specs.Stamps.{is_before}
 use Rattle.rt_store.specs.Cells.{cells_from, skip_from}
 use Rattle.rt_tags.specs.Writers.{listed_by, state_after}
-use Rattle.rt_oplog.specs.Operations.{Operation, Body, Insert, Delete, Tag, last_count, stamp_of}
+use Rattle.rt_ops.specs.Operations.{Operation, Body, Insert, Delete, Tag, last_count, stamp_of}
 use Rattle.rt_oplog.specs.Logs.{with_operation}
 use Rattle.rt_rga.specs.Histories.{IsHistory, greatest_last_count, inserted, inserted_by}
 use Rattle.rt_rga.specs.Cells.{cells_of}

@@ -9,7 +9,7 @@ use Rattle.rt_stamps.specs.declared.stamp.TheConstants.{FINAL, ROOT}
 use Rattle.rt_stamps.specs.Stamps.{is_before}
 use Rattle.rt_store.specs.declared.cell.Cell.{Cell}
 use Rattle.rt_store.specs.Cells.{after_element, skip_from}
-use Rattle.rt_oplog.specs.Operations.{Operation, Body, Insert, Delete, Tag, stamp_of, last_of, last_count, named, reaches}
+use Rattle.rt_ops.specs.Operations.{Operation, Body, Insert, Delete, Tag, stamp_of, last_of, last_count, named, reaches}
 use Rattle.rt_oplog.specs.Logs.{known_end, with_operation}
 use Rattle.rt_rga.specs.Histories.{Continues, IsHistory, greatest_last_count, is_known}
 use Rattle.rt_rga.specs.Cells.{cells_of}

@@ -1,7 +1,7 @@
 -- What a history makes of the operations of another, by rising stamp.
 use Rattle.std.proofs.Common.{◌≡◌, true, false, ◌⊎◌, inl, inr, refl, subst, List, [], ◌∷◌, ◌++◌, reverse}
 use mathlib.Core.List.{reverse-cons}
-use Rattle.rt_oplog.specs.Operations.{Operation}
+use Rattle.rt_ops.specs.Operations.{Operation}
 use Rattle.rt_oplog.specs.Logs.{Has, clash, union}
 use Rattle.rt_oplog.proofs.Sets.{has_union, union_has}
 use Rattle.rt_rga.specs.Answers.{all_taken}

@@ -10,7 +10,7 @@ use Rattle.rt_stamps.specs.declared.stamp.TheConstants.{FINAL, ROOT}
 use Rattle.rt_stamps.specs.Stamps.{is_before, is_same}
 use Rattle.rt_stamps.proofs.Order.{before_asym, same_refl, same_sym}
 use Rattle.rt_store.specs.Cells.{EndsFinal, final_cell, IsPlaced, map_state, stamps_of}
-use Rattle.rt_oplog.specs.Operations.{Operation, Body, Insert, Delete, Tag, Name, stamp_of}
+use Rattle.rt_ops.specs.Operations.{Operation, Body, Insert, Delete, Tag, Name, stamp_of}
 use Rattle.rt_rga.specs.Reading.{Character, descendants, reading_by_stamp, with_character, with_characters}
 use Rattle.rt_rga.specs.Histories.{Continues, IsHistory, characters, characters_from, final_character, has_character, inserted, inserted_by}
 use Rattle.rt_rga.specs.Cells.{cell_in, cells_of}

@@ -8,7 +8,7 @@ use Rattle.rt_stamps.specs.declared.stamp.Stamp.{Stamp}
 use Rattle.rt_stamps.specs.declared.stamp.TheConstants.{ROOT}
 use Rattle.rt_stamps.specs.Stamps.{is_same}
 use Rattle.rt_oplog.specs.Logs.{with_operation}
-use Rattle.rt_oplog.specs.Operations.{Operation, Body, Insert, Delete, Tag, last_count, last_of, stamp_of}
+use Rattle.rt_ops.specs.Operations.{Operation, Body, Insert, Delete, Tag, last_count, last_of, stamp_of}
 use Rattle.rt_store.specs.declared.cell.Cell.{Cell}
 use Rattle.rt_store.specs.Cells.{AreDistinct, cells_from, stamps_of}
 use Rattle.rt_store.specs.Shown.{shown, TaggedCell}

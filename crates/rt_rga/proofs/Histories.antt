@@ -7,7 +7,7 @@ use Rattle.rt_stamps.specs.Stamps.{is_before, is_same}
 use Rattle.rt_stamps.specs.declared.stamp.TheConstants.{FINAL, ROOT}
 use Rattle.rt_rga.specs.Reading.{Character, reading_by_stamp, with_character, with_characters, has_stamp}
 use Rattle.rt_rga.proofs.Rooted.{IsTree}
-use Rattle.rt_oplog.specs.Operations.{Operation, Body, Insert, Delete, Tag, Name, stamp_of, last_of, last_count}
+use Rattle.rt_ops.specs.Operations.{Operation, Body, Insert, Delete, Tag, Name, stamp_of, last_of, last_count}
 use Rattle.rt_oplog.specs.Logs.{with_operation, known_end}
 use Rattle.rt_rga.specs.Histories.{characters_from, inserted_by, inserted, has_character, Continues, IsHistory, final_character, characters}
 use Rattle.rt_rga.proofs.Continuing.{names, IsKnown, knows, known_all, HasText, sound_of}

@@ -2,7 +2,7 @@
 use Rattle.std.proofs.Common.{◌≡◌, Bool, true, false, inl, inr, refl, sym, subst, ◌∙◌, arith, List, [], ◌∷◌, cond, Ok, Err}
 use Rattle.std.proofs.lemmas.Bool.{cases_lt}
 use Rattle.rt_stamps.specs.declared.fault.Fault.TheVariants.{Conflict}
-use Rattle.rt_oplog.specs.Operations.{Operation}
+use Rattle.rt_ops.specs.Operations.{Operation}
 use Rattle.rt_oplog.specs.Logs.{Has, clash, has_clash, holds, joined, known_end, union, with_operation}
 use Rattle.rt_oplog.proofs.Sets.{added_has, clash_from, clash_sym, free_from, has_union, union_has}
 use Rattle.rt_rga.specs.Histories.{Continues, IsHistory}

@@ -7,7 +7,7 @@ use Rattle.rt_stamps.specs.declared.stamp.Stamp.{Stamp}
 use Rattle.rt_stamps.specs.declared.fault.Fault.TheVariants.{BadStamp, Conflict, NotYet, BadTarget}
 use Rattle.rt_stamps.specs.Stamps.{is_before, is_same}
 use Rattle.rt_stamps.proofs.Order.{same_refl}
-use Rattle.rt_oplog.specs.Operations.{Operation, last_count, named, has_bad_stamp, stamp_of}
+use Rattle.rt_ops.specs.Operations.{Operation, last_count, named, has_bad_stamp, stamp_of}
 use Rattle.rt_oplog.specs.Logs.{Has, clash, holds, known_end, reaches_into, same_operation}
 use Rattle.rt_oplog.proofs.Sets.{any_from, has_held, operation_true}
 use Rattle.rt_rga.specs.Histories.{IsHistory, has_character, is_known, may_name}

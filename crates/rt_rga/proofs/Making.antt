@@ -1,10 +1,10 @@
 -- From drafts to operations.
 use Rattle.std.proofs.Common.{◌≡◌, ℕ, suc, ◌+◌, ◌<◌, ◌≤◌, refl, sym, ap, subst, ◌∙◌, arith, List, [], ◌∷◌, ◌++◌, ◌==◌, Bool, All, true, false, cond, map, max, length, drop, get_or, nat_le, nat_lt, not, ◌&&◌, Some, None}
 use Rattle.std.proofs.lemmas.List.{append_assoc, drop_more, length-append, map-append}
-use Rattle.rt_oplog.specs.Edits.{body_of}
-use Rattle.rt_oplog.specs.Operations.{Operation, Body, Insert, Name, last_count, last_of, stamp_of}
-use Rattle.rt_oplog.specs.Rules.{keeps_rules}
-use Rattle.rt_oplog.specs.declared.op.Edit.{Edit}
+use Rattle.rt_ops.specs.Edits.{body_of}
+use Rattle.rt_ops.specs.Operations.{Operation, Body, Insert, Name, last_count, last_of, stamp_of}
+use Rattle.rt_ops.specs.Rules.{keeps_rules}
+use Rattle.rt_ops.specs.declared.op.Edit.{Edit}
 use Rattle.rt_rga.specs.Making.{AreNewest, ContinueInTurn, operations_from, refusal_from}
 use Rattle.rt_rga.specs.Made.{refusal_of, unless_refused}
 use Rattle.rt_rga.proofs.Skipping.{split}

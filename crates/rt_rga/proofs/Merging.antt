@@ -10,7 +10,7 @@ use Rattle.rt_stamps.proofs.Order.{same_refl}
 use Rattle.rt_store.specs.Cells.{cells_from, put_at, skip_from, stamps_of}
 use Rattle.rt_tags.specs.States.{Write, written}
 use Rattle.rt_tags.specs.Writers.{listed_by, state_after}
-use Rattle.rt_oplog.specs.Operations.{Operation, Body, Insert, Delete, Tag, Name, stamp_of}
+use Rattle.rt_ops.specs.Operations.{Operation, Body, Insert, Delete, Tag, Name, stamp_of}
 use Rattle.rt_oplog.specs.Logs.{with_operation}
 use Rattle.rt_rga.specs.Reading.{Character, has_stamp, reading, reading_by_stamp, with_characters}
 use Rattle.rt_rga.specs.Histories.{characters_from, inserted_by, inserted, has_character, characters, Continues, IsHistory}

@@ -6,9 +6,9 @@ use Rattle.std.specs.List.{AllByRecursion, list_any, list_all}
 use Rattle.rt_stamps.specs.declared.stamp.Stamp.{Stamp}
 use Rattle.rt_stamps.specs.Stamps.{is_same}
 use Rattle.rt_stamps.proofs.Order.{same_from_true}
-use Rattle.rt_oplog.specs.Operations.{Operation, last_count, named, has_bad_stamp}
+use Rattle.rt_ops.specs.Operations.{Operation, last_count, named, has_bad_stamp}
 use Rattle.rt_oplog.specs.Logs.{Has, clash, holds, known_end}
-use Rattle.rt_oplog.specs.Rules.{keeps_rules}
+use Rattle.rt_ops.specs.Rules.{keeps_rules}
 use Rattle.rt_oplog.proofs.Sets.{any_at, any_from, has_held, has_with, with_has}
 use Rattle.rt_rga.specs.Reading.{has_stamp}
 use Rattle.rt_rga.specs.Histories.{Continues, IsHistory, has_character, inserted, is_known}

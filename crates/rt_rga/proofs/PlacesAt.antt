@@ -12,7 +12,7 @@ use Rattle.rt_stamps.proofs.Order.{same_refl}
 use Rattle.rt_store.specs.declared.cell.Cell.{Cell}
 use Rattle.rt_store.specs.Cells.{AreDistinct, map_state, position_of, skip_from, stamps_of, visible_before, visible_of}
 use Rattle.rt_store.proofs.Shown.{length_shown, skip_shown, visible_shown}
-use Rattle.rt_oplog.specs.Operations.{Body, Insert, Delete, Tag}
+use Rattle.rt_ops.specs.Operations.{Body, Insert, Delete, Tag}
 use Rattle.rt_tags.specs.States.{IsTag, KeepsIds, TagStates, name_at}
 use Rattle.rt_rga.specs.Taken.{place_by}
 

@@ -9,7 +9,7 @@ use Rattle.rt_stamps.specs.declared.stamp.Stamp.{Stamp}
 use Rattle.rt_stamps.specs.declared.stamp.TheConstants.{ROOT}
 use Rattle.rt_stamps.specs.Stamps.{is_before, is_same}
 use Rattle.rt_stamps.proofs.Order.{before_asym}
-use Rattle.rt_oplog.specs.Operations.{Operation, Body, Insert, Delete, Tag, Name, has_bad_stamp, stamp_of}
+use Rattle.rt_ops.specs.Operations.{Operation, Body, Insert, Delete, Tag, Name, has_bad_stamp, stamp_of}
 use Rattle.rt_store.specs.Cells.{after_element, cells_from, position_of, put_at, skip_from, stamps_of, with_state}
 use Rattle.rt_store.specs.Shown.{TaggedCell}
 use Rattle.rt_store.specs.Spans.{gone_in_any, is_in_spans}

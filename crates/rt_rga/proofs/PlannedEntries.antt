@@ -15,7 +15,7 @@ use Rattle.rt_stamps.specs.declared.stamp.Span.{Span}
 use Rattle.rt_stamps.specs.declared.stamp.Stamp.{Stamp}
 use Rattle.rt_stamps.specs.Stamps.{is_before, is_same}
 use Rattle.rt_stamps.proofs.Order.{before_irrefl}
-use Rattle.rt_oplog.specs.Operations.{Operation, stamp_of, stamps_from, stamps_in}
+use Rattle.rt_ops.specs.Operations.{Operation, stamp_of, stamps_from, stamps_in}
 use Rattle.rt_store.specs.Spans.{is_in_spans, precedes}
 use Rattle.rt_tags.specs.declared.states.Entry.{Entry}
 use Rattle.rt_tags.specs.States.{IsTag, KeepsIds, TagStates, Write, above, below, is_kept, is_settled, write_at, write_of, writes_at, written}

@@ -18,7 +18,7 @@ use Rattle.rt_store.specs.Tagged.{AreStates}
 use Rattle.rt_store.proofs.Finding.{stamp_held}
 use Rattle.rt_tags.specs.States.{IsState, IsTag, KeepsIds, TagStates, Write, state_at, writes_at}
 use Rattle.rt_tags.specs.Writers.{state_after}
-use Rattle.rt_oplog.specs.Operations.{Operation}
+use Rattle.rt_ops.specs.Operations.{Operation}
 use Rattle.rt_rga.specs.declared.plan.Named.{Named}
 use Rattle.rt_rga.specs.declared.tagging.StateRun.{StateRun}
 use Rattle.rt_rga.specs.Batches.{AreInOrder, CountsRise, IsCopied, HasEntries, after_tags, entries_on, tag_writes}

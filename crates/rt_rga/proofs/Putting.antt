@@ -7,7 +7,7 @@ use Rattle.rt_stamps.specs.declared.stamp.Span.{Span}
 use Rattle.rt_stamps.specs.declared.stamp.Stamp.{Stamp}
 use Rattle.rt_stamps.specs.declared.stamp.TheConstants.{ROOT}
 use Rattle.rt_stamps.specs.Stamps.{is_before, is_same}
-use Rattle.rt_oplog.specs.Operations.{Operation, Body, Insert, Delete, Tag, stamp_of}
+use Rattle.rt_ops.specs.Operations.{Operation, Body, Insert, Delete, Tag, stamp_of}
 use Rattle.rt_oplog.specs.Logs.{with_operation}
 use Rattle.rt_store.specs.declared.cell.Cell.{Cell}
 use Rattle.rt_store.specs.Cells.{after_element, IsPlaced, position_of, put_at, skip_from, stamps_of}
@@ -21,7 +21,7 @@ use Rattle.rt_tags.specs.States.{IsState, TagStates, Write, state_at, written}
 use Rattle.rt_tags.specs.Writers.{listed_by, state_after}
 use Rattle.std.proofs.lemmas.Bool.Decides.{nat_tests}
 use Rattle.std.specs.List.{AllByRecursion}
-use Rattle.rt_oplog.specs.Operations.{last_count}
+use Rattle.rt_ops.specs.Operations.{last_count}
 use Rattle.rt_rga.specs.Batches.{all_put, AreRising, AreSound, put_by}
 use Rattle.rt_rga.specs.Drafts.{all_changed, with_operations}
 use Rattle.rt_rga.specs.Cells.{cells_of}

@@ -13,7 +13,7 @@ use Rattle.rt_stamps.specs.declared.stamp.Stamp.{Stamp}
 use Rattle.rt_stamps.specs.declared.stamp.TheConstants.{FINAL}
 use Rattle.rt_stamps.specs.Stamps.{is_same}
 use Rattle.rt_stamps.proofs.Order.{same_refl, same_from_true}
-use Rattle.rt_oplog.specs.Operations.{Body, Delete, stamps_in}
+use Rattle.rt_ops.specs.Operations.{Body, Delete, stamps_in}
 use Rattle.rt_store.specs.declared.cell.Cell.{Cell}
 use Rattle.rt_store.specs.Cells.{AreDistinct, EndsFinal, cell_of, position_of, visible_before, visible_of}
 use Rattle.rt_store.proofs.Distinct.{split}

@@ -14,7 +14,7 @@ use Rattle.rt_store.proofs.GivenStates.{kept_states}
 use Rattle.rt_store.proofs.Shown.{after_shown, distinct_from_shown, from_shown, gone_shown, position_map, shown_later, skip_shown}
 use Rattle.rt_tags.specs.States.{IsState, KeepsIds, TagStates, state_at}
 use Rattle.rt_tags.specs.Writers.{listed_by, state_after}
-use Rattle.rt_oplog.specs.Operations.{Operation, Body, Insert, Delete, Tag, Name, stamp_of}
+use Rattle.rt_ops.specs.Operations.{Operation, Body, Insert, Delete, Tag, Name, stamp_of}
 use Rattle.rt_oplog.specs.Logs.{with_operation}
 use Rattle.rt_rga.specs.Histories.{Continues, IsHistory}
 use Rattle.rt_rga.specs.Cells.{cells_of}

@@ -3,7 +3,7 @@ use Rattle.std.proofs.Common.{◌≡◌, ◌↔◌, ℕ, ◌+◌, ◌<◌, ◌�
 use Rattle.std.proofs.lemmas.Bool.Decides.{nat_tests}
 use Rattle.rt_stamps.specs.declared.limits.TheConstants.{GREATEST_COUNT}
 use Rattle.rt_stamps.specs.declared.stamp.Stamp.{Stamp}
-use Rattle.rt_oplog.specs.Operations.{Operation, Body, Insert, Delete, Tag, last_of, stamp_of}
+use Rattle.rt_ops.specs.Operations.{Operation, Body, Insert, Delete, Tag, last_of, stamp_of}
 use Rattle.rt_oplog.specs.Logs.{Has, with_operation}
 use Rattle.rt_oplog.proofs.Sets.{with_has}
 use Rattle.rt_rga.specs.Answers.{Answer, New, Repeat, Refused, answer_to, answer_within, set_after}

@@ -6,7 +6,7 @@ use Rattle.std.specs.List.{list_any}
 use Rattle.rt_stamps.specs.declared.stamp.Stamp.{Stamp}
 use Rattle.rt_stamps.specs.Stamps.{is_before}
 use Rattle.rt_stamps.proofs.Order.{before_irrefl, before_trans}
-use Rattle.rt_oplog.specs.Operations.{Operation, last_count, named, stamp_of}
+use Rattle.rt_ops.specs.Operations.{Operation, last_count, named, stamp_of}
 use Rattle.rt_oplog.specs.Logs.{Has}
 use Rattle.rt_oplog.proofs.Sets.{member_before}
 use Rattle.rt_rga.specs.Reading.{has_stamp}

@@ -3,9 +3,9 @@ use Rattle.std.proofs.Common.{◌≡◌, ◌↔◌, ℕ, ◌+◌, ◌<◌, ◌�
 use Rattle.std.proofs.lemmas.Bool.Decides.{nat_tests}
 use Rattle.std.specs.List.{list_any, list_all}
 use Rattle.rt_stamps.specs.declared.fault.Fault.TheVariants.{BadStamp, Conflict, NotYet, BadTarget, TextFull}
-use Rattle.rt_oplog.specs.Operations.{Operation, named, has_bad_stamp}
+use Rattle.rt_ops.specs.Operations.{Operation, named, has_bad_stamp}
 use Rattle.rt_oplog.specs.Logs.{holds, known_end, with_operation}
-use Rattle.rt_oplog.specs.Rules.{keeps_rules}
+use Rattle.rt_ops.specs.Rules.{keeps_rules}
 use Rattle.rt_rga.specs.Answers.{Answer, New, Repeat, Refused, answer_to, answer_within, can_never_be_known, refused_if_full}
 use Rattle.rt_rga.specs.Cells.{cells_of}
 use Rattle.rt_rga.specs.Histories.{IsHistory, inserted, is_known}

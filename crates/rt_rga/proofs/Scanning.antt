@@ -4,7 +4,7 @@ use Rattle.std.proofs.lemmas.Bool.Decides.{nat_tests}
 use Rattle.std.specs.List.{list_any, list_all}
 use Rattle.rt_stamps.specs.declared.stamp.Span.{Span}
 use Rattle.rt_stamps.specs.declared.stamp.Stamp.{Stamp}
-use Rattle.rt_oplog.specs.Operations.{Operation, Body, Insert, Delete, Tag, stamps_from, stamps_of_span}
+use Rattle.rt_ops.specs.Operations.{Operation, Body, Insert, Delete, Tag, stamps_from, stamps_of_span}
 use Rattle.rt_oplog.specs.Logs.{known_end}
 use Rattle.rt_rga.specs.Histories.{has_character, is_known, may_name}
 use Rattle.rt_rga.specs.Answers.{has_gap, can_never_be_known, up_to}

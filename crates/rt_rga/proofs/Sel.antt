@@ -5,8 +5,8 @@ use Rattle.std.specs.Str.{bytes_eq, is_utf8}
 use Rattle.rt_stamps.specs.Names.{is_name_length}
 use Rattle.rt_tags.specs.States.{Write, write_of}
 use Rattle.rt_tags.specs.Writers.{state_after}
-use Rattle.rt_oplog.specs.Operations.{Operation}
-use Rattle.rt_oplog.specs.Rules.{is_name}
+use Rattle.rt_ops.specs.Operations.{Operation}
+use Rattle.rt_ops.specs.Rules.{is_name}
 use Rattle.rt_rga.specs.Histories.{IsHistory}
 use Rattle.rt_rga.specs.Cells.{cells_of, writes_on}
 use Rattle.rt_rga.proofs.Skipping.{split}

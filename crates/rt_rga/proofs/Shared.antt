@@ -9,7 +9,7 @@ use Rattle.rt_tags.specs.States.{Write, is_on}
 use Rattle.rt_tags.specs.Writers.{is_shared, listed_by, state_after}
 use Rattle.rt_tags.proofs.Greatest.{decides, listed_by_root}
 use Rattle.rt_tags.proofs.Sorted.{every_append}
-use Rattle.rt_oplog.specs.Operations.{Operation, Body, Insert, Delete, Tag, Name, stamp_of}
+use Rattle.rt_ops.specs.Operations.{Operation, Body, Insert, Delete, Tag, Name, stamp_of}
 use Rattle.rt_rga.specs.Reading.{has_stamp}
 use Rattle.rt_rga.specs.Histories.{IsHistory, has_character, inserted, inserted_by}
 use Rattle.rt_rga.specs.Cells.{stamped_writes_by, stamped_writes_on, writes_by, writes_on}

@@ -8,7 +8,7 @@ use Rattle.rt_stamps.specs.declared.stamp.Span.{Span}
 use Rattle.rt_stamps.specs.declared.stamp.Stamp.{Stamp}
 use Rattle.rt_stamps.specs.Stamps.{is_same}
 use Rattle.rt_stamps.proofs.Order.{same_refl, same_from_true}
-use Rattle.rt_oplog.specs.Operations.{stamps_from, stamps_in}
+use Rattle.rt_ops.specs.Operations.{stamps_from, stamps_in}
 use Rattle.rt_store.specs.declared.cell.Cell.{Cell}
 use Rattle.rt_store.specs.Cells.{AreDistinct, cell_of, map_state, stamps_of, with_state}
 use Rattle.rt_store.specs.Shown.{TaggedCell, shown}

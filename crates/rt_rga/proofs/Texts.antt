@@ -9,7 +9,7 @@ use Rattle.rt_tags.specs.States.{IsByName, TagStates, is_on, names_on, state_at}
 use Rattle.rt_tags.specs.Tags.{HaveNoRepeats, is_listed}
 use Rattle.rt_tags.specs.Writers.{is_shared, state_after}
 use Rattle.rt_tags.proofs.Commuting.{on_is_listed, on_once}
-use Rattle.rt_oplog.specs.Operations.{Operation, Name}
+use Rattle.rt_ops.specs.Operations.{Operation, Name}
 use Rattle.rt_oplog.specs.Logs.{Has}
 use Rattle.rt_rga.specs.Reading.{Character, reading_by_stamp}
 use Rattle.rt_rga.specs.Histories.{IsHistory, characters}

@@ -3,9 +3,9 @@ use Rattle.std.proofs.Common.{◌≡◌, ℕ, ◌+◌, ◌≤◌, Bool, true, fa
 use Rattle.std.specs.Prelude.{OnErr, nat_lt, Option, Some, None, option_map, slice_get, unwrap_or}
 use Rattle.std.proofs.lemmas.Bool.Decides.{nat_tests}
 use Rattle.rt_stamps.specs.declared.stamp.Stamp.{Stamp}
-use Rattle.rt_oplog.specs.Operations.{Operation, Body, Insert, Delete, Tag, Name, last_count, stamp_of}
+use Rattle.rt_ops.specs.Operations.{Operation, Body, Insert, Delete, Tag, Name, last_count, stamp_of}
 use Rattle.rt_oplog.specs.Logs.{with_operation}
-use Rattle.rt_oplog.specs.Rules.{keeps_rules}
+use Rattle.rt_ops.specs.Rules.{keeps_rules}
 use Rattle.rt_store.specs.declared.cell.Cell.{Cell}
 use Rattle.rt_store.specs.Tagged.{AreStates}
 use Rattle.rt_tags.specs.States.{KeepsIds, TagStates, state_at}

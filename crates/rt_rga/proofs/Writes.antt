@@ -14,7 +14,7 @@ use Rattle.rt_tags.specs.States.{Write, IsByName, written}
 use Rattle.rt_tags.specs.Writers.{listed_by, state_after}
 use Rattle.rt_tags.proofs.Commuting.{commute}
 use Rattle.rt_tags.proofs.Sorted.{written_sorted}
-use Rattle.rt_oplog.specs.Operations.{Operation, Body, Insert, Delete, Tag, Name, stamp_of, stamps_from, stamps_of_span, stamps_in}
+use Rattle.rt_ops.specs.Operations.{Operation, Body, Insert, Delete, Tag, Name, stamp_of, stamps_from, stamps_of_span, stamps_in}
 use Rattle.rt_oplog.specs.Logs.{with_operation}
 use Rattle.rt_rga.specs.Reading.{has_stamp}
 use Rattle.rt_rga.specs.Histories.{characters_from, inserted_by, inserted, has_character, Continues, IsHistory}

@@ -7,7 +7,7 @@ use Rattle.rt_stamps.specs.Stamps.{is_same}
 use Rattle.rt_stamps.specs.declared.stamp.Span.{Span}
 use Rattle.rt_stamps.specs.declared.stamp.Stamp.{Stamp}
 use Rattle.rt_stamps.specs.declared.stamp.TheConstants.{FINAL}
-use Rattle.rt_oplog.specs.Operations.{Operation, Delete, Tag, Name, stamps_from, stamps_of_span}
+use Rattle.rt_ops.specs.Operations.{Operation, Delete, Tag, Name, stamps_from, stamps_of_span}
 use Rattle.rt_rga.specs.Histories.{IsHistory, has_character, is_known, may_name}
 use Rattle.rt_rga.specs.Answers.{can_never_be_known}
 use Rattle.rt_rga.proofs.Skipping.{split}

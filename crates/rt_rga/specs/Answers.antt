@@ -5,7 +5,7 @@ use Rattle.rt_stamps.specs.declared.stamp.Span.{Span}
 use Rattle.rt_stamps.specs.declared.stamp.Stamp.{Stamp}
 use Rattle.rt_stamps.specs.declared.fault.Fault.{Fault}
 use Rattle.rt_stamps.specs.declared.fault.Fault.TheVariants.{BadStamp, Conflict, NotYet, BadTarget, TextFull}
-use Rattle.rt_oplog.specs.Operations.{Operation, named, has_bad_stamp, stamps_of_span}
+use Rattle.rt_ops.specs.Operations.{Operation, named, has_bad_stamp, stamps_of_span}
 use Rattle.rt_oplog.specs.Logs.{known_end, holds, with_operation}
 use Rattle.rt_rga.specs.Cells.{cells_of}
 use Rattle.rt_rga.specs.Histories.{has_character, inserted, is_known, may_name}

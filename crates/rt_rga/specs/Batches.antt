@@ -4,7 +4,7 @@ use Rattle.std.specs.Prelude.{◌≡◌, ℕ, ◌<◌, true, false, List, [], �
 use Rattle.std.specs.List.{AllByRecursion}
 use Rattle.rt_stamps.specs.declared.stamp.Stamp.{Stamp}
 use Rattle.rt_stamps.specs.Stamps.{is_before, is_same}
-use Rattle.rt_oplog.specs.Operations.{Operation, Body, Insert, Delete, Tag, has_bad_stamp, stamp_of}
+use Rattle.rt_ops.specs.Operations.{Operation, Body, Insert, Delete, Tag, has_bad_stamp, stamp_of}
 use Rattle.rt_store.specs.Cells.{cell_of, stamps_of, with_state}
 use Rattle.rt_store.specs.declared.cell.Cell.{Cell}
 use Rattle.rt_store.specs.Shown.{TaggedCell}

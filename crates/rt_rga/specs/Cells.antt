@@ -3,7 +3,7 @@ use Rattle.std.specs.Prelude.{Bool, false, List, [], ◌∷◌, ◌++◌, map, i
 use Rattle.std.specs.List.{list_any}
 use Rattle.rt_stamps.specs.declared.stamp.Stamp.{Stamp}
 use Rattle.rt_stamps.specs.declared.stamp.TheConstants.{ROOT}
-use Rattle.rt_oplog.specs.Operations.{Operation, Body, Insert, Delete, Tag, stamp_of}
+use Rattle.rt_ops.specs.Operations.{Operation, Body, Insert, Delete, Tag, stamp_of}
 use Rattle.rt_tags.specs.States.{Write}
 use Rattle.rt_tags.specs.Writers.{listed_by, state_after}
 use Rattle.rt_rga.specs.Reading.{Character, has_stamp, reading}

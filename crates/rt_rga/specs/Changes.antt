@@ -3,7 +3,7 @@ use Rattle.std.specs.Prelude.{List, [], map, if◌then◌else◌}
 use Rattle.rt_stamps.specs.declared.stamp.Span.{Span}
 use Rattle.rt_stamps.specs.declared.stamp.Stamp.{Stamp}
 use Rattle.rt_stamps.specs.declared.stamp.TheConstants.{ROOT}
-use Rattle.rt_oplog.specs.Operations.{Operation, Body, Insert, Delete, Tag, stamp_of}
+use Rattle.rt_ops.specs.Operations.{Operation, Body, Insert, Delete, Tag, stamp_of}
 use Rattle.rt_store.specs.Cells.{cells_from, put_at, skip_from, with_state}
 use Rattle.rt_tags.specs.States.{Write, written}
 use Rattle.rt_store.specs.Spans.{gone_in_any, is_in_spans}

@@ -5,7 +5,7 @@ use Rattle.rt_stamps.specs.declared.stamp.Stamp.{Stamp}
 use Rattle.rt_stamps.specs.declared.stamp.TheConstants.{ROOT}
 use Rattle.rt_store.specs.Cells.{text_of, visible_of}
 use Rattle.rt_tags.specs.States.{is_on}
-use Rattle.rt_oplog.specs.Operations.{Name, Operation, Insert, Delete, Tag}
+use Rattle.rt_ops.specs.Operations.{Name, Operation, Insert, Delete, Tag}
 use Rattle.rt_rga.specs.Answers.{all_taken}
 use Rattle.rt_rga.specs.Cells.{cells_of}
 use Rattle.rt_rga.specs.Requests.{Make, Offer, Request}

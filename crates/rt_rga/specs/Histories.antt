@@ -5,9 +5,9 @@ use Rattle.std.specs.List.{AllByRecursion, list_any, list_all}
 use Rattle.rt_stamps.specs.declared.stamp.Stamp.{Stamp}
 use Rattle.rt_stamps.specs.declared.stamp.TheConstants.{FINAL, ROOT}
 use Rattle.rt_stamps.specs.Stamps.{is_before, is_same}
-use Rattle.rt_oplog.specs.Operations.{Operation, Body, Insert, Delete, Tag, stamp_of, last_count, named, has_bad_stamp}
+use Rattle.rt_ops.specs.Operations.{Operation, Body, Insert, Delete, Tag, stamp_of, last_count, named, has_bad_stamp}
 use Rattle.rt_oplog.specs.Logs.{known_end}
-use Rattle.rt_oplog.specs.Rules.{keeps_rules}
+use Rattle.rt_ops.specs.Rules.{keeps_rules}
 use Rattle.rt_store.specs.Spans.{next_stamp}
 use Rattle.rt_rga.specs.Reading.{Character, has_stamp, with_characters}
 

@@ -14,9 +14,9 @@ use Rattle.rt_tags.specs.Writers.{is_shared, listed_by, state_after}
 use Rattle.rt_store.specs.declared.cell.Cell.{Cell}
 use Rattle.rt_store.specs.Cells.{after_element, cells_from, IsPlaced, put_at, skip_from, stamps_of}
 use Rattle.rt_store.specs.Tagged.{AreStates}
-use Rattle.rt_oplog.specs.Operations.{Body, Operation, Insert, Delete, Tag, Name, has_bad_stamp, last_of, stamp_of, stamps_in, stamps_of_span}
+use Rattle.rt_ops.specs.Operations.{Body, Operation, Insert, Delete, Tag, Name, has_bad_stamp, last_of, stamp_of, stamps_in, stamps_of_span}
 use Rattle.rt_oplog.specs.Logs.{Has, clash, joined, known_end, union, with_operation}
-use Rattle.rt_oplog.specs.Rules.{keeps_rules}
+use Rattle.rt_ops.specs.Rules.{keeps_rules}
 use Rattle.rt_rga.specs.Reading.{reading}
 use Rattle.rt_rga.specs.Histories.{Continues, IsHistory, characters, greatest_last_count, has_character, inserted, is_known}
 use Rattle.rt_rga.specs.Cells.{cells_of, stamped_writes_on}

@@ -20,6 +20,6 @@ pub mod Sites
 pub mod Taken
 pub mod Texts
 pub use Rattle.rt_oplog.specs.Logs
-pub use Rattle.rt_oplog.specs.Operations
-pub use Rattle.rt_oplog.specs.Rules
+pub use Rattle.rt_ops.specs.Operations
+pub use Rattle.rt_ops.specs.Rules
 pub use Rattle.rt_stamps.specs.Stamps

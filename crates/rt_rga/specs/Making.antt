@@ -5,7 +5,7 @@ use Rattle.rt_stamps.specs.declared.fault.Fault.TheVariants.{ClockSpent, TextFul
 use Rattle.rt_stamps.specs.declared.limits.TheConstants.{GREATEST_COUNT}
 use Rattle.rt_stamps.specs.declared.stamp.Stamp.{Stamp}
 use Rattle.rt_stamps.specs.declared.stamp.TheConstants.{FINAL, ROOT}
-use Rattle.rt_oplog.specs.Operations.{Operation, Body, Insert, Delete, Tag, last_of, stamp_of}
+use Rattle.rt_ops.specs.Operations.{Operation, Body, Insert, Delete, Tag, last_of, stamp_of}
 use Rattle.rt_oplog.specs.Logs.{with_operation}
 use Rattle.rt_store.specs.declared.cell.Cell.{Cell}
 use Rattle.rt_store.specs.Cells.{cells_from, IsPlaced, put_at, skip_from}

@@ -1,7 +1,7 @@
 -- Orders of operations: which were made upon which, and which come in time.
 use Rattle.std.specs.Prelude.{◌≡◌, Bool, true, ◌&&◌, ◌||◌, ◌==◌, List, [], ◌∷◌}
 use Rattle.std.specs.List.{list_any}
-use Rattle.rt_oplog.specs.Operations.{Operation, last_count, named}
+use Rattle.rt_ops.specs.Operations.{Operation, last_count, named}
 use Rattle.rt_oplog.specs.Logs.{Has}
 use Rattle.rt_rga.specs.Reading.{has_stamp}
 use Rattle.rt_rga.specs.Histories.{inserted}

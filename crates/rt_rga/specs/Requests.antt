@@ -3,9 +3,9 @@
 use Rattle.std.specs.Prelude.{◌≡◌, ℕ, ◌+◌, true, ◌&&◌, nat_le, List, [], ◌∷◌, length, if◌then◌else◌}
 use Rattle.std.specs.List.{list_all}
 use Rattle.rt_stamps.specs.declared.limits.TheConstants.{GREATEST_COUNT}
-use Rattle.rt_oplog.specs.Operations.{Operation, Body, Insert, Delete, Tag, last_of, named}
+use Rattle.rt_ops.specs.Operations.{Operation, Body, Insert, Delete, Tag, last_of, named}
 use Rattle.rt_oplog.specs.Logs.{with_operation}
-use Rattle.rt_oplog.specs.Rules.{keeps_rules}
+use Rattle.rt_ops.specs.Rules.{keeps_rules}
 use Rattle.rt_rga.specs.Answers.{answer_within, set_after}
 use Rattle.rt_rga.specs.Cells.{cells_of}
 use Rattle.rt_rga.specs.Drafts.{next_operation, with_drafts}

@@ -1,9 +1,9 @@
 -- Histories by sites.
 use Rattle.std.specs.Prelude.{◌≡◌, ℕ, true, false, ◌==◌, List, [], ◌∷◌}
 use Rattle.std.specs.List.{AllByRecursion, filter, list_all}
-use Rattle.rt_oplog.specs.Operations.{Operation, last_count, named, has_bad_stamp}
+use Rattle.rt_ops.specs.Operations.{Operation, last_count, named, has_bad_stamp}
 use Rattle.rt_oplog.specs.Logs.{IsFalling}
-use Rattle.rt_oplog.specs.Rules.{keeps_rules}
+use Rattle.rt_ops.specs.Rules.{keeps_rules}
 use Rattle.rt_rga.specs.Histories.{is_known}
 
 -- a site's operations, the newest first

@@ -2,7 +2,7 @@
 use Rattle.std.specs.Prelude.{◌≡◌, ℕ, ◌<◌, ◌&&◌, nat_le, nat_lt, List, [], ◌∷◌, length, map, Bool, false, ⊤, if◌then◌else◌, slice_get, option_map, unwrap_or}
 use Rattle.std.specs.List.{All, list_any}
 use Rattle.rt_stamps.specs.declared.stamp.Stamp.{Stamp}
-use Rattle.rt_oplog.specs.Operations.{Operation, Body, Insert, Delete, Tag, Name, stamp_of}
+use Rattle.rt_ops.specs.Operations.{Operation, Body, Insert, Delete, Tag, Name, stamp_of}
 use Rattle.rt_store.specs.declared.cell.Cell.{Cell}
 use Rattle.rt_store.specs.Cells.{skip_from, visible_before, visible_of}
 use Rattle.rt_tags.specs.States.{IsTag, TagStates, name_at}

@@ -1,6 +1,6 @@
 -- The text of cells, with its tags.
 use Rattle.std.specs.Prelude.{ℕ, List, map}
-use Rattle.rt_oplog.specs.Operations.{Name}
+use Rattle.rt_ops.specs.Operations.{Name}
 use Rattle.rt_store.specs.Cells.{visible_of}
 use Rattle.rt_store.specs.Shown.{TaggedCell}
 use Rattle.rt_tags.specs.States.{names_on}

@@ -1,9 +1,9 @@
 // What is answered to an operation that is offered.
 ghost use Rattle.std.specs.Prelude.{◌≡◌, ◌==◌, ◌≤◌, true, false, not, length};
 ghost use Rattle.std.specs.List.{list_all, list_any};
-ghost use Rattle.rt_oplog.specs.Edits.{body_of};
-ghost use Rattle.rt_oplog.specs.Operations.{named, stamps_of_span};
-ghost use Rattle.rt_oplog.specs.Rules.{keeps_rules};
+ghost use Rattle.rt_ops.specs.Edits.{body_of};
+ghost use Rattle.rt_ops.specs.Operations.{named, stamps_of_span};
+ghost use Rattle.rt_ops.specs.Rules.{keeps_rules};
 ghost use Rattle.rt_rga.specs.Answers.{answer_to, answer_within, can_never_be_known};
 ghost use Rattle.rt_rga.specs.Histories.{IsHistory, inserted, is_known, may_name};
 ghost use Rattle.rt_rga.specs.Kept.{AreCellsOf, goes_past, is_kept_character, said};

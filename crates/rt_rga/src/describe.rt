@@ -3,7 +3,7 @@ ghost use Rattle.std.specs.Prelude.{◌≡◌, ◌<◌, ◌≤◌, All, IfOk, If
 ghost use Rattle.rt_stamps.specs.declared.limits.TheConstants.{MOST_CELLS};
 ghost use Rattle.rt_stamps.specs.declared.stamp.Stamp.{Stamp as StampOf};
 ghost use Rattle.rt_stamps.specs.declared.stamp.TheConstants.{FINAL};
-ghost use Rattle.rt_oplog.specs.Operations.{Insert, Name, stamp_of};
+ghost use Rattle.rt_ops.specs.Operations.{Insert, Name, stamp_of};
 ghost use Rattle.rt_store.specs.Cells.{AreDistinct, IsPlaced, visible_before, visible_of};
 ghost use Rattle.rt_tags.specs.States.{IsTag, KeepsIds, name_at};
 ghost use Rattle.rt_rga.specs.Cells.{deletes};

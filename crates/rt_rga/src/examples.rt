@@ -2,7 +2,7 @@
 ghost use Rattle.std.specs.Prelude.{◌≡◌, true, false, List, [], ◌∷◌, codes, Ok, Err};
 ghost use Rattle.rt_stamps.specs.declared.fault.Fault.TheVariants.{BadStamp, BadTarget, Conflict, NotYet, TextFull};
 ghost use Rattle.rt_store.specs.Cells.{text_of};
-ghost use Rattle.rt_oplog.specs.Operations.{Delete};
+ghost use Rattle.rt_ops.specs.Operations.{Delete};
 ghost use Rattle.rt_oplog.specs.Logs.{joined};
 ghost use Rattle.rt_rga.specs.Answers.{New, Refused, Repeat, answer_to, answer_within};
 ghost use Rattle.rt_rga.specs.Cells.{cells_of};

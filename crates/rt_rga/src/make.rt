@@ -3,9 +3,9 @@ ghost use Rattle.std.specs.Prelude.{◌≡◌, ◌⊎◌, ◌*◌, ◌+◌, ◌+
 ghost use Rattle.std.specs.List.{AllByRecursion};
 ghost use Rattle.rt_stamps.specs.declared.limits.TheConstants.{GREATEST_COUNT, MOST_CELLS, MOST_CHARACTERS};
 ghost use Rattle.rt_stamps.specs.declared.stamp.Stamp.{Stamp as StampOf};
-ghost use Rattle.rt_oplog.specs.Edits.{body_of};
-ghost use Rattle.rt_oplog.specs.Operations.{last_count as last_count_of, last_of, stamp_of};
-ghost use Rattle.rt_oplog.specs.Rules.{keeps_rules};
+ghost use Rattle.rt_ops.specs.Edits.{body_of};
+ghost use Rattle.rt_ops.specs.Operations.{last_count as last_count_of, last_of, stamp_of};
+ghost use Rattle.rt_ops.specs.Rules.{keeps_rules};
 ghost use Rattle.rt_store.specs.Cells.{HasRoom, Spends};
 ghost use Rattle.rt_store.specs.Shown.{shown};
 ghost use Rattle.rt_store.specs.Tagged.{AreStates};

@@ -4,7 +4,7 @@ ghost use Rattle.std.specs.List.{take_while};
 ghost use Rattle.std.specs.List.Sorted.{IsPermutation};
 ghost use Rattle.rt_stamps.specs.declared.stamp.Stamp.{Stamp as StampOf};
 ghost use Rattle.rt_stamps.specs.Stamps.{is_same};
-ghost use Rattle.rt_oplog.specs.Operations.{stamps_in, stamps_of_span, stamp_of};
+ghost use Rattle.rt_ops.specs.Operations.{stamps_in, stamps_of_span, stamp_of};
 ghost use Rattle.rt_store.specs.declared.cell.Cell.{Cell as StoreCell};
 ghost use Rattle.rt_store.specs.Cells.{AreDistinct, cell_of};
 ghost use Rattle.rt_store.specs.Shown.{shown};

@@ -5,7 +5,7 @@ ghost use Rattle.rt_stamps.specs.declared.limits.TheConstants.{MOST_CELLS};
 ghost use Rattle.rt_stamps.specs.declared.stamp.TheConstants.{FINAL};
 ghost use Rattle.rt_store.specs.Cells.{AreDistinct, visible_of};
 ghost use Rattle.rt_store.specs.Spans.{is_in_spans};
-ghost use Rattle.rt_oplog.specs.Operations.{Delete};
+ghost use Rattle.rt_ops.specs.Operations.{Delete};
 ghost use Rattle.rt_rga.specs.Removed.{fall, place_of, places_of};
 ghost use Rattle.rt_rga.specs.Taken.{AreFallingRuns, is_in_runs, takes_away};
 

@@ -4,7 +4,7 @@ ghost use Rattle.rt_stamps.specs.declared.limits.TheConstants.{MOST_CELLS};
 ghost use Rattle.rt_store.specs.Cells.{final_cell};
 ghost use Rattle.rt_store.specs.Tagged.{AreStates};
 ghost use Rattle.rt_tags.specs.States.{KeepsIds};
-ghost use Rattle.rt_oplog.specs.Edits.{body_of};
+ghost use Rattle.rt_ops.specs.Edits.{body_of};
 ghost use Rattle.rt_oplog.specs.Logs.{with_operation};
 ghost use Rattle.rt_rga.specs.Answers.{New, Refused, answer_within, set_after};
 ghost use Rattle.rt_rga.specs.Cells.{cells_of};

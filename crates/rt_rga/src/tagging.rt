@@ -8,7 +8,7 @@ ghost use Rattle.rt_store.specs.Shown.{shown};
 ghost use Rattle.rt_store.specs.Spans.{last_stamp, next_stamp};
 ghost use Rattle.rt_store.specs.Tagged.{AreStates};
 ghost use Rattle.rt_tags.specs.States.{IsState, IsTag, KeepsIds, TagStates, name_at, write_at};
-ghost use Rattle.rt_oplog.specs.Operations.{stamps_in, stamps_of_span};
+ghost use Rattle.rt_ops.specs.Operations.{stamps_in, stamps_of_span};
 ghost use Rattle.rt_rga.specs.Changes.{written_in_any};
 ghost use Rattle.rt_rga.specs.Runs.{cells_found, listed, put_back, put_back_in_any, with_write};
 

@@ -4,7 +4,7 @@ use Rattle.std.specs.Fmt.{decimal}
 use Rattle.rt_stamps.specs.declared.fault.Fault.{Fault}
 use Rattle.rt_stamps.specs.Fault.{text_of}
 use Rattle.rt_words.specs.Writing.{text_of_word}
-use Rattle.rt_show.specs.Shown.{spaced}
+use Rattle.rt_files.specs.Shown.{spaced}
 use Rattle.rt_script.specs.declared.answer.Answer.{Answer}
 use Rattle.rt_script.specs.declared.answer.Answer.TheVariants.{Replied, Refused, Received}
 

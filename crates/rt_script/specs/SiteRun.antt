@@ -6,12 +6,12 @@ use Rattle.rt_stamps.specs.declared.fault.Fault.{Fault}
 use Rattle.rt_stamps.specs.declared.fault.Fault.TheVariants.{NoMemory}
 use Rattle.rt_stamps.specs.declared.limits.TheConstants.{MOST_BYTES, MOST_CELLS}
 use Rattle.rt_stamps.specs.Streams.{Stream}
-use Rattle.rt_oplog.specs.File.{spelling}
+use Rattle.rt_ops.specs.File.{spelling}
 use Rattle.rt_script.specs.Run.{Ends}
 use Rattle.rt_script.specs.State.{State, new_state}
 use Rattle.rt_script.specs.Site.{NamedFile, SiteGives}
 use Rattle.rt_script.specs.SiteStep.{SiteReceives}
-use Rattle.rt_exchange.specs.declared.receiving.Received.{Received}
+use Rattle.rt_editing.specs.declared.receiving.Received.{Received}
 use Rattle.rt_script.specs.declared.site_run.Outcome.{Outcome}
 
 -- A site begins as a new one, which has room for all cells there may be; or with all that it receives of a log.

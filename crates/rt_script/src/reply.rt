@@ -2,21 +2,22 @@
 ghost use Rattle.std.specs.Prelude.{◌≡◌, ◌+◌, ◌<◌, ◌∷◌, ◌++◌, [], IfErr, IfSome, codes, flat_map, string_bytes};
 ghost use Rattle.std.specs.Fmt.{decimal};
 ghost use Rattle.std.specs.List.{list_any};
-ghost use Rattle.rt_show.specs.Shown.{spaced};
+ghost use Rattle.rt_files.specs.Shown.{spaced};
 ghost use Rattle.rt_stamps.specs.Source.{failures_of};
 ghost use Rattle.rt_words.specs.Writing.{text_of_word};
 ghost use Rattle.rt_stamps.specs.Written.{Wrote};
 ghost use Rattle.rt_script.specs.Replies.{text_of_answer, text_of_received, text_of_refusal, reply_line};
 
 use crate::Answer;
+use rt_files::parts::{Part, write_parts};
 use rt_peers::Received;
-use rt_show::parts::{Part, write_parts};
 use rt_stamps::{Fault, Sink, write_all};
 use rt_words::{has_quoted, write_word};
 
 /// Writes the line of an answer: `=` and the words of a reply, or `!` and a fault's number and
 /// name; of a file that was received how many of its operations were new and how many repeats, behind
-/// `=`, or behind its fault and the fault's offset. `WriteFault` where a write fails or takes nothing; a front of the line was then written.
+/// `=`, or behind its fault and the fault's offset. `WriteFault` where a write fails or takes nothing;
+/// a front of the line was then written.
 pub fn reply_line<W: Sink>(answer: &Answer, out: &mut W) -> Result<(), Fault>
     ensures wrote { Wrote (W.contents out.old) (W.contents out.new) result (reply_line answer.now) }
     ensures fault { IfErr result (λ fault. fault ≡ Fault.WriteFault) }

@@ -11,7 +11,7 @@ use Rattle.rt_marks.proofs.InOrder.{split}
 use Rattle.rt_marks.proofs.Names.{clash, same_name, name_itself, differ_back, names_differ}
 use Rattle.rt_marks.proofs.Order.{lt_trans, lt_asym, lt_neither}
 use Rattle.rt_stamps.specs.Words.{Word}
-use Rattle.rt_tagcmd.specs.MarkCommands.{with_name, by_bytes}
+use Rattle.rt_tagcmd.specs.MarkCommands.{inserted_by_bytes, by_bytes}
 
 abbrev has : Word → List Word → Bool
 has q names = list_any (λ x. bytes_eq x q) names
@@ -34,21 +34,21 @@ either_order false b c = refl
 
 -- ONE NAME AMONG OTHERS
 
-has_with : (n : Word) (names : List Word) (q : Word) → has q (with_name n names) ≡ (bytes_eq n q || has q names)
+has_with : (n : Word) (names : List Word) (q : Word) → has q (inserted_by_bytes n names) ≡ (bytes_eq n q || has q names)
 has_with n [] q = refl
 has_with n (x ∷ names) q =
     let more = has_with n names q in
     split (is_lt (name_order x n))
-    (λ t. ap (λ b. has q (cond b (x ∷ with_name n names) (n ∷ x ∷ names))) t ∙ ap (λ v. bytes_eq x q || v) more ∙ either_order (bytes_eq x q) (bytes_eq n q) (has q names))
-    (λ f. ap (λ b. has q (cond b (x ∷ with_name n names) (n ∷ x ∷ names))) f)
+    (λ t. ap (λ b. has q (cond b (x ∷ inserted_by_bytes n names) (n ∷ x ∷ names))) t ∙ ap (λ v. bytes_eq x q || v) more ∙ either_order (bytes_eq x q) (bytes_eq n q) (has q names))
+    (λ f. ap (λ b. has q (cond b (x ∷ inserted_by_bytes n names) (n ∷ x ∷ names))) f)
 
-each_with : (P : Word → Type 0) (n : Word) (names : List Word) → P n → Each P names → Each P (with_name n names)
+each_with : (P : Word → Type 0) (n : Word) (names : List Word) → P n → Each P names → Each P (inserted_by_bytes n names)
 each_with P n [] h k = (h, tt)
 each_with P n (x ∷ names) h k =
     let more = each_with P n names h k.1 in
     split (is_lt (name_order x n))
-    (λ t. subst (λ b. Each P (cond b (x ∷ with_name n names) (n ∷ x ∷ names))) (sym t) (k.0, more))
-    (λ f. subst (λ b. Each P (cond b (x ∷ with_name n names) (n ∷ x ∷ names))) (sym f) (h, k))
+    (λ t. subst (λ b. Each P (cond b (x ∷ inserted_by_bytes n names) (n ∷ x ∷ names))) (sym t) (k.0, more))
+    (λ f. subst (λ b. Each P (cond b (x ∷ inserted_by_bytes n names) (n ∷ x ∷ names))) (sym f) (h, k))
 
 all_below : (a b : Word) (names : List Word) → Below a b → Each (Below b) names → Each (Below a) names
 all_below a b [] h k = tt
@@ -70,15 +70,15 @@ comes_first n x d f =
     (λ g. let e : n ≡ x = slice_cmp-IsAntisymmetric nat_cmp-IsAntisymmetric _ _ (lt_neither nat_list_cmp_total n x g f) in
     absurd (clash _ ((bytes_eq-Decides x n).1 (sym e)) d))
 
-ascending_with : (n : Word) (names : List Word) → has n names ≡ false → AreAscending names → AreAscending (with_name n names)
+ascending_with : (n : Word) (names : List Word) → has n names ≡ false → AreAscending names → AreAscending (inserted_by_bytes n names)
 ascending_with n [] h k = (tt, tt)
 ascending_with n (x ∷ names) h k =
     let apart = or_none_first (bytes_eq x n) (has n names) h in
     let more = ascending_with n names (or_none_second (bytes_eq x n) (has n names) h) k.1 in
     split (is_lt (name_order x n))
-    (λ t. subst (λ b. AreAscending (cond b (x ∷ with_name n names) (n ∷ x ∷ names))) (sym t) (each_with (Below x) n names t k.0, more))
+    (λ t. subst (λ b. AreAscending (cond b (x ∷ inserted_by_bytes n names) (n ∷ x ∷ names))) (sym t) (each_with (Below x) n names t k.0, more))
     (λ f. let first = comes_first n x apart f in
-    subst (λ b. AreAscending (cond b (x ∷ with_name n names) (n ∷ x ∷ names))) (sym f) ((first, all_below n x names first k.0), k))
+    subst (λ b. AreAscending (cond b (x ∷ inserted_by_bytes n names) (n ∷ x ∷ names))) (sym f) ((first, all_below n x names first k.0), k))
 
 -- NAMES OF MARKS
 
@@ -162,7 +162,7 @@ is_under name x = is_lt (name_order (string_bytes x) name)
 one_more : (n : ℕ) → 1 + n ≡ suc n
 one_more n = omega arith
 
-pub put_in : (name : Word) (added : String Global) (names : List (String Global)) → string_bytes added ≡ name → map (λ s. string_bytes s) (insert names (prefix_len (is_under name) names) added) ≡ with_name name (map (λ s. string_bytes s) names)
+pub put_in : (name : Word) (added : String Global) (names : List (String Global)) → string_bytes added ≡ name → map (λ s. string_bytes s) (insert names (prefix_len (is_under name) names) added) ≡ inserted_by_bytes name (map (λ s. string_bytes s) names)
 put_in name added [] e = ap (λ v. v ∷ []) e
 put_in name added (x ∷ names) e =
     let more = put_in name added names e in
@@ -170,6 +170,6 @@ put_in name added (x ∷ names) e =
     split (is_under name x)
     (λ t. ap (λ b. map (λ s. string_bytes s) (insert (x ∷ names) (cond b (1 + prefix_len (is_under name) names) 0) added)) t
     ∙ ap (λ n. map (λ s. string_bytes s) (insert (x ∷ names) n added)) (one_more (prefix_len (is_under name) names))
-    ∙ ap (λ v. string_bytes x ∷ v) more ∙ ap (λ b. cond b (string_bytes x ∷ with_name name rest) (name ∷ string_bytes x ∷ rest)) (sym t))
+    ∙ ap (λ v. string_bytes x ∷ v) more ∙ ap (λ b. cond b (string_bytes x ∷ inserted_by_bytes name rest) (name ∷ string_bytes x ∷ rest)) (sym t))
     (λ f. ap (λ b. map (λ s. string_bytes s) (insert (x ∷ names) (cond b (1 + prefix_len (is_under name) names) 0) added)) f
-    ∙ ap (λ v. v ∷ string_bytes x ∷ rest) e ∙ ap (λ b. cond b (string_bytes x ∷ with_name name rest) (name ∷ string_bytes x ∷ rest)) (sym f))
+    ∙ ap (λ v. v ∷ string_bytes x ∷ rest) e ∙ ap (λ b. cond b (string_bytes x ∷ inserted_by_bytes name rest) (name ∷ string_bytes x ∷ rest)) (sym f))

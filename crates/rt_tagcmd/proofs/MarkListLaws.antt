@@ -11,7 +11,7 @@ use Rattle.rt_marks.proofs.Names.{clash, named_with, none_cons, ordered_with}
 use Rattle.rt_marks.proofs.Order.{before_asym, before_irrefl, before_trans}
 use Rattle.rt_text.specs.Widgets.{Viewed, marks_of}
 use Rattle.rt_tagcmd.specs.Looking.{edge}
-use Rattle.rt_tagcmd.specs.MarkLists.{marks_from, marks_left}
+use Rattle.rt_tagcmd.specs.MarkLists.{marks_from, marks_ahead}
 use Rattle.rt_tagcmd.proofs.LookingLaws.{edge_first}
 
 -- ONE AFTER ANOTHER
@@ -91,7 +91,7 @@ not_before p b l = grind (arith, nat_tests)
 is_before : (p b : ℕ) → p < b → nat_lt p b ≡ true
 is_before p b l = grind (arith, nat_tests)
 
-none_far : (b : ℕ) (m : Mark) (marks : List Mark) → b ≤ m.place → marks_left b m marks ≡ []
+none_far : (b : ℕ) (m : Mark) (marks : List Mark) → b ≤ m.place → marks_ahead b m marks ≡ []
 none_far b m [] l = refl
 none_far b m (y ∷ marks) l =
     split (comes_before m y)
@@ -103,24 +103,24 @@ none_far b m (y ∷ marks) l =
 
 -- WALKS
 
-pub left_found : (b : ℕ) (h m : Mark) (marks : List Mark) → AreInOrder marks → find (comes_before h) marks ≡ Some m → m.place < b → marks_left b h marks ≡ m ∷ marks_left b m marks
+pub left_found : (b : ℕ) (h m : Mark) (marks : List Mark) → AreInOrder marks → find (comes_before h) marks ≡ Some m → m.place < b → marks_ahead b h marks ≡ m ∷ marks_ahead b m marks
 left_found b h m marks o e l = ap (filter (λ x. nat_lt x.place b)) (found_after h m marks o e) ∙ taken (λ x. nat_lt x.place b) m (after m marks) (is_before m.place b l)
 
-pub left_far : (b : ℕ) (h m : Mark) (marks : List Mark) → AreInOrder marks → find (comes_before h) marks ≡ Some m → b ≤ m.place → marks_left b h marks ≡ []
+pub left_far : (b : ℕ) (h m : Mark) (marks : List Mark) → AreInOrder marks → find (comes_before h) marks ≡ Some m → b ≤ m.place → marks_ahead b h marks ≡ []
 left_far b h m marks o e l =
     ap (filter (λ x. nat_lt x.place b)) (found_after h m marks o e) ∙ passed (λ x. nat_lt x.place b) m (after m marks) (not_before m.place b l) ∙ none_far b m marks l
 
-pub left_none : (b : ℕ) (h : Mark) (marks : List Mark) → find (comes_before h) marks ≡ None → marks_left b h marks ≡ []
+pub left_none : (b : ℕ) (h : Mark) (marks : List Mark) → find (comes_before h) marks ≡ None → marks_ahead b h marks ≡ []
 left_none b h marks e = ap (filter (λ x. nat_lt x.place b)) (none_after h marks e)
 
 -- from an edge
-pub left_first : (from b : ℕ) (marks : List Mark) → Each (λ m. IsName m.name) marks → marks_from from b marks ≡ marks_left b (edge from) marks
+pub left_first : (from b : ℕ) (marks : List Mark) → Each (λ m. IsName m.name) marks → marks_from from b marks ≡ marks_ahead b (edge from) marks
 left_first from b [] h = refl
 left_first from b (x ∷ marks) h =
     let more = left_first from b marks h.1 in
     by (nat_le from x.place) more ∙ sym (ap (λ c. filter (λ m. nat_lt m.place b) (cond c (x ∷ after (edge from) marks) (after (edge from) marks))) (edge_first from x h.0))
   where
-    by : (c : Bool) → marks_from from b marks ≡ marks_left b (edge from) marks
+    by : (c : Bool) → marks_from from b marks ≡ marks_ahead b (edge from) marks
         → cond (c && nat_lt x.place b) (x ∷ marks_from from b marks) (marks_from from b marks) ≡ filter (λ m. nat_lt m.place b) (cond c (x ∷ after (edge from) marks) (after (edge from) marks))
     by true e = ap (λ v. cond (nat_lt x.place b) (x ∷ v) v) e
     by false e = e

@@ -57,14 +57,14 @@ mark_gravity_set view name gravity =
 -- mark names
 
 -- a name among names that ascend by their bytes
-abbrev pub with_name : Word → List Word → List Word
-with_name name [] = name ∷ []
-with_name name (x ∷ names) = if is_lt (name_order x name) then x ∷ with_name name names else name ∷ x ∷ names
+abbrev pub inserted_by_bytes : Word → List Word → List Word
+inserted_by_bytes name [] = name ∷ []
+inserted_by_bytes name (x ∷ names) = if is_lt (name_order x name) then x ∷ inserted_by_bytes name names else name ∷ x ∷ names
 
 -- names, put in order by their bytes
 abbrev pub by_bytes : List Word → List Word
 by_bytes [] = []
-by_bytes (name ∷ names) = with_name name (by_bytes names)
+by_bytes (name ∷ names) = inserted_by_bytes name (by_bytes names)
 
 abbrev pub mark_names : Viewed → List Word
 mark_names view = by_bytes (codes "insert" ∷ codes "current" ∷ map (λ m. m.name) view.doc.marks)

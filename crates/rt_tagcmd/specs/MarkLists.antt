@@ -7,5 +7,5 @@ abbrev pub marks_from : ℕ → ℕ → List Mark → List Mark
 marks_from from behind marks = filter (λ m. nat_le from m.place && nat_lt m.place behind) marks
 
 -- those that come after a mark, and stand before a place
-abbrev pub marks_left : ℕ → Mark → List Mark → List Mark
-marks_left behind here marks = filter (λ m. nat_lt m.place behind) (filter (comes_before here) marks)
+abbrev pub marks_ahead : ℕ → Mark → List Mark → List Mark
+marks_ahead behind here marks = filter (λ m. nat_lt m.place behind) (filter (comes_before here) marks)

@@ -1,7 +1,7 @@
 // The marks of a stretch of a text.
 ghost use Rattle.std.specs.Prelude.{◌≡◌, ◌∷◌, [], IfErr, IfOk, IfSome, None, map};
 ghost use Rattle.rt_marks.specs.Seen.{spotted};
-ghost use Rattle.rt_tagcmd.specs.MarkLists.{marks_from, marks_left};
+ghost use Rattle.rt_tagcmd.specs.MarkLists.{marks_from, marks_ahead};
 ghost use Rattle.rt_text.specs.Widgets.{marks_of};
 
 use crate::nearest::first_after;
@@ -18,9 +18,9 @@ fn next_before<'a, S: TextStore>(
     here: &Spot<'_>,
     behind: usize,
 ) -> Option<Spot<'a>>
-    ensures some { IfSome result (λ spot. marks_left behind (spotted here.now) (marks_of view.now)
-        ≡ spotted spot ∷ marks_left behind (spotted spot) (marks_of view.now)) }
-    ensures none { result ≡ None → marks_left behind (spotted here.now) (marks_of view.now) ≡ [] }
+    ensures some { IfSome result (λ spot. marks_ahead behind (spotted here.now) (marks_of view.now)
+        ≡ spotted spot ∷ marks_ahead behind (spotted spot) (marks_of view.now)) }
+    ensures none { result ≡ None → marks_ahead behind (spotted here.now) (marks_of view.now) ≡ [] }
 {
     order(view);
     let spot = first_after(view, here)?;

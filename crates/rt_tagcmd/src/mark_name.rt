@@ -3,7 +3,7 @@ ghost use Rattle.std.specs.Prelude.{◌≡◌, ◌≤◌, IfOk, IfErr, OnOk, OnE
 ghost use Rattle.std.specs.List.{prefix_len};
 ghost use Rattle.std.specs.Ordering.{is_lt};
 ghost use Rattle.rt_marks.specs.Marks.{name_order};
-ghost use Rattle.rt_tagcmd.specs.MarkCommands.{mark_names, with_name};
+ghost use Rattle.rt_tagcmd.specs.MarkCommands.{mark_names, inserted_by_bytes};
 
 use rt_stamps::Fault;
 use rt_store::TextStore;
@@ -27,7 +27,7 @@ fn count_below(names: &[String], name: &str) -> usize
 
 /// Puts a name among names that ascend by their bytes.
 fn add_name(alloc: Global, names: &mut Vec<String>, name: &str) -> Result<(), Fault>
-    ensures ok { OnOk result (map (λ s. string_bytes s) names.new.items ≡ with_name name.now (map (λ s. string_bytes s) names.old.items)) }
+    ensures ok { OnOk result (map (λ s. string_bytes s) names.new.items ≡ inserted_by_bytes name.now (map (λ s. string_bytes s) names.old.items)) }
     ensures fault { IfErr result (λ fault. fault ≡ Fault.NoMemory) }
 {
     let added = String::from_str(alloc, name)?;

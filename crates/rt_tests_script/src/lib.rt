@@ -10,6 +10,8 @@ mod checks;
 #[cfg(test)]
 mod commands;
 #[cfg(test)]
+mod embedding;
+#[cfg(test)]
 mod exchange;
 #[cfg(test)]
 mod expressions;

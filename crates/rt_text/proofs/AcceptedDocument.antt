@@ -15,9 +15,9 @@ use Rattle.rt_stamps.specs.declared.stamp.Stamp.{Stamp}
 use Rattle.rt_stamps.specs.declared.stamp.TheConstants.{ROOT}
 use Rattle.rt_stamps.specs.Words.{Word}
 use Rattle.rt_oplog.specs.Logs.{with_operation}
-use Rattle.rt_oplog.specs.Operations.{Body, Insert, Delete, Tag, Name, Operation, stamp_of}
-use Rattle.rt_oplog.specs.Rules.{is_name, keeps_rules}
-use Rattle.rt_oplog.proofs.Lengths.{tags_are}
+use Rattle.rt_ops.specs.Operations.{Body, Insert, Delete, Tag, Name, Operation, stamp_of}
+use Rattle.rt_ops.specs.Rules.{is_name, keeps_rules}
+use Rattle.rt_ops.proofs.Lengths.{tags_are}
 use Rattle.rt_store.specs.Cells.{cells_from, put_at, skip_from, text_of, visible_of, with_state}
 use Rattle.rt_store.specs.Shown.{TaggedCell}
 use Rattle.rt_store.specs.Spans.{gone_in_any, is_in_spans}

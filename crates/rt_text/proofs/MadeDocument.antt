@@ -3,7 +3,7 @@ use Rattle.std.proofs.Common.{◌≡◌, ◌∙◌, ℕ, ◌+◌, ◌<◌, ◌�
 use Rattle.std.specs.Prelude.{nat_lt}
 use Rattle.std.proofs.lemmas.Bool.{cond-false, le-ltb, ltb-true, ltb-false}
 use Rattle.rt_marks.specs.Marks.{Mark}
-use Rattle.rt_oplog.specs.Operations.{Body, Operation}
+use Rattle.rt_ops.specs.Operations.{Body, Operation}
 use Rattle.rt_stamps.specs.declared.fault.Fault.{Fault}
 use Rattle.rt_stamps.specs.declared.fault.Fault.TheVariants.{ClockSpent, TextFull}
 use Rattle.rt_stamps.specs.declared.limits.TheConstants.{GREATEST_COUNT}

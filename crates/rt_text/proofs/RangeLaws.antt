@@ -4,7 +4,7 @@ use Rattle.std.specs.Prelude.{encode_utf8_all}
 use Rattle.std.specs.Result.{result_err, result_unwrap_or}
 use Rattle.std.proofs.lemmas.List.{drop_more, length-drop, length-take}
 use Rattle.rt_index.specs.Index.{index_of}
-use Rattle.rt_index.specs.Widget.{Widget}
+use Rattle.rt_index.specs.Widget.{IndexedWidget}
 use Rattle.rt_stamps.specs.declared.fault.Fault.{Fault}
 use Rattle.rt_stamps.specs.declared.fault.Fault.TheVariants.{NoMemory}
 use Rattle.rt_stamps.specs.Outcomes.{first_of, Refuses}
@@ -13,14 +13,14 @@ use Rattle.rt_text.specs.Index.{index_check, place_at_index}
 use Rattle.rt_text.specs.Ranges.{text_between, has_characters, texts_of}
 
 -- one index more
-pub places_more : (w : Widget) (words : List (String Global)) (i : ℕ) (word : String Global) (place : ℕ) → i < length words → word ≡ get_or words i word → index_of w (string_bytes word) ≡ Ok place
+pub places_more : (w : IndexedWidget) (words : List (String Global)) (i : ℕ) (word : String Global) (place : ℕ) → i < length words → word ≡ get_or words i word → index_of w (string_bytes word) ≡ Ok place
     → map (place_at_index w) (map (λ w. string_bytes w) (drop i words)) ≡ place ∷ map (place_at_index w) (map (λ w. string_bytes w) (drop (i + 1) words))
 places_more w words i word place h s e =
     let rest : List ℕ = map (place_at_index w) (map (λ w. string_bytes w) (drop (i + 1) words)) in
     ap (λ l. map (place_at_index w) (map (λ w. string_bytes w) l)) (drop_more words i word h)
     ∙ ap (λ (x : String Global). place_at_index w (string_bytes x) ∷ rest) (sym s) ∙ ap (λ r. result_unwrap_or r 0 ∷ rest) e
 
-pub checks_more : (w : Widget) (words : List (String Global)) (i : ℕ) (word : String Global) (place : ℕ) → i < length words → word ≡ get_or words i word → index_of w (string_bytes word) ≡ Ok place
+pub checks_more : (w : IndexedWidget) (words : List (String Global)) (i : ℕ) (word : String Global) (place : ℕ) → i < length words → word ≡ get_or words i word → index_of w (string_bytes word) ≡ Ok place
     → first_of (map (index_check w) (map (λ w. string_bytes w) (drop i words))) ≡ first_of (map (index_check w) (map (λ w. string_bytes w) (drop (i + 1) words)))
 checks_more w words i word place h s e =
     let rest : List (Option Fault) = map (index_check w) (map (λ w. string_bytes w) (drop (i + 1) words)) in
@@ -28,7 +28,7 @@ checks_more w words i word place h s e =
     ∙ ap (λ (x : String Global). first_of (index_check w (string_bytes x) ∷ rest)) (sym s) ∙ ap (λ r. first_of (result_err r ∷ rest)) e
 
 -- an index that is refused after others that were found
-pub checks_stop : (w : Widget) (words : List (String Global)) (i : ℕ) (word : String Global) (fault found : Fault) → i < length words → word ≡ get_or words i word → Refuses (index_of w (string_bytes word)) found → fault ≡ found
+pub checks_stop : (w : IndexedWidget) (words : List (String Global)) (i : ℕ) (word : String Global) (fault found : Fault) → i < length words → word ≡ get_or words i word → Refuses (index_of w (string_bytes word)) found → fault ≡ found
     → first_of (map (index_check w) (map (λ w. string_bytes w) (drop i words))) ≡ first_of (map (index_check w) (map (λ w. string_bytes w) words))
     → (fault ≡ NoMemory) ⊎ (first_of (map (index_check w) (map (λ w. string_bytes w) words)) ≡ Some fault)
 checks_stop w words i word fault found h s (inl e) f same = inl (f ∙ e)

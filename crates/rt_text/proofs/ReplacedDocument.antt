@@ -8,7 +8,7 @@ use Rattle.rt_stamps.specs.declared.limits.TheConstants.{GREATEST_COUNT, MOST_CE
 use Rattle.rt_stamps.specs.Outcomes.{first_of}
 use Rattle.rt_stamps.specs.Words.{Word}
 use Rattle.rt_marks.specs.Marks.{marks_left}
-use Rattle.rt_oplog.specs.Operations.{Body, Operation}
+use Rattle.rt_ops.specs.Operations.{Body, Operation}
 use Rattle.rt_store.specs.Cells.{text_of}
 use Rattle.rt_store.specs.Shown.{TaggedCell}
 use Rattle.std.proofs.lemmas.List.{length-map}

@@ -13,7 +13,7 @@ use Rattle.rt_stamps.specs.declared.stamp.TheConstants.{FINAL, ROOT}
 use Rattle.rt_stamps.specs.Stamps.{is_same}
 use Rattle.rt_stamps.specs.Words.{Word}
 use Rattle.rt_stamps.proofs.Order.{same_refl, same_sym}
-use Rattle.rt_oplog.specs.Operations.{Body, Delete, last_of}
+use Rattle.rt_ops.specs.Operations.{Body, Delete, last_of}
 use Rattle.rt_store.specs.Cells.{AreDistinct, stamps_of, visible_of}
 use Rattle.rt_store.specs.Shown.{TaggedCell}
 use Rattle.rt_store.specs.Spans.{is_among}

@@ -5,7 +5,7 @@ use Rattle.std.specs.List.{position_or_len}
 use Rattle.std.proofs.lemmas.Bool.{le-ltb, lt-ltb, cases_lt}
 use Rattle.std.proofs.lemmas.List.Elements.{All-filter}
 use Rattle.std.proofs.lemmas.Option.{get_or_from_slice_get, slice_get_within}
-use Rattle.rt_index.specs.Widget.{Ends, tag_first, tag_last}
+use Rattle.rt_index.specs.Widget.{TagEnds, tag_first, tag_last}
 use Rattle.rt_marks.specs.Marks.{Mark, HaveOwnNames, named}
 use Rattle.rt_marks.proofs.Moving.{named_moved, own_moved}
 use Rattle.rt_marks.proofs.Names.{named_in_order}
@@ -106,13 +106,13 @@ no_last test xs h =
         absurd bad
     by (inr le) = last_none test xs (omega (arith, few test xs))
 
-first_is : (b : Bool) (next last : Option ℕ) → b ≡ true → (last ≡ None → next ≡ None) → option_map (λ (ends : Ends). ends.first) (ends_in (tag_by b (ends_by next last))) ≡ next
+first_is : (b : Bool) (next last : Option ℕ) → b ≡ true → (last ≡ None → next ≡ None) → option_map (λ (ends : TagEnds). ends.first) (ends_in (tag_by b (ends_by next last))) ≡ next
 first_is true (Some p) (Some q) e h = refl
 first_is true (Some p) None e h = let none : Some p ≡ None = h refl in let bad : ⊥ = cc in absurd bad
 first_is true None last e h = refl
 first_is false next last e h = let bad : ⊥ = cc in absurd bad
 
-last_is : (b : Bool) (next last : Option ℕ) → b ≡ true → (next ≡ None → last ≡ None) → option_map (λ (ends : Ends). ends.last) (ends_in (tag_by b (ends_by next last))) ≡ option_map (λ q. q + 1) last
+last_is : (b : Bool) (next last : Option ℕ) → b ≡ true → (next ≡ None → last ≡ None) → option_map (λ (ends : TagEnds). ends.last) (ends_in (tag_by b (ends_by next last))) ≡ option_map (λ q. q + 1) last
 last_is true (Some p) (Some q) e h = refl
 last_is true (Some p) None e h = refl
 last_is true None last e h = ap (option_map (λ q. q + 1)) (sym (h refl))

@@ -3,8 +3,8 @@ use Rattle.std.proofs.Common.{◌≡◌, ◌∙◌, ◌⊎◌, ℕ, ◌<◌, ◌
 use Rattle.std.specs.Str.{bytes_eq}
 use Rattle.std.proofs.lemmas.List.{append-nil}
 use Rattle.rt_marks.specs.Marks.{Mark}
-use Rattle.rt_oplog.specs.Operations.{Body}
-use Rattle.rt_oplog.specs.Rules.{is_name}
+use Rattle.rt_ops.specs.Operations.{Body}
+use Rattle.rt_ops.specs.Rules.{is_name}
 use Rattle.rt_stamps.specs.declared.fault.Fault.{Fault}
 use Rattle.rt_stamps.specs.declared.fault.Fault.TheVariants.{NoMemory}
 use Rattle.rt_stamps.specs.declared.limits.TheConstants.{GREATEST_COUNT, MOST_SPANS}

@@ -1,7 +1,7 @@
 -- The commands on a text.
 use Rattle.std.specs.Prelude.{ℕ, ◌+◌, ◌-◌, ℤ, List, [], ◌∷◌, ◌++◌, length, map, flat_map, min, nat_lt, ◌&&◌, Bool, Option, Some, None, is_some, Result, if◌then◌else◌, encode_utf8_all}
 use Rattle.std.specs.Str.{bytes_eq}
-use Rattle.rt_index.specs.Widget.{Widget}
+use Rattle.rt_index.specs.Widget.{IndexedWidget}
 use Rattle.rt_marks.specs.Marks.{marks_inserted}
 use Rattle.rt_stamps.specs.declared.limits.TheConstants.{GREATEST_COUNT, MOST_CHARACTERS, MOST_SPANS}
 use Rattle.rt_stamps.specs.declared.fault.Fault.{Fault}
@@ -51,7 +51,7 @@ cell_check limit cells = if nat_lt limit cells then Some TextFull else None
 -- PLACES
 
 -- an insertion at the end stands before the last newline
-abbrev pub insertion_place : Widget → Word → ℕ
+abbrev pub insertion_place : IndexedWidget → Word → ℕ
 insertion_place w word = min (place_at_index w word) (length w.text - 1)
 
 -- EDITS

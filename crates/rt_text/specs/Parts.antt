@@ -4,7 +4,7 @@ use Rattle.rt_stamps.specs.declared.stamp.Stamp.{Stamp}
 use Rattle.rt_store.specs.Spans.{is_among}
 use Rattle.rt_edits.specs.declared.inserting.Between.{Between}
 use Rattle.rt_edits.specs.Insertions.{selected_if}
-use Rattle.rt_edits.specs.Selected.{room_in, stamps_in}
+use Rattle.rt_edits.specs.Selected.{room_in, selected_stamps}
 use Rattle.rt_text.specs.declared.parts.Parts.{Parts}
 use Rattle.rt_text.specs.Widgets.{Own}
 
@@ -13,7 +13,7 @@ abbrev pub own_in : Parts → Own
 own_in parts = record {
   insert = record { name = codes "insert"; place = parts.insert.place; gravity = parts.insert.gravity };
   current = record { name = codes "current"; place = parts.current.place; gravity = parts.current.gravity };
-  sel = stamps_in parts.selection;
+  sel = selected_stamps parts.selection;
   limits = parts.limits;
 }
 
@@ -21,7 +21,7 @@ own_in parts = record {
 abbrev pub HaveRoomFor : Option Between → List Parts → Type 0
 HaveRoomFor None others = Unit {0}
 HaveRoomFor (Some between) others =
-    All (λ parts. (is_among (stamps_in parts.selection) between.left && is_among (stamps_in parts.selection) between.right) ≡ true
+    All (λ parts. (is_among (selected_stamps parts.selection) between.left && is_among (selected_stamps parts.selection) between.right) ≡ true
     → length between.stamps.items ≤ room_in parts.selection) others
 
 -- characters come to be selected where both of these are

@@ -4,7 +4,7 @@ use Rattle.std.specs.Prelude.{codes, IsSome, option_map, option_and_then, nat_lt
 use Rattle.std.specs.List.{position_or_len}
 use Rattle.std.specs.Str.{bytes_eq}
 use Rattle.std.proofs.lemmas.List.{length-drop, length-map, length-take}
-use Rattle.rt_index.specs.Widget.{Ends, IsProper, IsName}
+use Rattle.rt_index.specs.Widget.{TagEnds, IsProper, IsName}
 use Rattle.rt_marks.specs.Marks.{Mark, is_named, named}
 use Rattle.rt_stamps.specs.declared.limits.TheConstants.{MOST_CELLS}
 use Rattle.rt_stamps.specs.Words.{Word}
@@ -71,34 +71,34 @@ pub last_within : {A : Type 0} (test : A → Bool) (xs : List A) (place : ℕ) �
 last_within test [] place e = let bad : ⊥ = cc in absurd bad
 last_within test (x ∷ xs) place e = last_step (test x) (last_place test xs) (length xs) (λ p h. last_within test xs p h) place e
 
-abbrev pub ends_by : Option ℕ → Option ℕ → Option Ends
+abbrev pub ends_by : Option ℕ → Option ℕ → Option TagEnds
 ends_by next last = option_and_then (λ p. option_map (λ q. record { first = p; last = q + 1 }) last) next
 
-abbrev pub tag_by : Bool → Option Ends → Option (Option Ends)
+abbrev pub tag_by : Bool → Option TagEnds → Option (Option TagEnds)
 tag_by listed ends = cond listed (Some ends) None
 
-abbrev pub ends_in : Option (Option Ends) → Option Ends
-ends_in o = option_and_then (λ (ends : Option Ends). ends) o
+abbrev pub ends_in : Option (Option TagEnds) → Option TagEnds
+ends_in o = option_and_then (λ (ends : Option TagEnds). ends) o
 
 first_by : (n : ℕ) (b : Bool) (next last : Option ℕ) → ((p : ℕ) → next ≡ Some p → p ≤ n) → (place : ℕ)
-    → option_map (λ (ends : Ends). ends.first) (ends_in (tag_by b (ends_by next last))) ≡ Some place → place ≤ n
+    → option_map (λ (ends : TagEnds). ends.first) (ends_in (tag_by b (ends_by next last))) ≡ Some place → place ≤ n
 first_by n true (Some p) (Some q) h place e = let same : p ≡ place = cc in omega (arith, h p refl)
 first_by n true (Some p) None h place e = let bad : ⊥ = cc in absurd bad
 first_by n true None last h place e = let bad : ⊥ = cc in absurd bad
 first_by n false next last h place e = let bad : ⊥ = cc in absurd bad
 
 last_by : (n : ℕ) (b : Bool) (next last : Option ℕ) → ((p : ℕ) → last ≡ Some p → p < n) → (place : ℕ)
-    → option_map (λ (ends : Ends). ends.last) (ends_in (tag_by b (ends_by next last))) ≡ Some place → place ≤ n
+    → option_map (λ (ends : TagEnds). ends.last) (ends_in (tag_by b (ends_by next last))) ≡ Some place → place ≤ n
 last_by n true (Some p) (Some q) h place e = let same : q + 1 ≡ place = cc in omega (arith, h q refl)
 last_by n true (Some p) None h place e = let bad : ⊥ = cc in absurd bad
 last_by n true None last h place e = let bad : ⊥ = cc in absurd bad
 last_by n false next last h place e = let bad : ⊥ = cc in absurd bad
 
-is_tag : (b : Bool) (ends : Option Ends) → IsSome (tag_by b ends) → b ≡ true
+is_tag : (b : Bool) (ends : Option TagEnds) → IsSome (tag_by b ends) → b ≡ true
 is_tag true ends h = refl
 is_tag false ends h = h
 
-some_tag : (b : Bool) (ends : Option Ends) → b ≡ true → IsSome (tag_by b ends)
+some_tag : (b : Bool) (ends : Option TagEnds) → b ≡ true → IsSome (tag_by b ends)
 some_tag true ends h = refl
 some_tag false ends h = h
 

@@ -1,7 +1,7 @@
 -- A widget: its own marks, and what index expressions see of it.
 use Rattle.std.specs.Prelude.{◌≡◌, ℕ, ◌+◌, ◌-◌, ◌<◌, ◌≤◌, ◌&&◌, nat_lt, Bool, false, List, [], ◌∷◌, length, map, min, filter, Option, Some, None, is_some, option_map, option_and_then, slice_get, unwrap_or, if◌then◌else◌, codes}
 use Rattle.std.specs.Str.{bytes_eq}
-use Rattle.rt_index.specs.Widget.{Widget, Ends}
+use Rattle.rt_index.specs.Widget.{IndexedWidget, TagEnds}
 use Rattle.rt_marks.specs.declared.gravity.Gravity.{Gravity}
 use Rattle.rt_marks.specs.declared.gravity.Gravity.TheVariants.{Right}
 use Rattle.rt_marks.specs.Marks.{Mark, Each, IsName, named, in_order, with_mark, mark_inserted, mark_removed, mark_left}
@@ -222,25 +222,25 @@ abbrev pub tags_on : Own → List Word → TaggedCell → List Word
 tags_on own tags cell = filter (λ name. is_tagged own name cell) tags
 
 -- where characters that pass a test begin and end, if there are any
-abbrev pub ends_of : (TaggedCell → Bool) → List TaggedCell → Option Ends
+abbrev pub ends_of : (TaggedCell → Bool) → List TaggedCell → Option TagEnds
 ends_of test characters =
     option_and_then (λ first. option_map (λ last. record { first = first; last = last + 1 }) (last_place test characters)) (next_place test characters 0)
 
 -- a listed tag, and its ends where some of the characters has it
-abbrev pub tag_ends : Own → List TaggedCell → List Word → Word → Option (Option Ends)
+abbrev pub tag_ends : Own → List TaggedCell → List Word → Word → Option (Option TagEnds)
 tag_ends own characters tags name = if is_listed name tags then Some (ends_of (is_tagged own name) characters) else None
 
 -- WHAT INDEX EXPRESSIONS SEE
 
 -- the characters of a stretch, the places of marks among them, and the tags of a widget
-abbrev pub widget_over : Stretch → List TaggedCell → List Mark → List Word → Own → Widget
+abbrev pub widget_over : Stretch → List TaggedCell → List Mark → List Word → Own → IndexedWidget
 widget_over stretch cells marks tags own = record {
   text = part stretch (text_of cells);
   marks = λ name. option_map (λ m. m.place) (mark_among (own_seen stretch own) (map (mark_seen stretch) marks) name);
   tags = tag_ends own (part stretch (visible_of cells)) tags;
 }
 
-abbrev pub widget_of : Viewed → Widget
+abbrev pub widget_of : Viewed → IndexedWidget
 widget_of view = record {
   text = text_shown view;
   marks = λ name. option_map (λ m. m.place) (mark_of view name);

@@ -3,7 +3,7 @@ ghost use Rattle.std.specs.Prelude.{◌≡◌, ◌≤◌, length, take, true, fa
 ghost use Rattle.rt_store.specs.Cells.{visible_of};
 ghost use Rattle.rt_store.specs.Tagged.{last_place, next_place, previous_place};
 ghost use Rattle.rt_tags.specs.States.{IsState};
-ghost use Rattle.rt_edits.specs.Selected.{stamps_in};
+ghost use Rattle.rt_edits.specs.Selected.{selected_stamps};
 ghost use Rattle.rt_store.specs.Spans.{is_among};
 ghost use Rattle.rt_text.specs.Widgets.{is_tagged_in};
 ghost use Rattle.rt_store.specs.Shown.{shown};
@@ -23,7 +23,7 @@ pub(crate) fn cell_has(
     name: &str,
 ) -> bool
     requires { IsState states.now cell.state }
-    ensures { result ≡ is_tagged_in (stamps_in selection.now) name.now (shown states.now cell) }
+    ensures { result ≡ is_tagged_in (selected_stamps selection.now) name.now (shown states.now cell) }
 {
     if name == "sel" {
         return selection.has(cell.stamp);
@@ -36,7 +36,7 @@ pub(crate) fn cell_has(
 
 // Whether a character is selected, or isn't, as is asked.
 fn is_selected(selection: &Selection, selected: bool, stamp: Stamp) -> bool
-    ensures { result ≡ (if selected then is_among (stamps_in selection.now) stamp else not (is_among (stamps_in selection.now) stamp)) }
+    ensures { result ≡ (if selected then is_among (selected_stamps selection.now) stamp else not (is_among (selected_stamps selection.now) stamp)) }
 {
     if selected {
         selection.has(stamp)
@@ -52,8 +52,8 @@ fn next_selected<S: TextStore>(
     selected: bool,
     place: usize,
 ) -> Option<usize>
-    ensures { result ≡ next_place (λ cell. if selected then is_among (stamps_in selection.now) cell.stamp else not
-        (is_among (stamps_in selection.now) cell.stamp)) (visible_of (S.list store.now)) place }
+    ensures { result ≡ next_place (λ cell. if selected then is_among (selected_stamps selection.now) cell.stamp else not
+        (is_among (selected_stamps selection.now) cell.stamp)) (visible_of (S.list store.now)) place }
 {
     for at in place..store.visible() {
         if is_selected(selection, selected, store.cell_at(at).stamp) {
@@ -87,8 +87,8 @@ fn next_with<S: TextStore>(
     place: usize,
 ) -> Option<usize>
     requires { S.agrees store.now states.now }
-    ensures { result ≡ next_place (λ cell. if on then is_tagged_in (stamps_in selection.now) name.now (shown states.now cell) else not
-        (is_tagged_in (stamps_in selection.now) name.now (shown states.now cell))) (visible_of (S.list store.now)) place }
+    ensures { result ≡ next_place (λ cell. if on then is_tagged_in (selected_stamps selection.now) name.now (shown states.now cell) else not
+        (is_tagged_in (selected_stamps selection.now) name.now (shown states.now cell))) (visible_of (S.list store.now)) place }
 {
     if name == "sel" {
         return next_selected(store, selection, on, place);
@@ -112,8 +112,8 @@ pub(crate) fn next_within<S: TextStore>(
 ) -> Option<usize>
     requires states { S.agrees store.now states.now }
     requires stretch { stretch.end ≤ length (visible_of (S.list store.now)) }
-    ensures { result ≡ next_place (λ cell. if on then is_tagged_in (stamps_in selection.now) name.now (shown states.now cell) else not
-        (is_tagged_in (stamps_in selection.now) name.now (shown states.now cell))) (part stretch (visible_of (S.list store.now))) place }
+    ensures { result ≡ next_place (λ cell. if on then is_tagged_in (selected_stamps selection.now) name.now (shown states.now cell) else not
+        (is_tagged_in (selected_stamps selection.now) name.now (shown states.now cell))) (part stretch (visible_of (S.list store.now))) place }
 {
     let from = stretch.begin.saturating_add(place);
     let at = next_with(store, states, selection, name, on, from)?;
@@ -127,7 +127,7 @@ pub(crate) fn next_within<S: TextStore>(
 // The greatest place before one whose character is selected.
 fn last_selected<S: TextStore>(store: &S, selection: &Selection, end: usize) -> Option<usize>
     requires { end ≤ length (visible_of (S.list store.now)) }
-    ensures { result ≡ last_place (λ cell. is_among (stamps_in selection.now) cell.stamp) (take end (visible_of (S.list store.now))) }
+    ensures { result ≡ last_place (λ cell. is_among (selected_stamps selection.now) cell.stamp) (take end (visible_of (S.list store.now))) }
 {
     let mut at = end;
     while at > 0 {
@@ -149,7 +149,7 @@ fn last_before<S: TextStore>(
 ) -> Option<usize>
     requires states { S.agrees store.now states.now }
     requires end { end ≤ length (visible_of (S.list store.now)) }
-    ensures { result ≡ last_place (λ cell. is_tagged_in (stamps_in selection.now) name.now (shown states.now cell))
+    ensures { result ≡ last_place (λ cell. is_tagged_in (selected_stamps selection.now) name.now (shown states.now cell))
         (take end (visible_of (S.list store.now))) }
 {
     if name == "sel" {
@@ -171,7 +171,7 @@ pub(crate) fn last_within<S: TextStore>(
 ) -> Option<usize>
     requires states { S.agrees store.now states.now }
     requires stretch { stretch.end ≤ length (visible_of (S.list store.now)) }
-    ensures { result ≡ last_place (λ cell. is_tagged_in (stamps_in selection.now) name.now (shown states.now cell))
+    ensures { result ≡ last_place (λ cell. is_tagged_in (selected_stamps selection.now) name.now (shown states.now cell))
         (part stretch (visible_of (S.list store.now))) }
 {
     let at = last_before(store, states, selection, name, stretch.end)?;
@@ -189,7 +189,7 @@ pub(crate) fn previous_within<S: TextStore>(
 ) -> Option<usize>
     requires states { S.agrees store.now states.now }
     requires stretch { stretch.end ≤ length (visible_of (S.list store.now)) }
-    ensures { result ≡ previous_place (λ cell. is_tagged_in (stamps_in selection.now) name.now (shown states.now cell))
+    ensures { result ≡ previous_place (λ cell. is_tagged_in (selected_stamps selection.now) name.now (shown states.now cell))
         (part stretch (visible_of (S.list store.now))) place }
 {
     let begin = stretch.begin;

@@ -3,8 +3,8 @@ ghost use Rattle.std.specs.Prelude.{ℕ, ◌≡◌, ◌+◌, ◌≤◌, All, IfE
 ghost use Rattle.rt_marks.specs.Marks.{Each, marks_inserted, marks_left};
 ghost use Rattle.rt_tags.specs.States.{IsTag, name_at};
 ghost use Rattle.rt_tags.specs.Tags.{IsName, is_ready};
-ghost use Rattle.rt_oplog.specs.Edits.{body_of};
-ghost use Rattle.rt_oplog.specs.Rules.{keeps_rules};
+ghost use Rattle.rt_ops.specs.Edits.{body_of};
+ghost use Rattle.rt_ops.specs.Rules.{keeps_rules};
 ghost use Rattle.rt_rga.specs.Taken.{AreFallingRuns, is_in_runs, lists_of};
 ghost use Rattle.rt_edits.specs.Insertions.{all_listed};
 ghost use Rattle.rt_text.specs.Parts.{own_in};

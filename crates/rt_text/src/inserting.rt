@@ -2,7 +2,7 @@
 ghost use Rattle.std.specs.Prelude.{◌≡◌, ◌+◌, ◌≤◌, All, length, map};
 ghost use Rattle.rt_marks.specs.Marks.{Each, marks_inserted};
 ghost use Rattle.rt_edits.specs.InsertionPlans.{selected_between};
-ghost use Rattle.rt_edits.specs.Selected.{room_in, stamps_in};
+ghost use Rattle.rt_edits.specs.Selected.{room_in, selected_stamps};
 ghost use Rattle.rt_edits.specs.Selections.{with_stamps};
 ghost use Rattle.rt_text.specs.Parts.{HaveRoomFor, own_in};
 ghost use Rattle.rt_text.specs.Widgets.{own_inserted, reselected};
@@ -26,7 +26,7 @@ pub(crate) fn select_all(
 )
     requires selected { length selected.now ≤ room_in selection.old }
     requires between { HaveRoomFor between.now others.old }
-    ensures selection { stamps_in selection.new ≡ with_stamps selected.now (stamps_in selection.old) }
+    ensures selection { selected_stamps selection.new ≡ with_stamps selected.now (selected_stamps selection.old) }
     ensures others { map own_in others.new ≡ map (reselected (selected_between between.now)) (map own_in others.old) }
 {
     selection.add(selected);

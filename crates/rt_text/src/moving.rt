@@ -2,7 +2,7 @@
 ghost use Rattle.std.specs.Prelude.{◌≡◌, ◌≤◌, ◌∷◌, [], false, if◌then◌else◌, map};
 ghost use Rattle.rt_marks.specs.Marks.{marks_left};
 ghost use Rattle.rt_edits.specs.Removals.{is_covered, AreInOrder};
-ghost use Rattle.rt_edits.specs.Selected.{room_in, stamps_in};
+ghost use Rattle.rt_edits.specs.Selected.{room_in, selected_stamps};
 ghost use Rattle.rt_edits.specs.Selections.{unselected};
 ghost use Rattle.rt_text.specs.Parts.{own_in};
 ghost use Rattle.rt_text.specs.Widgets.{own_left, reselected};
@@ -64,7 +64,7 @@ pub(crate) fn leave_all(
 /// Takes the last newline out of a widget's selection and out of those of others, where a deletion
 /// holds it. It takes no memory.
 pub(crate) fn unselect(held: bool, last: Stamp, selection: &mut Selection, others: &mut [Parts])
-    ensures sel { stamps_in selection.new ≡ (if held then unselected (last ∷ []) (stamps_in selection.old) else stamps_in selection.old) }
+    ensures sel { selected_stamps selection.new ≡ (if held then unselected (last ∷ []) (selected_stamps selection.old) else selected_stamps selection.old) }
     ensures others { map own_in others.new
         ≡ map (reselected (λ sel. if held then unselected (last ∷ []) sel else sel)) (map own_in others.old) }
     ensures room { room_in selection.old ≤ room_in selection.new }

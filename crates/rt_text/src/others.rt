@@ -2,7 +2,7 @@
 ghost use Rattle.std.specs.Prelude.{ℕ, ◌≡◌, ◌+◌, ◌≤◌, ◌∷◌, [], ◌&&◌, true, All, IfErr, OnOk, length, map};
 ghost use Rattle.std.specs.List.{AllByRecursion};
 ghost use Rattle.rt_edits.specs.Removals.{AreInOrder, is_covered};
-ghost use Rattle.rt_edits.specs.Selected.{room_in, stamps_in};
+ghost use Rattle.rt_edits.specs.Selected.{room_in, selected_stamps};
 ghost use Rattle.rt_edits.specs.Selections.{unselected};
 ghost use Rattle.rt_revert.specs.Plans.{IsChange};
 ghost use Rattle.rt_rga.specs.Taken.{AreFallingRuns, is_in_runs};
@@ -25,7 +25,7 @@ pub(crate) fn reserve_between(
     more: usize,
 ) -> Result<(), Fault>
     ensures same { map own_in others.new ≡ map own_in others.old }
-    ensures room { OnOk result (All (λ parts. (is_among (stamps_in parts.selection) left && is_among (stamps_in parts.selection) right) ≡ true
+    ensures room { OnOk result (All (λ parts. (is_among (selected_stamps parts.selection) left && is_among (selected_stamps parts.selection) right) ≡ true
         → more ≤ room_in parts.selection) others.new) }
     ensures err { IfErr result (λ fault. fault ≡ Fault.NoMemory) }
 {
@@ -37,7 +37,7 @@ pub(crate) fn reserve_between(
 
 /// Selects characters in each that has both neighbours selected, within the room that there is.
 pub(crate) fn add_between(others: &mut [Parts], left: Stamp, right: Stamp, stamps: &[Stamp])
-    requires { All (λ parts. (is_among (stamps_in parts.selection) left && is_among (stamps_in parts.selection) right) ≡ true
+    requires { All (λ parts. (is_among (selected_stamps parts.selection) left && is_among (selected_stamps parts.selection) right) ≡ true
         → length stamps.now ≤ room_in parts.selection) others.old }
     ensures { map own_in others.new ≡ map (reselected (selected_with left right stamps.now)) (map own_in others.old) }
 {

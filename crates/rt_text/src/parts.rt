@@ -1,6 +1,6 @@
 // The parts of a widget.
 ghost use Rattle.std.specs.Prelude.{◌≡◌, ◌+◌, ◌≤◌, ◌∷◌, [], ◌&&◌, true, IfErr, OnOk, length};
-ghost use Rattle.rt_edits.specs.Selected.{room_in, stamps_in};
+ghost use Rattle.rt_edits.specs.Selected.{room_in, selected_stamps};
 ghost use Rattle.rt_edits.specs.Selections.{unselected};
 ghost use Rattle.rt_store.specs.Spans.{is_among};
 ghost use Rattle.rt_text.specs.Parts.{own_in, selected_with};
@@ -75,7 +75,7 @@ impl Parts {
 
     // Whether both characters are selected.
     fn has_both(&self, left: Stamp, right: Stamp) -> bool
-        ensures { result ≡ (is_among (stamps_in self.now.selection) left && is_among (stamps_in self.now.selection) right) }
+        ensures { result ≡ (is_among (selected_stamps self.now.selection) left && is_among (selected_stamps self.now.selection) right) }
     {
         self.selection.has(left) && self.selection.has(right)
     }
@@ -83,7 +83,7 @@ impl Parts {
     /// Makes room for more selected characters where both neighbours are selected. Want of memory.
     pub(crate) fn reserve_if(&mut self, left: Stamp, right: Stamp, more: usize) -> Result<(), Fault>
         ensures same { own_in self.new ≡ own_in self.old }
-        ensures room { OnOk result ((is_among (stamps_in self.new.selection) left && is_among (stamps_in self.new.selection) right) ≡ true
+        ensures room { OnOk result ((is_among (selected_stamps self.new.selection) left && is_among (selected_stamps self.new.selection) right) ≡ true
             → more ≤ room_in self.new.selection) }
         ensures err { IfErr result (λ fault. fault ≡ Fault.NoMemory) }
     {
@@ -95,7 +95,7 @@ impl Parts {
 
     /// Selects characters where both neighbours are selected, within the room that there is.
     pub(crate) fn select_if(&mut self, left: Stamp, right: Stamp, stamps: &[Stamp])
-        requires { (is_among (stamps_in self.old.selection) left && is_among (stamps_in self.old.selection) right) ≡ true
+        requires { (is_among (selected_stamps self.old.selection) left && is_among (selected_stamps self.old.selection) right) ≡ true
             → length stamps.now ≤ room_in self.old.selection }
         ensures { own_in self.new ≡ reselected (selected_with left right stamps.now) (own_in self.old) }
     {

@@ -7,10 +7,10 @@ ghost use Rattle.rt_text.specs.Commands.{names_in};
 ghost use Rattle.rt_edits.specs.DeletionLaws.{IsPiece};
 ghost use Rattle.rt_edits.specs.Insertions.{all_listed};
 ghost use Rattle.rt_edits.specs.InsertionPlans.{selected_between};
-ghost use Rattle.rt_edits.specs.Selected.{room_in, stamps_in};
+ghost use Rattle.rt_edits.specs.Selected.{room_in, selected_stamps};
 ghost use Rattle.rt_text.specs.Widgets.{reselected};
 ghost use Rattle.rt_text.specs.Parts.{HaveRoomFor, own_in};
-ghost use Rattle.rt_oplog.specs.Edits.{body_of};
+ghost use Rattle.rt_ops.specs.Edits.{body_of};
 ghost use Rattle.rt_rga.specs.Cells.{cells_of};
 ghost use Rattle.rt_rga.specs.Drafts.{with_drafts};
 ghost use Rattle.rt_rga.specs.Made.{refusal_of};
@@ -95,7 +95,7 @@ fn make_room(
 ) -> Result<(), Fault>
     requires { All (λ w. IsName (string_bytes w)) plan.now.names.items }
     ensures tags { tags.new.names ≡ tags.old.names }
-    ensures selection { stamps_in selection.new ≡ stamps_in selection.old }
+    ensures selection { selected_stamps selection.new ≡ selected_stamps selection.old }
     ensures others { map own_in others.new ≡ map own_in others.old }
     ensures ready { OnOk result (All (λ w. is_ready (string_bytes w) tags.new ≡ true) plan.now.names.items) }
     ensures selects { OnOk result (length plan.now.selected.items ≤ room_in selection.new) }
@@ -128,7 +128,7 @@ pub(crate) fn make_planned<S: TextStore>(
     ensures site { replica.new.site ≡ replica.old.site }
     ensures limit { replica.new.limit ≡ replica.old.limit }
     ensures tags { tags.new.names ≡ tags.old.names }
-    ensures selection { stamps_in selection.new ≡ stamps_in selection.old }
+    ensures selection { selected_stamps selection.new ≡ selected_stamps selection.old }
     ensures others { map own_in others.new ≡ map own_in others.old }
     ensures ready { OnOk result (All (λ w. is_ready (string_bytes w) tags.new ≡ true) plan.now.names.items) }
     ensures selects { OnOk result (length plan.now.selected.items ≤ room_in selection.new) }

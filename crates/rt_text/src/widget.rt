@@ -2,7 +2,7 @@
 ghost use Rattle.std.specs.Prelude.{ℕ, ◌≡◌, ◌+◌, ◌≤◌, All, IfErr, OnErr, OnOk, length};
 ghost use Rattle.std.specs.List.{AllByRecursion};
 ghost use Rattle.rt_edits.specs.Removals.{AreInOrder, is_covered, stamps_at};
-ghost use Rattle.rt_edits.specs.Selected.{stamps_in};
+ghost use Rattle.rt_edits.specs.Selected.{selected_stamps};
 ghost use Rattle.rt_edits.specs.Selections.{selection_with};
 ghost use Rattle.rt_store.specs.Cells.{visible_of};
 ghost use Rattle.rt_revert.specs.Plans.{IsChange};
@@ -116,7 +116,7 @@ impl Widget {
 
     /// The characters that it has selected.
     pub fn selection(&self) -> &Selection
-        ensures { stamps_in result.now ≡ self.now.sel }
+        ensures { selected_stamps result.now ≡ self.now.sel }
     {
         &self.parts.selection
     }

@@ -6,7 +6,7 @@ use Rattle.std.proofs.lemmas.Simd.{map-map}
 use Rattle.std.proofs.lemmas.List.{map-append}
 use Rattle.rt_stamps.specs.declared.stamp.Span.{Span}
 use Rattle.rt_stamps.specs.declared.stamp.Stamp.{Stamp}
-use Rattle.rt_oplog.specs.Operations.{stamps_from, stamps_in, stamps_of_span}
+use Rattle.rt_ops.specs.Operations.{stamps_from, stamps_in, stamps_of_span}
 use Rattle.rt_undo.specs.declared.action.RemovedSpan.{RemovedSpan}
 use Rattle.rt_undo.specs.Actions.{Removed, removed_in, removed_of, removed_with, with_stamp}
 use Rattle.rt_undo.specs.Copies.{is_next}

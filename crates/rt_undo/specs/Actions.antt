@@ -2,7 +2,7 @@
 use Rattle.std.specs.Prelude.{ℕ, Bool, true, false, List, map}
 use Rattle.std.specs.List.{flat_map}
 use Rattle.rt_stamps.specs.declared.stamp.Stamp.{Stamp}
-use Rattle.rt_oplog.specs.Operations.{stamps_in, stamps_of_span}
+use Rattle.rt_ops.specs.Operations.{stamps_in, stamps_of_span}
 use Rattle.rt_undo.specs.declared.action.Action.{Action as KeptAction}
 use Rattle.rt_undo.specs.declared.action.Kind.{Kind}
 use Rattle.rt_undo.specs.declared.action.Kind.TheVariants.{Insert, Delete, Replace}

@@ -1,6 +1,6 @@
 // Copies of actions, with the stamps that their characters have now.
 ghost use Rattle.std.specs.Prelude.{◌≡◌, [], ◌∷◌, ◌++◌, ◌&&◌, map, IfErr, IfOk, OnOk};
-ghost use Rattle.rt_oplog.specs.Operations.{stamps_in, stamps_of_span};
+ghost use Rattle.rt_ops.specs.Operations.{stamps_in, stamps_of_span};
 ghost use Rattle.rt_undo.specs.Actions.{action_of, group_of, removed_in, removed_with, with_stamp, with_stamps};
 ghost use Rattle.rt_undo.specs.Groups.{AreStill};
 ghost use Rattle.rt_undo.specs.Renames.{now_of};

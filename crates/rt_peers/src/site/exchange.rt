@@ -1,13 +1,13 @@
 // Operations of other sites, and those of the site itself for them.
 ghost use Rattle.std.specs.Prelude.{◌≡◌, ◌≤◌, IfOk, IfErr, length, reverse};
 ghost use Rattle.rt_stamps.specs.declared.limits.TheConstants.{MOST_BYTES};
-ghost use Rattle.rt_oplog.specs.File.{spelling};
+ghost use Rattle.rt_ops.specs.File.{spelling};
 ghost use Rattle.rt_rga.specs.Cells.{cells_of};
 ghost use Rattle.rt_rga.specs.Histories.{IsHistory, greatest_last_count};
 ghost use Rattle.rt_peers.specs.SiteStep.{SiteReceives};
 
 use super::SiteState;
-use rt_exchange::{Received, export};
+use rt_editing::{Received, export};
 use rt_oplog::OpLog;
 use rt_stamps::Fault;
 

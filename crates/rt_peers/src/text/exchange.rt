@@ -3,10 +3,10 @@ ghost use Rattle.std.specs.Prelude.{◌≡◌, ◌≤◌, length};
 ghost use Rattle.rt_stamps.specs.declared.limits.TheConstants.{MOST_BYTES};
 ghost use Rattle.rt_rga.specs.Cells.{cells_of};
 ghost use Rattle.rt_rga.specs.Histories.{IsHistory, greatest_last_count};
-ghost use Rattle.rt_exchange.specs.Receiving.{Receives};
+ghost use Rattle.rt_editing.specs.Receiving.{Receives};
 
 use super::EditedText;
-use rt_exchange::Received;
+use rt_editing::Received;
 use rt_oplog::OpLog;
 
 impl EditedText {

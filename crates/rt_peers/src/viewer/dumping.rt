@@ -1,14 +1,14 @@
 // What a site shows of its text.
 ghost use Rattle.std.specs.Prelude.{◌≡◌, ◌++◌, flat_map, map, string_bytes, IfOk, IfErr, OnOk};
 ghost use Rattle.rt_stamps.specs.Outcomes.{Answers};
-ghost use Rattle.rt_dump.specs.Dumping.{dumped};
+ghost use Rattle.rt_queries.specs.Dumping.{dumped};
 ghost use Rattle.rt_peers.specs.ViewStep.{element_words, told_step};
 
 use super::Viewer;
 use super::tagging::text_of;
 use crate::replies::position_text;
 use crate::reply::Reply;
-use rt_dump::{Element, dump};
+use rt_queries::{Element, dump};
 use rt_requests::{Kinds, Word};
 use rt_stamps::Fault;
 use std::alloc::Global;

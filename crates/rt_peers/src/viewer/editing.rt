@@ -3,19 +3,18 @@ ghost use Rattle.std.specs.Prelude.{◌≤◌, length, map};
 ghost use Rattle.rt_stamps.specs.declared.limits.TheConstants.{MOST_BYTES};
 ghost use Rattle.rt_stamps.specs.Outcomes.{Answers};
 ghost use Rattle.rt_requests.specs.Parts.{all_of};
-ghost use Rattle.rt_recorder.specs.Settled.{IsSettled};
+ghost use Rattle.rt_editing.specs.Settled.{IsSettled};
 ghost use Rattle.rt_editing.specs.Edited.{edited};
 ghost use Rattle.rt_editing.specs.Edits.{text_deleted, text_inserted, text_replaced};
 ghost use Rattle.rt_editing.specs.Reverts.{text_redone, text_undone};
-ghost use Rattle.rt_exchange.specs.Receiving.{Receives};
+ghost use Rattle.rt_editing.specs.Receiving.{Receives};
 ghost use Rattle.rt_peers.specs.ViewStep.{as_piece, changed_step};
 
 use super::Viewer;
 use crate::pieces::owned;
 use crate::replies::changed;
 use crate::reply::Reply;
-use rt_exchange::Received;
-use rt_recorder::Recorder;
+use rt_editing::{Received, Recorder};
 use rt_requests::{Texts, Word, Words};
 use rt_stamps::Fault;
 use rt_tree::TreeStore;
@@ -112,6 +111,6 @@ impl Viewer {
         ensures receives { Receives bytes.now (edited self.old recorder.old) result (edited self.new recorder.new) }
         ensures settled { IsSettled self.new recorder.new }
     {
-        rt_exchange::receive(self.alloc, &mut self.view, recorder, bytes)
+        rt_editing::receive(self.alloc, &mut self.view, recorder, bytes)
     }
 }

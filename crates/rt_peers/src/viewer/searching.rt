@@ -2,14 +2,14 @@
 ghost use Rattle.std.specs.Prelude.{map};
 ghost use Rattle.rt_stamps.specs.Outcomes.{Answers};
 ghost use Rattle.rt_stamps.specs.Places.{text_of_position};
-ghost use Rattle.rt_searchcmd.specs.SearchCommand.{searched};
+ghost use Rattle.rt_queries.specs.SearchCommand.{searched};
 ghost use Rattle.rt_peers.specs.ViewStep.{told_step};
 
 use super::Viewer;
 use crate::replies::positions_reply;
 use crate::reply::Reply;
+use rt_queries::search;
 use rt_requests::SearchRequest;
-use rt_searchcmd::search;
 use rt_stamps::Fault;
 
 impl Viewer {

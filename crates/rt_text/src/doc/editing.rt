@@ -1,6 +1,6 @@
 // Insertions and removals.
 ghost use Rattle.std.specs.Prelude.{◌≡◌, ◌⊎◌, All, List, ◌<◌, ◌∷◌, [], None, Some, IfErr, IfOk, OnOk, OnErr, length, map};
-ghost use Rattle.rt_oplog.specs.Edits.{body_of};
+ghost use Rattle.rt_ops.specs.Edits.{body_of};
 ghost use Rattle.rt_stamps.specs.declared.limits.TheConstants.{GREATEST_COUNT};
 ghost use Rattle.rt_edits.specs.InsertionPlans.{Plans};
 ghost use Rattle.rt_text.specs.Replacements.{drafts_at, insertion_at};

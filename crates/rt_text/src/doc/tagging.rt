@@ -14,7 +14,7 @@ ghost use Rattle.rt_edits.specs.TagDrafts.{deletion_drafts, tag_drafts_at};
 ghost use Rattle.rt_edits.specs.TagWrites.{listed_if, with_tag_at, without_tags};
 ghost use Rattle.rt_text.specs.Commands.{clock_check};
 ghost use Rattle.rt_edits.specs.Listed.{AreListed};
-ghost use Rattle.rt_edits.specs.Selected.{stamps_in};
+ghost use Rattle.rt_edits.specs.Selected.{selected_stamps};
 ghost use Rattle.rt_store.specs.Shown.{shown};
 ghost use Rattle.rt_store.specs.Written.{AreWritten};
 ghost use Rattle.rt_views.specs.Stretches.{shown_part};
@@ -38,7 +38,7 @@ fn keep_tags_on(
 )
     requires { IsState states.now cell.state }
     ensures { map (λ w. string_bytes w) names.new.items
-        ≡ filter (λ name. is_tagged_in (stamps_in selection.now) name (shown states.now cell)) (map (λ w. string_bytes w) names.old.items) }
+        ≡ filter (λ name. is_tagged_in (selected_stamps selection.now) name (shown states.now cell)) (map (λ w. string_bytes w) names.old.items) }
 {
     names.retain(
         |name|

@@ -1,7 +1,7 @@
 use Rattle.std.proofs.Common.{◌≡◌, ◌∙◌, List, map, string_bytes, subst, sym}
 use Rattle.rt_stamps.specs.Words.{Word}
 use Rattle.rt_revert.specs.Reverting.{as_removed}
-use Rattle.rt_recorder.specs.Recordings.{HasStayed, came_back, made}
+use Rattle.rt_editing.specs.Recordings.{HasStayed, came_back, made}
 use Rattle.rt_text.specs.Index.{place_at_index}
 use Rattle.rt_text.specs.Ranges.{ranges_of}
 use Rattle.rt_text.specs.Widgets.{widget_of}

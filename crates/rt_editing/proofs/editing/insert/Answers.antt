@@ -1,6 +1,6 @@
 use Rattle.std.proofs.Common.{◌≡◌, ◌∙◌, [], List, subst, sym}
 use Rattle.rt_stamps.specs.Words.{Word}
-use Rattle.rt_recorder.specs.Recordings.{HasStayed, came_back, made}
+use Rattle.rt_editing.specs.Recordings.{HasStayed, came_back, made}
 use Rattle.rt_undo.specs.declared.action.Kind.TheVariants.{Insert}
 use Rattle.rt_undo.specs.Actions.{Removed}
 use Rattle.rt_editing.specs.Edits.{counts_between}

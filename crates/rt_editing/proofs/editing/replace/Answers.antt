@@ -2,7 +2,7 @@ use Rattle.std.proofs.Common.{◌≡◌, ◌∙◌, ◌∷◌, [], List, map, su
 use Rattle.rt_stamps.specs.Words.{Word}
 use Rattle.rt_edits.specs.declared.range.Range.{Range}
 use Rattle.rt_revert.specs.Reverting.{as_removed}
-use Rattle.rt_recorder.specs.Recordings.{HasStayed, came_back, made}
+use Rattle.rt_editing.specs.Recordings.{HasStayed, came_back, made}
 use Rattle.rt_text.specs.Commands.{replaced}
 use Rattle.rt_text.specs.Index.{place_at_index}
 use Rattle.rt_text.specs.Widgets.{widget_of}

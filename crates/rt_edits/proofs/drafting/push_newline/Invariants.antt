@@ -1,5 +1,5 @@
 use Rattle.std.proofs.Common.{◌≡◌, ◌++◌, drop, map}
-use Rattle.rt_oplog.specs.Edits.{body_of}
+use Rattle.rt_ops.specs.Edits.{body_of}
 use Rattle.rt_tags.specs.States.{name_at}
 use Rattle.rt_edits.specs.TagDrafts.{newline_drafts}
 use Rattle.rt_edits.proofs.drafting.push_newline.Given as goal

@@ -5,8 +5,8 @@ use Rattle.std.proofs.lemmas.List.{drop_all, drop_more}
 use Rattle.std.proofs.lemmas.Result.{err_from_is_err_and}
 use Rattle.rt_stamps.specs.declared.limits.TheConstants.{MOST_SPANS}
 use Rattle.rt_stamps.specs.Words.{Word}
-use Rattle.rt_oplog.specs.Edits.{body_of}
-use Rattle.rt_oplog.specs.Operations.{Body}
+use Rattle.rt_ops.specs.Edits.{body_of}
+use Rattle.rt_ops.specs.Operations.{Body}
 use Rattle.rt_tags.specs.Tags.{is_listed, sel, with_name}
 use Rattle.rt_edits.specs.Listed.{listed_name}
 use Rattle.rt_edits.specs.TagDrafts.{deletion_drafts, tag_drafts}

@@ -1,5 +1,5 @@
 use Rattle.std.proofs.Common.{◌≡◌, ◌++◌, map, take, string_bytes}
-use Rattle.rt_oplog.specs.Edits.{body_of}
+use Rattle.rt_ops.specs.Edits.{body_of}
 use Rattle.rt_edits.specs.InsertionDrafts.{tags_on}
 use Rattle.rt_edits.proofs.inserts.push_tags.Given as goal
 

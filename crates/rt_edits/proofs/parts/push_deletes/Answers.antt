@@ -1,8 +1,8 @@
 use Rattle.std.proofs.Common.{◌∙◌, ap, map, rules}
 use Rattle.std.specs.Slice.Iter.{chunks_rest}
-use Rattle.rt_oplog.specs.declared.op.Edit.TheVariants as edits
-use Rattle.rt_oplog.specs.Edits.{body_of}
-use Rattle.rt_oplog.specs.Operations.{Delete}
+use Rattle.rt_ops.specs.declared.op.Edit.TheVariants as edits
+use Rattle.rt_ops.specs.Edits.{body_of}
+use Rattle.rt_ops.specs.Operations.{Delete}
 use Rattle.rt_edits.proofs.Cutting.{draft_more, drafts_end}
 use Rattle.rt_edits.proofs.parts.push_deletes.Goals as goal
 

@@ -1,8 +1,8 @@
 use Rattle.std.proofs.Common.{◌∙◌, map, rules}
 use Rattle.std.specs.Slice.Iter.{chunks_rest}
-use Rattle.rt_oplog.specs.declared.op.Edit.TheVariants as edits
-use Rattle.rt_oplog.specs.Edits.{body_of}
-use Rattle.rt_oplog.specs.Operations.{Tag}
+use Rattle.rt_ops.specs.declared.op.Edit.TheVariants as edits
+use Rattle.rt_ops.specs.Edits.{body_of}
+use Rattle.rt_ops.specs.Operations.{Tag}
 use Rattle.rt_edits.proofs.Cutting.{draft_more, drafts_end}
 use Rattle.rt_edits.proofs.parts.push_tags.Goals as goal
 

@@ -1,8 +1,8 @@
 use Rattle.std.proofs.Common.{◌≡◌, ◌++◌, map}
 use Rattle.std.specs.Slice.Iter.{chunks_rest, chunks_size}
 use Rattle.rt_stamps.specs.declared.limits.TheConstants.{MOST_SPANS}
-use Rattle.rt_oplog.specs.Edits.{body_of}
-use Rattle.rt_oplog.specs.Operations.{Tag}
+use Rattle.rt_ops.specs.Edits.{body_of}
+use Rattle.rt_ops.specs.Operations.{Tag}
 use Rattle.rt_edits.specs.NamedSpans.{parts_of}
 use Rattle.rt_edits.proofs.parts.push_tags.Given as goal
 

@@ -1,6 +1,6 @@
 use Rattle.std.proofs.Common.{inl, inr}
 use Rattle.std.proofs.lemmas.Result.{err_from_is_err_and}
-use Rattle.rt_oplog.proofs.Readings.{offset_each}
+use Rattle.rt_ops.proofs.Readings.{offset_each}
 use Rattle.rt_files.proofs.join.log_in.Goals as goal
 
 pub log_of-requires : goal.log_of-requires

@@ -1,9 +1,9 @@
 use Rattle.std.proofs.Common.{reverse, arith}
 use Rattle.std.proofs.lemmas.Result.{err_from_is_err_and}
 use Rattle.rt_stamps.proofs.Writes.{part_longer}
-use Rattle.rt_oplog.specs.File.{magic}
+use Rattle.rt_ops.specs.File.{magic}
 use Rattle.rt_oplog.proofs.ReadBack.{records_take, written_is_read}
-use Rattle.rt_oplog.proofs.Spelled.{wrote_more, wrote_before, wrote_part}
+use Rattle.rt_ops.proofs.Spelled.{wrote_more, wrote_before, wrote_part}
 use Rattle.rt_oplog.proofs.file.write_file.Goals as goal
 
 pub returns-in_err-write_magic-clause-wrote : goal.returns-in_err-write_magic-clause-wrote

@@ -1,7 +1,7 @@
 use Rattle.std.proofs.Common.{◌≡◌, ◌<◌, take, reverse}
 use Rattle.std.specs.Io.KnownBytes.{Appends}
 use Rattle.std.specs.List.{AllByRecursion}
-use Rattle.rt_oplog.specs.File.{spelling, HasRecord}
+use Rattle.rt_ops.specs.File.{spelling, HasRecord}
 use Rattle.rt_oplog.specs.Logs.{IsLog}
 use Rattle.rt_oplog.proofs.file.write_file.Given as goal
 

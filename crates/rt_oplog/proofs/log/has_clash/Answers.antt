@@ -2,7 +2,7 @@ use Rattle.std.proofs.Common.{◌≡◌, ◌≤◌, ◌<◌, ap, sym, ◌∙◌,
 use Rattle.std.specs.Prelude.{slice_get}
 use Rattle.std.specs.List.{list_any}
 use Rattle.rt_oplog.specs.Ends.{end_in}
-use Rattle.rt_oplog.specs.Operations.{stamp_of}
+use Rattle.rt_ops.specs.Operations.{stamp_of}
 use Rattle.rt_oplog.specs.Logs.{clash, known_end}
 use Rattle.rt_oplog.specs.Kept.{newest_first, leading, op_at}
 use Rattle.rt_oplog.proofs.Sets.{none_from}

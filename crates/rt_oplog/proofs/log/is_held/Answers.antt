@@ -2,7 +2,7 @@ use Rattle.std.proofs.Common.{◌≡◌, ◌≤◌, ◌<◌, true, false, nat_lt
 use Rattle.std.specs.Prelude.{slice_get, Some}
 use Rattle.std.proofs.lemmas.Bool.Decides.{nat_tests}
 use Rattle.std.proofs.lemmas.Option.{get_or_from_slice_get, slice_get_within}
-use Rattle.rt_oplog.specs.Operations.{stamp_of}
+use Rattle.rt_ops.specs.Operations.{stamp_of}
 use Rattle.rt_oplog.specs.Kept.{leading}
 use Rattle.rt_oplog.proofs.Places.{is_earlier, found}
 use Rattle.rt_oplog.proofs.InBlocks.{none_past}

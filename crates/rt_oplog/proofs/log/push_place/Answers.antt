@@ -3,7 +3,7 @@ use Rattle.std.proofs.lemmas.List.{get_or_read}
 use Rattle.std.specs.List.{insert, list_any}
 use Rattle.rt_stamps.specs.declared.fault.Fault.{Fault}
 use Rattle.std.proofs.lemmas.Result.{err_from_is_err_and}
-use Rattle.rt_oplog.specs.Operations.{Operation, stamp_of, has_bad_stamp, soundness}
+use Rattle.rt_ops.specs.Operations.{Operation, stamp_of, has_bad_stamp, soundness}
 use Rattle.rt_oplog.specs.Logs.{holds, clash, known_end, pushed}
 use Rattle.rt_oplog.specs.Ends.{end_in}
 use Rattle.rt_oplog.specs.Kept.{nothing, op_at, newest_first, leading}

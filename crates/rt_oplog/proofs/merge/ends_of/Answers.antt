@@ -1,7 +1,7 @@
 use Rattle.std.proofs.Common.{◌≡◌, ◌≤◌, ◌<◌, ◌∙◌, ℕ, arith, ap, subst, inr, refl, length, get_or, max, cond, ◌==◌, inl}
 use Rattle.std.proofs.lemmas.List.{get_or_read, take_all}
 use Rattle.std.proofs.lemmas.Result.{err_from_is_err_and}
-use Rattle.rt_oplog.specs.Operations.{last_count}
+use Rattle.rt_ops.specs.Operations.{last_count}
 use Rattle.rt_oplog.specs.Ends.{end_in}
 use Rattle.rt_oplog.specs.Kept.{nothing, op_at, IsKept}
 use Rattle.rt_oplog.proofs.Pushes.{sound_last}

@@ -3,7 +3,7 @@ use Rattle.std.specs.List.{AllByRecursion}
 use Rattle.rt_stamps.specs.Stamps.{is_before}
 use Rattle.rt_stamps.proofs.Writes.{slice_rest}
 use Rattle.std.proofs.lemmas.Result.{err_from_is_err_and}
-use Rattle.rt_oplog.specs.Operations.{stamp_of}
+use Rattle.rt_ops.specs.Operations.{stamp_of}
 use Rattle.rt_oplog.specs.Logs.{same_operation, IsFalling}
 use Rattle.rt_oplog.specs.Kept.{op_at, newest_first}
 use Rattle.rt_oplog.proofs.Sets.{operation_true}

@@ -2,7 +2,7 @@ use Rattle.std.proofs.Common.{◌∙◌, ◌<◌, List, ℕ, ap, map, subst, sym
 use Rattle.std.proofs.lemmas.Result.{err_from_is_err_and}
 use Rattle.rt_stamps.specs.declared.limits.TheConstants.{GREATEST_COUNT}
 use Rattle.rt_stamps.specs.declared.stamp.TheConstants.{FINAL}
-use Rattle.rt_oplog.specs.Operations.{stamps_in}
+use Rattle.rt_ops.specs.Operations.{stamps_in}
 use Rattle.rt_store.specs.Spans.{gone_in_any, is_in_spans}
 use Rattle.rt_edits.proofs.PlanLaws.{spent}
 use Rattle.rt_edits.specs.declared.range.Range.{Range}

@@ -1,6 +1,6 @@
 use Rattle.std.proofs.Common.{◌∙◌, ◌∷◌, ap}
 use Rattle.rt_stamps.specs.declared.stamp.TheConstants.{FINAL}
-use Rattle.rt_oplog.specs.Operations.{stamps_in}
+use Rattle.rt_ops.specs.Operations.{stamps_in}
 use Rattle.rt_undo.specs.Actions.{group_of}
 use Rattle.rt_revert.specs.Named.{is_named, named_in, stands_at}
 use Rattle.rt_revert.specs.Portions.{only}

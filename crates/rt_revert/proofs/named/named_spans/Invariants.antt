@@ -1,5 +1,5 @@
 use Rattle.std.proofs.Common.{◌≡◌, ◌++◌, drop}
-use Rattle.rt_oplog.specs.Operations.{stamps_in}
+use Rattle.rt_ops.specs.Operations.{stamps_in}
 use Rattle.rt_undo.specs.Actions.{group_of}
 use Rattle.rt_revert.specs.Named.{named_in}
 use Rattle.rt_revert.proofs.named.named_spans.Given as goal

@@ -1,6 +1,6 @@
 use Rattle.std.proofs.Common.{◌≡◌, ◌∷◌, ◌||◌, ℕ, drop}
 use Rattle.rt_stamps.specs.declared.stamp.TheConstants.{FINAL}
-use Rattle.rt_oplog.specs.Operations.{stamps_in}
+use Rattle.rt_ops.specs.Operations.{stamps_in}
 use Rattle.rt_revert.specs.Named.{holds, stands_at}
 use Rattle.rt_revert.proofs.named.positions_of.Given as goal
 

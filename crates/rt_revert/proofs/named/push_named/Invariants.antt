@@ -1,5 +1,5 @@
 use Rattle.std.proofs.Common.{◌≡◌, ◌++◌, drop, map}
-use Rattle.rt_oplog.specs.Operations.{stamps_in}
+use Rattle.rt_ops.specs.Operations.{stamps_in}
 use Rattle.rt_undo.specs.Actions.{action_of, removed_in}
 use Rattle.rt_revert.specs.Named.{named_by}
 use Rattle.rt_revert.proofs.named.push_named.Given as goal

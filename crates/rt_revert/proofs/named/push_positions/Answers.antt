@@ -1,5 +1,5 @@
 use Rattle.std.proofs.Common.{◌∙◌, ◌+◌, ◌-◌, ◌||◌, [], ◌∷◌, ap, arith, sym}
-use Rattle.rt_oplog.specs.Operations.{stamps_from}
+use Rattle.rt_ops.specs.Operations.{stamps_from}
 use Rattle.rt_revert.specs.Named.{holds, stands_at}
 use Rattle.rt_revert.proofs.Positions.{held_last, held_step}
 use Rattle.rt_revert.proofs.SpansCovered.{from_more, from_none}

@@ -1,5 +1,5 @@
 use Rattle.std.proofs.Common.{◌≡◌, ◌+◌, ◌-◌, ◌||◌, ℕ}
-use Rattle.rt_oplog.specs.Operations.{stamps_from, stamps_of_span}
+use Rattle.rt_ops.specs.Operations.{stamps_from, stamps_of_span}
 use Rattle.rt_revert.specs.Named.{holds, stands_at}
 use Rattle.rt_revert.proofs.named.push_positions.Given as goal
 

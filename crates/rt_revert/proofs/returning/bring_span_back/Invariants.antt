@@ -1,6 +1,6 @@
 use Rattle.std.proofs.Common.{◌≡◌, ◌+◌, ◌-◌, map}
 use Rattle.std.specs.List.{AllByRecursion}
-use Rattle.rt_oplog.specs.Operations.{stamps_from, stamps_of_span}
+use Rattle.rt_ops.specs.Operations.{stamps_from, stamps_of_span}
 use Rattle.rt_undo.specs.Actions.{removed_with}
 use Rattle.rt_revert.specs.Plans.{named_removed}
 use Rattle.rt_revert.specs.Portions.{HasRemoved, Portion}

@@ -1,6 +1,6 @@
 use Rattle.std.proofs.Common.{◌≡◌, Err}
 use Rattle.std.proofs.lemmas.Result.{err_from_is_err_and}
-use Rattle.rt_oplog.specs.Operations.{soundness}
+use Rattle.rt_ops.specs.Operations.{soundness}
 use Rattle.rt_rga.proofs.Answering.{bad_answer}
 use Rattle.rt_rga.proofs.answer.answer_to.Goals as goal
 

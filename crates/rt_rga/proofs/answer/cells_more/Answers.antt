@@ -1,7 +1,7 @@
 use Rattle.std.proofs.Common.{◌≡◌, ◌∙◌, ap, length, map, sym}
 use Rattle.std.specs.Prelude.{string_bytes}
-use Rattle.rt_oplog.specs.Edits.{body_of}
-use Rattle.rt_oplog.specs.Operations.{Insert}
+use Rattle.rt_ops.specs.Edits.{body_of}
+use Rattle.rt_ops.specs.Operations.{Insert}
 use Rattle.rt_rga.proofs.Changing.{length_inserted}
 use Rattle.rt_rga.proofs.answer.cells_more.Goals as goal
 

@@ -4,7 +4,7 @@ use Rattle.std.specs.List.{list_any}
 use Rattle.rt_stamps.specs.declared.stamp.Span.{Span}
 use Rattle.rt_rga.specs.Answers.{has_gap, up_to}
 use Rattle.rt_rga.specs.Histories.{may_name}
-use Rattle.rt_oplog.specs.Operations.{Body, stamps_of_span}
+use Rattle.rt_ops.specs.Operations.{Body, stamps_of_span}
 use Rattle.rt_oplog.specs.Logs.{known_end}
 use Rattle.rt_rga.proofs.Answering.{gap_kept, target_by, target_zero}
 use Rattle.rt_rga.proofs.answer.has_bad_target.Goals as goal

@@ -1,6 +1,6 @@
 use Rattle.std.proofs.Common.{◌≡◌, ◌+◌, ◌-◌, not}
 use Rattle.std.specs.List.{list_any}
-use Rattle.rt_oplog.specs.Operations.{stamps_from, stamps_of_span}
+use Rattle.rt_ops.specs.Operations.{stamps_from, stamps_of_span}
 use Rattle.rt_rga.specs.Kept.{is_kept_character}
 use Rattle.rt_rga.proofs.answer.has_gap.Given as goal
 

@@ -1,6 +1,6 @@
 use Rattle.std.proofs.Common.{◌≡◌, drop}
 use Rattle.std.specs.List.{list_any}
-use Rattle.rt_oplog.specs.Operations.{stamps_of_span}
+use Rattle.rt_ops.specs.Operations.{stamps_of_span}
 use Rattle.rt_rga.specs.Answers.{can_never_be_known}
 use Rattle.rt_rga.proofs.answer.have_bad_target.Given as goal
 

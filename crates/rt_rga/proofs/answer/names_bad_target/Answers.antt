@@ -2,8 +2,8 @@ use Rattle.std.proofs.Common.{◌∙◌, Bool, List, ap, sym}
 use Rattle.std.specs.List.{list_any}
 use Rattle.rt_stamps.specs.declared.stamp.Span.{Span}
 use Rattle.rt_stamps.specs.declared.stamp.Stamp.{Stamp}
-use Rattle.rt_oplog.specs.Edits.{body_of}
-use Rattle.rt_oplog.specs.Operations.{named, stamps_of_span}
+use Rattle.rt_ops.specs.Edits.{body_of}
+use Rattle.rt_ops.specs.Operations.{named, stamps_of_span}
 use Rattle.rt_rga.specs.Answers.{can_never_be_known}
 use Rattle.rt_rga.proofs.Answering.{any_in_spans, one_stamp}
 use Rattle.rt_rga.proofs.answer.names_bad_target.Goals as goal

@@ -2,8 +2,8 @@ use Rattle.std.proofs.Common.{◌∙◌, ◌==◌, ◌&&◌, ap, arith, not, map
 use Rattle.std.proofs.lemmas.Bool.Decides.{nat_tests}
 use Rattle.std.specs.Prelude.{string_bytes}
 use Rattle.std.specs.List.{list_any}
-use Rattle.rt_oplog.specs.Edits.{body_of}
-use Rattle.rt_oplog.specs.Operations.{Insert, Tag, stamps_of_span}
+use Rattle.rt_ops.specs.Edits.{body_of}
+use Rattle.rt_ops.specs.Operations.{Insert, Tag, stamps_of_span}
 use Rattle.rt_rga.specs.Histories.{may_name}
 use Rattle.rt_rga.proofs.Answering.{other_is}
 use Rattle.rt_rga.proofs.answer.names_other.Goals as goal

@@ -2,8 +2,8 @@ use Rattle.std.proofs.Common.{◌∙◌, ◌<◌, ap, length, map, subst, sym}
 use Rattle.std.specs.Prelude.{string_bytes}
 use Rattle.rt_stamps.specs.declared.stamp.TheConstants.{FINAL}
 use Rattle.rt_stamps.specs.Stamps.{is_before}
-use Rattle.rt_oplog.specs.Edits.{body_of}
-use Rattle.rt_oplog.specs.Operations.{stamp_of}
+use Rattle.rt_ops.specs.Edits.{body_of}
+use Rattle.rt_ops.specs.Operations.{stamp_of}
 use Rattle.rt_store.specs.Cells.{IsPlaced, skip_from}
 use Rattle.rt_rga.proofs.describe.place_in.Goals as goal
 

@@ -1,7 +1,7 @@
 use Rattle.std.proofs.Common.{◌≡◌, ◌∙◌, ap, sym}
 use Rattle.rt_stamps.specs.declared.stamp.TheConstants.{FINAL}
-use Rattle.rt_oplog.specs.Edits.{body_of}
-use Rattle.rt_oplog.specs.Operations.{Delete}
+use Rattle.rt_ops.specs.Edits.{body_of}
+use Rattle.rt_ops.specs.Operations.{Delete}
 use Rattle.rt_rga.specs.Cells.{deletes}
 use Rattle.rt_rga.proofs.describe.removed.Goals as goal
 

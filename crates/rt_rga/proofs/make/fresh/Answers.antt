@@ -1,7 +1,7 @@
 use Rattle.std.proofs.Common.{◌≤◌, List, map, subst, ◌∙◌, ◌++◌, ap, append-nil, sym}
 use Rattle.std.specs.List.{AllByRecursion}
 use Rattle.rt_stamps.specs.declared.limits.TheConstants.{GREATEST_COUNT}
-use Rattle.rt_oplog.specs.Operations.{Operation, last_count}
+use Rattle.rt_ops.specs.Operations.{Operation, last_count}
 use Rattle.rt_store.specs.Shown.{shown}
 use Rattle.rt_tags.proofs.Listing.{keeps_both}
 use Rattle.rt_rga.proofs.Making.{fresh_left, ops_left}

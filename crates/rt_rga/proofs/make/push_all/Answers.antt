@@ -1,6 +1,6 @@
 use Rattle.std.proofs.Common.{◌≡◌, ◌∙◌, ◌∷◌, List, ap, arith, length, subst, sym}
 use Rattle.std.specs.Vec.Iter.{into_iter_items}
-use Rattle.rt_oplog.specs.Operations.{Operation}
+use Rattle.rt_ops.specs.Operations.{Operation}
 use Rattle.rt_oplog.specs.Logs.{with_operation}
 use Rattle.rt_rga.specs.Drafts.{with_operations}
 use Rattle.rt_rga.specs.Histories.{IsHistory, greatest_last_count}

@@ -1,7 +1,7 @@
 use Rattle.std.proofs.Common.{map, refl}
 use Rattle.std.specs.Vec.Iter.{into_iter_items}
 use Rattle.rt_stamps.specs.declared.limits.TheConstants.{GREATEST_COUNT}
-use Rattle.rt_oplog.specs.Edits.{body_of}
+use Rattle.rt_ops.specs.Edits.{body_of}
 use Rattle.rt_rga.specs.Making.{operations_from}
 use Rattle.rt_rga.proofs.Making.{fits_left, rules_left, stamped_more}
 use Rattle.std.proofs.lemmas.Result.{err_from_is_err_and}

@@ -2,8 +2,8 @@ use Rattle.std.proofs.Common.{◌≡◌, ◌≤◌, ◌++◌, true, map}
 use Rattle.std.specs.Prelude.{All}
 use Rattle.std.specs.Vec.Iter.{into_iter_items}
 use Rattle.rt_stamps.specs.declared.limits.TheConstants.{GREATEST_COUNT}
-use Rattle.rt_oplog.specs.Edits.{body_of}
-use Rattle.rt_oplog.specs.Rules.{keeps_rules}
+use Rattle.rt_ops.specs.Edits.{body_of}
+use Rattle.rt_ops.specs.Rules.{keeps_rules}
 use Rattle.rt_rga.specs.Making.{operations_from}
 use Rattle.rt_rga.specs.Requests.{last_count_after}
 use Rattle.rt_rga.proofs.make.stamped.Given as goal

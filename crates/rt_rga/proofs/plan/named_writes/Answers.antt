@@ -1,5 +1,5 @@
 use Rattle.std.proofs.Common.{◌∙◌, ap, List}
-use Rattle.rt_oplog.specs.Operations.{Operation, stamp_of}
+use Rattle.rt_ops.specs.Operations.{Operation, stamp_of}
 use Rattle.rt_tags.specs.Writers.{state_after}
 use Rattle.rt_rga.specs.Batches.{tag_writes, tag_writes_by}
 use Rattle.rt_tags.proofs.Listing.{keeps_both}

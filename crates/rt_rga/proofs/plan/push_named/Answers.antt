@@ -1,7 +1,7 @@
 use Rattle.std.proofs.Common.{◌≡◌, ◌∙◌, ◌++◌, ◌∷◌, [], List, All, ap, cond, map, subst, sym}
 use Rattle.std.specs.Prelude.{string_bytes}
-use Rattle.rt_oplog.specs.Edits.{body_of}
-use Rattle.rt_oplog.specs.Operations.{Tag, stamp_of, stamps_in}
+use Rattle.rt_ops.specs.Edits.{body_of}
+use Rattle.rt_ops.specs.Operations.{Tag, stamp_of, stamps_in}
 use Rattle.rt_store.specs.Spans.{is_in_spans}
 use Rattle.rt_tags.specs.declared.states.Entry.{Entry}
 use Rattle.rt_tags.specs.States.{IsTag, name_at, writes_at}

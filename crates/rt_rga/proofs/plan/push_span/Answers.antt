@@ -1,5 +1,5 @@
 use Rattle.std.proofs.Common.{◌∙◌, ◌+◌, ◌-◌, ◌++◌, ap, arith, map, sym, refl}
-use Rattle.rt_oplog.specs.Operations.{stamps_from}
+use Rattle.rt_ops.specs.Operations.{stamps_from}
 use Rattle.rt_rga.specs.Batches.{named_with}
 use Rattle.rt_rga.proofs.PlannedEntries.{named_from}
 use Rattle.std.proofs.lemmas.Result.{err_from_is_err_and}

@@ -1,5 +1,5 @@
 use Rattle.std.proofs.Common.{◌≡◌, ◌++◌, drop, map}
-use Rattle.rt_oplog.specs.Operations.{stamps_in}
+use Rattle.rt_ops.specs.Operations.{stamps_in}
 use Rattle.rt_rga.specs.Batches.{named_with}
 use Rattle.rt_rga.proofs.plan.push_spans.Given as goal
 

@@ -3,7 +3,7 @@ use Rattle.std.specs.List.{list_any}
 use Rattle.std.proofs.lemmas.List.Sorted.{list_any-IsPermutation}
 use Rattle.std.proofs.lemmas.Result.{IfOk-weaker}
 use Rattle.rt_stamps.specs.declared.limits.TheConstants.{MOST_CELLS}
-use Rattle.rt_oplog.specs.Operations.{Delete}
+use Rattle.rt_ops.specs.Operations.{Delete}
 use Rattle.rt_store.specs.Cells.{visible_of}
 use Rattle.rt_rga.specs.Removed.{places_of}
 use Rattle.rt_rga.specs.Taken.{takes_away}

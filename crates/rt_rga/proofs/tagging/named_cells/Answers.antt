@@ -2,7 +2,7 @@ use Rattle.std.proofs.Common.{◌∙◌, ◌++◌, List, ap, append-nil, sym, �
 use Rattle.std.proofs.lemmas.Result.{err_from_is_err_and}
 use Rattle.std.proofs.lemmas.List.{drop_all}
 use Rattle.rt_stamps.specs.declared.stamp.Span.{Span}
-use Rattle.rt_oplog.specs.Operations.{stamps_in, stamps_of_span}
+use Rattle.rt_ops.specs.Operations.{stamps_in, stamps_of_span}
 use Rattle.rt_rga.specs.Runs.{cells_found, listed}
 use Rattle.std.proofs.lemmas.List.Concat.{flat_map-append}
 use Rattle.rt_stamps.specs.declared.stamp.Stamp.{Stamp}

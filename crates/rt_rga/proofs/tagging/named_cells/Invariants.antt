@@ -1,5 +1,5 @@
 use Rattle.std.proofs.Common.{◌≡◌, ◌++◌, drop}
-use Rattle.rt_oplog.specs.Operations.{stamps_in}
+use Rattle.rt_ops.specs.Operations.{stamps_in}
 use Rattle.rt_rga.specs.Runs.{cells_found}
 use Rattle.rt_rga.proofs.tagging.named_cells.Given as goal
 

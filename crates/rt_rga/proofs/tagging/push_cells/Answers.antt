@@ -1,5 +1,5 @@
 use Rattle.std.proofs.Common.{◌∙◌, ◌+◌, ◌-◌, ◌++◌, ap, arith, sym}
-use Rattle.rt_oplog.specs.Operations.{stamps_from}
+use Rattle.rt_ops.specs.Operations.{stamps_from}
 use Rattle.rt_rga.specs.Runs.{cells_found, listed}
 use Rattle.rt_rga.proofs.TagWrites.{found_from}
 use Rattle.std.proofs.lemmas.Result.{err_from_is_err_and}

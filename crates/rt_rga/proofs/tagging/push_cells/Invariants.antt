@@ -1,5 +1,5 @@
 use Rattle.std.proofs.Common.{◌≡◌, ◌+◌, ◌-◌, ◌++◌}
-use Rattle.rt_oplog.specs.Operations.{stamps_from, stamps_of_span}
+use Rattle.rt_ops.specs.Operations.{stamps_from, stamps_of_span}
 use Rattle.rt_rga.specs.Runs.{cells_found}
 use Rattle.rt_rga.proofs.tagging.push_cells.Given as goal
 

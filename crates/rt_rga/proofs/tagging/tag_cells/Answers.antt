@@ -1,5 +1,5 @@
 use Rattle.std.proofs.Common.{◌≡◌, ◌∙◌, ℕ, List, sym, subst, map, ap, refl, All, arith, length}
-use Rattle.rt_oplog.specs.Operations.{stamps_in}
+use Rattle.rt_ops.specs.Operations.{stamps_in}
 use Rattle.rt_store.specs.declared.cell.Cell.{Cell}
 use Rattle.rt_store.specs.Shown.{shown}
 use Rattle.rt_store.specs.Tagged.{AreStates}

@@ -1,11 +1,11 @@
 use Rattle.std.proofs.Common.{◌≡◌, ◌++◌, length, map}
 use Rattle.rt_marks.specs.Seen.{spotted}
-use Rattle.rt_tagcmd.specs.MarkLists.{marks_from, marks_left}
+use Rattle.rt_tagcmd.specs.MarkLists.{marks_from, marks_ahead}
 use Rattle.rt_text.specs.Widgets.{marks_of}
 use Rattle.rt_tagcmd.proofs.mark_list.marks_between.Given as goal
 
 abbrev pub invariant-loop-spot : goal.invariant-loop-spot
-invariant-loop-spot g l = marks_from l.from l.behind (marks_of l.view) ≡ map spotted l.spots.items ++ marks_left l.behind (spotted l.here) (marks_of l.view)
+invariant-loop-spot g l = marks_from l.from l.behind (marks_of l.view) ≡ map spotted l.spots.items ++ marks_ahead l.behind (spotted l.here) (marks_of l.view)
 
 abbrev pub decreases-loop-spot : goal.decreases-loop-spot
-decreases-loop-spot g l = length (marks_left l.behind (spotted l.here) (marks_of l.view))
+decreases-loop-spot g l = length (marks_ahead l.behind (spotted l.here) (marks_of l.view))

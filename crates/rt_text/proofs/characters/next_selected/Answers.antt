@@ -1,15 +1,15 @@
 use Rattle.std.proofs.Common.{◌∙◌, sym}
 use Rattle.rt_store.specs.Cells.{visible_of}
-use Rattle.rt_edits.specs.Selected.{stamps_in}
+use Rattle.rt_edits.specs.Selected.{selected_stamps}
 use Rattle.rt_text.proofs.TaggedLaws.{selects, next_found, next_passed}
 use Rattle.rt_text.proofs.characters.next_selected.Goals as goal
 
 pub returns-then-is_selected : goal.returns-then-is_selected
 returns-then-is_selected g c =
-    sym (next_found (selects (stamps_in c.args.selection.now) c.args.selected) (visible_of (g.S.TextStore.list c.args.store.now)) c.loop-at.at c.cell_at.result c.cell_at.ensures (sym c.is_selected.ensures ∙ c.if-is_selected.true))
+    sym (next_found (selects (selected_stamps c.args.selection.now) c.args.selected) (visible_of (g.S.TextStore.list c.args.store.now)) c.loop-at.at c.cell_at.result c.cell_at.ensures (sym c.is_selected.ensures ∙ c.if-is_selected.true))
     ∙ c.loop-at.invariant
 
 pub loop-at-preserved : goal.loop-at-preserved
 loop-at-preserved g c =
-    sym (next_passed (selects (stamps_in c.args.selection.now) c.args.selected) (visible_of (g.S.TextStore.list c.args.store.now)) c.loop-at.at c.cell_at.result c.cell_at.ensures (sym c.is_selected.ensures ∙ c.if-is_selected.false))
+    sym (next_passed (selects (selected_stamps c.args.selection.now) c.args.selected) (visible_of (g.S.TextStore.list c.args.store.now)) c.loop-at.at c.cell_at.result c.cell_at.ensures (sym c.is_selected.ensures ∙ c.if-is_selected.false))
     ∙ c.loop-at.invariant

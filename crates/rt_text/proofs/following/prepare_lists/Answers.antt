@@ -1,6 +1,6 @@
 use Rattle.std.proofs.Common.{◌≡◌, ◌∙◌, All, ap, map, string_bytes, subst, sym, true}
 use Rattle.std.proofs.lemmas.List.Elements.{All-map}
-use Rattle.rt_oplog.specs.Edits.{body_of}
+use Rattle.rt_ops.specs.Edits.{body_of}
 use Rattle.rt_rga.specs.Taken.{lists_of}
 use Rattle.rt_tags.specs.Tags.{IsName, is_ready}
 use Rattle.rt_text.proofs.AcceptedDocument.{all_under, lists_named, ok_more}

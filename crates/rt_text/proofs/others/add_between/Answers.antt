@@ -1,7 +1,7 @@
 use Rattle.std.proofs.Common.{◌≡◌, ◌≤◌, ◌&&◌, subst, sym, true, ◌<◌, ◌∙◌, arith, length}
 use Rattle.std.proofs.lemmas.List.{length-set}
 use Rattle.rt_edits.specs.Insertions.{selected_if}
-use Rattle.rt_edits.specs.Selected.{room_in, stamps_in}
+use Rattle.rt_edits.specs.Selected.{room_in, selected_stamps}
 use Rattle.rt_store.specs.Spans.{is_among}
 use Rattle.rt_text.specs.declared.parts.Parts.{Parts}
 use Rattle.rt_edits.proofs.SelectionLaws.{done_more, rest_more}
@@ -18,7 +18,7 @@ select_if-requires c =
     let d = c.index-others-i.result in
     let known = c.loop-i.invariant in
     let lt : i < length xs = omega (arith, c.loop-i-test.true) in
-    subst (λ (s : Parts). (is_among (stamps_in s.selection) c.args.left && is_among (stamps_in s.selection) c.args.right) ≡ true → length c.args.stamps.now ≤ room_in s.selection)
+    subst (λ (s : Parts). (is_among (selected_stamps s.selection) c.args.left && is_among (selected_stamps s.selection) c.args.right) ≡ true → length c.args.stamps.now ≤ room_in s.selection)
     (sym (rest_same xs ys i d lt known.len known.rest)) (c.requires i d lt)
 
 pub loop-i-preserved : goal.loop-i-preserved

@@ -1,7 +1,7 @@
 use Rattle.std.proofs.lemmas.Result.{err_from_is_err_and}
 use Rattle.std.proofs.Common.{◌≡◌, ◌<◌, ◌≤◌, ◌&&◌, ◌∙◌, All, arith, length, subst, true}
 use Rattle.std.proofs.lemmas.List.{length-set, take_all}
-use Rattle.rt_edits.specs.Selected.{stamps_in, room_in}
+use Rattle.rt_edits.specs.Selected.{selected_stamps, room_in}
 use Rattle.rt_store.specs.Spans.{is_among}
 use Rattle.rt_edits.proofs.SelectionLaws.{all_more, same_set}
 use Rattle.rt_text.specs.declared.parts.Parts.{Parts}
@@ -26,7 +26,7 @@ loop-i-preserved c =
     let i = c.loop-i.i in
     let x = c.reserve_if.new.self in
     let lt : i < length ys = omega (arith, c.loop-i-test.true, c.loop-i.invariant.len) in
-    let P : Parts → Type 0 = λ s. (is_among (stamps_in s.selection) c.args.left && is_among (stamps_in s.selection) c.args.right) ≡ true → c.args.more ≤ room_in s.selection in
+    let P : Parts → Type 0 = λ s. (is_among (selected_stamps s.selection) c.args.left && is_among (selected_stamps s.selection) c.args.right) ≡ true → c.args.more ≤ room_in s.selection in
     record {
       same = same_set own_in ys i x c.index-others-i.result c.reserve_if.ensures.same lt ∙ c.loop-i.invariant.same;
       room = all_more P ys i x lt c.loop-i.invariant.room c.in_ok-reserve_if.ensures.room;
@@ -36,6 +36,6 @@ loop-i-preserved c =
 pub returns-clause-room : goal.returns-clause-room
 returns-clause-room c =
     let ys = c.loop-i.others in
-    let P : Parts → Type 0 = λ s. (is_among (stamps_in s.selection) c.args.left && is_among (stamps_in s.selection) c.args.right) ≡ true → c.args.more ≤ room_in s.selection in
+    let P : Parts → Type 0 = λ s. (is_among (selected_stamps s.selection) c.args.left && is_among (selected_stamps s.selection) c.args.right) ≡ true → c.args.more ≤ room_in s.selection in
     let end : length ys ≤ c.loop-i.i = omega (arith, c.loop-i-test.false, c.loop-i.invariant.len) in
     subst (All P) (take_all c.loop-i.i ys end) c.loop-i.invariant.room

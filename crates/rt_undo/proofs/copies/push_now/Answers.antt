@@ -1,5 +1,5 @@
 use Rattle.std.proofs.Common.{◌∙◌, ◌+◌, ◌-◌, ◌++◌, [], ◌∷◌, ap, arith, map, sym}
-use Rattle.rt_oplog.specs.Operations.{stamps_from, stamps_in}
+use Rattle.rt_ops.specs.Operations.{stamps_from, stamps_in}
 use Rattle.rt_undo.specs.Renames.{now_of}
 use Rattle.rt_undo.proofs.Copying.{from_step}
 use Rattle.rt_undo.proofs.copies.push_now.Goals as goal

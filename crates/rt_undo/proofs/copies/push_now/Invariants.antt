@@ -1,5 +1,5 @@
 use Rattle.std.proofs.Common.{◌≡◌, ◌+◌, ◌-◌, ◌++◌, map}
-use Rattle.rt_oplog.specs.Operations.{stamps_from, stamps_in, stamps_of_span}
+use Rattle.rt_ops.specs.Operations.{stamps_from, stamps_in, stamps_of_span}
 use Rattle.rt_undo.specs.Renames.{now_of}
 use Rattle.rt_undo.proofs.copies.push_now.Given as goal
 

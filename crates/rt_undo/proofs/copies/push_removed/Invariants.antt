@@ -1,5 +1,5 @@
 use Rattle.std.proofs.Common.{◌≡◌, ◌++◌, drop, map}
-use Rattle.rt_oplog.specs.Operations.{stamps_in}
+use Rattle.rt_ops.specs.Operations.{stamps_in}
 use Rattle.rt_undo.specs.Actions.{removed_in, removed_with}
 use Rattle.rt_undo.proofs.copies.push_removed.Given as goal
 

@@ -1,5 +1,5 @@
 use Rattle.std.proofs.Common.{◌∙◌, ◌++◌, [], ◌∷◌, ap, sym, append-nil}
-use Rattle.rt_oplog.specs.Operations.{stamps_in}
+use Rattle.rt_ops.specs.Operations.{stamps_in}
 use Rattle.rt_undo.proofs.Copying.{pushed_next, pushed_other}
 use Rattle.rt_undo.proofs.copies.push_stamp.Goals as goal
 use Rattle.rt_undo.proofs.copies.push_stamp.Goals.{in-Some+then-is_next, in-Some+else-is_next+in_ok-push, in_default}

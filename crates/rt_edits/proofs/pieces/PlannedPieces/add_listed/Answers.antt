@@ -2,7 +2,7 @@ use Rattle.std.proofs.Common.{◌≡◌, refl, ◌∙◌, ◌+◌, ◌≤◌, �
 use Rattle.std.specs.Prelude.{string_bytes}
 use Rattle.std.specs.Str.{chars}
 use Rattle.rt_tags.specs.Tags.{is_listed, sel}
-use Rattle.rt_oplog.specs.Edits.{body_of}
+use Rattle.rt_ops.specs.Edits.{body_of}
 use Rattle.rt_store.specs.Cells.{stamps_of}
 use Rattle.rt_edits.specs.declared.pieces.PlannedPieces.{PlannedPieces}
 use Rattle.rt_edits.specs.InsertionDrafts.{behind}

@@ -4,7 +4,7 @@ use Rattle.std.specs.Str.{chars}
 use Rattle.std.proofs.lemmas.List.{drop_at, take_rest}
 use Rattle.std.proofs.lemmas.Result.{err_from_is_err_and}
 use Rattle.rt_stamps.specs.declared.limits.TheConstants.{GREATEST_COUNT, MOST_CHARACTERS}
-use Rattle.rt_oplog.specs.Edits.{body_of}
+use Rattle.rt_ops.specs.Edits.{body_of}
 use Rattle.rt_store.specs.Cells.{stamps_of}
 use Rattle.rt_store.specs.Shown.{shown}
 use Rattle.rt_store.specs.Spans.{is_among}
@@ -12,7 +12,7 @@ use Rattle.rt_edits.specs.declared.pieces.PlannedPieces.{PlannedPieces}
 use Rattle.rt_edits.specs.InsertionDrafts.{behind, text_drafts}
 use Rattle.rt_edits.specs.InsertionPlans.{selected_between}
 use Rattle.rt_edits.specs.Insertions.{are_among, counts_for, last_of, selected_if, tagged_cells, tags_between}
-use Rattle.rt_edits.specs.Selected.{stamps_in}
+use Rattle.rt_edits.specs.Selected.{selected_stamps}
 use Rattle.rt_edits.specs.Selections.{with_stamps}
 use Rattle.rt_edits.proofs.PieceLaws.{IsMoreText, no_drafts, none_in}
 use Rattle.rt_edits.proofs.PlanLaws.{some_in, spent}
@@ -30,7 +30,7 @@ pub returns-then-is_empty-clause-plans : goal.returns-then-is_empty-clause-plans
 returns-then-is_empty-clause-plans c = λ plan after listed so_far h a p.
     let t = c.args.states.now in
     let none : chars c.args.rest.now ≡ [] = sym c.in_ok-text.ensures.ok ∙ sym c.characters.ensures ∙ none_in c.characters.result.now (length c.characters.result.now) c.is_empty.result refl c.is_empty.ensures c.if-is_empty.true in
-    plans_nothing plan after (stamps_in c.args.selection.now) listed c.args.self.now c.args.site.number (last_of (option_map (shown t) c.args.left) so_far.cells) (Some (shown t c.args.right)) (chars c.args.rest.now) so_far none h p
+    plans_nothing plan after (selected_stamps c.args.selection.now) listed c.args.self.now c.args.site.number (last_of (option_map (shown t) c.args.left) so_far.cells) (Some (shown t c.args.right)) (chars c.args.rest.now) so_far none h p
 
 pub returns-in_err-add_text-clause-err : goal.returns-in_err-add_text-clause-err
 returns-in_err-add_text-clause-err c =
@@ -50,7 +50,7 @@ returns-then-not-has_left-clause-plans c = λ plan after listed so_far h a p.
     let old = c.args.self.now in
     let new = c.add_text.new.self in
     let site = c.args.site.number in
-    let selection = stamps_in c.args.selection.now in
+    let selection = selected_stamps c.args.selection.now in
     let text = chars c.args.rest.now in
     let left = last_of (option_map (shown t) c.args.left) so_far.cells in
     let right = Some (shown t c.args.right) in
@@ -90,7 +90,7 @@ returns-clause-plans c = λ plan after listed so_far h a p.
     let next : PlannedPieces = c.add_text.new.self in
     let new : PlannedPieces = record next { selected = c.select.new.selected } in
     let site = c.args.site.number in
-    let selection = stamps_in c.args.selection.now in
+    let selection = selected_stamps c.args.selection.now in
     let text = chars c.args.rest.now in
     let left = last_of (option_map (shown t) c.args.left) so_far.cells in
     let right = Some (shown t c.args.right) in

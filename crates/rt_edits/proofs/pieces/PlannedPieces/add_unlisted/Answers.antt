@@ -3,13 +3,13 @@ use Rattle.std.specs.Prelude.{IfSome, option_map}
 use Rattle.std.specs.Str.{chars}
 use Rattle.std.proofs.lemmas.Result.{IfErr-weaker, IfOk-weaker, on_ok_weaker}
 use Rattle.rt_stamps.specs.declared.limits.TheConstants.{GREATEST_COUNT, MOST_CHARACTERS}
-use Rattle.rt_oplog.specs.Edits.{body_of}
+use Rattle.rt_ops.specs.Edits.{body_of}
 use Rattle.rt_store.specs.Shown.{shown}
 use Rattle.rt_edits.specs.InsertionDrafts.{behind, text_drafts}
 use Rattle.rt_edits.specs.InsertionPlans.{Plans}
 use Rattle.rt_edits.specs.Insertions.{counts_for, last_of, tags_between, with_unlisted}
 use Rattle.rt_edits.specs.PlannedPieces.{AreSoFar}
-use Rattle.rt_edits.specs.Selected.{stamps_in}
+use Rattle.rt_edits.specs.Selected.{selected_stamps}
 use Rattle.rt_edits.proofs.BareText.{plans_bare}
 use Rattle.rt_edits.proofs.PlanLaws.{spent}
 use Rattle.rt_edits.proofs.pieces.PlannedPieces.add_unlisted.Goals as goal
@@ -17,7 +17,7 @@ use Rattle.rt_edits.proofs.pieces.PlannedPieces.add_unlisted.Goals as goal
 pub returns-in-Some-clause-drafts : goal.returns-in-Some-clause-drafts
 returns-in-Some-clause-drafts c =
     let t = c.args.states.now in
-    let stamps = stamps_in c.args.selection.now in
+    let stamps = selected_stamps c.args.selection.now in
     on_ok_weaker c.add_rest.result
     (λ h after sel listed so_far e s.
     let same : sel ≡ stamps = subst (λ o. IfSome o (λ cell. sel ≡ stamps)) c.in-Some.is e in
@@ -29,7 +29,7 @@ returns-in-Some-clause-drafts c =
 pub returns-in-Some-clause-plans : goal.returns-in-Some-clause-plans
 returns-in-Some-clause-plans c =
     let t = c.args.states.now in
-    let stamps = stamps_in c.args.selection.now in
+    let stamps = selected_stamps c.args.selection.now in
     IfOk-weaker c.add_rest.result _ _
     (λ between h plan after sel listed so_far e s a p.
     let same : sel ≡ stamps = subst (λ o. IfSome o (λ cell. sel ≡ stamps)) c.in-Some.is e in
@@ -42,7 +42,7 @@ returns-in-Some-clause-plans c =
 pub returns-in-Some-clause-err : goal.returns-in-Some-clause-err
 returns-in-Some-clause-err c =
     let t = c.args.states.now in
-    let stamps = stamps_in c.args.selection.now in
+    let stamps = selected_stamps c.args.selection.now in
     IfErr-weaker c.add_rest.result _ _
     (λ fault h. spent
     (λ k after sel listed so_far e s.

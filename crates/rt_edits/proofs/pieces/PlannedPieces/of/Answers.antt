@@ -3,7 +3,7 @@ use Rattle.std.specs.Str.{chars}
 use Rattle.std.proofs.lemmas.List.{take_all}
 use Rattle.std.proofs.lemmas.Result.{err_from_is_err_and}
 use Rattle.rt_stamps.specs.declared.limits.TheConstants.{GREATEST_COUNT, MOST_CHARACTERS}
-use Rattle.rt_oplog.specs.Edits.{body_of}
+use Rattle.rt_ops.specs.Edits.{body_of}
 use Rattle.rt_edits.specs.InsertionDrafts.{pieces_drafts, text_drafts}
 use Rattle.rt_edits.specs.Insertions.{Insertion, shared_names, with_pieces}
 use Rattle.rt_edits.specs.PlannedPieces.{AreSoFar}

@@ -1,10 +1,10 @@
 use Rattle.std.proofs.Common.{◌≡◌, ◌+◌, ◌≤◌, drop, length}
-use Rattle.rt_edits.specs.Selected.{stamps_in, room_in}
+use Rattle.rt_edits.specs.Selected.{selected_stamps, room_in}
 use Rattle.rt_edits.specs.Selections.{with_stamps}
 use Rattle.rt_edits.proofs.selection.Selection.add.Given as goal
 
 abbrev pub invariant-loop-stamp : goal.invariant-loop-stamp
 invariant-loop-stamp l = record {
-  stamps : with_stamps (drop l.stamp-index l.stamps) (stamps_in l.self) ≡ with_stamps l.stamps (stamps_in l.fn.self);
+  stamps : with_stamps (drop l.stamp-index l.stamps) (selected_stamps l.self) ≡ with_stamps l.stamps (selected_stamps l.fn.self);
   room : length l.stamps ≤ room_in l.self + l.stamp-index;
 }

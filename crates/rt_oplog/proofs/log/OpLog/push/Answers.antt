@@ -2,7 +2,7 @@ use Rattle.std.proofs.Common.{◌≡◌, ◌∷◌, ℕ, List, false, inl, refl,
 use Rattle.std.proofs.lemmas.Result.{err_from_is_err_and}
 use Rattle.std.specs.List.{insert, list_any}
 use Rattle.rt_stamps.specs.declared.fault.Fault.{Fault}
-use Rattle.rt_oplog.specs.Operations.{Operation, stamp_of, has_bad_stamp, soundness}
+use Rattle.rt_ops.specs.Operations.{Operation, stamp_of, has_bad_stamp, soundness}
 use Rattle.rt_oplog.specs.Logs.{holds, clash, known_end, pushed}
 use Rattle.rt_oplog.specs.Ends.{end_in}
 use Rattle.rt_oplog.specs.Kept.{newest_first, leading}

@@ -1,4 +1,4 @@
-use Rattle.std.proofs.Common.{◌∙◌, ap, arith, subst, sym, ◌≡◌, refl}
+use Rattle.std.proofs.Common.{ap, arith, sym, ◌≡◌, refl}
 use Rattle.std.proofs.lemmas.Result.{err_from_is_err_and}
 use Rattle.rt_oplog.specs.Outcomes.{Log}
 use Rattle.rt_oplog.proofs.log.OpLog.reserve.Goals as goal

@@ -1,5 +1,5 @@
 use Rattle.std.proofs.Common.{subst, sym}
-use Rattle.rt_recorder.specs.Settled.{IsSettled}
+use Rattle.rt_editing.specs.Settled.{IsSettled}
 use Rattle.rt_text.specs.Widgets.{Viewed}
 use Rattle.rt_peers.proofs.OptionLaws.{one_more, settled_still}
 use Rattle.rt_peers.proofs.text.EditedText.add_peer_of_first.Goals as goal

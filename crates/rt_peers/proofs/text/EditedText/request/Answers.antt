@@ -3,10 +3,10 @@ use Rattle.std.specs.Fmt.{signed_decimal}
 use Rattle.rt_stamps.specs.Outcomes.{Answers}
 use Rattle.rt_stamps.specs.Places.{text_of_position}
 use Rattle.rt_requests.specs.Parts.{all_of}
-use Rattle.rt_dump.specs.Dumping.{dumped}
+use Rattle.rt_queries.specs.Dumping.{dumped}
 use Rattle.rt_editing.specs.Edited.{Edited, edited}
 use Rattle.rt_editing.specs.Edits.{text_deleted, text_inserted, text_replaced}
-use Rattle.rt_searchcmd.specs.SearchCommand.{searched}
+use Rattle.rt_queries.specs.SearchCommand.{searched}
 use Rattle.rt_text.specs.Commands.{compared, counted, position_of_index}
 use Rattle.rt_peers.specs.ViewStep.{as_piece, changed_step, element_words, get_step, one_word, text_of_bool, told_step}
 use Rattle.rt_peers.proofs.Steps.{told_to}

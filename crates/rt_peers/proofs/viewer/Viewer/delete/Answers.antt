@@ -1,5 +1,5 @@
 use Rattle.std.proofs.Common.{subst, sym}
-use Rattle.rt_recorder.specs.Settled.{IsSettled}
+use Rattle.rt_editing.specs.Settled.{IsSettled}
 use Rattle.rt_text.specs.Widgets.{Viewed}
 use Rattle.rt_editing.specs.Edited.{edited}
 use Rattle.rt_editing.specs.Edits.{text_deleted}

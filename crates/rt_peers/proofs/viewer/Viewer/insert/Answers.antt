@@ -1,6 +1,6 @@
 use Rattle.std.proofs.Common.{◌∙◌, ap, map, inl, refl, subst, sym}
 use Rattle.std.proofs.lemmas.Result.{err_from_is_err_and}
-use Rattle.rt_recorder.specs.Settled.{IsSettled}
+use Rattle.rt_editing.specs.Settled.{IsSettled}
 use Rattle.rt_text.specs.Widgets.{Viewed}
 use Rattle.rt_editing.specs.Edited.{edited}
 use Rattle.rt_editing.specs.Edits.{text_inserted}

@@ -1,6 +1,6 @@
 use Rattle.std.proofs.Common.{◌∙◌, List, ap, inr, refl}
 use Rattle.std.proofs.lemmas.Result.{err_from_is_err_and}
-use Rattle.rt_oplog.specs.Operations.{Operation}
+use Rattle.rt_ops.specs.Operations.{Operation}
 use Rattle.rt_rga.specs.Drafts.{with_operations}
 use Rattle.rt_tags.proofs.Keeping.{keeps_itself}
 use Rattle.rt_rga.proofs.replica.Replica.make.Goals as goal

@@ -2,9 +2,9 @@ use Rattle.std.proofs.Common.{◌≡◌, ◌∙◌, ◌⊎◌, ℕ, List, Option
 use Rattle.std.specs.Prelude.{Err, OnOk, IfOk, Ok, Result}
 use Rattle.std.proofs.lemmas.List.{length-map}
 use Rattle.std.proofs.lemmas.Result.{IfErr-weaker, IfOk-weaker}
-use Rattle.rt_oplog.specs.Edits.{body_of}
+use Rattle.rt_ops.specs.Edits.{body_of}
 use Rattle.rt_oplog.specs.Logs.{known_end}
-use Rattle.rt_oplog.specs.Operations.{Body, Operation}
+use Rattle.rt_ops.specs.Operations.{Body, Operation}
 use Rattle.rt_store.specs.declared.cell.Cell.{Cell}
 use Rattle.rt_store.specs.Shown.{shown, TaggedCell}
 use Rattle.rt_rga.specs.Cells.{cells_of}

@@ -5,7 +5,7 @@ use Rattle.std.specs.List.{AllByRecursion}
 use Rattle.std.proofs.lemmas.List.{length-map}
 use Rattle.std.proofs.lemmas.Result.{err_from_is_err_and}
 use Rattle.rt_marks.specs.Marks.{mark_inserted, marks_inserted}
-use Rattle.rt_oplog.specs.Edits.{body_of}
+use Rattle.rt_ops.specs.Edits.{body_of}
 use Rattle.rt_stamps.specs.declared.fault.Fault.{Fault}
 use Rattle.rt_stamps.specs.declared.fault.Fault.TheVariants.{ClockSpent, NoMemory}
 use Rattle.rt_stamps.specs.declared.limits.TheConstants.{GREATEST_COUNT}
@@ -24,7 +24,7 @@ use Rattle.rt_edits.specs.Flat.{Flat, logged}
 use Rattle.rt_edits.specs.InsertionPlans.{Plans}
 use Rattle.rt_edits.specs.Insertions.{all_listed}
 use Rattle.rt_edits.specs.Listed.{AreListed}
-use Rattle.rt_edits.specs.Selected.{stamps_in, room_in}
+use Rattle.rt_edits.specs.Selected.{selected_stamps, room_in}
 use Rattle.rt_edits.specs.Selections.{with_stamps}
 use Rattle.rt_edits.proofs.PlaceLaws.{length_text, text_within}
 use Rattle.rt_views.specs.declared.stretch.Stretch.{Stretch}
@@ -141,7 +141,7 @@ returns-in_err-make_planned g c =
     let own_now : Own = own_in c.widget.inside.parts in
     let doc : seen c.make_planned.new.replica c.self.inside.marks c.make_planned.new.tags.names ≡ c.args.self.now =
     (λ k. seen (c.in_err-make_planned.ensures.same k) c.self.inside.marks (c.make_planned.ensures.tags k)) ∙ c.self.view_is in
-    let own_same : record own_now { sel = stamps_in c.make_planned.new.selection } ≡ c.args.widget.now =
+    let own_same : record own_now { sel = selected_stamps c.make_planned.new.selection } ≡ c.args.widget.now =
     ap (λ (s : List Stamp). record own_now { sel = s }) c.make_planned.ensures.selection ∙ c.widget.view_is in
     let others_same : map own_in c.make_planned.new.others ≡ map own_in c.args.others.now = c.make_planned.ensures.others in
     rw (is, gives) (record {
@@ -260,9 +260,9 @@ returns g c =
     let marks : c.insert_all.new.marks ≡ edited.marks = c.insert_all.ensures.marks ∙ (λ i. marks_inserted (here i) (plans.characters i) (c.self.view_is i).marks) in
     let tags : c.list_tags.new.table.names ≡ edited.tags =
     c.list_tags.ensures ∙ (λ i. all_listed (map (λ w. string_bytes w) (c.deref-2.ensures.value i)) (c.make_planned.ensures.tags i)) ∙ ap (λ (f : Flat). all_listed (map (λ w. string_bytes w) c.in_ok-plan.plan.names.items) f.tags) c.self.view_is ∙ plans.tags in
-    let sel : stamps_in c.widget.inside.parts.selection ≡ own.sel = ap (λ (o : Own). o.sel) c.widget.view_is in
+    let sel : selected_stamps c.widget.inside.parts.selection ≡ own.sel = ap (λ (o : Own). o.sel) c.widget.view_is in
     let own_now : Own = own_in c.widget.inside.parts in
-    let stamps : stamps_in c.select_all.new.selection ≡ new.sel =
+    let stamps : selected_stamps c.select_all.new.selection ≡ new.sel =
     c.select_all.ensures.selection ∙ (λ i. with_stamps (c.deref.ensures.value i) (c.make_planned.ensures.selection i)) ∙ ap (with_stamps c.in_ok-plan.plan.selected.items) sel ∙ plans.sel in
     let own_after : c.insert_all.new.widget ≡ record (own_inserted point (length new.cells) own) { sel = new.sel } =
     c.insert_all.ensures.own

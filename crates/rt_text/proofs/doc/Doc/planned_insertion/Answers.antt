@@ -2,7 +2,7 @@ use Rattle.std.proofs.Common.{◌≡◌, suc, ◌∙◌, ◌<◌, ◌+◌, ◌�
 use Rattle.std.specs.Prelude.{IfSome, nat_eq, option_map, slice_get}
 use Rattle.std.proofs.lemmas.List.{length-map}
 use Rattle.std.proofs.lemmas.Result.{IfErr-weaker, IfOk-weaker}
-use Rattle.rt_oplog.specs.Edits.{body_of}
+use Rattle.rt_ops.specs.Edits.{body_of}
 use Rattle.rt_stamps.specs.declared.limits.TheConstants.{GREATEST_COUNT}
 use Rattle.rt_stamps.specs.declared.stamp.Stamp.{Stamp}
 use Rattle.rt_store.specs.declared.cell.Cell.{Cell}
@@ -11,7 +11,7 @@ use Rattle.rt_store.specs.Shown.{TaggedCell, shown}
 use Rattle.rt_tags.specs.States.{IsState}
 use Rattle.rt_edits.specs.Flat.{Flat}
 use Rattle.rt_edits.specs.Insertions.{Insertion}
-use Rattle.rt_edits.specs.Selected.{stamps_in}
+use Rattle.rt_edits.specs.Selected.{selected_stamps}
 use Rattle.rt_edits.proofs.PlaceLaws.{length_text, text_within}
 use Rattle.rt_edits.proofs.RestLaws.{left_given}
 use Rattle.rt_views.specs.declared.stretch.Stretch.{Stretch}
@@ -107,14 +107,14 @@ returns-clause-drafts g c =
     let rest = c.args.rest.now in
     let site : c.site-site.result.number ≡ flat.site = c.site-site.ensures ∙ ap (λ (f : Flat). f.site) c.self.view_is in
     let count : c.seen-count.result ≡ flat.count = c.seen-count.ensures.value ∙ c.clock.ensures ∙ ap (λ (f : Flat). f.count) c.self.view_is in
-    let sel : stamps_in c.widget.inside.parts.selection ≡ own.sel = ap (λ (o : Own). o.sel) c.widget.view_is in
+    let sel : selected_stamps c.widget.inside.parts.selection ≡ own.sel = ap (λ (o : Own). o.sel) c.widget.view_is in
     let table = c.kept.result.1.now in
     let kept = g.S.TextStore.list c.kept.result.0.now in
     let place = c.args.place in
     let left = option_map (shown table) c.shown_before-left.result in
     let right = option_map (shown table) c.shown_at-right.result in
     let at = c.args.stretch.begin + place in
-    let stamps_now = stamps_in c.widget.inside.parts.selection in
+    let stamps_now = selected_stamps c.widget.inside.parts.selection in
     let any = any_some c.shown_at-right.result (stamps_now ≡ stamps_now) refl in
     IfOk-weaker c.planned_between.result _ _
     (λ plan h others.
@@ -138,14 +138,14 @@ returns-clause-plans g c =
     let rest = c.args.rest.now in
     let site : c.site-site.result.number ≡ flat.site = c.site-site.ensures ∙ ap (λ (f : Flat). f.site) c.self.view_is in
     let count : c.seen-count.result ≡ flat.count = c.seen-count.ensures.value ∙ c.clock.ensures ∙ ap (λ (f : Flat). f.count) c.self.view_is in
-    let sel : stamps_in c.widget.inside.parts.selection ≡ own.sel = ap (λ (o : Own). o.sel) c.widget.view_is in
+    let sel : selected_stamps c.widget.inside.parts.selection ≡ own.sel = ap (λ (o : Own). o.sel) c.widget.view_is in
     let table = c.kept.result.1.now in
     let kept = g.S.TextStore.list c.kept.result.0.now in
     let place = c.args.place in
     let left = option_map (shown table) c.shown_before-left.result in
     let right = option_map (shown table) c.shown_at-right.result in
     let at = c.args.stretch.begin + place in
-    let stamps_now = stamps_in c.widget.inside.parts.selection in
+    let stamps_now = selected_stamps c.widget.inside.parts.selection in
     let any = any_some c.shown_at-right.result (stamps_now ≡ stamps_now) refl in
     IfOk-weaker c.planned_between.result _ _
     (λ plan h others.
@@ -169,14 +169,14 @@ returns-clause-err g c =
     let rest = c.args.rest.now in
     let site : c.site-site.result.number ≡ flat.site = c.site-site.ensures ∙ ap (λ (f : Flat). f.site) c.self.view_is in
     let count : c.seen-count.result ≡ flat.count = c.seen-count.ensures.value ∙ c.clock.ensures ∙ ap (λ (f : Flat). f.count) c.self.view_is in
-    let sel : stamps_in c.widget.inside.parts.selection ≡ own.sel = ap (λ (o : Own). o.sel) c.widget.view_is in
+    let sel : selected_stamps c.widget.inside.parts.selection ≡ own.sel = ap (λ (o : Own). o.sel) c.widget.view_is in
     let table = c.kept.result.1.now in
     let kept = g.S.TextStore.list c.kept.result.0.now in
     let place = c.args.place in
     let left = option_map (shown table) c.shown_before-left.result in
     let right = option_map (shown table) c.shown_at-right.result in
     let at = c.args.stretch.begin + place in
-    let stamps_now = stamps_in c.widget.inside.parts.selection in
+    let stamps_now = selected_stamps c.widget.inside.parts.selection in
     let any = any_some c.shown_at-right.result (stamps_now ≡ stamps_now) refl in
     IfErr-weaker c.planned_between.result _ _
     (λ fault h. either (λ q. (

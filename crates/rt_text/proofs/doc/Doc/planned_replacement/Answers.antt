@@ -11,7 +11,7 @@ use Rattle.rt_edits.specs.Deletions.{Loss, without_text}
 use Rattle.rt_edits.specs.Flat.{Flat}
 use Rattle.rt_edits.specs.Insertions.{left_neighbour, right_neighbour}
 use Rattle.rt_edits.specs.Removals.{gone_at, is_covered, AreInOrder}
-use Rattle.rt_edits.specs.Selected.{stamps_in}
+use Rattle.rt_edits.specs.Selected.{selected_stamps}
 use Rattle.rt_views.specs.Stretches.{stretch_of}
 use Rattle.rt_text.specs.Neighbours.{are_newlines, are_sides_shown, limit_left, pieces_text}
 use Rattle.rt_text.specs.Widgets.{Own}
@@ -266,7 +266,7 @@ returns-in_err-plan g c =
     let all : (without_text flat (loss_of flat own.limits (range ∷ []))).count ≡ flat.count + length d.drafts.items = counted table kept flat own stretch is range removed places d.drafts.items made in
     let count : c.in_ok-count.count ≡ (without_text flat (loss_of flat own.limits (range ∷ []))).count = omega (arith, c.in_ok-count.ensures.ok.0, c.len.ensures, d.drafts.ok.0, seen, all) in
     let fits : (without_text flat (loss_of flat own.limits (range ∷ []))).count ≤ GREATEST_COUNT = omega (arith, count, c.in_ok-count.ensures.ok.1) in
-    let sel : stamps_in c.widget.inside.parts.selection ≡ own.sel = ap (λ (o : Own). o.sel) c.widget.view_is in
+    let sel : selected_stamps c.widget.inside.parts.selection ≡ own.sel = ap (λ (o : Own). o.sel) c.widget.view_is in
     let site : c.site-site.result.number ≡ flat.site = c.site-site.ensures ∙ ap (λ (f : Flat). f.site) c.self.view_is in
     let limits = c.limits-2.result in
     let place = at - stretch.begin in
@@ -277,7 +277,7 @@ returns-in_err-plan g c =
     let pieces = c.args.pieces.now in
     let rest = c.args.rest.now in
     let number = c.site-site.result.number in
-    let selected = stamps_in c.widget.inside.parts.selection in
+    let selected = selected_stamps c.widget.inside.parts.selection in
     let beside : IsBeside table kept flat own stretch is range removed places limits d.held place at pieces before after left right = record {
       held_is = c.in_ok-deletion.ensures.held;
       limits_is = c.limits-2.ensures;
@@ -341,7 +341,7 @@ returns-clause-plans g c = λ others.
     let all : (without_text flat (loss_of flat own.limits (range ∷ []))).count ≡ flat.count + length d.drafts.items = counted table kept flat own stretch is range removed places d.drafts.items made in
     let count : c.in_ok-count.count ≡ (without_text flat (loss_of flat own.limits (range ∷ []))).count = omega (arith, c.in_ok-count.ensures.ok.0, c.len.ensures, d.drafts.ok.0, seen, all) in
     let fits : (without_text flat (loss_of flat own.limits (range ∷ []))).count ≤ GREATEST_COUNT = omega (arith, count, c.in_ok-count.ensures.ok.1) in
-    let sel : stamps_in c.widget.inside.parts.selection ≡ own.sel = ap (λ (o : Own). o.sel) c.widget.view_is in
+    let sel : selected_stamps c.widget.inside.parts.selection ≡ own.sel = ap (λ (o : Own). o.sel) c.widget.view_is in
     let site : c.site-site.result.number ≡ flat.site = c.site-site.ensures ∙ ap (λ (f : Flat). f.site) c.self.view_is in
     let limits = c.limits-2.result in
     let place = at - stretch.begin in
@@ -352,7 +352,7 @@ returns-clause-plans g c = λ others.
     let pieces = c.args.pieces.now in
     let rest = c.args.rest.now in
     let number = c.site-site.result.number in
-    let selected = stamps_in c.widget.inside.parts.selection in
+    let selected = selected_stamps c.widget.inside.parts.selection in
     let beside : IsBeside table kept flat own stretch is range removed places limits d.held place at pieces before after left right = record {
       held_is = c.in_ok-deletion.ensures.held;
       limits_is = c.limits-2.ensures;

@@ -7,7 +7,7 @@ use Rattle.std.specs.List.{AllByRecursion}
 use Rattle.std.proofs.lemmas.List.{length-map}
 use Rattle.std.proofs.lemmas.Result.{err_from_is_err_and}
 use Rattle.rt_marks.specs.Marks.{Mark, marks_inserted, marks_left}
-use Rattle.rt_oplog.specs.Edits.{body_of}
+use Rattle.rt_ops.specs.Edits.{body_of}
 use Rattle.rt_stamps.specs.declared.fault.Fault.{Fault}
 use Rattle.rt_stamps.specs.declared.fault.Fault.TheVariants.{ClockSpent, NoMemory}
 use Rattle.rt_stamps.specs.declared.limits.TheConstants.{GREATEST_COUNT, MOST_SPANS}
@@ -27,7 +27,7 @@ use Rattle.rt_edits.specs.Deletions.{delete_drafts}
 use Rattle.rt_edits.specs.Flat.{Flat, logged}
 use Rattle.rt_edits.specs.Insertions.{Piece, all_listed}
 use Rattle.rt_edits.specs.Removals.{is_covered, AreInOrder}
-use Rattle.rt_edits.specs.Selected.{stamps_in, room_in}
+use Rattle.rt_edits.specs.Selected.{selected_stamps, room_in}
 use Rattle.rt_edits.specs.Selections.{with_stamps}
 use Rattle.rt_edits.proofs.PlaceLaws.{text_within}
 use Rattle.rt_views.specs.declared.limits.Limits.{Limits}
@@ -175,7 +175,7 @@ returns-in_err-make_planned g c =
     let own_now : Own = own_in c.widget.inside.parts in
     let doc : seen c.make_planned.new.replica c.self.inside.marks c.make_planned.new.tags.names ≡ c.args.self.now =
     (λ k. seen (c.in_err-make_planned.ensures.same k) c.self.inside.marks (c.make_planned.ensures.tags k)) ∙ c.self.view_is in
-    let own_same : record own_now { sel = stamps_in c.make_planned.new.selection } ≡ c.args.widget.now =
+    let own_same : record own_now { sel = selected_stamps c.make_planned.new.selection } ≡ c.args.widget.now =
     ap (λ (s : List Stamp). record own_now { sel = s }) c.make_planned.ensures.selection ∙ c.widget.view_is in
     let others_same : map own_in c.make_planned.new.others ≡ map own_in c.args.others.now = c.make_planned.ensures.others in
     rw (is, gives) (record {
@@ -309,7 +309,7 @@ done g c =
     let new = more_new flat own others c.args.range r.place pieces rest i in
     let selected = r.plan.selected.items in
     let names = map (λ w. string_bytes w) r.plan.names.items in
-    let sel : stamps_in c.widget.inside.parts.selection ≡ own.sel = ap (λ (o : Own). o.sel) c.widget.view_is in
+    let sel : selected_stamps c.widget.inside.parts.selection ≡ own.sel = ap (λ (o : Own). o.sel) c.widget.view_is in
     let newest : c.cell_at.result.stamp ≡ last_newline (viewed flat own others) =
     last_kept c.kept.result.1.now (g.S.TextStore.list c.kept.result.0.now) flat own others c.stretch-stretch.result c.cell_at.result c.kept.ensures.cells
     (c.stretch-stretch.ensures.value ∙ ap (stretch_of (g.S.TextStore.list c.kept.result.0.now)) c.limits.ensures) c.cell_at.ensures in
@@ -317,11 +317,11 @@ done g c =
     at_is c.kept.result.1.now (g.S.TextStore.list c.kept.result.0.now) flat own others r.place c.limits.result c.stretch-stretch.result c.kept.ensures.cells c.limits.ensures c.stretch-stretch.ensures.value
     ∙ point_is flat own others c.args.range r.place pieces rest i in
     let held = c.in_ok-planned.ensures.held in
-    let stamps : stamps_in c.select_all.new.selection ≡ new.sel =
+    let stamps : selected_stamps c.select_all.new.selection ≡ new.sel =
     c.select_all.ensures.selection ∙ (λ k. with_stamps (c.deref.ensures.value k) (c.unselect.ensures.sel k)) ∙ ap (λ s. with_stamps selected (last_gone c.cell_at.result.stamp r.held s)) (c.make_planned.ensures.selection ∙ sel)
     ∙ (λ k. with_stamps selected (last_gone (newest k) (held k) own.sel)) ∙ plans.plan.sel in
     let own_moved : c.leave_all.new.widget ≡ own_left (loss_at (viewed flat own others) c.args.range).places (record own { sel = new.sel }) =
-    c.leave_all.ensures.own ∙ ap (λ rs. own_left (is_covered rs) (record own_now { sel = stamps_in c.select_all.new.selection })) c.deref-2.ensures.value
+    c.leave_all.ensures.own ∙ ap (λ rs. own_left (is_covered rs) (record own_now { sel = selected_stamps c.select_all.new.selection })) c.deref-2.ensures.value
     ∙ (λ k. own_left (λ p. c.in_ok-planned.ensures.removed p k) (record (c.widget.view_is k) { sel = stamps k })) in
     let peers : map own_in c.leave_all.new.others ≡ map (selecting r.plan.between) left.others =
     c.leave_all.ensures.others ∙ ap (λ rs. map (own_left (is_covered rs)) (map own_in c.select_all.new.others)) c.deref-2.ensures.value

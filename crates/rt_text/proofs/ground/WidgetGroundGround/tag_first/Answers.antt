@@ -1,5 +1,5 @@
 use Rattle.std.proofs.Common.{◌∙◌, List, ap, arith, length, sym}
-use Rattle.rt_edits.specs.Selected.{stamps_in}
+use Rattle.rt_edits.specs.Selected.{selected_stamps}
 use Rattle.rt_edits.proofs.PlaceLaws.{length_text}
 use Rattle.rt_index.specs.Widget.{tag_first}
 use Rattle.rt_store.specs.Cells.{text_of}
@@ -21,6 +21,6 @@ pub returns : goal.returns
 returns g c =
     let ground = c.args.self.now in
     c.next_within.ensures
-    ∙ begins_by c.kept.result.1.now (g.S.TextStore.list c.kept.result.0.now) ground.stretch ground.marks.now ground.tags.now.names (stamps_in c.widget.inside.parts.selection) ground.widget.now c.args.name.now
+    ∙ begins_by c.kept.result.1.now (g.S.TextStore.list c.kept.result.0.now) ground.stretch ground.marks.now ground.tags.now.names (selected_stamps c.widget.inside.parts.selection) ground.widget.now c.args.name.now
     (ap (λ (o : Own). o.sel) c.widget.view_is) (sym c.has.ensures ∙ c.if-not-has.false)
     ∙ ap (λ (cells : List TaggedCell). tag_first (widget_over ground.stretch cells ground.marks.now ground.tags.now.names ground.widget.now) c.args.name.now) (c.kept.ensures.cells ∙ ground.same)

@@ -1,0 +1,115 @@
+-- What is so between commands holds again after a group was reverted.
+use Rattle.std.proofs.Common.{◌≡◌, ℕ, zero, suc, ◌-◌, ◌<◌, ◌≤◌, Bool, true, false, List, [], ◌∷◌, Some, None, Result, Ok, Err, length, map, take, arith, refl, subst, sym, if◌then◌else◌}
+use Rattle.std.specs.Prelude.{IfOk, OnOk, nat_lt}
+use Rattle.std.specs.List.{AllByRecursion}
+use Rattle.std.proofs.lemmas.Bool.{ltb-false}
+use Rattle.rt_stamps.specs.declared.fault.Fault.TheVariants.{ClockSpent}
+use Rattle.rt_stamps.specs.declared.limits.TheConstants.{GREATEST_COUNT}
+use Rattle.rt_stamps.specs.declared.stamp.Stamp.{Stamp}
+use Rattle.rt_stamps.specs.Outcomes.{first_of}
+use Rattle.rt_stamps.specs.Words.{Word}
+use Rattle.rt_tags.proofs.Sorted.{every_append}
+use Rattle.rt_rga.specs.Cells.{cells_of}
+use Rattle.rt_rga.specs.Histories.{IsHistory, greatest_last_count}
+use Rattle.rt_edits.specs.Flat.{Flat}
+use Rattle.rt_undo.specs.Actions.{Action}
+use Rattle.rt_undo.specs.Undo.{History, as_group, redo_done, renamed_by, to_undo, undo_done, with_stamps_in}
+use Rattle.rt_revert.specs.Reverting.{reversion, reverted}
+use Rattle.rt_revert.specs.ReversionLaws.{AreSound}
+use Rattle.rt_revert.proofs.Soundness.{group_renamed}
+use Rattle.rt_text.specs.Commands.{cell_check}
+use Rattle.rt_text.specs.Reversions.{reversion_check}
+use Rattle.rt_editing.specs.Recordings.{HaveStayed}
+use Rattle.rt_editing.specs.Returns.{IsOther, Return, stamp_after}
+use Rattle.rt_editing.specs.Settled.{is_gone}
+use Rattle.rt_editing.proofs.Told.{IsReturned, reversion_told}
+
+-- WHERE THE COUNTS FIT
+
+pub fits : (flat : Flat) (group : List (Action (List Word))) → reversion_check flat group ≡ None → (reversion flat group).doc.count ≤ GREATEST_COUNT
+fits flat group e = by (nat_lt GREATEST_COUNT count) refl e
+  where
+    count : ℕ
+    count = (reversion flat group).doc.count
+
+    by : (b : Bool) → nat_lt GREATEST_COUNT count ≡ b
+        → first_of ((if b then Some ClockSpent else None) ∷ cell_check flat.limit (length (reverted flat group).cells) ∷ []) ≡ None → count ≤ GREATEST_COUNT
+    by true lt f = absurd (cc f)
+    by false lt f = ltb-false GREATEST_COUNT count lt
+
+-- a document of a history, by which none of those who came back is visible, and a group of those who stayed
+pub told : (flat : Flat) (group : List (Action (List Word))) (back : Stamp → Bool) (number : ℕ) → 0 < number → number ≡ flat.site → IsHistory flat.log
+    → flat.cells ≡ cells_of flat.log → flat.count ≡ greatest_last_count flat.log → AreSound group → ((s : Stamp) → back s ≡ true → is_gone flat.cells s ≡ true)
+    → HaveStayed back group → reversion_check flat group ≡ None → IsReturned back flat group
+told flat group back number p site history cells count sound gone stay checked =
+    let positive : 0 < flat.site = omega (arith, p, site) in
+    reversion_told flat.site flat.log flat group back positive history (record { cells = cells; site = refl; count = count }) sound (fits flat group checked) gone stay
+
+-- RESULTS
+
+pub if_checked : {A E C : Type 0} (P Q : A → Type 0) (r : Result A E) → OnOk r C → IfOk r P → (C → (x : A) → P x → Q x) → IfOk r Q
+if_checked P Q (Ok x) c p f = f c x p
+if_checked P Q (Err e) c p f = tt
+
+pub on_both : {A E : Type 0} (C D : Type 0) (r : Result A E) → OnOk r C → OnOk r D → OnOk r (C × D)
+on_both C D (Ok x) c d = (c, d)
+on_both C D (Err e) c d = tt
+
+pub if_both : {A E : Type 0} (P Q : A → Type 0) (r : Result A E) → IfOk r P → IfOk r Q → IfOk r (λ x. P x × Q x)
+if_both P Q (Ok x) p q = (p, q)
+if_both P Q (Err e) p q = tt
+
+-- SOUND HISTORIES
+
+pub record HistoryIsSound (h : History (List Word)) : Type 0 where
+  pub closed : AllByRecursion AreSound h.closed
+  pub current : AreSound h.current
+  pub undone : AllByRecursion AreSound h.undone
+
+groups_renamed : (returns : List Return) (groups : List (List (Action (List Word)))) → AllByRecursion IsOther returns → AllByRecursion AreSound groups
+    → AllByRecursion AreSound (map (with_stamps_in {T = List Word} (stamp_after returns)) groups)
+groups_renamed returns [] h k = tt
+groups_renamed returns (group ∷ groups) h k = (group_renamed returns group h k.0, groups_renamed returns groups h k.1)
+
+renamed_sound : (returns : List Return) (h : History (List Word)) → AllByRecursion IsOther returns → HistoryIsSound h → HistoryIsSound (renamed_by (stamp_after returns) h)
+renamed_sound returns h others k = record {
+  closed = groups_renamed returns h.closed others k.closed;
+  current = group_renamed returns h.current others k.current;
+  undone = groups_renamed returns h.undone others k.undone;
+}
+
+every_take : {X : Type 0} (P : X → Type 0) (n : ℕ) (xs : List X) → AllByRecursion P xs → AllByRecursion P (take n xs)
+every_take P zero xs h = tt
+every_take P (suc n) [] h = tt
+every_take P (suc n) (x ∷ xs) h = (h.0, every_take P n xs h.1)
+
+as_group_sound : (group : List (Action (List Word))) → AreSound group → AllByRecursion AreSound (as_group group)
+as_group_sound [] h = tt
+as_group_sound (a ∷ group) h = (h, tt)
+
+to_undo_sound : (h : History (List Word)) → HistoryIsSound h → AllByRecursion AreSound (to_undo h)
+to_undo_sound h k = every_append AreSound h.closed (as_group h.current) k.closed (as_group_sound h.current k.current)
+
+pub sound_undone : (returns : List Return) (reverted : List (Action (List Word))) (old between new : History (List Word)) → AllByRecursion IsOther returns → AreSound reverted
+    → HistoryIsSound old → between ≡ old → new ≡ undo_done reverted (renamed_by (stamp_after returns) between) → HistoryIsSound new
+sound_undone returns reverted old between new others r k b e =
+    let h = renamed_by (stamp_after returns) between in
+    let s = renamed_sound returns between others (subst HistoryIsSound (sym b) k) in
+    let done : HistoryIsSound (undo_done reverted h) = record {
+      closed = every_take AreSound (length (to_undo h) - 1) (to_undo h) (to_undo_sound h s);
+      current = tt;
+      undone = every_append AreSound h.undone (reverted ∷ []) s.undone (r, tt);
+    } in
+    subst HistoryIsSound (sym e) done
+
+pub sound_redone : (returns : List Return) (reverted : List (Action (List Word))) (old between new : History (List Word)) → AllByRecursion IsOther returns → AreSound reverted
+    → HistoryIsSound old → between ≡ old → new ≡ redo_done reverted (renamed_by (stamp_after returns) between) → HistoryIsSound new
+sound_redone returns reverted old between new others r k b e =
+    let h = renamed_by (stamp_after returns) between in
+    let s = renamed_sound returns between others (subst HistoryIsSound (sym b) k) in
+    let done : HistoryIsSound (redo_done reverted h) = record {
+      closed = every_append AreSound (to_undo h) (reverted ∷ []) (to_undo_sound h s) (r, tt);
+      current = tt;
+      undone = every_take AreSound (length h.undone - 1) h.undone s.undone;
+    } in
+    subst HistoryIsSound (sym e) done

@@ -1,0 +1,64 @@
+use Rattle.std.proofs.Common.{◌∙◌, ap, arith, subst, sym}
+use Rattle.rt_editing.specs.Naming.{HistoryIsGiven, named_history}
+use Rattle.rt_editing.specs.Recordings.{Recording}
+use Rattle.rt_editing.proofs.Named.{history_kept, history_stays}
+use Rattle.rt_editing.proofs.recorder.Recorder.prepare.Goals as goal
+
+pub invariant_of-self : goal.invariant_of-self
+invariant_of-self c =
+    let s = c.self.inside in
+    record { given = history_stays s.table c.removed_cells.new.table c.removed_cells.ensures.ids s.stacks.history c.self.invariant.given; next = tt }
+
+pub returns-in_err-removed-clause-history : goal.returns-in_err-removed-clause-history
+returns-in_err-removed-clause-history c =
+    let s = c.self.inside in
+    history_kept s.table c.removed_cells.new.table c.removed_cells.ensures.ids s.stacks.history c.self.invariant.given ∙ ap (λ (v : Recording). v.history) c.self.view_is
+
+pub invariant_of-self-in_err-inserted : goal.invariant_of-self-in_err-inserted
+invariant_of-self-in_err-inserted c =
+    let s = c.self.inside in
+    record { given = history_stays s.table c.removed_cells.new.table c.removed_cells.ensures.ids s.stacks.history c.self.invariant.given; next = tt }
+
+pub returns-in_err-inserted-clause-history : goal.returns-in_err-inserted-clause-history
+returns-in_err-inserted-clause-history c =
+    let s = c.self.inside in
+    history_kept s.table c.removed_cells.new.table c.removed_cells.ensures.ids s.stacks.history c.self.invariant.given ∙ ap (λ (v : Recording). v.history) c.self.view_is
+
+pub invariant_of-self-in_err-reserve : goal.invariant_of-self-in_err-reserve
+invariant_of-self-in_err-reserve c =
+    let s = c.self.inside in
+    let table = c.removed_cells.new.table in
+    record {
+      given = subst (HistoryIsGiven table) (sym c.reserve.ensures.history) (history_stays s.table table c.removed_cells.ensures.ids s.stacks.history c.self.invariant.given);
+      next = tt;
+    }
+
+pub returns-in_err-reserve-clause-history : goal.returns-in_err-reserve-clause-history
+returns-in_err-reserve-clause-history c =
+    let s = c.self.inside in
+    let table = c.removed_cells.new.table in
+    ap (named_history table) c.reserve.ensures.history
+    ∙ history_kept s.table table c.removed_cells.ensures.ids s.stacks.history c.self.invariant.given
+    ∙ ap (λ (v : Recording). v.history) c.self.view_is
+
+pub invariant_of-self-2 : goal.invariant_of-self-2
+invariant_of-self-2 c =
+    let s = c.self.inside in
+    let table = c.removed_cells.new.table in
+    record {
+      given = subst (HistoryIsGiven table) (sym c.reserve.ensures.history) (history_stays s.table table c.removed_cells.ensures.ids s.stacks.history c.self.invariant.given);
+      next = record {
+        given = c.in_ok-removed.ensures.given;
+        empty = c.in_ok-inserted.ensures.items;
+        room = omega (arith, c.in_ok-inserted.ensures.len, c.in_ok-inserted.ensures.capacity);
+        ready = c.in_ok-reserve.ensures.ready;
+      };
+    }
+
+pub returns-clause-history : goal.returns-clause-history
+returns-clause-history c =
+    let s = c.self.inside in
+    let table = c.removed_cells.new.table in
+    ap (named_history table) c.reserve.ensures.history
+    ∙ history_kept s.table table c.removed_cells.ensures.ids s.stacks.history c.self.invariant.given
+    ∙ ap (λ (v : Recording). v.history) c.self.view_is

@@ -1,0 +1,24 @@
+use Rattle.std.proofs.Common.{◌∙◌, List, ap, subst, sym}
+use Rattle.std.specs.List.{AllByRecursion}
+use Rattle.rt_undo.specs.Actions.{group_of}
+use Rattle.rt_editing.specs.Naming.{named_group}
+use Rattle.rt_editing.specs.Recordings.{came_back}
+use Rattle.rt_editing.specs.Returns.{IsOther, Return, back_after}
+use Rattle.rt_editing.proofs.Settling.{HistoryIsSound, sound_undone}
+use Rattle.rt_editing.proofs.recorder.Recorder.undo.Goals as goal
+
+pub returns-clause-settled : goal.returns-clause-settled
+returns-clause-settled g c =
+    let r = c.in_ok-returns.field-0 in
+    let between = c.revert.new.self in
+    let settled = c.requires.settled in
+    let before : HistoryIsSound c.args.self.now.history = record { closed = settled.closed; current = settled.current; undone = settled.undone } in
+    let after = sound_undone c.deref-2.result.now (named_group between.table (group_of r.actions.items)) c.args.self.now.history between.history c.undone.new.self.history
+    (subst (AllByRecursion IsOther) (sym c.deref-2.ensures.value) c.in_ok-returns.ensures.others) c.in_ok-returns.ensures.sound before c.revert.ensures.history c.undone.ensures.history in
+    record {
+      gone = λ stamp e. c.in_ok-returns.ensures.gone stamp
+          (ap (λ (l : List Return). back_after l (came_back between) stamp) (sym c.deref-2.ensures.value) ∙ sym (c.undone.ensures.came_back stamp) ∙ e);
+      closed = after.closed;
+      current = after.current;
+      undone = after.undone;
+    }

@@ -1,2 +1,0 @@
-pub mod Endings
-pub use Rattle.rt_stamps.specs.Fault

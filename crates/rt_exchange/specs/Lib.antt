@@ -1,8 +1,0 @@
-pub mod Receiving
-pub use Rattle.rt_oplog.specs.File
-pub use Rattle.rt_oplog.specs.Reading
-pub use Rattle.rt_rga.specs.Answers
-pub use Rattle.rt_text.specs.Accepted
-pub use Rattle.rt_text.specs.Widgets
-pub use Rattle.rt_editing.specs.Edited
-pub use Rattle.rt_editing.specs.Edits

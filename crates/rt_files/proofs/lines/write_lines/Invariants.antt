@@ -1,0 +1,10 @@
+use Rattle.std.proofs.Common.{◌≡◌, take, flat_map}
+use Rattle.std.specs.Io.KnownBytes.{Appends}
+use Rattle.rt_files.specs.Shown.{line_of}
+use Rattle.rt_files.proofs.lines.write_lines.Given as goal
+
+abbrev pub invariant-loop-op : goal.invariant-loop-op
+invariant-loop-op g l = record {
+  wrote : Appends (g.W.Sink.contents l.fn.out) (g.W.Sink.contents l.out) (flat_map line_of (take l.op-index l.ops));
+  failures : g.W.Sink.failures l.out ≡ g.W.Sink.failures l.fn.out;
+}

@@ -1,4 +1,0 @@
-use Rattle.rt_oplog.proofs.bytes.read_bytes.Given as goal
-
-abbrev pub ghosts-read_in : goal.ghosts-read_in
-ghosts-read_in a = record { name = a.calls.name; parts = a.calls.parts }

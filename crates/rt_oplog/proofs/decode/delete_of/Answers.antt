@@ -1,9 +1,0 @@
-use Rattle.std.proofs.Common.{refl}
-use Rattle.rt_oplog.specs.Operations.{Delete}
-use Rattle.rt_oplog.proofs.Parts.{decided}
-use Rattle.rt_oplog.proofs.decode.delete_of.Goals as goal
-
-pub returns : goal.returns
-returns c =
-    let read = c.in_ok-spans.ensures in
-    rw c.delete.ensures (decided 2 c.args.stamp c.args.prev (Delete c.in_ok-spans.spans.items) c.args.bytes.now refl read.0.each read.0 read.1)

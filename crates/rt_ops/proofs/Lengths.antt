@@ -1,0 +1,130 @@
+-- Lengths of fields, and what of two equal fields is equal.
+use Rattle.std.proofs.Common.{◌≡◌, ℕ, ◌+◌, ◌-◌, ◌*◌, ◌^◌, ◌<◌, ◌≤◌, Bool, true, false, map, String, Global, string_bytes, List, [], ◌∷◌, ◌++◌, length, take, drop, refl, sym, ap, ◌∙◌, arith}
+use Rattle.std.specs.Prelude.{encode_utf8_all}
+use Rattle.std.specs.List.{flat_map, list_all, AllByRecursion}
+use Rattle.std.specs.Int.{w16, w32, w64, from_be_bytes}
+use Rattle.std.proofs.lemmas.List.{take_at, drop_at, take_all, drop_all, append-nil, length-append}
+use Rattle.std.proofs.Math.Utf8.{encode}
+use Rattle.std.proofs.lemmas.Nat.{from_be_bytes-to_be_bytes_2, from_be_bytes-to_be_bytes_4, from_be_bytes-to_be_bytes_8}
+use Rattle.std.proofs.lemmas.Str.{length-encode, len_utf8_bounds}
+use Rattle.std.proofs.lemmas.Bool.Decides.{nat_tests}
+use Rattle.rt_stamps.specs.declared.stamp.Span.{Span}
+use Rattle.rt_stamps.specs.declared.stamp.Stamp.{Stamp}
+use Rattle.rt_stamps.specs.declared.limits.TheConstants.{MOST_NAME_BYTES, MOST_TAGS, MOST_CHARACTERS, MOST_SPANS, MOST_RECORD_BYTES}
+use Rattle.rt_ops.specs.Operations.{Name, Body, Insert, Delete, Tag, Operation, stamp_of}
+use Rattle.rt_ops.specs.Rules.{is_name, are_spans, keeps_rules}
+use Rattle.rt_ops.specs.File.{number, stamp_bytes, span_bytes, spans_bytes, name_bytes, tags_bytes, body_bytes, content_of}
+
+-- ---- numbers
+
+pub length_2 : (n : ℕ) → length (number w16 n) ≡ 2
+unfolding number
+length_2 n = refl
+
+pub length_4 : (n : ℕ) → length (number w32 n) ≡ 4
+unfolding number
+length_4 n = refl
+
+pub length_8 : (n : ℕ) → length (number w64 n) ≡ 8
+unfolding number
+length_8 n = refl
+
+pub same_2 : (m n : ℕ) → m < 2 ^ 16 → n < 2 ^ 16 → number w16 m ≡ number w16 n → m ≡ n
+unfolding number
+same_2 m n hm hn e = sym (from_be_bytes-to_be_bytes_2 m hm) ∙ ap (from_be_bytes w16) e ∙ from_be_bytes-to_be_bytes_2 n hn
+
+pub same_4 : (m n : ℕ) → m < 2 ^ 32 → n < 2 ^ 32 → number w32 m ≡ number w32 n → m ≡ n
+unfolding number
+same_4 m n hm hn e = sym (from_be_bytes-to_be_bytes_4 m hm) ∙ ap (from_be_bytes w32) e ∙ from_be_bytes-to_be_bytes_4 n hn
+
+pub same_8 : (m n : ℕ) → m < 2 ^ 64 → n < 2 ^ 64 → number w64 m ≡ number w64 n → m ≡ n
+unfolding number
+same_8 m n hm hn e = sym (from_be_bytes-to_be_bytes_8 m hm) ∙ ap (from_be_bytes w64) e ∙ from_be_bytes-to_be_bytes_8 n hn
+
+-- two fronts of one length
+pub same_front : (a b x y : List ℕ) → length a ≡ length b → a ++ x ≡ b ++ y → (a ≡ b) × (x ≡ y)
+same_front a b x y len e = (
+  sym (take_at a x (length b) len) ∙ ap (take (length b)) e ∙ take_at b y (length b) refl,
+  sym (drop_at a x (length b) len) ∙ ap (drop (length b)) e ∙ drop_at b y (length b) refl,
+)
+
+-- ---- lengths
+
+pub stamp_length : (stamp : Stamp) → length (stamp_bytes stamp) ≡ 10
+unfolding stamp_bytes
+stamp_length stamp = omega (arith, length-append (number w64 stamp.count) (number w16 stamp.site), length_8 stamp.count, length_2 stamp.site)
+
+pub span_length : (span : Span) → length (span_bytes span) ≡ 18
+unfolding span_bytes
+span_length span = omega (arith, length-append (number w16 span.site) (number w64 span.first ++ number w64 span.last), length-append (number w64 span.first) (number w64 span.last), length_8 span.first, length_8 span.last, length_2 span.site)
+
+pub spans_flat : (spans : List Span) → length (flat_map span_bytes spans) ≡ 18 * length spans
+spans_flat [] = refl
+spans_flat (span ∷ spans) = omega (arith, length-append (span_bytes span) (flat_map span_bytes spans), span_length span, spans_flat spans)
+
+pub spans_length : (spans : List Span) → length (spans_bytes spans) ≡ 4 + 18 * length spans
+unfolding spans_bytes
+spans_length spans = omega (arith, length-append (number w32 (length spans)) (flat_map span_bytes spans), length_4 (length spans), spans_flat spans)
+
+pub names_flat : (tags : List Name) → list_all is_name tags ≡ true → length (flat_map name_bytes tags) ≤ 256 * length tags
+names_flat [] h = omega arith
+names_flat (tag ∷ tags) h =
+    let one : length tag ≤ 255 = grind (arith, nat_tests) in
+    let rest : list_all is_name tags ≡ true = grind (arith, nat_tests) in
+    omega (arith, length-append (name_bytes tag) (flat_map name_bytes tags), names_flat tags rest)
+
+pub text_length : (text : List ℕ) → length (encode_utf8_all text) ≤ 4 * length text
+text_length [] = omega arith
+text_length (c ∷ text) = omega (arith, length-append (encode c) (encode_utf8_all text), length-encode c, len_utf8_bounds c, text_length text)
+
+-- what the rules of a body say of its parts
+
+pub tags_are : (after : Stamp) (tags : List Name) (text : List ℕ) → keeps_rules (Insert after tags text) ≡ true → (length tags ≤ MOST_TAGS) × (list_all is_name tags ≡ true) × (length text ≤ MOST_CHARACTERS)
+tags_are after tags text h = parts (list_all is_name tags) refl
+  where
+    parts : (b : Bool) → list_all is_name tags ≡ b → (length tags ≤ MOST_TAGS) × (list_all is_name tags ≡ true) × (length text ≤ MOST_CHARACTERS)
+    parts true e = (grind (arith, nat_tests), e, grind (arith, nat_tests))
+    parts false e = absurd (grind (arith, nat_tests))
+
+pub spans_are : (spans : List Span) → are_spans spans ≡ true → length spans ≤ MOST_SPANS
+spans_are spans h = grind (arith, nat_tests)
+
+pub tag_is : (on : Bool) (name : Name) (spans : List Span) → keeps_rules (Tag on name spans) ≡ true → (length name ≤ MOST_NAME_BYTES) × (length spans ≤ MOST_SPANS)
+tag_is on name spans h = (grind (arith, nat_tests), grind (arith, nat_tests))
+
+names_fit_all : (tags : List (String Global)) → list_all is_name (map string_bytes tags) ≡ true → AllByRecursion (λ (tag : String Global). length (string_bytes tag) < 2 ^ 8) tags
+names_fit_all [] h = tt
+names_fit_all (tag ∷ tags) h =
+    let rest : list_all is_name (map string_bytes tags) ≡ true = grind (arith, nat_tests) in
+    (grind (arith, nat_tests), names_fit_all tags rest)
+
+pub names_fit : (after : Stamp) (tags : List (String Global)) (text : List ℕ) → keeps_rules (Insert after (map string_bytes tags) text) ≡ true → AllByRecursion (λ (tag : String Global). length (string_bytes tag) < 2 ^ 8) tags
+names_fit after tags text h = names_fit_all tags (tags_are after (map string_bytes tags) text h).1
+
+pub body_short : (body : Body) → keeps_rules body ≡ true → length (body_bytes body) ≤ MOST_RECORD_BYTES - 19
+unfolding tags_bytes
+body_short (Insert after tags text) h =
+    let rules = tags_are after tags text h in
+    omega (arith, rules.0, rules.2, names_flat tags rules.1, text_length text, stamp_length after, length-append (stamp_bytes after) (tags_bytes tags ++ encode_utf8_all text), length-append (flat_map name_bytes tags) (encode_utf8_all text))
+body_short (Delete spans) h = omega (arith, spans_length spans, spans_are spans h)
+body_short (Tag on name spans) h =
+    let rules = tag_is on name spans h in
+    omega (arith, rules.0, rules.1, spans_length spans, length-append name (spans_bytes spans))
+
+pub content_length : (op : Operation) → length (content_of op) ≡ 19 + length (body_bytes op.body)
+content_length op = omega (arith, length-append (stamp_bytes (stamp_of op)) (number w64 op.prev ++ body_bytes op.body), length-append (number w64 op.prev) (body_bytes op.body), stamp_length (stamp_of op), length_8 op.prev)
+
+-- a record always keeps to the most bytes
+pub content_short : (op : Operation) → keeps_rules op.body ≡ true → length (content_of op) ≤ MOST_RECORD_BYTES
+content_short op h = omega (arith, content_length op, body_short op.body h)
+
+-- a length that is written in the place of four bytes
+pub patched : (old new zeros content : List ℕ) (size n : ℕ) → size ≡ length old → old ≡ zeros ++ content → length zeros ≡ 4 → n ≡ length content → new ≡ number w32 n ++ drop 4 old
+    → take size (new ++ drop (length new) old) ≡ number w32 (length content) ++ content
+patched old new zeros content size n len is four same e =
+    let rest : drop 4 old ≡ content = ap (drop 4) is ∙ drop_at zeros content 4 four in
+    let whole : new ≡ number w32 (length content) ++ content = e ∙ ap (λ m. number w32 m ++ drop 4 old) same ∙ ap (λ v. number w32 (length content) ++ v) rest in
+    let size_new : length new ≡ 4 + length content = ap length whole ∙ length-append (number w32 (length content)) content ∙ ap (λ m. m + length content) (length_4 (length content)) in
+    let size_old : length old ≡ 4 + length content = ap length is ∙ length-append zeros content ∙ ap (λ m. m + length content) four in
+    let none : drop (length new) old ≡ [] = drop_all (length new) old (omega arith) in
+    ap (λ v. take size (new ++ v)) none ∙ ap (take size) (append-nil new) ∙ take_all size new (omega arith) ∙ whole

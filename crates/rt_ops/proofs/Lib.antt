@@ -1,0 +1,10 @@
+pub mod Adjacent
+pub mod Lengths
+pub mod Parts
+pub mod Readings
+pub mod Spans
+pub mod Spelled
+pub mod Spells
+pub mod Taken
+pub mod Told
+pub mod Unique

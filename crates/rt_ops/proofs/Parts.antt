@@ -1,0 +1,159 @@
+-- What is decoded from the parts of a record.
+use Rattle.std.proofs.Common.{◌≡◌, ℕ, ◌*◌, ◌^◌, ◌<◌, ◌≤◌, Bool, true, false, List, [], ◌∷◌, ◌++◌, length, take, drop, Result, Ok, Err, IfOk, IfErr, refl, sym, ap, subst, ◌∙◌, append-nil, arith, inl, inr}
+use Rattle.std.specs.Prelude.{encode_utf8_all}
+use Rattle.std.specs.List.{flat_map, AllByRecursion}
+use Rattle.std.specs.Int.{w32, w64}
+use Rattle.std.specs.Str.{IsUtf8, chars}
+use Rattle.std.proofs.lemmas.Bool.{false≢true}
+use Rattle.std.proofs.lemmas.Bool.Decides.{nat_tests}
+use Rattle.std.proofs.lemmas.List.{take_at, take-append-drop, length-append, length-take}
+use Rattle.std.proofs.lemmas.Str.{IsUtf8-from_is_utf8, is_utf8-from_IsUtf8, encodes-chars, scalars-chars}
+use Rattle.rt_stamps.specs.declared.stamp.Span.{Span}
+use Rattle.rt_stamps.specs.declared.stamp.Stamp.{Stamp}
+use Rattle.rt_stamps.specs.declared.fault.Fault.{Fault}
+use Rattle.rt_stamps.specs.declared.fault.Fault.TheVariants.{NoMemory}
+use Rattle.rt_ops.specs.Operations.{Name, Body, Insert, Delete, Tag, Operation}
+use Rattle.rt_ops.specs.Rules.{keeps_rules, within_rules}
+use Rattle.rt_ops.specs.File.{number, stamp_bytes, span_bytes, spans_bytes, name_bytes, tags_bytes, flag, kind_of, body_bytes, content_of, StampFits, SpanFits, BodyFits, HasRecord}
+use Rattle.rt_ops.specs.Decoding.{RefusesBytes, Decodes, DecodesFront, DecodesBody, NameFits, IsNameOf, AreNames, TagsFit, SpansFit, AreScalars}
+use Rattle.rt_ops.proofs.Lengths.{stamp_length, spans_length, spans_flat, content_length}
+use Rattle.rt_ops.proofs.Spells.{spans_parts, tags_parts, names_go_on, same_stamp, same_tags, same_name, heads, IsSpelled, is_spelled, same_body, same_head}
+
+pub refused_as : (fault : Fault) {P Q : Type 0} → (P → Q) → RefusesBytes fault P → RefusesBytes fault Q
+refused_as fault f (inl memory) = inl memory
+refused_as fault f (inr bad) = inr (bad.0, f bad.1)
+
+-- ---- spans
+
+pub no_spans : (bytes : List ℕ) (spans : List Span) → length bytes < 4 → bytes ≡ spans_bytes spans → ⊥
+no_spans bytes spans few e = omega (arith, ap length e, spans_length spans)
+
+pub other_size : (bytes rest : List ℕ) (count : ℕ) (spans : List Span) → count < 2 ^ 32 → SpansFit spans → bytes ≡ number w32 count ++ rest → (length rest ≡ 18 * count → ⊥) → bytes ≡ spans_bytes spans → ⊥
+other_size bytes rest count spans few fits parts other e =
+    let p = spans_parts count rest spans [] few fits.few (sym parts ∙ e ∙ sym (append-nil (spans_bytes spans))) in
+    other (omega (arith, p.0, ap length (p.1 ∙ append-nil (flat_map span_bytes spans)), spans_flat spans))
+
+pub spans_read : {X : Type 0} (result : Result X Fault) (view : X → List Span) (bytes rest : List ℕ) (count : ℕ) → count < 2 ^ 32 → bytes ≡ number w32 count ++ rest
+    → IfOk result (λ x. AllByRecursion SpanFits (view x)) → IfOk result (λ x. length (view x) ≡ count) → IfOk result (λ x. rest ≡ flat_map span_bytes (view x)) → IfErr result (λ fault. fault ≡ NoMemory)
+    → Decodes spans_bytes SpansFit view bytes result
+unfolding spans_bytes
+spans_read (Ok x) view bytes rest count few parts fits size is memory =
+    (record { each = fits; few = omega (arith, size) }, parts ∙ ap (λ n. number w32 n ++ rest) (sym size) ∙ ap (λ v. number w32 (length (view x)) ++ v) is)
+spans_read (Err fault) view bytes rest count few parts fits size is memory = inl memory
+
+-- ---- names
+
+pub name_read : (bytes front rest name : List ℕ) (n : ℕ) → n ≤ length bytes → front ≡ take n bytes → rest ≡ drop n bytes → IsUtf8 front → name ≡ front → IsNameOf n name × (bytes ≡ name ++ rest)
+name_read bytes front rest name n within f r utf8 is = (
+  record { utf8 = is_utf8-from_IsUtf8 name (subst IsUtf8 (sym is) utf8); size = ap length (is ∙ f) ∙ (omega (arith, length-take n bytes)) },
+  sym (take-append-drop n bytes) ∙ ap (λ v. v ++ drop n bytes) (sym (is ∙ f)) ∙ ap (λ v. name ++ v) (sym r),
+)
+
+pub no_name : (bytes front : List ℕ) (n : ℕ) → front ≡ take n bytes → (IsUtf8 front → ⊥) → (name more : List ℕ) → IsNameOf n name → bytes ≡ name ++ more → ⊥
+no_name bytes front n f other name more fits e =
+    other (subst IsUtf8 (sym (f ∙ ap (take n) e ∙ take_at name more n fits.size)) (IsUtf8-from_is_utf8 name fits.utf8))
+
+pub name_front : {X : Type 0} (result : Result X Fault) (view : X → Name) (rest : X → List ℕ) (bytes tail : List ℕ) (n : ℕ) → n < 2 ^ 8 → bytes ≡ n ∷ tail
+    → DecodesFront (λ name. name) (IsNameOf n) view rest tail result → DecodesFront name_bytes NameFits view rest bytes result
+name_front (Ok x) view rest bytes tail n small parts h =
+    (record { utf8 = h.0.utf8; short = omega (arith, h.0.size) }, parts ∙ (λ i. sym h.0.size i ∷ h.1 i))
+name_front (Err fault) view rest bytes tail n small parts h =
+    refused_as fault (λ none name more fits e.
+    let p = heads n (length name) tail (name ++ more) (sym parts ∙ e) in
+    none name more (record { utf8 = fits.utf8; size = sym p.0 }) p.1) h
+
+pub no_name_front : (bytes : List ℕ) (name more : List ℕ) → bytes ≡ [] → bytes ≡ name_bytes name ++ more → ⊥
+no_name_front bytes name more none e = omega (arith, ap length (sym none ∙ e))
+
+-- after names that were read, no further one is at the front
+pub names_end : (bytes left : List ℕ) (done : List Name) (i count : ℕ) → length done ≡ i → i < count → bytes ≡ flat_map name_bytes done ++ left → ((name : Name) (more : List ℕ) → NameFits name → left ≡ name_bytes name ++ more → ⊥)
+    → (names : List Name) (more : List ℕ) → AreNames count names → bytes ≡ flat_map name_bytes names ++ more → ⊥
+names_end bytes left done i count so_far lt parts none names more are e =
+    let next = names_go_on done names left more (omega (arith, are.count)) are.each (sym parts ∙ e) in
+    none next.0 next.1 next.2 next.3
+
+pub tags_front : {X : Type 0} (result : Result X Fault) (view : X → List Name) (rest : X → List ℕ) (bytes tail : List ℕ) (n : ℕ) → n < 2 ^ 8 → bytes ≡ n ∷ tail
+    → DecodesFront (λ tags. flat_map name_bytes tags) (AreNames n) view rest tail result → DecodesFront tags_bytes TagsFit view rest bytes result
+unfolding tags_bytes
+tags_front (Ok x) view rest bytes tail n small parts h =
+    (record { each = h.0.each; few = omega (arith, h.0.count) }, parts ∙ (λ i. sym h.0.count i ∷ h.1 i))
+tags_front (Err fault) view rest bytes tail n small parts h =
+    refused_as fault (λ none tags more fits e.
+    let p = tags_parts n tail tags more (sym parts ∙ e) in
+    none tags more (record { each = fits.each; count = sym p.0 }) p.1) h
+
+pub no_tags : (bytes : List ℕ) (tags : List Name) (more : List ℕ) → bytes ≡ [] → bytes ≡ tags_bytes tags ++ more → ⊥
+unfolding tags_bytes
+no_tags bytes tags more none e = omega (arith, ap length (sym none ∙ e))
+
+-- ---- texts
+
+pub text_read : {X : Type 0} (result : Result X Fault) (view : X → List ℕ) (bytes text : List ℕ) → (text ≡ bytes) × IsUtf8 bytes → IfOk result (λ x. view x ≡ chars text) → IfErr result (λ fault. fault ≡ NoMemory)
+    → Decodes (λ cs. encode_utf8_all cs) AreScalars view bytes result
+text_read (Ok x) view bytes text utf8 is memory =
+    let same : view x ≡ chars bytes = is ∙ ap chars utf8.0 in
+    (rw same (scalars-chars bytes utf8.1), sym (ap encode_utf8_all same ∙ encodes-chars bytes utf8.1))
+text_read (Err fault) view bytes text utf8 is memory = inl memory
+
+-- ---- bodies
+
+-- an operation is made of a body that was read, unless a rule is broken
+pub decided : (kind : ℕ) (stamp : Stamp) (prev : ℕ) (body : Body) (bytes : List ℕ) → kind_of body ≡ kind → BodyFits body → IsSpelled body → bytes ≡ body_bytes body
+    → DecodesBody kind stamp prev bytes (within_rules (record { count = stamp.count; site = stamp.site; prev = prev; body = body }))
+decided kind stamp prev body bytes k fits spelled e = by (keeps_rules body) refl
+  where
+    by : (b : Bool) → keeps_rules body ≡ b → DecodesBody kind stamp prev bytes (within_rules (record { count = stamp.count; site = stamp.site; prev = prev; body = body }))
+    by true rules = rw rules (fits, rules, k, refl, refl, e)
+    by false rules = rw rules (inr (
+      refl,
+      λ other k' fits' rules' e'.
+          let same : other ≡ body = same_body other body (k' ∙ sym k) (is_spelled other fits' rules') spelled (sym e' ∙ e) in
+          false≢true (sym rules ∙ ap keeps_rules (sym same) ∙ rules'),
+    ))
+
+pub no_insert : (bytes : List ℕ) → length bytes < 10 → (body : Body) → kind_of body ≡ 1 → BodyFits body → keeps_rules body ≡ true → bytes ≡ body_bytes body → ⊥
+no_insert bytes few (Insert after tags text) k fits rules e = omega (arith, ap length e, length-append (stamp_bytes after) (tags_bytes tags ++ encode_utf8_all text), stamp_length after)
+no_insert bytes few (Delete spans) k fits rules e = omega arith
+no_insert bytes few (Tag on name spans) k fits rules e = omega arith
+
+pub no_tags_of : (bytes rest : List ℕ) (after : Stamp) → StampFits after → bytes ≡ stamp_bytes after ++ rest → ((tags : List Name) (more : List ℕ) → TagsFit tags → rest ≡ tags_bytes tags ++ more → ⊥)
+    → (body : Body) → kind_of body ≡ 1 → BodyFits body → keeps_rules body ≡ true → bytes ≡ body_bytes body → ⊥
+no_tags_of bytes rest after fits parts none (Insert other tags text) k fits' rules e =
+    let p = same_stamp after other rest (tags_bytes tags ++ encode_utf8_all text) fits fits' (sym parts ∙ e) in
+    none tags (encode_utf8_all text) (is_spelled (Insert other tags text) fits' rules).1 p.1
+no_tags_of bytes rest after fits parts none (Delete spans) k fits' rules e = absurd (omega arith)
+no_tags_of bytes rest after fits parts none (Tag on name spans) k fits' rules e = absurd (omega arith)
+
+pub no_text_of : (bytes rest left : List ℕ) (after : Stamp) (tags : List Name) → StampFits after → bytes ≡ stamp_bytes after ++ rest → rest ≡ tags_bytes tags ++ left → ((text : List ℕ) → AreScalars text → left ≡ encode_utf8_all text → ⊥)
+    → (body : Body) → kind_of body ≡ 1 → BodyFits body → keeps_rules body ≡ true → bytes ≡ body_bytes body → ⊥
+no_text_of bytes rest left after tags fits parts more none (Insert other others text) k fits' rules e =
+    let p = same_stamp after other rest (tags_bytes others ++ encode_utf8_all text) fits fits' (sym parts ∙ e) in
+    let q = same_tags tags others left (encode_utf8_all text) (sym more ∙ p.1) in
+    none text (grind (arith, nat_tests)) q.1
+no_text_of bytes rest left after tags fits parts more none (Delete spans) k fits' rules e = absurd (omega arith)
+no_text_of bytes rest left after tags fits parts more none (Tag on name spans) k fits' rules e = absurd (omega arith)
+
+pub no_spans_of : (bytes rest left : List ℕ) (on : Bool) (name : Name) → bytes ≡ flag on ∷ rest → rest ≡ name_bytes name ++ left → ((spans : List Span) → SpansFit spans → left ≡ spans_bytes spans → ⊥)
+    → (body : Body) → kind_of body ≡ 3 → BodyFits body → keeps_rules body ≡ true → bytes ≡ body_bytes body → ⊥
+no_spans_of bytes rest left on name parts more none (Tag other label spans) k fits rules e =
+    let p = heads (flag on) (flag other) rest (name_bytes label ++ spans_bytes spans) (sym parts ∙ e) in
+    let q = same_name name label left (spans_bytes spans) (sym more ∙ p.1) in
+    none spans (is_spelled (Tag other label spans) fits rules).1 q.1
+no_spans_of bytes rest left on name parts more none (Delete spans) k fits rules e = absurd (omega arith)
+no_spans_of bytes rest left on name parts more none (Insert after tags text) k fits rules e = absurd (omega arith)
+
+-- ---- operations
+
+pub no_content : (bytes : List ℕ) → length bytes < 19 → (op : Operation) → HasRecord op → bytes ≡ content_of op → ⊥
+no_content bytes few op has e = omega (arith, ap length e, content_length op)
+
+pub decoded : (kind : ℕ) (stamp : Stamp) (prev : ℕ) (bytes rest : List ℕ) (result : Result Operation Fault) → StampFits stamp → prev < 2 ^ 64 → bytes ≡ kind ∷ (stamp_bytes stamp ++ (number w64 prev ++ rest))
+    → DecodesBody kind stamp prev rest result → Decodes content_of HasRecord (λ op. op) bytes result
+decoded kind stamp prev bytes rest (Ok op) fits small parts h = (
+  record { stamp = subst StampFits (sym h.3) fits; prev = omega (arith, h.4); body = h.0; rules = h.1 },
+  parts ∙ (λ i. sym h.2 i ∷ (stamp_bytes (sym h.3 i) ++ (number w64 (sym h.4 i) ++ h.5 i))),
+)
+decoded kind stamp prev bytes rest (Err fault) fits small parts h =
+    refused_as fault (λ none op has e.
+    let p = same_head kind stamp prev rest op fits small has (sym parts ∙ e) in
+    none op.body (sym p.0) has.body has.rules p.3) h

@@ -1,0 +1,186 @@
+-- Bytes taken one piece after another.
+use Rattle.std.proofs.Common.{◌≡◌, ℕ, ◌+◌, ◌^◌, ◌<◌, ◌≤◌, Bool, true, false, cond, List, [], ◌∷◌, ◌++◌, length, take, Option, Some, None, Err, refl, sym, ap, subst, ◌∙◌, append_assoc, append-nil, arith, inl, inr}
+use Rattle.std.specs.Prelude.{◌⊎◌, not, nat_lt}
+use Rattle.std.specs.Str.{bytes_eq}
+use Rattle.std.proofs.lemmas.Bool.{false≢true}
+use Rattle.std.proofs.lemmas.Bool.Decides.{nat_tests}
+use Rattle.std.proofs.lemmas.Slice.Eq.{bytes_eq-Decides}
+use Rattle.std.specs.Int.{w32}
+use Rattle.std.specs.Io.KnownBytes.{Consumes}
+use Rattle.std.proofs.lemmas.List.{length-append, nil_from_length}
+use Rattle.rt_stamps.specs.declared.limits.TheConstants.{FEWEST_RECORD_BYTES, MOST_RECORD_BYTES}
+use Rattle.rt_stamps.specs.declared.fault.Fault.{Fault}
+use Rattle.rt_stamps.specs.declared.fault.Fault.TheVariants.{NoMemory, BadMagic, BadVersion, Truncated, BadRecord, ReadFault}
+use Rattle.rt_ops.specs.declared.intake.Bounds.{Bounds}
+use Rattle.rt_ops.specs.Operations.{Operation}
+use Rattle.rt_ops.specs.Decoding.{RefusesBytes}
+use Rattle.rt_ops.specs.File.{magic, number, content_of, record_of, HasRecord}
+use Rattle.rt_ops.specs.Rules.{is_within}
+use Rattle.rt_ops.specs.Reading.{file_name, head_fault, EndsEarly}
+use Rattle.rt_stamps.specs.Streams.{Stream}
+use Rattle.rt_ops.specs.Intake.{Takes, Finishes, IsStopped, HasNoRecord, Fails, GetsHead}
+use Rattle.rt_ops.proofs.Lengths.{length_4, same_front, content_length, content_short}
+use Rattle.rt_ops.proofs.Spells.{front_same_4}
+
+pub consumes_none : (a : Option (List ℕ)) → Consumes a a []
+consumes_none None = tt
+consumes_none (Some xs) = refl
+
+pub consumes_then : (a b c : Option (List ℕ)) (s t : List ℕ) → Consumes a b s → Consumes b c t → Consumes a c (s ++ t)
+consumes_then None b c s t h k = tt
+consumes_then (Some xs) None c s t h k = absurd h
+consumes_then (Some xs) (Some ys) None s t h k = k
+consumes_then (Some xs) (Some ys) (Some zs) s t h k = h ∙ ap (λ v. s ++ v) k ∙ sym (append_assoc s t zs)
+
+pub takes_none : (a : Stream) (x : Bounds) → Takes a a x x []
+takes_none a x = record { consumed = consumes_none a.bytes; failures = refl; calls = omega arith; room = omega arith }
+
+pub takes_then : (a b c : Stream) (x y z : Bounds) (s t : List ℕ) → Takes a b x y s → Takes b c y z t → Takes a c x z (s ++ t)
+takes_then a b c x y z s t h k = record {
+  consumed = consumes_then a.bytes b.bytes c.bytes s t h.consumed k.consumed;
+  failures = k.failures ∙ h.failures;
+  calls = omega (arith, h.calls, k.calls, length-append s t);
+  room = omega (arith, h.room, k.room, length-append s t);
+}
+
+pub finishes_then : (a b c : Stream) (x y z : Bounds) (s t : List ℕ) → Takes a b x y s → Finishes b c y z t → Finishes a c x z (s ++ t)
+finishes_then a b c x y z s t h k = record {
+  consumed = consumes_then a.bytes b.bytes c.bytes s t h.consumed k.consumed;
+  failures = k.failures ∙ h.failures;
+  calls = omega (arith, h.calls, k.calls, length-append s t);
+  room = omega (arith, h.room, k.room, length-append s t);
+  at_end = k.at_end;
+}
+
+pub stopped_then : (a b c : Stream) (x y : Bounds) (s t : List ℕ) → Takes a b x y s → IsStopped b c y t → IsStopped a c x (s ++ t)
+stopped_then a b c x y s t h k = record {
+  within = omega (arith, h.room, k.within, length-append s t);
+  calls = omega (arith, h.calls, k.calls, length-append s t);
+  cause = elim k.cause [
+    | inl failed ↦ inl (consumes_then a.bytes b.bytes c.bytes s t h.consumed failed.0, failed.1 ∙ ap (λ n. n + 1) h.failures)
+    | inr over ↦ inr (over.0, subst (Consumes a.bytes c.bytes) (sym (append_assoc s t (over.0 ∷ []))) (consumes_then a.bytes b.bytes c.bytes s (t ++ over.0 ∷ []) h.consumed over.1), over.2 ∙ h.failures, omega (arith, over.3, h.room, length-append s t))
+  ];
+}
+
+-- why a field isn't gathered is why the record isn't read
+pub not_gathered : (a b c : Stream) (x y z : Bounds) (front : List ℕ) (wanted : ℕ) (fault : Fault) → Takes a b x y front → ((taken : List ℕ) → length taken < wanted → EndsEarly (front ++ taken))
+    → ((fault ≡ NoMemory) × (taken : List ℕ) × Takes b c y z taken) ⊎ ((fault ≡ ReadFault) × (taken : List ℕ) × (length taken < wanted) × IsStopped b c y taken)
+    → Fails a c x z fault
+not_gathered a b c x y z front wanted fault h early (inl memory) = (front ++ memory.1, inl (memory.0, takes_then a b c x y z front memory.1 h memory.2))
+not_gathered a b c x y z front wanted fault h early (inr stop) =
+    (front ++ stop.1, inr (inr (inr (stop.0, stopped_then a b c x y front stop.1 h stop.3, early stop.1 stop.2))))
+
+pub short_field : (taken : List ℕ) → length taken < 4 → EndsEarly ([] ++ taken)
+short_field taken lt = inl lt
+
+pub short_content : (n : ℕ) → FEWEST_RECORD_BYTES ≤ n → n ≤ MOST_RECORD_BYTES → (taken : List ℕ) → length taken < n → EndsEarly (number w32 n ++ taken)
+short_content n least most taken lt = inr (n, taken, refl, least, most, lt)
+
+-- the length field alone
+pub only_length : (buffer rest : List ℕ) (n : ℕ) → buffer ≡ number w32 n ++ rest → length buffer ≤ 4 → buffer ≡ number w32 n
+only_length buffer rest n parts short =
+    let none : rest ≡ [] = nil_from_length rest (omega (arith, ap length parts, length-append (number w32 n) rest, length_4 n)) in
+    parts ∙ ap (λ v. number w32 n ++ v) none ∙ append-nil (number w32 n)
+
+pub bad_length : (buffer : List ℕ) (n : ℕ) → n < 2 ^ 32 → buffer ≡ number w32 n → ((FEWEST_RECORD_BYTES ≤ n) × (n ≤ MOST_RECORD_BYTES) → ⊥) → HasNoRecord buffer
+bad_length buffer n few is out = record {
+  some = omega (arith, ap length is, length_4 n);
+  whole = λ more early. elim early [
+    | inl lt ↦ omega (arith, length-append buffer more, ap length is, length_4 n)
+    | inr r ↦ (let p = front_same_4 n r.0 more r.1 few (omega (arith, r.4)) (ap (λ v. v ++ more) (sym is) ∙ r.2) in out (omega (arith, p.0, r.3), omega (arith, p.0, r.4)))
+  ];
+  none = λ op more tail has e.
+      let len = length (content_of op) in
+      let short = content_short op has.rules in
+      let p = front_same_4 n len more (content_of op ++ tail) few (omega (arith, short)) (ap (λ v. v ++ more) (sym is) ∙ e ∙ append_assoc (number w32 len) (content_of op) tail) in
+      out (omega (arith, p.0, content_length op), omega (arith, p.0, short));
+}
+
+pub bad_content : (content : List ℕ) (n : ℕ) → FEWEST_RECORD_BYTES ≤ n → n ≤ MOST_RECORD_BYTES → length content ≡ n → ((op : Operation) → HasRecord op → content ≡ content_of op → ⊥) → HasNoRecord (number w32 n ++ content)
+bad_content content n least most size none = record {
+  some = omega (arith, length-append (number w32 n) content, length_4 n);
+  whole = λ more early. elim early [
+    | inl lt ↦ omega (arith, length-append (number w32 n ++ content) more, length-append (number w32 n) content, length_4 n)
+    | inr r ↦ (
+        let p = front_same_4 n r.0 (content ++ more) r.1 (omega (arith, most)) (omega (arith, r.4)) (sym (append_assoc (number w32 n) content more) ∙ r.2) in
+        omega (arith, p.0, ap length p.1, length-append content more, r.5, size))
+  ];
+  none = λ op more tail has e.
+      let len = length (content_of op) in
+      let short = content_short op has.rules in
+      let p = front_same_4 n len (content ++ more) (content_of op ++ tail) (omega (arith, most)) (omega (arith, short))
+      (sym (append_assoc (number w32 n) content more) ∙ e ∙ append_assoc (number w32 len) (content_of op) tail) in
+      let q = same_front content (content_of op) more tail (size ∙ p.0) p.1 in
+      none op has q.0;
+}
+
+-- why a record's bytes are refused
+pub not_decoded : (a b : Stream) (x y : Bounds) (content : List ℕ) (n : ℕ) (fault : Fault) → Takes a b x y (number w32 n ++ content) → FEWEST_RECORD_BYTES ≤ n → n ≤ MOST_RECORD_BYTES → length content ≡ n
+    → RefusesBytes fault ((op : Operation) → HasRecord op → content ≡ content_of op → ⊥) → Fails a b x y fault
+not_decoded a b x y content n fault h least most size (inl memory) = (number w32 n ++ content, inl (memory, h))
+not_decoded a b x y content n fault h least most size (inr bad) = (number w32 n ++ content, inr (inr (inl (bad.0, h, bad_content content n least most size bad.1))))
+
+-- ---- one read
+
+-- ---- several reads
+
+pub finishes_in : (a b c : Stream) (x y z : Bounds) (s : List ℕ) → Takes a b x y s → Finishes b c y z [] → Finishes a c x z s
+finishes_in a b c x y z s h k = subst (Finishes a c x z) (append-nil s) (finishes_then a b c x y z s [] h k)
+
+pub stopped_in : (a b c : Stream) (x y : Bounds) (s : List ℕ) → Takes a b x y s → IsStopped b c y [] → IsStopped a c x s
+stopped_in a b c x y s h k = subst (IsStopped a c x) (append-nil s) (stopped_then a b c x y s [] h k)
+
+-- ---- a length field
+
+pub refused_length : (a b : Stream) (x y : Bounds) (s rest : List ℕ) (n : ℕ) → n < 2 ^ 32 → s ≡ number w32 n ++ rest → length s ≤ 4 → (4 ≤ length s → Takes a b x y s) → is_within FEWEST_RECORD_BYTES MOST_RECORD_BYTES n ≡ false → Fails a b x y BadRecord
+refused_length a b x y s rest n few parts short h out = (
+  s,
+  inr (inr (inl (
+    refl,
+    h (omega (arith, ap length parts, length-append (number w32 n) rest, length_4 n)),
+    bad_length s n few (only_length s rest n parts short) (λ range.
+        let inside : is_within FEWEST_RECORD_BYTES MOST_RECORD_BYTES n ≡ true = grind (arith, nat_tests, range.0, range.1) in
+        false≢true (sym out ∙ inside)),
+  ))),
+)
+
+-- ---- what a record has behind it
+
+pub cut_content : (a b c : Stream) (x y z : Bounds) (n : ℕ) (content : List ℕ) → Takes a b x y (number w32 n) → FEWEST_RECORD_BYTES ≤ n → n ≤ MOST_RECORD_BYTES → Finishes b c y z content → length content < n → Fails a c x z Truncated
+cut_content a b c x y z n content h least most k lt =
+    (number w32 n ++ content, inr (inl (refl, finishes_then a b c x y z (number w32 n) content h k, omega (arith, length-append (number w32 n) content, length_4 n), inr (n, content, refl, least, most, lt))))
+
+pub refused_content : (a b c : Stream) (x y z : Bounds) (n : ℕ) (content : List ℕ) (fault : Fault) → Takes a b x y (number w32 n) → FEWEST_RECORD_BYTES ≤ n → n ≤ MOST_RECORD_BYTES → Takes b c y z content → length content ≤ n → n ≤ length content
+    → RefusesBytes fault ((op : Operation) → HasRecord op → content ≡ content_of op → ⊥) → Fails a c x z fault
+refused_content a b c x y z n content fault h least most k short long refuses =
+    not_decoded a c x z content n fault (takes_then a b c x y z (number w32 n) content h k) least most (omega arith) refuses
+
+pub got_content : (a b c : Stream) (x y z : Bounds) (n : ℕ) (content : List ℕ) (op : Operation) → Takes a b x y (number w32 n) → Takes b c y z content → length content ≤ n → n ≤ length content → content ≡ content_of op → Takes a c x z (record_of op)
+got_content a b c x y z n content op h k short long e =
+    let size : n ≡ length (content_of op) = omega (arith, ap length e) in
+    subst (Takes a c x z) (λ i. number w32 (size i) ++ e i) (takes_then a b c x y z (number w32 n) content h k)
+
+-- ---- the first eight bytes
+
+no_fault : (a b c : Bool) → cond (not a) (Some BadMagic) (cond b (Some Truncated) (cond c None (Some BadVersion))) ≡ None → c ≡ true
+no_fault false b c e = absurd cc
+no_fault true true c e = absurd cc
+no_fault true false true e = refl
+no_fault true false false e = absurd cc
+
+pub magic_length : length magic ≡ 8
+unfolding magic
+magic_length = refl
+
+pub head_is_magic : (front : List ℕ) → head_fault front ≡ None → front ≡ magic
+head_is_magic front h = (bytes_eq-Decides front magic).0 (no_fault (bytes_eq (take 7 front) (take (length front) file_name)) (nat_lt (length front) 8) (bytes_eq front magic) h)
+
+pub head_not_gathered : (a b : Stream) (x y : Bounds) (fault : Fault) → ((fault ≡ NoMemory) × (taken : List ℕ) × Takes a b x y taken) ⊎ ((fault ≡ ReadFault) × (taken : List ℕ) × (length taken < 8) × IsStopped a b x taken)
+    → GetsHead a b x y (Err fault)
+head_not_gathered a b x y fault (inl memory) = (memory.1, inl (memory.0, memory.2))
+head_not_gathered a b x y fault (inr stop) = (stop.1, inr (inr (stop.0, stop.3, stop.2)))
+
+pub took_magic : (a b : Stream) (x y : Bounds) (s front : List ℕ) → front ≡ s → head_fault front ≡ None → (8 ≤ length s → Takes a b x y s) → Takes a b x y magic
+took_magic a b x y s front same none h =
+    let whole : s ≡ magic = sym same ∙ head_is_magic front none in
+    subst (Takes a b x y) whole (h (omega (arith, ap length whole, magic_length)))

@@ -1,0 +1,15 @@
+use Rattle.std.proofs.Common.{◌≡◌, ◌≤◌, ◌-◌, length}
+use Rattle.rt_stamps.specs.declared.limits.TheConstants.{PIECE_BYTES}
+use Rattle.rt_ops.specs.Intake.{Takes}
+use Rattle.rt_ops.proofs.intake.gather.Given as goal
+
+abbrev pub invariant-loop-piece : goal.invariant-loop-piece
+invariant-loop-piece g l = record {
+  takes : Takes (record { calls = g.R.Source.calls l.fn.reader; failures = g.R.Source.failures l.fn.reader; bytes = g.R.Source.remaining l.fn.reader })
+      (record { calls = g.R.Source.calls l.reader; failures = g.R.Source.failures l.reader; bytes = g.R.Source.remaining l.reader }) l.fn.bounds l.bounds l.buffer.items;
+  within : length l.buffer.items ≤ l.wanted;
+  piece : length l.piece ≡ PIECE_BYTES;
+}
+
+abbrev pub decreases-loop-piece : goal.decreases-loop-piece
+decreases-loop-piece g l = l.wanted - length l.buffer.items

@@ -1,0 +1,88 @@
+// Operations, read from the bytes of a record.
+ghost use Rattle.std.specs.Prelude.{◌≡◌, ℕ, ◌∷◌, ◌++◌, ◌<◌, ◌^◌, Bool, List, length, IfNone, IfSome};
+ghost use Rattle.std.specs.Int.{w64};
+ghost use Rattle.rt_ops.specs.File.{number, stamp_bytes, flag, StampFits, HasRecord, content_of};
+ghost use Rattle.rt_ops.specs.Decoding.{Decodes, DecodesBody};
+
+use crate::Op;
+use crate::fields::{byte_at, name_at, spans_of, stamp_at, tags_at, text_of, u64_at};
+use rt_stamps::{Fault, Stamp};
+use std::alloc::Global;
+
+/// What stands before the body of each operation.
+#[derive(Clone, Copy)]
+struct Head {
+    kind: u8,
+    stamp: Stamp,
+    prev: u64,
+}
+
+fn head_at(bytes: &[u8]) -> Option<(Head, &[u8])>
+    ensures none { IfNone result (length bytes.now < 19) }
+    ensures fits { IfSome result (λ found. StampFits found.0.stamp × (found.0.prev < 2 ^ 64)) }
+    ensures bytes { IfSome result (λ found. bytes.now ≡ found.0.kind ∷ (stamp_bytes found.0.stamp ++ (number w64 found.0.prev ++ found.1.now))) }
+{
+    let (kind, rest) = byte_at(bytes)?;
+    let (stamp, rest) = stamp_at(rest)?;
+    let (prev, rest) = u64_at(rest)?;
+    Some((Head { kind, stamp, prev }, rest))
+}
+
+fn insert_of(alloc: Global, stamp: Stamp, prev: u64, bytes: &[u8]) -> Result<Op, Fault>
+    ensures { DecodesBody 1 stamp prev bytes.now result }
+{
+    let (after, rest) = match stamp_at(bytes) {
+        Some(found) => found,
+        None => return Err(Fault::BadRecord),
+    };
+    let (tags, rest) = tags_at(alloc, rest)?;
+    let text = text_of(alloc, rest)?;
+    Op::insert(stamp, prev, after, tags, text)
+}
+
+fn delete_of(alloc: Global, stamp: Stamp, prev: u64, bytes: &[u8]) -> Result<Op, Fault>
+    ensures { DecodesBody 2 stamp prev bytes.now result }
+{
+    let spans = spans_of(alloc, bytes)?;
+    Op::delete(stamp, prev, spans)
+}
+
+fn flag_at(bytes: &[u8]) -> Option<(bool, &[u8])>
+    ensures none { IfNone result ((on : Bool) (more : List ℕ) → bytes.now ≡ flag on ∷ more → ⊥) }
+    ensures bytes { IfSome result (λ found. bytes.now ≡ flag found.0 ∷ found.1.now) }
+{
+    match bytes {
+        [0, rest @ ..] => Some((false, rest)),
+        [1, rest @ ..] => Some((true, rest)),
+        _ => None,
+    }
+}
+
+fn tag_of(alloc: Global, stamp: Stamp, prev: u64, bytes: &[u8]) -> Result<Op, Fault>
+    ensures { DecodesBody 3 stamp prev bytes.now result }
+{
+    let (on, rest) = match flag_at(bytes) {
+        Some(found) => found,
+        None => return Err(Fault::BadRecord),
+    };
+    let (name, rest) = name_at(alloc, rest)?;
+    let spans = spans_of(alloc, rest)?;
+    Op::tag(stamp, prev, on, name, spans)
+}
+
+/// The operation that all of the bytes spell, which stand behind a record's length field.
+/// `BadRecord` exactly where they spell none.
+pub fn decode(alloc: Global, bytes: &[u8]) -> Result<Op, Fault>
+    ensures { Decodes content_of HasRecord (λ op. op) bytes.now result }
+{
+    let (head, rest) = match head_at(bytes) {
+        Some(found) => found,
+        None => return Err(Fault::BadRecord),
+    };
+    match head.kind {
+        1 => insert_of(alloc, head.stamp, head.prev, rest),
+        2 => delete_of(alloc, head.stamp, head.prev, rest),
+        3 => tag_of(alloc, head.stamp, head.prev, rest),
+        _ => Err(Fault::BadRecord),
+    }
+}

@@ -1,0 +1,195 @@
+// Operations as the bytes of a file.
+ghost use Rattle.std.specs.Prelude.{◌≡◌, ◌∷◌, [], ◌++◌, drop, ◌<◌, ◌≤◌, ◌^◌, length, map, string_bytes, encode_utf8_all, true, IfErr, OnOk};
+ghost use Rattle.std.specs.List.{AllByRecursion};
+ghost use Rattle.std.specs.Int.{w16, w32, w64};
+ghost use Rattle.rt_stamps.specs.declared.fault.Fault.TheVariants.{NoMemory};
+ghost use Rattle.rt_stamps.specs.declared.limits.TheConstants.{MOST_RECORD_BYTES};
+ghost use Rattle.rt_ops.specs.Edits.{body_of};
+ghost use Rattle.rt_ops.specs.File.{number, stamp_bytes, span_bytes, spans_bytes, name_bytes, tags_bytes, body_bytes, kind_of, content_of, record_of, StampFits, SpanFits, BodyFits, HasRecord};
+ghost use Rattle.rt_ops.specs.Rules.{keeps_rules};
+
+use crate::fields::LENGTH_BYTES;
+use crate::{Edit, Op};
+use byteorder::{BigEndian, ByteOrder};
+use rt_stamps::{Fault, Span, Stamp};
+
+#[tactic(auto, unfolding(crate::specs::File::number))]
+fn push_u16(out: &mut Vec<u8>, n: u16) -> Result<(), Fault>
+    ensures ok { OnOk result (out.new.items ≡ out.old.items ++ number w16 n) }
+    ensures fault { IfErr result (λ fault. fault ≡ NoMemory) }
+{
+    let mut bytes = [0; 2];
+    BigEndian::write_u16(&mut bytes, n);
+    out.extend_from_slice(&bytes)?;
+    Ok(())
+}
+
+#[tactic(auto, unfolding(crate::specs::File::number))]
+fn push_u32(out: &mut Vec<u8>, n: u32) -> Result<(), Fault>
+    ensures ok { OnOk result (out.new.items ≡ out.old.items ++ number w32 n) }
+    ensures fault { IfErr result (λ fault. fault ≡ NoMemory) }
+{
+    let mut bytes = [0; 4];
+    BigEndian::write_u32(&mut bytes, n);
+    out.extend_from_slice(&bytes)?;
+    Ok(())
+}
+
+#[tactic(auto, unfolding(crate::specs::File::number))]
+fn push_u64(out: &mut Vec<u8>, n: u64) -> Result<(), Fault>
+    ensures ok { OnOk result (out.new.items ≡ out.old.items ++ number w64 n) }
+    ensures fault { IfErr result (λ fault. fault ≡ NoMemory) }
+{
+    let mut bytes = [0; 8];
+    BigEndian::write_u64(&mut bytes, n);
+    out.extend_from_slice(&bytes)?;
+    Ok(())
+}
+
+#[tactic(auto, unfolding(crate::specs::File::stamp_bytes))]
+fn push_stamp(out: &mut Vec<u8>, stamp: Stamp) -> Result<(), Fault>
+    ensures ok { OnOk result (out.new.items ≡ out.old.items ++ stamp_bytes stamp) }
+    ensures fits { StampFits stamp }
+    ensures fault { IfErr result (λ fault. fault ≡ NoMemory) }
+{
+    push_u64(out, stamp.count)?;
+    push_u16(out, stamp.site)?;
+    Ok(())
+}
+
+#[tactic(auto, unfolding(crate::specs::File::span_bytes))]
+fn push_span(out: &mut Vec<u8>, span: Span) -> Result<(), Fault>
+    ensures ok { OnOk result (out.new.items ≡ out.old.items ++ span_bytes span) }
+    ensures fits { SpanFits span }
+    ensures fault { IfErr result (λ fault. fault ≡ NoMemory) }
+{
+    push_u16(out, span.site)?;
+    push_u64(out, span.first)?;
+    push_u64(out, span.last)?;
+    Ok(())
+}
+
+#[tactic(auto, unfolding(crate::specs::File::spans_bytes))]
+fn push_spans(out: &mut Vec<u8>, spans: &[Span]) -> Result<(), Fault>
+    requires { length spans.now < 2 ^ 32 }
+    ensures ok { OnOk result (out.new.items ≡ out.old.items ++ spans_bytes spans.now) }
+    ensures fits { OnOk result (AllByRecursion SpanFits spans.now) }
+    ensures fault { IfErr result (λ fault. fault ≡ NoMemory) }
+{
+    push_u32(out, spans.len() as u32)?;
+    for span in spans {
+        push_span(out, *span)?;
+    }
+    Ok(())
+}
+
+fn push_name(out: &mut Vec<u8>, name: &str) -> Result<(), Fault>
+    requires { length name.now < 2 ^ 8 }
+    ensures ok { OnOk result (out.new.items ≡ out.old.items ++ name_bytes name.now) }
+    ensures fault { IfErr result (λ fault. fault ≡ NoMemory) }
+{
+    out.push(name.len() as u8)?;
+    out.extend_from_slice(name.as_bytes())?;
+    Ok(())
+}
+
+#[tactic(auto, unfolding(crate::specs::File::tags_bytes))]
+fn push_tags(out: &mut Vec<u8>, tags: &[String]) -> Result<(), Fault>
+    requires count { length tags.now < 2 ^ 8 }
+    requires names { AllByRecursion (λ tag. length (string_bytes tag) < 2 ^ 8) tags.now }
+    ensures ok { OnOk result (out.new.items ≡ out.old.items ++ tags_bytes (map string_bytes tags.now)) }
+    ensures fault { IfErr result (λ fault. fault ≡ NoMemory) }
+{
+    out.push(tags.len() as u8)?;
+    for tag in tags {
+        push_name(out, tag.as_str())?;
+    }
+    Ok(())
+}
+
+fn push_text(out: &mut Vec<u8>, text: &[char]) -> Result<(), Fault>
+    ensures ok { OnOk result (out.new.items ≡ out.old.items ++ encode_utf8_all text.now) }
+    ensures fault { IfErr result (λ fault. fault ≡ NoMemory) }
+{
+    for c in text {
+        let mut bytes = [0; 4];
+        out.extend_from_slice(c.encode_utf8(&mut bytes).as_bytes())?;
+    }
+    Ok(())
+}
+
+fn push_body(out: &mut Vec<u8>, edit: &Edit) -> Result<(), Fault>
+    requires { keeps_rules (body_of edit.now) ≡ true }
+    ensures ok { OnOk result (out.new.items ≡ out.old.items ++ body_bytes (body_of edit.now)) }
+    ensures fits { OnOk result (BodyFits (body_of edit.now)) }
+    ensures fault { IfErr result (λ fault. fault ≡ NoMemory) }
+{
+    match edit {
+        Edit::Insert { after, tags, text } => {
+            push_stamp(out, *after)?;
+            push_tags(out, tags)?;
+            push_text(out, text.characters())
+        }
+        Edit::Delete { spans } => push_spans(out, spans),
+        Edit::Tag { on, name, spans } => {
+            out.push(u8::from(*on))?;
+            push_name(out, name)?;
+            push_spans(out, spans)
+        }
+    }
+}
+
+fn kind(edit: &Edit) -> u8
+    ensures { result ≡ kind_of (body_of edit.now) }
+{
+    match edit {
+        Edit::Insert {
+            after: _,
+            tags: _,
+            text: _,
+        } => 1,
+        Edit::Delete { spans: _ } => 2,
+        Edit::Tag {
+            on: _,
+            name: _,
+            spans: _,
+        } => 3,
+    }
+}
+
+/// What stands behind a record's length field.
+#[tactic(auto, using(crate::proofs::Lengths::content_short))]
+fn push_content(out: &mut Vec<u8>, op: &Op) -> Result<(), Fault>
+    ensures ok { OnOk result (out.new.items ≡ out.old.items ++ content_of op.now) }
+    ensures record { OnOk result (HasRecord op.now) }
+    ensures short { length (content_of op.now) ≤ MOST_RECORD_BYTES }
+    ensures fault { IfErr result (λ fault. fault ≡ NoMemory) }
+{
+    out.push(kind(op.edit()))?;
+    push_stamp(out, op.stamp())?;
+    push_u64(out, op.prev())?;
+    push_body(out, op.edit())
+}
+
+/// Writes a record's length into the front of a buffer.
+#[tactic(auto, unfolding(crate::specs::File::number))]
+fn write_length(buffer: &mut [u8], n: u32)
+    requires { 4 ≤ length buffer.old }
+    ensures { buffer.new ≡ number w32 n ++ drop 4 buffer.old }
+{
+    BigEndian::write_u32(buffer, n);
+}
+
+/// Makes a buffer the record of an operation. After want of memory it has some bytes.
+pub fn spell(buffer: &mut Vec<u8>, op: &Op) -> Result<(), Fault>
+    ensures ok { OnOk result (buffer.new.items ≡ record_of op.now) }
+    ensures record { OnOk result (HasRecord op.now) }
+    ensures fault { IfErr result (λ fault. fault ≡ NoMemory) }
+{
+    buffer.clear();
+    buffer.extend_from_slice(&[0; LENGTH_BYTES])?;
+    push_content(buffer, op)?;
+    let length = buffer.len() - LENGTH_BYTES;
+    write_length(buffer, length as u32);
+    Ok(())
+}

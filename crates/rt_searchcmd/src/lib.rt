@@ -1,6 +1,0 @@
-//! The command `search` of a widget (Tk text manual, "search").
-#![tactic(auto)]
-
-pub mod command;
-
-pub use command::{search, shown};

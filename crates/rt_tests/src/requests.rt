@@ -1,0 +1,40 @@
+// Words that only the crates below a site tell apart: the scripts of rt_tests_script have all others.
+use crate::checks::same;
+use rt_index::is_fixed;
+use rt_requests::Request;
+use rt_stamps::Fault;
+use rt_words::words::words;
+use std::test::Fail;
+
+/// Words of indices, and whether they name the same place as long as the text stays.
+const FIXED: &[(&str, bool)] = &[
+    ("end", true),
+    ("1.0", true),
+    ("0.7", true),
+    ("3.end", true),
+    ("99.999", true),
+    ("", false),
+    ("end-1c", false),
+    ("1.0 ", false),
+    ("1.", false),
+    (".0", false),
+    ("insert", false),
+    ("1.en", false),
+    ("m", false),
+];
+
+#[test]
+fn words_that_are_fixed(rt: HostRuntime) {
+    for (word, fixed) in FIXED {
+        same(&rt, (*word, is_fixed(word)), (*word, *fixed));
+    }
+}
+
+// Limits are options of a widget, and not of the commands that all widgets share.
+#[test]
+fn limits_are_refused(rt: HostRuntime) -> Result<(), Fail> {
+    let words = words(rt.alloc(), "configure -startline 2")?;
+    let refused = Request::of(rt.alloc(), &words).err();
+    same(&rt, refused, Some(Fault::BadOption));
+    Ok(())
+}

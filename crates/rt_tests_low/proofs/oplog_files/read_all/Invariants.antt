@@ -1,7 +1,0 @@
-use Rattle.rt_tests_low.proofs.oplog_files.read_all.Given as goal
-
-abbrev pub ghosts-read_whole_in-A-Ledger : goal.ghosts-read_whole_in-A-Ledger
-ghosts-read_whole_in-A-Ledger a = record { name = a.reads.name; parts = a.reads.parts }
-
-abbrev pub ghosts-read_whole_in-B-Ledger : goal.ghosts-read_whole_in-B-Ledger
-ghosts-read_whole_in-B-Ledger a = record { name = a.failures.name; parts = a.failures.parts }

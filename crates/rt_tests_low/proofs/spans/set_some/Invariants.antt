@@ -1,5 +1,0 @@
-use Rattle.std.proofs.Common.{◌≤◌, ◌+◌}
-use Rattle.rt_tests_low.proofs.spans.set_some.Given as goal
-
-abbrev pub invariant-loop-value : goal.invariant-loop-value
-invariant-loop-value g l = 50 ≤ l.map.room + l.value
