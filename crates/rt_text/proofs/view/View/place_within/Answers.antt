@@ -1,7 +1,6 @@
-use Rattle.std.proofs.Common.{◌≡◌, ◌∙◌, ◌<◌, ◌≤◌, Ok, ap, arith, inl, inr, length, map, subst, sym}
-use Rattle.std.specs.Prelude.{IfErr, IfOk}
+use Rattle.std.proofs.Common.{◌≡◌, ◌∙◌, Ok, ap, map, subst}
 use Rattle.rt_index.specs.Index.{index_of}
-use Rattle.rt_index.specs.Widget.{Widget}
+use Rattle.rt_index.specs.Widget.{IndexedWidget}
 use Rattle.rt_stamps.specs.Outcomes.{Refuses}
 use Rattle.rt_store.specs.Shown.{shown}
 use Rattle.rt_text.specs.Parts.{own_in}
@@ -15,7 +14,7 @@ returns-clause-ok g c =
     let kept = g.S.TextStore.list c.ground-ground.result.store.now in
     let same = ground_shown (record { doc = c.self.inside.doc; own = c.self.inside.widget; others = map own_in c.self.inside.others.items }) c.ground-ground.result.stretch (map (shown c.ground-ground.result.states.now) kept) c.ground-ground.result.marks.now c.ground-ground.result.tags.now.names
     c.ground-ground.result.widget.now c.ground-ground.ensures.stretch c.ground-ground.ensures.cells c.ground-ground.ensures.marks c.ground-ground.ensures.tags c.ground-ground.ensures.own c.ground-ground.ensures.names ∙ ap widget_of c.self.view_is in
-    subst (λ (w : Widget). index_of w c.args.index.now ≡ Ok c.in_ok-place.place) same c.in_ok-place.ensures.ok
+    subst (λ (w : IndexedWidget). index_of w c.args.index.now ≡ Ok c.in_ok-place.place) same c.in_ok-place.ensures.ok
 
 pub returns-clause-stretch : goal.returns-clause-stretch
 returns-clause-stretch g c = c.ground-ground.ensures.stretch ∙ ap stretch_by c.self.view_is
@@ -31,5 +30,5 @@ returns-in_err-place g c =
       stretch = tt;
       some = tt;
       within = tt;
-      err = subst (λ (w : Widget). Refuses (index_of w c.args.index.now) c.in_err-place.field-0.0) same c.in_err-place.ensures.err;
+      err = subst (λ (w : IndexedWidget). Refuses (index_of w c.args.index.now) c.in_err-place.field-0.0) same c.in_err-place.ensures.err;
     })
