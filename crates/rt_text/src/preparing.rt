@@ -135,6 +135,6 @@ pub(crate) fn make_planned<S: TextStore>(
     ensures between { OnOk result (HaveRoomFor plan.now.between others.new) }
 {
     make_room(tags, selection, others, plan)?;
-    let _made = replica.make(drafts)?;
+    replica.commit(drafts)?;
     Ok(())
 }

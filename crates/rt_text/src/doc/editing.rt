@@ -11,7 +11,7 @@ ghost use Rattle.rt_text.specs.Commands.{cell_check, clock_check, with_pieces_at
 ghost use Rattle.rt_edits.specs.DeletionLaws.{IsPiece};
 ghost use Rattle.rt_text.specs.Parts.{own_in};
 ghost use Rattle.std.specs.List.{AllByRecursion};
-ghost use Rattle.rt_views.specs.Stretches.{shown_part};
+ghost use Rattle.rt_views.specs.Stretches.{shown_part, stretch_of};
 
 use super::Doc;
 use crate::Widget;
@@ -25,6 +25,7 @@ use rt_edits::inserting::{Plan, planned_between};
 use rt_edits::{Piece, Range};
 use rt_stamps::Fault;
 use rt_store::TextStore;
+use rt_views::Stretch;
 use std::mem::replace;
 
 // The plan of an insertion. What lets it go is written out, so that this is one step, and not one for each
@@ -40,15 +41,18 @@ impl Drop for PlannedInsertion {
 }
 
 impl<S: TextStore> Doc<S> {
-    // Plans pieces of text and characters without a list before the character at a place of what is shown.
+    // Plans pieces of text and characters without a list before the character at a place of the stretch that is
+    // shown.
     fn planned_insertion(
         &self,
         widget: &Widget,
+        stretch: Stretch,
         place: usize,
         pieces: &[Piece],
         rest: &str,
     ) -> Result<Plan, Fault>
-        requires { place < length (shown_part self.now.cells widget.now.limits) }
+        requires stretch { stretch ≡ stretch_of self.now.cells widget.now.limits }
+        requires place { place < length (shown_part self.now.cells widget.now.limits) }
         ensures drafts { IfOk result (λ plan. (others : List Own)
             → map body_of plan.drafts.items ≡ drafts_at (record { doc = self.now; own = widget.now; others = others }) place pieces.now rest.now) }
         ensures plans { IfOk result (λ plan. (others : List Own) → Plans plan widget.now.sel (selections_of others) self.now.tags
@@ -59,7 +63,7 @@ impl<S: TextStore> Doc<S> {
         let site = self.replica.site();
         let count = self.replica.clock().seen();
         let (store, states) = self.kept();
-        let at = widget.limits().stretch(store).begin + place;
+        let at = stretch.begin + place;
         let behind = left_of(store, at);
         let after = stamp_or_root(&behind);
         let left = shown_before(place, behind);
@@ -78,15 +82,17 @@ impl<S: TextStore> Doc<S> {
         )
     }
 
-    // Puts pieces of text and characters without a list before the character at a place.
+    // Puts pieces of text and characters without a list before the character at a place of the stretch that is shown.
     pub(crate) fn insert_at(
         &mut self,
         widget: &mut Widget,
         others: &mut [Parts],
+        stretch: Stretch,
         place: usize,
         pieces: &[Piece],
         rest: &str,
     ) -> Result<(), Fault>
+        requires stretch { stretch ≡ stretch_of self.old.cells widget.old.limits }
         requires place { place < length (shown_part self.old.cells widget.old.limits) }
         requires pieces { All IsPiece pieces.now }
         requires own { IsOwnOf (length (text_of self.old.cells)) widget.old }
@@ -102,9 +108,9 @@ impl<S: TextStore> Doc<S> {
         ensures own { IsOwnOf (length (text_of self.new.cells)) widget.new }
         ensures others { AllByRecursion (IsOwnOf (length (text_of self.new.cells))) (map own_in others.new) }
     {
-        let plan = self.planned_insertion(widget, place, pieces, rest)?;
-        let (store, _) = self.kept();
-        let at = widget.limits().stretch(store).begin + place;
+        let plan = self.planned_insertion(widget, stretch, place, pieces, rest)?;
+        let _ = self.kept();
+        let at = stretch.begin + place;
         let mut planned = PlannedInsertion { plan };
         let drafts = replace(&mut planned.plan.drafts, Vec::new(self.alloc));
         make_planned(
@@ -148,7 +154,7 @@ impl<S: TextStore> Doc<S> {
         let stretch = widget.limits().stretch(store);
         let last = store.cell_at(stretch.end - 1).stamp;
         let deletion = planned_deletion(self.alloc, store, states, stretch, ranges)?;
-        let _made = self.replica.make(deletion.drafts)?;
+        self.replica.commit(deletion.drafts)?;
         leave_all(&mut self.marks, widget, others, &deletion.removed);
         unselect_last(deletion.held, last, widget, others);
         Ok(())

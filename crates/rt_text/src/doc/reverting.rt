@@ -59,7 +59,7 @@ impl<S: TextStore> Doc<S> {
         let (store, states) = self.kept();
         let plan = planned_reversion_in(self.alloc, store, states, copy, site, count, group, kept)?;
         prepare_tags(&mut self.tags, &plan.names)?;
-        let _made = self.replica.make(plan.drafts)?;
+        self.replica.commit(plan.drafts)?;
         revert_all(
             &mut self.marks,
             widget,

@@ -133,7 +133,7 @@ impl<S: TextStore> Doc<S> {
         let (store, states) = self.kept();
         let drafts = planned_tag(self.alloc, store, states, ranges, name, on)?;
         prepare_if(&mut self.tags, on, name)?;
-        let _made = self.replica.make(drafts)?;
+        self.replica.commit(drafts)?;
         list_if(&mut self.tags, on, name);
         Ok(())
     }
@@ -150,7 +150,7 @@ impl<S: TextStore> Doc<S> {
     {
         let (store, states) = self.kept();
         let drafts = planned_tag_deletion(self.alloc, store, states, &self.tags, names)?;
-        let _made = self.replica.make(drafts)?;
+        self.replica.commit(drafts)?;
         forget_all(&mut self.tags, names);
         Ok(())
     }

@@ -24,11 +24,16 @@ impl<S: TextStore> View<S> {
         ensures unchanged { OnErr result (self.new ≡ self.old) }
     {
         check_names(pieces)?;
-        let place = self.place(index)?;
-        let stretch = self.stretch();
+        let (place, stretch) = self.place_within(index)?;
         let place = place.min(stretch.end - stretch.begin - 1);
-        self.doc
-            .insert_at(&mut self.widget, &mut self.others, place, pieces, rest)
+        self.doc.insert_at(
+            &mut self.widget,
+            &mut self.others,
+            stretch,
+            place,
+            pieces,
+            rest,
+        )
     }
 
     /// `delete INDEX ?INDEX ...?` (Tk text manual): removes the characters in the ranges that the

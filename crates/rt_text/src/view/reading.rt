@@ -31,6 +31,19 @@ impl<S: TextStore> View<S> {
         place_of(self.alloc, &self.doc.ground(&self.widget), index)
     }
 
+    // The place of an index, and the places of the text that the widget shows. The faults of `place`.
+    pub(super) fn place_within(&self, index: &str) -> Result<(usize, Stretch), Fault>
+        ensures ok { IfOk result (λ found. index_of (widget_of self.now) index.now ≡ Ok found.0) }
+        ensures stretch { IfOk result (λ found. found.1 ≡ stretch_by self.now) }
+        ensures some { IfOk result (λ found. found.1.begin < found.1.end) }
+        ensures within { IfOk result (λ found. found.1.end ≤ length (text_of self.now.doc.cells)) }
+        ensures err { IfErr result (Refuses (index_of (widget_of self.now) index.now)) }
+    {
+        let ground = self.doc.ground(&self.widget);
+        let place = place_of(self.alloc, &ground, index)?;
+        Ok((place, ground.stretch))
+    }
+
     /// The places of the text that the widget shows: all of them where it has no limits.
     pub fn stretch(&self) -> Stretch
         ensures value { result ≡ stretch_by self.now }

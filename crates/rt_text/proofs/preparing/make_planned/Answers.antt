@@ -25,17 +25,17 @@ returns-in_err-make_room g c =
       between = tt;
     })
 
-pub returns-in_err-_made : goal.returns-in_err-_made
-returns-in_err-_made g c =
-    let p = err_from_is_err_and c.from_residual-in_err-_made.result c.from_residual-in_err-_made.ensures.1 in
+pub returns-in_err-commit : goal.returns-in_err-commit
+returns-in_err-commit g c =
+    let p = err_from_is_err_and c.from_residual-in_err-commit.result c.from_residual-in_err-commit.ensures.1 in
     rw (p.1, p.2) (record {
       fits = tt;
-      refused = memory_first c.in_err-_made.ensures.refused;
+      refused = memory_first c.in_err-commit.ensures.refused;
       log = tt;
       cells = tt;
-      same = c.in_err-_made.ensures.same;
-      site = c.make.ensures.site;
-      limit = c.make.ensures.limit;
+      same = c.in_err-commit.ensures.same;
+      site = c.commit.ensures.site;
+      limit = c.commit.ensures.limit;
       tags = c.make_room.ensures.tags;
       selection = c.make_room.ensures.selection;
       others = c.make_room.ensures.others;
@@ -46,13 +46,13 @@ returns-in_err-_made g c =
 
 pub returns : goal.returns
 returns g c = record {
-  fits = c.in_ok-_made.ensures.fits;
+  fits = c.in_ok-commit.ensures.fits;
   refused = tt;
-  log = c.in_ok-_made.ensures.log;
-  cells = c.in_ok-_made.ensures.cells;
+  log = c.in_ok-commit.ensures.log;
+  cells = c.in_ok-commit.ensures.cells;
   same = tt;
-  site = c.make.ensures.site;
-  limit = c.make.ensures.limit;
+  site = c.commit.ensures.site;
+  limit = c.commit.ensures.limit;
   tags = c.make_room.ensures.tags;
   selection = c.make_room.ensures.selection;
   others = c.make_room.ensures.others;

@@ -9,6 +9,7 @@ use Rattle.rt_edits.specs.InsertionDrafts.{behind, text_drafts}
 use Rattle.rt_edits.specs.InsertionPlans.{Plans}
 use Rattle.rt_edits.specs.Insertions.{counts_for, last_of, tags_between, with_unlisted}
 use Rattle.rt_edits.specs.PlannedPieces.{AreSoFar}
+use Rattle.rt_edits.specs.Selected.{selected_stamps}
 use Rattle.rt_edits.proofs.BareText.{plans_bare}
 use Rattle.rt_edits.proofs.PlanLaws.{spent}
 use Rattle.rt_edits.proofs.pieces.PlannedPieces.add_unlisted.Goals as goal

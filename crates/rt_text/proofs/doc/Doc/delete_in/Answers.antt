@@ -50,8 +50,8 @@ planned_deletion-requires-clause-distinct g c = c.kept.ensures.distinct
 pub planned_deletion-requires-clause-states : goal.planned_deletion-requires-clause-states
 planned_deletion-requires-clause-states g c = c.kept.ensures.states
 
-pub make-requires : goal.make-requires
-make-requires g c =
+pub commit-requires : goal.commit-requires
+commit-requires g c =
     let flat = c.args.self.now in
     let drafts : map body_of c.in_ok-deletion.deletion.drafts.items ≡ delete_drafts MOST_SPANS flat (loss_of flat c.args.widget.now.limits c.args.ranges.now) =
     c.in_ok-deletion.ensures.drafts flat (sym c.kept.ensures.cells)
@@ -74,10 +74,10 @@ returns-in_err-deletion g c =
     })
 
 pub invariant_of-self : goal.invariant_of-self
-invariant_of-self g c = subst (λ (r : ReplicaValue). IsDoc r.cells c.self.inside.marks c.self.inside.tags.names) (sym c.in_err-_made.ensures.same) c.self.invariant
+invariant_of-self g c = subst (λ (r : ReplicaValue). IsDoc r.cells c.self.inside.marks c.self.inside.tags.names) (sym c.in_err-commit.ensures.same) c.self.invariant
 
-pub returns-in_err-_made : goal.returns-in_err-_made
-returns-in_err-_made g c =
+pub returns-in_err-commit : goal.returns-in_err-commit
+returns-in_err-commit g c =
     let flat = c.args.self.now in
     let ranges = c.args.ranges.now in
     let limits = c.args.widget.now.limits in
@@ -90,13 +90,13 @@ returns-in_err-_made g c =
     let bodies = map body_of c.in_ok-deletion.deletion.drafts.items in
     let refusal : refusal_of c.self.inside.replica.limit bodies c.self.inside.replica.log ≡ clock_check (without_text flat (loss_of flat limits ranges)).count =
     ap (λ (f : Flat). refusal_of f.limit bodies f.log) c.self.view_is ∙ ap (λ l. refusal_of flat.limit l flat.log) drafts ∙ deletion_refusal flat limits ranges c.kept.ensures.history c.kept.ensures.document few in
-    let (y, is, gives) = err_from_is_err_and c.from_residual-in_err-_made.result c.from_residual-in_err-_made.ensures.1 in
-    let doc : seen c.make.new.self c.self.inside.marks c.self.inside.tags.names ≡ flat =
-    (λ k. seen (c.in_err-_made.ensures.same k) c.self.inside.marks c.self.inside.tags.names) ∙ c.self.view_is in
+    let (y, is, gives) = err_from_is_err_and c.from_residual-in_err-commit.result c.from_residual-in_err-commit.ensures.1 in
+    let doc : seen c.commit.new.self c.self.inside.marks c.self.inside.tags.names ≡ flat =
+    (λ k. seen (c.in_err-commit.ensures.same k) c.self.inside.marks c.self.inside.tags.names) ∙ c.self.view_is in
     rw (is, gives) (record {
       ok = tt;
       checked = tt;
-      err = which c.in_err-_made.ensures.refused refusal;
+      err = which c.in_err-commit.ensures.refused refusal;
       unchanged = (doc, refl, refl);
       own = subst (λ (f : Flat). IsOwnOf (length (text_of f.cells)) c.args.widget.now) (sym doc) c.requires.own;
       others = subst (λ (f : Flat). AllByRecursion (IsOwnOf (length (text_of f.cells))) (map own_in c.args.others.now)) (sym doc) c.requires.others;
@@ -112,7 +112,7 @@ record Made (flat : Flat) (own : Own) (others : List Own) (ranges : List Range) 
   fits : clock_check (without_text flat (loss_of flat own.limits ranges)).count ≡ None
 
 made : (g : Over) (c : goal.After-drop-deletion-2 g)
-    → Made c.args.self.now c.args.widget.now (map own_in c.args.others.now) c.args.ranges.now c.make.new.self c.leave_all.new.marks (is_covered c.in_ok-deletion.deletion.removed.items) c.cell_at.result.stamp c.in_ok-deletion.deletion.held
+    → Made c.args.self.now c.args.widget.now (map own_in c.args.others.now) c.args.ranges.now c.commit.new.self c.leave_all.new.marks (is_covered c.in_ok-deletion.deletion.removed.items) c.cell_at.result.stamp c.in_ok-deletion.deletion.held
 made g c =
     let flat = c.args.self.now in
     let ranges = c.args.ranges.now in
@@ -130,19 +130,19 @@ made g c =
     let view = c.self.view_is in
     let bodies = map body_of d.drafts.items in
     let fits : refusal_of flat.limit (delete_drafts MOST_SPANS flat (loss_of flat limits ranges)) flat.log ≡ None =
-    ap (λ l. refusal_of flat.limit l flat.log) (sym drafts) ∙ ap (λ (f : Flat). refusal_of f.limit bodies f.log) (sym view) ∙ c.in_ok-_made.ensures.fits in
-    let log : c.make.new.self.log ≡ with_drafts flat.site (delete_drafts MOST_SPANS flat (loss_of flat limits ranges)) flat.log =
-    c.in_ok-_made.ensures.log ∙ ap (λ (f : Flat). with_drafts f.site bodies f.log) view ∙ ap (λ l. with_drafts flat.site l flat.log) drafts in
+    ap (λ l. refusal_of flat.limit l flat.log) (sym drafts) ∙ ap (λ (f : Flat). refusal_of f.limit bodies f.log) (sym view) ∙ c.in_ok-commit.ensures.fits in
+    let log : c.commit.new.self.log ≡ with_drafts flat.site (delete_drafts MOST_SPANS flat (loss_of flat limits ranges)) flat.log =
+    c.in_ok-commit.ensures.log ∙ ap (λ (f : Flat). with_drafts f.site bodies f.log) view ∙ ap (λ l. with_drafts flat.site l flat.log) drafts in
     let stretch : c.stretch-stretch.result ≡ stretch_of kept limits = c.stretch-stretch.ensures.value ∙ ap (stretch_of kept) c.limits.ensures in
     let loss : loss_in (part c.stretch-stretch.result (text_of kept)) c.stretch-stretch.result.begin ranges ≡ loss_of flat limits ranges =
     loss_kept c.kept.result.1.now kept flat limits c.stretch-stretch.result ranges c.kept.ensures.cells stretch in
     let places : (p : ℕ) → is_covered d.removed.items p ≡ (loss_of flat limits ranges).places p = λ p. c.in_ok-deletion.ensures.places p ∙ ap (λ (l : Loss). l.places p) loss in
     let moved : c.leave_all.new.marks ≡ marks_left (is_covered d.removed.items) flat.marks =
     c.leave_all.ensures.marks ∙ ap (λ l. marks_left (is_covered l) c.self.inside.marks) c.deref.ensures.value ∙ ap (λ (f : Flat). marks_left (is_covered d.removed.items) f.marks) view in
-    let site : c.make.new.self.site ≡ flat.site = c.make.ensures.site ∙ ap (λ (f : Flat). f.site) view in
-    let limit : c.make.new.self.limit ≡ flat.limit = c.make.ensures.limit ∙ ap (λ (f : Flat). f.limit) view in
+    let site : c.commit.new.self.site ≡ flat.site = c.commit.ensures.site ∙ ap (λ (f : Flat). f.site) view in
+    let limit : c.commit.new.self.limit ≡ flat.limit = c.commit.ensures.limit ∙ ap (λ (f : Flat). f.limit) view in
     record {
-      doc = deletion_seen flat limits ranges history document c.kept.ensures.site c.make.new.self c.leave_all.new.marks (is_covered d.removed.items) log c.in_ok-_made.ensures.cells site limit fits few places moved;
+      doc = deletion_seen flat limits ranges history document c.kept.ensures.site c.commit.new.self c.leave_all.new.marks (is_covered d.removed.items) log c.in_ok-commit.ensures.cells site limit fits few places moved;
       places = places;
       moved = moved;
       holds = c.in_ok-deletion.ensures.held ∙ ap (λ (l : Loss). is_some l.newline) loss;
@@ -156,7 +156,7 @@ invariant_of-self-2 g c =
     let ranges = c.args.ranges.now in
     let limits = c.args.widget.now.limits in
     let m = made g c in
-    let cells : c.make.new.self.cells ≡ (without_text flat (loss_of flat limits ranges)).cells = ap (λ (f : Flat). f.cells) m.doc in record {
+    let cells : c.commit.new.self.cells ≡ (without_text flat (loss_of flat limits ranges)).cells = ap (λ (f : Flat). f.cells) m.doc in record {
       placed = subst (λ (l : List TaggedCell). AreSiteMarks (length (text_of l)) c.leave_all.new.marks) (sym cells)
           (deletion_placed flat limits ranges c.leave_all.new.marks (is_covered c.in_ok-deletion.deletion.removed.items) m.places m.moved
           (subst (λ (f : Flat). AreSiteMarks (length (text_of f.cells)) f.marks) c.self.view_is c.self.invariant.placed));
@@ -186,8 +186,8 @@ returns-clause-ok g c =
     let limits = c.args.widget.now.limits in
     let d = c.in_ok-deletion.deletion in
     let m = made g c in
-    let doc : Flat = seen c.make.new.self c.leave_all.new.marks c.self.inside.tags.names in
-    let same : doc ≡ seen c.make.new.self c.leave_all.new.marks flat.tags = ap (λ (f : Flat). seen c.make.new.self c.leave_all.new.marks f.tags) c.self.view_is in
+    let doc : Flat = seen c.commit.new.self c.leave_all.new.marks c.self.inside.tags.names in
+    let same : doc ≡ seen c.commit.new.self c.leave_all.new.marks flat.tags = ap (λ (f : Flat). seen c.commit.new.self c.leave_all.new.marks f.tags) c.self.view_is in
     deletion_edited flat own others ranges doc (is_covered d.removed.items) c.cell_at.result.stamp d.held (same ∙ m.doc) m.places m.newest m.holds
     ∙ (λ i. record { doc = doc; own = sym (widget g c) i; others = sym (others_left g c) i })
 
@@ -203,7 +203,7 @@ returns-clause-own g c =
     let limits = c.args.widget.now.limits in
     let d = c.in_ok-deletion.deletion in
     let m = made g c in
-    let cells : c.make.new.self.cells ≡ (without_text flat (loss_of flat limits ranges)).cells = ap (λ (f : Flat). f.cells) m.doc in
+    let cells : c.commit.new.self.cells ≡ (without_text flat (loss_of flat limits ranges)).cells = ap (λ (f : Flat). f.cells) m.doc in
     subst (λ (l : List TaggedCell). IsOwnOf (length (text_of l)) c.unselect_last.new.widget) (sym cells)
     (subst (IsOwnOf (length (text_of (without_text flat (loss_of flat limits ranges)).cells))) (sym (widget g c)) (deletion_own flat limits ranges c.kept.ensures.history c.kept.ensures.document c.args.widget.now (is_covered d.removed.items) m.places c.requires.own))
 
@@ -214,7 +214,7 @@ returns-clause-others g c =
     let limits = c.args.widget.now.limits in
     let d = c.in_ok-deletion.deletion in
     let m = made g c in
-    let cells : c.make.new.self.cells ≡ (without_text flat (loss_of flat limits ranges)).cells = ap (λ (f : Flat). f.cells) m.doc in
+    let cells : c.commit.new.self.cells ≡ (without_text flat (loss_of flat limits ranges)).cells = ap (λ (f : Flat). f.cells) m.doc in
     subst (λ (l : List TaggedCell). AllByRecursion (IsOwnOf (length (text_of l))) (map own_in c.unselect_last.new.others)) (sym cells)
     (subst (AllByRecursion (IsOwnOf (length (text_of (without_text flat (loss_of flat limits ranges)).cells)))) (sym (others_left g c))
     (deletion_others flat limits ranges c.kept.ensures.history c.kept.ensures.document (map own_in c.args.others.now) (is_covered d.removed.items) c.cell_at.result.stamp d.held m.places c.requires.others))

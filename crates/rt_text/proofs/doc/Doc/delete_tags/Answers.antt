@@ -32,8 +32,8 @@ returns-clause-err g c = tt
 pub returns-clause-unchanged : goal.returns-clause-unchanged
 returns-clause-unchanged g c = tt
 
-pub make-requires : goal.make-requires
-make-requires g c =
+pub commit-requires : goal.commit-requires
+commit-requires g c =
     let old = c.args.self.now in
     let names = map (λ w. string_bytes w) c.args.names.now in
     let drafts = deletion_drafts MOST_SPANS old names in
@@ -49,10 +49,10 @@ returns-in_err-drafts g c =
     rw (is, gives) (record { ok = tt; checked = tt; err = inl c.in_err-drafts.ensures.err; unchanged = refl; text = refl })
 
 pub invariant_of-self : goal.invariant_of-self
-invariant_of-self g c = subst (λ (r : ReplicaValue). IsDoc r.cells c.self.inside.marks c.self.inside.tags.names) (sym c.in_err-_made.ensures.same) c.self.invariant
+invariant_of-self g c = subst (λ (r : ReplicaValue). IsDoc r.cells c.self.inside.marks c.self.inside.tags.names) (sym c.in_err-commit.ensures.same) c.self.invariant
 
-pub returns-in_err-_made : goal.returns-in_err-_made
-returns-in_err-_made g c =
+pub returns-in_err-commit : goal.returns-in_err-commit
+returns-in_err-commit g c =
     let old = c.args.self.now in
     let names = map (λ w. string_bytes w) c.args.names.now in
     let drafts = deletion_drafts MOST_SPANS old names in
@@ -62,13 +62,13 @@ returns-in_err-_made g c =
     let makes = deleted_makes old names of in
     let same : refusal_of c.self.inside.replica.limit (map body_of c.in_ok-drafts.drafts.items) c.self.inside.replica.log ≡ refusal_of old.limit drafts old.log =
     (λ i. refusal_of (c.self.view_is i).limit (bodies i) (c.self.view_is i).log) in
-    let (y, is, gives) = err_from_is_err_and c.from_residual-in_err-_made.result c.from_residual-in_err-_made.ensures.1 in
-    let doc : seen c.make.new.self c.self.inside.marks c.self.inside.tags.names ≡ old =
-    (λ k. seen (c.in_err-_made.ensures.same k) c.self.inside.marks c.self.inside.tags.names) ∙ c.self.view_is in
+    let (y, is, gives) = err_from_is_err_and c.from_residual-in_err-commit.result c.from_residual-in_err-commit.ensures.1 in
+    let doc : seen c.commit.new.self c.self.inside.marks c.self.inside.tags.names ≡ old =
+    (λ k. seen (c.in_err-commit.ensures.same k) c.self.inside.marks c.self.inside.tags.names) ∙ c.self.view_is in
     rw (is, gives) (record {
       ok = tt;
       checked = tt;
-      err = refuses old edited drafts makes c.in_err-_made.field-0.0 (subst (λ o. (o ≡ Some c.in_err-_made.field-0.0) ⊎ ((c.in_err-_made.field-0.0 ≡ NoMemory) × (o ≡ None))) same c.in_err-_made.ensures.refused);
+      err = refuses old edited drafts makes c.in_err-commit.field-0.0 (subst (λ o. (o ≡ Some c.in_err-commit.field-0.0) ⊎ ((c.in_err-commit.field-0.0 ≡ NoMemory) × (o ≡ None))) same c.in_err-commit.ensures.refused);
       unchanged = doc;
       text = ap (λ (f : Flat). text_of f.cells) doc;
     })
@@ -83,12 +83,12 @@ invariant_of-self-2 g c =
     let edited = without_tags old names in
     let makes = deleted_makes old names of in
     let left = left_of_deletion names old in
-    let fit : refusal_of old.limit drafts old.log ≡ None = (λ i. refusal_of (sym c.self.view_is i).limit (sym bodies i) (sym c.self.view_is i).log) ∙ c.in_ok-_made.ensures.fits in
-    let log : c.make.new.self.log ≡ with_drafts old.site drafts old.log = c.in_ok-_made.ensures.log ∙ (λ i. with_drafts (c.self.view_is i).site (bodies i) (c.self.view_is i).log) in
+    let fit : refusal_of old.limit drafts old.log ≡ None = (λ i. refusal_of (sym c.self.view_is i).limit (sym bodies i) (sym c.self.view_is i).log) ∙ c.in_ok-commit.ensures.fits in
+    let log : c.commit.new.self.log ≡ with_drafts old.site drafts old.log = c.in_ok-commit.ensures.log ∙ (λ i. with_drafts (c.self.view_is i).site (bodies i) (c.self.view_is i).log) in
     let tags : c.forget_all.new.tags.names ≡ edited.tags = c.forget_all.ensures ∙ ap (λ (f : Flat). all_forgotten names f.tags) c.self.view_is ∙ sym left.tags in
-    let made : seen c.make.new.self c.self.inside.marks c.forget_all.new.tags.names ≡ logged old drafts edited =
-    makes_seen old edited drafts makes c.make.new.self c.self.inside.marks c.forget_all.new.tags.names fit log c.in_ok-_made.ensures.cells (c.make.ensures.site ∙ ap (λ (f : Flat). f.site) c.self.view_is)
-    (c.make.ensures.limit ∙ ap (λ (f : Flat). f.limit) c.self.view_is) (ap (λ (f : Flat). f.marks) c.self.view_is ∙ sym left.marks) tags left.limit in
+    let made : seen c.commit.new.self c.self.inside.marks c.forget_all.new.tags.names ≡ logged old drafts edited =
+    makes_seen old edited drafts makes c.commit.new.self c.self.inside.marks c.forget_all.new.tags.names fit log c.in_ok-commit.ensures.cells (c.commit.ensures.site ∙ ap (λ (f : Flat). f.site) c.self.view_is)
+    (c.commit.ensures.limit ∙ ap (λ (f : Flat). f.limit) c.self.view_is) (ap (λ (f : Flat). f.marks) c.self.view_is ∙ sym left.marks) tags left.limit in
     let written : AreWritten old.count old.cells =
     subst (λ (p : ℕ × List TaggedCell). AreWritten p.0 p.1) (λ i. (sym c.kept.ensures.document.count i, sym c.kept.ensures.document.cells i)) (cells_written old.log c.kept.ensures.history) in
     let stays : StaysTagged edited = all_without_stays names old (record { listed = subst (λ (f : Flat). AreListed f.tags f.cells) c.self.view_is c.self.invariant.listed; known = written }) in
@@ -105,12 +105,12 @@ returns-clause-ok g c =
     let edited = without_tags old names in
     let makes = deleted_makes old names of in
     let left = left_of_deletion names old in
-    let fit : refusal_of old.limit drafts old.log ≡ None = (λ i. refusal_of (sym c.self.view_is i).limit (sym bodies i) (sym c.self.view_is i).log) ∙ c.in_ok-_made.ensures.fits in
-    let log : c.make.new.self.log ≡ with_drafts old.site drafts old.log = c.in_ok-_made.ensures.log ∙ (λ i. with_drafts (c.self.view_is i).site (bodies i) (c.self.view_is i).log) in
+    let fit : refusal_of old.limit drafts old.log ≡ None = (λ i. refusal_of (sym c.self.view_is i).limit (sym bodies i) (sym c.self.view_is i).log) ∙ c.in_ok-commit.ensures.fits in
+    let log : c.commit.new.self.log ≡ with_drafts old.site drafts old.log = c.in_ok-commit.ensures.log ∙ (λ i. with_drafts (c.self.view_is i).site (bodies i) (c.self.view_is i).log) in
     let tags : c.forget_all.new.tags.names ≡ edited.tags = c.forget_all.ensures ∙ ap (λ (f : Flat). all_forgotten names f.tags) c.self.view_is ∙ sym left.tags in
-    let made : seen c.make.new.self c.self.inside.marks c.forget_all.new.tags.names ≡ logged old drafts edited =
-    makes_seen old edited drafts makes c.make.new.self c.self.inside.marks c.forget_all.new.tags.names fit log c.in_ok-_made.ensures.cells (c.make.ensures.site ∙ ap (λ (f : Flat). f.site) c.self.view_is)
-    (c.make.ensures.limit ∙ ap (λ (f : Flat). f.limit) c.self.view_is) (ap (λ (f : Flat). f.marks) c.self.view_is ∙ sym left.marks) tags left.limit in
+    let made : seen c.commit.new.self c.self.inside.marks c.forget_all.new.tags.names ≡ logged old drafts edited =
+    makes_seen old edited drafts makes c.commit.new.self c.self.inside.marks c.forget_all.new.tags.names fit log c.in_ok-commit.ensures.cells (c.commit.ensures.site ∙ ap (λ (f : Flat). f.site) c.self.view_is)
+    (c.commit.ensures.limit ∙ ap (λ (f : Flat). f.limit) c.self.view_is) (ap (λ (f : Flat). f.marks) c.self.view_is ∙ sym left.marks) tags left.limit in
     made
 
 pub returns-clause-checked : goal.returns-clause-checked
@@ -123,13 +123,13 @@ returns-clause-checked g c =
     let edited = without_tags old names in
     let makes = deleted_makes old names of in
     let left = left_of_deletion names old in
-    let fit : refusal_of old.limit drafts old.log ≡ None = (λ i. refusal_of (sym c.self.view_is i).limit (sym bodies i) (sym c.self.view_is i).log) ∙ c.in_ok-_made.ensures.fits in
-    let log : c.make.new.self.log ≡ with_drafts old.site drafts old.log = c.in_ok-_made.ensures.log ∙ (λ i. with_drafts (c.self.view_is i).site (bodies i) (c.self.view_is i).log) in
+    let fit : refusal_of old.limit drafts old.log ≡ None = (λ i. refusal_of (sym c.self.view_is i).limit (sym bodies i) (sym c.self.view_is i).log) ∙ c.in_ok-commit.ensures.fits in
+    let log : c.commit.new.self.log ≡ with_drafts old.site drafts old.log = c.in_ok-commit.ensures.log ∙ (λ i. with_drafts (c.self.view_is i).site (bodies i) (c.self.view_is i).log) in
     let tags : c.forget_all.new.tags.names ≡ edited.tags = c.forget_all.ensures ∙ ap (λ (f : Flat). all_forgotten names f.tags) c.self.view_is ∙ sym left.tags in
-    let made : seen c.make.new.self c.self.inside.marks c.forget_all.new.tags.names ≡ logged old drafts edited =
-    makes_seen old edited drafts makes c.make.new.self c.self.inside.marks c.forget_all.new.tags.names fit log c.in_ok-_made.ensures.cells (c.make.ensures.site ∙ ap (λ (f : Flat). f.site) c.self.view_is)
-    (c.make.ensures.limit ∙ ap (λ (f : Flat). f.limit) c.self.view_is) (ap (λ (f : Flat). f.marks) c.self.view_is ∙ sym left.marks) tags left.limit in
-    clock_fine (greatest_last_count c.make.new.self.log) (subst (λ n. n ≤ GREATEST_COUNT) (sym (ap (λ (f : Flat). f.count) made)) (fits old edited drafts makes fit))
+    let made : seen c.commit.new.self c.self.inside.marks c.forget_all.new.tags.names ≡ logged old drafts edited =
+    makes_seen old edited drafts makes c.commit.new.self c.self.inside.marks c.forget_all.new.tags.names fit log c.in_ok-commit.ensures.cells (c.commit.ensures.site ∙ ap (λ (f : Flat). f.site) c.self.view_is)
+    (c.commit.ensures.limit ∙ ap (λ (f : Flat). f.limit) c.self.view_is) (ap (λ (f : Flat). f.marks) c.self.view_is ∙ sym left.marks) tags left.limit in
+    clock_fine (greatest_last_count c.commit.new.self.log) (subst (λ n. n ≤ GREATEST_COUNT) (sym (ap (λ (f : Flat). f.count) made)) (fits old edited drafts makes fit))
 
 pub returns-clause-text : goal.returns-clause-text
 returns-clause-text g c =
@@ -141,10 +141,10 @@ returns-clause-text g c =
     let edited = without_tags old names in
     let makes = deleted_makes old names of in
     let left = left_of_deletion names old in
-    let fit : refusal_of old.limit drafts old.log ≡ None = (λ i. refusal_of (sym c.self.view_is i).limit (sym bodies i) (sym c.self.view_is i).log) ∙ c.in_ok-_made.ensures.fits in
-    let log : c.make.new.self.log ≡ with_drafts old.site drafts old.log = c.in_ok-_made.ensures.log ∙ (λ i. with_drafts (c.self.view_is i).site (bodies i) (c.self.view_is i).log) in
+    let fit : refusal_of old.limit drafts old.log ≡ None = (λ i. refusal_of (sym c.self.view_is i).limit (sym bodies i) (sym c.self.view_is i).log) ∙ c.in_ok-commit.ensures.fits in
+    let log : c.commit.new.self.log ≡ with_drafts old.site drafts old.log = c.in_ok-commit.ensures.log ∙ (λ i. with_drafts (c.self.view_is i).site (bodies i) (c.self.view_is i).log) in
     let tags : c.forget_all.new.tags.names ≡ edited.tags = c.forget_all.ensures ∙ ap (λ (f : Flat). all_forgotten names f.tags) c.self.view_is ∙ sym left.tags in
-    let made : seen c.make.new.self c.self.inside.marks c.forget_all.new.tags.names ≡ logged old drafts edited =
-    makes_seen old edited drafts makes c.make.new.self c.self.inside.marks c.forget_all.new.tags.names fit log c.in_ok-_made.ensures.cells (c.make.ensures.site ∙ ap (λ (f : Flat). f.site) c.self.view_is)
-    (c.make.ensures.limit ∙ ap (λ (f : Flat). f.limit) c.self.view_is) (ap (λ (f : Flat). f.marks) c.self.view_is ∙ sym left.marks) tags left.limit in
+    let made : seen c.commit.new.self c.self.inside.marks c.forget_all.new.tags.names ≡ logged old drafts edited =
+    makes_seen old edited drafts makes c.commit.new.self c.self.inside.marks c.forget_all.new.tags.names fit log c.in_ok-commit.ensures.cells (c.commit.ensures.site ∙ ap (λ (f : Flat). f.site) c.self.view_is)
+    (c.commit.ensures.limit ∙ ap (λ (f : Flat). f.limit) c.self.view_is) (ap (λ (f : Flat). f.marks) c.self.view_is ∙ sym left.marks) tags left.limit in
     ap (λ (f : Flat). text_of f.cells) made ∙ left.text

@@ -78,11 +78,6 @@ returns-in_err-plan g c =
       others = c.requires.others;
     })
 
--- the place in the text, as the code finds it
-at_is : (table : TagStates) (kept : List (Cell ℕ)) (flat : Flat) (own : Own) (others : List Own) (place : ℕ) (limits : Limits) (stretch : Stretch) → map (shown table) kept ≡ flat.cells → limits ≡ own.limits → stretch ≡ stretch_of kept limits
-    → stretch.begin + place ≡ in_text (viewed flat own others) place
-at_is table kept flat own others place limits stretch e l s = ap (λ (y : Stretch). y.begin + place) (s ∙ ap (stretch_of kept) l ∙ stretch_kept table kept flat.cells own.limits e)
-
 pub overflow_add-at : goal.overflow_add-at
 overflow_add-at g c =
     let flat = c.args.self.now in
@@ -92,8 +87,8 @@ overflow_add-at g c =
     let table = c.kept.result.1.now in
     let kept = g.S.TextStore.list c.kept.result.0.now in
     let is = place_is flat own others place c.kept.ensures.history c.kept.ensures.document c.kept.ensures.site c.requires.place in
-    visible_fits (c.stretch.result.begin + place) (in_text (viewed flat own others) place) (length (visible_of flat.cells)) (length (visible_of kept)) (length (text_of kept)) (length kept) flat.limit
-    (at_is table kept flat own others place c.limits.result c.stretch.result c.kept.ensures.cells c.limits.ensures c.stretch.ensures.value)
+    visible_fits (c.args.stretch.begin + place) (in_text (viewed flat own others) place) (length (visible_of flat.cells)) (length (visible_of kept)) (length (text_of kept)) (length kept) flat.limit
+    (ap (λ (y : Stretch). y.begin + place) c.requires.stretch)
     (at_visible flat own others place is) (visible_same table kept flat.cells c.kept.ensures.cells) (length_text kept) (text_within kept) c.kept.ensures.few c.kept.ensures.most
 
 pub make_planned-requires-clause-names : goal.make_planned-requires-clause-names
@@ -211,10 +206,10 @@ invariant_of-self-2 g c =
     let pieces = c.args.pieces.now in
     let rest = c.args.rest.now in
     let place = c.args.place in
-    let at = c.stretch.result.begin + place in
+    let at = c.args.stretch.begin + place in
     let point = in_text (viewed flat own others) place in
     let here : at ≡ point =
-    at_is c.kept.result.1.now (g.S.TextStore.list c.kept.result.0.now) flat own others place c.limits.result c.stretch.result c.kept.ensures.cells c.limits.ensures c.stretch.ensures.value in
+    ap (λ (y : Stretch). y.begin + place) c.requires.stretch in
     let is = place_is flat own others place c.kept.ensures.history c.kept.ensures.document c.kept.ensures.site c.requires.place in
     let drafts : map body_of c.replace-drafts.result.items ≡ made_drafts flat own others place pieces rest =
     ap (λ v. map body_of v.items) c.replace-drafts.ensures.value ∙ c.in_ok-plan.ensures.drafts others in
@@ -243,10 +238,10 @@ returns g c =
     let pieces = c.args.pieces.now in
     let rest = c.args.rest.now in
     let place = c.args.place in
-    let at = c.stretch.result.begin + place in
+    let at = c.args.stretch.begin + place in
     let point = in_text (viewed flat own others) place in
     let here : at ≡ point =
-    at_is c.kept.result.1.now (g.S.TextStore.list c.kept.result.0.now) flat own others place c.limits.result c.stretch.result c.kept.ensures.cells c.limits.ensures c.stretch.ensures.value in
+    ap (λ (y : Stretch). y.begin + place) c.requires.stretch in
     let is = place_is flat own others place c.kept.ensures.history c.kept.ensures.document c.kept.ensures.site c.requires.place in
     let drafts : map body_of c.replace-drafts.result.items ≡ made_drafts flat own others place pieces rest =
     ap (λ v. map body_of v.items) c.replace-drafts.ensures.value ∙ c.in_ok-plan.ensures.drafts others in

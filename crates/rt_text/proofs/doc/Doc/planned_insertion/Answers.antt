@@ -36,9 +36,9 @@ left_of-behind-requires g c =
       history = c.kept.ensures.history;
       document = c.kept.ensures.document;
       real = c.kept.ensures.site;
-      within = subst (λ n. place < n) (sym (length-map (shown_by (viewed flat own others)) (λ (cell : TaggedCell). cell.ch))) c.requires;
+      within = subst (λ n. place < n) (sym (length-map (shown_by (viewed flat own others)) (λ (cell : TaggedCell). cell.ch))) c.requires.place;
     } in
-    let same : c.stretch.result ≡ stretch_of flat.cells own.limits = c.stretch.ensures.value ∙ ap (stretch_of kept) c.limits.ensures ∙ stretch_kept table kept flat.cells own.limits c.kept.ensures.cells in
+    let same : c.args.stretch ≡ stretch_of flat.cells own.limits = c.requires.stretch in
     omega (arith, ap (λ (x : Stretch). x.begin + place) same, at_visible flat own others place is, visible_same table kept flat.cells c.kept.ensures.cells)
 
 pub shown_at-right-requires : goal.shown_at-right-requires
@@ -53,9 +53,9 @@ shown_at-right-requires g c =
       history = c.kept.ensures.history;
       document = c.kept.ensures.document;
       real = c.kept.ensures.site;
-      within = subst (λ n. place < n) (sym (length-map (shown_by (viewed flat own others)) (λ (cell : TaggedCell). cell.ch))) c.requires;
+      within = subst (λ n. place < n) (sym (length-map (shown_by (viewed flat own others)) (λ (cell : TaggedCell). cell.ch))) c.requires.place;
     } in
-    let same : c.stretch.result ≡ stretch_of flat.cells own.limits = c.stretch.ensures.value ∙ ap (stretch_of kept) c.limits.ensures ∙ stretch_kept table kept flat.cells own.limits c.kept.ensures.cells in
+    let same : c.args.stretch ≡ stretch_of flat.cells own.limits = c.requires.stretch in
     omega (arith, ap (λ (x : Stretch). x.begin + place) same, at_visible flat own others place is, visible_same table kept flat.cells c.kept.ensures.cells)
 
 pub overflow_add-at : goal.overflow_add-at
@@ -70,9 +70,9 @@ overflow_add-at g c =
       history = c.kept.ensures.history;
       document = c.kept.ensures.document;
       real = c.kept.ensures.site;
-      within = subst (λ n. place < n) (sym (length-map (shown_by (viewed flat own others)) (λ (cell : TaggedCell). cell.ch))) c.requires;
+      within = subst (λ n. place < n) (sym (length-map (shown_by (viewed flat own others)) (λ (cell : TaggedCell). cell.ch))) c.requires.place;
     } in
-    let same : c.stretch.result ≡ stretch_of flat.cells own.limits = c.stretch.ensures.value ∙ ap (stretch_of kept) c.limits.ensures ∙ stretch_kept table kept flat.cells own.limits c.kept.ensures.cells in
+    let same : c.args.stretch ≡ stretch_of flat.cells own.limits = c.requires.stretch in
     omega (arith, ap (λ (x : Stretch). x.begin + place) same, at_visible flat own others place is, visible_same table kept flat.cells c.kept.ensures.cells, text_within kept, length_text kept, c.kept.ensures.few, c.kept.ensures.most)
 
 pub planned_between-requires-clause-left : goal.planned_between-requires-clause-left
@@ -81,13 +81,13 @@ planned_between-requires-clause-left g c =
     let kept = g.S.TextStore.list c.kept.result.0.now in
     let P : Cell _ → Type 0 = λ cell. IsState table cell.state in
     given_not P (nat_eq c.args.place 0) c.left_of-behind.result c.shown_before-left.result c.shown_before-left.ensures
-    (subst (λ o. IfSome o P) (sym c.left_of-behind.ensures) (left_given table kept (c.stretch.result.begin + c.args.place) c.kept.ensures.states))
+    (subst (λ o. IfSome o P) (sym c.left_of-behind.ensures) (left_given table kept (c.args.stretch.begin + c.args.place) c.kept.ensures.states))
 
 pub planned_between-requires-clause-right : goal.planned_between-requires-clause-right
 planned_between-requires-clause-right g c =
     let table = c.kept.result.1.now in
     let kept = g.S.TextStore.list c.kept.result.0.now in
-    let at = c.stretch.result.begin + c.args.place in
+    let at = c.args.stretch.begin + c.args.place in
     given_if (λ cell. IsState table cell.state) _ (slice_get (visible_of kept) at) c.shown_at-right.result c.shown_at-right.ensures (left_given table kept (suc at) c.kept.ensures.states)
 
 pub planned_between-requires-clause-after : goal.planned_between-requires-clause-after
@@ -113,7 +113,7 @@ returns-clause-drafts g c =
     let place = c.args.place in
     let left = option_map (shown table) c.shown_before-left.result in
     let right = option_map (shown table) c.shown_at-right.result in
-    let at = c.stretch.result.begin + place in
+    let at = c.args.stretch.begin + place in
     let stamps_now = selected_stamps c.widget.inside.parts.selection in
     let any = any_some c.shown_at-right.result (stamps_now ≡ stamps_now) refl in
     IfOk-weaker c.planned_between.result _ _
@@ -122,10 +122,10 @@ returns-clause-drafts g c =
       history = c.kept.ensures.history;
       document = c.kept.ensures.document;
       real = c.kept.ensures.site;
-      within = subst (λ n. place < n) (sym (length-map (shown_by (viewed flat own others)) (λ (cell : TaggedCell). cell.ch))) c.requires;
+      within = subst (λ n. place < n) (sym (length-map (shown_by (viewed flat own others)) (λ (cell : TaggedCell). cell.ch))) c.requires.place;
     } in
-    let f = found table kept flat own others place pieces c.limits-2.result c.stretch.result c.left_of-behind.result c.shown_before-left.result c.shown_at-right.result c.stamp_or_root-after.result c.kept.ensures.cells is
-    c.limits-2.ensures (c.stretch.ensures.value ∙ ap (stretch_of kept) (c.limits.ensures ∙ sym c.limits-2.ensures)) c.left_of-behind.ensures c.shown_before-left.ensures c.shown_at-right.ensures c.stamp_or_root-after.ensures in
+    let f = found table kept flat own others place pieces c.limits.result c.args.stretch c.left_of-behind.result c.shown_before-left.result c.shown_at-right.result c.stamp_or_root-after.result c.kept.ensures.cells is
+    c.limits.ensures (c.requires.stretch ∙ sym (stretch_kept table kept flat.cells own.limits c.kept.ensures.cells) ∙ ap (stretch_of kept) (sym c.limits.ensures)) c.left_of-behind.ensures c.shown_before-left.ensures c.shown_at-right.ensures c.stamp_or_root-after.ensures in
     drafts_are flat own others place pieces rest c.site-site.result.number c.seen-count.result stamps_now at c.stamp_or_root-after.result left right site count sel f (map body_of plan.drafts.items)
     (h stamps_now (selections_of others) flat.tags any))
     c.planned_between.ensures.drafts
@@ -144,7 +144,7 @@ returns-clause-plans g c =
     let place = c.args.place in
     let left = option_map (shown table) c.shown_before-left.result in
     let right = option_map (shown table) c.shown_at-right.result in
-    let at = c.stretch.result.begin + place in
+    let at = c.args.stretch.begin + place in
     let stamps_now = selected_stamps c.widget.inside.parts.selection in
     let any = any_some c.shown_at-right.result (stamps_now ≡ stamps_now) refl in
     IfOk-weaker c.planned_between.result _ _
@@ -153,10 +153,10 @@ returns-clause-plans g c =
       history = c.kept.ensures.history;
       document = c.kept.ensures.document;
       real = c.kept.ensures.site;
-      within = subst (λ n. place < n) (sym (length-map (shown_by (viewed flat own others)) (λ (cell : TaggedCell). cell.ch))) c.requires;
+      within = subst (λ n. place < n) (sym (length-map (shown_by (viewed flat own others)) (λ (cell : TaggedCell). cell.ch))) c.requires.place;
     } in
-    let f = found table kept flat own others place pieces c.limits-2.result c.stretch.result c.left_of-behind.result c.shown_before-left.result c.shown_at-right.result c.stamp_or_root-after.result c.kept.ensures.cells is
-    c.limits-2.ensures (c.stretch.ensures.value ∙ ap (stretch_of kept) (c.limits.ensures ∙ sym c.limits-2.ensures)) c.left_of-behind.ensures c.shown_before-left.ensures c.shown_at-right.ensures c.stamp_or_root-after.ensures in
+    let f = found table kept flat own others place pieces c.limits.result c.args.stretch c.left_of-behind.result c.shown_before-left.result c.shown_at-right.result c.stamp_or_root-after.result c.kept.ensures.cells is
+    c.limits.ensures (c.requires.stretch ∙ sym (stretch_kept table kept flat.cells own.limits c.kept.ensures.cells) ∙ ap (stretch_of kept) (sym c.limits.ensures)) c.left_of-behind.ensures c.shown_before-left.ensures c.shown_at-right.ensures c.stamp_or_root-after.ensures in
     plans_are flat own others place pieces rest c.site-site.result.number c.seen-count.result stamps_now at c.stamp_or_root-after.result left right site count sel f plan
     (h stamps_now (selections_of others) flat.tags any))
     c.planned_between.ensures.plans
@@ -175,7 +175,7 @@ returns-clause-err g c =
     let place = c.args.place in
     let left = option_map (shown table) c.shown_before-left.result in
     let right = option_map (shown table) c.shown_at-right.result in
-    let at = c.stretch.result.begin + place in
+    let at = c.args.stretch.begin + place in
     let stamps_now = selected_stamps c.widget.inside.parts.selection in
     let any = any_some c.shown_at-right.result (stamps_now ≡ stamps_now) refl in
     IfErr-weaker c.planned_between.result _ _
@@ -186,10 +186,10 @@ returns-clause-err g c =
             history = c.kept.ensures.history;
             document = c.kept.ensures.document;
             real = c.kept.ensures.site;
-            within = subst (λ n. place < n) (sym (length-map (shown_by (viewed flat own others)) (λ (cell : TaggedCell). cell.ch))) c.requires;
+            within = subst (λ n. place < n) (sym (length-map (shown_by (viewed flat own others)) (λ (cell : TaggedCell). cell.ch))) c.requires.place;
           } in
-          let f = found table kept flat own others place pieces c.limits-2.result c.stretch.result c.left_of-behind.result c.shown_before-left.result c.shown_at-right.result c.stamp_or_root-after.result c.kept.ensures.cells is
-          c.limits-2.ensures (c.stretch.ensures.value ∙ ap (stretch_of kept) (c.limits.ensures ∙ sym c.limits-2.ensures)) c.left_of-behind.ensures c.shown_before-left.ensures c.shown_at-right.ensures c.stamp_or_root-after.ensures in
+          let f = found table kept flat own others place pieces c.limits.result c.args.stretch c.left_of-behind.result c.shown_before-left.result c.shown_at-right.result c.stamp_or_root-after.result c.kept.ensures.cells is
+          c.limits.ensures (c.requires.stretch ∙ sym (stretch_kept table kept flat.cells own.limits c.kept.ensures.cells) ∙ ap (stretch_of kept) (sym c.limits.ensures)) c.left_of-behind.ensures c.shown_before-left.ensures c.shown_at-right.ensures c.stamp_or_root-after.ensures in
           subst (λ (x : Insertion). GREATEST_COUNT < x.count)
           (new_is flat own others place pieces rest c.site-site.result.number c.seen-count.result stamps_now at c.stamp_or_root-after.result left right site count sel f)
           (q.1 stamps_now (selections_of others) flat.tags any),

@@ -84,8 +84,8 @@ pub prepare_tags-requires : goal.prepare_tags-requires
 prepare_tags-requires g c =
     subst (All (λ w. IsName (string_bytes w))) (sym c.deref.ensures.value) (names_planned c.in_ok-plan.plan c.in_ok-plan.ensures.names)
 
-pub make-requires : goal.make-requires
-make-requires g c =
+pub commit-requires : goal.commit-requires
+commit-requires g c =
     let flat = c.args.self.now in
     let group = named_group c.args.kept.now (group_of c.args.group.now) in
     let states = c.kept.result.1.now in
@@ -135,12 +135,12 @@ returns-in_err-prepare_tags g c =
       others = subst (λ (f : Flat). AllByRecursion (IsOwnOf (length (text_of f.cells))) (map own_in c.args.others.now)) (sym doc) c.requires.others;
     })
 
-pub invariant_of-self-in_err-_made : goal.invariant_of-self-in_err-_made
-invariant_of-self-in_err-_made g c =
-    subst (λ (p : _). p) (λ k. IsDoc (sym c.in_err-_made.ensures.same k).cells c.self.inside.marks (sym c.prepare_tags.ensures.names k)) c.self.invariant
+pub invariant_of-self-in_err-commit : goal.invariant_of-self-in_err-commit
+invariant_of-self-in_err-commit g c =
+    subst (λ (p : _). p) (λ k. IsDoc (sym c.in_err-commit.ensures.same k).cells c.self.inside.marks (sym c.prepare_tags.ensures.names k)) c.self.invariant
 
-pub returns-in_err-_made : goal.returns-in_err-_made
-returns-in_err-_made g c =
+pub returns-in_err-commit : goal.returns-in_err-commit
+returns-in_err-commit g c =
     let flat = c.args.self.now in
     let group = named_group c.args.kept.now (group_of c.args.group.now) in
     let states = c.kept.result.1.now in
@@ -165,9 +165,9 @@ returns-in_err-_made g c =
     let i = reverts states table store number many flat group plan p in
     let same : refusal_of c.self.inside.replica.limit (map body_of plan.drafts.items) c.self.inside.replica.log ≡ reversion_check flat group =
     (λ k. refusal_of (c.self.view_is k).limit (plans.drafts k) (c.self.view_is k).log) ∙ all_refused flat group i in
-    let (y, is, gives) = err_from_is_err_and c.from_residual-in_err-_made.result c.from_residual-in_err-_made.ensures.1 in
-    let doc : seen c.make.new.self c.self.inside.marks c.prepare_tags.new.table.names ≡ flat =
-    (λ k. seen (c.in_err-_made.ensures.same k) c.self.inside.marks (c.prepare_tags.ensures.names k)) ∙ c.self.view_is in
+    let (y, is, gives) = err_from_is_err_and c.from_residual-in_err-commit.result c.from_residual-in_err-commit.ensures.1 in
+    let doc : seen c.commit.new.self c.self.inside.marks c.prepare_tags.new.table.names ≡ flat =
+    (λ k. seen (c.in_err-commit.ensures.same k) c.self.inside.marks (c.prepare_tags.ensures.names k)) ∙ c.self.view_is in
     rw (is, gives) (record {
       doc = tt;
       widget = tt;
@@ -178,7 +178,7 @@ returns-in_err-_made g c =
       given = tt;
       sound = tt;
       ids = c.planned_reversion_in.ensures.ids;
-      err = which c.in_err-_made.ensures.refused same;
+      err = which c.in_err-commit.ensures.refused same;
       unchanged = (doc, refl, refl);
       own = subst (λ (f : Flat). IsOwnOf (length (text_of f.cells)) c.args.widget.now) (sym doc) c.requires.own;
       others = subst (λ (f : Flat). AllByRecursion (IsOwnOf (length (text_of f.cells))) (map own_in c.args.others.now)) (sym doc) c.requires.others;
@@ -233,9 +233,9 @@ invariant_of-self-2 g c =
     let plans = planned states table store number many flat group plan p in
     let i = reverts states table store number many flat group plan p in
     let left = (reversion flat group).doc in
-    let doc : seen c.make.new.self left.marks left.tags ≡ reverted flat group =
-    left_seen flat group i c.make.new.self (c.in_ok-_made.ensures.log ∙ (λ k. with_drafts (c.self.view_is k).site (plans.drafts k) (c.self.view_is k).log)) c.in_ok-_made.ensures.cells
-    (c.make.ensures.site ∙ ap (λ (f : Flat). f.site) c.self.view_is) (c.make.ensures.limit ∙ ap (λ (f : Flat). f.limit) c.self.view_is) in
+    let doc : seen c.commit.new.self left.marks left.tags ≡ reverted flat group =
+    left_seen flat group i c.commit.new.self (c.in_ok-commit.ensures.log ∙ (λ k. with_drafts (c.self.view_is k).site (plans.drafts k) (c.self.view_is k).log)) c.in_ok-commit.ensures.cells
+    (c.commit.ensures.site ∙ ap (λ (f : Flat). f.site) c.self.view_is) (c.commit.ensures.limit ∙ ap (λ (f : Flat). f.limit) c.self.view_is) in
     let marks : c.revert_all.new.marks ≡ left.marks = c.revert_all.ensures.marks ∙ (λ k. marks_after (c.deref-2.ensures.value k) (c.self.view_is k).marks) ∙ plans.marks in
     let tags : c.list_tags.new.table.names ≡ left.tags =
     c.list_tags.ensures ∙ (λ k. all_listed (map (λ w. string_bytes w) (c.deref-4.ensures.value k)) (c.prepare_tags.ensures.names k)) ∙ ap (λ (f : Flat). all_listed (map (λ w. string_bytes w) plan.names.items) f.tags) c.self.view_is ∙ plans.tags in
@@ -267,9 +267,9 @@ returns g c =
     let plans = planned states table store number many flat group plan p in
     let i = reverts states table store number many flat group plan p in
     let left = (reversion flat group).doc in
-    let doc : seen c.make.new.self left.marks left.tags ≡ reverted flat group =
-    left_seen flat group i c.make.new.self (c.in_ok-_made.ensures.log ∙ (λ k. with_drafts (c.self.view_is k).site (plans.drafts k) (c.self.view_is k).log)) c.in_ok-_made.ensures.cells
-    (c.make.ensures.site ∙ ap (λ (f : Flat). f.site) c.self.view_is) (c.make.ensures.limit ∙ ap (λ (f : Flat). f.limit) c.self.view_is) in
+    let doc : seen c.commit.new.self left.marks left.tags ≡ reverted flat group =
+    left_seen flat group i c.commit.new.self (c.in_ok-commit.ensures.log ∙ (λ k. with_drafts (c.self.view_is k).site (plans.drafts k) (c.self.view_is k).log)) c.in_ok-commit.ensures.cells
+    (c.commit.ensures.site ∙ ap (λ (f : Flat). f.site) c.self.view_is) (c.commit.ensures.limit ∙ ap (λ (f : Flat). f.limit) c.self.view_is) in
     let marks : c.revert_all.new.marks ≡ left.marks = c.revert_all.ensures.marks ∙ (λ k. marks_after (c.deref-2.ensures.value k) (c.self.view_is k).marks) ∙ plans.marks in
     let tags : c.list_tags.new.table.names ≡ left.tags =
     c.list_tags.ensures ∙ (λ k. all_listed (map (λ w. string_bytes w) (c.deref-4.ensures.value k)) (c.prepare_tags.ensures.names k)) ∙ ap (λ (f : Flat). all_listed (map (λ w. string_bytes w) plan.names.items) f.tags) c.self.view_is ∙ plans.tags in
@@ -280,10 +280,10 @@ returns g c =
     let others_moved : map own_in c.revert_all.new.others ≡ map (own_reverted flat group) others =
     c.revert_all.ensures.others ∙ (λ k. map (λ own. own_renamed (c.deref-3.ensures.value k) (own_after (c.deref-2.ensures.value k) own)) others) ∙ (λ k. map (λ own. own_moved states table store number many flat group plan p own k) others) in
     record {
-      doc = (λ k. seen c.make.new.self (marks k) (tags k)) ∙ doc;
+      doc = (λ k. seen c.commit.new.self (marks k) (tags k)) ∙ doc;
       widget = own_moved_is;
       peers = others_moved;
-      checked = sym (all_refused flat group i) ∙ sym (λ k. refusal_of (c.self.view_is k).limit (plans.drafts k) (c.self.view_is k).log) ∙ c.in_ok-_made.ensures.fits;
+      checked = sym (all_refused flat group i) ∙ sym (λ k. refusal_of (c.self.view_is k).limit (plans.drafts k) (c.self.view_is k).log) ∙ c.in_ok-commit.ensures.fits;
       returns = plans.returns;
       actions = plans.actions;
       given = c.in_ok-plan.ensures.given;

@@ -37,8 +37,8 @@ pub planned_tag-requires-clause-within : goal.planned_tag-requires-clause-within
 planned_tag-requires-clause-within g c =
     subst (λ n. All (λ (range : Range). range.to ≤ n) c.args.ranges.now) (as_visible c.kept.result.1.now (g.S.TextStore.list c.kept.result.0.now) c.args.self.now c.kept.ensures.cells) c.requires.within
 
-pub make-requires : goal.make-requires
-make-requires g c =
+pub commit-requires : goal.commit-requires
+commit-requires g c =
     let old = c.args.self.now in
     let places = is_covered c.args.ranges.now in
     let drafts = tag_drafts_at MOST_SPANS places c.args.on c.args.name.now old.cells in
@@ -62,12 +62,12 @@ returns-in_err-prepare_if g c =
     let doc = ap (seen c.self.inside.replica c.self.inside.marks) c.prepare_if.ensures.names ∙ c.self.view_is in
     rw (is, gives) (record { ok = tt; within = tt; err = inl c.in_err-prepare_if.ensures.err; unchanged = doc })
 
-pub invariant_of-self-in_err-_made : goal.invariant_of-self-in_err-_made
-invariant_of-self-in_err-_made g c =
-    subst (λ (p : _). p) (λ k. IsDoc (sym c.in_err-_made.ensures.same k).cells c.self.inside.marks (sym c.prepare_if.ensures.names k)) c.self.invariant
+pub invariant_of-self-in_err-commit : goal.invariant_of-self-in_err-commit
+invariant_of-self-in_err-commit g c =
+    subst (λ (p : _). p) (λ k. IsDoc (sym c.in_err-commit.ensures.same k).cells c.self.inside.marks (sym c.prepare_if.ensures.names k)) c.self.invariant
 
-pub returns-in_err-_made : goal.returns-in_err-_made
-returns-in_err-_made g c =
+pub returns-in_err-commit : goal.returns-in_err-commit
+returns-in_err-commit g c =
     let old = c.args.self.now in
     let on = c.args.on in
     let name = c.args.name.now in
@@ -79,15 +79,15 @@ returns-in_err-_made g c =
     let makes = tagged_makes old places on name of (name_is name c.utf8.name c.requires.name c.requires.shared) in
     let same : refusal_of c.self.inside.replica.limit (map body_of c.in_ok-drafts.drafts.items) c.self.inside.replica.log ≡ refusal_of old.limit drafts old.log =
     (λ i. refusal_of (c.self.view_is i).limit (bodies i) (c.self.view_is i).log) in
-    let (y, is, gives) = err_from_is_err_and c.from_residual-in_err-_made.result c.from_residual-in_err-_made.ensures.1 in
-    let doc : seen c.make.new.self c.self.inside.marks c.prepare_if.new.tags.names ≡ old =
-    (λ k. seen (c.in_err-_made.ensures.same k) c.self.inside.marks (c.prepare_if.ensures.names k)) ∙ c.self.view_is in
+    let (y, is, gives) = err_from_is_err_and c.from_residual-in_err-commit.result c.from_residual-in_err-commit.ensures.1 in
+    let doc : seen c.commit.new.self c.self.inside.marks c.prepare_if.new.tags.names ≡ old =
+    (λ k. seen (c.in_err-commit.ensures.same k) c.self.inside.marks (c.prepare_if.ensures.names k)) ∙ c.self.view_is in
     rw (is, gives) (record {
       ok = tt;
       within = tt;
-      err = elim (refuses old edited drafts makes c.in_err-_made.field-0.0 (subst (λ o. (o ≡ Some c.in_err-_made.field-0.0) ⊎ ((c.in_err-_made.field-0.0 ≡ NoMemory) × (o ≡ None))) same c.in_err-_made.ensures.refused)) [
+      err = elim (refuses old edited drafts makes c.in_err-commit.field-0.0 (subst (λ o. (o ≡ Some c.in_err-commit.field-0.0) ⊎ ((c.in_err-commit.field-0.0 ≡ NoMemory) × (o ≡ None))) same c.in_err-commit.ensures.refused)) [
         | inl e ↦ inl e
-        | inr e ↦ inr (clock_passed edited.count c.in_err-_made.field-0.0 e)
+        | inr e ↦ inr (clock_passed edited.count c.in_err-commit.field-0.0 e)
       ];
       unchanged = doc;
     })
@@ -103,12 +103,12 @@ invariant_of-self-2 g c =
     let of = of_site c.kept.result.1.now (g.S.TextStore.list c.kept.result.0.now) old c.kept.ensures.history c.kept.ensures.document c.kept.ensures.site c.kept.ensures.cells c.kept.ensures.few in
     let edited = tagged_at old places on name in
     let makes = tagged_makes old places on name of (name_is name c.utf8.name c.requires.name c.requires.shared) in
-    let fit : refusal_of old.limit drafts old.log ≡ None = (λ i. refusal_of (sym c.self.view_is i).limit (sym bodies i) (sym c.self.view_is i).log) ∙ c.in_ok-_made.ensures.fits in
-    let log : c.make.new.self.log ≡ with_drafts old.site drafts old.log = c.in_ok-_made.ensures.log ∙ (λ i. with_drafts (c.self.view_is i).site (bodies i) (c.self.view_is i).log) in
+    let fit : refusal_of old.limit drafts old.log ≡ None = (λ i. refusal_of (sym c.self.view_is i).limit (sym bodies i) (sym c.self.view_is i).log) ∙ c.in_ok-commit.ensures.fits in
+    let log : c.commit.new.self.log ≡ with_drafts old.site drafts old.log = c.in_ok-commit.ensures.log ∙ (λ i. with_drafts (c.self.view_is i).site (bodies i) (c.self.view_is i).log) in
     let tags : c.list_if.new.tags.names ≡ edited.tags = c.list_if.ensures ∙ ap (λ l. cond on (with_name name l) l) (c.prepare_if.ensures.names ∙ ap (λ (f : Flat). f.tags) c.self.view_is) in
-    let made : seen c.make.new.self c.self.inside.marks c.list_if.new.tags.names ≡ logged old drafts edited =
-    makes_seen old edited drafts makes c.make.new.self c.self.inside.marks c.list_if.new.tags.names fit log c.in_ok-_made.ensures.cells (c.make.ensures.site ∙ ap (λ (f : Flat). f.site) c.self.view_is)
-    (c.make.ensures.limit ∙ ap (λ (f : Flat). f.limit) c.self.view_is) (ap (λ (f : Flat). f.marks) c.self.view_is) tags refl in
+    let made : seen c.commit.new.self c.self.inside.marks c.list_if.new.tags.names ≡ logged old drafts edited =
+    makes_seen old edited drafts makes c.commit.new.self c.self.inside.marks c.list_if.new.tags.names fit log c.in_ok-commit.ensures.cells (c.commit.ensures.site ∙ ap (λ (f : Flat). f.site) c.self.view_is)
+    (c.commit.ensures.limit ∙ ap (λ (f : Flat). f.limit) c.self.view_is) (ap (λ (f : Flat). f.marks) c.self.view_is) tags refl in
     let final : listed_if on name (with_tag_at old places on name) ≡ edited = listed_as on name old edited.cells edited.count in
     let listed : AreListed edited.tags edited.cells = written_stays on name old edited places c.requires.name c.requires.shared (subst (λ (f : Flat). AreListed f.tags f.cells) c.self.view_is c.self.invariant.listed) final in
     subst (λ (f : Flat). IsDoc f.cells c.self.inside.marks f.tags) (sym made)
@@ -125,12 +125,12 @@ returns-clause-ok g c =
     let of = of_site c.kept.result.1.now (g.S.TextStore.list c.kept.result.0.now) old c.kept.ensures.history c.kept.ensures.document c.kept.ensures.site c.kept.ensures.cells c.kept.ensures.few in
     let edited = tagged_at old places on name in
     let makes = tagged_makes old places on name of (name_is name c.utf8.name c.requires.name c.requires.shared) in
-    let fit : refusal_of old.limit drafts old.log ≡ None = (λ i. refusal_of (sym c.self.view_is i).limit (sym bodies i) (sym c.self.view_is i).log) ∙ c.in_ok-_made.ensures.fits in
-    let log : c.make.new.self.log ≡ with_drafts old.site drafts old.log = c.in_ok-_made.ensures.log ∙ (λ i. with_drafts (c.self.view_is i).site (bodies i) (c.self.view_is i).log) in
+    let fit : refusal_of old.limit drafts old.log ≡ None = (λ i. refusal_of (sym c.self.view_is i).limit (sym bodies i) (sym c.self.view_is i).log) ∙ c.in_ok-commit.ensures.fits in
+    let log : c.commit.new.self.log ≡ with_drafts old.site drafts old.log = c.in_ok-commit.ensures.log ∙ (λ i. with_drafts (c.self.view_is i).site (bodies i) (c.self.view_is i).log) in
     let tags : c.list_if.new.tags.names ≡ edited.tags = c.list_if.ensures ∙ ap (λ l. cond on (with_name name l) l) (c.prepare_if.ensures.names ∙ ap (λ (f : Flat). f.tags) c.self.view_is) in
-    let made : seen c.make.new.self c.self.inside.marks c.list_if.new.tags.names ≡ logged old drafts edited =
-    makes_seen old edited drafts makes c.make.new.self c.self.inside.marks c.list_if.new.tags.names fit log c.in_ok-_made.ensures.cells (c.make.ensures.site ∙ ap (λ (f : Flat). f.site) c.self.view_is)
-    (c.make.ensures.limit ∙ ap (λ (f : Flat). f.limit) c.self.view_is) (ap (λ (f : Flat). f.marks) c.self.view_is) tags refl in
+    let made : seen c.commit.new.self c.self.inside.marks c.list_if.new.tags.names ≡ logged old drafts edited =
+    makes_seen old edited drafts makes c.commit.new.self c.self.inside.marks c.list_if.new.tags.names fit log c.in_ok-commit.ensures.cells (c.commit.ensures.site ∙ ap (λ (f : Flat). f.site) c.self.view_is)
+    (c.commit.ensures.limit ∙ ap (λ (f : Flat). f.limit) c.self.view_is) (ap (λ (f : Flat). f.marks) c.self.view_is) tags refl in
     made ∙ ap (logged old drafts) (sym (listed_as on name old edited.cells edited.count))
 
 pub returns-clause-within : goal.returns-clause-within
@@ -144,10 +144,10 @@ returns-clause-within g c =
     let of = of_site c.kept.result.1.now (g.S.TextStore.list c.kept.result.0.now) old c.kept.ensures.history c.kept.ensures.document c.kept.ensures.site c.kept.ensures.cells c.kept.ensures.few in
     let edited = tagged_at old places on name in
     let makes = tagged_makes old places on name of (name_is name c.utf8.name c.requires.name c.requires.shared) in
-    let fit : refusal_of old.limit drafts old.log ≡ None = (λ i. refusal_of (sym c.self.view_is i).limit (sym bodies i) (sym c.self.view_is i).log) ∙ c.in_ok-_made.ensures.fits in
-    let log : c.make.new.self.log ≡ with_drafts old.site drafts old.log = c.in_ok-_made.ensures.log ∙ (λ i. with_drafts (c.self.view_is i).site (bodies i) (c.self.view_is i).log) in
+    let fit : refusal_of old.limit drafts old.log ≡ None = (λ i. refusal_of (sym c.self.view_is i).limit (sym bodies i) (sym c.self.view_is i).log) ∙ c.in_ok-commit.ensures.fits in
+    let log : c.commit.new.self.log ≡ with_drafts old.site drafts old.log = c.in_ok-commit.ensures.log ∙ (λ i. with_drafts (c.self.view_is i).site (bodies i) (c.self.view_is i).log) in
     let tags : c.list_if.new.tags.names ≡ edited.tags = c.list_if.ensures ∙ ap (λ l. cond on (with_name name l) l) (c.prepare_if.ensures.names ∙ ap (λ (f : Flat). f.tags) c.self.view_is) in
-    let made : seen c.make.new.self c.self.inside.marks c.list_if.new.tags.names ≡ logged old drafts edited =
-    makes_seen old edited drafts makes c.make.new.self c.self.inside.marks c.list_if.new.tags.names fit log c.in_ok-_made.ensures.cells (c.make.ensures.site ∙ ap (λ (f : Flat). f.site) c.self.view_is)
-    (c.make.ensures.limit ∙ ap (λ (f : Flat). f.limit) c.self.view_is) (ap (λ (f : Flat). f.marks) c.self.view_is) tags refl in
+    let made : seen c.commit.new.self c.self.inside.marks c.list_if.new.tags.names ≡ logged old drafts edited =
+    makes_seen old edited drafts makes c.commit.new.self c.self.inside.marks c.list_if.new.tags.names fit log c.in_ok-commit.ensures.cells (c.commit.ensures.site ∙ ap (λ (f : Flat). f.site) c.self.view_is)
+    (c.commit.ensures.limit ∙ ap (λ (f : Flat). f.limit) c.self.view_is) (ap (λ (f : Flat). f.marks) c.self.view_is) tags refl in
     subst (λ n. n ≤ GREATEST_COUNT) (sym (ap (λ (f : Flat). f.count) made)) (fits old edited drafts makes fit)

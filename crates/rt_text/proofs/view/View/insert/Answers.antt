@@ -11,7 +11,7 @@ use Rattle.rt_store.specs.Cells.{text_of}
 use Rattle.rt_text.specs.Parts.{own_in}
 use Rattle.rt_text.specs.Commands.{with_pieces_at}
 use Rattle.rt_store.specs.Shown.{TaggedCell}
-use Rattle.rt_text.specs.Widgets.{IsOwnOf, Viewed, length_shown, shown_by}
+use Rattle.rt_text.specs.Widgets.{IsOwnOf, Viewed, length_shown, shown_by, stretch_by}
 use Rattle.rt_text.proofs.LimitedTags.{shown_size}
 use Rattle.rt_text.proofs.PutLaws.{all_refused, both_done, done_by, either, late_checks, refused_index, refused_name}
 use Rattle.rt_text.proofs.ViewLaws.{viewed}
@@ -38,10 +38,10 @@ returns-in_err-place g c =
 pub insert_at-requires-clause-place : goal.insert_at-requires-clause-place
 insert_at-requires-clause-place g c =
     let view = c.args.self.now in
-    let stretch = c.stretch-stretch.result in
-    let size = shown_size view stretch c.stretch-stretch.ensures.value c.stretch-stretch.ensures.within in
+    let stretch = c.in_ok-place.stretch in
+    let size = shown_size view stretch c.in_ok-place.ensures.stretch c.in_ok-place.ensures.within in
     subst (λ (v : Viewed). c.min-place.result < length (shown_by v)) (sym c.self.view_is)
-    (omega (arith, size, length-map (shown_by view) (λ (cell : TaggedCell). cell.ch), c.min-place.ensures, c.stretch-stretch.ensures.some))
+    (omega (arith, size, length-map (shown_by view) (λ (cell : TaggedCell). cell.ch), c.min-place.ensures, c.in_ok-place.ensures.some))
 
 pub insert_at-requires-clause-others : goal.insert_at-requires-clause-others
 insert_at-requires-clause-others g c =
@@ -57,7 +57,7 @@ returns-clause-ok g c =
     ap (λ l. viewed c.self.inside.doc c.self.inside.widget (map own_in l)) c.deref_mut.ensures.value ∙ c.self.view_is in
     let at = c.min-place.result in
     let place : at ≡ min c.in_ok-place.place (length_shown view - 1) =
-    c.min-place.ensures ∙ ap (λ n. min c.in_ok-place.place (n - 1)) (shown_size view c.stretch-stretch.result c.stretch-stretch.ensures.value c.stretch-stretch.ensures.within) in
+    c.min-place.ensures ∙ ap (λ n. min c.in_ok-place.place (n - 1)) (shown_size view c.in_ok-place.stretch c.in_ok-place.ensures.stretch c.in_ok-place.ensures.within) in
     let back : (with_items c.self.inside.others c.insert_at.new.others).items ≡ c.insert_at.new.others = with_items_is c.self.inside.others c.insert_at.new.others (omega (arith, c.insert_at.auto.others, c.deref_mut.ensures.len)) in
     let edited : Viewed = viewed c.insert_at.new.self c.insert_at.new.widget (map own_in (with_items c.self.inside.others c.insert_at.new.others).items) in
     both_done c.insert_at.result
@@ -76,7 +76,7 @@ returns-clause-err g c =
     ap (λ l. viewed c.self.inside.doc c.self.inside.widget (map own_in l)) c.deref_mut.ensures.value ∙ c.self.view_is in
     let at = c.min-place.result in
     let place : at ≡ min c.in_ok-place.place (length_shown view - 1) =
-    c.min-place.ensures ∙ ap (λ n. min c.in_ok-place.place (n - 1)) (shown_size view c.stretch-stretch.result c.stretch-stretch.ensures.value c.stretch-stretch.ensures.within) in
+    c.min-place.ensures ∙ ap (λ n. min c.in_ok-place.place (n - 1)) (shown_size view c.in_ok-place.stretch c.in_ok-place.ensures.stretch c.in_ok-place.ensures.within) in
     all_refused view index pieces rest c.in_ok-place.place at c.insert_at.result c.in_ok-check_names.ensures.ok c.in_ok-place.ensures.ok place
     (subst (λ (v : Viewed). IfErr c.insert_at.result (λ fault. (fault ≡ NoMemory) ⊎ (first_of (late_checks v.doc (with_pieces_at v at pieces rest)) ≡ Some fault))) same c.insert_at.ensures.err)
 
@@ -101,3 +101,6 @@ insert_at-requires-clause-own g c = c.self.invariant.0
 
 pub insert_at-requires-clause-pieces : goal.insert_at-requires-clause-pieces
 insert_at-requires-clause-pieces g c = c.in_ok-check_names.ensures.pieces
+
+pub insert_at-requires-clause-stretch : goal.insert_at-requires-clause-stretch
+insert_at-requires-clause-stretch g c = c.in_ok-place.ensures.stretch ∙ sym (ap stretch_by c.self.view_is)
