@@ -68,6 +68,7 @@ mod Collecting
 mod Telling
 mod Besides
 mod Replacing
+mod Holding
 mod Regrowing
 mod Parting
 mod Told

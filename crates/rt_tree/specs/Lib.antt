@@ -3,6 +3,7 @@ pub mod Sums
 pub mod Tallies
 pub mod Shape
 pub mod Walks
+pub mod Holds
 pub mod Stretches
 pub mod Sharing
 pub mod Additions

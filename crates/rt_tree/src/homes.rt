@@ -6,6 +6,7 @@ ghost use Rattle.rt_tree.specs.declared.node.Entry.TheVariants.{Here};
 ghost use Rattle.rt_tree.specs.declared.node.Run.{Run};
 ghost use Rattle.rt_spans.specs.Shown.{value_of};
 ghost use Rattle.rt_tree.specs.Homes.{AreHome, AreUnknown, IsPlaced, IsSpanOf, IsUnknown, KeepsAll};
+ghost use Rattle.rt_tree.specs.Holds.{Holds};
 ghost use Rattle.rt_tree.specs.Runs.{IsRun, has, run_cells};
 ghost use Rattle.rt_tree.specs.Shape.{IsTree, level_of, tree_runs};
 ghost use Rattle.rt_tree.specs.Sums.{AreFew, counts_of};
@@ -17,6 +18,7 @@ use crate::looks::Counted;
 use crate::node::{Counts, Entry, Mem, Run};
 use crate::settle::level_of;
 use crate::up::ascend;
+use crate::walk::Found;
 use rt_nodes::NodeId;
 use rt_spans::SpanMap;
 use rt_stamps::{FINAL, Fault, Span, Stamp};
@@ -196,6 +198,33 @@ impl Homes {
         ensures { result ≡ true → (self.now.sure ≡ true) × (leaf ≡ None) }
     {
         self.sure && leaf.is_none()
+    }
+
+    // The run that is known to stand somewhere, if it has a stamp and no other run has it.
+    pub(crate) fn near(
+        &self,
+        mem: &Mem,
+        root: NodeId,
+        last: &Option<Found>,
+        stamp: Stamp,
+    ) -> Option<Home>
+        requires tree { IsTree mem.now root.index }
+        requires held { IfSome last.now (Holds mem.now root.index) }
+        ensures sure { IfSome result (λ _. self.now.sure ≡ true) }
+        ensures home { IfSome result (λ home. IsBehind (tree_runs mem.now root.index) home.run home.before) }
+        ensures has { IfSome result (λ home. has home.run stamp ≡ true) }
+    {
+        if !self.sure {
+            return None;
+        }
+        let found = (*last)?;
+        if !has(found.run, stamp) {
+            return None;
+        }
+        Some(Home {
+            run: found.run,
+            before: found.before,
+        })
     }
 
     // The run of a leaf that has a stamp, if there is one and no other run has it.

@@ -2,9 +2,11 @@
 ghost use Rattle.std.specs.Prelude.{◌≡◌, ℕ, ◌+◌, ◌*◌, ◌<◌, ◌≤◌, ◌^◌, insert, length, true};
 ghost use Rattle.rt_nodes.specs.Nodes.{entries};
 ghost use Rattle.rt_tags.specs.States.{IsState};
+ghost use Rattle.rt_tree.specs.declared.node.Counts.{Counts};
 ghost use Rattle.rt_tree.specs.declared.node.Measure.TheVariants.{Cells};
 ghost use Rattle.rt_tree.specs.declared.node.Run.{Run};
 ghost use Rattle.rt_tree.specs.Changes.{AreExact, AreFilled, bare};
+ghost use Rattle.rt_tree.specs.Holds.{IsHeld};
 ghost use Rattle.rt_tree.specs.Homes.{AreHome};
 ghost use Rattle.rt_tree.specs.Shape.{IsShape, IsTree, ahead, level_of, runs, tree_runs};
 ghost use Rattle.rt_tree.specs.Sharing.{AreKnown};
@@ -197,6 +199,8 @@ pub(crate) fn replace_at(
     ensures tree { IsTree mem.new root.index }
     ensures runs { (at : ℕ) (before : Run) → IsSpot mem.old root.index Cells at spot.leaf.index spot.entry spot.offset before
         → IsReplacedAt (tree_runs mem.old root.index) (tree_runs mem.new root.index) at run }
+    ensures held { (before : Run) (front : Counts) → IsHeld mem.old root.index spot.leaf.index spot.entry before front
+        → IsHeld mem.new root.index spot.leaf.index spot.entry run front }
     ensures room { (mem.new.room ≡ mem.old.room) × (length mem.new.heads ≡ length mem.old.heads) }
     ensures told { AreTold states.now mem.new sums.new (tree_runs mem.new root.index) }
     ensures tags { sums.new.tags ≡ sums.old.tags }

@@ -1,11 +1,12 @@
 // New cells put in.
-ghost use Rattle.std.specs.Prelude.{◌≡◌, ◌+◌, ◌<◌, ◌≤◌, ◌^◌, ◌∷◌, ◌++◌, ◌==◌, ◌&&◌, ◌-◌, false, true, nat_lt, if◌then◌else◌, drop, length, take};
+ghost use Rattle.std.specs.Prelude.{◌≡◌, ◌+◌, ◌<◌, ◌≤◌, ◌^◌, ◌∷◌, ◌&&◌, true, nat_lt, IfSome, drop, length};
 ghost use Rattle.std.specs.List.{AllByRecursion, list_any};
 ghost use Rattle.rt_stamps.specs.declared.limits.TheConstants.{MOST_CELLS};
 ghost use Rattle.rt_store.specs.Cells.{put_at};
 ghost use Rattle.rt_store.specs.Tagged.{AreStates};
-ghost use Rattle.rt_tree.specs.Additions.{are_joint, EndsWith, IsFrontOf, IsRunOf, IsStretch, follows, joined, run_from, stretches};
-ghost use Rattle.rt_tree.specs.Homes.{AreHome, AreOnceEach, IsAmong, IsNew};
+ghost use Rattle.rt_tree.specs.Additions.{EndsWith, IsFrontOf, IsRunOf, IsStretch, follows, run_from, stretches};
+ghost use Rattle.rt_tree.specs.Holds.{Holds};
+ghost use Rattle.rt_tree.specs.Homes.{AreHome};
 ghost use Rattle.rt_tree.specs.Runs.{IsRun, cells_of};
 ghost use Rattle.rt_tree.specs.Shape.{IsTree, tree_runs};
 ghost use Rattle.rt_tree.specs.Sharing.{AreApart, AreKnown, AreOnce, AreUpTo, is_shared_by};
@@ -15,11 +16,13 @@ ghost use Rattle.rt_tree.specs.Sums.{counts_of};
 ghost use Rattle.rt_tree.specs.Trees.{HasNodes};
 
 use crate::cut::{Change, cut_home};
+use crate::extend::{Extended, extend};
 use crate::find::{cells_of, first_stamp, has, seek};
 use crate::homes::Homes;
 use crate::node::{Measure, Mem, Run};
-use crate::put::{found_at, put_home, replace_at};
+use crate::put::put_home;
 use crate::summed::Summaries;
+use crate::walk::Found;
 use rt_nodes::NodeId;
 use rt_store::Cell;
 use rt_tags::{StateId, StateTable};
@@ -65,7 +68,7 @@ fn run_from(first: Cell<StateId>, at: u32, len: u32, newline: bool) -> Run
 }
 
 // The run of the first cells, whose characters are the last of the text.
-fn run_of(text: &[char], cells: &[Cell<StateId>]) -> Run
+pub(crate) fn run_of(text: &[char], cells: &[Cell<StateId>]) -> Run
     requires some { 0 < length cells.now }
     requires last { EndsWith text.now cells.now }
     requires short { length text.now ≤ MOST_CELLS }
@@ -131,7 +134,7 @@ pub(crate) fn newest_of(newest: u64, cells: &[Cell<StateId>]) -> u64
 }
 
 // Whether a run of a tree, of more than one cell, has a stamp of a run. No run is looked at if no cell has so great a count.
-fn is_shared(mem: &Mem, root: NodeId, newest: u64, run: &Run) -> bool
+pub(crate) fn is_shared(mem: &Mem, root: NodeId, newest: u64, run: &Run) -> bool
     requires tree { IsTree mem.now root.index }
     requires kept { AreKept (tree_runs mem.now root.index) }
     requires known { AreKnown newest (tree_runs mem.now root.index) }
@@ -291,136 +294,12 @@ fn put_runs(
     Change { root, more }
 }
 
-// Whether a run goes on where another ends, in the text too.
-fn are_joint(before: &Run, run: &Run) -> bool
-    ensures { result ≡ are_joint before.now run.now }
-{
-    run.state == before.state
-        && run.gone == before.gone
-        && run.site == before.site
-        && run.first >= before.first
-        && run.first - before.first == before.len as u64
-        && run.at >= before.at
-        && run.at - before.at == before.len
-        && !before.newline
-}
-
-// Both as one run.
-fn joined(before: Run, run: Run) -> Run
-    requires { before.len + run.len < 2 ^ 32 }
-    ensures { result ≡ joined before run }
-{
-    Run {
-        len: before.len + run.len,
-        newline: run.newline,
-        ..before
-    }
-}
-
-// Of a run that would go on with another: the cells that come into a run of more than one cell.
-fn lengthened(before: Run, run: Run) -> Run
-    requires { before.len + run.len < 2 ^ 32 }
-    ensures { result ≡ (if before.len == 1 then joined before run else run) }
-{
-    if before.len == 1 {
-        joined(before, run)
-    } else {
-        run
-    }
-}
-
-// Whether one of a tree's runs may not go on with a new one, since a run of more than one cell would share a stamp.
-fn is_barred(mem: &Mem, root: NodeId, newest: u64, before: Run, run: Run, is_new: bool) -> bool
-    requires tree { IsTree mem.now root.index }
-    requires kept { AreKept (tree_runs mem.now root.index) }
-    requires known { AreKnown newest (tree_runs mem.now root.index) }
-    requires few { (counts_of (tree_runs mem.now root.index)).cells ≤ MOST_CELLS }
-    requires sum { before.len + run.len < 2 ^ 32 }
-    requires some { 0 < run.len }
-    requires joint { are_joint before run ≡ true }
-    requires among { IsAmong (tree_runs mem.now root.index) before }
-    requires once { is_new ≡ true → AreOnceEach (tree_runs mem.now root.index) }
-    requires new { is_new ≡ true → IsNew run (tree_runs mem.now root.index) }
-    ensures { result ≡ list_any (is_shared_by (if before.len == 1 then joined before run else run)) (tree_runs mem.now root.index) }
-{
-    if is_new {
-        return false;
-    }
-    is_shared(mem, root, newest, &lengthened(before, run))
-}
-
-// How many cells a run went on with, and whether a run begins or ends behind them, as far as is known.
+// The root after a change, how many runs were put in, and a run that got longer, if nothing else was changed.
 #[derive(Clone, Copy)]
-struct Extended {
-    done: usize,
-    is_edge: bool,
-}
-
-// Lets the run that ends at a position go on with the first of new cells, if these follow it, and tells how many they are.
-fn extend(
-    mem: &mut Mem,
-    sums: &mut Summaries,
-    states: &StateTable,
-    root: NodeId,
-    text: &[char],
-    at: usize,
-    cells: &[Cell<StateId>],
-    newest: u64,
-    homes: &mut Homes,
-    keep: usize,
-) -> Extended
-    requires home { homes.old.sure ≡ true → AreHome homes.old.leaves (tree_runs mem.old root.index) }
-    requires left { keep + length cells.now ≤ homes.old.left }
-    requires tree { IsTree mem.old root.index }
-    requires kept { AllByRecursion (IsRun text.now) (tree_runs mem.old root.index) }
-    requires apart { AreApart (tree_runs mem.old root.index) }
-    requires upto { AreUpTo newest (cells_of text.now (tree_runs mem.old root.index)) }
-    requires last { EndsWith text.now cells.now }
-    requires short { length text.now ≤ MOST_CELLS }
-    requires few { (counts_of (tree_runs mem.old root.index)).cells + length cells.now ≤ MOST_CELLS }
-    requires within { at < (counts_of (tree_runs mem.old root.index)).cells }
-    requires told { AreTold states.now mem.old sums.old (tree_runs mem.old root.index) }
-    requires states { AreStates states.now cells.now }
-    ensures tree { IsTree mem.new root.index }
-    ensures within { result.done ≤ length cells.now }
-    ensures cells { AreChanged (tree_runs mem.old root.index) (tree_runs mem.new root.index) text.now (put_at at (take result.done cells.now)) }
-    ensures edge { result.is_edge ≡ true → IsEdge (lengths (tree_runs mem.new root.index)) (at + result.done) }
-    ensures apart { AreApart (tree_runs mem.new root.index) }
-    ensures runs { length (tree_runs mem.new root.index) ≡ length (tree_runs mem.old root.index) }
-    ensures home { homes.new.sure ≡ true → AreHome homes.new.leaves (tree_runs mem.new root.index) }
-    ensures left { keep + (length cells.now - result.done) ≤ homes.new.left }
-    ensures room { length mem.new.heads + mem.new.room ≡ length mem.old.heads + mem.old.room }
-    ensures told { AreTold states.now mem.new sums.new (tree_runs mem.new root.index) }
-    ensures tags { sums.new.tags ≡ sums.old.tags }
-{
-    if at == 0 || cells.is_empty() {
-        return Extended {
-            done: 0,
-            is_edge: at == 0,
-        };
-    }
-    let found = found_at(mem, root, at - 1);
-    let run = run_of(text, cells);
-    if found.spot.offset + 1 < found.run.len as usize || !are_joint(&found.run, &run) {
-        return Extended {
-            done: 0,
-            is_edge: found.spot.offset + 1 == found.run.len as usize,
-        };
-    }
-    let is_new = homes.is_new(newest, &run);
-    if is_barred(mem, root, newest, found.run, run, is_new) {
-        return Extended {
-            done: 0,
-            is_edge: true,
-        };
-    }
-    let whole = joined(found.run, run);
-    replace_at(mem, sums, states, root, found.spot, whole);
-    homes.enter(&whole, found.spot.leaf, is_new);
-    Extended {
-        done: run.len as usize,
-        is_edge: false,
-    }
+pub(crate) struct Grown {
+    pub(crate) root: NodeId,
+    pub(crate) more: usize,
+    pub(crate) last: Option<Found>,
 }
 
 // Puts cells in at a position; their characters are the last of the text.
@@ -435,7 +314,8 @@ pub(crate) fn put_cells(
     newest: u64,
     homes: &mut Homes,
     keep: usize,
-) -> Change
+    last: &Option<Found>,
+) -> Grown
     requires home { homes.old.sure ≡ true → AreHome homes.old.leaves (tree_runs mem.old root.index) }
     requires left { keep + length cells.now ≤ homes.old.left }
     requires tree { IsTree mem.old root.index }
@@ -447,6 +327,7 @@ pub(crate) fn put_cells(
     requires few { (counts_of (tree_runs mem.old root.index)).cells + length cells.now ≤ MOST_CELLS }
     requires within { at < (counts_of (tree_runs mem.old root.index)).cells }
     requires room { HasNodes mem.old (length (tree_runs mem.old root.index) + length cells.now + 1) }
+    requires held { IfSome last.now (Holds mem.old root.index) }
     requires told { AreTold states.now mem.old sums.old (tree_runs mem.old root.index) }
     requires states { AreStates states.now cells.now }
     ensures tree { IsTree mem.new result.root.index }
@@ -458,14 +339,23 @@ pub(crate) fn put_cells(
     ensures home { homes.new.sure ≡ true → AreHome homes.new.leaves (tree_runs mem.new result.root.index) }
     ensures left { keep ≤ homes.new.left }
     ensures room { length mem.new.heads + mem.new.room ≡ length mem.old.heads + mem.old.room }
+    ensures held { IfSome result.last (Holds mem.new result.root.index) }
     ensures told { AreTold states.now mem.new sums.new (tree_runs mem.new result.root.index) }
     ensures tags { sums.new.tags ≡ sums.old.tags }
 {
-    let Extended { done, is_edge } = extend(
-        mem, sums, states, root, text, at, cells, newest, homes, keep,
+    let Extended {
+        done,
+        is_edge,
+        last,
+    } = extend(
+        mem, sums, states, root, text, at, cells, newest, homes, keep, last,
     );
     if done == cells.len() {
-        return Change { root, more: 0 };
+        return Grown {
+            root,
+            more: 0,
+            last,
+        };
     }
     let rest = &cells[done..];
     let first = cut_home(
@@ -491,8 +381,9 @@ pub(crate) fn put_cells(
         homes,
         keep,
     );
-    Change {
+    Grown {
         root: then.root,
         more: first.more + then.more,
+        last: None,
     }
 }

@@ -12,12 +12,14 @@ mod changing;
 mod tagging;
 
 use crate::copy::copy;
-use crate::find::{cell_in, find, has, height, seek};
+use crate::find::{cell_in, find, has, height};
 use crate::homes::Homes;
+use crate::near::seek_near;
 use crate::node::{Counts, Entry, Head, Measure, Mem, Run};
 use crate::skip::{is_low, passed};
 use crate::summed::Summaries;
 use crate::sums::counts_of_run;
+use crate::walk::Found;
 use rt_nodes::{NodeId, NodeMem};
 use rt_stamps::{FINAL, Fault, ROOT, Stamp};
 use rt_store::Cell;
@@ -44,6 +46,8 @@ pub struct Tree {
     spare_tags: usize,
     // What is kept for each node of the tags below it.
     sums: Summaries,
+    // The run that got longer last, and where it stands, while no other change was made.
+    last: Option<Found>,
 }
 
 // Written out, so that where it is let go is one step for the crates above, and not one for each
@@ -62,12 +66,14 @@ impl Drop for Tree {
             spare_cuts: _,
             spare_tags: _,
             sums: _,
+            last: _,
         } = self;
     }
 }
 
 impl Model for Tree {
-    ghost use Rattle.std.specs.Prelude.{◌≡◌, ◌≤◌, vec_capacity, true};
+    ghost use Rattle.std.specs.Prelude.{◌≡◌, ◌≤◌, IfSome, vec_capacity, true};
+    ghost use Rattle.rt_tree.specs.Holds.{Holds};
     ghost use Rattle.rt_tree.specs.Homes.{AreHome};
     ghost use Rattle.rt_tree.specs.Runs.{cells_of};
     ghost use Rattle.rt_tree.specs.Shape.{tree_runs};
@@ -85,7 +91,8 @@ impl Model for Tree {
         (record { cells = t.spare_cells; cuts = t.spare_cuts; tags = t.spare_tags })
         × (AreUpTo t.newest (cells_of t.text.items (tree_runs t.mem t.root.index))
         × ((t.homes.sure ≡ true → AreHome t.homes.leaves (tree_runs t.mem t.root.index)) × ((t.spare_cells ≤ t.homes.left)
-        × (HaveSummaries t.mem t.sums t.spare_tags × IsCountOf t.counts (cells_of t.text.items (tree_runs t.mem t.root.index))))))) };
+        × (HaveSummaries t.mem t.sums t.spare_tags × (IsCountOf t.counts (cells_of t.text.items (tree_runs t.mem t.root.index))
+        × IfSome t.last (Holds t.mem t.root.index))))))) };
 }
 
 // The run of the final newline, as it is at first.
@@ -144,6 +151,7 @@ impl Tree {
             spare_cuts: 0,
             spare_tags: 0,
             sums,
+            last: None,
         })
     }
 
@@ -189,7 +197,7 @@ impl Tree {
         requires { position < length self.now.cells }
         ensures { slice_get self.now.cells position ≡ Some result }
     {
-        let found = seek(&self.mem, self.root, Measure::Cells, position);
+        let found = seek_near(&self.mem, self.root, &self.last, Measure::Cells, position);
         cell_in(&self.text, &found.run, found.spot.offset)
     }
 
@@ -209,9 +217,8 @@ impl Tree {
         requires { place < length (visible_of self.now.cells) }
         ensures { slice_get (visible_of self.now.cells) place ≡ Some result }
     {
-        self.height();
-        let mut looks = 0;
-        self.find(place, &mut looks)
+        let shown = seek_near(&self.mem, self.root, &self.last, Measure::Visible, place);
+        cell_in(&self.text, &shown.run, shown.spot.offset)
     }
 
     /// The character at a place.
@@ -234,7 +241,13 @@ impl Tree {
         let count = left.min(buffer.len());
         let mut done = 0;
         while done < count {
-            let found = seek(&self.mem, self.root, Measure::Visible, place + done);
+            let found = seek_near(
+                &self.mem,
+                self.root,
+                &self.last,
+                Measure::Visible,
+                place + done,
+            );
             let rest = found.run.len as usize - found.spot.offset;
             let more = rest.min(count - done);
             let from = found.run.at as usize + found.spot.offset;
@@ -252,7 +265,13 @@ impl Tree {
         if line == 1 {
             return 0;
         }
-        let found = seek(&self.mem, self.root, Measure::Newlines, line - 2);
+        let found = seek_near(
+            &self.mem,
+            self.root,
+            &self.last,
+            Measure::Newlines,
+            line - 2,
+        );
         found.before.visible as usize + found.run.len as usize
     }
 
@@ -265,7 +284,7 @@ impl Tree {
         if place == all.visible as usize {
             return all.newlines as usize + 1;
         }
-        let found = seek(&self.mem, self.root, Measure::Visible, place);
+        let found = seek_near(&self.mem, self.root, &self.last, Measure::Visible, place);
         found.before.newlines as usize + 1
     }
 
@@ -292,7 +311,7 @@ impl Tree {
         let all = self.cells();
         let mut at = 0;
         while at < all {
-            let found = seek(&self.mem, self.root, Measure::Cells, at);
+            let found = seek_near(&self.mem, self.root, &self.last, Measure::Cells, at);
             let begin = at - found.spot.offset;
             if has(found.run, stamp) {
                 return Some(begin + (stamp.count - found.run.first) as usize);
@@ -306,6 +325,9 @@ impl Tree {
     pub fn position_of(&self, stamp: Stamp) -> Option<usize>
         ensures { result ≡ position_of self.now.cells stamp }
     {
+        if let Some(home) = self.homes.near(&self.mem, self.root, &self.last, stamp) {
+            return Some(home.position(stamp));
+        }
         let leaf = self.homes.leaf_of(stamp);
         if self.homes.is_nowhere(leaf) {
             return None;
@@ -320,6 +342,9 @@ impl Tree {
     pub fn cell_of(&self, stamp: Stamp) -> Option<Cell<StateId>>
         ensures { result ≡ cell_of self.now.cells stamp }
     {
+        if let Some(home) = self.homes.near(&self.mem, self.root, &self.last, stamp) {
+            return Some(home.cell(&self.text, stamp));
+        }
         let leaf = self.homes.leaf_of(stamp);
         if self.homes.is_nowhere(leaf) {
             return None;
@@ -336,7 +361,7 @@ impl Tree {
         requires { position < length self.now.cells }
         ensures { result ≡ visible_before self.now.cells position }
     {
-        let found = seek(&self.mem, self.root, Measure::Cells, position);
+        let found = seek_near(&self.mem, self.root, &self.last, Measure::Cells, position);
         found.before.visible as usize + visible_part(found.run, found.spot.offset)
     }
 
@@ -345,6 +370,9 @@ impl Tree {
     pub fn place_of(&self, stamp: Stamp) -> Option<usize>
         ensures { result ≡ option_map (visible_before self.now.cells) (position_of self.now.cells stamp) }
     {
+        if let Some(home) = self.homes.near(&self.mem, self.root, &self.last, stamp) {
+            return Some(home.place(stamp));
+        }
         let leaf = self.homes.leaf_of(stamp);
         if self.homes.is_nowhere(leaf) {
             return None;

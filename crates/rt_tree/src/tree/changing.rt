@@ -53,6 +53,7 @@ impl Tree {
             .checked_add(cuts)
             .ok_or(Fault::NoMemory)?;
         let nodes = runs / 7 + 1;
+        self.last = None;
         self.homes.reserve(spans_for(cells, cuts))?;
         self.text.reserve(cells)?;
         self.sums.reserve(nodes, tags)?;
@@ -87,6 +88,7 @@ impl Tree {
         );
         self.root = change.root;
         self.counts = sum_of(&self.mem, self.root);
+        self.last = None;
         self.runs += change.more;
         self.spare_cuts -= 2;
     }
@@ -147,9 +149,11 @@ impl Tree {
             self.newest,
             &mut self.homes,
             keep,
+            &self.last,
         );
         self.newest = newest_of(self.newest, cells);
         self.counts = counts_with(self.counts, cells);
+        self.last = change.last;
         self.root = change.root;
         self.runs += change.more;
         self.spare_cells -= cells.len();

@@ -1,4 +1,4 @@
-use Rattle.std.proofs.Common.{ℕ, ◌+◌, ◌-◌, Option, Some, None, if◌then◌else◌, nat_lt, subst, sym, ◌∙◌}
+use Rattle.std.proofs.Common.{ℕ, Option, subst, sym, ◌∙◌}
 use Rattle.std.specs.Prelude.{MatchOption}
 use Rattle.std.specs.List.{AllByRecursion}
 use Rattle.rt_tree.specs.Sharing.{BeginsAt, IsInside}

@@ -3,7 +3,6 @@ use Rattle.std.specs.Prelude.{IfSome}
 use Rattle.std.specs.Option.{SomeIff}
 use Rattle.rt_tree.specs.Homes.{MarksOn}
 use Rattle.rt_tree.specs.Shape.{tree_runs}
-use Rattle.rt_tree.specs.Sharing.{IsChangedAt, run_in}
 use Rattle.rt_tree.proofs.Cutting.{few_all}
 use Rattle.rt_tree.proofs.Housing.{behind_few}
 use Rattle.rt_tree.proofs.Meeting.{found_on, in_it, nowhere_on}

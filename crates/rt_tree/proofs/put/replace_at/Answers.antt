@@ -8,6 +8,7 @@ use Rattle.rt_tree.specs.Changes.{bare, links}
 use Rattle.rt_tree.specs.Shape.{IsShape, Memory, ahead, all_below, behind, level_of, runs, tree_runs}
 use Rattle.rt_tree.specs.Summaries.{shown_states}
 use Rattle.rt_tree.specs.Sums.{AreFew, counts_of}
+use Rattle.rt_tree.proofs.Holding.{held_set}
 use Rattle.rt_tree.proofs.Told.{given_replaced, shown_few, shown_given, told_next}
 use Rattle.rt_tree.proofs.Puts.{few_set, replaced, replaced_length, set_at, spot_within}
 use Rattle.rt_tree.proofs.Wholes.{runs-bare, tree-exact, tree-shape, whole, whole_runs}
@@ -90,3 +91,7 @@ returns-clause-told c =
     let room = returns-clause-room c in
     let given = given_replaced c.args.states.now (tree_runs m r) (tree_runs c.replace_run.new.mem r) c.requires.spot.0 c.args.run c.requires.state (returns-clause-runs c c.requires.spot.0 c.requires.spot.1 c.requires.spot.2) c.requires.told.given in
     told_next m c.replace_run.new.mem c.args.states.now c.args.sums.now c.replace_run.new.sums (tree_runs m r) (tree_runs c.replace_run.new.mem r) given c.requires.told e.summed e.many e.memory e.tags (omega (arith, room.0, room.1))
+
+pub returns-clause-held : goal.returns-clause-held
+returns-clause-held c before front held =
+    held_set c.args.mem.now c.replace_run.new.mem c.args.root.index c.level_of-height.result c.args.spot.leaf.index c.args.spot.entry c.args.run before front c.requires.tree c.level_of-height.ensures c.replace_run.ensures.bare held

@@ -1,5 +1,4 @@
 use Rattle.std.proofs.Common.{arith, refl, sym, ap, ◌+◌, ◌∙◌, ℕ}
-use Rattle.rt_stamps.specs.Places.{newlines}
 use Rattle.rt_store.specs.Cells.{text_of}
 use Rattle.rt_store.proofs.Steps.{newlines_count}
 use Rattle.rt_tree.proofs.Tallying.{counts_more, newlines_few, visible_few}

@@ -37,7 +37,7 @@ invariant_of-self c =
               e.left c.self.invariant.1.1.1.1.0,
               (
                 record { many = e.told.many; memory = e.told.memory; tags = let h = c.self.invariant.1.1.1.1.1.0.tags in omega (arith, h, e.tags) },
-                counts_are c.mark_span-change.new.mem c.mark_span-change.result.root.index s.text.items (s.runs + c.mark_span-change.result.more) kept c.sum_of-self-inside.result c.sum_of-self-inside.ensures,
+                (counts_are c.mark_span-change.new.mem c.mark_span-change.result.root.index s.text.items (s.runs + c.mark_span-change.result.more) kept c.sum_of-self-inside.result c.sum_of-self-inside.ensures, tt),
               ),
             ),
           ),

@@ -31,3 +31,18 @@ returns-in-Some c =
     ∙ ap Some shown
     ∙ ap (option_map (visible_before all)) here
     ∙ ap (λ (x : Shown). option_map (visible_before x.cells) (position_of x.cells c.args.stamp)) c.self.view_is
+
+pub returns-in-Some-locate : goal.returns-in-Some-locate
+returns-in-Some-locate c =
+    let s = c.self.inside in let h = c.in-Some-locate.home in let e = c.in-Some-locate.ensures in
+    let runs = tree_runs s.mem s.root.index in let all = cells_of s.text.items runs in
+    let offset = c.args.stamp.count - h.run.first in
+    let here = is_here s.text.items runs s.homes.leaves c.args.stamp c.self.invariant.0.kept (c.self.invariant.1.1.1.0 e.sure) h.run h.before e.home e.has in
+    let shown = visible_there s.text.items runs h.run h.before offset (h.before.cells + offset) c.self.invariant.0.kept (there_at runs h.run h.before c.args.stamp e.home e.has) in
+    ap Some c.place-in-Some-locate.ensures
+    ∙ ap Some shown
+    ∙ ap (option_map (visible_before all)) here
+    ∙ ap (λ (x : Shown). option_map (visible_before x.cells) (position_of x.cells c.args.stamp)) c.self.view_is
+
+pub near-requires-clause-held : goal.near-requires-clause-held
+near-requires-clause-held c = c.self.invariant.1.1.1.1.1.1.1

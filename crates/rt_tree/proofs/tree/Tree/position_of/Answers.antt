@@ -1,4 +1,4 @@
-use Rattle.std.proofs.Common.{◌+◌, ◌-◌, Some, ap, ◌∙◌, sym}
+use Rattle.std.proofs.Common.{Some, ap, ◌∙◌, sym}
 use Rattle.rt_store.specs.Cells.{position_of}
 use Rattle.rt_tree.specs.Shape.{tree_runs}
 use Rattle.rt_tree.specs.Trees.{Shown}
@@ -22,3 +22,13 @@ returns-in-Some c =
     ap Some c.position.ensures
     ∙ is_here s.text.items (tree_runs s.mem s.root.index) s.homes.leaves c.args.stamp c.self.invariant.0.kept (c.self.invariant.1.1.1.0 e.sure) h.run h.before e.home e.has
     ∙ ap (λ (x : Shown). position_of x.cells c.args.stamp) c.self.view_is
+
+pub returns-in-Some-locate : goal.returns-in-Some-locate
+returns-in-Some-locate c =
+    let s = c.self.inside in let h = c.in-Some-locate.home in let e = c.in-Some-locate.ensures in
+    ap Some c.position-in-Some-locate.ensures
+    ∙ is_here s.text.items (tree_runs s.mem s.root.index) s.homes.leaves c.args.stamp c.self.invariant.0.kept (c.self.invariant.1.1.1.0 e.sure) h.run h.before e.home e.has
+    ∙ ap (λ (x : Shown). position_of x.cells c.args.stamp) c.self.view_is
+
+pub near-requires-clause-held : goal.near-requires-clause-held
+near-requires-clause-held c = c.self.invariant.1.1.1.1.1.1.1

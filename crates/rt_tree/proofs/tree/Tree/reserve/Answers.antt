@@ -62,7 +62,7 @@ invariant_of-self-2 c =
                   memory = got.memory;
                   tags = got.tags;
                 },
-                subst (IsCountOf s.counts) (sym (ap (λ (v : Shown). v.cells) same)) c.self.invariant.1.1.1.1.1.1,
+                (subst (IsCountOf s.counts) (sym (ap (λ (v : Shown). v.cells) same)) c.self.invariant.1.1.1.1.1.1.0, tt),
               ),
             ),
           ),

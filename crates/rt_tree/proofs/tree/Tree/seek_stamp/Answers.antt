@@ -6,11 +6,11 @@ use Rattle.rt_tree.proofs.Kept.{few_runs, shows}
 use Rattle.rt_tree.proofs.Positions.{before, fits_here, found_is, has_within, stamp_here, stamp_later}
 use Rattle.rt_tree.proofs.tree.Tree.seek_stamp.Goals as goal
 
-pub seek-found-requires-clause-few : goal.seek-found-requires-clause-few
-seek-found-requires-clause-few c = let s = c.self.inside in few_runs s.mem s.root.index s.text.items s.runs c.self.invariant.0
+pub seek_near-found-requires-clause-few : goal.seek_near-found-requires-clause-few
+seek_near-found-requires-clause-few c = let s = c.self.inside in few_runs s.mem s.root.index s.text.items s.runs c.self.invariant.0
 
-pub seek-found-requires-clause-within : goal.seek-found-requires-clause-within
-seek-found-requires-clause-within c =
+pub seek_near-found-requires-clause-within : goal.seek_near-found-requires-clause-within
+seek_near-found-requires-clause-within c =
     let s = c.self.inside in
     let h = shows s.mem s.root.index s.text.items s.runs c.self.invariant.0 s.sums.each.items c.args.self.now c.self.view_is in
     omega (arith, h.cells, c.loop-at-test.true, c.cells-all.ensures)
@@ -18,24 +18,27 @@ seek-found-requires-clause-within c =
 pub returns-then-has : goal.returns-then-has
 returns-then-has c =
     let s = c.self.inside in
-    let f = c.seek-found.result in
+    let f = c.seek_near-found.result in
     let all = tree_runs s.mem s.root.index in
     let kept = c.self.invariant.0.kept in
     let same = ap (λ (x : Shown). before x.cells c.args.stamp) c.self.view_is in
     let long = ap (λ (x : Shown). length x.cells) c.self.view_is in
     let low : c.loop-at.at ≤ before (cells_of s.text.items all) c.args.stamp = omega (arith, c.loop-at.invariant, same) in
     let yes_has = sym c.has.ensures ∙ c.if-has.true in
-    let here = stamp_here s.text.items all f.run f.before f.spot.offset c.loop-at.at kept c.args.stamp low c.seek-found.ensures yes_has in
-    let fits = fits_here s.text.items all f.run f.before f.spot.offset c.loop-at.at kept c.args.stamp low c.seek-found.ensures in
+    let here = stamp_here s.text.items all f.run f.before f.spot.offset c.loop-at.at kept c.args.stamp low c.seek_near-found.ensures yes_has in
+    let fits = fits_here s.text.items all f.run f.before f.spot.offset c.loop-at.at kept c.args.stamp low c.seek_near-found.ensures in
     let inside = has_within f.run c.args.stamp yes_has in
     found_is c.args.self.now.cells c.args.stamp (c.loop-at.at - f.spot.offset + (c.args.stamp.count - f.run.first)) (here ∙ same) (omega (arith, fits, inside, long))
 
 pub loop-at-preserved : goal.loop-at-preserved
 loop-at-preserved c =
     let s = c.self.inside in
-    let f = c.seek-found.result in
+    let f = c.seek_near-found.result in
     let all = tree_runs s.mem s.root.index in
     let same = ap (λ (x : Shown). before x.cells c.args.stamp) c.self.view_is in
     let low : c.loop-at.at ≤ before (cells_of s.text.items all) c.args.stamp = omega (arith, c.loop-at.invariant, same) in
-    let later = stamp_later s.text.items all f.run f.before f.spot.offset c.loop-at.at c.self.invariant.0.kept c.args.stamp low c.seek-found.ensures (sym c.has.ensures ∙ c.if-has.false) in
+    let later = stamp_later s.text.items all f.run f.before f.spot.offset c.loop-at.at c.self.invariant.0.kept c.args.stamp low c.seek_near-found.ensures (sym c.has.ensures ∙ c.if-has.false) in
     omega (arith, later, same)
+
+pub seek_near-found-requires-clause-held : goal.seek_near-found-requires-clause-held
+seek_near-found-requires-clause-held c = c.self.invariant.1.1.1.1.1.1.1

@@ -21,7 +21,7 @@ pub counts_with-self-inside-requires-clause-few : goal.counts_with-self-inside-r
 counts_with-self-inside-requires-clause-few c =
     let s = c.self.inside in let k = c.self.invariant.0 in let r = c.self.invariant.1.0 in
     let n = counted s.text.items (tree_runs s.mem s.root.index) k.kept in
-    let i = c.self.invariant.1.1.1.1.1.1 in
+    let i = c.self.invariant.1.1.1.1.1.1.0 in
     let cells = ap (λ (v : Shown). v.room.cells) c.self.view_is in
     let ka = k.all in let rf = r.few in let ra = c.requires.room.0 in
     omega (arith, n.cells, i.cells, ka, rf, cells, ra)
@@ -30,7 +30,7 @@ pub counts_with-self-inside-requires-clause-below : goal.counts_with-self-inside
 counts_with-self-inside-requires-clause-below c =
     let s = c.self.inside in
     let all = cells_of s.text.items (tree_runs s.mem s.root.index) in
-    let i = c.self.invariant.1.1.1.1.1.1 in
+    let i = c.self.invariant.1.1.1.1.1.1.0 in
     let v = visible_few all in let n = newlines_few all in
     (omega (arith, i.cells, i.visible, v), omega (arith, i.cells, i.newlines, n))
 
@@ -95,7 +95,10 @@ invariant_of-self c =
               e.left,
               (
                 record { many = e.told.many; memory = e.told.memory; tags = let h = c.self.invariant.1.1.1.1.1.0.tags in omega (arith, h, e.tags) },
-                subst (IsCountOf c.counts_with-self-inside.result) (sym shown_cells) (c.counts_with-self-inside.ensures c.args.at (cells_of s.text.items old) c.self.invariant.1.1.1.1.1.1),
+                (
+                  subst (IsCountOf c.counts_with-self-inside.result) (sym shown_cells) (c.counts_with-self-inside.ensures c.args.at (cells_of s.text.items old) c.self.invariant.1.1.1.1.1.1.0),
+                  e.held,
+                ),
               ),
             ),
           ),

@@ -1,8 +1,9 @@
-use Rattle.std.proofs.Common.{◌≡◌, ℕ, ◌+◌, ◌-◌, ◌<◌, ◌∙◌, List, [], nat_eq, true, ap, sym, subst, arith}
+use Rattle.std.proofs.Common.{◌≡◌, ℕ, ◌+◌, ◌-◌, ◌<◌, ◌∙◌, List, [], nat_eq, true, ap, refl, sym, subst, arith}
 use Rattle.std.proofs.lemmas.Bool.Decides.{nat_tests}
 use Rattle.rt_tree.specs.declared.node.Counts.{Counts}
 use Rattle.rt_tree.specs.declared.node.Measure.TheVariants.{Cells}
 use Rattle.rt_tree.specs.declared.node.Run.{Run}
+use Rattle.rt_tree.specs.Holds.{IsHeld}
 use Rattle.rt_tree.specs.Homes.{IsPlaced}
 use Rattle.rt_tree.specs.Shape.{tree_runs}
 use Rattle.rt_tree.specs.Stretches.{AreKept, IsEdge, lengths}
@@ -15,13 +16,13 @@ use Rattle.rt_tree.proofs.Puts.{replaced_length}
 use Rattle.rt_tree.proofs.Splicing.{extended, extended_apart, new_is}
 use Rattle.rt_tags.specs.States.{IsState}
 use Rattle.rt_tree.proofs.Told.{given_there, short_kept}
-use Rattle.rt_tree.proofs.splice.extend.Goals as goal
+use Rattle.rt_tree.proofs.extend.extend.Goals as goal
 
 nat_is : (a b : ℕ) → nat_eq a b ≡ true → a ≡ b
 nat_is a b is = grind (arith, nat_tests)
 
-pub found_at-found-requires-clause-few : goal.found_at-found-requires-clause-few
-found_at-found-requires-clause-few c =
+pub found_near-found-requires-clause-few : goal.found_near-found-requires-clause-few
+found_near-found-requires-clause-few c =
     let old = tree_runs c.args.mem.now c.args.root.index in
     let kept : AreKept old = record { text = c.args.text.now; short = c.requires.short; runs = c.requires.kept } in
     few_all old kept (omega (arith, c.requires.few))
@@ -37,7 +38,7 @@ is_new-is_new-requires c = c.run_of-run.ensures.run.counts
 
 pub is_barred-requires-clause-sum : goal.is_barred-requires-clause-sum
 is_barred-requires-clause-sum c =
-    let st = c.found_at-found.ensures.run in let run = c.found_at-found.result.run in
+    let st = c.found_near-found.ensures.run in let run = c.found_near-found.result.run in
     let w = ap (λ l. (counts_of l).cells) st.here ∙ counts_mid st.left run st.right in
     let low = c.run_of-run.ensures.stretch.within in
     omega (arith, w, low, c.requires.few)
@@ -49,7 +50,7 @@ pub is_barred-requires-clause-joint : goal.is_barred-requires-clause-joint
 is_barred-requires-clause-joint c = sym c.are_joint.ensures ∙ c.if-not-are_joint.false
 
 pub is_barred-requires-clause-among : goal.is_barred-requires-clause-among
-is_barred-requires-clause-among c = let st = c.found_at-found.ensures.run in record { left = st.left; right = st.right; here = st.here }
+is_barred-requires-clause-among c = let st = c.found_near-found.ensures.run in record { left = st.left; right = st.right; here = st.here }
 
 pub is_barred-requires-clause-once : goal.is_barred-requires-clause-once
 is_barred-requires-clause-once c = λ new. (c.requires.home (c.is_new-is_new.ensures.sure new)).once
@@ -61,7 +62,7 @@ is_barred-requires-clause-new c =
 
 pub joined-whole-requires : goal.joined-whole-requires
 joined-whole-requires c =
-    let st = c.found_at-found.ensures.run in let run = c.found_at-found.result.run in
+    let st = c.found_near-found.ensures.run in let run = c.found_near-found.result.run in
     let w = ap (λ l. (counts_of l).cells) st.here ∙ counts_mid st.left run st.right in
     let low = c.run_of-run.ensures.stretch.within in
     omega (arith, w, low, c.requires.few)
@@ -69,8 +70,8 @@ joined-whole-requires c =
 pub returns-clause-home : goal.returns-clause-home
 returns-clause-home c =
     let old = tree_runs c.args.mem.now c.args.root.index in let new = tree_runs c.replace_at.new.mem c.args.root.index in
-    let st = c.found_at-found.ensures.run in let f = c.found_at-found.result in let b = c.run_of-run.result in
-    let rep = subst (λ (r : Run). IsReplacedAt old new (c.args.at - 1) r) c.joined-whole.ensures (c.replace_at.ensures.runs (c.args.at - 1) c.found_at-found.result.run c.found_at-found.ensures.spot) in
+    let st = c.found_near-found.ensures.run in let f = c.found_near-found.result in let b = c.run_of-run.result in
+    let rep = subst (λ (r : Run). IsReplacedAt old new (c.args.at - 1) r) c.joined-whole.ensures (c.replace_at.ensures.runs (c.args.at - 1) c.found_near-found.result.run c.found_near-found.ensures.spot) in
     let joint = sym c.are_joint.ensures ∙ c.if-not-are_joint.false in
     let is = new_is c.args.text.now old c.args.at c.args.cells.now c.requires.kept f.run b f.before f.spot.offset st (let z = c.if-at-eq0.false in omega (arith, z)) (let l = c.if-found.false in let i = st.inside in omega (arith, l, i)) c.run_of-run.ensures joint new rep in
     let leaves = c.args.homes.now.leaves in let after = c.enter.new.self.leaves in
@@ -91,8 +92,8 @@ returns-clause-left c =
 pub returns-clause-apart : goal.returns-clause-apart
 returns-clause-apart c =
     let old = tree_runs c.args.mem.now c.args.root.index in let new = tree_runs c.replace_at.new.mem c.args.root.index in
-    let st = c.found_at-found.ensures.run in let f = c.found_at-found.result in let b = c.run_of-run.result in
-    let rep = subst (λ (r : Run). IsReplacedAt old new (c.args.at - 1) r) c.joined-whole.ensures (c.replace_at.ensures.runs (c.args.at - 1) c.found_at-found.result.run c.found_at-found.ensures.spot) in
+    let st = c.found_near-found.ensures.run in let f = c.found_near-found.result in let b = c.run_of-run.result in
+    let rep = subst (λ (r : Run). IsReplacedAt old new (c.args.at - 1) r) c.joined-whole.ensures (c.replace_at.ensures.runs (c.args.at - 1) c.found_near-found.result.run c.found_near-found.ensures.spot) in
     let none = sym c.is_barred.ensures ∙ c.if-is_barred.false in
     extended_apart c.args.text.now old c.args.at c.args.cells.now c.requires.kept f.run b f.before f.spot.offset st (let z = c.if-at-eq0.false in omega (arith, z)) (let l = c.if-found.false in let i = st.inside in omega (arith, l, i)) c.run_of-run.ensures (sym c.are_joint.ensures ∙ c.if-not-are_joint.false) new rep c.requires.apart none
 
@@ -100,7 +101,7 @@ pub replace_at-requires-clause-few : goal.replace_at-requires-clause-few
 replace_at-requires-clause-few c =
     let old = tree_runs c.args.mem.now c.args.root.index in
     let kept : AreKept old = record { text = c.args.text.now; short = c.requires.short; runs = c.requires.kept } in
-    let st = c.found_at-found.ensures.run in let run = c.found_at-found.result.run in let b = c.run_of-run.result in
+    let st = c.found_near-found.ensures.run in let run = c.found_near-found.result.run in let b = c.run_of-run.result in
     let w = ap (λ l. (counts_of l).cells) st.here ∙ counts_mid st.left run st.right in
     let low = c.run_of-run.ensures.stretch.within in let some = c.run_of-run.ensures.run.some in
     subst (λ (r : Run). AreFew (plus (counts_of_run r) (counts_of old))) (sym c.joined-whole.ensures)
@@ -109,17 +110,17 @@ replace_at-requires-clause-few c =
 pub returns-clause-cells : goal.returns-clause-cells
 returns-clause-cells c =
     let old = tree_runs c.args.mem.now c.args.root.index in let new = tree_runs c.replace_at.new.mem c.args.root.index in
-    let st = c.found_at-found.ensures.run in let f = c.found_at-found.result in let b = c.run_of-run.result in
-    let rep = subst (λ (r : Run). IsReplacedAt old new (c.args.at - 1) r) c.joined-whole.ensures (c.replace_at.ensures.runs (c.args.at - 1) c.found_at-found.result.run c.found_at-found.ensures.spot) in
+    let st = c.found_near-found.ensures.run in let f = c.found_near-found.result in let b = c.run_of-run.result in
+    let rep = subst (λ (r : Run). IsReplacedAt old new (c.args.at - 1) r) c.joined-whole.ensures (c.replace_at.ensures.runs (c.args.at - 1) c.found_near-found.result.run c.found_near-found.ensures.spot) in
     extended c.args.text.now old c.args.at c.args.cells.now c.requires.kept f.run b f.before f.spot.offset st (let z = c.if-at-eq0.false in omega (arith, z)) (let l = c.if-found.false in let i = st.inside in omega (arith, l, i)) c.run_of-run.ensures (sym c.are_joint.ensures ∙ c.if-not-are_joint.false) new rep
 
 pub replace_at-requires-clause-spot : goal.replace_at-requires-clause-spot
-replace_at-requires-clause-spot c = (c.args.at - 1, c.found_at-found.result.run, c.found_at-found.ensures.spot)
+replace_at-requires-clause-spot c = (c.args.at - 1, c.found_near-found.result.run, c.found_near-found.ensures.spot)
 
 pub returns-clause-runs : goal.returns-clause-runs
 returns-clause-runs c =
     let old = tree_runs c.args.mem.now c.args.root.index in let new = tree_runs c.replace_at.new.mem c.args.root.index in
-    replaced_length old new (c.args.at - 1) c.joined-whole.result (c.replace_at.ensures.runs (c.args.at - 1) c.found_at-found.result.run c.found_at-found.ensures.spot)
+    replaced_length old new (c.args.at - 1) c.joined-whole.result (c.replace_at.ensures.runs (c.args.at - 1) c.found_near-found.result.run c.found_near-found.ensures.spot)
 
 pub replace_at-requires-clause-short : goal.replace_at-requires-clause-short
 replace_at-requires-clause-short c =
@@ -129,8 +130,8 @@ replace_at-requires-clause-short c =
 
 pub replace_at-requires-clause-state : goal.replace_at-requires-clause-state
 replace_at-requires-clause-state c =
-    let old = tree_runs c.args.mem.now c.args.root.index in let st = c.found_at-found.ensures.run in let table = c.args.states.now in
-    subst (λ (x : Run). IsState table x.state) (sym c.joined-whole.ensures) (given_there table old st.left st.right c.found_at-found.result.run st.here c.requires.told.given)
+    let old = tree_runs c.args.mem.now c.args.root.index in let st = c.found_near-found.ensures.run in let table = c.args.states.now in
+    subst (λ (x : Run). IsState table x.state) (sym c.joined-whole.ensures) (given_there table old st.left st.right c.found_near-found.result.run st.here c.requires.told.given)
 
 pub returns-then-at-eq0-clause-edge : goal.returns-then-at-eq0-clause-edge
 returns-then-at-eq0-clause-edge c =
@@ -145,10 +146,16 @@ ends all run front offset at st some is =
 
 pub returns-then-found-clause-edge : goal.returns-then-found-clause-edge
 returns-then-found-clause-edge c =
-    let f = c.found_at-found.result in
-    λ is. ends (tree_runs c.args.mem.now c.args.root.index) f.run f.before f.spot.offset c.args.at c.found_at-found.ensures.run (omega (arith, c.if-at-eq0.false)) (nat_is (f.spot.offset + 1) f.run.len is)
+    let f = c.found_near-found.result in
+    λ is. ends (tree_runs c.args.mem.now c.args.root.index) f.run f.before f.spot.offset c.args.at c.found_near-found.ensures.run (omega (arith, c.if-at-eq0.false)) (nat_is (f.spot.offset + 1) f.run.len is)
 
 pub returns-then-is_barred-clause-edge : goal.returns-then-is_barred-clause-edge
 returns-then-is_barred-clause-edge c =
-    let f = c.found_at-found.result in let st = c.found_at-found.ensures.run in
+    let f = c.found_near-found.result in let st = c.found_near-found.ensures.run in
     λ _. ends (tree_runs c.args.mem.now c.args.root.index) f.run f.before f.spot.offset c.args.at st (omega (arith, c.if-at-eq0.false)) (let l = c.if-found.false in let i = st.inside in omega (arith, l, i))
+
+pub returns-clause-held : goal.returns-clause-held
+returns-clause-held c =
+    let f = c.found_near-found.result in
+    subst (λ (r : Run). IsHeld c.replace_at.new.mem c.args.root.index f.spot.leaf.index f.spot.entry r f.before) refl
+    (c.replace_at.ensures.held f.run f.before c.found_near-found.ensures.held)

@@ -4,7 +4,7 @@ use Rattle.rt_tree.specs.declared.node.Run.{Run}
 use Rattle.rt_tree.specs.Shape.{tree_runs}
 use Rattle.rt_tree.specs.Sharing.{is_shared_by}
 use Rattle.rt_tree.proofs.Housing.{longer_shares}
-use Rattle.rt_tree.proofs.splice.is_barred.Goals as goal
+use Rattle.rt_tree.proofs.extend.is_barred.Goals as goal
 
 pub returns-then-is_new : goal.returns-then-is_new
 returns-then-is_new c =

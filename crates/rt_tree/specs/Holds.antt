@@ -1,0 +1,20 @@
+-- Where a run is known to stand. No public clause cites this module.
+use Rattle.std.specs.Prelude.{◌≡◌, ℕ, ◌<◌, length, slice_get, Some}
+use Rattle.rt_nodes.specs.Nodes.{entries}
+use Rattle.rt_tree.specs.declared.node.Counts.{Counts}
+use Rattle.rt_tree.specs.declared.node.Entry.TheVariants.{Here}
+use Rattle.rt_tree.specs.declared.node.Run.{Run}
+use Rattle.rt_tree.specs.declared.walk.Found.{Found}
+use Rattle.rt_tree.specs.Shape.{Memory, level_of, runs_before}
+use Rattle.rt_tree.specs.Sums.{counts_of}
+
+-- a run is an entry of a leaf, and the runs before it count so many
+pub record IsHeld (m : Memory) (root leaf entry : ℕ) (run : Run) (front : Counts) : Type 0 where
+  pub is : leaf < length m.heads
+  pub low : level_of m leaf ≡ 0
+  pub here : slice_get (entries m leaf) entry ≡ Some (Here run)
+  pub before : front ≡ counts_of (runs_before m root leaf entry)
+
+-- a spot that was found is its run's
+abbrev pub Holds : Memory → ℕ → Found → Type 0
+Holds m root found = IsHeld m root found.spot.leaf.index found.spot.entry found.run found.before
