@@ -9,6 +9,7 @@ pub mod Greatest
 pub mod Interning
 pub mod Keeping
 pub mod Listing
+pub mod ManyCounts
 pub mod Marked
 pub mod Merging
 pub mod Parts

@@ -4,12 +4,31 @@ ghost use Rattle.rt_tags.specs.Borders.{HasRoomForAll, beyond, border, is_tagged
 ghost use Rattle.rt_tags.specs.States.{IsState, IsTag};
 ghost use Rattle.rt_tags.specs.Toggles.{count_of};
 
+use crate::many::{self, FEW};
 use crate::states::{StateId, StateTable};
 use crate::toggles::Toggles;
 
 impl Toggles {
     // One toggle more of each tag that is on in a state and not in another.
     fn add_beyond(&mut self, states: &StateTable, here: StateId, there: StateId)
+        requires here { IsState states.now here }
+        requires there { IsState states.now there }
+        requires room { HasRoomForAll states.now self.old }
+        requires few { (tag : ℕ) → count_of tag self.old + 1 < 2 ^ 32 }
+        ensures given { (tag : ℕ) → IsTag states.now tag
+            → count_of tag self.new ≡ count_of tag self.old + beyond (is_tagged states.now tag here) (is_tagged states.now tag there) }
+        ensures others { (tag : ℕ) → length states.now.names ≤ tag → count_of tag self.new ≡ count_of tag self.old }
+        ensures capacity { self.new.capacity ≡ self.old.capacity }
+    {
+        if states.on(here).len() > FEW {
+            many::add_beyond(&mut self.counts, states, here, there);
+            return;
+        }
+        self.add_each_beyond(states, here, there);
+    }
+
+    // The same one by one.
+    fn add_each_beyond(&mut self, states: &StateTable, here: StateId, there: StateId)
         requires here { IsState states.now here }
         requires there { IsState states.now there }
         requires room { HasRoomForAll states.now self.old }

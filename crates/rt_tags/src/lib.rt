@@ -7,6 +7,7 @@
 mod borders;
 mod forgetting;
 pub mod laws;
+mod many;
 mod names;
 mod sorting;
 pub mod states;

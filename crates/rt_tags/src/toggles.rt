@@ -4,6 +4,7 @@ ghost use Rattle.std.specs.List.{insert, prefix_len};
 ghost use Rattle.rt_tags.specs.Kept.{is_tag_before};
 ghost use Rattle.rt_tags.specs.Toggles.{AreFrom, HasRoomFor, count_in, count_of, more_tags};
 
+use crate::many::{self, FEW};
 use crate::states::TagId;
 use rt_stamps::Fault;
 use std::alloc::Global;
@@ -21,7 +22,7 @@ pub struct TagCount {
 #[derive(Drop)]
 pub struct Toggles {
     // the tags that have toggles, in order
-    counts: Vec<TagCount>,
+    pub(crate) counts: Vec<TagCount>,
 }
 
 impl Model for Toggles {
@@ -37,9 +38,9 @@ impl Model for Toggles {
 
 // Where a tag's count stands among counts, or would stand, and how many toggles it tells.
 #[derive(Clone, Copy)]
-struct Spot {
-    place: usize,
-    count: u32,
+pub(crate) struct Spot {
+    pub(crate) place: usize,
+    pub(crate) count: u32,
 }
 
 // How many counts are those of lesser tags.
@@ -52,7 +53,7 @@ fn place_of(counts: &[TagCount], tag: TagId) -> usize
 }
 
 // Where a tag's count is.
-fn spot_of(counts: &[TagCount], tag: TagId) -> Spot
+pub(crate) fn spot_of(counts: &[TagCount], tag: TagId) -> Spot
     requires { AreFrom 0 counts.now }
     ensures place { result.place ≡ prefix_len (is_tag_before tag) counts.now }
     ensures within { result.place ≤ length counts.now }
@@ -182,6 +183,22 @@ impl Toggles {
         ensures tags { length self.new.counts ≤ length self.old.counts + more_tags other.now.counts self.old.counts }
         ensures capacity { self.new.capacity ≡ self.old.capacity }
     {
+        let counts = other.counts();
+        if counts.len() > FEW {
+            many::add(&mut self.counts, counts);
+            return;
+        }
+        self.add_each(other);
+    }
+
+    // The same one by one.
+    fn add_each(&mut self, other: &Toggles)
+        requires room { HasRoomFor (more_tags other.now.counts self.old.counts) self.old }
+        requires few { (tag : ℕ) → count_of tag self.old + count_of tag other.now < 2 ^ 32 }
+        ensures counts { (tag : ℕ) → count_of tag self.new ≡ count_of tag self.old + count_of tag other.now }
+        ensures tags { length self.new.counts ≤ length self.old.counts + more_tags other.now.counts self.old.counts }
+        ensures capacity { self.new.capacity ≡ self.old.capacity }
+    {
         for c in other.counts() {
             self.add(c.tag, c.count);
         }
@@ -189,6 +206,21 @@ impl Toggles {
 
     /// Each tag has as many toggles less as it has there.
     pub fn take_all(&mut self, other: &Toggles)
+        requires { (tag : ℕ) → count_of tag other.now ≤ count_of tag self.old }
+        ensures counts { (tag : ℕ) → count_of tag self.old ≡ count_of tag self.new + count_of tag other.now }
+        ensures tags { length self.new.counts ≤ length self.old.counts }
+        ensures capacity { self.new.capacity ≡ self.old.capacity }
+    {
+        let counts = other.counts();
+        if counts.len() > FEW {
+            many::take(&mut self.counts, counts);
+            return;
+        }
+        self.take_each(other);
+    }
+
+    // The same one by one.
+    fn take_each(&mut self, other: &Toggles)
         requires { (tag : ℕ) → count_of tag other.now ≤ count_of tag self.old }
         ensures counts { (tag : ℕ) → count_of tag self.old ≡ count_of tag self.new + count_of tag other.now }
         ensures tags { length self.new.counts ≤ length self.old.counts }

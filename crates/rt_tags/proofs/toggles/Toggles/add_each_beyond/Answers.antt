@@ -6,8 +6,8 @@ use Rattle.rt_tags.specs.Tags.{HaveNoRepeats, is_listed}
 use Rattle.rt_tags.specs.Toggles.{AreFrom, TagCounts, count_of}
 use Rattle.rt_tags.proofs.Beyond.{counted, from, had_none, left, not_it, once_from, passed, room_for}
 use Rattle.rt_tags.proofs.Commuting.{on_is_listed, on_once}
-use Rattle.rt_tags.proofs.toggles.Toggles.add_beyond.Goals as goal
-use Rattle.rt_tags.proofs.toggles.Toggles.add_beyond.Goals.{then-not-has, else-not-has}
+use Rattle.rt_tags.proofs.toggles.Toggles.add_each_beyond.Goals as goal
+use Rattle.rt_tags.proofs.toggles.Toggles.add_each_beyond.Goals.{then-not-has, else-not-has}
 
 pub add-requires-clause-room : goal.add-requires-clause-room
 add-requires-clause-room c none =

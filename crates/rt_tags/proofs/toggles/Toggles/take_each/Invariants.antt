@@ -1,6 +1,6 @@
 use Rattle.std.proofs.Common.{◌≡◌, ℕ, ◌+◌, ◌≤◌, drop, length}
 use Rattle.rt_tags.specs.Toggles.{count_in, count_of}
-use Rattle.rt_tags.proofs.toggles.Toggles.take_all.Given as goal
+use Rattle.rt_tags.proofs.toggles.Toggles.take_each.Given as goal
 
 abbrev pub invariant-loop-c : goal.invariant-loop-c
 invariant-loop-c l =

@@ -1,7 +1,7 @@
 use Rattle.std.proofs.Common.{◌∙◌, ◌+◌, ap, sym, arith}
 use Rattle.rt_tags.specs.Toggles.{count_in, count_of, more_tags}
 use Rattle.rt_tags.proofs.Counts.{next_count, still_few, still_room}
-use Rattle.rt_tags.proofs.toggles.Toggles.add_all.Goals as goal
+use Rattle.rt_tags.proofs.toggles.Toggles.add_each.Goals as goal
 
 pub add-requires-clause-room : goal.add-requires-clause-room
 add-requires-clause-room c z =

@@ -3,7 +3,7 @@ use Rattle.rt_tags.specs.Borders.{beyond, is_tagged}
 use Rattle.rt_tags.specs.States.{IsTag}
 use Rattle.rt_tags.specs.Toggles.{count_of}
 use Rattle.rt_tags.proofs.Beyond.{left}
-use Rattle.rt_tags.proofs.toggles.Toggles.add_beyond.Given as goal
+use Rattle.rt_tags.proofs.toggles.Toggles.add_each_beyond.Given as goal
 
 abbrev pub invariant-loop-tag : goal.invariant-loop-tag
 invariant-loop-tag l = record {

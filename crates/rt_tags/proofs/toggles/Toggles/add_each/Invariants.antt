@@ -1,6 +1,6 @@
 use Rattle.std.proofs.Common.{◌≡◌, ℕ, ◌+◌, ◌≤◌, drop, length}
 use Rattle.rt_tags.specs.Toggles.{count_in, count_of, more_tags}
-use Rattle.rt_tags.proofs.toggles.Toggles.add_all.Given as goal
+use Rattle.rt_tags.proofs.toggles.Toggles.add_each.Given as goal
 
 abbrev pub invariant-loop-c : goal.invariant-loop-c
 invariant-loop-c l =
