@@ -33,12 +33,6 @@ pub record IsBehind (all : List Run) (run : Run) (front : Counts) : Type 0 where
   pub here : all ≡ left ++ run ∷ right
   pub before : front ≡ counts_of left
 
--- A run stands among others, and those before it have so many cells.
-pub record IsAfter (all : List Run) (run : Run) (cells : ℕ) : Type 0 where
-  pub front : Counts
-  pub behind : IsBehind all run front
-  pub same : front.cells ≡ cells
-
 -- A run has been put in before the one that has the cell at a position.
 pub record IsPutAt (old new : List Run) (at : ℕ) (run : Run) : Type 0 where
   pub next : Run

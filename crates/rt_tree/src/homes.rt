@@ -227,7 +227,9 @@ impl Homes {
         })
     }
 
-    // The run of a leaf that has a stamp, if there is one and no other run has it.
+    // The run of a leaf that has a stamp, if there is one and no other run has it. It is compiled into its callers, which
+    // mostly want one of the counts.
+    #[inline(always)]
     pub(crate) fn locate(
         &self,
         mem: &Mem,
@@ -362,6 +364,7 @@ impl Homes {
 }
 
 // The run of a node that has a stamp, if it is a leaf and has one.
+#[inline(always)]
 fn home_in(mem: &Mem, root: NodeId, leaf: NodeId, stamp: Stamp) -> Option<Home>
     requires tree { IsTree mem.now root.index }
     requires few { AreFew (counts_of (tree_runs mem.now root.index)) }
@@ -376,6 +379,7 @@ fn home_in(mem: &Mem, root: NodeId, leaf: NodeId, stamp: Stamp) -> Option<Home>
 }
 
 // The run at an entry of a leaf.
+#[inline(always)]
 fn home_at(mem: &Mem, root: NodeId, leaf: NodeId, entry: usize) -> Option<Home>
     requires tree { IsTree mem.now root.index }
     requires few { AreFew (counts_of (tree_runs mem.now root.index)) }

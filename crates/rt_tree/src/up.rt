@@ -13,6 +13,7 @@ use crate::sums::{entry_counts, no_counts, plus};
 use rt_nodes::NodeId;
 
 // What the first entries of a node count.
+#[inline(always)]
 fn first_counts<L: Looks>(looks: &mut L, node: NodeId, count: usize) -> Counts
     requires node { IsNode (L.nodes looks.old) node.index }
     requires within { count ≤ length (entries (L.nodes looks.old) node.index) }
@@ -35,6 +36,7 @@ fn first_counts<L: Looks>(looks: &mut L, node: NodeId, count: usize) -> Counts
 }
 
 // What stands before a node in its parent counts, together with so much more.
+#[inline(always)]
 fn counts_with_left<L: Looks>(looks: &mut L, parent: NodeId, node: NodeId, more: Counts) -> Counts
     requires parent { IsNode (L.nodes looks.old) parent.index }
     requires child { 0 < count_of node.index (entries (L.nodes looks.old) parent.index) }
@@ -59,6 +61,7 @@ fn counts_with_left<L: Looks>(looks: &mut L, parent: NodeId, node: NodeId, more:
 
 /// What the runs before an entry of a leaf count, or before its end, where `entry` is how many it has. It takes at most
 /// sixteen looks a level, and no memory.
+#[inline(always)]
 pub fn ascend<L: Looks>(looks: &mut L, root: NodeId, leaf: NodeId, entry: usize) -> Counts
     requires tree { IsTree (L.nodes looks.old) root.index }
     requires few { AreFew (counts_of (tree_runs (L.nodes looks.old) root.index)) }
