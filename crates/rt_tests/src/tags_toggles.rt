@@ -119,6 +119,32 @@ fn six(alloc: Global) -> Result<Vec<TagId>, Fault> {
     Ok(tags)
 }
 
+// The numbers of forty-eight tags: more than those that are added one by one.
+fn many(alloc: Global) -> Result<Vec<TagId>, Fault> {
+    let mut table = StateTable::new(alloc)?;
+    let mut tags = Vec::new(alloc);
+    for i in 0..48u8 {
+        let name = format!(in alloc; "{i}")?;
+        tags.push(table.number(name.as_str())?)?;
+    }
+    Ok(tags)
+}
+
+// Every second tag here, and every third there, from one and from two toggles on: those that both have stand between others.
+fn interleaved(rt: &impl Abort, alloc: Global, tags: &[TagId]) -> Result<(), Fail> {
+    let mut some = Both::new(alloc, tags)?;
+    let mut others = Both::new(alloc, tags)?;
+    for i in 0..24 {
+        some.add(rt, i * 2, 1)?;
+    }
+    for i in 0..16 {
+        others.add(rt, 45 - i * 3, 2)?;
+    }
+    others.add(rt, 1, 1)?;
+    some.call(rt, &others, 0, Call::Trade)?;
+    others.call(rt, &some, 0, Call::Trade)
+}
+
 fn below(seed: &mut u64, limit: u64) -> u64
     requires { 0 < limit }
     ensures { result < limit }
@@ -211,5 +237,7 @@ fn calls(rt: &impl Abort, alloc: Global, tags: &[TagId]) -> Result<(), Fail> {
 #[test]
 fn toggles_of_tags(rt: HostRuntime) -> Result<(), Fail> {
     let tags = six(rt.alloc())?;
-    calls(&rt, rt.alloc(), &tags)
+    calls(&rt, rt.alloc(), &tags)?;
+    let tags = many(rt.alloc())?;
+    interleaved(&rt, rt.alloc(), &tags)
 }

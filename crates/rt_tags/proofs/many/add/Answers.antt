@@ -1,6 +1,6 @@
-use Rattle.std.proofs.Common.{◌≡◌, ◌≤◌, ◌<◌, ◌∙◌, ◌+◌, ap, arith, drop, length, refl, subst, sym, take, vec_capacity}
+use Rattle.std.proofs.Common.{◌≡◌, ◌∙◌, ap, arith, drop, length, refl, vec_capacity}
 use Rattle.std.proofs.lemmas.List.{drop_all, take_all}
-use Rattle.rt_tags.specs.Toggles.{TagCounts, count_in, more_tags}
+use Rattle.rt_tags.specs.Toggles.{TagCounts, count_in}
 use Rattle.rt_tags.proofs.Counts.{next_count, share, share_own, still_few, still_room}
 use Rattle.rt_tags.proofs.ManyCounts.{all_next, none_behind, placed, some_next}
 use Rattle.rt_tags.proofs.many.add.Goals as goal

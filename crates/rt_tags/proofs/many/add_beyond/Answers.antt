@@ -1,4 +1,4 @@
-use Rattle.std.proofs.Common.{◌≡◌, ◌≤◌, ◌∙◌, ◌+◌, ap, arith, drop, length, refl, subst, sym, take, vec_capacity}
+use Rattle.std.proofs.Common.{◌≡◌, ◌∙◌, ◌+◌, ap, arith, drop, length, refl, subst, sym, take, vec_capacity}
 use Rattle.std.proofs.lemmas.List.{drop_all, take_all}
 use Rattle.rt_tags.specs.Borders.{beyond, is_tagged}
 use Rattle.rt_tags.specs.Kept.{ArePlaced}

@@ -1,6 +1,5 @@
-use Rattle.std.proofs.Common.{◌≡◌, ◌≤◌, ◌∙◌, ◌-◌, ap, arith, set, subst, sym}
+use Rattle.std.proofs.Common.{◌≤◌, ◌∙◌, ◌-◌, ap, arith, set, subst, sym}
 use Rattle.std.proofs.lemmas.List.Edits.{map_over_more}
-use Rattle.rt_tags.specs.declared.toggles.TagCount.{TagCount}
 use Rattle.rt_tags.specs.Kept.{lessened}
 use Rattle.rt_tags.specs.Toggles.{count_in}
 use Rattle.rt_tags.proofs.ManyCounts.{enough_at}

@@ -1,4 +1,4 @@
-use Rattle.std.proofs.Common.{◌≡◌, ℕ, ◌≤◌, ◌<◌, ◌∙◌, ◌+◌, ◌==◌, ap, arith, cond, drop, subst, sym, take}
+use Rattle.std.proofs.Common.{◌≡◌, ℕ, ◌∙◌, ◌==◌, ap, arith, cond, subst, sym, take}
 use Rattle.rt_tags.specs.Kept.{ArePlaced}
 use Rattle.rt_tags.specs.Toggles.{count_in}
 use Rattle.rt_tags.proofs.Counts.{place}
