@@ -16,5 +16,6 @@ pub fn grammar()
 
 /// The `LINE.CHARACTER` that is written for a place names that place.
 pub fn printed_place()
-    ensures { (w : IndexedWidget) (place : ℕ) → IsProper w → place ≤ length w.text → index_of w (text_of_position (position_at w.text place)) ≡ Ok place }
+    ensures { (w : IndexedWidget) (place : ℕ) → IsProper w → place ≤ length w.text
+        → index_of w (text_of_position (position_at w.text place)) ≡ Ok place }
 {}
