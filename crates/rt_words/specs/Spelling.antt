@@ -66,7 +66,8 @@ IsSpelling separates piece word = (IsBare separates piece × (word ≡ piece)) �
 -- first and after the last.
 abbrev pub SpellsBy : (ℕ → Bool) → List ℕ → List Word → Type 0
 SpellsBy separates text [] = AreSeparators separates text
-SpellsBy separates text (word ∷ words) = (gap piece rest : List ℕ) × (text ≡ gap ++ (piece ++ rest)) × AreSeparators separates gap × IsSpelling separates piece word × EndsWord separates rest × SpellsBy separates rest words
+SpellsBy separates text (word ∷ words) = (gap piece rest : List ℕ) × (text ≡ gap ++ (piece ++ rest)) × AreSeparators separates gap
+    × IsSpelling separates piece word × EndsWord separates rest × SpellsBy separates rest words
 
 -- a text that spells no words is badly quoted
 abbrev pub IsBadlyQuotedBy : (ℕ → Bool) → List ℕ → Type 0
