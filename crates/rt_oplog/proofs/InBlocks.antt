@@ -3,7 +3,7 @@ use Rattle.std.proofs.Common.{◌≡◌, ℕ, zero, suc, ◌+◌, ◌-◌, ◌<�
 use Rattle.std.specs.Prelude.{slice_get, Some}
 use Rattle.std.specs.List.{AllByRecursion, list_all}
 use Rattle.std.specs.List.Sorted.{IsPartitionedBy}
-use Rattle.std.proofs.lemmas.List.{take_more, take_all}
+use Rattle.std.proofs.lemmas.List.{take_more}
 use Rattle.std.proofs.lemmas.List.Concat.{flat_map-append, get_or-flat_map}
 use Rattle.std.proofs.lemmas.List.Folds.{list_all_at}
 use Rattle.std.proofs.lemmas.Option.{slice_get_read}
@@ -104,10 +104,6 @@ falling_back (x ∷ xs) ys h = (all_back (λ q. is_before (stamp_of q) (stamp_of
     all_back : (P : Operation → Type 0) (xs ys : List Operation) → AllByRecursion P (xs ++ ys) → AllByRecursion P xs
     all_back P [] ys h = tt
     all_back P (x ∷ xs) ys h = (h.0, all_back P xs ys h.1)
-
-pub places_first : (bs : List Block) → places_before bs 0 ≡ 0
-places_first [] = refl
-places_first (b ∷ bs) = refl
 
 pub places_next : (bs : List Block) (i : ℕ) (b : Block) → i < length bs → b ≡ get_or bs i b → in_blocks (take (i + 1) bs) ≡ in_blocks (take i bs) ++ b.places.items
 places_next bs i b l e =
@@ -225,9 +221,6 @@ place_at bs i at place b l e w r =
 -- a block's places are fewer than those from it on
 pub places_up_to : (bs : List Block) (i : ℕ) (b : Block) → i < length bs → b ≡ get_or bs i b → places_before bs (i + 1) ≡ places_before bs i + length b.places.items
 places_up_to bs i b l e = ap length (places_next bs i b l e) ∙ length-append (in_blocks (take i bs)) b.places.items
-
-pub places_all : (bs : List Block) (i : ℕ) → length bs ≤ i → places_before bs i ≡ length (in_blocks bs)
-places_all bs i l = ap (λ (xs : List Block). length (in_blocks xs)) (take_all i bs l)
 
 -- what holds at a place of the list whatever stands in its stead holds of what stands there
 pub of_block : (P : Block → Type 0) (bs : List Block) (i : ℕ) (b : Block) → b ≡ get_or bs i b → ((d : Block) → P (get_or bs i d)) → P b
