@@ -23,6 +23,8 @@ mod oplog_logs;
 #[cfg(test)]
 mod requests;
 #[cfg(test)]
+mod rga_make;
+#[cfg(test)]
 mod rga_orders;
 #[cfg(test)]
 mod rga_sites;
