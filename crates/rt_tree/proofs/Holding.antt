@@ -1,6 +1,5 @@
 -- Runs that are known to stand somewhere.
-use Rattle.std.proofs.Common.{◌≡◌, ℕ, zero, suc, ◌+◌, ◌<◌, List, [], ◌∷◌, ◌++◌, length, take, set, refl, sym, ap, ◌∙◌, arith, slice_get, Some, append_assoc}
-use Rattle.std.proofs.lemmas.List.Concat.{flat_map-append}
+use Rattle.std.proofs.Common.{◌≡◌, ℕ, zero, suc, ◌+◌, ◌<◌, List, [], ◌∷◌, ◌++◌, length, take, set, refl, sym, ap, ◌∙◌, arith, slice_get, Some}
 use Rattle.std.proofs.lemmas.List.{take-map, take-set}
 use Rattle.rt_nodes.specs.Nodes.{entries, with_entries}
 use Rattle.rt_tree.specs.declared.node.Counts.{Counts}
@@ -11,10 +10,9 @@ use Rattle.rt_tree.specs.declared.node.Run.{Run}
 use Rattle.rt_tree.specs.Changes.{bare, links, strip}
 use Rattle.rt_tree.specs.Holds.{IsHeld}
 use Rattle.rt_tree.specs.Shape.{IsShape, IsTree, Memory, ahead, all_below, below, level_of, runs_before}
-use Rattle.rt_tree.specs.Sums.{amount, counts_of, counts_of_run, plus}
+use Rattle.rt_tree.specs.Sums.{amount, counts_of, counts_of_run}
 use Rattle.rt_tree.specs.Walks.{IsSpot}
 use Rattle.rt_tree.proofs.Bares.{bare-entries}
-use Rattle.rt_tree.proofs.Measures.{counts-append, plus-none}
 use Rattle.rt_tree.proofs.Frame.{ahead-same, new-at}
 use Rattle.rt_tree.proofs.Wholes.{ahead-bare, tree-shape}
 
@@ -65,37 +63,6 @@ held_spot m root by place leaf entry offset run front held at inside = record {
 
 pub spot_held : (m : Memory) (root : ℕ) (by : Measure) (place leaf entry offset : ℕ) (run : Run) (front : Counts) → IsSpot m root by place leaf entry offset run → front ≡ counts_of (runs_before m root leaf entry) → IsHeld m root leaf entry run front
 spot_held m root by place leaf entry offset run front spot is = record { is = spot.is; low = spot.low; here = spot.here; before = is }
-
--- THE NEXT RUN
-
-held_some : (es : List Entry) (i : ℕ) (e : Entry) → slice_get es i ≡ Some e → i < length es
-held_some [] i e is = cc
-held_some (x ∷ es) zero e is = omega arith
-held_some (x ∷ es) (suc i) e is = let h = held_some es i e is in omega (arith, h)
-
-take_next : (es : List Entry) (i : ℕ) (e : Entry) → slice_get es i ≡ Some e → take (suc i) es ≡ take i es ++ e ∷ []
-take_next [] i e is = cc
-take_next (x ∷ es) zero e is = let h : x ≡ e = cc in ap (λ (y : Entry). y ∷ []) h
-take_next (x ∷ es) (suc i) e is = ap (λ l. x ∷ l) (take_next es i e is)
-
-module _ (m : Memory) (root leaf entry : ℕ) (run : Run) (front : Counts) (held : IsHeld m root leaf entry run front) where
-  pub held_within : entry < length (entries m leaf)
-  held_within = held_some (entries m leaf) entry (Here run) held.here
-
-  -- what the runs before it and it count
-  pub before_more : plus front (counts_of_run run) ≡ counts_of (runs_before m root leaf (suc entry))
-  before_more =
-      let es = entries m leaf in
-      let a = ahead m (level_of m root) leaf in
-      let b = all_below m 0 (take entry es) in
-      let cut = ap (all_below m 0) (take_next es entry (Here run) held.here) ∙ flat_map-append (below m 0) (take entry es) (Here run ∷ []) in
-      let whole = ap (λ l. counts_of (a ++ l)) cut ∙ ap counts_of (sym (append_assoc a b (run ∷ []))) ∙ counts-append (a ++ b) (run ∷ []) in
-      ap (λ n. plus n (counts_of_run run)) held.before ∙ ap (plus (counts_of (a ++ b))) (sym (plus-none (counts_of_run run))) ∙ sym whole
-
-  pub held_next : (next : Run) (sum : Counts) (at : ℕ) → at ≡ entry + 1 → slice_get (entries m leaf) at ≡ Some (Here next) → sum ≡ plus front (counts_of_run run) → IsHeld m root leaf at next sum
-  held_next next sum at behind there is =
-      let one : suc entry ≡ at = omega (arith, behind) in
-      record { is = held.is; low = held.low; here = there; before = is ∙ before_more ∙ ap (λ n. counts_of (runs_before m root leaf n)) one }
 
 module _ (m new : Memory) (root height x i : ℕ) (run before : Run) (front : Counts) (t : IsTree m root) (top : height ≡ level_of m root)
     (is : bare new ≡ with_entries (bare m) x (links (set (entries m x) i (Here run)))) (held : IsHeld m root x i before front) where

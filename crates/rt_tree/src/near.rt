@@ -7,8 +7,8 @@ ghost use Rattle.rt_tree.specs.Walks.{IsSpot, StandsAt};
 
 use crate::find::height;
 use crate::looks::Counted;
-use crate::node::{Entry, Measure, Mem};
-use crate::sums::{amount, counts_of_run, plus};
+use crate::node::{Measure, Mem};
+use crate::sums::{amount, counts_of_run};
 use crate::walk::{Found, Spot, descend_by};
 use rt_nodes::NodeId;
 
@@ -37,60 +37,6 @@ fn moved(found: &Found, offset: usize) -> Found
     Found { spot, ..*found }
 }
 
-// The run behind a spot's, if it is in the same leaf.
-fn next_in_leaf(mem: &Mem, root: NodeId, found: &Found) -> Option<Found>
-    requires tree { IsTree mem.now root.index }
-    requires few { AreFew (counts_of (tree_runs mem.now root.index)) }
-    requires held { Holds mem.now root.index found.now }
-    ensures { IfSome result (Holds mem.now root.index) }
-{
-    let leaf = found.spot.leaf;
-    let count = mem.len(leaf);
-    let entry = found.spot.entry + 1;
-    if entry >= count {
-        return None;
-    }
-    match *mem.entry(leaf, entry) {
-        Entry::Down(..) => None,
-        Entry::Here(run) => {
-            let before = plus(found.before, counts_of_run(found.run));
-            let spot = Spot {
-                leaf,
-                entry,
-                offset: 0,
-            };
-            Some(Found { spot, run, before })
-        }
-    }
-}
-
-// The run that has a place, if it is that of a spot.
-fn found_in(mem: &Mem, root: NodeId, found: &Found, by: Measure, place: usize) -> Option<Found>
-    requires tree { IsTree mem.now root.index }
-    requires held { Holds mem.now root.index found.now }
-    ensures spot { IfSome result (λ r. IsSpot mem.now root.index by place r.spot.leaf.index r.spot.entry r.spot.offset r.run) }
-    ensures held { IfSome result (Holds mem.now root.index) }
-{
-    let offset = offset_in(found, by, place)?;
-    Some(moved(found, offset))
-}
-
-// The same, or that of the next one in its leaf.
-fn found_beside(mem: &Mem, root: NodeId, found: &Found, by: Measure, place: usize) -> Option<Found>
-    requires tree { IsTree mem.now root.index }
-    requires few { AreFew (counts_of (tree_runs mem.now root.index)) }
-    requires held { Holds mem.now root.index found.now }
-    ensures spot { IfSome result (λ r. IsSpot mem.now root.index by place r.spot.leaf.index r.spot.entry r.spot.offset r.run) }
-    ensures held { IfSome result (Holds mem.now root.index) }
-{
-    let here = found_in(mem, root, found, by, place);
-    if here.is_some() {
-        return here;
-    }
-    let next = next_in_leaf(mem, root, found)?;
-    found_in(mem, root, &next, by, place)
-}
-
 // The run that has a place, with the spot where it stands.
 pub(crate) fn found_near(
     mem: &Mem,
@@ -108,8 +54,8 @@ pub(crate) fn found_near(
     ensures held { Holds mem.now root.index result }
 {
     if let Some(found) = last {
-        if let Some(near) = found_beside(mem, root, found, by, place) {
-            return near;
+        if let Some(offset) = offset_in(found, by, place) {
+            return moved(found, offset);
         }
     }
     height(mem, root);
