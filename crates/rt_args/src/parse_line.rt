@@ -1,5 +1,5 @@
 // The command line, by clap.
-ghost use Rattle.std.specs.Prelude.{◌≡◌, ◌<◌, IfErr, IfOk, Some, codes, false, map, option_map, string_bytes};
+ghost use Rattle.std.specs.Prelude.{◌≡◌, ◌<◌, IfErr, IsOkUnless, IfOk, Some, codes, false, map, option_map, string_bytes};
 ghost use Rattle.clap.specs.Words.{app_of, found_of, new_app, rows_of, rule_of, subcommand_rows_of, with_rule, with_subcommand};
 ghost use Rattle.clap.specs.declared.builder.Command.TheViews.{out-Command as fields_of};
 ghost use Rattle.rt_args.specs.CommandLine.{HasFile, HasSite, HasValues, IsCommand, IsOption, IsWhole, LineIn, LineOf, RefusesLine, Takes, file_given, file_word, files_given, files_word, join_command, path_option, peertext, program, run_command, run_options, show_command, site_given, site_option, subcommand_name};
@@ -156,7 +156,7 @@ fn site_in(run: &ArgMatches<'_>) -> Site
 fn file_in(alloc: Global, matches: &ArgMatches<'_>, name: &str) -> Result<String, LineFault>
     requires { HasFile name.now (rows_of (found_of matches.now)) }
     ensures file { IfOk result (λ file. file_given name.now (rows_of (found_of matches.now)) ≡ Some (string_bytes file)) }
-    ensures fault { IfErr result (λ fault. fault ≡ NoMemory) }
+    ensures fault { IsOkUnless result NoMemory }
 {
     let file = matches.get_str(name).unwrap();
     Ok(String::from_str(alloc, file)?)
@@ -167,7 +167,7 @@ fn join_in(alloc: Global, join: &ArgMatches<'_>) -> Result<Line, LineFault>
     requires b { HasFile (codes "B") (rows_of (found_of join.now)) }
     requires out { HasFile (codes "OUT") (rows_of (found_of join.now)) }
     ensures line { IfOk result (λ line. (subcommand_name line ≡ codes "join") × HasValues (rows_of (found_of join.now)) line) }
-    ensures fault { IfErr result (λ fault. fault ≡ NoMemory) }
+    ensures fault { IsOkUnless result NoMemory }
 {
     let a = file_in(alloc, join, "A")?;
     let b = file_in(alloc, join, "B")?;
@@ -178,7 +178,7 @@ fn join_in(alloc: Global, join: &ArgMatches<'_>) -> Result<Line, LineFault>
 // The path that an option was given, if it was.
 fn path_in(alloc: Global, run: &ArgMatches<'_>, name: &str) -> Result<Option<String>, LineFault>
     ensures path { IfOk result (λ path. file_given name.now (rows_of (found_of run.now)) ≡ option_map string_bytes path) }
-    ensures fault { IfErr result (λ fault. fault ≡ NoMemory) }
+    ensures fault { IsOkUnless result NoMemory }
 {
     match run.get_str(name) {
         Some(path) => Ok(Some(String::from_str(alloc, path)?)),
@@ -199,7 +199,7 @@ fn copied(alloc: Global, texts: &[&str]) -> Result<Vec<String>, AllocError>
 // The names of the files that a subcommand was given, as many as there are.
 fn files_in(alloc: Global, run: &ArgMatches<'_>, name: &str) -> Result<Vec<String>, LineFault>
     ensures files { IfOk result (λ files. files_given name.now (rows_of (found_of run.now)) ≡ map string_bytes files.items) }
-    ensures fault { IfErr result (λ fault. fault ≡ NoMemory) }
+    ensures fault { IsOkUnless result NoMemory }
 {
     match run.get_raw(name) {
         Some(files) => Ok(copied(alloc, files)?),
@@ -210,7 +210,7 @@ fn files_in(alloc: Global, run: &ArgMatches<'_>, name: &str) -> Result<Vec<Strin
 fn run_in(alloc: Global, run: &ArgMatches<'_>) -> Result<Line, LineFault>
     requires { HasSite (rows_of (found_of run.now)) }
     ensures line { IfOk result (λ line. (subcommand_name line ≡ codes "run") × HasValues (rows_of (found_of run.now)) line) }
-    ensures fault { IfErr result (λ fault. fault ≡ NoMemory) }
+    ensures fault { IsOkUnless result NoMemory }
 {
     let site = site_in(run);
     let log = path_in(alloc, run, "log")?;
@@ -228,7 +228,7 @@ fn run_in(alloc: Global, run: &ArgMatches<'_>) -> Result<Line, LineFault>
 fn line_in(alloc: Global, matches: &ArgMatches<'_>) -> Result<Line, LineFault>
     requires { IsWhole (subcommand_rows_of matches.now) }
     ensures line { IfOk result (LineIn (subcommand_rows_of matches.now)) }
-    ensures fault { IfErr result (λ fault. fault ≡ NoMemory) }
+    ensures fault { IsOkUnless result NoMemory }
 {
     match matches.subcommand_matches("run") {
         Some(run) => run_in(alloc, run),

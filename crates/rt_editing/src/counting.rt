@@ -1,5 +1,5 @@
 // How many characters may come back.
-ghost use Rattle.std.specs.Prelude.{◌≡◌, ◌+◌, ◌^◌, ◌<◌, length, IfErr, IfOk};
+ghost use Rattle.std.specs.Prelude.{◌≡◌, ◌+◌, ◌^◌, ◌<◌, length, IsOkUnless, IfOk};
 ghost use Rattle.rt_ops.specs.Operations.{stamps_of_span};
 ghost use Rattle.rt_undo.specs.Actions.{group_of, removed_in};
 ghost use Rattle.rt_editing.specs.Returns.{removed_count};
@@ -12,7 +12,7 @@ fn with_span(count: usize, span: Span) -> Result<usize, Fault>
     requires { count < 2 ^ 32 }
     ensures ok { IfOk result (λ all. all ≡ count + length (stamps_of_span span)) }
     ensures few { IfOk result (λ all. all < 2 ^ 32) }
-    ensures err { IfErr result (λ fault. fault ≡ Fault.NoMemory) }
+    ensures err { IsOkUnless result Fault.NoMemory }
 {
     if span.last < span.first {
         return Ok(count);
@@ -29,7 +29,7 @@ fn with_removed(count: usize, removed: &[RemovedSpan]) -> Result<usize, Fault>
     requires { count < 2 ^ 32 }
     ensures ok { IfOk result (λ all. all ≡ count + length (removed_in removed.now)) }
     ensures few { IfOk result (λ all. all < 2 ^ 32) }
-    ensures err { IfErr result (λ fault. fault ≡ Fault.NoMemory) }
+    ensures err { IsOkUnless result Fault.NoMemory }
 {
     let mut all = count;
     for part in removed {
@@ -43,7 +43,7 @@ fn with_removed(count: usize, removed: &[RemovedSpan]) -> Result<usize, Fault>
 pub(crate) fn most_returns(group: &[Action]) -> Result<usize, Fault>
     ensures ok { IfOk result (λ most. most ≡ removed_count (group_of group.now)) }
     ensures few { IfOk result (λ most. most < 2 ^ 32) }
-    ensures err { IfErr result (λ fault. fault ≡ Fault.NoMemory) }
+    ensures err { IsOkUnless result Fault.NoMemory }
 {
     let mut all = 0;
     for action in group {

@@ -1,5 +1,5 @@
 // What is recorded of an edit.
-ghost use Rattle.std.specs.Prelude.{◌≡◌, ◌≤◌, true, List, [], None, Some, IfErr, IfOk, OnOk, map, string_bytes};
+ghost use Rattle.std.specs.Prelude.{◌≡◌, ◌≤◌, true, List, [], None, Some, IfErr, IsOkUnless, IfOk, OnOk, map, string_bytes};
 ghost use Rattle.rt_stamps.specs.declared.limits.TheConstants.{GREATEST_COUNT};
 ghost use Rattle.rt_stamps.specs.Outcomes.{Refuses};
 ghost use Rattle.rt_stamps.specs.Words.{Word};
@@ -28,7 +28,7 @@ pub(crate) fn prepare_insertion<S: TextStore>(
 ) -> Result<(), Fault>
     ensures pending { OnOk result (recorder.old.undo ≡ true → recorder.new.pending ≡ Some []) }
     ensures kept { Keeps recorder.old recorder.new }
-    ensures err { IfErr result (λ fault. fault ≡ Fault.NoMemory) }
+    ensures err { IsOkUnless result Fault.NoMemory }
 {
     if !recorder.is_undo_on() {
         return Ok(());
@@ -46,7 +46,7 @@ fn prepare<S: TextStore>(
 ) -> Result<(), Fault>
     ensures pending { OnOk result (recorder.new.pending ≡ Some (map as_removed (lost_in view.now ranges.now))) }
     ensures kept { Keeps recorder.old recorder.new }
-    ensures err { IfErr result (λ fault. fault ≡ Fault.NoMemory) }
+    ensures err { IsOkUnless result Fault.NoMemory }
 {
     let (lost, states) = view.lost(ranges)?;
     recorder.prepare(&lost, states)
@@ -74,7 +74,7 @@ pub(crate) fn prepare_deletion<S: TextStore>(
 fn found<S: TextStore>(view: &View<S>, index: &str) -> Result<Option<usize>, Fault>
     ensures ok { IfOk result (λ place. index_check (widget_of view.now) index.now ≡ None
         → place ≡ Some (place_at_index (widget_of view.now) index.now)) }
-    ensures err { IfErr result (λ fault. fault ≡ Fault.NoMemory) }
+    ensures err { IsOkUnless result Fault.NoMemory }
 {
     match view.place(index) {
         Ok(place) => Ok(Some(place)),
@@ -94,7 +94,7 @@ pub(crate) fn prepare_replacement<S: TextStore>(
     ensures pending { OnOk result (recorder.old.undo ≡ true → index_check (widget_of view.now) from.now ≡ None
         → index_check (widget_of view.now) to.now ≡ None → recorder.new.pending ≡ Some (map as_removed (lost_from view.now from.now to.now))) }
     ensures kept { Keeps recorder.old recorder.new }
-    ensures err { IfErr result (λ fault. fault ≡ Fault.NoMemory) }
+    ensures err { IsOkUnless result Fault.NoMemory }
 {
     if !recorder.is_undo_on() {
         return Ok(());

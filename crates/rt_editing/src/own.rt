@@ -1,5 +1,5 @@
 // Characters that go, with their tags as states of a table of one's own.
-ghost use Rattle.std.specs.Prelude.{◌≡◌, map, IfErr, IfOk};
+ghost use Rattle.std.specs.Prelude.{◌≡◌, map, IsOkUnless, IfOk};
 ghost use Rattle.rt_revert.specs.Reverting.{as_removed};
 ghost use Rattle.rt_store.specs.Shown.{shown};
 ghost use Rattle.rt_store.specs.Tagged.{AreStates};
@@ -25,7 +25,7 @@ pub(crate) fn removed_cells(
     ensures ok { IfOk result (λ removed. map (named_removed table.new) (removed_in removed.items) ≡ map as_removed (map (shown states.now) cells.now)) }
     ensures given { IfOk result (λ removed. RemovedAreGiven table.new (removed_in removed.items)) }
     ensures ids { KeepsIds table.old table.new }
-    ensures err { IfErr result (λ fault. fault ≡ Fault.NoMemory) }
+    ensures err { IsOkUnless result Fault.NoMemory }
 {
     let mut removed = Vec::new(alloc);
     let mut known = None;

@@ -1,5 +1,5 @@
 // What a site records of its own edits.
-ghost use Rattle.std.specs.Prelude.{◌≡◌, ◌↔◌, ◌⊎◌, ◌^◌, ◌<◌, ◌≤◌, Bool, true, false, None, Some, Err, length, map, is_some, if◌then◌else◌, IfErr, IfOk, IfSome, OnErr, OnOk};
+ghost use Rattle.std.specs.Prelude.{◌≡◌, ◌↔◌, ◌⊎◌, ◌^◌, ◌<◌, ◌≤◌, Bool, true, false, None, Some, Err, length, map, is_some, if◌then◌else◌, IfErr, IsOkUnless, IfOk, IfSome, OnErr, OnOk};
 ghost use Rattle.rt_stamps.specs.declared.stamp.Stamp.{Stamp};
 ghost use Rattle.rt_revert.specs.Reverting.{as_removed};
 ghost use Rattle.rt_store.specs.Shown.{shown};
@@ -77,7 +77,7 @@ impl Recorder {
         ensures settings { IfOk result (λ recorder. (recorder.undo ≡ false) × (recorder.auto ≡ true)) }
         ensures pending { IfOk result (λ recorder. recorder.pending ≡ None) }
         ensures came_back { IfOk result (λ recorder. (stamp : Stamp) → came_back recorder stamp ≡ false) }
-        ensures err { IfErr result (λ fault. fault ≡ Fault.NoMemory) }
+        ensures err { IsOkUnless result Fault.NoMemory }
     {
         let table = StateTable::new(alloc)?;
         Ok(Recorder {
@@ -129,7 +129,7 @@ impl Recorder {
         ensures came_back { (stamp : Stamp) → came_back self.new stamp ≡ came_back self.old stamp }
         ensures ids { KeepsIds self.old.table self.new.table }
         ensures none { OnErr result (self.new.pending ≡ None) }
-        ensures err { IfErr result (λ fault. fault ≡ Fault.NoMemory) }
+        ensures err { IsOkUnless result Fault.NoMemory }
     {
         self.next = None;
         let removed = own::removed_cells(self.alloc, states, lost, &mut self.table)?;

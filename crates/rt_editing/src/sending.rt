@@ -1,5 +1,5 @@
 // The file of a site's log.
-ghost use Rattle.std.specs.Prelude.{◌≡◌, ◌<◌, IfOk, IfErr, reverse};
+ghost use Rattle.std.specs.Prelude.{◌≡◌, ◌<◌, IfOk, IsOkUnless, reverse};
 ghost use Rattle.rt_ops.specs.File.{spelling};
 
 use rt_oplog::{OpLog, write_file};
@@ -19,7 +19,7 @@ fn spelled<A: Ledger, B: Ledger>(
     requires writes { (writes.name ≡ A.name) × (writes.parts ≡ A.parts) × (0 < A.parts) }
     requires failures { (failures.name ≡ B.name) × (failures.parts ≡ B.parts) × (0 < B.parts) }
     ensures ok { IfOk result (λ bytes. bytes.items ≡ spelling (reverse log.now.operations)) }
-    ensures err { IfErr result (λ fault. fault ≡ Fault.NoMemory) }
+    ensures err { IsOkUnless result Fault.NoMemory }
 {
     let mut bytes = Writer::new(
         Vec::new(alloc),
@@ -36,7 +36,7 @@ fn spelled<A: Ledger, B: Ledger>(
 /// memory.
 pub fn export(alloc: Global, log: &OpLog) -> Result<Vec<u8>, Fault>
     ensures ok { IfOk result (λ bytes. bytes.items ≡ spelling (reverse log.now.operations)) }
-    ensures err { IfErr result (λ fault. fault ≡ Fault.NoMemory) }
+    ensures err { IsOkUnless result Fault.NoMemory }
 {
     spelled::<Brand, Brand>(alloc, log, Blank::new(1), Blank::new(1))
 }

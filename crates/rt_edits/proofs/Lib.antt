@@ -48,5 +48,6 @@ pub mod TagDraftLaws
 pub mod TagEffects
 pub mod TagNames
 pub mod TagPlaces
+pub mod Texts
 pub mod WithinLaws
 pub mod WriterLaws

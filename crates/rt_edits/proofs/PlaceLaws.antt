@@ -7,7 +7,7 @@ use Rattle.rt_store.specs.declared.cell.Cell.{Cell}
 use Rattle.rt_store.specs.Cells.{text_of, visible_of}
 use Rattle.rt_stamps.specs.Places.{EndsWithNewline}
 use Rattle.rt_edits.specs.Deletions.{places_from}
-pub use Rattle.rt_edits.specs.Texts.{ends_text, text_within}
+pub use Rattle.rt_edits.proofs.Texts.{ends_text, text_within}
 
 -- places of a stretch that begins at 0 are those of the text
 pub places_from_start : (test : ℕ → Bool) (place : ℕ) → places_from 0 test place ≡ test place

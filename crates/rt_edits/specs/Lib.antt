@@ -17,7 +17,6 @@ pub mod Selected
 pub mod Selections
 pub mod TagDrafts
 pub mod TagWrites
-pub mod Texts
 pub use Rattle.rt_stamps.specs.Outcomes
 pub use Rattle.rt_stamps.specs.Places
 pub use Rattle.rt_stamps.specs.Words

@@ -1,5 +1,5 @@
 // The visible cells in ranges.
-ghost use Rattle.std.specs.Prelude.{◌≡◌, ◌+◌, ◌-◌, ◌*◌, ◌/◌, ◌<◌, ◌≤◌, ◌++◌, All, IfOk, IfErr, OnOk, length, take, drop};
+ghost use Rattle.std.specs.Prelude.{◌≡◌, ◌+◌, ◌-◌, ◌*◌, ◌/◌, ◌<◌, ◌≤◌, ◌++◌, All, IfOk, IsOkUnless, OnOk, length, take, drop};
 ghost use Rattle.rt_store.specs.Cells.{visible_of};
 ghost use Rattle.rt_edits.specs.Removals.{is_covered, cells_at, AreInOrder};
 
@@ -18,7 +18,7 @@ fn push_cells<S: TextStore>(
     requires order { range.from ≤ range.to }
     requires within { range.to ≤ length (visible_of (S.list store.now)) }
     ensures ok { OnOk result (cells.new.items ≡ cells.old.items ++ take (range.to - range.from) (drop range.from (visible_of (S.list store.now)))) }
-    ensures err { IfErr result (λ fault. fault ≡ Fault.NoMemory) }
+    ensures err { IsOkUnless result Fault.NoMemory }
 {
     for place in range.from..range.to {
         cells.push(store.cell_at(place))?;
@@ -35,7 +35,7 @@ pub fn cells_in<S: TextStore>(
     requires order { AreInOrder 0 ranges.now }
     requires within { All (λ range. range.to ≤ length (visible_of (S.list store.now))) ranges.now }
     ensures ok { IfOk result (λ cells. cells.items ≡ cells_at (is_covered ranges.now) 0 (S.list store.now)) }
-    ensures err { IfErr result (λ fault. fault ≡ Fault.NoMemory) }
+    ensures err { IsOkUnless result Fault.NoMemory }
 {
     let mut cells = Vec::new(alloc);
     for range in ranges {

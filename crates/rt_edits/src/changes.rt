@@ -1,5 +1,5 @@
 // The characters on which a tag changes, and the operations for it.
-ghost use Rattle.std.specs.Prelude.{◌≡◌, ◌++◌, All, IfErr, IfOk, IfSome, OnOk, map};
+ghost use Rattle.std.specs.Prelude.{◌≡◌, ◌++◌, All, IsOkUnless, IfOk, IfSome, OnOk, map};
 ghost use Rattle.rt_stamps.specs.Words.{Word};
 ghost use Rattle.rt_stamps.specs.declared.limits.TheConstants.{MOST_SPANS};
 ghost use Rattle.rt_ops.specs.Edits.{body_of};
@@ -52,7 +52,7 @@ fn changed_stamps(
     requires states { AreStates states.now cells.now }
     ensures ok { IfOk result (λ stamps. (name : Word) → Numbers states.now name tag.now
         → stamps.items ≡ changed_stamps name on (map (shown states.now) cells.now)) }
-    ensures err { IfErr result (λ fault. fault ≡ Fault.NoMemory) }
+    ensures err { IsOkUnless result Fault.NoMemory }
 {
     let mut stamps = Vec::new(alloc);
     for cell in cells {
@@ -77,7 +77,7 @@ pub(crate) fn push_changes(
     requires states { AreStates states.now cells.now }
     ensures ok { OnOk result (map body_of drafts.new.items
         ≡ map body_of drafts.old.items ++ tag_drafts MOST_SPANS on name.now (changed_stamps name.now on (map (shown states.now) cells.now))) }
-    ensures err { IfErr result (λ fault. fault ≡ Fault.NoMemory) }
+    ensures err { IsOkUnless result Fault.NoMemory }
 {
     let stamps = changed_stamps(alloc, states, cells, &states.known(name), on)?;
     let spans = spans_of(alloc, stamps)?;

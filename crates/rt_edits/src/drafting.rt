@@ -1,5 +1,5 @@
 // Deletions and tag writes, as the operations that they make.
-ghost use Rattle.std.specs.Prelude.{◌≡◌, ℕ, ◌<◌, ◌≤◌, ◌++◌, ◌&&◌, All, IfOk, IfErr, OnOk, [], is_some, length, map, not, option_map, slice_get, string_bytes, unwrap_or};
+ghost use Rattle.std.specs.Prelude.{◌≡◌, ℕ, ◌<◌, ◌≤◌, ◌++◌, ◌&&◌, All, IfOk, IsOkUnless, OnOk, [], is_some, length, map, not, option_map, slice_get, string_bytes, unwrap_or};
 ghost use Rattle.rt_stamps.specs.declared.limits.TheConstants.{MOST_SPANS};
 ghost use Rattle.rt_ops.specs.Edits.{body_of};
 ghost use Rattle.rt_store.specs.Cells.{AreDistinct, text_of, visible_of};
@@ -57,7 +57,7 @@ pub fn removals<S: TextStore>(
     requires order { AreInOrder 0 removed.now }
     requires within { All (λ range. range.to ≤ length (visible_of (S.list store.now))) removed.now }
     ensures ok { IfOk result (λ drafts. map body_of drafts.items ≡ removal_drafts MOST_SPANS (is_covered removed.now) (S.list store.now)) }
-    ensures err { IfErr result (λ fault. fault ≡ Fault.NoMemory) }
+    ensures err { IsOkUnless result Fault.NoMemory }
 {
     let stamps = stamps_in(alloc, store, removed)?;
     let spans = spans_of(alloc, stamps)?;
@@ -79,7 +79,7 @@ fn push_newline<S: TextStore>(
     ensures ok { OnOk result (let newline = slice_get (visible_of (map (shown states.now) (S.list store.now))) place in
         map body_of drafts.new.items ≡ map body_of drafts.old.items
         ++ unwrap_or (option_map (λ cell. newline_drafts cell.stamp (names_on cell.state)) newline) []) }
-    ensures err { IfErr result (λ fault. fault ≡ Fault.NoMemory) }
+    ensures err { IsOkUnless result Fault.NoMemory }
 {
     let newline = store.cell_at(place);
     for tag in states.on(newline.state) {
@@ -114,7 +114,7 @@ pub fn planned_deletion<S: TextStore>(
     ensures order { IfOk result (λ d. AreInOrder 0 d.removed.items) }
     ensures before { IfOk result (λ d. All (λ range. range.to < stretch.end) d.removed.items) }
     ensures held { IfOk result (λ d. d.held ≡ is_some (loss_in (part stretch (text_of (S.list store.now))) stretch.begin ranges.now).newline) }
-    ensures err { IfErr result (λ fault. fault ≡ Fault.NoMemory) }
+    ensures err { IsOkUnless result Fault.NoMemory }
 {
     let removed = removed_ranges(alloc, store, stretch, ranges)?;
     let mut drafts = removals(alloc, store, &removed)?;
@@ -146,7 +146,7 @@ pub fn planned_tag<S: TextStore>(
     requires within { All (λ range. range.to ≤ length (visible_of (S.list store.now))) ranges.now }
     ensures ok { IfOk result (λ drafts. map body_of drafts.items
         ≡ tag_drafts_at MOST_SPANS (is_covered ranges.now) on name.now (map (shown states.now) (S.list store.now))) }
-    ensures err { IfErr result (λ fault. fault ≡ Fault.NoMemory) }
+    ensures err { IsOkUnless result Fault.NoMemory }
 {
     let cells = cells_in(alloc, store, ranges)?;
     let mut drafts = Vec::new(alloc);
@@ -175,7 +175,7 @@ fn taken_off(
     ensures ok { IfOk result (λ drafts. (flat : Flat) → AreWritten flat.count flat.cells → AreListed tags.now.names flat.cells
         → visible_of flat.cells ≡ map (shown states.now) cells.now
         → map body_of drafts.items ≡ deletion_drafts MOST_SPANS flat (map (λ w. string_bytes w) names.now)) }
-    ensures err { IfErr result (λ fault. fault ≡ Fault.NoMemory) }
+    ensures err { IsOkUnless result Fault.NoMemory }
 {
     // `sel` is seen from the start
     let mut seen = TagTable::new(alloc)?;
@@ -205,7 +205,7 @@ pub fn planned_tag_deletion<S: TextStore>(
     ensures ok { IfOk result (λ drafts. (flat : Flat) → AreWritten flat.count flat.cells
         → flat.cells ≡ map (shown states.now) (S.list store.now)
         → map body_of drafts.items ≡ deletion_drafts MOST_SPANS flat (map (λ w. string_bytes w) names.now)) }
-    ensures err { IfErr result (λ fault. fault ≡ Fault.NoMemory) }
+    ensures err { IsOkUnless result Fault.NoMemory }
 {
     let all = [Range {
         from: 0,

@@ -1,5 +1,5 @@
 // The operations of one text with its tags.
-ghost use Rattle.std.specs.Prelude.{◌≡◌, ℕ, ◌⊎◌, ◌+◌, ◌-◌, ◌<◌, ◌≤◌, ◌++◌, ◌∷◌, [], IfOk, IfErr, OnOk, true, length, map, string_bytes, take, drop};
+ghost use Rattle.std.specs.Prelude.{◌≡◌, ℕ, ◌⊎◌, ◌+◌, ◌-◌, ◌<◌, ◌≤◌, ◌++◌, ◌∷◌, [], IfOk, IfErr, IsOkUnless, OnOk, true, length, map, string_bytes, take, drop};
 ghost use Rattle.rt_stamps.specs.declared.limits.TheConstants.{GREATEST_COUNT, MOST_CHARACTERS, MOST_TAGS};
 ghost use Rattle.rt_ops.specs.Edits.{body_of};
 ghost use Rattle.rt_ops.specs.Operations.{Insert, Tag};
@@ -17,7 +17,7 @@ use std::alloc::Global;
 /// Copies of names. Want of memory.
 pub(crate) fn copied(alloc: Global, names: &[String]) -> Result<Vec<String>, Fault>
     ensures ok { IfOk result (λ v. map (λ w. string_bytes w) v.items ≡ map (λ w. string_bytes w) names.now) }
-    ensures err { IfErr result (λ fault. fault ≡ Fault.NoMemory) }
+    ensures err { IsOkUnless result Fault.NoMemory }
 {
     let mut copies = Vec::with_capacity(alloc, names.len())?;
     for name in names {
@@ -29,7 +29,7 @@ pub(crate) fn copied(alloc: Global, names: &[String]) -> Result<Vec<String>, Fau
 // The characters of an Insert.
 fn text_of(alloc: Global, characters: &[char]) -> Result<Text, Fault>
     ensures ok { IfOk result (λ text. text ≡ characters.now) }
-    ensures err { IfErr result (λ fault. fault ≡ Fault.NoMemory) }
+    ensures err { IsOkUnless result Fault.NoMemory }
 {
     match characters {
         [character] => Ok(Text::of(*character)),
@@ -61,7 +61,7 @@ fn insert_draft(
     characters: &[char],
 ) -> Result<Draft, Fault>
     ensures ok { IfOk result (λ draft. body_of draft ≡ Insert after (map (λ w. string_bytes w) names.now) characters.now) }
-    ensures err { IfErr result (λ fault. fault ≡ Fault.NoMemory) }
+    ensures err { IsOkUnless result Fault.NoMemory }
 {
     let tags = copied(alloc, names)?;
     let text = text_of(alloc, characters)?;
@@ -71,7 +71,7 @@ fn insert_draft(
 // A Tag that is put on the characters of a span.
 fn tag_draft(alloc: Global, span: Span, name: &str) -> Result<Draft, Fault>
     ensures ok { IfOk result (λ draft. body_of draft ≡ Tag true name.now (span ∷ [])) }
-    ensures err { IfErr result (λ fault. fault ≡ Fault.NoMemory) }
+    ensures err { IsOkUnless result Fault.NoMemory }
 {
     let name = String::from_str(alloc, name)?;
     let spans = Vec::from_slice(alloc, &[span])?;
@@ -90,7 +90,7 @@ fn push_tags(
     names: &[String],
 ) -> Result<(), Fault>
     ensures ok { OnOk result (map body_of drafts.new.items ≡ map body_of drafts.old.items ++ tags_on span (map (λ w. string_bytes w) names.now)) }
-    ensures err { IfErr result (λ fault. fault ≡ Fault.NoMemory) }
+    ensures err { IsOkUnless result Fault.NoMemory }
 {
     for name in names {
         drafts.push(tag_draft(alloc, span, name)?)?;
@@ -107,7 +107,7 @@ fn push_stamps(
 ) -> Result<(), Fault>
     requires { first + length characters.now ≤ GREATEST_COUNT + 1 }
     ensures ok { OnOk result (stamps.new.items ≡ stamps.old.items ++ stamps_of {T = ℕ} (cells_from first site.number 0 characters.now)) }
-    ensures err { IfErr result (λ fault. fault ≡ Fault.NoMemory) }
+    ensures err { IsOkUnless result Fault.NoMemory }
 {
     let mut count = first;
     for _ch in characters {
@@ -148,7 +148,7 @@ impl Inserts {
             ++ stamps_of {T = ℕ} (cells_from (self.old.count + 1) site.number 0 part.now)) }
         ensures count { OnOk result (self.new.count ≡ self.old.count + length part.now + (length names.now - MOST_TAGS)) }
         ensures behind { OnOk result (self.new.behind ≡ record { count = self.old.count + length part.now; site = site.number }) }
-        ensures err { IfErr result (λ fault. fault ≡ Fault.NoMemory) }
+        ensures err { IsOkUnless result Fault.NoMemory }
     {
         let first = self.count + 1;
         let last = self.count + part.len() as u64;

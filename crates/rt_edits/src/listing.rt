@@ -1,5 +1,5 @@
 // Which tags are listed, and which characters are selected.
-ghost use Rattle.std.specs.Prelude.{◌≡◌, ◌<◌, ◌≤◌, All, IfErr, OnOk, OnErr, true, length, map, string_bytes, if◌then◌else◌};
+ghost use Rattle.std.specs.Prelude.{◌≡◌, ◌<◌, ◌≤◌, All, IsOkUnless, OnOk, OnErr, true, length, map, string_bytes, if◌then◌else◌};
 ghost use Rattle.rt_store.specs.Cells.{visible_of};
 ghost use Rattle.rt_tags.specs.Tags.{IsName, is_ready, with_name};
 ghost use Rattle.rt_edits.specs.Removals.{AreInOrder, is_covered, stamps_at};
@@ -29,7 +29,7 @@ pub fn select<S: TextStore>(
     ensures ok { OnOk result (selected_stamps selection.new
         ≡ selection_with on (stamps_at (is_covered ranges.now) 0 (S.list store.now)) (selected_stamps selection.old)) }
     ensures unchanged { OnErr result (selected_stamps selection.new ≡ selected_stamps selection.old) }
-    ensures err { IfErr result (λ fault. fault ≡ Fault.NoMemory) }
+    ensures err { IsOkUnless result Fault.NoMemory }
 {
     let stamps = stamps_in(alloc, store, ranges)?;
     if on {
@@ -46,7 +46,7 @@ pub fn prepare_if(tags: &mut TagTable, on: bool, name: &str) -> Result<(), Fault
     requires { IsName name.now }
     ensures names { tags.new.names ≡ tags.old.names }
     ensures ready { OnOk result (on ≡ true → is_ready name.now tags.new ≡ true) }
-    ensures err { IfErr result (λ fault. fault ≡ Fault.NoMemory) }
+    ensures err { IsOkUnless result Fault.NoMemory }
 {
     if on {
         tags.prepare(name)?;

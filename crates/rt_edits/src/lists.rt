@@ -1,5 +1,5 @@
 // Lists of tags, and the characters of a text.
-ghost use Rattle.std.specs.Prelude.{◌≡◌, ◌++◌, ◌∷◌, [], All, IfOk, IfErr, IfSome, OnOk, false, length, map, filter, not, string_bytes};
+ghost use Rattle.std.specs.Prelude.{◌≡◌, ◌++◌, ◌∷◌, [], All, IfOk, IsOkUnless, IfSome, OnOk, false, length, map, filter, not, string_bytes};
 ghost use Rattle.std.specs.Str.{bytes_eq, chars};
 ghost use Rattle.rt_tags.specs.States.{IsState, IsTag, KeepsIds, is_on, name_at, names_on, state_at};
 ghost use Rattle.rt_tags.specs.Tags.{is_listed, sel};
@@ -17,7 +17,7 @@ fn push_tag(states: &mut StateTable, tags: &mut Vec<TagId>, name: &str) -> Resul
         ++ filter (λ name. not (bytes_eq name sel)) (name.now ∷ [])) }
     ensures given { OnOk result (All (IsTag states.new) tags.new.items) }
     ensures ids { KeepsIds states.old states.new }
-    ensures err { IfErr result (λ fault. fault ≡ Fault.NoMemory) }
+    ensures err { IsOkUnless result Fault.NoMemory }
 {
     if name == "sel" {
         return Ok(());
@@ -37,7 +37,7 @@ fn tags_of_list(
         (λ name. not (bytes_eq name sel)) (map (λ w. string_bytes w) names.now)) }
     ensures given { IfOk result (λ tags. All (IsTag states.new) tags.items) }
     ensures ids { KeepsIds states.old states.new }
-    ensures err { IfErr result (λ fault. fault ≡ Fault.NoMemory) }
+    ensures err { IsOkUnless result Fault.NoMemory }
 {
     let mut tags = Vec::new(alloc);
     for name in names {
@@ -56,7 +56,7 @@ pub(crate) fn shared_tags(
     ensures ok { IfOk result (λ tags. map (name_at states.new) tags.items ≡ shared_names (map (λ w. string_bytes w) names.now)) }
     ensures given { IfOk result (λ tags. All (IsTag states.new) tags.items) }
     ensures ids { KeepsIds states.old states.new }
-    ensures err { IfErr result (λ fault. fault ≡ Fault.NoMemory) }
+    ensures err { IsOkUnless result Fault.NoMemory }
 {
     let tags = tags_of_list(alloc, states, names)?;
     states.in_order(&tags)
@@ -74,7 +74,7 @@ pub(crate) fn tags_of_both(
     ensures ok { IfOk result (λ tags. map (name_at states.now) tags.items
         ≡ filter (λ name. is_on name (state_at states.now right)) (names_on (state_at states.now left))) }
     ensures given { IfOk result (λ tags. All (IsTag states.now) tags.items) }
-    ensures err { IfErr result (λ fault. fault ≡ Fault.NoMemory) }
+    ensures err { IsOkUnless result Fault.NoMemory }
 {
     let mut both = Vec::new(alloc);
     for tag in states.on(left) {
@@ -100,7 +100,7 @@ fn only_char(text: &str) -> Option<char>
 /// The characters of a text. A single one takes no memory.
 pub(crate) fn text_of(alloc: Global, text: &str) -> Result<Text, Fault>
     ensures ok { IfOk result (λ all. all ≡ chars text.now) }
-    ensures err { IfErr result (λ fault. fault ≡ Fault.NoMemory) }
+    ensures err { IsOkUnless result Fault.NoMemory }
 {
     if let Some(ch) = only_char(text) {
         return Ok(Text::of(ch));

@@ -1,5 +1,5 @@
 // Spans cut for operations, each with at most as many as one may name.
-ghost use Rattle.std.specs.Prelude.{◌≡◌, ◌++◌, IfErr, OnOk, map};
+ghost use Rattle.std.specs.Prelude.{◌≡◌, ◌++◌, IsOkUnless, OnOk, map};
 ghost use Rattle.rt_stamps.specs.declared.limits.TheConstants.{MOST_SPANS};
 ghost use Rattle.rt_ops.specs.Edits.{body_of};
 ghost use Rattle.rt_ops.specs.Operations.{Delete, Tag};
@@ -18,7 +18,7 @@ pub(crate) fn push_deletes(
 ) -> Result<(), Fault>
     ensures ok { OnOk result (map body_of drafts.new.items
         ≡ map body_of drafts.old.items ++ map (λ part. Delete part) (parts_of MOST_SPANS spans.now)) }
-    ensures err { IfErr result (λ fault. fault ≡ Fault.NoMemory) }
+    ensures err { IsOkUnless result Fault.NoMemory }
 {
     for part in spans.chunks(MOST_SPANS) {
         drafts.push(Draft::Delete {
@@ -38,7 +38,7 @@ pub(crate) fn push_tags(
 ) -> Result<(), Fault>
     ensures ok { OnOk result (map body_of drafts.new.items
         ≡ map body_of drafts.old.items ++ map (λ part. Tag on name.now part) (parts_of MOST_SPANS spans.now)) }
-    ensures err { IfErr result (λ fault. fault ≡ Fault.NoMemory) }
+    ensures err { IsOkUnless result Fault.NoMemory }
 {
     for part in spans.chunks(MOST_SPANS) {
         drafts.push(Draft::Tag {

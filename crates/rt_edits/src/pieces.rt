@@ -1,5 +1,5 @@
 // Pieces of text with lists, as they are planned.
-ghost use Rattle.std.specs.Prelude.{◌≡◌, ◌⊎◌, ◌+◌, ◌<◌, ◌≤◌, ◌++◌, [], All, IfOk, IfErr, OnOk, List, None, Some, length, map, option_map, string_bytes};
+ghost use Rattle.std.specs.Prelude.{◌≡◌, ◌⊎◌, ◌+◌, ◌<◌, ◌≤◌, ◌++◌, [], All, IfOk, IfErr, IsOkUnless, OnOk, List, None, Some, length, map, option_map, string_bytes};
 ghost use Rattle.std.specs.Str.{chars};
 ghost use Rattle.rt_stamps.specs.declared.limits.TheConstants.{GREATEST_COUNT, MOST_CHARACTERS};
 ghost use Rattle.rt_stamps.specs.declared.stamp.Stamp.{Stamp};
@@ -27,7 +27,7 @@ pub(crate) fn names_of(
 ) -> Result<Vec<String>, Fault>
     requires { All (IsTag states.now) tags.now }
     ensures ok { IfOk result (λ v. map (λ w. string_bytes w) v.items ≡ map (name_at states.now) tags.now) }
-    ensures err { IfErr result (λ fault. fault ≡ Fault.NoMemory) }
+    ensures err { IsOkUnless result Fault.NoMemory }
 {
     let mut names = Vec::with_capacity(alloc, tags.len())?;
     for tag in tags {
@@ -39,7 +39,7 @@ pub(crate) fn names_of(
 // The names of a list by their bytes, each once, but for `sel`.
 fn shared_names(alloc: Global, names: &[String]) -> Result<Vec<String>, Fault>
     ensures ok { IfOk result (λ v. map (λ w. string_bytes w) v.items ≡ shared_names (map (λ w. string_bytes w) names.now)) }
-    ensures err { IfErr result (λ fault. fault ≡ Fault.NoMemory) }
+    ensures err { IsOkUnless result Fault.NoMemory }
 {
     let mut states = StateTable::new(alloc)?;
     let tags = shared_tags(alloc, &mut states, names)?;
@@ -50,7 +50,7 @@ fn shared_names(alloc: Global, names: &[String]) -> Result<Vec<String>, Fault>
 pub(crate) fn select(selected: &mut Vec<Stamp>, asked: bool, stamps: &[Stamp]) -> Result<(), Fault>
     ensures selected { OnOk result ((selection : List Stamp)
         → with_stamps selected.new.items selection ≡ selected_if asked stamps.now (with_stamps selected.old.items selection)) }
-    ensures err { IfErr result (λ fault. fault ≡ Fault.NoMemory) }
+    ensures err { IsOkUnless result Fault.NoMemory }
 {
     if asked {
         selected.extend_from_slice(stamps)?;

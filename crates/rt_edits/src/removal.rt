@@ -1,5 +1,5 @@
 // The places that a removal takes, as ranges in the text's order.
-ghost use Rattle.std.specs.Prelude.{◌≡◌, ℕ, ◌<◌, ◌≤◌, ◌&&◌, nat_lt, true, ◌∷◌, ◌+◌, ◌-◌, All, IfOk, IfErr, length, map};
+ghost use Rattle.std.specs.Prelude.{◌≡◌, ℕ, ◌<◌, ◌≤◌, ◌&&◌, nat_lt, true, ◌∷◌, ◌+◌, ◌-◌, All, IfOk, IsOkUnless, length, map};
 ghost use Rattle.rt_store.specs.Cells.{text_of, visible_of};
 ghost use Rattle.rt_views.specs.Stretches.{part};
 ghost use Rattle.rt_edits.specs.Deletions.{places_from};
@@ -16,7 +16,7 @@ use std::alloc::Global;
 fn ranges_before(alloc: Global, ranges: &[Range], end: usize) -> Result<Vec<Range>, Fault>
     ensures covered { IfOk result (λ before. (place : ℕ) → is_covered before.items place ≡ (nat_lt place end && is_covered ranges.now place)) }
     ensures some { IfOk result (λ before. All (λ range. range.from < range.to) before.items) }
-    ensures err { IfErr result (λ fault. fault ≡ Fault.NoMemory) }
+    ensures err { IsOkUnless result Fault.NoMemory }
 {
     let mut before = Vec::new(alloc);
     for range in ranges {
@@ -35,7 +35,7 @@ fn ranges_before(alloc: Global, ranges: &[Range], end: usize) -> Result<Vec<Rang
 fn sorted_before(alloc: Global, ranges: &[Range], end: usize) -> Result<Vec<Range>, Fault>
     ensures covered { IfOk result (λ sorted. (place : ℕ) → is_covered sorted.items place ≡ (nat_lt place end && is_covered ranges.now place)) }
     ensures rising { IfOk result (λ sorted. AreRising 0 sorted.items) }
-    ensures err { IfErr result (λ fault. fault ≡ Fault.NoMemory) }
+    ensures err { IsOkUnless result Fault.NoMemory }
 {
     let mut sorted = ranges_before(alloc, ranges, end)?;
     sorted.sort_unstable_by_key(|range| range.from);
@@ -48,7 +48,7 @@ fn merged_after(alloc: Global, first: Range, rest: &[Range]) -> Result<Vec<Range
     requires rising { AreRising first.from rest.now }
     ensures covered { IfOk result (λ merged. (place : ℕ) → is_covered merged.items place ≡ is_covered (first ∷ rest.now) place) }
     ensures apart { IfOk result (λ merged. AreApart 0 merged.items) }
-    ensures err { IfErr result (λ fault. fault ≡ Fault.NoMemory) }
+    ensures err { IsOkUnless result Fault.NoMemory }
 {
     let mut merged = Vec::new(alloc);
     let mut current = first;
@@ -69,7 +69,7 @@ fn merged(alloc: Global, sorted: &[Range]) -> Result<Vec<Range>, Fault>
     requires { AreRising 0 sorted.now }
     ensures covered { IfOk result (λ merged. (place : ℕ) → is_covered merged.items place ≡ is_covered sorted.now place) }
     ensures apart { IfOk result (λ merged. AreApart 0 merged.items) }
-    ensures err { IfErr result (λ fault. fault ≡ Fault.NoMemory) }
+    ensures err { IsOkUnless result Fault.NoMemory }
 {
     match sorted.split_first() {
         Some((first, rest)) => merged_after(alloc, *first, rest),
@@ -150,7 +150,7 @@ pub fn removed_ranges<S: TextStore>(
     ensures within { IfOk result (λ removed. All (λ range. range.to < stretch.end) removed.items) }
     ensures places { IfOk result (λ removed. (place : ℕ) → is_covered removed.items place
         ≡ places_from stretch.begin (is_removed (part stretch (text_of (S.list store.now))) ranges.now) place) }
-    ensures err { IfErr result (λ fault. fault ≡ Fault.NoMemory) }
+    ensures err { IsOkUnless result Fault.NoMemory }
 {
     let sorted = sorted_before(alloc, ranges, stretch.end - stretch.begin)?;
     let merged = merged(alloc, &sorted)?;
@@ -165,7 +165,7 @@ pub fn ranges_shown(alloc: Global, stretch: Stretch, ranges: &[Range]) -> Result
     ensures within { IfOk result (λ shown. All (λ range. range.to ≤ stretch.end) shown.items) }
     ensures places { IfOk result (λ shown. (place : ℕ) → is_covered shown.items place
         ≡ places_from stretch.begin (λ p. nat_lt p (stretch.end - stretch.begin) && is_covered ranges.now p) place) }
-    ensures err { IfErr result (λ fault. fault ≡ Fault.NoMemory) }
+    ensures err { IsOkUnless result Fault.NoMemory }
 {
     let sorted = sorted_before(alloc, ranges, stretch.end - stretch.begin)?;
     let merged = merged(alloc, &sorted)?;
@@ -183,7 +183,7 @@ pub fn ranges_within<S: TextStore>(
     ensures within { IfOk result (λ within. All (λ range. range.to ≤ length (visible_of (S.list store.now))) within.items) }
     ensures places { IfOk result (λ within. (place : ℕ)
         → is_covered within.items place ≡ (nat_lt place (length (visible_of (S.list store.now))) && is_covered ranges.now place)) }
-    ensures err { IfErr result (λ fault. fault ≡ Fault.NoMemory) }
+    ensures err { IsOkUnless result Fault.NoMemory }
 {
     let sorted = sorted_before(alloc, ranges, store.visible())?;
     merged(alloc, &sorted)

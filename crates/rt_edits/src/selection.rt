@@ -1,5 +1,5 @@
 // The selected characters of a widget.
-ghost use Rattle.std.specs.Prelude.{◌≡◌, ◌+◌, ◌<◌, ◌≤◌, not, [], ◌∷◌, IfOk, IfErr, OnOk, length};
+ghost use Rattle.std.specs.Prelude.{◌≡◌, ◌+◌, ◌<◌, ◌≤◌, not, [], ◌∷◌, IfOk, IsOkUnless, OnOk, length};
 ghost use Rattle.rt_edits.specs.Selected.{selected_stamps, room_in};
 ghost use Rattle.rt_edits.specs.Selections.{with_stamp, with_stamps, unselected};
 ghost use Rattle.rt_store.specs.Spans.{is_among};
@@ -35,7 +35,7 @@ impl Selection {
     /// The selection of some characters. `NoMemory` is its only fault.
     pub fn of(alloc: Global, stamps: &[Stamp]) -> Result<Selection, Fault>
         ensures ok { IfOk result (λ selection. selected_stamps selection ≡ with_stamps stamps.now []) }
-        ensures err { IfErr result (λ fault. fault ≡ Fault.NoMemory) }
+        ensures err { IsOkUnless result Fault.NoMemory }
     {
         let mut selection = Selection::new(alloc);
         selection.reserve(stamps.len())?;
@@ -54,7 +54,7 @@ impl Selection {
     pub fn reserve(&mut self, more: usize) -> Result<(), Fault>
         ensures same { selected_stamps self.new ≡ selected_stamps self.old }
         ensures room { OnOk result (more ≤ room_in self.new) }
-        ensures err { IfErr result (λ fault. fault ≡ Fault.NoMemory) }
+        ensures err { IsOkUnless result Fault.NoMemory }
     {
         Ok(self.stamps.reserve(more)?)
     }

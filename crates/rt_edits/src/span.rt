@@ -1,5 +1,5 @@
 // Spans of removed stamps.
-ghost use Rattle.std.specs.Prelude.{◌≡◌, ◌+◌, ◌*◌, ◌<◌, ◌≤◌, ◌++◌, All, IfOk, IfErr, OnOk, true, map, take, drop, ◌-◌, length, IsPermutation};
+ghost use Rattle.std.specs.Prelude.{◌≡◌, ◌+◌, ◌*◌, ◌<◌, ◌≤◌, ◌++◌, All, IfOk, IsOkUnless, OnOk, true, map, take, drop, ◌-◌, length, IsPermutation};
 ghost use Rattle.std.specs.List.{list_all, IsDistinct};
 ghost use Rattle.rt_stamps.specs.declared.stamp.Stamp.{Stamp};
 ghost use Rattle.rt_stamps.specs.Stamps.{is_same};
@@ -19,7 +19,7 @@ fn push_stamps<S: TextStore>(store: &S, range: Range, stamps: &mut Vec<Stamp>) -
     requires within { range.to ≤ length (visible_of (S.list store.now)) }
     ensures ok { OnOk result (stamps.new.items ≡ stamps.old.items
         ++ map (λ cell. cell.stamp) (take (range.to - range.from) (drop range.from (visible_of (S.list store.now))))) }
-    ensures err { IfErr result (λ fault. fault ≡ Fault.NoMemory) }
+    ensures err { IsOkUnless result Fault.NoMemory }
 {
     for place in range.from..range.to {
         stamps.push(store.cell_at(place).stamp)?;
@@ -36,7 +36,7 @@ pub(crate) fn stamps_in<S: TextStore>(
     requires order { AreInOrder 0 removed.now }
     requires within { All (λ range. range.to ≤ length (visible_of (S.list store.now))) removed.now }
     ensures ok { IfOk result (λ stamps. stamps.items ≡ stamps_at (is_covered removed.now) 0 (S.list store.now)) }
-    ensures err { IfErr result (λ fault. fault ≡ Fault.NoMemory) }
+    ensures err { IsOkUnless result Fault.NoMemory }
 {
     let mut stamps = Vec::new(alloc);
     for range in removed {
@@ -80,7 +80,7 @@ fn runs_of(alloc: Global, stamps: &[Stamp]) -> Result<Vec<Span>, Fault>
     ensures count { IfOk result (λ spans. length spans.items ≡ span_count stamps.now) }
     ensures forward { IfOk result (λ spans. list_all is_span spans.items ≡ true) }
     ensures clear { IfOk result (λ spans. each_next is_clear_of spans.items ≡ true) }
-    ensures err { IfErr result (λ fault. fault ≡ Fault.NoMemory) }
+    ensures err { IsOkUnless result Fault.NoMemory }
 {
     let mut spans = Vec::new(alloc);
     let Some((first, others)) = stamps.split_first() else {
@@ -108,7 +108,7 @@ pub(crate) fn spans_of(alloc: Global, stamps: Vec<Stamp>) -> Result<Vec<Span>, F
     ensures count { IfOk result (λ spans. length spans.items ≡ span_count stamps.items) }
     ensures forward { IfOk result (λ spans. list_all is_span spans.items ≡ true) }
     ensures clear { IfOk result (λ spans. each_next is_clear_of spans.items ≡ true) }
-    ensures err { IfErr result (λ fault. fault ≡ Fault.NoMemory) }
+    ensures err { IsOkUnless result Fault.NoMemory }
 {
     let mut sorted = stamps;
     sort(&mut sorted);

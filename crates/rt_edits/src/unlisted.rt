@@ -1,5 +1,5 @@
 // Text without a list, behind the pieces that are planned.
-ghost use Rattle.std.specs.Prelude.{◌≡◌, ◌⊎◌, ◌+◌, ◌<◌, ◌≤◌, ◌++◌, ◌&&◌, ◌||◌, [], IfOk, IfErr, IfSome, OnOk, List, None, Some, filter, is_some, length, map, option_map, string_bytes};
+ghost use Rattle.std.specs.Prelude.{◌≡◌, ◌⊎◌, ◌+◌, ◌<◌, ◌≤◌, ◌++◌, ◌&&◌, ◌||◌, [], IfOk, IfErr, IsOkUnless, IfSome, OnOk, List, None, Some, filter, is_some, length, map, option_map, string_bytes};
 ghost use Rattle.std.specs.Str.{chars};
 ghost use Rattle.rt_stamps.specs.declared.limits.TheConstants.{GREATEST_COUNT, MOST_CHARACTERS};
 ghost use Rattle.rt_stamps.specs.declared.stamp.Stamp.{Stamp};
@@ -46,7 +46,7 @@ fn names_also(
     requires { IsState states.now state }
     ensures ok { IfOk result (λ v. map (λ w. string_bytes w) v.items
         ≡ filter (λ name. is_on name (state_at states.now state)) (map (λ w. string_bytes w) names.now)) }
-    ensures err { IfErr result (λ fault. fault ≡ Fault.NoMemory) }
+    ensures err { IsOkUnless result Fault.NoMemory }
 {
     let mut both = Vec::new(alloc);
     for name in names {
@@ -68,7 +68,7 @@ fn names_of_both(
     requires right { IsState states.now right.state }
     ensures ok { IfOk result (λ v. map (λ w. string_bytes w) v.items
         ≡ tags_between (option_map (shown states.now) left) (Some (shown states.now right))) }
-    ensures err { IfErr result (λ fault. fault ≡ Fault.NoMemory) }
+    ensures err { IsOkUnless result Fault.NoMemory }
 {
     match left {
         Some(left) => {
@@ -93,7 +93,7 @@ impl PlannedPieces {
         ensures ok { IfOk result (λ v. (cells : List TaggedCell)
             → option_map (λ names. map (λ w. string_bytes w) names.items) self.now.last ≡ option_map (λ cell. names_on cell.state) (last_of None cells)
             → map (λ w. string_bytes w) v.items ≡ tags_between (last_of (option_map (shown states.now) left) cells) (Some (shown states.now right))) }
-        ensures err { IfErr result (λ fault. fault ≡ Fault.NoMemory) }
+        ensures err { IsOkUnless result Fault.NoMemory }
     {
         match &self.last {
             Some(names) => names_also(alloc, states, names, right.state),

@@ -1,5 +1,5 @@
 // The lines of operations, written.
-ghost use Rattle.std.specs.Prelude.{◌≡◌, ◌+◌, ◌∷◌, ◌++◌, [], IfErr, codes, map, string_bytes, if◌then◌else◌};
+ghost use Rattle.std.specs.Prelude.{◌≡◌, ◌+◌, ◌∷◌, ◌++◌, [], IsOkUnless, codes, map, string_bytes, if◌then◌else◌};
 ghost use Rattle.std.specs.Fmt.{decimal};
 ghost use Rattle.rt_stamps.specs.Source.{failures_of};
 ghost use Rattle.rt_stamps.specs.Written.{Wrote};
@@ -15,7 +15,7 @@ use rt_stamps::{Fault, Sink, Span, Stamp, write_all};
 /// nothing; a front of the lines was then written. It takes no memory and checks no stamp.
 pub fn write_lines<W: Sink>(ops: &[Op], out: &mut W) -> Result<(), Fault>
     ensures wrote { Wrote (W.contents out.old) (W.contents out.new) result (lines_of ops.now) }
-    ensures fault { IfErr result (λ fault. fault ≡ Fault.WriteFault) }
+    ensures fault { IsOkUnless result Fault.WriteFault }
     ensures failures { W.failures out.new ≡ W.failures out.old + failures_of result }
 {
     for op in ops {
@@ -26,7 +26,7 @@ pub fn write_lines<W: Sink>(ops: &[Op], out: &mut W) -> Result<(), Fault>
 
 fn write_line<W: Sink>(op: &Op, out: &mut W) -> Result<(), Fault>
     ensures wrote { Wrote (W.contents out.old) (W.contents out.new) result (line_of op.now) }
-    ensures fault { IfErr result (λ fault. fault ≡ Fault.WriteFault) }
+    ensures fault { IsOkUnless result Fault.WriteFault }
     ensures failures { W.failures out.new ≡ W.failures out.old + failures_of result }
 {
     write_op(op, out)?;
@@ -36,7 +36,7 @@ fn write_line<W: Sink>(op: &Op, out: &mut W) -> Result<(), Fault>
 fn write_op<W: Sink>(op: &Op, out: &mut W) -> Result<(), Fault>
     ensures wrote { Wrote (W.contents out.old) (W.contents out.new) result ((kind_of op.now.body
         ++ spaced (text_of_stamp (stamp_of op.now) ∷ codes "prev" ∷ decimal op.now.prev ∷ [])) ++ spaced (words_of op.now.body)) }
-    ensures fault { IfErr result (λ fault. fault ≡ Fault.WriteFault) }
+    ensures fault { IsOkUnless result Fault.WriteFault }
     ensures failures { W.failures out.new ≡ W.failures out.old + failures_of result }
 {
     write_head(op, out)?;
@@ -47,7 +47,7 @@ fn write_op<W: Sink>(op: &Op, out: &mut W) -> Result<(), Fault>
 fn write_head<W: Sink>(op: &Op, out: &mut W) -> Result<(), Fault>
     ensures wrote { Wrote (W.contents out.old) (W.contents out.new) result (kind_of op.now.body
         ++ spaced (text_of_stamp (stamp_of op.now) ∷ codes "prev" ∷ decimal op.now.prev ∷ [])) }
-    ensures fault { IfErr result (λ fault. fault ≡ Fault.WriteFault) }
+    ensures fault { IsOkUnless result Fault.WriteFault }
     ensures failures { W.failures out.new ≡ W.failures out.old + failures_of result }
 {
     write_all(out, kind_of(op.edit()))?;
@@ -79,7 +79,7 @@ fn kind_of(edit: &Edit) -> &'static [u8]
 
 fn write_edit<W: Sink>(edit: &Edit, out: &mut W) -> Result<(), Fault>
     ensures wrote { Wrote (W.contents out.old) (W.contents out.new) result (spaced (words_of (body_of edit.now))) }
-    ensures fault { IfErr result (λ fault. fault ≡ Fault.WriteFault) }
+    ensures fault { IsOkUnless result Fault.WriteFault }
     ensures failures { W.failures out.new ≡ W.failures out.old + failures_of result }
 {
     match edit {
@@ -96,7 +96,7 @@ fn write_insert<W: Sink>(
     out: &mut W,
 ) -> Result<(), Fault>
     ensures wrote { Wrote (W.contents out.old) (W.contents out.new) result (spaced (words_of (Insert after (map string_bytes tags.now) text.now))) }
-    ensures fault { IfErr result (λ fault. fault ≡ Fault.WriteFault) }
+    ensures fault { IsOkUnless result Fault.WriteFault }
     ensures failures { W.failures out.new ≡ W.failures out.old + failures_of result }
 {
     let parts = [
@@ -112,7 +112,7 @@ fn write_insert<W: Sink>(
 
 fn write_delete<W: Sink>(spans: &[Span], out: &mut W) -> Result<(), Fault>
     ensures wrote { Wrote (W.contents out.old) (W.contents out.new) result (spaced (words_of (Delete spans.now))) }
-    ensures fault { IfErr result (λ fault. fault ≡ Fault.WriteFault) }
+    ensures fault { IsOkUnless result Fault.WriteFault }
     ensures failures { W.failures out.new ≡ W.failures out.old + failures_of result }
 {
     write_parts(&[Part::Letters(b"spans")], out)?;
@@ -121,7 +121,7 @@ fn write_delete<W: Sink>(spans: &[Span], out: &mut W) -> Result<(), Fault>
 
 fn write_tag<W: Sink>(on: bool, name: &str, spans: &[Span], out: &mut W) -> Result<(), Fault>
     ensures wrote { Wrote (W.contents out.old) (W.contents out.new) result (spaced (words_of (Tag on name.now spans.now))) }
-    ensures fault { IfErr result (λ fault. fault ≡ Fault.WriteFault) }
+    ensures fault { IsOkUnless result Fault.WriteFault }
     ensures failures { W.failures out.new ≡ W.failures out.old + failures_of result }
 {
     let parts = [

@@ -1,5 +1,5 @@
 // The words of a line, each written after a space.
-ghost use Rattle.std.specs.Prelude.{◌≡◌, ◌+◌, ◌∷◌, ◌++◌, IfErr, flat_map, string_bytes};
+ghost use Rattle.std.specs.Prelude.{◌≡◌, ◌+◌, ◌∷◌, ◌++◌, IsOkUnless, flat_map, string_bytes};
 ghost use Rattle.std.specs.Fmt.{decimal};
 ghost use Rattle.rt_stamps.specs.Source.{failures_of};
 ghost use Rattle.rt_words.specs.Writing.{text_of_word};
@@ -27,7 +27,7 @@ pub enum Part<'a> {
 /// Writes the parts, a space before each.
 pub fn write_parts<W: Sink>(parts: &[Part<'_>], out: &mut W) -> Result<(), Fault>
     ensures wrote { Wrote (W.contents out.old) (W.contents out.new) result (flat_map (λ part. 32 ∷ text_of_part part) parts.now) }
-    ensures fault { IfErr result (λ fault. fault ≡ Fault.WriteFault) }
+    ensures fault { IsOkUnless result Fault.WriteFault }
     ensures failures { W.failures out.new ≡ W.failures out.old + failures_of result }
 {
     for part in parts {
@@ -39,7 +39,7 @@ pub fn write_parts<W: Sink>(parts: &[Part<'_>], out: &mut W) -> Result<(), Fault
 /// Writes the spans, a space before each.
 pub fn write_spans<W: Sink>(spans: &[Span], out: &mut W) -> Result<(), Fault>
     ensures wrote { Wrote (W.contents out.old) (W.contents out.new) result (flat_map (λ span. 32 ∷ text_of_span span) spans.now) }
-    ensures fault { IfErr result (λ fault. fault ≡ Fault.WriteFault) }
+    ensures fault { IsOkUnless result Fault.WriteFault }
     ensures failures { W.failures out.new ≡ W.failures out.old + failures_of result }
 {
     for span in spans {
@@ -51,7 +51,7 @@ pub fn write_spans<W: Sink>(spans: &[Span], out: &mut W) -> Result<(), Fault>
 /// Writes the names as words, a space before each.
 pub fn write_names<W: Sink>(names: &[String], out: &mut W) -> Result<(), Fault>
     ensures wrote { Wrote (W.contents out.old) (W.contents out.new) result (flat_map (λ name. 32 ∷ text_of_word (string_bytes name)) names.now) }
-    ensures fault { IfErr result (λ fault. fault ≡ Fault.WriteFault) }
+    ensures fault { IsOkUnless result Fault.WriteFault }
     ensures failures { W.failures out.new ≡ W.failures out.old + failures_of result }
 {
     for name in names {
@@ -62,7 +62,7 @@ pub fn write_names<W: Sink>(names: &[String], out: &mut W) -> Result<(), Fault>
 
 fn write_spaced<W: Sink>(part: Part<'_>, out: &mut W) -> Result<(), Fault>
     ensures wrote { Wrote (W.contents out.old) (W.contents out.new) result (32 ∷ text_of_part part.entry) }
-    ensures fault { IfErr result (λ fault. fault ≡ Fault.WriteFault) }
+    ensures fault { IsOkUnless result Fault.WriteFault }
     ensures failures { W.failures out.new ≡ W.failures out.old + failures_of result }
 {
     write_all(out, b" ")?;
@@ -71,7 +71,7 @@ fn write_spaced<W: Sink>(part: Part<'_>, out: &mut W) -> Result<(), Fault>
 
 fn write_part<W: Sink>(part: Part<'_>, out: &mut W) -> Result<(), Fault>
     ensures wrote { Wrote (W.contents out.old) (W.contents out.new) result (text_of_part part.entry) }
-    ensures fault { IfErr result (λ fault. fault ≡ Fault.WriteFault) }
+    ensures fault { IsOkUnless result Fault.WriteFault }
     ensures failures { W.failures out.new ≡ W.failures out.old + failures_of result }
 {
     match part {
@@ -86,7 +86,7 @@ fn write_part<W: Sink>(part: Part<'_>, out: &mut W) -> Result<(), Fault>
 
 fn write_stamp<W: Sink>(stamp: Stamp, out: &mut W) -> Result<(), Fault>
     ensures wrote { Wrote (W.contents out.old) (W.contents out.new) result (text_of_stamp stamp) }
-    ensures fault { IfErr result (λ fault. fault ≡ Fault.WriteFault) }
+    ensures fault { IsOkUnless result Fault.WriteFault }
     ensures failures { W.failures out.new ≡ W.failures out.old + failures_of result }
 {
     write_number(stamp.count, out)?;
@@ -95,7 +95,7 @@ fn write_stamp<W: Sink>(stamp: Stamp, out: &mut W) -> Result<(), Fault>
 
 fn write_span<W: Sink>(span: Span, out: &mut W) -> Result<(), Fault>
     ensures wrote { Wrote (W.contents out.old) (W.contents out.new) result (text_of_span span) }
-    ensures fault { IfErr result (λ fault. fault ≡ Fault.WriteFault) }
+    ensures fault { IsOkUnless result Fault.WriteFault }
     ensures failures { W.failures out.new ≡ W.failures out.old + failures_of result }
 {
     write_number(span.site as u64, out)?;
@@ -104,7 +104,7 @@ fn write_span<W: Sink>(span: Span, out: &mut W) -> Result<(), Fault>
 
 fn write_range<W: Sink>(first: u64, last: u64, out: &mut W) -> Result<(), Fault>
     ensures wrote { Wrote (W.contents out.old) (W.contents out.new) result (58 ∷ decimal first ++ (45 ∷ decimal last)) }
-    ensures fault { IfErr result (λ fault. fault ≡ Fault.WriteFault) }
+    ensures fault { IsOkUnless result Fault.WriteFault }
     ensures failures { W.failures out.new ≡ W.failures out.old + failures_of result }
 {
     write_behind(b':', first, out)?;
@@ -114,7 +114,7 @@ fn write_range<W: Sink>(first: u64, last: u64, out: &mut W) -> Result<(), Fault>
 // A mark, and a number.
 fn write_behind<W: Sink>(mark: u8, number: u64, out: &mut W) -> Result<(), Fault>
     ensures wrote { Wrote (W.contents out.old) (W.contents out.new) result (mark ∷ decimal number) }
-    ensures fault { IfErr result (λ fault. fault ≡ Fault.WriteFault) }
+    ensures fault { IsOkUnless result Fault.WriteFault }
     ensures failures { W.failures out.new ≡ W.failures out.old + failures_of result }
 {
     write_all(out, &[mark])?;
@@ -123,7 +123,7 @@ fn write_behind<W: Sink>(mark: u8, number: u64, out: &mut W) -> Result<(), Fault
 
 fn write_number<W: Sink>(number: u64, out: &mut W) -> Result<(), Fault>
     ensures wrote { Wrote (W.contents out.old) (W.contents out.new) result (decimal number) }
-    ensures fault { IfErr result (λ fault. fault ≡ Fault.WriteFault) }
+    ensures fault { IsOkUnless result Fault.WriteFault }
     ensures failures { W.failures out.new ≡ W.failures out.old + failures_of result }
 {
     let mut buffer = Buffer::new();

@@ -1,5 +1,5 @@
 // The marks of a site.
-ghost use Rattle.std.specs.Prelude.{◌≡◌, ◌+◌, ◌≤◌, ◌⊎◌, ◌↔◌, [], List, ℕ, IsSome, OnOk, OnErr, IfOk, IfErr, Ok, Err, None, Some, is_some, option_map, option_copied, string_bytes, map, Contains, if◌then◌else◌, find as first_passing};
+ghost use Rattle.std.specs.Prelude.{◌≡◌, ◌+◌, ◌≤◌, ◌⊎◌, ◌↔◌, [], List, ℕ, IsSome, OnOk, OnErr, IfOk, IfErr, IsOkUnless, Ok, Err, None, Some, is_some, option_map, option_copied, string_bytes, map, Contains, if◌then◌else◌, find as first_passing};
 ghost use Rattle.rt_marks.specs.Marks.{AreAscending, AreInOrder, Each, HaveOwnNames, IsName, comes_before, find_last, first_mark_at, last_mark_before, mark_after, mark_before, marks_inserted, marks_removed, marks_set, marks_with_gravity, named, without, without_all};
 
 use crate::mark::Mark;
@@ -198,7 +198,7 @@ impl Marks {
     pub fn names(&self) -> Result<Vec<String>, Fault>
         ensures by_bytes { IfOk result (λ v. AreAscending (map (λ s. string_bytes s) v.items)) }
         ensures all { IfOk result (λ v. (name : List ℕ) → Contains (map (λ s. string_bytes s) v.items) name ↔ IsSome (named name self.now)) }
-        ensures fault { IfErr result (λ fault. fault ≡ Fault.NoMemory) }
+        ensures fault { IsOkUnless result Fault.NoMemory }
     {
         let names = self.table.names(self.alloc)?;
         Ok(names)

@@ -1,5 +1,5 @@
 //! Nodes by id.
-ghost use Rattle.std.specs.Prelude.{◌≡◌, ◌≢◌, ◌+◌, ◌-◌, ◌<◌, ◌≤◌, List, [], ◌∷◌, ◌++◌, length, OnOk, OnErr, IfErr, IfOk, IsOk, slice_index_or, slice_set, take, drop, insert, max};
+ghost use Rattle.std.specs.Prelude.{◌≡◌, ◌≢◌, ◌+◌, ◌-◌, ◌<◌, ◌≤◌, List, [], ◌∷◌, ◌++◌, length, OnOk, OnErr, IsOkUnless, IfOk, IsOk, slice_index_or, slice_set, take, drop, insert, max};
 ghost use Rattle.std.specs.Borrow.{sem};
 ghost use Rattle.rt_nodes.specs.Nodes.{IsNode, entries, no_nodes, with_entries, with_node, with_room};
 ghost use Rattle.rt_nodes.specs.Rows.{AreEmpty, row_at, with_tail_moved};
@@ -62,7 +62,7 @@ impl<H, E, const CAP: usize> NodeMem<H, E, CAP> {
     where
         E: Drop,
         ensures room { OnOk result (self.new ≡ with_room self.old (max self.old.room n)) }
-        ensures fault { IfErr result (λ fault. fault ≡ Fault.NoMemory) }
+        ensures fault { IsOkUnless result Fault.NoMemory }
         ensures refused { OnErr result (self.new ≡ self.old) }
         ensures roomy { n ≤ self.old.room → IsOk result }
     {

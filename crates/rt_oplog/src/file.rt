@@ -1,5 +1,5 @@
 // The operation file of a log.
-ghost use Rattle.std.specs.Prelude.{◌≡◌, ◌+◌, ◌⊎◌, reverse, None, IfErr, OnOk, MatchResult};
+ghost use Rattle.std.specs.Prelude.{◌≡◌, ◌+◌, ◌⊎◌, reverse, None, IsOkUnless, OnOk, MatchResult};
 ghost use Rattle.rt_stamps.specs.declared.fault.Fault.TheVariants.{NoMemory, WriteFault};
 ghost use Rattle.rt_stamps.specs.Source.{failures_of};
 ghost use Rattle.rt_stamps.specs.Written.{Wrote};
@@ -14,7 +14,7 @@ use std::alloc::Global;
 #[tactic(auto, unfolding(rt_ops::specs::File::magic))]
 fn write_magic<W: Sink>(out: &mut W) -> Result<(), Fault>
     ensures wrote { Wrote (W.contents out.old) (W.contents out.new) result magic }
-    ensures fault { IfErr result (λ fault. fault ≡ WriteFault) }
+    ensures fault { IsOkUnless result WriteFault }
     ensures failures { W.failures out.new ≡ W.failures out.old + failures_of result }
 {
     write_all(out, b"RGATEXT1")

@@ -1,5 +1,5 @@
 // Logs.
-ghost use Rattle.std.specs.Prelude.{◌≡◌, ℕ, ◌+◌, ◌-◌, ◌<◌, ◌≤◌, List, [], true, false, length, reverse, map, min, vec_len, vec_capacity, IsOk, OnOk, IfOk, IfErr, OnErr, MatchResult, ◌⊎◌, Ok, Err, slice_get, Some};
+ghost use Rattle.std.specs.Prelude.{◌≡◌, ℕ, ◌+◌, ◌-◌, ◌<◌, ◌≤◌, List, [], true, false, length, reverse, map, min, vec_len, vec_capacity, IsOk, OnOk, IfOk, IsOkUnless, OnErr, MatchResult, ◌⊎◌, Ok, Err, slice_get, Some};
 ghost use Rattle.std.specs.List.{AllByRecursion, list_any};
 ghost use Rattle.rt_stamps.specs.declared.fault.Fault.TheVariants.{NoMemory};
 ghost use Rattle.rt_stamps.specs.Stamps.{is_before};
@@ -185,7 +185,7 @@ impl OpLog {
         ensures same { self.new.operations ≡ self.old.operations }
         ensures ok { OnOk result (more ≤ self.new.room) }
         ensures kept { self.old.room ≤ self.new.room }
-        ensures fault { IfErr result (λ fault. fault ≡ NoMemory) }
+        ensures fault { IsOkUnless result NoMemory }
         ensures there { more ≤ self.old.room → IsOk result }
     {
         self.ops.reserve(more)?;
@@ -213,7 +213,7 @@ impl OpLog {
     /// The operations by rising stamp.
     pub fn in_order(&self) -> Result<Vec<&Op>, Fault>
         ensures operations { IfOk result (λ ops. map (λ op. op.now) ops.items ≡ reverse self.now.operations) }
-        ensures fault { IfErr result (λ fault. fault ≡ NoMemory) }
+        ensures fault { IsOkUnless result NoMemory }
     {
         let places = self.order.flat()?;
         let mut ops = Vec::new(self.alloc);

@@ -1,5 +1,5 @@
 // Two logs merged.
-ghost use Rattle.std.specs.Prelude.{◌≡◌, ℕ, ◌<◌, ◌⊎◌, [], ◌∷◌, ◌++◌, false, length, map, slice_index_or, slice_set, MatchResult, OnOk, IfErr};
+ghost use Rattle.std.specs.Prelude.{◌≡◌, ℕ, ◌<◌, ◌⊎◌, [], ◌∷◌, ◌++◌, false, length, map, slice_index_or, slice_set, MatchResult, OnOk, IsOkUnless};
 ghost use Rattle.std.specs.List.{AllByRecursion, range_with_len};
 ghost use Rattle.rt_stamps.specs.declared.fault.Fault.TheVariants.{NoMemory, Conflict};
 ghost use Rattle.rt_stamps.specs.Stamps.{is_before};
@@ -75,7 +75,7 @@ fn take_over(
     ensures order { OnOk result (order.new.items ≡ order.old.items ++ length ops.old.items ∷ []) }
     ensures others { (p : ℕ) → (p ≡ place → ⊥) → op_at more.new p ≡ op_at more.old p }
     ensures len { length more.new ≡ length more.old }
-    ensures fault { IfErr result (λ fault. fault ≡ NoMemory) }
+    ensures fault { IsOkUnless result NoMemory }
 {
     order.push(ops.len())?;
     let op = exchange(more, place, stand_in(alloc));
@@ -95,7 +95,7 @@ fn take_rest(
     requires falling { IsFalling (newest_first more.old places.now) }
     ensures ops { OnOk result (ops.new.items ≡ ops.old.items ++ map (op_at more.old) places.now) }
     ensures order { OnOk result (order.new.items ≡ order.old.items ++ range_with_len (length ops.old.items) (length places.now)) }
-    ensures fault { IfErr result (λ fault. fault ≡ NoMemory) }
+    ensures fault { IsOkUnless result NoMemory }
 {
     for place in places {
         take_over(alloc, ops, order, more, *place)?;

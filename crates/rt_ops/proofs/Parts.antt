@@ -1,5 +1,6 @@
 -- What is decoded from the parts of a record.
-use Rattle.std.proofs.Common.{◌≡◌, ℕ, ◌*◌, ◌^◌, ◌<◌, ◌≤◌, Bool, true, false, List, [], ◌∷◌, ◌++◌, length, take, drop, Result, Ok, Err, IfOk, IfErr, refl, sym, ap, subst, ◌∙◌, append-nil, arith, inl, inr}
+use Rattle.std.proofs.Common.{◌≡◌, ℕ, ◌*◌, ◌^◌, ◌<◌, ◌≤◌, Bool, true, false, List, [], ◌∷◌, ◌++◌, length, take, drop, Result, Ok, Err, IfOk, refl, sym, ap, subst, ◌∙◌, append-nil, arith, inl, inr}
+use Rattle.std.specs.Result.{IsOkUnless}
 use Rattle.std.specs.Prelude.{encode_utf8_all}
 use Rattle.std.specs.List.{flat_map, AllByRecursion}
 use Rattle.std.specs.Int.{w32, w64}
@@ -34,7 +35,7 @@ other_size bytes rest count spans few fits parts other e =
     other (omega (arith, p.0, ap length (p.1 ∙ append-nil (flat_map span_bytes spans)), spans_flat spans))
 
 pub spans_read : {X : Type 0} (result : Result X Fault) (view : X → List Span) (bytes rest : List ℕ) (count : ℕ) → count < 2 ^ 32 → bytes ≡ number w32 count ++ rest
-    → IfOk result (λ x. AllByRecursion SpanFits (view x)) → IfOk result (λ x. length (view x) ≡ count) → IfOk result (λ x. rest ≡ flat_map span_bytes (view x)) → IfErr result (λ fault. fault ≡ NoMemory)
+    → IfOk result (λ x. AllByRecursion SpanFits (view x)) → IfOk result (λ x. length (view x) ≡ count) → IfOk result (λ x. rest ≡ flat_map span_bytes (view x)) → IsOkUnless result NoMemory
     → Decodes spans_bytes SpansFit view bytes result
 unfolding spans_bytes
 spans_read (Ok x) view bytes rest count few parts fits size is memory =
@@ -88,7 +89,7 @@ no_tags bytes tags more none e = omega (arith, ap length (sym none ∙ e))
 
 -- ---- texts
 
-pub text_read : {X : Type 0} (result : Result X Fault) (view : X → List ℕ) (bytes text : List ℕ) → (text ≡ bytes) × IsUtf8 bytes → IfOk result (λ x. view x ≡ chars text) → IfErr result (λ fault. fault ≡ NoMemory)
+pub text_read : {X : Type 0} (result : Result X Fault) (view : X → List ℕ) (bytes text : List ℕ) → (text ≡ bytes) × IsUtf8 bytes → IfOk result (λ x. view x ≡ chars text) → IsOkUnless result NoMemory
     → Decodes (λ cs. encode_utf8_all cs) AreScalars view bytes result
 text_read (Ok x) view bytes text utf8 is memory =
     let same : view x ≡ chars bytes = is ∙ ap chars utf8.0 in

@@ -1,5 +1,5 @@
 // An operation file in memory.
-ghost use Rattle.std.specs.Prelude.{◌≡◌, ◌≤◌, ◌<◌, length, Some, IfOk, IfErr};
+ghost use Rattle.std.specs.Prelude.{◌≡◌, ◌≤◌, ◌<◌, length, Some, IfOk, IsOkUnless};
 ghost use Rattle.rt_stamps.specs.declared.fault.Fault.TheVariants.{NoMemory};
 ghost use Rattle.rt_stamps.specs.declared.limits.TheConstants.{MOST_BYTES};
 ghost use Rattle.rt_ops.specs.Reading.{Reads};
@@ -39,7 +39,7 @@ fn read_in<C: Ledger>(alloc: Global, bytes: &[u8], calls: Blank) -> Result<Readi
     requires calls { (calls.name ≡ C.name) × (calls.parts ≡ C.parts) × (0 < C.parts) }
     requires length { length bytes.now ≤ MOST_BYTES }
     ensures ok { IfOk result (λ reading. Reads bytes.now reading.ops.items reading.offsets.items reading.fault) }
-    ensures err { IfErr result (λ fault. fault ≡ NoMemory) }
+    ensures err { IsOkUnless result NoMemory }
 {
     let mut reader = Bytes {
         rest: bytes,
@@ -57,7 +57,7 @@ pub fn read_bytes(alloc: Global, bytes: &[u8]) -> Result<Reading, Fault>
     requires { length bytes.now ≤ MOST_BYTES }
     ensures ok { IfOk result (λ reading. Reads bytes.now reading.ops.items reading.offsets.items reading.fault) }
     ensures each { IfOk result (λ reading. length reading.offsets.items ≡ length reading.ops.items) }
-    ensures err { IfErr result (λ fault. fault ≡ NoMemory) }
+    ensures err { IsOkUnless result NoMemory }
 {
     read_in::<Brand>(alloc, bytes, Blank::new(1))
 }

@@ -1,5 +1,5 @@
 // Fields, read from bytes.
-ghost use Rattle.std.specs.Prelude.{◌≡◌, ◌+◌, ◌*◌, [], ◌∷◌, ◌++◌, ◌<◌, ◌^◌, length, map, string_bytes, encode_utf8_all, IfNone, IfSome, IfOk, IfErr};
+ghost use Rattle.std.specs.Prelude.{◌≡◌, ◌+◌, ◌*◌, [], ◌∷◌, ◌++◌, ◌<◌, ◌^◌, length, map, string_bytes, encode_utf8_all, IfNone, IfSome, IfOk, IsOkUnless};
 ghost use Rattle.std.specs.List.{flat_map, AllByRecursion};
 ghost use Rattle.std.specs.Int.{w16, w32, w64};
 ghost use Rattle.std.specs.Str.{chars};
@@ -96,7 +96,7 @@ fn spans_in(alloc: Global, count: u32, bytes: &[u8]) -> Result<Vec<Span>, Fault>
     ensures fits { IfOk result (λ spans. AllByRecursion SpanFits spans.items) }
     ensures count { IfOk result (λ spans. length spans.items ≡ count) }
     ensures bytes { IfOk result (λ spans. bytes.now ≡ flat_map span_bytes spans.items) }
-    ensures fault { IfErr result (λ fault. fault ≡ NoMemory) }
+    ensures fault { IsOkUnless result NoMemory }
 {
     let mut spans = Vec::new(alloc);
     let mut left = bytes;
@@ -176,7 +176,7 @@ pub fn tags_at(alloc: Global, bytes: &[u8]) -> Result<(Vec<String>, &[u8]), Faul
 
 fn chars_of(alloc: Global, text: &str) -> Result<Vec<char>, Fault>
     ensures ok { IfOk result (λ all. all.items ≡ chars text.now) }
-    ensures fault { IfErr result (λ fault. fault ≡ NoMemory) }
+    ensures fault { IsOkUnless result NoMemory }
 {
     let all: Vec<char> = text.chars().collect(alloc)?;
     Ok(all)

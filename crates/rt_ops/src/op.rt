@@ -1,5 +1,5 @@
 // Operations.
-ghost use Rattle.std.specs.Prelude.{◌≡◌, ℕ, ◌+◌, ◌<◌, ◌≤◌, ◌^◌, map, string_bytes, true, ◌∷◌, [], IfOk, IfErr};
+ghost use Rattle.std.specs.Prelude.{◌≡◌, ℕ, ◌+◌, ◌<◌, ◌≤◌, ◌^◌, map, string_bytes, true, ◌∷◌, [], IfOk, IsOkUnless};
 ghost use Rattle.std.specs.List.{list_any};
 ghost use Rattle.rt_stamps.specs.declared.fault.Fault.TheVariants.{NoMemory};
 ghost use Rattle.rt_ops.specs.Operations.{Insert, Delete, Tag, stamp_of, last_count as last_count_of, last_of, soundness, named, reaches, stamps_of_span};
@@ -156,7 +156,7 @@ impl Op {
     /// The operation once more. `NoMemory` is its only fault.
     pub fn copied(&self, alloc: Global) -> Result<Op, Fault>
         ensures copy { IfOk result (λ op. op ≡ self.now) }
-        ensures fault { IfErr result (λ fault. fault ≡ NoMemory) }
+        ensures fault { IsOkUnless result NoMemory }
     {
         let edit = copy_of(alloc, &self.edit)?;
         Ok(Op::of(self.stamp(), self.prev, edit))
@@ -232,7 +232,7 @@ ghost use Rattle.rt_ops.specs.Edits.{body_of as body_seen};
 /// Names once more. Want of memory.
 fn copies_of(alloc: Global, names: &[String]) -> Result<Vec<String>, Fault>
     ensures copy { IfOk result (λ copies. map string_bytes copies.items ≡ map string_bytes names.now) }
-    ensures fault { IfErr result (λ fault. fault ≡ NoMemory) }
+    ensures fault { IsOkUnless result NoMemory }
 {
     let mut copies = Vec::new(alloc);
     for name in names {
@@ -244,7 +244,7 @@ fn copies_of(alloc: Global, names: &[String]) -> Result<Vec<String>, Fault>
 /// An edit once more. Want of memory.
 fn copy_of(alloc: Global, edit: &Edit) -> Result<Edit, Fault>
     ensures copy { IfOk result (λ copy. body_seen copy ≡ body_seen edit.now) }
-    ensures fault { IfErr result (λ fault. fault ≡ NoMemory) }
+    ensures fault { IsOkUnless result NoMemory }
 {
     match edit {
         Edit::Insert { after, tags, text } => Ok(Edit::Insert {

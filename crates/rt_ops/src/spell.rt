@@ -1,5 +1,5 @@
 // Operations as the bytes of a file.
-ghost use Rattle.std.specs.Prelude.{◌≡◌, ◌∷◌, [], ◌++◌, drop, ◌<◌, ◌≤◌, ◌^◌, length, map, string_bytes, encode_utf8_all, true, IfErr, OnOk};
+ghost use Rattle.std.specs.Prelude.{◌≡◌, ◌∷◌, [], ◌++◌, drop, ◌<◌, ◌≤◌, ◌^◌, length, map, string_bytes, encode_utf8_all, true, IsOkUnless, OnOk};
 ghost use Rattle.std.specs.List.{AllByRecursion};
 ghost use Rattle.std.specs.Int.{w16, w32, w64};
 ghost use Rattle.rt_stamps.specs.declared.fault.Fault.TheVariants.{NoMemory};
@@ -16,7 +16,7 @@ use rt_stamps::{Fault, Span, Stamp};
 #[tactic(auto, unfolding(crate::specs::File::number))]
 fn push_u16(out: &mut Vec<u8>, n: u16) -> Result<(), Fault>
     ensures ok { OnOk result (out.new.items ≡ out.old.items ++ number w16 n) }
-    ensures fault { IfErr result (λ fault. fault ≡ NoMemory) }
+    ensures fault { IsOkUnless result NoMemory }
 {
     let mut bytes = [0; 2];
     BigEndian::write_u16(&mut bytes, n);
@@ -27,7 +27,7 @@ fn push_u16(out: &mut Vec<u8>, n: u16) -> Result<(), Fault>
 #[tactic(auto, unfolding(crate::specs::File::number))]
 fn push_u32(out: &mut Vec<u8>, n: u32) -> Result<(), Fault>
     ensures ok { OnOk result (out.new.items ≡ out.old.items ++ number w32 n) }
-    ensures fault { IfErr result (λ fault. fault ≡ NoMemory) }
+    ensures fault { IsOkUnless result NoMemory }
 {
     let mut bytes = [0; 4];
     BigEndian::write_u32(&mut bytes, n);
@@ -38,7 +38,7 @@ fn push_u32(out: &mut Vec<u8>, n: u32) -> Result<(), Fault>
 #[tactic(auto, unfolding(crate::specs::File::number))]
 fn push_u64(out: &mut Vec<u8>, n: u64) -> Result<(), Fault>
     ensures ok { OnOk result (out.new.items ≡ out.old.items ++ number w64 n) }
-    ensures fault { IfErr result (λ fault. fault ≡ NoMemory) }
+    ensures fault { IsOkUnless result NoMemory }
 {
     let mut bytes = [0; 8];
     BigEndian::write_u64(&mut bytes, n);
@@ -50,7 +50,7 @@ fn push_u64(out: &mut Vec<u8>, n: u64) -> Result<(), Fault>
 fn push_stamp(out: &mut Vec<u8>, stamp: Stamp) -> Result<(), Fault>
     ensures ok { OnOk result (out.new.items ≡ out.old.items ++ stamp_bytes stamp) }
     ensures fits { StampFits stamp }
-    ensures fault { IfErr result (λ fault. fault ≡ NoMemory) }
+    ensures fault { IsOkUnless result NoMemory }
 {
     push_u64(out, stamp.count)?;
     push_u16(out, stamp.site)?;
@@ -61,7 +61,7 @@ fn push_stamp(out: &mut Vec<u8>, stamp: Stamp) -> Result<(), Fault>
 fn push_span(out: &mut Vec<u8>, span: Span) -> Result<(), Fault>
     ensures ok { OnOk result (out.new.items ≡ out.old.items ++ span_bytes span) }
     ensures fits { SpanFits span }
-    ensures fault { IfErr result (λ fault. fault ≡ NoMemory) }
+    ensures fault { IsOkUnless result NoMemory }
 {
     push_u16(out, span.site)?;
     push_u64(out, span.first)?;
@@ -74,7 +74,7 @@ fn push_spans(out: &mut Vec<u8>, spans: &[Span]) -> Result<(), Fault>
     requires { length spans.now < 2 ^ 32 }
     ensures ok { OnOk result (out.new.items ≡ out.old.items ++ spans_bytes spans.now) }
     ensures fits { OnOk result (AllByRecursion SpanFits spans.now) }
-    ensures fault { IfErr result (λ fault. fault ≡ NoMemory) }
+    ensures fault { IsOkUnless result NoMemory }
 {
     push_u32(out, spans.len() as u32)?;
     for span in spans {
@@ -86,7 +86,7 @@ fn push_spans(out: &mut Vec<u8>, spans: &[Span]) -> Result<(), Fault>
 fn push_name(out: &mut Vec<u8>, name: &str) -> Result<(), Fault>
     requires { length name.now < 2 ^ 8 }
     ensures ok { OnOk result (out.new.items ≡ out.old.items ++ name_bytes name.now) }
-    ensures fault { IfErr result (λ fault. fault ≡ NoMemory) }
+    ensures fault { IsOkUnless result NoMemory }
 {
     out.push(name.len() as u8)?;
     out.extend_from_slice(name.as_bytes())?;
@@ -98,7 +98,7 @@ fn push_tags(out: &mut Vec<u8>, tags: &[String]) -> Result<(), Fault>
     requires count { length tags.now < 2 ^ 8 }
     requires names { AllByRecursion (λ tag. length (string_bytes tag) < 2 ^ 8) tags.now }
     ensures ok { OnOk result (out.new.items ≡ out.old.items ++ tags_bytes (map string_bytes tags.now)) }
-    ensures fault { IfErr result (λ fault. fault ≡ NoMemory) }
+    ensures fault { IsOkUnless result NoMemory }
 {
     out.push(tags.len() as u8)?;
     for tag in tags {
@@ -109,7 +109,7 @@ fn push_tags(out: &mut Vec<u8>, tags: &[String]) -> Result<(), Fault>
 
 fn push_text(out: &mut Vec<u8>, text: &[char]) -> Result<(), Fault>
     ensures ok { OnOk result (out.new.items ≡ out.old.items ++ encode_utf8_all text.now) }
-    ensures fault { IfErr result (λ fault. fault ≡ NoMemory) }
+    ensures fault { IsOkUnless result NoMemory }
 {
     for c in text {
         let mut bytes = [0; 4];
@@ -122,7 +122,7 @@ fn push_body(out: &mut Vec<u8>, edit: &Edit) -> Result<(), Fault>
     requires { keeps_rules (body_of edit.now) ≡ true }
     ensures ok { OnOk result (out.new.items ≡ out.old.items ++ body_bytes (body_of edit.now)) }
     ensures fits { OnOk result (BodyFits (body_of edit.now)) }
-    ensures fault { IfErr result (λ fault. fault ≡ NoMemory) }
+    ensures fault { IsOkUnless result NoMemory }
 {
     match edit {
         Edit::Insert { after, tags, text } => {
@@ -163,7 +163,7 @@ fn push_content(out: &mut Vec<u8>, op: &Op) -> Result<(), Fault>
     ensures ok { OnOk result (out.new.items ≡ out.old.items ++ content_of op.now) }
     ensures record { OnOk result (HasRecord op.now) }
     ensures short { length (content_of op.now) ≤ MOST_RECORD_BYTES }
-    ensures fault { IfErr result (λ fault. fault ≡ NoMemory) }
+    ensures fault { IsOkUnless result NoMemory }
 {
     out.push(kind(op.edit()))?;
     push_stamp(out, op.stamp())?;
@@ -184,7 +184,7 @@ fn write_length(buffer: &mut [u8], n: u32)
 pub fn spell(buffer: &mut Vec<u8>, op: &Op) -> Result<(), Fault>
     ensures ok { OnOk result (buffer.new.items ≡ record_of op.now) }
     ensures record { OnOk result (HasRecord op.now) }
-    ensures fault { IfErr result (λ fault. fault ≡ NoMemory) }
+    ensures fault { IsOkUnless result NoMemory }
 {
     buffer.clear();
     buffer.extend_from_slice(&[0; LENGTH_BYTES])?;

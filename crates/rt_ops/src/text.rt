@@ -1,5 +1,5 @@
 // The text of an Insert.
-ghost use Rattle.std.specs.Prelude.{◌≡◌, ℕ, ◌∷◌, [], length, IfOk, IfErr};
+ghost use Rattle.std.specs.Prelude.{◌≡◌, ℕ, ◌∷◌, [], length, IfOk, IsOkUnless};
 ghost use Rattle.rt_stamps.specs.declared.fault.Fault.TheVariants.{NoMemory};
 
 use rt_stamps::Fault;
@@ -56,7 +56,7 @@ impl Text {
     /// The text once more: a single character takes no memory. `NoMemory` is its only fault.
     pub fn copied(&self, alloc: Global) -> Result<Text, Fault>
         ensures copy { IfOk result (λ text. text ≡ self.now) }
-        ensures fault { IfErr result (λ fault. fault ≡ NoMemory) }
+        ensures fault { IsOkUnless result NoMemory }
     {
         match &self.kept {
             Kept::One(character) => Ok(Text::of(*character)),

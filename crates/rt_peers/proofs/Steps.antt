@@ -1,6 +1,6 @@
 -- Words and steps.
 use Rattle.std.proofs.Common.{◌≡◌, ◌≤◌, ◌<◌, ◌+◌, ◌++◌, ℕ, suc, inl, inr, Ok, Err, Result, get_or, ◌∙◌, ap, sym, List, [], ◌∷◌, map, flat_map, drop, length, refl, subst, arith, String, Global, string_bytes, append_assoc, add-one, drop-cons}
-use Rattle.std.specs.Prelude.{IfOk, IfErr, MatchResult, OnErr, OnOk}
+use Rattle.std.specs.Prelude.{IfOk, IfErr, IsOkUnless, MatchResult, OnErr, OnOk}
 use Rattle.std.proofs.lemmas.List.{map-append}
 use Rattle.rt_stamps.specs.declared.fault.Fault.{Fault}
 use Rattle.rt_stamps.specs.declared.fault.Fault.TheVariants.{NoMemory}
@@ -15,7 +15,7 @@ use Rattle.rt_peers.specs.ViewStep.{Outcome, as_outcome, changed_step, get_step,
 
 -- a reply that is made of a value, or a want of memory in its making
 pub replied_with : {T S : Type 0} (state : S) (f : T → List Word) (outcome : Result T Fault) (value : T) (result : Result (List Word) Fault) → outcome ≡ Ok value
-    → IfOk result (λ reply. reply ≡ f value) → IfErr result (λ fault. fault ≡ NoMemory) → Answers (told_step f state outcome) state result state
+    → IfOk result (λ reply. reply ≡ f value) → IsOkUnless result NoMemory → Answers (told_step f state outcome) state result state
 replied_with state f outcome value (Ok reply) e ok err = rw (e, ok) refl
 replied_with state f outcome value (Err fault) e ok err = (refl, inl err)
 
@@ -53,7 +53,7 @@ pub refused_as : {T S : Type 0} (f : T → List Word) (state : S) (said meant : 
 refused_as {T} {S} f state said meant fault found same r e = refused_by (λ v. (f v, state)) meant fault found (subst (λ (o : Result T Fault). Refuses o found) same r) e
 
 pub replied_as : {T S : Type 0} (f : T → List Word) (state : S) (said meant : Result T Fault) (value : T) (result : Result (List Word) Fault) → said ≡ meant → said ≡ Ok value
-    → IfOk result (λ reply. reply ≡ f value) → IfErr result (λ fault. fault ≡ NoMemory) → Answers (told_step f state meant) state result state
+    → IfOk result (λ reply. reply ≡ f value) → IsOkUnless result NoMemory → Answers (told_step f state meant) state result state
 replied_as f state said meant value result same e ok err = replied_with state f meant value result (sym same ∙ e) ok err
 
 -- one more of a list that is gone over, by what is made of it

@@ -1,5 +1,5 @@
 // The paths of a site's widgets.
-ghost use Rattle.std.specs.Prelude.{◌≡◌, IfOk, IfErr, codes, map, string_bytes};
+ghost use Rattle.std.specs.Prelude.{◌≡◌, IfOk, IsOkUnless, codes, map, string_bytes};
 ghost use Rattle.std.specs.List.{position};
 ghost use Rattle.std.specs.Str.{bytes_eq};
 ghost use Rattle.rt_peers.specs.PeerStep.{other_paths};
@@ -25,7 +25,7 @@ pub(crate) fn place_of(paths: &[String], path: &str) -> Option<usize>
 /// Copies of the paths but one. Want of memory.
 pub(crate) fn other_paths(alloc: Global, paths: &[String], path: &str) -> Result<Vec<String>, Fault>
     ensures ok { IfOk result (λ others. map (λ w. string_bytes w) others.items ≡ other_paths path.now (map (λ w. string_bytes w) paths.now)) }
-    ensures err { IfErr result (λ fault. fault ≡ Fault.NoMemory) }
+    ensures err { IsOkUnless result Fault.NoMemory }
 {
     let mut others = Vec::new(alloc);
     for other in paths {

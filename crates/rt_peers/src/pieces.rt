@@ -1,5 +1,5 @@
 // The texts of an insertion.
-ghost use Rattle.std.specs.Prelude.{◌≡◌, IfOk, IfErr, map, string_bytes};
+ghost use Rattle.std.specs.Prelude.{◌≡◌, IfOk, IsOkUnless, map, string_bytes};
 ghost use Rattle.rt_peers.specs.ViewStep.{as_piece};
 
 use rt_stamps::Fault;
@@ -9,7 +9,7 @@ use std::alloc::Global;
 // Copies of words.
 fn copied(alloc: Global, words: &[String]) -> Result<Vec<String>, Fault>
     ensures ok { IfOk result (λ copies. map (λ w. string_bytes w) copies.items ≡ map (λ w. string_bytes w) words.now) }
-    ensures err { IfErr result (λ fault. fault ≡ Fault.NoMemory) }
+    ensures err { IsOkUnless result Fault.NoMemory }
 {
     let mut copies = Vec::with_capacity(alloc, words.len())?;
     for word in words {
@@ -21,7 +21,7 @@ fn copied(alloc: Global, words: &[String]) -> Result<Vec<String>, Fault>
 // A copy of a text with its tags.
 fn owned_piece(alloc: Global, piece: &rt_requests::Piece<'_>) -> Result<Piece, Fault>
     ensures ok { IfOk result (λ owned. owned ≡ as_piece piece.now) }
-    ensures err { IfErr result (λ fault. fault ≡ Fault.NoMemory) }
+    ensures err { IsOkUnless result Fault.NoMemory }
 {
     let tags = copied(alloc, piece.tags())?;
     Ok(Piece::new(String::from_str(alloc, piece.text())?, tags))
@@ -30,7 +30,7 @@ fn owned_piece(alloc: Global, piece: &rt_requests::Piece<'_>) -> Result<Piece, F
 /// Copies of texts with their tags, or want of memory.
 pub(crate) fn owned(alloc: Global, pieces: &[rt_requests::Piece<'_>]) -> Result<Vec<Piece>, Fault>
     ensures ok { IfOk result (λ owned. owned.items ≡ map as_piece pieces.now) }
-    ensures err { IfErr result (λ fault. fault ≡ Fault.NoMemory) }
+    ensures err { IsOkUnless result Fault.NoMemory }
 {
     let mut copies = Vec::with_capacity(alloc, pieces.len())?;
     for piece in pieces {

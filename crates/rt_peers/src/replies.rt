@@ -1,5 +1,5 @@
 // Replies of no word, one word, numbers and positions.
-ghost use Rattle.std.specs.Prelude.{◌≡◌, ◌∷◌, [], Ok, Err, map, string_bytes, IfOk, IfErr, MatchResult};
+ghost use Rattle.std.specs.Prelude.{◌≡◌, ◌∷◌, [], Ok, Err, map, string_bytes, IfOk, IsOkUnless, MatchResult};
 ghost use Rattle.std.specs.Fmt.{signed_decimal};
 ghost use Rattle.rt_stamps.specs.Places.{text_of_position};
 ghost use Rattle.rt_peers.specs.Options.{number_word};
@@ -35,7 +35,7 @@ pub(crate) fn changed(alloc: Global, outcome: Result<(), Fault>) -> Result<Reply
 // A reply of one word.
 pub(crate) fn one_word(alloc: Global, word: String) -> Result<Reply, Fault>
     ensures ok { IfOk result (λ reply. reply ≡ string_bytes word ∷ []) }
-    ensures err { IfErr result (λ fault. fault ≡ Fault.NoMemory) }
+    ensures err { IsOkUnless result Fault.NoMemory }
 {
     let mut words = Vec::with_capacity(alloc, 1)?;
     words.push(word)?;
@@ -45,7 +45,7 @@ pub(crate) fn one_word(alloc: Global, word: String) -> Result<Reply, Fault>
 // Truth, as it is written.
 pub(crate) fn truth(alloc: Global, holds: bool) -> Result<Reply, Fault>
     ensures ok { IfOk result (λ reply. reply ≡ one_word (text_of_bool holds)) }
-    ensures err { IfErr result (λ fault. fault ≡ Fault.NoMemory) }
+    ensures err { IsOkUnless result Fault.NoMemory }
 {
     let text = if holds { "1" } else { "0" };
     one_word(alloc, String::from_str(alloc, text)?)
@@ -54,7 +54,7 @@ pub(crate) fn truth(alloc: Global, holds: bool) -> Result<Reply, Fault>
 // A reply of a number, or of the empty word without one.
 pub(crate) fn number_reply(alloc: Global, number: Option<usize>) -> Result<Reply, Fault>
     ensures ok { IfOk result (λ reply. reply ≡ one_word (number_word number)) }
-    ensures err { IfErr result (λ fault. fault ≡ Fault.NoMemory) }
+    ensures err { IsOkUnless result Fault.NoMemory }
 {
     match number {
         Some(number) => {
@@ -68,7 +68,7 @@ pub(crate) fn number_reply(alloc: Global, number: Option<usize>) -> Result<Reply
 // A reply of numbers.
 pub(crate) fn numbers(alloc: Global, values: &[i64]) -> Result<Reply, Fault>
     ensures ok { IfOk result (λ reply. reply ≡ map signed_decimal values.now) }
-    ensures err { IfErr result (λ fault. fault ≡ Fault.NoMemory) }
+    ensures err { IsOkUnless result Fault.NoMemory }
 {
     let mut words = Vec::with_capacity(alloc, values.len())?;
     for value in values {
@@ -80,7 +80,7 @@ pub(crate) fn numbers(alloc: Global, values: &[i64]) -> Result<Reply, Fault>
 // The text of a position.
 pub(crate) fn position_text(alloc: Global, position: Position) -> Result<String, Fault>
     ensures ok { IfOk result (λ text. string_bytes text ≡ text_of_position position) }
-    ensures err { IfErr result (λ fault. fault ≡ Fault.NoMemory) }
+    ensures err { IsOkUnless result Fault.NoMemory }
 {
     let mut digits = Buffer::new();
     let mut text = String::with_capacity(alloc, POSITION_BYTES)?;
@@ -93,7 +93,7 @@ pub(crate) fn position_text(alloc: Global, position: Position) -> Result<String,
 // A reply of positions.
 pub(crate) fn positions_reply(alloc: Global, positions: &[Position]) -> Result<Reply, Fault>
     ensures ok { IfOk result (λ reply. reply ≡ map text_of_position positions.now) }
-    ensures err { IfErr result (λ fault. fault ≡ Fault.NoMemory) }
+    ensures err { IsOkUnless result Fault.NoMemory }
 {
     let mut words = Vec::with_capacity(alloc, positions.len())?;
     for position in positions {

@@ -1,5 +1,5 @@
 // A site, and what is asked of its widgets.
-ghost use Rattle.std.specs.Prelude.{◌≡◌, ◌∷◌, ◌<◌, ◌≤◌, IfOk, IfErr, length, map, string_bytes};
+ghost use Rattle.std.specs.Prelude.{◌≡◌, ◌∷◌, ◌<◌, ◌≤◌, IfOk, IsOkUnless, length, map, string_bytes};
 ghost use Rattle.rt_stamps.specs.declared.limits.TheConstants.{MOST_CELLS};
 ghost use Rattle.rt_stamps.specs.Outcomes.{Answers};
 ghost use Rattle.rt_peers.specs.Peers.{HavePaths};
@@ -56,7 +56,7 @@ impl SiteState {
     pub fn new(alloc: Global, site: Site, limit: usize) -> Result<SiteState, Fault>
         requires { (1 ≤ limit) × (limit ≤ MOST_CELLS) }
         ensures ok { IfOk result (λ state. state ≡ new_state site.number limit) }
-        ensures err { IfErr result (λ fault. fault ≡ Fault.NoMemory) }
+        ensures err { IsOkUnless result Fault.NoMemory }
     {
         let text = EditedText::new(alloc, site, limit)?;
         let mut paths = Vec::with_capacity(alloc, 1)?;

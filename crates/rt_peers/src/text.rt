@@ -1,5 +1,5 @@
 // The text of a site, and what is asked of the widget that commands.
-ghost use Rattle.std.specs.Prelude.{◌≡◌, ◌≤◌, IfOk, IfErr};
+ghost use Rattle.std.specs.Prelude.{◌≡◌, ◌≤◌, IfOk, IsOkUnless};
 ghost use Rattle.rt_stamps.specs.declared.limits.TheConstants.{MOST_CELLS};
 ghost use Rattle.rt_stamps.specs.Outcomes.{Answers};
 ghost use Rattle.rt_peers.specs.State.{new_text};
@@ -54,7 +54,7 @@ impl EditedText {
     pub(crate) fn new(alloc: Global, site: Site, limit: usize) -> Result<EditedText, Fault>
         requires { (1 ≤ limit) × (limit ≤ MOST_CELLS) }
         ensures ok { IfOk result (λ text. text ≡ new_text site.number limit) }
-        ensures err { IfErr result (λ fault. fault ≡ Fault.NoMemory) }
+        ensures err { IsOkUnless result Fault.NoMemory }
     {
         let viewer = Viewer::new(alloc, site, limit)?;
         let recorder = Recorder::new(alloc)?;

@@ -1,5 +1,5 @@
 // What the site's widget shows, and what is asked of it.
-ghost use Rattle.std.specs.Prelude.{◌≡◌, ◌≤◌, IfOk, IfErr};
+ghost use Rattle.std.specs.Prelude.{◌≡◌, ◌≤◌, IfOk, IsOkUnless};
 ghost use Rattle.rt_stamps.specs.declared.limits.TheConstants.{MOST_CELLS};
 ghost use Rattle.rt_rga.specs.Cells.{cells_of};
 ghost use Rattle.rt_rga.specs.Histories.{IsHistory, greatest_last_count};
@@ -40,7 +40,7 @@ impl Viewer {
     pub fn new(alloc: Global, site: Site, limit: usize) -> Result<Viewer, Fault>
         requires { (1 ≤ limit) × (limit ≤ MOST_CELLS) }
         ensures ok { IfOk result (λ viewer. viewer ≡ new_view site.number limit) }
-        ensures err { IfErr result (λ fault. fault ≡ Fault.NoMemory) }
+        ensures err { IsOkUnless result Fault.NoMemory }
     {
         let store = TreeStore::new(alloc)?;
         let view = View::new(alloc, store, site, limit)?;

@@ -1,5 +1,5 @@
 // Where ranges of tags end and begin.
-ghost use Rattle.std.specs.Prelude.{◌≡◌, ◌++◌, IfErr, IfOk, OnOk};
+ghost use Rattle.std.specs.Prelude.{◌≡◌, ◌++◌, IsOkUnless, IfOk, OnOk};
 ghost use Rattle.rt_queries.specs.Dumping.{ends_of, starts_of, tag_ends, tag_starts};
 ghost use Rattle.rt_queries.specs.Stretches.{within};
 
@@ -23,7 +23,7 @@ fn push_tag<S: TextStore>(
 ) -> Result<(), Fault>
     ensures ends { OnOk result (ends.new.items ≡ ends.old.items ++ within stretch (ends_of view.now name.now)) }
     ensures starts { OnOk result (starts.new.items ≡ starts.old.items ++ within stretch (starts_of view.now name.now)) }
-    ensures err { IfErr result (λ fault. fault ≡ Fault.NoMemory) }
+    ensures err { IsOkUnless result Fault.NoMemory }
 {
     let found = ranges(alloc, view, name)?;
     for range in &found {
@@ -41,7 +41,7 @@ pub(crate) fn borders<S: TextStore>(
     stretch: Stretch,
 ) -> Result<Vec<Placed>, Fault>
     ensures ok { IfOk result (λ all. all.items ≡ within stretch (tag_ends view.now) ++ within stretch (tag_starts view.now)) }
-    ensures err { IfErr result (λ fault. fault ≡ Fault.NoMemory) }
+    ensures err { IsOkUnless result Fault.NoMemory }
 {
     let names = view.doc().tags().names()?;
     let mut ends = Vec::new(alloc);

@@ -1,5 +1,5 @@
 // What a dump answers.
-ghost use Rattle.std.specs.Prelude.{◌≡◌, ◌+◌, ◌==◌, ◌≤◌, if◌then◌else◌, ◌⊎◌, All, IfErr, IfOk, None, Ok, OnOk, Some, map, option_copied, option_to_list};
+ghost use Rattle.std.specs.Prelude.{◌≡◌, ◌+◌, ◌==◌, ◌≤◌, if◌then◌else◌, ◌⊎◌, All, IfErr, IsOkUnless, IfOk, None, Ok, OnOk, Some, map, option_copied, option_to_list};
 ghost use Rattle.rt_queries.specs.Dumping.{dumped, elements_between, others_asked, stop_of};
 ghost use Rattle.rt_queries.specs.Elements.{answered};
 ghost use Rattle.rt_queries.specs.Stretches.{within};
@@ -53,7 +53,7 @@ fn others_in<S: TextStore>(
     stretch: Stretch,
 ) -> Result<Vec<Placed>, Fault>
     ensures ok { IfOk result (λ others. others.items ≡ within stretch (others_asked view.now kinds)) }
-    ensures err { IfErr result (λ fault. fault ≡ Fault.NoMemory) }
+    ensures err { IsOkUnless result Fault.NoMemory }
 {
     let mut others = if kinds.tags {
         borders(alloc, view, stretch)?
@@ -74,7 +74,7 @@ fn elements_at<S: TextStore>(
 ) -> Result<Vec<Element>, Fault>
     requires { All (λ e. e.place ≤ length_shown view.now) all.items }
     ensures ok { IfOk result (λ elements. elements.items ≡ map (answered (text_shown view.now)) all.items) }
-    ensures err { IfErr result (λ fault. fault ≡ Fault.NoMemory) }
+    ensures err { IsOkUnless result Fault.NoMemory }
 {
     let mut elements = Vec::new(alloc);
     for element in all {
@@ -95,7 +95,7 @@ fn gathered<S: TextStore>(
 ) -> Result<Vec<Placed>, Fault>
     requires to { to ≤ length_shown view.now }
     ensures ok { IfOk result (λ all. all.items ≡ elements_between view.now kinds from to) }
-    ensures err { IfErr result (λ fault. fault ≡ Fault.NoMemory) }
+    ensures err { IsOkUnless result Fault.NoMemory }
 {
     let mut all = others_in(alloc, view, kinds, stretch_of(view, from, to))?;
     sort(&mut all)?;

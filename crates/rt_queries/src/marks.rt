@@ -1,5 +1,5 @@
 // The marks of a stretch.
-ghost use Rattle.std.specs.Prelude.{◌≡◌, ◌++◌, IfErr, OnOk};
+ghost use Rattle.std.specs.Prelude.{◌≡◌, ◌++◌, IsOkUnless, OnOk};
 ghost use Rattle.rt_queries.specs.Dumping.{marks_standing};
 ghost use Rattle.rt_queries.specs.Stretches.{within};
 
@@ -20,7 +20,7 @@ pub(crate) fn push_marks<S: TextStore>(
     elements: &mut Vec<Placed>,
 ) -> Result<(), Fault>
     ensures ok { OnOk result (elements.new.items ≡ elements.old.items ++ within stretch (marks_standing view.now)) }
-    ensures err { IfErr result (λ fault. fault ≡ Fault.NoMemory) }
+    ensures err { IsOkUnless result Fault.NoMemory }
 {
     let marks = marks_between(alloc, view, stretch.from, stretch.behind)?;
     for mark in &marks {

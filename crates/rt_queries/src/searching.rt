@@ -1,5 +1,5 @@
 // What a search answers.
-ghost use Rattle.std.specs.Prelude.{◌≡◌, ◌⊎◌, ◌<◌, ◌≤◌, All, Ok, None, Some, IfOk, IfErr, IfSome, length, map, option_map, option_to_list};
+ghost use Rattle.std.specs.Prelude.{◌≡◌, ◌⊎◌, ◌<◌, ◌≤◌, All, Ok, None, Some, IfOk, IfErr, IsOkUnless, IfSome, length, map, option_map, option_to_list};
 ghost use Rattle.std.specs.Str.{chars};
 ghost use Rattle.rt_search.specs.Searches.{all_matches, first_match};
 ghost use Rattle.rt_queries.specs.SearchCommand.{searched};
@@ -25,7 +25,7 @@ pub fn shown<S: TextStore>(view: &View<S>) -> Part<'_, S>
 /// The characters of a pattern.
 fn characters_of(alloc: Global, pattern: &str) -> Result<Vec<char>, Fault>
     ensures ok { IfOk result (λ all. all.items ≡ chars pattern.now) }
-    ensures err { IfErr result (λ fault. fault ≡ Fault.NoMemory) }
+    ensures err { IsOkUnless result Fault.NoMemory }
 {
     let all: Vec<char> = pattern.chars().collect(alloc)?;
     Ok(all)
@@ -68,7 +68,7 @@ fn one_found<S: TextStore>(
     requires stop { IfSome stop (λ place. place ≤ length_shown view.now) }
     ensures ok { IfOk result (λ found. found.items
         ≡ map (position_at (text_shown view.now)) (option_to_list (first_match search pattern.now (text_shown view.now) start stop))) }
-    ensures err { IfErr result (λ fault. fault ≡ Fault.NoMemory) }
+    ensures err { IsOkUnless result Fault.NoMemory }
 {
     let mut found = Vec::new(alloc);
     if let Some(place) = find_first(&shown(view), pattern, search, start, stop) {
@@ -86,7 +86,7 @@ fn positions_along<S: TextStore>(
 ) -> Result<Vec<Position>, Fault>
     requires { All (λ place. place < length_shown view.now) places.items }
     ensures ok { IfOk result (λ found. found.items ≡ map (position_at (text_shown view.now)) places.items) }
-    ensures err { IfErr result (λ fault. fault ≡ Fault.NoMemory) }
+    ensures err { IsOkUnless result Fault.NoMemory }
 {
     let text = shown(view);
     match direction {
@@ -114,7 +114,7 @@ fn each_found<S: TextStore>(
     requires stop { IfSome stop (λ place. place ≤ length_shown view.now) }
     ensures ok { IfOk result (λ found. found.items
         ≡ map (position_at (text_shown view.now)) (all_matches overlaps search pattern.now (text_shown view.now) start stop)) }
-    ensures err { IfErr result (λ fault. fault ≡ Fault.NoMemory) }
+    ensures err { IsOkUnless result Fault.NoMemory }
 {
     let text = shown(view);
     let places = find_all(alloc, &text, pattern, search, overlaps, start, stop)?;

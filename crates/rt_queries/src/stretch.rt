@@ -1,5 +1,5 @@
 // The stretch of a text that a dump shows.
-ghost use Rattle.std.specs.Prelude.{◌≡◌, ◌∷◌, [], ◌++◌, ◌↔◌, ◌≤◌, ◌<◌, IfErr, IsTrue, OnOk, filter};
+ghost use Rattle.std.specs.Prelude.{◌≡◌, ◌∷◌, [], ◌++◌, ◌↔◌, ◌≤◌, ◌<◌, IsOkUnless, IsTrue, OnOk, filter};
 ghost use Rattle.rt_queries.specs.Elements.{placed};
 ghost use Rattle.rt_queries.specs.Stretches.{is_in};
 
@@ -34,7 +34,7 @@ impl Stretch {
     ) -> Result<(), Fault>
         ensures ok { OnOk result (elements.new.items
             ≡ elements.old.items ++ filter (λ e. is_in self.now e.place) (placed key value.now place ∷ [])) }
-        ensures err { IfErr result (λ fault. fault ≡ Fault.NoMemory) }
+        ensures err { IsOkUnless result Fault.NoMemory }
     {
         if self.has(place) {
             let value = String::from_str(alloc, value)?;

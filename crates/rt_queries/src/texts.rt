@@ -1,5 +1,5 @@
 // The text values of a stretch.
-ghost use Rattle.std.specs.Prelude.{◌≡◌, ℕ, ◌+◌, ◌-◌, ◌<◌, ◌≤◌, List, IfErr, IfOk, encode_utf8_all, false, length, slice_index_or, true};
+ghost use Rattle.std.specs.Prelude.{◌≡◌, ℕ, ◌+◌, ◌-◌, ◌<◌, ◌≤◌, List, IsOkUnless, IfOk, encode_utf8_all, false, length, slice_index_or, true};
 ghost use Rattle.std.specs.List.{list_any};
 ghost use Rattle.std.specs.List.Sorted.{IsNonDecreasingBy};
 ghost use Rattle.rt_queries.specs.Elements.{ends_text, placed, stands_at, text_values};
@@ -57,7 +57,7 @@ fn text_end(chars: &[char], from: usize, to: usize, others: &[Placed], start: us
 /// A text value of some characters that begins at a place.
 fn text_value(alloc: Global, chars: &[char], place: usize) -> Result<Placed, Fault>
     ensures ok { IfOk result (λ value. value ≡ placed Key.Text (encode_utf8_all chars.now) place) }
-    ensures err { IfErr result (λ fault. fault ≡ Fault.NoMemory) }
+    ensures err { IsOkUnless result Fault.NoMemory }
 {
     let mut text = String::new(alloc);
     for c in chars {
@@ -79,7 +79,7 @@ pub(crate) fn values_of(
     requires size { from + length chars.now ≡ to }
     ensures ok { IfOk result (λ values. (text : List ℕ) → text_between text from to ≡ chars.now
         → values.items ≡ text_values text others.now from to) }
-    ensures err { IfErr result (λ fault. fault ≡ Fault.NoMemory) }
+    ensures err { IsOkUnless result Fault.NoMemory }
 {
     let mut values = Vec::new(alloc);
     let mut start = from;
@@ -102,7 +102,7 @@ fn characters<S: TextStore>(
     requires to { to ≤ length text.now }
     ensures ok { IfOk result (λ chars. chars.items ≡ text_between text.now from to) }
     ensures size { IfOk result (λ chars. from + length chars.items ≡ to) }
-    ensures err { IfErr result (λ fault. fault ≡ Fault.NoMemory) }
+    ensures err { IsOkUnless result Fault.NoMemory }
 {
     let mut chars = vec![in alloc; '\0'; to - from]?;
     text.characters(from, &mut chars);
@@ -121,7 +121,7 @@ pub(crate) fn texts_in<S: TextStore>(
     requires rise { IsNonDecreasingBy (λ e. e.place) others.now }
     requires to { to ≤ length text.now }
     ensures ok { IfOk result (λ values. values.items ≡ text_values text.now others.now from to) }
-    ensures err { IfErr result (λ fault. fault ≡ Fault.NoMemory) }
+    ensures err { IsOkUnless result Fault.NoMemory }
 {
     if to <= from {
         return Ok(Vec::new(alloc));

@@ -1,5 +1,5 @@
 // A working copy of a text.
-ghost use Rattle.std.specs.Prelude.{◌≡◌, ℕ, ◌<◌, ◌≤◌, ◌∷◌, [], List, All, IfErr, IfOk, IfSome, OnOk, length, map};
+ghost use Rattle.std.specs.Prelude.{◌≡◌, ℕ, ◌<◌, ◌≤◌, ◌∷◌, [], List, All, IsOkUnless, IfOk, IfSome, OnOk, length, map};
 ghost use Rattle.rt_stamps.specs.declared.limits.TheConstants.{MOST_CELLS};
 ghost use Rattle.rt_store.specs.declared.cell.Cell.{Cell};
 ghost use Rattle.rt_store.specs.Cells.{EndsFinal, final_cell};
@@ -27,7 +27,7 @@ pub fn kept_state(
     ensures given { IfOk result (IsState kept.new) }
     ensures names { IfOk result (λ id. names_on (state_at kept.new id) ≡ names_on (state_at states.now state)) }
     ensures ids { KeepsIds kept.old kept.new }
-    ensures err { IfErr result (λ fault. fault ≡ Fault.NoMemory) }
+    ensures err { IsOkUnless result Fault.NoMemory }
 {
     states.order();
     let names = names_of(alloc, states, state)?;
@@ -55,7 +55,7 @@ pub fn alike_state(
     ensures theirs { IfOk result (λ alike. alike.theirs ≡ state) }
     ensures alike { IfOk result (AreAlike states.now table.new) }
     ensures ids { KeepsIds table.old table.new }
-    ensures err { IfErr result (λ fault. fault ≡ Fault.NoMemory) }
+    ensures err { IsOkUnless result Fault.NoMemory }
 {
     match known {
         Some(alike) if alike.theirs == state => Ok(alike),
@@ -81,7 +81,7 @@ pub(crate) fn kept_cells<S: TextStore>(
     ensures alike { IfOk result (λ cells. (named : List (Cell ℕ)) → AreAt (S.list store.now) positions.now named
         → LookAlike (map (shown kept.new) cells.items) (map (shown states.now) named)) }
     ensures ids { KeepsIds kept.old kept.new }
-    ensures err { IfErr result (λ fault. fault ≡ Fault.NoMemory) }
+    ensures err { IsOkUnless result Fault.NoMemory }
 {
     let mut cells = Vec::new(alloc);
     let mut known = None;
@@ -107,7 +107,7 @@ pub(crate) fn fill<C: TextStore>(
     requires ends { EndsFinal cells.items }
     ensures list { OnOk result (C.list copy.new ≡ cells.items) }
     ensures agrees { OnOk result (C.agrees copy.new kept.now) }
-    ensures err { IfErr result (λ fault. fault ≡ Fault.NoMemory) }
+    ensures err { IsOkUnless result Fault.NoMemory }
 {
     kept.order();
     let mut front = cells;

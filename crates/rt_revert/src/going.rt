@@ -1,5 +1,5 @@
 // Characters that go from the working copy of a text.
-ghost use Rattle.std.specs.Prelude.{◌≡◌, ℕ, ◌≤◌, ◌⊎◌, ◌<◌, false, IfErr, IfOk, OnOk, length, map};
+ghost use Rattle.std.specs.Prelude.{◌≡◌, ℕ, ◌≤◌, ◌⊎◌, ◌<◌, false, IfErr, IsOkUnless, IfOk, OnOk, length, map};
 ghost use Rattle.rt_stamps.specs.declared.limits.TheConstants.{GREATEST_COUNT, MOST_CELLS};
 ghost use Rattle.rt_stamps.specs.declared.stamp.TheConstants.{FINAL};
 ghost use Rattle.rt_ops.specs.Operations.{stamps_in};
@@ -30,7 +30,7 @@ fn make_gone<S: TextStore>(
     requires stays { is_in_spans (spans_of removed.now) FINAL ≡ false }
     ensures list { OnOk result (S.list copy.new ≡ map (gone_in_any (spans_of removed.now)) (S.list copy.old)) }
     ensures agrees { OnOk result (S.agrees copy.new kept.now) }
-    ensures err { IfErr result (λ fault. fault ≡ Fault.NoMemory) }
+    ensures err { IsOkUnless result Fault.NoMemory }
 {
     for part in removed {
         copy.reserve(0, 2, kept.tags())?;

@@ -1,5 +1,5 @@
 // The characters that go where an insertion is reverted.
-ghost use Rattle.std.specs.Prelude.{◌≡◌, ℕ, ◌≤◌, All, IfErr, IfOk, length, map};
+ghost use Rattle.std.specs.Prelude.{◌≡◌, ℕ, ◌≤◌, All, IsOkUnless, IfOk, length, map};
 ghost use Rattle.std.specs.List.{AllByRecursion};
 ghost use Rattle.rt_stamps.specs.declared.limits.TheConstants.{MOST_CELLS, MOST_SPANS};
 ghost use Rattle.rt_ops.specs.Edits.{body_of};
@@ -55,7 +55,7 @@ pub fn planned_losses<S: TextStore>(
     ensures places { IfOk result (λ losses. (place : ℕ) → is_covered losses.places.items place ≡ are_at (stamps_in spans.now) (S.list store.now) place) }
     ensures order { IfOk result (λ losses. AreInOrder 0 losses.places.items) }
     ensures within { IfOk result (λ losses. All (λ range. range.to ≤ length (visible_of (S.list store.now))) losses.places.items) }
-    ensures err { IfErr result (λ fault. fault ≡ Fault.NoMemory) }
+    ensures err { IsOkUnless result Fault.NoMemory }
 {
     let places = visible_ranges(alloc, store, spans)?;
     let cells = cells_in(alloc, store, &places)?;

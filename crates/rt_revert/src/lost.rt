@@ -1,5 +1,5 @@
 // Removed characters by spans.
-ghost use Rattle.std.specs.Prelude.{◌≡◌, ◌∷◌, ◌++◌, [], IfOk, IfErr, OnOk, map};
+ghost use Rattle.std.specs.Prelude.{◌≡◌, ◌∷◌, ◌++◌, [], IfOk, IsOkUnless, OnOk, map};
 ghost use Rattle.rt_undo.specs.Actions.{removed_in};
 ghost use Rattle.rt_revert.specs.Keeping.{follows};
 ghost use Rattle.rt_revert.specs.Planning.{cell_removed};
@@ -30,7 +30,7 @@ pub fn push_removed(
     state: StateId,
 ) -> Result<(), Fault>
     ensures ok { OnOk result (removed_in removed.new.items ≡ removed_in removed.old.items ++ record { stamp = stamp; tags = state } ∷ []) }
-    ensures fault { IfErr result (λ fault. fault ≡ Fault.NoMemory) }
+    ensures fault { IsOkUnless result Fault.NoMemory }
 {
     let mut span = Span {
         site: stamp.site,
@@ -55,7 +55,7 @@ pub(crate) fn removed_from(
     cells: &[Cell<StateId>],
 ) -> Result<Vec<RemovedSpan>, Fault>
     ensures ok { IfOk result (λ removed. removed_in removed.items ≡ map cell_removed cells.now) }
-    ensures err { IfErr result (λ fault. fault ≡ Fault.NoMemory) }
+    ensures err { IsOkUnless result Fault.NoMemory }
 {
     let mut removed = Vec::new(alloc);
     for cell in cells {

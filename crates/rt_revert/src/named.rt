@@ -1,5 +1,5 @@
 // The cells that the actions of a group name.
-ghost use Rattle.std.specs.Prelude.{◌≡◌, ℕ, ◌+◌, ◌-◌, ◌<◌, ◌≤◌, ◌++◌, ◌∷◌, [], ◌||◌, true, All, IfErr, IfOk, OnOk, length};
+ghost use Rattle.std.specs.Prelude.{◌≡◌, ℕ, ◌+◌, ◌-◌, ◌<◌, ◌≤◌, ◌++◌, ◌∷◌, [], ◌||◌, true, All, IsOkUnless, IfOk, OnOk, length};
 ghost use Rattle.std.specs.List.Sorted.{IsStrictlyIncreasing};
 ghost use Rattle.rt_stamps.specs.declared.limits.TheConstants.{GREATEST_COUNT};
 ghost use Rattle.rt_stamps.specs.declared.stamp.TheConstants.{FINAL, ROOT};
@@ -20,7 +20,7 @@ use std::alloc::Global;
 // Adds the spans of the characters that an action put in and took away. Want of memory.
 fn push_named(action: &Action, spans: &mut Vec<Span>) -> Result<(), Fault>
     ensures ok { OnOk result (stamps_in spans.new.items ≡ stamps_in spans.old.items ++ named_by (action_of action.now)) }
-    ensures err { IfErr result (λ fault. fault ≡ Fault.NoMemory) }
+    ensures err { IsOkUnless result Fault.NoMemory }
 {
     spans.extend_from_slice(&action.inserted)?;
     for part in &action.removed {
@@ -32,7 +32,7 @@ fn push_named(action: &Action, spans: &mut Vec<Span>) -> Result<(), Fault>
 // The spans of the characters that a group names. Want of memory.
 fn named_spans(alloc: Global, group: &[Action]) -> Result<Vec<Span>, Fault>
     ensures ok { IfOk result (λ spans. stamps_in spans.items ≡ named_in (group_of group.now)) }
-    ensures err { IfErr result (λ fault. fault ≡ Fault.NoMemory) }
+    ensures err { IsOkUnless result Fault.NoMemory }
 {
     let mut spans = Vec::new(alloc);
     for action in group {
@@ -85,7 +85,7 @@ fn push_position<S: TextStore>(
     requires newest { (0 < newest.count) × (is_before FINAL newest ≡ true) }
     ensures ok { OnOk result ((at : ℕ) → holds positions.new.items at
         ≡ (holds positions.old.items at || stands_at (stamp ∷ []) (S.list store.now) at)) }
-    ensures err { IfErr result (λ fault. fault ≡ Fault.NoMemory) }
+    ensures err { IsOkUnless result Fault.NoMemory }
 {
     match position_of(store, newest, stamp) {
         Some(position) => Ok(positions.push(position)?),
@@ -105,7 +105,7 @@ fn push_positions<S: TextStore>(
     requires newest { (0 < newest.count) × (is_before FINAL newest ≡ true) }
     ensures ok { OnOk result ((at : ℕ) → holds positions.new.items at
         ≡ (holds positions.old.items at || stands_at (stamps_of_span span) (S.list store.now) at)) }
-    ensures err { IfErr result (λ fault. fault ≡ Fault.NoMemory) }
+    ensures err { IsOkUnless result Fault.NoMemory }
 {
     for count in span.first..=span.last {
         let stamp = Stamp {
@@ -129,7 +129,7 @@ fn positions_of<S: TextStore>(
     requires newest { (0 < newest.count) × (is_before FINAL newest ≡ true) }
     ensures ok { IfOk result (λ positions. (at : ℕ) → holds positions.items at
         ≡ stands_at (FINAL ∷ stamps_in spans.now) (S.list store.now) at) }
-    ensures err { IfErr result (λ fault. fault ≡ Fault.NoMemory) }
+    ensures err { IsOkUnless result Fault.NoMemory }
 {
     let mut positions = Vec::new(alloc);
     positions.push(store.cells() - 1)?;
@@ -163,7 +163,7 @@ pub(crate) fn named_positions<S: TextStore>(
     requires count { count ≤ GREATEST_COUNT }
     ensures within { IfOk result (λ positions. All (λ position. position < length (S.list store.now)) positions.items) }
     ensures cells { IfOk result (λ positions. AreAt (S.list store.now) positions.items (only (is_named (group_of group.now)) (S.list store.now))) }
-    ensures err { IfErr result (λ fault. fault ≡ Fault.NoMemory) }
+    ensures err { IsOkUnless result Fault.NoMemory }
 {
     let newest = Stamp {
         count: count + 1,

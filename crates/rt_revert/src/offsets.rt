@@ -1,5 +1,5 @@
 // Places in a text of characters in a working copy, which has only some of its cells.
-ghost use Rattle.std.specs.Prelude.{◌≡◌, ℕ, ◌+◌, ◌-◌, ◌*◌, ◌≤◌, true, All, IfErr, IfOk, length};
+ghost use Rattle.std.specs.Prelude.{◌≡◌, ℕ, ◌+◌, ◌-◌, ◌*◌, ◌≤◌, true, All, IsOkUnless, IfOk, length};
 ghost use Rattle.rt_stamps.specs.declared.limits.TheConstants.{GREATEST_COUNT, MOST_CELLS};
 ghost use Rattle.rt_stamps.specs.declared.stamp.Stamp.{Stamp};
 ghost use Rattle.rt_store.specs.Cells.{stamps_of, visible_of};
@@ -47,7 +47,7 @@ pub(crate) fn offsets_of<S: TextStore, C: TextStore>(
     ensures offsets { IfOk result (λ offsets. (s : Stamp) → is_among (stamps_of (C.list copy.now)) s ≡ true
         → offset_of offsets s ≡ place_in (S.list store.now) s - place_in (C.list copy.now) s) }
     ensures small { IfOk result AreSmall }
-    ensures err { IfErr result (λ fault. fault ≡ Fault.NoMemory) }
+    ensures err { IsOkUnless result Fault.NoMemory }
 {
     let mut offsets = SpanMap::new(alloc);
     offsets.reserve(copy.cells())?;
@@ -95,7 +95,7 @@ pub(crate) fn whole_places<S: TextStore>(
         ≡ is_covered (whole_ranges offsets.now (S.list copy.now) (stamps_at (is_covered places.now) 0 (S.list copy.now))) at) }
     ensures order { IfOk result (λ ranges. AreInOrder 0 (whole_ranges offsets.now (S.list copy.now) (stamps_at (is_covered places.now) 0 (S.list copy.now)))
         → AreInOrder 0 ranges.items) }
-    ensures err { IfErr result (λ fault. fault ≡ Fault.NoMemory) }
+    ensures err { IsOkUnless result Fault.NoMemory }
 {
     let cells = cells_in(alloc, copy, places)?;
     let mut ranges = Vec::new(alloc);

@@ -1,5 +1,5 @@
 // What reverting actions has come to.
-ghost use Rattle.std.specs.Prelude.{◌≡◌, ℕ, ◌⊎◌, ◌+◌, ◌<◌, ◌≤◌, ◌++◌, ◌∷◌, [], ◌||◌, false, if◌then◌else◌, IfErr, IfOk, OnOk, length, map, string_bytes};
+ghost use Rattle.std.specs.Prelude.{◌≡◌, ℕ, ◌⊎◌, ◌+◌, ◌<◌, ◌≤◌, ◌++◌, ◌∷◌, [], ◌||◌, false, if◌then◌else◌, IfErr, IsOkUnless, IfOk, OnOk, length, map, string_bytes};
 ghost use Rattle.rt_stamps.specs.declared.limits.TheConstants.{GREATEST_COUNT, MOST_CELLS, MOST_CHARACTERS};
 ghost use Rattle.rt_stamps.specs.declared.stamp.Stamp.{Stamp};
 ghost use Rattle.rt_stamps.specs.Stamps.{is_same};
@@ -151,7 +151,7 @@ impl Progress {
             ≡ (if is_same s newer then offset_behind self.old.offsets former else offset_of self.old.offsets s)) }
         ensures cells { OnOk result (self.new.cells ≡ self.old.cells + 1) }
         ensures few { OnOk result (self.new.cells ≤ MOST_CELLS) }
-        ensures err { IfErr result (λ fault. fault ≡ Fault.NoMemory) }
+        ensures err { IsOkUnless result Fault.NoMemory }
     {
         if self.cells >= MOST_CELLS {
             return Err(Fault::NoMemory);
@@ -182,7 +182,7 @@ impl Progress {
         ensures changes { IfOk result (λ plan. plan.changes.items ≡ self.changes.items) }
         ensures returns { IfOk result (λ plan. plan.returns.items ≡ self.returns.items) }
         ensures actions { IfOk result (λ plan. group_of plan.actions.items ≡ with_stamps_in (now_of self.renames) (group_of self.actions.items)) }
-        ensures err { IfErr result (λ fault. fault ≡ Fault.NoMemory) }
+        ensures err { IsOkUnless result Fault.NoMemory }
     {
         let Progress {
             texts,

@@ -1,5 +1,5 @@
 // Characters that come back into the working copy of a text.
-ghost use Rattle.std.specs.Prelude.{◌≡◌, ℕ, ◌≤◌, ◌⊎◌, ◌<◌, ◌∷◌, [], true, false, IfErr, IfOk, OnOk, length, map, string_bytes};
+ghost use Rattle.std.specs.Prelude.{◌≡◌, ℕ, ◌≤◌, ◌⊎◌, ◌<◌, ◌∷◌, [], true, false, IfErr, IsOkUnless, IfOk, OnOk, length, map, string_bytes};
 ghost use Rattle.std.specs.List.{AllByRecursion};
 ghost use Rattle.rt_stamps.specs.declared.limits.TheConstants.{GREATEST_COUNT, MOST_CELLS};
 ghost use Rattle.rt_stamps.specs.declared.stamp.TheConstants.{FINAL};
@@ -33,7 +33,7 @@ pub(crate) fn names_of(
 ) -> Result<Vec<String>, Fault>
     requires { IsState kept.now state }
     ensures ok { IfOk result (λ v. map (λ w. string_bytes w) v.items ≡ names_on (state_at kept.now state)) }
-    ensures err { IfErr result (λ fault. fault ≡ Fault.NoMemory) }
+    ensures err { IsOkUnless result Fault.NoMemory }
 {
     let mut names = Vec::new(alloc);
     for tag in kept.on(state) {
@@ -58,7 +58,7 @@ fn put_in<S: TextStore>(
     ensures agrees { OnOk result (S.agrees copy.new kept.now) }
     ensures few { OnOk result (length (S.list copy.new) ≤ MOST_CELLS) }
     ensures place { IfOk result (λ place. place ≡ visible_before (S.list copy.old) (after_element (S.list copy.old) left)) }
-    ensures err { IfErr result (λ fault. fault ≡ Fault.NoMemory) }
+    ensures err { IsOkUnless result Fault.NoMemory }
 {
     if copy.cells() >= MOST_CELLS {
         return Err(Fault::NoMemory);

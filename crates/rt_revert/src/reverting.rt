@@ -1,5 +1,5 @@
 // Actions that are reverted in the working copy of a text.
-ghost use Rattle.std.specs.Prelude.{◌≡◌, ◌⊎◌, ◌<◌, IfErr, IfOk, OnOk, drop, map, reverse};
+ghost use Rattle.std.specs.Prelude.{◌≡◌, ◌⊎◌, ◌<◌, IfErr, IsOkUnless, IfOk, OnOk, drop, map, reverse};
 ghost use Rattle.rt_stamps.specs.declared.limits.TheConstants.{GREATEST_COUNT};
 ghost use Rattle.rt_ops.specs.Operations.{stamps_in};
 ghost use Rattle.rt_undo.specs.Actions.{action_of, group_of, removed_in};
@@ -22,7 +22,7 @@ use std::alloc::Global;
 // The spans of the stamps under which characters came back.
 fn spans_back(alloc: Global, returns: &[Return]) -> Result<Vec<Span>, Fault>
     ensures ok { IfOk result (λ spans. stamps_in spans.items ≡ map (λ r. r.newer) returns.now) }
-    ensures err { IfErr result (λ fault. fault ≡ Fault.NoMemory) }
+    ensures err { IsOkUnless result Fault.NoMemory }
 {
     let mut spans = Vec::new(alloc);
     for back in returns {

@@ -1,5 +1,5 @@
 // The places of characters that are named by their stamps.
-ghost use Rattle.std.specs.Prelude.{◌≡◌, ℕ, ◌*◌, ◌≤◌, ◌<◌, ◌++◌, ◌||◌, List, All, IfOk, IfErr, IfSome, OnOk, Some, length};
+ghost use Rattle.std.specs.Prelude.{◌≡◌, ℕ, ◌*◌, ◌≤◌, ◌<◌, ◌++◌, ◌||◌, List, All, IfOk, IsOkUnless, IfSome, OnOk, Some, length};
 ghost use Rattle.rt_stamps.specs.declared.limits.TheConstants.{MOST_CELLS};
 ghost use Rattle.rt_ops.specs.Operations.{stamps_in, stamps_of_span};
 ghost use Rattle.rt_store.specs.Cells.{AreDistinct, visible_of};
@@ -38,7 +38,7 @@ pub(crate) fn push_place(ranges: &mut Vec<Range>, place: usize) -> Result<(), Fa
     ensures ok { OnOk result ((at : ℕ) → is_covered ranges.new.items at ≡ (is_covered ranges.old.items at || is_covered (range_at (Some place)) at)) }
     ensures order { OnOk result ((more : List Range) → AreInOrder 0 (ranges.old.items ++ range_at (Some place) ++ more)
         → AreInOrder 0 (ranges.new.items ++ more)) }
-    ensures err { IfErr result (λ fault. fault ≡ Fault.NoMemory) }
+    ensures err { IsOkUnless result Fault.NoMemory }
 {
     let mut range = Range {
         from: place,
@@ -60,7 +60,7 @@ fn push_visible<S: TextStore>(store: &S, stamp: Stamp, ranges: &mut Vec<Range>) 
     requires few { length (S.list store.now) ≤ MOST_CELLS }
     ensures ok { OnOk result ((at : ℕ) → is_covered ranges.new.items at
         ≡ (is_covered ranges.old.items at || is_covered (range_at (visible_place (S.list store.now) stamp)) at)) }
-    ensures err { IfErr result (λ fault. fault ≡ Fault.NoMemory) }
+    ensures err { IsOkUnless result Fault.NoMemory }
 {
     match visible_place(store, stamp) {
         Some(place) => push_place(ranges, place),
@@ -73,7 +73,7 @@ fn push_places<S: TextStore>(store: &S, span: Span, ranges: &mut Vec<Range>) -> 
     requires few { length (S.list store.now) ≤ MOST_CELLS }
     ensures ok { OnOk result ((at : ℕ) → is_covered ranges.new.items at
         ≡ (is_covered ranges.old.items at || is_covered (ranges_of (S.list store.now) (stamps_of_span span)) at)) }
-    ensures err { IfErr result (λ fault. fault ≡ Fault.NoMemory) }
+    ensures err { IsOkUnless result Fault.NoMemory }
 {
     for count in span.first..=span.last {
         let stamp = Stamp {
@@ -89,7 +89,7 @@ fn push_places<S: TextStore>(store: &S, span: Span, ranges: &mut Vec<Range>) -> 
 fn places_of<S: TextStore>(alloc: Global, store: &S, spans: &[Span]) -> Result<Vec<Range>, Fault>
     requires few { length (S.list store.now) ≤ MOST_CELLS }
     ensures ok { IfOk result (λ ranges. (at : ℕ) → is_covered ranges.items at ≡ is_covered (ranges_of (S.list store.now) (stamps_in spans.now)) at) }
-    ensures err { IfErr result (λ fault. fault ≡ Fault.NoMemory) }
+    ensures err { IsOkUnless result Fault.NoMemory }
 {
     let mut ranges = Vec::new(alloc);
     for span in spans {
@@ -110,7 +110,7 @@ pub(crate) fn visible_ranges<S: TextStore>(
     ensures order { IfOk result (λ ranges. AreInOrder 0 ranges.items) }
     ensures within { IfOk result (λ ranges. All (λ range. range.to ≤ length (visible_of (S.list store.now))) ranges.items) }
     ensures places { IfOk result (λ ranges. (place : ℕ) → is_covered ranges.items place ≡ are_at (stamps_in spans.now) (S.list store.now) place) }
-    ensures err { IfErr result (λ fault. fault ≡ Fault.NoMemory) }
+    ensures err { IsOkUnless result Fault.NoMemory }
 {
     let ranges = places_of(alloc, store, spans)?;
     ranges_within(alloc, store, &ranges)

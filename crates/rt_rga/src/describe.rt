@@ -1,5 +1,5 @@
 // What an operation will change in the visible text.
-ghost use Rattle.std.specs.Prelude.{◌≡◌, ◌<◌, ◌≤◌, All, IfOk, IfErr, List, ℕ, false, length, map, string_bytes};
+ghost use Rattle.std.specs.Prelude.{◌≡◌, ◌<◌, ◌≤◌, All, IfOk, IsOkUnless, List, ℕ, false, length, map, string_bytes};
 ghost use Rattle.rt_stamps.specs.declared.limits.TheConstants.{MOST_CELLS};
 ghost use Rattle.rt_stamps.specs.declared.stamp.Stamp.{Stamp as StampOf};
 ghost use Rattle.rt_stamps.specs.declared.stamp.TheConstants.{FINAL};
@@ -59,7 +59,7 @@ fn removed<S: TextStore>(alloc: Global, store: &S, op: &Op) -> Result<Vec<PlaceR
     requires stays { deletes op.now.body FINAL ≡ false }
     ensures removed { IfOk result (λ runs. (place : ℕ) → is_in_runs runs.items place ≡ takes_away op.now.body (S.list store.now) place) }
     ensures runs { IfOk result (λ runs. AreFallingRuns (length (visible_of (S.list store.now))) runs.items) }
-    ensures fault { IfErr result (λ fault. fault ≡ Fault.NoMemory) }
+    ensures fault { IsOkUnless result Fault.NoMemory }
 {
     match op.edit() {
         Edit::Insert {
@@ -82,7 +82,7 @@ fn numbers(alloc: Global, states: &mut StateTable, names: &[String]) -> Result<V
     ensures names { IfOk result (λ tags. map (name_at states.new) tags.items ≡ map (λ name. string_bytes name) names.now) }
     ensures given { IfOk result (λ tags. All (IsTag states.new) tags.items) }
     ensures ids { KeepsIds states.old states.new }
-    ensures fault { IfErr result (λ fault. fault ≡ Fault.NoMemory) }
+    ensures fault { IsOkUnless result Fault.NoMemory }
 {
     let mut tags = Vec::new(alloc);
     for name in names {
@@ -97,7 +97,7 @@ fn lists(alloc: Global, states: &mut StateTable, op: &Op) -> Result<Vec<TagId>, 
     ensures names { IfOk result (λ tags. map (name_at states.new) tags.items ≡ lists_of op.now.body) }
     ensures given { IfOk result (λ tags. All (IsTag states.new) tags.items) }
     ensures ids { KeepsIds states.old states.new }
-    ensures fault { IfErr result (λ fault. fault ≡ Fault.NoMemory) }
+    ensures fault { IsOkUnless result Fault.NoMemory }
 {
     match op.edit() {
         Edit::Insert {
@@ -128,7 +128,7 @@ pub(crate) fn describe<S: TextStore>(
     requires stays { deletes op.now.body FINAL ≡ false }
     ensures change { IfOk result (IsChange op.now (S.list store.now) states.new) }
     ensures ids { KeepsIds states.old states.new }
-    ensures fault { IfErr result (λ fault. fault ≡ Fault.NoMemory) }
+    ensures fault { IsOkUnless result Fault.NoMemory }
 {
     let removed = removed(alloc, store, op)?;
     let lists = lists(alloc, states, op)?;

@@ -1,5 +1,5 @@
 // What operations do to the cells that are kept.
-ghost use Rattle.std.specs.Prelude.{◌≡◌, ◌*◌, ◌+◌, ◌<◌, ◌≤◌, ◌++◌, ◌∷◌, [], false, true, OnOk, OnErr, IfOk, IfErr, length, map, string_bytes};
+ghost use Rattle.std.specs.Prelude.{◌≡◌, ◌*◌, ◌+◌, ◌<◌, ◌≤◌, ◌++◌, ◌∷◌, [], false, true, OnOk, OnErr, IfOk, IsOkUnless, length, map, string_bytes};
 ghost use Rattle.rt_stamps.specs.declared.limits.TheConstants.{GREATEST_COUNT, MOST_CELLS};
 ghost use Rattle.rt_stamps.specs.declared.stamp.TheConstants.{FINAL, ROOT as ROOT_STAMP};
 ghost use Rattle.rt_oplog.specs.Logs.{with_operation};
@@ -29,7 +29,7 @@ pub(crate) fn push_new(
 ) -> Result<(), Fault>
     requires { first.count + length text.now ≤ GREATEST_COUNT + 1 }
     ensures cells { OnOk result (cells.new.items ≡ cells.old.items ++ cells_from first.count first.site state text.now) }
-    ensures fault { IfErr result (λ fault. fault ≡ Fault.NoMemory) }
+    ensures fault { IsOkUnless result Fault.NoMemory }
 {
     cells.reserve(text.len())?;
     let mut count = first.count;
@@ -84,7 +84,7 @@ pub(crate) fn insert_cells<S: TextStore>(
     ensures agrees { S.agrees store.new states.new }
     ensures ids { KeepsIds states.old states.new }
     ensures err { OnErr result (S.list store.new ≡ S.list store.old) }
-    ensures fault { IfErr result (λ fault. fault ≡ Fault.NoMemory) }
+    ensures fault { IsOkUnless result Fault.NoMemory }
 {
     let state = states.state_of_list(ROOT, tags)?;
     let mut cells = Vec::new(alloc);
@@ -113,7 +113,7 @@ pub(crate) fn change<S: TextStore>(
     ensures agrees { S.agrees store.new states.new }
     ensures ids { KeepsIds states.old states.new }
     ensures same { OnErr result (S.list store.new ≡ S.list store.old) }
-    ensures fault { IfErr result (λ fault. fault ≡ Fault.NoMemory) }
+    ensures fault { IsOkUnless result Fault.NoMemory }
 {
     match op.edit() {
         Edit::Insert { after, tags, text } => {

@@ -1,5 +1,5 @@
 // A site's own operations, made of drafts.
-ghost use Rattle.std.specs.Prelude.{◌≡◌, ◌⊎◌, ◌*◌, ◌+◌, ◌++◌, ◌-◌, ◌<◌, ◌≤◌, ◌^◌, ℕ, All, IfNone, IfOk, IfErr, IfSome, OnOk, OnErr, None, Some, true, drop, length, map};
+ghost use Rattle.std.specs.Prelude.{◌≡◌, ◌⊎◌, ◌*◌, ◌+◌, ◌++◌, ◌-◌, ◌<◌, ◌≤◌, ◌^◌, ℕ, All, IfNone, IfOk, IfErr, IsOkUnless, IfSome, OnOk, OnErr, None, Some, true, drop, length, map};
 ghost use Rattle.std.specs.List.{AllByRecursion};
 ghost use Rattle.rt_stamps.specs.declared.limits.TheConstants.{GREATEST_COUNT, MOST_CELLS, MOST_CHARACTERS};
 ghost use Rattle.rt_stamps.specs.declared.stamp.Stamp.{Stamp as StampOf};
@@ -63,7 +63,7 @@ pub(crate) fn last_count(count: u64, drafts: &[Draft]) -> Result<u64, Fault>
     requires rules { All (λ draft. keeps_rules (body_of draft) ≡ true) drafts.now }
     ensures last { IfOk result (λ last. last ≡ last_count_after count (map body_of drafts.now)) }
     ensures fits { OnOk result (last_count_after count (map body_of drafts.now) ≤ GREATEST_COUNT) }
-    ensures spent { IfErr result (λ fault. fault ≡ Fault.ClockSpent) }
+    ensures spent { IsOkUnless result Fault.ClockSpent }
     ensures passes { OnErr result (GREATEST_COUNT < last_count_after count (map body_of drafts.now)) }
 {
     let mut last = count;
@@ -80,7 +80,7 @@ pub(crate) fn last_count(count: u64, drafts: &[Draft]) -> Result<u64, Fault>
 /// `TextFull` where drafts insert more characters than there is room for.
 pub(crate) fn check_room(left: usize, drafts: &[Draft]) -> Result<(), Fault>
     ensures fits { OnOk result (characters_in_all (map body_of drafts.now) ≤ left) }
-    ensures full { IfErr result (λ fault. fault ≡ Fault.TextFull) }
+    ensures full { IsOkUnless result Fault.TextFull }
     ensures passes { OnErr result (left < characters_in_all (map body_of drafts.now)) }
 {
     let mut left = left;
@@ -107,7 +107,7 @@ pub(crate) fn stamped(
     requires rules { All (λ draft. keeps_rules (body_of draft) ≡ true) drafts.items }
     requires fits { last_count_after last (map body_of drafts.items) ≤ GREATEST_COUNT }
     ensures ops { IfOk result (λ ops. ops.items ≡ operations_from site last prev (map body_of drafts.items)) }
-    ensures fault { IfErr result (λ fault. fault ≡ Fault.NoMemory) }
+    ensures fault { IsOkUnless result Fault.NoMemory }
 {
     let mut ops = Vec::new(alloc);
     let mut last = last;
@@ -127,7 +127,7 @@ pub(crate) fn stamped(
 /// Operations once more. Want of memory.
 pub(crate) fn copied(alloc: Global, ops: &[Op]) -> Result<Vec<Op>, Fault>
     ensures ops { IfOk result (λ copies. copies.items ≡ ops.now) }
-    ensures fault { IfErr result (λ fault. fault ≡ Fault.NoMemory) }
+    ensures fault { IsOkUnless result Fault.NoMemory }
 {
     let mut copies = Vec::new(alloc);
     for op in ops {
@@ -147,7 +147,7 @@ pub(crate) fn fresh(
     ensures cells { IfOk result (λ cells. map (shown states.new) cells.items ≡ fresh_cells ops.now) }
     ensures given { IfOk result (λ cells. AreStates states.new cells.items) }
     ensures ids { KeepsIds states.old states.new }
-    ensures fault { IfErr result (λ fault. fault ≡ Fault.NoMemory) }
+    ensures fault { IsOkUnless result Fault.NoMemory }
 {
     let mut cells = Vec::new(alloc);
     for op in ops {
@@ -163,7 +163,7 @@ fn push_fresh(states: &mut StateTable, op: &Op, cells: &mut Vec<Cell<StateId>>) 
     ensures cells { OnOk result (map (shown states.new) cells.new.items ≡ map (shown states.old) cells.old.items ++ fresh_by (stamp_of op.now) op.now.body) }
     ensures given { OnOk result (AreStates states.new cells.new.items) }
     ensures ids { KeepsIds states.old states.new }
-    ensures fault { IfErr result (λ fault. fault ≡ Fault.NoMemory) }
+    ensures fault { IsOkUnless result Fault.NoMemory }
 {
     if let Edit::Insert {
         after: _,
@@ -285,7 +285,7 @@ fn make_room<S: TextStore>(
     ensures room { OnOk result (HasRoom (S.room store.new) cells (cuts_of ops.now + 2 * runs) (length states.now.names)) }
     ensures same { S.list store.new ≡ S.list store.old }
     ensures agrees { (table : TagStates) → S.agrees store.old table → S.agrees store.new table }
-    ensures fault { IfErr result (λ fault. fault ≡ Fault.NoMemory) }
+    ensures fault { IsOkUnless result Fault.NoMemory }
 {
     match cuts(ops, runs) {
         Some(cuts) => store.reserve(cells, cuts, states.tags()),
@@ -350,7 +350,7 @@ pub(crate) fn change_all<S: TextStore>(
     ensures agrees { S.agrees store.new states.new }
     ensures ids { KeepsIds states.old states.new }
     ensures same { OnErr result (S.list store.new ≡ S.list store.old) }
-    ensures fault { IfErr result (λ fault. fault ≡ Fault.NoMemory) }
+    ensures fault { IsOkUnless result Fault.NoMemory }
 {
     let new = fresh(alloc, states, ops)?;
     let runs = planned_states(alloc, store, states, &new, ops)?;

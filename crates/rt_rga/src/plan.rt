@@ -1,5 +1,5 @@
 // The states that cells come into by many Tags at once.
-ghost use Rattle.std.specs.Prelude.{◌≡◌, ◌⊎◌, ◌<◌, ◌++◌, ◌==◌, ◌||◌, not, ℕ, ◌-◌, List, All, IfErr, IfNone, IfOk, IfSome, OnOk, Some, None, drop, filter, length, map, slice_index_or};
+ghost use Rattle.std.specs.Prelude.{◌≡◌, ◌⊎◌, ◌<◌, ◌++◌, ◌==◌, ◌||◌, not, ℕ, ◌-◌, List, All, IsOkUnless, IfNone, IfOk, IfSome, OnOk, Some, None, drop, filter, length, map, slice_index_or};
 ghost use Rattle.std.specs.List.{take_while};
 ghost use Rattle.std.specs.List.Sorted.{IsPermutation};
 ghost use Rattle.rt_stamps.specs.declared.stamp.Stamp.{Stamp as StampOf};
@@ -32,7 +32,7 @@ struct Named {
 /// Adds a write on each character of a span. Want of memory.
 fn push_span(span: Span, entry: &Entry, named: &mut Vec<Named>) -> Result<(), Fault>
     ensures ok { OnOk result (named.new.items ≡ named.old.items ++ map (named_with entry.now) (stamps_of_span span)) }
-    ensures fault { IfErr result (λ fault. fault ≡ Fault.NoMemory) }
+    ensures fault { IsOkUnless result Fault.NoMemory }
 {
     for count in span.first..=span.last {
         let stamp = Stamp {
@@ -50,7 +50,7 @@ fn push_span(span: Span, entry: &Entry, named: &mut Vec<Named>) -> Result<(), Fa
 /// Adds a write on each character of spans. Want of memory.
 fn push_spans(spans: &[Span], entry: &Entry, named: &mut Vec<Named>) -> Result<(), Fault>
     ensures ok { OnOk result (named.new.items ≡ named.old.items ++ map (named_with entry.now) (stamps_in spans.now)) }
-    ensures fault { IfErr result (λ fault. fault ≡ Fault.NoMemory) }
+    ensures fault { IsOkUnless result Fault.NoMemory }
 {
     for span in spans {
         push_span(*span, entry, named)?;
@@ -65,7 +65,7 @@ fn push_named(states: &mut StateTable, op: &Op, named: &mut Vec<Named>) -> Resul
         ≡ state_after (state_after state (writes_at states.old (entries_on named.old.items stamp))) (tag_writes_by (stamp_of op.now) op.now.body stamp)) }
     ensures tags { OnOk result (All (λ n. IsTag states.new n.entry.tag) named.new.items) }
     ensures ids { KeepsIds states.old states.new }
-    ensures fault { IfErr result (λ fault. fault ≡ Fault.NoMemory) }
+    ensures fault { IsOkUnless result Fault.NoMemory }
 {
     match op.edit() {
         Edit::Tag { on, name, spans } => {
@@ -89,7 +89,7 @@ fn named_writes(alloc: Global, states: &mut StateTable, ops: &[Op]) -> Result<Ve
         ≡ state_after state (tag_writes ops.now stamp)) }
     ensures tags { IfOk result (λ named. All (λ n. IsTag states.new n.entry.tag) named.items) }
     ensures ids { KeepsIds states.old states.new }
-    ensures fault { IfErr result (λ fault. fault ≡ Fault.NoMemory) }
+    ensures fault { IsOkUnless result Fault.NoMemory }
 {
     let mut named = Vec::new(alloc);
     for op in ops {
@@ -103,7 +103,7 @@ fn put_in_order(named: &mut Vec<Named>) -> Result<(), Fault>
     ensures same { IsPermutation named.old.items named.new.items }
     ensures order { OnOk result (AreInOrder named.new.items) }
     ensures entries { (stamp : StampOf) → entries_on named.new.items stamp ≡ entries_on named.old.items stamp }
-    ensures fault { IfErr result (λ fault. fault ≡ Fault.NoMemory) }
+    ensures fault { IsOkUnless result Fault.NoMemory }
 {
     named.sort_by_key(|n| (n.stamp.site, n.stamp.count))?;
     Ok(())
@@ -112,7 +112,7 @@ fn put_in_order(named: &mut Vec<Named>) -> Result<(), Fault>
 /// The entries of the writes in front that are on one character. Want of memory.
 fn entries_in_front(alloc: Global, named: &[Named], stamp: Stamp) -> Result<Vec<Entry>, Fault>
     ensures entries { IfOk result (λ entries. entries.items ≡ map (λ n. n.entry) (take_while (λ n. is_same n.stamp stamp) named.now)) }
-    ensures fault { IfErr result (λ fault. fault ≡ Fault.NoMemory) }
+    ensures fault { IsOkUnless result Fault.NoMemory }
 {
     let mut entries = Vec::new(alloc);
     for n in named {
@@ -165,7 +165,7 @@ fn written_cell<S: TextStore>(
         → ((0 < at) × ((slice_index_or named.now (at - 1) n).stamp ≡ (slice_index_or named.now at n).stamp))
         ⊎ (cell_of (new.now ++ S.list store.now) (slice_index_or named.now at n).stamp ≡ None))) }
     ensures ids { KeepsIds states.old states.new }
-    ensures fault { IfErr result (λ fault. fault ≡ Fault.NoMemory) }
+    ensures fault { IsOkUnless result Fault.NoMemory }
 {
     if !is_first(named, at) {
         return Ok(None);
@@ -203,7 +203,7 @@ fn written_cells<S: TextStore>(
     ensures written { IfOk result (λ copies. All (HasEntries states.old named.now (new.now ++ S.list store.now) states.new) copies.items) }
     ensures all { IfOk result (λ copies. All (λ n. IsCopied (new.now ++ S.list store.now) copies.items n.stamp) named.now) }
     ensures ids { KeepsIds states.old states.new }
-    ensures fault { IfErr result (λ fault. fault ≡ Fault.NoMemory) }
+    ensures fault { IsOkUnless result Fault.NoMemory }
 {
     let mut copies = Vec::new(alloc);
     for at in 0..named.len() {
@@ -230,7 +230,7 @@ pub(crate) fn planned_states<S: TextStore>(
         (new.now ++ S.list store.now)) }
     ensures given { IfOk result (λ runs. All (λ run. IsState states.new run.state) runs.items) }
     ensures ids { KeepsIds states.old states.new }
-    ensures fault { IfErr result (λ fault. fault ≡ Fault.NoMemory) }
+    ensures fault { IsOkUnless result Fault.NoMemory }
 {
     let mut named = named_writes(alloc, states, ops)?;
     if named.is_empty() {

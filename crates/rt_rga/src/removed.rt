@@ -1,5 +1,5 @@
 // The places that a Delete takes away, as runs.
-ghost use Rattle.std.specs.Prelude.{◌≡◌, ◌+◌, ◌<◌, ◌≤◌, ◌==◌, ◌++◌, true, false, All, IfOk, IfErr, OnOk, IsPermutation, ℕ, length};
+ghost use Rattle.std.specs.Prelude.{◌≡◌, ◌+◌, ◌<◌, ◌≤◌, ◌==◌, ◌++◌, true, false, All, IfOk, IsOkUnless, OnOk, IsPermutation, ℕ, length};
 ghost use Rattle.std.specs.List.{list_any};
 ghost use Rattle.rt_stamps.specs.declared.limits.TheConstants.{MOST_CELLS};
 ghost use Rattle.rt_stamps.specs.declared.stamp.TheConstants.{FINAL};
@@ -23,7 +23,7 @@ fn push_place<S: TextStore>(
     places: &mut Vec<usize>,
 ) -> Result<(), Fault>
     ensures ok { OnOk result (places.new.items ≡ places.old.items ++ place_of (S.list store.now) cell) }
-    ensures fault { IfErr result (λ fault. fault ≡ Fault.NoMemory) }
+    ensures fault { IsOkUnless result Fault.NoMemory }
 {
     if cell.gone {
         return Ok(());
@@ -41,7 +41,7 @@ fn places_of<S: TextStore>(
     cells: &[Cell<StateId>],
 ) -> Result<Vec<usize>, Fault>
     ensures ok { IfOk result (λ places. places.items ≡ places_of (S.list store.now) cells.now) }
-    ensures fault { IfErr result (λ fault. fault ≡ Fault.NoMemory) }
+    ensures fault { IsOkUnless result Fault.NoMemory }
 {
     let mut places = Vec::new(alloc);
     for cell in cells {
@@ -64,7 +64,7 @@ fn runs_of(alloc: Global, places: &[usize]) -> Result<Vec<PlaceRun>, Fault>
     requires falling { fall places.now ≡ true }
     ensures same { IfOk result (λ runs. (place : ℕ) → is_in_runs runs.items place ≡ list_any (λ other. other == place) places.now) }
     ensures falling { IfOk result (λ runs. (end : ℕ) → All (λ place. place + 1 < end) places.now → AreFallingRuns end runs.items) }
-    ensures fault { IfErr result (λ fault. fault ≡ Fault.NoMemory) }
+    ensures fault { IsOkUnless result Fault.NoMemory }
 {
     let mut runs = Vec::new(alloc);
     let Some((last, others)) = places.split_first() else {
@@ -101,7 +101,7 @@ pub(crate) fn runs_in<S: TextStore>(
     requires stays { is_in_spans spans.now FINAL ≡ false }
     ensures removed { IfOk result (λ runs. (place : ℕ) → is_in_runs runs.items place ≡ takes_away (Delete spans.now) (S.list store.now) place) }
     ensures runs { IfOk result (λ runs. AreFallingRuns (length (visible_of (S.list store.now))) runs.items) }
-    ensures fault { IfErr result (λ fault. fault ≡ Fault.NoMemory) }
+    ensures fault { IsOkUnless result Fault.NoMemory }
 {
     let cells = named_cells(alloc, store, spans)?;
     let mut places = places_of(alloc, store, &cells)?;

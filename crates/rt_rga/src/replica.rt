@@ -1,5 +1,5 @@
 // A replica: accepted operations, and the cells that are kept of them.
-ghost use Rattle.std.specs.Prelude.{◌≡◌, ◌⊎◌, ◌+◌, ◌≤◌, ◌∷◌, [], IfOk, IfErr, None, OnErr, OnOk, Some, length, map};
+ghost use Rattle.std.specs.Prelude.{◌≡◌, ◌⊎◌, ◌+◌, ◌≤◌, ◌∷◌, [], IfOk, IfErr, IsOkUnless, None, OnErr, OnOk, Some, length, map};
 ghost use Rattle.rt_stamps.specs.declared.limits.TheConstants.{MOST_CELLS};
 ghost use Rattle.rt_store.specs.Cells.{final_cell};
 ghost use Rattle.rt_store.specs.Tagged.{AreStates};
@@ -84,7 +84,7 @@ impl<S: TextStore> Replica<S> {
         ensures cells { IfOk result (λ replica. replica.cells ≡ cells_of []) }
         ensures site { IfOk result (λ replica. replica.site ≡ site.number) }
         ensures limit { IfOk result (λ replica. replica.limit ≡ limit) }
-        ensures fault { IfErr result (λ fault. fault ≡ Fault.NoMemory) }
+        ensures fault { IsOkUnless result Fault.NoMemory }
     {
         let states = StateTable::new(alloc)?;
         Ok(Replica {
@@ -157,7 +157,7 @@ impl<S: TextStore> Replica<S> {
         ensures site { self.new.site ≡ self.old.site }
         ensures limit { self.new.limit ≡ self.old.limit }
         ensures ids { KeepsIds self.old.table self.new.table }
-        ensures fault { IfErr result (λ fault. fault ≡ Fault.NoMemory) }
+        ensures fault { IsOkUnless result Fault.NoMemory }
     {
         self.log.reserve(1)?;
         let told = describe(self.alloc, &self.store, &mut self.states, &op)?;
@@ -209,7 +209,7 @@ impl<S: TextStore> Replica<S> {
         ensures site { self.new.site ≡ self.old.site }
         ensures limit { self.new.limit ≡ self.old.limit }
         ensures ids { KeepsIds self.old.table self.new.table }
-        ensures fault { IfErr result (λ fault. fault ≡ Fault.NoMemory) }
+        ensures fault { IsOkUnless result Fault.NoMemory }
     {
         self.log.reserve(ops.len())?;
         change_all(

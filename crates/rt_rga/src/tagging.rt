@@ -1,5 +1,5 @@
 // A Tag on the cells of a store.
-ghost use Rattle.std.specs.Prelude.{◌≡◌, ◌*◌, ◌≤◌, ◌++◌, ◌==◌, ◌&&◌, ℕ, All, IfOk, IfErr, OnOk, OnErr, length, map};
+ghost use Rattle.std.specs.Prelude.{◌≡◌, ◌*◌, ◌≤◌, ◌++◌, ◌==◌, ◌&&◌, ℕ, All, IfOk, IsOkUnless, OnOk, OnErr, length, map};
 ghost use Rattle.rt_stamps.specs.declared.limits.TheConstants.{MOST_CELLS};
 ghost use Rattle.rt_stamps.specs.Stamps.{is_same};
 ghost use Rattle.rt_store.specs.declared.cell.Cell.{Cell as StoreCell};
@@ -24,7 +24,7 @@ pub(crate) fn push_found(
     cells: &mut Vec<Cell<StateId>>,
 ) -> Result<(), Fault>
     ensures ok { OnOk result (cells.new.items ≡ cells.old.items ++ listed cell) }
-    ensures fault { IfErr result (λ fault. fault ≡ Fault.NoMemory) }
+    ensures fault { IsOkUnless result Fault.NoMemory }
 {
     if let Some(cell) = cell {
         cells.push(cell)?;
@@ -39,7 +39,7 @@ fn push_cells<S: TextStore>(
     cells: &mut Vec<Cell<StateId>>,
 ) -> Result<(), Fault>
     ensures ok { OnOk result (cells.new.items ≡ cells.old.items ++ cells_found (S.list store.now) (stamps_of_span span)) }
-    ensures fault { IfErr result (λ fault. fault ≡ Fault.NoMemory) }
+    ensures fault { IsOkUnless result Fault.NoMemory }
 {
     for count in span.first..=span.last {
         let stamp = Stamp {
@@ -58,7 +58,7 @@ pub(crate) fn named_cells<S: TextStore>(
     spans: &[Span],
 ) -> Result<Vec<Cell<StateId>>, Fault>
     ensures ok { IfOk result (λ cells. cells.items ≡ cells_found (S.list store.now) (stamps_in spans.now)) }
-    ensures fault { IfErr result (λ fault. fault ≡ Fault.NoMemory) }
+    ensures fault { IsOkUnless result Fault.NoMemory }
 {
     let mut cells = Vec::new(alloc);
     for span in spans {
@@ -83,7 +83,7 @@ fn written_cells(
         ≡ map (with_write (write_at states.old tag writer on)) (map (shown states.old) cells.now)) }
     ensures given { IfOk result (λ more. AreStates states.new more.items) }
     ensures ids { KeepsIds states.old states.new }
-    ensures fault { IfErr result (λ fault. fault ≡ Fault.NoMemory) }
+    ensures fault { IsOkUnless result Fault.NoMemory }
 {
     let mut more = Vec::new(alloc);
     for cell in cells {
@@ -120,7 +120,7 @@ pub(crate) fn state_runs(alloc: Global, cells: &[Cell<StateId>]) -> Result<Vec<S
     ensures ok { IfOk result (λ runs. (cell : StoreCell ℕ) → put_back_in_any runs.items cell ≡ put_back cells.now cell) }
     ensures few { IfOk result (λ runs. length runs.items ≤ length cells.now) }
     ensures given { IfOk result (λ runs. (table : TagStates) → AreStates table cells.now → All (λ run. IsState table run.state) runs.items) }
-    ensures err { IfErr result (λ fault. fault ≡ Fault.NoMemory) }
+    ensures err { IsOkUnless result Fault.NoMemory }
 {
     let mut runs = Vec::new(alloc);
     let Some((first, others)) = cells.split_first() else {
@@ -178,7 +178,7 @@ pub(crate) fn tag_cells<S: TextStore>(
     ensures name { IfOk result (λ tag. name_at states.new tag ≡ name.now) }
     ensures ids { KeepsIds states.old states.new }
     ensures err { OnErr result (S.list store.new ≡ S.list store.old) }
-    ensures fault { IfErr result (λ fault. fault ≡ Fault.NoMemory) }
+    ensures fault { IsOkUnless result Fault.NoMemory }
 {
     let named = named_cells(alloc, store, spans)?;
     let tag = states.number(name)?;

@@ -1,5 +1,5 @@
 // Runs of scripts.
-ghost use Rattle.std.specs.Prelude.{◌≡◌, ℕ, ◌+◌, ◌<◌, ◌≤◌, ◌&&◌, ◌∷◌, ◌++◌, [], true, false, List, length, IfOk, IfErr, OnOk, IfSome, MatchOption};
+ghost use Rattle.std.specs.Prelude.{◌≡◌, ℕ, ◌+◌, ◌<◌, ◌≤◌, ◌&&◌, ◌∷◌, ◌++◌, [], true, false, List, length, IfOk, IsOkUnless, OnOk, IfSome, MatchOption};
 ghost use Rattle.std.specs.List.{list_all, prefix_len};
 ghost use Rattle.rt_script.specs.Lines.{cut, without_return, is_readable, is_silent, complete_of, rest_of, last_of, lines_of};
 ghost use Rattle.rt_words.specs.Spelling.{is_blank};
@@ -190,7 +190,7 @@ fn write_answer<W: Sink>(
     out: &mut W,
 ) -> Result<(), Fault>
     ensures wrote { Wrote (W.contents out.old) (W.contents out.new) result (reply_line answer.now) }
-    ensures fault { IfErr result (λ fault. fault ≡ Fault.WriteFault) }
+    ensures fault { IsOkUnless result Fault.WriteFault }
     ensures failures { W.failures out.new ≡ W.failures out.old + failures_of result }
 {
     let empty = memory.answer(alloc);
@@ -213,7 +213,7 @@ fn run_line<C: Commands, W: Sink>(
     out: &mut W,
 ) -> Result<(), Fault>
     ensures ran { RanLine C.gives (C.state site.old) (C.state site.new) (W.contents out.old) (W.contents out.new) line.now result }
-    ensures fault { IfErr result (λ fault. fault ≡ Fault.WriteFault) }
+    ensures fault { IsOkUnless result Fault.WriteFault }
     ensures failures { W.failures out.new ≡ W.failures out.old + failures_of result }
 {
     match answer_line(alloc, &mut memory.words, site, line) {
@@ -236,7 +236,7 @@ fn line_len(bytes: &[u8]) -> usize
 fn keep(pending: &mut Vec<u8>, bytes: &[u8]) -> Result<(), Fault>
     requires { length pending.old.items ≤ MOST_KEPT_BYTES }
     ensures kept { OnOk result (pending.new.items ≡ kept (pending.old.items ++ bytes.now)) }
-    ensures fault { IfErr result (λ fault. fault ≡ Fault.NoMemory) }
+    ensures fault { IsOkUnless result Fault.NoMemory }
 {
     let room = MOST_KEPT_BYTES - pending.len();
     pending.extend_from_slice(&bytes[..bytes.len().min(room)])?;
@@ -307,7 +307,7 @@ fn finish<C: Commands, W: Sink>(
     ensures ran { (rest : List ℕ) → pending.now ≡ kept rest
         → RanLines C.gives (C.state site.old) (C.state site.new) (W.contents out.old) (W.contents out.new) (W.failures out.old)
         (W.failures out.new) (last_of rest) (last_of rest) result }
-    ensures fault { IfErr result (λ fault. fault ≡ Fault.WriteFault) }
+    ensures fault { IsOkUnless result Fault.WriteFault }
 {
     if pending.is_empty() {
         return Ok(());

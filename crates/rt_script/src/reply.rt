@@ -1,5 +1,5 @@
 // The lines of answers, written.
-ghost use Rattle.std.specs.Prelude.{◌≡◌, ◌+◌, ◌<◌, ◌∷◌, ◌++◌, [], IfErr, IfSome, codes, flat_map, string_bytes};
+ghost use Rattle.std.specs.Prelude.{◌≡◌, ◌+◌, ◌<◌, ◌∷◌, ◌++◌, [], IsOkUnless, IfSome, codes, flat_map, string_bytes};
 ghost use Rattle.std.specs.Fmt.{decimal};
 ghost use Rattle.std.specs.List.{list_any};
 ghost use Rattle.rt_files.specs.Shown.{spaced};
@@ -20,7 +20,7 @@ use rt_words::{has_quoted, write_word};
 /// a front of the line was then written.
 pub fn reply_line<W: Sink>(answer: &Answer, out: &mut W) -> Result<(), Fault>
     ensures wrote { Wrote (W.contents out.old) (W.contents out.new) result (reply_line answer.now) }
-    ensures fault { IfErr result (λ fault. fault ≡ Fault.WriteFault) }
+    ensures fault { IsOkUnless result Fault.WriteFault }
     ensures failures { W.failures out.new ≡ W.failures out.old + failures_of result }
 {
     write_answer(answer, out)?;
@@ -29,7 +29,7 @@ pub fn reply_line<W: Sink>(answer: &Answer, out: &mut W) -> Result<(), Fault>
 
 fn write_answer<W: Sink>(answer: &Answer, out: &mut W) -> Result<(), Fault>
     ensures wrote { Wrote (W.contents out.old) (W.contents out.new) result (text_of_answer answer.now) }
-    ensures fault { IfErr result (λ fault. fault ≡ Fault.WriteFault) }
+    ensures fault { IsOkUnless result Fault.WriteFault }
     ensures failures { W.failures out.new ≡ W.failures out.old + failures_of result }
 {
     match answer {
@@ -42,7 +42,7 @@ fn write_answer<W: Sink>(answer: &Answer, out: &mut W) -> Result<(), Fault>
 // How many operations of a file were new, and how many repeats, after why it was not all received.
 fn write_received<W: Sink>(received: Received, out: &mut W) -> Result<(), Fault>
     ensures wrote { Wrote (W.contents out.old) (W.contents out.new) result (text_of_received received.new received.repeats received.fault) }
-    ensures fault { IfErr result (λ fault. fault ≡ Fault.WriteFault) }
+    ensures fault { IsOkUnless result Fault.WriteFault }
     ensures failures { W.failures out.new ≡ W.failures out.old + failures_of result }
 {
     match received.fault {
@@ -54,7 +54,7 @@ fn write_received<W: Sink>(received: Received, out: &mut W) -> Result<(), Fault>
 // How many operations of a whole file were new, and how many repeats.
 fn write_taken<W: Sink>(new: u64, repeats: u64, out: &mut W) -> Result<(), Fault>
     ensures wrote { Wrote (W.contents out.old) (W.contents out.new) result (61 ∷ spaced (decimal new ∷ decimal repeats ∷ [])) }
-    ensures fault { IfErr result (λ fault. fault ≡ Fault.WriteFault) }
+    ensures fault { IsOkUnless result Fault.WriteFault }
     ensures failures { W.failures out.new ≡ W.failures out.old + failures_of result }
 {
     write_all(out, b"=")?;
@@ -71,7 +71,7 @@ fn write_ended<W: Sink>(
 ) -> Result<(), Fault>
     ensures wrote { Wrote (W.contents out.old) (W.contents out.new) result (text_of_refusal fault
         ++ spaced (codes "at" ∷ decimal offset ∷ codes "new" ∷ decimal new ∷ codes "repeat" ∷ decimal repeats ∷ [])) }
-    ensures fault { IfErr result (λ fault. fault ≡ Fault.WriteFault) }
+    ensures fault { IsOkUnless result Fault.WriteFault }
     ensures failures { W.failures out.new ≡ W.failures out.old + failures_of result }
 {
     write_fault(fault, out)?;
@@ -88,7 +88,7 @@ fn write_ended<W: Sink>(
 
 fn write_fault<W: Sink>(fault: Fault, out: &mut W) -> Result<(), Fault>
     ensures wrote { Wrote (W.contents out.old) (W.contents out.new) result (text_of_refusal fault) }
-    ensures fault { IfErr result (λ fault. fault ≡ Fault.WriteFault) }
+    ensures fault { IsOkUnless result Fault.WriteFault }
     ensures failures { W.failures out.new ≡ W.failures out.old + failures_of result }
 {
     write_all(out, b"! ")?;
@@ -97,7 +97,7 @@ fn write_fault<W: Sink>(fault: Fault, out: &mut W) -> Result<(), Fault>
 
 fn write_reply<W: Sink>(words: &[String], out: &mut W) -> Result<(), Fault>
     ensures wrote { Wrote (W.contents out.old) (W.contents out.new) result (61 ∷ flat_map (λ w. 32 ∷ text_of_word (string_bytes w)) words.now) }
-    ensures fault { IfErr result (λ fault. fault ≡ Fault.WriteFault) }
+    ensures fault { IsOkUnless result Fault.WriteFault }
     ensures failures { W.failures out.new ≡ W.failures out.old + failures_of result }
 {
     write_all(out, b"=")?;
@@ -107,7 +107,7 @@ fn write_reply<W: Sink>(words: &[String], out: &mut W) -> Result<(), Fault>
 // A space before each word.
 fn write_words<W: Sink>(words: &[String], out: &mut W) -> Result<(), Fault>
     ensures wrote { Wrote (W.contents out.old) (W.contents out.new) result (flat_map (λ w. 32 ∷ text_of_word (string_bytes w)) words.now) }
-    ensures fault { IfErr result (λ fault. fault ≡ Fault.WriteFault) }
+    ensures fault { IsOkUnless result Fault.WriteFault }
     ensures failures { W.failures out.new ≡ W.failures out.old + failures_of result }
 {
     for word in words {
@@ -118,7 +118,7 @@ fn write_words<W: Sink>(words: &[String], out: &mut W) -> Result<(), Fault>
 
 fn write_spaced<W: Sink>(word: &str, out: &mut W) -> Result<(), Fault>
     ensures wrote { Wrote (W.contents out.old) (W.contents out.new) result (32 ∷ text_of_word word.now) }
-    ensures fault { IfErr result (λ fault. fault ≡ Fault.WriteFault) }
+    ensures fault { IsOkUnless result Fault.WriteFault }
     ensures failures { W.failures out.new ≡ W.failures out.old + failures_of result }
 {
     write_all(out, b" ")?;

@@ -1,5 +1,5 @@
 // All matches of a pattern.
-ghost use Rattle.std.specs.Prelude.{◌≡◌, ◌≤◌, ◌<◌, [], ℕ, IfOk, IfErr, OnOk, IfSome, fold, length};
+ghost use Rattle.std.specs.Prelude.{◌≡◌, ◌≤◌, ◌<◌, [], ℕ, IfOk, IsOkUnless, OnOk, IfSome, fold, length};
 ghost use Rattle.rt_search.specs.Ends.{EndsDecide, FirstDecides, IsBefore, overlaps_one};
 ghost use Rattle.rt_search.specs.Searches.{all_matches, is_taken, matches_in, overlap, with_match};
 
@@ -61,7 +61,7 @@ fn take_in<S: TextStore>(
         ≡ fold (with_match overlaps (length pattern.now)) taken.old.items (matches_in search pattern.now text.now stretch)) }
     ensures before { taken.old.items ≡ [] → (place : ℕ) → IsBefore search.direction stretch place
         → FirstDecides (length pattern.now) taken.new.items place }
-    ensures err { IfErr result (λ fault. fault ≡ Fault.NoMemory) }
+    ensures err { IsOkUnless result Fault.NoMemory }
 {
     let end = last_end(search.limits, stretch, text.len());
     let mut reader = Reader::new();
@@ -91,7 +91,7 @@ pub fn find_all<S: TextStore>(
     requires start { start ≤ length text.now }
     requires stop { IfSome stop (λ place. place ≤ length text.now) }
     ensures ok { IfOk result (λ found. found.items ≡ all_matches overlaps search pattern.now text.now start stop) }
-    ensures err { IfErr result (λ fault. fault ≡ Fault.NoMemory) }
+    ensures err { IsOkUnless result Fault.NoMemory }
 {
     let (near, far) = stretches(search.direction, start, stop, text.len());
     let mut taken = Vec::new(alloc);

@@ -1,5 +1,5 @@
 // The lines and characters of places of a text.
-ghost use Rattle.std.specs.Prelude.{◌≡◌, ◌+◌, ◌-◌, ◌^◌, ◌<◌, ◌≤◌, All, IfOk, IfErr, length, map};
+ghost use Rattle.std.specs.Prelude.{◌≡◌, ◌+◌, ◌-◌, ◌^◌, ◌<◌, ◌≤◌, All, IfOk, IsOkUnless, length, map};
 ghost use Rattle.rt_stamps.specs.Places.{position_at};
 ghost use Rattle.rt_search.specs.Walks.{Stands};
 
@@ -86,7 +86,7 @@ pub fn positions<S: TextStore>(
 ) -> Result<Vec<Position>, Fault>
     requires { All (λ place. place < length text.now) places.now }
     ensures ok { IfOk result (λ positions. positions.items ≡ map (position_at text.now) places.now) }
-    ensures err { IfErr result (λ fault. fault ≡ Fault.NoMemory) }
+    ensures err { IsOkUnless result Fault.NoMemory }
 {
     let mut positions = Vec::new(alloc);
     let Some(first) = places.first() else {

@@ -1,5 +1,5 @@
 // Whole pieces, written.
-ghost use Rattle.std.specs.Prelude.{◌≡◌, ◌+◌, IfErr};
+ghost use Rattle.std.specs.Prelude.{◌≡◌, ◌+◌, IsOkUnless};
 ghost use Rattle.rt_stamps.specs.Written.{Wrote};
 ghost use Rattle.rt_stamps.specs.Source.{failures_of};
 
@@ -9,7 +9,7 @@ use crate::{Fault, Sink};
 /// piece. `WriteFault` where a write fails or takes nothing; a front of the piece was then written.
 pub fn write_all<W: Sink>(out: &mut W, piece: &[u8]) -> Result<(), Fault>
     ensures wrote { Wrote (W.contents out.old) (W.contents out.new) result piece.now }
-    ensures fault { IfErr result (λ fault. fault ≡ Fault.WriteFault) }
+    ensures fault { IsOkUnless result Fault.WriteFault }
     ensures failures { W.failures out.new ≡ W.failures out.old + failures_of result }
 {
     let mut done = 0;

@@ -1,5 +1,5 @@
 // The cells in a vector.
-ghost use Rattle.std.specs.Prelude.{◌≡◌, ◌+◌, ◌-◌, min, ◌^◌, ◌<◌, ◌≤◌, ◌∷◌, ◌++◌, [], IfOk, IfErr, count_by, map, take, drop, length, slice_get, take_while, vec_len, vec_capacity};
+ghost use Rattle.std.specs.Prelude.{◌≡◌, ◌+◌, ◌-◌, min, ◌^◌, ◌<◌, ◌≤◌, ◌∷◌, ◌++◌, [], IfOk, IsOkUnless, count_by, map, take, drop, length, slice_get, take_while, vec_len, vec_capacity};
 ghost use Rattle.rt_store.specs.Cells.{final_cell, EndsFinal, StandsBefore, after_element, visible_of, text_of, cell_of, position_of, is_in_span, gone_in, state_in};
 ghost use Rattle.rt_store.specs.Tagged.{AreStates, has_tag, next_place, previous_place, tag_is};
 ghost use Rattle.rt_tags.specs.States.{IsState, IsTag};
@@ -32,7 +32,7 @@ impl ListStore {
     /// A store of the final newline alone.
     pub fn new(alloc: Global) -> Result<ListStore, Fault>
         ensures ok { IfOk result (λ store. cells_of store ≡ final_cell ∷ []) }
-        ensures err { IfErr result (λ fault. fault ≡ Fault.NoMemory) }
+        ensures err { IsOkUnless result Fault.NoMemory }
     {
         let mut cells = Vec::with_capacity(alloc, 1)?;
         cells.push(FINAL_CELL)?;

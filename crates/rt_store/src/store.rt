@@ -1,5 +1,5 @@
 // What keeps the cells of a text.
-ghost use Rattle.std.specs.Prelude.{◌≡◌, ◌∷◌, [], ℕ, ◌+◌, ◌-◌, min, ◌<◌, ◌≤◌, List, ◌++◌, true, false, map, take, drop, length, OnOk, OnErr, IfErr, slice_get, option_map};
+ghost use Rattle.std.specs.Prelude.{◌≡◌, ◌∷◌, [], ℕ, ◌+◌, ◌-◌, min, ◌<◌, ◌≤◌, List, ◌++◌, true, false, map, take, drop, length, OnOk, OnErr, IsOkUnless, slice_get, option_map};
 ghost use Rattle.rt_stamps.specs.Places.{newlines, line_of, line_start};
 ghost use Rattle.rt_stamps.specs.Stamps.{is_before};
 ghost use Rattle.rt_stamps.specs.declared.limits.TheConstants.{MOST_CELLS};
@@ -35,7 +35,7 @@ pub trait TextStore: Drop {
         ensures kept { HasRoom (room self.new) (room self.old).cells (room self.old).cuts (room self.old).tags }
         ensures agrees { (table : TagStates) → agrees self.old table → agrees self.new table }
         ensures unchanged { OnErr result (room self.new ≡ room self.old) }
-        ensures err { IfErr result (λ fault. fault ≡ Fault.NoMemory) };
+        ensures err { IsOkUnless result Fault.NoMemory };
 
     /// How many cells there are, gone ones too.
     fn cells(&self) -> usize

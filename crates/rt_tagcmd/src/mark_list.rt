@@ -1,5 +1,5 @@
 // The marks of a stretch of a text.
-ghost use Rattle.std.specs.Prelude.{◌≡◌, ◌∷◌, [], IfErr, IfOk, IfSome, None, map};
+ghost use Rattle.std.specs.Prelude.{◌≡◌, ◌∷◌, [], IsOkUnless, IfOk, IfSome, None, map};
 ghost use Rattle.rt_marks.specs.Seen.{spotted};
 ghost use Rattle.rt_tagcmd.specs.MarkLists.{marks_from, marks_ahead};
 ghost use Rattle.rt_text.specs.Widgets.{marks_of};
@@ -41,7 +41,7 @@ pub fn marks_between<'a, S: TextStore>(
     behind: usize,
 ) -> Result<Vec<Spot<'a>>, Fault>
     ensures ok { IfOk result (λ spots. map spotted spots.items ≡ marks_from from behind (marks_of view.now)) }
-    ensures err { IfErr result (λ fault. fault ≡ Fault.NoMemory) }
+    ensures err { IsOkUnless result Fault.NoMemory }
 {
     order(view);
     let mut spots = Vec::new(alloc);

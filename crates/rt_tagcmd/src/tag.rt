@@ -1,5 +1,5 @@
 // Tags are put on characters and taken off, listed and ordered.
-ghost use Rattle.std.specs.Prelude.{◌≡◌, Ok, Err, IfOk, IfErr, OnOk, OnErr, map, option_copied, string_bytes};
+ghost use Rattle.std.specs.Prelude.{◌≡◌, Ok, Err, IfOk, IfErr, IsOkUnless, OnOk, OnErr, map, option_copied, string_bytes};
 ghost use Rattle.rt_stamps.specs.Outcomes.{Refuses};
 ghost use Rattle.rt_tagcmd.specs.TagCommands.{tag_added, tag_lowered, tag_names, tag_names_at, tag_raised, tag_removed, tag_written, tags_deleted};
 
@@ -108,7 +108,7 @@ pub fn tag_lower<S: TextStore>(
 /// fault.
 pub fn tag_names<S: TextStore>(view: &View<S>) -> Result<Vec<String>, Fault>
     ensures ok { IfOk result (λ names. map (λ w. string_bytes w) names.items ≡ tag_names view.now) }
-    ensures err { IfErr result (λ fault. fault ≡ Fault.NoMemory) }
+    ensures err { IsOkUnless result Fault.NoMemory }
 {
     view.doc().tags().names()
 }

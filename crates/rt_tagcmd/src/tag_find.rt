@@ -1,5 +1,5 @@
 // Where a tag is.
-ghost use Rattle.std.specs.Prelude.{◌≡◌, ◌≤◌, ◌⊎◌, ◌∷◌, [], All, None, Some, Ok, IfOk, IfErr, OnOk, false, map, option_copied, option_to_list};
+ghost use Rattle.std.specs.Prelude.{◌≡◌, ◌≤◌, ◌⊎◌, ◌∷◌, [], All, None, Some, Ok, IfOk, IfErr, IsOkUnless, OnOk, false, map, option_copied, option_to_list};
 ghost use Rattle.std.specs.Option.{option_map_or};
 ghost use Rattle.rt_stamps.specs.Outcomes.{Refuses, first_of};
 ghost use Rattle.rt_tagcmd.specs.TagCommands.{range_ends, tag_nextrange, tag_prevrange, tag_ranges};
@@ -21,7 +21,7 @@ fn range_ends<S: TextStore>(
 ) -> Result<Vec<Position>, Fault>
     requires { All (λ range. (range.from ≤ length_shown view.now) × (range.to ≤ length_shown view.now)) ranges.now }
     ensures ok { IfOk result (λ positions. positions.items ≡ range_ends view.now ranges.now) }
-    ensures err { IfErr result (λ fault. fault ≡ Fault.NoMemory) }
+    ensures err { IsOkUnless result Fault.NoMemory }
 {
     let mut positions = Vec::new(alloc);
     for range in ranges {
@@ -81,7 +81,7 @@ fn found_ends<S: TextStore>(
 ) -> Result<Vec<Position>, Fault>
     requires { All (λ range. (range.from ≤ length_shown view.now) × (range.to ≤ length_shown view.now)) (option_to_list range) }
     ensures ok { IfOk result (λ positions. positions.items ≡ range_ends view.now (option_to_list range)) }
-    ensures err { IfErr result (λ fault. fault ≡ Fault.NoMemory) }
+    ensures err { IsOkUnless result Fault.NoMemory }
 {
     match range {
         Some(range) => range_ends(alloc, view, &[range]),

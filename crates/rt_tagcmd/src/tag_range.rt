@@ -1,5 +1,5 @@
 // The ranges of characters that have a tag.
-ghost use Rattle.std.specs.Prelude.{◌≡◌, ◌≤◌, Decides, IfOk, IfErr, length};
+ghost use Rattle.std.specs.Prelude.{◌≡◌, ◌≤◌, Decides, IfOk, IsOkUnless, length};
 ghost use Rattle.rt_store.specs.Tagged.{Passes};
 ghost use Rattle.rt_tagcmd.specs.TagRanges.{BeginFrom, IsBegin, IsClearFrom, PassThrough, PassUpTo, first_range_from, next_range, passing_ranges, previous_range};
 ghost use Rattle.rt_text.specs.Widgets.{is_tagged, shown_by};
@@ -48,7 +48,7 @@ fn first_range<S: TextStore>(view: &View<S>, name: &str, place: usize) -> Option
 /// The ranges of characters that have a tag, in order. `NoMemory` is its only fault.
 pub fn ranges<S: TextStore>(alloc: Global, view: &View<S>, name: &str) -> Result<Vec<Range>, Fault>
     ensures ok { IfOk result (λ ranges. ranges.items ≡ passing_ranges (is_tagged view.now.own name.now) (shown_by view.now)) }
-    ensures err { IfErr result (λ fault. fault ≡ Fault.NoMemory) }
+    ensures err { IsOkUnless result Fault.NoMemory }
 {
     let mut ranges = Vec::new(alloc);
     let mut place = 0;

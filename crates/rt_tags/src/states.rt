@@ -1,5 +1,5 @@
 // Interned tag states of characters.
-ghost use Rattle.std.specs.Prelude.{List, ℕ, ◌≡◌, IsOk, All, ◌==◌, [], ◌∷◌, ◌++◌, ◌<◌, ◌≤◌, ◌&&◌, OnOk, None, OnErr, IfOk, IfErr, IfSome, IfNone, Ok, Some, true, false, map, filter, length, slice_get, slice_index_or, position, string_bytes, vec_len};
+ghost use Rattle.std.specs.Prelude.{List, ℕ, ◌≡◌, IsOk, All, ◌==◌, [], ◌∷◌, ◌++◌, ◌<◌, ◌≤◌, ◌&&◌, OnOk, None, OnErr, IfOk, IsOkUnless, IfSome, IfNone, Ok, Some, true, false, map, filter, length, slice_get, slice_index_or, position, string_bytes, vec_len};
 ghost use Rattle.std.specs.List.{prefix_len};
 ghost use Rattle.std.specs.Ordering.{ordering_index};
 ghost use Rattle.std.specs.declared.cmp.Ordering.TheVariants.{Less};
@@ -193,7 +193,7 @@ fn intern(states: &mut IndexSet<State>, state: State) -> Result<u32, Fault>
     ensures interned { IfOk result (λ place. (names : List (List ℕ)) → AreKept names states.old.keys
         → IsKept names state → Interns (state_seen names state) (states_seen names states.old.keys) place (states_seen names states.new.keys)) }
     ensures err { OnErr result (states.new.keys ≡ states.old.keys) }
-    ensures fault { IfErr result (λ fault. fault ≡ Fault.NoMemory) }
+    ensures fault { IsOkUnless result Fault.NoMemory }
 {
     if states.len() > u32::MAX as usize {
         return Err(Fault::NoMemory);
@@ -289,7 +289,7 @@ impl StateTable {
     /// A table without names, and with the empty state alone. `NoMemory` is its only fault.
     pub fn new(alloc: Global) -> Result<StateTable, Fault>
         ensures ok { IfOk result (λ table. table ≡ record { names = []; states = [] ∷ [] }) }
-        ensures fault { IfErr result (λ fault. fault ≡ Fault.NoMemory) }
+        ensures fault { IsOkUnless result Fault.NoMemory }
     {
         let mut states = IndexSet::new(alloc);
         let empty = State {
@@ -312,7 +312,7 @@ impl StateTable {
         ensures ok { OnOk result (self.new ≡ numbered name.now self.old) }
         ensures err { OnErr result (self.new ≡ self.old) }
         ensures memory { is_listed name.now self.old.names ≡ true → IsOk result }
-        ensures fault { IfErr result (λ fault. fault ≡ Fault.NoMemory) }
+        ensures fault { IsOkUnless result Fault.NoMemory }
         ensures ids { KeepsIds self.old self.new }
     {
         match names::index_of(&self.names, name) {
@@ -374,7 +374,7 @@ impl StateTable {
         ensures same { is_settled (write_at self.old tag writer on) (state_at self.old state) ≡ true → result ≡ Ok state }
         ensures names { self.new.names ≡ self.old.names }
         ensures err { OnErr result (self.new ≡ self.old) }
-        ensures fault { IfErr result (λ fault. fault ≡ Fault.NoMemory) }
+        ensures fault { IsOkUnless result Fault.NoMemory }
         ensures ids { KeepsIds self.old self.new }
     {
         let entry = Entry { tag, writer, on };
@@ -399,7 +399,7 @@ impl StateTable {
             (state_after (state_at self.old state) (writes_at self.old writes.now)) self.old.states id self.new.states) }
         ensures names { self.new.names ≡ self.old.names }
         ensures err { OnErr result (self.new ≡ self.old) }
-        ensures fault { IfErr result (λ fault. fault ≡ Fault.NoMemory) }
+        ensures fault { IsOkUnless result Fault.NoMemory }
         ensures ids { KeepsIds self.old self.new }
     {
         let old = state_of(&self.states, state);
@@ -418,7 +418,7 @@ impl StateTable {
             (λ s. string_bytes s) names.now))) self.old.states id self.new.states) }
         ensures names { OnOk result (self.new.names ≡ (all_numbered (map (λ s. string_bytes s) names.now) self.old).names) }
         ensures err { OnErr result (self.new.states ≡ self.old.states) }
-        ensures fault { IfErr result (λ fault. fault ≡ Fault.NoMemory) }
+        ensures fault { IsOkUnless result Fault.NoMemory }
         ensures ids { KeepsIds self.old self.new }
     {
         let tags = self.number_all(names)?;
@@ -433,7 +433,7 @@ impl StateTable {
         ensures tags { IfOk result (λ tags. map (name_at self.new) tags.items ≡ map (λ s. string_bytes s) names.now) }
         ensures names { OnOk result (self.new.names ≡ (all_numbered (map (λ s. string_bytes s) names.now) self.old).names) }
         ensures states { self.new.states ≡ self.old.states }
-        ensures fault { IfErr result (λ fault. fault ≡ Fault.NoMemory) }
+        ensures fault { IsOkUnless result Fault.NoMemory }
         ensures ids { KeepsIds self.old self.new }
     {
         let mut tags = Vec::new(self.alloc);
@@ -449,7 +449,7 @@ impl StateTable {
         requires { All (IsTag self.now) tags.now }
         ensures names { IfOk result (λ v. map (name_at self.now) v.items ≡ names_on (state_after [] (listed_by ROOT (map (name_at self.now) tags.now)))) }
         ensures tags { IfOk result (λ v. All (IsTag self.now) v.items) }
-        ensures fault { IfErr result (λ fault. fault ≡ Fault.NoMemory) }
+        ensures fault { IsOkUnless result Fault.NoMemory }
     {
         let writes = listed(self.alloc, ROOT, tags)?;
         let sorted = sorting::sorted(self.alloc, self.names.as_slice(), &writes)?;

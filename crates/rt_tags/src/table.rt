@@ -1,5 +1,5 @@
 // The tags of a site.
-ghost use Rattle.std.specs.Prelude.{ℕ, List, ◌≡◌, ◌⊎◌, ◌↔◌, ◌&&◌, [], ◌∷◌, OnOk, OnErr, IfOk, IfErr, IfSome, Ok, Err, is_some, false, true, map, option_copied, string_bytes, if◌then◌else◌};
+ghost use Rattle.std.specs.Prelude.{ℕ, List, ◌≡◌, ◌⊎◌, ◌↔◌, ◌&&◌, [], ◌∷◌, OnOk, OnErr, IfOk, IfErr, IsOkUnless, IfSome, Ok, Err, is_some, false, true, map, option_copied, string_bytes, if◌then◌else◌};
 ghost use Rattle.rt_tags.specs.Seen.{IsAt};
 ghost use Rattle.rt_tags.specs.Tags.{AlsoReady, HaveNoRepeats, IsName, SameReady, forgotten, is_listed, is_place, is_ready, lowered, raised, sel, with_name, without_all};
 
@@ -52,7 +52,7 @@ impl TagTable {
     /// The tag `sel` alone. `NoMemory` is its only fault.
     pub fn new(alloc: Global) -> Result<TagTable, Fault>
         ensures ok { IfOk result (λ table. table ≡ record { names = sel ∷ []; ready = sel ∷ [] }) }
-        ensures fault { IfErr result (λ fault. fault ≡ Fault.NoMemory) }
+        ensures fault { IsOkUnless result Fault.NoMemory }
     {
         let mut names: IndexSet<String> = IndexSet::new(alloc);
         let name = String::from_str(alloc, "sel")?;
@@ -85,7 +85,7 @@ impl TagTable {
     /// The names that are listed, lowest priority first. `NoMemory` is its only fault.
     pub fn names(&self) -> Result<Vec<String>, Fault>
         ensures names { IfOk result (λ v. map (λ s. string_bytes s) v.items ≡ self.now.names) }
-        ensures fault { IfErr result (λ fault. fault ≡ Fault.NoMemory) }
+        ensures fault { IsOkUnless result Fault.NoMemory }
     {
         let (listed, _) = self.names.as_slice().split_at(self.listed);
         Ok(names::copied(self.alloc, listed)?)

@@ -1,5 +1,5 @@
 // How many toggles there are of each tag.
-ghost use Rattle.std.specs.Prelude.{◌≡◌, ◌↔◌, ℕ, ◌+◌, ◌^◌, ◌<◌, ◌≤◌, ◌==◌, IsOk, OnOk, OnErr, IfErr, length, true, vec_len, vec_capacity, if◌then◌else◌};
+ghost use Rattle.std.specs.Prelude.{◌≡◌, ◌↔◌, ℕ, ◌+◌, ◌^◌, ◌<◌, ◌≤◌, ◌==◌, IsOk, OnOk, OnErr, IsOkUnless, length, true, vec_len, vec_capacity, if◌then◌else◌};
 ghost use Rattle.std.specs.List.{insert, prefix_len};
 ghost use Rattle.rt_tags.specs.Kept.{is_tag_before};
 ghost use Rattle.rt_tags.specs.Toggles.{AreFrom, HasRoomFor, count_in, count_of, more_tags};
@@ -162,7 +162,7 @@ impl Toggles {
         ensures kept { self.old.capacity ≤ self.new.capacity }
         ensures there { HasRoomFor n self.old → IsOk result }
         ensures err { OnErr result (self.new ≡ self.old) }
-        ensures fault { IfErr result (λ fault. fault ≡ Fault.NoMemory) }
+        ensures fault { IsOkUnless result Fault.NoMemory }
     {
         Ok(self.counts.reserve(n)?)
     }

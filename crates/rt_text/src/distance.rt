@@ -1,5 +1,5 @@
 // Distances between two places.
-ghost use Rattle.std.specs.Prelude.{◌≡◌, ◌+◌, ◌≤◌, pos, ◌-ℤ◌, IfOk, IfErr, map, length};
+ghost use Rattle.std.specs.Prelude.{◌≡◌, ◌+◌, ◌≤◌, pos, ◌-ℤ◌, IfOk, IsOkUnless, map, length};
 ghost use Rattle.rt_stamps.specs.declared.limits.TheConstants.{MOST_CELLS};
 ghost use Rattle.rt_store.specs.Cells.{text_of};
 ghost use Rattle.rt_text.specs.Distances.{or_indices, distance_of};
@@ -40,7 +40,7 @@ fn distances_by<S: TextStore>(
     requires cells { length (S.list store.now) ≤ MOST_CELLS }
     requires places { (from ≤ length (text_of (S.list store.now))) × (to ≤ length (text_of (S.list store.now))) }
     ensures ok { IfOk result (λ distances. distances.items ≡ map (distance_of (text_of (S.list store.now)) from to) measures.now) }
-    ensures err { IfErr result (λ fault. fault ≡ Fault.NoMemory) }
+    ensures err { IsOkUnless result Fault.NoMemory }
 {
     let mut distances = Vec::new(alloc);
     for measure in measures {
@@ -60,7 +60,7 @@ pub(crate) fn distances_of<S: TextStore>(
     requires cells { length (S.list store.now) ≤ MOST_CELLS }
     requires places { (from ≤ length (text_of (S.list store.now))) × (to ≤ length (text_of (S.list store.now))) }
     ensures ok { IfOk result (λ distances. distances.items ≡ map (distance_of (text_of (S.list store.now)) from to) (or_indices measures.now)) }
-    ensures err { IfErr result (λ fault. fault ≡ Fault.NoMemory) }
+    ensures err { IsOkUnless result Fault.NoMemory }
 {
     if measures.is_empty() {
         distances_by(alloc, store, from, to, &[Measure::Indices])

@@ -1,5 +1,5 @@
 // A document: a replica of the text, with the site's marks and tags.
-ghost use Rattle.std.specs.Prelude.{◌≡◌, ◌≤◌, ◌<◌, ◌∷◌, [], IfOk, IfErr, length, map};
+ghost use Rattle.std.specs.Prelude.{◌≡◌, ◌≤◌, ◌<◌, ◌∷◌, [], IfOk, IsOkUnless, length, map};
 ghost use Rattle.rt_stamps.specs.declared.limits.TheConstants.{MOST_CELLS};
 ghost use Rattle.rt_store.specs.Cells.{AreDistinct, final_cell};
 ghost use Rattle.rt_store.specs.Shown.{shown};
@@ -77,7 +77,7 @@ impl<S: TextStore> Doc<S> {
         requires store { S.list store ≡ final_cell ∷ [] }
         requires limit { (1 ≤ limit) × (limit ≤ MOST_CELLS) }
         ensures ok { IfOk result (λ doc. doc ≡ new_flat site.number limit) }
-        ensures err { IfErr result (λ fault. fault ≡ Fault.NoMemory) }
+        ensures err { IsOkUnless result Fault.NoMemory }
     {
         let replica = Replica::new(alloc, store, site, limit)?;
         Doc::over(alloc, replica)
@@ -95,7 +95,7 @@ impl<S: TextStore> Doc<S> {
           marks = [];
           tags = sel ∷ [];
         }) }
-        ensures err { IfErr result (λ fault. fault ≡ Fault.NoMemory) }
+        ensures err { IsOkUnless result Fault.NoMemory }
     {
         let tags = TagTable::new(alloc)?;
         Ok(Doc {

@@ -1,5 +1,5 @@
 // What an accepted operation does to the marks of its text and to the list of tags.
-ghost use Rattle.std.specs.Prelude.{ℕ, ◌≡◌, ◌+◌, ◌≤◌, All, IfErr, OnOk, map, string_bytes, true};
+ghost use Rattle.std.specs.Prelude.{ℕ, ◌≡◌, ◌+◌, ◌≤◌, All, IsOkUnless, OnOk, map, string_bytes, true};
 ghost use Rattle.rt_marks.specs.Marks.{Each, marks_inserted, marks_left};
 ghost use Rattle.rt_tags.specs.States.{IsTag, name_at};
 ghost use Rattle.rt_tags.specs.Tags.{IsName, is_ready};
@@ -24,7 +24,7 @@ pub(crate) fn prepare_lists(table: &mut TagTable, edit: &Edit) -> Result<(), Fau
     requires { keeps_rules (body_of edit.now) ≡ true }
     ensures names { table.new.names ≡ table.old.names }
     ensures ready { OnOk result (All (λ name. is_ready name table.new ≡ true) (lists_of (body_of edit.now))) }
-    ensures err { IfErr result (λ fault. fault ≡ Fault.NoMemory) }
+    ensures err { IsOkUnless result Fault.NoMemory }
 {
     match edit {
         Edit::Insert {

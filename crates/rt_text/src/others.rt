@@ -1,5 +1,5 @@
 // The other widgets of a site.
-ghost use Rattle.std.specs.Prelude.{ℕ, ◌≡◌, ◌+◌, ◌≤◌, ◌∷◌, [], ◌&&◌, true, All, IfErr, OnOk, length, map};
+ghost use Rattle.std.specs.Prelude.{ℕ, ◌≡◌, ◌+◌, ◌≤◌, ◌∷◌, [], ◌&&◌, true, All, IsOkUnless, OnOk, length, map};
 ghost use Rattle.std.specs.List.{AllByRecursion};
 ghost use Rattle.rt_edits.specs.Removals.{AreInOrder, is_covered};
 ghost use Rattle.rt_edits.specs.Selected.{room_in, selected_stamps};
@@ -27,7 +27,7 @@ pub(crate) fn reserve_between(
     ensures same { map own_in others.new ≡ map own_in others.old }
     ensures room { OnOk result (All (λ parts. (is_among (selected_stamps parts.selection) left && is_among (selected_stamps parts.selection) right) ≡ true
         → more ≤ room_in parts.selection) others.new) }
-    ensures err { IfErr result (λ fault. fault ≡ Fault.NoMemory) }
+    ensures err { IsOkUnless result Fault.NoMemory }
 {
     for i in 0..others.len() {
         others[i].reserve_if(left, right, more)?;

@@ -1,5 +1,5 @@
 // The parts of a widget.
-ghost use Rattle.std.specs.Prelude.{◌≡◌, ◌+◌, ◌≤◌, ◌∷◌, [], ◌&&◌, true, IfErr, OnOk, length};
+ghost use Rattle.std.specs.Prelude.{◌≡◌, ◌+◌, ◌≤◌, ◌∷◌, [], ◌&&◌, true, IsOkUnless, OnOk, length};
 ghost use Rattle.rt_edits.specs.Selected.{room_in, selected_stamps};
 ghost use Rattle.rt_edits.specs.Selections.{unselected};
 ghost use Rattle.rt_store.specs.Spans.{is_among};
@@ -85,7 +85,7 @@ impl Parts {
         ensures same { own_in self.new ≡ own_in self.old }
         ensures room { OnOk result ((is_among (selected_stamps self.new.selection) left && is_among (selected_stamps self.new.selection) right) ≡ true
             → more ≤ room_in self.new.selection) }
-        ensures err { IfErr result (λ fault. fault ≡ Fault.NoMemory) }
+        ensures err { IsOkUnless result Fault.NoMemory }
     {
         if self.has_both(left, right) {
             self.selection.reserve(more)?;

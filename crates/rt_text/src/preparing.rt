@@ -1,5 +1,5 @@
 // What an insertion needs, before anything changes.
-ghost use Rattle.std.specs.Prelude.{◌≡◌, ◌⊎◌, ◌≤◌, All, IfErr, OnErr, OnOk, None, Some, true, length, map, string_bytes};
+ghost use Rattle.std.specs.Prelude.{◌≡◌, ◌⊎◌, ◌≤◌, All, IfErr, IsOkUnless, OnErr, OnOk, None, Some, true, length, map, string_bytes};
 ghost use Rattle.rt_stamps.specs.Outcomes.{first_of};
 ghost use Rattle.rt_tags.specs.Tags.{IsName, is_ready};
 ghost use Rattle.rt_stamps.specs.Names.{name_check};
@@ -44,7 +44,7 @@ pub(crate) fn prepare_tags(table: &mut TagTable, names: &[String]) -> Result<(),
     requires { All (λ w. IsName (string_bytes w)) names.now }
     ensures names { table.new.names ≡ table.old.names }
     ensures ready { OnOk result (All (λ w. is_ready (string_bytes w) table.new ≡ true) names.now) }
-    ensures err { IfErr result (λ fault. fault ≡ Fault.NoMemory) }
+    ensures err { IsOkUnless result Fault.NoMemory }
 {
     for name in names {
         table.prepare(name)?;
@@ -67,7 +67,7 @@ pub(crate) fn list_tags(table: &mut TagTable, names: &[String])
 fn reserve_others(others: &mut [Parts], between: &Option<Between>) -> Result<(), Fault>
     ensures same { map own_in others.new ≡ map own_in others.old }
     ensures room { OnOk result (HaveRoomFor between.now others.new) }
-    ensures err { IfErr result (λ fault. fault ≡ Fault.NoMemory) }
+    ensures err { IsOkUnless result Fault.NoMemory }
 {
     match between {
         Some(between) => reserve_between(others, between.left, between.right, between.stamps.len()),
@@ -100,7 +100,7 @@ fn make_room(
     ensures ready { OnOk result (All (λ w. is_ready (string_bytes w) tags.new ≡ true) plan.now.names.items) }
     ensures selects { OnOk result (length plan.now.selected.items ≤ room_in selection.new) }
     ensures between { OnOk result (HaveRoomFor plan.now.between others.new) }
-    ensures err { IfErr result (λ fault. fault ≡ Fault.NoMemory) }
+    ensures err { IsOkUnless result Fault.NoMemory }
 {
     prepare_tags(tags, &plan.names)?;
     selection.reserve(plan.selected.len())?;

@@ -1,6 +1,6 @@
 // Ranges of places.
 ghost use Rattle.rt_views.specs.Stretches.{part};
-ghost use Rattle.std.specs.Prelude.{◌≡◌, ◌≤◌, ◌⊎◌, ◌++◌, All, IfOk, IfErr, OnOk, map, length, string_bytes, encode_utf8_all};
+ghost use Rattle.std.specs.Prelude.{◌≡◌, ◌≤◌, ◌⊎◌, ◌++◌, All, IfOk, IfErr, IsOkUnless, OnOk, map, length, string_bytes, encode_utf8_all};
 ghost use Rattle.rt_stamps.specs.declared.limits.TheConstants.{MOST_CELLS};
 ghost use Rattle.rt_stamps.specs.Outcomes.{first_of};
 ghost use Rattle.rt_store.specs.Cells.{text_of};
@@ -37,7 +37,7 @@ fn places_of<G: Ground>(alloc: Global, ground: &G, indices: &[String]) -> Result
 fn ranges_of(alloc: Global, places: &[usize]) -> Result<Vec<Range>, Fault>
     requires { All (λ place. place ≤ MOST_CELLS) places.now }
     ensures ok { IfOk result (λ ranges. ranges.items ≡ ranges_of places.now) }
-    ensures err { IfErr result (λ fault. fault ≡ Fault.NoMemory) }
+    ensures err { IsOkUnless result Fault.NoMemory }
 {
     let mut ranges = Vec::new(alloc);
     let mut i = 0;
@@ -75,7 +75,7 @@ pub(crate) fn ranges_at<G: Ground>(
 // Puts characters behind a text.
 fn push_all(text: &mut String, characters: &[char]) -> Result<(), Fault>
     ensures ok { OnOk result (string_bytes text.new ≡ string_bytes text.old ++ encode_utf8_all characters.now) }
-    ensures err { IfErr result (λ fault. fault ≡ Fault.NoMemory) }
+    ensures err { IsOkUnless result Fault.NoMemory }
 {
     for c in characters {
         text.push(*c)?;
@@ -91,7 +91,7 @@ fn text_between<S: TextStore>(
     to: usize,
 ) -> Result<String, Fault>
     ensures ok { IfOk result (λ text. string_bytes text ≡ encode_utf8_all (text_between (text_of (S.list store.now)) from to)) }
-    ensures err { IfErr result (λ fault. fault ≡ Fault.NoMemory) }
+    ensures err { IsOkUnless result Fault.NoMemory }
 {
     let mut text = String::new(alloc);
     let mut buffer = ['\0'; READ_CHARACTERS];
@@ -115,7 +115,7 @@ pub(crate) fn shown_between<S: TextStore>(
 ) -> Result<String, Fault>
     ensures ok { IfOk result (λ text. string_bytes text
         ≡ encode_utf8_all (text_between (part stretch (text_of (S.list store.now))) from to)) }
-    ensures err { IfErr result (λ fault. fault ≡ Fault.NoMemory) }
+    ensures err { IsOkUnless result Fault.NoMemory }
 {
     let begin = stretch.begin.saturating_add(from);
     let end = stretch.begin.saturating_add(to).min(stretch.end);
@@ -131,7 +131,7 @@ pub(crate) fn texts_of<S: TextStore>(
 ) -> Result<Vec<String>, Fault>
     requires { (stretch.begin ≤ stretch.end) × (stretch.end ≤ length (text_of (S.list store.now))) }
     ensures ok { IfOk result (λ texts. map (λ w. string_bytes w) texts.items ≡ texts_of (part stretch (text_of (S.list store.now))) ranges.now) }
-    ensures err { IfErr result (λ fault. fault ≡ Fault.NoMemory) }
+    ensures err { IsOkUnless result Fault.NoMemory }
 {
     let mut texts = Vec::new(alloc);
     let visible = stretch.end - stretch.begin;

@@ -1,5 +1,5 @@
 // A document as a widget shows it.
-ghost use Rattle.std.specs.Prelude.{◌≡◌, ◌<◌, ◌≤◌, ◌∷◌, ◌++◌, [], IfOk, IfErr, OnOk, OnErr, Some, length, set, slice_get};
+ghost use Rattle.std.specs.Prelude.{◌≡◌, ◌<◌, ◌≤◌, ◌∷◌, ◌++◌, [], IfOk, IsOkUnless, OnOk, OnErr, Some, length, set, slice_get};
 ghost use Rattle.std.specs.List.{AllByRecursion, remove};
 ghost use Rattle.rt_stamps.specs.declared.limits.TheConstants.{MOST_CELLS};
 ghost use Rattle.rt_store.specs.Cells.{final_cell, text_of};
@@ -68,7 +68,7 @@ impl<S: TextStore> View<S> {
         requires store { S.list store ≡ final_cell ∷ [] }
         requires limit { (1 ≤ limit) × (limit ≤ MOST_CELLS) }
         ensures ok { IfOk result (λ view. view ≡ record { doc = new_flat site.number limit; own = new_own; others = [] }) }
-        ensures err { IfErr result (λ fault. fault ≡ Fault.NoMemory) }
+        ensures err { IsOkUnless result Fault.NoMemory }
     {
         let doc = Doc::new(alloc, store, site, limit)?;
         Ok(View::of(alloc, doc, Widget::new(alloc)))

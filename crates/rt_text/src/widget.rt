@@ -1,5 +1,5 @@
 // A widget's own marks.
-ghost use Rattle.std.specs.Prelude.{ℕ, ◌≡◌, ◌+◌, ◌≤◌, All, IfErr, OnErr, OnOk, length};
+ghost use Rattle.std.specs.Prelude.{ℕ, ◌≡◌, ◌+◌, ◌≤◌, All, IsOkUnless, OnErr, OnOk, length};
 ghost use Rattle.std.specs.List.{AllByRecursion};
 ghost use Rattle.rt_edits.specs.Removals.{AreInOrder, is_covered, stamps_at};
 ghost use Rattle.rt_edits.specs.Selected.{selected_stamps};
@@ -136,7 +136,7 @@ impl Widget {
           sel = selection_with on (stamps_at (is_covered ranges.now) 0 (S.list store.now)) self.old.sel;
         }) }
         ensures unchanged { OnErr result (self.new ≡ self.old) }
-        ensures err { IfErr result (λ fault. fault ≡ Fault.NoMemory) }
+        ensures err { IsOkUnless result Fault.NoMemory }
     {
         listing::select(alloc, store, &mut self.parts.selection, ranges, on)
     }

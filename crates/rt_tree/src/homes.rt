@@ -1,5 +1,5 @@
 // The leaves in which cells stand, by their stamps.
-ghost use Rattle.std.specs.Prelude.{◌≡◌, ℕ, ◌+◌, ◌-◌, ◌*◌, ◌&&◌, ◌<◌, ◌≤◌, ◌^◌, ◌∷◌, [], IfOk, IfErr, OnOk, OnErr, IfSome, Some, None, if◌then◌else◌, nat_lt, true, length, slice_get};
+ghost use Rattle.std.specs.Prelude.{◌≡◌, ℕ, ◌+◌, ◌-◌, ◌*◌, ◌&&◌, ◌<◌, ◌≤◌, ◌^◌, ◌∷◌, [], IfOk, IsOkUnless, OnOk, OnErr, IfSome, Some, None, if◌then◌else◌, nat_lt, true, length, slice_get};
 ghost use Rattle.rt_stamps.specs.declared.stamp.Stamp.{Stamp};
 ghost use Rattle.rt_nodes.specs.Nodes.{IsNode, entries};
 ghost use Rattle.rt_tree.specs.declared.node.Entry.TheVariants.{Here};
@@ -153,7 +153,7 @@ impl Homes {
     pub(crate) fn new(alloc: Global, root: NodeId) -> Result<Homes, Fault>
         ensures home { IfOk result (λ homes. AreHome homes.leaves (final_run ∷ [])) }
         ensures left { IfOk result (λ homes. homes.left ≡ 0) }
-        ensures err { IfErr result (λ fault. fault ≡ Fault.NoMemory) }
+        ensures err { IsOkUnless result Fault.NoMemory }
     {
         let mut leaves = SpanMap::new(alloc);
         leaves.reserve(1)?;
@@ -176,7 +176,7 @@ impl Homes {
         ensures sure { self.new.sure ≡ self.old.sure }
         ensures ok { OnOk result (spans ≤ self.new.left) }
         ensures more { self.old.left ≤ self.new.left }
-        ensures fault { IfErr result (λ fault. fault ≡ Fault.NoMemory) }
+        ensures fault { IsOkUnless result Fault.NoMemory }
     {
         if spans > u32::MAX as usize {
             return Err(Fault::NoMemory);

@@ -1,5 +1,5 @@
 // A tree as the store of a text.
-ghost use Rattle.std.specs.Prelude.{◌≡◌, ◌∷◌, [], IfOk, IfErr};
+ghost use Rattle.std.specs.Prelude.{◌≡◌, ◌∷◌, [], IfOk, IsOkUnless};
 ghost use Rattle.rt_store.specs.Cells.{EndsFinal, final_cell};
 ghost use Rattle.rt_store.specs.Tagged.{AreStates};
 ghost use Rattle.rt_tags.specs.States.{KeepsIds, TagStates};
@@ -34,7 +34,7 @@ impl TreeStore {
     pub fn new(alloc: Global) -> Result<TreeStore, Fault>
         ensures ok { IfOk result (λ store. cells_of store ≡ final_cell ∷ []) }
         ensures agrees { IfOk result (λ store. (table : TagStates) → AreStates table (final_cell ∷ []) → AgreesWith table store) }
-        ensures err { IfErr result (λ fault. fault ≡ Fault.NoMemory) }
+        ensures err { IsOkUnless result Fault.NoMemory }
     {
         let tree = Tree::new(alloc)?;
         Ok(TreeStore { tree })

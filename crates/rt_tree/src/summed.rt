@@ -1,5 +1,5 @@
 // The summaries of all nodes, and the memory that they are changed in.
-ghost use Rattle.std.specs.Prelude.{◌≡◌, ℕ, ◌+◌, ◌<◌, ◌≤◌, [], ◌∷◌, IfErr, IfOk, IsOk, OnErr, OnOk, length, vec_len};
+ghost use Rattle.std.specs.Prelude.{◌≡◌, ℕ, ◌+◌, ◌<◌, ◌≤◌, [], ◌∷◌, IsOkUnless, IfOk, IsOk, OnErr, OnOk, length, vec_len};
 ghost use Rattle.rt_tags.specs.States.{TagStates};
 ghost use Rattle.rt_tree.specs.Summaries.{HaveMemory, IsSummary, TellsAs, room_at, summary_of};
 
@@ -28,7 +28,7 @@ fn reserve_counts(counts: &mut Toggles, tags: usize) -> Result<(), Fault>
     ensures same { counts.new.counts ≡ counts.old.counts }
     ensures ok { OnOk result (tags ≤ counts.new.capacity) }
     ensures kept { counts.old.capacity ≤ counts.new.capacity }
-    ensures fault { IfErr result (λ fault. fault ≡ Fault.NoMemory) }
+    ensures fault { IsOkUnless result Fault.NoMemory }
 {
     let missing = tags.saturating_sub(counts.counts().len());
     counts.reserve(missing)
@@ -61,7 +61,7 @@ fn reserve_in(summary: &mut Summary, tags: usize) -> Result<(), Fault>
     ensures same { TellsAs summary.old summary.new }
     ensures ok { OnOk result (tags ≤ summary.new.counts.capacity) }
     ensures kept { summary.old.counts.capacity ≤ summary.new.counts.capacity }
-    ensures fault { IfErr result (λ fault. fault ≡ Fault.NoMemory) }
+    ensures fault { IsOkUnless result Fault.NoMemory }
 {
     reserve_counts(&mut summary.counts, tags)
 }
@@ -73,7 +73,7 @@ fn reserve_at(each: &mut [Summary], id: usize, tags: usize) -> Result<(), Fault>
     ensures many { length each.new ≡ length each.old }
     ensures ok { OnOk result (tags ≤ room_at each.new id) }
     ensures kept { (i : ℕ) → room_at each.old i ≤ room_at each.new i }
-    ensures fault { IfErr result (λ fault. fault ≡ Fault.NoMemory) }
+    ensures fault { IsOkUnless result Fault.NoMemory }
 {
     reserve_in(&mut each[id], tags)
 }
@@ -84,7 +84,7 @@ fn reserve_each(each: &mut [Summary], tags: usize) -> Result<(), Fault>
     ensures many { length each.new ≡ length each.old }
     ensures ok { OnOk result ((i : ℕ) → i < length each.new → tags ≤ room_at each.new i) }
     ensures kept { (i : ℕ) → room_at each.old i ≤ room_at each.new i }
-    ensures fault { IfErr result (λ fault. fault ≡ Fault.NoMemory) }
+    ensures fault { IsOkUnless result Fault.NoMemory }
 {
     for id in 0..each.len() {
         reserve_at(each, id, tags)?;
@@ -115,7 +115,7 @@ impl Summaries {
         ensures is { IfOk result (λ sums. (table : TagStates) → IsSummary table (state ∷ []) (summary_of sums.each.items 0)) }
         ensures memory { IfOk result HaveMemory }
         ensures tags { IfOk result (λ sums. sums.tags ≡ 0) }
-        ensures fault { IfErr result (λ fault. fault ≡ Fault.NoMemory) }
+        ensures fault { IsOkUnless result Fault.NoMemory }
     {
         let mut sums = Summaries::new(heap);
         sums.each.push(one_run(heap, state))?;
@@ -131,7 +131,7 @@ impl Summaries {
         ensures ok { OnOk result (tags ≤ self.new.tags) }
         ensures kept { self.old.tags ≤ self.new.tags }
         ensures there { tags ≤ self.old.tags → IsOk result }
-        ensures fault { IfErr result (λ fault. fault ≡ Fault.NoMemory) }
+        ensures fault { IsOkUnless result Fault.NoMemory }
     {
         if tags <= self.tags {
             return Ok(());
@@ -153,7 +153,7 @@ impl Summaries {
         ensures ok { OnOk result (length self.new.each.items ≡ length self.old.each.items + 1) }
         ensures err { OnErr result (length self.new.each.items ≡ length self.old.each.items) }
         ensures tags { self.new.tags ≡ self.old.tags }
-        ensures fault { IfErr result (λ fault. fault ≡ Fault.NoMemory) }
+        ensures fault { IsOkUnless result Fault.NoMemory }
     {
         let mut summary = no_summary(self.heap);
         reserve_in(&mut summary, self.tags)?;
@@ -170,7 +170,7 @@ impl Summaries {
         ensures kept { length self.old.each.items ≤ length self.new.each.items }
         ensures tags { self.new.tags ≡ self.old.tags }
         ensures there { nodes ≤ length self.old.each.items → IsOk result }
-        ensures fault { IfErr result (λ fault. fault ≡ Fault.NoMemory) }
+        ensures fault { IsOkUnless result Fault.NoMemory }
     {
         for _ in self.each.len()..nodes {
             self.add_node()?;
@@ -189,7 +189,7 @@ impl Summaries {
         ensures kept_nodes { length self.old.each.items ≤ length self.new.each.items }
         ensures kept_tags { self.old.tags ≤ self.new.tags }
         ensures there { nodes ≤ length self.old.each.items → tags ≤ self.old.tags → IsOk result }
-        ensures fault { IfErr result (λ fault. fault ≡ Fault.NoMemory) }
+        ensures fault { IsOkUnless result Fault.NoMemory }
     {
         self.reserve_tags(tags)?;
         self.reserve_nodes(nodes)

@@ -1,6 +1,6 @@
 // The cells of a text in a tree.
 ghost use Rattle.std.specs.Prelude.{◌≡◌, ◌+◌, ◌-◌, ◌*◌, ◌<◌, ◌≤◌, ◌^◌, [], ◌∷◌, length, map, min, take, drop, take_while, slice_get};
-ghost use Rattle.std.specs.Prelude.{option_map, if◌then◌else◌, Some, IfOk, IfErr};
+ghost use Rattle.std.specs.Prelude.{option_map, if◌then◌else◌, Some, IfOk, IsOkUnless};
 ghost use Rattle.rt_stamps.specs.Places.{line_of, line_start, newlines};
 ghost use Rattle.rt_stamps.specs.Stamps.{is_before};
 ghost use Rattle.rt_store.specs.Cells.{StandsBefore, after_element, cell_of, final_cell, position_of, skip_from, text_of};
@@ -126,7 +126,7 @@ impl Tree {
         ensures room { IfOk result (λ tree. tree.room ≡ record { cells = 0; cuts = 0; tags = 0 }) }
         ensures right { IfOk result (λ tree. (table : TagStates) → AreRight table tree.stretches) }
         ensures own { IfOk result HasOwn }
-        ensures err { IfErr result (λ fault. fault ≡ Fault.NoMemory) }
+        ensures err { IsOkUnless result Fault.NoMemory }
     {
         let mut text = Vec::with_capacity(alloc, 1)?;
         text.push('\n')?;

@@ -1,7 +1,7 @@
 -- Histories with other stamps in the place of their own.
 use Rattle.std.proofs.Common.{◌≡◌, ◌∙◌, ℕ, suc, ◌+◌, ◌-◌, ◌<◌, ◌≤◌, ◌++◌, ◌||◌, ◌&&◌, ◌==◌, Bool, true, false, List, [], ◌∷◌, Option, Some, None, Result, Ok, Err, map, length, take, drop, drop-cons, add-one, get_or, nat_eq, length-drop, option_map, slice_get, ap, sym, refl, arith, cond, append-nil, append_assoc, if◌then◌else◌}
 use Rattle.std.specs.List.{AllByRecursion}
-use Rattle.std.specs.Result.{IfOk, IfErr}
+use Rattle.std.specs.Result.{IfOk, IsOkUnless}
 use Rattle.std.specs.declared.vec.Vec.{Vec}
 use Rattle.std.specs.declared.alloc.Global.{Global}
 use Rattle.std.proofs.lemmas.Bool.Decides.{nat_tests}
@@ -276,7 +276,7 @@ pub if_ok : {A E : Type 0} {P Q : A → Type 0} (r : Result A E) → ((x : A) �
 if_ok (Ok x) f p = f x p
 if_ok (Err e) f p = tt
 
-pub only_memory : {A : Type 0} (r : Result A Fault) (other : Fault) → (NoMemory ≡ other → ⊥) → IfErr r (λ fault. fault ≡ NoMemory) → r ≡ Err other → ⊥
+pub only_memory : {A : Type 0} (r : Result A Fault) (other : Fault) → (NoMemory ≡ other → ⊥) → IsOkUnless r NoMemory → r ≡ Err other → ⊥
 only_memory (Ok x) other differs e is = cc
 only_memory (Err fault) other differs e is = let same : fault ≡ other = cc in differs (sym e ∙ same)
 

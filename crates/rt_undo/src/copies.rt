@@ -1,5 +1,5 @@
 // Copies of actions, with the stamps that their characters have now.
-ghost use Rattle.std.specs.Prelude.{◌≡◌, [], ◌∷◌, ◌++◌, ◌&&◌, map, IfErr, IfOk, OnOk};
+ghost use Rattle.std.specs.Prelude.{◌≡◌, [], ◌∷◌, ◌++◌, ◌&&◌, map, IsOkUnless, IfOk, OnOk};
 ghost use Rattle.rt_ops.specs.Operations.{stamps_in, stamps_of_span};
 ghost use Rattle.rt_undo.specs.Actions.{action_of, group_of, removed_in, removed_with, with_stamp, with_stamps};
 ghost use Rattle.rt_undo.specs.Groups.{AreStill};
@@ -26,7 +26,7 @@ fn is_next(span: Span, stamp: Stamp) -> bool
 /// Adds a stamp to those of spans, to the last span where it is the next one. Want of memory.
 pub fn push_stamp(spans: &mut Vec<Span>, stamp: Stamp) -> Result<(), Fault>
     ensures ok { OnOk result (stamps_in spans.new.items ≡ stamps_in spans.old.items ++ stamp ∷ []) }
-    ensures fault { IfErr result (λ fault. fault ≡ Fault.NoMemory) }
+    ensures fault { IsOkUnless result Fault.NoMemory }
 {
     let mut span = Span {
         site: stamp.site,
@@ -47,7 +47,7 @@ pub fn push_stamp(spans: &mut Vec<Span>, stamp: Stamp) -> Result<(), Fault>
 // Adds the stamps that the characters of a span have now.
 fn push_now(renames: &Renames, span: Span, spans: &mut Vec<Span>) -> Result<(), Fault>
     ensures ok { OnOk result (stamps_in spans.new.items ≡ stamps_in spans.old.items ++ map (now_of renames.now) (stamps_of_span span)) }
-    ensures fault { IfErr result (λ fault. fault ≡ Fault.NoMemory) }
+    ensures fault { IsOkUnless result Fault.NoMemory }
 {
     for count in span.first..=span.last {
         let stamp = Stamp {
@@ -62,7 +62,7 @@ fn push_now(renames: &Renames, span: Span, spans: &mut Vec<Span>) -> Result<(), 
 /// The stamps that the characters of spans have now. Want of memory.
 pub fn spans_now(alloc: Global, renames: &Renames, spans: &[Span]) -> Result<Vec<Span>, Fault>
     ensures ok { IfOk result (λ copy. stamps_in copy.items ≡ map (now_of renames.now) (stamps_in spans.now)) }
-    ensures fault { IfErr result (λ fault. fault ≡ Fault.NoMemory) }
+    ensures fault { IsOkUnless result Fault.NoMemory }
 {
     let mut copy = Vec::new(alloc);
     for span in spans {
@@ -74,7 +74,7 @@ pub fn spans_now(alloc: Global, renames: &Renames, spans: &[Span]) -> Result<Vec
 // Adds removed characters that had the same tags.
 fn push_removed(spans: &[Span], state: StateId, removed: &mut Vec<RemovedSpan>) -> Result<(), Fault>
     ensures ok { OnOk result (removed_in removed.new.items ≡ removed_in removed.old.items ++ map (removed_with state) (stamps_in spans.now)) }
-    ensures fault { IfErr result (λ fault. fault ≡ Fault.NoMemory) }
+    ensures fault { IsOkUnless result Fault.NoMemory }
 {
     for span in spans {
         removed.push(RemovedSpan { span: *span, state })?;
@@ -89,7 +89,7 @@ fn removed_now(
     removed: &[RemovedSpan],
 ) -> Result<Vec<RemovedSpan>, Fault>
     ensures ok { IfOk result (λ copy. removed_in copy.items ≡ map (with_stamp (now_of renames.now)) (removed_in removed.now)) }
-    ensures fault { IfErr result (λ fault. fault ≡ Fault.NoMemory) }
+    ensures fault { IsOkUnless result Fault.NoMemory }
 {
     let mut copy = Vec::new(alloc);
     for part in removed {
@@ -104,7 +104,7 @@ impl Action {
     /// The same action, by the stamps that its characters have now. Want of memory.
     pub fn renamed(&self, alloc: Global, renames: &Renames) -> Result<Action, Fault>
         ensures ok { IfOk result (λ copy. action_of copy ≡ with_stamps (now_of renames.now) (action_of self.now)) }
-        ensures fault { IfErr result (λ fault. fault ≡ Fault.NoMemory) }
+        ensures fault { IsOkUnless result Fault.NoMemory }
     {
         Ok(Action {
             number: self.number,
@@ -119,7 +119,7 @@ impl Action {
 pub fn group_now(alloc: Global, renames: &Renames, group: &[Action]) -> Result<Vec<Action>, Fault>
     ensures ok { IfOk result (λ copy. group_of copy.items ≡ with_stamps_in (now_of renames.now) (group_of group.now)) }
     ensures still { IfOk result (λ copy. AreStill renames.now (group_of copy.items)) }
-    ensures fault { IfErr result (λ fault. fault ≡ Fault.NoMemory) }
+    ensures fault { IsOkUnless result Fault.NoMemory }
 {
     renames.ends();
     let mut copy = Vec::new(alloc);

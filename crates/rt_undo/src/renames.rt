@@ -1,5 +1,5 @@
 // Stamps of characters that came back under other stamps.
-ghost use Rattle.std.specs.Prelude.{◌≡◌, ℕ, ◌+◌, ◌-◌, ◌^◌, ◌<◌, ◌≤◌, ◌||◌, false, true, OnOk, OnErr, IfErr};
+ghost use Rattle.std.specs.Prelude.{◌≡◌, ℕ, ◌+◌, ◌-◌, ◌^◌, ◌<◌, ◌≤◌, ◌||◌, false, true, OnOk, OnErr, IsOkUnless};
 ghost use Rattle.rt_stamps.specs.declared.stamp.Stamp.{Stamp};
 ghost use Rattle.rt_undo.specs.Renames.{is_in_span, is_moved, now_of, renamed, target};
 
@@ -70,7 +70,7 @@ impl Renames {
         ensures moved { (stamp : Stamp) → is_moved self.new stamp ≡ is_moved self.old stamp }
         ensures ok { OnOk result (n ≤ self.new.room) }
         ensures err { OnErr result (self.new ≡ self.old) }
-        ensures fault { IfErr result (λ fault. fault ≡ Fault.NoMemory) }
+        ensures fault { IsOkUnless result Fault.NoMemory }
     {
         self.map.reserve(n)
     }

@@ -1,5 +1,5 @@
 // The undo stacks of a site.
-ghost use Rattle.std.specs.Prelude.{◌≡◌, ◌↔◌, ℕ, ◌+◌, ◌-◌, ◌^◌, ◌<◌, ◌≤◌, ◌||◌, ◌⊎◌, [], ◌∷◌, ◌++◌, None, Some, Err, true, false, not, length, drop, option_copied, option_map, is_some, IfSome, if◌then◌else◌, IfErr, IfOk, OnErr, OnOk, vec_len, vec_capacity};
+ghost use Rattle.std.specs.Prelude.{◌≡◌, ◌↔◌, ℕ, ◌+◌, ◌-◌, ◌^◌, ◌<◌, ◌≤◌, ◌||◌, ◌⊎◌, [], ◌∷◌, ◌++◌, None, Some, Err, true, false, not, length, drop, option_copied, option_map, is_some, IfSome, if◌then◌else◌, IfErr, IsOkUnless, IfOk, OnErr, OnOk, vec_len, vec_capacity};
 ghost use Rattle.rt_stamps.specs.declared.stamp.Stamp.{Stamp};
 ghost use Rattle.rt_undo.specs.Actions.{action_of, group_of, is_replace};
 ghost use Rattle.rt_undo.specs.Renames.{is_in_span, is_moved, is_same, renamed};
@@ -139,7 +139,7 @@ fn asks_separator(current: &[Action], kind: Kind) -> bool
 // Adds the numbers of actions.
 fn push_numbers(actions: &[Action], numbers: &mut Vec<u64>) -> Result<(), Fault>
     ensures ok { OnOk result (numbers.new.items ≡ numbers.old.items ++ numbers_of actions.now) }
-    ensures fault { IfErr result (λ fault. fault ≡ Fault.NoMemory) }
+    ensures fault { IsOkUnless result Fault.NoMemory }
 {
     for action in actions {
         numbers.push(action.number)?;
@@ -150,7 +150,7 @@ fn push_numbers(actions: &[Action], numbers: &mut Vec<u64>) -> Result<(), Fault>
 // The numbers of the actions of groups and of actions behind them.
 fn numbers_now(alloc: Global, closed: &[Vec<Action>], current: &[Action]) -> Result<Vec<u64>, Fault>
     ensures ok { IfOk result (λ numbers. numbers.items ≡ numbers_of_groups closed.now ++ numbers_of current.now) }
-    ensures fault { IfErr result (λ fault. fault ≡ Fault.NoMemory) }
+    ensures fault { IsOkUnless result Fault.NoMemory }
 {
     let mut numbers = Vec::new(alloc);
     for group in closed {
@@ -247,7 +247,7 @@ impl Stacks {
         ensures ready { OnOk result (self.new.ready ≡ true) }
         ensures room { OnOk result (replacements ≤ self.new.moves.room) }
         ensures err { OnErr result (self.new ≡ self.old) }
-        ensures fault { IfErr result (λ fault. fault ≡ Fault.NoMemory) }
+        ensures fault { IsOkUnless result Fault.NoMemory }
     {
         self.closed.reserve(2)?;
         self.current.reserve(1)?;

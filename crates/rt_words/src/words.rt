@@ -1,5 +1,5 @@
 // The words of a line and of a list.
-ghost use Rattle.std.specs.Prelude.{◌≡◌, ◌≢◌, ◌⊎◌, ℕ, ◌<◌, ◌≤◌, ◌∷◌, [], IfOk, IfErr, MatchOption, MatchResult, OnOk, String, drop, map, not, false, length, slice_index, slice_index_or, string_bytes, take};
+ghost use Rattle.std.specs.Prelude.{◌≡◌, ◌≢◌, ◌⊎◌, ℕ, ◌<◌, ◌≤◌, ◌∷◌, [], IfOk, IfErr, IsOkUnless, MatchOption, MatchResult, OnOk, String, drop, map, not, false, length, slice_index, slice_index_or, string_bytes, take};
 ghost use Rattle.std.specs.declared.alloc.Global.{Global};
 ghost use Rattle.std.specs.List.{prefix_len};
 ghost use Rattle.rt_words.specs.Spelling.{is_blank};
@@ -112,7 +112,7 @@ fn make_blank(alloc: Global, words: &mut Vec<String>, place: usize) -> Result<()
     ensures place { OnOk result (place < length words.new.items) }
     ensures blank { OnOk result ((other : String Global) → string_bytes (slice_index_or words.new.items place other) ≡ []) }
     ensures before { OnOk result (take place words.new.items ≡ take place words.old.items) }
-    ensures fault { IfErr result (λ fault. fault ≡ Fault.NoMemory) }
+    ensures fault { IsOkUnless result Fault.NoMemory }
 {
     if place < words.len() {
         words[place].clear();
@@ -231,7 +231,7 @@ fn bare_word(separators: Separators, text: &str, word: &mut String) -> Result<us
     requires brace { slice_index text.now 0 ≢ 123 }
     requires blank { string_bytes word.old ≡ [] }
     ensures ok { IfOk result (λ len. IsFirstWord (separates separators) text.now len (string_bytes word.new)) }
-    ensures fault { IfErr result (λ fault. fault ≡ Fault.NoMemory) }
+    ensures fault { IsOkUnless result Fault.NoMemory }
 {
     let len = dark_len(separators, text.as_bytes());
     word.push_str(&text[..len])?;

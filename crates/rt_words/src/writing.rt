@@ -1,5 +1,5 @@
 // Words, written.
-ghost use Rattle.std.specs.Prelude.{◌≡◌, ◌+◌, ◌<◌, ◌∷◌, ◌++◌, [], IfErr, flat_map, encode_utf8, encode_utf8_all};
+ghost use Rattle.std.specs.Prelude.{◌≡◌, ◌+◌, ◌<◌, ◌∷◌, ◌++◌, [], IsOkUnless, flat_map, encode_utf8, encode_utf8_all};
 ghost use Rattle.std.specs.List.{list_any};
 ghost use Rattle.rt_stamps.specs.Source.{failures_of};
 ghost use Rattle.rt_words.specs.Spelling.{escape_of};
@@ -13,7 +13,7 @@ use rt_stamps::{Fault, Sink, write_all};
 /// front of the word was then written.
 pub fn write_word<W: Sink>(word: &str, out: &mut W) -> Result<(), Fault>
     ensures wrote { Wrote (W.contents out.old) (W.contents out.new) result (text_of_word word.now) }
-    ensures fault { IfErr result (λ fault. fault ≡ Fault.WriteFault) }
+    ensures fault { IsOkUnless result Fault.WriteFault }
     ensures failures { W.failures out.new ≡ W.failures out.old + failures_of result }
 {
     let bytes = word.as_bytes();
@@ -44,7 +44,7 @@ fn needs_quotes(byte: u8) -> bool
 
 fn write_quoted<W: Sink>(word: &[u8], out: &mut W) -> Result<(), Fault>
     ensures wrote { Wrote (W.contents out.old) (W.contents out.new) result (34 ∷ flat_map escape_of word.now ++ (34 ∷ [])) }
-    ensures fault { IfErr result (λ fault. fault ≡ Fault.WriteFault) }
+    ensures fault { IsOkUnless result Fault.WriteFault }
     ensures failures { W.failures out.new ≡ W.failures out.old + failures_of result }
 {
     write_all(out, b"\"")?;
@@ -54,7 +54,7 @@ fn write_quoted<W: Sink>(word: &[u8], out: &mut W) -> Result<(), Fault>
 
 fn write_all_escaped<W: Sink>(word: &[u8], out: &mut W) -> Result<(), Fault>
     ensures wrote { Wrote (W.contents out.old) (W.contents out.new) result (flat_map escape_of word.now) }
-    ensures fault { IfErr result (λ fault. fault ≡ Fault.WriteFault) }
+    ensures fault { IsOkUnless result Fault.WriteFault }
     ensures failures { W.failures out.new ≡ W.failures out.old + failures_of result }
 {
     for byte in word {
@@ -65,7 +65,7 @@ fn write_all_escaped<W: Sink>(word: &[u8], out: &mut W) -> Result<(), Fault>
 
 fn write_escaped<W: Sink>(byte: u8, out: &mut W) -> Result<(), Fault>
     ensures wrote { Wrote (W.contents out.old) (W.contents out.new) result (escape_of byte) }
-    ensures fault { IfErr result (λ fault. fault ≡ Fault.WriteFault) }
+    ensures fault { IsOkUnless result Fault.WriteFault }
     ensures failures { W.failures out.new ≡ W.failures out.old + failures_of result }
 {
     match byte {
@@ -81,7 +81,7 @@ fn write_escaped<W: Sink>(byte: u8, out: &mut W) -> Result<(), Fault>
 /// Writes the word that has these characters, as `write_word` does.
 pub fn write_text<W: Sink>(text: &[char], out: &mut W) -> Result<(), Fault>
     ensures wrote { Wrote (W.contents out.old) (W.contents out.new) result (text_of_word (encode_utf8_all text.now)) }
-    ensures fault { IfErr result (λ fault. fault ≡ Fault.WriteFault) }
+    ensures fault { IsOkUnless result Fault.WriteFault }
     ensures failures { W.failures out.new ≡ W.failures out.old + failures_of result }
 {
     if text.is_empty() {
@@ -109,7 +109,7 @@ fn is_quoted_character(character: char) -> bool
 
 fn write_bare_text<W: Sink>(text: &[char], out: &mut W) -> Result<(), Fault>
     ensures wrote { Wrote (W.contents out.old) (W.contents out.new) result (flat_map encode_utf8 text.now) }
-    ensures fault { IfErr result (λ fault. fault ≡ Fault.WriteFault) }
+    ensures fault { IsOkUnless result Fault.WriteFault }
     ensures failures { W.failures out.new ≡ W.failures out.old + failures_of result }
 {
     for character in text {
@@ -120,7 +120,7 @@ fn write_bare_text<W: Sink>(text: &[char], out: &mut W) -> Result<(), Fault>
 
 fn write_character<W: Sink>(character: char, out: &mut W) -> Result<(), Fault>
     ensures wrote { Wrote (W.contents out.old) (W.contents out.new) result (encode_utf8 character) }
-    ensures fault { IfErr result (λ fault. fault ≡ Fault.WriteFault) }
+    ensures fault { IsOkUnless result Fault.WriteFault }
     ensures failures { W.failures out.new ≡ W.failures out.old + failures_of result }
 {
     let mut buffer = [0; 4];
@@ -130,7 +130,7 @@ fn write_character<W: Sink>(character: char, out: &mut W) -> Result<(), Fault>
 fn write_quoted_text<W: Sink>(text: &[char], out: &mut W) -> Result<(), Fault>
     ensures wrote { Wrote (W.contents out.old) (W.contents out.new) result (34 ∷ flat_map (λ c. flat_map escape_of (encode_utf8 c)) text.now
         ++ (34 ∷ [])) }
-    ensures fault { IfErr result (λ fault. fault ≡ Fault.WriteFault) }
+    ensures fault { IsOkUnless result Fault.WriteFault }
     ensures failures { W.failures out.new ≡ W.failures out.old + failures_of result }
 {
     write_all(out, b"\"")?;
@@ -140,7 +140,7 @@ fn write_quoted_text<W: Sink>(text: &[char], out: &mut W) -> Result<(), Fault>
 
 fn write_escaped_text<W: Sink>(text: &[char], out: &mut W) -> Result<(), Fault>
     ensures wrote { Wrote (W.contents out.old) (W.contents out.new) result (flat_map (λ c. flat_map escape_of (encode_utf8 c)) text.now) }
-    ensures fault { IfErr result (λ fault. fault ≡ Fault.WriteFault) }
+    ensures fault { IsOkUnless result Fault.WriteFault }
     ensures failures { W.failures out.new ≡ W.failures out.old + failures_of result }
 {
     for character in text {
@@ -151,7 +151,7 @@ fn write_escaped_text<W: Sink>(text: &[char], out: &mut W) -> Result<(), Fault>
 
 fn write_escaped_character<W: Sink>(character: char, out: &mut W) -> Result<(), Fault>
     ensures wrote { Wrote (W.contents out.old) (W.contents out.new) result (flat_map escape_of (encode_utf8 character)) }
-    ensures fault { IfErr result (λ fault. fault ≡ Fault.WriteFault) }
+    ensures fault { IsOkUnless result Fault.WriteFault }
     ensures failures { W.failures out.new ≡ W.failures out.old + failures_of result }
 {
     let mut buffer = [0; 4];

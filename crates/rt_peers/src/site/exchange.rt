@@ -1,5 +1,5 @@
 // Operations of other sites, and those of the site itself for them.
-ghost use Rattle.std.specs.Prelude.{◌≡◌, ◌≤◌, IfOk, IfErr, length, reverse};
+ghost use Rattle.std.specs.Prelude.{◌≡◌, ◌≤◌, IfOk, IsOkUnless, length, reverse};
 ghost use Rattle.rt_stamps.specs.declared.limits.TheConstants.{MOST_BYTES};
 ghost use Rattle.rt_ops.specs.File.{spelling};
 ghost use Rattle.rt_rga.specs.Cells.{cells_of};
@@ -40,7 +40,7 @@ impl SiteState {
     /// The file of the log: its operations in the order of their stamps. Want of memory.
     pub fn export(&self) -> Result<Vec<u8>, Fault>
         ensures ok { IfOk result (λ bytes. bytes.items ≡ spelling (reverse self.now.text.view.doc.log)) }
-        ensures err { IfErr result (λ fault. fault ≡ Fault.NoMemory) }
+        ensures err { IsOkUnless result Fault.NoMemory }
     {
         export(self.alloc, self.log())
     }

@@ -1,5 +1,5 @@
 // What a site shows of its text.
-ghost use Rattle.std.specs.Prelude.{◌≡◌, ◌++◌, flat_map, map, string_bytes, IfOk, IfErr, OnOk};
+ghost use Rattle.std.specs.Prelude.{◌≡◌, ◌++◌, flat_map, map, string_bytes, IfOk, IsOkUnless, OnOk};
 ghost use Rattle.rt_stamps.specs.Outcomes.{Answers};
 ghost use Rattle.rt_queries.specs.Dumping.{dumped};
 ghost use Rattle.rt_peers.specs.ViewStep.{element_words, told_step};
@@ -16,7 +16,7 @@ use std::alloc::Global;
 // The words of an element behind others.
 fn push_element(alloc: Global, words: &mut Vec<String>, element: &Element) -> Result<(), Fault>
     ensures ok { OnOk result (map (λ w. string_bytes w) words.new.items ≡ map (λ w. string_bytes w) words.old.items ++ element_words element.now) }
-    ensures err { IfErr result (λ fault. fault ≡ Fault.NoMemory) }
+    ensures err { IsOkUnless result Fault.NoMemory }
 {
     words.push(String::from_str(alloc, element.key().word())?)?;
     words.push(String::from_str(alloc, element.value())?)?;
@@ -27,7 +27,7 @@ fn push_element(alloc: Global, words: &mut Vec<String>, element: &Element) -> Re
 // A reply of elements.
 fn elements_reply(alloc: Global, elements: &[Element]) -> Result<Reply, Fault>
     ensures ok { IfOk result (λ reply. reply ≡ flat_map element_words elements.now) }
-    ensures err { IfErr result (λ fault. fault ≡ Fault.NoMemory) }
+    ensures err { IsOkUnless result Fault.NoMemory }
 {
     let mut words = Vec::new(alloc);
     for element in elements {

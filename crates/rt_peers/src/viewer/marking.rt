@@ -1,5 +1,5 @@
 // What is asked of marks.
-ghost use Rattle.std.specs.Prelude.{◌≡◌, option_copied, IfOk, IfErr};
+ghost use Rattle.std.specs.Prelude.{◌≡◌, option_copied, IfOk, IsOkUnless};
 ghost use Rattle.rt_stamps.specs.Outcomes.{Answers};
 ghost use Rattle.rt_marks.specs.Marks.{gravity_word};
 ghost use Rattle.rt_requests.specs.Parts.{all_of};
@@ -20,7 +20,7 @@ use std::alloc::Global;
 // A reply of a name, where there is one.
 fn name_reply(alloc: Global, name: Option<&str>) -> Result<Reply, Fault>
     ensures ok { IfOk result (λ reply. reply ≡ words_of (option_copied name.entry)) }
-    ensures err { IfErr result (λ fault. fault ≡ Fault.NoMemory) }
+    ensures err { IsOkUnless result Fault.NoMemory }
 {
     match name {
         Some(name) => one_word(alloc, String::from_str(alloc, name)?),

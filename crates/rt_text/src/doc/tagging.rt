@@ -1,5 +1,5 @@
 // The tags of a document: which are listed, which characters have them, and how they are put on and taken off.
-ghost use Rattle.std.specs.Prelude.{◌≡◌, ◌⊎◌, All, false, if◌then◌else◌, ◌≤◌, ◌<◌, ◌&&◌, Ok, Err, None, Some, IfOk, IfErr, OnOk, OnErr, length, filter, map, not, option_copied, option_map, slice_get, string_bytes};
+ghost use Rattle.std.specs.Prelude.{◌≡◌, ◌⊎◌, All, false, if◌then◌else◌, ◌≤◌, ◌<◌, ◌&&◌, Ok, Err, None, Some, IfOk, IfErr, IsOkUnless, OnOk, OnErr, length, filter, map, not, option_copied, option_map, slice_get, string_bytes};
 ghost use Rattle.std.specs.Str.{bytes_eq};
 ghost use Rattle.rt_marks.specs.Marks.{IsName};
 ghost use Rattle.rt_stamps.specs.declared.limits.TheConstants.{GREATEST_COUNT, MOST_SPANS};
@@ -103,7 +103,7 @@ impl<S: TextStore> Doc<S> {
         requires { place < length (shown_part self.now.cells widget.now.limits) }
         ensures ok { IfOk result (λ names. option_map (tags_on widget.now self.now.tags) (slice_get (shown_part self.now.cells widget.now.limits) place)
             ≡ Some (map (λ w. string_bytes w) names.items)) }
-        ensures err { IfErr result (λ fault. fault ≡ Fault.NoMemory) }
+        ensures err { IsOkUnless result Fault.NoMemory }
     {
         let (store, states) = self.kept();
         let cell = store.cell_at(widget.limits().stretch(store).begin + place);

@@ -1,5 +1,5 @@
 // What a deletion takes.
-ghost use Rattle.std.specs.Prelude.{◌≡◌, IfOk, IfErr, map};
+ghost use Rattle.std.specs.Prelude.{◌≡◌, IfOk, IsOkUnless, map};
 ghost use Rattle.rt_store.specs.Shown.{shown};
 ghost use Rattle.rt_store.specs.Tagged.{AreStates};
 ghost use Rattle.rt_text.specs.Commands.{lost_in};
@@ -19,7 +19,7 @@ impl<S: TextStore> View<S> {
     pub fn lost(&self, ranges: &[Range]) -> Result<(Vec<Cell<StateId>>, &StateTable), Fault>
         ensures cells { IfOk result (λ lost. map (shown lost.1.now) lost.0.items ≡ lost_in self.now ranges.now) }
         ensures states { IfOk result (λ lost. AreStates lost.1.now lost.0.items) }
-        ensures err { IfErr result (λ fault. fault ≡ Fault.NoMemory) }
+        ensures err { IsOkUnless result Fault.NoMemory }
     {
         let (store, states) = self.doc.kept();
         let stretch = self.widget.limits().stretch(store);

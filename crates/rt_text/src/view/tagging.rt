@@ -1,5 +1,5 @@
 // The tags of the text that a widget shows: which characters have them, and how they are put on and taken off.
-ghost use Rattle.std.specs.Prelude.{◌≡◌, ◌⊎◌, if◌then◌else◌, ◌<◌, ◌&&◌, Ok, Err, None, Some, IfOk, IfErr, OnOk, OnErr, length, map, not, option_copied, option_map, slice_get, string_bytes};
+ghost use Rattle.std.specs.Prelude.{◌≡◌, ◌⊎◌, if◌then◌else◌, ◌<◌, ◌&&◌, Ok, Err, None, Some, IfOk, IfErr, IsOkUnless, OnOk, OnErr, length, map, not, option_copied, option_map, slice_get, string_bytes};
 ghost use Rattle.rt_store.specs.Tagged.{next_place, previous_place};
 ghost use Rattle.rt_tags.specs.Tags.{IsName, is_listed, is_place, lowered, raised};
 ghost use Rattle.rt_text.specs.Commands.{clock_check, with_tag_in, with_tags_deleted};
@@ -42,7 +42,7 @@ impl<S: TextStore> View<S> {
         requires { place < length (shown_by self.now) }
         ensures ok { IfOk result (λ names. option_map (tags_on self.now.own self.now.doc.tags) (slice_get (shown_by self.now) place)
             ≡ Some (map (λ w. string_bytes w) names.items)) }
-        ensures err { IfErr result (λ fault. fault ≡ Fault.NoMemory) }
+        ensures err { IsOkUnless result Fault.NoMemory }
     {
         self.doc.tags_at(&self.widget, place)
     }

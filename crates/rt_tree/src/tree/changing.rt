@@ -1,5 +1,5 @@
 // Changes of a tree's cells, and room for them.
-ghost use Rattle.std.specs.Prelude.{◌≡◌, ◌+◌, ◌<◌, ◌≤◌, IfErr, IsOk, OnErr, OnOk, length, map};
+ghost use Rattle.std.specs.Prelude.{◌≡◌, ◌+◌, ◌<◌, ◌≤◌, IsOkUnless, IsOk, OnErr, OnOk, length, map};
 ghost use Rattle.rt_store.specs.Cells.{AreDistinct, HasRoom, Spends, gone_in, put_at, state_in};
 ghost use Rattle.rt_store.specs.Tagged.{AreStates};
 ghost use Rattle.rt_tags.specs.States.{IsState};
@@ -36,7 +36,7 @@ impl Tree {
         ensures ok { OnOk result (HasRoom self.new.room cells cuts tags) }
         ensures kept { HasRoom self.new.room self.old.room.cells self.old.room.cuts self.old.room.tags }
         ensures unchanged { OnErr result (self.new ≡ self.old) }
-        ensures err { IfErr result (λ fault. fault ≡ Fault.NoMemory) }
+        ensures err { IsOkUnless result Fault.NoMemory }
         ensures roomy { HasRoom self.old.room cells cuts tags → IsOk result }
     {
         if cells <= self.spare_cells && cuts <= self.spare_cuts && tags <= self.spare_tags {
