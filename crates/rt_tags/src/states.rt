@@ -421,6 +421,10 @@ impl StateTable {
         ensures fault { IsOkUnless result Fault.NoMemory }
         ensures ids { KeepsIds self.old self.new }
     {
+        self.order();
+        if names.is_empty() {
+            return Ok(StateId::EMPTY);
+        }
         let tags = self.number_all(names)?;
         let writes = listed(self.alloc, writer, &tags)?;
         self.order();

@@ -19,7 +19,7 @@ returns-clause-state c =
     let new = c.with_all.new.self in
     let names = map (λ s. string_bytes s) c.args.names.now in
     let writes = c.deref-2.ensures.value ∙ c.in_ok-writes.ensures ∙ ap (all_on c.args.writer) c.deref.ensures.value in
-    let made = (λ j. state_after (c.order.ensures.empty j) (writes_at table (writes j))) ∙ ap (state_after []) (listed_writes table c.args.writer c.in_ok-tags.tags.items ∙ ap (listed_by c.args.writer) c.in_ok-tags.ensures.tags) in
+    let made = (λ j. state_after (c.order-2.ensures.empty j) (writes_at table (writes j))) ∙ ap (state_after []) (listed_writes table c.args.writer c.in_ok-tags.tags.items ∙ ap (listed_by c.args.writer) c.in_ok-tags.ensures.tags) in
     IfOk-weaker c.with_all.result (λ id. state_at new id ≡ state_after (state_at table 0) (writes_at table c.deref-2.result.now)) (λ id. state_at new id ≡ state_after [] (listed_by c.args.writer names)) (λ id h. h ∙ made) c.with_all.ensures.state
 
 pub returns-clause-interned : goal.returns-clause-interned
@@ -28,7 +28,7 @@ returns-clause-interned c =
     let new = c.with_all.new.self in
     let names = map (λ s. string_bytes s) c.args.names.now in
     let writes = c.deref-2.ensures.value ∙ c.in_ok-writes.ensures ∙ ap (all_on c.args.writer) c.deref.ensures.value in
-    let made = (λ j. state_after (c.order.ensures.empty j) (writes_at table (writes j))) ∙ ap (state_after []) (listed_writes table c.args.writer c.in_ok-tags.tags.items ∙ ap (listed_by c.args.writer) c.in_ok-tags.ensures.tags) in
+    let made = (λ j. state_after (c.order-2.ensures.empty j) (writes_at table (writes j))) ∙ ap (state_after []) (listed_writes table c.args.writer c.in_ok-tags.tags.items ∙ ap (listed_by c.args.writer) c.in_ok-tags.ensures.tags) in
     IfOk-weaker c.with_all.result (λ id. Interns (state_after (state_at table 0) (writes_at table c.deref-2.result.now)) table.states id new.states) (λ id. Interns (state_after [] (listed_by c.args.writer names)) c.args.self.now.states id new.states)
     (λ id h. subst (λ v. Interns (state_after [] (listed_by c.args.writer names)) v id new.states) c.number_all.ensures.states (subst (λ v. Interns v table.states id new.states) made h))
     c.with_all.ensures.interned
