@@ -1,9 +1,9 @@
 -- One mark is moved, put in or taken away, and the lists of the slots' numbers with it.
 use Rattle.std.proofs.Common.{◌≡◌, ◌≢◌, ℕ, suc, ◌+◌, ◌<◌, ◌≤◌, ◌==◌, List, [], ◌∷◌, ◌++◌, map, length, get_or, set, take, drop, false, refl, sym, ap, ◌∙◌, cond, subst, arith, None}
-use Rattle.std.specs.List.{insert, remove}
+use Rattle.std.specs.List.{insert, remove, AllByRecursion}
 use Rattle.std.proofs.lemmas.Bool.{eqb-true, eq-eqb}
 use Rattle.std.proofs.lemmas.List.{map-append, take-map, drop-map, get_or_at, get_or-set_other, get_or-set_same, get_or-take, get_or_append_left, length-set, length_push, length-take-le, set_split, set-get_or}
-use Rattle.rt_marks.specs.Marks.{Mark, Each, comes_before, AreInOrder, with_mark, named, without, HaveOwnNames, AreAscending, put_mark}
+use Rattle.rt_marks.specs.Marks.{Mark, comes_before, AreInOrder, with_mark, named, without, HaveOwnNames, AreAscending, put_mark}
 use Rattle.rt_marks.specs.Seen.{names_of, no_mark, in_slot, in_slots, times, IsEachOnce, IsOrder, IsIndexed, PartsAt, IsGap}
 use Rattle.rt_marks.proofs.InOrder.{split}
 use Rattle.rt_marks.proofs.Names.{clash, none_other, ordered_with}
@@ -115,7 +115,7 @@ moved_indexed marks by_name in_order slot m i j x v =
 
 -- PUT IN
 
-added_stay : (marks : List Mark) (m : Mark) (slots : List ℕ) → Each (λ s. s < length marks) slots → in_slots (marks ++ m ∷ []) slots ≡ in_slots marks slots
+added_stay : (marks : List Mark) (m : Mark) (slots : List ℕ) → AllByRecursion (λ s. s < length marks) slots → in_slots (marks ++ m ∷ []) slots ≡ in_slots marks slots
 added_stay marks m slots h =
     same_marks (in_slot (marks ++ m ∷ [])) (in_slot marks) slots (each_weaker (λ s. s < length marks) (λ s. in_slot (marks ++ m ∷ []) s ≡ in_slot marks s) slots (λ s l. get_or_append_left marks (m ∷ []) no_mark s l) h)
 
@@ -179,7 +179,7 @@ one_down marks slot last s n l k f =
 -- the marks of the other slots, by their numbers then
 brought : (marks : List Mark) (slots : List ℕ) (slot last i : ℕ) → IsEachOnce (length marks) slots → length marks ≡ last + 1 → slot < length marks → i < length slots → get_or slots i 0 ≡ slot → in_slots (brought_down marks slot last) (map (renamed last slot) (remove slots i)) ≡ in_slots marks (remove slots i)
 brought marks slots slot last i once n l k e = through (remove slots i) (each_present (λ s. in_slot (brought_down marks slot last) (renamed last slot s) ≡ in_slot marks s) (remove slots i) one) where
-  through : (xs : List ℕ) → Each (λ s. in_slot (brought_down marks slot last) (renamed last slot s) ≡ in_slot marks s) xs → in_slots (brought_down marks slot last) (map (renamed last slot) xs) ≡ in_slots marks xs
+  through : (xs : List ℕ) → AllByRecursion (λ s. in_slot (brought_down marks slot last) (renamed last slot s) ≡ in_slot marks s) xs → in_slots (brought_down marks slot last) (map (renamed last slot) xs) ≡ in_slots marks xs
   through [] h = refl
   through (x ∷ xs) h = let more = through xs h.1 in λ j. h.0 j ∷ more j
 

@@ -1,12 +1,12 @@
 -- Marks are put behind the others, and cut off there.
 use Rattle.std.proofs.Common.{◌≡◌, ◌≢◌, ℕ, ◌+◌, ◌-◌, ◌<◌, ◌≤◌, ◌==◌, ◌&&◌, ◌||◌, nat_lt, List, [], ◌∷◌, ◌++◌, map, filter, length, get_or, take, String, Global, true, false, refl, sym, ap, ◌∙◌, Bool, cond, not, subst, arith, None, string_bytes}
-use Rattle.std.specs.List.{swap}
+use Rattle.std.specs.List.{swap, AllByRecursion}
 use Rattle.std.specs.Str.{bytes_eq}
 use Rattle.std.proofs.lemmas.Bool.{eqb-true}
 use Rattle.std.proofs.lemmas.Bool.Decides.{nat_tests}
 use Rattle.std.proofs.lemmas.List.{get_or-take, get_or_at, length-append, length-take-le, map-append, map_more}
 use Rattle.std.proofs.lemmas.List.Folds.{list_any-append}
-use Rattle.rt_marks.specs.Marks.{Mark, Each, AreAscending, AreInOrder, comes_before, is_named, is_one_of, name_order, named}
+use Rattle.rt_marks.specs.Marks.{Mark, AreAscending, AreInOrder, comes_before, is_named, is_one_of, name_order, named}
 use Rattle.std.specs.Ordering.{is_lt}
 use Rattle.rt_marks.specs.Seen.{IsEachOnce, IsIndexed, SlotsPart, in_slot, in_slots, names_of, no_mark}
 use Rattle.rt_marks.proofs.Changes.{apart}
@@ -143,13 +143,13 @@ view_cut S n xs =
     same_marks (in_slot (take n S)) (in_slot S) (filter (first n) xs)
     (each_passes (first n) (λ s. in_slot (take n S) s ≡ in_slot S s) xs (λ s t. get_or-take n S s no_mark (below s n t)))
 
-names_cut : (f : ℕ → Mark) (p : ℕ → Bool) (P : List ℕ → Type 0) (xs : List ℕ) → Each P (names_of (map f xs)) → Each P (names_of (map f (filter p xs)))
+names_cut : (f : ℕ → Mark) (p : ℕ → Bool) (P : List ℕ → Type 0) (xs : List ℕ) → AllByRecursion P (names_of (map f xs)) → AllByRecursion P (names_of (map f (filter p xs)))
 names_cut f p P [] h = tt
 names_cut f p P (x ∷ xs) h =
     let more = names_cut f p P xs h.1 in
     split (p x)
-    (λ t. subst (λ b. Each P (names_of (map f (cond b (x ∷ filter p xs) (filter p xs))))) (sym t) (h.0, more))
-    (λ t. subst (λ b. Each P (names_of (map f (cond b (x ∷ filter p xs) (filter p xs))))) (sym t) more)
+    (λ t. subst (λ b. AllByRecursion P (names_of (map f (cond b (x ∷ filter p xs) (filter p xs))))) (sym t) (h.0, more))
+    (λ t. subst (λ b. AllByRecursion P (names_of (map f (cond b (x ∷ filter p xs) (filter p xs))))) (sym t) more)
 
 ascending_cut : (f : ℕ → Mark) (p : ℕ → Bool) (xs : List ℕ) → AreAscending (names_of (map f xs)) → AreAscending (names_of (map f (filter p xs)))
 ascending_cut f p [] h = tt
@@ -168,7 +168,7 @@ order_cut f p (x ∷ xs) h =
     (λ t. subst (λ b. AreInOrder (map f (cond b (x ∷ filter p xs) (filter p xs)))) (sym t) (each_of f P (filter p xs) (each_filter p (λ s. P (f s)) xs (each_from f P xs h.0)), more))
     (λ t. subst (λ b. AreInOrder (map f (cond b (x ∷ filter p xs) (filter p xs)))) (sym t) more)
 
-marks_cut : (f : ℕ → Mark) (test : Mark → Bool) (p : ℕ → Bool) (xs : List ℕ) → Each (λ s. test (f s) ≡ p s) xs → map f (filter p xs) ≡ filter test (map f xs)
+marks_cut : (f : ℕ → Mark) (test : Mark → Bool) (p : ℕ → Bool) (xs : List ℕ) → AllByRecursion (λ s. test (f s) ≡ p s) xs → map f (filter p xs) ≡ filter test (map f xs)
 marks_cut f test p [] h = refl
 marks_cut f test p (x ∷ xs) h =
     let more = marks_cut f test p xs h.1 in

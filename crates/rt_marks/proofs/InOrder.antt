@@ -1,6 +1,7 @@
 -- Marks in order.
 use Rattle.std.proofs.Common.{◌≡◌, List, [], ◌∷◌, ◌++◌, true, false, refl, sym, ap, ◌∙◌, Bool, cond, subst}
-use Rattle.rt_marks.specs.Marks.{Mark, Each, comes_before, AreInOrder, with_mark, in_order}
+use Rattle.std.specs.List.{AllByRecursion}
+use Rattle.rt_marks.specs.Marks.{Mark, comes_before, AreInOrder, with_mark, in_order}
 use Rattle.rt_marks.proofs.Order.{before_trans, before_asym, before_neither}
 
 pub split : {A : Type 0} (b : Bool) → (b ≡ true → A) → (b ≡ false → A) → A
@@ -48,7 +49,7 @@ pub in_order_middle : (front : List Mark) (m : Mark) (back : List Mark) → in_o
 in_order_middle [] m back = refl
 in_order_middle (x ∷ front) m back = ap (with_mark x) (in_order_middle front m back) ∙ with_comm x m (in_order (front ++ back))
 
-with_front : (m : Mark) (marks : List Mark) → Each (λ x. comes_before m x ≡ true) marks → with_mark m marks ≡ m ∷ marks
+with_front : (m : Mark) (marks : List Mark) → AllByRecursion (λ x. comes_before m x ≡ true) marks → with_mark m marks ≡ m ∷ marks
 with_front m [] h = refl
 with_front m (x ∷ marks) h = with_here m x marks (before_asym m x h.0)
 
@@ -57,18 +58,18 @@ pub in_order_same : (marks : List Mark) → AreInOrder marks → in_order marks 
 in_order_same [] h = refl
 in_order_same (m ∷ marks) h = ap (with_mark m) (in_order_same marks h.1) ∙ with_front m marks h.0
 
-pub all_trans : (a b : Mark) (marks : List Mark) → comes_before a b ≡ true → Each (λ x. comes_before b x ≡ true) marks → Each (λ x. comes_before a x ≡ true) marks
+pub all_trans : (a b : Mark) (marks : List Mark) → comes_before a b ≡ true → AllByRecursion (λ x. comes_before b x ≡ true) marks → AllByRecursion (λ x. comes_before a x ≡ true) marks
 all_trans a b [] h k = tt
 all_trans a b (x ∷ marks) h k = (before_trans a b x h k.0, all_trans a b marks h k.1)
 
-pub each_with : (P : Mark → Type 0) (m : Mark) (marks : List Mark) → P m → Each P marks → Each P (with_mark m marks)
+pub each_with : (P : Mark → Type 0) (m : Mark) (marks : List Mark) → P m → AllByRecursion P marks → AllByRecursion P (with_mark m marks)
 each_with P m [] h k = (h, tt)
 each_with P m (x ∷ marks) h k =
     let more = each_with P m marks h k.1 in
     split (comes_before x m)
-    (λ t. subst (λ v. Each P v) (sym (with_passing m x marks t)) (k.0, more))
-    (λ f. subst (λ v. Each P v) (sym (with_here m x marks f)) (h, k))
+    (λ t. subst (λ v. AllByRecursion P v) (sym (with_passing m x marks t)) (k.0, more))
+    (λ f. subst (λ v. AllByRecursion P v) (sym (with_here m x marks f)) (h, k))
 
-pub each_in_order : (P : Mark → Type 0) (marks : List Mark) → Each P marks → Each P (in_order marks)
+pub each_in_order : (P : Mark → Type 0) (marks : List Mark) → AllByRecursion P marks → AllByRecursion P (in_order marks)
 each_in_order P [] h = tt
 each_in_order P (m ∷ marks) h = each_with P m (in_order marks) h.0 (each_in_order P marks h.1)

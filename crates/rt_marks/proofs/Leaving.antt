@@ -1,7 +1,8 @@
 -- Removals of characters here and there, as removals of ranges one after the other.
 use Rattle.std.proofs.Common.{◌≡◌, ℕ, zero, suc, ◌+◌, ◌-◌, ◌<◌, ◌≤◌, ◌&&◌, ◌||◌, nat_lt, nat_le, List, [], ◌∷◌, map, option_map, true, false, refl, sym, ap, ◌∙◌, Bool, cond, arith}
+use Rattle.std.specs.List.{AllByRecursion}
 use Rattle.std.proofs.lemmas.Bool.Decides.{nat_tests}
-use Rattle.rt_marks.specs.Marks.{Mark, Each, comes_before, AreInOrder, HaveOwnNames, named, with_mark, in_order, place_removed, mark_removed, marks_removed, place_left, mark_left, marks_left, is_within_or}
+use Rattle.rt_marks.specs.Marks.{Mark, comes_before, AreInOrder, HaveOwnNames, named, with_mark, in_order, place_removed, mark_removed, marks_removed, place_left, mark_left, marks_left, is_within_or}
 use Rattle.rt_marks.proofs.InOrder.{split, with_passing, with_here, with_comm, in_order_same, each_in_order}
 use Rattle.rt_marks.proofs.Names.{named_in_order}
 use Rattle.rt_marks.proofs.Moving.{moved, named_moved, own_moved}
@@ -87,9 +88,9 @@ place_rising removed p (suc q) l =
     (λ t. let more = place_rising removed p q (grind (arith, nat_tests)) in omega (arith, more))
     (λ f. let e : p ≡ suc q = grind (arith, nat_tests) in rw e (omega arith))
 
-pub within_left : (removed : ℕ → Bool) (size : ℕ) (marks : List Mark) → Each (λ m. m.place ≤ size) marks → Each (λ m. m.place ≤ place_left removed size) (marks_left removed marks)
+pub within_left : (removed : ℕ → Bool) (size : ℕ) (marks : List Mark) → AllByRecursion (λ m. m.place ≤ size) marks → AllByRecursion (λ m. m.place ≤ place_left removed size) (marks_left removed marks)
 within_left removed size marks h = each_in_order (λ m. m.place ≤ place_left removed size) (map (mark_left removed) marks) (all marks h) where
-  all : (marks : List Mark) → Each (λ m. m.place ≤ size) marks → Each (λ m. m.place ≤ place_left removed size) (map (mark_left removed) marks)
+  all : (marks : List Mark) → AllByRecursion (λ m. m.place ≤ size) marks → AllByRecursion (λ m. m.place ≤ place_left removed size) (map (mark_left removed) marks)
   all [] h = tt
   all (m ∷ marks) h = (place_rising removed m.place size h.0, all marks h.1)
 

@@ -1,5 +1,6 @@
 -- Marks after an edit of the text.
 use Rattle.std.proofs.Common.{◌≡◌, ℕ, zero, suc, ◌+◌, ◌-◌, ◌<◌, ◌≤◌, ◌==◌, ◌&&◌, ◌||◌, nat_lt, List, [], ◌∷◌, ◌++◌, map, length, get_or, set, take, drop, append-nil, Vec, Global, true, false, refl, sym, ap, ◌∙◌, Bool, cond, subst, not, is_some, ◌⊎◌, inl, inr, Option, Some, None, option_map, arith}
+use Rattle.std.specs.List.{AllByRecursion}
 use Rattle.std.specs.Ordering.{nat_cmp, ordering_then, is_lt}
 use Rattle.std.specs.Option.{option_map_or}
 use Rattle.std.specs.declared.cmp.Ordering.{Ordering}
@@ -11,7 +12,7 @@ use Rattle.std.specs.Vec.{with_items}
 use Rattle.rt_marks.specs.declared.gravity.Gravity.{Gravity}
 use Rattle.rt_marks.specs.declared.gravity.Gravity.TheVariants.{Left, Right}
 use Rattle.rt_marks.specs.declared.mark.Mark.{Mark as KeptMark}
-use Rattle.rt_marks.specs.Marks.{Mark, Each, gravity_order, name_order, comes_before, AreInOrder, is_named, named, is_right, is_moved_on, place_inserted, mark_inserted, marks_inserted, place_removed, mark_removed, marks_removed, HaveOwnNames, without, put_mark, gravity_or_right, marks_set, marks_with_gravity}
+use Rattle.rt_marks.specs.Marks.{Mark, gravity_order, name_order, comes_before, AreInOrder, is_named, named, is_right, is_moved_on, place_inserted, mark_inserted, marks_inserted, place_removed, mark_removed, marks_removed, HaveOwnNames, without, put_mark, gravity_or_right, marks_set, marks_with_gravity}
 use Rattle.rt_marks.specs.Seen.{seen, seen_all, names_of}
 use Rattle.rt_marks.proofs.InOrder.{split, each_in_order, each_with}
 use Rattle.rt_marks.proofs.Names.{clash, named_in_order}
@@ -71,7 +72,7 @@ inserted_before place n a b h =
           before_rest (place_inserted place n a) (place_inserted place n b) rest le k.1
     ]
 
-each_inserted : (place n : ℕ) (m : Mark) (marks : List Mark) → Each (λ x. comes_before m x ≡ true) marks → Each (λ x. comes_before (mark_inserted place n m) x ≡ true) (marks_inserted place n marks)
+each_inserted : (place n : ℕ) (m : Mark) (marks : List Mark) → AllByRecursion (λ x. comes_before m x ≡ true) marks → AllByRecursion (λ x. comes_before (mark_inserted place n m) x ≡ true) (marks_inserted place n marks)
 each_inserted place n m [] h = tt
 each_inserted place n m (x ∷ marks) h = (inserted_before place n m x h.0, each_inserted place n m marks h.1)
 
@@ -108,30 +109,30 @@ at_most : (b : Bool) (x n : ℕ) → cond b (x + n) x ≤ x + n
 at_most true x n = omega arith
 at_most false x n = omega arith
 
-pub within_inserted : (place n size : ℕ) (marks : List Mark) → Each (λ m. m.place ≤ size) marks → Each (λ m. m.place ≤ size + n) (marks_inserted place n marks)
+pub within_inserted : (place n size : ℕ) (marks : List Mark) → AllByRecursion (λ m. m.place ≤ size) marks → AllByRecursion (λ m. m.place ≤ size + n) (marks_inserted place n marks)
 within_inserted place n size [] h = tt
 within_inserted place n size (m ∷ marks) h = (omega (arith, at_most (is_moved_on place m.place m.gravity) m.place n, h.0), within_inserted place n size marks h.1)
 
 removed_at_most : (place n size p : ℕ) → place + n ≤ size → p ≤ size → place_removed place n p ≤ size - n
 removed_at_most place n size p h k = grind (arith, nat_tests)
 
-each_removed : (place n size : ℕ) (marks : List Mark) → place + n ≤ size → Each (λ m. m.place ≤ size) marks → Each (λ m. m.place ≤ size - n) (map (mark_removed place n) marks)
+each_removed : (place n size : ℕ) (marks : List Mark) → place + n ≤ size → AllByRecursion (λ m. m.place ≤ size) marks → AllByRecursion (λ m. m.place ≤ size - n) (map (mark_removed place n) marks)
 each_removed place n size [] k h = tt
 each_removed place n size (m ∷ marks) k h = (removed_at_most place n size m.place k h.0, each_removed place n size marks k h.1)
 
-pub within_removed : (place n size : ℕ) (marks : List Mark) → place + n ≤ size → Each (λ m. m.place ≤ size) marks → Each (λ m. m.place ≤ size - n) (marks_removed place n marks)
+pub within_removed : (place n size : ℕ) (marks : List Mark) → place + n ≤ size → AllByRecursion (λ m. m.place ≤ size) marks → AllByRecursion (λ m. m.place ≤ size - n) (marks_removed place n marks)
 within_removed place n size marks k h = each_in_order (λ m. m.place ≤ size - n) (map (mark_removed place n) marks) (each_removed place n size marks k h)
 
-each_without : (P : Mark → Type 0) (name : List ℕ) (marks : List Mark) → Each P marks → Each P (without name marks)
+each_without : (P : Mark → Type 0) (name : List ℕ) (marks : List Mark) → AllByRecursion P marks → AllByRecursion P (without name marks)
 each_without P name [] h = tt
 each_without P name (m ∷ marks) h =
     let more = each_without P name marks h.1 in
     let others = without name marks in
     split (is_named name m)
-    (λ t. subst (λ v. Each P v) (sym (ap (λ b. cond (not b) (m ∷ others) others) t)) more)
-    (λ f. subst (λ v. Each P v) (sym (ap (λ b. cond (not b) (m ∷ others) others) f)) (h.0, more))
+    (λ t. subst (λ v. AllByRecursion P v) (sym (ap (λ b. cond (not b) (m ∷ others) others) t)) more)
+    (λ f. subst (λ v. AllByRecursion P v) (sym (ap (λ b. cond (not b) (m ∷ others) others) f)) (h.0, more))
 
-each_named : (P : Mark → Type 0) (name : List ℕ) (m : Mark) (marks : List Mark) → Each P marks → named name marks ≡ Some m → P m
+each_named : (P : Mark → Type 0) (name : List ℕ) (m : Mark) (marks : List Mark) → AllByRecursion P marks → named name marks ≡ Some m → P m
 each_named P name m [] h e = absurd (clash false (ap is_some e) refl)
 each_named P name m (x ∷ marks) h e =
     let more = each_named P name m marks h.1 in
@@ -140,22 +141,22 @@ each_named P name m (x ∷ marks) h e =
     subst P (ap (λ o. option_map_or (λ (y : Mark). y) o x) same) h.0)
     (λ f. more (sym (ap (λ b. cond b (Some x) (named name marks)) f) ∙ e))
 
-pub within_set : (name : List ℕ) (place size : ℕ) (marks : List Mark) → place ≤ size → Each (λ m. m.place ≤ size) marks → Each (λ m. m.place ≤ size) (marks_set name place marks)
+pub within_set : (name : List ℕ) (place size : ℕ) (marks : List Mark) → place ≤ size → AllByRecursion (λ m. m.place ≤ size) marks → AllByRecursion (λ m. m.place ≤ size) (marks_set name place marks)
 within_set name place size marks l h =
     let P : Mark → Type 0 = λ m. m.place ≤ size in
     each_with P (record { name = name; place = place; gravity = gravity_or_right name marks }) (without name marks) l (each_without P name marks h)
 
-pub within_unset : (name : List ℕ) (size : ℕ) (marks : List Mark) → Each (λ m. m.place ≤ size) marks → Each (λ m. m.place ≤ size) (without name marks)
+pub within_unset : (name : List ℕ) (size : ℕ) (marks : List Mark) → AllByRecursion (λ m. m.place ≤ size) marks → AllByRecursion (λ m. m.place ≤ size) (without name marks)
 within_unset name size marks h = each_without (λ m. m.place ≤ size) name marks h
 
-pub within_gravity : (name : List ℕ) (gravity : Gravity) (size : ℕ) (marks : List Mark) → Each (λ m. m.place ≤ size) marks → Each (λ m. m.place ≤ size) (marks_with_gravity name gravity marks)
+pub within_gravity : (name : List ℕ) (gravity : Gravity) (size : ℕ) (marks : List Mark) → AllByRecursion (λ m. m.place ≤ size) marks → AllByRecursion (λ m. m.place ≤ size) (marks_with_gravity name gravity marks)
 within_gravity name gravity size marks h = by (named name marks) refl where
-  by : (o : Option Mark) → named name marks ≡ o → Each (λ m. m.place ≤ size) (option_map_or (λ (m : Mark). put_mark (record m { gravity = gravity }) marks) o marks)
+  by : (o : Option Mark) → named name marks ≡ o → AllByRecursion (λ m. m.place ≤ size) (option_map_or (λ (m : Mark). put_mark (record m { gravity = gravity }) marks) o marks)
   by None e = h
   by (Some m) e =
       each_with (λ x. x.place ≤ size) (record m { gravity = gravity }) (without m.name marks) (each_named (λ x. x.place ≤ size) name m marks h e) (each_without (λ x. x.place ≤ size) m.name marks h)
 
-pub within_more : (size most n : ℕ) (marks : List Mark) → size + n ≤ most → Each (λ m. m.place ≤ size) marks → Each (λ m. m.place + n ≤ most) marks
+pub within_more : (size most n : ℕ) (marks : List Mark) → size + n ≤ most → AllByRecursion (λ m. m.place ≤ size) marks → AllByRecursion (λ m. m.place + n ≤ most) marks
 within_more size most n [] l h = tt
 within_more size most n (m ∷ marks) l h = (omega (arith, l, h.0), within_more size most n marks l h.1)
 
@@ -191,7 +192,7 @@ pub one_written : (place : Mark → ℕ) (xs ys : List KeptMark) (i : ℕ) (x : 
 one_written place xs ys i x p l h e k =
     ap (λ v. set ys i (record (get_or ys i x) { place = v })) k ∙ map_over_more (replaced place) xs ys i (get_or ys i x) l h (ap (λ v. get_or ys i v) e)
 
-pub each_at : (P : Mark → Type 0) (items : List KeptMark) → Each P (seen_all items) → (i : ℕ) (d : KeptMark) → i < length items → P (seen (get_or items i d))
+pub each_at : (P : Mark → Type 0) (items : List KeptMark) → AllByRecursion P (seen_all items) → (i : ℕ) (d : KeptMark) → i < length items → P (seen (get_or items i d))
 each_at P [] h i d l = absurd (omega (arith, l))
 each_at P (m ∷ items) h zero d l = h.0
 each_at P (m ∷ items) h (suc i) d l = each_at P items h.1 i d (omega (arith, l))

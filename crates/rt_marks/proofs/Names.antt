@@ -1,10 +1,11 @@
 -- Look-ups by name.
 use Rattle.std.proofs.Common.{◌≡◌, ℕ, zero, suc, ◌<◌, length, get_or, IsSome, Contains, arith, List, [], ◌∷◌, ◌++◌, true, false, not, refl, sym, ap, ◌∙◌, Bool, cond, subst, Option, Some, None}
+use Rattle.std.specs.List.{AllByRecursion}
 use Rattle.std.specs.Ordering.{is_lt}
 use Rattle.std.specs.Str.{bytes_eq}
 use Rattle.std.proofs.lemmas.Slice.Eq.{bytes_eq-Decides}
 use Rattle.std.proofs.lemmas.Cmp.{nat_list_cmp_total}
-use Rattle.rt_marks.specs.Marks.{Mark, Each, name_order, comes_before, AreInOrder, with_mark, in_order, is_named, named, without, HaveOwnNames, AreAscending, put_mark, marks_set, gravity_or_right}
+use Rattle.rt_marks.specs.Marks.{Mark, name_order, comes_before, AreInOrder, with_mark, in_order, is_named, named, without, HaveOwnNames, AreAscending, put_mark, marks_set, gravity_or_right}
 use Rattle.rt_marks.specs.Seen.{names_of}
 use Rattle.rt_marks.proofs.Order.{before_neither, lt_irrefl}
 use Rattle.rt_marks.proofs.InOrder.{split, with_passing, with_here, all_trans, each_with}
@@ -130,7 +131,7 @@ named_middle q (x ∷ front) m back h e =
     ap (λ b. cond b (Some x) (named q (front ++ m ∷ back))) f ∙ named_middle q front m back h.1 e
 
 -- names that ascend are names of their own
-none_below : (q : List ℕ) (marks : List Mark) → Each (λ x. is_lt (name_order q x) ≡ true) (names_of marks) → named q marks ≡ None
+none_below : (q : List ℕ) (marks : List Mark) → AllByRecursion (λ x. is_lt (name_order q x) ≡ true) (names_of marks) → named q marks ≡ None
 none_below q [] h = refl
 none_below q (m ∷ marks) h = none_cons q m marks (names_differ q m.name h.0) (none_below q marks h.1)
 

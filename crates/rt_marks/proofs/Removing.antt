@@ -1,5 +1,6 @@
 -- The order after a removal: the marks that came to stand at one place are written anew.
 use Rattle.std.proofs.Common.{◌≡◌, ℕ, suc, ◌+◌, ◌-◌, ◌<◌, ◌≤◌, ◌==◌, ◌&&◌, nat_lt, nat_le, List, [], ◌∷◌, ◌++◌, map, filter, length, take, drop, true, false, refl, sym, ap, ◌∙◌, Bool, cond, not, subst, arith, append_assoc, append-nil, take-append-drop, ◌⊎◌, inl, inr}
+use Rattle.std.specs.List.{AllByRecursion}
 use Rattle.std.specs.Ordering.{is_lt, ordering_then}
 use Rattle.std.proofs.lemmas.Bool.{eqb-true, eq-eqb}
 use Rattle.std.proofs.lemmas.Bool.Decides.{nat_tests}
@@ -9,7 +10,7 @@ use Rattle.std.proofs.lemmas.List.Elements.{filter-append}
 use Rattle.rt_marks.specs.declared.gravity.Gravity.{Gravity}
 use Rattle.rt_marks.specs.declared.gravity.Gravity.TheVariants.{Left, Right}
 use Rattle.rt_marks.specs.Marks
-use Rattle.rt_marks.specs.Marks.{Mark, Each, gravity_order, name_order, comes_before, AreInOrder, AreAscending, mark_removed, marks_removed, place_removed, mark_inserted, marks_inserted}
+use Rattle.rt_marks.specs.Marks.{Mark, gravity_order, name_order, comes_before, AreInOrder, AreAscending, mark_removed, marks_removed, place_removed, mark_inserted, marks_inserted}
 use Rattle.rt_marks.specs.Seen.{names_of, no_mark, in_slot, in_slots, times, IsEachOnce, IsIndexed, PartsAt, same_gravity, stands, slot_stands, overwritten}
 use Rattle.rt_marks.proofs.InOrder.{split, in_order_same}
 use Rattle.rt_marks.proofs.Names.{clash}
@@ -70,28 +71,28 @@ same_length (x ∷ xs) ys h =
     let fewer : (s : ℕ) → times s xs ≡ times s (r.front ++ r.back) = λ s. omega (arith, h s, times_middle s r.front x r.back, ap (times s) r.is) in
     omega (arith, same_length xs (r.front ++ r.back) fewer, length-append r.front r.back, ap length r.is, length-append r.front (x ∷ r.back))
 
-none_pass : (t : ℕ → Bool) (xs : List ℕ) → Each (λ s. t s ≡ false) xs → filter t xs ≡ []
+none_pass : (t : ℕ → Bool) (xs : List ℕ) → AllByRecursion (λ s. t s ≡ false) xs → filter t xs ≡ []
 none_pass t [] h = refl
 none_pass t (x ∷ xs) h = ap (λ b. cond b (x ∷ filter t xs) (filter t xs)) h.0 ∙ none_pass t xs h.1
 
-pub each_passes : (t : ℕ → Bool) (P : ℕ → Type 0) (xs : List ℕ) → ((s : ℕ) → t s ≡ true → P s) → Each P (filter t xs)
+pub each_passes : (t : ℕ → Bool) (P : ℕ → Type 0) (xs : List ℕ) → ((s : ℕ) → t s ≡ true → P s) → AllByRecursion P (filter t xs)
 each_passes t P [] h = tt
 each_passes t P (x ∷ xs) h =
     let more = each_passes t P xs h in
     split (t x)
-    (λ k. subst (λ b. Each P (cond b (x ∷ filter t xs) (filter t xs))) (sym k) (h x k, more))
-    (λ k. subst (λ b. Each P (cond b (x ∷ filter t xs) (filter t xs))) (sym k) more)
+    (λ k. subst (λ b. AllByRecursion P (cond b (x ∷ filter t xs) (filter t xs))) (sym k) (h x k, more))
+    (λ k. subst (λ b. AllByRecursion P (cond b (x ∷ filter t xs) (filter t xs))) (sym k) more)
 
-pub each_filter : (t : ℕ → Bool) (P : ℕ → Type 0) (xs : List ℕ) → Each P xs → Each P (filter t xs)
+pub each_filter : (t : ℕ → Bool) (P : ℕ → Type 0) (xs : List ℕ) → AllByRecursion P xs → AllByRecursion P (filter t xs)
 each_filter t P [] h = tt
 each_filter t P (x ∷ xs) h =
     let more = each_filter t P xs h.1 in
     split (t x)
-    (λ k. subst (λ b. Each P (cond b (x ∷ filter t xs) (filter t xs))) (sym k) (h.0, more))
-    (λ k. subst (λ b. Each P (cond b (x ∷ filter t xs) (filter t xs))) (sym k) more)
+    (λ k. subst (λ b. AllByRecursion P (cond b (x ∷ filter t xs) (filter t xs))) (sym k) (h.0, more))
+    (λ k. subst (λ b. AllByRecursion P (cond b (x ∷ filter t xs) (filter t xs))) (sym k) more)
 
 -- of numbers that pass one of two tests, none both
-both_tests : (t u : ℕ → Bool) (xs : List ℕ) → Each (λ s. u s ≡ not (t s)) xs → (s : ℕ) → times s (filter t xs) + times s (filter u xs) ≡ times s xs
+both_tests : (t u : ℕ → Bool) (xs : List ℕ) → AllByRecursion (λ s. u s ≡ not (t s)) xs → (s : ℕ) → times s (filter t xs) + times s (filter u xs) ≡ times s xs
 both_tests t u [] h s = refl
 both_tests t u (x ∷ xs) h s =
     let more = both_tests t u xs h.1 s in
@@ -128,7 +129,7 @@ name_before a b g l ga gb n =
     tied Left = refl
     tied Right = refl
 
-crossing : (P Q : Mark → Type 0) (xs ys : List Mark) → ((a b : Mark) → P a → Q b → comes_before a b ≡ true) → Each P xs → Each Q ys → Each (λ x. Each (λ y. comes_before x y ≡ true) ys) xs
+crossing : (P Q : Mark → Type 0) (xs ys : List Mark) → ((a b : Mark) → P a → Q b → comes_before a b ≡ true) → AllByRecursion P xs → AllByRecursion Q ys → AllByRecursion (λ x. AllByRecursion (λ y. comes_before x y ≡ true) ys) xs
 crossing P Q [] ys f h k = tt
 crossing P Q (x ∷ xs) ys f h k = (each_weaker Q (λ y. comes_before x y ≡ true) ys (λ y q. f x y h.0 q) k, crossing P Q xs ys f h.1 k)
 
@@ -169,7 +170,7 @@ by_names_in_order f t place g (x ∷ xs) h a =
     ))
     (λ k. subst (λ b. AreInOrder (map f (cond b (x ∷ filter t xs) (filter t xs)))) (sym k) more)
   where
-    named_of : (ys : List ℕ) → Each (λ n. is_lt (name_order (f x).name n) ≡ true) (names_of (map f ys)) → Each (λ s. is_lt (name_order (f x).name (f s).name) ≡ true) ys
+    named_of : (ys : List ℕ) → AllByRecursion (λ n. is_lt (name_order (f x).name n) ≡ true) (names_of (map f ys)) → AllByRecursion (λ s. is_lt (name_order (f x).name (f s).name) ≡ true) ys
     named_of [] h = tt
     named_of (y ∷ ys) h = (h.0, named_of ys h.1)
 
@@ -185,8 +186,8 @@ record Splits (f : ℕ → Mark) (top : ℕ) (xs : List ℕ) : Type 0 where
   middle : List ℕ
   back : List ℕ
   is : xs ≡ middle ++ back
-  low : Each (λ s. (f s).place ≤ top) middle
-  high : Each (λ s. top < (f s).place) back
+  low : AllByRecursion (λ s. (f s).place ≤ top) middle
+  high : AllByRecursion (λ s. top < (f s).place) back
 
 le_from : (a b : ℕ) → nat_le a b ≡ true → a ≤ b
 le_from a b h = grind (arith, nat_tests)
@@ -225,16 +226,16 @@ behind_before place n a b la lb h =
       | inr same ↦ before_rest (place_removed place n a.place) (place_removed place n b.place) rest (omega (arith, ea, eb, same.0)) same.1
     ]
 
-behind_order : (place n : ℕ) (marks : List Mark) → Each (λ m. place + n < m.place) marks → AreInOrder marks → AreInOrder (map (mark_removed place n) marks)
+behind_order : (place n : ℕ) (marks : List Mark) → AllByRecursion (λ m. place + n < m.place) marks → AreInOrder marks → AreInOrder (map (mark_removed place n) marks)
 behind_order place n [] l h = tt
 behind_order place n (m ∷ marks) l h = (behind_each marks l.1 h.0, behind_order place n marks l.1 h.1) where
-  behind_each : (ys : List Mark) → Each (λ y. place + n < y.place) ys → Each (λ y. comes_before m y ≡ true) ys → Each (λ y. comes_before (mark_removed place n m) y ≡ true) (map (mark_removed place n) ys)
+  behind_each : (ys : List Mark) → AllByRecursion (λ y. place + n < y.place) ys → AllByRecursion (λ y. comes_before m y ≡ true) ys → AllByRecursion (λ y. comes_before (mark_removed place n m) y ≡ true) (map (mark_removed place n) ys)
   behind_each [] k b = tt
   behind_each (y ∷ ys) k b = (behind_before place n m y l.0 k.0 b.0, behind_each ys k.1 b.1)
 
 -- EACH MARK MAPPED, SEEN BY THE NUMBERS
 
-pub mapped : (g : Mark → Mark) (marks : List Mark) (slots : List ℕ) → Each (λ s. s < length marks) slots → in_slots (map g marks) slots ≡ map g (in_slots marks slots)
+pub mapped : (g : Mark → Mark) (marks : List Mark) (slots : List ℕ) → AllByRecursion (λ s. s < length marks) slots → in_slots (map g marks) slots ≡ map g (in_slots marks slots)
 mapped g marks [] h = refl
 mapped g marks (s ∷ slots) h = let more = mapped g marks slots h.1 in λ i. get_or-map g marks s no_mark no_mark h.0 i ∷ more i
 
@@ -254,9 +255,9 @@ inserted_table S S' N O place n x e =
     )
 
 -- what holds of each mark in the order holds of each slot's
-pub each_slot : (P : Mark → Type 0) (S : List Mark) (O : List ℕ) → IsEachOnce (length S) O → Each P (in_slots S O) → Each P S
+pub each_slot : (P : Mark → Type 0) (S : List Mark) (O : List ℕ) → IsEachOnce (length S) O → AllByRecursion P (in_slots S O) → AllByRecursion P S
 each_slot P S O once h = by S (λ i l. each_there (λ s. P (in_slot S s)) O i (each_from (in_slot S) P O h) (omega (arith, Times.once_below (length S) O once i l))) where
-  by : (marks : List Mark) → ((i : ℕ) → i < length marks → P (in_slot marks i)) → Each P marks
+  by : (marks : List Mark) → ((i : ℕ) → i < length marks → P (in_slot marks i)) → AllByRecursion P marks
   by [] k = tt
   by (m ∷ marks) k = (k 0 (omega arith), by marks (λ i l. k (suc i) (omega (arith, l))))
 
@@ -275,13 +276,13 @@ record Parts (S S' : List Mark) (O : List ℕ) (start place n : ℕ) : Type 0 wh
   back : List ℕ
   is : O ≡ (front ++ middle) ++ back
   size : length front ≡ start
-  front_in : Each (λ s. s < length S) front
-  middle_in : Each (λ s. s < length S) middle
-  back_in : Each (λ s. s < length S) back
-  front_at : Each (λ s. (in_slot S s).place < place) front
-  middle_from : Each (λ s. place ≤ (in_slot S s).place) middle
-  middle_to : Each (λ s. (in_slot S s).place ≤ place + n) middle
-  back_at : Each (λ s. place + n < (in_slot S s).place) back
+  front_in : AllByRecursion (λ s. s < length S) front
+  middle_in : AllByRecursion (λ s. s < length S) middle
+  back_in : AllByRecursion (λ s. s < length S) back
+  front_at : AllByRecursion (λ s. (in_slot S s).place < place) front
+  middle_from : AllByRecursion (λ s. place ≤ (in_slot S s).place) middle
+  middle_to : AllByRecursion (λ s. (in_slot S s).place ≤ place + n) middle
+  back_at : AllByRecursion (λ s. place + n < (in_slot S s).place) back
 
 lt_true : (a b : ℕ) → nat_lt a b ≡ true → a < b
 lt_true a b h = grind (arith, nat_tests)
@@ -297,11 +298,11 @@ parts S S' N O start place n x p =
     let whole : front ++ rest ≡ O = take-append-drop start O in
     let ordered : AreInOrder (map f rest) = order_back (map f front) (map f rest) (subst AreInOrder (ap (map f) (sym whole) ∙ map-append f front rest) x.ordered) in
     let r = splits f (place + n) rest ordered in
-    let there : Each (λ s. s < length S) (front ++ rest) = subst (λ v. Each (λ s. s < length S) v) (sym whole) (each_below (length S) O x.order_once) in
-    let there_rest : Each (λ s. s < length S) (r.middle ++ r.back) = subst (λ v. Each (λ s. s < length S) v) r.is (each_second (λ s. s < length S) front rest there) in
-    let far : Each (λ s. place ≤ (f s).place) (r.middle ++ r.back) = subst (λ v. Each (λ s. place ≤ (f s).place) v) r.is
+    let there : AllByRecursion (λ s. s < length S) (front ++ rest) = subst (λ v. AllByRecursion (λ s. s < length S) v) (sym whole) (each_below (length S) O x.order_once) in
+    let there_rest : AllByRecursion (λ s. s < length S) (r.middle ++ r.back) = subst (λ v. AllByRecursion (λ s. s < length S) v) r.is (each_second (λ s. s < length S) front rest there) in
+    let far : AllByRecursion (λ s. place ≤ (f s).place) (r.middle ++ r.back) = subst (λ v. AllByRecursion (λ s. place ≤ (f s).place) v) r.is
     (each_weaker (λ s. nat_lt (f s).place place ≡ false) (λ s. place ≤ (f s).place) rest (λ s h. lt_false (f s).place place h)
-    (each_from f (λ m. nat_lt m.place place ≡ false) rest (subst (λ v. Each (λ m. nat_lt m.place place ≡ false) v) (drop-map f start O) p.back))) in
+    (each_from f (λ m. nat_lt m.place place ≡ false) rest (subst (λ v. AllByRecursion (λ m. nat_lt m.place place ≡ false) v) (drop-map f start O) p.back))) in
     record {
       front = front;
       middle = r.middle;
@@ -312,7 +313,7 @@ parts S S' N O start place n x p =
       middle_in = each_first (λ s. s < length S) r.middle r.back there_rest;
       back_in = each_second (λ s. s < length S) r.middle r.back there_rest;
       front_at = each_weaker (λ s. nat_lt (f s).place place ≡ true) (λ s. (f s).place < place) front (λ s h. lt_true (f s).place place h)
-          (each_from f (λ m. nat_lt m.place place ≡ true) front (subst (λ v. Each (λ m. nat_lt m.place place ≡ true) v) (take-map f start O) p.front));
+          (each_from f (λ m. nat_lt m.place place ≡ true) front (subst (λ v. AllByRecursion (λ m. nat_lt m.place place ≡ true) v) (take-map f start O) p.front));
       middle_from = each_first (λ s. place ≤ (f s).place) r.middle r.back far;
       middle_to = r.low;
       back_at = r.high;
@@ -389,12 +390,12 @@ rewritten S S' N O start place n x p e =
     let right = filter (slot_stands place Right S') N in
     let one : (s : ℕ) → s < length S → h s ≡ g (f s) = λ s l. ap (λ v. in_slot v s) e ∙ get_or-map g S s no_mark no_mark l in
     let place_of : (s : ℕ) → s < length S → (h s).place ≡ place_removed place n (f s).place = λ s l. ap (λ (m : Mark). m.place) (one s l) in
-    let front_then : Each (λ s. (h s).place < place) q.front =
+    let front_then : AllByRecursion (λ s. (h s).place < place) q.front =
     each_also (λ s. s < length S) (λ s. (f s).place < place) (λ s. (h s).place < place) q.front (λ s l k. subst (λ v. v < place) (sym (place_of s l ∙ stays_place place n (f s).place k)) k) q.front_in q.front_at in
-    let middle_then : Each (λ s. (h s).place ≡ place) q.middle =
+    let middle_then : AllByRecursion (λ s. (h s).place ≡ place) q.middle =
     each_also (λ s. (s < length S) × (place ≤ (f s).place)) (λ s. (f s).place ≤ place + n) (λ s. (h s).place ≡ place) q.middle (λ s l k. place_of s l.0 ∙ comes_place place n (f s).place l.1 k)
     (each_also (λ s. s < length S) (λ s. place ≤ (f s).place) (λ s. (s < length S) × (place ≤ (f s).place)) q.middle (λ s l k. (l, k)) q.middle_in q.middle_from) q.middle_to in
-    let back_then : Each (λ s. place < (h s).place) q.back =
+    let back_then : AllByRecursion (λ s. place < (h s).place) q.back =
     each_also (λ s. s < length S) (λ s. place + n < (f s).place) (λ s. place < (h s).place) q.back (λ s l k. omega (arith, k, place_of s l, behind_place place n (f s).place k)) q.back_in q.back_at in
     let apart_front : (v : Gravity) → filter (slot_stands place v S') q.front ≡ [] = λ v. none_pass (slot_stands place v S') q.front
     (each_weaker (λ s. (h s).place < place) (λ s. slot_stands place v S' s ≡ false) q.front (λ s k. and_false (nat_lt s (length S')) ((h s).place == place) (same_gravity (h s).gravity v) (differs (h s).place place (inl k))) front_then) in
@@ -405,7 +406,7 @@ rewritten S S' N O start place n x p e =
     ∙ (λ i. (apart_front v i ++ filter (slot_stands place v S') q.middle) ++ apart_back v i) ∙ append-nil (filter (slot_stands place v S') q.middle) in
     let counted : (v : Gravity) (s : ℕ) → times s (filter (slot_stands place v S') N) ≡ times s (filter (slot_stands place v S') q.middle) = λ v s.
     filter_same (slot_stands place v S') N O (same_times (length S) N O x.names_once x.order_once) s ∙ ap (times s) (those v) in
-    let turned : Each (λ s. slot_stands place Right S' s ≡ not (slot_stands place Left S' s)) q.middle =
+    let turned : AllByRecursion (λ s. slot_stands place Right S' s ≡ not (slot_stands place Left S' s)) q.middle =
     each_also (λ s. s < length S) (λ s. (h s).place ≡ place) (λ s. slot_stands place Right S' s ≡ not (slot_stands place Left S' s)) q.middle
     (λ s l k. other_gravity (nat_lt s (length S')) ((h s).place == place) (h s).gravity (within s (length S') (subst (λ v. s < v) (sym size) l)) (eq-eqb (h s).place place k)) q.middle_in middle_then in
     let halves : (s : ℕ) → times s left + times s right ≡ times s q.middle = λ s.
@@ -428,19 +429,19 @@ rewritten S S' N O start place n x p e =
     let back_before : AreInOrder (map f q.back) = order_back (map f (q.front ++ q.middle)) (map f q.back) (subst AreInOrder (ap (map f) q.is ∙ map-append f (q.front ++ q.middle) q.back) x.ordered) in
     let back_order : AreInOrder (map h q.back) =
     subst AreInOrder (sym (ap (λ v. in_slots v q.back) e ∙ mapped g S q.back q.back_in)) (behind_order place n (map f q.back) (each_of f (λ m. place + n < m.place) q.back q.back_at) back_before) in
-    let left_at : Each (IsAt place Left) (map h left) = each_of h (IsAt place Left) left (each_passes (slot_stands place Left S') (λ s. IsAt place Left (h s)) N (is_at place Left S')) in
-    let right_at : Each (IsAt place Right) (map h right) = each_of h (IsAt place Right) right (each_passes (slot_stands place Right S') (λ s. IsAt place Right (h s)) N (is_at place Right S')) in
-    let front_at : Each (λ m. m.place < place) (map h q.front) = each_of h (λ m. m.place < place) q.front front_then in
-    let back_at : Each (λ m. place < m.place) (map h q.back) = each_of h (λ m. place < m.place) q.back back_then in
+    let left_at : AllByRecursion (IsAt place Left) (map h left) = each_of h (IsAt place Left) left (each_passes (slot_stands place Left S') (λ s. IsAt place Left (h s)) N (is_at place Left S')) in
+    let right_at : AllByRecursion (IsAt place Right) (map h right) = each_of h (IsAt place Right) right (each_passes (slot_stands place Right S') (λ s. IsAt place Right (h s)) N (is_at place Right S')) in
+    let front_at : AllByRecursion (λ m. m.place < place) (map h q.front) = each_of h (λ m. m.place < place) q.front front_then in
+    let back_at : AllByRecursion (λ m. place < m.place) (map h q.back) = each_of h (λ m. place < m.place) q.back back_then in
     let ordered_left : AreInOrder (map h q.front ++ map h left) = order_both (map h q.front) (map h left) front_order
     (by_names_in_order h (slot_stands place Left S') place Left N (is_at place Left S') ascending)
     (crossing (λ m. m.place < place) (IsAt place Left) (map h q.front) (map h left) (λ a b k l. place_before a b (omega (arith, k, l.place_is))) front_at left_at) in
     let ordered_right : AreInOrder ((map h q.front ++ map h left) ++ map h right) = order_both (map h q.front ++ map h left) (map h right) ordered_left
     (by_names_in_order h (slot_stands place Right S') place Right N (is_at place Right S') ascending)
-    (each_both (λ a. Each (λ b. comes_before a b ≡ true) (map h right)) (map h q.front) (map h left)
+    (each_both (λ a. AllByRecursion (λ b. comes_before a b ≡ true) (map h right)) (map h q.front) (map h left)
     (crossing (λ m. m.place < place) (IsAt place Right) (map h q.front) (map h right) (λ a b k l. place_before a b (omega (arith, k, l.place_is))) front_at right_at)
     (crossing (IsAt place Left) (IsAt place Right) (map h left) (map h right) (λ a b k l. gravity_before a b (omega (arith, k.place_is, l.place_is)) k.gravity_is l.gravity_is) left_at right_at)) in
-    let upto : Each (λ m. m.place ≤ place) ((map h q.front ++ map h left) ++ map h right) =
+    let upto : AllByRecursion (λ m. m.place ≤ place) ((map h q.front ++ map h left) ++ map h right) =
     each_both (λ m. m.place ≤ place) (map h q.front ++ map h left) (map h right)
     (each_both (λ m. m.place ≤ place) (map h q.front) (map h left) (each_weaker (λ m. m.place < place) (λ m. m.place ≤ place) (map h q.front) (λ m k. omega (arith, k)) front_at) (each_weaker (IsAt place Left) (λ m. m.place ≤ place) (map h left) (λ m k. omega (arith, k.place_is)) left_at))
     (each_weaker (IsAt place Right) (λ m. m.place ≤ place) (map h right) (λ m k. omega (arith, k.place_is)) right_at) in

@@ -2,7 +2,7 @@
 use Rattle.std.proofs.Common.{◌≡◌, ℕ, zero, suc, ◌-◌, ◌<◌, ◌≤◌, ◌==◌, ◌&&◌, nat_lt, nat_le, List, [], ◌∷◌, ◌++◌, map, find, length, get_or, slice_get, take, drop, true, false, not, refl, sym, ap, ◌∙◌, Bool, cond, subst, arith, add-one, ◌⊎◌, inl, inr, Some, None, Result, Ok, Err, IfOk, IfErr}
 use Rattle.std.specs.Ordering.{is_lt}
 use Rattle.std.specs.Option.{option_or}
-use Rattle.std.specs.List.{HoldsAt}
+use Rattle.std.specs.List.{HoldsAt, AllByRecursion}
 use Rattle.std.specs.List.Sorted.{IsBinarySearchResult, IsPartitionPoint, IsPartitionedBy, IsSortedBy}
 use Rattle.std.specs.FinMap.{slice_cmp-IsAntisymmetric, nat_cmp-IsAntisymmetric}
 use Rattle.std.proofs.lemmas.Cmp.{nat_list_cmp_total}
@@ -12,7 +12,7 @@ use Rattle.std.proofs.lemmas.List.{map-append, length-map, set_split, set-get_or
 use Rattle.std.proofs.lemmas.List.Sorted.{searchable_from_sorted}
 use Rattle.std.proofs.lemmas.Option.{slice_get-get_or}
 use Rattle.rt_marks.specs.Marks
-use Rattle.rt_marks.specs.Marks.{Mark, Each, name_order, comes_before, AreInOrder, named, AreAscending, find_last, first_mark_at, last_mark_before}
+use Rattle.rt_marks.specs.Marks.{Mark, name_order, comes_before, AreInOrder, named, AreAscending, find_last, first_mark_at, last_mark_before}
 use Rattle.rt_marks.specs.Seen
 use Rattle.rt_marks.specs.Seen.{names_of, no_mark, in_slot, in_slots, IsOrder, IsIndexed, PartsAt, IsGap}
 use Rattle.rt_marks.proofs.Order.{lt_asym, lt_irrefl, before_trans}
@@ -31,12 +31,12 @@ order_at f (x ∷ xs) i zero d h l k = absurd (omega (arith, l))
 order_at f (x ∷ xs) zero (suc j) d h l k = each_index (λ s. comes_before (f x) (f s) ≡ true) xs j d (omega (arith, k)) (each_from f (λ m. comes_before (f x) m ≡ true) xs h.0)
 order_at f (x ∷ xs) (suc i) (suc j) d h l k = order_at f xs i j d h.1 (omega (arith, l)) (omega (arith, k))
 
-take_each : (f : ℕ → Mark) (P : Mark → Type 0) (xs : List ℕ) (i : ℕ) → ((k d : ℕ) → k < i → k < length xs → P (f (get_or xs k d))) → Each P (take i (map f xs))
+take_each : (f : ℕ → Mark) (P : Mark → Type 0) (xs : List ℕ) (i : ℕ) → ((k d : ℕ) → k < i → k < length xs → P (f (get_or xs k d))) → AllByRecursion P (take i (map f xs))
 take_each f P xs zero h = tt
 take_each f P [] (suc i) h = tt
 take_each f P (x ∷ xs) (suc i) h = (h 0 x (omega arith) (omega arith), take_each f P xs i (λ k d l m. h (suc k) d (omega (arith, l)) (omega (arith, m))))
 
-drop_each : (f : ℕ → Mark) (P : Mark → Type 0) (xs : List ℕ) (i : ℕ) → ((k d : ℕ) → i ≤ k → k < length xs → P (f (get_or xs k d))) → Each P (drop i (map f xs))
+drop_each : (f : ℕ → Mark) (P : Mark → Type 0) (xs : List ℕ) (i : ℕ) → ((k d : ℕ) → i ≤ k → k < length xs → P (f (get_or xs k d))) → AllByRecursion P (drop i (map f xs))
 drop_each f P [] zero h = tt
 drop_each f P (x ∷ xs) zero h = (h 0 x (omega arith) (omega arith), drop_each f P xs zero (λ k d l m. h (suc k) d (omega (arith, l)) (omega (arith, m))))
 drop_each f P [] (suc i) h = tt
@@ -116,20 +116,20 @@ below_down place = λ a b h t. no_further a.place b.place (places a b h) t where
 
 -- WHERE A LIST PARTS
 
-all_fail : (test : Mark → Bool) (marks : List Mark) → Each (λ m. test m ≡ false) marks → find_last test marks ≡ None
+all_fail : (test : Mark → Bool) (marks : List Mark) → AllByRecursion (λ m. test m ≡ false) marks → find_last test marks ≡ None
 all_fail test [] h = refl
 all_fail test (x ∷ marks) h = (λ i. option_or (all_fail test marks h.1 i) (cond (h.0 i) (Some x) None))
 
 -- the first that fails the test
 pub found_next : (test wanted : Mark → Bool) → ((m : Mark) → wanted m ≡ not (test m)) → (marks : List Mark) (i : ℕ) → PartsAt test marks i → slice_get marks i ≡ find wanted marks
 found_next test wanted other marks i p = by marks i p.within p.front p.back where
-  by : (marks : List Mark) (i : ℕ) → i ≤ length marks → Each (λ m. test m ≡ true) (take i marks) → Each (λ m. test m ≡ false) (drop i marks) → slice_get marks i ≡ find wanted marks
+  by : (marks : List Mark) (i : ℕ) → i ≤ length marks → AllByRecursion (λ m. test m ≡ true) (take i marks) → AllByRecursion (λ m. test m ≡ false) (drop i marks) → slice_get marks i ≡ find wanted marks
   by [] i l f b = refl
   by (x ∷ marks) zero l f b = sym (ap (λ v. cond v (Some x) (find wanted marks)) (other x ∙ ap not b.0))
   by (x ∷ marks) (suc i) l f b = by marks i (omega (arith, l)) f.1 b ∙ sym (ap (λ v. cond v (Some x) (find wanted marks)) (other x ∙ ap not f.0))
 
 pub found_none : (test : Mark → Bool) (marks : List Mark) (i : ℕ) → PartsAt test marks i → i ≡ 0 → None ≡ find_last test marks
-found_none test marks i p e = sym (all_fail test marks (subst (λ v. Each (λ m. test m ≡ false) (drop v marks)) e p.back))
+found_none test marks i p e = sym (all_fail test marks (subst (λ v. AllByRecursion (λ m. test m ≡ false) (drop v marks)) e p.back))
 
 -- the last that passes it
 pub found_last : (test : Mark → Bool) (marks : List Mark) (i : ℕ) → PartsAt test marks i → 0 < i → slice_get marks (i - 1) ≡ find_last test marks
@@ -138,7 +138,7 @@ found_last test marks (suc k) p l = ap (λ v. slice_get marks v) (one_less k) �
   one_less : (k : ℕ) → suc k - 1 ≡ k
   one_less k = omega arith
 
-  by : (marks : List Mark) (k : ℕ) → suc k ≤ length marks → Each (λ m. test m ≡ true) (take (suc k) marks) → Each (λ m. test m ≡ false) (drop (suc k) marks) → find_last test marks ≡ slice_get marks k
+  by : (marks : List Mark) (k : ℕ) → suc k ≤ length marks → AllByRecursion (λ m. test m ≡ true) (take (suc k) marks) → AllByRecursion (λ m. test m ≡ false) (drop (suc k) marks) → find_last test marks ≡ slice_get marks k
   by [] k l f b = absurd (omega (arith, l))
   by (x ∷ marks) zero l f b = (λ i. option_or (all_fail test marks b i) (cond (f.0 i) (Some x) None))
   by (x ∷ marks) (suc k) l f b =
@@ -156,12 +156,12 @@ rises f (x ∷ y ∷ xs) h (suc k) d l = rises f (y ∷ xs) h.1 k d (omega (arit
 are_sorted : (f : ℕ → Mark) (xs : List ℕ) → AreAscending (names_of (map f xs)) → IsSortedBy (λ a b. is_lt (name_order (f a).name (f b).name)) xs
 are_sorted f xs h = λ k d low l. rw add-one (rises f xs h k d (omega (arith, l)))
 
-take_names : (f : ℕ → Mark) (P : List ℕ → Type 0) (xs : List ℕ) (i : ℕ) → ((k d : ℕ) → k < i → P (f (get_or xs k d)).name) → Each P (take i (names_of (map f xs)))
+take_names : (f : ℕ → Mark) (P : List ℕ → Type 0) (xs : List ℕ) (i : ℕ) → ((k d : ℕ) → k < i → P (f (get_or xs k d)).name) → AllByRecursion P (take i (names_of (map f xs)))
 take_names f P xs zero h = tt
 take_names f P [] (suc i) h = tt
 take_names f P (x ∷ xs) (suc i) h = (h 0 x (omega arith), take_names f P xs i (λ k d l. h (suc k) d (omega (arith, l))))
 
-drop_names : (f : ℕ → Mark) (P : List ℕ → Type 0) (xs : List ℕ) (i : ℕ) → ((k d : ℕ) → i ≤ k → k < length xs → P (f (get_or xs k d)).name) → Each P (drop i (names_of (map f xs)))
+drop_names : (f : ℕ → Mark) (P : List ℕ → Type 0) (xs : List ℕ) (i : ℕ) → ((k d : ℕ) → i ≤ k → k < length xs → P (f (get_or xs k d)).name) → AllByRecursion P (drop i (names_of (map f xs)))
 drop_names f P [] zero h = tt
 drop_names f P (x ∷ xs) zero h = (h 0 x (omega arith) (omega arith), drop_names f P xs zero (λ k d l m. h (suc k) d (omega (arith, l)) (omega (arith, m))))
 drop_names f P [] (suc i) h = tt
@@ -201,7 +201,7 @@ same_slot marks by_name in_order rank d slot x l k e =
     let also : 1 ≤ Seen.times slot by_name = omega (arith, once_below (length marks) by_name x.names_once slot k) in
     one_name by_name x.ascending (get_or by_name rank d) slot there also e
   where
-    below_names : (x : ℕ) (xs : List ℕ) → Each (λ y. is_lt (name_order (in_slot marks x).name y) ≡ true) (names_of (map (in_slot marks) xs)) → Each (λ y. is_lt (name_order (in_slot marks x).name (in_slot marks y).name) ≡ true) xs
+    below_names : (x : ℕ) (xs : List ℕ) → AllByRecursion (λ y. is_lt (name_order (in_slot marks x).name y) ≡ true) (names_of (map (in_slot marks) xs)) → AllByRecursion (λ y. is_lt (name_order (in_slot marks x).name (in_slot marks y).name) ≡ true) xs
     below_names x [] h = tt
     below_names x (y ∷ xs) h = (h.0, below_names x xs h.1)
 

@@ -1,11 +1,11 @@
 -- Marks in slots, read by lists of the slots' numbers.
 use Rattle.std.proofs.Common.{◌≡◌, ℕ, zero, suc, ◌<◌, ◌≤◌, ◌==◌, List, [], ◌∷◌, ◌++◌, map, length, get_or, take, drop, true, false, refl, sym, ap, ◌∙◌, Bool, cond, not, subst, arith, None}
-use Rattle.std.specs.List.{insert, remove}
+use Rattle.std.specs.List.{insert, remove, AllByRecursion}
 use Rattle.std.specs.Str.{bytes_eq}
 use Rattle.std.proofs.lemmas.Bool.{eqb-true}
 use Rattle.std.proofs.lemmas.List.{map-append, take-map, drop-map, get_or-map, get_or_at, length-append, length-map}
 use Rattle.rt_marks.specs.declared.mark.Mark.{Mark as KeptMark}
-use Rattle.rt_marks.specs.Marks.{Mark, Each, name_order, comes_before, AreInOrder, with_mark, named, without, HaveOwnNames, AreAscending, put_mark}
+use Rattle.rt_marks.specs.Marks.{Mark, name_order, comes_before, AreInOrder, with_mark, named, without, HaveOwnNames, AreAscending, put_mark}
 use Rattle.rt_marks.specs.Marks
 use Rattle.rt_marks.specs.Seen.{seen, seen_all, names_of, no_mark, in_slot, in_slots, times, IsEachOnce, IsOrder, IsIndexed, PartsAt}
 use Rattle.rt_marks.proofs.Order.{before_irrefl}
@@ -18,7 +18,7 @@ use Rattle.rt_marks.proofs.Times.{present, each_below, each_present, once_below,
 pub slot_kept : (items : List KeptMark) (i : ℕ) (d : KeptMark) → i < length items → in_slot (seen_all items) i ≡ seen (get_or items i d)
 slot_kept items i d l = get_or-map seen items i d no_mark l
 
-pub same_marks : (f g : ℕ → Mark) (xs : List ℕ) → Each (λ s. f s ≡ g s) xs → map f xs ≡ map g xs
+pub same_marks : (f g : ℕ → Mark) (xs : List ℕ) → AllByRecursion (λ s. f s ≡ g s) xs → map f xs ≡ map g xs
 same_marks f g [] h = refl
 same_marks f g (x ∷ xs) h = let more = same_marks f g xs h.1 in λ i. h.0 i ∷ more i
 
@@ -26,41 +26,41 @@ pub same_names : (f g : ℕ → Mark) (xs : List ℕ) → ((s : ℕ) → (f s).n
 same_names f g [] h = refl
 same_names f g (x ∷ xs) h = let more = same_names f g xs h in λ i. h x i ∷ more i
 
-pub each_of : (f : ℕ → Mark) (P : Mark → Type 0) (xs : List ℕ) → Each (λ s. P (f s)) xs → Each P (map f xs)
+pub each_of : (f : ℕ → Mark) (P : Mark → Type 0) (xs : List ℕ) → AllByRecursion (λ s. P (f s)) xs → AllByRecursion P (map f xs)
 each_of f P [] h = tt
 each_of f P (x ∷ xs) h = (h.0, each_of f P xs h.1)
 
-pub each_from : (f : ℕ → Mark) (P : Mark → Type 0) (xs : List ℕ) → Each P (map f xs) → Each (λ s. P (f s)) xs
+pub each_from : (f : ℕ → Mark) (P : Mark → Type 0) (xs : List ℕ) → AllByRecursion P (map f xs) → AllByRecursion (λ s. P (f s)) xs
 each_from f P [] h = tt
 each_from f P (x ∷ xs) h = (h.0, each_from f P xs h.1)
 
-pub each_also : {X : Type 0} (P Q R : X → Type 0) (xs : List X) → ((x : X) → P x → Q x → R x) → Each P xs → Each Q xs → Each R xs
+pub each_also : {X : Type 0} (P Q R : X → Type 0) (xs : List X) → ((x : X) → P x → Q x → R x) → AllByRecursion P xs → AllByRecursion Q xs → AllByRecursion R xs
 each_also P Q R [] f h k = tt
 each_also P Q R (x ∷ xs) f h k = (f x h.0 k.0, each_also P Q R xs f h.1 k.1)
 
-pub each_weaker : {X : Type 0} (P Q : X → Type 0) (xs : List X) → ((x : X) → P x → Q x) → Each P xs → Each Q xs
+pub each_weaker : {X : Type 0} (P Q : X → Type 0) (xs : List X) → ((x : X) → P x → Q x) → AllByRecursion P xs → AllByRecursion Q xs
 each_weaker P Q [] f h = tt
 each_weaker P Q (x ∷ xs) f h = (f x h.0, each_weaker P Q xs f h.1)
 
-pub each_both : {X : Type 0} (P : X → Type 0) (xs ys : List X) → Each P xs → Each P ys → Each P (xs ++ ys)
+pub each_both : {X : Type 0} (P : X → Type 0) (xs ys : List X) → AllByRecursion P xs → AllByRecursion P ys → AllByRecursion P (xs ++ ys)
 each_both P [] ys h k = k
 each_both P (x ∷ xs) ys h k = (h.0, each_both P xs ys h.1 k)
 
-pub each_first : {X : Type 0} (P : X → Type 0) (xs ys : List X) → Each P (xs ++ ys) → Each P xs
+pub each_first : {X : Type 0} (P : X → Type 0) (xs ys : List X) → AllByRecursion P (xs ++ ys) → AllByRecursion P xs
 each_first P [] ys h = tt
 each_first P (x ∷ xs) ys h = (h.0, each_first P xs ys h.1)
 
-pub each_second : {X : Type 0} (P : X → Type 0) (xs ys : List X) → Each P (xs ++ ys) → Each P ys
+pub each_second : {X : Type 0} (P : X → Type 0) (xs ys : List X) → AllByRecursion P (xs ++ ys) → AllByRecursion P ys
 each_second P [] ys h = h
 each_second P (x ∷ xs) ys h = each_second P xs ys h.1
 
-pub each_index : {X : Type 0} (P : X → Type 0) (xs : List X) (i : ℕ) (d : X) → i < length xs → Each P xs → P (get_or xs i d)
+pub each_index : {X : Type 0} (P : X → Type 0) (xs : List X) (i : ℕ) (d : X) → i < length xs → AllByRecursion P xs → P (get_or xs i d)
 each_index P [] i d l h = absurd (omega (arith, l))
 each_index P (x ∷ xs) zero d l h = h.0
 each_index P (x ∷ xs) (suc i) d l h = each_index P xs i d (omega (arith, l)) h.1
 
 -- a number that isn't in a list
-pub each_other : (s : ℕ) (xs : List ℕ) → times s xs ≡ 0 → Each (λ x. (x == s) ≡ false) xs
+pub each_other : (s : ℕ) (xs : List ℕ) → times s xs ≡ 0 → AllByRecursion (λ x. (x == s) ≡ false) xs
 each_other s xs h = each_present (λ x. (x == s) ≡ false) xs (λ x k. split (x == s)
     (λ t. absurd (clash_of x k t))
     (λ f. f)) where
@@ -78,27 +78,27 @@ order_back [] ys h = h
 order_back (x ∷ xs) ys h = order_back xs ys h.1
 
 -- those before a mark, and those behind it
-pub before_middle : (xs : List Mark) (m : Mark) (ys : List Mark) → AreInOrder (xs ++ m ∷ ys) → Each (λ x. comes_before x m ≡ true) xs
+pub before_middle : (xs : List Mark) (m : Mark) (ys : List Mark) → AreInOrder (xs ++ m ∷ ys) → AllByRecursion (λ x. comes_before x m ≡ true) xs
 before_middle [] m ys h = tt
 before_middle (x ∷ xs) m ys h = ((each_second (λ y. comes_before x y ≡ true) xs (m ∷ ys) h.0).0, before_middle xs m ys h.1)
 
-pub order_both : (xs ys : List Mark) → AreInOrder xs → AreInOrder ys → Each (λ x. Each (λ y. comes_before x y ≡ true) ys) xs → AreInOrder (xs ++ ys)
+pub order_both : (xs ys : List Mark) → AreInOrder xs → AreInOrder ys → AllByRecursion (λ x. AllByRecursion (λ y. comes_before x y ≡ true) ys) xs → AreInOrder (xs ++ ys)
 order_both [] ys h k b = k
 order_both (x ∷ xs) ys h k b = (each_both (λ y. comes_before x y ≡ true) xs ys h.0 b.0, order_both xs ys h.1 k b.1)
 
 -- a mark that is put in stands behind those that come before it
 pub with_at : (m : Mark) (marks : List Mark) (i : ℕ) → PartsAt (λ x. comes_before x m) marks i → with_mark m marks ≡ take i marks ++ m ∷ drop i marks
 with_at m marks i h = by marks i h.front h.back where
-  by : (marks : List Mark) (i : ℕ) → Each (λ x. comes_before x m ≡ true) (take i marks) → Each (λ x. comes_before x m ≡ false) (drop i marks) → with_mark m marks ≡ take i marks ++ m ∷ drop i marks
+  by : (marks : List Mark) (i : ℕ) → AllByRecursion (λ x. comes_before x m ≡ true) (take i marks) → AllByRecursion (λ x. comes_before x m ≡ false) (drop i marks) → with_mark m marks ≡ take i marks ++ m ∷ drop i marks
   by [] zero f b = refl
   by [] (suc i) f b = refl
   by (x ∷ marks) zero f b = with_here m x marks b.0
   by (x ∷ marks) (suc i) f b = with_passing m x marks f.0 ∙ ap (λ v. x ∷ v) (by marks i f.1 b)
 
 -- where a list parts whose front passes a test and whose next doesn't
-pub parts_here : (test : Mark → Bool) (xs : List Mark) (m : Mark) (ys : List Mark) (i : ℕ) → Each (λ x. test x ≡ true) xs → test m ≡ false → PartsAt test (xs ++ m ∷ ys) i → i ≡ length xs
+pub parts_here : (test : Mark → Bool) (xs : List Mark) (m : Mark) (ys : List Mark) (i : ℕ) → AllByRecursion (λ x. test x ≡ true) xs → test m ≡ false → PartsAt test (xs ++ m ∷ ys) i → i ≡ length xs
 parts_here test xs m ys i h k p = by xs i h p.front p.back where
-  by : (xs : List Mark) (i : ℕ) → Each (λ x. test x ≡ true) xs → Each (λ x. test x ≡ true) (take i (xs ++ m ∷ ys)) → Each (λ x. test x ≡ false) (drop i (xs ++ m ∷ ys)) → i ≡ length xs
+  by : (xs : List Mark) (i : ℕ) → AllByRecursion (λ x. test x ≡ true) xs → AllByRecursion (λ x. test x ≡ true) (take i (xs ++ m ∷ ys)) → AllByRecursion (λ x. test x ≡ false) (drop i (xs ++ m ∷ ys)) → i ≡ length xs
   by [] zero h f b = refl
   by [] (suc i) h f b = absurd (clash (test m) f.0 k)
   by (x ∷ xs) zero h f b = absurd (clash (test x) h.0 b.0)

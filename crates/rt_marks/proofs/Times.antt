@@ -1,10 +1,10 @@
 -- Lists of slots' numbers: how often a number stands in one.
 use Rattle.std.proofs.Common.{◌≡◌, ℕ, zero, suc, ◌+◌, ◌<◌, ◌≤◌, ◌==◌, nat_lt, List, [], ◌∷◌, ◌++◌, map, length, get_or, set, take, drop, true, false, refl, sym, ap, ◌∙◌, Bool, cond, subst, arith, take-append-drop}
-use Rattle.std.specs.List.{insert, remove}
+use Rattle.std.specs.List.{insert, remove, AllByRecursion}
 use Rattle.std.proofs.lemmas.Bool.{eqb-true, eq-eqb}
 use Rattle.std.proofs.lemmas.Bool.Decides.{nat_tests}
 use Rattle.std.proofs.lemmas.List.{map-append, set_split, set-get_or}
-use Rattle.rt_marks.specs.Marks.{Mark, Each, in_order, with_mark}
+use Rattle.rt_marks.specs.Marks.{Mark, in_order, with_mark}
 use Rattle.rt_marks.specs.Seen.{times, IsEachOnce}
 use Rattle.rt_marks.proofs.InOrder.{split, in_order_middle}
 
@@ -38,11 +38,11 @@ present s (x ∷ xs) h =
     (λ t. record { front = []; back = xs; is = ap (λ v. v ∷ xs) (eqb-true x s t) })
     (λ f. let r = more (omega (arith, h, not_once x s f)) in record { front = x ∷ r.front; back = r.back; is = ap (λ v. x ∷ v) r.is })
 
-pub each_present : (P : ℕ → Type 0) (xs : List ℕ) → ((s : ℕ) → 1 ≤ times s xs → P s) → Each P xs
+pub each_present : (P : ℕ → Type 0) (xs : List ℕ) → ((s : ℕ) → 1 ≤ times s xs → P s) → AllByRecursion P xs
 each_present P [] h = tt
 each_present P (x ∷ xs) h = (h x (omega (arith, once x)), each_present P xs (λ s k. h s (omega (arith, k))))
 
-pub each_there : (P : ℕ → Type 0) (xs : List ℕ) (s : ℕ) → Each P xs → 1 ≤ times s xs → P s
+pub each_there : (P : ℕ → Type 0) (xs : List ℕ) (s : ℕ) → AllByRecursion P xs → 1 ≤ times s xs → P s
 each_there P [] s h k = absurd (omega (arith, k))
 each_there P (x ∷ xs) s h k =
     let more = each_there P xs s h.1 in
@@ -68,7 +68,7 @@ same_order f (x ∷ xs) ys h =
 
 -- EACH NUMBER ONCE
 
-pub each_below : (n : ℕ) (xs : List ℕ) → IsEachOnce n xs → Each (λ s. s < n) xs
+pub each_below : (n : ℕ) (xs : List ℕ) → IsEachOnce n xs → AllByRecursion (λ s. s < n) xs
 each_below n xs h = each_present (λ s. s < n) xs (λ s k. below s (h s) k) where
   below : (s : ℕ) → times s xs ≡ cond (nat_lt s n) 1 0 → 1 ≤ times s xs → s < n
   below s e k = grind (arith, nat_tests)

@@ -1,7 +1,7 @@
 -- Marks: names in the gaps of a text, each with a gravity. The gap of a place is the one before the character there, and the
 -- gap of the text's end the one after the last character. Contracts see the marks of a site as the list of them in order.
 use Rattle.std.specs.Prelude.{◌≡◌, ℕ, zero, suc, ◌+◌, ◌-◌, ◌==◌, ◌&&◌, ◌||◌, nat_le, nat_lt, List, [], ◌∷◌, codes, map, find, filter, Bool, true, false, not, if◌then◌else◌, Option, Some, None, option_and_then}
-use Rattle.std.specs.List.{list_any}
+use Rattle.std.specs.List.{list_any, AllByRecursion}
 use Rattle.std.specs.Option.{option_map_or, option_or}
 use Rattle.std.specs.Ordering.{nat_cmp, ordering_then, is_lt}
 use Rattle.std.specs.Str.{bytes_eq}
@@ -10,11 +10,6 @@ use Rattle.std.specs.declared.cmp.Ordering.TheVariants.{Less, Equal, Greater}
 pub use Rattle.rt_stamps.specs.Names.{IsName, name_order}
 use Rattle.rt_marks.specs.declared.gravity.Gravity.{Gravity}
 use Rattle.rt_marks.specs.declared.gravity.Gravity.TheVariants.{Left, Right}
-
--- a fact holds of each element
-abbrev pub Each : {X : Type 0} → (X → Type 0) → List X → Type 0
-Each P [] = Unit {0}
-Each P (x ∷ xs) = P x × Each P xs
 
 -- the bytes of a mark's name, the place of its gap, and its gravity
 pub record Mark : Type 0 where
@@ -54,7 +49,7 @@ comes_before a b = is_lt (mark_order a b)
 -- each mark comes before all behind it
 abbrev pub AreInOrder : List Mark → Type 0
 AreInOrder [] = Unit {0}
-AreInOrder (m ∷ marks) = Each (λ x. comes_before m x ≡ true) marks × AreInOrder marks
+AreInOrder (m ∷ marks) = AllByRecursion (λ x. comes_before m x ≡ true) marks × AreInOrder marks
 
 -- marks in order, and one more: it stands behind those that come before it
 abbrev pub with_mark : Mark → List Mark → List Mark
@@ -95,7 +90,7 @@ HaveOwnNames (m ∷ marks) = (named m.name marks ≡ None) × HaveOwnNames marks
 -- names by their bytes, each once
 abbrev pub AreAscending : List (List ℕ) → Type 0
 AreAscending [] = Unit {0}
-AreAscending (name ∷ names) = Each (λ x. is_lt (name_order name x) ≡ true) names × AreAscending names
+AreAscending (name ∷ names) = AllByRecursion (λ x. is_lt (name_order name x) ≡ true) names × AreAscending names
 
 -- a mark put in for the one of its name, if there is one
 abbrev pub put_mark : Mark → List Mark → List Mark

@@ -1,11 +1,12 @@
 -- What contracts see of the marks that are kept.
 use Rattle.std.specs.Prelude.{◌≡◌, ℕ, ◌+◌, ◌<◌, ◌≤◌, ◌==◌, ◌&&◌, ◌++◌, nat_lt, List, [], ◌∷◌, length, map, slice_index_or, string_bytes, Bool, true, false, take, drop, if◌then◌else◌}
+use Rattle.std.specs.List.{AllByRecursion}
 use Rattle.std.specs.Ordering.{is_lt}
 use Rattle.rt_marks.specs.declared.gravity.Gravity.{Gravity}
 use Rattle.rt_marks.specs.declared.gravity.Gravity.TheVariants.{Left, Right}
 use Rattle.rt_marks.specs.declared.mark.Mark.{Mark as KeptMark}
 use Rattle.rt_marks.specs.declared.spot.Spot.{Spot}
-use Rattle.rt_marks.specs.Marks.{Mark, Each, AreAscending, AreInOrder, name_order}
+use Rattle.rt_marks.specs.Marks.{Mark, AreAscending, AreInOrder, name_order}
 
 abbrev pub seen : KeptMark → Mark
 seen m = record { name = string_bytes m.name; place = m.place; gravity = m.gravity }
@@ -22,7 +23,7 @@ names_of marks = map (λ m. m.name) marks
 
 -- a name that isn't there would stand at an index of names that ascend
 abbrev pub IsGap : List ℕ → List (List ℕ) → ℕ → Type 0
-IsGap name names i = Each (λ x. is_lt (name_order x name) ≡ true) (take i names) × Each (λ x. is_lt (name_order name x) ≡ true) (drop i names)
+IsGap name names i = AllByRecursion (λ x. is_lt (name_order x name) ≡ true) (take i names) × AllByRecursion (λ x. is_lt (name_order name x) ≡ true) (drop i names)
 
 -- SLOTS: marks stand in slots, and two lists have the slots' numbers, one by the names, one in the order of marks
 
@@ -48,7 +49,7 @@ IsEachOnce n slots = (slot : ℕ) → times slot slots ≡ (if nat_lt slot n the
 
 -- numbers of slots, whose marks are in order
 pub record IsOrder (marks : List Mark) (slots : List ℕ) : Type 0 where
-  pub there : Each (λ slot. slot < length marks) slots
+  pub there : AllByRecursion (λ slot. slot < length marks) slots
   pub ordered : AreInOrder (in_slots marks slots)
 
 -- each slot's number stands once in both lists, in the one by the bytes of the names, in the other in the order of marks
@@ -61,8 +62,8 @@ pub record IsIndexed (marks : List Mark) (by_name in_order : List ℕ) : Type 0 
 -- a list parts at an index: the marks before it pass a test, the others don't
 pub record PartsAt (test : Mark → Bool) (marks : List Mark) (i : ℕ) : Type 0 where
   pub within : i ≤ length marks
-  pub front : Each (λ m. test m ≡ true) (take i marks)
-  pub back : Each (λ m. test m ≡ false) (drop i marks)
+  pub front : AllByRecursion (λ m. test m ≡ true) (take i marks)
+  pub back : AllByRecursion (λ m. test m ≡ false) (drop i marks)
 
 -- the marks of the first so many slots pass a test, and those behind them don't
 abbrev pub SlotsPart : (Mark → Bool) → List Mark → ℕ → Type 0

@@ -1,8 +1,9 @@
 // Laws of the definitions, each the contract of a function that does nothing.
 ghost use Rattle.std.specs.Prelude.{◌≡◌, ℕ, ◌+◌, ◌-◌, ◌<◌, ◌≤◌, Bool, false, List, None, Some, option_map, if◌then◌else◌};
+ghost use Rattle.std.specs.List.{AllByRecursion};
 ghost use Rattle.std.specs.Str.{bytes_eq};
 ghost use Rattle.rt_marks.specs.declared.gravity.Gravity.{Gravity};
-ghost use Rattle.rt_marks.specs.Marks.{AreInOrder, Each, HaveOwnNames, Mark, gravity_or_right, in_order, is_within_or, mark_inserted, mark_left, mark_removed, marks_inserted, marks_left, marks_removed, place_left, place_removed, marks_set, marks_with_gravity, named, without};
+ghost use Rattle.rt_marks.specs.Marks.{AreInOrder, HaveOwnNames, Mark, gravity_or_right, in_order, is_within_or, mark_inserted, mark_left, mark_removed, marks_inserted, marks_left, marks_removed, place_left, place_removed, marks_set, marks_with_gravity, named, without};
 
 /// Marks put in order are in order, and are the same marks; marks that are in order stay as they are.
 pub fn order_of_marks()
@@ -33,18 +34,18 @@ pub fn look_ups()
 
 /// Marks within a text of some size are within it after each edit.
 pub fn marks_within_the_text()
-    ensures after_set { (name : List ℕ) (place size : ℕ) (marks : List Mark) → place ≤ size → Each (λ m. m.place ≤ size) marks
-        → Each (λ m. m.place ≤ size) (marks_set name place marks) }
-    ensures after_unset { (name : List ℕ) (size : ℕ) (marks : List Mark) → Each (λ m. m.place ≤ size) marks → Each
+    ensures after_set { (name : List ℕ) (place size : ℕ) (marks : List Mark) → place ≤ size → AllByRecursion (λ m. m.place ≤ size) marks
+        → AllByRecursion (λ m. m.place ≤ size) (marks_set name place marks) }
+    ensures after_unset { (name : List ℕ) (size : ℕ) (marks : List Mark) → AllByRecursion (λ m. m.place ≤ size) marks → AllByRecursion
         (λ m. m.place ≤ size) (without name marks) }
     ensures after_gravity { (name : List ℕ) (gravity : Gravity) (size : ℕ) (marks : List Mark)
-        → Each (λ m. m.place ≤ size) marks → Each (λ m. m.place ≤ size) (marks_with_gravity name gravity marks) }
-    ensures after_insertion { (place n size : ℕ) (marks : List Mark) → Each (λ m. m.place ≤ size) marks
-        → Each (λ m. m.place ≤ size + n) (marks_inserted place n marks) }
-    ensures after_removal { (place n size : ℕ) (marks : List Mark) → place + n ≤ size → Each (λ m. m.place ≤ size) marks
-        → Each (λ m. m.place ≤ size - n) (marks_removed place n marks) }
-    ensures after_removals { (removed : ℕ → Bool) (size : ℕ) (marks : List Mark) → Each (λ m. m.place ≤ size) marks
-        → Each (λ m. m.place ≤ place_left removed size) (marks_left removed marks) }
+        → AllByRecursion (λ m. m.place ≤ size) marks → AllByRecursion (λ m. m.place ≤ size) (marks_with_gravity name gravity marks) }
+    ensures after_insertion { (place n size : ℕ) (marks : List Mark) → AllByRecursion (λ m. m.place ≤ size) marks
+        → AllByRecursion (λ m. m.place ≤ size + n) (marks_inserted place n marks) }
+    ensures after_removal { (place n size : ℕ) (marks : List Mark) → place + n ≤ size → AllByRecursion (λ m. m.place ≤ size) marks
+        → AllByRecursion (λ m. m.place ≤ size - n) (marks_removed place n marks) }
+    ensures after_removals { (removed : ℕ → Bool) (size : ℕ) (marks : List Mark) → AllByRecursion (λ m. m.place ≤ size) marks
+        → AllByRecursion (λ m. m.place ≤ place_left removed size) (marks_left removed marks) }
 {}
 
 /// Several ranges are removed one after the other from the last to the first, each without moving those

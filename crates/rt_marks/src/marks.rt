@@ -1,6 +1,7 @@
 // The marks of a site.
 ghost use Rattle.std.specs.Prelude.{◌≡◌, ◌+◌, ◌≤◌, ◌⊎◌, ◌↔◌, [], List, ℕ, IsSome, OnOk, OnErr, IfOk, IfErr, IsOkUnless, Ok, Err, None, Some, is_some, option_map, option_copied, string_bytes, map, Contains, if◌then◌else◌, find as first_passing};
-ghost use Rattle.rt_marks.specs.Marks.{AreAscending, AreInOrder, Each, HaveOwnNames, IsName, comes_before, find_last, first_mark_at, last_mark_before, mark_after, mark_before, marks_inserted, marks_removed, marks_set, marks_with_gravity, named, without, without_all};
+ghost use Rattle.std.specs.List.{AllByRecursion};
+ghost use Rattle.rt_marks.specs.Marks.{AreAscending, AreInOrder, HaveOwnNames, IsName, comes_before, find_last, first_mark_at, last_mark_before, mark_after, mark_before, marks_inserted, marks_removed, marks_set, marks_with_gravity, named, without, without_all};
 
 use crate::mark::Mark;
 use crate::table::Table;
@@ -207,7 +208,7 @@ impl Marks {
     /// Moves the marks for `n` characters that were inserted at a place. Marks behind the place move
     /// on, and of those at the place the ones of right gravity (Tk text manual, "mark gravity").
     pub fn inserted(&mut self, place: usize, n: usize)
-        requires fits { Each (λ m. m.place + n ≤ usize.MAX) self.old }
+        requires fits { AllByRecursion (λ m. m.place + n ≤ usize.MAX) self.old }
         ensures { self.new ≡ marks_inserted place n self.old }
     {
         self.table.inserted(place, n);

@@ -1,8 +1,8 @@
 // The marks of a site in slots, and two lists of the slots' numbers.
 ghost use Rattle.std.specs.Prelude.{◌≡◌, ◌+◌, ◌<◌, ◌≤◌, ◌&&◌, [], IfOk, IfErr, None, OnOk, Some, filter, length, map, nat_lt, slice_index, slice_set, not, option_map, option_copied, slice_get, string_bytes, vec_len, vec_capacity, find as first_passing};
-ghost use Rattle.std.specs.List.{HoldsAt, insert, remove};
+ghost use Rattle.std.specs.List.{HoldsAt, insert, remove, AllByRecursion};
 ghost use Rattle.std.specs.List.Sorted.{IsSearchInRange};
-ghost use Rattle.rt_marks.specs.Marks.{Each, comes_before, find_last, first_mark_at, last_mark_before, mark_removed, marks_inserted, marks_removed, name_order, named, put_mark, with_mark, without};
+ghost use Rattle.rt_marks.specs.Marks.{comes_before, find_last, first_mark_at, last_mark_before, mark_removed, marks_inserted, marks_removed, name_order, named, put_mark, with_mark, without};
 ghost use Rattle.rt_marks.specs.Seen.{IsGap, IsOrder, PartsAt, in_slot, names_of, overwritten, same_gravity, seen, seen_all, slot_stands, spotted};
 
 mod unsetting;
@@ -356,7 +356,7 @@ impl Table {
     /// Moves the marks for characters that were inserted: their order stays.
     pub fn inserted(&mut self, place: usize, n: usize)
         requires table { IsTable self.old }
-        requires fits { Each (λ m. m.place + n ≤ usize.MAX) (marks_of self.old) }
+        requires fits { AllByRecursion (λ m. m.place + n ≤ usize.MAX) (marks_of self.old) }
         ensures table { IsTable self.new }
         ensures marks { marks_of self.new ≡ marks_inserted place n (marks_of self.old) }
     {
@@ -421,7 +421,7 @@ fn is_same(a: Gravity, b: Gravity) -> bool
 
 /// Moves each mark for characters that were inserted.
 fn insert_places(marks: &mut Vec<Mark>, place: usize, n: usize)
-    requires { Each (λ m. m.place + n ≤ usize.MAX) (seen_all marks.old.items) }
+    requires { AllByRecursion (λ m. m.place + n ≤ usize.MAX) (seen_all marks.old.items) }
     ensures { seen_all marks.new.items ≡ marks_inserted place n (seen_all marks.old.items) }
 {
     for mark in marks.iter_mut() {

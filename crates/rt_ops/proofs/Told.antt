@@ -49,15 +49,6 @@ over_all (Some all) (Some rest) bytes taken e eaten =
     let same : all ≡ bytes = cc e in
     omega (arith, ap length same, ap length eaten, length-append taken rest)
 
--- known bytes, no more than a file may have, of which no read fails
-pub unfailing_told : (old new : Stream) (bytes : List ℕ) (ops : List Operation) (offsets : List ℕ) (fault : Option (Fault × ℕ)) → old.bytes ≡ Some bytes → length bytes ≤ MOST_BYTES → new.failures ≡ old.failures → ReadsFile old new ops offsets fault
-    → Reads bytes ops offsets fault
-unfailing_told old new bytes ops offsets fault e short same (inl h) = known_as old.bytes new.bytes bytes h.0 ops offsets fault e h.1.consumed h.2
-unfailing_told old new bytes ops offsets fault e short same (inr h) = elim h.4.cause [
-  | inl failed ↦ absurd (omega (arith, failed.1, same))
-  | inr over ↦ absurd (omega (arith, over_all old.bytes new.bytes bytes (h.1 ++ over.0 ∷ []) e over.1, length-append h.1 (over.0 ∷ []), over.3, short))
-]
-
 pub reads_bounded : (old new : Stream) (ops : List Operation) (offsets : List ℕ) (fault : Option (Fault × ℕ)) → ReadsFile old new ops offsets fault → new.calls ≤ old.calls + MOST_READS
 reads_bounded old new ops offsets fault (inl h) = h.1.calls
 reads_bounded old new ops offsets fault (inr h) = omega (arith, h.4.calls, h.4.within)

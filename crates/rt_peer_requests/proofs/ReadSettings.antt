@@ -147,11 +147,6 @@ one_more words left word value option settings next n e r =
 
 -- THE END
 
--- an option that isn't there, or that can't have its value
-pub not_set : (words left : List Word) (word value : Word) (settings : WidgetSettings) → can_be_given word value ≡ false
-    → AreRead words (word ∷ value ∷ left) settings → None ≡ cond (can_all_be_set words) (Some (settings_in words)) None
-not_set words left word value settings e r = rw (r.sound, e) refl
-
 -- less than a pair is left, which sets nothing
 pub all_read : {T : Type 0} (f : T → Word) (words : List Word) (left : List T) (settings : WidgetSettings) → length left < 2 → AreRead words (map f left) settings
     → Some settings ≡ cond (can_all_be_set words) (Some (settings_in words)) None

@@ -141,6 +141,3 @@ path_gone paths view place h there several =
       each = omega (arith, h.each, length-remove paths place there, length-remove all place here, length-drop 1 (remove all place));
       differ = distinct_without paths place h.differ;
     }
-
-pub path_led : (paths : List Word) (view : Viewed) (place : ℕ) → HavePaths paths view → HavePaths paths (view_led place view)
-path_led paths view place h = record { each = h.each ∙ sym (led_number view place); differ = h.differ }

@@ -108,11 +108,6 @@ pub lifted : (state : Edited) (outcome : Outcome Viewed) (result : Result (List 
 lifted state outcome (Ok reply) new h = ap (on_view state) h
 lifted state outcome (Err fault) new h = (λ i. record state { view = h.0 i }, refused_by (λ answer. (answer.0, record state { view = answer.1 })) outcome fault fault h.1 refl)
 
-pub lifted_to : (state : Edited) (viewer new : Viewed) (recording : Recording) → edited viewer recording ≡ state → (outcome : Viewed → Outcome Viewed) (result : Result (List Word) Fault)
-    → Answers (outcome viewer) viewer result new → Answers (on_view state (outcome state.view)) state result (edited new recording)
-lifted_to state viewer new recording e outcome result h =
-    subst (λ (s : Edited). Answers (on_view s (outcome s.view)) s result (edited new recording)) e (lifted (edited viewer recording) (outcome viewer) result new h)
-
 pub told_to : (state : Edited) (viewer : Viewed) (recording : Recording) → edited viewer recording ≡ state → (outcome : Viewed → Outcome Viewed) (result : Result (List Word) Fault)
     → Answers (outcome viewer) viewer result viewer → Answers (on_view state (outcome state.view)) state result state
 told_to state viewer recording e outcome result h =

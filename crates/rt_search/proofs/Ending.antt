@@ -24,11 +24,6 @@ IsLeft Backwards stretch index place = (stretch.from ≤ place) × (place + inde
 
 -- BOOLEANS
 
--- if one follows from the other
-absorbs : (a b : Bool) → (a ≡ true → b ≡ true) → (a || b) ≡ b
-absorbs true b f = sym (f refl)
-absorbs false b f = refl
-
 same_by : (a b : Bool) → (a ≡ true → b ≡ true) → (b ≡ true → a ≡ true) → a ≡ b
 same_by true b f g = sym (f refl)
 same_by false true f g = g refl

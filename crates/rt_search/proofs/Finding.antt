@@ -47,23 +47,6 @@ found test (x ∷ xs) (suc i) d h e t = past test x (get_or xs i d) xs (take i x
 pub found_none : (test : ℕ → Bool) (xs : List ℕ) (i : ℕ) → length xs ≤ i → filter test (take i xs) ≡ [] → slice_get (filter test xs) 0 ≡ None
 found_none test xs i h e = let all : filter test xs ≡ [] = ap (filter test) (sym (take_all i xs h)) ∙ e in rw all refl
 
--- the first of all is that of the first stretch, or else of the second
-pub first_near : (f : Stretch → List ℕ) (near : Stretch) (far : Option Stretch) (place : ℕ) → slice_get (f near) 0 ≡ Some place
-    → slice_get (flat_map f (near ∷ option_to_list far)) 0 ≡ Some place
-first_near f near far place h = front (f near) (flat_map f (option_to_list far)) h
-  where
-    front : (xs ys : List ℕ) → slice_get xs 0 ≡ Some place → slice_get (xs ++ ys) 0 ≡ Some place
-    front [] ys h = let bad : ⊥ = cc in absurd bad
-    front (x ∷ xs) ys h = h
-
-pub first_far : (f : Stretch → List ℕ) (near far : Stretch) → slice_get (f near) 0 ≡ None → slice_get (flat_map f (near ∷ far ∷ [])) 0 ≡ slice_get (f far) 0
-first_far f near far h = back (f near) (f far) h
-  where
-    back : (xs ys : List ℕ) → slice_get xs 0 ≡ None → slice_get (xs ++ (ys ++ [])) 0 ≡ slice_get ys 0
-    back [] [] h = refl
-    back [] (y ∷ ys) h = refl
-    back (x ∷ xs) ys h = let bad : ⊥ = cc in absurd bad
-
 pub first_none : (f : Stretch → List ℕ) (near : Stretch) → slice_get (f near) 0 ≡ None → slice_get (flat_map f (near ∷ [])) 0 ≡ None
 first_none f near h = back (f near) h
   where

@@ -1,12 +1,13 @@
 -- Whole blocks between two stamps, taken away.
 use Rattle.std.proofs.Common.{◌≡◌, ℕ, zero, suc, ◌+◌, ◌-◌, ◌<◌, ◌≤◌, ◌⊎◌, inl, inr, nat_le, nat_lt, ◌&&◌, List, [], ◌∷◌, ◌++◌, length, get_or, take, drop, cond, refl, sym, ap, subst, ◌∙◌, arith, Option, Some, None, append_assoc, vec_len}
+use Rattle.std.specs.List.{AllByRecursion}
 use Rattle.std.proofs.lemmas.Bool.{cases_lt}
 use Rattle.std.proofs.lemmas.List.{take-append-drop}
 use Rattle.std.proofs.lemmas.List.Concat.{flat_map-append}
 use Rattle.rt_spans.specs.declared.entry.Entry.{Entry}
 use Rattle.rt_spans.specs.declared.block.Block.{Block}
 use Rattle.rt_spans.specs.Spans.{AreRisingFrom, Has, PaintsOver, Thinned, ThinsOut, key, value_at, value_from, held}
-use Rattle.rt_spans.specs.Blocks.{Each, PartsAt, PartsBelow, head_key, in_block, in_blocks}
+use Rattle.rt_spans.specs.Blocks.{PartsAt, PartsBelow, head_key, in_block, in_blocks}
 use Rattle.rt_spans.specs.Room.{debt}
 use Rattle.rt_spans.proofs.Ranks.{is_le, is_lt}
 use Rattle.rt_spans.proofs.Rising.{front, lower, skip}
@@ -157,7 +158,7 @@ thins_blocks {V} first end from to last bs h p q is less = by bs refl where
 
 -- HOW MUCH IS LEFT
 
-pub each_left : {X : Type 0} (P : X → Type 0) (xs : List X) (i j : ℕ) → Each P xs → Each P (take i xs ++ drop j xs)
+pub each_left : {X : Type 0} (P : X → Type 0) (xs : List X) (i j : ℕ) → AllByRecursion P xs → AllByRecursion P (take i xs ++ drop j xs)
 each_left P xs i j h = each_append P (take i xs) (drop j xs) (each_take P xs i h) (each_drop P xs j h)
 
 debt_cons : {V : Type 0} (x : Block V) (ys : List (Block V)) → 0 < length ys → debt (x ∷ ys) ≡ (vec_len x.rest - 64) + debt ys

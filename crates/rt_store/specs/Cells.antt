@@ -1,9 +1,10 @@
 -- The cells of a text, as a list.
-use Rattle.std.specs.Prelude.{◌≡◌, ℕ, ◌+◌, ◌-◌, ◌<◌, ◌≤◌, ◌==◌, ◌&&◌, nat_le, not, Bool, true, false, List, [], ◌∷◌, ◌++◌, length, take, drop, map, filter, take_while, position, Option, Some, IsSome, option_map, IsTrue, ◌⊎◌, slice_get, if◌then◌else◌, unwrap_or}
+use Rattle.std.specs.Prelude.{◌≡◌, ℕ, ◌+◌, ◌-◌, ◌<◌, ◌≤◌, not, Bool, true, false, List, [], ◌∷◌, ◌++◌, length, take, drop, map, filter, take_while, position, Option, Some, IsSome, option_map, IsTrue, ◌⊎◌, slice_get, if◌then◌else◌, unwrap_or}
 use Rattle.std.specs.List.{IsDistinct, find}
 use Rattle.rt_stamps.specs.declared.stamp.Span.{Span}
 use Rattle.rt_stamps.specs.declared.stamp.Stamp.{Stamp}
 use Rattle.rt_stamps.specs.declared.stamp.TheConstants.{FINAL, ROOT}
+pub use Rattle.rt_stamps.specs.Spans.{is_in_span}
 use Rattle.rt_stamps.specs.Stamps.{is_before, is_same}
 use Rattle.rt_store.specs.declared.cell.Cell.{Cell}
 
@@ -82,10 +83,6 @@ abbrev pub put_at : {X : Type 0} → ℕ → List X → List X → List X
 put_at position new list = take position list ++ (new ++ drop position list)
 
 -- SPANS
-
--- a stamp of a span's site, from its first count to its last
-abbrev pub is_in_span : Span → Stamp → Bool
-is_in_span span stamp = (stamp.site == span.site) && (nat_le span.first stamp.count && nat_le stamp.count span.last)
 
 -- a cell with a stamp of a span is gone, another is as it was
 abbrev pub gone_in : {T : Type 0} → Span → Cell T → Cell T

@@ -1,7 +1,8 @@
 -- The marks about a spot, where one more is put among marks in order.
 use Rattle.std.proofs.Common.{◌≡◌, List, [], ◌∷◌, find, true, false, refl, sym, ap, ◌∙◌, Bool, cond, subst, Option, Some, None, is_some}
+use Rattle.std.specs.List.{AllByRecursion}
 use Rattle.std.specs.Option.{option_or}
-use Rattle.rt_marks.specs.Marks.{Mark, Each, comes_before, AreInOrder, with_mark, find_last}
+use Rattle.rt_marks.specs.Marks.{Mark, comes_before, AreInOrder, with_mark, find_last}
 use Rattle.rt_marks.proofs.Order.{before_trans, before_irrefl, before_asym, before_neither}
 use Rattle.rt_marks.proofs.InOrder.{split, with_passing, with_here, between}
 use Rattle.rt_marks.proofs.Names.{clash}
@@ -44,7 +45,7 @@ none_after h m (x ∷ marks) t e =
     (λ g. ap (after h) (with_here m x marks g) ∙ after_here h m (x ∷ marks) t)
 
 -- what is found among marks that a mark comes before
-behind : (h x : Mark) (marks : List Mark) (y : Mark) → Each (λ z. comes_before x z ≡ true) marks → after h marks ≡ Some y → comes_before x y ≡ true
+behind : (h x : Mark) (marks : List Mark) (y : Mark) → AllByRecursion (λ z. comes_before x z ≡ true) marks → after h marks ≡ Some y → comes_before x y ≡ true
 behind h x [] y o e = absurd (clash false (ap is_some e) refl)
 behind h x (z ∷ marks) y o e =
     split (comes_before h z)
@@ -130,7 +131,7 @@ nearer_before h m (x ∷ marks) y e l =
         ap last (more (k ∙ same) l)
 
 -- what is found among marks in order doesn't come before the first of them
-from_first : (h x : Mark) (marks : List Mark) (y : Mark) → Each (λ z. comes_before x z ≡ true) marks → before h (x ∷ marks) ≡ Some y → comes_before y x ≡ false
+from_first : (h x : Mark) (marks : List Mark) (y : Mark) → AllByRecursion (λ z. comes_before x z ≡ true) marks → before h (x ∷ marks) ≡ Some y → comes_before y x ≡ false
 from_first h x marks y o e = by (before h marks) refl where
   last : Option Mark → Option Mark
   last p = option_or p (one (comes_before x h) x)
@@ -139,7 +140,7 @@ from_first h x marks y o e = by (before h marks) refl where
   of_one true k = same_mark x y k
   of_one false k = absurd (clash false (ap is_some k) refl)
 
-  among : (others : List Mark) (z : Mark) → Each (λ w. comes_before x w ≡ true) others → before h others ≡ Some z → comes_before x z ≡ true
+  among : (others : List Mark) (z : Mark) → AllByRecursion (λ w. comes_before x w ≡ true) others → before h others ≡ Some z → comes_before x z ≡ true
   among [] z p k = absurd (clash false (ap is_some k) refl)
   among (w ∷ others) z p k = either (before h others) refl (among others z p.1) where
     either : (q : Option Mark) → before h others ≡ q → (before h others ≡ Some z → comes_before x z ≡ true) → comes_before x z ≡ true

@@ -1,12 +1,12 @@
 -- Names by their bytes.
 use Rattle.std.proofs.Common.{◌≡◌, ℕ, zero, suc, ◌+◌, ◌<◌, ◌||◌, List, [], ◌∷◌, String, Global, map, length, get_or, true, false, refl, sym, ap, ◌∙◌, Bool, cond, subst, arith, Option, Some, is_some, IsSome, Contains, string_bytes}
-use Rattle.std.specs.List.{insert, list_any, prefix_len}
+use Rattle.std.specs.List.{insert, list_any, prefix_len, AllByRecursion}
 use Rattle.std.specs.Ordering.{is_lt}
 use Rattle.std.specs.Str.{bytes_eq}
 use Rattle.std.specs.FinMap.{slice_cmp-IsAntisymmetric, nat_cmp-IsAntisymmetric}
 use Rattle.std.proofs.lemmas.Cmp.{nat_list_cmp_total}
 use Rattle.std.proofs.lemmas.Slice.Eq.{bytes_eq-Decides}
-use Rattle.rt_marks.specs.Marks.{Mark, Each, name_order, named, HaveOwnNames, AreAscending}
+use Rattle.rt_marks.specs.Marks.{Mark, name_order, named, HaveOwnNames, AreAscending}
 use Rattle.rt_marks.proofs.InOrder.{split}
 use Rattle.rt_marks.proofs.Names.{clash, same_name, name_itself, differ_back, names_differ}
 use Rattle.rt_marks.proofs.Order.{lt_trans, lt_asym, lt_neither}
@@ -42,15 +42,15 @@ has_with n (x ∷ names) q =
     (λ t. ap (λ b. has q (cond b (x ∷ inserted_by_bytes n names) (n ∷ x ∷ names))) t ∙ ap (λ v. bytes_eq x q || v) more ∙ either_order (bytes_eq x q) (bytes_eq n q) (has q names))
     (λ f. ap (λ b. has q (cond b (x ∷ inserted_by_bytes n names) (n ∷ x ∷ names))) f)
 
-each_with : (P : Word → Type 0) (n : Word) (names : List Word) → P n → Each P names → Each P (inserted_by_bytes n names)
+each_with : (P : Word → Type 0) (n : Word) (names : List Word) → P n → AllByRecursion P names → AllByRecursion P (inserted_by_bytes n names)
 each_with P n [] h k = (h, tt)
 each_with P n (x ∷ names) h k =
     let more = each_with P n names h k.1 in
     split (is_lt (name_order x n))
-    (λ t. subst (λ b. Each P (cond b (x ∷ inserted_by_bytes n names) (n ∷ x ∷ names))) (sym t) (k.0, more))
-    (λ f. subst (λ b. Each P (cond b (x ∷ inserted_by_bytes n names) (n ∷ x ∷ names))) (sym f) (h, k))
+    (λ t. subst (λ b. AllByRecursion P (cond b (x ∷ inserted_by_bytes n names) (n ∷ x ∷ names))) (sym t) (k.0, more))
+    (λ f. subst (λ b. AllByRecursion P (cond b (x ∷ inserted_by_bytes n names) (n ∷ x ∷ names))) (sym f) (h, k))
 
-all_below : (a b : Word) (names : List Word) → Below a b → Each (Below b) names → Each (Below a) names
+all_below : (a b : Word) (names : List Word) → Below a b → AllByRecursion (Below b) names → AllByRecursion (Below a) names
 all_below a b [] h k = tt
 all_below a b (x ∷ names) h k = (lt_trans nat_list_cmp_total a b x h k.0, all_below a b names h k.1)
 
@@ -100,11 +100,11 @@ sorted_ascend (m ∷ marks) h =
 
 -- NAMES THAT ASCEND ARE THEIR SET
 
-below_none : (x : Word) (names : List Word) → Each (Below x) names → has x names ≡ false
+below_none : (x : Word) (names : List Word) → AllByRecursion (Below x) names → has x names ≡ false
 below_none x [] h = refl
 below_none x (y ∷ names) h = λ i. names_differ x y h.0 i || below_none x names h.1 i
 
-below_one : (x q : Word) (names : List Word) → Each (Below x) names → has q names ≡ true → Below x q
+below_one : (x q : Word) (names : List Word) → AllByRecursion (Below x) names → has q names ≡ true → Below x q
 below_one x q [] h t = absurd (clash false t refl)
 below_one x q (y ∷ names) h t =
     split (bytes_eq y q)

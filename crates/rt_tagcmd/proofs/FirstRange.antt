@@ -71,15 +71,6 @@ tells test cs place o b e h =
 
 -- PAST THE RANGE THAT REACHES OVER A PLACE
 
-pub clear_here : {A : Type 0} (test : A → Bool) (cs : List A) (place : ℕ) → ((k : ℕ) → k + 1 ≡ place → Passes test cs k → ⊥) → IsClearFrom test cs place place
-clear_here test cs place edge = record { from = omega arith; begin_later = λ range h m. m; end_before = end_before }
-  where
-    end_before : (range : Range) → IsMaximal test cs range → range.from < place → range.to ≤ place
-    end_before range h m = elim (cases_lt place range.to) [
-      | inl n ↦ absurd (edge (place - 1) (omega arith) (h.passes (place - 1) (omega arith) (omega arith)))
-      | inr n ↦ n
-    ]
-
 pub clear_past : {A : Type 0} (test : A → Bool) (cs : List A) (place clear : ℕ) → 0 < place → Passes test cs (place - 1) → PassUpTo test cs place clear → IsClearFrom test cs place clear
 clear_past test cs place clear some p h = record { from = h.from; begin_later = begin_later; end_before = end_before }
   where

@@ -1,5 +1,6 @@
 -- What `mark next` and `mark previous` find from where they look.
 use Rattle.std.proofs.Common.{◌≡◌, ℕ, ◌<◌, ◌&&◌, nat_le, nat_lt, List, [], ◌∷◌, length, find, true, false, refl, sym, ap, ◌∙◌, Bool, cond, subst, arith, Option, Some, None, is_some, Result, Ok, Err, inl, inr}
+use Rattle.std.specs.List.{AllByRecursion}
 use Rattle.std.specs.Prelude.{codes, option_and_then}
 use Rattle.std.specs.Option.{option_or}
 use Rattle.std.specs.Ordering.{nat_cmp, ordering_then, is_lt}
@@ -13,7 +14,7 @@ use Rattle.std.proofs.lemmas.Slice.Eq.{bytes_eq-Decides}
 use Rattle.rt_index.specs.Index.{index_of}
 use Rattle.rt_marks.specs.declared.gravity.Gravity.{Gravity}
 use Rattle.rt_marks.specs.declared.gravity.Gravity.TheVariants.{Left, Right}
-use Rattle.rt_marks.specs.Marks.{Mark, Each, IsName, gravity_order, name_order, comes_before, with_mark, is_named, named, find_last, mark_after, mark_before, first_mark_at, last_mark_before}
+use Rattle.rt_marks.specs.Marks.{Mark, IsName, gravity_order, name_order, comes_before, with_mark, is_named, named, find_last, mark_after, mark_before, first_mark_at, last_mark_before}
 use Rattle.rt_marks.proofs.InOrder.{split, each_with}
 use Rattle.rt_marks.proofs.Names.{clash, same_name, named_with, none_cons}
 use Rattle.rt_stamps.specs.declared.fault.Fault.{Fault}
@@ -84,7 +85,7 @@ strictly_before x y o h =
 edge_last : (place : ℕ) (m : Mark) → comes_before m (edge place) ≡ nat_lt m.place place
 edge_last place m = strictly_before m.place place (ordering_then (gravity_order m.gravity Left) (name_order m.name [])) (last_there m.gravity (name_order m.name []) (not_least m.name))
 
-find_same : (p q : Mark → Bool) (marks : List Mark) → Each (λ m. p m ≡ q m) marks → find p marks ≡ find q marks
+find_same : (p q : Mark → Bool) (marks : List Mark) → AllByRecursion (λ m. p m ≡ q m) marks → find p marks ≡ find q marks
 find_same p q [] h = refl
 find_same p q (m ∷ marks) h = λ i. cond (h.0 i) (Some m) (find_same p q marks h.1 i)
 
@@ -92,11 +93,11 @@ last_same : (p q : Mark → Bool) (marks : List Mark) → ((m : Mark) → p m �
 last_same p q [] h = refl
 last_same p q (m ∷ marks) h = λ i. option_or (last_same p q marks h i) (cond (h m i) (Some m) None)
 
-each_edge : (place : ℕ) (marks : List Mark) → Each (λ m. IsName m.name) marks → Each (λ m. nat_le place m.place ≡ comes_before (edge place) m) marks
+each_edge : (place : ℕ) (marks : List Mark) → AllByRecursion (λ m. IsName m.name) marks → AllByRecursion (λ m. nat_le place m.place ≡ comes_before (edge place) m) marks
 each_edge place [] h = tt
 each_edge place (m ∷ marks) h = (sym (edge_first place m h.0), each_edge place marks h.1)
 
-first_from_edge : (place : ℕ) (marks : List Mark) → Each (λ m. IsName m.name) marks → first_mark_at place marks ≡ find (comes_before (edge place)) marks
+first_from_edge : (place : ℕ) (marks : List Mark) → AllByRecursion (λ m. IsName m.name) marks → first_mark_at place marks ≡ find (comes_before (edge place)) marks
 first_from_edge place marks h = find_same (λ m. nat_le place m.place) (comes_before (edge place)) marks (each_edge place marks h)
 
 last_from_edge : (place : ℕ) (marks : List Mark) → last_mark_before place marks ≡ find_last (λ m. comes_before m (edge place)) marks
@@ -120,7 +121,7 @@ first_test : (a b : Bool) → (a && b) ≡ true → a ≡ true
 first_test true b h = refl
 first_test false b h = h
 
-pub next_found : (view : Viewed) (word : Word) → ((name : List ℕ) → named name (marks_of view) ≡ mark_of view name) → Each (λ m. IsName m.name) (marks_of view) → mark_next view word ≡ found_from (λ m. name_of (find (comes_before m) (marks_of view))) (looked_from view word)
+pub next_found : (view : Viewed) (word : Word) → ((name : List ℕ) → named name (marks_of view) ≡ mark_of view name) → AllByRecursion (λ m. IsName m.name) (marks_of view) → mark_next view word ≡ found_from (λ m. name_of (find (comes_before m) (marks_of view))) (looked_from view word)
 next_found view word among names =
     let marks = marks_of view in
     either_way (names_mark view word) (mark_of view word) (index_of (widget_of view) word) (name_of (mark_after word marks)) (λ p. name_of (first_mark_at p marks)) (λ m. name_of (find (comes_before m) marks))
@@ -128,7 +129,7 @@ next_found view word among names =
     (λ x e. ap (λ o. name_of (option_and_then (λ m. find (comes_before m) marks) o)) (among word ∙ e))
     (λ p. ap name_of (first_from_edge p marks names))
 
-pub previous_found : (view : Viewed) (word : Word) → ((name : List ℕ) → named name (marks_of view) ≡ mark_of view name) → Each (λ m. IsName m.name) (marks_of view) → mark_previous view word ≡ found_from (λ m. name_of (find_last (λ x. comes_before x m) (marks_of view))) (looked_from view word)
+pub previous_found : (view : Viewed) (word : Word) → ((name : List ℕ) → named name (marks_of view) ≡ mark_of view name) → AllByRecursion (λ m. IsName m.name) (marks_of view) → mark_previous view word ≡ found_from (λ m. name_of (find_last (λ x. comes_before x m) (marks_of view))) (looked_from view word)
 previous_found view word among names =
     let marks = marks_of view in
     either_way (names_mark view word) (mark_of view word) (index_of (widget_of view) word) (name_of (mark_before word marks)) (λ p. name_of (last_mark_before p marks)) (λ m. name_of (find_last (λ x. comes_before x m) marks))

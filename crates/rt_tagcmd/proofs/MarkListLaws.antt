@@ -1,11 +1,12 @@
 -- The marks of a stretch, one after the other.
 use Rattle.std.proofs.Common.{◌≡◌, ℕ, ◌<◌, ◌≤◌, ◌&&◌, nat_le, nat_lt, List, [], ◌∷◌, find, true, false, refl, sym, ap, ◌∙◌, Bool, cond, subst, arith, Option, Some, None}
+use Rattle.std.specs.List.{AllByRecursion}
 use Rattle.std.specs.Prelude.{codes, filter}
 use Rattle.std.specs.Ordering.{nat_cmp, ordering_then, is_lt}
 use Rattle.std.specs.declared.cmp.Ordering.{Ordering}
 use Rattle.std.proofs.lemmas.Bool.Decides.{nat_tests}
 use Rattle.std.proofs.lemmas.Cmp.{ranked, by_ranked}
-use Rattle.rt_marks.specs.Marks.{Mark, Each, IsName, AreInOrder, comes_before, gravity_order, name_order, named, with_mark}
+use Rattle.rt_marks.specs.Marks.{Mark, IsName, AreInOrder, comes_before, gravity_order, name_order, named, with_mark}
 use Rattle.rt_marks.proofs.InOrder.{split}
 use Rattle.rt_marks.proofs.Names.{clash, named_with, none_cons, ordered_with}
 use Rattle.rt_marks.proofs.Order.{before_asym, before_irrefl, before_trans}
@@ -25,11 +26,11 @@ taken p x marks t = ap (λ b. cond b (x ∷ filter p marks) (filter p marks)) t
 passed : (p : Mark → Bool) (x : Mark) (marks : List Mark) → p x ≡ false → filter p (x ∷ marks) ≡ filter p marks
 passed p x marks f = ap (λ b. cond b (x ∷ filter p marks) (filter p marks)) f
 
-all_after : (h : Mark) (marks : List Mark) → Each (λ y. comes_before h y ≡ true) marks → after h marks ≡ marks
+all_after : (h : Mark) (marks : List Mark) → AllByRecursion (λ y. comes_before h y ≡ true) marks → after h marks ≡ marks
 all_after h [] e = refl
 all_after h (y ∷ marks) e = taken (comes_before h) y marks e.0 ∙ ap (λ v. y ∷ v) (all_after h marks e.1)
 
-further : (h x : Mark) (marks : List Mark) → comes_before h x ≡ true → Each (λ y. comes_before x y ≡ true) marks → Each (λ y. comes_before h y ≡ true) marks
+further : (h x : Mark) (marks : List Mark) → comes_before h x ≡ true → AllByRecursion (λ y. comes_before x y ≡ true) marks → AllByRecursion (λ y. comes_before h y ≡ true) marks
 further h x [] t e = tt
 further h x (y ∷ marks) t e = (before_trans h x y t e.0, further h x marks t e.1)
 
@@ -40,7 +41,7 @@ the_mark x (Some m) = m
 same_mark : (x m : Mark) → Some x ≡ Some m → x ≡ m
 same_mark x m e = ap (the_mark x) e
 
-each_found : (P : Mark → Type 0) (p : Mark → Bool) (marks : List Mark) (m : Mark) → Each P marks → find p marks ≡ Some m → P m
+each_found : (P : Mark → Type 0) (p : Mark → Bool) (marks : List Mark) (m : Mark) → AllByRecursion P marks → find p marks ≡ Some m → P m
 each_found P p [] m h e = let bad : ⊥ = cc in absurd bad
 each_found P p (x ∷ marks) m h e =
     split (p x)
@@ -114,7 +115,7 @@ pub left_none : (b : ℕ) (h : Mark) (marks : List Mark) → find (comes_before 
 left_none b h marks e = ap (filter (λ x. nat_lt x.place b)) (none_after h marks e)
 
 -- from an edge
-pub left_first : (from b : ℕ) (marks : List Mark) → Each (λ m. IsName m.name) marks → marks_from from b marks ≡ marks_ahead b (edge from) marks
+pub left_first : (from b : ℕ) (marks : List Mark) → AllByRecursion (λ m. IsName m.name) marks → marks_from from b marks ≡ marks_ahead b (edge from) marks
 left_first from b [] h = refl
 left_first from b (x ∷ marks) h =
     let more = left_first from b marks h.1 in

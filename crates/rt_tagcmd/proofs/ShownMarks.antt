@@ -1,10 +1,11 @@
 -- The marks of a widget, at their places among the characters that it shows.
 use Rattle.std.proofs.Common.{◌≡◌, ℕ, ◌≤◌, ◌<◌, ◌&&◌, List, [], ◌∷◌, true, false, refl, sym, ap, ◌∙◌, Bool, cond, subst, arith, Option, Some, None, map, option_map}
+use Rattle.std.specs.List.{AllByRecursion}
 use Rattle.std.specs.Prelude.{◌==◌, codes}
 use Rattle.std.proofs.lemmas.Bool.Decides.{nat_tests}
 use Rattle.std.specs.Str.{bytes_eq}
 use Rattle.std.proofs.lemmas.Slice.Eq.{bytes_eq-Decides}
-use Rattle.rt_marks.specs.Marks.{Mark, Each, HaveOwnNames, IsName, AreInOrder, in_order, is_named, named, with_mark}
+use Rattle.rt_marks.specs.Marks.{Mark, HaveOwnNames, IsName, AreInOrder, in_order, is_named, named, with_mark}
 use Rattle.rt_marks.proofs.InOrder.{each_in_order, each_with, in_order_same, split}
 use Rattle.rt_marks.proofs.Moving.{named_moved, own_moved}
 use Rattle.rt_marks.proofs.Names.{clash, named_in_order, named_with, none_cons, ordered_in_order, ordered_with, same_name}
@@ -19,15 +20,15 @@ use Rattle.rt_text.specs.declared.own_mark.OwnMark.TheVariants.{Insert, Current}
 abbrev IsOther : Mark → Type 0
 IsOther m = IsName m.name × (is_own m.name ≡ false)
 
-others_of : (n : ℕ) (marks : List Mark) → AreSiteMarks n marks → Each IsOther marks
+others_of : (n : ℕ) (marks : List Mark) → AreSiteMarks n marks → AllByRecursion IsOther marks
 others_of n [] h = tt
 others_of n (m ∷ marks) h = ((h.0.1, h.0.2), others_of n marks h.1)
 
-others_seen : (stretch : Stretch) (marks : List Mark) → Each IsOther marks → Each IsOther (map (mark_seen stretch) marks)
+others_seen : (stretch : Stretch) (marks : List Mark) → AllByRecursion IsOther marks → AllByRecursion IsOther (map (mark_seen stretch) marks)
 others_seen stretch [] h = tt
 others_seen stretch (m ∷ marks) h = (h.0, others_seen stretch marks h.1)
 
-none_own : (q : List ℕ) (marks : List Mark) → Each IsOther marks → is_own q ≡ true → named q marks ≡ None
+none_own : (q : List ℕ) (marks : List Mark) → AllByRecursion IsOther marks → is_own q ≡ true → named q marks ≡ None
 none_own q [] h t = refl
 none_own q (m ∷ marks) h t =
     let more = none_own q marks h.1 t in
@@ -69,7 +70,7 @@ both_ordered own marks a b na nb o =
     let first = ordered_with own.current marks none o in
     (first, ordered_with own.insert (with_mark own.current marks) both first)
 
-names_of_others : (marks : List Mark) → Each IsOther marks → Each (λ m. IsName m.name) marks
+names_of_others : (marks : List Mark) → AllByRecursion IsOther marks → AllByRecursion (λ m. IsName m.name) marks
 names_of_others [] h = tt
 names_of_others (m ∷ marks) h = (h.0.0, names_of_others marks h.1)
 
@@ -77,9 +78,6 @@ own_named : (name : List ℕ) (q : List ℕ) → name ≡ q → IsName q → IsN
 own_named name q e h = subst IsName (sym e) h
 
 -- WHAT IS SHOWN
-
-pub to_shown : Stretch → Mark → ℕ
-to_shown stretch m = seen_place stretch m.place
 
 pub own_seen_names : (stretch : Stretch) (marks : List Mark) → HaveOwnNames marks → HaveOwnNames (map (mark_seen stretch) marks)
 own_seen_names stretch marks h = own_moved (λ m. seen_place stretch m.place) marks h
@@ -91,7 +89,7 @@ named_seen stretch q marks h =
 -- what is so of the marks of a widget
 pub record AreShown (view : Viewed) : Type 0 where
   pub order : AreInOrder (marks_of view)
-  pub names : Each (λ m. IsName m.name) (marks_of view)
+  pub names : AllByRecursion (λ m. IsName m.name) (marks_of view)
   pub among : (name : List ℕ) → named name (marks_of view) ≡ mark_of view name
   pub current : AreInOrder (with_mark (own_shown view).current (marks_shown view))
   pub site : AreInOrder (marks_shown view)
@@ -101,7 +99,7 @@ pub marks_are_shown : (view : Viewed) (n : ℕ) → AreSiteMarks n view.doc.mark
 marks_are_shown view n site own a b =
     let stretch = stretch_by view in
     let seen = map (mark_seen stretch) view.doc.marks in
-    let others : Each IsOther (marks_shown view) = each_in_order IsOther seen (others_seen stretch view.doc.marks (others_of n view.doc.marks site)) in
+    let others : AllByRecursion IsOther (marks_shown view) = each_in_order IsOther seen (others_seen stretch view.doc.marks (others_of n view.doc.marks site)) in
     let no_insert = none_own (codes "insert") (marks_shown view) others refl in
     let no_current = none_own (codes "current") (marks_shown view) others refl in
     let ordered : AreInOrder (marks_shown view) = ordered_in_order seen (own_seen_names stretch view.doc.marks own) in
@@ -133,7 +131,7 @@ pub all_shown : (n : ℕ) (stretch : Stretch) (marks : List Mark) → stretch.be
 all_shown n stretch marks b e h o = ap in_order (unmoved n stretch marks b e h) ∙ in_order_same marks o
 
 -- and no place is so great that no number is greater
-pub few_places : (n most : ℕ) (marks : List Mark) → n < most → AreSiteMarks n marks → Each (λ m. m.place < most) marks
+pub few_places : (n most : ℕ) (marks : List Mark) → n < most → AreSiteMarks n marks → AllByRecursion (λ m. m.place < most) marks
 few_places n most [] l h = tt
 few_places n most (m ∷ marks) l h = (omega (arith, l, h.0.0), few_places n most marks l h.1)
 

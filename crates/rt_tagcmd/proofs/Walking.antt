@@ -1,12 +1,13 @@
 -- A walk through marks in order, from the last to the first of them.
 use Rattle.std.proofs.Common.{◌≡◌, ℕ, ◌+◌, ◌≤◌, ◌<◌, List, [], ◌∷◌, length, true, false, refl, sym, ap, ◌∙◌, Bool, cond, subst, arith, Option, Some, None, map, find, option_map}
+use Rattle.std.specs.List.{AllByRecursion}
 use Rattle.std.specs.Prelude.{filter, not}
 use Rattle.std.specs.Option.{option_or}
 use Rattle.std.specs.Ordering.{nat_cmp, ordering_then, is_lt}
 use Rattle.std.proofs.lemmas.Cmp.{ranked, by_ranked}
 use Rattle.rt_marks.specs.declared.gravity.Gravity.{Gravity}
 use Rattle.rt_marks.specs.declared.gravity.Gravity.TheVariants.{Right}
-use Rattle.rt_marks.specs.Marks.{Mark, Each, HaveOwnNames, AreInOrder, comes_before, find_last, gravity_order, in_order, name_order, named, with_mark}
+use Rattle.rt_marks.specs.Marks.{Mark, HaveOwnNames, AreInOrder, comes_before, find_last, gravity_order, in_order, name_order, named, with_mark}
 use Rattle.rt_marks.proofs.InOrder.{split}
 use Rattle.rt_marks.proofs.Names.{clash, none_cons, none_head, none_tail, ordered_in_order}
 use Rattle.rt_marks.proofs.Order.{before_asym, before_irrefl, before_trans}
@@ -52,7 +53,7 @@ all_passed last (x ∷ marks) e =
 
 -- ONE STEP
 
-all_behind : (x : Mark) (marks : List Mark) → Each (λ y. comes_before x y ≡ true) marks → passed x marks ≡ marks
+all_behind : (x : Mark) (marks : List Mark) → AllByRecursion (λ y. comes_before x y ≡ true) marks → passed x marks ≡ marks
 all_behind x [] o = refl
 all_behind x (y ∷ marks) o = taken_in x y marks (before_asym x y o.0) ∙ ap (λ v. y ∷ v) (all_behind x marks o.1)
 
@@ -63,7 +64,7 @@ of_one : (x m : Mark) (b : Bool) → cond b (Some x) None ≡ Some m → (b ≡ 
 of_one x m true e = (refl, same_one x m e)
 of_one x m false e = let bad : ⊥ = cc in absurd bad
 
-each_last : (P : Mark → Type 0) (p : Mark → Bool) (marks : List Mark) (m : Mark) → Each P marks → find_last p marks ≡ Some m → P m × (p m ≡ true)
+each_last : (P : Mark → Type 0) (p : Mark → Bool) (marks : List Mark) (m : Mark) → AllByRecursion P marks → find_last p marks ≡ Some m → P m × (p m ≡ true)
 each_last P p [] m h e = let bad : ⊥ = cc in absurd bad
 each_last P p (x ∷ marks) m h e = by (find_last p marks) refl (each_last P p marks m h.1) where
   by : (r : Option Mark) → find_last p marks ≡ r → (find_last p marks ≡ Some m → P m × (p m ≡ true)) → P m × (p m ≡ true)
@@ -104,7 +105,7 @@ fewer last (x ∷ marks) = by (comes_before x last) (fewer last marks) where
 abbrev pub behind_all : ℕ → Mark
 behind_all most = record { name = []; place = most; gravity = Right }
 
-pub none_passed : (most : ℕ) (marks : List Mark) → Each (λ m. m.place < most) marks → passed (behind_all most) marks ≡ []
+pub none_passed : (most : ℕ) (marks : List Mark) → AllByRecursion (λ m. m.place < most) marks → passed (behind_all most) marks ≡ []
 none_passed most [] h = refl
 none_passed most (m ∷ marks) h = left_out (behind_all most) m marks (earlier m h.0) ∙ none_passed most marks h.1 where
   earlier : (x : Mark) → x.place < most → comes_before x (behind_all most) ≡ true

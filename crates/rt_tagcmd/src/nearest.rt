@@ -1,6 +1,7 @@
 // The marks of a widget about a spot: those of its site as the widget sees them, and its own two.
 ghost use Rattle.std.specs.Prelude.{◌≡◌, ◌≤◌, ◌<◌, ◌==◌, ◌&&◌, [], List, find, length, map, option_map};
-ghost use Rattle.rt_marks.specs.Marks.{AreInOrder, Each, Mark, comes_before, find_last, in_order, with_mark};
+ghost use Rattle.std.specs.List.{AllByRecursion};
+ghost use Rattle.rt_marks.specs.Marks.{AreInOrder, Mark, comes_before, find_last, in_order, with_mark};
 ghost use Rattle.rt_marks.specs.Seen.{spotted};
 ghost use Rattle.rt_store.specs.Cells.{text_of};
 ghost use Rattle.rt_text.specs.Widgets.{mark_seen, marks_of, marks_shown, stretch_by};
@@ -53,7 +54,7 @@ fn behind_all() -> Spot<'static>
 /// The first mark after a spot, of marks at their places among the characters of a stretch: each of them is looked at.
 fn first_seen<'a>(marks: &'a Marks, stretch: Stretch, here: &Spot<'_>) -> Option<Spot<'a>>
     requires order { stretch.begin ≤ stretch.end }
-    requires within { Each (λ m. m.place < usize.MAX) marks.now }
+    requires within { AllByRecursion (λ m. m.place < usize.MAX) marks.now }
     ensures { option_map spotted result ≡ find (comes_before (spotted here.now)) (in_order (map (mark_seen stretch) marks.now)) }
 {
     marks.order();
@@ -69,7 +70,7 @@ fn first_seen<'a>(marks: &'a Marks, stretch: Stretch, here: &Spot<'_>) -> Option
 /// The last mark before a spot, of marks at their places among the characters of a stretch: each of them is looked at.
 fn last_seen<'a>(marks: &'a Marks, stretch: Stretch, here: &Spot<'_>) -> Option<Spot<'a>>
     requires order { stretch.begin ≤ stretch.end }
-    requires within { Each (λ m. m.place < usize.MAX) marks.now }
+    requires within { AllByRecursion (λ m. m.place < usize.MAX) marks.now }
     ensures { option_map spotted result ≡ find_last (λ m. comes_before m (spotted here.now)) (in_order (map (mark_seen stretch) marks.now)) }
 {
     marks.order();

@@ -1,6 +1,7 @@
 // Marks at their places among the characters that a widget shows.
 ghost use Rattle.std.specs.Prelude.{◌≡◌, ◌≤◌, List, ℕ, option_map};
-ghost use Rattle.rt_marks.specs.Marks.{AreInOrder, Each, IsName, named, with_mark};
+ghost use Rattle.std.specs.List.{AllByRecursion};
+ghost use Rattle.rt_marks.specs.Marks.{AreInOrder, IsName, named, with_mark};
 ghost use Rattle.rt_marks.specs.Seen.{spotted};
 ghost use Rattle.rt_text.specs.Widgets.{mark_of, mark_seen, marks_of, marks_shown, own_mark, own_shown, stretch_by};
 
@@ -12,7 +13,7 @@ use rt_views::Stretch;
 /// The marks of a widget are in order, each has a name, and a name names what it names among them.
 pub(crate) fn order<S: TextStore>(view: &View<S>)
     ensures order { AreInOrder (marks_of view.now) }
-    ensures names { Each (λ m. IsName m.name) (marks_of view.now) }
+    ensures names { AllByRecursion (λ m. IsName m.name) (marks_of view.now) }
     ensures named { (name : List ℕ) → named name (marks_of view.now) ≡ mark_of view.now name }
     ensures site { AreInOrder (with_mark (own_shown view.now).current (marks_shown view.now)) × AreInOrder (marks_shown view.now) }
     ensures shown { (name : List ℕ) → named name (marks_shown view.now)

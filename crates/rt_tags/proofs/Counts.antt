@@ -6,7 +6,7 @@ use Rattle.std.proofs.lemmas.Bool.{lt-ltb, le-ltb, ltb-true, ltb-false}
 use Rattle.std.proofs.lemmas.Bool.Decides.{Decides-eqb}
 use Rattle.std.proofs.lemmas.List.Sums.{sum_by-cons, sum_by-drop_more, sum_by-insert, sum_by-remove, sum_by-set, sum_by-take-drop}
 use Rattle.rt_tags.specs.declared.toggles.TagCount.{TagCount}
-use Rattle.rt_tags.specs.Kept.{is_tag_before}
+use Rattle.rt_tags.specs.ManyCounts.{is_tag_before}
 use Rattle.rt_tags.specs.Toggles.{AreFrom, HasRoomFor, TagCounts, count_in, more_tags}
 use Rattle.rt_tags.proofs.Places.{split}
 

@@ -9,7 +9,7 @@ use Rattle.std.proofs.Math.Seq.{take-set-lt}
 use Rattle.std.proofs.lemmas.List.Sorted.{sum_by-IsPermutation}
 use Rattle.std.proofs.lemmas.List.Sums.{sum_by-append, sum_by-cons, sum_by-set, sum_by-take-drop}
 use Rattle.rt_tags.specs.declared.toggles.TagCount.{TagCount}
-use Rattle.rt_tags.specs.Kept.{AreOnce, ArePlaced, lessened}
+use Rattle.rt_tags.specs.ManyCounts.{AreOnce, ArePlaced, lessened}
 use Rattle.rt_tags.specs.Toggles.{AreFrom, count_in}
 use Rattle.rt_tags.proofs.Counts.{more_at, next, next_count, none_below, place, set_at, share, share_own, stands, tells, weaken}
 use Rattle.rt_tags.proofs.Places.{split}

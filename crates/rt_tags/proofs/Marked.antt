@@ -47,18 +47,6 @@ module _ (name : List ℕ) (test : List ℕ → Bool) where
         λ j. sym (itself x k) j ∷ none_marked names absent j
     one_marked (x ∷ names) (suc i) h k = λ j. sym (not_same x k.0) j ∷ one_marked names i h.1 k.1 j
 
--- sel is never marked
-pub sel_marked : (name : List ℕ) (test : List ℕ → Bool) (names : List (List ℕ)) → bytes_eq name sel ≡ true → map test names ≡ map (also name test) names
-sel_marked name test names h = λ j. map (λ x. sym (never x) j) names where
-  neither : (b c : Bool) → (b || (c && not c)) ≡ b
-  neither true true = refl
-  neither true false = refl
-  neither false true = refl
-  neither false false = refl
-
-  never : (x : List ℕ) → also name test x ≡ test x
-  never x = ap (λ v. test x || (bytes_eq x v && not (bytes_eq x sel))) (same_name name sel h) ∙ neither (test x) (bytes_eq x sel)
-
 -- A LIST OF NAMES
 
 abbrev pub words_of : List (String Global) → List (List ℕ)

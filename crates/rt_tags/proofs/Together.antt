@@ -5,7 +5,7 @@ use Rattle.std.proofs.lemmas.Bool.Decides.{Decides-eqb}
 use Rattle.std.proofs.lemmas.List.Edits.{length-insert}
 use Rattle.std.proofs.lemmas.List.Sums.{prefix_len-le-length, sum_by-cons}
 use Rattle.rt_tags.specs.declared.toggles.TagCount.{TagCount}
-use Rattle.rt_tags.specs.Kept.{is_tag_before}
+use Rattle.rt_tags.specs.ManyCounts.{is_tag_before}
 use Rattle.rt_tags.specs.Toggles.{AreFrom, count_in, more_tags}
 use Rattle.rt_tags.proofs.Counts.{inserted, lacks, next, place, share, share_own, with_new}
 use Rattle.rt_tags.proofs.Beyond.{within}

@@ -1,6 +1,6 @@
 -- How a table keeps names and states.
-use Rattle.std.specs.Prelude.{◌≡◌, ◌==◌, ℕ, ◌<◌, ◌≤◌, nat_lt, List, [], ◌∷◌, ◌++◌, ◌+◌, ◌-◌, Bool, true, false, not, map, filter, length, take, Option, Some, None, slice_get, slice_index_or, if◌then◌else◌}
-use Rattle.std.specs.List.{All, AllByRecursion, count_by}
+use Rattle.std.specs.Prelude.{◌≡◌, ◌==◌, ℕ, ◌<◌, ◌≤◌, List, [], ◌∷◌, ◌++◌, ◌+◌, Bool, true, false, not, map, filter, length, Option, Some, None, slice_get, slice_index_or, if◌then◌else◌}
+use Rattle.std.specs.List.{All, AllByRecursion}
 use Rattle.std.specs.Ordering.{ordering_index}
 use Rattle.std.specs.declared.cmp.Ordering.{Ordering}
 use Rattle.std.specs.declared.cmp.Ordering.TheVariants.{Less, Greater}
@@ -9,11 +9,9 @@ use Rattle.rt_stamps.specs.Names.{name_order}
 use Rattle.rt_stamps.specs.Stamps.{is_before}
 use Rattle.rt_tags.specs.declared.states.Entry.{Entry}
 use Rattle.rt_tags.specs.declared.states.State.{State}
-use Rattle.rt_tags.specs.declared.toggles.TagCount.{TagCount}
 use Rattle.rt_tags.specs.States.{Write, IsByName, AreDistinct}
 use Rattle.rt_tags.specs.Writers.{state_after}
 use Rattle.rt_tags.specs.Tags.{HaveNoRepeats}
-use Rattle.rt_tags.specs.Toggles.{AreFrom, count_in}
 
 -- an entry with the name of its tag
 abbrev pub seen : List (List ℕ) → Entry → Write
@@ -111,22 +109,3 @@ pub record IsListing (names : List (List ℕ)) (listed : ℕ) : Type 0 where
 pub record IsMarkedListing (names : List (List ℕ)) (listed : ℕ) (marks : List Bool) : Type 0 where
   pub listing : IsListing names listed
   pub as_many : length marks ≡ length names
-
--- a count is that of a lesser tag
-abbrev pub is_tag_before : ℕ → TagCount → Bool
-is_tag_before tag c = nat_lt c.tag tag
-
--- no tag stands twice, and none without a count, in whatever order
-pub record AreOnce (counts : List TagCount) : Type 0 where
-  pub once : (tag : ℕ) → count_by (λ c. c.tag == tag) counts ≤ 1
-  pub some : count_by (λ c. c.count == 0) counts ≡ 0
-
--- the first of them are in order, and the others stand behind
-pub record ArePlaced (ordered : ℕ) (counts : List TagCount) : Type 0 where
-  pub within : ordered ≤ length counts
-  pub order : AreFrom 0 (take ordered counts)
-  pub once : AreOnce counts
-
--- a count without those that others have of its tag
-abbrev pub lessened : List TagCount → TagCount → TagCount
-lessened others c = record { tag = c.tag; count = c.count - count_in c.tag others }

@@ -5,3 +5,4 @@ pub mod Writers
 pub mod Toggles
 pub mod Borders
 pub mod Kept
+pub mod ManyCounts

@@ -1,7 +1,7 @@
 // Counts of many tags, added to others or taken off them in one go.
 ghost use Rattle.std.specs.Prelude.{◌≡◌, ℕ, ◌+◌, ◌^◌, ◌<◌, ◌≤◌, ◌==◌, length, map, take, drop, vec_len, vec_capacity, if◌then◌else◌};
 ghost use Rattle.rt_tags.specs.Borders.{HasRoomForAll, beyond, is_tagged};
-ghost use Rattle.rt_tags.specs.Kept.{ArePlaced, lessened};
+ghost use Rattle.rt_tags.specs.ManyCounts.{ArePlaced, lessened};
 ghost use Rattle.rt_tags.specs.States.{IsState, IsTag};
 ghost use Rattle.rt_tags.specs.Toggles.{AreFrom, count_in, more_tags};
 

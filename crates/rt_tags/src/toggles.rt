@@ -1,7 +1,7 @@
 // How many toggles there are of each tag.
 ghost use Rattle.std.specs.Prelude.{◌≡◌, ◌↔◌, ℕ, ◌+◌, ◌^◌, ◌<◌, ◌≤◌, ◌==◌, IsOk, OnOk, OnErr, IsOkUnless, length, true, vec_len, vec_capacity, if◌then◌else◌};
 ghost use Rattle.std.specs.List.{insert, prefix_len};
-ghost use Rattle.rt_tags.specs.Kept.{is_tag_before};
+ghost use Rattle.rt_tags.specs.ManyCounts.{is_tag_before};
 ghost use Rattle.rt_tags.specs.Toggles.{AreFrom, HasRoomFor, count_in, count_of, more_tags};
 
 use crate::many::{self, FEW};

@@ -3,7 +3,7 @@ use Rattle.std.proofs.Common.{◌≡◌, ◌∙◌, ℕ, zero, suc, ◌+◌, ◌
 use Rattle.std.specs.List.{AllByRecursion}
 use Rattle.std.proofs.lemmas.List.{drop_more}
 use Rattle.std.proofs.lemmas.List.Elements.{All-from_recursion, All-get_or}
-use Rattle.rt_marks.specs.Marks.{Each, Mark, is_moved_on, mark_left, marks_inserted, place_left}
+use Rattle.rt_marks.specs.Marks.{Mark, is_moved_on, mark_left, marks_inserted, place_left}
 use Rattle.rt_marks.proofs.InOrder.{each_in_order}
 use Rattle.rt_edits.specs.Removals.{is_covered}
 use Rattle.rt_revert.specs.declared.plan.TextChange.{TextChange}
@@ -52,7 +52,7 @@ moved_within true p n most h = omega arith
 moved_within false p n most h = omega arith
 
 abbrev pub HaveRoom : ℕ → ℕ → List Mark → Type 0
-HaveRoom n most marks = Each (λ m. m.place + n ≤ most) marks
+HaveRoom n most marks = AllByRecursion (λ m. m.place + n ≤ most) marks
 
 pub less_room : (k n most : ℕ) (marks : List Mark) → k ≤ n → HaveRoom n most marks → HaveRoom k most marks
 less_room k n most [] l h = tt

@@ -1,10 +1,11 @@
 -- Marks within a text, before and after an edit of it.
 use Rattle.std.proofs.Common.{◌≡◌, ◌⊎◌, inl, inr, ℕ, zero, suc, ◌+◌, ◌-◌, ◌<◌, ◌≤◌, List, [], ◌∷◌, ◌++◌, Bool, true, false, cond, not, length, map, take, drop, refl, sym, ap, ◌∙◌, subst, arith, Option, Some, None, Result, Ok, Err, OnOk, length-append, take-append-drop}
+use Rattle.std.specs.List.{AllByRecursion}
 use Rattle.std.specs.Prelude.{◌↔◌, IsSome, OnErr, option_map}
 use Rattle.std.specs.Option.{option_map_or}
 use Rattle.std.proofs.lemmas.Bool.{cases_lt}
 use Rattle.rt_marks.specs.declared.gravity.Gravity.{Gravity}
-use Rattle.rt_marks.specs.Marks.{Mark, Each, IsName, named, is_named, is_one_of, is_moved_on, marks_inserted, place_left, mark_left, marks_left, without, without_all, put_mark, marks_set, marks_with_gravity, gravity_or_right}
+use Rattle.rt_marks.specs.Marks.{Mark, IsName, named, is_named, is_one_of, is_moved_on, marks_inserted, place_left, mark_left, marks_left, without, without_all, put_mark, marks_set, marks_with_gravity, gravity_or_right}
 use Rattle.rt_marks.proofs.InOrder.{each_with, each_in_order}
 use Rattle.rt_marks.proofs.Leaving.{place_rising, place_kept}
 use Rattle.rt_marks.proofs.Names.{same_name}
@@ -44,7 +45,7 @@ site_named n (m ∷ marks) h name s = found_named name m (named name marks) (is_
 -- AN INSERTION
 
 -- no place becomes too great
-pub site_fits : (n k most : ℕ) (marks : List Mark) → n + k ≤ most → AreSiteMarks n marks → Each (λ m. m.place + k ≤ most) marks
+pub site_fits : (n k most : ℕ) (marks : List Mark) → n + k ≤ most → AreSiteMarks n marks → AllByRecursion (λ m. m.place + k ≤ most) marks
 site_fits n k most [] h s = tt
 site_fits n k most (m ∷ marks) h s = (omega (arith, s.0.0), site_fits n k most marks h s.1)
 

@@ -1,10 +1,11 @@
 -- A widget: its own marks, and what index expressions see of it.
 use Rattle.std.specs.Prelude.{◌≡◌, ℕ, ◌+◌, ◌-◌, ◌<◌, ◌≤◌, ◌&&◌, nat_lt, Bool, false, List, [], ◌∷◌, length, map, min, filter, Option, Some, None, is_some, option_map, option_and_then, slice_get, unwrap_or, if◌then◌else◌, codes}
+use Rattle.std.specs.List.{AllByRecursion}
 use Rattle.std.specs.Str.{bytes_eq}
 use Rattle.rt_index.specs.Widget.{IndexedWidget, TagEnds}
 use Rattle.rt_marks.specs.declared.gravity.Gravity.{Gravity}
 use Rattle.rt_marks.specs.declared.gravity.Gravity.TheVariants.{Right}
-use Rattle.rt_marks.specs.Marks.{Mark, Each, IsName, named, in_order, with_mark, mark_inserted, mark_removed, mark_left}
+use Rattle.rt_marks.specs.Marks.{Mark, IsName, named, in_order, with_mark, mark_inserted, mark_removed, mark_left}
 use Rattle.rt_stamps.specs.declared.stamp.Stamp.{Stamp}
 use Rattle.rt_stamps.specs.declared.stamp.TheConstants.{FINAL}
 use Rattle.rt_stamps.specs.Words.{Word}
@@ -107,7 +108,7 @@ abbrev pub IsSiteMark : ℕ → Mark → Type 0
 IsSiteMark n m = (m.place ≤ n) × IsName m.name × (is_own m.name ≡ false)
 
 abbrev pub AreSiteMarks : ℕ → List Mark → Type 0
-AreSiteMarks n marks = Each (IsSiteMark n) marks
+AreSiteMarks n marks = AllByRecursion (IsSiteMark n) marks
 
 -- the mark of a name: an own one, or else one of the site
 abbrev pub own_or : Option OwnMark → Own → Option Mark → Option Mark

@@ -1,7 +1,6 @@
 // Marks after changes of the text, and limits after newlines came back.
 ghost use Rattle.std.specs.Prelude.{◌≡◌, ◌+◌, ◌≤◌, All, length, map};
 ghost use Rattle.std.specs.List.{AllByRecursion};
-ghost use Rattle.rt_marks.specs.Marks.{Each};
 ghost use Rattle.rt_revert.specs.Plans.{IsChange, marks_after, marks_changed};
 ghost use Rattle.rt_text.specs.Changes.{own_after, own_changed, own_renamed};
 ghost use Rattle.rt_text.specs.Parts.{own_in};
@@ -16,7 +15,7 @@ use rt_revert::{Return, TextChange};
 // Moves the marks of a site for a change of the text. It takes no memory.
 fn move_for(marks: &mut Marks, change: &TextChange)
     requires change { IsChange change.now }
-    requires fits { Each (λ m. m.place + 1 ≤ usize.MAX) marks.old }
+    requires fits { AllByRecursion (λ m. m.place + 1 ≤ usize.MAX) marks.old }
     ensures { marks.new ≡ marks_changed change.now marks.old }
 {
     match change {
@@ -28,7 +27,7 @@ fn move_for(marks: &mut Marks, change: &TextChange)
 // Moves the marks of a site for changes of the text, one after the other. It takes no memory.
 fn move_for_all(marks: &mut Marks, changes: &[TextChange])
     requires changes { AllByRecursion IsChange changes.now }
-    requires fits { Each (λ m. m.place + length changes.now ≤ usize.MAX) marks.old }
+    requires fits { AllByRecursion (λ m. m.place + length changes.now ≤ usize.MAX) marks.old }
     ensures { marks.new ≡ marks_after changes.now marks.old }
 {
     for change in changes {
@@ -94,7 +93,7 @@ pub(crate) fn revert_all(
     returns: &[Return],
 )
     requires changes { AllByRecursion IsChange changes.now }
-    requires marks { Each (λ m. m.place + length changes.now ≤ usize.MAX) marks.old }
+    requires marks { AllByRecursion (λ m. m.place + length changes.now ≤ usize.MAX) marks.old }
     requires insert { widget.old.insert.place + length changes.now ≤ usize.MAX }
     requires current { widget.old.current.place + length changes.now ≤ usize.MAX }
     requires others { All (λ parts. (parts.insert.place + length changes.now ≤ usize.MAX)

@@ -1,6 +1,7 @@
 // What an accepted operation does to the marks of its text and to the list of tags.
 ghost use Rattle.std.specs.Prelude.{ℕ, ◌≡◌, ◌+◌, ◌≤◌, All, IsOkUnless, OnOk, map, string_bytes, true};
-ghost use Rattle.rt_marks.specs.Marks.{Each, marks_inserted, marks_left};
+ghost use Rattle.std.specs.List.{AllByRecursion};
+ghost use Rattle.rt_marks.specs.Marks.{marks_inserted, marks_left};
 ghost use Rattle.rt_tags.specs.States.{IsTag, name_at};
 ghost use Rattle.rt_tags.specs.Tags.{IsName, is_ready};
 ghost use Rattle.rt_ops.specs.Edits.{body_of};
@@ -53,7 +54,7 @@ pub(crate) fn list_given(table: &mut TagTable, states: &StateTable, tags: &[TagI
 /// taken away, the last one first, so that the places of the others still count. It takes no memory.
 pub(crate) fn follow(marks: &mut Marks, change: &Change)
     requires runs { (end : ℕ) × AreFallingRuns end change.now.removed.items }
-    requires fits { Each (λ m. m.place + change.now.inserted ≤ usize.MAX) marks.old }
+    requires fits { AllByRecursion (λ m. m.place + change.now.inserted ≤ usize.MAX) marks.old }
     ensures { marks.new ≡ marks_left (is_in_runs change.now.removed.items) (marks_inserted change.now.place change.now.inserted marks.old) }
 {
     marks.inserted(change.place, change.inserted);

@@ -1,6 +1,7 @@
 // What text that was inserted does to marks and selections.
 ghost use Rattle.std.specs.Prelude.{◌≡◌, ◌+◌, ◌≤◌, All, length, map};
-ghost use Rattle.rt_marks.specs.Marks.{Each, marks_inserted};
+ghost use Rattle.std.specs.List.{AllByRecursion};
+ghost use Rattle.rt_marks.specs.Marks.{marks_inserted};
 ghost use Rattle.rt_edits.specs.InsertionPlans.{selected_between};
 ghost use Rattle.rt_edits.specs.Selected.{room_in, selected_stamps};
 ghost use Rattle.rt_edits.specs.Selections.{with_stamps};
@@ -42,7 +43,7 @@ pub(crate) fn insert_all(
     place: usize,
     n: usize,
 )
-    requires marks { Each (λ m. m.place + n ≤ usize.MAX) marks.old }
+    requires marks { AllByRecursion (λ m. m.place + n ≤ usize.MAX) marks.old }
     requires insert { widget.old.insert.place + n ≤ usize.MAX }
     requires current { widget.old.current.place + n ≤ usize.MAX }
     requires others { All (λ parts. (parts.insert.place + n ≤ usize.MAX) × (parts.current.place + n ≤ usize.MAX)) others.old }

@@ -10,10 +10,6 @@ pub part_map : {A B : Type 0} (f : A → B) (stretch : Stretch) (xs : List A) �
 part_map f stretch xs =
     sym (take-map f (stretch.end - stretch.begin) (drop stretch.begin xs)) ∙ ap (take (stretch.end - stretch.begin)) (sym (drop-map f stretch.begin xs))
 
--- all of it
-pub part_whole : {A : Type 0} (xs : List A) → part (record { begin = 0; end = length xs }) xs ≡ xs
-part_whole xs = let e : length xs - 0 ≡ length xs = omega arith in ap (λ n. take n xs) e ∙ take-length xs
-
 pub part_length : {A : Type 0} (stretch : Stretch) (xs : List A) → stretch.end ≤ length xs → length (part stretch xs) ≡ stretch.end - stretch.begin
 part_length stretch xs h =
     omega (arith, h, length-take (stretch.end - stretch.begin) (drop stretch.begin xs), length-drop stretch.begin xs)

@@ -1,5 +1,5 @@
 use Rattle.std.proofs.Common.{◌≡◌, ℕ, ◌+◌, ◌≤◌, drop, length, take, vec_capacity}
-use Rattle.rt_tags.specs.Kept.{ArePlaced}
+use Rattle.rt_tags.specs.ManyCounts.{ArePlaced}
 use Rattle.rt_tags.specs.Toggles.{count_in, more_tags}
 use Rattle.rt_tags.proofs.many.add.Given as goal
 

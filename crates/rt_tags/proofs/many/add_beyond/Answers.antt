@@ -1,7 +1,7 @@
 use Rattle.std.proofs.Common.{◌≡◌, ◌∙◌, ◌+◌, ap, arith, drop, length, refl, subst, sym, take, vec_capacity}
 use Rattle.std.proofs.lemmas.List.{drop_all, take_all}
 use Rattle.rt_tags.specs.Borders.{beyond, is_tagged}
-use Rattle.rt_tags.specs.Kept.{ArePlaced}
+use Rattle.rt_tags.specs.ManyCounts.{ArePlaced}
 use Rattle.rt_tags.specs.States.{IsTag, name_at, state_at}
 use Rattle.rt_tags.specs.Tags.{HaveNoRepeats, is_listed}
 use Rattle.rt_tags.specs.Toggles.{count_in}

@@ -1,6 +1,6 @@
 use Rattle.std.proofs.Common.{◌≡◌, ℕ, ◌+◌, ◌≤◌, drop, length, take, vec_capacity}
 use Rattle.rt_tags.specs.Borders.{beyond, is_tagged}
-use Rattle.rt_tags.specs.Kept.{ArePlaced}
+use Rattle.rt_tags.specs.ManyCounts.{ArePlaced}
 use Rattle.rt_tags.specs.States.{IsTag}
 use Rattle.rt_tags.specs.Toggles.{count_in}
 use Rattle.rt_tags.proofs.Beyond.{left}

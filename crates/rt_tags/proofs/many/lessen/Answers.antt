@@ -1,6 +1,6 @@
 use Rattle.std.proofs.Common.{◌≤◌, ◌∙◌, ◌-◌, ap, arith, set, subst, sym}
 use Rattle.std.proofs.lemmas.List.Edits.{map_over_more}
-use Rattle.rt_tags.specs.Kept.{lessened}
+use Rattle.rt_tags.specs.ManyCounts.{lessened}
 use Rattle.rt_tags.specs.Toggles.{count_in}
 use Rattle.rt_tags.proofs.ManyCounts.{enough_at}
 use Rattle.rt_tags.proofs.many.lessen.Goals as goal

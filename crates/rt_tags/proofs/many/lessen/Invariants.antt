@@ -1,5 +1,5 @@
 use Rattle.std.proofs.Common.{◌≡◌, ◌++◌, map, drop, take, vec_len, vec_capacity}
-use Rattle.rt_tags.specs.Kept.{lessened}
+use Rattle.rt_tags.specs.ManyCounts.{lessened}
 use Rattle.rt_tags.proofs.many.lessen.Given as goal
 
 abbrev pub invariant-loop-i : goal.invariant-loop-i

@@ -1,5 +1,5 @@
 use Rattle.std.proofs.Common.{◌≡◌, ℕ, ◌∙◌, ◌==◌, ap, arith, cond, subst, sym, take}
-use Rattle.rt_tags.specs.Kept.{ArePlaced}
+use Rattle.rt_tags.specs.ManyCounts.{ArePlaced}
 use Rattle.rt_tags.specs.Toggles.{count_in}
 use Rattle.rt_tags.proofs.Counts.{place}
 use Rattle.rt_tags.proofs.ManyCounts.{first_there, parts, placed_behind, placed_there, same_first, stands_at, with_behind, with_there}

@@ -1,6 +1,6 @@
 use Rattle.std.proofs.Common.{rules}
 use Rattle.std.proofs.lemmas.List.Sorted.{IsPartitionPoint-from_clause}
-use Rattle.rt_tags.specs.Kept.{is_tag_before}
+use Rattle.rt_tags.specs.ManyCounts.{is_tag_before}
 use Rattle.rt_tags.proofs.Counts.{parted}
 use Rattle.rt_tags.proofs.Found.{prefix_is}
 use Rattle.rt_tags.proofs.toggles.place_of.Goals as goal
