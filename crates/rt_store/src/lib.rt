@@ -2,10 +2,12 @@
 #![tactic(auto)]
 
 pub mod cell;
+pub mod count;
 pub mod laws;
 pub mod list;
 pub mod store;
 
 pub use cell::{Cell, FINAL_CELL};
+pub use count::{newline_count, visible_count};
 pub use list::ListStore;
 pub use store::TextStore;

@@ -1,13 +1,14 @@
 // The cells in a vector.
-ghost use Rattle.std.specs.Prelude.{◌≡◌, ◌+◌, ◌-◌, min, ◌^◌, ◌<◌, ◌≤◌, ◌∷◌, ◌++◌, [], IfOk, IsOkUnless, count_by, map, take, drop, length, slice_get, take_while, vec_len, vec_capacity};
+ghost use Rattle.std.specs.Prelude.{◌≡◌, ◌+◌, ◌-◌, min, ◌^◌, ◌<◌, ◌≤◌, ◌∷◌, ◌++◌, [], IfOk, IsOkUnless, map, take, drop, length, slice_get, take_while, vec_len, vec_capacity};
 ghost use Rattle.rt_store.specs.Cells.{final_cell, EndsFinal, StandsBefore, after_element, visible_of, text_of, cell_of, position_of, is_in_span, gone_in, state_in};
 ghost use Rattle.rt_store.specs.Tagged.{AreStates, has_tag, next_place, previous_place, tag_is};
 ghost use Rattle.rt_tags.specs.States.{IsState, IsTag};
 ghost use Rattle.rt_stamps.specs.Stamps.{is_before};
-ghost use Rattle.rt_stamps.specs.Places.{is_newline, newlines, after_newlines};
+ghost use Rattle.rt_stamps.specs.Places.{newlines, after_newlines};
 
 use crate::TextStore;
 use crate::cell::{Cell, FINAL_CELL};
+use crate::count::{newline_count, visible_count};
 use rt_stamps::{Fault, ROOT, Span, Stamp};
 use rt_tags::{StateId, StateTable, TagId};
 use std::alloc::Global;
@@ -98,18 +99,6 @@ fn copy_text(cells: &[Cell<StateId>], place: usize, buffer: &mut [char]) -> usiz
     at.saturating_sub(place)
 }
 
-// How many newlines the text has.
-fn newline_count(cells: &[Cell<StateId>]) -> usize
-    ensures { result ≡ count_by is_newline (text_of cells.now) }
-{
-    cells
-        .iter()
-        .filter(|cell| !cell.gone)
-        .map(|cell| cell.ch)
-        .filter(|ch| *ch == '\n')
-        .count()
-}
-
 // How many newlines stand before a place.
 fn newlines_before(cells: &[Cell<StateId>], place: usize) -> usize
     ensures value { result ≡ newlines (take place (text_of cells.now)) }
@@ -129,13 +118,6 @@ fn newlines_before(cells: &[Cell<StateId>], place: usize) -> usize
         }
     }
     lines
-}
-
-// How many visible cells there are.
-fn visible_count(cells: &[Cell<StateId>]) -> usize
-    ensures { result ≡ length (visible_of cells.now) }
-{
-    cells.iter().filter(|cell| !cell.gone).count()
 }
 
 fn position_of(cells: &[Cell<StateId>], stamp: Stamp) -> Option<usize>
