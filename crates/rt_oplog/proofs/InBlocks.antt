@@ -6,7 +6,7 @@ use Rattle.std.specs.List.Sorted.{IsPartitionedBy}
 use Rattle.std.proofs.lemmas.List.{take_more, take_all}
 use Rattle.std.proofs.lemmas.List.Concat.{flat_map-append, get_or-flat_map}
 use Rattle.std.proofs.lemmas.List.Folds.{list_all_at}
-use Rattle.std.proofs.lemmas.Option.{slice_get_read}
+use Rattle.std.proofs.lemmas.Option.{get_or_from_slice_get, slice_get_read, slice_get_within}
 use Rattle.rt_stamps.specs.declared.stamp.Stamp.{Stamp}
 use Rattle.rt_stamps.specs.Stamps.{is_before}
 use Rattle.rt_oplog.specs.declared.block.Block.{Block}
@@ -85,7 +85,7 @@ leading_within p (c ∷ bs) (suc i) b e l g = split (all_pass p c)
     (λ h. let k = rw h at e in leading_within p bs i b (omega (arith, k)) (omega arith) g)
     (λ h. let k = rw h at e in absurd (omega (arith, k)))
 
-pub leading_none : (p : ℕ → Bool) (bs : List Block) → leading (all_pass p) bs ≡ length bs → leading p (in_blocks bs) ≡ length (in_blocks bs)
+leading_none : (p : ℕ → Bool) (bs : List Block) → leading (all_pass p) bs ≡ length bs → leading p (in_blocks bs) ≡ length (in_blocks bs)
 leading_none p [] e = refl
 leading_none p (c ∷ bs) e = split (all_pass p c)
     (λ h. let k = rw h at e in
@@ -200,6 +200,26 @@ last_leading ops stamp bs f = leading_same (last_earlier ops stamp) (all_pass (i
 pub last_parted : (ops : List Operation) (stamp : Stamp) (bs : List Block) → IsFalling (newest_first ops (in_blocks bs)) → IsPartitionedBy (last_earlier ops stamp) bs
 last_parted ops stamp bs f i j d h k e =
     last_tells ops stamp bs f i d (omega (arith, h, k)) ∙ blocks_parted ops stamp bs f i j d h k (sym (last_tells ops stamp bs f j d k) ∙ e)
+
+-- the last block's last place tells whether all operations are before a stamp
+pub last_of_all : (ops : List Operation) (stamp : Stamp) (bs : List Block) (b : Block) → IsFalling (newest_first ops (in_blocks bs)) → slice_get bs (length bs - 1) ≡ Some b
+    → last_earlier ops stamp b ≡ list_all (all_pass (is_earlier ops stamp)) bs
+last_of_all ops stamp bs b f e =
+    let l = slice_get_within bs (length bs - 1) b e in
+    ap (last_earlier ops stamp) (sym (get_or_from_slice_get bs (length bs - 1) b b e))
+    ∙ last_tells ops stamp bs f (length bs - 1) b l
+    ∙ all_if_last (all_pass (is_earlier ops stamp)) bs b (omega (arith, l)) (blocks_parted ops stamp bs f)
+
+pub not_all_earlier : (ops : List Operation) (stamp : Stamp) (bs : List Block) (i : ℕ) → list_all (all_pass (is_earlier ops stamp)) bs ≡ false
+    → i ≡ leading (all_pass (is_earlier ops stamp)) bs → i < length bs
+not_all_earlier ops stamp bs i h e = omega (arith, e, leading_fails (all_pass (is_earlier ops stamp)) bs h)
+
+pub all_earlier : (ops : List Operation) (stamp : Stamp) (bs : List Block) → list_all (all_pass (is_earlier ops stamp)) bs ≡ true
+    → leading (is_earlier ops stamp) (in_blocks bs) ≡ length (in_blocks bs)
+all_earlier ops stamp bs h =
+    let p = all_pass (is_earlier ops stamp) in
+    let n = leading_all p bs [] h in
+    leading_none (is_earlier ops stamp) bs (ap (leading p) (sym (append-nil bs)) ∙ omega (arith, n))
 
 -- a place of a block, in the one list
 

@@ -1,22 +1,23 @@
 -- A log that is kept in its order, and what a join makes.
-use Rattle.std.proofs.Common.{◌≡◌, ℕ, zero, suc, ◌+◌, ◌<◌, ◌≤◌, true, ◌⊎◌, inl, inr, List, [], ◌∷◌, ◌++◌, length, map, get_or, take, drop, refl, ap, ◌∙◌, sym, subst, arith, drop-cons, add-one, Result, Ok, Err}
+use Rattle.std.proofs.Common.{◌≡◌, ℕ, zero, suc, ◌+◌, ◌<◌, ◌≤◌, true, false, ◌⊎◌, inl, inr, List, [], ◌∷◌, ◌++◌, length, map, get_or, take, drop, length-append, refl, ap, ◌∙◌, sym, subst, arith, drop-cons, add-one, Result, Ok, Err}
 use Rattle.std.proofs.lemmas.List.{take_more, map_push}
+use Rattle.std.proofs.Math.Seq.{get_or-append_seam}
 use Rattle.std.specs.List.{AllByRecursion, list_any, range_with_len}
 use Rattle.rt_stamps.specs.declared.stamp.Stamp.{Stamp}
 use Rattle.rt_stamps.specs.declared.fault.Fault.{Fault}
 use Rattle.rt_stamps.specs.declared.fault.Fault.TheVariants.{NoMemory, Conflict}
 use Rattle.rt_stamps.specs.Stamps.{is_before}
-use Rattle.rt_stamps.proofs.Order.{before_irrefl}
+use Rattle.rt_stamps.proofs.Order.{before_irrefl, differ}
 use Rattle.rt_oplog.specs.declared.ends.SiteEnd.{SiteEnd}
 use Rattle.rt_oplog.specs.Ends.{end_in}
-use Rattle.rt_ops.specs.Operations.{Operation, stamp_of}
-use Rattle.rt_oplog.specs.Logs.{HasClashOf, Has, clash, IsFalling, IsLog, known_end, joined}
-use Rattle.rt_oplog.specs.Kept.{op_at, newest_first, leading, IsKept}
+use Rattle.rt_ops.specs.Operations.{Operation, stamp_of, has_bad_stamp}
+use Rattle.rt_oplog.specs.Logs.{HasClashOf, Has, holds, clash, IsFalling, IsLog, with_operation, known_end, joined}
+use Rattle.rt_oplog.specs.Kept.{nothing, op_at, newest_first, leading, IsKept}
 use Rattle.rt_oplog.specs.Merged.{IsMerged}
-use Rattle.rt_oplog.proofs.Sets.{split, clash_sym, any_at}
-use Rattle.rt_oplog.proofs.Joins.{joined_err, joined_ok}
-use Rattle.rt_oplog.proofs.Places.{is_earlier}
-use Rattle.rt_oplog.proofs.Merges.{ops_at, IsRising, rising_seen, clash_below}
+use Rattle.rt_oplog.proofs.Sets.{split, clash_sym, any_at, none_from}
+use Rattle.rt_oplog.proofs.Joins.{free_past, joined_err, joined_ok, log_with}
+use Rattle.rt_oplog.proofs.Places.{is_earlier, seen_more, within_more}
+use Rattle.rt_oplog.proofs.Merges.{ops_at, IsRising, rising_seen, clash_below, seen_append, within_push}
 
 -- an operation that is newer than all of a log
 
@@ -48,6 +49,38 @@ clash_newest ops order ends op k e h =
     let below : op.prev < known_end set op.site = omega (arith, known, h) in
     let (p, i, c) = clash_below set op (all_before set (stamp_of op) (leading_short ops (stamp_of op) order e), k.log.falling) below in
     any_at (clash op) set p i (clash_sym op p ∙ c)
+
+-- it is not there yet, and stands in front of them
+newest_new : (op : Operation) (set : List Operation) → AllByRecursion (λ q. is_before (stamp_of q) (stamp_of op) ≡ true) set → holds set op ≡ false
+newest_new op [] h = refl
+newest_new op (q ∷ set) h = rw (differ (stamp_of q) (stamp_of op) h.0, newest_new op set h.1) refl
+
+with_newest : (op : Operation) (set : List Operation) → AllByRecursion (λ q. is_before (stamp_of q) (stamp_of op) ≡ true) set → with_operation op set ≡ op ∷ set
+with_newest op [] h = refl
+with_newest op (q ∷ set) h = rw h.0 refl
+
+pub seen_newest : (ops : List Operation) (order : List ℕ) (op : Operation) → AllByRecursion (λ place. place < length ops) order
+    → newest_first (ops ++ op ∷ []) (order ++ length ops ∷ []) ≡ op ∷ newest_first ops order
+seen_newest ops order op w =
+    let more = ops ++ op ∷ [] in
+    seen_append more order (length ops ∷ [])
+    ∙ ap (λ q. q ∷ newest_first more order) (get_or-append_seam ops op [] nothing)
+    ∙ ap (λ set. op ∷ set) (seen_more ops (op ∷ []) order w)
+
+-- a log with an operation that is newer than all of it, and goes on from no lower than its site's known end
+pub kept_newest : (ops : List Operation) (order : List ℕ) (ends more : List SiteEnd) (op : Operation) → IsKept ops order ends → has_bad_stamp op ≡ false
+    → AllByRecursion (λ q. is_before (stamp_of q) (stamp_of op) ≡ true) (newest_first ops order) → known_end (newest_first ops order) op.site ≤ op.prev
+    → ((s : ℕ) → end_in more s ≡ known_end (op ∷ newest_first ops order) s) → IsKept (ops ++ op ∷ []) (order ++ length ops ∷ []) more
+kept_newest ops order ends more op k s n p e =
+    let set = newest_first ops order in
+    let same = seen_newest ops order op k.within in
+    let len = length-append ops (op ∷ []) in
+    let free = none_from (clash op) set (free_past set op s p) in
+    record {
+      within = within_push (length (ops ++ op ∷ [])) (length ops) order (within_more (length ops) (length (ops ++ op ∷ [])) order (omega (arith, len)) k.within) (omega (arith, len));
+      log = subst IsLog (sym same) (subst IsLog (with_newest op set n) (log_with op set k.log s (newest_new op set n) free));
+      known = λ site. e site ∙ ap (λ set. known_end set site) (sym same);
+    }
 
 -- operations taken out
 

@@ -1,7 +1,7 @@
 // Places in blocks.
 ghost use Rattle.std.specs.Prelude.{◌≡◌, ◌+◌, ◌-◌, ◌<◌, ◌≤◌, ◌∷◌, ◌++◌, [], length, take, slice_get, Some, slice_index_or, vec_len, vec_capacity, IfOk};
 ghost use Rattle.std.specs.Bool.{OnTrue, OnFalse};
-ghost use Rattle.std.specs.List.{insert};
+ghost use Rattle.std.specs.List.{insert, list_all};
 ghost use Rattle.rt_stamps.specs.Stamps.{is_before};
 ghost use Rattle.rt_ops.specs.Operations.{stamp_of};
 ghost use Rattle.rt_oplog.specs.Logs.{IsFalling};
@@ -24,15 +24,26 @@ fn blocks_before(ops: &[Op], blocks: &[Block], stamp: Stamp) -> usize
     blocks.partition_point(|block| block.is_before(ops, stamp))
 }
 
+/// Whether the operations of all blocks are before a stamp, which that of the last place tells.
+fn are_earlier(ops: &[Op], blocks: &[Block], stamp: Stamp) -> bool
+    requires { IsFalling (newest_first ops.now (in_blocks blocks.now)) }
+    ensures { result ≡ list_all (all_pass (λ place. is_before (stamp_of (op_at ops.now place)) stamp)) blocks.now }
+{
+    match blocks.last() {
+        Some(block) => block.is_before(ops, stamp),
+        None => true,
+    }
+}
+
 /// The first place whose operation is not before a stamp.
 pub(crate) fn find(ops: &[Op], blocks: &[Block], stamp: Stamp) -> Option<usize>
     requires { IsFalling (newest_first ops.now (in_blocks blocks.now)) }
     ensures { result ≡ slice_get (in_blocks blocks.now) (leading (λ place. is_before (stamp_of (op_at ops.now place)) stamp) (in_blocks blocks.now)) }
 {
-    let before = blocks_before(ops, blocks, stamp);
-    if before == blocks.len() {
+    if are_earlier(ops, blocks, stamp) {
         return None;
     }
+    let before = blocks_before(ops, blocks, stamp);
     let block = &blocks[before];
     let at = place_of(ops, &block.places, stamp);
     Some(block.places[at])
@@ -236,10 +247,10 @@ pub(crate) fn insert_in(
     ensures len { vec_len blocks.new + vec_len spare.new ≡ vec_len blocks.old + vec_len spare.old }
     ensures capacity { vec_capacity blocks.new ≡ vec_capacity blocks.old }
 {
-    let block = blocks_before(ops, blocks, stamp);
-    if block == blocks.len() {
+    if are_earlier(ops, blocks, stamp) {
         append(blocks, spare, place);
     } else {
+        let block = blocks_before(ops, blocks, stamp);
         insert_at(ops, blocks, spare, block, stamp, place);
     }
 }

@@ -1,5 +1,5 @@
 // Logs.
-ghost use Rattle.std.specs.Prelude.{◌≡◌, ℕ, ◌+◌, ◌-◌, ◌<◌, ◌≤◌, List, [], true, false, length, reverse, map, min, vec_len, vec_capacity, IsOk, OnOk, IfOk, IsOkUnless, OnErr, MatchResult, ◌⊎◌, Ok, Err, slice_get, Some};
+ghost use Rattle.std.specs.Prelude.{◌≡◌, ℕ, ◌+◌, ◌-◌, ◌<◌, ◌≤◌, ◌∷◌, All, List, [], true, false, length, reverse, map, min, vec_len, vec_capacity, IsOk, OnOk, IfOk, IsOkUnless, OnErr, MatchResult, ◌⊎◌, Ok, Err, slice_get, Some};
 ghost use Rattle.std.specs.List.{AllByRecursion, list_any};
 ghost use Rattle.rt_stamps.specs.declared.fault.Fault.TheVariants.{NoMemory};
 ghost use Rattle.rt_stamps.specs.Stamps.{is_before};
@@ -264,6 +264,22 @@ impl OpLog {
         self.order.insert(&self.ops, op.stamp(), place);
         self.ops.push_reserved(op);
         Ok(())
+    }
+
+    /// Adds an operation that is newer than all others and goes on from no lower than its site's
+    /// known end, where there is room. Takes no memory, and looks at none of the others.
+    pub fn append(&mut self, op: Op)
+        requires sound { has_bad_stamp op ≡ false }
+        requires newest { All (λ q. is_before (stamp_of q) (stamp_of op) ≡ true) self.old.operations }
+        requires prev { known_end self.old.operations op.site ≤ op.prev }
+        requires room { 0 < self.old.room }
+        ensures operations { self.new.operations ≡ op ∷ self.old.operations }
+        ensures room { self.old.room ≤ self.new.room + 1 }
+    {
+        let last = op.last_count();
+        self.ends.raise(op.site(), last);
+        self.order.push(self.ops.len());
+        self.ops.push_reserved(op);
     }
 }
 

@@ -2,7 +2,8 @@
 use Rattle.std.proofs.Common.{◌≡◌, ℕ, ◌+◌, ◌<◌, ◌≤◌, Bool, true, false, not, All, inl, inr, refl, sym, ap, subst, ◌∙◌, arith, List, [], ◌∷◌, ◌||◌, ◌==◌, length, drop, nat_le, nat_lt}
 use Rattle.std.specs.Prelude.{take_while}
 use Rattle.std.proofs.lemmas.Bool.Decides.{nat_tests}
-use Rattle.std.proofs.lemmas.List.Elements.{All-drop}
+use Rattle.std.proofs.lemmas.List.Elements.{All-drop, All-from_recursion}
+use Rattle.std.specs.List.{AllByRecursion}
 use Rattle.rt_stamps.specs.declared.limits.TheConstants.{GREATEST_COUNT}
 use Rattle.rt_stamps.specs.declared.stamp.Stamp.{Stamp}
 use Rattle.rt_stamps.specs.declared.stamp.TheConstants.{FINAL, ROOT}
@@ -32,6 +33,13 @@ newest op (q ∷ older) h =
     let g = last_ge q.count q.body in
     let e : is_before (stamp_of q) (stamp_of op) ≡ true = lesser (stamp_of q) (stamp_of op) (grind (arith, g, h)) in
     rw e
+
+pub newer_than_all : (op : Operation) (set : List Operation) → greatest_last_count set < op.count → All (λ q. is_before (stamp_of q) (stamp_of op) ≡ true) set
+newer_than_all op set h = All-from_recursion (λ q. is_before (stamp_of q) (stamp_of op) ≡ true) set (each set h)
+  where
+    each : (set : List Operation) → greatest_last_count set < op.count → AllByRecursion (λ q. is_before (stamp_of q) (stamp_of op) ≡ true) set
+    each [] h = tt
+    each (q ∷ older) h = let g = last_ge q.count q.body in (lesser (stamp_of q) (stamp_of op) (grind (arith, g, h)), each older (grind (arith, h)))
 
 pub end_within : (set : List Operation) (site : ℕ) → known_end set site ≤ greatest_last_count set
 end_within [] site = omega arith

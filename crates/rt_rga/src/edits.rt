@@ -38,12 +38,12 @@ pub(crate) fn push_new(
             count,
             site: first.site,
         };
-        cells.push(Cell {
+        cells.push_reserved(Cell {
             stamp,
             ch: *ch,
             gone: false,
             state,
-        })?;
+        });
         count += 1;
     }
     Ok(())

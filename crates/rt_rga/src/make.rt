@@ -109,7 +109,7 @@ pub(crate) fn stamped(
     ensures ops { IfOk result (λ ops. ops.items ≡ operations_from site last prev (map body_of drafts.items)) }
     ensures fault { IsOkUnless result Fault.NoMemory }
 {
-    let mut ops = Vec::new(alloc);
+    let mut ops = Vec::with_capacity(alloc, drafts.len())?;
     let mut last = last;
     let mut prev = prev;
     for draft in drafts {
@@ -118,7 +118,7 @@ pub(crate) fn stamped(
             site,
         };
         last += counts_in(&draft);
-        ops.push(Op::of(stamp, prev, draft))?;
+        ops.push_reserved(Op::of(stamp, prev, draft));
         prev = last;
     }
     Ok(ops)
@@ -129,9 +129,9 @@ pub(crate) fn copied(alloc: Global, ops: &[Op]) -> Result<Vec<Op>, Fault>
     ensures ops { IfOk result (λ copies. copies.items ≡ ops.now) }
     ensures fault { IsOkUnless result Fault.NoMemory }
 {
-    let mut copies = Vec::new(alloc);
+    let mut copies = Vec::with_capacity(alloc, ops.len())?;
     for op in ops {
-        copies.push(op.copied(alloc)?)?;
+        copies.push_reserved(op.copied(alloc)?);
     }
     Ok(copies)
 }
@@ -293,10 +293,11 @@ fn make_room<S: TextStore>(
     }
 }
 
-/// Logs operations, each of which continues the log with those before it, where there is room.
+/// Logs operations that are newer than all before them, each of which continues the log with those before it, where
+/// there is room.
 pub(crate) fn push_all(log: &mut OpLog, clock: &mut Clock, ops: Vec<Op>)
-    requires history { IsHistory log.old.operations }
     requires continues { ContinueInTurn log.old.operations ops.items }
+    requires newest { AreNewest log.old.operations ops.items }
     requires room { length ops.items ≤ log.old.room }
     requires seen { clock.old ≡ greatest_last_count log.old.operations }
     ensures operations { log.new.operations ≡ with_operations ops.items log.old.operations }
@@ -304,7 +305,7 @@ pub(crate) fn push_all(log: &mut OpLog, clock: &mut Clock, ops: Vec<Op>)
 {
     for op in ops {
         clock.saw(op.last_count());
-        let _added = log.push(op);
+        log.append(op);
     }
 }
 

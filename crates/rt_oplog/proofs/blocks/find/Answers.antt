@@ -3,29 +3,31 @@ use Rattle.std.specs.Prelude.{slice_get}
 use Rattle.std.proofs.lemmas.Option.{slice_get_past}
 use Rattle.rt_oplog.specs.Logs.{IsFalling}
 use Rattle.rt_oplog.specs.Kept.{newest_first, leading}
-use Rattle.rt_oplog.specs.Blocks.{all_pass, in_blocks}
+use Rattle.rt_oplog.specs.Blocks.{in_blocks}
 use Rattle.rt_oplog.proofs.Places.{is_earlier}
-use Rattle.rt_oplog.proofs.InBlocks.{falling_block, leading_at, leading_none, leading_within, place_at}
+use Rattle.rt_oplog.proofs.InBlocks.{all_earlier, falling_block, leading_at, leading_within, not_all_earlier, place_at}
 use Rattle.rt_oplog.proofs.blocks.find.Goals as goal
 
-pub returns-then-before-blocks : goal.returns-then-before-blocks
-returns-then-before-blocks c =
+pub returns-then-are_earlier : goal.returns-then-are_earlier
+returns-then-are_earlier c =
     let bs = c.args.blocks.now in
-    let p = is_earlier c.args.ops.now c.args.stamp in
-    let all : leading (all_pass p) bs ≡ length bs = omega (arith, c.blocks_before-before.ensures.blocks, c.if-before-blocks.true) in
-    sym (ap (slice_get (in_blocks bs)) (leading_none p bs all) ∙ slice_get_past (in_blocks bs) (length (in_blocks bs)) (omega arith))
+    let all = all_earlier c.args.ops.now c.args.stamp bs (sym c.are_earlier.ensures ∙ c.if-are_earlier.true) in
+    sym (ap (slice_get (in_blocks bs)) all ∙ slice_get_past (in_blocks bs) (length (in_blocks bs)) (omega arith))
+
+pub bounds-blocks-before : goal.bounds-blocks-before
+bounds-blocks-before c = not_all_earlier c.args.ops.now c.args.stamp c.args.blocks.now c.blocks_before-before.result (sym c.are_earlier.ensures ∙ c.if-are_earlier.false) c.blocks_before-before.ensures.blocks
 
 pub place_of-at-requires : goal.place_of-at-requires
 place_of-at-requires c =
     subst (λ xs. IsFalling (newest_first c.args.ops.now xs)) (sym c.deref.ensures.value)
-    (falling_block c.args.ops.now c.args.blocks.now c.blocks_before-before.result c.index-blocks-before.result (omega (arith, c.blocks_before-before.ensures.within, c.if-before-blocks.false)) c.index-blocks-before.is c.requires)
+    (falling_block c.args.ops.now c.args.blocks.now c.blocks_before-before.result c.index-blocks-before.result (not_all_earlier c.args.ops.now c.args.stamp c.args.blocks.now c.blocks_before-before.result (sym c.are_earlier.ensures ∙ c.if-are_earlier.false) c.blocks_before-before.ensures.blocks) c.index-blocks-before.is c.requires)
 
 pub index-requires : goal.index-requires
 index-requires c =
     let bs = c.args.blocks.now in
     let i = c.blocks_before-before.result in
     let p = is_earlier c.args.ops.now c.args.stamp in
-    let l : i < length bs = omega (arith, c.blocks_before-before.ensures.within, c.if-before-blocks.false) in
+    let l : i < length bs = not_all_earlier c.args.ops.now c.args.stamp bs i (sym c.are_earlier.ensures ∙ c.if-are_earlier.false) c.blocks_before-before.ensures.blocks in
     let at : c.place_of-at.result ≡ leading p c.index-blocks-before.result.places.items = rw c.deref.ensures.value at c.place_of-at.ensures.place in
     omega (arith, at, leading_within p bs i c.index-blocks-before.result c.blocks_before-before.ensures.blocks l c.index-blocks-before.is)
 
@@ -35,7 +37,7 @@ returns c =
     let i = c.blocks_before-before.result in
     let b = c.index-blocks-before.result in
     let p = is_earlier c.args.ops.now c.args.stamp in
-    let l : i < length bs = omega (arith, c.blocks_before-before.ensures.within, c.if-before-blocks.false) in
+    let l : i < length bs = not_all_earlier c.args.ops.now c.args.stamp bs i (sym c.are_earlier.ensures ∙ c.if-are_earlier.false) c.blocks_before-before.ensures.blocks in
     let at : c.place_of-at.result ≡ leading p b.places.items = rw c.deref.ensures.value at c.place_of-at.ensures.place in
     let within = leading_within p bs i b c.blocks_before-before.ensures.blocks l c.index-blocks-before.is in
     sym (ap (slice_get (in_blocks bs)) (leading_at p bs i b c.blocks_before-before.ensures.blocks l c.index-blocks-before.is ∙ omega (arith, at))

@@ -1,16 +1,20 @@
-use Rattle.std.proofs.Common.{◌≡◌, ◌∙◌, ap, sym, length, arith}
+use Rattle.std.proofs.Common.{◌∙◌, ap, sym, arith}
 use Rattle.std.specs.List.{insert}
 use Rattle.std.proofs.lemmas.List.Edits.{insert_end}
-use Rattle.rt_oplog.specs.Kept.{leading}
-use Rattle.rt_oplog.specs.Blocks.{all_pass, in_blocks}
-use Rattle.rt_oplog.proofs.Places.{is_earlier}
-use Rattle.rt_oplog.proofs.InBlocks.{leading_none}
+use Rattle.rt_oplog.specs.Blocks.{in_blocks}
+use Rattle.rt_oplog.proofs.InBlocks.{all_earlier, not_all_earlier}
 use Rattle.rt_oplog.proofs.blocks.insert_in.Goals as goal
 
-pub returns-then-block-len-clause-items : goal.returns-then-block-len-clause-items
-returns-then-block-len-clause-items c =
+pub returns-then-are_earlier-clause-items : goal.returns-then-are_earlier-clause-items
+returns-then-are_earlier-clause-items c =
     let bs = c.args.blocks.now.items in
-    let p = is_earlier c.args.ops.now c.args.stamp in
-    let before = rw c.deref.ensures.value at c.blocks_before-block.ensures.blocks in
-    let all : leading (all_pass p) bs ≡ length bs = omega (arith, before, c.if-block-len.true, c.len.ensures, c.args.blocks.now.ok.0) in
-    c.append.ensures.items ∙ sym (ap (λ n. insert (in_blocks bs) n c.args.place) (leading_none p bs all) ∙ insert_end (in_blocks bs) c.args.place)
+    let is = rw c.deref.ensures.value at c.are_earlier.ensures in
+    let all = all_earlier c.args.ops.now c.args.stamp bs (sym is ∙ c.if-are_earlier.true) in
+    c.append.ensures.items ∙ sym (ap (λ n. insert (in_blocks bs) n c.args.place) all ∙ insert_end (in_blocks bs) c.args.place)
+
+pub insert_at-requires-clause-within : goal.insert_at-requires-clause-within
+insert_at-requires-clause-within c =
+    let bs = c.args.blocks.now.items in
+    let is = rw c.deref.ensures.value at c.are_earlier.ensures in
+    let before = rw c.deref-else-are_earlier.ensures.value at c.blocks_before-block.ensures.blocks in
+    omega (arith, not_all_earlier c.args.ops.now c.args.stamp bs c.blocks_before-block.result (sym is ∙ c.if-are_earlier.false) before, c.args.blocks.now.ok.0)

@@ -1,0 +1,34 @@
+use Rattle.std.proofs.Common.{◌≡◌, ◌∷◌, ◌++◌, ◌≤◌, ◌∙◌, ℕ, [], length, refl, ap, sym, subst, arith, true}
+use Rattle.std.specs.List.{AllByRecursion}
+use Rattle.std.proofs.lemmas.List.Elements.{recursion_from_All}
+use Rattle.rt_stamps.specs.Stamps.{is_before}
+use Rattle.rt_ops.specs.Operations.{Operation, stamp_of}
+use Rattle.rt_oplog.specs.Logs.{known_end}
+use Rattle.rt_oplog.specs.Ends.{end_in}
+use Rattle.rt_oplog.specs.Kept.{newest_first}
+use Rattle.rt_oplog.proofs.Kept.{kept_newest, seen_newest}
+use Rattle.rt_oplog.proofs.log.OpLog.append.Goals as goal
+
+pub invariant_of-self : goal.invariant_of-self
+invariant_of-self c =
+    let op = c.args.op in
+    let ops = c.self.inside.ops.items in
+    let order = c.self.inside.order.items in
+    let ends = c.self.inside.ends.ends.items in
+    let set = newest_first ops order in
+    let seen : set ≡ c.args.self.now.operations = ap (λ log. log.operations) c.self.view_is in
+    let before : Operation → Type 0 = λ q. is_before (stamp_of q) (stamp_of op) ≡ true in
+    let newest : AllByRecursion before set = subst (AllByRecursion before) (sym seen) (recursion_from_All before c.args.self.now.operations c.requires.newest) in
+    let past : known_end set op.site ≤ op.prev = rw seen c.requires.prev in
+    let put : c.push.new.self.items ≡ order ++ length ops ∷ [] = c.push.ensures.items ∙ ap (λ n. order ++ n ∷ []) (omega (arith, c.len.ensures, c.self.inside.ops.ok.0)) in
+    let known : (s : ℕ) → end_in c.raise.new.self.ends.items s ≡ known_end (op ∷ set) s = λ s. c.raise.ensures.ends s ∙ rw (c.site.ensures, c.last_count-last.ensures, c.self.invariant.known s) refl in
+    rw (c.push_reserved.ensures.items, put) (kept_newest ops order ends c.raise.new.self.ends.items op c.self.invariant c.requires.sound newest past known)
+
+pub returns-clause-operations : goal.returns-clause-operations
+returns-clause-operations c =
+    let op = c.args.op in
+    let ops = c.self.inside.ops.items in
+    let order = c.self.inside.order.items in
+    let seen : newest_first ops order ≡ c.args.self.now.operations = ap (λ log. log.operations) c.self.view_is in
+    let put : c.push.new.self.items ≡ order ++ length ops ∷ [] = c.push.ensures.items ∙ ap (λ n. order ++ n ∷ []) (omega (arith, c.len.ensures, c.self.inside.ops.ok.0)) in
+    rw (c.push_reserved.ensures.items, put) (seen_newest ops order op c.self.invariant.within ∙ ap (λ set. op ∷ set) seen)
