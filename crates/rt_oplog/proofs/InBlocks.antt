@@ -105,10 +105,6 @@ falling_back (x ∷ xs) ys h = (all_back (λ q. is_before (stamp_of q) (stamp_of
     all_back P [] ys h = tt
     all_back P (x ∷ xs) ys h = (h.0, all_back P xs ys h.1)
 
-pub places_first : (bs : List Block) → places_before bs 0 ≡ 0
-places_first [] = refl
-places_first (b ∷ bs) = refl
-
 pub places_next : (bs : List Block) (i : ℕ) (b : Block) → i < length bs → b ≡ get_or bs i b → in_blocks (take (i + 1) bs) ≡ in_blocks (take i bs) ++ b.places.items
 places_next bs i b l e =
     ap in_blocks (take_more bs i b l ∙ ap (λ x. take i bs ++ x ∷ []) (sym e)) ∙ flat_map-append (λ (x : Block). x.places.items) (take i bs) (b ∷ []) ∙ ap (λ xs. in_blocks (take i bs) ++ xs) (append-nil b.places.items)
@@ -245,9 +241,6 @@ place_at bs i at place b l e w r =
 -- a block's places are fewer than those from it on
 pub places_up_to : (bs : List Block) (i : ℕ) (b : Block) → i < length bs → b ≡ get_or bs i b → places_before bs (i + 1) ≡ places_before bs i + length b.places.items
 places_up_to bs i b l e = ap length (places_next bs i b l e) ∙ length-append (in_blocks (take i bs)) b.places.items
-
-pub places_all : (bs : List Block) (i : ℕ) → length bs ≤ i → places_before bs i ≡ length (in_blocks bs)
-places_all bs i l = ap (λ (xs : List Block). length (in_blocks xs)) (take_all i bs l)
 
 -- what holds at a place of the list whatever stands in its stead holds of what stands there
 pub of_block : (P : Block → Type 0) (bs : List Block) (i : ℕ) (b : Block) → b ≡ get_or bs i b → ((d : Block) → P (get_or bs i d)) → P b

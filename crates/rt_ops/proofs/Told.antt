@@ -42,13 +42,6 @@ pub known_told : (old new : Stream) (bytes : List ℕ) (ops : List Operation) (o
 known_told old new bytes ops offsets fault e other (inl h) = known_as old.bytes new.bytes bytes h.0 ops offsets fault e h.1.consumed h.2
 known_told old new bytes ops offsets fault e other (inr h) = absurd (other h.0 h.2)
 
-over_all : (left more : Option (List ℕ)) (bytes taken : List ℕ) → left ≡ Some bytes → Consumes left more taken → length taken ≤ length bytes
-over_all None more bytes taken e eaten = absurd cc
-over_all (Some all) None bytes taken e eaten = absurd eaten
-over_all (Some all) (Some rest) bytes taken e eaten =
-    let same : all ≡ bytes = cc e in
-    omega (arith, ap length same, ap length eaten, length-append taken rest)
-
 pub reads_bounded : (old new : Stream) (ops : List Operation) (offsets : List ℕ) (fault : Option (Fault × ℕ)) → ReadsFile old new ops offsets fault → new.calls ≤ old.calls + MOST_READS
 reads_bounded old new ops offsets fault (inl h) = h.1.calls
 reads_bounded old new ops offsets fault (inr h) = omega (arith, h.4.calls, h.4.within)

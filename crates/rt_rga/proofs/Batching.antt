@@ -84,11 +84,6 @@ pub batch_placed : (log ops : List Operation) (table mid : TagStates) (kept fres
 batch_placed log ops table mid kept fresh r k f =
     can_all_put log ops fresh kept r.history k (cells_by log table kept r).stamps (sym (stamps_shown (state_at mid) fresh) ∙ ap (λ (cells : List TaggedCell). stamps_of cells) f)
 
-pub batch_states : (ops : List Operation) (table mid new : TagStates) (kept fresh : List (Cell ℕ)) → KeepsIds table mid → KeepsIds mid new → AreStates table kept → AreStates mid fresh
-    → AreStates new (kept_after ops fresh kept)
-batch_states ops table mid new kept fresh early late k f =
-    kept_states mid new (kept_after ops fresh kept) late (every_after (λ (cell : Cell ℕ). IsState mid cell.state) (λ cell p. p) ops fresh kept f (kept_states table mid kept early k))
-
 pub batch_counts : (log ops : List Operation) → ContinueInTurn log ops → AllByRecursion (λ op. last_count op ≤ GREATEST_COUNT) ops
 batch_counts log [] k = tt
 batch_counts log (op ∷ ops) k = ((sound_of k.0).last, batch_counts (with_operation op log) ops k.1)

@@ -203,9 +203,6 @@ module _ (P : Cell ℕ → Type 0) (stays : (cell : Cell ℕ) → P cell → P (
   every_after (op ∷ ops) new kept n k =
       every_after ops (drop (characters_in op.body) new) (put_by_kept (stamp_of op) op.body new kept) (All-drop P (characters_in op.body) new n) (put_every (stamp_of op) op.body new kept n k)
 
-pub put_given : (table : TagStates) (stamp : Stamp) (body : Body) (new kept : List (Cell ℕ)) → AreStates table kept → AreStates table new → AreStates table (put_by_kept stamp body new kept)
-put_given table stamp body new kept k n = put_every (λ (cell : Cell ℕ). IsState table cell.state) (λ cell p. p) stamp body new kept n k
-
 -- OPERATIONS THAT ARE NEWER THAN ALL BEFORE THEM
 
 -- they rise

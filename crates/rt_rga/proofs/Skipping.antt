@@ -125,13 +125,6 @@ pub after_at : (new d : Character) (xs ys : List Character) → has_stamp xs new
 after_at new d [] ys h k = rw k
 after_at new d (x ∷ xs) ys h k = grind (arith, h, after_at new d xs ys)
 
--- What is asked of the characters before a new one comes.
-pub record IsReady (new : Character) (cs : List Character) : Type 0 where
-  pub ascending : IsAscending cs
-  pub greater : AllByRecursion (λ d. is_before d.left d.stamp ≡ true) cs
-  pub childless : AllByRecursion (λ d. is_same d.left new.stamp ≡ false) cs
-  pub fresh : AllByRecursion (λ d. is_same d.stamp new.stamp ≡ false) cs
-
 here : (new : Character) (xs : List Character) (p : Stamp) → AllAfter new.stamp xs → has_stamp xs new.left ≡ false
     → cond (is_same new.left p) (xs ++ new ∷ []) xs ≡ placed p new xs
 here new xs p h k = elim (is_same new.left p) as (λ t. cond t (xs ++ new ∷ []) xs ≡ cond t (skip new xs) (skip_after_left new xs)) [

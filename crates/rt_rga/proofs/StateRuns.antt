@@ -240,11 +240,6 @@ state_step : (table : TagStates) (b : Bool) (s : ℕ) (c : Cell ℕ) → IsState
 state_step table true s c h k = h
 state_step table false s c h k = k
 
--- the cells' states are given still
-pub states_put : (table : TagStates) (span : Span) (s : ℕ) (cells : List (Cell ℕ)) → IsState table s → AreStates table cells → AreStates table (map (state_in span s) cells)
-states_put table span s cells h k =
-    All-map (λ (c : Cell ℕ). IsState table c.state) (state_in span s) cells (λ j d lt. state_step table (is_in_span span (get_or cells j d).stamp) s (get_or cells j d) h (k j d lt))
-
 pub put_none : (cells : List (Cell ℕ)) → map (put_back_in_any []) cells ≡ cells
 put_none [] = refl
 put_none (c ∷ cs) = ap (λ l. c ∷ l) (put_none cs)

@@ -28,10 +28,6 @@ use Rattle.rt_store.specs.Shown.{shown, TaggedCell}
 use Rattle.rt_store.specs.Cells.{IsPlaced, map_state, stamps_of, visible_of}
 use Rattle.rt_rga.proofs.Replicas.{replica_later, replica_placed}
 
-pub on_err : {T E : Type 0} {P : Type 0} (r : Result T E) → P → OnErr r P
-on_err (Ok x) p = tt
-on_err (Err e) p = p
-
 -- what the answer asks of the cells
 pub cells_by : (log : List Operation) (table : TagStates) (kept : List (Cell ℕ)) → IsReplica log table kept → AreCellsOf log kept
 cells_by log table kept r = record {
