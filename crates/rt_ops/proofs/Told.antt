@@ -1,8 +1,7 @@
 -- What is told of a reader's bytes.
-use Rattle.std.proofs.Common.{◌≡◌, ℕ, ◌+◌, ◌≤◌, List, [], ◌∷◌, ◌++◌, length, take, Option, Some, None, arith, sym, ap, subst, ◌∙◌, append-nil, inl, inr}
+use Rattle.std.proofs.Common.{◌≡◌, ℕ, ◌+◌, ◌≤◌, List, [], ◌++◌, take, Option, Some, None, arith, sym, ap, subst, ◌∙◌, append-nil, inl, inr}
 use Rattle.std.specs.Io.KnownBytes.{Consumes}
-use Rattle.std.proofs.lemmas.List.{length-append}
-use Rattle.rt_stamps.specs.declared.limits.TheConstants.{MOST_BYTES, MOST_READS}
+use Rattle.rt_stamps.specs.declared.limits.TheConstants.{MOST_READS}
 use Rattle.rt_stamps.specs.declared.fault.Fault.{Fault}
 use Rattle.rt_stamps.specs.declared.fault.Fault.TheVariants.{ReadFault}
 use Rattle.rt_ops.specs.Operations.{Operation}
