@@ -13,41 +13,13 @@ ghost use Rattle.rt_store.specs.Shown.{shown};
 ghost use Rattle.rt_store.specs.Spans.{gone_in_any, is_in_spans};
 ghost use Rattle.rt_store.specs.Cells.{skip_from};
 
+use crate::new_cells::NewCells;
 use crate::tagging::tag_cells;
 use rt_oplog::{Edit, Op, OpLog};
 use rt_stamps::{Fault, ROOT, Span, Stamp};
-use rt_store::{Cell, TextStore};
+use rt_store::TextStore;
 use rt_tags::{StateId, StateTable};
 use std::alloc::Global;
-
-/// Adds cells of new characters in one state, from a stamp on. Want of memory.
-pub(crate) fn push_new(
-    cells: &mut Vec<Cell<StateId>>,
-    first: Stamp,
-    state: StateId,
-    text: &[char],
-) -> Result<(), Fault>
-    requires { first.count + length text.now ≤ GREATEST_COUNT + 1 }
-    ensures cells { OnOk result (cells.new.items ≡ cells.old.items ++ cells_from first.count first.site state text.now) }
-    ensures fault { IsOkUnless result Fault.NoMemory }
-{
-    cells.reserve(text.len())?;
-    let mut count = first.count;
-    for ch in text {
-        let stamp = Stamp {
-            count,
-            site: first.site,
-        };
-        cells.push_reserved(Cell {
-            stamp,
-            ch: *ch,
-            gone: false,
-            state,
-        });
-        count += 1;
-    }
-    Ok(())
-}
 
 /// Makes the cells of spans gone; the final newline is in none of them. Takes no memory.
 pub(crate) fn set_all_gone<S: TextStore>(store: &mut S, states: &StateTable, spans: &[Span])
@@ -87,11 +59,12 @@ pub(crate) fn insert_cells<S: TextStore>(
     ensures fault { IsOkUnless result Fault.NoMemory }
 {
     let state = states.state_of_list(ROOT, tags)?;
-    let mut cells = Vec::new(alloc);
-    push_new(&mut cells, stamp, state, text)?;
+    let mut new = NewCells::none(alloc);
+    new.add(alloc, stamp, state, text)?;
+    let cells = new.as_slice();
     store.reserve(cells.len(), 1, states.tags())?;
     let at = store.after_skip(after, stamp);
-    store.splice(states, at, &cells);
+    store.splice(states, at, cells);
     Ok(state)
 }
 

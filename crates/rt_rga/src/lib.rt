@@ -7,6 +7,7 @@ mod edits;
 pub mod examples;
 pub mod laws;
 mod make;
+mod new_cells;
 mod plan;
 mod removed;
 pub mod replica;

@@ -17,7 +17,8 @@ ghost use Rattle.rt_rga.specs.Requests.{characters_in, characters_in_all, last_c
 ghost use Rattle.rt_rga.specs.Replicas.{IsReplica};
 
 use crate::Draft;
-use crate::edits::{push_new, set_all_gone};
+use crate::edits::set_all_gone;
+use crate::new_cells::NewCells;
 use crate::plan::planned_states;
 use crate::tagging::put_states;
 use rt_oplog::{Edit, Op, OpLog};
@@ -138,30 +139,31 @@ pub(crate) fn copied(alloc: Global, ops: &[Op]) -> Result<Vec<Op>, Fault>
 
 /// The cells of the characters that operations insert. Want of memory.
 #[tactic(auto, using(rt_tags::proofs::Listing::keeps_both))]
-pub(crate) fn fresh(
-    alloc: Global,
-    states: &mut StateTable,
-    ops: &[Op],
-) -> Result<Vec<Cell<StateId>>, Fault>
+pub(crate) fn fresh(alloc: Global, states: &mut StateTable, ops: &[Op]) -> Result<NewCells, Fault>
     requires counts { AllByRecursion (λ op. last_count_of op ≤ GREATEST_COUNT) ops.now }
-    ensures cells { IfOk result (λ cells. map (shown states.new) cells.items ≡ fresh_cells ops.now) }
-    ensures given { IfOk result (λ cells. AreStates states.new cells.items) }
+    ensures cells { IfOk result (λ cells. map (shown states.new) cells ≡ fresh_cells ops.now) }
+    ensures given { IfOk result (λ cells. AreStates states.new cells) }
     ensures ids { KeepsIds states.old states.new }
     ensures fault { IsOkUnless result Fault.NoMemory }
 {
-    let mut cells = Vec::new(alloc);
+    let mut cells = NewCells::none(alloc);
     for op in ops {
-        push_fresh(states, op, &mut cells)?;
+        add_fresh(alloc, states, op, &mut cells)?;
     }
     Ok(cells)
 }
 
 /// Adds the cells of the characters that an operation inserts. Want of memory.
-fn push_fresh(states: &mut StateTable, op: &Op, cells: &mut Vec<Cell<StateId>>) -> Result<(), Fault>
+fn add_fresh(
+    alloc: Global,
+    states: &mut StateTable,
+    op: &Op,
+    cells: &mut NewCells,
+) -> Result<(), Fault>
     requires counts { last_count_of op.now ≤ GREATEST_COUNT }
-    requires given { AreStates states.old cells.old.items }
-    ensures cells { OnOk result (map (shown states.new) cells.new.items ≡ map (shown states.old) cells.old.items ++ fresh_by (stamp_of op.now) op.now.body) }
-    ensures given { OnOk result (AreStates states.new cells.new.items) }
+    requires given { AreStates states.old cells.old }
+    ensures cells { OnOk result (map (shown states.new) cells.new ≡ map (shown states.old) cells.old ++ fresh_by (stamp_of op.now) op.now.body) }
+    ensures given { OnOk result (AreStates states.new cells.new) }
     ensures ids { KeepsIds states.old states.new }
     ensures fault { IsOkUnless result Fault.NoMemory }
 {
@@ -172,7 +174,7 @@ fn push_fresh(states: &mut StateTable, op: &Op, cells: &mut Vec<Cell<StateId>>) 
     } = op.edit()
     {
         let state = states.state_of_list(ROOT, tags)?;
-        push_new(cells, op.stamp(), state, text.characters())?;
+        cells.add(alloc, op.stamp(), state, text.characters())?;
     }
     Ok(())
 }
@@ -354,9 +356,10 @@ pub(crate) fn change_all<S: TextStore>(
     ensures fault { IsOkUnless result Fault.NoMemory }
 {
     let new = fresh(alloc, states, ops)?;
-    let runs = planned_states(alloc, store, states, &new, ops)?;
-    make_room(store, states, new.len(), ops, runs.len())?;
-    put_all(store, states, &new, ops);
+    let cells = new.as_slice();
+    let runs = planned_states(alloc, store, states, cells, ops)?;
+    make_room(store, states, cells.len(), ops, runs.len())?;
+    put_all(store, states, cells, ops);
     put_states(store, states, &runs);
     Ok(())
 }

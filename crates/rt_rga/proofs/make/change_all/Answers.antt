@@ -20,26 +20,26 @@ fresh-requires g c = record { counts = batch_counts c.args.log.now.operations c.
 
 pub planned_states-requires-clause-counts : goal.planned_states-requires-clause-counts
 planned_states-requires-clause-counts g c =
-    subst CountsRise (sym c.deref.ensures.value) (fresh_counts c.args.log.now.operations c.args.ops.now c.fresh.new.states c.in_ok-new.new.items c.requires.newest c.in_ok-new.ensures.cells)
+    subst CountsRise (sym c.as_slice-cells.ensures) (fresh_counts c.args.log.now.operations c.args.ops.now c.fresh.new.states c.in_ok-new.new c.requires.newest c.in_ok-new.ensures.cells)
 
 pub planned_states-requires-clause-distinct : goal.planned_states-requires-clause-distinct
 planned_states-requires-clause-distinct g c =
     let kept : List (Cell ℕ) = g.S.TextStore.list c.args.store.now in
-    subst (λ (cells : List (Cell ℕ)). AreDistinct (cells ++ kept)) (sym c.deref.ensures.value)
-    (fresh_distinct c.args.log.now.operations c.args.ops.now c.args.states.now c.fresh.new.states kept c.in_ok-new.new.items c.requires.replica c.requires.continues c.requires.newest c.in_ok-new.ensures.cells)
+    subst (λ (cells : List (Cell ℕ)). AreDistinct (cells ++ kept)) (sym c.as_slice-cells.ensures)
+    (fresh_distinct c.args.log.now.operations c.args.ops.now c.args.states.now c.fresh.new.states kept c.in_ok-new.new c.requires.replica c.requires.continues c.requires.newest c.in_ok-new.ensures.cells)
 
 pub planned_states-requires-clause-states : goal.planned_states-requires-clause-states
 planned_states-requires-clause-states g c =
     let kept : List (Cell ℕ) = g.S.TextStore.list c.args.store.now in
-    subst (λ (cells : List (Cell ℕ)). AreStates c.fresh.new.states (cells ++ kept)) (sym c.deref.ensures.value)
-    (fresh_states c.args.states.now c.fresh.new.states kept c.in_ok-new.new.items c.fresh.ensures.ids c.requires.replica.states c.in_ok-new.ensures.given)
+    subst (λ (cells : List (Cell ℕ)). AreStates c.fresh.new.states (cells ++ kept)) (sym c.as_slice-cells.ensures)
+    (fresh_states c.args.states.now c.fresh.new.states kept c.in_ok-new.new c.fresh.ensures.ids c.requires.replica.states c.in_ok-new.ensures.given)
 
 pub put_all-requires-clause-put : goal.put_all-requires-clause-put
 put_all-requires-clause-put g c =
     let kept : List (Cell ℕ) = g.S.TextStore.list c.args.store.now in
     let ops : List Operation = c.args.ops.now in
-    let can = batch_placed c.args.log.now.operations ops c.args.states.now c.fresh.new.states kept c.in_ok-new.new.items c.requires.replica c.requires.continues c.in_ok-new.ensures.cells in
-    subst (λ (p : _). p) (λ j. CanAllBePut ops (sym c.deref-2.ensures.value j) (sym c.in_ok-make_room.ensures.same j)) can
+    let can = batch_placed c.args.log.now.operations ops c.args.states.now c.fresh.new.states kept c.in_ok-new.new c.requires.replica c.requires.continues c.in_ok-new.ensures.cells in
+    subst (λ (p : _). p) (λ j. CanAllBePut ops (sym c.as_slice-cells.ensures j) (sym c.in_ok-make_room.ensures.same j)) can
 
 pub put_states-requires-clause-states : goal.put_states-requires-clause-states
 put_states-requires-clause-states g c = c.put_all.ensures.states
@@ -48,21 +48,21 @@ pub returns-clause-replica : goal.returns-clause-replica
 returns-clause-replica g c =
     let kept : List (Cell ℕ) = g.S.TextStore.list c.args.store.now in
     let ops : List Operation = c.args.ops.now in
-    let fresh : List (Cell ℕ) = c.in_ok-new.new.items in
-    let come = subst (λ (cells : List (Cell ℕ)). All (ComesOut ops c.fresh.new.states c.planned_states.new.states c.in_ok-runs.runs.items) (cells ++ kept)) c.deref.ensures.value c.in_ok-runs.ensures.runs in
+    let fresh : List (Cell ℕ) = c.in_ok-new.new in
+    let come = subst (λ (cells : List (Cell ℕ)). All (ComesOut ops c.fresh.new.states c.planned_states.new.states c.in_ok-runs.runs.items) (cells ++ kept)) c.as_slice-cells.ensures c.in_ok-runs.ensures.runs in
     batch_kept c.args.log.now.operations ops c.args.states.now c.fresh.new.states c.planned_states.new.states kept fresh (g.S.TextStore.list c.put_states.new.store) c.in_ok-runs.runs.items
     c.requires.replica c.requires.continues c.requires.newest c.fresh.ensures.ids c.planned_states.ensures.ids c.in_ok-new.ensures.cells c.in_ok-new.ensures.given c.in_ok-runs.ensures.given
     (all_front (ComesOut ops c.fresh.new.states c.planned_states.new.states c.in_ok-runs.runs.items) fresh kept come) (all_back (ComesOut ops c.fresh.new.states c.planned_states.new.states c.in_ok-runs.runs.items) fresh kept come)
-    (c.put_states.ensures.list ∙ (λ j. map (put_back_in_any (c.deref-3.ensures.value j)) ((c.put_all.ensures.list ∙ (λ k. kept_after ops (c.deref-2.ensures.value k) (c.in_ok-make_room.ensures.same k))) j)))
+    (c.put_states.ensures.list ∙ (λ j. map (put_back_in_any (c.deref.ensures.value j)) ((c.put_all.ensures.list ∙ (λ k. kept_after ops (c.as_slice-cells.ensures k) (c.in_ok-make_room.ensures.same k))) j)))
 
 pub returns-clause-cells : goal.returns-clause-cells
 returns-clause-cells g c =
     let kept : List (Cell ℕ) = g.S.TextStore.list c.args.store.now in
     let ops : List Operation = c.args.ops.now in
-    let fresh : List (Cell ℕ) = c.in_ok-new.new.items in
+    let fresh : List (Cell ℕ) = c.in_ok-new.new in
     let can = batch_placed c.args.log.now.operations ops c.args.states.now c.fresh.new.states kept fresh c.requires.replica c.requires.continues c.in_ok-new.ensures.cells in
     batch_length ops c.in_ok-runs.runs.items kept fresh (g.S.TextStore.list c.put_states.new.store) can
-    (c.put_states.ensures.list ∙ (λ j. map (put_back_in_any (c.deref-3.ensures.value j)) ((c.put_all.ensures.list ∙ (λ k. kept_after ops (c.deref-2.ensures.value k) (c.in_ok-make_room.ensures.same k))) j)))
+    (c.put_states.ensures.list ∙ (λ j. map (put_back_in_any (c.deref.ensures.value j)) ((c.put_all.ensures.list ∙ (λ k. kept_after ops (c.as_slice-cells.ensures k) (c.in_ok-make_room.ensures.same k))) j)))
 
 -- What a call that fails leaves: its fault, and what was given out keeps its meaning.
 pub returns-in_err-new : goal.returns-in_err-new
@@ -89,11 +89,11 @@ put_all-requires-clause-states g c =
 pub put_all-requires-clause-given : goal.put_all-requires-clause-given
 put_all-requires-clause-given g c =
     let new = c.planned_states.new.states in
-    subst (AreStates new) (sym c.deref-2.ensures.value) (kept_states c.fresh.new.states new c.in_ok-new.new.items c.planned_states.ensures.ids c.in_ok-new.ensures.given)
+    subst (AreStates new) (sym c.as_slice-cells.ensures) (kept_states c.fresh.new.states new c.in_ok-new.new c.planned_states.ensures.ids c.in_ok-new.ensures.given)
 
 pub put_states-requires-clause-runs : goal.put_states-requires-clause-runs
 put_states-requires-clause-runs g c =
-    subst (λ (runs : List StateRun). All (λ run. IsState c.planned_states.new.states run.state) runs) (sym c.deref-3.ensures.value) c.in_ok-runs.ensures.given
+    subst (λ (runs : List StateRun). All (λ run. IsState c.planned_states.new.states run.state) runs) (sym c.deref.ensures.value) c.in_ok-runs.ensures.given
 
 pub returns-clause-ids : goal.returns-clause-ids
 returns-clause-ids g c = keeps_both c.args.states.now c.fresh.new.states c.planned_states.new.states c.fresh.ensures.ids c.planned_states.ensures.ids
@@ -101,11 +101,11 @@ returns-clause-ids g c = keeps_both c.args.states.now c.fresh.new.states c.plann
 pub put_all-requires-clause-room : goal.put_all-requires-clause-room
 put_all-requires-clause-room g c =
     let room = c.in_ok-make_room.ensures.room in
-    (omega (arith, room.0, c.len.ensures, ap length c.deref-2.ensures.value), omega (arith, room.1), room.2)
+    (omega (arith, room.0, ap length c.as_slice-cells.ensures), omega (arith, room.1), room.2)
 
 pub put_states-requires-clause-room : goal.put_states-requires-clause-room
 put_states-requires-clause-room g c =
-    (omega arith, omega (arith, c.put_all.ensures.room, c.in_ok-make_room.ensures.room.1, c.len-2.ensures, ap length c.deref-3.ensures.value), omega (arith, c.put_all.ensures.tags, c.in_ok-make_room.ensures.room.2))
+    (omega arith, omega (arith, c.put_all.ensures.room, c.in_ok-make_room.ensures.room.1, c.len.ensures, ap length c.deref.ensures.value), omega (arith, c.put_all.ensures.tags, c.in_ok-make_room.ensures.room.2))
 
 pub returns-clause-agrees : goal.returns-clause-agrees
 returns-clause-agrees g c = c.put_states.ensures.states

@@ -10,8 +10,8 @@ use Rattle.rt_rga.proofs.make.fresh.Given as goal
 
 abbrev pub invariant-loop-op : goal.invariant-loop-op
 invariant-loop-op l = record {
-  cells : map (shown l.states) l.cells.items ++ fresh_cells (drop l.op-index l.ops) ≡ fresh_cells l.ops;
-  given : AreStates l.states l.cells.items;
+  cells : map (shown l.states) l.cells ++ fresh_cells (drop l.op-index l.ops) ≡ fresh_cells l.ops;
+  given : AreStates l.states l.cells;
   ids : KeepsIds l.fn.states l.states;
   counts : AllByRecursion (λ op. last_count op ≤ GREATEST_COUNT) (drop l.op-index l.ops);
 }

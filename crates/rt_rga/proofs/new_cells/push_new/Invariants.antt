@@ -1,7 +1,7 @@
 use Rattle.std.proofs.Common.{◌≡◌, ◌+◌, ◌≤◌, ◌++◌, drop, length}
 use Rattle.std.specs.Prelude.{vec_capacity, vec_len}
 use Rattle.rt_store.specs.Cells.{cells_from}
-use Rattle.rt_rga.proofs.edits.push_new.Given as goal
+use Rattle.rt_rga.proofs.new_cells.push_new.Given as goal
 
 abbrev pub invariant-loop-ch : goal.invariant-loop-ch
 invariant-loop-ch l = record {

@@ -1,0 +1,121 @@
+// Cells of new characters.
+ghost use Rattle.std.specs.Prelude.{◌≡◌, ◌+◌, ◌≤◌, ◌++◌, [], false, OnOk, IsOkUnless, length};
+ghost use Rattle.rt_stamps.specs.declared.limits.TheConstants.{GREATEST_COUNT};
+ghost use Rattle.rt_store.specs.Cells.{cells_from};
+
+use rt_stamps::{Fault, Stamp};
+use rt_store::Cell;
+use rt_tags::StateId;
+use std::alloc::Global;
+use std::marker::Model;
+use std::slice;
+
+/// Cells of new characters. That of a single one, as typed, takes no memory.
+#[derive(Drop)]
+pub(crate) struct NewCells {
+    kept: Kept,
+}
+
+#[derive(Drop)]
+enum Kept {
+    One(Cell<StateId>),
+    Many(Vec<Cell<StateId>>),
+}
+
+impl Model for NewCells {
+    ghost use Rattle.std.specs.Prelude.{List, ℕ};
+    ghost use Rattle.rt_store.specs.declared.cell.Cell.{Cell as StoreCell};
+
+    ghost Value = { List (StoreCell ℕ) };
+
+    ghost use Rattle.rt_rga.specs.NewCells.{cells_in};
+
+    ghost view = { λ cells. cells_in cells.kept };
+}
+
+impl NewCells {
+    /// No cells.
+    pub(crate) fn none(alloc: Global) -> NewCells
+        ensures { result ≡ [] }
+    {
+        NewCells {
+            kept: Kept::Many(Vec::new(alloc)),
+        }
+    }
+
+    /// The cells.
+    pub(crate) fn as_slice(&self) -> &[Cell<StateId>]
+        ensures { result.now ≡ self.now }
+    {
+        match &self.kept {
+            Kept::One(cell) => slice::from_ref(cell),
+            Kept::Many(cells) => cells.as_slice(),
+        }
+    }
+
+    /// Adds cells of new characters in one state, from a stamp on. Want of memory.
+    pub(crate) fn add(
+        &mut self,
+        alloc: Global,
+        first: Stamp,
+        state: StateId,
+        text: &[char],
+    ) -> Result<(), Fault>
+        requires { first.count + length text.now ≤ GREATEST_COUNT + 1 }
+        ensures cells { OnOk result (self.new ≡ self.old ++ cells_from first.count first.site state text.now) }
+        ensures fault { IsOkUnless result Fault.NoMemory }
+    {
+        match &mut self.kept {
+            Kept::One(cell) => {
+                let mut cells = Vec::new(alloc);
+                cells.push(*cell)?;
+                push_new(&mut cells, first, state, text)?;
+                self.kept = Kept::Many(cells);
+                Ok(())
+            }
+            Kept::Many(cells) => match text {
+                [ch] if cells.is_empty() => {
+                    self.kept = Kept::One(new_cell(first, state, *ch));
+                    Ok(())
+                }
+                _ => push_new(cells, first, state, text),
+            },
+        }
+    }
+}
+
+/// The cell of a new character.
+fn new_cell(stamp: Stamp, state: StateId, ch: char) -> Cell<StateId>
+    ensures { result ≡ record { stamp = stamp; ch = ch; gone = false; state = state } }
+{
+    Cell {
+        stamp,
+        ch,
+        gone: false,
+        state,
+    }
+}
+
+/// Adds cells of new characters in one state, from a stamp on. Want of memory.
+fn push_new(
+    cells: &mut Vec<Cell<StateId>>,
+    first: Stamp,
+    state: StateId,
+    text: &[char],
+) -> Result<(), Fault>
+    requires { first.count + length text.now ≤ GREATEST_COUNT + 1 }
+    ensures cells { OnOk result (cells.new.items ≡ cells.old.items ++ cells_from first.count first.site state text.now) }
+    ensures fault { IsOkUnless result Fault.NoMemory }
+{
+    cells.reserve(text.len())?;
+    let mut count = first.count;
+    for ch in text {
+        let stamp = Stamp {
+            count,
+            site: first.site,
+        };
+        cells.push_reserved(new_cell(stamp, state, *ch));
+        count += 1;
+    }
+    Ok(())
+}
