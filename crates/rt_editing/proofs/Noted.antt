@@ -1,10 +1,9 @@
 -- What is recorded of an edit, and that a site stays settled.
-use Rattle.std.proofs.Common.{◌≡◌, ◌∙◌, ℕ, Bool, true, false, List, [], ◌∷◌, ◌++◌, Result, Ok, cond, inl, inr, map, length, ap, refl, subst, sym}
+use Rattle.std.proofs.Common.{◌≡◌, ◌∙◌, ℕ, Bool, true, false, List, [], ◌∷◌, ◌++◌, Result, Ok, cond, map, length, ap, refl, subst, sym}
 use Rattle.std.specs.Prelude.{◌&&◌}
 use Rattle.std.specs.List.{AllByRecursion}
 use Rattle.rt_stamps.specs.declared.fault.Fault.{Fault}
 use Rattle.rt_stamps.specs.declared.stamp.Stamp.{Stamp}
-use Rattle.rt_stamps.specs.Outcomes.{Refuses}
 use Rattle.rt_stamps.specs.Words.{Word}
 use Rattle.rt_store.specs.Cells.{text_of}
 use Rattle.rt_store.specs.Shown.{TaggedCell}
@@ -19,7 +18,7 @@ use Rattle.rt_text.specs.Widgets.{Viewed, begin_of, text_shown}
 use Rattle.rt_undo.specs.declared.action.Kind.{Kind}
 use Rattle.rt_undo.specs.Actions.{Action, Removed}
 use Rattle.rt_undo.specs.Undo.{History, added, as_group, asks_separator, forced_on, recorded, separated}
-use Rattle.rt_editing.specs.Edited.{Edited, edited}
+use Rattle.rt_editing.specs.Edited.{edited}
 use Rattle.rt_editing.specs.Edits.{action_of, counts_between, has_changed, noted, noted_by, recorded_edit}
 use Rattle.rt_editing.specs.Noting.{IsOfLog, Keeps}
 use Rattle.rt_editing.proofs.Actions.{action_stays, places_stay}
@@ -90,9 +89,6 @@ settled_kept view new old next settled same keeps = record {
   undone = subst (λ (h : History (List Word)). AllByRecursion AreSound h.undone) (sym keeps.history) settled.undone;
 }
 
-pub edited_kept : (view new : Viewed) (old next : Recording) → new ≡ view → Keeps old next → edited new next ≡ edited view old
-edited_kept view new old next same keeps = λ i. record { view = same i; history = keeps.history i; undo = keeps.undo i; auto = keeps.auto i }
-
 pub keeps_itself : (old : Recording) → Keeps old old
 keeps_itself old = record { history = refl; undo = refl; auto = refl; back = λ s. refl }
 
@@ -145,8 +141,3 @@ settled_forced view new old next e settled kept same grows =
 pub settled_same : (view new : Viewed) (old next : Recording) → next ≡ old → IsSettled view old → IsOfLog view.doc → IsOfLog new.doc → Grows view.doc.log new.doc.log → IsSettled new next
 settled_same view new old next e settled kept same grows =
     subst (IsSettled new) (sym e) (settled_after view new old old settled kept same grows (λ s. refl) (history_of view old settled))
-
--- one that is refused
-pub edit_refused : (kind : Kind) (lost : List TaggedCell) (text : Edited) (said : Result Viewed Fault) (fault : Fault) → Refuses said fault → Refuses (recorded_edit kind lost text said) fault
-edit_refused kind lost text said fault (inl e) = inl e
-edit_refused kind lost text said fault (inr e) = inr (ap (recorded_edit kind lost text) e)

@@ -19,7 +19,7 @@ use Rattle.rt_rga.proofs.Appending.{characters_append}
 use Rattle.rt_edits.specs.Deletions.{Loss, delete_drafts, newline_of}
 use Rattle.rt_edits.specs.Flat.{Flat}
 use Rattle.rt_edits.specs.InsertionDrafts.{behind, insertion_drafts, inserts_of, pieces_drafts, tags_on, text_drafts}
-use Rattle.rt_edits.specs.Insertions.{Insertion, Piece, cells_of_inserts, further_tags, insertion_of, inserts_for, last_of, new_state, shared_names, tagged_cells, tags_between, with_listed, with_pieces}
+use Rattle.rt_edits.specs.Insertions.{Insertion, Piece, cells_of_inserts, further_tags, insertion_of, inserts_for, last_of, new_state, shared_names, tagged_cells, tags_between, with_listed, with_pieces, with_unlisted}
 use Rattle.rt_edits.specs.NamedSpans.{first_parts, parts_of, spans_in}
 use Rattle.rt_edits.specs.RemovalDrafts.{removal_drafts}
 use Rattle.rt_edits.specs.Removals.{cells_at, stamps_at}
@@ -124,6 +124,12 @@ more_length site so_far next names text m =
     ap length m.cells
     ∙ length-append so_far.cells (tagged_cells site so_far.count names text)
     ∙ ap (λ n. length so_far.cells + n) (cells_length (inserts_for (length text)) site so_far.count names text few)
+
+pub listed_length : (site : ℕ) (tags : List Word) (text : List ℕ) (so_far : Insertion) → length (with_listed site tags text so_far).cells ≡ length so_far.cells + length text
+listed_length site tags text so_far = more_length site so_far (with_listed site tags text so_far) (shared_names tags) text (listed_more site so_far tags text)
+
+pub unlisted_length : (site : ℕ) (left right : Option TaggedCell) (text : List ℕ) (so_far : Insertion) → length (with_unlisted site left right text so_far).cells ≡ length so_far.cells + length text
+unlisted_length site left right text so_far = more_length site so_far (with_unlisted site left right text so_far) (tags_between left right) text (unlisted_more site left right so_far text)
 
 -- SEVERAL PIECES
 

@@ -55,6 +55,11 @@ stamps_more site count names text part more h p m =
     ∙ ap (λ l. l ++ stamps_of rest) (stamps_any (count + 1) site state zero t)
     ∙ (λ i. stamps_of {T = ℕ} (cells_from (count + 1) site 0 (sym p i)) ++ stamps_of (tagged_cells site (count + length (sym p i) + length (further_tags names)) names (sym m i)))
 
+pub one_stamp : (site count : ℕ) (names : List Word) (text : List ℕ) → length text ≡ 1 → record { count = count + 1; site = site } ∷ [] ≡ stamps_of (tagged_cells site count names text)
+one_stamp site count names [] e = absurd (omega arith)
+one_stamp site count names (c ∷ []) e = refl
+one_stamp site count names (c ∷ d ∷ text) e = absurd (omega arith)
+
 -- THE ELEMENT BEHIND
 
 abbrev stamp_or : Option TaggedCell → Stamp → Stamp

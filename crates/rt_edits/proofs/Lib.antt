@@ -1,4 +1,3 @@
-pub mod BareText
 pub mod CellLaws
 pub mod CharacterCounts
 pub mod ChosenLaws

@@ -10,20 +10,20 @@ use Rattle.rt_ops.specs.Operations.{Body}
 use Rattle.rt_tags.specs.Tags.{is_listed, sel}
 use Rattle.rt_store.specs.Cells.{stamps_of}
 use Rattle.rt_store.specs.Shown.{TaggedCell}
-use Rattle.rt_store.proofs.Shown.{map_append}
 use Rattle.rt_edits.specs.declared.pieces.PlannedPieces.{PlannedPieces}
 use Rattle.rt_edits.specs.InsertionDrafts.{behind, pieces_drafts, text_drafts}
 use Rattle.rt_edits.specs.Insertions.{Insertion, Piece, all_listed, counts_for, selected_if, shared_names, tagged_cells, with_listed, with_pieces}
 use Rattle.rt_edits.specs.PlannedPieces.{AreSoFar}
 use Rattle.rt_edits.specs.Selections.{with_stamps}
+use Rattle.rt_edits.proofs.CharacterCounts.{listed_length}
 use Rattle.rt_edits.proofs.InsertTexts.{behind_append}
 use Rattle.rt_edits.proofs.LastNames.{last_tagged, shared_rise}
 use Rattle.rt_edits.proofs.Planning.{none_left}
 use Rattle.rt_edits.proofs.PlanLaws.{all_append, pieces_from, pieces_spent}
 
--- a text more: its stamps, its counts, the element behind it, and its tags
+-- a text more: its characters, its counts, the element behind it, and its tags
 pub record IsMoreText (site : ℕ) (names : List Word) (text : List ℕ) (old new : PlannedPieces) : Type 0 where
-  pub stamps : new.texts.stamps.items ≡ old.texts.stamps.items ++ stamps_of (tagged_cells site old.texts.count names text)
+  pub characters : new.characters ≡ old.characters + length text
   pub count : new.texts.count ≡ old.texts.count + counts_for names text
   pub element : new.texts.behind ≡ behind old.texts.behind (tagged_cells site old.texts.count names text)
   pub tags : map (λ w. string_bytes w) new.names.items ≡ map (λ w. string_bytes w) old.names.items ++ names
@@ -42,7 +42,7 @@ added_listed after selection listed old new site tags (c ∷ text) so_far some m
     let shared = shared_names tags in
     let more : ℕ → List TaggedCell = λ count. tagged_cells site count shared (c ∷ text) in
     record {
-      stamps = m.stamps ∙ (λ i. h.stamps i ++ stamps_of (more (h.count i))) ∙ sym (map_append (λ (cell : TaggedCell). cell.stamp) so_far.cells (more so_far.count));
+      characters = m.characters ∙ ap (λ n. n + length (c ∷ text)) h.characters ∙ sym (listed_length site tags (c ∷ text) so_far);
       count = m.count ∙ ap (λ n. n + counts_for shared (c ∷ text)) h.count;
       element = m.element ∙ (λ i. behind (h.element i) (more (h.count i))) ∙ sym (behind_append after so_far.cells (more so_far.count));
       sel = s ∙ (λ i. selected_if (is_listed sel tags) (stamps_of (more (h.count i))) (h.sel i));
@@ -60,10 +60,10 @@ no_drafts drafts site count after names text e = sym (append-nil drafts) ∙ sym
 
 -- none yet
 pub none_so_far : (pieces : PlannedPieces) (after : Stamp) (selection : List Stamp) (others : List (List Stamp)) (listed : List Word) (count : ℕ)
-    → pieces.texts.stamps.items ≡ [] → pieces.texts.count ≡ count → pieces.texts.behind ≡ after → pieces.selected.items ≡ [] → pieces.names.items ≡ [] → pieces.last ≡ None
+    → pieces.characters ≡ 0 → pieces.texts.count ≡ count → pieces.texts.behind ≡ after → pieces.selected.items ≡ [] → pieces.names.items ≡ [] → pieces.last ≡ None
     → AreSoFar after selection listed pieces (record { cells = []; count = count; sel = selection; others = others; tags = listed })
 none_so_far pieces after selection others listed count s c b k n l = record {
-  stamps = s;
+  characters = s;
   count = c;
   element = b;
   sel = ap (λ l. with_stamps l selection) k;

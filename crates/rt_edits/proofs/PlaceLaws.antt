@@ -1,19 +1,11 @@
 -- Laws of places in a text that ends with a newline.
-use Rattle.std.proofs.Common.{◌≡◌, ℕ, zero, suc, ◌+◌, ◌-◌, ◌<◌, ◌≤◌, List, [], ◌∷◌, ◌++◌, Bool, true, false, cond, length, refl, arith, add-one, take, ◌&&◌, ◌∙◌, ap}
-use Rattle.std.proofs.lemmas.Bool.{le-leb}
+use Rattle.std.proofs.Common.{◌≡◌, ℕ, zero, suc, ◌+◌, ◌-◌, ◌<◌, ◌≤◌, List, [], ◌∷◌, ◌++◌, Bool, true, false, cond, length, refl, arith, add-one, take}
 use Rattle.std.proofs.lemmas.List.{length-map}
 use Rattle.rt_stamps.specs.Places.{is_newline, newlines, after_newlines, line_of, position_at}
 use Rattle.rt_store.specs.declared.cell.Cell.{Cell}
 use Rattle.rt_store.specs.Cells.{text_of, visible_of}
 use Rattle.rt_stamps.specs.Places.{EndsWithNewline}
-use Rattle.rt_edits.specs.Deletions.{places_from}
 pub use Rattle.rt_edits.proofs.Texts.{ends_text, text_within}
-
--- places of a stretch that begins at 0 are those of the text
-pub places_from_start : (test : ℕ → Bool) (place : ℕ) → places_from 0 test place ≡ test place
-places_from_start test place =
-    let zero : place - 0 ≡ place = omega arith in
-    ap (λ b. b && test (place - 0)) (le-leb 0 place (omega arith)) ∙ ap test zero
 
 some_front : (front : List ℕ) → 1 ≤ newlines (front ++ 10 ∷ [])
 some_front [] = omega arith

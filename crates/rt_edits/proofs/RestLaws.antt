@@ -1,8 +1,7 @@
 -- Text without a list behind pieces.
-use Rattle.std.proofs.Common.{◌≡◌, ℕ, zero, suc, ◌≤◌, ◌&&◌, ◌||◌, Bool, true, false, List, [], ◌∷◌, ◌++◌, length, filter, map, not, refl, sym, ◌∙◌, ap, subst, arith, Option, Some, None}
+use Rattle.std.proofs.Common.{◌≡◌, ℕ, zero, suc, ◌+◌, ◌≤◌, ◌&&◌, ◌||◌, Bool, true, false, cond, List, [], ◌∷◌, length, filter, map, not, refl, sym, ◌∙◌, ap, subst, arith, Option, Some, None}
 use Rattle.std.specs.Prelude.{All, IfSome, is_some, option_map, slice_get, string_bytes, unwrap_or}
 use Rattle.std.specs.Str.{chars}
-use Rattle.std.proofs.lemmas.List.{length-map}
 use Rattle.std.proofs.lemmas.List.Elements.{All-filter}
 use Rattle.std.proofs.lemmas.Option.{get_or_from_slice_get, slice_get_within}
 use Rattle.rt_stamps.specs.declared.stamp.Stamp.{Stamp}
@@ -14,15 +13,16 @@ use Rattle.rt_store.specs.Cells.{stamps_of, visible_of}
 use Rattle.rt_store.specs.Shown.{TaggedCell, shown}
 use Rattle.rt_store.specs.Spans.{is_among}
 use Rattle.rt_store.specs.Tagged.{AreStates}
-use Rattle.rt_store.proofs.Shown.{map_append, visible_at_shown}
+use Rattle.rt_store.proofs.Shown.{visible_at_shown}
 use Rattle.rt_edits.specs.declared.inserting.Plan.{Plan}
 use Rattle.rt_edits.specs.declared.pieces.PlannedPieces.{PlannedPieces}
 use Rattle.rt_edits.specs.Flat.{left_of}
 use Rattle.rt_edits.specs.InsertionDrafts.{behind}
 use Rattle.rt_edits.specs.InsertionPlans.{Plans, selected_between}
-use Rattle.rt_edits.specs.Insertions.{Insertion, Piece, all_listed, are_among, last_of, left_neighbour, right_neighbour, selected_if, tagged_cells, tags_between, with_listed, with_pieces, with_unlisted}
+use Rattle.rt_edits.specs.Insertions.{Insertion, Piece, all_listed, are_among, last_of, left_neighbour, selected_if, tagged_cells, tags_between, with_listed, with_pieces, with_unlisted}
 use Rattle.rt_edits.specs.PlannedPieces.{ArePlanned, AreSoFar}
 use Rattle.rt_edits.specs.Selections.{with_stamps}
+use Rattle.rt_edits.proofs.CharacterCounts.{unlisted_length}
 use Rattle.rt_edits.proofs.LastNames.{tags_of}
 use Rattle.rt_edits.proofs.PieceLaws.{IsMoreText}
 use Rattle.rt_edits.proofs.PlanLaws.{all_append}
@@ -61,7 +61,7 @@ either true b h = absurd (cc h)
 either false b h = (refl, h)
 
 -- some pieces have no text, and there is no left neighbour
-pub no_left : (after : Stamp) (selection : List Stamp) (listed : List Word) (pieces : PlannedPieces) (so_far : Insertion) (table : TagStates) (left : Option (Cell ℕ)) → AreSoFar after selection listed pieces so_far
+no_left : (after : Stamp) (selection : List Stamp) (listed : List Word) (pieces : PlannedPieces) (so_far : Insertion) (table : TagStates) (left : Option (Cell ℕ)) → AreSoFar after selection listed pieces so_far
     → (is_some pieces.last || is_some left) ≡ false → last_of (option_map (shown table) left) so_far.cells ≡ None
 no_left after selection listed pieces so_far table left h e =
     let p = either (is_some pieces.last) (is_some left) e in
@@ -76,7 +76,7 @@ among_last : (stamps : List Stamp) (x : TaggedCell) (xs : List TaggedCell) (righ
 among_last stamps x [] right after = refl
 among_last stamps x (y ∷ ys) right after = among_last stamps y ys right after
 
-pub are_both : (after : Stamp) (selection : List Stamp) (listed : List Word) (pieces : PlannedPieces) (so_far : Insertion) (table : TagStates) (left : Option (Cell ℕ)) (right : TaggedCell) (stamps : List Stamp) → AreSoFar after selection listed pieces so_far
+are_both : (after : Stamp) (selection : List Stamp) (listed : List Word) (pieces : PlannedPieces) (so_far : Insertion) (table : TagStates) (left : Option (Cell ℕ)) (right : TaggedCell) (stamps : List Stamp) → AreSoFar after selection listed pieces so_far
     → IfSome left (λ cell. after ≡ cell.stamp) → (is_some pieces.last || is_some left) ≡ true
     → are_among stamps (last_of (option_map (shown table) left) so_far.cells) (Some right) ≡ (is_among stamps pieces.texts.behind && is_among stamps right.stamp)
 are_both after selection listed pieces so_far table left right stamps h a e = by so_far.cells h.last ∙ ap (λ s. is_among stamps s && is_among stamps right.stamp) (sym h.element)
@@ -91,6 +91,53 @@ are_both after selection listed pieces so_far table left right stamps h a e = by
     by [] k = first left (sym (ap (λ b. b || is_some left) (is_none (λ names. map (λ w. string_bytes w) names.items) pieces.last k)) ∙ e) a
     by (c ∷ cs) k = among_last stamps c cs right after
 
+-- BOTH SIDES
+
+abbrev sides : PlannedPieces → Option (Cell ℕ) → Option (Cell ℕ) → Option (Stamp × Stamp)
+sides pieces left right = cond {A = Option (Stamp × Stamp)} (is_some pieces.last || is_some left) (option_map (λ cell. (pieces.texts.behind, cell.stamp)) right) None
+
+never_both : (stamps : List Stamp) (left : Option TaggedCell) → are_among stamps left None ≡ false
+never_both stamps None = refl
+never_both stamps (Some left) = refl
+
+-- one side is missing
+pub not_both : (after : Stamp) (selection : List Stamp) (listed : List Word) (pieces : PlannedPieces) (so_far : Insertion) (table : TagStates) (left right : Option (Cell ℕ)) (stamps : List Stamp) → AreSoFar after selection listed pieces so_far
+    → sides pieces left right ≡ None → are_among stamps (last_of (option_map (shown table) left) so_far.cells) (option_map (shown table) right) ≡ false
+not_both after selection listed pieces so_far table left None stamps h e = never_both stamps (last_of (option_map (shown table) left) so_far.cells)
+not_both after selection listed pieces so_far table left (Some x) stamps h e = by (is_some pieces.last || is_some left) refl e
+  where
+    by : (b : Bool) → (is_some pieces.last || is_some left) ≡ b → cond {A = Option (Stamp × Stamp)} b (Some (pieces.texts.behind, x.stamp)) None ≡ None → are_among stamps (last_of (option_map (shown table) left) so_far.cells) (Some (shown table x)) ≡ false
+    by true k f = absurd (cc f)
+    by false k f = ap (λ o. are_among stamps o (Some (shown table x))) (no_left after selection listed pieces so_far table left h k)
+
+-- both are there
+pub is_side : (after : Stamp) (selection : List Stamp) (listed : List Word) (pieces : PlannedPieces) (so_far : Insertion) (table : TagStates) (left right : Option (Cell ℕ)) (one other : Stamp) (stamps : List Stamp) → AreSoFar after selection listed pieces so_far
+    → IfSome left (λ cell. after ≡ cell.stamp) → sides pieces left right ≡ Some (one, other)
+    → are_among stamps (last_of (option_map (shown table) left) so_far.cells) (option_map (shown table) right) ≡ (is_among stamps one && is_among stamps other)
+is_side after selection listed pieces so_far table left None one other stamps h a e = by (is_some pieces.last || is_some left) e
+  where
+    by : (b : Bool) → cond {A = Option (Stamp × Stamp)} b None None ≡ Some (one, other) → are_among stamps (last_of (option_map (shown table) left) so_far.cells) None ≡ (is_among stamps one && is_among stamps other)
+    by true f = absurd (cc f)
+    by false f = absurd (cc f)
+is_side after selection listed pieces so_far table left (Some x) one other stamps h a e = by (is_some pieces.last || is_some left) refl e
+  where
+    by : (b : Bool) → (is_some pieces.last || is_some left) ≡ b → cond {A = Option (Stamp × Stamp)} b (Some (pieces.texts.behind, x.stamp)) None ≡ Some (one, other)
+        → are_among stamps (last_of (option_map (shown table) left) so_far.cells) (Some (shown table x)) ≡ (is_among stamps one && is_among stamps other)
+    by false k f = absurd (cc f)
+    by true k f =
+        let here : Stamp × Stamp = (pieces.texts.behind, x.stamp) in
+        let same : here ≡ (one, other) = cc f in
+        are_both after selection listed pieces so_far table left (shown table x) stamps h a k ∙ (λ i. is_among stamps (same i).0 && is_among stamps (same i).1)
+
+-- so there is a right one
+pub right_side : (pieces : PlannedPieces) (left right : Option (Cell ℕ)) (both : Stamp × Stamp) → sides pieces left right ≡ Some both → right ≡ None → ⊥
+right_side pieces left None both e n = by (is_some pieces.last || is_some left) e
+  where
+    by : (b : Bool) → cond {A = Option (Stamp × Stamp)} b None None ≡ Some both → ⊥
+    by true f = cc f
+    by false f = cc f
+right_side pieces left (Some x) both e n = cc n
+
 -- THE PLAN
 
 none_between : (others : List (List Stamp)) → map (selected_between None) others ≡ others
@@ -102,7 +149,7 @@ pub plans_nothing : (plan : Plan) (after : Stamp) (selection : List Stamp) (list
     → Plans plan selection so_far.others listed (with_unlisted site left right text so_far)
 plans_nothing plan after selection listed pieces site left right text so_far e h p =
     subst (λ t. Plans plan selection so_far.others listed (with_unlisted site left right t so_far)) (sym e) (record {
-      characters = p.characters ∙ ap length h.stamps ∙ length-map so_far.cells (λ (cell : TaggedCell). cell.stamp);
+      characters = p.characters ∙ h.characters;
       sel = (λ i. with_stamps (p.selected i).items selection) ∙ h.sel;
       others = ap (λ o. map (selected_between o) so_far.others) p.others ∙ none_between so_far.others;
       tags = (λ i. all_listed (map (λ w. string_bytes w) (p.names i).items) listed) ∙ h.tags;
@@ -110,7 +157,7 @@ plans_nothing plan after selection listed pieces site left right text so_far e h
 
 pub plans_rest : (plan : Plan) (after : Stamp) (selection : List Stamp) (listed : List Word) (old new : PlannedPieces) (site : ℕ) (left right : Option TaggedCell) (text : List ℕ) (so_far : Insertion) → 1 ≤ length text
     → AreSoFar after selection listed old so_far → IsMoreText site (tags_between left right) text old new
-    → plan.characters ≡ length new.texts.stamps.items
+    → plan.characters ≡ new.characters
     → with_stamps plan.selected.items selection ≡ selected_if (are_among (with_stamps old.selected.items selection) left right) (stamps_of (tagged_cells site old.texts.count (tags_between left right) text)) (with_stamps old.selected.items selection)
     → plan.names ≡ new.names
     → ((other : List Stamp) → selected_between plan.between other ≡ selected_if (are_among other left right) (stamps_of (tagged_cells site old.texts.count (tags_between left right) text)) other)
@@ -119,10 +166,8 @@ plans_rest plan after selection listed old new site left right [] so_far some h 
 plans_rest plan after selection listed old new site left right (x ∷ text) so_far some h m c s n b =
     let names = tags_between left right in
     let more : ℕ → List TaggedCell = λ count. tagged_cells site count names (x ∷ text) in
-    let stamps : new.texts.stamps.items ≡ stamps_of (so_far.cells ++ more so_far.count) =
-    m.stamps ∙ (λ i. h.stamps i ++ stamps_of (more (h.count i))) ∙ sym (map_append (λ (cell : TaggedCell). cell.stamp) so_far.cells (more so_far.count)) in
     record {
-      characters = c ∙ ap length stamps ∙ length-map (so_far.cells ++ more so_far.count) (λ (cell : TaggedCell). cell.stamp);
+      characters = c ∙ m.characters ∙ ap (λ n. n + length (x ∷ text)) h.characters ∙ sym (unlisted_length site left right (x ∷ text) so_far);
       sel = s ∙ (λ i. selected_if (are_among (h.sel i) left right) (stamps_of (more (h.count i))) (h.sel i));
       others = λ i. map (λ other. (b other ∙ (λ j. selected_if (are_among other left right) (stamps_of (more (h.count j))) other)) i) so_far.others;
       tags = (λ i. all_listed (map (λ w. string_bytes w) (n i).items) listed) ∙ ap (λ l. all_listed l listed) m.tags ∙ all_append (map (λ w. string_bytes w) old.names.items) names listed ∙ ap (all_listed names) h.tags;
@@ -148,9 +193,6 @@ left_given table cells (suc place) h = given_by table cells place (slice_get (vi
 pub left_shown : (table : TagStates) (cells : List (Cell ℕ)) (place : ℕ) → option_map (shown table) (left_neighbour (visible_of cells) place) ≡ left_neighbour (visible_of (map (shown table) cells)) place
 left_shown table cells zero = refl
 left_shown table cells (suc place) = sym (visible_at_shown (state_at table) cells place)
-
-pub right_shown : (table : TagStates) (cells : List (Cell ℕ)) (place : ℕ) (right : Cell ℕ) → slice_get (visible_of cells) place ≡ Some right → Some (shown table right) ≡ right_neighbour (visible_of (map (shown table) cells)) place
-right_shown table cells place right e = ap (option_map (shown table)) (sym e) ∙ sym (visible_at_shown (state_at table) cells place)
 
 same_stamp : (table : TagStates) (o : Option (Cell ℕ)) → option_map (λ cell. cell.stamp) o ≡ option_map (λ cell. cell.stamp) (option_map (shown table) o)
 same_stamp table None = refl

@@ -13,7 +13,7 @@ use Rattle.rt_edits.specs.Selections.{with_stamps}
 -- a selection that has both neighbours gets the characters between them
 abbrev pub selected_between : Option Between → List Stamp → List Stamp
 selected_between None selection = selection
-selected_between (Some between) selection = selected_if (is_among selection between.left && is_among selection between.right) between.stamps.items selection
+selected_between (Some between) selection = selected_if (is_among selection between.left && is_among selection between.right) between.stamps selection
 
 -- a plan for a widget with a selection, beside others with theirs, where some tags are listed: it has as many characters as the
 -- insertion, and comes to its selections and listed tags
@@ -28,4 +28,4 @@ abbrev pub HaveRoom : Option Between → List Selection → Type 0
 HaveRoom None others = Unit {0}
 HaveRoom (Some between) others =
     All (λ selection. (is_among (selected_stamps selection) between.left && is_among (selected_stamps selection) between.right) ≡ true
-    → length between.stamps.items ≤ room_in selection) others
+    → length between.stamps ≤ room_in selection) others

@@ -2,7 +2,6 @@
 use Rattle.std.specs.Prelude.{◌≡◌, length, List, map, string_bytes, Option, None, option_map}
 use Rattle.rt_stamps.specs.declared.stamp.Stamp.{Stamp}
 use Rattle.rt_stamps.specs.Words.{Word}
-use Rattle.rt_store.specs.Cells.{stamps_of}
 use Rattle.rt_tags.specs.States.{names_on}
 use Rattle.rt_edits.specs.declared.inserting.Between.{Between}
 use Rattle.rt_edits.specs.declared.inserting.Plan.{Plan}
@@ -11,11 +10,11 @@ use Rattle.rt_edits.specs.InsertionDrafts.{behind}
 use Rattle.rt_edits.specs.Insertions.{Insertion, all_listed, last_of}
 use Rattle.rt_edits.specs.Selections.{with_stamps}
 
--- The new characters' stamps and the greatest count, the element behind them, what the commanding widget selects, the tags to
+-- The number of new characters and the greatest count, the element behind them, what the commanding widget selects, the tags to
 -- list, and those of the last new character. The pieces go behind an element, the widget has a selection, and some tags are
 -- listed.
 pub record AreSoFar (after : Stamp) (selection : List Stamp) (listed : List Word) (pieces : PlannedPieces) (so_far : Insertion) : Type 0 where
-  pub stamps : pieces.texts.stamps.items ≡ stamps_of so_far.cells
+  pub characters : pieces.characters ≡ length so_far.cells
   pub count : pieces.texts.count ≡ so_far.count
   pub element : pieces.texts.behind ≡ behind after so_far.cells
   pub sel : with_stamps pieces.selected.items selection ≡ so_far.sel
@@ -24,7 +23,7 @@ pub record AreSoFar (after : Stamp) (selection : List Stamp) (listed : List Word
 
 -- the plan that the pieces make, with the characters between two others
 pub record ArePlanned (plan : Plan) (pieces : PlannedPieces) (between : Option Between) : Type 0 where
-  pub characters : plan.characters ≡ length pieces.texts.stamps.items
+  pub characters : plan.characters ≡ pieces.characters
   pub selected : plan.selected ≡ pieces.selected
   pub names : plan.names ≡ pieces.names
   pub others : plan.between ≡ between

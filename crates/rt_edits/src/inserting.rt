@@ -13,7 +13,7 @@ ghost use Rattle.rt_edits.specs.Selected.{selected_stamps};
 
 use crate::inserts::Inserts;
 use crate::pieces::PlannedPieces;
-use crate::{Piece, Selection};
+use crate::{Piece, Selection, Stamps};
 use rt_rga::Draft;
 use rt_stamps::{Fault, Site, Stamp};
 use rt_store::Cell;
@@ -25,7 +25,7 @@ use std::alloc::Global;
 pub struct Between {
     pub left: Stamp,
     pub right: Stamp,
-    pub stamps: Vec<Stamp>,
+    pub stamps: Stamps,
 }
 
 /// What pieces of text come to: their operations in turn, how many new characters there are, those that
@@ -81,12 +81,12 @@ pub fn planned_between(
     let between = all.add_unlisted(alloc, states, site, selection, left, right, rest)?;
     let PlannedPieces {
         texts,
+        characters,
         selected,
         names,
         last: _,
     } = all;
-    let Inserts { drafts, stamps, .. } = texts;
-    let characters = stamps.len();
+    let Inserts { drafts, .. } = texts;
     Ok(Plan {
         drafts,
         characters,

@@ -1,9 +1,8 @@
 // The operations of one text with its tags.
-ghost use Rattle.std.specs.Prelude.{◌≡◌, ℕ, ◌⊎◌, ◌+◌, ◌-◌, ◌<◌, ◌≤◌, ◌++◌, ◌∷◌, [], IfOk, IfErr, IsOkUnless, OnOk, true, length, map, string_bytes, take, drop};
+ghost use Rattle.std.specs.Prelude.{◌≡◌, ◌⊎◌, ◌+◌, ◌-◌, ◌<◌, ◌≤◌, ◌++◌, ◌∷◌, [], IfOk, IfErr, IsOkUnless, OnOk, true, length, map, string_bytes, take, drop};
 ghost use Rattle.rt_stamps.specs.declared.limits.TheConstants.{GREATEST_COUNT, MOST_CHARACTERS, MOST_TAGS};
 ghost use Rattle.rt_ops.specs.Edits.{body_of};
 ghost use Rattle.rt_ops.specs.Operations.{Insert, Tag};
-ghost use Rattle.rt_store.specs.Cells.{cells_from, stamps_of};
 ghost use Rattle.rt_edits.specs.InsertionDrafts.{behind, tags_on, text_drafts};
 ghost use Rattle.rt_edits.specs.Insertions.{counts_for, further_tags, tagged_cells};
 
@@ -26,8 +25,8 @@ pub(crate) fn copied(alloc: Global, names: &[String]) -> Result<Vec<String>, Fau
     Ok(copies)
 }
 
-// The characters of an Insert.
-fn text_of(alloc: Global, characters: &[char]) -> Result<Text, Fault>
+// The text of an Insert.
+fn part_text(alloc: Global, characters: &[char]) -> Result<Text, Fault>
     ensures ok { IfOk result (λ text. text ≡ characters.now) }
     ensures err { IsOkUnless result Fault.NoMemory }
 {
@@ -37,8 +36,8 @@ fn text_of(alloc: Global, characters: &[char]) -> Result<Text, Fault>
     }
 }
 
-// The characters of the next Insert of a text, and those behind them.
-fn next_part(text: &[char]) -> (&[char], &[char])
+/// The characters of the next Insert of a text, and those behind them.
+pub(crate) fn next_part(text: &[char]) -> (&[char], &[char])
     ensures part { result.0.now ≡ take MOST_CHARACTERS text.now }
     ensures rest { result.1.now ≡ drop MOST_CHARACTERS text.now }
 {
@@ -64,7 +63,7 @@ fn insert_draft(
     ensures err { IsOkUnless result Fault.NoMemory }
 {
     let tags = copied(alloc, names)?;
-    let text = text_of(alloc, characters)?;
+    let text = part_text(alloc, characters)?;
     Ok(Draft::Insert { after, tags, text })
 }
 
@@ -98,34 +97,11 @@ fn push_tags(
     Ok(())
 }
 
-// Adds the stamps of new characters, with counts from `first` on.
-fn push_stamps(
-    stamps: &mut Vec<Stamp>,
-    site: Site,
-    first: u64,
-    characters: &[char],
-) -> Result<(), Fault>
-    requires { first + length characters.now ≤ GREATEST_COUNT + 1 }
-    ensures ok { OnOk result (stamps.new.items ≡ stamps.old.items ++ stamps_of {T = ℕ} (cells_from first site.number 0 characters.now)) }
-    ensures err { IsOkUnless result Fault.NoMemory }
-{
-    let mut count = first;
-    for _ch in characters {
-        stamps.push(Stamp {
-            count,
-            site: site.number(),
-        })?;
-        count += 1;
-    }
-    Ok(())
-}
-
-/// Texts, each behind the one before it, as their operations: these and the stamps of the characters,
-/// both in turn, the greatest count, and the element behind which further text goes.
+/// Texts, each behind the one before it, as their operations: these in turn, the greatest count, and the
+/// element behind which further text goes.
 #[derive(Drop)]
 pub struct Inserts {
     pub drafts: Vec<Draft>,
-    pub stamps: Vec<Stamp>,
     pub count: u64,
     pub behind: Stamp,
 }
@@ -144,8 +120,6 @@ impl Inserts {
             ++ Insert self.old.behind (take MOST_TAGS (map (λ w. string_bytes w) names.now)) part.now
             ∷ tags_on (record { site = site.number; first = self.old.count + 1; last = self.old.count + length part.now })
             (further_tags (map (λ w. string_bytes w) names.now))) }
-        ensures stamps { OnOk result (self.new.stamps.items ≡ self.old.stamps.items
-            ++ stamps_of {T = ℕ} (cells_from (self.old.count + 1) site.number 0 part.now)) }
         ensures count { OnOk result (self.new.count ≡ self.old.count + length part.now + (length names.now - MOST_TAGS)) }
         ensures behind { OnOk result (self.new.behind ≡ record { count = self.old.count + length part.now; site = site.number }) }
         ensures err { IsOkUnless result Fault.NoMemory }
@@ -156,7 +130,6 @@ impl Inserts {
         let (listed, more) = listed_first(names);
         self.drafts
             .push(insert_draft(alloc, self.behind, listed, part)?)?;
-        push_stamps(&mut self.stamps, site, first, part)?;
         let span = Span {
             site: site_number,
             first,
@@ -182,8 +155,6 @@ impl Inserts {
         requires { self.old.count ≤ GREATEST_COUNT }
         ensures drafts { OnOk result (map body_of self.new.drafts.items ≡ map body_of self.old.drafts.items
             ++ text_drafts MOST_CHARACTERS site.number self.old.count self.old.behind (map (λ w. string_bytes w) names.now) text.now) }
-        ensures stamps { OnOk result (self.new.stamps.items ≡ self.old.stamps.items
-            ++ stamps_of (tagged_cells site.number self.old.count (map (λ w. string_bytes w) names.now) text.now)) }
         ensures count { OnOk result (self.new.count ≡ self.old.count + counts_for (map (λ w. string_bytes w) names.now) text.now) }
         ensures within { OnOk result (self.new.count ≤ GREATEST_COUNT) }
         ensures behind { OnOk result (self.new.behind

@@ -19,8 +19,10 @@ pub mod range;
 pub mod removal;
 pub mod selection;
 mod span;
+pub mod stamps;
 mod unlisted;
 
 pub use piece::Piece;
 pub use range::Range;
 pub use selection::Selection;
+pub use stamps::Stamps;

@@ -5,16 +5,15 @@ ghost use Rattle.rt_stamps.specs.declared.limits.TheConstants.{GREATEST_COUNT, M
 ghost use Rattle.rt_stamps.specs.declared.stamp.Stamp.{Stamp};
 ghost use Rattle.rt_stamps.specs.Words.{Word};
 ghost use Rattle.rt_ops.specs.Edits.{body_of};
-ghost use Rattle.rt_store.specs.Cells.{stamps_of};
 ghost use Rattle.rt_tags.specs.States.{IsTag, name_at};
 ghost use Rattle.rt_edits.specs.InsertionDrafts.{behind, pieces_drafts, text_drafts};
-ghost use Rattle.rt_edits.specs.Insertions.{Insertion, counts_for, selected_if, shared_names, tagged_cells, with_listed, with_pieces};
+ghost use Rattle.rt_edits.specs.Insertions.{Insertion, counts_for, shared_names, tagged_cells, with_listed, with_pieces};
 ghost use Rattle.rt_edits.specs.PlannedPieces.{AreSoFar};
-ghost use Rattle.rt_edits.specs.Selections.{with_stamps};
 
 use crate::Piece;
 use crate::inserts::{Inserts, copied};
-use crate::lists::{names_sel, shared_tags, text_of};
+use crate::lists::{characters_of, names_sel, shared_tags};
+use crate::stamps::select_new;
 use rt_stamps::{Fault, Site, Stamp};
 use rt_tags::{StateTable, TagId};
 use std::alloc::Global;
@@ -46,23 +45,13 @@ fn shared_names(alloc: Global, names: &[String]) -> Result<Vec<String>, Fault>
     names_of(alloc, &states, &tags)
 }
 
-/// Adds characters to those that are to be selected, where that is asked. Want of memory.
-pub(crate) fn select(selected: &mut Vec<Stamp>, asked: bool, stamps: &[Stamp]) -> Result<(), Fault>
-    ensures selected { OnOk result ((selection : List Stamp)
-        → with_stamps selected.new.items selection ≡ selected_if asked stamps.now (with_stamps selected.old.items selection)) }
-    ensures err { IsOkUnless result Fault.NoMemory }
-{
-    if asked {
-        selected.extend_from_slice(stamps)?;
-    }
-    Ok(())
-}
-
-/// Pieces of text as they are planned: their operations and characters, those that the commanding
-/// widget selects, the tags to list in turn, and those of the last text that has characters.
+/// Pieces of text as they are planned: their operations and how many characters they have, those that
+/// the commanding widget selects, the tags to list in turn, and those of the last text that has
+/// characters.
 #[derive(Drop)]
 pub(crate) struct PlannedPieces {
     pub texts: Inserts,
+    pub characters: usize,
     pub selected: Vec<Stamp>,
     pub names: Vec<String>,
     pub last: Option<Vec<String>>,
@@ -72,9 +61,9 @@ impl PlannedPieces {
     // No text, behind an element and after a count.
     fn new(alloc: Global, count: u64, after: Stamp) -> PlannedPieces
         ensures drafts { result.texts.drafts.items ≡ [] }
-        ensures stamps { result.texts.stamps.items ≡ [] }
         ensures count { result.texts.count ≡ count }
         ensures behind { result.texts.behind ≡ after }
+        ensures characters { result.characters ≡ 0 }
         ensures selected { result.selected.items ≡ [] }
         ensures names { result.names.items ≡ [] }
         ensures last { result.last ≡ None }
@@ -82,10 +71,10 @@ impl PlannedPieces {
         PlannedPieces {
             texts: Inserts {
                 drafts: Vec::new(alloc),
-                stamps: Vec::new(alloc),
                 count,
                 behind: after,
             },
+            characters: 0,
             selected: Vec::new(alloc),
             names: Vec::new(alloc),
             last: None,
@@ -100,11 +89,12 @@ impl PlannedPieces {
         names: &[String],
         text: &[char],
     ) -> Result<(), Fault>
-        requires { self.old.texts.count ≤ GREATEST_COUNT }
+        requires count { self.old.texts.count ≤ GREATEST_COUNT }
+        requires characters { self.old.characters ≤ self.old.texts.count }
         ensures drafts { OnOk result (map body_of self.new.texts.drafts.items ≡ map body_of self.old.texts.drafts.items
             ++ text_drafts MOST_CHARACTERS site.number self.old.texts.count self.old.texts.behind (map (λ w. string_bytes w) names.now) text.now) }
-        ensures stamps { OnOk result (self.new.texts.stamps.items ≡ self.old.texts.stamps.items
-            ++ stamps_of (tagged_cells site.number self.old.texts.count (map (λ w. string_bytes w) names.now) text.now)) }
+        ensures characters { OnOk result (self.new.characters ≡ self.old.characters + length text.now) }
+        ensures few { OnOk result (self.new.characters ≤ self.new.texts.count) }
         ensures count { OnOk result (self.new.texts.count ≡ self.old.texts.count + counts_for (map (λ w. string_bytes w) names.now) text.now) }
         ensures within { OnOk result (self.new.texts.count ≤ GREATEST_COUNT) }
         ensures behind { OnOk result (self.new.texts.behind ≡ behind self.old.texts.behind
@@ -119,6 +109,7 @@ impl PlannedPieces {
         self.texts.push_text(alloc, site, names, text)?;
         let mut more = copied(alloc, names)?;
         self.names.append(&mut more)?;
+        self.characters += text.len();
         Ok(())
     }
 
@@ -129,25 +120,28 @@ impl PlannedPieces {
         site: Site,
         piece: &Piece,
     ) -> Result<(), Fault>
-        requires { self.old.texts.count ≤ GREATEST_COUNT }
+        requires count { self.old.texts.count ≤ GREATEST_COUNT }
+        requires characters { self.old.characters ≤ self.old.texts.count }
         ensures drafts { OnOk result (map body_of self.new.texts.drafts.items ≡ map body_of self.old.texts.drafts.items
             ++ text_drafts MOST_CHARACTERS site.number self.old.texts.count self.old.texts.behind (shared_names piece.now.tags) (chars piece.now.text)) }
         ensures so_far { OnOk result ((after : Stamp) (selection : List Stamp) (listed : List Word) (so_far : Insertion)
             → AreSoFar after selection listed self.old so_far
             → AreSoFar after selection listed self.new (with_listed site.number piece.now.tags (chars piece.now.text) so_far)) }
         ensures within { OnOk result (self.new.texts.count ≤ GREATEST_COUNT) }
+        ensures few { OnOk result (self.new.characters ≤ self.new.texts.count) }
         ensures err { IfErr result (λ fault. (fault ≡ Fault.NoMemory) ⊎ ((fault ≡ Fault.ClockSpent)
             × (GREATEST_COUNT < self.old.texts.count + counts_for (shared_names piece.now.tags) (chars piece.now.text)))) }
     {
-        let text = text_of(alloc, piece.text())?;
-        if text.characters().is_empty() {
+        let text = characters_of(alloc, piece.text())?;
+        let characters = text.characters();
+        if characters.is_empty() {
             return Ok(());
         }
         let names = shared_names(alloc, piece.tags())?;
-        let before = self.texts.stamps.len();
-        self.add_text(alloc, site, &names, text.characters())?;
+        let count = self.texts.count;
+        self.add_text(alloc, site, &names, characters)?;
         let chosen = names_sel(piece.tags());
-        select(&mut self.selected, chosen, &self.texts.stamps[before..])?;
+        select_new(&mut self.selected, chosen, site, count, &names, characters)?;
         self.last = Some(names);
         Ok(())
     }
@@ -168,6 +162,7 @@ impl PlannedPieces {
             → AreSoFar after sel tags all
             (with_pieces site.number pieces.now (record { cells = []; count = count; sel = sel; others = others; tags = tags }))) }
         ensures within { IfOk result (λ all. all.texts.count ≤ GREATEST_COUNT) }
+        ensures few { IfOk result (λ all. all.characters ≤ all.texts.count) }
         ensures err { IfErr result (λ fault. (fault ≡ Fault.NoMemory)
             ⊎ ((fault ≡ Fault.ClockSpent) × ((sel : List Stamp) (others : List (List Stamp)) (tags : List Word)
             → GREATEST_COUNT < (with_pieces site.number pieces.now (record { cells = []; count = count; sel = sel; others = others; tags = tags })).count))) }

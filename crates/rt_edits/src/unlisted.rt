@@ -1,5 +1,5 @@
 // Text without a list, behind the pieces that are planned.
-ghost use Rattle.std.specs.Prelude.{◌≡◌, ◌⊎◌, ◌+◌, ◌<◌, ◌≤◌, ◌++◌, ◌&&◌, ◌||◌, [], IfOk, IfErr, IsOkUnless, IfSome, OnOk, List, None, Some, filter, is_some, length, map, option_map, string_bytes};
+ghost use Rattle.std.specs.Prelude.{◌≡◌, ◌⊎◌, ◌+◌, ◌<◌, ◌≤◌, ◌++◌, ◌&&◌, ◌||◌, [], IfOk, IfErr, IsOkUnless, IfSome, OnOk, List, None, Some, filter, is_some, length, map, option_map, string_bytes, if◌then◌else◌};
 ghost use Rattle.std.specs.Str.{chars};
 ghost use Rattle.rt_stamps.specs.declared.limits.TheConstants.{GREATEST_COUNT, MOST_CHARACTERS};
 ghost use Rattle.rt_stamps.specs.declared.stamp.Stamp.{Stamp};
@@ -11,15 +11,16 @@ ghost use Rattle.rt_tags.specs.States.{IsState, is_on, names_on, state_at};
 ghost use Rattle.rt_edits.specs.declared.inserting.Plan.{Plan};
 ghost use Rattle.rt_edits.specs.InsertionDrafts.{behind, text_drafts};
 ghost use Rattle.rt_edits.specs.InsertionPlans.{Plans};
-ghost use Rattle.rt_edits.specs.Insertions.{Insertion, counts_for, last_of, tags_between, with_listed, with_unlisted};
+ghost use Rattle.rt_edits.specs.Insertions.{Insertion, counts_for, last_of, tags_between, with_unlisted};
 ghost use Rattle.rt_edits.specs.PlannedPieces.{ArePlanned, AreSoFar};
 ghost use Rattle.rt_edits.specs.Selected.{selected_stamps};
 ghost use Rattle.rt_edits.specs.Selections.{with_stamps};
 
 use crate::inserting::Between;
-use crate::lists::{tags_of_both, text_of};
-use crate::pieces::{PlannedPieces, names_of, select};
-use crate::{Piece, Selection};
+use crate::lists::{characters_of, tags_of_both};
+use crate::pieces::{PlannedPieces, names_of};
+use crate::stamps::select_new;
+use crate::{Selection, Stamps};
 use rt_stamps::{Fault, Site, Stamp};
 use rt_store::Cell;
 use rt_tags::{StateId, StateTable};
@@ -80,21 +81,25 @@ fn names_of_both(
 }
 
 impl PlannedPieces {
-    // The tags of text without a list, behind the pieces, or where these have no text a left neighbour.
+    // The tags of text without a list, behind the pieces, or where these have no text a left neighbour: none
+    // without a right one.
     fn names_between(
         &self,
         alloc: Global,
         states: &StateTable,
         left: Option<Cell<StateId>>,
-        right: Cell<StateId>,
+        right: Option<Cell<StateId>>,
     ) -> Result<Vec<String>, Fault>
         requires left { IfSome left (λ cell. IsState states.now cell.state) }
-        requires right { IsState states.now right.state }
+        requires right { IfSome right (λ cell. IsState states.now cell.state) }
         ensures ok { IfOk result (λ v. (cells : List TaggedCell)
             → option_map (λ names. map (λ w. string_bytes w) names.items) self.now.last ≡ option_map (λ cell. names_on cell.state) (last_of None cells)
-            → map (λ w. string_bytes w) v.items ≡ tags_between (last_of (option_map (shown states.now) left) cells) (Some (shown states.now right))) }
+            → map (λ w. string_bytes w) v.items ≡ tags_between (last_of (option_map (shown states.now) left) cells) (option_map (shown states.now) right)) }
         ensures err { IsOkUnless result Fault.NoMemory }
     {
+        let Some(right) = right else {
+            return Ok(Vec::new(alloc));
+        };
         match &self.last {
             Some(names) => names_also(alloc, states, names, right.state),
             None => names_of_both(alloc, states, left, right),
@@ -106,6 +111,24 @@ impl PlannedPieces {
         ensures { result ≡ (is_some self.now.last || is_some left.now) }
     {
         self.last.is_some() || left.is_some()
+    }
+
+    // The characters on both sides of further text, where there are both.
+    fn sides(
+        &self,
+        left: &Option<Cell<StateId>>,
+        right: &Option<Cell<StateId>>,
+    ) -> Option<(Stamp, Stamp)>
+        ensures { result ≡ (if is_some self.now.last || is_some left.now
+            then option_map (λ cell. (self.now.texts.behind, cell.stamp)) right.now else None) }
+    {
+        if !self.has_left(left) {
+            return None;
+        }
+        match right {
+            Some(cell) => Some((self.texts.behind, cell.stamp)),
+            None => None,
+        }
     }
 
     // Whether two characters are both selected already, or after the insertion.
@@ -123,71 +146,6 @@ impl PlannedPieces {
         selection.has(stamp) || self.selected.contains(&stamp)
     }
 
-    // Adds text behind the pieces that has no tags and isn't selected. `ClockSpent`, or want of memory.
-    fn add_bare(&mut self, alloc: Global, site: Site, rest: &str) -> Result<(), Fault>
-        requires { self.old.texts.count ≤ GREATEST_COUNT }
-        ensures drafts { OnOk result (map body_of self.new.texts.drafts.items ≡ map body_of self.old.texts.drafts.items
-            ++ text_drafts MOST_CHARACTERS site.number self.old.texts.count self.old.texts.behind [] (chars rest.now)) }
-        ensures so_far { OnOk result ((after : Stamp) (selection : List Stamp) (listed : List Word) (so_far : Insertion)
-            → AreSoFar after selection listed self.old so_far → AreSoFar after selection listed self.new (with_listed site.number [] (chars rest.now) so_far)) }
-        ensures err { IfErr result (λ fault. (fault ≡ Fault.NoMemory) ⊎ ((fault ≡ Fault.ClockSpent)
-            × (GREATEST_COUNT < self.old.texts.count + counts_for [] (chars rest.now)))) }
-    {
-        let bare = Piece::new(String::from_str(alloc, rest)?, Vec::new(alloc));
-        self.add_listed(alloc, site, &bare)
-    }
-
-    // Adds text without a list behind the pieces, or where they have no text, behind a left neighbour,
-    // and answers the characters that stand between two others. `ClockSpent`, or want of memory.
-    fn add_rest(
-        &mut self,
-        alloc: Global,
-        states: &StateTable,
-        site: Site,
-        selection: &Selection,
-        left: Option<Cell<StateId>>,
-        right: Cell<StateId>,
-        rest: &str,
-    ) -> Result<Option<Between>, Fault>
-        requires count { self.old.texts.count ≤ GREATEST_COUNT }
-        requires left { IfSome left (λ cell. IsState states.now cell.state) }
-        requires right { IsState states.now right.state }
-        ensures drafts { OnOk result ((after : Stamp) (listed : List Word) (so_far : Insertion)
-            → AreSoFar after (selected_stamps selection.now) listed self.old so_far → map body_of self.new.texts.drafts.items
-            ≡ map body_of self.old.texts.drafts.items ++ text_drafts MOST_CHARACTERS site.number so_far.count (behind after so_far.cells)
-            (tags_between (last_of (option_map (shown states.now) left) so_far.cells) (Some (shown states.now right))) (chars rest.now)) }
-        ensures plans { IfOk result (λ between. (plan : Plan) (after : Stamp) (listed : List Word) (so_far : Insertion)
-            → AreSoFar after (selected_stamps selection.now) listed self.old so_far
-            → IfSome left (λ cell. after ≡ cell.stamp) → ArePlanned plan self.new between
-            → Plans plan (selected_stamps selection.now) so_far.others listed (with_unlisted site.number
-            (last_of (option_map (shown states.now) left) so_far.cells) (Some (shown states.now right)) (chars rest.now) so_far)) }
-        ensures err { IfErr result (λ fault. (fault ≡ Fault.NoMemory) ⊎ ((fault ≡ Fault.ClockSpent)
-            × ((after : Stamp) (listed : List Word) (so_far : Insertion) → AreSoFar after (selected_stamps selection.now) listed self.old so_far
-            → GREATEST_COUNT < so_far.count + counts_for
-            (tags_between (last_of (option_map (shown states.now) left) so_far.cells) (Some (shown states.now right))) (chars rest.now)))) }
-    {
-        let text = text_of(alloc, rest)?;
-        if text.characters().is_empty() {
-            return Ok(None);
-        }
-        let has_left = self.has_left(&left);
-        let before = self.texts.behind;
-        let after = right.stamp;
-        let names = self.names_between(alloc, states, left, right)?;
-        let first = self.texts.stamps.len();
-        self.add_text(alloc, site, &names, text.characters())?;
-        if !has_left {
-            return Ok(None);
-        }
-        let stamps = Vec::from_slice(alloc, &self.texts.stamps[first..])?;
-        let asked = self.selects_both(selection, before, after);
-        select(&mut self.selected, asked, &stamps)?;
-        Ok(Some(Between {
-            left: before,
-            right: after,
-            stamps,
-        }))
-    }
     /// Adds text without a list behind the pieces, or where they have no text, behind a left neighbour,
     /// and answers the characters that stand between two others. Without a right neighbour the text
     /// has no tags and isn't selected. `ClockSpent`, or want of memory.
@@ -202,6 +160,7 @@ impl PlannedPieces {
         rest: &str,
     ) -> Result<Option<Between>, Fault>
         requires count { self.old.texts.count ≤ GREATEST_COUNT }
+        requires characters { self.old.characters ≤ self.old.texts.count }
         requires left { IfSome left (λ cell. IsState states.now cell.state) }
         requires right { IfSome right (λ cell. IsState states.now cell.state) }
         ensures drafts { OnOk result ((after : Stamp) (sel : List Stamp) (listed : List Word) (so_far : Insertion)
@@ -221,12 +180,25 @@ impl PlannedPieces {
             → GREATEST_COUNT < so_far.count + counts_for
             (tags_between (last_of (option_map (shown states.now) left) so_far.cells) (option_map (shown states.now) right)) (chars rest.now)))) }
     {
-        match right {
-            Some(right) => self.add_rest(alloc, states, site, selection, left, right, rest),
-            None => {
-                self.add_bare(alloc, site, rest)?;
-                Ok(None)
-            }
+        let text = characters_of(alloc, rest)?;
+        let characters = text.characters();
+        if characters.is_empty() {
+            return Ok(None);
         }
+        let sides = self.sides(&left, &right);
+        let count = self.texts.count;
+        let names = self.names_between(alloc, states, left, right)?;
+        self.add_text(alloc, site, &names, characters)?;
+        let Some((before, after)) = sides else {
+            return Ok(None);
+        };
+        let asked = self.selects_both(selection, before, after);
+        select_new(&mut self.selected, asked, site, count, &names, characters)?;
+        let stamps = Stamps::of(alloc, site, count, &names, characters)?;
+        Ok(Some(Between {
+            left: before,
+            right: after,
+            stamps,
+        }))
     }
 }

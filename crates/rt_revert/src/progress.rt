@@ -55,7 +55,6 @@ impl Progress {
         Progress {
             texts: Inserts {
                 drafts: Vec::new(alloc),
-                stamps: Vec::new(alloc),
                 count,
                 behind: ROOT,
             },
@@ -196,7 +195,6 @@ impl Progress {
         } = self;
         let Inserts {
             drafts,
-            stamps: _,
             count: _,
             behind: _,
         } = texts;

@@ -22,7 +22,7 @@ abbrev pub HaveRoomFor : Option Between → List Parts → Type 0
 HaveRoomFor None others = Unit {0}
 HaveRoomFor (Some between) others =
     All (λ parts. (is_among (selected_stamps parts.selection) between.left && is_among (selected_stamps parts.selection) between.right) ≡ true
-    → length between.stamps.items ≤ room_in parts.selection) others
+    → length between.stamps ≤ room_in parts.selection) others
 
 -- characters come to be selected where both of these are
 abbrev pub selected_with : Stamp → Stamp → List Stamp → List Stamp → List Stamp

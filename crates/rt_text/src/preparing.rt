@@ -70,7 +70,10 @@ fn reserve_others(others: &mut [Parts], between: &Option<Between>) -> Result<(),
     ensures err { IsOkUnless result Fault.NoMemory }
 {
     match between {
-        Some(between) => reserve_between(others, between.left, between.right, between.stamps.len()),
+        Some(between) => {
+            let more = between.stamps.as_slice().len();
+            reserve_between(others, between.left, between.right, more)
+        }
         None => Ok(()),
     }
 }
@@ -81,7 +84,10 @@ pub(crate) fn select_between(others: &mut [Parts], between: &Option<Between>)
     ensures { map own_in others.new ≡ map (reselected (selected_between between.now)) (map own_in others.old) }
 {
     match between {
-        Some(between) => add_between(others, between.left, between.right, &between.stamps),
+        Some(between) => {
+            let stamps = between.stamps.as_slice();
+            add_between(others, between.left, between.right, stamps);
+        }
         None => {}
     }
 }

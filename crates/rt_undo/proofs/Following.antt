@@ -1,5 +1,5 @@
 -- Stamps that are led on by moves.
-use Rattle.std.proofs.Common.{◌≡◌, ◌∙◌, ℕ, zero, suc, ◌+◌, ◌-◌, ◌<◌, ◌≤◌, ◌||◌, Bool, true, false, Option, Some, None, is_some, if◌then◌else◌, ap, sym, subst, refl, arith, cond}
+use Rattle.std.proofs.Common.{◌≡◌, ◌∙◌, ℕ, zero, suc, ◌+◌, ◌-◌, ◌<◌, ◌≤◌, Bool, true, false, Option, Some, None, is_some, ap, sym, subst, refl, arith, cond}
 use Rattle.std.specs.Option.{option_map_or}
 use Rattle.std.proofs.lemmas.Bool.Decides.{nat_tests}
 use Rattle.rt_stamps.specs.declared.stamp.Span.{Span}
@@ -136,13 +136,6 @@ unfolding now_of
 now_renamed former newer step old new r s =
     let far : GREATEST_COUNT ≤ GREATEST_COUNT + s.count = omega arith in
     follow_renamed former newer step old new r GREATEST_COUNT s far
-
-pub moved_renamed : (former : Span) (newer : Stamp) (step : Move) (old new : Shown Move) → Renaming former newer step old new
-    → (s : Stamp) → is_moved new s ≡ (is_in_span former s || is_moved old s)
-moved_renamed former newer step old new r s =
-    by_test (is_in_span former s)
-    (λ yes. ap is_some (value_in former newer step old new r s yes) ∙ sym (ap (λ b. b || is_moved old s) yes))
-    (λ no. ap is_some (value_out former newer step old new r s no) ∙ sym (ap (λ b. b || is_moved old s) no))
 
 pub rising_renamed : (former : Span) (newer : Stamp) (step : Move) (old new : Shown Move) → Renaming former newer step old new → AreRising new
 rising_renamed former newer step old new r s m some =

@@ -1,5 +1,5 @@
 -- Histories with other stamps in the place of their own.
-use Rattle.std.proofs.Common.{◌≡◌, ◌∙◌, ℕ, suc, ◌+◌, ◌-◌, ◌<◌, ◌≤◌, ◌++◌, ◌||◌, ◌&&◌, ◌==◌, Bool, true, false, List, [], ◌∷◌, Option, Some, None, Result, Ok, Err, map, length, take, drop, drop-cons, add-one, get_or, nat_eq, length-drop, option_map, slice_get, ap, sym, refl, arith, cond, append-nil, append_assoc, if◌then◌else◌}
+use Rattle.std.proofs.Common.{◌≡◌, ◌∙◌, ℕ, suc, ◌+◌, ◌-◌, ◌<◌, ◌≤◌, ◌++◌, ◌||◌, ◌&&◌, ◌==◌, Bool, true, false, List, [], ◌∷◌, Option, Some, None, Result, Ok, Err, map, length, take, drop, drop-cons, add-one, get_or, nat_eq, length-drop, option_map, slice_get, ap, sym, refl, arith, cond, append-nil, append_assoc}
 use Rattle.std.specs.List.{AllByRecursion}
 use Rattle.std.specs.Result.{IfOk, IsOkUnless}
 use Rattle.std.specs.declared.vec.Vec.{Vec}
@@ -262,13 +262,6 @@ undo_is f h group e = ap (λ l. last l) (to_undo_renamed f h) ∙ last_map (with
 
 pub redo_is : (f : Stamp → Stamp) (h : History ℕ) (group : List (Action ℕ)) → last (h.undone ++ []) ≡ Some group → next_redo (renamed_by f h) ≡ Some (with_stamps_in f group)
 redo_is f h group e =
-    last_map (with_stamps_in {T = ℕ} f) h.undone ∙ ap (option_map (with_stamps_in {T = ℕ} f)) (ap (λ l. last l) (sym (append-nil h.undone)) ∙ e)
-
-pub no_undo : (f : Stamp → Stamp) (h : History ℕ) → last (to_undo h) ≡ None → next_undo (renamed_by f h) ≡ None
-no_undo f h e = ap (λ l. last l) (to_undo_renamed f h) ∙ last_map (with_stamps_in {T = ℕ} f) (to_undo h) ∙ ap (option_map (with_stamps_in {T = ℕ} f)) e
-
-pub no_redo : (f : Stamp → Stamp) (h : History ℕ) → last (h.undone ++ []) ≡ None → next_redo (renamed_by f h) ≡ None
-no_redo f h e =
     last_map (with_stamps_in {T = ℕ} f) h.undone ∙ ap (option_map (with_stamps_in {T = ℕ} f)) (ap (λ l. last l) (sym (append-nil h.undone)) ∙ e)
 
 -- what is said of a value of a result, and what follows from it

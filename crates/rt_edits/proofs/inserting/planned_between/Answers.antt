@@ -46,11 +46,11 @@ returns-clause-plans c = λ sel others tags same.
     let start : Insertion = record { cells = []; count = c.args.count; sel = sel; others = others; tags = tags } in
     let so_far = with_pieces site c.args.pieces.now start in
     let new = c.add_unlisted.new.self in
-    let plan : Plan = record { drafts = new.texts.drafts; characters = c.len-characters.result; selected = new.selected; names = new.names; between = c.in_ok-between.between } in
+    let plan : Plan = record { drafts = new.texts.drafts; characters = new.characters; selected = new.selected; names = new.names; between = c.in_ok-between.between } in
     let all = with_unlisted site (last_of (option_map (shown t) c.args.left) so_far.cells) (option_map (shown t) c.args.right) (chars c.args.rest.now) so_far in
     subst (λ o. Plans plan sel o tags all) (pieces_others site c.args.pieces.now start)
     (c.in_ok-between.ensures.plans plan c.args.after sel tags so_far same (c.in_ok-all.ensures.so_far sel others tags) c.requires.after
-    (record { characters = c.len-characters.ensures ∙ new.texts.stamps.ok.0; selected = refl; names = refl; others = refl }))
+    (record { characters = refl; selected = refl; names = refl; others = refl }))
 
 pub returns-in_err-all-clause-drafts : goal.returns-in_err-all-clause-drafts
 returns-in_err-all-clause-drafts c =

@@ -5,19 +5,14 @@ use Rattle.rt_edits.proofs.inserts.Inserts.push_part.Goals as goal
 pub returns-in_err-insert_draft : goal.returns-in_err-insert_draft
 returns-in_err-insert_draft c =
     let (y, is, gives) = err_from_is_err_and c.from_residual.result c.from_residual.ensures.1 in
-    rw (is, gives) (record { drafts = tt; stamps = tt; count = tt; behind = tt; err = c.in_err-insert_draft.ensures.err })
+    rw (is, gives) (record { drafts = tt; count = tt; behind = tt; err = c.in_err-insert_draft.ensures.err })
 
 pub returns-in_err-push : goal.returns-in_err-push
 returns-in_err-push c =
     let (y, is, gives) = err_from_is_err_and c.from_residual-in_err-push.result c.from_residual-in_err-push.ensures.1 in
-    rw (is, gives) (record { drafts = tt; stamps = tt; count = tt; behind = tt; err = refl })
-
-pub returns-in_err-push_stamps : goal.returns-in_err-push_stamps
-returns-in_err-push_stamps c =
-    let (y, is, gives) = err_from_is_err_and c.from_residual-in_err-push_stamps.result c.from_residual-in_err-push_stamps.ensures.1 in
-    rw (is, gives) (record { drafts = tt; stamps = tt; count = tt; behind = tt; err = c.in_err-push_stamps.ensures.err })
+    rw (is, gives) (record { drafts = tt; count = tt; behind = tt; err = refl })
 
 pub returns-in_err-push_tags : goal.returns-in_err-push_tags
 returns-in_err-push_tags c =
     let (y, is, gives) = err_from_is_err_and c.from_residual-in_err-push_tags.result c.from_residual-in_err-push_tags.ensures.1 in
-    rw (is, gives) (record { drafts = tt; stamps = tt; count = tt; behind = tt; err = c.in_err-push_tags.ensures.err })
+    rw (is, gives) (record { drafts = tt; count = tt; behind = tt; err = c.in_err-push_tags.ensures.err })

@@ -3,10 +3,9 @@ use Rattle.std.specs.Prelude.{string_bytes}
 use Rattle.std.proofs.lemmas.Result.{err_from_is_err_and}
 use Rattle.rt_stamps.specs.declared.limits.TheConstants.{GREATEST_COUNT, MOST_CHARACTERS, MOST_TAGS}
 use Rattle.rt_ops.specs.Edits.{body_of}
-use Rattle.rt_store.specs.Cells.{stamps_of}
 use Rattle.rt_edits.specs.InsertionDrafts.{behind, text_drafts}
 use Rattle.rt_edits.specs.Insertions.{counts_for, further_tags, tagged_cells}
-use Rattle.rt_edits.proofs.InsertTexts.{behind_more, counts_named, counts_part, drafts_joined, drafts_more, further_named, lists_joined, stamps_more}
+use Rattle.rt_edits.proofs.InsertTexts.{behind_more, counts_named, counts_part, drafts_joined, drafts_more, further_named}
 use Rattle.rt_edits.proofs.Planning.{fewer_behind, some_left}
 use Rattle.rt_edits.proofs.inserts.Inserts.push_text.Goals as goal
 
@@ -21,7 +20,6 @@ loop-rest-init c =
     let e = counts_named (λ w. string_bytes w) c.args.names.now c.args.text.now in
     record {
       drafts = refl;
-      stamps = refl;
       count = refl;
       within = omega (arith, e, c.in_ok-last_count.ensures.ok.0, c.in_ok-last_count.ensures.ok.1);
       behind = refl;
@@ -66,9 +64,6 @@ loop-rest-preserved c =
           ∙ drafts_joined (map body_of old.drafts.items) (map body_of new.drafts.items) (text_drafts MOST_CHARACTERS site old.count old.behind names rest) _ _ _ e.drafts
           (drafts_more site old.count old.behind names rest part more h is_part is_more)
           ∙ c.loop-rest.invariant.drafts;
-      stamps = (λ i. new.stamps.items ++ stamps_of (tagged_cells site (n i) names more))
-          ∙ lists_joined old.stamps.items new.stamps.items _ _ (stamps_of (tagged_cells site old.count names rest)) e.stamps (stamps_more site old.count names rest part more h is_part is_more)
-          ∙ c.loop-rest.invariant.stamps;
       count = ap (λ k. k + counts_for names more) n
           ∙ counts_part names rest part more old.count (c.args.self.now.count + counts_for names c.args.text.now) h is_part is_more c.loop-rest.invariant.count;
       within = c.loop-rest.invariant.within;
@@ -79,11 +74,6 @@ loop-rest-preserved c =
 
 pub returns-in_err-last_count-clause-drafts : goal.returns-in_err-last_count-clause-drafts
 returns-in_err-last_count-clause-drafts c =
-    let p = err_from_is_err_and c.from_residual.result c.from_residual.ensures.1 in
-    rw p.1 tt
-
-pub returns-in_err-last_count-clause-stamps : goal.returns-in_err-last_count-clause-stamps
-returns-in_err-last_count-clause-stamps c =
     let p = err_from_is_err_and c.from_residual.result c.from_residual.ensures.1 in
     rw p.1 tt
 
@@ -105,4 +95,4 @@ returns-in_err-last_count-clause-behind c =
 pub returns-in_err-push_part : goal.returns-in_err-push_part
 returns-in_err-push_part c =
     let (y, is, gives) = err_from_is_err_and c.from_residual-in_err-push_part.result c.from_residual-in_err-push_part.ensures.1 in
-    rw (is, gives) (record { drafts = tt; stamps = tt; count = tt; within = tt; behind = tt; err = inl c.in_err-push_part.ensures.err })
+    rw (is, gives) (record { drafts = tt; count = tt; within = tt; behind = tt; err = inl c.in_err-push_part.ensures.err })

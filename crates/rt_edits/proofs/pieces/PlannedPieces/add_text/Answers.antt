@@ -7,7 +7,8 @@ returns-in_err-push_text c =
     let p = err_from_is_err_and c.from_residual.result c.from_residual.ensures.1 in
     rw (p.1, p.2) (record {
       drafts = tt;
-      stamps = tt;
+      characters = tt;
+      few = tt;
       count = tt;
       within = tt;
       behind = tt;
@@ -22,7 +23,8 @@ returns-in_err-more c =
     let p = err_from_is_err_and c.from_residual-in_err-more.result c.from_residual-in_err-more.ensures.1 in
     rw (p.1, p.2) (record {
       drafts = tt;
-      stamps = tt;
+      characters = tt;
+      few = tt;
       count = tt;
       within = tt;
       behind = tt;
@@ -37,7 +39,8 @@ returns-in_err-append c =
     let p = err_from_is_err_and c.from_residual-in_err-append.result c.from_residual-in_err-append.ensures.1 in
     rw (p.1, p.2) (record {
       drafts = tt;
-      stamps = tt;
+      characters = tt;
+      few = tt;
       count = tt;
       within = tt;
       behind = tt;

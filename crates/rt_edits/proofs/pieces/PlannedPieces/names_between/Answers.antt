@@ -3,27 +3,31 @@ use Rattle.std.specs.Prelude.{option_map, string_bytes}
 use Rattle.std.proofs.lemmas.Result.{IfOk-weaker}
 use Rattle.rt_tags.specs.States.{is_on, state_at}
 use Rattle.rt_store.specs.Shown.{shown}
-use Rattle.rt_edits.specs.Insertions.{tags_between}
+use Rattle.rt_edits.specs.Insertions.{last_of, tags_between}
 use Rattle.rt_edits.proofs.RestLaws.{between_last, no_last}
 use Rattle.rt_edits.proofs.pieces.PlannedPieces.names_between.Goals as goal
 
-pub returns-in-Some-clause-ok : goal.returns-in-Some-clause-ok
-returns-in-Some-clause-ok c =
+pub returns-in-Some-last-clause-ok : goal.returns-in-Some-last-clause-ok
+returns-in-Some-last-clause-ok c =
     let t = c.args.states.now in
-    let right = c.args.right in
+    let left = option_map (shown t) c.args.left in
+    let right = c.in-Some.right in
     IfOk-weaker c.names_also.result _ _
     (λ v e cells h. e
     ∙ ap (λ l. filter (λ name. is_on name (state_at t right.state)) (map (λ w. string_bytes w) l)) c.deref.ensures.value
-    ∙ between_last cells (option_map (shown t) c.args.left) (shown t right) (map (λ w. string_bytes w) c.in-Some.names.items)
-    (sym (ap (option_map (λ names. map (λ w. string_bytes w) names.items)) c.in-Some.is) ∙ h))
+    ∙ between_last cells left (shown t right) (map (λ w. string_bytes w) c.in-Some-last.names.items)
+    (sym (ap (option_map (λ names. map (λ w. string_bytes w) names.items)) c.in-Some-last.is) ∙ h)
+    ∙ ap (λ o. tags_between (last_of left cells) (option_map (shown t) o)) (sym c.in-Some.is))
     c.names_also.ensures.ok
 
 pub returns-in-None-clause-ok : goal.returns-in-None-clause-ok
 returns-in-None-clause-ok c =
     let t = c.args.states.now in
-    let right = c.args.right in
+    let left = option_map (shown t) c.args.left in
+    let right = c.in-Some.right in
     IfOk-weaker c.names_of_both.result _ _
     (λ v e cells h. e
-    ∙ ap (λ o. tags_between o (Some (shown t right))) (no_last cells (option_map (shown t) c.args.left)
-    (sym (ap (option_map (λ names. map (λ w. string_bytes w) names.items)) c.in-None.is) ∙ h)))
+    ∙ ap (λ o. tags_between o (Some (shown t right))) (no_last cells left
+    (sym (ap (option_map (λ names. map (λ w. string_bytes w) names.items)) c.in-None.is) ∙ h))
+    ∙ ap (λ o. tags_between (last_of left cells) (option_map (shown t) o)) (sym c.in-Some.is))
     c.names_of_both.ensures.ok

@@ -16,12 +16,13 @@ loop-piece-init c =
     let e = c.new-all.ensures in
     record {
       drafts = λ sel others tags. ap (map body_of) e.drafts;
-      so_far = λ sel others tags. none_so_far c.new-all.result c.args.after sel others tags c.args.count e.stamps e.count e.behind e.selected e.names e.last;
+      so_far = λ sel others tags. none_so_far c.new-all.result c.args.after sel others tags c.args.count e.characters e.count e.behind e.selected e.names e.last;
       within = subst (λ (n : ℕ). n ≤ GREATEST_COUNT) (sym e.count) c.requires;
+      few = omega (arith, e.characters);
     }
 
 pub add_listed-requires : goal.add_listed-requires
-add_listed-requires c = c.loop-piece.invariant.within
+add_listed-requires c = record { count = c.loop-piece.invariant.within; characters = c.loop-piece.invariant.few }
 
 pub returns-in_err-add_listed : goal.returns-in_err-add_listed
 returns-in_err-add_listed c =
@@ -35,6 +36,7 @@ returns-in_err-add_listed c =
       drafts = tt;
       so_far = tt;
       within = tt;
+      few = tt;
       err = spent
           (λ h sel others tags. spent_early site pieces i piece (record { cells = []; count = c.args.count; sel = sel; others = others; tags = tags }) c.loop-piece.all.texts.count GREATEST_COUNT within c.piece-item.is
           (c.loop-piece.invariant.so_far sel others tags).count h)
@@ -63,6 +65,7 @@ loop-piece-preserved c =
           subst (AreSoFar after sel tags c.add_listed.new.self) (sym (pieces_more site pieces i piece start within c.piece-item.is))
           (e.so_far after sel tags (with_pieces site (take i pieces) start) (c.loop-piece.invariant.so_far sel others tags));
       within = e.within;
+      few = e.few;
     }
 
 pub returns : goal.returns
@@ -78,5 +81,6 @@ returns c =
           let start : Insertion = record { cells = []; count = c.args.count; sel = sel; others = others; tags = tags } in
           subst (λ pieces. AreSoFar after sel tags c.loop-piece.all (with_pieces site pieces start)) whole (c.loop-piece.invariant.so_far sel others tags);
       within = c.loop-piece.invariant.within;
+      few = c.loop-piece.invariant.few;
       err = tt;
     }

@@ -15,4 +15,5 @@ invariant-loop-piece l = record {
   so_far : (sel : List Stamp) (others : List (List Stamp)) (tags : List Word)
       → AreSoFar l.fn.after sel tags l.all (with_pieces l.site.number (take l.piece-index l.pieces) (record { cells = []; count = l.count; sel = sel; others = others; tags = tags }));
   within : l.all.texts.count ≤ GREATEST_COUNT;
+  few : l.all.characters ≤ l.all.texts.count;
 }

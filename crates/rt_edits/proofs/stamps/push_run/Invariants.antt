@@ -1,6 +1,6 @@
 use Rattle.std.proofs.Common.{◌≡◌, ℕ, ◌+◌, ◌++◌, drop}
 use Rattle.rt_store.specs.Cells.{cells_from, stamps_of}
-use Rattle.rt_edits.proofs.inserts.push_stamps.Given as goal
+use Rattle.rt_edits.proofs.stamps.push_run.Given as goal
 
 abbrev pub invariant-loop-ch : goal.invariant-loop-ch
 invariant-loop-ch l = record {
