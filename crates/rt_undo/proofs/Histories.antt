@@ -1,5 +1,5 @@
 -- Histories with other stamps in the place of their own.
-use Rattle.std.proofs.Common.{◌≡◌, ◌∙◌, ℕ, suc, ◌+◌, ◌-◌, ◌<◌, ◌≤◌, ◌++◌, ◌||◌, ◌&&◌, ◌==◌, Bool, true, false, List, [], ◌∷◌, Option, Some, None, Result, Ok, Err, map, length, take, drop, drop-cons, add-one, get_or, nat_eq, length-drop, option_map, slice_get, ap, sym, refl, arith, cond, append-nil, append_assoc}
+use Rattle.std.proofs.Common.{◌≡◌, ◌∙◌, ℕ, suc, ◌+◌, ◌-◌, ◌<◌, ◌≤◌, ◌++◌, ◌||◌, ◌&&◌, ◌==◌, Bool, true, false, List, [], ◌∷◌, Option, Some, None, Result, Ok, Err, map, length, take, drop, drop-cons, add-one, get_or, nat_eq, length-drop, option_map, slice_get, ap, sym, refl, arith, cond, append-nil, append_assoc, if◌then◌else◌}
 use Rattle.std.specs.List.{AllByRecursion}
 use Rattle.std.specs.Result.{IfOk, IsOkUnless}
 use Rattle.std.specs.declared.vec.Vec.{Vec}
