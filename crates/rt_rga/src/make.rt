@@ -51,46 +51,34 @@ fn characters_in(draft: &Draft) -> usize
 fn counts_in(draft: &Draft) -> u64
     requires { keeps_rules (body_of draft.now) ≡ true }
     ensures last { (count : ℕ) → last_of (count + 1) (body_of draft.now) ≡ count + result }
+    ensures characters { characters_in (body_of draft.now) ≤ result }
     ensures few { result ≤ MOST_CHARACTERS }
 {
     characters_in(draft).max(1) as u64
 }
 
-/// The last count of drafts whose first one begins one above a count. `ClockSpent` where it would
-/// pass `GREATEST_COUNT`.
+/// `ClockSpent` where the counts of drafts, which follow a last one, would pass `GREATEST_COUNT`, else
+/// `TextFull` where they insert more characters than there is room for.
 #[tactic(auto, using(crate::proofs::Requests::not_less))]
-pub(crate) fn last_count(count: u64, drafts: &[Draft]) -> Result<u64, Fault>
-    requires count { count ≤ GREATEST_COUNT }
+fn check_limits(last: u64, left: usize, drafts: &[Draft]) -> Result<(), Fault>
+    requires last { last ≤ GREATEST_COUNT }
     requires rules { All (λ draft. keeps_rules (body_of draft) ≡ true) drafts.now }
-    ensures last { IfOk result (λ last. last ≡ last_count_after count (map body_of drafts.now)) }
-    ensures fits { OnOk result (last_count_after count (map body_of drafts.now) ≤ GREATEST_COUNT) }
-    ensures spent { IsOkUnless result Fault.ClockSpent }
-    ensures passes { OnErr result (GREATEST_COUNT < last_count_after count (map body_of drafts.now)) }
+    ensures counts { OnOk result (last_count_after last (map body_of drafts.now) ≤ GREATEST_COUNT) }
+    ensures fits { OnOk result (refusal_from last left (map body_of drafts.now) ≡ None) }
+    ensures refused { IfErr result (λ fault. refusal_from last left (map body_of drafts.now) ≡ Some fault) }
 {
-    let mut last = count;
+    let mut count = last;
+    let mut characters = 0;
     for draft in drafts {
         let more = counts_in(draft);
-        if more > GREATEST_COUNT - last {
+        if more > GREATEST_COUNT - count {
             return Err(Fault::ClockSpent);
         }
-        last += more;
+        count += more;
+        characters += characters_in(draft);
     }
-    Ok(last)
-}
-
-/// `TextFull` where drafts insert more characters than there is room for.
-pub(crate) fn check_room(left: usize, drafts: &[Draft]) -> Result<(), Fault>
-    ensures fits { OnOk result (characters_in_all (map body_of drafts.now) ≤ left) }
-    ensures full { IsOkUnless result Fault.TextFull }
-    ensures passes { OnErr result (left < characters_in_all (map body_of drafts.now)) }
-{
-    let mut left = left;
-    for draft in drafts {
-        let more = characters_in(draft);
-        if more > left {
-            return Err(Fault::TextFull);
-        }
-        left -= more;
+    if characters > left {
+        return Err(Fault::TextFull);
     }
     Ok(())
 }
@@ -328,8 +316,7 @@ pub(crate) fn prepared(
     ensures refused { IfErr result (λ fault. (refusal_from last left (map body_of drafts.items) ≡ Some fault)
         ⊎ ((fault ≡ Fault.NoMemory) × (refusal_from last left (map body_of drafts.items) ≡ None))) }
 {
-    let _last = last_count(last, &drafts)?;
-    check_room(left, &drafts)?;
+    check_limits(last, left, &drafts)?;
     stamped(alloc, site, last, prev, drafts)
 }
 
