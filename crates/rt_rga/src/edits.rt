@@ -1,15 +1,13 @@
 // What operations do to the cells that are kept.
-ghost use Rattle.std.specs.Prelude.{◌≡◌, ◌*◌, ◌+◌, ◌<◌, ◌≤◌, ◌++◌, ◌∷◌, [], false, true, OnOk, OnErr, IfOk, IsOkUnless, length, map, string_bytes};
+ghost use Rattle.std.specs.Prelude.{◌≡◌, ◌*◌, ◌+◌, ◌<◌, ◌≤◌, [], false, OnOk, OnErr, IfOk, IsOkUnless, length, map, string_bytes};
 ghost use Rattle.rt_stamps.specs.declared.limits.TheConstants.{GREATEST_COUNT, MOST_CELLS};
 ghost use Rattle.rt_stamps.specs.declared.stamp.TheConstants.{FINAL, ROOT as ROOT_STAMP};
 ghost use Rattle.rt_oplog.specs.Logs.{with_operation};
-ghost use Rattle.rt_store.specs.Cells.{cells_from, final_cell, HasRoom, IsPlaced, put_at, Spends};
+ghost use Rattle.rt_store.specs.Cells.{cells_from, HasRoom, IsPlaced, put_at, Spends};
 ghost use Rattle.rt_tags.specs.States.{IsState, KeepsIds, state_at};
 ghost use Rattle.rt_tags.specs.Writers.{listed_by, state_after};
-ghost use Rattle.rt_rga.specs.Cells.{cells_of};
-ghost use Rattle.rt_rga.specs.Histories.{Continues, IsHistory, inserted};
+ghost use Rattle.rt_rga.specs.Histories.{Continues, inserted};
 ghost use Rattle.rt_rga.specs.Replicas.{IsReplica};
-ghost use Rattle.rt_store.specs.Shown.{shown};
 ghost use Rattle.rt_store.specs.Spans.{gone_in_any, is_in_spans};
 ghost use Rattle.rt_store.specs.Cells.{skip_from};
 

@@ -2,7 +2,6 @@
 ghost use Rattle.std.specs.Prelude.{◌≡◌, ◌⊎◌, ◌*◌, ◌+◌, ◌++◌, ◌-◌, ◌<◌, ◌≤◌, ◌^◌, ℕ, All, IfNone, IfOk, IfErr, IsOkUnless, IfSome, OnOk, OnErr, None, Some, true, drop, length, map};
 ghost use Rattle.std.specs.List.{AllByRecursion};
 ghost use Rattle.rt_stamps.specs.declared.limits.TheConstants.{GREATEST_COUNT, MOST_CELLS, MOST_CHARACTERS};
-ghost use Rattle.rt_stamps.specs.declared.stamp.Stamp.{Stamp as StampOf};
 ghost use Rattle.rt_ops.specs.Edits.{body_of};
 ghost use Rattle.rt_ops.specs.Operations.{last_count as last_count_of, last_of, stamp_of};
 ghost use Rattle.rt_ops.specs.Rules.{keeps_rules};
@@ -11,9 +10,9 @@ ghost use Rattle.rt_store.specs.Shown.{shown};
 ghost use Rattle.rt_store.specs.Tagged.{AreStates};
 ghost use Rattle.rt_tags.specs.States.{KeepsIds, TagStates};
 ghost use Rattle.rt_rga.specs.Drafts.{with_operations};
-ghost use Rattle.rt_rga.specs.Histories.{IsHistory, greatest_last_count};
+ghost use Rattle.rt_rga.specs.Histories.{greatest_last_count};
 ghost use Rattle.rt_rga.specs.Making.{AreNewest, CanAllBePut, CanBePut, ContinueInTurn, cuts_by, cuts_of, fresh_by, fresh_cells, kept_after, operations_from, put_by_kept, refusal_from};
-ghost use Rattle.rt_rga.specs.Requests.{characters_in, characters_in_all, last_count_after};
+ghost use Rattle.rt_rga.specs.Requests.{characters_in, last_count_after};
 ghost use Rattle.rt_rga.specs.Replicas.{IsReplica};
 
 use crate::Draft;

@@ -1,9 +1,9 @@
-use Rattle.std.proofs.Common.{◌≡◌, ◌∙◌, ◌∷◌, ◌<◌, List, ap, arith, length, subst, sym, false}
+use Rattle.std.proofs.Common.{◌≡◌, ◌∙◌, ◌∷◌, List, ap, arith, length, subst, sym}
 use Rattle.std.specs.Vec.Iter.{into_iter_items}
-use Rattle.rt_ops.specs.Operations.{Operation, has_bad_stamp}
+use Rattle.rt_ops.specs.Operations.{Operation}
 use Rattle.rt_oplog.specs.Logs.{with_operation}
 use Rattle.rt_rga.specs.Drafts.{with_operations}
-use Rattle.rt_rga.specs.Histories.{Continues, greatest_last_count}
+use Rattle.rt_rga.specs.Histories.{greatest_last_count}
 use Rattle.rt_rga.specs.Making.{AreNewest, ContinueInTurn}
 use Rattle.rt_rga.proofs.Counts.{count_with}
 use Rattle.rt_rga.proofs.Drafting.{newer_than_all, newest}
