@@ -76,12 +76,6 @@ module _ (old mid : List Run) (run : Run) (front : Counts) (offset at : ℕ) (st
       let a = ap (λ l. (counts_of l).cells) mid_is ∙ counts_mid st.left (back_of offset run) st.right in
       omega (arith, a, left_cells, st.inside)
 
-  pub mid_length : length mid ≡ length old
-  mid_length =
-      let a = ap length mid_is ∙ length-append st.left (back_of offset run ∷ st.right) in
-      let b = ap length st.here ∙ length-append st.left (run ∷ st.right) in
-      omega (arith, a, b)
-
   module _ (new : List Run) (put : IsPutAt mid new (at - offset) (front_of offset run)) where
     again : IsSameSpot st.left (back_of offset run) st.right put.was.left put.next put.was.right
     again =

@@ -416,9 +416,6 @@ module _ (s s' : Memory) (height root : ℕ) (t : IsShape s height root) (n q p 
   own-links : (ls : List Entry) → AllByRecursion (Fits s n (level_of s n)) ls → all_below s' (level_of s n) ls ≡ all_below s (level_of s n) ls
   own-links ls fits = flat-links (level_of s n) n (both (level_of s n)).1 ls fits (each-all (Fits s n (level_of s n)) (λ l. count_of n (l ∷ []) ≡ 0) (λ l f. not-own (level_of s n) refl l f) ls fits)
 
-  regroup-back : (a f l : List Run) → (a ++ f) ++ l ≡ a ++ (f ++ l)
-  regroup-back a f l = append_assoc a f l
-
   child-stays : (depth c : ℕ) → c < length s.heads → suc (level_of s c) ≡ level_of s n → parent_of s c ≡ n → suc depth + level_of s n ≡ height → ahead s' (suc (suc depth)) c ≡ ahead s (suc (suc depth)) c
   child-stays depth c cis lvl par deep =
       let k = level_of s n in

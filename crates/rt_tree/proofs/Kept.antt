@@ -41,9 +41,6 @@ module _ (m : Memory) (root : ℕ) (text : List ℕ) (n : ℕ) (kept : IsKept m 
   pub sum_root : sum_of (entries m root) ≡ counts_of (tree_runs m root)
   sum_root = sum-node m root kept.tree root kept.tree.shape.root_is
 
-  pub few_root : AreFew (sum_of (entries m root))
-  few_root = subst AreFew (sym sum_root) few_runs
-
   -- the runs count what the cells that are shown do
   pub record Shows (now : Shown) : Type 0 where
     pub cells : length now.cells ≡ (counts_of (tree_runs m root)).cells

@@ -204,10 +204,6 @@ kept_told m root text n kept sums tags have table few room now is agrees = recor
   given = kept_given m root text n kept sums.each.items table room now is agrees;
 }
 
-pub told_agrees : (m : Memory) (root : ℕ) (text : List ℕ) (sums : Summaries) (table : TagStates) (room : Room) (now : Shown) → shown m root text sums.each.items room ≡ now → AreTold table m sums (tree_runs m root) → Agrees table now
-told_agrees m root text sums table room now is told =
-    subst (Agrees table) is (record { given = states_given table text (tree_runs m root) told.given; right = right_from table m sums.each.items told.each })
-
 -- trees that differ in their room alone
 pub record SameTree (s t : Shown) : Type 0 where
   pub cells : t.cells ≡ s.cells

@@ -233,12 +233,6 @@ module _ (text : List ℕ) (old : List Run) (at : ℕ) (cells : List (Cell ℕ))
         subst AreApart (sym new_is)
         (apart_joined run b st.left st.right j there.some (subst (λ (l : List Run). list_any (is_shared_by (if run.len == 1 then joined run b else b)) l ≡ false) st.here apart) (subst AreApart st.here is))
 
-    pub extended_length : length new ≡ length old
-    extended_length =
-        let a = ap length new_is ∙ length-append st.left (joined run b ∷ st.right) in
-        let c = ap length st.here ∙ length-append st.left (run ∷ st.right) in
-        omega (arith, a, c)
-
 -- THE CELLS THAT ARE LEFT
 
 pub rest_is : {X : Type 0} (k : ℕ) (xs : List X) → k ≤ length xs → take (length xs - k) (drop k xs) ≡ drop k xs

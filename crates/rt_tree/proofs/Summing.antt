@@ -174,17 +174,3 @@ module _ (table : TagStates) (p v n : Option ℕ) (none one two : TagCounts) (em
         omega (arith, g, z, t);
     others = λ tag far. others tag far ∙ empty tag;
   }
-
-  -- and by two, where there is one
-  pub around_some : is_some v ≡ true → ((tag : ℕ) → IsTag table tag → count_of tag one ≡ count_of tag none + border (is_tagged table tag) p v) → ((tag : ℕ) → length table.names ≤ tag → count_of tag one ≡ count_of tag none)
-      → ((tag : ℕ) → IsTag table tag → count_of tag two ≡ count_of tag one + border (is_tagged table tag) v n) → ((tag : ℕ) → length table.names ≤ tag → count_of tag two ≡ count_of tag one)
-      → AreToggles table (one_or_none p ++ (one_or_none v ++ one_or_none n)) two
-  around_some on given others given_two others_two = record {
-    given = λ tag h.
-        let g = given tag h in
-        let k = given_two tag h in
-        let z = empty tag in
-        let t = three (is_tagged table tag) p v n ∙ ap (λ b. if b then border (is_tagged table tag) p v + border (is_tagged table tag) v n else border (is_tagged table tag) p n) on in
-        omega (arith, g, k, z, t);
-    others = λ tag far. others_two tag far ∙ others tag far ∙ empty tag;
-  }

@@ -4,8 +4,7 @@ use Rattle.std.proofs.lemmas.Bool.{cases_eq}
 use Rattle.rt_tags.specs.States.{TagStates}
 use Rattle.rt_tags.specs.Toggles.{count_in}
 use Rattle.rt_tree.specs.declared.summary.Summary.{Summary}
-use Rattle.rt_tree.specs.Shape.{Memory}
-use Rattle.rt_tree.specs.Summaries.{AreSummed, IsSummary, TellsAs, no_summary, room_at, summary_of}
+use Rattle.rt_tree.specs.Summaries.{IsSummary, TellsAs, no_summary, room_at, summary_of}
 
 pub tells_same : (s : Summary) → TellsAs s s
 tells_same s = record { first = refl; last = refl; counts = refl }
@@ -19,10 +18,6 @@ still_summary table states a b t is = record {
   last = t.last ∙ is.last;
   counts = record { given = λ tag h. ap (count_in tag) t.counts ∙ is.counts.given tag h; others = λ tag far. ap (count_in tag) t.counts ∙ is.counts.others tag far };
 }
-
--- nodes' summaries stay right, and there may be more of them
-pub still_summed : (table : TagStates) (m : Memory) (old new : List Summary) → length m.heads ≤ length old → ((i : ℕ) → i < length old → TellsAs (summary_of old i) (summary_of new i)) → AreSummed table m old → AreSummed table m new
-still_summed table m old new many same are id is = still_summary table _ (summary_of old id) (summary_of new id) (same id (omega (arith, is, many))) (are id is)
 
 -- ONE IN PLACE OF ANOTHER
 

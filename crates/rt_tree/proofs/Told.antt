@@ -17,7 +17,7 @@ use Rattle.rt_tree.specs.declared.summed.Summaries.{Summaries}
 use Rattle.rt_tree.specs.Shape.{Memory}
 use Rattle.rt_tree.specs.Summaries.{AreSummed, AreTold, HaveMemory, shown_states}
 use Rattle.rt_tree.specs.Sums.{counts_of}
-use Rattle.rt_tree.specs.Walks.{IsPutAt, IsReplacedAt}
+use Rattle.rt_tree.specs.Walks.{IsReplacedAt}
 use Rattle.rt_tree.proofs.CellLaws.{characters_length}
 use Rattle.rt_tree.proofs.Cutting.{runs_few}
 
@@ -57,12 +57,6 @@ given_append table (r ∷ a) b x y = (x.0, given_append table a b x.1 y)
 pub given_parts : (table : TagStates) (a b : List Run) → AreGiven table (a ++ b) → AreGiven table a × AreGiven table b
 given_parts table [] b all = (tt, all)
 given_parts table (r ∷ a) b all = let both = given_parts table a b all.1 in ((all.0, both.0), both.1)
-
--- a run that was put in has a state that was given out
-pub given_put : (table : TagStates) (old new : List Run) (at : ℕ) (run : Run) → IsState table run.state → IsPutAt old new at run → AreGiven table old → AreGiven table new
-given_put table old new at run own put all =
-    let parts = given_parts table put.was.left (put.next ∷ put.was.right) (subst (AreGiven table) put.was.here all) in
-    subst (AreGiven table) (sym put.is) (given_append table put.was.left (run ∷ put.next ∷ put.was.right) parts.0 (own, parts.1))
 
 pub given_replaced : (table : TagStates) (old new : List Run) (at : ℕ) (run : Run) → IsState table run.state → IsReplacedAt old new at run → AreGiven table old → AreGiven table new
 given_replaced table old new at run own rep all =

@@ -66,13 +66,6 @@ module _ (text : List ℕ) (all : List Run) (at : ℕ) (P : Run → Type 0) (run
   pub passed_next : IsNext p.left p.right st.left run st.right offset
   passed_next = next_is text all p.left p.right at run front offset p.is p.count (all_right text p.left p.right (subst (AllByRecursion (IsRun text)) p.is kept)) st
 
-  pub passed_inside : at + run.len ≤ (counts_of all).cells
-  passed_inside =
-      let m = ap (λ (l : List Run). (counts_of l).cells) st.here ∙ counts_mid st.left run st.right in
-      let n = ap (λ (l : List Run). (counts_of l).cells) passed_next.left in
-      let q = p.count in
-      omega (arith, m, n, q)
-
   pub passed_more : P run → ArePassed all (at + run.len) P
   passed_more is = record {
     left = p.left ++ run ∷ [];

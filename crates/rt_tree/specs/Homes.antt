@@ -1,14 +1,18 @@
 -- The leaves in which runs are looked for. No public clause cites this module.
-use Rattle.std.specs.Prelude.{◌≡◌, ◌≢◌, ℕ, ◌+◌, ◌^◌, ◌<◌, ◌≤◌, ◌⊎◌, ◌&&◌, nat_lt, true, List, ◌∷◌, ◌++◌, length, filter, None, if◌then◌else◌, map}
+use Rattle.std.specs.Prelude.{◌≡◌, ◌≢◌, ℕ, ◌+◌, ◌^◌, ◌<◌, ◌≤◌, ◌⊎◌, ◌&&◌, nat_lt, Bool, true, List, ◌∷◌, ◌++◌, length, filter, None, if◌then◌else◌, map}
 use Rattle.rt_nodes.specs.declared.memory.NodeId.{NodeId}
 use Rattle.rt_spans.specs.Shown.{Shown, value_of}
 use Rattle.rt_stamps.specs.declared.stamp.Span.{Span}
 use Rattle.rt_stamps.specs.declared.stamp.Stamp.{Stamp}
 use Rattle.rt_store.specs.Cells.{is_in_span}
+use Rattle.rt_tree.specs.declared.homes.Home.{Home}
+use Rattle.rt_tree.specs.declared.homes.Sought.{Sought}
+use Rattle.rt_tree.specs.declared.homes.Sought.TheVariants.{At, Nowhere, Unknown}
 use Rattle.rt_tree.specs.declared.mark.Mark.{Mark}
 use Rattle.rt_tree.specs.declared.node.Run.{Run}
 use Rattle.rt_tree.specs.Runs.{first_stamp, has}
 use Rattle.rt_tree.specs.Stretches.{marked_run}
+use Rattle.rt_tree.specs.Walks.{IsBehind}
 
 -- how many runs have a stamp
 abbrev pub holders : Stamp → List Run → ℕ
@@ -34,6 +38,18 @@ KeepsAll old new = (stamp : Stamp) → value_of new stamp ≡ None → value_of 
 -- each stamp of a run has a leaf
 abbrev pub IsPlaced : Shown NodeId → Run → Type 0
 IsPlaced leaves run = (stamp : Stamp) → has run stamp ≡ true → value_of leaves stamp ≢ None
+
+-- a run has a stamp, and no other run has one of its stamps
+pub record IsHomeOf (rs : List Run) (is_sure : Bool) (stamp : Stamp) (found : Home) : Type 0 where
+  pub sure : is_sure ≡ true
+  pub home : IsBehind rs found.run found.before
+  pub with_stamp : has found.run stamp ≡ true
+
+-- what is said of where a stamp is: in no run, as it has no leaf, or in one run, or nothing
+abbrev pub IsSaid : List Run → Bool → Shown NodeId → Stamp → Sought → Type 0
+IsSaid rs sure leaves stamp Nowhere = (sure ≡ true) × (value_of leaves stamp ≡ None)
+IsSaid rs sure leaves stamp (At home) = IsHomeOf rs sure stamp home
+IsSaid rs sure leaves stamp Unknown = Unit {0}
 
 -- the stamps of a run are those of a span
 pub record IsSpanOf (run : Run) (span : Span) : Type 0 where

@@ -5,7 +5,7 @@ ghost use Rattle.rt_nodes.specs.Nodes.{IsNode, entries};
 ghost use Rattle.rt_tree.specs.declared.node.Entry.TheVariants.{Here};
 ghost use Rattle.rt_tree.specs.declared.node.Run.{Run};
 ghost use Rattle.rt_spans.specs.Shown.{value_of};
-ghost use Rattle.rt_tree.specs.Homes.{AreHome, AreUnknown, IsPlaced, IsSpanOf, IsUnknown, KeepsAll};
+ghost use Rattle.rt_tree.specs.Homes.{AreHome, AreUnknown, IsPlaced, IsSaid, IsSpanOf, IsUnknown, KeepsAll};
 ghost use Rattle.rt_tree.specs.Holds.{Holds};
 ghost use Rattle.rt_tree.specs.Runs.{IsRun, has, run_cells};
 ghost use Rattle.rt_tree.specs.Shape.{IsTree, level_of, tree_runs};
@@ -107,6 +107,14 @@ impl Home {
             None
         }
     }
+}
+
+// What is known of where a stamp is: no run has it, or this one has it.
+#[derive(Clone, Copy)]
+pub(crate) enum Sought {
+    Nowhere,
+    At(Home),
+    Unknown,
 }
 
 // The span of a run's stamps; none if it has none, or the greatest count that there is.
@@ -247,6 +255,33 @@ impl Homes {
             return None;
         }
         home_in(mem, root, leaf?, stamp)
+    }
+
+    // Where the run is that has a stamp: the one that is known to stand somewhere, or one of the leaf that the stamp has.
+    #[inline(always)]
+    pub(crate) fn look_up(
+        &self,
+        mem: &Mem,
+        root: NodeId,
+        last: &Option<Found>,
+        stamp: Stamp,
+    ) -> Sought
+        requires tree { IsTree mem.now root.index }
+        requires few { AreFew (counts_of (tree_runs mem.now root.index)) }
+        requires held { IfSome last.now (Holds mem.now root.index) }
+        ensures { IsSaid (tree_runs mem.now root.index) self.now.sure self.now.leaves stamp result }
+    {
+        if let Some(home) = self.near(mem, root, last, stamp) {
+            return Sought::At(home);
+        }
+        let leaf = self.leaf_of(stamp);
+        if self.is_nowhere(leaf) {
+            return Sought::Nowhere;
+        }
+        match self.locate(mem, root, leaf, stamp) {
+            Some(home) => Sought::At(home),
+            None => Sought::Unknown,
+        }
     }
 
     // Whether no stamp of a run has a leaf.

@@ -13,7 +13,7 @@ mod tagging;
 
 use crate::copy::copy;
 use crate::find::{cell_in, find, has, height};
-use crate::homes::Homes;
+use crate::homes::{Homes, Sought};
 use crate::near::seek_near;
 use crate::node::{Counts, Entry, Head, Measure, Mem, Run};
 use crate::skip::{is_low, passed};
@@ -321,39 +321,34 @@ impl Tree {
         None
     }
 
+    // The first cell that has a stamp, by that walk.
+    fn seek_cell(&self, stamp: Stamp) -> Option<Cell<StateId>>
+        ensures { result ≡ cell_of self.now.cells stamp }
+    {
+        let position = self.seek_stamp(stamp)?;
+        Some(self.nth(position))
+    }
+
     /// The position of the cell of a stamp, gone or not; none if no cell has the stamp.
     pub fn position_of(&self, stamp: Stamp) -> Option<usize>
         ensures { result ≡ position_of self.now.cells stamp }
     {
-        if let Some(home) = self.homes.near(&self.mem, self.root, &self.last, stamp) {
-            return Some(home.position(stamp));
+        match self.homes.look_up(&self.mem, self.root, &self.last, stamp) {
+            Sought::Nowhere => None,
+            Sought::At(home) => Some(home.position(stamp)),
+            Sought::Unknown => self.seek_stamp(stamp),
         }
-        let leaf = self.homes.leaf_of(stamp);
-        if self.homes.is_nowhere(leaf) {
-            return None;
-        }
-        if let Some(home) = self.homes.locate(&self.mem, self.root, leaf, stamp) {
-            return Some(home.position(stamp));
-        }
-        self.seek_stamp(stamp)
     }
 
     /// The cell of a stamp, gone or not; none if no cell has the stamp.
     pub fn cell_of(&self, stamp: Stamp) -> Option<Cell<StateId>>
         ensures { result ≡ cell_of self.now.cells stamp }
     {
-        if let Some(home) = self.homes.near(&self.mem, self.root, &self.last, stamp) {
-            return Some(home.cell(&self.text, stamp));
+        match self.homes.look_up(&self.mem, self.root, &self.last, stamp) {
+            Sought::Nowhere => None,
+            Sought::At(home) => Some(home.cell(&self.text, stamp)),
+            Sought::Unknown => self.seek_cell(stamp),
         }
-        let leaf = self.homes.leaf_of(stamp);
-        if self.homes.is_nowhere(leaf) {
-            return None;
-        }
-        if let Some(home) = self.homes.locate(&self.mem, self.root, leaf, stamp) {
-            return Some(home.cell(&self.text, stamp));
-        }
-        let position = self.seek_stamp(stamp)?;
-        Some(self.nth(position))
     }
 
     // How many visible cells stand before a position.
@@ -365,23 +360,24 @@ impl Tree {
         found.before.visible as usize + visible_part(found.run, found.spot.offset)
     }
 
+    // How many visible cells stand before the first cell that has a stamp, by a walk from run to run.
+    fn seek_place(&self, stamp: Stamp) -> Option<usize>
+        ensures { result ≡ option_map (visible_before self.now.cells) (position_of self.now.cells stamp) }
+    {
+        let position = self.seek_stamp(stamp)?;
+        Some(self.visible_before(position))
+    }
+
     /// How many visible cells stand before a stamp's cell, which is its place if it is visible; none if
     /// no cell has the stamp.
     pub fn place_of(&self, stamp: Stamp) -> Option<usize>
         ensures { result ≡ option_map (visible_before self.now.cells) (position_of self.now.cells stamp) }
     {
-        if let Some(home) = self.homes.near(&self.mem, self.root, &self.last, stamp) {
-            return Some(home.place(stamp));
+        match self.homes.look_up(&self.mem, self.root, &self.last, stamp) {
+            Sought::Nowhere => None,
+            Sought::At(home) => Some(home.place(stamp)),
+            Sought::Unknown => self.seek_place(stamp),
         }
-        let leaf = self.homes.leaf_of(stamp);
-        if self.homes.is_nowhere(leaf) {
-            return None;
-        }
-        if let Some(home) = self.homes.locate(&self.mem, self.root, leaf, stamp) {
-            return Some(home.place(stamp));
-        }
-        let position = self.seek_stamp(stamp)?;
-        Some(self.visible_before(position))
     }
 
     // The position after an element.
