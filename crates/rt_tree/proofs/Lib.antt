@@ -12,6 +12,7 @@ mod Kept
 mod Lines
 mod Adding
 mod Bares
+mod Ends
 mod Exact
 mod Frame
 mod Raise

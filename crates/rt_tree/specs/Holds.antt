@@ -1,12 +1,15 @@
 -- Where a run is known to stand. No public clause cites this module.
-use Rattle.std.specs.Prelude.{◌≡◌, ℕ, ◌<◌, length, slice_get, Some}
+use Rattle.std.specs.Prelude.{◌≡◌, ℕ, ◌+◌, ◌<◌, length, slice_get, Some}
 use Rattle.rt_nodes.specs.Nodes.{entries}
 use Rattle.rt_tree.specs.declared.node.Counts.{Counts}
 use Rattle.rt_tree.specs.declared.node.Entry.TheVariants.{Here}
+use Rattle.rt_tree.specs.declared.node.Measure.TheVariants.{Cells}
 use Rattle.rt_tree.specs.declared.node.Run.{Run}
 use Rattle.rt_tree.specs.declared.walk.Found.{Found}
+use Rattle.rt_tree.specs.declared.walk.Spot.{Spot}
 use Rattle.rt_tree.specs.Shape.{Memory, level_of, runs_before}
 use Rattle.rt_tree.specs.Sums.{counts_of}
+use Rattle.rt_tree.specs.Walks.{IsSpot}
 
 -- a run is an entry of a leaf, and the runs before it count so many
 pub record IsHeld (m : Memory) (root leaf entry : ℕ) (run : Run) (front : Counts) : Type 0 where
@@ -14,6 +17,14 @@ pub record IsHeld (m : Memory) (root leaf entry : ℕ) (run : Run) (front : Coun
   pub low : level_of m leaf ≡ 0
   pub here : slice_get (entries m leaf) entry ≡ Some (Here run)
   pub before : front ≡ counts_of (runs_before m root leaf entry)
+
+-- a run ends at a position, and its last cell is at a spot
+pub record IsEndAt (m : Memory) (root at : ℕ) (spot : Spot) : Type 0 where
+  pub run : Run
+  pub place : ℕ
+  pub is : IsSpot m root Cells place spot.leaf.index spot.entry spot.offset run
+  pub last : spot.offset + 1 ≡ run.len
+  pub next : place + 1 ≡ at
 
 -- a spot that was found is its run's
 abbrev pub Holds : Memory → ℕ → Found → Type 0

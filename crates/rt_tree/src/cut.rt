@@ -90,7 +90,7 @@ pub(crate) fn cut(
     let back = back_of(found.run, offset as u32);
     replace_at(mem, sums, states, root, found.spot, back);
     let front = front_of(found.run, offset as u32);
-    let placed = put(mem, sums, states, root, at - offset, front);
+    let placed = put(mem, sums, states, root, at - offset, None, front);
     Change {
         root: placed.root,
         more: 1,
@@ -128,6 +128,7 @@ pub(crate) fn cut_home(
     ensures left { keep ≤ homes.old.left → keep ≤ homes.new.left }
     ensures told { AreTold states.now mem.new sums.new (tree_runs mem.new result.root.index) }
     ensures tags { sums.new.tags ≡ sums.old.tags }
+    ensures still { is_edge ≡ true → (mem.new ≡ mem.old) × (result.root ≡ root) }
 {
     if is_edge {
         return Change { root, more: 0 };

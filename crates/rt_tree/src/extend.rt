@@ -1,11 +1,11 @@
 // A run that goes on with new cells.
-ghost use Rattle.std.specs.Prelude.{◌≡◌, ◌+◌, ◌-◌, ◌<◌, ◌≤◌, ◌^◌, ◌==◌, IfSome, if◌then◌else◌, length, take, true};
+ghost use Rattle.std.specs.Prelude.{◌≡◌, ◌+◌, ◌-◌, ◌<◌, ◌≤◌, ◌^◌, ◌==◌, IfSome, None, if◌then◌else◌, length, take, true};
 ghost use Rattle.std.specs.List.{AllByRecursion, list_any};
 ghost use Rattle.rt_stamps.specs.declared.limits.TheConstants.{MOST_CELLS};
 ghost use Rattle.rt_store.specs.Cells.{put_at};
 ghost use Rattle.rt_store.specs.Tagged.{AreStates};
 ghost use Rattle.rt_tree.specs.Additions.{EndsWith, are_joint, joined};
-ghost use Rattle.rt_tree.specs.Holds.{Holds};
+ghost use Rattle.rt_tree.specs.Holds.{Holds, IsEndAt};
 ghost use Rattle.rt_tree.specs.Homes.{AreHome, AreOnceEach, IsAmong, IsNew};
 ghost use Rattle.rt_tree.specs.Runs.{IsRun, cells_of};
 ghost use Rattle.rt_tree.specs.Shape.{IsTree, tree_runs};
@@ -15,12 +15,12 @@ ghost use Rattle.rt_tree.specs.Summaries.{AreTold};
 ghost use Rattle.rt_tree.specs.Sums.{counts_of};
 
 use crate::homes::Homes;
-use crate::near::found_near;
-use crate::node::{Measure, Mem, Run};
+use crate::near::{cell_near, counts_before};
+use crate::node::{Mem, Run};
 use crate::put::replace_at;
 use crate::splice::{is_shared, run_of};
 use crate::summed::Summaries;
-use crate::walk::Found;
+use crate::walk::{Found, Spot};
 use rt_nodes::NodeId;
 use rt_store::Cell;
 use rt_tags::{StateId, StateTable};
@@ -88,8 +88,22 @@ fn is_barred(mem: &Mem, root: NodeId, newest: u64, before: Run, run: Run, is_new
 pub(crate) struct Extended {
     pub(crate) done: usize,
     pub(crate) is_edge: bool,
+    // The last cell of the run that ends there.
+    pub(crate) end: Option<Spot>,
     // The longer run, and where it stands.
     pub(crate) last: Option<Found>,
+}
+
+// No cell was put in, since no run ends at the position, or it can't go on.
+fn not_extended(is_edge: bool, end: Option<Spot>) -> Extended
+    ensures { result ≡ record { done = 0; is_edge = is_edge; end = end; last = None } }
+{
+    Extended {
+        done: 0,
+        is_edge,
+        end,
+        last: None,
+    }
 }
 
 // Lets the run that ends at a position go on with the first of new cells, if these follow it, and tells how many they are.
@@ -123,6 +137,8 @@ pub(crate) fn extend(
     ensures within { result.done ≤ length cells.now }
     ensures cells { AreChanged (tree_runs mem.old root.index) (tree_runs mem.new root.index) text.now (put_at at (take result.done cells.now)) }
     ensures edge { result.is_edge ≡ true → IsEdge (lengths (tree_runs mem.new root.index)) (at + result.done) }
+    ensures end { IfSome result.end (IsEndAt mem.new root.index (at + result.done)) }
+    ensures known { IfSome result.end (λ _. result.is_edge ≡ true) }
     ensures apart { AreApart (tree_runs mem.new root.index) }
     ensures runs { length (tree_runs mem.new root.index) ≡ length (tree_runs mem.old root.index) }
     ensures home { homes.new.sure ≡ true → AreHome homes.new.leaves (tree_runs mem.new root.index) }
@@ -133,39 +149,34 @@ pub(crate) fn extend(
     ensures tags { sums.new.tags ≡ sums.old.tags }
 {
     if at == 0 || cells.is_empty() {
-        return Extended {
-            done: 0,
-            is_edge: at == 0,
-            last: None,
-        };
+        return not_extended(at == 0, None);
     }
-    let found = found_near(mem, root, last, Measure::Cells, at - 1);
+    let found = cell_near(mem, root, last, at - 1);
+    if found.spot.offset + 1 < found.run.len as usize {
+        return not_extended(false, None);
+    }
+    let end = Some(found.spot);
     let run = run_of(text, cells);
-    if found.spot.offset + 1 < found.run.len as usize || !are_joint(&found.run, &run) {
-        return Extended {
-            done: 0,
-            is_edge: found.spot.offset + 1 == found.run.len as usize,
-            last: None,
-        };
+    if !are_joint(&found.run, &run) {
+        return not_extended(true, end);
     }
     let is_new = homes.is_new(newest, &run);
     if is_barred(mem, root, newest, found.run, run, is_new) {
-        return Extended {
-            done: 0,
-            is_edge: true,
-            last: None,
-        };
+        return not_extended(true, end);
     }
+    let before = counts_before(mem, root, last, found.spot);
     let whole = joined(found.run, run);
     replace_at(mem, sums, states, root, found.spot, whole);
     homes.enter(&whole, found.spot.leaf, is_new);
     let longer = Found {
+        spot: found.spot,
         run: whole,
-        ..found
+        before,
     };
     Extended {
         done: run.len as usize,
         is_edge: false,
+        end: None,
         last: Some(longer),
     }
 }

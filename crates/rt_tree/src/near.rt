@@ -1,14 +1,17 @@
 // Runs that are looked for first where one is known to stand.
-ghost use Rattle.std.specs.Prelude.{◌≡◌, ◌+◌, ◌<◌, IfSome};
+ghost use Rattle.std.specs.Prelude.{◌≡◌, ◌+◌, ◌<◌, ◌≤◌, IfSome, length};
+ghost use Rattle.rt_nodes.specs.Nodes.{IsNode, entries};
+ghost use Rattle.rt_tree.specs.declared.node.Measure.TheVariants.{Cells};
 ghost use Rattle.rt_tree.specs.Holds.{Holds};
-ghost use Rattle.rt_tree.specs.Shape.{IsTree, tree_runs};
+ghost use Rattle.rt_tree.specs.Shape.{IsTree, level_of, runs_before, tree_runs};
 ghost use Rattle.rt_tree.specs.Sums.{AreFew, amount, counts_of, counts_of_run};
 ghost use Rattle.rt_tree.specs.Walks.{IsSpot, StandsAt};
 
 use crate::find::height;
 use crate::looks::Counted;
-use crate::node::{Measure, Mem};
+use crate::node::{Counts, Measure, Mem, Run};
 use crate::sums::{amount, counts_of_run};
+use crate::up::ascend;
 use crate::walk::{Found, Spot, descend_by};
 use rt_nodes::NodeId;
 
@@ -37,7 +40,9 @@ fn moved(found: &Found, offset: usize) -> Found
     Found { spot, ..*found }
 }
 
-// The run that has a place, with the spot where it stands.
+// The run that has a place, with the spot where it stands. It is compiled into its callers, since one that asks for no counts
+// then adds none up.
+#[inline(always)]
 pub(crate) fn found_near(
     mem: &Mem,
     root: NodeId,
@@ -80,4 +85,44 @@ pub(crate) fn seek_near(
     ensures { StandsAt by (tree_runs mem.now root.index) result.run result.before result.spot.offset place }
 {
     found_near(mem, root, last, by, place)
+}
+
+// A spot with its run.
+#[derive(Clone, Copy)]
+pub(crate) struct Seen {
+    pub(crate) spot: Spot,
+    pub(crate) run: Run,
+}
+
+// The run that has the cell at a position, with the spot where it stands. What is before it isn't counted.
+pub(crate) fn cell_near(mem: &Mem, root: NodeId, last: &Option<Found>, at: usize) -> Seen
+    requires tree { IsTree mem.now root.index }
+    requires few { AreFew (counts_of (tree_runs mem.now root.index)) }
+    requires within { at < (counts_of (tree_runs mem.now root.index)).cells }
+    requires held { IfSome last.now (Holds mem.now root.index) }
+    ensures { IsSpot mem.now root.index Cells at result.spot.leaf.index result.spot.entry result.spot.offset result.run }
+{
+    let Found { spot, run, .. } = found_near(mem, root, last, Measure::Cells, at);
+    Seen { spot, run }
+}
+
+// What the runs before an entry of a leaf count, which is known where that is the run that is.
+pub(crate) fn counts_before(mem: &Mem, root: NodeId, last: &Option<Found>, spot: Spot) -> Counts
+    requires tree { IsTree mem.now root.index }
+    requires few { AreFew (counts_of (tree_runs mem.now root.index)) }
+    requires leaf { IsNode mem.now spot.leaf.index × (level_of mem.now spot.leaf.index ≡ 0) }
+    requires within { spot.entry ≤ length (entries mem.now spot.leaf.index) }
+    requires held { IfSome last.now (Holds mem.now root.index) }
+    ensures { result ≡ counts_of (runs_before mem.now root.index spot.leaf.index spot.entry) }
+{
+    if let Some(found) = last {
+        if found.spot.leaf.index == spot.leaf.index && found.spot.entry == spot.entry {
+            return found.before;
+        }
+    }
+    height(mem, root);
+    let mut looks = 0;
+    let looks = &mut looks;
+    let mut sight = Counted { mem, looks };
+    ascend(&mut sight, root, spot.leaf, spot.entry)
 }

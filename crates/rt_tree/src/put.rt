@@ -1,12 +1,13 @@
 // Runs put in, and put in place of others.
-ghost use Rattle.std.specs.Prelude.{◌≡◌, ℕ, ◌+◌, ◌*◌, ◌<◌, ◌≤◌, ◌^◌, insert, length, true};
-ghost use Rattle.rt_nodes.specs.Nodes.{entries};
+ghost use Rattle.std.specs.Prelude.{◌≡◌, ℕ, ◌+◌, ◌*◌, ◌<◌, ◌≤◌, ◌^◌, IfSome, Some, insert, length, slice_get, true};
+ghost use Rattle.rt_nodes.specs.Nodes.{IsNode, entries};
 ghost use Rattle.rt_tags.specs.States.{IsState};
 ghost use Rattle.rt_tree.specs.declared.node.Counts.{Counts};
+ghost use Rattle.rt_tree.specs.declared.node.Entry.TheVariants.{Here};
 ghost use Rattle.rt_tree.specs.declared.node.Measure.TheVariants.{Cells};
 ghost use Rattle.rt_tree.specs.declared.node.Run.{Run};
 ghost use Rattle.rt_tree.specs.Changes.{AreExact, AreFilled, bare};
-ghost use Rattle.rt_tree.specs.Holds.{IsHeld};
+ghost use Rattle.rt_tree.specs.Holds.{IsEndAt, IsHeld};
 ghost use Rattle.rt_tree.specs.Homes.{AreHome};
 ghost use Rattle.rt_tree.specs.Shape.{IsShape, IsTree, ahead, level_of, runs, tree_runs};
 ghost use Rattle.rt_tree.specs.Sharing.{AreKnown};
@@ -17,9 +18,9 @@ ghost use Rattle.rt_tree.specs.Walks.{IsPutAt, IsReplacedAt, IsSpot, StandsAt};
 
 use crate::homes::Homes;
 use crate::looks::Counted;
-use crate::node::{Measure, Mem, Run};
+use crate::node::{Entry, Measure, Mem, Run};
 use crate::resum::{insert_run, replace_run};
-use crate::room::{make_room, top_room};
+use crate::room::{Top, make_room, top_room};
 use crate::settle::level_of;
 use crate::summed::Summaries;
 use crate::walk::{Found, Spot, descend_by};
@@ -98,6 +99,51 @@ fn spot_of(mem: &Mem, root: NodeId, at: usize) -> Spot
     found_at(mem, root, at).spot
 }
 
+// The entry behind one of a leaf, if a run with a cell stands there.
+fn next_entry(mem: &Mem, spot: Spot) -> Option<usize>
+    requires node { IsNode mem.now spot.leaf.index }
+    requires within { spot.entry < length (entries mem.now spot.leaf.index) }
+    ensures next { IfSome result (λ i. i ≡ spot.entry + 1) }
+    ensures run { IfSome result (λ i. (run : Run) × (slice_get (entries mem.now spot.leaf.index) i ≡ Some (Here run)) × (0 < run.len)) }
+{
+    let all = mem.len(spot.leaf);
+    let next = spot.entry + 1;
+    if next >= all {
+        return None;
+    }
+    match *mem.entry(spot.leaf, next) {
+        Entry::Down(..) => None,
+        Entry::Here(run) => { if run.len > 0 { Some(next) } else { None } }
+    }
+}
+
+// The spot of the cell at a position; `end` is that of the cell before it, where this is known to be the last of its run.
+fn spot_behind(mem: &Mem, root: NodeId, at: usize, end: Option<Spot>) -> Spot
+    requires tree { IsTree mem.now root.index }
+    requires few { AreFew (counts_of (tree_runs mem.now root.index)) }
+    requires within { at < (counts_of (tree_runs mem.now root.index)).cells }
+    requires end { IfSome end (IsEndAt mem.now root.index at) }
+    ensures { (run : Run) × IsSpot mem.now root.index Cells at result.leaf.index result.entry result.offset run }
+{
+    if let Some(spot) = end {
+        if let Some(entry) = next_entry(mem, spot) {
+            return Spot {
+                leaf: spot.leaf,
+                entry,
+                offset: 0,
+            };
+        }
+    }
+    spot_of(mem, root, at)
+}
+
+// A spot that is known, unless a root has come that wasn't there.
+fn still_known(end: Option<Spot>, height: u32, top: &Top) -> Option<Spot>
+    ensures { IfSome result (λ spot. (end ≡ Some spot) × (top.now.height ≡ height)) }
+{
+    if top.height == height { end } else { None }
+}
+
 // The root after a run was put in, and the leaf that the run is in.
 #[derive(Clone, Copy)]
 pub(crate) struct Placed {
@@ -105,17 +151,20 @@ pub(crate) struct Placed {
     pub(crate) leaf: NodeId,
 }
 
-// Puts a run in before the one that has the cell at a position. The root may now be another node.
+// Puts a run in before the one that has the cell at a position; `end` is the spot of the cell before it, where this is known to
+// be the last of its run. The root may now be another node.
 pub(crate) fn put(
     mem: &mut Mem,
     sums: &mut Summaries,
     states: &StateTable,
     root: NodeId,
     at: usize,
+    end: Option<Spot>,
     run: Run,
 ) -> Placed
     requires tree { IsTree mem.old root.index }
     requires within { at < (counts_of (tree_runs mem.old root.index)).cells }
+    requires end { IfSome end (IsEndAt mem.old root.index at) }
     requires few { AreFew (plus (counts_of_run run) (counts_of (tree_runs mem.old root.index))) }
     requires height { level_of mem.old root.index + 1 < 2 ^ 32 }
     requires room { HasNodes mem.old (length (tree_runs mem.old root.index)) }
@@ -130,7 +179,8 @@ pub(crate) fn put(
 {
     let height = level_of(mem, root);
     let top = top_room(mem, sums, states, root, height);
-    let spot = spot_of(mem, top.root, at);
+    let known = still_known(end, height, &top);
+    let spot = spot_behind(mem, top.root, at, known);
     let leaf = insert_at(
         mem, sums, states, top.root, top.height, spot.leaf, spot.entry, run,
     );
@@ -140,14 +190,15 @@ pub(crate) fn put(
     }
 }
 
-// Puts a run in before the one that has the cell at a position, and tells where its stamps are. No cell has a greater count
-// than `newest`; so many spans can be given a leaf later.
+// The same, and tells where the run's stamps are. No cell has a greater count than `newest`; so many spans can be given a leaf
+// later.
 pub(crate) fn put_home(
     mem: &mut Mem,
     sums: &mut Summaries,
     states: &StateTable,
     root: NodeId,
     at: usize,
+    end: Option<Spot>,
     run: Run,
     homes: &mut Homes,
     newest: u64,
@@ -155,6 +206,7 @@ pub(crate) fn put_home(
 ) -> NodeId
     requires tree { IsTree mem.old root.index }
     requires within { at < (counts_of (tree_runs mem.old root.index)).cells }
+    requires end { IfSome end (IsEndAt mem.old root.index at) }
     requires few { AreFew (plus (counts_of_run run) (counts_of (tree_runs mem.old root.index))) }
     requires height { level_of mem.old root.index + 1 < 2 ^ 32 }
     requires room { HasNodes mem.old (length (tree_runs mem.old root.index)) }
@@ -175,7 +227,7 @@ pub(crate) fn put_home(
 {
     let is_new = homes.is_new(newest, &run);
     let nodes = mem.nodes();
-    let placed = put(mem, sums, states, root, at, run);
+    let placed = put(mem, sums, states, root, at, end, run);
     homes.enter(&run, placed.leaf, is_new);
     homes.note_new(mem, nodes, keep);
     placed.root

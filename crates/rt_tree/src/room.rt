@@ -157,6 +157,7 @@ pub(crate) fn top_room(
     ensures runs { runs (bare mem.new) result.height result.root.index ≡ runs (bare mem.old) height root.index }
     ensures roomy { length (entries mem.new result.root.index) < 16 }
     ensures height { result.height ≤ height + 1 }
+    ensures still { result.height ≡ height → (mem.new ≡ mem.old) × (result.root ≡ root) }
     ensures room { length mem.new.heads + mem.new.room ≡ length mem.old.heads + mem.old.room }
     ensures told { AreTold states.now mem.new sums.new (runs (bare mem.new) result.height result.root.index) }
     ensures tags { sums.new.tags ≡ sums.old.tags }

@@ -5,7 +5,7 @@ ghost use Rattle.rt_stamps.specs.declared.limits.TheConstants.{MOST_CELLS};
 ghost use Rattle.rt_store.specs.Cells.{put_at};
 ghost use Rattle.rt_store.specs.Tagged.{AreStates};
 ghost use Rattle.rt_tree.specs.Additions.{EndsWith, IsFrontOf, IsRunOf, IsStretch, follows, run_from, stretches};
-ghost use Rattle.rt_tree.specs.Holds.{Holds};
+ghost use Rattle.rt_tree.specs.Holds.{Holds, IsEndAt};
 ghost use Rattle.rt_tree.specs.Homes.{AreHome};
 ghost use Rattle.rt_tree.specs.Runs.{IsRun, cells_of};
 ghost use Rattle.rt_tree.specs.Shape.{IsTree, tree_runs};
@@ -16,13 +16,13 @@ ghost use Rattle.rt_tree.specs.Sums.{counts_of};
 ghost use Rattle.rt_tree.specs.Trees.{HasNodes};
 
 use crate::cut::{Change, cut_home};
-use crate::extend::{Extended, extend};
+use crate::extend::extend;
 use crate::find::{cells_of, first_stamp, has, seek};
 use crate::homes::Homes;
 use crate::node::{Measure, Mem, Run};
 use crate::put::put_home;
 use crate::summed::Summaries;
-use crate::walk::Found;
+use crate::walk::{Found, Spot};
 use rt_nodes::NodeId;
 use rt_store::Cell;
 use rt_tags::{StateId, StateTable};
@@ -227,7 +227,8 @@ fn choose(
     Next { run, lone: 0 }
 }
 
-// Puts cells in before a position at which a run begins.
+// Puts cells in before a position at which a run begins; `end` is the spot of the cell before it, where this is known to be the
+// last of its run.
 fn put_runs(
     mem: &mut Mem,
     sums: &mut Summaries,
@@ -239,6 +240,7 @@ fn put_runs(
     newest: u64,
     homes: &mut Homes,
     keep: usize,
+    end: Option<Spot>,
 ) -> Change
     requires home { homes.old.sure ≡ true → AreHome homes.old.leaves (tree_runs mem.old root.index) }
     requires left { keep + length cells.now ≤ homes.old.left }
@@ -251,6 +253,7 @@ fn put_runs(
     requires few { (counts_of (tree_runs mem.old root.index)).cells + length cells.now ≤ MOST_CELLS }
     requires within { at < (counts_of (tree_runs mem.old root.index)).cells }
     requires edge { IsEdge (lengths (tree_runs mem.old root.index)) at }
+    requires end { IfSome end (IsEndAt mem.old root.index at) }
     requires room { HasNodes mem.old (length (tree_runs mem.old root.index) + length cells.now) }
     requires told { AreTold states.now mem.old sums.old (tree_runs mem.old root.index) }
     requires states { AreStates states.now cells.now }
@@ -271,6 +274,7 @@ fn put_runs(
     let mut more = 0;
     let mut lone = 0;
     let mut newest = newest;
+    let mut end = end;
     while done < cells.len() {
         let next = choose(mem, root, text, cells, done, lone, newest, homes);
         let to = done + next.run.len as usize;
@@ -281,6 +285,7 @@ fn put_runs(
             states,
             root,
             at + done,
+            end,
             next.run,
             homes,
             newest,
@@ -288,6 +293,7 @@ fn put_runs(
         );
         newest = newest_of(newest, &cells[done..to]);
         done = to;
+        end = None;
         lone = next.lone;
         more += 1;
     }
@@ -343,43 +349,27 @@ pub(crate) fn put_cells(
     ensures told { AreTold states.now mem.new sums.new (tree_runs mem.new result.root.index) }
     ensures tags { sums.new.tags ≡ sums.old.tags }
 {
-    let Extended {
-        done,
-        is_edge,
-        last,
-    } = extend(
+    let extended = extend(
         mem, sums, states, root, text, at, cells, newest, homes, keep, last,
     );
+    let done = extended.done;
     if done == cells.len() {
         return Grown {
             root,
             more: 0,
-            last,
+            last: extended.last,
         };
     }
     let rest = &cells[done..];
-    let first = cut_home(
-        mem,
-        sums,
-        states,
-        root,
-        at + done,
-        is_edge,
-        homes,
-        keep + rest.len(),
-    );
+    let left = keep + rest.len();
+    let edge = extended.is_edge;
+    let place = at + done;
+    let first = cut_home(mem, sums, states, root, place, edge, homes, left);
     let newest = newest_of(newest, &cells[..done]);
+    let root = first.root;
+    let end = extended.end;
     let then = put_runs(
-        mem,
-        sums,
-        states,
-        first.root,
-        text,
-        at + done,
-        rest,
-        newest,
-        homes,
-        keep,
+        mem, sums, states, root, text, place, rest, newest, homes, keep, end,
     );
     Grown {
         root: then.root,

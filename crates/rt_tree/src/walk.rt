@@ -87,7 +87,8 @@ impl Found {
     }
 }
 
-// The spot of a place that is counted by a measure.
+// The spot of a place that is counted by a measure. It is compiled into its callers, as `found_near` is.
+#[inline(always)]
 pub(crate) fn descend_by<L: Looks>(looks: &mut L, root: NodeId, by: Measure, place: usize) -> Found
     requires tree { IsTree (L.nodes looks.old) root.index }
     requires few { AreFew (counts_of (tree_runs (L.nodes looks.old) root.index)) }

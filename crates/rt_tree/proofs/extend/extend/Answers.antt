@@ -1,28 +1,40 @@
-use Rattle.std.proofs.Common.{◌≡◌, ℕ, ◌+◌, ◌-◌, ◌<◌, ◌∙◌, List, [], nat_eq, true, ap, refl, sym, subst, arith}
+use Rattle.std.proofs.Common.{◌≡◌, ℕ, ◌+◌, ◌-◌, ◌<◌, ◌≤◌, ◌∙◌, List, [], nat_eq, true, true≢false, ap, refl, sym, subst, arith}
 use Rattle.std.proofs.lemmas.Bool.Decides.{nat_tests}
+use Rattle.std.specs.Prelude.{IfSome}
+use Rattle.rt_tree.specs.declared.extend.Extended.{Extended}
 use Rattle.rt_tree.specs.declared.node.Counts.{Counts}
 use Rattle.rt_tree.specs.declared.node.Measure.TheVariants.{Cells}
+use Rattle.rt_tree.specs.declared.near.Seen.{Seen}
 use Rattle.rt_tree.specs.declared.node.Run.{Run}
-use Rattle.rt_tree.specs.Holds.{IsHeld}
+use Rattle.rt_tree.specs.Holds.{IsEndAt}
 use Rattle.rt_tree.specs.Homes.{IsPlaced}
-use Rattle.rt_tree.specs.Shape.{tree_runs}
+use Rattle.rt_tree.specs.Shape.{IsTree, Memory, runs_before, tree_runs}
 use Rattle.rt_tree.specs.Stretches.{AreKept, IsEdge, lengths}
 use Rattle.rt_tree.specs.Sums.{AreFew, counts_of, counts_of_run, plus}
-use Rattle.rt_tree.specs.Walks.{IsReplacedAt, StandsAt}
+use Rattle.rt_tree.specs.Walks.{IsReplacedAt, IsSpot, StandsAt}
 use Rattle.rt_tree.proofs.Cutting.{few_all, few_with}
+use Rattle.rt_tree.proofs.Holding.{spot_held}
 use Rattle.rt_tree.proofs.Housing.{home_more, joined_holders, joined_placed, unknown_new}
 use Rattle.rt_tree.proofs.Edges.{counts_mid, edge_behind, edge_there}
-use Rattle.rt_tree.proofs.Puts.{replaced_length}
+use Rattle.rt_tree.proofs.Puts.{replaced_length, spot_within}
+use Rattle.rt_tree.proofs.Stands.{stands}
 use Rattle.rt_tree.proofs.Splicing.{extended, extended_apart, new_is}
 use Rattle.rt_tags.specs.States.{IsState}
 use Rattle.rt_tree.proofs.Told.{given_there, short_kept}
 use Rattle.rt_tree.proofs.extend.extend.Goals as goal
 
+-- what the runs before one that was seen count
+abbrev front : Memory → ℕ → Seen → Counts
+front m root seen = counts_of (runs_before m root seen.spot.leaf.index seen.spot.entry)
+
+abbrev there : (m : Memory) (root : ℕ) → IsTree m root → (at : ℕ) (seen : Seen) → IsSpot m root Cells at seen.spot.leaf.index seen.spot.entry seen.spot.offset seen.run → StandsAt Cells (tree_runs m root) seen.run (front m root seen) seen.spot.offset at
+there m root t at seen spot = stands m root t Cells at seen.spot.leaf.index seen.spot.entry seen.spot.offset seen.run (front m root seen) spot refl
+
 nat_is : (a b : ℕ) → nat_eq a b ≡ true → a ≡ b
 nat_is a b is = grind (arith, nat_tests)
 
-pub found_near-found-requires-clause-few : goal.found_near-found-requires-clause-few
-found_near-found-requires-clause-few c =
+pub cell_near-found-requires-clause-few : goal.cell_near-found-requires-clause-few
+cell_near-found-requires-clause-few c =
     let old = tree_runs c.args.mem.now c.args.root.index in
     let kept : AreKept old = record { text = c.args.text.now; short = c.requires.short; runs = c.requires.kept } in
     few_all old kept (omega (arith, c.requires.few))
@@ -38,7 +50,7 @@ is_new-is_new-requires c = c.run_of-run.ensures.run.counts
 
 pub is_barred-requires-clause-sum : goal.is_barred-requires-clause-sum
 is_barred-requires-clause-sum c =
-    let st = c.found_near-found.ensures.run in let run = c.found_near-found.result.run in
+    let st = there c.args.mem.now c.args.root.index c.requires.tree (c.args.at - 1) c.cell_near-found.result c.cell_near-found.ensures in let run = c.cell_near-found.result.run in
     let w = ap (λ l. (counts_of l).cells) st.here ∙ counts_mid st.left run st.right in
     let low = c.run_of-run.ensures.stretch.within in
     omega (arith, w, low, c.requires.few)
@@ -50,7 +62,7 @@ pub is_barred-requires-clause-joint : goal.is_barred-requires-clause-joint
 is_barred-requires-clause-joint c = sym c.are_joint.ensures ∙ c.if-not-are_joint.false
 
 pub is_barred-requires-clause-among : goal.is_barred-requires-clause-among
-is_barred-requires-clause-among c = let st = c.found_near-found.ensures.run in record { left = st.left; right = st.right; here = st.here }
+is_barred-requires-clause-among c = let st = there c.args.mem.now c.args.root.index c.requires.tree (c.args.at - 1) c.cell_near-found.result c.cell_near-found.ensures in record { left = st.left; right = st.right; here = st.here }
 
 pub is_barred-requires-clause-once : goal.is_barred-requires-clause-once
 is_barred-requires-clause-once c = λ new. (c.requires.home (c.is_new-is_new.ensures.sure new)).once
@@ -62,7 +74,7 @@ is_barred-requires-clause-new c =
 
 pub joined-whole-requires : goal.joined-whole-requires
 joined-whole-requires c =
-    let st = c.found_near-found.ensures.run in let run = c.found_near-found.result.run in
+    let st = there c.args.mem.now c.args.root.index c.requires.tree (c.args.at - 1) c.cell_near-found.result c.cell_near-found.ensures in let run = c.cell_near-found.result.run in
     let w = ap (λ l. (counts_of l).cells) st.here ∙ counts_mid st.left run st.right in
     let low = c.run_of-run.ensures.stretch.within in
     omega (arith, w, low, c.requires.few)
@@ -70,10 +82,10 @@ joined-whole-requires c =
 pub returns-clause-home : goal.returns-clause-home
 returns-clause-home c =
     let old = tree_runs c.args.mem.now c.args.root.index in let new = tree_runs c.replace_at.new.mem c.args.root.index in
-    let st = c.found_near-found.ensures.run in let f = c.found_near-found.result in let b = c.run_of-run.result in
-    let rep = subst (λ (r : Run). IsReplacedAt old new (c.args.at - 1) r) c.joined-whole.ensures (c.replace_at.ensures.runs (c.args.at - 1) c.found_near-found.result.run c.found_near-found.ensures.spot) in
+    let st = there c.args.mem.now c.args.root.index c.requires.tree (c.args.at - 1) c.cell_near-found.result c.cell_near-found.ensures in let f = c.cell_near-found.result in let b = c.run_of-run.result in
+    let rep = subst (λ (r : Run). IsReplacedAt old new (c.args.at - 1) r) c.joined-whole.ensures (c.replace_at.ensures.runs (c.args.at - 1) c.cell_near-found.result.run c.cell_near-found.ensures) in
     let joint = sym c.are_joint.ensures ∙ c.if-not-are_joint.false in
-    let is = new_is c.args.text.now old c.args.at c.args.cells.now c.requires.kept f.run b f.before f.spot.offset st (let z = c.if-at-eq0.false in omega (arith, z)) (let l = c.if-found.false in let i = st.inside in omega (arith, l, i)) c.run_of-run.ensures joint new rep in
+    let is = new_is c.args.text.now old c.args.at c.args.cells.now c.requires.kept f.run b (front c.args.mem.now c.args.root.index f) f.spot.offset st (let z = c.if-at-eq0.false in omega (arith, z)) (let l = c.if-found.false in let i = st.inside in omega (arith, l, i)) c.run_of-run.ensures joint new rep in
     let leaves = c.args.homes.now.leaves in let after = c.enter.new.self.leaves in
     let e = c.enter.ensures in let i = c.is_new-is_new.ensures in
     λ sure.
@@ -92,16 +104,16 @@ returns-clause-left c =
 pub returns-clause-apart : goal.returns-clause-apart
 returns-clause-apart c =
     let old = tree_runs c.args.mem.now c.args.root.index in let new = tree_runs c.replace_at.new.mem c.args.root.index in
-    let st = c.found_near-found.ensures.run in let f = c.found_near-found.result in let b = c.run_of-run.result in
-    let rep = subst (λ (r : Run). IsReplacedAt old new (c.args.at - 1) r) c.joined-whole.ensures (c.replace_at.ensures.runs (c.args.at - 1) c.found_near-found.result.run c.found_near-found.ensures.spot) in
+    let st = there c.args.mem.now c.args.root.index c.requires.tree (c.args.at - 1) c.cell_near-found.result c.cell_near-found.ensures in let f = c.cell_near-found.result in let b = c.run_of-run.result in
+    let rep = subst (λ (r : Run). IsReplacedAt old new (c.args.at - 1) r) c.joined-whole.ensures (c.replace_at.ensures.runs (c.args.at - 1) c.cell_near-found.result.run c.cell_near-found.ensures) in
     let none = sym c.is_barred.ensures ∙ c.if-is_barred.false in
-    extended_apart c.args.text.now old c.args.at c.args.cells.now c.requires.kept f.run b f.before f.spot.offset st (let z = c.if-at-eq0.false in omega (arith, z)) (let l = c.if-found.false in let i = st.inside in omega (arith, l, i)) c.run_of-run.ensures (sym c.are_joint.ensures ∙ c.if-not-are_joint.false) new rep c.requires.apart none
+    extended_apart c.args.text.now old c.args.at c.args.cells.now c.requires.kept f.run b (front c.args.mem.now c.args.root.index f) f.spot.offset st (let z = c.if-at-eq0.false in omega (arith, z)) (let l = c.if-found.false in let i = st.inside in omega (arith, l, i)) c.run_of-run.ensures (sym c.are_joint.ensures ∙ c.if-not-are_joint.false) new rep c.requires.apart none
 
 pub replace_at-requires-clause-few : goal.replace_at-requires-clause-few
 replace_at-requires-clause-few c =
     let old = tree_runs c.args.mem.now c.args.root.index in
     let kept : AreKept old = record { text = c.args.text.now; short = c.requires.short; runs = c.requires.kept } in
-    let st = c.found_near-found.ensures.run in let run = c.found_near-found.result.run in let b = c.run_of-run.result in
+    let st = there c.args.mem.now c.args.root.index c.requires.tree (c.args.at - 1) c.cell_near-found.result c.cell_near-found.ensures in let run = c.cell_near-found.result.run in let b = c.run_of-run.result in
     let w = ap (λ l. (counts_of l).cells) st.here ∙ counts_mid st.left run st.right in
     let low = c.run_of-run.ensures.stretch.within in let some = c.run_of-run.ensures.run.some in
     subst (λ (r : Run). AreFew (plus (counts_of_run r) (counts_of old))) (sym c.joined-whole.ensures)
@@ -110,17 +122,17 @@ replace_at-requires-clause-few c =
 pub returns-clause-cells : goal.returns-clause-cells
 returns-clause-cells c =
     let old = tree_runs c.args.mem.now c.args.root.index in let new = tree_runs c.replace_at.new.mem c.args.root.index in
-    let st = c.found_near-found.ensures.run in let f = c.found_near-found.result in let b = c.run_of-run.result in
-    let rep = subst (λ (r : Run). IsReplacedAt old new (c.args.at - 1) r) c.joined-whole.ensures (c.replace_at.ensures.runs (c.args.at - 1) c.found_near-found.result.run c.found_near-found.ensures.spot) in
-    extended c.args.text.now old c.args.at c.args.cells.now c.requires.kept f.run b f.before f.spot.offset st (let z = c.if-at-eq0.false in omega (arith, z)) (let l = c.if-found.false in let i = st.inside in omega (arith, l, i)) c.run_of-run.ensures (sym c.are_joint.ensures ∙ c.if-not-are_joint.false) new rep
+    let st = there c.args.mem.now c.args.root.index c.requires.tree (c.args.at - 1) c.cell_near-found.result c.cell_near-found.ensures in let f = c.cell_near-found.result in let b = c.run_of-run.result in
+    let rep = subst (λ (r : Run). IsReplacedAt old new (c.args.at - 1) r) c.joined-whole.ensures (c.replace_at.ensures.runs (c.args.at - 1) c.cell_near-found.result.run c.cell_near-found.ensures) in
+    extended c.args.text.now old c.args.at c.args.cells.now c.requires.kept f.run b (front c.args.mem.now c.args.root.index f) f.spot.offset st (let z = c.if-at-eq0.false in omega (arith, z)) (let l = c.if-found.false in let i = st.inside in omega (arith, l, i)) c.run_of-run.ensures (sym c.are_joint.ensures ∙ c.if-not-are_joint.false) new rep
 
 pub replace_at-requires-clause-spot : goal.replace_at-requires-clause-spot
-replace_at-requires-clause-spot c = (c.args.at - 1, c.found_near-found.result.run, c.found_near-found.ensures.spot)
+replace_at-requires-clause-spot c = (c.args.at - 1, c.cell_near-found.result.run, c.cell_near-found.ensures)
 
 pub returns-clause-runs : goal.returns-clause-runs
 returns-clause-runs c =
     let old = tree_runs c.args.mem.now c.args.root.index in let new = tree_runs c.replace_at.new.mem c.args.root.index in
-    replaced_length old new (c.args.at - 1) c.joined-whole.result (c.replace_at.ensures.runs (c.args.at - 1) c.found_near-found.result.run c.found_near-found.ensures.spot)
+    replaced_length old new (c.args.at - 1) c.joined-whole.result (c.replace_at.ensures.runs (c.args.at - 1) c.cell_near-found.result.run c.cell_near-found.ensures)
 
 pub replace_at-requires-clause-short : goal.replace_at-requires-clause-short
 replace_at-requires-clause-short c =
@@ -130,13 +142,25 @@ replace_at-requires-clause-short c =
 
 pub replace_at-requires-clause-state : goal.replace_at-requires-clause-state
 replace_at-requires-clause-state c =
-    let old = tree_runs c.args.mem.now c.args.root.index in let st = c.found_near-found.ensures.run in let table = c.args.states.now in
-    subst (λ (x : Run). IsState table x.state) (sym c.joined-whole.ensures) (given_there table old st.left st.right c.found_near-found.result.run st.here c.requires.told.given)
+    let old = tree_runs c.args.mem.now c.args.root.index in let st = there c.args.mem.now c.args.root.index c.requires.tree (c.args.at - 1) c.cell_near-found.result c.cell_near-found.ensures in let table = c.args.states.now in
+    subst (λ (x : Run). IsState table x.state) (sym c.joined-whole.ensures) (given_there table old st.left st.right c.cell_near-found.result.run st.here c.requires.told.given)
 
 pub returns-then-at-eq0-clause-edge : goal.returns-then-at-eq0-clause-edge
 returns-then-at-eq0-clause-edge c =
     let old = tree_runs c.args.mem.now c.args.root.index in
-    λ is. let zero : c.args.at ≡ 0 = nat_is c.args.at 0 is in edge_there [] old (c.args.at + 0) (omega (arith, zero))
+    λ is. let zero : c.args.at ≡ 0 = nat_is c.args.at 0 (sym (ap (λ (x : Extended). x.is_edge) c.not_extended.ensures) ∙ is) in
+    let done = ap (λ (x : Extended). x.done) c.not_extended.ensures in
+    edge_there [] old (c.args.at + c.not_extended.result.done) (omega (arith, zero, done))
+
+-- the run that was found ends at the position
+ends_at : (m : Memory) (root at : ℕ) (seen : Seen) → IsSpot m root Cells (at - 1) seen.spot.leaf.index seen.spot.entry seen.spot.offset seen.run → 0 < at → seen.run.len ≤ seen.spot.offset + 1 → IsEndAt m root (at + 0) seen.spot
+ends_at m root at seen spot some long = record {
+  run = seen.run;
+  place = at - 1;
+  is = spot;
+  last = let i = spot.inside in omega (arith, i, long);
+  next = omega (arith, some);
+}
 
 -- behind the run that was found
 ends : (all : List Run) (run : Run) (front : Counts) (offset at : ℕ) → StandsAt Cells all run front offset (at - 1) → 0 < at → offset + 1 ≡ run.len → IsEdge (lengths all) (at + 0)
@@ -145,17 +169,60 @@ ends all run front offset at st some is =
     subst (λ (l : List Run). IsEdge (lengths l) (at + 0)) (sym st.here) (edge_behind st.left run st.right (at + 0) (omega (arith, f, st.at, some, is)))
 
 pub returns-then-found-clause-edge : goal.returns-then-found-clause-edge
-returns-then-found-clause-edge c =
-    let f = c.found_near-found.result in
-    λ is. ends (tree_runs c.args.mem.now c.args.root.index) f.run f.before f.spot.offset c.args.at c.found_near-found.ensures.run (omega (arith, c.if-at-eq0.false)) (nat_is (f.spot.offset + 1) f.run.len is)
+returns-then-found-clause-edge c = λ is. absurd (true≢false (sym is ∙ ap (λ (x : Extended). x.is_edge) c.not_extended-then-found.ensures))
+
+pub returns-then-not-are_joint-clause-edge : goal.returns-then-not-are_joint-clause-edge
+returns-then-not-are_joint-clause-edge c =
+    let f = c.cell_near-found.result in let st = there c.args.mem.now c.args.root.index c.requires.tree (c.args.at - 1) f c.cell_near-found.ensures in
+    let old = tree_runs c.args.mem.now c.args.root.index in
+    λ _. subst (λ (x : Extended). IsEdge (lengths old) (c.args.at + x.done)) (sym c.not_extended-then-not-are_joint.ensures)
+    (ends old f.run (front c.args.mem.now c.args.root.index f) f.spot.offset c.args.at st (omega (arith, c.if-at-eq0.false)) (let l = c.if-found.false in let i = st.inside in omega (arith, l, i)))
+
+pub returns-then-not-are_joint-clause-end : goal.returns-then-not-are_joint-clause-end
+returns-then-not-are_joint-clause-end c =
+    let m = c.args.mem.now in let r = c.args.root.index in let f = c.cell_near-found.result in
+    let end : IsEndAt m r (c.args.at + 0) f.spot = ends_at m r c.args.at f c.cell_near-found.ensures (omega (arith, c.if-at-eq0.false)) c.if-found.false in
+    subst (λ (x : Extended). IfSome x.end (IsEndAt m r (c.args.at + x.done))) (sym c.not_extended-then-not-are_joint.ensures) end
+
+pub returns-then-not-are_joint-clause-known : goal.returns-then-not-are_joint-clause-known
+returns-then-not-are_joint-clause-known c =
+    subst (λ (x : Extended). IfSome x.end (λ _. x.is_edge ≡ true)) (sym c.not_extended-then-not-are_joint.ensures) refl
 
 pub returns-then-is_barred-clause-edge : goal.returns-then-is_barred-clause-edge
 returns-then-is_barred-clause-edge c =
-    let f = c.found_near-found.result in let st = c.found_near-found.ensures.run in
-    λ _. ends (tree_runs c.args.mem.now c.args.root.index) f.run f.before f.spot.offset c.args.at st (omega (arith, c.if-at-eq0.false)) (let l = c.if-found.false in let i = st.inside in omega (arith, l, i))
+    let f = c.cell_near-found.result in let st = there c.args.mem.now c.args.root.index c.requires.tree (c.args.at - 1) f c.cell_near-found.ensures in
+    let old = tree_runs c.args.mem.now c.args.root.index in
+    λ _. subst (λ (x : Extended). IsEdge (lengths old) (c.args.at + x.done)) (sym c.not_extended-then-is_barred.ensures)
+    (ends old f.run (front c.args.mem.now c.args.root.index f) f.spot.offset c.args.at st (omega (arith, c.if-at-eq0.false)) (let l = c.if-found.false in let i = st.inside in omega (arith, l, i)))
+
+pub returns-then-is_barred-clause-end : goal.returns-then-is_barred-clause-end
+returns-then-is_barred-clause-end c =
+    let m = c.args.mem.now in let r = c.args.root.index in let f = c.cell_near-found.result in
+    let end : IsEndAt m r (c.args.at + 0) f.spot = ends_at m r c.args.at f c.cell_near-found.ensures (omega (arith, c.if-at-eq0.false)) c.if-found.false in
+    subst (λ (x : Extended). IfSome x.end (IsEndAt m r (c.args.at + x.done))) (sym c.not_extended-then-is_barred.ensures) end
+
+pub returns-then-is_barred-clause-known : goal.returns-then-is_barred-clause-known
+returns-then-is_barred-clause-known c =
+    subst (λ (x : Extended). IfSome x.end (λ _. x.is_edge ≡ true)) (sym c.not_extended-then-is_barred.ensures) refl
+
+pub counts_before-before-requires-clause-few : goal.counts_before-before-requires-clause-few
+counts_before-before-requires-clause-few c =
+    let old = tree_runs c.args.mem.now c.args.root.index in
+    let kept : AreKept old = record { text = c.args.text.now; short = c.requires.short; runs = c.requires.kept } in
+    few_all old kept (omega (arith, c.requires.few))
+
+pub counts_before-before-requires-clause-leaf : goal.counts_before-before-requires-clause-leaf
+counts_before-before-requires-clause-leaf c =
+    let spot = c.cell_near-found.ensures in let same = c.requires.tree.shape.same in
+    ((spot.is, omega (arith, spot.is, same)), spot.low)
+
+pub counts_before-before-requires-clause-within : goal.counts_before-before-requires-clause-within
+counts_before-before-requires-clause-within c =
+    let f = c.cell_near-found.result in
+    let lt = spot_within c.args.mem.now c.args.root.index (c.args.at - 1) f.spot.leaf.index f.spot.entry f.spot.offset f.run c.cell_near-found.ensures in
+    omega (arith, lt)
 
 pub returns-clause-held : goal.returns-clause-held
 returns-clause-held c =
-    let f = c.found_near-found.result in
-    subst (λ (r : Run). IsHeld c.replace_at.new.mem c.args.root.index f.spot.leaf.index f.spot.entry r f.before) refl
-    (c.replace_at.ensures.held f.run f.before c.found_near-found.ensures.held)
+    let f = c.cell_near-found.result in let m = c.args.mem.now in let r = c.args.root.index in
+    c.replace_at.ensures.held f.run c.counts_before-before.result (spot_held m r Cells (c.args.at - 1) f.spot.leaf.index f.spot.entry f.spot.offset f.run c.counts_before-before.result c.cell_near-found.ensures c.counts_before-before.ensures)

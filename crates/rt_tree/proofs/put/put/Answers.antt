@@ -1,10 +1,12 @@
 use Rattle.std.proofs.Common.{ℕ, ◌+◌, ◌<◌, List, length, insert, arith, sym, ap, ◌∙◌, subst}
+use Rattle.rt_nodes.specs.declared.memory.NodeId.{NodeId}
 use Rattle.rt_tree.specs.declared.node.Run.{Run}
 use Rattle.rt_tree.specs.Changes.{bare}
 use Rattle.rt_tree.specs.Shape.{IsShape, ahead, level_of, runs, tree_runs}
 use Rattle.rt_tree.specs.Summaries.{AreTold}
 use Rattle.rt_tree.specs.Sums.{AreFew, counts_of}
 use Rattle.rt_tree.specs.Walks.{IsPutAt}
+use Rattle.rt_tree.proofs.Ends.{known_still}
 use Rattle.rt_tree.proofs.Puts.{few-insert, few-rest, opened, puts, spot_within}
 use Rattle.rt_tree.proofs.Wholes.{runs-bare, tree-exact, tree-shape, whole, whole_runs}
 use Rattle.rt_tree.proofs.put.put.Goals as goal
@@ -21,20 +23,20 @@ top_room-top-requires-clause-few c =
     let same = ap (λ k. runs (bare m) k r) c.level_of-height.ensures ∙ runs-bare m (level_of m r) r in
     subst (λ (l : List Run). AreFew (counts_of l)) (sym same) (few-rest c.args.run (tree_runs m r) c.requires.few)
 
-pub spot_of-spot-requires-clause-tree : goal.spot_of-spot-requires-clause-tree
-spot_of-spot-requires-clause-tree c =
+pub spot_behind-spot-requires-clause-tree : goal.spot_behind-spot-requires-clause-tree
+spot_behind-spot-requires-clause-tree c =
     let m = c.args.mem.now in let r = c.args.root.index in let e = c.top_room-top.ensures in let top = c.top_room-top.result in let m1 = c.top_room-top.new.mem in
     let o = opened m r c.level_of-height.result c.level_of-height.ensures m1 top.root.index top.height e.tree e.exact e.filled e.runs in
     o.tree
 
-pub spot_of-spot-requires-clause-few : goal.spot_of-spot-requires-clause-few
-spot_of-spot-requires-clause-few c =
+pub spot_behind-spot-requires-clause-few : goal.spot_behind-spot-requires-clause-few
+spot_behind-spot-requires-clause-few c =
     let m = c.args.mem.now in let r = c.args.root.index in let e = c.top_room-top.ensures in let top = c.top_room-top.result in let m1 = c.top_room-top.new.mem in
     let o = opened m r c.level_of-height.result c.level_of-height.ensures m1 top.root.index top.height e.tree e.exact e.filled e.runs in
     subst (λ (l : List Run). AreFew (counts_of l)) (sym o.same) (few-rest c.args.run (tree_runs m r) c.requires.few)
 
-pub spot_of-spot-requires-clause-within : goal.spot_of-spot-requires-clause-within
-spot_of-spot-requires-clause-within c =
+pub spot_behind-spot-requires-clause-within : goal.spot_behind-spot-requires-clause-within
+spot_behind-spot-requires-clause-within c =
     let m = c.args.mem.now in let r = c.args.root.index in let e = c.top_room-top.ensures in let top = c.top_room-top.result in let m1 = c.top_room-top.new.mem in
     let o = opened m r c.level_of-height.result c.level_of-height.ensures m1 top.root.index top.height e.tree e.exact e.filled e.runs in
     subst (λ (l : List Run). c.args.at < (counts_of l).cells) (sym o.same) c.requires.within
@@ -47,12 +49,12 @@ insert_at-leaf-requires-clause-few c =
     subst (λ (l : List Run). AreFew (counts_of l)) (sym (e.runs ∙ same)) (few-rest c.args.run (tree_runs m r) c.requires.few)
 
 pub insert_at-leaf-requires-clause-leaf : goal.insert_at-leaf-requires-clause-leaf
-insert_at-leaf-requires-clause-leaf c = let s = c.spot_of-spot.ensures.1 in (s.is, s.low)
+insert_at-leaf-requires-clause-leaf c = let s = c.spot_behind-spot.ensures.1 in (s.is, s.low)
 
 pub insert_at-leaf-requires-clause-within : goal.insert_at-leaf-requires-clause-within
 insert_at-leaf-requires-clause-within c =
-    let spot = c.spot_of-spot.result in
-    let lt = spot_within c.top_room-top.new.mem c.top_room-top.result.root.index c.args.at spot.leaf.index spot.entry spot.offset c.spot_of-spot.ensures.0 c.spot_of-spot.ensures.1 in
+    let spot = c.spot_behind-spot.result in
+    let lt = spot_within c.top_room-top.new.mem c.top_room-top.result.root.index c.args.at spot.leaf.index spot.entry spot.offset c.spot_behind-spot.ensures.0 c.spot_behind-spot.ensures.1 in
     omega (arith, lt)
 
 pub insert_at-leaf-requires-clause-still_few : goal.insert_at-leaf-requires-clause-still_few
@@ -60,7 +62,7 @@ insert_at-leaf-requires-clause-still_few c =
     let m = c.args.mem.now in let r = c.args.root.index in let e = c.top_room-top.ensures in let top = c.top_room-top.result in let m1 = c.top_room-top.new.mem in
     let o = opened m r c.level_of-height.result c.level_of-height.ensures m1 top.root.index top.height e.tree e.exact e.filled e.runs in
     let same = ap (λ k. runs (bare m) k r) c.level_of-height.ensures ∙ runs-bare m (level_of m r) r in
-    let n = length (ahead (bare m1) top.height c.spot_of-spot.result.leaf.index) + c.spot_of-spot.result.entry in
+    let n = length (ahead (bare m1) top.height c.spot_behind-spot.result.leaf.index) + c.spot_behind-spot.result.entry in
     subst (λ (l : List Run). AreFew (counts_of (insert l n c.args.run))) (sym (e.runs ∙ same)) (few-insert (tree_runs m r) n c.args.run c.requires.few)
 
 pub top_room-top-requires-clause-room : goal.top_room-top-requires-clause-room
@@ -85,11 +87,11 @@ returns-clause-runs c =
     let m = c.args.mem.now in let r = c.args.root.index in let e = c.top_room-top.ensures in let top = c.top_room-top.result in let m1 = c.top_room-top.new.mem in
     let o = opened m r c.level_of-height.result c.level_of-height.ensures m1 top.root.index top.height e.tree e.exact e.filled e.runs in
     let i = c.insert_at-leaf.ensures in
-    let spot = c.spot_of-spot.result in
+    let spot = c.spot_behind-spot.result in
     let N : ℕ → List Run → List Run = λ k l. insert l (length (ahead (bare m1) k spot.leaf.index) + spot.entry) c.args.run in
     let new = whole_runs c.insert_at-leaf.new.mem top.height top.root.index i.tree i.exact i.filled ∙ i.runs ∙ ap (N top.height) (sym (whole_runs m1 top.height top.root.index e.tree e.exact e.filled)) ∙ ap (λ k. N k (tree_runs m1 top.root.index)) (sym e.tree.top) in
     subst (λ (l : List Run). IsPutAt l (tree_runs c.insert_at-leaf.new.mem top.root.index) c.args.at c.args.run) o.same
-    (puts m1 top.root.index o.tree spot.leaf.index spot.entry spot.offset c.args.at c.spot_of-spot.ensures.0 c.args.run (tree_runs c.insert_at-leaf.new.mem top.root.index) c.spot_of-spot.ensures.1 new)
+    (puts m1 top.root.index o.tree spot.leaf.index spot.entry spot.offset c.args.at c.spot_behind-spot.ensures.0 c.args.run (tree_runs c.insert_at-leaf.new.mem top.root.index) c.spot_behind-spot.ensures.1 new)
 
 pub top_room-top-requires-clause-told : goal.top_room-top-requires-clause-told
 top_room-top-requires-clause-told c =
@@ -119,3 +121,8 @@ returns-clause-told c =
 
 pub returns-clause-tags : goal.returns-clause-tags
 returns-clause-tags c = c.insert_at-leaf.ensures.tags ∙ c.top_room-top.ensures.tags
+
+pub spot_behind-spot-requires-clause-end : goal.spot_behind-spot-requires-clause-end
+spot_behind-spot-requires-clause-end c =
+    let e = c.top_room-top.ensures in let top = c.top_room-top.result in
+    known_still c.still_known-known.result c.args.end c.level_of-height.result top.height c.args.mem.now c.top_room-top.new.mem c.args.root.index top.root.index c.args.at c.still_known-known.ensures c.requires.end (λ is. let s = e.still is in (s.0, ap (λ (x : NodeId). x.index) s.1))

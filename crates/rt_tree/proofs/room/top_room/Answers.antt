@@ -88,6 +88,7 @@ returns-then-len-lt16 c = record {
   runs = refl;
   roomy = omega (arith, c.len.ensures.value, c.if-len-lt16.true);
   height = omega arith;
+  still = λ _. (refl, refl);
   room = refl;
   told = c.requires.told;
   tags = refl;

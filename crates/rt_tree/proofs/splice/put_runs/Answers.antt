@@ -1,6 +1,8 @@
 use Rattle.std.proofs.Common.{ℕ, refl, arith, ◌∙◌, ◌≡◌, ◌+◌, ◌-◌, take, drop, subst}
 use Rattle.std.proofs.lemmas.List.{length-drop}
 use Rattle.std.proofs.lemmas.List.Elements.{All-drop}
+use Rattle.std.specs.Prelude.{IfSome}
+use Rattle.rt_tree.specs.Holds.{IsEndAt}
 use Rattle.rt_tree.specs.Runs.{cells_of}
 use Rattle.rt_tree.specs.Shape.{tree_runs}
 use Rattle.rt_tree.specs.Sharing.{AreUpTo}
@@ -21,6 +23,7 @@ loop-done-init c = record {
   tags = refl;
   home = c.requires.home;
   left = let r = c.requires.left in omega (arith, r);
+  end = subst (λ at. IfSome c.args.end (IsEndAt c.args.mem.now c.args.root.index at)) (omega arith) c.requires.end;
 }
 
 pub put_home-root-requires-clause-tree : goal.put_home-root-requires-clause-tree
@@ -64,6 +67,7 @@ loop-done-preserved c =
       tags = p.tags ∙ l.invariant.tags;
       home = p.home;
       left = p.left;
+      end = tt;
     }
 
 pub loop-done-smaller : goal.loop-done-smaller
@@ -166,3 +170,6 @@ returns-clause-told c = c.loop-done.invariant.told
 
 pub returns-clause-tags : goal.returns-clause-tags
 returns-clause-tags c = c.loop-done.invariant.tags
+
+pub put_home-root-requires-clause-end : goal.put_home-root-requires-clause-end
+put_home-root-requires-clause-end c = c.loop-done.invariant.end

@@ -1,4 +1,6 @@
 use Rattle.std.proofs.Common.{◌≡◌, ◌+◌, ◌-◌, ◌≤◌, true, length}
+use Rattle.std.specs.Prelude.{IfSome}
+use Rattle.rt_tree.specs.Holds.{IsEndAt}
 use Rattle.rt_tree.specs.Runs.{cells_of}
 use Rattle.rt_tree.specs.Homes.{AreHome}
 use Rattle.rt_tree.specs.Shape.{IsTree, tree_runs}
@@ -17,6 +19,7 @@ invariant-loop-done l = record {
   tags : l.sums.tags ≡ l.initial.sums.tags;
   home : l.homes.sure ≡ true → AreHome l.homes.leaves (tree_runs l.mem l.root.index);
   left : l.keep + (length l.cells - l.done) ≤ l.homes.left;
+  end : IfSome l.end (IsEndAt l.mem l.root.index (l.at + l.done));
 }
 
 abbrev pub decreases-loop-done : goal.decreases-loop-done

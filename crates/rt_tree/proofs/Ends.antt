@@ -1,0 +1,59 @@
+-- Spots at which runs are known to end.
+use Rattle.std.proofs.Common.{◌≡◌, ℕ, zero, suc, ◌+◌, ◌<◌, List, [], ◌∷◌, ◌++◌, Option, Some, None, true, Bool, take, slice_get, sym, ap, subst, ◌∙◌, arith, append_assoc}
+use Rattle.std.specs.Prelude.{IfSome}
+use Rattle.rt_nodes.specs.Nodes.{entries}
+use Rattle.rt_tree.specs.declared.node.Counts.{Counts}
+use Rattle.rt_tree.specs.declared.node.Entry.{Entry}
+use Rattle.rt_tree.specs.declared.node.Entry.TheVariants.{Here}
+use Rattle.rt_tree.specs.declared.node.Measure.TheVariants.{Cells}
+use Rattle.rt_tree.specs.declared.node.Run.{Run}
+use Rattle.rt_tree.specs.declared.walk.Spot.{Spot}
+use Rattle.rt_tree.specs.Holds.{IsEndAt, IsHeld}
+use Rattle.rt_tree.specs.Shape.{Memory, ahead, all_below, below, level_of, runs_before}
+use Rattle.rt_tree.specs.Sums.{counts_of}
+use Rattle.rt_tree.specs.Walks.{IsSpot}
+use Rattle.rt_tree.proofs.Edges.{counts_mid}
+
+-- an end that is known is known while the nodes stay
+pub end_still : (o : Option Spot) (edge : Bool) (m n : Memory) (root now at : ℕ) → IfSome o (IsEndAt m root at) → IfSome o (λ _. edge ≡ true) → (edge ≡ true → (n ≡ m) × (now ≡ root)) → IfSome o (IsEndAt n now at)
+end_still None edge m n root now at end known still = tt
+end_still (Some spot) edge m n root now at end known still =
+    let s = still known in
+    subst (λ (x : Memory). IsEndAt x now at spot) (sym s.0) (subst (λ r. IsEndAt m r at spot) (sym s.1) end)
+
+-- the runs of the first entries of a leaf, and one more
+taken : (m : Memory) (es : List Entry) (i : ℕ) (run : Run) → slice_get es i ≡ Some (Here run) → all_below m 0 (take (suc i) es) ≡ all_below m 0 (take i es) ++ run ∷ []
+taken m [] i run is = cc
+taken m (e ∷ es) zero run is = let h : e ≡ Here run = cc in ap (λ x. below m 0 x ++ []) h
+taken m (e ∷ es) (suc i) run is = ap (λ l. below m 0 e ++ l) (taken m es i run is) ∙ sym (append_assoc (below m 0 e) (all_below m 0 (take i es)) (run ∷ []))
+
+-- the run behind one that ends at a position begins there
+pub next_spot : (m : Memory) (root at : ℕ) (spot : Spot) (i : ℕ) (run : Run) → IsEndAt m root at spot → i ≡ spot.entry + 1 → slice_get (entries m spot.leaf.index) i ≡ Some (Here run) → 0 < run.len → IsSpot m root Cells at spot.leaf.index i 0 run
+next_spot m root at spot i run end next here some = record {
+  is = end.is.is;
+  low = end.is.low;
+  here = here;
+  at =
+      let es = entries m spot.leaf.index in
+      let front = all_below m 0 (take spot.entry es) in
+      let before = ahead m (level_of m root) spot.leaf.index in
+      let one : i ≡ suc spot.entry = omega (arith, next) in
+      let cut = ap (λ l. (counts_of (before ++ l)).cells) (ap (λ k. all_below m 0 (take k es)) one ∙ taken m es spot.entry end.run end.is.here) in
+      let same = ap (λ l. (counts_of l).cells) (sym (append_assoc before front (end.run ∷ []))) in
+      let count = counts_mid (before ++ front) end.run [] in
+      omega (arith, cut, same, count, end.is.at, end.last, end.next);
+  inside = some;
+}
+
+-- an end that is known is known if the root has stayed
+pub known_still : (o end : Option Spot) (old now : ℕ) (m n : Memory) (root top at : ℕ) → IfSome o (λ spot. (end ≡ Some spot) × (now ≡ old)) → IfSome end (IsEndAt m root at) → (now ≡ old → (n ≡ m) × (top ≡ root)) → IfSome o (IsEndAt n top at)
+known_still None end old now m n root top at known is still = tt
+known_still (Some spot) end old now m n root top at known is still =
+    let s = still known.1 in
+    let here = subst (λ (x : Option Spot). IfSome x (IsEndAt m root at)) known.0 is in
+    subst (λ (x : Memory). IsEndAt x top at spot) (sym s.0) (subst (λ r. IsEndAt m r at spot) (sym s.1) here)
+
+-- the front of a run that is kept where it stands
+pub kept_front : (m : Memory) (root : ℕ) (spot here : Spot) (run : Run) (front : Counts) → IsHeld m root here.leaf.index here.entry run front → here.leaf.index ≡ spot.leaf.index → here.entry ≡ spot.entry → front ≡ counts_of (runs_before m root spot.leaf.index spot.entry)
+kept_front m root spot here run front held leaf entry =
+    held.before ∙ ap (λ l. counts_of (runs_before m root l here.entry)) leaf ∙ ap (λ i. counts_of (runs_before m root spot.leaf.index i)) entry
