@@ -70,7 +70,8 @@ pub(crate) fn found_near(
     descend_by(&mut sight, root, by, place)
 }
 
-// The run that has a place.
+// The run that has a place. It is compiled into its callers too.
+#[inline(always)]
 pub(crate) fn seek_near(
     mem: &Mem,
     root: NodeId,

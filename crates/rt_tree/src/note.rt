@@ -1,15 +1,16 @@
 // Summaries put right from a leaf up.
-ghost use Rattle.std.specs.Prelude.{◌≡◌, ◌⊎◌, ℕ, ◌<◌, ◌≤◌, IfSome, None, length, slice_index_or, true};
-ghost use Rattle.rt_nodes.specs.Nodes.{entries};
-ghost use Rattle.rt_tags.specs.Borders.{one_or_none};
+ghost use Rattle.std.specs.Prelude.{◌≡◌, ◌⊎◌, ℕ, ◌<◌, ◌≤◌, IfSome, None, length, slice_index_or, take, true};
+ghost use Rattle.std.specs.List.{AllByRecursion};
+ghost use Rattle.rt_nodes.specs.Nodes.{IsNode, entries};
+ghost use Rattle.rt_tags.specs.Borders.{last, one_or_none};
 ghost use Rattle.rt_tags.specs.States.{IsState};
 ghost use Rattle.rt_tree.specs.declared.node.Entry.{Entry};
-ghost use Rattle.rt_tree.specs.Shape.{IsShape, below, level_of};
-ghost use Rattle.rt_tree.specs.Summaries.{AreBeside, AreSummed, AreSummedBut, shown_states, summary_of};
+ghost use Rattle.rt_tree.specs.Shape.{IsShape, all_below, below, level_of};
+ghost use Rattle.rt_tree.specs.Summaries.{AreBeside, AreSummed, AreSummedBut, HasEnds, shown_states, summary_of};
 
 use crate::node::Mem;
 use crate::settle::{parent_of, slot_of};
-use crate::summaries::{replace_at, widened};
+use crate::summaries::{before_in, replace_at, widened};
 use crate::summary::{Around, Summary};
 use rt_nodes::NodeId;
 use rt_tags::{StateId, StateTable, Toggles};
@@ -20,6 +21,27 @@ fn is_beside(around: &Around, old: &Option<StateId>, new: &Option<StateId>) -> b
     ensures beside { result ≡ true → (around.now.before ≡ new.now) ⊎ (around.now.after ≡ new.now) }
 {
     old.is_none() && (around.before == *new || around.after == *new)
+}
+
+// Whether no run showed a state before, and the one that shows one now stands behind a visible one of its leaf in that state.
+fn is_behind(
+    each: &[Summary],
+    mem: &Mem,
+    leaf: NodeId,
+    i: usize,
+    old: &Option<StateId>,
+    new: &Option<StateId>,
+) -> bool
+    requires node { IsNode mem.now leaf.index }
+    requires within { i ≤ length (entries mem.now leaf.index) }
+    requires ends { AllByRecursion (HasEnds mem.now (level_of mem.now leaf.index) each.now) (entries mem.now leaf.index) }
+    ensures none { result ≡ true → old.now ≡ None }
+    ensures before { result ≡ true → last (shown_states (all_below mem.now (level_of mem.now leaf.index) (take i (entries mem.now leaf.index)))) ≡ new.now }
+{
+    if old.is_some() {
+        return false;
+    }
+    before_in(each, mem, leaf, i) == *new
 }
 
 // An entry of a leaf shows another state now, or none: puts right the summaries of the nodes above it. What comes in beside a
@@ -55,6 +77,9 @@ pub(crate) fn note(
     ensures minus { minus.new.capacity ≡ minus.old.capacity }
     ensures plus { plus.new.capacity ≡ plus.old.capacity }
 {
+    if is_behind(each, mem, leaf, i, old, new) {
+        return;
+    }
     let nobody = Around {
         before: None,
         after: None,
