@@ -1,6 +1,7 @@
 -- A state that comes in beside an equal one changes no summary.
 use Rattle.std.proofs.Common.{◌≡◌, Bool, true, false, if◌then◌else◌, ℕ, ◌+◌, ◌<◌, ◌⊎◌, inl, inr, List, [], ◌∷◌, ◌++◌, length, get_or, drop, take, refl, sym, ap, ◌∙◌, arith, subst, suc, Option, None, Some}
 use Rattle.std.proofs.lemmas.Bool.{cases_eq}
+use Rattle.std.proofs.lemmas.List.{append-nil}
 use Rattle.rt_nodes.specs.Nodes.{entries}
 use Rattle.rt_tags.specs.Borders.{border, borders, either, first, is_tagged, last, one_or_none}
 use Rattle.rt_tags.specs.States.{TagStates}
@@ -75,6 +76,11 @@ still table xs ys s sum t is = record {
   last = is.last ∙ sym t.ends;
   counts = record { given = λ tag given. is.counts.given tag given ∙ sym (t.same (is_tagged table tag)); others = is.counts.others };
 }
+
+-- at the end
+pub pushed_twice : (table : TagStates) (xs : List ℕ) (state : ℕ) (sum : Summary) → sum.last ≡ Some state → IsSummary table xs sum → IsSummary table (xs ++ state ∷ []) sum
+pushed_twice table xs state sum is was =
+    still table xs [] state sum (twice_behind xs [] state (sym was.last ∙ is)) (subst (λ l. IsSummary table l sum) (sym (append-nil xs)) was)
 
 -- what stands beside an entry of a leaf stands beside it below each node above
 seen_before : (m : Memory) (j x i s : ℕ) → last (shown_before m 0 x i) ≡ Some s → last (shown_before m j x i) ≡ Some s

@@ -1,5 +1,5 @@
 // What is kept for a node of the tags on the characters below it.
-ghost use Rattle.std.specs.Prelude.{◌≡◌, ◌++◌, ◌∷◌, [], ℕ, ◌+◌, ◌<◌, ◌≤◌, ◌^◌, List, IfSome, false, if◌then◌else◌, is_some, length, true};
+ghost use Rattle.std.specs.Prelude.{◌≡◌, ◌++◌, ◌∷◌, [], ℕ, ◌+◌, ◌<◌, ◌≤◌, ◌^◌, List, IfSome, Some, false, if◌then◌else◌, is_some, length, true};
 ghost use Rattle.std.specs.List.{AllByRecursion};
 ghost use Rattle.rt_tags.specs.Borders.{AreToggles, HasRoomForAll, either, one_or_none};
 ghost use Rattle.rt_tags.specs.States.{IsState, IsTag, TagStates};
@@ -34,7 +34,14 @@ impl Summary {
         self.counts.clear();
     }
 
-    // A visible run in a state stands behind.
+    // Whether the last character is in a state.
+    fn ends_in(&self, state: StateId) -> bool
+        ensures { result ≡ true → self.now.last ≡ Some state }
+    {
+        self.last == Some(state)
+    }
+
+    // A visible run in a state stands behind. It changes nothing where the last character is in that state.
     pub(crate) fn push(&mut self, states: &StateTable, state: StateId)
         requires last { IfSome self.old.last (IsState states.now) }
         requires state { IsState states.now state }
@@ -43,6 +50,9 @@ impl Summary {
         ensures pushed { (xs : List ℕ) → IsSummary states.now xs self.old → IsSummary states.now (xs ++ state ∷ []) self.new }
         ensures capacity { self.new.counts.capacity ≡ self.old.counts.capacity }
     {
+        if self.ends_in(state) {
+            return;
+        }
         self.counts.add_border(states, self.last, Some(state));
         self.first = either(&self.first, &Some(state));
         self.last = Some(state);
