@@ -39,13 +39,13 @@ KeepsAll old new = (stamp : Stamp) → value_of new stamp ≡ None → value_of 
 abbrev pub IsPlaced : Shown NodeId → Run → Type 0
 IsPlaced leaves run = (stamp : Stamp) → has run stamp ≡ true → value_of leaves stamp ≢ None
 
--- a run has a stamp, and no other run has one of its stamps
+-- a run has a stamp, and it is sure that no other run has it
 pub record IsHomeOf (rs : List Run) (is_sure : Bool) (stamp : Stamp) (found : Home) : Type 0 where
   pub sure : is_sure ≡ true
   pub home : IsBehind rs found.run found.before
   pub with_stamp : has found.run stamp ≡ true
 
--- what is said of where a stamp is: in no run, as it has no leaf, or in one run, or nothing
+-- what is said of a stamp is so: that no run has it, since it has no leaf, or which one has it, or nothing
 abbrev pub IsSaid : List Run → Bool → Shown NodeId → Stamp → Sought → Type 0
 IsSaid rs sure leaves stamp Nowhere = (sure ≡ true) × (value_of leaves stamp ≡ None)
 IsSaid rs sure leaves stamp (At home) = IsHomeOf rs sure stamp home

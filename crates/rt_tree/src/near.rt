@@ -107,7 +107,7 @@ pub(crate) fn cell_near(mem: &Mem, root: NodeId, last: &Option<Found>, at: usize
     Seen { spot, run }
 }
 
-// What the runs before an entry of a leaf count, which is known where that is the run that is.
+// What the runs before an entry of a leaf count: as it is kept, if the run there is the one that is known, or by a walk up.
 pub(crate) fn counts_before(mem: &Mem, root: NodeId, last: &Option<Found>, spot: Spot) -> Counts
     requires tree { IsTree mem.now root.index }
     requires few { AreFew (counts_of (tree_runs mem.now root.index)) }

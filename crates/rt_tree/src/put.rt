@@ -99,7 +99,7 @@ fn spot_of(mem: &Mem, root: NodeId, at: usize) -> Spot
     found_at(mem, root, at).spot
 }
 
-// The entry behind one of a leaf, if a run with a cell stands there.
+// The entry behind one of a leaf, if a run stands there. That runs have cells is not asked of the nodes here, so it is looked at.
 fn next_entry(mem: &Mem, spot: Spot) -> Option<usize>
     requires node { IsNode mem.now spot.leaf.index }
     requires within { spot.entry < length (entries mem.now spot.leaf.index) }
@@ -137,7 +137,7 @@ fn spot_behind(mem: &Mem, root: NodeId, at: usize, end: Option<Spot>) -> Spot
     spot_of(mem, root, at)
 }
 
-// A spot that is known, unless a root has come that wasn't there.
+// A spot that was known, unless a new root was put above it.
 fn still_known(end: Option<Spot>, height: u32, top: &Top) -> Option<Spot>
     ensures { IfSome result (λ spot. (end ≡ Some spot) × (top.now.height ≡ height)) }
 {
