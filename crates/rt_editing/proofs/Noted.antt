@@ -80,15 +80,6 @@ settled_after view new old next settled kept same grows back sound = record {
   undone = sound.undone;
 }
 
--- nothing changes while an action is prepared
-pub settled_kept : (view new : Viewed) (old next : Recording) → IsSettled view old → new ≡ view → Keeps old next → IsSettled new next
-settled_kept view new old next settled same keeps = record {
-  gone = λ s h. ap (λ (v : Viewed). is_gone v.doc.cells s) same ∙ settled.gone s (sym (keeps.back s) ∙ h);
-  closed = subst (λ (h : History (List Word)). AllByRecursion AreSound h.closed) (sym keeps.history) settled.closed;
-  current = subst (λ (h : History (List Word)). AreSound h.current) (sym keeps.history) settled.current;
-  undone = subst (λ (h : History (List Word)). AllByRecursion AreSound h.undone) (sym keeps.history) settled.undone;
-}
-
 pub keeps_itself : (old : Recording) → Keeps old old
 keeps_itself old = record { history = refl; undo = refl; auto = refl; back = λ s. refl }
 

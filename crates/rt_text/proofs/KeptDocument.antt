@@ -1,5 +1,5 @@
 -- What a tag that is written leaves listed, the characters that it names as far as the text goes, and checks of the clock.
-use Rattle.std.proofs.Common.{◌≡◌, ℕ, ◌<◌, ◌≤◌, List, Bool, true, false, cond, ◌&&◌, Some, None, Result, Ok, Err, OnOk, length, map, refl, sym, ◌∙◌, ap, subst, arith}
+use Rattle.std.proofs.Common.{◌≡◌, ℕ, ◌<◌, ◌≤◌, List, Bool, true, false, cond, Some, None, Result, Ok, Err, OnOk, length, map, refl, sym, ◌∙◌, ap, subst}
 use Rattle.std.specs.Str.{bytes_eq}
 use Rattle.std.specs.Prelude.{OnErr, nat_lt}
 use Rattle.std.proofs.lemmas.Bool.{cond-true, cond-false, le-ltb, lt-ltb}
@@ -7,7 +7,7 @@ use Rattle.rt_stamps.specs.declared.limits.TheConstants.{GREATEST_COUNT}
 use Rattle.rt_stamps.specs.declared.fault.Fault.TheVariants.{ClockSpent}
 use Rattle.rt_stamps.specs.Words.{Word}
 use Rattle.rt_store.specs.declared.cell.Cell.{Cell}
-use Rattle.rt_store.specs.Cells.{visible_of, stamps_of}
+use Rattle.rt_store.specs.Cells.{visible_of}
 use Rattle.rt_tags.specs.States.{TagStates, state_at}
 use Rattle.rt_tags.specs.Tags.{IsName, with_name, sel}
 use Rattle.rt_edits.specs.TagWrites.{listed_if, with_tag_at}
@@ -15,12 +15,8 @@ use Rattle.rt_text.specs.Commands.{clock_check}
 use Rattle.rt_edits.specs.Flat.{Flat}
 use Rattle.rt_store.specs.Shown.{TaggedCell, shown}
 use Rattle.rt_edits.specs.Listed.{AreListed}
-use Rattle.rt_edits.specs.Removals.{stamps_at}
 use Rattle.rt_edits.proofs.ListedWrites.{written_listed}
-use Rattle.rt_edits.proofs.Putting.{stamps_at_cells}
-use Rattle.rt_edits.proofs.Shown.{stamps_at_shown}
 use Rattle.rt_store.proofs.Shown.{visible_shown, length_shown}
-use Rattle.rt_edits.proofs.StateChanges.{AreAlike, cells_alike}
 
 -- WRITTEN TAGS
 
@@ -49,13 +45,3 @@ clock_spent n h = cond-true (nat_lt GREATEST_COUNT n) (Some ClockSpent) None (lt
 pub either_way : {T E A B C : Type 0} (r : Result T E) → (A → C) → (B → C) → OnOk r A → OnErr r B → C
 either_way (Ok x) f g a b = f a
 either_way (Err e) f g a b = g b
-
--- PLACES
-
-pub alike_within : (n : ℕ) (within ranges : ℕ → Bool) → ((q : ℕ) → within q ≡ (nat_lt q n && ranges q)) → AreAlike within ranges 0 n
-alike_within n within ranges h = λ q l m. h q ∙ ap (λ b. b && ranges q) (lt-ltb q n (omega (arith, m)))
-
-pub stamps_alike : (table : TagStates) (cells : List (Cell ℕ)) (flat : Flat) (within ranges : ℕ → Bool) → map (shown table) cells ≡ flat.cells → AreAlike within ranges 0 (length (visible_of cells))
-    → stamps_at within 0 cells ≡ stamps_at ranges 0 flat.cells
-stamps_alike table cells flat within ranges e h =
-    sym (stamps_at_cells within 0 cells) ∙ ap stamps_of (cells_alike within ranges 0 cells h) ∙ stamps_at_cells ranges 0 cells ∙ sym (stamps_at_shown (state_at table) ranges 0 cells) ∙ ap (stamps_at ranges 0) e

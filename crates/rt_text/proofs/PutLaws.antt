@@ -10,7 +10,7 @@ use Rattle.rt_stamps.specs.declared.stamp.Stamp.{Stamp}
 use Rattle.rt_stamps.specs.Outcomes.{Refuses, first_of, unless}
 use Rattle.rt_stamps.specs.Words.{Word}
 use Rattle.rt_store.specs.declared.cell.Cell.{Cell}
-use Rattle.rt_store.specs.Cells.{after_element, map_state, text_of, visible_of}
+use Rattle.rt_store.specs.Cells.{after_element, map_state, visible_of}
 use Rattle.rt_tags.specs.States.{TagStates, state_at}
 use Rattle.rt_stamps.specs.Names.{name_check}
 use Rattle.rt_text.specs.Commands.{cell_check, clock_check, inserted, names_in, with_pieces_at}
@@ -19,7 +19,7 @@ use Rattle.rt_store.specs.Shown.{TaggedCell, shown}
 use Rattle.rt_edits.specs.Insertions.{Piece}
 use Rattle.rt_text.specs.Widgets.{Viewed, length_shown, widget_of}
 use Rattle.rt_text.proofs.ReadyLaws.{first_none, first_some}
-use Rattle.rt_store.proofs.Shown.{text_shown, visible_shown}
+use Rattle.rt_store.proofs.Shown.{visible_shown}
 
 -- THE COMMAND, BY ITS CHECKS
 
@@ -60,9 +60,6 @@ by_late_checks view index pieces rest found place h e p =
 
 pub visible_same : (table : TagStates) (kept : List (Cell ℕ)) (cells : List TaggedCell) → map (shown table) kept ≡ cells → length (visible_of kept) ≡ length (visible_of cells)
 visible_same table kept cells e = sym (length-map (visible_of kept) (map_state (state_at table))) ∙ ap length (sym (visible_shown (state_at table) kept)) ∙ ap (λ l. length (visible_of l)) e
-
-pub text_same : (table : TagStates) (kept : List (Cell ℕ)) (cells : List TaggedCell) → map (shown table) kept ≡ cells → length (text_of kept) ≡ length (text_of cells)
-text_same table kept cells e = ap length (sym (text_shown (state_at table) kept)) ∙ ap (λ l. length (text_of l)) e
 
 pub put_length : {T : Type 0} (cells : List (Cell T)) (left : Stamp) (new : List (Cell T)) → length (put_after cells left new) ≡ length cells + length new
 put_length cells left new =

@@ -189,11 +189,6 @@ passed_order ranges i p d h k n l =
     let o : AreInOrder p (get_or ranges i d ∷ drop (i + 1) ranges) = subst (AreInOrder p) (drop_more ranges i d h) k in
     order_weaker (get_or ranges i d).to n (drop (i + 1) ranges) (omega (arith, o.0, o.1, l)) o.2
 
-pub passed_fits : (ranges : List Range) (i p : ℕ) (d : Range) → i < length ranges → AreInOrder p (drop i ranges) → p + ((get_or ranges i d).to - (get_or ranges i d).from) ≤ (get_or ranges i d).to
-passed_fits ranges i p d h k =
-    let o : AreInOrder p (get_or ranges i d ∷ drop (i + 1) ranges) = subst (AreInOrder p) (drop_more ranges i d h) k in
-    omega (arith, o.0, o.1)
-
 -- one range more is passed
 pub before_more : (ranges : List Range) (i p : ℕ) (d : Range) → i < length ranges → before_of (drop i ranges) p ≡ before_of (drop (i + 1) ranges) (passing (get_or ranges i d) p)
 before_more ranges i p d h = ap (λ l. before_of l p) (drop_more ranges i d h)

@@ -10,7 +10,7 @@ use Rattle.rt_stamps.specs.declared.fault.Fault.TheVariants.{NoMemory}
 use Rattle.rt_stamps.specs.declared.limits.TheConstants.{GREATEST_COUNT, MOST_SPANS}
 use Rattle.rt_stamps.specs.Words.{Word}
 use Rattle.rt_store.specs.declared.cell.Cell.{Cell}
-use Rattle.rt_store.specs.Cells.{text_of, visible_of}
+use Rattle.rt_store.specs.Cells.{text_of}
 use Rattle.rt_store.specs.Shown.{shown}
 use Rattle.rt_store.proofs.Shown.{length_shown}
 use Rattle.rt_tags.specs.States.{TagStates, state_at}
@@ -25,14 +25,13 @@ use Rattle.rt_rga.proofs.Requests.{all_count_on}
 use Rattle.rt_edits.specs.DraftLaws.{IsDocument}
 use Rattle.rt_edits.specs.Flat.{Flat, logged}
 use Rattle.rt_edits.specs.Listed.{AreListed}
-use Rattle.rt_edits.specs.TagDrafts.{deletion_drafts, tag_drafts, tag_drafts_at, tags_drafts_at}
-use Rattle.rt_edits.specs.TagWrites.{changed_stamps, listed_if, with_tag_at, without_tags}
+use Rattle.rt_edits.specs.TagDrafts.{deletion_drafts, tag_drafts_at, tags_drafts_at}
+use Rattle.rt_edits.specs.TagWrites.{with_tag_at, without_tags}
 use Rattle.rt_edits.specs.Names.{all_forgotten}
 use Rattle.rt_edits.proofs.CharacterCounts.{deletions_insert_none, tags_insert_none}
 use Rattle.rt_edits.proofs.DeletedNames.{deletions_made, deletions_may}
 use Rattle.rt_edits.proofs.TagDocuments.{all_deletions_counted, all_tags_counted, tags_made, tags_may}
-use Rattle.rt_edits.proofs.TagPlaces.{tag_alike, tag_text}
-use Rattle.rt_edits.proofs.StateChanges.{AreAlike, cells_alike}
+use Rattle.rt_edits.proofs.TagPlaces.{tag_text}
 use Rattle.rt_text.specs.Commands.{clock_check}
 use Rattle.rt_text.specs.Kept.{IsDoc}
 use Rattle.rt_text.specs.Widgets.{AreSiteMarks}
@@ -78,12 +77,6 @@ tagged_makes flat places on name d n =
     let doc = subst (λ drafts. IsDocument flat.site (with_drafts flat.site drafts flat.log) (with_tag_at flat places on name)) same
     (tags_made flat.site flat.log flat places on (name ∷ []) d.site d.history d.document (n, tt) l) in
     record { cells = doc.cells; site = doc.site; count = doc.count })
-
--- places count as far as the text goes
-pub written_alike : (flat : Flat) (r s : ℕ → Bool) (on : Bool) (name : Word) → AreAlike r s 0 (length (visible_of flat.cells))
-    → logged flat (tag_drafts_at MOST_SPANS r on name flat.cells) (listed_if on name (with_tag_at flat r on name)) ≡ logged flat (tag_drafts_at MOST_SPANS s on name flat.cells) (listed_if on name (with_tag_at flat s on name))
-written_alike flat r s on name h =
-    λ i. logged flat (tag_drafts MOST_SPANS on name (changed_stamps name on (cells_alike r s 0 flat.cells h i))) (listed_if on name (tag_alike flat r s on name h i))
 
 -- DELETED TAGS
 
