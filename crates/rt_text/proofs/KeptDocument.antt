@@ -1,4 +1,4 @@
--- What a tag that is written leaves listed, the characters that it names as far as the text goes, and checks of the clock.
+-- What a tag that is written leaves listed, and checks of the clock.
 use Rattle.std.proofs.Common.{◌≡◌, ℕ, ◌<◌, ◌≤◌, List, Bool, true, false, cond, Some, None, Result, Ok, Err, OnOk, length, map, refl, sym, ◌∙◌, ap, subst}
 use Rattle.std.specs.Str.{bytes_eq}
 use Rattle.std.specs.Prelude.{OnErr, nat_lt}
