@@ -1,6 +1,6 @@
 -- How a run goes on, and how it ends.
-use Rattle.std.proofs.Common.{◌≡◌, ◌≢◌, ◌⊎◌, inl, inr, ℕ, ◌+◌, ◌-◌, ◌<◌, ◌≤◌, length, take, List, [], ◌++◌, refl, sym, ◌∙◌, ap, Option, Some, None, Result, Ok, Err, append_assoc, append-nil, add-zero, arith}
-use Rattle.std.specs.Result.{IsOkUnless, result_err}
+use Rattle.std.proofs.Common.{◌≡◌, ◌≢◌, ◌⊎◌, inl, inr, ℕ, ◌+◌, ◌-◌, ◌<◌, ◌≤◌, length, take, List, [], ◌++◌, refl, sym, ◌∙◌, ap, Option, Some, None, Result, Ok, Err, IfErr, append_assoc, append-nil, add-zero, arith}
+use Rattle.std.specs.Result.{result_err}
 use Rattle.std.specs.Io.KnownBytes.{Consumes, Keeps, IsAtEnd}
 use Rattle.std.proofs.lemmas.List.{length-take, length-append}
 use Rattle.rt_stamps.specs.declared.fault.Fault.{Fault}
@@ -212,7 +212,7 @@ pub ends_whole : {S : Type 0} (gives : S → List Word → Answer → S → Type
     → Goes gives old mid script middle before between pending room turns → turns < MOST_READS
     → Consumes middle.bytes left.bytes (take n buf) → n ≡ 0 → IsAtEnd left.bytes → left.calls ≡ middle.calls + 1 → left.failures ≡ middle.failures + 0
     → ((rest : List ℕ) → pending ≡ kept rest → RanLines gives mid new between.bytes after.bytes between.failures after.failures (last_of rest) (last_of rest) r)
-    → IsOkUnless r WriteFault → Ends gives old new script left before after (result_err r)
+    → IfErr r (λ fault. fault ≡ WriteFault) → Ends gives old new script left before after (result_err r)
 ends_whole gives old mid new script middle left before between after pending n buf room turns (Ok x) g few eaten none end calls failures ran fault =
     let bounded = g.bounded in
     let called = g.calls in

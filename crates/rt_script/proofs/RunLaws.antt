@@ -1,6 +1,5 @@
 -- Runs of lines, one after the other.
-use Rattle.std.proofs.Common.{OnOk, ◌≢◌, zero, suc, ◌==◌, ◌≡◌, inl, inr, ℕ, ◌+◌, ◌-◌, min, ◌<◌, ◌≤◌, ◌&&◌, not, Bool, true, false, cond, length, take, drop, get_or, take-append-drop, map, Some, None, List, [], ◌∷◌, ◌++◌, refl, sym, ◌∙◌, ap, subst, Option, Result, Ok, Err, append_assoc, append-nil, arith, nat_le}
-use Rattle.std.specs.Result.{IsOkUnless}
+use Rattle.std.proofs.Common.{IfErr, OnOk, ◌≢◌, zero, suc, ◌==◌, ◌≡◌, inl, inr, ℕ, ◌+◌, ◌-◌, min, ◌<◌, ◌≤◌, ◌&&◌, not, Bool, true, false, cond, length, take, drop, get_or, take-append-drop, map, Some, None, List, [], ◌∷◌, ◌++◌, refl, sym, ◌∙◌, ap, subst, Option, Result, Ok, Err, append_assoc, append-nil, arith, nat_le}
 use Rattle.std.proofs.lemmas.List.{take_more, take_all, take_min, take_rest, get_or-drop, length-take, length-drop}
 use Rattle.std.proofs.Math.Seq.{take-add, take-append-add}
 use Rattle.std.specs.List.{prefix_len}
@@ -211,7 +210,7 @@ lines_longer gives old new a b f g lines all more others fault (inr k) = inr (k.
 
 -- one line was run
 pub one_line : {S : Type 0} (gives : S → List Word → Answer → S → Type 0) (old new : S) (a b : Option (List ℕ)) (f g : ℕ) (line : List ℕ) (r : Result (Unit {0}) Fault)
-    → RanLine gives old new a b line r → IsOkUnless r WriteFault → g ≡ f + failures_of r → RanLines gives old new a b f g (line ∷ []) (line ∷ []) r
+    → RanLine gives old new a b line r → IfErr r (λ fault. fault ≡ WriteFault) → g ≡ f + failures_of r → RanLines gives old new a b f g (line ∷ []) (line ∷ []) r
 one_line gives old new a b f g line (Ok x) h w n = (ran_line gives old new a b line h, omega arith)
 one_line gives old new a b f g line (Err x) h w n = inr (w, unwritten_line gives old new a b line x h, n)
 
@@ -221,7 +220,7 @@ unstored_line gives s a f line fault is = inl (is, record { run = []; line = lin
 
 -- it was run as it came, since nothing of it was kept before
 pub whole_line : {S : Type 0} (gives : S → List Word → Answer → S → Type 0) (old new : S) (a b : Option (List ℕ)) (f g : ℕ) (front bytes pending line : List ℕ) (r : Result (Unit {0}) Fault)
-    → pending ≡ kept front → pending ≡ [] → line ≡ without_return bytes → RanLine gives old new a b line r → IsOkUnless r WriteFault → g ≡ f + failures_of r
+    → pending ≡ kept front → pending ≡ [] → line ≡ without_return bytes → RanLine gives old new a b line r → IfErr r (λ fault. fault ≡ WriteFault) → g ≡ f + failures_of r
     → RanLines gives old new a b f g (without_return (front ++ bytes) ∷ []) (without_return (front ++ bytes) ∷ []) r
 whole_line gives old new a b f g front bytes pending line r is none e h w n =
     let blank : front ≡ [] = take_none MOST_KEPT_BYTES front (omega arith) (sym is ∙ none) in
@@ -230,7 +229,7 @@ whole_line gives old new a b f g front bytes pending line r is none e h w n =
 
 -- it was run as what is kept of it
 pub kept_line : {S : Type 0} (gives : S → List Word → Answer → S → Type 0) (old new : S) (a b : Option (List ℕ)) (f g : ℕ) (front bytes before pending line : List ℕ) (r : Result (Unit {0}) Fault)
-    → before ≡ kept front → pending ≡ kept (before ++ bytes) → line ≡ without_return pending → RanLine gives old new a b line r → IsOkUnless r WriteFault → g ≡ f + failures_of r
+    → before ≡ kept front → pending ≡ kept (before ++ bytes) → line ≡ without_return pending → RanLine gives old new a b line r → IfErr r (λ fault. fault ≡ WriteFault) → g ≡ f + failures_of r
     → RanLines gives old new a b f g (without_return (front ++ bytes) ∷ []) (without_return (front ++ bytes) ∷ []) r
 kept_line gives old new a b f g front bytes before pending line r is k e h w n =
     let all : pending ≡ kept (front ++ bytes) = k ∙ ap (λ v. kept (v ++ bytes)) is ∙ kept_longer front bytes in
@@ -354,7 +353,7 @@ stopped_lines gives old mid new a b c e f g p xs i n fault at more h same k =
 
 -- the piece ends, and what is left of it is kept
 pub kept_lines : {S : Type 0} (gives : S → List Word → Answer → S → Type 0) (old new : S) (a b : Option (List ℕ)) (f g : ℕ) (p xs : List ℕ) (i n : ℕ) (r : Result (Unit {0}) Fault) → n ≡ line_at xs i → i + n ≡ length xs → i < length xs
-    → IsOkUnless r NoMemory → Ran gives old new a b (complete_of (p ++ take i xs)) → g ≡ f → RanLines gives old new a b f g (complete_of (p ++ xs)) (lines_of (p ++ xs)) r
+    → IfErr r (λ fault. fault ≡ NoMemory) → Ran gives old new a b (complete_of (p ++ take i xs)) → g ≡ f → RanLines gives old new a b f g (complete_of (p ++ xs)) (lines_of (p ++ xs)) r
 kept_lines gives old new a b f g p xs i n (Ok x) e all some w h same =
     (subst (λ v. Ran gives old new a b (complete_of (p ++ v))) (take_all (i + n) xs (omega (arith, all))) (ran_front gives old new a b p xs i n e h), same)
 kept_lines gives old new a b f g p xs i n (Err x) e all some w h same = inl (w, front_unstored gives old new a b (p ++ take i xs) (p ++ xs) (drop i xs) h (bytes_all p xs i) (drop_some xs i some), same)
@@ -386,7 +385,7 @@ unreadable_text line n = go (nat_le (length line) MOST_LINE_BYTES) (is_utf8 line
 
 -- the last line of a script was run
 pub ran_last : {S : Type 0} (gives : S → List Word → Answer → S → Type 0) (old new : S) (a b : Option (List ℕ)) (f g : ℕ) (rest : List ℕ) (r : Result (Unit {0}) Fault)
-    → RanLine gives old new a b (kept rest) r → kept rest ≢ [] → IsOkUnless r WriteFault → g ≡ f + failures_of r → RanLines gives old new a b f g (last_of rest) (last_of rest) r
+    → RanLine gives old new a b (kept rest) r → kept rest ≢ [] → IfErr r (λ fault. fault ≡ WriteFault) → g ≡ f + failures_of r → RanLines gives old new a b f g (last_of rest) (last_of rest) r
 ran_last gives old new a b f g rest r h n w e = rw (last_some rest n) (one_line gives old new a b f g rest r (last_kept gives old new a b rest r h) w e)
 
 pub length_none : (bytes : List ℕ) → length bytes ≡ 0 → bytes ≡ []
