@@ -1,5 +1,5 @@
 -- The run of a script by a site: how the site begins, and what there is of it at the end.
-use Rattle.std.specs.Prelude.{◌≡◌, ◌⊎◌, ◌≤◌, ℕ, Bool, true, false, List, length, Option, Some, None, Result, MatchResult, IfOk, IsOkUnless, Vec, reverse, ⊤}
+use Rattle.std.specs.Prelude.{◌≡◌, ◌⊎◌, ◌≤◌, ℕ, Bool, true, false, List, length, Option, Some, None, Result, MatchResult, IfOk, IfErr, Vec, reverse, ⊤}
 use Rattle.std.specs.Borrow.{Bor}
 use Rattle.std.specs.declared.alloc.Global.{Global}
 use Rattle.rt_stamps.specs.declared.fault.Fault.{Fault}
@@ -34,7 +34,7 @@ Begins site log result = MatchResult result
 
 -- the file of a site's log, or want of memory
 abbrev pub Exports : State → Result (Vec ℕ Global) Fault → Type 0
-Exports state result = IfOk result (λ bytes. bytes.items ≡ spelling (reverse state.text.view.doc.log)) × IsOkUnless result NoMemory
+Exports state result = IfOk result (λ bytes. bytes.items ≡ spelling (reverse state.text.view.doc.log)) × IfErr result (λ fault. fault ≡ NoMemory)
 
 -- the log at the end of a run is told where it is wanted, however the run ended
 abbrev pub TellsLog : Bool → State → Option (Result (Vec ℕ Global) Fault) → Type 0
