@@ -1,4 +1,4 @@
-// The stamps of new text.
+// The stamps of new characters.
 ghost use Rattle.std.specs.Prelude.{◌≡◌, ℕ, ◌+◌, ◌≤◌, ◌++◌, IfOk, IsOkUnless, List, OnOk, length, map, string_bytes};
 ghost use Rattle.rt_stamps.specs.declared.limits.TheConstants.{GREATEST_COUNT};
 ghost use Rattle.rt_stamps.specs.declared.stamp.Stamp.{Stamp};
@@ -134,7 +134,7 @@ impl Stamps {
         })
     }
 
-    /// They in turn.
+    /// The stamps in turn.
     pub fn as_slice(&self) -> &[Stamp]
         ensures { result.now ≡ self.now }
     {

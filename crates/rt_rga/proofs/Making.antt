@@ -68,7 +68,7 @@ pub fits_left : (last more bound : ℕ) (old new : List Edit) (draft : Edit) →
 fits_left last more bound old new draft e l h =
     subst (λ n. last_count_after n (map body_of new) ≤ bound) l (subst (λ (drafts : List Edit). last_count_after last (map body_of drafts) ≤ bound) e h)
 
--- why they are refused
+-- drafts whose counts don't fit are refused for that
 pub counts_refused : (last left : ℕ) (drafts : List Body) → GREATEST_COUNT < last_count_after last drafts → refusal_from last left drafts ≡ Some ClockSpent
 counts_refused last left drafts h =
     let spent : nat_lt GREATEST_COUNT (last_count_after last drafts) ≡ true = grind (arith, nat_tests, h) in

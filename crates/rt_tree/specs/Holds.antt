@@ -18,7 +18,7 @@ pub record IsHeld (m : Memory) (root leaf entry : ℕ) (run : Run) (front : Coun
   pub here : slice_get (entries m leaf) entry ≡ Some (Here run)
   pub before : front ≡ counts_of (runs_before m root leaf entry)
 
--- a run ends at a position, and its last cell is at a spot
+-- a spot is that of the last cell of a run, and the run ends at a position
 pub record IsEndAt (m : Memory) (root at : ℕ) (spot : Spot) : Type 0 where
   pub run : Run
   pub place : ℕ

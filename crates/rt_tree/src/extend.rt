@@ -88,13 +88,13 @@ fn is_barred(mem: &Mem, root: NodeId, newest: u64, before: Run, run: Run, is_new
 pub(crate) struct Extended {
     pub(crate) done: usize,
     pub(crate) is_edge: bool,
-    // The last cell of the run that ends there.
+    // Where the last cell of the run that ends there stands, if that was seen and no cell was put in.
     pub(crate) end: Option<Spot>,
     // The longer run, and where it stands.
     pub(crate) last: Option<Found>,
 }
 
-// No cell was put in, since no run ends at the position, or it can't go on.
+// No cell was put in: there is none, or no run is seen to end at the position, or the one that does can't go on.
 fn not_extended(is_edge: bool, end: Option<Spot>) -> Extended
     ensures { result ≡ record { done = 0; is_edge = is_edge; end = end; last = None } }
 {

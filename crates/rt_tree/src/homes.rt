@@ -109,7 +109,7 @@ impl Home {
     }
 }
 
-// What is known of where a stamp is: no run has it, or this one has it.
+// What is known of where a stamp is: no run has it, or this one has it, or nothing is known.
 #[derive(Clone, Copy)]
 pub(crate) enum Sought {
     Nowhere,

@@ -23,7 +23,7 @@ fn is_beside(around: &Around, old: &Option<StateId>, new: &Option<StateId>) -> b
     old.is_none() && (around.before == *new || around.after == *new)
 }
 
-// Whether no run showed a state before, and the one that shows one now stands behind a visible one of its leaf in that state.
+// Whether an entry showed no state before, and shows now that of the last visible run before it in its leaf.
 fn is_behind(
     each: &[Summary],
     mem: &Mem,
