@@ -110,9 +110,6 @@ each_map : {X Y : Type 0} (P : Y → Type 0) (f : X → Y) (xs : List X) → All
 each_map P f [] all = tt
 each_map P f (x ∷ xs) all = (all.0, each_map P f xs all.1)
 
-cell_states : List (Cell ℕ) → List ℕ
-cell_states cells = map (λ (c : Cell ℕ). c.state) cells
-
 module _ (m : Memory) (root : ℕ) (text : List ℕ) (tree : IsTree m root) (kept : AllByRecursion (IsRun text) (tree_runs m root)) (sums : List Summary) (room : Room) where
   abbrev cells : List (Cell ℕ)
   cells = cells_of text (tree_runs m root)
