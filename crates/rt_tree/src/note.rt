@@ -36,7 +36,8 @@ fn is_behind(
     requires within { i ≤ length (entries mem.now leaf.index) }
     requires ends { AllByRecursion (HasEnds mem.now (level_of mem.now leaf.index) each.now) (entries mem.now leaf.index) }
     ensures none { result ≡ true → old.now ≡ None }
-    ensures before { result ≡ true → last (shown_states (all_below mem.now (level_of mem.now leaf.index) (take i (entries mem.now leaf.index)))) ≡ new.now }
+    ensures before { result ≡ true
+        → last (shown_states (all_below mem.now (level_of mem.now leaf.index) (take i (entries mem.now leaf.index)))) ≡ new.now }
 {
     if old.is_some() {
         return false;
