@@ -1,6 +1,6 @@
 -- The command line of peertext, as clap reads it: `peertext run --site N [--log F] [--out F] [FILE..]`, `peertext join A B OUT`
 -- and `peertext show FILE`.
-use Rattle.std.specs.Prelude.{◌≡◌, ◌⊎◌, ℕ, List, ◌∷◌, ◌++◌, Bool, true, false, not, Option, Some, None, option_map, unwrap_or, map, codes, string_bytes, [], if◌then◌else◌, ⊤}
+use Rattle.std.specs.Prelude.{◌≡◌, ◌⊎◌, ℕ, List, ◌∷◌, ◌++◌, Bool, true, false, not, Option, Some, None, option_map, unwrap_or, codes, string_bytes, [], if◌then◌else◌, ⊤}
 use Rattle.std.specs.declared.io.ErrorKind.{ErrorKind as ReadKind}
 use Rattle.std.specs.declared.io.ErrorKind.TheVariants as read
 use Rattle.std.specs.Str.Parse.{digits_value, without_leading_plus}
@@ -17,6 +17,7 @@ use Rattle.clap.specs.declared.error.ErrorKind.TheVariants.{DisplayHelp, Display
 use Rattle.rt_stamps.specs.Fault.{text_of}
 use Rattle.rt_stamps.specs.declared.fault.Fault.TheVariants as fault
 use Rattle.rt_stamps.specs.declared.limits.TheConstants.{GREATEST_SITE}
+use Rattle.rt_stamps.specs.Words.{as_words}
 use Rattle.rt_args.specs.declared.command_line.Line.{Line}
 use Rattle.rt_args.specs.declared.command_line.Line.TheVariants.{Run, Join, Show}
 use Rattle.rt_args.specs.declared.command_line.LineFault.{LineFault}
@@ -107,7 +108,7 @@ abbrev pub HasValues : List Row → Line → Type 0
 HasValues rows (Run site log out files) =
     (site_given rows ≡ Some site.number)
     × (file_given (codes "log") rows ≡ option_map string_bytes log) × (file_given (codes "out") rows ≡ option_map string_bytes out)
-    × (files_given (codes "FILE") rows ≡ map string_bytes files.items)
+    × (files_given (codes "FILE") rows ≡ as_words files.items)
 HasValues rows (Join a b out) =
     (file_given (codes "A") rows ≡ Some (string_bytes a)) × (file_given (codes "B") rows ≡ Some (string_bytes b))
     × (file_given (codes "OUT") rows ≡ Some (string_bytes out))

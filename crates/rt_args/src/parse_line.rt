@@ -1,5 +1,6 @@
 // The command line, by clap.
 ghost use Rattle.std.specs.Prelude.{◌≡◌, ◌<◌, IfErr, IsOkUnless, IfOk, Some, codes, false, map, option_map, string_bytes};
+ghost use Rattle.rt_stamps.specs.Words.{as_words};
 ghost use Rattle.clap.specs.Words.{app_of, found_of, new_app, rows_of, rule_of, subcommand_rows_of, with_rule, with_subcommand};
 ghost use Rattle.clap.specs.declared.builder.Command.TheViews.{out-Command as fields_of};
 ghost use Rattle.rt_args.specs.CommandLine.{HasFile, HasSite, HasValues, IsCommand, IsOption, IsWhole, LineIn, LineOf, RefusesLine, Takes, file_given, file_word, files_given, files_word, join_command, path_option, peertext, program, run_command, run_options, show_command, site_given, site_option, subcommand_name};
@@ -187,7 +188,7 @@ fn path_in(alloc: Global, run: &ArgMatches<'_>, name: &str) -> Result<Option<Str
 }
 
 fn copied(alloc: Global, texts: &[&str]) -> Result<Vec<String>, AllocError>
-    ensures { IfOk result (λ copies. map string_bytes copies.items ≡ map (λ text. text.now) texts.now) }
+    ensures { IfOk result (λ copies. as_words copies.items ≡ map (λ text. text.now) texts.now) }
 {
     let mut copies = Vec::with_capacity(alloc, texts.len())?;
     for text in texts {
@@ -198,7 +199,7 @@ fn copied(alloc: Global, texts: &[&str]) -> Result<Vec<String>, AllocError>
 
 // The names of the files that a subcommand was given, as many as there are.
 fn files_in(alloc: Global, run: &ArgMatches<'_>, name: &str) -> Result<Vec<String>, LineFault>
-    ensures files { IfOk result (λ files. files_given name.now (rows_of (found_of run.now)) ≡ map string_bytes files.items) }
+    ensures files { IfOk result (λ files. files_given name.now (rows_of (found_of run.now)) ≡ as_words files.items) }
     ensures fault { IsOkUnless result NoMemory }
 {
     match run.get_raw(name) {

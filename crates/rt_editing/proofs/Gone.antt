@@ -1,6 +1,6 @@
 -- Characters that are gone stay so, and visible ones aren't.
-use Rattle.std.proofs.Common.{◌≡◌, ◌∙◌, ℕ, ◌+◌, ◌||◌, Bool, true, false, not, List, [], ◌∷◌, ◌++◌, Some, None, is_some, cond, drop, take, take-append-drop, append_assoc, ap, refl, sym}
-use Rattle.std.specs.Prelude.{option_and_then, if◌then◌else◌}
+use Rattle.std.proofs.Common.{◌≡◌, ◌∙◌, ℕ, ◌+◌, ◌||◌, Bool, true, false, not, List, [], ◌∷◌, ◌++◌, Option, Some, None, cond, drop, take, take-append-drop, append_assoc, ap, refl, sym}
+use Rattle.std.specs.Prelude.{option_and_then, option_map, unwrap_or}
 use Rattle.std.specs.List.{AllByRecursion}
 use Rattle.std.proofs.lemmas.Bool.{cond-false, cond-true, or_left, or_right}
 use Rattle.rt_stamps.specs.declared.stamp.Stamp.{Stamp}
@@ -12,19 +12,28 @@ use Rattle.rt_store.specs.Spans.{is_among}
 use Rattle.rt_store.proofs.Distinct.{differs, first_apart, others_distinct, split}
 use Rattle.rt_edits.specs.Flat.{put_after}
 use Rattle.rt_edits.specs.Removals.{gone_at}
+use Rattle.rt_revert.specs.Reverting.{gone_cell_of}
 use Rattle.rt_editing.specs.Settled.{is_gone}
 
 -- the first cell of a stamp tells
 pub gone_cons : (c : TaggedCell) (cs : List TaggedCell) (s : Stamp) → is_gone (c ∷ cs) s ≡ cond (is_same c.stamp s) c.gone (is_gone cs s)
 gone_cons c cs s = by (is_same c.stamp s)
   where
-    this : (g : Bool) → is_some (if g then Some c else None) ≡ g
-    this true = refl
-    this false = refl
-
-    by : (b : Bool) → is_some (option_and_then (λ (cell : TaggedCell). if cell.gone then Some cell else None) (cond b (Some c) (cell_of cs s))) ≡ cond b c.gone (is_gone cs s)
-    by true = this c.gone
+    by : (b : Bool) → unwrap_or (option_map (λ (cell : TaggedCell). cell.gone) (cond b (Some c) (cell_of cs s))) false ≡ cond b c.gone (is_gone cs s)
+    by true = refl
     by false = refl
+
+-- a gone cell that is found tells so
+pub found_gone : (cells : List TaggedCell) (s : Stamp) (cell : TaggedCell) → gone_cell_of cells s ≡ Some cell → is_gone cells s ≡ true
+found_gone cells s cell h = by (cell_of cells s) h
+  where
+    this : (c : TaggedCell) (g : Bool) → c.gone ≡ g → cond g (Some c) None ≡ Some cell → c.gone ≡ true
+    this c true e k = e
+    this c false e k = absurd (cc)
+
+    by : (o : Option TaggedCell) → option_and_then (λ (c : TaggedCell). cond c.gone (Some c) None) o ≡ Some cell → unwrap_or (option_map (λ (c : TaggedCell). c.gone) o) false ≡ true
+    by None k = absurd (cc)
+    by (Some c) k = this c c.gone refl k
 
 -- who is gone has a cell
 pub gone_known : (cells : List TaggedCell) (s : Stamp) → is_gone cells s ≡ true → is_among (stamps_of cells) s ≡ true

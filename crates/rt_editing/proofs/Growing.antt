@@ -1,6 +1,6 @@
 -- Who is gone stays gone while a log grows.
 use Rattle.std.proofs.Common.{◌≡◌, ◌∙◌, ℕ, Bool, true, false, ◌||◌, ◌&&◌, List, [], ◌∷◌, Option, None, Some, cond, map, ap, arith, refl, sym}
-use Rattle.std.specs.Prelude.{is_some, option_and_then}
+use Rattle.std.specs.Prelude.{option_map, unwrap_or}
 use Rattle.std.specs.List.{find}
 use Rattle.rt_stamps.specs.declared.stamp.Stamp.{Stamp}
 use Rattle.rt_stamps.specs.Stamps.{is_same}
@@ -49,11 +49,10 @@ grows_drafts site drafts log = grows_all (operations_of site drafts log) log
 
 -- whether there is such a gone cell
 abbrev some_gone : Option TaggedCell → Bool
-some_gone found = is_some (option_and_then (λ (cell : TaggedCell). cond cell.gone (Some cell) None) found)
+some_gone found = unwrap_or (option_map (λ (cell : TaggedCell). cell.gone) found) false
 
 gone_some : (cell : TaggedCell) (b : Bool) → cell.gone ≡ b → some_gone (Some cell) ≡ b
-gone_some cell true e = ap (λ (g : Bool). is_some (cond g (Some cell) None)) e
-gone_some cell false e = ap (λ (g : Bool). is_some (cond g (Some cell) None)) e
+gone_some cell b e = e
 
 -- the cell of a stamp is gone where it is there and the log takes it away
 among_gone : (log : List Operation) (s : Stamp) (xs : List Character) → has_gone (map (cell_in log) xs) s ≡ (is_among (stamps_of (map (cell_in log) xs)) s && is_gone log s)

@@ -1,6 +1,6 @@
 -- What a reversion tells of the characters that come back by it: each does so for the first time, and is gone under its former stamp;
 -- and the group for the other stack names none of them.
-use Rattle.std.proofs.Common.{◌≡◌, ◌∙◌, ℕ, zero, suc, ◌+◌, ◌<◌, ◌≤◌, ◌||◌, Bool, true, false, List, [], ◌∷◌, Option, Some, None, is_some, cond, drop, filter, length, map, ap, refl, subst, sym, arith}
+use Rattle.std.proofs.Common.{◌≡◌, ◌∙◌, ℕ, zero, suc, ◌+◌, ◌<◌, ◌≤◌, ◌||◌, Bool, true, false, List, [], ◌∷◌, Option, Some, None, cond, drop, filter, length, map, ap, refl, subst, sym, arith}
 use Rattle.std.specs.Prelude.{option_map, reverse, unwrap_or}
 use Rattle.std.specs.List.{AllByRecursion}
 use Rattle.std.proofs.lemmas.Bool.{both_ways, false_from_ne_true}
@@ -32,7 +32,7 @@ use Rattle.rt_revert.proofs.Steps.{IsOnWay, action_step, all_grow, all_reversed,
 use Rattle.rt_editing.specs.Recordings.{HasStayed, HaveStayed}
 use Rattle.rt_editing.specs.Returns.{AreReturns, IsReturn, Return, back_after, stamp_after}
 use Rattle.rt_editing.specs.Settled.{is_gone}
-use Rattle.rt_editing.proofs.Gone.{each_among, gone_known, gone_put, gone_still, visible_stays}
+use Rattle.rt_editing.proofs.Gone.{each_among, found_gone, gone_known, gone_put, gone_still, visible_stays}
 use Rattle.rt_editing.proofs.Stayed.{Stays, back_one, returns_more, stays_here, stays_more}
 
 -- EACH OF SOME
@@ -150,7 +150,7 @@ return_told back removed r k t a m l s = by (gone_cell_of r.doc.cells stamp) ref
     by : (o : Option TaggedCell) → gone_cell_of r.doc.cells stamp ≡ o → (brought stamp removed.tags o r).doc.count ≤ GREATEST_COUNT → Leads back r (brought stamp removed.tags o r)
     by None e f = record { told = t; stays = λ u h. h }
     by (Some cell) e f =
-        let g : is_gone r.doc.cells stamp ≡ true = ap is_some e in
+        let g : is_gone r.doc.cells stamp ≡ true = found_gone r.doc.cells stamp cell e in
         let is = is_return back stamp removed.tags cell.ch r k t g (after_apart r.returns removed.stamp a m.stamp) s f in
         record { told = told_next back stamp removed.tags cell.ch r k t g is; stays = λ u h. stays_more r.returns (record { former = stamp; newer = next_in r.doc }) back u is h }
 

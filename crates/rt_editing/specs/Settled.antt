@@ -1,16 +1,11 @@
 -- What is so of a site's view and of what the site recorded, between commands.
-use Rattle.std.specs.Prelude.{◌≡◌, Bool, true, List, is_some}
+use Rattle.std.specs.Prelude.{◌≡◌, true}
 use Rattle.std.specs.List.{AllByRecursion}
 use Rattle.rt_stamps.specs.declared.stamp.Stamp.{Stamp}
-use Rattle.rt_store.specs.Shown.{TaggedCell}
-use Rattle.rt_revert.specs.Reverting.{gone_cell_of}
 use Rattle.rt_revert.specs.ReversionLaws.{AreSound}
 use Rattle.rt_editing.specs.Recordings.{Recording, came_back}
 use Rattle.rt_text.specs.Widgets.{Viewed}
-
--- the character of a stamp has a cell, and is gone
-abbrev pub is_gone : List TaggedCell → Stamp → Bool
-is_gone cells stamp = is_some (gone_cell_of cells stamp)
+pub use Rattle.rt_views.specs.Limits.{is_gone}
 
 -- Who came back under another stamp is gone: it is another character since. Each action of the history may be reverted: it names no
 -- final newline, and its tags are names as operations list them.

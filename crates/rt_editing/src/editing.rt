@@ -1,6 +1,7 @@
 // Insertions, removals, replacements, and operations of other sites.
-ghost use Rattle.std.specs.Prelude.{◌≡◌, ◌⊎◌, Ok, IfErr, IfOk, OnErr, OnOk, map, string_bytes};
+ghost use Rattle.std.specs.Prelude.{◌≡◌, ◌⊎◌, Ok, IfErr, IfOk, OnErr, OnOk};
 ghost use Rattle.rt_stamps.specs.Outcomes.{Refuses};
+ghost use Rattle.rt_stamps.specs.Words.{as_words};
 ghost use Rattle.rt_rga.specs.Answers.{Refused};
 ghost use Rattle.rt_rga.specs.Taken.{told};
 ghost use Rattle.rt_editing.specs.Settled.{IsSettled};
@@ -49,8 +50,8 @@ pub fn delete<S: TextStore>(
     indices: &[String],
 ) -> Result<(), Fault>
     requires { IsSettled view.old recorder.old }
-    ensures ok { OnOk result (text_deleted (edited view.old recorder.old) (map (λ w. string_bytes w) indices.now) ≡ Ok (edited view.new recorder.new)) }
-    ensures err { IfErr result (Refuses (text_deleted (edited view.old recorder.old) (map (λ w. string_bytes w) indices.now))) }
+    ensures ok { OnOk result (text_deleted (edited view.old recorder.old) (as_words indices.now) ≡ Ok (edited view.new recorder.new)) }
+    ensures err { IfErr result (Refuses (text_deleted (edited view.old recorder.old) (as_words indices.now))) }
     ensures unchanged { OnErr result (edited view.new recorder.new ≡ edited view.old recorder.old) }
     ensures settled { IsSettled view.new recorder.new }
 {

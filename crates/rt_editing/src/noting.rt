@@ -1,8 +1,8 @@
 // What is recorded of an edit.
-ghost use Rattle.std.specs.Prelude.{◌≡◌, ◌≤◌, true, List, [], None, Some, IfErr, IsOkUnless, IfOk, OnOk, map, string_bytes};
+ghost use Rattle.std.specs.Prelude.{◌≡◌, ◌≤◌, true, List, [], None, Some, IfErr, IsOkUnless, IfOk, OnOk, map};
 ghost use Rattle.rt_stamps.specs.declared.limits.TheConstants.{GREATEST_COUNT};
 ghost use Rattle.rt_stamps.specs.Outcomes.{Refuses};
-ghost use Rattle.rt_stamps.specs.Words.{Word};
+ghost use Rattle.rt_stamps.specs.Words.{Word, as_words};
 ghost use Rattle.rt_undo.specs.Actions.{Removed};
 ghost use Rattle.rt_revert.specs.Reverting.{as_removed};
 ghost use Rattle.rt_editing.specs.Recordings.{HasStayed, came_back, made};
@@ -59,9 +59,9 @@ pub(crate) fn prepare_deletion<S: TextStore>(
     indices: &[String],
 ) -> Result<(), Fault>
     ensures pending { OnOk result (recorder.old.undo ≡ true
-        → recorder.new.pending ≡ Some (map as_removed (lost_between view.now (map (λ w. string_bytes w) indices.now)))) }
+        → recorder.new.pending ≡ Some (map as_removed (lost_between view.now (as_words indices.now)))) }
     ensures kept { Keeps recorder.old recorder.new }
-    ensures err { IfErr result (Refuses (deleted view.now (map (λ w. string_bytes w) indices.now))) }
+    ensures err { IfErr result (Refuses (deleted view.now (as_words indices.now))) }
 {
     if !recorder.is_undo_on() {
         return Ok(());

@@ -1,10 +1,15 @@
 -- Names that are forgotten one after the other, and those that are left of them all.
 use Rattle.std.proofs.Common.{◌≡◌, ◌||◌, ◌&&◌, ◌∷◌, [], List, Bool, true, false, not, refl, sym, ap, ◌∙◌, cond, filter, subst}
+use Rattle.std.specs.Prelude.{if◌then◌else◌}
 use Rattle.std.specs.Str.{bytes_eq}
 use Rattle.rt_stamps.specs.Words.{Word}
-use Rattle.rt_tags.specs.Tags.{is_forgotten, is_listed, sel, without, without_all}
+use Rattle.rt_tags.specs.Tags.{is_forgotten, is_listed, all_forgotten, sel, without}
 use Rattle.rt_tags.proofs.Places.{clash, name_itself, same_name, split}
-use Rattle.rt_edits.specs.Names.{all_forgotten}
+
+-- the names but those that are forgotten one after the other: sel stays
+abbrev pub forgotten_in_turn : List Word → List Word → List Word
+forgotten_in_turn [] names = names
+forgotten_in_turn (name ∷ given) names = forgotten_in_turn given (if bytes_eq name sel then names else without name names)
 
 both : (p q r : Word → Bool) → ((x : Word) → r x ≡ (q x && p x)) → (xs : List Word) → filter p (filter q xs) ≡ filter r xs
 both p q r e [] = refl
@@ -18,7 +23,7 @@ both p q r e (x ∷ xs) =
     ∙ both p q r e xs
     ∙ sym (ap (λ b. cond b (x ∷ filter r xs) (filter r xs)) no))
 
-none_given : (names : List Word) → names ≡ without_all [] names
+none_given : (names : List Word) → names ≡ all_forgotten [] names
 none_given [] = refl
 none_given (x ∷ names) = λ j. x ∷ none_given names j
 
@@ -48,13 +53,13 @@ module _ (name : Word) (given : List Word) where
       (λ g. ap (λ b. not ((b || is_listed x given) && not (bytes_eq x sel))) g
       ∙ sym (ap (λ b. not b && not (is_forgotten given x)) (turned name x ∙ g)))
 
-pub in_turn : (given names : List Word) → all_forgotten given names ≡ without_all given names
+pub in_turn : (given names : List Word) → forgotten_in_turn given names ≡ all_forgotten given names
 in_turn [] names = none_given names
 in_turn (name ∷ given) names =
     split (bytes_eq name sel)
-    (λ t. ap (λ b. all_forgotten given (cond b names (without name names))) t
+    (λ t. ap (λ b. forgotten_in_turn given (cond b names (without name names))) t
     ∙ in_turn given names
     ∙ (λ j. filter (λ x. not (sym (of_sel name given t x) j)) names))
-    (λ f. ap (λ b. all_forgotten given (cond b names (without name names))) f
+    (λ f. ap (λ b. forgotten_in_turn given (cond b names (without name names))) f
     ∙ in_turn given (without name names)
     ∙ both (λ x. not (is_forgotten given x)) (λ x. not (bytes_eq name x)) (λ x. not (is_forgotten (name ∷ given) x)) (of_another name given f) names)

@@ -9,6 +9,7 @@ pub mod DistinctLaws
 pub mod DraftSteps
 pub mod ForgottenNames
 pub mod FoundLaws
+pub mod GivenTags
 pub mod GoneLaws
 pub mod InsertDraftLaws
 pub mod InsertRules

@@ -1,11 +1,11 @@
 -- What pieces of text have come to, one piece more.
-use Rattle.std.proofs.Common.{◌≡◌, ℕ, ◌+◌, ◌<◌, ◌≤◌, List, [], ◌∷◌, ◌++◌, Bool, true, length, take, drop, map, get_or, refl, sym, ◌∙◌, ap, subst, arith, append_assoc, take-append-drop, Option, Some, None}
-use Rattle.std.specs.Prelude.{nat_eq, option_map, string_bytes}
+use Rattle.std.proofs.Common.{◌≡◌, ℕ, ◌+◌, ◌<◌, ◌≤◌, List, [], ◌∷◌, ◌++◌, Bool, true, length, take, drop, get_or, refl, sym, ◌∙◌, ap, subst, arith, append_assoc, take-append-drop, Option, Some, None}
+use Rattle.std.specs.Prelude.{nat_eq, option_map}
 use Rattle.std.specs.Str.{chars}
 use Rattle.std.proofs.lemmas.List.{append-nil, take_more}
 use Rattle.rt_stamps.specs.declared.limits.TheConstants.{MOST_CHARACTERS}
 use Rattle.rt_stamps.specs.declared.stamp.Stamp.{Stamp}
-use Rattle.rt_stamps.specs.Words.{Word}
+use Rattle.rt_stamps.specs.Words.{Word, as_words}
 use Rattle.rt_ops.specs.Operations.{Body}
 use Rattle.rt_tags.specs.Tags.{is_listed, sel}
 use Rattle.rt_store.specs.Cells.{stamps_of}
@@ -26,10 +26,10 @@ pub record IsMoreText (site : ℕ) (names : List Word) (text : List ℕ) (old ne
   pub characters : new.characters ≡ old.characters + length text
   pub count : new.texts.count ≡ old.texts.count + counts_for names text
   pub element : new.texts.behind ≡ behind old.texts.behind (tagged_cells site old.texts.count names text)
-  pub tags : map (λ w. string_bytes w) new.names.items ≡ map (λ w. string_bytes w) old.names.items ++ names
+  pub tags : as_words new.names.items ≡ as_words old.names.items ++ names
 
 abbrev pub names_in : PlannedPieces → Option (List Word)
-names_in pieces = option_map (λ names. map (λ w. string_bytes w) names.items) pieces.last
+names_in pieces = option_map (λ names. as_words names.items) pieces.last
 
 pub added_listed : (after : Stamp) (selection : List Stamp) (listed : List Word) (old new : PlannedPieces) (site : ℕ) (tags : List Word) (text : List ℕ) (so_far : Insertion) → 1 ≤ length text
     → IsMoreText site (shared_names tags) text old new
@@ -46,7 +46,7 @@ added_listed after selection listed old new site tags (c ∷ text) so_far some m
       count = m.count ∙ ap (λ n. n + counts_for shared (c ∷ text)) h.count;
       element = m.element ∙ (λ i. behind (h.element i) (more (h.count i))) ∙ sym (behind_append after so_far.cells (more so_far.count));
       sel = s ∙ (λ i. selected_if (is_listed sel tags) (stamps_of (more (h.count i))) (h.sel i));
-      tags = ap (λ l. all_listed l listed) m.tags ∙ all_append (map (λ w. string_bytes w) old.names.items) shared listed ∙ ap (all_listed shared) h.tags;
+      tags = ap (λ l. all_listed l listed) m.tags ∙ all_append (as_words old.names.items) shared listed ∙ ap (all_listed shared) h.tags;
       last = l ∙ sym (last_tagged site so_far.count so_far.cells shared (c ∷ text) (shared_rise tags) some);
     }
 
@@ -67,8 +67,8 @@ none_so_far pieces after selection others listed count s c b k n l = record {
   count = c;
   element = b;
   sel = ap (λ l. with_stamps l selection) k;
-  tags = ap (λ l. all_listed (map (λ w. string_bytes w) l) listed) n;
-  last = ap (option_map (λ names. map (λ w. string_bytes w) names.items)) l;
+  tags = ap (λ l. all_listed (as_words l) listed) n;
+  last = ap (option_map (λ names. as_words names.items)) l;
 }
 
 pub none_in : (items : List ℕ) (n : ℕ) (empty : Bool) → n ≡ length items → empty ≡ nat_eq n 0 → empty ≡ true → items ≡ []

@@ -1,12 +1,12 @@
 -- Text without a list behind pieces.
 use Rattle.std.proofs.Common.{◌≡◌, ℕ, zero, suc, ◌+◌, ◌≤◌, ◌&&◌, ◌||◌, Bool, true, false, cond, List, [], ◌∷◌, length, filter, map, not, refl, sym, ◌∙◌, ap, subst, arith, Option, Some, None}
-use Rattle.std.specs.Prelude.{All, IfSome, is_some, option_map, slice_get, string_bytes, unwrap_or}
+use Rattle.std.specs.Prelude.{All, IfSome, is_some, option_map, slice_get, unwrap_or}
 use Rattle.std.specs.Str.{chars}
 use Rattle.std.proofs.lemmas.List.Elements.{All-filter}
 use Rattle.std.proofs.lemmas.Option.{get_or_from_slice_get, slice_get_within}
 use Rattle.rt_stamps.specs.declared.stamp.Stamp.{Stamp}
 use Rattle.rt_stamps.specs.declared.stamp.TheConstants.{ROOT}
-use Rattle.rt_stamps.specs.Words.{Word}
+use Rattle.rt_stamps.specs.Words.{Word, as_words}
 use Rattle.rt_tags.specs.States.{IsState, TagStates, is_on, state_at}
 use Rattle.rt_store.specs.declared.cell.Cell.{Cell}
 use Rattle.rt_store.specs.Cells.{stamps_of, visible_of}
@@ -65,7 +65,7 @@ no_left : (after : Stamp) (selection : List Stamp) (listed : List Word) (pieces 
     → (is_some pieces.last || is_some left) ≡ false → last_of (option_map (shown table) left) so_far.cells ≡ None
 no_left after selection listed pieces so_far table left h e =
     let p = either (is_some pieces.last) (is_some left) e in
-    sym (no_last so_far.cells (option_map (shown table) left) (none_named (λ names. map (λ w. string_bytes w) names.items) pieces.last p.0 ∙ h.last)) ∙ none left p.1
+    sym (no_last so_far.cells (option_map (shown table) left) (none_named (λ names. as_words names.items) pieces.last p.0 ∙ h.last)) ∙ none left p.1
   where
     none : (o : Option (Cell ℕ)) → is_some o ≡ false → option_map (shown table) o ≡ None
     none None k = refl
@@ -86,9 +86,9 @@ are_both after selection listed pieces so_far table left right stamps h a e = by
     first None k b = absurd (cc k)
     first (Some x) k b = ap (λ s. is_among stamps s && is_among stamps right.stamp) (sym b)
 
-    by : (cells : List TaggedCell) → option_map (λ names. map (λ w. string_bytes w) names.items) pieces.last ≡ tags_of (last_of None cells)
+    by : (cells : List TaggedCell) → option_map (λ names. as_words names.items) pieces.last ≡ tags_of (last_of None cells)
         → are_among stamps (last_of (option_map (shown table) left) cells) (Some right) ≡ (is_among stamps (behind after cells) && is_among stamps right.stamp)
-    by [] k = first left (sym (ap (λ b. b || is_some left) (is_none (λ names. map (λ w. string_bytes w) names.items) pieces.last k)) ∙ e) a
+    by [] k = first left (sym (ap (λ b. b || is_some left) (is_none (λ names. as_words names.items) pieces.last k)) ∙ e) a
     by (c ∷ cs) k = among_last stamps c cs right after
 
 -- BOTH SIDES
@@ -152,7 +152,7 @@ plans_nothing plan after selection listed pieces site left right text so_far e h
       characters = p.characters ∙ h.characters;
       sel = (λ i. with_stamps (p.selected i).items selection) ∙ h.sel;
       others = ap (λ o. map (selected_between o) so_far.others) p.others ∙ none_between so_far.others;
-      tags = (λ i. all_listed (map (λ w. string_bytes w) (p.names i).items) listed) ∙ h.tags;
+      tags = (λ i. all_listed (as_words (p.names i).items) listed) ∙ h.tags;
     })
 
 pub plans_rest : (plan : Plan) (after : Stamp) (selection : List Stamp) (listed : List Word) (old new : PlannedPieces) (site : ℕ) (left right : Option TaggedCell) (text : List ℕ) (so_far : Insertion) → 1 ≤ length text
@@ -170,7 +170,7 @@ plans_rest plan after selection listed old new site left right (x ∷ text) so_f
       characters = c ∙ m.characters ∙ ap (λ n. n + length (x ∷ text)) h.characters ∙ sym (unlisted_length site left right (x ∷ text) so_far);
       sel = s ∙ (λ i. selected_if (are_among (h.sel i) left right) (stamps_of (more (h.count i))) (h.sel i));
       others = λ i. map (λ other. (b other ∙ (λ j. selected_if (are_among other left right) (stamps_of (more (h.count j))) other)) i) so_far.others;
-      tags = (λ i. all_listed (map (λ w. string_bytes w) (n i).items) listed) ∙ ap (λ l. all_listed l listed) m.tags ∙ all_append (map (λ w. string_bytes w) old.names.items) names listed ∙ ap (all_listed names) h.tags;
+      tags = (λ i. all_listed (as_words (n i).items) listed) ∙ ap (λ l. all_listed l listed) m.tags ∙ all_append (as_words old.names.items) names listed ∙ ap (all_listed names) h.tags;
     }
 
 -- NEIGHBOURS IN A STORE

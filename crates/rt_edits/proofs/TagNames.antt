@@ -15,7 +15,7 @@ use Rattle.rt_stamps.specs.declared.stamp.TheConstants.{ROOT}
 use Rattle.rt_stamps.specs.Names.{name_order}
 use Rattle.rt_stamps.specs.Words.{Word}
 use Rattle.rt_ops.specs.Operations.{Operation, Body, Insert, Delete, Tag, stamp_of}
-use Rattle.rt_ops.specs.Rules.{are_tags, is_less, is_lesser_name, is_name, is_text, is_within, keeps_rules}
+use Rattle.rt_ops.specs.Rules.{are_tags, is_lesser_name, is_name, is_text, is_within, keeps_rules}
 use Rattle.rt_tags.specs.States.{IsByName, Write, above, below, is_on, is_settled, names_on, written}
 use Rattle.rt_tags.specs.Tags.{sel}
 use Rattle.rt_tags.specs.Writers.{listed_by, state_after}
@@ -87,7 +87,7 @@ each_name (w ∷ state) h = and_from (is_name w.name) _ h.0 (each_name state h.1
 rising_names : (state : List Write) → IsByName state → each_next is_lesser_name (map (λ (w : Write). w.name) state) ≡ true
 rising_names [] h = refl
 rising_names (w ∷ []) h = refl
-rising_names (w ∷ v ∷ state) h = and_from (is_lesser_name w.name v.name) _ (ap is_less h.0.0) (rising_names (v ∷ state) h.1)
+rising_names (w ∷ v ∷ state) h = and_from (is_lesser_name w.name v.name) _ (ap is_lt h.0.0) (rising_names (v ∷ state) h.1)
 
 names_are : (state : List Write) → AreNamed state → AreTagNames (map (λ (w : Write). w.name) state)
 names_are state h = record { each = each_name state h.named; rising = rising_names state h.by_name }

@@ -1,13 +1,11 @@
 -- What the plan of an insertion stands for.
-use Rattle.std.specs.Prelude.{◌≡◌, true, length, ◌≤◌, ◌&&◌, List, map, string_bytes, All, Option, None, Some}
+use Rattle.std.specs.Prelude.{◌≡◌, length, ◌&&◌, List, map, Option, None, Some}
 use Rattle.rt_stamps.specs.declared.stamp.Stamp.{Stamp}
-use Rattle.rt_stamps.specs.Words.{Word}
+use Rattle.rt_stamps.specs.Words.{Word, as_words}
 use Rattle.rt_store.specs.Spans.{is_among}
 use Rattle.rt_edits.specs.declared.inserting.Between.{Between}
 use Rattle.rt_edits.specs.declared.inserting.Plan.{Plan}
-use Rattle.rt_edits.specs.declared.selection.Selection.{Selection}
 use Rattle.rt_edits.specs.Insertions.{Insertion, all_listed, selected_if}
-use Rattle.rt_edits.specs.Selected.{room_in, selected_stamps}
 use Rattle.rt_edits.specs.Selections.{with_stamps}
 
 -- a selection that has both neighbours gets the characters between them
@@ -21,11 +19,4 @@ pub record Plans (plan : Plan) (selection : List Stamp) (selections : List (List
   pub characters : plan.characters ≡ length new.cells
   pub sel : with_stamps plan.selected.items selection ≡ new.sel
   pub others : map (selected_between plan.between) selections ≡ new.others
-  pub tags : all_listed (map (λ w. string_bytes w) plan.names.items) listed ≡ new.tags
-
--- each selection that has both neighbours has room for the characters between them
-abbrev pub HaveRoom : Option Between → List Selection → Type 0
-HaveRoom None others = Unit {0}
-HaveRoom (Some between) others =
-    All (λ selection. (is_among (selected_stamps selection) between.left && is_among (selected_stamps selection) between.right) ≡ true
-    → length between.stamps ≤ room_in selection) others
+  pub tags : all_listed (as_words plan.names.items) listed ≡ new.tags

@@ -1,5 +1,5 @@
 -- Text that is inserted, with its tags (Tk text manual, "insert").
-use Rattle.std.specs.Prelude.{ℕ, zero, suc, ◌+◌, ◌-◌, ◌*◌, ◌/◌, ◌&&◌, not, Bool, true, false, List, [], ◌∷◌, ◌++◌, length, map, filter, take, drop, slice_get, Option, Some, None, if◌then◌else◌}
+use Rattle.std.specs.Prelude.{ℕ, zero, suc, ◌+◌, ◌*◌, ◌&&◌, not, Bool, true, false, List, [], ◌∷◌, ◌++◌, length, map, filter, take, drop, slice_get, Option, Some, None, if◌then◌else◌}
 use Rattle.std.specs.Str.{bytes_eq, chars}
 use Rattle.rt_stamps.specs.declared.limits.TheConstants.{MOST_CHARACTERS, MOST_TAGS}
 use Rattle.rt_stamps.specs.declared.stamp.Stamp.{Stamp}
@@ -11,6 +11,7 @@ use Rattle.rt_tags.specs.Tags.{sel, is_listed, with_name}
 use Rattle.rt_tags.specs.Writers.{listed_by, state_after}
 use Rattle.rt_store.specs.Shown.{TaggedCell}
 use Rattle.rt_store.specs.Cells.{cells_from, stamps_of}
+use Rattle.rt_edits.specs.NamedSpans.{parts_for}
 use Rattle.rt_edits.specs.Selections.{with_stamps}
 use Rattle.rt_store.specs.Spans.{is_among}
 
@@ -55,7 +56,7 @@ new_state site last names = state_after [] (listed_by ROOT (take MOST_TAGS names
 
 -- an Insert has at most MOST_CHARACTERS characters: how many it takes for a text
 abbrev pub inserts_for : ℕ → ℕ
-inserts_for characters = (characters + (MOST_CHARACTERS - 1)) / MOST_CHARACTERS
+inserts_for characters = parts_for MOST_CHARACTERS characters
 
 -- the cells of a text that is so many Inserts, each with the Tag operations behind it, with the counts after one
 abbrev pub cells_of_inserts : ℕ → ℕ → ℕ → List Word → List ℕ → List TaggedCell

@@ -10,7 +10,6 @@ pub mod Listed
 pub mod Merging
 pub mod NamedSpans
 pub mod Names
-pub mod NewStamps
 pub mod PlannedPieces
 pub mod RemovalDrafts
 pub mod Removals

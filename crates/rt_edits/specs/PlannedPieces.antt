@@ -1,7 +1,7 @@
 -- What pieces of text have come to, as the plan of an insertion keeps it.
-use Rattle.std.specs.Prelude.{◌≡◌, length, List, map, string_bytes, Option, None, option_map}
+use Rattle.std.specs.Prelude.{◌≡◌, length, List, Option, None, option_map}
 use Rattle.rt_stamps.specs.declared.stamp.Stamp.{Stamp}
-use Rattle.rt_stamps.specs.Words.{Word}
+use Rattle.rt_stamps.specs.Words.{Word, as_words}
 use Rattle.rt_tags.specs.States.{names_on}
 use Rattle.rt_edits.specs.declared.inserting.Between.{Between}
 use Rattle.rt_edits.specs.declared.inserting.Plan.{Plan}
@@ -18,8 +18,8 @@ pub record AreSoFar (after : Stamp) (selection : List Stamp) (listed : List Word
   pub count : pieces.texts.count ≡ so_far.count
   pub element : pieces.texts.behind ≡ behind after so_far.cells
   pub sel : with_stamps pieces.selected.items selection ≡ so_far.sel
-  pub tags : all_listed (map (λ w. string_bytes w) pieces.names.items) listed ≡ so_far.tags
-  pub last : option_map (λ names. map (λ w. string_bytes w) names.items) pieces.last ≡ option_map (λ cell. names_on cell.state) (last_of None so_far.cells)
+  pub tags : all_listed (as_words pieces.names.items) listed ≡ so_far.tags
+  pub last : option_map (λ names. as_words names.items) pieces.last ≡ option_map (λ cell. names_on cell.state) (last_of None so_far.cells)
 
 -- the plan that the pieces make, with the characters between two others
 pub record ArePlanned (plan : Plan) (pieces : PlannedPieces) (between : Option Between) : Type 0 where

@@ -1,11 +1,12 @@
 -- Removal of characters (Tk text manual): which places it takes, how many operations it is, and what is left.
-use Rattle.std.specs.Prelude.{ℕ, zero, suc, ◌+◌, ◌-◌, ◌/◌, ◌≤◌, ◌<◌, ◌&&◌, ◌||◌, not, nat_lt, nat_le, Bool, true, false, List, [], ◌∷◌, length, filter, slice_get, option_map, unwrap_or, ⊤, if◌then◌else◌}
+use Rattle.std.specs.Prelude.{ℕ, zero, suc, ◌+◌, ◌-◌, ◌≤◌, ◌<◌, ◌&&◌, ◌||◌, not, nat_lt, nat_le, Bool, true, false, List, [], ◌∷◌, length, filter, slice_get, option_map, unwrap_or, ⊤, if◌then◌else◌}
 use Rattle.std.specs.List.{list_any}
 use Rattle.rt_stamps.specs.declared.limits.TheConstants.{MOST_SPANS}
 use Rattle.rt_stamps.specs.declared.stamp.Stamp.{Stamp}
 use Rattle.rt_stamps.specs.Places.{is_newline}
 use Rattle.rt_stamps.specs.Stamps.{is_same}
 use Rattle.rt_store.specs.declared.cell.Cell.{Cell}
+use Rattle.rt_edits.specs.NamedSpans.{parts_for}
 use Rattle.rt_edits.specs.declared.range.Range.{Range}
 
 -- a place is in a range
@@ -66,7 +67,7 @@ span_count stamps = length (filter (λ stamp. not (list_any (λ other. is_same o
 
 -- an operation has at most MOST_SPANS spans
 abbrev pub operations_for : ℕ → ℕ
-operations_for spans = (spans + (MOST_SPANS - 1)) / MOST_SPANS
+operations_for spans = parts_for MOST_SPANS spans
 
 -- ranges in the text's order, from a place on: none is empty, and each begins where the one before it has ended or later
 abbrev pub AreInOrder : ℕ → List Range → Type 0

@@ -1,6 +1,7 @@
 // Deletions and tag writes, as the operations that they make.
-ghost use Rattle.std.specs.Prelude.{◌≡◌, ℕ, ◌<◌, ◌≤◌, ◌++◌, ◌&&◌, All, IfOk, IsOkUnless, OnOk, [], is_some, length, map, not, option_map, slice_get, string_bytes, unwrap_or};
+ghost use Rattle.std.specs.Prelude.{◌≡◌, ℕ, ◌<◌, ◌≤◌, ◌++◌, ◌&&◌, All, IfOk, IsOkUnless, OnOk, [], is_some, length, map, not, option_map, slice_get, unwrap_or};
 ghost use Rattle.rt_stamps.specs.declared.limits.TheConstants.{MOST_SPANS};
+ghost use Rattle.rt_stamps.specs.Words.{as_words};
 ghost use Rattle.rt_ops.specs.Edits.{body_of};
 ghost use Rattle.rt_store.specs.Cells.{AreDistinct, text_of, visible_of};
 ghost use Rattle.rt_store.specs.Shown.{shown};
@@ -174,7 +175,7 @@ fn taken_off(
     requires names { All IsName tags.now.names }
     ensures ok { IfOk result (λ drafts. (flat : Flat) → AreWritten flat.count flat.cells → AreListed tags.now.names flat.cells
         → visible_of flat.cells ≡ map (shown states.now) cells.now
-        → map body_of drafts.items ≡ deletion_drafts MOST_SPANS flat (map (λ w. string_bytes w) names.now)) }
+        → map body_of drafts.items ≡ deletion_drafts MOST_SPANS flat (as_words names.now)) }
     ensures err { IsOkUnless result Fault.NoMemory }
 {
     // `sel` is seen from the start
@@ -204,7 +205,7 @@ pub fn planned_tag_deletion<S: TextStore>(
     requires listed { AreListed tags.now.names (map (shown states.now) (S.list store.now)) }
     ensures ok { IfOk result (λ drafts. (flat : Flat) → AreWritten flat.count flat.cells
         → flat.cells ≡ map (shown states.now) (S.list store.now)
-        → map body_of drafts.items ≡ deletion_drafts MOST_SPANS flat (map (λ w. string_bytes w) names.now)) }
+        → map body_of drafts.items ≡ deletion_drafts MOST_SPANS flat (as_words names.now)) }
     ensures err { IsOkUnless result Fault.NoMemory }
 {
     let all = [Range {

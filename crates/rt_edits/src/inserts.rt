@@ -1,6 +1,7 @@
 // The operations of one text with its tags.
-ghost use Rattle.std.specs.Prelude.{◌≡◌, ◌⊎◌, ◌+◌, ◌-◌, ◌<◌, ◌≤◌, ◌++◌, ◌∷◌, [], IfOk, IfErr, IsOkUnless, OnOk, true, length, map, string_bytes, take, drop};
+ghost use Rattle.std.specs.Prelude.{◌≡◌, ◌⊎◌, ◌+◌, ◌-◌, ◌<◌, ◌≤◌, ◌++◌, ◌∷◌, [], IfOk, IfErr, IsOkUnless, OnOk, true, length, map, take, drop};
 ghost use Rattle.rt_stamps.specs.declared.limits.TheConstants.{GREATEST_COUNT, MOST_CHARACTERS, MOST_TAGS};
+ghost use Rattle.rt_stamps.specs.Words.{as_words};
 ghost use Rattle.rt_ops.specs.Edits.{body_of};
 ghost use Rattle.rt_ops.specs.Operations.{Insert, Tag};
 ghost use Rattle.rt_edits.specs.InsertionDrafts.{behind, tags_on, text_drafts};
@@ -15,7 +16,7 @@ use std::alloc::Global;
 
 /// Copies of names. Want of memory.
 pub(crate) fn copied(alloc: Global, names: &[String]) -> Result<Vec<String>, Fault>
-    ensures ok { IfOk result (λ v. map (λ w. string_bytes w) v.items ≡ map (λ w. string_bytes w) names.now) }
+    ensures ok { IfOk result (λ v. as_words v.items ≡ as_words names.now) }
     ensures err { IsOkUnless result Fault.NoMemory }
 {
     let mut copies = Vec::with_capacity(alloc, names.len())?;
@@ -46,8 +47,8 @@ pub(crate) fn next_part(text: &[char]) -> (&[char], &[char])
 
 // The names that an Insert lists, and the further ones.
 fn listed_first(names: &[String]) -> (&[String], &[String])
-    ensures listed { map (λ w. string_bytes w) result.0.now ≡ take MOST_TAGS (map (λ w. string_bytes w) names.now) }
-    ensures further { map (λ w. string_bytes w) result.1.now ≡ further_tags (map (λ w. string_bytes w) names.now) }
+    ensures listed { as_words result.0.now ≡ take MOST_TAGS (as_words names.now) }
+    ensures further { as_words result.1.now ≡ further_tags (as_words names.now) }
 {
     names.split_at(names.len().min(MOST_TAGS))
 }
@@ -59,7 +60,7 @@ fn insert_draft(
     names: &[String],
     characters: &[char],
 ) -> Result<Draft, Fault>
-    ensures ok { IfOk result (λ draft. body_of draft ≡ Insert after (map (λ w. string_bytes w) names.now) characters.now) }
+    ensures ok { IfOk result (λ draft. body_of draft ≡ Insert after (as_words names.now) characters.now) }
     ensures err { IsOkUnless result Fault.NoMemory }
 {
     let tags = copied(alloc, names)?;
@@ -88,7 +89,7 @@ fn push_tags(
     span: Span,
     names: &[String],
 ) -> Result<(), Fault>
-    ensures ok { OnOk result (map body_of drafts.new.items ≡ map body_of drafts.old.items ++ tags_on span (map (λ w. string_bytes w) names.now)) }
+    ensures ok { OnOk result (map body_of drafts.new.items ≡ map body_of drafts.old.items ++ tags_on span (as_words names.now)) }
     ensures err { IsOkUnless result Fault.NoMemory }
 {
     for name in names {
@@ -117,9 +118,9 @@ impl Inserts {
     ) -> Result<(), Fault>
         requires { self.old.count + length part.now + (length names.now - MOST_TAGS) ≤ GREATEST_COUNT }
         ensures drafts { OnOk result (map body_of self.new.drafts.items ≡ map body_of self.old.drafts.items
-            ++ Insert self.old.behind (take MOST_TAGS (map (λ w. string_bytes w) names.now)) part.now
+            ++ Insert self.old.behind (take MOST_TAGS (as_words names.now)) part.now
             ∷ tags_on (record { site = site.number; first = self.old.count + 1; last = self.old.count + length part.now })
-            (further_tags (map (λ w. string_bytes w) names.now))) }
+            (further_tags (as_words names.now))) }
         ensures count { OnOk result (self.new.count ≡ self.old.count + length part.now + (length names.now - MOST_TAGS)) }
         ensures behind { OnOk result (self.new.behind ≡ record { count = self.old.count + length part.now; site = site.number }) }
         ensures err { IsOkUnless result Fault.NoMemory }
@@ -154,13 +155,13 @@ impl Inserts {
     ) -> Result<(), Fault>
         requires { self.old.count ≤ GREATEST_COUNT }
         ensures drafts { OnOk result (map body_of self.new.drafts.items ≡ map body_of self.old.drafts.items
-            ++ text_drafts MOST_CHARACTERS site.number self.old.count self.old.behind (map (λ w. string_bytes w) names.now) text.now) }
-        ensures count { OnOk result (self.new.count ≡ self.old.count + counts_for (map (λ w. string_bytes w) names.now) text.now) }
+            ++ text_drafts MOST_CHARACTERS site.number self.old.count self.old.behind (as_words names.now) text.now) }
+        ensures count { OnOk result (self.new.count ≡ self.old.count + counts_for (as_words names.now) text.now) }
         ensures within { OnOk result (self.new.count ≤ GREATEST_COUNT) }
         ensures behind { OnOk result (self.new.behind
-            ≡ behind self.old.behind (tagged_cells site.number self.old.count (map (λ w. string_bytes w) names.now) text.now)) }
+            ≡ behind self.old.behind (tagged_cells site.number self.old.count (as_words names.now) text.now)) }
         ensures err { IfErr result (λ fault. (fault ≡ Fault.NoMemory)
-            ⊎ ((fault ≡ Fault.ClockSpent) × (GREATEST_COUNT < self.old.count + counts_for (map (λ w. string_bytes w) names.now) text.now))) }
+            ⊎ ((fault ≡ Fault.ClockSpent) × (GREATEST_COUNT < self.old.count + counts_for (as_words names.now) text.now))) }
     {
         last_count(self.count, names.len(), text.len())?;
         let mut rest = text;

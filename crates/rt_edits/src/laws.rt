@@ -1,5 +1,5 @@
 // Laws of the definitions, each the contract of a function that does nothing.
-ghost use Rattle.std.specs.Prelude.{◌≡◌, ℕ, ◌-◌, ◌<◌, All, Bool, false, true, map, List, [], ◌∷◌, ◌++◌, take, drop, length, if◌then◌else◌};
+ghost use Rattle.std.specs.Prelude.{◌≡◌, ℕ, ◌-◌, ◌<◌, ◌&&◌, not, All, Bool, false, true, map, List, [], ◌∷◌, ◌++◌, take, drop, length, if◌then◌else◌};
 ghost use Rattle.std.specs.List.{IsDistinct, list_all};
 ghost use Rattle.std.specs.Str.{bytes_eq};
 ghost use Rattle.rt_stamps.specs.declared.stamp.Stamp.{Stamp};
@@ -10,7 +10,7 @@ ghost use Rattle.rt_edits.specs.declared.range.Range.{Range};
 ghost use Rattle.rt_stamps.specs.Words.{Word};
 ghost use Rattle.rt_edits.specs.Flat.{Flat, left_of, put_after};
 ghost use Rattle.rt_store.specs.Shown.{TaggedCell};
-ghost use Rattle.rt_edits.specs.Insertions.{tagged_cells};
+ghost use Rattle.rt_edits.specs.Insertions.{shared_names, tagged_cells};
 ghost use Rattle.rt_edits.specs.Merging.{begins_line};
 ghost use Rattle.rt_edits.specs.Removals.{cells_at, gone_at, is_removed, left_at, span_count};
 ghost use Rattle.rt_edits.specs.DeletionLaws.{CellsHaveTagNames, CharactersAreScalars, InsertionsMayBegin, LeftIsElement, LeftStaysElement, PiecesAreTexts, LossInsertsNone, LossIsCounted, LossIsMade, LossMayBeMade, RangesSpareLast, ReplacementIsCounted, ReplacementIsMade, ReplacementMayBeMade, ReplacementsMayBegin, TagsLeftAreTags};
@@ -19,7 +19,8 @@ ghost use Rattle.rt_edits.specs.NamedSpans.{spans_in};
 ghost use Rattle.rt_store.specs.Spans.{each_next, is_among, is_clear_of, is_in_spans, is_span};
 ghost use Rattle.rt_edits.specs.TagWrites.{AreTagged, cells_beside, cells_but, with_tag, with_tag_at, writes_of};
 ghost use Rattle.rt_store.specs.Written.{AreWritten};
-ghost use Rattle.rt_tags.specs.States.{is_on};
+ghost use Rattle.rt_tags.specs.States.{is_on, names_on};
+ghost use Rattle.rt_tags.specs.Tags.{is_listed, sel};
 
 /// Characters that are inserted stand before the one at the place: so it is where the root and all
 /// cells, gone ones too, have stamps of their own.
@@ -28,6 +29,14 @@ pub fn text_of_insertion()
         → place < length (text_of cells) → text_of (put_after cells (left_of cells place) new) ≡ take place (text_of cells)
         ++ text_of new ++ drop place (text_of cells) }
     ensures new { (site count : ℕ) (names : List Word) (text : List ℕ) → text_of (tagged_cells site count names text) ≡ text }
+{}
+
+/// A list gives each character of new text its names, and no other tag: they are those of the list but `sel`, which is
+/// never the text's.
+pub fn tags_of_insertion()
+    ensures given { (site count : ℕ) (list : List Word) (text : List ℕ)
+        → All (λ cell. names_on cell.state ≡ shared_names list) (tagged_cells site count (shared_names list) text) }
+    ensures listed { (list : List Word) (name : Word) → is_listed name (shared_names list) ≡ (is_listed name list && not (bytes_eq name sel)) }
 {}
 
 /// A removal leaves the characters at the other places. One range before the last newline goes as

@@ -1,11 +1,11 @@
 // Which tags are listed, and which characters are selected.
-ghost use Rattle.std.specs.Prelude.{◌≡◌, ◌<◌, ◌≤◌, All, IsOkUnless, OnOk, OnErr, true, length, map, string_bytes, if◌then◌else◌};
+ghost use Rattle.std.specs.Prelude.{◌≡◌, ◌<◌, ◌≤◌, All, IsOkUnless, OnOk, OnErr, true, length, if◌then◌else◌};
+ghost use Rattle.rt_stamps.specs.Words.{as_words};
 ghost use Rattle.rt_store.specs.Cells.{visible_of};
-ghost use Rattle.rt_tags.specs.Tags.{IsName, is_ready, with_name};
+ghost use Rattle.rt_tags.specs.Tags.{IsName, all_forgotten, is_ready, with_name};
 ghost use Rattle.rt_edits.specs.Removals.{AreInOrder, is_covered, stamps_at};
 ghost use Rattle.rt_edits.specs.Selected.{selected_stamps};
 ghost use Rattle.rt_edits.specs.Selections.{selection_with};
-ghost use Rattle.rt_edits.specs.Names.{all_forgotten};
 
 use crate::Range;
 use crate::selection::Selection;
@@ -67,7 +67,7 @@ pub fn list_if(tags: &mut TagTable, on: bool, name: &str)
 
 /// Forgets names, at once. It takes no memory.
 pub fn forget_all(tags: &mut TagTable, names: &[String])
-    ensures { tags.new.names ≡ all_forgotten (map (λ w. string_bytes w) names.now) tags.old.names }
+    ensures { tags.new.names ≡ all_forgotten (as_words names.now) tags.old.names }
 {
     tags.forget_all(names);
 }

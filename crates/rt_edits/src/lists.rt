@@ -1,6 +1,7 @@
 // Lists of tags, and the characters of a text.
-ghost use Rattle.std.specs.Prelude.{◌≡◌, ◌++◌, ◌∷◌, [], All, IfOk, IsOkUnless, IfSome, OnOk, false, length, map, filter, not, string_bytes};
+ghost use Rattle.std.specs.Prelude.{◌≡◌, ◌++◌, ◌∷◌, [], All, IfOk, IsOkUnless, IfSome, OnOk, false, length, map, filter, not};
 ghost use Rattle.std.specs.Str.{bytes_eq, chars};
+ghost use Rattle.rt_stamps.specs.Words.{as_words};
 ghost use Rattle.rt_tags.specs.States.{IsState, IsTag, KeepsIds, is_on, name_at, names_on, state_at};
 ghost use Rattle.rt_tags.specs.Tags.{is_listed, sel};
 ghost use Rattle.rt_edits.specs.Insertions.{shared_names};
@@ -34,7 +35,7 @@ fn tags_of_list(
     names: &[String],
 ) -> Result<Vec<TagId>, Fault>
     ensures ok { IfOk result (λ tags. map (name_at states.new) tags.items ≡ filter
-        (λ name. not (bytes_eq name sel)) (map (λ w. string_bytes w) names.now)) }
+        (λ name. not (bytes_eq name sel)) (as_words names.now)) }
     ensures given { IfOk result (λ tags. All (IsTag states.new) tags.items) }
     ensures ids { KeepsIds states.old states.new }
     ensures err { IsOkUnless result Fault.NoMemory }
@@ -53,7 +54,7 @@ pub(crate) fn shared_tags(
     states: &mut StateTable,
     names: &[String],
 ) -> Result<Vec<TagId>, Fault>
-    ensures ok { IfOk result (λ tags. map (name_at states.new) tags.items ≡ shared_names (map (λ w. string_bytes w) names.now)) }
+    ensures ok { IfOk result (λ tags. map (name_at states.new) tags.items ≡ shared_names (as_words names.now)) }
     ensures given { IfOk result (λ tags. All (IsTag states.new) tags.items) }
     ensures ids { KeepsIds states.old states.new }
     ensures err { IsOkUnless result Fault.NoMemory }
@@ -111,7 +112,7 @@ pub(crate) fn characters_of(alloc: Global, text: &str) -> Result<Text, Fault>
 
 /// Whether a list names `sel`.
 pub(crate) fn names_sel(names: &[String]) -> bool
-    ensures { result ≡ is_listed sel (map (λ w. string_bytes w) names.now) }
+    ensures { result ≡ is_listed sel (as_words names.now) }
 {
     for name in names {
         if name.as_str() == "sel" {

@@ -1,5 +1,6 @@
 // Pieces of text to insert.
-ghost use Rattle.std.specs.Prelude.{◌≡◌, All, IsUtf8, map, string_bytes};
+ghost use Rattle.std.specs.Prelude.{◌≡◌, All, IsUtf8, string_bytes};
+ghost use Rattle.rt_stamps.specs.Words.{as_words};
 
 use std::marker::Model;
 
@@ -11,18 +12,19 @@ pub struct Piece {
 }
 
 impl Model for Piece {
-    ghost use Rattle.std.specs.Prelude.{map, string_bytes};
+    ghost use Rattle.std.specs.Prelude.{string_bytes};
+    ghost use Rattle.rt_stamps.specs.Words.{as_words};
     ghost use Rattle.rt_edits.specs.Insertions.{Piece};
 
     ghost Value = { Piece };
 
-    ghost view = { λ p. record { text = string_bytes p.text; tags = map (λ w. string_bytes w) p.tags.items } };
+    ghost view = { λ p. record { text = string_bytes p.text; tags = as_words p.tags.items } };
 }
 
 impl Piece {
     /// A text with the names of its tags, in any order, repeated or not.
     pub fn new(text: String, tags: Vec<String>) -> Piece
-        ensures { result ≡ record { text = string_bytes text; tags = map (λ w. string_bytes w) tags.items } }
+        ensures { result ≡ record { text = string_bytes text; tags = as_words tags.items } }
     {
         Piece { text, tags }
     }
@@ -36,7 +38,7 @@ impl Piece {
 
     /// The names of the tags.
     pub fn tags(&self) -> &[String]
-        ensures { map (λ w. string_bytes w) result.now ≡ self.now.tags }
+        ensures { as_words result.now ≡ self.now.tags }
     {
         &self.tags
     }

@@ -1,9 +1,9 @@
 // Pieces of text with lists, as they are planned.
-ghost use Rattle.std.specs.Prelude.{◌≡◌, ◌⊎◌, ◌+◌, ◌<◌, ◌≤◌, ◌++◌, [], All, IfOk, IfErr, IsOkUnless, OnOk, List, None, Some, length, map, option_map, string_bytes};
+ghost use Rattle.std.specs.Prelude.{◌≡◌, ◌⊎◌, ◌+◌, ◌<◌, ◌≤◌, ◌++◌, [], All, IfOk, IfErr, IsOkUnless, OnOk, List, None, Some, length, map, option_map};
 ghost use Rattle.std.specs.Str.{chars};
 ghost use Rattle.rt_stamps.specs.declared.limits.TheConstants.{GREATEST_COUNT, MOST_CHARACTERS};
 ghost use Rattle.rt_stamps.specs.declared.stamp.Stamp.{Stamp};
-ghost use Rattle.rt_stamps.specs.Words.{Word};
+ghost use Rattle.rt_stamps.specs.Words.{Word, as_words};
 ghost use Rattle.rt_ops.specs.Edits.{body_of};
 ghost use Rattle.rt_tags.specs.States.{IsTag, name_at};
 ghost use Rattle.rt_edits.specs.InsertionDrafts.{behind, pieces_drafts, text_drafts};
@@ -25,7 +25,7 @@ pub(crate) fn names_of(
     tags: &[TagId],
 ) -> Result<Vec<String>, Fault>
     requires { All (IsTag states.now) tags.now }
-    ensures ok { IfOk result (λ v. map (λ w. string_bytes w) v.items ≡ map (name_at states.now) tags.now) }
+    ensures ok { IfOk result (λ v. as_words v.items ≡ map (name_at states.now) tags.now) }
     ensures err { IsOkUnless result Fault.NoMemory }
 {
     let mut names = Vec::with_capacity(alloc, tags.len())?;
@@ -37,7 +37,7 @@ pub(crate) fn names_of(
 
 // The names of a list by their bytes, each once, but for `sel`.
 fn shared_names(alloc: Global, names: &[String]) -> Result<Vec<String>, Fault>
-    ensures ok { IfOk result (λ v. map (λ w. string_bytes w) v.items ≡ shared_names (map (λ w. string_bytes w) names.now)) }
+    ensures ok { IfOk result (λ v. as_words v.items ≡ shared_names (as_words names.now)) }
     ensures err { IsOkUnless result Fault.NoMemory }
 {
     let mut states = StateTable::new(alloc)?;
@@ -92,19 +92,19 @@ impl PlannedPieces {
         requires count { self.old.texts.count ≤ GREATEST_COUNT }
         requires characters { self.old.characters ≤ self.old.texts.count }
         ensures drafts { OnOk result (map body_of self.new.texts.drafts.items ≡ map body_of self.old.texts.drafts.items
-            ++ text_drafts MOST_CHARACTERS site.number self.old.texts.count self.old.texts.behind (map (λ w. string_bytes w) names.now) text.now) }
+            ++ text_drafts MOST_CHARACTERS site.number self.old.texts.count self.old.texts.behind (as_words names.now) text.now) }
         ensures characters { OnOk result (self.new.characters ≡ self.old.characters + length text.now) }
         ensures few { OnOk result (self.new.characters ≤ self.new.texts.count) }
-        ensures count { OnOk result (self.new.texts.count ≡ self.old.texts.count + counts_for (map (λ w. string_bytes w) names.now) text.now) }
+        ensures count { OnOk result (self.new.texts.count ≡ self.old.texts.count + counts_for (as_words names.now) text.now) }
         ensures within { OnOk result (self.new.texts.count ≤ GREATEST_COUNT) }
         ensures behind { OnOk result (self.new.texts.behind ≡ behind self.old.texts.behind
-            (tagged_cells site.number self.old.texts.count (map (λ w. string_bytes w) names.now) text.now)) }
-        ensures names { OnOk result (map (λ w. string_bytes w) self.new.names.items
-            ≡ map (λ w. string_bytes w) self.old.names.items ++ map (λ w. string_bytes w) names.now) }
+            (tagged_cells site.number self.old.texts.count (as_words names.now) text.now)) }
+        ensures names { OnOk result (as_words self.new.names.items
+            ≡ as_words self.old.names.items ++ as_words names.now) }
         ensures selected { self.new.selected ≡ self.old.selected }
         ensures last { self.new.last ≡ self.old.last }
         ensures err { IfErr result (λ fault. (fault ≡ Fault.NoMemory) ⊎ ((fault ≡ Fault.ClockSpent)
-            × (GREATEST_COUNT < self.old.texts.count + counts_for (map (λ w. string_bytes w) names.now) text.now))) }
+            × (GREATEST_COUNT < self.old.texts.count + counts_for (as_words names.now) text.now))) }
     {
         self.texts.push_text(alloc, site, names, text)?;
         let mut more = copied(alloc, names)?;

@@ -1,13 +1,15 @@
 // The stamps of new characters.
-ghost use Rattle.std.specs.Prelude.{◌≡◌, ℕ, ◌+◌, ◌≤◌, ◌++◌, IfOk, IsOkUnless, List, OnOk, length, map, string_bytes};
+ghost use Rattle.std.specs.Prelude.{◌≡◌, ℕ, ◌+◌, ◌≤◌, ◌++◌, IfOk, IsOkUnless, List, OnOk, length};
 ghost use Rattle.rt_stamps.specs.declared.limits.TheConstants.{GREATEST_COUNT};
 ghost use Rattle.rt_stamps.specs.declared.stamp.Stamp.{Stamp};
+ghost use Rattle.rt_stamps.specs.Words.{as_words};
 ghost use Rattle.rt_store.specs.Cells.{cells_from, stamps_of};
 ghost use Rattle.rt_edits.specs.Insertions.{counts_for, selected_if, tagged_cells};
 ghost use Rattle.rt_edits.specs.Selections.{with_stamps};
 
 use crate::counts::further;
 use crate::inserts::next_part;
+use rt_rga::Few;
 use rt_stamps::{Fault, Site, Stamp};
 use std::alloc::Global;
 use std::marker::Model;
@@ -17,23 +19,17 @@ use std::slice;
 /// a list of stamps.
 #[derive(Drop)]
 pub struct Stamps {
-    kept: Kept,
-}
-
-#[derive(Drop)]
-enum Kept {
-    One(Stamp),
-    Many(Vec<Stamp>),
+    kept: Few<Stamp>,
 }
 
 impl Model for Stamps {
     ghost use Rattle.std.specs.Prelude.{List};
     ghost use Rattle.rt_stamps.specs.declared.stamp.Stamp.{Stamp};
-    ghost use Rattle.rt_edits.specs.NewStamps.{kept_stamps};
+    ghost use Rattle.rt_rga.specs.Few.{items_in};
 
     ghost Value = { List Stamp };
 
-    ghost view = { λ stamps. kept_stamps stamps.kept };
+    ghost view = { λ stamps. items_in stamps.kept };
 }
 
 // Adds the stamps of the characters of one Insert, with counts from `first` on.
@@ -66,9 +62,9 @@ fn push_stamps(
     names: &[String],
     text: &[char],
 ) -> Result<(), Fault>
-    requires { count + counts_for (map (λ w. string_bytes w) names.now) text.now ≤ GREATEST_COUNT }
+    requires { count + counts_for (as_words names.now) text.now ≤ GREATEST_COUNT }
     ensures ok { OnOk result (stamps.new.items ≡ stamps.old.items
-        ++ stamps_of (tagged_cells site.number count (map (λ w. string_bytes w) names.now) text.now)) }
+        ++ stamps_of (tagged_cells site.number count (as_words names.now) text.now)) }
     ensures err { IsOkUnless result Fault.NoMemory }
 {
     let more_tags = further(names.len()) as u64;
@@ -92,9 +88,9 @@ pub(crate) fn select_new(
     names: &[String],
     text: &[char],
 ) -> Result<(), Fault>
-    requires { count + counts_for (map (λ w. string_bytes w) names.now) text.now ≤ GREATEST_COUNT }
+    requires { count + counts_for (as_words names.now) text.now ≤ GREATEST_COUNT }
     ensures selected { OnOk result ((selection : List Stamp) → with_stamps selected.new.items selection
-        ≡ selected_if asked (stamps_of (tagged_cells site.number count (map (λ w. string_bytes w) names.now) text.now)) (with_stamps selected.old.items selection)) }
+        ≡ selected_if asked (stamps_of (tagged_cells site.number count (as_words names.now) text.now)) (with_stamps selected.old.items selection)) }
     ensures err { IsOkUnless result Fault.NoMemory }
 {
     if asked {
@@ -113,9 +109,9 @@ impl Stamps {
         names: &[String],
         text: &[char],
     ) -> Result<Stamps, Fault>
-        requires { count + counts_for (map (λ w. string_bytes w) names.now) text.now ≤ GREATEST_COUNT }
+        requires { count + counts_for (as_words names.now) text.now ≤ GREATEST_COUNT }
         ensures ok { IfOk result (λ stamps. stamps
-            ≡ stamps_of (tagged_cells site.number count (map (λ w. string_bytes w) names.now) text.now)) }
+            ≡ stamps_of (tagged_cells site.number count (as_words names.now) text.now)) }
         ensures err { IsOkUnless result Fault.NoMemory }
     {
         if text.len() == 1 {
@@ -124,13 +120,13 @@ impl Stamps {
                 site: site.number(),
             };
             return Ok(Stamps {
-                kept: Kept::One(stamp),
+                kept: Few::One(stamp),
             });
         }
         let mut stamps = Vec::with_capacity(alloc, text.len())?;
         push_stamps(&mut stamps, site, count, names, text)?;
         Ok(Stamps {
-            kept: Kept::Many(stamps),
+            kept: Few::Many(stamps),
         })
     }
 
@@ -139,8 +135,8 @@ impl Stamps {
         ensures { result.now ≡ self.now }
     {
         match &self.kept {
-            Kept::One(stamp) => slice::from_ref(stamp),
-            Kept::Many(stamps) => stamps.as_slice(),
+            Few::One(stamp) => slice::from_ref(stamp),
+            Few::Many(stamps) => stamps.as_slice(),
         }
     }
 }

@@ -1,9 +1,9 @@
 // Text without a list, behind the pieces that are planned.
-ghost use Rattle.std.specs.Prelude.{◌≡◌, ◌⊎◌, ◌+◌, ◌<◌, ◌≤◌, ◌++◌, ◌&&◌, ◌||◌, [], IfOk, IfErr, IsOkUnless, IfSome, OnOk, List, None, Some, filter, is_some, length, map, option_map, string_bytes, if◌then◌else◌};
+ghost use Rattle.std.specs.Prelude.{◌≡◌, ◌⊎◌, ◌+◌, ◌<◌, ◌≤◌, ◌++◌, ◌&&◌, ◌||◌, [], IfOk, IfErr, IsOkUnless, IfSome, OnOk, List, None, Some, filter, is_some, length, map, option_map, if◌then◌else◌};
 ghost use Rattle.std.specs.Str.{chars};
 ghost use Rattle.rt_stamps.specs.declared.limits.TheConstants.{GREATEST_COUNT, MOST_CHARACTERS};
 ghost use Rattle.rt_stamps.specs.declared.stamp.Stamp.{Stamp};
-ghost use Rattle.rt_stamps.specs.Words.{Word};
+ghost use Rattle.rt_stamps.specs.Words.{Word, as_words};
 ghost use Rattle.rt_ops.specs.Edits.{body_of};
 ghost use Rattle.rt_store.specs.Shown.{TaggedCell, shown};
 ghost use Rattle.rt_store.specs.Spans.{is_among};
@@ -45,8 +45,8 @@ fn names_also(
     state: StateId,
 ) -> Result<Vec<String>, Fault>
     requires { IsState states.now state }
-    ensures ok { IfOk result (λ v. map (λ w. string_bytes w) v.items
-        ≡ filter (λ name. is_on name (state_at states.now state)) (map (λ w. string_bytes w) names.now)) }
+    ensures ok { IfOk result (λ v. as_words v.items
+        ≡ filter (λ name. is_on name (state_at states.now state)) (as_words names.now)) }
     ensures err { IsOkUnless result Fault.NoMemory }
 {
     let mut both = Vec::new(alloc);
@@ -67,7 +67,7 @@ fn names_of_both(
 ) -> Result<Vec<String>, Fault>
     requires left { IfSome left (λ cell. IsState states.now cell.state) }
     requires right { IsState states.now right.state }
-    ensures ok { IfOk result (λ v. map (λ w. string_bytes w) v.items
+    ensures ok { IfOk result (λ v. as_words v.items
         ≡ tags_between (option_map (shown states.now) left) (Some (shown states.now right))) }
     ensures err { IsOkUnless result Fault.NoMemory }
 {
@@ -93,8 +93,8 @@ impl PlannedPieces {
         requires left { IfSome left (λ cell. IsState states.now cell.state) }
         requires right { IfSome right (λ cell. IsState states.now cell.state) }
         ensures ok { IfOk result (λ v. (cells : List TaggedCell)
-            → option_map (λ names. map (λ w. string_bytes w) names.items) self.now.last ≡ option_map (λ cell. names_on cell.state) (last_of None cells)
-            → map (λ w. string_bytes w) v.items ≡ tags_between (last_of (option_map (shown states.now) left) cells) (option_map (shown states.now) right)) }
+            → option_map (λ names. as_words names.items) self.now.last ≡ option_map (λ cell. names_on cell.state) (last_of None cells)
+            → as_words v.items ≡ tags_between (last_of (option_map (shown states.now) left) cells) (option_map (shown states.now) right)) }
         ensures err { IsOkUnless result Fault.NoMemory }
     {
         let Some(right) = right else {

@@ -5,7 +5,7 @@ use Rattle.std.specs.Fmt.{decimal}
 use Rattle.std.specs.Io.KnownBytes.{Appends}
 use Rattle.std.proofs.lemmas.Grind.{flat_map-append}
 use Rattle.std.proofs.lemmas.List.Folds.{flat_map-map}
-use Rattle.rt_stamps.specs.Words.{Word}
+use Rattle.rt_stamps.specs.Words.{Word, as_words}
 use Rattle.rt_words.specs.Writing.{text_of_word}
 use Rattle.rt_stamps.specs.Written.{AppendsPart, Wrote}
 use Rattle.rt_stamps.proofs.Writes.{flat_map_parts, part_longer, part_then, wrote_then}
@@ -26,9 +26,9 @@ words_wrote f a b c r words xs one more =
 -- the same of names, as texts and as bytes
 pub names_wrote : {T E : Type 0} (a b c : Option (List ℕ)) (r : Result T E) (words : List Word) (names : List (String Global))
     → Appends a b (spaced words) → Wrote b c r (flat_map (λ name. 32 ∷ text_of_word (string_bytes name)) names)
-    → Wrote a c r (spaced (words ++ map text_of_word (map (λ name. string_bytes name) names)))
+    → Wrote a c r (spaced (words ++ map text_of_word (as_words names)))
 names_wrote a b c r words names one more =
-    words_wrote text_of_word a b c r words (map (λ name. string_bytes name) names) one
+    words_wrote text_of_word a b c r words (as_words names) one
     (subst (λ v. Wrote b c r v) (sym (flat_map-map (λ name. 32 ∷ text_of_word name) (λ name. string_bytes name) names)) more)
 
 -- a front of what one element is written as, behind the elements before it

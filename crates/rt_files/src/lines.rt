@@ -1,8 +1,9 @@
 // The lines of operations, written.
-ghost use Rattle.std.specs.Prelude.{◌≡◌, ◌+◌, ◌∷◌, ◌++◌, [], IsOkUnless, codes, map, string_bytes, if◌then◌else◌};
+ghost use Rattle.std.specs.Prelude.{◌≡◌, ◌+◌, ◌∷◌, ◌++◌, [], IsOkUnless, codes, if◌then◌else◌};
 ghost use Rattle.std.specs.Fmt.{decimal};
 ghost use Rattle.rt_stamps.specs.Source.{failures_of};
 ghost use Rattle.rt_stamps.specs.Written.{Wrote};
+ghost use Rattle.rt_stamps.specs.Words.{as_words};
 ghost use Rattle.rt_ops.specs.Edits.{body_of};
 ghost use Rattle.rt_ops.specs.Operations.{Insert, Delete, Tag, stamp_of};
 ghost use Rattle.rt_files.specs.Shown.{kind_of, line_of, lines_of, spaced, text_of_stamp, words_of};
@@ -95,7 +96,7 @@ fn write_insert<W: Sink>(
     text: &[char],
     out: &mut W,
 ) -> Result<(), Fault>
-    ensures wrote { Wrote (W.contents out.old) (W.contents out.new) result (spaced (words_of (Insert after (map string_bytes tags.now) text.now))) }
+    ensures wrote { Wrote (W.contents out.old) (W.contents out.new) result (spaced (words_of (Insert after (as_words tags.now) text.now))) }
     ensures fault { IsOkUnless result Fault.WriteFault }
     ensures failures { W.failures out.new ≡ W.failures out.old + failures_of result }
 {

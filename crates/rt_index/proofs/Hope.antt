@@ -17,7 +17,7 @@ use Rattle.rt_index.specs.declared.parts.Side.TheVariants.{First, Last}
 use Rattle.rt_index.specs.declared.parts.Tag.{Tag}
 use Rattle.rt_index.specs.declared.parts.Base.{Base}
 use Rattle.rt_index.specs.declared.parts.Base.TheVariants.{AtPlace, Named}
-use Rattle.rt_index.specs.Index.{fixed_place, may_end, side_text, moved_from, index_of, word_index, IsHopeless, IsHopeful}
+use Rattle.rt_index.specs.Index.{fixed_place, may_end, side_text, moved_from, index_of, word_index, IsNeverIndex, MayBeIndex}
 use Rattle.rt_index.specs.Expression.{kept_modifier, kept_fixed, tag_after, longest_named, named_after, listed_place, marked_place, base_index, is_always_mark, is_possible, AreNames, IsParsed}
 use Rattle.rt_index.specs.Reading.{is_separator, token_length, fixed_of, modifiers_of}
 use Rattle.rt_index.specs.Widget.{IndexedWidget, TagEnds, IsProper, IsName}
@@ -80,7 +80,7 @@ named_same w word (Some tag) e t = by (w.marks (token_of word)) refl
         not_equal a b h = grind (arith, nat_tests)
 
     by : (o : Option ℕ) → w.marks (token_of word) ≡ o
-        → index_of w word ≡ moved_from w.text (marked_place (tag_after tag == token_length word) o (listed_place tag.side (w.tags (take tag.name word)))) (modifiers_of (drop (tag_after tag) word))
+        → index_of w word ≡ moved_from w.text (marked_place (tag_after tag == token_length word) o (listed_place tag.side (w.tags (take tag.name_len word)))) (modifiers_of (drop (tag_after tag) word))
     by (Some place) m = by_marks w word (Some place) e m ∙ marked place (tag_after tag == token_length word) refl
     by None m = by_marks w word None e m ∙ agree w word (length word) (omega arith) ∙ ap (named_index w word) t
 
@@ -98,13 +98,13 @@ token_boundary word = split (nat_lt (token_length word) (length word))
     let q : length word ≡ token_length word = omega (arith, token_within word, at_least (token_length word) (length word) e) in
     subst (IsCharBoundary word) q (IsCharBoundary-end word))
 
-name_boundary : (word : List ℕ) (tag : Tag) (n : ℕ) → Stands word tag n → IsCharBoundary word tag.name
+name_boundary : (word : List ℕ) (tag : Tag) (n : ℕ) → Stands word tag n → IsCharBoundary word tag.name_len
 name_boundary word tag n s =
     let some = side_some tag.side in
-    let low : tag.name < n = omega (arith, s.after) in
-    let z : tag.name - tag.name ≡ 0 = omega arith in
-    let dot = end_byte word tag n tag.name s (omega arith) low ∙ ap (λ k. get_or (side_text tag.side) k 0) z ∙ begins_with_dot tag.side in
-    IsCharBoundary-before_ascii word tag.name (omega (arith, s.within)) (omega (arith, dot))
+    let low : tag.name_len < n = omega (arith, s.after) in
+    let z : tag.name_len - tag.name_len ≡ 0 = omega arith in
+    let dot = end_byte word tag n tag.name_len s (omega arith) low ∙ ap (λ k. get_or (side_text tag.side) k 0) z ∙ begins_with_dot tag.side in
+    IsCharBoundary-before_ascii word tag.name_len (omega (arith, s.within)) (omega (arith, dot))
 
 are_names : (word : List ℕ) (fits : Bool) (tag : Option Tag) → longest_named word (length word) ≡ tag → AreNames word (Named (token_length word) fits tag)
 are_names word fits None t = token_boundary word
@@ -131,8 +131,8 @@ base_within w word (AtPlace fixed) proper = fixed_within w.text fixed
 base_within w word (Named token fits None) proper =
     marked_within (length w.text) fits (w.marks (take token word)) (Err BadIndex) (proper.marks_within (take token word)) tt
 base_within w word (Named token fits (Some tag)) proper =
-    marked_within (length w.text) fits (w.marks (take token word)) (listed_place tag.side (w.tags (take tag.name word))) (proper.marks_within (take token word))
-    (listed_within w (take tag.name word) tag.side (w.tags (take tag.name word)) proper refl)
+    marked_within (length w.text) fits (w.marks (take token word)) (listed_place tag.side (w.tags (take tag.name_len word))) (proper.marks_within (take token word))
+    (listed_within w (take tag.name_len word) tag.side (w.tags (take tag.name_len word)) proper refl)
 
 -- what is kept says what the word says
 pub parsed_fixed : (word : List ℕ) (fixed shown : Fixed) (ms items : List Modifier) → fixed_of (token_of word) ≡ Some fixed → kept_fixed fixed ≡ shown
@@ -163,7 +163,7 @@ parsed_named word tag ms items e t m i =
     }
 
 pub hopeless_rest : (word : List ℕ) (tag : Option Tag) → fixed_of (token_of word) ≡ None → longest_named word (length word) ≡ tag
-    → modifiers_of (drop (named_after (token_length word) tag) word) ≡ None → IsHopeless word
+    → modifiers_of (drop (named_after (token_length word) tag) word) ≡ None → IsNeverIndex word
 hopeless_rest word tag e t m = λ w proper.
     let base = base_index w word (Named (token_length word) (named_after (token_length word) tag == token_length word) tag) in
     named_same w word tag e t ∙ ap (moved_from w.text base) m ∙ none_bad w.text base
@@ -226,7 +226,7 @@ unfit true p h = cc
 unfit false p h = refl
 
 pub hopeless_base : (word : List ℕ) (tag : Option Tag) → fixed_of (token_of word) ≡ None → longest_named word (length word) ≡ tag
-    → is_possible (token_of word) (named_after (token_length word) tag == token_length word) tag ≡ false → IsHopeless word
+    → is_possible (token_of word) (named_after (token_length word) tag == token_length word) tag ≡ false → IsNeverIndex word
 hopeless_base word tag e t h = λ w proper.
     let rest = modifiers_of (drop (named_after (token_length word) tag) word) in
     named_same w word tag e t ∙ ap (λ b. moved_from w.text b rest) (nothing w proper tag t h) ∙ bad w.text rest
@@ -243,26 +243,26 @@ hopeless_base word tag e t h = λ w proper.
             (no_fit (token_length word == token_length word) (is_name_length (length (token_of word))) false
             (or_false (token_length word == token_length word && is_name_length (length (token_of word))) h)
             (name_true (token_of word) (proper.mark_names (token_of word) (some_is (w.marks (token_of word)) p m))))
-    nothing w proper (Some tag) t h = by (w.marks (token_of word)) (w.tags (take tag.name word)) refl refl
+    nothing w proper (Some tag) t h = by (w.marks (token_of word)) (w.tags (take tag.name_len word)) refl refl
       where
         always : (a b : Bool) → a ≡ true → (a && not b) ≡ false → b ≡ true
         always true true k h = refl
         always true false k h = sym h
         always false b k h = cc
 
-        by : (o : Option ℕ) (l : Option (Option TagEnds)) → w.marks (token_of word) ≡ o → w.tags (take tag.name word) ≡ l
+        by : (o : Option ℕ) (l : Option (Option TagEnds)) → w.marks (token_of word) ≡ o → w.tags (take tag.name_len word) ≡ l
             → marked_place (tag_after tag == token_length word) o (listed_place tag.side l) ≡ Err BadIndex
         by (Some p) l m k =
             unfit (tag_after tag == token_length word) p
-            (no_fit (tag_after tag == token_length word) (is_name_length (length (token_of word))) (is_name_length tag.name && not (is_always_mark (token_of word))) h
+            (no_fit (tag_after tag == token_length word) (is_name_length (length (token_of word))) (is_name_length tag.name_len && not (is_always_mark (token_of word))) h
             (name_true (token_of word) (proper.mark_names (token_of word) (some_is (w.marks (token_of word)) p m))))
         by None None m k = refl
         by None (Some ends) m k =
             let stands = (found_at word (length word) tag (omega arith) t).0 in
-            let len : length (take tag.name word) ≡ tag.name = length-take-le tag.name word (omega (arith, stands.within)) in
-            let named = name_true (take tag.name word) (proper.tag_names (take tag.name word) (some_is (w.tags (take tag.name word)) ends k)) in
-            let q = no_other ((tag_after tag == token_length word) && is_name_length (length (token_of word))) (is_name_length tag.name && not (is_always_mark (token_of word))) h in
-            let r = always (is_name_length tag.name) (is_always_mark (token_of word)) (sym (ap is_name_length len) ∙ named) q in
+            let len : length (take tag.name_len word) ≡ tag.name_len = length-take-le tag.name_len word (omega (arith, stands.within)) in
+            let named = name_true (take tag.name_len word) (proper.tag_names (take tag.name_len word) (some_is (w.tags (take tag.name_len word)) ends k)) in
+            let q = no_other ((tag_after tag == token_length word) && is_name_length (length (token_of word))) (is_name_length tag.name_len && not (is_always_mark (token_of word))) h in
+            let r = always (is_name_length tag.name_len) (is_always_mark (token_of word)) (sym (ap is_name_length len) ∙ named) q in
             absurd (not_none (w.marks (token_of word)) m (always_marked w (token_of word) proper r))
 
 -- a widget of one newline that has a mark and lists a tag
@@ -350,7 +350,7 @@ bytes_same : (name : List ℕ) → bytes_eq name name ≡ true
 bytes_same name = (bytes_eq-Decides name name).1 refl
 
 pub hopeful_fixed : (word : List ℕ) (fixed : Fixed) (ms : List Modifier) → fixed_of (token_of word) ≡ Some fixed
-    → modifiers_of (drop (token_length word) word) ≡ Some ms → IsHopeful word
+    → modifiers_of (drop (token_length word) word) ≡ Some ms → MayBeIndex word
 hopeful_fixed word fixed ms e m =
     let w = sample (codes "insert") (codes "sel") in (
       w,
@@ -362,11 +362,11 @@ base_fits : (w : IndexedWidget) (word : List ℕ) (token : ℕ) (fits : Bool) (t
     → base_index w word (Named token fits tag) ≡ Ok p
 base_fits w word token fits None p m f = ap (λ o. marked_place fits o (Err BadIndex)) m ∙ ap (λ b. cond b (Ok p) (Err BadIndex)) f
 base_fits w word token fits (Some tag) p m f =
-    ap (λ o. marked_place fits o (listed_place tag.side (w.tags (take tag.name word)))) m ∙ ap (λ b. cond b (Ok p) (Err BadIndex)) f
+    ap (λ o. marked_place fits o (listed_place tag.side (w.tags (take tag.name_len word)))) m ∙ ap (λ b. cond b (Ok p) (Err BadIndex)) f
 
 by_mark : (word : List ℕ) (tag : Option Tag) (ms : List Modifier) → fixed_of (token_of word) ≡ None → longest_named word (length word) ≡ tag
     → modifiers_of (drop (named_after (token_length word) tag) word) ≡ Some ms
-    → (named_after (token_length word) tag == token_length word) ≡ true → is_name_length (length (token_of word)) ≡ true → IsHopeful word
+    → (named_after (token_length word) tag == token_length word) ≡ true → is_name_length (length (token_of word)) ≡ true → MayBeIndex word
 by_mark word tag ms e t m f n =
     let w = sample (token_of word) (codes "sel") in
     let fits = named_after (token_length word) tag == token_length word in
@@ -379,12 +379,12 @@ by_mark word tag ms e t m f n =
     )
 
 by_tag : (word : List ℕ) (tag : Tag) (ms : List Modifier) → fixed_of (token_of word) ≡ None → longest_named word (length word) ≡ Some tag
-    → modifiers_of (drop (tag_after tag) word) ≡ Some ms → is_name_length tag.name ≡ true → is_always_mark (token_of word) ≡ false → IsHopeful word
+    → modifiers_of (drop (tag_after tag) word) ≡ Some ms → is_name_length tag.name_len ≡ true → is_always_mark (token_of word) ≡ false → MayBeIndex word
 by_tag word tag ms e t m n a =
-    let name = take tag.name word in
+    let name = take tag.name_len word in
     let w = sample (codes "insert") name in
     let stands = (found_at word (length word) tag (omega arith) t).0 in
-    let len : length name ≡ tag.name = length-take-le tag.name word (omega (arith, stands.within)) in
+    let len : length name ≡ tag.name_len = length-take-le tag.name_len word (omega (arith, stands.within)) in
     let fits = tag_after tag == token_length word in
     let unmarked : w.marks (token_of word) ≡ None = no_mark (bytes_eq (token_of word) (codes "insert")) (bytes_eq (token_of word) (codes "current")) a in
     let listed : w.tags name ≡ Some None = ap (λ b. untagged (b || bytes_eq name (codes "sel"))) (bytes_same name) in
@@ -405,18 +405,18 @@ by_tag word tag ms e t m n a =
 -- words with a base that some widget has
 pub hopeful_named : (word : List ℕ) (tag : Option Tag) (ms : List Modifier) → fixed_of (token_of word) ≡ None → longest_named word (length word) ≡ tag
     → modifiers_of (drop (named_after (token_length word) tag) word) ≡ Some ms
-    → is_possible (token_of word) (named_after (token_length word) tag == token_length word) tag ≡ true → IsHopeful word
+    → is_possible (token_of word) (named_after (token_length word) tag == token_length word) tag ≡ true → MayBeIndex word
 hopeful_named word None ms e t m h = by (token_length word == token_length word) (is_name_length (length (token_of word))) refl refl h
   where
-    by : (f n : Bool) → (token_length word == token_length word) ≡ f → is_name_length (length (token_of word)) ≡ n → (f && n) ≡ true → IsHopeful word
+    by : (f n : Bool) → (token_length word == token_length word) ≡ f → is_name_length (length (token_of word)) ≡ n → (f && n) ≡ true → MayBeIndex word
     by true true ef en h = by_mark word None ms e t m ef en
     by true false ef en h = cc
     by false n ef en h = cc
 hopeful_named word (Some tag) ms e t m h =
-    by (tag_after tag == token_length word) (is_name_length (length (token_of word))) (is_name_length tag.name) (is_always_mark (token_of word)) refl refl refl refl h
+    by (tag_after tag == token_length word) (is_name_length (length (token_of word))) (is_name_length tag.name_len) (is_always_mark (token_of word)) refl refl refl refl h
   where
-    by : (f n k a : Bool) → (tag_after tag == token_length word) ≡ f → is_name_length (length (token_of word)) ≡ n → is_name_length tag.name ≡ k → is_always_mark (token_of word) ≡ a
-        → ((f && n) || (k && not a)) ≡ true → IsHopeful word
+    by : (f n k a : Bool) → (tag_after tag == token_length word) ≡ f → is_name_length (length (token_of word)) ≡ n → is_name_length tag.name_len ≡ k → is_always_mark (token_of word) ≡ a
+        → ((f && n) || (k && not a)) ≡ true → MayBeIndex word
     by true true k a ef en ek ea h = by_mark word (Some tag) ms e t m ef en
     by true false true false ef en ek ea h = by_tag word tag ms e t m ek ea
     by false n true false ef en ek ea h = by_tag word tag ms e t m ek ea

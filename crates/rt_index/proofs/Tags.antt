@@ -37,10 +37,10 @@ longest_past word (suc n) h e =
 pub record Stands (word : List ℕ) (tag : Tag) (n : ℕ) : Type 0 where
   pub after : tag_after tag ≡ n
   pub within : n ≤ length word
-  pub spelled : take n word ≡ take tag.name word ++ side_text tag.side
+  pub spelled : take n word ≡ take tag.name_len word ++ side_text tag.side
 
 as_side : (word : List ℕ) (n : ℕ) (side : Side) → n ≤ length word → ends_with eqb (take n word) (side_text side) ≡ true
-    → Stands word (record { name = length (take n word) - length (side_text side); side = side }) n
+    → Stands word (record { name_len = length (take n word) - length (side_text side); side = side }) n
 as_side word n side h e =
     let text = take n word in
     let k = length text - length (side_text side) in
@@ -58,16 +58,16 @@ pub stands_at : (word : List ℕ) (n : ℕ) (tag : Tag) → n ≤ length word �
 stands_at word n tag h e = by (ends_with eqb (take n word) (side_text First)) (ends_with eqb (take n word) (side_text Last)) refl refl e
   where
     by : (a b : Bool) → ends_with eqb (take n word) (side_text First) ≡ a → ends_with eqb (take n word) (side_text Last) ≡ b
-        → cond a (Some (record { name = length (take n word) - length (side_text First); side = First }))
-        (cond b (Some (record { name = length (take n word) - length (side_text Last); side = Last })) None) ≡ Some tag
+        → cond a (Some (record { name_len = length (take n word) - length (side_text First); side = First }))
+        (cond b (Some (record { name_len = length (take n word) - length (side_text Last); side = Last })) None) ≡ Some tag
         → Stands word tag n
     by true b ea eb e =
-        let shown : Tag = record { name = length (take n word) - length (side_text First); side = First } in
+        let shown : Tag = record { name_len = length (take n word) - length (side_text First); side = First } in
         let q : shown ≡ tag = cc in
         let P : Tag → Type 0 = λ t. Stands word t n in
         subst P q (as_side word n First h ea)
     by false true ea eb e =
-        let shown : Tag = record { name = length (take n word) - length (side_text Last); side = Last } in
+        let shown : Tag = record { name_len = length (take n word) - length (side_text Last); side = Last } in
         let q : shown ≡ tag = cc in
         let P : Tag → Type 0 = λ t. Stands word t n in
         subst P q (as_side word n Last h eb)
@@ -94,41 +94,41 @@ pub side_some : (side : Side) → 0 < length (side_text side)
 side_some First = omega arith
 side_some Last = omega arith
 
-name_length : (word : List ℕ) (tag : Tag) (n : ℕ) → Stands word tag n → length (take tag.name word) ≡ tag.name
-name_length word tag n s = length-take-le tag.name word (omega (arith, s.after, s.within))
+name_length : (word : List ℕ) (tag : Tag) (n : ℕ) → Stands word tag n → length (take tag.name_len word) ≡ tag.name_len
+name_length word tag n s = length-take-le tag.name_len word (omega (arith, s.after, s.within))
 
 -- the bytes of a tag's end, after its name
-pub end_byte : (word : List ℕ) (tag : Tag) (n m : ℕ) → Stands word tag n → tag.name ≤ m → m < n → get_or word m 0 ≡ get_or (side_text tag.side) (m - tag.name) 0
+pub end_byte : (word : List ℕ) (tag : Tag) (n m : ℕ) → Stands word tag n → tag.name_len ≤ m → m < n → get_or word m 0 ≡ get_or (side_text tag.side) (m - tag.name_len) 0
 end_byte word tag n m s low high =
     let len = name_length word tag n s in
     sym (get_or-take n word m 0 high)
     ∙ ap (λ x. get_or x m 0) s.spelled
-    ∙ get_or-append_right (take tag.name word) (side_text tag.side) m 0 (omega arith)
+    ∙ get_or-append_right (take tag.name_len word) (side_text tag.side) m 0 (omega arith)
     ∙ ap (λ k. get_or (side_text tag.side) (m - k) 0) len
 
 -- what follows an earlier end has a dot, so that it isn't modifiers
 pub blocked : (word : List ℕ) (tag : Tag) (n m : ℕ) → Stands word tag n → m < n → may_end (drop m word) ≡ true → modifiers_of (drop m word) ≡ None
-blocked word tag n m s h e = split (nat_lt m tag.name)
+blocked word tag n m s h e = split (nat_lt m tag.name_len)
     (λ lt.
-    let l = lt_true m tag.name lt in
-    let i = tag.name - m in
-    let p : m + (tag.name - m) ≡ tag.name = omega arith in
+    let l = lt_true m tag.name_len lt in
+    let i = tag.name_len - m in
+    let p : m + (tag.name_len - m) ≡ tag.name_len = omega arith in
     let some = side_some tag.side in
-    let zero_at : tag.name - tag.name ≡ 0 = omega arith in
+    let zero_at : tag.name_len - tag.name_len ≡ 0 = omega arith in
     dotted (drop m word) i
     (omega (arith, length-drop m word, s.after, s.within))
     (get_or-drop m word i 0 ∙ ap (λ k. get_or word k 0) p
-    ∙ end_byte word tag n tag.name s (omega arith) (omega (arith, s.after))
+    ∙ end_byte word tag n tag.name_len s (omega arith) (omega (arith, s.after))
     ∙ ap (λ k. get_or (side_text tag.side) k 0) zero_at ∙ begins_with_dot tag.side))
     (λ ge.
-    let g = at_least m tag.name ge in
+    let g = at_least m tag.name_len ge in
     let w = s.within in
     let inside : m < length word = omega arith in
-    let short : m - tag.name < length (side_text tag.side) = omega (arith, s.after) in
+    let short : m - tag.name_len < length (side_text tag.side) = omega (arith, s.after) in
     let q = sym (may_end_at word m inside) ∙ e in
     let P : ℕ → Type 0 = λ c. is_separator c ≡ true in
     let r = subst P (end_byte word tag n m s g h) q in
-    let t = no_separator tag.side (m - tag.name) short in
+    let t = no_separator tag.side (m - tag.name_len) short in
     cc)
 
 -- the token ends first
@@ -173,7 +173,7 @@ found_at word (suc n) tag h e = by (may_end (drop (suc n) word)) (tag_of (take (
 -- what a tag's end says, listed or not
 abbrev pub named_index : IndexedWidget → List ℕ → Option Tag → Result ℕ Fault
 named_index w word None = Err BadIndex
-named_index w word (Some tag) = moved_from w.text (listed_place tag.side (w.tags (take tag.name word))) (modifiers_of (drop (tag_after tag) word))
+named_index w word (Some tag) = moved_from w.text (listed_place tag.side (w.tags (take tag.name_len word))) (modifiers_of (drop (tag_after tag) word))
 
 pub bad : (text : List ℕ) (o : Option (List Modifier)) → moved_from text (Err BadIndex) o ≡ Err BadIndex
 bad text None = refl
@@ -196,7 +196,7 @@ pub agree : (w : IndexedWidget) (word : List ℕ) (n : ℕ) → n ≤ length wor
 agree w word zero h = refl
 agree w word (suc n) h = by (may_end (drop (suc n) word)) (tag_of (take (suc n) word)) refl refl (agree w word n (omega arith))
   where
-    listed : (tag : Tag) (o : Option (Option TagEnds)) → Stands word tag (suc n) → w.tags (take tag.name word) ≡ o
+    listed : (tag : Tag) (o : Option (Option TagEnds)) → Stands word tag (suc n) → w.tags (take tag.name_len word) ≡ o
         → tag_index w word (option_or (option_map (λ place. (place, suc n)) (option_map (tag_place tag.side) o)) (longest_tag w word n))
         ≡ moved_from w.text (listed_place tag.side o) (modifiers_of (drop (tag_after tag) word))
     listed tag None s e = lower w word tag (suc n) n s (omega arith) ∙ sym (bad w.text (modifiers_of (drop (tag_after tag) word)))
@@ -204,14 +204,14 @@ agree w word (suc n) h = by (may_end (drop (suc n) word)) (tag_of (take (suc n) 
 
     by : (b : Bool) (o : Option Tag) → may_end (drop (suc n) word) ≡ b → tag_of (take (suc n) word) ≡ o
         → tag_index w word (longest_tag w word n) ≡ named_index w word (longest_named word n)
-        → tag_index w word (option_or (cond b (option_map (λ place. (place, suc n)) (option_and_then (λ tag. option_map (tag_place tag.side) (w.tags (take tag.name (take (suc n) word)))) o)) None) (longest_tag w word n))
+        → tag_index w word (option_or (cond b (option_map (λ place. (place, suc n)) (option_and_then (λ tag. option_map (tag_place tag.side) (w.tags (take tag.name_len (take (suc n) word)))) o)) None) (longest_tag w word n))
         ≡ named_index w word (option_or (cond b o None) (longest_named word n))
     by false o eb eo ih = ih
     by true None eb eo ih = ih
     by true (Some tag) eb eo ih =
         let s = stands_at word (suc n) tag h eo in
-        let p = take-take tag.name (suc n) word (omega (arith, s.after)) in
+        let p = take-take tag.name_len (suc n) word (omega (arith, s.after)) in
         let P : List ℕ → Type 0 = λ name.
         tag_index w word (option_or (option_map (λ place. (place, suc n)) (option_map (tag_place tag.side) (w.tags name))) (longest_tag w word n))
-        ≡ moved_from w.text (listed_place tag.side (w.tags (take tag.name word))) (modifiers_of (drop (tag_after tag) word)) in
-        subst P (sym p) (listed tag (w.tags (take tag.name word)) s refl)
+        ≡ moved_from w.text (listed_place tag.side (w.tags (take tag.name_len word))) (modifiers_of (drop (tag_after tag) word)) in
+        subst P (sym p) (listed tag (w.tags (take tag.name_len word)) s refl)

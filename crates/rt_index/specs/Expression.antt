@@ -34,9 +34,9 @@ kept_fixed (Character line character) = Character (kept line) (kept character)
 kept_fixed (LineEndOf line) = LineEndOf (kept line)
 kept_fixed End = End
 
--- where it ends
+-- how many bytes `NAME.first` or `NAME.last` has
 abbrev pub tag_after : Tag → ℕ
-tag_after tag = tag.name + length (side_text tag.side)
+tag_after tag = tag.name_len + length (side_text tag.side)
 
 -- the longest front of a word, of at most n bytes, that is `NAME.first` or `NAME.last` and may be a base
 abbrev pub longest_named : List ℕ → ℕ → Option Tag
@@ -62,7 +62,7 @@ marked_place fits (Some place) otherwise = if fits then Ok place else Err BadInd
 abbrev pub base_index : IndexedWidget → List ℕ → Base → Result ℕ Fault
 base_index w word (AtPlace fixed) = Ok (fixed_place w.text fixed)
 base_index w word (Named token fits None) = marked_place fits (w.marks (take token word)) (Err BadIndex)
-base_index w word (Named token fits (Some tag)) = marked_place fits (w.marks (take token word)) (listed_place tag.side (w.tags (take tag.name word)))
+base_index w word (Named token fits (Some tag)) = marked_place fits (w.marks (take token word)) (listed_place tag.side (w.tags (take tag.name_len word)))
 
 -- a mark that each widget has
 abbrev pub is_always_mark : List ℕ → Bool
@@ -71,13 +71,13 @@ is_always_mark name = bytes_eq name (codes "insert") || bytes_eq name (codes "cu
 -- whether some widget has a place for a base: a mark that modifiers follow, or a listed tag where the token is no mark
 abbrev pub is_possible : List ℕ → Bool → Option Tag → Bool
 is_possible token fits None = fits && is_name_length (length token)
-is_possible token fits (Some tag) = (fits && is_name_length (length token)) || (is_name_length tag.name && not (is_always_mark token))
+is_possible token fits (Some tag) = (fits && is_name_length (length token)) || (is_name_length tag.name_len && not (is_always_mark token))
 
 -- names are whole characters of the word
 abbrev pub AreNames : List ℕ → Base → Type 0
 AreNames word (AtPlace fixed) = Unit {0}
 AreNames word (Named token fits None) = IsCharBoundary word token
-AreNames word (Named token fits (Some tag)) = IsCharBoundary word token × IsCharBoundary word tag.name
+AreNames word (Named token fits (Some tag)) = IsCharBoundary word token × IsCharBoundary word tag.name_len
 
 -- parts that say what the word says
 pub record IsParsed (word : List ℕ) (base : Base) (modifiers : List Modifier) : Type 0 where

@@ -40,13 +40,13 @@ tag_place side (Some ends) = Ok (side_of side ends)
 -- a text that is `NAME.first` or `NAME.last`
 abbrev pub tag_of : List ℕ → Option Tag
 tag_of text =
-    if ends_with eqb text (side_text First) then Some (record { name = length text - length (side_text First); side = First })
-    else if ends_with eqb text (side_text Last) then Some (record { name = length text - length (side_text Last); side = Last })
+    if ends_with eqb text (side_text First) then Some (record { name_len = length text - length (side_text First); side = First })
+    else if ends_with eqb text (side_text Last) then Some (record { name_len = length text - length (side_text Last); side = Last })
     else None
 
 -- the end of a listed tag that a text is
 abbrev pub tag_end : IndexedWidget → List ℕ → Option (Result ℕ Fault)
-tag_end w text = option_and_then (λ tag. option_map (tag_place tag.side) (w.tags (take tag.name text))) (tag_of text)
+tag_end w text = option_and_then (λ tag. option_map (tag_place tag.side) (w.tags (take tag.name_len text))) (tag_of text)
 
 -- whether a base may end before a text: at the word's end, a space, `+` or `-`
 abbrev pub may_end : List ℕ → Bool
@@ -82,9 +82,9 @@ abbrev pub index_of : IndexedWidget → List ℕ → Result ℕ Fault
 index_of w word = word_index w word (token_place w (take (token_length word) word))
 
 -- BadIndex whatever marks and tags there are
-abbrev pub IsHopeless : List ℕ → Type 0
-IsHopeless word = (w : IndexedWidget) → IsProper w → index_of w word ≡ Err BadIndex
+abbrev pub IsNeverIndex : List ℕ → Type 0
+IsNeverIndex word = (w : IndexedWidget) → IsProper w → index_of w word ≡ Err BadIndex
 
 -- some widget has a place for it, or only lacks a character with its tag
-abbrev pub IsHopeful : List ℕ → Type 0
-IsHopeful word = (w : IndexedWidget) × IsProper w × (index_of w word ≢ Err BadIndex)
+abbrev pub MayBeIndex : List ℕ → Type 0
+MayBeIndex word = (w : IndexedWidget) × IsProper w × (index_of w word ≢ Err BadIndex)

@@ -2,7 +2,7 @@
 ghost use Rattle.std.specs.Prelude.{◌≡◌, ◌<◌, ◌≤◌, ◌^◌, ◌⊎◌, length, take, Some, None, is_some, option_map, IfOk, IfErr, OnOk};
 ghost use Rattle.rt_index.specs.Expression.{AreNames, base_index, is_always_mark, is_possible, kept_fixed, listed_place, named_after};
 ghost use Rattle.rt_index.specs.Reading.{fixed_of, token_length};
-ghost use Rattle.rt_index.specs.Index.{index_of, fixed_place, IsHopeless, IsHopeful};
+ghost use Rattle.rt_index.specs.Index.{index_of, fixed_place, IsNeverIndex, MayBeIndex};
 
 use crate::Ground;
 use crate::parts::{Base, Fixed, Side, Tag};
@@ -54,7 +54,7 @@ fn is_possible(token: &[u8], fits: bool, tag: Option<Tag>) -> bool
         return true;
     }
     match tag {
-        Some(tag) => is_name_length(tag.name) && !is_always_mark(token),
+        Some(tag) => is_name_length(tag.name_len) && !is_always_mark(token),
         None => false,
     }
 }
@@ -75,8 +75,8 @@ fn parse_fixed(alloc: Global, word: &str, token: usize, fixed: Fixed) -> Result<
     requires token { token ≡ token_length word.now }
     requires fixed { option_map kept_fixed (fixed_of (take token word.now)) ≡ Some fixed }
     ensures word { IfOk result (λ expr. expr ≡ word.now) }
-    ensures possible { OnOk result (IsHopeful word.now) }
-    ensures fault { IfErr result (λ fault. (fault ≡ Fault.NoMemory) ⊎ ((fault ≡ Fault.BadIndex) × IsHopeless word.now)) }
+    ensures possible { OnOk result (MayBeIndex word.now) }
+    ensures fault { IfErr result (λ fault. (fault ≡ Fault.NoMemory) ⊎ ((fault ≡ Fault.BadIndex) × IsNeverIndex word.now)) }
 {
     let (_, rest) = word.as_bytes().split_at(token);
     let modifiers = modifiers_of(alloc, rest)?;
@@ -93,8 +93,8 @@ fn parse_named(alloc: Global, word: &str, token: usize) -> Result<Expr<'_>, Faul
     requires token { token ≡ token_length word.now }
     requires named { fixed_of (take token word.now) ≡ None }
     ensures word { IfOk result (λ expr. expr ≡ word.now) }
-    ensures possible { OnOk result (IsHopeful word.now) }
-    ensures fault { IfErr result (λ fault. (fault ≡ Fault.NoMemory) ⊎ ((fault ≡ Fault.BadIndex) × IsHopeless word.now)) }
+    ensures possible { OnOk result (MayBeIndex word.now) }
+    ensures fault { IfErr result (λ fault. (fault ≡ Fault.NoMemory) ⊎ ((fault ≡ Fault.BadIndex) × IsNeverIndex word.now)) }
 {
     let bytes = word.as_bytes();
     let (front, _) = bytes.split_at(token);
@@ -109,7 +109,11 @@ fn parse_named(alloc: Global, word: &str, token: usize) -> Result<Expr<'_>, Faul
     if !is_possible(front, fits, tag) {
         return Err(Fault::BadIndex);
     }
-    let base = Base::Named(token, fits, tag);
+    let base = Base::Named {
+        token_len: token,
+        modifiers_follow: fits,
+        tag,
+    };
     Ok(Expr {
         word,
         base,
@@ -122,8 +126,8 @@ fn parse_named(alloc: Global, word: &str, token: usize) -> Result<Expr<'_>, Faul
 /// modifiers was refused.
 pub fn parse(alloc: Global, word: &str) -> Result<Expr<'_>, Fault>
     ensures word { IfOk result (λ expr. expr ≡ word.now) }
-    ensures possible { OnOk result (IsHopeful word.now) }
-    ensures fault { IfErr result (λ fault. (fault ≡ Fault.NoMemory) ⊎ ((fault ≡ Fault.BadIndex) × IsHopeless word.now)) }
+    ensures possible { OnOk result (MayBeIndex word.now) }
+    ensures fault { IfErr result (λ fault. (fault ≡ Fault.NoMemory) ⊎ ((fault ≡ Fault.BadIndex) × IsNeverIndex word.now)) }
 {
     let token = token_length(word.as_bytes());
     let (front, _) = word.as_bytes().split_at(token);
@@ -168,11 +172,15 @@ fn base_place<G: Ground>(ground: &G, word: &str, base: Base) -> Result<usize, Fa
 {
     match base {
         Base::AtPlace(fixed) => Ok(fixed_place(ground, fixed)),
-        Base::Named(token, fits, tag) => match ground.mark(&word[..token]) {
+        Base::Named {
+            token_len: token,
+            modifiers_follow: fits,
+            tag,
+        } => match ground.mark(&word[..token]) {
             Some(place) if fits => Ok(place),
             Some(_) => Err(Fault::BadIndex),
             None => match tag {
-                Some(tag) => tag_end(ground, &word[..tag.name], tag.side),
+                Some(tag) => tag_end(ground, &word[..tag.name_len], tag.side),
                 None => Err(Fault::BadIndex),
             },
         },

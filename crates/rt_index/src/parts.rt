@@ -68,7 +68,7 @@ pub enum Side {
 #[derive(Clone, Copy, Debug, PartialEq, Eq)]
 pub struct Tag {
     /// How many bytes the name has.
-    pub name: usize,
+    pub name_len: usize,
     pub side: Side,
 }
 
@@ -76,9 +76,15 @@ pub struct Tag {
 #[derive(Clone, Copy, Debug, PartialEq, Eq)]
 pub enum Base {
     AtPlace(Fixed),
-    /// How many bytes the token has, which may be a mark's name; whether the modifiers follow it;
-    /// and the end of a tag that the modifiers follow.
-    Named(usize, bool, Option<Tag>),
+    /// A token, which may be a mark's name, or `NAME.first` or `NAME.last`.
+    Named {
+        /// How many bytes the token has.
+        token_len: usize,
+        /// Whether the modifiers follow it.
+        modifiers_follow: bool,
+        /// The end of a tag that the modifiers follow.
+        tag: Option<Tag>,
+    },
 }
 
 /// The greatest number that is kept. A greater one says the same, as texts are shorter.

@@ -281,8 +281,8 @@ fn tag_of(text: &[u8]) -> Option<Tag>
     } else {
         return None;
     };
-    let name = text.len() - side.text().len();
-    Some(Tag { name, side })
+    let name_len = text.len() - side.text().len();
+    Some(Tag { name_len, side })
 }
 
 impl Side {
@@ -302,7 +302,7 @@ impl Tag {
         requires { tag_after self < 2 ^ 64 }
         ensures { result ≡ tag_after self }
     {
-        self.name + self.side.text().len()
+        self.name_len + self.side.text().len()
     }
 }
 

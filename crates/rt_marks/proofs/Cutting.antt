@@ -8,6 +8,7 @@ use Rattle.std.proofs.lemmas.List.{get_or-take, get_or_at, length-append, length
 use Rattle.std.proofs.lemmas.List.Folds.{list_any-append}
 use Rattle.rt_marks.specs.Marks.{Mark, AreAscending, AreInOrder, comes_before, is_named, is_one_of, name_order, named}
 use Rattle.std.specs.Ordering.{is_lt}
+use Rattle.rt_stamps.specs.Words.{as_words}
 use Rattle.rt_marks.specs.Seen.{IsEachOnce, IsIndexed, SlotsPart, in_slot, in_slots, names_of, no_mark}
 use Rattle.rt_marks.proofs.Changes.{apart}
 use Rattle.rt_marks.proofs.Exchanging.{traded, traded_first, traded_is, traded_last, traded_length, traded_other}
@@ -110,16 +111,13 @@ neither true b = refl
 neither false true = refl
 neither false false = refl
 
-abbrev pub words_of : List (String Global) → List (List ℕ)
-words_of names = map (λ w. string_bytes w) names
-
-pub one_name_more : (names : List (String Global)) (i : ℕ) (name : String Global) (bytes : List ℕ) (marks : List Mark) (n : ℕ) → i < length names → name ≡ get_or names i name → bytes ≡ string_bytes name → SlotsPart (λ m. not (is_one_of (words_of (take i names)) m) && not (is_named bytes m)) marks n → SlotsPart (λ m. not (is_one_of (words_of (take (i + 1) names)) m)) marks n
+pub one_name_more : (names : List (String Global)) (i : ℕ) (name : String Global) (bytes : List ℕ) (marks : List Mark) (n : ℕ) → i < length names → name ≡ get_or names i name → bytes ≡ string_bytes name → SlotsPart (λ m. not (is_one_of (as_words (take i names)) m) && not (is_named bytes m)) marks n → SlotsPart (λ m. not (is_one_of (as_words (take (i + 1) names)) m)) marks n
 one_name_more names i name bytes marks n l e b h = λ s k. sym (grown (in_slot marks s)) ∙ h s k where
-  grown : (m : Mark) → (not (is_one_of (words_of (take i names)) m) && not (is_named bytes m)) ≡ not (is_one_of (words_of (take (i + 1) names)) m)
+  grown : (m : Mark) → (not (is_one_of (as_words (take i names)) m) && not (is_named bytes m)) ≡ not (is_one_of (as_words (take (i + 1) names)) m)
   grown m =
-      neither (is_one_of (words_of (take i names)) m) (is_named bytes m)
-      ∙ ap not (sym (list_any-append (λ name. is_named name m) (words_of (take i names)) (bytes ∷ [])))
-      ∙ ap (λ (v : List ℕ). not (is_one_of (words_of (take i names) ++ v ∷ []) m)) (b ∙ ap (λ (w : String Global). string_bytes w) e)
+      neither (is_one_of (as_words (take i names)) m) (is_named bytes m)
+      ∙ ap not (sym (list_any-append (λ name. is_named name m) (as_words (take i names)) (bytes ∷ [])))
+      ∙ ap (λ (v : List ℕ). not (is_one_of (as_words (take i names) ++ v ∷ []) m)) (b ∙ ap (λ (w : String Global). string_bytes w) e)
       ∙ ap (λ v. not (is_one_of v m)) (sym (map_more (λ w. string_bytes w) names i name l))
 
 pub all_there : (marks : List Mark) (n : ℕ) → length marks ≤ n → SlotsPart (λ m. not (is_one_of [] m)) marks n

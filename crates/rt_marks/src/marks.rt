@@ -1,6 +1,7 @@
 // The marks of a site.
-ghost use Rattle.std.specs.Prelude.{◌≡◌, ◌+◌, ◌≤◌, ◌⊎◌, ◌↔◌, [], List, ℕ, IsSome, OnOk, OnErr, IfOk, IfErr, IsOkUnless, Ok, Err, None, Some, is_some, option_map, option_copied, string_bytes, map, Contains, if◌then◌else◌, find as first_passing};
+ghost use Rattle.std.specs.Prelude.{◌≡◌, ◌+◌, ◌≤◌, ◌⊎◌, ◌↔◌, [], List, ℕ, IsSome, OnOk, OnErr, IfOk, IfErr, IsOkUnless, Ok, Err, None, Some, is_some, option_map, option_copied, map, Contains, if◌then◌else◌, find as first_passing};
 ghost use Rattle.std.specs.List.{AllByRecursion};
+ghost use Rattle.rt_stamps.specs.Words.{as_words};
 ghost use Rattle.rt_marks.specs.Marks.{AreAscending, AreInOrder, HaveOwnNames, IsName, comes_before, find_last, first_mark_at, last_mark_before, mark_after, mark_before, marks_inserted, marks_removed, marks_set, marks_with_gravity, named, without, without_all};
 
 use crate::mark::Mark;
@@ -103,7 +104,7 @@ impl Marks {
 
     /// Takes marks away ("mark unset"). Names without a mark are passed over. It takes no memory.
     pub fn unset_all(&mut self, names: &[String])
-        ensures { self.new ≡ without_all (map (λ w. string_bytes w) names.now) self.old }
+        ensures { self.new ≡ without_all (as_words names.now) self.old }
     {
         self.table.remove_all(names);
     }
@@ -197,8 +198,8 @@ impl Marks {
 
     /// All names, by their bytes. `NoMemory` is its only fault.
     pub fn names(&self) -> Result<Vec<String>, Fault>
-        ensures by_bytes { IfOk result (λ v. AreAscending (map (λ s. string_bytes s) v.items)) }
-        ensures all { IfOk result (λ v. (name : List ℕ) → Contains (map (λ s. string_bytes s) v.items) name ↔ IsSome (named name self.now)) }
+        ensures by_bytes { IfOk result (λ v. AreAscending (as_words v.items)) }
+        ensures all { IfOk result (λ v. (name : List ℕ) → Contains (as_words v.items) name ↔ IsSome (named name self.now)) }
         ensures fault { IsOkUnless result Fault.NoMemory }
     {
         let names = self.table.names(self.alloc)?;

@@ -1,7 +1,8 @@
 // The marks of a site in slots, and two lists of the slots' numbers.
-ghost use Rattle.std.specs.Prelude.{◌≡◌, ◌+◌, ◌<◌, ◌≤◌, ◌&&◌, [], IfOk, IfErr, None, OnOk, Some, filter, length, map, nat_lt, slice_index, slice_set, not, option_map, option_copied, slice_get, string_bytes, vec_len, vec_capacity, find as first_passing};
+ghost use Rattle.std.specs.Prelude.{◌≡◌, ◌+◌, ◌<◌, ◌≤◌, ◌&&◌, [], IfOk, IfErr, None, OnOk, Some, filter, length, map, nat_lt, slice_index, slice_set, not, option_map, option_copied, slice_get, vec_len, vec_capacity, find as first_passing};
 ghost use Rattle.std.specs.List.{HoldsAt, insert, remove, AllByRecursion};
 ghost use Rattle.std.specs.List.Sorted.{IsSearchInRange};
+ghost use Rattle.rt_stamps.specs.Words.{as_words};
 ghost use Rattle.rt_marks.specs.Marks.{comes_before, find_last, first_mark_at, last_mark_before, mark_removed, marks_inserted, marks_removed, name_order, named, put_mark, with_mark, without};
 ghost use Rattle.rt_marks.specs.Seen.{IsGap, IsOrder, PartsAt, in_slot, names_of, overwritten, same_gravity, seen, seen_all, slot_stands, spotted};
 
@@ -343,7 +344,7 @@ impl Table {
     /// The names, by their bytes.
     pub fn names(&self, alloc: Global) -> Result<Vec<String>, AllocError>
         requires { IsTable self.now }
-        ensures { IfOk result (λ v. map (λ s. string_bytes s) v.items ≡ names_of (by_names self.now)) }
+        ensures { IfOk result (λ v. as_words v.items ≡ names_of (by_names self.now)) }
     {
         let mut names = Vec::with_capacity(alloc, self.by_name.len())?;
         for rank in 0..self.by_name.len() {

@@ -4,18 +4,20 @@ use Rattle.rt_stamps.specs.declared.fault.Fault.{Fault}
 use Rattle.rt_stamps.specs.declared.fault.Fault.TheVariants.{NoMemory}
 use Rattle.rt_ops.specs.Operations.{Operation}
 use Rattle.rt_oplog.specs.declared.log.Refused.{Refused}
-use Rattle.rt_oplog.specs.Logs.{Has, IsLog, pushed, joined}
+use Rattle.rt_oplog.specs.Logs.{Has, IsLog, pushed, joined, with_operation}
 
 -- a log's operations, the newest first, and how many pushes will take no memory
 pub record Log : Type 0 where
   pub operations : List Operation
   pub room : ℕ
 
--- A push makes of the operations what `pushed` says, in at most one place of the room. A refused one leaves them.
+-- A push makes of the operations what `pushed` says, in at most one place of the room. A refused one leaves them. Memory is
+-- wanting only for one that would be added, where there is no room.
 abbrev pub Pushes : Operation → Log → Result (Unit {0}) Fault → Log → Type 0
 Pushes op old result new = MatchResult result
     (λ _. (pushed op old.operations ≡ Ok new.operations) × (old.room ≤ new.room + 1))
-    (λ fault. (new.operations ≡ old.operations) × (old.room ≤ new.room) × ((pushed op old.operations ≡ Err fault) ⊎ ((fault ≡ NoMemory) × (old.room ≡ 0))))
+    (λ fault. (new.operations ≡ old.operations) × (old.room ≤ new.room) × ((pushed op old.operations ≡ Err fault)
+    ⊎ ((fault ≡ NoMemory) × (old.room ≡ 0) × (pushed op old.operations ≡ Ok (with_operation op old.operations)))))
 
 -- the log that has just these operations
 pub record IsLogOf (ops log : List Operation) : Type 0 where

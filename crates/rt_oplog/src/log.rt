@@ -247,7 +247,7 @@ impl OpLog {
 
     /// Adds an operation; nothing where the log has it. `BadStamp` exactly for an operation that is
     /// not sound, `Conflict` exactly where one of the log clashes with it, `NoMemory` only where
-    /// there is no room left. After a fault the operations are as before.
+    /// neither applies, the log has it not, and there is no room left. After a fault the operations are as before.
     pub fn push(&mut self, op: Op) -> Result<(), Fault>
         ensures { Pushes op self.old result self.new }
     {
@@ -283,8 +283,8 @@ impl OpLog {
     }
 }
 
-/// The operations of both logs, each once. `Conflict` exactly where two of them clash, `NoMemory`
-/// only where a growth was refused. Both logs are used up.
+/// The operations of both logs, each once. `Conflict` only where two of them clash, and then nothing
+/// else but `NoMemory`, which comes where a growth was refused. Both logs are used up.
 pub fn join(one: OpLog, other: OpLog) -> Result<OpLog, Fault>
     ensures { Joins one.operations other.operations result }
 {

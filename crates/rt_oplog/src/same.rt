@@ -1,8 +1,9 @@
 // Equality and clashes of operations.
-ghost use Rattle.std.specs.Prelude.{◌≡◌, ℕ, ◌≤◌, false, map, string_bytes, length};
+ghost use Rattle.std.specs.Prelude.{◌≡◌, ℕ, ◌≤◌, false, length};
 ghost use Rattle.std.specs.Cmp.Lexicographic.{pointwise};
 ghost use Rattle.std.specs.Str.{bytes_eq};
 ghost use Rattle.rt_stamps.specs.declared.limits.TheConstants.{GREATEST_COUNT};
+ghost use Rattle.rt_stamps.specs.Words.{as_words};
 ghost use Rattle.rt_ops.specs.Operations.{last_count, has_bad_stamp};
 ghost use Rattle.rt_ops.specs.Edits.{body_of};
 ghost use Rattle.rt_oplog.specs.Logs.{same_span, same_body, same_operation, reaches_into, clash};
@@ -12,7 +13,7 @@ use rt_stamps::Span;
 
 /// Whether names are the same, in the same order.
 fn are_same_names(one: &[String], other: &[String]) -> bool
-    ensures { result ≡ pointwise bytes_eq (map string_bytes one.now) (map string_bytes other.now) }
+    ensures { result ≡ pointwise bytes_eq (as_words one.now) (as_words other.now) }
 {
     one == other
 }

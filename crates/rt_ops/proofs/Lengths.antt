@@ -1,5 +1,5 @@
 -- Lengths of fields, and what of two equal fields is equal.
-use Rattle.std.proofs.Common.{◌≡◌, ℕ, ◌+◌, ◌-◌, ◌*◌, ◌^◌, ◌<◌, ◌≤◌, Bool, true, false, map, String, Global, string_bytes, List, [], ◌∷◌, ◌++◌, length, take, drop, refl, sym, ap, ◌∙◌, arith}
+use Rattle.std.proofs.Common.{◌≡◌, ℕ, ◌+◌, ◌-◌, ◌*◌, ◌^◌, ◌<◌, ◌≤◌, Bool, true, false, String, Global, string_bytes, List, [], ◌∷◌, ◌++◌, length, take, drop, refl, sym, ap, ◌∙◌, arith}
 use Rattle.std.specs.Prelude.{encode_utf8_all}
 use Rattle.std.specs.List.{flat_map, list_all, AllByRecursion}
 use Rattle.std.specs.Int.{w16, w32, w64, from_be_bytes}
@@ -11,6 +11,7 @@ use Rattle.std.proofs.lemmas.Bool.Decides.{nat_tests}
 use Rattle.rt_stamps.specs.declared.stamp.Span.{Span}
 use Rattle.rt_stamps.specs.declared.stamp.Stamp.{Stamp}
 use Rattle.rt_stamps.specs.declared.limits.TheConstants.{MOST_NAME_BYTES, MOST_TAGS, MOST_CHARACTERS, MOST_SPANS, MOST_RECORD_BYTES}
+use Rattle.rt_stamps.specs.Words.{as_words}
 use Rattle.rt_ops.specs.Operations.{Name, Body, Insert, Delete, Tag, Operation, stamp_of}
 use Rattle.rt_ops.specs.Rules.{is_name, are_spans, keeps_rules}
 use Rattle.rt_ops.specs.File.{number, stamp_bytes, span_bytes, spans_bytes, name_bytes, tags_bytes, body_bytes, content_of}
@@ -92,14 +93,14 @@ spans_are spans h = grind (arith, nat_tests)
 pub tag_is : (on : Bool) (name : Name) (spans : List Span) → keeps_rules (Tag on name spans) ≡ true → (length name ≤ MOST_NAME_BYTES) × (length spans ≤ MOST_SPANS)
 tag_is on name spans h = (grind (arith, nat_tests), grind (arith, nat_tests))
 
-names_fit_all : (tags : List (String Global)) → list_all is_name (map string_bytes tags) ≡ true → AllByRecursion (λ (tag : String Global). length (string_bytes tag) < 2 ^ 8) tags
+names_fit_all : (tags : List (String Global)) → list_all is_name (as_words tags) ≡ true → AllByRecursion (λ (tag : String Global). length (string_bytes tag) < 2 ^ 8) tags
 names_fit_all [] h = tt
 names_fit_all (tag ∷ tags) h =
-    let rest : list_all is_name (map string_bytes tags) ≡ true = grind (arith, nat_tests) in
+    let rest : list_all is_name (as_words tags) ≡ true = grind (arith, nat_tests) in
     (grind (arith, nat_tests), names_fit_all tags rest)
 
-pub names_fit : (after : Stamp) (tags : List (String Global)) (text : List ℕ) → keeps_rules (Insert after (map string_bytes tags) text) ≡ true → AllByRecursion (λ (tag : String Global). length (string_bytes tag) < 2 ^ 8) tags
-names_fit after tags text h = names_fit_all tags (tags_are after (map string_bytes tags) text h).1
+pub names_fit : (after : Stamp) (tags : List (String Global)) (text : List ℕ) → keeps_rules (Insert after (as_words tags) text) ≡ true → AllByRecursion (λ (tag : String Global). length (string_bytes tag) < 2 ^ 8) tags
+names_fit after tags text h = names_fit_all tags (tags_are after (as_words tags) text h).1
 
 pub body_short : (body : Body) → keeps_rules body ≡ true → length (body_bytes body) ≤ MOST_RECORD_BYTES - 19
 unfolding tags_bytes

@@ -1,12 +1,11 @@
 -- The rules of an operation's names, tags, text and spans.
-use Rattle.std.specs.Prelude.{ℕ, ◌&&◌, not, nat_le, Bool, true, false, List, length, Result, Ok, Err, if◌then◌else◌, codes}
+use Rattle.std.specs.Prelude.{ℕ, ◌&&◌, not, nat_le, Bool, true, false, List, length, Result, Ok, Err, if◌then◌else◌}
 use Rattle.std.specs.List.{list_all}
 use Rattle.std.specs.Str.{bytes_eq, is_utf8, all_scalars}
-use Rattle.std.specs.declared.cmp.Ordering.{Ordering}
-use Rattle.std.specs.declared.cmp.Ordering.TheVariants.{Less, Equal, Greater}
+use Rattle.std.specs.Ordering.{is_lt}
 use Rattle.rt_stamps.specs.declared.stamp.Span.{Span}
 pub use Rattle.rt_stamps.specs.Spans.{each_next, is_span, is_clear_of}
-use Rattle.rt_stamps.specs.Names.{is_name_length, name_order}
+use Rattle.rt_stamps.specs.Names.{is_name_length, name_order, sel}
 use Rattle.rt_stamps.specs.declared.limits.TheConstants.{MOST_TAGS, MOST_CHARACTERS, MOST_SPANS}
 use Rattle.rt_stamps.specs.declared.fault.Fault.{Fault}
 use Rattle.rt_stamps.specs.declared.fault.Fault.TheVariants.{BadRecord}
@@ -18,16 +17,11 @@ is_within least most n = nat_le least n && nat_le n most
 
 -- as long as a name may be, UTF-8, and not `sel`, the tag that is each widget's own
 abbrev pub is_name : Name → Bool
-is_name name = is_utf8 name && (is_name_length (length name) && not (bytes_eq name (codes "sel")))
-
-abbrev pub is_less : Ordering → Bool
-is_less Less = true
-is_less Equal = false
-is_less Greater = false
+is_name name = is_utf8 name && (is_name_length (length name) && not (bytes_eq name sel))
 
 -- lesser by bytes
 abbrev pub is_lesser_name : Name → Name → Bool
-is_lesser_name a b = is_less (name_order a b)
+is_lesser_name a b = is_lt (name_order a b)
 
 -- at most 64 names, which rise strictly by bytes
 abbrev pub are_tags : List Name → Bool

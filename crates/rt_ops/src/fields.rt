@@ -1,9 +1,10 @@
 // Fields, read from bytes.
-ghost use Rattle.std.specs.Prelude.{◌≡◌, ◌+◌, ◌*◌, [], ◌∷◌, ◌++◌, ◌<◌, ◌^◌, length, map, string_bytes, encode_utf8_all, IfNone, IfSome, IfOk, IsOkUnless};
+ghost use Rattle.std.specs.Prelude.{◌≡◌, ◌+◌, ◌*◌, [], ◌∷◌, ◌++◌, ◌<◌, ◌^◌, length, string_bytes, encode_utf8_all, IfNone, IfSome, IfOk, IsOkUnless};
 ghost use Rattle.std.specs.List.{flat_map, AllByRecursion};
 ghost use Rattle.std.specs.Int.{w16, w32, w64};
 ghost use Rattle.std.specs.Str.{chars};
 ghost use Rattle.rt_stamps.specs.declared.fault.Fault.TheVariants.{NoMemory};
+ghost use Rattle.rt_stamps.specs.Words.{as_words};
 ghost use Rattle.rt_ops.specs.File.{number, stamp_bytes, span_bytes, spans_bytes, name_bytes, tags_bytes, StampFits, SpanFits};
 ghost use Rattle.rt_ops.specs.Decoding.{Decodes, DecodesFront, NameFits, IsNameOf, AreNames, TagsFit, SpansFit, AreScalars};
 
@@ -151,7 +152,7 @@ pub fn name_at(alloc: Global, bytes: &[u8]) -> Result<(String, &[u8]), Fault>
 
 /// So many names at the front, and what follows them.
 fn names_in(alloc: Global, count: u8, bytes: &[u8]) -> Result<(Vec<String>, &[u8]), Fault>
-    ensures { DecodesFront (λ tags. flat_map name_bytes tags) (AreNames count) (λ found. map string_bytes found.0.items)
+    ensures { DecodesFront (λ tags. flat_map name_bytes tags) (AreNames count) (λ found. as_words found.0.items)
         (λ found. found.1.now) bytes.now result }
 {
     let mut tags = Vec::new(alloc);
@@ -166,7 +167,7 @@ fn names_in(alloc: Global, count: u8, bytes: &[u8]) -> Result<(Vec<String>, &[u8
 
 /// The tags at the front, and what follows them.
 pub fn tags_at(alloc: Global, bytes: &[u8]) -> Result<(Vec<String>, &[u8]), Fault>
-    ensures { DecodesFront tags_bytes TagsFit (λ found. map string_bytes found.0.items) (λ found. found.1.now) bytes.now result }
+    ensures { DecodesFront tags_bytes TagsFit (λ found. as_words found.0.items) (λ found. found.1.now) bytes.now result }
 {
     match byte_at(bytes) {
         Some((count, rest)) => names_in(alloc, count, rest),

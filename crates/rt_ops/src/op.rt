@@ -1,7 +1,8 @@
 // Operations.
-ghost use Rattle.std.specs.Prelude.{◌≡◌, ℕ, ◌+◌, ◌<◌, ◌≤◌, ◌^◌, map, string_bytes, true, ◌∷◌, [], IfOk, IsOkUnless};
+ghost use Rattle.std.specs.Prelude.{◌≡◌, ℕ, ◌+◌, ◌<◌, ◌≤◌, ◌^◌, string_bytes, true, ◌∷◌, [], IfOk, IsOkUnless};
 ghost use Rattle.std.specs.List.{list_any};
 ghost use Rattle.rt_stamps.specs.declared.fault.Fault.TheVariants.{NoMemory};
+ghost use Rattle.rt_stamps.specs.Words.{as_words};
 ghost use Rattle.rt_ops.specs.Operations.{Insert, Delete, Tag, stamp_of, last_count as last_count_of, last_of, soundness, named, reaches, stamps_of_span};
 ghost use Rattle.rt_ops.specs.Rules.{within_rules, keeps_rules};
 
@@ -85,7 +86,7 @@ impl Op {
           count = stamp.count;
           site = stamp.site;
           prev = prev;
-          body = Insert after (map string_bytes tags.items) text.items;
+          body = Insert after (as_words tags.items) text.items;
         }) }
     {
         if !are_tags(&tags) || !is_text(&text) {
@@ -231,7 +232,7 @@ ghost use Rattle.rt_ops.specs.Edits.{body_of as body_seen};
 
 /// Names once more. Want of memory.
 fn copies_of(alloc: Global, names: &[String]) -> Result<Vec<String>, Fault>
-    ensures copy { IfOk result (λ copies. map string_bytes copies.items ≡ map string_bytes names.now) }
+    ensures copy { IfOk result (λ copies. as_words copies.items ≡ as_words names.now) }
     ensures fault { IsOkUnless result NoMemory }
 {
     let mut copies = Vec::new(alloc);

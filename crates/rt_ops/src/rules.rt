@@ -1,8 +1,9 @@
 // The rules of names, tags, text and spans, tested.
-ghost use Rattle.std.specs.Prelude.{◌≡◌, ℕ, map, length, string_bytes, true};
+ghost use Rattle.std.specs.Prelude.{◌≡◌, ℕ, length, string_bytes, true};
 ghost use Rattle.rt_ops.specs.Rules.{is_name as is_name_of, are_tags as are_tags_of, is_text as is_text_of, are_spans as are_spans_of, each_next, is_lesser_name, is_span, is_clear_of};
 ghost use Rattle.std.specs.List.{list_all};
 ghost use Rattle.std.proofs.Math.Utf8.{scalar};
+ghost use Rattle.rt_stamps.specs.Words.{as_words};
 
 use rt_stamps::limits::{MOST_CHARACTERS, MOST_SPANS, MOST_TAGS};
 use rt_stamps::{Span, is_name_length};
@@ -38,7 +39,7 @@ fn are_names(tags: &[String]) -> bool
 
 /// Whether the tags of an Insert keep their rules.
 pub(crate) fn are_tags(tags: &[String]) -> bool
-    ensures { result ≡ are_tags_of (map string_bytes tags.now) }
+    ensures { result ≡ are_tags_of (as_words tags.now) }
 {
     tags.len() <= MOST_TAGS && are_names(tags) && are_rising(tags)
 }

@@ -1,9 +1,10 @@
 // Operations as the bytes of a file.
-ghost use Rattle.std.specs.Prelude.{◌≡◌, ◌∷◌, [], ◌++◌, drop, ◌<◌, ◌≤◌, ◌^◌, length, map, string_bytes, encode_utf8_all, true, IsOkUnless, OnOk};
+ghost use Rattle.std.specs.Prelude.{◌≡◌, ◌∷◌, [], ◌++◌, drop, ◌<◌, ◌≤◌, ◌^◌, length, string_bytes, encode_utf8_all, true, IsOkUnless, OnOk};
 ghost use Rattle.std.specs.List.{AllByRecursion};
 ghost use Rattle.std.specs.Int.{w16, w32, w64};
 ghost use Rattle.rt_stamps.specs.declared.fault.Fault.TheVariants.{NoMemory};
 ghost use Rattle.rt_stamps.specs.declared.limits.TheConstants.{MOST_RECORD_BYTES};
+ghost use Rattle.rt_stamps.specs.Words.{as_words};
 ghost use Rattle.rt_ops.specs.Edits.{body_of};
 ghost use Rattle.rt_ops.specs.File.{number, stamp_bytes, span_bytes, spans_bytes, name_bytes, tags_bytes, body_bytes, kind_of, content_of, record_of, StampFits, SpanFits, BodyFits, HasRecord};
 ghost use Rattle.rt_ops.specs.Rules.{keeps_rules};
@@ -97,7 +98,7 @@ fn push_name(out: &mut Vec<u8>, name: &str) -> Result<(), Fault>
 fn push_tags(out: &mut Vec<u8>, tags: &[String]) -> Result<(), Fault>
     requires count { length tags.now < 2 ^ 8 }
     requires names { AllByRecursion (λ tag. length (string_bytes tag) < 2 ^ 8) tags.now }
-    ensures ok { OnOk result (out.new.items ≡ out.old.items ++ tags_bytes (map string_bytes tags.now)) }
+    ensures ok { OnOk result (out.new.items ≡ out.old.items ++ tags_bytes (as_words tags.now)) }
     ensures fault { IsOkUnless result NoMemory }
 {
     out.push(tags.len() as u8)?;

@@ -1,5 +1,6 @@
 // Widgets that are to go.
-ghost use Rattle.std.specs.Prelude.{◌≡◌, map, string_bytes};
+ghost use Rattle.std.specs.Prelude.{◌≡◌};
+ghost use Rattle.rt_stamps.specs.Words.{as_words};
 ghost use Rattle.rt_peer_requests.specs.PeerWords.{asked_destroy};
 
 use rt_requests::Word;
@@ -11,15 +12,17 @@ pub struct Destroy<'a> {
     pub path: Word<'a>,
 }
 
-/// What the words behind `destroy` ask for: one word, which may be the path of a widget. Refused by `BadCommand`. It
-/// takes no memory.
-pub fn destroyed<'a>(words: &'a [String]) -> Result<Destroy<'a>, Fault>
-    ensures { result ≡ asked_destroy (map (λ w. string_bytes w) words.now) }
-{
-    let [path] = words else {
-        return Err(Fault::BadCommand);
-    };
-    Ok(Destroy {
-        path: Word::new(path),
-    })
+impl<'a> Destroy<'a> {
+    /// What the words behind `destroy` ask for: one word, which may be the path of a widget. Refused by `BadCommand`.
+    /// It takes no memory.
+    pub fn of(words: &'a [String]) -> Result<Destroy<'a>, Fault>
+        ensures { result ≡ asked_destroy (as_words words.now) }
+    {
+        let [path] = words else {
+            return Err(Fault::BadCommand);
+        };
+        Ok(Destroy {
+            path: Word::new(path),
+        })
+    }
 }

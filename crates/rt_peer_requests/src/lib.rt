@@ -10,9 +10,9 @@ pub mod path;
 pub mod peers;
 pub mod settings;
 
-pub use destroying::{Destroy, destroyed};
+pub use destroying::Destroy;
 pub use limits::Limit;
-pub use options::{NamedOption, named_option};
+pub use options::NamedOption;
 pub use path::Path;
 pub use peers::PeerRequest;
 pub use settings::WidgetSettings;

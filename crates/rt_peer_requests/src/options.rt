@@ -1,5 +1,6 @@
 // The options of a widget.
-ghost use Rattle.std.specs.Prelude.{◌≡◌, map, option_map, string_bytes};
+ghost use Rattle.std.specs.Prelude.{◌≡◌, option_map};
+ghost use Rattle.rt_stamps.specs.Words.{as_words};
 ghost use Rattle.rt_requests.specs.OptionWords.{option_of};
 ghost use Rattle.rt_peer_requests.specs.declared.options.NamedOption.TheVariants.{Shared};
 ghost use Rattle.rt_peer_requests.specs.SettingWords.{asked_named_option, named_option};
@@ -30,6 +31,20 @@ impl NamedOption {
             _ => shared(word),
         }
     }
+
+    /// What the words behind `cget` ask for: one word, which names an option. Refused by `BadCommand` and then by
+    /// `BadOption`. It takes no memory.
+    pub fn asked(words: &[String]) -> Result<NamedOption, Fault>
+        ensures { result ≡ asked_named_option (as_words words.now) }
+    {
+        let [word] = words else {
+            return Err(Fault::BadCommand);
+        };
+        match NamedOption::of(word) {
+            Some(option) => Ok(option),
+            None => Err(Fault::BadOption),
+        }
+    }
 }
 
 // The shared option that a word names.
@@ -38,18 +53,4 @@ fn shared(word: &str) -> Option<NamedOption>
 {
     let option = WidgetOption::of(word)?;
     Some(NamedOption::Shared(option))
-}
-
-/// What the words behind `cget` ask for: one word, which names an option. Refused by `BadCommand` and then by
-/// `BadOption`. It takes no memory.
-pub fn named_option(words: &[String]) -> Result<NamedOption, Fault>
-    ensures { result ≡ asked_named_option (map (λ w. string_bytes w) words.now) }
-{
-    let [word] = words else {
-        return Err(Fault::BadCommand);
-    };
-    match NamedOption::of(word) {
-        Some(option) => Ok(option),
-        None => Err(Fault::BadOption),
-    }
 }

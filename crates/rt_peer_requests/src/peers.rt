@@ -1,5 +1,6 @@
 // What is asked of the peers of a widget.
-ghost use Rattle.std.specs.Prelude.{◌≡◌, ◌∷◌, map, string_bytes};
+ghost use Rattle.std.specs.Prelude.{◌≡◌, ◌∷◌};
+ghost use Rattle.rt_stamps.specs.Words.{as_words};
 ghost use Rattle.rt_peer_requests.specs.PeerWords.{asked_create, asked_names, asked_of_peers};
 
 use crate::path::Path;
@@ -22,7 +23,7 @@ impl<'a> PeerRequest<'a> {
     /// What the words behind `peer` ask for. Refused by the first of `BadCommand`, `BadOption` and `BadName`. It takes
     /// no memory.
     pub fn of(words: &'a [String]) -> Result<PeerRequest<'a>, Fault>
-        ensures { result ≡ asked_of_peers (map (λ w. string_bytes w) words.now) }
+        ensures { result ≡ asked_of_peers (as_words words.now) }
     {
         let Some((what, words)) = words.split_first() else {
             return Err(Fault::BadCommand);
@@ -33,7 +34,7 @@ impl<'a> PeerRequest<'a> {
 
 // What is asked, by its name.
 fn of_peers<'a>(what: &str, words: &'a [String]) -> Result<PeerRequest<'a>, Fault>
-    ensures { result ≡ asked_of_peers (what.now ∷ map (λ w. string_bytes w) words.now) }
+    ensures { result ≡ asked_of_peers (what.now ∷ as_words words.now) }
 {
     match what {
         "create" => create(words),
@@ -44,7 +45,7 @@ fn of_peers<'a>(what: &str, words: &'a [String]) -> Result<PeerRequest<'a>, Faul
 
 // `peer create PATH ?OPTION VALUE ...?`.
 fn create<'a>(words: &'a [String]) -> Result<PeerRequest<'a>, Fault>
-    ensures { result ≡ asked_create (map (λ w. string_bytes w) words.now) }
+    ensures { result ≡ asked_create (as_words words.now) }
 {
     let Some((path, words)) = words.split_first() else {
         return Err(Fault::BadCommand);
@@ -58,7 +59,7 @@ fn create<'a>(words: &'a [String]) -> Result<PeerRequest<'a>, Fault>
 
 // `peer names`.
 fn names<'a>(words: &'a [String]) -> Result<PeerRequest<'a>, Fault>
-    ensures { result ≡ asked_names (map (λ w. string_bytes w) words.now) }
+    ensures { result ≡ asked_names (as_words words.now) }
 {
     match words {
         [] => Ok(PeerRequest::Names),

@@ -1,5 +1,6 @@
 // What the options of a widget are set to.
-ghost use Rattle.std.specs.Prelude.{◌≡◌, None, Some, map, string_bytes, if◌then◌else◌};
+ghost use Rattle.std.specs.Prelude.{◌≡◌, None, Some, if◌then◌else◌};
+ghost use Rattle.rt_stamps.specs.Words.{as_words};
 ghost use Rattle.rt_requests.specs.OptionWords.{are_pairs};
 ghost use Rattle.rt_peer_requests.specs.SettingWords.{asked_of_pairs, asked_settings, can_all_be_set, settings_in, with_value};
 
@@ -24,7 +25,7 @@ impl WidgetSettings {
     /// What the words behind `configure` ask for: options with their values, one pair at least. Refused by `BadCommand`
     /// and then by `BadOption`. It takes no memory.
     pub fn of(words: &[String]) -> Result<WidgetSettings, Fault>
-        ensures { result ≡ asked_settings (map (λ w. string_bytes w) words.now) }
+        ensures { result ≡ asked_settings (as_words words.now) }
     {
         if words.is_empty() {
             return Err(Fault::BadCommand);
@@ -53,7 +54,7 @@ impl WidgetSettings {
 
 // What any number of options with their values ask for.
 pub(crate) fn of_pairs(words: &[String]) -> Result<WidgetSettings, Fault>
-    ensures { result ≡ asked_of_pairs (map (λ w. string_bytes w) words.now) }
+    ensures { result ≡ asked_of_pairs (as_words words.now) }
 {
     if !are_pairs(words) {
         return Err(Fault::BadCommand);
@@ -66,14 +67,14 @@ pub(crate) fn of_pairs(words: &[String]) -> Result<WidgetSettings, Fault>
 
 // Whether words are options with their values, in pairs.
 fn are_pairs(words: &[String]) -> bool
-    ensures { result ≡ are_pairs (map (λ w. string_bytes w) words.now) }
+    ensures { result ≡ are_pairs (as_words words.now) }
 {
     words.len() % 2 == 0
 }
 
 // What pairs of words set. None where an option isn't there or can't have its value.
 fn read_pairs(words: &[String]) -> Option<WidgetSettings>
-    ensures { let pairs = map (λ w. string_bytes w) words.now in result ≡ (if can_all_be_set pairs then Some (settings_in pairs) else None) }
+    ensures { let pairs = as_words words.now in result ≡ (if can_all_be_set pairs then Some (settings_in pairs) else None) }
 {
     let shared = Settings {
         undo: None,

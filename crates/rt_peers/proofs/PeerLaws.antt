@@ -1,5 +1,5 @@
 -- Widgets by their places, and paths.
-use Rattle.std.proofs.Common.{◌≡◌, ◌∙◌, ◌+◌, ◌<◌, ◌≤◌, ◌||◌, ℕ, zero, suc, nat_lt, Bool, true, false, cond, not, List, [], ◌∷◌, ◌++◌, Option, Some, None, Ok, Err, Result, String, Global, inl, inr, ap, arith, drop, get_or, length, map, refl, set, string_bytes, subst, sym, take}
+use Rattle.std.proofs.Common.{◌≡◌, ◌∙◌, ◌+◌, ◌<◌, ◌≤◌, ◌||◌, ℕ, zero, suc, nat_lt, Bool, true, false, cond, not, List, [], ◌∷◌, ◌++◌, Option, Some, None, Ok, Err, Result, String, Global, inl, inr, ap, arith, drop, get_or, length, refl, set, string_bytes, subst, sym, take}
 use Rattle.std.specs.Cmp.Lexicographic.{nat_list_eq_equiv}
 use Rattle.std.specs.List.{AllByRecursion, IsDistinct, list_any, position, position_or_len, remove}
 use Rattle.std.specs.Str.{bytes_eq}
@@ -10,7 +10,7 @@ use Rattle.std.proofs.lemmas.List.Quantifiers.{position-Some}
 use Rattle.std.proofs.lemmas.Map.Keys.{IsDistinct-push}
 use Rattle.rt_stamps.specs.declared.fault.Fault.{Fault}
 use Rattle.rt_stamps.specs.Outcomes.{Answers, Refuses}
-use Rattle.rt_stamps.specs.Words.{Word}
+use Rattle.rt_stamps.specs.Words.{Word, as_words}
 use Rattle.rt_store.proofs.Shown.{position_map}
 use Rattle.rt_editing.specs.Edited.{Edited}
 use Rattle.rt_text.specs.Widgets.{Own, Viewed}
@@ -72,17 +72,17 @@ pub place_within : (path : Word) (paths : List Word) (place : ℕ) → place_of 
 place_within path paths place e = (position-Some (λ other. bytes_eq other path) paths place [] e).0
 
 -- paths as strings
-pub place_of_strings : (path : Word) (paths : List (String Global)) → place_of path (map (λ w. string_bytes w) paths) ≡ position (λ w. bytes_eq (string_bytes w) path) paths
+pub place_of_strings : (path : Word) (paths : List (String Global)) → place_of path (as_words paths) ≡ position (λ w. bytes_eq (string_bytes w) path) paths
 place_of_strings path paths = position_map (λ other. bytes_eq other path) (λ w. string_bytes w) paths
 
-pub place_in : (path : Word) (strings items : List (String Global)) (paths : List Word) (found : Option ℕ) → found ≡ place_of path (map (λ w. string_bytes w) strings) → strings ≡ items
-    → map (λ w. string_bytes w) items ≡ paths → place_of path paths ≡ found
-place_in path strings items paths found e f g = sym (e ∙ ap (λ l. place_of path (map (λ w. string_bytes w) l)) f ∙ ap (place_of path) g)
+pub place_in : (path : Word) (strings items : List (String Global)) (paths : List Word) (found : Option ℕ) → found ≡ place_of path (as_words strings) → strings ≡ items
+    → as_words items ≡ paths → place_of path paths ≡ found
+place_in path strings items paths found e f g = sym (e ∙ ap (λ l. place_of path (as_words l)) f ∙ ap (place_of path) g)
 
-pub number_of_strings : (paths : List (String Global)) → length (map (λ w. string_bytes w) paths) ≡ length paths
+pub number_of_strings : (paths : List (String Global)) → length (as_words paths) ≡ length paths
 number_of_strings paths = length-map paths (λ w. string_bytes w)
 
-pub strings_without : (paths : List (String Global)) (place : ℕ) → map (λ w. string_bytes w) (remove paths place) ≡ remove (map (λ w. string_bytes w) paths) place
+pub strings_without : (paths : List (String Global)) (place : ℕ) → as_words (remove paths place) ≡ remove (as_words paths) place
 strings_without paths place =
     let f : String Global → Word = λ w. string_bytes w in
     map-append f (take place paths) (drop (suc place) paths) ∙ (λ i. sym (take-map f place paths) i ++ sym (drop-map f (suc place) paths) i)

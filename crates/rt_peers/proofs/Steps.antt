@@ -5,7 +5,7 @@ use Rattle.std.proofs.lemmas.List.{map-append}
 use Rattle.rt_stamps.specs.declared.fault.Fault.{Fault}
 use Rattle.rt_stamps.specs.declared.fault.Fault.TheVariants.{NoMemory}
 use Rattle.rt_stamps.specs.Outcomes.{Answers, Refuses}
-use Rattle.rt_stamps.specs.Words.{Word}
+use Rattle.rt_stamps.specs.Words.{Word, as_words}
 use Rattle.rt_text.specs.Commands.{got_list}
 use Rattle.rt_text.specs.Widgets.{Viewed}
 use Rattle.rt_editing.specs.Edited.{Edited, edited}
@@ -67,7 +67,7 @@ one_more {A} f done new made xs i x pushed is_made h is before =
 
 -- where a word is made of it
 pub one_more_word : {A : Type 0} (f : A → Word) (words new : List (String Global)) (word : String Global) (xs : List A) (i : ℕ) (x : A) → new ≡ words ++ word ∷ [] → string_bytes word ≡ f x
-    → i < length xs → x ≡ get_or xs i x → map (λ w. string_bytes w) words ++ map f (drop i xs) ≡ map f xs → map (λ w. string_bytes w) new ++ map f (drop (i + 1) xs) ≡ map f xs
+    → i < length xs → x ≡ get_or xs i x → as_words words ++ map f (drop i xs) ≡ map f xs → as_words new ++ map f (drop (i + 1) xs) ≡ map f xs
 one_more_word f words new word xs i x pushed made h is before =
     let b : String Global → Word = λ w. string_bytes w in
     one_more f (map b words) (map b new) (b word) xs i x (ap (map b) pushed ∙ map-append b words (word ∷ [])) made h is before
@@ -82,13 +82,13 @@ one_more_of {A} f done new xs i x pushed h is before =
     ∙ ap (λ (l : List A). done ++ flat_map f l) ((λ j. is j ∷ drop (suc i) xs) ∙ sym (drop-cons xs i x h)) ∙ before
 
 -- words by their number
-pub single : (words : List (String Global)) (x : String Global) → 1 ≤ length words → length words < 2 → x ≡ get_or words 0 x → map (λ w. string_bytes w) words ≡ string_bytes x ∷ []
+pub single : (words : List (String Global)) (x : String Global) → 1 ≤ length words → length words < 2 → x ≡ get_or words 0 x → as_words words ≡ string_bytes x ∷ []
 single [] x h k a = absurd (omega arith)
 single (w ∷ []) x h k a = rw a refl
 single (w ∷ v ∷ words) x h k a = absurd (omega arith)
 
 pub pair : (words : List (String Global)) (x y : String Global) → 2 ≤ length words → length words < 3 → x ≡ get_or words 0 x → y ≡ get_or words 1 y
-    → map (λ w. string_bytes w) words ≡ string_bytes x ∷ string_bytes y ∷ []
+    → as_words words ≡ string_bytes x ∷ string_bytes y ∷ []
 pair [] x y h k a b = absurd (omega arith)
 pair (w ∷ []) x y h k a b = absurd (omega arith)
 pair (w ∷ v ∷ []) x y h k a b = rw (a, b) refl
@@ -96,7 +96,7 @@ pair (w ∷ v ∷ u ∷ words) x y h k a b = absurd (omega arith)
 
 -- the texts of indices that are neither one nor two
 pub get_of_many : (view : Viewed) (words : List (String Global)) → (length words ≡ 1 → ⊥) → (length words ≡ 2 → ⊥)
-    → get_step view (map (λ w. string_bytes w) words) ≡ told_step (λ texts. texts) view (got_list view (map (λ w. string_bytes w) words))
+    → get_step view (as_words words) ≡ told_step (λ texts. texts) view (got_list view (as_words words))
 get_of_many view [] one two = refl
 get_of_many view (w ∷ []) one two = absurd (one refl)
 get_of_many view (w ∷ v ∷ []) one two = absurd (two refl)

@@ -54,14 +54,14 @@ number_word None = []
 number_word (Some number) = decimal number
 
 -- what an option is set to: a limit to the line that it has by now
-abbrev pub option_word : Edited → NamedOption → Word
-option_word text (Shared option) = text_of_bool (option_value text option)
-option_word text StartLine = number_word (start_number text.view.doc.cells text.view.own.limits)
-option_word text EndLine = number_word (end_number text.view.doc.cells text.view.own.limits)
+abbrev pub option_value_word : Edited → NamedOption → Word
+option_value_word text (Shared option) = text_of_bool (option_value text option)
+option_value_word text StartLine = number_word (start_number text.view.doc.cells text.view.own.limits)
+option_value_word text EndLine = number_word (end_number text.view.doc.cells text.view.own.limits)
 
 -- cget OPTION
 abbrev pub option_step : Edited → NamedOption → Outcome Edited
-option_step text option = Ok (one_word (option_word text option), text)
+option_step text option = Ok (one_word (option_value_word text option), text)
 
 -- a word that names an option, or that is refused
 abbrev pub option_outcome : Edited → Result NamedOption Fault → Outcome Edited

@@ -1,7 +1,8 @@
 // The paths of a site's widgets.
-ghost use Rattle.std.specs.Prelude.{◌≡◌, IfOk, IsOkUnless, codes, map, string_bytes};
+ghost use Rattle.std.specs.Prelude.{◌≡◌, IfOk, IsOkUnless, codes, string_bytes};
 ghost use Rattle.std.specs.List.{position};
 ghost use Rattle.std.specs.Str.{bytes_eq};
+ghost use Rattle.rt_stamps.specs.Words.{as_words};
 ghost use Rattle.rt_peers.specs.PeerStep.{other_paths};
 ghost use Rattle.rt_peers.specs.State.{place_of};
 
@@ -17,14 +18,14 @@ fn position_of(strings: &[String], text: &str) -> Option<usize>
 
 /// Which of some paths is this one.
 pub(crate) fn place_of(paths: &[String], path: &str) -> Option<usize>
-    ensures { result ≡ place_of path.now (map (λ w. string_bytes w) paths.now) }
+    ensures { result ≡ place_of path.now (as_words paths.now) }
 {
     position_of(paths, path)
 }
 
 /// Copies of the paths but one. Want of memory.
 pub(crate) fn other_paths(alloc: Global, paths: &[String], path: &str) -> Result<Vec<String>, Fault>
-    ensures ok { IfOk result (λ others. map (λ w. string_bytes w) others.items ≡ other_paths path.now (map (λ w. string_bytes w) paths.now)) }
+    ensures ok { IfOk result (λ others. as_words others.items ≡ other_paths path.now (as_words paths.now)) }
     ensures err { IsOkUnless result Fault.NoMemory }
 {
     let mut others = Vec::new(alloc);

@@ -1,5 +1,6 @@
 // The texts of an insertion.
-ghost use Rattle.std.specs.Prelude.{◌≡◌, IfOk, IsOkUnless, map, string_bytes};
+ghost use Rattle.std.specs.Prelude.{◌≡◌, IfOk, IsOkUnless, map};
+ghost use Rattle.rt_stamps.specs.Words.{as_words};
 ghost use Rattle.rt_peers.specs.ViewStep.{as_piece};
 
 use rt_stamps::Fault;
@@ -8,7 +9,7 @@ use std::alloc::Global;
 
 // Copies of words.
 fn copied(alloc: Global, words: &[String]) -> Result<Vec<String>, Fault>
-    ensures ok { IfOk result (λ copies. map (λ w. string_bytes w) copies.items ≡ map (λ w. string_bytes w) words.now) }
+    ensures ok { IfOk result (λ copies. as_words copies.items ≡ as_words words.now) }
     ensures err { IsOkUnless result Fault.NoMemory }
 {
     let mut copies = Vec::with_capacity(alloc, words.len())?;

@@ -8,9 +8,10 @@ pub struct Reply {
 }
 
 impl Model for Reply {
-    ghost use Rattle.std.specs.Prelude.{List, ℕ, map, string_bytes};
+    ghost use Rattle.std.specs.Prelude.{List};
+    ghost use Rattle.rt_stamps.specs.Words.{Word, as_words};
 
-    ghost Value = { List (List ℕ) };
+    ghost Value = { List Word };
 
-    ghost view = { λ r. map (λ w. string_bytes w) r.words.items };
+    ghost view = { λ r. as_words r.words.items };
 }

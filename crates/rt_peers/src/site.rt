@@ -1,7 +1,8 @@
 // A site, and what is asked of its widgets.
-ghost use Rattle.std.specs.Prelude.{◌≡◌, ◌∷◌, ◌<◌, ◌≤◌, IfOk, IsOkUnless, length, map, string_bytes};
+ghost use Rattle.std.specs.Prelude.{◌≡◌, ◌∷◌, ◌<◌, ◌≤◌, IfOk, IsOkUnless, length};
 ghost use Rattle.rt_stamps.specs.declared.limits.TheConstants.{MOST_CELLS};
 ghost use Rattle.rt_stamps.specs.Outcomes.{Answers};
+ghost use Rattle.rt_stamps.specs.Words.{as_words};
 ghost use Rattle.rt_peers.specs.Peers.{HavePaths};
 ghost use Rattle.rt_peers.specs.SiteStep.{AskingGives, CommandGives, Gives, OwnGives, WidgetGives, by_widget, step_at};
 ghost use Rattle.rt_peers.specs.State.{new_state};
@@ -39,15 +40,15 @@ impl Drop for SiteState {
 }
 
 impl Model for SiteState {
-    ghost use Rattle.std.specs.Prelude.{map, string_bytes};
+    ghost use Rattle.rt_stamps.specs.Words.{as_words};
     ghost use Rattle.rt_peers.specs.Peers.{HavePaths};
     ghost use Rattle.rt_peers.specs.State.{State};
 
     ghost Value = { State };
 
-    ghost view = { λ s. record { paths = map (λ w. string_bytes w) s.paths.items; text = s.text } };
+    ghost view = { λ s. record { paths = as_words s.paths.items; text = s.text } };
 
-    ghost invariant = { λ s. HavePaths (map (λ w. string_bytes w) s.paths.items) s.text.view };
+    ghost invariant = { λ s. HavePaths (as_words s.paths.items) s.text.view };
 }
 
 impl SiteState {
@@ -66,7 +67,7 @@ impl SiteState {
 
     /// The paths of its widgets, in the order in which they were made.
     pub fn paths(&self) -> &[String]
-        ensures paths { map (λ w. string_bytes w) result.now ≡ self.now.paths }
+        ensures paths { as_words result.now ≡ self.now.paths }
         ensures each { HavePaths self.now.paths self.now.text.view }
     {
         &self.paths
@@ -98,7 +99,7 @@ impl SiteState {
     // COMMAND WORDS of the widget at a place, where the command is about what that widget shows.
     fn run_words(&mut self, place: usize, words: &[String]) -> Result<Reply, Fault>
         requires { place < length self.old.paths }
-        ensures { WidgetGives place (map (λ w. string_bytes w) words.now) self.old result self.new }
+        ensures { WidgetGives place (as_words words.now) self.old result self.new }
     {
         let request = Request::of(self.alloc, words)?;
         self.request(place, &request)
@@ -113,8 +114,8 @@ impl SiteState {
         rest: &[String],
     ) -> Result<Reply, Fault>
         requires place { place < length self.old.paths }
-        requires words { map (λ w. string_bytes w) words.now ≡ name.now ∷ map (λ w. string_bytes w) rest.now }
-        ensures { AskingGives place name.now (map (λ w. string_bytes w) rest.now) self.old result self.new }
+        requires words { as_words words.now ≡ name.now ∷ as_words rest.now }
+        ensures { AskingGives place name.now (as_words rest.now) self.old result self.new }
     {
         if is_cget(name) {
             return self.run_cget(place, rest);
@@ -131,8 +132,8 @@ impl SiteState {
         rest: &[String],
     ) -> Result<Reply, Fault>
         requires place { place < length self.old.paths }
-        requires words { map (λ w. string_bytes w) words.now ≡ name.now ∷ map (λ w. string_bytes w) rest.now }
-        ensures { OwnGives place name.now (map (λ w. string_bytes w) rest.now) self.old result self.new }
+        requires words { as_words words.now ≡ name.now ∷ as_words rest.now }
+        ensures { OwnGives place name.now (as_words rest.now) self.old result self.new }
     {
         if is_configure(name) {
             return self.run_configure(place, rest);
@@ -143,7 +144,7 @@ impl SiteState {
     // COMMAND WORDS of the widget of a path, which is the one at a place.
     fn run(&mut self, path: &str, place: usize, words: &[String]) -> Result<Reply, Fault>
         requires { place < length self.old.paths }
-        ensures { CommandGives path.now place (map (λ w. string_bytes w) words.now) self.old result self.new }
+        ensures { CommandGives path.now place (as_words words.now) self.old result self.new }
     {
         let Some((name, rest)) = words.split_first() else {
             return self.run_words(place, words);
@@ -156,10 +157,10 @@ impl SiteState {
 
     /// `PATH COMMAND WORDS` (Tk text manual): runs a command of the widget of a path. Refused by the
     /// first of `NoWidget`, the faults of the words (`PeerRequest::of` behind `peer`, `WidgetSettings::of` behind
-    /// `configure`, `named_option` behind `cget`, `Request::of`) and of the request, and want of memory in place of any;
+    /// `configure`, `NamedOption::asked` behind `cget`, `Request::of`) and of the request, and want of memory in place of any;
     /// then the site is as it was.
     pub fn command(&mut self, path: &str, words: &[String]) -> Result<Reply, Fault>
-        ensures { Gives path.now (map (λ w. string_bytes w) words.now) self.old result self.new }
+        ensures { Gives path.now (as_words words.now) self.old result self.new }
     {
         let Some(place) = place_of(&self.paths, path) else {
             return Err(Fault::NoWidget);

@@ -14,19 +14,19 @@ use Rattle.rt_text.specs.Widgets.{Viewed, length_shown, marks_of, text_shown, wi
 -- THE FOUR LISTS: these three, and `text_values`
 
 -- where the ranges of a tag end in the widget, and where they begin
-abbrev pub ends_of : Viewed → Word → List Placed
-ends_of view name = map (λ range. placed TagOff name range.to) (tagged_ranges view name)
+abbrev pub tagoffs_of : Viewed → Word → List Placed
+tagoffs_of view name = map (λ range. placed TagOff name range.to) (tagged_ranges view name)
 
-abbrev pub starts_of : Viewed → Word → List Placed
-starts_of view name = map (λ range. placed TagOn name range.from) (tagged_ranges view name)
+abbrev pub tagons_of : Viewed → Word → List Placed
+tagons_of view name = map (λ range. placed TagOn name range.from) (tagged_ranges view name)
 
 -- `tagoff`: the ends of each listed tag, of the tag of the lowest priority first
-abbrev pub tag_ends : Viewed → List Placed
-tag_ends view = flat_map (ends_of view) view.doc.tags
+abbrev pub tagoffs : Viewed → List Placed
+tagoffs view = flat_map (tagoffs_of view) view.doc.tags
 
 -- `tagon`: the beginnings of each
-abbrev pub tag_starts : Viewed → List Placed
-tag_starts view = flat_map (starts_of view) view.doc.tags
+abbrev pub tagons : Viewed → List Placed
+tagons view = flat_map (tagons_of view) view.doc.tags
 
 -- `mark`: the widget's marks, in their order
 abbrev pub marks_standing : Viewed → List Placed
@@ -36,7 +36,7 @@ marks_standing view = map (λ m. placed Mark m.name m.place) (marks_of view)
 
 -- the elements asked for that aren't text
 abbrev pub others_asked : Viewed → Kinds → List Placed
-others_asked view kinds = if_asked kinds.tags (tag_ends view) ++ if_asked kinds.tags (tag_starts view) ++ if_asked kinds.marks (marks_standing view)
+others_asked view kinds = if_asked kinds.tags (tagoffs view) ++ if_asked kinds.tags (tagons view) ++ if_asked kinds.marks (marks_standing view)
 
 -- what is shown from one place up to before another: at one place first `tagoff`, then `tagon`, `mark` and `text`
 abbrev pub elements_between : Viewed → Kinds → ℕ → ℕ → List Placed

@@ -1,6 +1,6 @@
 // Where ranges of tags end and begin.
 ghost use Rattle.std.specs.Prelude.{◌≡◌, ◌++◌, IsOkUnless, IfOk, OnOk};
-ghost use Rattle.rt_queries.specs.Dumping.{ends_of, starts_of, tag_ends, tag_starts};
+ghost use Rattle.rt_queries.specs.Dumping.{tagoffs_of, tagons_of, tagoffs, tagons};
 ghost use Rattle.rt_queries.specs.Stretches.{within};
 
 use crate::Key;
@@ -21,8 +21,8 @@ fn push_tag<S: TextStore>(
     ends: &mut Vec<Placed>,
     starts: &mut Vec<Placed>,
 ) -> Result<(), Fault>
-    ensures ends { OnOk result (ends.new.items ≡ ends.old.items ++ within stretch (ends_of view.now name.now)) }
-    ensures starts { OnOk result (starts.new.items ≡ starts.old.items ++ within stretch (starts_of view.now name.now)) }
+    ensures ends { OnOk result (ends.new.items ≡ ends.old.items ++ within stretch (tagoffs_of view.now name.now)) }
+    ensures starts { OnOk result (starts.new.items ≡ starts.old.items ++ within stretch (tagons_of view.now name.now)) }
     ensures err { IsOkUnless result Fault.NoMemory }
 {
     let found = ranges(alloc, view, name)?;
@@ -40,7 +40,7 @@ pub(crate) fn borders<S: TextStore>(
     view: &View<S>,
     stretch: Stretch,
 ) -> Result<Vec<Placed>, Fault>
-    ensures ok { IfOk result (λ all. all.items ≡ within stretch (tag_ends view.now) ++ within stretch (tag_starts view.now)) }
+    ensures ok { IfOk result (λ all. all.items ≡ within stretch (tagoffs view.now) ++ within stretch (tagons view.now)) }
     ensures err { IsOkUnless result Fault.NoMemory }
 {
     let names = view.doc().tags().names()?;

@@ -1,7 +1,7 @@
 -- Words that are read as texts with their lists, one pair after the other.
-use Rattle.std.proofs.Common.{◌≡◌, ◌∙◌, ℕ, ◌≤◌, ◌-◌, List, [], ◌∷◌, ◌++◌, map, take, drop, get_or, length, refl, sym, ap, subst, arith, append_assoc, append-nil, String, Global, string_bytes}
+use Rattle.std.proofs.Common.{◌≡◌, ◌∙◌, ℕ, ◌≤◌, ◌-◌, List, [], ◌∷◌, ◌++◌, take, drop, get_or, length, refl, sym, ap, subst, arith, append_assoc, append-nil, String, Global, string_bytes}
 use Rattle.std.proofs.lemmas.List.{take_all}
-use Rattle.rt_stamps.specs.Words.{Word}
+use Rattle.rt_stamps.specs.Words.{Word, as_words}
 use Rattle.rt_words.specs.Spelling.{SpellsList}
 use Rattle.rt_requests.specs.Parts.{PieceValue}
 use Rattle.rt_requests.specs.Asking.{AreTexts}
@@ -32,7 +32,7 @@ pub behind_two : (w v : String Global) (words : List (String Global)) → take (
 behind_two w v words = take_all (length (w ∷ v ∷ words) - 2) words (omega arith)
 
 pub two_and_more : (words : List (String Global)) (x y : String Global) → 2 ≤ length words → x ≡ get_or words 0 x → y ≡ get_or words 1 y
-    → map (λ w. string_bytes w) words ≡ string_bytes x ∷ string_bytes y ∷ map (λ w. string_bytes w) (take (length words - 2) (drop 2 words))
+    → as_words words ≡ string_bytes x ∷ string_bytes y ∷ as_words (take (length words - 2) (drop 2 words))
 two_and_more [] x y h a b = absurd (omega arith)
 two_and_more (w ∷ []) x y h a b = absurd (omega arith)
 two_and_more (w ∷ v ∷ words) x y h a b = rw (a, b, behind_two w v words) refl

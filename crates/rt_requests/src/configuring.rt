@@ -1,5 +1,6 @@
 // Questions about the options of a widget, and what they are set to.
-ghost use Rattle.std.specs.Prelude.{◌≡◌, None, Some, map, string_bytes, if◌then◌else◌};
+ghost use Rattle.std.specs.Prelude.{◌≡◌, None, Some, if◌then◌else◌};
+ghost use Rattle.rt_stamps.specs.Words.{as_words};
 ghost use Rattle.rt_requests.specs.declared.request.Request.TheVariants.{Cget, Configure};
 ghost use Rattle.rt_requests.specs.Asking.{as_request};
 ghost use Rattle.rt_requests.specs.OptionWords.{are_settings, asked_option, asked_settings, can_be_set, settings_of};
@@ -10,7 +11,7 @@ use rt_stamps::Fault;
 
 // `cget OPTION`.
 pub(crate) fn cget<'a>(words: &'a [String]) -> Result<Request<'a>, Fault>
-    ensures { result ≡ as_request Cget (asked_option (map (λ w. string_bytes w) words.now)) }
+    ensures { result ≡ as_request Cget (asked_option (as_words words.now)) }
 {
     let option = option(words)?;
     Ok(Request::Cget { option })
@@ -18,7 +19,7 @@ pub(crate) fn cget<'a>(words: &'a [String]) -> Result<Request<'a>, Fault>
 
 // The option that is asked for, as words.
 fn option(words: &[String]) -> Result<WidgetOption, Fault>
-    ensures { result ≡ asked_option (map (λ w. string_bytes w) words.now) }
+    ensures { result ≡ asked_option (as_words words.now) }
 {
     let [word] = words else {
         return Err(Fault::BadCommand);
@@ -31,7 +32,7 @@ fn option(words: &[String]) -> Result<WidgetOption, Fault>
 
 // `configure OPTION VALUE ?OPTION VALUE ...?`.
 pub(crate) fn configure<'a>(words: &'a [String]) -> Result<Request<'a>, Fault>
-    ensures { result ≡ as_request Configure (asked_settings (map (λ w. string_bytes w) words.now)) }
+    ensures { result ≡ as_request Configure (asked_settings (as_words words.now)) }
 {
     let settings = settings(words)?;
     Ok(Request::Configure { settings })
@@ -39,7 +40,7 @@ pub(crate) fn configure<'a>(words: &'a [String]) -> Result<Request<'a>, Fault>
 
 // What is set, as words in pairs of an option and its value.
 fn settings(words: &[String]) -> Result<Settings, Fault>
-    ensures { result ≡ asked_settings (map (λ w. string_bytes w) words.now) }
+    ensures { result ≡ asked_settings (as_words words.now) }
 {
     if !are_settings(words) {
         return Err(Fault::BadCommand);
@@ -52,14 +53,14 @@ fn settings(words: &[String]) -> Result<Settings, Fault>
 
 // Whether words are options with their values, in pairs, and at least one.
 fn are_settings(words: &[String]) -> bool
-    ensures { result ≡ are_settings (map (λ w. string_bytes w) words.now) }
+    ensures { result ≡ are_settings (as_words words.now) }
 {
     !words.is_empty() && words.len() % 2 == 0
 }
 
 // What pairs of words set. None where an option isn't there or can't have its value.
 fn read_settings(words: &[String]) -> Option<Settings>
-    ensures { let pairs = map (λ w. string_bytes w) words.now in result ≡ (if can_be_set pairs then Some (settings_of pairs) else None) }
+    ensures { let pairs = as_words words.now in result ≡ (if can_be_set pairs then Some (settings_of pairs) else None) }
 {
     let mut settings = Settings {
         undo: None,

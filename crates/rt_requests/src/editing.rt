@@ -1,5 +1,6 @@
 // Insertions and removals.
-ghost use Rattle.std.specs.Prelude.{◌≡◌, ◌<◌, ◌⊎◌, [], ◌∷◌, Err, IfOk, IfErr, length, map, string_bytes};
+ghost use Rattle.std.specs.Prelude.{◌≡◌, ◌<◌, ◌⊎◌, [], ◌∷◌, Err, IfOk, IfErr, length};
+ghost use Rattle.rt_stamps.specs.Words.{as_words};
 ghost use Rattle.rt_words.specs.Spelling.{SpellsList, IsBadlyQuotedList};
 ghost use Rattle.rt_requests.specs.declared.request.Request.TheVariants.{Delete, Insert, Replace};
 ghost use Rattle.rt_requests.specs.Asking.{AreTexts, AreNoTexts, AsksInsert, AsksReplace, AsksTexts};
@@ -14,7 +15,7 @@ use std::alloc::Global;
 
 // `insert INDEX CHARS ?TAGLIST CHARS TAGLIST ...?`.
 pub(crate) fn insert<'a>(alloc: Global, words: &'a [String]) -> Result<Request<'a>, Fault>
-    ensures { AsksInsert (map (λ w. string_bytes w) words.now) result ⊎ (result ≡ Err Fault.NoMemory) }
+    ensures { AsksInsert (as_words words.now) result ⊎ (result ≡ Err Fault.NoMemory) }
 {
     let Some((index, words)) = words.split_first() else {
         return Err(Fault::BadCommand);
@@ -31,7 +32,7 @@ fn insert_texts<'a>(
     index: &'a str,
     words: &'a [String],
 ) -> Result<Request<'a>, Fault>
-    ensures { AsksTexts (Insert index.now) (map (λ w. string_bytes w) words.now) result ⊎ (result ≡ Err Fault.NoMemory) }
+    ensures { AsksTexts (Insert index.now) (as_words words.now) result ⊎ (result ≡ Err Fault.NoMemory) }
 {
     let texts = read_texts(alloc, words)?;
     Ok(Request::Insert {
@@ -42,7 +43,7 @@ fn insert_texts<'a>(
 
 // `replace INDEX1 INDEX2 CHARS ?TAGLIST CHARS TAGLIST ...?`.
 pub(crate) fn replace<'a>(alloc: Global, words: &'a [String]) -> Result<Request<'a>, Fault>
-    ensures { AsksReplace (map (λ w. string_bytes w) words.now) result ⊎ (result ≡ Err Fault.NoMemory) }
+    ensures { AsksReplace (as_words words.now) result ⊎ (result ≡ Err Fault.NoMemory) }
 {
     let Some((from, words)) = words.split_first() else {
         return Err(Fault::BadCommand);
@@ -52,7 +53,7 @@ pub(crate) fn replace<'a>(alloc: Global, words: &'a [String]) -> Result<Request<
 
 // `replace` from an index, with the words behind it.
 fn replace_from<'a>(alloc: Global, from: &'a str, words: &'a [String]) -> Result<Request<'a>, Fault>
-    ensures { AsksReplace (from.now ∷ map (λ w. string_bytes w) words.now) result ⊎ (result ≡ Err Fault.NoMemory) }
+    ensures { AsksReplace (from.now ∷ as_words words.now) result ⊎ (result ≡ Err Fault.NoMemory) }
 {
     let Some((to, texts)) = words.split_first() else {
         return Err(Fault::BadCommand);
@@ -70,7 +71,7 @@ fn replace_by_texts<'a>(
     to: &'a str,
     words: &'a [String],
 ) -> Result<Request<'a>, Fault>
-    ensures { AsksTexts (Replace from.now to.now) (map (λ w. string_bytes w) words.now) result ⊎ (result ≡ Err Fault.NoMemory) }
+    ensures { AsksTexts (Replace from.now to.now) (as_words words.now) result ⊎ (result ≡ Err Fault.NoMemory) }
 {
     let texts = read_texts(alloc, words)?;
     Ok(Request::Replace {
@@ -93,7 +94,7 @@ fn piece<'a>(alloc: Global, text: &'a str, list: &str) -> Result<Piece<'a>, Faul
 // The text that is the only word, or an empty one where there is no word.
 fn only_text(words: &[String]) -> &str
     requires { length words.now < 2 }
-    ensures { AreTexts (map (λ w. string_bytes w) words.now) [] result.now }
+    ensures { AreTexts (as_words words.now) [] result.now }
 {
     match words {
         [text] => text,
@@ -104,8 +105,8 @@ fn only_text(words: &[String]) -> &str
 // Texts with their lists, in pairs of words, and then a text without a list. `BadQuoting` where a
 // list spells no words, or want of memory.
 fn read_texts<'a>(alloc: Global, words: &'a [String]) -> Result<Texts<'a>, Fault>
-    ensures ok { IfOk result (λ texts. AreTexts (map (λ w. string_bytes w) words.now) texts.pieces texts.rest) }
-    ensures quoting { result ≡ Err Fault.BadQuoting → AreNoTexts (map (λ w. string_bytes w) words.now) }
+    ensures ok { IfOk result (λ texts. AreTexts (as_words words.now) texts.pieces texts.rest) }
+    ensures quoting { result ≡ Err Fault.BadQuoting → AreNoTexts (as_words words.now) }
     ensures fault { IfErr result (λ fault. (fault ≡ Fault.NoMemory) ⊎ (fault ≡ Fault.BadQuoting)) }
 {
     let mut pieces = Vec::new(alloc);
@@ -120,7 +121,7 @@ fn read_texts<'a>(alloc: Global, words: &'a [String]) -> Result<Texts<'a>, Fault
 
 // `delete INDEX ?INDEX ...?`.
 pub(crate) fn delete<'a>(words: &'a [String]) -> Result<Request<'a>, Fault>
-    ensures { result ≡ of_several Delete (map (λ w. string_bytes w) words.now) }
+    ensures { result ≡ of_several Delete (as_words words.now) }
 {
     let indices = Words::new(words).ok_or(Fault::BadCommand)?;
     Ok(Request::Delete { indices })

@@ -1,6 +1,7 @@
 // What a dump shows.
-ghost use Rattle.std.specs.Prelude.{◌≡◌, map, string_bytes};
+ghost use Rattle.std.specs.Prelude.{◌≡◌, string_bytes};
 ghost use Rattle.std.specs.List.{list_all};
+ghost use Rattle.rt_stamps.specs.Words.{as_words};
 ghost use Rattle.rt_requests.specs.Switches.{is_dump_switch, kinds_of, shows};
 
 use crate::switches::has;
@@ -20,7 +21,7 @@ impl Kinds {
     /// The kinds that switches of a dump ask for: each that is named, and all of them for `-all` and where there is no
     /// switch. None where a switch is unknown. It takes no memory.
     pub fn of(switches: &[String]) -> Option<Kinds>
-        ensures { result ≡ kinds_of (map (λ w. string_bytes w) switches.now) }
+        ensures { result ≡ kinds_of (as_words switches.now) }
     {
         if !all_known(switches) {
             return None;
@@ -42,7 +43,7 @@ fn is_known(switch: &str) -> bool
 
 // Whether a dump has each of some switches.
 fn all_known(switches: &[String]) -> bool
-    ensures { result ≡ list_all is_dump_switch (map (λ w. string_bytes w) switches.now) }
+    ensures { result ≡ list_all is_dump_switch (as_words switches.now) }
 {
     are_known(switches)
 }
@@ -56,7 +57,7 @@ fn are_known(switches: &[String]) -> bool
 
 // Whether elements of a kind are shown.
 fn shows(switches: &[String], kind: &str) -> bool
-    ensures { result ≡ shows (map (λ w. string_bytes w) switches.now) kind.now }
+    ensures { result ≡ shows (as_words switches.now) kind.now }
 {
     switches.is_empty() || has(switches, "-all") || has(switches, kind)
 }

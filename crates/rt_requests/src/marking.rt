@@ -1,5 +1,6 @@
 // What is asked of marks.
-ghost use Rattle.std.specs.Prelude.{◌≡◌, map, string_bytes};
+ghost use Rattle.std.specs.Prelude.{◌≡◌};
+ghost use Rattle.rt_stamps.specs.Words.{as_words};
 ghost use Rattle.rt_requests.specs.declared.request.MarkRequest.TheVariants.{Next, Previous, Unset};
 ghost use Rattle.rt_requests.specs.Asking.{asked_mark};
 ghost use Rattle.rt_requests.specs.MarkWords.{asked_gravity, asked_mark_names, asked_mark_set, asked_of_marks};
@@ -12,7 +13,7 @@ use rt_stamps::Fault;
 
 // `mark WHAT ?WORD ...?`.
 pub(crate) fn mark<'a>(words: &'a [String]) -> Result<Request<'a>, Fault>
-    ensures { result ≡ asked_mark (map (λ w. string_bytes w) words.now) }
+    ensures { result ≡ asked_mark (as_words words.now) }
 {
     let Some((what, words)) = words.split_first() else {
         return Err(Fault::BadCommand);
@@ -23,7 +24,7 @@ pub(crate) fn mark<'a>(words: &'a [String]) -> Result<Request<'a>, Fault>
 
 // What is asked, by its name.
 fn of_marks<'a>(what: &str, words: &'a [String]) -> Result<MarkRequest<'a>, Fault>
-    ensures { result ≡ asked_of_marks what.now (map (λ w. string_bytes w) words.now) }
+    ensures { result ≡ asked_of_marks what.now (as_words words.now) }
 {
     match what {
         "set" => set(words),
@@ -38,7 +39,7 @@ fn of_marks<'a>(what: &str, words: &'a [String]) -> Result<MarkRequest<'a>, Faul
 
 // `mark set NAME INDEX`.
 fn set<'a>(words: &'a [String]) -> Result<MarkRequest<'a>, Fault>
-    ensures { result ≡ asked_mark_set (map (λ w. string_bytes w) words.now) }
+    ensures { result ≡ asked_mark_set (as_words words.now) }
 {
     let [name, index] = words else {
         return Err(Fault::BadCommand);
@@ -51,7 +52,7 @@ fn set<'a>(words: &'a [String]) -> Result<MarkRequest<'a>, Fault>
 
 // `mark unset NAME ?NAME ...?`.
 fn unset<'a>(words: &'a [String]) -> Result<MarkRequest<'a>, Fault>
-    ensures { result ≡ of_several Unset (map (λ w. string_bytes w) words.now) }
+    ensures { result ≡ of_several Unset (as_words words.now) }
 {
     let names = Words::new(words).ok_or(Fault::BadCommand)?;
     Ok(MarkRequest::Unset { names })
@@ -59,7 +60,7 @@ fn unset<'a>(words: &'a [String]) -> Result<MarkRequest<'a>, Fault>
 
 // `mark gravity NAME ?GRAVITY?`.
 fn gravity<'a>(words: &'a [String]) -> Result<MarkRequest<'a>, Fault>
-    ensures { result ≡ asked_gravity (map (λ w. string_bytes w) words.now) }
+    ensures { result ≡ asked_gravity (as_words words.now) }
 {
     match words {
         [name] => Ok(MarkRequest::Gravity {
@@ -78,7 +79,7 @@ fn gravity<'a>(words: &'a [String]) -> Result<MarkRequest<'a>, Fault>
 
 // `mark names`.
 fn names<'a>(words: &'a [String]) -> Result<MarkRequest<'a>, Fault>
-    ensures { result ≡ asked_mark_names (map (λ w. string_bytes w) words.now) }
+    ensures { result ≡ asked_mark_names (as_words words.now) }
 {
     match words {
         [] => Ok(MarkRequest::Names),
@@ -88,7 +89,7 @@ fn names<'a>(words: &'a [String]) -> Result<MarkRequest<'a>, Fault>
 
 // `mark next INDEX`.
 fn next<'a>(words: &'a [String]) -> Result<MarkRequest<'a>, Fault>
-    ensures { result ≡ of_one Next (map (λ w. string_bytes w) words.now) }
+    ensures { result ≡ of_one Next (as_words words.now) }
 {
     let [word] = words else {
         return Err(Fault::BadCommand);
@@ -100,7 +101,7 @@ fn next<'a>(words: &'a [String]) -> Result<MarkRequest<'a>, Fault>
 
 // `mark previous INDEX`.
 fn previous<'a>(words: &'a [String]) -> Result<MarkRequest<'a>, Fault>
-    ensures { result ≡ of_one Previous (map (λ w. string_bytes w) words.now) }
+    ensures { result ≡ of_one Previous (as_words words.now) }
 {
     let [word] = words else {
         return Err(Fault::BadCommand);

@@ -1,5 +1,6 @@
 // What is counted between two places.
-ghost use Rattle.std.specs.Prelude.{◌≡◌, ◌⊎◌, IfOk, IfErr, map, string_bytes, Some, None};
+ghost use Rattle.std.specs.Prelude.{◌≡◌, ◌⊎◌, IfOk, IfErr, Some, None};
+ghost use Rattle.rt_stamps.specs.Words.{as_words};
 ghost use Rattle.rt_requests.specs.Switches.{measure_of, measures_of, switch_of};
 
 use rt_stamps::Fault;
@@ -67,9 +68,9 @@ impl Measures {
 
     /// What some switches ask for, in turn. `BadOption` where one is unknown, or want of memory.
     pub fn of(alloc: Global, switches: &[String]) -> Result<Measures, Fault>
-        ensures ok { IfOk result (λ measures. measures_of (map (λ w. string_bytes w) switches.now) ≡ Some measures) }
+        ensures ok { IfOk result (λ measures. measures_of (as_words switches.now) ≡ Some measures) }
         ensures err { IfErr result (λ fault. (fault ≡ Fault.NoMemory)
-            ⊎ ((fault ≡ Fault.BadOption) × (measures_of (map (λ w. string_bytes w) switches.now) ≡ None))) }
+            ⊎ ((fault ≡ Fault.BadOption) × (measures_of (as_words switches.now) ≡ None))) }
     {
         let mut measures = Vec::new(alloc);
         for switch in switches {

@@ -8,7 +8,8 @@ ghost use Rattle.rt_requests.specs.Truth.{truth_of};
 pub enum WidgetOption {
     /// `-undo`: whether the undo mechanism is active.
     Undo,
-    /// `-autoseparators`: whether separators are put on the undo stack by themselves, after each insertion or removal.
+    /// `-autoseparators`: whether a separator is put on the undo stack before each replacement, and wherever an action
+    /// is of another kind than the one before it.
     AutoSeparators,
 }
 

@@ -1,5 +1,6 @@
 // Questions about the text.
-ghost use Rattle.std.specs.Prelude.{◌≡◌, ◌⊎◌, Err, map, string_bytes};
+ghost use Rattle.std.specs.Prelude.{◌≡◌, ◌⊎◌, Err};
+ghost use Rattle.rt_stamps.specs.Words.{as_words};
 ghost use Rattle.rt_requests.specs.declared.request.Request.TheVariants.{Get};
 ghost use Rattle.rt_requests.specs.Asking.{asked_compare, asked_count, asked_distances, asked_dump, asked_elements, asked_from, asked_index};
 ghost use Rattle.rt_requests.specs.Parts.{of_several};
@@ -15,7 +16,7 @@ use std::alloc::Global;
 
 // `get INDEX ?INDEX ...?`.
 pub(crate) fn get<'a>(words: &'a [String]) -> Result<Request<'a>, Fault>
-    ensures { result ≡ of_several Get (map (λ w. string_bytes w) words.now) }
+    ensures { result ≡ of_several Get (as_words words.now) }
 {
     let indices = Words::new(words).ok_or(Fault::BadCommand)?;
     Ok(Request::Get { indices })
@@ -23,7 +24,7 @@ pub(crate) fn get<'a>(words: &'a [String]) -> Result<Request<'a>, Fault>
 
 // `index INDEX`.
 pub(crate) fn index<'a>(words: &'a [String]) -> Result<Request<'a>, Fault>
-    ensures { result ≡ asked_index (map (λ w. string_bytes w) words.now) }
+    ensures { result ≡ asked_index (as_words words.now) }
 {
     let [index] = words else {
         return Err(Fault::BadCommand);
@@ -35,7 +36,7 @@ pub(crate) fn index<'a>(words: &'a [String]) -> Result<Request<'a>, Fault>
 
 // `compare INDEX OPERATOR INDEX`.
 pub(crate) fn compare<'a>(words: &'a [String]) -> Result<Request<'a>, Fault>
-    ensures { result ≡ asked_compare (map (λ w. string_bytes w) words.now) }
+    ensures { result ≡ asked_compare (as_words words.now) }
 {
     let [first, operator, second] = words else {
         return Err(Fault::BadCommand);
@@ -52,7 +53,7 @@ pub(crate) fn compare<'a>(words: &'a [String]) -> Result<Request<'a>, Fault>
 
 // `count ?SWITCH ...? INDEX INDEX`.
 pub(crate) fn count<'a>(alloc: Global, words: &'a [String]) -> Result<Request<'a>, Fault>
-    ensures { (result ≡ asked_count (map (λ w. string_bytes w) words.now)) ⊎ (result ≡ Err Fault.NoMemory) }
+    ensures { (result ≡ asked_count (as_words words.now)) ⊎ (result ≡ Err Fault.NoMemory) }
 {
     let switches = switches_len(words);
     distances(alloc, &words[..switches], &words[switches..])
@@ -64,7 +65,7 @@ fn distances<'a>(
     switches: &[String],
     indices: &'a [String],
 ) -> Result<Request<'a>, Fault>
-    ensures { (result ≡ asked_distances (map (λ w. string_bytes w) switches.now) (map (λ w. string_bytes w) indices.now))
+    ensures { (result ≡ asked_distances (as_words switches.now) (as_words indices.now))
         ⊎ (result ≡ Err Fault.NoMemory) }
 {
     let [from, to] = indices else {
@@ -80,7 +81,7 @@ fn distances<'a>(
 
 // `dump ?SWITCH ...? INDEX ?INDEX?`.
 pub(crate) fn dump<'a>(words: &'a [String]) -> Result<Request<'a>, Fault>
-    ensures { result ≡ asked_dump (map (λ w. string_bytes w) words.now) }
+    ensures { result ≡ asked_dump (as_words words.now) }
 {
     let switches = switches_len(words);
     elements(&words[..switches], &words[switches..])
@@ -88,7 +89,7 @@ pub(crate) fn dump<'a>(words: &'a [String]) -> Result<Request<'a>, Fault>
 
 // `dump` with its switches and its indices.
 fn elements<'a>(switches: &[String], indices: &'a [String]) -> Result<Request<'a>, Fault>
-    ensures { result ≡ asked_elements (map (λ w. string_bytes w) switches.now) (map (λ w. string_bytes w) indices.now) }
+    ensures { result ≡ asked_elements (as_words switches.now) (as_words indices.now) }
 {
     match indices {
         [from] => elements_from(switches, from, None),
@@ -103,7 +104,7 @@ fn elements_from<'a>(
     from: &'a str,
     to: Option<Word<'a>>,
 ) -> Result<Request<'a>, Fault>
-    ensures { result ≡ asked_from (map (λ w. string_bytes w) switches.now) from.now to.entry }
+    ensures { result ≡ asked_from (as_words switches.now) from.now to.entry }
 {
     let Some(kinds) = Kinds::of(switches) else {
         return Err(Fault::BadOption);

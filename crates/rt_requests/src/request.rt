@@ -1,5 +1,6 @@
 // Requests, and the words that ask for them.
-ghost use Rattle.std.specs.Prelude.{◌≡◌, ◌⊎◌, Err, map, string_bytes};
+ghost use Rattle.std.specs.Prelude.{◌≡◌, ◌⊎◌, Err};
+ghost use Rattle.rt_stamps.specs.Words.{as_words};
 ghost use Rattle.rt_requests.specs.Asking.{Asks, AsksOf};
 
 use crate::comparison::Comparison;
@@ -197,7 +198,7 @@ impl<'a> Request<'a> {
     /// What `COMMAND ?WORD ...?` asks for. Refused by the first of `BadCommand`, `BadOption` and
     /// `BadQuoting` for a list of tags, and by want of memory in place of any.
     pub fn of(alloc: Global, words: &'a [String]) -> Result<Request<'a>, Fault>
-        ensures { Asks (map (λ w. string_bytes w) words.now) result ⊎ (result ≡ Err Fault.NoMemory) }
+        ensures { Asks (as_words words.now) result ⊎ (result ≡ Err Fault.NoMemory) }
     {
         let Some((name, words)) = words.split_first() else {
             return Err(Fault::BadCommand);
@@ -208,7 +209,7 @@ impl<'a> Request<'a> {
 
 // A command by its name.
 fn by_name<'a>(alloc: Global, name: &str, words: &'a [String]) -> Result<Request<'a>, Fault>
-    ensures { AsksOf name.now (map (λ w. string_bytes w) words.now) result ⊎ (result ≡ Err Fault.NoMemory) }
+    ensures { AsksOf name.now (as_words words.now) result ⊎ (result ≡ Err Fault.NoMemory) }
 {
     match name {
         "insert" => insert(alloc, words),

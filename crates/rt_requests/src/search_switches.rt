@@ -1,8 +1,9 @@
 // The switches of a search.
-ghost use Rattle.std.specs.Prelude.{◌≡◌, map, string_bytes};
+ghost use Rattle.std.specs.Prelude.{◌≡◌, string_bytes};
 ghost use Rattle.std.specs.List.{list_all};
 ghost use Rattle.rt_requests.specs.SearchWords.{case_of, direction_of, is_known, limits_of, overlap_fits, overlaps_of, search_of, switch_check, turned, wanted_of};
 ghost use Rattle.rt_stamps.specs.Outcomes.{unless};
+ghost use Rattle.rt_stamps.specs.Words.{as_words};
 
 use crate::request::Wanted;
 use crate::switches::has;
@@ -32,7 +33,7 @@ fn turned(direction: Direction, switch: &str) -> Direction
 
 // The way that switches ask to go: of several the last one counts.
 fn direction_of(switches: &[String]) -> Direction
-    ensures { result ≡ direction_of (map (λ w. string_bytes w) switches.now) }
+    ensures { result ≡ direction_of (as_words switches.now) }
 {
     switches.iter().fold(
         Direction::Forwards,
@@ -42,7 +43,7 @@ fn direction_of(switches: &[String]) -> Direction
 
 // Whether a search has each of some switches.
 fn all_known(switches: &[String]) -> bool
-    ensures { result ≡ list_all is_known (map (λ w. string_bytes w) switches.now) }
+    ensures { result ≡ list_all is_known (as_words switches.now) }
 {
     are_known(switches)
 }
@@ -56,14 +57,14 @@ fn are_known(switches: &[String]) -> bool
 
 // Whether `-overlap` is given with `-all` alone.
 fn overlap_fits(switches: &[String]) -> bool
-    ensures { result ≡ overlap_fits (map (λ w. string_bytes w) switches.now) }
+    ensures { result ≡ overlap_fits (as_words switches.now) }
 {
     has(switches, "-all") || !has(switches, "-overlap")
 }
 
 // Refuses switches of which one is unknown, and `-overlap` without `-all`.
 pub(crate) fn check_switches(switches: &[String]) -> Result<(), Fault>
-    ensures { result ≡ unless (switch_check (map (λ w. string_bytes w) switches.now)) tt }
+    ensures { result ≡ unless (switch_check (as_words switches.now)) tt }
 {
     if all_known(switches) && overlap_fits(switches) {
         Ok(())
@@ -74,7 +75,7 @@ pub(crate) fn check_switches(switches: &[String]) -> Result<(), Fault>
 
 // Which characters count as the same.
 fn case_of(switches: &[String]) -> Case
-    ensures { result ≡ case_of (map (λ w. string_bytes w) switches.now) }
+    ensures { result ≡ case_of (as_words switches.now) }
 {
     if has(switches, "-nocase") {
         Case::Ignored
@@ -85,7 +86,7 @@ fn case_of(switches: &[String]) -> Case
 
 // What of a match must lie in the stretch that is searched.
 fn limits_of(switches: &[String]) -> Limits
-    ensures { result ≡ limits_of (map (λ w. string_bytes w) switches.now) }
+    ensures { result ≡ limits_of (as_words switches.now) }
 {
     if has(switches, "-strictlimits") {
         Limits::Strict
@@ -96,7 +97,7 @@ fn limits_of(switches: &[String]) -> Limits
 
 // What becomes of matches that overlap.
 fn overlaps_of(switches: &[String]) -> Overlaps
-    ensures { result ≡ overlaps_of (map (λ w. string_bytes w) switches.now) }
+    ensures { result ≡ overlaps_of (as_words switches.now) }
 {
     if has(switches, "-overlap") {
         Overlaps::Taken
@@ -107,7 +108,7 @@ fn overlaps_of(switches: &[String]) -> Overlaps
 
 // How switches ask to search.
 pub(crate) fn search_of(switches: &[String]) -> Search
-    ensures { result ≡ search_of (map (λ w. string_bytes w) switches.now) }
+    ensures { result ≡ search_of (as_words switches.now) }
 {
     Search {
         direction: direction_of(switches),
@@ -118,7 +119,7 @@ pub(crate) fn search_of(switches: &[String]) -> Search
 
 // Which matches switches ask for.
 pub(crate) fn wanted_of(switches: &[String]) -> Wanted
-    ensures { result ≡ wanted_of (map (λ w. string_bytes w) switches.now) }
+    ensures { result ≡ wanted_of (as_words switches.now) }
 {
     let overlaps = overlaps_of(switches);
     if has(switches, "-all") {

@@ -1,6 +1,7 @@
 // What is searched for.
-ghost use Rattle.std.specs.Prelude.{◌≡◌, ◌≤◌, length, map, string_bytes};
+ghost use Rattle.std.specs.Prelude.{◌≡◌, ◌≤◌, length, string_bytes};
 ghost use Rattle.std.specs.List.{prefix_len};
+ghost use Rattle.rt_stamps.specs.Words.{as_words};
 ghost use Rattle.rt_requests.specs.declared.request.Request.TheVariants.{Search};
 ghost use Rattle.rt_requests.specs.Asking.{as_request};
 ghost use Rattle.rt_requests.specs.SearchWords.{asked_by_arguments, asked_by_switches, asked_of_search, is_search_switch, without_dashes};
@@ -13,7 +14,7 @@ use rt_stamps::Fault;
 
 // `search ?SWITCH ...? PATTERN INDEX ?STOPINDEX?`.
 pub(crate) fn search<'a>(words: &'a [String]) -> Result<Request<'a>, Fault>
-    ensures { result ≡ as_request Search (asked_of_search (map (λ w. string_bytes w) words.now)) }
+    ensures { result ≡ as_request Search (asked_of_search (as_words words.now)) }
 {
     let request = of_search(words)?;
     Ok(Request::Search(request))
@@ -21,7 +22,7 @@ pub(crate) fn search<'a>(words: &'a [String]) -> Result<Request<'a>, Fault>
 
 // What is searched for, as words.
 fn of_search<'a>(words: &'a [String]) -> Result<SearchRequest<'a>, Fault>
-    ensures { result ≡ asked_of_search (map (λ w. string_bytes w) words.now) }
+    ensures { result ≡ asked_of_search (as_words words.now) }
 {
     let switches = search_switches_len(words);
     by_arguments(&words[..switches], without_dashes(&words[switches..]))
@@ -36,7 +37,7 @@ fn is_search_switch(word: &str) -> bool
 
 // How many switches of a search some words begin with.
 fn search_switches_len(words: &[String]) -> usize
-    ensures value { result ≡ prefix_len is_search_switch (map (λ w. string_bytes w) words.now) }
+    ensures value { result ≡ prefix_len is_search_switch (as_words words.now) }
     ensures within { result ≤ length words.now }
 {
     count_switches(words)
@@ -55,7 +56,7 @@ fn count_switches(words: &[String]) -> usize
 
 // The words behind a `--`, which may stand in front of them.
 fn without_dashes(words: &[String]) -> &[String]
-    ensures { map (λ w. string_bytes w) result.now ≡ without_dashes (map (λ w. string_bytes w) words.now) }
+    ensures { as_words result.now ≡ without_dashes (as_words words.now) }
 {
     match words {
         [first, rest @ ..] if first.as_str() == "--" => rest,
@@ -68,7 +69,7 @@ fn by_arguments<'a>(
     switches: &[String],
     arguments: &'a [String],
 ) -> Result<SearchRequest<'a>, Fault>
-    ensures { result ≡ asked_by_arguments (map (λ w. string_bytes w) switches.now) (map (λ w. string_bytes w) arguments.now) }
+    ensures { result ≡ asked_by_arguments (as_words switches.now) (as_words arguments.now) }
 {
     match arguments {
         [pattern, start] => by_switches(switches, pattern, start, None),
@@ -84,7 +85,7 @@ fn by_switches<'a>(
     start: &'a str,
     stop: Option<Word<'a>>,
 ) -> Result<SearchRequest<'a>, Fault>
-    ensures { result ≡ asked_by_switches (map (λ w. string_bytes w) switches.now) pattern.now start.now stop.entry }
+    ensures { result ≡ asked_by_switches (as_words switches.now) pattern.now start.now stop.entry }
 {
     check_switches(switches)?;
     Ok(SearchRequest {

@@ -1,7 +1,8 @@
 // Words that are switches.
-ghost use Rattle.std.specs.Prelude.{◌≡◌, ◌≤◌, length, map, string_bytes};
+ghost use Rattle.std.specs.Prelude.{◌≡◌, ◌≤◌, length, string_bytes};
 ghost use Rattle.std.specs.List.{list_any, prefix_len};
 ghost use Rattle.std.specs.Str.{bytes_eq};
+ghost use Rattle.rt_stamps.specs.Words.{as_words};
 ghost use Rattle.rt_requests.specs.Switches.{has, is_switch};
 
 /// Whether a word is a switch.
@@ -13,7 +14,7 @@ pub(crate) fn is_switch(word: &str) -> bool
 
 /// How many switches some words begin with.
 pub(crate) fn switches_len(words: &[String]) -> usize
-    ensures value { result ≡ prefix_len is_switch (map (λ w. string_bytes w) words.now) }
+    ensures value { result ≡ prefix_len is_switch (as_words words.now) }
     ensures within { result ≤ length words.now }
 {
     count_switches(words)
@@ -29,7 +30,7 @@ fn count_switches(words: &[String]) -> usize
 
 /// Whether a switch is given.
 pub(crate) fn has(switches: &[String], name: &str) -> bool
-    ensures { result ≡ has (map (λ w. string_bytes w) switches.now) name.now }
+    ensures { result ≡ has (as_words switches.now) name.now }
 {
     is_among(switches, name)
 }

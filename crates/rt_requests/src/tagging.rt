@@ -1,5 +1,6 @@
 // What is asked of tags.
-ghost use Rattle.std.specs.Prelude.{◌≡◌, map, string_bytes};
+ghost use Rattle.std.specs.Prelude.{◌≡◌};
+ghost use Rattle.rt_stamps.specs.Words.{as_words};
 ghost use Rattle.rt_requests.specs.declared.request.TagRequest.TheVariants.{Add, Delete, Lower, NextRange, PreviousRange, Raise, Ranges, Remove};
 ghost use Rattle.rt_requests.specs.Asking.{asked_tag};
 ghost use Rattle.rt_requests.specs.Parts.{of_one, of_several};
@@ -11,7 +12,7 @@ use rt_stamps::Fault;
 
 // `tag WHAT ?WORD ...?`.
 pub(crate) fn tag<'a>(words: &'a [String]) -> Result<Request<'a>, Fault>
-    ensures { result ≡ asked_tag (map (λ w. string_bytes w) words.now) }
+    ensures { result ≡ asked_tag (as_words words.now) }
 {
     let Some((what, words)) = words.split_first() else {
         return Err(Fault::BadCommand);
@@ -22,7 +23,7 @@ pub(crate) fn tag<'a>(words: &'a [String]) -> Result<Request<'a>, Fault>
 
 // What is asked, by its name.
 fn of_tags<'a>(what: &str, words: &'a [String]) -> Result<TagRequest<'a>, Fault>
-    ensures { result ≡ asked_of_tags what.now (map (λ w. string_bytes w) words.now) }
+    ensures { result ≡ asked_of_tags what.now (as_words words.now) }
 {
     match what {
         "add" => add(words),
@@ -40,7 +41,7 @@ fn of_tags<'a>(what: &str, words: &'a [String]) -> Result<TagRequest<'a>, Fault>
 
 // `tag add NAME INDEX ?INDEX ...?`.
 fn add<'a>(words: &'a [String]) -> Result<TagRequest<'a>, Fault>
-    ensures { result ≡ asked_tagging Add (map (λ w. string_bytes w) words.now) }
+    ensures { result ≡ asked_tagging Add (as_words words.now) }
 {
     let Some((name, words)) = words.split_first() else {
         return Err(Fault::BadCommand);
@@ -54,7 +55,7 @@ fn add<'a>(words: &'a [String]) -> Result<TagRequest<'a>, Fault>
 
 // `tag remove NAME INDEX ?INDEX ...?`.
 fn remove<'a>(words: &'a [String]) -> Result<TagRequest<'a>, Fault>
-    ensures { result ≡ asked_tagging Remove (map (λ w. string_bytes w) words.now) }
+    ensures { result ≡ asked_tagging Remove (as_words words.now) }
 {
     let Some((name, words)) = words.split_first() else {
         return Err(Fault::BadCommand);
@@ -68,7 +69,7 @@ fn remove<'a>(words: &'a [String]) -> Result<TagRequest<'a>, Fault>
 
 // `tag delete NAME ?NAME ...?`.
 fn delete<'a>(words: &'a [String]) -> Result<TagRequest<'a>, Fault>
-    ensures { result ≡ of_several Delete (map (λ w. string_bytes w) words.now) }
+    ensures { result ≡ of_several Delete (as_words words.now) }
 {
     let names = Words::new(words).ok_or(Fault::BadCommand)?;
     Ok(TagRequest::Delete { names })
@@ -76,7 +77,7 @@ fn delete<'a>(words: &'a [String]) -> Result<TagRequest<'a>, Fault>
 
 // `tag raise NAME ?ABOVE?`.
 fn raise<'a>(words: &'a [String]) -> Result<TagRequest<'a>, Fault>
-    ensures { result ≡ asked_order Raise (map (λ w. string_bytes w) words.now) }
+    ensures { result ≡ asked_order Raise (as_words words.now) }
 {
     match words {
         [name] => Ok(TagRequest::Raise {
@@ -93,7 +94,7 @@ fn raise<'a>(words: &'a [String]) -> Result<TagRequest<'a>, Fault>
 
 // `tag lower NAME ?BELOW?`.
 fn lower<'a>(words: &'a [String]) -> Result<TagRequest<'a>, Fault>
-    ensures { result ≡ asked_order Lower (map (λ w. string_bytes w) words.now) }
+    ensures { result ≡ asked_order Lower (as_words words.now) }
 {
     match words {
         [name] => Ok(TagRequest::Lower {
@@ -110,7 +111,7 @@ fn lower<'a>(words: &'a [String]) -> Result<TagRequest<'a>, Fault>
 
 // `tag names ?INDEX?`.
 fn names<'a>(words: &'a [String]) -> Result<TagRequest<'a>, Fault>
-    ensures { result ≡ asked_tag_names (map (λ w. string_bytes w) words.now) }
+    ensures { result ≡ asked_tag_names (as_words words.now) }
 {
     match words {
         [] => Ok(TagRequest::Names),
@@ -123,7 +124,7 @@ fn names<'a>(words: &'a [String]) -> Result<TagRequest<'a>, Fault>
 
 // `tag ranges NAME`.
 fn ranges<'a>(words: &'a [String]) -> Result<TagRequest<'a>, Fault>
-    ensures { result ≡ of_one Ranges (map (λ w. string_bytes w) words.now) }
+    ensures { result ≡ of_one Ranges (as_words words.now) }
 {
     let [name] = words else {
         return Err(Fault::BadCommand);
@@ -135,7 +136,7 @@ fn ranges<'a>(words: &'a [String]) -> Result<TagRequest<'a>, Fault>
 
 // `tag nextrange NAME INDEX ?INDEX?`.
 fn next_range<'a>(words: &'a [String]) -> Result<TagRequest<'a>, Fault>
-    ensures { result ≡ asked_range NextRange (map (λ w. string_bytes w) words.now) }
+    ensures { result ≡ asked_range NextRange (as_words words.now) }
 {
     match words {
         [name, from] => Ok(TagRequest::NextRange {
@@ -154,7 +155,7 @@ fn next_range<'a>(words: &'a [String]) -> Result<TagRequest<'a>, Fault>
 
 // `tag prevrange NAME INDEX ?INDEX?`.
 fn previous_range<'a>(words: &'a [String]) -> Result<TagRequest<'a>, Fault>
-    ensures { result ≡ asked_range PreviousRange (map (λ w. string_bytes w) words.now) }
+    ensures { result ≡ asked_range PreviousRange (as_words words.now) }
 {
     match words {
         [name, to] => Ok(TagRequest::PreviousRange {

@@ -1,5 +1,6 @@
 // Texts to insert.
-ghost use Rattle.std.specs.Prelude.{◌≡◌, map, string_bytes};
+ghost use Rattle.std.specs.Prelude.{◌≡◌};
+ghost use Rattle.rt_stamps.specs.Words.{as_words};
 
 use std::marker::Model;
 
@@ -11,18 +12,18 @@ pub struct Piece<'a> {
 }
 
 impl<'a> Model for Piece<'a> {
-    ghost use Rattle.std.specs.Prelude.{map, string_bytes};
+    ghost use Rattle.rt_stamps.specs.Words.{as_words};
     ghost use Rattle.rt_requests.specs.Parts.{PieceValue};
 
     ghost Value = { PieceValue };
 
-    ghost view = { λ p. record { text = p.text.now; tags = map (λ w. string_bytes w) p.tags.items } };
+    ghost view = { λ p. record { text = p.text.now; tags = as_words p.tags.items } };
 }
 
 impl<'a> Piece<'a> {
     /// A text with the names of its tags.
     pub fn new(text: &'a str, tags: Vec<String>) -> Piece<'a>
-        ensures { result ≡ record { text = text.now; tags = map (λ w. string_bytes w) tags.items } }
+        ensures { result ≡ record { text = text.now; tags = as_words tags.items } }
     {
         Piece { text, tags }
     }
@@ -36,7 +37,7 @@ impl<'a> Piece<'a> {
 
     /// The names of its tags.
     pub fn tags(&self) -> &[String]
-        ensures { map (λ w. string_bytes w) result.now ≡ self.now.tags }
+        ensures { as_words result.now ≡ self.now.tags }
     {
         &self.tags
     }

@@ -1,5 +1,6 @@
 // What is asked of the undo mechanism.
-ghost use Rattle.std.specs.Prelude.{◌≡◌, map, string_bytes};
+ghost use Rattle.std.specs.Prelude.{◌≡◌};
+ghost use Rattle.rt_stamps.specs.Words.{as_words};
 ghost use Rattle.rt_requests.specs.Asking.{asked_edit};
 ghost use Rattle.rt_requests.specs.EditWords.{alone, asked_modified, asked_of_edits};
 
@@ -9,7 +10,7 @@ use rt_stamps::Fault;
 
 // `edit WHAT ?WORD ...?`.
 pub(crate) fn edit<'a>(words: &'a [String]) -> Result<Request<'a>, Fault>
-    ensures { result ≡ asked_edit (map (λ w. string_bytes w) words.now) }
+    ensures { result ≡ asked_edit (as_words words.now) }
 {
     let Some((what, words)) = words.split_first() else {
         return Err(Fault::BadCommand);
@@ -20,7 +21,7 @@ pub(crate) fn edit<'a>(words: &'a [String]) -> Result<Request<'a>, Fault>
 
 // What is asked, by its name.
 fn of_edits(what: &str, words: &[String]) -> Result<EditRequest, Fault>
-    ensures { result ≡ asked_of_edits what.now (map (λ w. string_bytes w) words.now) }
+    ensures { result ≡ asked_of_edits what.now (as_words words.now) }
 {
     match what {
         "undo" => alone(EditRequest::Undo, words),
@@ -36,7 +37,7 @@ fn of_edits(what: &str, words: &[String]) -> Result<EditRequest, Fault>
 
 // What is asked by a name with no word behind it.
 fn alone(request: EditRequest, words: &[String]) -> Result<EditRequest, Fault>
-    ensures { result ≡ alone request (map (λ w. string_bytes w) words.now) }
+    ensures { result ≡ alone request (as_words words.now) }
 {
     match words {
         [] => Ok(request),
@@ -46,7 +47,7 @@ fn alone(request: EditRequest, words: &[String]) -> Result<EditRequest, Fault>
 
 // `edit modified ?BOOLEAN?`.
 fn modified(words: &[String]) -> Result<EditRequest, Fault>
-    ensures { result ≡ asked_modified (map (λ w. string_bytes w) words.now) }
+    ensures { result ≡ asked_modified (as_words words.now) }
 {
     match words {
         [] => Ok(EditRequest::Modified),

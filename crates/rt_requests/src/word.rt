@@ -1,5 +1,6 @@
 // Words that are borrowed: one, and one or more.
-ghost use Rattle.std.specs.Prelude.{◌≡◌, map, string_bytes};
+ghost use Rattle.std.specs.Prelude.{◌≡◌};
+ghost use Rattle.rt_stamps.specs.Words.{as_words};
 ghost use Rattle.rt_requests.specs.Parts.{several, all_of};
 
 use std::marker::Model;
@@ -41,12 +42,13 @@ pub struct Words<'a> {
 }
 
 impl<'a> Model for Words<'a> {
-    ghost use Rattle.std.specs.Prelude.{◌<◌, length, map, string_bytes};
+    ghost use Rattle.std.specs.Prelude.{◌<◌, length};
+    ghost use Rattle.rt_stamps.specs.Words.{as_words};
     ghost use Rattle.rt_requests.specs.Parts.{Several, several_or_empty};
 
     ghost Value = { Several };
 
-    ghost view = { λ w. several_or_empty (map (λ w. string_bytes w) w.words.now) };
+    ghost view = { λ w. several_or_empty (as_words w.words.now) };
 
     ghost invariant = { λ w. 0 < length w.words.now };
 }
@@ -54,7 +56,7 @@ impl<'a> Model for Words<'a> {
 impl<'a> Words<'a> {
     /// Some words, where there is one.
     pub fn new(words: &'a [String]) -> Option<Words<'a>>
-        ensures { result ≡ several (map (λ w. string_bytes w) words.now) }
+        ensures { result ≡ several (as_words words.now) }
     {
         if words.is_empty() {
             return None;
@@ -64,7 +66,7 @@ impl<'a> Words<'a> {
 
     /// All of them.
     pub fn all(&self) -> &'a [String]
-        ensures { map (λ w. string_bytes w) result.now ≡ all_of self.now }
+        ensures { as_words result.now ≡ all_of self.now }
     {
         self.words
     }

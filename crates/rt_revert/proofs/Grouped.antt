@@ -1,6 +1,6 @@
 -- A whole group, from the working copy to the plan.
 use Rattle.std.proofs.Common.{◌≡◌, ◌∙◌, ℕ, ◌-◌, ◌≤◌, ◌||◌, Bool, true, cond, false, List, [], ◌∷◌, ◌++◌, length, map, refl, sym, ap, subst, arith}
-use Rattle.std.specs.Prelude.{nat_lt, string_bytes}
+use Rattle.std.specs.Prelude.{nat_lt}
 use Rattle.std.proofs.lemmas.Bool.{or_left, or_right}
 use Rattle.std.proofs.lemmas.Bool.Decides.{nat_tests}
 use Rattle.std.proofs.lemmas.List.Elements.{All-tail}
@@ -11,7 +11,7 @@ use Rattle.rt_stamps.specs.declared.stamp.Stamp.{Stamp}
 use Rattle.rt_stamps.specs.declared.stamp.TheConstants.{FINAL}
 use Rattle.rt_stamps.specs.Stamps.{is_same}
 use Rattle.rt_stamps.proofs.Order.{same_refl, same_sym}
-use Rattle.rt_stamps.specs.Words.{Word}
+use Rattle.rt_stamps.specs.Words.{Word, as_words}
 use Rattle.rt_ops.specs.Edits.{body_of}
 use Rattle.rt_ops.specs.Rules.{is_name}
 use Rattle.rt_store.specs.declared.cell.Cell.{Cell}
@@ -197,7 +197,7 @@ module _ (kept states : TagStates) (copy store : List (Cell ℕ)) (number count 
         moved = λ s e. absurd (let f = n.moved s in cc (e, f));
         now = λ s. n.now s ∙ ap (λ l. stamp_after l s) (sym n.returns);
         apart = subst (AllByRecursion IsOther) (sym n.returns) tt;
-        names = ap (λ l. list_all is_name (map (λ w. string_bytes w) l)) n.names;
+        names = ap (λ l. list_all is_name (as_words l)) n.names;
         given = subst (λ l. AreGiven kept (group_of l)) (sym n.actions) tt;
         offsets = subst AreSmall (sym n.offsets) b.small;
         few = omega (arith, n.cells, b.few);
@@ -235,7 +235,7 @@ module _ (kept states : TagStates) (copy store : List (Cell ℕ)) (number count 
         actions = ap (λ l. named_group kept (group_of l)) (sym n.actions);
         changes = subst (AllByRecursion IsChange) (sym n.changes) tt;
         marks = ap (λ l. marks_after l flat.marks) (sym n.changes);
-        tags = ap (λ l. all_listed (map (λ w. string_bytes w) l) flat.tags) (sym n.names);
+        tags = ap (λ l. all_listed (as_words l) flat.tags) (sym n.names);
       }
 
 -- THE END

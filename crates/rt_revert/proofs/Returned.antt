@@ -1,6 +1,6 @@
 -- Characters come back into the working copy of a text as they do into the document.
 use Rattle.std.proofs.Common.{All, ◌≡◌, ◌∙◌, ℕ, ◌+◌, ◌<◌, ◌≤◌, ◌⊎◌, inl, inr, Bool, true, false, List, [], ◌∷◌, ◌++◌, ◌||◌, cond, drop, filter, length, map, refl, sym, ap, subst, append_assoc, arith, length-take, take, Option, Some, None}
-use Rattle.std.specs.Prelude.{option_map, string_bytes, unwrap_or}
+use Rattle.std.specs.Prelude.{option_map, unwrap_or}
 use Rattle.std.proofs.lemmas.Bool.{and_from}
 use Rattle.std.proofs.lemmas.Bool.Decides.{nat_tests}
 use Rattle.std.proofs.lemmas.List.Folds.{list_all-append}
@@ -9,7 +9,7 @@ use Rattle.rt_stamps.specs.declared.limits.TheConstants.{GREATEST_COUNT, MOST_CE
 use Rattle.rt_stamps.specs.declared.stamp.Stamp.{Stamp}
 use Rattle.rt_stamps.specs.declared.stamp.TheConstants.{FINAL, ROOT}
 use Rattle.rt_stamps.specs.Stamps.{is_same}
-use Rattle.rt_stamps.specs.Words.{Word}
+use Rattle.rt_stamps.specs.Words.{Word, as_words}
 use Rattle.rt_stamps.proofs.Order.{same_from_true, same_sym}
 use Rattle.rt_ops.specs.Edits.{body_of}
 use Rattle.rt_ops.specs.Rules.{is_name}
@@ -75,7 +75,7 @@ pub record Came (site : ℕ) (table : TagStates) (old new : List (Cell ℕ)) (be
   pub moved : (s : Stamp) → is_moved after.renames s ≡ (is_same s cell.stamp || is_moved before.renames s)
   pub returns : after.returns.items ≡ before.returns.items ++ record { former = cell.stamp; newer = (new_of site before cell).stamp } ∷ []
   pub changes : after.changes.items ≡ before.changes.items ++ Inserted (place + offset_behind before.offsets cell.stamp) ∷ []
-  pub names : map (λ w. string_bytes w) after.names.items ≡ map (λ w. string_bytes w) before.names.items ++ words
+  pub names : as_words after.names.items ≡ as_words before.names.items ++ words
   pub actions : after.actions ≡ before.actions
   pub offsets : (s : Stamp) → offset_of after.offsets s ≡ cond (is_same s (new_of site before cell).stamp) (offset_behind before.offsets cell.stamp) (offset_of before.offsets s)
   pub cells : after.cells ≡ before.cells + 1
@@ -130,7 +130,7 @@ module _ (site : ℕ) (table : TagStates) (old new : List (Cell ℕ)) (before af
         now = λ s. h.now s ∙ ap (replaced cell.stamp this.stamp) (g.now s) ∙ sym (stamp_after_more before.returns.items (record { former = cell.stamp; newer = this.stamp }) s)
             ∙ ap (λ l. stamp_after l s) (sym h.returns);
         apart = subst (AllByRecursion IsOther) (sym h.returns) (every_append IsOther before.returns.items (record { former = cell.stamp; newer = this.stamp } ∷ []) g.apart (site_apart this.stamp h.positive, tt));
-        names = ap (list_all is_name) h.names ∙ list_all-append is_name (map (λ w. string_bytes w) before.names.items) words
+        names = ap (list_all is_name) h.names ∙ list_all-append is_name (as_words before.names.items) words
             ∙ and_from _ _ g.names (ap (list_all is_name) h.is ∙ t.names.each);
         given = subst (λ v. AreGiven table (group_of v.items)) (sym h.actions) g.given;
         offsets = λ s. subst (λ n. n ≤ MOST_CELLS) (sym (h.offsets s)) (small (is_same s this.stamp) (is_same cell.stamp ROOT) (offset_of before.offsets cell.stamp) (offset_of before.offsets s) (g.offsets cell.stamp) (g.offsets s));
@@ -203,8 +203,8 @@ module _ (site : ℕ) (table : TagStates) (old new : List (Cell ℕ)) (before af
         changes = subst (AllByRecursion IsChange) (sym h.changes) (every_append IsChange before.changes.items (Inserted (place + offset_behind before.offsets cell.stamp) ∷ []) s.changes (change, tt));
         marks = (λ i. marks_inserted (spot i) 1 (s.marks i)) ∙ sym (after_more before.changes.items (Inserted (place + offset_behind before.offsets cell.stamp)) part.doc.marks)
             ∙ ap (λ l. marks_after l part.doc.marks) (sym h.changes);
-        tags = ap (all_listed tags) s.tags ∙ ap (λ l. all_listed l (all_listed (map (λ w. string_bytes w) before.names.items) part.doc.tags)) (sym h.is)
-            ∙ sym (all_append (map (λ w. string_bytes w) before.names.items) words part.doc.tags) ∙ ap (λ l. all_listed l part.doc.tags) (sym h.names);
+        tags = ap (all_listed tags) s.tags ∙ ap (λ l. all_listed l (all_listed (as_words before.names.items) part.doc.tags)) (sym h.is)
+            ∙ sym (all_append (as_words before.names.items) words part.doc.tags) ∙ ap (λ l. all_listed l part.doc.tags) (sym h.names);
       }
 
   -- where it goes

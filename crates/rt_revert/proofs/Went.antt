@@ -8,7 +8,7 @@ use Rattle.std.proofs.lemmas.Option.{slice_get_cases}
 use Rattle.std.specs.declared.alloc.Global.{Global}
 use Rattle.std.specs.declared.vec.Vec.{Vec}
 use Rattle.std.specs.List.{AllByRecursion, IsDistinct, list_all}
-use Rattle.std.specs.Prelude.{option_map, slice_get, string_bytes, unwrap_or}
+use Rattle.std.specs.Prelude.{option_map, slice_get, unwrap_or}
 use Rattle.rt_ops.specs.Rules.{is_name}
 use Rattle.rt_stamps.specs.declared.limits.TheConstants.{GREATEST_COUNT, MOST_CELLS, MOST_SPANS}
 use Rattle.rt_stamps.specs.declared.stamp.Span.{Span}
@@ -16,6 +16,7 @@ use Rattle.rt_stamps.specs.declared.stamp.Stamp.{Stamp}
 use Rattle.rt_stamps.specs.declared.stamp.TheConstants.{FINAL}
 use Rattle.rt_stamps.specs.Stamps.{is_same}
 use Rattle.rt_stamps.proofs.Order.{same_sym}
+use Rattle.rt_stamps.specs.Words.{as_words}
 use Rattle.rt_ops.specs.Edits.{body_of}
 use Rattle.rt_ops.specs.Operations.{Delete, stamps_of_span}
 use Rattle.rt_marks.specs.Marks.{Mark, marks_left}
@@ -199,7 +200,7 @@ module _ (table : TagStates) (stamps : List Stamp) (old new : List (Cell ℕ)) (
     moved = λ s e. omega (arith, h.count, k.moved s (ap (λ m. is_moved m s) (sym h.renames) ∙ e));
     now = λ s. ap (λ m. now_of m s) h.renames ∙ k.now s ∙ ap (λ v. stamp_after v.items s) (sym h.returns);
     apart = subst (λ v. AllByRecursion IsOther v.items) (sym h.returns) k.apart;
-    names = subst (λ v. list_all is_name (map (λ w. string_bytes w) v.items) ≡ true) (sym h.names) k.names;
+    names = subst (λ v. list_all is_name (as_words v.items) ≡ true) (sym h.names) k.names;
     given = subst (λ v. AreGiven table (group_of v.items)) (sym h.actions) k.given;
     offsets = subst AreSmall (sym h.offsets) k.offsets;
     few = omega (arith, h.cells, k.few);
@@ -293,5 +294,5 @@ module _ (table : TagStates) (stamps : List Stamp) (old new : List (Cell ℕ)) (
         changes = subst (AllByRecursion IsChange) (sym h.changes) (every_append IsChange before.changes.items (Gone whole ∷ []) s.changes (change, tt));
         marks = ap (marks_left theirs) s.marks ∙ ap (λ (p : ℕ → Bool). marks_left p (marks_after before.changes.items part.doc.marks)) (λ i place. sym (covers place) i)
             ∙ sym (after_more before.changes.items (Gone whole) part.doc.marks) ∙ ap (λ l. marks_after l part.doc.marks) (sym h.changes);
-        tags = s.tags ∙ ap (λ v. all_listed (map (λ w. string_bytes w) v.items) part.doc.tags) (sym h.names);
+        tags = s.tags ∙ ap (λ v. all_listed (as_words v.items) part.doc.tags) (sym h.names);
       }

@@ -1,6 +1,6 @@
 -- The plan of a group that is reverted in a document.
-use Rattle.std.specs.Prelude.{◌≡◌, List, map, string_bytes}
-use Rattle.rt_stamps.specs.Words.{Word}
+use Rattle.std.specs.Prelude.{◌≡◌, List, map}
+use Rattle.rt_stamps.specs.Words.{Word, as_words}
 use Rattle.rt_ops.specs.Edits.{body_of}
 use Rattle.rt_tags.specs.States.{TagStates}
 use Rattle.rt_edits.specs.Flat.{Flat}
@@ -17,4 +17,4 @@ pub record IsPlanOf (table : TagStates) (flat : Flat) (group : List (Action (Lis
   pub actions : named_group table (group_of plan.actions.items) ≡ reverted_group flat group
   pub returns : plan.returns.items ≡ (reversion flat group).returns
   pub marks : marks_after plan.changes.items flat.marks ≡ (reversion flat group).doc.marks
-  pub tags : all_listed (map (λ w. string_bytes w) plan.names.items) flat.tags ≡ (reversion flat group).doc.tags
+  pub tags : all_listed (as_words plan.names.items) flat.tags ≡ (reversion flat group).doc.tags

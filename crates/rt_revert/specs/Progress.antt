@@ -1,12 +1,12 @@
 -- What reverting actions has come to, in the working copy of a text and beside it.
-use Rattle.std.specs.Prelude.{◌≡◌, ℕ, ◌<◌, ◌≤◌, List, true, false, length, map, string_bytes}
+use Rattle.std.specs.Prelude.{◌≡◌, ℕ, ◌<◌, ◌≤◌, List, true, false, length, map}
 use Rattle.std.specs.List.{AllByRecursion, list_all}
 use Rattle.rt_stamps.specs.declared.limits.TheConstants.{GREATEST_COUNT, MOST_CELLS}
 use Rattle.rt_stamps.specs.declared.stamp.Span.{Span}
 use Rattle.rt_stamps.specs.declared.stamp.Stamp.{Stamp}
 use Rattle.rt_stamps.specs.declared.stamp.TheConstants.{FINAL}
 use Rattle.rt_stamps.specs.Stamps.{is_same}
-use Rattle.rt_stamps.specs.Words.{Word}
+use Rattle.rt_stamps.specs.Words.{Word, as_words}
 use Rattle.rt_ops.specs.Edits.{body_of}
 use Rattle.rt_ops.specs.Rules.{is_name}
 use Rattle.rt_store.specs.declared.cell.Cell.{Cell}
@@ -52,7 +52,7 @@ pub record IsGoing (table : TagStates) (plan : Progress) : Type 0 where
   pub moved : (s : Stamp) → is_moved plan.renames s ≡ true → s.count ≤ plan.texts.count
   pub now : (s : Stamp) → now_of plan.renames s ≡ stamp_after plan.returns.items s
   pub apart : AllByRecursion IsOther plan.returns.items
-  pub names : list_all is_name (map (λ w. string_bytes w) plan.names.items) ≡ true
+  pub names : list_all is_name (as_words plan.names.items) ≡ true
   pub given : AreGiven table (group_of plan.actions.items)
   pub offsets : AreSmall plan.offsets
   pub few : plan.cells ≤ MOST_CELLS
@@ -77,7 +77,7 @@ pub record IsSoFar (table : TagStates) (number : ℕ) (copy : List (Cell ℕ)) (
   pub actions : r.actions ≡ named_group table (group_of plan.actions.items)
   pub changes : AllByRecursion IsChange plan.changes.items
   pub marks : r.doc.marks ≡ marks_after plan.changes.items part.doc.marks
-  pub tags : r.doc.tags ≡ all_listed (map (λ w. string_bytes w) plan.names.items) part.doc.tags
+  pub tags : r.doc.tags ≡ all_listed (as_words plan.names.items) part.doc.tags
 
 -- they are, and what is left to do leads to an end
 pub record Reaches (table : TagStates) (number : ℕ) (copy : List (Cell ℕ)) (plan : Progress) (part : Portion) (rest : Reversion → Reversion) (end : Reversion)

@@ -1,7 +1,8 @@
 // The plan of a whole group that is reverted.
-ghost use Rattle.std.specs.Prelude.{◌≡◌, ◌≤◌, ◌<◌, ◌⊎◌, ◌∷◌, [], true, IfErr, IfOk, OnOk, length, map, string_bytes};
+ghost use Rattle.std.specs.Prelude.{◌≡◌, ◌≤◌, ◌<◌, ◌⊎◌, ◌∷◌, [], true, IfErr, IfOk, OnOk, length};
 ghost use Rattle.std.specs.List.{AllByRecursion, list_all};
 ghost use Rattle.rt_stamps.specs.declared.limits.TheConstants.{GREATEST_COUNT, MOST_CELLS};
+ghost use Rattle.rt_stamps.specs.Words.{as_words};
 ghost use Rattle.rt_ops.specs.Rules.{is_name};
 ghost use Rattle.rt_store.specs.Cells.{AreDistinct, final_cell};
 ghost use Rattle.rt_store.specs.Tagged.{AreStates};
@@ -53,7 +54,7 @@ pub fn planned_reversion<S: TextStore>(
         → (reversion flat (named_group kept.old (group_of group.now))).doc.count ≤ GREATEST_COUNT) }
     ensures given { IfOk result (λ plan. AreGiven kept.new (group_of plan.actions.items)) }
     ensures changes { IfOk result (λ plan. AllByRecursion IsChange plan.changes.items) }
-    ensures names { IfOk result (λ plan. list_all is_name (map (λ w. string_bytes w) plan.names.items) ≡ true) }
+    ensures names { IfOk result (λ plan. list_all is_name (as_words plan.names.items) ≡ true) }
     ensures ids { KeepsIds kept.old kept.new }
     ensures err { IfErr result (λ fault. (fault ≡ Fault.NoMemory) ⊎ ((fault ≡ Fault.ClockSpent)
         × ((flat : Flat) → IsOf states.now (S.list store.now) site.number count flat
@@ -89,7 +90,7 @@ pub fn planned_reversion_in<S: TextStore, C: TextStore>(
         → (reversion flat (named_group kept.old (group_of group.now))).doc.count ≤ GREATEST_COUNT) }
     ensures given { IfOk result (λ plan. AreGiven kept.new (group_of plan.actions.items)) }
     ensures changes { IfOk result (λ plan. AllByRecursion IsChange plan.changes.items) }
-    ensures names { IfOk result (λ plan. list_all is_name (map (λ w. string_bytes w) plan.names.items) ≡ true) }
+    ensures names { IfOk result (λ plan. list_all is_name (as_words plan.names.items) ≡ true) }
     ensures ids { KeepsIds kept.old kept.new }
     ensures err { IfErr result (λ fault. (fault ≡ Fault.NoMemory) ⊎ ((fault ≡ Fault.ClockSpent)
         × ((flat : Flat) → IsOf states.now (S.list store.now) site.number count flat

@@ -1,8 +1,9 @@
 // What reverting actions has come to.
-ghost use Rattle.std.specs.Prelude.{◌≡◌, ℕ, ◌⊎◌, ◌+◌, ◌<◌, ◌≤◌, ◌++◌, ◌∷◌, [], ◌||◌, false, if◌then◌else◌, IfErr, IsOkUnless, IfOk, OnOk, length, map, string_bytes};
+ghost use Rattle.std.specs.Prelude.{◌≡◌, ℕ, ◌⊎◌, ◌+◌, ◌<◌, ◌≤◌, ◌++◌, ◌∷◌, [], ◌||◌, false, if◌then◌else◌, IfErr, IsOkUnless, IfOk, OnOk, length, map};
 ghost use Rattle.rt_stamps.specs.declared.limits.TheConstants.{GREATEST_COUNT, MOST_CELLS, MOST_CHARACTERS};
 ghost use Rattle.rt_stamps.specs.declared.stamp.Stamp.{Stamp};
 ghost use Rattle.rt_stamps.specs.Stamps.{is_same};
+ghost use Rattle.rt_stamps.specs.Words.{as_words};
 ghost use Rattle.rt_ops.specs.Edits.{body_of};
 ghost use Rattle.rt_edits.specs.InsertionDrafts.{text_drafts};
 ghost use Rattle.rt_edits.specs.Insertions.{counts_for};
@@ -106,8 +107,8 @@ impl Progress {
     ) -> Result<(), Fault>
         requires { self.old.texts.count ≤ GREATEST_COUNT }
         ensures drafts { OnOk result (map body_of self.new.texts.drafts.items ≡ map body_of self.old.texts.drafts.items
-            ++ text_drafts MOST_CHARACTERS site.number self.old.texts.count behind (map (λ w. string_bytes w) names.now) (ch ∷ [])) }
-        ensures count { OnOk result (self.new.texts.count ≡ self.old.texts.count + counts_for (map (λ w. string_bytes w) names.now) (ch ∷ [])) }
+            ++ text_drafts MOST_CHARACTERS site.number self.old.texts.count behind (as_words names.now) (ch ∷ [])) }
+        ensures count { OnOk result (self.new.texts.count ≡ self.old.texts.count + counts_for (as_words names.now) (ch ∷ [])) }
         ensures within { OnOk result (self.new.texts.count ≤ GREATEST_COUNT) }
         ensures changes { OnOk result (self.new.changes ≡ self.old.changes) }
         ensures renames { OnOk result (self.new.renames ≡ self.old.renames) }
@@ -117,7 +118,7 @@ impl Progress {
         ensures offsets { OnOk result (self.new.offsets ≡ self.old.offsets) }
         ensures cells { OnOk result (self.new.cells ≡ self.old.cells) }
         ensures err { IfErr result (λ fault. (fault ≡ Fault.NoMemory) ⊎ ((fault ≡ Fault.ClockSpent)
-            × (GREATEST_COUNT < self.old.texts.count + counts_for (map (λ w. string_bytes w) names.now) (ch ∷ [])))) }
+            × (GREATEST_COUNT < self.old.texts.count + counts_for (as_words names.now) (ch ∷ [])))) }
     {
         self.texts.behind = behind;
         self.texts.push_text(alloc, site, names, &[ch])

@@ -1,9 +1,10 @@
 // Characters that come back into the working copy of a text.
-ghost use Rattle.std.specs.Prelude.{◌≡◌, ℕ, ◌≤◌, ◌⊎◌, ◌<◌, ◌∷◌, [], true, false, IfErr, IsOkUnless, IfOk, OnOk, length, map, string_bytes};
+ghost use Rattle.std.specs.Prelude.{◌≡◌, ℕ, ◌≤◌, ◌⊎◌, ◌<◌, ◌∷◌, [], true, false, IfErr, IsOkUnless, IfOk, OnOk, length, map};
 ghost use Rattle.std.specs.List.{AllByRecursion};
 ghost use Rattle.rt_stamps.specs.declared.limits.TheConstants.{GREATEST_COUNT, MOST_CELLS};
 ghost use Rattle.rt_stamps.specs.declared.stamp.TheConstants.{FINAL};
 ghost use Rattle.rt_stamps.specs.Stamps.{is_same};
+ghost use Rattle.rt_stamps.specs.Words.{as_words};
 ghost use Rattle.rt_store.specs.Cells.{IsPlaced, after_element, skip_from, stamps_of, visible_before};
 ghost use Rattle.rt_store.specs.Spans.{is_among};
 ghost use Rattle.rt_tags.specs.States.{IsState, names_on, state_at};
@@ -32,7 +33,7 @@ pub(crate) fn names_of(
     state: StateId,
 ) -> Result<Vec<String>, Fault>
     requires { IsState kept.now state }
-    ensures ok { IfOk result (λ v. map (λ w. string_bytes w) v.items ≡ names_on (state_at kept.now state)) }
+    ensures ok { IfOk result (λ v. as_words v.items ≡ names_on (state_at kept.now state)) }
     ensures err { IsOkUnless result Fault.NoMemory }
 {
     let mut names = Vec::new(alloc);

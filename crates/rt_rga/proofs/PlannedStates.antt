@@ -22,7 +22,8 @@ use Rattle.rt_ops.specs.Operations.{Operation}
 use Rattle.rt_rga.specs.declared.plan.Named.{Named}
 use Rattle.rt_rga.specs.declared.tagging.StateRun.{StateRun}
 use Rattle.rt_rga.specs.Batches.{AreInOrder, CountsRise, IsCopied, HasEntries, after_tags, entries_on, tag_writes}
-use Rattle.rt_rga.specs.Runs.{listed, put_back, put_back_in_any}
+use Rattle.rt_tags.specs.Borders.{one_or_none}
+use Rattle.rt_rga.specs.Runs.{put_back, put_back_in_any}
 use Rattle.rt_rga.proofs.PlannedEntries.{writes_kept}
 use Rattle.rt_rga.proofs.Skipping.{split}
 
@@ -210,14 +211,14 @@ IsFound cells named at (Some copy) = (n : Named) → copy.stamp ≡ (get_or name
 IsFound cells named at None = (n : Named) → ((0 < at) × ((get_or named (at - 1) n).stamp ≡ (get_or named at n).stamp)) ⊎ (cell_of cells (get_or named at n).stamp ≡ None)
 
 pub copied_more : (cells : List (Cell ℕ)) (named : List Named) (copies : List (Cell ℕ)) (at : ℕ) (found : Option (Cell ℕ)) → at < length named → IsFound cells named at found → AreCopied cells named copies at
-    → AreCopied cells named (copies ++ listed found) (at + 1)
+    → AreCopied cells named (copies ++ one_or_none found) (at + 1)
 copied_more cells named copies at found l f h k d m n e = split (nat_lt k at)
-    (λ t. among_more copies (listed found) (get_or named k d).stamp (h k d (grind (arith, nat_tests)) n e))
+    (λ t. among_more copies (one_or_none found) (get_or named k d).stamp (h k d (grind (arith, nat_tests)) n e))
     (λ t. let same : k ≡ at = grind (arith, nat_tests) in
-    ap (λ i. is_among (stamps_of (copies ++ listed found)) (get_or named i d).stamp) same
+    ap (λ i. is_among (stamps_of (copies ++ one_or_none found)) (get_or named i d).stamp) same
     ∙ here found f (sym (ap (λ i. is_among (stamps_of cells) (get_or named i d).stamp) same) ∙ e))
   where
-    here : (found : Option (Cell ℕ)) → IsFound cells named at found → is_among (stamps_of cells) (get_or named at d).stamp ≡ true → is_among (stamps_of (copies ++ listed found)) (get_or named at d).stamp ≡ true
+    here : (found : Option (Cell ℕ)) → IsFound cells named at found → is_among (stamps_of cells) (get_or named at d).stamp ≡ true → is_among (stamps_of (copies ++ one_or_none found)) (get_or named at d).stamp ≡ true
     here (Some copy) f e = ap (is_among (stamps_of (copies ++ copy ∷ []))) (sym (f d)) ∙ among_last copies copy
     here None f e = elim (f d) [
       | inl w ↦ among_more copies [] (get_or named at d).stamp (
@@ -227,7 +228,7 @@ copied_more cells named copies at found l f h k d m n e = split (nat_lt k at)
     ]
 
 pub written_more : (old now new : TagStates) (named : List Named) (cells copies : List (Cell ℕ)) (found : Option (Cell ℕ)) → KeepsIds old now → KeepsIds now new → AreStates old cells
-    → All (λ n. IsTag old n.entry.tag) named → All (HasEntries old named cells now) copies → IfSome found (HasEntries now named cells new) → All (HasEntries old named cells new) (copies ++ listed found)
+    → All (λ n. IsTag old n.entry.tag) named → All (HasEntries old named cells now) copies → IfSome found (HasEntries now named cells new) → All (HasEntries old named cells new) (copies ++ one_or_none found)
 written_more old now new named cells copies None k m h t w f = All-append (HasEntries old named cells new) copies [] (all_later old now new named cells copies m w) (All-nil (HasEntries old named cells new))
 written_more old now new named cells copies (Some copy) k m h t w f =
     All-append (HasEntries old named cells new) copies (copy ∷ []) (all_later old now new named cells copies m w)

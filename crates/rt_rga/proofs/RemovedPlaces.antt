@@ -21,7 +21,8 @@ use Rattle.rt_store.proofs.Finding.{found_there, place_found}
 use Rattle.rt_store.proofs.Places.{final_last}
 use Rattle.rt_rga.specs.Cells.{deletes}
 use Rattle.rt_rga.specs.Removed.{place_of, places_of}
-use Rattle.rt_rga.specs.Runs.{cells_found, listed}
+use Rattle.rt_tags.specs.Borders.{one_or_none}
+use Rattle.rt_rga.specs.Runs.{cells_found}
 use Rattle.rt_rga.specs.Taken.{takes_away}
 use Rattle.rt_rga.proofs.PlacesAt.{position_at}
 use Rattle.rt_rga.proofs.Writes.{spans_name}
@@ -93,10 +94,10 @@ has s o = unwrap_or (option_map (λ cell. is_same s cell.stamp) o) false
 
 -- a place is among those of what a stamp finds
 abbrev tells : {T : Type 0} → List (Cell T) → ℕ → Option (Cell T) → Bool
-tells cells place o = list_any (λ other. other == place) (places_of cells (listed o))
+tells cells place o = list_any (λ other. other == place) (places_of cells (one_or_none o))
 
 place_told : {T : Type 0} (cells : List (Cell T)) (place : ℕ) (s : Stamp) (c : Cell T) → cell_of cells s ≡ Some c → (b : Bool) → c.gone ≡ b → (o : Option ℕ) → option_map (visible_before cells) (position_of cells c.stamp) ≡ o
-    → list_any (λ other. other == place) (cond b [] (listed o) ++ []) ≡ true → has s (slice_get (visible_of cells) place) ≡ true
+    → list_any (λ other. other == place) (cond b [] (one_or_none o) ++ []) ≡ true → has s (slice_get (visible_of cells) place) ≡ true
 place_told cells place s c e true g o k t = absurd (cc t)
 place_told cells place s c e false g None k t = absurd (cc t)
 place_told {T} cells place s c e false g (Some q) k t =
@@ -115,8 +116,8 @@ has_told {T} cells place s (Some v) d e t =
     let f = found_visible cells place v d e in
     let stamp : s ≡ v.stamp = same_from_true s v.stamp t in
     ap (tells cells place) (ap (cell_of cells) stamp ∙ f.found)
-    ∙ ap (λ b. list_any (λ other. other == place) (cond b [] (listed (option_map (visible_before cells) (position_of cells v.stamp))) ++ [])) f.shown
-    ∙ ap (λ o. list_any (λ other. other == place) (listed o ++ [])) f.at
+    ∙ ap (λ b. list_any (λ other. other == place) (cond b [] (one_or_none (option_map (visible_before cells) (position_of cells v.stamp))) ++ [])) f.shown
+    ∙ ap (λ o. list_any (λ other. other == place) (one_or_none o ++ [])) f.at
     ∙ here
   where
     here : list_any (λ other. other == place) (place ∷ []) ≡ true
@@ -138,8 +139,8 @@ all_stamps : {T : Type 0} (cells : List (Cell T)) (place : ℕ) (ss : List Stamp
 all_stamps cells place [] d = refl
 all_stamps cells place (s ∷ ss) d =
     let any = λ (places : List ℕ). list_any (λ other. other == place) places in
-    ap any (flat_map-append (place_of cells) (listed (cell_of cells s)) (cells_found cells ss))
-    ∙ list_any-append (λ other. other == place) (places_of cells (listed (cell_of cells s))) (places_of cells (cells_found cells ss))
+    ap any (flat_map-append (place_of cells) (one_or_none (cell_of cells s)) (cells_found cells ss))
+    ∙ list_any-append (λ other. other == place) (places_of cells (one_or_none (cell_of cells s))) (places_of cells (cells_found cells ss))
     ∙ (λ i. one_stamp cells place s d i || all_stamps cells place ss d i)
 
 -- the places of the cells of spans are those that a Delete of the spans takes away

@@ -16,16 +16,17 @@ use Rattle.rt_store.specs.Tagged.{AreStates}
 use Rattle.rt_store.proofs.GivenStates.{kept_states}
 use Rattle.rt_tags.specs.States.{IsState, IsTag, KeepsIds, TagStates, Write, state_at, write_at, written}
 use Rattle.rt_rga.specs.Changes.{written_in_any}
-use Rattle.rt_rga.specs.Runs.{cells_found, listed, put_back, with_write}
+use Rattle.rt_tags.specs.Borders.{one_or_none}
+use Rattle.rt_rga.specs.Runs.{cells_found, put_back, with_write}
 use Rattle.rt_rga.proofs.Skipping.{split}
 use Rattle.rt_store.proofs.Shown.{shown_later}
 use Rattle.rt_rga.proofs.Writes.{spans_name}
 
 -- WITH OTHER STATES
 
-found_shown : {S T : Type 0} (f : S → T) (cells : List (Cell S)) (s : Stamp) → map (map_state f) (listed (cell_of cells s)) ≡ listed (cell_of (map (map_state f) cells) s)
+found_shown : {S T : Type 0} (f : S → T) (cells : List (Cell S)) (s : Stamp) → map (map_state f) (one_or_none (cell_of cells s)) ≡ one_or_none (cell_of (map (map_state f) cells) s)
 found_shown f [] s = refl
-found_shown f (c ∷ cs) s = elim (is_same c.stamp s) as (λ b. map (map_state f) (listed (cond b (Some c) (cell_of cs s))) ≡ listed (cond b (Some (map_state f c)) (cell_of (map (map_state f) cs) s))) [
+found_shown f (c ∷ cs) s = elim (is_same c.stamp s) as (λ b. map (map_state f) (one_or_none (cond b (Some c) (cell_of cs s))) ≡ one_or_none (cond b (Some (map_state f c)) (cell_of (map (map_state f) cs) s))) [
   | true ↦ refl
   | false ↦ found_shown f cs s
 ]
@@ -36,7 +37,7 @@ map_append f (x ∷ xs) ys = ap (λ l. f x ∷ l) (map_append f xs ys)
 
 pub cells_shown : {S T : Type 0} (f : S → T) (cells : List (Cell S)) (stamps : List Stamp) → map (map_state f) (cells_found cells stamps) ≡ cells_found (map (map_state f) cells) stamps
 cells_shown f cells [] = refl
-cells_shown f cells (s ∷ ss) = map_append (map_state f) (listed (cell_of cells s)) (cells_found cells ss) ∙ (λ i. found_shown f cells s i ++ cells_shown f cells ss i)
+cells_shown f cells (s ∷ ss) = map_append (map_state f) (one_or_none (cell_of cells s)) (cells_found cells ss) ∙ (λ i. found_shown f cells s i ++ cells_shown f cells ss i)
 
 put_step : {S T : Type 0} (f : S → T) (b : Bool) (state : S) (cell other : Cell S) → map_state f (cond b (with_state state cell) other) ≡ cond b (with_state (f state) (map_state f cell)) (map_state f other)
 put_step f true state cell other = refl
@@ -81,7 +82,7 @@ module _ (w : Write) (cells : List TaggedCell) (c : TaggedCell) (there : IsFound
   rest_of ss = put_back (map (with_write w) (cells_found cells ss)) c
 
   one_more : (s : Stamp) (ss : List Stamp) (o : Option TaggedCell) → cell_of cells s ≡ o
-      → put_back (map (with_write w) (listed o ++ cells_found cells ss)) c ≡ cond (is_same s c.stamp) (with_write w c) (rest_of ss)
+      → put_back (map (with_write w) (one_or_none o ++ cells_found cells ss)) c ≡ cond (is_same s c.stamp) (with_write w c) (rest_of ss)
   one_more s ss None e = split (is_same s c.stamp)
       (λ t. absurd (let i : Some c ≡ None = sym there ∙ ap (cell_of cells) (sym (same_from_true s c.stamp t)) ∙ e in cc i))
       (λ f. sym (ap (λ b. cond b (with_write w c) (rest_of ss)) f))
@@ -131,11 +132,11 @@ tagged_cells old new kept copies spans w d keeps h e =
 -- THE LOOPS
 
 pub found_from : (cells : List (Cell ℕ)) (done : List (Cell ℕ)) (site count last : ℕ) → count < last + 1
-    → done ++ cells_found cells (stamps_from site count (last + 1 - count)) ≡ (done ++ listed (cell_of cells (record { count = count; site = site }))) ++ cells_found cells (stamps_from site (count + 1) (last + 1 - (count + 1)))
+    → done ++ cells_found cells (stamps_from site count (last + 1 - count)) ≡ (done ++ one_or_none (cell_of cells (record { count = count; site = site }))) ++ cells_found cells (stamps_from site (count + 1) (last + 1 - (count + 1)))
 found_from cells done site count last l =
     let e : last + 1 - count ≡ suc (last + 1 - (count + 1)) = omega arith in
     ap (λ n. done ++ cells_found cells (stamps_from site count n)) e
-    ∙ sym (append_assoc done (listed (cell_of cells (record { count = count; site = site }))) (cells_found cells (stamps_from site (count + 1) (last + 1 - (count + 1)))))
+    ∙ sym (append_assoc done (one_or_none (cell_of cells (record { count = count; site = site }))) (cells_found cells (stamps_from site (count + 1) (last + 1 - (count + 1)))))
 
 -- STATES THAT WERE GIVEN OUT
 
@@ -143,16 +144,16 @@ each_append : (P : Cell ℕ → Type 0) (xs ys : List (Cell ℕ)) → AllByRecur
 each_append P [] ys h k = k
 each_append P (x ∷ xs) ys h k = (h.0, each_append P xs ys h.1 k)
 
-found_one : (P : Cell ℕ → Type 0) (cells : List (Cell ℕ)) (s : Stamp) → AllByRecursion P cells → AllByRecursion P (listed (cell_of cells s))
+found_one : (P : Cell ℕ → Type 0) (cells : List (Cell ℕ)) (s : Stamp) → AllByRecursion P cells → AllByRecursion P (one_or_none (cell_of cells s))
 found_one P [] s h = tt
-found_one P (c ∷ cs) s h = elim (is_same c.stamp s) as (λ b. AllByRecursion P (listed (cond b (Some c) (cell_of cs s)))) [
+found_one P (c ∷ cs) s h = elim (is_same c.stamp s) as (λ b. AllByRecursion P (one_or_none (cond b (Some c) (cell_of cs s)))) [
   | true ↦ (h.0, tt)
   | false ↦ found_one P cs s h.1
 ]
 
 found_each : (P : Cell ℕ → Type 0) (cells : List (Cell ℕ)) (stamps : List Stamp) → AllByRecursion P cells → AllByRecursion P (cells_found cells stamps)
 found_each P cells [] h = tt
-found_each P cells (s ∷ ss) h = each_append P (listed (cell_of cells s)) (cells_found cells ss) (found_one P cells s h) (found_each P cells ss h)
+found_each P cells (s ∷ ss) h = each_append P (one_or_none (cell_of cells s)) (cells_found cells ss) (found_one P cells s h) (found_each P cells ss h)
 
 pub found_states : (table : TagStates) (cells : List (Cell ℕ)) (stamps : List Stamp) → AreStates table cells → AreStates table (cells_found cells stamps)
 found_states table cells stamps h =

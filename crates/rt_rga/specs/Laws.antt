@@ -1,6 +1,7 @@
 -- The statements of those laws that are too long for a clause.
-use Rattle.std.specs.Prelude.{◌≡◌, ◌↔◌, ◌⊎◌, ℕ, ◌+◌, ◌<◌, ◌≤◌, ◌==◌, Bool, true, false, not, ◌&&◌, ◌||◌, List, [], ◌∷◌, ◌++◌, length, map, reverse, codes, None, Ok}
+use Rattle.std.specs.Prelude.{◌≡◌, ◌↔◌, ◌⊎◌, ℕ, ◌+◌, ◌<◌, ◌≤◌, ◌==◌, Bool, true, false, not, ◌&&◌, ◌||◌, List, [], ◌∷◌, ◌++◌, length, map, reverse, None, Ok}
 use Rattle.std.specs.List.{All, list_all, list_any}
+use Rattle.rt_stamps.specs.Names.{sel}
 use Rattle.rt_stamps.specs.Spans.{is_span}
 use Rattle.rt_stamps.specs.Stamps.{is_same}
 use Rattle.rt_stamps.specs.declared.limits.TheConstants.{GREATEST_COUNT}
@@ -63,7 +64,7 @@ CellsAreCharacters =
 
 -- `sel` is each widget's own.
 abbrev pub SelIsInNoState : Type 0
-SelIsInNoState = (set : List Operation) → IsHistory set → All (λ cell. write_of (codes "sel") cell.state ≡ None) (cells_of set)
+SelIsInNoState = (set : List Operation) → IsHistory set → All (λ cell. write_of sel cell.state ≡ None) (cells_of set)
 
 -- What is on each character, and what is listed for it: each tag whose greatest write says on.
 abbrev pub GreatestDecide : Type 0

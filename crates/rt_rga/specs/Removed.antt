@@ -4,11 +4,11 @@ use Rattle.std.specs.List.{flat_map}
 use Rattle.rt_store.specs.declared.cell.Cell.{Cell}
 use Rattle.rt_store.specs.Cells.{position_of, visible_before}
 use Rattle.rt_stamps.specs.Spans.{each_next}
-use Rattle.rt_rga.specs.Runs.{listed}
+use Rattle.rt_tags.specs.Borders.{one_or_none}
 
 -- the place of a cell, if it is visible
 abbrev pub place_of : {T : Type 0} → List (Cell T) → Cell T → List ℕ
-place_of cells cell = if cell.gone then [] else listed (option_map (visible_before cells) (position_of cells cell.stamp))
+place_of cells cell = if cell.gone then [] else one_or_none (option_map (visible_before cells) (position_of cells cell.stamp))
 
 -- the places of those of some cells that are visible
 abbrev pub places_of : {T : Type 0} → List (Cell T) → List (Cell T) → List ℕ

@@ -1,8 +1,9 @@
 // What an operation will change in the visible text.
-ghost use Rattle.std.specs.Prelude.{◌≡◌, ◌<◌, ◌≤◌, All, IfOk, IsOkUnless, List, ℕ, false, length, map, string_bytes};
+ghost use Rattle.std.specs.Prelude.{◌≡◌, ◌<◌, ◌≤◌, All, IfOk, IsOkUnless, List, ℕ, false, length, map};
 ghost use Rattle.rt_stamps.specs.declared.limits.TheConstants.{MOST_CELLS};
 ghost use Rattle.rt_stamps.specs.declared.stamp.Stamp.{Stamp as StampOf};
 ghost use Rattle.rt_stamps.specs.declared.stamp.TheConstants.{FINAL};
+ghost use Rattle.rt_stamps.specs.Words.{as_words};
 ghost use Rattle.rt_ops.specs.Operations.{Insert, Name, stamp_of};
 ghost use Rattle.rt_store.specs.Cells.{AreDistinct, IsPlaced, visible_before, visible_of};
 ghost use Rattle.rt_tags.specs.States.{IsTag, KeepsIds, name_at};
@@ -79,7 +80,7 @@ fn removed<S: TextStore>(alloc: Global, store: &S, op: &Op) -> Result<Vec<PlaceR
 /// The numbers of names. Want of memory.
 #[tactic(auto, using(rt_tags::proofs::Listing::keeps_both))]
 fn numbers(alloc: Global, states: &mut StateTable, names: &[String]) -> Result<Vec<TagId>, Fault>
-    ensures names { IfOk result (λ tags. map (name_at states.new) tags.items ≡ map (λ name. string_bytes name) names.now) }
+    ensures names { IfOk result (λ tags. map (name_at states.new) tags.items ≡ as_words names.now) }
     ensures given { IfOk result (λ tags. All (IsTag states.new) tags.items) }
     ensures ids { KeepsIds states.old states.new }
     ensures fault { IsOkUnless result Fault.NoMemory }

@@ -1,7 +1,8 @@
 // What operations do to the cells that are kept.
-ghost use Rattle.std.specs.Prelude.{◌≡◌, ◌*◌, ◌+◌, ◌<◌, ◌≤◌, [], false, OnOk, OnErr, IfOk, IsOkUnless, length, map, string_bytes};
+ghost use Rattle.std.specs.Prelude.{◌≡◌, ◌*◌, ◌+◌, ◌<◌, ◌≤◌, [], false, OnOk, OnErr, IfOk, IsOkUnless, length, map};
 ghost use Rattle.rt_stamps.specs.declared.limits.TheConstants.{GREATEST_COUNT, MOST_CELLS};
 ghost use Rattle.rt_stamps.specs.declared.stamp.TheConstants.{FINAL, ROOT as ROOT_STAMP};
+ghost use Rattle.rt_stamps.specs.Words.{as_words};
 ghost use Rattle.rt_oplog.specs.Logs.{with_operation};
 ghost use Rattle.rt_store.specs.Cells.{cells_from, HasRoom, IsPlaced, put_at, Spends};
 ghost use Rattle.rt_tags.specs.States.{IsState, KeepsIds, state_at};
@@ -48,7 +49,7 @@ pub(crate) fn insert_cells<S: TextStore>(
     requires states { S.agrees store.old states.old }
     requires room { length (S.list store.old) + length text.now ≤ MOST_CELLS }
     ensures given { IfOk result (IsState states.new) }
-    ensures state { IfOk result (λ id. state_at states.new id ≡ state_after [] (listed_by ROOT_STAMP (map (λ tag. string_bytes tag) tags.now))) }
+    ensures state { IfOk result (λ id. state_at states.new id ≡ state_after [] (listed_by ROOT_STAMP (as_words tags.now))) }
     ensures list { IfOk result (λ id. S.list store.new
         ≡ put_at (skip_from (S.list store.old) after stamp) (cells_from stamp.count stamp.site id text.now) (S.list store.old)) }
     ensures agrees { S.agrees store.new states.new }

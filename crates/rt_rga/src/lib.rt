@@ -5,6 +5,7 @@ mod answer;
 mod describe;
 mod edits;
 pub mod examples;
+pub mod few;
 pub mod laws;
 mod make;
 mod new_cells;
@@ -14,6 +15,7 @@ pub mod replica;
 mod tagging;
 pub mod taken;
 
+pub use few::Few;
 pub use replica::Replica;
 pub use rt_oplog::Edit as Draft;
 pub use taken::{Change, PlaceRun, Taken};

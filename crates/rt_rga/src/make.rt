@@ -9,14 +9,17 @@ ghost use Rattle.rt_store.specs.Cells.{HasRoom, Spends};
 ghost use Rattle.rt_store.specs.Shown.{shown};
 ghost use Rattle.rt_store.specs.Tagged.{AreStates};
 ghost use Rattle.rt_tags.specs.States.{KeepsIds, TagStates};
+ghost use Rattle.rt_oplog.specs.Logs.{with_operation};
 ghost use Rattle.rt_rga.specs.Drafts.{with_operations};
-ghost use Rattle.rt_rga.specs.Histories.{greatest_last_count};
+ghost use Rattle.rt_rga.specs.Few.{items_in};
+ghost use Rattle.rt_rga.specs.Histories.{Continues, greatest_last_count};
 ghost use Rattle.rt_rga.specs.Making.{AreNewest, CanAllBePut, CanBePut, ContinueInTurn, cuts_by, cuts_of, fresh_by, fresh_cells, kept_after, operations_from, put_by_kept, refusal_from};
 ghost use Rattle.rt_rga.specs.Requests.{characters_in, last_count_after};
 ghost use Rattle.rt_rga.specs.Replicas.{IsReplica};
 
 use crate::Draft;
 use crate::edits::set_all_gone;
+use crate::few::Few;
 use crate::new_cells::NewCells;
 use crate::plan::planned_states;
 use crate::tagging::put_states;
@@ -26,6 +29,7 @@ use rt_stamps::{Clock, Fault, ROOT, Stamp};
 use rt_store::{Cell, TextStore};
 use rt_tags::{StateId, StateTable};
 use std::alloc::Global;
+use std::slice;
 
 /// How many characters a draft inserts.
 fn characters_in(draft: &Draft) -> usize
@@ -82,10 +86,9 @@ fn check_limits(last: u64, left: usize, drafts: &[Draft]) -> Result<(), Fault>
     Ok(())
 }
 
-/// The operations of drafts: the first count is one above the last one of all operations, and the
-/// first `prev` is the site's known end. Want of memory.
+// The same, in a list of its own.
 #[tactic(auto, using(crate::proofs::Requests::not_less))]
-pub(crate) fn stamped(
+fn all_stamped(
     alloc: Global,
     site: u16,
     last: u64,
@@ -110,6 +113,45 @@ pub(crate) fn stamped(
         prev = last;
     }
     Ok(ops)
+}
+
+/// The operations of drafts: the first count is one above the last one of all operations, and the
+/// first `prev` is the site's known end. Want of memory.
+#[tactic(auto, using(crate::proofs::Requests::not_less))]
+pub(crate) fn stamped(
+    alloc: Global,
+    site: u16,
+    last: u64,
+    prev: u64,
+    drafts: Vec<Draft>,
+) -> Result<Few<Op>, Fault>
+    requires rules { All (λ draft. keeps_rules (body_of draft) ≡ true) drafts.items }
+    requires fits { last_count_after last (map body_of drafts.items) ≤ GREATEST_COUNT }
+    ensures ops { IfOk result (λ ops. items_in ops ≡ operations_from site last prev (map body_of drafts.items)) }
+    ensures fault { IsOkUnless result Fault.NoMemory }
+{
+    let mut drafts = drafts;
+    if let Some(draft) = drafts.pop() {
+        if drafts.is_empty() {
+            let stamp = Stamp {
+                count: last + 1,
+                site,
+            };
+            return Ok(Few::One(Op::of(stamp, prev, draft)));
+        }
+        drafts.push_reserved(draft);
+    }
+    Ok(Few::Many(all_stamped(alloc, site, last, prev, drafts)?))
+}
+
+/// Operations, in a list.
+pub(crate) fn list_of(ops: &Few<Op>) -> &[Op]
+    ensures { result.now ≡ items_in ops.now }
+{
+    match ops {
+        Few::One(op) => slice::from_ref(op),
+        Few::Many(ops) => ops.as_slice(),
+    }
 }
 
 /// Operations once more. Want of memory.
@@ -282,9 +324,22 @@ fn make_room<S: TextStore>(
     }
 }
 
-/// Logs operations that are newer than all before them, each of which continues the log with those before it, where
-/// there is room.
-pub(crate) fn push_all(log: &mut OpLog, clock: &mut Clock, ops: Vec<Op>)
+// Logs an operation that is newer than all before it, and continues the log, where there is room.
+fn push_newest(log: &mut OpLog, clock: &mut Clock, op: Op)
+    requires continues { Continues log.old.operations op }
+    requires newest { greatest_last_count log.old.operations < op.count }
+    requires room { 0 < log.old.room }
+    requires seen { clock.old ≡ greatest_last_count log.old.operations }
+    ensures operations { log.new.operations ≡ with_operation op log.old.operations }
+    ensures room { log.old.room ≤ log.new.room + 1 }
+    ensures seen { clock.new ≡ greatest_last_count log.new.operations }
+{
+    clock.saw(op.last_count());
+    log.append(op);
+}
+
+// The same of a list of operations.
+fn push_all(log: &mut OpLog, clock: &mut Clock, ops: Vec<Op>)
     requires continues { ContinueInTurn log.old.operations ops.items }
     requires newest { AreNewest log.old.operations ops.items }
     requires room { length ops.items ≤ log.old.room }
@@ -293,8 +348,23 @@ pub(crate) fn push_all(log: &mut OpLog, clock: &mut Clock, ops: Vec<Op>)
     ensures seen { clock.new ≡ greatest_last_count log.new.operations }
 {
     for op in ops {
-        clock.saw(op.last_count());
-        log.append(op);
+        push_newest(log, clock, op);
+    }
+}
+
+/// Logs operations that are newer than all before them, each of which continues the log with those before it, where
+/// there is room.
+pub(crate) fn push_few(log: &mut OpLog, clock: &mut Clock, ops: Few<Op>)
+    requires continues { ContinueInTurn log.old.operations (items_in ops) }
+    requires newest { AreNewest log.old.operations (items_in ops) }
+    requires room { length (items_in ops) ≤ log.old.room }
+    requires seen { clock.old ≡ greatest_last_count log.old.operations }
+    ensures operations { log.new.operations ≡ with_operations (items_in ops) log.old.operations }
+    ensures seen { clock.new ≡ greatest_last_count log.new.operations }
+{
+    match ops {
+        Few::One(op) => push_newest(log, clock, op),
+        Few::Many(ops) => push_all(log, clock, ops),
     }
 }
 
@@ -307,10 +377,10 @@ pub(crate) fn prepared(
     prev: u64,
     left: usize,
     drafts: Vec<Draft>,
-) -> Result<Vec<Op>, Fault>
+) -> Result<Few<Op>, Fault>
     requires last { last ≤ GREATEST_COUNT }
     requires rules { All (λ draft. keeps_rules (body_of draft) ≡ true) drafts.items }
-    ensures ops { IfOk result (λ ops. ops.items ≡ operations_from site last prev (map body_of drafts.items)) }
+    ensures ops { IfOk result (λ ops. items_in ops ≡ operations_from site last prev (map body_of drafts.items)) }
     ensures fits { OnOk result (refusal_from last left (map body_of drafts.items) ≡ None) }
     ensures refused { IfErr result (λ fault. (refusal_from last left (map body_of drafts.items) ≡ Some fault)
         ⊎ ((fault ≡ Fault.NoMemory) × (refusal_from last left (map body_of drafts.items) ≡ None))) }

@@ -3,6 +3,7 @@ ghost use Rattle.std.specs.Prelude.{◌≡◌, ◌+◌, ◌≤◌, ◌++◌, [],
 ghost use Rattle.rt_stamps.specs.declared.limits.TheConstants.{GREATEST_COUNT};
 ghost use Rattle.rt_store.specs.Cells.{cells_from};
 
+use crate::few::Few;
 use rt_stamps::{Fault, Stamp};
 use rt_store::Cell;
 use rt_tags::StateId;
@@ -10,16 +11,10 @@ use std::alloc::Global;
 use std::marker::Model;
 use std::slice;
 
-/// Cells of new characters. That of a single one, as typed, takes no memory.
+/// Cells of new characters.
 #[derive(Drop)]
 pub(crate) struct NewCells {
-    kept: Kept,
-}
-
-#[derive(Drop)]
-enum Kept {
-    One(Cell<StateId>),
-    Many(Vec<Cell<StateId>>),
+    kept: Few<Cell<StateId>>,
 }
 
 impl Model for NewCells {
@@ -28,9 +23,9 @@ impl Model for NewCells {
 
     ghost Value = { List (StoreCell ℕ) };
 
-    ghost use Rattle.rt_rga.specs.NewCells.{cells_in};
+    ghost use Rattle.rt_rga.specs.Few.{items_in};
 
-    ghost view = { λ cells. cells_in cells.kept };
+    ghost view = { λ cells. items_in cells.kept };
 }
 
 impl NewCells {
@@ -39,7 +34,7 @@ impl NewCells {
         ensures { result ≡ [] }
     {
         NewCells {
-            kept: Kept::Many(Vec::new(alloc)),
+            kept: Few::Many(Vec::new(alloc)),
         }
     }
 
@@ -48,8 +43,8 @@ impl NewCells {
         ensures { result.now ≡ self.now }
     {
         match &self.kept {
-            Kept::One(cell) => slice::from_ref(cell),
-            Kept::Many(cells) => cells.as_slice(),
+            Few::One(cell) => slice::from_ref(cell),
+            Few::Many(cells) => cells.as_slice(),
         }
     }
 
@@ -66,16 +61,16 @@ impl NewCells {
         ensures fault { IsOkUnless result Fault.NoMemory }
     {
         match &mut self.kept {
-            Kept::One(cell) => {
+            Few::One(cell) => {
                 let mut cells = Vec::new(alloc);
                 cells.push(*cell)?;
                 push_new(&mut cells, first, state, text)?;
-                self.kept = Kept::Many(cells);
+                self.kept = Few::Many(cells);
                 Ok(())
             }
-            Kept::Many(cells) => match text {
+            Few::Many(cells) => match text {
                 [ch] if cells.is_empty() => {
-                    self.kept = Kept::One(new_cell(first, state, *ch));
+                    self.kept = Few::One(new_cell(first, state, *ch));
                     Ok(())
                 }
                 _ => push_new(cells, first, state, text),

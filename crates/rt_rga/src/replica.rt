@@ -9,6 +9,7 @@ ghost use Rattle.rt_oplog.specs.Logs.{with_operation};
 ghost use Rattle.rt_rga.specs.Answers.{New, Refused, answer_within, set_after};
 ghost use Rattle.rt_rga.specs.Cells.{cells_of};
 ghost use Rattle.rt_rga.specs.Drafts.{operations_of, with_drafts, with_operations};
+ghost use Rattle.rt_rga.specs.Few.{items_in};
 ghost use Rattle.rt_rga.specs.Made.{refusal_of};
 ghost use Rattle.rt_rga.specs.Making.{AreNewest, ContinueInTurn, fresh_cells};
 ghost use Rattle.rt_rga.specs.Requests.{MayBeMade};
@@ -20,7 +21,8 @@ use crate::Draft;
 use crate::answer::{Offer, answer_within};
 use crate::describe::describe;
 use crate::edits::change;
-use crate::make::{change_all, copied, prepared, push_all};
+use crate::few::Few;
+use crate::make::{change_all, copied, list_of, prepared, push_few};
 use crate::taken::{Change, Taken};
 use rt_oplog::{Op, OpLog};
 use rt_stamps::{Clock, Fault, Site};
@@ -58,7 +60,7 @@ impl<S: TextStore> Drop for Replica<S> {
 
 impl<S: TextStore> Model for Replica<S> {
     ghost use Rattle.std.specs.Prelude.{map};
-    ghost use Rattle.rt_rga.specs.Kept.{ReplicaValue, IsWithin};
+    ghost use Rattle.rt_rga.specs.Kept.{IsSound, IsWithin, ReplicaValue};
     ghost use Rattle.rt_store.specs.Shown.{shown};
 
     ghost Value = { ReplicaValue };
@@ -71,7 +73,7 @@ impl<S: TextStore> Model for Replica<S> {
       limit = r.limit;
     } };
 
-    ghost invariant = { λ r. IsWithin r.log.operations r.states (S.list r.store) r.clock r.limit × S.agrees r.store r.states };
+    ghost invariant = { λ r. IsSound (IsWithin r.log.operations r.states (S.list r.store) r.clock r.limit) (S.agrees r.store r.states) };
 }
 
 impl<S: TextStore> Replica<S> {
@@ -199,11 +201,11 @@ impl<S: TextStore> Replica<S> {
 
     /// Logs operations that are newer than all before them, each of which continues the log with those
     /// before it, within the limit of cells. Want of memory.
-    fn make_all(&mut self, ops: Vec<Op>) -> Result<(), Fault>
-        requires continues { ContinueInTurn self.old.log ops.items }
-        requires newest { AreNewest self.old.log ops.items }
-        requires room { length self.old.cells + length (fresh_cells ops.items) ≤ self.old.limit }
-        ensures log { OnOk result (self.new.log ≡ with_operations ops.items self.old.log) }
+    fn make_all(&mut self, ops: Few<Op>) -> Result<(), Fault>
+        requires continues { ContinueInTurn self.old.log (items_in ops) }
+        requires newest { AreNewest self.old.log (items_in ops) }
+        requires room { length self.old.cells + length (fresh_cells (items_in ops)) ≤ self.old.limit }
+        ensures log { OnOk result (self.new.log ≡ with_operations (items_in ops) self.old.log) }
         ensures cells { OnOk result (self.new.cells ≡ cells_of self.new.log) }
         ensures same { OnErr result (self.new ≡ record self.old { table = self.new.table }) }
         ensures site { self.new.site ≡ self.old.site }
@@ -211,28 +213,29 @@ impl<S: TextStore> Replica<S> {
         ensures ids { KeepsIds self.old.table self.new.table }
         ensures fault { IsOkUnless result Fault.NoMemory }
     {
-        self.log.reserve(ops.len())?;
+        let made = list_of(&ops);
+        self.log.reserve(made.len())?;
         change_all(
             self.alloc,
             &mut self.store,
             &mut self.states,
             &self.log,
-            &ops,
+            made,
         )?;
-        push_all(&mut self.log, &mut self.clock, ops);
+        push_few(&mut self.log, &mut self.clock, ops);
         Ok(())
     }
 
     // The operations of drafts, which the log and the limit of cells have room for. The faults of `make`.
-    fn planned(&self, drafts: Vec<Draft>) -> Result<Vec<Op>, Fault>
+    fn planned(&self, drafts: Vec<Draft>) -> Result<Few<Op>, Fault>
         requires { MayBeMade self.now.site self.now.log (map body_of drafts.items) }
-        ensures made { IfOk result (λ ops. ops.items ≡ operations_of self.now.site (map body_of drafts.items) self.now.log) }
+        ensures made { IfOk result (λ ops. items_in ops ≡ operations_of self.now.site (map body_of drafts.items) self.now.log) }
         ensures fits { OnOk result (refusal_of self.now.limit (map body_of drafts.items) self.now.log ≡ None) }
         ensures refused { IfErr result (λ fault. (refusal_of self.now.limit (map body_of drafts.items) self.now.log
             ≡ Some fault) ⊎ ((fault ≡ Fault.NoMemory) × (refusal_of self.now.limit (map body_of drafts.items) self.now.log ≡ None))) }
-        ensures continues { IfOk result (λ ops. ContinueInTurn self.now.log ops.items) }
-        ensures newest { IfOk result (λ ops. AreNewest self.now.log ops.items) }
-        ensures room { IfOk result (λ ops. length self.now.cells + length (fresh_cells ops.items) ≤ self.now.limit) }
+        ensures continues { IfOk result (λ ops. ContinueInTurn self.now.log (items_in ops)) }
+        ensures newest { IfOk result (λ ops. AreNewest self.now.log (items_in ops)) }
+        ensures room { IfOk result (λ ops. length self.now.cells + length (fresh_cells (items_in ops)) ≤ self.now.limit) }
     {
         let site = self.site.number();
         prepared(
@@ -267,7 +270,7 @@ impl<S: TextStore> Replica<S> {
         ensures ids { KeepsIds self.old.table self.new.table }
     {
         let ops = self.planned(drafts)?;
-        let copies = copied(self.alloc, &ops)?;
+        let copies = copied(self.alloc, list_of(&ops))?;
         self.make_all(ops)?;
         Ok(copies)
     }

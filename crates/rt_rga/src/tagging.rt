@@ -10,7 +10,8 @@ ghost use Rattle.rt_store.specs.Tagged.{AreStates};
 ghost use Rattle.rt_tags.specs.States.{IsState, IsTag, KeepsIds, TagStates, name_at, write_at};
 ghost use Rattle.rt_ops.specs.Operations.{stamps_in, stamps_of_span};
 ghost use Rattle.rt_rga.specs.Changes.{written_in_any};
-ghost use Rattle.rt_rga.specs.Runs.{cells_found, listed, put_back, put_back_in_any, with_write};
+ghost use Rattle.rt_tags.specs.Borders.{one_or_none};
+ghost use Rattle.rt_rga.specs.Runs.{cells_found, put_back, put_back_in_any, with_write};
 
 use crate::answer::span_of;
 use rt_stamps::{Fault, Span, Stamp};
@@ -23,7 +24,7 @@ pub(crate) fn push_found(
     cell: Option<Cell<StateId>>,
     cells: &mut Vec<Cell<StateId>>,
 ) -> Result<(), Fault>
-    ensures ok { OnOk result (cells.new.items ≡ cells.old.items ++ listed cell) }
+    ensures ok { OnOk result (cells.new.items ≡ cells.old.items ++ one_or_none cell) }
     ensures fault { IsOkUnless result Fault.NoMemory }
 {
     if let Some(cell) = cell {

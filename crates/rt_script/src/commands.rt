@@ -1,5 +1,6 @@
 // What runs the lines of a script.
-ghost use Rattle.std.specs.Prelude.{List, ℕ, map, string_bytes};
+ghost use Rattle.std.specs.Prelude.{List, ℕ};
+ghost use Rattle.rt_stamps.specs.Words.{as_words};
 ghost use Rattle.rt_script.specs.declared.answer.Answer.{Answer};
 
 use crate::Answer;
@@ -17,5 +18,5 @@ pub trait Commands {
 
     /// Runs the words of a line.
     fn run_words(&mut self, words: &[String]) -> Answer
-        ensures { gives (state self.old) (map (λ w. string_bytes w) words.now) result (state self.new) };
+        ensures { gives (state self.old) (as_words words.now) result (state self.new) };
 }

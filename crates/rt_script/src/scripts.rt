@@ -12,7 +12,7 @@ use std::alloc::Global;
 /// lines. `files` are the files that its lines may name, each with its name, of at most `MOST_BYTES`
 /// bytes; of one name the first counts.
 ///
-/// `ReadFault` where a read failed, or the script passed `MOST_BYTES` bytes or `MOST_READS` reads;
+/// `ReadFault` where a read failed, or the script passed `MOST_BYTES` bytes (at most `MOST_READS` reads are taken);
 /// `NoMemory` where a line couldn't be stored; `WriteFault` where a write failed or took nothing.
 pub fn run<R: Source, W: Sink>(
     alloc: Global,

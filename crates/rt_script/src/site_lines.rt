@@ -1,13 +1,14 @@
 // A site that runs the lines of a script, which may name files.
-ghost use Rattle.std.specs.Prelude.{◌≡◌, All, Some, None, codes, length, ◌≤◌, map, string_bytes, MatchOption};
+ghost use Rattle.std.specs.Prelude.{◌≡◌, All, Some, None, codes, length, ◌≤◌, MatchOption};
 ghost use Rattle.std.specs.Str.{bytes_eq};
 ghost use Rattle.rt_stamps.specs.declared.limits.TheConstants.{MOST_BYTES};
+ghost use Rattle.rt_stamps.specs.Words.{as_words};
 ghost use Rattle.rt_peers.specs.PeerStep.{destroyed};
 ghost use Rattle.rt_script.specs.Site.{AreWithin, DestroyGives, IsDone, ReceiveGives, PathGives, SiteGives, file_named, named_files};
 
 use crate::answer::Answer;
 use crate::commands::Commands;
-use rt_peer_requests::destroyed;
+use rt_peer_requests::Destroy;
 use rt_peers::SiteState;
 use rt_stamps::Fault;
 use std::marker::Model;
@@ -80,7 +81,7 @@ impl<'a> Session<'a> {
     // `receive NAME`.
     fn receive(&mut self, words: &[String]) -> Answer
         ensures files { self.new.files ≡ self.old.files }
-        ensures gives { ReceiveGives self.old.files (map (λ w. string_bytes w) words.now) self.old.site result self.new.site }
+        ensures gives { ReceiveGives self.old.files (as_words words.now) self.old.site result self.new.site }
     {
         let [name] = words else {
             return Answer::Refused(Fault::BadCommand);
@@ -105,9 +106,9 @@ impl<'a> Session<'a> {
     // `destroy PATH`.
     fn destroy(&mut self, words: &[String]) -> Answer
         ensures files { self.new.files ≡ self.old.files }
-        ensures gives { DestroyGives (map (λ w. string_bytes w) words.now) self.old.site result self.new.site }
+        ensures gives { DestroyGives (as_words words.now) self.old.site result self.new.site }
     {
-        match destroyed(words) {
+        match Destroy::of(words) {
             Ok(request) => self.let_go(request.path.text()),
             Err(fault) => Answer::Refused(fault),
         }
@@ -116,7 +117,7 @@ impl<'a> Session<'a> {
     // `PATH COMMAND WORDS`.
     fn command(&mut self, path: &str, words: &[String]) -> Answer
         ensures files { self.new.files ≡ self.old.files }
-        ensures gives { PathGives path.now (map (λ w. string_bytes w) words.now) self.old.site result self.new.site }
+        ensures gives { PathGives path.now (as_words words.now) self.old.site result self.new.site }
     {
         match self.site.command(path, words) {
             Ok(reply) => Answer::Replied(reply),

@@ -8,7 +8,7 @@ use Rattle.std.proofs.lemmas.List.Folds.{list_any-append}
 use Rattle.std.proofs.lemmas.Option.{slice_get_within}
 use Rattle.rt_search.specs.declared.search.Direction.{Direction}
 use Rattle.rt_search.specs.declared.search.Direction.TheVariants.{Forwards, Backwards}
-use Rattle.rt_search.specs.declared.search.Stretch.{Stretch}
+use Rattle.rt_views.specs.declared.stretch.Stretch.{Stretch}
 use Rattle.rt_search.specs.Ends.{EndsDecide, FirstDecides, IsBefore, overlaps_first, overlaps_last, overlaps_one}
 use Rattle.rt_search.specs.Searches.{overlap}
 
@@ -19,8 +19,8 @@ Precedes Backwards a b = b < a
 
 -- the places that are left of a stretch after so many
 abbrev pub IsLeft : Direction → Stretch → ℕ → ℕ → Type 0
-IsLeft Forwards stretch index place = (stretch.from + index ≤ place) × (place < stretch.to)
-IsLeft Backwards stretch index place = (stretch.from ≤ place) × (place + index < stretch.to)
+IsLeft Forwards stretch index place = (stretch.begin + index ≤ place) × (place < stretch.end)
+IsLeft Backwards stretch index place = (stretch.begin ≤ place) × (place + index < stretch.end)
 
 -- BOOLEANS
 
@@ -105,7 +105,7 @@ pub record Taking (d : Direction) (s : Stretch) (m : ℕ) (old : List ℕ) (inde
   pub first_decides : (p : ℕ) → IsBefore d s p → FirstDecides m new p
   pub last_before : (p q : ℕ) → IsLeft d s index p → slice_get new (length new - 1) ≡ Some q → Precedes d q p
   pub first_before : (p q : ℕ) → IsLeft d s index p → slice_get new 0 ≡ Some q → Precedes d q p
-  pub first_within : (q : ℕ) → slice_get new 0 ≡ Some q → (s.from ≤ q) × (q < s.to)
+  pub first_within : (q : ℕ) → slice_get new 0 ≡ Some q → (s.begin ≤ q) × (q < s.end)
 
 nil_right : (xs : List ℕ) → xs ≡ xs ++ []
 nil_right xs = sym (append-nil xs)
@@ -138,14 +138,14 @@ taking_skip d s m old i taken t = record {
 
 -- the place after so many
 abbrev pub IsAt : Direction → Stretch → ℕ → ℕ → Type 0
-IsAt Forwards s i p = (p ≡ s.from + i) × (p < s.to)
-IsAt Backwards s i p = (p + i + 1 ≡ s.to) × (s.from ≤ p)
+IsAt Forwards s i p = (p ≡ s.begin + i) × (p < s.end)
+IsAt Backwards s i p = (p + i + 1 ≡ s.end) × (s.begin ≤ p)
 
 pub at_left : (d : Direction) (s : Stretch) (i p : ℕ) → IsAt d s i p → IsLeft d s i p
 at_left Forwards s i p h = let a = h.0 in let b = h.1 in (omega arith, b)
 at_left Backwards s i p h = let a = h.0 in let b = h.1 in (b, omega arith)
 
-at_within : (d : Direction) (s : Stretch) (i p : ℕ) → IsAt d s i p → (s.from ≤ p) × (p < s.to)
+at_within : (d : Direction) (s : Stretch) (i p : ℕ) → IsAt d s i p → (s.begin ≤ p) × (p < s.end)
 at_within Forwards s i p h = let a = h.0 in let b = h.1 in (omega arith, b)
 at_within Backwards s i p h = let a = h.0 in let b = h.1 in (b, omega arith)
 
@@ -153,7 +153,7 @@ next : (d : Direction) (s : Stretch) (i p q : ℕ) → IsAt d s i q → IsLeft d
 next Forwards s i p q h k = let a = h.0 in let b = k.0 in omega arith
 next Backwards s i p q h k = let a = h.0 in let b = k.1 in omega arith
 
-before_all : (d : Direction) (s : Stretch) (p q : ℕ) → IsBefore d s p → (s.from ≤ q) × (q < s.to) → Precedes d p q
+before_all : (d : Direction) (s : Stretch) (p q : ℕ) → IsBefore d s p → (s.begin ≤ q) × (q < s.end) → Precedes d p q
 before_all Forwards s p q h k = let a = k.0 in omega arith
 before_all Backwards s p q h k = let a = k.1 in omega arith
 
@@ -191,7 +191,7 @@ taking_push d s m old i taken q at t = record {
       ∙ by_first d m p q t.new (slice_get t.new 0) refl (λ x e. t.first_before q x (at_left d s i q at) e) (λ x e. before_all d s p x h (t.first_within x e)) (t.first_decides p h);
   last_before = λ p x h e. let same : q ≡ x = some_same (sym (last_push t.new q) ∙ e) in subst (λ (y : ℕ). Precedes d y p) same (next d s i p q at h);
   first_before = λ p x h e. first_of_push t.new x e (λ same. subst (λ (y : ℕ). Precedes d y p) same (next d s i p q at h)) (λ w. t.first_before p x (fewer d s i p h) w);
-  first_within = λ x e. first_of_push t.new x e (λ same. subst (λ (y : ℕ). (s.from ≤ y) × (y < s.to)) same (at_within d s i q at)) (λ w. t.first_within x w);
+  first_within = λ x e. first_of_push t.new x e (λ same. subst (λ (y : ℕ). (s.begin ≤ y) × (y < s.end)) same (at_within d s i q at)) (λ w. t.first_within x w);
 }
   where
     absorbs_false : (a b : Bool) → (a ≡ true → b ≡ true) → (a || (b || false)) ≡ b

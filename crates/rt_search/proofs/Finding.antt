@@ -8,7 +8,7 @@ use Rattle.rt_search.specs.declared.search.Case.{Case}
 use Rattle.rt_search.specs.declared.search.Limits.{Limits}
 use Rattle.rt_search.specs.declared.search.Limits.TheVariants.{First, Strict}
 use Rattle.rt_search.specs.declared.search.Search.{Search}
-use Rattle.rt_search.specs.declared.search.Stretch.{Stretch}
+use Rattle.rt_views.specs.declared.stretch.Stretch.{Stretch}
 use Rattle.rt_search.specs.Searches.{ends_within, is_match, stands_at}
 use Rattle.rt_search.proofs.Standing.{runs_out}
 
@@ -22,7 +22,7 @@ by_test case pattern text place false h e = rw (runs_out case pattern text place
 
 -- a match that ends where it must is one that belongs to the stretch
 pub same_test : (case : Case) (limits : Limits) (pattern text : List ℕ) (stretch : Stretch) (place end : ℕ) → place ≤ length text
-    → (limits ≡ First → end ≡ length text) → (limits ≡ Strict → end ≡ stretch.to)
+    → (limits ≡ First → end ≡ length text) → (limits ≡ Strict → end ≡ stretch.end)
     → (stands_at case pattern text place && nat_le (place + length pattern) end) ≡ (stands_at case pattern text place && ends_within limits stretch (length pattern) place)
 same_test case First pattern text stretch place end h f g =
     ap (λ n. stands_at case pattern text place && nat_le (place + length pattern) n) (f refl)
@@ -55,8 +55,8 @@ first_none f near h = back (f near) h
     back (x ∷ xs) h = let bad : ⊥ = cc in absurd bad
 
 -- what a test of a place has told
-pub tested : (search : Search) (pattern text : List ℕ) (stretch : Stretch) (place end visible : ℕ) (r b : Bool) → place < stretch.to → stretch.to ≤ visible
-    → visible ≡ length text → (search.limits ≡ First → end ≡ visible) → (search.limits ≡ Strict → end ≡ stretch.to)
+pub tested : (search : Search) (pattern text : List ℕ) (stretch : Stretch) (place end visible : ℕ) (r b : Bool) → place < stretch.end → stretch.end ≤ visible
+    → visible ≡ length text → (search.limits ≡ First → end ≡ visible) → (search.limits ≡ Strict → end ≡ stretch.end)
     → r ≡ (stands_at search.case pattern text place && nat_le (place + length pattern) end) → r ≡ b → is_match search pattern text stretch place ≡ b
 tested search pattern text stretch place end visible r b h k e f g q w =
     let within : place ≤ length text = omega arith in

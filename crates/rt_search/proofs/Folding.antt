@@ -7,14 +7,14 @@ use Rattle.std.proofs.lemmas.List.Elements.{filter_more}
 use Rattle.rt_search.specs.declared.search.Direction.{Direction}
 use Rattle.rt_search.specs.declared.search.Direction.TheVariants.{Forwards, Backwards}
 use Rattle.rt_search.specs.declared.search.Overlaps.{Overlaps}
-use Rattle.rt_search.specs.declared.search.Stretch.{Stretch}
+use Rattle.rt_views.specs.declared.stretch.Stretch.{Stretch}
 use Rattle.rt_search.specs.Searches.{is_taken, ordered_places, with_match}
 use Rattle.rt_search.proofs.Ending.{IsAt}
 use Rattle.rt_search.proofs.Orders.{backwards_at, forwards_at}
 
-pub at_place : (d : Direction) (s : Stretch) (i p : ℕ) → i < s.to - s.from → p ≡ get_or (ordered_places d s) i p → IsAt d s i p
-at_place Forwards s i p h e = let same : p ≡ s.from + i = e ∙ forwards_at s i p h in (same, omega arith)
-at_place Backwards s i p h e = let same : p ≡ s.to - 1 - i = e ∙ backwards_at s i p h in (omega arith, omega arith)
+pub at_place : (d : Direction) (s : Stretch) (i p : ℕ) → i < s.end - s.begin → p ≡ get_or (ordered_places d s) i p → IsAt d s i p
+at_place Forwards s i p h e = let same : p ≡ s.begin + i = e ∙ forwards_at s i p h in (same, omega arith)
+at_place Backwards s i p h e = let same : p ≡ s.end - 1 - i = e ∙ backwards_at s i p h in (omega arith, omega arith)
 
 match_more : (f : List ℕ → ℕ → List ℕ) (old : List ℕ) (test : ℕ → Bool) (xs : List ℕ) (i d : ℕ) → i < length xs → test (get_or xs i d) ≡ true
     → fold f old (filter test (take (i + 1) xs)) ≡ f (fold f old (filter test (take i xs))) (get_or xs i d)

@@ -4,7 +4,7 @@ use Rattle.std.specs.Prelude.{filter, slice_get, Option, Some, None}
 use Rattle.rt_search.specs.declared.search.Direction.{Direction}
 use Rattle.rt_search.specs.declared.search.Direction.TheVariants.{Forwards, Backwards}
 use Rattle.rt_search.specs.declared.search.Search.{Search}
-use Rattle.rt_search.specs.declared.search.Stretch.{Stretch}
+use Rattle.rt_views.specs.declared.stretch.Stretch.{Stretch}
 use Rattle.rt_search.specs.Searches.{IsMatchIn, is_match, matches_in, ordered_places}
 use Rattle.rt_search.proofs.Orders.{backwards_at, forwards_at, length_ordered}
 
@@ -61,20 +61,20 @@ least search pattern text stretch found Forwards e w h =
     let test = is_match search pattern text stretch in
     let places = ordered_places Forwards stretch in
     let f = first_at test places found h in
-    let many : length places ≡ stretch.to - stretch.from = length_ordered Forwards stretch in
+    let many : length places ≡ stretch.end - stretch.begin = length_ordered Forwards stretch in
     let short = f.within in
-    let inside : f.index < stretch.to - stretch.from = omega arith in
-    let at : found ≡ stretch.from + f.index = sym f.there ∙ forwards_at stretch f.index 0 inside in
-    let low : stretch.from ≤ found = omega arith in
-    let high : found < stretch.to = omega arith in (
+    let inside : f.index < stretch.end - stretch.begin = omega arith in
+    let at : found ≡ stretch.begin + f.index = sym f.there ∙ forwards_at stretch f.index 0 inside in
+    let low : stretch.begin ≤ found = omega arith in
+    let high : found < stretch.end = omega arith in (
       (low, high, f.passes),
       λ other o.
           let from = o.0 in
           let to = o.1 in
-          let k : other - stretch.from < stretch.to - stretch.from = omega arith in
-          let back : stretch.from + (other - stretch.from) ≡ other = omega arith in
-          let far : f.index ≤ other - stretch.from = not_less f.index (other - stretch.from)
-          (λ p. clash test (get_or places (other - stretch.from) 0) other (forwards_at stretch (other - stretch.from) 0 k ∙ back) (f.before (other - stretch.from) p) o.2) in
+          let k : other - stretch.begin < stretch.end - stretch.begin = omega arith in
+          let back : stretch.begin + (other - stretch.begin) ≡ other = omega arith in
+          let far : f.index ≤ other - stretch.begin = not_less f.index (other - stretch.begin)
+          (λ p. clash test (get_or places (other - stretch.begin) 0) other (forwards_at stretch (other - stretch.begin) 0 k ∙ back) (f.before (other - stretch.begin) p) o.2) in
           omega arith,
     )
 
@@ -86,20 +86,20 @@ greatest search pattern text stretch found Backwards e w h =
     let test = is_match search pattern text stretch in
     let places = ordered_places Backwards stretch in
     let f = first_at test places found h in
-    let many : length places ≡ stretch.to - stretch.from = length_ordered Backwards stretch in
+    let many : length places ≡ stretch.end - stretch.begin = length_ordered Backwards stretch in
     let short = f.within in
-    let inside : f.index < stretch.to - stretch.from = omega arith in
-    let at : found ≡ stretch.to - 1 - f.index = sym f.there ∙ backwards_at stretch f.index 0 inside in
-    let low : stretch.from ≤ found = omega arith in
-    let high : found < stretch.to = omega arith in (
+    let inside : f.index < stretch.end - stretch.begin = omega arith in
+    let at : found ≡ stretch.end - 1 - f.index = sym f.there ∙ backwards_at stretch f.index 0 inside in
+    let low : stretch.begin ≤ found = omega arith in
+    let high : found < stretch.end = omega arith in (
       (low, high, f.passes),
       λ other o.
           let from = o.0 in
           let to = o.1 in
-          let k : stretch.to - 1 - other < stretch.to - stretch.from = omega arith in
-          let back : stretch.to - 1 - (stretch.to - 1 - other) ≡ other = omega arith in
-          let far : f.index ≤ stretch.to - 1 - other = not_less f.index (stretch.to - 1 - other)
-          (λ p. clash test (get_or places (stretch.to - 1 - other) 0) other (backwards_at stretch (stretch.to - 1 - other) 0 k ∙ back) (f.before (stretch.to - 1 - other) p) o.2) in
+          let k : stretch.end - 1 - other < stretch.end - stretch.begin = omega arith in
+          let back : stretch.end - 1 - (stretch.end - 1 - other) ≡ other = omega arith in
+          let far : f.index ≤ stretch.end - 1 - other = not_less f.index (stretch.end - 1 - other)
+          (λ p. clash test (get_or places (stretch.end - 1 - other) 0) other (backwards_at stretch (stretch.end - 1 - other) 0 k ∙ back) (f.before (stretch.end - 1 - other) p) o.2) in
           omega arith,
     )
 
@@ -110,18 +110,18 @@ none search pattern text stretch place Forwards h o =
     let to = o.1 in
     let test = is_match search pattern text stretch in
     let places = ordered_places Forwards stretch in
-    let many : length places ≡ stretch.to - stretch.from = length_ordered Forwards stretch in
-    let k : place - stretch.from < stretch.to - stretch.from = omega arith in
-    let back : stretch.from + (place - stretch.from) ≡ place = omega arith in
-    let within : place - stretch.from < length places = omega arith in
-    clash test (get_or places (place - stretch.from) 0) place (forwards_at stretch (place - stretch.from) 0 k ∙ back) (none_at test places h (place - stretch.from) within) o.2
+    let many : length places ≡ stretch.end - stretch.begin = length_ordered Forwards stretch in
+    let k : place - stretch.begin < stretch.end - stretch.begin = omega arith in
+    let back : stretch.begin + (place - stretch.begin) ≡ place = omega arith in
+    let within : place - stretch.begin < length places = omega arith in
+    clash test (get_or places (place - stretch.begin) 0) place (forwards_at stretch (place - stretch.begin) 0 k ∙ back) (none_at test places h (place - stretch.begin) within) o.2
 none search pattern text stretch place Backwards h o =
     let from = o.0 in
     let to = o.1 in
     let test = is_match search pattern text stretch in
     let places = ordered_places Backwards stretch in
-    let many : length places ≡ stretch.to - stretch.from = length_ordered Backwards stretch in
-    let k : stretch.to - 1 - place < stretch.to - stretch.from = omega arith in
-    let back : stretch.to - 1 - (stretch.to - 1 - place) ≡ place = omega arith in
-    let within : stretch.to - 1 - place < length places = omega arith in
-    clash test (get_or places (stretch.to - 1 - place) 0) place (backwards_at stretch (stretch.to - 1 - place) 0 k ∙ back) (none_at test places h (stretch.to - 1 - place) within) o.2
+    let many : length places ≡ stretch.end - stretch.begin = length_ordered Backwards stretch in
+    let k : stretch.end - 1 - place < stretch.end - stretch.begin = omega arith in
+    let back : stretch.end - 1 - (stretch.end - 1 - place) ≡ place = omega arith in
+    let within : stretch.end - 1 - place < length places = omega arith in
+    clash test (get_or places (stretch.end - 1 - place) 0) place (backwards_at stretch (stretch.end - 1 - place) 0 k ∙ back) (none_at test places h (stretch.end - 1 - place) within) o.2

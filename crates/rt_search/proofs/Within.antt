@@ -7,37 +7,37 @@ use Rattle.rt_search.specs.declared.search.Direction.{Direction}
 use Rattle.rt_search.specs.declared.search.Direction.TheVariants.{Forwards, Backwards}
 use Rattle.rt_search.specs.declared.search.Overlaps.{Overlaps}
 use Rattle.rt_search.specs.declared.search.Search.{Search}
-use Rattle.rt_search.specs.declared.search.Stretch.{Stretch}
+use Rattle.rt_views.specs.declared.stretch.Stretch.{Stretch}
 use Rattle.rt_search.specs.Searches.{all_matches, first_match, is_match, is_taken, matches, matches_in, ordered_places, stretches, with_match}
 use Rattle.rt_search.proofs.Orders.{backwards_at, forwards_at, length_ordered}
 
 abbrev pub IsIn : ℕ → ℕ → Type 0
 IsIn n place = place < n
 
-place_in : (d : Direction) (s : Stretch) (k e : ℕ) → k < s.to - s.from → get_or (ordered_places d s) k e < s.to
+place_in : (d : Direction) (s : Stretch) (k e : ℕ) → k < s.end - s.begin → get_or (ordered_places d s) k e < s.end
 place_in Forwards s k e h = omega (arith, forwards_at s k e h)
 place_in Backwards s k e h = omega (arith, backwards_at s k e h)
 
-places_in : (d : Direction) (s : Stretch) (n : ℕ) → s.to ≤ n → All (IsIn n) (ordered_places d s)
-places_in d s n h = λ k e l. let i : k < s.to - s.from = omega (arith, length_ordered d s) in omega (arith, place_in d s k e i)
+places_in : (d : Direction) (s : Stretch) (n : ℕ) → s.end ≤ n → All (IsIn n) (ordered_places d s)
+places_in d s n h = λ k e l. let i : k < s.end - s.begin = omega (arith, length_ordered d s) in omega (arith, place_in d s k e i)
 
-in_stretch : (how : Search) (pattern text : List ℕ) (s : Stretch) (n : ℕ) → s.to ≤ n → All (IsIn n) (matches_in how pattern text s)
+in_stretch : (how : Search) (pattern text : List ℕ) (s : Stretch) (n : ℕ) → s.end ≤ n → All (IsIn n) (matches_in how pattern text s)
 in_stretch how pattern text s n h = All-filter (is_match how pattern text s) (IsIn n) (ordered_places how.direction s) (places_in how.direction s n h)
 
-in_both : (how : Search) (pattern text : List ℕ) (a b : Stretch) (n : ℕ) → a.to ≤ n → b.to ≤ n
+in_both : (how : Search) (pattern text : List ℕ) (a b : Stretch) (n : ℕ) → a.end ≤ n → b.end ≤ n
     → All (IsIn n) (matches_in how pattern text a ++ (matches_in how pattern text b ++ []))
 in_both how pattern text a b n h k =
     All-append (IsIn n) _ _ (in_stretch how pattern text a n h) (All-append (IsIn n) _ _ (in_stretch how pattern text b n k) (All-nil (IsIn n)))
 
-in_one : (how : Search) (pattern text : List ℕ) (a : Stretch) (n : ℕ) → a.to ≤ n → All (IsIn n) (matches_in how pattern text a ++ [])
+in_one : (how : Search) (pattern text : List ℕ) (a : Stretch) (n : ℕ) → a.end ≤ n → All (IsIn n) (matches_in how pattern text a ++ [])
 in_one how pattern text a n h = All-append (IsIn n) _ _ (in_stretch how pattern text a n h) (All-nil (IsIn n))
 
 in_stretches : (how : Search) (pattern text : List ℕ) (start : ℕ) (stop : Option ℕ) (d : Direction) → start ≤ length text → IfSome stop (λ place. place ≤ length text)
     → All (IsIn (length text)) (flat_map (matches_in how pattern text) (stretches d start stop (length text)))
-in_stretches how pattern text start None Forwards h k = in_both how pattern text (record { from = start; to = length text }) (record { from = 0; to = start }) (length text) (omega arith) h
-in_stretches how pattern text start (Some stop) Forwards h k = in_one how pattern text (record { from = start; to = stop }) (length text) k
-in_stretches how pattern text start None Backwards h k = in_both how pattern text (record { from = 0; to = start }) (record { from = start; to = length text }) (length text) h (omega arith)
-in_stretches how pattern text start (Some stop) Backwards h k = in_one how pattern text (record { from = stop; to = start }) (length text) h
+in_stretches how pattern text start None Forwards h k = in_both how pattern text (record { begin = start; end = length text }) (record { begin = 0; end = start }) (length text) (omega arith) h
+in_stretches how pattern text start (Some stop) Forwards h k = in_one how pattern text (record { begin = start; end = stop }) (length text) k
+in_stretches how pattern text start None Backwards h k = in_both how pattern text (record { begin = 0; end = start }) (record { begin = start; end = length text }) (length text) h (omega arith)
+in_stretches how pattern text start (Some stop) Backwards h k = in_one how pattern text (record { begin = stop; end = start }) (length text) h
 
 matches_within : (how : Search) (pattern text : List ℕ) (start : ℕ) (stop : Option ℕ) → start ≤ length text → IfSome stop (λ place. place ≤ length text)
     → All (IsIn (length text)) (matches how pattern text start stop)

@@ -3,7 +3,7 @@ use Rattle.std.specs.Prelude.{◌≡◌, ℕ, ◌-◌, ◌<◌, ◌≤◌, ◌||
 use Rattle.std.specs.List.{list_any}
 use Rattle.rt_search.specs.declared.search.Direction.{Direction}
 use Rattle.rt_search.specs.declared.search.Direction.TheVariants.{Forwards, Backwards}
-use Rattle.rt_search.specs.declared.search.Stretch.{Stretch}
+use Rattle.rt_views.specs.declared.stretch.Stretch.{Stretch}
 use Rattle.rt_search.specs.Searches.{overlap}
 
 -- a match at a place overlaps another one, if there is one
@@ -27,5 +27,5 @@ FirstDecides size taken place = list_any (overlap size place) taken ≡ overlaps
 
 -- a place is on the side of a stretch from which the search comes
 abbrev pub IsBefore : Direction → Stretch → ℕ → Type 0
-IsBefore Forwards stretch place = place < stretch.from
-IsBefore Backwards stretch place = stretch.to ≤ place
+IsBefore Forwards stretch place = place < stretch.begin
+IsBefore Backwards stretch place = stretch.end ≤ place

@@ -1,4 +1,5 @@
 pub mod Ends
+pub mod Parts
 pub mod Searches
 pub mod Walks
 pub mod Windows

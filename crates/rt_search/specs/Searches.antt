@@ -11,7 +11,7 @@ use Rattle.rt_search.specs.declared.search.Limits.TheVariants.{First, Strict}
 use Rattle.rt_search.specs.declared.search.Overlaps.{Overlaps}
 use Rattle.rt_search.specs.declared.search.Overlaps.TheVariants.{PassedOver, Taken}
 use Rattle.rt_search.specs.declared.search.Search.{Search}
-use Rattle.rt_search.specs.declared.search.Stretch.{Stretch}
+use Rattle.rt_views.specs.declared.stretch.Stretch.{Stretch}
 
 -- MATCHES
 
@@ -29,20 +29,20 @@ stands_at case pattern text place = starts_with (agree case) (drop place text) p
 -- Without a stop a search goes through the whole text, from the start index to one end and then from the other end to the start
 -- index; with one it stays between the two.
 abbrev pub stretches : Direction → ℕ → Option ℕ → ℕ → List Stretch
-stretches Forwards start None end = record { from = start; to = end } ∷ record { from = 0; to = start } ∷ []
-stretches Forwards start (Some stop) end = record { from = start; to = stop } ∷ []
-stretches Backwards start None end = record { from = 0; to = start } ∷ record { from = start; to = end } ∷ []
-stretches Backwards start (Some stop) end = record { from = stop; to = start } ∷ []
+stretches Forwards start None end = record { begin = start; end = end } ∷ record { begin = 0; end = start } ∷ []
+stretches Forwards start (Some stop) end = record { begin = start; end = stop } ∷ []
+stretches Backwards start None end = record { begin = 0; end = start } ∷ record { begin = start; end = end } ∷ []
+stretches Backwards start (Some stop) end = record { begin = stop; end = start } ∷ []
 
 -- the places of a stretch, rising when forwards and falling when backwards
 abbrev pub ordered_places : Direction → Stretch → List ℕ
-ordered_places Forwards stretch = range_with_len stretch.from (stretch.to - stretch.from)
-ordered_places Backwards stretch = reverse (range_with_len stretch.from (stretch.to - stretch.from))
+ordered_places Forwards stretch = range_with_len stretch.begin (stretch.end - stretch.begin)
+ordered_places Backwards stretch = reverse (range_with_len stretch.begin (stretch.end - stretch.begin))
 
 -- A match belongs to the stretch that has its first character. With strict limits its last character must lie there too.
 abbrev pub ends_within : Limits → Stretch → ℕ → ℕ → Bool
 ends_within First stretch length place = true
-ends_within Strict stretch length place = nat_le (place + length) stretch.to
+ends_within Strict stretch length place = nat_le (place + length) stretch.end
 
 -- the pattern stands at a place of a stretch, and ends in it if it must
 abbrev pub is_match : Search → List ℕ → List ℕ → Stretch → ℕ → Bool
@@ -83,4 +83,4 @@ all_matches overlaps search pattern text start stop = fold (with_match overlaps 
 
 -- a place of a stretch where a search finds the pattern
 abbrev pub IsMatchIn : Search → List ℕ → List ℕ → Stretch → ℕ → Type 0
-IsMatchIn search pattern text stretch place = (stretch.from ≤ place) × (place < stretch.to) × (is_match search pattern text stretch place ≡ true)
+IsMatchIn search pattern text stretch place = (stretch.begin ≤ place) × (place < stretch.end) × (is_match search pattern text stretch place ≡ true)

@@ -6,9 +6,10 @@ ghost use Rattle.rt_search.specs.Searches.{all_matches, is_taken, matches_in, ov
 use crate::find::{last_end, stretches};
 use crate::matching::Reader;
 use crate::part::Part;
-use crate::search::{Overlaps, Search, Stretch};
+use crate::search::{Overlaps, Search, nth, places};
 use rt_stamps::Fault;
 use rt_store::TextStore;
+use rt_views::Stretch;
 use std::alloc::Global;
 
 /// Whether two matches of one length share a character.
@@ -55,8 +56,8 @@ fn take_in<S: TextStore>(
     overlaps: Overlaps,
     stretch: Stretch,
 ) -> Result<(), Fault>
-    requires stretch { stretch.to ≤ length text.now }
-    requires taken { (place : ℕ) → stretch.from ≤ place → place < stretch.to → FirstDecides (length pattern.now) taken.old.items place }
+    requires stretch { stretch.end ≤ length text.now }
+    requires taken { (place : ℕ) → stretch.begin ≤ place → place < stretch.end → FirstDecides (length pattern.now) taken.old.items place }
     ensures ok { OnOk result (taken.new.items
         ≡ fold (with_match overlaps (length pattern.now)) taken.old.items (matches_in search pattern.now text.now stretch)) }
     ensures before { taken.old.items ≡ [] → (place : ℕ) → IsBefore search.direction stretch place
@@ -65,8 +66,8 @@ fn take_in<S: TextStore>(
 {
     let end = last_end(search.limits, stretch, text.len());
     let mut reader = Reader::new();
-    for index in 0..stretch.len() {
-        let place = stretch.nth(search.direction, index);
+    for index in 0..places(stretch) {
+        let place = nth(stretch, search.direction, index);
         if reader.is_match(text, search.case, pattern, place, end)
             && is_taken(overlaps, pattern.len(), taken, place)
         {

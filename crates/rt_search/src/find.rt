@@ -5,8 +5,9 @@ ghost use Rattle.rt_search.specs.Searches.{first_match, matches_in, stretches};
 
 use crate::matching::Reader;
 use crate::part::Part;
-use crate::search::{Direction, Limits, Search, Stretch};
+use crate::search::{Direction, Limits, Search, nth, places};
 use rt_store::TextStore;
+use rt_views::Stretch;
 
 /// The stretches that a search goes through: one, or two.
 pub(crate) fn stretches(
@@ -18,29 +19,29 @@ pub(crate) fn stretches(
     requires start { start ≤ end }
     requires stop { IfSome stop (λ place. place ≤ end) }
     ensures value { result.0 ∷ option_to_list result.1 ≡ stretches direction start stop end }
-    ensures near { result.0.to ≤ end }
-    ensures far { IfSome result.1 (λ stretch. stretch.to ≤ end) }
-    ensures apart { IfSome result.1 (λ stretch. (place : ℕ) → stretch.from ≤ place → place < stretch.to → IsBefore direction result.0 place) }
+    ensures near { result.0.end ≤ end }
+    ensures far { IfSome result.1 (λ stretch. stretch.end ≤ end) }
+    ensures apart { IfSome result.1 (λ stretch. (place : ℕ) → stretch.begin ≤ place → place < stretch.end → IsBefore direction result.0 place) }
 {
-    let before = Stretch { from: 0, to: start };
-    let after = Stretch {
-        from: start,
-        to: end,
+    let before = Stretch {
+        begin: 0,
+        end: start,
     };
+    let after = Stretch { begin: start, end };
     match (direction, stop) {
         (Direction::Forwards, None) => (after, Some(before)),
         (Direction::Forwards, Some(stop)) => (
             Stretch {
-                from: start,
-                to: stop,
+                begin: start,
+                end: stop,
             },
             None,
         ),
         (Direction::Backwards, None) => (before, Some(after)),
         (Direction::Backwards, Some(stop)) => (
             Stretch {
-                from: stop,
-                to: start,
+                begin: stop,
+                end: start,
             },
             None,
         ),
@@ -50,11 +51,11 @@ pub(crate) fn stretches(
 /// Where a match must end at the latest: at the end of the text, or of its stretch.
 pub(crate) fn last_end(limits: Limits, stretch: Stretch, end: usize) -> usize
     ensures first { limits ≡ Limits.First → result ≡ end }
-    ensures strict { limits ≡ Limits.Strict → result ≡ stretch.to }
+    ensures strict { limits ≡ Limits.Strict → result ≡ stretch.end }
 {
     match limits {
         Limits::First => end,
-        Limits::Strict => stretch.to,
+        Limits::Strict => stretch.end,
     }
 }
 
@@ -65,13 +66,13 @@ fn first_in<S: TextStore>(
     search: Search,
     stretch: Stretch,
 ) -> Option<usize>
-    requires { stretch.to ≤ length text.now }
+    requires { stretch.end ≤ length text.now }
     ensures { result ≡ slice_get (matches_in search pattern.now text.now stretch) 0 }
 {
     let end = last_end(search.limits, stretch, text.len());
     let mut reader = Reader::new();
-    for index in 0..stretch.len() {
-        let place = stretch.nth(search.direction, index);
+    for index in 0..places(stretch) {
+        let place = nth(stretch, search.direction, index);
         if reader.is_match(text, search.case, pattern, place, end) {
             return Some(place);
         }

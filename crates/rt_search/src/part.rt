@@ -16,15 +16,16 @@ pub struct Part<'a, S: TextStore> {
 }
 
 impl<'a, S: TextStore> Model for Part<'a, S> {
-    ghost use Rattle.std.specs.Prelude.{ℕ, ◌≤◌, List, length};
+    ghost use Rattle.std.specs.Prelude.{ℕ, List, length};
     ghost use Rattle.rt_store.specs.Cells.{text_of};
     ghost use Rattle.rt_views.specs.Stretches.{part};
+    ghost use Rattle.rt_search.specs.Parts.{IsStretchIn};
 
     ghost Value = { List ℕ };
 
     ghost view = { λ p. part p.stretch (text_of (S.list p.store.now)) };
 
-    ghost invariant = { λ p. (p.stretch.begin ≤ p.stretch.end) × (p.stretch.end ≤ length (text_of (S.list p.store.now))) };
+    ghost invariant = { λ p. IsStretchIn (length (text_of (S.list p.store.now))) p.stretch };
 }
 
 impl<'a, S: TextStore> Part<'a, S> {

@@ -2,6 +2,7 @@
 ghost use Rattle.std.specs.Prelude.{◌≡◌, ◌-◌, ◌<◌, ◌≤◌, slice_index_or};
 ghost use Rattle.rt_search.specs.Searches.{agree, ordered_places};
 
+use rt_views::Stretch;
 use unicode::case::simple_fold;
 
 /// Which way a search goes (Tk text manual, "search").
@@ -48,32 +49,23 @@ pub struct Search {
     pub limits: Limits,
 }
 
-/// A stretch of places, from the first up to before the end. It is empty if the end isn't behind it.
-#[derive(Clone, Copy)]
-pub struct Stretch {
-    pub from: usize,
-    pub to: usize,
+/// How many places a stretch has: none if the end isn't behind the beginning.
+pub(crate) fn places(stretch: Stretch) -> usize
+    ensures { result ≡ stretch.end - stretch.begin }
+{
+    stretch.end.saturating_sub(stretch.begin)
 }
 
-impl Stretch {
-    /// How many places it has.
-    pub(crate) fn len(self) -> usize
-        ensures { result ≡ self.to - self.from }
-    {
-        self.to.saturating_sub(self.from)
-    }
-
-    /// The place that a search comes to after so many others.
-    pub(crate) fn nth(self, direction: Direction, index: usize) -> usize
-        requires { index < self.to - self.from }
-        ensures place { result ≡ slice_index_or (ordered_places direction self) index result }
-        ensures from { self.from ≤ result }
-        ensures to { result < self.to }
-    {
-        match direction {
-            Direction::Forwards => self.from + index,
-            Direction::Backwards => self.to - 1 - index,
-        }
+/// The place of a stretch that a search comes to after so many others.
+pub(crate) fn nth(stretch: Stretch, direction: Direction, index: usize) -> usize
+    requires { index < stretch.end - stretch.begin }
+    ensures place { result ≡ slice_index_or (ordered_places direction stretch) index result }
+    ensures begin { stretch.begin ≤ result }
+    ensures end { result < stretch.end }
+{
+    match direction {
+        Direction::Forwards => stretch.begin + index,
+        Direction::Backwards => stretch.end - 1 - index,
     }
 }
 

@@ -1,12 +1,14 @@
 -- The values of stamps.
-use Rattle.std.proofs.Common.{◌≡◌, ℕ, ◌+◌, ◌^◌, ◌<◌, ◌≤◌, ◌==◌, ◌&&◌, nat_le, nat_lt, Bool, true, false, cond, List, Option, Some, None, refl, sym, ap, ◌∙◌, arith}
+use Rattle.std.proofs.Common.{◌≡◌, ℕ, ◌+◌, ◌/◌, ◌^◌, ◌<◌, ◌≤◌, ◌==◌, ◌&&◌, nat_le, nat_lt, Bool, true, false, cond, List, Option, Some, None, refl, sym, ap, ◌∙◌, arith}
 use Rattle.std.proofs.lemmas.Bool.Decides.{nat_tests}
 use Rattle.rt_stamps.specs.declared.stamp.Stamp.{Stamp}
 use Rattle.rt_stamps.specs.declared.stamp.Span.{Span}
+use Rattle.rt_spans.specs.declared.block.Block.{Block}
 use Rattle.rt_spans.specs.declared.entry.Entry.{Entry}
+use Rattle.rt_spans.specs.Blocks.{in_blocks}
 use Rattle.rt_spans.specs.Ranks.{rank}
 use Rattle.rt_spans.specs.Spans.{value_at}
-use Rattle.rt_spans.specs.Shown.{is_in_span}
+use Rattle.rt_spans.specs.Shown.{Shown, is_in_span}
 
 pub in_span : (site first last s c : ℕ) → c < 2 ^ 64 → first < 2 ^ 64 → last + 1 < 2 ^ 64 → (nat_le (rank site first) (rank s c) && nat_lt (rank s c) (rank site (last + 1))) ≡ ((s == site) && (nat_le first c && nat_le c last))
 unfolding rank
@@ -30,3 +32,7 @@ set_values {V} span stamp value old new was h w f l = by (nat_lt stamp.count (2 
   by true e k =
       h n ∙ (ap (λ v. cond v (Some value) (value_at n old)) (in_span span.site span.first span.last stamp.site stamp.count (lt_of stamp.count (2 ^ 64) e) f l) ∙ ap (λ v. cond (is_in_span span stamp) (Some value) v) k)
   by false e k = k ∙ sym (ap (λ v. cond v (Some value) was) (outside span stamp l (ge_of stamp.count (2 ^ 64) e)))
+
+-- a map with the same blocks looks the same
+pub same_shown : {V : Type 0} (now old : List (Block V)) (left : ℕ) → now ≡ old → ◌≡◌ {A = Shown V} (record { entries = in_blocks now; room = left / 2 }) (record { entries = in_blocks old; room = left / 2 })
+same_shown {V} now old left e = λ j. record { entries = in_blocks (e j); room = left / 2 }

@@ -8,13 +8,10 @@ use Rattle.rt_stamps.specs.declared.fault.Fault.TheVariants.{BadName}
 use Rattle.rt_stamps.specs.declared.limits.TheConstants.{MOST_NAME_BYTES}
 use Rattle.rt_stamps.specs.Names.{IsName, name_check}
 use Rattle.rt_stamps.specs.Outcomes.{first_of, unless}
-use Rattle.rt_stamps.specs.Words.{Word}
-
-abbrev pub words_of : List (String Global) → List Word
-words_of names = map (λ w. string_bytes w) names
+use Rattle.rt_stamps.specs.Words.{Word, as_words}
 
 abbrev pub checks : List (String Global) → Option Fault
-checks names = first_of (map name_check (words_of names))
+checks names = first_of (map name_check (as_words names))
 
 -- what an answer says of the check behind it
 pub none_found : (o : Option Fault) (u : Unit {0}) → unless o (tt {0}) ≡ Ok u → o ≡ None
@@ -26,15 +23,15 @@ some_found None f e = cc
 some_found (Some g) f e = let same : g ≡ f = cc in ap (λ x. Some x) same
 
 -- the check of the name that is next comes first
-next_check : (names : List (String Global)) (i : ℕ) (name : String Global) → i < length names → name ≡ get_or names i name → checks (drop i names) ≡ first_of (name_check (string_bytes name) ∷ map name_check (words_of (drop (i + 1) names)))
+next_check : (names : List (String Global)) (i : ℕ) (name : String Global) → i < length names → name ≡ get_or names i name → checks (drop i names) ≡ first_of (name_check (string_bytes name) ∷ map name_check (as_words (drop (i + 1) names)))
 next_check names i name l e =
-    ap checks (drop_more names i name l) ∙ ap (λ (x : String Global). first_of (name_check (string_bytes x) ∷ map name_check (words_of (drop (i + 1) names)))) (sym e)
+    ap checks (drop_more names i name l) ∙ ap (λ (x : String Global). first_of (name_check (string_bytes x) ∷ map name_check (as_words (drop (i + 1) names)))) (sym e)
 
 pub checks_more : (names : List (String Global)) (i : ℕ) (name : String Global) → i < length names → name ≡ get_or names i name → name_check (string_bytes name) ≡ None → checks (drop i names) ≡ checks names → checks (drop (i + 1) names) ≡ checks names
-checks_more names i name l e n h = sym (next_check names i name l e ∙ ap (λ o. first_of (o ∷ map name_check (words_of (drop (i + 1) names)))) n) ∙ h
+checks_more names i name l e n h = sym (next_check names i name l e ∙ ap (λ o. first_of (o ∷ map name_check (as_words (drop (i + 1) names)))) n) ∙ h
 
 pub checks_stop : (names : List (String Global)) (i : ℕ) (name : String Global) (fault : Fault) → i < length names → name ≡ get_or names i name → name_check (string_bytes name) ≡ Some fault → checks (drop i names) ≡ checks names → checks names ≡ Some fault
-checks_stop names i name fault l e s h = sym h ∙ next_check names i name l e ∙ ap (λ o. first_of (o ∷ map name_check (words_of (drop (i + 1) names)))) s
+checks_stop names i name fault l e s h = sym h ∙ next_check names i name l e ∙ ap (λ o. first_of (o ∷ map name_check (as_words (drop (i + 1) names)))) s
 
 pub checks_end : (names : List (String Global)) (i : ℕ) → length names ≤ i → checks (drop i names) ≡ checks names → checks names ≡ None
 checks_end names i l h = sym h ∙ ap checks (drop_all i names l)

@@ -45,7 +45,7 @@ pub enum Fault {
     ClockSpent,
     /// The cells would pass the site's limit.
     TextFull,
-    /// A line or a list has no words, is not UTF-8, or is too long.
+    /// A line or a list is badly quoted, so that it spells no list of words, is not UTF-8, or is too long.
     BadQuoting,
     /// No file of this name was handed in.
     NoFile,

@@ -1,7 +1,8 @@
 // Names of marks and tags.
-ghost use Rattle.std.specs.Prelude.{◌≡◌, OnOk, IfErr, length, map, string_bytes};
+ghost use Rattle.std.specs.Prelude.{◌≡◌, OnOk, IfErr, length, map};
 ghost use Rattle.rt_stamps.specs.Names.{IsName, is_name_length, name_check};
 ghost use Rattle.rt_stamps.specs.Outcomes.{first_of, unless};
+ghost use Rattle.rt_stamps.specs.Words.{as_words};
 
 use crate::Fault;
 use crate::limits::MOST_NAME_BYTES;
@@ -27,7 +28,7 @@ pub fn check_name(name: &str) -> Result<(), Fault>
 
 /// Refuses words of which one can't be a name.
 pub fn check_names(names: &[String]) -> Result<(), Fault>
-    ensures { result ≡ unless (first_of (map name_check (map (λ w. string_bytes w) names.now))) tt }
+    ensures { result ≡ unless (first_of (map name_check (as_words names.now))) tt }
 {
     for name in names {
         check_name(name)?;

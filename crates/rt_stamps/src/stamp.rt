@@ -43,7 +43,7 @@ pub struct Stamp {
 /// The left element of a character at the very beginning. It is no character.
 pub const ROOT: Stamp = Stamp { count: 0, site: 0 };
 
-/// The stamp of the last newline, with which every text begins.
+/// The stamp of the last newline, which every text ends with and no operation inserts.
 pub const FINAL: Stamp = Stamp { count: 1, site: 0 };
 
 /// The stamps of one site from a first count to a last one, both included.

@@ -1,5 +1,5 @@
 // What keeps the cells of a text.
-ghost use Rattle.std.specs.Prelude.{◌≡◌, ◌∷◌, [], ℕ, ◌+◌, ◌-◌, min, ◌<◌, ◌≤◌, List, ◌++◌, true, false, map, take, drop, length, OnOk, OnErr, IsOkUnless, slice_get, option_map};
+ghost use Rattle.std.specs.Prelude.{◌≡◌, ◌∷◌, [], ℕ, ◌+◌, ◌-◌, min, ◌<◌, ◌≤◌, List, ◌++◌, true, false, map, take, drop, length, OnOk, OnErr, IsOk, IsOkUnless, slice_get, option_map};
 ghost use Rattle.rt_stamps.specs.Places.{newlines, line_of, line_start};
 ghost use Rattle.rt_stamps.specs.Stamps.{is_before};
 ghost use Rattle.rt_stamps.specs.declared.limits.TheConstants.{MOST_CELLS};
@@ -27,11 +27,12 @@ pub trait TextStore: Drop {
     ghost agrees: { Self → TagStates → Type 0 };
 
     /// Makes room for new cells, for cuts of runs, and for a table that has given out so many tags; keeps what was
-    /// there. `NoMemory` changes nothing.
+    /// there, and isn't refused where that is enough. `NoMemory` changes nothing.
     fn reserve(&mut self, cells: usize, cuts: usize, tags: usize) -> Result<(), Fault>
         requires { length (list self.old) + cells ≤ MOST_CELLS }
         ensures same { list self.new ≡ list self.old }
         ensures ok { OnOk result (HasRoom (room self.new) cells cuts tags) }
+        ensures roomy { HasRoom (room self.old) cells cuts tags → IsOk result }
         ensures kept { HasRoom (room self.new) (room self.old).cells (room self.old).cuts (room self.old).tags }
         ensures agrees { (table : TagStates) → agrees self.old table → agrees self.new table }
         ensures unchanged { OnErr result (room self.new ≡ room self.old) }

@@ -10,7 +10,8 @@ use Rattle.rt_marks.specs.Marks.{Mark, name_order, named, HaveOwnNames, AreAscen
 use Rattle.rt_marks.proofs.InOrder.{split}
 use Rattle.rt_marks.proofs.Names.{clash, same_name, name_itself, differ_back, names_differ}
 use Rattle.rt_marks.proofs.Order.{lt_trans, lt_asym, lt_neither}
-use Rattle.rt_stamps.specs.Words.{Word}
+use Rattle.rt_stamps.specs.Words.{Word, as_words}
+use Rattle.rt_tags.specs.Tags.{HaveNoRepeats, is_listed}
 use Rattle.rt_tagcmd.specs.MarkCommands.{inserted_by_bytes, by_bytes}
 
 abbrev has : Word → List Word → Bool
@@ -162,14 +163,34 @@ is_under name x = is_lt (name_order (string_bytes x) name)
 one_more : (n : ℕ) → 1 + n ≡ suc n
 one_more n = omega arith
 
-pub put_in : (name : Word) (added : String Global) (names : List (String Global)) → string_bytes added ≡ name → map (λ s. string_bytes s) (insert names (prefix_len (is_under name) names) added) ≡ inserted_by_bytes name (map (λ s. string_bytes s) names)
+pub put_in : (name : Word) (added : String Global) (names : List (String Global)) → string_bytes added ≡ name → as_words (insert names (prefix_len (is_under name) names) added) ≡ inserted_by_bytes name (as_words names)
 put_in name added [] e = ap (λ v. v ∷ []) e
 put_in name added (x ∷ names) e =
     let more = put_in name added names e in
-    let rest : List Word = map (λ s. string_bytes s) names in
+    let rest : List Word = as_words names in
     split (is_under name x)
-    (λ t. ap (λ b. map (λ s. string_bytes s) (insert (x ∷ names) (cond b (1 + prefix_len (is_under name) names) 0) added)) t
-    ∙ ap (λ n. map (λ s. string_bytes s) (insert (x ∷ names) n added)) (one_more (prefix_len (is_under name) names))
+    (λ t. ap (λ b. as_words (insert (x ∷ names) (cond b (1 + prefix_len (is_under name) names) 0) added)) t
+    ∙ ap (λ n. as_words (insert (x ∷ names) n added)) (one_more (prefix_len (is_under name) names))
     ∙ ap (λ v. string_bytes x ∷ v) more ∙ ap (λ b. cond b (string_bytes x ∷ inserted_by_bytes name rest) (name ∷ string_bytes x ∷ rest)) (sym t))
-    (λ f. ap (λ b. map (λ s. string_bytes s) (insert (x ∷ names) (cond b (1 + prefix_len (is_under name) names) 0) added)) f
+    (λ f. ap (λ b. as_words (insert (x ∷ names) (cond b (1 + prefix_len (is_under name) names) 0) added)) f
     ∙ ap (λ v. v ∷ string_bytes x ∷ rest) e ∙ ap (λ b. cond b (string_bytes x ∷ inserted_by_bytes name rest) (name ∷ string_bytes x ∷ rest)) (sym f))
+
+-- THE NAMES OF A LIST
+
+turned : (x y : Word) → bytes_eq x y ≡ bytes_eq y x
+turned x y =
+    split (bytes_eq x y)
+    (λ t. t ∙ sym (subst (λ v. bytes_eq y v ≡ true) (sym (same_name x y t)) (name_itself y)))
+    (λ f. f ∙ sym (differ_back x y f))
+
+has_listed : (q : Word) (names : List Word) → has q names ≡ is_listed q names
+has_listed q [] = refl
+has_listed q (x ∷ names) = λ i. turned x q i || has_listed q names i
+
+pub same_by_bytes : (names : List Word) (name : Word) → is_listed name (by_bytes names) ≡ is_listed name names
+same_by_bytes names name = sym (has_listed name (by_bytes names)) ∙ has_sorted names name ∙ has_listed name names
+
+pub ascending_by_bytes : (names : List Word) → HaveNoRepeats names → AreAscending (by_bytes names)
+ascending_by_bytes [] h = tt
+ascending_by_bytes (n ∷ names) h =
+    ascending_with n (by_bytes names) (has_sorted names n ∙ has_listed n names ∙ h.0) (ascending_by_bytes names h.1)

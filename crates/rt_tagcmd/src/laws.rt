@@ -1,5 +1,9 @@
 // Laws of the definitions, each the contract of a function that does nothing.
-ghost use Rattle.std.specs.Prelude.{◌<◌, ℕ, Bool, List, All, AllPairs, Any, Contains};
+ghost use Rattle.std.specs.Prelude.{◌≡◌, ◌<◌, ℕ, Bool, List, All, AllPairs, Any, Contains};
+ghost use Rattle.rt_marks.specs.Marks.{AreAscending};
+ghost use Rattle.rt_stamps.specs.Words.{Word};
+ghost use Rattle.rt_tags.specs.Tags.{HaveNoRepeats, is_listed};
+ghost use Rattle.rt_tagcmd.specs.MarkCommands.{by_bytes};
 ghost use Rattle.rt_tagcmd.specs.TagRanges.{IsIn, IsMaximal, passing_ranges};
 ghost use Rattle.rt_store.specs.Tagged.{Passes};
 ghost use Rattle.rt_edits.specs.declared.range.Range.{Range};
@@ -14,4 +18,11 @@ pub fn tag_ranges<A>()
     ensures apart { (test : A → Bool) (characters : List A) → AllPairs (λ range later. range.to < later.from) (passing_ranges test characters) }
     ensures each { (test : A → Bool) (characters : List A) (range : Range) → IsMaximal test characters range
         → Contains (passing_ranges test characters) range }
+{}
+
+/// Names in order by their bytes are the same names, and of those that are there once each comes before
+/// the ones with greater bytes.
+pub fn names_by_bytes()
+    ensures same { (names : List Word) (name : Word) → is_listed name (by_bytes names) ≡ is_listed name names }
+    ensures ascending { (names : List Word) → HaveNoRepeats names → AreAscending (by_bytes names) }
 {}

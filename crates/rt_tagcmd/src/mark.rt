@@ -1,6 +1,7 @@
 // Marks are set and unset, and their gravity.
-ghost use Rattle.std.specs.Prelude.{◌≡◌, Ok, Err, IfErr, OnOk, OnErr, map, string_bytes};
+ghost use Rattle.std.specs.Prelude.{◌≡◌, Ok, Err, IfErr, OnOk, OnErr};
 ghost use Rattle.rt_stamps.specs.Outcomes.{Refuses};
+ghost use Rattle.rt_stamps.specs.Words.{as_words};
 ghost use Rattle.rt_tagcmd.specs.MarkCommands.{mark_set, mark_unset, mark_gravity, mark_gravity_set};
 
 use crate::seen::order;
@@ -32,8 +33,8 @@ pub fn mark_set<S: TextStore>(view: &mut View<S>, name: &str, index: &str) -> Re
 /// are passed over, and so are `insert` and `current`. `BadName`, and then nothing changes. It takes
 /// no memory.
 pub fn mark_unset<S: TextStore>(view: &mut View<S>, names: &[String]) -> Result<(), Fault>
-    ensures ok { OnOk result (mark_unset view.old (map (λ w. string_bytes w) names.now) ≡ Ok view.new) }
-    ensures err { IfErr result (λ fault. mark_unset view.old (map (λ w. string_bytes w) names.now) ≡ Err fault) }
+    ensures ok { OnOk result (mark_unset view.old (as_words names.now) ≡ Ok view.new) }
+    ensures err { IfErr result (λ fault. mark_unset view.old (as_words names.now) ≡ Err fault) }
     ensures unchanged { OnErr result (view.new ≡ view.old) }
 {
     check_names(names)?;

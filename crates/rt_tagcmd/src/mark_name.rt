@@ -1,7 +1,8 @@
 // The names of marks.
-ghost use Rattle.std.specs.Prelude.{◌≡◌, ◌≤◌, IfOk, IsOkUnless, OnOk, OnErr, length, map, string_bytes};
+ghost use Rattle.std.specs.Prelude.{◌≡◌, ◌≤◌, IfOk, IsOkUnless, OnOk, OnErr, length, string_bytes};
 ghost use Rattle.std.specs.List.{prefix_len};
 ghost use Rattle.std.specs.Ordering.{is_lt};
+ghost use Rattle.rt_stamps.specs.Words.{as_words};
 ghost use Rattle.rt_marks.specs.Marks.{name_order};
 ghost use Rattle.rt_tagcmd.specs.MarkCommands.{mark_names, inserted_by_bytes};
 
@@ -27,7 +28,7 @@ fn count_below(names: &[String], name: &str) -> usize
 
 /// Puts a name among names that ascend by their bytes.
 fn add_name(alloc: Global, names: &mut Vec<String>, name: &str) -> Result<(), Fault>
-    ensures ok { OnOk result (map (λ s. string_bytes s) names.new.items ≡ inserted_by_bytes name.now (map (λ s. string_bytes s) names.old.items)) }
+    ensures ok { OnOk result (as_words names.new.items ≡ inserted_by_bytes name.now (as_words names.old.items)) }
     ensures fault { IsOkUnless result Fault.NoMemory }
 {
     let added = String::from_str(alloc, name)?;
@@ -39,7 +40,7 @@ fn add_name(alloc: Global, names: &mut Vec<String>, name: &str) -> Result<(), Fa
 /// `mark names` (Tk text manual): the names of all marks of a widget by their bytes, `insert` and
 /// `current` among them. `NoMemory` is its only fault.
 pub fn mark_names<S: TextStore>(alloc: Global, view: &View<S>) -> Result<Vec<String>, Fault>
-    ensures ok { IfOk result (λ names. map (λ s. string_bytes s) names.items ≡ mark_names view.now) }
+    ensures ok { IfOk result (λ names. as_words names.items ≡ mark_names view.now) }
     ensures fault { IsOkUnless result Fault.NoMemory }
 {
     let marks = view.doc().marks();

@@ -1,6 +1,7 @@
 // Tags are put on characters and taken off, listed and ordered.
-ghost use Rattle.std.specs.Prelude.{◌≡◌, Ok, Err, IfOk, IfErr, IsOkUnless, OnOk, OnErr, map, option_copied, string_bytes};
+ghost use Rattle.std.specs.Prelude.{◌≡◌, Ok, Err, IfOk, IfErr, IsOkUnless, OnOk, OnErr, option_copied};
 ghost use Rattle.rt_stamps.specs.Outcomes.{Refuses};
+ghost use Rattle.rt_stamps.specs.Words.{as_words};
 ghost use Rattle.rt_tagcmd.specs.TagCommands.{tag_added, tag_lowered, tag_names, tag_names_at, tag_raised, tag_removed, tag_written, tags_deleted};
 
 use crate::name::check_both;
@@ -16,8 +17,8 @@ fn write<S: TextStore>(
     name: &str,
     indices: &[String],
 ) -> Result<(), Fault>
-    ensures ok { OnOk result (tag_written on view.old name.now (map (λ w. string_bytes w) indices.now) ≡ Ok view.new) }
-    ensures err { IfErr result (Refuses (tag_written on view.old name.now (map (λ w. string_bytes w) indices.now))) }
+    ensures ok { OnOk result (tag_written on view.old name.now (as_words indices.now) ≡ Ok view.new) }
+    ensures err { IfErr result (Refuses (tag_written on view.old name.now (as_words indices.now))) }
     ensures unchanged { OnErr result (view.new ≡ view.old) }
 {
     check_name(name)?;
@@ -36,8 +37,8 @@ pub fn tag_add<S: TextStore>(
     name: &str,
     indices: &[String],
 ) -> Result<(), Fault>
-    ensures ok { OnOk result (tag_added view.old name.now (map (λ w. string_bytes w) indices.now) ≡ Ok view.new) }
-    ensures err { IfErr result (Refuses (tag_added view.old name.now (map (λ w. string_bytes w) indices.now))) }
+    ensures ok { OnOk result (tag_added view.old name.now (as_words indices.now) ≡ Ok view.new) }
+    ensures err { IfErr result (Refuses (tag_added view.old name.now (as_words indices.now))) }
     ensures unchanged { OnErr result (view.new ≡ view.old) }
 {
     write(view, true, name, indices)
@@ -52,8 +53,8 @@ pub fn tag_remove<S: TextStore>(
     name: &str,
     indices: &[String],
 ) -> Result<(), Fault>
-    ensures ok { OnOk result (tag_removed view.old name.now (map (λ w. string_bytes w) indices.now) ≡ Ok view.new) }
-    ensures err { IfErr result (Refuses (tag_removed view.old name.now (map (λ w. string_bytes w) indices.now))) }
+    ensures ok { OnOk result (tag_removed view.old name.now (as_words indices.now) ≡ Ok view.new) }
+    ensures err { IfErr result (Refuses (tag_removed view.old name.now (as_words indices.now))) }
     ensures unchanged { OnErr result (view.new ≡ view.old) }
 {
     write(view, false, name, indices)
@@ -64,8 +65,8 @@ pub fn tag_remove<S: TextStore>(
 /// want of memory, and then nothing changes. It takes one count for each 65,536 spans of stamps of
 /// each tag or a part of them.
 pub fn tag_delete<S: TextStore>(view: &mut View<S>, names: &[String]) -> Result<(), Fault>
-    ensures ok { OnOk result (tags_deleted view.old (map (λ w. string_bytes w) names.now) ≡ Ok view.new) }
-    ensures err { IfErr result (Refuses (tags_deleted view.old (map (λ w. string_bytes w) names.now))) }
+    ensures ok { OnOk result (tags_deleted view.old (as_words names.now) ≡ Ok view.new) }
+    ensures err { IfErr result (Refuses (tags_deleted view.old (as_words names.now))) }
     ensures unchanged { OnErr result (view.new ≡ view.old) }
 {
     check_names(names)?;
@@ -107,7 +108,7 @@ pub fn tag_lower<S: TextStore>(
 /// `tag names` (Tk text manual): the listed tags, lowest priority first. `NoMemory` is its only
 /// fault.
 pub fn tag_names<S: TextStore>(view: &View<S>) -> Result<Vec<String>, Fault>
-    ensures ok { IfOk result (λ names. map (λ w. string_bytes w) names.items ≡ tag_names view.now) }
+    ensures ok { IfOk result (λ names. as_words names.items ≡ tag_names view.now) }
     ensures err { IsOkUnless result Fault.NoMemory }
 {
     view.doc().tags().names()
@@ -120,7 +121,7 @@ pub fn tag_names_at<S: TextStore>(
     view: &View<S>,
     index: &str,
 ) -> Result<Vec<String>, Fault>
-    ensures ok { IfOk result (λ names. tag_names_at view.now index.now ≡ Ok (map (λ w. string_bytes w) names.items)) }
+    ensures ok { IfOk result (λ names. tag_names_at view.now index.now ≡ Ok (as_words names.items)) }
     ensures err { IfErr result (Refuses (tag_names_at view.now index.now)) }
 {
     let place = view.place(index)?;

@@ -6,6 +6,7 @@ use Rattle.std.proofs.lemmas.List.{drop-map, drop-set-lt, get_or-drop, get_or-ma
 use Rattle.std.proofs.lemmas.List.Edits.{swap_is}
 use Rattle.std.proofs.lemmas.List.Elements.{filter-append}
 use Rattle.std.proofs.lemmas.List.Folds.{list_any-append}
+use Rattle.rt_stamps.specs.Words.{as_words}
 use Rattle.rt_tags.specs.Tags.{HaveNoRepeats, is_forgotten, is_listed, sel}
 use Rattle.rt_tags.specs.Seen.{IsAt}
 use Rattle.rt_tags.proofs.Places.{clash, listed_head, listed_tail, name_itself, same_name, split}
@@ -49,9 +50,6 @@ module _ (name : List ℕ) (test : List ℕ → Bool) where
 
 -- A LIST OF NAMES
 
-abbrev pub words_of : List (String Global) → List (List ℕ)
-words_of names = map (λ w. string_bytes w) names
-
 pub nothing_given : (marks : List Bool) (names : List (List ℕ)) → length marks ≡ length names → replicate (length marks) false ≡ map (is_forgotten []) names
 nothing_given marks names e = ap (λ n. replicate n false) e ∙ each names where
   each : (names : List (List ℕ)) → replicate (length names) false ≡ map (is_forgotten []) names
@@ -59,7 +57,7 @@ nothing_given marks names e = ap (λ n. replicate n false) e ∙ each names wher
   each (x ∷ names) = λ j. false ∷ each names j
 
 pub one_more : (given : List (String Global)) (i : ℕ) (name : String Global) (bytes : List ℕ) (names : List (List ℕ)) → i < length given → name ≡ get_or given i name → bytes ≡ string_bytes name
-    → map (also bytes (is_forgotten (words_of (take i given)))) names ≡ map (is_forgotten (words_of (take (i + 1) given))) names
+    → map (also bytes (is_forgotten (as_words (take i given)))) names ≡ map (is_forgotten (as_words (take (i + 1) given))) names
 one_more given i name bytes names l e b = (λ j. map (λ x. grown x j) names) ∙ ap (λ v. map (is_forgotten v) names) longer where
   either : (a b s : Bool) → ((a && not s) || (b && not s)) ≡ ((a || (b || false)) && not s)
   either true true true = refl
@@ -71,13 +69,13 @@ one_more given i name bytes names l e b = (λ j. map (λ x. grown x j) names) �
   either false false true = refl
   either false false false = refl
 
-  grown : (x : List ℕ) → also bytes (is_forgotten (words_of (take i given))) x ≡ is_forgotten (words_of (take i given) ++ bytes ∷ []) x
+  grown : (x : List ℕ) → also bytes (is_forgotten (as_words (take i given))) x ≡ is_forgotten (as_words (take i given) ++ bytes ∷ []) x
   grown x =
-      either (is_listed x (words_of (take i given))) (bytes_eq x bytes) (bytes_eq x sel)
-      ∙ ap (λ v. v && not (bytes_eq x sel)) (sym (list_any-append (bytes_eq x) (words_of (take i given)) (bytes ∷ [])))
+      either (is_listed x (as_words (take i given))) (bytes_eq x bytes) (bytes_eq x sel)
+      ∙ ap (λ v. v && not (bytes_eq x sel)) (sym (list_any-append (bytes_eq x) (as_words (take i given)) (bytes ∷ [])))
 
-  longer : words_of (take i given) ++ bytes ∷ [] ≡ words_of (take (i + 1) given)
-  longer = ap (λ v. words_of (take i given) ++ v ∷ []) (b ∙ ap (λ (w : String Global). string_bytes w) e) ∙ sym (map_more (λ w. string_bytes w) given i name l)
+  longer : as_words (take i given) ++ bytes ∷ [] ≡ as_words (take (i + 1) given)
+  longer = ap (λ v. as_words (take i given) ++ v ∷ []) (b ∙ ap (λ (w : String Global). string_bytes w) e) ∙ sym (map_more (λ w. string_bytes w) given i name l)
 
 -- PARTING
 
@@ -91,10 +89,10 @@ dropped_swapped (x ∷ xs) a b h l =
 
 module _ {Z : Type 0} where
   -- the names behind two that change places
-  pub behind_both : (keys new : List (String Z)) (a b : ℕ) → a < length keys → b ≤ a → new ≡ swap keys a b → drop (a + 1) (map (λ s. string_bytes s) new) ≡ drop (a + 1) (map (λ s. string_bytes s) keys)
+  pub behind_both : (keys new : List (String Z)) (a b : ℕ) → a < length keys → b ≤ a → new ≡ swap keys a b → drop (a + 1) (as_words new) ≡ drop (a + 1) (as_words keys)
   behind_both keys new a b h l e =
       drop-map (λ s. string_bytes s) (a + 1) new
-      ∙ ap (λ v. map (λ s. string_bytes s) v) (ap (drop (a + 1)) e ∙ dropped_swapped keys a b h l)
+      ∙ ap (λ v. as_words v) (ap (drop (a + 1)) e ∙ dropped_swapped keys a b h l)
       ∙ sym (drop-map (λ s. string_bytes s) (a + 1) keys)
 
 apart_from : (x : List ℕ) (names : List (List ℕ)) (i : ℕ) → is_listed x names ≡ false → i < length names → bytes_eq (get_or names i []) x ≡ false

@@ -1,5 +1,5 @@
 -- The first of some names, as those are listed, when names are moved.
-use Rattle.std.proofs.Common.{◌≡◌, ℕ, zero, suc, ◌+◌, ◌-◌, ◌<◌, ◌≤◌, ◌||◌, length, arith, List, [], ◌∷◌, ◌++◌, true, false, refl, sym, ap, ◌∙◌, cond, get_or, insert, map, remove, set, slice_get, string_bytes, take, drop, Option, Some, None, option_map}
+use Rattle.std.proofs.Common.{◌≡◌, ℕ, zero, suc, ◌+◌, ◌-◌, ◌<◌, ◌≤◌, ◌||◌, length, arith, List, [], ◌∷◌, ◌++◌, true, false, refl, sym, ap, ◌∙◌, cond, get_or, insert, remove, set, slice_get, string_bytes, take, drop, Option, Some, None, option_map}
 use Rattle.std.specs.List.{swap}
 use Rattle.std.specs.Prelude.{IsPermutation}
 use Rattle.std.specs.Option.{option_map_or}
@@ -9,6 +9,7 @@ use Rattle.std.proofs.lemmas.List.{length-set, length-take-le, map-append, take-
 use Rattle.std.proofs.lemmas.List.Edits.{insert-append_left, length-insert, length-remove, remove-append_left, swap_is}
 use Rattle.std.proofs.lemmas.List.Sorted.{list_any-IsPermutation}
 use Rattle.std.proofs.lemmas.Option.{get_or_from_slice_get, slice_get-map}
+use Rattle.rt_stamps.specs.Words.{as_words}
 use Rattle.indexmap.specs.IndexSet.{move_index}
 use Rattle.rt_tags.specs.Tags.{HaveNoRepeats, is_listed, with_name, without}
 use Rattle.rt_tags.specs.Kept.{IsListing}
@@ -129,20 +130,20 @@ swapped_front xs a b d h l =
     ∙ ap (λ v. v ++ get_or xs a d ∷ []) (take-set-le b xs a (get_or xs b d) l)
 
 module _ {Z : Type 0} where
-  pub brought : (name : List ℕ) (keys new : List (String Z)) (a b : ℕ) → a < length keys → b ≤ a → new ≡ swap keys a b → IsAt name (map (λ s. string_bytes s) keys) a
-      → take (b + 1) (map (λ s. string_bytes s) new) ≡ take b (map (λ s. string_bytes s) keys) ++ name ∷ []
+  pub brought : (name : List ℕ) (keys new : List (String Z)) (a b : ℕ) → a < length keys → b ≤ a → new ≡ swap keys a b → IsAt name (as_words keys) a
+      → take (b + 1) (as_words new) ≡ take b (as_words keys) ++ name ∷ []
   brought name keys new a b h l e at = by (slice_get keys a) refl
     where
-      by : (r : Option (String Z)) → slice_get keys a ≡ r → take (b + 1) (map (λ s. string_bytes s) new) ≡ take b (map (λ s. string_bytes s) keys) ++ name ∷ []
-      by None k = let no : None ≡ Some name = sym (slice_get-map (λ s. string_bytes s) keys a ∙ ap (option_map (λ s. string_bytes s)) k) ∙ got name (map (λ s. string_bytes s) keys) a at in absurd (cc)
+      by : (r : Option (String Z)) → slice_get keys a ≡ r → take (b + 1) (as_words new) ≡ take b (as_words keys) ++ name ∷ []
+      by None k = let no : None ≡ Some name = sym (slice_get-map (λ s. string_bytes s) keys a ∙ ap (option_map (λ s. string_bytes s)) k) ∙ got name (as_words keys) a at in absurd (cc)
       by (Some y) k =
-          let one : Some (string_bytes y) ≡ Some name = sym (slice_get-map (λ s. string_bytes s) keys a ∙ ap (option_map (λ s. string_bytes s)) k) ∙ got name (map (λ s. string_bytes s) keys) a at in
+          let one : Some (string_bytes y) ≡ Some name = sym (slice_get-map (λ s. string_bytes s) keys a ∙ ap (option_map (λ s. string_bytes s)) k) ∙ got name (as_words keys) a at in
           let same : string_bytes y ≡ name = cc in
           take-map (λ s. string_bytes s) (b + 1) new
-          ∙ ap (λ v. map (λ s. string_bytes s) v) (ap (take (b + 1)) e ∙ swapped_front keys a b y h l ∙ ap (λ v. take b keys ++ v ∷ []) (get_or_from_slice_get keys a y y k))
+          ∙ ap (λ v. as_words v) (ap (take (b + 1)) e ∙ swapped_front keys a b y h l ∙ ap (λ v. take b keys ++ v ∷ []) (get_or_from_slice_get keys a y y k))
           ∙ map-append (λ s. string_bytes s) (take b keys) (y ∷ [])
           ∙ (λ j. sym (take-map (λ s. string_bytes s) b keys) j ++ same j ∷ [])
 
   -- the same names are there, in another order
-  pub same_names : (keys new : List (String Z)) → IsPermutation keys new → (name : List ℕ) → is_listed name (map (λ s. string_bytes s) new) ≡ is_listed name (map (λ s. string_bytes s) keys)
+  pub same_names : (keys new : List (String Z)) → IsPermutation keys new → (name : List ℕ) → is_listed name (as_words new) ≡ is_listed name (as_words keys)
   same_names keys new p name = sym (listed_map name new) ∙ sym (list_any-IsPermutation (λ k. bytes_eq name (string_bytes k)) keys new p) ∙ listed_map name keys

@@ -1,14 +1,13 @@
 -- What the calls of a table make of its names.
-use Rattle.std.proofs.Common.{◌≡◌, ℕ, ◌-◌, List, [], ◌∷◌, ◌++◌, ◌||◌, Bool, true, false, refl, sym, ap, subst, ◌∙◌, cond, take}
+use Rattle.std.proofs.Common.{◌≡◌, ℕ, ◌-◌, List, [], ◌∷◌, ◌++◌, ◌||◌, Bool, true, false, refl, sym, ap, subst, ◌∙◌, take}
 use Rattle.std.specs.Str.{bytes_eq}
 use Rattle.std.proofs.lemmas.List.{take-append-le}
 use Rattle.std.proofs.lemmas.List.Folds.{list_any-append}
 use Rattle.indexmap.specs.IndexSet.{move_index}
-use Rattle.rt_tags.specs.Tags.{Tags, AlsoReady, SameReady, forgotten, is_listed, sel, with_name, without}
+use Rattle.rt_tags.specs.Tags.{Tags, AlsoReady, SameReady, is_listed, with_name}
 use Rattle.rt_tags.specs.Kept.{IsListing}
 use Rattle.rt_tags.specs.Seen.{IsAt}
-use Rattle.rt_tags.proofs.Parts.{part_highest}
-use Rattle.rt_tags.proofs.Places.{same_name, split, without_absent}
+use Rattle.rt_tags.proofs.Places.{same_name, split}
 
 abbrev pub tags_of : List (List ℕ) → ℕ → Tags
 tags_of names listed = record { names = take listed names; ready = names }
@@ -51,14 +50,3 @@ module _ (name : List ℕ) (names : List (List ℕ)) (listed : ℕ) (tags : Tags
 
   pub at_front : (i : ℕ) → IsAt name tags.names i → IsAt name (take listed names) i
   at_front i h = subst (λ (t : Tags). IsAt name t.names i) (sym is) h
-
-  pub names_forgotten : (after : List (List ℕ)) (i : ℕ) → IsListing names listed → IsAt name tags.names i → take listed after ≡ move_index (take listed names) i (listed - 1) → bytes_eq name sel ≡ false → take (listed - 1) after ≡ forgotten name tags.names
-  names_forgotten after i k at e g =
-      let front = take listed names in
-      part_highest name names after listed i k (at_front i at) e
-      ∙ sym (ap (λ b. cond b front (without name front)) g)
-      ∙ ap (λ (t : Tags). forgotten name t.names) is
-
--- a name that isn't listed
-pub none_forgotten : (name : List ℕ) (names : List (List ℕ)) → is_listed name names ≡ false → bytes_eq name sel ≡ false → names ≡ forgotten name names
-none_forgotten name names n g = sym (ap (λ b. cond b names (without name names)) g ∙ without_absent name names n)

@@ -1,12 +1,13 @@
 -- What contracts see of a set of names.
-use Rattle.std.specs.Prelude.{◌≡◌, ℕ, zero, suc, List, [], ◌∷◌, map, string_bytes, true, false}
+use Rattle.std.specs.Prelude.{◌≡◌, ℕ, zero, suc, List, [], ◌∷◌, true, false}
 use Rattle.std.specs.declared.string.String.{String}
 use Rattle.std.specs.Str.{bytes_eq}
+use Rattle.rt_stamps.specs.Words.{as_words}
 use Rattle.indexmap.specs.IndexSet.{IndexSet}
 
 -- the names of a set, in its order
 abbrev pub names_of : {Z S : Type 0} → IndexSet (String Z) S → List (List ℕ)
-names_of set = map (λ s. string_bytes s) set.keys
+names_of set = as_words set.keys
 
 -- the first of the names that is the given one stands at an index
 abbrev pub IsAt : List ℕ → List (List ℕ) → ℕ → Type 0

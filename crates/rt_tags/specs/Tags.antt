@@ -2,11 +2,7 @@
 use Rattle.std.specs.Prelude.{◌≡◌, ℕ, List, [], ◌∷◌, ◌++◌, Bool, true, false, not, ◌||◌, ◌&&◌, filter, Option, Some, None, if◌then◌else◌}
 use Rattle.std.specs.List.{list_any}
 use Rattle.std.specs.Str.{bytes_eq}
-pub use Rattle.rt_stamps.specs.Names.{IsName}
-
--- s, e, l
-abbrev pub sel : List ℕ
-sel = 115 ∷ 101 ∷ 108 ∷ []
+pub use Rattle.rt_stamps.specs.Names.{IsName, sel}
 
 -- the names that are listed, lowest priority first, and in some order those that are ready: to list one of these takes no memory
 pub record Tags : Type 0 where
@@ -29,17 +25,13 @@ without name names = filter (λ x. not (bytes_eq name x)) names
 abbrev pub with_name : List ℕ → List (List ℕ) → List (List ℕ)
 with_name name names = if is_listed name names then names else names ++ name ∷ []
 
--- the names but one that is forgotten: sel stays listed
-abbrev pub forgotten : List ℕ → List (List ℕ) → List (List ℕ)
-forgotten name names = if bytes_eq name sel then names else without name names
-
--- a name is forgotten where it is among some that are given and isn't sel
+-- a name is forgotten where it is among some that are given and isn't sel, which stays listed
 abbrev pub is_forgotten : List (List ℕ) → List ℕ → Bool
 is_forgotten given name = is_listed name given && not (bytes_eq name sel)
 
 -- the names but those that are forgotten
-abbrev pub without_all : List (List ℕ) → List (List ℕ) → List (List ℕ)
-without_all given names = filter (λ x. not (is_forgotten given x)) names
+abbrev pub all_forgotten : List (List ℕ) → List (List ℕ) → List (List ℕ)
+all_forgotten given names = filter (λ x. not (is_forgotten given x)) names
 
 -- READY NAMES
 

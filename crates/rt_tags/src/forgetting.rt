@@ -1,9 +1,10 @@
 // Many names are forgotten at once.
-ghost use Rattle.std.specs.Prelude.{◌≡◌, ◌||◌, ◌&&◌, Bool, List, ℕ, filter, length, map, not, string_bytes, take};
+ghost use Rattle.std.specs.Prelude.{◌≡◌, ◌||◌, ◌&&◌, Bool, List, ℕ, filter, length, map, not, take};
 ghost use Rattle.std.specs.Str.{bytes_eq};
+ghost use Rattle.rt_stamps.specs.Words.{as_words};
 ghost use Rattle.rt_tags.specs.Seen.{names_of};
 ghost use Rattle.rt_tags.specs.Kept.{IsListing};
-ghost use Rattle.rt_tags.specs.Tags.{HaveNoRepeats, is_forgotten, is_listed, sel, without_all};
+ghost use Rattle.rt_tags.specs.Tags.{HaveNoRepeats, all_forgotten, is_forgotten, is_listed, sel};
 
 use crate::names;
 use indexmap::IndexSet;
@@ -29,7 +30,7 @@ fn mark(names: &IndexSet<String>, name: &str, marks: &mut [bool])
 fn mark_all(names: &IndexSet<String>, given: &[String], marks: &mut [bool])
     requires differ { HaveNoRepeats (names_of names.now) }
     requires len { length marks.old ≡ length (names_of names.now) }
-    ensures { marks.new ≡ map (is_forgotten (map (λ w. string_bytes w) given.now)) (names_of names.now) }
+    ensures { marks.new ≡ map (is_forgotten (as_words given.now)) (names_of names.now) }
 {
     marks.fill(false);
     for name in given {
@@ -69,7 +70,7 @@ pub fn forget(
     requires len { length marks.old ≡ length (names_of names.old) }
     ensures listed { IsListing (names_of names.new) result }
     ensures names { take result (names_of names.new)
-        ≡ without_all (map (λ w. string_bytes w) given.now) (take listed (names_of names.old)) }
+        ≡ all_forgotten (as_words given.now) (take listed (names_of names.old)) }
     ensures same { (name : List ℕ) → is_listed name (names_of names.new) ≡ is_listed name (names_of names.old) }
     ensures marks { length marks.new ≡ length (names_of names.new) }
 {

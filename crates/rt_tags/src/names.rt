@@ -1,5 +1,6 @@
 // Names in a set that keeps their order.
-ghost use Rattle.std.specs.Prelude.{◌≡◌, ◌+◌, ◌-◌, ◌≤◌, ◌<◌, ◌++◌, ◌∷◌, [], ℕ, List, Some, IfOk, IfSome, OnErr, OnOk, drop, is_some, length, map, string_bytes, take, false};
+ghost use Rattle.std.specs.Prelude.{◌≡◌, ◌+◌, ◌-◌, ◌≤◌, ◌<◌, ◌++◌, ◌∷◌, [], ℕ, List, Some, IfOk, IfSome, OnErr, OnOk, drop, is_some, length, string_bytes, take, false};
+ghost use Rattle.rt_stamps.specs.Words.{as_words};
 ghost use Rattle.indexmap.specs.IndexSet.{index_set_len, move_index, spare};
 ghost use Rattle.rt_tags.specs.Seen.{IsAt, names_of};
 ghost use Rattle.rt_tags.specs.Kept.{IsListing};
@@ -19,7 +20,7 @@ pub fn index_of(names: &IndexSet<String>, name: &str) -> Option<usize>
 
 /// Copies of names.
 pub fn copied(alloc: Global, names: &[String]) -> Result<Vec<String>, AllocError>
-    ensures { IfOk result (λ v. map (λ s. string_bytes s) v.items ≡ map (λ s. string_bytes s) names.now) }
+    ensures { IfOk result (λ v. as_words v.items ≡ as_words names.now) }
 {
     let mut copies = Vec::with_capacity(alloc, names.len())?;
     for name in names {

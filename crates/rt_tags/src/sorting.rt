@@ -1,7 +1,8 @@
 // Writes of tags by the bytes of the tags' names, the greatest of each tag.
-ghost use Rattle.std.specs.Prelude.{◌≡◌, ◌+◌, ◌<◌, ◌∷◌, [], if◌then◌else◌, IfNone, IfOk, IfSome, length, map, string_bytes};
+ghost use Rattle.std.specs.Prelude.{◌≡◌, ◌+◌, ◌<◌, ◌∷◌, [], if◌then◌else◌, IfNone, IfOk, IfSome, length};
 ghost use Rattle.rt_stamps.specs.Names.{name_order};
 ghost use Rattle.rt_stamps.specs.Stamps.{is_before};
+ghost use Rattle.rt_stamps.specs.Words.{as_words};
 ghost use Rattle.rt_tags.specs.Kept.{HaveNames, IsFirst, IsSorted, all_seen, seen};
 ghost use Rattle.rt_tags.specs.Writers.{state_after};
 
@@ -13,7 +14,7 @@ use std::cmp::Ordering;
 fn order(names: &[String], x: Entry, y: Entry) -> Ordering
     requires x { x.tag < length names.now }
     requires y { y.tag < length names.now }
-    ensures { result ≡ name_order (seen (map (λ s. string_bytes s) names.now) x).name (seen (map (λ s. string_bytes s) names.now) y).name }
+    ensures { result ≡ name_order (seen (as_words names.now) x).name (seen (as_words names.now) y).name }
 {
     let name = names[y.tag.place()].as_str();
     names[x.tag.place()].as_str().cmp(name)
@@ -33,10 +34,10 @@ fn first<'a>(
     old: &'a [Entry],
     new: &'a [Entry],
 ) -> Option<(Entry, &'a [Entry], &'a [Entry])>
-    requires old { IsSorted (map (λ s. string_bytes s) names.now) old.now }
-    requires new { IsSorted (map (λ s. string_bytes s) names.now) new.now }
+    requires old { IsSorted (as_words names.now) old.now }
+    requires new { IsSorted (as_words names.now) new.now }
     ensures none { IfNone result ((old.now ≡ []) × (new.now ≡ [])) }
-    ensures some { IfSome result (λ r. IsFirst (map (λ s. string_bytes s) names.now) old.now new.now r.0 r.1.now r.2.now) }
+    ensures some { IfSome result (λ r. IsFirst (as_words names.now) old.now new.now r.0 r.1.now r.2.now) }
 {
     match old.split_first() {
         None => match new.split_first() {
@@ -61,11 +62,11 @@ pub(crate) fn merged(
     old: &[Entry],
     new: &[Entry],
 ) -> Result<Vec<Entry>, AllocError>
-    requires old { IsSorted (map (λ s. string_bytes s) names.now) old.now }
-    requires new { IsSorted (map (λ s. string_bytes s) names.now) new.now }
-    ensures sorted { IfOk result (λ v. IsSorted (map (λ s. string_bytes s) names.now) v.items) }
-    ensures entries { IfOk result (λ v. all_seen (map (λ s. string_bytes s) names.now) v.items
-        ≡ state_after (all_seen (map (λ s. string_bytes s) names.now) old.now) (all_seen (map (λ s. string_bytes s) names.now) new.now)) }
+    requires old { IsSorted (as_words names.now) old.now }
+    requires new { IsSorted (as_words names.now) new.now }
+    ensures sorted { IfOk result (λ v. IsSorted (as_words names.now) v.items) }
+    ensures entries { IfOk result (λ v. all_seen (as_words names.now) v.items
+        ≡ state_after (all_seen (as_words names.now) old.now) (all_seen (as_words names.now) new.now)) }
 {
     let mut out = Vec::new(alloc);
     let mut rest_of_old = old;
@@ -97,9 +98,9 @@ pub(crate) fn sorted(
     writes: &[Entry],
 ) -> Result<Vec<Entry>, AllocError>
     requires { HaveNames (length names.now) writes.now }
-    ensures sorted { IfOk result (λ v. IsSorted (map (λ s. string_bytes s) names.now) v.items) }
-    ensures entries { IfOk result (λ v. all_seen (map (λ s. string_bytes s) names.now) v.items
-        ≡ state_after [] (all_seen (map (λ s. string_bytes s) names.now) writes.now)) }
+    ensures sorted { IfOk result (λ v. IsSorted (as_words names.now) v.items) }
+    ensures entries { IfOk result (λ v. all_seen (as_words names.now) v.items
+        ≡ state_after [] (all_seen (as_words names.now) writes.now)) }
 {
     if writes.len() < 2 {
         return copied(alloc, writes);

@@ -10,6 +10,7 @@ ghost use Rattle.rt_tags.specs.Kept.{HaveNames, IsKept, IsNext, AreKept, IsSorte
 ghost use Rattle.rt_tags.specs.States.{AreNumbered, HaveOneNumber, Interns, IsByName, IsState, IsTag, KeepsIds, all_numbered, is_on, is_settled, name_at, names_on, numbered, state_at, write_at, writes_at, written};
 ghost use Rattle.rt_tags.specs.Writers.{listed_by, state_after};
 ghost use Rattle.rt_stamps.specs.declared.stamp.TheConstants.{ROOT};
+ghost use Rattle.rt_stamps.specs.Words.{as_words};
 ghost use Rattle.indexmap.specs.IndexSet.{index_set_len};
 
 use crate::writes::{listed, tags_on};
@@ -98,7 +99,7 @@ fn entry_of(entries: &[Entry], tag: TagId) -> Option<Entry>
 
 // The name of a tag, or no text for a number that was not given out.
 fn name_at(names: &[String], tag: TagId) -> &str
-    ensures { result.now ≡ slice_index_or (map (λ s. string_bytes s) names.now) tag [] }
+    ensures { result.now ≡ slice_index_or (as_words names.now) tag [] }
 {
     match names.get(tag.place) {
         Some(name) => name.as_str(),
@@ -108,15 +109,15 @@ fn name_at(names: &[String], tag: TagId) -> &str
 
 // Whether the name of an entry's tag stands on a side of a name.
 fn is_on_side(entry: Entry, names: &[String], name: &str, side: Ordering) -> bool
-    ensures { result ≡ is_on_side (map (λ s. string_bytes s) names.now) name.now side entry }
+    ensures { result ≡ is_on_side (as_words names.now) name.now side entry }
 {
     name_at(names, entry.tag).cmp(name) == side
 }
 
 // How many entries stand before a name.
 fn place_of(names: &[String], entries: &[Entry], name: &str) -> usize
-    requires { IsByName (all_seen (map (λ s. string_bytes s) names.now) entries.now) }
-    ensures place { result ≡ prefix_len (is_on_side (map (λ s. string_bytes s) names.now) name.now Less) entries.now }
+    requires { IsByName (all_seen (as_words names.now) entries.now) }
+    ensures place { result ≡ prefix_len (is_on_side (as_words names.now) name.now Less) entries.now }
     ensures within { result ≤ length entries.now }
 {
     entries.partition_point(|entry| is_on_side(*entry, names, name, Ordering::Less))
@@ -134,7 +135,7 @@ fn if_of(entry: Option<Entry>, tag: TagId) -> Option<Entry>
 
 // The entry of a tag among entries that stand by the names of their tags.
 fn found(names: &[String], entries: &[Entry], tag: TagId) -> Option<Entry>
-    requires { IsByName (all_seen (map (λ s. string_bytes s) names.now) entries.now) }
+    requires { IsByName (all_seen (as_words names.now) entries.now) }
     ensures { result ≡ entry_of tag entries.now }
 {
     let at = place_of(names, entries, name_at(names, tag));
@@ -150,7 +151,7 @@ fn add_side(
     side: Ordering,
 ) -> Result<(), AllocError>
     requires { HaveNames (length names.now) entries.now }
-    ensures { OnOk result (out.new.items ≡ out.old.items ++ filter (is_on_side (map (λ s. string_bytes s) names.now) name.now side) entries.now) }
+    ensures { OnOk result (out.new.items ≡ out.old.items ++ filter (is_on_side (as_words names.now) name.now side) entries.now) }
 {
     for entry in entries {
         if is_on_side(*entry, names, name, side) {
@@ -169,7 +170,7 @@ fn written(
 ) -> Result<Vec<Entry>, AllocError>
     requires tag { entry.tag < length names.now }
     requires named { HaveNames (length names.now) entries.now }
-    ensures { IfOk result (λ v. v.items ≡ entries_written (map (λ s. string_bytes s) names.now) entry entries.now) }
+    ensures { IfOk result (λ v. v.items ≡ entries_written (as_words names.now) entry entries.now) }
 {
     let name = names[entry.tag.place].as_str();
     let mut out = Vec::with_capacity(alloc, entries.len() + 1)?;
@@ -222,7 +223,7 @@ fn next_state(
     requires tag { entry.tag < length names.now }
     requires named { HaveNames (length names.now) state.now.entries.items }
     ensures settled { is_entry_kept (entry_of entry.tag state.now.entries.items) entry.writer ≡ true → result ≡ Ok None }
-    ensures next { IfOk result (λ next. IfSome next (λ s. IsNext (map (λ s. string_bytes s) names.now) entry state.now.entries.items s)) }
+    ensures next { IfOk result (λ next. IfSome next (λ s. IsNext (as_words names.now) entry state.now.entries.items s)) }
     ensures none { IfOk result (λ next. IfNone next (is_entry_kept (entry_of entry.tag state.now.entries.items) entry.writer ≡ true)) }
 {
     if is_settled(&state.entries, entry.tag, entry.writer) {
@@ -241,10 +242,10 @@ fn state_after(
     writes: &[Entry],
 ) -> Result<State, AllocError>
     requires named { HaveNames (length names.now) writes.now }
-    requires sorted { IsSorted (map (λ s. string_bytes s) names.now) state.now.entries.items }
-    ensures entries { IfOk result (λ s. state_seen (map (λ s. string_bytes s) names.now) s
-        ≡ state_after (state_seen (map (λ s. string_bytes s) names.now) state.now) (all_seen (map (λ s. string_bytes s) names.now) writes.now)) }
-    ensures kept { IfOk result (λ s. IsKept (map (λ s. string_bytes s) names.now) s) }
+    requires sorted { IsSorted (as_words names.now) state.now.entries.items }
+    ensures entries { IfOk result (λ s. state_seen (as_words names.now) s
+        ≡ state_after (state_seen (as_words names.now) state.now) (all_seen (as_words names.now) writes.now)) }
+    ensures kept { IfOk result (λ s. IsKept (as_words names.now) s) }
 {
     let new = sorting::sorted(alloc, names, writes)?;
     let entries = sorting::merged(alloc, names, &state.entries, &new)?;
@@ -413,10 +414,9 @@ impl StateTable {
     /// names that got a number keep it.
     pub fn state_of_list(&mut self, writer: Stamp, names: &[String]) -> Result<StateId, Fault>
         ensures given { IfOk result (IsState self.new) }
-        ensures state { IfOk result (λ id. state_at self.new id ≡ state_after [] (listed_by writer (map (λ s. string_bytes s) names.now))) }
-        ensures interned { IfOk result (λ id. Interns (state_after [] (listed_by writer (map
-            (λ s. string_bytes s) names.now))) self.old.states id self.new.states) }
-        ensures names { OnOk result (self.new.names ≡ (all_numbered (map (λ s. string_bytes s) names.now) self.old).names) }
+        ensures state { IfOk result (λ id. state_at self.new id ≡ state_after [] (listed_by writer (as_words names.now))) }
+        ensures interned { IfOk result (λ id. Interns (state_after [] (listed_by writer (as_words names.now))) self.old.states id self.new.states) }
+        ensures names { OnOk result (self.new.names ≡ (all_numbered (as_words names.now) self.old).names) }
         ensures err { OnErr result (self.new.states ≡ self.old.states) }
         ensures fault { IsOkUnless result Fault.NoMemory }
         ensures ids { KeepsIds self.old self.new }
@@ -434,8 +434,8 @@ impl StateTable {
     // The numbers of names.
     fn number_all(&mut self, names: &[String]) -> Result<Vec<TagId>, Fault>
         ensures given { IfOk result (λ tags. All (IsTag self.new) tags.items) }
-        ensures tags { IfOk result (λ tags. map (name_at self.new) tags.items ≡ map (λ s. string_bytes s) names.now) }
-        ensures names { OnOk result (self.new.names ≡ (all_numbered (map (λ s. string_bytes s) names.now) self.old).names) }
+        ensures tags { IfOk result (λ tags. map (name_at self.new) tags.items ≡ as_words names.now) }
+        ensures names { OnOk result (self.new.names ≡ (all_numbered (as_words names.now) self.old).names) }
         ensures states { self.new.states ≡ self.old.states }
         ensures fault { IsOkUnless result Fault.NoMemory }
         ensures ids { KeepsIds self.old self.new }

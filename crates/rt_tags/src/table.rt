@@ -1,7 +1,8 @@
 // The tags of a site.
-ghost use Rattle.std.specs.Prelude.{ℕ, List, ◌≡◌, ◌⊎◌, ◌↔◌, ◌&&◌, [], ◌∷◌, OnOk, OnErr, IfOk, IfErr, IsOkUnless, IfSome, Ok, Err, is_some, false, true, map, option_copied, string_bytes, if◌then◌else◌};
+ghost use Rattle.std.specs.Prelude.{ℕ, List, ◌≡◌, ◌⊎◌, ◌↔◌, ◌&&◌, [], ◌∷◌, OnOk, OnErr, IfOk, IfErr, IsOkUnless, IfSome, Ok, Err, is_some, false, true, option_copied, if◌then◌else◌};
+ghost use Rattle.rt_stamps.specs.Words.{as_words};
 ghost use Rattle.rt_tags.specs.Seen.{IsAt};
-ghost use Rattle.rt_tags.specs.Tags.{AlsoReady, HaveNoRepeats, IsName, SameReady, forgotten, is_listed, is_place, is_ready, lowered, raised, sel, with_name, without_all};
+ghost use Rattle.rt_tags.specs.Tags.{AlsoReady, HaveNoRepeats, IsName, SameReady, all_forgotten, is_listed, is_place, is_ready, lowered, raised, sel, with_name};
 
 use crate::{forgetting, names};
 use indexmap::IndexSet;
@@ -84,7 +85,7 @@ impl TagTable {
 
     /// The names that are listed, lowest priority first. `NoMemory` is its only fault.
     pub fn names(&self) -> Result<Vec<String>, Fault>
-        ensures names { IfOk result (λ v. map (λ s. string_bytes s) v.items ≡ self.now.names) }
+        ensures names { IfOk result (λ v. as_words v.items ≡ self.now.names) }
         ensures fault { IsOkUnless result Fault.NoMemory }
     {
         let (listed, _) = self.names.as_slice().split_at(self.listed);
@@ -136,27 +137,10 @@ impl TagTable {
         Ok(())
     }
 
-    /// Forgets a name, which stays ready. `sel` and names that aren't listed are passed over.
-    pub fn forget(&mut self, name: &str)
-        ensures names { self.new.names ≡ forgotten name.now self.old.names }
-        ensures ready { SameReady self.old self.new }
-    {
-        if name == "sel" {
-            return;
-        }
-        match self.place_of(name) {
-            Some(place) => {
-                names::shift_highest(&mut self.names, self.listed, place);
-                self.listed -= 1;
-            }
-            None => {}
-        }
-    }
-
     /// Forgets names, which stay ready. `sel` and names that aren't listed are passed over. It takes no
     /// memory, and goes through the names that are ready once, however many are given.
     pub fn forget_all(&mut self, names: &[String])
-        ensures names { self.new.names ≡ without_all (map (λ w. string_bytes w) names.now) self.old.names }
+        ensures names { self.new.names ≡ all_forgotten (as_words names.now) self.old.names }
         ensures ready { SameReady self.old self.new }
     {
         self.listed = forgetting::forget(&mut self.names, self.listed, names, &mut self.marks);

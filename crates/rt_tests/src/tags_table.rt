@@ -2,6 +2,7 @@
 use crate::checks::same;
 use rt_stamps::Fault;
 use rt_tags::TagTable;
+use std::alloc::Global;
 use std::test::Fail;
 
 // Whether a table lists these names, lowest priority first.
@@ -28,12 +29,12 @@ enum Call {
     Lower(&'static str, Option<&'static str>),
 }
 
-fn make(table: &mut TagTable, call: Call) -> Result<(), Fault> {
+fn make(alloc: Global, table: &mut TagTable, call: Call) -> Result<(), Fault> {
     match call {
         Call::Ensure(name) => table.ensure(name),
         Call::Prepare(name) => table.prepare(name),
         Call::Forget(name) => {
-            table.forget(name);
+            table.forget_all(&[String::from_str(alloc, name)?]);
             Ok(())
         }
         Call::Raise(name, above) => table.raise(name, above),
@@ -73,7 +74,7 @@ const CALLS: &[Row] = &[
 fn priorities(rt: HostRuntime) -> Result<(), Fail> {
     let mut table = TagTable::new(rt.alloc())?;
     for (call, answer, wanted) in CALLS {
-        let answered = make(&mut table, *call);
+        let answered = make(rt.alloc(), &mut table, *call);
         same(
             &rt,
             (*wanted, answered, lists(&table, *wanted)?),

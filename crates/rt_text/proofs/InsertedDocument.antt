@@ -10,7 +10,7 @@ use Rattle.rt_ops.specs.Operations.{Body}
 use Rattle.rt_stamps.specs.declared.limits.TheConstants.{GREATEST_COUNT, MOST_CHARACTERS}
 use Rattle.rt_stamps.specs.declared.stamp.Stamp.{Stamp}
 use Rattle.rt_stamps.specs.Outcomes.{first_of}
-use Rattle.rt_stamps.specs.Words.{Word}
+use Rattle.rt_stamps.specs.Words.{Word, as_words}
 use Rattle.rt_store.specs.Cells.{text_of}
 use Rattle.rt_store.specs.Shown.{TaggedCell}
 use Rattle.rt_tags.specs.States.{IsByName}
@@ -221,7 +221,7 @@ module _ (flat : Flat) (own : Own) (others : List Own) (place : ℕ) (pieces : L
 
   pub names_given : (plan : Plan) → Plans plan own.sel (selections_of others) flat.tags (made_new flat own others place pieces rest) → All IsPiece pieces → AreListed flat.tags flat.cells → All (λ w. IsName (string_bytes w)) plan.names.items
   names_given plan plans are listed =
-      let names = map (λ w. string_bytes w) plan.names.items in
+      let names = as_words plan.names.items in
       unmapped IsName (λ w. string_bytes w) plan.names.items (names_of_all names flat.tags (subst (All IsName) (sym plans.tags) (lists (pieces_named pieces are) listed).names))
 
   -- where nothing is refused there is room for all

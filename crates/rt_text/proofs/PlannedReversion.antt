@@ -1,12 +1,12 @@
 -- The plan of a group that is reverted, on a document and on a widget's own marks.
-use Rattle.std.proofs.Common.{◌≡◌, ◌∙◌, ◌⊎◌, inl, inr, ℕ, ◌<◌, ◌≤◌, All, List, Some, length, map, string_bytes, sym, ap, true}
+use Rattle.std.proofs.Common.{◌≡◌, ◌∙◌, ◌⊎◌, inl, inr, ℕ, ◌<◌, ◌≤◌, All, List, Some, length, string_bytes, sym, ap, true}
 use Rattle.std.specs.List.{list_all}
 use Rattle.rt_marks.specs.Marks.{Mark}
 use Rattle.rt_ops.specs.Rules.{is_name}
 use Rattle.rt_stamps.specs.declared.fault.Fault.{Fault}
 use Rattle.rt_stamps.specs.declared.fault.Fault.TheVariants.{ClockSpent, NoMemory}
 use Rattle.rt_stamps.specs.declared.limits.TheConstants.{GREATEST_COUNT}
-use Rattle.rt_stamps.specs.Words.{Word}
+use Rattle.rt_stamps.specs.Words.{Word, as_words}
 use Rattle.rt_store.specs.declared.cell.Cell.{Cell}
 use Rattle.rt_store.specs.Cells.{text_of}
 use Rattle.rt_tags.specs.States.{TagStates}
@@ -35,8 +35,8 @@ not_planned states store number count flat group fault is (inl e) = inl e
 not_planned states store number count flat group fault is (inr q) = inr (spent_check flat group (q.1 flat is) ∙ ap (λ x. Some x) (sym q.0))
 
 -- the tags to list are names
-pub names_planned : (plan : Reversal) → list_all is_name (map (λ w. string_bytes w) plan.names.items) ≡ true → All (λ w. IsName (string_bytes w)) plan.names.items
-names_planned plan h = all_under IsName (λ w. string_bytes w) plan.names.items (names_are (map (λ w. string_bytes w) plan.names.items) h)
+pub names_planned : (plan : Reversal) → list_all is_name (as_words plan.names.items) ≡ true → All (λ w. IsName (string_bytes w)) plan.names.items
+names_planned plan h = all_under IsName (λ w. string_bytes w) plan.names.items (names_are (as_words plan.names.items) h)
 
 -- A plan on a document of a history: the states of a store's cells and those of the group's own table, the store's cells, a site, and
 -- a greatest count.

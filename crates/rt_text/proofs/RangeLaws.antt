@@ -8,33 +8,34 @@ use Rattle.rt_index.specs.Widget.{IndexedWidget}
 use Rattle.rt_stamps.specs.declared.fault.Fault.{Fault}
 use Rattle.rt_stamps.specs.declared.fault.Fault.TheVariants.{NoMemory}
 use Rattle.rt_stamps.specs.Outcomes.{first_of, Refuses}
+use Rattle.rt_stamps.specs.Words.{as_words}
 use Rattle.rt_edits.specs.declared.range.Range.{Range}
 use Rattle.rt_text.specs.Index.{index_check, place_at_index}
 use Rattle.rt_text.specs.Ranges.{text_between, has_characters, texts_of}
 
 -- one index more
 pub places_more : (w : IndexedWidget) (words : List (String Global)) (i : ℕ) (word : String Global) (place : ℕ) → i < length words → word ≡ get_or words i word → index_of w (string_bytes word) ≡ Ok place
-    → map (place_at_index w) (map (λ w. string_bytes w) (drop i words)) ≡ place ∷ map (place_at_index w) (map (λ w. string_bytes w) (drop (i + 1) words))
+    → map (place_at_index w) (as_words (drop i words)) ≡ place ∷ map (place_at_index w) (as_words (drop (i + 1) words))
 places_more w words i word place h s e =
-    let rest : List ℕ = map (place_at_index w) (map (λ w. string_bytes w) (drop (i + 1) words)) in
-    ap (λ l. map (place_at_index w) (map (λ w. string_bytes w) l)) (drop_more words i word h)
+    let rest : List ℕ = map (place_at_index w) (as_words (drop (i + 1) words)) in
+    ap (λ l. map (place_at_index w) (as_words l)) (drop_more words i word h)
     ∙ ap (λ (x : String Global). place_at_index w (string_bytes x) ∷ rest) (sym s) ∙ ap (λ r. result_unwrap_or r 0 ∷ rest) e
 
 pub checks_more : (w : IndexedWidget) (words : List (String Global)) (i : ℕ) (word : String Global) (place : ℕ) → i < length words → word ≡ get_or words i word → index_of w (string_bytes word) ≡ Ok place
-    → first_of (map (index_check w) (map (λ w. string_bytes w) (drop i words))) ≡ first_of (map (index_check w) (map (λ w. string_bytes w) (drop (i + 1) words)))
+    → first_of (map (index_check w) (as_words (drop i words))) ≡ first_of (map (index_check w) (as_words (drop (i + 1) words)))
 checks_more w words i word place h s e =
-    let rest : List (Option Fault) = map (index_check w) (map (λ w. string_bytes w) (drop (i + 1) words)) in
-    ap (λ l. first_of (map (index_check w) (map (λ w. string_bytes w) l))) (drop_more words i word h)
+    let rest : List (Option Fault) = map (index_check w) (as_words (drop (i + 1) words)) in
+    ap (λ l. first_of (map (index_check w) (as_words l))) (drop_more words i word h)
     ∙ ap (λ (x : String Global). first_of (index_check w (string_bytes x) ∷ rest)) (sym s) ∙ ap (λ r. first_of (result_err r ∷ rest)) e
 
 -- an index that is refused after others that were found
 pub checks_stop : (w : IndexedWidget) (words : List (String Global)) (i : ℕ) (word : String Global) (fault found : Fault) → i < length words → word ≡ get_or words i word → Refuses (index_of w (string_bytes word)) found → fault ≡ found
-    → first_of (map (index_check w) (map (λ w. string_bytes w) (drop i words))) ≡ first_of (map (index_check w) (map (λ w. string_bytes w) words))
-    → (fault ≡ NoMemory) ⊎ (first_of (map (index_check w) (map (λ w. string_bytes w) words)) ≡ Some fault)
+    → first_of (map (index_check w) (as_words (drop i words))) ≡ first_of (map (index_check w) (as_words words))
+    → (fault ≡ NoMemory) ⊎ (first_of (map (index_check w) (as_words words)) ≡ Some fault)
 checks_stop w words i word fault found h s (inl e) f same = inl (f ∙ e)
 checks_stop w words i word fault found h s (inr e) f same =
-    let rest : List (Option Fault) = map (index_check w) (map (λ w. string_bytes w) (drop (i + 1) words)) in
-    inr (sym same ∙ ap (λ l. first_of (map (index_check w) (map (λ w. string_bytes w) l))) (drop_more words i word h)
+    let rest : List (Option Fault) = map (index_check w) (as_words (drop (i + 1) words)) in
+    inr (sym same ∙ ap (λ l. first_of (map (index_check w) (as_words l))) (drop_more words i word h)
     ∙ ap (λ (x : String Global). first_of (index_check w (string_bytes x) ∷ rest)) (sym s) ∙ ap (λ r. first_of (result_err r ∷ rest)) e ∙ ap (λ x. Some x) (sym f))
 
 -- one range more

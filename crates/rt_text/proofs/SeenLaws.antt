@@ -18,7 +18,8 @@ use Rattle.rt_tags.specs.States.{TagStates, IsState, state_at}
 use Rattle.rt_tags.specs.Tags.{is_listed}
 use Rattle.rt_store.specs.Shown.{TaggedCell, shown}
 use Rattle.rt_text.specs.Proper.{ends_by, tag_by, ends_in}
-use Rattle.rt_text.specs.Widgets.{Own, Viewed, is_tagged, is_tagged_in, length_shown, mark_among, mark_seen, marks_shown, own_mark_of, own_or, own_seen, own_shown, shown_by, stretch_by, tag_ends, tags_on, text_shown, widget_of, widget_over}
+use Rattle.rt_text.specs.Grounds.{widget_over}
+use Rattle.rt_text.specs.Widgets.{Own, Viewed, is_tagged, is_tagged_in, length_shown, mark_among, mark_seen, marks_shown, own_mark_of, own_or, own_seen, own_shown, shown_by, stretch_by, tag_ends, tags_on, text_shown, widget_of}
 use Rattle.rt_views.specs.declared.stretch.Stretch.{Stretch}
 use Rattle.rt_views.specs.Stretches.{part, seen_place, stretch_of}
 use Rattle.rt_views.specs.declared.limits.Limits.{Limits}

@@ -14,7 +14,7 @@ use Rattle.rt_store.specs.Cells.{text_of}
 use Rattle.rt_store.specs.Shown.{shown}
 use Rattle.rt_store.proofs.Shown.{length_shown}
 use Rattle.rt_tags.specs.States.{TagStates, state_at}
-use Rattle.rt_tags.specs.Tags.{sel, with_name, without}
+use Rattle.rt_tags.specs.Tags.{all_forgotten, sel, with_name, without}
 use Rattle.rt_rga.specs.Cells.{cells_of}
 use Rattle.rt_rga.specs.Drafts.{with_drafts}
 use Rattle.rt_rga.specs.Histories.{IsHistory, greatest_last_count}
@@ -27,7 +27,7 @@ use Rattle.rt_edits.specs.Flat.{Flat, logged}
 use Rattle.rt_edits.specs.Listed.{AreListed}
 use Rattle.rt_edits.specs.TagDrafts.{deletion_drafts, tag_drafts_at, tags_drafts_at}
 use Rattle.rt_edits.specs.TagWrites.{with_tag_at, without_tags}
-use Rattle.rt_edits.specs.Names.{all_forgotten}
+use Rattle.rt_edits.proofs.ForgottenNames.{forgotten_in_turn, in_turn}
 use Rattle.rt_edits.proofs.CharacterCounts.{deletions_insert_none, tags_insert_none}
 use Rattle.rt_edits.proofs.DeletedNames.{deletions_made, deletions_may}
 use Rattle.rt_edits.proofs.TagDocuments.{all_deletions_counted, all_tags_counted, tags_made, tags_may}
@@ -92,16 +92,20 @@ pub record IsLeftOf (flat new : Flat) (names : List Word) : Type 0 where
   pub tags : new.tags ≡ names
   pub text : text_of new.cells ≡ text_of flat.cells
 
-pub left_of_deletion : (names : List Word) (flat : Flat) → IsLeftOf flat (without_tags flat names) (all_forgotten names flat.tags)
-left_of_deletion [] flat = record { limit = refl; marks = refl; tags = refl; text = refl }
-left_of_deletion (name ∷ names) flat =
+left_in_turn : (names : List Word) (flat : Flat) → IsLeftOf flat (without_tags flat names) (forgotten_in_turn names flat.tags)
+left_in_turn [] flat = record { limit = refl; marks = refl; tags = refl; text = refl }
+left_in_turn (name ∷ names) flat =
     let off = with_tag_at flat (λ _. true) false name in
     let next : Flat = record off { tags = without name off.tags } in
-    let here = left_of_deletion names flat in
-    let there = left_of_deletion names next in
-    let less : IsLeftOf flat (without_tags next names) (all_forgotten names (without name flat.tags)) =
+    let here = left_in_turn names flat in
+    let there = left_in_turn names next in
+    let less : IsLeftOf flat (without_tags next names) (forgotten_in_turn names (without name flat.tags)) =
     record { limit = there.limit; marks = there.marks; tags = there.tags; text = there.text ∙ tag_text flat (λ _. true) false name } in
-    elim (bytes_eq name sel) as (λ b. IsLeftOf flat (without_tags (cond b flat next) names) (all_forgotten names (cond b flat.tags (without name flat.tags)))) [ true ↦ here | false ↦ less ]
+    elim (bytes_eq name sel) as (λ b. IsLeftOf flat (without_tags (cond b flat next) names) (forgotten_in_turn names (cond b flat.tags (without name flat.tags)))) [ true ↦ here | false ↦ less ]
+
+pub left_of_deletion : (names : List Word) (flat : Flat) → IsLeftOf flat (without_tags flat names) (all_forgotten names flat.tags)
+left_of_deletion names flat =
+    let left = left_in_turn names flat in record { limit = left.limit; marks = left.marks; tags = left.tags ∙ in_turn names flat.tags; text = left.text }
 
 -- A REPLICA'S ANSWER
 

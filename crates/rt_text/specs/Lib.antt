@@ -3,6 +3,7 @@ pub mod Changes
 pub mod Commands
 pub mod Comparisons
 pub mod Distances
+pub mod Grounds
 pub mod Index
 pub mod Kept
 pub mod Limited

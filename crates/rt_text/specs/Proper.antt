@@ -16,7 +16,8 @@ use Rattle.rt_edits.specs.Listed.{AreListed, listed_name, named_as}
 use Rattle.rt_stamps.specs.Places.{EndsWithNewline}
 use Rattle.rt_text.specs.declared.own_mark.OwnMark.TheVariants.{Insert, Current}
 use Rattle.rt_text.specs.Lines.{AreLines}
-use Rattle.rt_text.specs.Widgets.{Own, own_or, own_seen, mark_seen, ends_of, is_tagged, widget_over}
+use Rattle.rt_text.specs.Grounds.{widget_over}
+use Rattle.rt_text.specs.Widgets.{Own, own_or, own_seen, mark_seen, ends_of, is_tagged}
 use Rattle.rt_views.specs.declared.stretch.Stretch.{Stretch}
 use Rattle.rt_views.specs.Stretches.{part, seen_cursor, seen_place}
 

@@ -9,7 +9,7 @@ use Rattle.rt_marks.specs.Marks.{Mark, IsName, named, in_order, with_mark, mark_
 use Rattle.rt_stamps.specs.declared.stamp.Stamp.{Stamp}
 use Rattle.rt_stamps.specs.declared.stamp.TheConstants.{FINAL}
 use Rattle.rt_stamps.specs.Words.{Word}
-use Rattle.rt_store.specs.Cells.{text_of, visible_of}
+use Rattle.rt_store.specs.Cells.{visible_of}
 use Rattle.rt_store.specs.Tagged.{next_place, last_place}
 use Rattle.rt_tags.specs.States.{is_on}
 use Rattle.rt_tags.specs.Tags.{sel, is_listed}
@@ -100,6 +100,11 @@ abbrev pub IsOwnOf : ℕ → Own → Type 0
 IsOwnOf n own =
     (own.insert.place < n) × (own.current.place ≤ n)
     × (own.insert.name ≡ codes "insert") × (own.current.name ≡ codes "current")
+
+-- the same of the widget that commands and of the others
+pub record AreOwnOf (n : ℕ) (first : Own) (rest : List Own) : Type 0 where
+  pub own : IsOwnOf n first
+  pub others : AllByRecursion (IsOwnOf n) rest
 
 -- ALL MARKS OF A WIDGET
 
@@ -232,14 +237,6 @@ abbrev pub tag_ends : Own → List TaggedCell → List Word → Word → Option 
 tag_ends own characters tags name = if is_listed name tags then Some (ends_of (is_tagged own name) characters) else None
 
 -- WHAT INDEX EXPRESSIONS SEE
-
--- the characters of a stretch, the places of marks among them, and the tags of a widget
-abbrev pub widget_over : Stretch → List TaggedCell → List Mark → List Word → Own → IndexedWidget
-widget_over stretch cells marks tags own = record {
-  text = part stretch (text_of cells);
-  marks = λ name. option_map (λ m. m.place) (mark_among (own_seen stretch own) (map (mark_seen stretch) marks) name);
-  tags = tag_ends own (part stretch (visible_of cells)) tags;
-}
 
 abbrev pub widget_of : Viewed → IndexedWidget
 widget_of view = record {

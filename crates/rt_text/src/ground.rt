@@ -39,7 +39,7 @@ pub(crate) struct WidgetGround<'a, S: TextStore> {
 }
 
 impl<'a, S: TextStore> Ground for WidgetGround<'a, S> {
-    ghost use Rattle.rt_text.specs.Widgets.{widget_over};
+    ghost use Rattle.rt_text.specs.Grounds.{widget_over};
     ghost use Rattle.rt_text.specs.Proper.{proper_over};
     ghost use Rattle.std.specs.Prelude.{map};
     ghost use Rattle.rt_store.specs.Shown.{shown};

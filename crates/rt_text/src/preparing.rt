@@ -3,6 +3,7 @@ ghost use Rattle.std.specs.Prelude.{◌≡◌, ◌⊎◌, ◌≤◌, All, IfErr,
 ghost use Rattle.rt_stamps.specs.Outcomes.{first_of};
 ghost use Rattle.rt_tags.specs.Tags.{IsName, is_ready};
 ghost use Rattle.rt_stamps.specs.Names.{name_check};
+ghost use Rattle.rt_stamps.specs.Words.{as_words};
 ghost use Rattle.rt_text.specs.Commands.{names_in};
 ghost use Rattle.rt_edits.specs.DeletionLaws.{IsPiece};
 ghost use Rattle.rt_edits.specs.Insertions.{all_listed};
@@ -56,7 +57,7 @@ pub(crate) fn prepare_tags(table: &mut TagTable, names: &[String]) -> Result<(),
 pub(crate) fn list_tags(table: &mut TagTable, names: &[String])
     requires names { All (λ w. IsName (string_bytes w)) names.now }
     requires ready { All (λ w. is_ready (string_bytes w) table.old ≡ true) names.now }
-    ensures { table.new.names ≡ all_listed (map (λ w. string_bytes w) names.now) table.old.names }
+    ensures { table.new.names ≡ all_listed (as_words names.now) table.old.names }
 {
     for name in names {
         table.ensure(name).unwrap();

@@ -3,6 +3,7 @@ ghost use Rattle.rt_views.specs.Stretches.{part};
 ghost use Rattle.std.specs.Prelude.{◌≡◌, ◌≤◌, ◌⊎◌, ◌++◌, All, IfOk, IfErr, IsOkUnless, OnOk, map, length, string_bytes, encode_utf8_all};
 ghost use Rattle.rt_stamps.specs.declared.limits.TheConstants.{MOST_CELLS};
 ghost use Rattle.rt_stamps.specs.Outcomes.{first_of};
+ghost use Rattle.rt_stamps.specs.Words.{as_words};
 ghost use Rattle.rt_store.specs.Cells.{text_of};
 ghost use Rattle.rt_text.specs.Index.{index_check, place_at_index};
 ghost use Rattle.rt_text.specs.Ranges.{text_between, ranges_of, texts_of};
@@ -20,11 +21,11 @@ const READ_CHARACTERS: usize = 256;
 
 // The places of indices.
 fn places_of<G: Ground>(alloc: Global, ground: &G, indices: &[String]) -> Result<Vec<usize>, Fault>
-    ensures ok { IfOk result (λ places. places.items ≡ map (place_at_index (G.widget ground.now)) (map (λ w. string_bytes w) indices.now)) }
-    ensures checked { IfOk result (λ places. first_of (map (index_check (G.widget ground.now)) (map (λ w. string_bytes w) indices.now)) ≡ None) }
+    ensures ok { IfOk result (λ places. places.items ≡ map (place_at_index (G.widget ground.now)) (as_words indices.now)) }
+    ensures checked { IfOk result (λ places. first_of (map (index_check (G.widget ground.now)) (as_words indices.now)) ≡ None) }
     ensures within { IfOk result (λ places. All (λ place. place ≤ length (G.widget ground.now).text) places.items) }
     ensures err { IfErr result (λ fault. (fault ≡ Fault.NoMemory)
-        ⊎ (first_of (map (index_check (G.widget ground.now)) (map (λ w. string_bytes w) indices.now)) ≡ Some fault)) }
+        ⊎ (first_of (map (index_check (G.widget ground.now)) (as_words indices.now)) ≡ Some fault)) }
 {
     let mut places = Vec::new(alloc);
     for index in indices {
@@ -63,10 +64,10 @@ pub(crate) fn ranges_at<G: Ground>(
     ground: &G,
     indices: &[String],
 ) -> Result<Vec<Range>, Fault>
-    ensures ok { IfOk result (λ ranges. ranges.items ≡ ranges_of (map (place_at_index (G.widget ground.now)) (map (λ w. string_bytes w) indices.now))) }
-    ensures checked { IfOk result (λ ranges. first_of (map (index_check (G.widget ground.now)) (map (λ w. string_bytes w) indices.now)) ≡ None) }
+    ensures ok { IfOk result (λ ranges. ranges.items ≡ ranges_of (map (place_at_index (G.widget ground.now)) (as_words indices.now))) }
+    ensures checked { IfOk result (λ ranges. first_of (map (index_check (G.widget ground.now)) (as_words indices.now)) ≡ None) }
     ensures err { IfErr result (λ fault. (fault ≡ Fault.NoMemory)
-        ⊎ (first_of (map (index_check (G.widget ground.now)) (map (λ w. string_bytes w) indices.now)) ≡ Some fault)) }
+        ⊎ (first_of (map (index_check (G.widget ground.now)) (as_words indices.now)) ≡ Some fault)) }
 {
     let places = places_of(alloc, ground, indices)?;
     ranges_of(alloc, &places)
@@ -130,7 +131,7 @@ pub(crate) fn texts_of<S: TextStore>(
     ranges: &[Range],
 ) -> Result<Vec<String>, Fault>
     requires { (stretch.begin ≤ stretch.end) × (stretch.end ≤ length (text_of (S.list store.now))) }
-    ensures ok { IfOk result (λ texts. map (λ w. string_bytes w) texts.items ≡ texts_of (part stretch (text_of (S.list store.now))) ranges.now) }
+    ensures ok { IfOk result (λ texts. as_words texts.items ≡ texts_of (part stretch (text_of (S.list store.now))) ranges.now) }
     ensures err { IsOkUnless result Fault.NoMemory }
 {
     let mut texts = Vec::new(alloc);

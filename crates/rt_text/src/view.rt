@@ -48,17 +48,15 @@ impl<S: TextStore> Drop for View<S> {
 
 impl<S: TextStore> Model for View<S> {
     ghost use Rattle.std.specs.Prelude.{length, map};
-    ghost use Rattle.std.specs.List.{AllByRecursion};
     ghost use Rattle.rt_store.specs.Cells.{text_of};
     ghost use Rattle.rt_text.specs.Parts.{own_in};
-    ghost use Rattle.rt_text.specs.Widgets.{IsOwnOf, Viewed};
+    ghost use Rattle.rt_text.specs.Widgets.{AreOwnOf, Viewed};
 
     ghost Value = { Viewed };
 
     ghost view = { λ v. record { doc = v.doc; own = v.widget; others = map own_in v.others.items } };
 
-    ghost invariant = { λ v. IsOwnOf (length (text_of v.doc.cells)) v.widget
-        × AllByRecursion (IsOwnOf (length (text_of v.doc.cells))) (map own_in v.others.items) };
+    ghost invariant = { λ v. AreOwnOf (length (text_of v.doc.cells)) v.widget (map own_in v.others.items) };
 }
 
 impl<S: TextStore> View<S> {

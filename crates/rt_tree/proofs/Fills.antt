@@ -4,8 +4,8 @@ use Rattle.std.proofs.lemmas.Bool.{cases_eq}
 use Rattle.std.proofs.lemmas.List.{length-map}
 use Rattle.rt_nodes.specs.Nodes.{entries, with_entries}
 use Rattle.rt_tree.specs.declared.node.Entry.{Entry}
-use Rattle.rt_tree.specs.Changes.{AreFilled, AreHalves, IsGrown, bare, strip}
-use Rattle.rt_tree.specs.Shape.{IsFilled, Memory, level_of}
+use Rattle.rt_tree.specs.Changes.{AreHalves, IsGrown, bare, strip}
+use Rattle.rt_tree.specs.Shape.{AreFilled, IsFilled, Memory, level_of}
 use Rattle.rt_tree.proofs.Around.{test_other, test_same}
 use Rattle.rt_tree.proofs.Bares.{bare-entries}
 

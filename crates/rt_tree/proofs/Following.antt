@@ -164,15 +164,18 @@ run_is text (a ∷ rest) (suc n) first last is some ends ef el fits =
     subst (λ (f : Cell ℕ). IsRunOf text (a ∷ rest) (run_from f at (suc n) (last.ch == 10))) (sym same)
     (record {
       stretch = is;
-      at = refl;
-      run = record {
-        some = omega arith;
-        stands = (let w = is.within in let l = ends.long in omega (arith, w, l));
-        counts = omega (arith, count, fits, long);
-        plain = ap (λ l. newlines (take (suc n - 1) l)) chars ∙ ap (λ k. newlines (take k (map (λ (c : Cell ℕ). c.ch) (a ∷ xs)))) (z ∙ sym long) ∙ one_line a xs one;
-        ends = ap newlines chars ∙ newline;
+      front = record {
+        within = is.within;
+        at = refl;
+        run = record {
+          some = omega arith;
+          stands = (let w = is.within in let l = ends.long in omega (arith, w, l));
+          counts = omega (arith, count, fits, long);
+          plain = ap (λ l. newlines (take (suc n - 1) l)) chars ∙ ap (λ k. newlines (take k (map (λ (c : Cell ℕ). c.ch) (a ∷ xs)))) (z ∙ sym long) ∙ one_line a xs one;
+          ends = ap newlines chars ∙ newline;
+        };
+        same = ap (λ l. map (with_gone a.gone) (cells_from a.stamp.count a.stamp.site a.state l)) chars ∙ one_cells a xs one;
       };
-      same = ap (λ l. map (with_gone a.gone) (cells_from a.stamp.count a.stamp.site a.state l)) chars ∙ one_cells a xs one;
     })
   where
     shorter : (k : ℕ) (l : List (Cell ℕ)) (d : Cell ℕ) (m : ℕ) → k < m → get_or l k d ≡ get_or (take m l) k d

@@ -11,7 +11,7 @@ use Rattle.rt_tree.specs.declared.mark.Mark.TheVariants.{Gone, State}
 use Rattle.rt_tree.specs.declared.node.Run.{Run}
 use Rattle.rt_tree.specs.Runs.{IsRun, cells_of, characters, run_cells, with_gone}
 use Rattle.rt_tree.specs.Sharing.{IsRecut}
-use Rattle.rt_tree.specs.Stretches.{back_of, front_of, made_gone, marked_cell, marked_run}
+use Rattle.rt_tree.specs.Stretches.{back_of, front_of, marked_cell, marked_run}
 use Rattle.rt_tree.proofs.Apart.{apart_cut, begins_cut}
 use Rattle.rt_tree.proofs.CellLaws.{characters_length}
 use Rattle.rt_tree.proofs.Edges.{edge_cut}
@@ -101,7 +101,7 @@ module _ (r : Run) (k : ℕ) (b : List Run) (some : 0 < k) (lt : k < r.len) wher
 
 -- MARKS
 
-from-gone : (gone : Bool) (count site state : ℕ) (cs : List ℕ) → map (with_gone true) (cells_from count site state cs) ≡ map made_gone (map (with_gone gone) (cells_from count site state cs))
+from-gone : (gone : Bool) (count site state : ℕ) (cs : List ℕ) → map (with_gone true) (cells_from count site state cs) ≡ map (with_gone true) (map (with_gone gone) (cells_from count site state cs))
 from-gone gone count site state [] = refl
 from-gone gone count site state (c ∷ cs) = ap (λ l. record { stamp = record { count = count; site = site }; ch = c; gone = true; state = state } ∷ l) (from-gone gone (count + 1) site state cs)
 

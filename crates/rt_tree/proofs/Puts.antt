@@ -7,8 +7,8 @@ use Rattle.rt_tree.specs.declared.node.Entry.{Entry}
 use Rattle.rt_tree.specs.declared.node.Entry.TheVariants.{Here}
 use Rattle.rt_tree.specs.declared.node.Measure.TheVariants.{Cells}
 use Rattle.rt_tree.specs.declared.node.Run.{Run}
-use Rattle.rt_tree.specs.Changes.{AreExact, AreFilled, bare, links}
-use Rattle.rt_tree.specs.Shape.{IsShape, IsTree, Memory, ahead, all_below, behind, below, level_of, runs, runs_before, tree_runs}
+use Rattle.rt_tree.specs.Changes.{AreExact, bare, links}
+use Rattle.rt_tree.specs.Shape.{AreFilled, IsShape, IsTree, Memory, ahead, all_below, behind, below, level_of, runs, runs_before, tree_runs}
 use Rattle.rt_tree.specs.Sums.{AreFew, counts_of, counts_of_run, plus}
 use Rattle.rt_tree.specs.Walks.{IsPutAt, IsReplacedAt, IsSpot, StandsAt}
 use Rattle.rt_tree.proofs.Around.{regroup}

@@ -5,8 +5,8 @@ use Rattle.std.proofs.lemmas.Bool.{cases_eq}
 use Rattle.rt_nodes.specs.Nodes.{entries}
 use Rattle.rt_tree.specs.declared.node.Entry.{Entry}
 use Rattle.rt_tree.specs.declared.node.Entry.TheVariants.{Down, Here}
-use Rattle.rt_tree.specs.Shape.{Fits, IsShape, Memory, all_below, count_of, around, level_of, parent_of, runs}
-use Rattle.rt_tree.specs.Changes.{AreFilled, bare}
+use Rattle.rt_tree.specs.Shape.{AreFilled, Fits, IsShape, Memory, all_below, around, count_of, level_of, parent_of, runs}
+use Rattle.rt_tree.specs.Changes.{bare}
 use Rattle.rt_tree.specs.Trees.{HasNodes}
 use Rattle.rt_tree.proofs.Fills.{links_long, other_filled}
 use Rattle.rt_tree.proofs.Around.{at_top, below_top, test_other, test_same}

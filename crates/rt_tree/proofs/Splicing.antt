@@ -182,9 +182,6 @@ module _ (text : List ℕ) (old now : List Run) (at done more lone : ℕ) (cells
       pub fewer_cells : length cells - (done + run.len) < length cells - done
       fewer_cells = omega (arith, rest.run.some, within_rest)
 
-pub front_is : (text : List ℕ) (cells : List (Cell ℕ)) (run : Run) → IsRunOf text cells run → IsFrontOf text cells run
-front_is text cells run is = record { within = is.stretch.within; at = is.at; run = is.run; same = is.same }
-
 -- all are in
 pub all_spliced : (text : List ℕ) (old now : List Run) (at done more lone : ℕ) (cells : List (Cell ℕ)) → IsSpliced text old now at done more lone cells → length cells ≤ done → AreChanged old now text (put_at at cells) × (AreOnce (cells_of text old) cells → more ≤ stretches cells)
 all_spliced text old now at done more lone cells is end =
@@ -216,7 +213,7 @@ module _ (text : List ℕ) (old : List Run) (at : ℕ) (cells : List (Cell ℕ))
         let long : length (left ++ mid) ≡ at = (let p = length-append left mid in omega (arith, p, l.cells, left_cells, m, last, some)) in
         ap (cells_of text) new_is
         ∙ cells_mid text st.left (joined run b) st.right
-        ∙ ap (λ c. left ++ (c ++ right)) (joined_cells text run b there rest.run (joint_true run b j) ∙ ap (λ c. mid ++ c) rest.same)
+        ∙ ap (λ c. left ++ (c ++ right)) (joined_cells text run b there rest.front.run (joint_true run b j) ∙ ap (λ c. mid ++ c) rest.front.same)
         ∙ ap (λ c. left ++ c) (append_assoc mid (take b.len cells) right)
         ∙ sym (append_assoc left mid (take b.len cells ++ right))
         ∙ sym (put_between at (left ++ mid) right (take b.len cells) long)
@@ -224,7 +221,7 @@ module _ (text : List ℕ) (old : List Run) (at : ℕ) (cells : List (Cell ℕ))
 
     pub extended : AreChanged old new text (put_at at (take b.len cells))
     extended = record {
-      kept = subst (AllByRecursion (IsRun text)) (sym new_is) (kept_set text st.left run (joined run b) st.right (λ is. joined_run text run b is rest.run (joint_true run b j)) (subst (AllByRecursion (IsRun text)) st.here all));
+      kept = subst (AllByRecursion (IsRun text)) (sym new_is) (kept_set text st.left run (joined run b) st.right (λ is. joined_run text run b is rest.front.run (joint_true run b j)) (subst (AllByRecursion (IsRun text)) st.here all));
       cells = extended_cells;
     }
 

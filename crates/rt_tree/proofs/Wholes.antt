@@ -5,8 +5,8 @@ use Rattle.std.proofs.lemmas.Bool.{cases_eq}
 use Rattle.rt_nodes.specs.Nodes.{entries}
 use Rattle.rt_tree.specs.declared.node.Entry.{Entry}
 use Rattle.rt_tree.specs.declared.node.Entry.TheVariants.{Down, Here}
-use Rattle.rt_tree.specs.Changes.{AreExact, AreFilled, IsLocal, IsRight, adds_up, bare, blank, entry_totals, links, strip}
-use Rattle.rt_tree.specs.Shape.{Fits, IsExact, IsShape, IsTree, Memory, ahead, all_below, behind, below, count_of, left_of, level_of, parent_of, right_of, runs, tree_runs}
+use Rattle.rt_tree.specs.Changes.{AreExact, IsLocal, IsRight, adds_up, bare, blank, entry_totals, links, strip}
+use Rattle.rt_tree.specs.Shape.{AreFilled, Fits, IsExact, IsShape, IsTree, Memory, ahead, all_below, behind, below, count_of, left_of, level_of, parent_of, right_of, runs, tree_runs}
 use Rattle.rt_tree.specs.Sums.{totals_of}
 use Rattle.rt_tree.proofs.Adding.{totals-append, join_last}
 use Rattle.rt_tree.proofs.Around.{test_other, test_same}

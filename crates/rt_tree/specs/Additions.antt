@@ -33,19 +33,17 @@ abbrev pub run_from : Cell ℕ → ℕ → ℕ → Bool → Run
 run_from cell at len newline =
     record { first = cell.stamp.count; state = cell.state; at = at; len = len; site = cell.stamp.site; gone = cell.gone; newline = newline }
 
--- a run has the first cells, those of a whole stretch
-pub record IsRunOf (text : List ℕ) (cells : List (Cell ℕ)) (r : Run) : Type 0 where
-  pub stretch : IsStretch cells r.len
-  pub at : r.at ≡ length text - length cells
-  pub run : IsRun text r
-  pub same : run_cells text r ≡ take r.len cells
-
 -- a run has the first cells, as many as may be
 pub record IsFrontOf (text : List ℕ) (cells : List (Cell ℕ)) (r : Run) : Type 0 where
   pub within : r.len ≤ length cells
   pub at : r.at ≡ length text - length cells
   pub run : IsRun text r
   pub same : run_cells text r ≡ take r.len cells
+
+-- a run has the first cells, those of a whole stretch
+pub record IsRunOf (text : List ℕ) (cells : List (Cell ℕ)) (r : Run) : Type 0 where
+  pub stretch : IsStretch cells r.len
+  pub front : IsFrontOf text cells r
 
 -- a run goes on where another ends: with the next count of its site and the next character, in its state, gone if that one is, and in its line
 abbrev pub are_joint : Run → Run → Bool

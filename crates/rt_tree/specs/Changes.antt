@@ -7,7 +7,7 @@ use Rattle.rt_stamps.specs.declared.stamp.Stamp.{Stamp}
 use Rattle.rt_tree.specs.declared.node.Entry.{Entry}
 use Rattle.rt_tree.specs.declared.node.Entry.TheVariants.{Down, Here}
 use Rattle.rt_tree.specs.declared.node.Totals.{Totals}
-use Rattle.rt_tree.specs.Shape.{Memory, IsFilled, ahead, below, count_of, level_of, parent_of, runs}
+use Rattle.rt_tree.specs.Shape.{Memory, ahead, below, count_of, level_of, parent_of, runs}
 use Rattle.rt_tree.specs.Sums.{lesser, no_counts, plus, totals_of}
 
 -- NODES WITHOUT TOTALS
@@ -80,10 +80,6 @@ Lacks node more m = (id : ℕ) → id < length m.heads → (id ≡ node → ⊥)
 -- an entry's totals are those of its runs
 abbrev pub IsRight : Memory → ℕ → Entry → Type 0
 IsRight s k e = entry_totals e ≡ totals_of (below s k (strip e))
-
--- each node has entries enough
-abbrev pub AreFilled : Memory → ℕ → Type 0
-AreFilled m root = (id : ℕ) → id < length m.heads → IsFilled m root id
 
 -- STEPS
 

@@ -18,9 +18,13 @@ use Rattle.rt_tree.specs.Walks.{IsBehind}
 abbrev pub holders : Stamp → List Run → ℕ
 holders stamp rs = length (filter (λ r. has r stamp) rs)
 
+-- no stamp is in two runs
+abbrev pub AreOnceEach : List Run → Type 0
+AreOnceEach rs = (stamp : Stamp) → holders stamp rs ≤ 1
+
 -- no stamp is in two runs, and each that is in one has a leaf
 pub record AreHome (leaves : Shown NodeId) (rs : List Run) : Type 0 where
-  pub once : (stamp : Stamp) → holders stamp rs ≤ 1
+  pub once : AreOnceEach rs
   pub known : (stamp : Stamp) → value_of leaves stamp ≡ None → holders stamp rs ≡ 0
 
 -- no run has a stamp of another one
@@ -68,10 +72,6 @@ pub record IsAmong (all : List Run) (run : Run) : Type 0 where
   pub left : List Run
   pub right : List Run
   pub here : all ≡ left ++ run ∷ right
-
--- no stamp is in two runs
-abbrev pub AreOnceEach : List Run → Type 0
-AreOnceEach rs = (stamp : Stamp) → holders stamp rs ≤ 1
 
 -- a run is marked if its first stamp is in a span and comes before a count
 abbrev pub run_to : Span → ℕ → Mark → Run → Run

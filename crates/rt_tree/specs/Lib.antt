@@ -8,6 +8,7 @@ pub mod Stretches
 pub mod Sharing
 pub mod Additions
 pub mod Trees
+pub mod Sound
 pub mod Stores
 pub mod Changes
 pub mod Skips

@@ -95,6 +95,10 @@ pub record IsKnown (m : Memory) (id : ℕ) : Type 0 where
 abbrev pub IsFilled : Memory → ℕ → ℕ → Type 0
 IsFilled m root id = (if id == root then (if level_of m id == 0 then 0 else 2) else 8) ≤ length (entries m id)
 
+-- each node has entries enough
+abbrev pub AreFilled : Memory → ℕ → Type 0
+AreFilled m root = (id : ℕ) → id < length m.heads → IsFilled m root id
+
 -- all nodes of a memory stand below a root, so many levels above the leaves
 pub record IsShape (m : Memory) (height root : ℕ) : Type 0 where
   pub same : length m.heads ≡ length m.rows
@@ -107,7 +111,7 @@ pub record IsShape (m : Memory) (height root : ℕ) : Type 0 where
 -- they are a tree, whose nodes have entries enough and right totals
 pub record IsTree (m : Memory) (root : ℕ) : Type 0 where
   pub shape : IsShape m (level_of m root) root
-  pub filled : (id : ℕ) → id < length m.heads → IsFilled m root id
+  pub filled : AreFilled m root
   pub totals : (id : ℕ) → id < length m.heads → AllByRecursion (IsExact m (level_of m id)) (entries m id)
 
 -- the runs before a node that is so many levels below the root, and those behind it

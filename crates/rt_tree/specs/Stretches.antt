@@ -8,15 +8,11 @@ use Rattle.rt_tags.specs.States.{IsState, TagStates}
 use Rattle.rt_tree.specs.declared.node.Run.{Run}
 use Rattle.rt_tree.specs.declared.mark.Mark.{Mark}
 use Rattle.rt_tree.specs.declared.mark.Mark.TheVariants.{Gone, State}
-use Rattle.rt_tree.specs.Runs.{IsRun, cells_of}
-
--- a cell that is gone now
-abbrev pub made_gone : Cell ℕ → Cell ℕ
-made_gone cell = record cell { gone = true }
+use Rattle.rt_tree.specs.Runs.{IsRun, cells_of, with_gone}
 
 -- what a mark makes of a cell, and of a run
 abbrev pub marked_cell : Mark → Cell ℕ → Cell ℕ
-marked_cell Gone cell = made_gone cell
+marked_cell Gone cell = with_gone true cell
 marked_cell (State state) cell = with_state state cell
 
 abbrev pub marked_run : Mark → Run → Run

@@ -2,8 +2,8 @@
 ghost use Rattle.std.specs.Prelude.{◌≡◌, ◌<◌, ◌≤◌, ◌++◌, insert, length, slice_set};
 ghost use Rattle.rt_nodes.specs.Nodes.{entries, with_entries};
 ghost use Rattle.rt_tree.specs.declared.node.Entry.TheVariants.{Here};
-ghost use Rattle.rt_tree.specs.Changes.{AreExact, AreFilled, bare, links};
-ghost use Rattle.rt_tree.specs.Shape.{IsShape, ahead, all_below, behind, level_of, runs};
+ghost use Rattle.rt_tree.specs.Changes.{AreExact, bare, links};
+ghost use Rattle.rt_tree.specs.Shape.{AreFilled, IsShape, ahead, all_below, behind, level_of, runs};
 ghost use Rattle.rt_tree.specs.Sums.{AreFew, counts_of};
 
 use crate::node::{Entry, Mem, Run};

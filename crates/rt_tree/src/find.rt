@@ -53,6 +53,7 @@ pub(crate) fn find(mem: &Mem, root: NodeId, by: Measure, place: usize, looks: &m
     requires within { place < amount by (counts_of (tree_runs mem.now root.index)) }
     requires room { looks.old + 16 * (level_of mem.now root.index + 1) < 2 ^ 64 }
     ensures run { StandsAt by (tree_runs mem.now root.index) result.run result.before result.spot.offset place }
+    ensures counted { looks.old + (level_of mem.now root.index + 1) ≤ looks.new }
     ensures cost { looks.new ≤ looks.old + 16 * (level_of mem.now root.index + 1) }
 {
     let mut sight = Counted { mem, looks };
@@ -66,6 +67,7 @@ pub(crate) fn seek(mem: &Mem, root: NodeId, by: Measure, place: usize) -> Found
     requires within { place < amount by (counts_of (tree_runs mem.now root.index)) }
     ensures { StandsAt by (tree_runs mem.now root.index) result.run result.before result.spot.offset place }
 {
+    // Its clause bounds the levels, and so the looks; the value isn't needed.
     height(mem, root);
     let mut looks = 0;
     find(mem, root, by, place, &mut looks)

@@ -426,6 +426,7 @@ fn home_at(mem: &Mem, root: NodeId, leaf: NodeId, entry: usize) -> Option<Home>
     match *mem.entry(leaf, entry) {
         Entry::Down(..) => None,
         Entry::Here(run) => {
+            // Its clause bounds the levels, and so the looks; the value isn't needed.
             height(mem, root);
             let mut looks = 0;
             let looks = &mut looks;

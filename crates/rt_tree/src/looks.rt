@@ -23,7 +23,7 @@ pub struct Sight {
     pub first: Option<StateId>,
 }
 
-/// The only sight of nodes that a walk has. It counts the entries that are looked at.
+/// The only sight of nodes that the walks `descend`, `ascend` and `seek` have. It counts the entries that are looked at.
 pub trait Looks {
     /// The nodes.
     ghost nodes: { Self → Memory };

@@ -63,6 +63,7 @@ pub(crate) fn found_near(
             return moved(found, offset);
         }
     }
+    // Its clause bounds the levels, and so the looks; the value isn't needed.
     height(mem, root);
     let mut looks = 0;
     let looks = &mut looks;
@@ -121,6 +122,7 @@ pub(crate) fn counts_before(mem: &Mem, root: NodeId, last: &Option<Found>, spot:
             return found.before;
         }
     }
+    // Its clause bounds the levels, and so the looks; the value isn't needed.
     height(mem, root);
     let mut looks = 0;
     let looks = &mut looks;

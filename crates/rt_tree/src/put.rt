@@ -6,10 +6,10 @@ ghost use Rattle.rt_tree.specs.declared.node.Counts.{Counts};
 ghost use Rattle.rt_tree.specs.declared.node.Entry.TheVariants.{Here};
 ghost use Rattle.rt_tree.specs.declared.node.Measure.TheVariants.{Cells};
 ghost use Rattle.rt_tree.specs.declared.node.Run.{Run};
-ghost use Rattle.rt_tree.specs.Changes.{AreExact, AreFilled, bare};
+ghost use Rattle.rt_tree.specs.Changes.{AreExact, bare};
 ghost use Rattle.rt_tree.specs.Holds.{IsEndAt, IsHeld};
 ghost use Rattle.rt_tree.specs.Homes.{AreHome};
-ghost use Rattle.rt_tree.specs.Shape.{IsShape, IsTree, ahead, level_of, runs, tree_runs};
+ghost use Rattle.rt_tree.specs.Shape.{AreFilled, IsShape, IsTree, ahead, level_of, runs, tree_runs};
 ghost use Rattle.rt_tree.specs.Sharing.{AreKnown};
 ghost use Rattle.rt_tree.specs.Summaries.{AreTold};
 ghost use Rattle.rt_tree.specs.Sums.{AreFew, amount, counts_of, counts_of_run, plus};
@@ -82,6 +82,7 @@ pub(crate) fn found_at(mem: &Mem, root: NodeId, at: usize) -> Found
     ensures spot { IsSpot mem.now root.index Cells at result.spot.leaf.index result.spot.entry result.spot.offset result.run }
     ensures run { StandsAt Cells (tree_runs mem.now root.index) result.run result.before result.spot.offset at }
 {
+    // Its clause bounds the levels, and so the looks; the value isn't needed.
     crate::find::height(mem, root);
     let mut looks = 0;
     let looks = &mut looks;

@@ -6,8 +6,8 @@ ghost use Rattle.rt_tags.specs.Borders.{one_or_none};
 ghost use Rattle.rt_tags.specs.States.{IsState};
 ghost use Rattle.rt_tree.specs.declared.node.Entry.{Entry};
 ghost use Rattle.rt_tree.specs.declared.node.Entry.TheVariants.{Here};
-ghost use Rattle.rt_tree.specs.Changes.{AreExact, AreFilled, bare, links};
-ghost use Rattle.rt_tree.specs.Shape.{IsShape, ahead, all_below, behind, below, level_of, runs};
+ghost use Rattle.rt_tree.specs.Changes.{AreExact, bare, links};
+ghost use Rattle.rt_tree.specs.Shape.{AreFilled, IsShape, ahead, all_below, behind, below, level_of, runs};
 ghost use Rattle.rt_tree.specs.Summaries.{AreBeside, AreSummed, AreSummedBut, HaveMemory, shown_states};
 ghost use Rattle.rt_tree.specs.Sums.{AreFew, counts_of};
 

@@ -1,8 +1,8 @@
 // Room in a leaf.
 ghost use Rattle.std.specs.Prelude.{◌≡◌, ℕ, ◌+◌, ◌-◌, ◌<◌, ◌≤◌, ◌^◌, length};
 ghost use Rattle.rt_nodes.specs.Nodes.{entries};
-ghost use Rattle.rt_tree.specs.Changes.{AreExact, AreFilled, above, bare};
-ghost use Rattle.rt_tree.specs.Shape.{IsShape, ahead, level_of, parent_of, runs};
+ghost use Rattle.rt_tree.specs.Changes.{AreExact, above, bare};
+ghost use Rattle.rt_tree.specs.Shape.{AreFilled, IsShape, ahead, level_of, parent_of, runs};
 ghost use Rattle.rt_tree.specs.Summaries.{AreTold};
 ghost use Rattle.rt_tree.specs.Sums.{AreFew, counts_of};
 ghost use Rattle.rt_tree.specs.Trees.{HasNodes};

@@ -72,27 +72,15 @@ impl Drop for Tree {
 }
 
 impl Model for Tree {
-    ghost use Rattle.std.specs.Prelude.{◌≡◌, ◌≤◌, IfSome, vec_capacity, true};
-    ghost use Rattle.rt_tree.specs.Holds.{Holds};
-    ghost use Rattle.rt_tree.specs.Homes.{AreHome};
-    ghost use Rattle.rt_tree.specs.Runs.{cells_of};
-    ghost use Rattle.rt_tree.specs.Shape.{tree_runs};
-    ghost use Rattle.rt_tree.specs.Sharing.{AreUpTo};
-    ghost use Rattle.rt_tree.specs.Tallies.{IsCountOf};
-    ghost use Rattle.rt_tree.specs.Trees.{HaveSummaries, IsKept, IsRoomy, Shown, shown};
+    ghost use Rattle.rt_tree.specs.Sound.{IsSound};
+    ghost use Rattle.rt_tree.specs.Trees.{Shown, shown};
 
     ghost Value = { Shown };
 
     ghost view = { λ t. shown t.mem t.root.index t.text.items t.sums.each.items
         (record { cells = t.spare_cells; cuts = t.spare_cuts; tags = t.spare_tags }) };
 
-    ghost invariant = { λ t. IsKept t.mem t.root.index t.text.items t.runs
-        × (IsRoomy t.mem t.root.index t.text.items (vec_capacity t.text)
-        (record { cells = t.spare_cells; cuts = t.spare_cuts; tags = t.spare_tags })
-        × (AreUpTo t.newest (cells_of t.text.items (tree_runs t.mem t.root.index))
-        × ((t.homes.sure ≡ true → AreHome t.homes.leaves (tree_runs t.mem t.root.index)) × ((t.spare_cells ≤ t.homes.left)
-        × (HaveSummaries t.mem t.sums t.spare_tags × (IsCountOf t.counts (cells_of t.text.items (tree_runs t.mem t.root.index))
-        × IfSome t.last (Holds t.mem t.root.index))))))) };
+    ghost invariant = { IsSound };
 }
 
 // The run of the final newline, as it is at first.
@@ -201,11 +189,12 @@ impl Tree {
         cell_in(&self.text, &found.run, found.spot.offset)
     }
 
-    /// The visible cell at a place. It adds at most sixteen looks a level to the counter.
+    /// The visible cell at a place. It adds at least one look a level to the counter, and at most sixteen.
     pub fn find(&self, place: usize, looks: &mut u64) -> Cell<StateId>
         requires within { place < length (visible_of self.now.cells) }
         requires room { looks.old + 16 * self.now.height < 2 ^ 64 }
         ensures cell { slice_get (visible_of self.now.cells) place ≡ Some result }
+        ensures counted { looks.old + self.now.height ≤ looks.new }
         ensures cost { looks.new ≤ looks.old + 16 * self.now.height }
     {
         let found = find(&self.mem, self.root, Measure::Visible, place, looks);
@@ -385,6 +374,7 @@ impl Tree {
         requires { StandsBefore self.now.cells left }
         ensures { result ≡ after_element self.now.cells left }
     {
+        // Its clause says that a `usize` holds the number of cells, so `+ 1` can't overflow; the value isn't needed.
         self.cells();
         if left == ROOT {
             0

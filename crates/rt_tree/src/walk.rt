@@ -48,6 +48,7 @@ fn entry_at<L: Looks>(looks: &mut L, node: NodeId, by: Measure, place: usize, ah
     ensures before { result.before ≡ plus ahead (sum_of (take result.index (entries (L.nodes looks.old) node.index))) }
     ensures at { amount by (sum_of (take result.index (entries (L.nodes looks.old) node.index))) + result.rest ≡ place }
     ensures inside { result.rest < amount by (entry_counts result.entry) }
+    ensures counted { L.looked looks.old + 1 ≤ L.looked looks.new }
     ensures cost { L.looked looks.new ≤ L.looked looks.old + 16 }
     ensures same { L.nodes looks.new ≡ L.nodes looks.old }
     ensures kept { L.summaries looks.new ≡ L.summaries looks.old }
@@ -96,6 +97,7 @@ pub(crate) fn descend_by<L: Looks>(looks: &mut L, root: NodeId, by: Measure, pla
     requires room { L.looked looks.old + 16 * (level_of (L.nodes looks.old) root.index + 1) < 2 ^ 64 }
     ensures spot { IsSpot (L.nodes looks.old) root.index by place result.spot.leaf.index result.spot.entry result.spot.offset result.run }
     ensures before { result.before ≡ counts_of (runs_before (L.nodes looks.old) root.index result.spot.leaf.index result.spot.entry) }
+    ensures counted { L.looked looks.old + (level_of (L.nodes looks.old) root.index + 1) ≤ L.looked looks.new }
     ensures cost { L.looked looks.new ≤ L.looked looks.old + 16 * (level_of (L.nodes looks.old) root.index + 1) }
     ensures same { L.nodes looks.new ≡ L.nodes looks.old }
     ensures kept { L.summaries looks.new ≡ L.summaries looks.old }

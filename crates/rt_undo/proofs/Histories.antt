@@ -18,7 +18,7 @@ use Rattle.rt_undo.specs.declared.renames.Move.{Move}
 use Rattle.rt_undo.specs.Actions.{Action, Removed, group_of, is_replace, with_stamp, with_stamps}
 use Rattle.rt_undo.specs.Groups.{AreStill, IsStill, groups_of, numbers_of, numbers_of_groups, rest_after}
 use Rattle.rt_undo.specs.Renames.{Shown, is_moved, now_of, renamed, value_of}
-use Rattle.rt_undo.specs.Undo.{History, added, as_group, asks_separator, but_last, came_back, differs_from, last, next_redo, next_undo, numbers, numbers_in, recorded, redo_done, renamed_by, separated, to_undo, undo_done, with_stamps_in, same_numbers}
+use Rattle.rt_undo.specs.Undo.{History, added, as_group, asks_separator, but_last, renamed_span, differs_from, last, next_redo, next_undo, numbers, numbers_in, recorded, redo_done, renamed_by, separated, to_undo, undo_done, with_stamps_in, same_numbers}
 use Rattle.rt_undo.proofs.Following.{by_test, none_of, now_ends}
 
 -- TWICE
@@ -47,7 +47,7 @@ history_twice g f h = λ i. record h {
 
 -- characters come back
 pub history_came_back : (former : Span) (newer : Stamp) (old new : Shown Move) (h : History ℕ) → ((s : Stamp) → now_of new s ≡ renamed former newer (now_of old s))
-    → renamed_by (now_of new) h ≡ came_back former newer (renamed_by (now_of old) h)
+    → renamed_by (now_of new) h ≡ renamed_span former newer (renamed_by (now_of old) h)
 history_came_back former newer old new h e =
     (λ i. renamed_by (λ s. e s i) h) ∙ sym (history_twice (renamed former newer) (now_of old) h)
 

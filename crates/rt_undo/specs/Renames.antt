@@ -4,13 +4,9 @@ use Rattle.std.specs.Option.{option_map_or}
 use Rattle.rt_stamps.specs.declared.stamp.Span.{Span}
 use Rattle.rt_stamps.specs.declared.stamp.Stamp.{Stamp}
 use Rattle.rt_stamps.specs.declared.limits.TheConstants.{GREATEST_COUNT}
-pub use Rattle.rt_stamps.specs.Stamps.{is_same}
+pub use Rattle.rt_stamps.specs.Stamps.{is_same, replaced}
 pub use Rattle.rt_spans.specs.Shown.{Shown, is_in_span, value_of}
 use Rattle.rt_undo.specs.declared.renames.Move.{Move}
-
--- one stamp in the place of another
-abbrev pub replaced : Stamp → Stamp → Stamp → Stamp
-replaced old new s = if is_same s old then new else s
 
 -- the characters of a span have stamps of consecutive counts from another one on, those of all others keep theirs
 abbrev pub renamed : Span → Stamp → Stamp → Stamp

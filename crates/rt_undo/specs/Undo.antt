@@ -125,5 +125,5 @@ abbrev pub replaced_in : {T : Type 0} → Stamp → Stamp → History T → Hist
 replaced_in old new h = renamed_by (replaced old new) h
 
 -- the same for the characters of a span and stamps of consecutive counts
-abbrev pub came_back : {T : Type 0} → Span → Stamp → History T → History T
-came_back former newer h = renamed_by (renamed former newer) h
+abbrev pub renamed_span : {T : Type 0} → Span → Stamp → History T → History T
+renamed_span former newer h = renamed_by (renamed former newer) h

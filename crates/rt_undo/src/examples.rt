@@ -1,7 +1,7 @@
 // Worked examples of the definitions, each a clause that computes.
 ghost use Rattle.std.specs.Prelude.{◌≡◌, ℕ, [], ◌∷◌, true, false, None, Some};
 ghost use Rattle.rt_undo.specs.Examples.{at, at_first, cut, swapped, two_typed, typed, typed_and_cut, undone_after, untyped};
-ghost use Rattle.rt_undo.specs.Undo.{added, came_back, emptied, forced_on, is_modified, next_redo, next_undo, no_history, redo_done, separated, to_undo, undo_done, unmodified};
+ghost use Rattle.rt_undo.specs.Undo.{added, renamed_span, emptied, forced_on, is_modified, next_redo, next_undo, no_history, redo_done, separated, to_undo, undo_done, unmodified};
 
 /// What is typed in one go is one group. Of two separators the second changes nothing. With automatic
 /// separators a removal after that begins a group, and so does each of two replacements; without them
@@ -50,8 +50,8 @@ pub fn modified_flag()
 /// A character is typed and removed. The removal is undone, so the character comes back under another
 /// stamp: that stands in both groups, and the insertion can be undone too.
 pub fn characters_that_come_back()
-    ensures below { next_undo (undo_done (typed 3 ∷ []) (came_back (record { site = 1; first = 1; last = 1 }) (at 3) typed_and_cut))
+    ensures below { next_undo (undo_done (typed 3 ∷ []) (renamed_span (record { site = 1; first = 1; last = 1 }) (at 3) typed_and_cut))
         ≡ Some (record (typed 3) { number = 1 } ∷ []) }
-    ensures in_hand { next_undo (came_back (record { site = 1; first = 1; last = 1 }) (at 3) typed_and_cut) ≡ Some (cut 2 3 ∷ []) }
-    ensures others { came_back (record { site = 2; first = 1; last = 9 }) (at 3) typed_and_cut ≡ typed_and_cut }
+    ensures in_hand { next_undo (renamed_span (record { site = 1; first = 1; last = 1 }) (at 3) typed_and_cut) ≡ Some (cut 2 3 ∷ []) }
+    ensures others { renamed_span (record { site = 2; first = 1; last = 9 }) (at 3) typed_and_cut ≡ typed_and_cut }
 {}

@@ -69,6 +69,7 @@ impl Renames {
         ensures now { (stamp : Stamp) → now_of self.new stamp ≡ now_of self.old stamp }
         ensures moved { (stamp : Stamp) → is_moved self.new stamp ≡ is_moved self.old stamp }
         ensures ok { OnOk result (n ≤ self.new.room) }
+        ensures kept { OnOk result (self.old.room ≤ self.new.room) }
         ensures err { OnErr result (self.new ≡ self.old) }
         ensures fault { IsOkUnless result Fault.NoMemory }
     {

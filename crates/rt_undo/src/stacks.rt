@@ -4,7 +4,7 @@ ghost use Rattle.rt_stamps.specs.declared.stamp.Stamp.{Stamp};
 ghost use Rattle.rt_undo.specs.Actions.{action_of, group_of, is_replace};
 ghost use Rattle.rt_undo.specs.Renames.{is_in_span, is_moved, is_same, renamed};
 ghost use Rattle.rt_undo.specs.Groups.{groups_of, numbers_of, numbers_of_groups, rest_after};
-ghost use Rattle.rt_undo.specs.Undo.{added, as_group, but_last, came_back, differs_from, emptied, forced_on, is_modified, last, next_redo, next_undo, no_history, redo_done, replaced_in, same_numbers, separated, undo_done, unmodified};
+ghost use Rattle.rt_undo.specs.Undo.{added, as_group, but_last, renamed_span, differs_from, emptied, forced_on, is_modified, last, next_redo, next_undo, no_history, redo_done, replaced_in, same_numbers, separated, undo_done, unmodified};
 
 use crate::action::{Action, Kind};
 use crate::copies::group_now;
@@ -246,6 +246,7 @@ impl Stacks {
         ensures moves { (stamp : Stamp) → is_moved self.new.moves stamp ≡ is_moved self.old.moves stamp }
         ensures ready { OnOk result (self.new.ready ≡ true) }
         ensures room { OnOk result (replacements ≤ self.new.moves.room) }
+        ensures kept { OnOk result (self.old.moves.room ≤ self.new.moves.room) }
         ensures err { OnErr result (self.new ≡ self.old) }
         ensures fault { IsOkUnless result Fault.NoMemory }
     {
@@ -388,7 +389,7 @@ impl Stacks {
         requires bound { newer.count + (former.last - former.first) ≤ GREATEST_COUNT }
         requires first_time { (s : Stamp) → is_in_span former s ≡ true → is_moved self.old.moves s ≡ false }
         requires fresh { (s : Stamp) → is_in_span former s ≡ true → is_moved self.old.moves (renamed former newer s) ≡ false }
-        ensures history { self.new.history ≡ came_back former newer self.old.history }
+        ensures history { self.new.history ≡ renamed_span former newer self.old.history }
         ensures moves { (s : Stamp) → is_moved self.new.moves s ≡ (is_in_span former s || is_moved self.old.moves s) }
         ensures ready { self.new.ready ≡ self.old.ready }
         ensures room { self.new.moves.room + 1 ≡ self.old.moves.room }

@@ -4,7 +4,7 @@ use Rattle.std.specs.Prelude.{◌≡◌, ℕ, ◌+◌, ◌-◌, ◌<◌, min, Bo
 use Rattle.rt_stamps.specs.declared.stamp.Stamp.{Stamp}
 use Rattle.rt_stamps.specs.declared.stamp.TheConstants.{FINAL}
 use Rattle.rt_stamps.specs.Places.{newlines, line_of}
-use Rattle.rt_stamps.specs.Stamps.{is_same}
+use Rattle.rt_stamps.specs.Stamps.{replaced}
 use Rattle.rt_store.specs.declared.cell.Cell.{Cell}
 use Rattle.rt_store.specs.Cells.{text_of, visible_before, position_of, cell_of}
 use Rattle.rt_views.specs.declared.limits.Limits.{Limits}
@@ -51,13 +51,9 @@ end_number cells limits = option_map (λ _. last_line cells limits + 1) limits.e
 
 -- NEWLINES THAT CAME BACK
 
--- a stamp, or the newer one of the character that came back under it
-abbrev pub newer_in : Stamp → Stamp → Stamp → Stamp
-newer_in former newer stamp = if is_same stamp former then newer else stamp
-
 -- the limits then
 abbrev pub limits_renamed : Stamp → Stamp → Limits → Limits
 limits_renamed former newer limits = record {
-  start = option_map (newer_in former newer) limits.start;
-  end = option_map (newer_in former newer) limits.end;
+  start = option_map (replaced former newer) limits.start;
+  end = option_map (replaced former newer) limits.end;
 }

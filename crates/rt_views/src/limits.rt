@@ -4,7 +4,8 @@ ghost use Rattle.rt_stamps.specs.declared.limits.TheConstants.{MOST_CELLS};
 ghost use Rattle.rt_stamps.specs.Places.{line_end, newlines};
 ghost use Rattle.rt_store.specs.Cells.{text_of, visible_of};
 ghost use Rattle.rt_views.specs.Choices.{end_asked, end_chosen, limits_chosen, newline_of, start_asked, start_chosen};
-ghost use Rattle.rt_views.specs.Limits.{end_number, first_line, is_gone, last_line, limits_renamed, line_at, line_behind, newer_in, no_limits, start_number};
+ghost use Rattle.rt_stamps.specs.Stamps.{replaced};
+ghost use Rattle.rt_views.specs.Limits.{end_number, first_line, is_gone, last_line, limits_renamed, line_at, line_behind, no_limits, start_number};
 ghost use Rattle.rt_views.specs.Stretches.{stretch_of};
 
 use crate::{Choice, Stretch};
@@ -201,15 +202,15 @@ impl Limits {
         ensures { result ≡ limits_renamed former newer self }
     {
         Limits {
-            start: self.start.map(|stamp| newer_in(former, newer, stamp)),
-            end: self.end.map(|stamp| newer_in(former, newer, stamp)),
+            start: self.start.map(|stamp| replaced(former, newer, stamp)),
+            end: self.end.map(|stamp| replaced(former, newer, stamp)),
         }
     }
 }
 
 // A stamp, or the newer one of the character that came back under it.
-fn newer_in(former: Stamp, newer: Stamp, stamp: Stamp) -> Stamp
-    ensures { result ≡ newer_in former newer stamp }
+fn replaced(former: Stamp, newer: Stamp, stamp: Stamp) -> Stamp
+    ensures { result ≡ replaced former newer stamp }
 {
     if stamp == former { newer } else { stamp }
 }

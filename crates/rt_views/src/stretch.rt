@@ -2,7 +2,7 @@
 ghost use Rattle.std.specs.Prelude.{◌≡◌, ◌<◌, ◌≤◌, ◌-◌};
 ghost use Rattle.rt_views.specs.Stretches.{seen_cursor, seen_place};
 
-/// The places of a text from one up to before another one.
+/// The places of a text from one up to before another one: none if the end isn't behind the beginning.
 #[derive(Clone, Copy, Debug, PartialEq, Eq)]
 pub struct Stretch {
     pub begin: usize,

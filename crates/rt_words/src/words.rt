@@ -1,7 +1,8 @@
 // The words of a line and of a list.
-ghost use Rattle.std.specs.Prelude.{◌≡◌, ◌≢◌, ◌⊎◌, ℕ, ◌<◌, ◌≤◌, ◌∷◌, [], IfOk, IfErr, IsOkUnless, MatchOption, MatchResult, OnOk, String, drop, map, not, false, length, slice_index, slice_index_or, string_bytes, take};
+ghost use Rattle.std.specs.Prelude.{◌≡◌, ◌≢◌, ◌⊎◌, ℕ, ◌<◌, ◌≤◌, ◌∷◌, [], IfOk, IfErr, IsOkUnless, MatchOption, MatchResult, OnOk, String, drop, not, false, length, slice_index, slice_index_or, string_bytes, take};
 ghost use Rattle.std.specs.declared.alloc.Global.{Global};
 ghost use Rattle.std.specs.List.{prefix_len};
+ghost use Rattle.rt_stamps.specs.Words.{as_words};
 ghost use Rattle.rt_words.specs.Spelling.{is_blank};
 ghost use Rattle.rt_words.specs.Spelling.{EndsWord, Spells, SpellsBy, SpellsList, IsBadlyQuoted, IsBadlyQuotedBy, IsBadlyQuotedList, escape_of, is_list_blank};
 ghost use Rattle.rt_words.specs.FirstWord.{BeginsWith, ClosesAt, IsFirstWord, HasNoFirstWord, IsQuotedFront, HasNoQuotedFront, IsBracedFront, HasNoBracedFront, is_plain};
@@ -12,9 +13,9 @@ use rt_stamps::Fault;
 use std::alloc::Global;
 
 /// The words of a line: bare, quoted or braced, with spaces and tabs between them. `BadQuoting`
-/// where the line spells no words, `NoMemory` where they can't be stored.
+/// where the line spells no list of words (a blank one spells the empty list), `NoMemory` where they can't be stored.
 pub fn words(alloc: Global, line: &str) -> Result<Vec<String>, Fault>
-    ensures ok { IfOk result (λ words. Spells line.now (map (λ w. string_bytes w) words.items)) }
+    ensures ok { IfOk result (λ words. Spells line.now (as_words words.items)) }
     ensures quoting { result ≡ Err Fault.BadQuoting → IsBadlyQuoted line.now }
     ensures fault { IfErr result (λ fault. (fault ≡ Fault.NoMemory) ⊎ (fault ≡ Fault.BadQuoting)) }
 {
@@ -24,10 +25,10 @@ pub fn words(alloc: Global, line: &str) -> Result<Vec<String>, Fault>
     Ok(words)
 }
 
-/// The same, in memory that words of former lines had. `BadQuoting` where the line spells no words,
-/// `NoMemory` where they can't be stored.
+/// The same, in memory that words of former lines had. `BadQuoting` where the line spells no list of
+/// words, `NoMemory` where they can't be stored.
 pub fn words_in<'a>(alloc: Global, spare: &'a mut Spare, line: &str) -> Result<&'a [String], Fault>
-    ensures ok { IfOk result (λ words. Spells line.now (map (λ w. string_bytes w) words.now)) }
+    ensures ok { IfOk result (λ words. Spells line.now (as_words words.now)) }
     ensures quoting { result ≡ Err Fault.BadQuoting → IsBadlyQuoted line.now }
     ensures fault { IfErr result (λ fault. (fault ≡ Fault.NoMemory) ⊎ (fault ≡ Fault.BadQuoting)) }
 {
@@ -37,9 +38,9 @@ pub fn words_in<'a>(alloc: Global, spare: &'a mut Spare, line: &str) -> Result<&
 }
 
 /// The words of a list, as of tags: those of a line, but that newlines stand between them too.
-/// `BadQuoting` where the list spells no words, `NoMemory` where they can't be stored.
+/// `BadQuoting` where the text spells no list of words, `NoMemory` where they can't be stored.
 pub fn list_words(alloc: Global, list: &str) -> Result<Vec<String>, Fault>
-    ensures ok { IfOk result (λ words. SpellsList list.now (map (λ w. string_bytes w) words.items)) }
+    ensures ok { IfOk result (λ words. SpellsList list.now (as_words words.items)) }
     ensures quoting { result ≡ Err Fault.BadQuoting → IsBadlyQuotedList list.now }
     ensures fault { IfErr result (λ fault. (fault ≡ Fault.NoMemory) ⊎ (fault ≡ Fault.BadQuoting)) }
 {
@@ -89,7 +90,7 @@ fn words_by(
     separators: Separators,
     text: &str,
 ) -> Result<usize, Fault>
-    ensures ok { IfOk result (λ count. SpellsBy (separates separators) text.now (map (λ w. string_bytes w) (take count words.new.items))) }
+    ensures ok { IfOk result (λ count. SpellsBy (separates separators) text.now (as_words (take count words.new.items))) }
     ensures within { IfOk result (λ count. count ≤ length words.new.items) }
     ensures quoting { result ≡ Err Fault.BadQuoting → IsBadlyQuotedBy (separates separators) text.now }
     ensures fault { IfErr result (λ fault. (fault ≡ Fault.NoMemory) ⊎ (fault ≡ Fault.BadQuoting)) }

@@ -1,5 +1,6 @@
 // Many marks are taken away at once.
-ghost use Rattle.std.specs.Prelude.{◌≡◌, ◌<◌, ◌≤◌, ◌&&◌, Bool, filter, length, map, nat_lt, not, string_bytes, swap};
+ghost use Rattle.std.specs.Prelude.{◌≡◌, ◌<◌, ◌≤◌, ◌&&◌, Bool, filter, length, nat_lt, not, swap};
+ghost use Rattle.rt_stamps.specs.Words.{as_words};
 ghost use Rattle.rt_marks.specs.Marks.{Mark, is_named, without_all};
 ghost use Rattle.rt_marks.specs.Seen.{SlotsPart};
 
@@ -64,7 +65,7 @@ impl Table {
     pub fn remove_all(&mut self, names: &[String])
         requires { IsTable self.old }
         ensures table { IsTable self.new }
-        ensures marks { marks_of self.new ≡ without_all (map (λ w. string_bytes w) names.now) (marks_of self.old) }
+        ensures marks { marks_of self.new ≡ without_all (as_words names.now) (marks_of self.old) }
     {
         let mut kept = self.marks.len();
         for name in names {

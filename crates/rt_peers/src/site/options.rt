@@ -1,6 +1,7 @@
 // The options of a site's widgets.
-ghost use Rattle.std.specs.Prelude.{◌<◌, length, map, string_bytes};
+ghost use Rattle.std.specs.Prelude.{◌<◌, length};
 ghost use Rattle.rt_stamps.specs.Outcomes.{Answers};
+ghost use Rattle.rt_stamps.specs.Words.{as_words};
 ghost use Rattle.rt_peer_requests.specs.SettingWords.{asked_named_option, asked_settings};
 ghost use Rattle.rt_peers.specs.Options.{option_outcome, option_step, settings_outcome, settings_step};
 ghost use Rattle.rt_peers.specs.SiteStep.{by_widget, option_at, settings_at};
@@ -8,7 +9,7 @@ ghost use Rattle.rt_peers.specs.SiteStep.{by_widget, option_at, settings_at};
 use super::SiteState;
 use crate::paths::place_of;
 use crate::reply::Reply;
-use rt_peer_requests::{NamedOption, WidgetSettings, named_option};
+use rt_peer_requests::{NamedOption, WidgetSettings};
 use rt_stamps::Fault;
 
 impl SiteState {
@@ -37,7 +38,7 @@ impl SiteState {
     // The words behind `configure`, of a command of the widget at a place.
     pub(super) fn run_configure(&mut self, place: usize, words: &[String]) -> Result<Reply, Fault>
         requires { place < length self.old.paths }
-        ensures { Answers (by_widget place self.old (λ text. settings_outcome text (asked_settings (map (λ w. string_bytes w) words.now))))
+        ensures { Answers (by_widget place self.old (λ text. settings_outcome text (asked_settings (as_words words.now))))
             self.old result self.new }
     {
         let settings = WidgetSettings::of(words)?;
@@ -47,10 +48,10 @@ impl SiteState {
     // The words behind `cget`, of a command of the widget at a place.
     pub(super) fn run_cget(&mut self, place: usize, words: &[String]) -> Result<Reply, Fault>
         requires { place < length self.old.paths }
-        ensures { Answers (by_widget place self.old (λ text. option_outcome text (asked_named_option (map (λ w. string_bytes w) words.now))))
+        ensures { Answers (by_widget place self.old (λ text. option_outcome text (asked_named_option (as_words words.now))))
             self.old result self.new }
     {
-        let option = named_option(words)?;
+        let option = NamedOption::asked(words)?;
         self.tell(place, option)
     }
 

@@ -1,6 +1,7 @@
 // What is asked of the widgets of a site.
-ghost use Rattle.std.specs.Prelude.{◌≡◌, ◌∷◌, ◌++◌, ◌<◌, [], None, Ok, Err, IfOk, IfErr, OnErr, OnOk, length, map, string_bytes};
+ghost use Rattle.std.specs.Prelude.{◌≡◌, ◌∷◌, ◌++◌, ◌<◌, [], None, Ok, Err, IfOk, IfErr, OnErr, OnOk, length};
 ghost use Rattle.rt_stamps.specs.Outcomes.{Answers, Refuses};
+ghost use Rattle.rt_stamps.specs.Words.{as_words};
 ghost use Rattle.rt_peer_requests.specs.PeerWords.{asked_of_peers};
 ghost use Rattle.rt_peers.specs.Peers.{text_led};
 ghost use Rattle.rt_peers.specs.PeerStep.{created, destroyed, other_paths, path_check, peer_outcome, peer_step, text_with_peer};
@@ -85,7 +86,7 @@ impl SiteState {
         words: &[String],
     ) -> Result<Reply, Fault>
         requires { place < length self.old.paths }
-        ensures { Answers (peer_outcome path.now place self.old (asked_of_peers (map (λ w. string_bytes w) words.now))) self.old result self.new }
+        ensures { Answers (peer_outcome path.now place self.old (asked_of_peers (as_words words.now))) self.old result self.new }
     {
         let request = PeerRequest::of(words)?;
         self.peers(path, place, &request)

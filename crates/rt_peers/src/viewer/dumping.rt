@@ -1,6 +1,7 @@
 // What a site shows of its text.
-ghost use Rattle.std.specs.Prelude.{◌≡◌, ◌++◌, flat_map, map, string_bytes, IfOk, IsOkUnless, OnOk};
+ghost use Rattle.std.specs.Prelude.{◌≡◌, ◌++◌, flat_map, IfOk, IsOkUnless, OnOk};
 ghost use Rattle.rt_stamps.specs.Outcomes.{Answers};
+ghost use Rattle.rt_stamps.specs.Words.{as_words};
 ghost use Rattle.rt_queries.specs.Dumping.{dumped};
 ghost use Rattle.rt_peers.specs.ViewStep.{element_words, told_step};
 
@@ -15,7 +16,7 @@ use std::alloc::Global;
 
 // The words of an element behind others.
 fn push_element(alloc: Global, words: &mut Vec<String>, element: &Element) -> Result<(), Fault>
-    ensures ok { OnOk result (map (λ w. string_bytes w) words.new.items ≡ map (λ w. string_bytes w) words.old.items ++ element_words element.now) }
+    ensures ok { OnOk result (as_words words.new.items ≡ as_words words.old.items ++ element_words element.now) }
     ensures err { IsOkUnless result Fault.NoMemory }
 {
     words.push(String::from_str(alloc, element.key().word())?)?;

@@ -1,8 +1,9 @@
 // What a site says of its text: texts, positions, comparisons and distances.
-ghost use Rattle.std.specs.Prelude.{◌≡◌, map, string_bytes, IfOk, IfErr};
+ghost use Rattle.std.specs.Prelude.{◌≡◌, map, IfOk, IfErr};
 ghost use Rattle.std.specs.Fmt.{signed_decimal};
 ghost use Rattle.rt_stamps.specs.Outcomes.{Answers};
 ghost use Rattle.rt_stamps.specs.Places.{text_of_position};
+ghost use Rattle.rt_stamps.specs.Words.{as_words};
 ghost use Rattle.rt_requests.specs.Parts.{all_of};
 ghost use Rattle.rt_text.specs.Commands.{got_one, got, got_list, position_of_index, compared, counted};
 ghost use Rattle.rt_peers.specs.ViewStep.{get_step, one_word, text_of_bool, told_step};
@@ -46,7 +47,7 @@ impl Viewer {
 
     // The texts of more indices.
     fn get_list(&self, indices: &[String]) -> Result<Reply, Fault>
-        ensures { Answers (told_step (λ texts. texts) self.now (got_list self.now (map (λ w. string_bytes w) indices.now))) self.now result self.now }
+        ensures { Answers (told_step (λ texts. texts) self.now (got_list self.now (as_words indices.now))) self.now result self.now }
     {
         let words = self.view.get_list(indices)?;
         Ok(Reply { words })

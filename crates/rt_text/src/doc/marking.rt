@@ -1,5 +1,6 @@
 // The site's marks.
-ghost use Rattle.std.specs.Prelude.{◌≡◌, ◌⊎◌, ◌↔◌, false, is_some, if◌then◌else◌, ◌≤◌, Ok, Err, None, IfErr, OnOk, OnErr, length, map, string_bytes};
+ghost use Rattle.std.specs.Prelude.{◌≡◌, ◌⊎◌, ◌↔◌, false, is_some, if◌then◌else◌, ◌≤◌, Ok, Err, None, IfErr, OnOk, OnErr, length};
+ghost use Rattle.rt_stamps.specs.Words.{as_words};
 ghost use Rattle.rt_marks.specs.Marks.{IsName, named, marks_set, marks_with_gravity, without_all};
 ghost use Rattle.rt_store.specs.Cells.{text_of};
 ghost use Rattle.rt_text.specs.Widgets.{AreSiteMarks, is_own};
@@ -36,7 +37,7 @@ impl<S: TextStore> Doc<S> {
     /// Takes marks of the site away ("mark unset"). Names without a mark are passed over. It takes no
     /// memory.
     pub fn unset_marks(&mut self, names: &[String])
-        ensures { self.new ≡ record self.old { marks = without_all (map (λ w. string_bytes w) names.now) self.old.marks } }
+        ensures { self.new ≡ record self.old { marks = without_all (as_words names.now) self.old.marks } }
     {
         self.marks.unset_all(names);
     }

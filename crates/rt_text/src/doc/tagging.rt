@@ -1,8 +1,9 @@
 // The tags of a document: which are listed, which characters have them, and how they are put on and taken off.
-ghost use Rattle.std.specs.Prelude.{◌≡◌, ◌⊎◌, All, false, if◌then◌else◌, ◌≤◌, ◌<◌, ◌&&◌, Ok, Err, None, Some, IfOk, IfErr, IsOkUnless, OnOk, OnErr, length, filter, map, not, option_copied, option_map, slice_get, string_bytes};
+ghost use Rattle.std.specs.Prelude.{◌≡◌, ◌⊎◌, All, false, if◌then◌else◌, ◌≤◌, ◌<◌, ◌&&◌, Ok, Err, None, Some, IfOk, IfErr, IsOkUnless, OnOk, OnErr, length, filter, not, option_copied, option_map, slice_get};
 ghost use Rattle.std.specs.Str.{bytes_eq};
 ghost use Rattle.rt_marks.specs.Marks.{IsName};
 ghost use Rattle.rt_stamps.specs.declared.limits.TheConstants.{GREATEST_COUNT, MOST_SPANS};
+ghost use Rattle.rt_stamps.specs.Words.{as_words};
 ghost use Rattle.rt_store.specs.Cells.{AreDistinct, text_of, visible_of};
 ghost use Rattle.rt_edits.specs.Removals.{is_covered, AreInOrder};
 ghost use Rattle.rt_text.specs.Widgets.{is_tagged, is_tagged_in, tags_on};
@@ -37,8 +38,8 @@ fn keep_tags_on(
     names: &mut Vec<String>,
 )
     requires { IsState states.now cell.state }
-    ensures { map (λ w. string_bytes w) names.new.items
-        ≡ filter (λ name. is_tagged_in (selected_stamps selection.now) name (shown states.now cell)) (map (λ w. string_bytes w) names.old.items) }
+    ensures { as_words names.new.items
+        ≡ filter (λ name. is_tagged_in (selected_stamps selection.now) name (shown states.now cell)) (as_words names.old.items) }
 {
     names.retain(
         |name|
@@ -102,7 +103,7 @@ impl<S: TextStore> Doc<S> {
     pub(crate) fn tags_at(&self, widget: &Widget, place: usize) -> Result<Vec<String>, Fault>
         requires { place < length (shown_part self.now.cells widget.now.limits) }
         ensures ok { IfOk result (λ names. option_map (tags_on widget.now self.now.tags) (slice_get (shown_part self.now.cells widget.now.limits) place)
-            ≡ Some (map (λ w. string_bytes w) names.items)) }
+            ≡ Some (as_words names.items)) }
         ensures err { IsOkUnless result Fault.NoMemory }
     {
         let (store, states) = self.kept();
@@ -140,11 +141,11 @@ impl<S: TextStore> Doc<S> {
 
     // Takes tags off all characters, and lists them no longer.
     pub(crate) fn delete_tags(&mut self, names: &[String]) -> Result<(), Fault>
-        ensures ok { OnOk result (self.new ≡ logged self.old (deletion_drafts MOST_SPANS self.old (map (λ w. string_bytes w) names.now))
-            (without_tags self.old (map (λ w. string_bytes w) names.now))) }
+        ensures ok { OnOk result (self.new ≡ logged self.old (deletion_drafts MOST_SPANS self.old (as_words names.now))
+            (without_tags self.old (as_words names.now))) }
         ensures checked { OnOk result (clock_check self.new.count ≡ None) }
         ensures err { IfErr result (λ fault. (fault ≡ Fault.NoMemory)
-            ⊎ (clock_check (without_tags self.old (map (λ w. string_bytes w) names.now)).count ≡ Some fault)) }
+            ⊎ (clock_check (without_tags self.old (as_words names.now)).count ≡ Some fault)) }
         ensures unchanged { OnErr result (self.new ≡ self.old) }
         ensures text { text_of self.new.cells ≡ text_of self.old.cells }
     {

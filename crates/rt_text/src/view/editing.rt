@@ -1,6 +1,7 @@
 // Insertions and removals.
-ghost use Rattle.std.specs.Prelude.{◌≡◌, Ok, IfErr, OnOk, OnErr, map, string_bytes};
+ghost use Rattle.std.specs.Prelude.{◌≡◌, Ok, IfErr, OnOk, OnErr};
 ghost use Rattle.rt_stamps.specs.Outcomes.{Refuses};
+ghost use Rattle.rt_stamps.specs.Words.{as_words};
 ghost use Rattle.rt_text.specs.Commands.{inserted, deleted};
 
 use super::View;
@@ -44,8 +45,8 @@ impl<S: TextStore> View<S> {
     /// nothing changes. It takes one count for each 65,536 spans of removed stamps or a part of them,
     /// none where nothing is removed, and one for each tag of the last newline.
     pub fn delete(&mut self, indices: &[String]) -> Result<(), Fault>
-        ensures ok { OnOk result (deleted self.old (map (λ w. string_bytes w) indices.now) ≡ Ok self.new) }
-        ensures err { IfErr result (Refuses (deleted self.old (map (λ w. string_bytes w) indices.now))) }
+        ensures ok { OnOk result (deleted self.old (as_words indices.now) ≡ Ok self.new) }
+        ensures err { IfErr result (Refuses (deleted self.old (as_words indices.now))) }
         ensures unchanged { OnErr result (self.new ≡ self.old) }
     {
         let ranges = self.ranges(indices)?;

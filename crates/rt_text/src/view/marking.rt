@@ -1,5 +1,6 @@
 // The marks of a widget: the site's, and its own two.
-ghost use Rattle.std.specs.Prelude.{◌≡◌, ◌⊎◌, ◌↔◌, false, is_some, if◌then◌else◌, ◌≤◌, Ok, Err, None, IfErr, OnOk, OnErr, map, string_bytes};
+ghost use Rattle.std.specs.Prelude.{◌≡◌, ◌⊎◌, ◌↔◌, false, is_some, if◌then◌else◌, ◌≤◌, Ok, Err, None, IfErr, OnOk, OnErr};
+ghost use Rattle.rt_stamps.specs.Words.{as_words};
 ghost use Rattle.rt_marks.specs.Marks.{IsName, named, marks_set, marks_with_gravity, without_all};
 ghost use Rattle.rt_text.specs.Widgets.{in_text, is_own, length_shown, own_place, own_set, own_with_gravity, with_marks};
 
@@ -51,7 +52,7 @@ impl<S: TextStore> View<S> {
     /// Takes marks of the site away ("mark unset"). Names without a mark are passed over. It takes no
     /// memory.
     pub fn unset_marks(&mut self, names: &[String])
-        ensures { self.new ≡ with_marks self.old (without_all (map (λ w. string_bytes w) names.now) self.old.doc.marks) }
+        ensures { self.new ≡ with_marks self.old (without_all (as_words names.now) self.old.doc.marks) }
     {
         self.doc.unset_marks(names);
     }

@@ -3,6 +3,7 @@ ghost use Rattle.std.specs.Prelude.{◌≡◌, ◌⊎◌, ◌<◌, ◌≤◌, le
 ghost use Rattle.rt_index.specs.Index.{index_of};
 ghost use Rattle.rt_stamps.specs.Outcomes.{first_of, Refuses};
 ghost use Rattle.rt_stamps.specs.Places.{position_at};
+ghost use Rattle.rt_stamps.specs.Words.{as_words};
 ghost use Rattle.rt_text.specs.Index.{index_check, place_at_index};
 ghost use Rattle.rt_text.specs.Ranges.{ranges_of};
 ghost use Rattle.rt_store.specs.Cells.{text_of};
@@ -73,10 +74,10 @@ impl<S: TextStore> View<S> {
     /// character. `BadIndex`, `NoneTagged`, or want of memory.
     pub fn ranges(&self, indices: &[String]) -> Result<Vec<Range>, Fault>
         ensures ok { IfOk result (λ ranges. ranges.items
-            ≡ ranges_of (map (place_at_index (widget_of self.now)) (map (λ w. string_bytes w) indices.now))) }
-        ensures checked { IfOk result (λ ranges. first_of (map (index_check (widget_of self.now)) (map (λ w. string_bytes w) indices.now)) ≡ None) }
+            ≡ ranges_of (map (place_at_index (widget_of self.now)) (as_words indices.now))) }
+        ensures checked { IfOk result (λ ranges. first_of (map (index_check (widget_of self.now)) (as_words indices.now)) ≡ None) }
         ensures err { IfErr result (λ fault. (fault ≡ Fault.NoMemory)
-            ⊎ (first_of (map (index_check (widget_of self.now)) (map (λ w. string_bytes w) indices.now)) ≡ Some fault)) }
+            ⊎ (first_of (map (index_check (widget_of self.now)) (as_words indices.now)) ≡ Some fault)) }
     {
         ranges_at(self.alloc, &self.doc.ground(&self.widget), indices)
     }
@@ -108,8 +109,8 @@ impl<S: TextStore> View<S> {
     /// the texts that aren't empty, in the order given. A last index without another is one
     /// character. `BadIndex`, `NoneTagged`, or want of memory.
     pub fn get_list(&self, indices: &[String]) -> Result<Vec<String>, Fault>
-        ensures ok { IfOk result (λ texts. got_list self.now (map (λ w. string_bytes w) indices.now) ≡ Ok (map (λ w. string_bytes w) texts.items)) }
-        ensures err { IfErr result (Refuses (got_list self.now (map (λ w. string_bytes w) indices.now))) }
+        ensures ok { IfOk result (λ texts. got_list self.now (as_words indices.now) ≡ Ok (as_words texts.items)) }
+        ensures err { IfErr result (Refuses (got_list self.now (as_words indices.now))) }
     {
         let ranges = self.ranges(indices)?;
         let (store, stretch) = self.doc.between(self.widget.limits());

@@ -1,5 +1,6 @@
 // The tags of the text that a widget shows: which characters have them, and how they are put on and taken off.
-ghost use Rattle.std.specs.Prelude.{◌≡◌, ◌⊎◌, if◌then◌else◌, ◌<◌, ◌&&◌, Ok, Err, None, Some, IfOk, IfErr, IsOkUnless, OnOk, OnErr, length, map, not, option_copied, option_map, slice_get, string_bytes};
+ghost use Rattle.std.specs.Prelude.{◌≡◌, ◌⊎◌, if◌then◌else◌, ◌<◌, ◌&&◌, Ok, Err, None, Some, IfOk, IfErr, IsOkUnless, OnOk, OnErr, length, not, option_copied, option_map, slice_get};
+ghost use Rattle.rt_stamps.specs.Words.{as_words};
 ghost use Rattle.rt_store.specs.Tagged.{next_place, previous_place};
 ghost use Rattle.rt_tags.specs.Tags.{IsName, is_listed, is_place, lowered, raised};
 ghost use Rattle.rt_text.specs.Commands.{clock_check, with_tag_in, with_tags_deleted};
@@ -41,7 +42,7 @@ impl<S: TextStore> View<S> {
     pub fn tags_at(&self, place: usize) -> Result<Vec<String>, Fault>
         requires { place < length (shown_by self.now) }
         ensures ok { IfOk result (λ names. option_map (tags_on self.now.own self.now.doc.tags) (slice_get (shown_by self.now) place)
-            ≡ Some (map (λ w. string_bytes w) names.items)) }
+            ≡ Some (as_words names.items)) }
         ensures err { IsOkUnless result Fault.NoMemory }
     {
         self.doc.tags_at(&self.widget, place)
@@ -71,10 +72,10 @@ impl<S: TextStore> View<S> {
     /// is passed over. `ClockSpent`, or want of memory, and then nothing changes. It takes one count
     /// for each 65,536 spans of stamps of each tag or a part of them.
     pub fn delete_tags(&mut self, names: &[String]) -> Result<(), Fault>
-        ensures ok { OnOk result ((self.new ≡ with_tags_deleted self.old (map (λ w. string_bytes w) names.now))
+        ensures ok { OnOk result ((self.new ≡ with_tags_deleted self.old (as_words names.now))
             × (clock_check self.new.doc.count ≡ None)) }
         ensures err { IfErr result (λ fault. (fault ≡ Fault.NoMemory)
-            ⊎ (clock_check (with_tags_deleted self.old (map (λ w. string_bytes w) names.now)).doc.count ≡ Some fault)) }
+            ⊎ (clock_check (with_tags_deleted self.old (as_words names.now)).doc.count ≡ Some fault)) }
         ensures unchanged { OnErr result (self.new ≡ self.old) }
     {
         self.doc.delete_tags(names)

@@ -1,5 +1,5 @@
-use Rattle.std.proofs.Common.{◌≡◌, ◌∙◌, List, map, string_bytes, subst, sym}
-use Rattle.rt_stamps.specs.Words.{Word}
+use Rattle.std.proofs.Common.{◌≡◌, ◌∙◌, List, map, subst, sym}
+use Rattle.rt_stamps.specs.Words.{Word, as_words}
 use Rattle.rt_revert.specs.Reverting.{as_removed}
 use Rattle.rt_editing.specs.Recordings.{HasStayed, came_back, made}
 use Rattle.rt_text.specs.Index.{place_at_index}
@@ -19,7 +19,7 @@ note-requires-clause-stays g c = λ lost on e.
     let view = c.args.view.now in
     let old = c.args.recorder.now in
     let mid = c.prepare_deletion.new.recorder in
-    let words = map (λ w. string_bytes w) c.args.indices.now in
+    let words = as_words c.args.indices.now in
     let ranges = ranges_of (map (place_at_index (widget_of view)) words) in
     let keeps = c.in_ok-prepare_deletion.ensures.kept in
     let meant = c.in_ok-prepare_deletion.ensures.pending (sym keeps.undo ∙ on) in
@@ -34,7 +34,7 @@ returns-clause-settled g c =
     let view = c.args.view.now in
     let new = c.delete.new.self in
     let old = c.args.recorder.now in
-    let words = map (λ w. string_bytes w) c.args.indices.now in
+    let words = as_words c.args.indices.now in
     let ranges = ranges_of (map (place_at_index (widget_of view)) words) in
     let keeps = c.in_ok-prepare_deletion.ensures.kept in
     edit_settled Delete (lost_between view words) view new old c.prepare_deletion.new.recorder c.note.new.recorder before.cells before.visible before.count before.site.number

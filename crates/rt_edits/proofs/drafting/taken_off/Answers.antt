@@ -4,7 +4,7 @@ use Rattle.std.proofs.lemmas.Bool.{and_parts}
 use Rattle.std.proofs.lemmas.List.{drop_all, drop_more}
 use Rattle.std.proofs.lemmas.Result.{err_from_is_err_and}
 use Rattle.rt_stamps.specs.declared.limits.TheConstants.{MOST_SPANS}
-use Rattle.rt_stamps.specs.Words.{Word}
+use Rattle.rt_stamps.specs.Words.{Word, as_words}
 use Rattle.rt_ops.specs.Edits.{body_of}
 use Rattle.rt_ops.specs.Operations.{Body}
 use Rattle.rt_tags.specs.Tags.{is_listed, sel, with_name}
@@ -18,12 +18,12 @@ use Rattle.rt_edits.proofs.drafting.taken_off.Goals.{then-is_new+in_ok-ensure+in
 
 -- the next name, and the others
 next_name : (names : List (String Global)) (i : ℕ) (name : String Global) → i < length names → name ≡ get_or names i name
-    → map (λ w. string_bytes w) (drop i names) ≡ string_bytes name ∷ map (λ w. string_bytes w) (drop (i + 1) names)
-next_name names i name lt e = ap (map (λ w. string_bytes w)) (drop_more names i name lt) ∙ ap (λ n. string_bytes n ∷ map (λ w. string_bytes w) (drop (i + 1) names)) (sym e)
+    → as_words (drop i names) ≡ string_bytes name ∷ as_words (drop (i + 1) names)
+next_name names i name lt e = ap as_words (drop_more names i name lt) ∙ ap (λ n. string_bytes n ∷ as_words (drop (i + 1) names)) (sym e)
 
 pub loop-name-init : goal.loop-name-init
 loop-name-init c = λ flat written listed shows.
-    let names = map (λ w. string_bytes w) c.args.names.now in
+    let names = as_words c.args.names.now in
     subst (λ seen. Stands MOST_SPANS flat seen (map body_of c.new-drafts.result.items) names names) (sym (λ i. (c.in_ok-seen.ensures.ok i).names))
     (subst (λ l. Stands MOST_SPANS flat (sel ∷ []) (map body_of l) names names) (sym c.new-drafts.ensures.items)
     (stands_first MOST_SPANS flat c.args.tags.now.names names written listed))
@@ -47,8 +47,8 @@ loop-name-preserved c =
     let seen = c.loop-name.seen.names in
     let done : List Body = map body_of c.loop-name.drafts.items in
     let name : Word = string_bytes c.name-item.result in
-    let left : List Word = map (λ w. string_bytes w) (drop (c.loop-name.name-index + 1) c.args.names.now) in
-    let names : List Word = map (λ w. string_bytes w) c.args.names.now in
+    let left : List Word = as_words (drop (c.loop-name.name-index + 1) c.args.names.now) in
+    let names : List Word = as_words c.args.names.now in
     let next = next_name c.args.names.now c.loop-name.name-index c.name-item.result c.loop-name-test.true c.name-item.is in
     let told = ap (λ n. is_listed n tags && not (is_listed n seen)) (sym c.deref.ensures) ∙ sym c.is_new.ensures in
     elim c.if-is_new.branch [
@@ -75,4 +75,4 @@ pub returns-clause-ok : goal.returns-clause-ok
 returns-clause-ok c = λ flat written listed shows.
     let done : List Body = map body_of c.loop-name.drafts.items in
     let s = c.loop-name.invariant flat written listed shows in
-    sym (append-nil done) ∙ ap (λ l. done ++ deletion_drafts MOST_SPANS s.doc (map (λ w. string_bytes w) l)) (sym (drop_all c.loop-name.name-index c.args.names.now (omega arith))) ∙ s.drafts
+    sym (append-nil done) ∙ ap (λ l. done ++ deletion_drafts MOST_SPANS s.doc (as_words l)) (sym (drop_all c.loop-name.name-index c.args.names.now (omega arith))) ∙ s.drafts

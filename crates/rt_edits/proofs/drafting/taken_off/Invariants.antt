@@ -1,5 +1,6 @@
-use Rattle.std.proofs.Common.{◌≡◌, drop, map, string_bytes}
+use Rattle.std.proofs.Common.{◌≡◌, drop, map}
 use Rattle.rt_stamps.specs.declared.limits.TheConstants.{MOST_SPANS}
+use Rattle.rt_stamps.specs.Words.{as_words}
 use Rattle.rt_ops.specs.Edits.{body_of}
 use Rattle.rt_store.specs.Cells.{visible_of}
 use Rattle.rt_store.specs.Shown.{shown}
@@ -12,4 +13,4 @@ use Rattle.rt_edits.proofs.drafting.taken_off.Given as goal
 abbrev pub invariant-loop-name : goal.invariant-loop-name
 invariant-loop-name l =
     (flat : Flat) → AreWritten flat.count flat.cells → AreListed l.tags.names flat.cells → visible_of flat.cells ≡ map (shown l.states) l.cells
-    → Stands MOST_SPANS flat l.seen.names (map body_of l.drafts.items) (map (λ w. string_bytes w) (drop l.name-index l.names)) (map (λ w. string_bytes w) l.names)
+    → Stands MOST_SPANS flat l.seen.names (map body_of l.drafts.items) (as_words (drop l.name-index l.names)) (as_words l.names)

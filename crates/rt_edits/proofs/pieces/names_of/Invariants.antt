@@ -1,6 +1,7 @@
-use Rattle.std.proofs.Common.{◌≡◌, map, take, string_bytes}
+use Rattle.std.proofs.Common.{◌≡◌, map, take}
+use Rattle.rt_stamps.specs.Words.{as_words}
 use Rattle.rt_tags.specs.States.{name_at}
 use Rattle.rt_edits.proofs.pieces.names_of.Given as goal
 
 abbrev pub invariant-loop-tag : goal.invariant-loop-tag
-invariant-loop-tag l = map (λ w. string_bytes w) l.names.items ≡ map (name_at l.states) (take l.tag-index l.tags)
+invariant-loop-tag l = as_words l.names.items ≡ map (name_at l.states) (take l.tag-index l.tags)

@@ -1,6 +1,7 @@
-use Rattle.std.proofs.Common.{◌≡◌, ℕ, ◌∙◌, ◌≤◌, ◌+◌, ◌++◌, ap, arith, length, map}
+use Rattle.std.proofs.Common.{◌≡◌, ℕ, ◌∙◌, ◌≤◌, ◌+◌, ◌++◌, ap, arith, length}
 use Rattle.std.specs.Prelude.{string_bytes}
 use Rattle.rt_stamps.specs.declared.limits.TheConstants.{GREATEST_COUNT}
+use Rattle.rt_stamps.specs.Words.{as_words}
 use Rattle.rt_store.specs.Cells.{stamps_of}
 use Rattle.rt_edits.specs.Insertions.{counts_for, further_tags, tagged_cells}
 use Rattle.rt_edits.proofs.InsertTexts.{counts_part, further_named, lists_joined, stamps_more}
@@ -9,7 +10,7 @@ use Rattle.rt_edits.proofs.stamps.push_stamps.Goals as goal
 
 pub push_run-requires : goal.push_run-requires
 push_run-requires c =
-    let names = map (λ w. string_bytes w) c.args.names.now in
+    let names = as_words c.args.names.now in
     let rest = c.loop-rest.rest.now in
     let part = c.next_part.result.0.now in
     let more = c.next_part.result.1.now in
@@ -29,7 +30,7 @@ loop-rest-smaller c =
 
 pub loop-rest-preserved : goal.loop-rest-preserved
 loop-rest-preserved c =
-    let names = map (λ w. string_bytes w) c.args.names.now in
+    let names = as_words c.args.names.now in
     let site = c.args.site.number in
     let rest = c.loop-rest.rest.now in
     let part = c.next_part.result.0.now in

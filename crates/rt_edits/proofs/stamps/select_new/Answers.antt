@@ -1,5 +1,5 @@
-use Rattle.std.proofs.Common.{◌∙◌, ap, map, sym}
-use Rattle.std.specs.Prelude.{string_bytes}
+use Rattle.std.proofs.Common.{◌∙◌, ap, sym}
+use Rattle.rt_stamps.specs.Words.{as_words}
 use Rattle.rt_store.specs.Cells.{stamps_of}
 use Rattle.rt_edits.specs.Insertions.{selected_if, tagged_cells}
 use Rattle.rt_edits.specs.Selections.{with_stamps}
@@ -9,6 +9,6 @@ use Rattle.rt_edits.proofs.stamps.select_new.Goals as goal
 pub returns-in_ok-push_stamps-clause-selected : goal.returns-in_ok-push_stamps-clause-selected
 returns-in_ok-push_stamps-clause-selected c = λ selection.
     let before = c.args.selected.now.items in
-    let new = stamps_of (tagged_cells c.args.site.number c.args.count (map (λ w. string_bytes w) c.args.names.now) c.args.text.now) in
+    let new = stamps_of (tagged_cells c.args.site.number c.args.count (as_words c.args.names.now) c.args.text.now) in
     ap (λ l. with_stamps l selection) c.in_ok-push_stamps.ensures.ok ∙ with_append before new selection
     ∙ sym (ap (λ b. selected_if b new (with_stamps before selection)) c.if-asked.true)

@@ -6,7 +6,7 @@ use Rattle.rt_index.specs.declared.parts.Tag.{Tag}
 use Rattle.rt_index.specs.declared.parts.Modifier.{Modifier}
 use Rattle.rt_index.specs.declared.parts.Base.TheVariants.{Named}
 use Rattle.rt_index.specs.Expression.{kept_modifier, longest_named, named_after, is_possible, IsParsed}
-use Rattle.rt_index.specs.Index.{IsHopeless, IsHopeful}
+use Rattle.rt_index.specs.Index.{IsNeverIndex, MayBeIndex}
 use Rattle.rt_index.specs.Reading.{token_length, fixed_of, modifiers_of}
 use Rattle.rt_index.proofs.Modifiers.{map_some}
 use Rattle.rt_index.proofs.Hope.{parsed_named, hopeful_named, hopeless_rest, hopeless_base}
@@ -48,19 +48,19 @@ parsed word front rest token end tag items s e =
     subst Q (sym s.cut) (subst P (sym (end_of word front rest token end tag s)) done)
 
 hopeful : (word front rest : List ℕ) (token end : ℕ) (tag : Option Tag) (items : List Modifier) (b : Bool) → Steps word front rest token end tag
-    → option_map (map kept_modifier) (modifiers_of rest) ≡ Some items → b ≡ is_possible front (end == token) tag → b ≡ true → IsHopeful word
+    → option_map (map kept_modifier) (modifiers_of rest) ≡ Some items → b ≡ is_possible front (end == token) tag → b ≡ true → MayBeIndex word
 hopeful word front rest token end tag items b s e p t =
     let ms = map_some (map kept_modifier) (modifiers_of rest) items e in
     hopeful_named word tag ms.0 (named_of word front rest token end tag s) s.found (rest_of word front rest token end tag s ∙ ms.1)
     (sym (p ∙ possible_of word front rest token end tag s) ∙ t)
 
 hopeless : (word front rest : List ℕ) (token end : ℕ) (tag : Option Tag) (b : Bool) → Steps word front rest token end tag
-    → b ≡ is_possible front (end == token) tag → b ≡ false → IsHopeless word
+    → b ≡ is_possible front (end == token) tag → b ≡ false → IsNeverIndex word
 hopeless word front rest token end tag b s p f =
     hopeless_base word tag (named_of word front rest token end tag s) s.found (sym (p ∙ possible_of word front rest token end tag s) ∙ f)
 
 refused : (word front rest : List ℕ) (token end : ℕ) (tag : Option Tag) (fault : Fault) → Steps word front rest token end tag
-    → (fault ≡ NoMemory) ⊎ ((fault ≡ BadIndex) × (modifiers_of rest ≡ None)) → (fault ≡ NoMemory) ⊎ ((fault ≡ BadIndex) × IsHopeless word)
+    → (fault ≡ NoMemory) ⊎ ((fault ≡ BadIndex) × (modifiers_of rest ≡ None)) → (fault ≡ NoMemory) ⊎ ((fault ≡ BadIndex) × IsNeverIndex word)
 refused word front rest token end tag fault s (inl e) = inl e
 refused word front rest token end tag fault s (inr h) =
     inr (h.0, hopeless_rest word tag (named_of word front rest token end tag s) s.found (rest_of word front rest token end tag s ∙ h.1))

@@ -1,5 +1,6 @@
-use Rattle.std.proofs.Common.{inr, refl, map, string_bytes, Global, ◌∙◌, ap, ◌++◌}
+use Rattle.std.proofs.Common.{inr, refl, ◌∙◌, ap, ◌++◌}
 use Rattle.std.proofs.lemmas.Result.{err_from_is_err_and}
+use Rattle.rt_stamps.specs.Words.{as_words}
 use Rattle.rt_ops.specs.Operations.{Insert}
 use Rattle.rt_ops.specs.File.{stamp_bytes, tags_bytes}
 use Rattle.rt_ops.proofs.Parts.{refused_as, decided, no_insert, no_tags_of, no_text_of}
@@ -19,13 +20,13 @@ returns-in_err-text c =
     let p = err_from_is_err_and c.from_residual-in_err-text.result c.from_residual-in_err-text.ensures.1 in
     let after = c.in-Some.ensures in
     let tags = c.in_ok-tags.ensures in
-    rw (p.1, p.2) (refused_as c.in_err-text.field-0.0 (no_text_of c.args.bytes.now c.in-Some.found.1.now c.in_ok-tags.rest.now c.in-Some.found.0 (map (string_bytes {Z = Global}) c.in_ok-tags.tags.items) after.fits after.bytes tags.1) c.in_err-text.ensures)
+    rw (p.1, p.2) (refused_as c.in_err-text.field-0.0 (no_text_of c.args.bytes.now c.in-Some.found.1.now c.in_ok-tags.rest.now c.in-Some.found.0 (as_words c.in_ok-tags.tags.items) after.fits after.bytes tags.1) c.in_err-text.ensures)
 
 pub returns : goal.returns
 returns c =
     let after = c.in-Some.ensures in
     let tags = c.in_ok-tags.ensures in
     let text = c.in_ok-text.ensures in
-    let names = map (string_bytes {Z = Global}) c.in_ok-tags.tags.items in
+    let names = as_words c.in_ok-tags.tags.items in
     rw c.insert.ensures (decided 1 c.args.stamp c.args.prev (Insert c.in-Some.found.0 names c.in_ok-text.text.items) c.args.bytes.now refl after.fits (after.fits, tags.0)
     (after.bytes ∙ ap (λ v. stamp_bytes c.in-Some.found.0 ++ v) (tags.1 ∙ ap (λ v. tags_bytes names ++ v) text.1)))

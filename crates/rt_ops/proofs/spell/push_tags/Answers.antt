@@ -1,8 +1,9 @@
-use Rattle.std.proofs.Common.{refl, ◌∙◌, ◌++◌, ◌∷◌, ap, arith, length, map, string_bytes, sym, Global}
+use Rattle.std.proofs.Common.{refl, ◌∙◌, ◌++◌, ◌∷◌, ap, arith, length, string_bytes, sym, Global}
 use Rattle.std.proofs.lemmas.Result.{err_from_is_err_and}
 use Rattle.std.proofs.lemmas.Grind.{common_steps}
 use Rattle.std.proofs.lemmas.List.{length-map, take_all}
 use Rattle.std.specs.List.{flat_map}
+use Rattle.rt_stamps.specs.Words.{as_words}
 use Rattle.rt_ops.specs.File.{name_bytes, tags_bytes}
 use Rattle.rt_ops.proofs.spell.push_tags.Goals as goal
 
@@ -25,8 +26,8 @@ returns-clause-ok c =
     let out = c.args.out.now.items in
     let tags = c.args.tags.now in
     c.loop-tag.invariant
-    ∙ ap (λ ts. out ++ length tags ∷ flat_map name_bytes (map string_bytes ts)) (take_all c.loop-tag.tag-index tags c.loop-tag-test.false)
-    ∙ ap (λ n. out ++ n ∷ flat_map name_bytes (map string_bytes tags)) (sym (length-map tags (string_bytes {Z = Global})))
+    ∙ ap (λ ts. out ++ length tags ∷ flat_map name_bytes (as_words ts)) (take_all c.loop-tag.tag-index tags c.loop-tag-test.false)
+    ∙ ap (λ n. out ++ n ∷ flat_map name_bytes (as_words tags)) (sym (length-map tags (string_bytes {Z = Global})))
 
 pub returns-clause-fault : goal.returns-clause-fault
 returns-clause-fault c = tt

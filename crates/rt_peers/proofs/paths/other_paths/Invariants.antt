@@ -1,6 +1,7 @@
-use Rattle.std.proofs.Common.{◌≡◌, ◌++◌, drop, map, string_bytes}
+use Rattle.std.proofs.Common.{◌≡◌, ◌++◌, drop}
+use Rattle.rt_stamps.specs.Words.{as_words}
 use Rattle.rt_peers.specs.PeerStep.{other_paths}
 use Rattle.rt_peers.proofs.paths.other_paths.Given as goal
 
 abbrev pub invariant-loop-other : goal.invariant-loop-other
-invariant-loop-other l = map (λ w. string_bytes w) l.others.items ++ other_paths l.path (map (λ w. string_bytes w) (drop l.other-index l.paths)) ≡ other_paths l.path (map (λ w. string_bytes w) l.paths)
+invariant-loop-other l = as_words l.others.items ++ other_paths l.path (as_words (drop l.other-index l.paths)) ≡ other_paths l.path (as_words l.paths)

@@ -1,9 +1,8 @@
 use Rattle.std.proofs.Common.{◌≡◌, ◌∙◌, ◌<◌, ℕ, List, ap, arith, length, map, refl, subst, sym}
-use Rattle.std.specs.Prelude.{string_bytes}
 use Rattle.std.specs.List.{AllByRecursion}
 use Rattle.std.proofs.lemmas.Result.{err_from_is_err_and}
 use Rattle.rt_stamps.specs.declared.limits.TheConstants.{GREATEST_COUNT}
-use Rattle.rt_stamps.specs.Words.{Word}
+use Rattle.rt_stamps.specs.Words.{Word, as_words}
 use Rattle.rt_ops.specs.Edits.{body_of}
 use Rattle.rt_store.specs.declared.cell.Cell.{Cell}
 use Rattle.rt_store.specs.Shown.{shown}
@@ -223,7 +222,7 @@ returns-clause-plan g c flat of =
       actions = ended_group kept number late done part (reversion flat (named_group old group)) c.in_ok-reversal.reversal.actions.items c.in_ok-revert_all.ensures.going so_far c.in_ok-reversal.ensures.actions;
       returns = c.in_ok-reversal.ensures.returns ∙ sym so_far.returns;
       marks = ap (λ l. marks_after l flat.marks) c.in_ok-reversal.ensures.changes ∙ sym so_far.marks;
-      tags = ap (λ l. all_listed (map (λ w. string_bytes w) l) flat.tags) c.in_ok-reversal.ensures.names ∙ sym so_far.tags;
+      tags = ap (λ l. all_listed (as_words l) flat.tags) c.in_ok-reversal.ensures.names ∙ sym so_far.tags;
     }
 
 pub returns-clause-fits : goal.returns-clause-fits

@@ -4,6 +4,7 @@ use Rattle.std.proofs.lemmas.List.{map-append}
 use Rattle.rt_stamps.specs.declared.limits.TheConstants.{MOST_CHARACTERS}
 use Rattle.rt_stamps.specs.declared.stamp.Stamp.{Stamp}
 use Rattle.rt_stamps.specs.Stamps.{is_same}
+use Rattle.rt_stamps.specs.Words.{as_words}
 use Rattle.rt_ops.specs.Edits.{body_of}
 use Rattle.rt_store.specs.Cells.{after_element}
 use Rattle.rt_rga.proofs.RemovedPlaces.{fewer}
@@ -77,8 +78,8 @@ returns-clause-copy g c =
     let after = c.come_back.new.self in
     let site = c.number.result in
     let place = c.in_ok-place.place in
-    let words = map (λ w. string_bytes w) c.in_ok-names.names.items in
-    let given : map (λ w. string_bytes w) c.deref.result.now ≡ words = ap (map (λ w. string_bytes w)) c.deref.ensures.value in
+    let words = as_words c.in_ok-names.names.items in
+    let given : as_words c.deref.result.now ≡ words = ap as_words c.deref.ensures.value in
     let back = c.in_ok-come_back.ensures in
     let wrote = c.in_ok-write.ensures in
     let came : Came c.args.site.number table old new before after cell place words =
@@ -96,7 +97,7 @@ returns-clause-copy g c =
       moved = λ s. back.moved s ∙ ap (λ m. is_same s cell.stamp || is_moved m s) wrote.renames;
       returns = back.returns ∙ ap (λ v. v.items ++ record { former = cell.stamp; newer = (new_of site before cell).stamp } ∷ []) wrote.returns;
       changes = back.changes ∙ (λ i. (wrote.changes i).items ++ Inserted (place + offset_behind (wrote.offsets i) cell.stamp) ∷ []);
-      names = ap (map (λ w. string_bytes w)) (back.names ∙ ap (λ v. v.items ++ c.in_ok-names.names.items) wrote.names)
+      names = ap as_words (back.names ∙ ap (λ v. v.items ++ c.in_ok-names.names.items) wrote.names)
           ∙ map-append (λ w. string_bytes w) before.names.items c.in_ok-names.names.items;
       actions = back.actions ∙ wrote.actions;
       offsets = λ s. back.offsets s ∙ ap (λ m. cond (is_same s (new_of site before cell).stamp) (offset_behind m cell.stamp) (offset_of m s)) wrote.offsets;
@@ -122,8 +123,8 @@ returns-clause-going g c =
     let after = c.come_back.new.self in
     let site = c.number.result in
     let place = c.in_ok-place.place in
-    let words = map (λ w. string_bytes w) c.in_ok-names.names.items in
-    let given : map (λ w. string_bytes w) c.deref.result.now ≡ words = ap (map (λ w. string_bytes w)) c.deref.ensures.value in
+    let words = as_words c.in_ok-names.names.items in
+    let given : as_words c.deref.result.now ≡ words = ap as_words c.deref.ensures.value in
     let back = c.in_ok-come_back.ensures in
     let wrote = c.in_ok-write.ensures in
     let came : Came c.args.site.number table old new before after cell place words =
@@ -141,7 +142,7 @@ returns-clause-going g c =
       moved = λ s. back.moved s ∙ ap (λ m. is_same s cell.stamp || is_moved m s) wrote.renames;
       returns = back.returns ∙ ap (λ v. v.items ++ record { former = cell.stamp; newer = (new_of site before cell).stamp } ∷ []) wrote.returns;
       changes = back.changes ∙ (λ i. (wrote.changes i).items ++ Inserted (place + offset_behind (wrote.offsets i) cell.stamp) ∷ []);
-      names = ap (map (λ w. string_bytes w)) (back.names ∙ ap (λ v. v.items ++ c.in_ok-names.names.items) wrote.names)
+      names = ap as_words (back.names ∙ ap (λ v. v.items ++ c.in_ok-names.names.items) wrote.names)
           ∙ map-append (λ w. string_bytes w) before.names.items c.in_ok-names.names.items;
       actions = back.actions ∙ wrote.actions;
       offsets = λ s. back.offsets s ∙ ap (λ m. cond (is_same s (new_of site before cell).stamp) (offset_behind m cell.stamp) (offset_of m s)) wrote.offsets;
@@ -167,8 +168,8 @@ returns-clause-so_far g c =
     let after = c.come_back.new.self in
     let site = c.number.result in
     let place = c.in_ok-place.place in
-    let words = map (λ w. string_bytes w) c.in_ok-names.names.items in
-    let given : map (λ w. string_bytes w) c.deref.result.now ≡ words = ap (map (λ w. string_bytes w)) c.deref.ensures.value in
+    let words = as_words c.in_ok-names.names.items in
+    let given : as_words c.deref.result.now ≡ words = ap as_words c.deref.ensures.value in
     let back = c.in_ok-come_back.ensures in
     let wrote = c.in_ok-write.ensures in
     let came : Came c.args.site.number table old new before after cell place words =
@@ -186,7 +187,7 @@ returns-clause-so_far g c =
       moved = λ s. back.moved s ∙ ap (λ m. is_same s cell.stamp || is_moved m s) wrote.renames;
       returns = back.returns ∙ ap (λ v. v.items ++ record { former = cell.stamp; newer = (new_of site before cell).stamp } ∷ []) wrote.returns;
       changes = back.changes ∙ (λ i. (wrote.changes i).items ++ Inserted (place + offset_behind (wrote.offsets i) cell.stamp) ∷ []);
-      names = ap (map (λ w. string_bytes w)) (back.names ∙ ap (λ v. v.items ++ c.in_ok-names.names.items) wrote.names)
+      names = ap as_words (back.names ∙ ap (λ v. v.items ++ c.in_ok-names.names.items) wrote.names)
           ∙ map-append (λ w. string_bytes w) before.names.items c.in_ok-names.names.items;
       actions = back.actions ∙ wrote.actions;
       offsets = λ s. back.offsets s ∙ ap (λ m. cond (is_same s (new_of site before cell).stamp) (offset_behind m cell.stamp) (offset_of m s)) wrote.offsets;

@@ -5,6 +5,7 @@ use Rattle.rt_tags.proofs.Listing.{keeps_both}
 use Rattle.rt_rga.proofs.PlacesAt.{names_more, tags_more}
 use Rattle.std.proofs.lemmas.Result.{err_from_is_err_and}
 use Rattle.std.proofs.lemmas.List.{take_all}
+use Rattle.rt_stamps.specs.Words.{as_words}
 use Rattle.rt_rga.proofs.describe.numbers.Goals as goal
 
 pub loop-name-preserved : goal.loop-name-preserved
@@ -22,7 +23,7 @@ loop-name-preserved c =
 
 pub returns : goal.returns
 returns c = record {
-  names = c.loop-name.invariant.names ∙ ap (map (λ name. string_bytes name)) (take_all c.loop-name.name-index c.args.names.now c.loop-name-test.false);
+  names = c.loop-name.invariant.names ∙ ap as_words (take_all c.loop-name.name-index c.args.names.now c.loop-name-test.false);
   given = c.loop-name.invariant.given;
   ids = c.loop-name.invariant.ids;
   fault = tt;

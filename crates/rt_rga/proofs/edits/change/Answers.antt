@@ -3,6 +3,7 @@ use Rattle.std.specs.Prelude.{string_bytes}
 use Rattle.std.proofs.lemmas.Result.{err_from_is_err_and}
 use Rattle.rt_stamps.specs.declared.stamp.TheConstants.{FINAL, ROOT}
 use Rattle.rt_stamps.specs.declared.stamp.Stamp.{Stamp}
+use Rattle.rt_stamps.specs.Words.{as_words}
 use Rattle.rt_ops.specs.Edits.{body_of}
 use Rattle.rt_ops.specs.Operations.{Delete, Insert, Tag}
 use Rattle.rt_oplog.specs.Logs.{with_operation}
@@ -20,14 +21,14 @@ use Rattle.rt_rga.proofs.edits.change.Goals as goal
 
 pub insert_cells-requires-clause-placed : goal.insert_cells-requires-clause-placed
 insert_cells-requires-clause-placed g c =
-    let body : c.args.op.now.body ≡ Insert c.in-Insert.after (map string_bytes c.in-Insert.tags.items) c.in-Insert.text = sym c.edit.ensures.body ∙ ap body_of c.in-Insert.is in
+    let body : c.args.op.now.body ≡ Insert c.in-Insert.after (as_words c.in-Insert.tags.items) c.in-Insert.text = sym c.edit.ensures.body ∙ ap body_of c.in-Insert.is in
     subst (λ (s : Stamp). IsPlaced (g.S.TextStore.list c.args.store.now) c.in-Insert.after s) (sym c.stamp.ensures)
-    (replica_placed c.args.log.now.operations c.args.states.now (g.S.TextStore.list c.args.store.now) c.args.op.now c.in-Insert.after (map string_bytes c.in-Insert.tags.items) c.in-Insert.text c.requires.replica body c.requires.continues)
+    (replica_placed c.args.log.now.operations c.args.states.now (g.S.TextStore.list c.args.store.now) c.args.op.now c.in-Insert.after (as_words c.in-Insert.tags.items) c.in-Insert.text c.requires.replica body c.requires.continues)
 
 pub insert_cells-requires-clause-room : goal.insert_cells-requires-clause-room
 insert_cells-requires-clause-room g c =
-    let body : c.args.op.now.body ≡ Insert c.in-Insert.after (map string_bytes c.in-Insert.tags.items) c.in-Insert.text = sym c.edit.ensures.body ∙ ap body_of c.in-Insert.is in
-    omega (arith, c.requires.room, length_inserted c.args.op.now c.in-Insert.after (map string_bytes c.in-Insert.tags.items) c.in-Insert.text body, ap length c.characters.ensures)
+    let body : c.args.op.now.body ≡ Insert c.in-Insert.after (as_words c.in-Insert.tags.items) c.in-Insert.text = sym c.edit.ensures.body ∙ ap body_of c.in-Insert.is in
+    omega (arith, c.requires.room, length_inserted c.args.op.now c.in-Insert.after (as_words c.in-Insert.tags.items) c.in-Insert.text body, ap length c.characters.ensures)
 
 pub set_all_gone-requires-clause-stays : goal.set_all_gone-requires-clause-stays
 set_all_gone-requires-clause-stays g c =
@@ -37,21 +38,21 @@ set_all_gone-requires-clause-stays g c =
 pub returns-in_ok-_state-in-Insert-clause-replica : goal.returns-in_ok-_state-in-Insert-clause-replica
 returns-in_ok-_state-in-Insert-clause-replica g c =
     let kept = g.S.TextStore.list c.args.store.now in
-    let tags = map string_bytes c.in-Insert.tags.items in
-    let body : c.args.op.now.body ≡ Insert c.in-Insert.after (map string_bytes c.in-Insert.tags.items) c.in-Insert.text = sym c.edit.ensures.body ∙ ap body_of c.in-Insert.is in
+    let tags = as_words c.in-Insert.tags.items in
+    let body : c.args.op.now.body ≡ Insert c.in-Insert.after (as_words c.in-Insert.tags.items) c.in-Insert.text = sym c.edit.ensures.body ∙ ap body_of c.in-Insert.is in
     let id = c.in_ok-_state-in-Insert._state in
     subst (IsReplica (with_operation c.args.op.now c.args.log.now.operations) c.insert_cells.new.states)
     (sym (c.in_ok-_state-in-Insert.ensures.list ∙ (λ j. put_at (skip_from kept c.in-Insert.after (c.stamp.ensures j)) (cells_from (c.stamp.ensures j).count (c.stamp.ensures j).site id (c.characters.ensures j)) kept)))
     (replica_insert c.args.log.now.operations c.args.states.now c.insert_cells.new.states kept c.args.op.now c.in-Insert.after tags c.in-Insert.text id c.requires.replica body c.requires.continues
     c.insert_cells.ensures.ids c.in_ok-_state-in-Insert.ensures.given
-    (c.in_ok-_state-in-Insert.ensures.state ∙ ap (λ ts. state_after [] (listed_by ROOT (map (λ tag. string_bytes tag) ts))) c.deref.ensures.value))
+    (c.in_ok-_state-in-Insert.ensures.state ∙ ap (λ ts. state_after [] (listed_by ROOT (as_words ts))) c.deref.ensures.value))
 
 pub returns-in_ok-_state-in-Insert-clause-cells : goal.returns-in_ok-_state-in-Insert-clause-cells
 returns-in_ok-_state-in-Insert-clause-cells g c =
     let kept = g.S.TextStore.list c.args.store.now in
-    let body : c.args.op.now.body ≡ Insert c.in-Insert.after (map string_bytes c.in-Insert.tags.items) c.in-Insert.text = sym c.edit.ensures.body ∙ ap body_of c.in-Insert.is in
+    let body : c.args.op.now.body ≡ Insert c.in-Insert.after (as_words c.in-Insert.tags.items) c.in-Insert.text = sym c.edit.ensures.body ∙ ap body_of c.in-Insert.is in
     length_changed (g.S.TextStore.list c.insert_cells.new.store) kept (skip_from kept c.in-Insert.after c.stamp.result) c.stamp.result.count c.stamp.result.site c.in_ok-_state-in-Insert._state c.characters.result.now c.in_ok-_state-in-Insert.ensures.list
-    ∙ ap (λ n. length kept + n) (ap length c.characters.ensures ∙ sym (length_inserted c.args.op.now c.in-Insert.after (map string_bytes c.in-Insert.tags.items) c.in-Insert.text body))
+    ∙ ap (λ n. length kept + n) (ap length c.characters.ensures ∙ sym (length_inserted c.args.op.now c.in-Insert.after (as_words c.in-Insert.tags.items) c.in-Insert.text body))
 
 pub returns-in_ok-reserve-in-Delete-clause-replica : goal.returns-in_ok-reserve-in-Delete-clause-replica
 returns-in_ok-reserve-in-Delete-clause-replica g c =

@@ -1,5 +1,4 @@
-use Rattle.std.proofs.Common.{◌≡◌, ◌∙◌, ◌++◌, [], ap, sym, map, refl}
-use Rattle.std.specs.Prelude.{string_bytes}
+use Rattle.std.proofs.Common.{◌≡◌, ◌∙◌, ◌++◌, [], ap, sym, refl}
 use Rattle.rt_stamps.specs.declared.stamp.TheConstants.{ROOT}
 use Rattle.rt_ops.specs.Edits.{body_of}
 use Rattle.rt_ops.specs.Operations.{Insert, stamp_of}
@@ -7,19 +6,20 @@ use Rattle.rt_store.specs.Cells.{cells_from}
 use Rattle.rt_tags.specs.Writers.{listed_by, state_after}
 use Rattle.rt_rga.proofs.Making.{fresh_given, fresh_more}
 use Rattle.std.proofs.lemmas.Result.{err_from_is_err_and}
+use Rattle.rt_stamps.specs.Words.{as_words}
 use Rattle.rt_rga.proofs.make.add_fresh.Goals as goal
 
 pub returns-in_ok-add-clause-cells : goal.returns-in_ok-add-clause-cells
 returns-in_ok-add-clause-cells c =
     let at = c.stamp.result in
     let id = c.in_ok-state.state in
-    let tags = map string_bytes c.in-Insert.tags.items in
+    let tags = as_words c.in-Insert.tags.items in
     let text = c.in-Insert.text in
     let body : c.args.op.now.body ≡ Insert c.in-Insert.after tags text = sym c.edit.ensures.body ∙ ap body_of c.in-Insert.is in
     fresh_more c.args.states.now c.state_of_list.new.self c.args.cells.now c.add.new.self (cells_from at.count at.site id text) (stamp_of c.args.op.now) at c.args.op.now.body c.in-Insert.after tags text id
     c.state_of_list.ensures.ids c.requires.given (c.in_ok-add.ensures.cells ∙ ap (λ t. c.args.cells.now ++ cells_from at.count at.site id t) c.characters.ensures)
     refl c.stamp.ensures body
-    (c.in_ok-state.ensures.state ∙ ap (λ ts. state_after [] (listed_by ROOT (map (λ tag. string_bytes tag) ts))) c.deref.ensures.value)
+    (c.in_ok-state.ensures.state ∙ ap (λ ts. state_after [] (listed_by ROOT (as_words ts))) c.deref.ensures.value)
 
 pub returns-in_ok-add-clause-given : goal.returns-in_ok-add-clause-given
 returns-in_ok-add-clause-given c =

@@ -3,7 +3,8 @@ use Rattle.std.proofs.lemmas.Result.{err_from_is_err_and}
 use Rattle.std.proofs.lemmas.List.{drop_all}
 use Rattle.rt_stamps.specs.declared.stamp.Span.{Span}
 use Rattle.rt_ops.specs.Operations.{stamps_in, stamps_of_span}
-use Rattle.rt_rga.specs.Runs.{cells_found, listed}
+use Rattle.rt_tags.specs.Borders.{one_or_none}
+use Rattle.rt_rga.specs.Runs.{cells_found}
 use Rattle.std.proofs.lemmas.List.Concat.{flat_map-append}
 use Rattle.rt_stamps.specs.declared.stamp.Stamp.{Stamp}
 use Rattle.rt_store.specs.declared.cell.Cell.{Cell}
@@ -18,7 +19,7 @@ found_span list done spans i h =
     let one : List Stamp = stamps_of_span (get_or spans i d) in
     let more : List Stamp = stamps_in (drop (i + 1) spans) in
     append_assoc done (cells_found list one) (cells_found list more)
-    ∙ ap (λ (found : List (Cell ℕ)). done ++ found) (sym (flat_map-append (λ s. listed (cell_of list s)) one more))
+    ∙ ap (λ (found : List (Cell ℕ)). done ++ found) (sym (flat_map-append (λ s. one_or_none (cell_of list s)) one more))
     ∙ ap (λ (left : List Span). done ++ cells_found list (stamps_in left)) (ap (λ n. get_or spans i d ∷ drop n spans) (add-one i) ∙ sym (drop-cons spans i d h))
 
 pub loop-span-init : goal.loop-span-init

@@ -23,7 +23,7 @@ is_taken-requires g c =
     let here = at_place c.args.search.direction c.args.stretch c.loop-index.index place (omega arith) c.nth-place.ensures.place in
     subst (λ (xs : List ℕ). EndsDecide m xs place) (sym c.deref.ensures.value)
     (taking_ends c.args.search.direction c.args.stretch m c.args.taken.now.items c.loop-index.index c.loop-index.taken.items place c.loop-index.invariant.taking
-    (c.requires.taken place c.nth-place.ensures.from c.nth-place.ensures.to) (at_left c.args.search.direction c.args.stretch c.loop-index.index place here))
+    (c.requires.taken place c.nth-place.ensures.begin c.nth-place.ensures.end) (at_left c.args.search.direction c.args.stretch c.loop-index.index place here))
 
 pub loop-index-preserved : goal.loop-index-preserved
 loop-index-preserved g c =
@@ -37,13 +37,13 @@ loop-index-preserved g c =
     let taken = c.loop-index.taken.items in
     let test = is_match c.args.search c.args.pattern.now text s in
     let places = ordered_places d s in
-    let many : length places ≡ s.to - s.from = length_ordered d s in
-    let inside : index < s.to - s.from = omega arith in
+    let many : length places ≡ s.end - s.begin = length_ordered d s in
+    let inside : index < s.end - s.begin = omega arith in
     let within : index < length places = omega arith in
-    let below : s.to ≤ c.len.result = omega arith in
+    let below : s.end ≤ c.len.result = omega arith in
     let here = at_place d s index place inside c.nth-place.ensures.place in
     let told = λ (b : Bool) (e : c.is_match.result ≡ b).
-    tested c.args.search c.args.pattern.now text s place c.last_end-end.result c.len.result c.is_match.result b c.nth-place.ensures.to below
+    tested c.args.search c.args.pattern.now text s place c.last_end-end.result c.len.result c.is_match.result b c.nth-place.ensures.end below
     c.len.ensures c.last_end-end.ensures.first c.last_end-end.ensures.strict c.is_match.ensures.value e in
     elim c.if-is_match.branch [
       | then-is_match+then-is_taken+in_ok-push w ↦
@@ -74,7 +74,7 @@ loop-index-preserved g c =
 pub returns-clause-ok : goal.returns-clause-ok
 returns-clause-ok g c =
     let places = ordered_places c.args.search.direction c.args.stretch in
-    let many : length places ≡ c.args.stretch.to - c.args.stretch.from = length_ordered c.args.search.direction c.args.stretch in
+    let many : length places ≡ c.args.stretch.end - c.args.stretch.begin = length_ordered c.args.search.direction c.args.stretch in
     let over : length places ≤ c.loop-index.index = omega arith in
     all_taken c.args.overlaps (length c.args.pattern.now) (is_match c.args.search c.args.pattern.now c.args.text.now c.args.stretch) places
     c.loop-index.index c.args.taken.now.items c.loop-index.taken.items over c.loop-index.invariant.taken

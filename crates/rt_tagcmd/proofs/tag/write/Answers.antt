@@ -6,7 +6,8 @@ use Rattle.rt_text.specs.Commands.{clock_check, with_tag_in}
 use Rattle.rt_text.specs.Index.{index_check, place_at_index}
 use Rattle.rt_text.specs.Ranges.{ranges_of}
 use Rattle.rt_text.specs.Widgets.{Viewed, widget_of}
-use Rattle.rt_stamps.proofs.Names.{none_found, words_of}
+use Rattle.rt_stamps.proofs.Names.{none_found}
+use Rattle.rt_stamps.specs.Words.{as_words}
 use Rattle.rt_tagcmd.proofs.TagChecks.{given, passed, passed_fault, refused_first, refused_last}
 use Rattle.rt_tagcmd.proofs.tag.write.Goals as goal
 
@@ -15,7 +16,7 @@ returns-in_err-ranges-clause-err g c =
     let view = c.args.view.now in
     let name = c.args.name.now in
     let w = widget_of view in
-    let indices = words_of c.args.indices.now in
+    let indices = as_words c.args.indices.now in
     let after = with_tag_in view c.args.on name (ranges_of (map (place_at_index w) indices)) in
     let none = none_found _ _ (sym c.check_name.ensures.value ∙ c.in_ok-check_name.was) in
     let p = err_from_is_err_and c.from_residual-in_err-ranges.result c.from_residual-in_err-ranges.ensures.1 in
@@ -27,7 +28,7 @@ returns-clause-ok g c =
     let view = c.args.view.now in
     let name = c.args.name.now in
     let w = widget_of view in
-    let indices = words_of c.args.indices.now in
+    let indices = as_words c.args.indices.now in
     let written : List Range → Viewed = with_tag_in view c.args.on name in
     let none = none_found _ _ (sym c.check_name.ensures.value ∙ c.in_ok-check_name.was) in
     let same : c.deref.result.now ≡ ranges_of (map (place_at_index w) indices) = c.deref.ensures.value ∙ c.in_ok-ranges.ensures.ok in
@@ -45,7 +46,7 @@ returns-clause-err g c =
     let view = c.args.view.now in
     let name = c.args.name.now in
     let w = widget_of view in
-    let indices = words_of c.args.indices.now in
+    let indices = as_words c.args.indices.now in
     let written : List Range → Viewed = with_tag_in view c.args.on name in
     let none = none_found _ _ (sym c.check_name.ensures.value ∙ c.in_ok-check_name.was) in
     let same : c.deref.result.now ≡ ranges_of (map (place_at_index w) indices) = c.deref.ensures.value ∙ c.in_ok-ranges.ensures.ok in

@@ -1,5 +1,6 @@
-use Rattle.std.proofs.Common.{◌≡◌, map, take, string_bytes}
+use Rattle.std.proofs.Common.{◌≡◌, take}
+use Rattle.rt_stamps.specs.Words.{as_words}
 use Rattle.rt_tags.proofs.names.copied.Given as goal
 
 abbrev pub invariant-loop-name : goal.invariant-loop-name
-invariant-loop-name l = map (λ s. string_bytes s) l.copies.items ≡ map (λ s. string_bytes s) (take l.name-index l.names)
+invariant-loop-name l = as_words l.copies.items ≡ as_words (take l.name-index l.names)

@@ -1,4 +1,5 @@
-use Rattle.std.proofs.Common.{◌∙◌, ap, arith, map, string_bytes, take}
+use Rattle.std.proofs.Common.{◌∙◌, ap, arith, take}
+use Rattle.rt_stamps.specs.Words.{as_words}
 use Rattle.rt_tags.specs.Seen.{names_of}
 use Rattle.rt_tags.proofs.Parts.{part_moved, same_names}
 use Rattle.rt_tags.proofs.Sets.{len_names, names_moved, no_repeats}
@@ -18,7 +19,7 @@ returns-clause-listed c = record {
 
 pub returns-clause-names : goal.returns-clause-names
 returns-clause-names c =
-    ap (take c.args.listed) (ap (λ v. map (λ s. string_bytes s) v) c.move_index.ensures.keys ∙ names_moved c.args.names.now.keys c.args.from c.args.to)
+    ap (take c.args.listed) (ap (λ v. as_words v) c.move_index.ensures.keys ∙ names_moved c.args.names.now.keys c.args.from c.args.to)
     ∙ part_moved (names_of c.args.names.now) c.args.listed c.args.from c.args.to c.requires.listed.within c.requires.from c.requires.to
 
 pub returns-clause-same : goal.returns-clause-same

@@ -1,11 +1,12 @@
-use Rattle.std.proofs.Common.{◌≡◌, ◌+◌, ◌++◌, length, map, string_bytes}
+use Rattle.std.proofs.Common.{◌≡◌, ◌+◌, ◌++◌, length}
+use Rattle.rt_stamps.specs.Words.{as_words}
 use Rattle.rt_tags.specs.Kept.{HaveNames, IsSorted, all_seen}
 use Rattle.rt_tags.specs.Writers.{state_after}
 use Rattle.rt_tags.proofs.sorting.merged.Given as goal
 
 abbrev pub invariant-loop-entry : goal.invariant-loop-entry
 invariant-loop-entry l =
-    let names = map (λ s. string_bytes s) l.names in
+    let names = as_words l.names in
     record {
       old : IsSorted names l.rest_of_old;
       new : IsSorted names l.rest_of_new;

@@ -1,7 +1,8 @@
-use Rattle.std.proofs.Common.{◌∙◌, ◌++◌, ap, arith, filter, map, string_bytes}
+use Rattle.std.proofs.Common.{◌∙◌, ◌++◌, ap, arith, filter}
 use Rattle.std.proofs.lemmas.Grind.{common_steps}
 use Rattle.std.proofs.lemmas.List.{take_all}
 use Rattle.std.proofs.lemmas.Result.{err_from_is_err_and}
+use Rattle.rt_stamps.specs.Words.{as_words}
 use Rattle.rt_tags.specs.Kept.{is_on_side}
 use Rattle.rt_tags.proofs.states.add_side.Goals as goal
 
@@ -16,4 +17,4 @@ loop-entry-preserved c = grind (arith, common_steps)
 pub returns : goal.returns
 returns c =
     c.loop-entry.invariant
-    ∙ ap (λ v. c.args.out.now.items ++ filter (is_on_side (map (λ s. string_bytes s) c.args.names.now) c.args.name.now c.args.side) v) (take_all c.loop-entry.entry-index c.args.entries.now c.loop-entry-test.false)
+    ∙ ap (λ v. c.args.out.now.items ++ filter (is_on_side (as_words c.args.names.now) c.args.name.now c.args.side) v) (take_all c.loop-entry.entry-index c.args.entries.now c.loop-entry-test.false)

@@ -1,5 +1,5 @@
-use Rattle.std.proofs.Common.{◌≡◌, ◌∙◌, ap, map, slice_get}
-use Rattle.std.specs.Prelude.{string_bytes}
+use Rattle.std.proofs.Common.{◌≡◌, ◌∙◌, ap, slice_get}
+use Rattle.rt_stamps.specs.Words.{as_words}
 use Rattle.rt_tags.specs.Kept.{if_of}
 use Rattle.rt_tags.proofs.Found.{copied_there, there}
 use Rattle.rt_tags.proofs.states.found.Goals as goal
@@ -8,4 +8,4 @@ pub returns : goal.returns
 returns c =
     let got : c.copied.result ≡ slice_get c.args.entries.now c.place_of-at.result = c.copied.ensures ∙ copied_there c.args.entries.now c.place_of-at.result c.get.result c.get.ensures.lookup in
     c.if_of.ensures ∙ ap (if_of c.args.tag) got
-    ∙ there (map (λ s. string_bytes s) c.args.names.now) c.args.tag c.args.entries.now c.name_at.result.now c.place_of-at.result c.requires c.name_at.ensures c.place_of-at.ensures.place
+    ∙ there (as_words c.args.names.now) c.args.tag c.args.entries.now c.name_at.result.now c.place_of-at.result c.requires c.name_at.ensures c.place_of-at.ensures.place

@@ -1,13 +1,14 @@
-use Rattle.std.proofs.Common.{◌∙◌, ap, map, string_bytes}
+use Rattle.std.proofs.Common.{◌∙◌, ap}
 use Rattle.rt_tags.specs.Kept.{all_seen}
 use Rattle.rt_tags.specs.Writers.{state_after}
 use Rattle.rt_tags.proofs.Merging.{after_made}
 use Rattle.std.proofs.lemmas.Result.{err_from_is_err_and}
+use Rattle.rt_stamps.specs.Words.{as_words}
 use Rattle.rt_tags.proofs.states.state_after.Goals as goal
 
 pub returns-clause-entries : goal.returns-clause-entries
 returns-clause-entries c =
-    let names = map (λ s. string_bytes s) c.args.names.now in
+    let names = as_words c.args.names.now in
     let old = all_seen names c.args.state.now.entries.items in
     c.in_ok-entries.ensures.entries
     ∙ (λ j. state_after (all_seen names (c.deref.ensures.value j)) (all_seen names (c.deref-2.ensures.value j)))

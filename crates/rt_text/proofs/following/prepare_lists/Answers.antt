@@ -1,5 +1,6 @@
-use Rattle.std.proofs.Common.{◌≡◌, ◌∙◌, All, ap, map, string_bytes, subst, sym, true}
+use Rattle.std.proofs.Common.{◌≡◌, ◌∙◌, All, ap, string_bytes, subst, sym, true}
 use Rattle.std.proofs.lemmas.List.Elements.{All-map}
+use Rattle.rt_stamps.specs.Words.{as_words}
 use Rattle.rt_ops.specs.Edits.{body_of}
 use Rattle.rt_rga.specs.Taken.{lists_of}
 use Rattle.rt_tags.specs.Tags.{IsName, is_ready}
@@ -15,5 +16,5 @@ pub returns-in-Insert-clause-ready : goal.returns-in-Insert-clause-ready
 returns-in-Insert-clause-ready c =
     let lists = ap (λ e. lists_of (body_of e)) c.in-Insert.is in
     ok_more c.prepare_tags.result
-    (λ all. subst (All (λ name. is_ready name c.prepare_tags.new.table ≡ true)) (ap (map string_bytes) c.deref.ensures.value ∙ sym lists) (All-map (λ name. is_ready name c.prepare_tags.new.table ≡ true) string_bytes c.deref.result.now all))
+    (λ all. subst (All (λ name. is_ready name c.prepare_tags.new.table ≡ true)) (ap as_words c.deref.ensures.value ∙ sym lists) (All-map (λ name. is_ready name c.prepare_tags.new.table ≡ true) string_bytes c.deref.result.now all))
     c.prepare_tags.ensures.ready

@@ -1,6 +1,6 @@
 use Rattle.std.proofs.Common.{◌≡◌, ◌∙◌, ◌⊎◌, ℕ, Err, Ok, Result, ap, inl, inr, sym}
 use Rattle.std.specs.Prelude.{IfErr, IfOk}
-use Rattle.rt_index.specs.Index.{IsHopeless, index_of}
+use Rattle.rt_index.specs.Index.{IsNeverIndex, index_of}
 use Rattle.rt_index.specs.Widget.{IndexedWidget, IsProper}
 use Rattle.rt_stamps.specs.declared.fault.Fault.{Fault}
 use Rattle.rt_stamps.specs.declared.fault.Fault.TheVariants.{BadIndex, NoMemory}
@@ -9,7 +9,7 @@ use Rattle.rt_stamps.specs.Words.{Word}
 use Rattle.rt_text.proofs.index.place_of.Goals as goal
 
 -- a word that is an index of no proper widget, or want of memory
-refused : (w : IndexedWidget) (word : Word) (fault : Fault) → IsProper w → (fault ≡ NoMemory) ⊎ ((fault ≡ BadIndex) × IsHopeless word) → Refuses (index_of w word) fault
+refused : (w : IndexedWidget) (word : Word) (fault : Fault) → IsProper w → (fault ≡ NoMemory) ⊎ ((fault ≡ BadIndex) × IsNeverIndex word) → Refuses (index_of w word) fault
 refused w word fault proper (inl e) = inl e
 refused w word fault proper (inr p) = inr (p.1 w proper ∙ ap (λ f. Err f) (sym p.0))
 

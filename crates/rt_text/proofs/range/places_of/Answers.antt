@@ -3,6 +3,7 @@ use Rattle.std.proofs.lemmas.List.Elements.{All-append, All-cons, All-nil}
 use Rattle.std.proofs.lemmas.Result.{err_from_is_err_and}
 use Rattle.rt_index.specs.Index.{index_of}
 use Rattle.rt_stamps.specs.Outcomes.{Refuses}
+use Rattle.rt_stamps.specs.Words.{as_words}
 use Rattle.rt_text.specs.Index.{place_at_index}
 use Rattle.rt_text.proofs.RangeLaws.{places_more, checks_more, checks_stop}
 use Rattle.rt_text.proofs.range.places_of.Goals as goal
@@ -36,7 +37,7 @@ loop-index-preserved g c =
     let word = c.index-item.result in
     let place = c.in_ok-place_of.field-0 in
     let found : index_of w (string_bytes word) ≡ Ok place = ap (index_of w) (sym c.deref.ensures) ∙ c.in_ok-place_of.ensures.ok in
-    let rest : List ℕ = map (place_at_index w) (map (λ w. string_bytes w) (drop (i + 1) words)) in
+    let rest : List ℕ = map (place_at_index w) (as_words (drop (i + 1) words)) in
     record {
       same = ap (λ v. v ++ rest) c.in_ok-push.ensures.items ∙ append_assoc c.loop-index.places.items (place ∷ []) rest ∙ ap (λ v. c.loop-index.places.items ++ v) (sym (places_more w words i word place c.loop-index-test.true c.index-item.is found)) ∙ c.loop-index.invariant.same;
       checked = sym (checks_more w words i word place c.loop-index-test.true c.index-item.is found) ∙ c.loop-index.invariant.checked;

@@ -46,17 +46,17 @@ pub is_barred-requires-clause-known : goal.is_barred-requires-clause-known
 is_barred-requires-clause-known c = record { text = c.args.text.now; kept = c.requires.kept; upto = c.requires.upto }
 
 pub is_new-is_new-requires : goal.is_new-is_new-requires
-is_new-is_new-requires c = c.run_of-run.ensures.run.counts
+is_new-is_new-requires c = c.run_of-run.ensures.front.run.counts
 
 pub is_barred-requires-clause-sum : goal.is_barred-requires-clause-sum
 is_barred-requires-clause-sum c =
     let st = there c.args.mem.now c.args.root.index c.requires.tree (c.args.at - 1) c.cell_near-found.result c.cell_near-found.ensures in let run = c.cell_near-found.result.run in
     let w = ap (λ l. (counts_of l).cells) st.here ∙ counts_mid st.left run st.right in
-    let low = c.run_of-run.ensures.stretch.within in
+    let low = c.run_of-run.ensures.front.within in
     omega (arith, w, low, c.requires.few)
 
 pub is_barred-requires-clause-some : goal.is_barred-requires-clause-some
-is_barred-requires-clause-some c = c.run_of-run.ensures.run.some
+is_barred-requires-clause-some c = c.run_of-run.ensures.front.run.some
 
 pub is_barred-requires-clause-joint : goal.is_barred-requires-clause-joint
 is_barred-requires-clause-joint c = sym c.are_joint.ensures ∙ c.if-not-are_joint.false
@@ -76,7 +76,7 @@ pub joined-whole-requires : goal.joined-whole-requires
 joined-whole-requires c =
     let st = there c.args.mem.now c.args.root.index c.requires.tree (c.args.at - 1) c.cell_near-found.result c.cell_near-found.ensures in let run = c.cell_near-found.result.run in
     let w = ap (λ l. (counts_of l).cells) st.here ∙ counts_mid st.left run st.right in
-    let low = c.run_of-run.ensures.stretch.within in
+    let low = c.run_of-run.ensures.front.within in
     omega (arith, w, low, c.requires.few)
 
 pub returns-clause-home : goal.returns-clause-home
@@ -98,7 +98,7 @@ returns-clause-home c =
 
 pub returns-clause-left : goal.returns-clause-left
 returns-clause-left c =
-    let some = c.run_of-run.ensures.run.some in let within = c.run_of-run.ensures.stretch.within in
+    let some = c.run_of-run.ensures.front.run.some in let within = c.run_of-run.ensures.front.within in
     omega (arith, some, within, c.enter.ensures.left, c.requires.left)
 
 pub returns-clause-apart : goal.returns-clause-apart
@@ -115,7 +115,7 @@ replace_at-requires-clause-few c =
     let kept : AreKept old = record { text = c.args.text.now; short = c.requires.short; runs = c.requires.kept } in
     let st = there c.args.mem.now c.args.root.index c.requires.tree (c.args.at - 1) c.cell_near-found.result c.cell_near-found.ensures in let run = c.cell_near-found.result.run in let b = c.run_of-run.result in
     let w = ap (λ l. (counts_of l).cells) st.here ∙ counts_mid st.left run st.right in
-    let low = c.run_of-run.ensures.stretch.within in let some = c.run_of-run.ensures.run.some in
+    let low = c.run_of-run.ensures.front.within in let some = c.run_of-run.ensures.front.run.some in
     subst (λ (r : Run). AreFew (plus (counts_of_run r) (counts_of old))) (sym c.joined-whole.ensures)
     (few_with (record run { len = run.len + b.len; newline = b.newline }) old (omega (arith, some)) (omega (arith, w, low, c.requires.few)) kept (omega (arith, c.requires.few)))
 

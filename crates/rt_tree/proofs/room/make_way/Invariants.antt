@@ -1,7 +1,7 @@
 use Rattle.std.proofs.Common.{◌≡◌, ◌+◌, ◌<◌, ◌≤◌, length}
 use Rattle.rt_nodes.specs.Nodes.{entries}
-use Rattle.rt_tree.specs.Changes.{bare, above, AreExact, AreFilled}
-use Rattle.rt_tree.specs.Shape.{ahead, level_of, runs, IsShape}
+use Rattle.rt_tree.specs.Changes.{bare, above, AreExact}
+use Rattle.rt_tree.specs.Shape.{AreFilled, IsShape, ahead, level_of, runs}
 use Rattle.rt_tree.specs.Summaries.{AreTold}
 use Rattle.rt_tree.specs.Trees.{HasNodes}
 use Rattle.rt_tree.proofs.room.make_way.Given as goal

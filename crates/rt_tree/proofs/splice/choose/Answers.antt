@@ -1,7 +1,6 @@
 use Rattle.std.proofs.Common.{drop, arith, refl, sym, ◌∙◌}
 use Rattle.rt_tree.specs.Shape.{tree_runs}
 use Rattle.rt_tree.proofs.Shared.{apart_chosen, apart_lone, chosen_twice}
-use Rattle.rt_tree.proofs.Splicing.{front_is}
 use Rattle.rt_tree.proofs.splice.choose.Goals as goal
 
 pub is_in_two-requires-clause-known : goal.is_in_two-requires-clause-known
@@ -20,10 +19,10 @@ returns-then-is_in_two-clause-apart c =
 pub returns-then-is_in_two-clause-stretch : goal.returns-then-is_in_two-clause-stretch
 returns-then-is_in_two-clause-stretch c =
     let cells = drop c.args.done c.args.cells.now in let run = c.next_run-run.result in
-    λ none once. absurd (chosen_twice c.args.text.now (tree_runs c.args.mem.now c.args.root.index) run cells c.requires.kept (front_is c.args.text.now cells run c.next_run-run.ensures) once (sym c.is_in_two.ensures ∙ c.if-is_in_two.true))
+    λ none once. absurd (chosen_twice c.args.text.now (tree_runs c.args.mem.now c.args.root.index) run cells c.requires.kept c.next_run-run.ensures.front once (sym c.is_in_two.ensures ∙ c.if-is_in_two.true))
 
 pub returns-clause-run : goal.returns-clause-run
-returns-clause-run c = front_is c.args.text.now (drop c.args.done c.args.cells.now) c.next_run-run.result c.next_run-run.ensures
+returns-clause-run c = c.next_run-run.ensures.front
 
 pub returns-clause-apart : goal.returns-clause-apart
 returns-clause-apart c = apart_chosen c.next_run-run.result (tree_runs c.args.mem.now c.args.root.index) (sym c.is_in_two.ensures ∙ c.if-is_in_two.false) c.requires.apart
@@ -32,7 +31,7 @@ pub returns-clause-stretch : goal.returns-clause-stretch
 returns-clause-stretch c = λ none once. (c.next_run-run.ensures.stretch, refl)
 
 pub is_in_two-requires-clause-some : goal.is_in_two-requires-clause-some
-is_in_two-requires-clause-some c = c.next_run-run.ensures.run.some
+is_in_two-requires-clause-some c = c.next_run-run.ensures.front.run.some
 
 pub is_in_two-requires-clause-counts : goal.is_in_two-requires-clause-counts
-is_in_two-requires-clause-counts c = c.next_run-run.ensures.run.counts
+is_in_two-requires-clause-counts c = c.next_run-run.ensures.front.run.counts

@@ -8,6 +8,7 @@ invariant-loop-child g l =
     let m = g.L.Looks.nodes l.initial.looks in
     record {
       going : Going m l.fn.root.index l.by l.fn.place l.node.index l.rest l.before;
+      counted : g.L.Looks.looked l.initial.looks + (level_of m l.fn.root.index - level_of m l.node.index) ≤ g.L.Looks.looked l.looks;
       cost : g.L.Looks.looked l.looks ≤ g.L.Looks.looked l.initial.looks + 16 * (level_of m l.fn.root.index - level_of m l.node.index);
       same : g.L.Looks.nodes l.looks ≡ m;
       kept : g.L.Looks.summaries l.looks ≡ g.L.Looks.summaries l.initial.looks;

@@ -1,11 +1,11 @@
-use Rattle.std.proofs.Common.{◌≡◌, ◌+◌, ◌∙◌, ℕ, ◌<◌, ◌++◌, ◌∷◌, [], length, drop, take, map, String, string_bytes, subst, sym, ap, refl, arith, List, false, get_or}
+use Rattle.std.proofs.Common.{◌≡◌, ◌+◌, ◌∙◌, ℕ, ◌<◌, ◌++◌, ◌∷◌, [], length, drop, take, String, string_bytes, subst, sym, ap, refl, arith, List, false, get_or}
 use Rattle.std.specs.declared.alloc.Global.{Global}
 use Rattle.std.specs.List.{prefix_len}
 use Rattle.std.proofs.Math.ListN.{set, length-set}
 use Rattle.std.proofs.lemmas.Result.{err_from_is_err_and}
 use Rattle.std.proofs.lemmas.List.{map_push}
 use Rattle.std.proofs.lemmas.Grind.{take-set_at}
-use Rattle.rt_stamps.specs.Words.{Word}
+use Rattle.rt_stamps.specs.Words.{Word, as_words}
 use Rattle.rt_words.specs.FirstWord.{IsFirstWord, HasNoFirstWord}
 use Rattle.rt_words.specs.Separators.{separates}
 use Rattle.rt_words.proofs.Separating.{separating}
@@ -14,9 +14,9 @@ use Rattle.rt_words.proofs.words.words_by.Goals as goal
 
 -- the words before a place, and one that is put there
 put : (old new : List (String Global)) (place : ℕ) (word : String Global) → place < length new → take place new ≡ take place old
-    → map (λ w. string_bytes w) (take (place + 1) (set new place word)) ≡ map (λ w. string_bytes w) (take place old) ++ string_bytes word ∷ []
+    → as_words (take (place + 1) (set new place word)) ≡ as_words (take place old) ++ string_bytes word ∷ []
 put old new place word l e =
-    ap (map (λ w. string_bytes w)) (take-set_at new place (place + 1) word refl l ∙ ap (λ (v : List (String Global)). v ++ word ∷ []) e)
+    ap as_words (take-set_at new place (place + 1) word refl l ∙ ap (λ (v : List (String Global)). v ++ word ∷ []) e)
     ∙ map_push (λ w. string_bytes w) (take place old) word
 
 pub loop-start-init : goal.loop-start-init

@@ -1,11 +1,12 @@
-use Rattle.std.proofs.Common.{length, ◌-◌, ◌≤◌, map, string_bytes, take}
+use Rattle.std.proofs.Common.{length, ◌-◌, ◌≤◌, take}
+use Rattle.rt_stamps.specs.Words.{as_words}
 use Rattle.rt_words.specs.Separators.{separates}
 use Rattle.rt_words.proofs.WordSteps.{Reading}
 use Rattle.rt_words.proofs.words.words_by.Given as goal
 
 abbrev pub invariant-loop-start : goal.invariant-loop-start
 invariant-loop-start l = record {
-  reading : Reading (separates l.separators) l.text l.start (map (λ w. string_bytes w) (take l.count l.words.items));
+  reading : Reading (separates l.separators) l.text l.start (as_words (take l.count l.words.items));
   within : l.count ≤ length l.words.items;
 }
 

@@ -2,6 +2,7 @@ use Rattle.std.proofs.Common.{◌≡◌, ℕ, ◌∙◌, ◌≤◌, ◌+◌, ◌
 use Rattle.std.specs.Prelude.{string_bytes}
 use Rattle.std.proofs.lemmas.Result.{err_from_is_err_and}
 use Rattle.rt_stamps.specs.declared.limits.TheConstants.{GREATEST_COUNT, MOST_CHARACTERS, MOST_TAGS}
+use Rattle.rt_stamps.specs.Words.{as_words}
 use Rattle.rt_ops.specs.Edits.{body_of}
 use Rattle.rt_edits.specs.InsertionDrafts.{behind, text_drafts}
 use Rattle.rt_edits.specs.Insertions.{counts_for, further_tags, tagged_cells}
@@ -27,7 +28,7 @@ loop-rest-init c =
 
 pub push_part-requires : goal.push_part-requires
 push_part-requires c =
-    let names = map (λ w. string_bytes w) c.args.names.now in
+    let names = as_words c.args.names.now in
     let rest = c.loop-rest.rest.now in
     let part = c.next_part.result.0.now in
     let more = c.next_part.result.1.now in
@@ -47,7 +48,7 @@ loop-rest-smaller c =
 
 pub loop-rest-preserved : goal.loop-rest-preserved
 loop-rest-preserved c =
-    let names = map (λ w. string_bytes w) c.args.names.now in
+    let names = as_words c.args.names.now in
     let site = c.args.site.number in
     let rest = c.loop-rest.rest.now in
     let part = c.next_part.result.0.now in

@@ -1,6 +1,6 @@
 use Rattle.std.proofs.Common.{◌≡◌, ◌+◌, ◌++◌, ◌≤◌, length, map}
-use Rattle.std.specs.Prelude.{string_bytes}
 use Rattle.rt_stamps.specs.declared.limits.TheConstants.{GREATEST_COUNT, MOST_CHARACTERS}
+use Rattle.rt_stamps.specs.Words.{as_words}
 use Rattle.rt_ops.specs.Edits.{body_of}
 use Rattle.rt_edits.specs.InsertionDrafts.{behind, text_drafts}
 use Rattle.rt_edits.specs.Insertions.{counts_for, tagged_cells}
@@ -8,7 +8,7 @@ use Rattle.rt_edits.proofs.inserts.Inserts.push_text.Given as goal
 
 abbrev pub invariant-loop-rest : goal.invariant-loop-rest
 invariant-loop-rest l =
-    let names = map (λ w. string_bytes w) l.names in
+    let names = as_words l.names in
     let old = l.fn.self in
     let site = l.site.number in
     record {

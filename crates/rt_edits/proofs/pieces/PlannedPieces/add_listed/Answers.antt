@@ -1,5 +1,4 @@
 use Rattle.std.proofs.Common.{◌≡◌, refl, ℕ, ◌∙◌, ◌+◌, ◌≤◌, ◌++◌, [], Some, ap, sym, map, length, inl, subst}
-use Rattle.std.specs.Prelude.{string_bytes}
 use Rattle.std.specs.Str.{chars}
 use Rattle.rt_stamps.specs.declared.limits.TheConstants.{GREATEST_COUNT}
 use Rattle.rt_tags.specs.Tags.{is_listed, sel}
@@ -12,6 +11,7 @@ use Rattle.rt_edits.specs.Selections.{with_stamps}
 use Rattle.rt_edits.proofs.PieceLaws.{added_listed, no_drafts, none_in, none_listed}
 use Rattle.rt_edits.proofs.PlanLaws.{some_in}
 use Rattle.std.proofs.lemmas.Result.{err_from_is_err_and}
+use Rattle.rt_stamps.specs.Words.{as_words}
 use Rattle.rt_edits.proofs.pieces.PlannedPieces.add_listed.Goals as goal
 
 pub returns-then-is_empty-clause-drafts : goal.returns-then-is_empty-clause-drafts
@@ -35,16 +35,16 @@ returns-clause-so_far c = λ after selection listed so_far h.
     let shared = shared_names tags in
     let e = c.in_ok-add_text.ensures in
     let text_is : c.characters-characters.result.now ≡ text = c.characters-characters.ensures ∙ c.in_ok-text.ensures.ok ∙ ap chars c.text.ensures in
-    let named : map (λ w. string_bytes w) c.in_ok-names.names.items ≡ shared = c.in_ok-names.ensures.ok ∙ ap shared_names c.tags.ensures in
-    let names_are : map (λ w. string_bytes w) c.deref.result.now ≡ shared = ap (map (λ w. string_bytes w)) c.deref.ensures.value ∙ named in
+    let named : as_words c.in_ok-names.names.items ≡ shared = c.in_ok-names.ensures.ok ∙ ap shared_names c.tags.ensures in
+    let names_are : as_words c.deref.result.now ≡ shared = ap as_words c.deref.ensures.value ∙ named in
     let some : 1 ≤ length text = some_in text c.characters-characters.result.now (length c.characters-characters.result.now) c.is_empty.result refl (c.characters-characters.ensures ∙ c.in_ok-text.ensures.ok ∙ ap chars c.text.ensures) c.is_empty.ensures c.if-is_empty.false in
-    let names_too : map (λ w. string_bytes w) c.deref-2.result.now ≡ shared = ap (map (λ w. string_bytes w)) c.deref-2.ensures.value ∙ named in
+    let names_too : as_words c.deref-2.result.now ≡ shared = ap as_words c.deref-2.ensures.value ∙ named in
     added_listed after selection listed old new site tags text so_far some
     (record {
       characters = e.characters ∙ (λ i. old.characters + length (text_is i));
       count = e.count ∙ (λ i. old.texts.count + counts_for (names_are i) (text_is i));
       element = e.behind ∙ (λ i. behind old.texts.behind (tagged_cells site old.texts.count (names_are i) (text_is i)));
-      tags = e.names ∙ (λ i. map (λ w. string_bytes w) old.names.items ++ names_are i);
+      tags = e.names ∙ (λ i. as_words old.names.items ++ names_are i);
     })
     (c.in_ok-select_new.ensures.selected selection
     ∙ (λ i. selected_if ((c.names_sel-chosen.ensures ∙ ap (is_listed sel) c.tags-2.ensures) i) (stamps_of (tagged_cells site old.texts.count (names_too i) (text_is i)))
@@ -85,5 +85,5 @@ returns-in_err-add_text-clause-within c =
 pub select_new-requires : goal.select_new-requires
 select_new-requires c =
     let e = c.in_ok-add_text.ensures in
-    let names : map (λ w. string_bytes w) c.deref.result.now ≡ map (λ w. string_bytes w) c.deref-2.result.now = ap (map (λ w. string_bytes w)) (c.deref.ensures.value ∙ sym c.deref-2.ensures.value) in
+    let names : as_words c.deref.result.now ≡ as_words c.deref-2.result.now = ap as_words (c.deref.ensures.value ∙ sym c.deref-2.ensures.value) in
     subst (λ (n : ℕ). n ≤ GREATEST_COUNT) (e.count ∙ (λ i. c.args.self.now.texts.count + counts_for (names i) c.characters-characters.result.now)) e.within

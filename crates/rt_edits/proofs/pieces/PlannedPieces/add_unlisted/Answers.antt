@@ -1,9 +1,10 @@
 use Rattle.std.proofs.Common.{◌≡◌, refl, ℕ, ◌∙◌, ◌+◌, ◌++◌, ◌<◌, ◌≤◌, ◌&&◌, List, [], false, Option, None, Some, ap, length, map, subst, sym}
-use Rattle.std.specs.Prelude.{IfSome, option_map, string_bytes}
+use Rattle.std.specs.Prelude.{IfSome, option_map}
 use Rattle.std.specs.Str.{chars}
 use Rattle.std.proofs.lemmas.Result.{err_from_is_err_and}
 use Rattle.rt_stamps.specs.declared.limits.TheConstants.{GREATEST_COUNT, MOST_CHARACTERS}
 use Rattle.rt_stamps.specs.declared.stamp.Stamp.{Stamp}
+use Rattle.rt_stamps.specs.Words.{as_words}
 use Rattle.rt_ops.specs.Edits.{body_of}
 use Rattle.rt_store.specs.Cells.{stamps_of}
 use Rattle.rt_store.specs.Shown.{shown}
@@ -39,8 +40,8 @@ returns-in_err-add_text-clause-err c =
     let text_is : c.characters-characters.result.now ≡ chars c.args.rest.now = c.characters-characters.ensures ∙ c.in_ok-text.ensures.ok in
     rw (r.1, r.2) (spent
     (λ k after sel listed so_far same h.
-    let names_are : map (λ w. string_bytes w) c.deref.result.now ≡ tags_between (last_of (option_map (shown t) c.args.left) so_far.cells) (option_map (shown t) c.args.right) =
-    ap (map (λ w. string_bytes w)) c.deref.ensures.value ∙ c.in_ok-names.ensures.ok so_far.cells h.last in
+    let names_are : as_words c.deref.result.now ≡ tags_between (last_of (option_map (shown t) c.args.left) so_far.cells) (option_map (shown t) c.args.right) =
+    ap as_words c.deref.ensures.value ∙ c.in_ok-names.ensures.ok so_far.cells h.last in
     subst (λ (n : ℕ). GREATEST_COUNT < n) (λ i. h.count i + counts_for (names_are i) (text_is i)) k)
     c.in_err-add_text.ensures.err)
 
@@ -63,8 +64,8 @@ pub returns-in_default-clause-drafts : goal.returns-in_default-clause-drafts
 returns-in_default-clause-drafts c = λ after sel listed so_far same h.
     let t = c.args.states.now in
     let text_is : c.characters-characters.result.now ≡ chars c.args.rest.now = c.characters-characters.ensures ∙ c.in_ok-text.ensures.ok in
-    let names_are : map (λ w. string_bytes w) c.deref.result.now ≡ tags_between (last_of (option_map (shown t) c.args.left) so_far.cells) (option_map (shown t) c.args.right) =
-    ap (map (λ w. string_bytes w)) c.deref.ensures.value ∙ c.in_ok-names.ensures.ok so_far.cells h.last in
+    let names_are : as_words c.deref.result.now ≡ tags_between (last_of (option_map (shown t) c.args.left) so_far.cells) (option_map (shown t) c.args.right) =
+    ap as_words c.deref.ensures.value ∙ c.in_ok-names.ensures.ok so_far.cells h.last in
     c.in_ok-add_text.ensures.drafts
     ∙ (λ i. map body_of c.args.self.now.texts.drafts.items ++ text_drafts MOST_CHARACTERS c.args.site.number (h.count i) (h.element i) (names_are i) (text_is i))
 
@@ -79,14 +80,14 @@ returns-in_default-clause-plans c = λ plan after sel listed so_far same h a p.
     let right = option_map (shown t) c.args.right in
     let e = c.in_ok-add_text.ensures in
     let text_is : c.characters-characters.result.now ≡ text = c.characters-characters.ensures ∙ c.in_ok-text.ensures.ok in
-    let names_are : map (λ w. string_bytes w) c.deref.result.now ≡ tags_between left right = ap (map (λ w. string_bytes w)) c.deref.ensures.value ∙ c.in_ok-names.ensures.ok so_far.cells h.last in
+    let names_are : as_words c.deref.result.now ≡ tags_between left right = ap as_words c.deref.ensures.value ∙ c.in_ok-names.ensures.ok so_far.cells h.last in
     let some : 1 ≤ length text = some_in text c.characters-characters.result.now (length c.characters-characters.result.now) c.is_empty.result refl text_is c.is_empty.ensures c.if-is_empty.false in
     let new_stamps = stamps_of (tagged_cells site old.texts.count (tags_between left right) text) in
     let more : IsMoreText site (tags_between left right) text old next = record {
       characters = e.characters ∙ (λ i. old.characters + length (text_is i));
       count = e.count ∙ (λ i. old.texts.count + counts_for (names_are i) (text_is i));
       element = e.behind ∙ (λ i. behind old.texts.behind (tagged_cells site old.texts.count (names_are i) (text_is i)));
-      tags = e.names ∙ (λ i. map (λ w. string_bytes w) old.names.items ++ names_are i);
+      tags = e.names ∙ (λ i. as_words old.names.items ++ names_are i);
     } in
     let never : (stamps : List Stamp) → are_among stamps left right ≡ false = λ stamps. not_both after sel listed old so_far t c.args.left c.args.right stamps h (sym c.sides-sides.ensures ∙ c.in_default.is) in
     plans_rest plan after sel listed old next site left right text so_far some h more p.characters
@@ -99,8 +100,8 @@ pub returns-clause-drafts : goal.returns-clause-drafts
 returns-clause-drafts c = λ after sel listed so_far same h.
     let t = c.args.states.now in
     let text_is : c.characters-characters.result.now ≡ chars c.args.rest.now = c.characters-characters.ensures ∙ c.in_ok-text.ensures.ok in
-    let names_are : map (λ w. string_bytes w) c.deref.result.now ≡ tags_between (last_of (option_map (shown t) c.args.left) so_far.cells) (option_map (shown t) c.args.right) =
-    ap (map (λ w. string_bytes w)) c.deref.ensures.value ∙ c.in_ok-names.ensures.ok so_far.cells h.last in
+    let names_are : as_words c.deref.result.now ≡ tags_between (last_of (option_map (shown t) c.args.left) so_far.cells) (option_map (shown t) c.args.right) =
+    ap as_words c.deref.ensures.value ∙ c.in_ok-names.ensures.ok so_far.cells h.last in
     c.in_ok-add_text.ensures.drafts
     ∙ (λ i. map body_of c.args.self.now.texts.drafts.items ++ text_drafts MOST_CHARACTERS c.args.site.number (h.count i) (h.element i) (names_are i) (text_is i))
 
@@ -115,7 +116,7 @@ returns-clause-plans c = λ plan after sel listed so_far same h a p.
     let right = option_map (shown t) c.args.right in
     let e = c.in_ok-add_text.ensures in
     let text_is : c.characters-characters.result.now ≡ text = c.characters-characters.ensures ∙ c.in_ok-text.ensures.ok in
-    let names_are : map (λ w. string_bytes w) c.deref.result.now ≡ tags_between left right = ap (map (λ w. string_bytes w)) c.deref.ensures.value ∙ c.in_ok-names.ensures.ok so_far.cells h.last in
+    let names_are : as_words c.deref.result.now ≡ tags_between left right = ap as_words c.deref.ensures.value ∙ c.in_ok-names.ensures.ok so_far.cells h.last in
     let some : 1 ≤ length text = some_in text c.characters-characters.result.now (length c.characters-characters.result.now) c.is_empty.result refl text_is c.is_empty.ensures c.if-is_empty.false in
     let new_stamps = stamps_of (tagged_cells site old.texts.count (tags_between left right) text) in
     let new : PlannedPieces = record next { selected = c.select_new.new.selected } in
@@ -123,7 +124,7 @@ returns-clause-plans c = λ plan after sel listed so_far same h a p.
       characters = e.characters ∙ (λ i. old.characters + length (text_is i));
       count = e.count ∙ (λ i. old.texts.count + counts_for (names_are i) (text_is i));
       element = e.behind ∙ (λ i. behind old.texts.behind (tagged_cells site old.texts.count (names_are i) (text_is i)));
-      tags = e.names ∙ (λ i. map (λ w. string_bytes w) old.names.items ++ names_are i);
+      tags = e.names ∙ (λ i. as_words old.names.items ++ names_are i);
     } in
     let both : (stamps : List Stamp) → are_among stamps left right ≡ (is_among stamps c.in-Some.before && is_among stamps c.in-Some.after) =
     λ stamps. is_side after sel listed old so_far t c.args.left c.args.right c.in-Some.before c.in-Some.after stamps h a (sym c.sides-sides.ensures ∙ c.in-Some.is) in
@@ -133,8 +134,8 @@ returns-clause-plans c = λ plan after sel listed so_far same h a p.
     c.selects_both-asked.ensures.both
     ∙ (λ i. is_among (with_stamps (c.add_text.ensures.selected i).items (sym its i)) c.in-Some.before && is_among (with_stamps (c.add_text.ensures.selected i).items (sym its i)) c.in-Some.after)
     ∙ sym (both (with_stamps old.selected.items sel)) in
-    let names_too : map (λ w. string_bytes w) c.deref-2.result.now ≡ tags_between left right = ap (map (λ w. string_bytes w)) c.deref-2.ensures.value ∙ c.in_ok-names.ensures.ok so_far.cells h.last in
-    let names_last : map (λ w. string_bytes w) c.deref-3.result.now ≡ tags_between left right = ap (map (λ w. string_bytes w)) c.deref-3.ensures.value ∙ c.in_ok-names.ensures.ok so_far.cells h.last in
+    let names_too : as_words c.deref-2.result.now ≡ tags_between left right = ap as_words c.deref-2.ensures.value ∙ c.in_ok-names.ensures.ok so_far.cells h.last in
+    let names_last : as_words c.deref-3.result.now ≡ tags_between left right = ap as_words c.deref-3.ensures.value ∙ c.in_ok-names.ensures.ok so_far.cells h.last in
     let stamps : c.in_ok-stamps.stamps ≡ new_stamps = c.in_ok-stamps.ensures.ok ∙ (λ i. stamps_of (tagged_cells site old.texts.count (names_last i) (text_is i))) in
     plans_rest plan after sel listed old new site left right text so_far some h more p.characters
     ((λ i. with_stamps (p.selected i).items sel) ∙ c.in_ok-select_new.ensures.selected sel
@@ -152,11 +153,11 @@ returns-clause-alone c = λ n. absurd (right_side c.args.self.now c.args.left c.
 pub select_new-requires : goal.select_new-requires
 select_new-requires c =
     let e = c.in_ok-add_text.ensures in
-    let names : map (λ w. string_bytes w) c.deref.result.now ≡ map (λ w. string_bytes w) c.deref-2.result.now = ap (map (λ w. string_bytes w)) (c.deref.ensures.value ∙ sym c.deref-2.ensures.value) in
+    let names : as_words c.deref.result.now ≡ as_words c.deref-2.result.now = ap as_words (c.deref.ensures.value ∙ sym c.deref-2.ensures.value) in
     subst (λ (n : ℕ). n ≤ GREATEST_COUNT) (e.count ∙ (λ i. c.args.self.now.texts.count + counts_for (names i) c.characters-characters.result.now)) e.within
 
 pub of-requires : goal.of-requires
 of-requires c =
     let e = c.in_ok-add_text.ensures in
-    let names : map (λ w. string_bytes w) c.deref.result.now ≡ map (λ w. string_bytes w) c.deref-3.result.now = ap (map (λ w. string_bytes w)) (c.deref.ensures.value ∙ sym c.deref-3.ensures.value) in
+    let names : as_words c.deref.result.now ≡ as_words c.deref-3.result.now = ap as_words (c.deref.ensures.value ∙ sym c.deref-3.ensures.value) in
     subst (λ (n : ℕ). n ≤ GREATEST_COUNT) (e.count ∙ (λ i. c.args.self.now.texts.count + counts_for (names i) c.characters-characters.result.now)) e.within

@@ -1,6 +1,7 @@
-use Rattle.std.proofs.Common.{◌∙◌, Some, ap, filter, map, sym}
-use Rattle.std.specs.Prelude.{option_map, string_bytes}
+use Rattle.std.proofs.Common.{◌∙◌, Some, ap, filter, sym}
+use Rattle.std.specs.Prelude.{option_map}
 use Rattle.std.proofs.lemmas.Result.{IfOk-weaker}
+use Rattle.rt_stamps.specs.Words.{as_words}
 use Rattle.rt_tags.specs.States.{is_on, state_at}
 use Rattle.rt_store.specs.Shown.{shown}
 use Rattle.rt_edits.specs.Insertions.{last_of, tags_between}
@@ -14,9 +15,9 @@ returns-in-Some-last-clause-ok c =
     let right = c.in-Some.right in
     IfOk-weaker c.names_also.result _ _
     (λ v e cells h. e
-    ∙ ap (λ l. filter (λ name. is_on name (state_at t right.state)) (map (λ w. string_bytes w) l)) c.deref.ensures.value
-    ∙ between_last cells left (shown t right) (map (λ w. string_bytes w) c.in-Some-last.names.items)
-    (sym (ap (option_map (λ names. map (λ w. string_bytes w) names.items)) c.in-Some-last.is) ∙ h)
+    ∙ ap (λ l. filter (λ name. is_on name (state_at t right.state)) (as_words l)) c.deref.ensures.value
+    ∙ between_last cells left (shown t right) (as_words c.in-Some-last.names.items)
+    (sym (ap (option_map (λ names. as_words names.items)) c.in-Some-last.is) ∙ h)
     ∙ ap (λ o. tags_between (last_of left cells) (option_map (shown t) o)) (sym c.in-Some.is))
     c.names_also.ensures.ok
 
@@ -28,6 +29,6 @@ returns-in-None-clause-ok c =
     IfOk-weaker c.names_of_both.result _ _
     (λ v e cells h. e
     ∙ ap (λ o. tags_between o (Some (shown t right))) (no_last cells left
-    (sym (ap (option_map (λ names. map (λ w. string_bytes w) names.items)) c.in-None.is) ∙ h))
+    (sym (ap (option_map (λ names. as_words names.items)) c.in-None.is) ∙ h))
     ∙ ap (λ o. tags_between (last_of left cells) (option_map (shown t) o)) (sym c.in-Some.is))
     c.names_of_both.ensures.ok

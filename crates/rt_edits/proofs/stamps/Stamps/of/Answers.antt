@@ -1,5 +1,5 @@
-use Rattle.std.proofs.Common.{◌≡◌, ◌∙◌, ◌+◌, [], ◌∷◌, arith, length, map}
-use Rattle.std.specs.Prelude.{string_bytes}
+use Rattle.std.proofs.Common.{◌≡◌, ◌∙◌, ◌+◌, [], ◌∷◌, arith, length}
+use Rattle.rt_stamps.specs.Words.{as_words}
 use Rattle.rt_edits.proofs.InsertTexts.{one_stamp}
 use Rattle.rt_edits.proofs.stamps.Stamps.of.Goals as goal
 
@@ -7,4 +7,4 @@ pub returns-then-text-eq1-clause-ok : goal.returns-then-text-eq1-clause-ok
 returns-then-text-eq1-clause-ok c =
     let one : length c.args.text.now ≡ 1 = omega (arith, c.if-text-eq1.true) in
     (λ i. record { count = c.args.count + 1; site = c.number.ensures.value i } ∷ [])
-    ∙ one_stamp c.args.site.number c.args.count (map (λ w. string_bytes w) c.args.names.now) c.args.text.now one
+    ∙ one_stamp c.args.site.number c.args.count (as_words c.args.names.now) c.args.text.now one

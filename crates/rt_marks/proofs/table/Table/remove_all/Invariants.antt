@@ -1,8 +1,8 @@
 use Rattle.std.proofs.Common.{◌≡◌, ◌≤◌, length, not, take}
+use Rattle.rt_stamps.specs.Words.{as_words}
 use Rattle.rt_marks.specs.Marks.{is_one_of}
 use Rattle.rt_marks.specs.Seen.{SlotsPart}
 use Rattle.rt_marks.specs.Tables.{IsTable, marks_of, slots_of}
-use Rattle.rt_marks.proofs.Cutting.{words_of}
 use Rattle.rt_marks.proofs.table.Table.remove_all.Given as goal
 
 abbrev pub invariant-loop-name : goal.invariant-loop-name
@@ -10,5 +10,5 @@ invariant-loop-name l = record {
   table : IsTable l.self;
   within : l.kept ≤ length (slots_of l.self);
   marks : marks_of l.self ≡ marks_of l.fn.self;
-  parted : SlotsPart (λ m. not (is_one_of (words_of (take l.name-index l.names)) m)) (slots_of l.self) l.kept;
+  parted : SlotsPart (λ m. not (is_one_of (as_words (take l.name-index l.names)) m)) (slots_of l.self) l.kept;
 }

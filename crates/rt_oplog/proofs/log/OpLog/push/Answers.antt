@@ -60,7 +60,13 @@ none_left (suc n) h = absurd (true≢false (sym (h (omega arith))))
 pub returns-in_err-reserve : goal.returns-in_err-reserve
 returns-in_err-reserve c =
     let (y, is, gives) = err_from_is_err_and c.from_residual-in_err-reserve.result c.from_residual-in_err-reserve.ensures.1 in
-    rw (is, gives) (c.in_err-reserve.ensures.same, c.in_err-reserve.ensures.kept, inr (c.in_err-reserve.ensures.fault, none_left c.args.self.now.room c.in_err-reserve.ensures.there))
+    let op = c.args.op in
+    let set = c.args.self.now.operations in
+    let sound : has_bad_stamp op ≡ false = sound_if_ok op c.in_ok-check.field-0 (sym c.in_ok-check.ensures) in
+    let new : holds set op ≡ false = sym c.contains.ensures ∙ c.if-contains.false in
+    let free : list_any (clash op) set ≡ false = sym c.clashes.ensures ∙ c.if-clashes.false in
+    rw (is, gives)
+    (c.in_err-reserve.ensures.same, c.in_err-reserve.ensures.kept, inr (c.in_err-reserve.ensures.fault, none_left c.args.self.now.room c.in_err-reserve.ensures.there, push_new op set sound new free))
 
 pub returns-then-contains : goal.returns-then-contains
 returns-then-contains c =

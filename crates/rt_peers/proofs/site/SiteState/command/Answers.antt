@@ -1,4 +1,5 @@
-use Rattle.std.proofs.Common.{◌≡◌, ◌∙◌, ℕ, None, Some, ap, inr, map, refl, string_bytes, subst}
+use Rattle.std.proofs.Common.{◌≡◌, ◌∙◌, ℕ, None, Some, ap, inr, refl, subst}
+use Rattle.rt_stamps.specs.Words.{as_words}
 use Rattle.rt_peers.specs.SiteStep.{CommandGives}
 use Rattle.rt_peers.specs.State.{place_of}
 use Rattle.rt_peers.proofs.PeerLaws.{place_in}
@@ -18,5 +19,5 @@ returns c =
       none = λ h. absurd (cc (is, h));
       some = λ place h.
           let same : c.in-Some.place ≡ place = cc (is, h) in
-          subst (λ (p : ℕ). CommandGives c.args.path.now p (map (λ w. string_bytes w) c.args.words.now) c.args.self.now c.run.result c.run.new.self) same c.run.ensures;
+          subst (λ (p : ℕ). CommandGives c.args.path.now p (as_words c.args.words.now) c.args.self.now c.run.result c.run.new.self) same c.run.ensures;
     }

@@ -1,9 +1,9 @@
-use Rattle.std.proofs.Common.{◌≡◌, ◌∙◌, ◌<◌, ℕ, nat_lt, true, List, None, Some, Ok, ap, arith, cond, length, map, refl, string_bytes, subst, sym}
+use Rattle.std.proofs.Common.{◌≡◌, ◌∙◌, ◌<◌, ℕ, nat_lt, true, List, None, Some, Ok, ap, arith, cond, length, refl, subst, sym}
 use Rattle.std.specs.List.{remove}
 use Rattle.std.proofs.lemmas.Bool.Decides.{nat_tests}
 use Rattle.rt_stamps.specs.declared.fault.Fault.TheVariants.{LastWidget}
 use Rattle.rt_stamps.specs.Outcomes.{unless}
-use Rattle.rt_stamps.specs.Words.{Word}
+use Rattle.rt_stamps.specs.Words.{Word, as_words}
 use Rattle.rt_text.specs.Widgets.{Viewed}
 use Rattle.rt_peers.specs.Peers.{HavePaths, without_widget}
 use Rattle.rt_peers.specs.PeerStep.{destroyed, destroyed_at}
@@ -15,7 +15,7 @@ counted : (n : ℕ) → 1 < n → nat_lt 1 n ≡ true
 counted n h = grind (arith, nat_tests)
 
 abbrev paths_in : goal.After-no_words → List Word
-paths_in c = map (λ w. string_bytes w) c.self.inside.paths.items
+paths_in c = as_words c.self.inside.paths.items
 
 found : (c : goal.After-no_words) → place_of c.args.path.now (paths_in c) ≡ Some c.in-Some.place
 found c = place_in c.args.path.now c.deref.result.now c.self.inside.paths.items (paths_in c) c.place_of.result c.place_of.ensures c.deref.ensures.value refl ∙ c.in-Some.is
@@ -30,7 +30,7 @@ invariant_of-self c =
     let place = c.in-Some.place in
     let view = c.self.inside.text.view in
     let there : place < length (paths_in c) = place_within c.args.path.now (paths_in c) place (found c) in
-    let items : map (λ w. string_bytes w) c.remove.new.self.items ≡ remove (paths_in c) place = ap (map (λ w. string_bytes w)) c.remove.ensures.items ∙ strings_without c.self.inside.paths.items place in
+    let items : as_words c.remove.new.self.items ≡ remove (paths_in c) place = ap as_words c.remove.ensures.items ∙ strings_without c.self.inside.paths.items place in
     subst (λ (l : List Word). HavePaths l c.remove_widget.new.self.view) (sym items)
     (subst (λ (v : Viewed). HavePaths (remove (paths_in c) place) v) (sym (ap (λ t. t.view) c.remove_widget.ensures)) (path_gone (paths_in c) view place c.self.invariant there (several c)))
 
@@ -38,10 +38,10 @@ pub returns-clause-ok : goal.returns-clause-ok
 returns-clause-ok c =
     let place = c.in-Some.place in
     let state : State = record { paths = paths_in c; text = c.self.inside.text } in
-    let items : map (λ w. string_bytes w) c.remove.new.self.items ≡ remove (paths_in c) place = ap (map (λ w. string_bytes w)) c.remove.ensures.items ∙ strings_without c.self.inside.paths.items place in
-    let left : without_widget place state ≡ record { paths = map (λ w. string_bytes w) c.remove.new.self.items; text = c.remove_widget.new.self } =
+    let items : as_words c.remove.new.self.items ≡ remove (paths_in c) place = ap as_words c.remove.ensures.items ∙ strings_without c.self.inside.paths.items place in
+    let left : without_widget place state ≡ record { paths = as_words c.remove.new.self.items; text = c.remove_widget.new.self } =
     λ i. record { paths = sym items i; text = sym c.remove_widget.ensures i } in
     let gone : destroyed c.args.path.now state ≡ Ok (without_widget place state) =
     ap (λ o. destroyed_at o state) (found c) ∙ ap (λ b. unless (cond b None (Some LastWidget)) (without_widget place state)) (counted _ (several c)) in
-    let all : destroyed c.args.path.now state ≡ Ok (record { paths = map (λ w. string_bytes w) c.remove.new.self.items; text = c.remove_widget.new.self }) = gone ∙ ap (λ s. Ok s) left in
-    subst (λ (s : State). destroyed c.args.path.now s ≡ Ok (record { paths = map (λ w. string_bytes w) c.remove.new.self.items; text = c.remove_widget.new.self })) c.self.view_is all
+    let all : destroyed c.args.path.now state ≡ Ok (record { paths = as_words c.remove.new.self.items; text = c.remove_widget.new.self }) = gone ∙ ap (λ s. Ok s) left in
+    subst (λ (s : State). destroyed c.args.path.now s ≡ Ok (record { paths = as_words c.remove.new.self.items; text = c.remove_widget.new.self })) c.self.view_is all

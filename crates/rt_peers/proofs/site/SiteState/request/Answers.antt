@@ -1,5 +1,6 @@
-use Rattle.std.proofs.Common.{◌∙◌, ap, arith, length, map, string_bytes, subst, sym}
+use Rattle.std.proofs.Common.{◌∙◌, ap, arith, length, subst, sym}
 use Rattle.rt_stamps.specs.Outcomes.{Answers}
+use Rattle.rt_stamps.specs.Words.{as_words}
 use Rattle.rt_editing.specs.Edited.{Edited}
 use Rattle.rt_peers.specs.Peers.{text_led, widgets_of}
 use Rattle.rt_peers.specs.State.{State}
@@ -25,7 +26,7 @@ invariant_of-self c =
 
 pub returns : goal.returns
 returns c =
-    let paths = map (λ w. string_bytes w) c.self.inside.paths.items in
+    let paths = as_words c.self.inside.paths.items in
     let state : State = record { paths = paths; text = c.self.inside.text } in
     let place = c.args.place in
     let result = c.request-reply.result in

@@ -1,5 +1,6 @@
-use Rattle.std.proofs.Common.{◌≡◌, ◌∙◌, Ok, ap, map, refl, string_bytes, sym}
+use Rattle.std.proofs.Common.{◌≡◌, ◌∙◌, Ok, ap, refl, sym}
 use Rattle.std.proofs.lemmas.Result.{err_from_is_err_and}
+use Rattle.rt_stamps.specs.Words.{as_words}
 use Rattle.rt_peers.specs.ViewStep.{told_step}
 use Rattle.rt_tagcmd.specs.TagCommands.{tag_names_at}
 use Rattle.rt_peers.proofs.Steps.{refused_as}
@@ -12,6 +13,6 @@ returns-in_err-words c =
 
 pub returns : goal.returns
 returns c =
-    let names : tag_names_at c.args.self.now c.args.index.now ≡ Ok (map (λ w. string_bytes w) c.in_ok-words.words.items) =
+    let names : tag_names_at c.args.self.now c.args.index.now ≡ Ok (as_words c.in_ok-words.words.items) =
     sym (λ i. tag_names_at (c.self.view_is i) (c.text.ensures i)) ∙ c.in_ok-words.ensures.ok in
     ap (told_step (λ names. names) c.args.self.now) names

@@ -11,7 +11,7 @@ use Rattle.rt_tags.proofs.Keeping.{keeps_itself}
 use Rattle.rt_rga.proofs.replica.Replica.accept.Goals as goal
 
 pub answer_within-requires-clause-cells : goal.answer_within-requires-clause-cells
-answer_within-requires-clause-cells g c = cells_by c.self.inside.log.operations c.self.inside.states (g.S.TextStore.list c.self.inside.store) c.self.invariant.0.replica
+answer_within-requires-clause-cells g c = cells_by c.self.inside.log.operations c.self.inside.states (g.S.TextStore.list c.self.inside.store) c.self.invariant.within.replica
 
 pub take-requires-clause-continues : goal.take-requires-clause-continues
 take-requires-clause-continues g c =
@@ -19,19 +19,19 @@ take-requires-clause-continues g c =
     let log = v.log.operations in
     let new : answer_within v.limit c.args.op log ≡ New = sym c.in_ok-answer_within.ensures.answer ∙ ap (λ o. said (Ok o)) c.in-New.is in
     subst (λ (l : List Operation). Continues l c.args.op) (ap (λ (a : ReplicaValue). a.log) c.self.view_is)
-    (continues_new v.limit c.args.op log c.self.invariant.0.replica.history c.answer_within.ensures.rules new).0
+    (continues_new v.limit c.args.op log c.self.invariant.within.replica.history c.answer_within.ensures.rules new).0
 
 pub take-requires-clause-room : goal.take-requires-clause-room
 take-requires-clause-room g c =
     let v = c.self.inside in
     let log = v.log.operations in
     let new : answer_within v.limit c.args.op log ≡ New = sym c.in_ok-answer_within.ensures.answer ∙ ap (λ o. said (Ok o)) c.in-New.is in
-    let room = (continues_new v.limit c.args.op log c.self.invariant.0.replica.history c.answer_within.ensures.rules new).1 in
-    let cells : length c.args.self.now.cells ≡ length (cells_of log) = sym (ap (λ (a : ReplicaValue). length a.cells) c.self.view_is) ∙ ap (λ (cs : List TaggedCell). length cs) c.self.invariant.0.replica.cells in
+    let room = (continues_new v.limit c.args.op log c.self.invariant.within.replica.history c.answer_within.ensures.rules new).1 in
+    let cells : length c.args.self.now.cells ≡ length (cells_of log) = sym (ap (λ (a : ReplicaValue). length a.cells) c.self.view_is) ∙ ap (λ (cs : List TaggedCell). length cs) c.self.invariant.within.replica.cells in
     omega (arith, room, cells, ap (λ (a : ReplicaValue). a.limit) c.self.view_is)
 
 pub answer_within-requires-clause-within : goal.answer_within-requires-clause-within
-answer_within-requires-clause-within g c = omega (arith, c.self.invariant.0.cells)
+answer_within-requires-clause-within g c = omega (arith, c.self.invariant.within.cells)
 
 pub returns-in-Repeat : goal.returns-in-Repeat
 returns-in-Repeat g c =

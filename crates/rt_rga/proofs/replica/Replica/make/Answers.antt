@@ -55,7 +55,7 @@ returns-in_err-make_all g c =
 
 pub returns : goal.returns
 returns g c = record {
-  made = c.in_ok-copies.ensures.ops ∙ c.deref.ensures.value ∙ c.in_ok-ops.ensures.made;
+  made = c.in_ok-copies.ensures.ops ∙ c.list_of.ensures ∙ c.in_ok-ops.ensures.made;
   fits = c.in_ok-ops.ensures.fits;
   refused = tt;
   log = c.in_ok-make_all.ensures.log ∙ ap (λ (ops : List Operation). with_operations ops c.args.self.now.log) c.in_ok-ops.ensures.made;

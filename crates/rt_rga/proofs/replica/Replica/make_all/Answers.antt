@@ -4,6 +4,7 @@ use Rattle.rt_store.specs.declared.cell.Cell.{Cell}
 use Rattle.rt_tags.specs.States.{KeepsIds, TagStates}
 use Rattle.rt_tags.proofs.Keeping.{keeps_itself}
 use Rattle.rt_rga.specs.Drafts.{with_operations}
+use Rattle.rt_rga.specs.Few.{items_in}
 use Rattle.rt_rga.specs.Kept.{ReplicaValue}
 use Rattle.rt_rga.proofs.Within.{same_value, within_later}
 use Rattle.rt_rga.proofs.replica.Replica.make_all.Goals as goal
@@ -12,13 +13,13 @@ pub invariant_of-self-in_err-change_all : goal.invariant_of-self-in_err-change_a
 invariant_of-self-in_err-change_all g c =
     let v = c.self.inside in
     let kept : List (Cell ℕ) = g.S.TextStore.list v.store in
-    (within_later v.log.operations c.reserve.new.self.operations v.states c.change_all.new.states kept (g.S.TextStore.list c.change_all.new.store) v.clock v.limit c.reserve.ensures.same c.in_err-change_all.ensures.same c.change_all.ensures.ids c.self.invariant.0, c.change_all.ensures.agrees)
+    record { within = within_later v.log.operations c.reserve.new.self.operations v.states c.change_all.new.states kept (g.S.TextStore.list c.change_all.new.store) v.clock v.limit c.reserve.ensures.same c.in_err-change_all.ensures.same c.change_all.ensures.ids c.self.invariant.within; agrees = c.change_all.ensures.agrees }
 
 pub invariant_of-self : goal.invariant_of-self
 invariant_of-self g c =
     let v = c.self.inside in
     let kept : List (Cell ℕ) = g.S.TextStore.list v.store in
-    (within_later v.log.operations c.reserve.new.self.operations v.states v.states kept kept v.clock v.limit c.reserve.ensures.same refl (keeps_itself v.states) c.self.invariant.0, c.self.invariant.1)
+    record { within = within_later v.log.operations c.reserve.new.self.operations v.states v.states kept kept v.clock v.limit c.reserve.ensures.same refl (keeps_itself v.states) c.self.invariant.within; agrees = c.self.invariant.agrees }
 
 pub returns-in_err-reserve : goal.returns-in_err-reserve
 returns-in_err-reserve g c =
@@ -29,7 +30,7 @@ returns-in_err-reserve g c =
     rw (is, gives) (record {
       log = tt;
       cells = tt;
-      same = same_value v.log.operations c.reserve.new.self.operations v.states v.states kept kept v.site.number v.limit c.reserve.ensures.same refl ids c.self.invariant.0.replica.states
+      same = same_value v.log.operations c.reserve.new.self.operations v.states v.states kept kept v.site.number v.limit c.reserve.ensures.same refl ids c.self.invariant.within.replica.states
           ∙ ap (λ (a : ReplicaValue). record a { table = v.states }) c.self.view_is;
       site = ap (λ (a : ReplicaValue). a.site) c.self.view_is;
       limit = ap (λ (a : ReplicaValue). a.limit) c.self.view_is;
@@ -46,7 +47,7 @@ returns-in_err-change_all g c =
     rw (is, gives) (record {
       log = tt;
       cells = tt;
-      same = same_value v.log.operations c.reserve.new.self.operations v.states c.change_all.new.states kept (g.S.TextStore.list c.change_all.new.store) v.site.number v.limit c.reserve.ensures.same c.in_err-change_all.ensures.same ids c.self.invariant.0.replica.states
+      same = same_value v.log.operations c.reserve.new.self.operations v.states c.change_all.new.states kept (g.S.TextStore.list c.change_all.new.store) v.site.number v.limit c.reserve.ensures.same c.in_err-change_all.ensures.same ids c.self.invariant.within.replica.states
           ∙ ap (λ (a : ReplicaValue). record a { table = c.change_all.new.states }) c.self.view_is;
       site = ap (λ (a : ReplicaValue). a.site) c.self.view_is;
       limit = ap (λ (a : ReplicaValue). a.limit) c.self.view_is;
@@ -55,7 +56,7 @@ returns-in_err-change_all g c =
     })
 
 pub returns-clause-log : goal.returns-clause-log
-returns-clause-log g c = c.push_all.ensures.operations ∙ ap (with_operations c.args.ops.items) (c.reserve.ensures.same ∙ ap (λ (a : ReplicaValue). a.log) c.self.view_is)
+returns-clause-log g c = c.push_few.ensures.operations ∙ ap (with_operations (items_in c.args.ops)) (c.reserve.ensures.same ∙ ap (λ (a : ReplicaValue). a.log) c.self.view_is)
 
 pub returns-clause-same : goal.returns-clause-same
 returns-clause-same g c = tt
@@ -73,4 +74,4 @@ pub returns-clause-fault : goal.returns-clause-fault
 returns-clause-fault g c = tt
 
 pub change_all-requires-clause-agrees : goal.change_all-requires-clause-agrees
-change_all-requires-clause-agrees g c = c.self.invariant.1
+change_all-requires-clause-agrees g c = c.self.invariant.agrees

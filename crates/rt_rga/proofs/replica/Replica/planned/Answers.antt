@@ -8,6 +8,7 @@ use Rattle.rt_ops.specs.Operations.{Body, Operation}
 use Rattle.rt_store.specs.declared.cell.Cell.{Cell}
 use Rattle.rt_store.specs.Shown.{shown, TaggedCell}
 use Rattle.rt_rga.specs.Cells.{cells_of}
+use Rattle.rt_rga.specs.Few.{items_in}
 use Rattle.rt_rga.specs.Histories.{greatest_last_count}
 use Rattle.rt_rga.specs.Kept.{ReplicaValue}
 use Rattle.rt_rga.specs.Making.{AreNewest, ContinueInTurn, fresh_cells}
@@ -31,7 +32,7 @@ returns-clause-made g c =
     let bodies : List Body = map body_of c.args.drafts.items in
     let seen : v.log.operations ≡ now.log = ap (λ (a : ReplicaValue). a.log) c.self.view_is in
     let site : c.number-site.result ≡ now.site = c.number-site.ensures.value ∙ ap (λ (a : ReplicaValue). a.site) c.self.view_is in
-    let last : c.seen.result ≡ greatest_last_count now.log = c.seen.ensures.value ∙ c.self.invariant.0.seen ∙ ap greatest_last_count seen in
+    let last : c.seen.result ≡ greatest_last_count now.log = c.seen.ensures.value ∙ c.self.invariant.within.seen ∙ ap greatest_last_count seen in
     let prev : c.known.result ≡ known_end now.log now.site = c.known.ensures ∙ (λ i. known_end (seen i) (site i)) in
     IfOk-weaker c.prepared.result _ _
     (λ ops h. h ∙ made_of c.number-site.result now.site c.seen.result c.known.result bodies now.log site last prev)
@@ -45,13 +46,13 @@ returns-clause-continues g c =
     let bodies : List Body = map body_of c.args.drafts.items in
     let seen : v.log.operations ≡ now.log = ap (λ (a : ReplicaValue). a.log) c.self.view_is in
     let site : c.number-site.result ≡ now.site = c.number-site.ensures.value ∙ ap (λ (a : ReplicaValue). a.site) c.self.view_is in
-    let last : c.seen.result ≡ greatest_last_count now.log = c.seen.ensures.value ∙ c.self.invariant.0.seen ∙ ap greatest_last_count seen in
+    let last : c.seen.result ≡ greatest_last_count now.log = c.seen.ensures.value ∙ c.self.invariant.within.seen ∙ ap greatest_last_count seen in
     let prev : c.known.result ≡ known_end now.log now.site = c.known.ensures ∙ (λ i. known_end (seen i) (site i)) in
-    let cells : c.cells.result ≡ length (cells_of now.log) = c.cells.ensures ∙ sym (length-map kept (shown v.states)) ∙ ap length c.self.invariant.0.replica.cells ∙ ap (λ (ops : List Operation). length (cells_of ops)) seen in
+    let cells : c.cells.result ≡ length (cells_of now.log) = c.cells.ensures ∙ sym (length-map kept (shown v.states)) ∙ ap length c.self.invariant.within.replica.cells ∙ ap (λ (ops : List Operation). length (cells_of ops)) seen in
     let limit : v.limit ≡ now.limit = ap (λ (a : ReplicaValue). a.limit) c.self.view_is in
-    let told = refusal_is c.seen.result (v.limit - c.cells.result) now.limit c.cells.result bodies now.log last cells (omega (arith, limit, c.self.invariant.0.cells, c.cells.ensures)) in
-    if_made c.prepared.result _ _ (λ ops. ContinueInTurn now.log ops.items)
-    (λ fits ops h. (ready now.site now.limit bodies now.log ops.items (omega (arith, site, c.number-site.ensures.positive)) c.requires (sym told ∙ fits)
+    let told = refusal_is c.seen.result (v.limit - c.cells.result) now.limit c.cells.result bodies now.log last cells (omega (arith, limit, c.self.invariant.within.cells, c.cells.ensures)) in
+    if_made c.prepared.result _ _ (λ ops. ContinueInTurn now.log (items_in ops))
+    (λ fits ops h. (ready now.site now.limit bodies now.log (items_in ops) (omega (arith, site, c.number-site.ensures.positive)) c.requires (sym told ∙ fits)
     (h ∙ made_of c.number-site.result now.site c.seen.result c.known.result bodies now.log site last prev)).continues)
     c.prepared.ensures.fits c.prepared.ensures.ops
 
@@ -63,13 +64,13 @@ returns-clause-newest g c =
     let bodies : List Body = map body_of c.args.drafts.items in
     let seen : v.log.operations ≡ now.log = ap (λ (a : ReplicaValue). a.log) c.self.view_is in
     let site : c.number-site.result ≡ now.site = c.number-site.ensures.value ∙ ap (λ (a : ReplicaValue). a.site) c.self.view_is in
-    let last : c.seen.result ≡ greatest_last_count now.log = c.seen.ensures.value ∙ c.self.invariant.0.seen ∙ ap greatest_last_count seen in
+    let last : c.seen.result ≡ greatest_last_count now.log = c.seen.ensures.value ∙ c.self.invariant.within.seen ∙ ap greatest_last_count seen in
     let prev : c.known.result ≡ known_end now.log now.site = c.known.ensures ∙ (λ i. known_end (seen i) (site i)) in
-    let cells : c.cells.result ≡ length (cells_of now.log) = c.cells.ensures ∙ sym (length-map kept (shown v.states)) ∙ ap length c.self.invariant.0.replica.cells ∙ ap (λ (ops : List Operation). length (cells_of ops)) seen in
+    let cells : c.cells.result ≡ length (cells_of now.log) = c.cells.ensures ∙ sym (length-map kept (shown v.states)) ∙ ap length c.self.invariant.within.replica.cells ∙ ap (λ (ops : List Operation). length (cells_of ops)) seen in
     let limit : v.limit ≡ now.limit = ap (λ (a : ReplicaValue). a.limit) c.self.view_is in
-    let told = refusal_is c.seen.result (v.limit - c.cells.result) now.limit c.cells.result bodies now.log last cells (omega (arith, limit, c.self.invariant.0.cells, c.cells.ensures)) in
-    if_made c.prepared.result _ _ (λ ops. AreNewest now.log ops.items)
-    (λ fits ops h. (ready now.site now.limit bodies now.log ops.items (omega (arith, site, c.number-site.ensures.positive)) c.requires (sym told ∙ fits)
+    let told = refusal_is c.seen.result (v.limit - c.cells.result) now.limit c.cells.result bodies now.log last cells (omega (arith, limit, c.self.invariant.within.cells, c.cells.ensures)) in
+    if_made c.prepared.result _ _ (λ ops. AreNewest now.log (items_in ops))
+    (λ fits ops h. (ready now.site now.limit bodies now.log (items_in ops) (omega (arith, site, c.number-site.ensures.positive)) c.requires (sym told ∙ fits)
     (h ∙ made_of c.number-site.result now.site c.seen.result c.known.result bodies now.log site last prev)).newest)
     c.prepared.ensures.fits c.prepared.ensures.ops
 
@@ -81,15 +82,15 @@ returns-clause-room g c =
     let bodies : List Body = map body_of c.args.drafts.items in
     let seen : v.log.operations ≡ now.log = ap (λ (a : ReplicaValue). a.log) c.self.view_is in
     let site : c.number-site.result ≡ now.site = c.number-site.ensures.value ∙ ap (λ (a : ReplicaValue). a.site) c.self.view_is in
-    let last : c.seen.result ≡ greatest_last_count now.log = c.seen.ensures.value ∙ c.self.invariant.0.seen ∙ ap greatest_last_count seen in
+    let last : c.seen.result ≡ greatest_last_count now.log = c.seen.ensures.value ∙ c.self.invariant.within.seen ∙ ap greatest_last_count seen in
     let prev : c.known.result ≡ known_end now.log now.site = c.known.ensures ∙ (λ i. known_end (seen i) (site i)) in
-    let cells : c.cells.result ≡ length (cells_of now.log) = c.cells.ensures ∙ sym (length-map kept (shown v.states)) ∙ ap length c.self.invariant.0.replica.cells ∙ ap (λ (ops : List Operation). length (cells_of ops)) seen in
+    let cells : c.cells.result ≡ length (cells_of now.log) = c.cells.ensures ∙ sym (length-map kept (shown v.states)) ∙ ap length c.self.invariant.within.replica.cells ∙ ap (λ (ops : List Operation). length (cells_of ops)) seen in
     let limit : v.limit ≡ now.limit = ap (λ (a : ReplicaValue). a.limit) c.self.view_is in
-    let told = refusal_is c.seen.result (v.limit - c.cells.result) now.limit c.cells.result bodies now.log last cells (omega (arith, limit, c.self.invariant.0.cells, c.cells.ensures)) in
-    let many : length now.cells ≡ length (cells_of now.log) = sym (ap (λ (a : ReplicaValue). length a.cells) c.self.view_is) ∙ ap (λ (xs : List TaggedCell). length xs) c.self.invariant.0.replica.cells ∙ ap (λ (ops : List Operation). length (cells_of ops)) seen in
-    if_made c.prepared.result _ _ (λ ops. length now.cells + length (fresh_cells ops.items) ≤ now.limit)
+    let told = refusal_is c.seen.result (v.limit - c.cells.result) now.limit c.cells.result bodies now.log last cells (omega (arith, limit, c.self.invariant.within.cells, c.cells.ensures)) in
+    let many : length now.cells ≡ length (cells_of now.log) = sym (ap (λ (a : ReplicaValue). length a.cells) c.self.view_is) ∙ ap (λ (xs : List TaggedCell). length xs) c.self.invariant.within.replica.cells ∙ ap (λ (ops : List Operation). length (cells_of ops)) seen in
+    if_made c.prepared.result _ _ (λ ops. length now.cells + length (fresh_cells (items_in ops)) ≤ now.limit)
     (λ fits ops h.
-    let room = (ready now.site now.limit bodies now.log ops.items (omega (arith, site, c.number-site.ensures.positive)) c.requires (sym told ∙ fits)
+    let room = (ready now.site now.limit bodies now.log (items_in ops) (omega (arith, site, c.number-site.ensures.positive)) c.requires (sym told ∙ fits)
     (h ∙ made_of c.number-site.result now.site c.seen.result c.known.result bodies now.log site last prev)).room in
     omega (arith, room, many))
     c.prepared.ensures.fits c.prepared.ensures.ops
@@ -101,10 +102,10 @@ returns-clause-fits g c =
     let kept : List (Cell ℕ) = g.S.TextStore.list v.store in
     let bodies : List Body = map body_of c.args.drafts.items in
     let seen : v.log.operations ≡ now.log = ap (λ (a : ReplicaValue). a.log) c.self.view_is in
-    let last : c.seen.result ≡ greatest_last_count now.log = c.seen.ensures.value ∙ c.self.invariant.0.seen ∙ ap greatest_last_count seen in
-    let cells : c.cells.result ≡ length (cells_of now.log) = c.cells.ensures ∙ sym (length-map kept (shown v.states)) ∙ ap length c.self.invariant.0.replica.cells ∙ ap (λ (ops : List Operation). length (cells_of ops)) seen in
+    let last : c.seen.result ≡ greatest_last_count now.log = c.seen.ensures.value ∙ c.self.invariant.within.seen ∙ ap greatest_last_count seen in
+    let cells : c.cells.result ≡ length (cells_of now.log) = c.cells.ensures ∙ sym (length-map kept (shown v.states)) ∙ ap length c.self.invariant.within.replica.cells ∙ ap (λ (ops : List Operation). length (cells_of ops)) seen in
     let limit : v.limit ≡ now.limit = ap (λ (a : ReplicaValue). a.limit) c.self.view_is in
-    let told = refusal_is c.seen.result (v.limit - c.cells.result) now.limit c.cells.result bodies now.log last cells (omega (arith, limit, c.self.invariant.0.cells, c.cells.ensures)) in
+    let told = refusal_is c.seen.result (v.limit - c.cells.result) now.limit c.cells.result bodies now.log last cells (omega (arith, limit, c.self.invariant.within.cells, c.cells.ensures)) in
     IfOk-weaker c.prepared.result _ _ (λ ops h. sym told ∙ h) c.prepared.ensures.fits
 
 pub returns-clause-refused : goal.returns-clause-refused
@@ -114,10 +115,10 @@ returns-clause-refused g c =
     let kept : List (Cell ℕ) = g.S.TextStore.list v.store in
     let bodies : List Body = map body_of c.args.drafts.items in
     let seen : v.log.operations ≡ now.log = ap (λ (a : ReplicaValue). a.log) c.self.view_is in
-    let last : c.seen.result ≡ greatest_last_count now.log = c.seen.ensures.value ∙ c.self.invariant.0.seen ∙ ap greatest_last_count seen in
-    let cells : c.cells.result ≡ length (cells_of now.log) = c.cells.ensures ∙ sym (length-map kept (shown v.states)) ∙ ap length c.self.invariant.0.replica.cells ∙ ap (λ (ops : List Operation). length (cells_of ops)) seen in
+    let last : c.seen.result ≡ greatest_last_count now.log = c.seen.ensures.value ∙ c.self.invariant.within.seen ∙ ap greatest_last_count seen in
+    let cells : c.cells.result ≡ length (cells_of now.log) = c.cells.ensures ∙ sym (length-map kept (shown v.states)) ∙ ap length c.self.invariant.within.replica.cells ∙ ap (λ (ops : List Operation). length (cells_of ops)) seen in
     let limit : v.limit ≡ now.limit = ap (λ (a : ReplicaValue). a.limit) c.self.view_is in
-    let told = refusal_is c.seen.result (v.limit - c.cells.result) now.limit c.cells.result bodies now.log last cells (omega (arith, limit, c.self.invariant.0.cells, c.cells.ensures)) in
+    let told = refusal_is c.seen.result (v.limit - c.cells.result) now.limit c.cells.result bodies now.log last cells (omega (arith, limit, c.self.invariant.within.cells, c.cells.ensures)) in
     IfErr-weaker c.prepared.result _ _
     (λ fault. subst (λ (o : Option Fault). (o ≡ Some fault) ⊎ ((fault ≡ NoMemory) × (o ≡ None))) told)
     c.prepared.ensures.refused

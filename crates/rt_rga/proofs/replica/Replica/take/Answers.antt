@@ -24,17 +24,17 @@ describe-requires-clause-placed g c =
     let kept : List (Cell ℕ) = g.S.TextStore.list v.store in
     let seen : log ≡ c.args.self.now.log = ap (λ (a : ReplicaValue). a.log) c.self.view_is in
     let continues : Continues log c.args.op = subst (λ (l : List Operation). Continues l c.args.op) (sym seen) c.requires.continues in
-    placed_by log v.states kept c.args.op c.self.invariant.0.replica continues
+    placed_by log v.states kept c.args.op c.self.invariant.within.replica continues
 
 pub describe-requires-clause-distinct : goal.describe-requires-clause-distinct
 describe-requires-clause-distinct g c =
     let v = c.self.inside in
     let log = v.log.operations in
     let kept : List (Cell ℕ) = g.S.TextStore.list v.store in
-    replica_distinct log v.states kept c.self.invariant.0.replica
+    replica_distinct log v.states kept c.self.invariant.within.replica
 
 pub describe-requires-clause-few : goal.describe-requires-clause-few
-describe-requires-clause-few g c = omega (arith, c.self.invariant.0.cells, c.self.invariant.0.most)
+describe-requires-clause-few g c = omega (arith, c.self.invariant.within.cells, c.self.invariant.within.most)
 
 pub describe-requires-clause-stays : goal.describe-requires-clause-stays
 describe-requires-clause-stays g c =
@@ -43,21 +43,21 @@ describe-requires-clause-stays g c =
     let kept : List (Cell ℕ) = g.S.TextStore.list v.store in
     let seen : log ≡ c.args.self.now.log = ap (λ (a : ReplicaValue). a.log) c.self.view_is in
     let continues : Continues log c.args.op = subst (λ (l : List Operation). Continues l c.args.op) (sym seen) c.requires.continues in
-    final_spared log v.states kept c.args.op c.self.invariant.0.replica continues
+    final_spared log v.states kept c.args.op c.self.invariant.within.replica continues
 
 pub invariant_of-self-in_err-told : goal.invariant_of-self-in_err-told
 invariant_of-self-in_err-told g c =
     let v = c.self.inside in
     let log = v.log.operations in
     let kept : List (Cell ℕ) = g.S.TextStore.list v.store in
-    (within_later log c.reserve.new.self.operations v.states c.describe.new.states kept kept v.clock v.limit c.reserve.ensures.same refl c.describe.ensures.ids c.self.invariant.0, g.met.S.TextStore.grows v.store v.states c.describe.new.states c.describe.ensures.ids c.self.invariant.1)
+    record { within = within_later log c.reserve.new.self.operations v.states c.describe.new.states kept kept v.clock v.limit c.reserve.ensures.same refl c.describe.ensures.ids c.self.invariant.within; agrees = g.met.S.TextStore.grows v.store v.states c.describe.new.states c.describe.ensures.ids c.self.invariant.agrees }
 
 pub change-requires-clause-replica : goal.change-requires-clause-replica
 change-requires-clause-replica g c =
     let v = c.self.inside in
     let log = v.log.operations in
     let kept : List (Cell ℕ) = g.S.TextStore.list v.store in
-    (within_later log c.reserve.new.self.operations v.states c.describe.new.states kept kept v.clock v.limit c.reserve.ensures.same refl c.describe.ensures.ids c.self.invariant.0).replica
+    (within_later log c.reserve.new.self.operations v.states c.describe.new.states kept kept v.clock v.limit c.reserve.ensures.same refl c.describe.ensures.ids c.self.invariant.within).replica
 
 pub invariant_of-self-in_err-change : goal.invariant_of-self-in_err-change
 invariant_of-self-in_err-change g c =
@@ -65,7 +65,7 @@ invariant_of-self-in_err-change g c =
     let log = v.log.operations in
     let kept : List (Cell ℕ) = g.S.TextStore.list v.store in
     let ids : KeepsIds v.states c.change.new.states = keeps_both v.states c.describe.new.states c.change.new.states c.describe.ensures.ids c.change.ensures.ids in
-    (within_later log c.reserve.new.self.operations v.states c.change.new.states kept (g.S.TextStore.list c.change.new.store) v.clock v.limit c.reserve.ensures.same c.in_err-change.ensures.same ids c.self.invariant.0, c.change.ensures.agrees)
+    record { within = within_later log c.reserve.new.self.operations v.states c.change.new.states kept (g.S.TextStore.list c.change.new.store) v.clock v.limit c.reserve.ensures.same c.in_err-change.ensures.same ids c.self.invariant.within; agrees = c.change.ensures.agrees }
 
 pub invariant_of-self-2 : goal.invariant_of-self-2
 invariant_of-self-2 g c =
@@ -74,7 +74,7 @@ invariant_of-self-2 g c =
     let kept : List (Cell ℕ) = g.S.TextStore.list v.store in
     let seen : log ≡ c.args.self.now.log = ap (λ (a : ReplicaValue). a.log) c.self.view_is in
     let continues : Continues log c.args.op = subst (λ (l : List Operation). Continues l c.args.op) (sym seen) c.requires.continues in
-    let history : IsHistory c.reserve.new.self.operations = subst IsHistory (sym c.reserve.ensures.same) c.self.invariant.0.replica.history in
+    let history : IsHistory c.reserve.new.self.operations = subst IsHistory (sym c.reserve.ensures.same) c.self.invariant.within.replica.history in
     let goes_on : Continues c.reserve.new.self.operations c.args.op = subst (λ (l : List Operation). Continues l c.args.op) (sym c.reserve.ensures.same) continues in
     let pushed : c.push-added.new.self.operations ≡ with_operation c.args.op log = (taken_in c.args.op c.reserve.new.self c.push-added.new.self c.push-added.result c.push-added.ensures history goes_on c.in_ok-reserve.ensures.ok).0 ∙ ap (with_operation c.args.op) c.reserve.ensures.same in
     let replica : IsReplica (with_operation c.args.op log) c.change.new.states (g.S.TextStore.list c.change.new.store) =
@@ -85,11 +85,12 @@ invariant_of-self-2 g c =
       ap (λ (a : ReplicaValue). length a.cells) c.self.view_is,
       ap (λ (a : ReplicaValue). a.limit) c.self.view_is,
       length-map kept (shown v.states),
-    ) in (
-      within_more log c.push-added.new.self.operations v.states c.change.new.states kept (g.S.TextStore.list c.change.new.store) v.clock c.saw.new.self v.limit c.args.op pushed replica c.in_ok-change.ensures.cells room
-          (c.saw.ensures ∙ ap (max v.clock) c.last_count.ensures) c.self.invariant.0,
-      c.change.ensures.agrees,
-    )
+    ) in
+    record {
+      within = within_more log c.push-added.new.self.operations v.states c.change.new.states kept (g.S.TextStore.list c.change.new.store) v.clock c.saw.new.self v.limit c.args.op pushed replica c.in_ok-change.ensures.cells room
+          (c.saw.ensures ∙ ap (max v.clock) c.last_count.ensures) c.self.invariant.within;
+      agrees = c.change.ensures.agrees;
+    }
 
 pub returns-clause-log : goal.returns-clause-log
 returns-clause-log g c =
@@ -98,7 +99,7 @@ returns-clause-log g c =
     let kept : List (Cell ℕ) = g.S.TextStore.list v.store in
     let seen : log ≡ c.args.self.now.log = ap (λ (a : ReplicaValue). a.log) c.self.view_is in
     let continues : Continues log c.args.op = subst (λ (l : List Operation). Continues l c.args.op) (sym seen) c.requires.continues in
-    let history : IsHistory c.reserve.new.self.operations = subst IsHistory (sym c.reserve.ensures.same) c.self.invariant.0.replica.history in
+    let history : IsHistory c.reserve.new.self.operations = subst IsHistory (sym c.reserve.ensures.same) c.self.invariant.within.replica.history in
     let goes_on : Continues c.reserve.new.self.operations c.args.op = subst (λ (l : List Operation). Continues l c.args.op) (sym c.reserve.ensures.same) continues in
     let pushed : c.push-added.new.self.operations ≡ with_operation c.args.op log = (taken_in c.args.op c.reserve.new.self c.push-added.new.self c.push-added.result c.push-added.ensures history goes_on c.in_ok-reserve.ensures.ok).0 ∙ ap (with_operation c.args.op) c.reserve.ensures.same in
     pushed ∙ ap (with_operation c.args.op) seen
@@ -123,7 +124,7 @@ pub invariant_of-self : goal.invariant_of-self
 invariant_of-self g c =
     let v = c.self.inside in
     let kept : List (Cell ℕ) = g.S.TextStore.list v.store in
-    (within_later v.log.operations c.reserve.new.self.operations v.states v.states kept kept v.clock v.limit c.reserve.ensures.same refl (keeps_itself v.states) c.self.invariant.0, c.self.invariant.1)
+    record { within = within_later v.log.operations c.reserve.new.self.operations v.states v.states kept kept v.clock v.limit c.reserve.ensures.same refl (keeps_itself v.states) c.self.invariant.within; agrees = c.self.invariant.agrees }
 
 pub returns-in_err-reserve : goal.returns-in_err-reserve
 returns-in_err-reserve g c =
@@ -134,7 +135,7 @@ returns-in_err-reserve g c =
     rw (is, gives) (record {
       log = tt;
       change = tt;
-      same = same_value v.log.operations c.reserve.new.self.operations v.states v.states kept kept v.site.number v.limit c.reserve.ensures.same refl ids c.self.invariant.0.replica.states
+      same = same_value v.log.operations c.reserve.new.self.operations v.states v.states kept kept v.site.number v.limit c.reserve.ensures.same refl ids c.self.invariant.within.replica.states
           ∙ ap (λ (a : ReplicaValue). record a { table = v.states }) c.self.view_is;
       site = ap (λ (a : ReplicaValue). a.site) c.self.view_is;
       limit = ap (λ (a : ReplicaValue). a.limit) c.self.view_is;
@@ -151,7 +152,7 @@ returns-in_err-told g c =
     rw (is, gives) (record {
       log = tt;
       change = tt;
-      same = same_value v.log.operations c.reserve.new.self.operations v.states c.describe.new.states kept kept v.site.number v.limit c.reserve.ensures.same refl ids c.self.invariant.0.replica.states
+      same = same_value v.log.operations c.reserve.new.self.operations v.states c.describe.new.states kept kept v.site.number v.limit c.reserve.ensures.same refl ids c.self.invariant.within.replica.states
           ∙ ap (λ (a : ReplicaValue). record a { table = c.describe.new.states }) c.self.view_is;
       site = ap (λ (a : ReplicaValue). a.site) c.self.view_is;
       limit = ap (λ (a : ReplicaValue). a.limit) c.self.view_is;
@@ -168,7 +169,7 @@ returns-in_err-change g c =
     rw (is, gives) (record {
       log = tt;
       change = tt;
-      same = same_value v.log.operations c.reserve.new.self.operations v.states c.change.new.states kept (g.S.TextStore.list c.change.new.store) v.site.number v.limit c.reserve.ensures.same c.in_err-change.ensures.same ids c.self.invariant.0.replica.states
+      same = same_value v.log.operations c.reserve.new.self.operations v.states c.change.new.states kept (g.S.TextStore.list c.change.new.store) v.site.number v.limit c.reserve.ensures.same c.in_err-change.ensures.same ids c.self.invariant.within.replica.states
           ∙ ap (λ (a : ReplicaValue). record a { table = c.change.new.states }) c.self.view_is;
       site = ap (λ (a : ReplicaValue). a.site) c.self.view_is;
       limit = ap (λ (a : ReplicaValue). a.limit) c.self.view_is;
@@ -189,4 +190,4 @@ pub returns-clause-fault : goal.returns-clause-fault
 returns-clause-fault g c = tt
 
 pub change-requires-clause-agrees : goal.change-requires-clause-agrees
-change-requires-clause-agrees g c = g.met.S.TextStore.grows c.self.inside.store c.self.inside.states c.describe.new.states c.describe.ensures.ids c.self.invariant.1
+change-requires-clause-agrees g c = g.met.S.TextStore.grows c.self.inside.store c.self.inside.states c.describe.new.states c.describe.ensures.ids c.self.invariant.agrees

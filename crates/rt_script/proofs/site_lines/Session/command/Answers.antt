@@ -1,6 +1,6 @@
-use Rattle.std.proofs.Common.{Ok, Err, List, Result, ap, map, string_bytes, subst}
+use Rattle.std.proofs.Common.{Ok, Err, List, Result, ap, subst}
 use Rattle.rt_stamps.specs.declared.fault.Fault.{Fault}
-use Rattle.rt_stamps.specs.Words.{Word}
+use Rattle.rt_stamps.specs.Words.{Word, as_words}
 use Rattle.rt_peers.specs.SiteStep.{Gives}
 use Rattle.rt_peers.specs.State.{State}
 use Rattle.rt_script.specs.Site.{Session}
@@ -9,7 +9,7 @@ use Rattle.rt_script.proofs.site_lines.Session.command.Goals.{in-Ok, in-Err}
 
 pub returns-clause-gives : goal.returns-clause-gives
 returns-clause-gives c =
-    let words : List Word = map (λ w. string_bytes w) c.args.words.now in
+    let words : List Word = as_words c.args.words.now in
     let gives : (result : Result (List Word) Fault) → Gives c.args.path.now words c.self.inside.site result c.command.new.self → Gives c.args.path.now words c.args.self.now.site result c.command.new.self
     = λ result. subst (λ (s : State). Gives c.args.path.now words s result c.command.new.self) (ap (λ (s : Session). s.site) c.self.view_is) in
     elim c.match-command.branch [

@@ -5,7 +5,8 @@ use Rattle.rt_spans.specs.Shown.{is_in_span, value_of}
 use Rattle.rt_spans.specs.Spans.{AreRisingFrom, Has, value_at}
 use Rattle.rt_spans.proofs.Borders.{either}
 use Rattle.rt_spans.proofs.Debts.{affords_less}
-use Rattle.rt_spans.proofs.Held.{set_values}
+use Rattle.rt_spans.proofs.Held.{same_shown, set_values}
+use Rattle.rt_spans.proofs.Ranks.{beside}
 use Rattle.rt_spans.proofs.Thinning.{some_entry}
 use Rattle.rt_spans.proofs.map.SpanMap.repaint.Goals as goal
 
@@ -36,3 +37,17 @@ returns-clause-values g c =
     either c.repaint.result
     (λ t. set_values c.args.span stamp c.args.value _ _ _ (λ s. (now.painted t).values s) (ap (λ m. value_of m stamp) c.self.view_is) (omega (arith, c.requires.order, c.requires.bound)) (omega (arith, c.requires.bound)) ∙ ap (λ r. cond (r && inside) (Some c.args.value) old) (sym t))
     (λ f. ap (λ bs. cond (nat_lt stamp.count (2 ^ 64)) (value_at (rank stamp.site stamp.count) (in_blocks bs)) None) (now.unchanged f) ∙ ap (λ m. value_of m stamp) c.self.view_is ∙ ap (λ r. cond (r && inside) (Some c.args.value) old) (sym f))
+
+pub returns-clause-kept : goal.returns-clause-kept
+returns-clause-kept g c =
+    λ site count bound was out.
+    let span = c.args.span in
+    let now = c.repaint.ensures in
+    let had = rw (← c.self.view_is) at was in
+    either c.repaint.result
+    (λ t. (now.painted t).keeps (rank site count) (beside span.site span.first span.last site count bound (omega (arith, c.requires.bound)) out) had)
+    (λ f. subst (λ bs. Has (rank site count) (in_blocks bs)) (sym (now.unchanged f)) had)
+
+pub returns-clause-unchanged : goal.returns-clause-unchanged
+returns-clause-unchanged g c =
+    λ f. same_shown _ _ _ (c.repaint.ensures.unchanged f) ∙ c.self.view_is

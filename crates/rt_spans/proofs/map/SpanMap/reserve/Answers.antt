@@ -1,12 +1,14 @@
-use Rattle.std.proofs.Common.{◌∙◌, ◌≡◌, ◌/◌, ℕ, List, ◌^◌, Option, None, ap, arith, cond, inl, inr, nat_lt, refl, vec_len}
+use Rattle.std.proofs.Common.{◌∙◌, List, ◌^◌, Option, None, ap, arith, cond, inl, inr, nat_lt, refl, subst, sym, vec_len}
 use Rattle.std.proofs.lemmas.Result.{err_from_is_err_and}
 use Rattle.rt_spans.specs.declared.block.Block.{Block}
 use Rattle.rt_spans.specs.Blocks.{in_blocks}
 use Rattle.rt_spans.specs.Ranks.{rank}
 use Rattle.rt_spans.specs.Spans.{value_at}
 use Rattle.rt_spans.specs.Room.{Affords, debt}
-use Rattle.rt_spans.specs.Shown.{Shown, value_of}
+use Rattle.rt_spans.specs.Shown.{IsBorder, Shown, value_of}
 use Rattle.rt_spans.proofs.Debts.{debt_bound}
+use Rattle.rt_spans.proofs.Grounding.{grounding_keeps}
+use Rattle.rt_spans.proofs.Held.{same_shown}
 use Rattle.rt_spans.proofs.map.SpanMap.reserve.Goals as goal
 
 pub invariant_of-self-2 : goal.invariant_of-self-2
@@ -21,14 +23,19 @@ invariant_of-self-2 g c =
       afforded = c.spares_for.ensures.enough _ _ _ (omega (arith, c.ground.ensures.len, c.ground.ensures.left, c.reserve.ensures.len, c.len.ensures)) (debt_bound _ c.ground.ensures.room) (omega (arith, c.ground.ensures.left, c.in_ok-fill.ensures.ok, c.max-count.ensures));
     }
 
-same_shown : {V : Type 0} (now old : List (Block V)) (left : ℕ) → now ≡ old → ◌≡◌ {A = Shown V} (record { entries = in_blocks now; room = left / 2 }) (record { entries = in_blocks old; room = left / 2 })
-same_shown {V} now old left e = λ j. record { entries = in_blocks (e j); room = left / 2 }
-
 pub returns-in_err-reserve : goal.returns-in_err-reserve
 returns-in_err-reserve g c =
     let (y, is, gives) = err_from_is_err_and c.from_residual.result c.from_residual.ensures.1 in
     let same = same_shown c.reserve.new.self.items c.self.inside.blocks.items c.self.inside.left c.in_err-reserve.ensures.items ∙ c.self.view_is in
-    rw (is, gives) (record { values = λ stamp. ap (λ (m : Shown g.row.V.Denot). value_of m stamp) same; ok = tt; kept = tt; err = same; fault = refl })
+    rw (is, gives) (record {
+      values = λ stamp. ap (λ (m : Shown g.row.V.Denot). value_of m stamp) same;
+      borders = λ site count was. subst (λ (m : Shown g.row.V.Denot). IsBorder m site count) (sym same) was;
+      ok = tt;
+      kept = tt;
+      err = same;
+      fault = refl;
+      roomy = λ h. absurd (omega (arith, rw (← c.self.view_is) at h, c.if-entries-self.false));
+    })
 
 pub invariant_of-self : goal.invariant_of-self
 invariant_of-self g c =
@@ -48,7 +55,15 @@ pub returns-in_err-fill : goal.returns-in_err-fill
 returns-in_err-fill g c =
     let (y, is, gives) = err_from_is_err_and c.from_residual-in_err-fill.result c.from_residual-in_err-fill.ensures.1 in
     let same = same_shown c.reserve.new.self.items c.self.inside.blocks.items c.self.inside.left c.in_ok-reserve.ensures.items ∙ c.self.view_is in
-    rw (is, gives) (record { values = λ stamp. ap (λ (m : Shown g.row.V.Denot). value_of m stamp) same; ok = tt; kept = tt; err = same; fault = refl })
+    rw (is, gives) (record {
+      values = λ stamp. ap (λ (m : Shown g.row.V.Denot). value_of m stamp) same;
+      borders = λ site count was. subst (λ (m : Shown g.row.V.Denot). IsBorder m site count) (sym same) was;
+      ok = tt;
+      kept = tt;
+      err = same;
+      fault = refl;
+      roomy = λ h. absurd (omega (arith, rw (← c.self.view_is) at h, c.if-entries-self.false));
+    })
 
 pub invariant_of-self-in_err-fill : goal.invariant_of-self-in_err-fill
 invariant_of-self-in_err-fill g c =
@@ -86,3 +101,9 @@ returns-clause-values g c =
     let s = rank stamp.site stamp.count in
     let same = c.ground.ensures.values s ∙ ap (λ (items : List (Block g.row.V.Denot)). value_at s (in_blocks items)) c.in_ok-reserve.ensures.items in
     ap (λ (v : Option g.row.V.Denot). cond (nat_lt stamp.count (2 ^ 64)) v None) same ∙ ap (λ (m : Shown g.row.V.Denot). value_of m stamp) c.self.view_is
+
+pub returns-clause-borders : goal.returns-clause-borders
+returns-clause-borders g c =
+    λ site count was.
+    let had = rw (← c.self.view_is) at was in
+    grounding_keeps (rank site count) c.reserve.new.self.items c.ground.new.blocks.items (λ some. c.ground.ensures.kept (omega (arith, some))) (rw c.in_ok-reserve.ensures.items had)

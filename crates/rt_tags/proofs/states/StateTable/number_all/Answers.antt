@@ -1,6 +1,7 @@
 use Rattle.std.proofs.Common.{◌<◌, ◌∙◌, ◌++◌, ◌∷◌, [], All, ap, arith, length, map, refl, string_bytes, subst, sym, take}
 use Rattle.std.proofs.lemmas.List.{map-append, map_more, take_all}
 use Rattle.std.proofs.lemmas.Result.{err_from_is_err_and}
+use Rattle.rt_stamps.specs.Words.{as_words}
 use Rattle.rt_tags.specs.States.{TagStates, IsTag, all_numbered, name_at}
 use Rattle.rt_tags.specs.Tags.{with_name}
 use Rattle.rt_tags.proofs.Listing.{given_more, keeps_both, names_stay, numbered_more}
@@ -37,7 +38,7 @@ loop-name-preserved c =
     let ids = c.number.ensures.ids in
     let before = c.loop-name.tags.items in
     let within : c.loop-name.name-index < length c.args.names.now = omega arith in
-    let front = map (λ s. string_bytes s) (take c.loop-name.name-index c.args.names.now) in
+    let front = as_words (take c.loop-name.name-index c.args.names.now) in
     let more =
     map_more (λ s. string_bytes s) c.args.names.now c.loop-name.name-index c.name-item.result within
     ∙ ap (λ v. front ++ v ∷ []) (ap (λ s. string_bytes s) (sym c.name-item.is) ∙ sym c.deref.ensures) in
@@ -55,9 +56,9 @@ loop-name-preserved c =
     }
 
 pub returns-clause-tags : goal.returns-clause-tags
-returns-clause-tags c = c.loop-name.invariant.tags ∙ ap (λ v. map (λ s. string_bytes s) v) (take_all c.loop-name.name-index c.args.names.now c.loop-name-test.false)
+returns-clause-tags c = c.loop-name.invariant.tags ∙ ap (λ v. as_words v) (take_all c.loop-name.name-index c.args.names.now c.loop-name-test.false)
 
 pub returns-clause-names : goal.returns-clause-names
 returns-clause-names c =
     c.loop-name.invariant.names
-    ∙ ap (λ v. (all_numbered (map (λ s. string_bytes s) v) c.args.self.now).names) (take_all c.loop-name.name-index c.args.names.now c.loop-name-test.false)
+    ∙ ap (λ v. (all_numbered (as_words v) c.args.self.now).names) (take_all c.loop-name.name-index c.args.names.now c.loop-name-test.false)

@@ -1,5 +1,6 @@
-use Rattle.std.proofs.Common.{◌≡◌, ◌∙◌, [], All, ap, length, map, string_bytes, subst, sym, refl}
+use Rattle.std.proofs.Common.{◌≡◌, ◌∙◌, [], All, ap, length, subst, sym, refl}
 use Rattle.std.proofs.lemmas.Result.{IfOk-weaker, err_from_is_err_and}
+use Rattle.rt_stamps.specs.Words.{as_words}
 use Rattle.rt_tags.specs.Kept.{all_on}
 use Rattle.rt_tags.specs.States.{Interns, IsTag, state_at, writes_at}
 use Rattle.rt_tags.specs.Writers.{listed_by, state_after}
@@ -17,7 +18,7 @@ pub returns-clause-state : goal.returns-clause-state
 returns-clause-state c =
     let table = c.number_all.new.self in
     let new = c.with_all.new.self in
-    let names = map (λ s. string_bytes s) c.args.names.now in
+    let names = as_words c.args.names.now in
     let writes = c.deref-2.ensures.value ∙ c.in_ok-writes.ensures ∙ ap (all_on c.args.writer) c.deref.ensures.value in
     let made = (λ j. state_after (c.order-2.ensures.empty j) (writes_at table (writes j))) ∙ ap (state_after []) (listed_writes table c.args.writer c.in_ok-tags.tags.items ∙ ap (listed_by c.args.writer) c.in_ok-tags.ensures.tags) in
     IfOk-weaker c.with_all.result (λ id. state_at new id ≡ state_after (state_at table 0) (writes_at table c.deref-2.result.now)) (λ id. state_at new id ≡ state_after [] (listed_by c.args.writer names)) (λ id h. h ∙ made) c.with_all.ensures.state
@@ -26,7 +27,7 @@ pub returns-clause-interned : goal.returns-clause-interned
 returns-clause-interned c =
     let table = c.number_all.new.self in
     let new = c.with_all.new.self in
-    let names = map (λ s. string_bytes s) c.args.names.now in
+    let names = as_words c.args.names.now in
     let writes = c.deref-2.ensures.value ∙ c.in_ok-writes.ensures ∙ ap (all_on c.args.writer) c.deref.ensures.value in
     let made = (λ j. state_after (c.order-2.ensures.empty j) (writes_at table (writes j))) ∙ ap (state_after []) (listed_writes table c.args.writer c.in_ok-tags.tags.items ∙ ap (listed_by c.args.writer) c.in_ok-tags.ensures.tags) in
     IfOk-weaker c.with_all.result (λ id. Interns (state_after (state_at table 0) (writes_at table c.deref-2.result.now)) table.states id new.states) (λ id. Interns (state_after [] (listed_by c.args.writer names)) c.args.self.now.states id new.states)

@@ -1,4 +1,4 @@
-use Rattle.std.proofs.Common.{◌≡◌, ◌∙◌, ap, arith, sym, subst, ℕ, [], true, Result, Ok, length, map, string_bytes, refl}
+use Rattle.std.proofs.Common.{◌≡◌, ◌∙◌, ap, arith, sym, subst, ℕ, [], true, Result, Ok, length, string_bytes, refl}
 use Rattle.std.proofs.lemmas.Grind.{common_steps}
 use Rattle.std.proofs.lemmas.List.{length-map}
 use Rattle.std.proofs.lemmas.Option.{get_or_from_slice_get, slice_get_within}
@@ -10,6 +10,7 @@ use Rattle.rt_tags.specs.declared.states.Entry.{Entry}
 use Rattle.rt_tags.proofs.Keeping.{keeps_interned, keeps_itself, named_there, next_kept, next_seen, settled_there, stays_interned, table_more, table_of}
 use Rattle.rt_tags.proofs.Places.{clash}
 use Rattle.std.proofs.lemmas.Result.{err_from_is_err_and}
+use Rattle.rt_stamps.specs.Words.{as_words}
 use Rattle.rt_tags.proofs.states.StateTable.with.Goals as goal
 
 pub returns-in_err-new-clause-same : goal.returns-in_err-new-clause-same
@@ -34,7 +35,7 @@ invariant_of-self-in-Some c =
     let e : Entry = record { tag = c.args.tag; writer = c.args.writer; on = c.args.on } in
     let tag = subst (λ (t : TagStates). IsTag t c.args.tag) (sym c.self.view_is) c.requires.tag in
     let next = rw c.in-Some.is at c.in_ok-new.ensures.next in
-    let is = subst (λ v. IsNext (map (λ s. string_bytes s) v) e c.state_of-old.result.now.entries.items c.in-Some.new) c.as_slice.ensures.keys next in
+    let is = subst (λ v. IsNext (as_words v) e c.state_of-old.result.now.entries.items c.in-Some.new) c.as_slice.ensures.keys next in
     let kept = next_kept names keys c.self.invariant c.args.state c.state_of-old.result.now c.state_of-old.ensures e tag c.in-Some.new is in
     table_more names keys c.intern.new.states.keys (state_seen names c.in-Some.new) c.in_ok-place-in-Some.place c.self.invariant (c.in_ok-place-in-Some.ensures.kept names c.self.invariant.kept kept) (c.in_ok-place-in-Some.ensures.interned names c.self.invariant.kept kept)
 
@@ -45,7 +46,7 @@ returns-in_ok-place-in-Some-clause-interned c =
     let e : Entry = record { tag = c.args.tag; writer = c.args.writer; on = c.args.on } in
     let tag = subst (λ (t : TagStates). IsTag t c.args.tag) (sym c.self.view_is) c.requires.tag in
     let next = rw c.in-Some.is at c.in_ok-new.ensures.next in
-    let is = subst (λ v. IsNext (map (λ s. string_bytes s) v) e c.state_of-old.result.now.entries.items c.in-Some.new) c.as_slice.ensures.keys next in
+    let is = subst (λ v. IsNext (as_words v) e c.state_of-old.result.now.entries.items c.in-Some.new) c.as_slice.ensures.keys next in
     let kept = next_kept names keys c.self.invariant c.args.state c.state_of-old.result.now c.state_of-old.ensures e tag c.in-Some.new is in
     let seen = next_seen names keys c.self.invariant c.args.state c.state_of-old.result.now c.state_of-old.ensures e tag c.in-Some.new is in
     let new = states_seen names c.intern.new.states.keys in

@@ -1,4 +1,4 @@
-use Rattle.std.proofs.Common.{◌≡◌, ◌∙◌, [], ap, arith, map, string_bytes, subst, sym, refl}
+use Rattle.std.proofs.Common.{◌≡◌, ◌∙◌, [], ap, arith, subst, sym, refl}
 use Rattle.std.proofs.lemmas.Grind.{common_steps}
 use Rattle.std.proofs.lemmas.Option.{get_or_from_slice_get, slice_get_within}
 use Rattle.rt_tags.specs.Kept.{IsKept, IsSorted, all_seen, state_seen, states_seen}
@@ -7,6 +7,7 @@ use Rattle.rt_tags.specs.States.{TagStates, Interns, state_at, writes_at, KeepsI
 use Rattle.rt_tags.specs.Writers.{state_after}
 use Rattle.rt_tags.proofs.Keeping.{keeps_interned, keeps_itself, sorted_there, state_there, table_more, table_of}
 use Rattle.std.proofs.lemmas.Result.{err_from_is_err_and}
+use Rattle.rt_stamps.specs.Words.{as_words}
 use Rattle.rt_tags.proofs.states.StateTable.with_all.Goals as goal
 
 pub returns-clause-interned : goal.returns-clause-interned
@@ -15,8 +16,8 @@ returns-clause-interned c =
     let keys = c.self.inside.states.keys in
     let old = c.state_of-old.result.now in
     let made = c.in_ok-new.new in
-    let kept = subst (λ v. IsKept (map (λ s. string_bytes s) v) made) c.as_slice.ensures.keys c.in_ok-new.ensures.kept in
-    let entries = subst (λ v. state_seen (map (λ s. string_bytes s) v) made ≡ state_after (state_seen (map (λ s. string_bytes s) v) old) (all_seen (map (λ s. string_bytes s) v) c.args.writes.now)) c.as_slice.ensures.keys c.in_ok-new.ensures.entries in
+    let kept = subst (λ v. IsKept (as_words v) made) c.as_slice.ensures.keys c.in_ok-new.ensures.kept in
+    let entries = subst (λ v. state_seen (as_words v) made ≡ state_after (state_seen (as_words v) old) (all_seen (as_words v) c.args.writes.now)) c.as_slice.ensures.keys c.in_ok-new.ensures.entries in
     let seen = entries ∙ ap (λ v. state_after v (all_seen names c.args.writes.now)) (sym (state_there names keys c.self.invariant c.args.state old c.state_of-old.ensures)) in
     let new = states_seen names c.intern.new.states.keys in
     subst (λ (t : TagStates). Interns (state_after (state_at t c.args.state) (writes_at t c.args.writes.now)) t.states c.in_ok-place.place new) c.self.view_is
@@ -31,14 +32,14 @@ state_after-requires-clause-named c = grind (arith, common_steps)
 pub state_after-requires-clause-sorted : goal.state_after-requires-clause-sorted
 state_after-requires-clause-sorted c =
     let old = c.state_of-old.result.now in
-    subst (λ v. IsSorted (map (λ s. string_bytes s) v) old.entries.items) (sym c.as_slice.ensures.keys)
+    subst (λ v. IsSorted (as_words v) old.entries.items) (sym c.as_slice.ensures.keys)
     (sorted_there (names_of c.self.inside.names) c.self.inside.states.keys c.self.invariant c.args.state old c.state_of-old.ensures)
 
 pub invariant_of-self-2 : goal.invariant_of-self-2
 invariant_of-self-2 c =
     let names = names_of c.self.inside.names in
     let made = c.in_ok-new.new in
-    let kept = subst (λ v. IsKept (map (λ s. string_bytes s) v) made) c.as_slice.ensures.keys c.in_ok-new.ensures.kept in
+    let kept = subst (λ v. IsKept (as_words v) made) c.as_slice.ensures.keys c.in_ok-new.ensures.kept in
     table_more names c.self.inside.states.keys c.intern.new.states.keys (state_seen names made) c.in_ok-place.place c.self.invariant (c.in_ok-place.ensures.kept names c.self.invariant.kept kept) (c.in_ok-place.ensures.interned names c.self.invariant.kept kept)
 
 pub returns-clause-given : goal.returns-clause-given

@@ -1,8 +1,9 @@
 use Rattle.rt_rga.specs.Kept.{ReplicaValue}
-use Rattle.std.proofs.Common.{◌≡◌, ◌∙◌, ◌≤◌, ◌⊎◌, ℕ, List, None, Some, ap, length, map, string_bytes, subst, sym, refl, inl}
+use Rattle.std.proofs.Common.{◌≡◌, ◌∙◌, ◌≤◌, ◌⊎◌, ℕ, List, None, Some, ap, length, map, subst, sym, refl, inl}
 use Rattle.std.proofs.lemmas.Result.{err_from_is_err_and}
 use Rattle.rt_stamps.specs.declared.fault.Fault.TheVariants.{NoMemory}
 use Rattle.rt_stamps.specs.declared.limits.TheConstants.{GREATEST_COUNT, MOST_SPANS}
+use Rattle.rt_stamps.specs.Words.{as_words}
 use Rattle.rt_ops.specs.Edits.{body_of}
 use Rattle.rt_ops.specs.Operations.{Body}
 use Rattle.rt_rga.specs.Drafts.{with_drafts}
@@ -17,12 +18,12 @@ use Rattle.rt_edits.specs.Flat.{Flat, logged}
 use Rattle.rt_edits.specs.Listed.{AreListed}
 use Rattle.rt_edits.specs.TagDrafts.{deletion_drafts}
 use Rattle.rt_edits.specs.TagWrites.{without_tags}
-use Rattle.rt_edits.specs.Names.{all_forgotten}
 use Rattle.rt_edits.proofs.ListedWrites.{StaysTagged, all_without_stays}
 use Rattle.rt_text.specs.Kept.{IsDoc}
 use Rattle.rt_text.specs.Widgets.{AreSiteMarks}
 use Rattle.rt_text.proofs.KeptDocument.{clock_fine}
 use Rattle.rt_text.proofs.MadeDocument.{document_written, seen}
+use Rattle.rt_tags.specs.Tags.{all_forgotten}
 use Rattle.rt_text.proofs.TaggedDocument.{deleted_makes, fits, kept_beside, left_of_deletion, makes_seen, of_site, refuses}
 use Rattle.rt_text.proofs.doc.Doc.delete_tags.Goals as goal
 
@@ -35,7 +36,7 @@ returns-clause-unchanged g c = tt
 pub commit-requires : goal.commit-requires
 commit-requires g c =
     let old = c.args.self.now in
-    let names = map (λ w. string_bytes w) c.args.names.now in
+    let names = as_words c.args.names.now in
     let drafts = deletion_drafts MOST_SPANS old names in
     let bodies : map body_of c.in_ok-drafts.drafts.items ≡ drafts = c.in_ok-drafts.ensures.ok old (document_written old c.kept.ensures.history c.kept.ensures.document) (sym c.kept.ensures.cells) in
     let of = of_site c.kept.result.1.now (g.S.TextStore.list c.kept.result.0.now) old c.kept.ensures.history c.kept.ensures.document c.kept.ensures.site c.kept.ensures.cells c.kept.ensures.few in
@@ -54,7 +55,7 @@ invariant_of-self g c = subst (λ (r : ReplicaValue). IsDoc r.cells c.self.insid
 pub returns-in_err-commit : goal.returns-in_err-commit
 returns-in_err-commit g c =
     let old = c.args.self.now in
-    let names = map (λ w. string_bytes w) c.args.names.now in
+    let names = as_words c.args.names.now in
     let drafts = deletion_drafts MOST_SPANS old names in
     let bodies : map body_of c.in_ok-drafts.drafts.items ≡ drafts = c.in_ok-drafts.ensures.ok old (document_written old c.kept.ensures.history c.kept.ensures.document) (sym c.kept.ensures.cells) in
     let of = of_site c.kept.result.1.now (g.S.TextStore.list c.kept.result.0.now) old c.kept.ensures.history c.kept.ensures.document c.kept.ensures.site c.kept.ensures.cells c.kept.ensures.few in
@@ -76,7 +77,7 @@ returns-in_err-commit g c =
 pub invariant_of-self-2 : goal.invariant_of-self-2
 invariant_of-self-2 g c =
     let old = c.args.self.now in
-    let names = map (λ w. string_bytes w) c.args.names.now in
+    let names = as_words c.args.names.now in
     let drafts = deletion_drafts MOST_SPANS old names in
     let bodies : map body_of c.in_ok-drafts.drafts.items ≡ drafts = c.in_ok-drafts.ensures.ok old (document_written old c.kept.ensures.history c.kept.ensures.document) (sym c.kept.ensures.cells) in
     let of = of_site c.kept.result.1.now (g.S.TextStore.list c.kept.result.0.now) old c.kept.ensures.history c.kept.ensures.document c.kept.ensures.site c.kept.ensures.cells c.kept.ensures.few in
@@ -98,7 +99,7 @@ invariant_of-self-2 g c =
 pub returns-clause-ok : goal.returns-clause-ok
 returns-clause-ok g c =
     let old = c.args.self.now in
-    let names = map (λ w. string_bytes w) c.args.names.now in
+    let names = as_words c.args.names.now in
     let drafts = deletion_drafts MOST_SPANS old names in
     let bodies : map body_of c.in_ok-drafts.drafts.items ≡ drafts = c.in_ok-drafts.ensures.ok old (document_written old c.kept.ensures.history c.kept.ensures.document) (sym c.kept.ensures.cells) in
     let of = of_site c.kept.result.1.now (g.S.TextStore.list c.kept.result.0.now) old c.kept.ensures.history c.kept.ensures.document c.kept.ensures.site c.kept.ensures.cells c.kept.ensures.few in
@@ -116,7 +117,7 @@ returns-clause-ok g c =
 pub returns-clause-checked : goal.returns-clause-checked
 returns-clause-checked g c =
     let old = c.args.self.now in
-    let names = map (λ w. string_bytes w) c.args.names.now in
+    let names = as_words c.args.names.now in
     let drafts = deletion_drafts MOST_SPANS old names in
     let bodies : map body_of c.in_ok-drafts.drafts.items ≡ drafts = c.in_ok-drafts.ensures.ok old (document_written old c.kept.ensures.history c.kept.ensures.document) (sym c.kept.ensures.cells) in
     let of = of_site c.kept.result.1.now (g.S.TextStore.list c.kept.result.0.now) old c.kept.ensures.history c.kept.ensures.document c.kept.ensures.site c.kept.ensures.cells c.kept.ensures.few in
@@ -134,7 +135,7 @@ returns-clause-checked g c =
 pub returns-clause-text : goal.returns-clause-text
 returns-clause-text g c =
     let old = c.args.self.now in
-    let names = map (λ w. string_bytes w) c.args.names.now in
+    let names = as_words c.args.names.now in
     let drafts = deletion_drafts MOST_SPANS old names in
     let bodies : map body_of c.in_ok-drafts.drafts.items ≡ drafts = c.in_ok-drafts.ensures.ok old (document_written old c.kept.ensures.history c.kept.ensures.document) (sym c.kept.ensures.cells) in
     let of = of_site c.kept.result.1.now (g.S.TextStore.list c.kept.result.0.now) old c.kept.ensures.history c.kept.ensures.document c.kept.ensures.site c.kept.ensures.cells c.kept.ensures.few in

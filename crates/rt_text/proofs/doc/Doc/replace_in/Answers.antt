@@ -12,7 +12,7 @@ use Rattle.rt_stamps.specs.declared.fault.Fault.{Fault}
 use Rattle.rt_stamps.specs.declared.fault.Fault.TheVariants.{ClockSpent, NoMemory}
 use Rattle.rt_stamps.specs.declared.limits.TheConstants.{GREATEST_COUNT, MOST_SPANS}
 use Rattle.rt_stamps.specs.Outcomes.{first_of}
-use Rattle.rt_stamps.specs.Words.{Word}
+use Rattle.rt_stamps.specs.Words.{Word, as_words}
 use Rattle.rt_store.specs.declared.cell.Cell.{Cell}
 use Rattle.rt_store.specs.Cells.{text_of}
 use Rattle.rt_store.specs.Shown.{shown}
@@ -308,7 +308,7 @@ done g c =
     let own_now : Own = own_in c.widget.inside.parts in
     let new = more_new flat own others c.args.range r.place pieces rest i in
     let selected = r.plan.selected.items in
-    let names = map (λ w. string_bytes w) r.plan.names.items in
+    let names = as_words r.plan.names.items in
     let sel : selected_stamps c.widget.inside.parts.selection ≡ own.sel = ap (λ (o : Own). o.sel) c.widget.view_is in
     let newest : c.cell_at.result.stamp ≡ last_newline (viewed flat own others) =
     last_kept c.kept.result.1.now (g.S.TextStore.list c.kept.result.0.now) flat own others c.stretch-stretch.result c.cell_at.result c.kept.ensures.cells
@@ -333,7 +333,7 @@ done g c =
       kept = kept;
       none = none;
       marks_is = c.insert_all.ensures.marks ∙ (λ k. marks_inserted (here k) (plans.plan.characters k) (moved k));
-      tags_is = c.list_tags.ensures ∙ (λ k. all_listed (map (λ w. string_bytes w) (c.deref-3.ensures.value k)) (c.make_planned.ensures.tags k)) ∙ ap (λ (f : Flat). all_listed names f.tags) c.self.view_is
+      tags_is = c.list_tags.ensures ∙ (λ k. all_listed (as_words (c.deref-3.ensures.value k)) (c.make_planned.ensures.tags k)) ∙ ap (λ (f : Flat). all_listed names f.tags) c.self.view_is
           ∙ ap (all_listed names) (sym (tags_left_are flat own others c.args.range r.place pieces rest i)) ∙ plans.plan.tags;
       doc = replacement_seen flat own others c.args.range r.place pieces rest i c.make_planned.new.replica none
           (c.in_ok-make_planned.ensures.log ∙ (λ k. with_drafts (c.self.view_is k).site ((drafts ∙ plans.drafts) k) (c.self.view_is k).log)) c.in_ok-make_planned.ensures.cells

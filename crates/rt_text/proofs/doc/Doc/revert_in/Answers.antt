@@ -4,6 +4,7 @@ use Rattle.std.proofs.lemmas.List.{length-map}
 use Rattle.std.proofs.lemmas.Result.{err_from_is_err_and}
 use Rattle.rt_ops.specs.Edits.{body_of}
 use Rattle.rt_stamps.specs.declared.limits.TheConstants.{MOST_CELLS}
+use Rattle.rt_stamps.specs.Words.{as_words}
 use Rattle.rt_store.specs.Cells.{text_of}
 use Rattle.rt_store.specs.Shown.{shown}
 use Rattle.rt_tags.specs.Tags.{IsName, is_ready}
@@ -238,7 +239,7 @@ invariant_of-self-2 g c =
     (c.commit.ensures.site ∙ ap (λ (f : Flat). f.site) c.self.view_is) (c.commit.ensures.limit ∙ ap (λ (f : Flat). f.limit) c.self.view_is) in
     let marks : c.revert_all.new.marks ≡ left.marks = c.revert_all.ensures.marks ∙ (λ k. marks_after (c.deref-2.ensures.value k) (c.self.view_is k).marks) ∙ plans.marks in
     let tags : c.list_tags.new.table.names ≡ left.tags =
-    c.list_tags.ensures ∙ (λ k. all_listed (map (λ w. string_bytes w) (c.deref-4.ensures.value k)) (c.prepare_tags.ensures.names k)) ∙ ap (λ (f : Flat). all_listed (map (λ w. string_bytes w) plan.names.items) f.tags) c.self.view_is ∙ plans.tags in
+    c.list_tags.ensures ∙ (λ k. all_listed (as_words (c.deref-4.ensures.value k)) (c.prepare_tags.ensures.names k)) ∙ ap (λ (f : Flat). all_listed (as_words plan.names.items) f.tags) c.self.view_is ∙ plans.tags in
     let kept : IsDoc flat.cells flat.marks flat.tags = subst (λ (f : Flat). IsDoc f.cells f.marks f.tags) c.self.view_is c.self.invariant in
     subst (λ (x : _). x) (λ k. IsDoc (sym doc k).cells (sym marks k) (sym tags k)) (left_kept flat group i kept)
 
@@ -272,7 +273,7 @@ returns g c =
     (c.commit.ensures.site ∙ ap (λ (f : Flat). f.site) c.self.view_is) (c.commit.ensures.limit ∙ ap (λ (f : Flat). f.limit) c.self.view_is) in
     let marks : c.revert_all.new.marks ≡ left.marks = c.revert_all.ensures.marks ∙ (λ k. marks_after (c.deref-2.ensures.value k) (c.self.view_is k).marks) ∙ plans.marks in
     let tags : c.list_tags.new.table.names ≡ left.tags =
-    c.list_tags.ensures ∙ (λ k. all_listed (map (λ w. string_bytes w) (c.deref-4.ensures.value k)) (c.prepare_tags.ensures.names k)) ∙ ap (λ (f : Flat). all_listed (map (λ w. string_bytes w) plan.names.items) f.tags) c.self.view_is ∙ plans.tags in
+    c.list_tags.ensures ∙ (λ k. all_listed (as_words (c.deref-4.ensures.value k)) (c.prepare_tags.ensures.names k)) ∙ ap (λ (f : Flat). all_listed (as_words plan.names.items) f.tags) c.self.view_is ∙ plans.tags in
     let own = c.args.widget.now in
     let own_moved_is : c.revert_all.new.widget ≡ own_reverted flat group own =
     c.revert_all.ensures.own ∙ (λ k. own_renamed (c.deref-3.ensures.value k) (own_after (c.deref-2.ensures.value k) own)) ∙ own_moved states table store number many flat group plan p own in

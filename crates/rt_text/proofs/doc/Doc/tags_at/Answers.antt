@@ -1,6 +1,7 @@
 use Rattle.std.proofs.lemmas.Result.{err_from_is_err_and}
-use Rattle.std.proofs.Common.{◌∙◌, ◌+◌, ap, arith, map}
-use Rattle.std.specs.Prelude.{option_map, string_bytes}
+use Rattle.std.proofs.Common.{◌∙◌, ◌+◌, ap, arith}
+use Rattle.std.specs.Prelude.{option_map}
+use Rattle.rt_stamps.specs.Words.{as_words}
 use Rattle.rt_edits.specs.Flat.{Flat}
 use Rattle.rt_edits.specs.Selected.{selected_stamps}
 use Rattle.rt_edits.proofs.PlaceLaws.{length_text, text_within}
@@ -39,7 +40,7 @@ returns-clause-ok g c =
     let at = place_kept table kept c.args.self.now.cells c.limits.result c.stretch.result own c.args.place c.kept.ensures.cells c.stretch.ensures.value c.limits.ensures c.stretch.ensures.within c.requires in
     ap (option_map (tags_on own tags)) at.1
     ∙ tags_found table kept c.args.self.now.cells (selected_stamps c.widget.inside.parts.selection) own tags
-    (map (λ w. string_bytes w) c.in_ok-names.names.items) (map (λ w. string_bytes w) c.keep_tags_on.new.names.items) (c.stretch.result.begin + c.args.place) c.cell_at-cell.result
+    (as_words c.in_ok-names.names.items) (as_words c.keep_tags_on.new.names.items) (c.stretch.result.begin + c.args.place) c.cell_at-cell.result
     c.kept.ensures.cells (ap (λ (o : Own). o.sel) c.widget.view_is) c.cell_at-cell.ensures
     (c.in_ok-names.ensures.names ∙ ap (λ (f : Flat). f.tags) c.self.view_is) c.keep_tags_on.ensures
 

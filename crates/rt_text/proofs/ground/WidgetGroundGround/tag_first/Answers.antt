@@ -6,7 +6,8 @@ use Rattle.rt_store.specs.Cells.{text_of}
 use Rattle.rt_store.specs.Shown.{TaggedCell}
 use Rattle.rt_store.proofs.Shown.{text_shown}
 use Rattle.rt_tags.specs.States.{state_at}
-use Rattle.rt_text.specs.Widgets.{Own, widget_over}
+use Rattle.rt_text.specs.Grounds.{widget_over}
+use Rattle.rt_text.specs.Widgets.{Own}
 use Rattle.rt_text.proofs.SeenLaws.{begins_by}
 use Rattle.rt_text.proofs.ground.WidgetGroundGround.tag_first.Goals as goal
 

@@ -12,7 +12,7 @@ use Rattle.rt_edits.specs.Flat.{Flat}
 use Rattle.rt_text.specs.Parts.{own_in}
 use Rattle.rt_text.specs.Accepted.{answer_of, flat_after, own_with_new, view_after, with_new}
 use Rattle.rt_text.specs.declared.parts.Parts.{Parts}
-use Rattle.rt_text.specs.Widgets.{IsOwnOf, Own, Viewed}
+use Rattle.rt_text.specs.Widgets.{AreOwnOf, IsOwnOf, Own, Viewed}
 use Rattle.rt_text.proofs.PeerLaws.{each_by, each_room}
 use Rattle.rt_text.proofs.AcceptedView.{own_seen, own_stands, view_change, view_fits, view_new}
 use Rattle.rt_text.proofs.view.View.accept.Goals as goal
@@ -47,7 +47,7 @@ follow-requires-clause-insert g c =
     let tells = c.in_ok-taken.ensures.change in
     let fits : length (text_of flat.cells) + c.in-New.change.inserted ≤ 2 ^ 64 - 1 =
     view_fits flat c.args.op tells.0 c.in-New.change c.in_ok-taken.taken c.in-New.is c.in_ok-taken.ensures.answer tells.1 c.log.ensures.cells c.kept.ensures.most in
-    omega (arith, fits, c.self.invariant.0.0)
+    omega (arith, fits, c.self.invariant.own.0)
 
 pub follow-requires-clause-current : goal.follow-requires-clause-current
 follow-requires-clause-current g c =
@@ -55,7 +55,7 @@ follow-requires-clause-current g c =
     let tells = c.in_ok-taken.ensures.change in
     let fits : length (text_of flat.cells) + c.in-New.change.inserted ≤ 2 ^ 64 - 1 =
     view_fits flat c.args.op tells.0 c.in-New.change c.in_ok-taken.taken c.in-New.is c.in_ok-taken.ensures.answer tells.1 c.log.ensures.cells c.kept.ensures.most in
-    omega (arith, fits, c.self.invariant.0.1)
+    omega (arith, fits, c.self.invariant.own.1)
 
 pub follow_each-requires-clause-runs : goal.follow_each-requires-clause-runs
 follow_each-requires-clause-runs g c =
@@ -70,7 +70,19 @@ follow_each-requires-clause-fits g c =
     let n = length (text_of flat.cells) in
     each_room n c.in-New.change.inserted (2 ^ 64 - 1) c.deref_mut.result.now
     (view_fits flat c.args.op tells.0 c.in-New.change c.in_ok-taken.taken c.in-New.is c.in_ok-taken.ensures.answer tells.1 c.log.ensures.cells c.kept.ensures.most)
-    (subst (λ (l : List Parts). AllByRecursion (IsOwnOf n) (map own_in l)) (sym c.deref_mut.ensures.value) c.self.invariant.1)
+    (subst (λ (l : List Parts). AllByRecursion (IsOwnOf n) (map own_in l)) (sym c.deref_mut.ensures.value) c.self.invariant.others)
+
+pub invariant_of-self : goal.invariant_of-self
+invariant_of-self g c =
+    subst (λ (f : Flat). AreOwnOf (length (text_of f.cells)) c.self.inside.widget (map own_in c.self.inside.others.items))
+    (sym c.in_err-taken.ensures.unchanged) c.self.invariant
+
+pub invariant_of-self-in-Repeat : goal.invariant_of-self-in-Repeat
+invariant_of-self-in-Repeat g c =
+    let flat = c.self.inside.doc in
+    let same : c.accept.new.self ≡ flat =
+    c.in_ok-taken.ensures.ok ∙ ap (λ a. flat_after a c.args.op flat) (c.in_ok-taken.ensures.answer ∙ ap told c.in-Repeat.is) in
+    subst (λ (f : Flat). AreOwnOf (length (text_of f.cells)) c.self.inside.widget (map own_in c.self.inside.others.items)) (sym same) c.self.invariant
 
 pub invariant_of-self-in-New : goal.invariant_of-self-in-New
 invariant_of-self-in-New g c =
@@ -91,11 +103,12 @@ invariant_of-self-in-New g c =
     let back : (with_items c.self.inside.others c.follow_each.new.others).items ≡ c.follow_each.new.others =
     with_items_is c.self.inside.others c.follow_each.new.others (omega (arith, c.follow_each.auto.others, c.deref_mut.ensures.len)) in
     let moved : map own_in (with_items c.self.inside.others c.follow_each.new.others).items ≡ map (own_with_new op flat) others =
-    ap (map own_in) back ∙ c.follow_each.ensures ∙ (λ i. map (λ o. own_seen flat op tells.0 change taken c.in-New.is answer tells.1 o i) (map own_in (c.deref_mut.ensures.value i))) in (
-      subst (λ (p : _). p) (λ i. IsOwnOf (length (text_of (sym seen i).cells)) (sym own i)) (stands c.self.inside.widget c.self.invariant.0),
-      subst (λ (p : _). p) (λ i. AllByRecursion (IsOwnOf (length (text_of (sym seen i).cells))) (sym moved i))
-          (each_by (IsOwnOf n) (IsOwnOf k) (own_with_new op flat) stands others c.self.invariant.1),
-    )
+    ap (map own_in) back ∙ c.follow_each.ensures ∙ (λ i. map (λ o. own_seen flat op tells.0 change taken c.in-New.is answer tells.1 o i) (map own_in (c.deref_mut.ensures.value i))) in
+    record {
+      own = subst (λ (p : _). p) (λ i. IsOwnOf (length (text_of (sym seen i).cells)) (sym own i)) (stands c.self.inside.widget c.self.invariant.own);
+      others = subst (λ (p : _). p) (λ i. AllByRecursion (IsOwnOf (length (text_of (sym seen i).cells))) (sym moved i))
+          (each_by (IsOwnOf n) (IsOwnOf k) (own_with_new op flat) stands others c.self.invariant.others);
+    }
 
 pub returns-in-New-clause-ok : goal.returns-in-New-clause-ok
 returns-in-New-clause-ok g c =

@@ -1,11 +1,12 @@
 use Rattle.std.specs.List.{AllByRecursion}
 use Rattle.rt_text.specs.declared.parts.Parts.{Parts}
-use Rattle.std.proofs.Common.{List, length, ◌≡◌, ◌∙◌, ◌⊎◌, Some, ap, arith, map, string_bytes, subst, sym, refl}
+use Rattle.std.proofs.Common.{List, length, ◌≡◌, ◌∙◌, ◌⊎◌, Some, ap, arith, map, subst, sym, refl}
 use Rattle.std.specs.Prelude.{IfErr}
 use Rattle.std.specs.Vec.{with_items}
 use Rattle.std.proofs.lemmas.List.{with_items_is}
 use Rattle.std.proofs.lemmas.Result.{IfErr-weaker, err_from_is_err_and, on_err_weaker}
 use Rattle.rt_stamps.specs.declared.fault.Fault.TheVariants.{NoMemory}
+use Rattle.rt_stamps.specs.Words.{as_words}
 use Rattle.rt_store.specs.Cells.{text_of}
 use Rattle.rt_text.specs.Parts.{own_in}
 use Rattle.rt_text.specs.Commands.{clock_check, without_ranges}
@@ -20,18 +21,18 @@ returns-in_err-ranges g c =
     let p = err_from_is_err_and c.from_residual.result c.from_residual.ensures.1 in
     rw p.1 (record {
       ok = tt;
-      err = deleted_index c.args.self.now (map (λ w. string_bytes w) c.args.indices.now) p.0 c.in_err-ranges.field-0.0 c.in_err-ranges.ensures.err p.2;
+      err = deleted_index c.args.self.now (as_words c.args.indices.now) p.0 c.in_err-ranges.field-0.0 c.in_err-ranges.ensures.err p.2;
       unchanged = refl;
     })
 
 pub delete_in-requires-clause-others : goal.delete_in-requires-clause-others
 delete_in-requires-clause-others g c =
-    subst (λ (l : List Parts). AllByRecursion (IsOwnOf (length (text_of c.self.inside.doc.cells))) (map own_in l)) (sym c.deref_mut.ensures.value) c.self.invariant.1
+    subst (λ (l : List Parts). AllByRecursion (IsOwnOf (length (text_of c.self.inside.doc.cells))) (map own_in l)) (sym c.deref_mut.ensures.value) c.self.invariant.others
 
 pub returns-clause-ok : goal.returns-clause-ok
 returns-clause-ok g c =
     let view = c.args.self.now in
-    let indices = map (λ w. string_bytes w) c.args.indices.now in
+    let indices = as_words c.args.indices.now in
     let ranges = c.deref.result.now in
     let read = c.deref.ensures.value ∙ c.in_ok-ranges.ensures.ok in
     let same : viewed c.self.inside.doc c.self.inside.widget (map own_in c.deref_mut.result.now) ≡ view =
@@ -45,7 +46,7 @@ returns-clause-ok g c =
 pub returns-clause-err : goal.returns-clause-err
 returns-clause-err g c =
     let view = c.args.self.now in
-    let indices = map (λ w. string_bytes w) c.args.indices.now in
+    let indices = as_words c.args.indices.now in
     let ranges = c.deref.result.now in
     let read = c.deref.ensures.value ∙ c.in_ok-ranges.ensures.ok in
     let same : viewed c.self.inside.doc c.self.inside.widget (map own_in c.deref_mut.result.now) ≡ view =
@@ -58,10 +59,10 @@ invariant_of-self g c =
     let back : (with_items c.self.inside.others c.delete_in.new.others).items ≡ c.delete_in.new.others =
     with_items_is c.self.inside.others c.delete_in.new.others (omega (arith, c.delete_in.auto.others, c.deref_mut.ensures.len)) in
     let n = length (text_of c.delete_in.new.self.cells) in
-    (c.delete_in.ensures.own, subst (λ (l : List Parts). AllByRecursion (IsOwnOf n) (map own_in l)) (sym back) c.delete_in.ensures.others)
+    record { own = c.delete_in.ensures.own; others = subst (λ (l : List Parts). AllByRecursion (IsOwnOf n) (map own_in l)) (sym back) c.delete_in.ensures.others }
 
 pub delete_in-requires-clause-own : goal.delete_in-requires-clause-own
-delete_in-requires-clause-own g c = c.self.invariant.0
+delete_in-requires-clause-own g c = c.self.invariant.own
 
 pub returns-clause-unchanged : goal.returns-clause-unchanged
 returns-clause-unchanged g c =

@@ -21,10 +21,11 @@ invariant_of-self g c =
     slice_get-map own_in items i ∙ ap (option_map own_in) (slice_get-get_or items i c.index_mut.result.now within)
     ∙ ap (λ (p : Parts). Some (own_in p)) (sym c.index_mut.ensures.value) ∙ ap (λ (o : Own). Some o) (sym c.exchange.ensures.own) in
     let back : map own_in (set items i c.exchange.new.other) ≡ set others i c.self.inside.widget = map-set own_in items i c.exchange.new.other ∙ ap (set others i) c.exchange.ensures.other in
-    let n = length (text_of c.self.inside.doc.cells) in (
-      each_at (IsOwnOf n) others i c.exchange.new.self found c.self.invariant.1,
-      subst (AllByRecursion (IsOwnOf n)) (sym back) (each_set (IsOwnOf n) others i c.self.inside.widget c.self.invariant.0 c.self.invariant.1),
-    )
+    let n = length (text_of c.self.inside.doc.cells) in
+    record {
+      own = each_at (IsOwnOf n) others i c.exchange.new.self found c.self.invariant.others;
+      others = subst (AllByRecursion (IsOwnOf n)) (sym back) (each_set (IsOwnOf n) others i c.self.inside.widget c.self.invariant.own c.self.invariant.others);
+    }
 
 pub returns-clause-own : goal.returns-clause-own
 returns-clause-own g c =

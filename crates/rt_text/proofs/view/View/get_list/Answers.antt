@@ -1,8 +1,8 @@
 use Rattle.rt_text.proofs.Refusals.{list_refused}
 use Rattle.std.proofs.Common.{◌≡◌, ◌∙◌, arith, map, sym, ap, Ok, inl}
-use Rattle.std.specs.Prelude.{string_bytes}
 use Rattle.std.proofs.lemmas.Result.{IfOk-weaker, err_from_is_err_and, IfErr-weaker}
 use Rattle.rt_stamps.specs.Outcomes.{unless}
+use Rattle.rt_stamps.specs.Words.{as_words}
 use Rattle.rt_store.specs.Cells.{text_of}
 use Rattle.rt_text.specs.Index.{place_at_index}
 use Rattle.rt_text.specs.Parts.{own_in}
@@ -15,7 +15,7 @@ use Rattle.rt_text.proofs.view.View.get_list.Goals as goal
 pub returns-in_err-ranges : goal.returns-in_err-ranges
 returns-in_err-ranges g c =
     let p = err_from_is_err_and c.from_residual.result c.from_residual.ensures.1 in
-    rw (p.1, p.2) (record { ok = tt; err = list_refused c.args.self.now (map (λ w. string_bytes w) c.args.indices.now) c.in_err-ranges.field-0.0 c.in_err-ranges.ensures.err })
+    rw (p.1, p.2) (record { ok = tt; err = list_refused c.args.self.now (as_words c.args.indices.now) c.in_err-ranges.field-0.0 c.in_err-ranges.ensures.err })
 
 pub returns-clause-err : goal.returns-clause-err
 returns-clause-err g c = IfErr-weaker c.texts_of.result _ _ (λ fault h. inl h) c.texts_of.ensures.err
@@ -31,6 +31,6 @@ returns-clause-ok g c =
     let text : part c.between.result.1 (text_of store) ≡ text_shown view =
     store_seen view c.self.inside.doc c.self.inside.widget (map own_in c.self.inside.others.items) c.limits.result c.between.result.1 (text_of store) c.self.view_is c.limits.ensures c.between.ensures.stretch c.between.ensures.text in
     IfOk-weaker c.texts_of.result _ _
-    (λ found h. ap (λ f. unless f (texts_of (text_shown view) (ranges_of (map (place_at_index w) (map (λ s. string_bytes s) c.args.indices.now))))) c.in_ok-ranges.ensures.checked
+    (λ found h. ap (λ f. unless f (texts_of (text_shown view) (ranges_of (map (place_at_index w) (as_words c.args.indices.now))))) c.in_ok-ranges.ensures.checked
     ∙ ap (λ r. Ok (texts_of (text_shown view) r)) (sym (c.deref.ensures.value ∙ c.in_ok-ranges.ensures.ok))
     ∙ ap (λ t. Ok (texts_of t c.deref.result.now)) (sym text) ∙ ap (λ l. Ok l) (sym h)) c.texts_of.ensures.ok

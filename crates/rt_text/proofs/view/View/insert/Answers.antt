@@ -45,7 +45,7 @@ insert_at-requires-clause-place g c =
 
 pub insert_at-requires-clause-others : goal.insert_at-requires-clause-others
 insert_at-requires-clause-others g c =
-    subst (λ (l : List Parts). AllByRecursion (IsOwnOf (length (text_of c.self.inside.doc.cells))) (map own_in l)) (sym c.deref_mut.ensures.value) c.self.invariant.1
+    subst (λ (l : List Parts). AllByRecursion (IsOwnOf (length (text_of c.self.inside.doc.cells))) (map own_in l)) (sym c.deref_mut.ensures.value) c.self.invariant.others
 
 pub returns-clause-ok : goal.returns-clause-ok
 returns-clause-ok g c =
@@ -94,10 +94,10 @@ invariant_of-self g c =
     let back : (with_items c.self.inside.others c.insert_at.new.others).items ≡ c.insert_at.new.others =
     with_items_is c.self.inside.others c.insert_at.new.others (omega (arith, c.insert_at.auto.others, c.deref_mut.ensures.len)) in
     let n = length (text_of c.insert_at.new.self.cells) in
-    (c.insert_at.ensures.own, subst (λ (l : List Parts). AllByRecursion (IsOwnOf n) (map own_in l)) (sym back) c.insert_at.ensures.others)
+    record { own = c.insert_at.ensures.own; others = subst (λ (l : List Parts). AllByRecursion (IsOwnOf n) (map own_in l)) (sym back) c.insert_at.ensures.others }
 
 pub insert_at-requires-clause-own : goal.insert_at-requires-clause-own
-insert_at-requires-clause-own g c = c.self.invariant.0
+insert_at-requires-clause-own g c = c.self.invariant.own
 
 pub insert_at-requires-clause-pieces : goal.insert_at-requires-clause-pieces
 insert_at-requires-clause-pieces g c = c.in_ok-check_names.ensures.pieces

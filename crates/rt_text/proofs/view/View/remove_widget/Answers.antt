@@ -12,7 +12,7 @@ invariant_of-self g c =
     let i = c.args.other in
     let back : map own_in c.remove.new.self.items ≡ remove (map own_in items) i = ap (map own_in) c.remove.ensures.items ∙ map_removed own_in items i in
     let n = length (text_of c.self.inside.doc.cells) in
-    (c.self.invariant.0, subst (AllByRecursion (IsOwnOf n)) (sym back) (each_removed (IsOwnOf n) (map own_in items) i c.self.invariant.1))
+    record { own = c.self.invariant.own; others = subst (AllByRecursion (IsOwnOf n)) (sym back) (each_removed (IsOwnOf n) (map own_in items) i c.self.invariant.others) }
 
 pub returns : goal.returns
 returns g c =

@@ -57,7 +57,7 @@ returns-in_err-range g c =
 
 pub replace_in-requires-clause-others : goal.replace_in-requires-clause-others
 replace_in-requires-clause-others g c =
-    subst (λ (l : List Parts). AllByRecursion (IsOwnOf (length (text_of c.self.inside.doc.cells))) (map own_in l)) (sym c.deref_mut.ensures.value) c.self.invariant.1
+    subst (λ (l : List Parts). AllByRecursion (IsOwnOf (length (text_of c.self.inside.doc.cells))) (map own_in l)) (sym c.deref_mut.ensures.value) c.self.invariant.others
 
 pub returns-clause-ok : goal.returns-clause-ok
 returns-clause-ok g c =
@@ -108,10 +108,10 @@ invariant_of-self g c =
     let back : (with_items c.self.inside.others c.replace_in.new.others).items ≡ c.replace_in.new.others =
     with_items_is c.self.inside.others c.replace_in.new.others (omega (arith, c.replace_in.auto.others, c.deref_mut.ensures.len)) in
     let n = length (text_of c.replace_in.new.self.cells) in
-    (c.replace_in.ensures.own, subst (λ (l : List Parts). AllByRecursion (IsOwnOf n) (map own_in l)) (sym back) c.replace_in.ensures.others)
+    record { own = c.replace_in.ensures.own; others = subst (λ (l : List Parts). AllByRecursion (IsOwnOf n) (map own_in l)) (sym back) c.replace_in.ensures.others }
 
 pub replace_in-requires-clause-own : goal.replace_in-requires-clause-own
-replace_in-requires-clause-own g c = c.self.invariant.0
+replace_in-requires-clause-own g c = c.self.invariant.own
 
 pub replace_in-requires-clause-pieces : goal.replace_in-requires-clause-pieces
 replace_in-requires-clause-pieces g c = c.in_ok-check_names.ensures.pieces

@@ -56,14 +56,14 @@ invariant_of-self g c =
     let back : (with_items c.self.inside.others c.revert_in.new.others).items ≡ c.revert_in.new.others =
     with_items_is c.self.inside.others c.revert_in.new.others (omega (arith, c.revert_in.auto.others, c.deref_mut.ensures.len)) in
     let n = length (text_of c.revert_in.new.self.cells) in
-    (c.revert_in.ensures.own, subst (λ (l : List Parts). AllByRecursion (IsOwnOf n) (map own_in l)) (sym back) c.revert_in.ensures.others)
+    record { own = c.revert_in.ensures.own; others = subst (λ (l : List Parts). AllByRecursion (IsOwnOf n) (map own_in l)) (sym back) c.revert_in.ensures.others }
 
 pub revert_in-requires-clause-own : goal.revert_in-requires-clause-own
-revert_in-requires-clause-own g c = c.self.invariant.0
+revert_in-requires-clause-own g c = c.self.invariant.own
 
 pub revert_in-requires-clause-others : goal.revert_in-requires-clause-others
 revert_in-requires-clause-others g c =
-    subst (λ (l : List Parts). AllByRecursion (IsOwnOf (length (text_of c.self.inside.doc.cells))) (map own_in l)) (sym c.deref_mut.ensures.value) c.self.invariant.1
+    subst (λ (l : List Parts). AllByRecursion (IsOwnOf (length (text_of c.self.inside.doc.cells))) (map own_in l)) (sym c.deref_mut.ensures.value) c.self.invariant.others
 
 pub returns-clause-ok : goal.returns-clause-ok
 returns-clause-ok g c =

@@ -1,5 +1,4 @@
 use Rattle.std.proofs.Common.{◌≡◌, ℕ, ◌≤◌, ◌∙◌, All, Some, ap, arith, false, inl, inr, length, map, subst, sym, true, refl}
-use Rattle.std.specs.List.{AllByRecursion}
 use Rattle.std.specs.Str.{bytes_eq}
 use Rattle.std.proofs.lemmas.Result.{IfErr-weaker, on_ok_weaker, err_from_is_err_and, on_err_weaker}
 use Rattle.rt_stamps.specs.declared.limits.TheConstants.{GREATEST_COUNT}
@@ -15,7 +14,7 @@ use Rattle.rt_edits.proofs.TagPlaces.{listed_count, listed_text, tag_text}
 use Rattle.rt_views.specs.Stretches.{stretch_of}
 use Rattle.rt_text.specs.Parts.{own_in}
 use Rattle.rt_text.specs.Commands.{clock_check, with_tag_in}
-use Rattle.rt_text.specs.Widgets.{IsOwnOf, Own, Viewed, places_in_text}
+use Rattle.rt_text.specs.Widgets.{AreOwnOf, Own, Viewed, places_in_text}
 use Rattle.rt_text.proofs.Deletions.{both_ok}
 use Rattle.rt_text.proofs.KeptDocument.{as_visible, clock_fine, clock_spent, either_way}
 use Rattle.rt_text.proofs.LimitedDeletions.{stretch_kept}
@@ -96,7 +95,7 @@ invariant_of-self-2 g c =
     either_way c.write_shared.result
     (λ e. ap (λ (f : Flat). text_of f.cells) e ∙ listed_text c.args.on c.args.name.now (with_tag_at old within c.args.on c.args.name.now) ∙ tag_text old within c.args.on c.args.name.now)
     (λ e. ap (λ (f : Flat). text_of f.cells) e) c.write_shared.ensures.ok c.write_shared.ensures.unchanged in
-    subst (λ n. IsOwnOf n c.self.inside.widget × AllByRecursion (IsOwnOf n) (map own_in c.self.inside.others.items)) (sym (ap length text)) c.self.invariant
+    subst (λ n. AreOwnOf n c.self.inside.widget (map own_in c.self.inside.others.items)) (sym (ap length text)) c.self.invariant
 
 pub returns-clause-ok : goal.returns-clause-ok
 returns-clause-ok g c =

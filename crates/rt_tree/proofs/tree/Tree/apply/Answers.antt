@@ -12,42 +12,34 @@ use Rattle.rt_tree.proofs.tree.Tree.apply.Goals as goal
 
 pub overflow_add-self : goal.overflow_add-self
 overflow_add-self c =
-    let s = c.self.inside in let k = c.self.invariant.0 in
+    let s = c.self.inside in let k = c.self.invariant.kept in
     let r = runs_few s.text.items (tree_runs s.mem s.root.index) k.kept in
     omega (arith, r, k.counted, k.few, c.mark_span-change.ensures.more)
 
 pub invariant_of-self : goal.invariant_of-self
 invariant_of-self c =
-    let s = c.self.inside in let k = c.self.invariant.0 in let r = c.self.invariant.1.0 in
+    let s = c.self.inside in let k = c.self.invariant.kept in let r = c.self.invariant.roomy in
     let e = c.mark_span-change.ensures in
     let old = tree_runs s.mem s.root.index in let new = tree_runs c.mark_span-change.new.mem c.mark_span-change.result.root.index in
     let is = e.cells s.text.items k.kept in
     let same = span_count old new s.text.items (cell_in c.args.span c.args.mark) k.kept is in
     let cuts = ap (λ (v : Shown). v.room.cuts) c.self.view_is in
     let kept : IsKept c.mark_span-change.new.mem c.mark_span-change.result.root.index s.text.items (s.runs + c.mark_span-change.result.more) =
-    record { tree = e.tree; kept = is.kept; apart = e.apart; counted = omega (arith, k.counted, e.runs); few = omega (arith, same, k.few); all = omega (arith, same, k.all) } in (
-      kept,
-      (
-        record { nodes = omega (arith, r.nodes, e.runs, e.more, e.room, cuts, c.requires.room.1); holds = r.holds; few = r.few },
-        (
-          subst (AreUpTo s.newest) (sym is.cells) (upto_marked s.newest c.args.span c.args.mark (cells_of s.text.items old) c.self.invariant.1.1.0),
-          (
-            e.home,
-            (
-              e.left c.self.invariant.1.1.1.1.0,
-              (
-                record { many = e.told.many; memory = e.told.memory; tags = let h = c.self.invariant.1.1.1.1.1.0.tags in omega (arith, h, e.tags) },
-                (counts_are c.mark_span-change.new.mem c.mark_span-change.result.root.index s.text.items (s.runs + c.mark_span-change.result.more) kept c.sum_of-self-inside.result c.sum_of-self-inside.ensures, tt),
-              ),
-            ),
-          ),
-        ),
-      ),
-    )
+    record { tree = e.tree; kept = is.kept; apart = e.apart; counted = omega (arith, k.counted, e.runs); few = omega (arith, same, k.few); all = omega (arith, same, k.all) } in
+    record {
+      kept = kept;
+      roomy = record { nodes = omega (arith, r.nodes, e.runs, e.more, e.room, cuts, c.requires.room.1); holds = r.holds; few = r.few };
+      newest = subst (AreUpTo s.newest) (sym is.cells) (upto_marked s.newest c.args.span c.args.mark (cells_of s.text.items old) c.self.invariant.newest);
+      home = e.home;
+      spans = e.left c.self.invariant.spans;
+      sums = record { many = e.told.many; memory = e.told.memory; tags = let h = c.self.invariant.sums.tags in omega (arith, h, e.tags) };
+      counts = counts_are c.mark_span-change.new.mem c.mark_span-change.result.root.index s.text.items (s.runs + c.mark_span-change.result.more) kept c.sum_of-self-inside.result c.sum_of-self-inside.ensures;
+      last = tt;
+    }
 
 pub sum_of-self-inside-requires-clause-few : goal.sum_of-self-inside-requires-clause-few
 sum_of-self-inside-requires-clause-few c =
-    let s = c.self.inside in let k = c.self.invariant.0 in
+    let s = c.self.inside in let k = c.self.invariant.kept in
     let e = c.mark_span-change.ensures in
     let old = tree_runs s.mem s.root.index in let new = tree_runs c.mark_span-change.new.mem c.mark_span-change.result.root.index in
     let is = e.cells s.text.items k.kept in
@@ -56,7 +48,7 @@ sum_of-self-inside-requires-clause-few c =
 
 pub returns-clause-cells : goal.returns-clause-cells
 returns-clause-cells c =
-    let s = c.self.inside in let k = c.self.invariant.0 in
+    let s = c.self.inside in let k = c.self.invariant.kept in
     let is = c.mark_span-change.ensures.cells s.text.items k.kept in
     is.cells ∙ ap (λ (v : Shown). map (cell_in c.args.span c.args.mark) v.cells) c.self.view_is
 
@@ -64,7 +56,7 @@ pub mark_span-change-requires-clause-told : goal.mark_span-change-requires-claus
 mark_span-change-requires-clause-told c =
     let s = c.self.inside in
     let tags = ap (λ (v : Shown). v.room.tags) c.self.view_is in
-    kept_told s.mem s.root.index s.text.items s.runs c.self.invariant.0 s.sums s.spare_tags c.self.invariant.1.1.1.1.1.0 c.args.states.now (omega (arith, tags, c.requires.room.2)) _ c.args.self.now c.self.view_is c.requires.agrees
+    kept_told s.mem s.root.index s.text.items s.runs c.self.invariant.kept s.sums s.spare_tags c.self.invariant.sums c.args.states.now (omega (arith, tags, c.requires.room.2)) _ c.args.self.now c.self.view_is c.requires.agrees
 
 pub returns-clause-agrees : goal.returns-clause-agrees
 returns-clause-agrees c =
@@ -74,4 +66,4 @@ returns-clause-agrees c =
 pub returns-clause-own : goal.returns-clause-own
 returns-clause-own c =
     let s = c.self.inside in let e = c.mark_span-change.ensures in
-    own_states c.mark_span-change.new.mem c.mark_span-change.result.root.index s.text.items e.tree (e.cells s.text.items c.self.invariant.0.kept).kept c.mark_span-change.new.sums.each.items c.args.self.now.room
+    own_states c.mark_span-change.new.mem c.mark_span-change.result.root.index s.text.items e.tree (e.cells s.text.items c.self.invariant.kept.kept).kept c.mark_span-change.new.sums.each.items c.args.self.now.room

@@ -9,7 +9,7 @@ use Rattle.rt_tree.proofs.Told.{shown_given}
 use Rattle.rt_tree.proofs.tree.Tree.find_tagged.Goals as goal
 
 pub find_tagged-requires-clause-tree : goal.find_tagged-requires-clause-tree
-find_tagged-requires-clause-tree c = c.self.invariant.0.tree
+find_tagged-requires-clause-tree c = c.self.invariant.kept.tree
 
 pub find_tagged-requires-clause-sums : goal.find_tagged-requires-clause-sums
 find_tagged-requires-clause-sums c =
@@ -21,10 +21,10 @@ pub find_tagged-requires-clause-given : goal.find_tagged-requires-clause-given
 find_tagged-requires-clause-given c =
     let s = c.self.inside in
     shown_given c.args.states.now (tree_runs s.mem s.root.index)
-    (kept_given s.mem s.root.index s.text.items s.runs c.self.invariant.0 s.sums.each.items c.args.states.now _ c.args.self.now c.self.view_is c.requires.agrees)
+    (kept_given s.mem s.root.index s.text.items s.runs c.self.invariant.kept s.sums.each.items c.args.states.now _ c.args.self.now c.self.view_is c.requires.agrees)
 
 pub find_tagged-requires-clause-few : goal.find_tagged-requires-clause-few
-find_tagged-requires-clause-few c = let s = c.self.inside in few_runs s.mem s.root.index s.text.items s.runs c.self.invariant.0
+find_tagged-requires-clause-few c = let s = c.self.inside in few_runs s.mem s.root.index s.text.items s.runs c.self.invariant.kept
 
 pub find_tagged-requires-clause-room : goal.find_tagged-requires-clause-room
 find_tagged-requires-clause-room c = let h = ap (λ (v : Shown). v.height) c.self.view_is in omega (arith, h, c.requires.room)
@@ -32,7 +32,7 @@ find_tagged-requires-clause-room c = let h = ap (λ (v : Shown). v.height) c.sel
 pub returns-clause-place : goal.returns-clause-place
 returns-clause-place c =
     let s = c.self.inside in
-    c.find_tagged.ensures.place s.text.items c.self.invariant.0.kept ∙ ap (λ (v : Shown). next_tagged c.args.states.now c.args.tag v.cells c.args.place) c.self.view_is
+    c.find_tagged.ensures.place s.text.items c.self.invariant.kept.kept ∙ ap (λ (v : Shown). next_tagged c.args.states.now c.args.tag v.cells c.args.place) c.self.view_is
 
 pub returns-clause-cost : goal.returns-clause-cost
 returns-clause-cost c = let h = ap (λ (v : Shown). v.height) c.self.view_is in let n = c.find_tagged.ensures.cost in omega (arith, h, n)

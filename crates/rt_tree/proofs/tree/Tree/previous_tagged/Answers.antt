@@ -10,7 +10,7 @@ use Rattle.rt_tree.proofs.Told.{shown_given}
 use Rattle.rt_tree.proofs.tree.Tree.previous_tagged.Goals as goal
 
 pub previous_place-requires-clause-tree : goal.previous_place-requires-clause-tree
-previous_place-requires-clause-tree c = c.self.invariant.0.tree
+previous_place-requires-clause-tree c = c.self.invariant.kept.tree
 
 pub previous_place-requires-clause-sums : goal.previous_place-requires-clause-sums
 previous_place-requires-clause-sums c =
@@ -19,19 +19,19 @@ previous_place-requires-clause-sums c =
     (kept_summed s.mem s.root.index s.text.items s.sums.each.items c.args.states.now _ c.args.self.now c.self.view_is c.requires.agrees)
 
 pub previous_place-requires-clause-many : goal.previous_place-requires-clause-many
-previous_place-requires-clause-many c = let h = c.self.invariant.1.1.1.1.1.0.many in let same = ap length c.deref.ensures.value in omega (arith, h, same)
+previous_place-requires-clause-many c = let h = c.self.invariant.sums.many in let same = ap length c.deref.ensures.value in omega (arith, h, same)
 
 pub previous_place-requires-clause-given : goal.previous_place-requires-clause-given
 previous_place-requires-clause-given c =
     let s = c.self.inside in
     shown_given c.args.states.now (tree_runs s.mem s.root.index)
-    (kept_given s.mem s.root.index s.text.items s.runs c.self.invariant.0 s.sums.each.items c.args.states.now _ c.args.self.now c.self.view_is c.requires.agrees)
+    (kept_given s.mem s.root.index s.text.items s.runs c.self.invariant.kept s.sums.each.items c.args.states.now _ c.args.self.now c.self.view_is c.requires.agrees)
 
 pub previous_place-requires-clause-few : goal.previous_place-requires-clause-few
-previous_place-requires-clause-few c = let s = c.self.inside in few_runs s.mem s.root.index s.text.items s.runs c.self.invariant.0
+previous_place-requires-clause-few c = let s = c.self.inside in few_runs s.mem s.root.index s.text.items s.runs c.self.invariant.kept
 
 pub returns : goal.returns
 returns c =
     let s = c.self.inside in
-    c.previous_place.ensures s.text.items c.self.invariant.0.kept
+    c.previous_place.ensures s.text.items c.self.invariant.kept.kept
     ∙ ap (λ (v : Shown). previous_place (has_tag c.args.states.now c.args.tag) (visible_of v.cells) c.args.place) c.self.view_is

@@ -16,14 +16,14 @@ use Rattle.rt_tree.proofs.tree.Tree.reserve.Goals as goal
 
 pub overflow_add-self-inside : goal.overflow_add-self-inside
 overflow_add-self-inside c =
-    let s = c.self.inside in let k = c.self.invariant.0 in
+    let s = c.self.inside in let k = c.self.invariant.kept in
     let r = runs_few s.text.items (tree_runs s.mem s.root.index) k.kept in
     let low = c.if-cells-left.false in
     omega (arith, r, low, k.counted, k.few)
 
 pub invariant_of-self-2 : goal.invariant_of-self-2
 invariant_of-self-2 c =
-    let s = c.self.inside in let k = c.self.invariant.0 in
+    let s = c.self.inside in let k = c.self.invariant.kept in
     let m = s.mem in let root = s.root.index in
     let e = c.in_ok-reserve-4.ensures.room in
     let text = c.in_ok-reserve-2.ensures.items in
@@ -39,36 +39,28 @@ invariant_of-self-2 c =
     let sums = c.reserve-3.new.self in
     let got = c.in_ok-reserve-3.ensures in
     let same = ap (λ (t : List ℕ). shown c.reserve-4.new.self root t sums.each.items room) text ∙ room_shown m _ root s.text.items sums.each.items room c.reserve-4.new.self e in
-    let nodes = room_nodes m root s.runs c.ahead-cells.result c.ahead-cuts.result c.saturating_sub.result c.reserve-4.new.self e k.counted (omega (arith, ask, c.saturating_sub.ensures, c.nodes.ensures)) in (
-      subst (λ t. IsKept c.reserve-4.new.self root t s.runs) (sym text) (room_kept m _ root s.text.items s.runs c.reserve-4.new.self e k),
-      (
-        record { nodes = nodes; holds = omega (arith, holds, b); few = omega (arith, len, a, low, c.len-left.ensures) },
-        (
-          subst (AreUpTo s.newest) (sym (ap (λ (v : Shown). v.cells) same)) c.self.invariant.1.1.0,
-          (
-            (λ sure. subst (AreHome leaves) (sym (room_runs m _ root s.text.items s.runs c.reserve-4.new.self e))
-                (home_keeps s.homes.leaves leaves (tree_runs m root) (λ stamp none. sym (c.in_ok-reserve.ensures.leaves stamp) ∙ none) (c.self.invariant.1.1.1.0 (sym c.in_ok-reserve.ensures.sure ∙ sure)))),
-            (
-              omega (arith, spans, all),
-              (
-                record {
-                  many = (
-                      let h = c.self.invariant.1.1.1.1.1.0.many in
-                      let asked : c.saturating_sub.result ≡ c.in_ok-runs.runs / 7 + 1 - length m.heads = omega (arith, c.saturating_sub.ensures, c.nodes.ensures) in
-                      let heads = ap (λ (x : Memory). length x.heads) e in
-                      let wide = ap (λ (x : Memory). x.room) e ∙ ap (max m.room) asked in
-                      let low = room_sums (length m.heads) m.room (c.in_ok-runs.runs / 7 + 1) (length sums.each.items) (omega (arith, h, got.kept_nodes)) got.nodes in
-                      omega (arith, heads, wide, low));
-                  memory = got.memory;
-                  tags = got.tags;
-                },
-                (subst (IsCountOf s.counts) (sym (ap (λ (v : Shown). v.cells) same)) c.self.invariant.1.1.1.1.1.1.0, tt),
-              ),
-            ),
-          ),
-        ),
-      ),
-    )
+    let nodes = room_nodes m root s.runs c.ahead-cells.result c.ahead-cuts.result c.saturating_sub.result c.reserve-4.new.self e k.counted (omega (arith, ask, c.saturating_sub.ensures, c.nodes.ensures)) in
+    record {
+      kept = subst (λ t. IsKept c.reserve-4.new.self root t s.runs) (sym text) (room_kept m _ root s.text.items s.runs c.reserve-4.new.self e k);
+      roomy = record { nodes = nodes; holds = omega (arith, holds, b); few = omega (arith, len, a, low, c.len-left.ensures) };
+      newest = subst (AreUpTo s.newest) (sym (ap (λ (v : Shown). v.cells) same)) c.self.invariant.newest;
+      home = λ sure. subst (AreHome leaves) (sym (room_runs m _ root s.text.items s.runs c.reserve-4.new.self e))
+          (home_keeps s.homes.leaves leaves (tree_runs m root) (λ stamp none. sym (c.in_ok-reserve.ensures.leaves stamp) ∙ none) (c.self.invariant.home (sym c.in_ok-reserve.ensures.sure ∙ sure)));
+      spans = omega (arith, spans, all);
+      sums = record {
+        many = (
+            let h = c.self.invariant.sums.many in
+            let asked : c.saturating_sub.result ≡ c.in_ok-runs.runs / 7 + 1 - length m.heads = omega (arith, c.saturating_sub.ensures, c.nodes.ensures) in
+            let heads = ap (λ (x : Memory). length x.heads) e in
+            let wide = ap (λ (x : Memory). x.room) e ∙ ap (max m.room) asked in
+            let low = room_sums (length m.heads) m.room (c.in_ok-runs.runs / 7 + 1) (length sums.each.items) (omega (arith, h, got.kept_nodes)) got.nodes in
+            omega (arith, heads, wide, low));
+        memory = got.memory;
+        tags = got.tags;
+      };
+      counts = subst (IsCountOf s.counts) (sym (ap (λ (v : Shown). v.cells) same)) c.self.invariant.counts;
+      last = tt;
+    }
 
 -- what is shown once there is room
 now_shown : (m : Memory) (n root : ℕ) (text text' : List ℕ) (sums sums' : List Summary) (room : Room) (m' : Memory) → text' ≡ text → m' ≡ with_room m n → length m.heads ≤ length sums → ((id : ℕ) → id < length sums → TellsAs (summary_of sums id) (summary_of sums' id)) → shown m' root text' sums' room ≡ shown m root text sums room
@@ -79,7 +71,7 @@ pub returns-clause-same : goal.returns-clause-same
 returns-clause-same c =
     let s = c.self.inside in
     let room : Room = record { cells = c.ahead-cells.result; cuts = c.ahead-cuts.result; tags = c.max-tags.result } in
-    let h = c.self.invariant.1.1.1.1.1.0.many in
+    let h = c.self.invariant.sums.many in
     now_shown s.mem _ s.root.index s.text.items _ s.sums.each.items c.reserve-3.new.self.each.items room c.reserve-4.new.self c.in_ok-reserve-2.ensures.items c.in_ok-reserve-4.ensures.room (omega (arith, h)) c.in_ok-reserve-3.ensures.same
     ∙ ap (λ (v : Shown). record v { room = room }) c.self.view_is
 
@@ -91,7 +83,7 @@ pub returns-in_err-reserve-3-clause-unchanged : goal.returns-in_err-reserve-3-cl
 returns-in_err-reserve-3-clause-unchanged c =
     let s = c.self.inside in
     let room : Room = record { cells = s.spare_cells; cuts = s.spare_cuts; tags = s.spare_tags } in
-    let h = c.self.invariant.1.1.1.1.1.0.many in
+    let h = c.self.invariant.sums.many in
     always c.from_residual-in_err-reserve-3.result _
     (ap (λ (t : List ℕ). shown s.mem s.root.index t c.reserve-3.new.self.each.items room) c.in_ok-reserve-2.ensures.items
     ∙ sums_shown s.mem s.root.index s.text.items s.sums.each.items c.reserve-3.new.self.each.items room (omega (arith, h)) c.in_err-reserve-3.ensures.same
@@ -101,7 +93,7 @@ pub returns-in_err-reserve-4-clause-unchanged : goal.returns-in_err-reserve-4-cl
 returns-in_err-reserve-4-clause-unchanged c =
     let s = c.self.inside in
     let room : Room = record { cells = s.spare_cells; cuts = s.spare_cuts; tags = s.spare_tags } in
-    let h = c.self.invariant.1.1.1.1.1.0.many in
+    let h = c.self.invariant.sums.many in
     always c.from_residual-in_err-reserve-4.result _
     (ap (λ (m : Memory). shown m s.root.index c.reserve-2.new.self.items c.reserve-3.new.self.each.items room) c.in_err-reserve-4.ensures.refused
     ∙ ap (λ (t : List ℕ). shown s.mem s.root.index t c.reserve-3.new.self.each.items room) c.in_ok-reserve-2.ensures.items

@@ -7,12 +7,12 @@ use Rattle.rt_tree.proofs.Positions.{before, fits_here, found_is, has_within, st
 use Rattle.rt_tree.proofs.tree.Tree.seek_stamp.Goals as goal
 
 pub seek_near-found-requires-clause-few : goal.seek_near-found-requires-clause-few
-seek_near-found-requires-clause-few c = let s = c.self.inside in few_runs s.mem s.root.index s.text.items s.runs c.self.invariant.0
+seek_near-found-requires-clause-few c = let s = c.self.inside in few_runs s.mem s.root.index s.text.items s.runs c.self.invariant.kept
 
 pub seek_near-found-requires-clause-within : goal.seek_near-found-requires-clause-within
 seek_near-found-requires-clause-within c =
     let s = c.self.inside in
-    let h = shows s.mem s.root.index s.text.items s.runs c.self.invariant.0 s.sums.each.items c.args.self.now c.self.view_is in
+    let h = shows s.mem s.root.index s.text.items s.runs c.self.invariant.kept s.sums.each.items c.args.self.now c.self.view_is in
     omega (arith, h.cells, c.loop-at-test.true, c.cells-all.ensures)
 
 pub returns-then-has : goal.returns-then-has
@@ -20,7 +20,7 @@ returns-then-has c =
     let s = c.self.inside in
     let f = c.seek_near-found.result in
     let all = tree_runs s.mem s.root.index in
-    let kept = c.self.invariant.0.kept in
+    let kept = c.self.invariant.kept.kept in
     let same = ap (λ (x : Shown). before x.cells c.args.stamp) c.self.view_is in
     let long = ap (λ (x : Shown). length x.cells) c.self.view_is in
     let low : c.loop-at.at ≤ before (cells_of s.text.items all) c.args.stamp = omega (arith, c.loop-at.invariant, same) in
@@ -37,8 +37,8 @@ loop-at-preserved c =
     let all = tree_runs s.mem s.root.index in
     let same = ap (λ (x : Shown). before x.cells c.args.stamp) c.self.view_is in
     let low : c.loop-at.at ≤ before (cells_of s.text.items all) c.args.stamp = omega (arith, c.loop-at.invariant, same) in
-    let later = stamp_later s.text.items all f.run f.before f.spot.offset c.loop-at.at c.self.invariant.0.kept c.args.stamp low c.seek_near-found.ensures (sym c.has.ensures ∙ c.if-has.false) in
+    let later = stamp_later s.text.items all f.run f.before f.spot.offset c.loop-at.at c.self.invariant.kept.kept c.args.stamp low c.seek_near-found.ensures (sym c.has.ensures ∙ c.if-has.false) in
     omega (arith, later, same)
 
 pub seek_near-found-requires-clause-held : goal.seek_near-found-requires-clause-held
-seek_near-found-requires-clause-held c = c.self.invariant.1.1.1.1.1.1.1
+seek_near-found-requires-clause-held c = c.self.invariant.last

@@ -12,25 +12,25 @@ use Rattle.rt_tree.proofs.tree.Tree.skip.Goals as goal
 pub overflow_add-position : goal.overflow_add-position
 overflow_add-position c =
     let s = c.self.inside in
-    let h = shows s.mem s.root.index s.text.items s.runs c.self.invariant.0 s.sums.each.items c.args.self.now c.self.view_is in
-    omega (arith, h.cells, c.requires, c.self.invariant.0.few)
+    let h = shows s.mem s.root.index s.text.items s.runs c.self.invariant.kept s.sums.each.items c.args.self.now c.self.view_is in
+    omega (arith, h.cells, c.requires, c.self.invariant.kept.few)
 
 pub passed-requires-clause-node : goal.passed-requires-clause-node
 passed-requires-clause-node c =
     let s = c.self.inside in
-    let shape = c.self.invariant.0.tree.shape in
+    let shape = c.self.invariant.kept.tree.shape in
     (shape.root_is, subst (λ n. s.root.index < n) shape.same shape.root_is)
 
 pub passed-requires-clause-some : goal.passed-requires-clause-some
-passed-requires-clause-some c = let s = c.self.inside in have_cells s.text.items (tree_runs s.mem s.root.index) c.self.invariant.0.kept
+passed-requires-clause-some c = let s = c.self.inside in have_cells s.text.items (tree_runs s.mem s.root.index) c.self.invariant.kept.kept
 
 pub passed-requires-clause-few : goal.passed-requires-clause-few
-passed-requires-clause-few c = omega (arith, c.self.invariant.0.few)
+passed-requires-clause-few c = omega (arith, c.self.invariant.kept.few)
 
 pub returns-then-new-self : goal.returns-then-new-self
 returns-then-new-self c =
     let s = c.self.inside in
-    let upto = subst (AreUpTo s.newest) (ap (λ (x : Shown). x.cells) c.self.view_is) c.self.invariant.1.1.0 in
+    let upto = subst (AreUpTo s.newest) (ap (λ (x : Shown). x.cells) c.self.view_is) c.self.invariant.newest in
     skip_newest c.args.new s.newest c.args.self.now.cells c.args.position (omega (arith, c.if-new-self.true)) upto c.requires
 
 pub returns-then-is_low : goal.returns-then-is_low
@@ -42,5 +42,5 @@ returns c =
     let cell = c.nth-cell.result in
     let here = ap (λ (x : Shown). slice_get x.cells c.args.position) c.self.view_is ∙ c.nth-cell.ensures in
     let above = high_is (is_before c.args.new cell.stamp) (sym c.is_low.ensures ∙ c.if-is_low.false) in
-    c.passed.ensures ∙ skip_is s.text.items c.args.new (tree_runs s.mem s.root.index) c.args.position cell c.self.invariant.0.kept here above
+    c.passed.ensures ∙ skip_is s.text.items c.args.new (tree_runs s.mem s.root.index) c.args.position cell c.self.invariant.kept.kept here above
     ∙ ap (λ (x : Shown). c.args.position + length (take_while (λ (d : Cell ℕ). is_before c.args.new d.stamp) (drop c.args.position x.cells))) c.self.view_is

@@ -19,9 +19,9 @@ use Rattle.rt_tree.proofs.tree.Tree.splice.Goals as goal
 
 pub counts_with-self-inside-requires-clause-few : goal.counts_with-self-inside-requires-clause-few
 counts_with-self-inside-requires-clause-few c =
-    let s = c.self.inside in let k = c.self.invariant.0 in let r = c.self.invariant.1.0 in
+    let s = c.self.inside in let k = c.self.invariant.kept in let r = c.self.invariant.roomy in
     let n = counted s.text.items (tree_runs s.mem s.root.index) k.kept in
-    let i = c.self.invariant.1.1.1.1.1.1.0 in
+    let i = c.self.invariant.counts in
     let cells = ap (λ (v : Shown). v.room.cells) c.self.view_is in
     let ka = k.all in let rf = r.few in let ra = c.requires.room.0 in
     omega (arith, n.cells, i.cells, ka, rf, cells, ra)
@@ -30,36 +30,36 @@ pub counts_with-self-inside-requires-clause-below : goal.counts_with-self-inside
 counts_with-self-inside-requires-clause-below c =
     let s = c.self.inside in
     let all = cells_of s.text.items (tree_runs s.mem s.root.index) in
-    let i = c.self.invariant.1.1.1.1.1.1.0 in
+    let i = c.self.invariant.counts in
     let v = visible_few all in let n = newlines_few all in
     (omega (arith, i.cells, i.visible, v), omega (arith, i.cells, i.newlines, n))
 
 pub put_cells-change-requires-clause-kept : goal.put_cells-change-requires-clause-kept
 put_cells-change-requires-clause-kept c =
-    let s = c.self.inside in let k = c.self.invariant.0 in
+    let s = c.self.inside in let k = c.self.invariant.kept in
     longer_kept s.text.items c.deref.result.now (tree_runs s.mem s.root.index) c.args.cells.now k.kept (c.deref.ensures.value ∙ c.push_characters.ensures.items)
 
 pub put_cells-change-requires-clause-upto : goal.put_cells-change-requires-clause-upto
 put_cells-change-requires-clause-upto c =
     let s = c.self.inside in let old = tree_runs s.mem s.root.index in
-    let grown = sym (longer_cells s.text.items c.push_characters.new.text.items old c.args.cells.now c.self.invariant.0.kept c.push_characters.ensures.items) ∙ ap (λ (t : List ℕ). cells_of t old) (sym c.deref.ensures.value) in
-    subst (AreUpTo s.newest) grown c.self.invariant.1.1.0
+    let grown = sym (longer_cells s.text.items c.push_characters.new.text.items old c.args.cells.now c.self.invariant.kept.kept c.push_characters.ensures.items) ∙ ap (λ (t : List ℕ). cells_of t old) (sym c.deref.ensures.value) in
+    subst (AreUpTo s.newest) grown c.self.invariant.newest
 
 pub put_cells-change-requires-clause-last : goal.put_cells-change-requires-clause-last
 put_cells-change-requires-clause-last c =
-    let s = c.self.inside in let k = c.self.invariant.0 in
+    let s = c.self.inside in let k = c.self.invariant.kept in
     longer_ends s.text.items c.deref.result.now (tree_runs s.mem s.root.index) c.args.cells.now k.kept (c.deref.ensures.value ∙ c.push_characters.ensures.items)
 
 pub put_cells-change-requires-clause-within : goal.put_cells-change-requires-clause-within
 put_cells-change-requires-clause-within c =
     let s = c.self.inside in
-    let h = shows s.mem s.root.index s.text.items s.runs c.self.invariant.0 s.sums.each.items c.args.self.now c.self.view_is in
+    let h = shows s.mem s.root.index s.text.items s.runs c.self.invariant.kept s.sums.each.items c.args.self.now c.self.view_is in
     let w = c.requires.within in let n = h.cells in
     omega (arith, n, w)
 
 pub overflow_add-self : goal.overflow_add-self
 overflow_add-self c =
-    let s = c.self.inside in let k = c.self.invariant.0 in let r = c.self.invariant.1.0 in
+    let s = c.self.inside in let k = c.self.invariant.kept in let r = c.self.invariant.roomy in
     let n = runs_few s.text.items (tree_runs s.mem s.root.index) k.kept in
     let m = c.put_cells-change.ensures.most in
     let cells = ap (λ (v : Shown). v.room.cells) c.self.view_is in
@@ -68,7 +68,7 @@ overflow_add-self c =
 
 pub invariant_of-self : goal.invariant_of-self
 invariant_of-self c =
-    let s = c.self.inside in let k = c.self.invariant.0 in let r = c.self.invariant.1.0 in
+    let s = c.self.inside in let k = c.self.invariant.kept in let r = c.self.invariant.roomy in
     let e = c.put_cells-change.ensures in
     let old = tree_runs s.mem s.root.index in let new = tree_runs c.put_cells-change.new.mem c.put_cells-change.result.root.index in
     let added = c.args.cells.now in let text = c.push_characters.new.text.items in
@@ -83,32 +83,21 @@ invariant_of-self c =
     let cuts = ap (λ (v : Shown). v.room.cuts) c.self.view_is in
     let ra = c.requires.room.0 in let rb = c.requires.room.1 in
     let ka = k.all in let kc = k.counted in let rn = r.nodes in let rh = r.holds in let rf = r.few in
-    let er = e.runs in let em = e.most in let eo = e.room in let cap = c.push_characters.ensures.capacity in (
-      record { tree = e.tree; kept = is.kept; apart = e.apart; counted = omega (arith, kc, er); few = omega (arith, n, rf, ka, cells, ra); all = omega (arith, n, l, ka) },
-      (
-        record { nodes = omega (arith, rn, er, em, eo, cells, cuts, ra, rb); holds = omega (arith, rh, l, cap, cells, ra); few = omega (arith, rf, l, cells, ra) },
-        (
-          subst (AreUpTo c.newest_of-self-inside.result) (sym shown_cells) (upto_put c.newest_of-self-inside.result c.args.at added (cells_of s.text.items old) (upto_more s.newest c.newest_of-self-inside.result (cells_of s.text.items old) c.newest_of-self-inside.ensures.least c.self.invariant.1.1.0) c.newest_of-self-inside.ensures.cells),
-          (
-            e.home,
-            (
-              e.left,
-              (
-                record { many = e.told.many; memory = e.told.memory; tags = let h = c.self.invariant.1.1.1.1.1.0.tags in omega (arith, h, e.tags) },
-                (
-                  subst (IsCountOf c.counts_with-self-inside.result) (sym shown_cells) (c.counts_with-self-inside.ensures c.args.at (cells_of s.text.items old) c.self.invariant.1.1.1.1.1.1.0),
-                  e.held,
-                ),
-              ),
-            ),
-          ),
-        ),
-      ),
-    )
+    let er = e.runs in let em = e.most in let eo = e.room in let cap = c.push_characters.ensures.capacity in
+    record {
+      kept = record { tree = e.tree; kept = is.kept; apart = e.apart; counted = omega (arith, kc, er); few = omega (arith, n, rf, ka, cells, ra); all = omega (arith, n, l, ka) };
+      roomy = record { nodes = omega (arith, rn, er, em, eo, cells, cuts, ra, rb); holds = omega (arith, rh, l, cap, cells, ra); few = omega (arith, rf, l, cells, ra) };
+      newest = subst (AreUpTo c.newest_of-self-inside.result) (sym shown_cells) (upto_put c.newest_of-self-inside.result c.args.at added (cells_of s.text.items old) (upto_more s.newest c.newest_of-self-inside.result (cells_of s.text.items old) c.newest_of-self-inside.ensures.least c.self.invariant.newest) c.newest_of-self-inside.ensures.cells);
+      home = e.home;
+      spans = e.left;
+      sums = record { many = e.told.many; memory = e.told.memory; tags = let h = c.self.invariant.sums.tags in omega (arith, h, e.tags) };
+      counts = subst (IsCountOf c.counts_with-self-inside.result) (sym shown_cells) (c.counts_with-self-inside.ensures c.args.at (cells_of s.text.items old) c.self.invariant.counts);
+      last = e.held;
+    }
 
 pub returns-clause-cells : goal.returns-clause-cells
 returns-clause-cells c =
-    let s = c.self.inside in let k = c.self.invariant.0 in
+    let s = c.self.inside in let k = c.self.invariant.kept in
     let e = c.put_cells-change.ensures in
     let old = tree_runs s.mem s.root.index in let new = tree_runs c.put_cells-change.new.mem c.put_cells-change.result.root.index in
     let is = subst (λ (t : List ℕ). AreChanged old new t (put_at c.args.at c.args.cells.now)) c.deref.ensures.value e.cells in
@@ -117,7 +106,7 @@ returns-clause-cells c =
 
 pub returns-clause-runs : goal.returns-clause-runs
 returns-clause-runs c =
-    let s = c.self.inside in let k = c.self.invariant.0 in
+    let s = c.self.inside in let k = c.self.invariant.kept in
     let e = c.put_cells-change.ensures in
     let old = tree_runs s.mem s.root.index in let added = c.args.cells.now in
     let same = returns-clause-cells c in
@@ -134,7 +123,7 @@ pub put_cells-change-requires-clause-told : goal.put_cells-change-requires-claus
 put_cells-change-requires-clause-told c =
     let s = c.self.inside in
     let tags = ap (λ (v : Shown). v.room.tags) c.self.view_is in
-    kept_told s.mem s.root.index s.text.items s.runs c.self.invariant.0 s.sums s.spare_tags c.self.invariant.1.1.1.1.1.0 c.args.states.now (omega (arith, tags, c.requires.room.2)) _ c.args.self.now c.self.view_is c.requires.agrees
+    kept_told s.mem s.root.index s.text.items s.runs c.self.invariant.kept s.sums s.spare_tags c.self.invariant.sums c.args.states.now (omega (arith, tags, c.requires.room.2)) _ c.args.self.now c.self.view_is c.requires.agrees
 
 pub returns-clause-agrees : goal.returns-clause-agrees
 returns-clause-agrees c =

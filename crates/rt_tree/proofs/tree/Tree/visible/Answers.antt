@@ -4,4 +4,4 @@ use Rattle.rt_tree.specs.Trees.{Shown}
 use Rattle.rt_tree.proofs.tree.Tree.visible.Goals as goal
 
 pub returns : goal.returns
-returns c = (subst (λ (x : Shown). IsCountOf c.self.inside.counts x.cells) c.self.view_is c.self.invariant.1.1.1.1.1.1.0).visible
+returns c = (subst (λ (x : Shown). IsCountOf c.self.inside.counts x.cells) c.self.view_is c.self.invariant.counts).visible

@@ -4,7 +4,7 @@ use Rattle.rt_stamps.specs.declared.limits.TheConstants.{GREATEST_COUNT}
 use Rattle.rt_ops.specs.Edits.{body_of}
 use Rattle.rt_rga.specs.Making.{operations_from}
 use Rattle.rt_rga.proofs.Making.{fits_left, rules_left, stamped_more}
-use Rattle.rt_rga.proofs.make.stamped.Goals as goal
+use Rattle.rt_rga.proofs.make.all_stamped.Goals as goal
 
 pub loop-draft-preserved : goal.loop-draft-preserved
 loop-draft-preserved c =

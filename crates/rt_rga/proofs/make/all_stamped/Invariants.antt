@@ -6,7 +6,7 @@ use Rattle.rt_ops.specs.Edits.{body_of}
 use Rattle.rt_ops.specs.Rules.{keeps_rules}
 use Rattle.rt_rga.specs.Making.{operations_from}
 use Rattle.rt_rga.specs.Requests.{last_count_after}
-use Rattle.rt_rga.proofs.make.stamped.Given as goal
+use Rattle.rt_rga.proofs.make.all_stamped.Given as goal
 
 abbrev pub invariant-loop-draft : goal.invariant-loop-draft
 invariant-loop-draft l = record {
