@@ -3,7 +3,8 @@ ghost use Rattle.std.specs.Prelude.{◌≡◌, ◌⊎◌, Ok, IfErr, IfOk, OnErr
 ghost use Rattle.rt_stamps.specs.Outcomes.{Refuses};
 ghost use Rattle.rt_stamps.specs.Words.{as_words};
 ghost use Rattle.rt_rga.specs.Answers.{Refused};
-ghost use Rattle.rt_rga.specs.Taken.{told};
+ghost use Rattle.rt_rga.specs.Taken.{TellsChange, told};
+ghost use Rattle.rt_tags.specs.States.{TagStates};
 ghost use Rattle.rt_editing.specs.Settled.{IsSettled};
 ghost use Rattle.rt_text.specs.Accepted.{answer_of};
 ghost use Rattle.rt_editing.specs.Edited.{edited};
@@ -86,7 +87,7 @@ pub fn replace<S: TextStore>(
 }
 
 /// Accepts an operation of any site, as `View::accept` does: it is never recorded, and forces the modified
-/// flag where it changes the visible text. Its faults, and then all is as it was.
+/// flag where it changes the visible text. What is new tells its change. Its faults, and then all is as it was.
 pub fn accept<S: TextStore>(
     view: &mut View<S>,
     recorder: &mut Recorder,
@@ -94,6 +95,7 @@ pub fn accept<S: TextStore>(
 ) -> Result<Taken, Fault>
     requires { IsSettled view.old recorder.old }
     ensures answer { IfOk result (λ taken. answer_of view.old.doc op ≡ told taken) }
+    ensures change { IfOk result (λ taken. (table : TagStates) × TellsChange op view.old.doc.cells table taken) }
     ensures ok { OnOk result (edited view.new recorder.new ≡ text_after (answer_of view.old.doc op) op (edited view.old recorder.old)) }
     ensures refused { IfErr result (λ fault. (answer_of view.old.doc op ≡ Refused fault) ⊎ (fault ≡ Fault.NoMemory)) }
     ensures unchanged { OnErr result (edited view.new recorder.new ≡ edited view.old recorder.old) }

@@ -21,7 +21,7 @@ use crate::plan::Reversal;
 use crate::progress::Progress;
 use crate::reverting::revert_all;
 use rt_stamps::{Fault, Site};
-use rt_store::{ListStore, TextStore};
+use rt_store::TextStore;
 use rt_tags::StateTable;
 use rt_undo::Action;
 use std::alloc::Global;
@@ -30,43 +30,10 @@ use std::alloc::Global;
 /// is by the stamps of now, and `count` is the document's greatest count. The tags of removed characters
 /// are states of `kept`, a table of the undo stacks' own: it gets the states that the plan needs, also
 /// where that is refused. `ClockSpent`, or want of memory, as also where the text would grow past the
-/// most cells. The actions are reverted in a working copy of the cells that they name; it is a plain
-/// list, so the cost goes by the square of their number: `planned_reversion_in` takes a better store.
-pub fn planned_reversion<S: TextStore>(
-    alloc: Global,
-    store: &S,
-    states: &StateTable,
-    site: Site,
-    count: u64,
-    group: &[Action],
-    kept: &mut StateTable,
-) -> Result<Reversal, Fault>
-    requires distinct { AreDistinct (S.list store.now) }
-    requires few { length (S.list store.now) ≤ MOST_CELLS }
-    requires states { AreStates states.now (S.list store.now) }
-    requires older { AreUpTo count (S.list store.now) }
-    requires count { count ≤ GREATEST_COUNT }
-    requires given { AreGiven kept.old (group_of group.now) }
-    requires sound { AreSound (named_group kept.old (group_of group.now)) }
-    ensures plan { IfOk result (λ plan. (flat : Flat) → IsOf states.now (S.list store.now) site.number count flat
-        → IsPlanOf kept.new flat (named_group kept.old (group_of group.now)) plan) }
-    ensures fits { OnOk result ((flat : Flat) → IsOf states.now (S.list store.now) site.number count flat
-        → (reversion flat (named_group kept.old (group_of group.now))).doc.count ≤ GREATEST_COUNT) }
-    ensures given { IfOk result (λ plan. AreGiven kept.new (group_of plan.actions.items)) }
-    ensures changes { IfOk result (λ plan. AllByRecursion IsChange plan.changes.items) }
-    ensures names { IfOk result (λ plan. list_all is_name (as_words plan.names.items) ≡ true) }
-    ensures ids { KeepsIds kept.old kept.new }
-    ensures err { IfErr result (λ fault. (fault ≡ Fault.NoMemory) ⊎ ((fault ≡ Fault.ClockSpent)
-        × ((flat : Flat) → IsOf states.now (S.list store.now) site.number count flat
-        → GREATEST_COUNT < (reversion flat (named_group kept.old (group_of group.now))).doc.count))) }
-{
-    let copy = ListStore::new(alloc)?;
-    planned_reversion_in(alloc, store, states, copy, site, count, group, kept)
-}
-
-/// The same, with an empty store for the working copy. The cost goes by the characters that the group
-/// names, in the calls of both stores, and by a sort; not by the cells of the text.
-pub fn planned_reversion_in<S: TextStore, C: TextStore>(
+/// most cells. The actions are reverted in a working copy of the cells that they name: `copy` is the
+/// empty store for it. The cost goes by the characters that the group names, in the calls of both
+/// stores, and by a sort; not by the cells of the text.
+pub fn planned_reversion<S: TextStore, C: TextStore>(
     alloc: Global,
     store: &S,
     states: &StateTable,

@@ -18,7 +18,7 @@ mod reverting;
 mod work;
 
 pub use copying::{alike_state, kept_state};
-pub use group::{planned_reversion, planned_reversion_in};
+pub use group::planned_reversion;
 pub use losses::Losses;
 pub use lost::push_removed;
 pub use plan::{Return, Reversal, TextChange};

@@ -112,7 +112,8 @@ fn planned(alloc: Global, site: Site, gone: bool, group: &[Action]) -> Result<Re
     let states = StateTable::new(alloc)?;
     let store = text(alloc, &states, gone)?;
     let mut kept = StateTable::new(alloc)?;
-    planned_reversion(alloc, &store, &states, site, 3, group, &mut kept)
+    let copy = ListStore::new(alloc)?;
+    planned_reversion(alloc, &store, &states, copy, site, 3, group, &mut kept)
 }
 
 // Which operations there are.

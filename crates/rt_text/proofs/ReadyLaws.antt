@@ -1,5 +1,5 @@
 -- What is prepared for an insertion.
-use Rattle.std.proofs.Common.{◌≡◌, ℕ, ◌+◌, ◌<◌, List, [], ◌∷◌, ◌++◌, true, false, All, Option, None, Some, Result, Ok, Err, ◌⊎◌, inl, inr, OnOk, length, take, drop, map, get_or, refl, sym, ◌∙◌, ap, subst}
+use Rattle.std.proofs.Common.{◌≡◌, ℕ, ◌+◌, ◌<◌, List, [], ◌∷◌, ◌++◌, true, false, ◌||◌, All, Option, None, Some, Result, Ok, Err, ◌⊎◌, inl, inr, OnOk, length, take, drop, map, get_or, refl, sym, ◌∙◌, ap, subst}
 use Rattle.std.specs.Prelude.{IfErr, IsOk, ◌↔◌}
 use Rattle.std.specs.Str.{bytes_eq}
 use Rattle.std.proofs.lemmas.Bool.{or_left, or_right}
@@ -9,8 +9,8 @@ use Rattle.rt_stamps.specs.declared.fault.Fault.{Fault}
 use Rattle.rt_stamps.specs.declared.fault.Fault.TheVariants.{BadName, NoMemory}
 use Rattle.rt_stamps.specs.Outcomes.{first_of}
 use Rattle.rt_stamps.specs.Words.{Word}
-use Rattle.rt_tags.specs.Tags.{AlsoReady, IsName, Tags, is_ready, with_name}
-use Rattle.rt_tags.proofs.Places.{clash, name_itself}
+use Rattle.rt_tags.specs.Tags.{AlsoReady, IsName, Tags, is_listed, is_ready, with_name}
+use Rattle.rt_tags.proofs.Places.{clash, name_itself, same_name, split}
 use Rattle.rt_stamps.specs.Names.{name_check}
 use Rattle.rt_text.specs.Commands.{names_in}
 use Rattle.rt_edits.specs.Insertions.{Piece, all_listed}
@@ -47,7 +47,7 @@ pub named_here : {X : Type 0} (P : Word → Type 0) (f : X → Word) (tags : Lis
 named_here P f tags i tag name h e n all =
     subst P (ap f (sym e) ∙ sym n) (All-get_or (λ t. P (f t)) tags i tag h all)
 
-still_ready : (q name : Word) (old new : Tags) → AlsoReady name old new → is_ready q old ≡ true → is_ready q new ≡ true
+pub still_ready : (q name : Word) (old new : Tags) → AlsoReady name old new → is_ready q old ≡ true → is_ready q new ≡ true
 still_ready q name old new made h = made q ∙ or_right (bytes_eq q name) (is_ready q old) h
 
 pub ready_more : {X : Type 0} (f : X → Word) (tags : List X) (i : ℕ) (tag : X) (name : Word) (old new : Tags) → i < length tags → tag ≡ get_or tags i tag → name ≡ f tag → AlsoReady name old new
@@ -67,6 +67,19 @@ listed_from f tags i tag name old new h e n made =
     ∙ ap (λ q. all_listed (map f (drop (i + 1) tags)) (with_name q old.names)) n
     ∙ sym (ap (λ l. all_listed (map f l) old.names) (drop_more tags i tag h ∙ ap (λ t. t ∷ drop (i + 1) tags) (sym e)))
 
+-- of names that are given, one more is ready
+pub only_given : (names : List Word) (name : Word) (old now new : Tags) → is_listed name names ≡ true → AlsoReady name now new
+    → ((q : Word) → is_ready q now ≡ true → (is_listed q names || is_ready q old) ≡ true) → (q : Word) → is_ready q new ≡ true → (is_listed q names || is_ready q old) ≡ true
+only_given names name old now new there made only q h =
+    split (bytes_eq q name)
+    (λ t. or_left (is_listed q names) (is_ready q old) (ap (λ n. is_listed n names) (same_name q name t) ∙ there))
+    (λ f. only q (sym (made q ∙ ap (λ b. b || is_ready q now) f) ∙ h))
+
+-- what a call that is refused leaves ready
+pub only_left : (names : List Word) (old now new : Tags) → new ≡ now
+    → ((q : Word) → is_ready q now ≡ true → (is_listed q names || is_ready q old) ≡ true) → (q : Word) → is_ready q new ≡ true → (is_listed q names || is_ready q old) ≡ true
+only_left names old now new e only q h = only q (sym (ap (is_ready q) e) ∙ h)
+
 -- a name isn't refused for itself
 pub for_memory : (name : Word) (r : Result (Unit {0}) Fault) (fault : Fault) → r ≡ Err fault → (fault ≡ BadName) ⊎ (fault ≡ NoMemory) → ((r ≡ Err BadName) ↔ (IsName name → ⊥)) → IsName name → fault ≡ NoMemory
 for_memory name r fault e (inl b) bad h = absurd (bad.0 (e ∙ ap (λ f. Err f) b) h)
@@ -77,6 +90,11 @@ pub sure : (name : Word) (old : Tags) (r : Result (Unit {0}) Fault) → IfErr r 
     → IsName name → is_ready name old ≡ true → IsOk r
 sure name old (Ok x) f bad memory h k = refl
 sure name old (Err fault) f bad memory h k = absurd (clash (is_ready name old) k (memory (ap (λ x. Err x) (for_memory name (Err fault) fault refl f bad h))))
+
+-- a refusal is no answer
+pub no_answer : (r : Result (Unit {0}) Fault) (fault : Fault) → r ≡ Err fault → IsOk r → ⊥
+no_answer (Ok x) fault e h = let bad : ⊥ = cc in absurd bad
+no_answer (Err other) fault e h = let bad : ⊥ = cc in absurd bad
 
 pub at_ok : {P : Type 0} (r : Result (Unit {0}) Fault) → IsOk r → OnOk r P → P
 at_ok (Ok x) h p = p

@@ -1,9 +1,9 @@
 // What an accepted operation does to the marks of its text and to the list of tags.
-ghost use Rattle.std.specs.Prelude.{ℕ, ◌≡◌, ◌+◌, ◌≤◌, All, IsOkUnless, OnOk, map, string_bytes, true};
+ghost use Rattle.std.specs.Prelude.{ℕ, List, ◌≡◌, ◌+◌, ◌≤◌, ◌||◌, All, IsOk, IsOkUnless, OnOk, map, string_bytes, true};
 ghost use Rattle.std.specs.List.{AllByRecursion};
 ghost use Rattle.rt_marks.specs.Marks.{marks_inserted, marks_left};
 ghost use Rattle.rt_tags.specs.States.{IsTag, name_at};
-ghost use Rattle.rt_tags.specs.Tags.{IsName, is_ready};
+ghost use Rattle.rt_tags.specs.Tags.{IsName, is_listed, is_ready};
 ghost use Rattle.rt_ops.specs.Edits.{body_of};
 ghost use Rattle.rt_ops.specs.Rules.{keeps_rules};
 ghost use Rattle.rt_rga.specs.Taken.{AreFallingRuns, is_in_runs, lists_of};
@@ -20,12 +20,18 @@ use rt_rga::Change;
 use rt_stamps::Fault;
 use rt_tags::{StateTable, TagId, TagTable};
 
-/// Prepares the tags that an edit lists: to list them takes no memory. Want of memory.
+/// Prepares the tags that an edit lists: to list them takes no memory. It lists nothing, names that were
+/// ready stay so, and no others than those become so. Want of memory, and only where one of them isn't
+/// ready.
 pub(crate) fn prepare_lists(table: &mut TagTable, edit: &Edit) -> Result<(), Fault>
     requires { keeps_rules (body_of edit.now) ≡ true }
     ensures names { table.new.names ≡ table.old.names }
     ensures ready { OnOk result (All (λ name. is_ready name table.new ≡ true) (lists_of (body_of edit.now))) }
+    ensures kept { (other : List ℕ) → is_ready other table.old ≡ true → is_ready other table.new ≡ true }
+    ensures only { (other : List ℕ) → is_ready other table.new ≡ true
+        → (is_listed other (lists_of (body_of edit.now)) || is_ready other table.old) ≡ true }
     ensures err { IsOkUnless result Fault.NoMemory }
+    ensures memory { All (λ name. is_ready name table.old ≡ true) (lists_of (body_of edit.now)) → IsOk result }
 {
     match edit {
         Edit::Insert {

@@ -1,7 +1,7 @@
 // What an insertion needs, before anything changes.
-ghost use Rattle.std.specs.Prelude.{◌≡◌, ◌⊎◌, ◌≤◌, All, IfErr, IsOkUnless, OnErr, OnOk, None, Some, true, length, map, string_bytes};
+ghost use Rattle.std.specs.Prelude.{ℕ, List, ◌≡◌, ◌⊎◌, ◌≤◌, ◌||◌, All, IfErr, IsOk, IsOkUnless, OnErr, OnOk, None, Some, true, length, map, string_bytes};
 ghost use Rattle.rt_stamps.specs.Outcomes.{first_of};
-ghost use Rattle.rt_tags.specs.Tags.{IsName, is_ready};
+ghost use Rattle.rt_tags.specs.Tags.{IsName, is_listed, is_ready};
 ghost use Rattle.rt_stamps.specs.Names.{name_check};
 ghost use Rattle.rt_stamps.specs.Words.{as_words};
 ghost use Rattle.rt_text.specs.Commands.{names_in};
@@ -40,12 +40,17 @@ pub(crate) fn check_names(pieces: &[Piece]) -> Result<(), Fault>
     Ok(())
 }
 
-/// Prepares tags: to list them takes no memory. Want of memory.
+/// Prepares tags: to list them takes no memory. It lists nothing, names that were ready stay so, and no
+/// others than those that are given become so. Want of memory, and only where one of them isn't ready.
 pub(crate) fn prepare_tags(table: &mut TagTable, names: &[String]) -> Result<(), Fault>
     requires { All (λ w. IsName (string_bytes w)) names.now }
     ensures names { table.new.names ≡ table.old.names }
     ensures ready { OnOk result (All (λ w. is_ready (string_bytes w) table.new ≡ true) names.now) }
+    ensures kept { (other : List ℕ) → is_ready other table.old ≡ true → is_ready other table.new ≡ true }
+    ensures only { (other : List ℕ) → is_ready other table.new ≡ true
+        → (is_listed other (as_words names.now) || is_ready other table.old) ≡ true }
     ensures err { IsOkUnless result Fault.NoMemory }
+    ensures memory { All (λ w. is_ready (string_bytes w) table.old ≡ true) names.now → IsOk result }
 {
     for name in names {
         table.prepare(name)?;

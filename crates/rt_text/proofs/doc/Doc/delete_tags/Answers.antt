@@ -86,7 +86,7 @@ invariant_of-self-2 g c =
     let left = left_of_deletion names old in
     let fit : refusal_of old.limit drafts old.log ≡ None = (λ i. refusal_of (sym c.self.view_is i).limit (sym bodies i) (sym c.self.view_is i).log) ∙ c.in_ok-commit.ensures.fits in
     let log : c.commit.new.self.log ≡ with_drafts old.site drafts old.log = c.in_ok-commit.ensures.log ∙ (λ i. with_drafts (c.self.view_is i).site (bodies i) (c.self.view_is i).log) in
-    let tags : c.forget_all.new.tags.names ≡ edited.tags = c.forget_all.ensures ∙ ap (λ (f : Flat). all_forgotten names f.tags) c.self.view_is ∙ sym left.tags in
+    let tags : c.forget_all.new.tags.names ≡ edited.tags = c.forget_all.ensures.names ∙ ap (λ (f : Flat). all_forgotten names f.tags) c.self.view_is ∙ sym left.tags in
     let made : seen c.commit.new.self c.self.inside.marks c.forget_all.new.tags.names ≡ logged old drafts edited =
     makes_seen old edited drafts makes c.commit.new.self c.self.inside.marks c.forget_all.new.tags.names fit log c.in_ok-commit.ensures.cells (c.commit.ensures.site ∙ ap (λ (f : Flat). f.site) c.self.view_is)
     (c.commit.ensures.limit ∙ ap (λ (f : Flat). f.limit) c.self.view_is) (ap (λ (f : Flat). f.marks) c.self.view_is ∙ sym left.marks) tags left.limit in
@@ -108,7 +108,7 @@ returns-clause-ok g c =
     let left = left_of_deletion names old in
     let fit : refusal_of old.limit drafts old.log ≡ None = (λ i. refusal_of (sym c.self.view_is i).limit (sym bodies i) (sym c.self.view_is i).log) ∙ c.in_ok-commit.ensures.fits in
     let log : c.commit.new.self.log ≡ with_drafts old.site drafts old.log = c.in_ok-commit.ensures.log ∙ (λ i. with_drafts (c.self.view_is i).site (bodies i) (c.self.view_is i).log) in
-    let tags : c.forget_all.new.tags.names ≡ edited.tags = c.forget_all.ensures ∙ ap (λ (f : Flat). all_forgotten names f.tags) c.self.view_is ∙ sym left.tags in
+    let tags : c.forget_all.new.tags.names ≡ edited.tags = c.forget_all.ensures.names ∙ ap (λ (f : Flat). all_forgotten names f.tags) c.self.view_is ∙ sym left.tags in
     let made : seen c.commit.new.self c.self.inside.marks c.forget_all.new.tags.names ≡ logged old drafts edited =
     makes_seen old edited drafts makes c.commit.new.self c.self.inside.marks c.forget_all.new.tags.names fit log c.in_ok-commit.ensures.cells (c.commit.ensures.site ∙ ap (λ (f : Flat). f.site) c.self.view_is)
     (c.commit.ensures.limit ∙ ap (λ (f : Flat). f.limit) c.self.view_is) (ap (λ (f : Flat). f.marks) c.self.view_is ∙ sym left.marks) tags left.limit in
@@ -126,7 +126,7 @@ returns-clause-checked g c =
     let left = left_of_deletion names old in
     let fit : refusal_of old.limit drafts old.log ≡ None = (λ i. refusal_of (sym c.self.view_is i).limit (sym bodies i) (sym c.self.view_is i).log) ∙ c.in_ok-commit.ensures.fits in
     let log : c.commit.new.self.log ≡ with_drafts old.site drafts old.log = c.in_ok-commit.ensures.log ∙ (λ i. with_drafts (c.self.view_is i).site (bodies i) (c.self.view_is i).log) in
-    let tags : c.forget_all.new.tags.names ≡ edited.tags = c.forget_all.ensures ∙ ap (λ (f : Flat). all_forgotten names f.tags) c.self.view_is ∙ sym left.tags in
+    let tags : c.forget_all.new.tags.names ≡ edited.tags = c.forget_all.ensures.names ∙ ap (λ (f : Flat). all_forgotten names f.tags) c.self.view_is ∙ sym left.tags in
     let made : seen c.commit.new.self c.self.inside.marks c.forget_all.new.tags.names ≡ logged old drafts edited =
     makes_seen old edited drafts makes c.commit.new.self c.self.inside.marks c.forget_all.new.tags.names fit log c.in_ok-commit.ensures.cells (c.commit.ensures.site ∙ ap (λ (f : Flat). f.site) c.self.view_is)
     (c.commit.ensures.limit ∙ ap (λ (f : Flat). f.limit) c.self.view_is) (ap (λ (f : Flat). f.marks) c.self.view_is ∙ sym left.marks) tags left.limit in
@@ -144,7 +144,7 @@ returns-clause-text g c =
     let left = left_of_deletion names old in
     let fit : refusal_of old.limit drafts old.log ≡ None = (λ i. refusal_of (sym c.self.view_is i).limit (sym bodies i) (sym c.self.view_is i).log) ∙ c.in_ok-commit.ensures.fits in
     let log : c.commit.new.self.log ≡ with_drafts old.site drafts old.log = c.in_ok-commit.ensures.log ∙ (λ i. with_drafts (c.self.view_is i).site (bodies i) (c.self.view_is i).log) in
-    let tags : c.forget_all.new.tags.names ≡ edited.tags = c.forget_all.ensures ∙ ap (λ (f : Flat). all_forgotten names f.tags) c.self.view_is ∙ sym left.tags in
+    let tags : c.forget_all.new.tags.names ≡ edited.tags = c.forget_all.ensures.names ∙ ap (λ (f : Flat). all_forgotten names f.tags) c.self.view_is ∙ sym left.tags in
     let made : seen c.commit.new.self c.self.inside.marks c.forget_all.new.tags.names ≡ logged old drafts edited =
     makes_seen old edited drafts makes c.commit.new.self c.self.inside.marks c.forget_all.new.tags.names fit log c.in_ok-commit.ensures.cells (c.commit.ensures.site ∙ ap (λ (f : Flat). f.site) c.self.view_is)
     (c.commit.ensures.limit ∙ ap (λ (f : Flat). f.limit) c.self.view_is) (ap (λ (f : Flat). f.marks) c.self.view_is ∙ sym left.marks) tags left.limit in

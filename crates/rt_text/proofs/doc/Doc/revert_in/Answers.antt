@@ -36,8 +36,8 @@ which : {F X : Type 0} {r checked : X} {fault memory : F} {some none : X} → (r
 which (inl e) s = inr (sym s ∙ e)
 which (inr p) s = inl p.0
 
-pub planned_reversion_in-requires-clause-older : goal.planned_reversion_in-requires-clause-older
-planned_reversion_in-requires-clause-older g c =
+pub planned_reversion-requires-clause-older : goal.planned_reversion-requires-clause-older
+planned_reversion-requires-clause-older g c =
     let flat = c.args.self.now in
     let states = c.kept.result.1.now in
     let store = g.S.TextStore.list c.kept.result.0.now in
@@ -45,8 +45,8 @@ planned_reversion_in-requires-clause-older g c =
     let count : many ≡ flat.count = c.seen-count.ensures.value ∙ c.clock.ensures ∙ ap (λ (f : Flat). f.count) c.self.view_is in
     store_older states store flat many c.kept.ensures.cells c.kept.ensures.history c.kept.ensures.document count
 
-pub planned_reversion_in-requires-clause-count : goal.planned_reversion_in-requires-clause-count
-planned_reversion_in-requires-clause-count g c =
+pub planned_reversion-requires-clause-count : goal.planned_reversion-requires-clause-count
+planned_reversion-requires-clause-count g c =
     let flat = c.args.self.now in
     let many = c.seen-count.result in
     let count : many ≡ flat.count = c.seen-count.ensures.value ∙ c.clock.ensures ∙ ap (λ (f : Flat). f.count) c.self.view_is in
@@ -74,7 +74,7 @@ returns-in_err-plan g c =
       actions = tt;
       given = tt;
       sound = tt;
-      ids = c.planned_reversion_in.ensures.ids;
+      ids = c.planned_reversion.ensures.ids;
       err = not_planned states store number many flat group c.in_err-plan.field-0.0 is c.in_err-plan.ensures.err;
       unchanged = (refl, refl, refl);
       own = c.requires.own;
@@ -96,7 +96,7 @@ commit-requires g c =
     let site : number ≡ flat.site = c.site-site.ensures ∙ ap (λ (f : Flat). f.site) c.self.view_is in
     let count : many ≡ flat.count = c.seen-count.ensures.value ∙ c.clock.ensures ∙ ap (λ (f : Flat). f.count) c.self.view_is in
     let is : IsOf states store number many flat = record { cells = sym c.kept.ensures.cells; site = sym site; count = sym count } in
-    let table = c.planned_reversion_in.new.kept in
+    let table = c.planned_reversion.new.kept in
     let plan = c.in_ok-plan.plan in
     let p : IsPlanned states table store number many flat group plan = record {
       real = c.kept.ensures.site;
@@ -129,7 +129,7 @@ returns-in_err-prepare_tags g c =
       actions = tt;
       given = tt;
       sound = tt;
-      ids = c.planned_reversion_in.ensures.ids;
+      ids = c.planned_reversion.ensures.ids;
       err = inl c.in_err-prepare_tags.ensures.err;
       unchanged = (doc, refl, refl);
       own = subst (λ (f : Flat). IsOwnOf (length (text_of f.cells)) c.args.widget.now) (sym doc) c.requires.own;
@@ -151,7 +151,7 @@ returns-in_err-commit g c =
     let site : number ≡ flat.site = c.site-site.ensures ∙ ap (λ (f : Flat). f.site) c.self.view_is in
     let count : many ≡ flat.count = c.seen-count.ensures.value ∙ c.clock.ensures ∙ ap (λ (f : Flat). f.count) c.self.view_is in
     let is : IsOf states store number many flat = record { cells = sym c.kept.ensures.cells; site = sym site; count = sym count } in
-    let table = c.planned_reversion_in.new.kept in
+    let table = c.planned_reversion.new.kept in
     let plan = c.in_ok-plan.plan in
     let p : IsPlanned states table store number many flat group plan = record {
       real = c.kept.ensures.site;
@@ -178,7 +178,7 @@ returns-in_err-commit g c =
       actions = tt;
       given = tt;
       sound = tt;
-      ids = c.planned_reversion_in.ensures.ids;
+      ids = c.planned_reversion.ensures.ids;
       err = which c.in_err-commit.ensures.refused same;
       unchanged = (doc, refl, refl);
       own = subst (λ (f : Flat). IsOwnOf (length (text_of f.cells)) c.args.widget.now) (sym doc) c.requires.own;
@@ -220,7 +220,7 @@ invariant_of-self-2 g c =
     let site : number ≡ flat.site = c.site-site.ensures ∙ ap (λ (f : Flat). f.site) c.self.view_is in
     let count : many ≡ flat.count = c.seen-count.ensures.value ∙ c.clock.ensures ∙ ap (λ (f : Flat). f.count) c.self.view_is in
     let is : IsOf states store number many flat = record { cells = sym c.kept.ensures.cells; site = sym site; count = sym count } in
-    let table = c.planned_reversion_in.new.kept in
+    let table = c.planned_reversion.new.kept in
     let plan = c.in_ok-plan.plan in
     let p : IsPlanned states table store number many flat group plan = record {
       real = c.kept.ensures.site;
@@ -254,7 +254,7 @@ returns g c =
     let site : number ≡ flat.site = c.site-site.ensures ∙ ap (λ (f : Flat). f.site) c.self.view_is in
     let count : many ≡ flat.count = c.seen-count.ensures.value ∙ c.clock.ensures ∙ ap (λ (f : Flat). f.count) c.self.view_is in
     let is : IsOf states store number many flat = record { cells = sym c.kept.ensures.cells; site = sym site; count = sym count } in
-    let table = c.planned_reversion_in.new.kept in
+    let table = c.planned_reversion.new.kept in
     let plan = c.in_ok-plan.plan in
     let p : IsPlanned states table store number many flat group plan = record {
       real = c.kept.ensures.site;
@@ -289,7 +289,7 @@ returns g c =
       actions = plans.actions;
       given = c.in_ok-plan.ensures.given;
       sound = subst AreSound (sym plans.actions) (reversion_sound flat.site flat.log flat group i.real i.history i.document i.sound i.fits);
-      ids = c.planned_reversion_in.ensures.ids;
+      ids = c.planned_reversion.ensures.ids;
       err = tt;
       unchanged = tt;
       own = subst (λ (x : _). x) (λ k. IsOwnOf (length (text_of (sym doc k).cells)) (sym own_moved_is k)) (own_left_in states table store number many flat group plan p own c.requires.own);

@@ -105,7 +105,7 @@ invariant_of-self-2 g c =
     let makes = tagged_makes old places on name of (name_is name c.utf8.name c.requires.name c.requires.shared) in
     let fit : refusal_of old.limit drafts old.log ≡ None = (λ i. refusal_of (sym c.self.view_is i).limit (sym bodies i) (sym c.self.view_is i).log) ∙ c.in_ok-commit.ensures.fits in
     let log : c.commit.new.self.log ≡ with_drafts old.site drafts old.log = c.in_ok-commit.ensures.log ∙ (λ i. with_drafts (c.self.view_is i).site (bodies i) (c.self.view_is i).log) in
-    let tags : c.list_if.new.tags.names ≡ edited.tags = c.list_if.ensures ∙ ap (λ l. cond on (with_name name l) l) (c.prepare_if.ensures.names ∙ ap (λ (f : Flat). f.tags) c.self.view_is) in
+    let tags : c.list_if.new.tags.names ≡ edited.tags = c.list_if.ensures.names ∙ ap (λ l. cond on (with_name name l) l) (c.prepare_if.ensures.names ∙ ap (λ (f : Flat). f.tags) c.self.view_is) in
     let made : seen c.commit.new.self c.self.inside.marks c.list_if.new.tags.names ≡ logged old drafts edited =
     makes_seen old edited drafts makes c.commit.new.self c.self.inside.marks c.list_if.new.tags.names fit log c.in_ok-commit.ensures.cells (c.commit.ensures.site ∙ ap (λ (f : Flat). f.site) c.self.view_is)
     (c.commit.ensures.limit ∙ ap (λ (f : Flat). f.limit) c.self.view_is) (ap (λ (f : Flat). f.marks) c.self.view_is) tags refl in
@@ -127,7 +127,7 @@ returns-clause-ok g c =
     let makes = tagged_makes old places on name of (name_is name c.utf8.name c.requires.name c.requires.shared) in
     let fit : refusal_of old.limit drafts old.log ≡ None = (λ i. refusal_of (sym c.self.view_is i).limit (sym bodies i) (sym c.self.view_is i).log) ∙ c.in_ok-commit.ensures.fits in
     let log : c.commit.new.self.log ≡ with_drafts old.site drafts old.log = c.in_ok-commit.ensures.log ∙ (λ i. with_drafts (c.self.view_is i).site (bodies i) (c.self.view_is i).log) in
-    let tags : c.list_if.new.tags.names ≡ edited.tags = c.list_if.ensures ∙ ap (λ l. cond on (with_name name l) l) (c.prepare_if.ensures.names ∙ ap (λ (f : Flat). f.tags) c.self.view_is) in
+    let tags : c.list_if.new.tags.names ≡ edited.tags = c.list_if.ensures.names ∙ ap (λ l. cond on (with_name name l) l) (c.prepare_if.ensures.names ∙ ap (λ (f : Flat). f.tags) c.self.view_is) in
     let made : seen c.commit.new.self c.self.inside.marks c.list_if.new.tags.names ≡ logged old drafts edited =
     makes_seen old edited drafts makes c.commit.new.self c.self.inside.marks c.list_if.new.tags.names fit log c.in_ok-commit.ensures.cells (c.commit.ensures.site ∙ ap (λ (f : Flat). f.site) c.self.view_is)
     (c.commit.ensures.limit ∙ ap (λ (f : Flat). f.limit) c.self.view_is) (ap (λ (f : Flat). f.marks) c.self.view_is) tags refl in
@@ -146,7 +146,7 @@ returns-clause-within g c =
     let makes = tagged_makes old places on name of (name_is name c.utf8.name c.requires.name c.requires.shared) in
     let fit : refusal_of old.limit drafts old.log ≡ None = (λ i. refusal_of (sym c.self.view_is i).limit (sym bodies i) (sym c.self.view_is i).log) ∙ c.in_ok-commit.ensures.fits in
     let log : c.commit.new.self.log ≡ with_drafts old.site drafts old.log = c.in_ok-commit.ensures.log ∙ (λ i. with_drafts (c.self.view_is i).site (bodies i) (c.self.view_is i).log) in
-    let tags : c.list_if.new.tags.names ≡ edited.tags = c.list_if.ensures ∙ ap (λ l. cond on (with_name name l) l) (c.prepare_if.ensures.names ∙ ap (λ (f : Flat). f.tags) c.self.view_is) in
+    let tags : c.list_if.new.tags.names ≡ edited.tags = c.list_if.ensures.names ∙ ap (λ l. cond on (with_name name l) l) (c.prepare_if.ensures.names ∙ ap (λ (f : Flat). f.tags) c.self.view_is) in
     let made : seen c.commit.new.self c.self.inside.marks c.list_if.new.tags.names ≡ logged old drafts edited =
     makes_seen old edited drafts makes c.commit.new.self c.self.inside.marks c.list_if.new.tags.names fit log c.in_ok-commit.ensures.cells (c.commit.ensures.site ∙ ap (λ (f : Flat). f.site) c.self.view_is)
     (c.commit.ensures.limit ∙ ap (λ (f : Flat). f.limit) c.self.view_is) (ap (λ (f : Flat). f.marks) c.self.view_is) tags refl in

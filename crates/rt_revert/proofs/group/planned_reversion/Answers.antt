@@ -17,7 +17,7 @@ use Rattle.rt_revert.specs.Portions.{only}
 use Rattle.rt_revert.specs.Progress.{IsSoFar, LookAlike}
 use Rattle.rt_revert.specs.Reverting.{as_it_is, reversion}
 use Rattle.rt_revert.proofs.Grouped.{IsBegun, begun_copy, begun_going, begun_so_far, ended_given, ended_group, group_had, later_given, later_group, later_sound, older_named, portion_of, ready_cells}
-use Rattle.rt_revert.proofs.group.planned_reversion_in.Goals as goal
+use Rattle.rt_revert.proofs.group.planned_reversion.Goals as goal
 
 pub fill-requires-clause-few : goal.fill-requires-clause-few
 fill-requires-clause-few g c =
