@@ -8,12 +8,15 @@ ghost use Rattle.std.specs.Prelude.{◌≡◌, ◌<◌, ◌≤◌, length, IfOk,
 ghost use Rattle.rt_stamps.specs.declared.limits.TheConstants.{MOST_BYTES};
 ghost use Rattle.rt_script.specs.Site.{AreWithin};
 
+mod counted;
+
+use counted::{join_counted, read_counted, show_counted};
 use rt_args::{Line, LineFault, line};
 use rt_program::ending::{
     Failure, file_failure, first_failure, join_failure, log_failure, run_failure, show_failure,
     status, write_failure,
 };
-use rt_program::{LazyFile, join_readers, read_bytes, show_lines, write_whole};
+use rt_program::{LazyFile, write_whole};
 use rt_script::{JoinFault, Outcome, SiteState, begun, run_site};
 use rt_stamps::std_ends::{Count, Reader, Writer};
 use rt_stamps::{Fault, Site};
@@ -73,12 +76,7 @@ fn read_path<'a>(rt: &HostRuntime, path: &'a str) -> Result<Vec<u8>, Failure<'a>
         Ok(file) => file,
         Err(fault) => return Err(file_failure(fault, 0, path)),
     };
-    match read_bytes::<Brand, Brand, FileReader<'_>>(
-        rt.alloc(),
-        file,
-        Blank::new(1),
-        Blank::new(1),
-    ) {
+    match read_counted::<Brand, Brand, _>(rt.alloc(), file, Blank::new(1), Blank::new(1)) {
         Ok(bytes) => Ok(bytes),
         Err(fault) => Err(file_failure(fault, 0, path)),
     }
@@ -197,7 +195,7 @@ fn run_paths<'a>(
 fn join_paths(rt: &HostRuntime, a: &str, b: &str) -> Result<Vec<u8>, JoinFault> {
     match (file_at(rt, a), file_at(rt, b)) {
         (Ok(first), Ok(second)) => {
-            join_readers::<Brand, Brand, Brand, Brand, FileReader<'_>, FileReader<'_>>(
+            join_counted::<Brand, Brand, Brand, Brand, _, _>(
                 rt.alloc(),
                 first,
                 second,
@@ -233,7 +231,7 @@ fn show<'a>(rt: &HostRuntime, path: &'a str) -> Option<Failure<'a>> {
         BufWriter::new(rt.alloc(), io::writer(rt)),
     ) {
         (Ok(file), Ok(out)) => {
-            let (shown, mut out) = show_lines::<Brand, Brand, Brand, Brand, _, _>(
+            let (shown, mut out) = show_counted::<Brand, Brand, Brand, Brand, _, _>(
                 rt.alloc(),
                 file,
                 out,

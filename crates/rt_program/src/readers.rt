@@ -1,92 +1,57 @@
-// Files that are read, joined and shown, with their reads counted from the first one on.
-ghost use Rattle.std.specs.Prelude.{◌≡◌, ◌<◌, ◌≤◌, length, IfOk};
+// Files that are read, joined and shown.
+ghost use Rattle.std.specs.Prelude.{◌≤◌, length, IfOk};
 ghost use Rattle.rt_stamps.specs.declared.limits.TheConstants.{MOST_BYTES};
-ghost use Rattle.rt_program.specs.Readers.{ReadsFresh, JoinsFresh, ShowsFresh};
+ghost use Rattle.rt_ops.specs.Intake.{ReadsWhole};
+ghost use Rattle.rt_files.specs.Files.{JoinsFiles, ShowsFile};
 
 use rt_files::{JoinFault, join_files, show_file};
 use rt_ops::read_whole;
-use rt_stamps::Fault;
-use rt_stamps::std_ends::{Count, Reader, Writer};
+use rt_stamps::{Fault, Sink, Source};
 use std::alloc::Global;
-use std::io::{Read, Write};
-use std::sync::ledger::{Blank, Ledger};
 
-/// Reads all bytes of a file, with its reads counted in ledgers that take no bytes. A failed read, a
-/// file of more than `MOST_BYTES` bytes, or want of memory.
-pub fn read_bytes<A: Ledger, B: Ledger, S: Read + Drop>(
-    alloc: Global,
-    file: S,
-    reads: Blank,
-    failed_reads: Blank,
-) -> Result<Vec<u8>, Fault>
-    requires a { (reads.name ≡ A.name) × (reads.parts ≡ A.parts) × (0 < A.parts) }
-    requires b { (failed_reads.name ≡ B.name) × (failed_reads.parts ≡ B.parts) × (0 < B.parts) }
-    ensures read { ReadsFresh (S.remaining file) result }
+/// Reads all bytes of a file, to its end. `ReadFault` where a read failed, or the file has more than
+/// `MOST_BYTES` bytes; `NoMemory` where a growth was refused.
+pub fn read_bytes<R: Source>(alloc: Global, file: &mut R) -> Result<Vec<u8>, Fault>
+    ensures read { ReadsWhole
+        (record { calls = R.calls file.old; failures = R.failures file.old; bytes = R.remaining file.old })
+        (record { calls = R.calls file.new; failures = R.failures file.new; bytes = R.remaining file.new })
+        result }
     ensures within { IfOk result (λ bytes. length bytes.items ≤ MOST_BYTES) }
 {
-    let mut file = Reader::new(
-        file,
-        Count::<A>::begin(reads),
-        Count::<B>::begin(failed_reads),
-    );
-    read_whole(alloc, &mut file)
+    read_whole(alloc, file)
 }
 
-/// Joins two files, with their reads counted in ledgers that take no bytes.
-pub fn join_readers<A: Ledger, B: Ledger, C: Ledger, D: Ledger, S: Read + Drop, T: Read + Drop>(
+/// Reads two files of operations, the first one first, and answers the file of the join of their logs.
+/// The first fault of the first file that has one, at the offset of its record; `Conflict` of neither
+/// file where the operations of the one clash with those of the other, and `NoMemory`.
+pub fn join_readers<A: Source, B: Source>(
     alloc: Global,
-    first: S,
-    second: T,
-    reads: Blank,
-    failed_reads: Blank,
-    more_reads: Blank,
-    more_failed_reads: Blank,
+    first: &mut A,
+    second: &mut B,
 ) -> Result<Vec<u8>, JoinFault>
-    requires a { (reads.name ≡ A.name) × (reads.parts ≡ A.parts) × (0 < A.parts) }
-    requires b { (failed_reads.name ≡ B.name) × (failed_reads.parts ≡ B.parts) × (0 < B.parts) }
-    requires c { (more_reads.name ≡ C.name) × (more_reads.parts ≡ C.parts) × (0 < C.parts) }
-    requires d { (more_failed_reads.name ≡ D.name) × (more_failed_reads.parts ≡ D.parts) × (0 < D.parts) }
-    ensures { JoinsFresh (S.remaining first) (T.remaining second) result }
+    ensures joined { JoinsFiles
+        (record { calls = A.calls first.old; failures = A.failures first.old; bytes = A.remaining first.old })
+        (record { calls = A.calls first.new; failures = A.failures first.new; bytes = A.remaining first.new })
+        (record { calls = B.calls second.old; failures = B.failures second.old; bytes = B.remaining second.old })
+        (record { calls = B.calls second.new; failures = B.failures second.new; bytes = B.remaining second.new })
+        result }
 {
-    let mut first = Reader::new(
-        first,
-        Count::<A>::begin(reads),
-        Count::<B>::begin(failed_reads),
-    );
-    let mut second = Reader::new(
-        second,
-        Count::<C>::begin(more_reads),
-        Count::<D>::begin(more_failed_reads),
-    );
-    join_files(alloc, &mut first, &mut second)
+    join_files(alloc, first, second)
 }
 
-/// Writes the lines of a file, with its reads and the writes counted in ledgers that take no bytes.
-pub fn show_lines<A: Ledger, B: Ledger, C: Ledger, D: Ledger, S: Read + Drop, W: Write + Drop>(
+/// Writes the line of each operation of a file, as far as the file has no fault, and tells its first
+/// fault with its offset. `WriteFault` at 0 where a write fails or takes nothing, `NoMemory` at 0.
+pub fn show_lines<R: Source, W: Sink>(
     alloc: Global,
-    file: S,
-    out: W,
-    reads: Blank,
-    failed_reads: Blank,
-    writes: Blank,
-    failed_writes: Blank,
-) -> (Result<(), (Fault, u64)>, W)
-    requires a { (reads.name ≡ A.name) × (reads.parts ≡ A.parts) × (0 < A.parts) }
-    requires b { (failed_reads.name ≡ B.name) × (failed_reads.parts ≡ B.parts) × (0 < B.parts) }
-    requires c { (writes.name ≡ C.name) × (writes.parts ≡ C.parts) × (0 < C.parts) }
-    requires d { (failed_writes.name ≡ D.name) × (failed_writes.parts ≡ D.parts) × (0 < D.parts) }
-    ensures { ShowsFresh (S.remaining file) (W.contents out) (W.contents result.1) result.0 }
+    file: &mut R,
+    out: &mut W,
+) -> Result<(), (Fault, u64)>
+    ensures shown { ShowsFile
+        (record { calls = R.calls file.old; failures = R.failures file.old; bytes = R.remaining file.old })
+        (record { calls = R.calls file.new; failures = R.failures file.new; bytes = R.remaining file.new })
+        (record { calls = W.calls out.old; failures = W.failures out.old; bytes = W.contents out.old })
+        (record { calls = W.calls out.new; failures = W.failures out.new; bytes = W.contents out.new })
+        result }
 {
-    let mut file = Reader::new(
-        file,
-        Count::<A>::begin(reads),
-        Count::<B>::begin(failed_reads),
-    );
-    let mut out = Writer::new(
-        out,
-        Count::<C>::begin(writes),
-        Count::<D>::begin(failed_writes),
-    );
-    let shown = show_file(alloc, &mut file, &mut out);
-    (shown, out.into_inner())
+    show_file(alloc, file, out)
 }
