@@ -11,6 +11,8 @@ mod command_lines;
 #[cfg(test)]
 mod edits;
 #[cfg(test)]
+mod long_text;
+#[cfg(test)]
 mod looks;
 #[cfg(test)]
 mod marks;

@@ -1,5 +1,6 @@
 // A site's own operations, answered as they are logged, and what another site makes of them.
-ghost use Rattle.std.specs.Prelude.{◌≡◌, ◌∷◌, [], IfOk, map};
+ghost use Rattle.std.specs.Prelude.{◌≡◌, ◌≤◌, ◌∷◌, [], IfOk, map};
+ghost use Rattle.rt_stamps.specs.declared.limits.TheConstants.{MOST_CELLS};
 ghost use Rattle.rt_ops.specs.Edits.{body_of};
 ghost use Rattle.rt_ops.specs.Operations.{Delete, Insert};
 
@@ -9,12 +10,13 @@ use rt_rga::{Draft, Replica, Taken};
 use rt_stamps::{Fault, ROOT, Site, Span, Stamp};
 use rt_store::{ListStore, TextStore};
 use std::alloc::Global;
+use std::process::Abort;
 use std::test::Fail;
 
 /// A replica of site 1.
-struct Own {
+pub(crate) struct Own {
     alloc: Global,
-    replica: Replica<ListStore>,
+    pub(crate) replica: Replica<ListStore>,
 }
 
 // Written out, so that each way out of a test lets it go in one step of its proof.
@@ -28,13 +30,30 @@ impl Drop for Own {
 }
 
 impl Own {
-    fn new(alloc: Global) -> Result<Own, Fail>
+    /// One for at most so many cells, the final newline and those that are gone among them.
+    pub(crate) fn new(alloc: Global, limit: usize) -> Result<Own, Fail>
+        requires { (1 ≤ limit) × (limit ≤ MOST_CELLS) }
         ensures { IfOk result (λ own. (own.replica.log ≡ []) × (own.replica.site ≡ 1)) }
     {
         let site = Site::new(1).ok_or("a site")?;
         let store = ListStore::new(alloc)?;
-        let replica = Replica::new(alloc, store, site, 3)?;
+        let replica = Replica::new(alloc, store, site, limit)?;
         Ok(Own { alloc, replica })
+    }
+
+    /// Makes an insertion of one character in front of the text.
+    pub(crate) fn type_in_front(&mut self) -> Result<(), Fault> {
+        let mut drafts = Vec::new(self.alloc);
+        drafts.push(insert(self.alloc, ROOT, &['a'])?)?;
+        self.replica.make(drafts)?;
+        Ok(())
+    }
+
+    // How many operations there are, and how many characters, and the first of these.
+    fn state(&self) -> (usize, usize, [char; 4]) {
+        let mut text = ['-'; 4];
+        let count = self.replica.store().characters(0, &mut text);
+        (self.replica.log().len(), count, text)
     }
 }
 
@@ -97,7 +116,7 @@ fn make_two(own: &mut Own) -> Result<Vec<Op>, Fault>
 
 #[test]
 fn operations_made(rt: HostRuntime) -> Result<(), Fail> {
-    let mut own = Own::new(rt.alloc())?;
+    let mut own = Own::new(rt.alloc(), 3)?;
     let ops = make_two(&mut own)?;
     same_len(&rt, ops.len(), 2);
     let made = (ops[0].stamp(), ops[1].stamp(), ops[1].prev());
@@ -107,10 +126,38 @@ fn operations_made(rt: HostRuntime) -> Result<(), Fail> {
         (Stamp { count: 1, site: 1 }, Stamp { count: 3, site: 1 }, 2),
     );
     same(&rt, own.replica.log().len(), 2);
-    let mut other = Own::new(rt.alloc())?;
+    let mut other = Own::new(rt.alloc(), 3)?;
     for op in ops {
         assert!(rt; matches!(other.replica.accept(op)?, Taken::New(_)));
     }
     same(&rt, other.replica.store().visible(), 2);
+    Ok(())
+}
+
+// Takes in the text `ab`, as an operation that the site made in an earlier run.
+fn take_in(rt: &impl Abort, own: &mut Own) -> Result<(), Fault> {
+    let stamp = Stamp { count: 1, site: 1 };
+    let text = Vec::from_slice(own.alloc, &['a', 'b'])?;
+    let op = Op::insert(stamp, 0, ROOT, Vec::new(own.alloc), text)?;
+    assert!(rt; matches!(own.replica.accept(op)?, Taken::New(_)));
+    Ok(())
+}
+
+// Stops a test where one character more isn't refused, or changes anything.
+fn is_full(rt: &impl Abort, own: &mut Own, state: (usize, usize, [char; 4])) {
+    same(rt, own.state(), state);
+    same(rt, own.type_in_front().err(), Some(Fault::TextFull));
+    same(rt, own.state(), state);
+}
+
+// Three cells fill a text whose limit they are: `a`, `b` and the final newline, also where the `b` is gone.
+#[test]
+fn a_full_text(rt: HostRuntime) -> Result<(), Fail> {
+    let mut own = Own::new(rt.alloc(), 3)?;
+    take_in(&rt, &mut own)?;
+    is_full(&rt, &mut own, (1, 3, ['a', 'b', '\n', '-']));
+    let mut other = Own::new(rt.alloc(), 3)?;
+    make_two(&mut other)?;
+    is_full(&rt, &mut other, (2, 2, ['a', '\n', '-', '-']));
     Ok(())
 }

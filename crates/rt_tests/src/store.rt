@@ -1,5 +1,6 @@
 // Texts of a few cells.
-ghost use Rattle.std.specs.Prelude.{◌≡◌, false};
+ghost use Rattle.std.specs.Prelude.{◌≡◌, ◌∷◌, [], false};
+ghost use Rattle.rt_store.specs.Cells.{final_cell};
 ghost use Rattle.rt_store.specs.ListStore.{cells_of};
 ghost use Rattle.rt_store.specs.Tagged.{AreStates};
 ghost use Rattle.rt_tags.specs.States.{IsState, IsTag};
@@ -8,6 +9,7 @@ use crate::checks::{same, same_len};
 use rt_stamps::{FINAL, Fault, ROOT, Span, Stamp};
 use rt_store::{Cell, FINAL_CELL, ListStore, TextStore};
 use rt_tags::{StateId, StateTable, TagId};
+use rt_tree::TreeStore;
 use std::alloc::Global;
 use std::process::Abort;
 use std::test::Fail;
@@ -180,22 +182,35 @@ fn cell(count: u64, site: u16, ch: char) -> Cell<StateId>
     }
 }
 
-// A new character goes past those that are newer, and no further.
-#[test]
+// Of the final newline alone a store becomes the text `aYb`, and stops a test where a new character doesn't go past those
+// that are newer, or goes further.
 #[tactic(auto, using(rt_store::proofs::GivenStates::spliced_states, rt_store::proofs::GivenStates::one_state))]
+fn goes_past<S: TextStore>(rt: &impl Abort, states: &StateTable, store: &mut S) -> Result<(), Fault>
+    requires text { S.list store.old ≡ final_cell ∷ [] }
+    requires states { S.agrees store.old states.now }
+{
+    store.reserve(3, 3, states.tags())?;
+    store.splice(states, 0, &[cell(2, 1, 'b')]);
+    store.splice(states, 0, &[cell(1, 1, 'a')]);
+    let a = Stamp { count: 1, site: 1 };
+    same(rt, store.after_skip(a, Stamp { count: 3, site: 2 }), 1);
+    store.splice(states, 1, &[cell(3, 2, 'Y')]);
+    same(rt, store.after_skip(a, Stamp { count: 3, site: 1 }), 2);
+    same(rt, store.visible(), 4);
+    same(rt, store.lines(), 1);
+    Ok(())
+}
+
+// A new character goes past those that are newer, and no further: in a list and in a tree.
+#[test]
+#[tactic(auto, using(rt_store::proofs::GivenStates::one_state))]
 fn past_greater_stamps(rt: HostRuntime) -> Result<(), Fail> {
     let states = StateTable::new(rt.alloc())?;
     states.order();
-    let mut store = ListStore::new(rt.alloc())?;
-    store.reserve(3, 3, states.tags())?;
-    store.splice(&states, 0, &[cell(2, 1, 'b')]);
-    store.splice(&states, 0, &[cell(1, 1, 'a')]);
-    let a = Stamp { count: 1, site: 1 };
-    same(&rt, store.after_skip(a, Stamp { count: 3, site: 2 }), 1);
-    store.splice(&states, 1, &[cell(3, 2, 'Y')]);
-    same(&rt, store.after_skip(a, Stamp { count: 3, site: 1 }), 2);
-    same(&rt, store.visible(), 4);
-    same(&rt, store.lines(), 1);
+    let mut list = ListStore::new(rt.alloc())?;
+    goes_past(&rt, &states, &mut list)?;
+    let mut tree = TreeStore::new(rt.alloc())?;
+    goes_past(&rt, &states, &mut tree)?;
     Ok(())
 }
 

@@ -13,6 +13,9 @@ use rt_tree::TreeStore;
 use std::alloc::Global;
 use std::test::Fail;
 
+/// More cells than any text of these tests has.
+const MOST: usize = 3000;
+
 // Puts cells in at a place that a number gives. A call that is out of bounds answers `NoMemory`.
 fn put<S: TextStore>(
     store: &mut S,
@@ -25,7 +28,7 @@ fn put<S: TextStore>(
     ensures { S.agrees store.new states.now }
 {
     let all = store.cells();
-    if all == 0 || all > 2000 || cells.len() > 9 {
+    if all == 0 || all > MOST || cells.len() > 9 {
         return Err(Fault::NoMemory);
     }
     store.reserve(cells.len(), 1, states.tags())?;
@@ -38,7 +41,7 @@ fn remove<S: TextStore>(store: &mut S, states: &StateTable, span: Span) -> Resul
     requires given { S.agrees store.old states.now }
     ensures { S.agrees store.new states.now }
 {
-    if store.cells() > 2000 || span.site == 0 {
+    if store.cells() > MOST || span.site == 0 {
         return Err(Fault::NoMemory);
     }
     store.reserve(0, 2, states.tags())?;
@@ -57,7 +60,7 @@ fn mark<S: TextStore>(
     requires given { S.agrees store.old states.now }
     ensures { S.agrees store.new states.now }
 {
-    if store.cells() > 2000 {
+    if store.cells() > MOST {
         return Err(Fault::NoMemory);
     }
     store.reserve(0, 2, states.tags())?;
@@ -100,7 +103,7 @@ fn same_tags<A: TextStore, B: TextStore>(a: &A, b: &B, states: &StateTable, tag:
     requires a { A.agrees a.now states.now }
     requires b { B.agrees b.now states.now }
 {
-    for place in 0..=a.visible().min(2000) {
+    for place in 0..=a.visible().min(MOST) {
         if a.next_tagged(states, tag, place) != b.next_tagged(states, tag, place)
             || a.next_untagged(states, tag, place) != b.next_untagged(states, tag, place)
             || a.previous_tagged(states, tag, place) != b.previous_tagged(states, tag, place)
@@ -257,6 +260,11 @@ impl Pair {
         same_cells(&self.list, &self.tree)
     }
 
+    /// Whether another store has the same cells as the tree.
+    pub(crate) fn has_cells_of<S: TextStore>(&self, store: &S) -> bool {
+        same_cells(store, &self.tree)
+    }
+
     /// Whether both have the same cells, and find the same by stamps and by the tag.
     pub(crate) fn is_same(&self) -> bool {
         self.has_same_cells()
@@ -297,6 +305,20 @@ impl Pair {
     /// The next tagged place of the list.
     pub(crate) fn next_tagged(&self, place: usize) -> Option<usize> {
         self.list.next_tagged(&self.states, self.tag, place)
+    }
+
+    /// How many visible characters stand before a stamp's cell, in the list and in the tree.
+    pub(crate) fn places(&self, stamp: Stamp) -> (Option<usize>, Option<usize>) {
+        (self.list.place_of(stamp), self.tree.place_of(stamp))
+    }
+
+    /// How many visible characters stand before a stamp's cell in the tree, by a climb, and how many looks more a counter has.
+    pub(crate) fn climb(&self, stamp: Stamp, before: u32) -> (Option<usize>, u64) {
+        let tree = self.tree.tree();
+        tree.height();
+        let mut looks = before as u64;
+        let place = tree.climb(stamp, &mut looks);
+        (place, looks.saturating_sub(before as u64))
     }
 
     /// How many runs the tree has, and how many levels.

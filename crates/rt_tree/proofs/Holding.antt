@@ -36,7 +36,7 @@ here_strip (Here r) run is = is
 here_strip (Down c t) run is = cc
 
 -- what the links say of a run, the entries do
-here_at : (es fs : List Entry) (i : ℕ) (run : Run) → links es ≡ links fs → slice_get fs i ≡ Some (Here run) → slice_get es i ≡ Some (Here run)
+pub here_at : (es fs : List Entry) (i : ℕ) (run : Run) → links es ≡ links fs → slice_get fs i ≡ Some (Here run) → slice_get es i ≡ Some (Here run)
 here_at [] [] i run same is = is
 here_at [] (f ∷ fs) i run same is = cc
 here_at (e ∷ es) [] i run same is = cc

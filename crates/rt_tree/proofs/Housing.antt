@@ -42,7 +42,7 @@ holders-cons stamp r rs = split (has r stamp) (λ e. rw e (omega arith)) (λ e. 
 pub holders-mid : (stamp : Stamp) (a : List Run) (r : Run) (b : List Run) → holders stamp (a ++ r ∷ b) ≡ holders stamp a + (bit (has r stamp) + holders stamp b)
 holders-mid stamp a r b = holders-append stamp a (r ∷ b) ∙ ap (λ n. holders stamp a + n) (holders-cons stamp r b)
 
-is_bit : (b : Bool) → b ≡ true → bit b ≡ 1
+pub is_bit : (b : Bool) → b ≡ true → bit b ≡ 1
 is_bit b e = ap bit e
 
 no_bit : (b : Bool) → b ≡ false → bit b ≡ 0
@@ -297,7 +297,7 @@ run_later text r rest stamp is none =
     let b = before-none r.gone r.first r.site r.state (characters text r) rest stamp (ap (λ n. among r.first r.site n stamp) long ∙ none) in
     omega (arith, b, long)
 
-had_not : (r : Run) (rs : List Run) (stamp : Stamp) → holders stamp (r ∷ rs) ≡ 0 → (has r stamp ≡ false) × (holders stamp rs ≡ 0)
+pub had_not : (r : Run) (rs : List Run) (stamp : Stamp) → holders stamp (r ∷ rs) ≡ 0 → (has r stamp ≡ false) × (holders stamp rs ≡ 0)
 had_not r rs stamp none =
     let c = holders-cons stamp r rs in
     (split (has r stamp) (λ t. absurd (let b = is_bit (has r stamp) t in omega (arith, c, none, b))) (λ f. f), omega (arith, c, none))
@@ -318,12 +318,16 @@ all_nowhere text (r ∷ rs) stamp kept none =
     let i = all_nowhere text rs stamp kept.1 h.1 in
     omega (arith, l, i)
 
+-- where no run has a stamp, no cell has
+pub no_holder : (text : List ℕ) (all : List Run) (stamp : Stamp) → AllByRecursion (IsRun text) all → holders stamp all ≡ 0 → None ≡ position_of (cells_of text all) stamp
+no_holder text all stamp kept none =
+    let n = all_nowhere text all stamp kept none in
+    let c = counted text all kept in
+    nowhere_is (cells_of text all) stamp (let l = c.cells in omega (arith, n, l))
+
 module _ (text : List ℕ) (all : List Run) (leaves : Shown NodeId) (stamp : Stamp) (kept : AllByRecursion (IsRun text) all) (home : AreHome leaves all) where
   pub is_nowhere : value_of leaves stamp ≡ None → None ≡ position_of (cells_of text all) stamp
-  is_nowhere none =
-      let n = all_nowhere text all stamp kept (home.known stamp none) in
-      let c = counted text all kept in
-      nowhere_is (cells_of text all) stamp (let l = c.cells in omega (arith, n, l))
+  is_nowhere none = no_holder text all stamp kept (home.known stamp none)
 
   pub is_here : (run : Run) (front : Counts) → IsBehind all run front → has run stamp ≡ true → Some (front.cells + (stamp.count - run.first)) ≡ position_of (cells_of text all) stamp
   is_here run front is there =

@@ -8,6 +8,7 @@ mod Texts
 mod CellLaws
 mod Tallying
 mod Stands
+mod Standing
 mod Kept
 mod Lines
 mod Adding
@@ -49,7 +50,10 @@ mod Skipping
 mod Positions
 mod Buffers
 mod Tagging
+mod Housed
 mod Housing
+mod Leaves
+mod Climbing
 mod Meeting
 mod Reaching
 mod Nearing

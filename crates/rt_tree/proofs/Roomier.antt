@@ -3,7 +3,10 @@ use Rattle.std.proofs.Common.{◌≡◌, ◌<◌, nat_lt, ℕ, zero, suc, ◌+�
 use Rattle.std.proofs.Math.Nat.{le-max_right, max-eq_right, max_comm}
 use Rattle.std.proofs.lemmas.Bool.{ltb-false, ltb-true}
 use Rattle.std.specs.List.{AllByRecursion}
+use Rattle.rt_nodes.specs.declared.memory.NodeId.{NodeId}
 use Rattle.rt_nodes.specs.Nodes.{entries, with_room}
+use Rattle.rt_spans.specs.Shown.{KeepsBorders, Shown, value_of}
+use Rattle.rt_stamps.specs.declared.stamp.Stamp.{Stamp}
 use Rattle.rt_tags.proofs.Places.{split}
 use Rattle.rt_tree.specs.declared.node.Entry.{Entry}
 use Rattle.rt_tree.specs.declared.node.Entry.TheVariants.{Down, Here}
@@ -14,6 +17,7 @@ use Rattle.rt_tree.specs.declared.summary.Summary.{Summary}
 use Rattle.rt_tree.specs.Runs.{IsRun, cells_of}
 use Rattle.rt_tree.specs.Shape.{Fits, IsExact, IsTree, Memory, all_below, below, level_of, runs, tree_runs}
 use Rattle.rt_tree.specs.Sharing.{AreApart}
+use Rattle.rt_tree.specs.Standing.{AreHoused, IsBordered}
 use Rattle.rt_tree.specs.Sums.{counts_of, totals_of}
 use Rattle.rt_tree.specs.Summaries.{TellsAs, summary_of}
 use Rattle.rt_tree.specs.Trees.{HasNodes, IsKept, Stretch, shown, stretches_of}
@@ -81,6 +85,17 @@ nodes_enough runs heads had =
     let r = le-max_right had (runs / 7 + 1 - heads) in
     omega (arith, r)
 
+borders_stay : (leaves after : Shown NodeId) → KeepsBorders leaves after → (rs : List Run) → AllByRecursion (IsBordered leaves) rs → AllByRecursion (IsBordered after) rs
+borders_stay leaves after keeps [] was = tt
+borders_stay leaves after keeps (r ∷ rs) was =
+    (record { begins = keeps r.site r.first was.0.begins; ends = keeps r.site (r.first + r.len) was.0.ends; bound = was.0.bound }, borders_stay leaves after keeps rs was.1)
+
+pub map_housed : (m : Memory) (root : ℕ) (leaves after : Shown NodeId) → ((stamp : Stamp) → value_of after stamp ≡ value_of leaves stamp) → KeepsBorders leaves after → AreHoused m root leaves → AreHoused m root after
+map_housed m root leaves after same keeps h = record {
+  bordered = borders_stay leaves after keeps (tree_runs m root) h.bordered;
+  there = λ leaf run s stamp own. same stamp ∙ h.there leaf run s stamp own;
+}
+
 module _ (m : Memory) (n : ℕ) (root : ℕ) (text : List ℕ) (runs : ℕ) (m' : Memory) (is : m' ≡ with_room m n) where
   pub room_runs : tree_runs m' root ≡ tree_runs m root
   room_runs = ap (λ (x : Memory). tree_runs x root) is ∙ runs_room m n root
@@ -96,6 +111,15 @@ module _ (m : Memory) (n : ℕ) (root : ℕ) (text : List ℕ) (runs : ℕ) (m' 
         few = subst (λ (l : List Run). (counts_of l).cells ≤ MOST_CELLS) same k.few;
         all = k.all ∙ ap (λ (l : List Run). (counts_of l).cells) same;
       }
+
+  -- each run's stamps still have its leaf, if the map tells the same and keeps its borders
+  pub room_housed : (leaves after : Shown NodeId) → ((stamp : Stamp) → value_of after stamp ≡ value_of leaves stamp) → KeepsBorders leaves after → AreHoused m root leaves → AreHoused m' root after
+  room_housed leaves after same keeps h =
+      let now = map_housed m root leaves after same keeps h in
+      subst (λ (x : Memory). AreHoused x root after) (sym is) (record {
+        bordered = subst (AllByRecursion (IsBordered after)) (sym (runs_room m n root)) now.bordered;
+        there = λ leaf run s. now.there leaf run (record { is = s.is; low = s.low; entry = s.entry; here = s.here });
+      })
 
 module _ (m : Memory) (n : ℕ) (root : ℕ) (text : List ℕ) (sums : List Summary) (room : Room) (m' : Memory) (is : m' ≡ with_room m n) where
   pub room_shown : shown m' root text sums room ≡ shown m root text sums room

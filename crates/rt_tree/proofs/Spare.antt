@@ -5,7 +5,7 @@ use Rattle.std.proofs.lemmas.Bool.{cases_eq}
 use Rattle.rt_nodes.specs.Nodes.{entries}
 use Rattle.rt_tree.specs.declared.node.Entry.{Entry}
 use Rattle.rt_tree.specs.declared.node.Entry.TheVariants.{Down, Here}
-use Rattle.rt_tree.specs.Shape.{AreFilled, Fits, IsShape, Memory, all_below, around, count_of, level_of, parent_of, runs}
+use Rattle.rt_tree.specs.Shape.{AreFilled, Fits, IsShape, IsTree, Memory, all_below, around, count_of, level_of, parent_of, runs, tree_runs}
 use Rattle.rt_tree.specs.Changes.{bare}
 use Rattle.rt_tree.specs.Trees.{HasNodes}
 use Rattle.rt_tree.proofs.Fills.{links_long, other_filled}
@@ -86,13 +86,7 @@ module _ (m : Memory) (height root : ℕ) (t : IsShape m height root) where
       let s = test_same {X = ℕ} c c 1 0 refl in
       omega (arith, h, s))
 
-  module _ (filled : (id : ℕ) → id < length m.heads → (id ≡ root → ⊥) → 8 ≤ length (entries m id)) (full : ℕ) (at_full : length (entries m full) ≡ 16) where
-    one : (c : ℕ) → c < length m.heads → (c ≡ root → ⊥) → 8 + 8 * (if c == full then 1 else 0) ≤ length (entries m c)
-    one c is nr = elim (cases_eq c full) [
-      | inl e ↦ let s = test_same {X = ℕ} c full 1 0 e in let w = ap (λ i. length (entries m i)) e in omega (arith, s, w, at_full)
-      | inr ne ↦ let s = test_other {X = ℕ} c full 1 0 ne in let f = filled c is nr in omega (arith, s, f)
-    ]
-
+  module _ (full : ℕ) (one : (c : ℕ) → c < length m.heads → (c ≡ root → ⊥) → 8 + 8 * (if c == full then 1 else 0) ≤ length (entries m c)) where
     -- the nodes below entries, by the runs there
     weigh : (k id : ℕ) (es : List Entry) → k ≤ height → AllByRecursion (Fits m id k) es → 7 * length (flat_map (nodes_below m k) es) + 8 * times full (flat_map (nodes_below m k) es) + length es ≤ length (all_below m k es)
     weigh k id [] low all = omega arith
@@ -118,9 +112,21 @@ module _ (m : Memory) (height root : ℕ) (t : IsShape m height root) where
         let w = weigh height root (entries m root) (omega arith) fits in
         omega (arith, w, many)
 
+  module _ (filled : (id : ℕ) → id < length m.heads → (id ≡ root → ⊥) → 8 ≤ length (entries m id)) where
+    -- whether a node is full or not
+    pub few : 7 * length m.heads ≤ length (runs m height root) + 7
+    few = let w = weigh_root (length m.heads) (λ c is nr. let o = test_other {X = ℕ} c (length m.heads) 1 0 (λ e. omega (arith, is, e)) in let f = filled c is nr in omega (arith, o, f)) in omega (arith, w)
+
+  module _ (filled : (id : ℕ) → id < length m.heads → (id ≡ root → ⊥) → 8 ≤ length (entries m id)) (full : ℕ) (at_full : length (entries m full) ≡ 16) where
+    one_of : (c : ℕ) → c < length m.heads → (c ≡ root → ⊥) → 8 + 8 * (if c == full then 1 else 0) ≤ length (entries m c)
+    one_of c is nr = elim (cases_eq c full) [
+      | inl e ↦ let s = test_same {X = ℕ} c full 1 0 e in let w = ap (λ i. length (entries m i)) e in omega (arith, s, w, at_full)
+      | inr ne ↦ let s = test_other {X = ℕ} c full 1 0 ne in let f = filled c is nr in omega (arith, s, f)
+    ]
+
     -- with a full root
     pub full_root : full ≡ root → 7 * length m.heads + 9 ≤ length (runs m height root)
-    full_root e = let l = ap (λ i. length (entries m i)) e in omega (arith, weigh_root, at_full, l)
+    full_root e = let l = ap (λ i. length (entries m i)) e in let w = weigh_root full one_of in omega (arith, w, at_full, l)
 
     -- with a full node below the root
     pub full_node : full < length m.heads → (full ≡ root → ⊥) → 7 * length m.heads + 1 ≤ length (runs m height root)
@@ -129,7 +135,8 @@ module _ (m : Memory) (height root : ℕ) (t : IsShape m height root) where
         let h = in_root (height - level_of m full) (level_of m full) full full is refl (omega (arith, l)) in
         let s = test_same {X = ℕ} full full 1 0 refl in
         let o = test_other {X = ℕ} root full 1 0 (λ e. nr (sym e)) in
-        omega (arith, weigh_root, h, s, o)
+        let w = weigh_root full one_of in
+        omega (arith, w, h, s, o)
 
 module _ (m : Memory) (height root full : ℕ) (t : IsShape (bare m) height root) (filled : AreFilled m root) (has : HasNodes m (length (runs (bare m) height root))) (at_full : length (entries m full) ≡ 16) where
   enough : (id : ℕ) → id < length m.heads → (id ≡ root → ⊥) → 8 ≤ length (entries (bare m) id)
@@ -142,3 +149,7 @@ module _ (m : Memory) (height root full : ℕ) (t : IsShape (bare m) height root
   -- a full node is cut
   pub spare_node : full < length m.heads → (full ≡ root → ⊥) → 0 < m.room
   spare_node is nr = let h = full_node (bare m) height root t enough full (links_long m full ∙ at_full) is nr in omega (arith, h, has)
+
+-- a tree of few runs has few nodes
+pub few_nodes : (m : Memory) (root : ℕ) → IsTree m root → 7 * length m.heads ≤ length (tree_runs m root) + 7
+few_nodes m root t = few m (level_of m root) root t.shape (λ id is nr. other_filled m root id nr (t.filled id is))

@@ -9,6 +9,7 @@ pub mod Sharing
 pub mod Additions
 pub mod Trees
 pub mod Sound
+pub mod Standing
 pub mod Stores
 pub mod Changes
 pub mod Skips

@@ -1,11 +1,12 @@
 -- What the fields of a tree keep to. No public clause cites this module.
-use Rattle.std.specs.Prelude.{◌≡◌, ◌≤◌, true, IfSome, vec_capacity}
+use Rattle.std.specs.Prelude.{◌≡◌, ◌+◌, ◌≤◌, true, IfSome, vec_capacity}
 use Rattle.rt_tree.specs.declared.tree.Tree.TheInside.{Inside}
 use Rattle.rt_tree.specs.Holds.{Holds}
 use Rattle.rt_tree.specs.Homes.{AreHome}
 use Rattle.rt_tree.specs.Runs.{cells_of}
 use Rattle.rt_tree.specs.Shape.{tree_runs}
 use Rattle.rt_tree.specs.Sharing.{AreUpTo}
+use Rattle.rt_tree.specs.Standing.{AreHoused}
 use Rattle.rt_tree.specs.Tallies.{IsCountOf}
 use Rattle.rt_tree.specs.Trees.{HaveSummaries, IsKept, IsRoomy}
 
@@ -18,8 +19,10 @@ pub record IsSound (t : Inside) : Type 0 where
   pub newest : AreUpTo t.newest (cells_of t.text.items (tree_runs t.mem t.root.index))
   -- while the map of leaves is sure, no stamp is in two runs, and each that is in one has a leaf
   pub home : t.homes.sure ≡ true → AreHome t.homes.leaves (tree_runs t.mem t.root.index)
-  -- each new cell that there is room for can be given a leaf
-  pub spans : t.spare_cells ≤ t.homes.left
+  -- and each run's stamps have the leaf in which it stands
+  pub housed : t.homes.sure ≡ true → AreHoused t.mem t.root.index t.homes.leaves
+  -- each new cell that there is room for can be given a leaf, and a part of each run that is cut
+  pub spans : t.spare_cells + t.spare_cuts ≤ t.homes.left
   -- there are summaries for all nodes, spare ones too, with memory for counts of the tags that are promised
   pub sums : HaveSummaries t.mem t.sums t.spare_tags
   -- the three counts are those of the cells

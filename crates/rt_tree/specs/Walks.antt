@@ -1,11 +1,13 @@
 -- Where a walk ends.
-use Rattle.std.specs.Prelude.{◌≡◌, ℕ, ◌+◌, ◌<◌, List, ◌∷◌, ◌++◌, length, slice_get, Some}
+use Rattle.std.specs.Prelude.{◌≡◌, ℕ, ◌+◌, ◌-◌, ◌<◌, false, true, if◌then◌else◌, List, ◌∷◌, ◌++◌, length, slice_get, Some}
 use Rattle.rt_nodes.specs.Nodes.{entries}
+use Rattle.rt_stamps.specs.declared.stamp.Stamp.{Stamp}
 use Rattle.rt_tree.specs.declared.node.Counts.{Counts}
 use Rattle.rt_tree.specs.declared.node.Entry.TheVariants.{Here}
 use Rattle.rt_tree.specs.declared.node.Measure.{Measure}
 use Rattle.rt_tree.specs.declared.node.Measure.TheVariants.{Cells}
 use Rattle.rt_tree.specs.declared.node.Run.{Run}
+use Rattle.rt_tree.specs.Runs.{has}
 use Rattle.rt_tree.specs.Shape.{Memory, level_of, runs_before}
 use Rattle.rt_tree.specs.Sums.{amount, counts_of, counts_of_run}
 
@@ -32,6 +34,17 @@ pub record IsBehind (all : List Run) (run : Run) (front : Counts) : Type 0 where
   pub right : List Run
   pub here : all ≡ left ++ run ∷ right
   pub before : front ≡ counts_of left
+
+-- So many visible cells stand before the cell of a stamp, in the first run of a leaf that has the stamp.
+pub record IsPlaceIn (m : Memory) (root leaf : ℕ) (stamp : Stamp) (place : ℕ) : Type 0 where
+  pub entry : ℕ
+  pub run : Run
+  pub here : slice_get (entries m leaf) entry ≡ Some (Here run)
+  pub there : has run stamp ≡ true
+  pub first : (i : ℕ) (other : Run) → i < entry → slice_get (entries m leaf) i ≡ Some (Here other) → has other stamp ≡ false
+  pub front : Counts
+  pub before : front ≡ counts_of (runs_before m root leaf entry)
+  pub is : place ≡ front.visible + (if run.gone then 0 else (stamp.count - run.first))
 
 -- A run has been put in before the one that has the cell at a position.
 pub record IsPutAt (old new : List Run) (at : ℕ) (run : Run) : Type 0 where

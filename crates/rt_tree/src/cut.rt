@@ -1,11 +1,12 @@
 // Runs cut in two.
-ghost use Rattle.std.specs.Prelude.{◌≡◌, ◌+◌, ◌<◌, ◌≤◌, ◌^◌, ◌&&◌, nat_lt, length, true, MatchOption};
+ghost use Rattle.std.specs.Prelude.{◌≡◌, ◌+◌, ◌<◌, ◌≤◌, ◌^◌, ◌&&◌, nat_lt, length, true, IfSome, MatchOption, None};
 ghost use Rattle.std.specs.List.{AllByRecursion};
 ghost use Rattle.rt_stamps.specs.declared.limits.TheConstants.{MOST_CELLS};
 ghost use Rattle.rt_tree.specs.Homes.{AreHome};
 ghost use Rattle.rt_tree.specs.Runs.{has};
 ghost use Rattle.rt_tree.specs.Shape.{IsTree, tree_runs};
 ghost use Rattle.rt_tree.specs.Sharing.{AreApart, AreParts, BeginsAt, IsInside, IsRecut};
+ghost use Rattle.rt_tree.specs.Standing.{AreHoused, IsParted};
 ghost use Rattle.rt_tree.specs.Stretches.{AreKept, IsEdge, back_of, front_of, lengths};
 ghost use Rattle.rt_tree.specs.Summaries.{AreTold};
 ghost use Rattle.rt_tree.specs.Sums.{counts_of};
@@ -25,6 +26,30 @@ use rt_tags::StateTable;
 pub(crate) struct Change {
     pub(crate) root: NodeId,
     pub(crate) more: usize,
+}
+
+// The same, and the run that was put in with the leaf where it stands, if there is one.
+#[derive(Clone, Copy)]
+pub(crate) struct Parted {
+    pub(crate) change: Change,
+    pub(crate) front: Option<Front>,
+}
+
+// The first cells of a run that was cut in two, and the leaf in which they stand.
+#[derive(Clone, Copy)]
+pub(crate) struct Front {
+    pub(crate) run: Run,
+    pub(crate) leaf: NodeId,
+}
+
+// No run was put in.
+fn uncut(root: NodeId) -> Parted
+    ensures { result ≡ record { change = record { root = root; more = 0 }; front = None } }
+{
+    Parted {
+        change: Change { root, more: 0 },
+        front: None,
+    }
 }
 
 // The first cells of a run.
@@ -59,41 +84,50 @@ pub(crate) fn cut(
     states: &StateTable,
     root: NodeId,
     at: usize,
-) -> Change
+) -> Parted
     requires tree { IsTree mem.old root.index }
     requires kept { AreKept (tree_runs mem.old root.index) }
     requires few { (counts_of (tree_runs mem.old root.index)).cells ≤ MOST_CELLS }
     requires within { at ≤ (counts_of (tree_runs mem.old root.index)).cells }
     requires room { HasNodes mem.old (length (tree_runs mem.old root.index)) }
     requires told { AreTold states.now mem.old sums.old (tree_runs mem.old root.index) }
-    ensures tree { IsTree mem.new result.root.index }
-    ensures recut { IsRecut (tree_runs mem.old root.index) (tree_runs mem.new result.root.index) }
-    ensures edge { IsEdge (lengths (tree_runs mem.new result.root.index)) at }
-    ensures parts { AreParts (tree_runs mem.old root.index) (tree_runs mem.new result.root.index) at }
-    ensures runs { length (tree_runs mem.new result.root.index) ≡ length (tree_runs mem.old root.index) + result.more }
-    ensures more { result.more ≤ 1 }
+    ensures tree { IsTree mem.new result.change.root.index }
+    ensures recut { IsRecut (tree_runs mem.old root.index) (tree_runs mem.new result.change.root.index) }
+    ensures edge { IsEdge (lengths (tree_runs mem.new result.change.root.index)) at }
+    ensures parts { AreParts (tree_runs mem.old root.index) (tree_runs mem.new result.change.root.index) at }
+    ensures runs { length (tree_runs mem.new result.change.root.index) ≡ length (tree_runs mem.old root.index) + result.change.more }
+    ensures more { result.change.more ≤ 1 }
+    ensures still { result.front ≡ None → (mem.new ≡ mem.old) × (result.change.root ≡ root) }
+    ensures parted { IfSome result.front (λ front. IsParted mem.old mem.new root.index result.change.root.index front.run front.leaf.index) }
     ensures room { length mem.new.heads + mem.new.room ≡ length mem.old.heads + mem.old.room }
-    ensures told { AreTold states.now mem.new sums.new (tree_runs mem.new result.root.index) }
+    ensures told { AreTold states.now mem.new sums.new (tree_runs mem.new result.change.root.index) }
     ensures tags { sums.new.tags ≡ sums.old.tags }
 {
     if at == 0 {
-        return Change { root, more: 0 };
+        return uncut(root);
     }
     if at == sum_of(mem, root).cells as usize {
-        return Change { root, more: 0 };
+        return uncut(root);
     }
     let found = found_at(mem, root, at);
     let offset = found.spot.offset;
     if offset == 0 {
-        return Change { root, more: 0 };
+        return uncut(root);
     }
     let back = back_of(found.run, offset as u32);
-    replace_at(mem, sums, states, root, found.spot, back);
     let front = front_of(found.run, offset as u32);
-    let placed = put(mem, sums, states, root, at - offset, None, front);
-    Change {
-        root: placed.root,
-        more: 1,
+    let first = front;
+    replace_at(mem, sums, states, root, found.spot, back);
+    let placed = put(mem, sums, states, root, at - offset, None, first);
+    Parted {
+        change: Change {
+            root: placed.root,
+            more: 1,
+        },
+        front: Some(Front {
+            run: front,
+            leaf: placed.leaf,
+        }),
     }
 }
 
@@ -107,7 +141,6 @@ pub(crate) fn cut_home(
     at: usize,
     is_edge: bool,
     homes: &mut Homes,
-    keep: usize,
 ) -> Change
     requires tree { IsTree mem.old root.index }
     requires kept { AreKept (tree_runs mem.old root.index) }
@@ -115,6 +148,8 @@ pub(crate) fn cut_home(
     requires within { at ≤ (counts_of (tree_runs mem.old root.index)).cells }
     requires room { HasNodes mem.old (length (tree_runs mem.old root.index)) }
     requires home { homes.old.sure ≡ true → AreHome homes.old.leaves (tree_runs mem.old root.index) }
+    requires housed { homes.old.sure ≡ true → AreHoused mem.old root.index homes.old.leaves }
+    requires left { 0 < homes.old.left }
     requires edge { is_edge ≡ true → IsEdge (lengths (tree_runs mem.old root.index)) at }
     requires told { AreTold states.now mem.old sums.old (tree_runs mem.old root.index) }
     ensures tree { IsTree mem.new result.root.index }
@@ -125,7 +160,8 @@ pub(crate) fn cut_home(
     ensures more { result.more ≤ 1 }
     ensures room { length mem.new.heads + mem.new.room ≡ length mem.old.heads + mem.old.room }
     ensures home { homes.new.sure ≡ true → AreHome homes.new.leaves (tree_runs mem.new result.root.index) }
-    ensures left { keep ≤ homes.old.left → keep ≤ homes.new.left }
+    ensures housed { homes.new.sure ≡ true → AreHoused mem.new result.root.index homes.new.leaves }
+    ensures left { homes.old.left ≤ homes.new.left + 1 }
     ensures told { AreTold states.now mem.new sums.new (tree_runs mem.new result.root.index) }
     ensures tags { sums.new.tags ≡ sums.old.tags }
     ensures still { is_edge ≡ true → (mem.new ≡ mem.old) × (result.root ≡ root) }
@@ -134,8 +170,11 @@ pub(crate) fn cut_home(
         return Change { root, more: 0 };
     }
     let nodes = mem.nodes();
-    let change = cut(mem, sums, states, root, at);
-    homes.note_new(mem, nodes, keep);
+    let Parted { change, front } = cut(mem, sums, states, root, at);
+    if let Some(front) = front {
+        homes.place(&front.run, front.leaf);
+        homes.note_new(mem, nodes);
+    }
     change
 }
 
@@ -193,9 +232,10 @@ pub(crate) fn part(
     root: NodeId,
     stamp: Stamp,
     homes: &mut Homes,
-    keep: usize,
 ) -> Change
     requires home { homes.old.sure ≡ true → AreHome homes.old.leaves (tree_runs mem.old root.index) }
+    requires housed { homes.old.sure ≡ true → AreHoused mem.old root.index homes.old.leaves }
+    requires left { 0 < homes.old.left }
     requires tree { IsTree mem.old root.index }
     requires kept { AreKept (tree_runs mem.old root.index) }
     requires apart { AreApart (tree_runs mem.old root.index) }
@@ -203,7 +243,8 @@ pub(crate) fn part(
     requires room { HasNodes mem.old (length (tree_runs mem.old root.index)) }
     requires told { AreTold states.now mem.old sums.old (tree_runs mem.old root.index) }
     ensures home { homes.new.sure ≡ true → AreHome homes.new.leaves (tree_runs mem.new result.root.index) }
-    ensures left { keep ≤ homes.old.left → keep ≤ homes.new.left }
+    ensures housed { homes.new.sure ≡ true → AreHoused mem.new result.root.index homes.new.leaves }
+    ensures left { homes.old.left ≤ homes.new.left + 1 }
     ensures tree { IsTree mem.new result.root.index }
     ensures recut { IsRecut (tree_runs mem.old root.index) (tree_runs mem.new result.root.index) }
     ensures begins { AllByRecursion (BeginsAt stamp) (tree_runs mem.new result.root.index) }
@@ -215,6 +256,6 @@ pub(crate) fn part(
 {
     match inside(mem, root, stamp, homes) {
         None => Change { root, more: 0 },
-        Some(at) => cut_home(mem, sums, states, root, at, false, homes, keep),
+        Some(at) => cut_home(mem, sums, states, root, at, false, homes),
     }
 }

@@ -10,6 +10,7 @@ ghost use Rattle.rt_tree.specs.Homes.{AreHome, AreOnceEach, IsAmong, IsNew};
 ghost use Rattle.rt_tree.specs.Runs.{IsRun, cells_of};
 ghost use Rattle.rt_tree.specs.Shape.{IsTree, tree_runs};
 ghost use Rattle.rt_tree.specs.Sharing.{AreApart, AreKnown, AreUpTo, is_shared_by};
+ghost use Rattle.rt_tree.specs.Standing.{AreHoused};
 ghost use Rattle.rt_tree.specs.Stretches.{AreChanged, AreKept, IsEdge, lengths};
 ghost use Rattle.rt_tree.specs.Summaries.{AreTold};
 ghost use Rattle.rt_tree.specs.Sums.{counts_of};
@@ -117,11 +118,11 @@ pub(crate) fn extend(
     cells: &[Cell<StateId>],
     newest: u64,
     homes: &mut Homes,
-    keep: usize,
     last: &Option<Found>,
 ) -> Extended
     requires home { homes.old.sure ≡ true → AreHome homes.old.leaves (tree_runs mem.old root.index) }
-    requires left { keep + length cells.now ≤ homes.old.left }
+    requires housed { homes.old.sure ≡ true → AreHoused mem.old root.index homes.old.leaves }
+    requires left { length cells.now ≤ homes.old.left }
     requires tree { IsTree mem.old root.index }
     requires kept { AllByRecursion (IsRun text.now) (tree_runs mem.old root.index) }
     requires apart { AreApart (tree_runs mem.old root.index) }
@@ -142,7 +143,8 @@ pub(crate) fn extend(
     ensures apart { AreApart (tree_runs mem.new root.index) }
     ensures runs { length (tree_runs mem.new root.index) ≡ length (tree_runs mem.old root.index) }
     ensures home { homes.new.sure ≡ true → AreHome homes.new.leaves (tree_runs mem.new root.index) }
-    ensures left { keep + (length cells.now - result.done) ≤ homes.new.left }
+    ensures housed { homes.new.sure ≡ true → AreHoused mem.new root.index homes.new.leaves }
+    ensures left { homes.old.left ≤ homes.new.left + result.done }
     ensures room { length mem.new.heads + mem.new.room ≡ length mem.old.heads + mem.old.room }
     ensures held { IfSome result.last (Holds mem.new root.index) }
     ensures told { AreTold states.now mem.new sums.new (tree_runs mem.new root.index) }

@@ -1,14 +1,17 @@
 // The leaves in which cells stand, by their stamps.
-ghost use Rattle.std.specs.Prelude.{◌≡◌, ℕ, ◌+◌, ◌-◌, ◌*◌, ◌&&◌, ◌<◌, ◌≤◌, ◌^◌, ◌∷◌, [], IfOk, IsOkUnless, OnOk, OnErr, IfSome, Some, None, if◌then◌else◌, nat_lt, true, length, slice_get};
+ghost use Rattle.std.specs.Prelude.{◌≡◌, ℕ, ◌+◌, ◌-◌, ◌&&◌, ◌<◌, ◌≤◌, ◌^◌, ◌∷◌, [], IfOk, IsOkUnless, OnOk, OnErr, IfSome, IsSome, Some, None, if◌then◌else◌, nat_lt, false, true, length, min, slice_get};
+ghost use Rattle.std.specs.List.{AllByRecursion};
 ghost use Rattle.rt_stamps.specs.declared.stamp.Stamp.{Stamp};
 ghost use Rattle.rt_nodes.specs.Nodes.{IsNode, entries};
 ghost use Rattle.rt_tree.specs.declared.node.Entry.TheVariants.{Here};
 ghost use Rattle.rt_tree.specs.declared.node.Run.{Run};
-ghost use Rattle.rt_spans.specs.Shown.{value_of};
-ghost use Rattle.rt_tree.specs.Homes.{AreHome, AreUnknown, IsPlaced, IsSaid, IsSpanOf, IsUnknown, KeepsAll};
+ghost use Rattle.rt_spans.specs.Shown.{KeepsBorders, value_of};
+ghost use Rattle.rt_tree.specs.Homes.{AreHome, AreOnceEach, AreUnknown, IsPlaced, IsSaid, IsSpanOf, IsUnknown, KeepsAll};
 ghost use Rattle.rt_tree.specs.Holds.{Holds};
 ghost use Rattle.rt_tree.specs.Runs.{IsRun, has, run_cells};
 ghost use Rattle.rt_tree.specs.Shape.{IsTree, level_of, tree_runs};
+ghost use Rattle.rt_tree.specs.Skips.{HasCells};
+ghost use Rattle.rt_tree.specs.Standing.{AreHoused, HasLeaf, HaveLeavesBelow, IsBordered, IsEntered};
 ghost use Rattle.rt_tree.specs.Sums.{AreFew, counts_of};
 ghost use Rattle.rt_tree.specs.Trees.{final_run};
 ghost use Rattle.rt_tree.specs.Walks.{IsBehind};
@@ -17,7 +20,7 @@ use crate::find::{cell_in, has, height};
 use crate::looks::Counted;
 use crate::node::{Counts, Entry, Mem, Run};
 use crate::settle::level_of;
-use crate::up::ascend;
+use crate::up::rise_from;
 use crate::walk::Found;
 use rt_nodes::NodeId;
 use rt_spans::SpanMap;
@@ -26,7 +29,8 @@ use rt_store::Cell;
 use rt_tags::StateId;
 use std::alloc::Global;
 
-/// Leaves by the stamps of their cells. A leaf is a guess: runs move to other leaves when nodes are cut in two.
+/// Leaves by the stamps of their cells. While it is sure, each run's stamps have the leaf in which the run stands, in spans of
+/// their own: so a run that moves to another leaf is told again with no room.
 #[derive(Drop)]
 pub(crate) struct Homes {
     pub(crate) leaves: SpanMap<NodeId>,
@@ -37,14 +41,12 @@ pub(crate) struct Homes {
     ghost fits: { left ≤ leaves.room },
 }
 
-/// How many spans are given a leaf for new cells and cuts: one for each cell, which is a run perhaps. When a leaf is cut in two,
-/// the runs of one half are told again; those that were put in or told before take no room then, but for the parts of a run
-/// that was cut: three for each cut, and some for runs that were cut before.
+/// How many spans are given a leaf for new cells and cuts: one for each cell, which is a run perhaps, and one for each cut, which
+/// makes one run more. The runs of a leaf that is cut in two are told again, and take no room.
 pub(crate) fn spans_for(cells: usize, cuts: usize) -> usize
-    ensures { cells ≤ result }
+    ensures { result ≡ min (cells + cuts) (2 ^ 64 - 1) }
 {
-    let parts = cuts.saturating_mul(3);
-    cells.saturating_add(parts).saturating_add(24)
+    cells.saturating_add(cuts)
 }
 
 // A run, and what the runs before it count.
@@ -70,19 +72,6 @@ impl Home {
         ensures { result ≡ self.before.cells + (stamp.count - self.run.first) }
     {
         self.before.cells as usize + self.offset(stamp)
-    }
-
-    // How many visible cells stand before it.
-    pub(crate) fn place(self, stamp: Stamp) -> usize
-        requires has { has self.run stamp ≡ true }
-        requires few { self.before.visible + self.run.len < 2 ^ 33 }
-        ensures { result ≡ self.before.visible + (if self.run.gone then 0 else (stamp.count - self.run.first)) }
-    {
-        if self.run.gone {
-            self.before.visible as usize
-        } else {
-            self.before.visible as usize + self.offset(stamp)
-        }
     }
 
     // The cell itself.
@@ -119,7 +108,8 @@ pub(crate) enum Sought {
 
 // The span of a run's stamps; none if it has none, or the greatest count that there is.
 fn span_of(run: &Run) -> Option<Span>
-    ensures { IfSome result (λ span. IsSpanOf run.now span) }
+    ensures is { IfSome result (λ span. IsSpanOf run.now span) }
+    ensures some { 0 < run.now.len → run.now.first + run.now.len < 2 ^ 64 → IsSome result }
 {
     if run.len == 0 {
         return None;
@@ -160,6 +150,8 @@ impl Homes {
     // The leaf of the final newline alone is known.
     pub(crate) fn new(alloc: Global, root: NodeId) -> Result<Homes, Fault>
         ensures home { IfOk result (λ homes. AreHome homes.leaves (final_run ∷ [])) }
+        ensures bordered { IfOk result (λ homes. IsBordered homes.leaves final_run) }
+        ensures there { IfOk result (λ homes. HasLeaf homes.leaves root.index final_run) }
         ensures left { IfOk result (λ homes. homes.left ≡ 0) }
         ensures err { IsOkUnless result Fault.NoMemory }
     {
@@ -181,6 +173,7 @@ impl Homes {
     // Makes room for so many spans.
     pub(crate) fn reserve(&mut self, spans: usize) -> Result<(), Fault>
         ensures leaves { (stamp : Stamp) → value_of self.new.leaves stamp ≡ value_of self.old.leaves stamp }
+        ensures borders { KeepsBorders self.old.leaves self.new.leaves }
         ensures sure { self.new.sure ≡ self.old.sure }
         ensures ok { OnOk result (spans ≤ self.new.left) }
         ensures more { self.old.left ≤ self.new.left }
@@ -311,8 +304,10 @@ impl Homes {
     }
 
     // The stamps of a run have a leaf from now on, if they can be told.
-    fn place(&mut self, run: &Run, leaf: NodeId) -> bool
+    pub(crate) fn place(&mut self, run: &Run, leaf: NodeId) -> bool
         requires { 0 < self.old.left }
+        ensures done { 0 < run.now.len → run.now.first + run.now.len < 2 ^ 64 → result ≡ true }
+        ensures entered { result ≡ true → IsEntered self.old.leaves self.new.leaves run.now leaf }
         ensures placed { result ≡ true → IsPlaced self.new.leaves run.now }
         ensures keeps { KeepsAll self.old.leaves self.new.leaves }
         ensures sure { self.new.sure ≡ self.old.sure }
@@ -333,6 +328,7 @@ impl Homes {
         requires { 0 < self.old.left }
         ensures sure { self.new.sure ≡ true → is_new ≡ true }
         ensures placed { self.new.sure ≡ true → IsPlaced self.new.leaves run.now }
+        ensures entered { self.new.sure ≡ true → IsEntered self.old.leaves self.new.leaves run.now leaf }
         ensures keeps { KeepsAll self.old.leaves self.new.leaves }
         ensures left { self.old.left ≤ self.new.left + 1 }
     {
@@ -340,62 +336,67 @@ impl Homes {
         self.sure = is_new && placed;
     }
 
-    // The stamps of a run have another leaf from now on, if spans that have one begin and end where the run does. That takes no
-    // room. The answer is whether it was done.
-    fn retell(&mut self, run: &Run, leaf: NodeId) -> bool
+    // A run is in another leaf now, which is told if spans that have a leaf begin and end where the run does. That takes no room.
+    fn retell(&mut self, run: &Run, leaf: NodeId)
+        ensures entered { 0 < run.now.len → IsBordered self.old.leaves run.now → IsEntered self.old.leaves self.new.leaves run.now leaf }
         ensures keeps { KeepsAll self.old.leaves self.new.leaves }
         ensures sure { self.new.sure ≡ self.old.sure }
         ensures left { self.new.left ≡ self.old.left }
     {
-        match span_of(run) {
-            None => false,
-            Some(span) => self.leaves.repaint(span, leaf),
+        if let Some(span) = span_of(run) {
+            self.leaves.repaint(span, leaf);
         }
     }
 
-    // A run is in a leaf, which is told if that takes no room, or if so much is left then.
-    pub(crate) fn hint(&mut self, run: &Run, leaf: NodeId, keep: usize)
-        ensures keeps { KeepsAll self.old.leaves self.new.leaves }
-        ensures sure { self.new.sure ≡ self.old.sure }
-        ensures left { keep ≤ self.old.left → keep ≤ self.new.left }
-    {
-        if self.retell(run, leaf) {
-            return;
-        }
-        if self.left > keep {
-            self.place(run, leaf);
-        }
-    }
-
-    // Tells where the runs of a leaf are.
-    fn hint_all(&mut self, mem: &Mem, node: NodeId, keep: usize)
+    // Tells where the runs of a node are, if it is a leaf.
+    fn retell_all(&mut self, mem: &Mem, node: NodeId)
         requires { IsNode mem.now node.index }
+        ensures housed { (root : ℕ) → IsTree mem.now root → AreOnceEach (tree_runs mem.now root) → AllByRecursion HasCells (tree_runs mem.now root)
+            → AllByRecursion (IsBordered self.old.leaves) (tree_runs mem.now root) → HaveLeavesBelow node.index mem.now self.old.leaves
+            → AllByRecursion (IsBordered self.new.leaves) (tree_runs mem.now root) × HaveLeavesBelow (node.index + 1) mem.now self.new.leaves }
         ensures keeps { KeepsAll self.old.leaves self.new.leaves }
         ensures sure { self.new.sure ≡ self.old.sure }
-        ensures left { keep ≤ self.old.left → keep ≤ self.new.left }
+        ensures left { self.new.left ≡ self.old.left }
     {
         for i in 0..mem.len(node) {
             match *mem.entry(node, i) {
-                Entry::Here(run) => self.hint(&run, node, keep),
+                Entry::Here(run) => self.retell(&run, node),
                 Entry::Down(..) => {}
             }
         }
     }
 
-    // Tells where the runs of the newest node are, if it has come since there were so many nodes: when
-    // a leaf is cut in two, the new one is the last node to come.
-    pub(crate) fn note_new(&mut self, mem: &Mem, nodes: usize, keep: usize)
+    // Tells where the runs of new nodes are, those from a number on, if all that is known of other runs is sure.
+    pub(crate) fn note_new(&mut self, mem: &Mem, nodes: usize)
         requires { length mem.now.heads ≡ length mem.now.rows }
+        ensures housed { (root : ℕ) → self.old.sure ≡ true → IsTree mem.now root → length (tree_runs mem.now root) < 2 ^ 32
+            → AreOnceEach (tree_runs mem.now root) → AllByRecursion HasCells (tree_runs mem.now root)
+            → AllByRecursion (IsBordered self.old.leaves) (tree_runs mem.now root) → HaveLeavesBelow nodes mem.now self.old.leaves
+            → AreHoused mem.now root self.new.leaves }
         ensures keeps { KeepsAll self.old.leaves self.new.leaves }
         ensures sure { self.new.sure ≡ self.old.sure }
-        ensures left { keep ≤ self.old.left → keep ≤ self.new.left }
+        ensures left { self.new.left ≡ self.old.left }
     {
-        let now = mem.nodes();
-        if now > nodes && now <= u32::MAX as usize {
-            let index = (now - 1) as u32;
-            self.hint_all(mem, NodeId { index }, keep);
+        if !self.sure {
+            return;
+        }
+        // There are no more ids.
+        let end = mem.nodes().min(1 << 32);
+        for index in nodes..end {
+            let index = index as u32;
+            self.retell_all(mem, NodeId { index });
         }
     }
+}
+
+// Whether a number is that of a leaf.
+#[inline(always)]
+pub(crate) fn is_leaf(mem: &Mem, leaf: NodeId) -> bool
+    requires { length mem.now.heads ≡ length mem.now.rows }
+    ensures yes { result ≡ true → IsNode mem.now leaf.index × (level_of mem.now leaf.index ≡ 0) }
+    ensures no { result ≡ false → leaf.index < length mem.now.heads → level_of mem.now leaf.index ≡ 0 → ⊥ }
+{
+    (leaf.index as usize) < mem.nodes() && level_of(mem, leaf) == 0
 }
 
 // The run of a node that has a stamp, if it is a leaf and has one.
@@ -406,7 +407,7 @@ fn home_in(mem: &Mem, root: NodeId, leaf: NodeId, stamp: Stamp) -> Option<Home>
     ensures home { IfSome result (λ home. IsBehind (tree_runs mem.now root.index) home.run home.before) }
     ensures has { IfSome result (λ home. has home.run stamp ≡ true) }
 {
-    if leaf.index as usize >= mem.nodes() || level_of(mem, leaf) > 0 {
+    if !is_leaf(mem, leaf) {
         return None;
     }
     let entry = entry_with(mem, leaf, stamp)?;
@@ -431,7 +432,7 @@ fn home_at(mem: &Mem, root: NodeId, leaf: NodeId, entry: usize) -> Option<Home>
             let mut looks = 0;
             let looks = &mut looks;
             let mut sight = Counted { mem, looks };
-            let before = ascend(&mut sight, root, leaf, entry);
+            let before = rise_from(&mut sight, root, leaf, entry);
             Some(Home { run, before })
         }
     }

@@ -8,6 +8,7 @@ ghost use Rattle.rt_tree.specs.Homes.{AreHome, MarksOn, run_to};
 ghost use Rattle.rt_tree.specs.Runs.{IsRun, first_stamp};
 ghost use Rattle.rt_tree.specs.Shape.{IsTree, tree_runs};
 ghost use Rattle.rt_tree.specs.Sharing.{AreApart, BeginsAt, IsChangedAt, IsRecut, cell_in, run_in};
+ghost use Rattle.rt_tree.specs.Standing.{AreHoused, StampsStay};
 ghost use Rattle.rt_tree.specs.Stretches.{AreChanged, AreKept, IsGiven, marked_run};
 ghost use Rattle.rt_tree.specs.Summaries.{AreTold};
 ghost use Rattle.rt_tree.specs.Sums.{counts_of};
@@ -63,6 +64,7 @@ fn mark_run(
     requires told { AreTold states.now mem.old sums.old (tree_runs mem.old root.index) }
     requires mark { IsGiven states.now mark.now }
     ensures tree { IsTree mem.new root.index }
+    ensures stay { StampsStay mem.old mem.new }
     ensures run { IsChangedAt (tree_runs mem.old root.index) (tree_runs mem.new root.index) at (run_in span mark.now) result }
     ensures room { length mem.new.heads + mem.new.room ≡ length mem.old.heads + mem.old.room }
     ensures told { AreTold states.now mem.new sums.new (tree_runs mem.new root.index) }
@@ -90,6 +92,7 @@ fn mark_runs(
     requires told { AreTold states.now mem.old sums.old (tree_runs mem.old root.index) }
     requires mark { IsGiven states.now mark.now }
     ensures tree { IsTree mem.new root.index }
+    ensures stay { StampsStay mem.old mem.new }
     ensures runs { tree_runs mem.new root.index ≡ map (run_in span mark.now) (tree_runs mem.old root.index) }
     ensures room { length mem.new.heads + mem.new.room ≡ length mem.old.heads + mem.old.room }
     ensures told { AreTold states.now mem.new sums.new (tree_runs mem.new root.index) }
@@ -123,6 +126,7 @@ fn mark_at(
     requires told { AreTold states.now mem.old sums.old (tree_runs mem.old root.index) }
     requires mark { IsGiven states.now mark.now }
     ensures tree { IsTree mem.new root.index }
+    ensures stay { StampsStay mem.old mem.new }
     ensures none { result ≡ None → tree_runs mem.new root.index ≡ tree_runs mem.old root.index }
     ensures some { IfSome result (λ next. MarksOn span mark.now count next (tree_runs mem.old root.index) (tree_runs mem.new root.index)) }
     ensures room { length mem.new.heads + mem.new.room ≡ length mem.old.heads + mem.old.room }
@@ -170,6 +174,7 @@ fn mark_by_homes(
     requires told { AreTold states.now mem.old sums.old (tree_runs mem.old root.index) }
     requires mark { IsGiven states.now mark.now }
     ensures tree { IsTree mem.new root.index }
+    ensures stay { StampsStay mem.old mem.new }
     ensures part { (count : ℕ) × (tree_runs mem.new root.index ≡ map (run_to span count mark.now) (tree_runs mem.old root.index)) }
     ensures all { result ≡ true → tree_runs mem.new root.index ≡ map (run_in span mark.now) (tree_runs mem.old root.index) }
     ensures room { length mem.new.heads + mem.new.room ≡ length mem.old.heads + mem.old.room }
@@ -206,6 +211,7 @@ fn mark_all(
     requires told { AreTold states.now mem.old sums.old (tree_runs mem.old root.index) }
     requires mark { IsGiven states.now mark.now }
     ensures tree { IsTree mem.new root.index }
+    ensures stay { StampsStay mem.old mem.new }
     ensures runs { tree_runs mem.new root.index ≡ map (run_in span mark.now) (tree_runs mem.old root.index) }
     ensures room { length mem.new.heads + mem.new.room ≡ length mem.old.heads + mem.old.room }
     ensures told { AreTold states.now mem.new sums.new (tree_runs mem.new root.index) }
@@ -225,9 +231,10 @@ fn part_behind(
     root: NodeId,
     span: Span,
     homes: &mut Homes,
-    keep: usize,
 ) -> Change
     requires home { homes.old.sure ≡ true → AreHome homes.old.leaves (tree_runs mem.old root.index) }
+    requires housed { homes.old.sure ≡ true → AreHoused mem.old root.index homes.old.leaves }
+    requires left { 0 < homes.old.left }
     requires tree { IsTree mem.old root.index }
     requires kept { AreKept (tree_runs mem.old root.index) }
     requires apart { AreApart (tree_runs mem.old root.index) }
@@ -235,7 +242,8 @@ fn part_behind(
     requires room { HasNodes mem.old (length (tree_runs mem.old root.index)) }
     requires told { AreTold states.now mem.old sums.old (tree_runs mem.old root.index) }
     ensures home { homes.new.sure ≡ true → AreHome homes.new.leaves (tree_runs mem.new result.root.index) }
-    ensures left { keep ≤ homes.old.left → keep ≤ homes.new.left }
+    ensures housed { homes.new.sure ≡ true → AreHoused mem.new result.root.index homes.new.leaves }
+    ensures left { homes.old.left ≤ homes.new.left + 1 }
     ensures tree { IsTree mem.new result.root.index }
     ensures recut { IsRecut (tree_runs mem.old root.index) (tree_runs mem.new result.root.index) }
     ensures begins { AllByRecursion (BeginsAt (next_stamp (last_stamp span))) (tree_runs mem.new result.root.index) }
@@ -249,7 +257,7 @@ fn part_behind(
         None => Change { root, more: 0 },
         Some(count) => {
             let site = span.site;
-            part(mem, sums, states, root, Stamp { count, site }, homes, keep)
+            part(mem, sums, states, root, Stamp { count, site }, homes)
         }
     }
 }
@@ -263,9 +271,10 @@ pub(crate) fn mark_span(
     span: Span,
     mark: Mark,
     homes: &mut Homes,
-    keep: usize,
 ) -> Change
     requires home { homes.old.sure ≡ true → AreHome homes.old.leaves (tree_runs mem.old root.index) }
+    requires housed { homes.old.sure ≡ true → AreHoused mem.old root.index homes.old.leaves }
+    requires left { 2 ≤ homes.old.left }
     requires tree { IsTree mem.old root.index }
     requires kept { AreKept (tree_runs mem.old root.index) }
     requires apart { AreApart (tree_runs mem.old root.index) }
@@ -274,7 +283,8 @@ pub(crate) fn mark_span(
     requires told { AreTold states.now mem.old sums.old (tree_runs mem.old root.index) }
     requires mark { IsGiven states.now mark }
     ensures home { homes.new.sure ≡ true → AreHome homes.new.leaves (tree_runs mem.new result.root.index) }
-    ensures left { keep ≤ homes.old.left → keep ≤ homes.new.left }
+    ensures housed { homes.new.sure ≡ true → AreHoused mem.new result.root.index homes.new.leaves }
+    ensures left { homes.old.left ≤ homes.new.left + 2 }
     ensures tree { IsTree mem.new result.root.index }
     ensures cells { (text : List ℕ) → AllByRecursion (IsRun text) (tree_runs mem.old root.index)
         → AreChanged (tree_runs mem.old root.index) (tree_runs mem.new result.root.index) text (map (cell_in span mark)) }
@@ -289,8 +299,8 @@ pub(crate) fn mark_span(
         count: span.first,
         site: span.site,
     };
-    let first = part(mem, sums, states, root, begin, homes, keep);
-    let second = part_behind(mem, sums, states, first.root, span, homes, keep);
+    let first = part(mem, sums, states, root, begin, homes);
+    let second = part_behind(mem, sums, states, first.root, span, homes);
     mark_all(mem, sums, states, second.root, span, &mark, homes);
     Change {
         root: second.root,

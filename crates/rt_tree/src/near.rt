@@ -11,7 +11,7 @@ use crate::find::height;
 use crate::looks::Counted;
 use crate::node::{Counts, Measure, Mem, Run};
 use crate::sums::{amount, counts_of_run};
-use crate::up::ascend;
+use crate::up::rise_from;
 use crate::walk::{Found, Spot, descend_by};
 use rt_nodes::NodeId;
 
@@ -127,5 +127,5 @@ pub(crate) fn counts_before(mem: &Mem, root: NodeId, last: &Option<Found>, spot:
     let mut looks = 0;
     let looks = &mut looks;
     let mut sight = Counted { mem, looks };
-    ascend(&mut sight, root, spot.leaf, spot.entry)
+    rise_from(&mut sight, root, spot.leaf, spot.entry)
 }

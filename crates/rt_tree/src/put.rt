@@ -11,6 +11,7 @@ ghost use Rattle.rt_tree.specs.Holds.{IsEndAt, IsHeld};
 ghost use Rattle.rt_tree.specs.Homes.{AreHome};
 ghost use Rattle.rt_tree.specs.Shape.{AreFilled, IsShape, IsTree, ahead, level_of, runs, tree_runs};
 ghost use Rattle.rt_tree.specs.Sharing.{AreKnown};
+ghost use Rattle.rt_tree.specs.Standing.{AreHoused, Stands, StayBut};
 ghost use Rattle.rt_tree.specs.Summaries.{AreTold};
 ghost use Rattle.rt_tree.specs.Sums.{AreFew, amount, counts_of, counts_of_run, plus};
 ghost use Rattle.rt_tree.specs.Trees.{HasNodes};
@@ -56,6 +57,9 @@ fn insert_at(
     ensures filled { AreFilled mem.new root.index }
     ensures runs { runs (bare mem.new) height root.index
         ≡ insert (runs (bare mem.old) height root.index) (length (ahead (bare mem.old) height leaf.index) + i) run }
+    ensures stay { StayBut mem.old mem.new result.index run }
+    ensures there { Stands mem.new result.index run }
+    ensures longer { length mem.old.heads ≤ length mem.new.heads }
     ensures room { length mem.new.heads + mem.new.room ≡ length mem.old.heads + mem.old.room }
     ensures told { AreTold states.now mem.new sums.new (runs (bare mem.new) height root.index) }
     ensures tags { sums.new.tags ≡ sums.old.tags }
@@ -174,6 +178,9 @@ pub(crate) fn put(
     requires state { IsState states.now run.state }
     ensures tree { IsTree mem.new result.root.index }
     ensures runs { IsPutAt (tree_runs mem.old root.index) (tree_runs mem.new result.root.index) at run }
+    ensures stay { StayBut mem.old mem.new result.leaf.index run }
+    ensures there { Stands mem.new result.leaf.index run }
+    ensures longer { length mem.old.heads ≤ length mem.new.heads }
     ensures room { length mem.new.heads + mem.new.room ≡ length mem.old.heads + mem.old.room }
     ensures told { AreTold states.now mem.new sums.new (tree_runs mem.new result.root.index) }
     ensures tags { sums.new.tags ≡ sums.old.tags }
@@ -191,8 +198,7 @@ pub(crate) fn put(
     }
 }
 
-// The same, and tells where the run's stamps are. No cell has a greater count than `newest`; so many spans can be given a leaf
-// later.
+// The same, and tells where the run's stamps are. No cell has a greater count than `newest`.
 pub(crate) fn put_home(
     mem: &mut Mem,
     sums: &mut Summaries,
@@ -203,7 +209,6 @@ pub(crate) fn put_home(
     run: Run,
     homes: &mut Homes,
     newest: u64,
-    keep: usize,
 ) -> NodeId
     requires tree { IsTree mem.old root.index }
     requires within { at < (counts_of (tree_runs mem.old root.index)).cells }
@@ -214,7 +219,8 @@ pub(crate) fn put_home(
     requires counts { run.first + run.len ≤ 2 ^ 64 }
     requires known { AreKnown newest (tree_runs mem.old root.index) }
     requires home { homes.old.sure ≡ true → AreHome homes.old.leaves (tree_runs mem.old root.index) }
-    requires left { keep < homes.old.left }
+    requires housed { homes.old.sure ≡ true → AreHoused mem.old root.index homes.old.leaves }
+    requires left { 0 < homes.old.left }
     requires told { AreTold states.now mem.old sums.old (tree_runs mem.old root.index) }
     requires short { length (tree_runs mem.old root.index) + 5 < 2 ^ 32 }
     requires state { IsState states.now run.state }
@@ -222,7 +228,8 @@ pub(crate) fn put_home(
     ensures runs { IsPutAt (tree_runs mem.old root.index) (tree_runs mem.new result.index) at run }
     ensures room { length mem.new.heads + mem.new.room ≡ length mem.old.heads + mem.old.room }
     ensures home { homes.new.sure ≡ true → AreHome homes.new.leaves (tree_runs mem.new result.index) }
-    ensures left { keep ≤ homes.new.left }
+    ensures housed { homes.new.sure ≡ true → AreHoused mem.new result.index homes.new.leaves }
+    ensures left { homes.old.left ≤ homes.new.left + 1 }
     ensures told { AreTold states.now mem.new sums.new (tree_runs mem.new result.index) }
     ensures tags { sums.new.tags ≡ sums.old.tags }
 {
@@ -230,7 +237,7 @@ pub(crate) fn put_home(
     let nodes = mem.nodes();
     let placed = put(mem, sums, states, root, at, end, run);
     homes.enter(&run, placed.leaf, is_new);
-    homes.note_new(mem, nodes, keep);
+    homes.note_new(mem, nodes);
     placed.root
 }
 
@@ -252,6 +259,7 @@ pub(crate) fn replace_at(
     ensures tree { IsTree mem.new root.index }
     ensures runs { (at : ℕ) (before : Run) → IsSpot mem.old root.index Cells at spot.leaf.index spot.entry spot.offset before
         → IsReplacedAt (tree_runs mem.old root.index) (tree_runs mem.new root.index) at run }
+    ensures stay { StayBut mem.old mem.new spot.leaf.index run }
     ensures held { (before : Run) (front : Counts) → IsHeld mem.old root.index spot.leaf.index spot.entry before front
         → IsHeld mem.new root.index spot.leaf.index spot.entry run front }
     ensures room { (mem.new.room ≡ mem.old.room) × (length mem.new.heads ≡ length mem.old.heads) }

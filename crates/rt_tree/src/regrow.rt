@@ -7,6 +7,7 @@ ghost use Rattle.rt_tree.specs.declared.node.Entry.{Entry};
 ghost use Rattle.rt_tree.specs.declared.node.Entry.TheVariants.{Down};
 ghost use Rattle.rt_tree.specs.Changes.{AreExact, AreHalves, AreStill, IsGrown, bare, blank, strip};
 ghost use Rattle.rt_tree.specs.Shape.{IsShape, parent_of, runs};
+ghost use Rattle.rt_tree.specs.Standing.{Stay};
 ghost use Rattle.rt_tree.specs.Summaries.{AreSummed, HaveMemory, shown_states};
 ghost use Rattle.rt_tree.specs.Sums.{AreFew, counts_of};
 
@@ -40,6 +41,7 @@ pub(crate) fn add_root(
     ensures exact { AreExact mem.new }
     ensures runs { runs (bare mem.new) (height + 1) result.index ≡ runs (bare mem.old) height root.index }
     ensures grown { IsGrown mem.old mem.new height root.index result.index }
+    ensures stay { Stay mem.old mem.new }
     ensures room { mem.new.room + 1 ≡ mem.old.room }
     ensures summed { AreSummed states.now mem.new sums.new.each.items }
     ensures many { length sums.new.each.items ≡ length sums.old.each.items }
@@ -84,6 +86,7 @@ pub(crate) fn cut_node(
     ensures wider { length (entries mem.new parent.index) ≡ length (entries mem.old parent.index) + 1 }
     ensures halves { AreHalves mem.old mem.new node.index result.index }
     ensures still { AreStill mem.old mem.new height node.index result.index }
+    ensures stay { Stay mem.old mem.new }
     ensures summed { AreSummed states.now mem.new sums.new.each.items }
     ensures many { length sums.new.each.items ≡ length sums.old.each.items }
     ensures memory { HaveMemory sums.new }

@@ -3,6 +3,7 @@ ghost use Rattle.std.specs.Prelude.{◌≡◌, ℕ, ◌+◌, ◌-◌, ◌<◌, �
 ghost use Rattle.rt_nodes.specs.Nodes.{entries};
 ghost use Rattle.rt_tree.specs.Changes.{AreExact, above, bare};
 ghost use Rattle.rt_tree.specs.Shape.{AreFilled, IsShape, ahead, level_of, parent_of, runs};
+ghost use Rattle.rt_tree.specs.Standing.{Stay};
 ghost use Rattle.rt_tree.specs.Summaries.{AreTold};
 ghost use Rattle.rt_tree.specs.Sums.{AreFew, counts_of};
 ghost use Rattle.rt_tree.specs.Trees.{HasNodes};
@@ -60,6 +61,8 @@ fn make_way(
     ensures leaf { (leaf.index < length mem.new.heads) × (level_of (bare mem.new) leaf.index ≡ 0) }
     ensures same { entries mem.new leaf.index ≡ entries mem.old leaf.index }
     ensures ahead { ahead (bare mem.new) height leaf.index ≡ ahead (bare mem.old) height leaf.index }
+    ensures stay { Stay mem.old mem.new }
+    ensures longer { length mem.old.heads ≤ length mem.new.heads }
     ensures way { 0 < height → length (entries mem.new (parent_of (bare mem.new) leaf.index)) < 16 }
     ensures room { length mem.new.heads + mem.new.room ≡ length mem.old.heads + mem.old.room }
     ensures told { AreTold states.now mem.new sums.new (runs (bare mem.new) height root.index) }
@@ -105,6 +108,8 @@ pub(crate) fn make_room(
     ensures leaf { (result.leaf.index < length mem.new.heads) × (level_of (bare mem.new) result.leaf.index ≡ 0) }
     ensures within { result.entry ≤ length (entries mem.new result.leaf.index) }
     ensures leaf_room { length (entries mem.new result.leaf.index) < 16 }
+    ensures stay { Stay mem.old mem.new }
+    ensures longer { length mem.old.heads ≤ length mem.new.heads }
     ensures place { length (ahead (bare mem.new) height result.leaf.index) + result.entry ≡ length (ahead (bare mem.old) height leaf.index) + i }
     ensures room { length mem.new.heads + mem.new.room ≡ length mem.old.heads + mem.old.room }
     ensures told { AreTold states.now mem.new sums.new (runs (bare mem.new) height root.index) }
@@ -157,6 +162,8 @@ pub(crate) fn top_room(
     ensures runs { runs (bare mem.new) result.height result.root.index ≡ runs (bare mem.old) height root.index }
     ensures roomy { length (entries mem.new result.root.index) < 16 }
     ensures height { result.height ≤ height + 1 }
+    ensures stay { Stay mem.old mem.new }
+    ensures longer { length mem.old.heads ≤ length mem.new.heads }
     ensures still { result.height ≡ height → (mem.new ≡ mem.old) × (result.root ≡ root) }
     ensures room { length mem.new.heads + mem.new.room ≡ length mem.old.heads + mem.old.room }
     ensures told { AreTold states.now mem.new sums.new (runs (bare mem.new) result.height result.root.index) }

@@ -10,6 +10,7 @@ ghost use Rattle.rt_tree.specs.Homes.{AreHome};
 ghost use Rattle.rt_tree.specs.Runs.{IsRun, cells_of};
 ghost use Rattle.rt_tree.specs.Shape.{IsTree, tree_runs};
 ghost use Rattle.rt_tree.specs.Sharing.{AreApart, AreKnown, AreOnce, AreUpTo, is_shared_by};
+ghost use Rattle.rt_tree.specs.Standing.{AreHoused};
 ghost use Rattle.rt_tree.specs.Stretches.{AreChanged, AreKept, IsEdge, lengths};
 ghost use Rattle.rt_tree.specs.Summaries.{AreTold};
 ghost use Rattle.rt_tree.specs.Sums.{counts_of};
@@ -239,11 +240,11 @@ fn put_runs(
     cells: &[Cell<StateId>],
     newest: u64,
     homes: &mut Homes,
-    keep: usize,
     end: Option<Spot>,
 ) -> Change
     requires home { homes.old.sure ≡ true → AreHome homes.old.leaves (tree_runs mem.old root.index) }
-    requires left { keep + length cells.now ≤ homes.old.left }
+    requires housed { homes.old.sure ≡ true → AreHoused mem.old root.index homes.old.leaves }
+    requires left { length cells.now ≤ homes.old.left }
     requires tree { IsTree mem.old root.index }
     requires kept { AllByRecursion (IsRun text.now) (tree_runs mem.old root.index) }
     requires apart { AreApart (tree_runs mem.old root.index) }
@@ -264,7 +265,8 @@ fn put_runs(
     ensures most { result.more ≤ length cells.now }
     ensures more { AreOnce (cells_of text.now (tree_runs mem.old root.index)) cells.now → result.more ≤ stretches cells.now }
     ensures home { homes.new.sure ≡ true → AreHome homes.new.leaves (tree_runs mem.new result.root.index) }
-    ensures left { keep ≤ homes.new.left }
+    ensures housed { homes.new.sure ≡ true → AreHoused mem.new result.root.index homes.new.leaves }
+    ensures left { homes.old.left ≤ homes.new.left + length cells.now }
     ensures room { length mem.new.heads + mem.new.room ≡ length mem.old.heads + mem.old.room }
     ensures told { AreTold states.now mem.new sums.new (tree_runs mem.new result.root.index) }
     ensures tags { sums.new.tags ≡ sums.old.tags }
@@ -278,7 +280,6 @@ fn put_runs(
     while done < cells.len() {
         let next = choose(mem, root, text, cells, done, lone, newest, homes);
         let to = done + next.run.len as usize;
-        let left = keep + (cells.len() - to);
         root = put_home(
             mem,
             sums,
@@ -289,7 +290,6 @@ fn put_runs(
             next.run,
             homes,
             newest,
-            left,
         );
         newest = newest_of(newest, &cells[done..to]);
         done = to;
@@ -319,11 +319,11 @@ pub(crate) fn put_cells(
     cells: &[Cell<StateId>],
     newest: u64,
     homes: &mut Homes,
-    keep: usize,
     last: &Option<Found>,
 ) -> Grown
     requires home { homes.old.sure ≡ true → AreHome homes.old.leaves (tree_runs mem.old root.index) }
-    requires left { keep + length cells.now ≤ homes.old.left }
+    requires housed { homes.old.sure ≡ true → AreHoused mem.old root.index homes.old.leaves }
+    requires left { length cells.now + 1 ≤ homes.old.left }
     requires tree { IsTree mem.old root.index }
     requires kept { AllByRecursion (IsRun text.now) (tree_runs mem.old root.index) }
     requires apart { AreApart (tree_runs mem.old root.index) }
@@ -343,14 +343,15 @@ pub(crate) fn put_cells(
     ensures most { result.more ≤ length cells.now + 1 }
     ensures more { AreOnce (cells_of text.now (tree_runs mem.old root.index)) cells.now → result.more ≤ stretches cells.now + 1 }
     ensures home { homes.new.sure ≡ true → AreHome homes.new.leaves (tree_runs mem.new result.root.index) }
-    ensures left { keep ≤ homes.new.left }
+    ensures housed { homes.new.sure ≡ true → AreHoused mem.new result.root.index homes.new.leaves }
+    ensures left { homes.old.left ≤ homes.new.left + length cells.now + 1 }
     ensures room { length mem.new.heads + mem.new.room ≡ length mem.old.heads + mem.old.room }
     ensures held { IfSome result.last (Holds mem.new result.root.index) }
     ensures told { AreTold states.now mem.new sums.new (tree_runs mem.new result.root.index) }
     ensures tags { sums.new.tags ≡ sums.old.tags }
 {
     let extended = extend(
-        mem, sums, states, root, text, at, cells, newest, homes, keep, last,
+        mem, sums, states, root, text, at, cells, newest, homes, last,
     );
     let done = extended.done;
     if done == cells.len() {
@@ -361,15 +362,14 @@ pub(crate) fn put_cells(
         };
     }
     let rest = &cells[done..];
-    let left = keep + rest.len();
     let edge = extended.is_edge;
     let place = at + done;
-    let first = cut_home(mem, sums, states, root, place, edge, homes, left);
+    let first = cut_home(mem, sums, states, root, place, edge, homes);
     let newest = newest_of(newest, &cells[..done]);
     let root = first.root;
     let end = extended.end;
     let then = put_runs(
-        mem, sums, states, root, text, place, rest, newest, homes, keep, end,
+        mem, sums, states, root, text, place, rest, newest, homes, end,
     );
     Grown {
         root: then.root,

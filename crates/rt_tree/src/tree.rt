@@ -13,12 +13,14 @@ mod tagging;
 
 use crate::copy::copy;
 use crate::find::{cell_in, find, has, height};
-use crate::homes::{Homes, Sought};
+use crate::homes::{Homes, Sought, is_leaf};
+use crate::looks::Counted;
 use crate::near::seek_near;
 use crate::node::{Counts, Entry, Head, Measure, Mem, Run};
 use crate::skip::{is_low, passed};
 use crate::summed::Summaries;
 use crate::sums::counts_of_run;
+use crate::up::{ascend, place_in};
 use crate::walk::Found;
 use rt_nodes::{NodeId, NodeMem};
 use rt_stamps::{FINAL, Fault, ROOT, Stamp};
@@ -357,16 +359,39 @@ impl Tree {
         Some(self.visible_before(position))
     }
 
+    /// How many visible cells stand before a stamp's cell, as `place_of` answers, by one look-up in the map of leaves and a walk
+    /// up from the leaf. At most sixteen looks a level are added to the counter. Where the map isn't sure, since a stamp came
+    /// twice or one with the greatest count that there is, a walk over all runs answers, and counts no looks.
+    pub fn climb(&self, stamp: Stamp, looks: &mut u64) -> Option<usize>
+        requires room { looks.old + 16 * self.now.height < 2 ^ 64 }
+        ensures place { result ≡ option_map (visible_before self.now.cells) (position_of self.now.cells stamp) }
+        ensures counted { looks.old ≤ looks.new }
+        ensures cost { looks.new ≤ looks.old + 16 * self.now.height }
+    {
+        if !self.homes.sure {
+            return self.seek_place(stamp);
+        }
+        let leaf = self.homes.leaf_of(stamp)?;
+        if !is_leaf(&self.mem, leaf) {
+            return None;
+        }
+        let mem = &self.mem;
+        let mut sight = Counted { mem, looks };
+        ascend(&mut sight, self.root, leaf, stamp)
+    }
+
     /// How many visible cells stand before a stamp's cell, which is its place if it is visible; none if
     /// no cell has the stamp.
     pub fn place_of(&self, stamp: Stamp) -> Option<usize>
         ensures { result ≡ option_map (visible_before self.now.cells) (position_of self.now.cells stamp) }
     {
-        match self.homes.look_up(&self.mem, self.root, &self.last, stamp) {
-            Sought::Nowhere => None,
-            Sought::At(home) => Some(home.place(stamp)),
-            Sought::Unknown => self.seek_place(stamp),
+        if let Some(home) = self.homes.near(&self.mem, self.root, &self.last, stamp) {
+            return Some(place_in(home.run, home.before, stamp));
         }
+        // Its clause bounds the levels, and so the looks; the value isn't needed.
+        self.height();
+        let mut looks = 0;
+        self.climb(stamp, &mut looks)
     }
 
     // The position after an element.

@@ -75,7 +75,6 @@ impl Tree {
         ensures agrees { Agrees states.now self.new }
         ensures own { HasOwn self.new }
     {
-        let keep = self.spare_cells;
         let change = mark_span(
             &mut self.mem,
             &mut self.sums,
@@ -84,7 +83,6 @@ impl Tree {
             span,
             mark,
             &mut self.homes,
-            keep,
         );
         self.root = change.root;
         self.counts = sum_of(&self.mem, self.root);
@@ -137,7 +135,6 @@ impl Tree {
         ensures own { HasOwn self.new }
     {
         push_characters(&mut self.text, cells);
-        let keep = self.spare_cells - cells.len();
         let change = put_cells(
             &mut self.mem,
             &mut self.sums,
@@ -148,7 +145,6 @@ impl Tree {
             cells,
             self.newest,
             &mut self.homes,
-            keep,
             &self.last,
         );
         self.newest = newest_of(self.newest, cells);

@@ -1,4 +1,4 @@
-use Rattle.std.proofs.Common.{◌≡◌, ℕ, ◌-◌, ◌<◌, List, [], ◌∷◌, arith, sym, ap, ◌∙◌, subst}
+use Rattle.std.proofs.Common.{◌≡◌, ℕ, ◌-◌, ◌<◌, inl, inr, List, [], ◌∷◌, ◌++◌, None, arith, sym, ap, ◌∙◌, subst}
 use Rattle.rt_nodes.specs.Nodes.{entries}
 use Rattle.rt_tree.specs.declared.node.Counts.{Counts}
 use Rattle.rt_tree.specs.declared.node.Run.{Run}
@@ -13,7 +13,14 @@ use Rattle.rt_tree.proofs.Edges.{counts_mid, edge_end, edge_there}
 use Rattle.rt_tree.proofs.Puts.{replaced_length}
 use Rattle.rt_tags.specs.States.{IsState}
 use Rattle.rt_tree.proofs.Told.{given_there, short_kept}
+use Rattle.rt_tree.specs.declared.cut.Parted.{Parted}
+use Rattle.rt_tree.specs.Sharing.{AreParts}
 use Rattle.rt_tree.proofs.cut.cut.Goals as goal
+
+same_parts : (m : Memory) (root at : ℕ) (p : Parted) → p ≡ record { change = record { root = record { index = root }; more = 0 }; front = None } → IsEdge (lengths (tree_runs m p.change.root.index)) at → AreParts (tree_runs m root) (tree_runs m p.change.root.index) at
+same_parts m root at p is edge =
+    let same = ap (λ (q : Parted). tree_runs m q.change.root.index) is in
+    subst (λ l. AreParts (tree_runs m root) l at) (sym same) (no_parts (tree_runs m root) (tree_runs m root) at (subst (λ l. IsEdge (lengths l) at) same edge))
 
 root_sum : (m : Memory) (root : ℕ) → IsTree m root → sum_of (entries m root) ≡ counts_of (tree_runs m root)
 root_sum m root t = sum-node m root t root t.shape.root_is
@@ -26,19 +33,19 @@ sum_of-requires-clause-few c =
 pub returns-then-at-eq0-clause-edge : goal.returns-then-at-eq0-clause-edge
 returns-then-at-eq0-clause-edge c =
     let old = tree_runs c.args.mem.now c.args.root.index in
-    edge_there [] old c.args.at (omega (arith, c.if-at-eq0.true))
+    subst (λ (p : Parted). IsEdge (lengths (tree_runs c.args.mem.now p.change.root.index)) c.args.at) (sym c.uncut.ensures) (edge_there [] old c.args.at (omega (arith, c.if-at-eq0.true)))
 
 pub returns-then-at-eq0-clause-parts : goal.returns-then-at-eq0-clause-parts
-returns-then-at-eq0-clause-parts c = let old = tree_runs c.args.mem.now c.args.root.index in no_parts old old c.args.at (returns-then-at-eq0-clause-edge c)
+returns-then-at-eq0-clause-parts c = same_parts c.args.mem.now c.args.root.index c.args.at c.uncut.result c.uncut.ensures (returns-then-at-eq0-clause-edge c)
 
 pub returns-then-at-sum_of-clause-edge : goal.returns-then-at-sum_of-clause-edge
 returns-then-at-sum_of-clause-edge c =
     let m = c.args.mem.now in let r = c.args.root.index in let old = tree_runs m r in
     let e : c.args.at ≡ (counts_of old).cells = c.if-at-sum_of.true ∙ ap (λ (x : Counts). x.cells) (c.sum_of.ensures ∙ root_sum m r c.requires.tree) in
-    subst (IsEdge (lengths old)) (sym e) (edge_end old)
+    subst (λ (p : Parted). IsEdge (lengths (tree_runs m p.change.root.index)) c.args.at) (sym c.uncut-then-at-sum_of.ensures) (subst (IsEdge (lengths old)) (sym e) (edge_end old))
 
 pub returns-then-at-sum_of-clause-parts : goal.returns-then-at-sum_of-clause-parts
-returns-then-at-sum_of-clause-parts c = let old = tree_runs c.args.mem.now c.args.root.index in no_parts old old c.args.at (returns-then-at-sum_of-clause-edge c)
+returns-then-at-sum_of-clause-parts c = same_parts c.args.mem.now c.args.root.index c.args.at c.uncut-then-at-sum_of.result c.uncut-then-at-sum_of.ensures (returns-then-at-sum_of-clause-edge c)
 
 pub found_at-found-requires-clause-few : goal.found_at-found-requires-clause-few
 found_at-found-requires-clause-few c =
@@ -55,10 +62,11 @@ pub returns-then-offset-eq0-clause-edge : goal.returns-then-offset-eq0-clause-ed
 returns-then-offset-eq0-clause-edge c =
     let m = c.args.mem.now in let r = c.args.root.index in let old = tree_runs m r in
     let f = c.found_at-found.result in let st = c.found_at-found.ensures.run in let b = ap (λ (x : Counts). x.cells) st.before in
-    subst (λ (l : List Run). IsEdge (lengths l) c.args.at) (sym st.here) (edge_there st.left (f.run ∷ st.right) c.args.at (omega (arith, b, st.at, c.if-offset-eq0.true)))
+    subst (λ (p : Parted). IsEdge (lengths (tree_runs m p.change.root.index)) c.args.at) (sym c.uncut-then-offset-eq0.ensures)
+    (subst (λ (l : List Run). IsEdge (lengths l) c.args.at) (sym st.here) (edge_there st.left (f.run ∷ st.right) c.args.at (omega (arith, b, st.at, c.if-offset-eq0.true))))
 
 pub returns-then-offset-eq0-clause-parts : goal.returns-then-offset-eq0-clause-parts
-returns-then-offset-eq0-clause-parts c = let old = tree_runs c.args.mem.now c.args.root.index in no_parts old old c.args.at (returns-then-offset-eq0-clause-edge c)
+returns-then-offset-eq0-clause-parts c = same_parts c.args.mem.now c.args.root.index c.args.at c.uncut-then-offset-eq0.result c.uncut-then-offset-eq0.ensures (returns-then-offset-eq0-clause-edge c)
 
 pub back_of-back-requires-clause-fits : goal.back_of-back-requires-clause-fits
 back_of-back-requires-clause-fits c =
@@ -163,3 +171,42 @@ put-placed-requires-clause-state c =
 
 pub returns-clause-tags : goal.returns-clause-tags
 returns-clause-tags c = c.put-placed.ensures.tags ∙ c.replace_at.ensures.tags
+
+pub returns-clause-parted : goal.returns-clause-parted
+returns-clause-parted c =
+    let m = c.args.mem.now in let r = c.args.root.index in let old = tree_runs m r in
+    let mid = c.replace_at.new.mem in let new = c.put-placed.new.mem in
+    let f = c.found_at-found.result in let o = f.spot.offset in let st = c.found_at-found.ensures.run in let some : 0 < o = omega (arith, c.if-offset-eq0.false) in
+    let spot = c.found_at-found.ensures.spot in
+    let b = ap (λ (x : Counts). x.cells) st.before in
+    let front = c.front_of-front.result in
+    let less = st.inside in
+    let heads = c.replace_at.ensures.room.1 in
+    let both = returns-clause-parts c st.left st.right f.run o st.here (omega (arith, b, st.at)) some less in
+    record {
+      left = st.left;
+      right = st.right;
+      run = f.run;
+      count = o;
+      some = some;
+      less = less;
+      was = st.here;
+      is = both ∙ ap (λ (x : Run). st.left ++ x ∷ back_of o f.run ∷ st.right) (sym c.front_of-front.ensures);
+      front_is = c.front_of-front.ensures;
+      at = f.spot.leaf.index;
+      stood = record { is = spot.is; low = spot.low; entry = f.spot.entry; here = spot.here };
+      there = c.put-placed.ensures.there;
+      stay = λ k s stands. elim (c.put-placed.ensures.stay k s stands) [
+        | inl high ↦ inl (omega (arith, high, heads))
+        | inr rest ↦ elim rest [
+          | inl was ↦ elim (c.replace_at.ensures.stay k s was) [
+            | inl high ↦ inl high
+            | inr parts ↦ elim parts [
+              | inl before ↦ inr (inl before)
+              | inr own ↦ inr (inr (inr (own.0, own.1 ∙ c.back_of-back.ensures)))
+            ]
+          ]
+          | inr own ↦ inr (inr (inl own))
+        ]
+      ];
+    }

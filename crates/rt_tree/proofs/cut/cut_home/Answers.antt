@@ -1,18 +1,49 @@
-use Rattle.std.proofs.Common.{sym, ◌∙◌}
+use Rattle.std.proofs.Common.{◌∷◌, ap, arith, subst, sym, ◌∙◌}
+use Rattle.std.specs.Prelude.{IfSome}
+use Rattle.std.specs.List.{AllByRecursion}
+use Rattle.rt_tree.specs.declared.cut.Front.{Front}
+use Rattle.rt_tree.specs.declared.node.Run.{Run}
 use Rattle.rt_tree.specs.Shape.{tree_runs}
 use Rattle.rt_tree.proofs.Cutting.{no_parts}
-use Rattle.rt_tree.proofs.Housing.{home_keeps, recut_home}
+use Rattle.rt_tree.proofs.Housing.{home_keeps, keeps_more, recut_home}
+use Rattle.rt_tree.specs.Standing.{HaveLeavesBelow, IsBordered, IsParted}
+use Rattle.rt_tree.proofs.Frame.{each-back}
+use Rattle.rt_tree.proofs.Housed.{parted_bordered, parted_leaves}
+use Rattle.rt_tree.proofs.Skipping.{have_cells}
+use Rattle.rt_tree.proofs.Told.{short_kept}
 use Rattle.rt_tree.proofs.cut.cut_home.Goals as goal
 
-pub note_new-requires : goal.note_new-requires
-note_new-requires c = c.cut-change.ensures.tree.shape.same
+pub returns-in-Some-clause-home : goal.returns-in-Some-clause-home
+returns-in-Some-clause-home c sure =
+    let old = tree_runs c.args.mem.now c.args.root.index in let new = tree_runs c.cut-front.new.mem c.cut-front.result.change.root.index in
+    let leaves = c.args.homes.now.leaves in let then = c.place.new.self.leaves in let after = c.note_new.new.self.leaves in
+    let home = c.requires.home (sym c.place.ensures.sure ∙ sym c.note_new.ensures.sure ∙ sure) in
+    home_keeps leaves after new (keeps_more leaves then after c.place.ensures.keeps c.note_new.ensures.keeps) (recut_home leaves old new c.requires.kept c.cut-front.ensures.recut home)
 
-pub returns-clause-home : goal.returns-clause-home
-returns-clause-home c =
-    let old = tree_runs c.args.mem.now c.args.root.index in let new = tree_runs c.cut-change.new.mem c.cut-change.result.root.index in
-    λ sure.
-    let home = c.requires.home (sym c.note_new.ensures.sure ∙ sure) in
-    home_keeps c.args.homes.now.leaves c.note_new.new.self.leaves new c.note_new.ensures.keeps (recut_home c.args.homes.now.leaves old new c.requires.kept c.cut-change.ensures.recut home)
+pub returns-in-Some-clause-housed : goal.returns-in-Some-clause-housed
+returns-in-Some-clause-housed c sure =
+    let m = c.args.mem.now in let n = c.cut-front.new.mem in
+    let root = c.args.root.index in let next = c.cut-front.result.change.root.index in
+    let old = tree_runs m root in let new = tree_runs n next in
+    let leaves = c.args.homes.now.leaves in let then = c.place.new.self.leaves in
+    let then_sure = sym c.note_new.ensures.sure ∙ sure in
+    let was_sure = sym c.place.ensures.sure ∙ then_sure in
+    let front = c.in-Some.front in
+    let e = c.cut-front.ensures in
+    let cut : IsParted m n root next front.run front.leaf.index = subst (λ o. IfSome o (λ (f : Front). IsParted m n root next f.run f.leaf.index)) c.in-Some.is e.parted in
+    let housed = c.requires.housed was_sure in
+    let own = (each-back (IsBordered leaves) cut.left (cut.run ∷ cut.right) (subst (AllByRecursion (IsBordered leaves)) cut.was housed.bordered)).0 in
+    let first = ap (λ (x : Run). x.first) cut.front_is in
+    let len = ap (λ (x : Run). x.len) cut.front_is in
+    let bound = own.bound in
+    let some = cut.some in let less = cut.less in
+    let told = c.place.ensures.entered (c.place.ensures.done (omega (arith, len, some)) (omega (arith, first, len, less, bound))) in
+    let once = (recut_home leaves old new c.requires.kept e.recut (c.requires.home was_sure)).once in
+    let few = short_kept old c.requires.kept c.requires.few in
+    c.note_new.ensures.housed next then_sure e.tree (omega (arith, few, e.runs, e.more)) once
+    (have_cells c.requires.kept.text new (e.recut.kept c.requires.kept.text c.requires.kept.runs))
+    (parted_bordered leaves then m n root next front.run front.leaf told cut e.tree once housed (have_cells c.requires.kept.text old c.requires.kept.runs))
+    (subst (λ k. HaveLeavesBelow k n then) (sym c.nodes-nodes.ensures) (parted_leaves leaves then m n root next front.run front.leaf told cut e.tree once housed))
 
 pub returns-then-is_edge-clause-edge : goal.returns-then-is_edge-clause-edge
 returns-then-is_edge-clause-edge c = c.requires.edge c.if-is_edge.true

@@ -1,4 +1,4 @@
-use Rattle.std.proofs.Common.{◌≡◌, ℕ, ◌+◌, ◌-◌, ◌<◌, ◌≤◌, ◌∙◌, List, [], nat_eq, true, true≢false, ap, refl, sym, subst, arith}
+use Rattle.std.proofs.Common.{◌≡◌, ℕ, ◌+◌, ◌-◌, ◌<◌, ◌≤◌, ◌∙◌, List, [], ◌∷◌, ◌++◌, nat_eq, true, true≢false, ap, refl, sym, subst, arith}
 use Rattle.std.proofs.lemmas.Bool.Decides.{nat_tests}
 use Rattle.std.specs.Prelude.{IfSome}
 use Rattle.rt_tree.specs.declared.extend.Extended.{Extended}
@@ -21,6 +21,8 @@ use Rattle.rt_tree.proofs.Stands.{stands}
 use Rattle.rt_tree.proofs.Splicing.{extended, extended_apart, new_is}
 use Rattle.rt_tags.specs.States.{IsState}
 use Rattle.rt_tree.proofs.Told.{given_there, short_kept}
+use Rattle.rt_tree.proofs.Housed.{joined_housed}
+use Rattle.rt_tree.proofs.Skipping.{have_cells}
 use Rattle.rt_tree.proofs.extend.extend.Goals as goal
 
 -- what the runs before one that was seen count
@@ -98,8 +100,28 @@ returns-clause-home c =
 
 pub returns-clause-left : goal.returns-clause-left
 returns-clause-left c =
-    let some = c.run_of-run.ensures.front.run.some in let within = c.run_of-run.ensures.front.within in
-    omega (arith, some, within, c.enter.ensures.left, c.requires.left)
+    let some = c.run_of-run.ensures.front.run.some in
+    omega (arith, some, c.enter.ensures.left)
+
+pub returns-clause-housed : goal.returns-clause-housed
+returns-clause-housed c sure =
+    let m = c.args.mem.now in let n = c.replace_at.new.mem in let root = c.args.root.index in
+    let old = tree_runs m root in let new = tree_runs n root in
+    let st = there m root c.requires.tree (c.args.at - 1) c.cell_near-found.result c.cell_near-found.ensures in let f = c.cell_near-found.result in let b = c.run_of-run.result in
+    let rep = subst (λ (r : Run). IsReplacedAt old new (c.args.at - 1) r) c.joined-whole.ensures (c.replace_at.ensures.runs (c.args.at - 1) c.cell_near-found.result.run c.cell_near-found.ensures) in
+    let joint = sym c.are_joint.ensures ∙ c.if-not-are_joint.false in
+    let is = new_is c.args.text.now old c.args.at c.args.cells.now c.requires.kept f.run b (front m root f) f.spot.offset st (let z = c.if-at-eq0.false in omega (arith, z)) (let l = c.if-found.false in let i = st.inside in omega (arith, l, i)) c.run_of-run.ensures joint new rep in
+    let whole = c.joined-whole.ensures in
+    let leaves = c.args.homes.now.leaves in let after = c.enter.new.self.leaves in
+    let e = c.enter.ensures in let i = c.is_new-is_new.ensures in
+    let new_there = e.sure sure in
+    let home = c.requires.home (i.sure new_there) in
+    let fresh = unknown_new leaves c.args.newest b old (record { text = c.args.text.now; kept = c.requires.kept; upto = c.requires.upto }) home (i.unknown new_there) in
+    let spot = c.cell_near-found.ensures in
+    joined_housed leaves after c.joined-whole.result f.spot.leaf (e.entered sure) m n root c.requires.tree (c.requires.housed (i.sure new_there)) f.run b st.left st.right joint whole st.here
+    (is ∙ ap (λ (x : Run). st.left ++ x ∷ st.right) (sym whole)) home.once (returns-clause-home c sure).once fresh
+    (record { is = spot.is; low = spot.low; entry = f.spot.entry; here = spot.here })
+    (have_cells c.args.text.now old c.requires.kept) c.replace_at.ensures.stay c.replace_at.ensures.room.1
 
 pub returns-clause-apart : goal.returns-clause-apart
 returns-clause-apart c =

@@ -2,6 +2,7 @@ use Rattle.std.proofs.Common.{arith, map, ap, ◌∙◌}
 use Rattle.rt_tree.specs.Shape.{tree_runs}
 use Rattle.rt_tree.specs.Sharing.{run_in}
 use Rattle.rt_tree.proofs.Meeting.{counts_to, kept_to, then_all}
+use Rattle.rt_tree.proofs.Housed.{stamps_then}
 use Rattle.rt_tree.proofs.mark.mark_all.Goals as goal
 
 pub mark_runs-requires-clause-kept : goal.mark_runs-requires-clause-kept
@@ -19,3 +20,6 @@ pub returns-clause-runs : goal.returns-clause-runs
 returns-clause-runs c =
     let p = c.mark_by_homes.ensures.part in
     c.mark_runs.ensures.runs ∙ ap (map (run_in c.args.span c.args.mark.now)) p.1 ∙ then_all c.args.span c.args.mark.now p.0 (tree_runs c.args.mem.now c.args.root.index)
+
+pub returns-clause-stay : goal.returns-clause-stay
+returns-clause-stay c = stamps_then c.args.mem.now c.mark_by_homes.new.mem c.mark_runs.new.mem c.mark_by_homes.ensures.stay c.mark_runs.ensures.stay

@@ -2,6 +2,7 @@ use Rattle.std.proofs.Common.{arith, refl, ◌∙◌}
 use Rattle.rt_tree.specs.Shape.{tree_runs}
 use Rattle.rt_tree.proofs.Cutting.{few_all}
 use Rattle.rt_tree.proofs.Meeting.{at_first, at_last, counts_to, home_to, kept_to}
+use Rattle.rt_tree.proofs.Housed.{stamps_same, stamps_then}
 use Rattle.rt_tree.proofs.mark.mark_by_homes.Goals as goal
 
 pub cells_of-requires-clause-few : goal.cells_of-requires-clause-few
@@ -15,6 +16,7 @@ loop-count-init c = record {
   room = refl;
   told = c.requires.told;
   tags = refl;
+  stay = stamps_same c.args.mem.now;
 }
 
 pub mark_at-requires-clause-kept : goal.mark_at-requires-clause-kept
@@ -38,6 +40,7 @@ loop-count-preserved c =
       room = c.mark_at.ensures.room ∙ i.room;
       told = c.mark_at.ensures.told;
       tags = c.mark_at.ensures.tags ∙ i.tags;
+      stay = stamps_then c.args.mem.now c.loop-count.mem c.mark_at.new.mem i.stay c.mark_at.ensures.stay;
     }
 
 pub loop-count-smaller : goal.loop-count-smaller
@@ -67,3 +70,9 @@ returns-clause-told c = c.loop-count.invariant.told
 
 pub returns-clause-tags : goal.returns-clause-tags
 returns-clause-tags c = c.loop-count.invariant.tags
+
+pub returns-in-None-clause-stay : goal.returns-in-None-clause-stay
+returns-in-None-clause-stay c = stamps_then c.args.mem.now c.loop-count.mem c.mark_at.new.mem c.loop-count.invariant.stay c.mark_at.ensures.stay
+
+pub returns-clause-stay : goal.returns-clause-stay
+returns-clause-stay c = c.loop-count.invariant.stay

@@ -1,6 +1,7 @@
 use Rattle.std.proofs.Common.{◌≡◌, ◌≤◌, ◌+◌, ◌-◌, length, map}
 use Rattle.rt_tree.specs.Homes.{run_to}
 use Rattle.rt_tree.specs.Shape.{IsTree, tree_runs}
+use Rattle.rt_tree.specs.Standing.{StampsStay}
 use Rattle.rt_tree.specs.Summaries.{AreTold}
 use Rattle.rt_tree.proofs.mark.mark_by_homes.Given as goal
 
@@ -12,6 +13,7 @@ invariant-loop-count l = record {
   room : length l.mem.heads + l.mem.room ≡ length l.initial.mem.heads + l.initial.mem.room;
   told : AreTold l.states l.mem l.sums (tree_runs l.mem l.root.index);
   tags : l.sums.tags ≡ l.initial.sums.tags;
+  stay : StampsStay l.initial.mem l.mem;
 }
 
 abbrev pub decreases-loop-count : goal.decreases-loop-count

@@ -9,6 +9,8 @@ use Rattle.rt_tree.proofs.Cutting.{few_all}
 use Rattle.rt_tree.proofs.Marking.{changed_in, changed_out, marked_few}
 use Rattle.rt_tags.specs.States.{IsState}
 use Rattle.rt_tree.proofs.Told.{given_there, marked_given, short_kept}
+use Rattle.rt_tree.specs.Standing.{Stands, StayBut}
+use Rattle.rt_tree.proofs.Housed.{marked_stay}
 use Rattle.rt_tree.proofs.mark.mark_run.Goals as goal
 
 pub found_at-found-requires-clause-few : goal.found_at-found-requires-clause-few
@@ -46,3 +48,9 @@ replace_at-requires-clause-state c =
     let old = tree_runs c.args.mem.now c.args.root.index in let st = c.found_at-found.ensures.run in let table = c.args.states.now in
     let f = c.found_at-found.result in
     subst (λ (x : Run). IsState table x.state) (sym c.marked.ensures) (marked_given table c.args.mark.now f.run c.requires.mark (given_there table old st.left st.right f.run st.here c.requires.told.given))
+
+pub returns-then-is_first_in-clause-stay : goal.returns-then-is_first_in-clause-stay
+returns-then-is_first_in-clause-stay c =
+    let f = c.found_at-found.result in let spot = c.found_at-found.ensures.spot in
+    let stood : Stands c.args.mem.now f.spot.leaf.index f.run = record { is = spot.is; low = spot.low; entry = f.spot.entry; here = spot.here } in
+    marked_stay c.args.mem.now c.replace_at.new.mem f.spot.leaf.index c.args.mark.now f.run stood (subst (StayBut c.args.mem.now c.replace_at.new.mem f.spot.leaf.index) c.marked.ensures c.replace_at.ensures.stay) c.replace_at.ensures.room.1

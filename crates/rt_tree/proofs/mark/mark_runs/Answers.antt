@@ -2,13 +2,14 @@ use Rattle.std.proofs.Common.{refl, arith, ◌∙◌}
 use Rattle.rt_tree.specs.Shape.{tree_runs}
 use Rattle.rt_tree.proofs.Cutting.{few_all}
 use Rattle.rt_tree.proofs.Marking.{all_marked, more_marked, more_some, more_within, none_marked, now_count, now_few, now_kept}
+use Rattle.rt_tree.proofs.Housed.{stamps_same, stamps_then}
 use Rattle.rt_tree.proofs.mark.mark_runs.Goals as goal
 
 pub cells_of-all-requires-clause-few : goal.cells_of-all-requires-clause-few
 cells_of-all-requires-clause-few c = few_all (tree_runs c.args.mem.now c.args.root.index) c.requires.kept c.requires.few
 
 pub loop-at-init : goal.loop-at-init
-loop-at-init c = record { tree = c.requires.tree; marked = none_marked c.args.span c.args.mark.now (tree_runs c.args.mem.now c.args.root.index); room = refl; told = c.requires.told; tags = refl }
+loop-at-init c = record { tree = c.requires.tree; marked = none_marked c.args.span c.args.mark.now (tree_runs c.args.mem.now c.args.root.index); room = refl; told = c.requires.told; tags = refl; stay = stamps_same c.args.mem.now }
 
 pub mark_run-len-requires-clause-tree : goal.mark_run-len-requires-clause-tree
 mark_run-len-requires-clause-tree c = c.loop-at.invariant.tree
@@ -46,6 +47,7 @@ loop-at-preserved c =
       room = c.mark_run-len.ensures.room ∙ c.loop-at.invariant.room;
       told = c.mark_run-len.ensures.told;
       tags = c.mark_run-len.ensures.tags ∙ c.loop-at.invariant.tags;
+      stay = stamps_then c.args.mem.now c.loop-at.mem c.mark_run-len.new.mem c.loop-at.invariant.stay c.mark_run-len.ensures.stay;
     }
 
 pub loop-at-smaller : goal.loop-at-smaller
@@ -75,3 +77,6 @@ returns-clause-told c = c.loop-at.invariant.told
 
 pub returns-clause-tags : goal.returns-clause-tags
 returns-clause-tags c = c.loop-at.invariant.tags
+
+pub returns-clause-stay : goal.returns-clause-stay
+returns-clause-stay c = c.loop-at.invariant.stay

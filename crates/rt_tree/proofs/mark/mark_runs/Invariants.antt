@@ -1,5 +1,6 @@
 use Rattle.std.proofs.Common.{◌≡◌, ◌+◌, ◌-◌, length}
 use Rattle.rt_tree.specs.Shape.{IsTree, tree_runs}
+use Rattle.rt_tree.specs.Standing.{StampsStay}
 use Rattle.rt_tree.specs.Summaries.{AreTold}
 use Rattle.rt_tree.proofs.Marking.{AreMarked}
 use Rattle.rt_tree.proofs.mark.mark_runs.Given as goal
@@ -11,6 +12,7 @@ invariant-loop-at l = record {
   room : length l.mem.heads + l.mem.room ≡ length l.initial.mem.heads + l.initial.mem.room;
   told : AreTold l.states l.mem l.sums (tree_runs l.mem l.root.index);
   tags : l.sums.tags ≡ l.initial.sums.tags;
+  stay : StampsStay l.initial.mem l.mem;
 }
 
 abbrev pub decreases-loop-at : goal.decreases-loop-at

@@ -4,6 +4,7 @@ use Rattle.rt_tree.specs.Shape.{tree_runs}
 use Rattle.rt_tree.specs.Sharing.{long_with, run_in}
 use Rattle.rt_tree.proofs.Housing.{marked_home}
 use Rattle.rt_tree.proofs.Marking.{recut_cells, recut_kept, runs_apart, span_changed}
+use Rattle.rt_tree.proofs.Housed.{marked_housed}
 use Rattle.rt_tree.proofs.mark.mark_span.Goals as goal
 
 pub part_behind-second-requires-clause-kept : goal.part_behind-second-requires-clause-kept
@@ -56,3 +57,8 @@ returns-clause-home c =
     let cut = tree_runs c.part_behind-second.new.mem c.part_behind-second.result.root.index in
     let new = tree_runs c.mark_all.new.mem c.part_behind-second.result.root.index in
     λ sure. marked_home c.part_behind-second.new.homes.leaves c.args.span c.args.mark cut new c.mark_all.ensures.runs (c.part_behind-second.ensures.home sure)
+
+pub returns-clause-housed : goal.returns-clause-housed
+returns-clause-housed c sure =
+    marked_housed c.part_behind-second.new.homes.leaves c.part_behind-second.new.mem c.mark_all.new.mem c.part_behind-second.result.root.index c.args.span c.args.mark
+    c.mark_all.ensures.runs c.mark_all.ensures.stay (c.part_behind-second.ensures.housed sure)

@@ -9,6 +9,7 @@ use Rattle.rt_tree.specs.Shape.{IsShape, Memory, ahead, all_below, behind, level
 use Rattle.rt_tree.specs.Sums.{AreFew, counts_of}
 use Rattle.rt_tree.specs.Summaries.{shown_states}
 use Rattle.rt_tree.proofs.Rooms.{put_at}
+use Rattle.rt_tree.proofs.Standing.{stay_but, stands_insert, stay_insert}
 use Rattle.rt_tree.proofs.Told.{AreGiven, given_insert, insert_few, shown_few, shown_given, told_next}
 use Rattle.rt_tree.proofs.put.insert_at.Goals as goal
 
@@ -69,3 +70,17 @@ returns-clause-told c =
 
 pub returns-clause-tags : goal.returns-clause-tags
 returns-clause-tags c = c.insert_run.ensures.tags ∙ c.make_room-place.ensures.tags
+
+pub returns-clause-longer : goal.returns-clause-longer
+returns-clause-longer c = omega (arith, c.make_room-place.ensures.longer, c.insert_run.ensures.room.1)
+
+pub returns-clause-stay : goal.returns-clause-stay
+returns-clause-stay c =
+    let e = c.make_room-place.ensures in let p = c.make_room-place.result in let m = c.make_room-place.new.mem in
+    let own = stay_insert m c.insert_run.new.mem c.args.height c.args.root.index p.leaf.index p.entry c.args.run e.tree e.leaf.0 c.insert_run.ensures.bare in
+    stay_but c.args.mem.now m c.insert_run.new.mem e.longer e.stay p.leaf.index c.args.run own
+
+pub returns-clause-there : goal.returns-clause-there
+returns-clause-there c =
+    let e = c.make_room-place.ensures in let p = c.make_room-place.result in let m = c.make_room-place.new.mem in
+    stands_insert m c.insert_run.new.mem c.args.height c.args.root.index p.leaf.index p.entry c.args.run e.tree e.leaf.0 e.leaf.1 e.within c.insert_run.ensures.bare

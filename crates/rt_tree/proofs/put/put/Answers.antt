@@ -8,6 +8,7 @@ use Rattle.rt_tree.specs.Sums.{AreFew, counts_of}
 use Rattle.rt_tree.specs.Walks.{IsPutAt}
 use Rattle.rt_tree.proofs.Ends.{known_still}
 use Rattle.rt_tree.proofs.Puts.{few-insert, few-rest, opened, puts, spot_within}
+use Rattle.rt_tree.proofs.Standing.{stay_but}
 use Rattle.rt_tree.proofs.Wholes.{runs-bare, tree-exact, tree-shape, whole, whole_runs}
 use Rattle.rt_tree.proofs.put.put.Goals as goal
 
@@ -126,3 +127,11 @@ pub spot_behind-spot-requires-clause-end : goal.spot_behind-spot-requires-clause
 spot_behind-spot-requires-clause-end c =
     let e = c.top_room-top.ensures in let top = c.top_room-top.result in
     known_still c.still_known-known.result c.args.end c.level_of-height.result top.height c.args.mem.now c.top_room-top.new.mem c.args.root.index top.root.index c.args.at c.still_known-known.ensures c.requires.end (λ is. let s = e.still is in (s.0, ap (λ (x : NodeId). x.index) s.1))
+
+pub returns-clause-longer : goal.returns-clause-longer
+returns-clause-longer c = omega (arith, c.top_room-top.ensures.longer, c.insert_at-leaf.ensures.longer)
+
+pub returns-clause-stay : goal.returns-clause-stay
+returns-clause-stay c =
+    let e = c.top_room-top.ensures in
+    stay_but c.args.mem.now c.top_room-top.new.mem c.insert_at-leaf.new.mem e.longer e.stay c.insert_at-leaf.result.index c.args.run c.insert_at-leaf.ensures.stay

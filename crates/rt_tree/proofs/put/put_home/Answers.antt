@@ -1,6 +1,10 @@
-use Rattle.std.proofs.Common.{sym, ◌∙◌}
+use Rattle.std.proofs.Common.{◌<◌, ◌^◌, arith, length, subst, sym, ◌∙◌}
+use Rattle.rt_tree.specs.Homes.{AreOnceEach}
 use Rattle.rt_tree.specs.Shape.{tree_runs}
+use Rattle.rt_tree.specs.Standing.{HaveLeavesBelow}
 use Rattle.rt_tree.proofs.Housing.{home_more, keeps_more, placed_more, put_holders, unknown_new}
+use Rattle.rt_tree.proofs.Housed.{put_bordered, put_leaves, put_many, put_some, told_some}
+use Rattle.rt_tree.proofs.Skipping.{have_cells}
 use Rattle.rt_tree.proofs.put.put_home.Goals as goal
 
 pub note_new-requires : goal.note_new-requires
@@ -20,3 +24,27 @@ returns-clause-home c =
     (unknown_new leaves c.args.newest run old c.requires.known home (i.unknown is_new))
     (placed_more then after run (e.placed then_sure) n.keeps)
     (keeps_more leaves then after e.keeps n.keeps)
+
+pub returns-clause-housed : goal.returns-clause-housed
+returns-clause-housed c sure =
+    let m = c.args.mem.now in let n = c.put-placed.new.mem in
+    let root = c.args.root.index in let next = c.put-placed.result.root.index in
+    let run = c.args.run in let old = tree_runs m root in
+    let leaves = c.args.homes.now.leaves in let then = c.enter.new.self.leaves in
+    let e = c.enter.ensures in let i = c.is_new-is_new.ensures in
+    let then_sure = sym c.note_new.ensures.sure ∙ sure in
+    let is_new = e.sure then_sure in
+    let home = c.requires.home (i.sure is_new) in
+    let fresh = unknown_new leaves c.args.newest run old c.requires.known home (i.unknown is_new) in
+    let housed = c.requires.housed (i.sure is_new) in
+    let told = e.entered then_sure in
+    let put = c.put-placed.ensures.runs in
+    let once : AreOnceEach (tree_runs n next) = (home_more leaves then run old (tree_runs n next) (put_holders old (tree_runs n next) c.args.at run put) home fresh (e.placed then_sure) e.keeps).once in
+    let some = have_cells c.requires.known.text old c.requires.known.kept in
+    let long = put_many old (tree_runs n next) c.args.at run put in
+    let long_enough : length (tree_runs n next) < 2 ^ 32 = omega (arith, long, c.requires.short) in
+    let nodes = c.nodes-nodes.ensures in
+    c.note_new.ensures.housed next then_sure c.put-placed.ensures.tree long_enough once
+    (put_some old (tree_runs n next) c.args.at run put (told_some leaves then run c.put-placed.result.leaf told) some)
+    (put_bordered leaves then run c.put-placed.result.leaf told m n root next c.args.at c.requires.tree fresh housed some put)
+    (subst (λ k. HaveLeavesBelow k n then) (sym nodes) (put_leaves leaves then run c.put-placed.result.leaf told m n root next c.args.at c.requires.tree fresh housed c.put-placed.ensures.stay))

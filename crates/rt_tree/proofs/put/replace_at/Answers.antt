@@ -11,6 +11,7 @@ use Rattle.rt_tree.specs.Sums.{AreFew, counts_of}
 use Rattle.rt_tree.proofs.Holding.{held_set}
 use Rattle.rt_tree.proofs.Told.{given_replaced, shown_few, shown_given, told_next}
 use Rattle.rt_tree.proofs.Puts.{few_set, replaced, replaced_length, set_at, spot_within}
+use Rattle.rt_tree.proofs.Standing.{stay_set}
 use Rattle.rt_tree.proofs.Wholes.{runs-bare, tree-exact, tree-shape, whole, whole_runs}
 use Rattle.rt_tree.proofs.put.replace_at.Goals as goal
 
@@ -95,3 +96,8 @@ returns-clause-told c =
 pub returns-clause-held : goal.returns-clause-held
 returns-clause-held c before front held =
     held_set c.args.mem.now c.replace_run.new.mem c.args.root.index c.level_of-height.result c.args.spot.leaf.index c.args.spot.entry c.args.run before front c.requires.tree c.level_of-height.ensures c.replace_run.ensures.bare held
+
+pub returns-clause-stay : goal.returns-clause-stay
+returns-clause-stay c =
+    let m = c.args.mem.now in let s = c.args.spot in let r = c.args.root.index in
+    stay_set m c.replace_run.new.mem (level_of m r) r s.leaf.index s.entry c.args.run (tree-shape m r c.requires.tree) c.requires.spot.2.is c.replace_run.ensures.bare

@@ -3,6 +3,7 @@ use Rattle.std.specs.List.{AllByRecursion}
 use Rattle.rt_tags.specs.States.{IsState}
 use Rattle.rt_tree.specs.Summaries.{shown_states}
 use Rattle.rt_tree.proofs.Regrowing.{new_runs, one_kid, root_summed}
+use Rattle.rt_tree.proofs.Standing.{stay_grown}
 use Rattle.rt_tree.proofs.regrow.add_root.Goals as goal
 
 pub gather_at-requires-clause-node : goal.gather_at-requires-clause-node
@@ -32,3 +33,6 @@ pub returns-clause-summed : goal.returns-clause-summed
 returns-clause-summed c =
     root_summed c.args.mem.now c.grow-new.new.mem c.args.height c.args.root.index c.grow-new.result.index c.requires.tree c.requires.exact c.grow-new.ensures.grown c.args.states.now c.args.sums.now.each.items c.requires.summed
     c.gather_at.new.sums.each.items c.gather_at.ensures.gathered c.gather_at.ensures.others
+
+pub returns-clause-stay : goal.returns-clause-stay
+returns-clause-stay c = stay_grown c.args.mem.now c.grow-new.new.mem c.args.height c.args.root.index c.grow-new.result.index c.grow-new.ensures.grown

@@ -3,6 +3,7 @@ use Rattle.std.specs.List.{AllByRecursion}
 use Rattle.rt_tags.specs.States.{IsState}
 use Rattle.rt_tree.specs.Summaries.{shown_states}
 use Rattle.rt_tree.proofs.Parting.{both_summed, kids_back, kids_front, n_is, node_given, node_short, q_is}
+use Rattle.rt_tree.proofs.Standing.{stay_cut}
 use Rattle.rt_tree.proofs.Wholes.{runs-bare, shape-bare}
 use Rattle.rt_tree.proofs.regrow.cut_node.Goals as goal
 
@@ -84,3 +85,6 @@ returns-clause-many c =
 pub returns-clause-tags : goal.returns-clause-tags
 returns-clause-tags c =
     c.gather_at-2.ensures.tags ∙ c.gather_at.ensures.tags
+
+pub returns-clause-stay : goal.returns-clause-stay
+returns-clause-stay c = stay_cut c.args.mem.now c.split-new.new.mem c.args.node.index c.split-new.result.index c.split-new.ensures.halves c.split-new.ensures.others

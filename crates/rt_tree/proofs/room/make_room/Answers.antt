@@ -1,4 +1,4 @@
-use Rattle.std.proofs.Common.{length, arith, ap, ◌∙◌, refl, ◌≡◌}
+use Rattle.std.proofs.Common.{inr, length, arith, ap, ◌∙◌, refl, ◌≡◌}
 use Rattle.std.proofs.lemmas.List.{length-drop, length-take}
 use Rattle.rt_nodes.specs.Nodes.{entries}
 use Rattle.rt_tree.specs.Changes.{bare}
@@ -7,6 +7,7 @@ use Rattle.rt_tree.proofs.Around.{below_top}
 use Rattle.rt_tree.proofs.Fills.{filled_split}
 use Rattle.rt_tree.proofs.Rooms.{first_place, second_place, some_above}
 use Rattle.rt_tree.proofs.Spare.{spare_node}
+use Rattle.rt_tree.proofs.Standing.{stay_then}
 use Rattle.rt_tree.proofs.Told.{shown_few, shown_given, told_split}
 use Rattle.rt_tree.proofs.room.make_room.Goals as goal
 
@@ -65,6 +66,8 @@ returns-then-len-lt16 c = record {
   leaf = c.requires.leaf;
   within = c.requires.within;
   leaf_room = omega (arith, c.len.ensures.value, c.if-len-lt16.true);
+  stay = λ leaf run s. inr s;
+  longer = omega arith;
   place = refl;
   room = refl;
   told = c.requires.told;
@@ -173,3 +176,15 @@ returns-else-i-half-clause-told c =
 
 pub returns-else-i-half-clause-tags : goal.returns-else-i-half-clause-tags
 returns-else-i-half-clause-tags c = c.cut_node-new.ensures.tags ∙ c.make_way.ensures.tags
+
+pub returns-then-i-half-clause-stay : goal.returns-then-i-half-clause-stay
+returns-then-i-half-clause-stay c = stay_then c.args.mem.now c.make_way.new.mem c.cut_node-new.new.mem c.make_way.ensures.longer c.make_way.ensures.stay c.cut_node-new.ensures.stay
+
+pub returns-then-i-half-clause-longer : goal.returns-then-i-half-clause-longer
+returns-then-i-half-clause-longer c = let hv = c.cut_node-new.ensures.halves in omega (arith, c.make_way.ensures.longer, hv.new, hv.longer)
+
+pub returns-else-i-half-clause-stay : goal.returns-else-i-half-clause-stay
+returns-else-i-half-clause-stay c = stay_then c.args.mem.now c.make_way.new.mem c.cut_node-new.new.mem c.make_way.ensures.longer c.make_way.ensures.stay c.cut_node-new.ensures.stay
+
+pub returns-else-i-half-clause-longer : goal.returns-else-i-half-clause-longer
+returns-else-i-half-clause-longer c = let hv = c.cut_node-new.ensures.halves in omega (arith, c.make_way.ensures.longer, hv.new, hv.longer)

@@ -1,4 +1,4 @@
-use Rattle.std.proofs.Common.{◌≡◌, ◌≢◌, ◌-◌, ◌<◌, suc, length, arith, refl, sym, ap, ◌∙◌, subst}
+use Rattle.std.proofs.Common.{inr, ◌≡◌, ◌≢◌, ◌-◌, ◌<◌, suc, length, arith, refl, sym, ap, ◌∙◌, subst}
 use Rattle.rt_nodes.specs.Nodes.{entries}
 use Rattle.rt_tree.specs.Changes.{bare, above}
 use Rattle.rt_tree.specs.Shape.{level_of, parent_of, count_of, runs}
@@ -8,6 +8,7 @@ use Rattle.rt_tree.proofs.Fills.{filled_split}
 use Rattle.rt_tree.proofs.Raise.{length-rows}
 use Rattle.rt_tree.proofs.Spare.{spare_node}
 use Rattle.rt_tree.proofs.Splits.{parent_in}
+use Rattle.rt_tree.proofs.Standing.{stay_then}
 use Rattle.rt_tree.proofs.Told.{shown_few, shown_given, told_split}
 use Rattle.rt_tree.specs.Sums.{AreFew, counts_of}
 use Rattle.rt_tree.proofs.room.make_way.Goals as goal
@@ -26,6 +27,8 @@ loop-level-init c =
       ahead_is = refl;
       runs_are = refl;
       leaf = c.requires.leaf;
+      stay = λ leaf run s. inr s;
+      longer = omega arith;
       told = c.requires.told;
       tags = refl;
       roomy = subst (λ y. length (entries m y) < 16) (sym (above_top (bare m) c.args.height c.args.root.index c.requires.tree c.args.leaf.index c.requires.leaf.0 c.requires.leaf.1)) c.requires.root_room;
@@ -130,6 +133,8 @@ loop-level-preserved-then-len-ge16 c =
       same = st.same x i.leaf.0 (omega (arith, nl, i.leaf.1)) ∙ i.same;
       ahead_is = st.lower (k - 1) h x i.leaf.0 (omega (arith, nl, i.leaf.1)) (ap (λ j. above (bare m) j x) deep ∙ sym c.above-node.ensures) (omega (arith, i.leaf.1)) ∙ i.ahead_is;
       runs_are = c.cut_node.ensures.runs ∙ i.runs_are;
+      stay = stay_then c.args.mem.now m c.cut_node.new.mem i.longer i.stay c.cut_node.ensures.stay;
+      longer = omega (arith, i.longer, hv.new, hv.longer);
       leaf = (omega (arith, i.leaf.0, hv.new, hv.longer), hv.levels x (omega (arith, i.leaf.0, hv.new)) ∙ i.leaf.1);
       roomy = roomy_split m c.cut_node.new.mem h r n c.cut_node.result.index k x i.tree hv i.leaf.0 i.leaf.1 (omega (arith, i.low)) c.above-node.ensures (omega (arith, c.len.ensures.value, c.len.ensures.fits));
       room = i.room;
@@ -157,6 +162,8 @@ loop-level-preserved c =
       ahead_is = i.ahead_is;
       runs_are = i.runs_are;
       leaf = i.leaf;
+      stay = i.stay;
+      longer = i.longer;
       told = i.told;
       tags = i.tags;
       roomy = subst (λ y. length (entries m y) < 16) c.above-node.ensures few;
@@ -181,6 +188,8 @@ returns c =
       filled = i.filled;
       runs = i.runs_are;
       leaf = i.leaf;
+      stay = i.stay;
+      longer = i.longer;
       same = i.same;
       ahead = i.ahead_is;
       way = λ z. let one : c.loop-level.level ≡ 1 = omega (arith, c.loop-level-test.false, i.high z) in

@@ -2,6 +2,7 @@ use Rattle.std.proofs.Common.{◌≡◌, ◌+◌, ◌<◌, ◌≤◌, length}
 use Rattle.rt_nodes.specs.Nodes.{entries}
 use Rattle.rt_tree.specs.Changes.{bare, above, AreExact}
 use Rattle.rt_tree.specs.Shape.{AreFilled, IsShape, ahead, level_of, runs}
+use Rattle.rt_tree.specs.Standing.{Stay}
 use Rattle.rt_tree.specs.Summaries.{AreTold}
 use Rattle.rt_tree.specs.Trees.{HasNodes}
 use Rattle.rt_tree.proofs.room.make_way.Given as goal
@@ -17,6 +18,8 @@ invariant-loop-level l = record {
   same : entries l.mem l.leaf.index ≡ entries l.initial.mem l.leaf.index;
   ahead_is : ahead (bare l.mem) l.height l.leaf.index ≡ ahead (bare l.initial.mem) l.height l.leaf.index;
   runs_are : runs (bare l.mem) l.height l.root.index ≡ runs (bare l.initial.mem) l.height l.root.index;
+  stay : Stay l.initial.mem l.mem;
+  longer : length l.initial.mem.heads ≤ length l.mem.heads;
   told : AreTold l.states l.mem l.sums (runs (bare l.mem) l.height l.root.index);
   tags : l.sums.tags ≡ l.initial.sums.tags;
   leaf : (l.leaf.index < length l.mem.heads) × (level_of (bare l.mem) l.leaf.index ≡ 0);

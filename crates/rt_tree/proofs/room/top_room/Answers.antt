@@ -1,4 +1,4 @@
-use Rattle.std.proofs.Common.{◌≡◌, ℕ, ◌+◌, List, length, get_or, arith, refl, sym, ap, ◌∙◌, subst}
+use Rattle.std.proofs.Common.{inr, ◌≤◌, ◌≡◌, ℕ, ◌+◌, List, length, get_or, arith, refl, sym, ap, ◌∙◌, subst}
 use Rattle.std.specs.List.{AllByRecursion}
 use Rattle.rt_tags.specs.States.{IsState, TagStates}
 use Rattle.rt_tree.specs.declared.node.Entry.{Entry}
@@ -11,6 +11,7 @@ use Rattle.rt_tree.proofs.Told.{shown_few, shown_given, told_split}
 use Rattle.rt_tree.specs.Sums.{AreFew, counts_of}
 use Rattle.rt_tree.proofs.Fills.{filled_root}
 use Rattle.rt_tree.proofs.Spare.{spare_root}
+use Rattle.rt_tree.proofs.Standing.{stay_then}
 use Rattle.rt_tree.proofs.room.top_room.Goals as goal
 
 pub cut_node-requires-clause-node : goal.cut_node-requires-clause-node
@@ -88,6 +89,8 @@ returns-then-len-lt16 c = record {
   runs = refl;
   roomy = omega (arith, c.len.ensures.value, c.if-len-lt16.true);
   height = omega arith;
+  stay = λ leaf run s. inr s;
+  longer = omega arith;
   still = λ _. (refl, refl);
   room = refl;
   told = c.requires.told;
@@ -160,3 +163,12 @@ returns-clause-told c =
 
 pub returns-clause-tags : goal.returns-clause-tags
 returns-clause-tags c = c.cut_node.ensures.tags ∙ c.add_root-top.ensures.tags
+
+pub returns-clause-longer : goal.returns-clause-longer
+returns-clause-longer c = let g = c.add_root-top.ensures.grown in let hv = c.cut_node.ensures.halves in omega (arith, g.new, g.longer, hv.new, hv.longer)
+
+pub returns-clause-stay : goal.returns-clause-stay
+returns-clause-stay c =
+    let g = c.add_root-top.ensures.grown in
+    let longer : length c.args.mem.now.heads ≤ length c.add_root-top.new.mem.heads = omega (arith, g.new, g.longer) in
+    stay_then c.args.mem.now c.add_root-top.new.mem c.cut_node.new.mem longer c.add_root-top.ensures.stay c.cut_node.ensures.stay

@@ -128,7 +128,13 @@ pub put_runs-then-requires-clause-left : goal.put_runs-then-requires-clause-left
 put_runs-then-requires-clause-left c =
     let l = ap length (rest_is c.extend-extended.result.done c.args.cells.now c.extend-extended.ensures.within) ∙ length-drop c.extend-extended.result.done c.args.cells.now in
     let x = c.extend-extended.ensures.left in let y = c.cut_home-first.ensures.left in
-    omega (arith, l, x, y (omega (arith, l, x)))
+    omega (arith, l, x, y, c.requires.left)
+
+pub cut_home-first-requires-clause-housed : goal.cut_home-first-requires-clause-housed
+cut_home-first-requires-clause-housed c = c.extend-extended.ensures.housed
+
+pub put_runs-then-requires-clause-housed : goal.put_runs-then-requires-clause-housed
+put_runs-then-requires-clause-housed c = c.cut_home-first.ensures.housed
 
 pub cut_home-first-requires-clause-told : goal.cut_home-first-requires-clause-told
 cut_home-first-requires-clause-told c = c.extend-extended.ensures.told

@@ -1,5 +1,4 @@
 use Rattle.std.proofs.Common.{ℕ, refl, arith, ◌∙◌, ◌≡◌, ◌+◌, ◌-◌, take, drop, subst}
-use Rattle.std.proofs.lemmas.List.{length-drop}
 use Rattle.std.proofs.lemmas.List.Elements.{All-drop}
 use Rattle.std.specs.Prelude.{IfSome}
 use Rattle.rt_tree.specs.Holds.{IsEndAt}
@@ -22,7 +21,8 @@ loop-done-init c = record {
   told = c.requires.told;
   tags = refl;
   home = c.requires.home;
-  left = let r = c.requires.left in omega (arith, r);
+  housed = c.requires.housed;
+  left = omega arith;
   end = subst (λ at. IfSome c.args.end (IsEndAt c.args.mem.now c.args.root.index at)) (omega arith) c.requires.end;
 }
 
@@ -66,7 +66,8 @@ loop-done-preserved c =
       told = p.told;
       tags = p.tags ∙ l.invariant.tags;
       home = p.home;
-      left = p.left;
+      housed = p.housed;
+      left = let i = l.invariant.left in let s = c.choose-next.ensures.run.run.some in let n = p.left in omega (arith, i, s, n);
       end = tt;
     }
 
@@ -140,15 +141,20 @@ put_home-root-requires-clause-home c = c.loop-done.invariant.home
 
 pub put_home-root-requires-clause-left : goal.put_home-root-requires-clause-left
 put_home-root-requires-clause-left c =
-    let i = c.loop-done.invariant.left in let w = c.choose-next.ensures.run.within in let s = c.choose-next.ensures.run.run.some in
-    let l = length-drop c.loop-done.done c.args.cells.now in let t = c.loop-done-test.true in
-    omega (arith, i, w, s, l, t)
+    let i = c.loop-done.invariant.left in let t = c.loop-done-test.true in
+    omega (arith, i, t, c.requires.left)
+
+pub put_home-root-requires-clause-housed : goal.put_home-root-requires-clause-housed
+put_home-root-requires-clause-housed c = c.loop-done.invariant.housed
 
 pub returns-clause-home : goal.returns-clause-home
 returns-clause-home c = c.loop-done.invariant.home
 
+pub returns-clause-housed : goal.returns-clause-housed
+returns-clause-housed c = c.loop-done.invariant.housed
+
 pub returns-clause-left : goal.returns-clause-left
-returns-clause-left c = let i = c.loop-done.invariant.left in omega (arith, i)
+returns-clause-left c = let i = c.loop-done.invariant.left in let low = c.loop-done.invariant.spliced.low in omega (arith, i, low)
 
 pub put_home-root-requires-clause-told : goal.put_home-root-requires-clause-told
 put_home-root-requires-clause-told c = c.loop-done.invariant.told

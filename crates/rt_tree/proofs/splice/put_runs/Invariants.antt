@@ -5,6 +5,7 @@ use Rattle.rt_tree.specs.Runs.{cells_of}
 use Rattle.rt_tree.specs.Homes.{AreHome}
 use Rattle.rt_tree.specs.Shape.{IsTree, tree_runs}
 use Rattle.rt_tree.specs.Sharing.{AreUpTo}
+use Rattle.rt_tree.specs.Standing.{AreHoused}
 use Rattle.rt_tree.specs.Summaries.{AreTold}
 use Rattle.rt_tree.proofs.Splicing.{IsSpliced}
 use Rattle.rt_tree.proofs.splice.put_runs.Given as goal
@@ -18,7 +19,8 @@ invariant-loop-done l = record {
   told : AreTold l.states l.mem l.sums (tree_runs l.mem l.root.index);
   tags : l.sums.tags ≡ l.initial.sums.tags;
   home : l.homes.sure ≡ true → AreHome l.homes.leaves (tree_runs l.mem l.root.index);
-  left : l.keep + (length l.cells - l.done) ≤ l.homes.left;
+  housed : l.homes.sure ≡ true → AreHoused l.mem l.root.index l.homes.leaves;
+  left : l.initial.homes.left ≤ l.homes.left + l.done;
   end : IfSome l.end (IsEndAt l.mem l.root.index (l.at + l.done));
 }
 

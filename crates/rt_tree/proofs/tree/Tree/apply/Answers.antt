@@ -31,7 +31,8 @@ invariant_of-self c =
       roomy = record { nodes = omega (arith, r.nodes, e.runs, e.more, e.room, cuts, c.requires.room.1); holds = r.holds; few = r.few };
       newest = subst (AreUpTo s.newest) (sym is.cells) (upto_marked s.newest c.args.span c.args.mark (cells_of s.text.items old) c.self.invariant.newest);
       home = e.home;
-      spans = e.left c.self.invariant.spans;
+      housed = e.housed;
+      spans = (let had = c.self.invariant.spans in let left = e.left in omega (arith, had, left, cuts, c.requires.room.1));
       sums = record { many = e.told.many; memory = e.told.memory; tags = let h = c.self.invariant.sums.tags in omega (arith, h, e.tags) };
       counts = counts_are c.mark_span-change.new.mem c.mark_span-change.result.root.index s.text.items (s.runs + c.mark_span-change.result.more) kept c.sum_of-self-inside.result c.sum_of-self-inside.ensures;
       last = tt;

@@ -4,33 +4,18 @@ use Rattle.rt_store.specs.Cells.{position_of, visible_before}
 use Rattle.rt_tree.specs.Runs.{cells_of}
 use Rattle.rt_tree.specs.Shape.{tree_runs}
 use Rattle.rt_tree.specs.Trees.{Shown}
-use Rattle.rt_tree.proofs.Housing.{is_here, is_nowhere, there_at}
-use Rattle.rt_tree.proofs.Kept.{few_runs}
+use Rattle.rt_tree.proofs.Housing.{is_here, there_at}
 use Rattle.rt_tree.proofs.Positions.{visible_there}
 use Rattle.rt_tree.proofs.tree.Tree.place_of.Goals as goal
 
-pub look_up-requires-clause-few : goal.look_up-requires-clause-few
-look_up-requires-clause-few c = let s = c.self.inside in few_runs s.mem s.root.index s.text.items s.runs c.self.invariant.kept
-
-pub returns-in-Nowhere : goal.returns-in-Nowhere
-returns-in-Nowhere c =
-    let s = c.self.inside in
-    let none = c.in-Nowhere.ensures in
-    let all = cells_of s.text.items (tree_runs s.mem s.root.index) in
-    ap (option_map (visible_before all)) (is_nowhere s.text.items (tree_runs s.mem s.root.index) s.homes.leaves c.args.stamp c.self.invariant.kept.kept (c.self.invariant.home none.0) none.1)
-    ∙ ap (λ (x : Shown). option_map (visible_before x.cells) (position_of x.cells c.args.stamp)) c.self.view_is
-
-pub returns-in-At : goal.returns-in-At
-returns-in-At c =
-    let s = c.self.inside in let h = c.in-At.home in let e = c.in-At.ensures in
+pub returns-in-Some : goal.returns-in-Some
+returns-in-Some c =
+    let s = c.self.inside in let h = c.in-Some.home in let e = c.in-Some.ensures in
     let runs = tree_runs s.mem s.root.index in let all = cells_of s.text.items runs in
     let offset = c.args.stamp.count - h.run.first in
-    let here = is_here s.text.items runs s.homes.leaves c.args.stamp c.self.invariant.kept.kept (c.self.invariant.home e.sure) h.run h.before e.home e.with_stamp in
-    let shown = visible_there s.text.items runs h.run h.before offset (h.before.cells + offset) c.self.invariant.kept.kept (there_at runs h.run h.before c.args.stamp e.home e.with_stamp) in
-    ap Some c.place.ensures
+    let here = is_here s.text.items runs s.homes.leaves c.args.stamp c.self.invariant.kept.kept (c.self.invariant.home e.sure) h.run h.before e.home e.has in
+    let shown = visible_there s.text.items runs h.run h.before offset (h.before.cells + offset) c.self.invariant.kept.kept (there_at runs h.run h.before c.args.stamp e.home e.has) in
+    ap Some c.place_in.ensures
     ∙ ap Some shown
     ∙ ap (option_map (visible_before all)) here
     ∙ ap (λ (x : Shown). option_map (visible_before x.cells) (position_of x.cells c.args.stamp)) c.self.view_is
-
-pub look_up-requires-clause-held : goal.look_up-requires-clause-held
-look_up-requires-clause-held c = c.self.invariant.last

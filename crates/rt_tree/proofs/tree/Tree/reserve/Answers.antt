@@ -1,4 +1,5 @@
-use Rattle.std.proofs.Common.{ℕ, ◌≡◌, ◌+◌, ◌-◌, ◌/◌, ◌^◌, ◌<◌, ◌≤◌, max, List, Option, Result, Ok, Err, OnErr, length, arith, sym, ap, ◌∙◌, subst}
+use Rattle.std.proofs.Common.{ℕ, ◌≡◌, ◌+◌, ◌-◌, ◌/◌, ◌^◌, ◌<◌, ◌≤◌, max, min, List, Option, None, Result, Ok, Err, OnErr, length, arith, sym, ap, ◌∙◌, subst}
+use Rattle.std.proofs.Math.Nat.{min-eq_left}
 use Rattle.std.specs.Option.{SomeIff}
 use Rattle.rt_store.specs.Cells.{Room}
 use Rattle.rt_tree.specs.Homes.{AreHome}
@@ -6,12 +7,15 @@ use Rattle.rt_nodes.specs.Nodes.{with_room}
 use Rattle.rt_tree.specs.declared.summary.Summary.{Summary}
 use Rattle.rt_tree.specs.Shape.{Memory, tree_runs}
 use Rattle.rt_tree.specs.Summaries.{TellsAs, summary_of}
+use Rattle.rt_tree.specs.Runs.{cells_of}
 use Rattle.rt_tree.specs.Sharing.{AreUpTo}
+use Rattle.rt_tree.specs.Sound.{IsSound}
 use Rattle.rt_tree.specs.Tallies.{IsCountOf}
 use Rattle.rt_tree.specs.Trees.{IsKept, Shown, shown}
 use Rattle.rt_tree.proofs.Cutting.{runs_few}
 use Rattle.rt_tree.proofs.Housing.{home_keeps}
 use Rattle.rt_tree.proofs.Roomier.{room_kept, room_nodes, room_runs, room_shown, room_sums, sums_shown}
+use Rattle.rt_tree.proofs.Roomier.{map_housed, room_housed}
 use Rattle.rt_tree.proofs.tree.Tree.reserve.Goals as goal
 
 pub overflow_add-self-inside : goal.overflow_add-self-inside
@@ -35,6 +39,7 @@ invariant_of-self-2 c =
     let a = s.text.ok.0 in
     let b = c.reserve-2.new.self.ok.0 in
     let ask : c.in_ok-runs.runs ≡ s.runs + c.ahead-cells.result + c.ahead-cuts.result = (subst (λ (o : Option ℕ). SomeIff o (s.runs + c.ahead-cells.result + c.ahead-cuts.result < 2 ^ 64) (s.runs + c.ahead-cells.result + c.ahead-cuts.result)) c.in_ok-runs.ensures.ok_part c.checked_add.ensures).1 in
+    let fits = (subst (λ (o : Option ℕ). SomeIff o (s.runs + c.ahead-cells.result + c.ahead-cuts.result < 2 ^ 64) (s.runs + c.ahead-cells.result + c.ahead-cuts.result)) c.in_ok-runs.ensures.ok_part c.checked_add.ensures).0 in
     let room : Room = record { cells = c.ahead-cells.result; cuts = c.ahead-cuts.result; tags = c.max-tags.result } in
     let sums = c.reserve-3.new.self in
     let got = c.in_ok-reserve-3.ensures in
@@ -46,7 +51,9 @@ invariant_of-self-2 c =
       newest = subst (AreUpTo s.newest) (sym (ap (λ (v : Shown). v.cells) same)) c.self.invariant.newest;
       home = λ sure. subst (AreHome leaves) (sym (room_runs m _ root s.text.items s.runs c.reserve-4.new.self e))
           (home_keeps s.homes.leaves leaves (tree_runs m root) (λ stamp none. sym (c.in_ok-reserve.ensures.leaves stamp) ∙ none) (c.self.invariant.home (sym c.in_ok-reserve.ensures.sure ∙ sure)));
-      spans = omega (arith, spans, all);
+      housed = λ sure. room_housed m _ root s.text.items s.runs c.reserve-4.new.self e s.homes.leaves leaves c.in_ok-reserve.ensures.leaves c.in_ok-reserve.ensures.borders
+          (c.self.invariant.housed (sym c.in_ok-reserve.ensures.sure ∙ sure));
+      spans = (let low : min (c.ahead-cells.result + c.ahead-cuts.result) (2 ^ 64 - 1) ≡ c.ahead-cells.result + c.ahead-cuts.result = min-eq_left (omega (arith, fits)) in omega (arith, spans, all, low));
       sums = record {
         many = (
             let h = c.self.invariant.sums.many in
@@ -99,3 +106,73 @@ returns-in_err-reserve-4-clause-unchanged c =
     ∙ ap (λ (t : List ℕ). shown s.mem s.root.index t c.reserve-3.new.self.each.items room) c.in_ok-reserve-2.ensures.items
     ∙ sums_shown s.mem s.root.index s.text.items s.sums.each.items c.reserve-3.new.self.each.items room (omega (arith, h)) c.in_ok-reserve-3.ensures.same
     ∙ c.self.view_is)
+
+pub invariant_of-self : goal.invariant_of-self
+invariant_of-self c =
+    let s = c.self.inside in let i = c.self.invariant in let e = c.in_err-reserve.ensures in
+    let leaves = c.reserve.new.self.leaves in
+    record {
+      kept = i.kept;
+      roomy = i.roomy;
+      newest = i.newest;
+      home = λ sure. home_keeps s.homes.leaves leaves (tree_runs s.mem s.root.index) (λ stamp none. sym (e.leaves stamp) ∙ none) (i.home (sym e.sure ∙ sure));
+      housed = λ sure. map_housed s.mem s.root.index s.homes.leaves leaves e.leaves e.borders (i.housed (sym e.sure ∙ sure));
+      spans = (let had = i.spans in let more = e.more in omega (arith, had, more));
+      sums = i.sums;
+      counts = i.counts;
+      last = tt;
+    }
+
+pub invariant_of-self-in_err-reserve-2 : goal.invariant_of-self-in_err-reserve-2
+invariant_of-self-in_err-reserve-2 c =
+    let s = c.self.inside in let i = c.self.invariant in let e = c.in_ok-reserve.ensures in
+    let leaves = c.reserve.new.self.leaves in
+    let same = c.in_err-reserve-2.ensures.items in
+    record {
+      kept = subst (λ t. IsKept s.mem s.root.index t s.runs) (sym same) i.kept;
+      roomy = (let holds = i.roomy.holds in let few = i.roomy.few in let long = ap length same in let wide = c.reserve-2.ensures.capacity in record { nodes = i.roomy.nodes; holds = omega (arith, holds, long, wide); few = omega (arith, few, long) });
+      newest = subst (λ t. AreUpTo s.newest (cells_of t (tree_runs s.mem s.root.index))) (sym same) i.newest;
+      home = λ sure. home_keeps s.homes.leaves leaves (tree_runs s.mem s.root.index) (λ stamp none. sym (e.leaves stamp) ∙ none) (i.home (sym e.sure ∙ sure));
+      housed = λ sure. map_housed s.mem s.root.index s.homes.leaves leaves e.leaves e.borders (i.housed (sym e.sure ∙ sure));
+      spans = (let had = i.spans in let more = e.more in omega (arith, had, more));
+      sums = i.sums;
+      counts = subst (λ t. IsCountOf s.counts (cells_of t (tree_runs s.mem s.root.index))) (sym same) i.counts;
+      last = tt;
+    }
+
+pub invariant_of-self-in_err-reserve-3 : goal.invariant_of-self-in_err-reserve-3
+invariant_of-self-in_err-reserve-3 c =
+    let s = c.self.inside in let i = c.self.invariant in let e = c.in_ok-reserve.ensures in
+    let leaves = c.reserve.new.self.leaves in
+    let same = c.in_ok-reserve-2.ensures.items in
+    let got = c.in_err-reserve-3.ensures in
+    record {
+      kept = subst (λ t. IsKept s.mem s.root.index t s.runs) (sym same) i.kept;
+      roomy = (let holds = i.roomy.holds in let few = i.roomy.few in let long = ap length same in let wide = c.reserve-2.ensures.capacity in record { nodes = i.roomy.nodes; holds = omega (arith, holds, long, wide); few = omega (arith, few, long) });
+      newest = subst (λ t. AreUpTo s.newest (cells_of t (tree_runs s.mem s.root.index))) (sym same) i.newest;
+      home = λ sure. home_keeps s.homes.leaves leaves (tree_runs s.mem s.root.index) (λ stamp none. sym (e.leaves stamp) ∙ none) (i.home (sym e.sure ∙ sure));
+      housed = λ sure. map_housed s.mem s.root.index s.homes.leaves leaves e.leaves e.borders (i.housed (sym e.sure ∙ sure));
+      spans = (let had = i.spans in let more = e.more in omega (arith, had, more));
+      sums = (let many = i.sums.many in let tags = i.sums.tags in record { many = omega (arith, many, got.kept_nodes); memory = got.memory; tags = omega (arith, tags, got.kept_tags) });
+      counts = subst (λ t. IsCountOf s.counts (cells_of t (tree_runs s.mem s.root.index))) (sym same) i.counts;
+      last = tt;
+    }
+
+pub invariant_of-self-in_err-reserve-4 : goal.invariant_of-self-in_err-reserve-4
+invariant_of-self-in_err-reserve-4 c =
+    let s = c.self.inside in let i = c.self.invariant in let e = c.in_ok-reserve.ensures in
+    let leaves = c.reserve.new.self.leaves in
+    let same = c.in_ok-reserve-2.ensures.items in
+    let got = c.in_ok-reserve-3.ensures in
+    subst (λ (m : Memory). IsSound (record { mem = m; root = s.root; text = c.reserve-2.new.self; runs = s.runs; counts = s.counts; newest = s.newest; homes = c.reserve.new.self; spare_cells = s.spare_cells; spare_cuts = s.spare_cuts; spare_tags = s.spare_tags; sums = c.reserve-3.new.self; last = None })) (sym c.in_err-reserve-4.ensures.refused) (
+    record {
+      kept = subst (λ t. IsKept s.mem s.root.index t s.runs) (sym same) i.kept;
+      roomy = (let holds = i.roomy.holds in let few = i.roomy.few in let long = ap length same in let wide = c.reserve-2.ensures.capacity in record { nodes = i.roomy.nodes; holds = omega (arith, holds, long, wide); few = omega (arith, few, long) });
+      newest = subst (λ t. AreUpTo s.newest (cells_of t (tree_runs s.mem s.root.index))) (sym same) i.newest;
+      home = λ sure. home_keeps s.homes.leaves leaves (tree_runs s.mem s.root.index) (λ stamp none. sym (e.leaves stamp) ∙ none) (i.home (sym e.sure ∙ sure));
+      housed = λ sure. map_housed s.mem s.root.index s.homes.leaves leaves e.leaves e.borders (i.housed (sym e.sure ∙ sure));
+      spans = (let had = i.spans in let more = e.more in omega (arith, had, more));
+      sums = (let many = i.sums.many in let tags = i.sums.tags in record { many = omega (arith, many, got.kept_nodes); memory = got.memory; tags = omega (arith, tags, got.kept_tags) });
+      counts = subst (λ t. IsCountOf s.counts (cells_of t (tree_runs s.mem s.root.index))) (sym same) i.counts;
+      last = tt;
+    })

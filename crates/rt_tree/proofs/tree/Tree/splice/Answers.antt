@@ -89,7 +89,8 @@ invariant_of-self c =
       roomy = record { nodes = omega (arith, rn, er, em, eo, cells, cuts, ra, rb); holds = omega (arith, rh, l, cap, cells, ra); few = omega (arith, rf, l, cells, ra) };
       newest = subst (AreUpTo c.newest_of-self-inside.result) (sym shown_cells) (upto_put c.newest_of-self-inside.result c.args.at added (cells_of s.text.items old) (upto_more s.newest c.newest_of-self-inside.result (cells_of s.text.items old) c.newest_of-self-inside.ensures.least c.self.invariant.newest) c.newest_of-self-inside.ensures.cells);
       home = e.home;
-      spans = e.left;
+      housed = e.housed;
+      spans = (let had = c.self.invariant.spans in let left = e.left in omega (arith, had, left, cells, cuts, ra, rb));
       sums = record { many = e.told.many; memory = e.told.memory; tags = let h = c.self.invariant.sums.tags in omega (arith, h, e.tags) };
       counts = subst (IsCountOf c.counts_with-self-inside.result) (sym shown_cells) (c.counts_with-self-inside.ensures c.args.at (cells_of s.text.items old) c.self.invariant.counts);
       last = e.held;
