@@ -295,10 +295,11 @@ impl Pair {
 
     /// The next tagged place of the tree, and how many looks more a counter has then.
     pub(crate) fn search(&self, place: usize, before: u32) -> (Option<usize>, u64) {
-        let tree = self.tree.tree();
-        tree.height();
+        self.tree.height();
         let mut looks = before as u64;
-        let found = tree.find_tagged(&self.states, self.tag, place, &mut looks);
+        let found = self
+            .tree
+            .find_tagged(&self.states, self.tag, place, &mut looks);
         (found, looks.saturating_sub(before as u64))
     }
 
@@ -314,17 +315,15 @@ impl Pair {
 
     /// How many visible characters stand before a stamp's cell in the tree, by a climb, and how many looks more a counter has.
     pub(crate) fn climb(&self, stamp: Stamp, before: u32) -> (Option<usize>, u64) {
-        let tree = self.tree.tree();
-        tree.height();
+        self.tree.height();
         let mut looks = before as u64;
-        let place = tree.climb(stamp, &mut looks);
+        let place = self.tree.climb(stamp, &mut looks);
         (place, looks.saturating_sub(before as u64))
     }
 
     /// How many runs the tree has, and how many levels.
     pub(crate) fn shape(&self) -> (usize, usize) {
-        let tree = self.tree.tree();
-        (tree.runs(), tree.height())
+        (self.tree.runs(), self.tree.height())
     }
 
     /// How many cells there are, and the stamp of one of them.

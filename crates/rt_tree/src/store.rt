@@ -1,8 +1,8 @@
 // A tree as the store of a text.
-ghost use Rattle.std.specs.Prelude.{◌≡◌, ◌∷◌, [], IfOk, IsOkUnless};
-ghost use Rattle.rt_store.specs.Cells.{EndsFinal, final_cell};
-ghost use Rattle.rt_store.specs.Tagged.{AreStates};
-ghost use Rattle.rt_tags.specs.States.{KeepsIds, TagStates};
+ghost use Rattle.std.specs.Prelude.{◌≡◌, ◌+◌, ◌-◌, ◌*◌, ◌<◌, ◌≤◌, ◌^◌, ◌∷◌, [], IfOk, IsOkUnless, Some, length, option_map, slice_get};
+ghost use Rattle.rt_store.specs.Cells.{EndsFinal, final_cell, position_of, visible_before, visible_of};
+ghost use Rattle.rt_store.specs.Tagged.{AreStates, next_tagged};
+ghost use Rattle.rt_tags.specs.States.{IsTag, KeepsIds, TagStates};
 ghost use Rattle.rt_tree.specs.Trees.{Agrees};
 
 use crate::Tree;
@@ -40,11 +40,67 @@ impl TreeStore {
         Ok(TreeStore { tree })
     }
 
-    /// The tree, with its height, its runs, and searches by looks.
+    /// The tree.
     pub fn tree(&self) -> &Tree
         ensures { result.now ≡ self.now.tree }
     {
         &self.tree
+    }
+
+    /// How many levels of nodes the tree has; 1 where the root is a leaf.
+    pub fn height(&self) -> usize
+        ensures value { result ≡ self.now.tree.height }
+        ensures bound { result ≤ 2 ^ 32 }
+        ensures full { 2 ≤ result → 2 * 8 ^ (result - 1) ≤ self.now.tree.runs }
+    {
+        self.tree.height()
+    }
+
+    /// How many runs the cells are kept in.
+    pub fn runs(&self) -> usize
+        ensures { result ≡ self.now.tree.runs }
+    {
+        self.tree.runs()
+    }
+
+    /// The visible cell at a place, as `cell_at` answers. It adds at least one look a level to the counter, and at most sixteen.
+    pub fn find(&self, place: usize, looks: &mut u64) -> Cell<StateId>
+        requires within { place < length (visible_of (cells_of self.now)) }
+        requires room { looks.old + 16 * self.now.tree.height < 2 ^ 64 }
+        ensures cell { slice_get (visible_of (cells_of self.now)) place ≡ Some result }
+        ensures counted { looks.old + self.now.tree.height ≤ looks.new }
+        ensures cost { looks.new ≤ looks.old + 16 * self.now.tree.height }
+    {
+        self.tree.find(place, looks)
+    }
+
+    /// How many visible cells stand before a stamp's cell, as `place_of` answers. At most sixteen looks a level are added to the
+    /// counter (`Tree::climb`).
+    pub fn climb(&self, stamp: Stamp, looks: &mut u64) -> Option<usize>
+        requires room { looks.old + 16 * self.now.tree.height < 2 ^ 64 }
+        ensures place { result ≡ option_map (visible_before (cells_of self.now)) (position_of (cells_of self.now) stamp) }
+        ensures counted { looks.old ≤ looks.new }
+        ensures cost { looks.new ≤ looks.old + 16 * self.now.tree.height }
+    {
+        self.tree.climb(stamp, looks)
+    }
+
+    /// The least place from one up whose character has a tag, as `next_tagged` answers. At most thirty-two looks a level are added
+    /// to the counter.
+    pub fn find_tagged(
+        &self,
+        states: &StateTable,
+        tag: TagId,
+        place: usize,
+        looks: &mut u64,
+    ) -> Option<usize>
+        requires tag { IsTag states.now tag }
+        requires agrees { AgreesWith states.now self.now }
+        requires room { looks.old + 32 * self.now.tree.height < 2 ^ 64 }
+        ensures place { result ≡ next_tagged states.now tag (cells_of self.now) place }
+        ensures cost { looks.new ≤ looks.old + 32 * self.now.tree.height }
+    {
+        self.tree.find_tagged(states, tag, place, looks)
     }
 }
 
