@@ -142,6 +142,13 @@ impl<S: TextStore> Replica<S> {
         &self.store
     }
 
+    /// Says that what follows is about the text around a place (`TextStore::focus`).
+    pub fn focus(&mut self, place: usize)
+        ensures { self.new ≡ self.old }
+    {
+        self.store.focus(place);
+    }
+
     /// The clock, which has seen the greatest last count of the log.
     pub fn clock(&self) -> &Clock
         ensures { result.now ≡ greatest_last_count self.now.log }

@@ -363,6 +363,9 @@ impl TextStore for ListStore {
         previous_place(&self.cells, states, tag, place)
     }
 
+    // A list is gone through from its beginning each time.
+    fn focus(&mut self, _place: usize) {}
+
     fn splice(&mut self, _states: &StateTable, at: usize, cells: &[Cell<StateId>]) {
         insert_all(&mut self.cells, at, cells);
     }

@@ -117,6 +117,13 @@ pub trait TextStore: Drop {
         requires states { agrees self.now states.now }
         ensures { result ≡ previous_tagged states.now tag (list self.now) place };
 
+    /// Says that what follows is about the text around a place, which may then be found sooner. Changes nothing that is
+    /// seen, and takes no memory.
+    fn focus(&mut self, place: usize)
+        ensures list { list self.new ≡ list self.old }
+        ensures room { room self.new ≡ room self.old }
+        ensures agrees { (table : TagStates) → agrees self.old table → agrees self.new table };
+
     /// Puts new cells before the one at a position. Takes no memory.
     fn splice(&mut self, states: &StateTable, at: usize, cells: &[Cell<StateId>])
         requires within { at < length (list self.old) }

@@ -82,6 +82,24 @@ fn same_cells<A: TextStore, B: TextStore>(a: &A, b: &B) -> bool {
     true
 }
 
+// Whether two stores have the same cells and lines at their places.
+fn same_places<A: TextStore, B: TextStore>(a: &A, b: &B) -> bool {
+    if b.visible() != a.visible() || b.lines() != a.lines() {
+        return false;
+    }
+    for place in 0..a.visible() {
+        if b.cell_at(place) != a.cell_at(place) || b.line_of(place) != a.line_of(place) {
+            return false;
+        }
+    }
+    for line in 0..a.lines() {
+        if b.line_start(line + 1) != a.line_start(line + 1) {
+            return false;
+        }
+    }
+    true
+}
+
 // Whether two stores find the same by a stamp.
 fn same_at<A: TextStore, B: TextStore>(a: &A, b: &B, stamp: Stamp) -> bool {
     b.cell_of(stamp) == a.cell_of(stamp) && b.place_of(stamp) == a.place_of(stamp)
@@ -178,6 +196,15 @@ impl Pair {
         put(&mut self.tree, &self.states, random, cells)
     }
 
+    // What follows is about the text around a place, or about none where it is no place of the text.
+    fn focus(&mut self, place: usize)
+        ensures states { self.new.states ≡ self.old.states }
+        ensures tagged { self.new.tagged ≡ self.old.tagged }
+    {
+        self.list.focus(place);
+        self.tree.focus(place);
+    }
+
     // A new cell with the tag.
     #[tactic(auto, using(rt_store::proofs::GivenStates::one_state))]
     fn one(&mut self, random: usize, count: u64, site: u16, ch: char) -> Result<(), Fault> {
@@ -268,6 +295,7 @@ impl Pair {
     /// Whether both have the same cells, and find the same by stamps and by the tag.
     pub(crate) fn is_same(&self) -> bool {
         self.has_same_cells()
+            && same_places(&self.list, &self.tree)
             && same_stamps(&self.list, &self.tree)
             && same_tags(&self.list, &self.tree, &self.states, self.tag)
     }
@@ -371,6 +399,7 @@ fn a_series_of_calls(rt: HostRuntime) -> Result<(), Fail> {
         let random = (seed / 65_536) as usize;
         seed = seed.wrapping_mul(1_664_525).wrapping_add(1_013_904_223);
         pair.turn(random, (seed / 65_536) as usize)?;
+        pair.focus(random % 300);
         assert!(rt; pair.is_same());
     }
     for place in 0..40 {

@@ -118,6 +118,13 @@ impl<S: TextStore> Doc<S> {
         self.replica.log()
     }
 
+    // Says that what follows is about the text around a place (`TextStore::focus`).
+    pub(crate) fn focus(&mut self, place: usize)
+        ensures { self.new ≡ self.old }
+    {
+        self.replica.focus(place);
+    }
+
     // The store, and what the states of its cells mean: the cells of the log, which is a history.
     pub(crate) fn kept(&self) -> (&S, &StateTable)
         ensures cells { map (shown result.1.now) (S.list result.0.now) ≡ self.now.cells }

@@ -10,9 +10,10 @@ use Rattle.rt_tree.specs.declared.node.Run.{Run}
 use Rattle.rt_tree.specs.declared.walk.Spot.{Spot}
 use Rattle.rt_tree.specs.Holds.{IsEndAt, IsHeld}
 use Rattle.rt_tree.specs.Shape.{Memory, ahead, all_below, below, level_of, runs_before}
-use Rattle.rt_tree.specs.Sums.{counts_of}
+use Rattle.rt_tree.specs.Sums.{counts_of, counts_of_run, plus}
 use Rattle.rt_tree.specs.Walks.{IsSpot}
 use Rattle.rt_tree.proofs.Edges.{counts_mid}
+use Rattle.rt_tree.proofs.Measures.{counts-append, plus-none}
 
 -- an end that is known is known while the nodes stay
 pub end_still : (o : Option Spot) (edge : Bool) (m n : Memory) (root now at : ℕ) → IfSome o (IsEndAt m root at) → IfSome o (λ _. edge ≡ true) → (edge ≡ true → (n ≡ m) × (now ≡ root)) → IfSome o (IsEndAt n now at)
@@ -43,6 +44,29 @@ next_spot m root at spot i run end next here some = record {
       let count = counts_mid (before ++ front) end.run [] in
       omega (arith, cut, same, count, end.is.at, end.last, end.next);
   inside = some;
+}
+
+-- what the runs before one count, and itself
+pub counts_with : (m : Memory) (root leaf entry i : ℕ) (run : Run) (front : Counts) → IsHeld m root leaf entry run front → i ≡ entry + 1 → plus front (counts_of_run run) ≡ counts_of (runs_before m root leaf i)
+counts_with m root leaf entry i run front held next =
+    let es = entries m leaf in
+    let before = ahead m (level_of m root) leaf in
+    let first = all_below m 0 (take entry es) in
+    let one : i ≡ suc entry = omega (arith, next) in
+    let cut : runs_before m root leaf i ≡ (before ++ first) ++ run ∷ [] =
+    ap (λ k. before ++ all_below m 0 (take k es)) one ∙ ap (λ l. before ++ l) (taken m es entry run held.here) ∙ sym (append_assoc before first (run ∷ [])) in
+    ap (λ c. plus c (counts_of_run run)) held.before
+    ∙ ap (plus (counts_of (before ++ first))) (sym (plus-none (counts_of_run run)))
+    ∙ sym (counts-append (before ++ first) (run ∷ []))
+    ∙ ap counts_of (sym cut)
+
+-- the run behind one that stands in a leaf stands there too
+pub next_held : (m : Memory) (root leaf entry i : ℕ) (run next : Run) (front : Counts) → IsHeld m root leaf entry run front → i ≡ entry + 1 → slice_get (entries m leaf) i ≡ Some (Here next) → IsHeld m root leaf i next (plus front (counts_of_run run))
+next_held m root leaf entry i run next front held one here = record {
+  is = held.is;
+  low = held.low;
+  here = here;
+  before = counts_with m root leaf entry i run front held one;
 }
 
 -- an end that is known is known if the root has stayed

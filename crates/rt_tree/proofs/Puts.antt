@@ -31,7 +31,7 @@ few-insert l k x few = let h = counts-insert l k x in record { cells = omega (ar
 pub few-rest : (x : Run) (l : List Run) → AreFew (plus (counts_of_run x) (counts_of l)) → AreFew (counts_of l)
 few-rest x l few = record { cells = omega (arith, few.cells); visible = omega (arith, few.visible); newlines = omega (arith, few.newlines) }
 
-some_entry : (es : List Entry) (i : ℕ) (e : Entry) → slice_get es i ≡ Some e → i < length es
+pub some_entry : (es : List Entry) (i : ℕ) (e : Entry) → slice_get es i ≡ Some e → i < length es
 some_entry [] i e is = cc
 some_entry (x ∷ es) zero e is = omega arith
 some_entry (x ∷ es) (suc i) e is = let h = some_entry es i e is in omega (arith, h)

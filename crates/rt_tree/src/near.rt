@@ -1,5 +1,5 @@
 // Runs that are looked for first where one is known to stand.
-ghost use Rattle.std.specs.Prelude.{◌≡◌, ◌+◌, ◌<◌, ◌≤◌, IfSome, length};
+ghost use Rattle.std.specs.Prelude.{◌≡◌, ◌+◌, ◌==◌, ◌<◌, ◌≤◌, IfSome, length};
 ghost use Rattle.rt_nodes.specs.Nodes.{IsNode, entries};
 ghost use Rattle.rt_tree.specs.declared.node.Measure.TheVariants.{Cells};
 ghost use Rattle.rt_tree.specs.Holds.{Holds};
@@ -9,8 +9,8 @@ ghost use Rattle.rt_tree.specs.Walks.{IsSpot, StandsAt};
 
 use crate::find::height;
 use crate::looks::Counted;
-use crate::node::{Counts, Measure, Mem, Run};
-use crate::sums::{amount, counts_of_run};
+use crate::node::{Counts, Entry, Measure, Mem, Run};
+use crate::sums::{amount, counts_of_run, plus};
 use crate::up::rise_from;
 use crate::walk::{Found, Spot, descend_by};
 use rt_nodes::NodeId;
@@ -40,6 +40,66 @@ fn moved(found: &Found, offset: usize) -> Found
     Found { spot, ..*found }
 }
 
+// Whether a run that is known to stand somewhere ends at a place.
+fn ends_at(found: &Found, by: Measure, place: usize) -> bool
+    ensures { result ≡ (amount by found.now.before + amount by (counts_of_run found.now.run) == place) }
+{
+    let before = amount(by, found.before);
+    place >= before && place - before == amount(by, counts_of_run(found.run))
+}
+
+// The run behind one that is known to stand somewhere, if it stands in the same leaf.
+fn behind(mem: &Mem, root: NodeId, found: &Found) -> Option<Found>
+    requires tree { IsTree mem.now root.index }
+    requires few { AreFew (counts_of (tree_runs mem.now root.index)) }
+    requires held { Holds mem.now root.index found.now }
+    ensures { IfSome result (Holds mem.now root.index) }
+{
+    let leaf = found.spot.leaf;
+    let all = mem.len(leaf);
+    let entry = found.spot.entry + 1;
+    if entry >= all {
+        return None;
+    }
+    match *mem.entry(leaf, entry) {
+        Entry::Down(..) => None,
+        Entry::Here(run) => {
+            let before = plus(found.before, counts_of_run(found.run));
+            let spot = Spot {
+                leaf,
+                entry,
+                offset: 0,
+            };
+            Some(Found { spot, run, before })
+        }
+    }
+}
+
+// The run that has a place: one that is known to stand somewhere, or the one behind it in its leaf, if either has it.
+fn known(
+    mem: &Mem,
+    root: NodeId,
+    found: &Found,
+    by: Measure,
+    place: usize,
+) -> Option<Found>
+    requires tree { IsTree mem.now root.index }
+    requires few { AreFew (counts_of (tree_runs mem.now root.index)) }
+    requires held { Holds mem.now root.index found.now }
+    ensures spot { IfSome result (λ there. IsSpot mem.now root.index by place there.spot.leaf.index there.spot.entry there.spot.offset there.run) }
+    ensures held { IfSome result (Holds mem.now root.index) }
+{
+    if let Some(offset) = offset_in(found, by, place) {
+        return Some(moved(found, offset));
+    }
+    if !ends_at(found, by, place) {
+        return None;
+    }
+    let next = behind(mem, root, found)?;
+    let offset = offset_in(&next, by, place)?;
+    Some(moved(&next, offset))
+}
+
 // The run that has a place, with the spot where it stands. It is compiled into its callers, since one that asks for no counts
 // then adds none up.
 #[inline(always)]
@@ -59,8 +119,8 @@ pub(crate) fn found_near(
     ensures held { Holds mem.now root.index result }
 {
     if let Some(found) = last {
-        if let Some(offset) = offset_in(found, by, place) {
-            return moved(found, offset);
+        if let Some(there) = known(mem, root, found, by, place) {
+            return there;
         }
     }
     // Its clause bounds the levels, and so the looks; the value isn't needed.

@@ -185,6 +185,10 @@ impl TextStore for TreeStore {
         self.tree.previous_tagged(states, tag, place)
     }
 
+    fn focus(&mut self, place: usize) {
+        self.tree.focus(place);
+    }
+
     fn splice(&mut self, states: &StateTable, at: usize, cells: &[Cell<StateId>]) {
         self.tree.splice(states, at, cells);
     }

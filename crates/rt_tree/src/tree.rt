@@ -15,7 +15,7 @@ use crate::copy::copy;
 use crate::find::{cell_in, find, has, height};
 use crate::homes::{Homes, Sought, is_leaf};
 use crate::looks::Counted;
-use crate::near::seek_near;
+use crate::near::{found_near, seek_near};
 use crate::node::{Counts, Entry, Head, Measure, Mem, Run};
 use crate::skip::{is_low, passed};
 use crate::summed::Summaries;
@@ -48,7 +48,7 @@ pub struct Tree {
     spare_tags: usize,
     // What is kept for each node of the tags below it.
     sums: Summaries,
-    // The run that got longer last, and where it stands, while no other change was made.
+    // The run that got longer last or was looked for, and where it stands, while no other change was made.
     last: Option<Found>,
 }
 
@@ -201,6 +201,19 @@ impl Tree {
     {
         let found = find(&self.mem, self.root, Measure::Visible, place, looks);
         cell_in(&self.text, &found.run, found.spot.offset)
+    }
+
+    /// Keeps in mind where the visible cell before a place stands, if there is one: until the next change, look-ups of cells
+    /// of its run go there at once.
+    pub fn focus(&mut self, place: usize)
+        ensures { self.new ≡ self.old }
+    {
+        if place == 0 || place > self.counts.visible as usize {
+            return;
+        }
+        let (mem, root) = (&self.mem, self.root);
+        let found = found_near(mem, root, &self.last, Measure::Visible, place - 1);
+        self.last = Some(found);
     }
 
     /// The visible cell at a place.

@@ -27,6 +27,7 @@ impl<S: TextStore> View<S> {
         check_names(pieces)?;
         let (place, stretch) = self.place_within(index)?;
         let place = place.min(stretch.end - stretch.begin - 1);
+        self.doc.focus(stretch.begin + place);
         self.doc.insert_at(
             &mut self.widget,
             &mut self.others,

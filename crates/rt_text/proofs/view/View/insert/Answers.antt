@@ -8,6 +8,7 @@ use Rattle.std.proofs.lemmas.Result.{err_from_is_err_and, on_err_weaker}
 use Rattle.rt_stamps.specs.declared.fault.Fault.TheVariants.{NoMemory}
 use Rattle.rt_stamps.specs.Outcomes.{first_of}
 use Rattle.rt_store.specs.Cells.{text_of}
+use Rattle.rt_edits.specs.Flat.{Flat}
 use Rattle.rt_text.specs.Parts.{own_in}
 use Rattle.rt_text.specs.Commands.{with_pieces_at}
 use Rattle.rt_store.specs.Shown.{TaggedCell}
@@ -40,12 +41,14 @@ insert_at-requires-clause-place g c =
     let view = c.args.self.now in
     let stretch = c.in_ok-place.stretch in
     let size = shown_size view stretch c.in_ok-place.ensures.stretch c.in_ok-place.ensures.within in
-    subst (λ (v : Viewed). c.min-place.result < length (shown_by v)) (sym c.self.view_is)
+    let there = ap (λ (d : Flat). viewed d c.self.inside.widget (map own_in c.self.inside.others.items)) c.focus.ensures ∙ c.self.view_is in
+    subst (λ (v : Viewed). c.min-place.result < length (shown_by v)) (sym there)
     (omega (arith, size, length-map (shown_by view) (λ (cell : TaggedCell). cell.ch), c.min-place.ensures, c.in_ok-place.ensures.some))
 
 pub insert_at-requires-clause-others : goal.insert_at-requires-clause-others
 insert_at-requires-clause-others g c =
-    subst (λ (l : List Parts). AllByRecursion (IsOwnOf (length (text_of c.self.inside.doc.cells))) (map own_in l)) (sym c.deref_mut.ensures.value) c.self.invariant.others
+    subst (λ (d : Flat). AllByRecursion (IsOwnOf (length (text_of d.cells))) (map own_in c.deref_mut.result.now)) (sym c.focus.ensures)
+    (subst (λ (l : List Parts). AllByRecursion (IsOwnOf (length (text_of c.self.inside.doc.cells))) (map own_in l)) (sym c.deref_mut.ensures.value) c.self.invariant.others)
 
 pub returns-clause-ok : goal.returns-clause-ok
 returns-clause-ok g c =
@@ -53,8 +56,9 @@ returns-clause-ok g c =
     let index = c.args.index.now in
     let pieces = c.args.pieces.now in
     let rest = c.args.rest.now in
-    let same : viewed c.self.inside.doc c.self.inside.widget (map own_in c.deref_mut.result.now) ≡ view =
-    ap (λ l. viewed c.self.inside.doc c.self.inside.widget (map own_in l)) c.deref_mut.ensures.value ∙ c.self.view_is in
+    let there = ap (λ (d : Flat). viewed d c.self.inside.widget (map own_in c.self.inside.others.items)) c.focus.ensures ∙ c.self.view_is in
+    let same : viewed c.focus.new.self c.self.inside.widget (map own_in c.deref_mut.result.now) ≡ view =
+    ap (λ l. viewed c.focus.new.self c.self.inside.widget (map own_in l)) c.deref_mut.ensures.value ∙ there in
     let at = c.min-place.result in
     let place : at ≡ min c.in_ok-place.place (length_shown view - 1) =
     c.min-place.ensures ∙ ap (λ n. min c.in_ok-place.place (n - 1)) (shown_size view c.in_ok-place.stretch c.in_ok-place.ensures.stretch c.in_ok-place.ensures.within) in
@@ -63,7 +67,7 @@ returns-clause-ok g c =
     both_done c.insert_at.result
     (λ made checked. done_by view index pieces rest c.in_ok-place.place at edited c.in_ok-check_names.ensures.ok c.in_ok-place.ensures.ok place
     (ap (λ l. viewed c.insert_at.new.self c.insert_at.new.widget (map own_in l)) back ∙ made ∙ ap (λ (v : Viewed). with_pieces_at v at pieces rest) same)
-    (ap (λ (v : Viewed). first_of (late_checks v.doc edited)) (sym c.self.view_is) ∙ checked))
+    (ap (λ (v : Viewed). first_of (late_checks v.doc edited)) (sym there) ∙ checked))
     c.insert_at.ensures.ok c.insert_at.ensures.checked
 
 pub returns-clause-err : goal.returns-clause-err
@@ -72,8 +76,9 @@ returns-clause-err g c =
     let index = c.args.index.now in
     let pieces = c.args.pieces.now in
     let rest = c.args.rest.now in
-    let same : viewed c.self.inside.doc c.self.inside.widget (map own_in c.deref_mut.result.now) ≡ view =
-    ap (λ l. viewed c.self.inside.doc c.self.inside.widget (map own_in l)) c.deref_mut.ensures.value ∙ c.self.view_is in
+    let there = ap (λ (d : Flat). viewed d c.self.inside.widget (map own_in c.self.inside.others.items)) c.focus.ensures ∙ c.self.view_is in
+    let same : viewed c.focus.new.self c.self.inside.widget (map own_in c.deref_mut.result.now) ≡ view =
+    ap (λ l. viewed c.focus.new.self c.self.inside.widget (map own_in l)) c.deref_mut.ensures.value ∙ there in
     let at = c.min-place.result in
     let place : at ≡ min c.in_ok-place.place (length_shown view - 1) =
     c.min-place.ensures ∙ ap (λ n. min c.in_ok-place.place (n - 1)) (shown_size view c.in_ok-place.stretch c.in_ok-place.ensures.stretch c.in_ok-place.ensures.within) in
@@ -82,8 +87,9 @@ returns-clause-err g c =
 
 pub returns-clause-unchanged : goal.returns-clause-unchanged
 returns-clause-unchanged g c =
-    let same : viewed c.self.inside.doc c.self.inside.widget (map own_in c.deref_mut.result.now) ≡ c.args.self.now =
-    ap (λ l. viewed c.self.inside.doc c.self.inside.widget (map own_in l)) c.deref_mut.ensures.value ∙ c.self.view_is in
+    let there = ap (λ (d : Flat). viewed d c.self.inside.widget (map own_in c.self.inside.others.items)) c.focus.ensures ∙ c.self.view_is in
+    let same : viewed c.focus.new.self c.self.inside.widget (map own_in c.deref_mut.result.now) ≡ c.args.self.now =
+    ap (λ l. viewed c.focus.new.self c.self.inside.widget (map own_in l)) c.deref_mut.ensures.value ∙ there in
     let back : (with_items c.self.inside.others c.insert_at.new.others).items ≡ c.insert_at.new.others = with_items_is c.self.inside.others c.insert_at.new.others (omega (arith, c.insert_at.auto.others, c.deref_mut.ensures.len)) in
     on_err_weaker c.insert_at.result
     (λ kept. ap (λ l. viewed c.insert_at.new.self c.insert_at.new.widget (map own_in l)) back ∙ (λ i. viewed (kept.0 i) (kept.1 i) (kept.2 i)) ∙ same)
@@ -97,10 +103,12 @@ invariant_of-self g c =
     record { own = c.insert_at.ensures.own; others = subst (λ (l : List Parts). AllByRecursion (IsOwnOf n) (map own_in l)) (sym back) c.insert_at.ensures.others }
 
 pub insert_at-requires-clause-own : goal.insert_at-requires-clause-own
-insert_at-requires-clause-own g c = c.self.invariant.own
+insert_at-requires-clause-own g c = subst (λ (d : Flat). IsOwnOf (length (text_of d.cells)) c.self.inside.widget) (sym c.focus.ensures) c.self.invariant.own
 
 pub insert_at-requires-clause-pieces : goal.insert_at-requires-clause-pieces
 insert_at-requires-clause-pieces g c = c.in_ok-check_names.ensures.pieces
 
 pub insert_at-requires-clause-stretch : goal.insert_at-requires-clause-stretch
-insert_at-requires-clause-stretch g c = c.in_ok-place.ensures.stretch ∙ sym (ap stretch_by c.self.view_is)
+insert_at-requires-clause-stretch g c =
+    let there = ap (λ (d : Flat). viewed d c.self.inside.widget (map own_in c.self.inside.others.items)) c.focus.ensures ∙ c.self.view_is in
+    c.in_ok-place.ensures.stretch ∙ sym (ap stretch_by there)
