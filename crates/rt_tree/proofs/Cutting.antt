@@ -76,6 +76,9 @@ module _ (old mid : List Run) (run : Run) (front : Counts) (offset at : ℕ) (st
       let a = ap (λ l. (counts_of l).cells) mid_is ∙ counts_mid st.left (back_of offset run) st.right in
       omega (arith, a, left_cells, st.inside)
 
+  pub mid_edge : IsEdge (lengths mid) (at - offset)
+  mid_edge = subst (λ l. IsEdge (lengths l) (at - offset)) (sym mid_is) (edge_there st.left (back_of offset run ∷ st.right) (at - offset) (omega (arith, left_cells)))
+
   module _ (new : List Run) (put : IsPutAt mid new (at - offset) (front_of offset run)) where
     again : IsSameSpot st.left (back_of offset run) st.right put.was.left put.next put.was.right
     again =

@@ -1,26 +1,23 @@
 -- Spots at which runs are known to end.
-use Rattle.std.proofs.Common.{◌≡◌, ℕ, zero, suc, ◌+◌, ◌<◌, List, [], ◌∷◌, ◌++◌, Option, Some, None, true, Bool, take, slice_get, sym, ap, subst, ◌∙◌, arith, append_assoc}
-use Rattle.std.specs.Prelude.{IfSome}
+use Rattle.std.proofs.Common.{◌≡◌, ◌≢◌, inl, inr, ℕ, zero, suc, ◌+◌, ◌<◌, List, [], ◌∷◌, ◌++◌, Option, Some, None, take, slice_get, sym, ap, subst, ◌∙◌, arith, append_assoc}
+use Rattle.std.specs.Prelude.{IfSome, MatchOption}
+use Rattle.std.proofs.lemmas.Bool.{cases_eq}
 use Rattle.rt_nodes.specs.Nodes.{entries}
 use Rattle.rt_tree.specs.declared.node.Counts.{Counts}
 use Rattle.rt_tree.specs.declared.node.Entry.{Entry}
 use Rattle.rt_tree.specs.declared.node.Entry.TheVariants.{Here}
 use Rattle.rt_tree.specs.declared.node.Measure.TheVariants.{Cells}
 use Rattle.rt_tree.specs.declared.node.Run.{Run}
+use Rattle.rt_tree.specs.declared.put.Known.{Known}
+use Rattle.rt_tree.specs.declared.put.Known.TheVariants.{Behind, Nothing}
+use Rattle.rt_tree.specs.declared.walk.Found.{Found}
 use Rattle.rt_tree.specs.declared.walk.Spot.{Spot}
-use Rattle.rt_tree.specs.Holds.{IsEndAt, IsHeld}
+use Rattle.rt_tree.specs.Holds.{Holds, HoldsAt, IsEndAt, IsHeld}
 use Rattle.rt_tree.specs.Shape.{Memory, ahead, all_below, below, level_of, runs_before}
 use Rattle.rt_tree.specs.Sums.{counts_of, counts_of_run, plus}
 use Rattle.rt_tree.specs.Walks.{IsSpot}
 use Rattle.rt_tree.proofs.Edges.{counts_mid}
 use Rattle.rt_tree.proofs.Measures.{counts-append, plus-none}
-
--- an end that is known is known while the nodes stay
-pub end_still : (o : Option Spot) (edge : Bool) (m n : Memory) (root now at : ℕ) → IfSome o (IsEndAt m root at) → IfSome o (λ _. edge ≡ true) → (edge ≡ true → (n ≡ m) × (now ≡ root)) → IfSome o (IsEndAt n now at)
-end_still None edge m n root now at end known still = tt
-end_still (Some spot) edge m n root now at end known still =
-    let s = still known in
-    subst (λ (x : Memory). IsEndAt x now at spot) (sym s.0) (subst (λ r. IsEndAt m r at spot) (sym s.1) end)
 
 -- the runs of the first entries of a leaf, and one more
 taken : (m : Memory) (es : List Entry) (i : ℕ) (run : Run) → slice_get es i ≡ Some (Here run) → all_below m 0 (take (suc i) es) ≡ all_below m 0 (take i es) ++ run ∷ []
@@ -69,13 +66,37 @@ next_held m root leaf entry i run next front held one here = record {
   before = counts_with m root leaf entry i run front held one;
 }
 
--- an end that is known is known if the root has stayed
-pub known_still : (o end : Option Spot) (old now : ℕ) (m n : Memory) (root top at : ℕ) → IfSome o (λ spot. (end ≡ Some spot) × (now ≡ old)) → IfSome end (IsEndAt m root at) → (now ≡ old → (n ≡ m) × (top ≡ root)) → IfSome o (IsEndAt n top at)
-known_still None end old now m n root top at known is still = tt
-known_still (Some spot) end old now m n root top at known is still =
-    let s = still known.1 in
-    let here = subst (λ (x : Option Spot). IfSome x (IsEndAt m root at)) known.0 is in
-    subst (λ (x : Memory). IsEndAt x top at spot) (sym s.0) (subst (λ r. IsEndAt m r at spot) (sym s.1) here)
+-- what is known is known if the root has stayed
+pub known_still : (was known : Known) (old now : ℕ) (m n : Memory) (root top at : ℕ) → (now ≡ old → known ≡ was) → (now ≢ old → known ≡ Nothing) → HoldsAt m root at was → (now ≡ old → (n ≡ m) × (top ≡ root)) → HoldsAt n top at known
+known_still was known old now m n root top at same dropped is still = elim (cases_eq now old) [
+  | inl e ↦
+      let s = still e in
+      let here = subst (HoldsAt m root at) (sym (same e)) is in
+      subst (λ (x : Memory). HoldsAt x top at known) (sym s.0) (subst (λ r. HoldsAt m r at known) (sym s.1) here)
+  | inr ne ↦ subst (HoldsAt n top at) (sym (dropped ne)) tt
+]
+
+-- a run is known to begin behind an end that is known
+pub known_behind : (end : Option Spot) (known : Known) (m : Memory) (root at : ℕ) → MatchOption end (known ≡ Nothing) (λ spot. known ≡ Behind spot) → IfSome end (IsEndAt m root at) → HoldsAt m root at known
+known_behind None known m root at is end = subst (HoldsAt m root at) (sym is) tt
+known_behind (Some spot) known m root at is end = subst (HoldsAt m root at) (sym is) end
+
+-- a run that is known to stand somewhere does while the nodes stay
+pub held_still : (last held : Option Found) (done : ℕ) (m n : Memory) (root : ℕ) → (done ≡ 0 → held ≡ last) → (0 < done → held ≡ None) → IfSome last (Holds m root) → (done ≡ 0 → n ≡ m) → IfSome held (Holds n root)
+held_still last held done m n root same dropped is still = elim (cases_eq done 0) [
+  | inl e ↦ subst (λ (x : Memory). IfSome held (Holds x root)) (sym (still e)) (subst (λ (o : Option Found). IfSome o (Holds m root)) (sym (same e)) is)
+  | inr ne ↦ subst (λ (o : Option Found). IfSome o (Holds n root)) (sym (dropped (omega (arith, ne)))) tt
+]
+
+-- the last cell of a run that stands at a spot
+pub spot_end : (m : Memory) (root place at leaf entry offset : ℕ) (run : Run) → IsSpot m root Cells place leaf entry 0 run → offset + 1 ≡ run.len → place + run.len ≡ at → IsEndAt m root at (record { leaf = record { index = leaf }; entry = entry; offset = offset })
+spot_end m root place at leaf entry offset run spot last next = record {
+  run = run;
+  place = place + offset;
+  is = record { is = spot.is; low = spot.low; here = spot.here; at = omega (arith, spot.at); inside = omega (arith, last) };
+  last = last;
+  next = omega (arith, last, next);
+}
 
 -- the front of a run that is kept where it stands
 pub kept_front : (m : Memory) (root : ℕ) (spot here : Spot) (run : Run) (front : Counts) → IsHeld m root here.leaf.index here.entry run front → here.leaf.index ≡ spot.leaf.index → here.entry ≡ spot.entry → front ≡ counts_of (runs_before m root spot.leaf.index spot.entry)

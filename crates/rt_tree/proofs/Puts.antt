@@ -9,14 +9,16 @@ use Rattle.rt_tree.specs.declared.node.Measure.TheVariants.{Cells}
 use Rattle.rt_tree.specs.declared.node.Run.{Run}
 use Rattle.rt_tree.specs.Changes.{AreExact, bare, links}
 use Rattle.rt_tree.specs.Shape.{AreFilled, IsShape, IsTree, Memory, ahead, all_below, behind, below, level_of, runs, runs_before, tree_runs}
+use Rattle.rt_tree.specs.Stretches.{IsEdge, lengths}
 use Rattle.rt_tree.specs.Sums.{AreFew, counts_of, counts_of_run, plus}
 use Rattle.rt_tree.specs.Walks.{IsPutAt, IsReplacedAt, IsSpot, StandsAt}
 use Rattle.rt_tree.proofs.Around.{regroup}
 use Rattle.rt_tree.proofs.Down.{each-take}
+use Rattle.rt_tree.proofs.Edges.{stands_first}
 use Rattle.rt_tree.proofs.Measures.{Le}
 use Rattle.rt_tree.proofs.NewLeaf.{IsLeafEntry, leaf-entries}
 use Rattle.rt_tree.proofs.Rooms.{insert_at_end, length-leaf}
-use Rattle.rt_tree.proofs.Stands.{stands}
+use Rattle.rt_tree.proofs.Stands.{parted, stands}
 use Rattle.rt_tree.proofs.Wholes.{ahead-bare, behind-bare, flat-bare, below-bare, runs-bare, tree-exact, tree-shape, whole, whole_runs}
 
 -- one more run adds what it counts
@@ -64,6 +66,41 @@ module _ (m : Memory) (root : ℕ) (t : IsTree m root) where
         was = was;
         is = is ∙ ap (λ l. insert l (length (ahead (bare m) (level_of m root) leaf) + entry) run) was.here ∙ insert_at_end (runs_before m root leaf entry) (next ∷ was.right) (length (ahead (bare m) (level_of m root) leaf) + entry) run long;
       }
+
+same_front : (a b c d : List Run) → a ++ b ≡ c ++ d → length a ≡ length c → a ≡ c
+same_front [] b [] d same long = refl
+same_front [] b (y ∷ c) d same long = absurd (omega (arith, long))
+same_front (x ∷ a) b [] d same long = absurd (omega (arith, long))
+same_front (x ∷ a) b (y ∷ c) d same long =
+    let head : x ≡ y = cc in
+    let tail : a ++ b ≡ c ++ d = cc in
+    let rest = same_front a b c d tail (omega (arith, long)) in
+    λ i. head i ∷ rest i
+
+-- a run that was put in where one begins stands at the place that it was given
+pub put_spot : (m n : Memory) (root : ℕ) → IsTree m root → IsTree n root → (x i offset at : ℕ) (next run : Run) → IsSpot m root Cells at x i offset next
+    → tree_runs n root ≡ insert (tree_runs m root) (length (ahead (bare m) (level_of m root) x) + i) run
+    → (leaf entry : ℕ) → leaf < length n.heads → level_of n leaf ≡ 0 → slice_get (entries n leaf) entry ≡ Some (Here run)
+    → length (ahead (bare n) (level_of n root) leaf) + entry ≡ length (ahead (bare m) (level_of m root) x) + i
+    → IsEdge (lengths (tree_runs m root)) at → 0 < run.len → IsSpot n root Cells at leaf entry 0 run
+put_spot m n root t s x i offset at next run spot is leaf entry within low here place edge some =
+    let was = stands m root t Cells at x i offset next (counts_of (runs_before m root x i)) spot refl in
+    let first = stands_first (tree_runs m root) next (counts_of (runs_before m root x i)) offset at was edge in
+    let lt = spot_within m root at x i offset next spot in
+    let long = before-length m root t x i spot.is spot.low (omega (arith, lt)) in
+    let now = parted n root s leaf entry run (counts_of (runs_before n root leaf entry)) within low here refl in
+    let inside = some_entry (entries n leaf) entry (Here run) here in
+    let new_long = before-length n root s leaf entry within low (omega (arith, inside)) in
+    let cut = is ∙ ap (λ l. insert l (length (ahead (bare m) (level_of m root) x) + i) run) was.here ∙ insert_at_end (runs_before m root x i) (next ∷ was.right) (length (ahead (bare m) (level_of m root) x) + i) run long in
+    let same = same_front (runs_before n root leaf entry) (run ∷ now.right) (runs_before m root x i) (run ∷ next ∷ was.right) (sym now.here ∙ cut) (omega (arith, long, new_long, place)) in
+    let count = ap (λ l. (counts_of l).cells) same in
+    record {
+      is = within;
+      low = low;
+      here = here;
+      at = omega (arith, count, first.1);
+      inside = some;
+    }
 
 -- what is known once the root has room
 pub record IsOpened (m0 m1 : Memory) (root0 root1 height : ℕ) : Type 0 where

@@ -6,10 +6,10 @@ use Rattle.rt_tree.specs.declared.node.Entry.{Entry}
 use Rattle.rt_tree.specs.declared.node.Entry.TheVariants.{Down, Here}
 use Rattle.rt_tree.specs.declared.node.Run.{Run}
 use Rattle.rt_tree.specs.Changes.{AreHalves, IsGrown, bare, links}
-use Rattle.rt_tree.specs.Shape.{IsShape, Memory, all_below, level_of, runs}
+use Rattle.rt_tree.specs.Shape.{IsShape, Memory, ahead, all_below, level_of, runs}
 use Rattle.rt_tree.specs.Standing.{Stands, Stay, StayBut}
 use Rattle.rt_tree.proofs.Bares.{bare-entries}
-use Rattle.rt_tree.proofs.Frame.{new-at}
+use Rattle.rt_tree.proofs.Frame.{ahead-same, new-at}
 use Rattle.rt_tree.proofs.Holding.{here_at}
 use Rattle.rt_tree.proofs.Wholes.{runs-bare}
 
@@ -150,15 +150,15 @@ module _ (m n : Memory) where
     stay_insert is = stay_own height root at (insert (entries m at) i (Here own)) own t there is (λ run j here. among_insert run (entries m at) own i j here)
 
     -- the one that was put in stands there
-    pub stands_insert : level_of m at ≡ 0 → i ≤ length (entries m at) → bare n ≡ with_entries (bare m) at (links (insert (entries m at) i (Here own))) → Stands n at own
-    stands_insert low le is = record {
-      is = let same = ap (λ (b : Memory). length b.heads) is in omega (arith, there, same);
-      low = ap (λ (b : Memory). level_of b at) is ∙ low;
-      entry = i;
-      here = here_at (entries n at) (insert (entries m at) i (Here own)) i own
-          (sym (bare-entries n at) ∙ ap (λ (b : Memory). entries b at) is ∙ new-at (bare m) height root t at there (links (insert (entries m at) i (Here own))))
-          (insert_get (entries m at) i (Here own) le);
-    }
+    pub here_insert : i ≤ length (entries m at) → bare n ≡ with_entries (bare m) at (links (insert (entries m at) i (Here own))) → slice_get (entries n at) i ≡ Some (Here own)
+    here_insert le is =
+        here_at (entries n at) (insert (entries m at) i (Here own)) i own
+        (sym (bare-entries n at) ∙ ap (λ (b : Memory). entries b at) is ∙ new-at (bare m) height root t at there (links (insert (entries m at) i (Here own))))
+        (insert_get (entries m at) i (Here own) le)
+
+    -- what stands before its leaf has stayed
+    pub ahead_insert : level_of m at ≡ 0 → bare n ≡ with_entries (bare m) at (links (insert (entries m at) i (Here own))) → ahead (bare n) height at ≡ ahead (bare m) height at
+    ahead_insert low is = ap (λ b. ahead b height at) is ∙ ahead-same (bare m) height root t at there (links (insert (entries m at) i (Here own))) height 0 at there (omega arith) (omega (arith, low)) refl
 
     pub stay_set : bare n ≡ with_entries (bare m) at (links (set (entries m at) i (Here own))) → StayBut m n at own
     stay_set is = stay_own height root at (set (entries m at) i (Here own)) own t there is (λ run j here. among_set run (entries m at) own i j here)

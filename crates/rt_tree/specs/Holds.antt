@@ -5,6 +5,8 @@ use Rattle.rt_tree.specs.declared.node.Counts.{Counts}
 use Rattle.rt_tree.specs.declared.node.Entry.TheVariants.{Here}
 use Rattle.rt_tree.specs.declared.node.Measure.TheVariants.{Cells}
 use Rattle.rt_tree.specs.declared.node.Run.{Run}
+use Rattle.rt_tree.specs.declared.put.Known.{Known}
+use Rattle.rt_tree.specs.declared.put.Known.TheVariants.{At, Behind, Nothing}
 use Rattle.rt_tree.specs.declared.walk.Found.{Found}
 use Rattle.rt_tree.specs.declared.walk.Spot.{Spot}
 use Rattle.rt_tree.specs.Shape.{Memory, level_of, runs_before}
@@ -25,6 +27,12 @@ pub record IsEndAt (m : Memory) (root at : ℕ) (spot : Spot) : Type 0 where
   pub is : IsSpot m root Cells place spot.leaf.index spot.entry spot.offset run
   pub last : spot.offset + 1 ≡ run.len
   pub next : place + 1 ≡ at
+
+-- what is known of the cell at a position is so: a run ends before it at a spot, or it is at a spot itself
+abbrev pub HoldsAt : Memory → ℕ → ℕ → Known → Type 0
+HoldsAt m root at Nothing = Unit {0}
+HoldsAt m root at (Behind spot) = IsEndAt m root at spot
+HoldsAt m root at (At spot) = (run : Run) × IsSpot m root Cells at spot.leaf.index spot.entry spot.offset run
 
 -- a spot that was found is its run's
 abbrev pub Holds : Memory → ℕ → Found → Type 0

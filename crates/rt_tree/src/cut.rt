@@ -2,6 +2,7 @@
 ghost use Rattle.std.specs.Prelude.{◌≡◌, ◌+◌, ◌<◌, ◌≤◌, ◌^◌, ◌&&◌, nat_lt, length, true, IfSome, MatchOption, None};
 ghost use Rattle.std.specs.List.{AllByRecursion};
 ghost use Rattle.rt_stamps.specs.declared.limits.TheConstants.{MOST_CELLS};
+ghost use Rattle.rt_tree.specs.Holds.{Holds, IsEndAt};
 ghost use Rattle.rt_tree.specs.Homes.{AreHome};
 ghost use Rattle.rt_tree.specs.Runs.{has};
 ghost use Rattle.rt_tree.specs.Shape.{IsTree, tree_runs};
@@ -14,9 +15,11 @@ ghost use Rattle.rt_tree.specs.Trees.{HasNodes};
 
 use crate::find::{cells_of, has, seek, sum_of};
 use crate::homes::Homes;
+use crate::near::found_near;
 use crate::node::{Measure, Mem, Run};
-use crate::put::{found_at, put, replace_at};
+use crate::put::{Known, put, replace_at};
 use crate::summed::Summaries;
+use crate::walk::{Found, Spot};
 use rt_nodes::NodeId;
 use rt_stamps::Stamp;
 use rt_tags::StateTable;
@@ -28,11 +31,12 @@ pub(crate) struct Change {
     pub(crate) more: usize,
 }
 
-// The same, and the run that was put in with the leaf where it stands, if there is one.
+// The same, and the run that was put in with the leaf where it stands, if there is one, and the spot of its last cell.
 #[derive(Clone, Copy)]
 pub(crate) struct Parted {
     pub(crate) change: Change,
     pub(crate) front: Option<Front>,
+    pub(crate) end: Option<Spot>,
 }
 
 // The first cells of a run that was cut in two, and the leaf in which they stand.
@@ -44,11 +48,12 @@ pub(crate) struct Front {
 
 // No run was put in.
 fn uncut(root: NodeId) -> Parted
-    ensures { result ≡ record { change = record { root = root; more = 0 }; front = None } }
+    ensures { result ≡ record { change = record { root = root; more = 0 }; front = None; end = None } }
 {
     Parted {
         change: Change { root, more: 0 },
         front: None,
+        end: None,
     }
 }
 
@@ -77,19 +82,28 @@ fn back_of(run: Run, count: u32) -> Run
     }
 }
 
-// Sees to it that a run begins or ends at a position.
+// The spot of the first cell of a spot's run.
+fn begin_of(spot: Spot) -> Spot
+    ensures { result ≡ record spot { offset = 0 } }
+{
+    Spot { offset: 0, ..spot }
+}
+
+// Sees to it that a run begins or ends at a position; `last` is a run that is known to stand somewhere.
 pub(crate) fn cut(
     mem: &mut Mem,
     sums: &mut Summaries,
     states: &StateTable,
     root: NodeId,
     at: usize,
+    last: &Option<Found>,
 ) -> Parted
     requires tree { IsTree mem.old root.index }
     requires kept { AreKept (tree_runs mem.old root.index) }
     requires few { (counts_of (tree_runs mem.old root.index)).cells ≤ MOST_CELLS }
     requires within { at ≤ (counts_of (tree_runs mem.old root.index)).cells }
     requires room { HasNodes mem.old (length (tree_runs mem.old root.index)) }
+    requires held { IfSome last.now (Holds mem.old root.index) }
     requires told { AreTold states.now mem.old sums.old (tree_runs mem.old root.index) }
     ensures tree { IsTree mem.new result.change.root.index }
     ensures recut { IsRecut (tree_runs mem.old root.index) (tree_runs mem.new result.change.root.index) }
@@ -98,6 +112,7 @@ pub(crate) fn cut(
     ensures runs { length (tree_runs mem.new result.change.root.index) ≡ length (tree_runs mem.old root.index) + result.change.more }
     ensures more { result.change.more ≤ 1 }
     ensures still { result.front ≡ None → (mem.new ≡ mem.old) × (result.change.root ≡ root) }
+    ensures end { IfSome result.end (IsEndAt mem.new result.change.root.index at) }
     ensures parted { IfSome result.front (λ front. IsParted mem.old mem.new root.index result.change.root.index front.run front.leaf.index) }
     ensures room { length mem.new.heads + mem.new.room ≡ length mem.old.heads + mem.old.room }
     ensures told { AreTold states.now mem.new sums.new (tree_runs mem.new result.change.root.index) }
@@ -109,7 +124,7 @@ pub(crate) fn cut(
     if at == sum_of(mem, root).cells as usize {
         return uncut(root);
     }
-    let found = found_at(mem, root, at);
+    let found = found_near(mem, root, last, Measure::Cells, at);
     let offset = found.spot.offset;
     if offset == 0 {
         return uncut(root);
@@ -118,7 +133,13 @@ pub(crate) fn cut(
     let front = front_of(found.run, offset as u32);
     let first = front;
     replace_at(mem, sums, states, root, found.spot, back);
-    let placed = put(mem, sums, states, root, at - offset, None, first);
+    let known = Known::At(begin_of(found.spot));
+    let placed = put(mem, sums, states, root, at - offset, known, first);
+    let end = Spot {
+        leaf: placed.leaf,
+        entry: placed.entry,
+        offset: offset - 1,
+    };
     Parted {
         change: Change {
             root: placed.root,
@@ -128,11 +149,19 @@ pub(crate) fn cut(
             run: front,
             leaf: placed.leaf,
         }),
+        end: Some(end),
     }
 }
 
-// The same, and tells where the stamps are of runs that are in another leaf now. Nothing is done where a run is known to
-// begin or end there.
+// The root after a cut, how many runs were put in, and the spot of the last cell of the run that ends there, if that is known.
+#[derive(Clone, Copy)]
+pub(crate) struct Ended {
+    pub(crate) change: Change,
+    pub(crate) end: Option<Spot>,
+}
+
+// Cuts, and tells where the stamps are of runs that are in another leaf now. Nothing is done where a run is known to begin or
+// end there; `end` is the spot of the last cell of the run that ends there, where this is known.
 pub(crate) fn cut_home(
     mem: &mut Mem,
     sums: &mut Summaries,
@@ -140,8 +169,10 @@ pub(crate) fn cut_home(
     root: NodeId,
     at: usize,
     is_edge: bool,
+    end: Option<Spot>,
+    last: &Option<Found>,
     homes: &mut Homes,
-) -> Change
+) -> Ended
     requires tree { IsTree mem.old root.index }
     requires kept { AreKept (tree_runs mem.old root.index) }
     requires few { (counts_of (tree_runs mem.old root.index)).cells ≤ MOST_CELLS }
@@ -151,31 +182,37 @@ pub(crate) fn cut_home(
     requires housed { homes.old.sure ≡ true → AreHoused mem.old root.index homes.old.leaves }
     requires left { 0 < homes.old.left }
     requires edge { is_edge ≡ true → IsEdge (lengths (tree_runs mem.old root.index)) at }
+    requires end { IfSome end (IsEndAt mem.old root.index at) }
+    requires held { IfSome last.now (Holds mem.old root.index) }
     requires told { AreTold states.now mem.old sums.old (tree_runs mem.old root.index) }
-    ensures tree { IsTree mem.new result.root.index }
-    ensures recut { IsRecut (tree_runs mem.old root.index) (tree_runs mem.new result.root.index) }
-    ensures edge { IsEdge (lengths (tree_runs mem.new result.root.index)) at }
-    ensures parts { AreParts (tree_runs mem.old root.index) (tree_runs mem.new result.root.index) at }
-    ensures runs { length (tree_runs mem.new result.root.index) ≡ length (tree_runs mem.old root.index) + result.more }
-    ensures more { result.more ≤ 1 }
+    ensures tree { IsTree mem.new result.change.root.index }
+    ensures recut { IsRecut (tree_runs mem.old root.index) (tree_runs mem.new result.change.root.index) }
+    ensures edge { IsEdge (lengths (tree_runs mem.new result.change.root.index)) at }
+    ensures parts { AreParts (tree_runs mem.old root.index) (tree_runs mem.new result.change.root.index) at }
+    ensures runs { length (tree_runs mem.new result.change.root.index) ≡ length (tree_runs mem.old root.index) + result.change.more }
+    ensures more { result.change.more ≤ 1 }
     ensures room { length mem.new.heads + mem.new.room ≡ length mem.old.heads + mem.old.room }
-    ensures home { homes.new.sure ≡ true → AreHome homes.new.leaves (tree_runs mem.new result.root.index) }
-    ensures housed { homes.new.sure ≡ true → AreHoused mem.new result.root.index homes.new.leaves }
+    ensures home { homes.new.sure ≡ true → AreHome homes.new.leaves (tree_runs mem.new result.change.root.index) }
+    ensures housed { homes.new.sure ≡ true → AreHoused mem.new result.change.root.index homes.new.leaves }
     ensures left { homes.old.left ≤ homes.new.left + 1 }
-    ensures told { AreTold states.now mem.new sums.new (tree_runs mem.new result.root.index) }
+    ensures told { AreTold states.now mem.new sums.new (tree_runs mem.new result.change.root.index) }
     ensures tags { sums.new.tags ≡ sums.old.tags }
-    ensures still { is_edge ≡ true → (mem.new ≡ mem.old) × (result.root ≡ root) }
+    ensures end { IfSome result.end (IsEndAt mem.new result.change.root.index at) }
+    ensures still { is_edge ≡ true → (mem.new ≡ mem.old) × (result.change.root ≡ root) }
 {
     if is_edge {
-        return Change { root, more: 0 };
+        return Ended {
+            change: Change { root, more: 0 },
+            end,
+        };
     }
     let nodes = mem.nodes();
-    let Parted { change, front } = cut(mem, sums, states, root, at);
+    let Parted { change, front, end } = cut(mem, sums, states, root, at, last);
     if let Some(front) = front {
         homes.place(&front.run, front.leaf);
         homes.note_new(mem, nodes);
     }
-    change
+    Ended { change, end }
 }
 
 // Whether a run has a stamp and doesn't begin with it.
@@ -256,6 +293,9 @@ pub(crate) fn part(
 {
     match inside(mem, root, stamp, homes) {
         None => Change { root, more: 0 },
-        Some(at) => cut_home(mem, sums, states, root, at, false, homes),
+        Some(at) => {
+            let last = None;
+            cut_home(mem, sums, states, root, at, false, None, &last, homes).change
+        }
     }
 }

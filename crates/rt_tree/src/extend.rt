@@ -146,6 +146,7 @@ pub(crate) fn extend(
     ensures housed { homes.new.sure ≡ true → AreHoused mem.new root.index homes.new.leaves }
     ensures left { homes.old.left ≤ homes.new.left + result.done }
     ensures room { length mem.new.heads + mem.new.room ≡ length mem.old.heads + mem.old.room }
+    ensures still { result.done ≡ 0 → mem.new ≡ mem.old }
     ensures held { IfSome result.last (Holds mem.new root.index) }
     ensures told { AreTold states.now mem.new sums.new (tree_runs mem.new root.index) }
     ensures tags { sums.new.tags ≡ sums.old.tags }

@@ -1,17 +1,19 @@
 // Runs put in, and put in place of others.
-ghost use Rattle.std.specs.Prelude.{◌≡◌, ℕ, ◌+◌, ◌*◌, ◌<◌, ◌≤◌, ◌^◌, IfSome, Some, insert, length, slice_get, true};
+ghost use Rattle.std.specs.Prelude.{◌≡◌, ◌≢◌, ℕ, ◌+◌, ◌*◌, ◌<◌, ◌≤◌, ◌^◌, IfSome, MatchOption, Some, insert, length, slice_get, true};
 ghost use Rattle.rt_nodes.specs.Nodes.{IsNode, entries};
 ghost use Rattle.rt_tags.specs.States.{IsState};
 ghost use Rattle.rt_tree.specs.declared.node.Counts.{Counts};
 ghost use Rattle.rt_tree.specs.declared.node.Entry.TheVariants.{Here};
 ghost use Rattle.rt_tree.specs.declared.node.Measure.TheVariants.{Cells};
 ghost use Rattle.rt_tree.specs.declared.node.Run.{Run};
+ghost use Rattle.rt_tree.specs.declared.put.Known.TheVariants.{Behind, Nothing};
 ghost use Rattle.rt_tree.specs.Changes.{AreExact, bare};
-ghost use Rattle.rt_tree.specs.Holds.{IsEndAt, IsHeld};
+ghost use Rattle.rt_tree.specs.Holds.{HoldsAt, IsEndAt, IsHeld};
 ghost use Rattle.rt_tree.specs.Homes.{AreHome};
 ghost use Rattle.rt_tree.specs.Shape.{AreFilled, IsShape, IsTree, ahead, level_of, runs, tree_runs};
 ghost use Rattle.rt_tree.specs.Sharing.{AreKnown};
 ghost use Rattle.rt_tree.specs.Standing.{AreHoused, Stands, StayBut};
+ghost use Rattle.rt_tree.specs.Stretches.{IsEdge, lengths};
 ghost use Rattle.rt_tree.specs.Summaries.{AreTold};
 ghost use Rattle.rt_tree.specs.Sums.{AreFew, amount, counts_of, counts_of_run, plus};
 ghost use Rattle.rt_tree.specs.Trees.{HasNodes};
@@ -21,14 +23,14 @@ use crate::homes::Homes;
 use crate::looks::Counted;
 use crate::node::{Entry, Measure, Mem, Run};
 use crate::resum::{insert_run, replace_run};
-use crate::room::{Top, make_room, top_room};
+use crate::room::{Place, Top, make_room, top_room};
 use crate::settle::level_of;
 use crate::summed::Summaries;
 use crate::walk::{Found, Spot, descend_by};
 use rt_nodes::NodeId;
 use rt_tags::StateTable;
 
-// Puts a run in at a place of a leaf, the root having room, and tells the leaf where it now is.
+// Puts a run in at a place of a leaf, the root having room, and tells the place where it now is.
 fn insert_at(
     mem: &mut Mem,
     sums: &mut Summaries,
@@ -38,7 +40,7 @@ fn insert_at(
     leaf: NodeId,
     i: usize,
     run: Run,
-) -> NodeId
+) -> Place
     requires tree { IsShape (bare mem.old) height root.index }
     requires exact { AreExact mem.old }
     requires filled { AreFilled mem.old root.index }
@@ -57,8 +59,10 @@ fn insert_at(
     ensures filled { AreFilled mem.new root.index }
     ensures runs { runs (bare mem.new) height root.index
         ≡ insert (runs (bare mem.old) height root.index) (length (ahead (bare mem.old) height leaf.index) + i) run }
-    ensures stay { StayBut mem.old mem.new result.index run }
-    ensures there { Stands mem.new result.index run }
+    ensures stay { StayBut mem.old mem.new result.leaf.index run }
+    ensures leaf { (result.leaf.index < length mem.new.heads) × (level_of (bare mem.new) result.leaf.index ≡ 0) }
+    ensures here { slice_get (entries mem.new result.leaf.index) result.entry ≡ Some (Here run) }
+    ensures place { length (ahead (bare mem.new) height result.leaf.index) + result.entry ≡ length (ahead (bare mem.old) height leaf.index) + i }
     ensures longer { length mem.old.heads ≤ length mem.new.heads }
     ensures room { length mem.new.heads + mem.new.room ≡ length mem.old.heads + mem.old.room }
     ensures told { AreTold states.now mem.new sums.new (runs (bare mem.new) height root.index) }
@@ -75,7 +79,27 @@ fn insert_at(
         place.entry,
         run,
     );
-    place.leaf
+    place
+}
+
+// What is known of the cell at a position.
+#[derive(Clone, Copy)]
+pub(crate) enum Known {
+    Nothing,
+    // The spot of the cell before it, which is the last of its run.
+    Behind(Spot),
+    // The spot of the cell itself.
+    At(Spot),
+}
+
+// What is known where the spot of the cell before may be, which is the last of its run.
+pub(crate) fn behind(end: Option<Spot>) -> Known
+    ensures { MatchOption end (result ≡ Nothing) (λ spot. result ≡ Behind spot) }
+{
+    match end {
+        None => Known::Nothing,
+        Some(spot) => Known::Behind(spot),
+    }
 }
 
 // The run that has the cell at a position, with the spot where it stands.
@@ -122,54 +146,72 @@ fn next_entry(mem: &Mem, spot: Spot) -> Option<usize>
     }
 }
 
-// The spot of the cell at a position; `end` is that of the cell before it, where this is known to be the last of its run.
-fn spot_behind(mem: &Mem, root: NodeId, at: usize, end: Option<Spot>) -> Spot
+// The spot of the cell at a position; `end` is that of the cell before it, which is the last of its run.
+fn spot_behind(mem: &Mem, root: NodeId, at: usize, end: Spot) -> Spot
     requires tree { IsTree mem.now root.index }
     requires few { AreFew (counts_of (tree_runs mem.now root.index)) }
     requires within { at < (counts_of (tree_runs mem.now root.index)).cells }
-    requires end { IfSome end (IsEndAt mem.now root.index at) }
+    requires end { IsEndAt mem.now root.index at end }
     ensures { (run : Run) × IsSpot mem.now root.index Cells at result.leaf.index result.entry result.offset run }
 {
-    if let Some(spot) = end {
-        if let Some(entry) = next_entry(mem, spot) {
-            return Spot {
-                leaf: spot.leaf,
-                entry,
-                offset: 0,
-            };
-        }
+    match next_entry(mem, end) {
+        None => spot_of(mem, root, at),
+        Some(entry) => Spot {
+            leaf: end.leaf,
+            entry,
+            offset: 0,
+        },
     }
-    spot_of(mem, root, at)
 }
 
-// A spot that was known, unless a new root was put above it.
-fn still_known(end: Option<Spot>, height: u32, top: &Top) -> Option<Spot>
-    ensures { IfSome result (λ spot. (end ≡ Some spot) × (top.now.height ≡ height)) }
+// The spot of the cell at a position, of which something may be known.
+fn spot_known(mem: &Mem, root: NodeId, at: usize, known: Known) -> Spot
+    requires tree { IsTree mem.now root.index }
+    requires few { AreFew (counts_of (tree_runs mem.now root.index)) }
+    requires within { at < (counts_of (tree_runs mem.now root.index)).cells }
+    requires known { HoldsAt mem.now root.index at known }
+    ensures { (run : Run) × IsSpot mem.now root.index Cells at result.leaf.index result.entry result.offset run }
 {
-    if top.height == height { end } else { None }
+    match known {
+        Known::Nothing => spot_of(mem, root, at),
+        Known::Behind(end) => spot_behind(mem, root, at, end),
+        Known::At(spot) => spot,
+    }
 }
 
-// The root after a run was put in, and the leaf that the run is in.
+// What was known, unless a new root was put above.
+fn still_known(known: Known, height: u32, top: &Top) -> Known
+    ensures still { top.now.height ≡ height → result ≡ known }
+    ensures dropped { top.now.height ≢ height → result ≡ Nothing }
+{
+    if top.height == height {
+        known
+    } else {
+        Known::Nothing
+    }
+}
+
+// The root after a run was put in, and the entry of a leaf that the run is.
 #[derive(Clone, Copy)]
 pub(crate) struct Placed {
     pub(crate) root: NodeId,
     pub(crate) leaf: NodeId,
+    pub(crate) entry: usize,
 }
 
-// Puts a run in before the one that has the cell at a position; `end` is the spot of the cell before it, where this is known to
-// be the last of its run. The root may now be another node.
+// Puts a run in before the one that has the cell at a position. The root may now be another node.
 pub(crate) fn put(
     mem: &mut Mem,
     sums: &mut Summaries,
     states: &StateTable,
     root: NodeId,
     at: usize,
-    end: Option<Spot>,
+    known: Known,
     run: Run,
 ) -> Placed
     requires tree { IsTree mem.old root.index }
     requires within { at < (counts_of (tree_runs mem.old root.index)).cells }
-    requires end { IfSome end (IsEndAt mem.old root.index at) }
+    requires hint { HoldsAt mem.old root.index at known }
     requires few { AreFew (plus (counts_of_run run) (counts_of (tree_runs mem.old root.index))) }
     requires height { level_of mem.old root.index + 1 < 2 ^ 32 }
     requires room { HasNodes mem.old (length (tree_runs mem.old root.index)) }
@@ -180,6 +222,8 @@ pub(crate) fn put(
     ensures runs { IsPutAt (tree_runs mem.old root.index) (tree_runs mem.new result.root.index) at run }
     ensures stay { StayBut mem.old mem.new result.leaf.index run }
     ensures there { Stands mem.new result.leaf.index run }
+    ensures spot { IsEdge (lengths (tree_runs mem.old root.index)) at → 0 < run.len
+        → IsSpot mem.new result.root.index Cells at result.leaf.index result.entry 0 run }
     ensures longer { length mem.old.heads ≤ length mem.new.heads }
     ensures room { length mem.new.heads + mem.new.room ≡ length mem.old.heads + mem.old.room }
     ensures told { AreTold states.now mem.new sums.new (tree_runs mem.new result.root.index) }
@@ -187,14 +231,15 @@ pub(crate) fn put(
 {
     let height = level_of(mem, root);
     let top = top_room(mem, sums, states, root, height);
-    let known = still_known(end, height, &top);
-    let spot = spot_behind(mem, top.root, at, known);
-    let leaf = insert_at(
+    let known = still_known(known, height, &top);
+    let spot = spot_known(mem, top.root, at, known);
+    let place = insert_at(
         mem, sums, states, top.root, top.height, spot.leaf, spot.entry, run,
     );
     Placed {
         root: top.root,
-        leaf,
+        leaf: place.leaf,
+        entry: place.entry,
     }
 }
 
@@ -205,14 +250,14 @@ pub(crate) fn put_home(
     states: &StateTable,
     root: NodeId,
     at: usize,
-    end: Option<Spot>,
+    known: Known,
     run: Run,
     homes: &mut Homes,
     newest: u64,
 ) -> NodeId
     requires tree { IsTree mem.old root.index }
     requires within { at < (counts_of (tree_runs mem.old root.index)).cells }
-    requires end { IfSome end (IsEndAt mem.old root.index at) }
+    requires hint { HoldsAt mem.old root.index at known }
     requires few { AreFew (plus (counts_of_run run) (counts_of (tree_runs mem.old root.index))) }
     requires height { level_of mem.old root.index + 1 < 2 ^ 32 }
     requires room { HasNodes mem.old (length (tree_runs mem.old root.index)) }
@@ -235,7 +280,7 @@ pub(crate) fn put_home(
 {
     let is_new = homes.is_new(newest, &run);
     let nodes = mem.nodes();
-    let placed = put(mem, sums, states, root, at, end, run);
+    let placed = put(mem, sums, states, root, at, known, run);
     homes.enter(&run, placed.leaf, is_new);
     homes.note_new(mem, nodes);
     placed.root

@@ -1,5 +1,5 @@
 // New cells put in.
-ghost use Rattle.std.specs.Prelude.{◌≡◌, ◌+◌, ◌<◌, ◌≤◌, ◌^◌, ◌∷◌, ◌&&◌, true, nat_lt, IfSome, drop, length};
+ghost use Rattle.std.specs.Prelude.{◌≡◌, ◌+◌, ◌<◌, ◌≤◌, ◌^◌, ◌∷◌, ◌&&◌, true, nat_lt, IfSome, None, drop, length};
 ghost use Rattle.std.specs.List.{AllByRecursion, list_any};
 ghost use Rattle.rt_stamps.specs.declared.limits.TheConstants.{MOST_CELLS};
 ghost use Rattle.rt_store.specs.Cells.{put_at};
@@ -16,12 +16,12 @@ ghost use Rattle.rt_tree.specs.Summaries.{AreTold};
 ghost use Rattle.rt_tree.specs.Sums.{counts_of};
 ghost use Rattle.rt_tree.specs.Trees.{HasNodes};
 
-use crate::cut::{Change, cut_home};
+use crate::cut::{Change, Ended, cut_home};
 use crate::extend::extend;
 use crate::find::{cells_of, first_stamp, has, seek};
 use crate::homes::Homes;
 use crate::node::{Measure, Mem, Run};
-use crate::put::put_home;
+use crate::put::{behind, put_home};
 use crate::summed::Summaries;
 use crate::walk::{Found, Spot};
 use rt_nodes::NodeId;
@@ -286,7 +286,7 @@ fn put_runs(
             states,
             root,
             at + done,
-            end,
+            behind(end),
             next.run,
             homes,
             newest,
@@ -306,6 +306,14 @@ pub(crate) struct Grown {
     pub(crate) root: NodeId,
     pub(crate) more: usize,
     pub(crate) last: Option<Found>,
+}
+
+// A run that is known to stand somewhere, unless a run got longer by so many cells.
+fn still_there(last: &Option<Found>, done: usize) -> Option<Found>
+    ensures still { done ≡ 0 → result ≡ last.now }
+    ensures dropped { 0 < done → result ≡ None }
+{
+    if done == 0 { *last } else { None }
 }
 
 // Puts cells in at a position; their characters are the last of the text.
@@ -362,12 +370,21 @@ pub(crate) fn put_cells(
         };
     }
     let rest = &cells[done..];
-    let edge = extended.is_edge;
     let place = at + done;
-    let first = cut_home(mem, sums, states, root, place, edge, homes);
+    let last = still_there(last, done);
+    let Ended { change: first, end } = cut_home(
+        mem,
+        sums,
+        states,
+        root,
+        place,
+        extended.is_edge,
+        extended.end,
+        &last,
+        homes,
+    );
     let newest = newest_of(newest, &cells[..done]);
     let root = first.root;
-    let end = extended.end;
     let then = put_runs(
         mem, sums, states, root, text, place, rest, newest, homes, end,
     );

@@ -8,5 +8,5 @@ cut_home-requires-clause-within c = inside_low (tree_runs c.args.mem.now c.args.
 
 pub returns-in-Some-clause-begins : goal.returns-in-Some-clause-begins
 returns-in-Some-clause-begins c =
-    let old = tree_runs c.args.mem.now c.args.root.index in let new = tree_runs c.cut_home.new.mem c.cut_home.result.root.index in
+    let old = tree_runs c.args.mem.now c.args.root.index in let new = tree_runs c.cut_home.new.mem c.cut_home.result.change.root.index in
     inside_begins c.requires.kept.text old new c.args.stamp c.in-Some.at c.requires.kept.runs c.requires.apart c.in-Some.ensures c.cut_home.ensures.parts

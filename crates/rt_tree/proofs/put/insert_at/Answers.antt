@@ -9,7 +9,7 @@ use Rattle.rt_tree.specs.Shape.{IsShape, Memory, ahead, all_below, behind, level
 use Rattle.rt_tree.specs.Sums.{AreFew, counts_of}
 use Rattle.rt_tree.specs.Summaries.{shown_states}
 use Rattle.rt_tree.proofs.Rooms.{put_at}
-use Rattle.rt_tree.proofs.Standing.{stay_but, stands_insert, stay_insert}
+use Rattle.rt_tree.proofs.Standing.{ahead_insert, here_insert, stay_but, stay_insert}
 use Rattle.rt_tree.proofs.Told.{AreGiven, given_insert, insert_few, shown_few, shown_given, told_next}
 use Rattle.rt_tree.proofs.put.insert_at.Goals as goal
 
@@ -80,7 +80,18 @@ returns-clause-stay c =
     let own = stay_insert m c.insert_run.new.mem c.args.height c.args.root.index p.leaf.index p.entry c.args.run e.tree e.leaf.0 c.insert_run.ensures.bare in
     stay_but c.args.mem.now m c.insert_run.new.mem e.longer e.stay p.leaf.index c.args.run own
 
-pub returns-clause-there : goal.returns-clause-there
-returns-clause-there c =
+pub returns-clause-leaf : goal.returns-clause-leaf
+returns-clause-leaf c =
+    let leaf = c.make_room-place.ensures.leaf in let is = c.insert_run.ensures.bare in let long = c.insert_run.ensures.room.1 in
+    (omega (arith, leaf.0, long), ap (λ (b : Memory). level_of b c.make_room-place.result.leaf.index) is ∙ leaf.1)
+
+pub returns-clause-here : goal.returns-clause-here
+returns-clause-here c =
     let e = c.make_room-place.ensures in let p = c.make_room-place.result in let m = c.make_room-place.new.mem in
-    stands_insert m c.insert_run.new.mem c.args.height c.args.root.index p.leaf.index p.entry c.args.run e.tree e.leaf.0 e.leaf.1 e.within c.insert_run.ensures.bare
+    here_insert m c.insert_run.new.mem c.args.height c.args.root.index p.leaf.index p.entry c.args.run e.tree e.leaf.0 e.within c.insert_run.ensures.bare
+
+pub returns-clause-place : goal.returns-clause-place
+returns-clause-place c =
+    let e = c.make_room-place.ensures in let p = c.make_room-place.result in let m = c.make_room-place.new.mem in
+    let same = ap length (ahead_insert m c.insert_run.new.mem c.args.height c.args.root.index p.leaf.index p.entry c.args.run e.tree e.leaf.0 e.leaf.1 c.insert_run.ensures.bare) in
+    omega (arith, same, e.place)

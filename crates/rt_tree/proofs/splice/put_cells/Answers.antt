@@ -1,7 +1,6 @@
 use Rattle.std.proofs.Common.{◌+◌, ◌-◌, ◌≤◌, ℕ, List, take, drop, length, arith, ap, ◌∙◌, sym, subst}
 use Rattle.std.proofs.lemmas.List.{length-drop, take_all}
 use Rattle.std.proofs.lemmas.List.Elements.{All-drop}
-use Rattle.rt_nodes.specs.declared.memory.NodeId.{NodeId}
 use Rattle.rt_store.specs.declared.cell.Cell.{Cell}
 use Rattle.rt_store.specs.Cells.{put_at}
 use Rattle.rt_tree.specs.Additions.{EndsWith, stretches}
@@ -10,39 +9,39 @@ use Rattle.rt_tree.specs.Shape.{tree_runs}
 use Rattle.rt_tree.specs.Sharing.{AreOnce, AreUpTo}
 use Rattle.rt_tree.proofs.Newest.{upto_more, upto_put}
 use Rattle.rt_tree.specs.Stretches.{AreChanged}
-use Rattle.rt_tree.proofs.Ends.{end_still}
+use Rattle.rt_tree.proofs.Ends.{held_still}
 use Rattle.rt_tree.proofs.Following.{stretches_drop}
 use Rattle.rt_tree.proofs.Splicing.{cut_count, ends_later, put_count, put_twice, rest_is, rest_once}
 use Rattle.rt_store.specs.Tagged.{AreStates}
 use Rattle.rt_tags.specs.States.{IsState}
 use Rattle.rt_tree.proofs.splice.put_cells.Goals as goal
 
-pub cut_home-first-requires-clause-few : goal.cut_home-first-requires-clause-few
-cut_home-first-requires-clause-few c =
+pub cut_home-end-requires-clause-few : goal.cut_home-end-requires-clause-few
+cut_home-end-requires-clause-few c =
     let r = c.requires in let e = c.extend-extended.ensures in let old = tree_runs c.args.mem.now c.args.root.index in
     let n = put_count c.args.text.now old (tree_runs c.extend-extended.new.mem c.args.root.index) c.args.at c.extend-extended.result.done c.args.cells.now r.kept e.cells e.within r.within in
     let w = e.within in let f = r.few in
     omega (arith, n, w, f)
 
-pub cut_home-first-requires-clause-within : goal.cut_home-first-requires-clause-within
-cut_home-first-requires-clause-within c =
+pub cut_home-end-requires-clause-within : goal.cut_home-end-requires-clause-within
+cut_home-end-requires-clause-within c =
     let r = c.requires in let e = c.extend-extended.ensures in let old = tree_runs c.args.mem.now c.args.root.index in
     let n = put_count c.args.text.now old (tree_runs c.extend-extended.new.mem c.args.root.index) c.args.at c.extend-extended.result.done c.args.cells.now r.kept e.cells e.within r.within in
     let w = r.within in
     omega (arith, n, w)
 
 pub put_runs-then-requires-clause-kept : goal.put_runs-then-requires-clause-kept
-put_runs-then-requires-clause-kept c = c.cut_home-first.ensures.recut.kept c.args.text.now c.extend-extended.ensures.cells.kept
+put_runs-then-requires-clause-kept c = c.cut_home-end.ensures.recut.kept c.args.text.now c.extend-extended.ensures.cells.kept
 
 pub put_runs-then-requires-clause-apart : goal.put_runs-then-requires-clause-apart
-put_runs-then-requires-clause-apart c = c.cut_home-first.ensures.recut.apart c.extend-extended.ensures.apart
+put_runs-then-requires-clause-apart c = c.cut_home-end.ensures.recut.apart c.extend-extended.ensures.apart
 
 pub put_runs-then-requires-clause-upto : goal.put_runs-then-requires-clause-upto
 put_runs-then-requires-clause-upto c =
     let e = c.extend-extended.ensures in let text = c.args.text.now in let n = c.newest_of-newest.ensures in let m = c.newest_of-newest.result in
     let old = cells_of text (tree_runs c.args.mem.now c.args.root.index) in
     let front = take c.extend-extended.result.done c.args.cells.now in
-    subst (AreUpTo m) (sym (c.cut_home-first.ensures.recut.cells text e.cells.kept ∙ e.cells.cells))
+    subst (AreUpTo m) (sym (c.cut_home-end.ensures.recut.cells text e.cells.kept ∙ e.cells.cells))
     (upto_put m c.args.at front old (upto_more c.args.newest m old n.least c.requires.upto) n.cells)
 
 pub put_runs-then-requires-clause-last : goal.put_runs-then-requires-clause-last
@@ -54,7 +53,7 @@ pub put_runs-then-requires-clause-few : goal.put_runs-then-requires-clause-few
 put_runs-then-requires-clause-few c =
     let r = c.requires in let e = c.extend-extended.ensures in let old = tree_runs c.args.mem.now c.args.root.index in
     let k = c.extend-extended.result.done in let cells = c.args.cells.now in
-    let n = cut_count c.args.text.now old (tree_runs c.extend-extended.new.mem c.args.root.index) c.args.at k cells r.kept e.cells e.within r.within (tree_runs c.cut_home-first.new.mem c.cut_home-first.result.root.index) c.cut_home-first.ensures.recut in
+    let n = cut_count c.args.text.now old (tree_runs c.extend-extended.new.mem c.args.root.index) c.args.at k cells r.kept e.cells e.within r.within (tree_runs c.cut_home-end.new.mem c.cut_home-end.result.change.root.index) c.cut_home-end.ensures.recut in
     let l = ap length (rest_is k cells e.within) ∙ length-drop k cells in
     let w = e.within in let f = r.few in
     omega (arith, n, l, w, f)
@@ -62,13 +61,13 @@ put_runs-then-requires-clause-few c =
 pub put_runs-then-requires-clause-within : goal.put_runs-then-requires-clause-within
 put_runs-then-requires-clause-within c =
     let r = c.requires in let e = c.extend-extended.ensures in let old = tree_runs c.args.mem.now c.args.root.index in
-    let n = cut_count c.args.text.now old (tree_runs c.extend-extended.new.mem c.args.root.index) c.args.at c.extend-extended.result.done c.args.cells.now r.kept e.cells e.within r.within (tree_runs c.cut_home-first.new.mem c.cut_home-first.result.root.index) c.cut_home-first.ensures.recut in
+    let n = cut_count c.args.text.now old (tree_runs c.extend-extended.new.mem c.args.root.index) c.args.at c.extend-extended.result.done c.args.cells.now r.kept e.cells e.within r.within (tree_runs c.cut_home-end.new.mem c.cut_home-end.result.change.root.index) c.cut_home-end.ensures.recut in
     let w = r.within in
     omega (arith, n, w)
 
 pub put_runs-then-requires-clause-room : goal.put_runs-then-requires-clause-room
 put_runs-then-requires-clause-room c =
-    let r = c.requires in let e = c.extend-extended.ensures in let k = c.cut_home-first.ensures in
+    let r = c.requires in let e = c.extend-extended.ensures in let k = c.cut_home-end.ensures in
     let l = ap length (rest_is c.extend-extended.result.done c.args.cells.now e.within) ∙ length-drop c.extend-extended.result.done c.args.cells.now in
     let a = e.runs in let b = k.runs in let m = k.more in let x = e.room in let y = k.room in let z = r.room in
     omega (arith, a, b, m, l, x, y, z)
@@ -82,15 +81,15 @@ overflow_add-result c =
     let w = c.extend-extended.ensures.within in
     let m = c.put_runs-then.ensures.most in
     let n = ap length (rest_is c.extend-extended.result.done c.args.cells.now w) ∙ length-drop c.extend-extended.result.done c.args.cells.now in
-    let k = c.cut_home-first.ensures.more in let f = c.requires.few in
+    let k = c.cut_home-end.ensures.more in let f = c.requires.few in
     omega (arith, m, n, k, f)
 
 pub returns-clause-cells : goal.returns-clause-cells
 returns-clause-cells c =
     let r = c.requires in let e = c.extend-extended.ensures in let old = tree_runs c.args.mem.now c.args.root.index in
     let k = c.extend-extended.result.done in let cells = c.args.cells.now in
-    let mid = tree_runs c.cut_home-first.new.mem c.cut_home-first.result.root.index in let new = tree_runs c.put_runs-then.new.mem c.put_runs-then.result.root.index in
-    put_twice c.args.text.now old (tree_runs c.extend-extended.new.mem c.args.root.index) c.args.at k cells r.kept e.cells e.within r.within mid c.cut_home-first.ensures.recut new
+    let mid = tree_runs c.cut_home-end.new.mem c.cut_home-end.result.change.root.index in let new = tree_runs c.put_runs-then.new.mem c.put_runs-then.result.root.index in
+    put_twice c.args.text.now old (tree_runs c.extend-extended.new.mem c.args.root.index) c.args.at k cells r.kept e.cells e.within r.within mid c.cut_home-end.ensures.recut new
     (subst (λ (x : List (Cell ℕ)). AreChanged mid new c.args.text.now (put_at (c.args.at + k) x)) (rest_is k cells e.within) c.put_runs-then.ensures.cells)
 
 pub returns-clause-most : goal.returns-clause-most
@@ -98,16 +97,16 @@ returns-clause-most c =
     let w = c.extend-extended.ensures.within in
     let m = c.put_runs-then.ensures.most in
     let n = ap length (rest_is c.extend-extended.result.done c.args.cells.now w) ∙ length-drop c.extend-extended.result.done c.args.cells.now in
-    let k = c.cut_home-first.ensures.more in
+    let k = c.cut_home-end.ensures.more in
     omega (arith, m, n, k)
 
 pub returns-clause-more : goal.returns-clause-more
 returns-clause-more c =
     let r = c.requires in let e = c.extend-extended.ensures in let old = tree_runs c.args.mem.now c.args.root.index in
     let done = c.extend-extended.result.done in let cells = c.args.cells.now in
-    let mid = tree_runs c.cut_home-first.new.mem c.cut_home-first.result.root.index in
-    let k = c.cut_home-first.ensures.more in
-    λ once. let o = rest_once c.args.text.now old (tree_runs c.extend-extended.new.mem c.args.root.index) c.args.at done cells r.kept e.cells e.within r.within mid c.cut_home-first.ensures.recut once in
+    let mid = tree_runs c.cut_home-end.new.mem c.cut_home-end.result.change.root.index in
+    let k = c.cut_home-end.ensures.more in
+    λ once. let o = rest_once c.args.text.now old (tree_runs c.extend-extended.new.mem c.args.root.index) c.args.at done cells r.kept e.cells e.within r.within mid c.cut_home-end.ensures.recut once in
     let p = subst (λ (x : List (Cell ℕ)). AreOnce (cells_of c.args.text.now mid) x) (sym (rest_is done cells e.within)) o in
     let m = few cells done c.put_runs-then.result.more e.within (c.put_runs-then.ensures.more p) in
     omega (arith, m, k)
@@ -118,29 +117,29 @@ returns-then-done-cells-clause-cells c =
     let all = take_all c.extend-extended.result.done c.args.cells.now (let d = c.if-done-cells.true in omega (arith, d)) in
     subst (λ (x : List (Cell ℕ)). AreChanged old new c.args.text.now (put_at c.args.at x)) all e.cells
 
-pub cut_home-first-requires-clause-home : goal.cut_home-first-requires-clause-home
-cut_home-first-requires-clause-home c = c.extend-extended.ensures.home
+pub cut_home-end-requires-clause-home : goal.cut_home-end-requires-clause-home
+cut_home-end-requires-clause-home c = c.extend-extended.ensures.home
 
 pub put_runs-then-requires-clause-home : goal.put_runs-then-requires-clause-home
-put_runs-then-requires-clause-home c = c.cut_home-first.ensures.home
+put_runs-then-requires-clause-home c = c.cut_home-end.ensures.home
 
 pub put_runs-then-requires-clause-left : goal.put_runs-then-requires-clause-left
 put_runs-then-requires-clause-left c =
     let l = ap length (rest_is c.extend-extended.result.done c.args.cells.now c.extend-extended.ensures.within) ∙ length-drop c.extend-extended.result.done c.args.cells.now in
-    let x = c.extend-extended.ensures.left in let y = c.cut_home-first.ensures.left in
+    let x = c.extend-extended.ensures.left in let y = c.cut_home-end.ensures.left in
     omega (arith, l, x, y, c.requires.left)
 
-pub cut_home-first-requires-clause-housed : goal.cut_home-first-requires-clause-housed
-cut_home-first-requires-clause-housed c = c.extend-extended.ensures.housed
+pub cut_home-end-requires-clause-housed : goal.cut_home-end-requires-clause-housed
+cut_home-end-requires-clause-housed c = c.extend-extended.ensures.housed
 
 pub put_runs-then-requires-clause-housed : goal.put_runs-then-requires-clause-housed
-put_runs-then-requires-clause-housed c = c.cut_home-first.ensures.housed
+put_runs-then-requires-clause-housed c = c.cut_home-end.ensures.housed
 
-pub cut_home-first-requires-clause-told : goal.cut_home-first-requires-clause-told
-cut_home-first-requires-clause-told c = c.extend-extended.ensures.told
+pub cut_home-end-requires-clause-told : goal.cut_home-end-requires-clause-told
+cut_home-end-requires-clause-told c = c.extend-extended.ensures.told
 
 pub put_runs-then-requires-clause-told : goal.put_runs-then-requires-clause-told
-put_runs-then-requires-clause-told c = c.cut_home-first.ensures.told
+put_runs-then-requires-clause-told c = c.cut_home-end.ensures.told
 
 pub put_runs-then-requires-clause-states : goal.put_runs-then-requires-clause-states
 put_runs-then-requires-clause-states c =
@@ -149,10 +148,12 @@ put_runs-then-requires-clause-states c =
     subst (AreStates table) (sym (rest_is k cells c.extend-extended.ensures.within)) (All-drop p k cells c.requires.states)
 
 pub returns-clause-tags : goal.returns-clause-tags
-returns-clause-tags c = c.put_runs-then.ensures.tags ∙ c.cut_home-first.ensures.tags ∙ c.extend-extended.ensures.tags
+returns-clause-tags c = c.put_runs-then.ensures.tags ∙ c.cut_home-end.ensures.tags ∙ c.extend-extended.ensures.tags
 
-pub cut_home-first-requires-clause-edge : goal.cut_home-first-requires-clause-edge
-cut_home-first-requires-clause-edge c = c.extend-extended.ensures.edge
+pub cut_home-end-requires-clause-edge : goal.cut_home-end-requires-clause-edge
+cut_home-end-requires-clause-edge c = c.extend-extended.ensures.edge
 
-pub put_runs-then-requires-clause-end : goal.put_runs-then-requires-clause-end
-put_runs-then-requires-clause-end c = end_still c.extend-extended.result.end c.extend-extended.result.is_edge c.extend-extended.new.mem c.cut_home-first.new.mem c.args.root.index c.cut_home-first.result.root.index (c.args.at + c.extend-extended.result.done) c.extend-extended.ensures.end c.extend-extended.ensures.known (λ is. let s = c.cut_home-first.ensures.still is in (s.0, ap (λ (x : NodeId). x.index) s.1))
+pub cut_home-end-requires-clause-held : goal.cut_home-end-requires-clause-held
+cut_home-end-requires-clause-held c =
+    let s = c.still_there-last.ensures in
+    held_still c.args.last.now c.still_there-last.result c.extend-extended.result.done c.args.mem.now c.extend-extended.new.mem c.args.root.index s.still s.dropped c.requires.held c.extend-extended.ensures.still

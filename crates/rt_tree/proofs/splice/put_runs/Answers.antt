@@ -5,6 +5,7 @@ use Rattle.rt_tree.specs.Holds.{IsEndAt}
 use Rattle.rt_tree.specs.Runs.{cells_of}
 use Rattle.rt_tree.specs.Shape.{tree_runs}
 use Rattle.rt_tree.specs.Sharing.{AreUpTo}
+use Rattle.rt_tree.proofs.Ends.{known_behind}
 use Rattle.rt_tree.proofs.Newest.{upto_next}
 use Rattle.rt_tree.proofs.Splicing.{all_spliced, fewer_cells, more_spliced, none_spliced, spliced_few, spliced_low, spliced_runs, spliced_with, spliced_within}
 use Rattle.rt_store.specs.declared.cell.Cell.{Cell}
@@ -177,5 +178,5 @@ returns-clause-told c = c.loop-done.invariant.told
 pub returns-clause-tags : goal.returns-clause-tags
 returns-clause-tags c = c.loop-done.invariant.tags
 
-pub put_home-root-requires-clause-end : goal.put_home-root-requires-clause-end
-put_home-root-requires-clause-end c = c.loop-done.invariant.end
+pub put_home-root-requires-clause-hint : goal.put_home-root-requires-clause-hint
+put_home-root-requires-clause-hint c = let l = c.loop-done in known_behind l.end c.behind.result l.mem l.root.index (c.args.at + l.done) c.behind.ensures l.invariant.end
