@@ -4,6 +4,7 @@ ghost use Rattle.rt_stamps.specs.declared.limits.TheConstants.{GREATEST_COUNT, M
 ghost use Rattle.rt_stamps.specs.declared.stamp.Stamp.{Stamp};
 ghost use Rattle.rt_stamps.specs.Words.{Word};
 ghost use Rattle.rt_ops.specs.Edits.{body_of};
+ghost use Rattle.rt_rga.specs.Few.{items_in};
 ghost use Rattle.rt_store.specs.Shown.{shown};
 ghost use Rattle.rt_tags.specs.States.{IsState};
 ghost use Rattle.rt_edits.specs.InsertionDrafts.{insertion_drafts};
@@ -14,7 +15,7 @@ ghost use Rattle.rt_edits.specs.Selected.{selected_stamps};
 use crate::inserts::Inserts;
 use crate::pieces::PlannedPieces;
 use crate::{Piece, Selection, Stamps};
-use rt_rga::Draft;
+use rt_rga::{Draft, Few};
 use rt_stamps::{Fault, Site, Stamp};
 use rt_store::Cell;
 use rt_tags::{StateId, StateTable};
@@ -33,7 +34,7 @@ pub struct Between {
 /// select where they have both neighbours.
 #[derive(Drop)]
 pub struct Plan {
-    pub drafts: Vec<Draft>,
+    pub drafts: Few<Draft>,
     pub characters: usize,
     pub selected: Vec<Stamp>,
     pub names: Vec<String>,
@@ -62,7 +63,7 @@ pub fn planned_between(
     requires after { IfSome left (λ cell. after ≡ cell.stamp) }
     requires count { count ≤ GREATEST_COUNT }
     ensures drafts { IfOk result (λ plan. (sel : List Stamp) (others : List (List Stamp)) (tags : List Word)
-        → IfSome right (λ cell. sel ≡ selected_stamps selection.now) → map body_of plan.drafts.items
+        → IfSome right (λ cell. sel ≡ selected_stamps selection.now) → map body_of (items_in plan.drafts)
         ≡ insertion_drafts MOST_CHARACTERS site.number after
         (option_map (shown states.now) left) (option_map (shown states.now) right) pieces.now rest.now
         (record { cells = []; count = count; sel = sel; others = others; tags = tags })) }

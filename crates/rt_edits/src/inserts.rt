@@ -4,12 +4,13 @@ ghost use Rattle.rt_stamps.specs.declared.limits.TheConstants.{GREATEST_COUNT, M
 ghost use Rattle.rt_stamps.specs.Words.{as_words};
 ghost use Rattle.rt_ops.specs.Edits.{body_of};
 ghost use Rattle.rt_ops.specs.Operations.{Insert, Tag};
+ghost use Rattle.rt_rga.specs.Few.{items_in};
 ghost use Rattle.rt_edits.specs.InsertionDrafts.{behind, tags_on, text_drafts};
 ghost use Rattle.rt_edits.specs.Insertions.{counts_for, further_tags, tagged_cells};
 
 use crate::counts::{further, last_count};
 use rt_oplog::Text;
-use rt_rga::Draft;
+use rt_rga::{Draft, Few};
 use rt_stamps::limits::{MOST_CHARACTERS, MOST_TAGS};
 use rt_stamps::{Fault, Site, Span, Stamp};
 use std::alloc::Global;
@@ -85,15 +86,15 @@ fn tag_draft(alloc: Global, span: Span, name: &str) -> Result<Draft, Fault>
 // Adds a Tag for each of some names, put on the characters of a span.
 fn push_tags(
     alloc: Global,
-    drafts: &mut Vec<Draft>,
+    drafts: &mut Few<Draft>,
     span: Span,
     names: &[String],
 ) -> Result<(), Fault>
-    ensures ok { OnOk result (map body_of drafts.new.items ≡ map body_of drafts.old.items ++ tags_on span (as_words names.now)) }
+    ensures ok { OnOk result (map body_of (items_in drafts.new) ≡ map body_of (items_in drafts.old) ++ tags_on span (as_words names.now)) }
     ensures err { IsOkUnless result Fault.NoMemory }
 {
     for name in names {
-        drafts.push(tag_draft(alloc, span, name)?)?;
+        drafts.push(alloc, tag_draft(alloc, span, name)?)?;
     }
     Ok(())
 }
@@ -102,7 +103,7 @@ fn push_tags(
 /// element behind which further text goes.
 #[derive(Drop)]
 pub struct Inserts {
-    pub drafts: Vec<Draft>,
+    pub drafts: Few<Draft>,
     pub count: u64,
     pub behind: Stamp,
 }
@@ -117,7 +118,7 @@ impl Inserts {
         part: &[char],
     ) -> Result<(), Fault>
         requires { self.old.count + length part.now + (length names.now - MOST_TAGS) ≤ GREATEST_COUNT }
-        ensures drafts { OnOk result (map body_of self.new.drafts.items ≡ map body_of self.old.drafts.items
+        ensures drafts { OnOk result (map body_of (items_in self.new.drafts) ≡ map body_of (items_in self.old.drafts)
             ++ Insert self.old.behind (take MOST_TAGS (as_words names.now)) part.now
             ∷ tags_on (record { site = site.number; first = self.old.count + 1; last = self.old.count + length part.now })
             (further_tags (as_words names.now))) }
@@ -130,7 +131,7 @@ impl Inserts {
         let site_number = site.number();
         let (listed, more) = listed_first(names);
         self.drafts
-            .push(insert_draft(alloc, self.behind, listed, part)?)?;
+            .push(alloc, insert_draft(alloc, self.behind, listed, part)?)?;
         let span = Span {
             site: site_number,
             first,
@@ -154,7 +155,7 @@ impl Inserts {
         text: &[char],
     ) -> Result<(), Fault>
         requires { self.old.count ≤ GREATEST_COUNT }
-        ensures drafts { OnOk result (map body_of self.new.drafts.items ≡ map body_of self.old.drafts.items
+        ensures drafts { OnOk result (map body_of (items_in self.new.drafts) ≡ map body_of (items_in self.old.drafts)
             ++ text_drafts MOST_CHARACTERS site.number self.old.count self.old.behind (as_words names.now) text.now) }
         ensures count { OnOk result (self.new.count ≡ self.old.count + counts_for (as_words names.now) text.now) }
         ensures within { OnOk result (self.new.count ≤ GREATEST_COUNT) }

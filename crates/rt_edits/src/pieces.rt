@@ -5,6 +5,7 @@ ghost use Rattle.rt_stamps.specs.declared.limits.TheConstants.{GREATEST_COUNT, M
 ghost use Rattle.rt_stamps.specs.declared.stamp.Stamp.{Stamp};
 ghost use Rattle.rt_stamps.specs.Words.{Word, as_words};
 ghost use Rattle.rt_ops.specs.Edits.{body_of};
+ghost use Rattle.rt_rga.specs.Few.{items_in};
 ghost use Rattle.rt_tags.specs.States.{IsTag, name_at};
 ghost use Rattle.rt_edits.specs.InsertionDrafts.{behind, pieces_drafts, text_drafts};
 ghost use Rattle.rt_edits.specs.Insertions.{Insertion, counts_for, shared_names, tagged_cells, with_listed, with_pieces};
@@ -14,6 +15,7 @@ use crate::Piece;
 use crate::inserts::{Inserts, copied};
 use crate::lists::{characters_of, names_sel, shared_tags};
 use crate::stamps::select_new;
+use rt_rga::Few;
 use rt_stamps::{Fault, Site, Stamp};
 use rt_tags::{StateTable, TagId};
 use std::alloc::Global;
@@ -60,7 +62,7 @@ pub(crate) struct PlannedPieces {
 impl PlannedPieces {
     // No text, behind an element and after a count.
     fn new(alloc: Global, count: u64, after: Stamp) -> PlannedPieces
-        ensures drafts { result.texts.drafts.items ≡ [] }
+        ensures drafts { items_in result.texts.drafts ≡ [] }
         ensures count { result.texts.count ≡ count }
         ensures behind { result.texts.behind ≡ after }
         ensures characters { result.characters ≡ 0 }
@@ -70,7 +72,7 @@ impl PlannedPieces {
     {
         PlannedPieces {
             texts: Inserts {
-                drafts: Vec::new(alloc),
+                drafts: Few::none(alloc),
                 count,
                 behind: after,
             },
@@ -91,7 +93,7 @@ impl PlannedPieces {
     ) -> Result<(), Fault>
         requires count { self.old.texts.count ≤ GREATEST_COUNT }
         requires characters { self.old.characters ≤ self.old.texts.count }
-        ensures drafts { OnOk result (map body_of self.new.texts.drafts.items ≡ map body_of self.old.texts.drafts.items
+        ensures drafts { OnOk result (map body_of (items_in self.new.texts.drafts) ≡ map body_of (items_in self.old.texts.drafts)
             ++ text_drafts MOST_CHARACTERS site.number self.old.texts.count self.old.texts.behind (as_words names.now) text.now) }
         ensures characters { OnOk result (self.new.characters ≡ self.old.characters + length text.now) }
         ensures few { OnOk result (self.new.characters ≤ self.new.texts.count) }
@@ -122,7 +124,7 @@ impl PlannedPieces {
     ) -> Result<(), Fault>
         requires count { self.old.texts.count ≤ GREATEST_COUNT }
         requires characters { self.old.characters ≤ self.old.texts.count }
-        ensures drafts { OnOk result (map body_of self.new.texts.drafts.items ≡ map body_of self.old.texts.drafts.items
+        ensures drafts { OnOk result (map body_of (items_in self.new.texts.drafts) ≡ map body_of (items_in self.old.texts.drafts)
             ++ text_drafts MOST_CHARACTERS site.number self.old.texts.count self.old.texts.behind (shared_names piece.now.tags) (chars piece.now.text)) }
         ensures so_far { OnOk result ((after : Stamp) (selection : List Stamp) (listed : List Word) (so_far : Insertion)
             → AreSoFar after selection listed self.old so_far
@@ -156,7 +158,7 @@ impl PlannedPieces {
     ) -> Result<PlannedPieces, Fault>
         requires { count ≤ GREATEST_COUNT }
         ensures drafts { IfOk result (λ all. (sel : List Stamp) (others : List (List Stamp)) (tags : List Word)
-            → map body_of all.texts.drafts.items ≡ pieces_drafts MOST_CHARACTERS site.number after pieces.now
+            → map body_of (items_in all.texts.drafts) ≡ pieces_drafts MOST_CHARACTERS site.number after pieces.now
             (record { cells = []; count = count; sel = sel; others = others; tags = tags })) }
         ensures so_far { IfOk result (λ all. (sel : List Stamp) (others : List (List Stamp)) (tags : List Word)
             → AreSoFar after sel tags all

@@ -5,6 +5,7 @@ ghost use Rattle.rt_stamps.specs.declared.limits.TheConstants.{GREATEST_COUNT, M
 ghost use Rattle.rt_stamps.specs.declared.stamp.Stamp.{Stamp};
 ghost use Rattle.rt_stamps.specs.Words.{Word, as_words};
 ghost use Rattle.rt_ops.specs.Edits.{body_of};
+ghost use Rattle.rt_rga.specs.Few.{items_in};
 ghost use Rattle.rt_store.specs.Shown.{TaggedCell, shown};
 ghost use Rattle.rt_store.specs.Spans.{is_among};
 ghost use Rattle.rt_tags.specs.States.{IsState, is_on, names_on, state_at};
@@ -165,8 +166,8 @@ impl PlannedPieces {
         requires right { IfSome right (λ cell. IsState states.now cell.state) }
         ensures drafts { OnOk result ((after : Stamp) (sel : List Stamp) (listed : List Word) (so_far : Insertion)
             → IfSome right (λ cell. sel ≡ selected_stamps selection.now) → AreSoFar after sel listed self.old so_far
-            → map body_of self.new.texts.drafts.items
-            ≡ map body_of self.old.texts.drafts.items ++ text_drafts MOST_CHARACTERS site.number so_far.count (behind after so_far.cells)
+            → map body_of (items_in self.new.texts.drafts)
+            ≡ map body_of (items_in self.old.texts.drafts) ++ text_drafts MOST_CHARACTERS site.number so_far.count (behind after so_far.cells)
             (tags_between (last_of (option_map (shown states.now) left) so_far.cells) (option_map (shown states.now) right)) (chars rest.now)) }
         ensures plans { IfOk result (λ between. (plan : Plan) (after : Stamp) (sel : List Stamp) (listed : List Word) (so_far : Insertion)
             → IfSome right (λ cell. sel ≡ selected_stamps selection.now) → AreSoFar after sel listed self.old so_far

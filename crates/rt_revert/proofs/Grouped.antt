@@ -29,6 +29,7 @@ use Rattle.rt_undo.specs.declared.action.Action.{Action as KeptAction}
 use Rattle.rt_undo.specs.Actions.{Action, Removed, group_of, with_stamp}
 use Rattle.rt_undo.specs.Renames.{is_moved, now_of}
 use Rattle.rt_undo.specs.Undo.{with_stamps_in}
+use Rattle.rt_rga.specs.Few.{items_in}
 use Rattle.rt_revert.specs.declared.progress.Progress.{Progress}
 use Rattle.rt_revert.specs.Named.{is_named, named_by, named_in}
 use Rattle.rt_revert.specs.Plans.{AreGiven, AreUpTo, IsChange, IsOf, IsUpTo, RemovedAreGiven, marks_after, named_group, named_removed}
@@ -88,7 +89,7 @@ group_given table f (a ∷ group) h = (given_stamped table f a.removed h.0, grou
 
 -- nothing was reverted yet
 pub record IsNew (count all : ℕ) (known : Shown ℕ) (plan : Progress) : Type 0 where
-  pub drafts : plan.texts.drafts.items ≡ []
+  pub drafts : items_in plan.texts.drafts ≡ []
   pub greatest : plan.texts.count ≡ count
   pub now : (stamp : Stamp) → now_of plan.renames stamp ≡ stamp
   pub moved : (stamp : Stamp) → is_moved plan.renames stamp ≡ false

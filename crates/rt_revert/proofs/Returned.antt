@@ -25,6 +25,7 @@ use Rattle.rt_store.proofs.Shown.{stamps_shown}
 use Rattle.rt_tags.specs.States.{IsByName, IsState, TagStates, Write, names_on, state_at}
 use Rattle.rt_tags.proofs.Sorted.{every_append}
 use Rattle.rt_rga.proofs.RemovedPlaces.{fewer}
+use Rattle.rt_rga.specs.Few.{items_in}
 use Rattle.rt_edits.specs.DraftLaws.{AreTagNames}
 use Rattle.rt_edits.specs.Flat.{put_after}
 use Rattle.rt_edits.specs.InsertionDrafts.{text_drafts}
@@ -68,7 +69,7 @@ pub record Came (site : ℕ) (table : TagStates) (old new : List (Cell ℕ)) (be
   pub list : new ≡ put_after old cell.stamp (new_of site before cell ∷ [])
   pub few : length new ≤ MOST_CELLS
   pub at : place ≡ visible_before old (after_element old cell.stamp)
-  pub drafts : map body_of after.texts.drafts.items ≡ map body_of before.texts.drafts.items ++ text_drafts MOST_CHARACTERS site before.texts.count cell.stamp words (cell.ch ∷ [])
+  pub drafts : map body_of (items_in after.texts.drafts) ≡ map body_of (items_in before.texts.drafts) ++ text_drafts MOST_CHARACTERS site before.texts.count cell.stamp words (cell.ch ∷ [])
   pub count : after.texts.count ≡ before.texts.count + counts_for words (cell.ch ∷ [])
   pub most : after.texts.count ≤ GREATEST_COUNT
   pub now : (s : Stamp) → now_of after.renames s ≡ replaced cell.stamp (new_of site before cell).stamp (now_of before.renames s)

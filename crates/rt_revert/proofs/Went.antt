@@ -30,6 +30,7 @@ use Rattle.rt_tags.specs.States.{TagStates, state_at}
 use Rattle.rt_tags.proofs.Sorted.{every_append}
 use Rattle.rt_rga.proofs.RemovedPlaces.{fewer}
 use Rattle.rt_rga.proofs.Writes.{spans_name}
+use Rattle.rt_rga.specs.Few.{items_in}
 use Rattle.rt_edits.specs.declared.range.Range.{Range}
 use Rattle.rt_edits.specs.Insertions.{all_listed}
 use Rattle.rt_edits.specs.NamedSpans.{parts_for, parts_of, spans_in}
@@ -146,7 +147,7 @@ pub record Took (table : TagStates) (stamps : List Stamp) (old new : List (Cell 
   pub places : (place : ℕ) → is_covered losses.places.items place ≡ are_at stamps old place
   pub covered : (place : ℕ) → is_covered whole.items place ≡ is_covered (whole_ranges before.offsets old (stamps_at (is_covered losses.places.items) 0 old)) place
   pub order : AreInOrder 0 (whole_ranges before.offsets old (stamps_at (is_covered losses.places.items) 0 old)) → AreInOrder 0 whole.items
-  pub new_drafts : after.texts.drafts.items ≡ before.texts.drafts.items ++ losses.drafts.items
+  pub new_drafts : items_in after.texts.drafts ≡ items_in before.texts.drafts ++ losses.drafts.items
   pub count : after.texts.count ≡ before.texts.count + length losses.drafts.items
   pub most : after.texts.count ≤ GREATEST_COUNT
   pub changes : after.changes.items ≡ before.changes.items ++ Gone whole ∷ []
@@ -288,7 +289,7 @@ module _ (table : TagStates) (stamps : List Stamp) (old new : List (Cell ℕ)) (
         site = s.site;
         count = lost_count number part r h.drafts d has s ∙ sym h.count;
         drafts = (λ i. s.drafts i ++ (same_drafts theirs places cells old (named part r had s.cells) ∙ sym h.drafts) i)
-            ∙ sym (map-append body_of before.texts.drafts.items losses.drafts.items) ∙ ap (map body_of) (sym h.new_drafts);
+            ∙ sym (map-append body_of (items_in before.texts.drafts) losses.drafts.items) ∙ ap (map body_of) (sym h.new_drafts);
         returns = s.returns ∙ ap (λ v. v.items) (sym h.returns);
         actions = s.actions ∙ ap (λ v. named_group table (group_of v.items)) (sym h.actions);
         changes = subst (AllByRecursion IsChange) (sym h.changes) (every_append IsChange before.changes.items (Gone whole ∷ []) s.changes (change, tt));

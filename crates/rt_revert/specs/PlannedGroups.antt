@@ -1,5 +1,6 @@
 -- The plan of a group that is reverted in a document.
 use Rattle.std.specs.Prelude.{◌≡◌, List, map}
+use Rattle.rt_rga.specs.Few.{items_in}
 use Rattle.rt_stamps.specs.Words.{Word, as_words}
 use Rattle.rt_ops.specs.Edits.{body_of}
 use Rattle.rt_tags.specs.States.{TagStates}
@@ -13,7 +14,7 @@ use Rattle.rt_revert.specs.Reverting.{reversion, reverted_group}
 -- The operations; the group for the other stack, with states of a table; the characters that came back; the marks after the changes
 -- of the text; and the listed tags.
 pub record IsPlanOf (table : TagStates) (flat : Flat) (group : List (Action (List Word))) (plan : Reversal) : Type 0 where
-  pub drafts : map body_of plan.drafts.items ≡ (reversion flat group).drafts
+  pub drafts : map body_of (items_in plan.drafts) ≡ (reversion flat group).drafts
   pub actions : named_group table (group_of plan.actions.items) ≡ reverted_group flat group
   pub returns : plan.returns.items ≡ (reversion flat group).returns
   pub marks : marks_after plan.changes.items flat.marks ≡ (reversion flat group).doc.marks

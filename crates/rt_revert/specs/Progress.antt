@@ -15,6 +15,7 @@ use Rattle.rt_store.specs.Shown.{TaggedCell, shown}
 use Rattle.rt_store.specs.Tagged.{AreStates}
 use Rattle.rt_tags.specs.States.{TagStates, names_on}
 use Rattle.rt_edits.specs.Insertions.{all_listed}
+use Rattle.rt_rga.specs.Few.{items_in}
 use Rattle.rt_undo.specs.declared.action.RemovedSpan.{RemovedSpan}
 use Rattle.rt_undo.specs.Actions.{group_of}
 use Rattle.rt_undo.specs.Renames.{is_moved, now_of}
@@ -72,7 +73,7 @@ pub record IsSoFar (table : TagStates) (number : ℕ) (copy : List (Cell ℕ)) (
   pub within : IsWithin plan part r
   pub site : r.doc.site ≡ number
   pub count : r.doc.count ≡ plan.texts.count
-  pub drafts : r.drafts ≡ map body_of plan.texts.drafts.items
+  pub drafts : r.drafts ≡ map body_of (items_in plan.texts.drafts)
   pub returns : r.returns ≡ plan.returns.items
   pub actions : r.actions ≡ named_group table (group_of plan.actions.items)
   pub changes : AllByRecursion IsChange plan.changes.items

@@ -72,6 +72,6 @@ pub(crate) fn take_out<S: TextStore>(
     let losses = planned_losses(alloc, &*copy, kept, spans)?;
     let whole = whole_places(alloc, &*copy, &plan.offsets, &losses.places)?;
     make_gone(copy, kept, &losses.removed)?;
-    plan.lose(whole, losses.drafts)?;
+    plan.lose(alloc, whole, losses.drafts)?;
     Ok(losses.removed)
 }

@@ -5,6 +5,7 @@ ghost use Rattle.rt_stamps.specs.declared.stamp.Stamp.{Stamp};
 ghost use Rattle.rt_stamps.specs.Stamps.{is_same};
 ghost use Rattle.rt_stamps.specs.Words.{as_words};
 ghost use Rattle.rt_ops.specs.Edits.{body_of};
+ghost use Rattle.rt_rga.specs.Few.{items_in};
 ghost use Rattle.rt_edits.specs.InsertionDrafts.{text_drafts};
 ghost use Rattle.rt_edits.specs.Insertions.{counts_for};
 ghost use Rattle.rt_undo.specs.Actions.{group_of};
@@ -16,7 +17,7 @@ use crate::offsets::{offset_behind, span_of};
 use crate::plan::{Return, Reversal, TextChange};
 use rt_edits::Range;
 use rt_edits::inserts::Inserts;
-use rt_rga::Draft;
+use rt_rga::{Draft, Few};
 use rt_spans::SpanMap;
 use rt_stamps::limits::{GREATEST_COUNT, MOST_CELLS};
 use rt_stamps::{Fault, ROOT, Site, Span, Stamp};
@@ -42,7 +43,7 @@ pub(crate) struct Progress {
 impl Progress {
     /// Nothing was reverted yet.
     pub(crate) fn new(alloc: Global, count: u64, cells: usize, offsets: SpanMap<usize>) -> Progress
-        ensures drafts { result.texts.drafts.items ≡ [] }
+        ensures drafts { items_in result.texts.drafts ≡ [] }
         ensures count { result.texts.count ≡ count }
         ensures now { (stamp : Stamp) → now_of result.renames stamp ≡ stamp }
         ensures moved { (stamp : Stamp) → is_moved result.renames stamp ≡ false }
@@ -55,7 +56,7 @@ impl Progress {
     {
         Progress {
             texts: Inserts {
-                drafts: Vec::new(alloc),
+                drafts: Few::none(alloc),
                 count,
                 behind: ROOT,
             },
@@ -70,9 +71,14 @@ impl Progress {
     }
 
     /// Characters go that stood at some places, by some operations. `ClockSpent`, or want of memory.
-    pub(crate) fn lose(&mut self, places: Vec<Range>, drafts: Vec<Draft>) -> Result<(), Fault>
+    pub(crate) fn lose(
+        &mut self,
+        alloc: Global,
+        places: Vec<Range>,
+        drafts: Vec<Draft>,
+    ) -> Result<(), Fault>
         requires { self.old.texts.count ≤ GREATEST_COUNT }
-        ensures drafts { OnOk result (self.new.texts.drafts.items ≡ self.old.texts.drafts.items ++ drafts.items) }
+        ensures drafts { OnOk result (items_in self.new.texts.drafts ≡ items_in self.old.texts.drafts ++ drafts.items) }
         ensures count { OnOk result (self.new.texts.count ≡ self.old.texts.count + length drafts.items) }
         ensures within { OnOk result (self.new.texts.count ≤ GREATEST_COUNT) }
         ensures changes { OnOk result (self.new.changes.items ≡ self.old.changes.items ++ TextChange.Removed places ∷ []) }
@@ -89,8 +95,7 @@ impl Progress {
         if counts > GREATEST_COUNT - self.texts.count {
             return Err(Fault::ClockSpent);
         }
-        let mut more = drafts;
-        self.texts.drafts.append(&mut more)?;
+        self.texts.drafts.append(alloc, drafts)?;
         self.changes.push(TextChange::Removed(places))?;
         self.texts.count += counts;
         Ok(())
@@ -106,7 +111,7 @@ impl Progress {
         ch: char,
     ) -> Result<(), Fault>
         requires { self.old.texts.count ≤ GREATEST_COUNT }
-        ensures drafts { OnOk result (map body_of self.new.texts.drafts.items ≡ map body_of self.old.texts.drafts.items
+        ensures drafts { OnOk result (map body_of (items_in self.new.texts.drafts) ≡ map body_of (items_in self.old.texts.drafts)
             ++ text_drafts MOST_CHARACTERS site.number self.old.texts.count behind (as_words names.now) (ch ∷ [])) }
         ensures count { OnOk result (self.new.texts.count ≡ self.old.texts.count + counts_for (as_words names.now) (ch ∷ [])) }
         ensures within { OnOk result (self.new.texts.count ≤ GREATEST_COUNT) }
@@ -177,7 +182,7 @@ impl Progress {
 
     /// The plan that this is. Want of memory.
     pub(crate) fn done(self, alloc: Global) -> Result<Reversal, Fault>
-        ensures drafts { IfOk result (λ plan. plan.drafts.items ≡ self.texts.drafts.items) }
+        ensures drafts { IfOk result (λ plan. items_in plan.drafts ≡ items_in self.texts.drafts) }
         ensures names { IfOk result (λ plan. plan.names.items ≡ self.names.items) }
         ensures changes { IfOk result (λ plan. plan.changes.items ≡ self.changes.items) }
         ensures returns { IfOk result (λ plan. plan.returns.items ≡ self.returns.items) }

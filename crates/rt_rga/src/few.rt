@@ -1,8 +1,77 @@
 // Lists that are mostly of one.
+ghost use Rattle.std.specs.Prelude.{◌≡◌, ◌++◌, ◌∷◌, [], IsOkUnless, OnOk};
+ghost use Rattle.rt_stamps.specs.declared.fault.Fault.{Fault};
+ghost use Rattle.rt_rga.specs.Few.{items_in};
+
+use rt_stamps::Fault;
+use std::alloc::Global;
+use std::mem::replace;
 
 /// A list. That of a single item, as typing makes them, takes no memory.
 #[derive(Drop)]
 pub enum Few<T> {
     One(T),
     Many(Vec<T>),
+}
+
+impl<T: Drop> Few<T> {
+    /// A list of none. It takes no memory.
+    pub fn none(alloc: Global) -> Few<T>
+        ensures { items_in result ≡ [] }
+    {
+        Few::Many(Vec::new(alloc))
+    }
+
+    /// Adds the items behind those of a list. Want of memory, and then that list may be any.
+    pub fn move_to(self, list: &mut Vec<T>) -> Result<(), Fault>
+        ensures ok { OnOk result (list.new.items ≡ list.old.items ++ items_in self) }
+        ensures err { IsOkUnless result Fault.NoMemory }
+    {
+        match self {
+            Few::One(item) => list.push(item)?,
+            Few::Many(items) => {
+                let mut items = items;
+                list.append(&mut items)?;
+            }
+        }
+        Ok(())
+    }
+
+    /// Adds an item behind the others: the first one takes no memory. Want of memory, and then the list may
+    /// be any.
+    pub fn push(&mut self, alloc: Global, item: T) -> Result<(), Fault>
+        ensures ok { OnOk result (items_in self.new ≡ items_in self.old ++ item ∷ []) }
+        ensures err { IsOkUnless result Fault.NoMemory }
+    {
+        match self {
+            Few::Many(items) if items.is_empty() => *self = Few::One(item),
+            Few::Many(items) => items.push(item)?,
+            Few::One(_) => {
+                let mut items = Vec::new(alloc);
+                replace(self, Few::none(alloc)).move_to(&mut items)?;
+                items.push(item)?;
+                *self = Few::Many(items);
+            }
+        }
+        Ok(())
+    }
+
+    /// Adds the items of a list behind the others. Want of memory, and then the list may be any.
+    pub fn append(&mut self, alloc: Global, more: Vec<T>) -> Result<(), Fault>
+        ensures ok { OnOk result (items_in self.new ≡ items_in self.old ++ more.items) }
+        ensures err { IsOkUnless result Fault.NoMemory }
+    {
+        let mut more = more;
+        match self {
+            Few::Many(items) if items.is_empty() => *self = Few::Many(more),
+            Few::Many(items) => items.append(&mut more)?,
+            Few::One(_) => {
+                let mut items = Vec::new(alloc);
+                replace(self, Few::none(alloc)).move_to(&mut items)?;
+                items.append(&mut more)?;
+                *self = Few::Many(items);
+            }
+        }
+        Ok(())
+    }
 }

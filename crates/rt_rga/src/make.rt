@@ -115,10 +115,9 @@ fn all_stamped(
     Ok(ops)
 }
 
-/// The operations of drafts: the first count is one above the last one of all operations, and the
-/// first `prev` is the site's known end. Want of memory.
+// The same of a list, that of one in no list.
 #[tactic(auto, using(crate::proofs::Requests::not_less))]
-pub(crate) fn stamped(
+fn stamped_list(
     alloc: Global,
     site: u16,
     last: u64,
@@ -142,6 +141,43 @@ pub(crate) fn stamped(
         drafts.push_reserved(draft);
     }
     Ok(Few::Many(all_stamped(alloc, site, last, prev, drafts)?))
+}
+
+/// The operations of drafts: the first count is one above the last one of all operations, and the
+/// first `prev` is the site's known end. Want of memory.
+#[tactic(auto, using(crate::proofs::Requests::not_less))]
+pub(crate) fn stamped(
+    alloc: Global,
+    site: u16,
+    last: u64,
+    prev: u64,
+    drafts: Few<Draft>,
+) -> Result<Few<Op>, Fault>
+    requires rules { All (λ draft. keeps_rules (body_of draft) ≡ true) (items_in drafts) }
+    requires fits { last_count_after last (map body_of (items_in drafts)) ≤ GREATEST_COUNT }
+    ensures ops { IfOk result (λ ops. items_in ops ≡ operations_from site last prev (map body_of (items_in drafts))) }
+    ensures fault { IsOkUnless result Fault.NoMemory }
+{
+    match drafts {
+        Few::One(draft) => {
+            let stamp = Stamp {
+                count: last + 1,
+                site,
+            };
+            Ok(Few::One(Op::of(stamp, prev, draft)))
+        }
+        Few::Many(drafts) => stamped_list(alloc, site, last, prev, drafts),
+    }
+}
+
+// Drafts, in a list.
+fn drafts_in(drafts: &Few<Draft>) -> &[Draft]
+    ensures { result.now ≡ items_in drafts.now }
+{
+    match drafts {
+        Few::One(draft) => slice::from_ref(draft),
+        Few::Many(drafts) => drafts.as_slice(),
+    }
 }
 
 /// Operations, in a list.
@@ -376,16 +412,16 @@ pub(crate) fn prepared(
     last: u64,
     prev: u64,
     left: usize,
-    drafts: Vec<Draft>,
+    drafts: Few<Draft>,
 ) -> Result<Few<Op>, Fault>
     requires last { last ≤ GREATEST_COUNT }
-    requires rules { All (λ draft. keeps_rules (body_of draft) ≡ true) drafts.items }
-    ensures ops { IfOk result (λ ops. items_in ops ≡ operations_from site last prev (map body_of drafts.items)) }
-    ensures fits { OnOk result (refusal_from last left (map body_of drafts.items) ≡ None) }
-    ensures refused { IfErr result (λ fault. (refusal_from last left (map body_of drafts.items) ≡ Some fault)
-        ⊎ ((fault ≡ Fault.NoMemory) × (refusal_from last left (map body_of drafts.items) ≡ None))) }
+    requires rules { All (λ draft. keeps_rules (body_of draft) ≡ true) (items_in drafts) }
+    ensures ops { IfOk result (λ ops. items_in ops ≡ operations_from site last prev (map body_of (items_in drafts))) }
+    ensures fits { OnOk result (refusal_from last left (map body_of (items_in drafts)) ≡ None) }
+    ensures refused { IfErr result (λ fault. (refusal_from last left (map body_of (items_in drafts)) ≡ Some fault)
+        ⊎ ((fault ≡ Fault.NoMemory) × (refusal_from last left (map body_of (items_in drafts)) ≡ None))) }
 {
-    check_limits(last, left, &drafts)?;
+    check_limits(last, left, drafts_in(&drafts))?;
     stamped(alloc, site, last, prev, drafts)
 }
 

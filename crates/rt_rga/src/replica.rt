@@ -234,12 +234,12 @@ impl<S: TextStore> Replica<S> {
     }
 
     // The operations of drafts, which the log and the limit of cells have room for. The faults of `make`.
-    fn planned(&self, drafts: Vec<Draft>) -> Result<Few<Op>, Fault>
-        requires { MayBeMade self.now.site self.now.log (map body_of drafts.items) }
-        ensures made { IfOk result (λ ops. items_in ops ≡ operations_of self.now.site (map body_of drafts.items) self.now.log) }
-        ensures fits { OnOk result (refusal_of self.now.limit (map body_of drafts.items) self.now.log ≡ None) }
-        ensures refused { IfErr result (λ fault. (refusal_of self.now.limit (map body_of drafts.items) self.now.log
-            ≡ Some fault) ⊎ ((fault ≡ Fault.NoMemory) × (refusal_of self.now.limit (map body_of drafts.items) self.now.log ≡ None))) }
+    fn planned(&self, drafts: Few<Draft>) -> Result<Few<Op>, Fault>
+        requires { MayBeMade self.now.site self.now.log (map body_of (items_in drafts)) }
+        ensures made { IfOk result (λ ops. items_in ops ≡ operations_of self.now.site (map body_of (items_in drafts)) self.now.log) }
+        ensures fits { OnOk result (refusal_of self.now.limit (map body_of (items_in drafts)) self.now.log ≡ None) }
+        ensures refused { IfErr result (λ fault. (refusal_of self.now.limit (map body_of (items_in drafts)) self.now.log
+            ≡ Some fault) ⊎ ((fault ≡ Fault.NoMemory) × (refusal_of self.now.limit (map body_of (items_in drafts)) self.now.log ≡ None))) }
         ensures continues { IfOk result (λ ops. ContinueInTurn self.now.log (items_in ops)) }
         ensures newest { IfOk result (λ ops. AreNewest self.now.log (items_in ops)) }
         ensures room { IfOk result (λ ops. length self.now.cells + length (fresh_cells (items_in ops)) ≤ self.now.limit) }
@@ -276,7 +276,7 @@ impl<S: TextStore> Replica<S> {
         ensures limit { self.new.limit ≡ self.old.limit }
         ensures ids { KeepsIds self.old.table self.new.table }
     {
-        let ops = self.planned(drafts)?;
+        let ops = self.planned(Few::Many(drafts))?;
         let copies = copied(self.alloc, list_of(&ops))?;
         self.make_all(ops)?;
         Ok(copies)
@@ -284,15 +284,15 @@ impl<S: TextStore> Replica<S> {
 
     /// Makes operations of the site's own, as `make` does, and answers no copies of them: for a caller who
     /// reads them in the log, where they stand in order behind all that it had. Refused as `make` is.
-    pub fn commit(&mut self, drafts: Vec<Draft>) -> Result<(), Fault>
-        requires { MayBeMade self.old.site self.old.log (map body_of drafts.items) }
-        ensures fits { OnOk result (refusal_of self.old.limit (map body_of drafts.items) self.old.log ≡ None) }
-        ensures refused { IfErr result (λ fault. (refusal_of self.old.limit (map body_of drafts.items) self.old.log
-            ≡ Some fault) ⊎ ((fault ≡ Fault.NoMemory) × (refusal_of self.old.limit (map body_of drafts.items) self.old.log ≡ None))) }
-        ensures log { OnOk result (self.new.log ≡ with_drafts self.old.site (map body_of drafts.items) self.old.log) }
+    pub fn commit(&mut self, drafts: Few<Draft>) -> Result<(), Fault>
+        requires { MayBeMade self.old.site self.old.log (map body_of (items_in drafts)) }
+        ensures fits { OnOk result (refusal_of self.old.limit (map body_of (items_in drafts)) self.old.log ≡ None) }
+        ensures refused { IfErr result (λ fault. (refusal_of self.old.limit (map body_of (items_in drafts)) self.old.log
+            ≡ Some fault) ⊎ ((fault ≡ Fault.NoMemory) × (refusal_of self.old.limit (map body_of (items_in drafts)) self.old.log ≡ None))) }
+        ensures log { OnOk result (self.new.log ≡ with_drafts self.old.site (map body_of (items_in drafts)) self.old.log) }
         ensures cells { OnOk result (self.new.cells ≡ cells_of self.new.log) }
         ensures same { OnErr result (self.new ≡ record self.old { table = self.new.table }) }
-        ensures kept { (refusal_of self.old.limit (map body_of drafts.items) self.old.log ≡ None → ⊥) → self.new ≡ self.old }
+        ensures kept { (refusal_of self.old.limit (map body_of (items_in drafts)) self.old.log ≡ None → ⊥) → self.new ≡ self.old }
         ensures site { self.new.site ≡ self.old.site }
         ensures limit { self.new.limit ≡ self.old.limit }
         ensures ids { KeepsIds self.old.table self.new.table }

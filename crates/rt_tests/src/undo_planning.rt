@@ -136,7 +136,9 @@ fn comes_back(
     let site = Site::new(1).ok_or("a site")?;
     let group = typing_and_cutting(alloc)?;
     let plan = planned(alloc, site, gone, &group)?;
-    same(rt, operations(&plan.drafts), wanted);
+    let mut drafts = Vec::new(alloc);
+    plan.drafts.move_to(&mut drafts)?;
+    same(rt, operations(&drafts), wanted);
     same(rt, plan.returns.as_slice(), returns);
     Ok(())
 }

@@ -14,6 +14,7 @@ ghost use Rattle.rt_text.specs.Parts.{HaveRoomFor, own_in};
 ghost use Rattle.rt_ops.specs.Edits.{body_of};
 ghost use Rattle.rt_rga.specs.Cells.{cells_of};
 ghost use Rattle.rt_rga.specs.Drafts.{with_drafts};
+ghost use Rattle.rt_rga.specs.Few.{items_in};
 ghost use Rattle.rt_rga.specs.Made.{refusal_of};
 ghost use Rattle.rt_rga.specs.Requests.{MayBeMade};
 
@@ -21,7 +22,7 @@ use crate::others::{add_between, reserve_between};
 use crate::parts::Parts;
 use rt_edits::inserting::{Between, Plan};
 use rt_edits::{Piece, Selection};
-use rt_rga::{Draft, Replica};
+use rt_rga::{Draft, Few, Replica};
 use rt_stamps::Fault;
 use rt_store::TextStore;
 use rt_tags::TagTable;
@@ -126,15 +127,15 @@ pub(crate) fn make_planned<S: TextStore>(
     tags: &mut TagTable,
     selection: &mut Selection,
     others: &mut [Parts],
-    drafts: Vec<Draft>,
+    drafts: Few<Draft>,
     plan: &Plan,
 ) -> Result<(), Fault>
     requires names { All (λ w. IsName (string_bytes w)) plan.now.names.items }
-    requires may { MayBeMade replica.old.site replica.old.log (map body_of drafts.items) }
-    ensures fits { OnOk result (refusal_of replica.old.limit (map body_of drafts.items) replica.old.log ≡ None) }
+    requires may { MayBeMade replica.old.site replica.old.log (map body_of (items_in drafts)) }
+    ensures fits { OnOk result (refusal_of replica.old.limit (map body_of (items_in drafts)) replica.old.log ≡ None) }
     ensures refused { IfErr result (λ fault. (fault ≡ Fault.NoMemory)
-        ⊎ (refusal_of replica.old.limit (map body_of drafts.items) replica.old.log ≡ Some fault)) }
-    ensures log { OnOk result (replica.new.log ≡ with_drafts replica.old.site (map body_of drafts.items) replica.old.log) }
+        ⊎ (refusal_of replica.old.limit (map body_of (items_in drafts)) replica.old.log ≡ Some fault)) }
+    ensures log { OnOk result (replica.new.log ≡ with_drafts replica.old.site (map body_of (items_in drafts)) replica.old.log) }
     ensures cells { OnOk result (replica.new.cells ≡ cells_of replica.new.log) }
     ensures same { OnErr result (replica.new ≡ record replica.old { table = replica.new.table }) }
     ensures site { replica.new.site ≡ replica.old.site }

@@ -3,6 +3,7 @@ ghost use Rattle.std.specs.Prelude.{◌≡◌, ◌⊎◌, All, List, ◌<◌, �
 ghost use Rattle.rt_ops.specs.Edits.{body_of};
 ghost use Rattle.rt_stamps.specs.declared.limits.TheConstants.{GREATEST_COUNT};
 ghost use Rattle.rt_edits.specs.InsertionPlans.{Plans};
+ghost use Rattle.rt_rga.specs.Few.{items_in};
 ghost use Rattle.rt_text.specs.Replacements.{drafts_at, insertion_at};
 ghost use Rattle.rt_stamps.specs.Outcomes.{first_of};
 ghost use Rattle.rt_store.specs.Cells.{text_of, visible_of};
@@ -23,6 +24,7 @@ use crate::preparing::{list_tags, make_planned};
 use rt_edits::drafting::planned_deletion;
 use rt_edits::inserting::{Plan, planned_between};
 use rt_edits::{Piece, Range};
+use rt_rga::Few;
 use rt_stamps::Fault;
 use rt_store::TextStore;
 use rt_views::Stretch;
@@ -54,7 +56,7 @@ impl<S: TextStore> Doc<S> {
         requires stretch { stretch ≡ stretch_of self.now.cells widget.now.limits }
         requires place { place < length (shown_part self.now.cells widget.now.limits) }
         ensures drafts { IfOk result (λ plan. (others : List Own)
-            → map body_of plan.drafts.items ≡ drafts_at (record { doc = self.now; own = widget.now; others = others }) place pieces.now rest.now) }
+            → map body_of (items_in plan.drafts) ≡ drafts_at (record { doc = self.now; own = widget.now; others = others }) place pieces.now rest.now) }
         ensures plans { IfOk result (λ plan. (others : List Own) → Plans plan widget.now.sel (selections_of others) self.now.tags
             (insertion_at (record { doc = self.now; own = widget.now; others = others }) place pieces.now rest.now)) }
         ensures err { IfErr result (λ fault. (fault ≡ Fault.NoMemory) ⊎ ((fault ≡ Fault.ClockSpent) × ((others : List Own) → GREATEST_COUNT
@@ -112,7 +114,7 @@ impl<S: TextStore> Doc<S> {
         let _ = self.kept();
         let at = stretch.begin + place;
         let mut planned = PlannedInsertion { plan };
-        let drafts = replace(&mut planned.plan.drafts, Vec::new(self.alloc));
+        let drafts = replace(&mut planned.plan.drafts, Few::none(self.alloc));
         make_planned(
             &mut self.replica,
             &mut self.tags,
@@ -154,7 +156,7 @@ impl<S: TextStore> Doc<S> {
         let stretch = widget.limits().stretch(store);
         let last = store.cell_at(stretch.end - 1).stamp;
         let deletion = planned_deletion(self.alloc, store, states, stretch, ranges)?;
-        self.replica.commit(deletion.drafts)?;
+        self.replica.commit(Few::Many(deletion.drafts))?;
         leave_all(&mut self.marks, widget, others, &deletion.removed);
         unselect_last(deletion.held, last, widget, others);
         Ok(())

@@ -23,7 +23,7 @@ use crate::staying::{left_after, place_after};
 use rt_edits::drafting::planned_deletion;
 use rt_edits::inserting::{Plan, planned_between};
 use rt_edits::{Piece, Range};
-use rt_rga::Draft;
+use rt_rga::{Draft, Few};
 use rt_stamps::Fault;
 use rt_stamps::limits::GREATEST_COUNT;
 use rt_store::TextStore;
@@ -121,7 +121,8 @@ impl<S: TextStore> Doc<S> {
             drafts: deletion.drafts,
             plan,
         };
-        both.drafts.append(&mut both.plan.drafts)?;
+        let inserts = replace(&mut both.plan.drafts, Few::none(self.alloc));
+        inserts.move_to(&mut both.drafts)?;
         Ok(both)
     }
 
@@ -159,7 +160,7 @@ impl<S: TextStore> Doc<S> {
             &mut self.tags,
             &mut widget.parts.selection,
             others,
-            drafts,
+            Few::Many(drafts),
             &planned.plan,
         )?;
         unselect(planned.held, last, &mut widget.parts.selection, others);

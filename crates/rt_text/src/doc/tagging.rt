@@ -26,6 +26,7 @@ use crate::characters::{cell_has, next_within, previous_within};
 use rt_edits::drafting::{planned_tag, planned_tag_deletion};
 use rt_edits::listing::{forget_all, list_if, prepare_if};
 use rt_edits::{Range, Selection};
+use rt_rga::Few;
 use rt_stamps::Fault;
 use rt_store::{Cell, TextStore};
 use rt_tags::{StateId, StateTable, TagTable};
@@ -134,7 +135,7 @@ impl<S: TextStore> Doc<S> {
         let (store, states) = self.kept();
         let drafts = planned_tag(self.alloc, store, states, ranges, name, on)?;
         prepare_if(&mut self.tags, on, name)?;
-        self.replica.commit(drafts)?;
+        self.replica.commit(Few::Many(drafts))?;
         list_if(&mut self.tags, on, name);
         Ok(())
     }
@@ -151,7 +152,7 @@ impl<S: TextStore> Doc<S> {
     {
         let (store, states) = self.kept();
         let drafts = planned_tag_deletion(self.alloc, store, states, &self.tags, names)?;
-        self.replica.commit(drafts)?;
+        self.replica.commit(Few::Many(drafts))?;
         forget_all(&mut self.tags, names);
         Ok(())
     }

@@ -9,6 +9,7 @@ use Rattle.rt_ops.specs.Edits.{body_of}
 use Rattle.rt_store.specs.Cells.{after_element}
 use Rattle.rt_rga.proofs.RemovedPlaces.{fewer}
 use Rattle.rt_tags.specs.States.{state_at}
+use Rattle.rt_rga.specs.Few.{items_in}
 use Rattle.rt_edits.specs.InsertionDrafts.{text_drafts}
 use Rattle.rt_edits.specs.Insertions.{counts_for}
 use Rattle.rt_undo.specs.Renames.{is_moved, now_of, replaced}
@@ -89,8 +90,8 @@ returns-clause-copy g c =
       list = c.in_ok-place.ensures.list;
       few = c.in_ok-place.ensures.few;
       at = c.in_ok-place.ensures.place;
-      drafts = ap (λ t. map body_of t.drafts.items) back.texts ∙ wrote.drafts
-          ∙ (λ i. map body_of before.texts.drafts.items ++ text_drafts MOST_CHARACTERS (sym c.number.ensures.value i) before.texts.count cell.stamp (given i) (cell.ch ∷ []));
+      drafts = ap (λ t. map body_of (items_in t.drafts)) back.texts ∙ wrote.drafts
+          ∙ (λ i. map body_of (items_in before.texts.drafts) ++ text_drafts MOST_CHARACTERS (sym c.number.ensures.value i) before.texts.count cell.stamp (given i) (cell.ch ∷ []));
       count = ap (λ t. t.count) back.texts ∙ wrote.count ∙ ap (λ l. before.texts.count + counts_for l (cell.ch ∷ [])) given;
       most = omega (arith, ap (λ t. t.count) back.texts, wrote.within);
       now = λ s. back.now s ∙ ap (λ m. replaced cell.stamp (new_of site before cell).stamp (now_of m s)) wrote.renames;
@@ -134,8 +135,8 @@ returns-clause-going g c =
       list = c.in_ok-place.ensures.list;
       few = c.in_ok-place.ensures.few;
       at = c.in_ok-place.ensures.place;
-      drafts = ap (λ t. map body_of t.drafts.items) back.texts ∙ wrote.drafts
-          ∙ (λ i. map body_of before.texts.drafts.items ++ text_drafts MOST_CHARACTERS (sym c.number.ensures.value i) before.texts.count cell.stamp (given i) (cell.ch ∷ []));
+      drafts = ap (λ t. map body_of (items_in t.drafts)) back.texts ∙ wrote.drafts
+          ∙ (λ i. map body_of (items_in before.texts.drafts) ++ text_drafts MOST_CHARACTERS (sym c.number.ensures.value i) before.texts.count cell.stamp (given i) (cell.ch ∷ []));
       count = ap (λ t. t.count) back.texts ∙ wrote.count ∙ ap (λ l. before.texts.count + counts_for l (cell.ch ∷ [])) given;
       most = omega (arith, ap (λ t. t.count) back.texts, wrote.within);
       now = λ s. back.now s ∙ ap (λ m. replaced cell.stamp (new_of site before cell).stamp (now_of m s)) wrote.renames;
@@ -179,8 +180,8 @@ returns-clause-so_far g c =
       list = c.in_ok-place.ensures.list;
       few = c.in_ok-place.ensures.few;
       at = c.in_ok-place.ensures.place;
-      drafts = ap (λ t. map body_of t.drafts.items) back.texts ∙ wrote.drafts
-          ∙ (λ i. map body_of before.texts.drafts.items ++ text_drafts MOST_CHARACTERS (sym c.number.ensures.value i) before.texts.count cell.stamp (given i) (cell.ch ∷ []));
+      drafts = ap (λ t. map body_of (items_in t.drafts)) back.texts ∙ wrote.drafts
+          ∙ (λ i. map body_of (items_in before.texts.drafts) ++ text_drafts MOST_CHARACTERS (sym c.number.ensures.value i) before.texts.count cell.stamp (given i) (cell.ch ∷ []));
       count = ap (λ t. t.count) back.texts ∙ wrote.count ∙ ap (λ l. before.texts.count + counts_for l (cell.ch ∷ [])) given;
       most = omega (arith, ap (λ t. t.count) back.texts, wrote.within);
       now = λ s. back.now s ∙ ap (λ m. replaced cell.stamp (new_of site before cell).stamp (now_of m s)) wrote.renames;

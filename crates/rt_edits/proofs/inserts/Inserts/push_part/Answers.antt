@@ -1,5 +1,4 @@
 use Rattle.std.proofs.lemmas.Result.{err_from_is_err_and}
-use Rattle.std.proofs.Common.{refl}
 use Rattle.rt_edits.proofs.inserts.Inserts.push_part.Goals as goal
 
 pub returns-in_err-insert_draft : goal.returns-in_err-insert_draft
@@ -10,7 +9,7 @@ returns-in_err-insert_draft c =
 pub returns-in_err-push : goal.returns-in_err-push
 returns-in_err-push c =
     let (y, is, gives) = err_from_is_err_and c.from_residual-in_err-push.result c.from_residual-in_err-push.ensures.1 in
-    rw (is, gives) (record { drafts = tt; count = tt; behind = tt; err = refl })
+    rw (is, gives) (record { drafts = tt; count = tt; behind = tt; err = c.in_err-push.ensures.err })
 
 pub returns-in_err-push_tags : goal.returns-in_err-push_tags
 returns-in_err-push_tags c =

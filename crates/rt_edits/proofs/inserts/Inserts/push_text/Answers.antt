@@ -4,6 +4,7 @@ use Rattle.std.proofs.lemmas.Result.{err_from_is_err_and}
 use Rattle.rt_stamps.specs.declared.limits.TheConstants.{GREATEST_COUNT, MOST_CHARACTERS, MOST_TAGS}
 use Rattle.rt_stamps.specs.Words.{as_words}
 use Rattle.rt_ops.specs.Edits.{body_of}
+use Rattle.rt_rga.specs.Few.{items_in}
 use Rattle.rt_edits.specs.InsertionDrafts.{behind, text_drafts}
 use Rattle.rt_edits.specs.Insertions.{counts_for, further_tags, tagged_cells}
 use Rattle.rt_edits.proofs.InsertTexts.{behind_more, counts_named, counts_part, drafts_joined, drafts_more, further_named}
@@ -61,8 +62,8 @@ loop-rest-preserved c =
     let h : 1 ≤ length rest = some_left c.is_empty.result (length rest) c.is_empty.ensures c.loop-rest-test.true in
     let n : new.count ≡ old.count + length part + length (further_tags names) = e.count ∙ ap (λ k. old.count + length part + k) (sym (further_named (λ w. string_bytes w) c.args.names.now)) in
     record {
-      drafts = (λ i. map body_of new.drafts.items ++ text_drafts MOST_CHARACTERS site (n i) (e.behind i) names more)
-          ∙ drafts_joined (map body_of old.drafts.items) (map body_of new.drafts.items) (text_drafts MOST_CHARACTERS site old.count old.behind names rest) _ _ _ e.drafts
+      drafts = (λ i. map body_of (items_in new.drafts) ++ text_drafts MOST_CHARACTERS site (n i) (e.behind i) names more)
+          ∙ drafts_joined (map body_of (items_in old.drafts)) (map body_of (items_in new.drafts)) (text_drafts MOST_CHARACTERS site old.count old.behind names rest) _ _ _ e.drafts
           (drafts_more site old.count old.behind names rest part more h is_part is_more)
           ∙ c.loop-rest.invariant.drafts;
       count = ap (λ k. k + counts_for names more) n

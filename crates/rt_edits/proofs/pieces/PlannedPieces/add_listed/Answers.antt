@@ -4,6 +4,7 @@ use Rattle.rt_stamps.specs.declared.limits.TheConstants.{GREATEST_COUNT}
 use Rattle.rt_tags.specs.Tags.{is_listed, sel}
 use Rattle.rt_ops.specs.Edits.{body_of}
 use Rattle.rt_store.specs.Cells.{stamps_of}
+use Rattle.rt_rga.specs.Few.{items_in}
 use Rattle.rt_edits.specs.declared.pieces.PlannedPieces.{PlannedPieces}
 use Rattle.rt_edits.specs.InsertionDrafts.{behind}
 use Rattle.rt_edits.specs.Insertions.{counts_for, selected_if, shared_names, tagged_cells}
@@ -17,7 +18,7 @@ use Rattle.rt_edits.proofs.pieces.PlannedPieces.add_listed.Goals as goal
 pub returns-then-is_empty-clause-drafts : goal.returns-then-is_empty-clause-drafts
 returns-then-is_empty-clause-drafts c =
     let none : chars c.args.piece.now.text ≡ [] = ap chars (sym c.text.ensures) ∙ sym c.in_ok-text.ensures.ok ∙ sym c.characters-characters.ensures ∙ none_in c.characters-characters.result.now (length c.characters-characters.result.now) c.is_empty.result refl c.is_empty.ensures c.if-is_empty.true in
-    no_drafts (map body_of c.args.self.now.texts.drafts.items) c.args.site.number c.args.self.now.texts.count c.args.self.now.texts.behind (shared_names c.args.piece.now.tags) (chars c.args.piece.now.text) none
+    no_drafts (map body_of (items_in c.args.self.now.texts.drafts)) c.args.site.number c.args.self.now.texts.count c.args.self.now.texts.behind (shared_names c.args.piece.now.tags) (chars c.args.piece.now.text) none
 
 pub returns-then-is_empty-clause-so_far : goal.returns-then-is_empty-clause-so_far
 returns-then-is_empty-clause-so_far c = λ after selection listed so_far h.

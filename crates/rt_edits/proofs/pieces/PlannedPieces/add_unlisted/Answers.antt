@@ -9,6 +9,7 @@ use Rattle.rt_ops.specs.Edits.{body_of}
 use Rattle.rt_store.specs.Cells.{stamps_of}
 use Rattle.rt_store.specs.Shown.{shown}
 use Rattle.rt_store.specs.Spans.{is_among}
+use Rattle.rt_rga.specs.Few.{items_in}
 use Rattle.rt_edits.specs.declared.pieces.PlannedPieces.{PlannedPieces}
 use Rattle.rt_edits.specs.InsertionDrafts.{behind, text_drafts}
 use Rattle.rt_edits.specs.InsertionPlans.{selected_between}
@@ -24,7 +25,7 @@ pub returns-then-is_empty-clause-drafts : goal.returns-then-is_empty-clause-draf
 returns-then-is_empty-clause-drafts c = λ after sel listed so_far same h.
     let t = c.args.states.now in
     let none : chars c.args.rest.now ≡ [] = sym c.in_ok-text.ensures.ok ∙ sym c.characters-characters.ensures ∙ none_in c.characters-characters.result.now (length c.characters-characters.result.now) c.is_empty.result refl c.is_empty.ensures c.if-is_empty.true in
-    no_drafts (map body_of c.args.self.now.texts.drafts.items) c.args.site.number so_far.count (behind after so_far.cells)
+    no_drafts (map body_of (items_in c.args.self.now.texts.drafts)) c.args.site.number so_far.count (behind after so_far.cells)
     (tags_between (last_of (option_map (shown t) c.args.left) so_far.cells) (option_map (shown t) c.args.right)) (chars c.args.rest.now) none
 
 pub returns-then-is_empty-clause-plans : goal.returns-then-is_empty-clause-plans
@@ -67,7 +68,7 @@ returns-in_default-clause-drafts c = λ after sel listed so_far same h.
     let names_are : as_words c.deref.result.now ≡ tags_between (last_of (option_map (shown t) c.args.left) so_far.cells) (option_map (shown t) c.args.right) =
     ap as_words c.deref.ensures.value ∙ c.in_ok-names.ensures.ok so_far.cells h.last in
     c.in_ok-add_text.ensures.drafts
-    ∙ (λ i. map body_of c.args.self.now.texts.drafts.items ++ text_drafts MOST_CHARACTERS c.args.site.number (h.count i) (h.element i) (names_are i) (text_is i))
+    ∙ (λ i. map body_of (items_in c.args.self.now.texts.drafts) ++ text_drafts MOST_CHARACTERS c.args.site.number (h.count i) (h.element i) (names_are i) (text_is i))
 
 pub returns-in_default-clause-plans : goal.returns-in_default-clause-plans
 returns-in_default-clause-plans c = λ plan after sel listed so_far same h a p.
@@ -103,7 +104,7 @@ returns-clause-drafts c = λ after sel listed so_far same h.
     let names_are : as_words c.deref.result.now ≡ tags_between (last_of (option_map (shown t) c.args.left) so_far.cells) (option_map (shown t) c.args.right) =
     ap as_words c.deref.ensures.value ∙ c.in_ok-names.ensures.ok so_far.cells h.last in
     c.in_ok-add_text.ensures.drafts
-    ∙ (λ i. map body_of c.args.self.now.texts.drafts.items ++ text_drafts MOST_CHARACTERS c.args.site.number (h.count i) (h.element i) (names_are i) (text_is i))
+    ∙ (λ i. map body_of (items_in c.args.self.now.texts.drafts) ++ text_drafts MOST_CHARACTERS c.args.site.number (h.count i) (h.element i) (names_are i) (text_is i))
 
 pub returns-clause-plans : goal.returns-clause-plans
 returns-clause-plans c = λ plan after sel listed so_far same h a p.

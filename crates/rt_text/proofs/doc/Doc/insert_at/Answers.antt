@@ -20,6 +20,7 @@ use Rattle.rt_rga.specs.Histories.{IsHistory}
 use Rattle.rt_rga.specs.Drafts.{with_drafts}
 use Rattle.rt_rga.specs.Made.{refusal_of}
 use Rattle.rt_rga.specs.Requests.{MayBeMade}
+use Rattle.rt_rga.specs.Few.{items_in}
 use Rattle.rt_edits.specs.DraftLaws.{IsDocument}
 use Rattle.rt_edits.specs.Flat.{Flat, logged}
 use Rattle.rt_edits.specs.InsertionPlans.{Plans}
@@ -115,8 +116,8 @@ make_planned-requires-clause-may g c =
     let rest = c.args.rest.now in
     let place = c.args.place in
     let is = place_is flat own others place c.kept.ensures.history c.kept.ensures.document c.kept.ensures.site c.requires.place in
-    let drafts : map body_of c.replace-drafts.result.items ≡ made_drafts flat own others place pieces rest =
-    ap (λ v. map body_of v.items) c.replace-drafts.ensures.value ∙ c.in_ok-plan.ensures.drafts others in
+    let drafts : map body_of (items_in c.replace-drafts.result) ≡ made_drafts flat own others place pieces rest =
+    ap (λ few. map body_of (items_in few)) c.replace-drafts.ensures.value ∙ c.in_ok-plan.ensures.drafts others in
     let may : MayBeMade flat.site flat.log (made_drafts flat own others place pieces rest) =
     may_make flat own others place pieces rest is c.requires.pieces c.utf8.rest in
     subst (λ (p : _). p) (λ i. MayBeMade (sym c.self.view_is i).site (sym c.self.view_is i).log (sym drafts i)) may
@@ -134,9 +135,9 @@ returns-in_err-make_planned g c =
     let rest = c.args.rest.now in
     let place = c.args.place in
     let is = place_is flat own others place c.kept.ensures.history c.kept.ensures.document c.kept.ensures.site c.requires.place in
-    let drafts : map body_of c.replace-drafts.result.items ≡ made_drafts flat own others place pieces rest =
-    ap (λ v. map body_of v.items) c.replace-drafts.ensures.value ∙ c.in_ok-plan.ensures.drafts others in
-    let same : refusal_of c.self.inside.replica.limit (map body_of c.replace-drafts.result.items) c.self.inside.replica.log ≡ first_of (late_checks flat (with_pieces_at (viewed flat own others) place pieces rest)) =
+    let drafts : map body_of (items_in c.replace-drafts.result) ≡ made_drafts flat own others place pieces rest =
+    ap (λ few. map body_of (items_in few)) c.replace-drafts.ensures.value ∙ c.in_ok-plan.ensures.drafts others in
+    let same : refusal_of c.self.inside.replica.limit (map body_of (items_in c.replace-drafts.result)) c.self.inside.replica.log ≡ first_of (late_checks flat (with_pieces_at (viewed flat own others) place pieces rest)) =
     (λ i. refusal_of (c.self.view_is i).limit (drafts i) (c.self.view_is i).log) ∙ refused_as flat own others place pieces rest is in
     let (y, is, gives) = err_from_is_err_and c.from_residual-in_err-make_planned.result c.from_residual-in_err-make_planned.ensures.1 in
     let own_now : Own = own_in c.widget.inside.parts in
@@ -163,8 +164,8 @@ insert_all-requires g c =
     let rest = c.args.rest.now in
     let place = c.args.place in
     let is = place_is flat own others place c.kept.ensures.history c.kept.ensures.document c.kept.ensures.site c.requires.place in
-    let drafts : map body_of c.replace-drafts.result.items ≡ made_drafts flat own others place pieces rest =
-    ap (λ v. map body_of v.items) c.replace-drafts.ensures.value ∙ c.in_ok-plan.ensures.drafts others in
+    let drafts : map body_of (items_in c.replace-drafts.result) ≡ made_drafts flat own others place pieces rest =
+    ap (λ few. map body_of (items_in few)) c.replace-drafts.ensures.value ∙ c.in_ok-plan.ensures.drafts others in
     let plans : Plans c.in_ok-plan.plan own.sel (selections_of others) flat.tags (made_new flat own others place pieces rest) =
     c.in_ok-plan.ensures.plans others in
     let fit = all_fit flat own others place pieces rest is
@@ -212,8 +213,8 @@ invariant_of-self-2 g c =
     let here : at ≡ point =
     ap (λ (y : Stretch). y.begin + place) c.requires.stretch in
     let is = place_is flat own others place c.kept.ensures.history c.kept.ensures.document c.kept.ensures.site c.requires.place in
-    let drafts : map body_of c.replace-drafts.result.items ≡ made_drafts flat own others place pieces rest =
-    ap (λ v. map body_of v.items) c.replace-drafts.ensures.value ∙ c.in_ok-plan.ensures.drafts others in
+    let drafts : map body_of (items_in c.replace-drafts.result) ≡ made_drafts flat own others place pieces rest =
+    ap (λ few. map body_of (items_in few)) c.replace-drafts.ensures.value ∙ c.in_ok-plan.ensures.drafts others in
     let plans : Plans c.in_ok-plan.plan own.sel (selections_of others) flat.tags (made_new flat own others place pieces rest) =
     c.in_ok-plan.ensures.plans others in
     let fit = all_fit flat own others place pieces rest is
@@ -244,8 +245,8 @@ returns g c =
     let here : at ≡ point =
     ap (λ (y : Stretch). y.begin + place) c.requires.stretch in
     let is = place_is flat own others place c.kept.ensures.history c.kept.ensures.document c.kept.ensures.site c.requires.place in
-    let drafts : map body_of c.replace-drafts.result.items ≡ made_drafts flat own others place pieces rest =
-    ap (λ v. map body_of v.items) c.replace-drafts.ensures.value ∙ c.in_ok-plan.ensures.drafts others in
+    let drafts : map body_of (items_in c.replace-drafts.result) ≡ made_drafts flat own others place pieces rest =
+    ap (λ few. map body_of (items_in few)) c.replace-drafts.ensures.value ∙ c.in_ok-plan.ensures.drafts others in
     let plans : Plans c.in_ok-plan.plan own.sel (selections_of others) flat.tags (made_new flat own others place pieces rest) =
     c.in_ok-plan.ensures.plans others in
     let fit = all_fit flat own others place pieces rest is

@@ -9,6 +9,7 @@ use Rattle.rt_store.specs.declared.cell.Cell.{Cell}
 use Rattle.rt_store.specs.Cells.{visible_of}
 use Rattle.rt_store.specs.Shown.{TaggedCell, shown}
 use Rattle.rt_tags.specs.States.{IsState}
+use Rattle.rt_rga.specs.Few.{items_in}
 use Rattle.rt_edits.specs.Flat.{Flat}
 use Rattle.rt_edits.specs.Insertions.{Insertion}
 use Rattle.rt_edits.specs.Selected.{selected_stamps}
@@ -126,7 +127,7 @@ returns-clause-drafts g c =
     } in
     let f = found table kept flat own others place pieces c.limits.result c.args.stretch c.left_of-behind.result c.shown_before-left.result c.shown_at-right.result c.stamp_or_root-after.result c.kept.ensures.cells is
     c.limits.ensures (c.requires.stretch ∙ sym (stretch_kept table kept flat.cells own.limits c.kept.ensures.cells) ∙ ap (stretch_of kept) (sym c.limits.ensures)) c.left_of-behind.ensures c.shown_before-left.ensures c.shown_at-right.ensures c.stamp_or_root-after.ensures in
-    drafts_are flat own others place pieces rest c.site-site.result.number c.seen-count.result stamps_now at c.stamp_or_root-after.result left right site count sel f (map body_of plan.drafts.items)
+    drafts_are flat own others place pieces rest c.site-site.result.number c.seen-count.result stamps_now at c.stamp_or_root-after.result left right site count sel f (map body_of (items_in plan.drafts))
     (h stamps_now (selections_of others) flat.tags any))
     c.planned_between.ensures.drafts
 

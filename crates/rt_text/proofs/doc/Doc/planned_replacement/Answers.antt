@@ -1,4 +1,4 @@
-use Rattle.std.proofs.Common.{◌≡◌, ◌∙◌, ◌⊎◌, ◌+◌, ◌-◌, ◌<◌, ◌≤◌, ◌||◌, All, [], ◌∷◌, cond, not, None, length, ap, arith, inl, inr, refl, subst, sym}
+use Rattle.std.proofs.Common.{◌≡◌, ◌∙◌, ◌⊎◌, ◌+◌, ◌++◌, ◌-◌, ◌<◌, ◌≤◌, ◌||◌, All, [], ◌∷◌, cond, not, None, length, ap, arith, inl, inr, refl, subst, sym}
 use Rattle.std.specs.Prelude.{IfSome, is_some, nat_eq}
 use Rattle.std.proofs.lemmas.Result.{err_from_is_err_and}
 use Rattle.rt_stamps.specs.declared.limits.TheConstants.{GREATEST_COUNT}
@@ -7,6 +7,7 @@ use Rattle.rt_marks.specs.Marks.{place_left}
 use Rattle.rt_store.specs.declared.cell.Cell.{Cell}
 use Rattle.rt_store.specs.Cells.{visible_of}
 use Rattle.rt_tags.specs.States.{IsState}
+use Rattle.rt_rga.specs.Few.{items_in}
 use Rattle.rt_edits.specs.Deletions.{Loss, without_text}
 use Rattle.rt_edits.specs.Flat.{Flat}
 use Rattle.rt_edits.specs.Insertions.{left_neighbour, right_neighbour}
@@ -304,10 +305,10 @@ returns-in_err-plan g c =
       )) c.in_err-plan.ensures.err;
     })
 
-pub returns-in_err-append : goal.returns-in_err-append
-returns-in_err-append g c =
-    let (y, same, gives) = err_from_is_err_and c.from_residual-in_err-append.result c.from_residual-in_err-append.ensures.1 in
-    rw (same, gives) (record { plans = tt; removed = tt; order = tt; held = tt; alone = tt; fits = tt; err = inl refl })
+pub returns-in_err-move_to : goal.returns-in_err-move_to
+returns-in_err-move_to g c =
+    let (y, same, gives) = err_from_is_err_and c.from_residual-in_err-move_to.result c.from_residual-in_err-move_to.ensures.1 in
+    rw (same, gives) (record { plans = tt; removed = tt; order = tt; held = tt; alone = tt; fits = tt; err = inl c.in_err-move_to.ensures.err })
 
 pub returns-clause-order : goal.returns-clause-order
 returns-clause-order g c = c.in_ok-deletion.ensures.order
@@ -370,7 +371,7 @@ returns-clause-plans g c = λ others.
     record {
       place = at_left table kept flat own stretch is range removed places others limits d.held place at pieces rest before after left right fits beside;
       drafts = drafts_are table kept flat own stretch is range removed places others limits d.held place at pieces rest before after left right fits beside number c.in_ok-count.count selected site count sel
-          d.drafts.items c.in_ok-plan.plan.drafts.items c.append.new.self.items made c.in_ok-plan.ensures.drafts c.in_ok-append.ensures.items;
+          d.drafts.items (items_in c.in_ok-plan.plan.drafts) c.move_to.new.list.items made c.in_ok-plan.ensures.drafts (c.in_ok-move_to.ensures.ok ∙ ap (λ few. d.drafts.items ++ items_in few) c.replace-inserts.ensures.value);
       plan = record { characters = plan.characters; sel = plan.sel; others = plan.others; tags = plan.tags };
     }
 

@@ -12,6 +12,7 @@ use Rattle.rt_rga.specs.Drafts.{with_drafts}
 use Rattle.rt_rga.specs.Made.{refusal_of}
 use Rattle.rt_rga.specs.Requests.{MayBeMade}
 use Rattle.rt_rga.proofs.Requests.{greatest_bound}
+use Rattle.rt_rga.specs.Few.{items_in}
 use Rattle.rt_edits.specs.Flat.{Flat}
 use Rattle.rt_edits.specs.Insertions.{all_listed}
 use Rattle.rt_edits.proofs.PlaceLaws.{text_within}
@@ -164,7 +165,7 @@ returns-in_err-commit g c =
     } in
     let plans = planned states table store number many flat group plan p in
     let i = reverts states table store number many flat group plan p in
-    let same : refusal_of c.self.inside.replica.limit (map body_of plan.drafts.items) c.self.inside.replica.log ≡ reversion_check flat group =
+    let same : refusal_of c.self.inside.replica.limit (map body_of (items_in plan.drafts)) c.self.inside.replica.log ≡ reversion_check flat group =
     (λ k. refusal_of (c.self.view_is k).limit (plans.drafts k) (c.self.view_is k).log) ∙ all_refused flat group i in
     let (y, is, gives) = err_from_is_err_and c.from_residual-in_err-commit.result c.from_residual-in_err-commit.ensures.1 in
     let doc : seen c.commit.new.self c.self.inside.marks c.prepare_tags.new.table.names ≡ flat =
