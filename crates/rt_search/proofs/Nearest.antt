@@ -67,14 +67,14 @@ least search pattern text stretch found Forwards e w h =
     let at : found ≡ stretch.begin + f.index = sym f.there ∙ forwards_at stretch f.index 0 inside in
     let low : stretch.begin ≤ found = omega arith in
     let high : found < stretch.end = omega arith in (
-      (low, high, f.passes),
+      record { begins = low; ends = high; matches = f.passes },
       λ other o.
-          let from = o.0 in
-          let to = o.1 in
+          let from = o.begins in
+          let to = o.ends in
           let k : other - stretch.begin < stretch.end - stretch.begin = omega arith in
           let back : stretch.begin + (other - stretch.begin) ≡ other = omega arith in
           let far : f.index ≤ other - stretch.begin = not_less f.index (other - stretch.begin)
-          (λ p. clash test (get_or places (other - stretch.begin) 0) other (forwards_at stretch (other - stretch.begin) 0 k ∙ back) (f.before (other - stretch.begin) p) o.2) in
+          (λ p. clash test (get_or places (other - stretch.begin) 0) other (forwards_at stretch (other - stretch.begin) 0 k ∙ back) (f.before (other - stretch.begin) p) o.matches) in
           omega arith,
     )
 
@@ -92,36 +92,36 @@ greatest search pattern text stretch found Backwards e w h =
     let at : found ≡ stretch.end - 1 - f.index = sym f.there ∙ backwards_at stretch f.index 0 inside in
     let low : stretch.begin ≤ found = omega arith in
     let high : found < stretch.end = omega arith in (
-      (low, high, f.passes),
+      record { begins = low; ends = high; matches = f.passes },
       λ other o.
-          let from = o.0 in
-          let to = o.1 in
+          let from = o.begins in
+          let to = o.ends in
           let k : stretch.end - 1 - other < stretch.end - stretch.begin = omega arith in
           let back : stretch.end - 1 - (stretch.end - 1 - other) ≡ other = omega arith in
           let far : f.index ≤ stretch.end - 1 - other = not_less f.index (stretch.end - 1 - other)
-          (λ p. clash test (get_or places (stretch.end - 1 - other) 0) other (backwards_at stretch (stretch.end - 1 - other) 0 k ∙ back) (f.before (stretch.end - 1 - other) p) o.2) in
+          (λ p. clash test (get_or places (stretch.end - 1 - other) 0) other (backwards_at stretch (stretch.end - 1 - other) 0 k ∙ back) (f.before (stretch.end - 1 - other) p) o.matches) in
           omega arith,
     )
 
 pub none : (search : Search) (pattern text : List ℕ) (stretch : Stretch) (place : ℕ) (d : Direction)
     → slice_get (filter (is_match search pattern text stretch) (ordered_places d stretch)) 0 ≡ None → IsMatchIn search pattern text stretch place → ⊥
 none search pattern text stretch place Forwards h o =
-    let from = o.0 in
-    let to = o.1 in
+    let from = o.begins in
+    let to = o.ends in
     let test = is_match search pattern text stretch in
     let places = ordered_places Forwards stretch in
     let many : length places ≡ stretch.end - stretch.begin = length_ordered Forwards stretch in
     let k : place - stretch.begin < stretch.end - stretch.begin = omega arith in
     let back : stretch.begin + (place - stretch.begin) ≡ place = omega arith in
     let within : place - stretch.begin < length places = omega arith in
-    clash test (get_or places (place - stretch.begin) 0) place (forwards_at stretch (place - stretch.begin) 0 k ∙ back) (none_at test places h (place - stretch.begin) within) o.2
+    clash test (get_or places (place - stretch.begin) 0) place (forwards_at stretch (place - stretch.begin) 0 k ∙ back) (none_at test places h (place - stretch.begin) within) o.matches
 none search pattern text stretch place Backwards h o =
-    let from = o.0 in
-    let to = o.1 in
+    let from = o.begins in
+    let to = o.ends in
     let test = is_match search pattern text stretch in
     let places = ordered_places Backwards stretch in
     let many : length places ≡ stretch.end - stretch.begin = length_ordered Backwards stretch in
     let k : stretch.end - 1 - place < stretch.end - stretch.begin = omega arith in
     let back : stretch.end - 1 - (stretch.end - 1 - place) ≡ place = omega arith in
     let within : stretch.end - 1 - place < length places = omega arith in
-    clash test (get_or places (stretch.end - 1 - place) 0) place (backwards_at stretch (stretch.end - 1 - place) 0 k ∙ back) (none_at test places h (stretch.end - 1 - place) within) o.2
+    clash test (get_or places (stretch.end - 1 - place) 0) place (backwards_at stretch (stretch.end - 1 - place) 0 k ∙ back) (none_at test places h (stretch.end - 1 - place) within) o.matches

@@ -82,5 +82,9 @@ all_matches overlaps search pattern text start stop = fold (with_match overlaps 
 -- WHAT THE FIRST MATCH IS
 
 -- a place of a stretch where a search finds the pattern
-abbrev pub IsMatchIn : Search → List ℕ → List ℕ → Stretch → ℕ → Type 0
-IsMatchIn search pattern text stretch place = (stretch.begin ≤ place) × (place < stretch.end) × (is_match search pattern text stretch place ≡ true)
+pub record IsMatchIn (search : Search) (pattern text : List ℕ) (stretch : Stretch) (place : ℕ) : Type 0 where
+  -- the stretch begins there or before it
+  pub begins : stretch.begin ≤ place
+  -- and ends behind it
+  pub ends : place < stretch.end
+  pub matches : is_match search pattern text stretch place ≡ true

@@ -22,7 +22,7 @@ IsOther m = IsName m.name × (is_own m.name ≡ false)
 
 others_of : (n : ℕ) (marks : List Mark) → AreSiteMarks n marks → AllByRecursion IsOther marks
 others_of n [] h = tt
-others_of n (m ∷ marks) h = ((h.0.1, h.0.2), others_of n marks h.1)
+others_of n (m ∷ marks) h = ((h.0.name, h.0.other), others_of n marks h.1)
 
 others_seen : (stretch : Stretch) (marks : List Mark) → AllByRecursion IsOther marks → AllByRecursion IsOther (map (mark_seen stretch) marks)
 others_seen stretch [] h = tt
@@ -122,7 +122,7 @@ within_all n p stretch b e h = omega (arith, b, e, h)
 unmoved : (n : ℕ) (stretch : Stretch) (marks : List Mark) → stretch.begin ≡ 0 → stretch.end ≡ n → AreSiteMarks n marks → map (mark_seen stretch) marks ≡ marks
 unmoved n stretch [] b e h = refl
 unmoved n stretch (m ∷ marks) b e h =
-    let same : seen_place stretch m.place ≡ m.place = within_all n m.place stretch b e h.0.0 in
+    let same : seen_place stretch m.place ≡ m.place = within_all n m.place stretch b e h.0.place in
     let here : mark_seen stretch m ≡ m = ap (λ (p : ℕ). record m { place = p }) same in
     (λ i. here i ∷ unmoved n stretch marks b e h.1 i)
 
@@ -133,7 +133,7 @@ all_shown n stretch marks b e h o = ap in_order (unmoved n stretch marks b e h) 
 -- and no place is so great that no number is greater
 pub few_places : (n most : ℕ) (marks : List Mark) → n < most → AreSiteMarks n marks → AllByRecursion (λ m. m.place < most) marks
 few_places n most [] l h = tt
-few_places n most (m ∷ marks) l h = (omega (arith, l, h.0.0), few_places n most marks l h.1)
+few_places n most (m ∷ marks) l h = (omega (arith, l, h.0.place), few_places n most marks l h.1)
 
 -- both tests of that pass
 pub both_ends : (begin end n : ℕ) → (begin == 0 && end == n) ≡ true → (begin ≡ 0) × (end ≡ n)

@@ -41,7 +41,7 @@ use Rattle.rt_text.specs.Widgets.{AreSiteMarks, IsOwnOf, Own, Viewed, in_text, o
 use Rattle.rt_text.proofs.InsertedSides.{IsFound, IsPlace, IsRight, at_text, drafts_any, left_there, near, near_within, right_any}
 use Rattle.rt_text.proofs.ListedText.{IsAmong, ListsAll, insertion_lists, insertion_tags, left_among, listed_put, names_of_all, text_among}
 use Rattle.rt_text.proofs.MadeDocument.{both_fit, refusal_is}
-use Rattle.rt_text.proofs.MarkLaws.{length_put, own_of_inserted, site_inserted}
+use Rattle.rt_text.proofs.MarkLaws.{length_put, own_of_inserted, own_of_selecting, site_inserted}
 use Rattle.rt_text.proofs.PeerLaws.{each_by, each_selecting}
 use Rattle.rt_text.proofs.PutLaws.{late_checks, put_length}
 use Rattle.rt_text.proofs.ViewLaws.{viewed}
@@ -206,7 +206,8 @@ module _ (flat : Flat) (own : Own) (others : List Own) (place : ℕ) (pieces : L
   pub own_made : All IsPiece pieces → AreListed flat.tags flat.cells → IsOwnOf (length (text_of flat.cells)) own
       → IsOwnOf (length (text_of (made_flat flat own others place pieces rest).cells)) (record (own_inserted at (length (made_new flat own others place pieces rest).cells) own) { sel = (made_new flat own others place pieces rest).sel })
   own_made are listed stands =
-      subst (λ (n : ℕ). IsOwnOf n (record (own_inserted at (length (made_new flat own others place pieces rest).cells) own) { sel = (made_new flat own others place pieces rest).sel })) (sym (text_more are listed)) (own_of_inserted (length (text_of flat.cells)) at (length (made_new flat own others place pieces rest).cells) own stands)
+      subst (λ (n : ℕ). IsOwnOf n (record (own_inserted at (length (made_new flat own others place pieces rest).cells) own) { sel = (made_new flat own others place pieces rest).sel })) (sym (text_more are listed))
+      (own_of_selecting _ _ (made_new flat own others place pieces rest).sel (own_of_inserted (length (text_of flat.cells)) at (length (made_new flat own others place pieces rest).cells) own stands))
 
   -- the other widgets stand in it too
   pub others_made : All IsPiece pieces → AreListed flat.tags flat.cells → AllByRecursion (IsOwnOf (length (text_of flat.cells))) others

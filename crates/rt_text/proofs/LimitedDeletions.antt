@@ -43,7 +43,7 @@ use Rattle.rt_text.specs.Widgets.{Own, AreSiteMarks, IsOwnOf, last_newline, own_
 use Rattle.rt_text.specs.Commands.{clock_check, without_ranges}
 use Rattle.rt_text.proofs.MadeDocument.{seen, seen_made, counts_alone, clock_fits}
 use Rattle.rt_text.proofs.ViewLaws.{viewed}
-use Rattle.rt_text.proofs.MarkLaws.{length_gone, own_of_left, site_left}
+use Rattle.rt_text.proofs.MarkLaws.{length_gone, own_of_left, own_of_selecting, site_left}
 use Rattle.rt_text.proofs.PeerLaws.{each_by}
 
 -- SELECTIONS
@@ -167,7 +167,8 @@ module _ (flat : Flat) (limits : Limits) (ranges : List Range) where
     pub deletion_others : (others : List Own) (removed : ℕ → Bool) (last : Stamp) (held : Bool) → ((p : ℕ) → removed p ≡ removed_of p) → AllByRecursion (IsOwnOf (length (text_of flat.cells))) others
         → AllByRecursion (IsOwnOf (length (text_of left_of.cells))) (map (widget_left removed last held) others)
     deletion_others others removed last held places all =
-        each_by (IsOwnOf (length (text_of flat.cells))) (IsOwnOf (length (text_of left_of.cells))) (widget_left removed last held) (λ own k. deletion_own own removed places k) others all
+        each_by (IsOwnOf (length (text_of flat.cells))) (IsOwnOf (length (text_of left_of.cells))) (widget_left removed last held)
+        (λ own k. own_of_selecting _ (own_left removed own) (last_gone last held own.sel) (deletion_own own removed places k)) others all
 
   -- marks stay in the text that is left
   pub deletion_placed : (marks : List Mark) (removed : ℕ → Bool) → ((p : ℕ) → removed p ≡ removed_of p) → marks ≡ marks_left removed flat.marks

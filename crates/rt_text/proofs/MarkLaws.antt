@@ -25,7 +25,7 @@ use Rattle.rt_edits.proofs.RemovedText.{text_left}
 
 by_test : (n : ℕ) (m : Mark) (o : Option Mark) (b : Bool) → IsSiteMark n m → ((place : ℕ) → option_map (λ (x : Mark). x.place) o ≡ Some place → place ≤ n)
     → (place : ℕ) → option_map (λ (x : Mark). x.place) (cond b (Some m) o) ≡ Some place → place ≤ n
-by_test n m o true h k place e = let q : m.place ≡ place = cc in omega (arith, h.0)
+by_test n m o true h k place e = let q : m.place ≡ place = cc in omega (arith, h.place)
 by_test n m o false h k place e = k place e
 
 -- its place is within the text
@@ -40,14 +40,14 @@ found_named name m o false e h k s = k s
 -- its name is a name
 pub site_named : (n : ℕ) (marks : List Mark) → AreSiteMarks n marks → (name : List ℕ) → IsSome (named name marks) → IsName name
 site_named n [] h name s = cc
-site_named n (m ∷ marks) h name s = found_named name m (named name marks) (is_named name m) refl h.0.1 (site_named n marks h.1 name) s
+site_named n (m ∷ marks) h name s = found_named name m (named name marks) (is_named name m) refl h.0.name (site_named n marks h.1 name) s
 
 -- AN INSERTION
 
 -- no place becomes too great
 pub site_fits : (n k most : ℕ) (marks : List Mark) → n + k ≤ most → AreSiteMarks n marks → AllByRecursion (λ m. m.place + k ≤ most) marks
 site_fits n k most [] h s = tt
-site_fits n k most (m ∷ marks) h s = (omega (arith, s.0.0), site_fits n k most marks h s.1)
+site_fits n k most (m ∷ marks) h s = (omega (arith, s.0.place), site_fits n k most marks h s.1)
 
 moved_within : (n k p : ℕ) (b : Bool) → p ≤ n → cond b (p + k) p ≤ n + k
 moved_within n k p true h = omega arith
@@ -59,11 +59,16 @@ moved_before n k p false h = omega arith
 
 pub site_inserted : (n place k : ℕ) (marks : List Mark) → AreSiteMarks n marks → AreSiteMarks (n + k) (marks_inserted place k marks)
 site_inserted n place k [] s = tt
-site_inserted n place k (m ∷ marks) s = ((moved_within n k m.place (is_moved_on place m.place m.gravity) s.0.0, s.0.1, s.0.2), site_inserted n place k marks s.1)
+site_inserted n place k (m ∷ marks) s =
+    (record { place = moved_within n k m.place (is_moved_on place m.place m.gravity) s.0.place; name = s.0.name; other = s.0.other }, site_inserted n place k marks s.1)
 
 pub own_of_inserted : (n place k : ℕ) (own : Own) → IsOwnOf n own → IsOwnOf (n + k) (own_inserted place k own)
-own_of_inserted n place k own h =
-    (moved_before n k own.insert.place (is_moved_on place own.insert.place own.insert.gravity) h.0, moved_within n k own.current.place (is_moved_on place own.current.place own.current.gravity) h.1, h.2, h.3)
+own_of_inserted n place k own h = record {
+  insert = moved_before n k own.insert.place (is_moved_on place own.insert.place own.insert.gravity) h.insert;
+  current = moved_within n k own.current.place (is_moved_on place own.current.place own.current.gravity) h.current;
+  insert_name = h.insert_name;
+  current_name = h.current_name;
+}
 
 -- the text grows by the new characters
 pub length_put : {T : Type 0} (cells : List (Cell T)) (left : Stamp) (new : List (Cell T)) → length (text_of (put_after cells left new)) ≡ length (text_of cells) + length (text_of new)
@@ -108,22 +113,33 @@ site_left n removed marks s = each_in_order (IsSiteMark (place_left removed n)) 
   where
     all : (marks : List Mark) → AreSiteMarks n marks → AreSiteMarks (place_left removed n) (map (mark_left removed) marks)
     all [] s = tt
-    all (m ∷ marks) s = ((place_rising removed m.place n s.0.0, s.0.1, s.0.2), all marks s.1)
+    all (m ∷ marks) s = (record { place = place_rising removed m.place n s.0.place; name = s.0.name; other = s.0.other }, all marks s.1)
 
 -- where the last newline stays
 pub own_of_left : (n : ℕ) (removed : ℕ → Bool) (own : Own) → removed (n - 1) ≡ false → IsOwnOf n own → IsOwnOf (place_left removed n) (own_left removed own)
-own_of_left zero removed own f h = absurd (omega (arith, h.0))
+own_of_left zero removed own f h = absurd (omega (arith, h.insert))
 own_of_left (suc n) removed own f h =
     let last : suc n - 1 ≡ n = omega arith in
     let kept : removed n ≡ false = ap removed (sym last) ∙ f in
     let more : place_left removed (suc n) ≡ place_left removed n + 1 = ap (λ b. place_left removed n + cond b 0 1) kept in
-    let within : place_left removed own.insert.place ≤ place_left removed n = place_rising removed own.insert.place n (omega (arith, h.0)) in
-    (omega (arith, more, within), place_rising removed own.current.place (suc n) h.1, h.2, h.3)
+    let within : place_left removed own.insert.place ≤ place_left removed n = place_rising removed own.insert.place n (omega (arith, h.insert)) in
+    record {
+      insert = omega (arith, more, within);
+      current = place_rising removed own.current.place (suc n) h.current;
+      insert_name = h.insert_name;
+      current_name = h.current_name;
+    }
 
 -- NOTHING IS REMOVED
 
 pub own_kept : (removed : ℕ → Bool) (own : Own) → ((p : ℕ) → removed p ≡ false) → own_left removed own ≡ own
 own_kept removed own h = λ i. record own { insert = record own.insert { place = place_kept removed h own.insert.place i }; current = record own.current { place = place_kept removed h own.current.place i } }
+
+-- SOMETHING ELSE IS SELECTED
+
+-- own marks stand where they stood
+pub own_of_selecting : (n : ℕ) (own : Own) (sel : List Stamp) → IsOwnOf n own → IsOwnOf n (record own { sel = sel })
+own_of_selecting n own sel h = record { insert = h.insert; current = h.current; insert_name = h.insert_name; current_name = h.current_name }
 
 -- MARK COMMANDS
 
@@ -153,7 +169,9 @@ site_found n name (m ∷ marks) found s e = found_by n m found (named name marks
 turned_by : (n : ℕ) (gravity : Gravity) (marks : List Mark) (o : Option Mark) → ((found : Mark) → o ≡ Some found → IsSiteMark n found) → AreSiteMarks n marks
     → AreSiteMarks n (option_map_or (λ (m : Mark). put_mark (record m { gravity = gravity }) marks) o marks)
 turned_by n gravity marks None h s = s
-turned_by n gravity marks (Some m) h s = site_put n (record m { gravity = gravity }) marks (h m refl) s
+turned_by n gravity marks (Some m) h s =
+    let k = h m refl in
+    site_put n (record m { gravity = gravity }) marks (record { place = k.place; name = k.name; other = k.other }) s
 
 pub site_with_gravity : (n : ℕ) (name : List ℕ) (gravity : Gravity) (marks : List Mark) → AreSiteMarks n marks → AreSiteMarks n (marks_with_gravity name gravity marks)
 site_with_gravity n name gravity marks s = turned_by n gravity marks (named name marks) (λ found e. site_found n name marks found s e) s
@@ -171,5 +189,5 @@ pub site_set : (n : ℕ) (name : List ℕ) (place : ℕ) (old new : List Mark) (
     → place ≤ n → is_own name ≡ false → AreSiteMarks n old → AreSiteMarks n new
 site_set n name place old new (Ok x) done kept bad within other s =
     let named_so : IsName name = fine name (λ h. let e : Ok x ≡ Err BadName = bad.1 h in cc) in
-    subst (AreSiteMarks n) (sym done) (site_put n (record { name = name; place = place; gravity = gravity_or_right name old }) old (within, named_so, other) s)
+    subst (AreSiteMarks n) (sym done) (site_put n (record { name = name; place = place; gravity = gravity_or_right name old }) old (record { place = within; name = named_so; other = other }) s)
 site_set n name place old new (Err fault) done kept bad within other s = subst (AreSiteMarks n) (sym kept) s

@@ -9,6 +9,7 @@ use Rattle.rt_edits.proofs.SelectionLaws.{same_here}
 use Rattle.rt_text.specs.declared.parts.Parts.{Parts}
 use Rattle.rt_text.specs.Parts.{own_in}
 use Rattle.rt_text.specs.Widgets.{IsOwnOf, Own, own_inserted, own_left, reselected, selections_of, with_selections}
+use Rattle.rt_text.proofs.MarkLaws.{own_of_selecting}
 
 -- what a loop hasn't reached yet is as it was
 pub rest_same : (xs ys : List Parts) (i : ℕ) (d : Parts) → i < length xs → length ys ≡ length xs → drop i ys ≡ drop i xs → get_or ys i d ≡ get_or xs i d
@@ -23,14 +24,14 @@ each_by P Q rule f (own ∷ widgets) h = (f own h.0, each_by P Q rule f widgets 
 pub each_selecting : (n : ℕ) (selections : List (List Stamp)) (widgets : List Own) → AllByRecursion (IsOwnOf n) widgets → AllByRecursion (IsOwnOf n) (with_selections selections widgets)
 each_selecting n selections [] h = tt
 each_selecting n [] (own ∷ widgets) h = h
-each_selecting n (selection ∷ selections) (own ∷ widgets) h = (h.0, each_selecting n selections widgets h.1)
+each_selecting n (selection ∷ selections) (own ∷ widgets) h = (own_of_selecting n own selection h.0, each_selecting n selections widgets h.1)
 
 -- there is room for places further on
 pub each_room : (n k most : ℕ) (others : List Parts) → n + k ≤ most → AllByRecursion (IsOwnOf n) (map own_in others)
     → All (λ (p : Parts). (p.insert.place + k ≤ most) × (p.current.place + k ≤ most)) others
 each_room n k most [] f h = All-nil (λ (p : Parts). (p.insert.place + k ≤ most) × (p.current.place + k ≤ most))
 each_room n k most (p ∷ others) f h =
-    All-cons (λ (p : Parts). (p.insert.place + k ≤ most) × (p.current.place + k ≤ most)) p others (omega (arith, f, h.0.0), omega (arith, f, h.0.1)) (each_room n k most others f h.1)
+    All-cons (λ (p : Parts). (p.insert.place + k ≤ most) × (p.current.place + k ≤ most)) p others (omega (arith, f, h.0.insert), omega (arith, f, h.0.current)) (each_room n k most others f h.1)
 
 -- SELECTIONS
 

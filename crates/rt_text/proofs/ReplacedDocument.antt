@@ -45,6 +45,7 @@ use Rattle.rt_text.proofs.InsertedSides.{IsPlace, at_text}
 use Rattle.rt_text.proofs.LeftDocument.{begin_low, length_left, stretch_left}
 use Rattle.rt_text.proofs.LimitedDeletions.{deletion_length, deletion_others, deletion_own, deletion_placed, deletion_rest, spared}
 use Rattle.rt_text.proofs.MadeDocument.{seen, seen_made}
+use Rattle.rt_text.proofs.MarkLaws.{own_of_selecting}
 use Rattle.rt_text.proofs.PutLaws.{late_checks}
 use Rattle.rt_text.proofs.StayingPlaces.{left_small}
 use Rattle.rt_text.proofs.ViewLaws.{viewed}
@@ -107,7 +108,7 @@ module _ (flat : Flat) (own : Own) (others : List Own) (range : Range) (h : IsHi
   }
 
   pub rest_own : IsOwnOf (length (text_of flat.cells)) own → IsOwnOf (length (text_of rest_of.doc.cells)) rest_of.own
-  rest_own is = deletion_own flat own.limits (range ∷ []) h doc own (loss_at (viewed flat own others) range).places (λ p. refl) is
+  rest_own is = own_of_selecting _ _ rest_of.own.sel (deletion_own flat own.limits (range ∷ []) h doc own (loss_at (viewed flat own others) range).places (λ p. refl) is)
 
   pub rest_others : AllByRecursion (IsOwnOf (length (text_of flat.cells))) others → AllByRecursion (IsOwnOf (length (text_of rest_of.doc.cells))) rest_of.others
   rest_others all =

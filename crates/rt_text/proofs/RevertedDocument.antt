@@ -257,9 +257,9 @@ own_stands flat group own i ii ic ei ec h =
     let m : length (text_of (reversion (only flat own.insert) group).doc.cells) ≡ n = ap (λ (l : List TaggedCell). length (text_of l)) (same_cells flat (only flat own.insert) group i ii refl refl ei) in
     let k : length (text_of (reversion (only flat own.current) group).doc.cells) ≡ n = ap (λ (l : List TaggedCell). length (text_of l)) (same_cells flat (only flat own.current) group i ic refl refl ec) in
     let insert : (own_reverted flat group own).insert ≡ first.own.insert = ap (head_or own.insert) first.alone in
-    let current : (own_reverted flat group own).current ≡ second.own.current = ap (head_or own.current) second.alone in (
-      subst (λ (x : Mark). x.place < n) (sym insert) (omega (arith, first.stands.0, m)),
-      subst (λ (x : Mark). x.place ≤ n) (sym current) (omega (arith, second.stands.1, k)),
-      subst (λ (x : Mark). x.name ≡ codes "insert") (sym insert) first.stands.2,
-      subst (λ (x : Mark). x.name ≡ codes "current") (sym current) second.stands.3,
-    )
+    let current : (own_reverted flat group own).current ≡ second.own.current = ap (head_or own.current) second.alone in record {
+      insert = subst (λ (x : Mark). x.place < n) (sym insert) (omega (arith, first.stands.insert, m));
+      current = subst (λ (x : Mark). x.place ≤ n) (sym current) (omega (arith, second.stands.current, k));
+      insert_name = subst (λ (x : Mark). x.name ≡ codes "insert") (sym insert) first.stands.insert_name;
+      current_name = subst (λ (x : Mark). x.name ≡ codes "current") (sym current) second.stands.current_name;
+    }

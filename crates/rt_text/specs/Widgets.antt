@@ -96,10 +96,11 @@ abbrev pub own_left : (ℕ → Bool) → Own → Own
 own_left removed own = record own { insert = mark_left removed own.insert; current = mark_left removed own.current }
 
 -- own marks of a text of n characters: they stand in it, and `insert` never behind the last newline
-abbrev pub IsOwnOf : ℕ → Own → Type 0
-IsOwnOf n own =
-    (own.insert.place < n) × (own.current.place ≤ n)
-    × (own.insert.name ≡ codes "insert") × (own.current.name ≡ codes "current")
+pub record IsOwnOf (n : ℕ) (own : Own) : Type 0 where
+  pub insert : own.insert.place < n
+  pub current : own.current.place ≤ n
+  pub insert_name : own.insert.name ≡ codes "insert"
+  pub current_name : own.current.name ≡ codes "current"
 
 -- the same of the widget that commands and of the others
 pub record AreOwnOf (n : ℕ) (first : Own) (rest : List Own) : Type 0 where
@@ -109,8 +110,11 @@ pub record AreOwnOf (n : ℕ) (first : Own) (rest : List Own) : Type 0 where
 -- ALL MARKS OF A WIDGET
 
 -- a mark of the site stands in a text of n characters, and has a name that isn't an own mark's
-abbrev pub IsSiteMark : ℕ → Mark → Type 0
-IsSiteMark n m = (m.place ≤ n) × IsName m.name × (is_own m.name ≡ false)
+pub record IsSiteMark (n : ℕ) (m : Mark) : Type 0 where
+  pub place : m.place ≤ n
+  pub name : IsName m.name
+  -- not an own mark's
+  pub other : is_own m.name ≡ false
 
 abbrev pub AreSiteMarks : ℕ → List Mark → Type 0
 AreSiteMarks n marks = AllByRecursion (IsSiteMark n) marks

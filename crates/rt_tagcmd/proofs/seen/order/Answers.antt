@@ -13,5 +13,5 @@ returns g c =
     let same : c.doc.result.now.marks ≡ view.doc.marks = ap (λ (d : Flat). d.marks) c.doc.ensures in
     let site : AreSiteMarks n view.doc.marks = subst (AreSiteMarks n) same c.marks.ensures.site in
     let own : HaveOwnNames view.doc.marks = subst HaveOwnNames (c.marks.ensures.value ∙ same) c.order.ensures.own_names in
-    let shown : AreShown view = marks_are_shown view n site own c.widget.ensures.stands.2 c.widget.ensures.stands.3 in
+    let shown : AreShown view = marks_are_shown view n site own c.widget.ensures.stands.insert_name c.widget.ensures.stands.current_name in
     record { order = shown.order; names = shown.names; named = shown.among; site = (shown.current, shown.site); shown = shown.shown }

@@ -27,6 +27,7 @@ use Rattle.rt_text.proofs.LimitedDeletions.{deletion_edited, deletion_may, delet
 use Rattle.rt_text.proofs.ViewLaws.{viewed}
 use Rattle.rt_text.proofs.DeletionLaws.{deletion_listed}
 use Rattle.rt_text.proofs.MadeDocument.{seen}
+use Rattle.rt_text.proofs.MarkLaws.{own_of_selecting}
 use Rattle.rt_text.proofs.PeerLaws.{leave_then}
 use Rattle.rt_text.proofs.doc.Doc.delete_in.Given.{Over}
 use Rattle.rt_text.proofs.doc.Doc.delete_in.Goals as goal
@@ -205,7 +206,8 @@ returns-clause-own g c =
     let m = made g c in
     let cells : c.commit.new.self.cells ≡ (without_text flat (loss_of flat limits ranges)).cells = ap (λ (f : Flat). f.cells) m.doc in
     subst (λ (l : List TaggedCell). IsOwnOf (length (text_of l)) c.unselect_last.new.widget) (sym cells)
-    (subst (IsOwnOf (length (text_of (without_text flat (loss_of flat limits ranges)).cells))) (sym (widget g c)) (deletion_own flat limits ranges c.kept.ensures.history c.kept.ensures.document c.args.widget.now (is_covered d.removed.items) m.places c.requires.own))
+    (subst (IsOwnOf (length (text_of (without_text flat (loss_of flat limits ranges)).cells))) (sym (widget g c))
+    (own_of_selecting _ _ _ (deletion_own flat limits ranges c.kept.ensures.history c.kept.ensures.document c.args.widget.now (is_covered d.removed.items) m.places c.requires.own)))
 
 pub returns-clause-others : goal.returns-clause-others
 returns-clause-others g c =

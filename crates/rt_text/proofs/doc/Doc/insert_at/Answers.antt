@@ -41,7 +41,7 @@ use Rattle.rt_text.proofs.InsertedSides.{IsPlace, at_visible}
 use Rattle.rt_text.proofs.KeptDocument.{clock_spent}
 use Rattle.rt_text.proofs.LimitedDeletions.{stretch_kept}
 use Rattle.rt_text.proofs.MadeDocument.{seen, seen_made}
-use Rattle.rt_text.proofs.MarkLaws.{site_fits}
+use Rattle.rt_text.proofs.MarkLaws.{own_of_selecting, site_fits}
 use Rattle.rt_text.proofs.PeerLaws.{each_by, each_room, put_each, selecting}
 use Rattle.rt_text.proofs.PutLaws.{late_checks, visible_same}
 use Rattle.rt_text.proofs.ViewLaws.{viewed}
@@ -179,10 +179,10 @@ insert_all-requires g c =
     let n = length (text_of flat.cells) in
     record {
       marks = site_fits (length (text_of c.self.inside.replica.cells)) c.in_ok-plan.plan.characters (2 ^ 64 - 1) c.self.inside.marks (subst (λ n. n + c.in_ok-plan.plan.characters ≤ 2 ^ 64 - 1) (sym many) few) c.self.invariant.placed;
-      insert = before_fits c.widget.inside.parts.insert.place own.insert.place (length (text_of flat.cells)) c.in_ok-plan.plan.characters (2 ^ 64 - 1) (ap (λ (o : Own). o.insert.place) c.widget.view_is) c.requires.own.0 few;
-      current = mark_fits c.widget.inside.parts.current.place own.current.place (length (text_of flat.cells)) c.in_ok-plan.plan.characters (2 ^ 64 - 1) (ap (λ (o : Own). o.current.place) c.widget.view_is) c.requires.own.1 few;
+      insert = before_fits c.widget.inside.parts.insert.place own.insert.place (length (text_of flat.cells)) c.in_ok-plan.plan.characters (2 ^ 64 - 1) (ap (λ (o : Own). o.insert.place) c.widget.view_is) c.requires.own.insert few;
+      current = mark_fits c.widget.inside.parts.current.place own.current.place (length (text_of flat.cells)) c.in_ok-plan.plan.characters (2 ^ 64 - 1) (ap (λ (o : Own). o.current.place) c.widget.view_is) c.requires.own.current few;
       others = each_room n c.in_ok-plan.plan.characters (2 ^ 64 - 1) c.select_all.new.others few
-          (subst (AllByRecursion (IsOwnOf n)) (sym now) (each_by (IsOwnOf n) (IsOwnOf n) (selecting between) (λ other stands. stands) others c.requires.others));
+          (subst (AllByRecursion (IsOwnOf n)) (sym now) (each_by (IsOwnOf n) (IsOwnOf n) (selecting between) (λ other stands. own_of_selecting n other _ stands) others c.requires.others));
     }
 
 pub list_tags-requires-clause-names : goal.list_tags-requires-clause-names

@@ -41,7 +41,7 @@ use Rattle.rt_text.specs.Widgets.{AreSiteMarks, IsOwnOf, Own, Viewed, begin_of, 
 use Rattle.rt_text.proofs.KeptDocument.{clock_spent}
 use Rattle.rt_text.proofs.LimitedDeletions.{last_gone, last_kept, stretch_kept, widget_left}
 use Rattle.rt_text.proofs.MadeDocument.{seen}
-use Rattle.rt_text.proofs.MarkLaws.{site_fits}
+use Rattle.rt_text.proofs.MarkLaws.{own_of_selecting, site_fits}
 use Rattle.rt_text.proofs.PeerLaws.{each_by, each_room, leave_last, put_each, selecting}
 use Rattle.rt_text.proofs.PutLaws.{late_checks}
 use Rattle.rt_text.proofs.ReplacedDocument.{IsReplacement, all_may, all_refused, characters_fit, given_names, kept_after, marks_left_are, marks_left_in, more_drafts, more_flat, more_new, others_after, others_left_in, own_after, own_left_in, point, point_is, point_within, replaced_is, replacement_seen, tags_left_are}
@@ -233,11 +233,11 @@ insert_all-requires g c =
     record {
       marks = site_fits (length (text_of left.doc.cells)) r.plan.characters (2 ^ 64 - 1) c.leave_all.new.marks few
           (subst (AreSiteMarks (length (text_of left.doc.cells))) (sym moved) (marks_left_in flat own others c.args.range r.place pieces rest i kept));
-      insert = before_fits c.leave_all.new.widget.insert.place left.own.insert.place (length (text_of left.doc.cells)) r.plan.characters (2 ^ 64 - 1) insert (own_left_in flat own others c.args.range r.place pieces rest i c.requires.own).0 few;
-      current = mark_fits c.leave_all.new.widget.current.place left.own.current.place (length (text_of left.doc.cells)) r.plan.characters (2 ^ 64 - 1) current (own_left_in flat own others c.args.range r.place pieces rest i c.requires.own).1 few;
+      insert = before_fits c.leave_all.new.widget.insert.place left.own.insert.place (length (text_of left.doc.cells)) r.plan.characters (2 ^ 64 - 1) insert (own_left_in flat own others c.args.range r.place pieces rest i c.requires.own).insert few;
+      current = mark_fits c.leave_all.new.widget.current.place left.own.current.place (length (text_of left.doc.cells)) r.plan.characters (2 ^ 64 - 1) current (own_left_in flat own others c.args.range r.place pieces rest i c.requires.own).current few;
       others = each_room n r.plan.characters (2 ^ 64 - 1) c.leave_all.new.others few
           (subst (AllByRecursion (IsOwnOf n)) (sym peers)
-          (each_by (IsOwnOf n) (IsOwnOf n) (selecting r.plan.between) (λ other stands. stands) left.others (others_left_in flat own others c.args.range r.place pieces rest i c.requires.others)));
+          (each_by (IsOwnOf n) (IsOwnOf n) (selecting r.plan.between) (λ other stands. own_of_selecting n other _ stands) left.others (others_left_in flat own others c.args.range r.place pieces rest i c.requires.others)));
     }
 
 pub list_tags-requires-clause-names : goal.list_tags-requires-clause-names

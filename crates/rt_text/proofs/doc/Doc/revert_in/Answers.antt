@@ -201,8 +201,8 @@ revert_all-requires g c =
     record {
       changes = subst (AllByRecursion IsChange) (sym c.deref-2.ensures.value) c.in_ok-plan.ensures.changes;
       marks = site_fits n (length c.deref-2.result.now) (2 ^ 64 - 1) c.self.inside.marks (omega (arith, within, few)) c.self.invariant.placed;
-      insert = omega (arith, text, within, few, c.requires.own.0);
-      current = omega (arith, text, within, few, c.requires.own.1);
+      insert = omega (arith, text, within, few, c.requires.own.insert);
+      current = omega (arith, text, within, few, c.requires.own.current);
       others = each_room (length (text_of flat.cells)) (length c.deref-2.result.now) (2 ^ 64 - 1) c.args.others.now (omega (arith, text, within, few)) c.requires.others;
     }
 

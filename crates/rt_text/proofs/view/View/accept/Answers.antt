@@ -47,7 +47,7 @@ follow-requires-clause-insert g c =
     let tells = c.in_ok-taken.ensures.change in
     let fits : length (text_of flat.cells) + c.in-New.change.inserted ≤ 2 ^ 64 - 1 =
     view_fits flat c.args.op tells.0 c.in-New.change c.in_ok-taken.taken c.in-New.is c.in_ok-taken.ensures.answer tells.1 c.log.ensures.cells c.kept.ensures.most in
-    omega (arith, fits, c.self.invariant.own.0)
+    omega (arith, fits, c.self.invariant.own.insert)
 
 pub follow-requires-clause-current : goal.follow-requires-clause-current
 follow-requires-clause-current g c =
@@ -55,7 +55,7 @@ follow-requires-clause-current g c =
     let tells = c.in_ok-taken.ensures.change in
     let fits : length (text_of flat.cells) + c.in-New.change.inserted ≤ 2 ^ 64 - 1 =
     view_fits flat c.args.op tells.0 c.in-New.change c.in_ok-taken.taken c.in-New.is c.in_ok-taken.ensures.answer tells.1 c.log.ensures.cells c.kept.ensures.most in
-    omega (arith, fits, c.self.invariant.own.1)
+    omega (arith, fits, c.self.invariant.own.current)
 
 pub follow_each-requires-clause-runs : goal.follow_each-requires-clause-runs
 follow_each-requires-clause-runs g c =
