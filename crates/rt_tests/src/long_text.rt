@@ -28,9 +28,10 @@ fn made_in_front(alloc: Global) -> Result<Own, Fail> {
 
 // Stops a test where other numbers of visible characters stand before those of the counts from 1 to 2,000. The visible ones
 // are those of the counts from a greatest one down: those of greater counts are gone, and stand before all. A climb from the
-// leaf takes a look a level at least, and sixteen at most.
+// leaf takes a look a level at least, and sixteen at most, and there is no walk but climbs.
 fn has_places(rt: &impl Abort, pair: &Pair, greatest: usize) {
     let (_, height) = pair.shape();
+    same(rt, pair.is_sure(), true);
     for count in 1..=2000 {
         let stamp = Stamp {
             count: count as u64,

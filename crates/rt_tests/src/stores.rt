@@ -295,9 +295,13 @@ impl Pair {
     /// Whether both have the same cells, and find the same by stamps and by the tag.
     pub(crate) fn is_same(&self) -> bool {
         self.has_same_cells()
-            && same_places(&self.list, &self.tree)
             && same_stamps(&self.list, &self.tree)
             && same_tags(&self.list, &self.tree, &self.states, self.tag)
+    }
+
+    // Whether both have the same cells and lines at their places.
+    fn has_same_places(&self) -> bool {
+        same_places(&self.list, &self.tree)
     }
 
     /// Whether both put the same characters into a buffer from each of the first places on, and leave the rest of it.
@@ -347,6 +351,11 @@ impl Pair {
         let mut looks = before as u64;
         let place = self.tree.climb(stamp, &mut looks);
         (place, looks.saturating_sub(before as u64))
+    }
+
+    /// Whether the tree finds stamps by climbs alone.
+    pub(crate) fn is_sure(&self) -> bool {
+        self.tree.tree().is_sure()
     }
 
     /// How many runs the tree has, and how many levels.
@@ -401,7 +410,11 @@ fn a_series_of_calls(rt: HostRuntime) -> Result<(), Fail> {
         pair.turn(random, (seed / 65_536) as usize)?;
         pair.focus(random % 300);
         assert!(rt; pair.is_same());
+        if random % 3 == 0 {
+            assert!(rt; pair.has_same_places());
+        }
     }
+    same(&rt, pair.is_sure(), false);
     for place in 0..40 {
         same(&rt, pair.search(place, 0).0, pair.next_tagged(place));
     }

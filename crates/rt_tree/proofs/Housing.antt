@@ -19,7 +19,7 @@ use Rattle.rt_tree.specs.declared.node.Counts.{Counts}
 use Rattle.rt_tree.specs.declared.node.Measure.TheVariants.{Cells}
 use Rattle.rt_tree.specs.declared.node.Run.{Run}
 use Rattle.rt_tree.specs.Additions.{are_joint, joined}
-use Rattle.rt_tree.specs.Homes.{AreHome, AreOnceEach, IsAmong, IsNew, IsPlaced, IsUnknown, KeepsAll, holders}
+use Rattle.rt_tree.specs.Homes.{AreHome, AreOnceEach, IsAmong, IsNew, IsPlaced, IsUnknown, KeepsAll, KeepsOthers, holders}
 use Rattle.rt_tree.specs.Runs.{IsRun, cells_of, characters, first_stamp, has, run_cells, with_gone}
 use Rattle.rt_tree.specs.Sharing.{AreKnown, AreUpTo, BeginsAt, IsInside, IsRecut, is_shared_by, occurrences, run_in}
 use Rattle.rt_tree.specs.Stretches.{AreKept}
@@ -79,8 +79,8 @@ unknown_new leaves newest run rs known home (inr none) stamp h = home.known stam
 
 -- ONE RUN MORE
 
-pub home_more : (leaves after : Shown NodeId) (run : Run) (old new : List Run) → ((stamp : Stamp) → holders stamp new ≡ bit (has run stamp) + holders stamp old) → AreHome leaves old → IsNew run old → IsPlaced after run → KeepsAll leaves after → AreHome after new
-home_more leaves after run old new more home fresh placed keeps = record {
+pub home_more : (leaves after : Shown NodeId) (run : Run) (old new : List Run) → ((stamp : Stamp) → holders stamp new ≡ bit (has run stamp) + holders stamp old) → AreHome leaves old → IsNew run old → IsPlaced after run → KeepsAll leaves after → KeepsOthers leaves after new → AreHome after new
+home_more leaves after run old new more home fresh placed keeps others = record {
   once = λ stamp.
       let m = more stamp in let h = home.once stamp in
       split (has run stamp)
@@ -91,11 +91,19 @@ home_more leaves after run old new more home fresh placed keeps = record {
       split (has run stamp)
       (λ t. absurd (placed stamp t none))
       (λ f. let b = no_bit (has run stamp) f in omega (arith, m, h, b));
+  runs = λ stamp none. let m = more stamp in others stamp none ∙ home.runs stamp (omega (arith, m, none));
 }
 
--- leaves are only added
-pub home_keeps : (leaves after : Shown NodeId) (rs : List Run) → KeepsAll leaves after → AreHome leaves rs → AreHome after rs
-home_keeps leaves after rs keeps home = record { once = home.once; known = λ stamp none. home.known stamp (keeps stamp none) }
+-- leaves are only added, and to stamps of runs alone
+pub home_keeps : (leaves after : Shown NodeId) (rs : List Run) → KeepsAll leaves after → KeepsOthers leaves after rs → AreHome leaves rs → AreHome after rs
+home_keeps leaves after rs keeps others home = record {
+  once = home.once;
+  known = λ stamp none. home.known stamp (keeps stamp none);
+  runs = λ stamp none. others stamp none ∙ home.runs stamp none;
+}
+
+pub others_more : (a b c : Shown NodeId) (rs : List Run) → KeepsOthers a b rs → KeepsOthers b c rs → KeepsOthers a c rs
+others_more a b c rs f g stamp none = g stamp none ∙ f stamp none
 
 pub put_holders : (old new : List Run) (at : ℕ) (run : Run) → IsPutAt old new at run → (stamp : Stamp) → holders stamp new ≡ bit (has run stamp) + holders stamp old
 put_holders old new at run put stamp =
@@ -144,7 +152,7 @@ occurs_row_is gone count site state (c ∷ text) stamp =
 occurs_is : (text : List ℕ) (r : Run) (stamp : Stamp) → IsRun text r → occurrences stamp (run_cells text r) ≡ bit (has r stamp)
 occurs_is text r stamp is = occurs_row_is r.gone r.first r.site r.state (characters text r) stamp ∙ ap (λ n. bit (among r.first r.site n stamp)) (characters_length text r is)
 
-all_occurs : (text : List ℕ) (rs : List Run) (stamp : Stamp) → AllByRecursion (IsRun text) rs → occurrences stamp (cells_of text rs) ≡ holders stamp rs
+pub all_occurs : (text : List ℕ) (rs : List Run) (stamp : Stamp) → AllByRecursion (IsRun text) rs → occurrences stamp (cells_of text rs) ≡ holders stamp rs
 all_occurs text [] stamp kept = refl
 all_occurs text (r ∷ rs) stamp kept =
     let a = occurs-append stamp (run_cells text r) (cells_of text rs) in
@@ -157,7 +165,11 @@ recut_holders : (text : List ℕ) (old new : List Run) → AllByRecursion (IsRun
 recut_holders text old new kept recut stamp = sym (all_occurs text new stamp (recut.kept text kept)) ∙ ap (occurrences stamp) (recut.cells text kept) ∙ all_occurs text old stamp kept
 
 pub same_home : (leaves : Shown NodeId) (old new : List Run) → ((stamp : Stamp) → holders stamp new ≡ holders stamp old) → AreHome leaves old → AreHome leaves new
-same_home leaves old new same home = record { once = λ stamp. let s = same stamp in let h = home.once stamp in omega (arith, s, h); known = λ stamp none. same stamp ∙ home.known stamp none }
+same_home leaves old new same home = record {
+  once = λ stamp. let s = same stamp in let h = home.once stamp in omega (arith, s, h);
+  known = λ stamp none. same stamp ∙ home.known stamp none;
+  runs = λ stamp none. home.runs stamp (sym (same stamp) ∙ none);
+}
 
 pub recut_home : (leaves : Shown NodeId) (old new : List Run) → AreKept old → IsRecut old new → AreHome leaves old → AreHome leaves new
 recut_home leaves old new kept recut home = same_home leaves old new (recut_holders kept.text old new kept.runs recut) home

@@ -47,7 +47,7 @@ module _ (m : Memory) (root : ℕ) (text : List ℕ) (n : ℕ) (kept : IsKept m 
     pub visible : length (visible_of now.cells) ≡ (counts_of (tree_runs m root)).visible
     pub newlines : newlines (text_of now.cells) ≡ (counts_of (tree_runs m root)).newlines
 
-  pub shows : (sums : List Summary) {room : Room} (now : Shown) → shown m root text sums room ≡ now → Shows now
+  pub shows : (sums : List Summary) {room : Room} {sure : Bool} (now : Shown) → shown m root text sums room sure ≡ now → Shows now
   shows sums now is =
       let c = counted text (tree_runs m root) kept.kept in
       subst Shows is (record { cells = c.cells; visible = c.visible; newlines = c.newlines })

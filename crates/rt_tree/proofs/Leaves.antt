@@ -79,7 +79,7 @@ same_entry m (e ∷ es) (suc i) (suc j) r s stamp here there mine own once =
     ap suc (same_entry m es i j r s stamp here there mine own (omega (arith, c, once)))
 
 -- no run of a list has a stamp that none holds
-none_has : (stamp : Stamp) (rs : List Run) → holders stamp rs ≡ 0 → AllByRecursion (λ (r : Run). has r stamp ≡ false) rs
+pub none_has : (stamp : Stamp) (rs : List Run) → holders stamp rs ≡ 0 → AllByRecursion (λ (r : Run). has r stamp ≡ false) rs
 none_has stamp [] none = tt
 none_has stamp (r ∷ rs) none = let h = had_not r rs stamp none in (h.0, none_has stamp rs h.1)
 
@@ -140,7 +140,7 @@ here_low m root t id i run is here = low (level_of m id) (entries m id) i (t.sha
 abbrev pub ShareNone : Run → Run → Type 0
 ShareNone r s = (stamp : Stamp) → has r stamp ≡ true → has s stamp ≡ true → ⊥
 
-in_span : (r : Run) (span : Span) (stamp : Stamp) → IsSpanOf r span → is_in_span span stamp ≡ has r stamp
+pub in_span : (r : Run) (span : Span) (stamp : Stamp) → IsSpanOf r span → is_in_span span stamp ≡ has r stamp
 in_span r span stamp is = let a = is.site in let b = is.first in let c = is.last in let d = is.some in grind (arith, nat_tests)
 
 -- the last stamp of a run

@@ -49,6 +49,7 @@ mod Passes
 mod Skipping
 mod Positions
 mod Buffers
+mod Sure
 mod Tagging
 mod Housed
 mod Housing

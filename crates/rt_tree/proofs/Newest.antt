@@ -33,10 +33,10 @@ pub upto_right : (n : ℕ) (a b : List (Cell ℕ)) → AreUpTo n (a ++ b) → Ar
 upto_right n [] b all = all
 upto_right n (c ∷ a) b all = upto_right n a b all.1
 
-upto_take : (n k : ℕ) (cs : List (Cell ℕ)) → AreUpTo n cs → AreUpTo n (take k cs)
+pub upto_take : (n k : ℕ) (cs : List (Cell ℕ)) → AreUpTo n cs → AreUpTo n (take k cs)
 upto_take n k cs all = upto_left n (take k cs) (drop k cs) (subst (AreUpTo n) (sym (take-append-drop k cs)) all)
 
-upto_drop : (n k : ℕ) (cs : List (Cell ℕ)) → AreUpTo n cs → AreUpTo n (drop k cs)
+pub upto_drop : (n k : ℕ) (cs : List (Cell ℕ)) → AreUpTo n cs → AreUpTo n (drop k cs)
 upto_drop n k cs all = upto_right n (take k cs) (drop k cs) (subst (AreUpTo n) (sym (take-append-drop k cs)) all)
 
 pub upto_put : (n at : ℕ) (new cs : List (Cell ℕ)) → AreUpTo n cs → AreUpTo n new → AreUpTo n (put_at at new cs)
@@ -68,6 +68,14 @@ pub upto_marked : (n : ℕ) (span : Span) (mark : Mark) (cs : List (Cell ℕ)) �
 upto_marked n span mark [] all = tt
 upto_marked n span mark (c ∷ cs) all =
     (split (is_in_span span c.stamp) (λ e. rw e (let s = same_count mark c in let h = all.0 in omega (arith, s, h))) (λ e. rw e all.0), upto_marked n span mark cs all.1)
+
+kept_count : (span : Span) (mark : Mark) (c : Cell ℕ) → (cell_in span mark c).stamp.count ≡ c.stamp.count
+kept_count span mark c = split (is_in_span span c.stamp) (λ e. rw e (same_count mark c)) (λ e. rw e refl)
+
+pub upto_unmarked : (n : ℕ) (span : Span) (mark : Mark) (cs : List (Cell ℕ)) → AreUpTo n (map (cell_in span mark) cs) → AreUpTo n cs
+upto_unmarked n span mark [] all = tt
+upto_unmarked n span mark (c ∷ cs) all =
+    (let k = kept_count span mark c in let h = all.0 in omega (arith, k, h), upto_unmarked n span mark cs all.1)
 
 -- RUNS WITH COUNTS THAT NO CELL HAS
 

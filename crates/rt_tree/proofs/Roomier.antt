@@ -1,5 +1,5 @@
 -- A tree in a memory that has more room, and the nodes that some runs ask for.
-use Rattle.std.proofs.Common.{◌≡◌, ◌<◌, nat_lt, ℕ, zero, suc, ◌+◌, ◌-◌, ◌*◌, ◌/◌, ◌≤◌, max, List, [], ◌∷◌, ◌++◌, length, refl, sym, ap, ◌∙◌, arith, subst}
+use Rattle.std.proofs.Common.{Bool, ◌≡◌, ◌<◌, nat_lt, ℕ, zero, suc, ◌+◌, ◌-◌, ◌*◌, ◌/◌, ◌≤◌, max, List, [], ◌∷◌, ◌++◌, length, refl, sym, ap, ◌∙◌, arith, subst}
 use Rattle.std.proofs.Math.Nat.{le-max_right, max-eq_right, max_comm}
 use Rattle.std.proofs.lemmas.Bool.{ltb-false, ltb-true}
 use Rattle.std.specs.List.{AllByRecursion}
@@ -122,16 +122,16 @@ module _ (m : Memory) (n : ℕ) (root : ℕ) (text : List ℕ) (runs : ℕ) (m' 
       })
 
 module _ (m : Memory) (n : ℕ) (root : ℕ) (text : List ℕ) (sums : List Summary) (room : Room) (m' : Memory) (is : m' ≡ with_room m n) where
-  pub room_shown : shown m' root text sums room ≡ shown m root text sums room
-  room_shown =
-      ap (λ (x : Memory). shown x root text sums room) is
-      ∙ ap (λ (l : List Run). record { cells = cells_of text l; runs = length l; height = level_of m root + 1; room = room; stretches = stretches_of (with_room m n) sums (length m.heads) }) (runs_room m n root)
-      ∙ ap (λ (l : List Stretch). record { cells = cells_of text (tree_runs m root); runs = length (tree_runs m root); height = level_of m root + 1; room = room; stretches = l }) (stretches_room m n sums)
+  pub room_shown : (sure : Bool) → shown m' root text sums room sure ≡ shown m root text sums room sure
+  room_shown sure =
+      ap (λ (x : Memory). shown x root text sums room sure) is
+      ∙ ap (λ (l : List Run). record { cells = cells_of text l; runs = length l; height = level_of m root + 1; room = room; stretches = stretches_of (with_room m n) sums (length m.heads); sure = sure }) (runs_room m n root)
+      ∙ ap (λ (l : List Stretch). record { cells = cells_of text (tree_runs m root); runs = length (tree_runs m root); height = level_of m root + 1; room = room; stretches = l; sure = sure }) (stretches_room m n sums)
 
 -- the same where summaries tell the same
-pub sums_shown : (m : Memory) (root : ℕ) (text : List ℕ) (sums sums' : List Summary) (room : Room) → length m.heads ≤ length sums → ((id : ℕ) → id < length sums → TellsAs (summary_of sums id) (summary_of sums' id)) → shown m root text sums' room ≡ shown m root text sums room
-sums_shown m root text sums sums' room many tells =
-    ap (λ (l : List Stretch). record { cells = cells_of text (tree_runs m root); runs = length (tree_runs m root); height = level_of m root + 1; room = room; stretches = l })
+pub sums_shown : (m : Memory) (root : ℕ) (text : List ℕ) (sums sums' : List Summary) (room : Room) (sure : Bool) → length m.heads ≤ length sums → ((id : ℕ) → id < length sums → TellsAs (summary_of sums id) (summary_of sums' id)) → shown m root text sums' room sure ≡ shown m root text sums room sure
+sums_shown m root text sums sums' room sure many tells =
+    ap (λ (l : List Stretch). record { cells = cells_of text (tree_runs m root); runs = length (tree_runs m root); height = level_of m root + 1; room = room; stretches = l; sure = sure })
     (stretches_same m m sums sums' (length m.heads) (λ id. refl) (λ id lt. tells id (omega (arith, lt, many))))
 
 -- there are summaries for as many nodes

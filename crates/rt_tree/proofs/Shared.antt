@@ -209,7 +209,7 @@ occurs_none stamp (c ∷ cs) h =
     let i = occurs_none stamp cs p.1 in
     omega (arith, o, b, i)
 
-occurs_once : (stamp : Stamp) (cs : List (Cell ℕ)) → AreDistinct cs → occurrences stamp cs ≤ 1
+pub occurs_once : (stamp : Stamp) (cs : List (Cell ℕ)) → AreDistinct cs → occurrences stamp cs ≤ 1
 occurs_once stamp [] d = omega arith
 occurs_once stamp (c ∷ cs) d =
     let o = occurs-cons stamp c cs in

@@ -126,7 +126,7 @@ module _ (m : Memory) (root : ℕ) (text : List ℕ) (tree : IsTree m root) (kep
   own_to zero le = tt
   own_to (suc k) le = (node_all m (level_of m root) root tree.shape k (omega (arith, le)) There all_here, own_to k (omega (arith, le)))
 
-  pub own_states : HasOwn (shown m root text sums room)
+  pub own_states : HasOwn (shown m root text sums room true)
   own_states = own_to (length m.heads) (omega arith)
 
 -- WHAT FOLLOWS OF WHAT IS SHOWN
@@ -186,13 +186,13 @@ fresh_agrees old table s own right is given = record { given = subst (AreStates 
 
 -- OF A TREE THAT IS SHOWN
 
-pub kept_summed : (m : Memory) (root : ℕ) (text : List ℕ) (sums : List Summary) (table : TagStates) (room : Room) (now : Shown) → shown m root text sums room ≡ now → Agrees table now → AreSummed table m sums
+pub kept_summed : (m : Memory) (root : ℕ) (text : List ℕ) (sums : List Summary) (table : TagStates) (room : Room) {sure : Bool} (now : Shown) → shown m root text sums room sure ≡ now → Agrees table now → AreSummed table m sums
 kept_summed m root text sums table room now is agrees = summed_from table m sums (subst (λ (v : Shown). AreRight table v.stretches) (sym is) agrees.right)
 
-pub kept_given : (m : Memory) (root : ℕ) (text : List ℕ) (n : ℕ) → IsKept m root text n → (sums : List Summary) (table : TagStates) (room : Room) (now : Shown) → shown m root text sums room ≡ now → Agrees table now → AllByRecursion (λ (r : Run). IsState table r.state) (tree_runs m root)
+pub kept_given : (m : Memory) (root : ℕ) (text : List ℕ) (n : ℕ) → IsKept m root text n → (sums : List Summary) (table : TagStates) (room : Room) {sure : Bool} (now : Shown) → shown m root text sums room sure ≡ now → Agrees table now → AllByRecursion (λ (r : Run). IsState table r.state) (tree_runs m root)
 kept_given m root text n kept sums table room now is agrees = runs_given table text (tree_runs m root) kept.kept (subst (λ (v : Shown). AreStates table v.cells) (sym is) agrees.given)
 
-pub kept_told : (m : Memory) (root : ℕ) (text : List ℕ) (n : ℕ) → IsKept m root text n → (sums : Summaries) (tags : ℕ) → HaveSummaries m sums tags → (table : TagStates) → length table.names ≤ tags → (room : Room) (now : Shown) → shown m root text sums.each.items room ≡ now → Agrees table now → AreTold table m sums (tree_runs m root)
+pub kept_told : (m : Memory) (root : ℕ) (text : List ℕ) (n : ℕ) → IsKept m root text n → (sums : Summaries) (tags : ℕ) → HaveSummaries m sums tags → (table : TagStates) → length table.names ≤ tags → (room : Room) {sure : Bool} (now : Shown) → shown m root text sums.each.items room sure ≡ now → Agrees table now → AreTold table m sums (tree_runs m root)
 kept_told m root text n kept sums tags have table few room now is agrees = record {
   each = kept_summed m root text sums.each.items table room now is agrees;
   many = have.many;

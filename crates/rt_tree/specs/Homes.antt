@@ -22,10 +22,15 @@ holders stamp rs = length (filter (λ r. has r stamp) rs)
 abbrev pub AreOnceEach : List Run → Type 0
 AreOnceEach rs = (stamp : Stamp) → holders stamp rs ≤ 1
 
--- no stamp is in two runs, and each that is in one has a leaf
+-- each stamp that has a leaf is in a run: one that is in none has no leaf
+abbrev pub HaveRuns : Shown NodeId → List Run → Type 0
+HaveRuns leaves rs = (stamp : Stamp) → holders stamp rs ≡ 0 → value_of leaves stamp ≡ None
+
+-- no stamp is in two runs; each that is in one has a leaf, and no other one has
 pub record AreHome (leaves : Shown NodeId) (rs : List Run) : Type 0 where
   pub once : AreOnceEach rs
   pub known : (stamp : Stamp) → value_of leaves stamp ≡ None → holders stamp rs ≡ 0
+  pub runs : HaveRuns leaves rs
 
 -- no run has a stamp of another one
 abbrev pub IsNew : Run → List Run → Type 0
@@ -38,6 +43,10 @@ IsUnknown leaves newest run = (newest < run.first) ⊎ ((stamp : Stamp) → has 
 -- each stamp that has a leaf still has one
 abbrev pub KeepsAll : Shown NodeId → Shown NodeId → Type 0
 KeepsAll old new = (stamp : Stamp) → value_of new stamp ≡ None → value_of old stamp ≡ None
+
+-- a stamp that is in none of the runs has the leaf that it had, if it had one, and else none
+abbrev pub KeepsOthers : Shown NodeId → Shown NodeId → List Run → Type 0
+KeepsOthers old new rs = (stamp : Stamp) → holders stamp rs ≡ 0 → value_of new stamp ≡ value_of old stamp
 
 -- each stamp of a run has a leaf
 abbrev pub IsPlaced : Shown NodeId → Run → Type 0

@@ -1,5 +1,5 @@
 -- Stamps that runs share, and the runs of a span of stamps.
-use Rattle.std.specs.Prelude.{◌≡◌, ℕ, ◌+◌, ◌-◌, ◌<◌, ◌≤◌, ◌&&◌, ◌||◌, nat_lt, true, Bool, List, ◌∷◌, ◌++◌, length, filter, if◌then◌else◌}
+use Rattle.std.specs.Prelude.{◌≡◌, ℕ, ◌+◌, ◌-◌, ◌^◌, ◌<◌, ◌≤◌, ◌&&◌, ◌||◌, nat_lt, true, Bool, List, ◌∷◌, ◌++◌, length, filter, if◌then◌else◌}
 use Rattle.std.specs.List.{AllByRecursion}
 use Rattle.rt_stamps.specs.declared.stamp.Span.{Span}
 use Rattle.rt_stamps.specs.declared.stamp.Stamp.{Stamp}
@@ -86,6 +86,10 @@ AreOnce old new = (stamp : Stamp) → occurrences stamp old + occurrences stamp 
 -- no cell has a greater count
 abbrev pub AreUpTo : ℕ → List (Cell ℕ) → Type 0
 AreUpTo newest cells = AllByRecursion (λ cell. cell.stamp.count ≤ newest) cells
+
+-- no cell has the greatest count that there is
+abbrev pub AreBelowGreatest : List (Cell ℕ) → Type 0
+AreBelowGreatest cells = AreUpTo (2 ^ 64 - 2) cells
 
 -- runs as they should be in some text, with no cell of a greater count
 pub record AreKnown (newest : ℕ) (rs : List Run) : Type 0 where

@@ -195,6 +195,7 @@ pub(crate) fn cut_home(
     ensures home { homes.new.sure ≡ true → AreHome homes.new.leaves (tree_runs mem.new result.change.root.index) }
     ensures housed { homes.new.sure ≡ true → AreHoused mem.new result.change.root.index homes.new.leaves }
     ensures left { homes.old.left ≤ homes.new.left + 1 }
+    ensures sure { homes.new.sure ≡ homes.old.sure }
     ensures told { AreTold states.now mem.new sums.new (tree_runs mem.new result.change.root.index) }
     ensures tags { sums.new.tags ≡ sums.old.tags }
     ensures end { IfSome result.end (IsEndAt mem.new result.change.root.index at) }
@@ -282,6 +283,7 @@ pub(crate) fn part(
     ensures home { homes.new.sure ≡ true → AreHome homes.new.leaves (tree_runs mem.new result.root.index) }
     ensures housed { homes.new.sure ≡ true → AreHoused mem.new result.root.index homes.new.leaves }
     ensures left { homes.old.left ≤ homes.new.left + 1 }
+    ensures sure { homes.new.sure ≡ homes.old.sure }
     ensures tree { IsTree mem.new result.root.index }
     ensures recut { IsRecut (tree_runs mem.old root.index) (tree_runs mem.new result.root.index) }
     ensures begins { AllByRecursion (BeginsAt stamp) (tree_runs mem.new result.root.index) }

@@ -6,7 +6,7 @@ ghost use Rattle.rt_nodes.specs.Nodes.{IsNode, entries};
 ghost use Rattle.rt_tree.specs.declared.node.Entry.TheVariants.{Here};
 ghost use Rattle.rt_tree.specs.declared.node.Run.{Run};
 ghost use Rattle.rt_spans.specs.Shown.{KeepsBorders, value_of};
-ghost use Rattle.rt_tree.specs.Homes.{AreHome, AreOnceEach, AreUnknown, IsPlaced, IsSaid, IsSpanOf, IsUnknown, KeepsAll};
+ghost use Rattle.rt_tree.specs.Homes.{AreHome, AreOnceEach, AreUnknown, IsPlaced, IsSaid, IsSpanOf, IsUnknown, KeepsAll, KeepsOthers};
 ghost use Rattle.rt_tree.specs.Holds.{Holds};
 ghost use Rattle.rt_tree.specs.Runs.{IsRun, has, run_cells};
 ghost use Rattle.rt_tree.specs.Shape.{IsTree, level_of, tree_runs};
@@ -153,6 +153,7 @@ impl Homes {
         ensures bordered { IfOk result (λ homes. IsBordered homes.leaves final_run) }
         ensures there { IfOk result (λ homes. HasLeaf homes.leaves root.index final_run) }
         ensures left { IfOk result (λ homes. homes.left ≡ 0) }
+        ensures sure { IfOk result (λ homes. homes.sure ≡ true) }
         ensures err { IsOkUnless result Fault.NoMemory }
     {
         let mut leaves = SpanMap::new(alloc);
@@ -280,7 +281,8 @@ impl Homes {
     // Whether no stamp of a run has a leaf.
     fn has_none(&self, run: &Run) -> bool
         requires { run.now.first + run.now.len ≤ 2 ^ 64 }
-        ensures { result ≡ true → AreUnknown self.now.leaves run.now run.now.len }
+        ensures none { result ≡ true → AreUnknown self.now.leaves run.now run.now.len }
+        ensures all { AreUnknown self.now.leaves run.now run.now.len → result ≡ true }
     {
         for offset in 0..run.len {
             let stamp = Stamp {
@@ -299,6 +301,7 @@ impl Homes {
         requires { run.now.first + run.now.len ≤ 2 ^ 64 }
         ensures sure { result ≡ true → self.now.sure ≡ true }
         ensures unknown { result ≡ true → IsUnknown self.now.leaves newest run.now }
+        ensures old { self.now.sure ≡ true → IsUnknown self.now.leaves newest run.now → result ≡ true }
     {
         self.sure && (run.first > newest || self.has_none(run))
     }
@@ -323,10 +326,11 @@ impl Homes {
         }
     }
 
-    // A run was put into a leaf. If it wasn't new, nothing is sure any more.
+    // A run was put into a leaf. If it wasn't new, or has the greatest count that there is, nothing is sure any more.
     pub(crate) fn enter(&mut self, run: &Run, leaf: NodeId, is_new: bool)
         requires { 0 < self.old.left }
         ensures sure { self.new.sure ≡ true → is_new ≡ true }
+        ensures stays { is_new ≡ true → 0 < run.now.len → run.now.first + run.now.len < 2 ^ 64 → self.new.sure ≡ true }
         ensures placed { self.new.sure ≡ true → IsPlaced self.new.leaves run.now }
         ensures entered { self.new.sure ≡ true → IsEntered self.old.leaves self.new.leaves run.now leaf }
         ensures keeps { KeepsAll self.old.leaves self.new.leaves }
@@ -339,6 +343,7 @@ impl Homes {
     // A run is in another leaf now, which is told if spans that have a leaf begin and end where the run does. That takes no room.
     fn retell(&mut self, run: &Run, leaf: NodeId)
         ensures entered { 0 < run.now.len → IsBordered self.old.leaves run.now → IsEntered self.old.leaves self.new.leaves run.now leaf }
+        ensures others { KeepsOthers self.old.leaves self.new.leaves (run.now ∷ []) }
         ensures keeps { KeepsAll self.old.leaves self.new.leaves }
         ensures sure { self.new.sure ≡ self.old.sure }
         ensures left { self.new.left ≡ self.old.left }
@@ -354,6 +359,7 @@ impl Homes {
         ensures housed { (root : ℕ) → IsTree mem.now root → AreOnceEach (tree_runs mem.now root) → AllByRecursion HasCells (tree_runs mem.now root)
             → AllByRecursion (IsBordered self.old.leaves) (tree_runs mem.now root) → HaveLeavesBelow node.index mem.now self.old.leaves
             → AllByRecursion (IsBordered self.new.leaves) (tree_runs mem.now root) × HaveLeavesBelow (node.index + 1) mem.now self.new.leaves }
+        ensures others { (root : ℕ) → IsTree mem.now root → KeepsOthers self.old.leaves self.new.leaves (tree_runs mem.now root) }
         ensures keeps { KeepsAll self.old.leaves self.new.leaves }
         ensures sure { self.new.sure ≡ self.old.sure }
         ensures left { self.new.left ≡ self.old.left }
@@ -373,6 +379,7 @@ impl Homes {
             → AreOnceEach (tree_runs mem.now root) → AllByRecursion HasCells (tree_runs mem.now root)
             → AllByRecursion (IsBordered self.old.leaves) (tree_runs mem.now root) → HaveLeavesBelow nodes mem.now self.old.leaves
             → AreHoused mem.now root self.new.leaves }
+        ensures others { (root : ℕ) → IsTree mem.now root → KeepsOthers self.old.leaves self.new.leaves (tree_runs mem.now root) }
         ensures keeps { KeepsAll self.old.leaves self.new.leaves }
         ensures sure { self.new.sure ≡ self.old.sure }
         ensures left { self.new.left ≡ self.old.left }

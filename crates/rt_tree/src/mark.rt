@@ -244,6 +244,7 @@ fn part_behind(
     ensures home { homes.new.sure ≡ true → AreHome homes.new.leaves (tree_runs mem.new result.root.index) }
     ensures housed { homes.new.sure ≡ true → AreHoused mem.new result.root.index homes.new.leaves }
     ensures left { homes.old.left ≤ homes.new.left + 1 }
+    ensures sure { homes.new.sure ≡ homes.old.sure }
     ensures tree { IsTree mem.new result.root.index }
     ensures recut { IsRecut (tree_runs mem.old root.index) (tree_runs mem.new result.root.index) }
     ensures begins { AllByRecursion (BeginsAt (next_stamp (last_stamp span))) (tree_runs mem.new result.root.index) }
@@ -285,6 +286,7 @@ pub(crate) fn mark_span(
     ensures home { homes.new.sure ≡ true → AreHome homes.new.leaves (tree_runs mem.new result.root.index) }
     ensures housed { homes.new.sure ≡ true → AreHoused mem.new result.root.index homes.new.leaves }
     ensures left { homes.old.left ≤ homes.new.left + 2 }
+    ensures sure { homes.new.sure ≡ homes.old.sure }
     ensures tree { IsTree mem.new result.root.index }
     ensures cells { (text : List ℕ) → AllByRecursion (IsRun text) (tree_runs mem.old root.index)
         → AreChanged (tree_runs mem.old root.index) (tree_runs mem.new result.root.index) text (map (cell_in span mark)) }

@@ -76,13 +76,7 @@ fn behind(mem: &Mem, root: NodeId, found: &Found) -> Option<Found>
 }
 
 // The run that has a place: one that is known to stand somewhere, or the one behind it in its leaf, if either has it.
-fn known(
-    mem: &Mem,
-    root: NodeId,
-    found: &Found,
-    by: Measure,
-    place: usize,
-) -> Option<Found>
+fn known(mem: &Mem, root: NodeId, found: &Found, by: Measure, place: usize) -> Option<Found>
     requires tree { IsTree mem.now root.index }
     requires few { AreFew (counts_of (tree_runs mem.now root.index)) }
     requires held { Holds mem.now root.index found.now }

@@ -9,7 +9,7 @@ ghost use Rattle.rt_tree.specs.declared.node.Run.{Run};
 ghost use Rattle.rt_tree.specs.declared.put.Known.TheVariants.{Behind, Nothing};
 ghost use Rattle.rt_tree.specs.Changes.{AreExact, bare};
 ghost use Rattle.rt_tree.specs.Holds.{HoldsAt, IsEndAt, IsHeld};
-ghost use Rattle.rt_tree.specs.Homes.{AreHome};
+ghost use Rattle.rt_tree.specs.Homes.{AreHome, IsNew};
 ghost use Rattle.rt_tree.specs.Shape.{AreFilled, IsShape, IsTree, ahead, level_of, runs, tree_runs};
 ghost use Rattle.rt_tree.specs.Sharing.{AreKnown};
 ghost use Rattle.rt_tree.specs.Standing.{AreHoused, Stands, StayBut};
@@ -275,6 +275,7 @@ pub(crate) fn put_home(
     ensures home { homes.new.sure ≡ true → AreHome homes.new.leaves (tree_runs mem.new result.index) }
     ensures housed { homes.new.sure ≡ true → AreHoused mem.new result.index homes.new.leaves }
     ensures left { homes.old.left ≤ homes.new.left + 1 }
+    ensures sure { homes.old.sure ≡ true → IsNew run (tree_runs mem.old root.index) → 0 < run.len → run.first + run.len < 2 ^ 64 → homes.new.sure ≡ true }
     ensures told { AreTold states.now mem.new sums.new (tree_runs mem.new result.index) }
     ensures tags { sums.new.tags ≡ sums.old.tags }
 {

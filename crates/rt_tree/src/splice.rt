@@ -9,7 +9,7 @@ ghost use Rattle.rt_tree.specs.Holds.{Holds, IsEndAt};
 ghost use Rattle.rt_tree.specs.Homes.{AreHome};
 ghost use Rattle.rt_tree.specs.Runs.{IsRun, cells_of};
 ghost use Rattle.rt_tree.specs.Shape.{IsTree, tree_runs};
-ghost use Rattle.rt_tree.specs.Sharing.{AreApart, AreKnown, AreOnce, AreUpTo, is_shared_by};
+ghost use Rattle.rt_tree.specs.Sharing.{AreApart, AreBelowGreatest, AreKnown, AreOnce, AreUpTo, is_shared_by};
 ghost use Rattle.rt_tree.specs.Standing.{AreHoused};
 ghost use Rattle.rt_tree.specs.Stretches.{AreChanged, AreKept, IsEdge, lengths};
 ghost use Rattle.rt_tree.specs.Summaries.{AreTold};
@@ -267,6 +267,8 @@ fn put_runs(
     ensures home { homes.new.sure ≡ true → AreHome homes.new.leaves (tree_runs mem.new result.root.index) }
     ensures housed { homes.new.sure ≡ true → AreHoused mem.new result.root.index homes.new.leaves }
     ensures left { homes.old.left ≤ homes.new.left + length cells.now }
+    ensures sure { homes.old.sure ≡ true → AreOnce (cells_of text.now (tree_runs mem.old root.index)) cells.now → AreBelowGreatest cells.now
+        → homes.new.sure ≡ true }
     ensures room { length mem.new.heads + mem.new.room ≡ length mem.old.heads + mem.old.room }
     ensures told { AreTold states.now mem.new sums.new (tree_runs mem.new result.root.index) }
     ensures tags { sums.new.tags ≡ sums.old.tags }
@@ -353,6 +355,8 @@ pub(crate) fn put_cells(
     ensures home { homes.new.sure ≡ true → AreHome homes.new.leaves (tree_runs mem.new result.root.index) }
     ensures housed { homes.new.sure ≡ true → AreHoused mem.new result.root.index homes.new.leaves }
     ensures left { homes.old.left ≤ homes.new.left + length cells.now + 1 }
+    ensures sure { homes.old.sure ≡ true → AreOnce (cells_of text.now (tree_runs mem.old root.index)) cells.now → AreBelowGreatest cells.now
+        → homes.new.sure ≡ true }
     ensures room { length mem.new.heads + mem.new.room ≡ length mem.old.heads + mem.old.room }
     ensures held { IfSome result.last (Holds mem.new result.root.index) }
     ensures told { AreTold states.now mem.new sums.new (tree_runs mem.new result.root.index) }

@@ -1,11 +1,12 @@
 // The cells of a text in a tree.
 ghost use Rattle.std.specs.Prelude.{◌≡◌, ◌+◌, ◌-◌, ◌*◌, ◌<◌, ◌≤◌, ◌^◌, [], ◌∷◌, length, map, min, take, drop, take_while, slice_get};
-ghost use Rattle.std.specs.Prelude.{option_map, if◌then◌else◌, Some, IfOk, IsOkUnless};
+ghost use Rattle.std.specs.Prelude.{option_map, if◌then◌else◌, Some, IfOk, IsOkUnless, true};
 ghost use Rattle.rt_stamps.specs.Places.{line_of, line_start, newlines};
 ghost use Rattle.rt_stamps.specs.Stamps.{is_before};
-ghost use Rattle.rt_store.specs.Cells.{StandsBefore, after_element, cell_of, final_cell, position_of, skip_from, text_of};
+ghost use Rattle.rt_store.specs.Cells.{AreDistinct, StandsBefore, after_element, cell_of, final_cell, position_of, skip_from, text_of};
 ghost use Rattle.rt_store.specs.Cells.{visible_before, visible_of};
 ghost use Rattle.rt_tags.specs.States.{TagStates};
+ghost use Rattle.rt_tree.specs.Sharing.{AreBelowGreatest};
 ghost use Rattle.rt_tree.specs.Trees.{AreRight, HasOwn, final_run};
 
 mod changing;
@@ -80,7 +81,7 @@ impl Model for Tree {
     ghost Value = { Shown };
 
     ghost view = { λ t. shown t.mem t.root.index t.text.items t.sums.each.items
-        (record { cells = t.spare_cells; cuts = t.spare_cuts; tags = t.spare_tags }) };
+        (record { cells = t.spare_cells; cuts = t.spare_cuts; tags = t.spare_tags }) t.homes.sure };
 
     ghost invariant = { IsSound };
 }
@@ -372,9 +373,18 @@ impl Tree {
         Some(self.visible_before(position))
     }
 
+    /// Whether look-ups by stamps go by the map of leaves, and so by at most sixteen looks a level: always where no two cells have
+    /// one stamp and no count is the greatest that there is.
+    pub fn is_sure(&self) -> bool
+        ensures value { result ≡ self.now.sure }
+        ensures distinct { AreDistinct self.now.cells → AreBelowGreatest self.now.cells → result ≡ true }
+    {
+        self.homes.sure
+    }
+
     /// How many visible cells stand before a stamp's cell, as `place_of` answers, by one look-up in the map of leaves and a walk
-    /// up from the leaf. At most sixteen looks a level are added to the counter. Where the map isn't sure, since a stamp came
-    /// twice or one with the greatest count that there is, a walk over all runs answers, and counts no looks.
+    /// up from the leaf. At most sixteen looks a level are added to the counter. Where the map isn't sure (`is_sure`), since a
+    /// stamp came twice or one with the greatest count that there is, a walk over all runs answers, and counts no looks.
     pub fn climb(&self, stamp: Stamp, looks: &mut u64) -> Option<usize>
         requires room { looks.old + 16 * self.now.height < 2 ^ 64 }
         ensures place { result ≡ option_map (visible_before self.now.cells) (position_of self.now.cells stamp) }

@@ -1,24 +1,33 @@
-use Rattle.std.proofs.Common.{◌∷◌, ap, arith, subst, sym, ◌∙◌}
+use Rattle.std.proofs.Common.{◌∷◌, arith, subst, sym, ◌∙◌}
 use Rattle.std.specs.Prelude.{IfSome}
-use Rattle.std.specs.List.{AllByRecursion}
 use Rattle.rt_tree.specs.declared.cut.Front.{Front}
-use Rattle.rt_tree.specs.declared.node.Run.{Run}
 use Rattle.rt_tree.specs.Shape.{tree_runs}
 use Rattle.rt_tree.proofs.Cutting.{no_parts}
-use Rattle.rt_tree.proofs.Housing.{home_keeps, keeps_more, recut_home}
-use Rattle.rt_tree.specs.Standing.{HaveLeavesBelow, IsBordered, IsParted}
-use Rattle.rt_tree.proofs.Frame.{each-back}
+use Rattle.rt_tree.proofs.Housing.{home_keeps, keeps_more, others_more, recut_home}
+use Rattle.rt_tree.specs.Standing.{HaveLeavesBelow, IsParted}
+use Rattle.rt_tree.specs.Stretches.{back_of}
 use Rattle.rt_tree.proofs.Housed.{parted_bordered, parted_leaves}
 use Rattle.rt_tree.proofs.Skipping.{have_cells}
+use Rattle.rt_tree.proofs.Sure.{entered_others, front_bound}
 use Rattle.rt_tree.proofs.Told.{short_kept}
 use Rattle.rt_tree.proofs.cut.cut_home.Goals as goal
 
 pub returns-in-Some-clause-home : goal.returns-in-Some-clause-home
 returns-in-Some-clause-home c sure =
-    let old = tree_runs c.args.mem.now c.args.root.index in let new = tree_runs c.cut-front.new.mem c.cut-front.result.change.root.index in
+    let m = c.args.mem.now in let n = c.cut-front.new.mem in
+    let root = c.args.root.index in let next = c.cut-front.result.change.root.index in
+    let old = tree_runs m root in let new = tree_runs n next in
     let leaves = c.args.homes.now.leaves in let then = c.place.new.self.leaves in let after = c.note_new.new.self.leaves in
-    let home = c.requires.home (sym c.place.ensures.sure ∙ sym c.note_new.ensures.sure ∙ sure) in
-    home_keeps leaves after new (keeps_more leaves then after c.place.ensures.keeps c.note_new.ensures.keeps) (recut_home leaves old new c.requires.kept c.cut-front.ensures.recut home)
+    let was_sure = sym c.place.ensures.sure ∙ sym c.note_new.ensures.sure ∙ sure in
+    let home = c.requires.home was_sure in
+    let front = c.in-Some.front in
+    let cut : IsParted m n root next front.run front.leaf.index = subst (λ o. IfSome o (λ (f : Front). IsParted m n root next f.run f.leaf.index)) c.in-Some.is c.cut-front.ensures.parted in
+    let bound = front_bound leaves m n root next front.run front.leaf.index cut (c.requires.housed was_sure) in
+    let told = c.place.ensures.entered (c.place.ensures.done bound.0 bound.1) in
+    let others = entered_others leaves then front.run front.leaf told new cut.left (back_of cut.count cut.run ∷ cut.right) cut.is in
+    home_keeps leaves after new (keeps_more leaves then after c.place.ensures.keeps c.note_new.ensures.keeps)
+    (others_more leaves then after new others (c.note_new.ensures.others next c.cut-front.ensures.tree))
+    (recut_home leaves old new c.requires.kept c.cut-front.ensures.recut home)
 
 pub returns-in-Some-clause-housed : goal.returns-in-Some-clause-housed
 returns-in-Some-clause-housed c sure =
@@ -32,12 +41,8 @@ returns-in-Some-clause-housed c sure =
     let e = c.cut-front.ensures in
     let cut : IsParted m n root next front.run front.leaf.index = subst (λ o. IfSome o (λ (f : Front). IsParted m n root next f.run f.leaf.index)) c.in-Some.is e.parted in
     let housed = c.requires.housed was_sure in
-    let own = (each-back (IsBordered leaves) cut.left (cut.run ∷ cut.right) (subst (AllByRecursion (IsBordered leaves)) cut.was housed.bordered)).0 in
-    let first = ap (λ (x : Run). x.first) cut.front_is in
-    let len = ap (λ (x : Run). x.len) cut.front_is in
-    let bound = own.bound in
-    let some = cut.some in let less = cut.less in
-    let told = c.place.ensures.entered (c.place.ensures.done (omega (arith, len, some)) (omega (arith, first, len, less, bound))) in
+    let bound = front_bound leaves m n root next front.run front.leaf.index cut housed in
+    let told = c.place.ensures.entered (c.place.ensures.done bound.0 bound.1) in
     let once = (recut_home leaves old new c.requires.kept e.recut (c.requires.home was_sure)).once in
     let few = short_kept old c.requires.kept c.requires.few in
     c.note_new.ensures.housed next then_sure e.tree (omega (arith, few, e.runs, e.more)) once

@@ -1,4 +1,4 @@
-use Rattle.std.proofs.Common.{◌≡◌, ℕ, ◌+◌, ◌-◌, ◌<◌, ◌≤◌, ◌∙◌, List, [], ◌∷◌, ◌++◌, nat_eq, true, true≢false, ap, refl, sym, subst, arith}
+use Rattle.std.proofs.Common.{◌≡◌, ℕ, ◌+◌, ◌-◌, ◌<◌, ◌≤◌, ◌∙◌, List, [], ◌∷◌, ◌++◌, nat_eq, true, true≢false, ap, inr, refl, sym, subst, arith}
 use Rattle.std.proofs.lemmas.Bool.Decides.{nat_tests}
 use Rattle.std.specs.Prelude.{IfSome}
 use Rattle.rt_tree.specs.declared.extend.Extended.{Extended}
@@ -16,6 +16,7 @@ use Rattle.rt_tree.proofs.Cutting.{few_all, few_with}
 use Rattle.rt_tree.proofs.Holding.{spot_held}
 use Rattle.rt_tree.proofs.Housing.{home_more, joined_holders, joined_placed, unknown_new}
 use Rattle.rt_tree.proofs.Edges.{counts_mid, edge_behind, edge_there}
+use Rattle.rt_tree.proofs.Joining.{joint_true}
 use Rattle.rt_tree.proofs.Puts.{replaced_length, spot_within}
 use Rattle.rt_tree.proofs.Stands.{stands}
 use Rattle.rt_tree.proofs.Splicing.{extended, extended_apart, new_is}
@@ -23,6 +24,7 @@ use Rattle.rt_tags.specs.States.{IsState}
 use Rattle.rt_tree.proofs.Told.{given_there, short_kept}
 use Rattle.rt_tree.proofs.Housed.{joined_housed}
 use Rattle.rt_tree.proofs.Skipping.{have_cells}
+use Rattle.rt_tree.proofs.Sure.{entered_others, front_below, front_new}
 use Rattle.rt_tree.proofs.extend.extend.Goals as goal
 
 -- what the runs before one that was seen count
@@ -97,6 +99,7 @@ returns-clause-home c =
     (unknown_new leaves c.args.newest b old (record { text = c.args.text.now; kept = c.requires.kept; upto = c.requires.upto }) home (i.unknown new_there))
     (joined_placed after f.run b joint (subst (IsPlaced after) c.joined-whole.ensures (e.placed sure)))
     e.keeps
+    (entered_others leaves after c.joined-whole.result f.spot.leaf (e.entered sure) new st.left st.right (is ∙ ap (λ (x : Run). st.left ++ x ∷ st.right) (sym c.joined-whole.ensures)))
 
 pub returns-clause-left : goal.returns-clause-left
 returns-clause-left c =
@@ -248,3 +251,20 @@ pub returns-clause-held : goal.returns-clause-held
 returns-clause-held c =
     let f = c.cell_near-found.result in let m = c.args.mem.now in let r = c.args.root.index in
     c.replace_at.ensures.held f.run c.counts_before-before.result (spot_held m r Cells (c.args.at - 1) f.spot.leaf.index f.spot.entry f.spot.offset f.run c.counts_before-before.result c.cell_near-found.ensures c.counts_before-before.ensures)
+
+-- new cells that share no stamp are known to be new
+pub returns-clause-sure : goal.returns-clause-sure
+returns-clause-sure c = λ was once below.
+    let old = tree_runs c.args.mem.now c.args.root.index in
+    let text = c.args.text.now in let cells = c.args.cells.now in
+    let f = c.cell_near-found.result in let b = c.run_of-run.result in
+    let front = c.run_of-run.ensures.front in
+    let home = c.requires.home was in
+    let fresh = front_new text b cells front old c.requires.kept once in
+    let bound = front_below text b cells front below in
+    let is_new = c.is_new-is_new.ensures.old was (inr (λ stamp there. home.runs stamp (fresh stamp there))) in
+    let joint = joint_true f.run b (sym c.are_joint.ensures ∙ c.if-not-are_joint.false) in
+    let first = ap (λ (x : Run). x.first) c.joined-whole.ensures in
+    let len = ap (λ (x : Run). x.len) c.joined-whole.ensures in
+    let next = joint.first in let some = front.run.some in
+    c.enter.ensures.stays is_new (omega (arith, len, some)) (omega (arith, first, len, next, bound))

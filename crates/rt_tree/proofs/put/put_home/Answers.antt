@@ -1,10 +1,11 @@
-use Rattle.std.proofs.Common.{◌<◌, ◌^◌, arith, length, subst, sym, ◌∙◌}
+use Rattle.std.proofs.Common.{◌<◌, ◌^◌, ◌∷◌, arith, inr, length, subst, sym, ◌∙◌}
 use Rattle.rt_tree.specs.Homes.{AreOnceEach}
 use Rattle.rt_tree.specs.Shape.{tree_runs}
 use Rattle.rt_tree.specs.Standing.{HaveLeavesBelow}
-use Rattle.rt_tree.proofs.Housing.{home_more, keeps_more, placed_more, put_holders, unknown_new}
+use Rattle.rt_tree.proofs.Housing.{home_more, keeps_more, others_more, placed_more, put_holders, unknown_new}
 use Rattle.rt_tree.proofs.Housed.{put_bordered, put_leaves, put_many, put_some, told_some}
 use Rattle.rt_tree.proofs.Skipping.{have_cells}
+use Rattle.rt_tree.proofs.Sure.{entered_others}
 use Rattle.rt_tree.proofs.put.put_home.Goals as goal
 
 pub note_new-requires : goal.note_new-requires
@@ -24,6 +25,7 @@ returns-clause-home c =
     (unknown_new leaves c.args.newest run old c.requires.known home (i.unknown is_new))
     (placed_more then after run (e.placed then_sure) n.keeps)
     (keeps_more leaves then after e.keeps n.keeps)
+    (others_more leaves then after new (entered_others leaves then run c.put-placed.result.leaf (e.entered then_sure) new c.put-placed.ensures.runs.was.left (c.put-placed.ensures.runs.next ∷ c.put-placed.ensures.runs.was.right) c.put-placed.ensures.runs.is) (n.others c.put-placed.result.root.index c.put-placed.ensures.tree))
 
 pub returns-clause-housed : goal.returns-clause-housed
 returns-clause-housed c sure =
@@ -39,7 +41,7 @@ returns-clause-housed c sure =
     let housed = c.requires.housed (i.sure is_new) in
     let told = e.entered then_sure in
     let put = c.put-placed.ensures.runs in
-    let once : AreOnceEach (tree_runs n next) = (home_more leaves then run old (tree_runs n next) (put_holders old (tree_runs n next) c.args.at run put) home fresh (e.placed then_sure) e.keeps).once in
+    let once : AreOnceEach (tree_runs n next) = (home_more leaves then run old (tree_runs n next) (put_holders old (tree_runs n next) c.args.at run put) home fresh (e.placed then_sure) e.keeps (entered_others leaves then run c.put-placed.result.leaf (e.entered then_sure) (tree_runs n next) c.put-placed.ensures.runs.was.left (c.put-placed.ensures.runs.next ∷ c.put-placed.ensures.runs.was.right) c.put-placed.ensures.runs.is)).once in
     let some = have_cells c.requires.known.text old c.requires.known.kept in
     let long = put_many old (tree_runs n next) c.args.at run put in
     let long_enough : length (tree_runs n next) < 2 ^ 32 = omega (arith, long, c.requires.short) in
@@ -48,3 +50,11 @@ returns-clause-housed c sure =
     (put_some old (tree_runs n next) c.args.at run put (told_some leaves then run c.put-placed.result.leaf told) some)
     (put_bordered leaves then run c.put-placed.result.leaf told m n root next c.args.at c.requires.tree fresh housed some put)
     (subst (λ k. HaveLeavesBelow k n then) (sym nodes) (put_leaves leaves then run c.put-placed.result.leaf told m n root next c.args.at c.requires.tree fresh housed c.put-placed.ensures.stay))
+
+-- a run whose stamps no run has is known to be new
+pub returns-clause-sure : goal.returns-clause-sure
+returns-clause-sure c = λ was fresh some bound.
+    let i = c.is_new-is_new.ensures in
+    let home = c.requires.home was in
+    let is_new = i.old was (inr (λ stamp there. home.runs stamp (fresh stamp there))) in
+    c.note_new.ensures.sure ∙ c.enter.ensures.stays is_new some bound

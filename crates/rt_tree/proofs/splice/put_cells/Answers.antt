@@ -1,4 +1,4 @@
-use Rattle.std.proofs.Common.{◌+◌, ◌-◌, ◌≤◌, ℕ, List, take, drop, length, arith, ap, ◌∙◌, sym, subst}
+use Rattle.std.proofs.Common.{◌+◌, ◌-◌, ◌^◌, ◌≤◌, ℕ, List, take, drop, length, arith, ap, ◌∙◌, sym, subst}
 use Rattle.std.proofs.lemmas.List.{length-drop, take_all}
 use Rattle.std.proofs.lemmas.List.Elements.{All-drop}
 use Rattle.rt_store.specs.declared.cell.Cell.{Cell}
@@ -6,8 +6,8 @@ use Rattle.rt_store.specs.Cells.{put_at}
 use Rattle.rt_tree.specs.Additions.{EndsWith, stretches}
 use Rattle.rt_tree.specs.Runs.{cells_of}
 use Rattle.rt_tree.specs.Shape.{tree_runs}
-use Rattle.rt_tree.specs.Sharing.{AreOnce, AreUpTo}
-use Rattle.rt_tree.proofs.Newest.{upto_more, upto_put}
+use Rattle.rt_tree.specs.Sharing.{AreBelowGreatest, AreOnce, AreUpTo}
+use Rattle.rt_tree.proofs.Newest.{upto_drop, upto_more, upto_put}
 use Rattle.rt_tree.specs.Stretches.{AreChanged}
 use Rattle.rt_tree.proofs.Ends.{held_still}
 use Rattle.rt_tree.proofs.Following.{stretches_drop}
@@ -157,3 +157,14 @@ pub cut_home-end-requires-clause-held : goal.cut_home-end-requires-clause-held
 cut_home-end-requires-clause-held c =
     let s = c.still_there-last.ensures in
     held_still c.args.last.now c.still_there-last.result c.extend-extended.result.done c.args.mem.now c.extend-extended.new.mem c.args.root.index s.still s.dropped c.requires.held c.extend-extended.ensures.still
+
+pub returns-clause-sure : goal.returns-clause-sure
+returns-clause-sure c = λ was once below.
+    let r = c.requires in let e = c.extend-extended.ensures in let old = tree_runs c.args.mem.now c.args.root.index in
+    let done = c.extend-extended.result.done in let cells = c.args.cells.now in
+    let mid = tree_runs c.cut_home-end.new.mem c.cut_home-end.result.change.root.index in
+    let same = sym (rest_is done cells e.within) in
+    let o = rest_once c.args.text.now old (tree_runs c.extend-extended.new.mem c.args.root.index) c.args.at done cells r.kept e.cells e.within r.within mid c.cut_home-end.ensures.recut once in
+    let p = subst (λ (x : List (Cell ℕ)). AreOnce (cells_of c.args.text.now mid) x) same o in
+    let b = subst AreBelowGreatest same (upto_drop (2 ^ 64 - 2) done cells below) in
+    c.put_runs-then.ensures.sure (c.cut_home-end.ensures.sure ∙ e.sure was once below) p b

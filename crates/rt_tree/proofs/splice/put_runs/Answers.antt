@@ -1,4 +1,4 @@
-use Rattle.std.proofs.Common.{ℕ, refl, arith, ◌∙◌, ◌≡◌, ◌+◌, ◌-◌, take, drop, subst}
+use Rattle.std.proofs.Common.{ℕ, refl, arith, ◌∙◌, ◌≡◌, ◌+◌, ◌-◌, ◌^◌, take, drop, subst}
 use Rattle.std.proofs.lemmas.List.Elements.{All-drop}
 use Rattle.std.specs.Prelude.{IfSome}
 use Rattle.rt_tree.specs.Holds.{IsEndAt}
@@ -6,8 +6,9 @@ use Rattle.rt_tree.specs.Runs.{cells_of}
 use Rattle.rt_tree.specs.Shape.{tree_runs}
 use Rattle.rt_tree.specs.Sharing.{AreUpTo}
 use Rattle.rt_tree.proofs.Ends.{known_behind}
-use Rattle.rt_tree.proofs.Newest.{upto_next}
-use Rattle.rt_tree.proofs.Splicing.{all_spliced, fewer_cells, more_spliced, none_spliced, spliced_few, spliced_low, spliced_runs, spliced_with, spliced_within}
+use Rattle.rt_tree.proofs.Newest.{upto_drop, upto_next}
+use Rattle.rt_tree.proofs.Splicing.{all_spliced, fewer_cells, more_spliced, none_spliced, spliced_few, spliced_low, spliced_once, spliced_runs, spliced_with, spliced_within}
+use Rattle.rt_tree.proofs.Sure.{front_below, front_new}
 use Rattle.rt_store.specs.declared.cell.Cell.{Cell}
 use Rattle.rt_tags.specs.States.{IsState}
 use Rattle.rt_tree.proofs.Told.{front_given, short_kept}
@@ -23,6 +24,7 @@ loop-done-init c = record {
   tags = refl;
   home = c.requires.home;
   housed = c.requires.housed;
+  sure = λ was once below. was;
   left = omega arith;
   end = subst (λ at. IfSome c.args.end (IsEndAt c.args.mem.now c.args.root.index at)) (omega arith) c.requires.end;
 }
@@ -68,6 +70,11 @@ loop-done-preserved c =
       tags = p.tags ∙ l.invariant.tags;
       home = p.home;
       housed = p.housed;
+      sure = λ was once below.
+          let text = c.args.text.now in let run = c.choose-next.result.run in let front = c.choose-next.ensures.run in let rest = drop l.done c.args.cells.now in
+          let apart = spliced_once text old now c.args.at l.done l.more l.lone c.args.cells.now r.kept r.short r.few r.within l.invariant.spliced once in
+          p.sure (l.invariant.sure was once below) (front_new text run rest front now l.invariant.spliced.changed.kept apart) front.run.some
+          (front_below text run rest front (upto_drop (2 ^ 64 - 2) l.done c.args.cells.now below));
       left = let i = l.invariant.left in let s = c.choose-next.ensures.run.run.some in let n = p.left in omega (arith, i, s, n);
       end = tt;
     }
@@ -180,3 +187,6 @@ returns-clause-tags c = c.loop-done.invariant.tags
 
 pub put_home-root-requires-clause-hint : goal.put_home-root-requires-clause-hint
 put_home-root-requires-clause-hint c = let l = c.loop-done in known_behind l.end c.behind.result l.mem l.root.index (c.args.at + l.done) c.behind.ensures l.invariant.end
+
+pub returns-clause-sure : goal.returns-clause-sure
+returns-clause-sure c = c.loop-done.invariant.sure

@@ -4,7 +4,7 @@ use Rattle.rt_tree.specs.Holds.{IsEndAt}
 use Rattle.rt_tree.specs.Runs.{cells_of}
 use Rattle.rt_tree.specs.Homes.{AreHome}
 use Rattle.rt_tree.specs.Shape.{IsTree, tree_runs}
-use Rattle.rt_tree.specs.Sharing.{AreUpTo}
+use Rattle.rt_tree.specs.Sharing.{AreBelowGreatest, AreOnce, AreUpTo}
 use Rattle.rt_tree.specs.Standing.{AreHoused}
 use Rattle.rt_tree.specs.Summaries.{AreTold}
 use Rattle.rt_tree.proofs.Splicing.{IsSpliced}
@@ -20,6 +20,7 @@ invariant-loop-done l = record {
   tags : l.sums.tags ≡ l.initial.sums.tags;
   home : l.homes.sure ≡ true → AreHome l.homes.leaves (tree_runs l.mem l.root.index);
   housed : l.homes.sure ≡ true → AreHoused l.mem l.root.index l.homes.leaves;
+  sure : l.initial.homes.sure ≡ true → AreOnce (cells_of l.text (tree_runs l.initial.mem l.initial.root.index)) l.cells → AreBelowGreatest l.cells → l.homes.sure ≡ true;
   left : l.initial.homes.left ≤ l.homes.left + l.done;
   end : IfSome l.end (IsEndAt l.mem l.root.index (l.at + l.done));
 }

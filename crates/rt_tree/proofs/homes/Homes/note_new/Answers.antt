@@ -10,6 +10,7 @@ loop-index-preserved c =
     record {
       told = λ root t once cells was below. let h = inv.told root t once cells was below in e.housed root t once cells h.0 h.1;
       keeps = λ stamp none. inv.keeps stamp (e.keeps stamp none);
+      others = λ root t stamp none. e.others root t stamp none ∙ inv.others root t stamp none;
       sure = e.sure ∙ inv.sure;
       left = e.left ∙ inv.left;
     }

@@ -4,7 +4,8 @@ use Rattle.rt_nodes.specs.Nodes.{entries}
 use Rattle.rt_spans.specs.Shown.{value_of}
 use Rattle.rt_tree.specs.declared.homes.Homes.{Homes}
 use Rattle.rt_tree.specs.declared.node.Entry.{Entry}
-use Rattle.rt_tree.proofs.Leaves.{AreToldTo, all_told, told_down, told_here}
+use Rattle.rt_tree.proofs.Leaves.{AreToldTo, all_told, here_low, told_down, told_here}
+use Rattle.rt_tree.proofs.Sure.{held_none, stands_without}
 use Rattle.rt_tree.proofs.homes.Homes.retell_all.Goals.{in-Here, in-Down}
 use Rattle.rt_tree.proofs.homes.Homes.retell_all.Goals as goal
 
@@ -23,6 +24,10 @@ loop-i-preserved c =
             told = λ root t once cells was below. subst (λ (h : Homes). AreToldTo m root node (i + 1) h.leaves) (sym same)
                 (told_here m root t once cells c.loop-i.self.leaves w.retell.new.self.leaves c.args.node i w.in-Here.run' c.requires.0 (here ∙ ap some w.in-Here.is) e.entered (inv.told root t once cells was below));
             keeps = λ stamp none. inv.keeps stamp (e.keeps stamp (ap (λ (h : Homes). value_of h.leaves stamp) (sym same) ∙ none));
+            others = λ root t stamp none.
+                let h = here ∙ ap some w.in-Here.is in
+                let out = stands_without m root t stamp none node w.in-Here.run' (record { is = c.requires.0; low = here_low m root t node i w.in-Here.run' c.requires.0 h; entry = i; here = h }) in
+                ap (λ (h : Homes). value_of h.leaves stamp) same ∙ e.others stamp (held_none w.in-Here.run' stamp out) ∙ inv.others root t stamp none;
             sure = ap (λ (h : Homes). h.sure) same ∙ e.sure ∙ inv.sure;
             left = ap (λ (h : Homes). h.left) same ∙ e.left ∙ inv.left;
           }
@@ -32,6 +37,7 @@ loop-i-preserved c =
             told = λ root t once cells was below. subst (λ (h : Homes). AreToldTo m root node (i + 1) h.leaves) (sym same)
                 (told_down m root node i c.loop-i.self.leaves w.in-Down.field-0 w.in-Down.field-1 (here ∙ ap some w.in-Down.is) (inv.told root t once cells was below));
             keeps = λ stamp none. inv.keeps stamp (ap (λ (h : Homes). value_of h.leaves stamp) (sym same) ∙ none);
+            others = λ root t stamp none. ap (λ (h : Homes). value_of h.leaves stamp) same ∙ inv.others root t stamp none;
             sure = ap (λ (h : Homes). h.sure) same ∙ inv.sure;
             left = ap (λ (h : Homes). h.left) same ∙ inv.left;
           }

@@ -1,6 +1,6 @@
 use Rattle.std.proofs.Common.{◌≡◌, ℕ}
 use Rattle.std.specs.List.{AllByRecursion}
-use Rattle.rt_tree.specs.Homes.{AreOnceEach, KeepsAll}
+use Rattle.rt_tree.specs.Homes.{AreOnceEach, KeepsAll, KeepsOthers}
 use Rattle.rt_tree.specs.Shape.{IsTree, tree_runs}
 use Rattle.rt_tree.specs.Skips.{HasCells}
 use Rattle.rt_tree.specs.Standing.{HaveLeavesBelow, IsBordered}
@@ -14,6 +14,7 @@ invariant-loop-i l =
     record {
       told : (root : ℕ) → IsTree m root → AreOnceEach (tree_runs m root) → AllByRecursion HasCells (tree_runs m root) → AllByRecursion (IsBordered old) (tree_runs m root) → HaveLeavesBelow node m old → AreToldTo m root node l.i l.self.leaves;
       keeps : KeepsAll old l.self.leaves;
+      others : (root : ℕ) → IsTree m root → KeepsOthers old l.self.leaves (tree_runs m root);
       sure : l.self.sure ≡ l.initial.self.sure;
       left : l.self.left ≡ l.initial.self.left;
     }

@@ -1,12 +1,13 @@
-use Rattle.std.proofs.Common.{◌+◌, arith, sym, ap, ◌∙◌, map, subst}
+use Rattle.std.proofs.Common.{◌+◌, ◌-◌, ◌^◌, arith, sym, ap, ◌∙◌, map, subst}
 use Rattle.rt_tree.specs.Runs.{cells_of}
 use Rattle.rt_tree.specs.Shape.{tree_runs}
-use Rattle.rt_tree.specs.Sharing.{AreUpTo, cell_in}
+use Rattle.rt_tree.specs.Sharing.{AreBelowGreatest, AreUpTo, cell_in}
 use Rattle.rt_tree.specs.Trees.{IsKept, Shown}
 use Rattle.rt_tree.proofs.Cutting.{runs_few}
 use Rattle.rt_tree.proofs.Marking.{span_count}
-use Rattle.rt_tree.proofs.Newest.{upto_marked}
+use Rattle.rt_tree.proofs.Newest.{upto_marked, upto_unmarked}
 use Rattle.rt_tree.proofs.Showing.{kept_told, own_states, right_from, states_given}
+use Rattle.rt_tree.proofs.Sure.{marked_before}
 use Rattle.rt_tree.proofs.Tallying.{counts_are, few_entries}
 use Rattle.rt_tree.proofs.tree.Tree.apply.Goals as goal
 
@@ -32,6 +33,8 @@ invariant_of-self c =
       newest = subst (AreUpTo s.newest) (sym is.cells) (upto_marked s.newest c.args.span c.args.mark (cells_of s.text.items old) c.self.invariant.newest);
       home = e.home;
       housed = e.housed;
+      steady = λ once below. e.sure
+          ∙ c.self.invariant.steady (marked_before c.args.span c.args.mark s.text.items old new k.kept is.kept is.cells once) (upto_unmarked (2 ^ 64 - 2) c.args.span c.args.mark (cells_of s.text.items old) (subst AreBelowGreatest is.cells below));
       spans = (let had = c.self.invariant.spans in let left = e.left in omega (arith, had, left, cuts, c.requires.room.1));
       sums = record { many = e.told.many; memory = e.told.memory; tags = let h = c.self.invariant.sums.tags in omega (arith, h, e.tags) };
       counts = counts_are c.mark_span-change.new.mem c.mark_span-change.result.root.index s.text.items (s.runs + c.mark_span-change.result.more) kept c.sum_of-self-inside.result c.sum_of-self-inside.ensures;

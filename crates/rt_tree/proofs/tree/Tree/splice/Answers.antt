@@ -1,19 +1,20 @@
-use Rattle.std.proofs.Common.{ℕ, List, arith, ap, sym, ◌∙◌, subst}
+use Rattle.std.proofs.Common.{ℕ, List, ◌-◌, ◌^◌, arith, ap, sym, ◌∙◌, subst}
 use Rattle.rt_store.specs.declared.cell.Cell.{Cell}
 use Rattle.rt_store.specs.Cells.{AreDistinct, put_at}
 use Rattle.rt_tree.specs.Runs.{cells_of}
 use Rattle.rt_tree.specs.Shape.{tree_runs}
-use Rattle.rt_tree.specs.Sharing.{AreOnce, AreUpTo}
+use Rattle.rt_tree.specs.Sharing.{AreBelowGreatest, AreOnce, AreUpTo}
 use Rattle.rt_tree.specs.Stretches.{AreChanged}
 use Rattle.rt_tree.specs.Tallies.{IsCountOf}
 use Rattle.rt_tree.specs.Trees.{Shown}
 use Rattle.rt_tree.proofs.CellLaws.{counted}
 use Rattle.rt_tree.proofs.Cutting.{runs_few}
 use Rattle.rt_tree.proofs.Kept.{shows}
-use Rattle.rt_tree.proofs.Newest.{upto_more, upto_put}
+use Rattle.rt_tree.proofs.Newest.{upto_more, upto_new, upto_put, upto_was}
 use Rattle.rt_tree.proofs.Shared.{distinct_once}
 use Rattle.rt_tree.proofs.Splicing.{longer_cells, longer_count, longer_ends, longer_kept, longer_shown, longer_text}
 use Rattle.rt_tree.proofs.Showing.{kept_told, own_states, right_from, states_given}
+use Rattle.rt_tree.proofs.Sure.{once_before, once_together}
 use Rattle.rt_tree.proofs.Tallying.{newlines_few, visible_few}
 use Rattle.rt_tree.proofs.tree.Tree.splice.Goals as goal
 
@@ -90,6 +91,14 @@ invariant_of-self c =
       newest = subst (AreUpTo c.newest_of-self-inside.result) (sym shown_cells) (upto_put c.newest_of-self-inside.result c.args.at added (cells_of s.text.items old) (upto_more s.newest c.newest_of-self-inside.result (cells_of s.text.items old) c.newest_of-self-inside.ensures.least c.self.invariant.newest) c.newest_of-self-inside.ensures.cells);
       home = e.home;
       housed = e.housed;
+      steady = λ once below.
+          let was = longer_kept s.text.items text old added k.kept more in
+          let together = once_together text old new c.args.at added was is.kept is.cells once in
+          let down = subst AreBelowGreatest is.cells below in
+          let low = subst AreBelowGreatest (longer_cells s.text.items text old added k.kept more) (upto_was (2 ^ 64 - 2) c.args.at added (cells_of text old) down) in
+          e.sure (c.self.invariant.steady (once_before text old new c.args.at added was is.kept is.cells once) low)
+          (subst (λ (t : List ℕ). AreOnce (cells_of t old) added) (sym c.deref.ensures.value) together)
+          (upto_new (2 ^ 64 - 2) c.args.at added (cells_of text old) down);
       spans = (let had = c.self.invariant.spans in let left = e.left in omega (arith, had, left, cells, cuts, ra, rb));
       sums = record { many = e.told.many; memory = e.told.memory; tags = let h = c.self.invariant.sums.tags in omega (arith, h, e.tags) };
       counts = subst (IsCountOf c.counts_with-self-inside.result) (sym shown_cells) (c.counts_with-self-inside.ensures c.args.at (cells_of s.text.items old) c.self.invariant.counts);
