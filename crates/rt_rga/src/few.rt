@@ -39,6 +39,8 @@ impl<T: Drop> Few<T> {
 
     /// Adds an item behind the others: the first one takes no memory. Want of memory, and then the list may
     /// be any.
+    // It is compiled into its callers, as an item may be large.
+    #[inline(always)]
     pub fn push(&mut self, alloc: Global, item: T) -> Result<(), Fault>
         ensures ok { OnOk result (items_in self.new ≡ items_in self.old ++ item ∷ []) }
         ensures err { IsOkUnless result Fault.NoMemory }

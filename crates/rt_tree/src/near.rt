@@ -75,7 +75,9 @@ fn behind(mem: &Mem, root: NodeId, found: &Found) -> Option<Found>
     }
 }
 
-// The run that has a place: one that is known to stand somewhere, or the one behind it in its leaf, if either has it.
+// The run that has a place: one that is known to stand somewhere, or the one behind it in its leaf, if either has it. It is
+// compiled into its callers, as what it answers is large.
+#[inline(always)]
 fn known(mem: &Mem, root: NodeId, found: &Found, by: Measure, place: usize) -> Option<Found>
     requires tree { IsTree mem.now root.index }
     requires few { AreFew (counts_of (tree_runs mem.now root.index)) }
