@@ -275,7 +275,8 @@ pub(crate) fn put_home(
     ensures home { homes.new.sure ≡ true → AreHome homes.new.leaves (tree_runs mem.new result.index) }
     ensures housed { homes.new.sure ≡ true → AreHoused mem.new result.index homes.new.leaves }
     ensures left { homes.old.left ≤ homes.new.left + 1 }
-    ensures sure { homes.old.sure ≡ true → IsNew run (tree_runs mem.old root.index) → 0 < run.len → run.first + run.len < 2 ^ 64 → homes.new.sure ≡ true }
+    ensures sure { homes.old.sure ≡ true → IsNew run (tree_runs mem.old root.index) → 0 < run.len → run.first + run.len < 2 ^ 64
+        → homes.new.sure ≡ true }
     ensures told { AreTold states.now mem.new sums.new (tree_runs mem.new result.index) }
     ensures tags { sums.new.tags ≡ sums.old.tags }
 {
